@@ -1,0 +1,9 @@
+pub mod Bytes
+pub mod Heads
+pub mod Sending
+pub mod Writing
+pub mod Taking
+pub mod Refusing
+pub mod HeadForms
+pub mod Arguments
+pub mod HeadFaults

@@ -1,0 +1,41 @@
+-- A refusal of a part is a refusal of the whole.
+use Rattle.std.proofs.Common.{◌≡◌, ℕ, ◌+◌, List, [], sym, ap, ◌∙◌, refl, arith, subst}
+use Rattle.std.specs.Prelude.{Option, Some, Result, Ok, Err, MatchResult, IsErrAnd}
+use Rattle.dagcbor_heads.specs.Reading.{Reading, Stays, Fails}
+use Rattle.dagcbor_heads.specs.Causes.{ByteCause, ArgumentCause, HeadCause, argument_width}
+use Rattle.dagcbor_heads.specs.Refusals.{Refuses}
+use Rattle.dagcbor_heads.specs.Inputs.{unlent}
+use Rattle.dagcbor_heads.specs.declared.error.DecodeError.{DecodeError}
+use Rattle.dagcbor_heads.specs.declared.error.DecodeError.TheVariants.{Read, RequireBorrowed, OutOfMemory, Failed, Eof, DepthOverflow}
+
+-- A call that took the bytes from old to mid, and goes on with a part, refuses what the part refuses.
+pub passed_on : {E could could' lacks lacks' borrows borrows' : Type 0} (stands stands' : DecodeError E → List ℕ → Type 0) (old mid new : Reading) (e : DecodeError E)
+    → Stays old mid → (could' → could) → (lacks → lacks') → (borrows → borrows')
+    → ((b : List ℕ) → old.left ≡ Some b → (c : List ℕ) × (mid.left ≡ Some c) × (stands e c → stands' e b))
+    → Refuses could lacks borrows stands mid e new → Refuses could' lacks' borrows' stands' old e new
+passed_on stands stands' old mid new (Read e) h c k w s r = omega (arith, h.faults, r)
+passed_on stands stands' old mid new OutOfMemory h c k w s r = (r.0 ∙ h.faults, k r.1)
+passed_on stands stands' old mid new (RequireBorrowed n) h c k w s r = (r.0 ∙ h.faults, w r.1, sym h.lends ∙ r.2)
+passed_on stands stands' old mid new Failed h c k w s r = r
+passed_on stands stands' old mid new (DepthOverflow n) h c k w s r = (r.0 ∙ h.faults, λ x. r.1 (c x), λ b l. (let at = s b l in at.2 (r.2 at.0 at.1)), r.3)
+passed_on stands stands' old mid new _ h c k w s r = (r.0 ∙ h.faults, λ x. r.1 (c x), λ b l. let at = s b l in at.2 (r.2 at.0 at.1))
+
+-- the same causes seen from further up
+pub byte_in_head : {E : Type 0} (e : DecodeError E) (b : List ℕ) → ByteCause e b → HeadCause e b
+byte_in_head (Eof n expect) b h = rw h.1 h.0
+byte_in_head _ b h = absurd h
+
+-- the error that `?` hands on
+pub refused : {T E : Type 0} (P : T → Type 0) (Q : DecodeError E → Type 0) (r : Result T (DecodeError E)) (e : DecodeError E) → IsErrAnd r (λ y. y ≡ e) → Q e → MatchResult r P Q
+refused P Q (Ok v) e h q = absurd h
+refused P Q (Err y) e h q = subst Q (sym h) q
+
+-- what a reader refuses, the input over it refuses
+pub unlent_refused : {E could could' lacks lacks' : Type 0} (stands : DecodeError E → List ℕ → Type 0) (old new : Reading) (e : DecodeError E) → (could' → could) → (lacks → lacks')
+    → Refuses could lacks ⊥ stands old e new → Refuses could' lacks' ⊥ stands (unlent old) e (unlent new)
+unlent_refused stands old new (Read e) c k r = r
+unlent_refused stands old new OutOfMemory c k r = (r.0, k r.1)
+unlent_refused stands old new (RequireBorrowed n) c k r = absurd r.1
+unlent_refused stands old new Failed c k r = r
+unlent_refused stands old new (DepthOverflow n) c k r = (r.0, λ x. r.1 (c x), r.2, r.3)
+unlent_refused stands old new _ c k r = (r.0, λ x. r.1 (c x), r.2)

@@ -1,0 +1,13 @@
+-- What contracts see of an input.
+use Rattle.std.specs.Prelude.{false}
+use Rattle.dagcbor_heads.specs.Reading.{Reading}
+use Rattle.dagcbor_heads.specs.declared.input.Input.{Input}
+use Rattle.dagcbor_heads.specs.declared.input.Input.TheVariants.{Slice, Reader}
+
+-- a reader behind an input does not lend
+abbrev pub unlent : Reading → Reading
+unlent r = record r { lends = false }
+
+abbrev pub input_reading : {R : Type 0} → (R → Reading) → Input R → Reading
+input_reading reading (Slice reader) = reader
+input_reading reading (Reader reader) = unlent (reading reader)

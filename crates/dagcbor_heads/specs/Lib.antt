@@ -1,0 +1,10 @@
+pub mod Head
+pub mod Laws
+pub mod Names
+pub mod Lengths
+pub mod Reading
+pub mod Fronts
+pub mod Causes
+pub mod Refusals
+pub mod Inputs
+pub mod Written

@@ -1,0 +1,72 @@
+-- What contracts see of a reader, and what its calls do to it.
+use Rattle.std.specs.Prelude.{◌≡◌, ℕ, ◌+◌, ◌-◌, ◌<◌, ◌≤◌, min, List, [], Bool, true, false, length, take, drop, Option, Some}
+use Rattle.dagcbor_heads.specs.declared.read.Reference.{Reference}
+use Rattle.dagcbor_heads.specs.declared.read.Reference.TheVariants.{Long, Short}
+
+pub record Reading : Type 0 where
+  -- the bytes left, where the source tells them
+  pub left : Option (List ℕ)
+  -- the bytes that were shown last, of which none was taken since
+  pub shown : List ℕ
+  -- the steps left, and the steps that there are
+  pub steps : ℕ
+  pub budget : ℕ
+  -- whether what is shown outlives the reader
+  pub lends : Bool
+  -- how often the source faulted so far
+  pub faults : ℕ
+
+-- known bytes stay as they are
+abbrev pub Keeps : Reading → Reading → Type 0
+Keeps old new = (b : List ℕ) → old.left ≡ Some b → new.left ≡ Some b
+
+-- known bytes lose the first n
+abbrev pub Drops : Reading → ℕ → Reading → Type 0
+Drops old n new = (b : List ℕ) → old.left ≡ Some b → new.left ≡ Some (drop n b)
+
+-- the reader, its steps and its faults are as before
+pub record Stays (old new : Reading) : Type 0 where
+  pub steps : new.steps ≡ old.steps
+  pub budget : new.budget ≡ old.budget
+  pub lends : new.lends ≡ old.lends
+  pub faults : new.faults ≡ old.faults
+
+-- what is shown of the bytes left: a beginning, which is empty only at their end or where no byte is wanted;
+-- one that is lent has all that was wanted, as far as there is so much
+pub record IsShownOf (b shown : List ℕ) (want : ℕ) (lends : Bool) : Type 0 where
+  pub front : take (length shown) b ≡ shown
+  pub end : 0 < want → length shown ≡ 0 → b ≡ []
+  pub enough : lends ≡ true → min want (length b) ≤ length shown
+
+-- some bytes are shown, and none was taken
+pub record Shows (old : Reading) (want : ℕ) (new : Reading) : Type 0 where
+  pub kept : Keeps old new
+  pub front : (b : List ℕ) → old.left ≡ Some b → IsShownOf b new.shown want old.lends
+  pub same : Stays old new
+
+-- the source faulted, and no byte was taken
+pub record Fails (old new : Reading) : Type 0 where
+  pub kept : Keeps old new
+  pub steps : new.steps ≡ old.steps
+  pub budget : new.budget ≡ old.budget
+  pub lends : new.lends ≡ old.lends
+  pub faults : new.faults ≡ old.faults + 1
+
+-- n of the bytes shown were taken, and none counts as shown any more
+pub record Advances (old : Reading) (n : ℕ) (new : Reading) : Type 0 where
+  pub dropped : Drops old n new
+  pub none_shown : new.shown ≡ []
+  pub same : Stays old new
+
+-- the same reader with so many steps left
+abbrev pub with_steps : ℕ → Reading → Reading
+with_steps n r = record r { steps = n }
+
+-- the bytes of a reference, and whether they outlive the reader
+abbrev pub reference_bytes : Reference → List ℕ
+reference_bytes (Long s) = s.now
+reference_bytes (Short s) = s.now
+
+abbrev pub is_long : Reference → Bool
+is_long (Long s) = true
+is_long (Short s) = false

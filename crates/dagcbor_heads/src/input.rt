@@ -1,0 +1,81 @@
+//! What values are read from: a slice, which lends its bytes, or another reader.
+
+ghost use Rattle.std.specs.Prelude.{◌≡◌, IfOk, Some, List, ℕ};
+ghost use Rattle.dagcbor_heads.specs.Reading.{IsShownOf, reference_bytes, is_long};
+ghost use Rattle.dagcbor_heads.specs.Inputs.{input_reading};
+
+use crate::read::{Read, Reference, SliceReader};
+
+/// A slice, which lends its bytes, or another reader, which does not.
+#[derive(Drop)]
+pub enum Input<'de, R> {
+    Slice(SliceReader<'de>),
+    Reader(R),
+}
+
+impl<'de, R: Read> Input<'de, R> {
+    /// The bytes that are shown: `Long` exactly of a slice.
+    pub fn shown(&self) -> Reference<'de, '_>
+        ensures bytes { reference_bytes result ≡ (input_reading R.reading self.now).shown }
+        ensures lends { is_long result ≡ (input_reading R.reading self.now).lends }
+    {
+        match self {
+            Input::Slice(reader) => Reference::Long(reader.long()),
+            Input::Reader(reader) => Reference::Short(reader.shown()),
+        }
+    }
+
+    /// Shows a front of the bytes left, and takes nothing.
+    pub fn fill(&mut self, want: usize) -> Result<Reference<'de, '_>, R::Error>
+        ensures front { IfOk result (λ s. (b : List ℕ) → (input_reading R.reading self.old).left ≡ Some b →
+            IsShownOf b (reference_bytes s) want (input_reading R.reading self.old).lends) }
+        ensures lends { IfOk result (λ s. is_long s ≡ (input_reading R.reading self.old).lends) }
+    {
+        self.prepare(want)?;
+        Ok(self.shown())
+    }
+}
+
+impl<R: Read> Read for Input<'_, R> {
+    type Error = R::Error;
+
+    ghost reading = { λ i. input_reading R.reading i };
+
+    fn prepare(&mut self, want: usize) -> Result<(), R::Error> {
+        match self {
+            Input::Slice(reader) => match reader.prepare(want) {
+                Ok(()) => Ok(()),
+                Err(never) => match never {},
+            },
+            Input::Reader(reader) => reader.prepare(want),
+        }
+    }
+
+    fn shown(&self) -> &[u8] {
+        match self {
+            Input::Slice(reader) => reader.long(),
+            Input::Reader(reader) => reader.shown(),
+        }
+    }
+
+    fn advance(&mut self, n: usize) {
+        match self {
+            Input::Slice(reader) => reader.advance(n),
+            Input::Reader(reader) => reader.advance(n),
+        }
+    }
+
+    fn step_in(&mut self) -> bool {
+        match self {
+            Input::Slice(reader) => reader.step_in(),
+            Input::Reader(reader) => reader.step_in(),
+        }
+    }
+
+    fn step_out(&mut self) {
+        match self {
+            Input::Slice(reader) => reader.step_out(),
+            Input::Reader(reader) => reader.step_out(),
+        }
+    }
+}

@@ -1,0 +1,24 @@
+//! Heads of DAG-CBOR items, and the readers, writers and errors below them.
+#![tactic(auto)]
+
+mod error;
+mod input;
+pub mod laws;
+mod name;
+mod pull;
+mod push;
+mod read;
+mod tally;
+mod write;
+
+pub use error::{ArithmeticOverflow, DecodeError, EncodeError, Len};
+pub use input::Input;
+pub use name::Name;
+pub use pull::{is_indefinite, peek_one, pull_head, pull_one, pull_payload};
+pub use push::push_head;
+pub use read::{Read, Reference, SliceReader};
+pub use tally::Tally;
+pub use write::{BufWriter, Write};
+
+#[cfg(test)]
+mod tests;

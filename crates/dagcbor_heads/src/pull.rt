@@ -1,0 +1,264 @@
+//! Takes bytes, heads and payloads off any reader.
+
+ghost use Rattle.std.specs.Prelude.{◌≡◌, ◌↔◌, ◌<◌, ◌≤◌, ◌%◌, ◌^◌, [], ◌∷◌, ◌++◌, ⊤, Some, true, false, min, length, take, IfOk, IfErr, IfSome, IsTrue, MatchOption, MatchResult, List, ℕ};
+ghost use Rattle.std.specs.Cow.{cow_slice_items, IsBorrowedSlice};
+ghost use Rattle.std.specs.Int.{bytes_high_first};
+ghost use Rattle.dagcbor_heads.specs.Head.{head};
+ghost use Rattle.dagcbor_heads.specs.Reading.{Fails, Stays, Keeps};
+ghost use Rattle.dagcbor_heads.specs.Fronts.{FindsEnd, Gathers, HasByte, HasHead, HasPayload, ShowsByte, Takes, TakesHead};
+ghost use Rattle.dagcbor_heads.specs.Causes.{ByteCause, ArgumentCause, HeadCause, PayloadCause, IsNamed, argument_width, least_argument};
+ghost use Rattle.dagcbor_heads.specs.Refusals.{Refuses};
+ghost use Rattle.dagcbor_heads.specs.Inputs.{input_reading};
+
+use crate::error::{DecodeError, Len};
+use crate::input::Input;
+use crate::name::Name;
+use crate::read::Read;
+use std::alloc::{AllocError, Global};
+use std::borrow::CowSlice;
+
+/// Whether the first byte of an item announces an indefinite length, or is a break.
+pub fn is_indefinite(byte: u8) -> bool
+    ensures { IsTrue result ↔ (byte % 32 ≡ 31) }
+{
+    byte & 0x1f == 0x1f
+}
+
+/// The next byte, which is left, or nothing at the end.
+fn look<R: Read>(reader: &mut R) -> Result<Option<u8>, R::Error>
+    ensures { MatchResult result
+        (λ found. MatchOption found
+            (FindsEnd (R.reading reader.old) (R.reading reader.new))
+            (λ byte. ShowsByte (R.reading reader.old) byte (R.reading reader.new) × (1 ≤ length (R.reading reader.new).shown)))
+        (λ _. Fails (R.reading reader.old) (R.reading reader.new)) }
+{
+    reader.prepare(1)?;
+    Ok(reader.shown().first().copied())
+}
+
+/// The next byte, which is taken, or nothing at the end.
+fn next_byte<R: Read>(reader: &mut R) -> Result<Option<u8>, R::Error>
+    ensures is_byte { IfOk result (λ found. IfSome found (λ byte. byte < 256)) }
+    ensures taken { MatchResult result
+        (λ found. MatchOption found
+            (FindsEnd (R.reading reader.old) (R.reading reader.new))
+            (λ byte. Takes (R.reading reader.old) (byte ∷ []) (R.reading reader.new)))
+        (λ _. Fails (R.reading reader.old) (R.reading reader.new)) }
+{
+    match look(reader)? {
+        Some(byte) => {
+            reader.advance(1);
+            Ok(Some(byte))
+        }
+        None => Ok(None),
+    }
+}
+
+/// The next byte, which is left.
+pub fn peek_one<R: Read>(name: &str, reader: &mut R) -> Result<u8, DecodeError<R::Error>>
+    ensures shown { MatchResult result
+        (λ byte. ShowsByte (R.reading reader.old) byte (R.reading reader.new))
+        (λ e. Refuses (HasByte (R.reading reader.old)) ⊥ ⊥ ByteCause (R.reading reader.old) e (R.reading reader.new)) }
+    ensures named { IfErr result (λ e. IsNamed name.now e) }
+{
+    match look(reader) {
+        Ok(Some(byte)) => Ok(byte),
+        Ok(None) => Err(DecodeError::Eof {
+            name: Name::new(name),
+            expect: Len::Small(1),
+        }),
+        Err(fault) => Err(DecodeError::Read(fault)),
+    }
+}
+
+/// The next byte, which is taken.
+pub fn pull_one<R: Read>(name: &str, reader: &mut R) -> Result<u8, DecodeError<R::Error>>
+    ensures taken { MatchResult result
+        (λ byte. Takes (R.reading reader.old) (byte ∷ []) (R.reading reader.new))
+        (λ e. Refuses (HasByte (R.reading reader.old)) ⊥ ⊥ ByteCause (R.reading reader.old) e (R.reading reader.new)) }
+    ensures named { IfErr result (λ e. IsNamed name.now e) }
+{
+    match next_byte(reader) {
+        Ok(Some(byte)) => Ok(byte),
+        Ok(None) => Err(DecodeError::Eof {
+            name: Name::new(name),
+            expect: Len::Small(1),
+        }),
+        Err(fault) => Err(DecodeError::Read(fault)),
+    }
+}
+
+/// How many bytes of argument an additional information from 24 to 27 announces.
+fn argument_width(information: u8) -> u16
+    requires low { 24 ≤ information }
+    requires high { information ≤ 27 }
+    ensures value { result ≡ argument_width information }
+    ensures most { result ≤ 8 }
+{
+    match information {
+        24 => 1,
+        25 => 2,
+        26 => 4,
+        _ => 8,
+    }
+}
+
+/// The least argument that needs the width of an additional information from 24 to 27.
+fn least_argument(information: u8) -> u64
+    requires low { 24 ≤ information }
+    requires high { information ≤ 27 }
+    ensures { result ≡ least_argument (argument_width information) }
+{
+    match information {
+        24 => 24,
+        25 => 1 << 8,
+        26 => 1 << 16,
+        _ => 1 << 32,
+    }
+}
+
+/// The number that the next bytes spell, the highest of them first. They are taken.
+fn pull_argument<R: Read>(
+    name: &str,
+    reader: &mut R,
+    width: u16,
+) -> Result<u64, DecodeError<R::Error>>
+    requires { width ≤ 8 }
+    ensures taken { MatchResult result
+        (λ n. (n < 256 ^ width) × Takes (R.reading reader.old) (bytes_high_first width n) (R.reading reader.new))
+        (λ e. Refuses (HasPayload width (R.reading reader.old)) ⊥ ⊥ (ArgumentCause width) (R.reading reader.old) e (R.reading reader.new)) }
+    ensures named { IfErr result (λ e. IsNamed name.now e) }
+{
+    let mut argument = 0u64;
+    for _i in 0..width {
+        match next_byte(reader) {
+            Ok(Some(byte)) => argument = argument * 256 + u64::from(byte),
+            Ok(None) => return Err(DecodeError::Eof {
+                name: Name::new(name),
+                expect: Len::Small(width),
+            }),
+            Err(fault) => return Err(DecodeError::Read(fault)),
+        }
+    }
+    Ok(argument)
+}
+
+/// The head of the next item: its major type, its argument and its first byte. It is taken.
+pub fn pull_head<R: Read>(
+    name: &str,
+    reader: &mut R,
+) -> Result<(u8, u64, u8), DecodeError<R::Error>>
+    ensures taken { MatchResult result
+        (λ h. TakesHead (R.reading reader.old) h.0 h.1 h.2 (R.reading reader.new))
+        (λ e. Refuses (HasHead (R.reading reader.old)) ⊥ ⊥ HeadCause (R.reading reader.old) e (R.reading reader.new)) }
+    ensures named { IfErr result (λ e. IsNamed name.now e) }
+{
+    let first = pull_one(name, reader)?;
+    let (major, information) = (first / 32, first % 32);
+    if information < 24 {
+        return Ok((major, u64::from(information), first));
+    }
+    if information == 31 {
+        return Err(DecodeError::IndefiniteSize);
+    }
+    if information > 27 {
+        return Err(DecodeError::Unsupported {
+            name: Name::new(name),
+            found: first,
+        });
+    }
+    let argument = pull_argument(name, reader, argument_width(information))?;
+    if argument < least_argument(information) {
+        return Err(DecodeError::NonMinimal {
+            name: Name::new(name),
+            found: first,
+        });
+    }
+    Ok((major, argument, first))
+}
+
+/// Appends as many of the bytes as are wanted, and answers how many.
+fn append_front(payload: &mut Vec<u8>, bytes: &[u8], want: u64) -> Result<usize, AllocError>
+    ensures count { IfOk result (λ n. n ≡ min want (length bytes.now)) }
+    ensures appended { IfOk result (λ n. payload.new.items ≡ payload.old.items ++ take n bytes.now) }
+{
+    let count = bytes.len().min(want as usize);
+    payload.extend_from_slice(&bytes[..count])?;
+    Ok(count)
+}
+
+/// Moves some of the next bytes to the end of the payload, and answers how many: none only at the end.
+fn gather_some<R: Read>(
+    reader: &mut R,
+    payload: &mut Vec<u8>,
+    want: u64,
+) -> Result<usize, DecodeError<R::Error>>
+    ensures { MatchResult result
+        (λ n. Gathers (R.reading reader.old) payload.old.items want n payload.new.items (R.reading reader.new))
+        (λ e. Refuses ⊤ ⊤ ⊥ (λ _ _. ⊥) (R.reading reader.old) e (R.reading reader.new)) }
+{
+    match reader.prepare(want as usize) {
+        Ok(()) => {}
+        Err(fault) => return Err(DecodeError::Read(fault)),
+    }
+    match append_front(payload, reader.shown(), want) {
+        Ok(count) => {
+            reader.advance(count);
+            Ok(count)
+        }
+        Err(_) => Err(DecodeError::OutOfMemory),
+    }
+}
+
+/// The next n bytes, gathered in a vector that grows as they come. They are taken.
+fn gather<R: Read>(
+    alloc: Global,
+    name: &str,
+    reader: &mut R,
+    n: u64,
+) -> Result<Vec<u8>, DecodeError<R::Error>>
+    ensures taken { MatchResult result
+        (λ v. (length v.items ≡ n) × Takes (R.reading reader.old) v.items (R.reading reader.new))
+        (λ e. Refuses (HasPayload n (R.reading reader.old)) ⊤ ⊥ (PayloadCause n) (R.reading reader.old) e (R.reading reader.new)) }
+    ensures named { IfErr result (λ e. IsNamed name.now e) }
+{
+    let mut payload = Vec::new(alloc);
+    let mut left = n;
+    while left > 0 {
+        let count = gather_some(reader, &mut payload, left)?;
+        if count == 0 {
+            return Err(DecodeError::Eof {
+                name: Name::new(name),
+                expect: Len::new(n),
+            });
+        }
+        left -= count as u64;
+    }
+    Ok(payload)
+}
+
+/// The next n bytes, which are taken: lent by an input over a slice, and else gathered in memory.
+pub fn pull_payload<'de, R: Read>(
+    alloc: Global,
+    name: &str,
+    input: &mut Input<'de, R>,
+    n: u64,
+) -> Result<CowSlice<'de, u8>, DecodeError<R::Error>>
+    ensures taken { MatchResult result
+        (λ c. (length (cow_slice_items c) ≡ n) × Takes (input_reading R.reading input.old) (cow_slice_items c) (input_reading R.reading input.new))
+        (λ e. Refuses (HasPayload n (input_reading R.reading input.old)) ((input_reading R.reading input.old).lends ≡ false) ⊥ (PayloadCause n)
+            (input_reading R.reading input.old) e (input_reading R.reading input.new)) }
+    ensures lent { IfOk result (λ c. IsBorrowedSlice c ↔ ((input_reading R.reading input.old).lends ≡ true)) }
+    ensures named { IfErr result (λ e. IsNamed name.now e) }
+{
+    match input {
+        Input::Slice(reader) => match reader.lend(n) {
+            Some(payload) => Ok(CowSlice::Borrowed(payload)),
+            None => Err(DecodeError::Eof {
+                name: Name::new(name),
+                expect: Len::new(n),
+            }),
+        },
+        Input::Reader(reader) => Ok(CowSlice::Owned(gather(alloc, name, reader, n)?)),
+    }
+}

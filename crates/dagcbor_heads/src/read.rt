@@ -1,0 +1,156 @@
+//! Readers: a list of bytes, however they come.
+
+ghost use Rattle.std.specs.Prelude.{◌≡◌, ◌+◌, ◌-◌, ◌<◌, ◌≤◌, [], true, length, IfOk, MatchOption, MatchResult, MatchBool, Some, List, ℕ};
+ghost use Rattle.dagcbor_heads.specs.Reading.{Reading, IsShownOf, Shows, Fails, Advances, with_steps};
+ghost use Rattle.dagcbor_heads.specs.Fronts.{Takes};
+
+use std::convert::Infallible;
+use std::marker::Model;
+
+/// The steps into items that a reader has, where nothing else is said.
+pub(crate) const BUDGET: usize = 256;
+
+/// What is shown of the bytes left: bytes that outlive the reader, or bytes of the reader's own.
+pub enum Reference<'de, 'a> {
+    Long(&'de [u8]),
+    Short(&'a [u8]),
+}
+
+/// A source of bytes, with a budget of steps into items.
+pub trait Read: Drop {
+    type Error: Drop;
+
+    /// What contracts see of the reader.
+    ghost reading: { Self → Reading };
+
+    /// Sees to it that a front of the bytes left is shown, and takes nothing. None are shown only at the end of the
+    /// bytes, or where `want` is 0.
+    fn prepare(&mut self, want: usize) -> Result<(), Self::Error>
+        ensures { MatchResult result
+            (λ _. Shows (reading self.old) want (reading self.new))
+            (λ _. Fails (reading self.old) (reading self.new)) };
+
+    /// The bytes that are shown.
+    fn shown(&self) -> &[u8]
+        ensures { result.now ≡ (reading self.now).shown };
+
+    /// Takes n of the bytes shown. Nothing counts as shown then.
+    fn advance(&mut self, n: usize)
+        requires { n ≤ length (reading self.old).shown }
+        ensures { Advances (reading self.old) n (reading self.new) };
+
+    /// Spends a step, and answers false where none is left.
+    fn step_in(&mut self) -> bool
+        ensures { MatchBool result
+            ((0 < (reading self.old).steps) × ((reading self.new).steps < (reading self.new).budget)
+            × (reading self.new ≡ with_steps ((reading self.old).steps - 1) (reading self.old)))
+            (((reading self.old).steps ≡ 0) × (reading self.new ≡ reading self.old)) };
+
+    /// Gives a step back that is out.
+    fn step_out(&mut self)
+        requires { (reading self.old).steps < (reading self.old).budget }
+        ensures { reading self.new ≡ with_steps ((reading self.old).steps + 1) (reading self.old) };
+
+    /// Shows a front of the bytes left, and takes nothing.
+    final fn fill(&mut self, want: usize) -> Result<&[u8], Self::Error>
+        ensures { IfOk result (λ s. (b : List ℕ) → (reading self.old).left ≡ Some b → IsShownOf b s.now want (reading self.old).lends) }
+    {
+        self.prepare(want)?;
+        Ok(self.shown())
+    }
+}
+
+/// A reader over a slice.
+#[derive(Drop)]
+pub struct SliceReader<'a> {
+    rest: &'a [u8],
+    shown: usize,
+    steps: usize,
+}
+
+impl<'a> Model for SliceReader<'a> {
+    ghost use Rattle.std.specs.Prelude.{◌≤◌, length, take, true, Some};
+    ghost use Rattle.dagcbor_heads.specs.Reading.{Reading};
+
+    ghost Value = { Reading };
+
+    ghost view = { λ s. record {
+      left = Some s.rest.now;
+      shown = take s.shown s.rest.now;
+      steps = s.steps;
+      budget = 256;
+      lends = true;
+      faults = 0;
+    } };
+
+    ghost invariant = { λ s. (s.shown ≤ length s.rest.now) × (s.steps ≤ 256) };
+}
+
+impl<'a> SliceReader<'a> {
+    /// A reader over the bytes, with a budget of 256 steps.
+    pub fn new(bytes: &'a [u8]) -> SliceReader<'a>
+        ensures { result ≡ record { left = Some bytes.now; shown = []; steps = 256; budget = 256; lends = true; faults = 0 } }
+    {
+        SliceReader {
+            rest: bytes,
+            shown: 0,
+            steps: BUDGET,
+        }
+    }
+
+    /// The bytes that are shown, for as long as the slice.
+    pub(crate) fn long(&self) -> &'a [u8]
+        ensures bytes { result.now ≡ self.now.shown }
+        ensures lends { self.now.lends ≡ true }
+    {
+        &self.rest[..self.shown]
+    }
+
+    /// Takes the next n bytes and lends them, where so many are left.
+    pub(crate) fn lend(&mut self, n: u64) -> Option<&'a [u8]>
+        ensures lends { self.old.lends ≡ true }
+        ensures lent { MatchOption result
+            ((self.new ≡ self.old) × ((b : List ℕ) → self.old.left ≡ Some b → length b < n))
+            (λ s. (length s.now ≡ n) × Takes self.old s.now self.new) }
+    {
+        if (self.rest.len() as u64) < n {
+            return None;
+        }
+        let (front, rest) = self.rest.split_at(n as usize);
+        self.rest = rest;
+        self.shown = 0;
+        Some(front)
+    }
+}
+
+impl Read for SliceReader<'_> {
+    type Error = Infallible;
+
+    ghost reading = { λ s. s };
+
+    fn prepare(&mut self, _want: usize) -> Result<(), Infallible> {
+        self.shown = self.rest.len();
+        Ok(())
+    }
+
+    fn shown(&self) -> &[u8] {
+        self.long()
+    }
+
+    fn advance(&mut self, n: usize) {
+        self.rest = &self.rest[n..];
+        self.shown = 0;
+    }
+
+    fn step_in(&mut self) -> bool {
+        if self.steps == 0 {
+            return false;
+        }
+        self.steps -= 1;
+        true
+    }
+
+    fn step_out(&mut self) {
+        self.steps += 1;
+    }
+}

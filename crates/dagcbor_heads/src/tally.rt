@@ -1,0 +1,34 @@
+//! Counts that only contracts see.
+
+ghost use Rattle.std.specs.Prelude.{◌≡◌, ℕ, ◌+◌};
+ghost use base.Fml.{ftrue};
+
+use std::marker::Model;
+
+/// A count that takes no bytes and has no greatest value, as of a device's faults.
+pub struct Tally {
+    pub ghost count: { ℕ },
+}
+
+impl Model for Tally {
+    ghost also_owns = { λ _. ftrue };
+}
+
+impl Tally {
+    pub fn new() -> Tally
+        ensures { result.count ≡ 0 }
+    {
+        Tally {}
+    }
+
+    /// Raises the count. Nothing runs.
+    pub fn add(&mut self, by: usize)
+        ensures { self.new.count ≡ self.old.count + by }
+    {}
+}
+
+impl Drop for Tally {
+    fn drop(self) {
+        let Tally {} = self;
+    }
+}

@@ -1,0 +1,105 @@
+//! Writers: what bytes are appended to.
+
+ghost use Rattle.std.specs.Prelude.{◌≡◌, ◌∷◌, [], Some, OnErr, Bool, true};
+ghost use Rattle.dagcbor_heads.specs.Written.{Written, Writes, WantsMemoryOnlyIf};
+
+use crate::error::EncodeError;
+use std::convert::Infallible;
+use std::marker::Model;
+
+/// A place that takes bytes.
+pub trait Write {
+    type Error: Drop;
+
+    /// What contracts see of the writer.
+    ghost written: { Self → Written };
+
+    /// Whether a push may take memory.
+    ghost takes_memory: { Bool };
+
+    /// Appends the bytes. Refused with `Write` or `OutOfMemory` alone; a beginning of the bytes may have gone out then.
+    fn push(&mut self, bytes: &[u8]) -> Result<(), EncodeError<Self::Error>>
+        ensures written { Writes (Some bytes.now) (written self.old) (written self.new) result }
+        ensures memory { WantsMemoryOnlyIf takes_memory result };
+}
+
+impl<W: Write> Write for &mut W {
+    type Error = W::Error;
+
+    ghost written = { λ w. record {
+      bytes = (W.written w.now).bytes;
+      faults = (W.written w.now).faults;
+      through = w.ghost_name ∷ (W.written w.now).through;
+    } };
+
+    ghost takes_memory = { W.takes_memory };
+
+    fn push(&mut self, bytes: &[u8]) -> Result<(), EncodeError<W::Error>> {
+        W::push(*self, bytes)
+    }
+}
+
+/// A writer to memory. Contracts see the bytes that it holds.
+#[derive(Drop)]
+pub struct BufWriter {
+    bytes: Vec<u8>,
+}
+
+impl Model for BufWriter {
+    ghost use Rattle.std.specs.Prelude.{ℕ, List};
+
+    ghost Value = { List ℕ };
+
+    ghost view = { λ w. w.bytes.items };
+}
+
+impl BufWriter {
+    /// A writer that appends to these bytes, in their memory.
+    pub fn new(bytes: Vec<u8>) -> BufWriter
+        ensures { result ≡ bytes.items }
+    {
+        BufWriter { bytes }
+    }
+
+    /// The bytes held.
+    pub fn buffer(&self) -> &[u8]
+        ensures { result.now ≡ self.now }
+    {
+        self.bytes.as_slice()
+    }
+
+    pub fn into_inner(self) -> Vec<u8>
+        ensures { result.items ≡ self }
+    {
+        let Self { bytes } = self;
+        bytes
+    }
+
+    /// Holds nothing from now on, and keeps the memory.
+    pub fn clear(&mut self)
+        ensures { self.new ≡ [] }
+    {
+        self.bytes.clear();
+    }
+}
+
+impl Write for BufWriter {
+    type Error = Infallible;
+
+    ghost written = { λ held. record { bytes = Some held; faults = 0; through = [] } };
+
+    ghost takes_memory = { true };
+
+    /// Appends the bytes. Where memory runs out, nothing has changed.
+    fn push(&mut self, bytes: &[u8]) -> Result<(), EncodeError<Infallible>>
+        ensures written { Writes (Some bytes.now) (record { bytes = Some self.old; faults = 0; through = [] })
+            (record { bytes = Some self.new; faults = 0; through = [] }) result }
+        ensures memory { WantsMemoryOnlyIf true result }
+        ensures unchanged { OnErr result (self.new ≡ self.old) }
+    {
+        match self.bytes.extend_from_slice(bytes) {
+            Ok(()) => Ok(()),
+            Err(_) => Err(EncodeError::OutOfMemory),
+        }
+    }
+}

@@ -1,0 +1,9 @@
+pub mod Examples
+pub mod Unique
+pub mod KeyOrder
+pub mod Fronts
+pub mod Ordered
+pub mod Cids
+pub mod WellFormed
+pub mod Spelled
+pub mod Varint

@@ -1,0 +1,9 @@
+pub use Rattle.dagcbor_heads.specs.Head
+pub mod Key
+pub mod Cid
+pub mod Tree
+pub mod Spelling
+pub mod Spelled
+pub mod Laws
+pub mod Ipld
+pub mod Same

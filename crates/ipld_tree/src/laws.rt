@@ -1,0 +1,24 @@
+//! Laws of the definitions, each the contract of a function that does nothing.
+
+ghost use Rattle.ipld_tree.specs.Laws.{SpellingsAreUnique, SpelledKeysKeepTheirOrder, EqualityIsOfTrees};
+ghost use Rattle.ipld_tree.specs.Spelled.{SpelledIsTheSpelling};
+
+/// Unique readability: no two trees share a spelling, and no spelling begins another's.
+pub fn spelling_unique()
+    ensures { SpellingsAreUnique }
+{}
+
+/// Key order: entries of different keys are in the order of bytes as their keys are in theirs.
+pub fn key_order()
+    ensures { SpelledKeysKeepTheirOrder }
+{}
+
+/// Two values are equal exactly where their trees are.
+pub fn equality()
+    ensures { EqualityIsOfTrees }
+{}
+
+/// What is spelled is the spelling of a spellable tree, and nothing else.
+pub fn spelled_is_the_spelling()
+    ensures { SpelledIsTheSpelling }
+{}

@@ -22,6 +22,9 @@ shown_whole b shown e = sym (take-append-drop (length shown) b) ∙ ap (λ s. s 
 pub take_of_shown : (b shown : List ℕ) (n : ℕ) → take (length shown) b ≡ shown → n ≤ length shown → take n b ≡ take n shown
 take_of_shown b shown n e h = ap (take n) (shown_whole b shown e) ∙ take-append-le n shown (drop (length shown) b) h
 
+begins_with : (shown : List ℕ) (x : ℕ) (xs b : List ℕ) → shown ≡ x ∷ xs → take (length shown) b ≡ shown → (more : List ℕ) × (b ≡ x ∷ more)
+begins_with shown x xs b is e = (xs ++ drop (length (x ∷ xs)) b, shown_whole b (x ∷ xs) (subst (λ s. take (length s) b ≡ s) is e))
+
 -- the first byte that is shown, or the end
 pub first_shown : {old mid : Reading} (shown : List ℕ) (found : Option ℕ) → mid.shown ≡ shown → found ≡ slice_get shown 0 → Shows old 1 mid
     → MatchOption found (FindsEnd old mid) (λ byte. ShowsByte old byte mid × (1 ≤ length mid.shown))
@@ -29,7 +32,8 @@ first_shown {old} {mid} [] found is e h = subst (λ o. MatchOption o (FindsEnd o
     record { none_left = λ b l. (h.front b l).end (omega arith) (ap length is); kept = h.kept; same = h.same }
 first_shown {old} {mid} (x ∷ xs) found is e h = subst (λ o. MatchOption o (FindsEnd old mid) (λ byte. ShowsByte old byte mid × (1 ≤ length mid.shown))) (sym e)
     (record {
-      starts = λ b l. (xs ++ drop (length (x ∷ xs)) b, shown_whole b (x ∷ xs) (subst (λ s. take (length s) b ≡ s) is (h.front b l).front));
+      starts = λ b l. begins_with mid.shown x xs b is (h.front b l).front;
+      still = λ b l. begins_with mid.shown x xs b is (h.begins b l);
       kept = h.kept;
       same = h.same;
     }, omega (arith, ap length is))

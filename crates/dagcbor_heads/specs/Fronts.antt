@@ -32,6 +32,7 @@ StartsWith r byte = (b : List ℕ) → r.left ≡ Some b → (more : List ℕ) �
 -- this byte stands at the front, and stays there
 pub record ShowsByte (old : Reading) (byte : ℕ) (new : Reading) : Type 0 where
   pub starts : StartsWith old byte
+  pub still : StartsWith new byte
   pub kept : Keeps old new
   pub same : Stays old new
 

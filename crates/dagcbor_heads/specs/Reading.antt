@@ -38,9 +38,10 @@ pub record IsShownOf (b shown : List ℕ) (want : ℕ) (lends : Bool) : Type 0 w
   pub end : 0 < want → length shown ≡ 0 → b ≡ []
   pub enough : lends ≡ true → min want (length b) ≤ length shown
 
--- some bytes are shown, and none was taken
+-- some bytes are shown, with which the bytes left begin, and none was taken
 pub record Shows (old : Reading) (want : ℕ) (new : Reading) : Type 0 where
   pub kept : Keeps old new
+  pub begins : (b : List ℕ) → new.left ≡ Some b → take (length new.shown) b ≡ new.shown
   pub front : (b : List ℕ) → old.left ≡ Some b → IsShownOf b new.shown want old.lends
   pub same : Stays old new
 

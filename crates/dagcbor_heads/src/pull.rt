@@ -1,6 +1,6 @@
 //! Takes bytes, heads and payloads off any reader.
 
-ghost use Rattle.std.specs.Prelude.{◌≡◌, ◌↔◌, ◌<◌, ◌≤◌, ◌%◌, ◌^◌, [], ◌∷◌, ◌++◌, ⊤, Some, true, false, min, length, take, IfOk, IfErr, IfSome, IsTrue, MatchOption, MatchResult, List, ℕ};
+ghost use Rattle.std.specs.Prelude.{◌≡◌, ◌↔◌, ◌<◌, ◌≤◌, ◌%◌, ◌^◌, [], ◌∷◌, ◌++◌, ⊤, Some, true, false, min, length, take, IfOk, IfErr, IfSome, IsTrue, MatchOption, MatchResult, MatchBool, List, ℕ};
 ghost use Rattle.std.specs.Cow.{cow_slice_items, IsBorrowedSlice};
 ghost use Rattle.std.specs.Int.{bytes_high_first};
 ghost use Rattle.dagcbor_heads.specs.Head.{head};
@@ -51,6 +51,20 @@ fn next_byte<R: Read>(reader: &mut R) -> Result<Option<u8>, R::Error>
             Ok(Some(byte))
         }
         None => Ok(None),
+    }
+}
+
+/// Whether no byte is left. Nothing is taken.
+pub fn is_at_end<R: Read>(reader: &mut R) -> Result<bool, R::Error>
+    ensures { MatchResult result
+        (λ end. MatchBool end
+            (FindsEnd (R.reading reader.old) (R.reading reader.new))
+            ((byte : ℕ) × ShowsByte (R.reading reader.old) byte (R.reading reader.new)))
+        (λ _. Fails (R.reading reader.old) (R.reading reader.new)) }
+{
+    match look(reader)? {
+        Some(_) => Ok(false),
+        None => Ok(true),
     }
 }
 

@@ -1,0 +1,3 @@
+pub mod Fronts
+pub mod Leaves
+pub mod Wholes

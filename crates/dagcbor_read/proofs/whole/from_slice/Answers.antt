@@ -1,0 +1,9 @@
+use Rattle.std.proofs.Common.{ap}
+use Rattle.dagcbor_heads.proofs.Refusing.{refused}
+use Rattle.dagcbor_read.proofs.Wholes.{end_refused}
+use Rattle.dagcbor_read.proofs.whole.from_slice.Goals as goal
+
+pub returns-in_err-end : goal.returns-in_err-end
+returns-in_err-end c =
+    let start = c.from_slice-de.ensures in
+    refused _ _ _ _ c.from_residual-in_err-end.ensures.1 (end_refused _ _ _ _ c.in_ok-value.value _ (ap (λ p. p.failed) start) (ap (λ p. p.input.left) start) c.in_ok-value.ensures c.in_err-end.ensures)

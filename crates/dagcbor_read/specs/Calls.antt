@@ -1,0 +1,37 @@
+-- What contracts see of a Deserializer, and what its calls do to it.
+use Rattle.std.specs.Prelude.{◌≡◌, ℕ, ◌<◌, Bool, true, false, Result, Ok, Err, is_err, MatchBool}
+use Rattle.dagcbor_heads.specs.Reading.{Reading}
+use Rattle.dagcbor_heads.specs.Fronts.{FindsEnd, ShowsByte}
+use Rattle.dagcbor_heads.specs.Inputs.{input_reading}
+use Rattle.dagcbor_heads.specs.declared.error.DecodeError.{DecodeError}
+use Rattle.dagcbor_heads.specs.declared.error.DecodeError.TheVariants.{Read, TrailingData, Failed}
+use Rattle.dagcbor_read.specs.declared.deserializer.Deserializer.{Deserializer}
+
+pub record Progress : Type 0 where
+  -- what it reads from
+  pub input : Reading
+  -- whether a call was refused
+  pub failed : Bool
+
+abbrev pub progress : {R : Type 0} → (R → Reading) → Deserializer R → Progress
+progress reading de = record { input = input_reading reading de.input; failed = de.failed }
+
+-- A call on a Deserializer that has failed answers `Failed`, and changes nothing. Any other reads, and has failed exactly
+-- where it is refused.
+abbrev pub Call : {T E : Type 0} → (Reading → Result T (DecodeError E) → Reading → Type 0) → Progress → Result T (DecodeError E) → Progress → Type 0
+Call reads old result new = MatchBool old.failed
+    ((result ≡ Err Failed) × (new ≡ old))
+    ((new.failed ≡ is_err result) × reads old.input result new.input)
+
+-- the end of the input was found; or bytes behind the item, which stay, and then nothing has failed; or the reader faulted
+abbrev pub TellsEnd : {E : Type 0} → Reading → Result (Unit {0}) (DecodeError E) → Reading → Bool → Type 0
+TellsEnd old (Ok u) new failed = (failed ≡ false) × FindsEnd old new
+TellsEnd old (Err TrailingData) new failed = (failed ≡ false) × (byte : ℕ) × ShowsByte old byte new
+TellsEnd old (Err (Read e)) new failed = (failed ≡ true) × (old.faults < new.faults)
+TellsEnd old (Err _) new failed = ⊥
+
+-- what `end` does, which answers `Failed` too after a refusal
+abbrev pub Ends : {E : Type 0} → Progress → Result (Unit {0}) (DecodeError E) → Progress → Type 0
+Ends old result new = MatchBool old.failed
+    ((result ≡ Err Failed) × (new ≡ old))
+    (TellsEnd old.input result new.input new.failed)

@@ -1,0 +1,12 @@
+pub use Rattle.dagcbor_heads.specs.Reading
+pub use Rattle.dagcbor_heads.specs.Fronts
+pub use Rattle.dagcbor_heads.specs.Causes
+pub use Rattle.dagcbor_heads.specs.Refusals
+pub use Rattle.dagcbor_heads.specs.Names
+pub use Rattle.ipld_tree.specs.Tree
+pub use Rattle.ipld_tree.specs.Ipld
+pub use Rattle.ipld_tree.specs.Spelling
+pub mod ItemCauses
+pub mod Untyped
+pub mod Calls
+pub mod Whole

@@ -1,0 +1,12 @@
+//! Reading values from DAG-CBOR.
+#![tactic(auto)]
+
+mod any;
+mod deserializer;
+mod whole;
+
+pub use deserializer::Deserializer;
+pub use whole::from_slice;
+
+#[cfg(test)]
+mod tests;

@@ -1,0 +1,6 @@
+pub use Rattle.dagcbor_heads.specs.Written
+pub use Rattle.ipld_tree.specs.Tree
+pub use Rattle.ipld_tree.specs.Ipld
+pub use Rattle.ipld_tree.specs.Spelling
+pub use Rattle.ipld_tree.specs.Spelled
+pub mod Answers

@@ -1,0 +1,114 @@
+//! Writes leaves to a writer.
+
+ghost use Rattle.std.specs.Prelude.{◌≡◌, ◌≤◌, IfErr, codes, false};
+ghost use Rattle.dagcbor_heads.specs.Written.{Writes, WantsMemoryOnlyIf};
+ghost use Rattle.ipld_tree.specs.Tree.{null, boolean, integer, text, bytes};
+ghost use Rattle.ipld_tree.specs.Spelled.{spelled, spelled_bytes};
+ghost use Rattle.dagcbor_write.specs.Answers.{IsMessage};
+
+use dagcbor_heads::{EncodeError, Write, push_head};
+use std::marker::Model;
+
+/// What an integer without a spelling is refused with.
+const INTEGER_RANGE: &str = "Integer must be within [-u64::MAX-1, u64::MAX] range";
+
+/// Writes values to a writer. Contracts see the writer.
+#[derive(Drop)]
+pub struct Serializer<W> {
+    writer: W,
+}
+
+impl<W> Model for Serializer<W> {
+    ghost Value = { W };
+
+    ghost view = { λ s. s.writer };
+}
+
+impl<W> Serializer<W> {
+    pub fn new(writer: W) -> Serializer<W>
+        ensures { result ≡ writer }
+    {
+        Serializer { writer }
+    }
+
+    pub fn into_inner(self) -> W
+        ensures { result ≡ self }
+    {
+        let Self { writer } = self;
+        writer
+    }
+
+    /// DAG-CBOR is a binary format.
+    pub fn is_human_readable(&self) -> bool
+        ensures { result ≡ false }
+    {
+        false
+    }
+}
+
+impl<W: Write> Serializer<W> {
+    /// f4 or f5.
+    #[tactic(auto, unfolding(ipld_tree::specs::Spelled::spelled))]
+    pub fn serialize_bool(&mut self, v: bool) -> Result<(), EncodeError<W::Error>>
+        ensures written { Writes (spelled (boolean v)) (W.written self.old) (W.written self.new) result }
+        ensures memory { WantsMemoryOnlyIf W.takes_memory result }
+    {
+        self.writer.push(&[if v { 0xf5 } else { 0xf4 }])
+    }
+
+    /// A head of major type 0 or 1. Outside -2^64 to 2^64 - 1 refused with
+    /// `Msg("Integer must be within [-u64::MAX-1, u64::MAX] range")`.
+    #[tactic(auto, unfolding(ipld_tree::specs::Spelled::spelled))]
+    pub fn serialize_i128(&mut self, v: i128) -> Result<(), EncodeError<W::Error>>
+        ensures written { Writes (spelled (integer v)) (W.written self.old) (W.written self.new) result }
+        ensures memory { WantsMemoryOnlyIf W.takes_memory result }
+        ensures message { IfErr result (IsMessage (codes "Integer must be within [-u64::MAX-1, u64::MAX] range")) }
+    {
+        let (major, magnitude) = if v < 0 { (1, -1 - v) } else { (0, v) };
+        match u64::try_from(magnitude) {
+            Ok(argument) => push_head(&mut self.writer, major, argument),
+            Err(_) => Err(EncodeError::Msg(INTEGER_RANGE)),
+        }
+    }
+
+    /// A head of major type 3 and the bytes of the text.
+    #[tactic(auto, unfolding(ipld_tree::specs::Spelled::spelled))]
+    pub fn serialize_str(&mut self, v: &str) -> Result<(), EncodeError<W::Error>>
+        ensures written { Writes (spelled (text v.now)) (W.written self.old) (W.written self.new) result }
+        ensures memory { WantsMemoryOnlyIf W.takes_memory result }
+    {
+        push_counted(&mut self.writer, 3, v.as_bytes())
+    }
+
+    /// A head of major type 2 and the bytes.
+    #[tactic(auto, unfolding(ipld_tree::specs::Spelled::spelled))]
+    pub fn serialize_bytes(&mut self, v: &[u8]) -> Result<(), EncodeError<W::Error>>
+        ensures written { Writes (spelled (bytes v.now)) (W.written self.old) (W.written self.new) result }
+        ensures memory { WantsMemoryOnlyIf W.takes_memory result }
+    {
+        push_counted(&mut self.writer, 2, v)
+    }
+
+    /// f6.
+    #[tactic(auto, unfolding(ipld_tree::specs::Spelled::spelled))]
+    pub fn serialize_none(&mut self) -> Result<(), EncodeError<W::Error>>
+        ensures written { Writes (spelled null) (W.written self.old) (W.written self.new) result }
+        ensures memory { WantsMemoryOnlyIf W.takes_memory result }
+    {
+        self.writer.push(&[0xf6])
+    }
+}
+
+/// Appends a head of the number of bytes, and the bytes.
+fn push_counted<W: Write>(
+    writer: &mut W,
+    major: u8,
+    payload: &[u8],
+) -> Result<(), EncodeError<W::Error>>
+    requires { major ≤ 7 }
+    ensures written { Writes (spelled_bytes major payload.now) (W.written writer.old) (W.written writer.new) result }
+    ensures memory { WantsMemoryOnlyIf W.takes_memory result }
+{
+    push_head(writer, major, payload.len() as u64)?;
+    writer.push(payload)
+}

@@ -11,6 +11,7 @@ use std::marker::Model;
 pub(crate) const BUDGET: usize = 256;
 
 /// What is shown of the bytes left: bytes that outlive the reader, or bytes of the reader's own.
+#[derive(Clone, Copy, Debug)]
 pub enum Reference<'de, 'a> {
     Long(&'de [u8]),
     Short(&'a [u8]),

@@ -1,0 +1,200 @@
+//! The program's lines, words and faults.
+
+use super::*;
+use crate::check::run_check;
+use crate::line::ToolError;
+use std::alloc::Global;
+use std::io::{BufRead, Read, Write};
+use std::test::Fail;
+
+/// Shows one byte a fill, and fails in this way at one of its fills.
+#[derive(Drop)]
+struct OneByte<'a> {
+    bytes: &'a [u8],
+    fills: usize,
+    faulty: usize,
+    fault: ErrorKind,
+}
+
+impl<'a> OneByte<'a> {
+    fn new(bytes: &'a [u8], faulty: usize, fault: ErrorKind) -> OneByte<'a> {
+        OneByte {
+            bytes,
+            fills: 0,
+            faulty,
+            fault,
+        }
+    }
+}
+
+impl Read for OneByte<'_> {
+    fn read(&mut self, _buf: &mut [u8]) -> io::Result<usize> {
+        Ok(0)
+    }
+}
+
+impl BufRead for OneByte<'_> {
+    fn fill_buf(&mut self) -> io::Result<&[u8]> {
+        self.fills = self.fills.saturating_add(1);
+        if self.fills == self.faulty {
+            return Err(io::Error::from(self.fault));
+        }
+        Ok(match self.bytes {
+            [] => self.bytes,
+            [_, ..] => &self.bytes[..1],
+        })
+    }
+
+    fn consume(&mut self, amount: usize) {
+        if amount <= self.bytes.len() {
+            self.bytes = &self.bytes[amount..];
+        }
+    }
+}
+
+/// Takes one byte a call. Where it is full, it takes none, or fails.
+#[derive(Drop)]
+struct Stingy {
+    held: Vec<u8>,
+    room: usize,
+    fault: Option<ErrorKind>,
+}
+
+impl Stingy {
+    fn new(alloc: Global, room: usize, fault: Option<ErrorKind>) -> Stingy {
+        Stingy {
+            held: Vec::new(alloc),
+            room,
+            fault,
+        }
+    }
+}
+
+impl Write for Stingy {
+    fn write(&mut self, buf: &[u8]) -> io::Result<usize> {
+        if self.held.len() >= self.room {
+            return match self.fault {
+                Some(fault) => Err(io::Error::from(fault)),
+                None => Ok(0),
+            };
+        }
+        match buf {
+            [] => Ok(0),
+            [first, ..] => {
+                self.held.push(*first)?;
+                Ok(1)
+            }
+        }
+    }
+
+    fn flush(&mut self) -> io::Result<()> {
+        Ok(())
+    }
+}
+
+const LINES: &[u8] = b"1817\nzz\n\nF6\n63616263\r\nF5\n420102";
+
+const ANSWERS: &[u8] =
+    b"refused NonMinimal\nrefused hex\nrefused Eof\nok null\nok string\nok bool\nok bytes\n";
+
+#[test]
+fn answers_each_line(rt: HostRuntime) -> Result<(), Fail> {
+    let alloc = rt.alloc();
+    let mut output = Vec::new(alloc);
+    run_check(alloc, &mut &LINES[..], &mut output)?;
+    assert_eq!(rt; output.as_slice(), ANSWERS);
+    let mut stingy = Stingy::new(alloc, 1000, None);
+    let mut input = OneByte::new(LINES, 0, ErrorKind::Other);
+    run_check(alloc, &mut input, &mut stingy)?;
+    assert_eq!(rt; stingy.held.as_slice(), ANSWERS);
+    Ok(())
+}
+
+#[test]
+fn a_reader_that_fails_ends_the_run(rt: HostRuntime) -> Result<(), Fail> {
+    // An interrupted call is not made again.
+    for fault in [ErrorKind::Other, ErrorKind::Interrupted] {
+        for (fill, written) in [(1, 0), (5, 0), (6, 19), (9, 31)] {
+            let mut output = Vec::new(rt.alloc());
+            let mut input = OneByte::new(LINES, fill, fault);
+            let ended = run_check(rt.alloc(), &mut input, &mut output);
+            assert!(rt; matches!(ended, Err(ToolError::Input)), "{fill}");
+            assert!(rt; ANSWERS.starts_with(output.as_slice()), "{fill}");
+            assert_eq!(rt; output.len(), written, "{fill}");
+        }
+    }
+    Ok(())
+}
+
+#[test]
+fn a_writer_that_fails_ends_the_run(rt: HostRuntime) -> Result<(), Fail> {
+    for fault in [None, Some(ErrorKind::Other), Some(ErrorKind::Interrupted)] {
+        for room in [0, 1, 18, 19, 24] {
+            let mut stingy = Stingy::new(rt.alloc(), room, fault);
+            let ended = run_check(rt.alloc(), &mut &LINES[..], &mut stingy);
+            assert!(rt; matches!(ended, Err(ToolError::Output)), "{room}");
+            assert!(rt; ANSWERS.starts_with(stingy.held.as_slice()), "{room}");
+            assert_eq!(rt; stingy.held.len(), room);
+        }
+    }
+    Ok(())
+}
+
+fn run_words(
+    alloc: Global,
+    words: &[&str],
+    input: &mut impl BufRead,
+    output: &mut impl Write,
+    errors: &mut impl Write,
+) -> Result<u8, Fail> {
+    let mut args = Vec::new(alloc);
+    for word in words {
+        args.push(String::from_str(alloc, word)?)?;
+    }
+    Ok(run_command(alloc, &args, input, output, errors))
+}
+
+#[test]
+fn words_pick_the_command(rt: HostRuntime) -> Result<(), Fail> {
+    let alloc = rt.alloc();
+    let rows: [(&[&str], u8, &[u8], &[u8]); 5] = [
+        (&["check"], 0, b"ok integer\n", b""),
+        (&[], 2, b"", b"usage: dagcbor check\n"),
+        (&["check", "check"], 2, b"", b"usage: dagcbor check\n"),
+        (&["links"], 2, b"", b"usage: dagcbor check\n"),
+        (&["Check"], 2, b"", b"usage: dagcbor check\n"),
+    ];
+    for (words, status, written, told) in rows {
+        let mut input: &[u8] = b"1818\n";
+        let mut output = Vec::new(alloc);
+        let mut errors = Vec::new(alloc);
+        let ended = run_words(alloc, words, &mut input, &mut output, &mut errors)?;
+        assert_eq!(rt; ended, status);
+        assert_eq!(rt; output.as_slice(), written);
+        assert_eq!(rt; errors.as_slice(), told);
+    }
+    Ok(())
+}
+
+#[test]
+fn faults_are_told(rt: HostRuntime) -> Result<(), Fail> {
+    let alloc = rt.alloc();
+    let mut errors = Vec::new(alloc);
+    let mut input = OneByte::new(LINES, 2, ErrorKind::Other);
+    let mut output = Vec::new(alloc);
+    let ended = run_words(alloc, &["check"], &mut input, &mut output, &mut errors)?;
+    assert_eq!(rt; ended, 1);
+    assert_eq!(rt; errors.as_slice(), b"dagcbor: input failed\n".as_slice());
+    errors.clear();
+    let mut full = Stingy::new(alloc, 3, None);
+    let ended = run_words(alloc, &["check"], &mut &LINES[..], &mut full, &mut errors)?;
+    assert_eq!(rt; ended, 1);
+    assert_eq!(rt; errors.as_slice(), b"dagcbor: output failed\n".as_slice());
+    assert_eq!(rt; full.held.as_slice(), b"ref".as_slice());
+    // A fault in telling it is not told.
+    let mut deaf = Stingy::new(alloc, 0, Some(ErrorKind::Other));
+    let mut output = Vec::new(alloc);
+    let ended = run_words(alloc, &[], &mut &LINES[..], &mut output, &mut deaf)?;
+    assert_eq!(rt; ended, 2);
+    Ok(())
+}

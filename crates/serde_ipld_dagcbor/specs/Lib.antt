@@ -1,0 +1,16 @@
+pub use Rattle.dagcbor_heads.specs.Reading
+pub use Rattle.dagcbor_heads.specs.Fronts
+pub use Rattle.dagcbor_heads.specs.Causes
+pub use Rattle.dagcbor_heads.specs.Refusals
+pub use Rattle.dagcbor_heads.specs.Names
+pub use Rattle.dagcbor_heads.specs.Written
+pub use Rattle.ipld_tree.specs.Tree
+pub use Rattle.ipld_tree.specs.Ipld
+pub use Rattle.ipld_tree.specs.Spelling
+pub use Rattle.ipld_tree.specs.Spelled
+pub use Rattle.dagcbor_write.specs.Answers
+pub use Rattle.dagcbor_read.specs.ItemCauses
+pub use Rattle.dagcbor_read.specs.Untyped
+pub use Rattle.dagcbor_read.specs.Calls
+pub use Rattle.dagcbor_read.specs.Whole
+pub use Rattle.dagcbor_heads.specs.declared.error.DecodeError

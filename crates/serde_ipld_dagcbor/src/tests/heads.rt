@@ -27,7 +27,7 @@ fn heads_both_ways(rt: HostRuntime) -> Result<(), Fail> {
             let mut reader = Pieces::new(head, size);
             let (read_major, read_argument, _) = pull_head("any", &mut reader)?;
             assert_eq!(rt; (read_major, read_argument), (major, argument));
-            assert!(rt; is_at_end(&mut reader)? );
+            assert!(rt; is_at_end(&mut reader)?);
         }
     }
     Ok(())
@@ -40,9 +40,25 @@ fn bytes_are_looked_at_and_taken(rt: HostRuntime) -> Result<(), Fail> {
     assert_eq!(rt; pull_one("any", &mut reader)?, b'a');
     assert_eq!(rt; pull_one("any", &mut reader)?, b'b');
     let end = pull_one("any", &mut reader);
-    assert!(rt; matches!(end, Err(DecodeError::Eof { expect: Len::Small(1), .. })));
+    assert!(rt;
+        matches!(
+            end,
+            Err(DecodeError::Eof {
+                expect: Len::Small(1),
+                ..
+            })
+        )
+    );
     let end = peek_one("any", &mut reader);
-    assert!(rt; matches!(end, Err(DecodeError::Eof { expect: Len::Small(1), .. })));
+    assert!(rt;
+        matches!(
+            end,
+            Err(DecodeError::Eof {
+                expect: Len::Small(1),
+                ..
+            })
+        )
+    );
     assert!(rt; is_indefinite(0x9f));
     assert!(rt; !is_indefinite(0x9e));
     Ok(())
@@ -55,14 +71,30 @@ fn payloads_are_lent_by_slices_alone(rt: HostRuntime) -> Result<(), Fail> {
     let lent = pull_payload(alloc, "bytes", &mut slice, 3)?;
     assert!(rt; matches!(lent, CowSlice::Borrowed(b"abc")));
     let cut = pull_payload(alloc, "bytes", &mut slice, 70_000);
-    assert!(rt; matches!(cut, Err(DecodeError::Eof { expect: Len::Big, .. })));
+    assert!(rt;
+        matches!(
+            cut,
+            Err(DecodeError::Eof {
+                expect: Len::Big,
+                ..
+            })
+        )
+    );
 
     let mut reader = Input::Reader(Pieces::new(b"abcd", 2));
     let gathered = pull_payload(alloc, "bytes", &mut reader, 3)?;
     assert!(rt; matches!(gathered, CowSlice::Owned(_)));
     assert_eq!(rt; gathered.as_slice(), b"abc".as_slice());
     let cut = pull_payload(alloc, "bytes", &mut reader, 2);
-    assert!(rt; matches!(cut, Err(DecodeError::Eof { expect: Len::Small(2), .. })));
+    assert!(rt;
+        matches!(
+            cut,
+            Err(DecodeError::Eof {
+                expect: Len::Small(2),
+                ..
+            })
+        )
+    );
     Ok(())
 }
 

@@ -46,7 +46,10 @@ fn integers_both_ways(rt: HostRuntime) -> Result<(), Fail> {
     for (number, spelling) in rows {
         let written = to_vec(rt.alloc(), &Ipld::Integer(number))?;
         assert_eq!(rt; written.as_slice(), spelling, "{number}");
-        assert!(rt; from_slice(rt.alloc(), spelling)? == Ipld::Integer(number), "{number}");
+        assert!(rt;
+            from_slice(rt.alloc(), spelling)? == Ipld::Integer(number),
+            "{number}"
+        );
     }
     Ok(())
 }

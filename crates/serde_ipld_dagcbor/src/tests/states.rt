@@ -2,7 +2,7 @@
 
 use crate::tests::devices::{FaultyWriter, Pieces};
 use crate::{
-    BufWriter, DAG_CBOR_CODE, DecodeError, Deserializer, EncodeError, Ipld, Name, Serializer,
+    BufWriter, DAG_CBOR_CODE, DecodeError, Deserializer, EncodeError, Ipld, Len, Name, Serializer,
     SliceReader, Write,
 };
 use std::convert::Infallible;
@@ -13,7 +13,10 @@ fn a_refusal_lasts(rt: HostRuntime) -> Result<(), Fail> {
     let mut de = Deserializer::from_slice(b"\x18\x17\x01");
     let refused = de.deserialize_any(rt.alloc());
     let told = format!(in rt.alloc(); "{refused:?}")?;
-    assert_eq!(rt; told.as_str(), r#"Err(NonMinimal { name: "u64", found: 24 })"#);
+    assert_eq!(rt;
+        told.as_str(),
+        r#"Err(NonMinimal { name: "u64", found: 24 })"#
+    );
     assert!(rt; matches!(de.deserialize_any(rt.alloc()), Err(DecodeError::Failed)));
     assert!(rt; matches!(de.end(), Err(DecodeError::Failed)));
     assert!(rt; !de.is_human_readable());
@@ -34,9 +37,13 @@ fn trailing_data_changes_nothing(rt: HostRuntime) -> Result<(), Fail> {
 fn fills_of_any_size_read_the_same(rt: HostRuntime) -> Result<(), Fail> {
     let alloc = rt.alloc();
     for size in [1, 3, 64] {
-        let input = b"\x1b\x00\x00\x00\x01\x00\x00\x00\x00\x6a\x61\xc3\xa2\xc3\xb8\xe2\x86\x93\xc3\xa9\xf6";
+        let input =
+            b"\x1b\x00\x00\x00\x01\x00\x00\x00\x00\x6a\x61\xc3\xa2\xc3\xb8\xe2\x86\x93\xc3\xa9\xf6";
         let mut de = Deserializer::from_reader(Pieces::new(input, size));
-        assert!(rt; de.deserialize_any(alloc)? == Ipld::Integer(4_294_967_296), "{size}");
+        assert!(rt;
+            de.deserialize_any(alloc)? == Ipld::Integer(4_294_967_296),
+            "{size}"
+        );
         let text = Ipld::String(String::from_str(alloc, "aâø↓é")?);
         assert!(rt; de.deserialize_any(alloc)? == text, "{size}");
         assert!(rt; de.deserialize_any(alloc)? == Ipld::Null, "{size}");
@@ -46,11 +53,31 @@ fn fills_of_any_size_read_the_same(rt: HostRuntime) -> Result<(), Fail> {
 }
 
 #[test]
+fn an_announced_length_reserves_nothing(rt: HostRuntime) -> Result<(), Fail> {
+    let input = b"\x5b\xff\xff\xff\xff\xff\xff\xff\xffab";
+    let mut de = Deserializer::from_reader(Pieces::new(input, 1));
+    let refused = de.deserialize_any(rt.alloc());
+    assert!(rt;
+        matches!(
+            refused,
+            Err(DecodeError::Eof {
+                expect: Len::Big,
+                ..
+            })
+        )
+    );
+    Ok(())
+}
+
+#[test]
 fn a_fault_is_passed_on_and_lasts(rt: HostRuntime) -> Result<(), Fail> {
     // Fill by fill: the kind's byte, the head, the two bytes behind it.
     for fill in 1..5 {
         let mut de = Deserializer::from_reader(Pieces::failing(b"\x62ab", 1, fill));
-        assert!(rt; matches!(de.deserialize_any(rt.alloc()), Err(DecodeError::Read(7))), "{fill}");
+        assert!(rt;
+            matches!(de.deserialize_any(rt.alloc()), Err(DecodeError::Read(7))),
+            "{fill}"
+        );
         assert!(rt; matches!(de.end(), Err(DecodeError::Failed)), "{fill}");
     }
     let mut de = Deserializer::from_reader(Pieces::failing(b"\x62ab", 1, 5));

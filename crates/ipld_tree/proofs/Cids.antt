@@ -1,9 +1,14 @@
 -- A CID has one binary form, and a form is that of one CID.
-use Rattle.std.proofs.Common.{◌≡◌, inl, inr, ℕ, zero, suc, ◌+◌, ◌/◌, ◌%◌, ◌^◌, ◌<◌, ◌≤◌, List, [], ◌∷◌, ◌++◌, length, refl, sym, ap, ◌∙◌, subst, arith, lt-ltb, le-ltb, eq-eqb, ne_eqb}
+use Rattle.std.proofs.Common.{◌≡◌, inl, inr, ℕ, zero, suc, ◌+◌, ◌/◌, ◌%◌, ◌^◌, ◌<◌, ◌≤◌, List, [], ◌∷◌, ◌++◌, length, length-append, Bool, refl, sym, ap, ◌∙◌, subst, arith, lt-ltb, le-ltb, eq-eqb, ne_eqb}
 use Rattle.std.proofs.lemmas.Bool.{cases_lt}
+use Rattle.std.proofs.lemmas.Cmp.{tied_itself, then_total, on_total, nat_cmp_total, nat_list_cmp_total}
+use Rattle.std.specs.Prelude.{IsTrue, ◌↔◌}
+use Rattle.std.specs.Cmp.{IsTotalOrder}
+use Rattle.std.specs.Ordering.{eq_by_cmp, is_eq}
+use Rattle.ipld_tree.specs.CidHash.{same_cid, is_equal}
 use Rattle.std.proofs.lemmas.Nat.{div_below}
 use Rattle.std.proofs.Math.Nat.{pow-suc}
-use Rattle.ipld_tree.specs.Cid.{varint_groups, varint, CidParts, AreCidParts, cid_bytes}
+use Rattle.ipld_tree.specs.Cid.{varint_groups, varint, CidParts, AreCidParts, cid_bytes, IsCid, cid_cmp}
 
 -- the lowest group, last or with more behind it
 pub one_group : (more n : ℕ) → n < 128 → varint_groups (suc more) n ≡ n ∷ []
@@ -41,12 +46,38 @@ pub varint_unique : (m n : ℕ) (x y : List ℕ) → m < 2 ^ 64 → n < 2 ^ 64 �
 unfolding varint
 varint_unique m n x y h l e = groups_unique 10 m n x y (omega arith) (omega arith) e
 
+-- at most ten groups
+groups_length : (k n : ℕ) → length (varint_groups k n) ≤ k
+groups_length zero n = omega arith
+groups_length (suc k) n = elim (cases_lt n 128) [
+  | inl h ↦ omega (arith, ap length (one_group k n h))
+  | inr h ↦ omega (arith, ap length (more_groups k n h), groups_length k (n / 128))
+]
+
+pub varint_length : (n : ℕ) → length (varint n) ≤ 10
+unfolding varint
+varint_length n = groups_length 10 n
+
+pub one_byte : (n : ℕ) → n < 128 → length (varint n) ≡ 1
+unfolding varint
+one_byte n h = ap length (one_group 9 n h)
+
 -- the two forms
 pub form_0 : (c : CidParts) → c.version ≡ 0 → cid_bytes c ≡ 0x12 ∷ 0x20 ∷ c.digest
 form_0 c e = rw (eq-eqb c.version 0 e) refl
 
 pub form_1 : (c : CidParts) → c.version ≡ 1 → cid_bytes c ≡ 0x01 ∷ (varint c.codec ++ (varint c.hash_code ++ (varint (length c.digest) ++ c.digest)))
 form_1 c e = rw (ne_eqb c.version 0 (λ z. omega arith)) refl
+
+-- a CID has at most 86 bytes
+pub cid_length : (b : List ℕ) → IsCid b → length b ≤ 86
+cid_length b (c, inl h, e) = omega (arith, ap length (e ∙ form_0 c h.0), h.3)
+cid_length b (c, inr h, e) =
+    let whole = ap length (e ∙ form_1 c h.0) in
+    let behind_codec = length-append (varint c.codec) (varint c.hash_code ++ (varint (length c.digest) ++ c.digest)) in
+    let behind_hash_code = length-append (varint c.hash_code) (varint (length c.digest) ++ c.digest) in
+    let behind_length = length-append (varint (length c.digest)) c.digest in
+    omega (arith, whole, behind_codec, behind_hash_code, behind_length, varint_length c.codec, varint_length c.hash_code, one_byte (length c.digest) (omega (arith, h.3)), h.3)
 
 pub cid_unique : (c d : CidParts) → AreCidParts c → AreCidParts d → cid_bytes c ≡ cid_bytes d → c ≡ d
 cid_unique c d (inl p) (inl q) e =
@@ -62,3 +93,12 @@ cid_unique c d (inr p) (inr q) e =
     let hash_code = varint_unique c.hash_code d.hash_code (varint (length c.digest) ++ c.digest) (varint (length d.digest) ++ d.digest) p.2 q.2 codec.1 in
     let digest = varint_unique (length c.digest) (length d.digest) c.digest d.digest (omega arith) (omega arith) hash_code.1 in
     λ i. record { version = (p.0 ∙ sym q.0) i; codec = codec.0 i; hash_code = hash_code.0 i; digest = digest.1 i }
+
+cid_cmp_total : IsTotalOrder cid_cmp
+cid_cmp_total = then_total (on_total (λ c. c.version) nat_cmp_total) (then_total (on_total (λ c. c.codec) nat_cmp_total) (then_total (on_total (λ c. c.hash_code) nat_cmp_total) (on_total (λ c. c.digest) nat_list_cmp_total)))
+
+pub is_same : (c d : CidParts) (b : Bool) → AreCidParts c → AreCidParts d → b ≡ eq_by_cmp cid_cmp c d → IsTrue b ↔ (cid_bytes c ≡ cid_bytes d)
+is_same c d b p q e = (
+  λ h. ap cid_bytes (same_cid c d (is_equal (cid_cmp c d) (sym e ∙ h))),
+  λ h. e ∙ ap is_eq (ap (cid_cmp c) (sym (cid_unique c d p q h)) ∙ tied_itself cid_cmp_total c),
+)

@@ -2,7 +2,7 @@
 use Rattle.std.proofs.Common.{◌≡◌, ℕ, ◌^◌, ◌-◌, pos, negsuc, List, [], ◌∷◌, true, false, None, Some, refl}
 use Rattle.dagcbor_heads.specs.Head.{head}
 use Rattle.ipld_tree.specs.Key.{comes_before}
-use Rattle.ipld_tree.specs.Cid.{varint, cid_bytes}
+use Rattle.ipld_tree.specs.Cid.{varint, cid_parts, cid_bytes}
 use Rattle.ipld_tree.specs.Tree.{Tree, null, boolean, integer, text, list, mapping, link, no_items, item, no_entries, entry, items_of, ordered, map_tree, list_tree, entries_tree, any_need, links_of}
 use Rattle.ipld_tree.specs.Spelling.{spelling}
 
@@ -28,7 +28,7 @@ unfolding varint
 varint_greatest = refl
 
 abbrev cid : List ℕ
-cid = cid_bytes (record { version = 1; codec = 206; hash_code = 155; digest = 0x63 ∷ 0xc8 ∷ [] })
+cid = cid_bytes (cid_parts 1 206 155 (0x63 ∷ 0xc8 ∷ []))
 
 cid_is : cid ≡ 0x01 ∷ 0xce ∷ 0x01 ∷ 0x9b ∷ 0x01 ∷ 0x02 ∷ 0x63 ∷ 0xc8 ∷ []
 unfolding varint

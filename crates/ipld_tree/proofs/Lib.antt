@@ -1,9 +1,13 @@
 pub mod Examples
+pub mod Trees
 pub mod Unique
 pub mod KeyOrder
 pub mod Fronts
 pub mod Ordered
 pub mod Cids
+pub mod Same
 pub mod WellFormed
 pub mod Spelled
 pub mod Varint
+pub mod VarintRead
+pub mod CidFaults

@@ -47,7 +47,7 @@ less_from_before k l h = by (key_cmp k l) h
 never_below_itself : (k l : List ℕ) → key_cmp k l ≡ Less → k ≡ l → ⊥
 never_below_itself k l h e = let differ : Equal ≡ Less = sym (key_cmp_same k) ∙ ap (key_cmp k) e ∙ h in absurd (cc differ)
 
-after_not_before : (k l : List ℕ) → comes_before k l ≡ false → (key_cmp k l ≡ Equal → ⊥) → key_cmp l k ≡ Less
+pub after_not_before : (k l : List ℕ) → comes_before k l ≡ false → (key_cmp k l ≡ Equal → ⊥) → key_cmp l k ≡ Less
 after_not_before k l h apart = key_cmp_total.antisymm l k ∙ ap ordering_reverse (by (key_cmp k l) h apart)
   where
     by : (o : Ordering) → is_lt o ≡ false → (o ≡ Equal → ⊥) → o ≡ Greater

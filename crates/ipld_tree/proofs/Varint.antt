@@ -1,5 +1,6 @@
 -- A varint, written group by group.
-use Rattle.std.proofs.Common.{◌≡◌, ℕ, zero, suc, ◌+◌, ◌/◌, ◌%◌, ◌^◌, ◌<◌, ◌≤◌, List, [], ◌∷◌, ◌++◌, refl, sym, ap, ◌∙◌, arith, append_assoc}
+use Rattle.std.proofs.Common.{◌≡◌, ℕ, zero, suc, ◌+◌, ◌/◌, ◌%◌, ◌^◌, ◌<◌, ◌≤◌, List, [], ◌∷◌, ◌++◌, length, length-append, inl, inr, refl, sym, ap, ◌∙◌, arith, append_assoc}
+use Rattle.std.proofs.lemmas.Bool.{cases_lt}
 use Rattle.std.proofs.Math.Nat.{pow-succ'}
 use Rattle.ipld_tree.specs.Cid.{varint, varint_groups}
 use Rattle.ipld_tree.proofs.Cids.{one_group, more_groups}
@@ -25,5 +26,14 @@ one_left_less {start} {n} {out} {rest} w h = by w.more w.fits w.is
       is = append_assoc out ((128 + rest % 128) ∷ []) (varint_groups (suc k) (rest / 128)) ∙ ap (λ x. out ++ x) (sym (more_groups (suc k) rest h)) ∙ e;
     }
 
-pub none_left : {start : List ℕ} {n : ℕ} {out : List ℕ} {rest : ℕ} → IsLeft start n out rest → rest < 128 → out ++ rest ∷ [] ≡ start ++ varint n
-none_left {start} {n} {out} {rest} w h = ap (λ x. out ++ x) (sym (one_group w.more rest h)) ∙ w.is
+one_at_least : (more n : ℕ) → 1 ≤ length (varint_groups (suc more) n)
+one_at_least more n = elim (cases_lt n 128) [
+  | inl h ↦ omega (arith, ap length (one_group more n h))
+  | inr h ↦ omega (arith, ap length (more_groups more n h))
+]
+
+-- a group is still to be written
+pub room_left : {start : List ℕ} {n : ℕ} {out : List ℕ} {rest : ℕ} → IsLeft start n out rest → length out < length start + length (varint n)
+room_left {start} {n} {out} {rest} w =
+    let whole : length (out ++ varint_groups (suc w.more) rest) ≡ length (start ++ varint n) = ap length w.is in
+    omega (arith, whole, length-append out (varint_groups (suc w.more) rest), length-append start (varint n), one_at_least w.more rest)

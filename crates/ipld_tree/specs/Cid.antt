@@ -20,6 +20,9 @@ pub record CidParts : Type 0 where
   pub hash_code : ℕ
   pub digest : List ℕ
 
+abbrev pub cid_parts : ℕ → ℕ → ℕ → List ℕ → CidParts
+cid_parts version codec hash_code digest = record { version = version; codec = codec; hash_code = hash_code; digest = digest }
+
 -- version 0 names a node of the codec dag-pb by its SHA-256
 abbrev pub IsVersion0 : CidParts → Type 0
 IsVersion0 c = (c.version ≡ 0) × (c.codec ≡ 0x70) × (c.hash_code ≡ 0x12) × (length c.digest ≡ 32)

@@ -1,9 +1,12 @@
 pub use Rattle.dagcbor_heads.specs.Head
 pub mod Key
 pub mod Cid
+pub mod CidFault
 pub mod Tree
 pub mod Spelling
 pub mod Spelled
 pub mod Laws
+pub mod CidFields
 pub mod Ipld
 pub mod Same
+pub mod CidHash

@@ -1,0 +1,51 @@
+-- Why bytes are no CID: the first fault from the front (CID specification, decoding).
+use Rattle.std.specs.Prelude.{◌≡◌, ◌≢◌, ℕ, ◌^◌, ◌<◌, ◌≤◌, ◌⊎◌, List, [], ◌∷◌, ◌++◌, length, Result, MatchResult}
+use Rattle.std.specs.List.{AllByRecursion, flat_map}
+use Rattle.ipld_tree.specs.Cid.{varint, CidParts, AreCidParts, cid_bytes, IsCid}
+use Rattle.ipld_tree.specs.declared.cid_error.CidError.{CidError}
+use Rattle.ipld_tree.specs.declared.cid_error.CidError.TheVariants.{InvalidVersion, InvalidVarint, DigestTooLong, Truncated, TrailingBytes}
+
+-- the bytes end inside a varint
+abbrev pub IsCutVarint : List ℕ → Type 0
+IsCutVarint b = (n : ℕ) × (more : List ℕ) × (n < 2 ^ 64) × (0 < length more) × (b ++ more ≡ varint n)
+
+-- no varint of a number below 2 ^ 64 stands there, whatever follows
+abbrev pub IsNoVarint : List ℕ → Type 0
+IsNoVarint b = (n : ℕ) (x y : List ℕ) → n < 2 ^ 64 → b ++ x ≢ varint n ++ y
+
+-- the fault stands where a varint is to stand
+abbrev pub IsVarintFault : CidError → List ℕ → Type 0
+IsVarintFault InvalidVarint b = IsNoVarint b
+IsVarintFault Truncated b = IsCutVarint b
+IsVarintFault _ b = ⊥
+
+-- behind 01 stand the varints of the fields, and then the rest
+pub record HasFields (b fields rest : List ℕ) : Type 0 where
+  pub fit : AllByRecursion (λ n. n < 2 ^ 64) fields
+  pub is : b ≡ 0x01 ∷ (flat_map varint fields ++ rest)
+
+-- P holds where the varint of the codec, the hash code or the length of the digest is to stand
+abbrev pub AtVarint : List ℕ → (List ℕ → Type 0) → Type 0
+AtVarint b P = (fields rest : List ℕ) × HasFields b fields rest × (length fields ≤ 2) × P rest
+
+-- P holds of the length of the digest and the bytes behind it
+abbrev pub AtDigest : List ℕ → (ℕ → List ℕ → Type 0) → Type 0
+AtDigest b P = (codec hash_code n : ℕ) × (rest : List ℕ) × HasFields b (codec ∷ hash_code ∷ n ∷ []) rest × P n rest
+
+-- the fault stands in the bytes
+abbrev pub IsFault : CidError → List ℕ → Type 0
+IsFault InvalidVersion b = (first : ℕ) × (rest : List ℕ) × (b ≡ first ∷ rest) × (first ≢ 0x01) × ((digest : List ℕ) → length digest ≡ 32 → b ≢ 0x12 ∷ 0x20 ∷ digest)
+IsFault InvalidVarint b = AtVarint b IsNoVarint
+IsFault DigestTooLong b = AtDigest b (λ n rest. 64 < n)
+IsFault Truncated b = (b ≡ []) ⊎ (AtVarint b IsCutVarint ⊎ AtDigest b (λ n rest. (n ≤ 64) × (length rest < n)))
+IsFault TrailingBytes b = AtDigest b (λ n rest. (n ≤ 64) × (n < length rest))
+
+-- Bytes are read exactly where they are a CID, and refused for their first fault.
+abbrev pub ReadsCid : List ℕ → Result CidParts CidError → Type 0
+ReadsCid b result = MatchResult result
+    (λ c. AreCidParts c × (b ≡ cid_bytes c))
+    (λ e. (IsCid b → ⊥) × IsFault e b)
+
+-- At most one fault stands in bytes, and none in a CID.
+abbrev pub CidFaultsAreUnique : Type 0
+CidFaultsAreUnique = (b : List ℕ) (e : CidError) → IsFault e b → (IsCid b → ⊥) × ((f : CidError) → IsFault f b → e ≡ f)

@@ -1,6 +1,6 @@
 -- Why a head is refused.
-use Rattle.std.proofs.Common.{◌≡◌, ℕ, ◌+◌, ◌*◌, ◌/◌, ◌%◌, ◌^◌, ◌<◌, ◌≤◌, List, [], ◌∷◌, ◌++◌, length, refl, sym, ap, ◌∙◌, subst, arith, append-nil}
-use Rattle.std.specs.Prelude.{Option, Some}
+use Rattle.std.proofs.Common.{◌≡◌, ℕ, ◌+◌, ◌*◌, ◌/◌, ◌%◌, ◌^◌, ◌<◌, ◌≤◌, List, [], ◌∷◌, ◌++◌, refl, sym, ap, ◌∙◌, subst, arith}
+use Rattle.std.specs.Prelude.{Some}
 use Rattle.std.specs.Int.{bytes_high_first}
 use Rattle.dagcbor_heads.specs.Head.{head}
 use Rattle.dagcbor_heads.specs.Reading.{Reading}
@@ -8,7 +8,7 @@ use Rattle.dagcbor_heads.specs.Fronts.{HasByte, HasHead, HasPayload, StartsWith,
 use Rattle.dagcbor_heads.specs.Causes.{ByteCause, ArgumentCause, HeadCause, argument_width, least_argument}
 use Rattle.dagcbor_heads.specs.Refusals.{Refuses}
 use Rattle.dagcbor_heads.specs.declared.error.DecodeError.{DecodeError}
-use Rattle.dagcbor_heads.specs.declared.error.DecodeError.TheVariants.{Eof, Unsupported, IndefiniteSize, NonMinimal}
+use Rattle.dagcbor_heads.specs.declared.error.DecodeError.TheVariants.{Eof, NonMinimal}
 use Rattle.dagcbor_heads.specs.declared.name.Name.{Name}
 use Rattle.dagcbor_heads.proofs.Heads.{head_first, length-bytes_high_first, same_bytes}
 use Rattle.dagcbor_heads.proofs.HeadForms.{Begins, begins, small_head, wide_head}

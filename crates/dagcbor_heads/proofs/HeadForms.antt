@@ -1,13 +1,13 @@
 -- What bytes show of the head that they begin with.
-use Rattle.std.proofs.Common.{◌≡◌, ◌⊎◌, inl, inr, ℕ, zero, suc, ◌+◌, ◌*◌, ◌/◌, ◌%◌, ◌^◌, ◌<◌, ◌≤◌, List, [], ◌∷◌, ◌++◌, length, refl, sym, ap, ap₂, ◌∙◌, subst, arith, length-append}
-use Rattle.std.proofs.Math.Nat.{mod-eq_of_lt, div-div-eq-div-mul, pow-succ', pow-le-pow_right}
+use Rattle.std.proofs.Common.{◌≡◌, ◌⊎◌, inl, inr, ℕ, zero, suc, ◌+◌, ◌*◌, ◌/◌, ◌%◌, ◌^◌, ◌<◌, ◌≤◌, List, [], ◌∷◌, ◌++◌, refl, sym, ap, ap₂, ◌∙◌, subst, arith}
+use Rattle.std.proofs.Math.Nat.{mod-eq_of_lt, div-div-eq-div-mul, pow-succ'}
 use Rattle.std.proofs.lemmas.Nat.{div-mul-add}
-use Rattle.std.proofs.lemmas.Bool.{cases_lt, cases_eq}
+use Rattle.std.proofs.lemmas.Bool.{cases_eq}
 use Rattle.std.proofs.lemmas.Bool.Decides.{nat_tests}
 use Rattle.std.specs.Int.{byte_at, bytes_high_first}
 use Rattle.dagcbor_heads.specs.Head.{head}
 use Rattle.dagcbor_heads.specs.Causes.{argument_width, least_argument}
-use Rattle.dagcbor_heads.proofs.Heads.{Row, whole, one, two, four, eight, shape, information_lt, head_whole, head_one, head_two, head_four, head_eight, length-bytes_high_first, same_bytes}
+use Rattle.dagcbor_heads.proofs.Heads.{Row, whole, one, two, four, eight, shape, information_lt, head_whole, head_one, head_two, head_four, head_eight}
 
 -- ---- what a row of the table says of its width
 

@@ -1,8 +1,8 @@
 -- A refusal of a part is a refusal of the whole.
-use Rattle.std.proofs.Common.{◌≡◌, ℕ, ◌+◌, List, [], sym, ap, ◌∙◌, refl, arith, subst}
-use Rattle.std.specs.Prelude.{Option, Some, Result, Ok, Err, MatchResult, IsErrAnd}
-use Rattle.dagcbor_heads.specs.Reading.{Reading, Stays, Fails}
-use Rattle.dagcbor_heads.specs.Causes.{ByteCause, ArgumentCause, HeadCause, argument_width}
+use Rattle.std.proofs.Common.{◌≡◌, ℕ, List, sym, ◌∙◌, arith, subst}
+use Rattle.std.specs.Prelude.{Some, Result, Ok, Err, MatchResult, IsErrAnd}
+use Rattle.dagcbor_heads.specs.Reading.{Reading, Stays}
+use Rattle.dagcbor_heads.specs.Causes.{ByteCause, HeadCause}
 use Rattle.dagcbor_heads.specs.Refusals.{Refuses}
 use Rattle.dagcbor_heads.specs.Inputs.{unlent}
 use Rattle.dagcbor_heads.specs.declared.error.DecodeError.{DecodeError}

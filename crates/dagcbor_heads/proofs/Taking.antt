@@ -1,8 +1,8 @@
 -- Bytes that are shown and taken.
-use Rattle.std.proofs.Common.{◌≡◌, ℕ, suc, ◌+◌, ◌-◌, ◌<◌, ◌≤◌, min, List, [], ◌∷◌, ◌++◌, length, take, drop, Option, Some, None, MatchOption, refl, sym, ap, subst, ◌∙◌, arith, append_assoc, length-append}
+use Rattle.std.proofs.Common.{◌≡◌, ℕ, ◌+◌, ◌-◌, ◌≤◌, min, List, [], ◌∷◌, ◌++◌, length, take, drop, Option, Some, MatchOption, refl, sym, ap, subst, ◌∙◌, arith, append_assoc, length-append}
 use Rattle.std.proofs.lemmas.List.{take-append-drop, take-append-le, length-take-le}
 use Rattle.std.specs.List.{slice_get}
-use Rattle.dagcbor_heads.specs.Reading.{Reading, Keeps, Stays, IsShownOf, Shows, Advances}
+use Rattle.dagcbor_heads.specs.Reading.{Reading, Stays, Shows, Advances}
 use Rattle.dagcbor_heads.specs.Fronts.{FindsEnd, ShowsByte, Takes, Gathers}
 
 -- ---- the same reader
@@ -30,13 +30,15 @@ pub first_shown : {old mid : Reading} (shown : List ℕ) (found : Option ℕ) �
     → MatchOption found (FindsEnd old mid) (λ byte. ShowsByte old byte mid × (1 ≤ length mid.shown))
 first_shown {old} {mid} [] found is e h = subst (λ o. MatchOption o (FindsEnd old mid) (λ byte. ShowsByte old byte mid × (1 ≤ length mid.shown))) (sym e)
     record { none_left = λ b l. (h.front b l).end (omega arith) (ap length is); kept = h.kept; same = h.same }
-first_shown {old} {mid} (x ∷ xs) found is e h = subst (λ o. MatchOption o (FindsEnd old mid) (λ byte. ShowsByte old byte mid × (1 ≤ length mid.shown))) (sym e)
-    (record {
-      starts = λ b l. begins_with mid.shown x xs b is (h.front b l).front;
-      still = λ b l. begins_with mid.shown x xs b is (h.begins b l);
-      kept = h.kept;
-      same = h.same;
-    }, omega (arith, ap length is))
+first_shown {old} {mid} (x ∷ xs) found is e h = subst (λ o. MatchOption o (FindsEnd old mid) (λ byte. ShowsByte old byte mid × (1 ≤ length mid.shown))) (sym e) (
+  record {
+    starts = λ b l. begins_with mid.shown x xs b is (h.front b l).front;
+    still = λ b l. begins_with mid.shown x xs b is (h.begins b l);
+    kept = h.kept;
+    same = h.same;
+  },
+  omega (arith, ap length is),
+)
 
 -- ---- what is taken
 

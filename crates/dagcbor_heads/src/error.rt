@@ -85,33 +85,66 @@ pub enum DecodeError<E> {
     /// The reader faulted.
     Read(E),
     /// The input ends before `expect` bytes: the whole width of an argument, or the whole announced length.
-    Eof { name: Name, expect: Len },
+    Eof {
+        name: Name,
+        expect: Len,
+    },
     /// The byte begins no item that is wanted.
-    Mismatch { name: Name, found: u8 },
+    Mismatch {
+        name: Name,
+        found: u8,
+    },
     /// The byte begins no item of the format.
-    Unsupported { name: Name, found: u8 },
+    Unsupported {
+        name: Name,
+        found: u8,
+    },
     /// Never answered here. For types of a caller's own.
-    RequireLength { name: Name, found: Len },
+    RequireLength {
+        name: Name,
+        found: Len,
+    },
     /// The type borrows, and the reader does not lend.
-    RequireBorrowed { name: Name },
+    RequireBorrowed {
+        name: Name,
+    },
     /// The payload of a text is not UTF-8.
-    RequireUtf8 { name: Name },
+    RequireUtf8 {
+        name: Name,
+    },
     /// Never answered here. For types of a caller's own.
-    LengthOverflow { name: Name, found: Len },
+    LengthOverflow {
+        name: Name,
+        found: Len,
+    },
     /// The number is outside the wanted type.
-    CastOverflow { name: Name },
+    CastOverflow {
+        name: Name,
+    },
     /// Never answered here. For types of a caller's own.
-    ArithmeticOverflow { name: Name, ty: ArithmeticOverflow },
+    ArithmeticOverflow {
+        name: Name,
+        ty: ArithmeticOverflow,
+    },
     /// A step into an item is wanted, and none is left.
-    DepthOverflow { name: Name },
+    DepthOverflow {
+        name: Name,
+    },
     /// A list or map was ended with items unread: `value` were announced, and `expect` were read.
-    LengthMismatch { name: Name, expect: usize, value: usize },
+    LengthMismatch {
+        name: Name,
+        expect: usize,
+        value: usize,
+    },
     /// A byte is left behind the item.
     TrailingData,
     /// The head announces an indefinite length, or is a break.
     IndefiniteSize,
     /// The head is not the shortest of its argument.
-    NonMinimal { name: Name, found: u8 },
+    NonMinimal {
+        name: Name,
+        found: u8,
+    },
     /// The key does not stand behind the one before it.
     UnorderedKey,
     /// A growth was refused.

@@ -14,7 +14,9 @@ mod write;
 pub use error::{ArithmeticOverflow, DecodeError, EncodeError, Len};
 pub use input::Input;
 pub use name::Name;
-pub use pull::{is_at_end, is_indefinite, peek_one, pull_head, pull_one, pull_payload};
+pub use pull::{
+    is_at_end, is_indefinite, peek_one, pull_head, pull_one, pull_payload, pull_short_payload,
+};
 pub use push::push_head;
 pub use read::{Read, Reference, SliceReader};
 pub use tally::Tally;

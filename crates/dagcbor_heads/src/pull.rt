@@ -1,6 +1,6 @@
 //! Takes bytes, heads and payloads off any reader.
 
-ghost use Rattle.std.specs.Prelude.{◌≡◌, ◌↔◌, ◌<◌, ◌≤◌, ◌%◌, ◌^◌, [], ◌∷◌, ◌++◌, ⊤, Some, true, false, min, length, take, IfOk, IfErr, IfSome, IsTrue, MatchOption, MatchResult, MatchBool, List, ℕ};
+ghost use Rattle.std.specs.Prelude.{◌≡◌, ◌↔◌, ◌<◌, ◌≤◌, ◌+◌, ◌%◌, ◌^◌, [], ◌∷◌, ◌++◌, ⊤, Some, true, false, min, length, take, IfOk, IfErr, IfSome, IsTrue, MatchOption, MatchResult, MatchBool, List, ℕ};
 ghost use Rattle.std.specs.Cow.{cow_slice_items, IsBorrowedSlice};
 ghost use Rattle.std.specs.Int.{bytes_high_first};
 ghost use Rattle.dagcbor_heads.specs.Head.{head};
@@ -14,6 +14,7 @@ use crate::error::{DecodeError, Len};
 use crate::input::Input;
 use crate::name::Name;
 use crate::read::Read;
+use arrayvec::ArrayVec;
 use std::alloc::{AllocError, Global};
 use std::borrow::CowSlice;
 
@@ -28,8 +29,8 @@ pub fn is_indefinite(byte: u8) -> bool
 fn look<R: Read>(reader: &mut R) -> Result<Option<u8>, R::Error>
     ensures { MatchResult result
         (λ found. MatchOption found
-            (FindsEnd (R.reading reader.old) (R.reading reader.new))
-            (λ byte. ShowsByte (R.reading reader.old) byte (R.reading reader.new) × (1 ≤ length (R.reading reader.new).shown)))
+        (FindsEnd (R.reading reader.old) (R.reading reader.new))
+        (λ byte. ShowsByte (R.reading reader.old) byte (R.reading reader.new) × (1 ≤ length (R.reading reader.new).shown)))
         (λ _. Fails (R.reading reader.old) (R.reading reader.new)) }
 {
     reader.prepare(1)?;
@@ -41,8 +42,8 @@ fn next_byte<R: Read>(reader: &mut R) -> Result<Option<u8>, R::Error>
     ensures is_byte { IfOk result (λ found. IfSome found (λ byte. byte < 256)) }
     ensures taken { MatchResult result
         (λ found. MatchOption found
-            (FindsEnd (R.reading reader.old) (R.reading reader.new))
-            (λ byte. Takes (R.reading reader.old) (byte ∷ []) (R.reading reader.new)))
+        (FindsEnd (R.reading reader.old) (R.reading reader.new))
+        (λ byte. Takes (R.reading reader.old) (byte ∷ []) (R.reading reader.new)))
         (λ _. Fails (R.reading reader.old) (R.reading reader.new)) }
 {
     match look(reader)? {
@@ -58,8 +59,8 @@ fn next_byte<R: Read>(reader: &mut R) -> Result<Option<u8>, R::Error>
 pub fn is_at_end<R: Read>(reader: &mut R) -> Result<bool, R::Error>
     ensures { MatchResult result
         (λ end. MatchBool end
-            (FindsEnd (R.reading reader.old) (R.reading reader.new))
-            ((byte : ℕ) × ShowsByte (R.reading reader.old) byte (R.reading reader.new)))
+        (FindsEnd (R.reading reader.old) (R.reading reader.new))
+        ((byte : ℕ) × ShowsByte (R.reading reader.old) byte (R.reading reader.new)))
         (λ _. Fails (R.reading reader.old) (R.reading reader.new)) }
 {
     match look(reader)? {
@@ -261,7 +262,7 @@ pub fn pull_payload<'de, R: Read>(
     ensures taken { MatchResult result
         (λ c. (length (cow_slice_items c) ≡ n) × Takes (input_reading R.reading input.old) (cow_slice_items c) (input_reading R.reading input.new))
         (λ e. Refuses (HasPayload n (input_reading R.reading input.old)) ((input_reading R.reading input.old).lends ≡ false) ⊥ (PayloadCause n)
-            (input_reading R.reading input.old) e (input_reading R.reading input.new)) }
+        (input_reading R.reading input.old) e (input_reading R.reading input.new)) }
     ensures lent { IfOk result (λ c. IsBorrowedSlice c ↔ ((input_reading R.reading input.old).lends ≡ true)) }
     ensures named { IfErr result (λ e. IsNamed name.now e) }
 {
@@ -275,4 +276,59 @@ pub fn pull_payload<'de, R: Read>(
         },
         Input::Reader(reader) => Ok(CowSlice::Owned(gather(alloc, name, reader, n)?)),
     }
+}
+
+/// Appends as many of the bytes as are wanted, and answers how many.
+fn copy_front<const CAP: usize>(payload: &mut ArrayVec<u8, CAP>, bytes: &[u8], want: u64) -> usize
+    requires { length payload.old.items + want ≤ CAP }
+    ensures count { result ≡ min want (length bytes.now) }
+    ensures appended { payload.new.items ≡ payload.old.items ++ take result bytes.now }
+{
+    let count = bytes.len().min(want as usize);
+    payload.try_extend_from_slice(&bytes[..count]).unwrap();
+    count
+}
+
+/// Moves some of the next bytes to the end of the payload, and answers how many: none only at the end.
+fn copy_some<R: Read, const CAP: usize>(
+    reader: &mut R,
+    payload: &mut ArrayVec<u8, CAP>,
+    want: u64,
+) -> Result<usize, R::Error>
+    requires { length payload.old.items + want ≤ CAP }
+    ensures { MatchResult result
+        (λ n. Gathers (R.reading reader.old) payload.old.items want n payload.new.items (R.reading reader.new))
+        (λ _. Fails (R.reading reader.old) (R.reading reader.new)) }
+{
+    reader.prepare(want as usize)?;
+    let count = copy_front(payload, reader.shown(), want);
+    reader.advance(count);
+    Ok(count)
+}
+
+/// The next n bytes, at most `CAP`, which are taken, with no memory.
+pub fn pull_short_payload<R: Read, const CAP: usize>(
+    name: &str,
+    reader: &mut R,
+    n: u64,
+) -> Result<ArrayVec<u8, CAP>, DecodeError<R::Error>>
+    requires { n ≤ CAP }
+    ensures taken { MatchResult result
+        (λ v. (length v.items ≡ n) × Takes (R.reading reader.old) v.items (R.reading reader.new))
+        (λ e. Refuses (HasPayload n (R.reading reader.old)) ⊥ ⊥ (PayloadCause n) (R.reading reader.old) e (R.reading reader.new)) }
+    ensures named { IfErr result (λ e. IsNamed name.now e) }
+{
+    let mut payload = ArrayVec::new();
+    let mut left = n;
+    while left > 0 {
+        match copy_some(reader, &mut payload, left) {
+            Ok(0) => return Err(DecodeError::Eof {
+                name: Name::new(name),
+                expect: Len::new(n),
+            }),
+            Ok(count) => left -= count as u64,
+            Err(fault) => return Err(DecodeError::Read(fault)),
+        }
+    }
+    Ok(payload)
 }

@@ -1,5 +1,4 @@
-use Rattle.std.proofs.Common.{arith, ap, sym, ◌∷◌, [], ◌*◌, ◌+◌, subst}
-use Rattle.dagcbor_heads.proofs.Arguments.{ReadSome, cut, one_read}
+use Rattle.dagcbor_heads.proofs.Arguments.{cut, one_read}
 use Rattle.dagcbor_heads.proofs.pull.pull_argument.Goals as goal
 
 pub returns-in-Ok-None-clause-taken : goal.returns-in-Ok-None-clause-taken

@@ -1,6 +1,5 @@
-use Rattle.std.proofs.Common.{refl, arith, ap, sym, ◌∙◌, ◌≡◌, ◌≤◌, ◌%◌, subst}
+use Rattle.std.proofs.Common.{refl, arith, sym}
 use Rattle.dagcbor_heads.specs.declared.error.DecodeError.TheVariants.{Unsupported, IndefiniteSize}
-use Rattle.dagcbor_heads.specs.Causes.{argument_width, least_argument}
 use Rattle.dagcbor_heads.proofs.HeadFaults.{first_refused, reserved, argument_refused, too_long, small_found, wide_found}
 use Rattle.dagcbor_heads.proofs.Refusing.{refused}
 use Rattle.dagcbor_heads.proofs.pull.pull_head.Goals as goal

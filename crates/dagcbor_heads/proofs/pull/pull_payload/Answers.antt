@@ -1,5 +1,4 @@
 use Rattle.std.proofs.Common.{arith, ap, refl, length-append}
-use Rattle.dagcbor_heads.specs.Fronts.{HasPayload}
 use Rattle.dagcbor_heads.specs.Causes.{PayloadCause}
 use Rattle.dagcbor_heads.proofs.Refusing.{refused, unlent_refused}
 use Rattle.dagcbor_heads.proofs.pull.pull_payload.Goals as goal

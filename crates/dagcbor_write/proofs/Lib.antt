@@ -1,1 +1,4 @@
 pub mod Spelling
+pub mod Parts
+pub mod Lists
+pub mod Maps

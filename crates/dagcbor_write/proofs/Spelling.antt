@@ -1,16 +1,15 @@
 -- What a write of a tree's spelling says.
-use Rattle.std.proofs.Common.{◌≡◌, ℕ, ◌^◌, ◌<◌, List, [], ◌++◌, length, refl, sym, ap, subst, ◌∙◌, Option, None, Some, Result, Ok, Err, Vec, Global, cond, lt-ltb}
+use Rattle.std.proofs.Common.{◌≡◌, ℕ, ◌^◌, ◌<◌, List, [], refl, sym, ap, subst, ◌∙◌, Option, None, Some, Result, Ok, Err, Vec, Global, cond, lt-ltb}
 use Rattle.std.specs.Prelude.{IfErr, IsErrAnd}
-use Rattle.std.specs.Fmt.{◌++?◌}
 use Rattle.std.specs.declared.convert.Infallible.{Infallible}
 use Rattle.dagcbor_heads.specs.declared.error.EncodeError.{EncodeError}
 use Rattle.dagcbor_heads.specs.declared.error.EncodeError.TheVariants.{Msg, Write, OutOfMemory}
 use Rattle.dagcbor_heads.specs.Head.{head}
-use Rattle.dagcbor_heads.specs.Written.{Written, WroteAll, Writes, Stops}
-use Rattle.dagcbor_heads.proofs.Writing.{Writes-then, Writes-exit}
+use Rattle.dagcbor_heads.specs.Written.{Written, Writes, Stops}
+use Rattle.dagcbor_heads.proofs.Writing.{Writes-exit, append-Some}
 use Rattle.ipld_tree.specs.Tree.{Tree, IsTree}
 use Rattle.ipld_tree.specs.Spelling.{IsSpellable, IsSpelling, spelling}
-use Rattle.ipld_tree.specs.Spelled.{spelled, spelled_head, spelled_bytes}
+use Rattle.ipld_tree.specs.Spelled.{spelled, spelled_head}
 use Rattle.ipld_tree.proofs.Spelled.{spelled_is}
 use Rattle.dagcbor_write.specs.Answers.{IsAnswer, IsMessage}
 
@@ -24,7 +23,11 @@ no_message_but text t s u (Err (Msg m)) h w = absurd (no_message t h w.0)
 no_message_but text t s u (Err (Write e)) h w = tt
 no_message_but text t s u (Err OutOfMemory) h w = tt
 
-head_is_spelled : (major n : ℕ) → n < 2 ^ 64 → spelled_head major n ≡ Some (head major n)
+-- the same at the exit of a `?`
+pub no_message_exit : {T E : Type 0} (text : List ℕ) (t : Tree) (s u : Written) (r : Result T (EncodeError E)) (e : EncodeError E) → IsSpellable t → IsErrAnd r (λ d. d ≡ e) → Stops (spelled t) s u e → IfErr r (IsMessage text)
+no_message_exit text t s u r e h p q = no_message_but text t s u r h (subst (λ o. Writes o s u r) (append-Some (spelled t)) (Writes-exit (spelled t) (Some []) s u r e p q))
+
+pub head_is_spelled : (major n : ℕ) → n < 2 ^ 64 → spelled_head major n ≡ Some (head major n)
 head_is_spelled major n h = ap (λ b. cond b (Some (head major n)) None) (lt-ltb n (2 ^ 64) h)
 
 -- ---- what is answered
@@ -48,14 +51,3 @@ refusal_answered t (Err d) e old new h s = subst (λ x. IsAnswer t (Err x)) (sym
     by (Msg m) s = λ k. no_message t k s.0
     by (Write x) s = elim x [ ]
     by OutOfMemory s = tt
-
--- ---- a head and the bytes that it counts
-
-counted : (major : ℕ) (s : List ℕ) → length s < 2 ^ 64 → Some (head major (length s)) ++? Some s ≡ spelled_bytes major s
-counted major s h = ap (λ o. o ++? Some s) (sym (head_is_spelled major (length s) h))
-
-pub counted_written : {T E : Type 0} (major : ℕ) (s : List ℕ) (a b u : Written) (r : Result T (EncodeError E)) → length s < 2 ^ 64 → WroteAll (Some (head major (length s))) a b → Writes (Some s) b u r → Writes (spelled_bytes major s) a u r
-counted_written major s a b u r h p q = subst (λ o. Writes o a u r) (counted major s h) (Writes-then (Some (head major (length s))) (Some s) a b u r p q)
-
-pub counted_refused : {T E : Type 0} (major : ℕ) (s : List ℕ) (a b : Written) (r : Result T (EncodeError E)) (e : EncodeError E) → length s < 2 ^ 64 → IsErrAnd r (λ d. d ≡ e) → Stops (Some (head major (length s))) a b e → Writes (spelled_bytes major s) a b r
-counted_refused major s a b r e h p q = subst (λ o. Writes o a b r) (counted major s h) (Writes-exit (Some (head major (length s))) (Some s) a b r e p q)

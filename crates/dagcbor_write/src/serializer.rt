@@ -1,12 +1,17 @@
 //! Writes leaves to a writer.
 
-ghost use Rattle.std.specs.Prelude.{◌≡◌, ◌≤◌, IfErr, codes, false};
+ghost use Rattle.std.specs.Prelude.{◌≡◌, ◌≤◌, Some, OnOk, IfErr, codes, false};
+ghost use Rattle.dagcbor_heads.specs.Head.{head};
 ghost use Rattle.dagcbor_heads.specs.Written.{Writes, WantsMemoryOnlyIf};
-ghost use Rattle.ipld_tree.specs.Tree.{null, boolean, integer, text, bytes};
+ghost use Rattle.ipld_tree.specs.Cid.{cid_bytes};
+ghost use Rattle.ipld_tree.specs.Tree.{null, boolean, integer, text, bytes, link, IsTree};
+ghost use Rattle.ipld_tree.specs.Spelling.{IsSpellable};
 ghost use Rattle.ipld_tree.specs.Spelled.{spelled, spelled_bytes};
 ghost use Rattle.dagcbor_write.specs.Answers.{IsMessage};
 
+use arrayvec::ArrayVec;
 use dagcbor_heads::{EncodeError, Write, push_head};
+use ipld_tree::Cid;
 use std::marker::Model;
 
 /// What an integer without a spelling is refused with.
@@ -97,6 +102,26 @@ impl<W: Write> Serializer<W> {
     {
         self.writer.push(&[0xf6])
     }
+
+    /// d8 2a, a head of major type 2, a zero byte and the binary form. Each CID has a spelling, so `Msg` is never answered.
+    pub fn serialize_cid(&mut self, cid: &Cid) -> Result<(), EncodeError<W::Error>>
+        ensures written { Writes (spelled (link (cid_bytes cid.now))) (W.written self.old) (W.written self.new) result }
+        ensures memory { WantsMemoryOnlyIf W.takes_memory result }
+        ensures well_formed { OnOk result (IsTree (link (cid_bytes cid.now))) }
+        ensures spellable { IsSpellable (link (cid_bytes cid.now)) }
+    {
+        let mut bytes = ArrayVec::new();
+        cid.write_bytes(&mut bytes);
+        push_link(&mut self.writer, &bytes)
+    }
+
+    /// A head of a list or a map.
+    pub(crate) fn push_head(&mut self, major: u8, count: u64) -> Result<(), EncodeError<W::Error>>
+        requires { major ≤ 7 }
+        ensures { Writes (Some (head major count)) (W.written self.old) (W.written self.new) result }
+    {
+        push_head(&mut self.writer, major, count)
+    }
 }
 
 /// Appends a head of the number of bytes, and the bytes.
@@ -111,4 +136,17 @@ fn push_counted<W: Write>(
 {
     push_head(writer, major, payload.len() as u64)?;
     writer.push(payload)
+}
+
+/// Appends the link to a CID of this binary form.
+fn push_link<W: Write>(writer: &mut W, cid: &ArrayVec<u8, 86>) -> Result<(), EncodeError<W::Error>>
+    ensures written { Writes (spelled (link cid.now.items)) (W.written writer.old) (W.written writer.new) result }
+    ensures memory { WantsMemoryOnlyIf W.takes_memory result }
+    ensures spellable { IsSpellable (link cid.now.items) }
+{
+    let count = cid.len() as u64 + 1;
+    writer.push(&[0xd8, 0x2a])?;
+    push_head(writer, 2, count)?;
+    writer.push(&[0x00])?;
+    writer.push(cid.as_slice())
 }

@@ -18,6 +18,6 @@ pub fn to_vec(alloc: Global, value: &Ipld) -> Result<Vec<u8>, EncodeError<Infall
     ensures message { IfErr result (IsMessage (codes "Integer must be within [-u64::MAX-1, u64::MAX] range")) }
 {
     let mut ser = Serializer::new(BufWriter::new(Vec::new(alloc)));
-    serialize_ipld(value, &mut ser)?;
+    serialize_ipld(alloc, value, &mut ser)?;
     Ok(ser.into_inner().into_inner())
 }

@@ -1,4 +1,4 @@
-use Rattle.std.proofs.Common.{◌∙◌, sym, ap, rules}
+use Rattle.std.proofs.Common.{◌∙◌}
 use Rattle.dagcbor_write.proofs.Spelling.{spelling_answered, refusal_answered}
 use Rattle.dagcbor_write.proofs.whole.to_vec.Goals as goal
 

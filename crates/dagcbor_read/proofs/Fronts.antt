@@ -1,13 +1,12 @@
 -- What the bytes at the front say of the tree that stands there.
-use Rattle.std.proofs.Common.{◌≡◌, ◌⊎◌, inl, inr, ℕ, ◌+◌, ◌*◌, ◌/◌, ◌%◌, ◌^◌, ◌<◌, ◌≤◌, List, [], ◌∷◌, ◌++◌, refl, sym, ap, ◌∙◌, subst, arith}
-use Rattle.std.specs.Prelude.{Some, ⊤, Result, MatchResult}
+use Rattle.std.proofs.Common.{◌≡◌, inl, ℕ, ◌+◌, ◌*◌, ◌/◌, ◌^◌, ◌<◌, List, ◌∷◌, ◌++◌, sym, ap, ◌∙◌, subst, arith}
+use Rattle.std.specs.Prelude.{Some, ⊤}
 use Rattle.dagcbor_heads.specs.Head.{head}
 use Rattle.dagcbor_heads.specs.Reading.{Reading, Stays}
-use Rattle.dagcbor_heads.specs.Fronts.{HasByte, HasHead, StartsWith, ShowsByte, Takes, TakesHead}
+use Rattle.dagcbor_heads.specs.Fronts.{HasByte, HasHead, StartsWith, ShowsByte, TakesHead}
 use Rattle.dagcbor_heads.specs.Causes.{ByteCause, HeadCause}
 use Rattle.dagcbor_heads.specs.Refusals.{Refuses}
 use Rattle.dagcbor_heads.specs.declared.error.DecodeError.{DecodeError}
-use Rattle.dagcbor_heads.specs.declared.error.DecodeError.TheVariants.{Eof}
 use Rattle.dagcbor_heads.proofs.Heads.{head_first}
 use Rattle.dagcbor_heads.proofs.Taking.{stays, stays_both}
 use Rattle.dagcbor_heads.proofs.Refusing.{passed_on, byte_in_head}
@@ -16,6 +15,7 @@ use Rattle.ipld_tree.specs.Spelling.{IsFront}
 use Rattle.ipld_tree.proofs.Unique.{major, argument, payload, argument_fits}
 use Rattle.ipld_tree.proofs.Fronts.{front_head, front_first, major_le}
 use Rattle.dagcbor_read.specs.ItemCauses.{Stands}
+use Rattle.dagcbor_read.proofs.Rows.{stands_here}
 use Rattle.dagcbor_read.specs.Untyped.{HasItem, TakesItem, StartsWithMajor}
 
 -- ---- the major type at the front
@@ -53,10 +53,10 @@ pub item_has_byte : {spent : ℕ} {r : Reading} → HasItem spent r → HasByte 
 item_has_byte h = let f = front_first h.bytes h.rest h.tree h.front in record { byte = 32 * major h.tree + f.0; rest = f.1; left = h.left ∙ ap Some f.3 }
 
 pub head_refused : {E : Type 0} (lacks : Type 0) (spent : ℕ) (old new : Reading) (e : DecodeError E) → Refuses (HasHead old) lacks ⊥ HeadCause old e new → Refuses (HasItem spent old) ⊤ ⊥ Stands old e new
-head_refused lacks spent old new e r = passed_on HeadCause Stands old old new e (stays old) item_has_head (λ _. tt) (λ x. x) (λ b l. (b, l, λ h. inl h)) r
+head_refused lacks spent old new e r = passed_on HeadCause Stands old old new e (stays old) item_has_head (λ _. tt) (λ x. x) (λ b l. (b, l, λ h. stands_here e b (inl h))) r
 
 pub byte_refused : {E : Type 0} (lacks : Type 0) (spent : ℕ) (old new : Reading) (e : DecodeError E) → Refuses (HasByte old) lacks ⊥ ByteCause old e new → Refuses (HasItem spent old) ⊤ ⊥ Stands old e new
-byte_refused lacks spent old new e r = passed_on ByteCause Stands old old new e (stays old) item_has_byte (λ _. tt) (λ x. x) (λ b l. (b, l, λ h. inl (byte_in_head e b h))) r
+byte_refused lacks spent old new e r = passed_on ByteCause Stands old old new e (stays old) item_has_byte (λ _. tt) (λ x. x) (λ b l. (b, l, λ h. stands_here e b (inl (byte_in_head e b h)))) r
 
 -- ---- a head of a known major type
 
@@ -79,7 +79,7 @@ head_of {old} {mid} {m} {n} expected starts h = record {
 
 -- what stands before a byte was shown stands there then, too
 pub item_still : {spent : ℕ} {old mid : Reading} {first : ℕ} → ShowsByte old first mid → HasItem spent old → HasItem spent mid
-item_still h i = record { bytes = i.bytes; tree = i.tree; rest = i.rest; left = h.kept i.bytes i.left; front = i.front; read = i.read; within = omega (arith, i.within, h.same.steps) }
+item_still h i = record { bytes = i.bytes; tree = i.tree; rest = i.rest; left = h.kept i.bytes i.left; front = i.front; within = omega (arith, i.within, h.same.steps) }
 
 pub peeked_refused : {E : Type 0} (lacks : Type 0) {old mid : Reading} {first : ℕ} (spent : ℕ) (new : Reading) (e : DecodeError E) → ShowsByte old first mid → Refuses (HasItem spent mid) lacks ⊥ Stands mid e new → Refuses (HasItem spent old) ⊤ ⊥ Stands old e new
 peeked_refused {E} lacks {old} {mid} spent new e h r = passed_on Stands Stands old mid new e h.same (item_still h) (λ _. tt) (λ x. x) (λ b l. (b, h.kept b l, λ x. x)) r
@@ -89,3 +89,7 @@ peeked_taken {old} {mid} {new} spent h a = record {
   taken = λ b l. (let k = a.taken b (h.kept b l) in (k.0, k.1, omega (arith, k.2, h.same.steps), k.3));
   same = stays_both h.same a.same;
 }
+
+-- the same tree in another form
+pub as_tree : {spent : ℕ} {old new : Reading} (t u : Tree) → u ≡ t → TakesItem spent old t new → TakesItem spent old u new
+as_tree {spent} {old} {new} t u e h = subst (λ x. TakesItem spent old x new) (sym e) h

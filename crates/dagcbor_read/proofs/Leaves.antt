@@ -1,23 +1,28 @@
 -- Reading leaves.
-use Rattle.std.proofs.Common.{◌≡◌, ◌⊎◌, inl, inr, ℕ, ◌+◌, ◌*◌, ◌/◌, ◌%◌, ◌^◌, ◌<◌, ◌≤◌, ℤ, pos, negsuc, List, [], ◌∷◌, ◌++◌, length, refl, sym, ap, ◌∙◌, subst, arith, append_assoc, String, Vec, Global, string_bytes}
+use Rattle.std.proofs.Common.{◌≡◌, ◌⊎◌, inl, inr, ℕ, ◌+◌, ◌*◌, ◌/◌, ◌%◌, ◌^◌, ◌<◌, ◌≤◌, List, [], ◌∷◌, ◌++◌, length, refl, sym, ap, ◌∙◌, subst, arith, append_assoc, Vec, Global}
 use Rattle.std.specs.Prelude.{Some, ⊤, IsUtf8}
 use Rattle.dagcbor_heads.specs.Head.{head}
-use Rattle.dagcbor_heads.specs.Reading.{Reading, Stays}
+use Rattle.dagcbor_heads.specs.Reading.{Reading}
 use Rattle.dagcbor_heads.specs.Fronts.{HasPayload, StartsWith, ShowsByte, Takes}
 use Rattle.dagcbor_heads.specs.Causes.{PayloadCause}
 use Rattle.dagcbor_heads.specs.Refusals.{Refuses}
 use Rattle.dagcbor_heads.specs.declared.name.Name.{Name}
 use Rattle.dagcbor_heads.specs.declared.error.DecodeError.{DecodeError}
-use Rattle.dagcbor_heads.specs.declared.error.DecodeError.TheVariants.{Eof, RequireUtf8, Unsupported, IndefiniteSize, DepthOverflow}
+use Rattle.dagcbor_heads.specs.declared.error.DecodeError.TheVariants.{Eof, RequireUtf8, Unsupported, IndefiniteSize}
 use Rattle.dagcbor_heads.proofs.Taking.{stays_both}
 use Rattle.dagcbor_heads.proofs.Refusing.{passed_on}
 use Rattle.ipld_tree.specs.Tree.{Tree, null, boolean, integer, text, bytes, list, mapping, link, IsTree, any_need}
-use Rattle.ipld_tree.specs.Spelling.{IsSpellable, spelling, IsFront}
+use Rattle.ipld_tree.specs.Spelling.{IsSpellable, spelling}
+use Rattle.ipld_tree.specs.Ipld.{tree_of}
+use Rattle.ipld_tree.specs.declared.ipld.Ipld.{Bytes as Bytes'}
+use Rattle.ipld_tree.proofs.Trees.{tree_of-Bytes}
 use Rattle.ipld_tree.proofs.Unique.{major, argument, payload, split_at_length}
 use Rattle.ipld_tree.proofs.Fronts.{by_head, front_first, is_bytes, is_text, is_simple}
-use Rattle.dagcbor_read.specs.ItemCauses.{Stands, IsUnsupported}
-use Rattle.dagcbor_read.specs.Untyped.{IsRead, HasItem, TakesItem}
-use Rattle.dagcbor_read.proofs.Fronts.{major_of_front, TakesHeadOf}
+use Rattle.dagcbor_read.specs.Tokens.{IsLeaf}
+use Rattle.dagcbor_read.specs.ItemCauses.{Stands}
+use Rattle.dagcbor_read.proofs.Rows.{stands_here}
+use Rattle.dagcbor_read.specs.Untyped.{HasItem, TakesItem}
+use Rattle.dagcbor_read.proofs.Fronts.{major_of_front, TakesHeadOf, as_tree}
 
 -- ---- byte strings and texts
 
@@ -37,7 +42,7 @@ has_payload {old} {mid} {n} {spent} kind which h i =
     record { payload = payload i.tree; rest = i.rest; long = payload_of i.tree (either p.0 which) ∙ p.1; left = k.2 ∙ ap Some (sym p.2) }
 
 payload_stands : {E : Type 0} (e : DecodeError E) (b c : List ℕ) (kind n : ℕ) → (kind ≡ 2) ⊎ (kind ≡ 3) → b ≡ head kind n ++ c → PayloadCause n e c → Stands e b
-payload_stands (Eof name expect) b c kind n which e h = inr (kind, n, c, which, e, h.1, h.0)
+payload_stands {E} (Eof name expect) b c kind n which e h = stands_here {E = E} (Eof name expect) b (inr (inl (kind, n, c, which, e, h.1, h.0)))
 payload_stands _ b c kind n which e h = absurd h
 
 pub payload_refused : {E : Type 0} (lacks : Type 0) {old mid : Reading} {n : ℕ} (kind : ℕ) (new : Reading) (e : DecodeError E) → (kind ≡ 2) ⊎ (kind ≡ 3) → TakesHeadOf old kind n mid → Refuses (HasPayload n mid) lacks ⊥ (PayloadCause n) mid e new → Refuses (HasItem 1 old) ⊤ ⊥ Stands old e new
@@ -55,8 +60,11 @@ string_taken {old} {mid} {new} {n} {s} kind t h long p tree spellable is need = 
   same = stays_both h.same p.same;
 }
 
-pub bytes_taken : {old mid new : Reading} {n : ℕ} (s : List ℕ) → TakesHeadOf old 2 n mid → length s ≡ n → Takes mid s new → TakesItem 1 old (bytes s) new
+bytes_taken : {old mid new : Reading} {n : ℕ} (s : List ℕ) → TakesHeadOf old 2 n mid → length s ≡ n → Takes mid s new → TakesItem 1 old (bytes s) new
 bytes_taken s h long p = string_taken 2 (bytes s) h long p tt (λ f. f) refl refl
+
+pub bytes_item : {old mid new : Reading} {n : ℕ} (v : Vec ℕ Global) (s : List ℕ) → v.items ≡ s → TakesHeadOf old 2 n mid → length s ≡ n → Takes mid s new → TakesItem 1 old (tree_of (Bytes' v)) new
+bytes_item v s e h long p = as_tree (bytes s) _ (tree_of-Bytes v ∙ ap bytes e) (bytes_taken s h long p)
 
 pub text_taken : {old mid new : Reading} {n : ℕ} (s : List ℕ) → TakesHeadOf old 3 n mid → length s ≡ n → Takes mid s new → IsUtf8 s → TakesItem 1 old (text s) new
 text_taken s h long p u = string_taken 3 (text s) h long p u (λ f. f) refl refl
@@ -80,7 +88,7 @@ garbled_refused E {old} {mid} {new} {n} name s h long p not_text = (
   λ b l.
       let k = h.taken b l in
       let q = p.taken k.0 k.2 in
-      inr (s, q.0, k.1 ∙ ap (λ x. head 3 x ++ k.0) (sym long) ∙ ap (λ r. head 3 (length s) ++ r) q.1, not_text),
+      stands_here {E = E} (RequireUtf8 name) b (inr (inl (s, q.0, k.1 ∙ ap (λ x. head 3 x ++ k.0) (sym long) ∙ ap (λ r. head 3 (length s) ++ r) q.1, not_text))),
 )
 
 -- ---- bytes that begin no item
@@ -95,49 +103,33 @@ simple_byte t m = elim (is_simple t m) [
   ]
 ]
 
--- trees of major types 4 to 6 are not read so far
-read_major : (t : Tree) → IsRead t → 4 ≤ major t → major t ≤ 6 → ⊥
-read_major null h a b = omega arith
-read_major (boolean x) h a b = omega arith
-read_major (integer (pos n)) h a b = omega arith
-read_major (integer (negsuc n)) h a b = omega arith
-read_major (text s) h a b = omega arith
-read_major (bytes s) h a b = omega arith
-read_major (list ts) h a b = h
-read_major (mapping es) h a b = h
-read_major (link cid) h a b = h
-
-unsupported : {old : Reading} {spent first : ℕ} → StartsWith old first → IsUnsupported first → HasItem spent old → ⊥
-unsupported {old} {spent} {first} starts (inl other) i =
+unsupported : {old : Reading} {spent first : ℕ} → StartsWith old first → first / 32 ≡ 7 → ((0xf4 ≤ first) → (first ≤ 0xf6) → ⊥) → HasItem spent old → ⊥
+unsupported {old} {spent} {first} starts major_7 other i =
     let s = starts i.bytes i.left in
-    let m = major_of_front i.bytes i.rest i.tree 7 (first, s.0, s.1, other.0) i.front in
+    let m = major_of_front i.bytes i.rest i.tree 7 (first, s.0, s.1, major_7) i.front in
     let k = simple_byte i.tree m in
     let e : first ∷ s.0 ≡ k.0 ∷ i.rest = sym s.1 ∙ i.front.is ∙ ap (λ r. r ++ i.rest) k.1 in
     let same : first ≡ k.0 = cc in
-    other.1 (omega (arith, same, k.2)) (omega (arith, same, k.3))
-unsupported {old} {spent} {first} starts (inr other) i =
-    let s = starts i.bytes i.left in
-    let m = major_of_front i.bytes i.rest i.tree (first / 32) (first, s.0, s.1, refl) i.front in
-    read_major i.tree i.read (omega (arith, m, other.0)) (omega (arith, m, other.1))
+    other (omega (arith, same, k.2)) (omega (arith, same, k.3))
 
-pub unsupported_refused : (E : Type 0) (spent : ℕ) (old : Reading) (name : Name) (first : ℕ) → StartsWith old first → IsUnsupported first → Refuses {E = E} (HasItem spent old) ⊤ ⊥ Stands old (Unsupported name first) old
-unsupported_refused E spent old name first starts other = (
+pub unsupported_refused : (E : Type 0) (spent : ℕ) (old : Reading) (name : Name) (first : ℕ) → StartsWith old first → first / 32 ≡ 7 → ((0xf4 ≤ first) → (first ≤ 0xf6) → ⊥) → Refuses {E = E} (HasItem spent old) ⊤ ⊥ Stands old (Unsupported name first) old
+unsupported_refused E spent old name first starts major_7 other = (
   refl,
-  unsupported starts other,
-  λ b l. let s = starts b l in inr (s.0, s.1, other),
+  unsupported starts major_7 other,
+  λ b l. let s = starts b l in stands_here {E = E} (Unsupported name first) b (inr (inl (s.0, s.1, major_7, other))),
 )
 
-leaf_need : (t : Tree) → IsRead t → any_need t ≡ 1
+leaf_need : (t : Tree) → IsLeaf t → any_need t ≡ 1
 leaf_need null h = refl
 leaf_need (boolean b) h = refl
 leaf_need (integer n) h = refl
 leaf_need (text s) h = refl
 leaf_need (bytes s) h = refl
-leaf_need (link s) h = absurd h
+leaf_need (link cid) h = refl
 leaf_need (list ts) h = absurd h
 leaf_need (mapping es) h = absurd h
 
-pub simple_taken : {old new : Reading} {first byte : ℕ} (t : Tree) → StartsWith old first → IsRead t × IsTree t × IsSpellable t × (spelling t ≡ first ∷ []) → Takes old (byte ∷ []) new → TakesItem 1 old t new
+pub simple_taken : {old new : Reading} {first byte : ℕ} (t : Tree) → StartsWith old first → IsLeaf t × IsTree t × IsSpellable t × (spelling t ≡ first ∷ []) → Takes old (byte ∷ []) new → TakesItem 1 old t new
 simple_taken {old} {new} {first} {byte} t starts k h = record {
   taken = λ b l.
       let s = starts b l in
@@ -157,5 +149,5 @@ indefinite_refused E spent {old} {new} {first} h e = (
       let is : first ∷ s.0 ≡ (32 * major i.tree + f.0) ∷ f.1 = sym s.1 ∙ f.3 in
       let same : first ≡ 32 * major i.tree + f.0 = cc in
       omega (arith, e, same, f.2),
-  λ b l. let s = h.starts b l in inr (first, s.0, s.1, e),
+  λ b l. let s = h.starts b l in stands_here {E = E} IndefiniteSize b (inr (inl (first, s.0, s.1, e))),
 )

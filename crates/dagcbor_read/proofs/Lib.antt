@@ -1,3 +1,10 @@
+pub mod Rows
 pub mod Fronts
 pub mod Leaves
+pub mod Steps
+pub mod Lists
+pub mod Pushes
+pub mod Keys
+pub mod Maps
+pub mod Links
 pub mod Wholes

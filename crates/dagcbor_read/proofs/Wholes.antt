@@ -1,26 +1,32 @@
 -- Reading a whole input as one item.
-use Rattle.std.proofs.Common.{◌≡◌, ℕ, ◌<◌, Bool, true, false, List, [], ◌∷◌, ◌++◌, length, sym, ap, ◌∙◌, subst, arith, append-nil}
-use Rattle.std.specs.Prelude.{Some, Ok, Err, MatchBool}
+use Rattle.std.proofs.Common.{◌≡◌, ℕ, ◌<◌, Bool, true, false, List, [], length, inl, inr, sym, ap, ◌∙◌, arith, append-nil}
+use Rattle.std.specs.Prelude.{Some, Ok, Err, MatchBool, ⊤}
 use Rattle.std.specs.declared.convert.Infallible.{Infallible}
 use Rattle.dagcbor_heads.specs.Reading.{Reading}
 use Rattle.dagcbor_heads.specs.Fronts.{ShowsByte}
+use Rattle.dagcbor_heads.specs.Causes.{HeadCause}
+use Rattle.dagcbor_heads.specs.Refusals.{Refuses}
 use Rattle.dagcbor_heads.specs.declared.error.DecodeError.{DecodeError}
-use Rattle.dagcbor_heads.specs.declared.error.DecodeError.TheVariants.{Read, TrailingData}
+use Rattle.dagcbor_heads.specs.declared.error.DecodeError.TheVariants.{Read, RequireBorrowed, OutOfMemory, Failed, TrailingData, DepthOverflow}
 use Rattle.ipld_tree.specs.Tree.{Tree}
 use Rattle.ipld_tree.specs.Spelling.{spelling, IsFront, IsSpelling}
 use Rattle.ipld_tree.specs.Ipld.{tree_of}
 use Rattle.ipld_tree.specs.declared.ipld.Ipld.{Ipld}
 use Rattle.ipld_tree.proofs.Fronts.{front_unique}
-use Rattle.dagcbor_read.specs.Untyped.{TakesItem, ReadsItem}
+use Rattle.dagcbor_read.specs.Untyped.{HasItem, TakesItem, ReadsItem}
 use Rattle.dagcbor_read.specs.Calls.{Progress, Call, Ends, TellsEnd}
-use Rattle.dagcbor_read.specs.Whole.{IsBlock, StandsInWhole, SliceRefused}
+use Rattle.dagcbor_read.specs.ItemCauses.{Stands}
+use Rattle.dagcbor_read.specs.Whole.{IsBlock, SliceRefused}
 
 at_false : (b : Bool) (P Q : Type 0) → b ≡ false → MatchBool b P Q → Q
 at_false true P Q e h = absurd (cc e)
 at_false false P Q e h = h
 
-whole_front : {b : List ℕ} {t : Tree} → IsSpelling b t → IsFront b t []
+pub whole_front : {b : List ℕ} {t : Tree} → IsSpelling b t → IsFront b t []
 whole_front {b} {t} h = record { well_formed = h.well_formed; spellable = h.spellable; is = h.is ∙ sym (append-nil (spelling t)) }
+
+block_item : (r : Reading) (b : List ℕ) (t : Tree) → r.left ≡ Some b → r.steps ≡ 256 → IsBlock b t → HasItem 0 r
+block_item r b t l s h = record { bytes = b; tree = t; rest = []; left = l; front = whole_front h.0; within = omega (arith, h.1, s) }
 
 -- with bytes behind its item the whole is no block
 no_block : (b rest : List ℕ) (t : Tree) → IsFront b t rest → 0 < length rest → (u : Tree) → IsBlock b u → ⊥
@@ -44,3 +50,27 @@ pub end_refused : (b : List ℕ) (start mid end : Progress) (v : Ipld) (e : Deco
 end_refused b start mid end v e sound l h k =
     let read = at_false start.failed _ _ sound h in
     told end.input b (tree_of v) e end.failed l read.1 (at_false mid.failed _ _ read.0 k)
+
+-- the cause of trailing data stands in no item
+no_trailing : (E : Type 0) (b : List ℕ) → Stands {E = E} TrailingData b → ⊥
+no_trailing E b h = elim h.2 [
+  | inl x ↦ by h.0 x
+  | inr y ↦ elim y [ inl x ↦ x | inr z ↦ elim z.1 [ inl x ↦ x | inr w ↦ elim w [ inl x ↦ x.2 | inr x ↦ elim x.2 [ inl v ↦ by x.0 v | inr v ↦ v ] ] ] ]
+]
+  where
+    by : (c : List ℕ) → HeadCause {E = E} TrailingData c → ⊥
+    by c x = x
+
+slice_refused : (e : DecodeError Infallible) (old new : Reading) (b : List ℕ) → old.left ≡ Some b → old.steps ≡ 256 → Refuses (HasItem 0 old) ⊤ ⊥ Stands old e new → SliceRefused e b
+slice_refused (Read x) old new b l s r = elim x [ ]
+slice_refused OutOfMemory old new b l s r = tt
+slice_refused (RequireBorrowed n) old new b l s r = absurd r.1
+slice_refused Failed old new b l s r = r
+slice_refused TrailingData old new b l s r = absurd (no_trailing Infallible b (r.2 b l))
+slice_refused (DepthOverflow n) old new b l s r = (λ t h. r.1 (block_item old b t l s h), r.2 b l)
+slice_refused _ old new b l s r = (λ t h. r.1 (block_item old b t l s h), r.2 b l)
+
+-- no item was read
+pub item_refused : (b : List ℕ) (start new : Progress) (e : DecodeError Infallible) → start.failed ≡ false → start.input.left ≡ Some b → start.input.steps ≡ 256
+    → Call {E = Infallible} (ReadsItem 0) start (Err e) new → SliceRefused e b
+item_refused b start new e sound l s h = slice_refused e start.input new.input b l s (at_false start.failed _ _ sound h).1

@@ -6,7 +6,12 @@ pub use Rattle.dagcbor_heads.specs.Names
 pub use Rattle.ipld_tree.specs.Tree
 pub use Rattle.ipld_tree.specs.Ipld
 pub use Rattle.ipld_tree.specs.Spelling
+pub mod Tokens
+pub mod LinkCauses
 pub mod ItemCauses
 pub mod Untyped
+pub mod Items
+pub mod Entries
+pub mod Links
 pub mod Calls
 pub mod Whole

@@ -1,23 +1,17 @@
 -- What an untyped read answers and refuses.
-use Rattle.std.specs.Prelude.{◌≡◌, ℕ, ◌+◌, ◌/◌, ◌<◌, ◌≤◌, List, [], ◌∷◌, Option, None, Some, Result, MatchResult, ⊤}
+use Rattle.std.specs.Prelude.{◌≡◌, ℕ, ◌+◌, ◌/◌, ◌≤◌, List, [], ◌∷◌, Option, None, Some, Result, MatchResult, ⊤}
 use Rattle.std.specs.Cow.{cow_str_bytes}
 use Rattle.std.specs.declared.borrow.CowStr.{CowStr}
 use Rattle.std.specs.declared.alloc.Global.{Global}
 use Rattle.dagcbor_heads.specs.Reading.{Reading, Stays}
 use Rattle.dagcbor_heads.specs.Refusals.{Refuses}
 use Rattle.dagcbor_heads.specs.declared.error.DecodeError.{DecodeError}
-use Rattle.ipld_tree.specs.Tree.{Tree, null, boolean, integer, text, bytes, list, mapping, link, IsTree, any_need}
+use Rattle.ipld_tree.specs.Tree.{Tree, text, IsTree, any_need}
 use Rattle.ipld_tree.specs.Spelling.{IsSpellable, spelling, IsFront}
 use Rattle.ipld_tree.specs.Ipld.{tree_of}
 use Rattle.ipld_tree.specs.declared.ipld.Ipld.{Ipld}
+use Rattle.dagcbor_read.specs.Tokens.{IsLeaf}
 use Rattle.dagcbor_read.specs.ItemCauses.{Stands}
-
--- the trees that are read so far: all leaves but links
-abbrev pub IsRead : Tree → Type 0
-IsRead (list ts) = ⊥
-IsRead (mapping es) = ⊥
-IsRead (link cid) = ⊥
-IsRead _ = ⊤
 
 -- the first byte of those left, where they are known, has the major type
 abbrev pub StartsWithMajor : Reading → ℕ → Type 0
@@ -30,7 +24,6 @@ pub record HasItem (spent : ℕ) (r : Reading) : Type 0 where
   pub rest : List ℕ
   pub left : r.left ≡ Some bytes
   pub front : IsFront bytes tree rest
-  pub read : IsRead tree
   pub within : any_need tree ≤ r.steps + spent
 
 -- this tree stood at the front, and was taken
@@ -52,5 +45,5 @@ ReadsText old result new = MatchResult result
 
 -- a simple value and its one byte
 abbrev pub IsSimple : ℕ → Option Ipld → Type 0
-IsSimple byte (Some v) = IsRead (tree_of v) × IsTree (tree_of v) × IsSpellable (tree_of v) × (spelling (tree_of v) ≡ byte ∷ [])
+IsSimple byte (Some v) = IsLeaf (tree_of v) × IsTree (tree_of v) × IsSpellable (tree_of v) × (spelling (tree_of v) ≡ byte ∷ [])
 IsSimple byte None = (0xf4 ≤ byte) → (byte ≤ 0xf6) → ⊥

@@ -1,5 +1,5 @@
 -- Reading a whole input as one item.
-use Rattle.std.specs.Prelude.{◌≡◌, ℕ, ◌<◌, ◌≤◌, List, length, Result, MatchResult, ⊤}
+use Rattle.std.specs.Prelude.{ℕ, ◌<◌, ◌≤◌, List, length, Result, MatchResult, ⊤}
 use Rattle.std.specs.declared.convert.Infallible.{Infallible}
 use Rattle.dagcbor_heads.specs.declared.error.DecodeError.{DecodeError}
 use Rattle.dagcbor_heads.specs.declared.error.DecodeError.TheVariants.{Read, RequireBorrowed, OutOfMemory, Failed, TrailingData}
@@ -8,11 +8,10 @@ use Rattle.ipld_tree.specs.Spelling.{IsFront, IsSpelling}
 use Rattle.ipld_tree.specs.Ipld.{tree_of}
 use Rattle.ipld_tree.specs.declared.ipld.Ipld.{Ipld}
 use Rattle.dagcbor_read.specs.ItemCauses.{Stands}
-use Rattle.dagcbor_read.specs.Untyped.{IsRead}
 
--- the bytes are the spelling of a tree that is read so far
+-- the bytes are the spelling of a tree that is read within 256 steps
 abbrev pub IsBlock : List ℕ → Tree → Type 0
-IsBlock b t = IsSpelling b t × IsRead t × (any_need t ≤ 256)
+IsBlock b t = IsSpelling b t × (any_need t ≤ 256)
 
 -- the cause of a refusal of the whole: an item stands there with bytes behind it, or the item's own cause stands
 abbrev pub StandsInWhole : {E : Type 0} → DecodeError E → List ℕ → Type 0

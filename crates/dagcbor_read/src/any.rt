@@ -1,165 +1,22 @@
-//! Reading values of unknown kind.
+//! Reading items of any kind.
 
-ghost use Rattle.std.specs.Prelude.{◌≡◌, ◌/◌, ◌↔◌, true, IfOk, IfSome, MatchOption, IsUtf8};
-ghost use Rattle.std.specs.Cow.{cow_slice_items, cow_str_bytes, IsBorrowedSlice, IsBorrowedStr};
+ghost use Rattle.std.specs.Prelude.{◌≡◌};
 ghost use Rattle.dagcbor_heads.specs.Inputs.{input_reading};
 ghost use Rattle.dagcbor_heads.specs.Fronts.{StartsWith};
-ghost use Rattle.dagcbor_read.specs.Untyped.{ReadsItem, ReadsText, StartsWithMajor, IsSimple};
+ghost use Rattle.dagcbor_read.specs.Untyped.{ReadsItem, StartsWithMajor};
+ghost use Rattle.dagcbor_read.specs.Items.{ReadsItems};
+ghost use Rattle.dagcbor_read.specs.Entries.{ReadsEntries};
 
-use dagcbor_heads::{
-    DecodeError, Input, Name, Read, is_indefinite, peek_one, pull_head, pull_one, pull_payload,
-};
+use crate::key::read_key;
+use crate::leaf::{read_bytes, read_natural, read_negative, read_simple, read_text};
+use crate::link::read_link;
+use dagcbor_heads::{DecodeError, Input, Name, Read, is_indefinite, peek_one, pull_head};
 use ipld_tree::Ipld;
 use std::alloc::Global;
-use std::borrow::{CowSlice, CowStr};
-use std::str::from_utf8;
-
-fn read_natural<R: Read>(reader: &mut R) -> Result<Ipld, DecodeError<R::Error>>
-    requires { StartsWithMajor (R.reading reader.old) 0 }
-    ensures { ReadsItem 1 (R.reading reader.old) result (R.reading reader.new) }
-{
-    let (_, argument, _) = pull_head("u64", reader)?;
-    Ok(Ipld::Integer(i128::from(argument)))
-}
-
-fn read_negative<R: Read>(reader: &mut R) -> Result<Ipld, DecodeError<R::Error>>
-    requires { StartsWithMajor (R.reading reader.old) 1 }
-    ensures { ReadsItem 1 (R.reading reader.old) result (R.reading reader.new) }
-{
-    let (_, argument, _) = pull_head("any", reader)?;
-    Ok(Ipld::Integer(-1 - i128::from(argument)))
-}
-
-fn read_bytes<R: Read>(
-    alloc: Global,
-    input: &mut Input<'_, R>,
-) -> Result<Ipld, DecodeError<R::Error>>
-    requires { StartsWithMajor (input_reading R.reading input.old) 2 }
-    ensures { ReadsItem 1 (input_reading R.reading input.old) result (input_reading R.reading input.new) }
-{
-    let (_, count, _) = pull_head("bytes", input)?;
-    let payload = pull_payload(alloc, "bytes", input, count)?;
-    match payload.into_owned(alloc) {
-        Ok(bytes) => Ok(Ipld::Bytes(bytes)),
-        Err(_) => Err(DecodeError::OutOfMemory),
-    }
-}
-
-/// The payload as a text, lent where it is.
-fn text_of<'de>(payload: CowSlice<'de, u8>) -> Option<CowStr<'de>>
-    ensures text { MatchOption result (¬ IsUtf8 (cow_slice_items payload.entry))
-        (λ s. (cow_str_bytes s ≡ cow_slice_items payload.entry) × IsUtf8 (cow_str_bytes s)) }
-    ensures lent { IfSome result (λ s. IsBorrowedStr s ↔ IsBorrowedSlice payload.entry) }
-{
-    match payload {
-        CowSlice::Borrowed(bytes) => match from_utf8(bytes) {
-            Ok(text) => Some(CowStr::Borrowed(text)),
-            Err(_) => None,
-        },
-        CowSlice::Owned(bytes) => match String::from_utf8(bytes) {
-            Ok(text) => Some(CowStr::Owned(text)),
-            Err(_) => None,
-        },
-    }
-}
-
-/// A text, lent exactly where the input lends.
-fn pull_text<'de, R: Read>(
-    alloc: Global,
-    name: &str,
-    input: &mut Input<'de, R>,
-) -> Result<CowStr<'de>, DecodeError<R::Error>>
-    requires { StartsWithMajor (input_reading R.reading input.old) 3 }
-    ensures text { ReadsText (input_reading R.reading input.old) result (input_reading R.reading input.new) }
-    ensures lent { IfOk result (λ s. IsBorrowedStr s ↔ ((input_reading R.reading input.old).lends ≡ true)) }
-{
-    let (_, count, _) = pull_head(name, input)?;
-    let payload = pull_payload(alloc, name, input, count)?;
-    match text_of(payload) {
-        Some(text) => Ok(text),
-        None => Err(DecodeError::RequireUtf8 {
-            name: Name::new(name),
-        }),
-    }
-}
-
-fn read_text<R: Read>(
-    alloc: Global,
-    input: &mut Input<'_, R>,
-) -> Result<Ipld, DecodeError<R::Error>>
-    requires { StartsWithMajor (input_reading R.reading input.old) 3 }
-    ensures { ReadsItem 1 (input_reading R.reading input.old) result (input_reading R.reading input.new) }
-{
-    let text = pull_text(alloc, "string", input)?;
-    match text.into_owned(alloc) {
-        Ok(text) => Ok(Ipld::String(text)),
-        Err(_) => Err(DecodeError::OutOfMemory),
-    }
-}
-
-fn simple_value(byte: u8) -> Option<Ipld>
-    ensures { IsSimple byte result }
-{
-    match byte {
-        0xf4 => Some(Ipld::Bool(false)),
-        0xf5 => Some(Ipld::Bool(true)),
-        0xf6 => Some(Ipld::Null),
-        _ => None,
-    }
-}
-
-fn read_simple<R: Read>(reader: &mut R, first: u8) -> Result<Ipld, DecodeError<R::Error>>
-    requires starts { StartsWith (R.reading reader.old) first }
-    requires major { first / 32 ≡ 7 }
-    ensures { ReadsItem 1 (R.reading reader.old) result (R.reading reader.new) }
-{
-    match simple_value(first) {
-        Some(value) => {
-            pull_one("any", reader)?;
-            Ok(value)
-        }
-        None => Err(DecodeError::Unsupported {
-            name: Name::new("any"),
-            found: first,
-        }),
-    }
-}
-
-fn read_kind<R: Read>(
-    alloc: Global,
-    input: &mut Input<'_, R>,
-    first: u8,
-) -> Result<Ipld, DecodeError<R::Error>>
-    requires { StartsWith (input_reading R.reading input.old) first }
-    ensures { ReadsItem 1 (input_reading R.reading input.old) result (input_reading R.reading input.new) }
-{
-    match first / 32 {
-        0 => read_natural(input),
-        1 => read_negative(input),
-        2 => read_bytes(alloc, input),
-        3 => read_text(alloc, input),
-        7 => read_simple(input, first),
-        _ => Err(DecodeError::Unsupported {
-            name: Name::new("any"),
-            found: first,
-        }),
-    }
-}
-
-fn read_item<R: Read>(
-    alloc: Global,
-    input: &mut Input<'_, R>,
-) -> Result<Ipld, DecodeError<R::Error>>
-    ensures { ReadsItem 1 (input_reading R.reading input.old) result (input_reading R.reading input.new) }
-{
-    let first = peek_one("any", input)?;
-    if is_indefinite(first) {
-        return Err(DecodeError::IndefiniteSize);
-    }
-    read_kind(alloc, input, first)
-}
+use std::collections::BTreeMap;
 
 /// Reads an item of any kind, no deeper than the steps that are left.
+#[cycle(any)]
 pub(crate) fn read_any<R: Read>(
     alloc: Global,
     input: &mut Input<'_, R>,
@@ -174,4 +31,116 @@ pub(crate) fn read_any<R: Read>(
     let value = read_item(alloc, input)?;
     input.step_out();
     Ok(value)
+}
+
+#[cycle(any)]
+fn read_item<R: Read>(
+    alloc: Global,
+    input: &mut Input<'_, R>,
+) -> Result<Ipld, DecodeError<R::Error>>
+    ensures { ReadsItem 1 (input_reading R.reading input.old) result (input_reading R.reading input.new) }
+{
+    let first = peek_one("any", input)?;
+    if is_indefinite(first) {
+        return Err(DecodeError::IndefiniteSize);
+    }
+    read_kind(alloc, input, first)
+}
+
+#[cycle(any)]
+fn read_kind<R: Read>(
+    alloc: Global,
+    input: &mut Input<'_, R>,
+    first: u8,
+) -> Result<Ipld, DecodeError<R::Error>>
+    requires { StartsWith (input_reading R.reading input.old) first }
+    ensures { ReadsItem 1 (input_reading R.reading input.old) result (input_reading R.reading input.new) }
+{
+    match first / 32 {
+        0 => read_natural(input),
+        1 => read_negative(input),
+        2 => read_bytes(alloc, input),
+        3 => read_text(alloc, input),
+        4 => read_list(alloc, input),
+        5 => read_map(alloc, input),
+        6 => read_link(input),
+        _ => read_simple(input, first),
+    }
+}
+
+#[cycle(any)]
+fn read_list<R: Read>(
+    alloc: Global,
+    input: &mut Input<'_, R>,
+) -> Result<Ipld, DecodeError<R::Error>>
+    requires { StartsWithMajor (input_reading R.reading input.old) 4 }
+    ensures { ReadsItem 1 (input_reading R.reading input.old) result (input_reading R.reading input.new) }
+{
+    if !input.step_in() {
+        return Err(DecodeError::DepthOverflow {
+            name: Name::new("array"),
+        });
+    }
+    let (_, count, _) = pull_head("array", input)?;
+    let items = read_items(alloc, input, count)?;
+    input.step_out();
+    Ok(Ipld::List(items))
+}
+
+#[cycle(any)]
+fn read_items<R: Read>(
+    alloc: Global,
+    input: &mut Input<'_, R>,
+    count: u64,
+) -> Result<Vec<Ipld>, DecodeError<R::Error>>
+    ensures { ReadsItems count (input_reading R.reading input.old) result (input_reading R.reading input.new) }
+{
+    let mut items = Vec::new(alloc);
+    for _index in 0..count {
+        let item = read_any(alloc, input)?;
+        if items.push(item).is_err() {
+            return Err(DecodeError::OutOfMemory);
+        }
+    }
+    Ok(items)
+}
+
+#[cycle(any)]
+fn read_map<R: Read>(alloc: Global, input: &mut Input<'_, R>) -> Result<Ipld, DecodeError<R::Error>>
+    requires { StartsWithMajor (input_reading R.reading input.old) 5 }
+    ensures { ReadsItem 1 (input_reading R.reading input.old) result (input_reading R.reading input.new) }
+{
+    if !input.step_in() {
+        return Err(DecodeError::DepthOverflow {
+            name: Name::new("map"),
+        });
+    }
+    let (_, count, _) = pull_head("map", input)?;
+    let entries = read_entries(alloc, input, count)?;
+    input.step_out();
+    Ok(Ipld::Map(entries))
+}
+
+#[cycle(any)]
+fn read_entries<R: Read>(
+    alloc: Global,
+    input: &mut Input<'_, R>,
+    count: u64,
+) -> Result<BTreeMap<String, Ipld>, DecodeError<R::Error>>
+    ensures { ReadsEntries count (input_reading R.reading input.old) result (input_reading R.reading input.new) }
+{
+    let mut entries = BTreeMap::new(alloc);
+    let mut previous = None;
+    for _index in 0..count {
+        let key = read_key(alloc, input, &previous)?;
+        let value = read_any(alloc, input)?;
+        let Ok(name) = String::from_str(alloc, key.as_str()) else {
+            return Err(DecodeError::OutOfMemory);
+        };
+        if entries.insert(name, value).is_err() {
+            return Err(DecodeError::OutOfMemory);
+        }
+        previous = Some(key);
+    }
+    Ok(entries)
 }

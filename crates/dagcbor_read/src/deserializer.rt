@@ -5,10 +5,12 @@ ghost use Rattle.dagcbor_heads.specs.Inputs.{unlent};
 ghost use Rattle.dagcbor_heads.specs.declared.error.DecodeError.TheVariants.{Failed};
 ghost use Rattle.dagcbor_read.specs.Calls.{progress, Call, Ends};
 ghost use Rattle.dagcbor_read.specs.Untyped.{ReadsItem};
+ghost use Rattle.dagcbor_read.specs.Links.{ReadsLink};
 
 use crate::any::read_any;
+use crate::link::pull_link;
 use dagcbor_heads::{DecodeError, Input, Read, SliceReader, is_at_end};
-use ipld_tree::Ipld;
+use ipld_tree::{Cid, Ipld};
 use std::alloc::Global;
 
 /// Reads values from a slice, which lends its bytes, or from another reader. After a refusal, other than `TrailingData`,
@@ -23,8 +25,8 @@ impl<'de> Deserializer<'de, SliceReader<'de>> {
     /// Reads from the slice, whose bytes are lent, with a budget of 256 steps.
     pub fn from_slice(bytes: &'de [u8]) -> Deserializer<'de, SliceReader<'de>>
         ensures { progress (λ r. r) result ≡ record {
-            input = record { left = Some bytes.now; shown = []; steps = 256; budget = 256; lends = true; faults = 0 };
-            failed = false;
+          input = record { left = Some bytes.now; shown = []; steps = 256; budget = 256; lends = true; faults = 0 };
+          failed = false;
         } }
     {
         Deserializer {
@@ -56,7 +58,7 @@ impl<'de, R: Read> Deserializer<'de, R> {
     fn begin(&mut self) -> Result<(), DecodeError<R::Error>>
         ensures { MatchResult result
             (λ _. ((progress R.reading self.old).failed ≡ false)
-                × (progress R.reading self.new ≡ record { input = (progress R.reading self.old).input; failed = true }))
+            × (progress R.reading self.new ≡ record { input = (progress R.reading self.old).input; failed = true }))
             (λ e. ((progress R.reading self.old).failed ≡ true) × (e ≡ Failed) × (progress R.reading self.new ≡ progress R.reading self.old)) }
     {
         if self.failed {
@@ -74,6 +76,16 @@ impl<'de, R: Read> Deserializer<'de, R> {
         let value = read_any(alloc, &mut self.input)?;
         self.failed = false;
         Ok(value)
+    }
+
+    /// Reads a link, and takes no memory.
+    pub fn deserialize_cid(&mut self) -> Result<Cid, DecodeError<R::Error>>
+        ensures { Call ReadsLink (progress R.reading self.old) result (progress R.reading self.new) }
+    {
+        self.begin()?;
+        let cid = pull_link(&mut self.input)?;
+        self.failed = false;
+        Ok(cid)
     }
 
     /// Whether the input ends here: `TrailingData` where a byte is left, which stays, and reading may go on.

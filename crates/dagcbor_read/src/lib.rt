@@ -3,6 +3,9 @@
 
 mod any;
 mod deserializer;
+mod key;
+mod leaf;
+mod link;
 mod whole;
 
 pub use deserializer::Deserializer;

@@ -1,8 +1,11 @@
 use Rattle.std.proofs.Common.{refl, inr}
 use Rattle.dagcbor_heads.proofs.Refusing.{refused}
-use Rattle.dagcbor_read.proofs.Fronts.{head_of}
+use Rattle.dagcbor_read.proofs.Fronts.{head_of, head_refused}
 use Rattle.dagcbor_read.proofs.Leaves.{payload_refused, garbled_refused}
-use Rattle.dagcbor_read.proofs.any.pull_text.Goals as goal
+use Rattle.dagcbor_read.proofs.leaf.pull_text.Goals as goal
+
+pub returns-in_err-count-clause-text : goal.returns-in_err-count-clause-text
+returns-in_err-count-clause-text g c = refused _ _ _ _ c.from_residual.ensures.1 (head_refused ⊥ 1 _ _ _ c.in_err-count.ensures.taken)
 
 pub returns-in_err-payload-clause-text : goal.returns-in_err-payload-clause-text
 returns-in_err-payload-clause-text g c =

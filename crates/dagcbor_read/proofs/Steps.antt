@@ -1,0 +1,83 @@
+-- Steps that are spent on entering an item, and given back at its end.
+use Rattle.std.proofs.Common.{◌≡◌, inl, inr, ℕ, ◌+◌, ◌-◌, ◌<◌, ◌≤◌, sym, ap, ◌∙◌, arith}
+use Rattle.std.specs.Prelude.{⊤}
+use Rattle.dagcbor_heads.specs.Reading.{Reading, with_steps}
+use Rattle.dagcbor_heads.specs.Refusals.{Refuses}
+use Rattle.dagcbor_heads.specs.declared.name.Name.{Name}
+use Rattle.dagcbor_heads.specs.declared.error.DecodeError.{DecodeError}
+use Rattle.dagcbor_heads.specs.declared.error.DecodeError.TheVariants.{Read, RequireBorrowed, OutOfMemory, Failed, DepthOverflow}
+use Rattle.ipld_tree.specs.Tree.{Tree, null, boolean, integer, text, bytes, list, mapping, link, any_need}
+use Rattle.dagcbor_read.specs.ItemCauses.{Stands}
+use Rattle.dagcbor_read.specs.Untyped.{HasItem, TakesItem, StartsWithMajor}
+use Rattle.dagcbor_read.proofs.Rows.{stands_here}
+
+need_positive : (t : Tree) → 1 ≤ any_need t
+need_positive null = omega arith
+need_positive (boolean b) = omega arith
+need_positive (integer n) = omega arith
+need_positive (text s) = omega arith
+need_positive (bytes s) = omega arith
+need_positive (list ts) = omega arith
+need_positive (mapping es) = omega arith
+need_positive (link cid) = omega arith
+
+-- no step is left for what stands there
+pub too_deep : (E : Type 0) (spent : ℕ) (old new : Reading) (name : Name) → old.steps ≡ 0 → new ≡ old → ((i : HasItem spent old) → spent + 1 ≤ any_need i.tree) → Refuses {E = E} (HasItem spent old) ⊤ ⊥ Stands old (DepthOverflow name) new
+too_deep E spent old new name none same deep = (
+  ap (λ (r : Reading). r.faults) same,
+  λ i. omega (arith, i.within, none, deep i),
+  λ b l. stands_here {E = E} (DepthOverflow name) b (inr (inl tt)),
+  ap (λ (r : Reading). r.steps) same ∙ none,
+)
+
+pub no_step_left : (E : Type 0) (old new : Reading) (name : Name) → old.steps ≡ 0 → new ≡ old → Refuses {E = E} (HasItem 0 old) ⊤ ⊥ Stands old (DepthOverflow name) new
+no_step_left E old new name none same = too_deep E 0 old new name none same (λ i. need_positive i.tree)
+
+-- a step was spent
+pub record Steps (old stepped : Reading) : Type 0 where
+  pub some : 0 < old.steps
+  pub is_out : stepped.steps < stepped.budget
+  pub is : stepped ≡ with_steps (old.steps - 1) old
+
+pub spent_step : {old stepped : Reading} → (0 < old.steps) × (stepped.steps < stepped.budget) × (stepped ≡ with_steps (old.steps - 1) old) → Steps old stepped
+spent_step h = record { some = h.0; is_out = h.1; is = h.2 }
+
+item_stepped : {old stepped : Reading} {spent : ℕ} → Steps old stepped → HasItem spent old → HasItem (spent + 1) stepped
+item_stepped {old} {stepped} {spent} s i = record {
+  bytes = i.bytes;
+  tree = i.tree;
+  rest = i.rest;
+  left = ap (λ (r : Reading). r.left) s.is ∙ i.left;
+  front = i.front;
+  within = omega (arith, i.within, s.some, ap (λ (r : Reading). r.steps) s.is);
+}
+
+pub stepped_refused : {E : Type 0} {old stepped : Reading} (lacks : Type 0) (new : Reading) (spent : ℕ) (e : DecodeError E) → Steps old stepped → Refuses (HasItem (spent + 1) stepped) lacks ⊥ Stands stepped e new → Refuses (HasItem spent old) ⊤ ⊥ Stands old e new
+stepped_refused {E} {old} {stepped} lacks new spent (Read e) s r = omega (arith, ap (λ (r : Reading). r.faults) s.is, r)
+stepped_refused {E} {old} {stepped} lacks new spent OutOfMemory s r = (r.0 ∙ ap (λ (r : Reading). r.faults) s.is, tt)
+stepped_refused {E} {old} {stepped} lacks new spent (RequireBorrowed n) s r = absurd r.1
+stepped_refused {E} {old} {stepped} lacks new spent Failed s r = r
+stepped_refused {E} {old} {stepped} lacks new spent (DepthOverflow n) s r = (r.0 ∙ ap (λ (r : Reading). r.faults) s.is, λ i. r.1 (item_stepped s i), λ b l. r.2 b (ap (λ (r : Reading). r.left) s.is ∙ l), r.3)
+stepped_refused {E} {old} {stepped} lacks new spent _ s r = (r.0 ∙ ap (λ (r : Reading). r.faults) s.is, λ i. r.1 (item_stepped s i), λ b l. r.2 b (ap (λ (r : Reading). r.left) s.is ∙ l))
+
+-- the step was given back behind the item
+pub stepped_taken : {old stepped now new : Reading} {t : Tree} (spent : ℕ) → Steps old stepped → TakesItem (spent + 1) stepped t now → new ≡ with_steps (now.steps + 1) now → TakesItem spent old t new
+stepped_taken {old} {stepped} {now} {new} {t} spent s a back =
+    let at_stepped = ap (λ (r : Reading). r.steps) s.is in
+    record {
+      taken = λ b l.
+          let k = a.taken b (ap (λ (r : Reading). r.left) s.is ∙ l) in
+          (k.0, k.1, omega (arith, k.2, at_stepped, s.some), ap (λ (r : Reading). r.left) back ∙ k.3);
+      same = record {
+        steps = omega (arith, ap (λ (r : Reading). r.steps) back, a.same.steps, at_stepped, s.some);
+        budget = ap (λ (r : Reading). r.budget) back ∙ a.same.budget ∙ ap (λ (r : Reading). r.budget) s.is;
+        lends = ap (λ (r : Reading). r.lends) back ∙ a.same.lends ∙ ap (λ (r : Reading). r.lends) s.is;
+        faults = ap (λ (r : Reading). r.faults) back ∙ a.same.faults ∙ ap (λ (r : Reading). r.faults) s.is;
+      };
+    }
+
+pub still_out : {old stepped now : Reading} {t : Tree} {spent : ℕ} → Steps old stepped → TakesItem spent stepped t now → now.steps < now.budget
+still_out s a = omega (arith, s.is_out, a.same.steps, a.same.budget)
+
+pub stepped_major : {old stepped : Reading} {m : ℕ} → Steps old stepped → StartsWithMajor old m → StartsWithMajor stepped m
+stepped_major s h b l = h b (ap (λ (r : Reading). r.left) (sym s.is) ∙ l)

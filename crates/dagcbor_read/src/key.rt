@@ -1,0 +1,51 @@
+//! Reading the keys of maps: texts, each behind the one before it.
+
+ghost use Rattle.std.specs.Prelude.{◌≡◌, ◌↔◌, IsTrue, option_map};
+ghost use Rattle.std.specs.Cow.{cow_str_bytes};
+ghost use Rattle.dagcbor_heads.specs.Inputs.{input_reading};
+ghost use Rattle.ipld_tree.specs.Key.{comes_before};
+ghost use Rattle.dagcbor_read.specs.Entries.{Follows, ReadsKey};
+
+use crate::leaf::pull_text;
+use dagcbor_heads::{DecodeError, Input, Name, Read, peek_one};
+use std::alloc::Global;
+use std::borrow::CowStr;
+
+/// Whether a key comes before another: the shorter first, and keys of one length by their bytes.
+fn comes_before(key: &str, other: &str) -> bool
+    ensures { result ≡ comes_before key.now other.now }
+{
+    key.len().cmp(&other.len()).then(key.cmp(other)).is_lt()
+}
+
+/// Whether the key may stand behind the one before it.
+fn follows(previous: &Option<CowStr<'_>>, key: &CowStr<'_>) -> bool
+    ensures { IsTrue result ↔ Follows (option_map cow_str_bytes previous.now) (cow_str_bytes key.now) }
+{
+    match previous {
+        None => true,
+        Some(before) => comes_before(before.as_str(), key.as_str()),
+    }
+}
+
+/// A key, lent where the input lends.
+pub(crate) fn read_key<'de, R: Read>(
+    alloc: Global,
+    input: &mut Input<'de, R>,
+    previous: &Option<CowStr<'de>>,
+) -> Result<CowStr<'de>, DecodeError<R::Error>>
+    ensures { ReadsKey (option_map cow_str_bytes previous.now) (input_reading R.reading input.old) result (input_reading R.reading input.new) }
+{
+    let first = peek_one("map key", input)?;
+    if first / 32 != 3 {
+        return Err(DecodeError::Mismatch {
+            name: Name::new("map key"),
+            found: first,
+        });
+    }
+    let key = pull_text(alloc, "map key", input)?;
+    if !follows(previous, &key) {
+        return Err(DecodeError::UnorderedKey);
+    }
+    Ok(key)
+}

@@ -22,6 +22,9 @@ fn kind_name(value: &Ipld) -> &'static str
         Ipld::Integer(_) => "integer",
         Ipld::String(_) => "string",
         Ipld::Bytes(_) => "bytes",
+        Ipld::List(_) => "list",
+        Ipld::Map(_) => "map",
+        Ipld::Link(_) => "link",
     }
 }
 

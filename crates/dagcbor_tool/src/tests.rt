@@ -111,6 +111,17 @@ fn answers_each_line(rt: HostRuntime) -> Result<(), Fail> {
 }
 
 #[test]
+fn every_kind_has_its_name(rt: HostRuntime) -> Result<(), Fail> {
+    let lines = b"83010203\n1817\nzz\n\na10102\na0\nd82a4500015500\nd82a450001550000\n";
+    let answers =
+        b"ok list\nrefused NonMinimal\nrefused hex\nrefused Eof\nrefused Mismatch\nok map\nrefused Eof\nok link\n";
+    let mut output = Vec::new(rt.alloc());
+    run_check(rt.alloc(), &mut &lines[..], &mut output)?;
+    assert_eq!(rt; output.as_slice(), answers.as_slice());
+    Ok(())
+}
+
+#[test]
 fn a_reader_that_fails_ends_the_run(rt: HostRuntime) -> Result<(), Fail> {
     // An interrupted call is not made again.
     for fault in [ErrorKind::Other, ErrorKind::Interrupted] {

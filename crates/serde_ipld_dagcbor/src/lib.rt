@@ -1,14 +1,16 @@
 //! DAG-CBOR, read and written with proofs: the names of the crate `serde_ipld_dagcbor`.
 #![tactic(auto)]
 
+pub mod laws;
+
 pub use dagcbor_heads::{
     ArithmeticOverflow, BufWriter, DecodeError, EncodeError, Input, Len, Name, Read, Reference,
     SliceReader, Tally, Write, is_at_end, is_indefinite, peek_one, pull_head, pull_one,
-    pull_payload, push_head,
+    pull_payload, pull_short_payload, push_head,
 };
 pub use dagcbor_read::{Deserializer, from_slice};
 pub use dagcbor_write::{Serializer, to_vec};
-pub use ipld_tree::{Ipld, laws};
+pub use ipld_tree::{ByteSlice, Bytes, Cid, CidError, Ipld};
 
 /// The code of DAG-CBOR among the codes of formats (the multicodec table).
 pub const DAG_CBOR_CODE: u64 = 0x71;

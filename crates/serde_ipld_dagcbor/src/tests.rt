@@ -3,4 +3,6 @@
 mod devices;
 mod heads;
 mod leaves;
+mod links;
 mod states;
+mod trees;

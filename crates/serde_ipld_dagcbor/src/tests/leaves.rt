@@ -110,7 +110,7 @@ fn long_byte_strings_both_ways(rt: HostRuntime) -> Result<(), Fail> {
 
 #[test]
 fn refusals_name_their_cause(rt: HostRuntime) -> Result<(), Fail> {
-    let rows: [(&[u8], &str); 18] = [
+    let rows: [(&[u8], &str); 15] = [
         (b"\x18\x17", r#"NonMinimal { name: "u64", found: 24 }"#),
         (b"\x38\x05", r#"NonMinimal { name: "any", found: 56 }"#),
         (b"\x19\x01", r#"Eof { name: "u64", expect: Small(2) }"#),
@@ -135,12 +135,6 @@ fn refusals_name_their_cause(rt: HostRuntime) -> Result<(), Fail> {
         ),
         (b"\x7f\x61\x61\xff", "IndefiniteSize"),
         (b"\xf4trailing", "TrailingData"),
-        (b"\x80", r#"Unsupported { name: "any", found: 128 }"#),
-        (b"\xa0", r#"Unsupported { name: "any", found: 160 }"#),
-        (
-            b"\xd8\x2a\x40",
-            r#"Unsupported { name: "any", found: 216 }"#,
-        ),
     ];
     for (input, told) in rows {
         match from_slice(rt.alloc(), input) {

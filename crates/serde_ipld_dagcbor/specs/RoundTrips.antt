@@ -1,0 +1,33 @@
+-- Reading and writing undo each other, want of memory aside.
+use Rattle.std.specs.Prelude.{◌≡◌, ℕ, ◌≤◌, List, Result, Ok, Err, Vec, ⊤}
+use Rattle.std.specs.declared.alloc.Global.{Global}
+use Rattle.std.specs.declared.convert.Infallible.{Infallible}
+use Rattle.dagcbor_heads.specs.declared.error.DecodeError.{DecodeError}
+use Rattle.dagcbor_heads.specs.declared.error.DecodeError.TheVariants as unread
+use Rattle.dagcbor_heads.specs.declared.error.EncodeError.{EncodeError}
+use Rattle.dagcbor_heads.specs.declared.error.EncodeError.TheVariants as unwritten
+use Rattle.ipld_tree.specs.Tree.{any_need}
+use Rattle.ipld_tree.specs.Ipld.{tree_of}
+use Rattle.ipld_tree.specs.declared.ipld.Ipld.{Ipld}
+use Rattle.dagcbor_write.specs.Answers.{IsAnswer}
+use Rattle.dagcbor_read.specs.Whole.{ReadsSlice}
+
+-- the bytes were written, or memory was wanting
+abbrev pub IsWrittenBack : List ℕ → Result (Vec ℕ Global) (EncodeError Infallible) → Type 0
+IsWrittenBack b (Ok v) = v.items ≡ b
+IsWrittenBack b (Err unwritten.OutOfMemory) = ⊤
+IsWrittenBack b (Err _) = ⊥
+
+-- What was read of bytes is written as the same bytes.
+abbrev pub ReadThenWritten : Type 0
+ReadThenWritten = (b : List ℕ) (value : Ipld) (written : Result (Vec ℕ Global) (EncodeError Infallible)) → ReadsSlice b (Ok value) → IsAnswer (tree_of value) written → IsWrittenBack b written
+
+-- a value of the same tree was read, or memory was wanting
+abbrev pub IsReadBack : Ipld → Result Ipld (DecodeError Infallible) → Type 0
+IsReadBack value (Ok copy) = tree_of copy ≡ tree_of value
+IsReadBack value (Err unread.OutOfMemory) = ⊤
+IsReadBack value (Err _) = ⊥
+
+-- What was written of a value is read as its tree, where the need is within the steps.
+abbrev pub WrittenThenRead : Type 0
+WrittenThenRead = (value : Ipld) (v : Vec ℕ Global) (read : Result Ipld (DecodeError Infallible)) → IsAnswer (tree_of value) (Ok v) → any_need (tree_of value) ≤ 256 → ReadsSlice v.items read → IsReadBack value read

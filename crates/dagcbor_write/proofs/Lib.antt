@@ -1,4 +1,12 @@
 pub mod Spelling
 pub mod Parts
 pub mod Lists
-pub mod Maps
+pub mod Lengths
+pub mod Keys
+pub mod Sorting
+pub mod Pushing
+pub mod Mapping
+pub mod Fields
+pub mod Enums
+pub mod IpldTrees
+pub mod Walks

@@ -1,49 +1,132 @@
--- The items of a list, one by one.
-use Rattle.std.proofs.Common.{◌≡◌, ℕ, zero, suc, ◌+◌, ◌^◌, ◌<◌, ◌≤◌, List, [], ◌∷◌, length, get_or, drop, add-one, Some, refl, sym, ap, ◌∙◌, subst, arith}
+-- The spelling of a list, by its items.
+use Rattle.std.proofs.Common.{◌≡◌, ℕ, suc, ◌+◌, List, [], ◌∷◌, length, Option, None, Some, refl, sym, ap, ◌∙◌, add-one, map, ◌<◌, get_or, drop, take, subst, ◌≤◌, ◌++◌}
 use Rattle.std.proofs.Math.Seq.{drop-cons}
 use Rattle.std.proofs.Math.ListN.{drop_of_length-le}
+use Rattle.std.proofs.lemmas.List.{length-map, take_more, take_all}
+use Rattle.std.specs.Prelude.{option_map, option_and_then, IfSome, OnOk, Result, Ok, Err, ⊤}
 use Rattle.std.specs.Fmt.{◌++?◌}
-use Rattle.dagcbor_heads.specs.Head.{head}
+use Rattle.dagcbor_heads.proofs.Writing.{append-None, Written-but, begin-writing, joined}
 use Rattle.dagcbor_heads.specs.Written.{Written}
-use Rattle.dagcbor_heads.proofs.Writing.{Written-but}
-use Rattle.ipld_tree.specs.Tree.{list, IsTree, AreItems, any_need, items_need}
-use Rattle.ipld_tree.specs.Ipld.{tree_of}
+use Rattle.ipld_tree.specs.Tree.{Tree, IsTree, AreItems, items_of, all_some, list_tree}
 use Rattle.ipld_tree.specs.Spelling.{item_count}
-use Rattle.ipld_tree.specs.Spelled.{spelled, spelled_head, spelled_items}
-use Rattle.ipld_tree.specs.declared.ipld.Ipld.{Ipld}
-use Rattle.ipld_tree.proofs.Trees.{items_tree}
-use Rattle.dagcbor_write.proofs.Parts.{begin_two}
-use Rattle.dagcbor_write.proofs.Spelling.{head_is_spelled}
+use Rattle.ipld_tree.specs.Spelled.{spelled, spelled_items, spelled_tree, spelled_head}
 
--- the element at i, and those behind it
-pub drop_at : {A : Type 0} (xs : List A) (i : ℕ) (x : A) → i < length xs → x ≡ get_or xs i x → drop i xs ≡ x ∷ drop (i + 1) xs
-drop_at xs i x h e = rw add-one (drop-cons xs i x h ∙ ap (λ y. y ∷ drop (suc i) xs) (sym e))
+-- the spellings of the trees, one behind the other
+abbrev pub spelled_each : List (Option Tree) → Option (List ℕ)
+spelled_each [] = Some []
+spelled_each (o ∷ os) = spelled_tree o ++? spelled_each os
 
-item_count-is : (xs : List Ipld) → item_count (items_tree xs) ≡ length xs
-item_count-is [] = refl
-item_count-is (x ∷ xs) = ap suc (item_count-is xs)
+-- each tree is well-formed
+abbrev pub AreTrees : List (Option Tree) → Type 0
+AreTrees [] = ⊤
+AreTrees (o ∷ os) = IfSome o IsTree × AreTrees os
 
-pub begin_list : (xs : List Ipld) (n : ℕ) (s : Written) → n ≡ length xs → n < 2 ^ 64 → Written-but (spelled (list (items_tree xs))) (Some (head 4 n) ∷ spelled_items (items_tree xs) ∷ []) s s
+-- what a list of trees spells, without its head
+abbrev spelled_some : Option (List Tree) → Option (List ℕ)
+spelled_some None = None
+spelled_some (Some ts) = spelled_items (items_of ts)
+
+abbrev before : Option Tree → Option (List Tree) → Option (List Tree)
+before o us = option_and_then (λ a. option_map (λ more. a ∷ more) us) o
+
+spelled_with : (o : Option Tree) (us : Option (List Tree)) → spelled_some (before o us) ≡ spelled_tree o ++? spelled_some us
 unfolding spelled
-begin_list xs n s e h = begin_two _ _ _ s (ap (λ o. o ++? spelled_items (items_tree xs)) (ap (λ k. spelled_head 4 k) (item_count-is xs ∙ sym e) ∙ head_is_spelled 4 n h))
+spelled_with None us = refl
+spelled_with (Some t) None = sym (append-None (spelled t))
+spelled_with (Some t) (Some ts) = refl
 
-pub spelled_at : (xs : List Ipld) (i : ℕ) (x : Ipld) → i < length xs → x ≡ get_or xs i x → spelled_items (items_tree (drop i xs)) ≡ spelled (tree_of x) ++? spelled_items (items_tree (drop (i + 1) xs))
+spelled_trees : (os : List (Option Tree)) → spelled_some (all_some os) ≡ spelled_each os
 unfolding spelled
-spelled_at xs i x h e = ap (λ ys. spelled_items (items_tree ys)) (drop_at xs i x h e)
+spelled_trees [] = refl
+spelled_trees (o ∷ os) = spelled_with o (all_some os) ∙ ap (λ (x : Option (List ℕ)). spelled_tree o ++? x) (spelled_trees os)
 
-pub spelled_end : (xs : List Ipld) (i : ℕ) → length xs ≤ i → spelled_items (items_tree (drop i xs)) ≡ Some []
+-- the count of the trees, if there are any
+abbrev Counts : Option (List Tree) → ℕ → Type 0
+Counts us n = IfSome us (λ ts. item_count (items_of ts) ≡ n)
+
+counts_with : (o : Option Tree) (us : Option (List Tree)) (n : ℕ) → Counts us n → Counts (before o us) (suc n)
+counts_with None us n c = tt
+counts_with (Some t) None n c = tt
+counts_with (Some t) (Some ts) n c = ap suc c
+
+counts_trees : (os : List (Option Tree)) → Counts (all_some os) (length os)
+counts_trees [] = refl
+counts_trees (o ∷ os) = counts_with o (all_some os) (length os) (counts_trees os)
+
+spelled_by : (us : Option (List Tree)) (n : ℕ) → Counts us n → spelled_tree (option_map (λ found. Tree.list (items_of found)) us) ≡ spelled_head 4 n ++? spelled_some us
 unfolding spelled
-spelled_end xs i h = ap (λ ys. spelled_items (items_tree ys)) (drop_of_length-le xs h)
+spelled_by None n c = sym (append-None (spelled_head 4 n))
+spelled_by (Some ts) n c = ap (λ (k : ℕ). spelled_head 4 k ++? spelled_items (items_of ts)) c
 
--- the items at i and behind it are well-formed where those behind it are
-pub good_at : (xs : List Ipld) (i : ℕ) (x : Ipld) → i < length xs → x ≡ get_or xs i x → IsTree (tree_of x) → AreItems (items_tree (drop (i + 1) xs)) → AreItems (items_tree (drop i xs))
-good_at xs i x h e one more = subst (λ ys. AreItems (items_tree ys)) (sym (drop_at xs i x h e)) (one, more)
+pub spelled-list : (os : List (Option Tree)) → spelled_tree (list_tree os) ≡ spelled_head 4 (length os) ++? spelled_each os
+spelled-list os = spelled_by (all_some os) (length os) (counts_trees os) ∙ ap (λ (x : Option (List ℕ)). spelled_head 4 (length os) ++? x) (spelled_trees os)
 
-pub good_end : (xs : List Ipld) (i : ℕ) → length xs ≤ i → AreItems (items_tree (drop i xs))
-good_end xs i h = subst (λ ys. AreItems (items_tree ys)) (sym (drop_of_length-le xs h)) tt
+pub spelled-each : (os : List (Option Tree)) → spelled_each os ≡ joined (map spelled_tree os)
+spelled-each [] = refl
+spelled-each (o ∷ os) = ap (λ (x : Option (List ℕ)). spelled_tree o ++? x) (spelled-each os)
 
--- an item needs no more than the list
-pub need_at : (xs : List Ipld) (i : ℕ) (x : Ipld) → i < length xs → x ≡ get_or xs i x → any_need (tree_of x) ≤ items_need (items_tree xs)
-need_at [] i x h e = absurd (omega (arith, h))
-need_at (y ∷ xs) zero x h e = let same : any_need (tree_of x) ≡ any_need (tree_of y) = ap (λ z. any_need (tree_of z)) e in omega (arith, same)
-need_at (y ∷ xs) (suc i) x h e = omega (arith, need_at xs i x (omega (arith, h)) e)
+pub begin-list : (os : List (Option Tree)) (s : Written) → Written-but (spelled_tree (list_tree os)) (spelled_head 4 (length os) ∷ map spelled_tree os) s s
+begin-list os s = begin-writing (spelled_tree (list_tree os)) (spelled_head 4 (length os) ∷ map spelled_tree os) s (spelled-list os ∙ ap (λ (x : Option (List ℕ)). spelled_head 4 (length os) ++? x) (spelled-each os))
+
+-- the same of the values xs, whose number is n
+pub begin-items : {A : Type 0} (tree : A → Option Tree) (xs : List A) (n : ℕ) (s : Written) → n ≡ length xs → Written-but (spelled_tree (list_tree (map tree xs))) (spelled_head 4 n ∷ map spelled_tree (map tree xs)) s s
+begin-items tree xs n s e =
+    let P : ℕ → Type 0 = λ k. Written-but (spelled_tree (list_tree (map tree xs))) (spelled_head 4 k ∷ map spelled_tree (map tree xs)) s s in
+    subst P (length-map xs tree ∙ sym e) (begin-list (map tree xs) s)
+
+-- the parts that are left at an item: its spelling, and what is left behind it
+pub at-item : {A : Type 0} (tree : A → Option Tree) (xs : List A) (i : ℕ) (x : A) → i < length xs → x ≡ get_or xs i x → (whole : Option (List ℕ)) (s t : Written) → Written-but whole (map spelled_tree (map tree (drop i xs))) s t → Written-but whole (spelled_tree (tree x) ∷ map spelled_tree (map tree (drop (i + 1) xs))) s t
+at-item {A} tree xs i x h e whole s t w =
+    let P : List A → Type 0 = λ ys. Written-but whole (map spelled_tree (map tree ys)) s t in
+    let there : get_or xs i x ∷ drop (i + 1) xs ≡ x ∷ drop (i + 1) xs = ap (λ (y : A). y ∷ drop (i + 1) xs) (sym e) in
+    let begins : drop i xs ≡ get_or xs i x ∷ drop (i + 1) xs = rw add-one (drop-cons xs i x h) in
+    subst P (begins ∙ there) w
+
+-- no part is left behind the last item
+pub at-end : {A : Type 0} (tree : A → Option Tree) (xs : List A) (i : ℕ) → length xs ≤ i → (whole : Option (List ℕ)) (s t : Written) → Written-but whole (map spelled_tree (map tree (drop i xs))) s t → Written-but whole [] s t
+at-end {A} tree xs i h whole s t w =
+    let P : List A → Type 0 = λ ys. Written-but whole (map spelled_tree (map tree ys)) s t in
+    subst P (drop_of_length-le xs h) w
+
+-- ---- well formed
+
+tree_with : (o : Option Tree) (us : Option (List Tree)) → IfSome o IsTree → IfSome us (λ ts. AreItems (items_of ts)) → IfSome (before o us) (λ ts. AreItems (items_of ts))
+tree_with None us h k = tt
+tree_with (Some t) None h k = tt
+tree_with (Some t) (Some ts) h k = (h, k)
+
+trees_good : (os : List (Option Tree)) → AreTrees os → IfSome (all_some os) (λ ts. AreItems (items_of ts))
+trees_good [] h = tt
+trees_good (o ∷ os) h = tree_with o (all_some os) h.0 (trees_good os h.1)
+
+list_good : (us : Option (List Tree)) → IfSome us (λ ts. AreItems (items_of ts)) → IfSome (option_map (λ found. Tree.list (items_of found)) us) IsTree
+list_good None h = tt
+list_good (Some ts) h = h
+
+-- a list of well-formed trees is well formed
+pub list-IsTree : (os : List (Option Tree)) → AreTrees os → IfSome (list_tree os) IsTree
+list-IsTree os h = list_good (all_some os) (trees_good os h)
+
+are_trees_push : (os : List (Option Tree)) (o : Option Tree) → AreTrees os → IfSome o IsTree → AreTrees (os ++ o ∷ [])
+are_trees_push [] o h k = (k, tt)
+are_trees_push (p ∷ os) o h k = (h.0, are_trees_push os o h.1 k)
+
+map-more : {A B : Type 0} (f : A → B) (xs : List A) (y : A) → map f (xs ++ y ∷ []) ≡ map f xs ++ f y ∷ []
+map-more f [] y = refl
+map-more f (x ∷ xs) y = ap (λ ys. f x ∷ ys) (map-more f xs y)
+
+-- one more of the values has a well-formed tree
+pub AreTrees-next : {A : Type 0} (tree : A → Option Tree) (xs : List A) (i : ℕ) (x : A) → i < length xs → x ≡ get_or xs i x → AreTrees (map tree (take i xs)) → IfSome (tree x) IsTree → AreTrees (map tree (take (i + 1) xs))
+AreTrees-next {A} tree xs i x h e all one =
+    let last : take i xs ++ x ∷ [] ≡ take (i + 1) xs = ap (λ (y : A). take i xs ++ y ∷ []) e ∙ sym (take_more xs i x h) in
+    let P : List A → Type 0 = λ ys. AreTrees (map tree ys) in
+    let Q : List (Option Tree) → Type 0 = λ os. AreTrees os in
+    subst P last (subst Q (sym (map-more tree (take i xs) x)) (are_trees_push (map tree (take i xs)) (tree x) all one))
+
+pub AreTrees-all : {A : Type 0} (tree : A → Option Tree) (xs : List A) (i : ℕ) → length xs ≤ i → AreTrees (map tree (take i xs)) → IfSome (list_tree (map tree xs)) IsTree
+AreTrees-all {A} tree xs i h all =
+    let P : List A → Type 0 = λ ys. AreTrees (map tree ys) in list-IsTree (map tree xs) (subst P (take_all i xs h) all)
+
+pub OnOk-of : {T E P : Type 0} (r : Result T E) → P → OnOk r P
+OnOk-of (Ok x) p = p
+OnOk-of (Err e) p = tt

@@ -4,5 +4,11 @@ pub use Rattle.ipld_tree.specs.Tree
 pub use Rattle.ipld_tree.specs.Ipld
 pub use Rattle.ipld_tree.specs.Spelling
 pub use Rattle.ipld_tree.specs.Spelled
+pub mod Trees
 pub mod Answers
-pub mod Lent
+pub mod Pairwise
+pub mod Gathering
+pub mod Lists
+pub mod Maps
+pub mod Order
+pub mod Laws

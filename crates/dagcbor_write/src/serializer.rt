@@ -1,12 +1,12 @@
-//! Writes leaves to a writer.
+//! The serializer, and what it writes by itself: leaves.
 
-ghost use Rattle.std.specs.Prelude.{◌≡◌, ◌≤◌, Some, OnOk, IfErr, codes, false};
-ghost use Rattle.dagcbor_heads.specs.Head.{head};
+ghost use Rattle.std.specs.Prelude.{◌≡◌, ◌≤◌, Some, OnOk, IfErr, codes, false, pos};
+ghost use Rattle.std.specs.Char.{encode_utf8};
 ghost use Rattle.dagcbor_heads.specs.Written.{Writes, WantsMemoryOnlyIf};
 ghost use Rattle.ipld_tree.specs.Cid.{cid_bytes};
 ghost use Rattle.ipld_tree.specs.Tree.{null, boolean, integer, text, bytes, link, IsTree};
 ghost use Rattle.ipld_tree.specs.Spelling.{IsSpellable};
-ghost use Rattle.ipld_tree.specs.Spelled.{spelled, spelled_bytes};
+ghost use Rattle.ipld_tree.specs.Spelled.{spelled, spelled_head, spelled_bytes};
 ghost use Rattle.dagcbor_write.specs.Answers.{IsMessage};
 
 use arrayvec::ArrayVec;
@@ -16,6 +16,9 @@ use std::marker::Model;
 
 /// What an integer without a spelling is refused with.
 const INTEGER_RANGE: &str = "Integer must be within [-u64::MAX-1, u64::MAX] range";
+
+/// What an unsigned integer without a spelling is refused with.
+const UNSIGNED_RANGE: &str = "Unsigned integer must be within [0, u64::MAX] range";
 
 /// Writes values to a writer. Contracts see the writer.
 #[derive(Drop)]
@@ -61,6 +64,40 @@ impl<W: Write> Serializer<W> {
         self.writer.push(&[if v { 0xf5 } else { 0xf4 }])
     }
 
+    /// As `serialize_i64`.
+    pub fn serialize_i8(&mut self, v: i8) -> Result<(), EncodeError<W::Error>>
+        ensures written { Writes (spelled (integer v)) (W.written self.old) (W.written self.new) result }
+        ensures memory { WantsMemoryOnlyIf W.takes_memory result }
+    {
+        self.serialize_i64(v as i64)
+    }
+
+    /// As `serialize_i64`.
+    pub fn serialize_i16(&mut self, v: i16) -> Result<(), EncodeError<W::Error>>
+        ensures written { Writes (spelled (integer v)) (W.written self.old) (W.written self.new) result }
+        ensures memory { WantsMemoryOnlyIf W.takes_memory result }
+    {
+        self.serialize_i64(v as i64)
+    }
+
+    /// As `serialize_i64`.
+    pub fn serialize_i32(&mut self, v: i32) -> Result<(), EncodeError<W::Error>>
+        ensures written { Writes (spelled (integer v)) (W.written self.old) (W.written self.new) result }
+        ensures memory { WantsMemoryOnlyIf W.takes_memory result }
+    {
+        self.serialize_i64(v as i64)
+    }
+
+    /// A head of major type 0 or 1.
+    #[tactic(auto, unfolding(ipld_tree::specs::Spelled::spelled))]
+    pub fn serialize_i64(&mut self, v: i64) -> Result<(), EncodeError<W::Error>>
+        ensures written { Writes (spelled (integer v)) (W.written self.old) (W.written self.new) result }
+        ensures memory { WantsMemoryOnlyIf W.takes_memory result }
+    {
+        let (major, magnitude) = if v < 0 { (1, -1 - v) } else { (0, v) };
+        push_head(&mut self.writer, major, magnitude as u64)
+    }
+
     /// A head of major type 0 or 1. Outside -2^64 to 2^64 - 1 refused with
     /// `Msg("Integer must be within [-u64::MAX-1, u64::MAX] range")`.
     #[tactic(auto, unfolding(ipld_tree::specs::Spelled::spelled))]
@@ -74,6 +111,62 @@ impl<W: Write> Serializer<W> {
             Ok(argument) => push_head(&mut self.writer, major, argument),
             Err(_) => Err(EncodeError::Msg(INTEGER_RANGE)),
         }
+    }
+
+    /// As `serialize_u64`.
+    pub fn serialize_u8(&mut self, v: u8) -> Result<(), EncodeError<W::Error>>
+        ensures written { Writes (spelled (integer (pos v))) (W.written self.old) (W.written self.new) result }
+        ensures memory { WantsMemoryOnlyIf W.takes_memory result }
+    {
+        self.serialize_u64(v as u64)
+    }
+
+    /// As `serialize_u64`.
+    pub fn serialize_u16(&mut self, v: u16) -> Result<(), EncodeError<W::Error>>
+        ensures written { Writes (spelled (integer (pos v))) (W.written self.old) (W.written self.new) result }
+        ensures memory { WantsMemoryOnlyIf W.takes_memory result }
+    {
+        self.serialize_u64(v as u64)
+    }
+
+    /// As `serialize_u64`.
+    pub fn serialize_u32(&mut self, v: u32) -> Result<(), EncodeError<W::Error>>
+        ensures written { Writes (spelled (integer (pos v))) (W.written self.old) (W.written self.new) result }
+        ensures memory { WantsMemoryOnlyIf W.takes_memory result }
+    {
+        self.serialize_u64(v as u64)
+    }
+
+    /// A head of major type 0.
+    #[tactic(auto, unfolding(ipld_tree::specs::Spelled::spelled))]
+    pub fn serialize_u64(&mut self, v: u64) -> Result<(), EncodeError<W::Error>>
+        ensures written { Writes (spelled (integer (pos v))) (W.written self.old) (W.written self.new) result }
+        ensures memory { WantsMemoryOnlyIf W.takes_memory result }
+    {
+        push_head(&mut self.writer, 0, v)
+    }
+
+    /// A head of major type 0. Above 2^64 - 1 refused with `Msg("Unsigned integer must be within [0, u64::MAX] range")`.
+    #[tactic(auto, unfolding(ipld_tree::specs::Spelled::spelled))]
+    pub fn serialize_u128(&mut self, v: u128) -> Result<(), EncodeError<W::Error>>
+        ensures written { Writes (spelled (integer (pos v))) (W.written self.old) (W.written self.new) result }
+        ensures memory { WantsMemoryOnlyIf W.takes_memory result }
+        ensures message { IfErr result (IsMessage (codes "Unsigned integer must be within [0, u64::MAX] range")) }
+    {
+        match u64::try_from(v) {
+            Ok(argument) => push_head(&mut self.writer, 0, argument),
+            Err(_) => Err(EncodeError::Msg(UNSIGNED_RANGE)),
+        }
+    }
+
+    /// A text of one character.
+    pub fn serialize_char(&mut self, v: char) -> Result<(), EncodeError<W::Error>>
+        ensures written { Writes (spelled (text (encode_utf8 v))) (W.written self.old) (W.written self.new) result }
+        ensures memory { WantsMemoryOnlyIf W.takes_memory result }
+        ensures well_formed { OnOk result (IsTree (text (encode_utf8 v))) }
+    {
+        let mut room = [0; 4];
+        self.serialize_str(v.encode_utf8(&mut room))
     }
 
     /// A head of major type 3 and the bytes of the text.
@@ -103,6 +196,25 @@ impl<W: Write> Serializer<W> {
         self.writer.push(&[0xf6])
     }
 
+    /// f6.
+    pub fn serialize_unit(&mut self) -> Result<(), EncodeError<W::Error>>
+        ensures written { Writes (spelled null) (W.written self.old) (W.written self.new) result }
+        ensures memory { WantsMemoryOnlyIf W.takes_memory result }
+    {
+        self.serialize_none()
+    }
+
+    /// f6. The name is not looked at.
+    pub fn serialize_unit_struct(
+        &mut self,
+        _name: &'static str,
+    ) -> Result<(), EncodeError<W::Error>>
+        ensures written { Writes (spelled null) (W.written self.old) (W.written self.new) result }
+        ensures memory { WantsMemoryOnlyIf W.takes_memory result }
+    {
+        self.serialize_none()
+    }
+
     /// d8 2a, a head of major type 2, a zero byte and the binary form. Each CID has a spelling, so `Msg` is never answered.
     pub fn serialize_cid(&mut self, cid: &Cid) -> Result<(), EncodeError<W::Error>>
         ensures written { Writes (spelled (link (cid_bytes cid.now))) (W.written self.old) (W.written self.new) result }
@@ -116,11 +228,18 @@ impl<W: Write> Serializer<W> {
     }
 
     /// A head of a list or a map.
-    pub(crate) fn push_head(&mut self, major: u8, count: u64) -> Result<(), EncodeError<W::Error>>
+    pub(crate) fn push_head(&mut self, major: u8, count: usize) -> Result<(), EncodeError<W::Error>>
         requires { major ≤ 7 }
-        ensures { Writes (Some (head major count)) (W.written self.old) (W.written self.new) result }
+        ensures { Writes (spelled_head major count) (W.written self.old) (W.written self.new) result }
     {
-        push_head(&mut self.writer, major, count)
+        push_head(&mut self.writer, major, count as u64)
+    }
+
+    /// Bytes that are spelled already.
+    pub(crate) fn push(&mut self, bytes: &[u8]) -> Result<(), EncodeError<W::Error>>
+        ensures { Writes (Some bytes.now) (W.written self.old) (W.written self.new) result }
+    {
+        self.writer.push(bytes)
     }
 }
 

@@ -1,0 +1,70 @@
+-- A key is a text exactly where its spelling begins as one.
+use Rattle.std.proofs.Common.{◌≡◌, ℕ, ◌+◌, ◌*◌, ◌/◌, ◌<◌, List, [], ◌∷◌, ◌++◌, pos, negsuc, Option, None, Some, Bool, true, false, refl, sym, ap, ◌∙◌, arith}
+use Rattle.std.specs.Prelude.{IfSome, nat_eq, option_and_then}
+use Rattle.ipld_tree.specs.Tree.{Tree, null, boolean, integer, text, bytes, list, mapping, link, IsTree, key_of}
+use Rattle.ipld_tree.specs.Spelling.{IsFront, spelling}
+use Rattle.ipld_tree.specs.Spelled.{spelled, spelled_tree}
+use Rattle.ipld_tree.proofs.Fronts.{front_first}
+use Rattle.ipld_tree.proofs.Spelled.{spelled_is}
+use Rattle.ipld_tree.proofs.Unique.{major}
+use Rattle.dagcbor_write.specs.Gathering.{AppendsTo, Grows}
+use Rattle.dagcbor_write.specs.Maps.{begins_text, spelled_key, HoldsKey}
+
+nothing-more : (xs : List ℕ) → xs ++ [] ≡ xs
+nothing-more [] = refl
+nothing-more (x ∷ xs) = ap (λ ys. x ∷ ys) (nothing-more xs)
+
+high : (m i : ℕ) → i < 28 → (32 * m + i) / 32 ≡ m
+high m i h = omega (arith, h)
+
+begins-by : (t : Tree) (s : List ℕ) → spelled t ≡ Some s → IsTree t → begins_text s ≡ nat_eq (major t) 3
+begins-by t s e good =
+    let is = (spelled_is t s).0 e in
+    let front : IsFront s t [] = record { well_formed = good; spellable = is.0; is = is.1 ∙ sym (nothing-more (spelling t)) } in
+    let first = front_first s [] t front in
+    ap begins_text first.3 ∙ ap (λ n. nat_eq n 3) (high (major t) first.0 first.2)
+
+pub key-text : (o : Option Tree) (s : List ℕ) (b : Bool) → spelled_tree o ≡ Some s → IfSome o IsTree → b ≡ begins_text s → b ≡ true → spelled_key o ≡ Some s
+key-text None s b e g is x = cc
+key-text (Some (text k)) s b e g is x = e
+key-text (Some null) s b e g is x = let differ : true ≡ false = sym x ∙ is ∙ begins-by _ s e g in absurd (cc differ)
+key-text (Some (boolean v)) s b e g is x = let differ : true ≡ false = sym x ∙ is ∙ begins-by _ s e g in absurd (cc differ)
+key-text (Some (integer (pos n))) s b e g is x = let differ : true ≡ false = sym x ∙ is ∙ begins-by _ s e g in absurd (cc differ)
+key-text (Some (integer (negsuc n))) s b e g is x = let differ : true ≡ false = sym x ∙ is ∙ begins-by _ s e g in absurd (cc differ)
+key-text (Some (bytes v)) s b e g is x = let differ : true ≡ false = sym x ∙ is ∙ begins-by _ s e g in absurd (cc differ)
+key-text (Some (list v)) s b e g is x = let differ : true ≡ false = sym x ∙ is ∙ begins-by _ s e g in absurd (cc differ)
+key-text (Some (mapping v)) s b e g is x = let differ : true ≡ false = sym x ∙ is ∙ begins-by _ s e g in absurd (cc differ)
+key-text (Some (link v)) s b e g is x = let differ : true ≡ false = sym x ∙ is ∙ begins-by _ s e g in absurd (cc differ)
+
+pub key-no-text : (o : Option Tree) (s : List ℕ) (b : Bool) → spelled_tree o ≡ Some s → IfSome o IsTree → b ≡ begins_text s → b ≡ false → option_and_then key_of o ≡ None
+key-no-text None s b e g is x = refl
+key-no-text (Some (text k)) s b e g is x = let differ : false ≡ true = sym x ∙ is ∙ begins-by (text k) s e g in absurd (cc differ)
+key-no-text (Some null) s b e g is x = refl
+key-no-text (Some (boolean v)) s b e g is x = refl
+key-no-text (Some (integer n)) s b e g is x = refl
+key-no-text (Some (bytes v)) s b e g is x = refl
+key-no-text (Some (list v)) s b e g is x = refl
+key-no-text (Some (mapping v)) s b e g is x = refl
+key-no-text (Some (link v)) s b e g is x = refl
+
+pub key-none : (o : Option Tree) → spelled_tree o ≡ None → spelled_key o ≡ None
+key-none None e = refl
+key-none (Some (text k)) e = e
+key-none (Some null) e = refl
+key-none (Some (boolean v)) e = refl
+key-none (Some (integer n)) e = refl
+key-none (Some (bytes v)) e = refl
+key-none (Some (list v)) e = refl
+key-none (Some (mapping v)) e = refl
+key-none (Some (link v)) e = refl
+
+pub from-nothing : (o : Option (List ℕ)) (s : List ℕ) → AppendsTo [] s o → o ≡ Some s
+from-nothing None s h = absurd h
+from-nothing (Some t) s h = ap Some (sym h)
+
+-- a spelling that begins as a text is that of a key
+pub held-key : (o : Option Tree) (s : List ℕ) (b : Bool) → Grows o [] s → b ≡ begins_text s → b ≡ true → HoldsKey o (Some s)
+held-key o s b g is x = (key-text o s b (from-nothing (spelled_tree o) s g.0) g.1 is x, g.1)
+
+pub refused-key : (o : Option Tree) (s : List ℕ) (b : Bool) → Grows o [] s → b ≡ begins_text s → b ≡ false → option_and_then key_of o ≡ None
+refused-key o s b g is x = key-no-text o s b (from-nothing (spelled_tree o) s g.0) g.1 is x

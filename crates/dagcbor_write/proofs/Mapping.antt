@@ -1,0 +1,235 @@
+-- The map of pairs, by the entries that spell them.
+use Rattle.std.proofs.Common.{◌≡◌, inl, inr, ℕ, zero, suc, ◌^◌, ◌<◌, List, [], ◌∷◌, ◌++◌, length, get_or, set, map, Option, None, Some, Bool, true, false, cond, Ordering, Less, Equal, Greater, refl, sym, ap, ap₂, ◌∙◌, subst, arith, IsPermutation, is_eq}
+use Rattle.std.proofs.lemmas.Cmp.{tied_itself, nat_list_cmp_total}
+use Rattle.std.proofs.lemmas.List.Sorted.{IsPermutation-keeps, IsPermutation-refl, IsPermutation-trans, IsPermutation-swap, IsPermutation-map}
+use Rattle.std.proofs.lemmas.List.{length-map}
+use Rattle.std.proofs.lemmas.Map.Keys.{IsDistinct-IsPermutation}
+use Rattle.std.specs.Prelude.{IsUtf8, IfSome, IsSomeAnd, IsTrue, OnOk, Result, option_map, option_and_then}
+use Rattle.std.specs.Fmt.{◌++?◌}
+use Rattle.std.specs.List.{swap, AllByRecursion, IsDistinct}
+use Rattle.std.specs.List.Sorted.{IsStrictlySortedBy}
+use Rattle.std.specs.Map.{keys_of}
+use Rattle.std.specs.Ordering.{ordering_then}
+use Rattle.ipld_tree.specs.Key.{bytes_cmp, key_cmp}
+use Rattle.ipld_tree.specs.Tree.{Tree, null, boolean, integer, text, bytes, list, mapping, link, Entries, IsTree, entries_of, ordered, repeats_key, map_tree, all_some, pair_of, entries_tree}
+use Rattle.ipld_tree.specs.Spelling.{text_spelling, entry_count}
+use Rattle.ipld_tree.specs.Spelled.{spelled, spelled_entries, spelled_tree, spelled_head}
+use Rattle.ipld_tree.proofs.KeyOrder.{spelled_cmp}
+use Rattle.ipld_tree.proofs.Ordered.{AreDistinct, IsSortedList, same_place, same_place_flips, ordered_by_sort, distinct_from_test, test_from_distinct}
+use Rattle.ipld_tree.proofs.Spelled.{spelled_is}
+use Rattle.ipld_tree.proofs.WellFormed.{EachPair, IsGoodPair, are_entries}
+use Rattle.dagcbor_heads.specs.Written.{Written, Writes}
+use Rattle.dagcbor_heads.specs.declared.error.EncodeError.{EncodeError}
+use Rattle.dagcbor_write.specs.Pairwise.{Pairwise}
+use Rattle.dagcbor_write.proofs.Lists.{OnOk-of}
+use Rattle.dagcbor_write.specs.Trees.{Pair}
+use Rattle.dagcbor_write.specs.Maps.{Texts, spelled_key, AreSpellingsOf, entries_text, map_rest, RepeatsKey}
+use Rattle.dagcbor_write.specs.Order.{head_rest, entries_bytes, RepeatsNeighbour, PutsInOrder}
+
+abbrev Named : Type 0
+Named = List ℕ × Tree
+
+-- the entry is the spelling of a name and a tree
+record IsSpelledBy (p : Named) (e : Texts) : Type 0 where
+  pub key : spelled (text p.0) ≡ Some e.0
+  pub value : spelled p.1 ≡ Some e.1
+  pub good : IsUtf8 p.0 × IsTree p.1
+
+-- ---- two lists, place by place
+
+module _ {A B : Type 0} (R : A → B → Type 0) where
+  pairwise_at : (xs : List A) (ys : List B) (i : ℕ) (a : A) (b : B) → i < length xs → Pairwise R xs ys → R (get_or xs i a) (get_or ys i b)
+  pairwise_at [] ys i a b h p = absurd (omega (arith, h))
+  pairwise_at (x ∷ xs) [] i a b h p = absurd p
+  pairwise_at (x ∷ xs) (y ∷ ys) zero a b h p = p.0
+  pairwise_at (x ∷ xs) (y ∷ ys) (suc i) a b h p = pairwise_at xs ys i a b (omega (arith, h)) p.1
+
+  pairwise_set : (xs : List A) (ys : List B) (i : ℕ) (a : A) (b : B) → R a b → Pairwise R xs ys → Pairwise R (set xs i a) (set ys i b)
+  pairwise_set [] [] i a b r p = tt
+  pairwise_set [] (y ∷ ys) i a b r p = absurd p
+  pairwise_set (x ∷ xs) [] i a b r p = absurd p
+  pairwise_set (x ∷ xs) (y ∷ ys) zero a b r p = (r, p.1)
+  pairwise_set (x ∷ xs) (y ∷ ys) (suc i) a b r p = (p.0, pairwise_set xs ys i a b r p.1)
+
+  pairwise_length : (xs : List A) (ys : List B) → Pairwise R xs ys → length xs ≡ length ys
+  pairwise_length [] [] p = refl
+  pairwise_length [] (y ∷ ys) p = absurd p
+  pairwise_length (x ∷ xs) [] p = absurd p
+  pairwise_length (x ∷ xs) (y ∷ ys) p = ap suc (pairwise_length xs ys p.1)
+
+  pairwise_swap : (xs : List A) (ys : List B) (i j : ℕ) → i < length ys → j < length ys → Pairwise R xs ys → Pairwise R (swap xs i j) (swap ys i j)
+  pairwise_swap [] [] i j h k p = tt
+  pairwise_swap [] (y ∷ ys) i j h k p = absurd p
+  pairwise_swap (x ∷ xs) [] i j h k p = absurd p
+  pairwise_swap (x ∷ xs) (y ∷ ys) i j h k p =
+      let n = pairwise_length (x ∷ xs) (y ∷ ys) p in
+      let ati = pairwise_at (x ∷ xs) (y ∷ ys) i x y (omega (arith, h, n)) p in
+      let atj = pairwise_at (x ∷ xs) (y ∷ ys) j x y (omega (arith, k, n)) p in
+      pairwise_set (set (x ∷ xs) i (get_or (x ∷ xs) j x)) (set (y ∷ ys) i (get_or (y ∷ ys) j y)) j (get_or (x ∷ xs) i x) (get_or (y ∷ ys) i y) ati
+      (pairwise_set (x ∷ xs) (y ∷ ys) i (get_or (x ∷ xs) j x) (get_or (y ∷ ys) j y) atj p)
+
+  pub pairwise_push : (xs : List A) (ys : List B) (x : A) (y : B) → Pairwise R xs ys → R x y → Pairwise R (xs ++ x ∷ []) (ys ++ y ∷ [])
+  pairwise_push [] [] x y p r = (r, tt)
+  pairwise_push [] (z ∷ ys) x y p r = absurd p
+  pairwise_push (w ∷ xs) [] x y p r = absurd p
+  pairwise_push (w ∷ xs) (z ∷ ys) x y p r = (p.0, pairwise_push xs ys x y p.1 r)
+
+  -- what stands beside a list that changes places
+  pub beside : (xs : List A) (ys zs : List B) → IsPermutation ys zs → Pairwise R xs ys → (ws : List A) × IsPermutation xs ws × Pairwise R ws zs
+  beside xs ys zs moved p =
+      IsPermutation-keeps ys (λ l. (ws : List A) × IsPermutation xs ws × Pairwise R ws l) (xs, IsPermutation-refl xs, p)
+      (λ l i j h k q. let n = pairwise_length q.0 l q.2 in (swap q.0 i j, IsPermutation-trans xs q.0 (swap q.0 i j) q.1 (IsPermutation-swap q.0 (swap q.0 i j) i j (omega (arith, h, n)) (omega (arith, k, n)) refl), pairwise_swap q.0 l i j h k q.2))
+      zs moved
+
+-- ---- the pairs that have entries
+
+one : (k v : Option Tree) (e : Texts) → spelled_key k ≡ Some e.0 → spelled_tree v ≡ Some e.1 → IfSome k IsTree → IfSome v IsTree → (q : Named) × (pair_of (k, v) ≡ Some q) × IsSpelledBy q e
+one None v e h j g w = cc
+one (Some (text s)) None e h j g w = cc
+one (Some (text s)) (Some t) e h j g w = ((s, t), refl, record { key = h; value = j; good = (g, w) })
+one (Some null) v e h j g w = cc
+one (Some (boolean b)) v e h j g w = cc
+one (Some (integer n)) v e h j g w = cc
+one (Some (bytes s)) v e h j g w = cc
+one (Some (list ts)) v e h j g w = cc
+one (Some (mapping es)) v e h j g w = cc
+one (Some (link c)) v e h j g w = cc
+
+joins : (o : Option Named) (os : Option (List Named)) (q : Named) (qs : List Named) → o ≡ Some q → os ≡ Some qs → option_and_then (λ a. option_map (λ more. a ∷ more) os) o ≡ Some (q ∷ qs)
+joins o os q qs e f = ap₂ (λ x y. option_and_then (λ a. option_map (λ more. a ∷ more) y) x) e f
+
+named : (ps : List Pair) (es : List Texts) → AreSpellingsOf ps es → (qs : List Named) × (all_some (map pair_of ps) ≡ Some qs) × Pairwise IsSpelledBy qs es
+named [] [] p = ([], refl, tt)
+named [] (e ∷ es) p = absurd p
+named (p ∷ ps) [] h = absurd h
+named (p ∷ ps) (e ∷ es) h =
+    let first = one p.0 p.1 e h.0.key h.0.value h.0.good_key h.0.good_value in
+    let more = named ps es h.1 in
+    (first.0 ∷ more.0, joins (pair_of p) (all_some (map pair_of ps)) first.0 more.0 first.1 more.1, (first.2, more.2))
+
+-- ---- spelled keys compare as the names do
+
+then-equal : (o : Ordering) → ordering_then o Equal ≡ o
+then-equal Less = refl
+then-equal Equal = refl
+then-equal Greater = refl
+
+fits : (k s : List ℕ) → spelled (text k) ≡ Some s → (length k < 2 ^ 64) × (s ≡ text_spelling k)
+fits k s e = (spelled_is (text k) s).0 e
+
+nothing-more : (xs : List ℕ) → xs ++ [] ≡ xs
+nothing-more [] = refl
+nothing-more (x ∷ xs) = ap (λ ys. x ∷ ys) (nothing-more xs)
+
+keys-compare : (p q : Named) (e f : Texts) → IsSpelledBy p e → IsSpelledBy q f → bytes_cmp e.0 f.0 ≡ key_cmp p.0 q.0
+keys-compare p q e f h k =
+    let a = fits p.0 e.0 h.key in
+    let b = fits q.0 f.0 k.key in
+    ap₂ bytes_cmp (a.1 ∙ sym (nothing-more (text_spelling p.0))) (b.1 ∙ sym (nothing-more (text_spelling q.0))) ∙ spelled_cmp p.0 q.0 [] [] a.0 b.0 ∙ then-equal (key_cmp p.0 q.0)
+
+below-all : (p : Named) (e : Texts) (qs : List Named) (fs : List Texts) → IsSpelledBy p e → Pairwise IsSpelledBy qs fs → AllByRecursion (λ y. bytes_cmp e.0 y ≡ Less) (keys_of fs) → AllByRecursion (λ y. key_cmp p.0 y ≡ Less) (keys_of qs)
+below-all p e [] [] h w r = tt
+below-all p e [] (f ∷ fs) h w r = absurd w
+below-all p e (q ∷ qs) [] h w r = absurd w
+below-all p e (q ∷ qs) (f ∷ fs) h w r = (sym (keys-compare p q e f h w.0) ∙ r.0, below-all p e qs fs h w.1 r.1)
+
+sorted-names : (qs : List Named) (fs : List Texts) → Pairwise IsSpelledBy qs fs → IsStrictlySortedBy bytes_cmp (keys_of fs) → IsSortedList qs
+unfolding IsStrictlySortedBy
+sorted-names [] [] w r = tt
+sorted-names [] (f ∷ fs) w r = absurd w
+sorted-names (q ∷ qs) [] w r = absurd w
+sorted-names (q ∷ qs) (f ∷ fs) w r = (below-all q f qs fs w.0 w.1 r.0, sorted-names qs fs w.1 r.1)
+
+-- ---- the text of the entries
+
+pub Some-both : (a b : List ℕ) (x y : Option (List ℕ)) → x ≡ Some a → y ≡ Some b → x ++? y ≡ Some (a ++ b)
+Some-both a b x y e f = ap₂ (λ s t. s ++? t) e f
+
+entries-text : (qs : List Named) (fs : List Texts) → Pairwise IsSpelledBy qs fs → spelled_entries (entries_of qs) ≡ Some (entries_bytes fs)
+unfolding spelled
+entries-text [] [] w = refl
+entries-text [] (f ∷ fs) w = absurd w
+entries-text (q ∷ qs) [] w = absurd w
+entries-text (q ∷ qs) (f ∷ fs) w = Some-both f.0 (f.1 ++ entries_bytes fs) _ _ w.0.key (Some-both f.1 (entries_bytes fs) _ _ w.0.value (entries-text qs fs w.1))
+
+count-is : (qs : List Named) → entry_count (entries_of qs) ≡ length qs
+count-is [] = refl
+count-is (q ∷ qs) = ap suc (count-is qs)
+
+good-pairs : (qs : List Named) (fs : List Texts) → Pairwise IsSpelledBy qs fs → EachPair IsGoodPair qs
+good-pairs [] [] w = tt
+good-pairs [] (f ∷ fs) w = absurd w
+good-pairs (q ∷ qs) [] w = absurd w
+good-pairs (q ∷ qs) (f ∷ fs) w = (w.0.good, good-pairs qs fs w.1)
+
+-- ---- the map of the pairs
+
+tree-of : (ps : List Pair) (qs : List Named) (es : Entries) (b : Bool) → all_some (map pair_of ps) ≡ Some qs → repeats_key qs ≡ b → ordered qs ≡ es → entries_tree ps ≡ cond b None (Some (mapping es))
+tree-of ps qs es b e r o = ap (λ x. option_and_then map_tree x) e ∙ ap₂ (λ c x. cond c None (Some (mapping x))) r o
+
+text-by : (announced : Option ℕ) (ps : List Pair) (qs : List Named) (fs : List Texts) → entries_tree ps ≡ Some (mapping (entries_of qs)) → Pairwise IsSpelledBy qs fs → map_rest announced ps ≡ head_rest announced (length fs) ++? Some (entries_bytes fs)
+unfolding spelled
+text-by None ps qs fs e w = ap spelled_tree e ∙ ap₂ (λ n x. spelled_head 5 n ++? x) (count-is qs ∙ pairwise_length IsSpelledBy qs fs w) (entries-text qs fs w)
+text-by (Some n) ps qs fs e w = ap entries_text e ∙ entries-text qs fs w
+
+-- entries in the order of their keys are the map of the pairs
+pub record IsMapOf (announced : Option ℕ) (ps : List Pair) (fs : List Texts) : Type 0 where
+  pub text : map_rest announced ps ≡ head_rest announced (length fs) ++? Some (entries_bytes fs)
+  pub good : IfSome (entries_tree ps) IsTree
+
+pub in-order : (announced : Option ℕ) (ps : List Pair) (es fs : List Texts) → AreSpellingsOf ps es → PutsInOrder es fs true → IsMapOf announced ps fs
+in-order announced ps es fs h o =
+    let given = named ps es h in
+    let moved = beside IsSpelledBy given.0 es fs o.0 given.2 in
+    let sorted = ordered_by_sort given.0 moved.0 moved.1 (sorted-names moved.0 fs moved.2 o.1) in
+    let none = test_from_distinct given.0 sorted.0 in
+    let is = tree-of ps given.0 (entries_of moved.0) false given.1 none sorted.1 in
+    let as_ordered = tree-of ps given.0 (ordered given.0) false given.1 none refl in
+    let P : Option Tree → Type 0 = λ t. IfSome t IsTree in
+    record { text = text-by announced ps moved.0 fs is moved.2; good = subst P (sym as_ordered) (are_entries given.0 sorted.0 (good-pairs given.0 es given.2)) }
+
+clash : (qs : List Named) (fs : List Texts) → Pairwise IsSpelledBy qs fs → RepeatsNeighbour fs → AreDistinct qs → ⊥
+unfolding IsDistinct
+clash [] [] w r d = absurd r
+clash [] (f ∷ fs) w r d = absurd w
+clash (q ∷ qs) [] w r d = absurd w
+clash (q ∷ qs) (f ∷ []) w r d = absurd r
+clash (q ∷ []) (f ∷ g ∷ fs) w r d = absurd w.1
+clash (q ∷ p ∷ qs) (f ∷ g ∷ fs) w (inl e) d =
+    let same : key_cmp q.0 p.0 ≡ Equal = sym (keys-compare q p f g w.0 w.1.0) ∙ ap (bytes_cmp f.0) (sym e) ∙ tied_itself nat_list_cmp_total f.0 in
+    let differ : true ≡ false = sym (ap is_eq same) ∙ d.0.0 in absurd (cc differ)
+clash (q ∷ p ∷ qs) (f ∷ g ∷ fs) w (inr r) d = clash (p ∷ qs) (g ∷ fs) w.1 r d.1
+
+repeats : (b : Bool) (qs : List Named) → repeats_key qs ≡ b → (AreDistinct qs → ⊥) → b ≡ true
+repeats true qs e n = refl
+repeats false qs e n = absurd (n (distinct_from_test qs e))
+
+rest-None : (announced : Option ℕ) (ps : List Pair) → entries_tree ps ≡ None → map_rest announced ps ≡ None
+rest-None None ps e = ap spelled_tree e
+rest-None (Some n) ps e = ap entries_text e
+
+-- where a key repeats there is no map
+pub no-order : (announced : Option ℕ) (ps : List Pair) (es fs : List Texts) → AreSpellingsOf ps es → PutsInOrder es fs false → (map_rest announced ps ≡ None) × RepeatsKey ps
+no-order announced ps es fs h o =
+    let given = named ps es h in
+    let moved = beside IsSpelledBy given.0 es fs o.0 given.2 in
+    let apart : AreDistinct given.0 → ⊥ = λ d. clash moved.0 fs moved.2 o.1
+    (IsDistinct-IsPermutation same_place same_place_flips (keys_of given.0) (keys_of moved.0) (IsPermutation-map (λ p. p.0) given.0 moved.0 moved.1) d) in
+    let twice = repeats (repeats_key given.0) given.0 refl apart in
+    let P : Option (List Named) → Type 0 = λ o. IsSomeAnd o (λ named. IsTrue (repeats_key named)) in
+    (rest-None announced ps (tree-of ps given.0 (ordered given.0) true given.1 twice refl), subst P (sym given.1) (search twice))
+
+-- ---- for the end of a collector
+
+module _ (ps : List Pair) (es fs : List Texts) (b : Bool) (h : AreSpellingsOf ps es) (o : PutsInOrder es fs b) where
+  at : (c : Bool) → b ≡ c → PutsInOrder es fs c
+  at c e = subst (λ x. PutsInOrder es fs x) e o
+
+  pub in-order-written : {T E : Type 0} (announced : Option ℕ) (s t : Written) (r : Result T (EncodeError E)) → b ≡ true → Writes (head_rest announced (length fs) ++? Some (entries_bytes fs)) s t r → Writes (map_rest announced ps) s t r
+  in-order-written announced s t r e w = subst (λ x. Writes x s t r) (sym (in-order announced ps es fs h (at true e)).text) w
+
+  pub in-order-good : {T E : Type 0} (r : Result T E) → b ≡ true → OnOk r (IfSome (entries_tree ps) IsTree)
+  in-order-good r e = OnOk-of r (in-order None ps es fs h (at true e)).good
+
+  pub no-order-written : (announced : Option ℕ) → b ≡ false → (map_rest announced ps ≡ None) × RepeatsKey ps
+  no-order-written announced e = no-order announced ps es fs h (at false e)

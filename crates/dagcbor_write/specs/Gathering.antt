@@ -1,0 +1,34 @@
+-- Values that are spelled in memory before they go out.
+use Rattle.std.specs.Prelude.{◌≡◌, ℕ, List, ◌++◌, Option, None, Some, IfSome, Result, Ok, Err, ⊤}
+use Rattle.dagcbor_heads.specs.declared.error.EncodeError.{EncodeError}
+use Rattle.dagcbor_heads.specs.declared.error.EncodeError.TheVariants.{Msg, Write, OutOfMemory}
+use Rattle.ipld_tree.specs.Tree.{Tree, IsTree}
+use Rattle.ipld_tree.specs.Spelled.{spelled_tree}
+
+-- values that wait for their number: their spellings, one behind the other, and how many they are
+pub record Waiting : Type 0 where
+  pub bytes : List ℕ
+  pub count : ℕ
+
+abbrev pub AppendsTo : List ℕ → List ℕ → Option (List ℕ) → Type 0
+AppendsTo old new None = ⊥
+AppendsTo old new (Some text) = new ≡ old ++ text
+
+-- the spelling of a well-formed tree stands behind the bytes
+abbrev pub Grows : Option Tree → List ℕ → List ℕ → Type 0
+Grows tree old new = AppendsTo old new (spelled_tree tree) × IfSome tree IsTree
+
+-- the cause of this message: the tree has no spelling
+abbrev pub NoSpelling : List ℕ → Option Tree → List ℕ → Type 0
+NoSpelling message tree m = (m ≡ message) × (spelled_tree tree ≡ None)
+
+-- what was handed over was refused: with a message, only for its cause; no device can fault
+abbrev pub Refused : {E : Type 0} → (List ℕ → Type 0) → EncodeError E → Type 0
+Refused Cause (Msg m) = Cause m.now
+Refused Cause (Write e) = ⊥
+Refused Cause OutOfMemory = ⊤
+
+-- what was handed over was taken into memory, or refused
+abbrev pub Takes : {T E : Type 0} → (T → Type 0) → (List ℕ → Type 0) → Result T (EncodeError E) → Type 0
+Takes Taken Cause (Ok x) = Taken x
+Takes Taken Cause (Err e) = Refused Cause e

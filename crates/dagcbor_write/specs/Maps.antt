@@ -1,0 +1,98 @@
+-- What the collector of a map is given, holds and does.
+use Rattle.std.specs.Prelude.{◌≡◌, ◌⊎◌, ℕ, ◌/◌, Bool, true, false, ◌&&◌, is_none, nat_eq, IsTrue, List, [], ◌∷◌, ◌++◌, length, map, Option, None, Some, option_and_then, IfSome, IsSomeAnd, Result, Ok, Err, codes, ⊤}
+use Rattle.ipld_tree.specs.Tree.{Tree, text, mapping, IsTree, key_of, all_some, pair_of, repeats_key, entries_tree}
+use Rattle.ipld_tree.specs.Spelled.{spelled, spelled_entries, spelled_tree}
+use Rattle.dagcbor_write.specs.Pairwise.{Pairwise}
+use Rattle.dagcbor_write.specs.Trees.{Pair}
+use Rattle.dagcbor_write.specs.Gathering.{NoSpelling}
+
+-- the spellings of a key and of its value
+abbrev pub Texts : Type 0
+Texts = List ℕ × List ℕ
+
+-- what a map was given before its end: the spellings of its entries, in the order given, that of a key that waits for
+-- its value, and the number of entries, where the head of the map is out
+pub record Held : Type 0 where
+  pub entries : List Texts
+  pub key : Option (List ℕ)
+  pub announced : Option ℕ
+
+abbrev pub nothing_held : Option ℕ → Held
+nothing_held announced = record { entries = []; key = None; announced = announced }
+
+-- as many entries as were announced
+abbrev pub has_announced : Option ℕ → ℕ → Bool
+has_announced None n = true
+has_announced (Some m) n = nat_eq n m
+
+-- no key waits for its value, and there are as many entries as were announced
+abbrev pub is_complete : Held → Bool
+is_complete h = is_none h.key && has_announced h.announced (length h.entries)
+
+-- ---- keys and values
+
+-- whether a spelling is that of a text: major type 3
+abbrev pub begins_text : List ℕ → Bool
+begins_text [] = false
+begins_text (b ∷ bs) = nat_eq (b / 32) 3
+
+-- the spelling of a key, none where it is no text
+abbrev pub spelled_key : Option Tree → Option (List ℕ)
+spelled_key key = option_and_then (λ k. spelled (text k)) (option_and_then key_of key)
+
+-- the causes of a key's message: it has no spelling, or is no text
+abbrev pub RefusesKey : Option Tree → List ℕ → Type 0
+RefusesKey key m = NoSpelling (codes "Map key cannot be serialized.") key m ⊎ ((m ≡ codes "Map keys must be strings") × (option_and_then key_of key ≡ None))
+
+-- the cause of a value's message: it has no spelling
+abbrev pub RefusesValue : Option Tree → List ℕ → Type 0
+RefusesValue value m = NoSpelling (codes "Struct value cannot be serialized.") value m
+
+abbrev pub RefusesEntry : Option Tree → Option Tree → List ℕ → Type 0
+RefusesEntry key value m = RefusesKey key m ⊎ RefusesValue value m
+
+-- the spelling of a well-formed key waits for its value
+abbrev pub HoldsKey : Option Tree → Option (List ℕ) → Type 0
+HoldsKey key None = ⊥
+HoldsKey key (Some k) = (spelled_key key ≡ Some k) × IfSome key IsTree
+
+-- a key and a value joined the others
+abbrev pub Joins : Option (List ℕ) → Option (List ℕ) → List Texts → List Texts → Type 0
+Joins (Some key) (Some value) old new = new ≡ old ++ (key, value) ∷ []
+Joins (Some key) None old new = ⊥
+Joins None value old new = ⊥
+
+-- the key and the spelling of its well-formed value joined the others
+abbrev pub JoinsValue : Option (List ℕ) → Option Tree → List Texts → List Texts → Type 0
+JoinsValue key value old new = Joins key (spelled_tree value) old new × IfSome value IsTree
+
+-- the spellings of a well-formed key and value joined the others
+abbrev pub JoinsEntry : Option Tree → Option Tree → List Texts → List Texts → Type 0
+JoinsEntry key value old new = JoinsValue (spelled_key key) value old new × IfSome key IsTree
+
+-- ---- the end of a map
+
+-- the texts are the spellings of the pair
+pub record IsSpellingOf (p : Pair) (e : Texts) : Type 0 where
+  pub key : spelled_key p.0 ≡ Some e.0
+  pub value : spelled_tree p.1 ≡ Some e.1
+  pub good_key : IfSome p.0 IsTree
+  pub good_value : IfSome p.1 IsTree
+
+-- the texts are the spellings of the pairs, in turn
+abbrev pub AreSpellingsOf : List Pair → List Texts → Type 0
+AreSpellingsOf = Pairwise IsSpellingOf
+
+-- what follows the head of a map
+abbrev pub entries_text : Option Tree → Option (List ℕ)
+entries_text (Some (mapping es)) = spelled_entries es
+entries_text o = None
+
+-- what is still to be written of the map of the pairs: all of it, or what follows the head that was announced
+abbrev pub map_rest : Option ℕ → List Pair → Option (List ℕ)
+map_rest None ps = spelled_tree (entries_tree ps)
+map_rest (Some n) ps = entries_text (entries_tree ps)
+
+-- a key of the pairs is there twice
+abbrev pub RepeatsKey : List Pair → Type 0
+RepeatsKey ps = IsSomeAnd (all_some (map pair_of ps)) (λ named. IsTrue (repeats_key named))

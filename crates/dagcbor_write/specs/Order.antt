@@ -1,0 +1,33 @@
+-- What putting the entries of a map into key order answers.
+use Rattle.std.specs.Prelude.{◌≡◌, ◌⊎◌, ℕ, ◌+◌, ◌<◌, Bool, true, false, List, [], ◌∷◌, ◌++◌, Option, None, Some, length, slice_index_or, IsPermutation}
+use Rattle.std.specs.Map.{keys_of}
+use Rattle.std.specs.List.Sorted.{IsStrictlySortedBy}
+use Rattle.ipld_tree.specs.Key.{bytes_cmp}
+use Rattle.ipld_tree.specs.Spelled.{spelled_head}
+use Rattle.dagcbor_write.specs.Maps.{Texts}
+
+-- each key differs from the one before it, or one does not
+abbrev pub KeysDiffer : List Texts → Bool → Type 0
+KeysDiffer es true = (k : ℕ) (d : Texts) → k + 1 < length es → (slice_index_or es k d).0 ≡ (slice_index_or es (k + 1) d).0 → ⊥
+KeysDiffer es false = (k : ℕ) × (k + 1 < length es) × ((d : Texts) → (slice_index_or es k d).0 ≡ (slice_index_or es (k + 1) d).0)
+
+-- two neighbours have one key
+abbrev pub RepeatsNeighbour : List Texts → Type 0
+RepeatsNeighbour [] = ⊥
+RepeatsNeighbour (e ∷ []) = ⊥
+RepeatsNeighbour (e ∷ f ∷ es) = (e.0 ≡ f.0) ⊎ RepeatsNeighbour (f ∷ es)
+
+-- the entries were put in the order of their spelled keys, and whether each key is there once
+abbrev pub PutsInOrder : List Texts → List Texts → Bool → Type 0
+PutsInOrder old new true = IsPermutation old new × IsStrictlySortedBy bytes_cmp (keys_of new)
+PutsInOrder old new false = IsPermutation old new × RepeatsNeighbour new
+
+-- the head of a map, where it is not out yet
+abbrev pub head_rest : Option ℕ → ℕ → Option (List ℕ)
+head_rest None n = spelled_head 5 n
+head_rest (Some m) n = Some []
+
+-- the entries, one after another
+abbrev pub entries_bytes : List Texts → List ℕ
+entries_bytes [] = []
+entries_bytes (e ∷ es) = e.0 ++ (e.1 ++ entries_bytes es)

@@ -1,0 +1,91 @@
+//! Values that hold others.
+
+ghost use Rattle.std.specs.Prelude.{map, OnOk, IfSome};
+ghost use Rattle.dagcbor_heads.specs.Written.{Writes};
+ghost use Rattle.ipld_tree.specs.Spelled.{spelled_tree};
+ghost use Rattle.ipld_tree.specs.Tree.{IsTree, list_tree};
+ghost use Rattle.dagcbor_write.specs.Trees.{option_tree};
+
+use crate::serialize::Serialize;
+use crate::serializer::Serializer;
+use dagcbor_heads::{EncodeError, Write};
+use std::alloc::Global;
+
+impl<T: Serialize> Serialize for &T {
+    ghost tree = { λ v. T.tree v.now };
+
+    fn serialize<W: Write>(
+        &self,
+        alloc: Global,
+        ser: &mut Serializer<W>,
+    ) -> Result<(), EncodeError<W::Error>> {
+        Serialize::serialize(*self, alloc, ser)
+    }
+}
+
+impl<T: Serialize> Serialize for Box<T> {
+    ghost tree = { λ v. T.tree v.value };
+
+    fn serialize<W: Write>(
+        &self,
+        alloc: Global,
+        ser: &mut Serializer<W>,
+    ) -> Result<(), EncodeError<W::Error>> {
+        Serialize::serialize(&**self, alloc, ser)
+    }
+}
+
+impl<T: Serialize> Serialize for Option<T> {
+    ghost tree = { option_tree T.tree };
+
+    fn serialize<W: Write>(
+        &self,
+        alloc: Global,
+        ser: &mut Serializer<W>,
+    ) -> Result<(), EncodeError<W::Error>> {
+        match self {
+            Some(value) => ser.serialize_some(alloc, value),
+            None => ser.serialize_none(),
+        }
+    }
+}
+
+impl<T: Serialize> Serialize for Vec<T> {
+    ghost tree = { λ v. list_tree (map T.tree v.items) };
+
+    fn serialize<W: Write>(
+        &self,
+        alloc: Global,
+        ser: &mut Serializer<W>,
+    ) -> Result<(), EncodeError<W::Error>> {
+        serialize_items(alloc, self.as_slice(), ser)
+    }
+}
+
+impl<T: Serialize> Serialize for &[T] {
+    ghost tree = { λ v. list_tree (map T.tree v.now) };
+
+    fn serialize<W: Write>(
+        &self,
+        alloc: Global,
+        ser: &mut Serializer<W>,
+    ) -> Result<(), EncodeError<W::Error>> {
+        serialize_items(alloc, *self, ser)
+    }
+}
+
+/// Appends the list of the items.
+fn serialize_items<T: Serialize, W: Write>(
+    alloc: Global,
+    items: &[T],
+    ser: &mut Serializer<W>,
+) -> Result<(), EncodeError<W::Error>>
+    ensures written { Writes (spelled_tree (list_tree (map T.tree items.now))) (W.written ser.old) (W.written ser.new) result }
+    ensures well_formed { OnOk result (IfSome (list_tree (map T.tree items.now)) IsTree) }
+{
+    let mut list = ser.serialize_tuple(alloc, items.len())?;
+    for item in items {
+        list.serialize_element(item)?;
+    }
+    list.end()
+}

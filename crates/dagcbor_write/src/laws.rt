@@ -1,0 +1,8 @@
+//! Laws of the trees of values, each the contract of a function that does nothing.
+
+ghost use Rattle.dagcbor_write.specs.Laws.{OrderUnseen};
+
+/// Entries that come in another order have the same tree, and so the same spelling: a hashed map's walk does not show.
+pub fn order_unseen()
+    ensures { OrderUnseen }
+{}

@@ -1,0 +1,26 @@
+//! What can be written.
+
+ghost use Rattle.std.specs.Prelude.{Option, OnOk, IfSome};
+ghost use Rattle.dagcbor_heads.specs.Written.{Writes};
+ghost use Rattle.ipld_tree.specs.Tree.{Tree, IsTree};
+ghost use Rattle.ipld_tree.specs.Spelled.{spelled_tree};
+
+use crate::serializer::Serializer;
+use dagcbor_heads::{EncodeError, Write};
+use std::alloc::Global;
+
+/// A value that can be written.
+pub trait Serialize {
+    /// The value's tree. None where it has none, as a map whose key is a number.
+    ghost tree: { Self → Option Tree };
+
+    /// Appends the spelling of the value's tree. Refused with `Msg` only where there is none. After a refusal of a value
+    /// with a spelling a beginning of it may have gone out.
+    fn serialize<W: Write>(
+        &self,
+        alloc: Global,
+        ser: &mut Serializer<W>,
+    ) -> Result<(), EncodeError<W::Error>>
+        ensures written { Writes (spelled_tree (tree self.now)) (W.written ser.old) (W.written ser.new) result }
+        ensures well_formed { OnOk result (IfSome (tree self.now) IsTree) };
+}

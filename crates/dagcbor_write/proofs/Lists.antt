@@ -1,25 +1,16 @@
 -- The spelling of a list, by its items.
-use Rattle.std.proofs.Common.{◌≡◌, ℕ, suc, ◌+◌, List, [], ◌∷◌, length, Option, None, Some, refl, sym, ap, ◌∙◌, add-one, map, ◌<◌, get_or, drop, take, subst, ◌≤◌, ◌++◌}
+use Rattle.std.proofs.Common.{◌≡◌, ℕ, suc, ◌+◌, List, [], ◌∷◌, length, Option, None, Some, refl, sym, ap, ap₂, ◌∙◌, add-one, map, ◌<◌, get_or, drop, take, subst, ◌≤◌, ◌++◌}
 use Rattle.std.proofs.Math.Seq.{drop-cons}
 use Rattle.std.proofs.Math.ListN.{drop_of_length-le}
 use Rattle.std.proofs.lemmas.List.{length-map, take_more, take_all}
-use Rattle.std.specs.Prelude.{option_map, option_and_then, IfSome, OnOk, Result, Ok, Err, ⊤}
+use Rattle.std.specs.Prelude.{option_map, option_and_then, IfSome, OnOk, Result, Ok, Err}
 use Rattle.std.specs.Fmt.{◌++?◌}
-use Rattle.dagcbor_heads.proofs.Writing.{append-None, Written-but, begin-writing, joined}
+use Rattle.dagcbor_heads.proofs.Writing.{append-None, append-Some, Some-append, append-assoc, Written-but, begin-writing, joined}
 use Rattle.dagcbor_heads.specs.Written.{Written}
 use Rattle.ipld_tree.specs.Tree.{Tree, IsTree, AreItems, items_of, all_some, list_tree}
 use Rattle.ipld_tree.specs.Spelling.{item_count}
 use Rattle.ipld_tree.specs.Spelled.{spelled, spelled_items, spelled_tree, spelled_head}
-
--- the spellings of the trees, one behind the other
-abbrev pub spelled_each : List (Option Tree) → Option (List ℕ)
-spelled_each [] = Some []
-spelled_each (o ∷ os) = spelled_tree o ++? spelled_each os
-
--- each tree is well-formed
-abbrev pub AreTrees : List (Option Tree) → Type 0
-AreTrees [] = ⊤
-AreTrees (o ∷ os) = IfSome o IsTree × AreTrees os
+use Rattle.dagcbor_write.specs.Each.{spelled_each, AreTrees, in_turn}
 
 -- what a list of trees spells, without its head
 abbrev spelled_some : Option (List Tree) → Option (List ℕ)
@@ -68,6 +59,17 @@ spelled-each (o ∷ os) = ap (λ (x : Option (List ℕ)). spelled_tree o ++? x) 
 pub begin-list : (os : List (Option Tree)) (s : Written) → Written-but (spelled_tree (list_tree os)) (spelled_head 4 (length os) ∷ map spelled_tree os) s s
 begin-list os s = begin-writing (spelled_tree (list_tree os)) (spelled_head 4 (length os) ∷ map spelled_tree os) s (spelled-list os ∙ ap (λ (x : Option (List ℕ)). spelled_head 4 (length os) ++? x) (spelled-each os))
 
+-- the same of four lists of trees, n in all
+each-append : (xs ys : List (Option Tree)) → spelled_each (xs ++ ys) ≡ spelled_each xs ++? spelled_each ys
+each-append [] ys = sym (Some-append (spelled_each ys))
+each-append (x ∷ xs) ys = ap (λ (t : Option (List ℕ)). spelled_tree x ++? t) (each-append xs ys) ∙ sym (append-assoc (spelled_tree x) (spelled_each xs) (spelled_each ys))
+
+pub begin-parts : (a b c d : List (Option Tree)) (n : ℕ) (s : Written) → n ≡ length (in_turn a b c d) → Written-but (spelled_tree (list_tree (in_turn a b c d))) (spelled_head 4 n ∷ spelled_each a ∷ spelled_each b ∷ spelled_each c ∷ spelled_each d ∷ []) s s
+begin-parts a b c d n s e =
+    let parts : spelled_each (in_turn a b c d) ≡ joined (spelled_each a ∷ spelled_each b ∷ spelled_each c ∷ spelled_each d ∷ []) =
+    each-append a (b ++ (c ++ d)) ∙ ap (λ (x : Option (List ℕ)). spelled_each a ++? x) (each-append b (c ++ d) ∙ ap (λ (x : Option (List ℕ)). spelled_each b ++? x) (each-append c d ∙ ap (λ (x : Option (List ℕ)). spelled_each c ++? x) (sym (append-Some (spelled_each d))))) in
+    begin-writing _ _ s (spelled-list (in_turn a b c d) ∙ ap₂ (λ k (x : Option (List ℕ)). spelled_head 4 k ++? x) (sym e) parts)
+
 -- the same of the values xs, whose number is n
 pub begin-items : {A : Type 0} (tree : A → Option Tree) (xs : List A) (n : ℕ) (s : Written) → n ≡ length xs → Written-but (spelled_tree (list_tree (map tree xs))) (spelled_head 4 n ∷ map spelled_tree (map tree xs)) s s
 begin-items tree xs n s e =
@@ -106,6 +108,14 @@ list_good (Some ts) h = h
 -- a list of well-formed trees is well formed
 pub list-IsTree : (os : List (Option Tree)) → AreTrees os → IfSome (list_tree os) IsTree
 list-IsTree os h = list_good (all_some os) (trees_good os h)
+
+trees-append : (xs ys : List (Option Tree)) → AreTrees xs → AreTrees ys → AreTrees (xs ++ ys)
+trees-append [] ys h k = k
+trees-append (x ∷ xs) ys h k = (h.0, trees-append xs ys h.1 k)
+
+pub parts-IsTree : {T E : Type 0} (a b c d : List (Option Tree)) (r : Result T E) → AreTrees a → AreTrees b → AreTrees c → OnOk r (AreTrees d) → OnOk r (IfSome (list_tree (in_turn a b c d)) IsTree)
+parts-IsTree a b c d (Ok x) h k l m = list-IsTree (in_turn a b c d) (trees-append a (b ++ (c ++ d)) h (trees-append b (c ++ d) k (trees-append c d l m)))
+parts-IsTree a b c d (Err e) h k l m = tt
 
 are_trees_push : (os : List (Option Tree)) (o : Option Tree) → AreTrees os → IfSome o IsTree → AreTrees (os ++ o ∷ [])
 are_trees_push [] o h k = (k, tt)

@@ -14,6 +14,7 @@ mod maps;
 mod order;
 mod serialize;
 mod serializer;
+mod tuples;
 mod values;
 mod variants;
 mod whole;

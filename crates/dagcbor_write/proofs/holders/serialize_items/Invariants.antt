@@ -2,7 +2,7 @@ use Rattle.std.proofs.Common.{◌≡◌, ◌+◌, length, drop, take, map}
 use Rattle.dagcbor_heads.proofs.Writing.{Written-but}
 use Rattle.ipld_tree.specs.Tree.{list_tree}
 use Rattle.ipld_tree.specs.Spelled.{spelled_tree}
-use Rattle.dagcbor_write.proofs.Lists.{AreTrees}
+use Rattle.dagcbor_write.specs.Each.{AreTrees}
 use Rattle.dagcbor_write.proofs.holders.serialize_items.Given as goal
 
 abbrev pub invariant-loop-item : goal.invariant-loop-item

@@ -1,0 +1,117 @@
+//! Tuples of one to four.
+
+ghost use Rattle.std.specs.Prelude.{◌≡◌, ◌∷◌, [], List, Option, OnOk, IfSome, length};
+ghost use Rattle.dagcbor_heads.specs.Written.{Writes};
+ghost use Rattle.ipld_tree.specs.Spelled.{spelled_tree};
+ghost use Rattle.ipld_tree.specs.Tree.{Tree, IsTree, list_tree};
+ghost use Rattle.dagcbor_write.specs.Each.{spelled_each, AreTrees, in_turn};
+
+use crate::serialize::Serialize;
+use crate::serializer::Serializer;
+use dagcbor_heads::{EncodeError, Write};
+use std::alloc::Global;
+
+/// A part of a tuple, or `()` where a tuple has no such part.
+trait Part: Copy {
+    /// The part's tree, in a list of one. An empty list where there is no part.
+    ghost trees: { Self → List (Option Tree) };
+
+    /// Appends the part's spelling.
+    fn serialize_part<W: Write>(
+        self,
+        alloc: Global,
+        ser: &mut Serializer<W>,
+    ) -> Result<(), EncodeError<W::Error>>
+        ensures written { Writes (spelled_each (trees self)) (W.written ser.old) (W.written ser.new) result }
+        ensures well_formed { OnOk result (AreTrees (trees self)) };
+}
+
+impl Part for () {
+    ghost trees = { λ u. [] };
+
+    fn serialize_part<W: Write>(
+        self,
+        _alloc: Global,
+        _ser: &mut Serializer<W>,
+    ) -> Result<(), EncodeError<W::Error>> {
+        Ok(())
+    }
+}
+
+impl<T: Serialize> Part for &T {
+    ghost trees = { λ part. T.tree part.now ∷ [] };
+
+    fn serialize_part<W: Write>(
+        self,
+        alloc: Global,
+        ser: &mut Serializer<W>,
+    ) -> Result<(), EncodeError<W::Error>> {
+        self.serialize(alloc, ser)
+    }
+}
+
+/// Appends the list of the parts, whose number is `len`.
+fn serialize_parts<A: Part, B: Part, C: Part, D: Part, W: Write>(
+    alloc: Global,
+    ser: &mut Serializer<W>,
+    len: usize,
+    parts: (A, B, C, D),
+) -> Result<(), EncodeError<W::Error>>
+    requires { len ≡ length (in_turn (A.trees parts.0) (B.trees parts.1) (C.trees parts.2) (D.trees parts.3)) }
+    ensures written { Writes (spelled_tree (list_tree (in_turn (A.trees parts.0) (B.trees parts.1) (C.trees parts.2) (D.trees parts.3)))) (W.written ser.old) (W.written ser.new) result }
+    ensures well_formed { OnOk result (IfSome (list_tree (in_turn (A.trees parts.0) (B.trees parts.1) (C.trees parts.2) (D.trees parts.3))) IsTree) }
+{
+    ser.push_head(4, len)?;
+    parts.0.serialize_part(alloc, ser)?;
+    parts.1.serialize_part(alloc, ser)?;
+    parts.2.serialize_part(alloc, ser)?;
+    parts.3.serialize_part(alloc, ser)
+}
+
+impl<A: Serialize> Serialize for (A,) {
+    ghost tree = { λ p. list_tree (A.tree p.0 ∷ []) };
+
+    fn serialize<W: Write>(
+        &self,
+        alloc: Global,
+        ser: &mut Serializer<W>,
+    ) -> Result<(), EncodeError<W::Error>> {
+        serialize_parts(alloc, ser, 1, (&self.0, (), (), ()))
+    }
+}
+
+impl<A: Serialize, B: Serialize> Serialize for (A, B) {
+    ghost tree = { λ p. list_tree (A.tree p.0 ∷ B.tree p.1 ∷ []) };
+
+    fn serialize<W: Write>(
+        &self,
+        alloc: Global,
+        ser: &mut Serializer<W>,
+    ) -> Result<(), EncodeError<W::Error>> {
+        serialize_parts(alloc, ser, 2, (&self.0, &self.1, (), ()))
+    }
+}
+
+impl<A: Serialize, B: Serialize, C: Serialize> Serialize for (A, B, C) {
+    ghost tree = { λ p. list_tree (A.tree p.0 ∷ B.tree p.1 ∷ C.tree p.2 ∷ []) };
+
+    fn serialize<W: Write>(
+        &self,
+        alloc: Global,
+        ser: &mut Serializer<W>,
+    ) -> Result<(), EncodeError<W::Error>> {
+        serialize_parts(alloc, ser, 3, (&self.0, &self.1, &self.2, ()))
+    }
+}
+
+impl<A: Serialize, B: Serialize, C: Serialize, D: Serialize> Serialize for (A, B, C, D) {
+    ghost tree = { λ p. list_tree (A.tree p.0 ∷ B.tree p.1 ∷ C.tree p.2 ∷ D.tree p.3 ∷ []) };
+
+    fn serialize<W: Write>(
+        &self,
+        alloc: Global,
+        ser: &mut Serializer<W>,
+    ) -> Result<(), EncodeError<W::Error>> {
+        serialize_parts(alloc, ser, 4, (&self.0, &self.1, &self.2, &self.3))
+    }
+}

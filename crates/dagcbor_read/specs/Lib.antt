@@ -14,4 +14,5 @@ pub mod Items
 pub mod Entries
 pub mod Links
 pub mod Calls
+pub mod Reads
 pub mod Whole

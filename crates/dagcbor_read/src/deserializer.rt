@@ -17,8 +17,8 @@ use std::alloc::Global;
 /// each later reading call answers `Failed`.
 #[derive(Drop)]
 pub struct Deserializer<'de, R> {
-    input: Input<'de, R>,
-    failed: bool,
+    pub(crate) input: Input<'de, R>,
+    pub(crate) failed: bool,
 }
 
 impl<'de> Deserializer<'de, SliceReader<'de>> {
@@ -55,7 +55,7 @@ impl<'de, R: Read> Deserializer<'de, R> {
     }
 
     /// Until the call answers, it counts as refused.
-    fn begin(&mut self) -> Result<(), DecodeError<R::Error>>
+    pub(crate) fn begin(&mut self) -> Result<(), DecodeError<R::Error>>
         ensures { MatchResult result
             (λ _. ((progress R.reading self.old).failed ≡ false)
             × (progress R.reading self.new ≡ record { input = (progress R.reading self.old).input; failed = true }))

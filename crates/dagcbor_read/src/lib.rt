@@ -2,13 +2,17 @@
 #![tactic(auto)]
 
 mod any;
+mod deserialize;
 mod deserializer;
 mod key;
 mod leaf;
 mod link;
+mod shown;
 mod whole;
 
+pub use deserialize::{Deserialize, DeserializeOwned};
 pub use deserializer::Deserializer;
+pub use shown::Shown;
 pub use whole::from_slice;
 
 #[cfg(test)]

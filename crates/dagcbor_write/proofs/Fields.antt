@@ -18,7 +18,7 @@ use Rattle.ipld_tree.proofs.Spelled.{spelled_is}
 use Rattle.ipld_tree.proofs.WellFormed.{entry_count-ordered}
 use Rattle.dagcbor_write.specs.Trees.{Pair}
 use Rattle.dagcbor_write.specs.Gathering.{Refused, Takes}
-use Rattle.dagcbor_write.specs.Maps.{Texts, spelled_key, IsSpellingOf, AreSpellingsOf, Joins, JoinsValue, HoldsKey, JoinsEntry, RefusesEntry, RefusesValue, entries_text, map_rest}
+use Rattle.dagcbor_write.specs.Maps.{Texts, spelled_key, IsSpellingOf, AreSpellingsOf, Joins, JoinsEntry, RefusesEntry, RefusesValue, entries_text, map_rest}
 use Rattle.dagcbor_write.proofs.Keys.{key-none}
 use Rattle.dagcbor_write.proofs.Mapping.{pairwise_push}
 

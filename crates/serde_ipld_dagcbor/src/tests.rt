@@ -2,10 +2,16 @@
 
 mod bag;
 mod calls;
+mod color;
 mod devices;
+mod enum_struct;
 mod heads;
 mod leaves;
 mod links;
+mod mascot;
+mod my_struct;
+mod newtype;
+mod one;
 mod person;
 mod states;
 mod trees;

@@ -6,8 +6,8 @@ use Rattle.std.proofs.Math.Seq.{drop-cons}
 use Rattle.std.proofs.lemmas.List.{take-append-drop}
 use Rattle.std.specs.Fmt.{◌++?◌}
 use Rattle.std.specs.Result.{IsErrAnd}
-use Rattle.dagcbor_heads.proofs.Writing.{append-None, append-Some, Appends-nothing, Written-but, begin-writing, last-part}
-use Rattle.dagcbor_heads.specs.Written.{Written, Writes, WroteFront, Stops}
+use Rattle.dagcbor_heads.proofs.Writing.{append-None, append-Some, Appends-nothing, Written-but, begin-writing, next-part, last-part}
+use Rattle.dagcbor_heads.specs.Written.{Written, WroteAll, Writes, WroteFront, Stops}
 use Rattle.dagcbor_heads.specs.declared.error.EncodeError.{EncodeError}
 use Rattle.dagcbor_heads.specs.declared.error.EncodeError.TheVariants.{Msg, Write, OutOfMemory}
 use Rattle.ipld_tree.specs.Tree.{Tree, null, boolean, integer, text, bytes, list, mapping, link, Entries, no_entries, entry, IsTree, ordered, repeats_key, map_tree, all_some, key_of, pair_of, entries_tree}
@@ -18,7 +18,7 @@ use Rattle.ipld_tree.proofs.Spelled.{spelled_is}
 use Rattle.ipld_tree.proofs.WellFormed.{entry_count-ordered}
 use Rattle.dagcbor_write.specs.Trees.{Pair}
 use Rattle.dagcbor_write.specs.Gathering.{Refused, Takes}
-use Rattle.dagcbor_write.specs.Maps.{Texts, spelled_key, IsSpellingOf, AreSpellingsOf, Joins, JoinsValue, HoldsKey, JoinsEntry, RefusesEntry, RefusesValue, entries_text, map_rest}
+use Rattle.dagcbor_write.specs.Maps.{Texts, spelled_key, IsSpellingOf, AreSpellingsOf, Joins, JoinsEntry, RefusesEntry, RefusesValue, entries_text, map_rest}
 use Rattle.dagcbor_write.proofs.Keys.{key-none}
 use Rattle.dagcbor_write.proofs.Mapping.{pairwise_push}
 
@@ -201,11 +201,11 @@ pub end-map : {T E : Type 0} {whole : List Pair} {held : List Texts} (announced 
 end-map {T} {E} {whole} {held} announced w none s t u v r told e f =
     let P : Option ℕ → Type 0 = λ a. Writes (map_rest a whole) t u r in Writes-from (map_rest None whole) s t u v r e f (subst P none (told whole (all-given w)))
 
--- the same behind a head that is out
-pub end-struct : {T E : Type 0} {W : Option (List ℕ)} (n : ℕ) {whole : List Pair} {held : List Texts} {start s : Written} (announced : Option ℕ) → Written-but W (map_rest (Some n) whole ∷ []) start s → Given-but whole [] held → announced ≡ Some n → (t u v : Written) (r : Result T (EncodeError E))
+-- the same behind a head that went out at the beginning
+pub end-struct : {T E : Type 0} {W h : Option (List ℕ)} (n : ℕ) {whole : List Pair} {held : List Texts} {start s : Written} (announced : Option ℕ) → Written-but W (h ∷ map_rest (Some n) whole ∷ []) start start → WroteAll h start s → Given-but whole [] held → announced ≡ Some n → (t u v : Written) (r : Result T (EncodeError E))
     → ((given : List Pair) → AreSpellingsOf given held → Writes (map_rest announced given) t u r) → t ≡ s → u ≡ v → Writes W start v r
-end-struct {T} {E} {W} n {whole} {held} {start} {s} announced x w is t u v r told e f =
-    let P : Option ℕ → Type 0 = λ a. Writes (map_rest a whole) t u r in last-part x v r (Writes-from (map_rest (Some n) whole) s t u v r e f (subst P is (told whole (all-given w))))
+end-struct {T} {E} {W} {h} n {whole} {held} {start} {s} announced begun out w is t u v r told e f =
+    let P : Option ℕ → Type 0 = λ a. Writes (map_rest a whole) t u r in last-part (next-part begun s out) v r (Writes-from (map_rest (Some n) whole) s t u v r e f (subst P is (told whole (all-given w))))
 
 -- ---- for a loop that goes over the pairs
 
@@ -220,7 +220,7 @@ no-more-pairs {A} pair {whole} {held} is w = let P : List A → Type 0 = λ xs. 
 nth-split : (whole : List Pair) (k : ℕ) (d : Pair) → k < length whole → whole ≡ take k whole ++ get_or whole k d ∷ drop (suc k) whole
 nth-split whole k d h = sym (take-append-drop k whole) ∙ ap (λ x. take k whole ++ x) (drop-cons whole k d h)
 
-pub exit-field : {T E : Type 0} {W : Option (List ℕ)} {start s : Written} (n : ℕ) (whole : List Pair) → Written-but W (map_rest (Some n) whole ∷ []) start s → (k : ℕ) (d : Pair) → k < length whole → (t : Written) (r : Result T (EncodeError E)) (e : EncodeError E)
+pub exit-field : {T E : Type 0} {W h : Option (List ℕ)} {start s : Written} (n : ℕ) (whole : List Pair) → Written-but W (h ∷ map_rest (Some n) whole ∷ []) start start → WroteAll h start s → (k : ℕ) (d : Pair) → k < length whole → (t : Written) (r : Result T (EncodeError E)) (e : EncodeError E)
     → Refused (RefusesValue (get_or whole k d).1) e → IsErrAnd r (λ d. d ≡ e) → s ≡ t → Writes W start t r
-exit-field {T} {E} {W} {start} {s} n whole w k d h t r e refused is same =
-    last-part w t r (exit-unsent (map_rest (Some n) whole) s t (RefusesValue (get_or whole k d).1) r e (λ m c. ap (map_rest (Some n)) (nth-split whole k d h) ∙ no-text (Some n) (take k whole) (drop (suc k) whole) (get_or whole k d) (inr c.1)) refused is same)
+exit-field {T} {E} {W} {h} {start} {s} n whole begun out k d below t r e refused is same =
+    last-part (next-part begun s out) t r (exit-unsent (map_rest (Some n) whole) s t (RefusesValue (get_or whole k d).1) r e (λ m c. ap (map_rest (Some n)) (nth-split whole k d below) ∙ no-text (Some n) (take k whole) (drop (suc k) whole) (get_or whole k d) (inr c.1)) refused is same)

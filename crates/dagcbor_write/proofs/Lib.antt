@@ -2,6 +2,7 @@ pub mod Spelling
 pub mod Parts
 pub mod Lists
 pub mod Lengths
+pub mod Waiting
 pub mod Keys
 pub mod Sorting
 pub mod Pushing

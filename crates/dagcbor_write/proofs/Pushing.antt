@@ -4,7 +4,7 @@ use Rattle.std.proofs.Math.Seq.{drop-cons}
 use Rattle.std.proofs.Math.ListN.{drop_of_length-le}
 use Rattle.std.specs.Fmt.{◌++?◌}
 use Rattle.dagcbor_heads.specs.Written.{Written, WroteAll}
-use Rattle.dagcbor_heads.proofs.Writing.{Written-but, begin-writing, joined, append-Some, Some-append, Appends-nothing, next-part, all-written}
+use Rattle.dagcbor_heads.proofs.Writing.{Written-but, begin-writing, joined, append-Some, Appends-nothing, next-part, all-written}
 use Rattle.dagcbor_write.specs.Maps.{Texts}
 use Rattle.dagcbor_write.specs.Order.{head_rest, entries_bytes}
 

@@ -7,7 +7,7 @@ use Rattle.ipld_tree.specs.Tree.{Tree}
 use Rattle.ipld_tree.specs.Spelled.{spelled_tree, spelled_head}
 use Rattle.dagcbor_write.specs.declared.collect_seq.Items.{Items}
 use Rattle.dagcbor_write.specs.declared.collect_seq.Items.TheVariants.{Announced, Waits}
-use Rattle.dagcbor_write.specs.Gathering.{Waiting, Grows, NoSpelling, Takes}
+use Rattle.dagcbor_write.specs.Gathering.{Grows, NoSpelling, Takes}
 
 -- what goes out at the beginning of a list: its head, where the number of items is known
 abbrev pub announced_head : Option ℕ → Option (List ℕ)

@@ -1,5 +1,5 @@
 -- What the collector of a map is given, holds and does.
-use Rattle.std.specs.Prelude.{◌≡◌, ◌⊎◌, ℕ, ◌/◌, Bool, true, false, ◌&&◌, is_none, nat_eq, IsTrue, List, [], ◌∷◌, ◌++◌, length, map, Option, None, Some, option_and_then, IfSome, IsSomeAnd, Result, Ok, Err, codes, ⊤}
+use Rattle.std.specs.Prelude.{◌≡◌, ◌⊎◌, ℕ, ◌/◌, Bool, true, false, ◌&&◌, is_none, nat_eq, IsTrue, List, [], ◌∷◌, ◌++◌, length, map, Option, None, Some, option_and_then, IfSome, IsSomeAnd, codes}
 use Rattle.ipld_tree.specs.Tree.{Tree, text, mapping, IsTree, key_of, all_some, pair_of, repeats_key, entries_tree}
 use Rattle.ipld_tree.specs.Spelled.{spelled, spelled_entries, spelled_tree}
 use Rattle.dagcbor_write.specs.Pairwise.{Pairwise}

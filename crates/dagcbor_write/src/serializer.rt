@@ -64,20 +64,20 @@ impl<W: Write> Serializer<W> {
         self.writer.push(&[if v { 0xf5 } else { 0xf4 }])
     }
 
-    /// As `serialize_i64`.
+    /// As `serialize_i16`.
     pub fn serialize_i8(&mut self, v: i8) -> Result<(), EncodeError<W::Error>>
         ensures written { Writes (spelled (integer v)) (W.written self.old) (W.written self.new) result }
         ensures memory { WantsMemoryOnlyIf W.takes_memory result }
     {
-        self.serialize_i64(v as i64)
+        self.serialize_i16(v as i16)
     }
 
-    /// As `serialize_i64`.
+    /// As `serialize_i32`.
     pub fn serialize_i16(&mut self, v: i16) -> Result<(), EncodeError<W::Error>>
         ensures written { Writes (spelled (integer v)) (W.written self.old) (W.written self.new) result }
         ensures memory { WantsMemoryOnlyIf W.takes_memory result }
     {
-        self.serialize_i64(v as i64)
+        self.serialize_i32(v as i32)
     }
 
     /// As `serialize_i64`.
@@ -94,8 +94,8 @@ impl<W: Write> Serializer<W> {
         ensures written { Writes (spelled (integer v)) (W.written self.old) (W.written self.new) result }
         ensures memory { WantsMemoryOnlyIf W.takes_memory result }
     {
-        let (major, magnitude) = if v < 0 { (1, -1 - v) } else { (0, v) };
-        push_head(&mut self.writer, major, magnitude as u64)
+        let (major, argument) = if v < 0 { (1, -1 - v) } else { (0, v) };
+        push_head(&mut self.writer, major, argument as u64)
     }
 
     /// A head of major type 0 or 1. Outside -2^64 to 2^64 - 1 refused with
@@ -113,20 +113,20 @@ impl<W: Write> Serializer<W> {
         }
     }
 
-    /// As `serialize_u64`.
+    /// As `serialize_u16`.
     pub fn serialize_u8(&mut self, v: u8) -> Result<(), EncodeError<W::Error>>
         ensures written { Writes (spelled (integer (pos v))) (W.written self.old) (W.written self.new) result }
         ensures memory { WantsMemoryOnlyIf W.takes_memory result }
     {
-        self.serialize_u64(v as u64)
+        self.serialize_u16(v as u16)
     }
 
-    /// As `serialize_u64`.
+    /// As `serialize_u32`.
     pub fn serialize_u16(&mut self, v: u16) -> Result<(), EncodeError<W::Error>>
         ensures written { Writes (spelled (integer (pos v))) (W.written self.old) (W.written self.new) result }
         ensures memory { WantsMemoryOnlyIf W.takes_memory result }
     {
-        self.serialize_u64(v as u64)
+        self.serialize_u32(v as u32)
     }
 
     /// As `serialize_u64`.
@@ -212,7 +212,7 @@ impl<W: Write> Serializer<W> {
         ensures written { Writes (spelled null) (W.written self.old) (W.written self.new) result }
         ensures memory { WantsMemoryOnlyIf W.takes_memory result }
     {
-        self.serialize_none()
+        self.serialize_unit()
     }
 
     /// d8 2a, a head of major type 2, a zero byte and the binary form. Each CID has a spelling, so `Msg` is never answered.

@@ -35,7 +35,7 @@ impl<W: Write> Serializer<W> {
         ensures written { Writes (spelled_tree (T.tree value.now)) (W.written self.old) (W.written self.new) result }
         ensures well_formed { OnOk result (IfSome (T.tree value.now) IsTree) }
     {
-        value.serialize(alloc, self)
+        self.serialize_some(alloc, value)
     }
 
     /// The variant's name, as a text.
@@ -65,16 +65,16 @@ impl<W: Write> Serializer<W> {
         ensures well_formed { OnOk result (IfSome (variant_tree variant.now (T.tree value.now)) IsTree) }
     {
         self.push_variant(variant)?;
-        value.serialize(alloc, self)
+        Serialize::serialize(value, alloc, self)
     }
 
     /// The head of a map of one entry, and its key.
-    fn push_variant(&mut self, variant: &'static str) -> Result<(), EncodeError<W::Error>>
-        ensures written { Writes (variant_head variant.now) (W.written self.old) (W.written self.new) result }
-        ensures well_formed { OnOk result (IsTree (text variant.now)) }
+    fn push_variant(&mut self, name: &'static str) -> Result<(), EncodeError<W::Error>>
+        ensures written { Writes (variant_head name.now) (W.written self.old) (W.written self.new) result }
+        ensures well_formed { OnOk result (IsTree (text name.now)) }
     {
         self.push_head(5, 1)?;
-        self.serialize_str(variant)
+        self.serialize_str(name)
     }
 
     /// The same, and the head of what the variant holds.

@@ -10,7 +10,12 @@ pub use Rattle.ipld_tree.specs.Tree
 pub use Rattle.ipld_tree.specs.Ipld
 pub use Rattle.ipld_tree.specs.Spelling
 pub use Rattle.ipld_tree.specs.Spelled
+pub use Rattle.dagcbor_write.specs.Trees
 pub use Rattle.dagcbor_write.specs.Answers
+pub use Rattle.dagcbor_write.specs.Gathering
+pub use Rattle.dagcbor_write.specs.Lists
+pub use Rattle.dagcbor_write.specs.Maps
+pub use Rattle.dagcbor_write.specs.Laws
 pub use Rattle.dagcbor_read.specs.Tokens
 pub use Rattle.dagcbor_read.specs.LinkCauses
 pub use Rattle.dagcbor_read.specs.ItemCauses

@@ -2,6 +2,7 @@
 
 ghost use Rattle.serde_ipld_dagcbor.specs.RoundTrips.{ReadThenWritten, WrittenThenRead};
 
+pub use dagcbor_write::laws::order_unseen;
 pub use ipld_tree::laws::{
     cid_equality, cid_faults, equality, key_order, spelled_is_the_spelling, spelling_unique,
 };

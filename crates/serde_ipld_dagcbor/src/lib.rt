@@ -9,7 +9,7 @@ pub use dagcbor_heads::{
     pull_payload, pull_short_payload, push_head,
 };
 pub use dagcbor_read::{Deserializer, from_slice};
-pub use dagcbor_write::{Serializer, to_vec};
+pub use dagcbor_write::{BoundedCollect, CollectMap, CollectSeq, Serialize, Serializer, to_vec};
 pub use ipld_tree::{ByteSlice, Bytes, Cid, CidError, Ipld};
 
 /// The code of DAG-CBOR among the codes of formats (the multicodec table).

@@ -8,4 +8,4 @@ returns-in_err-push_head-clause-written g c = Writes-exit _ _ _ _ _ _ c.from_res
 
 pub returns-clause-written : goal.returns-clause-written
 returns-clause-written g c =
-    Writes-then (spelled_head 5 1) (spelled (text c.args.variant.now)) _ (g.W.Write.written c.push_head.new.self) _ _ c.in_ok-push_head.ensures c.serialize_str.ensures.written
+    Writes-then (spelled_head 5 1) (spelled (text c.args.name.now)) _ (g.W.Write.written c.push_head.new.self) _ _ c.in_ok-push_head.ensures c.serialize_str.ensures.written

@@ -1,0 +1,66 @@
+//! An enum written by hand: unit variants, and variants that hold one or two parts.
+
+ghost use Rattle.std.specs.Prelude.{Some, [], ◌∷◌, codes, pos};
+ghost use Rattle.ipld_tree.specs.Tree.{text, integer, list_tree};
+ghost use Rattle.dagcbor_write.specs.Trees.{variant_tree};
+ghost use Rattle.serde_ipld_dagcbor.specs.declared.tests.color.Color.TheVariants.{Red, Blue, Yellow, Other, Alpha};
+
+use crate::{EncodeError, Serialize, Serializer, Write, to_vec};
+use std::alloc::Global;
+use std::test::Fail;
+
+#[derive(Clone, Copy, Debug, PartialEq, Eq)]
+pub(crate) enum Color {
+    Red,
+    Blue,
+    Yellow,
+    Other(u64),
+    Alpha(u64, u8),
+}
+
+impl Serialize for Color {
+    ghost tree = { λ color. elim color [
+      | Red ↦ Some (text (codes "Red"))
+      | Blue ↦ Some (text (codes "Blue"))
+      | Yellow ↦ Some (text (codes "Yellow"))
+      | Other n ↦ variant_tree (codes "Other") (Some (integer (pos n)))
+      | Alpha n a ↦ variant_tree (codes "Alpha") (list_tree (Some (integer (pos n)) ∷ Some (integer (pos a)) ∷ []))
+    ] };
+
+    fn serialize<W: Write>(
+        &self,
+        alloc: Global,
+        ser: &mut Serializer<W>,
+    ) -> Result<(), EncodeError<W::Error>> {
+        match self {
+            Color::Red => ser.serialize_unit_variant("Color", 0, "Red"),
+            Color::Blue => ser.serialize_unit_variant("Color", 1, "Blue"),
+            Color::Yellow => ser.serialize_unit_variant("Color", 2, "Yellow"),
+            Color::Other(n) => ser.serialize_newtype_variant(alloc, "Color", 3, "Other", n),
+            Color::Alpha(n, alpha) => {
+                let mut parts = ser.serialize_tuple_variant(alloc, "Color", 4, "Alpha", 2)?;
+                parts.serialize_field(n)?;
+                parts.serialize_field(alpha)?;
+                parts.end()
+            }
+        }
+    }
+}
+
+#[test]
+fn variants_are_written(rt: HostRuntime) -> Result<(), Fail> {
+    let rows: [(Color, &[u8]); 5] = [
+        (Color::Red, b"\x63Red"),
+        (Color::Blue, b"\x64Blue"),
+        (Color::Yellow, b"\x66Yellow"),
+        (Color::Other(42), b"\xa1\x65Other\x18\x2a"),
+        (
+            Color::Alpha(234_567, 60),
+            b"\xa1\x65Alpha\x82\x1a\x00\x03\x94\x47\x18\x3c",
+        ),
+    ];
+    for (color, spelling) in rows {
+        assert_eq!(rt; to_vec(rt.alloc(), &color)?.as_slice(), spelling);
+    }
+    Ok(())
+}

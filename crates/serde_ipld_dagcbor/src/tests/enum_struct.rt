@@ -1,0 +1,59 @@
+//! An enum of unit variants, and a struct that holds one, written by hand.
+
+ghost use Rattle.std.specs.Prelude.{Option, Some, [], ◌∷◌, codes};
+ghost use Rattle.ipld_tree.specs.Tree.{Tree, text, entries_tree};
+ghost use Rattle.dagcbor_write.specs.Trees.{field};
+ghost use Rattle.serde_ipld_dagcbor.specs.declared.tests.enum_struct.Enum.TheVariants.{A, B};
+
+use crate::{EncodeError, Serialize, Serializer, Write, to_vec};
+use std::alloc::Global;
+use std::test::Fail;
+
+#[derive(Clone, Copy, Debug, PartialEq, Eq)]
+pub(crate) enum Enum {
+    A,
+    B,
+}
+
+impl Serialize for Enum {
+    ghost tree = { λ e. elim e [ A ↦ Some (text (codes "A")) | B ↦ Some (text (codes "B")) ] };
+
+    fn serialize<W: Write>(
+        &self,
+        _alloc: Global,
+        ser: &mut Serializer<W>,
+    ) -> Result<(), EncodeError<W::Error>> {
+        match self {
+            Enum::A => ser.serialize_unit_variant("Enum", 0, "A"),
+            Enum::B => ser.serialize_unit_variant("Enum", 1, "B"),
+        }
+    }
+}
+
+#[derive(Drop)]
+pub(crate) struct EnumStruct {
+    e: Enum,
+}
+
+impl Serialize for EnumStruct {
+    ghost tree = { λ p. entries_tree (field (codes "e") (elim p.e [ A ↦ Some (text (codes "A")) | B ↦ Some (text (codes "B")) ]) ∷ []) };
+
+    fn serialize<W: Write>(
+        &self,
+        alloc: Global,
+        ser: &mut Serializer<W>,
+    ) -> Result<(), EncodeError<W::Error>> {
+        let mut fields = ser.serialize_struct(alloc, "EnumStruct", 1)?;
+        fields.serialize_field("e", &self.e)?;
+        fields.end()
+    }
+}
+
+#[test]
+fn an_enum_in_a_struct_is_written(rt: HostRuntime) -> Result<(), Fail> {
+    let rows: [(Enum, &[u8]); 2] = [(Enum::A, b"\xa1\x61e\x61A"), (Enum::B, b"\xa1\x61e\x61B")];
+    for (e, spelling) in rows {
+        assert_eq!(rt; to_vec(rt.alloc(), &EnumStruct { e })?.as_slice(), spelling);
+    }
+    Ok(())
+}

@@ -6,5 +6,7 @@ pub mod Lists
 pub mod Pushes
 pub mod Keys
 pub mod Maps
+pub mod Passing
+pub mod Entering
 pub mod Links
 pub mod Wholes

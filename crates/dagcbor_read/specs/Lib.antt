@@ -15,4 +15,5 @@ pub mod Entries
 pub mod Links
 pub mod Calls
 pub mod Reads
+pub mod Accessors
 pub mod Whole

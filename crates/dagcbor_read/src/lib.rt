@@ -1,7 +1,9 @@
 //! Reading values from DAG-CBOR.
 #![tactic(auto)]
 
+mod accessor;
 mod any;
+mod collections;
 mod deserialize;
 mod deserializer;
 mod key;
@@ -10,6 +12,7 @@ mod link;
 mod shown;
 mod whole;
 
+pub use accessor::Accessor;
 pub use deserialize::{Deserialize, DeserializeOwned};
 pub use deserializer::Deserializer;
 pub use shown::Shown;

@@ -8,5 +8,7 @@ pub mod Keys
 pub mod Maps
 pub mod Passing
 pub mod Entering
+pub mod Answered
+pub mod ItemRows
 pub mod Links
 pub mod Wholes

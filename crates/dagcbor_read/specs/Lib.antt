@@ -16,4 +16,5 @@ pub mod Links
 pub mod Calls
 pub mod Reads
 pub mod Accessors
+pub mod Collections
 pub mod Whole

@@ -9,6 +9,8 @@ mod deserializer;
 mod key;
 mod leaf;
 mod link;
+mod row;
+mod sequences;
 mod shown;
 mod whole;
 

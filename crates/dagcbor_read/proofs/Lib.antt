@@ -10,5 +10,6 @@ pub mod Passing
 pub mod Entering
 pub mod Answered
 pub mod ItemRows
+pub mod EntryRows
 pub mod Links
 pub mod Wholes

@@ -118,9 +118,12 @@ abbrev pub after_key : {E : Type 0} → Result (Option (CowStr Global)) (DecodeE
 after_key (Ok (Some k)) c = record c { left = c.left - 1; last = Some (cow_str_bytes k); owes_value = true }
 after_key _ c = c
 
--- a value was read
+abbrev pub with_value : Begun → Begun
+with_value c = record c { owes_value = false }
+
+-- a value that was answered is to be read no more
 abbrev pub after_value : {T E : Type 0} → Result T (DecodeError E) → Begun → Begun
-after_value (Ok v) c = record c { owes_value = false }
+after_value (Ok v) c = with_value c
 after_value (Err e) c = c
 
 -- ---- ending

@@ -6,8 +6,8 @@ use Rattle.dagcbor_heads.specs.Reading.{Reading, Stays, with_steps}
 use Rattle.dagcbor_heads.specs.Refusals.{Refuses}
 use Rattle.dagcbor_heads.specs.declared.error.DecodeError.{DecodeError}
 use Rattle.ipld_tree.specs.Key.{key_cmp}
-use Rattle.ipld_tree.specs.Tree.{Tree, list, mapping, Items, no_items, item, Entries, no_entries, entry}
-use Rattle.ipld_tree.specs.Spelling.{item_count, AreFronts}
+use Rattle.ipld_tree.specs.Tree.{Tree, list, mapping, Items, no_items, item, Entries, no_entries, entry, Precedes}
+use Rattle.ipld_tree.specs.Spelling.{item_count, entry_count, AreFronts, AreEntryFronts}
 use Rattle.dagcbor_read.specs.Calls.{Progress}
 use Rattle.dagcbor_read.specs.Reads.{Anything}
 use Rattle.dagcbor_read.specs.Accessors.{Begun}
@@ -105,6 +105,35 @@ need_entries need (entry k t es) = max (need k t) (need_entries need es)
 abbrev pub need_fields : (List ℕ → Tree → ℕ) → Tree → ℕ
 need_fields need (mapping es) = 1 + need_entries need es
 need_fields need _ = 1
+
+-- the first of the entries stands after this key
+abbrev pub AllFollow : Option (List ℕ) → Entries → Type 0
+AllFollow None es = ⊤
+AllFollow (Some k) es = Precedes k es
+
+-- so many entries stand at the front, behind the last key, which show something, and their need is within the steps left
+pub record HasFields {S : Type 0} (take : S → List ℕ → Tree → Option S) (need : List ℕ → Tree → ℕ) (state : S) (last : Option (List ℕ)) (count : ℕ) (r : Reading) : Type 0 where
+  pub bytes : List ℕ
+  pub entries : Entries
+  pub rest : List ℕ
+  pub left : r.left ≡ Some bytes
+  pub counted : entry_count entries ≡ count
+  pub follow : AllFollow last entries
+  pub fronts : AreEntryFronts bytes entries rest
+  pub accepted : is_some (view_entries take state entries) ≡ true
+  pub within : need_entries need entries ≤ r.steps
+
+-- so many entries stood at the front, behind the last key, which bring the state to s, and were taken
+pub record TakesFields {S : Type 0} (take : S → List ℕ → Tree → Option S) (need : List ℕ → Tree → ℕ) (state : S) (last : Option (List ℕ)) (count : ℕ) (old : Reading) (s : S) (new : Reading) : Type 0 where
+  pub taken : (b : List ℕ) → old.left ≡ Some b
+      → (es : Entries) × (rest : List ℕ) × (entry_count es ≡ count) × AllFollow last es × AreEntryFronts b es rest × (view_entries take state es ≡ Some s) × (need_entries need es ≤ old.steps) × (new.left ≡ Some rest)
+  pub same : Stays old new
+
+-- All that is left of a map that was begun is read, and it is ended: its steps are given back.
+abbrev pub ReadsEntriesLeft : {T S E : Type 0} → (T → S) → (S → List ℕ → Tree → Option S) → (List ℕ → Tree → ℕ) → Bool → S → Begun → Progress → Result T (DecodeError E) → Progress → Type 0
+ReadsEntriesLeft held take need borrows start before old result new = MatchResult result
+    (λ v. (new.failed ≡ false) × (now : Reading) × TakesFields take need start before.last before.left old.input (held v) now × (new.input ≡ with_steps (now.steps + before.steps) now))
+    (λ e. Refuses (HasFields take need start before.last before.left old.input) ⊤ (borrows ≡ true) Anything old.input e new.input)
 
 -- what a value shows to the place of a field
 abbrev pub view_slot : {V : Type 0} → (Tree → Option V) → Tree → Option (Option V)

@@ -48,7 +48,7 @@ fn give_back<R: Read>(reader: &mut R, steps: usize)
 }
 
 impl<'de> Accessor<'de> {
-    ghost use Rattle.dagcbor_read.specs.Accessors.{begun, fresh, ReadsElement, after_element, ReadsNextKey, after_key, after_value, EndsItems};
+    ghost use Rattle.dagcbor_read.specs.Accessors.{begun, fresh, ReadsElement, after_element, ReadsNextKey, after_key, after_value, with_value, EndsItems};
 
     /// Nothing of it is read so far.
     pub(crate) fn new(name: Name, is_map: bool, announced: usize, steps: usize) -> Accessor<'de>
@@ -141,6 +141,13 @@ impl<'de> Accessor<'de> {
         let value = de.read_part(alloc)?;
         self.owes_value = false;
         Ok(value)
+    }
+
+    /// The value of the key before it was read in another way.
+    pub(crate) fn note_value(&mut self)
+        ensures { begun self.new ≡ with_value (begun self.old) }
+    {
+        self.owes_value = false;
     }
 
     /// Ends the list or map, and gives its steps back.

@@ -6,6 +6,7 @@ mod any;
 mod collections;
 mod deserialize;
 mod deserializer;
+mod fields;
 mod key;
 mod leaf;
 mod link;
@@ -17,6 +18,7 @@ mod whole;
 pub use accessor::Accessor;
 pub use deserialize::{Deserialize, DeserializeOwned};
 pub use deserializer::Deserializer;
+pub use fields::{Fields, read_fields, read_into, read_struct};
 pub use shown::Shown;
 pub use whole::from_slice;
 

@@ -11,5 +11,6 @@ pub mod Entering
 pub mod Answered
 pub mod ItemRows
 pub mod EntryRows
+pub mod KeyPlaces
 pub mod Links
 pub mod Wholes

@@ -1,5 +1,6 @@
 -- What lists and maps show to a type, and the steps that reading them takes.
-use Rattle.std.specs.Prelude.{◌≡◌, ◌||◌, ℕ, ◌+◌, ◌-◌, ◌≤◌, max, Bool, true, false, List, [], ◌∷◌, Option, None, Some, option_map, option_and_then, is_some, Result, MatchResult, ⊤}
+use Rattle.std.specs.Prelude.{◌≡◌, ◌||◌, ℕ, ◌+◌, ◌-◌, ◌≤◌, max, Bool, true, false, List, [], ◌∷◌, Option, None, Some, option_map, option_and_then, is_some, Result, MatchResult, ⊤, map, String, string_bytes}
+use Rattle.std.specs.declared.alloc.Global.{Global}
 use Rattle.std.proofs.Common.{sym, subst}
 use Rattle.std.specs.BTreeMap.{insert_entry}
 use Rattle.dagcbor_heads.specs.Reading.{Reading, Stays, with_steps}
@@ -142,6 +143,10 @@ view_slot view t = option_map Some (view t)
 -- a struct is finished from what its fields showed
 abbrev pub view_struct : {S V : Type 0} → (S → List ℕ → Tree → Option S) → S → (S → Option V) → Tree → Option V
 view_struct take start finish t = option_and_then finish (view_fields take start t)
+
+-- the keys as bytes, and what the values hold
+abbrev pub text_pairs : {A V : Type 0} → (A → V) → List (String Global × A) → List (List ℕ × V)
+text_pairs held es = map (λ e. (string_bytes e.0, held e.1)) es
 
 -- the pairs, put one by one into the order of their keys
 abbrev pub in_key_order : {V : Type 0} → List (List ℕ × V) → List (List ℕ × V)

@@ -13,6 +13,7 @@ mod link;
 mod row;
 mod sequences;
 mod shown;
+mod text_maps;
 mod whole;
 
 pub use accessor::Accessor;

@@ -1,6 +1,6 @@
 -- What calls say that answered, or were refused, on a Deserializer that had not failed.
 use Rattle.std.proofs.Common.{◌≡◌, ℕ, List, Global, ◌<◌, ◌-◌, Bool, true, false, refl, subst}
-use Rattle.std.specs.Prelude.{Option, None, Some, Result, Ok, Err, MatchBool, is_err, ⊤}
+use Rattle.std.specs.Prelude.{Option, None, Some, Result, Ok, Err, MatchBool, ⊤}
 use Rattle.std.specs.Cow.{cow_str_bytes}
 use Rattle.std.specs.declared.borrow.CowStr.{CowStr}
 use Rattle.dagcbor_heads.specs.Reading.{Reading}

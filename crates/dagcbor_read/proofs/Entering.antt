@@ -1,18 +1,16 @@
 -- Beginning a list or a map.
-use Rattle.std.proofs.Common.{◌≡◌, ℕ, ◌+◌, ◌-◌, ◌*◌, ◌/◌, ◌<◌, List, [], ◌∷◌, ◌++◌, sym, ap, ◌∙◌, arith}
-use Rattle.std.specs.Prelude.{Some, ⊤}
-use Rattle.dagcbor_heads.specs.Head.{head}
-use Rattle.dagcbor_heads.specs.Reading.{Reading, with_steps}
-use Rattle.dagcbor_heads.specs.Fronts.{HasByte, HasHead, ShowsByte, TakesHead}
-use Rattle.dagcbor_heads.specs.Causes.{ByteCause, HeadCause, IsNamed}
+use Rattle.std.proofs.Common.{◌≡◌, ℕ, ◌+◌, ◌*◌, ◌/◌, List, ◌∷◌, ◌++◌, sym, ap, ◌∙◌, arith}
+use Rattle.std.specs.Prelude.{Some}
+use Rattle.dagcbor_heads.specs.Reading.{Reading}
+use Rattle.dagcbor_heads.specs.Fronts.{HasByte, ShowsByte}
+use Rattle.dagcbor_heads.specs.Causes.{ByteCause, IsNamed}
 use Rattle.dagcbor_heads.specs.Names.{Names}
 use Rattle.dagcbor_heads.specs.Refusals.{Refuses}
 use Rattle.dagcbor_heads.specs.declared.name.Name.{Name}
 use Rattle.dagcbor_heads.specs.declared.error.DecodeError.{DecodeError}
-use Rattle.dagcbor_heads.specs.declared.error.DecodeError.TheVariants.{Eof, Mismatch, DepthOverflow}
+use Rattle.dagcbor_heads.specs.declared.error.DecodeError.TheVariants.{Eof, Mismatch}
 use Rattle.dagcbor_heads.proofs.Heads.{head_first}
-use Rattle.dagcbor_read.specs.Accessors.{HasHeadOf, Enters, BeginsAs, EnterCause}
-use Rattle.dagcbor_read.proofs.Fronts.{head_of, major_at}
+use Rattle.dagcbor_read.specs.Accessors.{HasHeadOf, EnterCause}
 use Rattle.dagcbor_read.proofs.Steps.{Steps}
 use Rattle.dagcbor_read.proofs.Passing.{SameReader, carried}
 

@@ -13,13 +13,13 @@ use Rattle.dagcbor_read.specs.Untyped.{TakesItem}
 use Rattle.dagcbor_read.specs.Entries.{Follows, HasKey, KeyStands}
 use Rattle.dagcbor_read.specs.Calls.{Progress, Call}
 use Rattle.dagcbor_read.specs.Reads.{HasFront, TakesFront, Anything, ReadsValue}
-use Rattle.dagcbor_read.specs.Accessors.{Begun, begun, HasHeadOf, Enters, EnterCause, BeginsItems}
+use Rattle.dagcbor_read.specs.Accessors.{Begun, begun, HasHeadOf, Enters, BeginsItems}
 use Rattle.dagcbor_read.specs.declared.accessor.Accessor.{Accessor}
 use Rattle.dagcbor_read.specs.Collections.{view_entries, view_fields, need_entries, need_fields, AllFollow, HasFields, TakesFields, ReadsEntriesLeft}
 use Rattle.dagcbor_read.proofs.Maps.{map_closed}
 use Rattle.dagcbor_read.proofs.Answered.{answered, KeyRead}
 use Rattle.dagcbor_read.proofs.ItemRows.{same_reader, some_first}
-use Rattle.dagcbor_read.proofs.Passing.{SameReader, carried}
+use Rattle.dagcbor_read.proofs.Passing.{carried}
 
 first_follows : (last : Option (List ℕ)) (k : List ℕ) (t : Tree) (es : Entries) → AllFollow last (entry k t es) → Follows last k
 first_follows None k t es h = tt

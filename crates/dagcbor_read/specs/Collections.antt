@@ -73,7 +73,7 @@ pub record TakesRow {V : Type 0} (view : Items → Option V) (need : Items → �
 abbrev pub ReadsRow : {T V E : Type 0} → (T → V) → (Items → Option V) → (Items → ℕ) → Bool → Begun → Progress → Result T (DecodeError E) → Begun → Progress → Type 0
 ReadsRow held view need borrows before old result after new = MatchResult result
     (λ v. (new.failed ≡ false) × (after ≡ record before { left = after.left }) × (after.left ≤ before.left)
-        × TakesRow view need (before.left - after.left) old.input (held v) new.input × (HasRow view need before.left old.input → after.left ≡ 0))
+    × TakesRow view need (before.left - after.left) old.input (held v) new.input × (HasRow view need before.left old.input → after.left ≡ 0))
     (λ e. Refuses (HasRow view need before.left old.input) ⊤ (borrows ≡ true) Anything old.input e new.input)
 
 -- All that is left of a list that was begun is read, and it is ended: its steps are given back.

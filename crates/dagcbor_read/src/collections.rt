@@ -83,11 +83,7 @@ impl<'de, R: Read> Deserializer<'de, R> {
     }
 
     /// Begins a list (4) or map (5).
-    fn begin_items(
-        &mut self,
-        name: &str,
-        major: u8,
-    ) -> Result<Accessor<'de>, DecodeError<R::Error>>
+    fn begin_items(&mut self, name: &str, major: u8) -> Result<Accessor<'de>, DecodeError<R::Error>>
         ensures { Call (BeginsItems major name.now) (progress R.reading self.old) result (progress R.reading self.new) }
     {
         self.begin()?;
@@ -104,10 +100,7 @@ impl<'de, R: Read> Deserializer<'de, R> {
     }
 
     /// Begins a list for a tuple, whose length is not looked at. Takes no memory.
-    pub fn deserialize_tuple(
-        &mut self,
-        _len: usize,
-    ) -> Result<Accessor<'de>, DecodeError<R::Error>>
+    pub fn deserialize_tuple(&mut self, _len: usize) -> Result<Accessor<'de>, DecodeError<R::Error>>
         ensures { Call (BeginsItems 4 (codes "tuple")) (progress R.reading self.old) result (progress R.reading self.new) }
     {
         self.begin_items("tuple", 4)

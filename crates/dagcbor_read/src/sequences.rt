@@ -100,7 +100,8 @@ impl<A: Shown, B: Shown, C: Shown> Shown for (A, B, C) {
     ghost borrows = { A.borrows || (B.borrows || (C.borrows || false)) };
 }
 
-impl<'de, A: Deserialize<'de>, B: Deserialize<'de>, C: Deserialize<'de>> Deserialize<'de> for (A, B, C) {
+impl<'de, A: Deserialize<'de>, B: Deserialize<'de>, C: Deserialize<'de>> Deserialize<'de>
+    for (A, B, C) {
     fn deserialize<R: Read>(
         alloc: Global,
         de: &mut Deserializer<'de, R>,
@@ -110,7 +111,12 @@ impl<'de, A: Deserialize<'de>, B: Deserialize<'de>, C: Deserialize<'de>> Deseria
     }
 }
 
-impl<'de, A: DeserializeOwned<'de>, B: DeserializeOwned<'de>, C: DeserializeOwned<'de>> DeserializeOwned<'de> for (A, B, C) {
+impl<
+    'de,
+    A: DeserializeOwned<'de>,
+    B: DeserializeOwned<'de>,
+    C: DeserializeOwned<'de>,
+> DeserializeOwned<'de> for (A, B, C) {
     ghost owned = { neither A.owned (neither B.owned (neither C.owned refl)) };
 }
 
@@ -126,7 +132,13 @@ impl<A: Shown, B: Shown, C: Shown, D: Shown> Shown for (A, B, C, D) {
     ghost borrows = { A.borrows || (B.borrows || (C.borrows || (D.borrows || false))) };
 }
 
-impl<'de, A: Deserialize<'de>, B: Deserialize<'de>, C: Deserialize<'de>, D: Deserialize<'de>> Deserialize<'de> for (A, B, C, D) {
+impl<
+    'de,
+    A: Deserialize<'de>,
+    B: Deserialize<'de>,
+    C: Deserialize<'de>,
+    D: Deserialize<'de>,
+> Deserialize<'de> for (A, B, C, D) {
     fn deserialize<R: Read>(
         alloc: Global,
         de: &mut Deserializer<'de, R>,
@@ -136,6 +148,12 @@ impl<'de, A: Deserialize<'de>, B: Deserialize<'de>, C: Deserialize<'de>, D: Dese
     }
 }
 
-impl<'de, A: DeserializeOwned<'de>, B: DeserializeOwned<'de>, C: DeserializeOwned<'de>, D: DeserializeOwned<'de>> DeserializeOwned<'de> for (A, B, C, D) {
+impl<
+    'de,
+    A: DeserializeOwned<'de>,
+    B: DeserializeOwned<'de>,
+    C: DeserializeOwned<'de>,
+    D: DeserializeOwned<'de>,
+> DeserializeOwned<'de> for (A, B, C, D) {
     ghost owned = { neither A.owned (neither B.owned (neither C.owned (neither D.owned refl))) };
 }

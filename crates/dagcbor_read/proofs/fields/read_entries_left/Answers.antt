@@ -1,5 +1,4 @@
-use Rattle.std.proofs.Common.{◌≡◌, true, option_map}
-use Rattle.std.specs.Cow.{cow_str_bytes}
+use Rattle.std.proofs.Common.{◌≡◌, true}
 use Rattle.dagcbor_heads.proofs.Refusing.{refused}
 use Rattle.dagcbor_read.specs.Accessors.{begun, EndsItems}
 use Rattle.dagcbor_read.specs.Calls.{progress}

@@ -1,8 +1,8 @@
-use Rattle.std.proofs.Common.{◌≡◌, true, ◌||◌}
+use Rattle.std.proofs.Common.{◌≡◌, true}
 use Rattle.dagcbor_heads.proofs.Refusing.{refused}
 use Rattle.dagcbor_read.specs.Accessors.{begun}
 use Rattle.dagcbor_read.specs.Calls.{progress}
-use Rattle.dagcbor_read.proofs.Answered.{element_read, no_element, element_refused, after_some}
+use Rattle.dagcbor_read.proofs.Answered.{element_read, element_refused, after_some}
 use Rattle.dagcbor_read.proofs.ItemRows.{part_refused, parts_refused, parts_taken}
 use Rattle.dagcbor_read.proofs.row.Tuple2Row.read_row.Goals as goal
 

@@ -6,5 +6,11 @@ pub mod Lists
 pub mod Pushes
 pub mod Keys
 pub mod Maps
+pub mod Passing
+pub mod Entering
+pub mod Answered
+pub mod ItemRows
+pub mod EntryRows
+pub mod KeyPlaces
 pub mod Links
 pub mod Wholes

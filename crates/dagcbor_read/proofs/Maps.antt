@@ -18,10 +18,11 @@ use Rattle.ipld_tree.proofs.Fronts.{map_opened, entry_opened, front_unique, is_m
 use Rattle.dagcbor_read.specs.ItemCauses.{Stands}
 use Rattle.dagcbor_read.specs.Untyped.{HasItem, TakesItem, StartsWithMajor}
 use Rattle.dagcbor_read.specs.Entries.{Follows, HasKey, KeyStands, HasEntries, TakesEntries}
+use Rattle.dagcbor_read.specs.Collections.{AllFollow}
 use Rattle.dagcbor_read.proofs.Rows.{behind_both, behind_head, behind_front, behind_entries, stands_behind}
 use Rattle.dagcbor_read.proofs.Fronts.{TakesHeadOf, major_of_front, as_tree}
 use Rattle.dagcbor_read.proofs.Steps.{too_deep}
-use Rattle.dagcbor_read.proofs.Pushes.{entry_push, last_key, AllFollow, entries_left, last_entry, entry_count-push, entries_need-push, last_key-push, entries_push}
+use Rattle.dagcbor_read.proofs.Pushes.{entry_push, last_key, entries_left, last_entry, entry_count-push, entries_need-push, last_key-push, entries_push}
 
 -- ---- the loop
 
@@ -158,7 +159,7 @@ pub map_refused : {E : Type 0} {stepped mid : Reading} (new : Reading) (n : ℕ)
 map_refused {E} {stepped} {mid} new n e starts h r = passed_on Stands Stands stepped mid new e h.same (map_entries starts h) (λ x. x) (λ x. x)
     (λ b l. let k = h.taken b l in (k.0, k.2, stands_behind e b k.0 (behind_head b k.0 5 n (inr refl) h.fits k.1))) r
 
-map_closed : (c rest : List ℕ) (es : Entries) → entry_count es < 2 ^ 64 → AreEntryFronts c es rest → IsFront (head 5 (entry_count es) ++ c) (mapping es) rest
+pub map_closed : (c rest : List ℕ) (es : Entries) → entry_count es < 2 ^ 64 → AreEntryFronts c es rest → IsFront (head 5 (entry_count es) ++ c) (mapping es) rest
 map_closed c rest es fits h = record {
   well_formed = h.well_formed;
   spellable = (fits, h.spellable);

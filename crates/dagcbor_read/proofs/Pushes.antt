@@ -1,6 +1,6 @@
 -- An entry behind the last one, and what a `BTreeMap` makes of a key that comes behind all others.
 use Rattle.std.proofs.Common.{◌≡◌, inl, inr, ℕ, ◌+◌, ◌≤◌, max, List, [], ◌∷◌, refl, sym, ap, ◌∙◌, subst, arith, String, Global, string_bytes, string_cmp, Ordering, Less, Equal, Greater}
-use Rattle.std.specs.Prelude.{Option, Some, None, ⊤, ◌⊎◌}
+use Rattle.std.specs.Prelude.{Option, Some, None, ◌⊎◌}
 use Rattle.std.specs.BTreeMap.{insert_entry}
 use Rattle.std.specs.List.Sorted.{IsStrictlySortedBy}
 use Rattle.std.specs.Map.{keys_of}
@@ -17,6 +17,7 @@ use Rattle.ipld_tree.proofs.WellFormed.{distinct_entries}
 use Rattle.ipld_tree.proofs.Fronts.{entry_opened, entry_closed, entries_after}
 use Rattle.dagcbor_read.specs.Tokens.{StandsBehindTokens}
 use Rattle.dagcbor_read.specs.Entries.{Follows}
+use Rattle.dagcbor_read.specs.Collections.{AllFollow}
 use Rattle.dagcbor_read.proofs.Rows.{at_front, behind_both, behind_front}
 
 -- ---- an entry behind the last one
@@ -145,11 +146,6 @@ entries_push (entry l u no_entries) k t b c d e h f g o =
 entries_push (entry l u (entry m v es)) k t b c d e h f g o =
     let p = entry_opened b c l u (entry m v es) h in
     entry_closed b p.0 _ e l u (entry m v (entry_push es k t)) p.1 p.2 p.3 (entries_push (entry m v es) k t _ c d e p.4 f g o)
-
--- the first of the entries follows this key
-abbrev pub AllFollow : Option (List ℕ) → Entries → Type 0
-AllFollow None es = ⊤
-AllFollow (Some l) es = Precedes l es
 
 -- the entries of a row that are left behind those that were read
 pub record EntriesLeft (fs es : Entries) (c rest : List ℕ) : Type 0 where

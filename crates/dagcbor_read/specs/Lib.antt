@@ -15,4 +15,6 @@ pub mod Entries
 pub mod Links
 pub mod Calls
 pub mod Reads
+pub mod Accessors
+pub mod Collections
 pub mod Whole

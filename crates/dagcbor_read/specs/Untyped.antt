@@ -6,6 +6,7 @@ use Rattle.std.specs.declared.alloc.Global.{Global}
 use Rattle.dagcbor_heads.specs.Reading.{Reading, Stays}
 use Rattle.dagcbor_heads.specs.Refusals.{Refuses}
 use Rattle.dagcbor_heads.specs.declared.error.DecodeError.{DecodeError}
+use Rattle.dagcbor_heads.specs.declared.error.DecodeError.TheVariants.{OutOfMemory}
 use Rattle.ipld_tree.specs.Tree.{Tree, text, IsTree, any_need}
 use Rattle.ipld_tree.specs.Spelling.{IsSpellable, spelling, IsFront}
 use Rattle.ipld_tree.specs.Ipld.{tree_of}
@@ -36,6 +37,11 @@ abbrev pub ReadsItem : {E : Type 0} → ℕ → Reading → Result Ipld (DecodeE
 ReadsItem spent old result new = MatchResult result
     (λ v. TakesItem spent old (tree_of v) new)
     (λ e. Refuses (HasItem spent old) ⊤ ⊥ Stands old e new)
+
+-- memory is lacking only in this case
+abbrev pub LacksOnlyIf : {E : Type 0} → Type 0 → DecodeError E → Type 0
+LacksOnlyIf lacks OutOfMemory = lacks
+LacksOnlyIf lacks _ = ⊤
 
 -- A text is read exactly where one stands.
 abbrev pub ReadsText : {E : Type 0} → Reading → Result (CowStr Global) (DecodeError E) → Reading → Type 0

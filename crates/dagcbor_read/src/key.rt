@@ -1,9 +1,10 @@
 //! Reading the keys of maps: texts, each behind the one before it.
 
-ghost use Rattle.std.specs.Prelude.{◌≡◌, ◌↔◌, IsTrue, option_map};
-ghost use Rattle.std.specs.Cow.{cow_str_bytes};
+ghost use Rattle.std.specs.Prelude.{◌≡◌, ◌↔◌, true, false, IfOk, IfErr, IsTrue, option_map};
+ghost use Rattle.std.specs.Cow.{cow_str_bytes, IsBorrowedStr};
 ghost use Rattle.dagcbor_heads.specs.Inputs.{input_reading};
 ghost use Rattle.ipld_tree.specs.Key.{comes_before};
+ghost use Rattle.dagcbor_read.specs.Untyped.{LacksOnlyIf};
 ghost use Rattle.dagcbor_read.specs.Entries.{Follows, ReadsKey};
 
 use crate::leaf::pull_text;
@@ -34,7 +35,9 @@ pub(crate) fn read_key<'de, R: Read>(
     input: &mut Input<'de, R>,
     previous: &Option<CowStr<'de>>,
 ) -> Result<CowStr<'de>, DecodeError<R::Error>>
-    ensures { ReadsKey (option_map cow_str_bytes previous.now) (input_reading R.reading input.old) result (input_reading R.reading input.new) }
+    ensures key { ReadsKey (option_map cow_str_bytes previous.now) (input_reading R.reading input.old) result (input_reading R.reading input.new) }
+    ensures lent { IfOk result (λ k. IsBorrowedStr k ↔ ((input_reading R.reading input.old).lends ≡ true)) }
+    ensures memory { IfErr result (LacksOnlyIf ((input_reading R.reading input.old).lends ≡ false)) }
 {
     let first = peek_one("map key", input)?;
     if first / 32 != 3 {

@@ -1,10 +1,10 @@
 //! Reading leaves other than links.
 
-ghost use Rattle.std.specs.Prelude.{◌≡◌, ◌/◌, ◌↔◌, true, IfOk, IfSome, MatchOption, IsUtf8};
+ghost use Rattle.std.specs.Prelude.{◌≡◌, ◌/◌, ◌↔◌, true, false, IfOk, IfErr, IfSome, MatchOption, IsUtf8};
 ghost use Rattle.std.specs.Cow.{cow_slice_items, cow_str_bytes, IsBorrowedSlice, IsBorrowedStr};
 ghost use Rattle.dagcbor_heads.specs.Inputs.{input_reading};
 ghost use Rattle.dagcbor_heads.specs.Fronts.{StartsWith};
-ghost use Rattle.dagcbor_read.specs.Untyped.{ReadsItem, ReadsText, StartsWithMajor, IsSimple};
+ghost use Rattle.dagcbor_read.specs.Untyped.{ReadsItem, ReadsText, LacksOnlyIf, StartsWithMajor, IsSimple};
 
 use dagcbor_heads::{DecodeError, Input, Name, Read, pull_head, pull_one, pull_payload};
 use ipld_tree::Ipld;
@@ -70,6 +70,7 @@ pub(crate) fn pull_text<'de, R: Read>(
     requires { StartsWithMajor (input_reading R.reading input.old) 3 }
     ensures text { ReadsText (input_reading R.reading input.old) result (input_reading R.reading input.new) }
     ensures lent { IfOk result (λ s. IsBorrowedStr s ↔ ((input_reading R.reading input.old).lends ≡ true)) }
+    ensures memory { IfErr result (LacksOnlyIf ((input_reading R.reading input.old).lends ≡ false)) }
 {
     let (_, count, _) = pull_head(name, input)?;
     let payload = pull_payload(alloc, name, input, count)?;

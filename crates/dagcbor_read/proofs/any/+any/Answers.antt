@@ -75,17 +75,17 @@ read_entries-loop-index-init g t c =
 
 pub read_entries-returns-in_err-key : goal.read_entries-returns-in_err-key
 read_entries-returns-in_err-key g t c =
-    refused _ _ _ _ c.from_residual.ensures.1 (maps.next_key_refused _ _ (omega arith) c.loop-index.invariant c.in_err-key.ensures)
+    refused _ _ _ _ c.from_residual.ensures.1 (maps.next_key_refused _ _ (omega arith) c.loop-index.invariant c.in_err-key.ensures.key)
 
 pub read_entries-returns-in_err-value : goal.read_entries-returns-in_err-value
 read_entries-returns-in_err-value g t c =
-    refused _ _ _ _ c.from_residual-in_err-value.ensures.1 (maps.next_value_refused _ _ _ (omega arith) c.loop-index.invariant c.in_ok-key.ensures.1 c.in_err-value.ensures)
+    refused _ _ _ _ c.from_residual-in_err-value.ensures.1 (maps.next_value_refused _ _ _ (omega arith) c.loop-index.invariant c.in_ok-key.ensures.key.1 c.in_err-value.ensures)
 
 pub read_entries-loop-index-preserved : goal.read_entries-loop-index-preserved
 read_entries-loop-index-preserved g t c =
     let put = maps.on_ok _ _ c.if-is_err.ensures.value c.insert.ensures.entries in
-    let follows = c.in_ok-key.ensures.0 in
+    let follows = c.in_ok-key.ensures.key.0 in
     let behind = maps.behind_last _ c.loop-index.invariant follows in
     let same = c.in-Ok.ensures.ok ∙ c.as_str.ensures.value in
     let pushed = ordered_push _ _ _ _ put c.insert.ensures.was_ordered c.insert.ensures.ordered (follows_as _ _ _ (sym same) behind) in
-    maps.one_read _ _ _ _ (pushed_as _ _ _ _ _ same pushed) refl (omega arith) c.loop-index.invariant follows c.in_ok-key.ensures.1 c.in_ok-value.ensures
+    maps.one_read _ _ _ _ (pushed_as _ _ _ _ _ same pushed) refl (omega arith) c.loop-index.invariant follows c.in_ok-key.ensures.key.1 c.in_ok-value.ensures

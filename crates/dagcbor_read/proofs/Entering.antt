@@ -1,0 +1,54 @@
+-- Beginning a list or a map.
+use Rattle.std.proofs.Common.{◌≡◌, ℕ, ◌+◌, ◌*◌, ◌/◌, List, ◌∷◌, ◌++◌, sym, ap, ◌∙◌, arith}
+use Rattle.std.specs.Prelude.{Some}
+use Rattle.dagcbor_heads.specs.Reading.{Reading}
+use Rattle.dagcbor_heads.specs.Fronts.{HasByte, ShowsByte}
+use Rattle.dagcbor_heads.specs.Causes.{ByteCause, IsNamed}
+use Rattle.dagcbor_heads.specs.Names.{Names}
+use Rattle.dagcbor_heads.specs.Refusals.{Refuses}
+use Rattle.dagcbor_heads.specs.declared.name.Name.{Name}
+use Rattle.dagcbor_heads.specs.declared.error.DecodeError.{DecodeError}
+use Rattle.dagcbor_heads.specs.declared.error.DecodeError.TheVariants.{Eof, Mismatch}
+use Rattle.dagcbor_heads.proofs.Heads.{head_first}
+use Rattle.dagcbor_read.specs.Accessors.{HasHeadOf, EnterCause}
+use Rattle.dagcbor_read.proofs.Steps.{Steps}
+use Rattle.dagcbor_read.proofs.Passing.{SameReader, carried}
+
+pub same_stepped : {old stepped : Reading} → Steps old stepped → SameReader old stepped
+same_stepped s = record { faults = ap (λ (r : Reading). r.faults) s.is; lends = ap (λ (r : Reading). r.lends) s.is }
+
+left_stepped : {old stepped : Reading} → Steps old stepped → stepped.left ≡ old.left
+left_stepped s = ap (λ (r : Reading). r.left) s.is
+
+-- a head begins with a byte of its major type
+record BeginsHead (major : ℕ) (r : Reading) : Type 0 where
+  first : ℕ
+  more : List ℕ
+  left : r.left ≡ Some (first ∷ more)
+  is_major : first / 32 ≡ major
+
+begins_head : {major : ℕ} {r : Reading} → HasHeadOf major r → BeginsHead major r
+begins_head {major} h =
+    let f = head_first major h.count h.fits in
+    record { first = 32 * major + f.0; more = f.1 ++ h.rest; left = h.left ∙ ap (λ s. Some (s ++ h.rest)) f.3; is_major = omega (arith, f.2) }
+
+pub no_byte_entered : {E : Type 0} {old stepped : Reading} (major : ℕ) (name : List ℕ) (new : Reading) (e : DecodeError E) → Steps old stepped → IsNamed name e
+    → Refuses (HasByte stepped) ⊥ ⊥ ByteCause stepped e new → Refuses (HasHeadOf major old) ⊥ ⊥ (EnterCause major name) old e new
+no_byte_entered {E} {old} {stepped} major name new e s named r = carried ByteCause (EnterCause major name) old stepped new e (same_stepped s)
+    (λ h. let b = begins_head h in record { byte = b.first; rest = b.more; left = left_stepped s ∙ b.left }) (λ x. x) (λ x. x)
+    (λ b l f. cause e b named (f b (left_stepped s ∙ l))) r
+  where
+    cause : (e : DecodeError E) (b : List ℕ) → IsNamed name e → ByteCause e b → EnterCause major name e b
+    cause (Eof n expect) b named h = (rw h.1 h.0, named, λ first more is. absurd (cc (is, h.1)))
+    cause _ b named h = absurd h
+
+pub other_major : (E : Type 0) {old stepped peeked : Reading} {first major : ℕ} {text : List ℕ} (name : Name) → Steps old stepped → Names name text → ShowsByte stepped first peeked → (first / 32 ≡ major → ⊥)
+    → Refuses {E = E} (HasHeadOf major old) ⊥ ⊥ (EnterCause major text) old (Mismatch name first) peeked
+other_major E {old} {stepped} {peeked} {first} name s named h other = (
+  h.same.faults ∙ ap (λ (r : Reading). r.faults) s.is,
+  λ i. let b = begins_head i in
+      let k = h.starts (b.first ∷ b.more) (left_stepped s ∙ b.left) in
+      let same : b.first ≡ first = cc k.1 in
+      other (ap (λ x. x / 32) (sym same) ∙ b.is_major),
+  λ b l. let k = h.starts b (left_stepped s ∙ l) in (named, (k.0, k.1, other)),
+)

@@ -1,0 +1,284 @@
+-- Rows of items, read one by one.
+use Rattle.std.proofs.Common.{◌≡◌, ℕ, ◌+◌, ◌-◌, ◌<◌, ◌≤◌, max, List, [], ◌∷◌, ◌++◌, Bool, true, false, ◌||◌, refl, sym, ap, ◌∙◌, subst, arith, append_assoc, append-nil}
+use Rattle.std.specs.Prelude.{Option, None, Some, is_some, option_map, option_and_then, Result, Ok, Err, ⊤}
+use Rattle.dagcbor_heads.specs.Head.{head}
+use Rattle.dagcbor_heads.specs.Reading.{Reading, Stays, with_steps}
+use Rattle.dagcbor_heads.specs.Refusals.{Refuses}
+use Rattle.dagcbor_heads.specs.declared.error.DecodeError.{DecodeError}
+use Rattle.dagcbor_heads.specs.declared.error.DecodeError.TheVariants.{LengthMismatch}
+use Rattle.dagcbor_heads.proofs.Taking.{stays, stays_both}
+use Rattle.ipld_tree.specs.Tree.{Tree, null, boolean, integer, text, bytes, list, mapping, link, Items, no_items, item}
+use Rattle.ipld_tree.specs.Spelling.{item_count, items_spelling, IsFront, AreFronts}
+use Rattle.ipld_tree.proofs.Fronts.{list_opened, list_closed, item_opened, item_closed, items_after}
+use Rattle.dagcbor_read.specs.Calls.{Progress, Call}
+use Rattle.dagcbor_read.specs.Reads.{HasFront, TakesFront, Anything, ReadsValue}
+use Rattle.dagcbor_read.specs.Accessors.{Begun, begun, HasHeadOf, Enters, EnterCause, BeginsItems, LeavesUnread}
+use Rattle.dagcbor_read.specs.declared.accessor.Accessor.{Accessor}
+use Rattle.dagcbor_read.specs.Collections.{view_list, need_list, view_items, need_items, view_none, need_none, view_first, need_first, HasRow, TakesRow, ReadsRest}
+use Rattle.dagcbor_read.proofs.Answered.{answered, call_refused}
+use Rattle.dagcbor_read.proofs.Passing.{SameReader, carried}
+
+pub same_reader : {old new : Reading} → Stays old new → SameReader old new
+same_reader h = record { faults = h.faults; lends = h.lends }
+
+-- ---- options
+
+pub some_first : {A B : Type 0} (f : A → Option B) (o : Option A) → is_some (option_and_then f o) ≡ true → is_some o ≡ true
+some_first f None e = absurd (cc e)
+some_first f (Some a) e = refl
+
+some_second : {A B C : Type 0} (f : A → B → C) (o : Option A) (p : Option B) → is_some (option_and_then (λ a. option_map (f a) p) o) ≡ true → is_some p ≡ true
+some_second f None p e = absurd (cc e)
+some_second f (Some a) None e = absurd (cc e)
+some_second f (Some a) (Some b) e = refl
+
+-- ---- no item
+
+pub nothing_taken : {old : Reading} {count : ℕ} → count ≡ 0 → TakesRow view_none need_none count old tt old
+nothing_taken {old} e = record { taken = λ b l. (no_items, b, sym e, record { well_formed = tt; spellable = tt; is = refl }, refl, omega arith, l); same = stays old }
+
+pub none_left : {r : Reading} {count : ℕ} → HasRow view_none need_none count r → count ≡ 0
+none_left {r} {count} h = by h.items h.counted h.accepted
+  where
+    by : (ts : Items) → item_count ts ≡ count → is_some (view_none ts) ≡ true → count ≡ 0
+    by no_items e a = sym e
+    by (item t ts) e a = absurd (cc a)
+
+-- ---- an item before others
+
+module _ {V W U : Type 0} (view : Tree → Option V) (need : Tree → ℕ) (others : Items → Option W) (others_need : Items → ℕ) (f : V → W → U) (whole : Items → Option U) (whole_need : Items → ℕ)
+    (shows : (t : Tree) (ts : Items) → whole (item t ts) ≡ option_and_then (λ v. option_map (f v) (others ts)) (view t))
+    (needs : (t : Tree) (ts : Items) → whole_need (item t ts) ≡ max (need t) (others_need ts)) where
+  pub row_first : {r : Reading} {count : ℕ} → 0 < count → HasRow whole whole_need count r → HasFront view need r
+  row_first {r} {count} some h = by h.items h.counted h.fronts h.accepted h.within
+    where
+      by : (ts : Items) → item_count ts ≡ count → AreFronts h.bytes ts h.rest → is_some (whole ts) ≡ true → whole_need ts ≤ r.steps → HasFront view need r
+      by no_items e k a w = absurd (omega (arith, e, some))
+      by (item t ts) e k a w = record {
+        bytes = h.bytes;
+        tree = t;
+        rest = items_spelling ts ++ h.rest;
+        left = h.left;
+        front = (item_opened h.bytes h.rest t ts k).0;
+        accepted = some_first (λ v. option_map (f v) (others ts)) (view t) (ap is_some (sym (shows t ts)) ∙ a);
+        within = omega (arith, w, needs t ts);
+      }
+
+  pub row_others : {old new : Reading} {count : ℕ} {v : V} → 0 < count → TakesFront view need old v new → HasRow whole whole_need count old → HasRow others others_need (count - 1) new
+  row_others {old} {new} {count} {v} some a h = by h.items h.counted h.fronts h.accepted h.within
+    where
+      by : (ts : Items) → item_count ts ≡ count → AreFronts h.bytes ts h.rest → is_some (whole ts) ≡ true → whole_need ts ≤ old.steps → HasRow others others_need (count - 1) new
+      by no_items e k a w = absurd (omega (arith, e, some))
+      by (item u us) e k ok w =
+          let t = a.taken h.bytes h.left in
+          let more = items_after h.bytes t.1 h.rest t.0 u us t.2 k in
+          record {
+            bytes = t.1;
+            items = us;
+            rest = h.rest;
+            left = t.5;
+            counted = omega (arith, e);
+            fronts = more.1;
+            accepted = some_second f (view u) (others us) (ap is_some (sym (shows u us)) ∙ ok);
+            within = omega (arith, w, needs u us, a.same.steps);
+          }
+
+  pub row_taken : {old mid new : Reading} {count : ℕ} {v : V} {w : W} → TakesFront view need old v mid → TakesRow others others_need count mid w new → TakesRow whole whole_need (count + 1) old (f v w) new
+  row_taken {old} {mid} {new} {count} {v} {w} a o = record {
+    taken = λ b l.
+        let t = a.taken b l in
+        let ts = o.taken t.1 t.5 in (
+          item t.0 ts.0,
+          ts.1,
+          omega (arith, ts.2),
+          item_closed b t.1 ts.1 t.0 ts.0 t.2 ts.3,
+          shows t.0 ts.0 ∙ ap (option_and_then (λ v. option_map (f v) (others ts.0))) t.3 ∙ ap (option_map (f v)) ts.4,
+          omega (arith, needs t.0 ts.0, t.4, ts.5, a.same.steps),
+          ts.6,
+        );
+    same = stays_both a.same o.same;
+  }
+
+pub as_row : {V : Type 0} {view : Items → Option V} {need : Items → ℕ} {old new : Reading} {count count' : ℕ} (v w : V) → count ≡ count' → v ≡ w → TakesRow view need count old v new → TakesRow view need count' old w new
+as_row {V} {view} {need} {old} {new} {count} {count'} v w e i h = subst (λ x. TakesRow view need count' old x new) i (subst (λ n. TakesRow view need n old v new) e h)
+
+-- ---- a part before other parts
+
+or_left : (a b : Bool) → a ≡ true → (a || b) ≡ true
+or_left true b e = refl
+or_left false b e = absurd (cc e)
+
+or_right : (a b : Bool) → b ≡ true → (a || b) ≡ true
+or_right true b e = refl
+or_right false b e = e
+
+module _ {V W : Type 0} (view : Tree → Option V) (need : Tree → ℕ) (others : Items → Option W) (others_need : Items → ℕ) where
+  module _ (borrows others_borrow : Bool) where
+    pub part_refused : {E : Type 0} {count : ℕ} (old new : Reading) (e : DecodeError E) → 0 < count → Refuses (HasFront view need old) ⊤ (borrows ≡ true) Anything old e new
+        → Refuses (HasRow (view_first view others) (need_first need others_need) count old) ⊤ ((borrows || others_borrow) ≡ true) Anything old e new
+    part_refused {E} {count} old new e some r = carried Anything Anything old old new e (same_reader (stays old))
+        (row_first view need others others_need (λ v w. (v, w)) (view_first view others) (need_first need others_need) (λ t ts. refl) (λ t ts. refl) some) (λ x. x) (or_left borrows others_borrow) (λ b l g. tt) r
+
+    pub parts_refused : {E : Type 0} {before after : Begun} {old mid : Reading} {v : V} (new : Reading) (e : DecodeError E) → 0 < before.left → after ≡ record before { left = before.left - 1 } → TakesFront view need old v mid
+        → Refuses (HasRow others others_need after.left mid) ⊤ (others_borrow ≡ true) Anything mid e new
+        → Refuses (HasRow (view_first view others) (need_first need others_need) before.left old) ⊤ ((borrows || others_borrow) ≡ true) Anything old e new
+    parts_refused {E} {before} {after} {old} {mid} new e some is a r = carried Anything Anything old mid new e (same_reader a.same)
+        (λ h. subst (λ n. HasRow others others_need n mid) (sym (ap (λ (c : Begun). c.left) is))
+        (row_others view need others others_need (λ v w. (v, w)) (view_first view others) (need_first need others_need) (λ t ts. refl) (λ t ts. refl) some a h)) (λ x. x) (or_right borrows others_borrow) (λ b l g. tt) r
+
+  pub parts_taken : {before now_left after : Begun} {old mid : Reading} {new : Progress} {v : V} {w : W} → 0 < before.left → now_left ≡ record before { left = before.left - 1 } → TakesFront view need old v mid
+      → (new.failed ≡ false) × (after ≡ record now_left { left = after.left }) × (after.left ≤ now_left.left) × TakesRow others others_need (now_left.left - after.left) mid w new.input × (HasRow others others_need now_left.left mid → after.left ≡ 0)
+      → (new.failed ≡ false) × (after ≡ record before { left = after.left }) × (after.left ≤ before.left) × TakesRow (view_first view others) (need_first need others_need) (before.left - after.left) old (v, w) new.input
+      × (HasRow (view_first view others) (need_first need others_need) before.left old → after.left ≡ 0)
+  parts_taken {before} {now_left} {after} {old} {mid} {new} {v} {w} some is a r =
+      let less : now_left.left ≡ before.left - 1 = ap (λ (c : Begun). c.left) is in (
+        r.0,
+        r.1 ∙ ap (λ (c : Begun). record c { left = after.left }) is,
+        omega (arith, less, r.2),
+        as_row (v, w) (v, w) (omega (arith, less, some, r.2)) refl (row_taken view need others others_need (λ v w. (v, w)) (view_first view others) (need_first need others_need) (λ t ts. refl) (λ t ts. refl) a r.3),
+        λ h. r.4 (subst (λ n. HasRow others others_need n mid) (sym less) (row_others view need others others_need (λ v w. (v, w)) (view_first view others) (need_first need others_need) (λ t ts. refl) (λ t ts. refl) some a h)),
+      )
+
+-- ---- items of one type
+
+module _ {V : Type 0} (view : Tree → Option V) (need : Tree → ℕ) where
+  -- some items were read, which show vs: those behind them show the others
+  pub record ReadSoFar (before : Begun) (old : Progress) (now_left : Begun) (vs : List V) (now : Progress) : Type 0 where
+    pub sound : now.failed ≡ false
+    pub is : now_left ≡ record before { left = now_left.left }
+    pub fewer : now_left.left ≤ before.left
+    pub same : Stays old.input now.input
+    pub has : HasRow (view_items view) (need_items need) before.left old.input → HasRow (view_items view) (need_items need) now_left.left now.input
+    pub takes : (count : ℕ) (ws : List V) (new : Reading) → TakesRow (view_items view) (need_items need) count now.input ws new
+        → TakesRow (view_items view) (need_items need) (count + (before.left - now_left.left)) old.input (vs ++ ws) new
+
+  pub none_so_far : (before : Begun) (old : Progress) (vs : List V) → old.failed ≡ false → vs ≡ [] → ReadSoFar before old before vs old
+  none_so_far before old vs f e = subst (λ x. ReadSoFar before old before x old) (sym e) record {
+    sound = f;
+    is = refl;
+    fewer = omega arith;
+    same = stays old.input;
+    has = λ h. h;
+    takes = λ count ws new t. as_row ws ws (omega arith) refl t;
+  }
+
+  first_of : {r : Reading} {count : ℕ} → 0 < count → HasRow (view_items view) (need_items need) count r → HasFront view need r
+  first_of = row_first view need (view_items view) (need_items need) (λ v vs. v ∷ vs) (view_items view) (need_items need) (λ t ts. refl) (λ t ts. refl)
+
+  pub one_more : {before now_left after : Begun} {old now new : Progress} {v : V} (vs ws : List V) → ReadSoFar before old now_left vs now → 0 < now_left.left → after ≡ record now_left { left = now_left.left - 1 } → new.failed ≡ false
+      → TakesFront view need now.input v new.input → ws ≡ vs ++ v ∷ [] → ReadSoFar before old after ws new
+  one_more {before} {now_left} {after} {old} {now} {new} {v} vs ws s some is f a e =
+      let less : after.left ≡ now_left.left - 1 = ap (λ (c : Begun). c.left) is in
+      subst (λ x. ReadSoFar before old after x new) (sym e) record {
+        sound = f;
+        is = is ∙ ap (λ (c : Begun). record c { left = now_left.left - 1 }) s.is ∙ ap (λ n. record before { left = n }) (sym less);
+        fewer = omega (arith, less, s.fewer);
+        same = stays_both s.same a.same;
+        has = λ h. subst (λ n. HasRow (view_items view) (need_items need) n new.input) (sym less)
+            (row_others view need (view_items view) (need_items need) (λ v vs. v ∷ vs) (view_items view) (need_items need) (λ t ts. refl) (λ t ts. refl) some a (s.has h));
+        takes = λ count xs end t. as_row (vs ++ (v ∷ xs)) ((vs ++ v ∷ []) ++ xs) (omega (arith, less, some, s.fewer)) (sym (append_assoc vs (v ∷ []) xs))
+            (s.takes (count + 1) (v ∷ xs) end (row_taken view need (view_items view) (need_items need) (λ v vs. v ∷ vs) (view_items view) (need_items need) (λ t ts. refl) (λ t ts. refl) a t));
+      }
+
+  pub none_more : {before now_left after : Begun} {old now new : Progress} (vs : List V) → ReadSoFar before old now_left vs now → now_left.left ≡ 0 → after ≡ now_left → new.failed ≡ false → new.input ≡ now.input
+      → (new.failed ≡ false) × (after ≡ record before { left = after.left }) × (after.left ≤ before.left) × TakesRow (view_items view) (need_items need) (before.left - after.left) old.input vs new.input
+      × (HasRow (view_items view) (need_items need) before.left old.input → after.left ≡ 0)
+  none_more {before} {now_left} {after} {old} {now} {new} vs s none is f same =
+      let end : TakesRow (view_items view) (need_items need) 0 now.input [] new.input =
+      record { taken = λ b l. (no_items, b, refl, record { well_formed = tt; spellable = tt; is = refl }, refl, omega arith, ap (λ (r : Reading). r.left) same ∙ l); same = subst (Stays now.input) (sym same) (stays now.input) } in
+      let as_left : after.left ≡ now_left.left = ap (λ (c : Begun). c.left) is in (
+        f,
+        is ∙ s.is ∙ ap (λ n. record before { left = n }) (sym as_left),
+        omega (arith, as_left, s.fewer),
+        as_row (vs ++ []) vs (omega (arith, as_left)) (append-nil vs) (s.takes 0 [] new.input end),
+        λ h. as_left ∙ none,
+      )
+
+  pub item_refused : {E : Type 0} {before now_left : Begun} {old now : Progress} {vs : List V} (borrows : Type 0) (new : Reading) (e : DecodeError E) → ReadSoFar before old now_left vs now → 0 < now_left.left
+      → Refuses (HasFront view need now.input) ⊤ borrows Anything now.input e new → Refuses (HasRow (view_items view) (need_items need) before.left old.input) ⊤ borrows Anything old.input e new
+  item_refused {E} {before} {now_left} {old} {now} borrows new e s some r =
+      carried Anything Anything old.input now.input new e (same_reader s.same) (λ h. first_of some (s.has h)) (λ x. x) (λ x. x) (λ b l g. tt) r
+
+-- ---- the whole list
+
+pub unread_refused : {E could : Type 0} {old now new : Reading} (lacks borrows : Type 0) (c : Begun) (e : DecodeError E) → LeavesUnread c e → Stays old now → new ≡ now → (could → ⊥) → Refuses could lacks borrows Anything old e new
+unread_refused lacks borrows c (LengthMismatch name expect value) u h same never = (ap (λ (r : Reading). r.faults) same ∙ h.faults, never, λ b l. tt)
+unread_refused lacks borrows c _ u h same never = absurd u
+
+module _ {V : Type 0} (view : Items → Option V) (need : Items → ℕ) where
+  -- a list stands at the front that shows something
+  record ListFront (r : Reading) : Type 0 where
+    bytes : List ℕ
+    items : Items
+    rest : List ℕ
+    left : r.left ≡ Some bytes
+    front : IsFront bytes (list items) rest
+    accepted : is_some (view items) ≡ true
+    within : 1 + need items ≤ r.steps
+
+  list_front : {r : Reading} → HasFront (view_list view) (need_list need) r → ListFront r
+  list_front {r} h = by h.tree h.front h.accepted h.within
+    where
+      by : (t : Tree) → IsFront h.bytes t h.rest → is_some (view_list view t) ≡ true → need_list need t ≤ r.steps → ListFront r
+      by (list ts) f a w = record { bytes = h.bytes; items = ts; rest = h.rest; left = h.left; front = f; accepted = a; within = w }
+      by null f a w = absurd (cc a)
+      by (boolean b) f a w = absurd (cc a)
+      by (integer n) f a w = absurd (cc a)
+      by (text s) f a w = absurd (cc a)
+      by (bytes s) f a w = absurd (cc a)
+      by (mapping es) f a w = absurd (cc a)
+      by (link s) f a w = absurd (cc a)
+
+  pub list_has_head : {r : Reading} → HasFront (view_list view) (need_list need) r → HasHeadOf 4 r
+  list_has_head {r} h =
+      let f = list_front h in
+      record {
+        count = item_count f.items;
+        rest = items_spelling f.items ++ f.rest;
+        fits = f.front.spellable.0;
+        left = f.left ∙ ap Some (f.front.is ∙ append_assoc (head 4 (item_count f.items)) (items_spelling f.items) f.rest);
+        step = omega (arith, f.within);
+      }
+
+  pub list_has_row : {old mid : Reading} {count : ℕ} → Enters 4 count old mid → HasFront (view_list view) (need_list need) old → HasRow view need count mid
+  list_has_row {old} {mid} {count} n h =
+      let f = list_front h in
+      let k = n.takes.taken f.bytes f.left in
+      let o = list_opened f.bytes k.0 f.rest count f.items n.fits f.front k.1 in
+      record { bytes = k.0; items = f.items; rest = f.rest; left = k.2; counted = o.0; fronts = o.1; accepted = f.accepted; within = omega (arith, f.within, n.takes.same.steps) }
+
+  pub list_taken : {old mid now new : Reading} {count : ℕ} {v : V} → Enters 4 count old mid → TakesRow view need count mid v now → new ≡ with_steps (now.steps + 1) now → TakesFront (view_list view) (need_list need) old v new
+  list_taken {old} {mid} {now} {new} {count} {v} n r back = record {
+    taken = λ b l.
+        let k = n.takes.taken b l in
+        let q = r.taken k.0 k.2 in (
+          list q.0,
+          q.1,
+          subst (λ x. IsFront x (list q.0) q.1) (ap (λ m. head 4 m ++ k.0) q.2 ∙ sym k.1) (list_closed k.0 q.1 q.0 (omega (arith, q.2, n.fits)) q.3),
+          q.4,
+          omega (arith, q.5, n.takes.same.steps, n.step),
+          ap (λ (r : Reading). r.left) back ∙ q.6,
+        );
+    same = record {
+      steps = omega (arith, ap (λ (r : Reading). r.steps) back, r.same.steps, n.takes.same.steps, n.step);
+      budget = ap (λ (r : Reading). r.budget) back ∙ r.same.budget ∙ n.takes.same.budget;
+      lends = ap (λ (r : Reading). r.lends) back ∙ r.same.lends ∙ n.takes.same.lends;
+      faults = ap (λ (r : Reading). r.faults) back ∙ r.same.faults ∙ n.takes.same.faults;
+    };
+  }
+
+  pub list_refused : {E : Type 0} (borrows : Type 0) (old mid : Progress) (name : List ℕ) (e : DecodeError E) → old.failed ≡ false → Call (BeginsItems 4 name) old (Err e) mid
+      → Refuses (HasFront (view_list view) (need_list need) old.input) ⊤ borrows Anything old.input e mid.input
+  list_refused {E} borrows old mid name e f h = carried (EnterCause 4 name) Anything old.input old.input mid.input e (same_reader (stays old.input)) list_has_head (λ x. absurd x) (λ x. absurd x) (λ b l g. tt)
+      (call_refused Accessor E (BeginsItems 4 name) old mid e f h)
+
+  -- all that is left is read of a list that was begun
+  pub rest_reads : {T E : Type 0} (held : T → V) (borrows : Bool) (old mid new : Progress) (name : List ℕ) (a : Accessor) (result : Result T (DecodeError E)) → Call (BeginsItems {E = E} 4 name) old (Ok a) mid
+      → ReadsRest held view need borrows (begun a) mid result new → ReadsValue held (view_list view) (need_list need) borrows old result new
+  rest_reads {T} {E} held borrows old mid new name a (Ok v) h r f =
+      let k = answered Accessor E (BeginsItems 4 name) old mid a h in
+      let one : a.steps ≡ 1 = ap (λ (c : Begun). c.steps) k.2.0 in
+      (r.0, list_taken k.2.2 r.2 (r.3 ∙ ap (λ n. with_steps (r.1.steps + n) r.1) one))
+  rest_reads {T} {E} held borrows old mid new name a (Err e) h r f =
+      let k = answered Accessor E (BeginsItems 4 name) old mid a h in
+      carried Anything Anything old.input mid.input new.input e record { faults = k.2.2.takes.same.faults; lends = k.2.2.takes.same.lends } (list_has_row k.2.2) (λ x. x) (λ x. x) (λ b l g. tt) r

@@ -1,0 +1,140 @@
+-- What contracts see of an accessor, and what its calls do.
+use Rattle.std.specs.Prelude.{◌≡◌, ◌==◌, ℕ, ◌+◌, ◌-◌, ◌^◌, ◌/◌, ◌<◌, Bool, false, true, List, ◌∷◌, ◌++◌, Option, None, Some, option_map, Result, Ok, Err, MatchResult, ⊤}
+use Rattle.std.specs.Cow.{cow_str_bytes}
+use Rattle.std.specs.declared.borrow.CowStr.{CowStr}
+use Rattle.std.specs.declared.alloc.Global.{Global}
+use Rattle.dagcbor_heads.specs.Head.{head}
+use Rattle.dagcbor_heads.specs.Reading.{Reading, with_steps}
+use Rattle.dagcbor_heads.specs.Fronts.{Takes}
+use Rattle.dagcbor_heads.specs.Causes.{HeadCause, IsNamed}
+use Rattle.dagcbor_heads.specs.Refusals.{Refuses}
+use Rattle.dagcbor_heads.specs.Names.{Names}
+use Rattle.dagcbor_heads.specs.declared.name.Name.{Name}
+use Rattle.dagcbor_heads.specs.declared.error.DecodeError.{DecodeError}
+use Rattle.dagcbor_heads.specs.declared.error.DecodeError.TheVariants.{Mismatch, DepthOverflow, LengthMismatch}
+use Rattle.ipld_tree.specs.Tree.{Tree, text}
+use Rattle.dagcbor_read.specs.Untyped.{TakesItem}
+use Rattle.dagcbor_read.specs.Entries.{Follows, HasKey, KeyStands}
+use Rattle.dagcbor_read.specs.Reads.{HasFront, TakesFront, Anything}
+use Rattle.dagcbor_read.specs.declared.accessor.Accessor.{Accessor}
+
+-- a list or map that was begun
+pub record Begun : Type 0 where
+  -- the name under which it was begun
+  pub name : Name
+  -- whether it is a map
+  pub is_map : Bool
+  -- the items or pairs that its head announced, and those that are left, where a pair counts as read once its key is
+  pub announced : ℕ
+  pub left : ℕ
+  -- the key that was read last, and whether its value is still to be read
+  pub last : Option (List ℕ)
+  pub owes_value : Bool
+  -- the steps that its end gives back
+  pub steps : ℕ
+
+abbrev pub begun : Accessor → Begun
+begun a = record {
+  name = a.name;
+  is_map = a.is_map;
+  announced = a.announced;
+  left = a.left;
+  last = option_map cow_str_bytes a.last;
+  owes_value = a.owes_value;
+  steps = a.steps;
+}
+
+-- a list or map of which nothing was read
+abbrev pub fresh : Name → Bool → ℕ → ℕ → Begun
+fresh name is_map count steps = record { name = name; is_map = is_map; announced = count; left = count; last = None; owes_value = false; steps = steps }
+
+-- ---- beginning
+
+-- the head of a list (4) or map (5) stands at the front, and a step is left
+pub record HasHeadOf (major : ℕ) (r : Reading) : Type 0 where
+  pub count : ℕ
+  pub rest : List ℕ
+  pub fits : count < 2 ^ 64
+  pub left : r.left ≡ Some (head major count ++ rest)
+  pub step : 0 < r.steps
+
+-- a step was spent, and the head of so many items was taken
+pub record Enters (major count : ℕ) (old new : Reading) : Type 0 where
+  pub fits : count < 2 ^ 64
+  pub step : 0 < old.steps
+  pub is_out : new.steps < new.budget
+  pub takes : Takes (with_steps (old.steps - 1) old) (head major count) new
+
+-- bytes that are there begin with a byte of the major type
+abbrev pub BeginsAs : ℕ → List ℕ → Type 0
+BeginsAs major b = (first : ℕ) (more : List ℕ) → b ≡ first ∷ more → first / 32 ≡ major
+
+-- why a list or map is not begun, under its name: no step is left, a byte of another major type stands there, or no head does
+abbrev pub EnterCause : {E : Type 0} → ℕ → List ℕ → DecodeError E → List ℕ → Type 0
+EnterCause major name (DepthOverflow n) b = Names n name
+EnterCause major name (Mismatch n found) b = Names n name × ((more : List ℕ) × (b ≡ found ∷ more) × (found / 32 ≡ major → ⊥))
+EnterCause major name e b = HeadCause e b × IsNamed name e × BeginsAs major b
+
+-- The head of a list or map is taken exactly where one stands and a step is left.
+abbrev pub ReadsHead : {E : Type 0} → ℕ → List ℕ → Reading → Result ℕ (DecodeError E) → Reading → Type 0
+ReadsHead major name old result new = MatchResult result
+    (λ count. Enters major count old new)
+    (λ e. Refuses (HasHeadOf major old) ⊥ ⊥ (EnterCause major name) old e new)
+
+-- A list or map is begun exactly where its head stands and a step is left.
+abbrev pub BeginsItems : {E : Type 0} → ℕ → List ℕ → Reading → Result Accessor (DecodeError E) → Reading → Type 0
+BeginsItems major name old result new = MatchResult result
+    (λ a. (begun a ≡ fresh a.name (major == 5) a.left 1) × Names a.name name × Enters major a.left old new)
+    (λ e. Refuses (HasHeadOf major old) ⊥ ⊥ (EnterCause major name) old e new)
+
+-- ---- going on
+
+-- None exactly with no item left, else the part's answer
+abbrev pub ReadsElement : {T V E : Type 0} → (T → V) → (Tree → Option V) → (Tree → ℕ) → Type 0 → ℕ → Reading → Result (Option T) (DecodeError E) → Reading → Type 0
+ReadsElement held view need borrows left old (Ok None) new = (left ≡ 0) × (new ≡ old)
+ReadsElement held view need borrows left old (Ok (Some v)) new = (0 < left) × TakesFront view need old (held v) new
+ReadsElement held view need borrows left old (Err e) new = (0 < left) × Refuses (HasFront view need old) ⊤ borrows Anything old e new
+
+-- an item that was answered leaves one fewer
+abbrev pub after_element : {T E : Type 0} → Result (Option T) (DecodeError E) → Begun → Begun
+after_element (Ok (Some v)) c = record c { left = c.left - 1 }
+after_element _ c = c
+
+-- None exactly with no pair left, else exactly a key that stands after the one before it. Memory lacks only where nothing
+-- is lent.
+abbrev pub ReadsNextKey : {E : Type 0} → Option (List ℕ) → ℕ → Reading → Result (Option (CowStr Global)) (DecodeError E) → Reading → Type 0
+ReadsNextKey last left old (Ok None) new = (left ≡ 0) × (new ≡ old)
+ReadsNextKey last left old (Ok (Some k)) new = (0 < left) × Follows last (cow_str_bytes k) × TakesItem 1 old (text (cow_str_bytes k)) new
+ReadsNextKey last left old (Err e) new = (0 < left) × Refuses (HasKey last old) (old.lends ≡ false) ⊥ (KeyStands last) old e new
+
+-- a key that stands after the one before it, and the same once more
+abbrev pub ReadsKeyAfter : {E : Type 0} → Option (List ℕ) → Reading → Result (CowStr Global × CowStr Global) (DecodeError E) → Reading → Type 0
+ReadsKeyAfter last old result new = MatchResult result
+    (λ p. (cow_str_bytes p.1 ≡ cow_str_bytes p.0) × Follows last (cow_str_bytes p.0) × TakesItem 1 old (text (cow_str_bytes p.0)) new)
+    (λ e. Refuses (HasKey last old) (old.lends ≡ false) ⊥ (KeyStands last) old e new)
+
+-- a key that was answered leaves one pair fewer, and its value is to be read
+abbrev pub after_key : {E : Type 0} → Result (Option (CowStr Global)) (DecodeError E) → Begun → Begun
+after_key (Ok (Some k)) c = record c { left = c.left - 1; last = Some (cow_str_bytes k); owes_value = true }
+after_key _ c = c
+
+abbrev pub with_value : Begun → Begun
+with_value c = record c { owes_value = false }
+
+-- a value that was answered is to be read no more
+abbrev pub after_value : {T E : Type 0} → Result T (DecodeError E) → Begun → Begun
+after_value (Ok v) c = with_value c
+after_value (Err e) c = c
+
+-- ---- ending
+
+-- items are unread: how many were read, and how many were announced
+abbrev pub LeavesUnread : {E : Type 0} → Begun → DecodeError E → Type 0
+LeavesUnread c (LengthMismatch name expect value) = (name ≡ c.name) × (expect + c.left ≡ c.announced) × (value ≡ c.announced)
+LeavesUnread c _ = ⊥
+
+-- A list or map is ended exactly where no item is left, and its steps are given back.
+abbrev pub EndsItems : {E : Type 0} → Begun → Reading → Result (Unit {0}) (DecodeError E) → Reading → Type 0
+EndsItems c old result new = MatchResult result
+    (λ _. (c.left ≡ 0) × (new ≡ with_steps (old.steps + c.steps) old))
+    (λ e. (0 < c.left) × LeavesUnread c e × (new ≡ old))

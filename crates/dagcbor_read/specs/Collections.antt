@@ -1,0 +1,165 @@
+-- What lists and maps show to a type, and the steps that reading them takes.
+use Rattle.std.specs.Prelude.{◌≡◌, ◌||◌, ℕ, ◌+◌, ◌-◌, ◌≤◌, max, Bool, true, false, List, [], ◌∷◌, Option, None, Some, option_map, option_and_then, is_some, Result, MatchResult, ⊤, map, String, string_bytes}
+use Rattle.std.specs.declared.alloc.Global.{Global}
+use Rattle.std.proofs.Common.{sym, subst}
+use Rattle.std.specs.BTreeMap.{insert_entry}
+use Rattle.dagcbor_heads.specs.Reading.{Reading, Stays, with_steps}
+use Rattle.dagcbor_heads.specs.Refusals.{Refuses}
+use Rattle.dagcbor_heads.specs.declared.error.DecodeError.{DecodeError}
+use Rattle.ipld_tree.specs.Key.{key_cmp}
+use Rattle.ipld_tree.specs.Tree.{Tree, list, mapping, Items, no_items, item, Entries, no_entries, entry, Precedes}
+use Rattle.ipld_tree.specs.Spelling.{item_count, entry_count, AreFronts, AreEntryFronts}
+use Rattle.dagcbor_read.specs.Calls.{Progress}
+use Rattle.dagcbor_read.specs.Reads.{Anything}
+use Rattle.dagcbor_read.specs.Accessors.{Begun}
+
+-- ---- lists
+
+-- A list shows what the row of its items shows.
+abbrev pub view_list : {V : Type 0} → (Items → Option V) → Tree → Option V
+view_list view (list ts) = view ts
+view_list view _ = None
+
+-- a step for the list, and what its items need
+abbrev pub need_list : (Items → ℕ) → Tree → ℕ
+need_list need (list ts) = 1 + need ts
+need_list need _ = 1
+
+-- items of one type, any number of them
+abbrev pub view_items : {V : Type 0} → (Tree → Option V) → Items → Option (List V)
+view_items view no_items = Some []
+view_items view (item t ts) = option_and_then (λ v. option_map (λ vs. v ∷ vs) (view_items view ts)) (view t)
+
+-- the greatest need
+abbrev pub need_items : (Tree → ℕ) → Items → ℕ
+need_items need no_items = 0
+need_items need (item t ts) = max (need t) (need_items need ts)
+
+-- no item
+abbrev pub view_none : Items → Option (Unit {0})
+view_none no_items = Some tt
+view_none (item t ts) = None
+
+abbrev pub need_none : Items → ℕ
+need_none ts = 0
+
+-- an item of a type of its own, before other items
+abbrev pub view_first : {V W : Type 0} → (Tree → Option V) → (Items → Option W) → Items → Option (V × W)
+view_first view others no_items = None
+view_first view others (item t ts) = option_and_then (λ v. option_map (λ w. (v, w)) (others ts)) (view t)
+
+abbrev pub need_first : (Tree → ℕ) → (Items → ℕ) → Items → ℕ
+need_first need others no_items = 0
+need_first need others (item t ts) = max (need t) (others ts)
+
+-- so many items stand at the front which show something, and their need is within the steps left
+pub record HasRow {V : Type 0} (view : Items → Option V) (need : Items → ℕ) (count : ℕ) (r : Reading) : Type 0 where
+  pub bytes : List ℕ
+  pub items : Items
+  pub rest : List ℕ
+  pub left : r.left ≡ Some bytes
+  pub counted : item_count items ≡ count
+  pub fronts : AreFronts bytes items rest
+  pub accepted : is_some (view items) ≡ true
+  pub within : need items ≤ r.steps
+
+-- so many items stood at the front which show v, and were taken
+pub record TakesRow {V : Type 0} (view : Items → Option V) (need : Items → ℕ) (count : ℕ) (old : Reading) (v : V) (new : Reading) : Type 0 where
+  pub taken : (b : List ℕ) → old.left ≡ Some b
+      → (ts : Items) × (rest : List ℕ) × (item_count ts ≡ count) × AreFronts b ts rest × (view ts ≡ Some v) × (need ts ≤ old.steps) × (new.left ≡ Some rest)
+  pub same : Stays old new
+
+-- Items of a list that was begun are read from the first that is left on. Where all that are left make a row, none is left then.
+abbrev pub ReadsRow : {T V E : Type 0} → (T → V) → (Items → Option V) → (Items → ℕ) → Bool → Begun → Progress → Result T (DecodeError E) → Begun → Progress → Type 0
+ReadsRow held view need borrows before old result after new = MatchResult result
+    (λ v. (new.failed ≡ false) × (after ≡ record before { left = after.left }) × (after.left ≤ before.left)
+    × TakesRow view need (before.left - after.left) old.input (held v) new.input × (HasRow view need before.left old.input → after.left ≡ 0))
+    (λ e. Refuses (HasRow view need before.left old.input) ⊤ (borrows ≡ true) Anything old.input e new.input)
+
+-- All that is left of a list that was begun is read, and it is ended: its steps are given back.
+abbrev pub ReadsRest : {T V E : Type 0} → (T → V) → (Items → Option V) → (Items → ℕ) → Bool → Begun → Progress → Result T (DecodeError E) → Progress → Type 0
+ReadsRest held view need borrows before old result new = MatchResult result
+    (λ v. (new.failed ≡ false) × (now : Reading) × TakesRow view need before.left old.input (held v) now × (new.input ≡ with_steps (now.steps + before.steps) now))
+    (λ e. Refuses (HasRow view need before.left old.input) ⊤ (borrows ≡ true) Anything old.input e new.input)
+
+-- neither borrows
+abbrev pub neither : {a b : Bool} → a ≡ false → b ≡ false → (a || b) ≡ false
+neither {a} {b} e h = subst (λ x. (x || b) ≡ false) (sym e) h
+
+-- ---- maps
+
+-- What a map's entries show to a type that takes them one after another into its state.
+abbrev pub view_entries : {S : Type 0} → (S → List ℕ → Tree → Option S) → S → Entries → Option S
+view_entries take state no_entries = Some state
+view_entries take state (entry k t es) = option_and_then (λ next. view_entries take next es) (take state k t)
+
+abbrev pub view_fields : {S : Type 0} → (S → List ℕ → Tree → Option S) → S → Tree → Option S
+view_fields take start (mapping es) = view_entries take start es
+view_fields take start _ = None
+
+-- the greatest need of a value, which may depend on its key
+abbrev pub need_entries : (List ℕ → Tree → ℕ) → Entries → ℕ
+need_entries need no_entries = 0
+need_entries need (entry k t es) = max (need k t) (need_entries need es)
+
+-- a step for the map, and what its values need
+abbrev pub need_fields : (List ℕ → Tree → ℕ) → Tree → ℕ
+need_fields need (mapping es) = 1 + need_entries need es
+need_fields need _ = 1
+
+-- the first of the entries stands after this key
+abbrev pub AllFollow : Option (List ℕ) → Entries → Type 0
+AllFollow None es = ⊤
+AllFollow (Some k) es = Precedes k es
+
+-- so many entries stand at the front, behind the last key, which show something, and their need is within the steps left
+pub record HasFields {S : Type 0} (take : S → List ℕ → Tree → Option S) (need : List ℕ → Tree → ℕ) (state : S) (last : Option (List ℕ)) (count : ℕ) (r : Reading) : Type 0 where
+  pub bytes : List ℕ
+  pub entries : Entries
+  pub rest : List ℕ
+  pub left : r.left ≡ Some bytes
+  pub counted : entry_count entries ≡ count
+  pub follow : AllFollow last entries
+  pub fronts : AreEntryFronts bytes entries rest
+  pub accepted : is_some (view_entries take state entries) ≡ true
+  pub within : need_entries need entries ≤ r.steps
+
+-- so many entries stood at the front, behind the last key, which bring the state to s, and were taken
+pub record TakesFields {S : Type 0} (take : S → List ℕ → Tree → Option S) (need : List ℕ → Tree → ℕ) (state : S) (last : Option (List ℕ)) (count : ℕ) (old : Reading) (s : S) (new : Reading) : Type 0 where
+  pub taken : (b : List ℕ) → old.left ≡ Some b
+      → (es : Entries) × (rest : List ℕ) × (entry_count es ≡ count) × AllFollow last es × AreEntryFronts b es rest × (view_entries take state es ≡ Some s) × (need_entries need es ≤ old.steps) × (new.left ≡ Some rest)
+  pub same : Stays old new
+
+-- All that is left of a map that was begun is read, and it is ended: its steps are given back.
+abbrev pub ReadsEntriesLeft : {T S E : Type 0} → (T → S) → (S → List ℕ → Tree → Option S) → (List ℕ → Tree → ℕ) → Bool → S → Begun → Progress → Result T (DecodeError E) → Progress → Type 0
+ReadsEntriesLeft held take need borrows start before old result new = MatchResult result
+    (λ v. (new.failed ≡ false) × (now : Reading) × TakesFields take need start before.last before.left old.input (held v) now × (new.input ≡ with_steps (now.steps + before.steps) now))
+    (λ e. Refuses (HasFields take need start before.last before.left old.input) ⊤ (borrows ≡ true) Anything old.input e new.input)
+
+-- what a value shows to the place of a field
+abbrev pub view_slot : {V : Type 0} → (Tree → Option V) → Tree → Option (Option V)
+view_slot view t = option_map Some (view t)
+
+-- a struct is finished from what its fields showed
+abbrev pub view_struct : {S V : Type 0} → (S → List ℕ → Tree → Option S) → S → (S → Option V) → Tree → Option V
+view_struct take start finish t = option_and_then finish (view_fields take start t)
+
+-- the keys as bytes, and what the values hold
+abbrev pub text_pairs : {A V : Type 0} → (A → V) → List (String Global × A) → List (List ℕ × V)
+text_pairs held es = map (λ e. (string_bytes e.0, held e.1)) es
+
+-- the pairs, put one by one into the order of their keys
+abbrev pub in_key_order : {V : Type 0} → List (List ℕ × V) → List (List ℕ × V)
+in_key_order [] = []
+in_key_order (p ∷ ps) = insert_entry key_cmp (in_key_order ps) p.0 p.1
+
+-- what a value shows goes to the place of its key
+abbrev pub take_entry : {V : Type 0} → (Tree → Option V) → List (List ℕ × V) → List ℕ → Tree → Option (List (List ℕ × V))
+take_entry view pairs k t = option_map (λ v. insert_entry key_cmp pairs k v) (view t)
+
+-- a map whose values all show something shows the pairs in the order of their keys
+abbrev pub view_map : {V : Type 0} → (Tree → Option V) → Tree → Option (List (List ℕ × V))
+view_map view = view_fields (take_entry view) []
+
+abbrev pub need_map : (Tree → ℕ) → Tree → ℕ
+need_map need = need_fields (λ k t. need t)

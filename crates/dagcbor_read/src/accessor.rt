@@ -1,0 +1,171 @@
+//! The items of a list, or the entries of a map, one at a time.
+
+ghost use Rattle.std.specs.Prelude.{◌≡◌, ◌↔◌, ◌+◌, ◌≤◌, ⊤, true, false, Some, IfOk, IfErr, IfSome};
+ghost use Rattle.std.specs.Cow.{cow_str_bytes, IsBorrowedStr};
+ghost use Rattle.dagcbor_heads.specs.Reading.{with_steps};
+ghost use Rattle.dagcbor_read.specs.Calls.{progress, Call};
+ghost use Rattle.dagcbor_read.specs.Reads.{Reads, Anything};
+
+use crate::deserialize::Deserialize;
+use crate::deserializer::Deserializer;
+use dagcbor_heads::{DecodeError, Name, Read};
+use std::alloc::{AllocError, Global};
+use std::borrow::CowStr;
+
+/// A list or map that was begun, and what is left of it. It holds no `Deserializer`: each call is given the one on which
+/// it was begun. Dropped before its end, the rest stays unread, and its steps stay spent.
+#[derive(Drop)]
+pub struct Accessor<'de> {
+    name: Name,
+    is_map: bool,
+    announced: usize,
+    left: usize,
+    last: Option<CowStr<'de>>,
+    owes_value: bool,
+    steps: usize,
+    ghost within: { left ≤ announced },
+}
+
+/// The same key once more, with no memory where it is lent.
+pub(crate) fn copied<'de>(alloc: Global, key: &CowStr<'de>) -> Result<CowStr<'de>, AllocError>
+    ensures same { IfOk result (λ c. cow_str_bytes c ≡ cow_str_bytes key.now) }
+    ensures lent { IfErr result (λ _. IsBorrowedStr key.now → ⊥) }
+{
+    Ok(match key {
+        CowStr::Borrowed(text) => CowStr::Borrowed(text),
+        CowStr::Owned(text) => CowStr::Owned(String::from_str(alloc, text.as_str())?),
+    })
+}
+
+/// Gives so many steps back.
+fn give_back<R: Read>(reader: &mut R, steps: usize)
+    requires { (R.reading reader.old).steps + steps ≤ (R.reading reader.old).budget }
+    ensures { R.reading reader.new ≡ with_steps ((R.reading reader.old).steps + steps) (R.reading reader.old) }
+{
+    for _step in 0..steps {
+        reader.step_out();
+    }
+}
+
+impl<'de> Accessor<'de> {
+    ghost use Rattle.dagcbor_read.specs.Accessors.{begun, fresh, ReadsElement, after_element, ReadsNextKey, after_key, after_value, with_value, EndsItems};
+
+    /// Nothing of it is read so far.
+    pub(crate) fn new(name: Name, is_map: bool, announced: usize, steps: usize) -> Accessor<'de>
+        ensures { begun result ≡ fresh name is_map announced steps }
+    {
+        Accessor {
+            name,
+            is_map,
+            announced,
+            left: announced,
+            last: None,
+            owes_value: false,
+            steps,
+        }
+    }
+
+    /// Whether it is a map, whose keys and values are read in turn, and not a list.
+    pub fn is_map(&self) -> bool
+        ensures { result ≡ (begun self.now).is_map }
+    {
+        self.is_map
+    }
+
+    /// Whether the value of the key before it is to be read now.
+    pub fn owes_value(&self) -> bool
+        ensures { result ≡ (begun self.now).owes_value }
+    {
+        self.owes_value
+    }
+
+    /// How many items are left. A pair counts as read once its key is.
+    pub fn size_hint(&self) -> Option<usize>
+        ensures { result ≡ Some (begun self.now).left }
+    {
+        Some(self.left)
+    }
+
+    /// The next item of a list, where one is left.
+    pub fn next_element<T: Deserialize<'de>, R: Read>(
+        &mut self,
+        alloc: Global,
+        de: &mut Deserializer<'de, R>,
+    ) -> Result<Option<T>, DecodeError<R::Error>>
+        requires { (begun self.old).is_map ≡ false }
+        ensures after { begun self.new ≡ after_element result (begun self.old) }
+        ensures element { Call (ReadsElement T.held T.view T.need (T.borrows ≡ true) (begun self.old).left) (progress R.reading de.old) result (progress R.reading de.new) }
+    {
+        de.check()?;
+        if self.left == 0 {
+            return Ok(None);
+        }
+        let element = de.read_part(alloc)?;
+        self.left -= 1;
+        Ok(Some(element))
+    }
+
+    /// The next key of a map, where one is left: lent where the input lends.
+    pub fn next_key<R: Read>(
+        &mut self,
+        alloc: Global,
+        de: &mut Deserializer<'de, R>,
+    ) -> Result<Option<CowStr<'de>>, DecodeError<R::Error>>
+        requires map { (begun self.old).is_map ≡ true }
+        requires in_turn { (begun self.old).owes_value ≡ false }
+        ensures after { begun self.new ≡ after_key result (begun self.old) }
+        ensures key { Call (ReadsNextKey (begun self.old).last (begun self.old).left) (progress R.reading de.old) result (progress R.reading de.new) }
+        ensures lent { IfOk result (λ o. IfSome o (λ k. IsBorrowedStr k ↔ ((progress R.reading de.old).input.lends ≡ true))) }
+    {
+        de.check()?;
+        if self.left == 0 {
+            return Ok(None);
+        }
+        let (key, last) = de.read_key_after(alloc, &self.last)?;
+        self.last = Some(last);
+        self.left -= 1;
+        self.owes_value = true;
+        Ok(Some(key))
+    }
+
+    /// The value of the key before it.
+    pub fn next_value<T: Deserialize<'de>, R: Read>(
+        &mut self,
+        alloc: Global,
+        de: &mut Deserializer<'de, R>,
+    ) -> Result<T, DecodeError<R::Error>>
+        requires { (begun self.old).owes_value ≡ true }
+        ensures after { begun self.new ≡ after_value result (begun self.old) }
+        ensures value { Call (Reads T.held T.view T.need ⊤ (T.borrows ≡ true) Anything) (progress R.reading de.old) result (progress R.reading de.new) }
+    {
+        let value = de.read_part(alloc)?;
+        self.owes_value = false;
+        Ok(value)
+    }
+
+    /// The value of the key before it was read in another way.
+    pub(crate) fn note_value(&mut self)
+        ensures { begun self.new ≡ with_value (begun self.old) }
+    {
+        self.owes_value = false;
+    }
+
+    /// Ends the list or map, and gives its steps back.
+    pub fn end<R: Read>(self, de: &mut Deserializer<'de, R>) -> Result<(), DecodeError<R::Error>>
+        requires in_turn { (begun self).owes_value ≡ false }
+        requires out { (progress R.reading de.old).input.steps + (begun self).steps ≤ (progress R.reading de.old).input.budget }
+        ensures { Call (EndsItems (begun self.entry)) (progress R.reading de.old) result (progress R.reading de.new) }
+    {
+        de.begin()?;
+        if self.left > 0 {
+            return Err(DecodeError::LengthMismatch {
+                name: self.name,
+                expect: self.announced - self.left,
+                value: self.announced,
+            });
+        }
+        give_back(&mut de.input, self.steps);
+        de.failed = false;
+        Ok(())
+    }
+}

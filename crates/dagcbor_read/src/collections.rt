@@ -1,0 +1,137 @@
+//! Beginning lists and maps, and reading their parts.
+
+ghost use Rattle.std.specs.Prelude.{◌≡◌, ◌↔◌, ⊤, true, false, codes, option_map, IfOk, MatchResult};
+ghost use Rattle.std.specs.Cow.{cow_str_bytes, IsBorrowedStr};
+ghost use Rattle.dagcbor_heads.specs.Inputs.{input_reading};
+ghost use Rattle.dagcbor_heads.specs.Refusals.{Refuses};
+ghost use Rattle.dagcbor_heads.specs.declared.error.DecodeError.TheVariants.{Failed};
+ghost use Rattle.ipld_tree.specs.Tree.{text};
+ghost use Rattle.dagcbor_read.specs.Calls.{progress, Call};
+ghost use Rattle.dagcbor_read.specs.Reads.{Reads, Anything};
+ghost use Rattle.dagcbor_read.specs.Accessors.{ReadsHead, BeginsItems, ReadsKeyAfter};
+
+use crate::accessor::{Accessor, copied};
+use crate::deserialize::Deserialize;
+use crate::deserializer::Deserializer;
+use crate::key::read_key;
+use dagcbor_heads::{DecodeError, Input, Name, Read, peek_one, pull_head};
+use std::alloc::Global;
+use std::borrow::CowStr;
+
+/// Spends a step, and takes the head of a list or map.
+fn enter<R: Read>(name: &str, reader: &mut R, major: u8) -> Result<u64, DecodeError<R::Error>>
+    ensures { ReadsHead major name.now (R.reading reader.old) result (R.reading reader.new) }
+{
+    if !reader.step_in() {
+        return Err(DecodeError::DepthOverflow {
+            name: Name::new(name),
+        });
+    }
+    let first = peek_one(name, reader)?;
+    if first / 32 != major {
+        return Err(DecodeError::Mismatch {
+            name: Name::new(name),
+            found: first,
+        });
+    }
+    let (_, count, _) = pull_head(name, reader)?;
+    Ok(count)
+}
+
+impl<'de, R: Read> Deserializer<'de, R> {
+    /// Nothing was refused so far.
+    pub(crate) fn check(&self) -> Result<(), DecodeError<R::Error>>
+        ensures { MatchResult result
+            (λ _. (progress R.reading self.now).failed ≡ false)
+            (λ e. ((progress R.reading self.now).failed ≡ true) × (e ≡ Failed)) }
+    {
+        if self.failed {
+            return Err(DecodeError::Failed);
+        }
+        Ok(())
+    }
+
+    /// Reads a part, after whose refusal nothing more is read.
+    pub(crate) fn read_part<T: Deserialize<'de>>(
+        &mut self,
+        alloc: Global,
+    ) -> Result<T, DecodeError<R::Error>>
+        ensures { Call (Reads T.held T.view T.need ⊤ (T.borrows ≡ true) Anything) (progress R.reading self.old) result (progress R.reading self.new) }
+    {
+        self.check()?;
+        let result = T::deserialize(alloc, self);
+        self.failed = result.is_err();
+        result
+    }
+
+    /// A key behind the one before it, twice.
+    pub(crate) fn read_key_after(
+        &mut self,
+        alloc: Global,
+        last: &Option<CowStr<'de>>,
+    ) -> Result<(CowStr<'de>, CowStr<'de>), DecodeError<R::Error>>
+        ensures key { Call (ReadsKeyAfter (option_map cow_str_bytes last.now)) (progress R.reading self.old) result (progress R.reading self.new) }
+        ensures lent { IfOk result (λ p. IsBorrowedStr p.0 ↔ ((progress R.reading self.old).input.lends ≡ true)) }
+    {
+        self.begin()?;
+        let key = read_key(alloc, &mut self.input, last)?;
+        let Ok(copy) = copied(alloc, &key) else {
+            return Err(DecodeError::OutOfMemory);
+        };
+        self.failed = false;
+        Ok((key, copy))
+    }
+
+    /// Begins a list (4) or map (5).
+    fn begin_items(&mut self, name: &str, major: u8) -> Result<Accessor<'de>, DecodeError<R::Error>>
+        ensures { Call (BeginsItems major name.now) (progress R.reading self.old) result (progress R.reading self.new) }
+    {
+        self.begin()?;
+        let count = enter(name, &mut self.input, major)?;
+        self.failed = false;
+        Ok(Accessor::new(Name::new(name), major == 5, count as usize, 1))
+    }
+
+    /// Begins a list. Takes no memory.
+    pub fn deserialize_seq(&mut self) -> Result<Accessor<'de>, DecodeError<R::Error>>
+        ensures { Call (BeginsItems 4 (codes "array")) (progress R.reading self.old) result (progress R.reading self.new) }
+    {
+        self.begin_items("array", 4)
+    }
+
+    /// Begins a list for a tuple, whose length is not looked at. Takes no memory.
+    pub fn deserialize_tuple(&mut self, _len: usize) -> Result<Accessor<'de>, DecodeError<R::Error>>
+        ensures { Call (BeginsItems 4 (codes "tuple")) (progress R.reading self.old) result (progress R.reading self.new) }
+    {
+        self.begin_items("tuple", 4)
+    }
+
+    /// Begins a list for a tuple struct, whose length is not looked at. Takes no memory.
+    pub fn deserialize_tuple_struct(
+        &mut self,
+        name: &str,
+        _len: usize,
+    ) -> Result<Accessor<'de>, DecodeError<R::Error>>
+        ensures { Call (BeginsItems 4 name.now) (progress R.reading self.old) result (progress R.reading self.new) }
+    {
+        self.begin_items(name, 4)
+    }
+
+    /// Begins a map. Takes no memory.
+    pub fn deserialize_map(&mut self) -> Result<Accessor<'de>, DecodeError<R::Error>>
+        ensures { Call (BeginsItems 5 (codes "map")) (progress R.reading self.old) result (progress R.reading self.new) }
+    {
+        self.begin_items("map", 5)
+    }
+
+    /// Begins a map for a struct, whose fields' names are not looked at. Takes no memory.
+    pub fn deserialize_struct(
+        &mut self,
+        name: &str,
+        _fields: &[&str],
+    ) -> Result<Accessor<'de>, DecodeError<R::Error>>
+        ensures { Call (BeginsItems 5 name.now) (progress R.reading self.old) result (progress R.reading self.new) }
+    {
+        self.begin_items(name, 5)
+    }
+}

@@ -1,0 +1,102 @@
+//! Structs, whose fields are read by their names.
+
+ghost use Rattle.std.specs.Prelude.{◌≡◌, ◌+◌, ◌≤◌, ℕ, List, Bool, Option, option_map, true, false};
+ghost use Rattle.ipld_tree.specs.Tree.{Tree};
+ghost use Rattle.dagcbor_read.specs.Calls.{progress};
+ghost use Rattle.dagcbor_read.specs.Reads.{ReadsValue};
+ghost use Rattle.dagcbor_read.specs.Accessors.{begun};
+ghost use Rattle.dagcbor_read.specs.Collections.{view_fields, need_fields, view_slot, ReadsEntriesLeft};
+
+use crate::accessor::Accessor;
+use crate::deserialize::Deserialize;
+use crate::deserializer::Deserializer;
+use dagcbor_heads::{DecodeError, Read};
+use std::alloc::Global;
+
+/// What the entries of a map make, while they are read: a struct's places, one for each field, or a map of the caller's.
+pub trait Fields<'de>: Sized + Drop {
+    /// What was read so far.
+    ghost State: { Type 0 };
+
+    ghost state: { Self → State };
+
+    /// What it holds once the value of a key was read. None where the value is not accepted.
+    ghost take: { State → List ℕ → Tree → Option State };
+
+    /// The steps that reading the value of a key takes.
+    ghost need: { List ℕ → Tree → ℕ };
+
+    /// Whether it borrows from the input.
+    ghost borrows: { Bool };
+
+    /// Reads the value of the key, or skips it.
+    fn read_field<R: Read>(
+        &mut self,
+        alloc: Global,
+        key: &str,
+        de: &mut Deserializer<'de, R>,
+    ) -> Result<(), DecodeError<R::Error>>
+        ensures { ReadsValue (λ _. state self.new) (take (state self.old) key.now) (need key.now) Self.borrows (progress R.reading de.old) result (progress R.reading de.new) };
+}
+
+/// Reads all that is left of a map, and ends it.
+pub(crate) fn read_entries_left<'de, F: Fields<'de>, R: Read>(
+    alloc: Global,
+    fields: F,
+    entries: Accessor<'de>,
+    de: &mut Deserializer<'de, R>,
+) -> Result<F, DecodeError<R::Error>>
+    requires map { (begun entries).is_map ≡ true }
+    requires in_turn { (begun entries).owes_value ≡ false }
+    requires sound { (progress R.reading de.old).failed ≡ false }
+    requires out { (progress R.reading de.old).input.steps + (begun entries).steps ≤ (progress R.reading de.old).input.budget }
+    ensures { ReadsEntriesLeft F.state F.take F.need F.borrows (F.state fields) (begun entries.entry) (progress R.reading de.old) result (progress R.reading de.new) }
+{
+    let mut fields = fields;
+    let mut entries = entries;
+    while let Some(key) = entries.next_key(alloc, de)? {
+        fields.read_field(alloc, key.as_str(), de)?;
+        entries.note_value();
+    }
+    entries.end(de)?;
+    Ok(fields)
+}
+
+/// Reads the fields from a map, whatever their order.
+pub fn read_fields<'de, F: Fields<'de>, R: Read>(
+    alloc: Global,
+    fields: F,
+    de: &mut Deserializer<'de, R>,
+) -> Result<F, DecodeError<R::Error>>
+    ensures { ReadsValue F.state (view_fields F.take (F.state fields)) (need_fields F.need) F.borrows (progress R.reading de.old) result (progress R.reading de.new) }
+{
+    let entries = de.deserialize_map()?;
+    read_entries_left(alloc, fields, entries, de)
+}
+
+/// Reads the fields from a map, whatever their order, under the struct's name. The fields' names are not looked at.
+pub fn read_struct<'de, F: Fields<'de>, R: Read>(
+    alloc: Global,
+    name: &str,
+    names: &[&str],
+    fields: F,
+    de: &mut Deserializer<'de, R>,
+) -> Result<F, DecodeError<R::Error>>
+    ensures { ReadsValue F.state (view_fields F.take (F.state fields)) (need_fields F.need) F.borrows (progress R.reading de.old) result (progress R.reading de.new) }
+{
+    let entries = de.deserialize_struct(name, names)?;
+    read_entries_left(alloc, fields, entries, de)
+}
+
+/// Reads the value of a field into its place.
+pub fn read_into<'de, T: Deserialize<'de>, R: Read>(
+    alloc: Global,
+    place: &mut Option<T>,
+    de: &mut Deserializer<'de, R>,
+) -> Result<(), DecodeError<R::Error>>
+    ensures { ReadsValue (λ _. option_map T.held place.new) (view_slot T.view) T.need T.borrows (progress R.reading de.old) result (progress R.reading de.new) }
+{
+    let value = T::deserialize(alloc, de)?;
+    *place = Some(value);
+    Ok(())
+}

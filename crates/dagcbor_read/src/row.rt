@@ -1,0 +1,139 @@
+//! What the items of a list make: a vector, or the parts of a tuple.
+
+ghost use Rattle.std.specs.Prelude.{◌≡◌, ◌+◌, ◌≤◌, ℕ, Bool, List, Option, map, true, false, ◌||◌, ⊤, MatchResult};
+ghost use Rattle.dagcbor_heads.specs.Refusals.{Refuses};
+ghost use Rattle.ipld_tree.specs.Tree.{Items};
+ghost use Rattle.dagcbor_read.specs.Calls.{progress};
+ghost use Rattle.dagcbor_read.specs.Reads.{ReadsValue, Anything};
+ghost use Rattle.dagcbor_read.specs.Accessors.{begun};
+ghost use Rattle.dagcbor_read.specs.Collections.{view_list, need_list, view_items, need_items, view_none, need_none, view_first, need_first, ReadsRow, ReadsRest};
+
+use crate::accessor::Accessor;
+use crate::deserialize::Deserialize;
+use crate::deserializer::Deserializer;
+use dagcbor_heads::{DecodeError, Read};
+use std::alloc::Global;
+
+/// What the items of a list make.
+pub(crate) trait Row<'de>: Sized + Drop {
+    ghost View: { Type 0 };
+
+    ghost held: { Self → View };
+
+    /// What the items show. None where they are not accepted.
+    ghost view: { Items → Option View };
+
+    ghost need: { Items → ℕ };
+
+    ghost borrows: { Bool };
+
+    /// Reads from the first item that is left on.
+    fn read_row<R: Read>(
+        alloc: Global,
+        items: &mut Accessor<'de>,
+        de: &mut Deserializer<'de, R>,
+    ) -> Result<Self, DecodeError<R::Error>>
+        requires list { (begun items.old).is_map ≡ false }
+        requires sound { (progress R.reading de.old).failed ≡ false }
+        ensures { ReadsRow Self.held Self.view Self.need Self.borrows (begun items.old) (progress R.reading de.old) result (begun items.new) (progress R.reading de.new) };
+}
+
+impl<'de, T: Deserialize<'de>> Row<'de> for Vec<T> {
+    ghost View = { List T.View };
+
+    ghost held = { λ v. map T.held v.items };
+
+    ghost view = { view_items T.view };
+
+    ghost need = { need_items T.need };
+
+    ghost borrows = { T.borrows };
+
+    fn read_row<R: Read>(
+        alloc: Global,
+        items: &mut Accessor<'de>,
+        de: &mut Deserializer<'de, R>,
+    ) -> Result<Vec<T>, DecodeError<R::Error>> {
+        let mut all = Vec::new(alloc);
+        while let Some(item) = items.next_element(alloc, de)? {
+            if all.push(item).is_err() {
+                return Err(DecodeError::OutOfMemory);
+            }
+        }
+        Ok(all)
+    }
+}
+
+impl<'de> Row<'de> for () {
+    ghost View = { Unit {0} };
+
+    ghost held = { λ u. tt };
+
+    ghost view = { view_none };
+
+    ghost need = { need_none };
+
+    ghost borrows = { false };
+
+    fn read_row<R: Read>(
+        _alloc: Global,
+        _items: &mut Accessor<'de>,
+        _de: &mut Deserializer<'de, R>,
+    ) -> Result<(), DecodeError<R::Error>> {
+        Ok(())
+    }
+}
+
+impl<'de, T: Deserialize<'de>, L: Row<'de>> Row<'de> for (T, L) {
+    ghost View = { T.View × L.View };
+
+    ghost held = { λ p. (T.held p.0, L.held p.1) };
+
+    ghost view = { view_first T.view L.view };
+
+    ghost need = { need_first T.need L.need };
+
+    ghost borrows = { T.borrows || L.borrows };
+
+    fn read_row<R: Read>(
+        alloc: Global,
+        items: &mut Accessor<'de>,
+        de: &mut Deserializer<'de, R>,
+    ) -> Result<(T, L), DecodeError<R::Error>> {
+        let Some(first) = items.next_element(alloc, de)? else {
+            return Err(DecodeError::custom("Too few elements"));
+        };
+        let others = L::read_row(alloc, items, de)?;
+        Ok((first, others))
+    }
+}
+
+/// Reads all that is left of a list, and ends it.
+pub(crate) fn read_rest<'de, L: Row<'de>, R: Read>(
+    alloc: Global,
+    items: Accessor<'de>,
+    de: &mut Deserializer<'de, R>,
+) -> Result<L, DecodeError<R::Error>>
+    requires list { (begun items).is_map ≡ false }
+    requires in_turn { (begun items).owes_value ≡ false }
+    requires sound { (progress R.reading de.old).failed ≡ false }
+    requires out { (progress R.reading de.old).input.steps + (begun items).steps ≤ (progress R.reading de.old).input.budget }
+    ensures { ReadsRest L.held L.view L.need L.borrows (begun items.entry) (progress R.reading de.old) result (progress R.reading de.new) }
+{
+    let mut items = items;
+    let row = L::read_row(alloc, &mut items, de)?;
+    items.end(de)?;
+    Ok(row)
+}
+
+/// Reads a tuple whose parts the items make.
+pub(crate) fn read_tuple<'de, L: Row<'de>, R: Read>(
+    alloc: Global,
+    len: usize,
+    de: &mut Deserializer<'de, R>,
+) -> Result<L, DecodeError<R::Error>>
+    ensures { ReadsValue L.held (view_list L.view) (need_list L.need) L.borrows (progress R.reading de.old) result (progress R.reading de.new) }
+{
+    let items = de.deserialize_tuple(len)?;
+    read_rest(alloc, items, de)
+}

@@ -1,0 +1,159 @@
+//! Vectors, and tuples of one to four.
+
+ghost use Rattle.std.specs.Prelude.{List, map, false, ◌||◌, refl};
+ghost use Rattle.dagcbor_read.specs.Collections.{view_list, need_list, view_items, need_items, view_none, need_none, view_first, need_first, neither};
+
+use crate::deserialize::{Deserialize, DeserializeOwned};
+use crate::deserializer::Deserializer;
+use crate::row::{read_rest, read_tuple};
+use crate::shown::Shown;
+use dagcbor_heads::{DecodeError, Read};
+use std::alloc::Global;
+
+impl<T: Shown> Shown for Vec<T> {
+    ghost View = { List T.View };
+
+    ghost held = { λ v. map T.held v.items };
+
+    ghost view = { view_list (view_items T.view) };
+
+    ghost need = { need_list (need_items T.need) };
+
+    ghost borrows = { T.borrows };
+}
+
+impl<'de, T: Deserialize<'de>> Deserialize<'de> for Vec<T> {
+    fn deserialize<R: Read>(
+        alloc: Global,
+        de: &mut Deserializer<'de, R>,
+    ) -> Result<Vec<T>, DecodeError<R::Error>> {
+        let items = de.deserialize_seq()?;
+        read_rest(alloc, items, de)
+    }
+}
+
+impl<'de, T: DeserializeOwned<'de>> DeserializeOwned<'de> for Vec<T> {
+    ghost owned = { T.owned };
+}
+
+impl<A: Shown> Shown for (A,) {
+    ghost View = { A.View × Unit {0} };
+
+    ghost held = { λ p. (A.held p.0, tt) };
+
+    ghost view = { view_list (view_first A.view view_none) };
+
+    ghost need = { need_list (need_first A.need need_none) };
+
+    ghost borrows = { A.borrows || false };
+}
+
+impl<'de, A: Deserialize<'de>> Deserialize<'de> for (A,) {
+    fn deserialize<R: Read>(
+        alloc: Global,
+        de: &mut Deserializer<'de, R>,
+    ) -> Result<(A,), DecodeError<R::Error>> {
+        let (first, ()) = read_tuple(alloc, 1, de)?;
+        Ok((first,))
+    }
+}
+
+impl<'de, A: DeserializeOwned<'de>> DeserializeOwned<'de> for (A,) {
+    ghost owned = { neither A.owned refl };
+}
+
+impl<A: Shown, B: Shown> Shown for (A, B) {
+    ghost View = { A.View × (B.View × Unit {0}) };
+
+    ghost held = { λ p. (A.held p.0, (B.held p.1, tt)) };
+
+    ghost view = { view_list (view_first A.view (view_first B.view view_none)) };
+
+    ghost need = { need_list (need_first A.need (need_first B.need need_none)) };
+
+    ghost borrows = { A.borrows || (B.borrows || false) };
+}
+
+impl<'de, A: Deserialize<'de>, B: Deserialize<'de>> Deserialize<'de> for (A, B) {
+    fn deserialize<R: Read>(
+        alloc: Global,
+        de: &mut Deserializer<'de, R>,
+    ) -> Result<(A, B), DecodeError<R::Error>> {
+        let (first, (second, ())) = read_tuple(alloc, 2, de)?;
+        Ok((first, second))
+    }
+}
+
+impl<'de, A: DeserializeOwned<'de>, B: DeserializeOwned<'de>> DeserializeOwned<'de> for (A, B) {
+    ghost owned = { neither A.owned (neither B.owned refl) };
+}
+
+impl<A: Shown, B: Shown, C: Shown> Shown for (A, B, C) {
+    ghost View = { A.View × (B.View × (C.View × Unit {0})) };
+
+    ghost held = { λ p. (A.held p.0, (B.held p.1, (C.held p.2, tt))) };
+
+    ghost view = { view_list (view_first A.view (view_first B.view (view_first C.view view_none))) };
+
+    ghost need = { need_list (need_first A.need (need_first B.need (need_first C.need need_none))) };
+
+    ghost borrows = { A.borrows || (B.borrows || (C.borrows || false)) };
+}
+
+impl<'de, A: Deserialize<'de>, B: Deserialize<'de>, C: Deserialize<'de>> Deserialize<'de>
+    for (A, B, C) {
+    fn deserialize<R: Read>(
+        alloc: Global,
+        de: &mut Deserializer<'de, R>,
+    ) -> Result<(A, B, C), DecodeError<R::Error>> {
+        let (first, (second, (third, ()))) = read_tuple(alloc, 3, de)?;
+        Ok((first, second, third))
+    }
+}
+
+impl<
+    'de,
+    A: DeserializeOwned<'de>,
+    B: DeserializeOwned<'de>,
+    C: DeserializeOwned<'de>,
+> DeserializeOwned<'de> for (A, B, C) {
+    ghost owned = { neither A.owned (neither B.owned (neither C.owned refl)) };
+}
+
+impl<A: Shown, B: Shown, C: Shown, D: Shown> Shown for (A, B, C, D) {
+    ghost View = { A.View × (B.View × (C.View × (D.View × Unit {0}))) };
+
+    ghost held = { λ p. (A.held p.0, (B.held p.1, (C.held p.2, (D.held p.3, tt)))) };
+
+    ghost view = { view_list (view_first A.view (view_first B.view (view_first C.view (view_first D.view view_none)))) };
+
+    ghost need = { need_list (need_first A.need (need_first B.need (need_first C.need (need_first D.need need_none)))) };
+
+    ghost borrows = { A.borrows || (B.borrows || (C.borrows || (D.borrows || false))) };
+}
+
+impl<
+    'de,
+    A: Deserialize<'de>,
+    B: Deserialize<'de>,
+    C: Deserialize<'de>,
+    D: Deserialize<'de>,
+> Deserialize<'de> for (A, B, C, D) {
+    fn deserialize<R: Read>(
+        alloc: Global,
+        de: &mut Deserializer<'de, R>,
+    ) -> Result<(A, B, C, D), DecodeError<R::Error>> {
+        let (first, (second, (third, (fourth, ())))) = read_tuple(alloc, 4, de)?;
+        Ok((first, second, third, fourth))
+    }
+}
+
+impl<
+    'de,
+    A: DeserializeOwned<'de>,
+    B: DeserializeOwned<'de>,
+    C: DeserializeOwned<'de>,
+    D: DeserializeOwned<'de>,
+> DeserializeOwned<'de> for (A, B, C, D) {
+    ghost owned = { neither A.owned (neither B.owned (neither C.owned (neither D.owned refl))) };
+}

@@ -8,3 +8,5 @@ pub mod Keys
 pub mod Maps
 pub mod Links
 pub mod Wholes
+pub mod HeadKinds
+pub mod Integers

@@ -15,4 +15,8 @@ pub mod Entries
 pub mod Links
 pub mod Calls
 pub mod Reads
+pub mod Views
+pub mod LeafCauses
+pub mod Kinds
+pub mod LeafReads
 pub mod Whole

@@ -5,8 +5,10 @@ mod any;
 mod deserialize;
 mod deserializer;
 mod key;
+mod kinds;
 mod leaf;
 mod link;
+mod numbers;
 mod shown;
 mod whole;
 

@@ -10,3 +10,5 @@ pub mod Links
 pub mod Wholes
 pub mod HeadKinds
 pub mod Integers
+pub mod SimpleValues
+pub mod StringReads

@@ -37,9 +37,9 @@ IsCut name kind (Eof kept expect) b = Names kept name
     × ((n : ℕ) × (rest : List ℕ) × (b ≡ head kind n ++ rest) × (length rest < n) × (expect ≡ len_of n))
 IsCut name kind _ b = ⊥
 
--- no whole byte string stands there
-abbrev pub BytesStand : {E : Type 0} → List ℕ → DecodeError E → List ℕ → Type 0
-BytesStand name e b = KindStands name 2 2 e b ⊎ IsCut name 2 e b
+-- no whole string of the major type stands there
+abbrev pub StringStands : {E : Type 0} → List ℕ → (kind : ℕ) → DecodeError E → List ℕ → Type 0
+StringStands name kind e b = KindStands name kind kind e b ⊎ IsCut name kind e b
 
 -- a whole text that is not UTF-8
 abbrev pub IsGarbled : {E : Type 0} → List ℕ → DecodeError E → List ℕ → Type 0
@@ -49,7 +49,7 @@ IsGarbled name _ b = ⊥
 
 -- no whole text stands there
 abbrev pub TextStands : {E : Type 0} → List ℕ → DecodeError E → List ℕ → Type 0
-TextStands name e b = KindStands name 3 3 e b ⊎ IsCut name 3 e b ⊎ IsGarbled name e b
+TextStands name e b = StringStands name 3 e b ⊎ IsGarbled name e b
 
 -- a text that has not exactly one character
 abbrev pub IsNoChar : {E : Type 0} → DecodeError E → List ℕ → Type 0

@@ -1,10 +1,15 @@
 -- What typed reads of leaves answer and refuse.
-use Rattle.std.specs.Prelude.{◌≡◌, ℕ, ℤ, false, Bool, List, Result}
+use Rattle.std.specs.Prelude.{◌≡◌, ℕ, ℤ, false, Bool, List, Result, codes, String, string_bytes, ⊤, Vec}
+use Rattle.std.specs.Cow.{cow_str_bytes, cow_slice_items}
+use Rattle.std.specs.declared.borrow.CowStr.{CowStr}
+use Rattle.std.specs.declared.borrow.CowSlice.{CowSlice}
+use Rattle.std.specs.declared.alloc.Global.{Global}
 use Rattle.dagcbor_heads.specs.Reading.{Reading}
 use Rattle.dagcbor_heads.specs.declared.error.DecodeError.{DecodeError}
 use Rattle.dagcbor_read.specs.Reads.{Reads}
-use Rattle.dagcbor_read.specs.Views.{natural_below, within, view_unsigned, view_signed, view_text, view_bytes, no_need}
-use Rattle.dagcbor_read.specs.LeafCauses.{NumberStands, TextStands, BytesStand}
+use Rattle.dagcbor_read.specs.Views.{natural_below, within, view_unsigned, view_signed, view_null, view_bool, view_text, view_char, view_bytes, no_need}
+use Rattle.dagcbor_read.specs.LinkCauses.{IsOtherByte}
+use Rattle.dagcbor_read.specs.LeafCauses.{NumberStands, StringStands, TextStands, CharStands, BoolStands}
 
 -- A number is read exactly where one stands from 0 to the bound, exclusive.
 abbrev pub ReadsUnsigned : {E : Type 0} → List ℕ → ℕ → Reading → Result ℕ (DecodeError E) → Reading → Type 0
@@ -15,9 +20,29 @@ abbrev pub ReadsSigned : {E : Type 0} → List ℕ → ℕ → Reading → Resul
 ReadsSigned name bound = Reads (λ n. n) (view_signed bound) no_need ⊥ ⊥ (NumberStands name (within bound))
 
 -- A text is read exactly where one stands, with no want of memory where the input lends.
-abbrev pub ReadsStr : {T E : Type 0} → (T → List ℕ) → List ℕ → Reading → Result T (DecodeError E) → Reading → Type 0
-ReadsStr held name old = Reads held view_text no_need (old.lends ≡ false) ⊥ (TextStands name) old
+abbrev pub ReadsStr : {E : Type 0} → List ℕ → Reading → Result (CowStr Global) (DecodeError E) → Reading → Type 0
+ReadsStr name old = Reads cow_str_bytes view_text no_need (old.lends ≡ false) ⊥ (TextStands name) old
+
+-- A text is read exactly where one stands.
+abbrev pub ReadsText : {E : Type 0} → Reading → Result (String Global) (DecodeError E) → Reading → Type 0
+ReadsText = Reads string_bytes view_text no_need ⊤ ⊥ (TextStands (codes "string"))
+
+-- A text of one character is read exactly where one stands, with no want of memory where the input lends.
+abbrev pub ReadsChar : {E : Type 0} → Reading → Result ℕ (DecodeError E) → Reading → Type 0
+ReadsChar old = Reads (λ c. c) view_char no_need (old.lends ≡ false) ⊥ CharStands old
 
 -- A byte string is read exactly where one stands, with no want of memory where the input lends.
-abbrev pub ReadsBytes : {T E : Type 0} → (T → List ℕ) → List ℕ → Reading → Result T (DecodeError E) → Reading → Type 0
-ReadsBytes held name old = Reads held view_bytes no_need (old.lends ≡ false) ⊥ (BytesStand name) old
+abbrev pub ReadsSlice : {E : Type 0} → Reading → Result (CowSlice ℕ Global) (DecodeError E) → Reading → Type 0
+ReadsSlice old = Reads cow_slice_items view_bytes no_need (old.lends ≡ false) ⊥ (StringStands (codes "bytes") 2) old
+
+-- A byte string is read exactly where one stands.
+abbrev pub ReadsBytes : {E : Type 0} → Reading → Result (Vec ℕ Global) (DecodeError E) → Reading → Type 0
+ReadsBytes = Reads (λ v. v.items) view_bytes no_need ⊤ ⊥ (StringStands (codes "bytes") 2)
+
+-- A null is read exactly where one stands.
+abbrev pub ReadsNull : {E : Type 0} → Reading → Result (Unit {0}) (DecodeError E) → Reading → Type 0
+ReadsNull = Reads (λ u. u) view_null no_need ⊥ ⊥ (IsOtherByte (codes "unit") 0xf6)
+
+-- False or true is read exactly where one stands.
+abbrev pub ReadsBool : {E : Type 0} → Reading → Result Bool (DecodeError E) → Reading → Type 0
+ReadsBool = Reads (λ b. b) view_bool no_need ⊥ ⊥ BoolStands

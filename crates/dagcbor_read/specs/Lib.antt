@@ -19,4 +19,5 @@ pub mod Views
 pub mod LeafCauses
 pub mod Kinds
 pub mod LeafReads
+pub mod Parts
 pub mod Whole

@@ -9,7 +9,10 @@ mod kinds;
 mod leaf;
 mod link;
 mod numbers;
+mod parts;
 mod shown;
+mod simple;
+mod strings;
 mod whole;
 
 pub use deserialize::{Deserialize, DeserializeOwned};

@@ -12,3 +12,6 @@ pub mod HeadKinds
 pub mod Integers
 pub mod SimpleValues
 pub mod StringReads
+pub mod Progressing
+pub mod Nullable
+pub mod Characters

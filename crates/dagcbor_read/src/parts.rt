@@ -1,9 +1,7 @@
 //! Reading values of other types: parts, and values that may be null.
 
-ghost use Rattle.std.specs.Prelude.{◌≡◌, option_map};
 ghost use Rattle.dagcbor_read.specs.Calls.{progress, Call};
-ghost use Rattle.dagcbor_read.specs.Views.{view_option, need_option};
-ghost use Rattle.dagcbor_read.specs.Parts.{ReadsPart, EntersOption};
+ghost use Rattle.dagcbor_read.specs.Parts.{ReadsPart, ReadsOption, EntersOption};
 
 use crate::deserialize::Deserialize;
 use crate::deserializer::Deserializer;
@@ -72,7 +70,7 @@ impl<'de, R: Read> Deserializer<'de, R> {
         &mut self,
         alloc: Global,
     ) -> Result<Option<T>, DecodeError<R::Error>>
-        ensures { Call (ReadsPart (option_map T.held) (view_option T.view) (need_option T.need) T.borrows) (progress R.reading self.old) result (progress R.reading self.new) }
+        ensures { Call (ReadsOption T.held T.view T.need T.borrows) (progress R.reading self.old) result (progress R.reading self.new) }
     {
         if self.enter_option()? {
             return Ok(None);

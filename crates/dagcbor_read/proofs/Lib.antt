@@ -15,3 +15,4 @@ pub mod StringReads
 pub mod Progressing
 pub mod Nullable
 pub mod Characters
+pub mod LinkValues

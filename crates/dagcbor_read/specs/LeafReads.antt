@@ -7,7 +7,9 @@ use Rattle.std.specs.declared.alloc.Global.{Global}
 use Rattle.dagcbor_heads.specs.Reading.{Reading}
 use Rattle.dagcbor_heads.specs.declared.error.DecodeError.{DecodeError}
 use Rattle.dagcbor_read.specs.Reads.{Reads}
-use Rattle.dagcbor_read.specs.Views.{natural_below, within, view_unsigned, view_signed, view_null, view_bool, view_text, view_char, view_bytes, no_need}
+use Rattle.dagcbor_read.specs.Views.{natural_below, within, view_unsigned, view_signed, view_null, view_bool, view_text, view_char, view_bytes, view_ignored, no_need}
+use Rattle.ipld_tree.specs.Tree.{any_need}
+use Rattle.dagcbor_read.specs.ItemCauses.{Stands}
 use Rattle.dagcbor_read.specs.LinkCauses.{IsOtherByte}
 use Rattle.dagcbor_read.specs.LeafCauses.{NumberStands, StringStands, TextStands, CharStands, BoolStands}
 
@@ -46,3 +48,7 @@ ReadsNull = Reads (λ u. u) view_null no_need ⊥ ⊥ (IsOtherByte (codes "unit"
 -- False or true is read exactly where one stands.
 abbrev pub ReadsBool : {E : Type 0} → Reading → Result Bool (DecodeError E) → Reading → Type 0
 ReadsBool = Reads (λ b. b) view_bool no_need ⊥ ⊥ BoolStands
+
+-- An item of any kind is read exactly where one stands within the steps left, and nothing of it is kept.
+abbrev pub ReadsIgnored : {E : Type 0} → Reading → Result (Unit {0}) (DecodeError E) → Reading → Type 0
+ReadsIgnored = Reads (λ u. u) view_ignored any_need ⊤ ⊥ Stands

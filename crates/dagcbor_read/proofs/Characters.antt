@@ -1,6 +1,6 @@
 -- Reading characters.
 use Rattle.std.proofs.Common.{◌≡◌, inl, inr, ℕ, List, [], ◌∷◌, ◌++◌, length, true, refl, sym, ap, ◌∙◌, subst, zero-le}
-use Rattle.std.specs.Prelude.{Some, None, Option, is_some, IsUtf8, codes}
+use Rattle.std.specs.Prelude.{Some, None, is_some, IsUtf8, codes}
 use Rattle.std.specs.Char.{encode_utf8}
 use Rattle.std.specs.Str.{chars}
 use Rattle.std.proofs.lemmas.Str.{chars-nil, chars_past_char, IsUtf8-past_char}

@@ -1,26 +1,31 @@
 -- Reading numbers.
-use Rattle.std.proofs.Common.{◌≡◌, inl, inr, ℕ, zero, suc, ◌+◌, ◌^◌, ◌<◌, ◌≤◌, ℤ, pos, negsuc, List, ◌++◌, true, false, refl, sym, ap, ◌∙◌, subst, arith, zero-le}
-use Rattle.std.specs.Prelude.{Some, None, Option, is_some}
-use Rattle.std.proofs.lemmas.Int.{to_z-of_z}
+use Rattle.std.proofs.Common.{◌≡◌, inl, inr, ℕ, zero, suc, ◌+◌, ◌*◌, ◌^◌, ◌<◌, ◌≤◌, ℤ, pos, negsuc, List, ◌∷◌, ◌++◌, true, refl, sym, ap, ◌∙◌, subst, arith, zero-le}
+use Rattle.std.specs.Prelude.{◌⊎◌, Some, None, Option, is_some, Result, Ok, Err}
+use Rattle.std.proofs.lemmas.Int.{ints, to_z-of_z}
+use Rattle.std.proofs.lemmas.Bool.Decides.{nat_tests}
 use mir.Syntax.{w128}
 use mir.Val.{SFits, to_z, of_z}
 use Rattle.dagcbor_heads.specs.Head.{head}
 use Rattle.dagcbor_heads.specs.Names.{Names}
 use Rattle.dagcbor_heads.specs.Reading.{Reading}
+use Rattle.dagcbor_heads.specs.Fronts.{HasByte, ShowsByte}
+use Rattle.dagcbor_heads.specs.Causes.{ByteCause, IsNamed}
 use Rattle.dagcbor_heads.specs.Refusals.{Refuses}
 use Rattle.dagcbor_heads.specs.declared.name.Name.{Name}
 use Rattle.dagcbor_heads.specs.declared.error.DecodeError.{DecodeError}
-use Rattle.dagcbor_heads.specs.declared.error.DecodeError.TheVariants.{CastOverflow}
-use Rattle.dagcbor_heads.proofs.Taking.{stays}
-use Rattle.dagcbor_heads.proofs.Refusing.{passed_on}
+use Rattle.dagcbor_heads.specs.declared.error.DecodeError.TheVariants.{CastOverflow, Unsupported}
+use Rattle.dagcbor_heads.proofs.Heads.{head_first}
+use Rattle.dagcbor_heads.proofs.Taking.{stays, stays_both}
+use Rattle.dagcbor_heads.proofs.Refusing.{passed_on, byte_in_head}
 use Rattle.ipld_tree.specs.Tree.{Tree, null, boolean, integer, text, bytes, list, mapping, link}
 use Rattle.ipld_tree.specs.Spelling.{IsFront}
 use Rattle.ipld_tree.proofs.Unique.{major}
 use Rattle.ipld_tree.proofs.Fronts.{front_unique}
-use Rattle.dagcbor_read.specs.Reads.{HasFront, TakesFront}
-use Rattle.dagcbor_read.specs.Views.{number_of, view_number, no_need}
-use Rattle.dagcbor_read.specs.LeafCauses.{KindStands, NumberStands}
+use Rattle.dagcbor_read.specs.Reads.{HasFront, TakesFront, Reads}
+use Rattle.dagcbor_read.specs.Views.{within, number_of, view_number, no_need}
+use Rattle.dagcbor_read.specs.LeafCauses.{KindStands, IsOutside, LongStands}
 use Rattle.dagcbor_read.specs.Kinds.{HasKind, TakesKind}
+use Rattle.dagcbor_read.proofs.SimpleValues.{front_byte}
 use Rattle.dagcbor_read.proofs.HeadKinds.{kind_of_front}
 
 -- only a number shows one
@@ -86,13 +91,17 @@ narrowed accepted {old} {new} n v e h = record {
   same = h.same;
 }
 
-pub narrow_refused : {V E : Type 0} (accepted : ℤ → Option V) (name : List ℕ) (old new : Reading) (e : DecodeError E) → Refuses (HasFront (view_number Some) no_need old) ⊥ ⊥ (KindStands name 0 1) old e new
-    → Refuses (HasFront (view_number accepted) no_need old) ⊥ ⊥ (NumberStands name accepted) old e new
-narrow_refused accepted name old new e r = passed_on (KindStands name 0 1) (NumberStands name accepted) old old new e (stays old) (some_number accepted) (λ x. x) (λ x. x) (λ b l. (b, l, λ h. inl h)) r
+-- the causes where not each number is accepted
+abbrev pub Narrowed : {V E : Type 0} → (ℤ → Option V) → (DecodeError E → List ℕ → Type 0) → List ℕ → DecodeError E → List ℕ → Type 0
+Narrowed accepted stands name e b = stands e b ⊎ IsOutside name accepted e b
 
-pub outside : (E : Type 0) {V : Type 0} (accepted : ℤ → Option V) (name : List ℕ) {old new : Reading} (n : ℤ) (kept : Name) → accepted n ≡ None → Names kept name → TakesFront (view_number Some) no_need old n new
-    → Refuses {E = E} (HasFront (view_number accepted) no_need old) ⊥ ⊥ (NumberStands name accepted) old (CastOverflow kept) new
-outside E accepted name {old} {new} n kept none named h = (
+pub narrow_refused : {V E : Type 0} (accepted : ℤ → Option V) (stands : DecodeError E → List ℕ → Type 0) (name : List ℕ) (old new : Reading) (e : DecodeError E) → Refuses (HasFront (view_number Some) no_need old) ⊥ ⊥ stands old e new
+    → Refuses (HasFront (view_number accepted) no_need old) ⊥ ⊥ (Narrowed accepted stands name) old e new
+narrow_refused accepted stands name old new e r = passed_on stands (Narrowed accepted stands name) old old new e (stays old) (some_number accepted) (λ x. x) (λ x. x) (λ b l. (b, l, λ h. inl h)) r
+
+pub outside : (E : Type 0) {V : Type 0} (accepted : ℤ → Option V) (stands : DecodeError E → List ℕ → Type 0) (name : List ℕ) {old new : Reading} (n : ℤ) (kept : Name) → accepted n ≡ None → Names kept name → TakesFront (view_number Some) no_need old n new
+    → Refuses {E = E} (HasFront (view_number accepted) no_need old) ⊥ ⊥ (Narrowed accepted stands name) old (CastOverflow kept) new
+outside E accepted stands name {old} {new} n kept none named h = (
   h.same.faults,
   λ i. let k = h.taken i.bytes i.left in
       let same = (front_unique i.bytes i.rest k.1 i.tree k.0 i.front k.2).0 ∙ all_numbers k.0 n k.3 in
@@ -100,3 +109,38 @@ outside E accepted name {old} {new} n kept none named h = (
       absurd (cc (shown, none)),
   λ b l. let k = h.taken b l in inr (named, (n, k.1, subst (λ t. IsFront b t k.1) (all_numbers k.0 n k.3) k.2, none)),
 )
+
+-- ---- numbers of any size
+
+pub long_byte_refused : {E : Type 0} (name : List ℕ) (old new : Reading) (e : DecodeError E) → IsNamed name e → Refuses (HasByte old) ⊥ ⊥ ByteCause old e new
+    → Refuses (HasFront (view_number Some) no_need old) ⊥ ⊥ (LongStands name) old e new
+long_byte_refused name old new e named r = passed_on ByteCause (LongStands name) old old new e (stays old) front_byte (λ x. x) (λ x. x) (λ b l. (b, l, λ h. inl (inl (byte_in_head e b h, named)))) r
+
+-- a tag is no number
+pub no_tag : (E : Type 0) (name : List ℕ) {old mid : Reading} {first : ℕ} (kept : Name) → Names kept name → ShowsByte old first mid → (first ≡ 0xc2) ⊎ (first ≡ 0xc3)
+    → Refuses {E = E} (HasFront (view_number Some) no_need old) ⊥ ⊥ (LongStands name) old (Unsupported kept first) mid
+no_tag E name {old} {mid} {first} kept named h which = (
+  h.same.faults,
+  λ i. let k = number_kind Some i in
+      let f = head_first k.major k.argument k.argument_fits in
+      let s = h.starts _ k.left in
+      let is : first ∷ s.0 ≡ (32 * k.major + f.0) ∷ (f.1 ++ k.rest) = sym s.1 ∙ ap (λ s. s ++ k.rest) f.3 in
+      let same : first ≡ 32 * k.major + f.0 = cc is in
+      elim which [ inl e ↦ omega (arith, e, same, f.2, k.highest) | inr e ↦ omega (arith, e, same, f.2, k.highest) ],
+  λ b l. let s = h.starts b l in inr (named, (s.0, s.1, which)),
+)
+
+some_still : {old mid : Reading} {first : ℕ} → ShowsByte old first mid → HasFront (view_number Some) no_need old → HasFront (view_number Some) no_need mid
+some_still h i = record { bytes = i.bytes; tree = i.tree; rest = i.rest; left = h.kept i.bytes i.left; front = i.front; accepted = i.accepted; within = zero-le }
+
+pub long_read : {E : Type 0} (name : List ℕ) {old mid : Reading} {first : ℕ} (new : Reading) (r : Result ℤ (DecodeError E)) → ShowsByte old first mid → Reads (λ n. n) (view_number Some) no_need ⊥ ⊥ (KindStands name 0 1) mid r new
+    → Reads (λ n. n) (view_number Some) no_need ⊥ ⊥ (LongStands name) old r new
+long_read name {old} {mid} new (Ok n) h a = record {
+  taken = λ b l. (let k = a.taken b (h.kept b l) in (k.0, k.1, k.2, k.3, zero-le, k.5));
+  same = stays_both h.same a.same;
+}
+long_read name {old} {mid} new (Err e) h r = passed_on (KindStands name 0 1) (LongStands name) old mid new e h.same (some_still h) (λ x. x) (λ x. x) (λ b l. (b, h.kept b l, λ c. inl c)) r
+
+pub within_i128 : (n : ℤ) → SFits w128 n → within (2 ^ 127) n ≡ Some n
+within_i128 (pos n) h = grind (arith, ints, nat_tests)
+within_i128 (negsuc n) h = grind (arith, ints, nat_tests)

@@ -1,6 +1,6 @@
 -- Links as values of a type.
-use Rattle.std.proofs.Common.{◌≡◌, ℕ, List, Bool, true, false, refl, ap, ◌∙◌, subst, zero-le}
-use Rattle.std.specs.Prelude.{Some, is_some, is_err, Result, Ok, Err, MatchResult, ⊤}
+use Rattle.std.proofs.Common.{◌≡◌, ℕ, List, true, false, refl, subst, zero-le}
+use Rattle.std.specs.Prelude.{is_some, is_err, Result, Ok, Err, MatchResult, ⊤}
 use Rattle.dagcbor_heads.specs.Reading.{Reading}
 use Rattle.dagcbor_heads.specs.Refusals.{Refuses}
 use Rattle.dagcbor_heads.specs.declared.error.DecodeError.{DecodeError}

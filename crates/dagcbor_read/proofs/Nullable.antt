@@ -1,8 +1,8 @@
 -- Values that may be null.
-use Rattle.std.proofs.Common.{◌≡◌, inl, inr, ℕ, ◌+◌, ◌-◌, ◌<◌, ◌≤◌, List, [], ◌∷◌, ◌++◌, Bool, true, false, refl, sym, ap, ◌∙◌, subst, arith, zero-le}
+use Rattle.std.proofs.Common.{◌≡◌, inl, inr, ℕ, ◌+◌, List, [], ◌∷◌, ◌++◌, true, refl, sym, ap, ◌∙◌, arith, zero-le}
 use Rattle.std.specs.Prelude.{◌⊎◌, Some, None, Option, option_map, is_some, ⊤}
 use Rattle.dagcbor_heads.specs.Reading.{Reading, with_steps}
-use Rattle.dagcbor_heads.specs.Fronts.{HasByte, Takes}
+use Rattle.dagcbor_heads.specs.Fronts.{Takes}
 use Rattle.dagcbor_heads.specs.Refusals.{Refuses}
 use Rattle.dagcbor_heads.specs.declared.error.DecodeError.{DecodeError}
 use Rattle.dagcbor_heads.specs.declared.error.DecodeError.TheVariants.{Read, RequireBorrowed, OutOfMemory, Failed, DepthOverflow}
@@ -10,7 +10,6 @@ use Rattle.dagcbor_heads.proofs.Taking.{stays}
 use Rattle.dagcbor_heads.proofs.Refusing.{passed_on}
 use Rattle.ipld_tree.specs.Tree.{Tree, null, boolean, integer, text, bytes, list, mapping, link}
 use Rattle.ipld_tree.specs.Spelling.{spelling, IsFront}
-use Rattle.ipld_tree.proofs.Fronts.{front_unique}
 use Rattle.dagcbor_read.specs.Reads.{HasFront, TakesFront, Anything}
 use Rattle.dagcbor_read.specs.Views.{view_option, need_option}
 use Rattle.dagcbor_read.specs.Parts.{CanEnter, EntersSome}

@@ -12,7 +12,7 @@ use Rattle.dagcbor_heads.specs.declared.error.DecodeError.TheVariants.{Eof, Mism
 use Rattle.dagcbor_heads.proofs.Taking.{stays}
 use Rattle.dagcbor_heads.proofs.Refusing.{passed_on}
 use Rattle.ipld_tree.specs.Tree.{Tree, null, boolean, integer, text, bytes, list, mapping, link, IsTree}
-use Rattle.ipld_tree.specs.Spelling.{IsSpellable, spelling, boolean_spelling, IsFront}
+use Rattle.ipld_tree.specs.Spelling.{IsSpellable, spelling, boolean_spelling}
 use Rattle.ipld_tree.proofs.Unique.{major}
 use Rattle.ipld_tree.proofs.Fronts.{front_first}
 use Rattle.dagcbor_read.specs.Reads.{HasFront, TakesFront}

@@ -7,7 +7,7 @@ use Rattle.dagcbor_heads.specs.Names.{Names}
 use Rattle.dagcbor_heads.specs.declared.error.Len.TheVariants.{Small}
 use Rattle.dagcbor_heads.specs.declared.error.DecodeError.{DecodeError}
 use Rattle.dagcbor_heads.specs.declared.error.DecodeError.TheVariants.{Msg, Eof, Mismatch, Unsupported, RequireUtf8, CastOverflow}
-use Rattle.ipld_tree.specs.Tree.{Tree, integer, text}
+use Rattle.ipld_tree.specs.Tree.{integer, text}
 use Rattle.ipld_tree.specs.Spelling.{IsFront}
 use Rattle.dagcbor_read.specs.Views.{view_char}
 
@@ -30,6 +30,20 @@ IsOutside name accepted _ b = ⊥
 -- no number stands there that the type accepts
 abbrev pub NumberStands : {V E : Type 0} → List ℕ → (ℤ → Option V) → DecodeError E → List ℕ → Type 0
 NumberStands name accepted e b = KindStands name 0 1 e b ⊎ IsOutside name accepted e b
+
+-- a tag of a number that may be too long for a head
+abbrev pub IsLong : {E : Type 0} → List ℕ → DecodeError E → List ℕ → Type 0
+IsLong name (Unsupported kept found) b = Names kept name
+    × ((more : List ℕ) × (b ≡ found ∷ more) × ((found ≡ 0xc2) ⊎ (found ≡ 0xc3)))
+IsLong name _ b = ⊥
+
+-- where a number of any size is to stand, no head of one stands
+abbrev pub LongStands : {E : Type 0} → List ℕ → DecodeError E → List ℕ → Type 0
+LongStands name e b = KindStands name 0 1 e b ⊎ IsLong name e b
+
+-- no number of any size stands there that the type accepts
+abbrev pub LongNumberStands : {V E : Type 0} → List ℕ → (ℤ → Option V) → DecodeError E → List ℕ → Type 0
+LongNumberStands name accepted e b = LongStands name e b ⊎ IsOutside name accepted e b
 
 -- a string of the major type whose payload is cut
 abbrev pub IsCut : {E : Type 0} → List ℕ → (kind : ℕ) → DecodeError E → List ℕ → Type 0

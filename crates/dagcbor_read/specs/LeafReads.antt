@@ -1,5 +1,5 @@
 -- What typed reads of leaves answer and refuse.
-use Rattle.std.specs.Prelude.{◌≡◌, ℕ, ℤ, false, Bool, List, Result, codes, String, string_bytes, ⊤, Vec}
+use Rattle.std.specs.Prelude.{◌≡◌, ℕ, ◌^◌, ℤ, false, Bool, List, Result, codes, String, string_bytes, ⊤, Vec}
 use Rattle.std.specs.Cow.{cow_str_bytes, cow_slice_items}
 use Rattle.std.specs.declared.borrow.CowStr.{CowStr}
 use Rattle.std.specs.declared.borrow.CowSlice.{CowSlice}
@@ -11,7 +11,7 @@ use Rattle.dagcbor_read.specs.Views.{natural_below, within, view_unsigned, view_
 use Rattle.ipld_tree.specs.Tree.{any_need}
 use Rattle.dagcbor_read.specs.ItemCauses.{Stands}
 use Rattle.dagcbor_read.specs.LinkCauses.{IsOtherByte}
-use Rattle.dagcbor_read.specs.LeafCauses.{NumberStands, StringStands, TextStands, CharStands, BoolStands}
+use Rattle.dagcbor_read.specs.LeafCauses.{NumberStands, LongNumberStands, StringStands, TextStands, CharStands, BoolStands}
 
 -- A number is read exactly where one stands from 0 to the bound, exclusive.
 abbrev pub ReadsUnsigned : {E : Type 0} → List ℕ → ℕ → Reading → Result ℕ (DecodeError E) → Reading → Type 0
@@ -20,6 +20,13 @@ ReadsUnsigned name bound = Reads (λ n. n) (view_unsigned bound) no_need ⊥ ⊥
 -- A number is read exactly where one stands from - bound to bound - 1.
 abbrev pub ReadsSigned : {E : Type 0} → List ℕ → ℕ → Reading → Result ℤ (DecodeError E) → Reading → Type 0
 ReadsSigned name bound = Reads (λ n. n) (view_signed bound) no_need ⊥ ⊥ (NumberStands name (within bound))
+
+-- The same for a type in which each number of the format has room, but none that a tag announces.
+abbrev pub ReadsU128 : {E : Type 0} → Reading → Result ℕ (DecodeError E) → Reading → Type 0
+ReadsU128 = Reads (λ n. n) (view_unsigned (2 ^ 128)) no_need ⊥ ⊥ (LongNumberStands (codes "u128") (natural_below (2 ^ 128)))
+
+abbrev pub ReadsI128 : {E : Type 0} → Reading → Result ℤ (DecodeError E) → Reading → Type 0
+ReadsI128 = Reads (λ n. n) (view_signed (2 ^ 127)) no_need ⊥ ⊥ (LongNumberStands (codes "i128") (within (2 ^ 127)))
 
 -- A text is read exactly where one stands, with no want of memory where the input lends.
 abbrev pub ReadsStr : {E : Type 0} → List ℕ → Reading → Result (CowStr Global) (DecodeError E) → Reading → Type 0

@@ -258,3 +258,53 @@ impl<'de> Deserialize<'de> for isize {
 impl<'de> DeserializeOwned<'de> for isize {
     ghost owned = { refl };
 }
+
+impl Shown for u128 {
+    ghost View = { ℕ };
+
+    ghost held = { λ n. n };
+
+    ghost view = { view_unsigned (2 ^ 128) };
+
+    ghost need = { no_need };
+
+    ghost borrows = { false };
+}
+
+impl<'de> Deserialize<'de> for u128 {
+    fn deserialize<R: Read>(
+        _alloc: Global,
+        de: &mut Deserializer<'de, R>,
+    ) -> Result<u128, DecodeError<R::Error>> {
+        de.deserialize_u128()
+    }
+}
+
+impl<'de> DeserializeOwned<'de> for u128 {
+    ghost owned = { refl };
+}
+
+impl Shown for i128 {
+    ghost View = { ℤ };
+
+    ghost held = { λ n. n };
+
+    ghost view = { view_signed (2 ^ 127) };
+
+    ghost need = { no_need };
+
+    ghost borrows = { false };
+}
+
+impl<'de> Deserialize<'de> for i128 {
+    fn deserialize<R: Read>(
+        _alloc: Global,
+        de: &mut Deserializer<'de, R>,
+    ) -> Result<i128, DecodeError<R::Error>> {
+        de.deserialize_i128()
+    }
+}
+
+impl<'de> DeserializeOwned<'de> for i128 {
+    ghost owned = { refl };
+}

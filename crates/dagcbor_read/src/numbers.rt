@@ -4,12 +4,12 @@ ghost use Rattle.std.specs.Prelude.{◌≡◌, ◌+◌, ◌≤◌, ◌^◌, Some
 ghost use Rattle.dagcbor_read.specs.Calls.{progress, Call};
 ghost use Rattle.dagcbor_read.specs.Reads.{Reads};
 ghost use Rattle.dagcbor_read.specs.Views.{number_of, natural_below, within, view_number, no_need};
-ghost use Rattle.dagcbor_read.specs.LeafCauses.{KindStands};
-ghost use Rattle.dagcbor_read.specs.LeafReads.{ReadsUnsigned, ReadsSigned};
+ghost use Rattle.dagcbor_read.specs.LeafCauses.{KindStands, LongStands};
+ghost use Rattle.dagcbor_read.specs.LeafReads.{ReadsUnsigned, ReadsSigned, ReadsU128, ReadsI128};
 
 use crate::deserializer::Deserializer;
 use crate::kinds::pull_kind;
-use dagcbor_heads::{DecodeError, Name, Read};
+use dagcbor_heads::{DecodeError, Name, Read, peek_one};
 
 /// The number of a head of major type 0 or 1.
 fn number_of(major: u8, argument: u64) -> i128
@@ -87,6 +87,46 @@ fn pull_signed<R: Read>(
     }
 }
 
+/// A number of any size, which no tag announces.
+fn pull_long<R: Read>(name: &str, reader: &mut R) -> Result<i128, DecodeError<R::Error>>
+    ensures { Reads (λ n. n) (view_number Some) no_need ⊥ ⊥ (LongStands name.now) (R.reading reader.old) result (R.reading reader.new) }
+{
+    let first = peek_one(name, reader)?;
+    if first == 0xc2 || first == 0xc3 {
+        return Err(DecodeError::Unsupported {
+            name: Name::new(name),
+            found: first,
+        });
+    }
+    pull_number(name, reader)
+}
+
+/// The number where it is not below 0.
+fn long_natural_of(number: i128) -> Option<u128>
+    ensures { result ≡ natural_below (2 ^ 128) number }
+{
+    u128::try_from(number).ok()
+}
+
+fn pull_u128<R: Read>(reader: &mut R) -> Result<u128, DecodeError<R::Error>>
+    ensures { ReadsU128 (R.reading reader.old) result (R.reading reader.new) }
+{
+    let number = pull_long("u128", reader)?;
+    match long_natural_of(number) {
+        Some(natural) => Ok(natural),
+        None => Err(DecodeError::CastOverflow {
+            name: Name::new("u128"),
+        }),
+    }
+}
+
+fn pull_i128<R: Read>(reader: &mut R) -> Result<i128, DecodeError<R::Error>>
+    ensures { ReadsI128 (R.reading reader.old) result (R.reading reader.new) }
+{
+    let number = pull_long("i128", reader)?;
+    Ok(number)
+}
+
 impl<'de, R: Read> Deserializer<'de, R> {
     fn unsigned(&mut self, name: &str, greatest: u64) -> Result<u64, DecodeError<R::Error>>
         ensures number { Call (ReadsUnsigned name.now (greatest + 1)) (progress R.reading self.old) result (progress R.reading self.new) }
@@ -155,5 +195,25 @@ impl<'de, R: Read> Deserializer<'de, R> {
         ensures { Call (ReadsSigned (codes "i64") (2 ^ 63)) (progress R.reading self.old) result (progress R.reading self.new) }
     {
         Ok(self.signed("i64", 0x7fff_ffff_ffff_ffff)? as i64)
+    }
+
+    /// Reads any number from 0 on, but none in a tag.
+    pub fn deserialize_u128(&mut self) -> Result<u128, DecodeError<R::Error>>
+        ensures { Call ReadsU128 (progress R.reading self.old) result (progress R.reading self.new) }
+    {
+        self.begin()?;
+        let number = pull_u128(&mut self.input)?;
+        self.failed = false;
+        Ok(number)
+    }
+
+    /// Reads any number, but none in a tag.
+    pub fn deserialize_i128(&mut self) -> Result<i128, DecodeError<R::Error>>
+        ensures { Call ReadsI128 (progress R.reading self.old) result (progress R.reading self.new) }
+    {
+        self.begin()?;
+        let number = pull_i128(&mut self.input)?;
+        self.failed = false;
+        Ok(number)
     }
 }

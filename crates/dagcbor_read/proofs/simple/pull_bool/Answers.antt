@@ -1,6 +1,6 @@
 use Rattle.std.proofs.Common.{[], ◌∷◌, false, true, ap}
 use Rattle.dagcbor_heads.proofs.Refusing.{refused}
-use Rattle.dagcbor_read.proofs.SimpleValues.{bool_byte_refused, no_bool, bool_taken}
+use Rattle.dagcbor_read.proofs.SimpleValues.{bool_byte_refused, bool_taken}
 use Rattle.dagcbor_read.proofs.simple.pull_bool.Goals as goal
 
 pub returns-in_err-found : goal.returns-in_err-found

@@ -1,5 +1,4 @@
-use Rattle.dagcbor_heads.proofs.Refusing.{refused}
-use Rattle.dagcbor_read.proofs.Characters.{char_text_refused, char_taken, no_char}
+use Rattle.dagcbor_read.proofs.Characters.{no_char}
 use Rattle.dagcbor_read.proofs.strings.pull_char.Goals as goal
 
 pub returns : goal.returns

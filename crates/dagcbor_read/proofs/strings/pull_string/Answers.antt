@@ -1,5 +1,4 @@
-use Rattle.dagcbor_heads.proofs.Refusing.{refused}
-use Rattle.dagcbor_read.proofs.StringReads.{string_head_refused, string_read}
+use Rattle.dagcbor_read.proofs.StringReads.{string_read}
 use Rattle.dagcbor_read.proofs.strings.pull_string.Goals as goal
 
 pub returns-clause-string : goal.returns-clause-string

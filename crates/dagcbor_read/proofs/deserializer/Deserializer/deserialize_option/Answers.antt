@@ -1,6 +1,3 @@
-use Rattle.std.specs.Prelude.{Ok, Err, option_map}
-use Rattle.dagcbor_read.specs.Calls.{progress}
-use Rattle.dagcbor_read.specs.Views.{view_option, need_option}
 use Rattle.dagcbor_read.specs.Parts.{ReadsPart, ReadsOption, EntersOption}
 use Rattle.dagcbor_read.proofs.Progressing.{match_true, match_false, call_answered, call_told, called, call_refused, call_passed_on}
 use Rattle.dagcbor_read.proofs.Nullable.{not_entered, null_entered, some_entered, some_refused}

@@ -22,7 +22,7 @@ use Rattle.ipld_tree.proofs.Unique.{split_at_length}
 use Rattle.dagcbor_read.specs.Reads.{HasFront, TakesFront}
 use Rattle.dagcbor_read.specs.Views.{view_text, view_bytes, no_need}
 use Rattle.dagcbor_read.specs.LeafCauses.{KindStands, IsCut, StringStands, TextStands}
-use Rattle.dagcbor_read.specs.LeafReads.{ReadsSlice}
+use Rattle.dagcbor_read.specs.LeafReads.{ReadsByteSlice}
 use Rattle.dagcbor_read.proofs.SimpleValues.{spelling_taken}
 use Rattle.dagcbor_read.specs.Kinds.{HasKind, TakesKind, HasString, TakesString, ReadsString}
 
@@ -88,7 +88,7 @@ bytes_stand {r} h =
     let f = subst (λ t. IsFront h.bytes t h.rest) s.1 h.front in
     record { payload = s.0; rest = h.rest; fits = f.spellable; left = h.left ∙ ap Some (f.is ∙ append_assoc (head 2 (length s.0)) s.0 h.rest) }
 
-pub bytes_read : {E : Type 0} (old new : Reading) (result : Result (CowSlice ℕ Global) (DecodeError E)) → ReadsString cow_slice_items (codes "bytes") 2 old result new → ReadsSlice old result new
+pub bytes_read : {E : Type 0} (old new : Reading) (result : Result (CowSlice ℕ Global) (DecodeError E)) → ReadsString cow_slice_items (codes "bytes") 2 old result new → ReadsByteSlice old result new
 bytes_read old new (Ok c) h = let s = cow_slice_items c in spelling_taken view_bytes (bytes s) s tt h.fits refl h.takes
 bytes_read old new (Err e) h = passed_on (StringStands (codes "bytes") 2) (StringStands (codes "bytes") 2) old old new e (stays old) bytes_stand (λ x. x) (λ x. x) (λ b l. (b, l, λ c. c)) h
 
@@ -126,7 +126,7 @@ garbled E name {old} {new} s kept named h not_text = (
   λ i. let t = text_front i in
       let k = h.takes.taken i.bytes i.left in
       let same = head_unique 3 (length t.0) 3 (length s) (t.0 ++ i.rest) (s ++ k.0) t.1.spellable h.fits
-          (sym (append_assoc (head 3 (length t.0)) t.0 i.rest) ∙ sym t.1.is ∙ k.1 ∙ append_assoc (head 3 (length s)) s k.0) in
+      (sym (append_assoc (head 3 (length t.0)) t.0 i.rest) ∙ sym t.1.is ∙ k.1 ∙ append_assoc (head 3 (length s)) s k.0) in
       let payload = split_at_length t.0 s i.rest k.0 same.1 same.2 in
       not_text (subst IsUtf8 payload.0 t.1.well_formed),
   λ b l. let k = h.takes.taken b l in inr (named, (s, k.0, k.1 ∙ append_assoc (head 3 (length s)) s k.0, not_text)),

@@ -33,20 +33,20 @@ abbrev pub ReadsStr : {E : Type 0} → List ℕ → Reading → Result (CowStr G
 ReadsStr name old = Reads cow_str_bytes view_text no_need (old.lends ≡ false) ⊥ (TextStands name) old
 
 -- A text is read exactly where one stands.
-abbrev pub ReadsText : {E : Type 0} → Reading → Result (String Global) (DecodeError E) → Reading → Type 0
-ReadsText = Reads string_bytes view_text no_need ⊤ ⊥ (TextStands (codes "string"))
+abbrev pub ReadsOwnedText : {E : Type 0} → Reading → Result (String Global) (DecodeError E) → Reading → Type 0
+ReadsOwnedText = Reads string_bytes view_text no_need ⊤ ⊥ (TextStands (codes "string"))
 
 -- A text of one character is read exactly where one stands, with no want of memory where the input lends.
 abbrev pub ReadsChar : {E : Type 0} → Reading → Result ℕ (DecodeError E) → Reading → Type 0
 ReadsChar old = Reads (λ c. c) view_char no_need (old.lends ≡ false) ⊥ CharStands old
 
 -- A byte string is read exactly where one stands, with no want of memory where the input lends.
-abbrev pub ReadsSlice : {E : Type 0} → Reading → Result (CowSlice ℕ Global) (DecodeError E) → Reading → Type 0
-ReadsSlice old = Reads cow_slice_items view_bytes no_need (old.lends ≡ false) ⊥ (StringStands (codes "bytes") 2) old
+abbrev pub ReadsByteSlice : {E : Type 0} → Reading → Result (CowSlice ℕ Global) (DecodeError E) → Reading → Type 0
+ReadsByteSlice old = Reads cow_slice_items view_bytes no_need (old.lends ≡ false) ⊥ (StringStands (codes "bytes") 2) old
 
 -- A byte string is read exactly where one stands.
-abbrev pub ReadsBytes : {E : Type 0} → Reading → Result (Vec ℕ Global) (DecodeError E) → Reading → Type 0
-ReadsBytes = Reads (λ v. v.items) view_bytes no_need ⊤ ⊥ (StringStands (codes "bytes") 2)
+abbrev pub ReadsOwnedBytes : {E : Type 0} → Reading → Result (Vec ℕ Global) (DecodeError E) → Reading → Type 0
+ReadsOwnedBytes = Reads (λ v. v.items) view_bytes no_need ⊤ ⊥ (StringStands (codes "bytes") 2)
 
 -- A null is read exactly where one stands.
 abbrev pub ReadsNull : {E : Type 0} → Reading → Result (Unit {0}) (DecodeError E) → Reading → Type 0

@@ -1,15 +1,14 @@
 //! Reading texts, characters and byte strings.
 
-ghost use Rattle.std.specs.Prelude.{◌≡◌, ◌<◌, ◌↔◌, true, false, IfOk, ⊤, codes, string_bytes};
+ghost use Rattle.std.specs.Prelude.{◌≡◌, ◌<◌, ◌↔◌, true, false, IfOk, codes};
 ghost use Rattle.std.specs.Str.{chars};
 ghost use Rattle.std.specs.Cow.{cow_slice_items, IsBorrowedSlice, IsBorrowedStr};
 ghost use Rattle.dagcbor_heads.specs.Inputs.{input_reading};
 ghost use Rattle.dagcbor_read.specs.Calls.{progress, Call};
 ghost use Rattle.dagcbor_read.specs.Reads.{Reads};
 ghost use Rattle.dagcbor_read.specs.Kinds.{ReadsString};
-ghost use Rattle.dagcbor_read.specs.Views.{view_text, view_bytes, no_need, only};
-ghost use Rattle.dagcbor_read.specs.LeafCauses.{StringStands, TextStands};
-ghost use Rattle.dagcbor_read.specs.LeafReads.{ReadsStr, ReadsText, ReadsChar, ReadsSlice, ReadsBytes};
+ghost use Rattle.dagcbor_read.specs.Views.{only};
+ghost use Rattle.dagcbor_read.specs.LeafReads.{ReadsStr, ReadsOwnedText, ReadsChar, ReadsByteSlice, ReadsOwnedBytes};
 
 use crate::deserializer::Deserializer;
 use crate::kinds::pull_kind;
@@ -37,7 +36,7 @@ fn pull_slice<'de, R: Read>(
     alloc: Global,
     input: &mut Input<'de, R>,
 ) -> Result<CowSlice<'de, u8>, DecodeError<R::Error>>
-    ensures bytes { ReadsSlice (input_reading R.reading input.old) result (input_reading R.reading input.new) }
+    ensures bytes { ReadsByteSlice (input_reading R.reading input.old) result (input_reading R.reading input.new) }
     ensures lent { IfOk result (λ c. IsBorrowedSlice c ↔ ((input_reading R.reading input.old).lends ≡ true)) }
 {
     pull_string(alloc, "bytes", input, 2)
@@ -60,11 +59,11 @@ pub(crate) fn pull_str<'de, R: Read>(
     }
 }
 
-fn pull_text<R: Read>(
+fn pull_owned_text<R: Read>(
     alloc: Global,
     input: &mut Input<'_, R>,
 ) -> Result<String, DecodeError<R::Error>>
-    ensures { ReadsText (input_reading R.reading input.old) result (input_reading R.reading input.new) }
+    ensures { ReadsOwnedText (input_reading R.reading input.old) result (input_reading R.reading input.new) }
 {
     match pull_str(alloc, "string", input)?.into_owned(alloc) {
         Ok(text) => Ok(text),
@@ -72,11 +71,11 @@ fn pull_text<R: Read>(
     }
 }
 
-fn pull_bytes<R: Read>(
+fn pull_owned_bytes<R: Read>(
     alloc: Global,
     input: &mut Input<'_, R>,
 ) -> Result<Vec<u8>, DecodeError<R::Error>>
-    ensures { ReadsBytes (input_reading R.reading input.old) result (input_reading R.reading input.new) }
+    ensures { ReadsOwnedBytes (input_reading R.reading input.old) result (input_reading R.reading input.new) }
 {
     match pull_slice(alloc, input)?.into_owned(alloc) {
         Ok(bytes) => Ok(bytes),
@@ -111,10 +110,7 @@ fn pull_char<R: Read>(
 
 impl<'de, R: Read> Deserializer<'de, R> {
     /// Lent where the input lends.
-    pub fn deserialize_str(
-        &mut self,
-        alloc: Global,
-    ) -> Result<CowStr<'de>, DecodeError<R::Error>>
+    pub fn deserialize_str(&mut self, alloc: Global) -> Result<CowStr<'de>, DecodeError<R::Error>>
         ensures text { Call (ReadsStr (codes "string")) (progress R.reading self.old) result (progress R.reading self.new) }
         ensures lent { IfOk result (λ s. IsBorrowedStr s ↔ ((progress R.reading self.old).input.lends ≡ true)) }
     {
@@ -140,7 +136,7 @@ impl<'de, R: Read> Deserializer<'de, R> {
         &mut self,
         alloc: Global,
     ) -> Result<CowSlice<'de, u8>, DecodeError<R::Error>>
-        ensures bytes { Call ReadsSlice (progress R.reading self.old) result (progress R.reading self.new) }
+        ensures bytes { Call ReadsByteSlice (progress R.reading self.old) result (progress R.reading self.new) }
         ensures lent { IfOk result (λ c. IsBorrowedSlice c ↔ ((progress R.reading self.old).input.lends ≡ true)) }
     {
         self.begin()?;
@@ -150,19 +146,19 @@ impl<'de, R: Read> Deserializer<'de, R> {
     }
 
     pub fn deserialize_string(&mut self, alloc: Global) -> Result<String, DecodeError<R::Error>>
-        ensures { Call ReadsText (progress R.reading self.old) result (progress R.reading self.new) }
+        ensures { Call ReadsOwnedText (progress R.reading self.old) result (progress R.reading self.new) }
     {
         self.begin()?;
-        let text = pull_text(alloc, &mut self.input)?;
+        let text = pull_owned_text(alloc, &mut self.input)?;
         self.failed = false;
         Ok(text)
     }
 
     pub fn deserialize_byte_buf(&mut self, alloc: Global) -> Result<Vec<u8>, DecodeError<R::Error>>
-        ensures { Call ReadsBytes (progress R.reading self.old) result (progress R.reading self.new) }
+        ensures { Call ReadsOwnedBytes (progress R.reading self.old) result (progress R.reading self.new) }
     {
         self.begin()?;
-        let bytes = pull_bytes(alloc, &mut self.input)?;
+        let bytes = pull_owned_bytes(alloc, &mut self.input)?;
         self.failed = false;
         Ok(bytes)
     }

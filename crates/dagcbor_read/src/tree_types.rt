@@ -21,10 +21,7 @@ use std::alloc::Global;
 #[derive(Clone, Copy, Debug, PartialEq, Eq)]
 pub struct IgnoredAny;
 
-fn skip_any<R: Read>(
-    alloc: Global,
-    input: &mut Input<'_, R>,
-) -> Result<(), DecodeError<R::Error>>
+fn skip_any<R: Read>(alloc: Global, input: &mut Input<'_, R>) -> Result<(), DecodeError<R::Error>>
     ensures { ReadsIgnored (input_reading R.reading input.old) result (input_reading R.reading input.new) }
 {
     read_any(alloc, input)?;

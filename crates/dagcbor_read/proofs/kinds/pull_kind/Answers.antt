@@ -10,8 +10,8 @@ returns-in_err-first g c = refused _ _ _ _ c.from_residual.ensures.1 (kind_byte_
 pub returns-then-major-low : goal.returns-then-major-low
 returns-then-major-low g c = other_kind g.row.R-Error.Denot _ c.args.low c.args.high c.new.result c.new.ensures c.in_ok-first.ensures.shown
     (λ a b. elim c.then-major-low.branch [
-    | then-major-low-via-then-major-low w ↦ omega (arith, a, w.if-major-low.true)
-    | then-major-low-via-else-major-low+then-high-major w ↦ omega (arith, b, w.if-high-major.true)
+      | then-major-low-via-then-major-low w ↦ omega (arith, a, w.if-major-low.true)
+      | then-major-low-via-else-major-low+then-high-major w ↦ omega (arith, b, w.if-high-major.true)
     ])
 
 pub returns-in_err-argument : goal.returns-in_err-argument

@@ -14,3 +14,11 @@ pub mod EntryRows
 pub mod KeyPlaces
 pub mod Links
 pub mod Wholes
+pub mod HeadKinds
+pub mod Integers
+pub mod SimpleValues
+pub mod StringReads
+pub mod Progressing
+pub mod Nullable
+pub mod Characters
+pub mod LinkValues

@@ -1,6 +1,6 @@
 -- Reading a whole input as one item.
-use Rattle.std.proofs.Common.{◌≡◌, ℕ, ◌<◌, Bool, true, false, List, [], length, inl, inr, sym, ap, ◌∙◌, arith, append-nil}
-use Rattle.std.specs.Prelude.{Some, Ok, Err, MatchBool, ⊤}
+use Rattle.std.proofs.Common.{◌≡◌, ℕ, ◌<◌, Bool, false, List, [], length, inl, inr, sym, ap, ◌∙◌, arith, append-nil}
+use Rattle.std.specs.Prelude.{Some, Ok, Err, ⊤}
 use Rattle.std.specs.declared.convert.Infallible.{Infallible}
 use Rattle.dagcbor_heads.specs.Reading.{Reading}
 use Rattle.dagcbor_heads.specs.Fronts.{ShowsByte}
@@ -16,11 +16,8 @@ use Rattle.ipld_tree.proofs.Fronts.{front_unique}
 use Rattle.dagcbor_read.specs.Untyped.{HasItem, TakesItem, ReadsItem}
 use Rattle.dagcbor_read.specs.Calls.{Progress, Call, Ends, TellsEnd}
 use Rattle.dagcbor_read.specs.ItemCauses.{Stands}
+use Rattle.dagcbor_read.proofs.Progressing.{match_false}
 use Rattle.dagcbor_read.specs.Whole.{IsBlock, SliceRefused}
-
-at_false : (b : Bool) (P Q : Type 0) → b ≡ false → MatchBool b P Q → Q
-at_false true P Q e h = absurd (cc e)
-at_false false P Q e h = h
 
 pub whole_front : {b : List ℕ} {t : Tree} → IsSpelling b t → IsFront b t []
 whole_front {b} {t} h = record { well_formed = h.well_formed; spellable = h.spellable; is = h.is ∙ sym (append-nil (spelling t)) }
@@ -48,8 +45,8 @@ told new b t _ failed l a h = absurd h
 pub end_refused : (b : List ℕ) (start mid end : Progress) (v : Ipld) (e : DecodeError Infallible) → start.failed ≡ false → start.input.left ≡ Some b
     → Call {E = Infallible} (ReadsItem 0) start (Ok v) mid → Ends mid (Err e) end → SliceRefused e b
 end_refused b start mid end v e sound l h k =
-    let read = at_false start.failed _ _ sound h in
-    told end.input b (tree_of v) e end.failed l read.1 (at_false mid.failed _ _ read.0 k)
+    let read = match_false start.failed _ _ sound h in
+    told end.input b (tree_of v) e end.failed l read.1 (match_false mid.failed _ _ read.0 k)
 
 -- the cause of trailing data stands in no item
 no_trailing : (E : Type 0) (b : List ℕ) → Stands {E = E} TrailingData b → ⊥
@@ -73,4 +70,4 @@ slice_refused _ old new b l s r = (λ t h. r.1 (block_item old b t l s h), r.2 b
 -- no item was read
 pub item_refused : (b : List ℕ) (start new : Progress) (e : DecodeError Infallible) → start.failed ≡ false → start.input.left ≡ Some b → start.input.steps ≡ 256
     → Call {E = Infallible} (ReadsItem 0) start (Err e) new → SliceRefused e b
-item_refused b start new e sound l s h = slice_refused e start.input new.input b l s (at_false start.failed _ _ sound h).1
+item_refused b start new e sound l s h = slice_refused e start.input new.input b l s (match_false start.failed _ _ sound h).1

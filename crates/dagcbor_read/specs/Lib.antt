@@ -15,6 +15,11 @@ pub mod Entries
 pub mod Links
 pub mod Calls
 pub mod Reads
+pub mod Views
+pub mod LeafCauses
+pub mod Kinds
+pub mod LeafReads
+pub mod Parts
 pub mod Accessors
 pub mod Collections
 pub mod Whole

@@ -44,7 +44,7 @@ pub(crate) fn read_bytes<R: Read>(
 }
 
 /// The payload as a text, lent where it is.
-fn text_of<'de>(payload: CowSlice<'de, u8>) -> Option<CowStr<'de>>
+pub(crate) fn text_of<'de>(payload: CowSlice<'de, u8>) -> Option<CowStr<'de>>
     ensures text { MatchOption result (¬ IsUtf8 (cow_slice_items payload.entry))
         (λ s. (cow_str_bytes s ≡ cow_slice_items payload.entry) × IsUtf8 (cow_str_bytes s)) }
     ensures lent { IfSome result (λ s. IsBorrowedStr s ↔ IsBorrowedSlice payload.entry) }

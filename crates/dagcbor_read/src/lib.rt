@@ -7,13 +7,23 @@ mod collections;
 mod deserialize;
 mod deserializer;
 mod fields;
+mod holders;
 mod key;
+mod kinds;
 mod leaf;
+mod leaf_types;
+mod lent;
 mod link;
+mod number_types;
+mod numbers;
+mod parts;
 mod row;
 mod sequences;
 mod shown;
+mod simple;
+mod strings;
 mod text_maps;
+mod tree_types;
 mod whole;
 
 pub use accessor::Accessor;
@@ -21,6 +31,7 @@ pub use deserialize::{Deserialize, DeserializeOwned};
 pub use deserializer::Deserializer;
 pub use fields::{Fields, read_fields, read_into, read_struct};
 pub use shown::Shown;
+pub use tree_types::IgnoredAny;
 pub use whole::from_slice;
 
 #[cfg(test)]

@@ -16,7 +16,7 @@ use ipld_tree::{Cid, Ipld};
 const LONGEST_CID: usize = 87;
 
 /// Takes the wanted byte.
-fn pull_wanted<R: Read>(
+pub(crate) fn pull_wanted<R: Read>(
     name: &str,
     other: &str,
     reader: &mut R,

@@ -1,0 +1,90 @@
+-- Reading null, false and true.
+use Rattle.std.proofs.Common.{◌≡◌, ℕ, ◌+◌, ◌*◌, List, [], ◌∷◌, ◌++◌, Bool, true, false, refl, sym, ap, ◌∙◌, subst, zero-le}
+use Rattle.std.specs.Prelude.{Some, Option, is_some, Result, Ok, Err, MatchResult, codes}
+use Rattle.dagcbor_heads.specs.Names.{Names}
+use Rattle.dagcbor_heads.specs.Reading.{Reading}
+use Rattle.dagcbor_heads.specs.Fronts.{HasByte, Takes}
+use Rattle.dagcbor_heads.specs.Causes.{ByteCause}
+use Rattle.dagcbor_heads.specs.Refusals.{Refuses}
+use Rattle.dagcbor_heads.specs.declared.name.Name.{Name}
+use Rattle.dagcbor_heads.specs.declared.error.DecodeError.{DecodeError}
+use Rattle.dagcbor_heads.specs.declared.error.DecodeError.TheVariants.{Eof, Mismatch}
+use Rattle.dagcbor_heads.proofs.Taking.{stays}
+use Rattle.dagcbor_heads.proofs.Refusing.{passed_on}
+use Rattle.ipld_tree.specs.Tree.{Tree, null, boolean, integer, text, bytes, list, mapping, link, IsTree}
+use Rattle.ipld_tree.specs.Spelling.{IsSpellable, spelling, boolean_spelling}
+use Rattle.ipld_tree.proofs.Unique.{major}
+use Rattle.ipld_tree.proofs.Fronts.{front_first}
+use Rattle.dagcbor_read.specs.Reads.{HasFront, TakesFront}
+use Rattle.dagcbor_read.specs.Views.{view_null, view_bool, no_need}
+use Rattle.dagcbor_read.specs.Links.{HasWanted}
+use Rattle.dagcbor_read.specs.LinkCauses.{IsOtherByte}
+use Rattle.dagcbor_read.specs.LeafCauses.{BoolStands}
+use Rattle.dagcbor_read.specs.LeafReads.{ReadsNull}
+
+pub front_byte : {V : Type 0} {view : Tree → Option V} {need : Tree → ℕ} {r : Reading} → HasFront view need r → HasByte r
+front_byte h = let f = front_first h.bytes h.rest h.tree h.front in record { byte = 32 * major h.tree + f.0; rest = f.1; left = h.left ∙ ap Some f.3 }
+
+-- the spelling of a tree was taken
+pub spelling_taken : {V : Type 0} (view : Tree → Option V) {old new : Reading} (t : Tree) (v : V) → IsTree t → IsSpellable t → view t ≡ Some v → Takes old (spelling t) new → TakesFront view no_need old v new
+spelling_taken view {old} {new} t v tree spellable shown h = record {
+  taken = λ b l. let k = h.taken b l in (t, k.0, record { well_formed = tree; spellable = spellable; is = k.1 }, shown, zero-le, k.2);
+  same = h.same;
+}
+
+-- ---- null
+
+is_null : (t : Tree) → is_some (view_null t) ≡ true → t ≡ null
+is_null null a = refl
+is_null (boolean b) a = absurd (cc a)
+is_null (integer b) a = absurd (cc a)
+is_null (text b) a = absurd (cc a)
+is_null (bytes b) a = absurd (cc a)
+is_null (list b) a = absurd (cc a)
+is_null (mapping b) a = absurd (cc a)
+is_null (link b) a = absurd (cc a)
+
+null_byte : {r : Reading} → HasFront view_null no_need r → HasWanted 0xf6 r
+null_byte h = record { rest = h.rest; left = h.left ∙ ap Some (h.front.is ∙ ap (λ t. spelling t ++ h.rest) (is_null h.tree h.accepted)) }
+
+pub null_read : {E : Type 0} (old new : Reading) (result : Result (Unit {0}) (DecodeError E))
+    → MatchResult result (λ _. Takes old (0xf6 ∷ []) new) (λ e. Refuses (HasWanted 0xf6 old) ⊥ ⊥ (IsOtherByte (codes "unit") 0xf6) old e new)
+    → ReadsNull old result new
+null_read old new (Ok u) h = spelling_taken view_null null u tt tt refl h
+null_read old new (Err e) h = passed_on (IsOtherByte (codes "unit") 0xf6) (IsOtherByte (codes "unit") 0xf6) old old new e (stays old) null_byte (λ x. x) (λ x. x) (λ b l. (b, l, λ s. s)) h
+
+-- ---- false and true
+
+is_boolean : (t : Tree) → is_some (view_bool t) ≡ true → (b : Bool) × (t ≡ boolean b)
+is_boolean (boolean b) a = (b, refl)
+is_boolean null a = absurd (cc a)
+is_boolean (integer b) a = absurd (cc a)
+is_boolean (text b) a = absurd (cc a)
+is_boolean (bytes b) a = absurd (cc a)
+is_boolean (list b) a = absurd (cc a)
+is_boolean (mapping b) a = absurd (cc a)
+is_boolean (link b) a = absurd (cc a)
+
+pub bool_taken : {old new : Reading} {found : ℕ} (b : Bool) → found ∷ [] ≡ boolean_spelling b → Takes old (found ∷ []) new → TakesFront view_bool no_need old b new
+bool_taken {old} {new} {found} b e h = spelling_taken view_bool (boolean b) b tt tt refl (subst (λ s. Takes old s new) e h)
+
+no_byte : {E : Type 0} (e : DecodeError E) (b : List ℕ) → ByteCause e b → BoolStands e b
+no_byte (Eof name expect) b h = h
+no_byte _ b h = absurd h
+
+pub bool_byte_refused : {E : Type 0} (old new : Reading) (e : DecodeError E) → Refuses (HasByte old) ⊥ ⊥ ByteCause old e new → Refuses (HasFront view_bool no_need old) ⊥ ⊥ BoolStands old e new
+bool_byte_refused old new e r = passed_on ByteCause BoolStands old old new e (stays old) front_byte (λ x. x) (λ x. x) (λ b l. (b, l, no_byte e b)) r
+
+not_boolean : (found : ℕ) (b : Bool) (rest more : List ℕ) → (found ≡ 0xf4 → ⊥) → (found ≡ 0xf5 → ⊥) → boolean_spelling b ++ rest ≡ found ∷ more → ⊥
+not_boolean found false rest more h k e = h (cc e)
+not_boolean found true rest more h k e = k (cc e)
+
+pub no_bool : (E : Type 0) {old new : Reading} {found : ℕ} (kept : Name) → Names kept (codes "bool") → Takes old (found ∷ []) new → (found ≡ 0xf4 → ⊥) → (found ≡ 0xf5 → ⊥)
+    → Refuses {E = E} (HasFront view_bool no_need old) ⊥ ⊥ BoolStands old (Mismatch kept found) new
+no_bool E {old} {new} {found} kept named h not_false not_true = (
+  h.same.faults,
+  λ i. let t = is_boolean i.tree i.accepted in
+      let k = h.taken i.bytes i.left in
+      not_boolean found t.0 i.rest k.0 not_false not_true (ap (λ t. spelling t ++ i.rest) (sym t.1) ∙ sym i.front.is ∙ k.1),
+  λ b l. let k = h.taken b l in (named, (k.0, k.1, not_false, not_true)),
+)

@@ -1,0 +1,84 @@
+-- The value that a tree shows to a type, and the steps that reading it takes.
+use Rattle.std.specs.Prelude.{ℕ, zero, suc, ◌+◌, ℤ, pos, negsuc, Bool, List, [], ◌∷◌, Option, None, Some, option_map, if◌then◌else◌, nat_lt}
+use Rattle.std.specs.Str.{chars}
+use Rattle.ipld_tree.specs.Tree.{Tree, null, boolean, integer, text, bytes, link}
+
+-- The reading takes no step.
+abbrev pub no_need : Tree → ℕ
+no_need t = 0
+
+-- ---- numbers
+
+-- the number of a head of major type 0 or 1
+abbrev pub number_of : ℕ → ℕ → ℤ
+number_of zero n = pos n
+number_of (suc kind) n = negsuc n
+
+-- a natural number below the bound
+abbrev pub natural_below : ℕ → ℤ → Option ℕ
+natural_below bound (pos n) = if nat_lt n bound then Some n else None
+natural_below bound (negsuc n) = None
+
+-- a number from - bound to bound - 1; `negsuc n` is - 1 - n
+abbrev pub within : ℕ → ℤ → Option ℤ
+within bound (pos n) = if nat_lt n bound then Some (pos n) else None
+within bound (negsuc n) = if nat_lt n bound then Some (negsuc n) else None
+
+-- what a number shows to a type that accepts some numbers
+abbrev pub view_number : {V : Type 0} → (ℤ → Option V) → Tree → Option V
+view_number accepted (integer n) = accepted n
+view_number accepted _ = None
+
+abbrev pub view_unsigned : ℕ → Tree → Option ℕ
+view_unsigned bound = view_number (natural_below bound)
+
+abbrev pub view_signed : ℕ → Tree → Option ℤ
+view_signed bound = view_number (within bound)
+
+-- ---- other leaves
+
+abbrev pub view_null : Tree → Option (Unit {0})
+view_null null = Some tt
+view_null _ = None
+
+abbrev pub view_bool : Tree → Option Bool
+view_bool (boolean b) = Some b
+view_bool _ = None
+
+abbrev pub view_text : Tree → Option (List ℕ)
+view_text (text s) = Some s
+view_text _ = None
+
+-- the element of a list of one
+abbrev pub only : List ℕ → Option ℕ
+only (c ∷ []) = Some c
+only _ = None
+
+-- a text of one character
+abbrev pub view_char : Tree → Option ℕ
+view_char (text s) = only (chars s)
+view_char _ = None
+
+abbrev pub view_bytes : Tree → Option (List ℕ)
+view_bytes (bytes s) = Some s
+view_bytes _ = None
+
+-- the binary form of the CID
+abbrev pub view_link : Tree → Option (List ℕ)
+view_link (link cid) = Some cid
+view_link _ = None
+
+-- ---- types that accept more
+
+-- Any tree shows nothing to a type that ignores it.
+abbrev pub view_ignored : Tree → Option (Unit {0})
+view_ignored t = Some tt
+
+-- null, or what another tree shows
+abbrev pub view_option : {V : Type 0} → (Tree → Option V) → Tree → Option (Option V)
+view_option view null = Some None
+view_option view t = option_map Some (view t)
+
+abbrev pub need_option : (Tree → ℕ) → Tree → ℕ
+need_option need null = 0
+need_option need t = 1 + need t

@@ -1,0 +1,64 @@
+//! Types that hold one other.
+
+ghost use Rattle.std.specs.Prelude.{◌≡◌, Option, option_map, box_value};
+ghost use Rattle.dagcbor_read.specs.Views.{view_option, need_option};
+
+use crate::deserialize::{Deserialize, DeserializeOwned};
+use crate::deserializer::Deserializer;
+use crate::shown::Shown;
+use dagcbor_heads::{DecodeError, Read};
+use std::alloc::Global;
+
+impl<T: Shown> Shown for Option<T> {
+    ghost View = { Option T.View };
+
+    ghost held = { option_map T.held };
+
+    ghost view = { view_option T.view };
+
+    ghost need = { need_option T.need };
+
+    ghost borrows = { T.borrows };
+}
+
+impl<'de, T: Deserialize<'de>> Deserialize<'de> for Option<T> {
+    fn deserialize<R: Read>(
+        alloc: Global,
+        de: &mut Deserializer<'de, R>,
+    ) -> Result<Option<T>, DecodeError<R::Error>> {
+        de.deserialize_option(alloc)
+    }
+}
+
+impl<'de, T: DeserializeOwned<'de>> DeserializeOwned<'de> for Option<T> {
+    ghost owned = { T.owned };
+}
+
+impl<T: Shown> Shown for Box<T> {
+    ghost View = { T.View };
+
+    ghost held = { λ b. T.held (box_value b) };
+
+    ghost view = { T.view };
+
+    ghost need = { T.need };
+
+    ghost borrows = { T.borrows };
+}
+
+impl<'de, T: Deserialize<'de>> Deserialize<'de> for Box<T> {
+    fn deserialize<R: Read>(
+        alloc: Global,
+        de: &mut Deserializer<'de, R>,
+    ) -> Result<Box<T>, DecodeError<R::Error>> {
+        let value = T::deserialize(alloc, de)?;
+        match Box::new(alloc, value) {
+            Ok(boxed) => Ok(boxed),
+            Err(_) => Err(DecodeError::OutOfMemory),
+        }
+    }
+}
+
+impl<'de, T: DeserializeOwned<'de>> DeserializeOwned<'de> for Box<T> {
+    ghost owned = { T.owned };
+}

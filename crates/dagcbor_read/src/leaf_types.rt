@@ -1,0 +1,136 @@
+//! The types of other leaves.
+
+ghost use Rattle.std.specs.Prelude.{◌≡◌, refl, ℕ, List, Bool, false, string_bytes};
+ghost use Rattle.dagcbor_read.specs.Views.{view_null, view_bool, view_char, view_text, view_bytes, no_need};
+
+use crate::deserialize::{Deserialize, DeserializeOwned};
+use crate::deserializer::Deserializer;
+use crate::shown::Shown;
+use dagcbor_heads::{DecodeError, Read};
+use ipld_tree::Bytes;
+use std::alloc::Global;
+
+impl Shown for () {
+    ghost View = { Unit {0} };
+
+    ghost held = { λ u. u };
+
+    ghost view = { view_null };
+
+    ghost need = { no_need };
+
+    ghost borrows = { false };
+}
+
+impl<'de> Deserialize<'de> for () {
+    fn deserialize<R: Read>(
+        _alloc: Global,
+        de: &mut Deserializer<'de, R>,
+    ) -> Result<(), DecodeError<R::Error>> {
+        de.deserialize_unit()
+    }
+}
+
+impl<'de> DeserializeOwned<'de> for () {
+    ghost owned = { refl };
+}
+
+impl Shown for bool {
+    ghost View = { Bool };
+
+    ghost held = { λ b. b };
+
+    ghost view = { view_bool };
+
+    ghost need = { no_need };
+
+    ghost borrows = { false };
+}
+
+impl<'de> Deserialize<'de> for bool {
+    fn deserialize<R: Read>(
+        _alloc: Global,
+        de: &mut Deserializer<'de, R>,
+    ) -> Result<bool, DecodeError<R::Error>> {
+        de.deserialize_bool()
+    }
+}
+
+impl<'de> DeserializeOwned<'de> for bool {
+    ghost owned = { refl };
+}
+
+impl Shown for char {
+    ghost View = { ℕ };
+
+    ghost held = { λ c. c };
+
+    ghost view = { view_char };
+
+    ghost need = { no_need };
+
+    ghost borrows = { false };
+}
+
+impl<'de> Deserialize<'de> for char {
+    fn deserialize<R: Read>(
+        alloc: Global,
+        de: &mut Deserializer<'de, R>,
+    ) -> Result<char, DecodeError<R::Error>> {
+        de.deserialize_char(alloc)
+    }
+}
+
+impl<'de> DeserializeOwned<'de> for char {
+    ghost owned = { refl };
+}
+
+impl Shown for String {
+    ghost View = { List ℕ };
+
+    ghost held = { string_bytes };
+
+    ghost view = { view_text };
+
+    ghost need = { no_need };
+
+    ghost borrows = { false };
+}
+
+impl<'de> Deserialize<'de> for String {
+    fn deserialize<R: Read>(
+        alloc: Global,
+        de: &mut Deserializer<'de, R>,
+    ) -> Result<String, DecodeError<R::Error>> {
+        de.deserialize_string(alloc)
+    }
+}
+
+impl<'de> DeserializeOwned<'de> for String {
+    ghost owned = { refl };
+}
+
+impl Shown for Bytes {
+    ghost View = { List ℕ };
+
+    ghost held = { λ b. b.0.items };
+
+    ghost view = { view_bytes };
+
+    ghost need = { no_need };
+
+    ghost borrows = { false };
+}
+
+impl<'de> Deserialize<'de> for Bytes {
+    fn deserialize<R: Read>(
+        alloc: Global,
+        de: &mut Deserializer<'de, R>,
+    ) -> Result<Bytes, DecodeError<R::Error>> {
+        Ok(Bytes(de.deserialize_byte_buf(alloc)?))
+    }
+}
+
+impl<'de> DeserializeOwned<'de> for Bytes {
+    ghost owned = { refl };
+}

@@ -1,0 +1,87 @@
+//! Types that are lent by the input.
+
+ghost use Rattle.std.specs.Prelude.{◌≡◌, ℕ, List, false, true};
+ghost use Rattle.std.specs.Cow.{cow_str_bytes};
+ghost use Rattle.dagcbor_read.specs.Views.{view_text, view_bytes, no_need};
+
+use crate::deserialize::Deserialize;
+use crate::deserializer::Deserializer;
+use crate::shown::Shown;
+use dagcbor_heads::{DecodeError, Name, Read};
+use ipld_tree::ByteSlice;
+use std::alloc::Global;
+use std::borrow::{CowSlice, CowStr};
+
+impl Shown for &str {
+    ghost View = { List ℕ };
+
+    ghost held = { λ s. s.now };
+
+    ghost view = { view_text };
+
+    ghost need = { no_need };
+
+    ghost borrows = { true };
+}
+
+impl<'de> Deserialize<'de> for &'de str {
+    fn deserialize<R: Read>(
+        alloc: Global,
+        de: &mut Deserializer<'de, R>,
+    ) -> Result<&'de str, DecodeError<R::Error>> {
+        match de.deserialize_str(alloc)? {
+            CowStr::Borrowed(text) => Ok(text),
+            CowStr::Owned(_) => Err(DecodeError::RequireBorrowed {
+                name: Name::new("string"),
+            }),
+        }
+    }
+}
+
+impl Shown for ByteSlice<'_> {
+    ghost View = { List ℕ };
+
+    ghost held = { λ s. s.0.now };
+
+    ghost view = { view_bytes };
+
+    ghost need = { no_need };
+
+    ghost borrows = { true };
+}
+
+impl<'de> Deserialize<'de> for ByteSlice<'de> {
+    fn deserialize<R: Read>(
+        alloc: Global,
+        de: &mut Deserializer<'de, R>,
+    ) -> Result<ByteSlice<'de>, DecodeError<R::Error>> {
+        match de.deserialize_bytes(alloc)? {
+            CowSlice::Borrowed(bytes) => Ok(ByteSlice(bytes)),
+            CowSlice::Owned(_) => Err(DecodeError::RequireBorrowed {
+                name: Name::new("bytes"),
+            }),
+        }
+    }
+}
+
+/// Lent where the input lends, and so not `DeserializeOwned`.
+impl Shown for CowStr<'_> {
+    ghost View = { List ℕ };
+
+    ghost held = { cow_str_bytes };
+
+    ghost view = { view_text };
+
+    ghost need = { no_need };
+
+    ghost borrows = { false };
+}
+
+impl<'de> Deserialize<'de> for CowStr<'de> {
+    fn deserialize<R: Read>(
+        alloc: Global,
+        de: &mut Deserializer<'de, R>,
+    ) -> Result<CowStr<'de>, DecodeError<R::Error>> {
+        de.deserialize_str(alloc)
+    }
+}

@@ -1,0 +1,117 @@
+//! The types of items of any kind, and of links.
+
+ghost use Rattle.std.specs.Prelude.{◌≡◌, refl, ℕ, List, Some, false};
+ghost use Rattle.dagcbor_heads.specs.Inputs.{input_reading};
+ghost use Rattle.ipld_tree.specs.Cid.{cid_bytes};
+ghost use Rattle.ipld_tree.specs.Ipld.{tree_of};
+ghost use Rattle.ipld_tree.specs.Tree.{Tree, any_need};
+ghost use Rattle.dagcbor_read.specs.Calls.{progress, Call};
+ghost use Rattle.dagcbor_read.specs.LeafReads.{ReadsIgnored};
+ghost use Rattle.dagcbor_read.specs.Views.{view_link, view_ignored, no_need};
+
+use crate::any::read_any;
+use crate::deserialize::{Deserialize, DeserializeOwned};
+use crate::deserializer::Deserializer;
+use crate::shown::Shown;
+use dagcbor_heads::{DecodeError, Input, Read};
+use ipld_tree::{Cid, Ipld};
+use std::alloc::Global;
+
+/// Accepts any item, and keeps nothing of it.
+#[derive(Clone, Copy, Debug, PartialEq, Eq)]
+pub struct IgnoredAny;
+
+fn skip_any<R: Read>(alloc: Global, input: &mut Input<'_, R>) -> Result<(), DecodeError<R::Error>>
+    ensures { ReadsIgnored (input_reading R.reading input.old) result (input_reading R.reading input.new) }
+{
+    read_any(alloc, input)?;
+    Ok(())
+}
+
+impl<'de, R: Read> Deserializer<'de, R> {
+    /// Reads an item of any kind, and keeps nothing of it.
+    pub fn deserialize_ignored_any(&mut self, alloc: Global) -> Result<(), DecodeError<R::Error>>
+        ensures { Call ReadsIgnored (progress R.reading self.old) result (progress R.reading self.new) }
+    {
+        self.begin()?;
+        skip_any(alloc, &mut self.input)?;
+        self.failed = false;
+        Ok(())
+    }
+}
+
+impl Shown for IgnoredAny {
+    ghost View = { Unit {0} };
+
+    ghost held = { λ _. tt };
+
+    ghost view = { view_ignored };
+
+    ghost need = { any_need };
+
+    ghost borrows = { false };
+}
+
+impl<'de> Deserialize<'de> for IgnoredAny {
+    fn deserialize<R: Read>(
+        alloc: Global,
+        de: &mut Deserializer<'de, R>,
+    ) -> Result<IgnoredAny, DecodeError<R::Error>> {
+        de.deserialize_ignored_any(alloc)?;
+        Ok(IgnoredAny)
+    }
+}
+
+impl<'de> DeserializeOwned<'de> for IgnoredAny {
+    ghost owned = { refl };
+}
+
+impl Shown for Ipld {
+    ghost View = { Tree };
+
+    ghost held = { tree_of };
+
+    ghost view = { Some };
+
+    ghost need = { any_need };
+
+    ghost borrows = { false };
+}
+
+impl<'de> Deserialize<'de> for Ipld {
+    fn deserialize<R: Read>(
+        alloc: Global,
+        de: &mut Deserializer<'de, R>,
+    ) -> Result<Ipld, DecodeError<R::Error>> {
+        de.deserialize_any(alloc)
+    }
+}
+
+impl<'de> DeserializeOwned<'de> for Ipld {
+    ghost owned = { refl };
+}
+
+impl Shown for Cid {
+    ghost View = { List ℕ };
+
+    ghost held = { cid_bytes };
+
+    ghost view = { view_link };
+
+    ghost need = { no_need };
+
+    ghost borrows = { false };
+}
+
+impl<'de> Deserialize<'de> for Cid {
+    fn deserialize<R: Read>(
+        _alloc: Global,
+        de: &mut Deserializer<'de, R>,
+    ) -> Result<Cid, DecodeError<R::Error>> {
+        de.deserialize_cid()
+    }
+}
+
+impl<'de> DeserializeOwned<'de> for Cid {
+    ghost owned = { refl };
+}

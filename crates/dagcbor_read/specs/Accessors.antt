@@ -81,10 +81,10 @@ ReadsHead major name old result new = MatchResult result
     (λ count. Enters major count old new)
     (λ e. Refuses (HasHeadOf major old) ⊥ ⊥ (EnterCause major name) old e new)
 
--- A list or map is begun exactly where its head stands and a step is left.
-abbrev pub BeginsItems : {E : Type 0} → ℕ → List ℕ → Reading → Result Accessor (DecodeError E) → Reading → Type 0
-BeginsItems major name old result new = MatchResult result
-    (λ a. (begun a ≡ fresh a.name (major == 5) a.left 1) × Names a.name name × Enters major a.left old new)
+-- A list or map is begun exactly where its head stands and a step is left. Its end gives so many steps back.
+abbrev pub BeginsItems : {E : Type 0} → ℕ → List ℕ → ℕ → Reading → Result Accessor (DecodeError E) → Reading → Type 0
+BeginsItems major name steps old result new = MatchResult result
+    (λ a. (begun a ≡ fresh a.name (major == 5) a.left steps) × Names a.name name × Enters major a.left old new)
     (λ e. Refuses (HasHeadOf major old) ⊥ ⊥ (EnterCause major name) old e new)
 
 -- ---- going on

@@ -22,4 +22,5 @@ pub mod LeafReads
 pub mod Parts
 pub mod Accessors
 pub mod Collections
+pub mod Enums
 pub mod Whole

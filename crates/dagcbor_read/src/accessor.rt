@@ -38,7 +38,7 @@ pub(crate) fn copied<'de>(alloc: Global, key: &CowStr<'de>) -> Result<CowStr<'de
 }
 
 /// Gives so many steps back.
-fn give_back<R: Read>(reader: &mut R, steps: usize)
+pub(crate) fn give_back<R: Read>(reader: &mut R, steps: usize)
     requires { (R.reading reader.old).steps + steps ≤ (R.reading reader.old).budget }
     ensures { R.reading reader.new ≡ with_steps ((R.reading reader.old).steps + steps) (R.reading reader.old) }
 {

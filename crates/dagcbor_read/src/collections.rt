@@ -1,17 +1,15 @@
 //! Beginning lists and maps, and reading their parts.
 
-ghost use Rattle.std.specs.Prelude.{◌≡◌, ◌↔◌, ⊤, true, false, codes, option_map, IfOk, MatchResult};
+ghost use Rattle.std.specs.Prelude.{◌≡◌, ◌↔◌, ◌+◌, true, false, codes, option_map, IfOk, MatchResult};
 ghost use Rattle.std.specs.Cow.{cow_str_bytes, IsBorrowedStr};
 ghost use Rattle.dagcbor_heads.specs.Inputs.{input_reading};
 ghost use Rattle.dagcbor_heads.specs.Refusals.{Refuses};
 ghost use Rattle.dagcbor_heads.specs.declared.error.DecodeError.TheVariants.{Failed};
 ghost use Rattle.ipld_tree.specs.Tree.{text};
 ghost use Rattle.dagcbor_read.specs.Calls.{progress, Call};
-ghost use Rattle.dagcbor_read.specs.Reads.{Reads, Anything};
 ghost use Rattle.dagcbor_read.specs.Accessors.{ReadsHead, BeginsItems, ReadsKeyAfter};
 
 use crate::accessor::{Accessor, copied};
-use crate::deserialize::Deserialize;
 use crate::deserializer::Deserializer;
 use crate::key::read_key;
 use dagcbor_heads::{DecodeError, Input, Name, Read, peek_one, pull_head};
@@ -51,19 +49,6 @@ impl<'de, R: Read> Deserializer<'de, R> {
         Ok(())
     }
 
-    /// Reads a part, after whose refusal nothing more is read.
-    pub(crate) fn read_part<T: Deserialize<'de>>(
-        &mut self,
-        alloc: Global,
-    ) -> Result<T, DecodeError<R::Error>>
-        ensures { Call (Reads T.held T.view T.need ⊤ (T.borrows ≡ true) Anything) (progress R.reading self.old) result (progress R.reading self.new) }
-    {
-        self.check()?;
-        let result = T::deserialize(alloc, self);
-        self.failed = result.is_err();
-        result
-    }
-
     /// A key behind the one before it, twice.
     pub(crate) fn read_key_after(
         &mut self,
@@ -82,28 +67,34 @@ impl<'de, R: Read> Deserializer<'de, R> {
         Ok((key, copy))
     }
 
-    /// Begins a list (4) or map (5).
-    fn begin_items(&mut self, name: &str, major: u8) -> Result<Accessor<'de>, DecodeError<R::Error>>
-        ensures { Call (BeginsItems major name.now) (progress R.reading self.old) result (progress R.reading self.new) }
+    /// Begins a list (4) or map (5), whose end gives so many more steps back than its own.
+    pub(crate) fn begin_items(
+        &mut self,
+        name: &str,
+        major: u8,
+        more: u8,
+    ) -> Result<Accessor<'de>, DecodeError<R::Error>>
+        ensures { Call (BeginsItems major name.now (more + 1)) (progress R.reading self.old) result (progress R.reading self.new) }
     {
         self.begin()?;
         let count = enter(name, &mut self.input, major)?;
         self.failed = false;
-        Ok(Accessor::new(Name::new(name), major == 5, count as usize, 1))
+        let steps = usize::from(more) + 1;
+        Ok(Accessor::new(Name::new(name), major == 5, count as usize, steps))
     }
 
     /// Begins a list. Takes no memory.
     pub fn deserialize_seq(&mut self) -> Result<Accessor<'de>, DecodeError<R::Error>>
-        ensures { Call (BeginsItems 4 (codes "array")) (progress R.reading self.old) result (progress R.reading self.new) }
+        ensures { Call (BeginsItems 4 (codes "array") 1) (progress R.reading self.old) result (progress R.reading self.new) }
     {
-        self.begin_items("array", 4)
+        self.begin_items("array", 4, 0)
     }
 
     /// Begins a list for a tuple, whose length is not looked at. Takes no memory.
     pub fn deserialize_tuple(&mut self, _len: usize) -> Result<Accessor<'de>, DecodeError<R::Error>>
-        ensures { Call (BeginsItems 4 (codes "tuple")) (progress R.reading self.old) result (progress R.reading self.new) }
+        ensures { Call (BeginsItems 4 (codes "tuple") 1) (progress R.reading self.old) result (progress R.reading self.new) }
     {
-        self.begin_items("tuple", 4)
+        self.begin_items("tuple", 4, 0)
     }
 
     /// Begins a list for a tuple struct, whose length is not looked at. Takes no memory.
@@ -112,16 +103,16 @@ impl<'de, R: Read> Deserializer<'de, R> {
         name: &str,
         _len: usize,
     ) -> Result<Accessor<'de>, DecodeError<R::Error>>
-        ensures { Call (BeginsItems 4 name.now) (progress R.reading self.old) result (progress R.reading self.new) }
+        ensures { Call (BeginsItems 4 name.now 1) (progress R.reading self.old) result (progress R.reading self.new) }
     {
-        self.begin_items(name, 4)
+        self.begin_items(name, 4, 0)
     }
 
     /// Begins a map. Takes no memory.
     pub fn deserialize_map(&mut self) -> Result<Accessor<'de>, DecodeError<R::Error>>
-        ensures { Call (BeginsItems 5 (codes "map")) (progress R.reading self.old) result (progress R.reading self.new) }
+        ensures { Call (BeginsItems 5 (codes "map") 1) (progress R.reading self.old) result (progress R.reading self.new) }
     {
-        self.begin_items("map", 5)
+        self.begin_items("map", 5, 0)
     }
 
     /// Begins a map for a struct, whose fields' names are not looked at. Takes no memory.
@@ -130,8 +121,8 @@ impl<'de, R: Read> Deserializer<'de, R> {
         name: &str,
         _fields: &[&str],
     ) -> Result<Accessor<'de>, DecodeError<R::Error>>
-        ensures { Call (BeginsItems 5 name.now) (progress R.reading self.old) result (progress R.reading self.new) }
+        ensures { Call (BeginsItems 5 name.now 1) (progress R.reading self.old) result (progress R.reading self.new) }
     {
-        self.begin_items(name, 5)
+        self.begin_items(name, 5, 0)
     }
 }

@@ -1,0 +1,181 @@
+//! Enums: a variant's name alone, or a map of one pair, from the name to what the variant holds.
+
+ghost use Rattle.std.specs.Prelude.{◌≡◌, ◌+◌, ◌≤◌, ◌↔◌, IfOk, codes};
+ghost use Rattle.std.specs.Cow.{IsBorrowedStr};
+ghost use Rattle.dagcbor_read.specs.Calls.{progress, Call};
+ghost use Rattle.dagcbor_read.specs.Enums.{begun_enum, BeginsEnum, SpendsEnum, ReadsName, IsOtherForm, EntersMap, EndsUnit, ReadsHeld, BeginsHeld};
+
+use crate::accessor::{Accessor, give_back};
+use crate::deserialize::Deserialize;
+use crate::deserializer::Deserializer;
+use dagcbor_heads::{DecodeError, Name, Read, peek_one, pull_one};
+use std::alloc::Global;
+use std::borrow::CowStr;
+
+/// An enum that was begun. It holds no `Deserializer`: each call is given the one on which it was begun.
+#[derive(Clone, Copy)]
+pub struct EnumAccessor {
+    first: u8,
+    in_map: bool,
+    steps: u8,
+}
+
+/// The form of the enum that begins here: the first byte of a text, which stays, or a1, which is taken.
+fn pull_form<R: Read>(reader: &mut R) -> Result<EnumAccessor, DecodeError<R::Error>>
+    ensures { BeginsEnum (R.reading reader.old) result (R.reading reader.new) }
+{
+    let first = peek_one("enum", reader)?;
+    let in_map = first == 0xa1;
+    if in_map {
+        pull_one("enum", reader)?;
+    } else if first / 32 != 3 {
+        return Err(DecodeError::Mismatch {
+            name: Name::new("enum"),
+            found: first,
+        });
+    }
+    Ok(EnumAccessor {
+        first,
+        in_map,
+        steps: 0,
+    })
+}
+
+/// The same, for a step.
+fn spend_form<R: Read>(name: &str, reader: &mut R) -> Result<EnumAccessor, DecodeError<R::Error>>
+    ensures { SpendsEnum name.now (R.reading reader.old) result (R.reading reader.new) }
+{
+    if !reader.step_in() {
+        return Err(DecodeError::DepthOverflow {
+            name: Name::new(name),
+        });
+    }
+    let mut form = pull_form(reader)?;
+    form.steps = 1;
+    Ok(form)
+}
+
+impl<'de, R: Read> Deserializer<'de, R> {
+    /// Begins an enum, for a step. The names of its variants are not looked at. Takes no memory.
+    pub fn deserialize_enum(
+        &mut self,
+        name: &str,
+        _variants: &[&str],
+    ) -> Result<EnumAccessor, DecodeError<R::Error>>
+        ensures { Call (SpendsEnum name.now) (progress R.reading self.old) result (progress R.reading self.new) }
+    {
+        self.begin()?;
+        let form = spend_form(name, &mut self.input)?;
+        self.failed = false;
+        Ok(form)
+    }
+}
+
+impl EnumAccessor {
+    /// Begins an enum, for no step. Takes no memory.
+    pub fn enum_<'de, R: Read>(
+        de: &mut Deserializer<'de, R>,
+    ) -> Result<EnumAccessor, DecodeError<R::Error>>
+        ensures { Call BeginsEnum (progress R.reading de.old) result (progress R.reading de.new) }
+    {
+        de.begin()?;
+        let form = pull_form(&mut de.input)?;
+        de.failed = false;
+        Ok(form)
+    }
+
+    /// The variant's name: read as `deserialize_identifier` does.
+    pub fn variant<'de, R: Read>(
+        self,
+        alloc: Global,
+        de: &mut Deserializer<'de, R>,
+    ) -> Result<(CowStr<'de>, EnumAccessor), DecodeError<R::Error>>
+        ensures same { IfOk result (λ v. v.1 ≡ self) }
+        ensures text { Call ReadsName (progress R.reading de.old) result (progress R.reading de.new) }
+        ensures lent { IfOk result (λ v. IsBorrowedStr v.0 ↔ ((progress R.reading de.old).input.lends ≡ true)) }
+    {
+        let name = de.deserialize_identifier(alloc)?;
+        Ok((name, self))
+    }
+
+    /// After a variant's name alone, nothing is read. Else `Mismatch` with the enum's first byte.
+    pub fn unit_variant<'de, R: Read>(
+        self,
+        de: &mut Deserializer<'de, R>,
+    ) -> Result<(), DecodeError<R::Error>>
+        requires { (progress R.reading de.old).input.steps + (begun_enum self).steps ≤ (progress R.reading de.old).input.budget }
+        ensures { Call (EndsUnit (begun_enum self)) (progress R.reading de.old) result (progress R.reading de.new) }
+    {
+        de.begin()?;
+        if self.in_map {
+            return Err(self.other_form());
+        }
+        give_back(&mut de.input, usize::from(self.steps));
+        de.failed = false;
+        Ok(())
+    }
+
+    /// What the variant holds. After a name alone it is `Mismatch` with the enum's first byte.
+    pub fn newtype_variant<'de, T: Deserialize<'de>, R: Read>(
+        self,
+        alloc: Global,
+        de: &mut Deserializer<'de, R>,
+    ) -> Result<T, DecodeError<R::Error>>
+        requires { (progress R.reading de.old).input.steps + (begun_enum self).steps ≤ (progress R.reading de.old).input.budget }
+        ensures { Call (ReadsHeld T.held T.view T.need T.borrows (begun_enum self)) (progress R.reading de.old) result (progress R.reading de.new) }
+    {
+        self.enter_map(de)?;
+        let part = de.read_part(alloc)?;
+        give_back(&mut de.input, usize::from(self.steps));
+        Ok(part)
+    }
+
+    /// The list of what the variant holds, whose length is not looked at. Its end gives all steps back. Takes no memory.
+    pub fn tuple_variant<'de, R: Read>(
+        self,
+        _len: usize,
+        de: &mut Deserializer<'de, R>,
+    ) -> Result<Accessor<'de>, DecodeError<R::Error>>
+        ensures { Call (BeginsHeld 4 (codes "tuple") (begun_enum self)) (progress R.reading de.old) result (progress R.reading de.new) }
+    {
+        self.enter_map(de)?;
+        de.begin_items("tuple", 4, self.steps)
+    }
+
+    /// The map of what the variant holds, whose fields' names are not looked at. Its end gives all steps back. Takes no
+    /// memory.
+    pub fn struct_variant<'de, R: Read>(
+        self,
+        _fields: &[&str],
+        de: &mut Deserializer<'de, R>,
+    ) -> Result<Accessor<'de>, DecodeError<R::Error>>
+        ensures { Call (BeginsHeld 5 (codes "map") (begun_enum self)) (progress R.reading de.old) result (progress R.reading de.new) }
+    {
+        self.enter_map(de)?;
+        de.begin_items("map", 5, self.steps)
+    }
+
+    fn other_form<E>(self) -> DecodeError<E>
+        ensures { IsOtherForm (begun_enum self) result }
+    {
+        DecodeError::Mismatch {
+            name: Name::new("enum"),
+            found: self.first,
+        }
+    }
+
+    /// Goes on only where the enum is a map.
+    fn enter_map<'de, R: Read>(
+        self,
+        de: &mut Deserializer<'de, R>,
+    ) -> Result<(), DecodeError<R::Error>>
+        ensures { Call (EntersMap (begun_enum self)) (progress R.reading de.old) result (progress R.reading de.new) }
+    {
+        de.begin()?;
+        if !self.in_map {
+            return Err(self.other_form());
+        }
+        de.failed = false;
+        Ok(())
+    }
+}

@@ -16,3 +16,4 @@ pub mod Progressing
 pub mod Nullable
 pub mod Characters
 pub mod LinkValues
+pub mod StringItems

@@ -17,6 +17,7 @@ use Rattle.ipld_tree.specs.Spelling.{IsFront}
 use Rattle.ipld_tree.proofs.Fronts.{front_unique}
 use Rattle.dagcbor_read.specs.Reads.{HasFront, TakesFront}
 use Rattle.dagcbor_read.specs.Views.{only, view_text, view_char, no_need}
+use Rattle.dagcbor_read.proofs.StringReads.{shown_text}
 use Rattle.dagcbor_read.specs.LeafCauses.{TextStands, CharStands}
 
 empty : (s : List ℕ) → length s ≡ 0 → s ≡ []
@@ -51,19 +52,9 @@ pub char_text_refused : {E : Type 0} (lacks : Type 0) (old new : Reading) (e : D
     → Refuses (HasFront view_char no_need old) lacks ⊥ CharStands old e new
 char_text_refused lacks old new e r = passed_on (TextStands (codes "string")) CharStands old old new e (stays old) char_text (λ x. x) (λ x. x) (λ b l. (b, l, λ h. inl h)) r
 
-is_text : (t : Tree) (s : List ℕ) → view_text t ≡ Some s → t ≡ text s
-is_text (text v) s e = cc
-is_text null s e = absurd (cc e)
-is_text (boolean b) s e = absurd (cc e)
-is_text (integer b) s e = absurd (cc e)
-is_text (bytes b) s e = absurd (cc e)
-is_text (list b) s e = absurd (cc e)
-is_text (mapping b) s e = absurd (cc e)
-is_text (link b) s e = absurd (cc e)
-
 pub char_taken : {old new : Reading} (s t : List ℕ) (c : ℕ) → t ≡ s → Some c ≡ only (chars t) → TakesFront view_text no_need old s new → TakesFront view_char no_need old c new
 char_taken {old} {new} s t c same e h = record {
-  taken = λ b l. let k = h.taken b l in (k.0, k.1, k.2, ap view_char (is_text k.0 s k.3) ∙ ap (λ x. only (chars x)) (sym same) ∙ sym e, zero-le, k.5);
+  taken = λ b l. let k = h.taken b l in (k.0, k.1, k.2, ap view_char (shown_text k.0 s k.3) ∙ ap (λ x. only (chars x)) (sym same) ∙ sym e, zero-le, k.5);
   same = h.same;
 }
 
@@ -76,10 +67,10 @@ pub no_char : {E : Type 0} (lacks : Type 0) {old new : Reading} (e : DecodeError
 no_char {E} lacks {old} {new} e s t is same none h = subst (λ x. Refuses {E = E} (HasFront view_char no_need old) lacks ⊥ CharStands old x new) (sym is.1) (
   h.same.faults,
   λ i. let k = h.taken i.bytes i.left in
-      let tree = (front_unique i.bytes i.rest k.1 i.tree k.0 i.front k.2).0 ∙ is_text k.0 s k.3 in
+      let tree = (front_unique i.bytes i.rest k.1 i.tree k.0 i.front k.2).0 ∙ shown_text k.0 s k.3 in
       let shown : is_some (only (chars s)) ≡ true = ap (λ t. is_some (view_char t)) (sym tree) ∙ i.accepted in
       absurd (cc (shown, nothing)),
-  λ b l. let k = h.taken b l in inr (is.2, (s, k.1, subst (λ t. IsFront b t k.1) (is_text k.0 s k.3) k.2, nothing)),
+  λ b l. let k = h.taken b l in inr (is.2, (s, k.1, subst (λ t. IsFront b t k.1) (shown_text k.0 s k.3) k.2, nothing)),
 )
   where
     nothing : only (chars s) ≡ None

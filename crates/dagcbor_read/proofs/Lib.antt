@@ -22,3 +22,4 @@ pub mod Progressing
 pub mod Nullable
 pub mod Characters
 pub mod LinkValues
+pub mod StringItems

@@ -1,6 +1,6 @@
 -- Reading texts and byte strings.
 use Rattle.std.proofs.Common.{◌≡◌, inl, inr, ℕ, ◌^◌, ◌<◌, List, ◌++◌, length, true, false, refl, sym, ap, ◌∙◌, subst, arith, append_assoc}
-use Rattle.std.specs.Prelude.{Some, is_some, Result, Ok, Err, MatchResult, IsUtf8, IfErr, codes}
+use Rattle.std.specs.Prelude.{Some, None, Option, is_some, Result, Ok, Err, MatchResult, IsUtf8, IfErr, codes}
 use Rattle.std.specs.Cow.{cow_slice_items}
 use Rattle.std.specs.declared.borrow.CowSlice.{CowSlice}
 use Rattle.std.specs.declared.alloc.Global.{Global}
@@ -69,23 +69,27 @@ pub string_read : {E : Type 0} (name : List ℕ) (kind : ℕ) {m n : ℕ} {old m
 string_read name kind new (Ok c) t named h = string_taken (cow_slice_items c) t.argument_fits (of_kind t) h.0 h.1
 string_read name kind {m} {n} {old} {mid} new (Err e) t named h = payload_refused (mid.lends ≡ false) name kind new e t.argument_fits (of_kind t) named (old.lends ≡ false) (λ x. sym t.takes.same.lends ∙ x) h
 
+some_of : {V : Type 0} (o : Option V) → is_some o ≡ true → (v : V) × (o ≡ Some v)
+some_of (Some v) e = (v, refl)
+some_of None e = absurd (cc e)
+
 -- ---- byte strings
 
-is_byte_string : (t : Tree) → is_some (view_bytes t) ≡ true → (s : List ℕ) × (t ≡ bytes s)
-is_byte_string (bytes s) a = (s, refl)
-is_byte_string null a = absurd (cc a)
-is_byte_string (boolean b) a = absurd (cc a)
-is_byte_string (integer b) a = absurd (cc a)
-is_byte_string (text b) a = absurd (cc a)
-is_byte_string (list b) a = absurd (cc a)
-is_byte_string (mapping b) a = absurd (cc a)
-is_byte_string (link b) a = absurd (cc a)
+pub shown_bytes : (t : Tree) (s : List ℕ) → view_bytes t ≡ Some s → t ≡ bytes s
+shown_bytes (bytes v) s e = cc
+shown_bytes null s e = absurd (cc e)
+shown_bytes (boolean b) s e = absurd (cc e)
+shown_bytes (integer b) s e = absurd (cc e)
+shown_bytes (text b) s e = absurd (cc e)
+shown_bytes (list b) s e = absurd (cc e)
+shown_bytes (mapping b) s e = absurd (cc e)
+shown_bytes (link b) s e = absurd (cc e)
 
 -- a string stands where its head and its payload do
 bytes_stand : {r : Reading} → HasFront view_bytes no_need r → HasString 2 r
 bytes_stand {r} h =
-    let s = is_byte_string h.tree h.accepted in
-    let f = subst (λ t. IsFront h.bytes t h.rest) s.1 h.front in
+    let s = some_of (view_bytes h.tree) h.accepted in
+    let f = subst (λ t. IsFront h.bytes t h.rest) (shown_bytes h.tree s.0 s.1) h.front in
     record { payload = s.0; rest = h.rest; fits = f.spellable; left = h.left ∙ ap Some (f.is ∙ append_assoc (head 2 (length s.0)) s.0 h.rest) }
 
 pub bytes_read : {E : Type 0} (old new : Reading) (result : Result (CowSlice ℕ Global) (DecodeError E)) → ReadsString cow_slice_items (codes "bytes") 2 old result new → ReadsByteSlice old result new
@@ -94,18 +98,18 @@ bytes_read old new (Err e) h = passed_on (StringStands (codes "bytes") 2) (Strin
 
 -- ---- texts
 
-is_text : (t : Tree) → is_some (view_text t) ≡ true → (s : List ℕ) × (t ≡ text s)
-is_text (text s) a = (s, refl)
-is_text null a = absurd (cc a)
-is_text (boolean b) a = absurd (cc a)
-is_text (integer b) a = absurd (cc a)
-is_text (bytes b) a = absurd (cc a)
-is_text (list b) a = absurd (cc a)
-is_text (mapping b) a = absurd (cc a)
-is_text (link b) a = absurd (cc a)
+pub shown_text : (t : Tree) (s : List ℕ) → view_text t ≡ Some s → t ≡ text s
+shown_text (text v) s e = cc
+shown_text null s e = absurd (cc e)
+shown_text (boolean b) s e = absurd (cc e)
+shown_text (integer b) s e = absurd (cc e)
+shown_text (bytes b) s e = absurd (cc e)
+shown_text (list b) s e = absurd (cc e)
+shown_text (mapping b) s e = absurd (cc e)
+shown_text (link b) s e = absurd (cc e)
 
 text_front : {r : Reading} (h : HasFront view_text no_need r) → (s : List ℕ) × IsFront h.bytes (text s) h.rest
-text_front h = let s = is_text h.tree h.accepted in (s.0, subst (λ t. IsFront h.bytes t h.rest) s.1 h.front)
+text_front h = let s = some_of (view_text h.tree) h.accepted in (s.0, subst (λ t. IsFront h.bytes t h.rest) (shown_text h.tree s.0 s.1) h.front)
 
 text_stands : {r : Reading} → HasFront view_text no_need r → HasString 3 r
 text_stands {r} h =

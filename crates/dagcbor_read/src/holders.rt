@@ -1,6 +1,6 @@
 //! Types that hold one other.
 
-ghost use Rattle.std.specs.Prelude.{◌≡◌, Option, option_map, box_value};
+ghost use Rattle.std.specs.Prelude.{Option, option_map, box_value};
 ghost use Rattle.dagcbor_read.specs.Views.{view_option, need_option};
 
 use crate::deserialize::{Deserialize, DeserializeOwned};

@@ -1,16 +1,16 @@
 //! Reading leaves other than links.
 
-ghost use Rattle.std.specs.Prelude.{◌≡◌, ◌/◌, ◌↔◌, true, false, IfOk, IfErr, IfSome, MatchOption, IsUtf8};
-ghost use Rattle.std.specs.Cow.{cow_slice_items, cow_str_bytes, IsBorrowedSlice, IsBorrowedStr};
+ghost use Rattle.std.specs.Prelude.{◌≡◌, ◌/◌, ◌↔◌, true, false, IfOk, IfErr};
+ghost use Rattle.std.specs.Cow.{IsBorrowedStr};
 ghost use Rattle.dagcbor_heads.specs.Inputs.{input_reading};
 ghost use Rattle.dagcbor_heads.specs.Fronts.{StartsWith};
 ghost use Rattle.dagcbor_read.specs.Untyped.{ReadsItem, ReadsText, LacksOnlyIf, StartsWithMajor, IsSimple};
 
-use dagcbor_heads::{DecodeError, Input, Name, Read, pull_head, pull_one, pull_payload};
+use crate::strings::{pull_owned_bytes, pull_str};
+use dagcbor_heads::{DecodeError, Input, Name, Read, pull_head, pull_one};
 use ipld_tree::Ipld;
 use std::alloc::Global;
-use std::borrow::{CowSlice, CowStr};
-use std::str::from_utf8;
+use std::borrow::CowStr;
 
 pub(crate) fn read_natural<R: Read>(reader: &mut R) -> Result<Ipld, DecodeError<R::Error>>
     requires { StartsWithMajor (R.reading reader.old) 0 }
@@ -35,30 +35,7 @@ pub(crate) fn read_bytes<R: Read>(
     requires { StartsWithMajor (input_reading R.reading input.old) 2 }
     ensures { ReadsItem 1 (input_reading R.reading input.old) result (input_reading R.reading input.new) }
 {
-    let (_, count, _) = pull_head("bytes", input)?;
-    let payload = pull_payload(alloc, "bytes", input, count)?;
-    match payload.into_owned(alloc) {
-        Ok(bytes) => Ok(Ipld::Bytes(bytes)),
-        Err(_) => Err(DecodeError::OutOfMemory),
-    }
-}
-
-/// The payload as a text, lent where it is.
-pub(crate) fn text_of<'de>(payload: CowSlice<'de, u8>) -> Option<CowStr<'de>>
-    ensures text { MatchOption result (¬ IsUtf8 (cow_slice_items payload.entry))
-        (λ s. (cow_str_bytes s ≡ cow_slice_items payload.entry) × IsUtf8 (cow_str_bytes s)) }
-    ensures lent { IfSome result (λ s. IsBorrowedStr s ↔ IsBorrowedSlice payload.entry) }
-{
-    match payload {
-        CowSlice::Borrowed(bytes) => match from_utf8(bytes) {
-            Ok(text) => Some(CowStr::Borrowed(text)),
-            Err(_) => None,
-        },
-        CowSlice::Owned(bytes) => match String::from_utf8(bytes) {
-            Ok(text) => Some(CowStr::Owned(text)),
-            Err(_) => None,
-        },
-    }
+    Ok(Ipld::Bytes(pull_owned_bytes(alloc, input)?))
 }
 
 /// A text, lent exactly where the input lends.
@@ -72,14 +49,7 @@ pub(crate) fn pull_text<'de, R: Read>(
     ensures lent { IfOk result (λ s. IsBorrowedStr s ↔ ((input_reading R.reading input.old).lends ≡ true)) }
     ensures memory { IfErr result (LacksOnlyIf ((input_reading R.reading input.old).lends ≡ false)) }
 {
-    let (_, count, _) = pull_head(name, input)?;
-    let payload = pull_payload(alloc, name, input, count)?;
-    match text_of(payload) {
-        Some(text) => Ok(text),
-        None => Err(DecodeError::RequireUtf8 {
-            name: Name::new(name),
-        }),
-    }
+    pull_str(alloc, name, input)
 }
 
 pub(crate) fn read_text<R: Read>(

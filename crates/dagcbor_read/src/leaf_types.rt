@@ -1,6 +1,6 @@
 //! The types of other leaves.
 
-ghost use Rattle.std.specs.Prelude.{◌≡◌, refl, ℕ, List, Bool, false, string_bytes};
+ghost use Rattle.std.specs.Prelude.{refl, ℕ, List, Bool, false, string_bytes};
 ghost use Rattle.dagcbor_read.specs.Views.{view_null, view_bool, view_char, view_text, view_bytes, no_need};
 
 use crate::deserialize::{Deserialize, DeserializeOwned};

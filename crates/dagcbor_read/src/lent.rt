@@ -1,6 +1,6 @@
 //! Types that are lent by the input.
 
-ghost use Rattle.std.specs.Prelude.{◌≡◌, ℕ, List, false, true};
+ghost use Rattle.std.specs.Prelude.{ℕ, List, false, true};
 ghost use Rattle.std.specs.Cow.{cow_str_bytes};
 ghost use Rattle.dagcbor_read.specs.Views.{view_text, view_bytes, no_need};
 

@@ -149,48 +149,56 @@ impl<'de, R: Read> Deserializer<'de, R> {
         Ok(number)
     }
 
+    /// Reads a number from 0 to 255.
     pub fn deserialize_u8(&mut self) -> Result<u8, DecodeError<R::Error>>
         ensures { Call (ReadsUnsigned (codes "u8") (2 ^ 8)) (progress R.reading self.old) result (progress R.reading self.new) }
     {
         Ok(self.unsigned("u8", 0xff)? as u8)
     }
 
+    /// Reads a number from 0 to 65,535.
     pub fn deserialize_u16(&mut self) -> Result<u16, DecodeError<R::Error>>
         ensures { Call (ReadsUnsigned (codes "u16") (2 ^ 16)) (progress R.reading self.old) result (progress R.reading self.new) }
     {
         Ok(self.unsigned("u16", 0xffff)? as u16)
     }
 
+    /// Reads a number from 0 to 2^32 - 1.
     pub fn deserialize_u32(&mut self) -> Result<u32, DecodeError<R::Error>>
         ensures { Call (ReadsUnsigned (codes "u32") (2 ^ 32)) (progress R.reading self.old) result (progress R.reading self.new) }
     {
         Ok(self.unsigned("u32", 0xffff_ffff)? as u32)
     }
 
+    /// Reads a number from 0 to 2^64 - 1.
     pub fn deserialize_u64(&mut self) -> Result<u64, DecodeError<R::Error>>
         ensures { Call (ReadsUnsigned (codes "u64") (2 ^ 64)) (progress R.reading self.old) result (progress R.reading self.new) }
     {
         self.unsigned("u64", u64::MAX)
     }
 
+    /// Reads a number from -128 to 127.
     pub fn deserialize_i8(&mut self) -> Result<i8, DecodeError<R::Error>>
         ensures { Call (ReadsSigned (codes "i8") (2 ^ 7)) (progress R.reading self.old) result (progress R.reading self.new) }
     {
         Ok(self.signed("i8", 0x7f)? as i8)
     }
 
+    /// Reads a number from -32,768 to 32,767.
     pub fn deserialize_i16(&mut self) -> Result<i16, DecodeError<R::Error>>
         ensures { Call (ReadsSigned (codes "i16") (2 ^ 15)) (progress R.reading self.old) result (progress R.reading self.new) }
     {
         Ok(self.signed("i16", 0x7fff)? as i16)
     }
 
+    /// Reads a number from -2^31 to 2^31 - 1.
     pub fn deserialize_i32(&mut self) -> Result<i32, DecodeError<R::Error>>
         ensures { Call (ReadsSigned (codes "i32") (2 ^ 31)) (progress R.reading self.old) result (progress R.reading self.new) }
     {
         Ok(self.signed("i32", 0x7fff_ffff)? as i32)
     }
 
+    /// Reads a number from -2^63 to 2^63 - 1.
     pub fn deserialize_i64(&mut self) -> Result<i64, DecodeError<R::Error>>
         ensures { Call (ReadsSigned (codes "i64") (2 ^ 63)) (progress R.reading self.old) result (progress R.reading self.new) }
     {

@@ -44,6 +44,7 @@ impl<'de, R: Read> Deserializer<'de, R> {
         self.deserialize_unit()
     }
 
+    /// Reads false or true.
     pub fn deserialize_bool(&mut self) -> Result<bool, DecodeError<R::Error>>
         ensures { Call ReadsBool (progress R.reading self.old) result (progress R.reading self.new) }
     {

@@ -1,21 +1,20 @@
 //! Reading texts, characters and byte strings.
 
-ghost use Rattle.std.specs.Prelude.{◌≡◌, ◌<◌, ◌↔◌, true, false, IfOk, codes};
+ghost use Rattle.std.specs.Prelude.{◌≡◌, ◌<◌, ◌↔◌, true, IfOk, IfSome, MatchOption, IsUtf8, codes};
 ghost use Rattle.std.specs.Str.{chars};
-ghost use Rattle.std.specs.Cow.{cow_slice_items, IsBorrowedSlice, IsBorrowedStr};
+ghost use Rattle.std.specs.Cow.{cow_slice_items, cow_str_bytes, IsBorrowedSlice, IsBorrowedStr};
 ghost use Rattle.dagcbor_heads.specs.Inputs.{input_reading};
 ghost use Rattle.dagcbor_read.specs.Calls.{progress, Call};
-ghost use Rattle.dagcbor_read.specs.Reads.{Reads};
 ghost use Rattle.dagcbor_read.specs.Kinds.{ReadsString};
 ghost use Rattle.dagcbor_read.specs.Views.{only};
 ghost use Rattle.dagcbor_read.specs.LeafReads.{ReadsStr, ReadsOwnedText, ReadsChar, ReadsByteSlice, ReadsOwnedBytes};
 
 use crate::deserializer::Deserializer;
 use crate::kinds::pull_kind;
-use crate::leaf::text_of;
 use dagcbor_heads::{DecodeError, Input, Name, Read, pull_payload};
 use std::alloc::Global;
 use std::borrow::{CowSlice, CowStr};
+use std::str::from_utf8;
 
 /// The bytes of a string of the major type, lent where the input lends.
 fn pull_string<'de, R: Read>(
@@ -30,6 +29,24 @@ fn pull_string<'de, R: Read>(
 {
     let (_, count) = pull_kind(name, input, kind, kind)?;
     pull_payload(alloc, name, input, count)
+}
+
+/// The payload as a text, lent where it is.
+fn text_of<'de>(payload: CowSlice<'de, u8>) -> Option<CowStr<'de>>
+    ensures text { MatchOption result (¬ IsUtf8 (cow_slice_items payload.entry))
+        (λ s. (cow_str_bytes s ≡ cow_slice_items payload.entry) × IsUtf8 (cow_str_bytes s)) }
+    ensures lent { IfSome result (λ s. IsBorrowedStr s ↔ IsBorrowedSlice payload.entry) }
+{
+    match payload {
+        CowSlice::Borrowed(bytes) => match from_utf8(bytes) {
+            Ok(text) => Some(CowStr::Borrowed(text)),
+            Err(_) => None,
+        },
+        CowSlice::Owned(bytes) => match String::from_utf8(bytes) {
+            Ok(text) => Some(CowStr::Owned(text)),
+            Err(_) => None,
+        },
+    }
 }
 
 fn pull_slice<'de, R: Read>(
@@ -71,7 +88,7 @@ fn pull_owned_text<R: Read>(
     }
 }
 
-fn pull_owned_bytes<R: Read>(
+pub(crate) fn pull_owned_bytes<R: Read>(
     alloc: Global,
     input: &mut Input<'_, R>,
 ) -> Result<Vec<u8>, DecodeError<R::Error>>
@@ -109,7 +126,7 @@ fn pull_char<R: Read>(
 }
 
 impl<'de, R: Read> Deserializer<'de, R> {
-    /// Lent where the input lends.
+    /// Reads a text, lent where the input lends.
     pub fn deserialize_str(&mut self, alloc: Global) -> Result<CowStr<'de>, DecodeError<R::Error>>
         ensures text { Call (ReadsStr (codes "string")) (progress R.reading self.old) result (progress R.reading self.new) }
         ensures lent { IfOk result (λ s. IsBorrowedStr s ↔ ((progress R.reading self.old).input.lends ≡ true)) }
@@ -131,7 +148,7 @@ impl<'de, R: Read> Deserializer<'de, R> {
         self.deserialize_str(alloc)
     }
 
-    /// Lent where the input lends.
+    /// Reads a byte string, lent where the input lends.
     pub fn deserialize_bytes(
         &mut self,
         alloc: Global,
@@ -145,6 +162,7 @@ impl<'de, R: Read> Deserializer<'de, R> {
         Ok(bytes)
     }
 
+    /// Reads a text.
     pub fn deserialize_string(&mut self, alloc: Global) -> Result<String, DecodeError<R::Error>>
         ensures { Call ReadsOwnedText (progress R.reading self.old) result (progress R.reading self.new) }
     {
@@ -154,6 +172,7 @@ impl<'de, R: Read> Deserializer<'de, R> {
         Ok(text)
     }
 
+    /// Reads a byte string.
     pub fn deserialize_byte_buf(&mut self, alloc: Global) -> Result<Vec<u8>, DecodeError<R::Error>>
         ensures { Call ReadsOwnedBytes (progress R.reading self.old) result (progress R.reading self.new) }
     {

@@ -1,6 +1,6 @@
 //! The types of items of any kind, and of links.
 
-ghost use Rattle.std.specs.Prelude.{◌≡◌, refl, ℕ, List, Some, false};
+ghost use Rattle.std.specs.Prelude.{refl, ℕ, List, Some, false};
 ghost use Rattle.dagcbor_heads.specs.Inputs.{input_reading};
 ghost use Rattle.ipld_tree.specs.Cid.{cid_bytes};
 ghost use Rattle.ipld_tree.specs.Ipld.{tree_of};

@@ -1,0 +1,97 @@
+-- Texts and byte strings as items of unknown kind.
+use Rattle.std.proofs.Common.{◌≡◌, inl, inr, ℕ, List, ◌∷◌, refl, sym, ap, ◌∙◌, subst, arith, Vec, Global}
+use Rattle.std.specs.Prelude.{◌⊎◌, is_some, Result, Ok, Err, codes, ⊤}
+use Rattle.std.specs.Cow.{cow_str_bytes}
+use Rattle.std.specs.declared.borrow.CowStr.{CowStr}
+use Rattle.dagcbor_heads.specs.Reading.{Reading}
+use Rattle.dagcbor_heads.specs.Refusals.{Refuses}
+use Rattle.dagcbor_heads.specs.declared.error.DecodeError.{DecodeError}
+use Rattle.dagcbor_heads.specs.declared.error.DecodeError.TheVariants.{Eof, Mismatch, RequireUtf8}
+use Rattle.dagcbor_heads.proofs.Taking.{stays}
+use Rattle.dagcbor_heads.proofs.Refusing.{passed_on}
+use Rattle.ipld_tree.specs.Tree.{text, bytes}
+use Rattle.ipld_tree.specs.Spelling.{IsFront}
+use Rattle.ipld_tree.specs.Ipld.{tree_of}
+use Rattle.ipld_tree.specs.declared.ipld.Ipld.{Bytes as Bytes'}
+use Rattle.ipld_tree.proofs.Trees.{tree_of-Bytes}
+use Rattle.ipld_tree.proofs.Fronts.{is_bytes, is_text}
+use Rattle.dagcbor_read.specs.ItemCauses.{Stands}
+use Rattle.dagcbor_read.specs.Untyped.{HasItem, TakesItem, ReadsText, StartsWithMajor}
+use Rattle.dagcbor_read.specs.Reads.{HasFront, TakesFront}
+use Rattle.dagcbor_read.specs.Views.{view_text, view_bytes, no_need}
+use Rattle.dagcbor_read.specs.LeafCauses.{IsOtherKind, IsCut, IsGarbled, StringStands, TextStands}
+use Rattle.dagcbor_read.specs.LeafReads.{ReadsStr}
+use Rattle.dagcbor_read.proofs.Rows.{stands_here}
+use Rattle.dagcbor_read.proofs.Fronts.{MajorAt, major_of_front, as_tree}
+use Rattle.dagcbor_read.proofs.StringReads.{shown_bytes, shown_text}
+
+-- ---- the causes
+
+not_other : {E : Type 0} (name : List ℕ) (kind : ℕ) (e : DecodeError E) (b : List ℕ) → MajorAt b kind → IsOtherKind name kind kind e b → ⊥
+not_other name kind (Mismatch kept found) b m h =
+    let is : found ∷ h.1.0 ≡ m.0 ∷ m.1 = sym h.1.1 ∙ m.2 in
+    let same : found ≡ m.0 = cc is in
+    h.1.2 (omega (arith, same, m.3)) (omega (arith, same, m.3))
+not_other name kind _ b m h = absurd h
+
+cut_stands : {E : Type 0} (name : List ℕ) (kind : ℕ) (e : DecodeError E) (b : List ℕ) → (kind ≡ 2) ⊎ (kind ≡ 3) → IsCut name kind e b → Stands e b
+cut_stands {E} name kind (Eof kept expect) b which h = stands_here {E = E} (Eof kept expect) b (inr (inl (kind, h.1.0, h.1.1, which, h.1.2, h.1.3, h.1.4)))
+cut_stands name kind _ b which h = absurd h
+
+garbled_stands : {E : Type 0} (name : List ℕ) (e : DecodeError E) (b : List ℕ) → IsGarbled name e b → Stands e b
+garbled_stands {E} name (RequireUtf8 kept) b h = stands_here {E = E} (RequireUtf8 kept) b (inr (inl h.1))
+garbled_stands name _ b h = absurd h
+
+string_stands : {E : Type 0} (name : List ℕ) (kind : ℕ) (e : DecodeError E) (b : List ℕ) → (kind ≡ 2) ⊎ (kind ≡ 3) → MajorAt b kind → StringStands name kind e b → Stands e b
+string_stands name kind e b which m (inl (inl h)) = stands_here e b (inl h.0)
+string_stands name kind e b which m (inl (inr h)) = absurd (not_other name kind e b m h)
+string_stands name kind e b which m (inr h) = cut_stands name kind e b which h
+
+text_stands : {E : Type 0} (name : List ℕ) (e : DecodeError E) (b : List ℕ) → MajorAt b 3 → TextStands name e b → Stands e b
+text_stands name e b m (inl h) = string_stands name 3 e b (inr refl) m h
+text_stands name e b m (inr h) = garbled_stands name e b h
+
+-- ---- texts
+
+text_front : {old : Reading} → StartsWithMajor old 3 → HasItem 1 old → HasFront view_text no_need old
+text_front starts i = record {
+  bytes = i.bytes;
+  tree = i.tree;
+  rest = i.rest;
+  left = i.left;
+  front = i.front;
+  accepted = let s = is_text i.tree (major_of_front i.bytes i.rest i.tree 3 (starts i.bytes i.left) i.front) in ap (λ t. is_some (view_text t)) s.1;
+  within = omega arith;
+}
+
+text_taken : {old new : Reading} (s : List ℕ) → TakesFront view_text no_need old s new → TakesItem 1 old (text s) new
+text_taken {old} {new} s h = record {
+  taken = λ b l. let k = h.taken b l in let e = shown_text k.0 s k.3 in (k.1, subst (λ t. IsFront b t k.1) e k.2, omega arith, k.5);
+  same = h.same;
+}
+
+pub text_item : {E : Type 0} (name : List ℕ) (old new : Reading) (r : Result (CowStr Global) (DecodeError E)) → StartsWithMajor old 3 → ReadsStr name old r new → ReadsText old r new
+text_item name old new (Ok s) starts h = text_taken (cow_str_bytes s) h
+text_item name old new (Err e) starts h = passed_on (TextStands name) Stands old old new e (stays old) (text_front starts) (λ _. tt) (λ x. x) (λ b l. (b, l, text_stands name e b (starts b l))) h
+
+-- ---- byte strings
+
+bytes_front : {old : Reading} → StartsWithMajor old 2 → HasItem 1 old → HasFront view_bytes no_need old
+bytes_front starts i = record {
+  bytes = i.bytes;
+  tree = i.tree;
+  rest = i.rest;
+  left = i.left;
+  front = i.front;
+  accepted = let s = is_bytes i.tree (major_of_front i.bytes i.rest i.tree 2 (starts i.bytes i.left) i.front) in ap (λ t. is_some (view_bytes t)) s.1;
+  within = omega arith;
+}
+
+pub bytes_taken : {old new : Reading} (v : Vec ℕ Global) → TakesFront view_bytes no_need old v.items new → TakesItem 1 old (tree_of (Bytes' v)) new
+bytes_taken {old} {new} v h = as_tree (bytes v.items) _ (tree_of-Bytes v) record {
+  taken = λ b l. let k = h.taken b l in let e = shown_bytes k.0 v.items k.3 in (k.1, subst (λ t. IsFront b t k.1) e k.2, omega arith, k.5);
+  same = h.same;
+}
+
+pub bytes_refused : {E : Type 0} (old new : Reading) (e : DecodeError E) → StartsWithMajor old 2 → Refuses (HasFront view_bytes no_need old) ⊤ ⊥ (StringStands (codes "bytes") 2) old e new → Refuses (HasItem 1 old) ⊤ ⊥ Stands old e new
+bytes_refused old new e starts r = passed_on (StringStands (codes "bytes") 2) Stands old old new e (stays old) (bytes_front starts) (λ x. x) (λ x. x) (λ b l. (b, l, string_stands (codes "bytes") 2 e b (inl refl) (starts b l))) r

@@ -12,5 +12,6 @@ pub mod Answered
 pub mod ItemRows
 pub mod EntryRows
 pub mod KeyPlaces
+pub mod HashedPlaces
 pub mod Links
 pub mod Wholes

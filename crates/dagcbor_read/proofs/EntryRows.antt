@@ -1,5 +1,5 @@
 -- Entries of a map, read one by one into a state.
-use Rattle.std.proofs.Common.{◌≡◌, ℕ, ◌+◌, ◌-◌, ◌<◌, ◌≤◌, Bool, List, ◌++◌, true, false, refl, sym, ap, ◌∙◌, subst, arith, append_assoc}
+use Rattle.std.proofs.Common.{◌≡◌, ℕ, ◌+◌, ◌-◌, ◌<◌, ◌≤◌, Bool, List, ◌++◌, true, false, refl, sym, ap, ◌∙◌, subst, arith}
 use Rattle.std.specs.Prelude.{Option, None, Some, is_some, option_and_then, Result, Ok, Err, ⊤}
 use Rattle.dagcbor_heads.specs.Head.{head}
 use Rattle.dagcbor_heads.specs.Reading.{Reading, Stays, with_steps}
@@ -13,7 +13,7 @@ use Rattle.dagcbor_read.specs.Untyped.{TakesItem}
 use Rattle.dagcbor_read.specs.Entries.{Follows, HasKey, KeyStands}
 use Rattle.dagcbor_read.specs.Calls.{Progress, Call}
 use Rattle.dagcbor_read.specs.Reads.{HasFront, TakesFront, Anything, ReadsValue}
-use Rattle.dagcbor_read.specs.Accessors.{Begun, begun, HasHeadOf, Enters, BeginsItems}
+use Rattle.dagcbor_read.specs.Accessors.{Begun, begun, Enters, BeginsItems}
 use Rattle.dagcbor_read.specs.declared.accessor.Accessor.{Accessor}
 use Rattle.dagcbor_read.specs.Collections.{view_entries, view_fields, need_entries, need_fields, AllFollow, HasFields, TakesFields, ReadsEntriesLeft}
 use Rattle.dagcbor_read.proofs.Maps.{map_closed}
@@ -202,17 +202,6 @@ module _ {S : Type 0} (take : S → List ℕ → Tree → Option S) (need : List
         by (bytes s) f a w = absurd (cc a)
         by (list ts) f a w = absurd (cc a)
         by (link s) f a w = absurd (cc a)
-
-    pub map_has_head : {r : Reading} → HasFront (view_fields take start) (need_fields need) r → HasHeadOf 5 r
-    map_has_head {r} h =
-        let f = map_front h in
-        record {
-          count = entry_count f.entries;
-          rest = entries_spelling f.entries ++ f.rest;
-          fits = f.front.spellable.0;
-          left = f.left ∙ ap Some (f.front.is ∙ append_assoc (head 5 (entry_count f.entries)) (entries_spelling f.entries) f.rest);
-          step = omega (arith, f.within);
-        }
 
     map_has_fields : {old mid : Reading} {count : ℕ} → Enters 5 count old mid → HasFront (view_fields take start) (need_fields need) old → HasFields take need start None count mid
     map_has_fields {old} {mid} {count} n h =

@@ -5,17 +5,16 @@ use Rattle.dagcbor_heads.specs.Head.{head}
 use Rattle.dagcbor_heads.specs.Reading.{Reading, Stays, with_steps}
 use Rattle.dagcbor_heads.specs.Refusals.{Refuses}
 use Rattle.dagcbor_heads.specs.declared.error.DecodeError.{DecodeError}
-use Rattle.dagcbor_heads.specs.declared.error.DecodeError.TheVariants.{LengthMismatch}
 use Rattle.dagcbor_heads.proofs.Taking.{stays, stays_both}
 use Rattle.ipld_tree.specs.Tree.{Tree, null, boolean, integer, text, bytes, list, mapping, link, Items, no_items, item}
 use Rattle.ipld_tree.specs.Spelling.{item_count, items_spelling, IsFront, AreFronts}
 use Rattle.ipld_tree.proofs.Fronts.{list_opened, list_closed, item_opened, item_closed, items_after}
 use Rattle.dagcbor_read.specs.Calls.{Progress, Call}
 use Rattle.dagcbor_read.specs.Reads.{HasFront, TakesFront, Anything, ReadsValue}
-use Rattle.dagcbor_read.specs.Accessors.{Begun, begun, HasHeadOf, Enters, EnterCause, BeginsItems, LeavesUnread}
+use Rattle.dagcbor_read.specs.Accessors.{Begun, begun, Enters, BeginsItems}
 use Rattle.dagcbor_read.specs.declared.accessor.Accessor.{Accessor}
 use Rattle.dagcbor_read.specs.Collections.{view_list, need_list, view_items, need_items, view_none, need_none, view_first, need_first, HasRow, TakesRow, ReadsRest}
-use Rattle.dagcbor_read.proofs.Answered.{answered, call_refused}
+use Rattle.dagcbor_read.proofs.Answered.{answered}
 use Rattle.dagcbor_read.proofs.Passing.{SameReader, carried}
 
 pub same_reader : {old new : Reading} → Stays old new → SameReader old new
@@ -201,10 +200,6 @@ module _ {V : Type 0} (view : Tree → Option V) (need : Tree → ℕ) where
 
 -- ---- the whole list
 
-pub unread_refused : {E could : Type 0} {old now new : Reading} (lacks borrows : Type 0) (c : Begun) (e : DecodeError E) → LeavesUnread c e → Stays old now → new ≡ now → (could → ⊥) → Refuses could lacks borrows Anything old e new
-unread_refused lacks borrows c (LengthMismatch name expect value) u h same never = (ap (λ (r : Reading). r.faults) same ∙ h.faults, never, λ b l. tt)
-unread_refused lacks borrows c _ u h same never = absurd u
-
 module _ {V : Type 0} (view : Items → Option V) (need : Items → ℕ) where
   -- a list stands at the front that shows something
   record ListFront (r : Reading) : Type 0 where
@@ -228,17 +223,6 @@ module _ {V : Type 0} (view : Items → Option V) (need : Items → ℕ) where
       by (bytes s) f a w = absurd (cc a)
       by (mapping es) f a w = absurd (cc a)
       by (link s) f a w = absurd (cc a)
-
-  pub list_has_head : {r : Reading} → HasFront (view_list view) (need_list need) r → HasHeadOf 4 r
-  list_has_head {r} h =
-      let f = list_front h in
-      record {
-        count = item_count f.items;
-        rest = items_spelling f.items ++ f.rest;
-        fits = f.front.spellable.0;
-        left = f.left ∙ ap Some (f.front.is ∙ append_assoc (head 4 (item_count f.items)) (items_spelling f.items) f.rest);
-        step = omega (arith, f.within);
-      }
 
   pub list_has_row : {old mid : Reading} {count : ℕ} → Enters 4 count old mid → HasFront (view_list view) (need_list need) old → HasRow view need count mid
   list_has_row {old} {mid} {count} n h =
@@ -266,11 +250,6 @@ module _ {V : Type 0} (view : Items → Option V) (need : Items → ℕ) where
       faults = ap (λ (r : Reading). r.faults) back ∙ r.same.faults ∙ n.takes.same.faults;
     };
   }
-
-  pub list_refused : {E : Type 0} (borrows : Type 0) (old mid : Progress) (name : List ℕ) (e : DecodeError E) → old.failed ≡ false → Call (BeginsItems 4 name) old (Err e) mid
-      → Refuses (HasFront (view_list view) (need_list need) old.input) ⊤ borrows Anything old.input e mid.input
-  list_refused {E} borrows old mid name e f h = carried (EnterCause 4 name) Anything old.input old.input mid.input e (same_reader (stays old.input)) list_has_head (λ x. absurd x) (λ x. absurd x) (λ b l g. tt)
-      (call_refused Accessor E (BeginsItems 4 name) old mid e f h)
 
   -- all that is left is read of a list that was begun
   pub rest_reads : {T E : Type 0} (held : T → V) (borrows : Bool) (old mid new : Progress) (name : List ℕ) (a : Accessor) (result : Result T (DecodeError E)) → Call (BeginsItems {E = E} 4 name) old (Ok a) mid

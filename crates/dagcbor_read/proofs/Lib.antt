@@ -12,6 +12,7 @@ pub mod Answered
 pub mod ItemRows
 pub mod EntryRows
 pub mod KeyPlaces
+pub mod HashedPlaces
 pub mod Links
 pub mod Wholes
 pub mod HeadKinds

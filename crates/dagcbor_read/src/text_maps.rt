@@ -9,7 +9,7 @@ use crate::fields::{Fields, read_fields};
 use crate::shown::Shown;
 use dagcbor_heads::{DecodeError, Read};
 use std::alloc::Global;
-use std::collections::BTreeMap;
+use std::collections::{BTreeMap, HashMap};
 
 impl<V: Shown> Shown for BTreeMap<String, V> {
     ghost View = { List (List ℕ × V.View) };
@@ -62,5 +62,59 @@ impl<'de, V: Deserialize<'de>> Deserialize<'de> for BTreeMap<String, V> {
 }
 
 impl<'de, V: DeserializeOwned<'de>> DeserializeOwned<'de> for BTreeMap<String, V> {
+    ghost owned = { V.owned };
+}
+
+impl<V: Shown> Shown for HashMap<String, V> {
+    ghost View = { List (List ℕ × V.View) };
+
+    ghost held = { λ m. in_key_order (text_pairs V.held m.entries) };
+
+    ghost view = { view_map V.view };
+
+    ghost need = { need_map V.need };
+
+    ghost borrows = { V.borrows };
+}
+
+/// Each value goes to its key.
+impl<'de, V: Deserialize<'de>> Fields<'de> for HashMap<String, V> {
+    ghost State = { List (List ℕ × V.View) };
+
+    ghost state = { λ m. in_key_order (text_pairs V.held m.entries) };
+
+    ghost take = { take_entry V.view };
+
+    ghost need = { λ k t. V.need t };
+
+    ghost borrows = { V.borrows };
+
+    fn read_field<R: Read>(
+        &mut self,
+        alloc: Global,
+        key: &str,
+        de: &mut Deserializer<'de, R>,
+    ) -> Result<(), DecodeError<R::Error>> {
+        let value = V::deserialize(alloc, de)?;
+        let Ok(name) = String::from_str(alloc, key) else {
+            return Err(DecodeError::OutOfMemory);
+        };
+        match self.insert(name, value) {
+            Ok(_) => Ok(()),
+            Err(_) => Err(DecodeError::OutOfMemory),
+        }
+    }
+}
+
+impl<'de, V: Deserialize<'de>> Deserialize<'de> for HashMap<String, V> {
+    fn deserialize<R: Read>(
+        alloc: Global,
+        de: &mut Deserializer<'de, R>,
+    ) -> Result<HashMap<String, V>, DecodeError<R::Error>> {
+        read_fields(alloc, HashMap::new(alloc), de)
+    }
+}
+
+impl<'de, V: DeserializeOwned<'de>> DeserializeOwned<'de> for HashMap<String, V> {
     ghost owned = { V.owned };
 }

@@ -231,15 +231,15 @@ module _ {S : Type 0} (take : S → List ℕ → Tree → Option S) (need : List
     }
 
     -- all that is left is read of a map that was begun
-    pub entries_read : {T E : Type 0} (held : T → S) (borrows : Bool) (old mid new : Progress) (name : List ℕ) (a : Accessor) (result : Result T (DecodeError E)) → Call (BeginsItems {E = E} 5 name) old (Ok a) mid
+    pub entries_read : {T E : Type 0} (held : T → S) (borrows : Bool) (old mid new : Progress) (name : List ℕ) (a : Accessor) (result : Result T (DecodeError E)) → Call (BeginsItems {E = E} 5 name 1) old (Ok a) mid
         → ReadsEntriesLeft held take need borrows start (begun a) mid result new → ReadsValue held (view_fields take start) (need_fields need) borrows old result new
     entries_read {T} {E} held borrows old mid new name a (Ok v) h r f =
-        let k = answered Accessor E (BeginsItems 5 name) old mid a h in
+        let k = answered Accessor E (BeginsItems 5 name 1) old mid a h in
         let one : a.steps ≡ 1 = ap (λ (c : Begun). c.steps) k.2.0 in
         let none : (begun a).last ≡ None = ap (λ (c : Begun). c.last) k.2.0 in
         (r.0, map_taken k.2.2 (subst (λ l. TakesFields take need start l a.left mid.input (held v) r.1) none r.2) (r.3 ∙ ap (λ n. with_steps (r.1.steps + n) r.1) one))
     entries_read {T} {E} held borrows old mid new name a (Err e) h r f =
-        let k = answered Accessor E (BeginsItems 5 name) old mid a h in
+        let k = answered Accessor E (BeginsItems 5 name 1) old mid a h in
         let none : (begun a).last ≡ None = ap (λ (c : Begun). c.last) k.2.0 in
         carried Anything Anything old.input mid.input new.input e record { faults = k.2.2.takes.same.faults; lends = k.2.2.takes.same.lends }
         (λ x. subst (λ l. HasFields take need start l a.left mid.input) (sym none) (map_has_fields k.2.2 x)) (λ x. x) (λ x. x) (λ b l g. tt) r

@@ -252,12 +252,12 @@ module _ {V : Type 0} (view : Items → Option V) (need : Items → ℕ) where
   }
 
   -- all that is left is read of a list that was begun
-  pub rest_reads : {T E : Type 0} (held : T → V) (borrows : Bool) (old mid new : Progress) (name : List ℕ) (a : Accessor) (result : Result T (DecodeError E)) → Call (BeginsItems {E = E} 4 name) old (Ok a) mid
+  pub rest_reads : {T E : Type 0} (held : T → V) (borrows : Bool) (old mid new : Progress) (name : List ℕ) (a : Accessor) (result : Result T (DecodeError E)) → Call (BeginsItems {E = E} 4 name 1) old (Ok a) mid
       → ReadsRest held view need borrows (begun a) mid result new → ReadsValue held (view_list view) (need_list need) borrows old result new
   rest_reads {T} {E} held borrows old mid new name a (Ok v) h r f =
-      let k = answered Accessor E (BeginsItems 4 name) old mid a h in
+      let k = answered Accessor E (BeginsItems 4 name 1) old mid a h in
       let one : a.steps ≡ 1 = ap (λ (c : Begun). c.steps) k.2.0 in
       (r.0, list_taken k.2.2 r.2 (r.3 ∙ ap (λ n. with_steps (r.1.steps + n) r.1) one))
   rest_reads {T} {E} held borrows old mid new name a (Err e) h r f =
-      let k = answered Accessor E (BeginsItems 4 name) old mid a h in
+      let k = answered Accessor E (BeginsItems 4 name 1) old mid a h in
       carried Anything Anything old.input mid.input new.input e record { faults = k.2.2.takes.same.faults; lends = k.2.2.takes.same.lends } (list_has_row k.2.2) (λ x. x) (λ x. x) (λ b l g. tt) r

@@ -1,6 +1,6 @@
 //! Enums: a variant's name alone, or a map of one pair, from the name to what the variant holds.
 
-ghost use Rattle.std.specs.Prelude.{◌≡◌, ◌+◌, ◌≤◌, ◌↔◌, IfOk, codes};
+ghost use Rattle.std.specs.Prelude.{◌≡◌, ◌+◌, ◌≤◌, ◌↔◌, true, IfOk, codes};
 ghost use Rattle.std.specs.Cow.{IsBorrowedStr};
 ghost use Rattle.dagcbor_read.specs.Calls.{progress, Call};
 ghost use Rattle.dagcbor_read.specs.Enums.{begun_enum, BeginsEnum, SpendsEnum, ReadsName, IsOtherForm, EntersMap, EndsUnit, ReadsHeld, BeginsHeld};

@@ -1,7 +1,8 @@
 //! Structs, whose fields are read by their names.
 
 ghost use Rattle.std.specs.Prelude.{◌≡◌, ◌+◌, ◌≤◌, ℕ, List, Bool, Option, option_map, true, false};
-ghost use Rattle.ipld_tree.specs.Tree.{Tree};
+ghost use Rattle.ipld_tree.specs.Tree.{Tree, any_need};
+ghost use Rattle.dagcbor_read.specs.Views.{view_ignored};
 ghost use Rattle.dagcbor_read.specs.Calls.{progress};
 ghost use Rattle.dagcbor_read.specs.Reads.{ReadsValue};
 ghost use Rattle.dagcbor_read.specs.Accessors.{begun};
@@ -99,4 +100,14 @@ pub fn read_into<'de, T: Deserialize<'de>, R: Read>(
     let value = T::deserialize(alloc, de)?;
     *place = Some(value);
     Ok(())
+}
+
+/// Skips the value of a field that the struct does not have: an item of any kind.
+pub fn skip_value<'de, R: Read>(
+    alloc: Global,
+    de: &mut Deserializer<'de, R>,
+) -> Result<(), DecodeError<R::Error>>
+    ensures { ReadsValue (λ _. tt) view_ignored any_need false (progress R.reading de.old) result (progress R.reading de.new) }
+{
+    de.deserialize_ignored_any(alloc)
 }

@@ -31,7 +31,7 @@ pub use accessor::Accessor;
 pub use deserialize::{Deserialize, DeserializeOwned};
 pub use deserializer::Deserializer;
 pub use enum_accessor::EnumAccessor;
-pub use fields::{Fields, read_fields, read_into, read_struct};
+pub use fields::{Fields, read_fields, read_into, read_struct, skip_value};
 pub use shown::Shown;
 pub use tree_types::IgnoredAny;
 pub use whole::from_slice;

@@ -22,6 +22,11 @@ pub use Rattle.dagcbor_read.specs.ItemCauses
 pub use Rattle.dagcbor_read.specs.Untyped
 pub use Rattle.dagcbor_read.specs.Links
 pub use Rattle.dagcbor_read.specs.Calls
+pub use Rattle.dagcbor_read.specs.Reads
+pub use Rattle.dagcbor_read.specs.Views
+pub use Rattle.dagcbor_read.specs.Collections
+pub use Rattle.dagcbor_read.specs.Accessors
+pub use Rattle.dagcbor_read.specs.Enums
 pub use Rattle.dagcbor_read.specs.Whole
 pub use Rattle.dagcbor_heads.specs.declared.error.DecodeError
 pub mod RoundTrips

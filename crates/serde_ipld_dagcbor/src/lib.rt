@@ -8,7 +8,10 @@ pub use dagcbor_heads::{
     SliceReader, Tally, Write, is_at_end, is_indefinite, peek_one, pull_head, pull_one,
     pull_payload, pull_short_payload, push_head,
 };
-pub use dagcbor_read::{Deserializer, from_slice};
+pub use dagcbor_read::{
+    Accessor, Deserialize, DeserializeOwned, Deserializer, EnumAccessor, Fields, IgnoredAny, Shown,
+    from_slice, read_fields, read_into, read_struct, skip_value,
+};
 pub use dagcbor_write::{BoundedCollect, CollectMap, CollectSeq, Serialize, Serializer, to_vec};
 pub use ipld_tree::{ByteSlice, Bytes, Cid, CidError, Ipld};
 

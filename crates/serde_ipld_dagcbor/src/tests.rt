@@ -20,3 +20,4 @@ mod second;
 mod states;
 mod trees;
 mod typed;
+mod typed_reads;

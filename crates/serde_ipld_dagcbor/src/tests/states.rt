@@ -71,8 +71,8 @@ fn an_announced_length_reserves_nothing(rt: HostRuntime) -> Result<(), Fail> {
 
 #[test]
 fn a_fault_is_passed_on_and_lasts(rt: HostRuntime) -> Result<(), Fail> {
-    // Fill by fill: the kind's byte, the head, the two bytes behind it.
-    for fill in 1..5 {
+    // Fill by fill: the first byte for the item's kind and for the text's, the head, the two bytes behind it.
+    for fill in 1..6 {
         let mut de = Deserializer::from_reader(Pieces::failing(b"\x62ab", 1, fill));
         assert!(rt;
             matches!(de.deserialize_any(rt.alloc()), Err(DecodeError::Read(7))),
@@ -80,7 +80,7 @@ fn a_fault_is_passed_on_and_lasts(rt: HostRuntime) -> Result<(), Fail> {
         );
         assert!(rt; matches!(de.end(), Err(DecodeError::Failed)), "{fill}");
     }
-    let mut de = Deserializer::from_reader(Pieces::failing(b"\x62ab", 1, 5));
+    let mut de = Deserializer::from_reader(Pieces::failing(b"\x62ab", 1, 6));
     assert!(rt; de.deserialize_any(rt.alloc()).is_ok());
     assert!(rt; matches!(de.end(), Err(DecodeError::Read(7))));
     Ok(())

@@ -1,5 +1,5 @@
 -- Reading a whole input as one item.
-use Rattle.std.specs.Prelude.{ℕ, ◌<◌, ◌≤◌, List, length, Result, MatchResult, ⊤}
+use Rattle.std.specs.Prelude.{◌≡◌, ℕ, ◌<◌, ◌≤◌, List, length, Option, Some, Result, MatchResult, ⊤}
 use Rattle.std.specs.declared.convert.Infallible.{Infallible}
 use Rattle.dagcbor_heads.specs.declared.error.DecodeError.{DecodeError}
 use Rattle.dagcbor_heads.specs.declared.error.DecodeError.TheVariants.{Read, RequireBorrowed, OutOfMemory, Failed, TrailingData}
@@ -29,3 +29,20 @@ SliceRefused e b = ((t : Tree) → IsBlock b t → ⊥) × StandsInWhole e b
 -- A slice is read exactly where it is a block.
 abbrev pub ReadsSlice : List ℕ → Result Ipld (DecodeError Infallible) → Type 0
 ReadsSlice b result = MatchResult result (λ v. IsBlock b (tree_of v)) (λ e. SliceRefused e b)
+
+-- the bytes are the spelling of a tree that shows v to the type, within 256 steps
+abbrev pub IsWhole : {V : Type 0} → (Tree → Option V) → (Tree → ℕ) → List ℕ → V → Type 0
+IsWhole view need b v = (t : Tree) × IsSpelling b t × (view t ≡ Some v) × (need t ≤ 256)
+
+-- why a slice is refused as a type: for want of memory, or since it is no spelling of a tree that the type accepts within
+-- 256 steps; a slice does not fault, and lends
+abbrev pub WholeRefused : {V : Type 0} → (Tree → Option V) → (Tree → ℕ) → DecodeError Infallible → List ℕ → Type 0
+WholeRefused view need (Read e) b = ⊥
+WholeRefused view need OutOfMemory b = ⊤
+WholeRefused view need (RequireBorrowed name) b = ⊥
+WholeRefused view need Failed b = ⊥
+WholeRefused {V} view need e b = (v : V) → IsWhole view need b v → ⊥
+
+-- A slice is read as a type exactly where it is the spelling of a tree that the type accepts within 256 steps.
+abbrev pub ReadsWhole : {T V : Type 0} → (T → V) → (Tree → Option V) → (Tree → ℕ) → List ℕ → Result T (DecodeError Infallible) → Type 0
+ReadsWhole held view need b result = MatchResult result (λ v. IsWhole view need b (held v)) (λ e. WholeRefused view need e b)

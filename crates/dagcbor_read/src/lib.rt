@@ -34,7 +34,7 @@ pub use enum_accessor::EnumAccessor;
 pub use fields::{Fields, read_fields, read_into, read_struct, skip_value};
 pub use shown::Shown;
 pub use tree_types::IgnoredAny;
-pub use whole::from_slice;
+pub use whole::{any_from_slice, from_slice};
 
 #[cfg(test)]
 mod tests;

@@ -1,7 +1,8 @@
 //! Reading one value.
 
-ghost use Rattle.dagcbor_read.specs.Whole.{ReadsSlice};
+ghost use Rattle.dagcbor_read.specs.Whole.{ReadsSlice, ReadsWhole};
 
+use crate::deserialize::Deserialize;
 use crate::deserializer::Deserializer;
 use dagcbor_heads::DecodeError;
 use ipld_tree::Ipld;
@@ -9,7 +10,20 @@ use std::alloc::Global;
 use std::convert::Infallible;
 
 /// The value whose spelling the bytes are.
-pub fn from_slice(alloc: Global, bytes: &[u8]) -> Result<Ipld, DecodeError<Infallible>>
+pub fn from_slice<'a, T: Deserialize<'a>>(
+    alloc: Global,
+    bytes: &'a [u8],
+) -> Result<T, DecodeError<Infallible>>
+    ensures { ReadsWhole T.held T.view T.need bytes.now result }
+{
+    let mut de = Deserializer::from_slice(bytes);
+    let value = T::deserialize(alloc, &mut de)?;
+    de.end()?;
+    Ok(value)
+}
+
+/// The data whose spelling the bytes are, as `from_slice` answers it. Its contract also names the cause of a refusal.
+pub fn any_from_slice(alloc: Global, bytes: &[u8]) -> Result<Ipld, DecodeError<Infallible>>
     ensures { ReadsSlice bytes.now result }
 {
     let mut de = Deserializer::from_slice(bytes);

@@ -8,7 +8,7 @@ ghost use Rattle.dagcbor_tool.specs.Answers.{kind_name, variant_name, IsVerdict,
 
 use crate::line::{ToolError, content, take_line, write_all};
 use hex::FromHexError;
-use serde_ipld_dagcbor::{DecodeError, Ipld, from_slice};
+use serde_ipld_dagcbor::{DecodeError, Ipld, any_from_slice};
 use std::alloc::{AllocError, Global};
 use std::io::{BufRead, Write};
 
@@ -70,7 +70,7 @@ fn verdict(alloc: Global, block: &[u8]) -> Result<Vec<u8>, ToolError>
     ensures written { IfOk result (λ v. (said : List ℕ) × IsVerdict block.now said × (v.items ≡ said ++ 10 ∷ [])) }
     ensures memory { IfErr result (λ e. e ≡ ToolError.OutOfMemory) }
 {
-    match from_slice(alloc, block) {
+    match any_from_slice(alloc, block) {
         Ok(value) => Ok(sentence(alloc, "ok ", kind_name(&value))?),
         Err(refusal) => match refusal {
             DecodeError::OutOfMemory => Err(ToolError::OutOfMemory),

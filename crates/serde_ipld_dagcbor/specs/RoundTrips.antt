@@ -10,7 +10,7 @@ use Rattle.ipld_tree.specs.Tree.{any_need}
 use Rattle.ipld_tree.specs.Ipld.{tree_of}
 use Rattle.ipld_tree.specs.declared.ipld.Ipld.{Ipld}
 use Rattle.dagcbor_write.specs.Answers.{IsAnswer}
-use Rattle.dagcbor_read.specs.Whole.{ReadsSlice}
+use Rattle.dagcbor_read.specs.Whole.{ReadsWhole}
 
 -- the bytes were written, or memory was wanting
 abbrev pub IsWrittenBack : List ℕ → Result (Vec ℕ Global) (EncodeError Infallible) → Type 0
@@ -20,7 +20,7 @@ IsWrittenBack b (Err _) = ⊥
 
 -- What was read of bytes is written as the same bytes.
 abbrev pub ReadThenWritten : Type 0
-ReadThenWritten = (b : List ℕ) (value : Ipld) (written : Result (Vec ℕ Global) (EncodeError Infallible)) → ReadsSlice b (Ok value) → IsAnswer (Some (tree_of value)) written → IsWrittenBack b written
+ReadThenWritten = (b : List ℕ) (value : Ipld) (written : Result (Vec ℕ Global) (EncodeError Infallible)) → ReadsWhole tree_of Some any_need b (Ok value) → IsAnswer (Some (tree_of value)) written → IsWrittenBack b written
 
 -- a value of the same tree was read, or memory was wanting
 abbrev pub IsReadBack : Ipld → Result Ipld (DecodeError Infallible) → Type 0
@@ -30,4 +30,4 @@ IsReadBack value (Err _) = ⊥
 
 -- What was written of a value is read as its tree, where the need is within the steps.
 abbrev pub WrittenThenRead : Type 0
-WrittenThenRead = (value : Ipld) (v : Vec ℕ Global) (read : Result Ipld (DecodeError Infallible)) → IsAnswer (Some (tree_of value)) (Ok v) → any_need (tree_of value) ≤ 256 → ReadsSlice v.items read → IsReadBack value read
+WrittenThenRead = (value : Ipld) (v : Vec ℕ Global) (read : Result Ipld (DecodeError Infallible)) → IsAnswer (Some (tree_of value)) (Ok v) → any_need (tree_of value) ≤ 256 → ReadsWhole tree_of Some any_need v.items read → IsReadBack value read

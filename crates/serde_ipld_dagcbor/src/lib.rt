@@ -10,7 +10,7 @@ pub use dagcbor_heads::{
 };
 pub use dagcbor_read::{
     Accessor, Deserialize, DeserializeOwned, Deserializer, EnumAccessor, Fields, IgnoredAny, Shown,
-    from_slice, read_fields, read_into, read_struct, skip_value,
+    any_from_slice, from_slice, read_fields, read_into, read_struct, skip_value,
 };
 pub use dagcbor_write::{BoundedCollect, CollectMap, CollectSeq, Serialize, Serializer, to_vec};
 pub use ipld_tree::{ByteSlice, Bytes, Cid, CidError, Ipld};

@@ -47,7 +47,7 @@ fn integers_both_ways(rt: HostRuntime) -> Result<(), Fail> {
         let written = to_vec(rt.alloc(), &Ipld::Integer(number))?;
         assert_eq!(rt; written.as_slice(), spelling, "{number}");
         assert!(rt;
-            from_slice(rt.alloc(), spelling)? == Ipld::Integer(number),
+            from_slice::<Ipld>(rt.alloc(), spelling)? == Ipld::Integer(number),
             "{number}"
         );
     }
@@ -85,7 +85,7 @@ fn other_leaves_both_ways(rt: HostRuntime) -> Result<(), Fail> {
     ];
     for (value, spelling) in rows {
         assert_eq!(rt; to_vec(alloc, &value)?.as_slice(), spelling);
-        assert!(rt; from_slice(alloc, spelling)? == value);
+        assert!(rt; from_slice::<Ipld>(alloc, spelling)? == value);
     }
     Ok(())
 }
@@ -103,7 +103,7 @@ fn long_byte_strings_both_ways(rt: HostRuntime) -> Result<(), Fail> {
         let written = to_vec(alloc, &value)?;
         assert!(rt; written.starts_with(head), "{length}");
         assert_eq!(rt; written.len(), head.len() + length);
-        assert!(rt; from_slice(alloc, &written)? == value, "{length}");
+        assert!(rt; from_slice::<Ipld>(alloc, &written)? == value, "{length}");
     }
     Ok(())
 }
@@ -137,7 +137,7 @@ fn refusals_name_their_cause(rt: HostRuntime) -> Result<(), Fail> {
         (b"\xf4trailing", "TrailingData"),
     ];
     for (input, told) in rows {
-        match from_slice(rt.alloc(), input) {
+        match from_slice::<Ipld>(rt.alloc(), input) {
             Ok(_) => panic!(rt; "{input:?} was read"),
             Err(refusal) => {
                 let text = format!(in rt.alloc(); "{refusal}")?;

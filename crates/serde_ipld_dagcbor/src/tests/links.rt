@@ -45,7 +45,7 @@ fn links_are_read_and_written(rt: HostRuntime) -> Result<(), Fail> {
     ];
     for (bytes, length) in rows {
         assert_eq!(rt; bytes.len(), length);
-        let value = from_slice(alloc, &bytes)?;
+        let value: Ipld = from_slice(alloc, &bytes)?;
         assert_eq!(rt; to_vec(alloc, &value)?.as_slice(), bytes.as_slice());
     }
     Ok(())
@@ -62,7 +62,7 @@ fn a_link_names_its_block(rt: HostRuntime) -> Result<(), Fail> {
         (1, 0x55, 0x12)
     );
     assert_eq!(rt; cid.to_bytes(alloc)?.as_slice(), &LINK[5..]);
-    assert!(rt; from_slice(alloc, LINK)? == Ipld::Link(cid));
+    assert!(rt; from_slice::<Ipld>(alloc, LINK)? == Ipld::Link(cid));
     let mut ser = Serializer::new(BufWriter::new(Vec::new(alloc)));
     ser.serialize_cid(&cid)?;
     assert_eq!(rt; ser.into_inner().into_inner().as_slice(), LINK);
@@ -116,7 +116,7 @@ fn refusals_of_links_name_their_cause(rt: HostRuntime) -> Result<(), Fail> {
         (b"\xd8\x2a", r#"Eof { name: "cid", expect: Small(1) }"#),
     ];
     for (input, told) in rows {
-        let text = format!(in rt.alloc(); "{:?}", from_slice(rt.alloc(), input))?;
+        let text = format!(in rt.alloc(); "{:?}", from_slice::<Ipld>(rt.alloc(), input))?;
         let wanted = format!(in rt.alloc(); "Err({told})")?;
         assert_eq!(rt; text.as_str(), wanted.as_str());
         let refused = Deserializer::from_slice(input).deserialize_cid();
@@ -148,7 +148,7 @@ fn what_begins_no_link(rt: HostRuntime) -> Result<(), Fail> {
     for _i in 0..1000 {
         tags.push(0xd1)?;
     }
-    let text = format!(in rt.alloc(); "{:?}", from_slice(rt.alloc(), &tags))?;
+    let text = format!(in rt.alloc(); "{:?}", from_slice::<Ipld>(rt.alloc(), &tags))?;
     assert_eq!(rt;
         text.as_str(),
         r#"Err(Mismatch { name: "CBOR tag head", found: 209 })"#

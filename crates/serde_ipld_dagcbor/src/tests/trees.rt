@@ -52,7 +52,7 @@ fn trees_are_read_and_written(rt: HostRuntime) -> Result<(), Fail> {
         ),
     ];
     for (bytes, told) in rows {
-        let value = from_slice(alloc, bytes)?;
+        let value: Ipld = from_slice(alloc, bytes)?;
         let text = format!(in alloc; "{value:?}")?;
         assert_eq!(rt; text.as_str(), told);
         assert_eq!(rt; to_vec(alloc, &value)?.as_slice(), bytes);
@@ -81,7 +81,7 @@ fn keys_are_written_in_their_order(rt: HostRuntime) -> Result<(), Fail> {
     assert_eq!(rt; bytes.len(), 103);
     assert!(rt; bytes.starts_with(b"\xa3\x62js\x83\x6blightweight"));
     assert!(rt; bytes[29..].starts_with(b"\x6fobject"));
-    assert!(rt; from_slice(alloc, &bytes)? == value);
+    assert!(rt; from_slice::<Ipld>(alloc, &bytes)? == value);
     Ok(())
 }
 
@@ -99,7 +99,7 @@ fn depth_is_bounded(rt: HostRuntime) -> Result<(), Fail> {
     ];
     for (piece, times, end, is_read) in rows {
         let bytes = nested(alloc, piece, times, end)?;
-        match from_slice(alloc, &bytes) {
+        match from_slice::<Ipld>(alloc, &bytes) {
             Ok(value) => {
                 assert!(rt; is_read, "{times}");
                 assert_eq!(rt; to_vec(alloc, &value)?.as_slice(), bytes.as_slice());
@@ -120,7 +120,7 @@ fn a_long_list(rt: HostRuntime) -> Result<(), Fail> {
     let bytes = nested(alloc, b"\xf6", 300, b"")?;
     let mut list = Vec::from_slice(alloc, b"\x99\x01\x2c")?;
     list.extend_from_slice(&bytes)?;
-    let value = from_slice(alloc, &list)?;
+    let value: Ipld = from_slice(alloc, &list)?;
     match &value {
         Ipld::List(items) => assert_eq!(rt; items.len(), 300),
         _ => panic!(rt; "no list"),
@@ -218,7 +218,7 @@ fn refusals_of_trees_name_their_cause(rt: HostRuntime) -> Result<(), Fail> {
         (b"\x81\x01\x02", "TrailingData"),
     ];
     for (input, told) in rows {
-        match from_slice(rt.alloc(), input) {
+        match from_slice::<Ipld>(rt.alloc(), input) {
             Ok(_) => panic!(rt; "{input:?} was read"),
             Err(refusal) => {
                 let text = format!(in rt.alloc(); "{refusal}")?;

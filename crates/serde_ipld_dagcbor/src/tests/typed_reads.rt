@@ -3,28 +3,17 @@
 use crate::tests::devices::Pieces;
 use crate::{
     ByteSlice, Bytes, Cid, DecodeError, Deserialize, Deserializer, EnumAccessor, IgnoredAny, Ipld,
+    from_slice,
 };
 use std::alloc::Global;
 use std::borrow::CowStr;
 use std::collections::{BTreeMap, HashMap};
-use std::convert::Infallible;
 use std::fmt::Debug;
 use std::test::Fail;
 
-/// The one value that the bytes are.
-fn read<'de, T: Deserialize<'de>>(
-    alloc: Global,
-    bytes: &'de [u8],
-) -> Result<T, DecodeError<Infallible>> {
-    let mut de = Deserializer::from_slice(bytes);
-    let value = T::deserialize(alloc, &mut de)?;
-    de.end()?;
-    Ok(value)
-}
-
 /// What a read answers, as text.
 fn told<'de, T: Deserialize<'de> + Debug>(alloc: Global, bytes: &'de [u8]) -> Result<String, Fail> {
-    Ok(format!(in alloc; "{:?}", read::<T>(alloc, bytes))?)
+    Ok(format!(in alloc; "{:?}", from_slice::<T>(alloc, bytes))?)
 }
 
 #[test]
@@ -126,11 +115,11 @@ fn other_leaves(rt: HostRuntime) -> Result<(), Fail> {
     for (answer, wanted) in rows {
         assert_eq!(rt; answer.as_str(), wanted);
     }
-    let boxed: Box<u8> = read(alloc, b"\x07")?;
+    let boxed: Box<u8> = from_slice(alloc, b"\x07")?;
     assert_eq!(rt; *boxed, 7);
-    let cid: Cid = read(alloc, b"\xd8\x2a\x49\x00\x01\xce\x01\x9b\x01\x02\x63\xc8")?;
+    let cid: Cid = from_slice(alloc, b"\xd8\x2a\x49\x00\x01\xce\x01\x9b\x01\x02\x63\xc8")?;
     assert_eq!(rt; cid.codec(), 206);
-    let lent: CowStr<'_> = read(alloc, b"\x61a")?;
+    let lent: CowStr<'_> = from_slice(alloc, b"\x61a")?;
     assert!(rt; matches!(lent, CowStr::Borrowed("a")));
     Ok(())
 }
@@ -181,9 +170,9 @@ fn lists_and_maps(rt: HostRuntime) -> Result<(), Fail> {
     for (answer, wanted) in rows {
         assert_eq!(rt; answer.as_str(), wanted);
     }
-    let sorted: BTreeMap<String, u8> = read(alloc, b"\xa2\x61b\x01\x62aa\x02")?;
+    let sorted: BTreeMap<String, u8> = from_slice(alloc, b"\xa2\x61b\x01\x62aa\x02")?;
     assert_eq!(rt; sorted.len(), 2);
-    let hashed: HashMap<String, u8> = read(alloc, b"\xa2\x61b\x01\x62aa\x02")?;
+    let hashed: HashMap<String, u8> = from_slice(alloc, b"\xa2\x61b\x01\x62aa\x02")?;
     assert_eq!(rt; hashed.get("aa").copied(), Some(2));
     Ok(())
 }
@@ -196,10 +185,10 @@ fn depth_counts_lists_alone(rt: HostRuntime) -> Result<(), Fail> {
         bytes.push(0x81)?;
     }
     bytes.push(0x00)?;
-    assert!(rt; read::<Vec<Ipld>>(alloc, &bytes).is_ok());
+    assert!(rt; from_slice::<Vec<Ipld>>(alloc, &bytes).is_ok());
     assert!(rt;
         matches!(
-            read::<Ipld>(alloc, &bytes),
+            from_slice::<Ipld>(alloc, &bytes),
             Err(DecodeError::DepthOverflow { .. })
         )
     );

@@ -26,8 +26,8 @@ pub fn from_slice<'a, T: Deserialize<'a>>(
 pub fn any_from_slice(alloc: Global, bytes: &[u8]) -> Result<Ipld, DecodeError<Infallible>>
     ensures { ReadsSlice bytes.now result }
 {
-    let mut de = Deserializer::from_slice(bytes);
-    let value = de.deserialize_any(alloc)?;
-    de.end()?;
+    let mut input = Deserializer::from_slice(bytes);
+    let value = input.deserialize_any(alloc)?;
+    input.end()?;
     Ok(value)
 }

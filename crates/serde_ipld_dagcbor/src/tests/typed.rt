@@ -10,89 +10,99 @@ fn text(alloc: Global, s: &str) -> Result<String, AllocError> {
     String::from_str(alloc, s)
 }
 
+/// Whether the value is written as these bytes.
+fn writes<T: Serialize>(alloc: Global, value: &T, spelling: &[u8]) -> Result<bool, Fail> {
+    Ok(to_vec(alloc, value)?.as_slice() == spelling)
+}
+
 #[test]
-fn integers_of_every_width(rt: HostRuntime) -> Result<(), Fail> {
+fn unsigned_integers(rt: HostRuntime) -> Result<(), Fail> {
     let alloc = rt.alloc();
-    let rows: [(Vec<u8>, &[u8]); 20] = [
-        (to_vec(alloc, &23u8)?, b"\x17"),
-        (to_vec(alloc, &24i8)?, b"\x18\x18"),
-        (to_vec(alloc, &255u8)?, b"\x18\xff"),
-        (to_vec(alloc, &256u16)?, b"\x19\x01\x00"),
-        (to_vec(alloc, &65_535u16)?, b"\x19\xff\xff"),
-        (to_vec(alloc, &65_536u32)?, b"\x1a\x00\x01\x00\x00"),
-        (
-            to_vec(alloc, &4_294_967_296u64)?,
-            b"\x1b\x00\x00\x00\x01\x00\x00\x00\x00",
-        ),
-        (to_vec(alloc, &-300i16)?, b"\x39\x01\x2b"),
-        (
-            to_vec(alloc, &-18_446_744_073_709_551_616i128)?,
-            b"\x3b\xff\xff\xff\xff\xff\xff\xff\xff",
-        ),
-        (to_vec(alloc, &-23_567_997i32)?, b"\x3a\x01\x67\x9e\x7c"),
-        (to_vec(alloc, &98_745_874i32)?, b"\x1a\x05\xe2\xbe\x12"),
-        (to_vec(alloc, &-256i64)?, b"\x38\xff"),
-        (to_vec(alloc, &-257isize)?, b"\x39\x01\x00"),
-        (
-            to_vec(alloc, &i64::MIN)?,
-            b"\x3b\x7f\xff\xff\xff\xff\xff\xff\xff",
-        ),
-        (
-            to_vec(alloc, &-11_959_030_306_112_471_732i128)?,
-            b"\x3b\xa5\xf7\x02\xb3\xa5\xf7\x02\xb3",
-        ),
-        (to_vec(alloc, &-2015i32)?, b"\x39\x07\xde"),
-        (to_vec(alloc, &12_345_678usize)?, b"\x1a\x00\xbc\x61\x4e"),
-        (to_vec(alloc, &0u128)?, b"\x00"),
-        (
-            to_vec(alloc, &u64::MAX)?,
-            b"\x1b\xff\xff\xff\xff\xff\xff\xff\xff",
-        ),
-        (to_vec(alloc, &-1i8)?, b"\x20"),
-    ];
-    for (written, spelling) in rows {
-        assert_eq!(rt; written.as_slice(), spelling);
-    }
+    assert!(rt; writes(alloc, &23u8, b"\x17")?);
+    assert!(rt; writes(alloc, &255u8, b"\x18\xff")?);
+    assert!(rt; writes(alloc, &256u16, b"\x19\x01\x00")?);
+    assert!(rt; writes(alloc, &65_535u16, b"\x19\xff\xff")?);
+    assert!(rt; writes(alloc, &65_536u32, b"\x1a\x00\x01\x00\x00")?);
+    assert!(rt;
+        writes(
+            alloc,
+            &4_294_967_296u64,
+            b"\x1b\x00\x00\x00\x01\x00\x00\x00\x00"
+        )?
+    );
+    assert!(rt; writes(alloc, &12_345_678usize, b"\x1a\x00\xbc\x61\x4e")?);
+    assert!(rt; writes(alloc, &0u128, b"\x00")?);
+    assert!(rt; writes(alloc, &u64::MAX, b"\x1b\xff\xff\xff\xff\xff\xff\xff\xff")?);
     Ok(())
 }
 
 #[test]
-fn other_values(rt: HostRuntime) -> Result<(), Fail> {
+fn signed_integers(rt: HostRuntime) -> Result<(), Fail> {
+    let alloc = rt.alloc();
+    assert!(rt; writes(alloc, &24i8, b"\x18\x18")?);
+    assert!(rt; writes(alloc, &-300i16, b"\x39\x01\x2b")?);
+    assert!(rt;
+        writes(
+            alloc,
+            &-18_446_744_073_709_551_616i128,
+            b"\x3b\xff\xff\xff\xff\xff\xff\xff\xff"
+        )?
+    );
+    assert!(rt; writes(alloc, &-23_567_997i32, b"\x3a\x01\x67\x9e\x7c")?);
+    assert!(rt; writes(alloc, &98_745_874i32, b"\x1a\x05\xe2\xbe\x12")?);
+    assert!(rt; writes(alloc, &-256i64, b"\x38\xff")?);
+    assert!(rt; writes(alloc, &-257isize, b"\x39\x01\x00")?);
+    assert!(rt; writes(alloc, &i64::MIN, b"\x3b\x7f\xff\xff\xff\xff\xff\xff\xff")?);
+    assert!(rt;
+        writes(
+            alloc,
+            &-11_959_030_306_112_471_732i128,
+            b"\x3b\xa5\xf7\x02\xb3\xa5\xf7\x02\xb3"
+        )?
+    );
+    assert!(rt; writes(alloc, &-2015i32, b"\x39\x07\xde")?);
+    assert!(rt; writes(alloc, &-1i8, b"\x20")?);
+    Ok(())
+}
+
+#[test]
+fn other_leaves_and_parts(rt: HostRuntime) -> Result<(), Fail> {
     let alloc = rt.alloc();
     let byte_string = Bytes(Vec::from_slice(alloc, b"foobar")?);
     let cid = Cid::new_v1(206, 155, b"\x63\xc8")?;
-    let numbers: Vec<i32> = vec![in alloc; 1, 2, 3]?;
     let missing: Option<u8> = None;
-    let rows: [(Vec<u8>, &[u8]); 19] = [
-        (to_vec(alloc, &true)?, b"\xf5"),
-        (to_vec(alloc, &())?, b"\xf6"),
-        (to_vec(alloc, &missing)?, b"\xf6"),
-        (to_vec(alloc, &Some(42u8))?, b"\x18\x2a"),
-        (to_vec(alloc, &'\0')?, b"\x61\x00"),
-        (to_vec(alloc, &'\u{1f494}')?, b"\x64\xf0\x9f\x92\x94"),
-        (to_vec(alloc, &"foobar")?, b"\x66foobar"),
-        (to_vec(alloc, &text(alloc, "é")?)?, b"\x62\xc3\xa9"),
-        (to_vec(alloc, &byte_string)?, b"\x46foobar"),
-        (to_vec(alloc, &ByteSlice(b"\xaf\xfe"))?, b"\x42\xaf\xfe"),
-        (to_vec(alloc, &Box::new(alloc, 7u8)?)?, b"\x07"),
-        (to_vec(alloc, &&7u8)?, b"\x07"),
-        (to_vec(alloc, &numbers)?, b"\x83\x01\x02\x03"),
-        (to_vec(alloc, &numbers.as_slice())?, b"\x83\x01\x02\x03"),
-        (to_vec(alloc, &(1u8,))?, b"\x81\x01"),
-        (to_vec(alloc, &(1u8, "a"))?, b"\x82\x01\x61a"),
-        (to_vec(alloc, &(1u8, -1i8, false))?, b"\x83\x01\x20\xf4"),
-        (
-            to_vec(alloc, &(1u8, (), 2u8, (3u8,)))?,
-            b"\x84\x01\xf6\x02\x81\x03",
-        ),
-        (
-            to_vec(alloc, &cid)?,
-            b"\xd8\x2a\x49\x00\x01\xce\x01\x9b\x01\x02\x63\xc8",
-        ),
-    ];
-    for (written, spelling) in rows {
-        assert_eq!(rt; written.as_slice(), spelling);
-    }
+    assert!(rt; writes(alloc, &true, b"\xf5")?);
+    assert!(rt; writes(alloc, &(), b"\xf6")?);
+    assert!(rt; writes(alloc, &missing, b"\xf6")?);
+    assert!(rt; writes(alloc, &Some(42u8), b"\x18\x2a")?);
+    assert!(rt; writes(alloc, &'\0', b"\x61\x00")?);
+    assert!(rt; writes(alloc, &'\u{1f494}', b"\x64\xf0\x9f\x92\x94")?);
+    assert!(rt; writes(alloc, &"foobar", b"\x66foobar")?);
+    assert!(rt; writes(alloc, &text(alloc, "é")?, b"\x62\xc3\xa9")?);
+    assert!(rt; writes(alloc, &byte_string, b"\x46foobar")?);
+    assert!(rt; writes(alloc, &ByteSlice(b"\xaf\xfe"), b"\x42\xaf\xfe")?);
+    assert!(rt; writes(alloc, &Box::new(alloc, 7u8)?, b"\x07")?);
+    assert!(rt; writes(alloc, &&7u8, b"\x07")?);
+    assert!(rt;
+        writes(
+            alloc,
+            &cid,
+            b"\xd8\x2a\x49\x00\x01\xce\x01\x9b\x01\x02\x63\xc8"
+        )?
+    );
+    Ok(())
+}
+
+#[test]
+fn lists_and_tuples(rt: HostRuntime) -> Result<(), Fail> {
+    let alloc = rt.alloc();
+    let numbers: Vec<i32> = vec![in alloc; 1, 2, 3]?;
+    assert!(rt; writes(alloc, &numbers, b"\x83\x01\x02\x03")?);
+    assert!(rt; writes(alloc, &numbers.as_slice(), b"\x83\x01\x02\x03")?);
+    assert!(rt; writes(alloc, &(1u8,), b"\x81\x01")?);
+    assert!(rt; writes(alloc, &(1u8, "a"), b"\x82\x01\x61a")?);
+    assert!(rt; writes(alloc, &(1u8, -1i8, false), b"\x83\x01\x20\xf4")?);
+    assert!(rt; writes(alloc, &(1u8, (), 2u8, (3u8,)), b"\x84\x01\xf6\x02\x81\x03")?);
     Ok(())
 }
 

@@ -23,4 +23,5 @@ pub mod Parts
 pub mod Accessors
 pub mod Collections
 pub mod Enums
+pub mod EnumViews
 pub mod Whole

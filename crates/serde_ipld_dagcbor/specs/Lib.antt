@@ -28,5 +28,17 @@ pub use Rattle.dagcbor_read.specs.Collections
 pub use Rattle.dagcbor_read.specs.Accessors
 pub use Rattle.dagcbor_read.specs.Enums
 pub use Rattle.dagcbor_read.specs.Whole
+pub use Rattle.dagcbor_read.specs.Reads
+pub use Rattle.dagcbor_read.specs.Views
+pub use Rattle.dagcbor_read.specs.Collections
+pub use Rattle.dagcbor_read.specs.Accessors
+pub use Rattle.dagcbor_read.specs.Enums
+pub use Rattle.dagcbor_read.specs.EnumViews
 pub use Rattle.dagcbor_heads.specs.declared.error.DecodeError
 pub mod RoundTrips
+pub mod Letter
+pub mod NamedLink
+pub mod One
+pub mod Mascot
+pub mod Person
+pub mod OptionalPerson

@@ -16,6 +16,7 @@ mod newtype;
 mod one;
 mod optional_person;
 mod person;
+mod required;
 mod second;
 mod states;
 mod trees;

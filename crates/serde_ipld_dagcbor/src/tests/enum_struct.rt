@@ -1,11 +1,15 @@
 //! An enum of unit variants, and a struct that holds one, written by hand.
 
-ghost use Rattle.std.specs.Prelude.{Option, Some, [], ◌∷◌, codes};
+ghost use Rattle.std.specs.Prelude.{Option, Some, [], ◌∷◌, false, codes};
 ghost use Rattle.ipld_tree.specs.Tree.{Tree, text, entries_tree};
 ghost use Rattle.dagcbor_write.specs.Trees.{field};
+ghost use Rattle.serde_ipld_dagcbor.specs.Letter.{Letter, is_a, is_b, view_letter, need_letter};
 ghost use Rattle.serde_ipld_dagcbor.specs.declared.tests.enum_struct.Enum.TheVariants.{A, B};
 
-use crate::{EncodeError, Serialize, Serializer, Write, to_vec};
+use crate::{
+    DecodeError, Deserialize, Deserializer, EncodeError, Read, Serialize, Serializer, Shown, Write,
+    to_vec,
+};
 use std::alloc::Global;
 use std::test::Fail;
 
@@ -26,6 +30,39 @@ impl Serialize for Enum {
         match self {
             Enum::A => ser.serialize_unit_variant("Enum", 0, "A"),
             Enum::B => ser.serialize_unit_variant("Enum", 1, "B"),
+        }
+    }
+}
+
+impl Shown for Enum {
+    ghost View = { Letter };
+
+    ghost held = { λ e. elim e [ A ↦ is_a | B ↦ is_b ] };
+
+    ghost view = { view_letter };
+
+    ghost need = { need_letter };
+
+    ghost borrows = { false };
+}
+
+impl<'de> Deserialize<'de> for Enum {
+    fn deserialize<R: Read>(
+        alloc: Global,
+        de: &mut Deserializer<'de, R>,
+    ) -> Result<Enum, DecodeError<R::Error>> {
+        let begun = de.deserialize_enum("Enum", &["A", "B"])?;
+        let (name, variant) = begun.variant(alloc, de)?;
+        match name.as_str() {
+            "A" => {
+                variant.unit_variant(de)?;
+                Ok(Enum::A)
+            }
+            "B" => {
+                variant.unit_variant(de)?;
+                Ok(Enum::B)
+            }
+            _ => Err(DecodeError::custom("unknown variant")),
         }
     }
 }
@@ -54,6 +91,18 @@ fn an_enum_in_a_struct_is_written(rt: HostRuntime) -> Result<(), Fail> {
     let rows: [(Enum, &[u8]); 2] = [(Enum::A, b"\xa1\x61e\x61A"), (Enum::B, b"\xa1\x61e\x61B")];
     for (e, spelling) in rows {
         assert_eq!(rt; to_vec(rt.alloc(), &EnumStruct { e })?.as_slice(), spelling);
+    }
+    Ok(())
+}
+
+#[test]
+fn a_unit_variant_is_read(rt: HostRuntime) -> Result<(), Fail> {
+    let rows: [(&[u8], Enum); 2] = [(b"\x61A", Enum::A), (b"\x61B", Enum::B)];
+    for (bytes, e) in rows {
+        let mut de = Deserializer::from_slice(bytes);
+        let value = Enum::deserialize(rt.alloc(), &mut de)?;
+        de.end()?;
+        assert_eq!(rt; value, e);
     }
     Ok(())
 }

@@ -1,10 +1,15 @@
 //! A struct of texts and a number, written by hand.
 
-ghost use Rattle.std.specs.Prelude.{Some, [], ◌∷◌, codes, pos, string_bytes};
+ghost use Rattle.std.specs.Prelude.{Some, [], ◌∷◌, codes, pos, string_bytes, option_map, false};
 ghost use Rattle.ipld_tree.specs.Tree.{text, integer, entries_tree};
 ghost use Rattle.dagcbor_write.specs.Trees.{field};
+ghost use Rattle.serde_ipld_dagcbor.specs.Mascot.{MascotView, SeenMascot, take_mascot, need_mascot, view_mascot, need_of_mascot};
 
-use crate::{EncodeError, Serialize, Serializer, Write, to_vec};
+use crate::tests::required::required;
+use crate::{
+    DecodeError, Deserialize, Deserializer, EncodeError, Fields, Read, Serialize, Serializer,
+    Shown, Write, read_into, read_struct, skip_value, to_vec,
+};
 use std::alloc::Global;
 use std::test::Fail;
 
@@ -33,6 +38,79 @@ impl Serialize for Mascot {
     }
 }
 
+#[derive(Drop)]
+struct MascotFields {
+    name: Option<String>,
+    species: Option<String>,
+    year_of_birth: Option<u32>,
+}
+
+impl<'de> Fields<'de> for MascotFields {
+    ghost State = { SeenMascot };
+
+    ghost state = { λ f. record { name = option_map string_bytes f.name; species = option_map string_bytes f.species; year_of_birth = option_map (λ n. n) f.year_of_birth } };
+
+    ghost take = { take_mascot };
+
+    ghost need = { need_mascot };
+
+    ghost borrows = { false };
+
+    fn read_field<R: Read>(
+        &mut self,
+        alloc: Global,
+        key: &str,
+        de: &mut Deserializer<'de, R>,
+    ) -> Result<(), DecodeError<R::Error>> {
+        match key {
+            "name" => read_into(alloc, &mut self.name, de),
+            "species" => read_into(alloc, &mut self.species, de),
+            "year_of_birth" => read_into(alloc, &mut self.year_of_birth, de),
+            _ => skip_value(alloc, de),
+        }
+    }
+}
+
+impl Shown for Mascot {
+    ghost View = { MascotView };
+
+    ghost held = { λ p. record { name = string_bytes p.name; species = string_bytes p.species; year_of_birth = p.year_of_birth } };
+
+    ghost view = { view_mascot };
+
+    ghost need = { need_of_mascot };
+
+    ghost borrows = { false };
+}
+
+impl<'de> Deserialize<'de> for Mascot {
+    fn deserialize<R: Read>(
+        alloc: Global,
+        de: &mut Deserializer<'de, R>,
+    ) -> Result<Mascot, DecodeError<R::Error>> {
+        let unread = MascotFields {
+            name: None,
+            species: None,
+            year_of_birth: None,
+        };
+        let fields = read_struct(
+            alloc,
+            "Mascot",
+            &["name", "species", "year_of_birth"],
+            unread,
+            de,
+        )?;
+        let name = required(fields.name)?;
+        let species = required(fields.species)?;
+        let year_of_birth = required(fields.year_of_birth)?;
+        Ok(Mascot {
+            name,
+            species,
+            year_of_birth,
+        })
+    }
+}
+
 #[test]
 fn a_mascot_is_written(rt: HostRuntime) -> Result<(), Fail> {
     let mascot = Mascot {
@@ -46,5 +124,18 @@ fn a_mascot_is_written(rt: HostRuntime) -> Result<(), Fail> {
         written.as_slice(),
         b"\xa3\x64name\x66Ferris\x67species\x64crab\x6dyear_of_birth\x19\x07\xdf".as_slice()
     );
+    Ok(())
+}
+
+#[test]
+fn a_mascot_is_read(rt: HostRuntime) -> Result<(), Fail> {
+    let mut de = Deserializer::from_slice(
+        b"\xa3\x64name\x66Ferris\x67species\x64crab\x6dyear_of_birth\x19\x07\xdf",
+    );
+    let mascot = Mascot::deserialize(rt.alloc(), &mut de)?;
+    de.end()?;
+    assert_eq!(rt; mascot.name.as_str(), "Ferris");
+    assert_eq!(rt; mascot.species.as_str(), "crab");
+    assert_eq!(rt; mascot.year_of_birth, 2015);
     Ok(())
 }

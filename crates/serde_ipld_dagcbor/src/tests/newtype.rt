@@ -1,12 +1,17 @@
 //! A newtype, and an enum that holds a link, written by hand.
 
-ghost use Rattle.std.specs.Prelude.{Some, codes, pos};
+ghost use Rattle.std.specs.Prelude.{ℕ, List, ◌^◌, Some, false, codes, pos};
 ghost use Rattle.ipld_tree.specs.Cid.{cid_bytes};
 ghost use Rattle.ipld_tree.specs.Tree.{integer, link};
 ghost use Rattle.dagcbor_write.specs.Trees.{variant_tree};
+ghost use Rattle.dagcbor_read.specs.Views.{view_unsigned, no_need};
+ghost use Rattle.serde_ipld_dagcbor.specs.NamedLink.{view_named_link, need_named_link};
 ghost use Rattle.serde_ipld_dagcbor.specs.declared.tests.newtype.Externally.TheVariants as externally;
 
-use crate::{Cid, EncodeError, Serialize, Serializer, Write, to_vec};
+use crate::{
+    Cid, DecodeError, Deserialize, Deserializer, EncodeError, Read, Serialize, Serializer, Shown,
+    Write, to_vec,
+};
 use std::alloc::Global;
 use std::test::Fail;
 
@@ -22,6 +27,27 @@ impl Serialize for Newtype {
         ser: &mut Serializer<W>,
     ) -> Result<(), EncodeError<W::Error>> {
         ser.serialize_newtype_struct(alloc, "Newtype", &self.0)
+    }
+}
+
+impl Shown for Newtype {
+    ghost View = { ℕ };
+
+    ghost held = { λ n. n.0 };
+
+    ghost view = { view_unsigned (2 ^ 8) };
+
+    ghost need = { no_need };
+
+    ghost borrows = { false };
+}
+
+impl<'de> Deserialize<'de> for Newtype {
+    fn deserialize<R: Read>(
+        alloc: Global,
+        de: &mut Deserializer<'de, R>,
+    ) -> Result<Newtype, DecodeError<R::Error>> {
+        Ok(Newtype(de.deserialize_newtype_struct(alloc, "Newtype")?))
     }
 }
 
@@ -50,6 +76,35 @@ impl Serialize for Externally {
     }
 }
 
+impl Shown for Externally {
+    ghost View = { List ℕ };
+
+    ghost held = { λ e. elim e [ externally.Cid c ↦ cid_bytes c ] };
+
+    ghost view = { view_named_link };
+
+    ghost need = { need_named_link };
+
+    ghost borrows = { false };
+}
+
+impl<'de> Deserialize<'de> for Externally {
+    fn deserialize<R: Read>(
+        alloc: Global,
+        de: &mut Deserializer<'de, R>,
+    ) -> Result<Externally, DecodeError<R::Error>> {
+        let begun = de.deserialize_enum("Externally", &["Cid"])?;
+        let (name, variant) = begun.variant(alloc, de)?;
+        match name.as_str() {
+            "Cid" => {
+                let cid = variant.newtype_variant(alloc, de)?;
+                Ok(Externally::Cid(cid))
+            }
+            _ => Err(DecodeError::custom("unknown variant")),
+        }
+    }
+}
+
 #[test]
 fn values_behind_a_name_are_written(rt: HostRuntime) -> Result<(), Fail> {
     assert_eq!(rt;
@@ -61,5 +116,25 @@ fn values_behind_a_name_are_written(rt: HostRuntime) -> Result<(), Fail> {
         to_vec(rt.alloc(), &linked)?.as_slice(),
         b"\xa1\x63Cid\xd8\x2a\x49\x00\x01\xce\x01\x9b\x01\x02\x63\xc8".as_slice()
     );
+    Ok(())
+}
+
+#[test]
+fn a_newtype_is_read(rt: HostRuntime) -> Result<(), Fail> {
+    let mut de = Deserializer::from_slice(b"\x18\x8e");
+    let value = Newtype::deserialize(rt.alloc(), &mut de)?;
+    de.end()?;
+    assert_eq!(rt; value.0, 142);
+    Ok(())
+}
+
+#[test]
+fn a_link_behind_a_name_is_read(rt: HostRuntime) -> Result<(), Fail> {
+    let mut de = Deserializer::from_slice(
+        b"\xa1\x63Cid\xd8\x2a\x49\x00\x01\xce\x01\x9b\x01\x02\x63\xc8",
+    );
+    let Externally::Cid(cid) = Externally::deserialize(rt.alloc(), &mut de)?;
+    de.end()?;
+    assert!(rt; cid == Cid::new_v1(206, 155, b"\x63\xc8")?);
     Ok(())
 }

@@ -1,10 +1,14 @@
 //! A struct of one field, written by hand.
 
-ghost use Rattle.std.specs.Prelude.{Some, [], ◌∷◌, codes, pos};
+ghost use Rattle.std.specs.Prelude.{ℕ, Some, [], ◌∷◌, codes, pos, option_map, false};
 ghost use Rattle.ipld_tree.specs.Tree.{integer, entries_tree};
 ghost use Rattle.dagcbor_write.specs.Trees.{field};
+ghost use Rattle.serde_ipld_dagcbor.specs.One.{SeenOne, take_one, need_one, view_one, need_of_one};
 
-use crate::{EncodeError, Serialize, Serializer, Write, to_vec};
+use crate::{
+    DecodeError, Deserialize, Deserializer, EncodeError, Fields, Read, Serialize, Serializer,
+    Shown, Write, read_fields, read_into, skip_value, to_vec,
+};
 use std::alloc::Global;
 use std::test::Fail;
 
@@ -27,11 +31,97 @@ impl Serialize for One {
     }
 }
 
+#[derive(Drop)]
+struct OneFields {
+    a: Option<u8>,
+}
+
+impl<'de> Fields<'de> for OneFields {
+    ghost State = { SeenOne };
+
+    ghost state = { λ f. record { a = option_map (λ n. n) f.a } };
+
+    ghost take = { take_one };
+
+    ghost need = { need_one };
+
+    ghost borrows = { false };
+
+    fn read_field<R: Read>(
+        &mut self,
+        alloc: Global,
+        key: &str,
+        de: &mut Deserializer<'de, R>,
+    ) -> Result<(), DecodeError<R::Error>> {
+        match key {
+            "a" => read_into(alloc, &mut self.a, de),
+            _ => skip_value(alloc, de),
+        }
+    }
+}
+
+impl Shown for One {
+    ghost View = { ℕ };
+
+    ghost held = { λ o. o.a };
+
+    ghost view = { view_one };
+
+    ghost need = { need_of_one };
+
+    ghost borrows = { false };
+}
+
+impl<'de> Deserialize<'de> for One {
+    fn deserialize<R: Read>(
+        alloc: Global,
+        de: &mut Deserializer<'de, R>,
+    ) -> Result<One, DecodeError<R::Error>> {
+        let fields = read_fields(alloc, OneFields { a: None }, de)?;
+        match fields.a {
+            Some(a) => Ok(One { a }),
+            None => Err(DecodeError::custom("missing field")),
+        }
+    }
+}
+
 #[test]
 fn one_field_is_written(rt: HostRuntime) -> Result<(), Fail> {
     assert_eq!(rt;
         to_vec(rt.alloc(), &One { a: 1 })?.as_slice(),
         b"\xa1\x61a\x01".as_slice()
     );
+    Ok(())
+}
+
+#[test]
+fn one_field_is_read(rt: HostRuntime) -> Result<(), Fail> {
+    let mut de = Deserializer::from_slice(b"\xa2\x61a\x01\x61b\x05");
+    let one = One::deserialize(rt.alloc(), &mut de)?;
+    de.end()?;
+    assert_eq!(rt; one.a, 1);
+    Ok(())
+}
+
+#[test]
+fn a_value_that_is_skipped_is_read_strictly(rt: HostRuntime) -> Result<(), Fail> {
+    let mut de = Deserializer::from_slice(b"\xa2\x61a\x01\x61b\x18\x05");
+    match One::deserialize(rt.alloc(), &mut de) {
+        Err(DecodeError::NonMinimal { name, found }) => {
+            assert_eq!(rt; name.as_str(), "u64");
+            assert_eq!(rt; found, 24);
+        }
+        _ => return Err(Fail::new("not refused")),
+    }
+    Ok(())
+}
+
+#[test]
+fn a_missing_field_is_refused(rt: HostRuntime) -> Result<(), Fail> {
+    let mut de = Deserializer::from_slice(b"\xa1\x61b\x01");
+    match One::deserialize(rt.alloc(), &mut de) {
+        Err(DecodeError::Msg(message)) => assert_eq!(rt; message.as_str(), "missing field"),
+        _ => return Err(Fail::new("not refused")),
+    }
     Ok(())
 }

@@ -1,10 +1,15 @@
 //! A struct with a field that is left out where it is missing, written by hand.
 
-ghost use Rattle.std.specs.Prelude.{Some, None, List, [], ◌∷◌, codes, pos, string_bytes};
+ghost use Rattle.std.specs.Prelude.{Some, None, List, [], ◌∷◌, codes, pos, string_bytes, option_map, false};
 ghost use Rattle.ipld_tree.specs.Tree.{text, integer, entries_tree};
 ghost use Rattle.dagcbor_write.specs.Trees.{option_tree, field};
+ghost use Rattle.serde_ipld_dagcbor.specs.OptionalPerson.{OptionalPersonView, SeenOptionalPerson, take_optional_person, need_optional_person, view_optional_person, need_of_optional_person};
 
-use crate::{EncodeError, Serialize, Serializer, Write, to_vec};
+use crate::tests::required::required;
+use crate::{
+    DecodeError, Deserialize, Deserializer, EncodeError, Fields, Read, Serialize, Serializer,
+    Shown, Write, read_into, read_struct, skip_value, to_vec,
+};
 use std::alloc::Global;
 use std::test::Fail;
 
@@ -47,6 +52,79 @@ impl Serialize for OptionalPerson {
     }
 }
 
+#[derive(Drop)]
+struct OptionalPersonFields {
+    name: Option<String>,
+    year_of_birth: Option<Option<u16>>,
+    profession: Option<Option<String>>,
+}
+
+impl<'de> Fields<'de> for OptionalPersonFields {
+    ghost State = { SeenOptionalPerson };
+
+    ghost state = { λ f. record { name = option_map string_bytes f.name; year_of_birth = option_map (option_map (λ n. n)) f.year_of_birth; profession = option_map (option_map string_bytes) f.profession } };
+
+    ghost take = { take_optional_person };
+
+    ghost need = { need_optional_person };
+
+    ghost borrows = { false };
+
+    fn read_field<R: Read>(
+        &mut self,
+        alloc: Global,
+        key: &str,
+        de: &mut Deserializer<'de, R>,
+    ) -> Result<(), DecodeError<R::Error>> {
+        match key {
+            "name" => read_into(alloc, &mut self.name, de),
+            "year_of_birth" => read_into(alloc, &mut self.year_of_birth, de),
+            "profession" => read_into(alloc, &mut self.profession, de),
+            _ => skip_value(alloc, de),
+        }
+    }
+}
+
+impl Shown for OptionalPerson {
+    ghost View = { OptionalPersonView };
+
+    ghost held = { λ p. record { name = string_bytes p.name; year_of_birth = option_map (λ n. n) p.year_of_birth; profession = option_map string_bytes p.profession } };
+
+    ghost view = { view_optional_person };
+
+    ghost need = { need_of_optional_person };
+
+    ghost borrows = { false };
+}
+
+impl<'de> Deserialize<'de> for OptionalPerson {
+    fn deserialize<R: Read>(
+        alloc: Global,
+        de: &mut Deserializer<'de, R>,
+    ) -> Result<OptionalPerson, DecodeError<R::Error>> {
+        let unread = OptionalPersonFields {
+            name: None,
+            year_of_birth: None,
+            profession: None,
+        };
+        let fields = read_struct(
+            alloc,
+            "OptionalPerson",
+            &["name", "year_of_birth", "profession"],
+            unread,
+            de,
+        )?;
+        let name = required(fields.name)?;
+        let year_of_birth = fields.year_of_birth.flatten();
+        let profession = fields.profession.flatten();
+        Ok(OptionalPerson {
+            name,
+            year_of_birth,
+            profession,
+        })
+    }
+}
+
 #[test]
 fn a_missing_field_is_left_out(rt: HostRuntime) -> Result<(), Fail> {
     let person = OptionalPerson {
@@ -60,5 +138,21 @@ fn a_missing_field_is_left_out(rt: HostRuntime) -> Result<(), Fail> {
         written.as_slice(),
         b"\xa2\x64name\x6cGrace Hopper\x6aprofession\x72computer scientist".as_slice()
     );
+    Ok(())
+}
+
+#[test]
+fn a_field_that_was_left_out_is_missing(rt: HostRuntime) -> Result<(), Fail> {
+    let mut de = Deserializer::from_slice(
+        b"\xa2\x64name\x6cGrace Hopper\x6aprofession\x72computer scientist",
+    );
+    let person = OptionalPerson::deserialize(rt.alloc(), &mut de)?;
+    de.end()?;
+    assert_eq!(rt; person.name.as_str(), "Grace Hopper");
+    assert!(rt; person.year_of_birth.is_none());
+    match &person.profession {
+        Some(profession) => assert_eq!(rt; profession.as_str(), "computer scientist"),
+        None => return Err(Fail::new("no profession")),
+    }
     Ok(())
 }

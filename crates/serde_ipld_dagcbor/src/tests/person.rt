@@ -1,10 +1,15 @@
 //! A struct written by hand, as a user of the library writes it.
 
-ghost use Rattle.std.specs.Prelude.{Some, [], ◌∷◌, codes, pos, string_bytes};
+ghost use Rattle.std.specs.Prelude.{Some, [], ◌∷◌, codes, pos, string_bytes, option_map, false};
 ghost use Rattle.ipld_tree.specs.Tree.{text, integer, entries_tree};
 ghost use Rattle.dagcbor_write.specs.Trees.{option_tree, field};
+ghost use Rattle.serde_ipld_dagcbor.specs.Person.{PersonView, SeenPerson, take_person, need_person, view_person, need_of_person};
 
-use crate::{EncodeError, Serialize, Serializer, Write, to_vec};
+use crate::tests::required::required;
+use crate::{
+    DecodeError, Deserialize, Deserializer, EncodeError, Fields, Read, Serialize, Serializer,
+    Shown, Write, read_into, read_struct, skip_value, to_vec,
+};
 use std::alloc::Global;
 use std::test::Fail;
 
@@ -33,6 +38,79 @@ impl Serialize for Person {
     }
 }
 
+#[derive(Drop)]
+struct PersonFields {
+    name: Option<String>,
+    year_of_birth: Option<u16>,
+    profession: Option<Option<String>>,
+}
+
+impl<'de> Fields<'de> for PersonFields {
+    ghost State = { SeenPerson };
+
+    ghost state = { λ f. record { name = option_map string_bytes f.name; year_of_birth = option_map (λ n. n) f.year_of_birth; profession = option_map (option_map string_bytes) f.profession } };
+
+    ghost take = { take_person };
+
+    ghost need = { need_person };
+
+    ghost borrows = { false };
+
+    fn read_field<R: Read>(
+        &mut self,
+        alloc: Global,
+        key: &str,
+        de: &mut Deserializer<'de, R>,
+    ) -> Result<(), DecodeError<R::Error>> {
+        match key {
+            "name" => read_into(alloc, &mut self.name, de),
+            "year_of_birth" => read_into(alloc, &mut self.year_of_birth, de),
+            "profession" => read_into(alloc, &mut self.profession, de),
+            _ => skip_value(alloc, de),
+        }
+    }
+}
+
+impl Shown for Person {
+    ghost View = { PersonView };
+
+    ghost held = { λ p. record { name = string_bytes p.name; year_of_birth = p.year_of_birth; profession = option_map string_bytes p.profession } };
+
+    ghost view = { view_person };
+
+    ghost need = { need_of_person };
+
+    ghost borrows = { false };
+}
+
+impl<'de> Deserialize<'de> for Person {
+    fn deserialize<R: Read>(
+        alloc: Global,
+        de: &mut Deserializer<'de, R>,
+    ) -> Result<Person, DecodeError<R::Error>> {
+        let unread = PersonFields {
+            name: None,
+            year_of_birth: None,
+            profession: None,
+        };
+        let fields = read_struct(
+            alloc,
+            "Person",
+            &["name", "year_of_birth", "profession"],
+            unread,
+            de,
+        )?;
+        let name = required(fields.name)?;
+        let year_of_birth = required(fields.year_of_birth)?;
+        let profession = fields.profession.flatten();
+        Ok(Person {
+            name,
+            year_of_birth,
+            profession,
+        })
+    }
+}
+
 #[test]
 fn fields_are_written_in_key_order(rt: HostRuntime) -> Result<(), Fail> {
     let person = Person {
@@ -45,5 +123,21 @@ fn fields_are_written_in_key_order(rt: HostRuntime) -> Result<(), Fail> {
         written.as_slice(),
         b"\xa3\x64name\x6cGrace Hopper\x6aprofession\x72computer scientist\x6dyear_of_birth\x19\x07\x72".as_slice()
     );
+    Ok(())
+}
+
+#[test]
+fn fields_are_read_in_key_order(rt: HostRuntime) -> Result<(), Fail> {
+    let mut de = Deserializer::from_slice(
+        b"\xa3\x64name\x6cGrace Hopper\x6aprofession\x72computer scientist\x6dyear_of_birth\x19\x07\x72",
+    );
+    let person = Person::deserialize(rt.alloc(), &mut de)?;
+    de.end()?;
+    assert_eq!(rt; person.name.as_str(), "Grace Hopper");
+    assert_eq!(rt; person.year_of_birth, 1906);
+    match &person.profession {
+        Some(profession) => assert_eq!(rt; profession.as_str(), "computer scientist"),
+        None => return Err(Fail::new("no profession")),
+    }
     Ok(())
 }

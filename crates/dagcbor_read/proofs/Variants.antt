@@ -1,0 +1,373 @@
+-- Reading an enum: its variant's name, or a map from the name to what the variant holds.
+use Rattle.std.proofs.Common.{◌≡◌, inl, inr, ℕ, ◌+◌, ◌-◌, ◌*◌, ◌/◌, ◌<◌, ◌≤◌, List, [], ◌∷◌, ◌++◌, Bool, true, false, Global, refl, sym, ◌∙◌, ap, subst, arith, append_assoc, zero-le}
+use Rattle.std.specs.Prelude.{◌⊎◌, Option, Some, None, is_some, option_map, Ok, Err, MatchBool, ⊤}
+use Rattle.std.specs.Cow.{cow_str_bytes}
+use Rattle.std.specs.Ordering.{is_eq}
+use Rattle.std.proofs.Common.{Ordering, Less, Equal, Greater}
+use Rattle.std.proofs.lemmas.Map.Lookups.{exact_bytes}
+use Rattle.ipld_tree.specs.Key.{bytes_cmp}
+use Rattle.std.specs.declared.borrow.CowStr.{CowStr}
+use Rattle.dagcbor_heads.specs.Head.{head}
+use Rattle.dagcbor_heads.specs.Reading.{Reading, with_steps}
+use Rattle.dagcbor_heads.specs.Fronts.{Takes, ShowsByte}
+use Rattle.dagcbor_heads.specs.Refusals.{Refuses}
+use Rattle.dagcbor_heads.specs.declared.error.DecodeError.{DecodeError}
+use Rattle.dagcbor_heads.specs.declared.error.DecodeError.TheVariants.{Msg, Mismatch}
+use Rattle.dagcbor_heads.specs.declared.name.Name.{Name}
+use Rattle.dagcbor_heads.proofs.Heads.{head_whole}
+use Rattle.ipld_tree.specs.Tree.{Tree, null, boolean, integer, text, bytes, list, mapping, link, no_entries, entry}
+use Rattle.ipld_tree.specs.Spelling.{IsFront, entries_spelling}
+use Rattle.ipld_tree.proofs.Fronts.{front_first, front_unique, map_opened, entry_opened, entry_closed}
+use Rattle.dagcbor_read.specs.LeafCauses.{TextStands}
+use Rattle.dagcbor_read.specs.Views.{view_text, no_need}
+use Rattle.dagcbor_read.specs.EnumViews.{is_name, view_enum, need_enum}
+use Rattle.dagcbor_read.specs.Calls.{Progress, Call}
+use Rattle.dagcbor_read.specs.Reads.{HasFront, TakesFront, Anything}
+use Rattle.dagcbor_read.specs.Enums.{BegunEnum, begun_enum, TakesForm, HasStepEnum, StepEnumCause, SpendsEnum, ReadsName, IsOtherForm}
+use Rattle.dagcbor_read.specs.declared.enum_accessor.EnumAccessor.{EnumAccessor}
+use Rattle.dagcbor_read.proofs.Answered.{answered, call_refused}
+use Rattle.dagcbor_read.proofs.Passing.{SameReader, carried}
+
+-- ---- names
+
+-- a text that is not the name
+pub other_name : {k name : List ℕ} → (k ≡ name → ⊥) → is_name name k ≡ false
+other_name {k} {name} n = by (bytes_cmp k name) (λ e. n (exact_bytes k name e))
+  where
+    by : (o : Ordering) → (o ≡ Equal → ⊥) → is_eq o ≡ false
+    by Less f = refl
+    by Equal f = absurd (f refl)
+    by Greater f = refl
+
+-- ---- texts and the first byte
+
+text_of : (t : Tree) (k : List ℕ) → view_text t ≡ Some k → t ≡ text k
+text_of (text s) k e = ap (λ x. text x) (cc e)
+text_of null k e = absurd (cc e)
+text_of (boolean b) k e = absurd (cc e)
+text_of (integer b) k e = absurd (cc e)
+text_of (bytes b) k e = absurd (cc e)
+text_of (list b) k e = absurd (cc e)
+text_of (mapping b) k e = absurd (cc e)
+text_of (link b) k e = absurd (cc e)
+
+-- the head of a map of one pair is one byte
+one_pair : head 5 1 ≡ 161 ∷ []
+one_pair = head_whole 5 1 (omega arith)
+
+-- ---- an enum that was begun, for a step
+
+-- what `deserialize_enum` answers
+pub Spent : BegunEnum → Reading → Reading → Type 0
+Spent e old mid = (e.steps ≡ 1) × (0 < old.steps) × (mid.steps < mid.budget) × TakesForm e (with_steps (old.steps - 1) old) mid
+
+record Entered (old mid : Reading) : Type 0 where
+  steps : mid.steps + 1 ≡ old.steps
+  budget : mid.budget ≡ old.budget
+  lends : mid.lends ≡ old.lends
+  faults : mid.faults ≡ old.faults
+
+entered : (e : BegunEnum) {old mid : Reading} → Spent e old mid → Entered old mid
+unfolding Spent
+entered e {old} {mid} s = by e.in_map s.3
+  where
+    by : (b : Bool) → MatchBool b ((e.first ≡ 0xa1) × Takes (with_steps (old.steps - 1) old) (0xa1 ∷ []) mid) ((e.first / 32 ≡ 3) × ShowsByte (with_steps (old.steps - 1) old) e.first mid) → Entered old mid
+    by true h = let a = h.1.same in record { steps = omega (arith, a.steps, s.1); budget = a.budget; lends = a.lends; faults = a.faults }
+    by false h = let a = h.1.same in record { steps = omega (arith, a.steps, s.1); budget = a.budget; lends = a.lends; faults = a.faults }
+
+-- the bytes behind the beginning, and those before it
+record Opened (e : BegunEnum) (b : List ℕ) (mid : Reading) : Type 0 where
+  behind : List ℕ
+  left : mid.left ≡ Some behind
+  form : ((e.in_map ≡ true) × (b ≡ 161 ∷ behind)) ⊎ ((e.in_map ≡ false) × (b ≡ behind) × ((more : List ℕ) × (b ≡ e.first ∷ more)) × (e.first / 32 ≡ 3))
+
+opened : (e : BegunEnum) (old mid : Reading) (b : List ℕ) → Spent e old mid → old.left ≡ Some b → Opened e b mid
+unfolding Spent
+opened e old mid b s l = by e.in_map refl s.3
+  where
+    by : (m : Bool) → e.in_map ≡ m → MatchBool m ((e.first ≡ 0xa1) × Takes (with_steps (old.steps - 1) old) (0xa1 ∷ []) mid) ((e.first / 32 ≡ 3) × ShowsByte (with_steps (old.steps - 1) old) e.first mid) → Opened e b mid
+    by true is h = let k = h.1.taken b l in record { behind = k.0; left = k.2; form = inl (is, k.1) }
+    by false is h = record { behind = b; left = h.1.kept b l; form = inr (is, refl, h.1.starts b l, h.0) }
+
+-- ---- an enum whose variant was named
+
+pub record Named (e : BegunEnum) (k : List ℕ) (old now : Reading) : Type 0 where
+  pub mid : Reading
+  pub spent : Spent e old mid
+  pub name : TakesFront view_text no_need mid k now
+
+same_named : {e : BegunEnum} {k : List ℕ} {old now : Reading} → Named e k old now → SameReader old now
+same_named {e} n = let a = entered e n.spent in record { faults = n.name.same.faults ∙ a.faults; lends = n.name.same.lends ∙ a.lends }
+
+refusal_passed : {E could could' borrows borrows' : Type 0} {e : BegunEnum} {k : List ℕ} {old now : Reading} (new : Reading) (r : DecodeError E) → Named e k old now → (could' → could) → (borrows → borrows')
+    → Refuses could ⊤ borrows Anything now r new → Refuses could' ⊤ borrows' Anything old r new
+refusal_passed {E} {could} {could'} {borrows} {borrows'} {e} {k} {old} {now} new r n c w h = carried Anything Anything old now new r (same_named n) c (λ x. x) w (λ b l g. tt) h
+
+other_form_refused : {E could : Type 0} (borrows : Type 0) (old new : Reading) (e : BegunEnum) (r : DecodeError E) → IsOtherForm e r → new.faults ≡ old.faults → (could → ⊥) → Refuses could ⊤ borrows Anything old r new
+other_form_refused borrows old new e (Mismatch n f) h same never = (same, never, λ b l. tt)
+other_form_refused borrows old new e _ h same never = absurd h
+
+-- a refusal with a message of the type's own
+pub told_refused : {E could : Type 0} (borrows : Type 0) (old : Reading) {message : Name} (r : DecodeError E) (new : Reading) → r ≡ Msg message → new.faults ≡ old.faults → (could → ⊥) → Refuses could ⊤ borrows Anything old r new
+told_refused {E} {could} borrows old {message} r new is same never = subst (λ x. Refuses could ⊤ borrows Anything old x new) (sym is) (same, never, λ b l. tt)
+
+module _ {V : Type 0} (unit : List ℕ → Option V) (part : List ℕ → Tree → Option V) (need : List ℕ → Tree → ℕ) where
+  record UnitFront (r : Reading) : Type 0 where
+    bytes : List ℕ
+    name : List ℕ
+    rest : List ℕ
+    left : r.left ≡ Some bytes
+    front : IsFront bytes (text name) rest
+    accepted : is_some (unit name) ≡ true
+    step : 1 ≤ r.steps
+
+  record PartFront (r : Reading) : Type 0 where
+    after_head : List ℕ
+    after_name : List ℕ
+    name : List ℕ
+    value : Tree
+    rest : List ℕ
+    left : r.left ≡ Some (161 ∷ after_head)
+    name_front : IsFront after_head (text name) after_name
+    value_front : IsFront after_name value rest
+    accepted : is_some (part name value) ≡ true
+    within : 1 + need name value ≤ r.steps
+
+  part_front : (r : Reading) (all rest k : List ℕ) (t : Tree) → r.left ≡ Some all → IsFront all (mapping (entry k t no_entries)) rest → is_some (part k t) ≡ true → 1 + need k t ≤ r.steps → PartFront r
+  part_front r all rest k t l f a w =
+      let tail = entries_spelling (entry k t no_entries) ++ rest in
+      let whole : all ≡ head 5 1 ++ tail = f.is ∙ append_assoc (head 5 1) (entries_spelling (entry k t no_entries)) rest in
+      let o = map_opened all tail rest 1 (entry k t no_entries) (omega arith) f whole in
+      let p = entry_opened tail rest k t no_entries o.1 in
+      record { after_head = tail; after_name = p.0; name = k; value = t; rest = rest; left = l ∙ ap Some (whole ∙ ap (λ h. h ++ tail) one_pair); name_front = p.1; value_front = p.2; accepted = a; within = w }
+
+  of_tree : (r : Reading) (all rest : List ℕ) (t : Tree) → r.left ≡ Some all → IsFront all t rest → is_some (view_enum unit part t) ≡ true → need_enum need t ≤ r.steps → UnitFront r ⊎ PartFront r
+  of_tree r all rest (text k) l f a w = inl (record { bytes = all; name = k; rest = rest; left = l; front = f; accepted = a; step = w })
+  of_tree r all rest (mapping (entry k t no_entries)) l f a w = inr (part_front r all rest k t l f a w)
+  of_tree r all rest (mapping (entry k t (entry j u es))) l f a w = absurd (cc a)
+  of_tree r all rest (mapping no_entries) l f a w = absurd (cc a)
+  of_tree r all rest null l f a w = absurd (cc a)
+  of_tree r all rest (boolean b) l f a w = absurd (cc a)
+  of_tree r all rest (integer b) l f a w = absurd (cc a)
+  of_tree r all rest (bytes b) l f a w = absurd (cc a)
+  of_tree r all rest (list b) l f a w = absurd (cc a)
+  of_tree r all rest (link b) l f a w = absurd (cc a)
+
+  by_form : {r : Reading} → HasFront (view_enum unit part) (need_enum need) r → UnitFront r ⊎ PartFront r
+  by_form {r} h = of_tree r h.bytes h.rest h.tree h.left h.front h.accepted h.within
+
+  can_begin : {r : Reading} → HasFront (view_enum unit part) (need_enum need) r → HasStepEnum r
+  can_begin {r} h = elim (by_form h) [
+    | inl u ↦
+        let f = front_first u.bytes u.rest (text u.name) u.front in
+        (record { byte = 32 * 3 + f.0; rest = f.1; left = u.left ∙ ap Some f.3; accepted = inr (omega (arith, f.2)) }, omega (arith, u.step))
+    | inr p ↦ (record { byte = 161; rest = p.after_head; left = p.left; accepted = inl refl }, omega (arith, p.within))
+  ]
+
+  -- what stands behind the beginning
+  Behind : BegunEnum → Reading → Reading → Type 0
+  Behind e old mid = ((e.in_map ≡ false) × (u : UnitFront old) × (mid.left ≡ Some u.bytes)) ⊎ ((e.in_map ≡ true) × (p : PartFront old) × (mid.left ≡ Some p.after_head))
+
+  behind_unit : (e : BegunEnum) {old mid : Reading} → (u : UnitFront old) → Opened e u.bytes mid → Behind e old mid
+  unfolding Behind
+  behind_unit e u o = elim o.form [
+    | inl m ↦
+        let f = front_first u.bytes u.rest (text u.name) u.front in
+        let both : 161 ∷ o.behind ≡ (32 * 3 + f.0) ∷ f.1 = sym m.1 ∙ f.3 in
+        let first : 161 ≡ 32 * 3 + f.0 = cc both in
+        absurd (omega (arith, first, f.2))
+    | inr n ↦ inl (n.0, u, o.left ∙ ap Some (sym n.1))
+  ]
+
+  behind_part : (e : BegunEnum) {old mid : Reading} → (p : PartFront old) → Opened e (161 ∷ p.after_head) mid → Behind e old mid
+  unfolding Behind
+  behind_part e p o = elim o.form [
+    | inl m ↦ inr (m.0, p, o.left ∙ ap Some (cc (sym m.1)))
+    | inr n ↦
+        let first : 161 ≡ e.first = cc n.2.1 in
+        absurd (omega (arith, first, n.3))
+  ]
+
+  behind : (e : BegunEnum) (old mid : Reading) → Spent e old mid → HasFront (view_enum unit part) (need_enum need) old → Behind e old mid
+  behind e old mid s h = elim (by_form h) [
+    | inl u ↦ behind_unit e u (opened e old mid u.bytes s u.left)
+    | inr p ↦ behind_part e p (opened e old mid (161 ∷ p.after_head) s p.left)
+  ]
+
+  name_stands : (e : BegunEnum) {old mid : Reading} → Spent e old mid → HasFront (view_enum unit part) (need_enum need) old → HasFront view_text no_need mid
+  unfolding Behind
+  name_stands e {old} {mid} s h = elim (behind e old mid s h) [
+    | inl u ↦ record { bytes = u.1.bytes; tree = text u.1.name; rest = u.1.rest; left = u.2; front = u.1.front; accepted = refl; within = zero-le }
+    | inr p ↦ record { bytes = p.1.after_head; tree = text p.1.name; rest = p.1.after_name; left = p.2; front = p.1.name_front; accepted = refl; within = zero-le }
+  ]
+
+  -- a variant that was named is a unit, or what it holds stands behind its name
+  variant_stands : {e : BegunEnum} {k : List ℕ} {old now : Reading} → Named e k old now → HasFront (view_enum unit part) (need_enum need) old
+      → ((e.in_map ≡ false) × (is_some (unit k) ≡ true)) ⊎ ((e.in_map ≡ true) × HasFront (part k) (need k) now)
+  unfolding Behind
+  variant_stands {e} {k} {old} {now} n h = elim (behind e old n.mid n.spent h) [
+    | inl u ↦
+        let t = n.name.taken u.1.bytes u.2 in
+        let same = front_unique u.1.bytes t.1 u.1.rest t.0 (text u.1.name) t.2 u.1.front in
+        let both : text k ≡ text u.1.name = sym (text_of t.0 k t.3) ∙ same.0 in
+        let name : k ≡ u.1.name = cc both in
+        inl (u.0, ap (λ x. is_some (unit x)) name ∙ u.1.accepted)
+    | inr p ↦
+        let t = n.name.taken p.1.after_head p.2 in
+        let same = front_unique p.1.after_head t.1 p.1.after_name t.0 (text p.1.name) t.2 p.1.name_front in
+        let both : text k ≡ text p.1.name = sym (text_of t.0 k t.3) ∙ same.0 in
+        let name : k ≡ p.1.name = cc both in
+        let much = ap (λ x. need x p.1.value) name in
+        let steps = (entered e n.spent).steps in
+        inr (p.0, record {
+          bytes = t.1;
+          tree = p.1.value;
+          rest = p.1.rest;
+          left = t.5;
+          front = subst (λ x. IsFront x p.1.value p.1.rest) (sym same.1) p.1.value_front;
+          accepted = ap (λ x. is_some (part x p.1.value)) name ∙ p.1.accepted;
+          within = omega (arith, p.1.within, steps, n.name.same.steps, much);
+        })
+  ]
+
+  none_some : {o : Option V} → o ≡ None → is_some o ≡ true → ⊥
+  none_some {o} n e = let both : is_some o ≡ false = ap is_some n in absurd (cc (sym both ∙ e))
+
+  -- ---- refusals
+
+  pub not_begun : {E : Type 0} (borrows : Type 0) (name : List ℕ) (old new : Progress) (r : DecodeError E) → old.failed ≡ false → Call (SpendsEnum name) old (Err r) new
+      → Refuses (HasFront (view_enum unit part) (need_enum need) old.input) ⊤ borrows Anything old.input r new.input
+  not_begun {E} borrows name old new r f h = carried (StepEnumCause name) Anything old.input old.input new.input r (record { faults = refl; lends = refl }) can_begin (λ x. absurd x) (λ x. absurd x) (λ b l g. tt)
+      (call_refused EnumAccessor E (SpendsEnum name) old new r f h)
+
+  -- no variant's name stood there
+  pub not_named : {E : Type 0} (borrows : Type 0) (name : List ℕ) (old mid new : Progress) (a : EnumAccessor) (r : DecodeError E) → Call (SpendsEnum {E = E} name) old (Ok a) mid → Call ReadsName mid (Err r) new
+      → Refuses (HasFront (view_enum unit part) (need_enum need) old.input) ⊤ borrows Anything old.input r new.input
+  unfolding Spent
+  not_named {E} borrows name old mid new a r h k =
+      let s = answered EnumAccessor E (SpendsEnum name) old mid a h in
+      let i = entered (begun_enum a) s.2 in
+      carried (TextStands _) Anything old.input mid.input new.input r (record { faults = i.faults; lends = i.lends }) (name_stands (begun_enum a) s.2) (λ x. tt) (λ x. absurd x) (λ b l g. tt)
+          (call_refused (CowStr Global × EnumAccessor) E ReadsName mid new r s.1 k)
+
+  -- the name is no variant's
+  pub unknown : {E : Type 0} (borrows : Type 0) {e : BegunEnum} {k : List ℕ} {old now : Reading} {message : Name} (r : DecodeError E) → Named e k old now → r ≡ Msg message → unit k ≡ None → ((t : Tree) → part k t ≡ None)
+      → Refuses (HasFront (view_enum unit part) (need_enum need) old) ⊤ borrows Anything old r now
+  unknown {E} borrows {e} {k} {old} {now} {message} r n is none no_part = told_refused borrows old r now is (same_named n).faults
+      (λ h. elim (variant_stands n h) [ inl u ↦ none_some none u.1 | inr p ↦ none_some (no_part p.1.tree) p.1.accepted ])
+
+  -- a unit variant was named, but the enum is a map
+  pub unit_refused : {E : Type 0} (borrows : Type 0) {e : BegunEnum} {k : List ℕ} {old now : Reading} (new : Reading) (r : DecodeError E) → Named e k old now → ((t : Tree) → part k t ≡ None)
+      → (e.in_map ≡ true) × IsOtherForm e r × (new ≡ now) → Refuses (HasFront (view_enum unit part) (need_enum need) old) ⊤ borrows Anything old r new
+  unit_refused borrows {e} {k} {old} {now} new r n none h = other_form_refused borrows old new e r h.1 (ap (λ (x : Reading). x.faults) h.2 ∙ (same_named n).faults)
+      (λ i. elim (variant_stands n i) [ inl u ↦ absurd (cc (sym h.0 ∙ u.0)) | inr p ↦ none_some (none p.1.tree) p.1.accepted ])
+
+  -- what the variant holds was refused
+  pub part_refused : {E borrows borrows' : Type 0} {e : BegunEnum} {k : List ℕ} {old now : Reading} (new : Reading) (r : DecodeError E) → Named e k old now → unit k ≡ None → (borrows → borrows')
+      → MatchBool e.in_map (Refuses (HasFront (part k) (need k) now) ⊤ borrows Anything now r new) (IsOtherForm e r × (new ≡ now)) → Refuses (HasFront (view_enum unit part) (need_enum need) old) ⊤ borrows' Anything old r new
+  part_refused {E} {borrows} {borrows'} {e} {k} {old} {now} new r n none w h = by e.in_map refl h
+    where
+      by : (m : Bool) → e.in_map ≡ m → MatchBool m (Refuses (HasFront (part k) (need k) now) ⊤ borrows Anything now r new) (IsOtherForm e r × (new ≡ now))
+          → Refuses (HasFront (view_enum unit part) (need_enum need) old) ⊤ borrows' Anything old r new
+      by true is g = refusal_passed new r n (λ i. elim (variant_stands n i) [ inl u ↦ absurd (none_some none u.1) | inr p ↦ p.1 ]) w g
+      by false is g = other_form_refused borrows' old new e r g.0 (ap (λ (x : Reading). x.faults) g.1 ∙ (same_named n).faults)
+          (λ i. elim (variant_stands n i) [ inl u ↦ none_some none u.1 | inr p ↦ absurd (cc (sym is ∙ p.0)) ])
+
+  -- ---- answers
+
+  pub unit_taken : {e : BegunEnum} {k : List ℕ} {old now new : Reading} {v : V} → Named e k old now → (e.in_map ≡ false) × (new ≡ with_steps (now.steps + e.steps) now) → unit k ≡ Some v
+      → TakesFront (view_enum unit part) (need_enum need) old v new
+  unfolding Spent
+  unit_taken {e} {k} {old} {now} {new} {v} n h is =
+      let i = entered e n.spent in
+      record {
+        taken = λ b l.
+            let o = opened e old n.mid b n.spent l in
+            let same : o.behind ≡ b = elim o.form [ inl m ↦ absurd (cc (sym m.0 ∙ h.0)) | inr f ↦ sym f.1 ] in
+            let t = n.name.taken o.behind o.left in
+            let name = text_of t.0 k t.3 in (
+              t.0,
+              t.1,
+              subst (λ x. IsFront x t.0 t.1) same t.2,
+              ap (view_enum unit part) name ∙ is,
+              omega (arith, ap (need_enum need) name, n.spent.1),
+              ap (λ (x : Reading). x.left) h.1 ∙ t.5,
+            );
+        same = record {
+          steps = omega (arith, ap (λ (x : Reading). x.steps) h.1, n.name.same.steps, i.steps, n.spent.0);
+          budget = ap (λ (x : Reading). x.budget) h.1 ∙ n.name.same.budget ∙ i.budget;
+          lends = ap (λ (x : Reading). x.lends) h.1 ∙ n.name.same.lends ∙ i.lends;
+          faults = ap (λ (x : Reading). x.faults) h.1 ∙ n.name.same.faults ∙ i.faults;
+        };
+      }
+
+  -- the bytes of the map
+  map_front : (behind after_name rest k : List ℕ) (t : Tree) → IsFront behind (text k) after_name → IsFront after_name t rest → IsFront (161 ∷ behind) (mapping (entry k t no_entries)) rest
+  map_front behind after_name rest k t f g =
+      let inside = entry_closed behind after_name rest rest k t no_entries f g tt (record { well_formed = tt; spellable = tt; is = refl }) in
+      record {
+        well_formed = inside.well_formed;
+        spellable = (omega arith, inside.spellable);
+        is = ap (λ h. h ++ behind) (sym one_pair) ∙ (ap (λ x. head 5 1 ++ x) inside.is ∙ sym (append_assoc (head 5 1) (entries_spelling (entry k t no_entries)) rest));
+      }
+
+  pub part_taken : {e : BegunEnum} {k : List ℕ} {old now after new : Reading} {v : V} → Named e k old now → e.in_map ≡ true → TakesFront (part k) (need k) now v after → new ≡ with_steps (after.steps + e.steps) after
+      → TakesFront (view_enum unit part) (need_enum need) old v new
+  unfolding Spent
+  part_taken {e} {k} {old} {now} {after} {new} {v} n m a back =
+      let i = entered e n.spent in
+      record {
+        taken = λ b l.
+            let o = opened e old n.mid b n.spent l in
+            let same : b ≡ 161 ∷ o.behind = elim o.form [ inl f ↦ f.1 | inr f ↦ absurd (cc (sym m ∙ f.0)) ] in
+            let t = n.name.taken o.behind o.left in
+            let u = a.taken t.1 t.5 in (
+              mapping (entry k u.0 no_entries),
+              u.1,
+              subst (λ x. IsFront x (mapping (entry k u.0 no_entries)) u.1) (sym same) (map_front o.behind t.1 u.1 k u.0 (subst (λ x. IsFront o.behind x t.1) (text_of t.0 k t.3) t.2) u.2),
+              u.3,
+              omega (arith, u.4, n.name.same.steps, i.steps),
+              ap (λ (x : Reading). x.left) back ∙ u.5,
+            );
+        same = record {
+          steps = omega (arith, ap (λ (x : Reading). x.steps) back, a.same.steps, n.name.same.steps, i.steps, n.spent.0);
+          budget = ap (λ (x : Reading). x.budget) back ∙ a.same.budget ∙ n.name.same.budget ∙ i.budget;
+          lends = ap (λ (x : Reading). x.lends) back ∙ a.same.lends ∙ n.name.same.lends ∙ i.lends;
+          faults = ap (λ (x : Reading). x.faults) back ∙ a.same.faults ∙ n.name.same.faults ∙ i.faults;
+        };
+      }
+
+  -- ---- a variant that holds a value of another type
+
+  module _ {W : Type 0} (f : W → V) (view : Tree → Option W) (as_need : Tree → ℕ) where
+    as_held : {k : List ℕ} {r : Reading} → ((t : Tree) → part k t ≡ option_map f (view t)) → ((t : Tree) → need k t ≡ as_need t) → HasFront (part k) (need k) r → HasFront view as_need r
+    as_held same much h = record { bytes = h.bytes; tree = h.tree; rest = h.rest; left = h.left; front = h.front; accepted = mapped (view h.tree) (ap is_some (sym (same h.tree)) ∙ h.accepted); within = omega (arith, much h.tree, h.within) }
+      where
+        mapped : (o : Option W) → is_some (option_map f o) ≡ true → is_some o ≡ true
+        mapped None e = absurd (cc e)
+        mapped (Some w) e = refl
+
+    pub held_refused : {E : Type 0} (borrows borrows' : Type 0) {e : BegunEnum} {k : List ℕ} {old now : Reading} (new : Reading) (r : DecodeError E) → Named e k old now → unit k ≡ None → ((t : Tree) → part k t ≡ option_map f (view t)) → ((t : Tree) → need k t ≡ as_need t) → (borrows → borrows')
+        → MatchBool e.in_map (Refuses (HasFront view as_need now) ⊤ borrows Anything now r new) (IsOtherForm e r × (new ≡ now)) → Refuses (HasFront (view_enum unit part) (need_enum need) old) ⊤ borrows' Anything old r new
+    held_refused {E} borrows borrows' {e} {k} {old} {now} new r n none same much w h = part_refused {borrows = borrows} new r n none w (by e.in_map h)
+      where
+        by : (m : Bool) → MatchBool m (Refuses (HasFront view as_need now) ⊤ borrows Anything now r new) (IsOtherForm e r × (new ≡ now)) → MatchBool m (Refuses (HasFront (part k) (need k) now) ⊤ borrows Anything now r new) (IsOtherForm e r × (new ≡ now))
+        by true g = carried Anything Anything now now new r (record { faults = refl; lends = refl }) (as_held same much) (λ x. x) (λ x. x) (λ b l i. tt) g
+        by false g = g
+
+    pub held_taken : {e : BegunEnum} {k : List ℕ} {old now new : Reading} {w : W} → Named e k old now → ((t : Tree) → part k t ≡ option_map f (view t)) → ((t : Tree) → need k t ≡ as_need t)
+        → (e.in_map ≡ true) × ((mid : Reading) × TakesFront view as_need now w mid × (new ≡ with_steps (mid.steps + e.steps) mid)) → TakesFront (view_enum unit part) (need_enum need) old (f w) new
+    held_taken {e} {k} {old} {now} {new} {w} n same much h = part_taken n h.0 (record {
+      taken = λ b l. let t = h.1.1.taken b l in (t.0, t.1, t.2, same t.0 ∙ ap (option_map f) t.3, omega (arith, much t.0, t.4), t.5);
+      same = h.1.1.same;
+    }) h.1.2
+
+-- ---- calls
+
+pub variant_named : (E : Type 0) (name : List ℕ) (old mid now : Progress) (a : EnumAccessor) (v : CowStr Global × EnumAccessor) → Call (SpendsEnum {E = E} name) old (Ok a) mid → Call (ReadsName {E = E}) mid (Ok v) now → v.1 ≡ a
+    → (now.failed ≡ false) × Named (begun_enum v.1) (cow_str_bytes v.0) old.input now.input
+unfolding Spent
+variant_named E name old mid now a v h k e =
+    let s = answered EnumAccessor E (SpendsEnum name) old mid a h in
+    let n = answered (CowStr Global × EnumAccessor) E ReadsName mid now v k in
+    (n.1, record { mid = mid.input; spent = subst (λ x. Spent (begun_enum x) old.input mid.input) (sym e) s.2; name = n.2 })

@@ -1,0 +1,23 @@
+-- What a tree shows to an enum of two unit variants.
+use Rattle.std.specs.Prelude.{ℕ, List, Option, Some, None, if◌then◌else◌, codes}
+use Rattle.ipld_tree.specs.Tree.{Tree}
+use Rattle.dagcbor_read.specs.EnumViews.{is_name, view_enum, need_enum}
+
+pub data Letter : Type 0 where
+  is_a : Letter
+  is_b : Letter
+
+abbrev pub unit_letter : List ℕ → Option Letter
+unit_letter name = if is_name (codes "A") name then Some is_a else if is_name (codes "B") name then Some is_b else None
+
+abbrev pub part_letter : List ℕ → Tree → Option Letter
+part_letter name t = None
+
+abbrev pub need_part_letter : List ℕ → Tree → ℕ
+need_part_letter name t = 0
+
+abbrev pub view_letter : Tree → Option Letter
+view_letter = view_enum unit_letter part_letter
+
+abbrev pub need_letter : Tree → ℕ
+need_letter = need_enum need_part_letter

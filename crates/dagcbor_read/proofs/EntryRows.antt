@@ -1,6 +1,6 @@
 -- Entries of a map, read one by one into a state.
 use Rattle.std.proofs.Common.{◌≡◌, ℕ, ◌+◌, ◌-◌, ◌<◌, ◌≤◌, Bool, List, ◌++◌, true, false, refl, sym, ap, ◌∙◌, subst, arith}
-use Rattle.std.specs.Prelude.{Option, None, Some, is_some, option_and_then, Result, Ok, Err, ⊤}
+use Rattle.std.specs.Prelude.{Option, None, Some, is_some, option_and_then, Result, Ok, Err, MatchResult, MatchBool, IfOk, ⊤}
 use Rattle.dagcbor_heads.specs.Head.{head}
 use Rattle.dagcbor_heads.specs.Reading.{Reading, Stays, with_steps}
 use Rattle.dagcbor_heads.specs.Refusals.{Refuses}
@@ -14,6 +14,7 @@ use Rattle.dagcbor_read.specs.Entries.{Follows, HasKey, KeyStands}
 use Rattle.dagcbor_read.specs.Calls.{Progress, Call}
 use Rattle.dagcbor_read.specs.Reads.{HasFront, TakesFront, Anything, ReadsValue}
 use Rattle.dagcbor_read.specs.Accessors.{Begun, begun, Enters, BeginsItems}
+use Rattle.dagcbor_read.specs.Enums.{BegunEnum, BeginsHeld, IsOtherForm, ReadsFieldsHeld}
 use Rattle.dagcbor_read.specs.declared.accessor.Accessor.{Accessor}
 use Rattle.dagcbor_read.specs.Collections.{view_entries, view_fields, need_entries, need_fields, AllFollow, HasFields, TakesFields, ReadsEntriesLeft}
 use Rattle.dagcbor_read.proofs.Maps.{map_closed}
@@ -243,3 +244,26 @@ module _ {S : Type 0} (take : S → List ℕ → Tree → Option S) (need : List
         let none : (begun a).last ≡ None = ap (λ (c : Begun). c.last) k.2.0 in
         carried Anything Anything old.input mid.input new.input e record { faults = k.2.2.takes.same.faults; lends = k.2.2.takes.same.lends }
         (λ x. subst (λ l. HasFields take need start l a.left mid.input) (sym none) (map_has_fields k.2.2 x)) (λ x. x) (λ x. x) (λ b l g. tt) r
+
+    -- the same of a map that a variant holds
+    pub held_entries_read : {T E : Type 0} (held : T → S) (borrows : Bool) (name : List ℕ) (e : BegunEnum) (old mid new : Progress) (a : Accessor) (result : Result T (DecodeError E)) → Call (BeginsHeld {E = E} 5 name e) old (Ok a) mid
+        → ReadsEntriesLeft held take need borrows start (begun a) mid result new → ReadsFieldsHeld held (view_fields take start) (need_fields need) borrows e old result new
+    held_entries_read {T} {E} held borrows name e old mid new a result h r f = by e.in_map refl (answered Accessor E (BeginsHeld 5 name e) old mid a h).2 result r
+      where
+        by : (m : Bool) → e.in_map ≡ m → MatchBool m (BeginsItems {E = E} 5 name (e.steps + 1) old.input (Ok a) mid.input) ⊥ → (result : Result T (DecodeError E)) → ReadsEntriesLeft held take need borrows start (begun a) mid result new
+            → IfOk result (λ v. new.failed ≡ false) × MatchResult result
+            (λ v. (e.in_map ≡ true) × ((now : Reading) × TakesFront (view_fields take start) (need_fields need) old.input (held v) now × (new.input ≡ with_steps (now.steps + e.steps) now)))
+            (λ x. MatchBool m (Refuses (HasFront (view_fields take start) (need_fields need) old.input) ⊤ (borrows ≡ true) Anything old.input x new.input) (IsOtherForm e x × (new.input ≡ old.input)))
+        by false is k result r = absurd k
+        by true is k (Ok v) r =
+            let steps : a.steps ≡ e.steps + 1 = ap (λ (c : Begun). c.steps) k.0 in
+            let none : (begun a).last ≡ None = ap (λ (c : Begun). c.last) k.0 in
+            let taken = map_taken {new = with_steps (r.1.steps + 1) r.1} k.2 (subst (λ l. TakesFields take need start l a.left mid.input (held v) r.1) none r.2) refl in
+            let all : r.1.steps + a.steps ≡ r.1.steps + 1 + e.steps = omega (arith, steps) in
+            (r.0, (is, (with_steps (r.1.steps + 1) r.1, taken, r.3 ∙ ap (λ n. with_steps n r.1) all)))
+        by true is k (Err x) r =
+            let none : (begun a).last ≡ None = ap (λ (c : Begun). c.last) k.0 in (
+              tt,
+              carried Anything Anything old.input mid.input new.input x record { faults = k.2.takes.same.faults; lends = k.2.takes.same.lends }
+              (λ y. subst (λ l. HasFields take need start l a.left mid.input) (sym none) (map_has_fields k.2 y)) (λ y. y) (λ y. y) (λ b l g. tt) r,
+            )

@@ -33,13 +33,13 @@ is_mapped f (Some x) = refl
 -- ---- a part that shows the same under another name
 
 module _ {V W : Type 0} (f : V → W) (view : Tree → Option V) (view' : Tree → Option W) (need need' : Tree → ℕ) (same : (t : Tree) → view' t ≡ option_map f (view t)) (as_much : (t : Tree) → need' t ≡ need t) where
-  takes_as : {old new : Reading} {v : V} → TakesFront view need old v new → TakesFront view' need' old (f v) new
+  pub takes_as : {old new : Reading} {v : V} → TakesFront view need old v new → TakesFront view' need' old (f v) new
   takes_as {old} {new} {v} a = record {
     taken = λ b l. (let t = a.taken b l in (t.0, t.1, t.2, same t.0 ∙ ap (option_map f) t.3, omega (arith, as_much t.0, t.4), t.5));
     same = a.same;
   }
 
-  front_as : {r : Reading} → HasFront view' need' r → HasFront view need r
+  pub front_as : {r : Reading} → HasFront view' need' r → HasFront view need r
   front_as {r} h = record { bytes = h.bytes; tree = h.tree; rest = h.rest; left = h.left; front = h.front; accepted = sym (is_mapped f (view h.tree)) ∙ (ap is_some (sym (same h.tree)) ∙ h.accepted); within = omega (arith, h.within, as_much h.tree) }
 
 -- ---- a field

@@ -24,5 +24,5 @@ pub mod Nullable
 pub mod Characters
 pub mod LinkValues
 pub mod StringItems
-pub mod Variants
+pub mod NamedVariants
 pub mod FieldPlaces

@@ -1,12 +1,12 @@
 -- What an enum's tree shows to a type, and the steps that reading it takes.
-use Rattle.std.specs.Prelude.{ℕ, ◌+◌, Bool, List, Option, None}
-use Rattle.std.specs.Ordering.{is_eq}
-use Rattle.ipld_tree.specs.Key.{bytes_cmp}
+use Rattle.std.specs.Prelude.{◌≡◌, ℕ, ◌+◌, Bool, true, false, List, Option, None, Some, is_some, Result, MatchResult, MatchBool, ⊤}
+use Rattle.dagcbor_heads.specs.Reading.{Reading, with_steps}
+use Rattle.dagcbor_heads.specs.Refusals.{Refuses}
+use Rattle.dagcbor_heads.specs.declared.error.DecodeError.{DecodeError}
 use Rattle.ipld_tree.specs.Tree.{Tree, text, mapping, no_entries, entry}
-
--- the text is this name
-abbrev pub is_name : List ℕ → List ℕ → Bool
-is_name name k = is_eq (bytes_cmp k name)
+use Rattle.dagcbor_read.specs.Calls.{Progress}
+use Rattle.dagcbor_read.specs.Reads.{HasFront, TakesFront, Anything}
+use Rattle.dagcbor_read.specs.Enums.{BegunEnum}
 
 -- A variant's name alone, or a map of one pair, from the name to what the variant holds.
 abbrev pub view_enum : {V : Type 0} → (List ℕ → Option V) → (List ℕ → Tree → Option V) → Tree → Option V
@@ -18,3 +18,22 @@ view_enum unit part _ = None
 abbrev pub need_enum : (List ℕ → Tree → ℕ) → Tree → ℕ
 need_enum need (mapping (entry k t no_entries)) = 1 + need k t
 need_enum need _ = 1
+
+-- ---- a variant that was named
+
+-- it is its name alone, and shows something; or what it holds stands at the front
+abbrev pub HasVariant : {V : Type 0} → Option V → (Tree → Option V) → (Tree → ℕ) → BegunEnum → Reading → Type 0
+HasVariant unit part need e r = MatchBool e.in_map (HasFront part need r) (is_some unit ≡ true)
+
+-- it was its name alone, which shows v; or what it holds was taken, which shows v; and the enum's steps are given back
+abbrev pub TakesVariant : {V : Type 0} → Option V → (Tree → Option V) → (Tree → ℕ) → BegunEnum → Reading → V → Reading → Type 0
+TakesVariant unit part need e old v new = MatchBool e.in_map
+    ((now : Reading) × TakesFront part need old v now × (new ≡ with_steps (now.steps + e.steps) now))
+    ((unit ≡ Some v) × (new ≡ with_steps (old.steps + e.steps) old))
+
+-- A variant is read exactly where it is its name alone or holds what the type accepts, as its name wants. After an answer
+-- nothing has failed.
+abbrev pub ReadsVariant : {T V E : Type 0} → (T → V) → Option V → (Tree → Option V) → (Tree → ℕ) → Bool → BegunEnum → Progress → Result T (DecodeError E) → Progress → Type 0
+ReadsVariant held unit part need borrows e old result new = MatchResult result
+    (λ v. (new.failed ≡ false) × TakesVariant unit part need e old.input (held v) new.input)
+    (λ r. Refuses (HasVariant unit part need e old.input) ⊤ (borrows ≡ true) Anything old.input r new.input)

@@ -1,5 +1,5 @@
 -- What contracts see of an enum that was begun, and what its calls do.
-use Rattle.std.specs.Prelude.{◌≡◌, ◌⊎◌, ℕ, ◌+◌, ◌-◌, ◌/◌, ◌<◌, Bool, true, false, List, [], ◌∷◌, Option, Some, Result, MatchResult, MatchBool, codes, ⊤}
+use Rattle.std.specs.Prelude.{◌≡◌, ◌⊎◌, ℕ, ◌+◌, ◌-◌, ◌/◌, ◌<◌, Bool, true, false, List, [], ◌∷◌, Option, Some, Result, MatchResult, MatchBool, IfOk, codes, ⊤}
 use Rattle.dagcbor_heads.specs.Reading.{Reading, with_steps}
 use Rattle.dagcbor_heads.specs.Fronts.{Takes, ShowsByte}
 use Rattle.dagcbor_heads.specs.Refusals.{Refuses}
@@ -13,6 +13,7 @@ use Rattle.std.specs.declared.borrow.CowStr.{CowStr}
 use Rattle.std.specs.declared.alloc.Global.{Global}
 use Rattle.dagcbor_read.specs.Views.{view_text, no_need}
 use Rattle.dagcbor_read.specs.LeafCauses.{TextStands}
+use Rattle.dagcbor_read.specs.Calls.{Progress}
 use Rattle.dagcbor_read.specs.Reads.{Reads, HasFront, TakesFront, Anything}
 use Rattle.dagcbor_read.specs.Accessors.{BeginsItems}
 use Rattle.dagcbor_read.specs.declared.accessor.Accessor.{Accessor}
@@ -108,3 +109,7 @@ abbrev pub ReadsHeld : {T V E : Type 0} → (T → V) → (Tree → Option V) �
 ReadsHeld held view need borrows e old result new = MatchResult result
     (λ v. (e.in_map ≡ true) × ((now : Reading) × TakesFront view need old (held v) now × (new ≡ with_steps (now.steps + e.steps) now)))
     (λ r. MatchBool e.in_map (Refuses (HasFront view need old) ⊤ (borrows ≡ true) Anything old r new) (IsOtherForm e r × (new ≡ old)))
+
+-- The same for the fields that a variant holds, where nothing had failed. After an answer nothing has failed.
+abbrev pub ReadsFieldsHeld : {T V E : Type 0} → (T → V) → (Tree → Option V) → (Tree → ℕ) → Bool → BegunEnum → Progress → Result T (DecodeError E) → Progress → Type 0
+ReadsFieldsHeld held view need borrows e old result new = old.failed ≡ false → IfOk result (λ v. new.failed ≡ false) × ReadsHeld held view need borrows e old.input result new.input

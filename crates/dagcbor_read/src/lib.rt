@@ -25,6 +25,7 @@ mod simple;
 mod strings;
 mod text_maps;
 mod tree_types;
+mod variants;
 mod whole;
 
 pub use accessor::Accessor;
@@ -34,6 +35,7 @@ pub use enum_accessor::EnumAccessor;
 pub use fields::{Fields, read_fields, read_into, read_struct, skip_value};
 pub use shown::Shown;
 pub use tree_types::IgnoredAny;
+pub use variants::{Variants, read_enum, read_struct_variant};
 pub use whole::{any_from_slice, from_slice};
 
 #[cfg(test)]

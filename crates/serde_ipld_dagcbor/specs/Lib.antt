@@ -38,6 +38,9 @@ pub use Rattle.dagcbor_heads.specs.declared.error.DecodeError
 pub mod RoundTrips
 pub mod Letter
 pub mod NamedLink
+pub mod Color
+pub mod DataEnum
+pub mod Second
 pub mod One
 pub mod Mascot
 pub mod Person

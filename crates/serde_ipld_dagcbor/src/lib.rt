@@ -10,7 +10,8 @@ pub use dagcbor_heads::{
 };
 pub use dagcbor_read::{
     Accessor, Deserialize, DeserializeOwned, Deserializer, EnumAccessor, Fields, IgnoredAny, Shown,
-    any_from_slice, from_slice, read_fields, read_into, read_struct, skip_value,
+    Variants, any_from_slice, from_slice, read_enum, read_fields, read_into, read_struct,
+    read_struct_variant, skip_value,
 };
 pub use dagcbor_write::{BoundedCollect, CollectMap, CollectSeq, Serialize, Serializer, to_vec};
 pub use ipld_tree::{ByteSlice, Bytes, Cid, CidError, Ipld};

@@ -1,11 +1,15 @@
 //! An enum written by hand: unit variants, and variants that hold one or two parts.
 
-ghost use Rattle.std.specs.Prelude.{Some, [], ◌∷◌, codes, pos};
+ghost use Rattle.std.specs.Prelude.{Some, [], ◌∷◌, codes, pos, false};
 ghost use Rattle.ipld_tree.specs.Tree.{text, integer, list_tree};
 ghost use Rattle.dagcbor_write.specs.Trees.{variant_tree};
+ghost use Rattle.serde_ipld_dagcbor.specs.Color.{ColorView, is_red, is_blue, is_yellow, is_other, is_alpha, unit_color, part_color, need_part_color, view_color, need_color};
 ghost use Rattle.serde_ipld_dagcbor.specs.declared.tests.color.Color.TheVariants.{Red, Blue, Yellow, Other, Alpha};
 
-use crate::{EncodeError, Serialize, Serializer, Write, to_vec};
+use crate::{
+    DecodeError, Deserialize, Deserializer, EncodeError, EnumAccessor, Read, Serialize, Serializer,
+    Shown, Variants, Write, read_enum, to_vec,
+};
 use std::alloc::Global;
 use std::test::Fail;
 
@@ -44,6 +48,69 @@ impl Serialize for Color {
                 parts.end()
             }
         }
+    }
+}
+
+impl Shown for Color {
+    ghost View = { ColorView };
+
+    ghost held = { λ color. elim color [ Red ↦ is_red | Blue ↦ is_blue | Yellow ↦ is_yellow | Other n ↦ is_other n | Alpha n a ↦ is_alpha n a ] };
+
+    ghost view = { view_color };
+
+    ghost need = { need_color };
+
+    ghost borrows = { false };
+}
+
+impl<'de> Variants<'de> for Color {
+    ghost View = { ColorView };
+
+    ghost held = { λ color. elim color [ Red ↦ is_red | Blue ↦ is_blue | Yellow ↦ is_yellow | Other n ↦ is_other n | Alpha n a ↦ is_alpha n a ] };
+
+    ghost unit = { unit_color };
+
+    ghost part = { part_color };
+
+    ghost need = { need_part_color };
+
+    ghost borrows = { false };
+
+    fn read_variant<R: Read>(
+        alloc: Global,
+        name: &str,
+        variant: EnumAccessor,
+        de: &mut Deserializer<'de, R>,
+    ) -> Result<Color, DecodeError<R::Error>> {
+        match name {
+            "Red" => {
+                variant.unit_variant(de)?;
+                Ok(Color::Red)
+            }
+            "Blue" => {
+                variant.unit_variant(de)?;
+                Ok(Color::Blue)
+            }
+            "Yellow" => {
+                variant.unit_variant(de)?;
+                Ok(Color::Yellow)
+            }
+            "Other" => Ok(Color::Other(variant.newtype_variant(alloc, de)?)),
+            "Alpha" => {
+                let (n, alpha) = variant.newtype_variant(alloc, de)?;
+                Ok(Color::Alpha(n, alpha))
+            }
+            _ => Err(DecodeError::custom("unknown variant")),
+        }
+    }
+}
+
+impl<'de> Deserialize<'de> for Color {
+    fn deserialize<R: Read>(
+        alloc: Global,
+        de: &mut Deserializer<'de, R>,
+    ) -> Result<Color, DecodeError<R::Error>> {
+        read_enum(alloc, "Color", &["Red", "Blue", "Yellow", "Other", "Alpha"], de)
     }
 }
 

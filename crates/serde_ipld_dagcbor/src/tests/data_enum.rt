@@ -1,11 +1,17 @@
 //! An enum with a variant of each form that holds something, written by hand.
 
-ghost use Rattle.std.specs.Prelude.{Some, [], ◌∷◌, codes, pos, string_bytes};
+ghost use Rattle.std.specs.Prelude.{Some, [], ◌∷◌, codes, pos, string_bytes, option_map, false};
 ghost use Rattle.ipld_tree.specs.Tree.{boolean, integer, text, list_tree, entries_tree};
 ghost use Rattle.dagcbor_write.specs.Trees.{field, variant_tree};
+ghost use Rattle.serde_ipld_dagcbor.specs.DataEnum.{DataView, is_a, is_b, is_c, SeenC, take_c, need_c, unit_data, part_data, need_part_data, view_data, need_data};
 ghost use Rattle.serde_ipld_dagcbor.specs.declared.tests.data_enum.DataEnum.TheVariants.{A, B, C};
 
-use crate::{EncodeError, Serialize, Serializer, Write, to_vec};
+use crate::tests::required::required;
+use crate::{
+    DecodeError, Deserialize, Deserializer, EncodeError, EnumAccessor, Fields, Read, Serialize,
+    Serializer, Shown, Variants, Write, read_enum, read_into, read_struct_variant, skip_value,
+    to_vec,
+};
 use std::alloc::Global;
 use std::test::Fail;
 
@@ -44,6 +50,95 @@ impl Serialize for DataEnum {
                 fields.end()
             }
         }
+    }
+}
+
+#[derive(Drop)]
+struct FieldsOfC {
+    x: Option<u8>,
+    y: Option<String>,
+}
+
+impl<'de> Fields<'de> for FieldsOfC {
+    ghost State = { SeenC };
+
+    ghost state = { λ f. record { x = option_map (λ n. n) f.x; y = option_map string_bytes f.y } };
+
+    ghost take = { take_c };
+
+    ghost need = { need_c };
+
+    ghost borrows = { false };
+
+    fn read_field<R: Read>(
+        &mut self,
+        alloc: Global,
+        key: &str,
+        de: &mut Deserializer<'de, R>,
+    ) -> Result<(), DecodeError<R::Error>> {
+        match key {
+            "x" => read_into(alloc, &mut self.x, de),
+            "y" => read_into(alloc, &mut self.y, de),
+            _ => skip_value(alloc, de),
+        }
+    }
+}
+
+impl Shown for DataEnum {
+    ghost View = { DataView };
+
+    ghost held = { λ e. elim e [ A n ↦ is_a n | B b n ↦ is_b b n | C x y ↦ is_c x (string_bytes y) ] };
+
+    ghost view = { view_data };
+
+    ghost need = { need_data };
+
+    ghost borrows = { false };
+}
+
+impl<'de> Variants<'de> for DataEnum {
+    ghost View = { DataView };
+
+    ghost held = { λ e. elim e [ A n ↦ is_a n | B b n ↦ is_b b n | C x y ↦ is_c x (string_bytes y) ] };
+
+    ghost unit = { unit_data };
+
+    ghost part = { part_data };
+
+    ghost need = { need_part_data };
+
+    ghost borrows = { false };
+
+    fn read_variant<R: Read>(
+        alloc: Global,
+        name: &str,
+        variant: EnumAccessor,
+        de: &mut Deserializer<'de, R>,
+    ) -> Result<DataEnum, DecodeError<R::Error>> {
+        match name {
+            "A" => Ok(DataEnum::A(variant.newtype_variant(alloc, de)?)),
+            "B" => {
+                let (flag, n) = variant.newtype_variant(alloc, de)?;
+                Ok(DataEnum::B(flag, n))
+            }
+            "C" => {
+                let unread = FieldsOfC { x: None, y: None };
+                let fields = read_struct_variant(alloc, variant, &["x", "y"], unread, de)?;
+                let x = required(fields.x)?;
+                let y = required(fields.y)?;
+                Ok(DataEnum::C { x, y })
+            }
+            _ => Err(DecodeError::custom("unknown variant")),
+        }
+    }
+}
+
+impl<'de> Deserialize<'de> for DataEnum {
+    fn deserialize<R: Read>(
+        alloc: Global,
+        de: &mut Deserializer<'de, R>,
+    ) -> Result<DataEnum, DecodeError<R::Error>> {
+        read_enum(alloc, "DataEnum", &["A", "B", "C"], de)
     }
 }
 

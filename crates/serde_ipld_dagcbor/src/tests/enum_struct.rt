@@ -3,12 +3,12 @@
 ghost use Rattle.std.specs.Prelude.{Option, Some, [], ◌∷◌, false, codes};
 ghost use Rattle.ipld_tree.specs.Tree.{Tree, text, entries_tree};
 ghost use Rattle.dagcbor_write.specs.Trees.{field};
-ghost use Rattle.serde_ipld_dagcbor.specs.Letter.{Letter, is_a, is_b, view_letter, need_letter};
+ghost use Rattle.serde_ipld_dagcbor.specs.Letter.{Letter, is_a, is_b, unit_letter, part_letter, need_part_letter, view_letter, need_letter};
 ghost use Rattle.serde_ipld_dagcbor.specs.declared.tests.enum_struct.Enum.TheVariants.{A, B};
 
 use crate::{
-    DecodeError, Deserialize, Deserializer, EncodeError, Read, Serialize, Serializer, Shown, Write,
-    to_vec,
+    DecodeError, Deserialize, Deserializer, EncodeError, EnumAccessor, Read, Serialize, Serializer,
+    Shown, Variants, Write, read_enum, to_vec,
 };
 use std::alloc::Global;
 use std::test::Fail;
@@ -46,14 +46,26 @@ impl Shown for Enum {
     ghost borrows = { false };
 }
 
-impl<'de> Deserialize<'de> for Enum {
-    fn deserialize<R: Read>(
-        alloc: Global,
+impl<'de> Variants<'de> for Enum {
+    ghost View = { Letter };
+
+    ghost held = { λ e. elim e [ A ↦ is_a | B ↦ is_b ] };
+
+    ghost unit = { unit_letter };
+
+    ghost part = { part_letter };
+
+    ghost need = { need_part_letter };
+
+    ghost borrows = { false };
+
+    fn read_variant<R: Read>(
+        _alloc: Global,
+        name: &str,
+        variant: EnumAccessor,
         de: &mut Deserializer<'de, R>,
     ) -> Result<Enum, DecodeError<R::Error>> {
-        let begun = de.deserialize_enum("Enum", &["A", "B"])?;
-        let (name, variant) = begun.variant(alloc, de)?;
-        match name.as_str() {
+        match name {
             "A" => {
                 variant.unit_variant(de)?;
                 Ok(Enum::A)
@@ -64,6 +76,15 @@ impl<'de> Deserialize<'de> for Enum {
             }
             _ => Err(DecodeError::custom("unknown variant")),
         }
+    }
+}
+
+impl<'de> Deserialize<'de> for Enum {
+    fn deserialize<R: Read>(
+        alloc: Global,
+        de: &mut Deserializer<'de, R>,
+    ) -> Result<Enum, DecodeError<R::Error>> {
+        read_enum(alloc, "Enum", &["A", "B"], de)
     }
 }
 

@@ -5,12 +5,12 @@ ghost use Rattle.ipld_tree.specs.Cid.{cid_bytes};
 ghost use Rattle.ipld_tree.specs.Tree.{integer, link};
 ghost use Rattle.dagcbor_write.specs.Trees.{variant_tree};
 ghost use Rattle.dagcbor_read.specs.Views.{view_unsigned, no_need};
-ghost use Rattle.serde_ipld_dagcbor.specs.NamedLink.{view_named_link, need_named_link};
+ghost use Rattle.serde_ipld_dagcbor.specs.NamedLink.{unit_link, part_link, need_part_link, view_named_link, need_named_link};
 ghost use Rattle.serde_ipld_dagcbor.specs.declared.tests.newtype.Externally.TheVariants as externally;
 
 use crate::{
-    Cid, DecodeError, Deserialize, Deserializer, EncodeError, Read, Serialize, Serializer, Shown,
-    Write, to_vec,
+    Cid, DecodeError, Deserialize, Deserializer, EncodeError, EnumAccessor, Read, Serialize,
+    Serializer, Shown, Variants, Write, read_enum, to_vec,
 };
 use std::alloc::Global;
 use std::test::Fail;
@@ -88,20 +88,38 @@ impl Shown for Externally {
     ghost borrows = { false };
 }
 
+impl<'de> Variants<'de> for Externally {
+    ghost View = { List ℕ };
+
+    ghost held = { λ e. elim e [ externally.Cid c ↦ cid_bytes c ] };
+
+    ghost unit = { unit_link };
+
+    ghost part = { part_link };
+
+    ghost need = { need_part_link };
+
+    ghost borrows = { false };
+
+    fn read_variant<R: Read>(
+        alloc: Global,
+        name: &str,
+        variant: EnumAccessor,
+        de: &mut Deserializer<'de, R>,
+    ) -> Result<Externally, DecodeError<R::Error>> {
+        match name {
+            "Cid" => Ok(Externally::Cid(variant.newtype_variant(alloc, de)?)),
+            _ => Err(DecodeError::custom("unknown variant")),
+        }
+    }
+}
+
 impl<'de> Deserialize<'de> for Externally {
     fn deserialize<R: Read>(
         alloc: Global,
         de: &mut Deserializer<'de, R>,
     ) -> Result<Externally, DecodeError<R::Error>> {
-        let begun = de.deserialize_enum("Externally", &["Cid"])?;
-        let (name, variant) = begun.variant(alloc, de)?;
-        match name.as_str() {
-            "Cid" => {
-                let cid = variant.newtype_variant(alloc, de)?;
-                Ok(Externally::Cid(cid))
-            }
-            _ => Err(DecodeError::custom("unknown variant")),
-        }
+        read_enum(alloc, "Externally", &["Cid"], de)
     }
 }
 

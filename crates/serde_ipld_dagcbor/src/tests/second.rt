@@ -1,13 +1,19 @@
 //! An enum whose variant is a struct, written by hand.
 
-ghost use Rattle.std.specs.Prelude.{Some, [], ◌∷◌, OnOk, IfSome, codes, pos};
+ghost use Rattle.std.specs.Prelude.{Some, [], ◌∷◌, OnOk, IfSome, codes, pos, option_map, false};
 ghost use Rattle.dagcbor_heads.specs.Written.{Writes};
 ghost use Rattle.ipld_tree.specs.Tree.{IsTree, integer, entries_tree};
 ghost use Rattle.ipld_tree.specs.Spelled.{spelled_tree};
 ghost use Rattle.dagcbor_write.specs.Trees.{field, variant_tree};
+ghost use Rattle.serde_ipld_dagcbor.specs.Second.{SecondView, SeenSecond, take_second, need_second, unit_second, part_second, need_part_second, view_second, need_of_second};
 ghost use Rattle.serde_ipld_dagcbor.specs.declared.tests.second.Second.TheVariants.{Data};
 
-use crate::{EncodeError, Serialize, Serializer, Write, to_vec};
+use crate::tests::required::required;
+use crate::{
+    DecodeError, Deserialize, Deserializer, EncodeError, EnumAccessor, Fields, Read, Serialize,
+    Serializer, Shown, Variants, Write, read_enum, read_into, read_struct_variant, skip_value,
+    to_vec,
+};
 use std::alloc::Global;
 use std::test::Fail;
 
@@ -54,6 +60,97 @@ fn serialize_data<W: Write>(
     fields.serialize_field("abc", &abc)?;
     fields.serialize_field("a", &a)?;
     fields.end()
+}
+
+#[derive(Drop)]
+struct FieldsOfData {
+    b: Option<u8>,
+    abc: Option<u8>,
+    a: Option<u8>,
+}
+
+impl<'de> Fields<'de> for FieldsOfData {
+    ghost State = { SeenSecond };
+
+    ghost state = { λ f. record { b = option_map (λ n. n) f.b; abc = option_map (λ n. n) f.abc; a = option_map (λ n. n) f.a } };
+
+    ghost take = { take_second };
+
+    ghost need = { need_second };
+
+    ghost borrows = { false };
+
+    fn read_field<R: Read>(
+        &mut self,
+        alloc: Global,
+        key: &str,
+        de: &mut Deserializer<'de, R>,
+    ) -> Result<(), DecodeError<R::Error>> {
+        match key {
+            "b" => read_into(alloc, &mut self.b, de),
+            "abc" => read_into(alloc, &mut self.abc, de),
+            "a" => read_into(alloc, &mut self.a, de),
+            _ => skip_value(alloc, de),
+        }
+    }
+}
+
+impl Shown for Second {
+    ghost View = { SecondView };
+
+    ghost held = { λ e. elim e [ Data b abc a ↦ record { b = b; abc = abc; a = a } ] };
+
+    ghost view = { view_second };
+
+    ghost need = { need_of_second };
+
+    ghost borrows = { false };
+}
+
+impl<'de> Variants<'de> for Second {
+    ghost View = { SecondView };
+
+    ghost held = { λ e. elim e [ Data b abc a ↦ record { b = b; abc = abc; a = a } ] };
+
+    ghost unit = { unit_second };
+
+    ghost part = { part_second };
+
+    ghost need = { need_part_second };
+
+    ghost borrows = { false };
+
+    fn read_variant<R: Read>(
+        alloc: Global,
+        name: &str,
+        variant: EnumAccessor,
+        de: &mut Deserializer<'de, R>,
+    ) -> Result<Second, DecodeError<R::Error>> {
+        match name {
+            "Data" => {
+                let unread = FieldsOfData {
+                    b: None,
+                    abc: None,
+                    a: None,
+                };
+                let fields = read_struct_variant(alloc, variant, &["b", "abc", "a"], unread, de)?;
+                let b = required(fields.b)?;
+                let abc = required(fields.abc)?;
+                let a = required(fields.a)?;
+                Ok(Second::Data { b, abc, a })
+            }
+            _ => Err(DecodeError::custom("unknown variant")),
+        }
+    }
+}
+
+impl<'de> Deserialize<'de> for Second {
+    fn deserialize<R: Read>(
+        alloc: Global,
+        de: &mut Deserializer<'de, R>,
+    ) -> Result<Second, DecodeError<R::Error>> {
+        read_enum(alloc, "Second", &["Data"], de)
+    }
 }
 
 #[test]

@@ -1,11 +1,7 @@
 -- Reading an enum: its variant's name, or a map from the name to what the variant holds.
 use Rattle.std.proofs.Common.{◌≡◌, inl, inr, ℕ, ◌+◌, ◌-◌, ◌*◌, ◌/◌, ◌<◌, ◌≤◌, List, [], ◌∷◌, ◌++◌, Bool, true, false, Global, refl, sym, ◌∙◌, ap, subst, arith, append_assoc, zero-le}
-use Rattle.std.specs.Prelude.{◌⊎◌, Option, Some, None, is_some, option_map, Ok, Err, MatchBool, ⊤}
+use Rattle.std.specs.Prelude.{◌⊎◌, Option, Some, None, is_some, option_map, Result, Ok, Err, MatchBool, ⊤}
 use Rattle.std.specs.Cow.{cow_str_bytes}
-use Rattle.std.specs.Ordering.{is_eq}
-use Rattle.std.proofs.Common.{Ordering, Less, Equal, Greater}
-use Rattle.std.proofs.lemmas.Map.Lookups.{exact_bytes}
-use Rattle.ipld_tree.specs.Key.{bytes_cmp}
 use Rattle.std.specs.declared.borrow.CowStr.{CowStr}
 use Rattle.dagcbor_heads.specs.Head.{head}
 use Rattle.dagcbor_heads.specs.Reading.{Reading, with_steps}
@@ -20,24 +16,15 @@ use Rattle.ipld_tree.specs.Spelling.{IsFront, entries_spelling}
 use Rattle.ipld_tree.proofs.Fronts.{front_first, front_unique, map_opened, entry_opened, entry_closed}
 use Rattle.dagcbor_read.specs.LeafCauses.{TextStands}
 use Rattle.dagcbor_read.specs.Views.{view_text, no_need}
-use Rattle.dagcbor_read.specs.EnumViews.{is_name, view_enum, need_enum}
+use Rattle.dagcbor_read.specs.EnumViews.{view_enum, need_enum, HasVariant, TakesVariant, ReadsVariant}
+use Rattle.dagcbor_read.specs.Collections.{view_fields, need_fields, view_struct}
 use Rattle.dagcbor_read.specs.Calls.{Progress, Call}
-use Rattle.dagcbor_read.specs.Reads.{HasFront, TakesFront, Anything}
-use Rattle.dagcbor_read.specs.Enums.{BegunEnum, begun_enum, TakesForm, HasStepEnum, StepEnumCause, SpendsEnum, ReadsName, IsOtherForm}
+use Rattle.dagcbor_read.specs.Reads.{HasFront, TakesFront, Anything, ReadsValue}
+use Rattle.dagcbor_read.specs.Enums.{BegunEnum, begun_enum, TakesForm, HasStepEnum, StepEnumCause, SpendsEnum, ReadsName, IsOtherForm, EndsUnit, ReadsHeld, ReadsFieldsHeld}
 use Rattle.dagcbor_read.specs.declared.enum_accessor.EnumAccessor.{EnumAccessor}
 use Rattle.dagcbor_read.proofs.Answered.{answered, call_refused}
+use Rattle.dagcbor_read.proofs.FieldPlaces.{takes_as, front_as, finished, unfinished, not_read}
 use Rattle.dagcbor_read.proofs.Passing.{SameReader, carried}
-
--- ---- names
-
--- a text that is not the name
-pub other_name : {k name : List ℕ} → (k ≡ name → ⊥) → is_name name k ≡ false
-other_name {k} {name} n = by (bytes_cmp k name) (λ e. n (exact_bytes k name e))
-  where
-    by : (o : Ordering) → (o ≡ Equal → ⊥) → is_eq o ≡ false
-    by Less f = refl
-    by Equal f = absurd (f refl)
-    by Greater f = refl
 
 -- ---- texts and the first byte
 
@@ -54,6 +41,9 @@ text_of (link b) k e = absurd (cc e)
 -- the head of a map of one pair is one byte
 one_pair : head 5 1 ≡ 161 ∷ []
 one_pair = head_whole 5 1 (omega arith)
+
+none_some : {V : Type 0} {o : Option V} → o ≡ None → is_some o ≡ true → ⊥
+none_some {V} {o} n e = let both : is_some o ≡ false = ap is_some n in absurd (cc (sym both ∙ e))
 
 -- ---- an enum that was begun, for a step
 
@@ -230,9 +220,6 @@ module _ {V : Type 0} (unit : List ℕ → Option V) (part : List ℕ → Tree �
         })
   ]
 
-  none_some : {o : Option V} → o ≡ None → is_some o ≡ true → ⊥
-  none_some {o} n e = let both : is_some o ≡ false = ap is_some n in absurd (cc (sym both ∙ e))
-
   -- ---- refusals
 
   pub not_begun : {E : Type 0} (borrows : Type 0) (name : List ℕ) (old new : Progress) (r : DecodeError E) → old.failed ≡ false → Call (SpendsEnum name) old (Err r) new
@@ -249,29 +236,6 @@ module _ {V : Type 0} (unit : List ℕ → Option V) (part : List ℕ → Tree �
       let i = entered (begun_enum a) s.2 in
       carried (TextStands _) Anything old.input mid.input new.input r (record { faults = i.faults; lends = i.lends }) (name_stands (begun_enum a) s.2) (λ x. tt) (λ x. absurd x) (λ b l g. tt)
           (call_refused (CowStr Global × EnumAccessor) E ReadsName mid new r s.1 k)
-
-  -- the name is no variant's
-  pub unknown : {E : Type 0} (borrows : Type 0) {e : BegunEnum} {k : List ℕ} {old now : Reading} {message : Name} (r : DecodeError E) → Named e k old now → r ≡ Msg message → unit k ≡ None → ((t : Tree) → part k t ≡ None)
-      → Refuses (HasFront (view_enum unit part) (need_enum need) old) ⊤ borrows Anything old r now
-  unknown {E} borrows {e} {k} {old} {now} {message} r n is none no_part = told_refused borrows old r now is (same_named n).faults
-      (λ h. elim (variant_stands n h) [ inl u ↦ none_some none u.1 | inr p ↦ none_some (no_part p.1.tree) p.1.accepted ])
-
-  -- a unit variant was named, but the enum is a map
-  pub unit_refused : {E : Type 0} (borrows : Type 0) {e : BegunEnum} {k : List ℕ} {old now : Reading} (new : Reading) (r : DecodeError E) → Named e k old now → ((t : Tree) → part k t ≡ None)
-      → (e.in_map ≡ true) × IsOtherForm e r × (new ≡ now) → Refuses (HasFront (view_enum unit part) (need_enum need) old) ⊤ borrows Anything old r new
-  unit_refused borrows {e} {k} {old} {now} new r n none h = other_form_refused borrows old new e r h.1 (ap (λ (x : Reading). x.faults) h.2 ∙ (same_named n).faults)
-      (λ i. elim (variant_stands n i) [ inl u ↦ absurd (cc (sym h.0 ∙ u.0)) | inr p ↦ none_some (none p.1.tree) p.1.accepted ])
-
-  -- what the variant holds was refused
-  pub part_refused : {E borrows borrows' : Type 0} {e : BegunEnum} {k : List ℕ} {old now : Reading} (new : Reading) (r : DecodeError E) → Named e k old now → unit k ≡ None → (borrows → borrows')
-      → MatchBool e.in_map (Refuses (HasFront (part k) (need k) now) ⊤ borrows Anything now r new) (IsOtherForm e r × (new ≡ now)) → Refuses (HasFront (view_enum unit part) (need_enum need) old) ⊤ borrows' Anything old r new
-  part_refused {E} {borrows} {borrows'} {e} {k} {old} {now} new r n none w h = by e.in_map refl h
-    where
-      by : (m : Bool) → e.in_map ≡ m → MatchBool m (Refuses (HasFront (part k) (need k) now) ⊤ borrows Anything now r new) (IsOtherForm e r × (new ≡ now))
-          → Refuses (HasFront (view_enum unit part) (need_enum need) old) ⊤ borrows' Anything old r new
-      by true is g = refusal_passed new r n (λ i. elim (variant_stands n i) [ inl u ↦ absurd (none_some none u.1) | inr p ↦ p.1 ]) w g
-      by false is g = other_form_refused borrows' old new e r g.0 (ap (λ (x : Reading). x.faults) g.1 ∙ (same_named n).faults)
-          (λ i. elim (variant_stands n i) [ inl u ↦ none_some none u.1 | inr p ↦ absurd (cc (sym is ∙ p.0)) ])
 
   -- ---- answers
 
@@ -337,31 +301,6 @@ module _ {V : Type 0} (unit : List ℕ → Option V) (part : List ℕ → Tree �
         };
       }
 
-  -- ---- a variant that holds a value of another type
-
-  module _ {W : Type 0} (f : W → V) (view : Tree → Option W) (as_need : Tree → ℕ) where
-    as_held : {k : List ℕ} {r : Reading} → ((t : Tree) → part k t ≡ option_map f (view t)) → ((t : Tree) → need k t ≡ as_need t) → HasFront (part k) (need k) r → HasFront view as_need r
-    as_held same much h = record { bytes = h.bytes; tree = h.tree; rest = h.rest; left = h.left; front = h.front; accepted = mapped (view h.tree) (ap is_some (sym (same h.tree)) ∙ h.accepted); within = omega (arith, much h.tree, h.within) }
-      where
-        mapped : (o : Option W) → is_some (option_map f o) ≡ true → is_some o ≡ true
-        mapped None e = absurd (cc e)
-        mapped (Some w) e = refl
-
-    pub held_refused : {E : Type 0} (borrows borrows' : Type 0) {e : BegunEnum} {k : List ℕ} {old now : Reading} (new : Reading) (r : DecodeError E) → Named e k old now → unit k ≡ None → ((t : Tree) → part k t ≡ option_map f (view t)) → ((t : Tree) → need k t ≡ as_need t) → (borrows → borrows')
-        → MatchBool e.in_map (Refuses (HasFront view as_need now) ⊤ borrows Anything now r new) (IsOtherForm e r × (new ≡ now)) → Refuses (HasFront (view_enum unit part) (need_enum need) old) ⊤ borrows' Anything old r new
-    held_refused {E} borrows borrows' {e} {k} {old} {now} new r n none same much w h = part_refused {borrows = borrows} new r n none w (by e.in_map h)
-      where
-        by : (m : Bool) → MatchBool m (Refuses (HasFront view as_need now) ⊤ borrows Anything now r new) (IsOtherForm e r × (new ≡ now)) → MatchBool m (Refuses (HasFront (part k) (need k) now) ⊤ borrows Anything now r new) (IsOtherForm e r × (new ≡ now))
-        by true g = carried Anything Anything now now new r (record { faults = refl; lends = refl }) (as_held same much) (λ x. x) (λ x. x) (λ b l i. tt) g
-        by false g = g
-
-    pub held_taken : {e : BegunEnum} {k : List ℕ} {old now new : Reading} {w : W} → Named e k old now → ((t : Tree) → part k t ≡ option_map f (view t)) → ((t : Tree) → need k t ≡ as_need t)
-        → (e.in_map ≡ true) × ((mid : Reading) × TakesFront view as_need now w mid × (new ≡ with_steps (mid.steps + e.steps) mid)) → TakesFront (view_enum unit part) (need_enum need) old (f w) new
-    held_taken {e} {k} {old} {now} {new} {w} n same much h = part_taken n h.0 (record {
-      taken = λ b l. let t = h.1.1.taken b l in (t.0, t.1, t.2, same t.0 ∙ ap (option_map f) t.3, omega (arith, much t.0, t.4), t.5);
-      same = h.1.1.same;
-    }) h.1.2
-
 -- ---- calls
 
 pub variant_named : (E : Type 0) (name : List ℕ) (old mid now : Progress) (a : EnumAccessor) (v : CowStr Global × EnumAccessor) → Call (SpendsEnum {E = E} name) old (Ok a) mid → Call (ReadsName {E = E}) mid (Ok v) now → v.1 ≡ a
@@ -371,3 +310,136 @@ variant_named E name old mid now a v h k e =
     let s = answered EnumAccessor E (SpendsEnum name) old mid a h in
     let n = answered (CowStr Global × EnumAccessor) E ReadsName mid now v k in
     (n.1, record { mid = mid.input; spent = subst (λ x. Spent (begun_enum x) old.input mid.input) (sym e) s.2; name = n.2 })
+
+module _ {V : Type 0} (unit : List ℕ → Option V) (part : List ℕ → Tree → Option V) (need : List ℕ → Tree → ℕ) where
+  -- ---- the whole enum
+
+  as_variant : {e : BegunEnum} {k : List ℕ} {old now : Reading} → Named e k old now → HasFront (view_enum unit part) (need_enum need) old → HasVariant (unit k) (part k) (need k) e now
+  as_variant {e} {k} {old} {now} n h = elim (variant_stands unit part need n h) [
+    | inl u ↦ subst (λ b. MatchBool b (HasFront (part k) (need k) now) (is_some (unit k) ≡ true)) (sym u.0) u.1
+    | inr p ↦ subst (λ b. MatchBool b (HasFront (part k) (need k) now) (is_some (unit k) ≡ true)) (sym p.0) p.1
+  ]
+
+  enum_taken : {e : BegunEnum} {k : List ℕ} {old now new : Reading} {v : V} → Named e k old now → TakesVariant (unit k) (part k) (need k) e now v new → TakesFront (view_enum unit part) (need_enum need) old v new
+  enum_taken {e} {k} {old} {now} {new} {v} n h = by e.in_map refl h
+    where
+      by : (m : Bool) → e.in_map ≡ m → MatchBool m ((end : Reading) × TakesFront (part k) (need k) now v end × (new ≡ with_steps (end.steps + e.steps) end)) ((unit k ≡ Some v) × (new ≡ with_steps (now.steps + e.steps) now))
+          → TakesFront (view_enum unit part) (need_enum need) old v new
+      by true is t = part_taken unit part need n is t.1 t.2
+      by false is t = unit_taken unit part need n (is, t.1) t.0
+
+  pub enum_read : {T E : Type 0} (held : T → V) (borrows : Bool) (name : List ℕ) (old mid now new : Progress) (a : EnumAccessor) (v : CowStr Global × EnumAccessor) (k : List ℕ) (result : Result T (DecodeError E))
+      → Call (SpendsEnum {E = E} name) old (Ok a) mid → Call (ReadsName {E = E}) mid (Ok v) now → v.1 ≡ a → k ≡ cow_str_bytes v.0
+      → ReadsVariant held (unit k) (part k) (need k) borrows (begun_enum v.1) now result new → ReadsValue held (view_enum unit part) (need_enum need) borrows old result new
+  enum_read {T} {E} held borrows name old mid now new a v k (Ok w) h g same text_is r sound =
+      let n = variant_named E name old mid now a v h g same in
+      (r.0, enum_taken (subst (λ x. Named (begun_enum v.1) x old.input now.input) (sym text_is) n.1) r.1)
+  enum_read {T} {E} held borrows name old mid now new a v k (Err x) h g same text_is r sound =
+      let n = variant_named E name old mid now a v h g same in
+      let m = subst (λ x. Named (begun_enum v.1) x old.input now.input) (sym text_is) n.1 in
+      refusal_passed new.input x m (as_variant m) (λ y. y) r
+
+  -- ---- a variant that is its name alone
+
+  pub unit_read : (E : Type 0) (e : BegunEnum) (old new : Progress) {k : List ℕ} (name : List ℕ) {v : V} → k ≡ name → unit name ≡ Some v → Call (EndsUnit {E = E} e) old (Ok tt) new
+      → (new.failed ≡ false) × TakesVariant (unit k) (part k) (need k) e old.input v new.input
+  unit_read E e old new {k} name {v} is shows h =
+      let r = answered (Unit {0}) E (EndsUnit e) old new tt h in
+      let taken : (unit k ≡ Some v) × (new.input ≡ with_steps (old.input.steps + e.steps) old.input) = (ap unit is ∙ shows, r.2.1) in (
+        r.1,
+        subst (λ b. MatchBool b ((end : Reading) × TakesFront (part k) (need k) old.input v end × (new.input ≡ with_steps (end.steps + e.steps) end)) ((unit k ≡ Some v) × (new.input ≡ with_steps (old.input.steps + e.steps) old.input))) (sym r.2.0) taken,
+      )
+
+  -- it is not begun as a map
+  pub unit_refused : {E : Type 0} (borrows : Type 0) (e : BegunEnum) (old new : Progress) {k : List ℕ} (name : List ℕ) (r : DecodeError E) → k ≡ name → ((t : Tree) → part name t ≡ None) → old.failed ≡ false → Call (EndsUnit e) old (Err r) new
+      → Refuses (HasVariant (unit k) (part k) (need k) e old.input) ⊤ borrows Anything old.input r new.input
+  unit_refused {E} borrows e old new {k} name r is none f h =
+      let g = call_refused (Unit {0}) E (EndsUnit e) old new r f h in
+      other_form_refused borrows old.input new.input e r g.1 (ap (λ (x : Reading). x.faults) g.2)
+          (λ i.
+              let p = subst (λ b. MatchBool b (HasFront (part k) (need k) old.input) (is_some (unit k) ≡ true)) g.0 i in
+              none_some (ap (λ x. part x p.tree) is ∙ none p.tree) p.accepted)
+
+  -- no variant has the name
+  pub unknown_variant : {E : Type 0} (borrows : Type 0) (e : BegunEnum) (old : Reading) {k : List ℕ} {message : Name} (r : DecodeError E) → r ≡ Msg message → unit k ≡ None → ((t : Tree) → part k t ≡ None)
+      → Refuses (HasVariant (unit k) (part k) (need k) e old) ⊤ borrows Anything old r old
+  unknown_variant borrows e old {k} r is none no_part = told_refused borrows old r old is refl (by e.in_map)
+    where
+      by : (b : Bool) → MatchBool b (HasFront (part k) (need k) old) (is_some (unit k) ≡ true) → ⊥
+      by true h = none_some (no_part h.tree) h.accepted
+      by false h = none_some none h
+
+  -- ---- a variant that holds a value of another type
+
+  module _ {W : Type 0} (f : W → V) (view : Tree → Option W) (as_need : Tree → ℕ) {T : Type 0} (E : Type 0) (held : T → W) (own : Bool) where
+    pub fields_read : (e : BegunEnum) (old new : Progress) {k : List ℕ} (name : List ℕ) (w : T) → k ≡ name → ((t : Tree) → part name t ≡ option_map f (view t)) → ((t : Tree) → need name t ≡ as_need t)
+        → old.failed ≡ false → ReadsFieldsHeld {E = E} held view as_need own e old (Ok w) new
+        → (new.failed ≡ false) × TakesVariant (unit k) (part k) (need k) e old.input (f (held w)) new.input
+    fields_read e old new {k} name w is same much sound h =
+        let r = h sound in
+        let taken = r.1.1 in
+        let takes = takes_as f view (part name) as_need (need name) same much taken.1 in
+        let there : (end : Reading) × TakesFront (part k) (need k) old.input (f (held w)) end × (new.input ≡ with_steps (end.steps + e.steps) end) =
+            (taken.0, subst (λ x. TakesFront (part x) (need x) old.input (f (held w)) taken.0) (sym is) takes, taken.2) in (
+          r.0,
+          subst (λ b. MatchBool b ((end : Reading) × TakesFront (part k) (need k) old.input (f (held w)) end × (new.input ≡ with_steps (end.steps + e.steps) end)) ((unit k ≡ Some (f (held w))) × (new.input ≡ with_steps (old.input.steps + e.steps) old.input))) (sym r.1.0) there,
+        )
+
+    pub fields_refused : (borrows : Type 0) (e : BegunEnum) (old new : Progress) {k : List ℕ} (name : List ℕ) (r : DecodeError E) → k ≡ name → unit name ≡ None → ((t : Tree) → part name t ≡ option_map f (view t)) → ((t : Tree) → need name t ≡ as_need t)
+        → (own ≡ true → borrows) → old.failed ≡ false → ReadsFieldsHeld held view as_need own e old (Err r) new
+        → Refuses (HasVariant (unit k) (part k) (need k) e old.input) ⊤ borrows Anything old.input r new.input
+    fields_refused borrows e old new {k} name r is none same much w sound h = by e.in_map (h sound).1
+      where
+        by : (m : Bool) → MatchBool m (Refuses (HasFront view as_need old.input) ⊤ (own ≡ true) Anything old.input r new.input) (IsOtherForm e r × (new.input ≡ old.input))
+            → Refuses (MatchBool m (HasFront (part k) (need k) old.input) (is_some (unit k) ≡ true)) ⊤ borrows Anything old.input r new.input
+        by true g = carried Anything Anything old.input old.input new.input r (record { faults = refl; lends = refl })
+            (λ i. front_as f view (part name) as_need (need name) same much (subst (λ x. HasFront (part x) (need x) old.input) is i)) (λ x. x) w (λ b l x. tt) g
+        by false g = other_form_refused borrows old.input new.input e r g.0 (ap (λ (x : Reading). x.faults) g.1) (λ i. none_some (ap unit is ∙ none) i)
+
+    -- by a call of the accessor
+    called : (e : BegunEnum) (old new : Progress) (r : Result T (DecodeError E)) → Call (ReadsHeld held view as_need own e) old r new → ReadsFieldsHeld held view as_need own e old r new
+    called e old new (Ok w) h sound = let r = answered T E (ReadsHeld held view as_need own e) old new w h in (r.1, r.2)
+    called e old new (Err x) h sound = (tt, call_refused T E (ReadsHeld held view as_need own e) old new x sound h)
+
+    pub held_read : (e : BegunEnum) (old new : Progress) {k : List ℕ} (name : List ℕ) (w : T) → k ≡ name → ((t : Tree) → part name t ≡ option_map f (view t)) → ((t : Tree) → need name t ≡ as_need t)
+        → old.failed ≡ false → Call (ReadsHeld {E = E} held view as_need own e) old (Ok w) new
+        → (new.failed ≡ false) × TakesVariant (unit k) (part k) (need k) e old.input (f (held w)) new.input
+    held_read e old new name w is same much sound h = fields_read e old new name w is same much sound (called e old new (Ok w) h)
+
+    pub held_refused : (borrows : Type 0) (e : BegunEnum) (old new : Progress) {k : List ℕ} (name : List ℕ) (r : DecodeError E) → k ≡ name → unit name ≡ None → ((t : Tree) → part name t ≡ option_map f (view t)) → ((t : Tree) → need name t ≡ as_need t)
+        → (own ≡ true → borrows) → old.failed ≡ false → Call (ReadsHeld held view as_need own e) old (Err r) new
+        → Refuses (HasVariant (unit k) (part k) (need k) e old.input) ⊤ borrows Anything old.input r new.input
+    held_refused borrows e old new name r is none same much w sound h = fields_refused borrows e old new name r is none same much w sound (called e old new (Err r) h)
+
+-- ---- the fields that a variant holds make a value, as a struct's do
+
+module _ {S W : Type 0} (take : S → List ℕ → Tree → Option S) (need : List ℕ → Tree → ℕ) (start : S) (finish : S → Option W) {T : Type 0} (E : Type 0) (held : T → S) (own : Bool) (e : BegunEnum) (old new : Progress) where
+  pub held_finished : (s : T) {w : W} → finish (held s) ≡ Some w → ReadsFieldsHeld {E = E} held (view_fields take start) (need_fields need) own e old (Ok s) new
+      → ReadsFieldsHeld {E = E} (λ (s : T). w) (view_struct take start finish) (need_fields need) own e old (Ok s) new
+  held_finished s is h sound =
+      let r = h sound in
+      let f = finished take need start finish (λ (u : Unit {0}). (r.0, r.1.1.1)) is tt in
+      (r.0, (r.1.0, (r.1.1.0, f.1, r.1.1.2)))
+
+  -- a field that must be there was not there
+  pub held_unfinished : (s : T) (r : DecodeError E) (message : Name) → r ≡ Msg message → finish (held s) ≡ None → ReadsFieldsHeld {E = E} held (view_fields take start) (need_fields need) own e old (Ok s) new
+      → ReadsFieldsHeld {T = W} (λ w. w) (view_struct take start finish) (need_fields need) own e old (Err r) new
+  held_unfinished s r message is none h sound =
+      let k = h sound in
+      let end = k.1.1.0 in
+      let same : new.input.faults ≡ end.faults = ap (λ (x : Reading). x.faults) k.1.1.2 in
+      let u = unfinished take need start finish (own ≡ true) r message is none (λ (u : Unit {0}). (k.0, k.1.1.1)) tt in
+      let moved : Refuses (HasFront (view_struct take start finish) (need_fields need) old.input) ⊤ (own ≡ true) Anything old.input r new.input =
+          told_refused (own ≡ true) old.input r new.input is (same ∙ k.1.1.1.same.faults)
+          (subst (λ x. Refuses {E = E} (HasFront (view_struct take start finish) (need_fields need) old.input) ⊤ (own ≡ true) Anything old.input x end) is u).1 in
+      (tt, subst (λ b. MatchBool b (Refuses (HasFront (view_struct take start finish) (need_fields need) old.input) ⊤ (own ≡ true) Anything old.input r new.input) (IsOtherForm e r × (new.input ≡ old.input))) (sym k.1.0) moved)
+
+  -- the fields were refused
+  pub held_not_read : (r : DecodeError E) → ReadsFieldsHeld held (view_fields take start) (need_fields need) own e old (Err r) new
+      → ReadsFieldsHeld {T = W} (λ w. w) (view_struct take start finish) (need_fields need) own e old (Err r) new
+  held_not_read r h sound = (tt, by e.in_map (h sound).1)
+    where
+      by : (m : Bool) → MatchBool m (Refuses (HasFront (view_fields take start) (need_fields need) old.input) ⊤ (own ≡ true) Anything old.input r new.input) (IsOtherForm e r × (new.input ≡ old.input))
+          → MatchBool m (Refuses (HasFront (view_struct take start finish) (need_fields need) old.input) ⊤ (own ≡ true) Anything old.input r new.input) (IsOtherForm e r × (new.input ≡ old.input))
+      by true g = not_read take need start finish (own ≡ true) old.input new.input r (λ (u : Unit {0}). g) tt
+      by false g = g

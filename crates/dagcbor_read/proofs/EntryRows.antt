@@ -265,5 +265,5 @@ module _ {S : Type 0} (take : S → List ℕ → Tree → Option S) (need : List
             let none : (begun a).last ≡ None = ap (λ (c : Begun). c.last) k.0 in (
               tt,
               carried Anything Anything old.input mid.input new.input x record { faults = k.2.takes.same.faults; lends = k.2.takes.same.lends }
-              (λ y. subst (λ l. HasFields take need start l a.left mid.input) (sym none) (map_has_fields k.2 y)) (λ y. y) (λ y. y) (λ b l g. tt) r,
+                  (λ y. subst (λ l. HasFields take need start l a.left mid.input) (sym none) (map_has_fields k.2 y)) (λ y. y) (λ y. y) (λ b l g. tt) r,
             )

@@ -209,15 +209,18 @@ module _ {V : Type 0} (unit : List ℕ → Option V) (part : List ℕ → Tree �
         let name : k ≡ p.1.name = cc both in
         let much = ap (λ x. need x p.1.value) name in
         let steps = (entered e n.spent).steps in
-        inr (p.0, record {
-          bytes = t.1;
-          tree = p.1.value;
-          rest = p.1.rest;
-          left = t.5;
-          front = subst (λ x. IsFront x p.1.value p.1.rest) (sym same.1) p.1.value_front;
-          accepted = ap (λ x. is_some (part x p.1.value)) name ∙ p.1.accepted;
-          within = omega (arith, p.1.within, steps, n.name.same.steps, much);
-        })
+        inr (
+          p.0,
+          record {
+            bytes = t.1;
+            tree = p.1.value;
+            rest = p.1.rest;
+            left = t.5;
+            front = subst (λ x. IsFront x p.1.value p.1.rest) (sym same.1) p.1.value_front;
+            accepted = ap (λ x. is_some (part x p.1.value)) name ∙ p.1.accepted;
+            within = omega (arith, p.1.within, steps, n.name.same.steps, much);
+          },
+        )
   ]
 
   -- ---- refusals
@@ -235,7 +238,7 @@ module _ {V : Type 0} (unit : List ℕ → Option V) (part : List ℕ → Tree �
       let s = answered EnumAccessor E (SpendsEnum name) old mid a h in
       let i = entered (begun_enum a) s.2 in
       carried (TextStands _) Anything old.input mid.input new.input r (record { faults = i.faults; lends = i.lends }) (name_stands (begun_enum a) s.2) (λ x. tt) (λ x. absurd x) (λ b l g. tt)
-          (call_refused (CowStr Global × EnumAccessor) E ReadsName mid new r s.1 k)
+      (call_refused (CowStr Global × EnumAccessor) E ReadsName mid new r s.1 k)
 
   -- ---- answers
 
@@ -356,9 +359,9 @@ module _ {V : Type 0} (unit : List ℕ → Option V) (part : List ℕ → Tree �
   unit_refused {E} borrows e old new {k} name r is none f h =
       let g = call_refused (Unit {0}) E (EndsUnit e) old new r f h in
       other_form_refused borrows old.input new.input e r g.1 (ap (λ (x : Reading). x.faults) g.2)
-          (λ i.
-              let p = subst (λ b. MatchBool b (HasFront (part k) (need k) old.input) (is_some (unit k) ≡ true)) g.0 i in
-              none_some (ap (λ x. part x p.tree) is ∙ none p.tree) p.accepted)
+      (λ i.
+      let p = subst (λ b. MatchBool b (HasFront (part k) (need k) old.input) (is_some (unit k) ≡ true)) g.0 i in
+      none_some (ap (λ x. part x p.tree) is ∙ none p.tree) p.accepted)
 
   -- no variant has the name
   pub unknown_variant : {E : Type 0} (borrows : Type 0) (e : BegunEnum) (old : Reading) {k : List ℕ} {message : Name} (r : DecodeError E) → r ≡ Msg message → unit k ≡ None → ((t : Tree) → part k t ≡ None)
@@ -380,7 +383,7 @@ module _ {V : Type 0} (unit : List ℕ → Option V) (part : List ℕ → Tree �
         let taken = r.1.1 in
         let takes = takes_as f view (part name) as_need (need name) same much taken.1 in
         let there : (end : Reading) × TakesFront (part k) (need k) old.input (f (held w)) end × (new.input ≡ with_steps (end.steps + e.steps) end) =
-            (taken.0, subst (λ x. TakesFront (part x) (need x) old.input (f (held w)) taken.0) (sym is) takes, taken.2) in (
+        (taken.0, subst (λ x. TakesFront (part x) (need x) old.input (f (held w)) taken.0) (sym is) takes, taken.2) in (
           r.0,
           subst (λ b. MatchBool b ((end : Reading) × TakesFront (part k) (need k) old.input (f (held w)) end × (new.input ≡ with_steps (end.steps + e.steps) end)) ((unit k ≡ Some (f (held w))) × (new.input ≡ with_steps (old.input.steps + e.steps) old.input))) (sym r.1.0) there,
         )
@@ -430,8 +433,8 @@ module _ {S W : Type 0} (take : S → List ℕ → Tree → Option S) (need : Li
       let same : new.input.faults ≡ end.faults = ap (λ (x : Reading). x.faults) k.1.1.2 in
       let u = unfinished take need start finish (own ≡ true) r message is none (λ (u : Unit {0}). (k.0, k.1.1.1)) tt in
       let moved : Refuses (HasFront (view_struct take start finish) (need_fields need) old.input) ⊤ (own ≡ true) Anything old.input r new.input =
-          told_refused (own ≡ true) old.input r new.input is (same ∙ k.1.1.1.same.faults)
-          (subst (λ x. Refuses {E = E} (HasFront (view_struct take start finish) (need_fields need) old.input) ⊤ (own ≡ true) Anything old.input x end) is u).1 in
+      told_refused (own ≡ true) old.input r new.input is (same ∙ k.1.1.1.same.faults)
+      (subst (λ x. Refuses {E = E} (HasFront (view_struct take start finish) (need_fields need) old.input) ⊤ (own ≡ true) Anything old.input x end) is u).1 in
       (tt, subst (λ b. MatchBool b (Refuses (HasFront (view_struct take start finish) (need_fields need) old.input) ⊤ (own ≡ true) Anything old.input r new.input) (IsOtherForm e r × (new.input ≡ old.input))) (sym k.1.0) moved)
 
   -- the fields were refused
@@ -443,3 +446,12 @@ module _ {S W : Type 0} (take : S → List ℕ → Tree → Option S) (need : Li
           → MatchBool m (Refuses (HasFront (view_struct take start finish) (need_fields need) old.input) ⊤ (own ≡ true) Anything old.input r new.input) (IsOtherForm e r × (new.input ≡ old.input))
       by true g = not_read take need start finish (own ≡ true) old.input new.input r (λ (u : Unit {0}). g) tt
       by false g = g
+
+-- a field that must be there was not among those that the variant holds
+pub field_missing : {V W S T : Type 0} (unit : List ℕ → Option V) (part : List ℕ → Tree → Option V) (need : List ℕ → Tree → ℕ) (f : W → V) (take : S → List ℕ → Tree → Option S) (as_need : List ℕ → Tree → ℕ) (start : S) (finish : S → Option W) (E : Type 0) (held : T → S) (own : Bool) (borrows : Type 0)
+    (e : BegunEnum) (old new : Progress) {k : List ℕ} (name : List ℕ) (s : T) (r : DecodeError E) (message : Name)
+    → k ≡ name → unit name ≡ None → ((t : Tree) → part name t ≡ option_map f (view_struct take start finish t)) → ((t : Tree) → need name t ≡ need_fields as_need t) → (own ≡ true → borrows) → old.failed ≡ false
+    → r ≡ Msg message → finish (held s) ≡ None → ReadsFieldsHeld {E = E} held (view_fields take start) (need_fields as_need) own e old (Ok s) new
+    → Refuses (HasVariant (unit k) (part k) (need k) e old.input) ⊤ borrows Anything old.input r new.input
+field_missing {V} {W} unit part need f take as_need start finish E held own borrows e old new name s r message is none same much w sound told missing h =
+    fields_refused unit part need f (view_struct take start finish) (need_fields as_need) {T = W} E (λ w. w) own borrows e old new name r is none same much w sound (held_unfinished take as_need start finish E held own e old new s r message told missing h)

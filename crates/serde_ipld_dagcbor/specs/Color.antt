@@ -21,7 +21,7 @@ unit_color name =
     else None
 
 -- two numbers in a list
-abbrev pub view_parts : Tree → Option (ℕ × ℕ × Unit {0})
+abbrev pub view_parts : Tree → Option (ℕ × (ℕ × Unit {0}))
 view_parts = view_list (view_first (view_unsigned (2 ^ 64)) (view_first (view_unsigned (2 ^ 8)) view_none))
 
 abbrev pub need_parts : Tree → ℕ

@@ -35,7 +35,7 @@ abbrev pub finish_c : SeenC → Option DataView
 finish_c s = option_and_then (λ x. option_map (is_c x) s.y) s.x
 
 -- a truth value and a number in a list
-abbrev pub view_b : Tree → Option (Bool × ℕ × Unit {0})
+abbrev pub view_b : Tree → Option (Bool × (ℕ × Unit {0}))
 view_b = view_list (view_first view_bool (view_first (view_unsigned (2 ^ 8)) view_none))
 
 abbrev pub need_b : Tree → ℕ

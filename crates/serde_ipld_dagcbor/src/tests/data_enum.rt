@@ -7,6 +7,7 @@ ghost use Rattle.serde_ipld_dagcbor.specs.DataEnum.{DataView, is_a, is_b, is_c, 
 ghost use Rattle.serde_ipld_dagcbor.specs.declared.tests.data_enum.DataEnum.TheVariants.{A, B, C};
 
 use crate::tests::required::required;
+use crate::tests::typed_reads::tells;
 use crate::{
     DecodeError, Deserialize, Deserializer, EncodeError, EnumAccessor, Fields, Read, Serialize,
     Serializer, Shown, Variants, Write, read_enum, read_into, read_struct_variant, skip_value,
@@ -15,7 +16,7 @@ use crate::{
 use std::alloc::Global;
 use std::test::Fail;
 
-#[derive(Drop)]
+#[derive(Drop, Debug)]
 pub(crate) enum DataEnum {
     A(u32),
     B(bool, u8),
@@ -153,5 +154,40 @@ fn variants_with_parts_are_written(rt: HostRuntime) -> Result<(), Fail> {
     for (value, spelling) in rows {
         assert_eq!(rt; to_vec(rt.alloc(), &value)?.as_slice(), spelling);
     }
+    Ok(())
+}
+
+#[test]
+fn variants_with_parts_are_read(rt: HostRuntime) -> Result<(), Fail> {
+    let alloc = rt.alloc();
+    assert!(rt; tells::<DataEnum>(alloc, b"\xa1\x61A\x04", "Ok(A(4))")?);
+    assert!(rt; tells::<DataEnum>(alloc, b"\xa1\x61B\x82\xf5\x05", "Ok(B(true, 5))")?);
+    assert!(rt;
+        tells::<DataEnum>(
+            alloc,
+            b"\xa1\x61C\xa2\x61x\x06\x61y\x61z",
+            r#"Ok(C { x: 6, y: "z" })"#
+        )?
+    );
+    Ok(())
+}
+
+#[test]
+fn variants_without_their_parts_are_refused(rt: HostRuntime) -> Result<(), Fail> {
+    let alloc = rt.alloc();
+    assert!(rt;
+        tells::<DataEnum>(
+            alloc,
+            b"\x61A\x04",
+            r#"Err(Mismatch { name: "enum", found: 97 })"#
+        )?
+    );
+    assert!(rt;
+        tells::<DataEnum>(
+            alloc,
+            b"\xa1\x61C\xa1\x61x\x06",
+            r#"Err(Msg("missing field"))"#
+        )?
+    );
     Ok(())
 }

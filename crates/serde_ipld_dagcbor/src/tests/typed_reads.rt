@@ -12,7 +12,7 @@ use std::fmt::Debug;
 use std::test::Fail;
 
 /// Whether a read answers this, as text.
-fn tells<'de, T: Deserialize<'de> + Debug>(
+pub(crate) fn tells<'de, T: Deserialize<'de> + Debug>(
     alloc: Global,
     bytes: &'de [u8],
     told: &str,

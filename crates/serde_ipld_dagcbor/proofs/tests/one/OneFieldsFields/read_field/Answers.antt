@@ -6,9 +6,6 @@ use Rattle.dagcbor_read.proofs.FieldPlaces.{field_read, field_skipped, other_nam
 use Rattle.serde_ipld_dagcbor.specs.One.{take_one, need_one}
 use Rattle.serde_ipld_dagcbor.proofs.tests.one.OneFieldsFields.read_field.Goals as goal
 
-pub returns-in-a : goal.returns-in-a
-returns-in-a g c = field_read take_one need_one _ (codes "a") (view_slot (view_unsigned (2 ^ 8))) no_need false false _ _ _ (λ a. record { a = a }) c.in-a.is (λ t. refl) (λ t. refl) (λ x. x) refl c.read_into.ensures
-
 pub returns-in_default : goal.returns-in_default
 returns-in_default g c =
     let a = other_name c.in_default.not-a in

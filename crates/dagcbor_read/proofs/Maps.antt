@@ -19,6 +19,7 @@ use Rattle.dagcbor_read.specs.ItemCauses.{Stands}
 use Rattle.dagcbor_read.specs.Untyped.{HasItem, TakesItem, StartsWithMajor}
 use Rattle.dagcbor_read.specs.Entries.{Follows, HasKey, KeyStands, HasEntries, TakesEntries}
 use Rattle.dagcbor_read.specs.Collections.{AllFollow}
+use Rattle.dagcbor_read.proofs.StringItems.{key_stands}
 use Rattle.dagcbor_read.proofs.Rows.{behind_both, behind_head, behind_front, behind_entries, stands_behind}
 use Rattle.dagcbor_read.proofs.Fronts.{TakesHeadOf, major_of_front, as_tree}
 use Rattle.dagcbor_read.proofs.Steps.{too_deep}
@@ -72,7 +73,7 @@ next_key : {old now : Reading} {count left : ℕ} {es : Entries} {previous : Opt
 next_key more s i = let n = next_entry more s i in record { bytes = n.bytes; key = n.key; rest = n.behind; left = n.left; front = n.key_front; follows = n.follows }
 
 unordered_somewhere : {E : Type 0} (es : Entries) (b c : List ℕ) (previous : Option (List ℕ)) (e : DecodeError E) → AreEntryFronts b es c → last_key es ≡ previous → KeyStands previous e c → Stands e b
-unordered_somewhere es b c previous e h last (inl s) = stands_behind e b c (behind_entries b c es h) s
+unordered_somewhere es b c previous e h last (inl s) = stands_behind e b c (behind_entries b c es h) (key_stands e c s)
 unordered_somewhere {E} es b c previous e h last (inr u) =
     let w = u.1 in
     let l = last_entry es b c w.0 h (last ∙ w.3) in
@@ -94,8 +95,8 @@ unordered_somewhere {E} es b c previous e h last (inr u) =
     )
 
 pub next_key_refused : {E : Type 0} {old now : Reading} {count left : ℕ} {es : Entries} {previous : Option (List ℕ)} (new : Reading) (e : DecodeError E) → 0 < left → ReadEntries count left old es previous now
-    → Refuses (HasKey previous now) ⊤ ⊥ (KeyStands previous) now e new → Refuses (HasEntries count old) ⊤ ⊥ Stands old e new
-next_key_refused {E} {old} {now} {count} {left} {es} {previous} new e more s r = passed_on (KeyStands previous) Stands old now new e s.takes.same (next_key more s) (λ x. x) (λ x. x)
+    → Refuses (HasKey previous now) (now.lends ≡ false) ⊥ (KeyStands previous) now e new → Refuses (HasEntries count old) ⊤ ⊥ Stands old e new
+next_key_refused {E} {old} {now} {count} {left} {es} {previous} new e more s r = passed_on (KeyStands previous) Stands old now new e s.takes.same (next_key more s) (λ x. tt) (λ x. x)
     (λ b l. let k = s.takes.taken b l in (k.0, k.3, unordered_somewhere es b k.0 previous e k.1 s.last)) r
 
 -- a key was read as well

@@ -12,7 +12,7 @@ use Rattle.ipld_tree.specs.Tree.{Tree, null, boolean, integer, text, bytes, list
 use Rattle.ipld_tree.specs.Spelling.{spelling, IsFront}
 use Rattle.dagcbor_read.specs.Reads.{HasFront, TakesFront, Anything}
 use Rattle.dagcbor_read.specs.Views.{view_option, need_option}
-use Rattle.dagcbor_read.specs.Parts.{CanEnter, EntersSome}
+use Rattle.dagcbor_read.specs.Parts.{CanEnter, EntersSome, OptionCause}
 use Rattle.dagcbor_read.proofs.SimpleValues.{front_byte}
 
 -- the view and the need of another tree than null
@@ -58,9 +58,9 @@ can_enter view need r h =
     null_first : (b rest : List ℕ) (t : Tree) (byte : ℕ) (more : List ℕ) → IsFront b t rest → t ≡ null → b ≡ byte ∷ more → byte ≡ 0xf6
     null_first b rest t byte more f e s = let is : byte ∷ more ≡ 0xf6 ∷ rest = sym s ∙ f.is ∙ ap (λ u. spelling u ++ rest) e in cc is
 
-pub not_entered : {V E : Type 0} (view : Tree → Option V) (need : Tree → ℕ) (borrows : Type 0) (old new : Reading) (e : DecodeError E) → Refuses (CanEnter old) ⊥ ⊥ Anything old e new
+pub not_entered : {V E : Type 0} (view : Tree → Option V) (need : Tree → ℕ) (borrows : Type 0) (old new : Reading) (e : DecodeError E) → Refuses (CanEnter old) ⊥ ⊥ OptionCause old e new
     → Refuses (HasFront (view_option view) (need_option need) old) ⊤ borrows Anything old e new
-not_entered view need borrows old new e r = passed_on Anything Anything old old new e (stays old) (can_enter view need old) (λ x. absurd x) (λ x. absurd x) (λ b l. (b, l, λ h. h)) r
+not_entered view need borrows old new e r = passed_on OptionCause Anything old old new e (stays old) (can_enter view need old) (λ x. absurd x) (λ x. absurd x) (λ b l. (b, l, λ h. tt)) r
 
 pub null_entered : {V : Type 0} (view : Tree → Option V) (need : Tree → ℕ) {old new : Reading} → Takes old (0xf6 ∷ []) new → TakesFront (view_option view) (need_option need) old None new
 null_entered view need {old} {new} h = record {

@@ -5,7 +5,6 @@ use Rattle.dagcbor_heads.specs.Reading.{Reading}
 use Rattle.dagcbor_heads.specs.Refusals.{Refuses}
 use Rattle.dagcbor_heads.specs.declared.error.DecodeError.{DecodeError}
 use Rattle.dagcbor_heads.specs.declared.error.DecodeError.TheVariants.{Read, RequireBorrowed, OutOfMemory, Failed, DepthOverflow}
-use Rattle.dagcbor_read.specs.Untyped.{LacksOnlyIf}
 
 -- what a reader keeps between calls of a part, whatever its steps are
 pub record SameReader (old mid : Reading) : Type 0 where
@@ -22,13 +21,3 @@ carried stands stands' old mid new (RequireBorrowed n) h c k w s r = (r.0 ∙ h.
 carried stands stands' old mid new Failed h c k w s r = r
 carried stands stands' old mid new (DepthOverflow n) h c k w s r = (r.0 ∙ h.faults, λ x. r.1 (c x), λ b l. s b l r.2, r.3)
 carried stands stands' old mid new _ h c k w s r = (r.0 ∙ h.faults, λ x. r.1 (c x), λ b l. s b l r.2)
-
--- memory lacks only in the case that is known
-pub lacks_only : {E : Type 0} (could lacks lacks' borrows : Type 0) (stands : DecodeError E → List ℕ → Type 0) (old new : Reading) (e : DecodeError E) → LacksOnlyIf lacks' e
-    → Refuses could lacks borrows stands old e new → Refuses could lacks' borrows stands old e new
-lacks_only could lacks lacks' borrows stands old new (Read e) k r = r
-lacks_only could lacks lacks' borrows stands old new OutOfMemory k r = (r.0, k)
-lacks_only could lacks lacks' borrows stands old new (RequireBorrowed n) k r = r
-lacks_only could lacks lacks' borrows stands old new Failed k r = r
-lacks_only could lacks lacks' borrows stands old new (DepthOverflow n) k r = r
-lacks_only could lacks lacks' borrows stands old new _ k r = r

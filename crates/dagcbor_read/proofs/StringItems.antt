@@ -1,8 +1,6 @@
 -- Texts and byte strings as items of unknown kind.
 use Rattle.std.proofs.Common.{◌≡◌, inl, inr, ℕ, List, ◌∷◌, refl, sym, ap, ◌∙◌, subst, arith, Vec, Global}
-use Rattle.std.specs.Prelude.{◌⊎◌, is_some, Result, Ok, Err, codes, ⊤}
-use Rattle.std.specs.Cow.{cow_str_bytes}
-use Rattle.std.specs.declared.borrow.CowStr.{CowStr}
+use Rattle.std.specs.Prelude.{◌⊎◌, is_some, String, string_bytes, codes, ⊤}
 use Rattle.dagcbor_heads.specs.Reading.{Reading}
 use Rattle.dagcbor_heads.specs.Refusals.{Refuses}
 use Rattle.dagcbor_heads.specs.declared.error.DecodeError.{DecodeError}
@@ -12,15 +10,14 @@ use Rattle.dagcbor_heads.proofs.Refusing.{passed_on}
 use Rattle.ipld_tree.specs.Tree.{text, bytes}
 use Rattle.ipld_tree.specs.Spelling.{IsFront}
 use Rattle.ipld_tree.specs.Ipld.{tree_of}
-use Rattle.ipld_tree.specs.declared.ipld.Ipld.{Bytes as Bytes'}
-use Rattle.ipld_tree.proofs.Trees.{tree_of-Bytes}
+use Rattle.ipld_tree.specs.declared.ipld.Ipld.{Bytes as Bytes', String as String'}
+use Rattle.ipld_tree.proofs.Trees.{tree_of-Bytes, tree_of-String}
 use Rattle.ipld_tree.proofs.Fronts.{is_bytes, is_text}
 use Rattle.dagcbor_read.specs.ItemCauses.{Stands}
-use Rattle.dagcbor_read.specs.Untyped.{HasItem, TakesItem, ReadsText, StartsWithMajor}
+use Rattle.dagcbor_read.specs.Untyped.{HasItem, TakesItem, StartsWithMajor}
 use Rattle.dagcbor_read.specs.Reads.{HasFront, TakesFront}
 use Rattle.dagcbor_read.specs.Views.{view_text, view_bytes, no_need}
 use Rattle.dagcbor_read.specs.LeafCauses.{IsOtherKind, IsCut, IsGarbled, StringStands, TextStands}
-use Rattle.dagcbor_read.specs.LeafReads.{ReadsStr}
 use Rattle.dagcbor_read.proofs.Rows.{stands_here}
 use Rattle.dagcbor_read.proofs.Fronts.{MajorAt, major_of_front, as_tree}
 use Rattle.dagcbor_read.proofs.StringReads.{shown_bytes, shown_text}
@@ -51,6 +48,17 @@ text_stands : {E : Type 0} (name : List ℕ) (e : DecodeError E) (b : List ℕ) 
 text_stands name e b m (inl h) = string_stands name 3 e b (inr refl) m h
 text_stands name e b m (inr h) = garbled_stands name e b h
 
+-- where a key is to stand
+pub key_stands : {E : Type 0} (e : DecodeError E) (b : List ℕ) → TextStands (codes "map key") e b → Stands e b
+key_stands e b (inl (inl (inl h))) = stands_here e b (inl h.0)
+key_stands e b (inl (inl (inr h))) = other_key e b h
+  where
+    other_key : {E : Type 0} (e : DecodeError E) (b : List ℕ) → IsOtherKind (codes "map key") 3 3 e b → Stands e b
+    other_key {E} (Mismatch kept found) b h = stands_here {E = E} (Mismatch kept found) b (inr (inl (h.0, (h.1.0, h.1.1, λ same. h.1.2 (omega (arith, same)) (omega (arith, same))))))
+    other_key _ b h = absurd h
+key_stands e b (inl (inr h)) = cut_stands (codes "map key") 3 e b (inr refl) h
+key_stands e b (inr h) = garbled_stands (codes "map key") e b h
+
 -- ---- texts
 
 text_front : {old : Reading} → StartsWithMajor old 3 → HasItem 1 old → HasFront view_text no_need old
@@ -64,15 +72,17 @@ text_front starts i = record {
   within = omega arith;
 }
 
-text_taken : {old new : Reading} (s : List ℕ) → TakesFront view_text no_need old s new → TakesItem 1 old (text s) new
+pub text_taken : {old new : Reading} (s : List ℕ) → TakesFront view_text no_need old s new → TakesItem 1 old (text s) new
 text_taken {old} {new} s h = record {
   taken = λ b l. let k = h.taken b l in let e = shown_text k.0 s k.3 in (k.1, subst (λ t. IsFront b t k.1) e k.2, omega arith, k.5);
   same = h.same;
 }
 
-pub text_item : {E : Type 0} (name : List ℕ) (old new : Reading) (r : Result (CowStr Global) (DecodeError E)) → StartsWithMajor old 3 → ReadsStr name old r new → ReadsText old r new
-text_item name old new (Ok s) starts h = text_taken (cow_str_bytes s) h
-text_item name old new (Err e) starts h = passed_on (TextStands name) Stands old old new e (stays old) (text_front starts) (λ _. tt) (λ x. x) (λ b l. (b, l, text_stands name e b (starts b l))) h
+pub text_refused : {E : Type 0} (old new : Reading) (e : DecodeError E) → StartsWithMajor old 3 → Refuses (HasFront view_text no_need old) ⊤ ⊥ (TextStands (codes "string")) old e new → Refuses (HasItem 1 old) ⊤ ⊥ Stands old e new
+text_refused old new e starts r = passed_on (TextStands (codes "string")) Stands old old new e (stays old) (text_front starts) (λ x. x) (λ x. x) (λ b l. (b, l, text_stands (codes "string") e b (starts b l))) r
+
+pub text_as_tree : {old new : Reading} (s : String Global) → TakesFront view_text no_need old (string_bytes s) new → TakesItem 1 old (tree_of (String' s)) new
+text_as_tree {old} {new} s h = as_tree (text (string_bytes s)) _ (tree_of-String s) (text_taken (string_bytes s) h)
 
 -- ---- byte strings
 

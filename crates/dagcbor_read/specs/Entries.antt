@@ -1,5 +1,5 @@
 -- What a read of a map's entries answers and refuses.
-use Rattle.std.specs.Prelude.{◌≡◌, ℕ, ◌≤◌, ◌⊎◌, false, List, Option, None, Some, Result, MatchResult, ⊤, String, IsTrue}
+use Rattle.std.specs.Prelude.{◌≡◌, ℕ, ◌≤◌, ◌⊎◌, false, List, Option, None, Some, Result, MatchResult, ⊤, String, IsTrue, codes}
 use Rattle.std.specs.BTreeMap.{BTreeMap}
 use Rattle.std.specs.Cow.{cow_str_bytes}
 use Rattle.std.specs.declared.borrow.CowStr.{CowStr}
@@ -14,6 +14,7 @@ use Rattle.ipld_tree.specs.Spelling.{entry_count, IsFront, AreEntryFronts}
 use Rattle.ipld_tree.specs.Ipld.{pairs_of}
 use Rattle.ipld_tree.specs.declared.ipld.Ipld.{Ipld}
 use Rattle.dagcbor_read.specs.ItemCauses.{Stands}
+use Rattle.dagcbor_read.specs.LeafCauses.{TextStands}
 use Rattle.dagcbor_read.specs.Untyped.{TakesItem}
 
 -- k may stand behind the key before it
@@ -30,16 +31,16 @@ pub record HasKey (previous : Option (List ℕ)) (r : Reading) : Type 0 where
   pub front : IsFront bytes (text key) rest
   pub follows : Follows previous key
 
--- the cause of a key's refusal, which may lie in the key before
+-- where a key is to stand no whole text stands, or one that does not follow the key before it
 abbrev pub KeyStands : {E : Type 0} → Option (List ℕ) → DecodeError E → List ℕ → Type 0
-KeyStands previous e b = Stands e b
+KeyStands previous e b = TextStands (codes "map key") e b
     ⊎ ((e ≡ UnorderedKey) × ((before key rest : List ℕ) × (previous ≡ Some before) × IsFront b (text key) rest × (comes_before before key ≡ false)))
 
--- A key is read exactly where one stands that follows the one before it.
+-- A key is read exactly where one stands that follows the one before it, with no want of memory where the input lends.
 abbrev pub ReadsKey : {E : Type 0} → Option (List ℕ) → Reading → Result (CowStr Global) (DecodeError E) → Reading → Type 0
 ReadsKey previous old result new = MatchResult result
     (λ k. Follows previous (cow_str_bytes k) × TakesItem 1 old (text (cow_str_bytes k)) new)
-    (λ e. Refuses (HasKey previous old) ⊤ ⊥ (KeyStands previous) old e new)
+    (λ e. Refuses (HasKey previous old) (old.lends ≡ false) ⊥ (KeyStands previous) old e new)
 
 -- so many entries stand at the front within the steps left
 pub record HasEntries (count : ℕ) (r : Reading) : Type 0 where

@@ -1,20 +1,19 @@
 -- What reading a value of another type answers and refuses.
-use Rattle.std.specs.Prelude.{◌≡◌, ℕ, ◌+◌, ◌<◌, ◌⊎◌, Bool, true, List, [], ◌∷◌, Option, Some, option_map, Result, MatchResult, MatchBool, ⊤}
+use Rattle.std.specs.Prelude.{◌≡◌, ℕ, ◌+◌, ◌<◌, ◌⊎◌, Bool, true, List, [], ◌∷◌, Option, Some, option_map, Result, MatchResult, MatchBool, codes, ⊤}
 use Rattle.dagcbor_heads.specs.Reading.{Reading, Keeps}
 use Rattle.dagcbor_heads.specs.Fronts.{Takes}
 use Rattle.dagcbor_heads.specs.Refusals.{Refuses}
+use Rattle.dagcbor_heads.specs.Names.{Names}
 use Rattle.dagcbor_heads.specs.declared.error.DecodeError.{DecodeError}
+use Rattle.dagcbor_heads.specs.declared.error.DecodeError.TheVariants.{Eof, DepthOverflow}
+use Rattle.dagcbor_heads.specs.declared.error.Len.TheVariants.{Small}
 use Rattle.ipld_tree.specs.Tree.{Tree}
 use Rattle.dagcbor_read.specs.Views.{view_option, need_option}
-use Rattle.dagcbor_read.specs.Reads.{Reads, Anything}
+use Rattle.dagcbor_read.specs.Reads.{Reads, HasFront, TakesFront, Anything}
 
 -- A value is read as the law of its type says.
 abbrev pub ReadsPart : {T V E : Type 0} → (T → V) → (Tree → Option V) → (Tree → ℕ) → Bool → Reading → Result T (DecodeError E) → Reading → Type 0
 ReadsPart held view need borrows = Reads held view need ⊤ (borrows ≡ true) Anything
-
--- A null is read, or another value as the law of its type says.
-abbrev pub ReadsOption : {T V E : Type 0} → (T → V) → (Tree → Option V) → (Tree → ℕ) → Bool → Reading → Result (Option T) (DecodeError E) → Reading → Type 0
-ReadsOption held view need borrows = ReadsPart (option_map held) (view_option view) (need_option need) borrows
 
 -- a null stands at the front, or another byte, and a step is left
 pub record CanEnter (r : Reading) : Type 0 where
@@ -33,8 +32,26 @@ pub record EntersSome (old new : Reading) : Type 0 where
   pub lends : new.lends ≡ old.lends
   pub faults : new.faults ≡ old.faults
 
+-- why no option is entered: no byte, or no step for another value than a null
+abbrev pub OptionCause : {E : Type 0} → DecodeError E → List ℕ → Type 0
+OptionCause (Eof name expect) b = Names name (codes "option") × (expect ≡ Small 1) × (b ≡ [])
+OptionCause (DepthOverflow name) b = Names name (codes "option")
+OptionCause _ b = ⊥
+
 -- A null was taken, or a step was spent on another value.
 abbrev pub EntersOption : {E : Type 0} → Reading → Result Bool (DecodeError E) → Reading → Type 0
 EntersOption old result new = MatchResult result
     (λ is_null. MatchBool is_null (Takes old (0xf6 ∷ []) new) (EntersSome old new))
-    (λ e. Refuses (CanEnter old) ⊥ ⊥ Anything old e new)
+    (λ e. Refuses (CanEnter old) ⊥ ⊥ OptionCause old e new)
+
+-- the part behind the step was refused, as its law says
+abbrev pub RefusesPart : {V E : Type 0} → (Tree → Option V) → (Tree → ℕ) → Bool → Reading → DecodeError E → Reading → Type 0
+RefusesPart view need borrows old e new = (mid : Reading) × EntersSome old mid × Refuses (HasFront view need mid) ⊤ (borrows ≡ true) Anything mid e new
+
+-- A null is read, or another value as the law of its type says. A refusal is the part's, or it came before the part with
+-- its cause.
+abbrev pub ReadsOption : {T V E : Type 0} → (T → V) → (Tree → Option V) → (Tree → ℕ) → Bool → Reading → Result (Option T) (DecodeError E) → Reading → Type 0
+ReadsOption held view need borrows old result new = MatchResult result
+    (λ o. TakesFront (view_option view) (need_option need) old (option_map held o) new)
+    (λ e. Refuses (HasFront (view_option view) (need_option need) old) ⊤ (borrows ≡ true) Anything old e new
+    × (Refuses (CanEnter old) ⊥ ⊥ OptionCause old e new ⊎ RefusesPart view need borrows old e new))

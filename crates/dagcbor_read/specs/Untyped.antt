@@ -1,13 +1,9 @@
 -- What an untyped read answers and refuses.
 use Rattle.std.specs.Prelude.{◌≡◌, ℕ, ◌+◌, ◌/◌, ◌≤◌, List, [], ◌∷◌, Option, None, Some, Result, MatchResult, ⊤}
-use Rattle.std.specs.Cow.{cow_str_bytes}
-use Rattle.std.specs.declared.borrow.CowStr.{CowStr}
-use Rattle.std.specs.declared.alloc.Global.{Global}
 use Rattle.dagcbor_heads.specs.Reading.{Reading, Stays}
 use Rattle.dagcbor_heads.specs.Refusals.{Refuses}
 use Rattle.dagcbor_heads.specs.declared.error.DecodeError.{DecodeError}
-use Rattle.dagcbor_heads.specs.declared.error.DecodeError.TheVariants.{OutOfMemory}
-use Rattle.ipld_tree.specs.Tree.{Tree, text, IsTree, any_need}
+use Rattle.ipld_tree.specs.Tree.{Tree, IsTree, any_need}
 use Rattle.ipld_tree.specs.Spelling.{IsSpellable, spelling, IsFront}
 use Rattle.ipld_tree.specs.Ipld.{tree_of}
 use Rattle.ipld_tree.specs.declared.ipld.Ipld.{Ipld}
@@ -37,17 +33,6 @@ abbrev pub ReadsItem : {E : Type 0} → ℕ → Reading → Result Ipld (DecodeE
 ReadsItem spent old result new = MatchResult result
     (λ v. TakesItem spent old (tree_of v) new)
     (λ e. Refuses (HasItem spent old) ⊤ ⊥ Stands old e new)
-
--- memory is lacking only in this case
-abbrev pub LacksOnlyIf : {E : Type 0} → Type 0 → DecodeError E → Type 0
-LacksOnlyIf lacks OutOfMemory = lacks
-LacksOnlyIf lacks _ = ⊤
-
--- A text is read exactly where one stands.
-abbrev pub ReadsText : {E : Type 0} → Reading → Result (CowStr Global) (DecodeError E) → Reading → Type 0
-ReadsText old result new = MatchResult result
-    (λ s. TakesItem 1 old (text (cow_str_bytes s)) new)
-    (λ e. Refuses (HasItem 1 old) ⊤ ⊥ Stands old e new)
 
 -- a simple value and its one byte
 abbrev pub IsSimple : ℕ → Option Ipld → Type 0

@@ -1,14 +1,13 @@
 //! Reading the keys of maps: texts, each behind the one before it.
 
-ghost use Rattle.std.specs.Prelude.{◌≡◌, ◌↔◌, true, false, IfOk, IfErr, IsTrue, option_map};
+ghost use Rattle.std.specs.Prelude.{◌≡◌, ◌↔◌, true, false, IfOk, IsTrue, option_map};
 ghost use Rattle.std.specs.Cow.{cow_str_bytes, IsBorrowedStr};
 ghost use Rattle.dagcbor_heads.specs.Inputs.{input_reading};
 ghost use Rattle.ipld_tree.specs.Key.{comes_before};
-ghost use Rattle.dagcbor_read.specs.Untyped.{LacksOnlyIf};
 ghost use Rattle.dagcbor_read.specs.Entries.{Follows, ReadsKey};
 
-use crate::leaf::pull_text;
-use dagcbor_heads::{DecodeError, Input, Name, Read, peek_one};
+use crate::strings::pull_str;
+use dagcbor_heads::{DecodeError, Input, Read};
 use std::alloc::Global;
 use std::borrow::CowStr;
 
@@ -37,16 +36,8 @@ pub(crate) fn read_key<'de, R: Read>(
 ) -> Result<CowStr<'de>, DecodeError<R::Error>>
     ensures key { ReadsKey (option_map cow_str_bytes previous.now) (input_reading R.reading input.old) result (input_reading R.reading input.new) }
     ensures lent { IfOk result (λ k. IsBorrowedStr k ↔ ((input_reading R.reading input.old).lends ≡ true)) }
-    ensures memory { IfErr result (LacksOnlyIf ((input_reading R.reading input.old).lends ≡ false)) }
 {
-    let first = peek_one("map key", input)?;
-    if first / 32 != 3 {
-        return Err(DecodeError::Mismatch {
-            name: Name::new("map key"),
-            found: first,
-        });
-    }
-    let key = pull_text(alloc, "map key", input)?;
+    let key = pull_str(alloc, "map key", input)?;
     if !follows(previous, &key) {
         return Err(DecodeError::UnorderedKey);
     }

@@ -1,16 +1,14 @@
 //! Reading leaves other than links.
 
-ghost use Rattle.std.specs.Prelude.{◌≡◌, ◌/◌, ◌↔◌, true, false, IfOk, IfErr};
-ghost use Rattle.std.specs.Cow.{IsBorrowedStr};
+ghost use Rattle.std.specs.Prelude.{◌≡◌, ◌/◌, true, false};
 ghost use Rattle.dagcbor_heads.specs.Inputs.{input_reading};
 ghost use Rattle.dagcbor_heads.specs.Fronts.{StartsWith};
-ghost use Rattle.dagcbor_read.specs.Untyped.{ReadsItem, ReadsText, LacksOnlyIf, StartsWithMajor, IsSimple};
+ghost use Rattle.dagcbor_read.specs.Untyped.{ReadsItem, StartsWithMajor, IsSimple};
 
-use crate::strings::{pull_owned_bytes, pull_str};
+use crate::strings::{pull_owned_bytes, pull_owned_text};
 use dagcbor_heads::{DecodeError, Input, Name, Read, pull_head, pull_one};
 use ipld_tree::Ipld;
 use std::alloc::Global;
-use std::borrow::CowStr;
 
 pub(crate) fn read_natural<R: Read>(reader: &mut R) -> Result<Ipld, DecodeError<R::Error>>
     requires { StartsWithMajor (R.reading reader.old) 0 }
@@ -38,20 +36,6 @@ pub(crate) fn read_bytes<R: Read>(
     Ok(Ipld::Bytes(pull_owned_bytes(alloc, input)?))
 }
 
-/// A text, lent exactly where the input lends.
-pub(crate) fn pull_text<'de, R: Read>(
-    alloc: Global,
-    name: &str,
-    input: &mut Input<'de, R>,
-) -> Result<CowStr<'de>, DecodeError<R::Error>>
-    requires { StartsWithMajor (input_reading R.reading input.old) 3 }
-    ensures text { ReadsText (input_reading R.reading input.old) result (input_reading R.reading input.new) }
-    ensures lent { IfOk result (λ s. IsBorrowedStr s ↔ ((input_reading R.reading input.old).lends ≡ true)) }
-    ensures memory { IfErr result (LacksOnlyIf ((input_reading R.reading input.old).lends ≡ false)) }
-{
-    pull_str(alloc, name, input)
-}
-
 pub(crate) fn read_text<R: Read>(
     alloc: Global,
     input: &mut Input<'_, R>,
@@ -59,11 +43,7 @@ pub(crate) fn read_text<R: Read>(
     requires { StartsWithMajor (input_reading R.reading input.old) 3 }
     ensures { ReadsItem 1 (input_reading R.reading input.old) result (input_reading R.reading input.new) }
 {
-    let text = pull_text(alloc, "string", input)?;
-    match text.into_owned(alloc) {
-        Ok(text) => Ok(Ipld::String(text)),
-        Err(_) => Err(DecodeError::OutOfMemory),
-    }
+    Ok(Ipld::String(pull_owned_text(alloc, input)?))
 }
 
 fn simple_value(byte: u8) -> Option<Ipld>

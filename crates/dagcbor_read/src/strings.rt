@@ -76,7 +76,7 @@ pub(crate) fn pull_str<'de, R: Read>(
     }
 }
 
-fn pull_owned_text<R: Read>(
+pub(crate) fn pull_owned_text<R: Read>(
     alloc: Global,
     input: &mut Input<'_, R>,
 ) -> Result<String, DecodeError<R::Error>>

@@ -10,9 +10,9 @@ use Rattle.std.specs.List.Sorted.{IsStrictlySortedBy}
 use Rattle.std.specs.Map.{keys_of}
 use Rattle.std.specs.Ordering.{nat_cmp, is_lt, ord_max, match_ordering, ordering_reverse}
 use Rattle.ipld_tree.specs.Key.{bytes_cmp, comes_before}
-use Rattle.ipld_tree.specs.Tree.{Tree, bytes, list, mapping, Items, Entries, no_entries, entry, items_of, insert, ordered, any_need, items_need, entries_need}
+use Rattle.ipld_tree.specs.Tree.{Tree, text, bytes, list, mapping, Items, Entries, no_entries, entry, items_of, insert, ordered, any_need, items_need, entries_need}
 use Rattle.ipld_tree.specs.Ipld.{tree_of, trees_of, pairs_of}
-use Rattle.ipld_tree.specs.declared.ipld.Ipld.{Ipld, Bytes as Bytes', List as List', Map as Map', the_lemmas}
+use Rattle.ipld_tree.specs.declared.ipld.Ipld.{Ipld, String as String', Bytes as Bytes', List as List', Map as Map', the_lemmas}
 
 abbrev pub Entry : Type 0
 Entry = String Global × Ipld
@@ -76,6 +76,9 @@ need_of_map j m limit need r is all e =
     values_of (e ∷ es) = ap (λ ts. tree_of e.1 ∷ ts) (values_of es)
 
 -- ---- for `try_clone`
+
+pub tree_of-String : (s : String Global) → tree_of (String' s) ≡ text (string_bytes s)
+tree_of-String s = search (rules, the_lemmas)
 
 pub tree_of-Bytes : (v : Vec ℕ Global) → tree_of (Bytes' v) ≡ bytes v.items
 tree_of-Bytes v = search (rules, the_lemmas)

@@ -1,3 +1,4 @@
+use Rattle.std.proofs.Common.{inl, inr}
 use Rattle.dagcbor_read.specs.Parts.{ReadsPart, ReadsOption, EntersOption}
 use Rattle.dagcbor_read.proofs.Progressing.{match_true, match_false, call_answered, call_told, called, call_refused, call_passed_on}
 use Rattle.dagcbor_read.proofs.Nullable.{not_entered, null_entered, some_entered, some_refused}
@@ -5,7 +6,7 @@ use Rattle.dagcbor_read.proofs.deserializer.Deserializer.deserialize_option.Goal
 
 pub returns-in_err-enter_option : goal.returns-in_err-enter_option
 returns-in_err-enter_option g c = call_refused (ReadsOption g.T.Shown.held g.T.Shown.view g.T.Shown.need g.T.Shown.borrows) _ _ _ _ c.from_residual.ensures.1
-    (call_passed_on EntersOption (ReadsOption g.T.Shown.held g.T.Shown.view g.T.Shown.need g.T.Shown.borrows) _ _ _ (not_entered g.T.Shown.view g.T.Shown.need _ _ _ _) c.in_err-enter_option.ensures)
+    (call_passed_on EntersOption (ReadsOption g.T.Shown.held g.T.Shown.view g.T.Shown.need g.T.Shown.borrows) _ _ _ (λ r. (not_entered g.T.Shown.view g.T.Shown.need _ _ _ _ r, inl r)) c.in_err-enter_option.ensures)
 
 pub returns-then-branch : goal.returns-then-branch
 returns-then-branch g c =
@@ -18,7 +19,7 @@ returns-in_err-value g c =
     let enters = match_false _ _ _ c.if-branch.false a.2 in
     let t = call_told (ReadsPart g.T.Shown.held g.T.Shown.view g.T.Shown.need g.T.Shown.borrows) _ _ _ a.1 c.in_err-value.ensures in
     call_refused (ReadsOption g.T.Shown.held g.T.Shown.view g.T.Shown.need g.T.Shown.borrows) _ _ _ _ c.from_residual-in_err-value.ensures.1
-    (called (ReadsOption g.T.Shown.held g.T.Shown.view g.T.Shown.need g.T.Shown.borrows) _ _ _ a.0 (t.0, some_refused g.T.Shown.view g.T.Shown.need _ _ _ enters t.1))
+    (called (ReadsOption g.T.Shown.held g.T.Shown.view g.T.Shown.need g.T.Shown.borrows) _ _ _ a.0 (t.0, (some_refused g.T.Shown.view g.T.Shown.need _ _ _ enters t.1, inr (_, enters, t.1))))
 
 pub returns : goal.returns
 returns g c =

@@ -2,10 +2,6 @@
 use Rattle.std.proofs.Common.{◌≡◌, inl, inr, ℕ, ◌+◌, ◌-◌, ◌*◌, ◌/◌, ◌<◌, ◌≤◌, List, [], ◌∷◌, ◌++◌, Bool, true, false, Global, refl, sym, ◌∙◌, ap, subst, arith, append_assoc, zero-le}
 use Rattle.std.specs.Prelude.{◌⊎◌, Option, Some, None, is_some, option_map, Ok, Err, MatchBool, ⊤}
 use Rattle.std.specs.Cow.{cow_str_bytes}
-use Rattle.std.specs.Ordering.{is_eq}
-use Rattle.std.proofs.Common.{Ordering, Less, Equal, Greater}
-use Rattle.std.proofs.lemmas.Map.Lookups.{exact_bytes}
-use Rattle.ipld_tree.specs.Key.{bytes_cmp}
 use Rattle.std.specs.declared.borrow.CowStr.{CowStr}
 use Rattle.dagcbor_heads.specs.Head.{head}
 use Rattle.dagcbor_heads.specs.Reading.{Reading, with_steps}
@@ -20,24 +16,13 @@ use Rattle.ipld_tree.specs.Spelling.{IsFront, entries_spelling}
 use Rattle.ipld_tree.proofs.Fronts.{front_first, front_unique, map_opened, entry_opened, entry_closed}
 use Rattle.dagcbor_read.specs.LeafCauses.{TextStands}
 use Rattle.dagcbor_read.specs.Views.{view_text, no_need}
-use Rattle.dagcbor_read.specs.EnumViews.{is_name, view_enum, need_enum}
+use Rattle.dagcbor_read.specs.EnumViews.{view_enum, need_enum}
 use Rattle.dagcbor_read.specs.Calls.{Progress, Call}
 use Rattle.dagcbor_read.specs.Reads.{HasFront, TakesFront, Anything}
 use Rattle.dagcbor_read.specs.Enums.{BegunEnum, begun_enum, TakesForm, HasStepEnum, StepEnumCause, SpendsEnum, ReadsName, IsOtherForm}
 use Rattle.dagcbor_read.specs.declared.enum_accessor.EnumAccessor.{EnumAccessor}
 use Rattle.dagcbor_read.proofs.Answered.{answered, call_refused}
 use Rattle.dagcbor_read.proofs.Passing.{SameReader, carried}
-
--- ---- names
-
--- a text that is not the name
-pub other_name : {k name : List ℕ} → (k ≡ name → ⊥) → is_name name k ≡ false
-other_name {k} {name} n = by (bytes_cmp k name) (λ e. n (exact_bytes k name e))
-  where
-    by : (o : Ordering) → (o ≡ Equal → ⊥) → is_eq o ≡ false
-    by Less f = refl
-    by Equal f = absurd (f refl)
-    by Greater f = refl
 
 -- ---- texts and the first byte
 

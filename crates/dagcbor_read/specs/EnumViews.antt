@@ -1,12 +1,6 @@
 -- What an enum's tree shows to a type, and the steps that reading it takes.
-use Rattle.std.specs.Prelude.{ℕ, ◌+◌, Bool, List, Option, None}
-use Rattle.std.specs.Ordering.{is_eq}
-use Rattle.ipld_tree.specs.Key.{bytes_cmp}
+use Rattle.std.specs.Prelude.{ℕ, ◌+◌, List, Option, None}
 use Rattle.ipld_tree.specs.Tree.{Tree, text, mapping, no_entries, entry}
-
--- the text is this name
-abbrev pub is_name : List ℕ → List ℕ → Bool
-is_name name k = is_eq (bytes_cmp k name)
 
 -- A variant's name alone, or a map of one pair, from the name to what the variant holds.
 abbrev pub view_enum : {V : Type 0} → (List ℕ → Option V) → (List ℕ → Tree → Option V) → Tree → Option V

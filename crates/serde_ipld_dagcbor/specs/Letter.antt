@@ -1,14 +1,15 @@
 -- What a tree shows to an enum of two unit variants.
 use Rattle.std.specs.Prelude.{ℕ, List, Option, Some, None, if◌then◌else◌, codes}
+use Rattle.std.specs.Str.{bytes_eq}
 use Rattle.ipld_tree.specs.Tree.{Tree}
-use Rattle.dagcbor_read.specs.EnumViews.{is_name, view_enum, need_enum}
+use Rattle.dagcbor_read.specs.EnumViews.{view_enum, need_enum}
 
 pub data Letter : Type 0 where
   is_a : Letter
   is_b : Letter
 
 abbrev pub unit_letter : List ℕ → Option Letter
-unit_letter name = if is_name (codes "A") name then Some is_a else if is_name (codes "B") name then Some is_b else None
+unit_letter name = if bytes_eq name (codes "A") then Some is_a else if bytes_eq name (codes "B") then Some is_b else None
 
 abbrev pub part_letter : List ℕ → Tree → Option Letter
 part_letter name t = None

@@ -4,7 +4,8 @@ use Rattle.dagcbor_heads.proofs.Refusing.{refused}
 use Rattle.dagcbor_read.specs.Calls.{progress}
 use Rattle.dagcbor_read.specs.Enums.{begun_enum, EndsUnit}
 use Rattle.dagcbor_read.proofs.Answered.{answered, call_refused}
-use Rattle.dagcbor_read.proofs.Variants.{other_name, not_begun, not_named, variant_named, unknown, unit_refused, unit_taken}
+use Rattle.dagcbor_read.proofs.FieldPlaces.{other_name}
+use Rattle.dagcbor_read.proofs.Variants.{not_begun, not_named, variant_named, unknown, unit_refused, unit_taken}
 use Rattle.serde_ipld_dagcbor.specs.Letter.{unit_letter, part_letter, need_part_letter}
 use Rattle.serde_ipld_dagcbor.proofs.tests.enum_struct.EnumDeserialize.deserialize.Goals as goal
 

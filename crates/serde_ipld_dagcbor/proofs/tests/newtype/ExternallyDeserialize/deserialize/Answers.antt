@@ -6,7 +6,8 @@ use Rattle.dagcbor_read.specs.Calls.{progress}
 use Rattle.dagcbor_read.specs.Views.{view_link, no_need}
 use Rattle.dagcbor_read.specs.Enums.{begun_enum, ReadsHeld}
 use Rattle.dagcbor_read.proofs.Answered.{answered, call_refused}
-use Rattle.dagcbor_read.proofs.Variants.{other_name, not_begun, not_named, variant_named, unknown, held_refused, held_taken}
+use Rattle.dagcbor_read.proofs.FieldPlaces.{other_name}
+use Rattle.dagcbor_read.proofs.Variants.{not_begun, not_named, variant_named, unknown, held_refused, held_taken}
 use Rattle.serde_ipld_dagcbor.specs.NamedLink.{unit_link, part_link, need_part_link}
 use Rattle.serde_ipld_dagcbor.proofs.tests.newtype.ExternallyDeserialize.deserialize.Goals as goal
 

@@ -26,3 +26,5 @@ pub mod LinkValues
 pub mod StringItems
 pub mod Variants
 pub mod FieldPlaces
+pub mod Finishing
+pub mod EntryLoops

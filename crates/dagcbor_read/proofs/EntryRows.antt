@@ -204,14 +204,14 @@ module _ {S : Type 0} (take : S → List ℕ → Tree → Option S) (need : List
         by (list ts) f a w = absurd (cc a)
         by (link s) f a w = absurd (cc a)
 
-    map_has_fields : {old mid : Reading} {count : ℕ} → Enters 5 count old mid → HasFront (view_fields take start) (need_fields need) old → HasFields take need start None count mid
+    pub map_has_fields : {old mid : Reading} {count : ℕ} → Enters 5 count old mid → HasFront (view_fields take start) (need_fields need) old → HasFields take need start None count mid
     map_has_fields {old} {mid} {count} n h =
         let f = map_front h in
         let k = n.takes.taken f.bytes f.left in
         let o = map_opened f.bytes k.0 f.rest count f.entries n.fits f.front k.1 in
         record { bytes = k.0; entries = f.entries; rest = f.rest; left = k.2; counted = o.0; follow = tt; fronts = o.1; accepted = f.accepted; within = omega (arith, f.within, n.takes.same.steps) }
 
-    map_taken : {old mid now new : Reading} {count : ℕ} {s : S} → Enters 5 count old mid → TakesFields take need start None count mid s now → new ≡ with_steps (now.steps + 1) now → TakesFront (view_fields take start) (need_fields need) old s new
+    pub map_taken : {old mid now new : Reading} {count : ℕ} {s : S} → Enters 5 count old mid → TakesFields take need start None count mid s now → new ≡ with_steps (now.steps + 1) now → TakesFront (view_fields take start) (need_fields need) old s new
     map_taken {old} {mid} {now} {new} {count} {s} n r back = record {
       taken = λ b l.
           let k = n.takes.taken b l in

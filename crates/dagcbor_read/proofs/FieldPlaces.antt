@@ -1,7 +1,7 @@
 -- Fields that are read one by one into the places of a struct.
 use Rattle.std.proofs.Common.{◌≡◌, ℕ, List, Bool, true, false, refl, sym, ◌∙◌, ap, subst, arith}
 use Rattle.std.proofs.lemmas.Slice.Eq.{bytes_eq-Decides}
-use Rattle.std.specs.Prelude.{Option, None, Some, option_map, option_and_then, is_some, Result, Ok, Err, MatchResult, ⊤}
+use Rattle.std.specs.Prelude.{Option, None, Some, option_map, is_some, Result, Ok, Err, MatchResult, ⊤}
 use Rattle.std.specs.Bool.{Decides}
 use Rattle.std.specs.Str.{bytes_eq}
 use Rattle.dagcbor_heads.specs.Reading.{Reading}
@@ -12,11 +12,11 @@ use Rattle.dagcbor_heads.specs.declared.error.DecodeError.TheVariants.{Msg}
 use Rattle.dagcbor_heads.proofs.Taking.{stays}
 use Rattle.dagcbor_heads.proofs.Refusing.{passed_on}
 use Rattle.ipld_tree.specs.Tree.{Tree, any_need}
-use Rattle.ipld_tree.proofs.Fronts.{front_unique}
 use Rattle.dagcbor_read.specs.Calls.{Progress}
 use Rattle.dagcbor_read.specs.Reads.{HasFront, TakesFront, Anything, ReadsValue}
 use Rattle.dagcbor_read.specs.Views.{view_ignored}
 use Rattle.dagcbor_read.specs.Collections.{view_fields, need_fields, view_struct}
+use Rattle.dagcbor_read.proofs.Finishing as whole
 
 -- a key that is not the name
 pub other_name : {k name : List ℕ} → (k ≡ name → ⊥) → bytes_eq k name ≡ false
@@ -71,41 +71,15 @@ module _ {S V : Type 0} (take : S → List ℕ → Tree → Option S) (need : Li
   -- what the places hold makes a value
   pub finished : {F A : Type 0} {old new : Reading} {s : S} {v : V} → (F → A × TakesFront (view_fields take start) (need_fields need) old s new) → finish s ≡ Some v
       → F → A × TakesFront (view_struct take start finish) (need_fields need) old v new
-  finished {F} {A} {old} {new} {s} {v} h is fresh =
-      let k = h fresh in (
-        k.0,
-        record {
-          taken = λ b l. (let t = k.1.taken b l in (t.0, t.1, t.2, ap (option_and_then finish) t.3 ∙ is, t.4, t.5));
-          same = k.1.same;
-        },
-      )
-
-  no_value : {o : Option S} {s : S} → o ≡ Some s → finish s ≡ None → is_some (option_and_then finish o) ≡ true → ⊥
-  no_value {o} {s} e n a = let none : is_some (option_and_then finish o) ≡ false = ap (λ x. is_some (option_and_then finish x)) e ∙ ap is_some n in absurd (cc (sym a ∙ none))
+  finished h is fresh = whole.finished (view_fields take start) (need_fields need) finish h is fresh
 
   -- a field that must be there was not there
   pub unfinished : (B : Type 0) {F A E : Type 0} {old new : Reading} {s : S} (error : DecodeError E) (message : Name) → error ≡ Msg message → finish s ≡ None
       → (F → A × TakesFront (view_fields take start) (need_fields need) old s new)
       → F → Refuses (HasFront (view_struct take start finish) (need_fields need) old) ⊤ B Anything old error new
-  unfinished B {F} {A} {E} {old} {new} {s} error message is none h fresh =
-      let k = h fresh in
-      let refuses : Refuses {E = E} (HasFront (view_struct take start finish) (need_fields need) old) ⊤ B Anything old (Msg message) new = (
-        k.1.same.faults,
-        λ front.
-            let t = k.1.taken front.bytes front.left in
-            let same = front_unique front.bytes front.rest t.1 front.tree t.0 front.front t.2 in
-            no_value (ap (view_fields take start) same.0 ∙ t.3) none front.accepted,
-        λ b l. tt,
-      ) in
-      subst (λ e. Refuses {E = E} (HasFront (view_struct take start finish) (need_fields need) old) ⊤ B Anything old e new) (sym is) refuses
-
-  has_state : (o : Option S) → is_some (option_and_then finish o) ≡ true → is_some o ≡ true
-  has_state None a = a
-  has_state (Some s) a = refl
+  unfinished B error message is none h fresh = whole.unfinished (view_fields take start) (need_fields need) finish B (message, is) none h fresh
 
   -- the fields were refused
   pub not_read : (B : Type 0) (old new : Reading) {F E : Type 0} (error : DecodeError E) → (F → Refuses (HasFront (view_fields take start) (need_fields need) old) ⊤ B Anything old error new)
       → F → Refuses (HasFront (view_struct take start finish) (need_fields need) old) ⊤ B Anything old error new
-  not_read B old new error h fresh = passed_on Anything Anything old old new error (stays old)
-      (λ front. record { bytes = front.bytes; tree = front.tree; rest = front.rest; left = front.left; front = front.front; accepted = has_state (view_fields take start front.tree) front.accepted; within = front.within })
-      (λ x. x) (λ x. x) (λ b l. (b, l, λ x. x)) (h fresh)
+  not_read B old new error h fresh = whole.not_read (view_fields take start) (need_fields need) finish B old new error h fresh

@@ -26,3 +26,5 @@ pub mod LinkValues
 pub mod StringItems
 pub mod NamedVariants
 pub mod FieldPlaces
+pub mod Finishing
+pub mod EntryLoops

@@ -45,3 +45,7 @@ pub mod One
 pub mod Mascot
 pub mod Person
 pub mod OptionalPerson
+pub mod MyStruct
+pub mod EnumStruct
+pub mod Kinded
+pub mod Tagged

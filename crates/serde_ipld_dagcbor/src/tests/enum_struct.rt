@@ -1,14 +1,17 @@
 //! An enum of unit variants, and a struct that holds one, written by hand.
 
-ghost use Rattle.std.specs.Prelude.{Option, Some, [], ◌∷◌, false, codes};
+ghost use Rattle.std.specs.Prelude.{Option, Some, [], ◌∷◌, false, codes, option_map};
 ghost use Rattle.ipld_tree.specs.Tree.{Tree, text, entries_tree};
 ghost use Rattle.dagcbor_write.specs.Trees.{field};
 ghost use Rattle.serde_ipld_dagcbor.specs.Letter.{Letter, is_a, is_b, unit_letter, part_letter, need_part_letter, view_letter, need_letter};
+ghost use Rattle.serde_ipld_dagcbor.specs.EnumStruct.{SeenEnumStruct, take_enum_struct, need_enum_struct, view_enum_struct, need_of_enum_struct};
 ghost use Rattle.serde_ipld_dagcbor.specs.declared.tests.enum_struct.Enum.TheVariants.{A, B};
 
+use crate::tests::required::required;
 use crate::{
-    DecodeError, Deserialize, Deserializer, EncodeError, EnumAccessor, Read, Serialize, Serializer,
-    Shown, Variants, Write, read_enum, to_vec,
+    DecodeError, Deserialize, Deserializer, EncodeError, EnumAccessor, Fields, Read, Serialize,
+    Serializer, Shown, Variants, Write, from_slice, read_enum, read_into, read_struct, skip_value,
+    to_vec,
 };
 use std::alloc::Global;
 use std::test::Fail;
@@ -107,6 +110,64 @@ impl Serialize for EnumStruct {
     }
 }
 
+#[derive(Drop)]
+struct EnumStructFields {
+    e: Option<Enum>,
+}
+
+impl<'de> Fields<'de> for EnumStructFields {
+    ghost State = { SeenEnumStruct };
+
+    ghost state = { λ f. record { e = option_map (λ e. elim e [ A ↦ is_a | B ↦ is_b ]) f.e } };
+
+    ghost take = { take_enum_struct };
+
+    ghost need = { need_enum_struct };
+
+    ghost borrows = { false };
+
+    fn read_field<R: Read>(
+        &mut self,
+        alloc: Global,
+        key: &str,
+        de: &mut Deserializer<'de, R>,
+    ) -> Result<(), DecodeError<R::Error>> {
+        match key {
+            "e" => read_into(alloc, &mut self.e, de),
+            _ => skip_value(alloc, de),
+        }
+    }
+}
+
+impl Shown for EnumStruct {
+    ghost View = { Letter };
+
+    ghost held = { λ s. elim s.e [ A ↦ is_a | B ↦ is_b ] };
+
+    ghost view = { view_enum_struct };
+
+    ghost need = { need_of_enum_struct };
+
+    ghost borrows = { false };
+}
+
+impl<'de> Deserialize<'de> for EnumStruct {
+    fn deserialize<R: Read>(
+        alloc: Global,
+        de: &mut Deserializer<'de, R>,
+    ) -> Result<EnumStruct, DecodeError<R::Error>> {
+        let fields = read_struct(
+            alloc,
+            "EnumStruct",
+            &["e"],
+            EnumStructFields { e: None },
+            de,
+        )?;
+        let e = required(fields.e)?;
+        Ok(EnumStruct { e })
+    }
+}
+
 #[test]
 fn an_enum_in_a_struct_is_written(rt: HostRuntime) -> Result<(), Fail> {
     let rows: [(Enum, &[u8]); 2] = [(Enum::A, b"\xa1\x61e\x61A"), (Enum::B, b"\xa1\x61e\x61B")];
@@ -125,5 +186,12 @@ fn a_unit_variant_is_read(rt: HostRuntime) -> Result<(), Fail> {
         de.end()?;
         assert_eq!(rt; value, e);
     }
+    Ok(())
+}
+
+#[test]
+fn an_enum_in_a_struct_is_read(rt: HostRuntime) -> Result<(), Fail> {
+    let value: EnumStruct = from_slice(rt.alloc(), b"\xa1\x61e\x61B")?;
+    assert_eq!(rt; value.e, Enum::B);
     Ok(())
 }

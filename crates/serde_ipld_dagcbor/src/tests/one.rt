@@ -14,7 +14,7 @@ use std::test::Fail;
 
 #[derive(Drop)]
 pub(crate) struct One {
-    a: u8,
+    pub(crate) a: u8,
 }
 
 impl Serialize for One {

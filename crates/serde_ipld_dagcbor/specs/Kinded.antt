@@ -1,0 +1,12 @@
+-- What a tree shows to an enum of a byte string and a link, without a name.
+use Rattle.std.specs.Prelude.{ℕ, List, Option, Some, None}
+use Rattle.ipld_tree.specs.Tree.{Tree, bytes, link}
+
+pub data KindedView : Type 0 where
+  is_bytes : List ℕ → KindedView
+  is_link : List ℕ → KindedView
+
+abbrev pub view_kinded : Tree → Option KindedView
+view_kinded (bytes s) = Some (is_bytes s)
+view_kinded (link cid) = Some (is_link cid)
+view_kinded _ = None

@@ -1,0 +1,40 @@
+-- What a tree shows to a struct of a link and a truth value.
+use Rattle.std.specs.Prelude.{ℕ, Bool, List, Option, Some, None, option_map, option_and_then, if◌then◌else◌, codes}
+use Rattle.std.specs.Str.{bytes_eq}
+use Rattle.ipld_tree.specs.Tree.{Tree, any_need}
+use Rattle.dagcbor_read.specs.Views.{view_link, view_bool, no_need}
+use Rattle.dagcbor_read.specs.Collections.{view_slot, view_struct, need_fields}
+
+pub record MyStructView : Type 0 where
+  pub cid : List ℕ
+  pub flag : Bool
+
+-- the fields that were seen
+pub record SeenMyStruct : Type 0 where
+  pub cid : Option (List ℕ)
+  pub flag : Option Bool
+
+abbrev pub take_my_struct : SeenMyStruct → List ℕ → Tree → Option SeenMyStruct
+take_my_struct s k t =
+    if bytes_eq k (codes "cid") then option_map (λ x. record s { cid = x }) (view_slot view_link t)
+    else if bytes_eq k (codes "data") then option_map (λ x. record s { flag = x }) (view_slot view_bool t)
+    else Some s
+
+abbrev pub need_my_struct : List ℕ → Tree → ℕ
+need_my_struct k t =
+    if bytes_eq k (codes "cid") then no_need t
+    else if bytes_eq k (codes "data") then no_need t
+    else any_need t
+
+abbrev pub unseen_my_struct : SeenMyStruct
+unseen_my_struct = record { cid = None; flag = None }
+
+-- the fields that must be there are
+abbrev pub finish_my_struct : SeenMyStruct → Option MyStructView
+finish_my_struct s = option_and_then (λ cid. option_map (λ flag. record { cid = cid; flag = flag }) s.flag) s.cid
+
+abbrev pub view_my_struct : Tree → Option MyStructView
+view_my_struct = view_struct take_my_struct unseen_my_struct finish_my_struct
+
+abbrev pub need_of_my_struct : Tree → ℕ
+need_of_my_struct = need_fields need_my_struct

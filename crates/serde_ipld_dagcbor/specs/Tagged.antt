@@ -1,0 +1,36 @@
+-- What a tree shows to an enum whose variant is named by a field.
+use Rattle.std.specs.Prelude.{ℕ, List, Option, Some, None, option_map, option_and_then, if◌then◌else◌, codes}
+use Rattle.std.specs.Str.{bytes_eq}
+use Rattle.ipld_tree.specs.Tree.{Tree, any_need}
+use Rattle.dagcbor_read.specs.Views.{view_link, view_text, no_need}
+use Rattle.dagcbor_read.specs.Collections.{view_slot, view_struct, need_fields}
+
+-- the fields that were seen
+pub record SeenTagged : Type 0 where
+  pub tag : Option (List ℕ)
+  pub cid : Option (List ℕ)
+
+abbrev pub take_tagged : SeenTagged → List ℕ → Tree → Option SeenTagged
+take_tagged s k t =
+    if bytes_eq k (codes "type") then option_map (λ x. record s { tag = x }) (view_slot view_text t)
+    else if bytes_eq k (codes "cid") then option_map (λ x. record s { cid = x }) (view_slot view_link t)
+    else Some s
+
+abbrev pub need_tagged : List ℕ → Tree → ℕ
+need_tagged k t =
+    if bytes_eq k (codes "type") then no_need t
+    else if bytes_eq k (codes "cid") then no_need t
+    else any_need t
+
+abbrev pub unseen_tagged : SeenTagged
+unseen_tagged = record { tag = None; cid = None }
+
+-- the variant is the one that is known, and its field is there
+abbrev pub finish_tagged : SeenTagged → Option (List ℕ)
+finish_tagged s = option_and_then (λ tag. if bytes_eq tag (codes "MyCid") then s.cid else None) s.tag
+
+abbrev pub view_tagged : Tree → Option (List ℕ)
+view_tagged = view_struct take_tagged unseen_tagged finish_tagged
+
+abbrev pub need_of_tagged : Tree → ℕ
+need_of_tagged = need_fields need_tagged

@@ -1,0 +1,44 @@
+//! A struct of one field, read by a loop over the keys of its map.
+
+ghost use Rattle.std.specs.Prelude.{false};
+ghost use Rattle.dagcbor_read.specs.Calls.{progress};
+ghost use Rattle.dagcbor_read.specs.Reads.{ReadsValue};
+ghost use Rattle.serde_ipld_dagcbor.specs.One.{view_one, need_of_one};
+
+use crate::tests::one::One;
+use crate::{DecodeError, Deserializer, IgnoredAny, Read};
+use std::alloc::Global;
+use std::test::Fail;
+
+/// Reads what `One::deserialize` reads.
+fn read_one_by_loop<'de, R: Read>(
+    alloc: Global,
+    de: &mut Deserializer<'de, R>,
+) -> Result<One, DecodeError<R::Error>>
+    ensures { ReadsValue (λ o. o.a) view_one need_of_one false (progress R.reading de.old) result (progress R.reading de.new) }
+{
+    let mut entries = de.deserialize_map()?;
+    let mut a: Option<u8> = None;
+    while let Some(key) = entries.next_key(alloc, de)? {
+        match key.as_str() {
+            "a" => a = Some(entries.next_value(alloc, de)?),
+            _ => {
+                let IgnoredAny = entries.next_value(alloc, de)?;
+            }
+        }
+    }
+    entries.end(de)?;
+    match a {
+        Some(a) => Ok(One { a }),
+        None => Err(DecodeError::custom("missing field")),
+    }
+}
+
+#[test]
+fn one_field_is_read_by_a_loop(rt: HostRuntime) -> Result<(), Fail> {
+    let mut de = Deserializer::from_slice(b"\xa2\x61a\x01\x61b\x05");
+    let one = read_one_by_loop(rt.alloc(), &mut de)?;
+    de.end()?;
+    assert_eq!(rt; one.a, 1);
+    Ok(())
+}

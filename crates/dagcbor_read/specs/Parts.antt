@@ -32,6 +32,7 @@ pub record EntersSome (old new : Reading) : Type 0 where
   pub budget : new.budget ≡ old.budget
   pub lends : new.lends ≡ old.lends
   pub faults : new.faults ≡ old.faults
+  pub through : new.through ≡ old.through
 
 -- A null was taken, or a step was spent on another value.
 abbrev pub EntersOption : {E : Type 0} → Reading → Result Bool (DecodeError E) → Reading → Type 0

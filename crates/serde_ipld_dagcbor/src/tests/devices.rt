@@ -31,6 +31,7 @@ impl<'a> Model for Pieces<'a> {
       budget = 256;
       lends = false;
       faults = s.faults.count;
+      through = [];
     } };
 
     ghost invariant = { λ s. (s.shown ≤ length s.rest.now) × (s.steps ≤ 256) × (0 < s.size) };

@@ -1,6 +1,7 @@
-//! Writers over any writer of std.
+//! A writer over any writer of std.
 
-ghost use Rattle.std.specs.Prelude.{◌≡◌, ◌∷◌, [], Some, false};
+ghost use Rattle.std.specs.Prelude.{◌≡◌, ◌<◌, ◌≤◌, [], length, IfOk, Some, false};
+ghost use Rattle.std.specs.Io.KnownBytes.{WriteAppends};
 ghost use Rattle.dagcbor_heads.specs.Written.{Writes, WantsMemoryOnlyIf};
 
 use crate::error::EncodeError;
@@ -58,57 +59,8 @@ impl<W: io::Write> Write for IoWriter<W> {
     }
 }
 
-/// A writer over a device that is lent, as `IoWriter` over one of its own. Contracts see through which reference it
-/// writes, so that a caller knows what its device holds.
-#[derive(Drop)]
-pub struct IoRefWriter<'w, W: io::Write> {
-    device: &'w mut W,
-    faults: Tally,
-}
-
-impl<'w, W: io::Write> Model for IoRefWriter<'w, W> {
-    ghost use Rattle.std.specs.Prelude.{◌∷◌, []};
-    ghost use Rattle.dagcbor_heads.specs.Written.{Written};
-
-    ghost Value = { Written };
-
-    ghost view = { λ w. record { bytes = W.contents w.device.now; faults = w.faults.count; through = w.device.ghost_name ∷ [] } };
-}
-
-impl<'w, W: io::Write> IoRefWriter<'w, W> {
-    pub fn new(device: &'w mut W) -> IoRefWriter<'w, W>
-        ensures { result ≡ record { bytes = W.contents device.old; faults = 0; through = device.entry.ghost_name ∷ [] } }
-    {
-        IoRefWriter {
-            device,
-            faults: Tally::new(),
-        }
-    }
-
-    /// The device, with what was written.
-    pub fn into_inner(self) -> &'w mut W
-        ensures reference { self.entry.through ≡ result.ghost_name ∷ [] }
-        ensures bytes { W.contents result.now ≡ self.entry.bytes }
-    {
-        let Self { device, faults: _ } = self;
-        device
-    }
-}
-
-impl<W: io::Write> Write for IoRefWriter<'_, W> {
-    type Error = io::Error;
-
-    ghost written = { λ w. w };
-
-    ghost takes_memory = { false };
-
-    fn push(&mut self, bytes: &[u8]) -> Result<(), EncodeError<io::Error>> {
-        push_all(self.device, &mut self.faults, bytes)
-    }
-}
-
 /// Writes the bytes, as many a call as the device takes, up to its first fault.
-fn push_all<W: io::Write>(
+pub(crate) fn push_all<W: io::Write>(
     device: &mut W,
     faults: &mut Tally,
     bytes: &[u8],
@@ -119,11 +71,7 @@ fn push_all<W: io::Write>(
 {
     let mut rest = bytes;
     while !rest.is_empty() {
-        match device.write(rest) {
-            Ok(0) => {
-                faults.add(1);
-                return Err(EncodeError::Write(io::Error::from(ErrorKind::WriteZero)));
-            }
+        match write_some(device, rest) {
             Ok(count) => rest = &rest[count..],
             Err(fault) => {
                 faults.add(1);
@@ -132,4 +80,15 @@ fn push_all<W: io::Write>(
         }
     }
     Ok(())
+}
+
+/// Writes at least one of the bytes, and answers how many: that the device takes none is a fault.
+fn write_some<W: io::Write>(device: &mut W, bytes: &[u8]) -> io::Result<usize>
+    ensures some { IfOk result (λ n. (0 < n) × (n ≤ length bytes.now)) }
+    ensures written { WriteAppends (W.contents device.old) (W.contents device.new) result bytes.now }
+{
+    match device.write(bytes)? {
+        0 => Err(io::Error::from(ErrorKind::WriteZero)),
+        count => Ok(count),
+    }
 }

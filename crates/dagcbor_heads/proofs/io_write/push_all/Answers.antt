@@ -4,4 +4,4 @@ use Rattle.dagcbor_heads.proofs.Sending.{Sent-more}
 use Rattle.dagcbor_heads.proofs.io_write.push_all.Goals as goal
 
 pub loop-rest-preserved : goal.loop-rest-preserved
-loop-rest-preserved g c = record { sent = Sent-more c.loop-rest.invariant.sent _ _ _ (grind (arith, common_steps)) c.in-Ok.ensures.bytes; faults = search rules }
+loop-rest-preserved g c = record { sent = Sent-more c.loop-rest.invariant.sent _ _ _ (grind (arith, common_steps)) c.in-Ok.ensures.written; faults = search rules }

@@ -19,7 +19,7 @@ pub struct Pieces<'a> {
 }
 
 impl<'a> Model for Pieces<'a> {
-    ghost use Rattle.std.specs.Prelude.{◌≤◌, ◌<◌, length, take, false, Some};
+    ghost use Rattle.std.specs.Prelude.{◌≤◌, ◌<◌, [], length, take, false, Some};
     ghost use Rattle.dagcbor_heads.specs.Reading.{Reading};
 
     ghost Value = { Reading };

@@ -8,10 +8,10 @@ use Rattle.dagcbor_heads.specs.Fronts.{FindsEnd, ShowsByte, Takes, Gathers}
 -- ---- the same reader
 
 pub stays : (r : Reading) → Stays r r
-stays r = record { steps = refl; budget = refl; lends = refl; faults = refl }
+stays r = record { steps = refl; budget = refl; lends = refl; faults = refl; through = refl }
 
 pub stays_both : {old mid new : Reading} → Stays old mid → Stays mid new → Stays old new
-stays_both h k = record { steps = k.steps ∙ h.steps; budget = k.budget ∙ h.budget; lends = k.lends ∙ h.lends; faults = k.faults ∙ h.faults }
+stays_both h k = record { steps = k.steps ∙ h.steps; budget = k.budget ∙ h.budget; lends = k.lends ∙ h.lends; faults = k.faults ∙ h.faults; through = k.through ∙ h.through }
 
 -- ---- what is shown
 

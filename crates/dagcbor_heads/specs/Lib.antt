@@ -7,4 +7,5 @@ pub mod Fronts
 pub mod Causes
 pub mod Refusals
 pub mod Inputs
+pub mod IoReading
 pub mod Written

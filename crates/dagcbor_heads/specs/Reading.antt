@@ -15,6 +15,8 @@ pub record Reading : Type 0 where
   pub lends : Bool
   -- how often the source faulted so far
   pub faults : ℕ
+  -- the references (by their ghost names) through which the source is reached
+  pub through : List ℕ
 
 -- known bytes stay as they are
 abbrev pub Keeps : Reading → Reading → Type 0
@@ -30,6 +32,7 @@ pub record Stays (old new : Reading) : Type 0 where
   pub budget : new.budget ≡ old.budget
   pub lends : new.lends ≡ old.lends
   pub faults : new.faults ≡ old.faults
+  pub through : new.through ≡ old.through
 
 -- what is shown of the bytes left: a beginning, which is empty only at their end or where no byte is wanted;
 -- one that is lent has all that was wanted, as far as there is so much
@@ -52,6 +55,7 @@ pub record Fails (old new : Reading) : Type 0 where
   pub budget : new.budget ≡ old.budget
   pub lends : new.lends ≡ old.lends
   pub faults : new.faults ≡ old.faults + 1
+  pub through : new.through ≡ old.through
 
 -- n of the bytes shown were taken, and none counts as shown any more
 pub record Advances (old : Reading) (n : ℕ) (new : Reading) : Type 0 where

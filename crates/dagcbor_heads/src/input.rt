@@ -1,6 +1,6 @@
 //! What values are read from: a slice, which lends its bytes, or another reader.
 
-ghost use Rattle.std.specs.Prelude.{◌≡◌, IfOk, Some, List, ℕ};
+ghost use Rattle.std.specs.Prelude.{◌≡◌, true, IfOk, MatchOption, Some, List, ℕ};
 ghost use Rattle.dagcbor_heads.specs.Reading.{IsShownOf, reference_bytes, is_long};
 ghost use Rattle.dagcbor_heads.specs.Inputs.{input_reading};
 
@@ -14,6 +14,8 @@ pub enum Input<'de, R> {
 }
 
 impl<'de, R: Read> Input<'de, R> {
+    ghost use Rattle.dagcbor_heads.specs.declared.input.Input.TheVariants.{Reader};
+
     /// The bytes that are shown: `Long` exactly of a slice.
     pub fn shown(&self) -> Reference<'de, '_>
         ensures bytes { reference_bytes result ≡ (input_reading R.reading self.now).shown }
@@ -33,6 +35,20 @@ impl<'de, R: Read> Input<'de, R> {
     {
         self.prepare(want)?;
         Ok(self.shown())
+    }
+
+    /// The reader, where it is no slice.
+    pub fn into_reader(self) -> Option<R>
+        ensures { MatchOption result ((input_reading R.reading self.entry).lends ≡ true) (λ r. self.entry ≡ Reader r) }
+    {
+        match self {
+            Input::Slice(reader) => {
+                // No effect at run time. The proof reads from this use that a slice lends.
+                let _ = reader.long();
+                None
+            }
+            Input::Reader(reader) => Some(reader),
+        }
     }
 }
 

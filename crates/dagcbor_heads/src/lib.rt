@@ -3,6 +3,10 @@
 
 mod error;
 mod input;
+mod io_read;
+mod io_ref_read;
+mod io_ref_write;
+mod io_write;
 pub mod laws;
 mod name;
 mod pull;
@@ -13,6 +17,10 @@ mod write;
 
 pub use error::{ArithmeticOverflow, DecodeError, EncodeError, Len};
 pub use input::Input;
+pub use io_read::IoReader;
+pub use io_ref_read::IoRefReader;
+pub use io_ref_write::IoRefWriter;
+pub use io_write::IoWriter;
 pub use name::Name;
 pub use pull::{
     is_at_end, is_indefinite, peek_one, pull_head, pull_one, pull_payload, pull_short_payload,

@@ -70,7 +70,7 @@ pub struct SliceReader<'a> {
 }
 
 impl<'a> Model for SliceReader<'a> {
-    ghost use Rattle.std.specs.Prelude.{◌≤◌, length, take, true, Some};
+    ghost use Rattle.std.specs.Prelude.{◌≤◌, [], length, take, true, Some};
     ghost use Rattle.dagcbor_heads.specs.Reading.{Reading};
 
     ghost Value = { Reading };
@@ -82,6 +82,7 @@ impl<'a> Model for SliceReader<'a> {
       budget = 256;
       lends = true;
       faults = 0;
+      through = [];
     } };
 
     ghost invariant = { λ s. (s.shown ≤ length s.rest.now) × (s.steps ≤ 256) };
@@ -90,7 +91,7 @@ impl<'a> Model for SliceReader<'a> {
 impl<'a> SliceReader<'a> {
     /// A reader over the bytes, with a budget of 256 steps.
     pub fn new(bytes: &'a [u8]) -> SliceReader<'a>
-        ensures { result ≡ record { left = Some bytes.now; shown = []; steps = 256; budget = 256; lends = true; faults = 0 } }
+        ensures { result ≡ record { left = Some bytes.now; shown = []; steps = 256; budget = 256; lends = true; faults = 0; through = [] } }
     {
         SliceReader {
             rest: bytes,

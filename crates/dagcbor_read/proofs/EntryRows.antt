@@ -228,6 +228,7 @@ module _ {S : Type 0} (take : S → List ℕ → Tree → Option S) (need : List
         budget = ap (λ (r : Reading). r.budget) back ∙ r.same.budget ∙ n.takes.same.budget;
         lends = ap (λ (r : Reading). r.lends) back ∙ r.same.lends ∙ n.takes.same.lends;
         faults = ap (λ (r : Reading). r.faults) back ∙ r.same.faults ∙ n.takes.same.faults;
+        through = ap (λ (r : Reading). r.through) back ∙ r.same.through ∙ n.takes.same.through;
       };
     }
 

@@ -56,14 +56,15 @@ record Entered (old mid : Reading) : Type 0 where
   budget : mid.budget ≡ old.budget
   lends : mid.lends ≡ old.lends
   faults : mid.faults ≡ old.faults
+  through : mid.through ≡ old.through
 
 entered : (e : BegunEnum) {old mid : Reading} → Spent e old mid → Entered old mid
 unfolding Spent
 entered e {old} {mid} s = by e.in_map s.3
   where
     by : (b : Bool) → MatchBool b ((e.first ≡ 0xa1) × Takes (with_steps (old.steps - 1) old) (0xa1 ∷ []) mid) ((e.first / 32 ≡ 3) × ShowsByte (with_steps (old.steps - 1) old) e.first mid) → Entered old mid
-    by true h = let a = h.1.same in record { steps = omega (arith, a.steps, s.1); budget = a.budget; lends = a.lends; faults = a.faults }
-    by false h = let a = h.1.same in record { steps = omega (arith, a.steps, s.1); budget = a.budget; lends = a.lends; faults = a.faults }
+    by true h = let a = h.1.same in record { steps = omega (arith, a.steps, s.1); budget = a.budget; lends = a.lends; faults = a.faults; through = a.through }
+    by false h = let a = h.1.same in record { steps = omega (arith, a.steps, s.1); budget = a.budget; lends = a.lends; faults = a.faults; through = a.through }
 
 -- the bytes behind the beginning, and those before it
 record Opened (e : BegunEnum) (b : List ℕ) (mid : Reading) : Type 0 where
@@ -265,6 +266,7 @@ module _ {V : Type 0} (unit : List ℕ → Option V) (part : List ℕ → Tree �
           budget = ap (λ (x : Reading). x.budget) h.1 ∙ n.name.same.budget ∙ i.budget;
           lends = ap (λ (x : Reading). x.lends) h.1 ∙ n.name.same.lends ∙ i.lends;
           faults = ap (λ (x : Reading). x.faults) h.1 ∙ n.name.same.faults ∙ i.faults;
+          through = ap (λ (x : Reading). x.through) h.1 ∙ n.name.same.through ∙ i.through;
         };
       }
 
@@ -301,6 +303,7 @@ module _ {V : Type 0} (unit : List ℕ → Option V) (part : List ℕ → Tree �
           budget = ap (λ (x : Reading). x.budget) back ∙ a.same.budget ∙ n.name.same.budget ∙ i.budget;
           lends = ap (λ (x : Reading). x.lends) back ∙ a.same.lends ∙ n.name.same.lends ∙ i.lends;
           faults = ap (λ (x : Reading). x.faults) back ∙ a.same.faults ∙ n.name.same.faults ∙ i.faults;
+          through = ap (λ (x : Reading). x.through) back ∙ a.same.through ∙ n.name.same.through ∙ i.through;
         };
       }
 

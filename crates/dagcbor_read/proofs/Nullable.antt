@@ -87,6 +87,7 @@ some_entered view need {old} {mid} {now} {new} v h a back = record {
     budget = ap (λ (r : Reading). r.budget) back ∙ a.same.budget ∙ h.budget;
     lends = ap (λ (r : Reading). r.lends) back ∙ a.same.lends ∙ h.lends;
     faults = ap (λ (r : Reading). r.faults) back ∙ a.same.faults ∙ h.faults;
+    through = ap (λ (r : Reading). r.through) back ∙ a.same.through ∙ h.through;
   };
 }
 

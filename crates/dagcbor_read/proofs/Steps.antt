@@ -73,6 +73,7 @@ stepped_taken {old} {stepped} {now} {new} {t} spent s a back =
         budget = ap (λ (r : Reading). r.budget) back ∙ a.same.budget ∙ ap (λ (r : Reading). r.budget) s.is;
         lends = ap (λ (r : Reading). r.lends) back ∙ a.same.lends ∙ ap (λ (r : Reading). r.lends) s.is;
         faults = ap (λ (r : Reading). r.faults) back ∙ a.same.faults ∙ ap (λ (r : Reading). r.faults) s.is;
+        through = ap (λ (r : Reading). r.through) back ∙ a.same.through ∙ ap (λ (r : Reading). r.through) s.is;
       };
     }
 

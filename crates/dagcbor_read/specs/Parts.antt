@@ -31,6 +31,7 @@ pub record EntersSome (old new : Reading) : Type 0 where
   pub budget : new.budget ≡ old.budget
   pub lends : new.lends ≡ old.lends
   pub faults : new.faults ≡ old.faults
+  pub through : new.through ≡ old.through
 
 -- why no option is entered: no byte, or no step for another value than a null
 abbrev pub OptionCause : {E : Type 0} → DecodeError E → List ℕ → Type 0

@@ -25,7 +25,7 @@ impl<'de> Deserializer<'de, SliceReader<'de>> {
     /// Reads from the slice, whose bytes are lent, with a budget of 256 steps.
     pub fn from_slice(bytes: &'de [u8]) -> Deserializer<'de, SliceReader<'de>>
         ensures { progress (λ r. r) result ≡ record {
-          input = record { left = Some bytes.now; shown = []; steps = 256; budget = 256; lends = true; faults = 0 };
+          input = record { left = Some bytes.now; shown = []; steps = 256; budget = 256; lends = true; faults = 0; through = [] };
           failed = false;
         } }
     {

@@ -19,7 +19,7 @@ pub struct Pieces<'a> {
 }
 
 impl<'a> Model for Pieces<'a> {
-    ghost use Rattle.std.specs.Prelude.{◌≤◌, ◌<◌, length, take, false, Some};
+    ghost use Rattle.std.specs.Prelude.{◌≤◌, ◌<◌, [], length, take, false, Some};
     ghost use Rattle.dagcbor_heads.specs.Reading.{Reading};
 
     ghost Value = { Reading };
@@ -31,6 +31,7 @@ impl<'a> Model for Pieces<'a> {
       budget = 256;
       lends = false;
       faults = s.faults.count;
+      through = [];
     } };
 
     ghost invariant = { λ s. (s.shown ≤ length s.rest.now) × (s.steps ≤ 256) × (0 < s.size) };

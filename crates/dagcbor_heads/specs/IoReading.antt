@@ -1,0 +1,19 @@
+-- What contracts see of a reader over a buffered source.
+use Rattle.std.specs.Prelude.{◌≡◌, ℕ, ◌<◌, ◌≤◌, Bool, ◌&&◌, true, List, [], length, take, IfSome, nat_le, bytes_eq, if◌then◌else◌, Option, None, Some}
+
+-- whether n bytes may be consumed at once
+abbrev pub may_consume : ℕ → Option ℕ → Bool
+may_consume n None = true
+may_consume n (Some most) = nat_le n most
+
+-- the bytes of the source, where it tells them, they begin with those that are shown, and those may be consumed
+abbrev pub told : List ℕ → Option (List ℕ) → Option ℕ → Option (List ℕ)
+told shown None most = None
+told shown (Some b) most = if bytes_eq (take (length shown) b) shown && may_consume (length shown) most then Some b else None
+
+-- known bytes are kept, and n of them were copied, which may be consumed: none only at the end, or where none is wanted
+pub record Copies (old new : Option (List ℕ)) (most : Option ℕ) (window : List ℕ) (want n : ℕ) : Type 0 where
+  pub kept : IfSome old (λ b. new ≡ Some b)
+  pub limit : IfSome old (λ _. IfSome most (λ k. n ≤ k))
+  pub front : IfSome old (λ b. take n b ≡ take n window)
+  pub end : IfSome old (λ b. 0 < want → n ≡ 0 → b ≡ [])

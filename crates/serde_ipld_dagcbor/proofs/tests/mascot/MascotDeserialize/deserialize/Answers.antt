@@ -1,6 +1,6 @@
 use Rattle.std.proofs.Common.{refl}
 use Rattle.dagcbor_heads.proofs.Refusing.{refused}
-use Rattle.dagcbor_read.proofs.FieldPlaces.{finished, unfinished, not_read}
+use Rattle.dagcbor_read.proofs.FieldPlaces.{unfinished}
 use Rattle.serde_ipld_dagcbor.specs.Mascot.{take_mascot, need_mascot, unseen_mascot, finish_mascot}
 use Rattle.serde_ipld_dagcbor.proofs.tests.mascot.MascotDeserialize.deserialize.Goals as goal
 

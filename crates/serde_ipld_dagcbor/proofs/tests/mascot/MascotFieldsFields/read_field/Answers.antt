@@ -1,10 +1,6 @@
-use Rattle.std.proofs.Common.{◌^◌, refl, false}
-use Rattle.std.specs.Prelude.{option_map, codes, string_bytes}
-use Rattle.dagcbor_read.specs.Views.{view_text, view_unsigned, no_need}
-use Rattle.dagcbor_read.specs.Collections.{view_slot}
-use Rattle.dagcbor_read.proofs.FieldPlaces.{field_read, field_skipped, other_name}
-use Rattle.serde_ipld_dagcbor.specs.Mascot.{SeenMascot, take_mascot, need_mascot}
-use Rattle.serde_ipld_dagcbor.specs.declared.tests.mascot.MascotFields.{MascotFields}
+use Rattle.std.proofs.Common.{refl, false}
+use Rattle.dagcbor_read.proofs.FieldPlaces.{field_skipped, other_name}
+use Rattle.serde_ipld_dagcbor.specs.Mascot.{take_mascot, need_mascot}
 use Rattle.serde_ipld_dagcbor.proofs.tests.mascot.MascotFieldsFields.read_field.Goals as goal
 
 pub returns-in_default : goal.returns-in_default

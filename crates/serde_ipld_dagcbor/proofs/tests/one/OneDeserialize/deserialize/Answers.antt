@@ -1,7 +1,6 @@
 use Rattle.std.proofs.Common.{ap}
 use Rattle.std.specs.Prelude.{option_map}
-use Rattle.dagcbor_heads.proofs.Refusing.{refused}
-use Rattle.dagcbor_read.proofs.FieldPlaces.{finished, unfinished, not_read}
+use Rattle.dagcbor_read.proofs.FieldPlaces.{unfinished}
 use Rattle.serde_ipld_dagcbor.specs.One.{take_one, need_one, unseen_one, finish_one}
 use Rattle.serde_ipld_dagcbor.proofs.tests.one.OneDeserialize.deserialize.Goals as goal
 

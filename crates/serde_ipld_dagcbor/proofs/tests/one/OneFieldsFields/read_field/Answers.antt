@@ -1,8 +1,5 @@
-use Rattle.std.proofs.Common.{◌^◌, refl, false}
-use Rattle.std.specs.Prelude.{codes}
-use Rattle.dagcbor_read.specs.Views.{view_unsigned, no_need}
-use Rattle.dagcbor_read.specs.Collections.{view_slot}
-use Rattle.dagcbor_read.proofs.FieldPlaces.{field_read, field_skipped, other_name}
+use Rattle.std.proofs.Common.{refl, false}
+use Rattle.dagcbor_read.proofs.FieldPlaces.{field_skipped, other_name}
 use Rattle.serde_ipld_dagcbor.specs.One.{take_one, need_one}
 use Rattle.serde_ipld_dagcbor.proofs.tests.one.OneFieldsFields.read_field.Goals as goal
 

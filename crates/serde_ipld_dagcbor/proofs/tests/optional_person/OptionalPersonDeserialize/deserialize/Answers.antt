@@ -1,9 +1,7 @@
 use Rattle.std.proofs.Common.{refl}
-use Rattle.std.specs.Prelude.{string_bytes}
 use Rattle.dagcbor_heads.proofs.Refusing.{refused}
-use Rattle.dagcbor_read.proofs.FieldPlaces.{finished, unfinished, not_read}
+use Rattle.dagcbor_read.proofs.FieldPlaces.{unfinished}
 use Rattle.serde_ipld_dagcbor.specs.OptionalPerson.{take_optional_person, need_optional_person, unseen_optional_person, finish_optional_person}
-use Rattle.serde_ipld_dagcbor.proofs.Places.{flattened}
 use Rattle.serde_ipld_dagcbor.proofs.tests.optional_person.OptionalPersonDeserialize.deserialize.Goals as goal
 
 pub returns-in_err-name : goal.returns-in_err-name

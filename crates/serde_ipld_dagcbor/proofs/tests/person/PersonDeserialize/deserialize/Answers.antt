@@ -1,9 +1,7 @@
 use Rattle.std.proofs.Common.{refl}
-use Rattle.std.specs.Prelude.{string_bytes}
 use Rattle.dagcbor_heads.proofs.Refusing.{refused}
-use Rattle.dagcbor_read.proofs.FieldPlaces.{finished, unfinished, not_read}
+use Rattle.dagcbor_read.proofs.FieldPlaces.{unfinished}
 use Rattle.serde_ipld_dagcbor.specs.Person.{take_person, need_person, unseen_person, finish_person}
-use Rattle.serde_ipld_dagcbor.proofs.Places.{flattened}
 use Rattle.serde_ipld_dagcbor.proofs.tests.person.PersonDeserialize.deserialize.Goals as goal
 
 pub returns-in_err-name : goal.returns-in_err-name

@@ -1,10 +1,6 @@
-use Rattle.std.proofs.Common.{◌^◌, refl, false}
-use Rattle.std.specs.Prelude.{option_map, codes, string_bytes}
-use Rattle.dagcbor_read.specs.Views.{need_option, view_option, view_text, view_unsigned, no_need}
-use Rattle.dagcbor_read.specs.Collections.{view_slot}
-use Rattle.dagcbor_read.proofs.FieldPlaces.{field_read, field_skipped, other_name}
-use Rattle.serde_ipld_dagcbor.specs.Person.{SeenPerson, take_person, need_person}
-use Rattle.serde_ipld_dagcbor.specs.declared.tests.person.PersonFields.{PersonFields}
+use Rattle.std.proofs.Common.{refl, false}
+use Rattle.dagcbor_read.proofs.FieldPlaces.{field_skipped, other_name}
+use Rattle.serde_ipld_dagcbor.specs.Person.{take_person, need_person}
 use Rattle.serde_ipld_dagcbor.proofs.tests.person.PersonFieldsFields.read_field.Goals as goal
 
 pub returns-in_default : goal.returns-in_default

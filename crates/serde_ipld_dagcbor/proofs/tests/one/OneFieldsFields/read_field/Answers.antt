@@ -1,15 +1,9 @@
-use Rattle.std.proofs.Common.{◌^◌, refl, false}
-use Rattle.std.specs.Prelude.{codes}
-use Rattle.dagcbor_read.specs.Views.{view_unsigned, no_need}
-use Rattle.dagcbor_read.specs.Collections.{view_slot}
-use Rattle.dagcbor_read.proofs.FieldPlaces.{field_read, field_skipped, other_name}
+use Rattle.std.proofs.Common.{refl}
+use Rattle.dagcbor_read.proofs.FieldPlaces.{field_skipped, other_name}
 use Rattle.serde_ipld_dagcbor.specs.One.{take_one, need_one}
 use Rattle.serde_ipld_dagcbor.proofs.tests.one.OneFieldsFields.read_field.Goals as goal
-
-pub returns-in-a : goal.returns-in-a
-returns-in-a g c = field_read take_one need_one _ (codes "a") (view_slot (view_unsigned (2 ^ 8))) no_need false false _ _ _ (λ a. record { a = a }) c.in-a.is (λ t. refl) (λ t. refl) (λ x. x) refl c.read_into.ensures
 
 pub returns-in_default : goal.returns-in_default
 returns-in_default g c =
     let a = other_name c.in_default.not-a in
-    field_skipped take_one need_one _ c.args.key.now false _ _ _ (λ t. rw a refl) (λ t. rw a refl) refl c.skip_value.ensures
+    field_skipped take_one need_one _ c.args.key.now _ _ _ _ (λ t. rw a refl) (λ t. rw a refl) refl c.skip_value.ensures

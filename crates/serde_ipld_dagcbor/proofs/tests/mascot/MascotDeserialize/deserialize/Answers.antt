@@ -1,13 +1,12 @@
-use Rattle.std.proofs.Common.{refl}
+use Rattle.std.proofs.Common.{rules}
 use Rattle.dagcbor_read.proofs.Finishing.{missing}
-use Rattle.serde_ipld_dagcbor.specs.Mascot.{finish_mascot}
 use Rattle.serde_ipld_dagcbor.proofs.tests.mascot.MascotDeserialize.deserialize.Goals as goal
 
 pub returns-in_err-name : goal.returns-in_err-name
-returns-in_err-name g c = missing _ _ finish_mascot _ _ _ c.from_residual-in_err-name.ensures.1 c.in_err-name.ensures.1 (rw c.in_err-name.ensures.0 refl) c.in_ok-fields.ensures
+returns-in_err-name g c = missing _ _ _ _ _ _ c.from_residual-in_err-name.ensures.1 c.in_err-name.ensures.1 (search rules) c.in_ok-fields.ensures
 
 pub returns-in_err-species : goal.returns-in_err-species
-returns-in_err-species g c = missing _ _ finish_mascot _ _ _ c.from_residual-in_err-species.ensures.1 c.in_err-species.ensures.1 (rw (c.in_ok-name.ensures, c.in_err-species.ensures.0) refl) c.in_ok-fields.ensures
+returns-in_err-species g c = missing _ _ _ _ _ _ c.from_residual-in_err-species.ensures.1 c.in_err-species.ensures.1 (search rules) c.in_ok-fields.ensures
 
 pub returns-in_err-year_of_birth : goal.returns-in_err-year_of_birth
-returns-in_err-year_of_birth g c = missing _ _ finish_mascot _ _ _ c.from_residual-in_err-year_of_birth.ensures.1 c.in_err-year_of_birth.ensures.1 (rw (c.in_ok-name.ensures, c.in_ok-species.ensures, c.in_err-year_of_birth.ensures.0) refl) c.in_ok-fields.ensures
+returns-in_err-year_of_birth g c = missing _ _ _ _ _ _ c.from_residual-in_err-year_of_birth.ensures.1 c.in_err-year_of_birth.ensures.1 (search rules) c.in_ok-fields.ensures

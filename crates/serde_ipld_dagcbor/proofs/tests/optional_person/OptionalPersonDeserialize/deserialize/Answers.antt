@@ -1,7 +1,6 @@
-use Rattle.std.proofs.Common.{refl}
+use Rattle.std.proofs.Common.{rules}
 use Rattle.dagcbor_read.proofs.Finishing.{missing}
-use Rattle.serde_ipld_dagcbor.specs.OptionalPerson.{finish_optional_person}
 use Rattle.serde_ipld_dagcbor.proofs.tests.optional_person.OptionalPersonDeserialize.deserialize.Goals as goal
 
 pub returns-in_err-name : goal.returns-in_err-name
-returns-in_err-name g c = missing _ _ finish_optional_person _ _ _ c.from_residual-in_err-name.ensures.1 c.in_err-name.ensures.1 (rw c.in_err-name.ensures.0 refl) c.in_ok-fields.ensures
+returns-in_err-name g c = missing _ _ _ _ _ _ c.from_residual-in_err-name.ensures.1 c.in_err-name.ensures.1 (search rules) c.in_ok-fields.ensures

@@ -23,9 +23,8 @@ returns-in_err-next_value-in-a g c =
 pub returns-in_err-next_value-in_default-as_str : goal.returns-in_err-next_value-in_default-as_str
 returns-in_err-next_value-in_default-as_str g c =
     let at = at_value _ _ _ _ _ _ _ _ _ c.loop-entries.invariant c.in-Some.is c.in_ok-key.ensures.key c.in_ok-key.ensures.after in
-    let a = other_name (λ e. c.in_default-as_str.not-a (c.as_str.ensures.value ∙ e)) in
     handed_on _ _ _ _ _ _ _ _ _ c.from_residual-in_err-next_value-in_default-as_str.ensures.1
-    (skip_refused _ _ _ _ _ _ _ _ _ at (λ t. rw a refl) (λ t. rw a refl) c.in_err-next_value-in_default-as_str.ensures.value)
+    (skip_refused _ _ _ _ _ _ _ _ _ at (λ t. search (rules, other_name)) (λ t. search (rules, other_name)) c.in_err-next_value-in_default-as_str.ensures.value)
 
 pub loop-entries-preserved-after-as_str : goal.loop-entries-preserved-after-as_str
 loop-entries-preserved-after-as_str g c =
@@ -33,8 +32,7 @@ loop-entries-preserved-after-as_str g c =
     elim c.match-as_str.branch [
       | in-a+in_ok-next_value-in-a w ↦ rw (w.a-is, w.entries-is, w.de-is) (value_read _ _ _ _ _ (view_unsigned (2 ^ 8)) no_need (codes "a") (λ a. record { a = Some a }) _ _ _ _ at (sym c.as_str.ensures.value ∙ w.in-a.is) (λ t. slotted _ _) (λ t. refl) refl w.in_ok-next_value-in-a.ensures.after w.in_ok-next_value-in-a.ensures.value)
       | in_default-as_str+in_ok-next_value-in_default-as_str w ↦
-          let a = other_name (λ e. w.in_default-as_str.not-a (c.as_str.ensures.value ∙ e)) in
-          rw (w.a-is, w.entries-is, w.de-is) (value_skipped _ _ _ _ _ _ _ _ at (λ t. rw a refl) (λ t. rw a refl) w.in_ok-next_value-in_default-as_str.ensures.after w.in_ok-next_value-in_default-as_str.ensures.value)
+          rw (w.a-is, w.entries-is, w.de-is) (value_skipped _ _ _ _ _ _ _ _ at (λ t. search (rules, other_name)) (λ t. search (rules, other_name)) w.in_ok-next_value-in_default-as_str.ensures.after w.in_ok-next_value-in_default-as_str.ensures.value)
     ]
 
 pub loop-entries-preserved : goal.loop-entries-preserved
@@ -43,8 +41,7 @@ loop-entries-preserved g c =
     elim c.match-as_str.branch [
       | in-a+in_ok-next_value-in-a w ↦ rw (w.a-is, w.entries-is, w.de-is) (value_read _ _ _ _ _ (view_unsigned (2 ^ 8)) no_need (codes "a") (λ a. record { a = Some a }) _ _ _ _ at (sym c.as_str.ensures.value ∙ w.in-a.is) (λ t. slotted _ _) (λ t. refl) refl w.in_ok-next_value-in-a.ensures.after w.in_ok-next_value-in-a.ensures.value)
       | in_default-as_str+in_ok-next_value-in_default-as_str w ↦
-          let a = other_name (λ e. w.in_default-as_str.not-a (c.as_str.ensures.value ∙ e)) in
-          rw (w.a-is, w.entries-is, w.de-is) (value_skipped _ _ _ _ _ _ _ _ at (λ t. rw a refl) (λ t. rw a refl) w.in_ok-next_value-in_default-as_str.ensures.after w.in_ok-next_value-in_default-as_str.ensures.value)
+          rw (w.a-is, w.entries-is, w.de-is) (value_skipped _ _ _ _ _ _ _ _ at (λ t. search (rules, other_name)) (λ t. search (rules, other_name)) w.in_ok-next_value-in_default-as_str.ensures.after w.in_ok-next_value-in_default-as_str.ensures.value)
     ]
 
 pub returns-in-Some-a : goal.returns-in-Some-a

@@ -6,17 +6,13 @@ use Rattle.std.specs.Bool.{Decides}
 use Rattle.std.specs.Str.{bytes_eq}
 use Rattle.dagcbor_heads.specs.Reading.{Reading}
 use Rattle.dagcbor_heads.specs.Refusals.{Refuses}
-use Rattle.dagcbor_heads.specs.declared.name.Name.{Name}
 use Rattle.dagcbor_heads.specs.declared.error.DecodeError.{DecodeError}
-use Rattle.dagcbor_heads.specs.declared.error.DecodeError.TheVariants.{Msg}
 use Rattle.dagcbor_heads.proofs.Taking.{stays}
 use Rattle.dagcbor_heads.proofs.Refusing.{passed_on}
 use Rattle.ipld_tree.specs.Tree.{Tree, any_need}
 use Rattle.dagcbor_read.specs.Calls.{Progress}
 use Rattle.dagcbor_read.specs.Reads.{HasFront, TakesFront, Anything, ReadsValue}
 use Rattle.dagcbor_read.specs.Views.{view_ignored}
-use Rattle.dagcbor_read.specs.Collections.{view_fields, need_fields, view_struct}
-use Rattle.dagcbor_read.proofs.Finishing as whole
 
 -- a key that is not the name
 pub other_name : {k name : List ℕ} → (k ≡ name → ⊥) → bytes_eq k name ≡ false
@@ -64,22 +60,3 @@ field_read {S} {V} {U} {E} take need s {s'} {key} name {v} view as_need b c old 
 pub field_skipped : {S U E : Type 0} (take : S → List ℕ → Tree → Option S) (need : List ℕ → Tree → ℕ) (s : S) (key : List ℕ) (c : Bool) (old new : Progress) (r : Result U (DecodeError E)) {s' : S}
     → ((t : Tree) → take s key t ≡ Some s) → ((t : Tree) → need key t ≡ any_need t) → s' ≡ s → ReadsValue (λ _. tt) view_ignored any_need false old r new → ReadsValue (λ _. s') (take s key) (need key) c old r new
 field_skipped take need s key c old new r same as_much e h = field_read take need s key view_ignored any_need false c old new r (λ _. s) refl same as_much (λ x. absurd (cc x)) e h
-
--- ---- a struct
-
-module _ {S V : Type 0} (take : S → List ℕ → Tree → Option S) (need : List ℕ → Tree → ℕ) (start : S) (finish : S → Option V) where
-  -- what the places hold makes a value
-  pub finished : {F A : Type 0} {old new : Reading} {s : S} {v : V} → (F → A × TakesFront (view_fields take start) (need_fields need) old s new) → finish s ≡ Some v
-      → F → A × TakesFront (view_struct take start finish) (need_fields need) old v new
-  finished h is fresh = whole.finished (view_fields take start) (need_fields need) finish h is fresh
-
-  -- a field that must be there was not there
-  pub unfinished : (B : Type 0) {F A E : Type 0} {old new : Reading} {s : S} (error : DecodeError E) (message : Name) → error ≡ Msg message → finish s ≡ None
-      → (F → A × TakesFront (view_fields take start) (need_fields need) old s new)
-      → F → Refuses (HasFront (view_struct take start finish) (need_fields need) old) ⊤ B Anything old error new
-  unfinished B error message is none h fresh = whole.unfinished (view_fields take start) (need_fields need) finish B (message, is) none h fresh
-
-  -- the fields were refused
-  pub not_read : (B : Type 0) (old new : Reading) {F E : Type 0} (error : DecodeError E) → (F → Refuses (HasFront (view_fields take start) (need_fields need) old) ⊤ B Anything old error new)
-      → F → Refuses (HasFront (view_struct take start finish) (need_fields need) old) ⊤ B Anything old error new
-  not_read B old new error h fresh = whole.not_read (view_fields take start) (need_fields need) finish B old new error h fresh

@@ -23,7 +23,8 @@ use Rattle.dagcbor_read.specs.Reads.{HasFront, TakesFront, Anything, ReadsValue}
 use Rattle.dagcbor_read.specs.Enums.{BegunEnum, begun_enum, TakesForm, HasStepEnum, StepEnumCause, SpendsEnum, ReadsName, IsOtherForm, EndsUnit, ReadsHeld, ReadsFieldsHeld}
 use Rattle.dagcbor_read.specs.declared.enum_accessor.EnumAccessor.{EnumAccessor}
 use Rattle.dagcbor_read.proofs.Answered.{answered, call_refused}
-use Rattle.dagcbor_read.proofs.FieldPlaces.{takes_as, front_as, finished, unfinished, not_read}
+use Rattle.dagcbor_read.proofs.FieldPlaces.{takes_as, front_as}
+use Rattle.dagcbor_read.proofs.Finishing.{finished, unfinished, not_read}
 use Rattle.dagcbor_read.proofs.Passing.{SameReader, carried}
 
 -- ---- texts and the first byte
@@ -424,7 +425,7 @@ module _ {S W : Type 0} (take : S → List ℕ → Tree → Option S) (need : Li
       → ReadsFieldsHeld {E = E} (λ (s : T). w) (view_struct take start finish) (need_fields need) own e old (Ok s) new
   held_finished s is h sound =
       let r = h sound in
-      let f = finished take need start finish (λ (u : Unit {0}). (r.0, r.1.1.1)) is tt in
+      let f = finished (view_fields take start) (need_fields need) finish (λ (u : Unit {0}). (r.0, r.1.1.1)) is tt in
       (r.0, (r.1.0, (r.1.1.0, f.1, r.1.1.2)))
 
   -- a field that must be there was not there
@@ -434,7 +435,7 @@ module _ {S W : Type 0} (take : S → List ℕ → Tree → Option S) (need : Li
       let k = h sound in
       let end = k.1.1.0 in
       let same : new.input.faults ≡ end.faults = ap (λ (x : Reading). x.faults) k.1.1.2 in
-      let u = unfinished take need start finish (own ≡ true) r message is none (λ (u : Unit {0}). (k.0, k.1.1.1)) tt in
+      let u = unfinished (view_fields take start) (need_fields need) finish (own ≡ true) (message, is) none (λ (u : Unit {0}). (k.0, k.1.1.1)) tt in
       let moved : Refuses (HasFront (view_struct take start finish) (need_fields need) old.input) ⊤ (own ≡ true) Anything old.input r new.input =
       told_refused (own ≡ true) old.input r new.input is (same ∙ k.1.1.1.same.faults)
       (subst (λ x. Refuses {E = E} (HasFront (view_struct take start finish) (need_fields need) old.input) ⊤ (own ≡ true) Anything old.input x end) is u).1 in
@@ -447,7 +448,7 @@ module _ {S W : Type 0} (take : S → List ℕ → Tree → Option S) (need : Li
     where
       by : (m : Bool) → MatchBool m (Refuses (HasFront (view_fields take start) (need_fields need) old.input) ⊤ (own ≡ true) Anything old.input r new.input) (IsOtherForm e r × (new.input ≡ old.input))
           → MatchBool m (Refuses (HasFront (view_struct take start finish) (need_fields need) old.input) ⊤ (own ≡ true) Anything old.input r new.input) (IsOtherForm e r × (new.input ≡ old.input))
-      by true g = not_read take need start finish (own ≡ true) old.input new.input r (λ (u : Unit {0}). g) tt
+      by true g = not_read (view_fields take start) (need_fields need) finish (own ≡ true) old.input new.input r (λ (u : Unit {0}). g) tt
       by false g = g
 
 -- a field that must be there was not among those that the variant holds

@@ -1,2 +1,1 @@
 pub mod RoundTrips
-pub mod Places

@@ -1,10 +1,9 @@
 -- Reading and writing undo each other.
-use Rattle.std.proofs.Common.{◌≡◌, ℕ, ◌≤◌, List, [], refl, sym, subst, ◌∙◌, Vec, Global}
-use Rattle.std.specs.Prelude.{Result, Ok, Err, Some, ⊤}
+use Rattle.std.proofs.Common.{◌≡◌, ℕ, List, [], refl, sym, subst, ◌∙◌}
+use Rattle.std.specs.Prelude.{Ok, Err, Some}
 use Rattle.std.specs.declared.convert.Infallible.{Infallible}
 use Rattle.dagcbor_heads.specs.declared.error.DecodeError.{DecodeError}
 use Rattle.dagcbor_heads.specs.declared.error.DecodeError.TheVariants.{Read, RequireBorrowed, OutOfMemory, Failed}
-use Rattle.dagcbor_heads.specs.declared.error.EncodeError.{EncodeError}
 use Rattle.dagcbor_heads.specs.declared.error.EncodeError.TheVariants as unwritten
 use Rattle.ipld_tree.specs.Tree.{Tree, any_need}
 use Rattle.ipld_tree.specs.Spelling.{IsSpelling}
@@ -12,9 +11,8 @@ use Rattle.ipld_tree.specs.Ipld.{tree_of}
 use Rattle.ipld_tree.specs.declared.ipld.Ipld.{Ipld}
 use Rattle.ipld_tree.proofs.Fronts.{front_unique}
 use Rattle.dagcbor_read.proofs.Wholes.{whole_front}
-use Rattle.dagcbor_write.specs.Answers.{IsAnswer}
 use Rattle.dagcbor_read.specs.Whole.{IsWhole, WholeRefused}
-use Rattle.serde_ipld_dagcbor.specs.RoundTrips.{IsWrittenBack, ReadThenWritten, IsReadBack, WrittenThenRead}
+use Rattle.serde_ipld_dagcbor.specs.RoundTrips.{ReadThenWritten, IsReadBack, WrittenThenRead}
 
 same_tree : (t u : Tree) → Some t ≡ Some u → t ≡ u
 same_tree t u e = cc

@@ -195,3 +195,10 @@ fn an_enum_in_a_struct_is_read(rt: HostRuntime) -> Result<(), Fail> {
     assert_eq!(rt; value.e, Enum::B);
     Ok(())
 }
+
+#[test]
+fn a_list_of_enums_has_a_length(rt: HostRuntime) -> Result<(), Fail> {
+    let read = from_slice::<Vec<Enum>>(rt.alloc(), b"\x9f\x67require\xff");
+    assert!(rt; matches!(read, Err(DecodeError::IndefiniteSize)));
+    Ok(())
+}

@@ -8,7 +8,7 @@ ghost use Rattle.serde_ipld_dagcbor.specs.Mascot.{MascotView, SeenMascot, take_m
 use crate::tests::required::required;
 use crate::{
     DecodeError, Deserialize, Deserializer, EncodeError, Fields, Read, Serialize, Serializer,
-    Shown, Write, read_into, read_struct, skip_value, to_vec,
+    Shown, Write, from_slice, read_into, read_struct, skip_value, to_vec,
 };
 use std::alloc::Global;
 use std::test::Fail;
@@ -129,11 +129,10 @@ fn a_mascot_is_written(rt: HostRuntime) -> Result<(), Fail> {
 
 #[test]
 fn a_mascot_is_read(rt: HostRuntime) -> Result<(), Fail> {
-    let mut de = Deserializer::from_slice(
+    let mascot: Mascot = from_slice(
+        rt.alloc(),
         b"\xa3\x64name\x66Ferris\x67species\x64crab\x6dyear_of_birth\x19\x07\xdf",
-    );
-    let mascot = Mascot::deserialize(rt.alloc(), &mut de)?;
-    de.end()?;
+    )?;
     assert_eq!(rt; mascot.name.as_str(), "Ferris");
     assert_eq!(rt; mascot.species.as_str(), "crab");
     assert_eq!(rt; mascot.year_of_birth, 2015);

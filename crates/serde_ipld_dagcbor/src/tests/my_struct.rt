@@ -6,6 +6,7 @@ ghost use Rattle.ipld_tree.specs.Tree.{boolean, link, entries_tree};
 ghost use Rattle.dagcbor_write.specs.Trees.{field};
 ghost use Rattle.serde_ipld_dagcbor.specs.MyStruct.{MyStructView, SeenMyStruct, take_my_struct, need_my_struct, view_my_struct, need_of_my_struct};
 
+use crate::tests::links::{LINK, joined};
 use crate::tests::required::required;
 use crate::{
     Cid, DecodeError, Deserialize, Deserializer, EncodeError, Fields, Read, Serialize, Serializer,
@@ -110,11 +111,10 @@ fn a_struct_with_a_link_is_written(rt: HostRuntime) -> Result<(), Fail> {
 
 #[test]
 fn a_struct_with_a_link_is_read(rt: HostRuntime) -> Result<(), Fail> {
-    let value: MyStruct = from_slice(
-        rt.alloc(),
-        b"\xa2\x63cid\xd8\x2a\x49\x00\x01\xce\x01\x9b\x01\x02\x63\xc8\x64data\xf5",
-    )?;
-    assert!(rt; value.cid == Cid::new_v1(206, 155, b"\x63\xc8")?);
+    let alloc = rt.alloc();
+    let bytes = joined(alloc, &[b"\xa2\x63cid", LINK, b"\x64data\xf5"])?;
+    let value: MyStruct = from_slice(alloc, &bytes)?;
+    assert!(rt; value.cid == from_slice(alloc, LINK)?);
     assert!(rt; value.data);
     Ok(())
 }

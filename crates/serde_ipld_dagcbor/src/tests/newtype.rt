@@ -8,9 +8,10 @@ ghost use Rattle.dagcbor_read.specs.Views.{view_unsigned, no_need};
 ghost use Rattle.serde_ipld_dagcbor.specs.NamedLink.{unit_link, part_link, need_part_link, view_named_link, need_named_link};
 ghost use Rattle.serde_ipld_dagcbor.specs.declared.tests.newtype.Externally.TheVariants as externally;
 
+use crate::tests::links::{LINK, joined};
 use crate::{
     Cid, DecodeError, Deserialize, Deserializer, EncodeError, EnumAccessor, Read, Serialize,
-    Serializer, Shown, Variants, Write, read_enum, to_vec,
+    Serializer, Shown, Variants, Write, from_slice, read_enum, to_vec,
 };
 use std::alloc::Global;
 use std::test::Fail;
@@ -139,20 +140,16 @@ fn values_behind_a_name_are_written(rt: HostRuntime) -> Result<(), Fail> {
 
 #[test]
 fn a_newtype_is_read(rt: HostRuntime) -> Result<(), Fail> {
-    let mut de = Deserializer::from_slice(b"\x18\x8e");
-    let value = Newtype::deserialize(rt.alloc(), &mut de)?;
-    de.end()?;
+    let value: Newtype = from_slice(rt.alloc(), b"\x18\x8e")?;
     assert_eq!(rt; value.0, 142);
     Ok(())
 }
 
 #[test]
 fn a_link_behind_a_name_is_read(rt: HostRuntime) -> Result<(), Fail> {
-    let mut de = Deserializer::from_slice(
-        b"\xa1\x63Cid\xd8\x2a\x49\x00\x01\xce\x01\x9b\x01\x02\x63\xc8",
-    );
-    let Externally::Cid(cid) = Externally::deserialize(rt.alloc(), &mut de)?;
-    de.end()?;
-    assert!(rt; cid == Cid::new_v1(206, 155, b"\x63\xc8")?);
+    let alloc = rt.alloc();
+    let bytes = joined(alloc, &[b"\xa1\x63Cid", LINK])?;
+    let Externally::Cid(cid) = from_slice(alloc, &bytes)?;
+    assert!(rt; cid == from_slice(alloc, LINK)?);
     Ok(())
 }

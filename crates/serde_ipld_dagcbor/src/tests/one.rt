@@ -7,7 +7,7 @@ ghost use Rattle.serde_ipld_dagcbor.specs.One.{SeenOne, take_one, need_one, view
 
 use crate::{
     DecodeError, Deserialize, Deserializer, EncodeError, Fields, Read, Serialize, Serializer,
-    Shown, Write, read_fields, read_into, skip_value, to_vec,
+    Shown, Write, from_slice, read_fields, read_into, skip_value, to_vec,
 };
 use std::alloc::Global;
 use std::test::Fail;
@@ -96,20 +96,17 @@ fn one_field_is_written(rt: HostRuntime) -> Result<(), Fail> {
 
 #[test]
 fn one_field_is_read(rt: HostRuntime) -> Result<(), Fail> {
-    let mut de = Deserializer::from_slice(b"\xa2\x61a\x01\x61b\x05");
-    let one = One::deserialize(rt.alloc(), &mut de)?;
-    de.end()?;
+    let one: One = from_slice(rt.alloc(), b"\xa2\x61a\x01\x61b\x05")?;
     assert_eq!(rt; one.a, 1);
     Ok(())
 }
 
 #[test]
 fn a_value_that_is_skipped_is_read_strictly(rt: HostRuntime) -> Result<(), Fail> {
-    let mut de = Deserializer::from_slice(b"\xa2\x61a\x01\x61b\x18\x05");
-    match One::deserialize(rt.alloc(), &mut de) {
+    match from_slice::<One>(rt.alloc(), b"\xa2\x61a\x01\x61b\x18\x05") {
         Err(DecodeError::NonMinimal { name, found }) => {
             assert_eq!(rt; name.as_str(), "u64");
-            assert_eq!(rt; found, 24);
+            assert_eq!(rt; found, 0x18);
         }
         _ => return Err(Fail::new("not refused")),
     }
@@ -118,8 +115,7 @@ fn a_value_that_is_skipped_is_read_strictly(rt: HostRuntime) -> Result<(), Fail>
 
 #[test]
 fn a_missing_field_is_refused(rt: HostRuntime) -> Result<(), Fail> {
-    let mut de = Deserializer::from_slice(b"\xa1\x61b\x01");
-    match One::deserialize(rt.alloc(), &mut de) {
+    match from_slice::<One>(rt.alloc(), b"\xa1\x61b\x01") {
         Err(DecodeError::Msg(message)) => assert_eq!(rt; message.as_str(), "missing field"),
         _ => return Err(Fail::new("not refused")),
     }

@@ -8,7 +8,7 @@ ghost use Rattle.serde_ipld_dagcbor.specs.OptionalPerson.{OptionalPersonView, Se
 use crate::tests::required::required;
 use crate::{
     DecodeError, Deserialize, Deserializer, EncodeError, Fields, Read, Serialize, Serializer,
-    Shown, Write, read_into, read_struct, skip_value, to_vec,
+    Shown, Write, from_slice, read_into, read_struct, skip_value, to_vec,
 };
 use std::alloc::Global;
 use std::test::Fail;
@@ -143,11 +143,10 @@ fn a_missing_field_is_left_out(rt: HostRuntime) -> Result<(), Fail> {
 
 #[test]
 fn a_field_that_was_left_out_is_missing(rt: HostRuntime) -> Result<(), Fail> {
-    let mut de = Deserializer::from_slice(
+    let person: OptionalPerson = from_slice(
+        rt.alloc(),
         b"\xa2\x64name\x6cGrace Hopper\x6aprofession\x72computer scientist",
-    );
-    let person = OptionalPerson::deserialize(rt.alloc(), &mut de)?;
-    de.end()?;
+    )?;
     assert_eq!(rt; person.name.as_str(), "Grace Hopper");
     assert!(rt; person.year_of_birth.is_none());
     match &person.profession {

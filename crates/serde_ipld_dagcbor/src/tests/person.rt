@@ -8,7 +8,7 @@ ghost use Rattle.serde_ipld_dagcbor.specs.Person.{PersonView, SeenPerson, take_p
 use crate::tests::required::required;
 use crate::{
     DecodeError, Deserialize, Deserializer, EncodeError, Fields, Read, Serialize, Serializer,
-    Shown, Write, read_into, read_struct, skip_value, to_vec,
+    Shown, Write, from_slice, read_into, read_struct, skip_value, to_vec,
 };
 use std::alloc::Global;
 use std::test::Fail;
@@ -128,11 +128,10 @@ fn fields_are_written_in_key_order(rt: HostRuntime) -> Result<(), Fail> {
 
 #[test]
 fn fields_are_read_in_key_order(rt: HostRuntime) -> Result<(), Fail> {
-    let mut de = Deserializer::from_slice(
+    let person: Person = from_slice(
+        rt.alloc(),
         b"\xa3\x64name\x6cGrace Hopper\x6aprofession\x72computer scientist\x6dyear_of_birth\x19\x07\x72",
-    );
-    let person = Person::deserialize(rt.alloc(), &mut de)?;
-    de.end()?;
+    )?;
     assert_eq!(rt; person.name.as_str(), "Grace Hopper");
     assert_eq!(rt; person.year_of_birth, 1906);
     match &person.profession {

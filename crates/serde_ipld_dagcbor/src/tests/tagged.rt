@@ -5,6 +5,7 @@ ghost use Rattle.ipld_tree.specs.Cid.{cid_bytes};
 ghost use Rattle.serde_ipld_dagcbor.specs.Tagged.{SeenTagged, take_tagged, need_tagged, view_tagged, need_of_tagged};
 ghost use Rattle.serde_ipld_dagcbor.specs.declared.tests.tagged.CidInInternallyTaggedEnum.TheVariants as tagged;
 
+use crate::tests::links::{LINK, joined};
 use crate::tests::required::required;
 use crate::{
     Cid, DecodeError, Deserialize, Deserializer, Fields, Read, Shown, from_slice, read_into,
@@ -90,11 +91,10 @@ impl<'de> Deserialize<'de> for CidInInternallyTaggedEnum {
 
 #[test]
 fn an_enum_named_by_a_field_is_read(rt: HostRuntime) -> Result<(), Fail> {
-    let CidInInternallyTaggedEnum::MyCid { cid } = from_slice(
-        rt.alloc(),
-        b"\xa2\x63cid\xd8\x2a\x49\x00\x01\xce\x01\x9b\x01\x02\x63\xc8\x64type\x65MyCid",
-    )?;
-    assert!(rt; cid == Cid::new_v1(206, 155, b"\x63\xc8")?);
+    let alloc = rt.alloc();
+    let bytes = joined(alloc, &[b"\xa2\x63cid", LINK, b"\x64type\x65MyCid"])?;
+    let CidInInternallyTaggedEnum::MyCid { cid } = from_slice(alloc, &bytes)?;
+    assert!(rt; cid == from_slice(alloc, LINK)?);
     Ok(())
 }
 
@@ -109,13 +109,8 @@ fn is_refused(alloc: Global, bytes: &[u8], told: &str) -> bool {
 #[test]
 fn another_name_or_none_is_refused(rt: HostRuntime) -> Result<(), Fail> {
     let alloc = rt.alloc();
-    assert!(rt;
-        is_refused(
-            alloc,
-            b"\xa2\x63cid\xd8\x2a\x49\x00\x01\xce\x01\x9b\x01\x02\x63\xc8\x64type\x65Other",
-            "No matching enum variant found"
-        )
-    );
+    let bytes = joined(alloc, &[b"\xa2\x63cid", LINK, b"\x64type\x65Other"])?;
+    assert!(rt; is_refused(alloc, &bytes, "No matching enum variant found"));
     assert!(rt; is_refused(alloc, b"\xa1\x64type\x65MyCid", "missing field"));
     assert!(rt; is_refused(alloc, b"\xa0", "missing field"));
     Ok(())

@@ -1,10 +1,10 @@
-use Rattle.std.proofs.Common.{◌^◌, refl, sym, ◌∙◌, ap}
-use Rattle.std.specs.Prelude.{Some, codes, option_map}
+use Rattle.std.proofs.Common.{◌^◌, refl, sym, ◌∙◌, rules}
+use Rattle.std.specs.Prelude.{Some, codes}
 use Rattle.dagcbor_read.specs.Views.{view_unsigned, no_need}
 use Rattle.dagcbor_read.proofs.EntryLoops.{map_begun, key_refused, at_value, value_refused, value_read, skip_refused, value_skipped, map_ended, slotted}
 use Rattle.dagcbor_read.proofs.FieldPlaces.{other_name}
 use Rattle.dagcbor_read.proofs.Finishing.{handed_on, finished, unfinished}
-use Rattle.serde_ipld_dagcbor.specs.One.{take_one, need_one, unseen_one, finish_one}
+use Rattle.serde_ipld_dagcbor.specs.One.{take_one, need_one, unseen_one}
 use Rattle.serde_ipld_dagcbor.proofs.tests.one_by_loop.read_one_by_loop.Goals as goal
 use Rattle.serde_ipld_dagcbor.proofs.tests.one_by_loop.read_one_by_loop.Goals.{in-a+in_ok-next_value-in-a, in_default-as_str+in_ok-next_value-in_default-as_str}
 
@@ -12,20 +12,19 @@ pub loop-entries-init : goal.loop-entries-init
 loop-entries-init g c = map_begun take_one need_one unseen_one _ _ _ (codes "map") _ c.in_ok-entries.ensures
 
 pub returns-in_err-key : goal.returns-in_err-key
-returns-in_err-key g c = handed_on _ _ finish_one _ _ _ _ _ _ c.from_residual-in_err-key.ensures.1 (key_refused _ _ _ _ _ _ _ _ c.loop-entries.invariant c.in_err-key.ensures.key)
+returns-in_err-key g c = handed_on _ _ _ _ _ _ _ _ _ c.from_residual-in_err-key.ensures.1 (key_refused _ _ _ _ _ _ _ _ c.loop-entries.invariant c.in_err-key.ensures.key)
 
 pub returns-in_err-next_value-in-a : goal.returns-in_err-next_value-in-a
 returns-in_err-next_value-in-a g c =
     let at = at_value _ _ _ _ _ _ _ _ _ c.loop-entries.invariant c.in-Some.is c.in_ok-key.ensures.key c.in_ok-key.ensures.after in
-    handed_on _ _ finish_one _ _ _ _ _ _ c.from_residual-in_err-next_value-in-a.ensures.1
+    handed_on _ _ _ _ _ _ _ _ _ c.from_residual-in_err-next_value-in-a.ensures.1
     (value_refused _ _ _ _ _ _ _ _ _ (codes "a") (λ a. record { a = Some a }) _ _ _ at (sym c.as_str.ensures.value ∙ c.in-a.is) (λ t. slotted _ _) (λ t. refl) (λ l. l) c.in_err-next_value-in-a.ensures.value)
 
 pub returns-in_err-next_value-in_default-as_str : goal.returns-in_err-next_value-in_default-as_str
 returns-in_err-next_value-in_default-as_str g c =
     let at = at_value _ _ _ _ _ _ _ _ _ c.loop-entries.invariant c.in-Some.is c.in_ok-key.ensures.key c.in_ok-key.ensures.after in
-    let a = other_name (λ e. c.in_default-as_str.not-a (c.as_str.ensures.value ∙ e)) in
-    handed_on _ _ finish_one _ _ _ _ _ _ c.from_residual-in_err-next_value-in_default-as_str.ensures.1
-    (skip_refused _ _ _ _ _ _ _ _ _ at (λ t. rw a refl) (λ t. rw a refl) c.in_err-next_value-in_default-as_str.ensures.value)
+    handed_on _ _ _ _ _ _ _ _ _ c.from_residual-in_err-next_value-in_default-as_str.ensures.1
+    (skip_refused _ _ _ _ _ _ _ _ _ at (λ t. search (rules, other_name)) (λ t. search (rules, other_name)) c.in_err-next_value-in_default-as_str.ensures.value)
 
 pub loop-entries-preserved-after-as_str : goal.loop-entries-preserved-after-as_str
 loop-entries-preserved-after-as_str g c =
@@ -33,8 +32,7 @@ loop-entries-preserved-after-as_str g c =
     elim c.match-as_str.branch [
       | in-a+in_ok-next_value-in-a w ↦ rw (w.a-is, w.entries-is, w.de-is) (value_read _ _ _ _ _ (view_unsigned (2 ^ 8)) no_need (codes "a") (λ a. record { a = Some a }) _ _ _ _ at (sym c.as_str.ensures.value ∙ w.in-a.is) (λ t. slotted _ _) (λ t. refl) refl w.in_ok-next_value-in-a.ensures.after w.in_ok-next_value-in-a.ensures.value)
       | in_default-as_str+in_ok-next_value-in_default-as_str w ↦
-          let a = other_name (λ e. w.in_default-as_str.not-a (c.as_str.ensures.value ∙ e)) in
-          rw (w.a-is, w.entries-is, w.de-is) (value_skipped _ _ _ _ _ _ _ _ at (λ t. rw a refl) (λ t. rw a refl) w.in_ok-next_value-in_default-as_str.ensures.after w.in_ok-next_value-in_default-as_str.ensures.value)
+          rw (w.a-is, w.entries-is, w.de-is) (value_skipped _ _ _ _ _ _ _ _ at (λ t. search (rules, other_name)) (λ t. search (rules, other_name)) w.in_ok-next_value-in_default-as_str.ensures.after w.in_ok-next_value-in_default-as_str.ensures.value)
     ]
 
 pub loop-entries-preserved : goal.loop-entries-preserved
@@ -43,12 +41,11 @@ loop-entries-preserved g c =
     elim c.match-as_str.branch [
       | in-a+in_ok-next_value-in-a w ↦ rw (w.a-is, w.entries-is, w.de-is) (value_read _ _ _ _ _ (view_unsigned (2 ^ 8)) no_need (codes "a") (λ a. record { a = Some a }) _ _ _ _ at (sym c.as_str.ensures.value ∙ w.in-a.is) (λ t. slotted _ _) (λ t. refl) refl w.in_ok-next_value-in-a.ensures.after w.in_ok-next_value-in-a.ensures.value)
       | in_default-as_str+in_ok-next_value-in_default-as_str w ↦
-          let a = other_name (λ e. w.in_default-as_str.not-a (c.as_str.ensures.value ∙ e)) in
-          rw (w.a-is, w.entries-is, w.de-is) (value_skipped _ _ _ _ _ _ _ _ at (λ t. rw a refl) (λ t. rw a refl) w.in_ok-next_value-in_default-as_str.ensures.after w.in_ok-next_value-in_default-as_str.ensures.value)
+          rw (w.a-is, w.entries-is, w.de-is) (value_skipped _ _ _ _ _ _ _ _ at (λ t. search (rules, other_name)) (λ t. search (rules, other_name)) w.in_ok-next_value-in_default-as_str.ensures.after w.in_ok-next_value-in_default-as_str.ensures.value)
     ]
 
 pub returns-in-Some-a : goal.returns-in-Some-a
-returns-in-Some-a g c = finished _ _ finish_one (λ _. map_ended _ _ _ _ _ _ _ _ _ _ c.loop-entries.invariant c.in_default.is c.in_ok-key.ensures.key c.in_ok-key.ensures.after c.in_ok-end.ensures) (ap (option_map (λ n. n)) c.in-Some-a.is)
+returns-in-Some-a g c = finished _ _ _ (λ _. map_ended _ _ _ _ _ _ _ _ _ _ c.loop-entries.invariant c.in_default.is c.in_ok-key.ensures.key c.in_ok-key.ensures.after c.in_ok-end.ensures) (search rules)
 
 pub returns-in-None : goal.returns-in-None
-returns-in-None g c = unfinished _ _ finish_one _ (c.custom.ensures.0, c.custom.ensures.1) (ap (option_map (λ n. n)) c.in-None.is) (λ _. map_ended _ _ _ _ _ _ _ _ _ _ c.loop-entries.invariant c.in_default.is c.in_ok-key.ensures.key c.in_ok-key.ensures.after c.in_ok-end.ensures)
+returns-in-None g c = unfinished _ _ _ _ (c.custom.ensures.0, c.custom.ensures.1) (search rules) (λ _. map_ended _ _ _ _ _ _ _ _ _ _ c.loop-entries.invariant c.in_default.is c.in_ok-key.ensures.key c.in_ok-key.ensures.after c.in_ok-end.ensures)

@@ -1,14 +1,12 @@
-use Rattle.std.proofs.Common.{refl}
-use Rattle.dagcbor_heads.proofs.Refusing.{refused}
-use Rattle.dagcbor_read.proofs.FieldPlaces.{finished, unfinished, not_read}
-use Rattle.serde_ipld_dagcbor.specs.Mascot.{take_mascot, need_mascot, unseen_mascot, finish_mascot}
+use Rattle.std.proofs.Common.{rules}
+use Rattle.dagcbor_read.proofs.Finishing.{missing}
 use Rattle.serde_ipld_dagcbor.proofs.tests.mascot.MascotDeserialize.deserialize.Goals as goal
 
 pub returns-in_err-name : goal.returns-in_err-name
-returns-in_err-name g c = λ f. refused _ _ _ _ c.from_residual-in_err-name.ensures.1 (unfinished take_mascot need_mascot unseen_mascot finish_mascot _ _ c.in_err-name.ensures.1.0 c.in_err-name.ensures.1.1 (rw c.in_err-name.ensures.0 refl) c.in_ok-fields.ensures f)
+returns-in_err-name g c = missing _ _ _ _ _ _ c.from_residual-in_err-name.ensures.1 c.in_err-name.ensures.1 (search rules) c.in_ok-fields.ensures
 
 pub returns-in_err-species : goal.returns-in_err-species
-returns-in_err-species g c = λ f. refused _ _ _ _ c.from_residual-in_err-species.ensures.1 (unfinished take_mascot need_mascot unseen_mascot finish_mascot _ _ c.in_err-species.ensures.1.0 c.in_err-species.ensures.1.1 (rw (c.in_ok-name.ensures, c.in_err-species.ensures.0) refl) c.in_ok-fields.ensures f)
+returns-in_err-species g c = missing _ _ _ _ _ _ c.from_residual-in_err-species.ensures.1 c.in_err-species.ensures.1 (search rules) c.in_ok-fields.ensures
 
 pub returns-in_err-year_of_birth : goal.returns-in_err-year_of_birth
-returns-in_err-year_of_birth g c = λ f. refused _ _ _ _ c.from_residual-in_err-year_of_birth.ensures.1 (unfinished take_mascot need_mascot unseen_mascot finish_mascot _ _ c.in_err-year_of_birth.ensures.1.0 c.in_err-year_of_birth.ensures.1.1 (rw (c.in_ok-name.ensures, c.in_ok-species.ensures, c.in_err-year_of_birth.ensures.0) refl) c.in_ok-fields.ensures f)
+returns-in_err-year_of_birth g c = missing _ _ _ _ _ _ c.from_residual-in_err-year_of_birth.ensures.1 c.in_err-year_of_birth.ensures.1 (search rules) c.in_ok-fields.ensures

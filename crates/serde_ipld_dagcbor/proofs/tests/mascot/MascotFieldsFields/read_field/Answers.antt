@@ -1,15 +1,6 @@
-use Rattle.std.proofs.Common.{◌^◌, refl, false}
-use Rattle.std.specs.Prelude.{option_map, codes, string_bytes}
-use Rattle.dagcbor_read.specs.Views.{view_text, view_unsigned, no_need}
-use Rattle.dagcbor_read.specs.Collections.{view_slot}
-use Rattle.dagcbor_read.proofs.FieldPlaces.{field_read, field_skipped, other_name}
-use Rattle.serde_ipld_dagcbor.specs.Mascot.{SeenMascot, take_mascot, need_mascot}
-use Rattle.serde_ipld_dagcbor.specs.declared.tests.mascot.MascotFields.{MascotFields}
+use Rattle.std.proofs.Common.{rules}
+use Rattle.dagcbor_read.proofs.FieldPlaces.{other_name}
 use Rattle.serde_ipld_dagcbor.proofs.tests.mascot.MascotFieldsFields.read_field.Goals as goal
 
 pub returns-in_default : goal.returns-in_default
-returns-in_default g c =
-    let name = other_name c.in_default.not-name in
-    let species = other_name c.in_default.not-species in
-    let year_of_birth = other_name c.in_default.not-year_of_birth in
-    field_skipped take_mascot need_mascot _ c.args.key.now false _ _ _ (λ t. rw (name, species, year_of_birth) refl) (λ t. rw (name, species, year_of_birth) refl) refl c.skip_value.ensures
+returns-in_default g c = search (rules, other_name)

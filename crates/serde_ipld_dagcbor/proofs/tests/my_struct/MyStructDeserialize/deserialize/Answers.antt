@@ -1,10 +1,9 @@
-use Rattle.std.proofs.Common.{refl}
-use Rattle.serde_ipld_dagcbor.specs.MyStruct.{finish_my_struct}
+use Rattle.std.proofs.Common.{rules}
 use Rattle.dagcbor_read.proofs.Finishing.{missing}
 use Rattle.serde_ipld_dagcbor.proofs.tests.my_struct.MyStructDeserialize.deserialize.Goals as goal
 
 pub returns-in_err-cid : goal.returns-in_err-cid
-returns-in_err-cid g c = missing _ _ finish_my_struct _ _ _ c.from_residual-in_err-cid.ensures.1 c.in_err-cid.ensures.1 (rw c.in_err-cid.ensures.0 refl) c.in_ok-fields.ensures
+returns-in_err-cid g c = missing _ _ _ _ _ _ c.from_residual-in_err-cid.ensures.1 c.in_err-cid.ensures.1 (search rules) c.in_ok-fields.ensures
 
 pub returns-in_err-data : goal.returns-in_err-data
-returns-in_err-data g c = missing _ _ finish_my_struct _ _ _ c.from_residual-in_err-data.ensures.1 c.in_err-data.ensures.1 (rw (c.in_ok-cid.ensures, c.in_err-data.ensures.0) refl) c.in_ok-fields.ensures
+returns-in_err-data g c = missing _ _ _ _ _ _ c.from_residual-in_err-data.ensures.1 c.in_err-data.ensures.1 (search rules) c.in_ok-fields.ensures

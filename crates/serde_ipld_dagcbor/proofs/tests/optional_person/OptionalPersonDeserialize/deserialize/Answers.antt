@@ -1,10 +1,6 @@
-use Rattle.std.proofs.Common.{refl}
-use Rattle.std.specs.Prelude.{string_bytes}
-use Rattle.dagcbor_heads.proofs.Refusing.{refused}
-use Rattle.dagcbor_read.proofs.FieldPlaces.{finished, unfinished, not_read}
-use Rattle.serde_ipld_dagcbor.specs.OptionalPerson.{take_optional_person, need_optional_person, unseen_optional_person, finish_optional_person}
-use Rattle.serde_ipld_dagcbor.proofs.Places.{flattened}
+use Rattle.std.proofs.Common.{rules}
+use Rattle.dagcbor_read.proofs.Finishing.{missing}
 use Rattle.serde_ipld_dagcbor.proofs.tests.optional_person.OptionalPersonDeserialize.deserialize.Goals as goal
 
 pub returns-in_err-name : goal.returns-in_err-name
-returns-in_err-name g c = λ f. refused _ _ _ _ c.from_residual-in_err-name.ensures.1 (unfinished take_optional_person need_optional_person unseen_optional_person finish_optional_person _ _ c.in_err-name.ensures.1.0 c.in_err-name.ensures.1.1 (rw c.in_err-name.ensures.0 refl) c.in_ok-fields.ensures f)
+returns-in_err-name g c = missing _ _ _ _ _ _ c.from_residual-in_err-name.ensures.1 c.in_err-name.ensures.1 (search rules) c.in_ok-fields.ensures

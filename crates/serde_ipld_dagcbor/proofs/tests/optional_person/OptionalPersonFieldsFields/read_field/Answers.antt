@@ -1,15 +1,6 @@
-use Rattle.std.proofs.Common.{◌^◌, refl, false}
-use Rattle.std.specs.Prelude.{option_map, codes, string_bytes}
-use Rattle.dagcbor_read.specs.Views.{need_option, view_option, view_text, view_unsigned, no_need}
-use Rattle.dagcbor_read.specs.Collections.{view_slot}
-use Rattle.dagcbor_read.proofs.FieldPlaces.{field_read, field_skipped, other_name}
-use Rattle.serde_ipld_dagcbor.specs.OptionalPerson.{SeenOptionalPerson, take_optional_person, need_optional_person}
-use Rattle.serde_ipld_dagcbor.specs.declared.tests.optional_person.OptionalPersonFields.{OptionalPersonFields}
+use Rattle.std.proofs.Common.{rules}
+use Rattle.dagcbor_read.proofs.FieldPlaces.{other_name}
 use Rattle.serde_ipld_dagcbor.proofs.tests.optional_person.OptionalPersonFieldsFields.read_field.Goals as goal
 
 pub returns-in_default : goal.returns-in_default
-returns-in_default g c =
-    let name = other_name c.in_default.not-name in
-    let year_of_birth = other_name c.in_default.not-year_of_birth in
-    let profession = other_name c.in_default.not-profession in
-    field_skipped take_optional_person need_optional_person _ c.args.key.now false _ _ _ (λ t. rw (name, year_of_birth, profession) refl) (λ t. rw (name, year_of_birth, profession) refl) refl c.skip_value.ensures
+returns-in_default g c = search (rules, other_name)

@@ -13,8 +13,7 @@ abbrev fields : ℕ → String Global → List Pair
 fields x y = field (codes "x") (Some (integer (pos x))) ∷ field (codes "y") (Some (text (string_bytes y))) ∷ []
 
 pub returns-in_err-parts-in-B-clause-written : goal.returns-in_err-parts-in-B-clause-written
-returns-in_err-parts-in-B-clause-written g c =
-    rw c.in-B.is (exit-part (begin-tuple-variant (codes "B") (parts c.in-B.flag c.in-B.n) (g.W.Write.written c.args.ser.now)) _ _ _ c.from_residual.ensures.1 (rw c.in_err-parts-in-B.was at c.serialize_tuple_variant.follows.holds-at-none))
+returns-in_err-parts-in-B-clause-written g c = rw c.in-B.is (exit-part (begin-tuple-variant (codes "B") (parts c.in-B.flag c.in-B.n) (g.W.Write.written c.args.ser.now)) _ _ _ c.from_residual.ensures.1 (rw c.in_err-parts-in-B.was at c.serialize_tuple_variant.follows.holds-at-none))
 
 pub returns-in_err-serialize_field-in-B-clause-written : goal.returns-in_err-serialize_field-in-B-clause-written
 returns-in_err-serialize_field-in-B-clause-written g c =
@@ -35,16 +34,13 @@ returns-in_ok-serialize_field-in-B-2-clause-written g c =
     rw c.in-B.is (Writes-at _ _ _ _ _ (search rules) (Writes-ok _ _ _ _ c.end.ensures.ok (all-written w)))
 
 pub returns-in_err-fields-in-C-clause-written : goal.returns-in_err-fields-in-C-clause-written
-returns-in_err-fields-in-C-clause-written g c =
-    rw c.in-C.is (exit-part (begin-struct-variant (codes "C") (fields c.in-C.x c.in-C.y) 2 _ refl) _ _ _ c.from_residual-in_err-fields-in-C.ensures.1 (rw c.in_err-fields-in-C.was at c.serialize_struct_variant.follows.holds-at-none))
+returns-in_err-fields-in-C-clause-written g c = rw c.in-C.is (exit-part (begin-struct-variant (codes "C") (fields c.in-C.x c.in-C.y) 2 _ refl) _ _ _ c.from_residual-in_err-fields-in-C.ensures.1 (rw c.in_err-fields-in-C.was at c.serialize_struct_variant.follows.holds-at-none))
 
 pub returns-in_err-serialize_field-in-C-clause-written : goal.returns-in_err-serialize_field-in-C-clause-written
-returns-in_err-serialize_field-in-C-clause-written g c =
-    rw c.in-C.is (exit-field 2 (fields c.in-C.x c.in-C.y) (begin-struct-variant (codes "C") (fields c.in-C.x c.in-C.y) 2 _ refl) c.in_ok-fields-in-C.ensures.head 0 (None, None) (lit< tt) _ _ _ c.in_err-serialize_field-in-C.ensures.entry c.from_residual-in_err-serialize_field-in-C.ensures.1 (search rules))
+returns-in_err-serialize_field-in-C-clause-written g c = rw c.in-C.is (exit-field 2 (fields c.in-C.x c.in-C.y) (begin-struct-variant (codes "C") (fields c.in-C.x c.in-C.y) 2 _ refl) c.in_ok-fields-in-C.ensures.head 0 (None, None) (lit< tt) _ _ _ c.in_err-serialize_field-in-C.ensures.entry c.from_residual-in_err-serialize_field-in-C.ensures.1 (search rules))
 
 pub returns-in_err-serialize_field-in-C-2-clause-written : goal.returns-in_err-serialize_field-in-C-2-clause-written
-returns-in_err-serialize_field-in-C-2-clause-written g c =
-    rw c.in-C.is (exit-field 2 (fields c.in-C.x c.in-C.y) (begin-struct-variant (codes "C") (fields c.in-C.x c.in-C.y) 2 _ refl) c.in_ok-fields-in-C.ensures.head 1 (None, None) (lit< tt) _ _ _ c.in_err-serialize_field-in-C-2.ensures.entry c.from_residual-in_err-serialize_field-in-C-2.ensures.1 (search rules))
+returns-in_err-serialize_field-in-C-2-clause-written g c = rw c.in-C.is (exit-field 2 (fields c.in-C.x c.in-C.y) (begin-struct-variant (codes "C") (fields c.in-C.x c.in-C.y) 2 _ refl) c.in_ok-fields-in-C.ensures.head 1 (None, None) (lit< tt) _ _ _ c.in_err-serialize_field-in-C-2.ensures.entry c.from_residual-in_err-serialize_field-in-C-2.ensures.1 (search rules))
 
 pub returns-in_ok-serialize_field-in-C-2-clause-written : goal.returns-in_ok-serialize_field-in-C-2-clause-written
 returns-in_ok-serialize_field-in-C-2-clause-written g c =

@@ -19,16 +19,13 @@ abbrev three : OptionalPerson → ℕ → List Pair
 three p year = name_field p ∷ field (codes "year_of_birth") (Some (integer (pos year))) ∷ profession_field p ∷ []
 
 pub returns-in_err-fields-in-None-clause-written : goal.returns-in_err-fields-in-None-clause-written
-returns-in_err-fields-in-None-clause-written g c =
-    rw c.in-None.is (exit-part (begin-struct (two c.args.self.now) 2 _ refl) _ _ _ c.from_residual.ensures.1 (rw c.in_err-fields-in-None.was at c.serialize_struct.follows.holds-at-none))
+returns-in_err-fields-in-None-clause-written g c = rw c.in-None.is (exit-part (begin-struct (two c.args.self.now) 2 _ refl) _ _ _ c.from_residual.ensures.1 (rw c.in_err-fields-in-None.was at c.serialize_struct.follows.holds-at-none))
 
 pub returns-in_err-serialize_field-in-None-clause-written : goal.returns-in_err-serialize_field-in-None-clause-written
-returns-in_err-serialize_field-in-None-clause-written g c =
-    rw c.in-None.is (exit-field 2 (two c.args.self.now) (begin-struct (two c.args.self.now) 2 _ refl) c.in_ok-fields-in-None.ensures.head 0 (None, None) (lit< tt) _ _ _ c.in_err-serialize_field-in-None.ensures.entry c.from_residual-in_err-serialize_field-in-None.ensures.1 (search rules))
+returns-in_err-serialize_field-in-None-clause-written g c = rw c.in-None.is (exit-field 2 (two c.args.self.now) (begin-struct (two c.args.self.now) 2 _ refl) c.in_ok-fields-in-None.ensures.head 0 (None, None) (lit< tt) _ _ _ c.in_err-serialize_field-in-None.ensures.entry c.from_residual-in_err-serialize_field-in-None.ensures.1 (search rules))
 
 pub returns-in_err-serialize_field-in-None-2-clause-written : goal.returns-in_err-serialize_field-in-None-2-clause-written
-returns-in_err-serialize_field-in-None-2-clause-written g c =
-    rw c.in-None.is (exit-field 2 (two c.args.self.now) (begin-struct (two c.args.self.now) 2 _ refl) c.in_ok-fields-in-None.ensures.head 1 (None, None) (lit< tt) _ _ _ c.in_err-serialize_field-in-None-2.ensures.entry c.from_residual-in_err-serialize_field-in-None-2.ensures.1 (search rules))
+returns-in_err-serialize_field-in-None-2-clause-written g c = rw c.in-None.is (exit-field 2 (two c.args.self.now) (begin-struct (two c.args.self.now) 2 _ refl) c.in_ok-fields-in-None.ensures.head 1 (None, None) (lit< tt) _ _ _ c.in_err-serialize_field-in-None-2.ensures.entry c.from_residual-in_err-serialize_field-in-None-2.ensures.1 (search rules))
 
 pub returns-in_ok-serialize_field-in-None-2-clause-written : goal.returns-in_ok-serialize_field-in-None-2-clause-written
 returns-in_ok-serialize_field-in-None-2-clause-written g c =
@@ -38,20 +35,16 @@ returns-in_ok-serialize_field-in-None-2-clause-written g c =
     rw c.in-None.is (end-struct 2 _ (begin-struct (two c.args.self.now) 2 _ refl) c.in_ok-fields-in-None.ensures.head given (search rules) _ _ _ _ c.end.ensures.written (search rules) (search rules))
 
 pub returns-in_err-fields-in-Some-clause-written : goal.returns-in_err-fields-in-Some-clause-written
-returns-in_err-fields-in-Some-clause-written g c =
-    rw c.in-Some.is (exit-part (begin-struct (three c.args.self.now c.in-Some.year) 3 _ refl) _ _ _ c.from_residual-in_err-fields-in-Some.ensures.1 (rw c.in_err-fields-in-Some.was at c.serialize_struct-in-Some.follows.holds-at-none))
+returns-in_err-fields-in-Some-clause-written g c = rw c.in-Some.is (exit-part (begin-struct (three c.args.self.now c.in-Some.year) 3 _ refl) _ _ _ c.from_residual-in_err-fields-in-Some.ensures.1 (rw c.in_err-fields-in-Some.was at c.serialize_struct-in-Some.follows.holds-at-none))
 
 pub returns-in_err-serialize_field-in-Some-clause-written : goal.returns-in_err-serialize_field-in-Some-clause-written
-returns-in_err-serialize_field-in-Some-clause-written g c =
-    rw c.in-Some.is (exit-field 3 (three c.args.self.now c.in-Some.year) (begin-struct (three c.args.self.now c.in-Some.year) 3 _ refl) c.in_ok-fields-in-Some.ensures.head 0 (None, None) (lit< tt) _ _ _ c.in_err-serialize_field-in-Some.ensures.entry c.from_residual-in_err-serialize_field-in-Some.ensures.1 (search rules))
+returns-in_err-serialize_field-in-Some-clause-written g c = rw c.in-Some.is (exit-field 3 (three c.args.self.now c.in-Some.year) (begin-struct (three c.args.self.now c.in-Some.year) 3 _ refl) c.in_ok-fields-in-Some.ensures.head 0 (None, None) (lit< tt) _ _ _ c.in_err-serialize_field-in-Some.ensures.entry c.from_residual-in_err-serialize_field-in-Some.ensures.1 (search rules))
 
 pub returns-in_err-serialize_field-in-Some-2-clause-written : goal.returns-in_err-serialize_field-in-Some-2-clause-written
-returns-in_err-serialize_field-in-Some-2-clause-written g c =
-    rw c.in-Some.is (exit-field 3 (three c.args.self.now c.in-Some.year) (begin-struct (three c.args.self.now c.in-Some.year) 3 _ refl) c.in_ok-fields-in-Some.ensures.head 1 (None, None) (lit< tt) _ _ _ c.in_err-serialize_field-in-Some-2.ensures.entry c.from_residual-in_err-serialize_field-in-Some-2.ensures.1 (search rules))
+returns-in_err-serialize_field-in-Some-2-clause-written g c = rw c.in-Some.is (exit-field 3 (three c.args.self.now c.in-Some.year) (begin-struct (three c.args.self.now c.in-Some.year) 3 _ refl) c.in_ok-fields-in-Some.ensures.head 1 (None, None) (lit< tt) _ _ _ c.in_err-serialize_field-in-Some-2.ensures.entry c.from_residual-in_err-serialize_field-in-Some-2.ensures.1 (search rules))
 
 pub returns-in_err-serialize_field-in-Some-3-clause-written : goal.returns-in_err-serialize_field-in-Some-3-clause-written
-returns-in_err-serialize_field-in-Some-3-clause-written g c =
-    rw c.in-Some.is (exit-field 3 (three c.args.self.now c.in-Some.year) (begin-struct (three c.args.self.now c.in-Some.year) 3 _ refl) c.in_ok-fields-in-Some.ensures.head 2 (None, None) (lit< tt) _ _ _ c.in_err-serialize_field-in-Some-3.ensures.entry c.from_residual-in_err-serialize_field-in-Some-3.ensures.1 (search rules))
+returns-in_err-serialize_field-in-Some-3-clause-written g c = rw c.in-Some.is (exit-field 3 (three c.args.self.now c.in-Some.year) (begin-struct (three c.args.self.now c.in-Some.year) 3 _ refl) c.in_ok-fields-in-Some.ensures.head 2 (None, None) (lit< tt) _ _ _ c.in_err-serialize_field-in-Some-3.ensures.entry c.from_residual-in_err-serialize_field-in-Some-3.ensures.1 (search rules))
 
 pub returns-in_ok-serialize_field-in-Some-3-clause-written : goal.returns-in_ok-serialize_field-in-Some-3-clause-written
 returns-in_ok-serialize_field-in-Some-3-clause-written g c =

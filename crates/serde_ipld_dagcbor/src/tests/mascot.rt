@@ -13,6 +13,9 @@ use crate::{
     to_writer,
 };
 use std::alloc::Global;
+use std::fs;
+use std::fs::File;
+use std::io::{BufReader, BufWriter, Write as _};
 use std::test::Fail;
 
 #[derive(Drop)]
@@ -162,5 +165,26 @@ fn a_mascot_goes_to_a_device_and_back(rt: HostRuntime) -> Result<(), Fail> {
     assert_eq!(rt; back.name.as_str(), "Ferris");
     assert_eq!(rt; back.species.as_str(), "crab");
     assert_eq!(rt; back.year_of_birth, 2015);
+    Ok(())
+}
+
+/// The README quotes this.
+#[test]
+fn a_mascot_goes_to_a_file_and_back(rt: HostRuntime) -> Result<(), Fail> {
+    let ferris = Mascot {
+        name: String::from_str(rt.alloc(), "Ferris")?,
+        species: String::from_str(rt.alloc(), "crab")?,
+        year_of_birth: 2015,
+    };
+    let mut file = BufWriter::new(rt.alloc(), File::create(&rt, "ferris.cbor")?)?;
+    to_writer(rt.alloc(), &mut file, &ferris)?;
+    file.flush()?;
+
+    let source = BufReader::new(rt.alloc(), File::open(&rt, "ferris.cbor")?)?;
+    let back: Mascot = from_reader(rt.alloc(), source)?;
+    assert_eq!(rt; back.name.as_str(), "Ferris");
+    assert_eq!(rt; back.species.as_str(), "crab");
+    assert_eq!(rt; back.year_of_birth, 2015);
+    fs::remove_file(&rt, "ferris.cbor")?;
     Ok(())
 }

@@ -1,5 +1,5 @@
--- Reading a whole input as one item.
-use Rattle.std.specs.Prelude.{◌≡◌, ℕ, ◌<◌, ◌≤◌, List, length, Option, Some, Result, MatchResult, ⊤}
+-- Reading a whole input as one item, and its first item alone.
+use Rattle.std.specs.Prelude.{◌≡◌, ℕ, ◌<◌, ◌≤◌, List, length, Option, Some, IfSome, Result, MatchResult, ⊤}
 use Rattle.std.specs.declared.convert.Infallible.{Infallible}
 use Rattle.dagcbor_heads.specs.declared.error.DecodeError.{DecodeError}
 use Rattle.dagcbor_heads.specs.declared.error.DecodeError.TheVariants.{Read, RequireBorrowed, OutOfMemory, Failed, TrailingData}
@@ -34,15 +34,38 @@ ReadsSlice b result = MatchResult result (λ v. IsBlock b (tree_of v)) (λ e. Sl
 abbrev pub IsWhole : {V : Type 0} → (Tree → Option V) → (Tree → ℕ) → List ℕ → V → Type 0
 IsWhole view need b v = (t : Tree) × IsSpelling b t × (view t ≡ Some v) × (need t ≤ 256)
 
--- why a slice is refused as a type: for want of memory, or since it is no spelling of a tree that the type accepts within
--- 256 steps; a slice does not fault, and lends
-abbrev pub WholeRefused : {V : Type 0} → (Tree → Option V) → (Tree → ℕ) → DecodeError Infallible → List ℕ → Type 0
-WholeRefused view need (Read e) b = ⊥
-WholeRefused view need OutOfMemory b = ⊤
-WholeRefused view need (RequireBorrowed name) b = ⊥
-WholeRefused view need Failed b = ⊥
-WholeRefused {V} view need e b = (v : V) → IsWhole view need b v → ⊥
+-- why an input is refused as a type: for a fault of its source, where there may be one; for want of memory; or since its bytes,
+-- where they are known, are no spelling of a tree that the type accepts within 256 steps
+abbrev pub WholeRefused : {V E : Type 0} → Type 0 → (Tree → Option V) → (Tree → ℕ) → Option (List ℕ) → DecodeError E → Type 0
+WholeRefused faults view need left (Read e) = faults
+WholeRefused faults view need left OutOfMemory = ⊤
+WholeRefused faults view need left (RequireBorrowed name) = ⊥
+WholeRefused faults view need left Failed = ⊥
+WholeRefused {V} faults view need left e = IfSome left (λ b. (v : V) → IsWhole view need b v → ⊥)
 
--- A slice is read as a type exactly where it is the spelling of a tree that the type accepts within 256 steps.
-abbrev pub ReadsWhole : {T V : Type 0} → (T → V) → (Tree → Option V) → (Tree → ℕ) → List ℕ → Result T (DecodeError Infallible) → Type 0
-ReadsWhole held view need b result = MatchResult result (λ v. IsWhole view need b (held v)) (λ e. WholeRefused view need e b)
+-- An input, where its bytes are known, is read as a type exactly where they are the spelling of a tree that the type accepts
+-- within 256 steps; its source may fault where `faults`.
+abbrev pub ReadsWhole : {T V E : Type 0} → Type 0 → (T → V) → (Tree → Option V) → (Tree → ℕ) → Option (List ℕ) → Result T (DecodeError E) → Type 0
+ReadsWhole faults held view need left result = MatchResult result
+    (λ v. IfSome left (λ b. IsWhole view need b (held v)))
+    (λ e. WholeRefused faults view need left e)
+
+-- the bytes begin with the spelling of a tree that shows v to the type, within 256 steps, and the rest follows
+abbrev pub IsFirst : {V : Type 0} → (Tree → Option V) → (Tree → ℕ) → List ℕ → V → List ℕ → Type 0
+IsFirst view need b v rest = (t : Tree) × IsFront b t rest × (view t ≡ Some v) × (need t ≤ 256)
+
+-- why the first item is refused as a type: for a fault of the source, for want of memory, or since the bytes, where they are
+-- known, begin with no spelling of a tree that the type accepts within 256 steps
+abbrev pub FirstRefused : {V E : Type 0} → (Tree → Option V) → (Tree → ℕ) → Option (List ℕ) → DecodeError E → Type 0
+FirstRefused view need left (Read e) = ⊤
+FirstRefused view need left OutOfMemory = ⊤
+FirstRefused view need left (RequireBorrowed name) = ⊥
+FirstRefused view need left Failed = ⊥
+FirstRefused {V} view need left e = IfSome left (λ b. (v : V) (rest : List ℕ) → IsFirst view need b v rest → ⊥)
+
+-- The first item is read as a type exactly where the bytes, where they are known, begin with the spelling of a tree that the
+-- type accepts within 256 steps, and exactly the rest is left.
+abbrev pub ReadsFirst : {T V E : Type 0} → (T → V) → (Tree → Option V) → (Tree → ℕ) → Option (List ℕ) → Result T (DecodeError E) → Option (List ℕ) → Type 0
+ReadsFirst held view need old result new = MatchResult result
+    (λ v. IfSome old (λ b. (rest : List ℕ) × IsFirst view need b (held v) rest × (new ≡ Some rest)))
+    (λ e. FirstRefused view need old e)

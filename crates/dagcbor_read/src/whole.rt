@@ -1,5 +1,6 @@
 //! Reading one value.
 
+ghost use Rattle.std.specs.Prelude.{Some};
 ghost use Rattle.dagcbor_read.specs.Whole.{ReadsSlice, ReadsWhole};
 
 use crate::deserialize::Deserialize;
@@ -14,7 +15,7 @@ pub fn from_slice<'a, T: Deserialize<'a>>(
     alloc: Global,
     bytes: &'a [u8],
 ) -> Result<T, DecodeError<Infallible>>
-    ensures { ReadsWhole T.held T.view T.need bytes.now result }
+    ensures { ReadsWhole ⊥ T.held T.view T.need (Some bytes.now) result }
 {
     let mut de = Deserializer::from_slice(bytes);
     let value = T::deserialize(alloc, &mut de)?;

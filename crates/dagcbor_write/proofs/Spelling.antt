@@ -1,16 +1,17 @@
 -- What a write of a tree's spelling says.
 use Rattle.std.proofs.Common.{◌≡◌, ℕ, ◌^◌, ◌<◌, List, [], refl, sym, ap, subst, ◌∙◌, Option, None, Some, Result, Ok, Err, Vec, Global, cond, lt-ltb}
-use Rattle.std.specs.Prelude.{IfSome, IsSomeAnd, IsErrAnd}
+use Rattle.std.specs.Prelude.{IfSome, IsSomeAnd, IsErrAnd, OnOk}
+use Rattle.std.specs.Io.KnownBytes.{Appends}
 use Rattle.std.specs.declared.convert.Infallible.{Infallible}
 use Rattle.dagcbor_heads.specs.declared.error.EncodeError.{EncodeError}
 use Rattle.dagcbor_heads.specs.declared.error.EncodeError.TheVariants.{Msg, Write, OutOfMemory}
 use Rattle.dagcbor_heads.specs.Head.{head}
-use Rattle.dagcbor_heads.specs.Written.{Written, Writes, Stops}
+use Rattle.dagcbor_heads.specs.Written.{Written, Writes, Stops, WroteFront}
 use Rattle.ipld_tree.specs.Tree.{Tree, IsTree}
 use Rattle.ipld_tree.specs.Spelling.{IsSpellable, IsSpelling, spelling}
 use Rattle.ipld_tree.specs.Spelled.{spelled, spelled_tree, spelled_head}
 use Rattle.ipld_tree.proofs.Spelled.{spelled_is}
-use Rattle.dagcbor_write.specs.Answers.{IsAnswer}
+use Rattle.dagcbor_write.specs.Answers.{IsAnswer, Sends, SendsFront}
 
 -- a tree with a spelling is refused with no message
 no_message : (t : Tree) → IsSpellable t → spelled t ≡ None → ⊥
@@ -42,3 +43,30 @@ refusal_answered o (Err d) e old new h s = subst (λ x. IsAnswer o (Err x)) (sym
     by (Some t) (Msg m) s = λ k. no_message t k s.0
     by o (Write x) s = elim x [ ]
     by o OutOfMemory s = tt
+
+-- ---- what is sent
+
+sent : (o : Option Tree) (before after : Option (List ℕ)) (text : List ℕ) → IfSome o IsTree → spelled_tree o ≡ Some text → Appends before after text
+    → IsSomeAnd o (λ t. (b : List ℕ) × IsSpelling b t × Appends before after b)
+sent None before after text tree e a = let differ : None ≡ Some text = e in cc
+sent (Some t) before after text tree e a = let k = (spelled_is t text).0 e in (text, record { well_formed = tree; spellable = k.0; is = k.1 }, a)
+
+front_sent : (o : Option Tree) (old new : Written) → WroteFront (spelled_tree o) old new → SendsFront o old.bytes new.bytes
+front_sent None old new w = tt
+front_sent (Some t) old new w = λ k. subst (λ s. WroteFront s old new) ((spelled_is t (spelling t)).1 (k, refl)) w
+
+answered : {E : Type 0} (o : Option Tree) (r : Result (Unit {0}) (EncodeError E)) (old new : Written) → OnOk r (IfSome o IsTree) → Writes (spelled_tree o) old new r → Sends o old.bytes r new.bytes
+answered {E = E} o (Ok u) old new tree w = by (spelled_tree o) refl w
+  where
+    by : (s : Option (List ℕ)) → spelled_tree o ≡ s → Writes {T = Unit {0}} {E = E} s old new (Ok tt) → IsSomeAnd o (λ t. (b : List ℕ) × IsSpelling b t × Appends old.bytes new.bytes b)
+    by None e k = absurd k
+    by (Some text) e k = sent o old.bytes new.bytes text tree e k.0
+answered None (Err (Msg m)) old new tree w = tt
+answered (Some t) (Err (Msg m)) old new tree w = λ k. no_message t k w.0
+answered o (Err (Write e)) old new tree w = front_sent o old new w.0
+answered o (Err OutOfMemory) old new tree w = front_sent o old new w.0
+
+-- a writer over a device that held the bytes before, and holds those after
+pub device_answered : {E : Type 0} (o : Option Tree) (r : Result (Unit {0}) (EncodeError E)) (old new : Written) (before after : Option (List ℕ)) → OnOk r (IfSome o IsTree)
+    → Writes (spelled_tree o) old new r → old.bytes ≡ before → new.bytes ≡ after → Sends o before r after
+device_answered o r old new before after tree w e k = subst (λ b. Sends o before r b) k (subst (λ b. Sends o b r new.bytes) e (answered o r old new tree w))

@@ -24,7 +24,7 @@ pub use collect_map::CollectMap;
 pub use collect_seq::CollectSeq;
 pub use serialize::Serialize;
 pub use serializer::Serializer;
-pub use whole::to_vec;
+pub use whole::{to_vec, to_writer};
 
 #[cfg(test)]
 mod tests;

@@ -1,12 +1,13 @@
 //! Writing one value.
 
-ghost use Rattle.dagcbor_write.specs.Answers.{IsAnswer};
+ghost use Rattle.dagcbor_write.specs.Answers.{IsAnswer, Sends};
 
 use crate::serialize::Serialize;
 use crate::serializer::Serializer;
-use dagcbor_heads::{BufWriter, EncodeError};
+use dagcbor_heads::{BufWriter, EncodeError, IoRefWriter};
 use std::alloc::Global;
 use std::convert::Infallible;
+use std::io;
 
 /// The one spelling of the value's tree. Refused with `Msg` only where it has none, as an integer outside
 /// -2^64 to 2^64 - 1 has none.
@@ -16,4 +17,21 @@ pub fn to_vec<T: Serialize>(alloc: Global, value: &T) -> Result<Vec<u8>, EncodeE
     let mut ser = Serializer::new(BufWriter::new(Vec::new(alloc)));
     value.serialize(alloc, &mut ser)?;
     Ok(ser.into_inner().into_inner())
+}
+
+/// Writes the one spelling of the value's tree to the device. Refused with `Msg` as `to_vec`. After any other refusal the
+/// device has a beginning of the spelling, where there is one.
+pub fn to_writer<W: io::Write, T: Serialize>(
+    alloc: Global,
+    writer: &mut W,
+    value: &T,
+) -> Result<(), EncodeError<io::Error>>
+    ensures { Sends (T.tree value.now) (W.contents writer.old) result (W.contents writer.new) }
+{
+    let mut ser = Serializer::new(IoRefWriter::new(writer));
+    let result = value.serialize(alloc, &mut ser);
+    let device = ser.into_inner().into_inner();
+    // No effect at run time. The proof reads what `writer` holds from this use of `device`.
+    let _ = &*device;
+    result
 }

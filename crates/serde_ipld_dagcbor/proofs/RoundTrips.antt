@@ -27,7 +27,7 @@ read_then_written b value (Err (unwritten.Msg m)) h w = absurd (w (spelling_read
 read_then_written b value (Err (unwritten.Write e)) h w = absurd w
 read_then_written b value (Err unwritten.OutOfMemory) h w = tt
 
-no_refusal : (value : Ipld) (b : List ℕ) (e : DecodeError Infallible) → IsWhole Some any_need b (tree_of value) → WholeRefused Some any_need e b → IsReadBack value (Err e)
+no_refusal : (value : Ipld) (b : List ℕ) (e : DecodeError Infallible) → IsWhole Some any_need b (tree_of value) → WholeRefused ⊥ Some any_need (Some b) e → IsReadBack value (Err e)
 no_refusal value b (Read e) h r = r
 no_refusal value b OutOfMemory h r = tt
 no_refusal value b (RequireBorrowed name) h r = r

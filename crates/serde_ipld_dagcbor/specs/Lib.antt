@@ -1,4 +1,6 @@
 pub use Rattle.dagcbor_heads.specs.Reading
+pub use Rattle.dagcbor_heads.specs.Inputs
+pub use Rattle.dagcbor_heads.specs.IoReading
 pub use Rattle.dagcbor_heads.specs.Fronts
 pub use Rattle.dagcbor_heads.specs.Causes
 pub use Rattle.dagcbor_heads.specs.Refusals

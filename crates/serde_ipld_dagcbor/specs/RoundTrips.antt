@@ -20,7 +20,7 @@ IsWrittenBack b (Err _) = ⊥
 
 -- What was read of bytes is written as the same bytes.
 abbrev pub ReadThenWritten : Type 0
-ReadThenWritten = (b : List ℕ) (value : Ipld) (written : Result (Vec ℕ Global) (EncodeError Infallible)) → ReadsWhole tree_of Some any_need b (Ok value) → IsAnswer (Some (tree_of value)) written → IsWrittenBack b written
+ReadThenWritten = (b : List ℕ) (value : Ipld) (written : Result (Vec ℕ Global) (EncodeError Infallible)) → ReadsWhole {E = Infallible} ⊥ tree_of Some any_need (Some b) (Ok value) → IsAnswer (Some (tree_of value)) written → IsWrittenBack b written
 
 -- a value of the same tree was read, or memory was wanting
 abbrev pub IsReadBack : Ipld → Result Ipld (DecodeError Infallible) → Type 0
@@ -30,4 +30,4 @@ IsReadBack value (Err _) = ⊥
 
 -- What was written of a value is read as its tree, where the need is within the steps.
 abbrev pub WrittenThenRead : Type 0
-WrittenThenRead = (value : Ipld) (v : Vec ℕ Global) (read : Result Ipld (DecodeError Infallible)) → IsAnswer (Some (tree_of value)) (Ok v) → any_need (tree_of value) ≤ 256 → ReadsWhole tree_of Some any_need v.items read → IsReadBack value read
+WrittenThenRead = (value : Ipld) (v : Vec ℕ Global) (read : Result Ipld (DecodeError Infallible)) → IsAnswer (Some (tree_of value)) (Ok v) → any_need (tree_of value) ≤ 256 → ReadsWhole ⊥ tree_of Some any_need (Some v.items) read → IsReadBack value read

@@ -4,16 +4,18 @@
 pub mod laws;
 
 pub use dagcbor_heads::{
-    ArithmeticOverflow, BufWriter, DecodeError, EncodeError, Input, Len, Name, Read, Reference,
-    SliceReader, Tally, Write, is_at_end, is_indefinite, peek_one, pull_head, pull_one,
-    pull_payload, pull_short_payload, push_head,
+    ArithmeticOverflow, BufWriter, DecodeError, EncodeError, Input, IoReader, IoRefReader,
+    IoRefWriter, IoWriter, Len, Name, Read, Reference, SliceReader, Tally, Write, is_at_end,
+    is_indefinite, peek_one, pull_head, pull_one, pull_payload, pull_short_payload, push_head,
 };
 pub use dagcbor_read::{
     Accessor, Deserialize, DeserializeOwned, Deserializer, EnumAccessor, Fields, IgnoredAny, Shown,
-    Variants, any_from_slice, from_slice, read_enum, read_fields, read_into, read_struct,
-    read_struct_variant, skip_value,
+    Variants, any_from_slice, from_reader, from_reader_once, from_slice, read_enum, read_fields,
+    read_into, read_struct, read_struct_variant, skip_value,
 };
-pub use dagcbor_write::{BoundedCollect, CollectMap, CollectSeq, Serialize, Serializer, to_vec};
+pub use dagcbor_write::{
+    BoundedCollect, CollectMap, CollectSeq, Serialize, Serializer, to_vec, to_writer,
+};
 pub use ipld_tree::{ByteSlice, Bytes, Cid, CidError, Ipld};
 
 /// The code of DAG-CBOR among the codes of formats (the multicodec table).

@@ -1,16 +1,21 @@
 //! A struct of texts and a number, written by hand.
 
-ghost use Rattle.std.specs.Prelude.{Some, [], ◌∷◌, codes, pos, string_bytes, option_map, false};
+ghost use Rattle.std.specs.Prelude.{Some, [], ◌∷◌, codes, pos, string_bytes, option_map, false, refl};
 ghost use Rattle.ipld_tree.specs.Tree.{text, integer, entries_tree};
 ghost use Rattle.dagcbor_write.specs.Trees.{field};
 ghost use Rattle.serde_ipld_dagcbor.specs.Mascot.{MascotView, SeenMascot, take_mascot, need_mascot, view_mascot, need_of_mascot};
 
 use crate::tests::required::required;
+use crate::tests::std_devices::{Sink, Source};
 use crate::{
-    DecodeError, Deserialize, Deserializer, EncodeError, Fields, Read, Serialize, Serializer,
-    Shown, Write, from_slice, read_into, read_struct, skip_value, to_vec,
+    DecodeError, Deserialize, DeserializeOwned, Deserializer, EncodeError, Fields, Read, Serialize,
+    Serializer, Shown, Write, from_reader, from_slice, read_into, read_struct, skip_value, to_vec,
+    to_writer,
 };
 use std::alloc::Global;
+use std::fs;
+use std::fs::File;
+use std::io::{BufReader, BufWriter, Write as _};
 use std::test::Fail;
 
 #[derive(Drop)]
@@ -111,6 +116,10 @@ impl<'de> Deserialize<'de> for Mascot {
     }
 }
 
+impl<'de> DeserializeOwned<'de> for Mascot {
+    ghost owned = { refl };
+}
+
 #[test]
 fn a_mascot_is_written(rt: HostRuntime) -> Result<(), Fail> {
     let mascot = Mascot {
@@ -136,5 +145,46 @@ fn a_mascot_is_read(rt: HostRuntime) -> Result<(), Fail> {
     assert_eq!(rt; mascot.name.as_str(), "Ferris");
     assert_eq!(rt; mascot.species.as_str(), "crab");
     assert_eq!(rt; mascot.year_of_birth, 2015);
+    Ok(())
+}
+
+#[test]
+fn a_mascot_goes_to_a_device_and_back(rt: HostRuntime) -> Result<(), Fail> {
+    let mascot = Mascot {
+        name: String::from_str(rt.alloc(), "Ferris")?,
+        species: String::from_str(rt.alloc(), "crab")?,
+        year_of_birth: 2015,
+    };
+    let mut sink = Sink::new(rt.alloc(), 3, 0);
+    to_writer(rt.alloc(), &mut sink, &mascot)?;
+    assert_eq!(rt;
+        sink.held(),
+        b"\xa3\x64name\x66Ferris\x67species\x64crab\x6dyear_of_birth\x19\x07\xdf".as_slice()
+    );
+    let back: Mascot = from_reader(rt.alloc(), Source::new(sink.held(), 3))?;
+    assert_eq!(rt; back.name.as_str(), "Ferris");
+    assert_eq!(rt; back.species.as_str(), "crab");
+    assert_eq!(rt; back.year_of_birth, 2015);
+    Ok(())
+}
+
+/// The README quotes this.
+#[test]
+fn a_mascot_goes_to_a_file_and_back(rt: HostRuntime) -> Result<(), Fail> {
+    let ferris = Mascot {
+        name: String::from_str(rt.alloc(), "Ferris")?,
+        species: String::from_str(rt.alloc(), "crab")?,
+        year_of_birth: 2015,
+    };
+    let mut file = BufWriter::new(rt.alloc(), File::create(&rt, "ferris.cbor")?)?;
+    to_writer(rt.alloc(), &mut file, &ferris)?;
+    file.flush()?;
+
+    let source = BufReader::new(rt.alloc(), File::open(&rt, "ferris.cbor")?)?;
+    let back: Mascot = from_reader(rt.alloc(), source)?;
+    assert_eq!(rt; back.name.as_str(), "Ferris");
+    assert_eq!(rt; back.species.as_str(), "crab");
+    assert_eq!(rt; back.year_of_birth, 2015);
+    fs::remove_file(&rt, "ferris.cbor")?;
     Ok(())
 }

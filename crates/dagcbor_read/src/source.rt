@@ -1,0 +1,44 @@
+//! Reading one value from a buffered source of std.
+
+ghost use Rattle.std.specs.Prelude.{⊤};
+ghost use Rattle.dagcbor_read.specs.Whole.{ReadsFirst, ReadsWhole};
+
+use crate::deserialize::DeserializeOwned;
+use crate::deserializer::Deserializer;
+use dagcbor_heads::{DecodeError, IoReader, IoRefReader};
+use std::alloc::Global;
+use std::io;
+use std::io::BufRead;
+
+/// The value whose spelling the source's bytes are, all of them: what `from_slice` answers on the same bytes, where the
+/// source does not fault.
+pub fn from_reader<'de, T: DeserializeOwned<'de>, R: BufRead + Drop>(
+    alloc: Global,
+    reader: R,
+) -> Result<T, DecodeError<io::Error>>
+    ensures { ReadsWhole ⊤ T.held T.view T.need (R.remaining reader) result }
+{
+    let mut de = Deserializer::from_reader(IoReader::new(reader));
+    let value = T::deserialize(alloc, &mut de)?;
+    de.end()?;
+    Ok(value)
+}
+
+/// The value whose spelling stands first in the source, which has exactly what follows it left. Nothing is said of what it has
+/// left after a refusal.
+pub fn from_reader_once<'de, T: DeserializeOwned<'de>, R: BufRead>(
+    alloc: Global,
+    reader: &mut R,
+) -> Result<T, DecodeError<io::Error>>
+    ensures { ReadsFirst T.held T.view T.need (R.remaining reader.old) result (R.remaining reader.new) }
+{
+    let mut de = Deserializer::from_reader(IoRefReader::new(reader));
+    let result = T::deserialize(alloc, &mut de);
+    let Deserializer { input, failed: _ } = de;
+    if let Some(lent) = input.into_reader() {
+        let source = lent.into_inner();
+        // No effect at run time. The proof reads what `reader` has left from this use of `source`.
+        let _ = &*source;
+    }
+    result
+}

@@ -1,5 +1,5 @@
 -- Streams: values one behind the other.
-use Rattle.std.specs.Prelude.{◌≡◌, ℕ, ◌+◌, ◌<◌, Bool, true, if◌then◌else◌, List, length, Option, None, Some, Result, Ok, Err, is_err, MatchBool, MatchOption, MatchResult}
+use Rattle.std.specs.Prelude.{◌≡◌, ℕ, ◌+◌, ◌<◌, Bool, true, false, List, length, Option, None, Some, Result, Ok, Err, is_err, MatchBool, MatchOption, MatchResult}
 use Rattle.std.specs.Iterator.{Count, at_most, endless}
 use Rattle.dagcbor_heads.specs.Reading.{Reading}
 use Rattle.dagcbor_heads.specs.Fronts.{FindsEnd}
@@ -54,10 +54,11 @@ GivesNext held view need borrows old item new = MatchBool old.done
     ((item ≡ None) × (new ≡ old))
     ((new.done ≡ is_last item) × Call (ReadsNext held view need borrows) old.source (as_answer item) new.source)
 
--- Where n bytes are left, at most n + 1 items come. Where the source does not tell, nothing is said before the stream is done.
+-- Where n bytes are left, at most n + 1 items come; where the source does not tell its bytes, nothing is said.
+abbrev pub items_left_of : Bool → Option (List ℕ) → Count
+items_left_of true left = at_most 0
+items_left_of false None = endless
+items_left_of false (Some b) = at_most (length b + 1)
+
 abbrev pub items_left : Streaming → Count
-items_left s = if s.done then at_most 0 else left_of s.source.input.left
-  where
-    left_of : Option (List ℕ) → Count
-    left_of None = endless
-    left_of (Some b) = at_most (length b + 1)
+items_left s = items_left_of s.done s.source.input.left

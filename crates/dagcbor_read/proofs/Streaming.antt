@@ -7,10 +7,10 @@ use Rattle.dagcbor_heads.specs.Fronts.{FindsEnd}
 use Rattle.dagcbor_heads.specs.declared.error.DecodeError.{DecodeError}
 use Rattle.ipld_tree.specs.Tree.{Tree}
 use Rattle.ipld_tree.specs.Spelling.{IsFront, spelling}
-use Rattle.ipld_tree.proofs.Fronts.{front_nonempty}
+use Rattle.ipld_tree.proofs.Fronts.{front_nonempty, front_unique}
 use Rattle.dagcbor_read.specs.Calls.{Progress, Call}
 use Rattle.dagcbor_read.specs.Reads.{TakesFront}
-use Rattle.dagcbor_read.specs.Streams.{Streaming, streaming, ReadsNext, as_answer, is_last, GivesNext, items_left_of, items_left}
+use Rattle.dagcbor_read.specs.Streams.{Streaming, streaming, ReadsNext, as_answer, is_last, GivesNext, items_left_of, items_left, IsNextValue, AreStreamItems}
 use Rattle.dagcbor_read.specs.declared.stream.StreamDeserializer.{StreamDeserializer}
 use Rattle.dagcbor_read.proofs.Progressing.{match_true, match_false, call_answered}
 
@@ -84,3 +84,32 @@ module _ (E : Type 0) {T V : Type 0} (held : T → V) (view : Tree → Option V)
     keeps = may new;
     rests = λ finite. tt;
   }
+
+-- ---- the stream of a type on bytes
+
+module _ {V : Type 0} (view : Tree → Option V) (need : Tree → ℕ) (steps : ℕ) where
+  -- two fronts of the same bytes show the same value and leave the same rest
+  same_value : (b : List ℕ) (v w : V) (rest others : List ℕ) → IsNextValue view need steps b v rest → IsNextValue view need steps b w others → (Some v ≡ Some w) × (rest ≡ others)
+  same_value b v w rest others h k =
+      let same = front_unique b rest others h.0 k.0 h.1 k.1 in
+      (sym h.2 ∙ ap view same.0 ∙ k.2, same.1)
+
+  no_value_of_none : (b rest : List ℕ) (v : V) → b ≡ [] → IsNextValue view need steps b v rest → ⊥
+  no_value_of_none b rest v e h = front_nonempty rest h.0 (subst (λ x. IsFront x h.0 rest) e h.1)
+
+  some_of_none : (b : List ℕ) → b ≡ [] → 0 < length b → ⊥
+  some_of_none b e some = omega (arith, ap length e, some)
+
+  pub unique : (b : List ℕ) (items others : List (Option V)) → AreStreamItems view need steps b items → AreStreamItems view need steps b others → items ≡ others
+  unique b [] [] h k = refl
+  unique b [] (Some w ∷ others) h k = absurd (no_value_of_none b k.0 w h k.1)
+  unique b [] (None ∷ others) h k = absurd (some_of_none b h k.1)
+  unique b (Some v ∷ items) [] h k = absurd (no_value_of_none b h.0 v k h.1)
+  unique b (Some v ∷ items) (None ∷ others) h k = absurd (k.2 v h.0 h.1)
+  unique b (Some v ∷ items) (Some w ∷ others) h k =
+      let same = same_value b v w h.0 k.0 h.1 k.1 in
+      let more = unique h.0 items others h.2 (subst (λ x. AreStreamItems view need steps x others) (sym same.1) k.2) in
+      ap (λ x. x ∷ items) same.0 ∙ ap (λ x. Some w ∷ x) more
+  unique b (None ∷ items) [] h k = absurd (some_of_none b k h.1)
+  unique b (None ∷ items) (Some w ∷ others) h k = absurd (h.2 w k.0 k.1)
+  unique b (None ∷ items) (None ∷ others) h k = ap (λ x. None ∷ x) (h.0 ∙ sym k.0)

@@ -1,11 +1,13 @@
 -- Streams: values one behind the other.
-use Rattle.std.specs.Prelude.{◌≡◌, ℕ, ◌+◌, ◌<◌, Bool, true, false, List, length, Option, None, Some, Result, Ok, Err, is_err, MatchBool, MatchOption, MatchResult}
-use Rattle.std.specs.Iterator.{Count, at_most, endless}
+use Rattle.std.specs.Prelude.{◌≡◌, ℕ, ◌+◌, ◌<◌, ◌≤◌, ◌⊎◌, Bool, true, false, List, [], ◌∷◌, length, map, Option, None, Some, Result, Ok, Err, is_err, MatchBool, MatchOption, MatchResult, ⊤}
+use Rattle.std.specs.Iterator.{Count, at_most, endless, DrainsIf}
 use Rattle.dagcbor_heads.specs.Reading.{Reading}
 use Rattle.dagcbor_heads.specs.Fronts.{FindsEnd}
 use Rattle.dagcbor_heads.specs.Refusals.{Refuses}
 use Rattle.dagcbor_heads.specs.declared.error.DecodeError.{DecodeError}
+use Rattle.dagcbor_heads.specs.declared.error.DecodeError.TheVariants.{Read, RequireBorrowed, OutOfMemory, Failed}
 use Rattle.ipld_tree.specs.Tree.{Tree}
+use Rattle.ipld_tree.specs.Spelling.{IsFront}
 use Rattle.dagcbor_read.specs.Calls.{Progress, progress, Call}
 use Rattle.dagcbor_read.specs.Reads.{HasFront, TakesFront}
 use Rattle.dagcbor_read.specs.declared.deserializer.Deserializer.{Deserializer}
@@ -62,3 +64,79 @@ items_left_of false (Some b) = at_most (length b + 1)
 
 abbrev pub items_left : Streaming → Count
 items_left s = items_left_of s.done s.source.input.left
+
+-- ---- the stream of a type on bytes
+
+-- a tree stands at the front that shows v, its need within the steps
+abbrev pub IsNextValue : {V : Type 0} → (Tree → Option V) → (Tree → ℕ) → ℕ → List ℕ → V → List ℕ → Type 0
+IsNextValue view need steps b v rest = (t : Tree) × IsFront b t rest × (view t ≡ Some v) × (need t ≤ steps)
+
+-- The stream of a type on bytes, where `None` stands for a refusal: nothing for no bytes; a value that stands at the front, and then the stream of the
+-- rest; else one refusal, and the end.
+abbrev pub AreStreamItems : {V : Type 0} → (Tree → Option V) → (Tree → ℕ) → ℕ → List ℕ → List (Option V) → Type 0
+AreStreamItems view need steps b [] = b ≡ []
+AreStreamItems view need steps b (Some v ∷ items) = (rest : List ℕ) × IsNextValue view need steps b v rest × AreStreamItems view need steps rest items
+AreStreamItems {V} view need steps b (None ∷ items) = (items ≡ []) × (0 < length b) × ((v : V) (rest : List ℕ) → IsNextValue view need steps b v rest → ⊥)
+
+-- Of given bytes there is one stream at most.
+abbrev pub StreamsAreUnique : {V : Type 0} → (Tree → Option V) → (Tree → ℕ) → Type 0
+StreamsAreUnique {V} view need = (steps : ℕ) (b : List ℕ) (items others : List (Option V)) → AreStreamItems view need steps b items → AreStreamItems view need steps b others → items ≡ others
+
+-- ---- what comes of runs of `next`
+
+-- an error that says nothing of the bytes: a fault, want of memory, or, where that may be, a wish to borrow
+abbrev pub GivesUp : {E : Type 0} → Type 0 → DecodeError E → Type 0
+GivesUp borrows (Read e) = ⊤
+GivesUp borrows OutOfMemory = ⊤
+GivesUp borrows (RequireBorrowed name) = borrows
+GivesUp borrows _ = ⊥
+
+abbrev pub NoneGivesUp : {T E : Type 0} → Type 0 → List (Result T (DecodeError E)) → Type 0
+NoneGivesUp borrows [] = ⊤
+NoneGivesUp borrows (Ok v ∷ xs) = NoneGivesUp borrows xs
+NoneGivesUp borrows (Err e ∷ xs) = (GivesUp borrows e → ⊥) × NoneGivesUp borrows xs
+
+-- behind an error nothing comes
+abbrev pub EndsAtError : {T E : Type 0} → List (Result T (DecodeError E)) → Type 0
+EndsAtError [] = ⊤
+EndsAtError (Ok v ∷ xs) = EndsAtError xs
+EndsAtError (Err e ∷ xs) = xs ≡ []
+
+-- what an item is in the stream of the type
+abbrev pub stream_item : {T V E : Type 0} → (T → V) → Result T (DecodeError E) → Option V
+stream_item held (Ok v) = Some (held v)
+stream_item held (Err e) = None
+
+-- What came is the stream's items, to the last where it is whole; or up to one in whose place an error came that says nothing of the bytes.
+abbrev pub AreUpTo : {T V E : Type 0} → (T → V) → Type 0 → Bool → List (Result T (DecodeError E)) → List (Option V) → Type 0
+AreUpTo held borrows whole [] items = whole ≡ true → items ≡ []
+AreUpTo {T} {V} held borrows whole (Ok v ∷ xs) items = (more : List (Option V)) × (items ≡ Some (held v) ∷ more) × AreUpTo held borrows whole xs more
+AreUpTo held borrows whole (Err e ∷ xs) items = (xs ≡ []) × (GivesUp borrows e ⊎ (items ≡ None ∷ []))
+
+-- a stream, not done, over known bytes, of what has not failed
+pub record IsOver (b : List ℕ) (steps : ℕ) (lends : Bool) (s : Streaming) : Type 0 where
+  pub goes_on : s.done ≡ false
+  pub sound : s.source.failed ≡ false
+  pub left : s.source.input.left ≡ Some b
+  pub steps_left : s.source.input.steps ≡ steps
+  pub lending : s.source.input.lends ≡ lends
+
+module _ {S T V : Type 0} (E : Type 0) (see : S → Streaming) (held : T → V) (view : Tree → Option V) (need : Tree → ℕ) (borrows : Bool) where
+  -- one call of `next`
+  abbrev pub Gives : S → Option (Result T (DecodeError E)) → S → Type 0
+  Gives s item t = GivesNext held view need borrows (see s) item (see t)
+
+  abbrev pub MayBorrow : Bool → Type 0
+  MayBorrow lends = (borrows ≡ true) × (lends ≡ false)
+
+  -- Calls of `next` from s gave xs, and then nothing where the run is whole. At most one error came, and nothing behind it. Over known bytes they
+  -- are the stream of the type on the bytes, up to an error that says nothing of the bytes; at most one more than there are bytes. What had failed
+  -- gives `Failed` alone.
+  abbrev pub StreamsAreExact : Type 0
+  StreamsAreExact = (s : S) (whole : Bool) (xs : List (Result T (DecodeError E))) → DrainsIf Gives (whole ≡ true) s xs
+      → EndsAtError xs
+      × ((b : List ℕ) (steps : ℕ) (lends : Bool) → IsOver b steps lends (see s)
+          → (length xs ≤ length b + 1)
+          × ((items : List (Option V)) → AreStreamItems view need steps b items → AreUpTo held (MayBorrow lends) whole xs items)
+          × (whole ≡ true → NoneGivesUp (MayBorrow lends) xs → AreStreamItems view need steps b (map (stream_item held) xs)))
+      × ((see s).done ≡ false → (see s).source.failed ≡ true → whole ≡ true → xs ≡ Err Failed ∷ [])

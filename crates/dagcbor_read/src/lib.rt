@@ -11,6 +11,7 @@ mod fields;
 mod holders;
 mod key;
 mod kinds;
+pub mod laws;
 mod leaf;
 mod leaf_types;
 mod lent;

@@ -1,13 +1,14 @@
 //! Streams: values one behind the other, up to the end of the input.
 
-ghost use Rattle.std.specs.Prelude.{◌≡◌, false};
+ghost use Rattle.std.specs.Prelude.{◌≡◌, [], false};
 ghost use Rattle.dagcbor_read.specs.Calls.{progress, Call};
 ghost use Rattle.dagcbor_read.specs.Streams.{streaming, items_left, ReadsNext, GivesNext};
 
-use crate::deserialize::Deserialize;
+use crate::deserialize::{Deserialize, DeserializeOwned};
 use crate::deserializer::Deserializer;
-use dagcbor_heads::{DecodeError, Read, is_at_end};
+use dagcbor_heads::{DecodeError, IoReader, Read, is_at_end};
 use std::alloc::Global;
+use std::io::BufRead;
 use std::marker::PhantomData;
 
 /// The values that stand one behind the other in an input. After an error, and after the end, nothing more comes.
@@ -74,4 +75,20 @@ impl<'de, R: Read, T: Deserialize<'de>> Iterator for StreamDeserializer<'de, R, 
         self.done = !matches!(item, Some(Ok(_)));
         item
     }
+}
+
+/// The values in the source.
+pub fn iter_from_reader<'de, T: DeserializeOwned<'de>, R: BufRead + Drop>(
+    alloc: Global,
+    source: R,
+) -> StreamDeserializer<'de, IoReader<R>, T>
+    ensures { streaming (λ r. r) result ≡ record {
+      source = record {
+        input = record { left = R.remaining source; shown = []; steps = 256; budget = 256; lends = false; faults = 0; through = [] };
+        failed = false;
+      };
+      done = false;
+    } }
+{
+    Deserializer::from_reader(IoReader::new(source)).into_iter(alloc)
 }

@@ -16,6 +16,7 @@ pub mod HashedPlaces
 pub mod Links
 pub mod Wholes
 pub mod Streaming
+pub mod StreamRuns
 pub mod HeadKinds
 pub mod Integers
 pub mod SimpleValues

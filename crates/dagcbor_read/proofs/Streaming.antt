@@ -17,7 +17,7 @@ use Rattle.dagcbor_read.proofs.Progressing.{match_true, match_false, call_answer
 -- ---- a stream ends
 
 -- a tree takes a byte at least
-shorter : (b rest : List ℕ) (t : Tree) → IsFront b t rest → length rest < length b
+pub shorter : (b rest : List ℕ) (t : Tree) → IsFront b t rest → length rest < length b
 shorter b rest t f = by (spelling t) refl
   where
     by : (s : List ℕ) → spelling t ≡ s → length rest < length b
@@ -43,7 +43,7 @@ at_none A P true old new item finite h = subst (λ s. IsFinite (items_left s)) (
 at_none A P false old new item finite h = done_is_finite new.done new.source.input.left h.0
 
 -- a stream that gave something was not done
-goes_on : (A P Q : Type 0) (done : Bool) (r : A) → MatchBool done ((Some r ≡ None) × Q) P → (done ≡ false) × P
+pub goes_on : (A P Q : Type 0) (done : Bool) (r : A) → MatchBool done ((Some r ≡ None) × Q) P → (done ≡ false) × P
 goes_on A P Q true r h = let e = h.0 in absurd (cc e)
 goes_on A P Q false r h = (refl, h)
 
@@ -89,15 +89,15 @@ module _ (E : Type 0) {T V : Type 0} (held : T → V) (view : Tree → Option V)
 
 module _ {V : Type 0} (view : Tree → Option V) (need : Tree → ℕ) (steps : ℕ) where
   -- two fronts of the same bytes show the same value and leave the same rest
-  same_value : (b : List ℕ) (v w : V) (rest others : List ℕ) → IsNextValue view need steps b v rest → IsNextValue view need steps b w others → (Some v ≡ Some w) × (rest ≡ others)
+  pub same_value : (b : List ℕ) (v w : V) (rest others : List ℕ) → IsNextValue view need steps b v rest → IsNextValue view need steps b w others → (Some v ≡ Some w) × (rest ≡ others)
   same_value b v w rest others h k =
       let same = front_unique b rest others h.0 k.0 h.1 k.1 in
       (sym h.2 ∙ ap view same.0 ∙ k.2, same.1)
 
-  no_value_of_none : (b rest : List ℕ) (v : V) → b ≡ [] → IsNextValue view need steps b v rest → ⊥
+  pub no_value_of_none : (b rest : List ℕ) (v : V) → b ≡ [] → IsNextValue view need steps b v rest → ⊥
   no_value_of_none b rest v e h = front_nonempty rest h.0 (subst (λ x. IsFront x h.0 rest) e h.1)
 
-  some_of_none : (b : List ℕ) → b ≡ [] → 0 < length b → ⊥
+  pub some_of_none : (b : List ℕ) → b ≡ [] → 0 < length b → ⊥
   some_of_none b e some = omega (arith, ap length e, some)
 
   pub unique : (b : List ℕ) (items others : List (Option V)) → AreStreamItems view need steps b items → AreStreamItems view need steps b others → items ≡ others

@@ -91,6 +91,10 @@ GivesUp borrows OutOfMemory = ⊤
 GivesUp borrows (RequireBorrowed name) = borrows
 GivesUp borrows _ = ⊥
 
+-- a type that borrows wants a loan of a reader that does not lend
+abbrev pub MayBorrow : Bool → Bool → Type 0
+MayBorrow borrows lends = (borrows ≡ true) × (lends ≡ false)
+
 abbrev pub NoneGivesUp : {T E : Type 0} → Type 0 → List (Result T (DecodeError E)) → Type 0
 NoneGivesUp borrows [] = ⊤
 NoneGivesUp borrows (Ok v ∷ xs) = NoneGivesUp borrows xs
@@ -126,9 +130,6 @@ module _ {S T V : Type 0} (E : Type 0) (see : S → Streaming) (held : T → V) 
   abbrev pub Gives : S → Option (Result T (DecodeError E)) → S → Type 0
   Gives s item t = GivesNext held view need borrows (see s) item (see t)
 
-  abbrev pub MayBorrow : Bool → Type 0
-  MayBorrow lends = (borrows ≡ true) × (lends ≡ false)
-
   -- Calls of `next` from s gave xs, and then nothing where the run is whole. At most one error came, and nothing behind it. Over known bytes they
   -- are the stream of the type on the bytes, up to an error that says nothing of the bytes; at most one more than there are bytes. What had failed
   -- gives `Failed` alone.
@@ -137,6 +138,6 @@ module _ {S T V : Type 0} (E : Type 0) (see : S → Streaming) (held : T → V) 
       → EndsAtError xs
       × ((b : List ℕ) (steps : ℕ) (lends : Bool) → IsOver b steps lends (see s)
           → (length xs ≤ length b + 1)
-          × ((items : List (Option V)) → AreStreamItems view need steps b items → AreUpTo held (MayBorrow lends) whole xs items)
-          × (whole ≡ true → NoneGivesUp (MayBorrow lends) xs → AreStreamItems view need steps b (map (stream_item held) xs)))
+          × ((items : List (Option V)) → AreStreamItems view need steps b items → AreUpTo held (MayBorrow borrows lends) whole xs items)
+          × (whole ≡ true → NoneGivesUp (MayBorrow borrows lends) xs → AreStreamItems view need steps b (map (stream_item held) xs)))
       × ((see s).done ≡ false → (see s).source.failed ≡ true → whole ≡ true → xs ≡ Err Failed ∷ [])

@@ -136,8 +136,7 @@ module _ {S T V : Type 0} (E : Type 0) (see : S → Streaming) (held : T → V) 
   exact s whole xs h = (
     ends s h.0 xs h.1,
     λ b steps lends o.
-        let c = came b steps lends whole s h.0 xs o h.1 h.2 in
-        (
+        let c = came b steps lends whole s h.0 xs o h.1 h.2 in (
           few E held view need (MayBorrow borrows lends) steps whole b xs c,
           λ items k. alike E held view need (MayBorrow borrows lends) steps whole b xs items c k,
           λ w n. all_of_it E held view need (MayBorrow borrows lends) steps whole b xs w n c,

@@ -137,7 +137,7 @@ module _ {S T V : Type 0} (E : Type 0) (see : S → Streaming) (held : T → V) 
   StreamsAreExact = (s : S) (whole : Bool) (xs : List (Result T (DecodeError E))) → DrainsIf Gives (whole ≡ true) s xs
       → EndsAtError xs
       × ((b : List ℕ) (steps : ℕ) (lends : Bool) → IsOver b steps lends (see s)
-          → (length xs ≤ length b + 1)
-          × ((items : List (Option V)) → AreStreamItems view need steps b items → AreUpTo held (MayBorrow borrows lends) whole xs items)
-          × (whole ≡ true → NoneGivesUp (MayBorrow borrows lends) xs → AreStreamItems view need steps b (map (stream_item held) xs)))
+      → (length xs ≤ length b + 1)
+      × ((items : List (Option V)) → AreStreamItems view need steps b items → AreUpTo held (MayBorrow borrows lends) whole xs items)
+      × (whole ≡ true → NoneGivesUp (MayBorrow borrows lends) xs → AreStreamItems view need steps b (map (stream_item held) xs)))
       × ((see s).done ≡ false → (see s).source.failed ≡ true → whole ≡ true → xs ≡ Err Failed ∷ [])

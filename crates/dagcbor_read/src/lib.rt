@@ -36,7 +36,7 @@ pub use deserializer::Deserializer;
 pub use enum_accessor::EnumAccessor;
 pub use fields::{Fields, read_fields, read_into, read_struct, skip_value};
 pub use shown::Shown;
-pub use stream::StreamDeserializer;
+pub use stream::{StreamDeserializer, iter_from_reader};
 pub use tree_types::IgnoredAny;
 pub use variants::{Variants, read_enum, read_struct_variant};
 pub use whole::{any_from_slice, from_slice};

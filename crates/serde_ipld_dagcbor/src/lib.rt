@@ -4,14 +4,14 @@
 pub mod laws;
 
 pub use dagcbor_heads::{
-    ArithmeticOverflow, BufWriter, DecodeError, EncodeError, Input, Len, Name, Read, Reference,
-    SliceReader, Tally, Write, is_at_end, is_indefinite, peek_one, pull_head, pull_one,
+    ArithmeticOverflow, BufWriter, DecodeError, EncodeError, Input, IoReader, Len, Name, Read,
+    Reference, SliceReader, Tally, Write, is_at_end, is_indefinite, peek_one, pull_head, pull_one,
     pull_payload, pull_short_payload, push_head,
 };
 pub use dagcbor_read::{
     Accessor, Deserialize, DeserializeOwned, Deserializer, EnumAccessor, Fields, IgnoredAny, Shown,
-    Variants, any_from_slice, from_slice, read_enum, read_fields, read_into, read_struct,
-    read_struct_variant, skip_value,
+    StreamDeserializer, Variants, any_from_slice, from_slice, iter_from_reader, read_enum,
+    read_fields, read_into, read_struct, read_struct_variant, skip_value,
 };
 pub use dagcbor_write::{BoundedCollect, CollectMap, CollectSeq, Serialize, Serializer, to_vec};
 pub use ipld_tree::{ByteSlice, Bytes, Cid, CidError, Ipld};

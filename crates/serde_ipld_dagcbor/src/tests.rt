@@ -20,6 +20,7 @@ mod person;
 mod required;
 mod second;
 mod states;
+mod streams;
 mod tagged;
 mod trees;
 mod typed;

@@ -1,0 +1,116 @@
+//! Values one behind the other.
+
+use crate::tests::devices::Pieces;
+use crate::{
+    Deserialize, Deserializer, IoReader, Ipld, Read, StreamDeserializer, iter_from_reader, laws,
+};
+use std::alloc::Global;
+use std::fmt::Debug;
+use std::test::Fail;
+
+/// Whether this comes next, as text.
+fn comes<'de, T: Deserialize<'de> + Debug, R: Read>(
+    alloc: Global,
+    stream: &mut StreamDeserializer<'de, R, T>,
+    told: &str,
+) -> Result<bool, Fail>
+where
+    R::Error: Debug,
+{
+    let next = format!(in alloc; "{:?}", stream.next())?;
+    Ok(next.as_str() == told)
+}
+
+#[test]
+fn texts_of_a_source(rt: HostRuntime) -> Result<(), Fail> {
+    let alloc = rt.alloc();
+    let mut stream = iter_from_reader::<String, _>(alloc, b"\x66foobar\x63baz".as_slice());
+    assert!(rt; comes(alloc, &mut stream, r#"Some(Ok("foobar"))"#)?);
+    assert!(rt; comes(alloc, &mut stream, r#"Some(Ok("baz"))"#)?);
+    assert!(rt; comes(alloc, &mut stream, "None")?);
+    Ok(())
+}
+
+#[test]
+fn texts_of_a_deserializer(rt: HostRuntime) -> Result<(), Fail> {
+    let alloc = rt.alloc();
+    let reader = IoReader::new(b"\x66foobar\x63baz".as_slice());
+    let mut stream = Deserializer::from_reader(reader).into_iter::<String>(alloc);
+    assert!(rt; comes(alloc, &mut stream, r#"Some(Ok("foobar"))"#)?);
+    assert!(rt; comes(alloc, &mut stream, r#"Some(Ok("baz"))"#)?);
+    assert!(rt; comes(alloc, &mut stream, "None")?);
+    Ok(())
+}
+
+#[test]
+fn a_cut_text_is_the_last(rt: HostRuntime) -> Result<(), Fail> {
+    let alloc = rt.alloc();
+    let mut stream = iter_from_reader::<String, _>(alloc, b"\x66foobar\x63ba".as_slice());
+    assert!(rt; comes(alloc, &mut stream, r#"Some(Ok("foobar"))"#)?);
+    assert!(rt;
+        comes(
+            alloc,
+            &mut stream,
+            r#"Some(Err(Eof { name: "string", expect: Small(3) }))"#
+        )?
+    );
+    assert!(rt; comes(alloc, &mut stream, "None")?);
+    Ok(())
+}
+
+#[test]
+fn a_fault_is_the_last(rt: HostRuntime) -> Result<(), Fail> {
+    let alloc = rt.alloc();
+    for fill in 1..7 {
+        let reader = Pieces::failing(b"\x83\x01\x02\x03", 1, fill);
+        let mut stream = Deserializer::from_reader(reader).into_iter::<Ipld>(alloc);
+        assert!(rt; comes(alloc, &mut stream, "Some(Err(Read(7)))")?, "{fill}");
+        assert!(rt; comes(alloc, &mut stream, "None")?, "{fill}");
+    }
+    Ok(())
+}
+
+#[test]
+fn a_refusal_is_the_last(rt: HostRuntime) -> Result<(), Fail> {
+    let alloc = rt.alloc();
+    let mut stream = Deserializer::from_slice(b"\x18\x17\x01").into_iter::<u8>(alloc);
+    assert!(rt;
+        comes(
+            alloc,
+            &mut stream,
+            r#"Some(Err(NonMinimal { name: "u8", found: 24 }))"#
+        )?
+    );
+    assert!(rt; comes(alloc, &mut stream, "None")?);
+    Ok(())
+}
+
+#[test]
+fn a_list_that_was_begun(rt: HostRuntime) -> Result<(), Fail> {
+    let alloc = rt.alloc();
+    let mut de = Deserializer::from_slice(b"\x82\x01\x02\x01");
+    de.deserialize_seq()?;
+    let mut stream = de.into_iter::<u8>(alloc);
+    assert!(rt; comes(alloc, &mut stream, "Some(Ok(1))")?);
+    assert!(rt; comes(alloc, &mut stream, "Some(Ok(2))")?);
+    assert!(rt; comes(alloc, &mut stream, "Some(Ok(1))")?);
+    assert!(rt; comes(alloc, &mut stream, "None")?);
+    Ok(())
+}
+
+#[test]
+fn a_deserializer_that_had_failed(rt: HostRuntime) -> Result<(), Fail> {
+    let alloc = rt.alloc();
+    let mut de = Deserializer::from_slice(b"\x18\x17");
+    assert!(rt; de.deserialize_u8().is_err());
+    let mut stream = de.into_iter::<u8>(alloc);
+    assert!(rt; comes(alloc, &mut stream, "Some(Err(Failed))")?);
+    assert!(rt; comes(alloc, &mut stream, "None")?);
+    Ok(())
+}
+
+#[test]
+fn laws_of_streams() {
+    laws::streams_exact::<u8, IoReader<&[u8]>>();
+    laws::stream_unique::<u8>();
+}

@@ -1,15 +1,15 @@
 -- What comes of runs of `next`, against the stream of the type on the bytes.
 use Rattle.std.proofs.Common.{◌≡◌, ◌⊎◌, inl, inr, ℕ, ◌+◌, ◌<◌, ◌≤◌, Bool, true, false, List, [], ◌∷◌, length, map, refl, sym, ap, subst, ◌∙◌, arith}
-use Rattle.std.specs.Prelude.{Option, None, Some, Result, Ok, Err, is_some, is_err, MatchBool, ⊤}
-use Rattle.std.specs.Iterator.{Yields, DrainsIf}
+use Rattle.std.specs.Prelude.{Option, None, Some, Result, Ok, Err, is_some, is_err, MatchBool}
+use Rattle.std.specs.Iterator.{Yields}
 use Rattle.dagcbor_heads.specs.Reading.{Reading}
 use Rattle.dagcbor_heads.specs.Refusals.{Refuses}
 use Rattle.dagcbor_heads.specs.declared.error.DecodeError.{DecodeError}
 use Rattle.dagcbor_heads.specs.declared.error.DecodeError.TheVariants.{Read, RequireBorrowed, OutOfMemory, Failed, DepthOverflow}
 use Rattle.ipld_tree.specs.Tree.{Tree}
 use Rattle.dagcbor_read.specs.Calls.{Progress, Call}
-use Rattle.dagcbor_read.specs.Reads.{HasFront, TakesFront}
-use Rattle.dagcbor_read.specs.Streams.{Streaming, SomeLeft, AreSome, ReadsNext, as_answer, is_last, GivesNext, IsNextValue, AreStreamItems, GivesUp, NoneGivesUp, EndsAtError, stream_item, AreUpTo, IsOver, Gives, MayBorrow, StreamsAreExact}
+use Rattle.dagcbor_read.specs.Reads.{HasFront}
+use Rattle.dagcbor_read.specs.Streams.{Streaming, SomeLeft, AreSome, ReadsNext, as_answer, is_last, IsNextValue, AreStreamItems, GivesUp, NoneGivesUp, EndsAtError, stream_item, AreUpTo, IsOver, Gives, MayBorrow, StreamsAreExact}
 use Rattle.dagcbor_read.proofs.Progressing.{match_true, match_false, call_answered, call_told}
 use Rattle.dagcbor_read.proofs.Streaming.{shorter, goes_on, same_value, no_value_of_none, some_of_none}
 

@@ -1,18 +1,14 @@
 -- Streams: what comes of runs of `next`.
-use Rattle.std.proofs.Common.{◌≡◌, ℕ, ◌+◌, ◌<◌, ◌≤◌, Bool, true, false, List, [], ◌∷◌, ◌++◌, length, refl, sym, ap, subst, ◌∙◌, arith, length-append}
-use Rattle.std.specs.Prelude.{Option, None, Some, Result, Ok, Err, OnSome, IfNone, IfSome, is_err, MatchBool, ⊤}
+use Rattle.std.proofs.Common.{◌≡◌, ℕ, ◌+◌, ◌<◌, Bool, true, false, List, [], ◌∷◌, ◌++◌, length, refl, sym, ap, subst, ◌∙◌, arith, length-append}
+use Rattle.std.specs.Prelude.{Option, None, Some, Result, Ok, Err, is_err, MatchBool}
 use Rattle.std.specs.Iterator.{MakesProgress, IsFinite, size}
-use Rattle.dagcbor_heads.specs.Reading.{Reading}
-use Rattle.dagcbor_heads.specs.Fronts.{FindsEnd}
 use Rattle.dagcbor_heads.specs.declared.error.DecodeError.{DecodeError}
 use Rattle.ipld_tree.specs.Tree.{Tree}
 use Rattle.ipld_tree.specs.Spelling.{IsFront, spelling}
 use Rattle.ipld_tree.proofs.Fronts.{front_nonempty, front_unique}
 use Rattle.dagcbor_read.specs.Calls.{Progress, Call}
-use Rattle.dagcbor_read.specs.Reads.{TakesFront}
-use Rattle.dagcbor_read.specs.Streams.{Streaming, streaming, ReadsNext, as_answer, is_last, GivesNext, items_left_of, items_left, IsNextValue, AreStreamItems}
-use Rattle.dagcbor_read.specs.declared.stream.StreamDeserializer.{StreamDeserializer}
-use Rattle.dagcbor_read.proofs.Progressing.{match_true, match_false, call_answered}
+use Rattle.dagcbor_read.specs.Streams.{Streaming, ReadsNext, as_answer, GivesNext, items_left_of, items_left, IsNextValue, AreStreamItems}
+use Rattle.dagcbor_read.proofs.Progressing.{call_answered}
 
 -- ---- a stream ends
 

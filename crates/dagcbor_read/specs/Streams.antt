@@ -10,7 +10,6 @@ use Rattle.ipld_tree.specs.Tree.{Tree}
 use Rattle.ipld_tree.specs.Spelling.{IsFront}
 use Rattle.dagcbor_read.specs.Calls.{Progress, progress, Call}
 use Rattle.dagcbor_read.specs.Reads.{HasFront, TakesFront}
-use Rattle.dagcbor_read.specs.declared.deserializer.Deserializer.{Deserializer}
 use Rattle.dagcbor_read.specs.declared.stream.StreamDeserializer.{StreamDeserializer}
 
 -- ---- what contracts see of a stream

@@ -1,5 +1,7 @@
 //! Values one behind the other.
 
+ghost use Rattle.std.specs.Prelude.{◌+◌, ◌≤◌, length};
+
 use crate::tests::devices::Pieces;
 use crate::{
     Deserialize, Deserializer, IoReader, Ipld, Read, StreamDeserializer, iter_from_reader, laws,
@@ -106,6 +108,23 @@ fn a_deserializer_that_had_failed(rt: HostRuntime) -> Result<(), Fail> {
     let mut stream = de.into_iter::<u8>(alloc);
     assert!(rt; comes(alloc, &mut stream, "Some(Err(Failed))")?);
     assert!(rt; comes(alloc, &mut stream, "None")?);
+    Ok(())
+}
+
+/// How many items come of the bytes. That the iterator ends is known of its contract.
+fn how_many(alloc: Global, bytes: &[u8]) -> usize
+    ensures { result ≤ length bytes.now + 1 }
+{
+    Deserializer::from_slice(bytes)
+        .into_iter::<u8>(alloc)
+        .count()
+}
+
+#[test]
+fn a_stream_is_an_iterator(rt: HostRuntime) -> Result<(), Fail> {
+    assert_eq!(rt; how_many(rt.alloc(), b"\x01\x02"), 2);
+    assert_eq!(rt; how_many(rt.alloc(), b"\x01\x02\x20\x03"), 3);
+    assert_eq!(rt; how_many(rt.alloc(), b""), 0);
     Ok(())
 }
 

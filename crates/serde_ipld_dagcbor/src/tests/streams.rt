@@ -1,12 +1,15 @@
 //! Values one behind the other.
 
-ghost use Rattle.std.specs.Prelude.{◌+◌, ◌≤◌, length};
+ghost use Rattle.std.specs.Prelude.{◌+◌, ◌≤◌, length, IfOk, List, Option, true};
+ghost use Rattle.dagcbor_read.specs.Streams.{AreStreamItems, AreUpTo, MayBorrow};
 
 use crate::tests::devices::Pieces;
 use crate::{
-    Deserialize, Deserializer, IoReader, Ipld, Read, StreamDeserializer, iter_from_reader, laws,
+    DecodeError, Deserialize, Deserializer, IoReader, Ipld, Read, SliceReader, StreamDeserializer,
+    iter_from_reader, laws,
 };
-use std::alloc::Global;
+use std::alloc::{AllocError, Global};
+use std::convert::Infallible;
 use std::fmt::Debug;
 use std::test::Fail;
 
@@ -128,8 +131,28 @@ fn a_stream_is_an_iterator(rt: HostRuntime) -> Result<(), Fail> {
     Ok(())
 }
 
+/// What comes of the bytes: the stream of the type on them, by the law.
+fn items_of<'a, T: Deserialize<'a>>(
+    alloc: Global,
+    bytes: &'a [u8],
+) -> Result<Vec<Result<T, DecodeError<Infallible>>>, AllocError>
+    ensures { IfOk result (λ v. (items : List (Option T.View)) → AreStreamItems T.view T.need 256 bytes.now items
+        → AreUpTo T.held (MayBorrow T.borrows true) true v.items items) }
+{
+    laws::streams_exact::<T, SliceReader>();
+    Deserializer::from_slice(bytes)
+        .into_iter::<T>(alloc)
+        .collect(alloc)
+}
+
 #[test]
-fn laws_of_streams() {
-    laws::streams_exact::<u8, IoReader<&[u8]>>();
+fn laws_of_streams(rt: HostRuntime) -> Result<(), Fail> {
     laws::stream_unique::<u8>();
+    let items = items_of::<u8>(rt.alloc(), b"\x01\x02\x20\x03")?;
+    let told = format!(in rt.alloc(); "{items:?}")?;
+    assert_eq!(rt;
+        told.as_str(),
+        r#"[Ok(1), Ok(2), Err(CastOverflow { name: "u8" })]"#
+    );
+    Ok(())
 }

@@ -15,6 +15,8 @@ pub mod KeyPlaces
 pub mod HashedPlaces
 pub mod Links
 pub mod Wholes
+pub mod Streaming
+pub mod StreamRuns
 pub mod HeadKinds
 pub mod Integers
 pub mod SimpleValues

@@ -25,3 +25,4 @@ pub mod Collections
 pub mod Enums
 pub mod EnumViews
 pub mod Whole
+pub mod Streams

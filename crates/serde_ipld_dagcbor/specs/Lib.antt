@@ -30,6 +30,7 @@ pub use Rattle.dagcbor_read.specs.Collections
 pub use Rattle.dagcbor_read.specs.Accessors
 pub use Rattle.dagcbor_read.specs.Enums
 pub use Rattle.dagcbor_read.specs.Whole
+pub use Rattle.dagcbor_read.specs.Streams
 pub use Rattle.dagcbor_read.specs.Reads
 pub use Rattle.dagcbor_read.specs.Views
 pub use Rattle.dagcbor_read.specs.Collections

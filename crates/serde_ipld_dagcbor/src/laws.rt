@@ -1,7 +1,8 @@
-//! Laws, each the contract of a function that does nothing: those of the grammar, and those of reading and writing.
+//! Laws, each the contract of a function that does nothing: those of the grammar, those of streams, and those of reading and writing.
 
 ghost use Rattle.serde_ipld_dagcbor.specs.RoundTrips.{ReadThenWritten, WrittenThenRead};
 
+pub use dagcbor_read::laws::{stream_unique, streams_exact};
 pub use dagcbor_write::laws::order_unseen;
 pub use ipld_tree::laws::{
     cid_equality, cid_faults, equality, key_order, spelled_is_the_spelling, spelling_unique,

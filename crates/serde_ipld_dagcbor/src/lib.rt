@@ -10,8 +10,9 @@ pub use dagcbor_heads::{
 };
 pub use dagcbor_read::{
     Accessor, Deserialize, DeserializeOwned, Deserializer, EnumAccessor, Fields, IgnoredAny, Shown,
-    Variants, any_from_slice, from_reader, from_reader_once, from_slice, read_enum, read_fields,
-    read_into, read_struct, read_struct_variant, skip_value,
+    StreamDeserializer, Variants, any_from_slice, from_reader, from_reader_once, from_slice,
+    iter_from_reader, read_enum, read_fields, read_into, read_struct, read_struct_variant,
+    skip_value,
 };
 pub use dagcbor_write::{
     BoundedCollect, CollectMap, CollectSeq, Serialize, Serializer, to_vec, to_writer,

@@ -22,6 +22,7 @@ mod required;
 mod second;
 mod states;
 mod std_devices;
+mod streams;
 mod tagged;
 mod trees;
 mod typed;

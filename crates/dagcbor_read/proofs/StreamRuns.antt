@@ -1,0 +1,145 @@
+-- What comes of runs of `next`, against the stream of the type on the bytes.
+use Rattle.std.proofs.Common.{◌≡◌, ◌⊎◌, inl, inr, ℕ, ◌+◌, ◌<◌, ◌≤◌, Bool, true, false, List, [], ◌∷◌, length, map, refl, sym, ap, subst, ◌∙◌, arith}
+use Rattle.std.specs.Prelude.{Option, None, Some, Result, Ok, Err, is_some, is_err, MatchBool}
+use Rattle.std.specs.Iterator.{Yields}
+use Rattle.dagcbor_heads.specs.Reading.{Reading}
+use Rattle.dagcbor_heads.specs.Refusals.{Refuses}
+use Rattle.dagcbor_heads.specs.declared.error.DecodeError.{DecodeError}
+use Rattle.dagcbor_heads.specs.declared.error.DecodeError.TheVariants.{Read, RequireBorrowed, OutOfMemory, Failed, DepthOverflow}
+use Rattle.ipld_tree.specs.Tree.{Tree}
+use Rattle.dagcbor_read.specs.Calls.{Progress, Call}
+use Rattle.dagcbor_read.specs.Reads.{HasFront}
+use Rattle.dagcbor_read.specs.Streams.{Streaming, SomeLeft, AreSome, ReadsNext, as_answer, is_last, IsNextValue, AreStreamItems, GivesUp, NoneGivesUp, EndsAtError, stream_item, AreUpTo, IsOver, Gives, MayBorrow, StreamsAreExact}
+use Rattle.dagcbor_read.proofs.Progressing.{match_true, match_false, call_answered, call_told}
+use Rattle.dagcbor_read.proofs.Streaming.{shorter, goes_on, same_value, no_value_of_none, some_of_none}
+
+-- ---- what came, against the bytes
+
+-- bytes are left, and no value stands at their front
+abbrev NoValue : {V : Type 0} → (Tree → Option V) → (Tree → ℕ) → ℕ → List ℕ → Type 0
+NoValue {V} view need steps b = (0 < length b) × ((v : V) (rest : List ℕ) → IsNextValue view need steps b v rest → ⊥)
+
+module _ {T V : Type 0} (E : Type 0) (held : T → V) (view : Tree → Option V) (need : Tree → ℕ) (may : Type 0) (steps : ℕ) (whole : Bool) where
+  -- values stand one behind the other, and at the end no byte, or no value, or one at which it gave up
+  abbrev Came : List ℕ → List (Result T (DecodeError E)) → Type 0
+  Came b [] = whole ≡ true → b ≡ []
+  Came b (Ok v ∷ xs) = (rest : List ℕ) × IsNextValue view need steps b (held v) rest × Came rest xs
+  Came b (Err e ∷ xs) = (xs ≡ []) × (GivesUp may e ⊎ NoValue view need steps b)
+
+  few : (b : List ℕ) (xs : List (Result T (DecodeError E))) → Came b xs → length xs ≤ length b + 1
+  few b [] h = omega arith
+  few b (Ok v ∷ xs) h = omega (arith, few h.0 xs h.2, shorter b h.0 h.1.0 h.1.1)
+  few b (Err e ∷ xs) h = omega (arith, ap length h.0)
+
+  alike : (b : List ℕ) (xs : List (Result T (DecodeError E))) (items : List (Option V)) → Came b xs → AreStreamItems view need steps b items → AreUpTo held may whole xs items
+  alike b [] [] h k = λ w. refl
+  alike b [] (Some v ∷ items) h k = λ w. absurd (no_value_of_none view need steps b k.0 v (h w) k.1)
+  alike b [] (None ∷ items) h k = λ w. absurd (some_of_none view need steps b (h w) k.1)
+  alike b (Ok v ∷ xs) [] h k = absurd (no_value_of_none view need steps b h.0 (held v) k h.1)
+  alike b (Ok v ∷ xs) (Some w ∷ items) h k =
+      let same = same_value view need steps b (held v) w h.0 k.0 h.1 k.1 in
+      (items, ap (λ x. x ∷ items) (sym same.0), alike h.0 xs items h.2 (subst (λ x. AreStreamItems view need steps x items) (sym same.1) k.2))
+  alike b (Ok v ∷ xs) (None ∷ items) h k = absurd (k.2 (held v) h.0 h.1)
+  alike b (Err e ∷ xs) items h k = (h.0, elim h.1 [ inl g ↦ inl g | inr n ↦ inr (alone items k n) ])
+    where
+      alone : (items : List (Option V)) → AreStreamItems view need steps b items → NoValue view need steps b → items ≡ None ∷ []
+      alone [] k n = absurd (some_of_none view need steps b k n.0)
+      alone (Some w ∷ items) k n = absurd (n.1 w k.0 k.1)
+      alone (None ∷ items) k n = ap (λ x. None ∷ x) k.0
+
+  all_of_it : (b : List ℕ) (xs : List (Result T (DecodeError E))) → whole ≡ true → NoneGivesUp may xs → Came b xs → AreStreamItems view need steps b (map (stream_item held) xs)
+  all_of_it b [] w n h = h w
+  all_of_it b (Ok v ∷ xs) w n h = (h.0, h.1, all_of_it h.0 xs w n h.2)
+  all_of_it b (Err e ∷ xs) w n h = elim h.1 [
+    | inl g ↦ absurd (n.0 g)
+    | inr k ↦ (ap (map (stream_item held)) h.0, k.0, k.1)
+  ]
+
+-- ---- what came, against the calls
+
+module _ {S T V : Type 0} (E : Type 0) (see : S → Streaming) (held : T → V) (view : Tree → Option V) (need : Tree → ℕ) (borrows : Bool) where
+  abbrev Step : S → Option (Result T (DecodeError E)) → S → Type 0
+  Step = Gives E see held view need borrows
+
+  abbrev Reads : Progress → Result (Option T) (DecodeError E) → Progress → Type 0
+  Reads = Call (ReadsNext {E = E} held view need borrows)
+
+  -- a call on what is not done
+  told : (s u : S) (item : Option (Result T (DecodeError E))) → (see s).done ≡ false → Step s item u → ((see u).done ≡ is_last item) × Reads (see s).source (as_answer item) (see u).source
+  told s u item sound h = match_false (see s).done _ _ sound h
+
+  nothing_more : (s t : S) (xs : List (Result T (DecodeError E))) → (see s).done ≡ true → Yields Step s xs t → xs ≡ []
+  nothing_more s t [] d h = refl
+  nothing_more s t (x ∷ xs) d h = let k = match_true (see s).done _ _ d h.1 in let e = k.0 in absurd (cc e)
+
+  ends : (s t : S) (xs : List (Result T (DecodeError E))) → Yields Step s xs t → EndsAtError xs
+  ends s t [] h = tt
+  ends s t (Ok v ∷ xs) h = ends h.0 t xs h.2
+  ends s t (Err e ∷ xs) h = let k = goes_on (Result T (DecodeError E)) _ _ (see s).done (Err e) h.1 in nothing_more h.0 t xs k.1.0 h.2
+
+  -- why there was no value
+  no_value : (b : List ℕ) (old new : Reading) (e : DecodeError E) → old.left ≡ Some b → Refuses (HasFront view need old) (SomeLeft old) ((borrows ≡ true) × SomeLeft old) AreSome old e new
+      → GivesUp (MayBorrow borrows old.lends) e ⊎ NoValue view need old.steps b
+  no_value b old new (Read x) l r = inl tt
+  no_value b old new OutOfMemory l r = inl tt
+  no_value b old new (RequireBorrowed n) l r = inl (r.1.0, r.2)
+  no_value b old new Failed l r = absurd r
+  no_value b old new (DepthOverflow n) l r = inr (r.2 b l, λ v rest h. r.1 record { bytes = b; tree = h.0; rest = rest; left = l; front = h.1; accepted = ap is_some h.2; within = h.3 })
+  no_value b old new _ l r = inr (r.2 b l, λ v rest h. r.1 record { bytes = b; tree = h.0; rest = rest; left = l; front = h.1; accepted = ap is_some h.2; within = h.3 })
+
+  came : (b : List ℕ) (steps : ℕ) (lends whole : Bool) (s t : S) (xs : List (Result T (DecodeError E))) → IsOver b steps lends (see s) → Yields Step s xs t → (whole ≡ true → (u : S) × Step t None u)
+      → Came E held view need (MayBorrow borrows lends) steps whole b xs
+  came b steps lends whole s t [] o h n = λ w.
+      let last = n w in
+      let k = told s last.0 None o.goes_on (subst (λ x. Step x None last.0) (sym h) last.1) in
+      let a = call_answered (ReadsNext {E = E} held view need borrows) (see s).source (see last.0).source None k.1 in
+      a.2.none_left b o.left
+  came b steps lends whole s t (Ok v ∷ xs) o h n =
+      let k = told s h.0 (Some (Ok v)) o.goes_on h.1 in
+      let a = call_answered (ReadsNext {E = E} held view need borrows) (see s).source (see h.0).source (Some v) k.1 in
+      let taken = a.2.taken b o.left in
+      let over : IsOver taken.1 steps lends (see h.0) = record {
+        goes_on = k.0;
+        sound = a.1;
+        left = taken.5;
+        steps_left = a.2.same.steps ∙ o.steps_left;
+        lending = a.2.same.lends ∙ o.lending;
+      } in
+      (taken.1, (taken.0, taken.2, taken.3, omega (arith, taken.4, o.steps_left)), came taken.1 steps lends whole h.0 t xs over h.2 n)
+  came b steps lends whole s t (Err e ∷ xs) o h n =
+      let k = told s h.0 (Some (Err e)) o.goes_on h.1 in
+      let r = call_told (ReadsNext {E = E} held view need borrows) (see s).source (see h.0).source (Err e) o.sound k.1 in
+      let why = no_value b (see s).source.input (see h.0).source.input e o.left r.1 in
+      (nothing_more h.0 t xs k.0 h.2, subst (λ x. GivesUp (MayBorrow borrows x) e ⊎ NoValue view need steps b) o.lending (subst (λ x. GivesUp (MayBorrow borrows (see s).source.input.lends) e ⊎ NoValue view need x b) o.steps_left why))
+
+  -- what had failed gives `Failed`
+  failed_item : (failed : Bool) (x : Result T (DecodeError E)) (P Q : Type 0) → failed ≡ true → MatchBool failed ((as_answer (Some x) ≡ Err Failed) × P) Q → x ≡ Err Failed
+  failed_item false x P Q f h = absurd (cc f)
+  failed_item true (Ok v) P Q f h = let e = h.0 in absurd (cc e)
+  failed_item true (Err e) P Q f h = let same : e ≡ Failed = cc h.0 in ap Err same
+
+  failed_end : (failed : Bool) (P Q : Type 0) → failed ≡ true → MatchBool failed ((◌≡◌ {A = Result (Option T) (DecodeError E)} (Ok None) (Err Failed)) × P) Q → ⊥
+  failed_end false P Q f h = absurd (cc f)
+  failed_end true P Q f h = let e = h.0 in absurd (cc e)
+
+  after_failure : (s t : S) (xs : List (Result T (DecodeError E))) → (see s).done ≡ false → (see s).source.failed ≡ true → Yields Step s xs t → (u : S) × Step t None u → xs ≡ Err Failed ∷ []
+  after_failure s t [] d f h n =
+      let k = told s n.0 None d (subst (λ x. Step x None n.0) (sym h) n.1) in
+      absurd (failed_end (see s).source.failed _ _ f k.1)
+  after_failure s t (x ∷ xs) d f h n =
+      let k = told s h.0 (Some x) d h.1 in
+      let first = failed_item (see s).source.failed x _ _ f k.1 in
+      let none = nothing_more h.0 t xs (k.0 ∙ ap is_err first) h.2 in
+      ap (λ y. y ∷ xs) first ∙ ap (λ y. Err Failed ∷ y) none
+
+  pub exact : StreamsAreExact E see held view need borrows
+  exact s whole xs h = (
+    ends s h.0 xs h.1,
+    λ b steps lends o.
+        let c = came b steps lends whole s h.0 xs o h.1 h.2 in (
+          few E held view need (MayBorrow borrows lends) steps whole b xs c,
+          λ items k. alike E held view need (MayBorrow borrows lends) steps whole b xs items c k,
+          λ w n. all_of_it E held view need (MayBorrow borrows lends) steps whole b xs w n c,
+        ),
+    λ d f w. after_failure s h.0 xs d f h.1 (h.2 w),
+  )

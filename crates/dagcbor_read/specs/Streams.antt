@@ -1,0 +1,142 @@
+-- Streams: values one behind the other.
+use Rattle.std.specs.Prelude.{◌≡◌, ℕ, ◌+◌, ◌<◌, ◌≤◌, ◌⊎◌, Bool, true, false, List, [], ◌∷◌, length, map, Option, None, Some, Result, Ok, Err, is_err, MatchBool, MatchOption, MatchResult, ⊤}
+use Rattle.std.specs.Iterator.{Count, at_most, endless, DrainsIf}
+use Rattle.dagcbor_heads.specs.Reading.{Reading}
+use Rattle.dagcbor_heads.specs.Fronts.{FindsEnd}
+use Rattle.dagcbor_heads.specs.Refusals.{Refuses}
+use Rattle.dagcbor_heads.specs.declared.error.DecodeError.{DecodeError}
+use Rattle.dagcbor_heads.specs.declared.error.DecodeError.TheVariants.{Read, RequireBorrowed, OutOfMemory, Failed}
+use Rattle.ipld_tree.specs.Tree.{Tree}
+use Rattle.ipld_tree.specs.Spelling.{IsFront}
+use Rattle.dagcbor_read.specs.Calls.{Progress, progress, Call}
+use Rattle.dagcbor_read.specs.Reads.{HasFront, TakesFront}
+use Rattle.dagcbor_read.specs.declared.stream.StreamDeserializer.{StreamDeserializer}
+
+-- ---- what contracts see of a stream
+
+pub record Streaming : Type 0 where
+  -- what it reads from
+  pub source : Progress
+  -- whether an error, or the end, was met
+  pub done : Bool
+
+abbrev pub streaming : {R T : Type 0} → (R → Reading) → StreamDeserializer R T → Streaming
+streaming reading s = record { source = progress reading s.de; done = s.done }
+
+-- ---- what one call does
+
+-- known bytes are left
+abbrev pub SomeLeft : Reading → Type 0
+SomeLeft r = (b : List ℕ) → r.left ≡ Some b → 0 < length b
+
+-- there are some
+abbrev pub AreSome : {E : Type 0} → DecodeError E → List ℕ → Type 0
+AreSome e b = 0 < length b
+
+-- The end is found, or a value is read of the bytes that are left, or refused. A fault may come before it is known whether bytes are left.
+abbrev pub ReadsNext : {T V E : Type 0} → (T → V) → (Tree → Option V) → (Tree → ℕ) → Bool → Reading → Result (Option T) (DecodeError E) → Reading → Type 0
+ReadsNext held view need borrows old result new = MatchResult result
+    (λ next. MatchOption next (FindsEnd old new) (λ v. TakesFront view need old (held v) new))
+    (λ e. Refuses (HasFront view need old) (SomeLeft old) ((borrows ≡ true) × SomeLeft old) AreSome old e new)
+
+-- what `next` gives is what reading answered, and the last but after a value
+abbrev pub as_answer : {T E : Type 0} → Option (Result T (DecodeError E)) → Result (Option T) (DecodeError E)
+as_answer None = Ok None
+as_answer (Some (Ok v)) = Ok (Some v)
+as_answer (Some (Err e)) = Err e
+
+abbrev pub is_last : {T E : Type 0} → Option (Result T (DecodeError E)) → Bool
+is_last None = true
+is_last (Some r) = is_err r
+
+-- What `next` does: nothing comes of a stream that is done; else what reading the next value answers.
+abbrev pub GivesNext : {T V E : Type 0} → (T → V) → (Tree → Option V) → (Tree → ℕ) → Bool → Streaming → Option (Result T (DecodeError E)) → Streaming → Type 0
+GivesNext held view need borrows old item new = MatchBool old.done
+    ((item ≡ None) × (new ≡ old))
+    ((new.done ≡ is_last item) × Call (ReadsNext held view need borrows) old.source (as_answer item) new.source)
+
+-- Where n bytes are left, at most n + 1 items come; where the source does not tell its bytes, nothing is said.
+abbrev pub items_left_of : Bool → Option (List ℕ) → Count
+items_left_of true left = at_most 0
+items_left_of false None = endless
+items_left_of false (Some b) = at_most (length b + 1)
+
+abbrev pub items_left : Streaming → Count
+items_left s = items_left_of s.done s.source.input.left
+
+-- ---- the stream of a type on bytes
+
+-- a tree stands at the front that shows v, its need within the steps
+abbrev pub IsNextValue : {V : Type 0} → (Tree → Option V) → (Tree → ℕ) → ℕ → List ℕ → V → List ℕ → Type 0
+IsNextValue view need steps b v rest = (t : Tree) × IsFront b t rest × (view t ≡ Some v) × (need t ≤ steps)
+
+-- The stream of a type on bytes, where `None` stands for a refusal: nothing for no bytes; a value that stands at the front, and then the stream of the
+-- rest; else one refusal, and the end.
+abbrev pub AreStreamItems : {V : Type 0} → (Tree → Option V) → (Tree → ℕ) → ℕ → List ℕ → List (Option V) → Type 0
+AreStreamItems view need steps b [] = b ≡ []
+AreStreamItems view need steps b (Some v ∷ items) = (rest : List ℕ) × IsNextValue view need steps b v rest × AreStreamItems view need steps rest items
+AreStreamItems {V} view need steps b (None ∷ items) = (items ≡ []) × (0 < length b) × ((v : V) (rest : List ℕ) → IsNextValue view need steps b v rest → ⊥)
+
+-- Of given bytes there is one stream at most.
+abbrev pub StreamsAreUnique : {V : Type 0} → (Tree → Option V) → (Tree → ℕ) → Type 0
+StreamsAreUnique {V} view need = (steps : ℕ) (b : List ℕ) (items others : List (Option V)) → AreStreamItems view need steps b items → AreStreamItems view need steps b others → items ≡ others
+
+-- ---- what comes of runs of `next`
+
+-- an error that says nothing of the bytes: a fault, want of memory, or, where that may be, a wish to borrow
+abbrev pub GivesUp : {E : Type 0} → Type 0 → DecodeError E → Type 0
+GivesUp borrows (Read e) = ⊤
+GivesUp borrows OutOfMemory = ⊤
+GivesUp borrows (RequireBorrowed name) = borrows
+GivesUp borrows _ = ⊥
+
+-- a type that borrows wants a loan of a reader that does not lend
+abbrev pub MayBorrow : Bool → Bool → Type 0
+MayBorrow borrows lends = (borrows ≡ true) × (lends ≡ false)
+
+abbrev pub NoneGivesUp : {T E : Type 0} → Type 0 → List (Result T (DecodeError E)) → Type 0
+NoneGivesUp borrows [] = ⊤
+NoneGivesUp borrows (Ok v ∷ xs) = NoneGivesUp borrows xs
+NoneGivesUp borrows (Err e ∷ xs) = (GivesUp borrows e → ⊥) × NoneGivesUp borrows xs
+
+-- behind an error nothing comes
+abbrev pub EndsAtError : {T E : Type 0} → List (Result T (DecodeError E)) → Type 0
+EndsAtError [] = ⊤
+EndsAtError (Ok v ∷ xs) = EndsAtError xs
+EndsAtError (Err e ∷ xs) = xs ≡ []
+
+-- what an item is in the stream of the type
+abbrev pub stream_item : {T V E : Type 0} → (T → V) → Result T (DecodeError E) → Option V
+stream_item held (Ok v) = Some (held v)
+stream_item held (Err e) = None
+
+-- What came is the stream's items, to the last where it is whole; or up to one in whose place an error came that says nothing of the bytes.
+abbrev pub AreUpTo : {T V E : Type 0} → (T → V) → Type 0 → Bool → List (Result T (DecodeError E)) → List (Option V) → Type 0
+AreUpTo held borrows whole [] items = whole ≡ true → items ≡ []
+AreUpTo {T} {V} held borrows whole (Ok v ∷ xs) items = (more : List (Option V)) × (items ≡ Some (held v) ∷ more) × AreUpTo held borrows whole xs more
+AreUpTo held borrows whole (Err e ∷ xs) items = (xs ≡ []) × (GivesUp borrows e ⊎ (items ≡ None ∷ []))
+
+-- a stream, not done, over known bytes, of what has not failed
+pub record IsOver (b : List ℕ) (steps : ℕ) (lends : Bool) (s : Streaming) : Type 0 where
+  pub goes_on : s.done ≡ false
+  pub sound : s.source.failed ≡ false
+  pub left : s.source.input.left ≡ Some b
+  pub steps_left : s.source.input.steps ≡ steps
+  pub lending : s.source.input.lends ≡ lends
+
+module _ {S T V : Type 0} (E : Type 0) (see : S → Streaming) (held : T → V) (view : Tree → Option V) (need : Tree → ℕ) (borrows : Bool) where
+  -- one call of `next`
+  abbrev pub Gives : S → Option (Result T (DecodeError E)) → S → Type 0
+  Gives s item t = GivesNext held view need borrows (see s) item (see t)
+
+  -- Calls of `next` from s gave xs, and then nothing where the run is whole. At most one error came, and nothing behind it. Over known bytes they
+  -- are the stream of the type on the bytes, up to an error that says nothing of the bytes; at most one more than there are bytes. What had failed
+  -- gives `Failed` alone.
+  abbrev pub StreamsAreExact : Type 0
+  StreamsAreExact = (s : S) (whole : Bool) (xs : List (Result T (DecodeError E))) → DrainsIf Gives (whole ≡ true) s xs
+      → EndsAtError xs
+      × ((b : List ℕ) (steps : ℕ) (lends : Bool) → IsOver b steps lends (see s)
+      → (length xs ≤ length b + 1)
+      × ((items : List (Option V)) → AreStreamItems view need steps b items → AreUpTo held (MayBorrow borrows lends) whole xs items)
+      × (whole ≡ true → NoneGivesUp (MayBorrow borrows lends) xs → AreStreamItems view need steps b (map (stream_item held) xs)))
+      × ((see s).done ≡ false → (see s).source.failed ≡ true → whole ≡ true → xs ≡ Err Failed ∷ [])

@@ -1,0 +1,17 @@
+//! Laws of streams, each the contract of a function that does nothing.
+
+ghost use Rattle.dagcbor_read.specs.Streams.{streaming, StreamsAreExact, StreamsAreUnique};
+
+use crate::deserialize::Deserialize;
+use crate::shown::Shown;
+use dagcbor_heads::Read;
+
+/// What comes of a stream over known bytes is the stream of the type on these bytes.
+pub fn streams_exact<'de, T: Deserialize<'de>, R: Read>()
+    ensures { StreamsAreExact R.Error (streaming {T = T} R.reading) T.held T.view T.need T.borrows }
+{}
+
+/// Of given bytes there is one stream of a type.
+pub fn stream_unique<T: Shown>()
+    ensures { StreamsAreUnique T.view T.need }
+{}

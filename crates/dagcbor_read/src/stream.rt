@@ -1,0 +1,94 @@
+//! Streams: values one behind the other, up to the end of the input.
+
+ghost use Rattle.std.specs.Prelude.{◌≡◌, [], false};
+ghost use Rattle.dagcbor_read.specs.Calls.{progress, Call};
+ghost use Rattle.dagcbor_read.specs.Streams.{streaming, items_left, ReadsNext, GivesNext};
+
+use crate::deserialize::{Deserialize, DeserializeOwned};
+use crate::deserializer::Deserializer;
+use dagcbor_heads::{DecodeError, IoReader, Read, is_at_end};
+use std::alloc::Global;
+use std::io::BufRead;
+use std::marker::PhantomData;
+
+/// The values that stand one behind the other in an input. After an error, and after the end, nothing more comes.
+#[derive(Drop)]
+pub struct StreamDeserializer<'de, R, T> {
+    alloc: Global,
+    de: Deserializer<'de, R>,
+    done: bool,
+    output: PhantomData<T>,
+}
+
+impl<'de, R: Read, T: Deserialize<'de>> StreamDeserializer<'de, R, T> {
+    /// The values that are left in the input.
+    pub fn new(alloc: Global, de: Deserializer<'de, R>) -> StreamDeserializer<'de, R, T>
+        ensures { streaming R.reading result ≡ record { source = progress R.reading de.entry; done = false } }
+    {
+        StreamDeserializer {
+            alloc,
+            de,
+            done: false,
+            output: PhantomData,
+        }
+    }
+}
+
+impl<'de, R: Read> Deserializer<'de, R> {
+    /// The values that are left in the input.
+    pub fn into_iter<T: Deserialize<'de>>(self, alloc: Global) -> StreamDeserializer<'de, R, T>
+        ensures { streaming R.reading result ≡ record { source = progress R.reading self.entry; done = false } }
+    {
+        StreamDeserializer::new(alloc, self)
+    }
+
+    /// Reads a value, where the input does not end here. No byte is taken to see this.
+    pub(crate) fn next_value<T: Deserialize<'de>>(
+        &mut self,
+        alloc: Global,
+    ) -> Result<Option<T>, DecodeError<R::Error>>
+        ensures { Call (ReadsNext T.held T.view T.need T.borrows) (progress R.reading self.old) result (progress R.reading self.new) }
+    {
+        self.begin()?;
+        if is_at_end(&mut self.input)? {
+            self.failed = false;
+            return Ok(None);
+        }
+        self.failed = false;
+        let value = self.read_part(alloc)?;
+        Ok(Some(value))
+    }
+}
+
+impl<'de, R: Read, T: Deserialize<'de>> Iterator for StreamDeserializer<'de, R, T> {
+    type Item = Result<T, DecodeError<R::Error>>;
+
+    ghost next_gives = { λ old item new. GivesNext T.held T.view T.need T.borrows (streaming R.reading old) item (streaming R.reading new) };
+
+    ghost remaining = { λ s. items_left (streaming R.reading s) };
+
+    fn next(&mut self) -> Option<Result<T, DecodeError<R::Error>>> {
+        if self.done {
+            return None;
+        }
+        let item = self.de.next_value(self.alloc).transpose();
+        self.done = !matches!(item, Some(Ok(_)));
+        item
+    }
+}
+
+/// The values in the source.
+pub fn iter_from_reader<'de, T: DeserializeOwned<'de>, R: BufRead + Drop>(
+    alloc: Global,
+    source: R,
+) -> StreamDeserializer<'de, IoReader<R>, T>
+    ensures { streaming (λ r. r) result ≡ record {
+      source = record {
+        input = record { left = R.remaining source; shown = []; steps = 256; budget = 256; lends = false; faults = 0; through = [] };
+        failed = false;
+      };
+      done = false;
+    } }
+{
+    Deserializer::from_reader(IoReader::new(source)).into_iter(alloc)
+}

@@ -1,7 +1,7 @@
 -- What comes of runs of `next`, against the stream of the type on the bytes.
 use Rattle.std.proofs.Common.{◌≡◌, ◌⊎◌, inl, inr, ℕ, ◌+◌, ◌<◌, ◌≤◌, Bool, true, false, List, [], ◌∷◌, length, map, refl, sym, ap, subst, ◌∙◌, arith}
 use Rattle.std.specs.Prelude.{Option, None, Some, Result, Ok, Err, is_some, is_err, MatchBool}
-use Rattle.std.specs.Iterator.{Yields}
+use Rattle.std.specs.Iterator.{Yields, DrainsIf}
 use Rattle.dagcbor_heads.specs.Reading.{Reading}
 use Rattle.dagcbor_heads.specs.Refusals.{Refuses}
 use Rattle.dagcbor_heads.specs.declared.error.DecodeError.{DecodeError}
@@ -57,6 +57,12 @@ module _ {T V : Type 0} (E : Type 0) (held : T → V) (view : Tree → Option V)
 
 -- ---- what came, against the calls
 
+-- a stream over known bytes, with so many steps
+record Over (b : List ℕ) (steps : ℕ) (lends : Bool) (s : Streaming) : Type 0 where
+  is_over : IsOver b s
+  steps_left : s.source.input.steps ≡ steps
+  lending : s.source.input.lends ≡ lends
+
 module _ {S T V : Type 0} (E : Type 0) (see : S → Streaming) (held : T → V) (view : Tree → Option V) (need : Tree → ℕ) (borrows : Bool) where
   abbrev Step : S → Option (Result T (DecodeError E)) → S → Type 0
   Step = Gives E see held view need borrows
@@ -87,29 +93,27 @@ module _ {S T V : Type 0} (E : Type 0) (see : S → Streaming) (held : T → V) 
   no_value b old new (DepthOverflow n) l r = inr (r.2 b l, λ v rest h. r.1 record { bytes = b; tree = h.0; rest = rest; left = l; front = h.1; accepted = ap is_some h.2; within = h.3 })
   no_value b old new _ l r = inr (r.2 b l, λ v rest h. r.1 record { bytes = b; tree = h.0; rest = rest; left = l; front = h.1; accepted = ap is_some h.2; within = h.3 })
 
-  came : (b : List ℕ) (steps : ℕ) (lends whole : Bool) (s t : S) (xs : List (Result T (DecodeError E))) → IsOver b steps lends (see s) → Yields Step s xs t → (whole ≡ true → (u : S) × Step t None u)
+  came : (b : List ℕ) (steps : ℕ) (lends whole : Bool) (s t : S) (xs : List (Result T (DecodeError E))) → Over b steps lends (see s) → Yields Step s xs t → (whole ≡ true → (u : S) × Step t None u)
       → Came E held view need (MayBorrow borrows lends) steps whole b xs
   came b steps lends whole s t [] o h n = λ w.
       let last = n w in
-      let k = told s last.0 None o.goes_on (subst (λ x. Step x None last.0) (sym h) last.1) in
+      let k = told s last.0 None o.is_over.goes_on (subst (λ x. Step x None last.0) (sym h) last.1) in
       let a = call_answered (ReadsNext {E = E} held view need borrows) (see s).source (see last.0).source None k.1 in
-      a.2.none_left b o.left
+      a.2.none_left b o.is_over.left
   came b steps lends whole s t (Ok v ∷ xs) o h n =
-      let k = told s h.0 (Some (Ok v)) o.goes_on h.1 in
+      let k = told s h.0 (Some (Ok v)) o.is_over.goes_on h.1 in
       let a = call_answered (ReadsNext {E = E} held view need borrows) (see s).source (see h.0).source (Some v) k.1 in
-      let taken = a.2.taken b o.left in
-      let over : IsOver taken.1 steps lends (see h.0) = record {
-        goes_on = k.0;
-        sound = a.1;
-        left = taken.5;
+      let taken = a.2.taken b o.is_over.left in
+      let over : Over taken.1 steps lends (see h.0) = record {
+        is_over = record { goes_on = k.0; sound = a.1; left = taken.5 };
         steps_left = a.2.same.steps ∙ o.steps_left;
         lending = a.2.same.lends ∙ o.lending;
       } in
       (taken.1, (taken.0, taken.2, taken.3, omega (arith, taken.4, o.steps_left)), came taken.1 steps lends whole h.0 t xs over h.2 n)
   came b steps lends whole s t (Err e ∷ xs) o h n =
-      let k = told s h.0 (Some (Err e)) o.goes_on h.1 in
-      let r = call_told (ReadsNext {E = E} held view need borrows) (see s).source (see h.0).source (Err e) o.sound k.1 in
-      let why = no_value b (see s).source.input (see h.0).source.input e o.left r.1 in
+      let k = told s h.0 (Some (Err e)) o.is_over.goes_on h.1 in
+      let r = call_told (ReadsNext {E = E} held view need borrows) (see s).source (see h.0).source (Err e) o.is_over.sound k.1 in
+      let why = no_value b (see s).source.input (see h.0).source.input e o.is_over.left r.1 in
       (nothing_more h.0 t xs k.0 h.2, subst (λ x. GivesUp (MayBorrow borrows x) e ⊎ NoValue view need steps b) o.lending (subst (λ x. GivesUp (MayBorrow borrows (see s).source.input.lends) e ⊎ NoValue view need x b) o.steps_left why))
 
   -- what had failed gives `Failed`
@@ -132,14 +136,18 @@ module _ {S T V : Type 0} (E : Type 0) (see : S → Streaming) (held : T → V) 
       let none = nothing_more h.0 t xs (k.0 ∙ ap is_err first) h.2 in
       ap (λ y. y ∷ xs) first ∙ ap (λ y. Err Failed ∷ y) none
 
+  from : (s : S) (whole : Bool) (xs : List (Result T (DecodeError E))) → DrainsIf Step (whole ≡ true) s xs → (b : List ℕ) → IsOver b (see s)
+      → Came E held view need (MayBorrow borrows (see s).source.input.lends) (see s).source.input.steps whole b xs
+  from s whole xs h b o = came b (see s).source.input.steps (see s).source.input.lends whole s h.0 xs record { is_over = o; steps_left = refl; lending = refl } h.1 h.2
+
   pub exact : StreamsAreExact E see held view need borrows
-  exact s whole xs h = (
-    ends s h.0 xs h.1,
-    λ b steps lends o.
-        let c = came b steps lends whole s h.0 xs o h.1 h.2 in (
-          few E held view need (MayBorrow borrows lends) steps whole b xs c,
-          λ items k. alike E held view need (MayBorrow borrows lends) steps whole b xs items c k,
-          λ w n. all_of_it E held view need (MayBorrow borrows lends) steps whole b xs w n c,
-        ),
-    λ d f w. after_failure s h.0 xs d f h.1 (h.2 w),
-  )
+  exact s whole xs h =
+      let may = MayBorrow borrows (see s).source.input.lends in
+      let steps = (see s).source.input.steps in
+      record {
+        one_error = ends s h.0 xs h.1;
+        bounded = λ b o. few E held view need may steps whole b xs (from s whole xs h b o);
+        same = λ b o items k. alike E held view need may steps whole b xs items (from s whole xs h b o) k;
+        exact = λ b o w n. all_of_it E held view need may steps whole b xs w n (from s whole xs h b o);
+        failed = λ d f w. after_failure s h.0 xs d f h.1 (h.2 w);
+      }

@@ -12,6 +12,23 @@ use Rattle.dagcbor_read.specs.Calls.{Progress, progress, Call}
 use Rattle.dagcbor_read.specs.Reads.{HasFront, TakesFront}
 use Rattle.dagcbor_read.specs.declared.stream.StreamDeserializer.{StreamDeserializer}
 
+-- ---- the stream of a type on bytes
+
+-- a tree stands at the front that shows v, its need within the steps
+abbrev pub IsNextValue : {V : Type 0} → (Tree → Option V) → (Tree → ℕ) → ℕ → List ℕ → V → List ℕ → Type 0
+IsNextValue view need steps b v rest = (t : Tree) × IsFront b t rest × (view t ≡ Some v) × (need t ≤ steps)
+
+-- The stream of a type on bytes, where `None` stands for a refusal: nothing for no bytes; a value that stands at the front, and then the stream of the
+-- rest; else one refusal, and the end.
+abbrev pub AreStreamItems : {V : Type 0} → (Tree → Option V) → (Tree → ℕ) → ℕ → List ℕ → List (Option V) → Type 0
+AreStreamItems view need steps b [] = b ≡ []
+AreStreamItems view need steps b (Some v ∷ items) = (rest : List ℕ) × IsNextValue view need steps b v rest × AreStreamItems view need steps rest items
+AreStreamItems {V} view need steps b (None ∷ items) = (items ≡ []) × (0 < length b) × ((v : V) (rest : List ℕ) → IsNextValue view need steps b v rest → ⊥)
+
+-- Of given bytes there is one stream at most.
+abbrev pub StreamsAreUnique : {V : Type 0} → (Tree → Option V) → (Tree → ℕ) → Type 0
+StreamsAreUnique {V} view need = (steps : ℕ) (b : List ℕ) (items others : List (Option V)) → AreStreamItems view need steps b items → AreStreamItems view need steps b others → items ≡ others
+
 -- ---- what contracts see of a stream
 
 pub record Streaming : Type 0 where
@@ -64,23 +81,6 @@ items_left_of false (Some b) = at_most (length b + 1)
 abbrev pub items_left : Streaming → Count
 items_left s = items_left_of s.done s.source.input.left
 
--- ---- the stream of a type on bytes
-
--- a tree stands at the front that shows v, its need within the steps
-abbrev pub IsNextValue : {V : Type 0} → (Tree → Option V) → (Tree → ℕ) → ℕ → List ℕ → V → List ℕ → Type 0
-IsNextValue view need steps b v rest = (t : Tree) × IsFront b t rest × (view t ≡ Some v) × (need t ≤ steps)
-
--- The stream of a type on bytes, where `None` stands for a refusal: nothing for no bytes; a value that stands at the front, and then the stream of the
--- rest; else one refusal, and the end.
-abbrev pub AreStreamItems : {V : Type 0} → (Tree → Option V) → (Tree → ℕ) → ℕ → List ℕ → List (Option V) → Type 0
-AreStreamItems view need steps b [] = b ≡ []
-AreStreamItems view need steps b (Some v ∷ items) = (rest : List ℕ) × IsNextValue view need steps b v rest × AreStreamItems view need steps rest items
-AreStreamItems {V} view need steps b (None ∷ items) = (items ≡ []) × (0 < length b) × ((v : V) (rest : List ℕ) → IsNextValue view need steps b v rest → ⊥)
-
--- Of given bytes there is one stream at most.
-abbrev pub StreamsAreUnique : {V : Type 0} → (Tree → Option V) → (Tree → ℕ) → Type 0
-StreamsAreUnique {V} view need = (steps : ℕ) (b : List ℕ) (items others : List (Option V)) → AreStreamItems view need steps b items → AreStreamItems view need steps b others → items ≡ others
-
 -- ---- what comes of runs of `next`
 
 -- an error that says nothing of the bytes: a fault, want of memory, or, where that may be, a wish to borrow
@@ -117,26 +117,33 @@ AreUpTo {T} {V} held borrows whole (Ok v ∷ xs) items = (more : List (Option V)
 AreUpTo held borrows whole (Err e ∷ xs) items = (xs ≡ []) × (GivesUp borrows e ⊎ (items ≡ None ∷ []))
 
 -- a stream, not done, over known bytes, of what has not failed
-pub record IsOver (b : List ℕ) (steps : ℕ) (lends : Bool) (s : Streaming) : Type 0 where
+pub record IsOver (b : List ℕ) (s : Streaming) : Type 0 where
   pub goes_on : s.done ≡ false
   pub sound : s.source.failed ≡ false
   pub left : s.source.input.left ≡ Some b
-  pub steps_left : s.source.input.steps ≡ steps
-  pub lending : s.source.input.lends ≡ lends
 
 module _ {S T V : Type 0} (E : Type 0) (see : S → Streaming) (held : T → V) (view : Tree → Option V) (need : Tree → ℕ) (borrows : Bool) where
   -- one call of `next`
   abbrev pub Gives : S → Option (Result T (DecodeError E)) → S → Type 0
   Gives s item t = GivesNext held view need borrows (see s) item (see t)
 
-  -- Calls of `next` from s gave xs, and then nothing where the run is whole. At most one error came, and nothing behind it. Over known bytes they
-  -- are the stream of the type on the bytes, up to an error that says nothing of the bytes; at most one more than there are bytes. What had failed
-  -- gives `Failed` alone.
+  -- whether a stream from s may wish to borrow
+  abbrev pub MayWish : S → Type 0
+  MayWish s = MayBorrow borrows (see s).source.input.lends
+
+  -- what holds of the items that calls of `next` from s gave
+  pub record IsStreamRun (s : S) (whole : Bool) (xs : List (Result T (DecodeError E))) : Type 0 where
+    -- at most one error came, and nothing behind it
+    pub one_error : EndsAtError xs
+    -- of n known bytes at most n + 1 items came
+    pub bounded : (b : List ℕ) → IsOver b (see s) → length xs ≤ length b + 1
+    -- they are the stream of the type on the bytes, up to an error that says nothing of the bytes
+    pub same : (b : List ℕ) → IsOver b (see s) → (items : List (Option V)) → AreStreamItems view need (see s).source.input.steps b items → AreUpTo held (MayWish s) whole xs items
+    -- where no such error came, and all came, they make a stream
+    pub exact : (b : List ℕ) → IsOver b (see s) → whole ≡ true → NoneGivesUp (MayWish s) xs → AreStreamItems view need (see s).source.input.steps b (map (stream_item held) xs)
+    -- of what had failed comes `Failed` alone
+    pub failed : (see s).done ≡ false → (see s).source.failed ≡ true → whole ≡ true → xs ≡ Err Failed ∷ []
+
+  -- Whatever came of calls of `next`, and of one more that gave nothing where the run is whole, is so.
   abbrev pub StreamsAreExact : Type 0
-  StreamsAreExact = (s : S) (whole : Bool) (xs : List (Result T (DecodeError E))) → DrainsIf Gives (whole ≡ true) s xs
-      → EndsAtError xs
-      × ((b : List ℕ) (steps : ℕ) (lends : Bool) → IsOver b steps lends (see s)
-      → (length xs ≤ length b + 1)
-      × ((items : List (Option V)) → AreStreamItems view need steps b items → AreUpTo held (MayBorrow borrows lends) whole xs items)
-      × (whole ≡ true → NoneGivesUp (MayBorrow borrows lends) xs → AreStreamItems view need steps b (map (stream_item held) xs)))
-      × ((see s).done ≡ false → (see s).source.failed ≡ true → whole ≡ true → xs ≡ Err Failed ∷ [])
+  StreamsAreExact = (s : S) (whole : Bool) (xs : List (Result T (DecodeError E))) → DrainsIf Gives (whole ≡ true) s xs → IsStreamRun s whole xs

@@ -63,8 +63,10 @@ impl<'de, R: Read> Deserializer<'de, R> {
 impl<'de, R: Read, T: Deserialize<'de>> Iterator for StreamDeserializer<'de, R, T> {
     type Item = Result<T, DecodeError<R::Error>>;
 
+    // Nothing of a stream that is done; else what reading the next value answers.
     ghost next_gives = { λ old item new. GivesNext T.held T.view T.need T.borrows (streaming R.reading old) item (streaming R.reading new) };
 
+    // Of n bytes at most n + 1 items, since a value takes a byte.
     ghost remaining = { λ s. items_left (streaming R.reading s) };
 
     fn next(&mut self) -> Option<Result<T, DecodeError<R::Error>>> {

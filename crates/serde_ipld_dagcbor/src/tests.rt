@@ -1,5 +1,6 @@
 //! Rows from outside, each public call once, and devices that show little or fail.
 
+mod alike;
 mod bag;
 mod calls;
 mod color;

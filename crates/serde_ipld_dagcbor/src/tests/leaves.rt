@@ -1,5 +1,6 @@
 //! Leaves, written and read: the examples of the format, and what is refused by which name.
 
+use crate::tests::alike::reads_alike;
 use crate::{EncodeError, Ipld, from_slice, to_vec};
 use std::alloc::{AllocError, Global};
 use std::test::Fail;
@@ -44,6 +45,7 @@ fn integers_both_ways(rt: HostRuntime) -> Result<(), Fail> {
         (0, b"\x00"),
     ];
     for (number, spelling) in rows {
+        assert!(rt; reads_alike(rt.alloc(), spelling)?, "{number}");
         let written = to_vec(rt.alloc(), &Ipld::Integer(number))?;
         assert_eq!(rt; written.as_slice(), spelling, "{number}");
         assert!(rt;
@@ -84,6 +86,7 @@ fn other_leaves_both_ways(rt: HostRuntime) -> Result<(), Fail> {
         (bytes(alloc, b"\xaf\xfe")?, b"\x42\xaf\xfe"),
     ];
     for (value, spelling) in rows {
+        assert!(rt; reads_alike(alloc, spelling)?);
         assert_eq!(rt; to_vec(alloc, &value)?.as_slice(), spelling);
         assert!(rt; from_slice::<Ipld>(alloc, spelling)? == value);
     }
@@ -104,6 +107,7 @@ fn long_byte_strings_both_ways(rt: HostRuntime) -> Result<(), Fail> {
         assert!(rt; written.starts_with(head), "{length}");
         assert_eq!(rt; written.len(), head.len() + length);
         assert!(rt; from_slice::<Ipld>(alloc, &written)? == value, "{length}");
+        assert!(rt; reads_alike(alloc, &written)?, "{length}");
     }
     Ok(())
 }
@@ -137,6 +141,7 @@ fn refusals_name_their_cause(rt: HostRuntime) -> Result<(), Fail> {
         (b"\xf4trailing", "TrailingData"),
     ];
     for (input, told) in rows {
+        assert!(rt; reads_alike(rt.alloc(), input)?, "{input:?}");
         match from_slice::<Ipld>(rt.alloc(), input) {
             Ok(_) => panic!(rt; "{input:?} was read"),
             Err(refusal) => {

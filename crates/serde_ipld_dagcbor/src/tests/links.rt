@@ -1,5 +1,6 @@
 //! Links, read and written.
 
+use crate::tests::alike::reads_alike;
 use crate::tests::devices::Pieces;
 use crate::{BufWriter, Cid, Deserializer, Ipld, Serializer, from_slice, to_vec};
 use std::alloc::{AllocError, Global};
@@ -46,6 +47,7 @@ fn links_are_read_and_written(rt: HostRuntime) -> Result<(), Fail> {
     ];
     for (bytes, length) in rows {
         assert_eq!(rt; bytes.len(), length);
+        assert!(rt; reads_alike(alloc, &bytes)?);
         let value: Ipld = from_slice(alloc, &bytes)?;
         assert_eq!(rt; to_vec(alloc, &value)?.as_slice(), bytes.as_slice());
     }
@@ -117,6 +119,7 @@ fn refusals_of_links_name_their_cause(rt: HostRuntime) -> Result<(), Fail> {
         (b"\xd8\x2a", r#"Eof { name: "cid", expect: Small(1) }"#),
     ];
     for (input, told) in rows {
+        assert!(rt; reads_alike(rt.alloc(), input)?, "{input:?}");
         let text = format!(in rt.alloc(); "{:?}", from_slice::<Ipld>(rt.alloc(), input))?;
         let wanted = format!(in rt.alloc(); "Err({told})")?;
         assert_eq!(rt; text.as_str(), wanted.as_str());

@@ -1,5 +1,6 @@
 //! Lists and maps, read and written.
 
+use crate::tests::alike::reads_alike;
 use crate::{Ipld, from_slice, to_vec};
 use std::alloc::{AllocError, Global};
 use std::collections::BTreeMap;
@@ -52,6 +53,7 @@ fn trees_are_read_and_written(rt: HostRuntime) -> Result<(), Fail> {
         ),
     ];
     for (bytes, told) in rows {
+        assert!(rt; reads_alike(alloc, bytes)?, "{told}");
         let value: Ipld = from_slice(alloc, bytes)?;
         let text = format!(in alloc; "{value:?}")?;
         assert_eq!(rt; text.as_str(), told);
@@ -99,6 +101,7 @@ fn depth_is_bounded(rt: HostRuntime) -> Result<(), Fail> {
     ];
     for (piece, times, end, is_read) in rows {
         let bytes = nested(alloc, piece, times, end)?;
+        assert!(rt; reads_alike(alloc, &bytes)?, "{times}");
         match from_slice::<Ipld>(alloc, &bytes) {
             Ok(value) => {
                 assert!(rt; is_read, "{times}");
@@ -218,6 +221,7 @@ fn refusals_of_trees_name_their_cause(rt: HostRuntime) -> Result<(), Fail> {
         (b"\x81\x01\x02", "TrailingData"),
     ];
     for (input, told) in rows {
+        assert!(rt; reads_alike(rt.alloc(), input)?, "{input:?}");
         match from_slice::<Ipld>(rt.alloc(), input) {
             Ok(_) => panic!(rt; "{input:?} was read"),
             Err(refusal) => {

@@ -53,7 +53,7 @@ fn trees_are_read_and_written(rt: HostRuntime) -> Result<(), Fail> {
         ),
     ];
     for (bytes, told) in rows {
-        assert!(rt; reads_alike(alloc, bytes)?, "{told}");
+        assert!(rt; reads_alike(alloc, bytes)?, "{bytes:?}");
         let value: Ipld = from_slice(alloc, bytes)?;
         let text = format!(in alloc; "{value:?}")?;
         assert_eq!(rt; text.as_str(), told);
@@ -84,6 +84,7 @@ fn keys_are_written_in_their_order(rt: HostRuntime) -> Result<(), Fail> {
     assert!(rt; bytes.starts_with(b"\xa3\x62js\x83\x6blightweight"));
     assert!(rt; bytes[29..].starts_with(b"\x6fobject"));
     assert!(rt; from_slice::<Ipld>(alloc, &bytes)? == value);
+    assert!(rt; reads_alike(alloc, &bytes)?);
     Ok(())
 }
 
@@ -129,6 +130,7 @@ fn a_long_list(rt: HostRuntime) -> Result<(), Fail> {
         _ => panic!(rt; "no list"),
     }
     assert_eq!(rt; to_vec(alloc, &value)?.as_slice(), list.as_slice());
+    assert!(rt; reads_alike(alloc, &list)?);
     Ok(())
 }
 

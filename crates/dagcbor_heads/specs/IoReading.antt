@@ -11,9 +11,14 @@ abbrev pub told : List ℕ → Option (List ℕ) → Option ℕ → Option (List
 told shown None most = None
 told shown (Some b) most = if bytes_eq (take (length shown) b) shown && may_consume (length shown) most then Some b else None
 
--- known bytes are kept, and n of them were copied, which may be consumed: none only at the end, or where none is wanted
-pub record Copies (old new : Option (List ℕ)) (most : Option ℕ) (window : List ℕ) (want n : ℕ) : Type 0 where
+-- what a window shows, and how often its source faulted
+pub record Windowed : Type 0 where
+  pub shown : List ℕ
+  pub faults : ℕ
+
+-- known bytes are kept, and they begin with those that are shown, which may be consumed: none only at the end, or where none is wanted
+pub record Copies (old new : Option (List ℕ)) (most : Option ℕ) (want : ℕ) (shown : List ℕ) : Type 0 where
   pub kept : IfSome old (λ b. new ≡ Some b)
-  pub limit : IfSome old (λ _. IfSome most (λ k. n ≤ k))
-  pub front : IfSome old (λ b. take n b ≡ take n window)
-  pub end : IfSome old (λ b. 0 < want → n ≡ 0 → b ≡ [])
+  pub limit : IfSome old (λ _. IfSome most (λ k. length shown ≤ k))
+  pub front : IfSome old (λ b. take (length shown) b ≡ shown)
+  pub end : IfSome old (λ b. 0 < want → length shown ≡ 0 → b ≡ [])

@@ -1,46 +1,39 @@
 //! A reader over any buffered source.
 
-ghost use Rattle.std.specs.Prelude.{◌≡◌, [], false, min, length, take, List, ℕ, IfOk, OnErr, IfSome, Some, ◌<◌, ◌≤◌};
-ghost use Rattle.dagcbor_heads.specs.IoReading.{Copies};
+ghost use Rattle.std.specs.Prelude.{◌≡◌, [], false, List, ℕ, Some};
 
-use crate::read::{BUDGET, Read};
-use crate::tally::Tally;
+use crate::read::Read;
+use crate::steps::Steps;
+use crate::window::Window;
 use std::io;
 use std::io::BufRead;
 use std::marker::Model;
-
-/// The most bytes that are shown at once.
-pub(crate) const WINDOW: usize = 4096;
 
 /// A reader over a buffered source. It takes no byte from the source before `advance` does: what is shown are copies of
 /// bytes that the source still has. An interrupted call is a fault like any other.
 #[derive(Drop)]
 pub struct IoReader<R: BufRead> {
     source: R,
-    window: [u8; WINDOW],
-    shown: usize,
-    steps: usize,
-    faults: Tally,
+    window: Window,
+    steps: Steps,
 }
 
 impl<R: BufRead> Model for IoReader<R> {
-    ghost use Rattle.std.specs.Prelude.{◌≤◌, [], take, false};
+    ghost use Rattle.std.specs.Prelude.{[], false};
     ghost use Rattle.dagcbor_heads.specs.Reading.{Reading};
     ghost use Rattle.dagcbor_heads.specs.IoReading.{told};
 
     ghost Value = { Reading };
 
     ghost view = { λ s. record {
-      left = told (take s.shown s.window) (R.remaining s.source) (R.consumable_len s.source);
-      shown = take s.shown s.window;
+      left = told s.window.shown (R.remaining s.source) (R.consumable_len s.source);
+      shown = s.window.shown;
       steps = s.steps;
       budget = 256;
       lends = false;
-      faults = s.faults.count;
+      faults = s.window.faults;
       through = [];
     } };
-
-    ghost invariant = { λ s. (s.shown ≤ 4096) × (s.steps ≤ 256) };
 }
 
 impl<R: BufRead> IoReader<R> {
@@ -50,10 +43,8 @@ impl<R: BufRead> IoReader<R> {
     {
         IoReader {
             source,
-            window: [0; WINDOW],
-            shown: 0,
-            steps: BUDGET,
-            faults: Tally::new(),
+            window: Window::new(),
+            steps: Steps::new(),
         }
     }
 
@@ -64,9 +55,7 @@ impl<R: BufRead> IoReader<R> {
         let Self {
             source,
             window: _,
-            shown: _,
             steps: _,
-            faults: _,
         } = self;
         source
     }
@@ -78,63 +67,23 @@ impl<R: BufRead + Drop> Read for IoReader<R> {
     ghost reading = { λ s. s };
 
     fn prepare(&mut self, want: usize) -> Result<(), io::Error> {
-        self.shown = 0;
-        match fill_window(&mut self.source, &mut self.window, want) {
-            Ok(count) => {
-                self.shown = count;
-                Ok(())
-            }
-            Err(fault) => {
-                self.faults.add(1);
-                Err(fault)
-            }
-        }
+        self.window.look(&mut self.source, want)
     }
 
     fn shown(&self) -> &[u8] {
-        &self.window[..self.shown]
+        self.window.shown()
     }
 
     fn advance(&mut self, n: usize) {
         self.source.consume(n);
-        self.shown = 0;
+        self.window.clear();
     }
 
     fn step_in(&mut self) -> bool {
-        if self.steps == 0 {
-            return false;
-        }
-        self.steps -= 1;
-        true
+        self.steps.spend()
     }
 
     fn step_out(&mut self) {
-        self.steps += 1;
+        self.steps.give_back();
     }
-}
-
-/// Copies as many of the bytes as are wanted and there is room for, and answers how many.
-fn copy_front(bytes: &[u8], window: &mut [u8], want: usize) -> usize
-    ensures count { result ≡ min (min (length bytes.now) (length window.old)) want }
-    ensures copied { take result window.new ≡ take result bytes.now }
-{
-    let count = bytes.len().min(window.len()).min(want);
-    window[..count].copy_from_slice(&bytes[..count]);
-    count
-}
-
-/// Copies some of the next bytes of the source, which stay there, and answers how many: at most as many as are wanted, and
-/// none only at the end, or where none is wanted.
-pub(crate) fn fill_window<R: BufRead>(
-    source: &mut R,
-    window: &mut [u8],
-    want: usize,
-) -> io::Result<usize>
-    requires { 0 < length window.old }
-    ensures ok { IfOk result (λ n. Copies (R.remaining source.old) (R.remaining source.new) (R.consumable_len source.new) window.new want n) }
-    ensures most { IfOk result (λ n. n ≤ length window.old) }
-    ensures err { OnErr result (IfSome (R.remaining source.old) (λ b. R.remaining source.new ≡ Some b)) }
-{
-    let bytes = source.fill_buf()?;
-    Ok(copy_front(bytes, window, want))
 }

@@ -2,9 +2,9 @@
 
 ghost use Rattle.std.specs.Prelude.{◌≡◌, ◌∷◌, [], false, List, ℕ, Some};
 
-use crate::io_read::{WINDOW, fill_window};
-use crate::read::{BUDGET, Read};
-use crate::tally::Tally;
+use crate::read::Read;
+use crate::steps::Steps;
+use crate::window::Window;
 use std::io;
 use std::io::BufRead;
 use std::marker::Model;
@@ -14,30 +14,26 @@ use std::marker::Model;
 #[derive(Drop)]
 pub struct IoRefReader<'r, R: BufRead> {
     source: &'r mut R,
-    window: [u8; WINDOW],
-    shown: usize,
-    steps: usize,
-    faults: Tally,
+    window: Window,
+    steps: Steps,
 }
 
 impl<'r, R: BufRead> Model for IoRefReader<'r, R> {
-    ghost use Rattle.std.specs.Prelude.{◌≤◌, ◌∷◌, [], take, false};
+    ghost use Rattle.std.specs.Prelude.{◌∷◌, [], false};
     ghost use Rattle.dagcbor_heads.specs.Reading.{Reading};
     ghost use Rattle.dagcbor_heads.specs.IoReading.{told};
 
     ghost Value = { Reading };
 
     ghost view = { λ s. record {
-      left = told (take s.shown s.window) (R.remaining s.source.now) (R.consumable_len s.source.now);
-      shown = take s.shown s.window;
+      left = told s.window.shown (R.remaining s.source.now) (R.consumable_len s.source.now);
+      shown = s.window.shown;
       steps = s.steps;
       budget = 256;
       lends = false;
-      faults = s.faults.count;
+      faults = s.window.faults;
       through = s.source.ghost_name ∷ [];
     } };
-
-    ghost invariant = { λ s. (s.shown ≤ 4096) × (s.steps ≤ 256) };
 }
 
 impl<'r, R: BufRead> IoRefReader<'r, R> {
@@ -47,10 +43,8 @@ impl<'r, R: BufRead> IoRefReader<'r, R> {
     {
         IoRefReader {
             source,
-            window: [0; WINDOW],
-            shown: 0,
-            steps: BUDGET,
-            faults: Tally::new(),
+            window: Window::new(),
+            steps: Steps::new(),
         }
     }
 
@@ -62,9 +56,7 @@ impl<'r, R: BufRead> IoRefReader<'r, R> {
         let Self {
             source,
             window: _,
-            shown: _,
             steps: _,
-            faults: _,
         } = self;
         source
     }
@@ -76,37 +68,23 @@ impl<R: BufRead> Read for IoRefReader<'_, R> {
     ghost reading = { λ s. s };
 
     fn prepare(&mut self, want: usize) -> Result<(), io::Error> {
-        self.shown = 0;
-        match fill_window(self.source, &mut self.window, want) {
-            Ok(count) => {
-                self.shown = count;
-                Ok(())
-            }
-            Err(fault) => {
-                self.faults.add(1);
-                Err(fault)
-            }
-        }
+        self.window.look(self.source, want)
     }
 
     fn shown(&self) -> &[u8] {
-        &self.window[..self.shown]
+        self.window.shown()
     }
 
     fn advance(&mut self, n: usize) {
         self.source.consume(n);
-        self.shown = 0;
+        self.window.clear();
     }
 
     fn step_in(&mut self) -> bool {
-        if self.steps == 0 {
-            return false;
-        }
-        self.steps -= 1;
-        true
+        self.steps.spend()
     }
 
     fn step_out(&mut self) {
-        self.steps += 1;
+        self.steps.give_back();
     }
 }

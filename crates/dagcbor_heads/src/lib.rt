@@ -12,7 +12,9 @@ mod name;
 mod pull;
 mod push;
 mod read;
+mod steps;
 mod tally;
+mod window;
 mod write;
 
 pub use error::{ArithmeticOverflow, DecodeError, EncodeError, Len};

@@ -4,11 +4,9 @@ ghost use Rattle.std.specs.Prelude.{◌≡◌, ◌+◌, ◌-◌, ◌<◌, ◌≤
 ghost use Rattle.dagcbor_heads.specs.Reading.{Reading, IsShownOf, Shows, Fails, Advances, with_steps};
 ghost use Rattle.dagcbor_heads.specs.Fronts.{Takes};
 
+use crate::steps::Steps;
 use std::convert::Infallible;
 use std::marker::Model;
-
-/// The steps into items that a reader has, where nothing else is said.
-pub(crate) const BUDGET: usize = 256;
 
 /// What is shown of the bytes left: bytes that outlive the reader, or bytes of the reader's own.
 #[derive(Clone, Copy, Debug)]
@@ -66,7 +64,7 @@ pub trait Read: Drop {
 pub struct SliceReader<'a> {
     rest: &'a [u8],
     shown: usize,
-    steps: usize,
+    steps: Steps,
 }
 
 impl<'a> Model for SliceReader<'a> {
@@ -85,7 +83,7 @@ impl<'a> Model for SliceReader<'a> {
       through = [];
     } };
 
-    ghost invariant = { λ s. (s.shown ≤ length s.rest.now) × (s.steps ≤ 256) };
+    ghost invariant = { λ s. s.shown ≤ length s.rest.now };
 }
 
 impl<'a> SliceReader<'a> {
@@ -96,7 +94,7 @@ impl<'a> SliceReader<'a> {
         SliceReader {
             rest: bytes,
             shown: 0,
-            steps: BUDGET,
+            steps: Steps::new(),
         }
     }
 
@@ -145,14 +143,10 @@ impl Read for SliceReader<'_> {
     }
 
     fn step_in(&mut self) -> bool {
-        if self.steps == 0 {
-            return false;
-        }
-        self.steps -= 1;
-        true
+        self.steps.spend()
     }
 
     fn step_out(&mut self) {
-        self.steps += 1;
+        self.steps.give_back();
     }
 }

@@ -60,12 +60,6 @@ begins first more major n rest h e =
       behind = let b : more ≡ bytes_high_first s.width n ++ rest = cc in b ∙ ap (λ k. bytes_high_first k n ++ rest) w;
     }
 
-pub no_head_in_nothing : (major n : ℕ) (rest : List ℕ) → n < 2 ^ 64 → [] ≡ head major n ++ rest → ⊥
-no_head_in_nothing major n rest h e =
-    let s = shape major n h in
-    let t : [] ≡ (32 * major + s.information) ∷ (bytes_high_first s.width n ++ rest) = e ∙ ap (λ b. b ++ rest) s.is in
-    cc
-
 -- ---- the head that bytes make
 
 pub small_head : (first : ℕ) → first % 32 < 24 → head (first / 32) (first % 32) ≡ first ∷ []

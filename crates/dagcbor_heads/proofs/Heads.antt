@@ -138,15 +138,6 @@ pub length-bytes_high_first : (k n : ℕ) → length (bytes_high_first k n) ≡ 
 length-bytes_high_first zero n = refl
 length-bytes_high_first (suc k) n = omega (arith, length-bytes_high_first k n)
 
--- a head has at least one byte and at most nine
-pub head_length : (major n : ℕ) → n < 2 ^ 64 → (1 ≤ length (head major n)) × (length (head major n) ≤ 9)
-head_length major n h =
-    let s = shape major n h in
-    let e = ap length s.is in
-    let l = length-bytes_high_first s.width n in
-    let w = width_le s.row in
-    (omega arith, omega arith)
-
 -- the first byte: the major type, and information below 28
 pub head_first : (major n : ℕ) → n < 2 ^ 64 → (i : ℕ) × (rest : List ℕ) × (i < 28) × (head major n ≡ (32 * major + i) ∷ rest)
 head_first major n h = let s = shape major n h in (s.information, bytes_high_first s.width n, information_lt s.row, s.is)
@@ -182,13 +173,6 @@ byte_lt (suc k) n = mod-lt (n / 256 ^ suc k) (omega arith)
 bytes_lt : (k n : ℕ) → All (λ b. b < 256) (bytes_high_first k n)
 bytes_lt zero n = All-nil (λ b. b < 256)
 bytes_lt (suc k) n = All-cons (λ b. b < 256) _ _ (byte_lt k n) (bytes_lt k n)
-
--- each number of a head is a byte
-pub head_bytes : (major n : ℕ) → major ≤ 7 → n < 2 ^ 64 → All (λ b. b < 256) (head major n)
-head_bytes major n m h =
-    let s = shape major n h in
-    let i = information_lt s.row in
-    subst (All (λ b. b < 256)) (sym s.is) (All-cons (λ b. b < 256) (32 * major + s.information) (bytes_high_first s.width n) (omega arith) (bytes_lt s.width n))
 
 -- k bytes spell one number below 256 ^ k, whatever follows them
 pub same_bytes : (k n o : ℕ) (x y : List ℕ) → n < 256 ^ k → o < 256 ^ k → bytes_high_first k n ++ x ≡ bytes_high_first k o ++ y → n ≡ o

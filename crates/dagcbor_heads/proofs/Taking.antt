@@ -83,10 +83,3 @@ gathered {old} {mid} {new} {want} {n} h is behind a = record {
 pub record GatheredSome (n left : ℕ) (old : Reading) (payload : List ℕ) (now : Reading) : Type 0 where
   pub counted : length payload + left ≡ n
   pub takes : Takes old payload now
-
-pub gathered_more : {old now new : Reading} {n left count : ℕ} {payload after : List ℕ} → GatheredSome n left old payload now → Gathers now payload left count after new
-    → GatheredSome n (left - count) old after new
-gathered_more {old} {now} {new} {n} {left} {count} {payload} {after} s g = record {
-  counted = omega (arith, s.counted, g.counted, g.most, ap length g.behind, length-append payload g.bytes);
-  takes = subst (λ bs. Takes old bs new) (sym g.behind) (takes_both s.takes g.takes);
-}

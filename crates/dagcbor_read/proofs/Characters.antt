@@ -24,9 +24,6 @@ empty : (s : List ℕ) → length s ≡ 0 → s ≡ []
 empty [] e = refl
 empty (c ∷ s) e = absurd (cc e)
 
-pub no_chars : (s : List ℕ) → length s ≡ 0 → None ≡ only (chars s)
-no_chars s e = sym (ap (λ x. only (chars x)) (empty s e) ∙ ap only chars-nil)
-
 pub one_char : (s rest : List ℕ) (c : ℕ) → IsUtf8 s → s ≡ encode_utf8 c ++ rest → length rest ≡ 0 → Some c ≡ only (chars s)
 one_char s rest c u e none = sym (ap only (chars_past_char s rest c u e ∙ ap (λ x. c ∷ chars x) (empty rest none) ∙ ap (λ x. c ∷ x) chars-nil))
 
@@ -47,16 +44,6 @@ is_char (link b) a = absurd (cc a)
 
 char_text : {r : Reading} → HasFront view_char no_need r → HasFront view_text no_need r
 char_text h = record { bytes = h.bytes; tree = h.tree; rest = h.rest; left = h.left; front = h.front; accepted = is_char h.tree h.accepted; within = zero-le }
-
-pub char_text_refused : {E : Type 0} (lacks : Type 0) (old new : Reading) (e : DecodeError E) → Refuses (HasFront view_text no_need old) lacks ⊥ (TextStands (codes "string")) old e new
-    → Refuses (HasFront view_char no_need old) lacks ⊥ CharStands old e new
-char_text_refused lacks old new e r = passed_on (TextStands (codes "string")) CharStands old old new e (stays old) char_text (λ x. x) (λ x. x) (λ b l. (b, l, λ h. inl h)) r
-
-pub char_taken : {old new : Reading} (s t : List ℕ) (c : ℕ) → t ≡ s → Some c ≡ only (chars t) → TakesFront view_text no_need old s new → TakesFront view_char no_need old c new
-char_taken {old} {new} s t c same e h = record {
-  taken = λ b l. let k = h.taken b l in (k.0, k.1, k.2, ap view_char (shown_text k.0 s k.3) ∙ ap (λ x. only (chars x)) (sym same) ∙ sym e, zero-le, k.5);
-  same = h.same;
-}
 
 -- the refusal of a text that has not one character
 abbrev IsCharMessage : {E : Type 0} → DecodeError E → Type 0

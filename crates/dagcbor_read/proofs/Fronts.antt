@@ -81,15 +81,6 @@ head_of {old} {mid} {m} {n} expected starts h = record {
 pub item_still : {spent : ℕ} {old mid : Reading} {first : ℕ} → ShowsByte old first mid → HasItem spent old → HasItem spent mid
 item_still h i = record { bytes = i.bytes; tree = i.tree; rest = i.rest; left = h.kept i.bytes i.left; front = i.front; within = omega (arith, i.within, h.same.steps) }
 
-pub peeked_refused : {E : Type 0} (lacks : Type 0) {old mid : Reading} {first : ℕ} (spent : ℕ) (new : Reading) (e : DecodeError E) → ShowsByte old first mid → Refuses (HasItem spent mid) lacks ⊥ Stands mid e new → Refuses (HasItem spent old) ⊤ ⊥ Stands old e new
-peeked_refused {E} lacks {old} {mid} spent new e h r = passed_on Stands Stands old mid new e h.same (item_still h) (λ _. tt) (λ x. x) (λ b l. (b, h.kept b l, λ x. x)) r
-
-pub peeked_taken : {old mid new : Reading} {first : ℕ} {t : Tree} (spent : ℕ) → ShowsByte old first mid → TakesItem spent mid t new → TakesItem spent old t new
-peeked_taken {old} {mid} {new} spent h a = record {
-  taken = λ b l. (let k = a.taken b (h.kept b l) in (k.0, k.1, omega (arith, k.2, h.same.steps), k.3));
-  same = stays_both h.same a.same;
-}
-
 -- the same tree in another form
 pub as_tree : {spent : ℕ} {old new : Reading} (t u : Tree) → u ≡ t → TakesItem spent old t new → TakesItem spent old u new
 as_tree {spent} {old} {new} t u e h = subst (λ x. TakesItem spent old x new) (sym e) h

@@ -54,17 +54,6 @@ leaf_need (link cid) h = refl
 leaf_need (list ts) h = absurd h
 leaf_need (mapping es) h = absurd h
 
-pub simple_taken : {old new : Reading} {first byte : ℕ} (t : Tree) → StartsWith old first → IsLeaf t × IsTree t × IsSpellable t × (spelling t ≡ first ∷ []) → Takes old (byte ∷ []) new → TakesItem 1 old t new
-simple_taken {old} {new} {first} {byte} t starts k h = record {
-  taken = λ b l.
-      let s = starts b l in
-      let q = h.taken b l in
-      let e : first ∷ s.0 ≡ byte ∷ q.0 = sym s.1 ∙ q.1 in
-      let same : byte ≡ first = cc in
-      (q.0, record { well_formed = k.1; spellable = k.2; is = q.1 ∙ ap (λ x. x ∷ q.0) same ∙ ap (λ r. r ++ q.0) (sym k.3) }, omega (arith, leaf_need t k.0), q.2);
-  same = h.same;
-}
-
 -- an indefinite length, or a break
 pub indefinite_refused : (E : Type 0) (spent : ℕ) {old new : Reading} {first : ℕ} → ShowsByte old first new → first % 32 ≡ 31 → Refuses {E = E} (HasItem spent old) ⊤ ⊥ Stands old IndefiniteSize new
 indefinite_refused E spent {old} {new} {first} h e = (

@@ -40,15 +40,6 @@ no_byte other wanted _ b h = absurd h
 pub wanted_refused : {E : Type 0} (other : List ℕ) (wanted : ℕ) (old new : Reading) (e : DecodeError E) → Refuses (HasByte old) ⊥ ⊥ ByteCause old e new → Refuses (HasWanted wanted old) ⊥ ⊥ (IsOtherByte other wanted) old e new
 wanted_refused other wanted old new e r = passed_on ByteCause (IsOtherByte other wanted) old old new e (stays old) wanted_byte (λ x. x) (λ x. x) (λ b l. (b, l, no_byte other wanted e b)) r
 
-pub other_byte : (E : Type 0) (other : List ℕ) {old new : Reading} {found wanted : ℕ} (name : Name) → Names name other → Takes old (found ∷ []) new → (found ≡ wanted → ⊥) → Refuses {E = E} (HasWanted wanted old) ⊥ ⊥ (IsOtherByte other wanted) old (Mismatch name found) new
-other_byte E other {old} {new} {found} {wanted} name named h differs = (
-  h.same.faults,
-  λ i. let k = h.taken _ i.left in
-      let is : wanted ∷ i.rest ≡ found ∷ k.0 = k.1 in
-      differs (cc is),
-  λ b l. let k = h.taken b l in (named, (k.0, k.1, differs)),
-)
-
 -- ---- behind the tag
 
 -- the byte string as its head and its payload
@@ -86,16 +77,6 @@ no_byte_string E {old} {new} {first} name h other = (
 
 cid_still : {old mid : Reading} {first : ℕ} → ShowsByte old first mid → HasCid old → HasCid mid
 cid_still h i = record { cid = i.cid; rest = i.rest; is_cid = i.is_cid; fits = i.fits; left = h.kept _ i.left }
-
-pub peeked_cid_refused : {E : Type 0} {old mid : Reading} {first : ℕ} (new : Reading) (e : DecodeError E) → ShowsByte old first mid → Refuses (HasCid mid) ⊥ ⊥ CidStands mid e new → Refuses (HasCid old) ⊥ ⊥ CidStands old e new
-peeked_cid_refused {E} {old} {mid} new e h r = passed_on CidStands CidStands old mid new e h.same (cid_still h) (λ x. x) (λ x. x) (λ b l. (b, h.kept b l, λ x. x)) r
-
-pub peeked_cid_taken : {old mid new : Reading} {first : ℕ} {cid : List ℕ} → ShowsByte old first mid → TakesCid mid cid new → TakesCid old cid new
-peeked_cid_taken {old} {mid} {new} h a = record {
-  is_cid = a.is_cid;
-  fits = a.fits;
-  takes = record { taken = λ b l. a.takes.taken b (h.kept b l); same = stays_both h.same a.takes.same };
-}
 
 -- the head was taken, and a CID stands behind it
 record StandsBehind (n : ℕ) (mid : Reading) : Type 0 where
@@ -164,9 +145,6 @@ found_in s t o e h = subst (λ x. IsZeroAndCid x o) e h
 link_head : {old : Reading} → HasLink old → HasWanted 0xd8 old
 link_head h = record { rest = 0x2a ∷ (bytes_spelling (0x00 ∷ h.cid) ++ h.rest); left = h.left ∙ ap Some h.front.is }
 
-pub link_head_refused : {E : Type 0} (old new : Reading) (e : DecodeError E) → Refuses (HasWanted 0xd8 old) ⊥ ⊥ (IsOtherByte (codes "CBOR tag head") 0xd8) old e new → Refuses (HasLink old) ⊥ ⊥ LinkStands old e new
-link_head_refused old new e r = passed_on (IsOtherByte (codes "CBOR tag head") 0xd8) LinkStands old old new e (stays old) link_head (λ x. x) (λ x. x) (λ b l. (b, l, λ h. inl h)) r
-
 -- what stands behind the first byte of a link
 behind_first : {old mid : Reading} → Takes old (0xd8 ∷ []) mid → (i : HasLink old) → mid.left ≡ Some (0x2a ∷ (bytes_spelling (0x00 ∷ i.cid) ++ i.rest))
 behind_first h i =
@@ -174,11 +152,6 @@ behind_first h i =
     let is : 0xd8 ∷ 0x2a ∷ (bytes_spelling (0x00 ∷ i.cid) ++ i.rest) ≡ 0xd8 ∷ k.0 = sym i.front.is ∙ k.1 in
     let same : 0x2a ∷ (bytes_spelling (0x00 ∷ i.cid) ++ i.rest) ≡ k.0 = cc is in
     k.2 ∙ ap Some (sym same)
-
-pub link_tag_refused : {E : Type 0} {old mid : Reading} (new : Reading) (e : DecodeError E) → Takes old (0xd8 ∷ []) mid → Refuses (HasWanted 0x2a mid) ⊥ ⊥ (IsOtherByte (codes "CBOR tag") 0x2a) mid e new → Refuses (HasLink old) ⊥ ⊥ LinkStands old e new
-link_tag_refused {E} {old} {mid} new e h r = passed_on (IsOtherByte (codes "CBOR tag") 0x2a) LinkStands old mid new e h.same
-    (λ i. record { rest = bytes_spelling (0x00 ∷ i.cid) ++ i.rest; left = behind_first h i }) (λ x. x) (λ x. x)
-    (λ b l. let k = h.taken b l in (k.0, k.2, λ s. inr (inl (k.0, k.1, s)))) r
 
 link_cid_refused : {E : Type 0} {old mid tagged : Reading} (new : Reading) (e : DecodeError E) → Takes old (0xd8 ∷ []) mid → Takes mid (0x2a ∷ []) tagged → Refuses (HasCid tagged) ⊥ ⊥ CidStands tagged e new → Refuses (HasLink old) ⊥ ⊥ LinkStands old e new
 link_cid_refused {E} {old} {mid} {tagged} new e h p r = passed_on CidStands LinkStands old tagged new e (stays_both h.same p.same)
@@ -216,5 +189,3 @@ link_refused old new e starts r = passed_on LinkStands Stands old old new e (sta
 tree_of-Link : (c : CidParts) → tree_of (Link' c) ≡ link (cid_bytes c)
 tree_of-Link c = search (rules, the_lemmas)
 
-pub link_item : {old new : Reading} (c : CidParts) → TakesItem 1 old (link (cid_bytes c)) new → TakesItem 1 old (tree_of (Link' c)) new
-link_item c h = as_tree (link (cid_bytes c)) _ (tree_of-Link c) h

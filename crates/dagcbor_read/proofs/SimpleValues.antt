@@ -78,13 +78,3 @@ bool_byte_refused old new e r = passed_on ByteCause BoolStands old old new e (st
 not_boolean : (found : ℕ) (b : Bool) (rest more : List ℕ) → (found ≡ 0xf4 → ⊥) → (found ≡ 0xf5 → ⊥) → boolean_spelling b ++ rest ≡ found ∷ more → ⊥
 not_boolean found false rest more h k e = h (cc e)
 not_boolean found true rest more h k e = k (cc e)
-
-pub no_bool : (E : Type 0) {old new : Reading} {found : ℕ} (kept : Name) → Names kept (codes "bool") → Takes old (found ∷ []) new → (found ≡ 0xf4 → ⊥) → (found ≡ 0xf5 → ⊥)
-    → Refuses {E = E} (HasFront view_bool no_need old) ⊥ ⊥ BoolStands old (Mismatch kept found) new
-no_bool E {old} {new} {found} kept named h not_false not_true = (
-  h.same.faults,
-  λ i. let t = is_boolean i.tree i.accepted in
-      let k = h.taken i.bytes i.left in
-      not_boolean found t.0 i.rest k.0 not_false not_true (ap (λ t. spelling t ++ i.rest) (sym t.1) ∙ sym i.front.is ∙ k.1),
-  λ b l. let k = h.taken b l in (named, (k.0, k.1, not_false, not_true)),
-)

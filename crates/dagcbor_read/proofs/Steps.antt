@@ -77,8 +77,5 @@ stepped_taken {old} {stepped} {now} {new} {t} spent s a back =
       };
     }
 
-pub still_out : {old stepped now : Reading} {t : Tree} {spent : ℕ} → Steps old stepped → TakesItem spent stepped t now → now.steps < now.budget
-still_out s a = omega (arith, s.is_out, a.same.steps, a.same.budget)
-
 pub stepped_major : {old stepped : Reading} {m : ℕ} → Steps old stepped → StartsWithMajor old m → StartsWithMajor stepped m
 stepped_major s h b l = h b (ap (λ (r : Reading). r.left) (sym s.is) ∙ l)

@@ -31,10 +31,6 @@ use Rattle.dagcbor_read.specs.Kinds.{HasKind, TakesKind, HasString, TakesString,
 string_head : {kind : ℕ} {r : Reading} → HasString kind r → HasKind kind kind r
 string_head {kind} h = record { major = kind; argument = length h.payload; rest = h.payload ++ h.rest; lowest = omega arith; highest = omega arith; argument_fits = h.fits; left = h.left }
 
-pub string_head_refused : {E : Type 0} (lacks : Type 0) (name : List ℕ) (kind : ℕ) (old new : Reading) (e : DecodeError E) → Refuses (HasKind kind kind old) ⊥ ⊥ (KindStands name kind kind) old e new
-    → Refuses (HasString kind old) lacks ⊥ (StringStands name kind) old e new
-string_head_refused lacks name kind old new e r = passed_on (KindStands name kind kind) (StringStands name kind) old old new e (stays old) string_head (λ x. absurd x) (λ x. x) (λ b l. (b, l, λ h. inl h)) r
-
 -- the head of one major type was taken
 of_kind : {kind m n : ℕ} {old mid : Reading} → TakesKind kind kind old m n mid → Takes old (head kind n) mid
 of_kind {kind} {m} {n} {old} {mid} h = let same : m ≡ kind = omega (arith, h.lowest, h.highest) in subst (λ x. Takes old (head x n) mid) same h.takes

@@ -17,10 +17,6 @@ spelled-variant name None = sym (append-None (variant_head name))
 spelled-variant name (Some t) =
     ap (λ x. spelled_head 5 1 ++? (spelled_bytes 3 name ++? x)) (append-Some (spelled t)) ∙ sym (append-assoc (spelled_head 5 1) (spelled_bytes 3 name) (spelled t))
 
-pub variant-IsTree : (name : List ℕ) (part : Option Tree) → IsTree (text name) → IfSome part IsTree → IfSome (variant_tree name part) IsTree
-variant-IsTree name None g h = tt
-variant-IsTree name (Some t) g h = (g, h, tt, tt)
-
 pub begin-newtype-variant : (name : List ℕ) (part : Option Tree) (s : Written) → Written-but (spelled_tree (variant_tree name part)) (variant_head name ∷ spelled_tree part ∷ []) s s
 begin-newtype-variant name part s = begin-writing _ _ s (spelled-variant name part ∙ ap (λ x. variant_head name ++? x) (sym (append-Some (spelled_tree part))))
 

@@ -127,13 +127,6 @@ information_lt (two a b c d) = omega arith
 information_lt (four a b c d) = omega arith
 information_lt (eight a b c d) = omega arith
 
-width_le : {i w n : ℕ} → Row i w n → w ≤ 8
-width_le (whole a b c) = omega arith
-width_le (one a b c d) = omega arith
-width_le (two a b c d) = omega arith
-width_le (four a b c d) = omega arith
-width_le (eight a b c d) = omega arith
-
 pub length-bytes_high_first : (k n : ℕ) → length (bytes_high_first k n) ≡ k
 length-bytes_high_first zero n = refl
 length-bytes_high_first (suc k) n = omega (arith, length-bytes_high_first k n)
@@ -165,14 +158,6 @@ head_unique major n other o x y h k e =
     let whole : head major n ++ x ≡ head major o ++ y = e ∙ ap (λ m. head m o ++ y) (sym major_is) in
     let n_is = same_from_nat_cmp n o (first_of_cmp _ (slice_cmp nat_cmp x y) (sym (head_cmp major n o x y h k) ∙ cmp_of_same _ _ whole)) in
     (major_is, n_is, append_cancel_left (head major n) x y (whole ∙ ap (λ m. head major m ++ y) (sym n_is)))
-
-byte_lt : (k n : ℕ) → byte_at k n < 256
-byte_lt zero n = mod-lt n (omega arith)
-byte_lt (suc k) n = mod-lt (n / 256 ^ suc k) (omega arith)
-
-bytes_lt : (k n : ℕ) → All (λ b. b < 256) (bytes_high_first k n)
-bytes_lt zero n = All-nil (λ b. b < 256)
-bytes_lt (suc k) n = All-cons (λ b. b < 256) _ _ (byte_lt k n) (bytes_lt k n)
 
 -- k bytes spell one number below 256 ^ k, whatever follows them
 pub same_bytes : (k n o : ℕ) (x y : List ℕ) → n < 256 ^ k → o < 256 ^ k → bytes_high_first k n ++ x ≡ bytes_high_first k o ++ y → n ≡ o

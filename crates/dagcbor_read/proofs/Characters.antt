@@ -32,19 +32,6 @@ two_chars s rest more c d u e f = sym (ap only (chars_past_char s rest c u e ∙
 
 -- ---- a text of one character
 
-is_char : (t : Tree) → is_some (view_char t) ≡ true → is_some (view_text t) ≡ true
-is_char (text s) a = refl
-is_char null a = absurd (cc a)
-is_char (boolean b) a = absurd (cc a)
-is_char (integer b) a = absurd (cc a)
-is_char (bytes b) a = absurd (cc a)
-is_char (list b) a = absurd (cc a)
-is_char (mapping b) a = absurd (cc a)
-is_char (link b) a = absurd (cc a)
-
-char_text : {r : Reading} → HasFront view_char no_need r → HasFront view_text no_need r
-char_text h = record { bytes = h.bytes; tree = h.tree; rest = h.rest; left = h.left; front = h.front; accepted = is_char h.tree h.accepted; within = zero-le }
-
 -- the refusal of a text that has not one character
 abbrev IsCharMessage : {E : Type 0} → DecodeError E → Type 0
 IsCharMessage e = (message : Name) × (e ≡ Msg message) × Names message (codes "Char must be one character")

@@ -52,11 +52,11 @@ item_has_head h = record {
 pub item_has_byte : {spent : ℕ} {r : Reading} → HasItem spent r → HasByte r
 item_has_byte h = let f = front_first h.bytes h.rest h.tree h.front in record { byte = 32 * major h.tree + f.0; rest = f.1; left = h.left ∙ ap Some f.3 }
 
-pub head_refused : {E : Type 0} (lacks : Type 0) (spent : ℕ) (old new : Reading) (e : DecodeError E) → Refuses (HasHead old) lacks ⊥ HeadCause old e new → Refuses (HasItem spent old) ⊤ ⊥ Stands old e new
-head_refused lacks spent old new e r = passed_on HeadCause Stands old old new e (stays old) item_has_head (λ _. tt) (λ x. x) (λ b l. (b, l, λ h. stands_here e b (inl h))) r
+pub head_refused : {E : Type 0} (lacks : Type 0) (spent : ℕ) (old new : Reading) (e : DecodeError E) → Refuses (HasHead old) ⊥ ⊥ HeadCause old e new → Refuses (HasItem spent old) lacks ⊥ Stands old e new
+head_refused lacks spent old new e r = passed_on HeadCause Stands old old new e (stays old) item_has_head (λ x. absurd x) (λ x. x) (λ b l. (b, l, λ h. stands_here e b (inl h))) r
 
-pub byte_refused : {E : Type 0} (lacks : Type 0) (spent : ℕ) (old new : Reading) (e : DecodeError E) → Refuses (HasByte old) lacks ⊥ ByteCause old e new → Refuses (HasItem spent old) ⊤ ⊥ Stands old e new
-byte_refused lacks spent old new e r = passed_on ByteCause Stands old old new e (stays old) item_has_byte (λ _. tt) (λ x. x) (λ b l. (b, l, λ h. stands_here e b (inl (byte_in_head e b h)))) r
+pub byte_refused : {E : Type 0} (lacks : Type 0) (spent : ℕ) (old new : Reading) (e : DecodeError E) → Refuses (HasByte old) ⊥ ⊥ ByteCause old e new → Refuses (HasItem spent old) lacks ⊥ Stands old e new
+byte_refused lacks spent old new e r = passed_on ByteCause Stands old old new e (stays old) item_has_byte (λ x. absurd x) (λ x. x) (λ b l. (b, l, λ h. stands_here e b (inl (byte_in_head e b h)))) r
 
 -- ---- a head of a known major type
 
@@ -76,10 +76,6 @@ head_of {old} {mid} {m} {n} expected starts h = record {
 }
 
 -- ---- behind a byte that was shown
-
--- what stands before a byte was shown stands there then, too
-pub item_still : {spent : ℕ} {old mid : Reading} {first : ℕ} → ShowsByte old first mid → HasItem spent old → HasItem spent mid
-item_still h i = record { bytes = i.bytes; tree = i.tree; rest = i.rest; left = h.kept i.bytes i.left; front = i.front; within = omega (arith, i.within, h.same.steps) }
 
 -- the same tree in another form
 pub as_tree : {spent : ℕ} {old new : Reading} (t u : Tree) → u ≡ t → TakesItem spent old t new → TakesItem spent old u new

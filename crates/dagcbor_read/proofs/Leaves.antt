@@ -37,26 +37,16 @@ unsupported {old} {spent} {first} starts major_7 other i =
     let same : first ≡ k.0 = cc in
     other (omega (arith, same, k.2)) (omega (arith, same, k.3))
 
-pub unsupported_refused : (E : Type 0) (spent : ℕ) (old : Reading) (name : Name) (first : ℕ) → StartsWith old first → first / 32 ≡ 7 → ((0xf4 ≤ first) → (first ≤ 0xf6) → ⊥) → Refuses {E = E} (HasItem spent old) ⊤ ⊥ Stands old (Unsupported name first) old
-unsupported_refused E spent old name first starts major_7 other = (
+pub unsupported_refused : (E lacks : Type 0) (spent : ℕ) (old : Reading) (name : Name) (first : ℕ) → StartsWith old first → first / 32 ≡ 7 → ((0xf4 ≤ first) → (first ≤ 0xf6) → ⊥) → Refuses {E = E} (HasItem spent old) lacks ⊥ Stands old (Unsupported name first) old
+unsupported_refused E lacks spent old name first starts major_7 other = (
   refl,
   unsupported starts major_7 other,
   λ b l. let s = starts b l in stands_here {E = E} (Unsupported name first) b (inr (inl (s.0, s.1, major_7, other))),
 )
 
-leaf_need : (t : Tree) → IsLeaf t → any_need t ≡ 1
-leaf_need null h = refl
-leaf_need (boolean b) h = refl
-leaf_need (integer n) h = refl
-leaf_need (text s) h = refl
-leaf_need (bytes s) h = refl
-leaf_need (link cid) h = refl
-leaf_need (list ts) h = absurd h
-leaf_need (mapping es) h = absurd h
-
 -- an indefinite length, or a break
-pub indefinite_refused : (E : Type 0) (spent : ℕ) {old new : Reading} {first : ℕ} → ShowsByte old first new → first % 32 ≡ 31 → Refuses {E = E} (HasItem spent old) ⊤ ⊥ Stands old IndefiniteSize new
-indefinite_refused E spent {old} {new} {first} h e = (
+pub indefinite_refused : (E lacks : Type 0) (spent : ℕ) {old new : Reading} {first : ℕ} → ShowsByte old first new → first % 32 ≡ 31 → Refuses {E = E} (HasItem spent old) lacks ⊥ Stands old IndefiniteSize new
+indefinite_refused E lacks spent {old} {new} {first} h e = (
   h.same.faults,
   λ i. let f = front_first i.bytes i.rest i.tree i.front in
       let s = h.starts i.bytes i.left in

@@ -2,6 +2,7 @@ pub mod Rows
 pub mod Fronts
 pub mod Leaves
 pub mod Steps
+pub mod Skips
 pub mod Lists
 pub mod Pushes
 pub mod Keys

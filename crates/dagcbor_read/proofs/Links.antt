@@ -75,9 +75,6 @@ no_byte_string E {old} {new} {first} name h other = (
   λ b l. let s = h.starts b l in inr (s.0, s.1, other),
 )
 
-cid_still : {old mid : Reading} {first : ℕ} → ShowsByte old first mid → HasCid old → HasCid mid
-cid_still h i = record { cid = i.cid; rest = i.rest; is_cid = i.is_cid; fits = i.fits; left = h.kept _ i.left }
-
 -- the head was taken, and a CID stands behind it
 record StandsBehind (n : ℕ) (mid : Reading) : Type 0 where
   cid : List ℕ
@@ -142,9 +139,6 @@ found_in s t o e h = subst (λ x. IsZeroAndCid x o) e h
 
 -- ---- the tag
 
-link_head : {old : Reading} → HasLink old → HasWanted 0xd8 old
-link_head h = record { rest = 0x2a ∷ (bytes_spelling (0x00 ∷ h.cid) ++ h.rest); left = h.left ∙ ap Some h.front.is }
-
 -- what stands behind the first byte of a link
 behind_first : {old mid : Reading} → Takes old (0xd8 ∷ []) mid → (i : HasLink old) → mid.left ≡ Some (0x2a ∷ (bytes_spelling (0x00 ∷ i.cid) ++ i.rest))
 behind_first h i =
@@ -182,10 +176,6 @@ item_link {old} {spent} starts i =
     let l = is_link i.tree (major_of_front i.bytes i.rest i.tree 6 (starts i.bytes i.left) i.front) in
     record { bytes = i.bytes; cid = l.0; rest = i.rest; left = i.left; front = subst (λ t. IsFront i.bytes t i.rest) l.1 i.front }
 
-pub link_refused : {E : Type 0} (old new : Reading) (e : DecodeError E) → StartsWithMajor old 6 → Refuses (HasLink old) ⊥ ⊥ LinkStands old e new → Refuses (HasItem 1 old) ⊤ ⊥ Stands old e new
-link_refused old new e starts r = passed_on LinkStands Stands old old new e (stays old) (item_link starts) (λ _. tt) (λ x. x)
+pub link_refused : {E : Type 0} (old new : Reading) (e : DecodeError E) → StartsWithMajor old 6 → Refuses (HasLink old) ⊥ ⊥ LinkStands old e new → Refuses (HasItem 1 old) ⊥ ⊥ Stands old e new
+link_refused old new e starts r = passed_on LinkStands Stands old old new e (stays old) (item_link starts) (λ x. x) (λ x. x)
     (λ b l. (b, l, λ h. stands_here e b (inr (inr (starts b l, h))))) r
-
-tree_of-Link : (c : CidParts) → tree_of (Link' c) ≡ link (cid_bytes c)
-tree_of-Link c = search (rules, the_lemmas)
-

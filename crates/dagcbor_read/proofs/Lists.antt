@@ -30,8 +30,8 @@ is_list_at starts i = is_list i.tree (major_of_front i.bytes i.rest i.tree 4 (st
 two_steps : (t : Tree) (ts : Items) → t ≡ list ts → 2 ≤ any_need t
 two_steps t ts e = omega (arith, ap any_need e)
 
-pub no_list_step : (E : Type 0) (old new : Reading) (name : Name) → StartsWithMajor old 4 → old.steps ≡ 0 → new ≡ old → Refuses {E = E} (HasItem 1 old) ⊤ ⊥ Stands old (DepthOverflow name) new
-no_list_step E old new name starts none same = too_deep E 1 old new name none same (λ i. let l = is_list_at starts i in two_steps i.tree l.0 l.1)
+pub no_list_step : (E lacks : Type 0) (old new : Reading) (name : Name) → StartsWithMajor old 4 → old.steps ≡ 0 → new ≡ old → Refuses {E = E} (HasItem 1 old) lacks ⊥ Stands old (DepthOverflow name) new
+no_list_step E lacks old new name starts none same = too_deep E lacks 1 old new name none same (λ i. let l = is_list_at starts i in two_steps i.tree l.0 l.1)
 
 -- where a list stands, its items stand behind its head
 list_items : {stepped mid : Reading} {n : ℕ} → StartsWithMajor stepped 4 → TakesHeadOf stepped 4 n mid → HasItem 2 stepped → HasItems n mid
@@ -41,29 +41,31 @@ list_items {stepped} {mid} {n} starts h i =
     let o = list_opened i.bytes k.0 i.rest n l.0 h.fits (subst (λ t. IsFront i.bytes t i.rest) l.1 i.front) k.1 in
     record { bytes = k.0; items = l.0; rest = i.rest; left = k.2; counted = o.0; fronts = o.1; within = omega (arith, i.within, ap any_need l.1, h.same.steps) }
 
-pub list_refused : {E : Type 0} {stepped mid : Reading} (new : Reading) (n : ℕ) (e : DecodeError E) → StartsWithMajor stepped 4 → TakesHeadOf stepped 4 n mid → Refuses (HasItems n mid) ⊤ ⊥ Stands mid e new → Refuses (HasItem 2 stepped) ⊤ ⊥ Stands stepped e new
-list_refused {E} {stepped} {mid} new n e starts h r = passed_on Stands Stands stepped mid new e h.same (list_items starts h) (λ x. x) (λ x. x)
+pub list_refused : {E lacks lacks' : Type 0} {stepped mid : Reading} (new : Reading) (n : ℕ) (e : DecodeError E) → StartsWithMajor stepped 4 → TakesHeadOf stepped 4 n mid → (lacks → lacks') → Refuses (HasItems n mid) lacks ⊥ Stands mid e new → Refuses (HasItem 2 stepped) lacks' ⊥ Stands stepped e new
+list_refused {E} {lacks} {lacks'} {stepped} {mid} new n e starts h w r = passed_on Stands Stands stepped mid new e h.same (list_items starts h) w (λ x. x)
     (λ b l. let k = h.taken b l in (k.0, k.2, stands_behind e b k.0 (behind_head b k.0 4 n (inl refl) h.fits k.1))) r
 
 item_count-items_of : (ts : List Tree) → item_count (items_of ts) ≡ length ts
 item_count-items_of [] = refl
 item_count-items_of (t ∷ ts) = ap suc (item_count-items_of ts)
 
-pub list_taken : {stepped mid now : Reading} {n : ℕ} (v : Vec Ipld Global) → TakesHeadOf stepped 4 n mid → (length v.items ≡ n) × TakesItems mid (trees_of v.items) now → TakesItem 2 stepped (tree_of (List' v)) now
-list_taken {stepped} {mid} {now} {n} v h r =
-    let ts = trees_of v.items in
-    let count : item_count (items_of ts) ≡ n = item_count-items_of ts ∙ length_map v.items ∙ r.0 in
-    as_tree (list (items_of ts)) _ (tree_of-List v) record {
+pub list_taken : {stepped mid now : Reading} {n : ℕ} (ts : List Tree) → TakesHeadOf stepped 4 n mid → length ts ≡ n → TakesItems mid ts now → TakesItem 2 stepped (list (items_of ts)) now
+list_taken {stepped} {mid} {now} {n} ts h counted a =
+    let count : item_count (items_of ts) ≡ n = item_count-items_of ts ∙ counted in
+    record {
       taken = λ b l.
           let k = h.taken b l in
-          let q = r.1.taken k.0 k.2 in (
+          let q = a.taken k.0 k.2 in (
             q.0,
             subst (λ x. IsFront x (list (items_of ts)) q.0) (ap (λ m. head 4 m ++ k.0) count ∙ sym k.1) (list_closed k.0 q.0 (items_of ts) (omega (arith, count, h.fits)) q.1),
             omega (arith, q.2, h.same.steps),
             q.3,
           );
-      same = stays_both h.same r.1.same;
+      same = stays_both h.same a.same;
     }
+
+pub list_as_tree : {stepped mid now : Reading} {n : ℕ} (v : Vec Ipld Global) → TakesHeadOf stepped 4 n mid → (length v.items ≡ n) × TakesItems mid (trees_of v.items) now → TakesItem 2 stepped (tree_of (List' v)) now
+list_as_tree {stepped} {mid} {now} {n} v h r = as_tree (list (items_of (trees_of v.items))) _ (tree_of-List v) (list_taken (trees_of v.items) h (length_map v.items ∙ r.0) r.1)
   where
     length_map : (xs : List Ipld) → length (trees_of xs) ≡ length xs
     length_map [] = refl
@@ -128,8 +130,8 @@ next_item {old} {now} {count} {left} ts more s i =
     first (item u us) c {rest} f l some within =
         record { bytes = c; tree = u; rest = _; left = l; front = (item_opened c rest u us f).0; within = omega (arith, within) }
 
-pub next_refused : {E : Type 0} {old now : Reading} {count left : ℕ} (new : Reading) (ts : List Tree) (e : DecodeError E) → 0 < left → ReadSome count left old ts now → Refuses (HasItem 0 now) ⊤ ⊥ Stands now e new → Refuses (HasItems count old) ⊤ ⊥ Stands old e new
-next_refused {E} {old} {now} {count} {left} new ts e more s r = passed_on Stands Stands old now new e s.takes.same (next_item ts more s) (λ x. x) (λ x. x)
+pub next_refused : {E lacks lacks' : Type 0} {old now : Reading} {count left : ℕ} (new : Reading) (ts : List Tree) (e : DecodeError E) → 0 < left → ReadSome count left old ts now → (lacks → lacks') → Refuses (HasItem 0 now) lacks ⊥ Stands now e new → Refuses (HasItems count old) lacks' ⊥ Stands old e new
+next_refused {E} {lacks} {lacks'} {old} {now} {count} {left} new ts e more s w r = passed_on Stands Stands old now new e s.takes.same (next_item ts more s) w (λ x. x)
     (λ b l. let k = s.takes.taken b l in (k.0, k.3, stands_behind e b k.0 (behind_fronts b k.0 (items_of ts) k.1))) r
 
 pub all_read : {old now : Reading} {count left : ℕ} (ts : List Tree) → left ≡ 0 → ReadSome count left old ts now → (length ts ≡ count) × TakesItems old ts now

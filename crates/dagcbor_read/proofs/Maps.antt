@@ -94,9 +94,9 @@ unordered_somewhere {E} es b c previous e h last (inr u) =
       }),
     )
 
-pub next_key_refused : {E : Type 0} {old now : Reading} {count left : ℕ} {es : Entries} {previous : Option (List ℕ)} (new : Reading) (e : DecodeError E) → 0 < left → ReadEntries count left old es previous now
-    → Refuses (HasKey previous now) (now.lends ≡ false) ⊥ (KeyStands previous) now e new → Refuses (HasEntries count old) ⊤ ⊥ Stands old e new
-next_key_refused {E} {old} {now} {count} {left} {es} {previous} new e more s r = passed_on (KeyStands previous) Stands old now new e s.takes.same (next_key more s) (λ x. tt) (λ x. x)
+pub next_key_refused : {E lacks' : Type 0} {old now : Reading} {count left : ℕ} {es : Entries} {previous : Option (List ℕ)} (new : Reading) (e : DecodeError E) → 0 < left → ReadEntries count left old es previous now → (now.lends ≡ false → lacks')
+    → Refuses (HasKey previous now) (now.lends ≡ false) ⊥ (KeyStands previous) now e new → Refuses (HasEntries count old) lacks' ⊥ Stands old e new
+next_key_refused {E} {lacks'} {old} {now} {count} {left} {es} {previous} new e more s w r = passed_on (KeyStands previous) Stands old now new e s.takes.same (next_key more s) w (λ x. x)
     (λ b l. let k = s.takes.taken b l in (k.0, k.3, unordered_somewhere es b k.0 previous e k.1 s.last)) r
 
 -- a key was read as well
@@ -107,10 +107,10 @@ next_value {old} {now} {mid} {count} {left} {es} {previous} key more s a i =
     let same = front_unique n.bytes q.0 n.behind (text key) (text n.key) q.1 n.key_front in
     record { bytes = n.behind; tree = n.tree; rest = n.rest; left = q.3 ∙ ap Some same.1; front = n.front; within = omega (arith, n.within, a.same.steps) }
 
-pub next_value_refused : {E : Type 0} {old now mid : Reading} {count left : ℕ} {es : Entries} {previous : Option (List ℕ)} (key : List ℕ) (new : Reading) (e : DecodeError E) → 0 < left → ReadEntries count left old es previous now → TakesItem 1 now (text key) mid
-    → Refuses (HasItem 0 mid) ⊤ ⊥ Stands mid e new → Refuses (HasEntries count old) ⊤ ⊥ Stands old e new
-next_value_refused {E} {old} {now} {mid} {count} {left} {es} {previous} key new e more s a r = passed_on Stands Stands old mid new e
-    (stays_both s.takes.same a.same) (next_value key more s a) (λ x. x) (λ x. x)
+pub next_value_refused : {E lacks lacks' : Type 0} {old now mid : Reading} {count left : ℕ} {es : Entries} {previous : Option (List ℕ)} (key : List ℕ) (new : Reading) (e : DecodeError E) → 0 < left → ReadEntries count left old es previous now → TakesItem 1 now (text key) mid → (lacks → lacks')
+    → Refuses (HasItem 0 mid) lacks ⊥ Stands mid e new → Refuses (HasEntries count old) lacks' ⊥ Stands old e new
+next_value_refused {E} {lacks} {lacks'} {old} {now} {mid} {count} {left} {es} {previous} key new e more s a w r = passed_on Stands Stands old mid new e
+    (stays_both s.takes.same a.same) (next_value key more s a) w (λ x. x)
     (λ b l. let k = s.takes.taken b l in let q = a.taken k.0 k.3 in
     (q.0, q.3, stands_behind e b q.0 (behind_both b k.0 q.0 (behind_entries b k.0 es k.1) (behind_front k.0 q.0 (text key) q.1)))) r
 
@@ -146,8 +146,8 @@ is_map_at starts i = is_mapping i.tree (major_of_front i.bytes i.rest i.tree 5 (
 two_steps : (t : Tree) (es : Entries) → t ≡ mapping es → 2 ≤ any_need t
 two_steps t es e = omega (arith, ap any_need e)
 
-pub no_map_step : (E : Type 0) (old new : Reading) (name : Name) → StartsWithMajor old 5 → old.steps ≡ 0 → new ≡ old → Refuses {E = E} (HasItem 1 old) ⊤ ⊥ Stands old (DepthOverflow name) new
-no_map_step E old new name starts none same = too_deep E 1 old new name none same (λ i. let l = is_map_at starts i in two_steps i.tree l.0 l.1)
+pub no_map_step : (E lacks : Type 0) (old new : Reading) (name : Name) → StartsWithMajor old 5 → old.steps ≡ 0 → new ≡ old → Refuses {E = E} (HasItem 1 old) lacks ⊥ Stands old (DepthOverflow name) new
+no_map_step E lacks old new name starts none same = too_deep E lacks 1 old new name none same (λ i. let l = is_map_at starts i in two_steps i.tree l.0 l.1)
 
 map_entries : {stepped mid : Reading} {n : ℕ} → StartsWithMajor stepped 5 → TakesHeadOf stepped 5 n mid → HasItem 2 stepped → HasEntries n mid
 map_entries {stepped} {mid} {n} starts h i =
@@ -156,8 +156,8 @@ map_entries {stepped} {mid} {n} starts h i =
     let o = map_opened i.bytes k.0 i.rest n l.0 h.fits (subst (λ t. IsFront i.bytes t i.rest) l.1 i.front) k.1 in
     record { bytes = k.0; entries = l.0; rest = i.rest; left = k.2; counted = o.0; fronts = o.1; within = omega (arith, i.within, ap any_need l.1, h.same.steps) }
 
-pub map_refused : {E : Type 0} {stepped mid : Reading} (new : Reading) (n : ℕ) (e : DecodeError E) → StartsWithMajor stepped 5 → TakesHeadOf stepped 5 n mid → Refuses (HasEntries n mid) ⊤ ⊥ Stands mid e new → Refuses (HasItem 2 stepped) ⊤ ⊥ Stands stepped e new
-map_refused {E} {stepped} {mid} new n e starts h r = passed_on Stands Stands stepped mid new e h.same (map_entries starts h) (λ x. x) (λ x. x)
+pub map_refused : {E lacks lacks' : Type 0} {stepped mid : Reading} (new : Reading) (n : ℕ) (e : DecodeError E) → StartsWithMajor stepped 5 → TakesHeadOf stepped 5 n mid → (lacks → lacks') → Refuses (HasEntries n mid) lacks ⊥ Stands mid e new → Refuses (HasItem 2 stepped) lacks' ⊥ Stands stepped e new
+map_refused {E} {lacks} {lacks'} {stepped} {mid} new n e starts h w r = passed_on Stands Stands stepped mid new e h.same (map_entries starts h) w (λ x. x)
     (λ b l. let k = h.taken b l in (k.0, k.2, stands_behind e b k.0 (behind_head b k.0 5 n (inr refl) h.fits k.1))) r
 
 pub map_closed : (c rest : List ℕ) (es : Entries) → entry_count es < 2 ^ 64 → AreEntryFronts c es rest → IsFront (head 5 (entry_count es) ++ c) (mapping es) rest
@@ -167,20 +167,21 @@ map_closed c rest es fits h = record {
   is = ap (λ s. head 5 (entry_count es) ++ s) h.is ∙ sym (append_assoc (head 5 (entry_count es)) (entries_spelling es) rest);
 }
 
-pub map_taken : {stepped mid now : Reading} {n : ℕ} (m : BTreeMap (String Global) Ipld) → TakesHeadOf stepped 5 n mid → (entry_count (ordered (pairs_of m.entries)) ≡ n) × TakesEntries mid (ordered (pairs_of m.entries)) now → TakesItem 2 stepped (tree_of (Map' m)) now
-map_taken {stepped} {mid} {now} {n} m h r =
-    let es = ordered (pairs_of m.entries) in
-    as_tree (mapping es) _ (tree_of-Map m) record {
-      taken = λ b l.
-          let k = h.taken b l in
-          let q = r.1.taken k.0 k.2 in (
-            q.0,
-            subst (λ x. IsFront x (mapping es) q.0) (ap (λ c. head 5 c ++ k.0) r.0 ∙ sym k.1) (map_closed k.0 q.0 es (omega (arith, r.0, h.fits)) q.1),
-            omega (arith, q.2, h.same.steps),
-            q.3,
-          );
-      same = stays_both h.same r.1.same;
-    }
+pub map_taken : {stepped mid now : Reading} {n : ℕ} (es : Entries) → TakesHeadOf stepped 5 n mid → entry_count es ≡ n → TakesEntries mid es now → TakesItem 2 stepped (mapping es) now
+map_taken {stepped} {mid} {now} {n} es h counted a = record {
+  taken = λ b l.
+      let k = h.taken b l in
+      let q = a.taken k.0 k.2 in (
+        q.0,
+        subst (λ x. IsFront x (mapping es) q.0) (ap (λ c. head 5 c ++ k.0) counted ∙ sym k.1) (map_closed k.0 q.0 es (omega (arith, counted, h.fits)) q.1),
+        omega (arith, q.2, h.same.steps),
+        q.3,
+      );
+  same = stays_both h.same a.same;
+}
+
+pub map_as_tree : {stepped mid now : Reading} {n : ℕ} (m : BTreeMap (String Global) Ipld) → TakesHeadOf stepped 5 n mid → (entry_count (ordered (pairs_of m.entries)) ≡ n) × TakesEntries mid (ordered (pairs_of m.entries)) now → TakesItem 2 stepped (tree_of (Map' m)) now
+map_as_tree {stepped} {mid} {now} {n} m h r = as_tree (mapping (ordered (pairs_of m.entries))) _ (tree_of-Map m) (map_taken (ordered (pairs_of m.entries)) h r.0 r.1)
 
 pub behind_last : {count left : ℕ} {old now : Reading} {es : Entries} {previous : Option (List ℕ)} (k : List ℕ) → ReadEntries count left old es previous now → Follows previous k → Follows (last_key es) k
 behind_last k s f = subst (λ x. Follows x k) (sym s.last) f

@@ -55,16 +55,6 @@ null_read old new (Err e) h = passed_on (IsOtherByte (codes "unit") 0xf6) (IsOth
 
 -- ---- false and true
 
-is_boolean : (t : Tree) → is_some (view_bool t) ≡ true → (b : Bool) × (t ≡ boolean b)
-is_boolean (boolean b) a = (b, refl)
-is_boolean null a = absurd (cc a)
-is_boolean (integer b) a = absurd (cc a)
-is_boolean (text b) a = absurd (cc a)
-is_boolean (bytes b) a = absurd (cc a)
-is_boolean (list b) a = absurd (cc a)
-is_boolean (mapping b) a = absurd (cc a)
-is_boolean (link b) a = absurd (cc a)
-
 pub bool_taken : {old new : Reading} {found : ℕ} (b : Bool) → found ∷ [] ≡ boolean_spelling b → Takes old (found ∷ []) new → TakesFront view_bool no_need old b new
 bool_taken {old} {new} {found} b e h = spelling_taken view_bool (boolean b) b tt tt refl (subst (λ s. Takes old s new) e h)
 
@@ -74,7 +64,3 @@ no_byte _ b h = absurd h
 
 pub bool_byte_refused : {E : Type 0} (old new : Reading) (e : DecodeError E) → Refuses (HasByte old) ⊥ ⊥ ByteCause old e new → Refuses (HasFront view_bool no_need old) ⊥ ⊥ BoolStands old e new
 bool_byte_refused old new e r = passed_on ByteCause BoolStands old old new e (stays old) front_byte (λ x. x) (λ x. x) (λ b l. (b, l, no_byte e b)) r
-
-not_boolean : (found : ℕ) (b : Bool) (rest more : List ℕ) → (found ≡ 0xf4 → ⊥) → (found ≡ 0xf5 → ⊥) → boolean_spelling b ++ rest ≡ found ∷ more → ⊥
-not_boolean found false rest more h k e = h (cc e)
-not_boolean found true rest more h k e = k (cc e)

@@ -22,16 +22,16 @@ need_positive (mapping es) = omega arith
 need_positive (link cid) = omega arith
 
 -- no step is left for what stands there
-pub too_deep : (E : Type 0) (spent : ℕ) (old new : Reading) (name : Name) → old.steps ≡ 0 → new ≡ old → ((i : HasItem spent old) → spent + 1 ≤ any_need i.tree) → Refuses {E = E} (HasItem spent old) ⊤ ⊥ Stands old (DepthOverflow name) new
-too_deep E spent old new name none same deep = (
+pub too_deep : (E lacks : Type 0) (spent : ℕ) (old new : Reading) (name : Name) → old.steps ≡ 0 → new ≡ old → ((i : HasItem spent old) → spent + 1 ≤ any_need i.tree) → Refuses {E = E} (HasItem spent old) lacks ⊥ Stands old (DepthOverflow name) new
+too_deep E lacks spent old new name none same deep = (
   ap (λ (r : Reading). r.faults) same,
   λ i. omega (arith, i.within, none, deep i),
   λ b l. stands_here {E = E} (DepthOverflow name) b (inr (inl tt)),
   ap (λ (r : Reading). r.steps) same ∙ none,
 )
 
-pub no_step_left : (E : Type 0) (old new : Reading) (name : Name) → old.steps ≡ 0 → new ≡ old → Refuses {E = E} (HasItem 0 old) ⊤ ⊥ Stands old (DepthOverflow name) new
-no_step_left E old new name none same = too_deep E 0 old new name none same (λ i. need_positive i.tree)
+pub no_step_left : (E lacks : Type 0) (old new : Reading) (name : Name) → old.steps ≡ 0 → new ≡ old → Refuses {E = E} (HasItem 0 old) lacks ⊥ Stands old (DepthOverflow name) new
+no_step_left E lacks old new name none same = too_deep E lacks 0 old new name none same (λ i. need_positive i.tree)
 
 -- a step was spent
 pub record Steps (old stepped : Reading) : Type 0 where
@@ -52,13 +52,13 @@ item_stepped {old} {stepped} {spent} s i = record {
   within = omega (arith, i.within, s.some, ap (λ (r : Reading). r.steps) s.is);
 }
 
-pub stepped_refused : {E : Type 0} {old stepped : Reading} (lacks : Type 0) (new : Reading) (spent : ℕ) (e : DecodeError E) → Steps old stepped → Refuses (HasItem (spent + 1) stepped) lacks ⊥ Stands stepped e new → Refuses (HasItem spent old) ⊤ ⊥ Stands old e new
-stepped_refused {E} {old} {stepped} lacks new spent (Read e) s r = omega (arith, ap (λ (r : Reading). r.faults) s.is, r)
-stepped_refused {E} {old} {stepped} lacks new spent OutOfMemory s r = (r.0 ∙ ap (λ (r : Reading). r.faults) s.is, tt)
-stepped_refused {E} {old} {stepped} lacks new spent (RequireBorrowed n) s r = absurd r.1
-stepped_refused {E} {old} {stepped} lacks new spent Failed s r = r
-stepped_refused {E} {old} {stepped} lacks new spent (DepthOverflow n) s r = (r.0 ∙ ap (λ (r : Reading). r.faults) s.is, λ i. r.1 (item_stepped s i), λ b l. r.2 b (ap (λ (r : Reading). r.left) s.is ∙ l), r.3)
-stepped_refused {E} {old} {stepped} lacks new spent _ s r = (r.0 ∙ ap (λ (r : Reading). r.faults) s.is, λ i. r.1 (item_stepped s i), λ b l. r.2 b (ap (λ (r : Reading). r.left) s.is ∙ l))
+pub stepped_refused : {E lacks lacks' : Type 0} {old stepped : Reading} (new : Reading) (spent : ℕ) (e : DecodeError E) → Steps old stepped → (lacks → lacks') → Refuses (HasItem (spent + 1) stepped) lacks ⊥ Stands stepped e new → Refuses (HasItem spent old) lacks' ⊥ Stands old e new
+stepped_refused {E} {lacks} {lacks'} {old} {stepped} new spent (Read e) s k r = omega (arith, ap (λ (r : Reading). r.faults) s.is, r)
+stepped_refused {E} {lacks} {lacks'} {old} {stepped} new spent OutOfMemory s k r = (r.0 ∙ ap (λ (r : Reading). r.faults) s.is, k r.1)
+stepped_refused {E} {lacks} {lacks'} {old} {stepped} new spent (RequireBorrowed n) s k r = absurd r.1
+stepped_refused {E} {lacks} {lacks'} {old} {stepped} new spent Failed s k r = r
+stepped_refused {E} {lacks} {lacks'} {old} {stepped} new spent (DepthOverflow n) s k r = (r.0 ∙ ap (λ (r : Reading). r.faults) s.is, λ i. r.1 (item_stepped s i), λ b l. r.2 b (ap (λ (r : Reading). r.left) s.is ∙ l), r.3)
+stepped_refused {E} {lacks} {lacks'} {old} {stepped} new spent _ s k r = (r.0 ∙ ap (λ (r : Reading). r.faults) s.is, λ i. r.1 (item_stepped s i), λ b l. r.2 b (ap (λ (r : Reading). r.left) s.is ∙ l))
 
 -- the step was given back behind the item
 pub stepped_taken : {old stepped now new : Reading} {t : Tree} (spent : ℕ) → Steps old stepped → TakesItem (spent + 1) stepped t now → new ≡ with_steps (now.steps + 1) now → TakesItem spent old t new

@@ -78,8 +78,8 @@ text_taken {old} {new} s h = record {
   same = h.same;
 }
 
-pub text_refused : {E : Type 0} (old new : Reading) (e : DecodeError E) → StartsWithMajor old 3 → Refuses (HasFront view_text no_need old) ⊤ ⊥ (TextStands (codes "string")) old e new → Refuses (HasItem 1 old) ⊤ ⊥ Stands old e new
-text_refused old new e starts r = passed_on (TextStands (codes "string")) Stands old old new e (stays old) (text_front starts) (λ x. x) (λ x. x) (λ b l. (b, l, text_stands (codes "string") e b (starts b l))) r
+pub text_refused : {E : Type 0} (lacks : Type 0) (old new : Reading) (e : DecodeError E) → StartsWithMajor old 3 → Refuses (HasFront view_text no_need old) lacks ⊥ (TextStands (codes "string")) old e new → Refuses (HasItem 1 old) lacks ⊥ Stands old e new
+text_refused lacks old new e starts r = passed_on (TextStands (codes "string")) Stands old old new e (stays old) (text_front starts) (λ x. x) (λ x. x) (λ b l. (b, l, text_stands (codes "string") e b (starts b l))) r
 
 pub text_as_tree : {old new : Reading} (s : String Global) → TakesFront view_text no_need old (string_bytes s) new → TakesItem 1 old (tree_of (String' s)) new
 text_as_tree {old} {new} s h = as_tree (text (string_bytes s)) _ (tree_of-String s) (text_taken (string_bytes s) h)
@@ -97,11 +97,14 @@ bytes_front starts i = record {
   within = omega arith;
 }
 
-pub bytes_taken : {old new : Reading} (v : Vec ℕ Global) → TakesFront view_bytes no_need old v.items new → TakesItem 1 old (tree_of (Bytes' v)) new
-bytes_taken {old} {new} v h = as_tree (bytes v.items) _ (tree_of-Bytes v) record {
-  taken = λ b l. let k = h.taken b l in let e = shown_bytes k.0 v.items k.3 in (k.1, subst (λ t. IsFront b t k.1) e k.2, omega arith, k.5);
+pub bytes_taken : {old new : Reading} (s : List ℕ) → TakesFront view_bytes no_need old s new → TakesItem 1 old (bytes s) new
+bytes_taken {old} {new} s h = record {
+  taken = λ b l. let k = h.taken b l in let e = shown_bytes k.0 s k.3 in (k.1, subst (λ t. IsFront b t k.1) e k.2, omega arith, k.5);
   same = h.same;
 }
 
-pub bytes_refused : {E : Type 0} (old new : Reading) (e : DecodeError E) → StartsWithMajor old 2 → Refuses (HasFront view_bytes no_need old) ⊤ ⊥ (StringStands (codes "bytes") 2) old e new → Refuses (HasItem 1 old) ⊤ ⊥ Stands old e new
-bytes_refused old new e starts r = passed_on (StringStands (codes "bytes") 2) Stands old old new e (stays old) (bytes_front starts) (λ x. x) (λ x. x) (λ b l. (b, l, string_stands (codes "bytes") 2 e b (inl refl) (starts b l))) r
+pub bytes_as_tree : {old new : Reading} (v : Vec ℕ Global) → TakesFront view_bytes no_need old v.items new → TakesItem 1 old (tree_of (Bytes' v)) new
+bytes_as_tree {old} {new} v h = as_tree (bytes v.items) _ (tree_of-Bytes v) (bytes_taken v.items h)
+
+pub bytes_refused : {E : Type 0} (lacks : Type 0) (old new : Reading) (e : DecodeError E) → StartsWithMajor old 2 → Refuses (HasFront view_bytes no_need old) lacks ⊥ (StringStands (codes "bytes") 2) old e new → Refuses (HasItem 1 old) lacks ⊥ Stands old e new
+bytes_refused lacks old new e starts r = passed_on (StringStands (codes "bytes") 2) Stands old old new e (stays old) (bytes_front starts) (λ x. x) (λ x. x) (λ b l. (b, l, string_stands (codes "bytes") 2 e b (inl refl) (starts b l))) r

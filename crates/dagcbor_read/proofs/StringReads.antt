@@ -28,9 +28,6 @@ use Rattle.dagcbor_read.specs.Kinds.{HasKind, TakesKind, HasString, TakesString,
 
 -- ---- a string of the major type
 
-string_head : {kind : ℕ} {r : Reading} → HasString kind r → HasKind kind kind r
-string_head {kind} h = record { major = kind; argument = length h.payload; rest = h.payload ++ h.rest; lowest = omega arith; highest = omega arith; argument_fits = h.fits; left = h.left }
-
 -- the head of one major type was taken
 of_kind : {kind m n : ℕ} {old mid : Reading} → TakesKind kind kind old m n mid → Takes old (head kind n) mid
 of_kind {kind} {m} {n} {old} {mid} h = let same : m ≡ kind = omega (arith, h.lowest, h.highest) in subst (λ x. Takes old (head x n) mid) same h.takes

@@ -62,3 +62,9 @@ abbrev pub ReadsEntries : {E : Type 0} → ℕ → Reading → Result (BTreeMap 
 ReadsEntries count old result new = MatchResult result
     (λ m. (entry_count (ordered (pairs_of m.entries)) ≡ count) × TakesEntries old (ordered (pairs_of m.entries)) new)
     (λ e. Refuses (HasEntries count old) ⊤ ⊥ Stands old e new)
+
+-- Entries are skipped exactly where so many stand within the steps, with no want of memory where the input lends.
+abbrev pub SkipsEntries : {E : Type 0} → ℕ → Reading → Result (Unit {0}) (DecodeError E) → Reading → Type 0
+SkipsEntries count old result new = MatchResult result
+    (λ _. (es : Entries) × (entry_count es ≡ count) × TakesEntries old es new)
+    (λ e. Refuses (HasEntries count old) (old.lends ≡ false) ⊥ Stands old e new)

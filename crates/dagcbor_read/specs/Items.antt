@@ -1,5 +1,5 @@
 -- What a read of a list's items answers and refuses.
-use Rattle.std.specs.Prelude.{◌≡◌, ℕ, ◌≤◌, List, length, Some, Result, MatchResult, ⊤, Vec}
+use Rattle.std.specs.Prelude.{◌≡◌, ℕ, ◌≤◌, false, List, length, Some, Result, MatchResult, ⊤, Vec}
 use Rattle.std.specs.declared.alloc.Global.{Global}
 use Rattle.dagcbor_heads.specs.Reading.{Reading, Stays}
 use Rattle.dagcbor_heads.specs.Refusals.{Refuses}
@@ -30,3 +30,9 @@ abbrev pub ReadsItems : {E : Type 0} → ℕ → Reading → Result (Vec Ipld Gl
 ReadsItems count old result new = MatchResult result
     (λ v. (length v.items ≡ count) × TakesItems old (trees_of v.items) new)
     (λ e. Refuses (HasItems count old) ⊤ ⊥ Stands old e new)
+
+-- Items are skipped exactly where so many stand within the steps, with no want of memory where the input lends.
+abbrev pub SkipsItems : {E : Type 0} → ℕ → Reading → Result (Unit {0}) (DecodeError E) → Reading → Type 0
+SkipsItems count old result new = MatchResult result
+    (λ _. (ts : List Tree) × (length ts ≡ count) × TakesItems old ts new)
+    (λ e. Refuses (HasItems count old) (old.lends ≡ false) ⊥ Stands old e new)

@@ -56,6 +56,6 @@ ReadsNull = Reads (λ u. u) view_null no_need ⊥ ⊥ (IsOtherByte (codes "unit"
 abbrev pub ReadsBool : {E : Type 0} → Reading → Result Bool (DecodeError E) → Reading → Type 0
 ReadsBool = Reads (λ b. b) view_bool no_need ⊥ ⊥ BoolStands
 
--- An item of any kind is read exactly where one stands within the steps left, and nothing of it is kept.
+-- An item of any kind is skipped exactly where one stands within the steps left, with no want of memory where the input lends.
 abbrev pub ReadsIgnored : {E : Type 0} → Reading → Result (Unit {0}) (DecodeError E) → Reading → Type 0
-ReadsIgnored = Reads (λ u. u) view_ignored any_need ⊤ ⊥ Stands
+ReadsIgnored old = Reads (λ u. u) view_ignored any_need (old.lends ≡ false) ⊥ Stands old

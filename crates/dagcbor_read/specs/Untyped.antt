@@ -1,5 +1,5 @@
 -- What an untyped read answers and refuses.
-use Rattle.std.specs.Prelude.{◌≡◌, ℕ, ◌+◌, ◌/◌, ◌≤◌, List, [], ◌∷◌, Option, None, Some, Result, MatchResult, ⊤}
+use Rattle.std.specs.Prelude.{◌≡◌, ℕ, ◌+◌, ◌/◌, ◌≤◌, false, List, [], ◌∷◌, Option, None, Some, Result, MatchResult, ⊤}
 use Rattle.dagcbor_heads.specs.Reading.{Reading, Stays}
 use Rattle.dagcbor_heads.specs.Refusals.{Refuses}
 use Rattle.dagcbor_heads.specs.declared.error.DecodeError.{DecodeError}
@@ -33,6 +33,18 @@ abbrev pub ReadsItem : {E : Type 0} → ℕ → Reading → Result Ipld (DecodeE
 ReadsItem spent old result new = MatchResult result
     (λ v. TakesItem spent old (tree_of v) new)
     (λ e. Refuses (HasItem spent old) ⊤ ⊥ Stands old e new)
+
+-- A leaf that takes no memory is read exactly where one stands: a number, a link or a simple value.
+abbrev pub ReadsLeaf : {E : Type 0} → Reading → Result Ipld (DecodeError E) → Reading → Type 0
+ReadsLeaf old result new = MatchResult result
+    (λ v. TakesItem 1 old (tree_of v) new)
+    (λ e. Refuses (HasItem 1 old) ⊥ ⊥ Stands old e new)
+
+-- An item of unknown kind is skipped exactly where one is read, with no want of memory where the input lends.
+abbrev pub SkipsItem : {E : Type 0} → ℕ → Reading → Result (Unit {0}) (DecodeError E) → Reading → Type 0
+SkipsItem spent old result new = MatchResult result
+    (λ _. (t : Tree) × TakesItem spent old t new)
+    (λ e. Refuses (HasItem spent old) (old.lends ≡ false) ⊥ Stands old e new)
 
 -- a simple value and its one byte
 abbrev pub IsSimple : ℕ → Option Ipld → Type 0

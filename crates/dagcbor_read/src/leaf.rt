@@ -3,7 +3,7 @@
 ghost use Rattle.std.specs.Prelude.{◌≡◌, ◌/◌, true, false};
 ghost use Rattle.dagcbor_heads.specs.Inputs.{input_reading};
 ghost use Rattle.dagcbor_heads.specs.Fronts.{StartsWith};
-ghost use Rattle.dagcbor_read.specs.Untyped.{ReadsItem, StartsWithMajor, IsSimple};
+ghost use Rattle.dagcbor_read.specs.Untyped.{ReadsItem, ReadsLeaf, StartsWithMajor, IsSimple};
 
 use crate::strings::{pull_owned_bytes, pull_owned_text};
 use dagcbor_heads::{DecodeError, Input, Name, Read, pull_head, pull_one};
@@ -12,7 +12,7 @@ use std::alloc::Global;
 
 pub(crate) fn read_natural<R: Read>(reader: &mut R) -> Result<Ipld, DecodeError<R::Error>>
     requires { StartsWithMajor (R.reading reader.old) 0 }
-    ensures { ReadsItem 1 (R.reading reader.old) result (R.reading reader.new) }
+    ensures { ReadsLeaf (R.reading reader.old) result (R.reading reader.new) }
 {
     let (_, argument, _) = pull_head("u64", reader)?;
     Ok(Ipld::Integer(i128::from(argument)))
@@ -20,7 +20,7 @@ pub(crate) fn read_natural<R: Read>(reader: &mut R) -> Result<Ipld, DecodeError<
 
 pub(crate) fn read_negative<R: Read>(reader: &mut R) -> Result<Ipld, DecodeError<R::Error>>
     requires { StartsWithMajor (R.reading reader.old) 1 }
-    ensures { ReadsItem 1 (R.reading reader.old) result (R.reading reader.new) }
+    ensures { ReadsLeaf (R.reading reader.old) result (R.reading reader.new) }
 {
     let (_, argument, _) = pull_head("any", reader)?;
     Ok(Ipld::Integer(-1 - i128::from(argument)))
@@ -60,7 +60,7 @@ fn simple_value(byte: u8) -> Option<Ipld>
 pub(crate) fn read_simple<R: Read>(reader: &mut R, first: u8) -> Result<Ipld, DecodeError<R::Error>>
     requires starts { StartsWith (R.reading reader.old) first }
     requires major { first / 32 ≡ 7 }
-    ensures { ReadsItem 1 (R.reading reader.old) result (R.reading reader.new) }
+    ensures { ReadsLeaf (R.reading reader.old) result (R.reading reader.new) }
 {
     match simple_value(first) {
         Some(value) => {

@@ -23,6 +23,7 @@ mod row;
 mod sequences;
 mod shown;
 mod simple;
+mod skip;
 mod source;
 mod stream;
 mod strings;

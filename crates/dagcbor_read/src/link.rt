@@ -5,7 +5,7 @@ ghost use Rattle.dagcbor_heads.specs.Fronts.{Takes};
 ghost use Rattle.dagcbor_heads.specs.Inputs.{input_reading};
 ghost use Rattle.dagcbor_heads.specs.Refusals.{Refuses};
 ghost use Rattle.dagcbor_read.specs.LinkCauses.{IsOtherByte};
-ghost use Rattle.dagcbor_read.specs.Untyped.{ReadsItem, StartsWithMajor};
+ghost use Rattle.dagcbor_read.specs.Untyped.{ReadsLeaf, StartsWithMajor};
 ghost use Rattle.dagcbor_read.specs.Links.{HasWanted, ReadsCid, ReadsLink, IsZeroAndCid};
 
 use arrayvec::ArrayVec;
@@ -86,7 +86,7 @@ pub(crate) fn pull_link<R: Read>(reader: &mut R) -> Result<Cid, DecodeError<R::E
 
 pub(crate) fn read_link<R: Read>(reader: &mut R) -> Result<Ipld, DecodeError<R::Error>>
     requires { StartsWithMajor (R.reading reader.old) 6 }
-    ensures { ReadsItem 1 (R.reading reader.old) result (R.reading reader.new) }
+    ensures { ReadsLeaf (R.reading reader.old) result (R.reading reader.new) }
 {
     Ok(Ipld::Link(pull_link(reader)?))
 }

@@ -49,7 +49,8 @@ fn text_of<'de>(payload: CowSlice<'de, u8>) -> Option<CowStr<'de>>
     }
 }
 
-fn pull_slice<'de, R: Read>(
+/// A byte string, lent where the input lends.
+pub(crate) fn pull_slice<'de, R: Read>(
     alloc: Global,
     input: &mut Input<'de, R>,
 ) -> Result<CowSlice<'de, u8>, DecodeError<R::Error>>

@@ -1,7 +1,6 @@
 //! The types of items of any kind, and of links.
 
 ghost use Rattle.std.specs.Prelude.{refl, ℕ, List, Some, false};
-ghost use Rattle.dagcbor_heads.specs.Inputs.{input_reading};
 ghost use Rattle.ipld_tree.specs.Cid.{cid_bytes};
 ghost use Rattle.ipld_tree.specs.Ipld.{tree_of};
 ghost use Rattle.ipld_tree.specs.Tree.{Tree, any_need};
@@ -9,11 +8,11 @@ ghost use Rattle.dagcbor_read.specs.Calls.{progress, Call};
 ghost use Rattle.dagcbor_read.specs.LeafReads.{ReadsIgnored};
 ghost use Rattle.dagcbor_read.specs.Views.{view_link, view_ignored, no_need};
 
-use crate::any::read_any;
 use crate::deserialize::{Deserialize, DeserializeOwned};
 use crate::deserializer::Deserializer;
 use crate::shown::Shown;
-use dagcbor_heads::{DecodeError, Input, Read};
+use crate::skip::skip_any;
+use dagcbor_heads::{DecodeError, Read};
 use ipld_tree::{Cid, Ipld};
 use std::alloc::Global;
 
@@ -21,15 +20,8 @@ use std::alloc::Global;
 #[derive(Clone, Copy, Debug, PartialEq, Eq)]
 pub struct IgnoredAny;
 
-fn skip_any<R: Read>(alloc: Global, input: &mut Input<'_, R>) -> Result<(), DecodeError<R::Error>>
-    ensures { ReadsIgnored (input_reading R.reading input.old) result (input_reading R.reading input.new) }
-{
-    read_any(alloc, input)?;
-    Ok(())
-}
-
 impl<'de, R: Read> Deserializer<'de, R> {
-    /// Reads an item of any kind, and keeps nothing of it.
+    /// Skips an item of any kind, with what `deserialize_any` refuses. Over a slice it takes no memory.
     pub fn deserialize_ignored_any(&mut self, alloc: Global) -> Result<(), DecodeError<R::Error>>
         ensures { Call ReadsIgnored (progress R.reading self.old) result (progress R.reading self.new) }
     {

@@ -114,6 +114,18 @@ fn a_value_that_is_skipped_is_read_strictly(rt: HostRuntime) -> Result<(), Fail>
 }
 
 #[test]
+fn a_long_list_is_skipped(rt: HostRuntime) -> Result<(), Fail> {
+    let mut bytes = Vec::new(rt.alloc());
+    bytes.extend_from_slice(b"\xa2\x61a\x01\x61b\x99\x03\xe8")?;
+    for _index in 0..1000 {
+        bytes.extend_from_slice(b"\x61x")?;
+    }
+    let one: One = from_slice(rt.alloc(), &bytes)?;
+    assert_eq!(rt; one.a, 1);
+    Ok(())
+}
+
+#[test]
 fn a_missing_field_is_refused(rt: HostRuntime) -> Result<(), Fail> {
     match from_slice::<One>(rt.alloc(), b"\xa1\x61b\x01") {
         Err(DecodeError::Msg(message)) => assert_eq!(rt; message.as_str(), "missing field"),

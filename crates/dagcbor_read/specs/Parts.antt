@@ -1,5 +1,5 @@
 -- What reading a value of another type answers and refuses.
-use Rattle.std.specs.Prelude.{◌≡◌, ℕ, ◌+◌, ◌<◌, ◌⊎◌, Bool, true, List, [], ◌∷◌, Option, Some, option_map, Result, MatchResult, MatchBool, codes, ⊤}
+use Rattle.std.specs.Prelude.{◌≡◌, ℕ, ◌+◌, ◌<◌, ◌⊎◌, Bool, true, List, [], ◌∷◌, Option, Some, option_map, Result, Err, IfErr, MatchResult, MatchBool, codes, false, ⊤}
 use Rattle.dagcbor_heads.specs.Reading.{Reading, Keeps}
 use Rattle.dagcbor_heads.specs.Fronts.{Takes}
 use Rattle.dagcbor_heads.specs.Refusals.{Refuses}
@@ -9,6 +9,7 @@ use Rattle.dagcbor_heads.specs.declared.error.DecodeError.TheVariants.{Eof, Dept
 use Rattle.dagcbor_heads.specs.declared.error.Len.TheVariants.{Small}
 use Rattle.ipld_tree.specs.Tree.{Tree}
 use Rattle.dagcbor_read.specs.Views.{view_option, need_option}
+use Rattle.dagcbor_read.specs.Calls.{Progress}
 use Rattle.dagcbor_read.specs.Reads.{Reads, HasFront, TakesFront, Anything}
 
 -- A value is read as the law of its type says.
@@ -56,3 +57,7 @@ ReadsOption held view need borrows old result new = MatchResult result
     (λ o. TakesFront (view_option view) (need_option need) old (option_map held o) new)
     (λ e. Refuses (HasFront (view_option view) (need_option need) old) ⊤ (borrows ≡ true) Anything old e new
     × (Refuses (CanEnter old) ⊥ ⊥ OptionCause old e new ⊎ RefusesPart view need borrows old e new))
+
+-- Where a value of several parts cannot be begun on bytes that are known, the refusal is that of the call that begins it.
+abbrev pub RefusesToBegin : {T A E : Type 0} → (Reading → Type 0) → (Reading → Result A (DecodeError E) → Reading → Type 0) → Progress → Result T (DecodeError E) → Progress → Type 0
+RefusesToBegin could begins old result new = old.failed ≡ false → (b : List ℕ) → old.input.left ≡ Some b → (could old.input → ⊥) → IfErr result (λ e. begins old.input (Err e) new.input)

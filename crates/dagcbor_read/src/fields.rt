@@ -1,11 +1,12 @@
 //! Structs, whose fields are read by their names.
 
-ghost use Rattle.std.specs.Prelude.{◌≡◌, ◌+◌, ◌≤◌, ℕ, List, Bool, Option, option_map, true, false};
+ghost use Rattle.std.specs.Prelude.{◌≡◌, ◌+◌, ◌≤◌, ℕ, List, Bool, Option, option_map, true, false, codes};
 ghost use Rattle.ipld_tree.specs.Tree.{Tree, any_need};
 ghost use Rattle.dagcbor_read.specs.Views.{view_ignored};
 ghost use Rattle.dagcbor_read.specs.Calls.{progress};
 ghost use Rattle.dagcbor_read.specs.Reads.{ReadsValue};
-ghost use Rattle.dagcbor_read.specs.Accessors.{begun};
+ghost use Rattle.dagcbor_read.specs.Accessors.{begun, HasHeadOf, BeginsItems};
+ghost use Rattle.dagcbor_read.specs.Parts.{RefusesToBegin};
 ghost use Rattle.dagcbor_read.specs.Collections.{view_fields, need_fields, view_slot, ReadsEntriesLeft};
 
 use crate::accessor::Accessor;
@@ -69,7 +70,8 @@ pub fn read_fields<'de, F: Fields<'de>, R: Read>(
     fields: F,
     de: &mut Deserializer<'de, R>,
 ) -> Result<F, DecodeError<R::Error>>
-    ensures { ReadsValue F.state (view_fields F.take (F.state fields)) (need_fields F.need) F.borrows (progress R.reading de.old) result (progress R.reading de.new) }
+    ensures value { ReadsValue F.state (view_fields F.take (F.state fields)) (need_fields F.need) F.borrows (progress R.reading de.old) result (progress R.reading de.new) }
+    ensures named { RefusesToBegin (HasHeadOf 5) (BeginsItems 5 (codes "map") 1) (progress R.reading de.old) result (progress R.reading de.new) }
 {
     let entries = de.deserialize_map()?;
     read_entries_left(alloc, fields, entries, de)
@@ -83,7 +85,8 @@ pub fn read_struct<'de, F: Fields<'de>, R: Read>(
     fields: F,
     de: &mut Deserializer<'de, R>,
 ) -> Result<F, DecodeError<R::Error>>
-    ensures { ReadsValue F.state (view_fields F.take (F.state fields)) (need_fields F.need) F.borrows (progress R.reading de.old) result (progress R.reading de.new) }
+    ensures value { ReadsValue F.state (view_fields F.take (F.state fields)) (need_fields F.need) F.borrows (progress R.reading de.old) result (progress R.reading de.new) }
+    ensures named { RefusesToBegin (HasHeadOf 5) (BeginsItems 5 name.now 1) (progress R.reading de.old) result (progress R.reading de.new) }
 {
     let entries = de.deserialize_struct(name, names)?;
     read_entries_left(alloc, fields, entries, de)

@@ -4,7 +4,8 @@ ghost use Rattle.std.specs.Prelude.{◌≡◌, ◌+◌, ◌≤◌, ℕ, Bool, Li
 ghost use Rattle.ipld_tree.specs.Tree.{Tree};
 ghost use Rattle.dagcbor_read.specs.Calls.{progress};
 ghost use Rattle.dagcbor_read.specs.Reads.{ReadsValue};
-ghost use Rattle.dagcbor_read.specs.Enums.{begun_enum, ReadsFieldsHeld};
+ghost use Rattle.dagcbor_read.specs.Enums.{begun_enum, HasStepEnum, SpendsEnum, ReadsFieldsHeld};
+ghost use Rattle.dagcbor_read.specs.Parts.{RefusesToBegin};
 ghost use Rattle.dagcbor_read.specs.EnumViews.{view_enum, need_enum, ReadsVariant};
 ghost use Rattle.dagcbor_read.specs.Collections.{view_fields, need_fields};
 
@@ -52,7 +53,8 @@ pub fn read_enum<'de, V: Variants<'de>, R: Read>(
     variants: &[&str],
     de: &mut Deserializer<'de, R>,
 ) -> Result<V, DecodeError<R::Error>>
-    ensures { ReadsValue V.held (view_enum V.unit V.part) (need_enum V.need) V.borrows (progress R.reading de.old) result (progress R.reading de.new) }
+    ensures value { ReadsValue V.held (view_enum V.unit V.part) (need_enum V.need) V.borrows (progress R.reading de.old) result (progress R.reading de.new) }
+    ensures named { RefusesToBegin HasStepEnum (SpendsEnum name.now) (progress R.reading de.old) result (progress R.reading de.new) }
 {
     let begun = de.deserialize_enum(name, variants)?;
     let (variant_name, variant) = begun.variant(alloc, de)?;

@@ -3,6 +3,6 @@ use Rattle.dagcbor_read.specs.Calls.{progress}
 use Rattle.dagcbor_read.proofs.EntryRows.{entries_read}
 use Rattle.dagcbor_read.proofs.fields.read_fields.Goals as goal
 
-pub returns : goal.returns
-returns g c =
+pub returns-clause-value : goal.returns-clause-value
+returns-clause-value g c =
     entries_read g.F.Fields.take g.F.Fields.need (g.F.Fields.state c.args.fields) g.F.Fields.state g.F.Fields.borrows (progress g.R.Read.reading c.args.de.now) (progress g.R.Read.reading c.deserialize_map.new.self) (progress g.R.Read.reading c.read_entries_left.new.de) (codes "map") c.in_ok-entries.entries c.read_entries_left.result c.in_ok-entries.ensures c.read_entries_left.ensures

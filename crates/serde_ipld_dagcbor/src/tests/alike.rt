@@ -1,7 +1,7 @@
 //! Untyped reads of a buffered source, and skips, which are untyped reads of a slice.
 
 use crate::tests::std_devices::Source;
-use crate::{IgnoredAny, Ipld, from_reader, from_slice};
+use crate::{DecodeError, IgnoredAny, Ipld, from_reader, from_slice};
 use std::alloc::Global;
 use std::test::Fail;
 
@@ -28,6 +28,21 @@ pub(crate) fn reads_alike(alloc: Global, bytes: &[u8]) -> Result<bool, Fail> {
         let source = Source::new(bytes, size);
         let of_source = format!(in alloc; "{:?}", from_reader::<Ipld, Source<'_>>(alloc, source))?;
         if of_source.as_str() != of_slice.as_str() {
+            return Ok(false);
+        }
+    }
+    Ok(true)
+}
+
+/// Whether each beginning of the bytes but the whole is refused as cut.
+pub(crate) fn beginnings_are_cut(alloc: Global, bytes: &[u8]) -> Result<bool, Fail> {
+    for count in 0..bytes.len() {
+        let beginning = &bytes[..count];
+        let is_cut = matches!(
+            from_slice::<Ipld>(alloc, beginning),
+            Err(DecodeError::Eof { .. })
+        );
+        if !is_cut || !reads_alike(alloc, beginning)? {
             return Ok(false);
         }
     }

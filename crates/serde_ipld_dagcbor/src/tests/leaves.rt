@@ -1,6 +1,6 @@
 //! Leaves, written and read: the examples of the format, and what is refused by which name.
 
-use crate::tests::alike::reads_alike;
+use crate::tests::alike::{beginnings_are_cut, reads_alike};
 use crate::{EncodeError, Ipld, from_slice, to_vec};
 use std::alloc::{AllocError, Global};
 use std::test::Fail;
@@ -46,6 +46,7 @@ fn integers_both_ways(rt: HostRuntime) -> Result<(), Fail> {
     ];
     for (number, spelling) in rows {
         assert!(rt; reads_alike(rt.alloc(), spelling)?, "{number}");
+        assert!(rt; beginnings_are_cut(rt.alloc(), spelling)?, "{number}");
         let written = to_vec(rt.alloc(), &Ipld::Integer(number))?;
         assert_eq!(rt; written.as_slice(), spelling, "{number}");
         assert!(rt;
@@ -87,6 +88,7 @@ fn other_leaves_both_ways(rt: HostRuntime) -> Result<(), Fail> {
     ];
     for (value, spelling) in rows {
         assert!(rt; reads_alike(alloc, spelling)?);
+        assert!(rt; beginnings_are_cut(alloc, spelling)?);
         assert_eq!(rt; to_vec(alloc, &value)?.as_slice(), spelling);
         assert!(rt; from_slice::<Ipld>(alloc, spelling)? == value);
     }

@@ -1,6 +1,6 @@
 //! Links, read and written.
 
-use crate::tests::alike::reads_alike;
+use crate::tests::alike::{beginnings_are_cut, reads_alike};
 use crate::tests::devices::Pieces;
 use crate::{BufWriter, Cid, Deserializer, Ipld, Serializer, from_slice, to_vec};
 use std::alloc::{AllocError, Global};
@@ -48,6 +48,7 @@ fn links_are_read_and_written(rt: HostRuntime) -> Result<(), Fail> {
     for (bytes, length) in rows {
         assert_eq!(rt; bytes.len(), length);
         assert!(rt; reads_alike(alloc, &bytes)?);
+        assert!(rt; beginnings_are_cut(alloc, &bytes)?);
         let value: Ipld = from_slice(alloc, &bytes)?;
         assert_eq!(rt; to_vec(alloc, &value)?.as_slice(), bytes.as_slice());
     }

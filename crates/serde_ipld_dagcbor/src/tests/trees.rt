@@ -1,6 +1,6 @@
 //! Lists and maps, read and written.
 
-use crate::tests::alike::reads_alike;
+use crate::tests::alike::{beginnings_are_cut, reads_alike};
 use crate::{Ipld, from_slice, to_vec};
 use std::alloc::{AllocError, Global};
 use std::collections::BTreeMap;
@@ -54,6 +54,7 @@ fn trees_are_read_and_written(rt: HostRuntime) -> Result<(), Fail> {
     ];
     for (bytes, told) in rows {
         assert!(rt; reads_alike(alloc, bytes)?, "{bytes:?}");
+        assert!(rt; beginnings_are_cut(alloc, bytes)?, "{bytes:?}");
         let value: Ipld = from_slice(alloc, bytes)?;
         let text = format!(in alloc; "{value:?}")?;
         assert_eq!(rt; text.as_str(), told);

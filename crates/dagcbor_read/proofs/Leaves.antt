@@ -1,19 +1,17 @@
 -- Reading leaves.
 use Rattle.std.proofs.Common.{◌≡◌, inl, inr, ℕ, ◌+◌, ◌*◌, ◌/◌, ◌%◌, ◌≤◌, [], ◌∷◌, ◌++◌, refl, sym, ap, ◌∙◌, arith}
-use Rattle.std.specs.Prelude.{⊤}
 use Rattle.dagcbor_heads.specs.Reading.{Reading}
-use Rattle.dagcbor_heads.specs.Fronts.{StartsWith, ShowsByte, Takes}
+use Rattle.dagcbor_heads.specs.Fronts.{StartsWith, ShowsByte}
 use Rattle.dagcbor_heads.specs.Refusals.{Refuses}
 use Rattle.dagcbor_heads.specs.declared.name.Name.{Name}
 use Rattle.dagcbor_heads.specs.declared.error.DecodeError.TheVariants.{Unsupported, IndefiniteSize}
-use Rattle.ipld_tree.specs.Tree.{Tree, null, boolean, integer, text, bytes, list, mapping, link, IsTree, any_need}
-use Rattle.ipld_tree.specs.Spelling.{IsSpellable, spelling}
+use Rattle.ipld_tree.specs.Tree.{Tree}
+use Rattle.ipld_tree.specs.Spelling.{spelling}
 use Rattle.ipld_tree.proofs.Unique.{major}
 use Rattle.ipld_tree.proofs.Fronts.{front_first, is_simple}
-use Rattle.dagcbor_read.specs.Tokens.{IsLeaf}
 use Rattle.dagcbor_read.specs.ItemCauses.{Stands}
 use Rattle.dagcbor_read.proofs.Rows.{stands_here}
-use Rattle.dagcbor_read.specs.Untyped.{HasItem, TakesItem}
+use Rattle.dagcbor_read.specs.Untyped.{HasItem}
 use Rattle.dagcbor_read.proofs.Fronts.{major_of_front}
 
 -- ---- bytes that begin no item

@@ -1,6 +1,6 @@
 -- Reading links.
-use Rattle.std.proofs.Common.{◌≡◌, inl, inr, ℕ, ◌+◌, ◌*◌, ◌/◌, ◌<◌, List, [], ◌∷◌, ◌++◌, length, refl, sym, ap, ◌∙◌, subst, arith, append_assoc, rules}
-use Rattle.std.specs.Prelude.{Option, Some, None, Result, Ok, Err, ⊤, codes}
+use Rattle.std.proofs.Common.{◌≡◌, inl, inr, ℕ, ◌+◌, ◌*◌, ◌/◌, ◌<◌, List, [], ◌∷◌, ◌++◌, length, refl, sym, ap, ◌∙◌, subst, arith, append_assoc}
+use Rattle.std.specs.Prelude.{Option, Some, None, Result, Ok, Err, codes}
 use Rattle.dagcbor_heads.specs.Head.{head}
 use Rattle.dagcbor_heads.specs.Names.{Names}
 use Rattle.dagcbor_heads.specs.Reading.{Reading}
@@ -9,15 +9,13 @@ use Rattle.dagcbor_heads.specs.Causes.{ByteCause, HeadCause, PayloadCause}
 use Rattle.dagcbor_heads.specs.Refusals.{Refuses}
 use Rattle.dagcbor_heads.specs.declared.name.Name.{Name}
 use Rattle.dagcbor_heads.specs.declared.error.DecodeError.{DecodeError}
-use Rattle.dagcbor_heads.specs.declared.error.DecodeError.TheVariants.{Msg, Eof, Mismatch, Unsupported}
+use Rattle.dagcbor_heads.specs.declared.error.DecodeError.TheVariants.{Msg, Eof, Unsupported}
 use Rattle.dagcbor_heads.proofs.Heads.{head_unique, head_first}
 use Rattle.dagcbor_heads.proofs.Taking.{stays, stays_both}
 use Rattle.dagcbor_heads.proofs.Refusing.{passed_on, byte_in_head}
 use Rattle.ipld_tree.specs.Cid.{CidParts, AreCidParts, IsCid, cid_bytes}
 use Rattle.ipld_tree.specs.Tree.{link}
 use Rattle.ipld_tree.specs.Spelling.{bytes_spelling, IsFront}
-use Rattle.ipld_tree.specs.Ipld.{tree_of}
-use Rattle.ipld_tree.specs.declared.ipld.Ipld.{Link as Link', the_lemmas}
 use Rattle.ipld_tree.proofs.Cids.{cid_length}
 use Rattle.ipld_tree.proofs.Unique.{split_at_length}
 use Rattle.ipld_tree.proofs.Fronts.{is_link}
@@ -26,7 +24,7 @@ use Rattle.dagcbor_read.specs.ItemCauses.{Stands}
 use Rattle.dagcbor_read.specs.Untyped.{HasItem, TakesItem, StartsWithMajor}
 use Rattle.dagcbor_read.specs.Links.{HasWanted, HasCid, TakesCid, ReadsCid, HasLink, ReadsLink, IsZeroAndCid}
 use Rattle.dagcbor_read.proofs.Rows.{stands_here}
-use Rattle.dagcbor_read.proofs.Fronts.{TakesHeadOf, major_of_front, as_tree}
+use Rattle.dagcbor_read.proofs.Fronts.{TakesHeadOf, major_of_front}
 
 -- ---- a wanted byte
 

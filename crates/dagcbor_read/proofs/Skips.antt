@@ -1,15 +1,10 @@
 -- Skipping items: what the reads of their parts say, with no want of memory where the input lends.
-use Rattle.std.proofs.Common.{◌≡◌, ℕ, ◌+◌, false, sym, ap, ◌∙◌, subst}
-use Rattle.std.specs.Prelude.{Result, Ok, Err, MatchResult, ⊤}
+use Rattle.std.proofs.Common.{◌≡◌, ℕ, ◌+◌, false, sym, ap, ◌∙◌}
 use Rattle.dagcbor_heads.specs.Reading.{Reading, Stays}
 use Rattle.dagcbor_heads.specs.Refusals.{Refuses}
 use Rattle.dagcbor_heads.specs.declared.error.DecodeError.{DecodeError}
-use Rattle.dagcbor_heads.proofs.Taking.{stays}
-use Rattle.dagcbor_heads.proofs.Refusing.{passed_on}
-use Rattle.ipld_tree.specs.Ipld.{tree_of}
-use Rattle.ipld_tree.specs.declared.ipld.Ipld.{Ipld}
 use Rattle.dagcbor_read.specs.ItemCauses.{Stands}
-use Rattle.dagcbor_read.specs.Untyped.{HasItem, ReadsItem, ReadsLeaf, SkipsItem}
+use Rattle.dagcbor_read.specs.Untyped.{HasItem}
 use Rattle.dagcbor_read.proofs.Steps.{Steps, stepped_refused}
 
 -- a reader that does not lend behind some reading did not lend before it

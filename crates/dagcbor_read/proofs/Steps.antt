@@ -1,6 +1,5 @@
 -- Steps that are spent on entering an item, and given back at its end.
 use Rattle.std.proofs.Common.{◌≡◌, inl, inr, ℕ, ◌+◌, ◌-◌, ◌<◌, ◌≤◌, sym, ap, ◌∙◌, arith}
-use Rattle.std.specs.Prelude.{⊤}
 use Rattle.dagcbor_heads.specs.Reading.{Reading, with_steps}
 use Rattle.dagcbor_heads.specs.Refusals.{Refuses}
 use Rattle.dagcbor_heads.specs.declared.name.Name.{Name}

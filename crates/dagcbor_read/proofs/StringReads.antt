@@ -21,10 +21,10 @@ use Rattle.ipld_tree.specs.Spelling.{IsFront}
 use Rattle.ipld_tree.proofs.Unique.{split_at_length}
 use Rattle.dagcbor_read.specs.Reads.{HasFront, TakesFront}
 use Rattle.dagcbor_read.specs.Views.{view_text, view_bytes, no_need}
-use Rattle.dagcbor_read.specs.LeafCauses.{KindStands, IsCut, StringStands, TextStands}
+use Rattle.dagcbor_read.specs.LeafCauses.{IsCut, StringStands, TextStands}
 use Rattle.dagcbor_read.specs.LeafReads.{ReadsByteSlice}
 use Rattle.dagcbor_read.proofs.SimpleValues.{spelling_taken}
-use Rattle.dagcbor_read.specs.Kinds.{HasKind, TakesKind, HasString, TakesString, ReadsString}
+use Rattle.dagcbor_read.specs.Kinds.{TakesKind, HasString, TakesString, ReadsString}
 
 -- ---- a string of the major type
 

@@ -1,5 +1,4 @@
-use Rattle.std.proofs.Common.{◌≡◌, refl, false, [], ◌∷◌, ◌++◌, ◌∙◌, sym, arith}
-use Rattle.std.specs.Prelude.{Some}
+use Rattle.std.proofs.Common.{◌≡◌, refl, false, [], ◌∷◌, ◌++◌, arith}
 use Rattle.dagcbor_heads.specs.Inputs.{input_reading}
 use Rattle.dagcbor_heads.proofs.Refusing.{refused}
 use Rattle.ipld_tree.specs.Tree.{no_entries}

@@ -1,5 +1,5 @@
 -- Reading numbers.
-use Rattle.std.proofs.Common.{◌≡◌, inl, inr, ℕ, zero, suc, ◌+◌, ◌*◌, ◌^◌, ◌<◌, ◌≤◌, ℤ, pos, negsuc, List, ◌∷◌, ◌++◌, true, refl, sym, ap, ◌∙◌, subst, arith, zero-le}
+use Rattle.std.proofs.Common.{◌≡◌, inl, inr, ℕ, zero, suc, ◌+◌, ◌*◌, ◌^◌, ◌<◌, ◌≤◌, ℤ, pos, negsuc, List, [], ◌∷◌, ◌++◌, true, refl, sym, ap, ◌∙◌, subst, arith, zero-le}
 use Rattle.std.specs.Prelude.{◌⊎◌, Some, None, Option, is_some, Result, Ok, Err}
 use Rattle.std.proofs.lemmas.Int.{ints, to_z-of_z}
 use Rattle.std.proofs.lemmas.Bool.Decides.{nat_tests}
@@ -13,7 +13,7 @@ use Rattle.dagcbor_heads.specs.Causes.{ByteCause, IsNamed}
 use Rattle.dagcbor_heads.specs.Refusals.{Refuses}
 use Rattle.dagcbor_heads.specs.declared.name.Name.{Name}
 use Rattle.dagcbor_heads.specs.declared.error.DecodeError.{DecodeError}
-use Rattle.dagcbor_heads.specs.declared.error.DecodeError.TheVariants.{CastOverflow, Unsupported}
+use Rattle.dagcbor_heads.specs.declared.error.DecodeError.TheVariants.{Eof, CastOverflow, Unsupported}
 use Rattle.dagcbor_heads.proofs.Heads.{head_first}
 use Rattle.dagcbor_heads.proofs.Taking.{stays, stays_both}
 use Rattle.dagcbor_heads.proofs.Refusing.{passed_on, byte_in_head}
@@ -23,7 +23,7 @@ use Rattle.ipld_tree.proofs.Unique.{major}
 use Rattle.ipld_tree.proofs.Fronts.{front_unique}
 use Rattle.dagcbor_read.specs.Reads.{HasFront, TakesFront, Reads}
 use Rattle.dagcbor_read.specs.Views.{within, number_of, view_number, no_need}
-use Rattle.dagcbor_read.specs.LeafCauses.{KindStands, IsOutside, LongStands}
+use Rattle.dagcbor_read.specs.LeafCauses.{BeginsNoLong, KindStands, IsOutside, LongStands}
 use Rattle.dagcbor_read.specs.Kinds.{HasKind, TakesKind}
 use Rattle.dagcbor_read.proofs.SimpleValues.{front_byte}
 use Rattle.dagcbor_read.proofs.HeadKinds.{kind_of_front}
@@ -112,9 +112,13 @@ outside E accepted stands name {old} {new} n kept none named h = (
 
 -- ---- numbers of any size
 
+no_byte_no_tag : {E : Type 0} (e : DecodeError E) (b : List ℕ) → ByteCause e b → BeginsNoLong b
+no_byte_no_tag (Eof n expect) b h = λ found more is which. let e : [] ≡ found ∷ more = sym h.1 ∙ is in absurd (cc e)
+no_byte_no_tag _ b h = absurd h
+
 pub long_byte_refused : {E : Type 0} (name : List ℕ) (old new : Reading) (e : DecodeError E) → IsNamed name e → Refuses (HasByte old) ⊥ ⊥ ByteCause old e new
     → Refuses (HasFront (view_number Some) no_need old) ⊥ ⊥ (LongStands name) old e new
-long_byte_refused name old new e named r = passed_on ByteCause (LongStands name) old old new e (stays old) front_byte (λ x. x) (λ x. x) (λ b l. (b, l, λ h. inl (inl (byte_in_head e b h, named)))) r
+long_byte_refused name old new e named r = passed_on ByteCause (LongStands name) old old new e (stays old) front_byte (λ x. x) (λ x. x) (λ b l. (b, l, λ h. inl (inl (byte_in_head e b h, named), no_byte_no_tag e b h))) r
 
 -- a tag is no number
 pub no_tag : (E : Type 0) (name : List ℕ) {old mid : Reading} {first : ℕ} (kept : Name) → Names kept name → ShowsByte old first mid → (first ≡ 0xc2) ⊎ (first ≡ 0xc3)
@@ -133,13 +137,25 @@ no_tag E name {old} {mid} {first} kept named h which = (
 some_still : {old mid : Reading} {first : ℕ} → ShowsByte old first mid → HasFront (view_number Some) no_need old → HasFront (view_number Some) no_need mid
 some_still h i = record { bytes = i.bytes; tree = i.tree; rest = i.rest; left = h.kept i.bytes i.left; front = i.front; accepted = i.accepted; within = zero-le }
 
-pub long_read : {E : Type 0} (name : List ℕ) {old mid : Reading} {first : ℕ} (new : Reading) (r : Result ℤ (DecodeError E)) → ShowsByte old first mid → Reads (λ n. n) (view_number Some) no_need ⊥ ⊥ (KindStands name 0 1) mid r new
+pub long_read : {E : Type 0} (name : List ℕ) {old mid : Reading} {first : ℕ} (new : Reading) (r : Result ℤ (DecodeError E)) → ShowsByte old first mid → ((first ≡ 0xc2) ⊎ (first ≡ 0xc3) → ⊥) → Reads (λ n. n) (view_number Some) no_need ⊥ ⊥ (KindStands name 0 1) mid r new
     → Reads (λ n. n) (view_number Some) no_need ⊥ ⊥ (LongStands name) old r new
-long_read name {old} {mid} new (Ok n) h a = record {
+long_read name {old} {mid} new (Ok n) h other a = record {
   taken = λ b l. (let k = a.taken b (h.kept b l) in (k.0, k.1, k.2, k.3, zero-le, k.5));
   same = stays_both h.same a.same;
 }
-long_read name {old} {mid} new (Err e) h r = passed_on (KindStands name 0 1) (LongStands name) old mid new e h.same (some_still h) (λ x. x) (λ x. x) (λ b l. (b, h.kept b l, λ c. inl c)) r
+long_read name {old} {mid} {first} new (Err e) h other r = passed_on (KindStands name 0 1) (LongStands name) old mid new e h.same (some_still h) (λ x. x) (λ x. x)
+    (λ b l. (
+      b,
+      h.kept b l,
+      λ c. inl (
+        c,
+        λ found more is which.
+            let s = h.starts b l in
+            let same : first ∷ s.0 ≡ found ∷ more = sym s.1 ∙ is in
+            let found_is : found ≡ first = cc same in
+            other (subst (λ n. (n ≡ 0xc2) ⊎ (n ≡ 0xc3)) found_is which),
+      ),
+    )) r
 
 pub within_i128 : (n : ℤ) → SFits w128 n → within (2 ^ 127) n ≡ Some n
 within_i128 (pos n) h = grind (arith, ints, nat_tests)

@@ -37,9 +37,13 @@ IsLong name (Unsupported kept found) b = Names kept name
     × ((more : List ℕ) × (b ≡ found ∷ more) × ((found ≡ 0xc2) ⊎ (found ≡ 0xc3)))
 IsLong name _ b = ⊥
 
--- where a number of any size is to stand, no head of one stands
+-- the bytes do not begin with such a tag
+abbrev pub BeginsNoLong : List ℕ → Type 0
+BeginsNoLong b = (found : ℕ) (more : List ℕ) → b ≡ found ∷ more → (found ≡ 0xc2) ⊎ (found ≡ 0xc3) → ⊥
+
+-- where a number of any size is to stand, no head of one stands, and no such tag; or such a tag does
 abbrev pub LongStands : {E : Type 0} → List ℕ → DecodeError E → List ℕ → Type 0
-LongStands name e b = KindStands name 0 1 e b ⊎ IsLong name e b
+LongStands name e b = (KindStands name 0 1 e b × BeginsNoLong b) ⊎ IsLong name e b
 
 -- no number of any size stands there that the type accepts
 abbrev pub LongNumberStands : {V E : Type 0} → List ℕ → (ℤ → Option V) → DecodeError E → List ℕ → Type 0

@@ -1,4 +1,4 @@
-use Rattle.std.proofs.Common.{inl, inr}
+use Rattle.std.proofs.Common.{rules, inl, inr}
 use Rattle.dagcbor_heads.proofs.Refusing.{refused}
 use Rattle.dagcbor_read.proofs.Integers.{long_byte_refused, no_tag, long_read}
 use Rattle.dagcbor_read.proofs.numbers.pull_long.Goals as goal
@@ -10,4 +10,4 @@ pub returns-then-first : goal.returns-then-first
 returns-then-first g c = no_tag g.row.R-Error.Denot _ c.new.result c.new.ensures c.in_ok-first.ensures.shown (elim c.then-first.either [ inl e ↦ inl e | inr e ↦ inr e.1 ])
 
 pub returns : goal.returns
-returns g c = long_read _ _ _ c.in_ok-first.ensures.shown c.pull_number.ensures
+returns g c = long_read _ _ _ c.in_ok-first.ensures.shown (search rules) c.pull_number.ensures

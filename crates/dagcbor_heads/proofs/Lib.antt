@@ -3,7 +3,9 @@ pub mod Heads
 pub mod Sending
 pub mod Writing
 pub mod Taking
+pub mod Looking
 pub mod Refusing
 pub mod HeadForms
 pub mod Arguments
 pub mod HeadFaults
+pub mod Keeping

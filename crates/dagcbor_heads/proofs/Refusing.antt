@@ -2,11 +2,11 @@
 use Rattle.std.proofs.Common.{◌≡◌, ℕ, List, sym, ◌∙◌, arith, subst}
 use Rattle.std.specs.Prelude.{Some, Result, Ok, Err, MatchResult, IsErrAnd}
 use Rattle.dagcbor_heads.specs.Reading.{Reading, Stays}
-use Rattle.dagcbor_heads.specs.Causes.{ByteCause, HeadCause}
+use Rattle.dagcbor_heads.specs.Causes.{ByteCause, HeadCause, IsCauseless, IsEndNamed, IsNamed}
 use Rattle.dagcbor_heads.specs.Refusals.{Refuses}
 use Rattle.dagcbor_heads.specs.Inputs.{unlent}
 use Rattle.dagcbor_heads.specs.declared.error.DecodeError.{DecodeError}
-use Rattle.dagcbor_heads.specs.declared.error.DecodeError.TheVariants.{Read, RequireBorrowed, OutOfMemory, Failed, Eof, DepthOverflow}
+use Rattle.dagcbor_heads.specs.declared.error.DecodeError.TheVariants.{Read, RequireBorrowed, OutOfMemory, Failed, Eof, Unsupported, DepthOverflow, IndefiniteSize, NonMinimal}
 
 -- A call that took the bytes from old to mid, and goes on with a part, refuses what the part refuses.
 pub passed_on : {E could could' lacks lacks' borrows borrows' : Type 0} (stands stands' : DecodeError E → List ℕ → Type 0) (old mid new : Reading) (e : DecodeError E)
@@ -24,6 +24,17 @@ passed_on stands stands' old mid new _ h c k w s r = (r.0 ∙ h.faults, λ x. r.
 pub byte_in_head : {E : Type 0} (e : DecodeError E) (b : List ℕ) → ByteCause e b → HeadCause e b
 byte_in_head (Eof n expect) b h = rw h.1 h.0
 byte_in_head _ b h = absurd h
+
+-- refusals of a part among those of the whole
+pub causeless_named : {E : Type 0} (text : List ℕ) (e : DecodeError E) → IsCauseless e → IsEndNamed text e
+causeless_named text (Eof n x) h = absurd h
+causeless_named text _ h = h
+
+pub end_named : {E : Type 0} (text : List ℕ) (e : DecodeError E) → IsEndNamed text e → IsNamed text e
+end_named text (Unsupported n x) h = absurd h
+end_named text IndefiniteSize h = absurd h
+end_named text (NonMinimal n x) h = absurd h
+end_named text _ h = h
 
 -- the error that `?` hands on
 pub refused : {T E : Type 0} (P : T → Type 0) (Q : DecodeError E → Type 0) (r : Result T (DecodeError E)) (e : DecodeError E) → IsErrAnd r (λ y. y ≡ e) → Q e → MatchResult r P Q

@@ -16,7 +16,7 @@ stays_both h k = record { steps = k.steps ∙ h.steps; budget = k.budget ∙ h.b
 -- ---- what is shown
 
 -- a beginning that is shown goes on to the whole
-shown_whole : (b shown : List ℕ) → take (length shown) b ≡ shown → b ≡ shown ++ drop (length shown) b
+pub shown_whole : (b shown : List ℕ) → take (length shown) b ≡ shown → b ≡ shown ++ drop (length shown) b
 shown_whole b shown e = sym (take-append-drop (length shown) b) ∙ ap (λ s. s ++ drop (length shown) b) e
 
 pub take_of_shown : (b shown : List ℕ) (n : ℕ) → take (length shown) b ≡ shown → n ≤ length shown → take n b ≡ take n shown

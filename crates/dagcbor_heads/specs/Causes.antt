@@ -5,7 +5,7 @@ use Rattle.dagcbor_heads.specs.Lengths.{len_of}
 use Rattle.dagcbor_heads.specs.Names.{Names}
 use Rattle.dagcbor_heads.specs.declared.error.Len.TheVariants.{Small}
 use Rattle.dagcbor_heads.specs.declared.error.DecodeError.{DecodeError}
-use Rattle.dagcbor_heads.specs.declared.error.DecodeError.TheVariants.{Eof, Unsupported, IndefiniteSize, NonMinimal}
+use Rattle.dagcbor_heads.specs.declared.error.DecodeError.TheVariants.{Read, Eof, Unsupported, RequireBorrowed, IndefiniteSize, NonMinimal, OutOfMemory, Failed}
 
 -- how many bytes of argument stand behind a first byte with this additional information
 abbrev pub argument_width : ℕ → ℕ
@@ -50,9 +50,22 @@ abbrev pub PayloadCause : {E : Type 0} → ℕ → DecodeError E → List ℕ �
 PayloadCause n (Eof name expect) b = (expect ≡ len_of n) × (length b < n)
 PayloadCause n _ b = ⊥
 
--- a refusal that has a name has this one
+-- a refusal that comes of no cause in the bytes; `Refuses` says where it may come
+abbrev pub IsCauseless : {E : Type 0} → DecodeError E → Type 0
+IsCauseless (Read e) = ⊤
+IsCauseless OutOfMemory = ⊤
+IsCauseless (RequireBorrowed name) = ⊤
+IsCauseless Failed = ⊤
+IsCauseless _ = ⊥
+
+-- of missing bytes, under this name, or of no cause
+abbrev pub IsEndNamed : {E : Type 0} → List ℕ → DecodeError E → Type 0
+IsEndNamed text (Eof name expect) = Names name text
+IsEndNamed text e = IsCauseless e
+
+-- of a head, under this name where it has one, or of no cause
 abbrev pub IsNamed : {E : Type 0} → List ℕ → DecodeError E → Type 0
-IsNamed text (Eof name expect) = Names name text
 IsNamed text (Unsupported name found) = Names name text
+IsNamed text IndefiniteSize = ⊤
 IsNamed text (NonMinimal name found) = Names name text
-IsNamed text _ = ⊤
+IsNamed text e = IsEndNamed text e

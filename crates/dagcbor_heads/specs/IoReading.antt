@@ -11,10 +11,11 @@ abbrev pub told : List ℕ → Option (List ℕ) → Option ℕ → Option (List
 told shown None most = None
 told shown (Some b) most = if bytes_eq (take (length shown) b) shown && may_consume (length shown) most then Some b else None
 
--- what a window shows, and how often its source faulted
+-- what a window shows, how often its source faulted, and how many bytes were looked at
 pub record Windowed : Type 0 where
   pub shown : List ℕ
   pub faults : ℕ
+  pub looked : ℕ
 
 -- known bytes are kept, and they begin with those that are shown, which may be consumed: none only at the end, or where none is wanted
 pub record Copies (old new : Option (List ℕ)) (most : Option ℕ) (want : ℕ) (shown : List ℕ) : Type 0 where

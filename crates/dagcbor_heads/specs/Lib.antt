@@ -1,9 +1,12 @@
 pub mod Head
 pub mod Laws
+pub mod Texts
 pub mod Names
+pub mod Messages
 pub mod Lengths
 pub mod Reading
 pub mod Fronts
+pub mod Looking
 pub mod Causes
 pub mod Refusals
 pub mod Inputs

@@ -15,6 +15,8 @@ pub record Reading : Type 0 where
   pub lends : Bool
   -- how often the source faulted so far
   pub faults : ℕ
+  -- how many bytes were looked at so far: of each fill as many as were wanted and shown, and each byte that was taken
+  pub looked : ℕ
   -- the references (by their ghost names) through which the source is reached
   pub through : List ℕ
 
@@ -26,7 +28,7 @@ Keeps old new = (b : List ℕ) → old.left ≡ Some b → new.left ≡ Some b
 abbrev pub Drops : Reading → ℕ → Reading → Type 0
 Drops old n new = (b : List ℕ) → old.left ≡ Some b → new.left ≡ Some (drop n b)
 
--- the reader, its steps and its faults are as before
+-- the reader, its steps and its faults are as before, however much was looked at
 pub record Stays (old new : Reading) : Type 0 where
   pub steps : new.steps ≡ old.steps
   pub budget : new.budget ≡ old.budget
@@ -46,11 +48,13 @@ pub record Shows (old : Reading) (want : ℕ) (new : Reading) : Type 0 where
   pub kept : Keeps old new
   pub begins : (b : List ℕ) → new.left ≡ Some b → take (length new.shown) b ≡ new.shown
   pub front : (b : List ℕ) → old.left ≡ Some b → IsShownOf b new.shown want old.lends
+  pub looked : new.looked ≡ old.looked + min want (length new.shown)
   pub same : Stays old new
 
--- the source faulted, and no byte was taken
+-- the source faulted, and no byte was taken or looked at
 pub record Fails (old new : Reading) : Type 0 where
   pub kept : Keeps old new
+  pub looked : new.looked ≡ old.looked
   pub steps : new.steps ≡ old.steps
   pub budget : new.budget ≡ old.budget
   pub lends : new.lends ≡ old.lends
@@ -61,6 +65,7 @@ pub record Fails (old new : Reading) : Type 0 where
 pub record Advances (old : Reading) (n : ℕ) (new : Reading) : Type 0 where
   pub dropped : Drops old n new
   pub none_shown : new.shown ≡ []
+  pub looked : new.looked ≡ old.looked + n
   pub same : Stays old new
 
 -- the same reader with so many steps left

@@ -3,7 +3,7 @@
 ghost use Rattle.std.specs.Prelude.{◌≡◌};
 ghost use Rattle.dagcbor_heads.specs.Lengths.{len_of};
 
-use crate::name::Name;
+use crate::name::{Message, Name};
 use std::error::Error;
 use std::fmt;
 use std::fmt::{Debug, Display, Formatter};
@@ -40,7 +40,7 @@ pub enum ArithmeticOverflow {
 #[derive(Debug, Drop)]
 pub enum EncodeError<E> {
     /// The value has no spelling.
-    Msg(&'static str),
+    Msg(Message),
     /// The writer faulted.
     Write(E),
     /// A growth was refused.
@@ -48,11 +48,16 @@ pub enum EncodeError<E> {
 }
 
 impl<E> EncodeError<E> {
-    /// A refusal with a message of its own.
-    pub fn custom(message: &'static str) -> EncodeError<E>
-        ensures { result ≡ EncodeError.Msg message.entry }
+    ghost use Rattle.std.specs.Prelude.{◌≡◌, ◌≤◌, length};
+    ghost use Rattle.dagcbor_heads.specs.Messages.{Says, message_bytes};
+    ghost use Rattle.dagcbor_heads.specs.declared.name.Message.{Message};
+
+    /// A refusal with a message of its own, as `Message::new` keeps it.
+    pub fn custom(message: &str) -> EncodeError<E>
+        ensures { (kept : Message) × (result ≡ EncodeError.Msg kept) × Says kept message.now
+            × (length message.now ≤ 63 → message_bytes kept ≡ message.now) }
     {
-        EncodeError::Msg(message)
+        EncodeError::Msg(Message::new(message))
     }
 }
 

@@ -32,6 +32,7 @@ impl<R: BufRead> Model for IoReader<R> {
       budget = 256;
       lends = false;
       faults = s.window.faults;
+      looked = s.window.looked;
       through = [];
     } };
 }
@@ -39,7 +40,7 @@ impl<R: BufRead> Model for IoReader<R> {
 impl<R: BufRead> IoReader<R> {
     /// A reader over the source, with a budget of 256 steps.
     pub fn new(source: R) -> IoReader<R>
-        ensures { result ≡ record { left = R.remaining source; shown = []; steps = 256; budget = 256; lends = false; faults = 0; through = [] } }
+        ensures { result ≡ record { left = R.remaining source; shown = []; steps = 256; budget = 256; lends = false; faults = 0; looked = 0; through = [] } }
     {
         IoReader {
             source,
@@ -76,7 +77,7 @@ impl<R: BufRead + Drop> Read for IoReader<R> {
 
     fn advance(&mut self, n: usize) {
         self.source.consume(n);
-        self.window.clear();
+        self.window.clear(n);
     }
 
     fn step_in(&mut self) -> bool {

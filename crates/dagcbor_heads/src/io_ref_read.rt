@@ -32,6 +32,7 @@ impl<'r, R: BufRead> Model for IoRefReader<'r, R> {
       budget = 256;
       lends = false;
       faults = s.window.faults;
+      looked = s.window.looked;
       through = s.source.ghost_name ∷ [];
     } };
 }
@@ -39,7 +40,7 @@ impl<'r, R: BufRead> Model for IoRefReader<'r, R> {
 impl<'r, R: BufRead> IoRefReader<'r, R> {
     /// A reader over the source, with a budget of 256 steps.
     pub fn new(source: &'r mut R) -> IoRefReader<'r, R>
-        ensures { result ≡ record { left = R.remaining source.old; shown = []; steps = 256; budget = 256; lends = false; faults = 0; through = source.entry.ghost_name ∷ [] } }
+        ensures { result ≡ record { left = R.remaining source.old; shown = []; steps = 256; budget = 256; lends = false; faults = 0; looked = 0; through = source.entry.ghost_name ∷ [] } }
     {
         IoRefReader {
             source,
@@ -77,7 +78,7 @@ impl<R: BufRead> Read for IoRefReader<'_, R> {
 
     fn advance(&mut self, n: usize) {
         self.source.consume(n);
-        self.window.clear();
+        self.window.clear(n);
     }
 
     fn step_in(&mut self) -> bool {

@@ -14,6 +14,7 @@ mod push;
 mod read;
 mod steps;
 mod tally;
+mod text;
 mod window;
 mod write;
 
@@ -23,7 +24,7 @@ pub use io_read::IoReader;
 pub use io_ref_read::IoRefReader;
 pub use io_ref_write::IoRefWriter;
 pub use io_write::IoWriter;
-pub use name::Name;
+pub use name::{Message, Name};
 pub use pull::{
     is_at_end, is_indefinite, peek_one, pull_head, pull_one, pull_payload, pull_short_payload,
 };

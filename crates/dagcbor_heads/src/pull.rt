@@ -1,14 +1,15 @@
 //! Takes bytes, heads and payloads off any reader.
 
-ghost use Rattle.std.specs.Prelude.{◌≡◌, ◌↔◌, ◌<◌, ◌≤◌, ◌+◌, ◌%◌, ◌^◌, [], ◌∷◌, ◌++◌, ⊤, Some, true, false, min, length, take, IfOk, IfErr, IfSome, IsTrue, MatchOption, MatchResult, MatchBool, List, ℕ};
+ghost use Rattle.std.specs.Prelude.{◌≡◌, ◌↔◌, ◌<◌, ◌≤◌, ◌+◌, ◌*◌, ◌%◌, ◌^◌, [], ◌∷◌, ◌++◌, ⊤, Some, true, false, min, length, take, IfOk, IfErr, IfSome, IsTrue, MatchOption, MatchResult, MatchBool, List, ℕ};
 ghost use Rattle.std.specs.Cow.{cow_slice_items, IsBorrowedSlice};
 ghost use Rattle.std.specs.Int.{bytes_high_first};
 ghost use Rattle.dagcbor_heads.specs.Head.{head};
 ghost use Rattle.dagcbor_heads.specs.Reading.{Fails, Stays, Keeps};
 ghost use Rattle.dagcbor_heads.specs.Fronts.{FindsEnd, Gathers, HasByte, HasHead, HasPayload, ShowsByte, Takes, TakesHead};
-ghost use Rattle.dagcbor_heads.specs.Causes.{ByteCause, ArgumentCause, HeadCause, PayloadCause, IsNamed, argument_width, least_argument};
+ghost use Rattle.dagcbor_heads.specs.Causes.{ByteCause, ArgumentCause, HeadCause, PayloadCause, IsCauseless, IsEndNamed, IsNamed, argument_width, least_argument};
 ghost use Rattle.dagcbor_heads.specs.Refusals.{Refuses};
 ghost use Rattle.dagcbor_heads.specs.Inputs.{input_reading};
+ghost use Rattle.dagcbor_heads.specs.Looking.{Looks, LooksOnce, LooksAtTaken, LooksAtMost};
 
 use crate::error::{DecodeError, Len};
 use crate::input::Input;
@@ -27,7 +28,8 @@ pub fn is_indefinite(byte: u8) -> bool
 
 /// The next byte, which is left, or nothing at the end.
 fn look<R: Read>(reader: &mut R) -> Result<Option<u8>, R::Error>
-    ensures { MatchResult result
+    ensures looked { LooksOnce (R.reading reader.old) (R.reading reader.new) }
+    ensures found { MatchResult result
         (λ found. MatchOption found
         (FindsEnd (R.reading reader.old) (R.reading reader.new))
         (λ byte. ShowsByte (R.reading reader.old) byte (R.reading reader.new) × (1 ≤ length (R.reading reader.new).shown)))
@@ -45,6 +47,12 @@ fn next_byte<R: Read>(reader: &mut R) -> Result<Option<u8>, R::Error>
         (FindsEnd (R.reading reader.old) (R.reading reader.new))
         (λ byte. Takes (R.reading reader.old) (byte ∷ []) (R.reading reader.new)))
         (λ _. Fails (R.reading reader.old) (R.reading reader.new)) }
+    ensures looked { MatchResult result
+        (λ found. MatchOption found
+        (LooksOnce (R.reading reader.old) (R.reading reader.new))
+        (λ _. LooksAtTaken 2 0 (R.reading reader.old) (R.reading reader.new)))
+        (λ _. LooksOnce (R.reading reader.old) (R.reading reader.new)) }
+    ensures at_most { LooksAtMost 2 (R.reading reader.old) (R.reading reader.new) }
 {
     match look(reader)? {
         Some(byte) => {
@@ -57,7 +65,8 @@ fn next_byte<R: Read>(reader: &mut R) -> Result<Option<u8>, R::Error>
 
 /// Whether no byte is left. Nothing is taken.
 pub fn is_at_end<R: Read>(reader: &mut R) -> Result<bool, R::Error>
-    ensures { MatchResult result
+    ensures looked { LooksOnce (R.reading reader.old) (R.reading reader.new) }
+    ensures end { MatchResult result
         (λ end. MatchBool end
         (FindsEnd (R.reading reader.old) (R.reading reader.new))
         ((byte : ℕ) × ShowsByte (R.reading reader.old) byte (R.reading reader.new)))
@@ -74,7 +83,8 @@ pub fn peek_one<R: Read>(name: &str, reader: &mut R) -> Result<u8, DecodeError<R
     ensures shown { MatchResult result
         (λ byte. ShowsByte (R.reading reader.old) byte (R.reading reader.new))
         (λ e. Refuses (HasByte (R.reading reader.old)) ⊥ ⊥ ByteCause (R.reading reader.old) e (R.reading reader.new)) }
-    ensures named { IfErr result (λ e. IsNamed name.now e) }
+    ensures named { IfErr result (λ e. IsEndNamed name.now e) }
+    ensures looked { LooksOnce (R.reading reader.old) (R.reading reader.new) }
 {
     match look(reader) {
         Ok(Some(byte)) => Ok(byte),
@@ -91,7 +101,9 @@ pub fn pull_one<R: Read>(name: &str, reader: &mut R) -> Result<u8, DecodeError<R
     ensures taken { MatchResult result
         (λ byte. Takes (R.reading reader.old) (byte ∷ []) (R.reading reader.new))
         (λ e. Refuses (HasByte (R.reading reader.old)) ⊥ ⊥ ByteCause (R.reading reader.old) e (R.reading reader.new)) }
-    ensures named { IfErr result (λ e. IsNamed name.now e) }
+    ensures named { IfErr result (λ e. IsEndNamed name.now e) }
+    ensures looked { Looks 2 (R.reading reader.old) result (R.reading reader.new) }
+    ensures at_most { LooksAtMost 2 (R.reading reader.old) (R.reading reader.new) }
 {
     match next_byte(reader) {
         Ok(Some(byte)) => Ok(byte),
@@ -142,7 +154,9 @@ fn pull_argument<R: Read>(
     ensures taken { MatchResult result
         (λ n. (n < 256 ^ width) × Takes (R.reading reader.old) (bytes_high_first width n) (R.reading reader.new))
         (λ e. Refuses (HasPayload width (R.reading reader.old)) ⊥ ⊥ (ArgumentCause width) (R.reading reader.old) e (R.reading reader.new)) }
-    ensures named { IfErr result (λ e. IsNamed name.now e) }
+    ensures named { IfErr result (λ e. IsEndNamed name.now e) }
+    ensures looked { Looks 2 (R.reading reader.old) result (R.reading reader.new) }
+    ensures at_most { LooksAtMost (2 * width) (R.reading reader.old) (R.reading reader.new) }
 {
     let mut argument = 0u64;
     for _i in 0..width {
@@ -159,6 +173,7 @@ fn pull_argument<R: Read>(
 }
 
 /// The head of the next item: its major type, its argument and its first byte. It is taken.
+#[tactic(auto, using(crate::proofs::Refusing::end_named))]
 pub fn pull_head<R: Read>(
     name: &str,
     reader: &mut R,
@@ -167,6 +182,8 @@ pub fn pull_head<R: Read>(
         (λ h. TakesHead (R.reading reader.old) h.0 h.1 h.2 (R.reading reader.new))
         (λ e. Refuses (HasHead (R.reading reader.old)) ⊥ ⊥ HeadCause (R.reading reader.old) e (R.reading reader.new)) }
     ensures named { IfErr result (λ e. IsNamed name.now e) }
+    ensures looked { Looks 2 (R.reading reader.old) result (R.reading reader.new) }
+    ensures at_most { LooksAtMost 18 (R.reading reader.old) (R.reading reader.new) }
 {
     let first = pull_one(name, reader)?;
     let (major, information) = (first / 32, first % 32);
@@ -208,9 +225,14 @@ fn gather_some<R: Read>(
     payload: &mut Vec<u8>,
     want: u64,
 ) -> Result<usize, DecodeError<R::Error>>
-    ensures { MatchResult result
+    ensures gathered { MatchResult result
         (λ n. Gathers (R.reading reader.old) payload.old.items want n payload.new.items (R.reading reader.new))
         (λ e. Refuses ⊤ ⊤ ⊥ (λ _ _. ⊥) (R.reading reader.old) e (R.reading reader.new)) }
+    ensures causeless { IfErr result IsCauseless }
+    ensures looked { Looks 2 (R.reading reader.old) result (R.reading reader.new) }
+    ensures at_most { MatchResult result
+        (λ n. LooksAtMost (2 * n) (R.reading reader.old) (R.reading reader.new))
+        (λ _. LooksAtMost want (R.reading reader.old) (R.reading reader.new)) }
 {
     match reader.prepare(want as usize) {
         Ok(()) => {}
@@ -226,6 +248,7 @@ fn gather_some<R: Read>(
 }
 
 /// The next n bytes, gathered in a vector that grows as they come. They are taken.
+#[tactic(auto, using(crate::proofs::Refusing::causeless_named))]
 fn gather<R: Read>(
     alloc: Global,
     name: &str,
@@ -235,7 +258,9 @@ fn gather<R: Read>(
     ensures taken { MatchResult result
         (λ v. (length v.items ≡ n) × Takes (R.reading reader.old) v.items (R.reading reader.new))
         (λ e. Refuses (HasPayload n (R.reading reader.old)) ⊤ ⊥ (PayloadCause n) (R.reading reader.old) e (R.reading reader.new)) }
-    ensures named { IfErr result (λ e. IsNamed name.now e) }
+    ensures named { IfErr result (λ e. IsEndNamed name.now e) }
+    ensures looked { Looks 2 (R.reading reader.old) result (R.reading reader.new) }
+    ensures at_most { LooksAtMost (2 * n) (R.reading reader.old) (R.reading reader.new) }
 {
     let mut payload = Vec::new(alloc);
     let mut left = n;
@@ -264,7 +289,9 @@ pub fn pull_payload<'de, R: Read>(
         (λ e. Refuses (HasPayload n (input_reading R.reading input.old)) ((input_reading R.reading input.old).lends ≡ false) ⊥ (PayloadCause n)
         (input_reading R.reading input.old) e (input_reading R.reading input.new)) }
     ensures lent { IfOk result (λ c. IsBorrowedSlice c ↔ ((input_reading R.reading input.old).lends ≡ true)) }
-    ensures named { IfErr result (λ e. IsNamed name.now e) }
+    ensures named { IfErr result (λ e. IsEndNamed name.now e) }
+    ensures looked { Looks 2 (input_reading R.reading input.old) result (input_reading R.reading input.new) }
+    ensures at_most { LooksAtMost (2 * n) (input_reading R.reading input.old) (input_reading R.reading input.new) }
 {
     match input {
         Input::Slice(reader) => match reader.lend(n) {
@@ -296,9 +323,13 @@ fn copy_some<R: Read, const CAP: usize>(
     want: u64,
 ) -> Result<usize, R::Error>
     requires { length payload.old.items + want ≤ CAP }
-    ensures { MatchResult result
+    ensures gathered { MatchResult result
         (λ n. Gathers (R.reading reader.old) payload.old.items want n payload.new.items (R.reading reader.new))
         (λ _. Fails (R.reading reader.old) (R.reading reader.new)) }
+    ensures looked { Looks 2 (R.reading reader.old) result (R.reading reader.new) }
+    ensures at_most { MatchResult result
+        (λ n. LooksAtMost (2 * n) (R.reading reader.old) (R.reading reader.new))
+        (λ _. LooksAtMost 0 (R.reading reader.old) (R.reading reader.new)) }
 {
     reader.prepare(want as usize)?;
     let count = copy_front(payload, reader.shown(), want);
@@ -316,7 +347,9 @@ pub fn pull_short_payload<R: Read, const CAP: usize>(
     ensures taken { MatchResult result
         (λ v. (length v.items ≡ n) × Takes (R.reading reader.old) v.items (R.reading reader.new))
         (λ e. Refuses (HasPayload n (R.reading reader.old)) ⊥ ⊥ (PayloadCause n) (R.reading reader.old) e (R.reading reader.new)) }
-    ensures named { IfErr result (λ e. IsNamed name.now e) }
+    ensures named { IfErr result (λ e. IsEndNamed name.now e) }
+    ensures looked { Looks 2 (R.reading reader.old) result (R.reading reader.new) }
+    ensures at_most { LooksAtMost (2 * n) (R.reading reader.old) (R.reading reader.new) }
 {
     let mut payload = ArrayVec::new();
     let mut left = n;

@@ -5,6 +5,7 @@ ghost use Rattle.dagcbor_heads.specs.Reading.{Reading, IsShownOf, Shows, Fails, 
 ghost use Rattle.dagcbor_heads.specs.Fronts.{Takes};
 
 use crate::steps::Steps;
+use crate::tally::Tally;
 use std::convert::Infallible;
 use std::marker::Model;
 
@@ -65,6 +66,7 @@ pub struct SliceReader<'a> {
     rest: &'a [u8],
     shown: usize,
     steps: Steps,
+    looked: Tally,
 }
 
 impl<'a> Model for SliceReader<'a> {
@@ -80,6 +82,7 @@ impl<'a> Model for SliceReader<'a> {
       budget = 256;
       lends = true;
       faults = 0;
+      looked = s.looked.count;
       through = [];
     } };
 
@@ -89,12 +92,13 @@ impl<'a> Model for SliceReader<'a> {
 impl<'a> SliceReader<'a> {
     /// A reader over the bytes, with a budget of 256 steps.
     pub fn new(bytes: &'a [u8]) -> SliceReader<'a>
-        ensures { result ≡ record { left = Some bytes.now; shown = []; steps = 256; budget = 256; lends = true; faults = 0; through = [] } }
+        ensures { result ≡ record { left = Some bytes.now; shown = []; steps = 256; budget = 256; lends = true; faults = 0; looked = 0; through = [] } }
     {
         SliceReader {
             rest: bytes,
             shown: 0,
             steps: Steps::new(),
+            looked: Tally::new(),
         }
     }
 
@@ -107,11 +111,11 @@ impl<'a> SliceReader<'a> {
     }
 
     /// Takes the next n bytes and lends them, where so many are left.
-    pub(crate) fn lend(&mut self, n: u64) -> Option<&'a [u8]>
+    pub fn lend(&mut self, n: u64) -> Option<&'a [u8]>
         ensures lends { self.old.lends ≡ true }
         ensures lent { MatchOption result
             ((self.new ≡ self.old) × ((b : List ℕ) → self.old.left ≡ Some b → length b < n))
-            (λ s. (length s.now ≡ n) × Takes self.old s.now self.new) }
+            (λ s. (length s.now ≡ n) × Takes self.old s.now self.new × (self.new.looked ≡ self.old.looked + n)) }
     {
         if (self.rest.len() as u64) < n {
             return None;
@@ -119,6 +123,7 @@ impl<'a> SliceReader<'a> {
         let (front, rest) = self.rest.split_at(n as usize);
         self.rest = rest;
         self.shown = 0;
+        self.looked.add(n as usize);
         Some(front)
     }
 }
@@ -128,8 +133,9 @@ impl Read for SliceReader<'_> {
 
     ghost reading = { λ s. s };
 
-    fn prepare(&mut self, _want: usize) -> Result<(), Infallible> {
+    fn prepare(&mut self, want: usize) -> Result<(), Infallible> {
         self.shown = self.rest.len();
+        self.looked.add(want.min(self.shown));
         Ok(())
     }
 
@@ -140,6 +146,7 @@ impl Read for SliceReader<'_> {
     fn advance(&mut self, n: usize) {
         self.rest = &self.rest[n..];
         self.shown = 0;
+        self.looked.add(n);
     }
 
     fn step_in(&mut self) -> bool {

@@ -11,12 +11,13 @@ use std::marker::Model;
 /// The most bytes that are shown at once.
 const WINDOW: usize = 4096;
 
-/// Copies of bytes that a source still has, and how often it faulted.
+/// Copies of bytes that a source still has, how often it faulted, and how many bytes were looked at.
 #[derive(Drop)]
 pub(crate) struct Window {
     bytes: [u8; WINDOW],
     count: usize,
     faults: Tally,
+    looked: Tally,
 }
 
 impl Model for Window {
@@ -25,7 +26,7 @@ impl Model for Window {
 
     ghost Value = { Windowed };
 
-    ghost view = { λ s. record { shown = take s.count s.bytes; faults = s.faults.count } };
+    ghost view = { λ s. record { shown = take s.count s.bytes; faults = s.faults.count; looked = s.looked.count } };
 
     ghost invariant = { λ s. s.count ≤ 4096 };
 }
@@ -33,12 +34,13 @@ impl Model for Window {
 impl Window {
     /// Shows nothing, and no fault was met.
     pub(crate) fn new() -> Window
-        ensures { result ≡ record { shown = []; faults = 0 } }
+        ensures { result ≡ record { shown = []; faults = 0; looked = 0 } }
     {
         Window {
             bytes: [0; WINDOW],
             count: 0,
             faults: Tally::new(),
+            looked: Tally::new(),
         }
     }
 
@@ -47,14 +49,16 @@ impl Window {
     pub(crate) fn look<R: BufRead>(&mut self, source: &mut R, want: usize) -> io::Result<()>
         ensures { MatchResult result
             (λ _. Copies (R.remaining source.old) (R.remaining source.new) (R.consumable_len source.new) want self.new.shown
-            × (self.new.faults ≡ self.old.faults))
+            × (self.new.faults ≡ self.old.faults)
+            × (self.new.looked ≡ self.old.looked + min want (length self.new.shown)))
             (λ _. IfSome (R.remaining source.old) (λ b. R.remaining source.new ≡ Some b)
-            × (self.new ≡ record { shown = []; faults = self.old.faults + 1 })) }
+            × (self.new ≡ record { shown = []; faults = self.old.faults + 1; looked = self.old.looked })) }
     {
         self.count = 0;
         match source.fill_buf() {
             Ok(bytes) => {
                 self.count = copy_front(bytes, &mut self.bytes, want);
+                self.looked.add(self.count);
                 Ok(())
             }
             Err(fault) => {
@@ -70,11 +74,12 @@ impl Window {
         &self.bytes[..self.count]
     }
 
-    /// Shows nothing any more.
-    pub(crate) fn clear(&mut self)
-        ensures { self.new ≡ record { shown = []; faults = self.old.faults } }
+    /// Shows nothing any more: n bytes were taken.
+    pub(crate) fn clear(&mut self, n: usize)
+        ensures { self.new ≡ record { shown = []; faults = self.old.faults; looked = self.old.looked + n } }
     {
         self.count = 0;
+        self.looked.add(n);
     }
 }
 

@@ -8,10 +8,12 @@ use Rattle.dagcbor_heads.specs.Refusals.{Refuses}
 use Rattle.dagcbor_heads.specs.declared.error.DecodeError.{DecodeError}
 use Rattle.dagcbor_heads.specs.declared.error.DecodeError.TheVariants.{Failed}
 use Rattle.ipld_tree.specs.Tree.{Tree, text}
-use Rattle.dagcbor_read.specs.Untyped.{TakesItem}
-use Rattle.dagcbor_read.specs.Entries.{Follows, HasKey, KeyStands}
+use Rattle.dagcbor_items.specs.Untyped.{TakesItem}
+use Rattle.dagcbor_items.specs.Places.{Follows}
+use Rattle.dagcbor_items.specs.ItemCauses.{KeyStands}
+use Rattle.dagcbor_items.specs.Entries.{HasKey}
 use Rattle.dagcbor_read.specs.Calls.{Progress, Call}
-use Rattle.dagcbor_read.specs.Reads.{HasFront, TakesFront, Anything}
+use Rattle.dagcbor_items.specs.Reads.{HasFront, TakesFront, Anything}
 use Rattle.dagcbor_read.specs.Accessors.{Begun, ReadsElement, after_element, ReadsNextKey, after_key}
 
 pub at_false : (b : Bool) (P Q : Type 0) → b ≡ false → MatchBool b P Q → Q

@@ -8,8 +8,8 @@ use Rattle.dagcbor_heads.specs.Refusals.{Refuses}
 use Rattle.dagcbor_heads.specs.declared.error.DecodeError.{DecodeError}
 use Rattle.ipld_tree.specs.Tree.{Tree, any_need}
 use Rattle.dagcbor_read.specs.Calls.{Progress, Call}
-use Rattle.dagcbor_read.specs.Reads.{HasFront, TakesFront, Anything}
-use Rattle.dagcbor_read.specs.Views.{view_ignored}
+use Rattle.dagcbor_items.specs.Reads.{HasFront, TakesFront, Anything}
+use Rattle.dagcbor_items.specs.Views.{view_ignored}
 use Rattle.dagcbor_read.specs.Accessors.{Begun, begun, Enters, BeginsItems, ReadsNextKey, after_key, with_value, EndsItems}
 use Rattle.dagcbor_read.specs.declared.accessor.Accessor.{Accessor}
 use Rattle.dagcbor_read.specs.Collections.{view_fields, need_fields, HasFields, TakesFields}

@@ -9,15 +9,19 @@ use Rattle.dagcbor_heads.proofs.Taking.{stays, stays_both}
 use Rattle.ipld_tree.specs.Tree.{Tree, null, boolean, integer, text, bytes, list, mapping, link, Entries, no_entries, entry, Precedes}
 use Rattle.ipld_tree.specs.Spelling.{entry_count, entries_spelling, IsFront, AreEntryFronts}
 use Rattle.ipld_tree.proofs.Fronts.{map_opened, entry_opened, entry_closed, entries_after, front_unique}
-use Rattle.dagcbor_read.specs.Untyped.{TakesItem}
-use Rattle.dagcbor_read.specs.Entries.{Follows, HasKey, KeyStands}
+use Rattle.dagcbor_items.specs.Untyped.{TakesItem}
+use Rattle.dagcbor_items.specs.Places.{Follows}
+use Rattle.dagcbor_items.specs.ItemCauses.{KeyStands}
+use Rattle.dagcbor_items.specs.Entries.{HasKey}
 use Rattle.dagcbor_read.specs.Calls.{Progress, Call}
-use Rattle.dagcbor_read.specs.Reads.{HasFront, TakesFront, Anything, ReadsValue}
+use Rattle.dagcbor_items.specs.Reads.{HasFront, TakesFront, Anything}
+use Rattle.dagcbor_read.specs.Values.{ReadsValue}
 use Rattle.dagcbor_read.specs.Accessors.{Begun, begun, Enters, BeginsItems}
 use Rattle.dagcbor_read.specs.Enums.{BegunEnum, BeginsHeld, IsOtherForm, ReadsFieldsHeld}
 use Rattle.dagcbor_read.specs.declared.accessor.Accessor.{Accessor}
-use Rattle.dagcbor_read.specs.Collections.{view_entries, view_fields, need_entries, need_fields, AllFollow, HasFields, TakesFields, ReadsEntriesLeft}
-use Rattle.dagcbor_read.proofs.Maps.{map_closed}
+use Rattle.dagcbor_read.specs.Collections.{view_entries, view_fields, need_entries, need_fields, HasFields, TakesFields, ReadsEntriesLeft}
+use Rattle.dagcbor_items.specs.Entries.{AllFollow}
+use Rattle.dagcbor_items.proofs.Maps.{map_closed}
 use Rattle.dagcbor_read.proofs.Answered.{answered, KeyRead}
 use Rattle.dagcbor_read.proofs.ItemRows.{same_reader, some_first}
 use Rattle.dagcbor_read.proofs.Passing.{carried}

@@ -11,8 +11,9 @@ use Rattle.dagcbor_heads.proofs.Taking.{stays}
 use Rattle.dagcbor_heads.proofs.Refusing.{passed_on}
 use Rattle.ipld_tree.specs.Tree.{Tree, any_need}
 use Rattle.dagcbor_read.specs.Calls.{Progress}
-use Rattle.dagcbor_read.specs.Reads.{HasFront, TakesFront, Anything, ReadsValue}
-use Rattle.dagcbor_read.specs.Views.{view_ignored}
+use Rattle.dagcbor_items.specs.Reads.{HasFront, TakesFront, Anything}
+use Rattle.dagcbor_read.specs.Values.{ReadsValue}
+use Rattle.dagcbor_items.specs.Views.{view_ignored}
 
 -- a key that is not the name
 pub other_name : {k name : List ℕ} → (k ≡ name → ⊥) → bytes_eq k name ≡ false

@@ -10,7 +10,7 @@ use Rattle.dagcbor_heads.proofs.Taking.{stays}
 use Rattle.dagcbor_heads.proofs.Refusing.{passed_on, refused}
 use Rattle.ipld_tree.specs.Tree.{Tree}
 use Rattle.ipld_tree.proofs.Fronts.{front_unique}
-use Rattle.dagcbor_read.specs.Reads.{HasFront, TakesFront, Anything}
+use Rattle.dagcbor_items.specs.Reads.{HasFront, TakesFront, Anything}
 
 module _ {S V : Type 0} (view : Tree → Option S) (need : Tree → ℕ) (finish : S → Option V) where
   -- what the finished value shows

@@ -10,7 +10,8 @@ use Rattle.ipld_tree.specs.Tree.{Tree, null, boolean, integer, text, bytes, list
 use Rattle.ipld_tree.specs.Spelling.{item_count, items_spelling, IsFront, AreFronts}
 use Rattle.ipld_tree.proofs.Fronts.{list_opened, list_closed, item_opened, item_closed, items_after}
 use Rattle.dagcbor_read.specs.Calls.{Progress, Call}
-use Rattle.dagcbor_read.specs.Reads.{HasFront, TakesFront, Anything, ReadsValue}
+use Rattle.dagcbor_items.specs.Reads.{HasFront, TakesFront, Anything}
+use Rattle.dagcbor_read.specs.Values.{ReadsValue}
 use Rattle.dagcbor_read.specs.Accessors.{Begun, begun, Enters, BeginsItems}
 use Rattle.dagcbor_read.specs.declared.accessor.Accessor.{Accessor}
 use Rattle.dagcbor_read.specs.Collections.{view_list, need_list, view_items, need_items, view_none, need_none, view_first, need_first, HasRow, TakesRow, ReadsRest}

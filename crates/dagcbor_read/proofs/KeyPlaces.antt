@@ -9,7 +9,7 @@ use Rattle.ipld_tree.specs.Key.{bytes_cmp, key_cmp}
 use Rattle.ipld_tree.proofs.Ordered.{key_cmp_total, key_cmp_same}
 use Rattle.dagcbor_heads.specs.Reading.{Reading}
 use Rattle.ipld_tree.specs.Tree.{Tree}
-use Rattle.dagcbor_read.specs.Reads.{TakesFront}
+use Rattle.dagcbor_items.specs.Reads.{TakesFront}
 use Rattle.dagcbor_read.specs.Collections.{take_entry, in_key_order, text_pairs}
 
 second_equal : (a b : Ordering) → ordering_then a b ≡ Equal → b ≡ Equal

@@ -9,12 +9,13 @@ use Rattle.dagcbor_heads.proofs.Refusing.{passed_on}
 use Rattle.ipld_tree.specs.Cid.{CidParts, cid_bytes}
 use Rattle.ipld_tree.specs.Tree.{Tree, null, boolean, integer, text, bytes, list, mapping, link}
 use Rattle.ipld_tree.specs.Spelling.{IsFront}
-use Rattle.dagcbor_read.specs.LinkCauses.{LinkStands}
-use Rattle.dagcbor_read.specs.Untyped.{TakesItem}
-use Rattle.dagcbor_read.specs.Links.{HasLink, ReadsLink}
+use Rattle.dagcbor_items.specs.LinkCauses.{LinkStands}
+use Rattle.dagcbor_items.specs.Untyped.{TakesItem}
+use Rattle.dagcbor_items.specs.Links.{HasLink, ReadsLink}
 use Rattle.dagcbor_read.specs.Calls.{Progress, Call}
-use Rattle.dagcbor_read.specs.Reads.{HasFront, TakesFront, Reads, ReadsValue, Anything}
-use Rattle.dagcbor_read.specs.Views.{view_link, no_need}
+use Rattle.dagcbor_items.specs.Reads.{HasFront, TakesFront, Reads, Anything}
+use Rattle.dagcbor_read.specs.Values.{ReadsValue}
+use Rattle.dagcbor_items.specs.Views.{view_link, no_need}
 use Rattle.dagcbor_read.proofs.Progressing.{call_told}
 
 is_link : (t : Tree) → is_some (view_link t) ≡ true → (cid : List ℕ) × (t ≡ link cid)

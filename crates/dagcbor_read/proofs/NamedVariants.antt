@@ -14,12 +14,13 @@ use Rattle.dagcbor_heads.proofs.Heads.{head_whole}
 use Rattle.ipld_tree.specs.Tree.{Tree, null, boolean, integer, text, bytes, list, mapping, link, no_entries, entry}
 use Rattle.ipld_tree.specs.Spelling.{IsFront, entries_spelling}
 use Rattle.ipld_tree.proofs.Fronts.{front_first, front_unique, map_opened, entry_opened, entry_closed}
-use Rattle.dagcbor_read.specs.LeafCauses.{TextStands}
-use Rattle.dagcbor_read.specs.Views.{view_text, no_need}
+use Rattle.dagcbor_items.specs.LeafCauses.{TextStands}
+use Rattle.dagcbor_items.specs.Views.{view_text, no_need}
 use Rattle.dagcbor_read.specs.EnumViews.{view_enum, need_enum, HasVariant, TakesVariant, ReadsVariant}
 use Rattle.dagcbor_read.specs.Collections.{view_fields, need_fields, view_struct}
 use Rattle.dagcbor_read.specs.Calls.{Progress, Call}
-use Rattle.dagcbor_read.specs.Reads.{HasFront, TakesFront, Anything, ReadsValue}
+use Rattle.dagcbor_items.specs.Reads.{HasFront, TakesFront, Anything}
+use Rattle.dagcbor_read.specs.Values.{ReadsValue}
 use Rattle.dagcbor_read.specs.Enums.{BegunEnum, begun_enum, TakesForm, HasStepEnum, StepEnumCause, SpendsEnum, ReadsName, IsOtherForm, EndsUnit, ReadsHeld, ReadsFieldsHeld}
 use Rattle.dagcbor_read.specs.declared.enum_accessor.EnumAccessor.{EnumAccessor}
 use Rattle.dagcbor_read.proofs.Answered.{answered, call_refused}
@@ -230,7 +231,7 @@ module _ {V : Type 0} (unit : List ℕ → Option V) (part : List ℕ → Tree �
   pub not_begun : {E : Type 0} (borrows : Type 0) (name : List ℕ) (old new : Progress) (r : DecodeError E) → old.failed ≡ false → Call (SpendsEnum name) old (Err r) new
       → Refuses (HasFront (view_enum unit part) (need_enum need) old.input) ⊤ borrows Anything old.input r new.input
   not_begun {E} borrows name old new r f h = carried (StepEnumCause name) Anything old.input old.input new.input r (record { faults = refl; lends = refl }) can_begin (λ x. absurd x) (λ x. absurd x) (λ b l g. tt)
-      (call_refused EnumAccessor E (SpendsEnum name) old new r f h)
+      (call_refused EnumAccessor E (SpendsEnum name) old new r f h).0
 
   -- no variant's name stood there
   pub not_named : {E : Type 0} (borrows : Type 0) (name : List ℕ) (old mid new : Progress) (a : EnumAccessor) (r : DecodeError E) → Call (SpendsEnum {E = E} name) old (Ok a) mid → Call ReadsName mid (Err r) new

@@ -10,10 +10,10 @@ use Rattle.dagcbor_heads.proofs.Taking.{stays}
 use Rattle.dagcbor_heads.proofs.Refusing.{passed_on}
 use Rattle.ipld_tree.specs.Tree.{Tree, null, boolean, integer, text, bytes, list, mapping, link}
 use Rattle.ipld_tree.specs.Spelling.{spelling, IsFront}
-use Rattle.dagcbor_read.specs.Reads.{HasFront, TakesFront, Anything}
-use Rattle.dagcbor_read.specs.Views.{view_option, need_option}
+use Rattle.dagcbor_items.specs.Reads.{HasFront, TakesFront, Anything}
+use Rattle.dagcbor_items.specs.Views.{view_option, need_option}
 use Rattle.dagcbor_read.specs.Parts.{CanEnter, EntersSome, OptionCause}
-use Rattle.dagcbor_read.proofs.SimpleValues.{front_byte}
+use Rattle.dagcbor_items.proofs.SimpleValues.{front_byte}
 
 -- the view and the need of another tree than null
 pub record IsPart {V : Type 0} (view : Tree → Option V) (need : Tree → ℕ) (t : Tree) : Type 0 where

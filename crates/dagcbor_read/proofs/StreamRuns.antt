@@ -8,10 +8,11 @@ use Rattle.dagcbor_heads.specs.declared.error.DecodeError.{DecodeError}
 use Rattle.dagcbor_heads.specs.declared.error.DecodeError.TheVariants.{Read, RequireBorrowed, OutOfMemory, Failed, DepthOverflow}
 use Rattle.ipld_tree.specs.Tree.{Tree}
 use Rattle.dagcbor_read.specs.Calls.{Progress, Call}
-use Rattle.dagcbor_read.specs.Reads.{HasFront}
-use Rattle.dagcbor_read.specs.Streams.{Streaming, SomeLeft, AreSome, ReadsNext, as_answer, is_last, IsNextValue, AreStreamItems, GivesUp, NoneGivesUp, EndsAtError, stream_item, AreUpTo, IsOver, Gives, MayBorrow, StreamsAreExact}
+use Rattle.dagcbor_items.specs.Reads.{HasFront}
+use Rattle.dagcbor_read.specs.Streams.{Streaming, SomeLeft, AreSome, ReadsNext, as_answer, is_last, IsNextValue, AreNextValues, values_before, AreStreamItems, GivesUp, NoneGivesUp, EndsAtError, stream_item, AreUpTo, IsOver, Gives, MayBorrow, StreamsAreExact}
 use Rattle.dagcbor_read.proofs.Progressing.{match_true, match_false, call_answered, call_told}
-use Rattle.dagcbor_read.proofs.Streaming.{shorter, goes_on, same_value, no_value_of_none, some_of_none}
+use Rattle.dagcbor_items.proofs.Fronts.{shorter}
+use Rattle.dagcbor_read.proofs.Streaming.{goes_on, same_value, no_value_of_none, some_of_none}
 
 -- ---- what came, against the bytes
 
@@ -30,6 +31,11 @@ module _ {T V : Type 0} (E : Type 0) (held : T → V) (view : Tree → Option V)
   few b [] h = omega arith
   few b (Ok v ∷ xs) h = omega (arith, few h.0 xs h.2, shorter b h.0 h.1.0 h.1.1)
   few b (Err e ∷ xs) h = omega (arith, ap length h.0)
+
+  in_a_row : (b : List ℕ) (xs : List (Result T (DecodeError E))) → Came b xs → (rest : List ℕ) × AreNextValues view need steps b (values_before held xs) rest
+  in_a_row b [] h = (b, refl)
+  in_a_row b (Ok v ∷ xs) h = let more = in_a_row h.0 xs h.2 in (more.0, (h.0, h.1, more.1))
+  in_a_row b (Err e ∷ xs) h = (b, refl)
 
   alike : (b : List ℕ) (xs : List (Result T (DecodeError E))) (items : List (Option V)) → Came b xs → AreStreamItems view need steps b items → AreUpTo held may whole xs items
   alike b [] [] h k = λ w. refl
@@ -147,6 +153,7 @@ module _ {S T V : Type 0} (E : Type 0) (see : S → Streaming) (held : T → V) 
       record {
         one_error = ends s h.0 xs h.1;
         bounded = λ b o. few E held view need may steps whole b xs (from s whole xs h b o);
+        values = λ b o. in_a_row E held view need may steps whole b xs (from s whole xs h b o);
         same = λ b o items k. alike E held view need may steps whole b xs items (from s whole xs h b o) k;
         exact = λ b o w n. all_of_it E held view need may steps whole b xs w n (from s whole xs h b o);
         failed = λ d f w. after_failure s h.0 xs d f h.1 (h.2 w);

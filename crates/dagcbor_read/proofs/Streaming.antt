@@ -1,24 +1,17 @@
 -- Streams: what comes of runs of `next`.
-use Rattle.std.proofs.Common.{◌≡◌, ℕ, ◌+◌, ◌<◌, Bool, true, false, List, [], ◌∷◌, ◌++◌, length, refl, sym, ap, subst, ◌∙◌, arith, length-append}
+use Rattle.std.proofs.Common.{◌≡◌, ℕ, ◌+◌, ◌<◌, Bool, true, false, List, [], ◌∷◌, length, refl, sym, ap, subst, ◌∙◌, arith}
 use Rattle.std.specs.Prelude.{Option, None, Some, Result, Ok, Err, is_err, MatchBool}
 use Rattle.std.specs.Iterator.{MakesProgress, IsFinite, size}
 use Rattle.dagcbor_heads.specs.declared.error.DecodeError.{DecodeError}
 use Rattle.ipld_tree.specs.Tree.{Tree}
-use Rattle.ipld_tree.specs.Spelling.{IsFront, spelling}
+use Rattle.ipld_tree.specs.Spelling.{IsFront}
 use Rattle.ipld_tree.proofs.Fronts.{front_nonempty, front_unique}
+use Rattle.dagcbor_items.proofs.Fronts.{shorter}
 use Rattle.dagcbor_read.specs.Calls.{Progress, Call}
 use Rattle.dagcbor_read.specs.Streams.{Streaming, ReadsNext, as_answer, GivesNext, items_left_of, items_left, IsNextValue, AreStreamItems}
 use Rattle.dagcbor_read.proofs.Progressing.{call_answered}
 
 -- ---- a stream ends
-
--- a tree takes a byte at least
-pub shorter : (b rest : List ℕ) (t : Tree) → IsFront b t rest → length rest < length b
-shorter b rest t f = by (spelling t) refl
-  where
-    by : (s : List ℕ) → spelling t ≡ s → length rest < length b
-    by [] e = absurd (front_nonempty [] t record { well_formed = f.well_formed; spellable = f.spellable; is = ap (λ y. y ++ []) (sym e) })
-    by (x ∷ s) e = omega (arith, ap length (f.is ∙ ap (λ y. y ++ rest) e), length-append (x ∷ s) rest)
 
 -- at most so many items are left, and fewer than before
 abbrev IsFewer : ℕ → Bool → Option (List ℕ) → Type 0

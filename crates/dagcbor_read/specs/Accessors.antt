@@ -13,9 +13,13 @@ use Rattle.dagcbor_heads.specs.declared.name.Name.{Name}
 use Rattle.dagcbor_heads.specs.declared.error.DecodeError.{DecodeError}
 use Rattle.dagcbor_heads.specs.declared.error.DecodeError.TheVariants.{Mismatch, DepthOverflow, LengthMismatch}
 use Rattle.ipld_tree.specs.Tree.{Tree, text}
-use Rattle.dagcbor_read.specs.Untyped.{TakesItem}
-use Rattle.dagcbor_read.specs.Entries.{Follows, HasKey, KeyStands}
-use Rattle.dagcbor_read.specs.Reads.{HasFront, TakesFront, Anything}
+use Rattle.dagcbor_items.specs.Untyped.{TakesItem}
+use Rattle.dagcbor_items.specs.FirstBytes.{BeginsAs}
+use Rattle.dagcbor_items.specs.Places.{Follows}
+use Rattle.dagcbor_items.specs.ItemCauses.{KeyStands}
+use Rattle.dagcbor_items.specs.Entries.{HasKey}
+use Rattle.dagcbor_items.specs.Variants.{OfKind}
+use Rattle.dagcbor_items.specs.Reads.{HasFront, TakesFront, NoStepIfDeep, Anything}
 use Rattle.dagcbor_read.specs.declared.accessor.Accessor.{Accessor}
 
 -- a list or map that was begun
@@ -65,27 +69,28 @@ pub record Enters (major count : ℕ) (old new : Reading) : Type 0 where
   pub is_out : new.steps < new.budget
   pub takes : Takes (with_steps (old.steps - 1) old) (head major count) new
 
--- bytes that are there begin with a byte of the major type
-abbrev pub BeginsAs : ℕ → List ℕ → Type 0
-BeginsAs major b = (first : ℕ) (more : List ℕ) → b ≡ first ∷ more → first / 32 ≡ major
-
 -- why a list or map is not begun, under its name: no step is left, a byte of another major type stands there, or no head does
 abbrev pub EnterCause : {E : Type 0} → ℕ → List ℕ → DecodeError E → List ℕ → Type 0
 EnterCause major name (DepthOverflow n) b = Names n name
 EnterCause major name (Mismatch n found) b = Names n name × ((more : List ℕ) × (b ≡ found ∷ more) × (found / 32 ≡ major → ⊥))
 EnterCause major name e b = HeadCause e b × IsNamed name e × BeginsAs major b
 
+-- which refusals are answered, also where the bytes are not known
+abbrev pub OfBegin : {E : Type 0} → DecodeError E → Type 0
+OfBegin (DepthOverflow name) = ⊤
+OfBegin e = OfKind e
+
 -- The head of a list or map is taken exactly where one stands and a step is left.
 abbrev pub ReadsHead : {E : Type 0} → ℕ → List ℕ → Reading → Result ℕ (DecodeError E) → Reading → Type 0
 ReadsHead major name old result new = MatchResult result
     (λ count. Enters major count old new)
-    (λ e. Refuses (HasHeadOf major old) ⊥ ⊥ (EnterCause major name) old e new)
+    (λ e. Refuses (HasHeadOf major old) ⊥ ⊥ (EnterCause major name) old e new × NoStepIfDeep old e)
 
 -- A list or map is begun exactly where its head stands and a step is left. Its end gives so many steps back.
 abbrev pub BeginsItems : {E : Type 0} → ℕ → List ℕ → ℕ → Reading → Result Accessor (DecodeError E) → Reading → Type 0
 BeginsItems major name steps old result new = MatchResult result
     (λ a. (begun a ≡ fresh a.name (major == 5) a.left steps) × Names a.name name × Enters major a.left old new)
-    (λ e. Refuses (HasHeadOf major old) ⊥ ⊥ (EnterCause major name) old e new)
+    (λ e. Refuses (HasHeadOf major old) ⊥ ⊥ (EnterCause major name) old e new × NoStepIfDeep old e)
 
 -- ---- going on
 

@@ -1,5 +1,5 @@
 -- What contracts see of a Deserializer, and what its calls do to it.
-use Rattle.std.specs.Prelude.{◌≡◌, ℕ, ◌<◌, Bool, true, false, Result, Ok, Err, is_err, MatchBool}
+use Rattle.std.specs.Prelude.{◌≡◌, ℕ, ◌+◌, ◌<◌, ◌≤◌, Bool, true, false, Result, Ok, Err, is_err, MatchBool}
 use Rattle.dagcbor_heads.specs.Reading.{Reading}
 use Rattle.dagcbor_heads.specs.Fronts.{FindsEnd, ShowsByte}
 use Rattle.dagcbor_heads.specs.Inputs.{input_reading}
@@ -22,6 +22,14 @@ abbrev pub Call : {T E : Type 0} → (Reading → Result T (DecodeError E) → R
 Call reads old result new = MatchBool old.failed
     ((result ≡ Err Failed) × (new ≡ old))
     ((new.failed ≡ is_err result) × reads old.input result new.input)
+
+-- What has failed answers `Failed`, and stays as it is.
+abbrev pub StaysFailed : {T E : Type 0} → Progress → Result T (DecodeError E) → Progress → Type 0
+StaysFailed old result new = old.failed ≡ true → (result ≡ Err Failed) × (new ≡ old)
+
+-- Where nothing has failed, so many steps are out, which may be given back.
+abbrev pub AreOut : ℕ → Progress → Type 0
+AreOut steps de = de.failed ≡ false → de.input.steps + steps ≤ de.input.budget
 
 -- the end of the input was found; or bytes behind the item, which stay, and then nothing has failed; or the reader faulted
 abbrev pub TellsEnd : {E : Type 0} → Reading → Result (Unit {0}) (DecodeError E) → Reading → Bool → Type 0

@@ -7,10 +7,11 @@ use Rattle.dagcbor_heads.specs.Reading.{Reading, Stays, with_steps}
 use Rattle.dagcbor_heads.specs.Refusals.{Refuses}
 use Rattle.dagcbor_heads.specs.declared.error.DecodeError.{DecodeError}
 use Rattle.ipld_tree.specs.Key.{key_cmp}
-use Rattle.ipld_tree.specs.Tree.{Tree, list, mapping, Items, no_items, item, Entries, no_entries, entry, Precedes}
+use Rattle.ipld_tree.specs.Tree.{Tree, list, mapping, Items, no_items, item, Entries, no_entries, entry}
+use Rattle.dagcbor_items.specs.Entries.{AllFollow}
 use Rattle.ipld_tree.specs.Spelling.{item_count, entry_count, AreFronts, AreEntryFronts}
 use Rattle.dagcbor_read.specs.Calls.{Progress}
-use Rattle.dagcbor_read.specs.Reads.{Anything}
+use Rattle.dagcbor_items.specs.Reads.{Anything}
 use Rattle.dagcbor_read.specs.Accessors.{Begun}
 
 -- ---- lists
@@ -106,11 +107,6 @@ need_entries need (entry k t es) = max (need k t) (need_entries need es)
 abbrev pub need_fields : (List ℕ → Tree → ℕ) → Tree → ℕ
 need_fields need (mapping es) = 1 + need_entries need es
 need_fields need _ = 1
-
--- the first of the entries stands after this key
-abbrev pub AllFollow : Option (List ℕ) → Entries → Type 0
-AllFollow None es = ⊤
-AllFollow (Some k) es = Precedes k es
 
 -- so many entries stand at the front, behind the last key, which show something, and their need is within the steps left
 pub record HasFields {S : Type 0} (take : S → List ℕ → Tree → Option S) (need : List ℕ → Tree → ℕ) (state : S) (last : Option (List ℕ)) (count : ℕ) (r : Reading) : Type 0 where

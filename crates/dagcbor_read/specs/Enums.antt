@@ -11,10 +11,11 @@ use Rattle.ipld_tree.specs.Tree.{Tree}
 use Rattle.std.specs.Cow.{cow_str_bytes}
 use Rattle.std.specs.declared.borrow.CowStr.{CowStr}
 use Rattle.std.specs.declared.alloc.Global.{Global}
-use Rattle.dagcbor_read.specs.Views.{view_text, no_need}
-use Rattle.dagcbor_read.specs.LeafCauses.{TextStands}
+use Rattle.dagcbor_items.specs.Views.{view_text, no_need}
+use Rattle.dagcbor_items.specs.LeafCauses.{TextStands}
 use Rattle.dagcbor_read.specs.Calls.{Progress}
-use Rattle.dagcbor_read.specs.Reads.{Reads, HasFront, TakesFront, Anything}
+use Rattle.dagcbor_items.specs.Variants.{OfByte}
+use Rattle.dagcbor_items.specs.Reads.{Reads, HasFront, TakesFront, NoStepIfDeep, Anything}
 use Rattle.dagcbor_read.specs.Accessors.{BeginsItems}
 use Rattle.dagcbor_read.specs.declared.accessor.Accessor.{Accessor}
 use Rattle.dagcbor_read.specs.declared.enum_accessor.EnumAccessor.{EnumAccessor}
@@ -63,6 +64,11 @@ abbrev pub StepEnumCause : {E : Type 0} → List ℕ → DecodeError E → List 
 StepEnumCause name (DepthOverflow n) b = Names n name
 StepEnumCause name e b = EnumCause e b
 
+-- which refusals are answered, also where the bytes are not known
+abbrev pub OfForm : {E : Type 0} → DecodeError E → Type 0
+OfForm (DepthOverflow name) = ⊤
+OfForm e = OfByte e
+
 -- an enum may begin here, and a step is left
 abbrev pub HasStepEnum : Reading → Type 0
 HasStepEnum r = HasEnum r × (0 < r.steps)
@@ -71,7 +77,7 @@ HasStepEnum r = HasEnum r × (0 < r.steps)
 abbrev pub SpendsEnum : {E : Type 0} → List ℕ → Reading → Result EnumAccessor (DecodeError E) → Reading → Type 0
 SpendsEnum name old result new = MatchResult result
     (λ a. ((begun_enum a).steps ≡ 1) × (0 < old.steps) × (new.steps < new.budget) × TakesForm (begun_enum a) (with_steps (old.steps - 1) old) new)
-    (λ e. Refuses (HasStepEnum old) ⊥ ⊥ (StepEnumCause name) old e new)
+    (λ e. Refuses (HasStepEnum old) ⊥ ⊥ (StepEnumCause name) old e new × NoStepIfDeep old e)
 
 -- ---- the variant
 

@@ -8,9 +8,9 @@ use Rattle.dagcbor_heads.specs.declared.error.DecodeError.{DecodeError}
 use Rattle.dagcbor_heads.specs.declared.error.DecodeError.TheVariants.{Eof, DepthOverflow}
 use Rattle.dagcbor_heads.specs.declared.error.Len.TheVariants.{Small}
 use Rattle.ipld_tree.specs.Tree.{Tree}
-use Rattle.dagcbor_read.specs.Views.{view_option, need_option}
+use Rattle.dagcbor_items.specs.Views.{view_option, need_option}
 use Rattle.dagcbor_read.specs.Calls.{Progress}
-use Rattle.dagcbor_read.specs.Reads.{Reads, HasFront, TakesFront, Anything}
+use Rattle.dagcbor_items.specs.Reads.{Reads, HasFront, TakesFront, NoStepIfDeep, Anything}
 
 -- A value is read as the law of its type says.
 abbrev pub ReadsPart : {T V E : Type 0} → (T → V) → (Tree → Option V) → (Tree → ℕ) → Bool → Reading → Result T (DecodeError E) → Reading → Type 0
@@ -40,11 +40,15 @@ OptionCause (Eof name expect) b = Names name (codes "option") × (expect ≡ Sma
 OptionCause (DepthOverflow name) b = Names name (codes "option")
 OptionCause _ b = ⊥
 
+-- no option is entered
+abbrev pub RefusesToEnter : {E : Type 0} → Reading → DecodeError E → Reading → Type 0
+RefusesToEnter old e new = Refuses (CanEnter old) ⊥ ⊥ OptionCause old e new × NoStepIfDeep old e
+
 -- A null was taken, or a step was spent on another value.
 abbrev pub EntersOption : {E : Type 0} → Reading → Result Bool (DecodeError E) → Reading → Type 0
 EntersOption old result new = MatchResult result
     (λ is_null. MatchBool is_null (Takes old (0xf6 ∷ []) new) (EntersSome old new))
-    (λ e. Refuses (CanEnter old) ⊥ ⊥ OptionCause old e new)
+    (λ e. RefusesToEnter old e new)
 
 -- the part behind the step was refused, as its law says
 abbrev pub RefusesPart : {V E : Type 0} → (Tree → Option V) → (Tree → ℕ) → Bool → Reading → DecodeError E → Reading → Type 0
@@ -56,7 +60,7 @@ abbrev pub ReadsOption : {T V E : Type 0} → (T → V) → (Tree → Option V) 
 ReadsOption held view need borrows old result new = MatchResult result
     (λ o. TakesFront (view_option view) (need_option need) old (option_map held o) new)
     (λ e. Refuses (HasFront (view_option view) (need_option need) old) ⊤ (borrows ≡ true) Anything old e new
-    × (Refuses (CanEnter old) ⊥ ⊥ OptionCause old e new ⊎ RefusesPart view need borrows old e new))
+    × (RefusesToEnter old e new ⊎ RefusesPart view need borrows old e new))
 
 -- Where a value of several parts cannot be begun on bytes that are known, the refusal is that of the call that begins it.
 abbrev pub RefusesToBegin : {T A E : Type 0} → (Reading → Type 0) → (Reading → Result A (DecodeError E) → Reading → Type 0) → Progress → Result T (DecodeError E) → Progress → Type 0

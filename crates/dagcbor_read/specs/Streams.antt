@@ -9,7 +9,7 @@ use Rattle.dagcbor_heads.specs.declared.error.DecodeError.TheVariants.{Read, Req
 use Rattle.ipld_tree.specs.Tree.{Tree}
 use Rattle.ipld_tree.specs.Spelling.{IsFront}
 use Rattle.dagcbor_read.specs.Calls.{Progress, progress, Call}
-use Rattle.dagcbor_read.specs.Reads.{HasFront, TakesFront}
+use Rattle.dagcbor_items.specs.Reads.{HasFront, TakesFront}
 use Rattle.dagcbor_read.specs.declared.stream.StreamDeserializer.{StreamDeserializer}
 
 -- ---- the stream of a type on bytes
@@ -24,6 +24,11 @@ abbrev pub AreStreamItems : {V : Type 0} → (Tree → Option V) → (Tree → �
 AreStreamItems view need steps b [] = b ≡ []
 AreStreamItems view need steps b (Some v ∷ items) = (rest : List ℕ) × IsNextValue view need steps b v rest × AreStreamItems view need steps rest items
 AreStreamItems {V} view need steps b (None ∷ items) = (items ≡ []) × (0 < length b) × ((v : V) (rest : List ℕ) → IsNextValue view need steps b v rest → ⊥)
+
+-- The values are those of trees that stand one behind the other at the front of the bytes, before the rest, each accepted within the steps.
+abbrev pub AreNextValues : {V : Type 0} → (Tree → Option V) → (Tree → ℕ) → ℕ → List ℕ → List V → List ℕ → Type 0
+AreNextValues view need steps b [] rest = b ≡ rest
+AreNextValues view need steps b (v ∷ vs) rest = (mid : List ℕ) × IsNextValue view need steps b v mid × AreNextValues view need steps mid vs rest
 
 -- Of given bytes there is one stream at most.
 abbrev pub StreamsAreUnique : {V : Type 0} → (Tree → Option V) → (Tree → ℕ) → Type 0
@@ -110,6 +115,12 @@ abbrev pub stream_item : {T V E : Type 0} → (T → V) → Result T (DecodeErro
 stream_item held (Ok v) = Some (held v)
 stream_item held (Err e) = None
 
+-- what came before the first error
+abbrev pub values_before : {T V E : Type 0} → (T → V) → List (Result T (DecodeError E)) → List V
+values_before held [] = []
+values_before held (Ok v ∷ xs) = held v ∷ values_before held xs
+values_before held (Err e ∷ xs) = []
+
 -- What came is the stream's items, to the last where it is whole; or up to one in whose place an error came that says nothing of the bytes.
 abbrev pub AreUpTo : {T V E : Type 0} → (T → V) → Type 0 → Bool → List (Result T (DecodeError E)) → List (Option V) → Type 0
 AreUpTo held borrows whole [] items = whole ≡ true → items ≡ []
@@ -137,6 +148,8 @@ module _ {S T V : Type 0} (E : Type 0) (see : S → Streaming) (held : T → V) 
     pub one_error : EndsAtError xs
     -- of n known bytes at most n + 1 items came
     pub bounded : (b : List ℕ) → IsOver b (see s) → length xs ≤ length b + 1
+    -- however the run ended, the values stood one behind the other at the front of the bytes
+    pub values : (b : List ℕ) → IsOver b (see s) → (rest : List ℕ) × AreNextValues view need (see s).source.input.steps b (values_before held xs) rest
     -- they are the stream of the type on the bytes, up to an error that says nothing of the bytes
     pub same : (b : List ℕ) → IsOver b (see s) → (items : List (Option V)) → AreStreamItems view need (see s).source.input.steps b items → AreUpTo held (MayWish s) whole xs items
     -- where no such error came, and all came, they make a stream

@@ -3,8 +3,9 @@
 ghost use Rattle.std.specs.Prelude.{◌≡◌, ◌↔◌, ◌+◌, ◌≤◌, ⊤, true, false, Some, IfOk, IfErr, IfSome};
 ghost use Rattle.std.specs.Cow.{cow_str_bytes, IsBorrowedStr};
 ghost use Rattle.dagcbor_heads.specs.Reading.{with_steps};
-ghost use Rattle.dagcbor_read.specs.Calls.{progress, Call};
-ghost use Rattle.dagcbor_read.specs.Reads.{Reads, Anything};
+ghost use Rattle.dagcbor_read.specs.Calls.{progress, Call, AreOut};
+ghost use Rattle.dagcbor_items.specs.Reads.{Reads, Anything};
+ghost use Rattle.dagcbor_items.specs.Variants.{OfKey};
 
 use crate::deserialize::Deserialize;
 use crate::deserializer::Deserializer;
@@ -116,6 +117,7 @@ impl<'de> Accessor<'de> {
         ensures after { begun self.new ≡ after_key result (begun self.old) }
         ensures key { Call (ReadsNextKey (begun self.old).last (begun self.old).left) (progress R.reading de.old) result (progress R.reading de.new) }
         ensures lent { IfOk result (λ o. IfSome o (λ k. IsBorrowedStr k ↔ ((progress R.reading de.old).input.lends ≡ true))) }
+        ensures variant { IfErr result OfKey }
     {
         de.check()?;
         if self.left == 0 {
@@ -153,7 +155,7 @@ impl<'de> Accessor<'de> {
     /// Ends the list or map, and gives its steps back.
     pub fn end<R: Read>(self, de: &mut Deserializer<'de, R>) -> Result<(), DecodeError<R::Error>>
         requires in_turn { (begun self).owes_value ≡ false }
-        requires out { (progress R.reading de.old).input.steps + (begun self).steps ≤ (progress R.reading de.old).input.budget }
+        requires out { AreOut (begun self).steps (progress R.reading de.old) }
         ensures { Call (EndsItems (begun self.entry)) (progress R.reading de.old) result (progress R.reading de.new) }
     {
         de.begin()?;

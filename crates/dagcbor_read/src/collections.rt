@@ -1,24 +1,27 @@
 //! Beginning lists and maps, and reading their parts.
 
-ghost use Rattle.std.specs.Prelude.{◌≡◌, ◌↔◌, ◌+◌, true, false, codes, option_map, IfOk, MatchResult};
+ghost use Rattle.std.specs.Prelude.{◌≡◌, ◌↔◌, ◌+◌, true, false, codes, option_map, IfOk, MatchResult, IfErr};
 ghost use Rattle.std.specs.Cow.{cow_str_bytes, IsBorrowedStr};
 ghost use Rattle.dagcbor_heads.specs.Inputs.{input_reading};
 ghost use Rattle.dagcbor_heads.specs.Refusals.{Refuses};
 ghost use Rattle.dagcbor_heads.specs.declared.error.DecodeError.TheVariants.{Failed};
 ghost use Rattle.ipld_tree.specs.Tree.{text};
 ghost use Rattle.dagcbor_read.specs.Calls.{progress, Call};
-ghost use Rattle.dagcbor_read.specs.Accessors.{ReadsHead, BeginsItems, ReadsKeyAfter};
+ghost use Rattle.dagcbor_read.specs.Accessors.{ReadsHead, BeginsItems, ReadsKeyAfter, OfBegin};
+ghost use Rattle.dagcbor_items.specs.Variants.{OfKey};
 
 use crate::accessor::{Accessor, copied};
 use crate::deserializer::Deserializer;
-use crate::key::read_key;
 use dagcbor_heads::{DecodeError, Input, Name, Read, peek_one, pull_head};
+use dagcbor_items::read_key;
 use std::alloc::Global;
 use std::borrow::CowStr;
 
 /// Spends a step, and takes the head of a list or map.
+#[tactic(auto, using(crate::proofs::Entering::named_begin, crate::proofs::Entering::end_begin))]
 fn enter<R: Read>(name: &str, reader: &mut R, major: u8) -> Result<u64, DecodeError<R::Error>>
-    ensures { ReadsHead major name.now (R.reading reader.old) result (R.reading reader.new) }
+    ensures head { ReadsHead major name.now (R.reading reader.old) result (R.reading reader.new) }
+    ensures variant { IfErr result OfBegin }
 {
     if !reader.step_in() {
         return Err(DecodeError::DepthOverflow {
@@ -57,6 +60,7 @@ impl<'de, R: Read> Deserializer<'de, R> {
     ) -> Result<(CowStr<'de>, CowStr<'de>), DecodeError<R::Error>>
         ensures key { Call (ReadsKeyAfter (option_map cow_str_bytes last.now)) (progress R.reading self.old) result (progress R.reading self.new) }
         ensures lent { IfOk result (λ p. IsBorrowedStr p.0 ↔ ((progress R.reading self.old).input.lends ≡ true)) }
+        ensures variant { IfErr result OfKey }
     {
         self.begin()?;
         let key = read_key(alloc, &mut self.input, last)?;
@@ -74,7 +78,8 @@ impl<'de, R: Read> Deserializer<'de, R> {
         major: u8,
         more: u8,
     ) -> Result<Accessor<'de>, DecodeError<R::Error>>
-        ensures { Call (BeginsItems major name.now (more + 1)) (progress R.reading self.old) result (progress R.reading self.new) }
+        ensures begun { Call (BeginsItems major name.now (more + 1)) (progress R.reading self.old) result (progress R.reading self.new) }
+        ensures variant { IfErr result OfBegin }
     {
         self.begin()?;
         let count = enter(name, &mut self.input, major)?;
@@ -85,14 +90,16 @@ impl<'de, R: Read> Deserializer<'de, R> {
 
     /// Begins a list. Takes no memory.
     pub fn deserialize_seq(&mut self) -> Result<Accessor<'de>, DecodeError<R::Error>>
-        ensures { Call (BeginsItems 4 (codes "array") 1) (progress R.reading self.old) result (progress R.reading self.new) }
+        ensures begun { Call (BeginsItems 4 (codes "array") 1) (progress R.reading self.old) result (progress R.reading self.new) }
+        ensures variant { IfErr result OfBegin }
     {
         self.begin_items("array", 4, 0)
     }
 
     /// Begins a list for a tuple, whose length is not looked at. Takes no memory.
     pub fn deserialize_tuple(&mut self, _len: usize) -> Result<Accessor<'de>, DecodeError<R::Error>>
-        ensures { Call (BeginsItems 4 (codes "tuple") 1) (progress R.reading self.old) result (progress R.reading self.new) }
+        ensures begun { Call (BeginsItems 4 (codes "tuple") 1) (progress R.reading self.old) result (progress R.reading self.new) }
+        ensures variant { IfErr result OfBegin }
     {
         self.begin_items("tuple", 4, 0)
     }
@@ -103,14 +110,16 @@ impl<'de, R: Read> Deserializer<'de, R> {
         name: &str,
         _len: usize,
     ) -> Result<Accessor<'de>, DecodeError<R::Error>>
-        ensures { Call (BeginsItems 4 name.now 1) (progress R.reading self.old) result (progress R.reading self.new) }
+        ensures begun { Call (BeginsItems 4 name.now 1) (progress R.reading self.old) result (progress R.reading self.new) }
+        ensures variant { IfErr result OfBegin }
     {
         self.begin_items(name, 4, 0)
     }
 
     /// Begins a map. Takes no memory.
     pub fn deserialize_map(&mut self) -> Result<Accessor<'de>, DecodeError<R::Error>>
-        ensures { Call (BeginsItems 5 (codes "map") 1) (progress R.reading self.old) result (progress R.reading self.new) }
+        ensures begun { Call (BeginsItems 5 (codes "map") 1) (progress R.reading self.old) result (progress R.reading self.new) }
+        ensures variant { IfErr result OfBegin }
     {
         self.begin_items("map", 5, 0)
     }
@@ -121,7 +130,8 @@ impl<'de, R: Read> Deserializer<'de, R> {
         name: &str,
         _fields: &[&str],
     ) -> Result<Accessor<'de>, DecodeError<R::Error>>
-        ensures { Call (BeginsItems 5 name.now 1) (progress R.reading self.old) result (progress R.reading self.new) }
+        ensures begun { Call (BeginsItems 5 name.now 1) (progress R.reading self.old) result (progress R.reading self.new) }
+        ensures variant { IfErr result OfBegin }
     {
         self.begin_items(name, 5, 0)
     }

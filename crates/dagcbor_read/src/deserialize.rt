@@ -1,8 +1,8 @@
 //! What can be read.
 
 ghost use Rattle.std.specs.Prelude.{◌≡◌, false};
-ghost use Rattle.dagcbor_read.specs.Calls.{progress};
-ghost use Rattle.dagcbor_read.specs.Reads.{ReadsValue};
+ghost use Rattle.dagcbor_read.specs.Calls.{progress, StaysFailed};
+ghost use Rattle.dagcbor_read.specs.Values.{ReadsValue};
 
 use crate::deserializer::Deserializer;
 use crate::shown::Shown;
@@ -16,7 +16,8 @@ pub trait Deserialize<'de>: Shown + Sized + Drop {
         alloc: Global,
         de: &mut Deserializer<'de, R>,
     ) -> Result<Self, DecodeError<R::Error>>
-        ensures { ReadsValue Self.held Self.view Self.need Self.borrows (progress R.reading de.old) result (progress R.reading de.new) };
+        ensures value { ReadsValue Self.held Self.view Self.need Self.borrows (progress R.reading de.old) result (progress R.reading de.new) }
+        ensures failed { StaysFailed (progress R.reading de.old) result (progress R.reading de.new) };
 }
 
 /// A value that borrows nothing from the input.

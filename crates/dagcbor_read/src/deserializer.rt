@@ -1,15 +1,16 @@
 //! The reader's state between calls.
 
-ghost use Rattle.std.specs.Prelude.{◌≡◌, [], false, true, MatchResult, Some};
+ghost use Rattle.std.specs.Prelude.{◌≡◌, [], false, true, MatchResult, Some, IfErr};
 ghost use Rattle.dagcbor_heads.specs.Inputs.{unlent};
 ghost use Rattle.dagcbor_heads.specs.declared.error.DecodeError.TheVariants.{Failed};
+ghost use Rattle.dagcbor_items.specs.Looks.{LooksAtAny};
 ghost use Rattle.dagcbor_read.specs.Calls.{progress, Call, Ends};
-ghost use Rattle.dagcbor_read.specs.Untyped.{ReadsItem};
-ghost use Rattle.dagcbor_read.specs.Links.{ReadsLink};
+ghost use Rattle.dagcbor_items.specs.Untyped.{ReadsItem};
+ghost use Rattle.dagcbor_items.specs.Links.{ReadsLink};
+ghost use Rattle.dagcbor_items.specs.Variants.{OfItem, OfLink};
 
-use crate::any::read_any;
-use crate::link::pull_link;
 use dagcbor_heads::{DecodeError, Input, Read, SliceReader, is_at_end};
+use dagcbor_items::{pull_link, read_any};
 use ipld_tree::{Cid, Ipld};
 use std::alloc::Global;
 
@@ -25,7 +26,7 @@ impl<'de> Deserializer<'de, SliceReader<'de>> {
     /// Reads from the slice, whose bytes are lent, with a budget of 256 steps.
     pub fn from_slice(bytes: &'de [u8]) -> Deserializer<'de, SliceReader<'de>>
         ensures { progress (λ r. r) result ≡ record {
-          input = record { left = Some bytes.now; shown = []; steps = 256; budget = 256; lends = true; faults = 0; through = [] };
+          input = record { left = Some bytes.now; shown = []; steps = 256; budget = 256; lends = true; faults = 0; looked = 0; through = [] };
           failed = false;
         } }
     {
@@ -70,7 +71,9 @@ impl<'de, R: Read> Deserializer<'de, R> {
 
     /// Reads an item of any kind, no deeper than the steps that are left.
     pub fn deserialize_any(&mut self, alloc: Global) -> Result<Ipld, DecodeError<R::Error>>
-        ensures { Call (ReadsItem 0) (progress R.reading self.old) result (progress R.reading self.new) }
+        ensures item { Call (ReadsItem 0) (progress R.reading self.old) result (progress R.reading self.new) }
+        ensures looked { LooksAtAny (progress R.reading self.old).input result (progress R.reading self.new).input }
+        ensures variant { IfErr result OfItem }
     {
         self.begin()?;
         let value = read_any(alloc, &mut self.input)?;
@@ -80,7 +83,8 @@ impl<'de, R: Read> Deserializer<'de, R> {
 
     /// Reads a link, and takes no memory.
     pub fn deserialize_cid(&mut self) -> Result<Cid, DecodeError<R::Error>>
-        ensures { Call ReadsLink (progress R.reading self.old) result (progress R.reading self.new) }
+        ensures link { Call ReadsLink (progress R.reading self.old) result (progress R.reading self.new) }
+        ensures variant { IfErr result OfLink }
     {
         self.begin()?;
         let cid = pull_link(&mut self.input)?;

@@ -1,9 +1,11 @@
 //! Enums: a variant's name alone, or a map of one pair, from the name to what the variant holds.
 
-ghost use Rattle.std.specs.Prelude.{◌≡◌, ◌+◌, ◌≤◌, ◌↔◌, true, IfOk, codes};
+ghost use Rattle.std.specs.Prelude.{◌≡◌, ◌+◌, ◌≤◌, ◌↔◌, true, IfOk, IfErr, codes};
 ghost use Rattle.std.specs.Cow.{IsBorrowedStr};
-ghost use Rattle.dagcbor_read.specs.Calls.{progress, Call};
-ghost use Rattle.dagcbor_read.specs.Enums.{begun_enum, BeginsEnum, SpendsEnum, ReadsName, IsOtherForm, EntersMap, EndsUnit, ReadsHeld, BeginsHeld};
+ghost use Rattle.dagcbor_read.specs.Calls.{progress, Call, AreOut};
+ghost use Rattle.dagcbor_read.specs.Enums.{begun_enum, BeginsEnum, SpendsEnum, ReadsName, IsOtherForm, EntersMap, EndsUnit, ReadsHeld, BeginsHeld, OfForm};
+ghost use Rattle.dagcbor_read.specs.Accessors.{OfBegin};
+ghost use Rattle.dagcbor_items.specs.Variants.{OfByte, OfText};
 
 use crate::accessor::{Accessor, give_back};
 use crate::deserialize::Deserialize;
@@ -12,8 +14,8 @@ use dagcbor_heads::{DecodeError, Name, Read, peek_one, pull_one};
 use std::alloc::Global;
 use std::borrow::CowStr;
 
-/// An enum that was begun. It holds no `Deserializer`: each call is given the one on which it was begun.
-#[derive(Clone, Copy)]
+/// An enum that was begun. It holds no `Deserializer`: each call is given the one on which it was begun. It is used once.
+#[derive(Drop)]
 pub struct EnumAccessor {
     first: u8,
     in_map: bool,
@@ -21,8 +23,10 @@ pub struct EnumAccessor {
 }
 
 /// The form of the enum that begins here: the first byte of a text, which stays, or a1, which is taken.
+#[tactic(auto, using(dagcbor_items::proofs::Variants::end_byte))]
 fn pull_form<R: Read>(reader: &mut R) -> Result<EnumAccessor, DecodeError<R::Error>>
-    ensures { BeginsEnum (R.reading reader.old) result (R.reading reader.new) }
+    ensures form { BeginsEnum (R.reading reader.old) result (R.reading reader.new) }
+    ensures variant { IfErr result OfByte }
 {
     let first = peek_one("enum", reader)?;
     let in_map = first == 0xa1;
@@ -42,8 +46,10 @@ fn pull_form<R: Read>(reader: &mut R) -> Result<EnumAccessor, DecodeError<R::Err
 }
 
 /// The same, for a step.
+#[tactic(auto, using(crate::proofs::Entering::byte_form))]
 fn spend_form<R: Read>(name: &str, reader: &mut R) -> Result<EnumAccessor, DecodeError<R::Error>>
-    ensures { SpendsEnum name.now (R.reading reader.old) result (R.reading reader.new) }
+    ensures form { SpendsEnum name.now (R.reading reader.old) result (R.reading reader.new) }
+    ensures variant { IfErr result OfForm }
 {
     if !reader.step_in() {
         return Err(DecodeError::DepthOverflow {
@@ -62,7 +68,8 @@ impl<'de, R: Read> Deserializer<'de, R> {
         name: &str,
         _variants: &[&str],
     ) -> Result<EnumAccessor, DecodeError<R::Error>>
-        ensures { Call (SpendsEnum name.now) (progress R.reading self.old) result (progress R.reading self.new) }
+        ensures form { Call (SpendsEnum name.now) (progress R.reading self.old) result (progress R.reading self.new) }
+        ensures variant { IfErr result OfForm }
     {
         self.begin()?;
         let form = spend_form(name, &mut self.input)?;
@@ -76,7 +83,8 @@ impl EnumAccessor {
     pub fn enum_<'de, R: Read>(
         de: &mut Deserializer<'de, R>,
     ) -> Result<EnumAccessor, DecodeError<R::Error>>
-        ensures { Call BeginsEnum (progress R.reading de.old) result (progress R.reading de.new) }
+        ensures form { Call BeginsEnum (progress R.reading de.old) result (progress R.reading de.new) }
+        ensures variant { IfErr result OfByte }
     {
         de.begin()?;
         let form = pull_form(&mut de.input)?;
@@ -93,6 +101,7 @@ impl EnumAccessor {
         ensures same { IfOk result (λ v. v.1 ≡ self) }
         ensures text { Call ReadsName (progress R.reading de.old) result (progress R.reading de.new) }
         ensures lent { IfOk result (λ v. IsBorrowedStr v.0 ↔ ((progress R.reading de.old).input.lends ≡ true)) }
+        ensures variant { IfErr result OfText }
     {
         let name = de.deserialize_identifier(alloc)?;
         Ok((name, self))
@@ -103,7 +112,7 @@ impl EnumAccessor {
         self,
         de: &mut Deserializer<'de, R>,
     ) -> Result<(), DecodeError<R::Error>>
-        requires { (progress R.reading de.old).input.steps + (begun_enum self).steps ≤ (progress R.reading de.old).input.budget }
+        requires { AreOut (begun_enum self).steps (progress R.reading de.old) }
         ensures { Call (EndsUnit (begun_enum self)) (progress R.reading de.old) result (progress R.reading de.new) }
     {
         de.begin()?;
@@ -121,7 +130,7 @@ impl EnumAccessor {
         alloc: Global,
         de: &mut Deserializer<'de, R>,
     ) -> Result<T, DecodeError<R::Error>>
-        requires { (progress R.reading de.old).input.steps + (begun_enum self).steps ≤ (progress R.reading de.old).input.budget }
+        requires { AreOut (begun_enum self).steps (progress R.reading de.old) }
         ensures { Call (ReadsHeld T.held T.view T.need T.borrows (begun_enum self)) (progress R.reading de.old) result (progress R.reading de.new) }
     {
         self.enter_map(de)?;
@@ -131,12 +140,14 @@ impl EnumAccessor {
     }
 
     /// The list of what the variant holds, whose length is not looked at. Its end gives all steps back. Takes no memory.
+    #[tactic(auto, using(crate::proofs::Entering::byte_begin))]
     pub fn tuple_variant<'de, R: Read>(
         self,
         _len: usize,
         de: &mut Deserializer<'de, R>,
     ) -> Result<Accessor<'de>, DecodeError<R::Error>>
-        ensures { Call (BeginsHeld 4 (codes "tuple") (begun_enum self)) (progress R.reading de.old) result (progress R.reading de.new) }
+        ensures begun { Call (BeginsHeld 4 (codes "tuple") (begun_enum self)) (progress R.reading de.old) result (progress R.reading de.new) }
+        ensures variant { IfErr result OfBegin }
     {
         self.enter_map(de)?;
         de.begin_items("tuple", 4, self.steps)
@@ -144,19 +155,21 @@ impl EnumAccessor {
 
     /// The map of what the variant holds, whose fields' names are not looked at. Its end gives all steps back. Takes no
     /// memory.
+    #[tactic(auto, using(crate::proofs::Entering::byte_begin))]
     pub fn struct_variant<'de, R: Read>(
         self,
         _fields: &[&str],
         de: &mut Deserializer<'de, R>,
     ) -> Result<Accessor<'de>, DecodeError<R::Error>>
-        ensures { Call (BeginsHeld 5 (codes "map") (begun_enum self)) (progress R.reading de.old) result (progress R.reading de.new) }
+        ensures begun { Call (BeginsHeld 5 (codes "map") (begun_enum self)) (progress R.reading de.old) result (progress R.reading de.new) }
+        ensures variant { IfErr result OfBegin }
     {
         self.enter_map(de)?;
         de.begin_items("map", 5, self.steps)
     }
 
-    fn other_form<E>(self) -> DecodeError<E>
-        ensures { IsOtherForm (begun_enum self) result }
+    fn other_form<E>(&self) -> DecodeError<E>
+        ensures { IsOtherForm (begun_enum self.now) result }
     {
         DecodeError::Mismatch {
             name: Name::new("enum"),
@@ -165,11 +178,13 @@ impl EnumAccessor {
     }
 
     /// Goes on only where the enum is a map.
+    #[tactic(auto, using(crate::proofs::Entering::other_byte))]
     fn enter_map<'de, R: Read>(
-        self,
+        &self,
         de: &mut Deserializer<'de, R>,
     ) -> Result<(), DecodeError<R::Error>>
-        ensures { Call (EntersMap (begun_enum self)) (progress R.reading de.old) result (progress R.reading de.new) }
+        ensures form { Call (EntersMap (begun_enum self.now)) (progress R.reading de.old) result (progress R.reading de.new) }
+        ensures variant { IfErr result OfByte }
     {
         de.begin()?;
         if !self.in_map {

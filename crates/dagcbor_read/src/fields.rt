@@ -2,9 +2,9 @@
 
 ghost use Rattle.std.specs.Prelude.{◌≡◌, ◌+◌, ◌≤◌, ℕ, List, Bool, Option, option_map, true, false, codes};
 ghost use Rattle.ipld_tree.specs.Tree.{Tree, any_need};
-ghost use Rattle.dagcbor_read.specs.Views.{view_ignored};
-ghost use Rattle.dagcbor_read.specs.Calls.{progress};
-ghost use Rattle.dagcbor_read.specs.Reads.{ReadsValue};
+ghost use Rattle.dagcbor_items.specs.Views.{view_ignored};
+ghost use Rattle.dagcbor_read.specs.Calls.{progress, StaysFailed};
+ghost use Rattle.dagcbor_read.specs.Values.{ReadsValue};
 ghost use Rattle.dagcbor_read.specs.Accessors.{begun, HasHeadOf, BeginsItems};
 ghost use Rattle.dagcbor_read.specs.Parts.{RefusesToBegin};
 ghost use Rattle.dagcbor_read.specs.Collections.{view_fields, need_fields, view_slot, ReadsEntriesLeft};
@@ -72,6 +72,7 @@ pub fn read_fields<'de, F: Fields<'de>, R: Read>(
 ) -> Result<F, DecodeError<R::Error>>
     ensures value { ReadsValue F.state (view_fields F.take (F.state fields)) (need_fields F.need) F.borrows (progress R.reading de.old) result (progress R.reading de.new) }
     ensures named { RefusesToBegin (HasHeadOf 5) (BeginsItems 5 (codes "map") 1) (progress R.reading de.old) result (progress R.reading de.new) }
+    ensures failed { StaysFailed (progress R.reading de.old) result (progress R.reading de.new) }
 {
     let entries = de.deserialize_map()?;
     read_entries_left(alloc, fields, entries, de)
@@ -87,6 +88,7 @@ pub fn read_struct<'de, F: Fields<'de>, R: Read>(
 ) -> Result<F, DecodeError<R::Error>>
     ensures value { ReadsValue F.state (view_fields F.take (F.state fields)) (need_fields F.need) F.borrows (progress R.reading de.old) result (progress R.reading de.new) }
     ensures named { RefusesToBegin (HasHeadOf 5) (BeginsItems 5 name.now 1) (progress R.reading de.old) result (progress R.reading de.new) }
+    ensures failed { StaysFailed (progress R.reading de.old) result (progress R.reading de.new) }
 {
     let entries = de.deserialize_struct(name, names)?;
     read_entries_left(alloc, fields, entries, de)
@@ -98,7 +100,8 @@ pub fn read_into<'de, T: Deserialize<'de>, R: Read>(
     place: &mut Option<T>,
     de: &mut Deserializer<'de, R>,
 ) -> Result<(), DecodeError<R::Error>>
-    ensures { ReadsValue (λ _. option_map T.held place.new) (view_slot T.view) T.need T.borrows (progress R.reading de.old) result (progress R.reading de.new) }
+    ensures value { ReadsValue (λ _. option_map T.held place.new) (view_slot T.view) T.need T.borrows (progress R.reading de.old) result (progress R.reading de.new) }
+    ensures failed { StaysFailed (progress R.reading de.old) result (progress R.reading de.new) }
 {
     let value = T::deserialize(alloc, de)?;
     *place = Some(value);
@@ -110,7 +113,8 @@ pub fn skip_value<'de, R: Read>(
     alloc: Global,
     de: &mut Deserializer<'de, R>,
 ) -> Result<(), DecodeError<R::Error>>
-    ensures { ReadsValue (λ _. tt) view_ignored any_need false (progress R.reading de.old) result (progress R.reading de.new) }
+    ensures value { ReadsValue (λ _. tt) view_ignored any_need false (progress R.reading de.old) result (progress R.reading de.new) }
+    ensures failed { StaysFailed (progress R.reading de.old) result (progress R.reading de.new) }
 {
     de.deserialize_ignored_any(alloc)
 }

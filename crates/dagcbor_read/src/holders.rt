@@ -1,7 +1,7 @@
 //! Types that hold one other.
 
 ghost use Rattle.std.specs.Prelude.{Option, option_map, box_value};
-ghost use Rattle.dagcbor_read.specs.Views.{view_option, need_option};
+ghost use Rattle.dagcbor_items.specs.Views.{view_option, need_option};
 
 use crate::deserialize::{Deserialize, DeserializeOwned};
 use crate::deserializer::Deserializer;

@@ -1,7 +1,7 @@
 //! The types of other leaves.
 
 ghost use Rattle.std.specs.Prelude.{refl, ℕ, List, Bool, false, string_bytes};
-ghost use Rattle.dagcbor_read.specs.Views.{view_null, view_bool, view_char, view_text, view_bytes, no_need};
+ghost use Rattle.dagcbor_items.specs.Views.{view_null, view_bool, view_char, view_text, view_bytes, no_need};
 
 use crate::deserialize::{Deserialize, DeserializeOwned};
 use crate::deserializer::Deserializer;

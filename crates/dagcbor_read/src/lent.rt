@@ -2,7 +2,7 @@
 
 ghost use Rattle.std.specs.Prelude.{ℕ, List, false, true};
 ghost use Rattle.std.specs.Cow.{cow_str_bytes};
-ghost use Rattle.dagcbor_read.specs.Views.{view_text, view_bytes, no_need};
+ghost use Rattle.dagcbor_items.specs.Views.{view_text, view_bytes, no_need};
 
 use crate::deserialize::Deserialize;
 use crate::deserializer::Deserializer;

@@ -1,7 +1,7 @@
 //! The types of numbers.
 
 ghost use Rattle.std.specs.Prelude.{refl, ◌^◌, ℕ, ℤ, false};
-ghost use Rattle.dagcbor_read.specs.Views.{view_unsigned, view_signed, no_need};
+ghost use Rattle.dagcbor_items.specs.Views.{view_unsigned, view_signed, no_need};
 
 use crate::deserialize::{Deserialize, DeserializeOwned};
 use crate::deserializer::Deserializer;

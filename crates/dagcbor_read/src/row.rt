@@ -3,8 +3,9 @@
 ghost use Rattle.std.specs.Prelude.{◌≡◌, ◌+◌, ◌≤◌, ℕ, Bool, List, Option, map, true, false, ◌||◌, ⊤, MatchResult};
 ghost use Rattle.dagcbor_heads.specs.Refusals.{Refuses};
 ghost use Rattle.ipld_tree.specs.Tree.{Items};
-ghost use Rattle.dagcbor_read.specs.Calls.{progress};
-ghost use Rattle.dagcbor_read.specs.Reads.{ReadsValue, Anything};
+ghost use Rattle.dagcbor_read.specs.Calls.{progress, StaysFailed};
+ghost use Rattle.dagcbor_items.specs.Reads.{Anything};
+ghost use Rattle.dagcbor_read.specs.Values.{ReadsValue};
 ghost use Rattle.dagcbor_read.specs.Accessors.{begun};
 ghost use Rattle.dagcbor_read.specs.Collections.{view_list, need_list, view_items, need_items, view_none, need_none, view_first, need_first, ReadsRow, ReadsRest};
 
@@ -132,7 +133,8 @@ pub(crate) fn read_tuple<'de, L: Row<'de>, R: Read>(
     len: usize,
     de: &mut Deserializer<'de, R>,
 ) -> Result<L, DecodeError<R::Error>>
-    ensures { ReadsValue L.held (view_list L.view) (need_list L.need) L.borrows (progress R.reading de.old) result (progress R.reading de.new) }
+    ensures value { ReadsValue L.held (view_list L.view) (need_list L.need) L.borrows (progress R.reading de.old) result (progress R.reading de.new) }
+    ensures failed { StaysFailed (progress R.reading de.old) result (progress R.reading de.new) }
 {
     let items = de.deserialize_tuple(len)?;
     read_rest(alloc, items, de)

@@ -10,7 +10,7 @@ use std::alloc::Global;
 use std::io;
 use std::io::BufRead;
 
-/// The value whose spelling the source's bytes are, all of them: what `from_slice` answers on the same bytes, where the
+/// The value whose spelling the source's bytes are, all of them: a value exactly where `from_slice` answers one, with the same view, where the
 /// source does not fault.
 pub fn from_reader<'de, T: DeserializeOwned<'de>, R: BufRead + Drop>(
     alloc: Global,

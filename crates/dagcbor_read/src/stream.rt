@@ -86,7 +86,7 @@ pub fn iter_from_reader<'de, T: DeserializeOwned<'de>, R: BufRead + Drop>(
 ) -> StreamDeserializer<'de, IoReader<R>, T>
     ensures { streaming (λ r. r) result ≡ record {
       source = record {
-        input = record { left = R.remaining source; shown = []; steps = 256; budget = 256; lends = false; faults = 0; through = [] };
+        input = record { left = R.remaining source; shown = []; steps = 256; budget = 256; lends = false; faults = 0; looked = 0; through = [] };
         failed = false;
       };
       done = false;

@@ -1,18 +1,20 @@
 //! The types of items of any kind, and of links.
 
-ghost use Rattle.std.specs.Prelude.{refl, ℕ, List, Some, false};
+ghost use Rattle.std.specs.Prelude.{refl, ℕ, List, Some, false, IfErr};
 ghost use Rattle.ipld_tree.specs.Cid.{cid_bytes};
 ghost use Rattle.ipld_tree.specs.Ipld.{tree_of};
 ghost use Rattle.ipld_tree.specs.Tree.{Tree, any_need};
+ghost use Rattle.dagcbor_items.specs.Looks.{LooksAtAny};
 ghost use Rattle.dagcbor_read.specs.Calls.{progress, Call};
-ghost use Rattle.dagcbor_read.specs.LeafReads.{ReadsIgnored};
-ghost use Rattle.dagcbor_read.specs.Views.{view_link, view_ignored, no_need};
+ghost use Rattle.dagcbor_items.specs.LeafReads.{ReadsIgnored};
+ghost use Rattle.dagcbor_items.specs.Views.{view_link, view_ignored, no_need};
+ghost use Rattle.dagcbor_items.specs.Variants.{OfItem};
 
 use crate::deserialize::{Deserialize, DeserializeOwned};
 use crate::deserializer::Deserializer;
 use crate::shown::Shown;
-use crate::skip::skip_any;
 use dagcbor_heads::{DecodeError, Read};
+use dagcbor_items::skip_any;
 use ipld_tree::{Cid, Ipld};
 use std::alloc::Global;
 
@@ -23,7 +25,9 @@ pub struct IgnoredAny;
 impl<'de, R: Read> Deserializer<'de, R> {
     /// Skips an item of any kind, with what `deserialize_any` refuses. Over a slice it takes no memory.
     pub fn deserialize_ignored_any(&mut self, alloc: Global) -> Result<(), DecodeError<R::Error>>
-        ensures { Call ReadsIgnored (progress R.reading self.old) result (progress R.reading self.new) }
+        ensures item { Call ReadsIgnored (progress R.reading self.old) result (progress R.reading self.new) }
+        ensures looked { LooksAtAny (progress R.reading self.old).input result (progress R.reading self.new).input }
+        ensures variant { IfErr result OfItem }
     {
         self.begin()?;
         skip_any(alloc, &mut self.input)?;

@@ -2,8 +2,8 @@
 
 ghost use Rattle.std.specs.Prelude.{◌≡◌, ◌+◌, ◌≤◌, ℕ, Bool, List, Option, false};
 ghost use Rattle.ipld_tree.specs.Tree.{Tree};
-ghost use Rattle.dagcbor_read.specs.Calls.{progress};
-ghost use Rattle.dagcbor_read.specs.Reads.{ReadsValue};
+ghost use Rattle.dagcbor_read.specs.Calls.{progress, StaysFailed, AreOut};
+ghost use Rattle.dagcbor_read.specs.Values.{ReadsValue};
 ghost use Rattle.dagcbor_read.specs.Enums.{begun_enum, HasStepEnum, SpendsEnum, ReadsFieldsHeld};
 ghost use Rattle.dagcbor_read.specs.Parts.{RefusesToBegin};
 ghost use Rattle.dagcbor_read.specs.EnumViews.{view_enum, need_enum, ReadsVariant};
@@ -55,6 +55,7 @@ pub fn read_enum<'de, V: Variants<'de>, R: Read>(
 ) -> Result<V, DecodeError<R::Error>>
     ensures value { ReadsValue V.held (view_enum V.unit V.part) (need_enum V.need) V.borrows (progress R.reading de.old) result (progress R.reading de.new) }
     ensures named { RefusesToBegin HasStepEnum (SpendsEnum name.now) (progress R.reading de.old) result (progress R.reading de.new) }
+    ensures failed { StaysFailed (progress R.reading de.old) result (progress R.reading de.new) }
 {
     let begun = de.deserialize_enum(name, variants)?;
     let (variant_name, variant) = begun.variant(alloc, de)?;
@@ -69,8 +70,9 @@ pub fn read_struct_variant<'de, F: Fields<'de>, R: Read>(
     fields: F,
     de: &mut Deserializer<'de, R>,
 ) -> Result<F, DecodeError<R::Error>>
-    requires { (progress R.reading de.old).input.steps + (begun_enum variant).steps ≤ (progress R.reading de.old).input.budget }
-    ensures { ReadsFieldsHeld F.state (view_fields F.take (F.state fields)) (need_fields F.need) F.borrows (begun_enum variant) (progress R.reading de.old) result (progress R.reading de.new) }
+    requires { AreOut (begun_enum variant).steps (progress R.reading de.old) }
+    ensures held { ReadsFieldsHeld F.state (view_fields F.take (F.state fields)) (need_fields F.need) F.borrows (begun_enum variant) (progress R.reading de.old) result (progress R.reading de.new) }
+    ensures failed { StaysFailed (progress R.reading de.old) result (progress R.reading de.new) }
 {
     let entries = variant.struct_variant(names, de)?;
     read_entries_left(alloc, fields, entries, de)

@@ -1,11 +1,13 @@
 //! Reading one value.
 
 ghost use Rattle.std.specs.Prelude.{Some};
-ghost use Rattle.dagcbor_read.specs.Whole.{ReadsSlice, ReadsWhole};
+ghost use Rattle.dagcbor_read.specs.Whole.{ReadsSlice, ReadsWhole, ChecksSlice};
 
 use crate::deserialize::Deserialize;
 use crate::deserializer::Deserializer;
-use dagcbor_heads::DecodeError;
+use crate::kind::{Kind, kind_of_front};
+use dagcbor_heads::{DecodeError, SliceReader, is_at_end};
+use dagcbor_items::{NoLinks, walk_any};
 use ipld_tree::Ipld;
 use std::alloc::Global;
 use std::convert::Infallible;
@@ -31,4 +33,17 @@ pub fn any_from_slice(alloc: Global, bytes: &[u8]) -> Result<Ipld, DecodeError<I
     let value = input.deserialize_any(alloc)?;
     input.end()?;
     Ok(value)
+}
+
+/// The kind of the data whose spelling the bytes are. What `any_from_slice` refuses is refused, but nothing is built, and no memory taken.
+pub fn check_slice(bytes: &[u8]) -> Result<Kind, DecodeError<Infallible>>
+    ensures { ChecksSlice bytes.now result }
+{
+    let mut reader = SliceReader::new(bytes);
+    walk_any((), &mut reader, &mut NoLinks)?;
+    match is_at_end(&mut reader) {
+        Ok(true) => Ok(kind_of_front(bytes)),
+        Ok(false) => Err(DecodeError::TrailingData),
+        Err(never) => match never {},
+    }
 }

@@ -3,22 +3,29 @@ use Rattle.std.specs.Prelude.{◌≡◌, ◌≢◌, ◌⊎◌, ℕ, List, [], �
 use Rattle.std.specs.Io.KnownBytes.{Appends}
 use Rattle.std.specs.Str.Lines.{lines}
 use Rattle.std.specs.declared.convert.Infallible.{Infallible}
-use Rattle.hex.specs.Hex.{decode_of}
-use Rattle.serde_ipld_dagcbor.specs.Tree.{Tree, null, boolean, integer, text, bytes, list, mapping, link}
+use Rattle.hex.specs.Hex.{decode_of, encode_lower}
+use Rattle.dagcbor_tool.specs.Pieces.{IsOfOneLine}
+use Rattle.dagcbor_tool.specs.declared.command.Command.{Command}
+use Rattle.dagcbor_tool.specs.declared.command.Command.TheVariants.{Check, Links}
+use Rattle.serde_ipld_dagcbor.specs.Tree.{Tree}
+use Rattle.serde_ipld_dagcbor.specs.TreeKinds.{kind_of}
+use Rattle.serde_ipld_dagcbor.specs.Kind.{Kind}
+use Rattle.serde_ipld_dagcbor.specs.Kind.TheVariants as kinds
 use Rattle.serde_ipld_dagcbor.specs.Whole.{IsBlock, SliceRefused}
+use Rattle.serde_ipld_dagcbor.specs.AllLinks.{AreFirstLinks, LinksRefused}
 use Rattle.serde_ipld_dagcbor.specs.DecodeError.{DecodeError}
 use Rattle.serde_ipld_dagcbor.specs.DecodeError.TheVariants as refusals
 
--- the name of a tree's kind
-abbrev pub kind_name : Tree → List ℕ
-kind_name null = codes "null"
-kind_name (boolean b) = codes "bool"
-kind_name (integer n) = codes "integer"
-kind_name (text s) = codes "string"
-kind_name (bytes s) = codes "bytes"
-kind_name (list ts) = codes "list"
-kind_name (mapping es) = codes "map"
-kind_name (link cid) = codes "link"
+-- the name of a kind
+abbrev pub kind_name : Kind → List ℕ
+kind_name kinds.Null = codes "null"
+kind_name kinds.Bool = codes "bool"
+kind_name kinds.Integer = codes "integer"
+kind_name kinds.String = codes "string"
+kind_name kinds.Bytes = codes "bytes"
+kind_name kinds.List = codes "list"
+kind_name kinds.Map = codes "map"
+kind_name kinds.Link = codes "link"
 
 -- the name of a refusal's variant
 abbrev pub variant_name : {E : Type 0} → DecodeError E → List ℕ
@@ -42,38 +49,73 @@ variant_name refusals.UnorderedKey = codes "UnorderedKey"
 variant_name refusals.OutOfMemory = codes "OutOfMemory"
 variant_name refusals.Failed = codes "Failed"
 
--- what is said of a block: its kind where it is a tree's spelling, else the name of a refusal whose cause stands
+-- what `check` says of a block: its kind where it is a tree's spelling, else the name of a refusal whose cause stands
 abbrev pub IsVerdict : List ℕ → List ℕ → Type 0
 IsVerdict block said =
-    ((t : Tree) × IsBlock block t × (said ≡ codes "ok " ++ kind_name t))
+    ((t : Tree) × IsBlock block t × (said ≡ codes "ok " ++ kind_name (kind_of t)))
     ⊎ ((e : DecodeError Infallible) × (e ≢ refusals.OutOfMemory) × SliceRefused e block × (said ≡ codes "refused " ++ variant_name e))
 
--- what is said of a line
-abbrev pub IsAnswer : List ℕ → List ℕ → Type 0
-IsAnswer line said = MatchResult (decode_of line) (λ block. IsVerdict block said) (λ _. said ≡ codes "refused hex")
+-- each in hexadecimal, behind a space
+abbrev pub behind_spaces : List (List ℕ) → List ℕ
+behind_spaces [] = []
+behind_spaces (form ∷ others) = (32 ∷ encode_lower form) ++ behind_spaces others
+
+-- links in hexadecimal, a space between, or the word that there is none
+abbrev pub links_text : List (List ℕ) → List ℕ
+links_text [] = codes "none"
+links_text (first ∷ others) = encode_lower first ++ behind_spaces others
+
+-- what `links` says of a block: the links of its first item, or why none stands there
+abbrev pub IsLinkLine : List ℕ → List ℕ → Type 0
+IsLinkLine block said =
+    ((links : List (List ℕ)) × AreFirstLinks block links × (said ≡ links_text links))
+    ⊎ ((e : DecodeError Infallible) × (e ≢ refusals.OutOfMemory) × LinksRefused e block × (said ≡ codes "refused " ++ variant_name e))
+
+-- what a command says of a block
+abbrev pub IsSaid : Command → List ℕ → List ℕ → Type 0
+IsSaid Check = IsVerdict
+IsSaid Links = IsLinkLine
+
+-- what a command says of a line
+abbrev pub IsAnswer : Command → List ℕ → List ℕ → Type 0
+IsAnswer command line said = MatchResult (decode_of line) (λ block. IsSaid command block said) (λ _. said ≡ codes "refused hex")
+
+-- The definitions below take what may be said of a line as a parameter.
 
 -- one line of output for each line, in order
-abbrev pub AreAnswers : List (List ℕ) → List ℕ → Type 0
-AreAnswers [] out = out ≡ []
-AreAnswers (line ∷ lines) out = (said more : List ℕ) × IsAnswer line said × (out ≡ said ++ 10 ∷ more) × AreAnswers lines more
+abbrev pub AreAnswers : (List ℕ → List ℕ → Type 0) → List (List ℕ) → List ℕ → Type 0
+AreAnswers Said [] out = out ≡ []
+AreAnswers Said (line ∷ lines) out = (said more : List ℕ) × Said line said × (out ≡ said ++ 10 ∷ more) × AreAnswers Said lines more
 
 -- what a call wrote is one line of output for each of these lines
-abbrev pub WritesAnswers : Option (List ℕ) → Option (List ℕ) → List (List ℕ) → Type 0
-WritesAnswers old new asked = (out : List ℕ) × AreAnswers asked out × Appends old new out
+abbrev pub WritesAnswers : (List ℕ → List ℕ → Type 0) → Option (List ℕ) → Option (List ℕ) → List (List ℕ) → Type 0
+WritesAnswers Said old new asked = (out : List ℕ) × AreAnswers Said asked out × Appends old new out
 
 -- nothing, or a beginning of what is said of the first of these lines
-abbrev pub IsBeginning : List ℕ → List (List ℕ) → Type 0
-IsBeginning part [] = part ≡ []
-IsBeginning part (line ∷ others) = (part ≡ []) ⊎ ((said back : List ℕ) × IsAnswer line said × (said ++ 10 ∷ [] ≡ part ++ back))
-
--- what a call wrote is one line of output for each of the first of these lines, and at most a beginning of the next
-abbrev pub WritesSomeAnswers : Option (List ℕ) → Option (List ℕ) → List (List ℕ) → Type 0
-WritesSomeAnswers old new asked = (done others : List (List ℕ)) × (out part : List ℕ) × (asked ≡ done ++ others) × AreAnswers done out × IsBeginning part others × Appends old new (out ++ part)
+abbrev pub IsBeginning : (List ℕ → List ℕ → Type 0) → List ℕ → List (List ℕ) → Type 0
+IsBeginning Said part [] = part ≡ []
+IsBeginning Said part (line ∷ others) = (part ≡ []) ⊎ ((said back : List ℕ) × Said line said × (said ++ 10 ∷ [] ≡ part ++ back))
 
 -- one line was taken from the input, and answered
-abbrev pub AnswersOne : List ℕ → Option (List ℕ) → Option (List ℕ) → Option (List ℕ) → Type 0
-AnswersOne input left old new = (line rest said : List ℕ) × (lines input ≡ line ∷ lines rest) × (left ≡ Some rest) × IsAnswer line said × Appends old new (said ++ 10 ∷ [])
+abbrev pub AnswersOne : (List ℕ → List ℕ → Type 0) → List ℕ → Option (List ℕ) → Option (List ℕ) → Option (List ℕ) → Type 0
+AnswersOne Said input left old new = (line rest said : List ℕ) × (lines input ≡ line ∷ lines rest) × (left ≡ Some rest) × Said line said × Appends old new (said ++ 10 ∷ [])
 
 -- what was taken from the input so far are whole lines, and each was answered
-abbrev pub HasAnswered : List ℕ → Option (List ℕ) → Option (List ℕ) → Option (List ℕ) → Type 0
-HasAnswered input left old new = (done : List (List ℕ)) × (rest out : List ℕ) × (left ≡ Some rest) × (lines input ≡ done ++ lines rest) × AreAnswers done out × Appends old new out
+abbrev pub HasAnswered : (List ℕ → List ℕ → Type 0) → List ℕ → Option (List ℕ) → Option (List ℕ) → Option (List ℕ) → Type 0
+HasAnswered Said input left old new = (done : List (List ℕ)) × (rest out : List ℕ) × (left ≡ Some rest) × (lines input ≡ done ++ lines rest) × AreAnswers Said done out × Appends old new out
+
+-- nothing was left in the input, and nothing was written
+abbrev pub FindsNone : List ℕ → Option (List ℕ) → Option (List ℕ) → Option (List ℕ) → Type 0
+FindsNone input left old new = (input ≡ []) × (left ≡ Some []) × Appends old new []
+
+-- of the next line some was taken from the input, or all, or nothing, and at most a beginning of its answer was written
+abbrev pub BreaksOff : (List ℕ → List ℕ → Type 0) → List ℕ → Option (List ℕ) → Option (List ℕ) → Option (List ℕ) → Type 0
+BreaksOff Said input left old new = (taken rest part : List ℕ) × (input ≡ taken ++ rest) × (left ≡ Some rest) × IsOfOneLine taken × IsBeginning Said part (lines input) × Appends old new part
+
+-- all of the input was taken, and each line was answered
+abbrev pub AnswersAll : (List ℕ → List ℕ → Type 0) → List ℕ → Option (List ℕ) → Option (List ℕ) → Option (List ℕ) → Type 0
+AnswersAll Said input left old new = WritesAnswers Said old new (lines input) × (left ≡ Some [])
+
+-- whole lines were taken from the input, and each was answered; then the run broke off, in the next line or before it
+abbrev pub AnswersSome : (List ℕ → List ℕ → Type 0) → List ℕ → Option (List ℕ) → Option (List ℕ) → Option (List ℕ) → Type 0
+AnswersSome Said input left old new = (mid : List ℕ) × (now : Option (List ℕ)) × HasAnswered Said input (Some mid) old now × BreaksOff Said mid left now new

@@ -1,9 +1,10 @@
-//! The program `dagcbor`: tests lines of hexadecimal text against DAG-CBOR.
+//! The program `dagcbor`: tests lines of hexadecimal text against DAG-CBOR, or lists their links.
 #![tactic(auto)]
 
-mod check;
+mod answer;
 mod command;
 mod line;
+mod run;
 
 use command::{OUT_OF_MEMORY, USAGE, give_up, run_command};
 use std::io::{BufReader, ErrorKind};

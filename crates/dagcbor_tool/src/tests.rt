@@ -1,7 +1,7 @@
 //! The program's lines, words and faults.
 
 use super::*;
-use crate::check::run_check;
+use crate::run::{run_check, run_links};
 use crate::line::ToolError;
 use std::alloc::Global;
 use std::io::{BufRead, Read, Write};
@@ -122,6 +122,17 @@ fn every_kind_has_its_name(rt: HostRuntime) -> Result<(), Fail> {
 }
 
 #[test]
+fn links_of_each_line(rt: HostRuntime) -> Result<(), Fail> {
+    let lines = b"d82a490001ce019b010263c8\n80\na26162d82a450001550000626161d82a450001710000\nf600\n81\nzz\n";
+    let answers =
+        b"01ce019b010263c8\nnone\n01550000 01710000\nnone\nrefused Eof\nrefused hex\n";
+    let mut output = Vec::new(rt.alloc());
+    run_links(rt.alloc(), &mut &lines[..], &mut output)?;
+    assert_eq!(rt; output.as_slice(), answers.as_slice());
+    Ok(())
+}
+
+#[test]
 fn a_reader_that_fails_ends_the_run(rt: HostRuntime) -> Result<(), Fail> {
     // An interrupted call is not made again.
     for fault in [ErrorKind::Other, ErrorKind::Interrupted] {
@@ -168,12 +179,13 @@ fn run_words(
 #[test]
 fn words_pick_the_command(rt: HostRuntime) -> Result<(), Fail> {
     let alloc = rt.alloc();
-    let rows: [(&[&str], u8, &[u8], &[u8]); 5] = [
+    let rows: [(&[&str], u8, &[u8], &[u8]); 6] = [
         (&["check"], 0, b"ok integer\n", b""),
-        (&[], 2, b"", b"usage: dagcbor check\n"),
-        (&["check", "check"], 2, b"", b"usage: dagcbor check\n"),
-        (&["links"], 2, b"", b"usage: dagcbor check\n"),
-        (&["Check"], 2, b"", b"usage: dagcbor check\n"),
+        (&["links"], 0, b"none\n", b""),
+        (&[], 2, b"", b"usage: dagcbor check|links\n"),
+        (&["check", "check"], 2, b"", b"usage: dagcbor check|links\n"),
+        (&["list"], 2, b"", b"usage: dagcbor check|links\n"),
+        (&["Check"], 2, b"", b"usage: dagcbor check|links\n"),
     ];
     for (words, status, written, told) in rows {
         let mut input: &[u8] = b"1818\n";

@@ -1,10 +1,9 @@
 -- The spelling of a variant.
 use Rattle.std.proofs.Common.{◌≡◌, ℕ, List, [], ◌∷◌, length, map, Option, None, Some, sym, ap, ◌∙◌}
-use Rattle.std.specs.Prelude.{IfSome}
 use Rattle.std.specs.Fmt.{◌++?◌}
 use Rattle.dagcbor_heads.specs.Written.{Written}
 use Rattle.dagcbor_heads.proofs.Writing.{append-None, append-Some, append-assoc, Written-but, begin-writing, joined}
-use Rattle.ipld_tree.specs.Tree.{Tree, text, IsTree, list_tree, entries_tree}
+use Rattle.ipld_tree.specs.Tree.{Tree, list_tree, entries_tree}
 use Rattle.ipld_tree.specs.Spelled.{spelled, spelled_bytes, spelled_tree, spelled_head}
 use Rattle.dagcbor_write.specs.Trees.{Pair, variant_tree, variant_head}
 use Rattle.dagcbor_write.specs.Maps.{map_rest}

@@ -6,8 +6,9 @@ use Rattle.std.proofs.Math.Seq.{drop-cons}
 use Rattle.std.proofs.lemmas.List.{take-append-drop}
 use Rattle.std.specs.Fmt.{◌++?◌}
 use Rattle.std.specs.Result.{IsErrAnd}
-use Rattle.dagcbor_heads.proofs.Writing.{append-None, append-Some, Appends-nothing, Written-but, begin-writing, next-part, last-part}
-use Rattle.dagcbor_heads.specs.Written.{Written, WroteAll, Writes, WroteFront, Stops}
+use Rattle.dagcbor_heads.proofs.Writing.{append-None, append-Some, appends_nothing, wrote_nothing, Written-but, begin-writing, next-part, last-part}
+use Rattle.dagcbor_heads.specs.Messages.{message_bytes}
+use Rattle.dagcbor_heads.specs.Written.{Written, WroteAll, Writes, Stops}
 use Rattle.dagcbor_heads.specs.declared.error.EncodeError.{EncodeError}
 use Rattle.dagcbor_heads.specs.declared.error.EncodeError.TheVariants.{Msg, Write, OutOfMemory}
 use Rattle.ipld_tree.specs.Tree.{Tree, null, boolean, integer, text, bytes, list, mapping, link, Entries, no_entries, entry, IsTree, ordered, repeats_key, map_tree, all_some, key_of, pair_of, entries_tree}
@@ -159,14 +160,10 @@ entry-cause p m (inl (inl h)) = inl (key-none p.0 h.1)
 entry-cause p m (inl (inr h)) = inl (no-key p.0 h.1)
 entry-cause p m (inr h) = inr h.1
 
-nothing-front : (whole : Option (List ℕ)) (s : Written) → WroteFront whole s s
-nothing-front None s = tt
-nothing-front (Some w) s = ([], w, refl, Appends-nothing s.bytes)
-
 stopped : {E : Type 0} (whole : Option (List ℕ)) (s t : Written) (Cause : List ℕ → Type 0) (e : EncodeError E) → ((m : List ℕ) → Cause m → whole ≡ None) → Refused Cause e → s ≡ t → Stops whole s t e
-stopped {E} whole s t Cause (Msg m) f p same = let P : Written → Type 0 = λ u. Stops {E = E} whole s u (Msg m) in subst P same (f m.now p, refl, refl)
+stopped {E} whole s t Cause (Msg m) f p same = let P : Written → Type 0 = λ u. Stops {E = E} whole s u (Msg m) in subst P same (f (message_bytes m) p, appends_nothing s.bytes, refl, refl)
 stopped whole s t Cause (Write e) f p same = absurd p
-stopped {E} whole s t Cause OutOfMemory f p same = let P : Written → Type 0 = λ u. Stops {E = E} whole s u OutOfMemory in subst P same (nothing-front whole s, refl, refl)
+stopped {E} whole s t Cause OutOfMemory f p same = let P : Written → Type 0 = λ u. Stops {E = E} whole s u OutOfMemory in subst P same (wrote_nothing whole s, refl, refl)
 
 -- a text is refused as a key for want of memory alone
 pub only-value : {T E : Type 0} (Taken : T → Type 0) (name : List ℕ) (value : Option Tree) (r : Result T (EncodeError E)) → length name < 2 ^ 64 → Takes Taken (RefusesEntry (Some (text name)) value) r → Takes Taken (RefusesValue value) r

@@ -1,5 +1,7 @@
 -- A key is a text exactly where its spelling begins as one.
-use Rattle.std.proofs.Common.{◌≡◌, ℕ, ◌+◌, ◌*◌, ◌/◌, ◌<◌, List, [], ◌∷◌, ◌++◌, pos, negsuc, Option, None, Some, Bool, true, false, refl, sym, ap, ◌∙◌, arith}
+use Rattle.std.proofs.Common.{◌≡◌, ℕ, ◌+◌, ◌*◌, ◌/◌, ◌<◌, List, [], ◌∷◌, ◌++◌, length, drop, ◌-◌, pos, negsuc, Option, None, Some, Bool, true, false, refl, sym, ap, ◌∙◌, arith}
+use Rattle.std.proofs.lemmas.List.{take_all, length-drop}
+use Rattle.std.specs.List.{slice_range}
 use Rattle.std.specs.Prelude.{IfSome, nat_eq, option_and_then}
 use Rattle.ipld_tree.specs.Tree.{Tree, null, boolean, integer, text, bytes, list, mapping, link, IsTree, key_of}
 use Rattle.ipld_tree.specs.Spelling.{IsFront, spelling}
@@ -7,8 +9,9 @@ use Rattle.ipld_tree.specs.Spelled.{spelled, spelled_tree}
 use Rattle.ipld_tree.proofs.Fronts.{front_first}
 use Rattle.ipld_tree.proofs.Spelled.{spelled_is}
 use Rattle.ipld_tree.proofs.Unique.{major}
-use Rattle.dagcbor_write.specs.Gathering.{AppendsTo, Grows}
+use Rattle.dagcbor_write.specs.Gathering.{Grows}
 use Rattle.dagcbor_write.specs.Maps.{begins_text, spelled_key, HoldsKey}
+use Rattle.dagcbor_write.proofs.Spans.{behind}
 
 nothing-more : (xs : List ℕ) → xs ++ [] ≡ xs
 nothing-more [] = refl
@@ -58,13 +61,16 @@ key-none (Some (list v)) e = refl
 key-none (Some (mapping v)) e = refl
 key-none (Some (link v)) e = refl
 
-pub from-nothing : (o : Option (List ℕ)) (s : List ℕ) → AppendsTo [] s o → o ≡ Some s
-from-nothing None s h = absurd h
-from-nothing (Some t) s h = ap Some (sym h)
+-- what begins as a text behind the bytes is the spelling of a key
+module _ (o : Option Tree) (old new : List ℕ) (start : ℕ) (b : Bool) (at : start ≡ length old) (g : Grows o old new) (is : b ≡ begins_text (slice_range new start (length new))) where
+  stands : spelled_tree o ≡ Some (drop start new)
+  stands = behind (spelled_tree o) old new g.0 ∙ ap (λ n. Some (drop n new)) (sym at)
 
--- a spelling that begins as a text is that of a key
-pub held-key : (o : Option Tree) (s : List ℕ) (b : Bool) → Grows o [] s → b ≡ begins_text s → b ≡ true → HoldsKey o (Some s)
-held-key o s b g is x = (key-text o s b (from-nothing (spelled_tree o) s g.0) g.1 is x, g.1)
+  begins : b ≡ begins_text (drop start new)
+  begins = is ∙ ap begins_text (take_all (length new - start) (drop start new) (omega (arith, length-drop start new)))
 
-pub refused-key : (o : Option Tree) (s : List ℕ) (b : Bool) → Grows o [] s → b ≡ begins_text s → b ≡ false → option_and_then key_of o ≡ None
-refused-key o s b g is x = key-no-text o s b (from-nothing (spelled_tree o) s g.0) g.1 is x
+  pub held-key : b ≡ true → HoldsKey o (Some (drop start new))
+  held-key x = (key-text o (drop start new) b stands g.1 begins x, g.1)
+
+  pub refused-key : b ≡ false → option_and_then key_of o ≡ None
+  refused-key x = key-no-text o (drop start new) b stands g.1 begins x

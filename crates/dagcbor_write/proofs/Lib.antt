@@ -3,8 +3,9 @@ pub mod Parts
 pub mod Lists
 pub mod Lengths
 pub mod Waiting
+pub mod Spans
+pub mod Refusals
 pub mod Keys
-pub mod Sorting
 pub mod Pushing
 pub mod Mapping
 pub mod Fields

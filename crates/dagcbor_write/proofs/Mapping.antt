@@ -1,6 +1,5 @@
 -- The map of pairs, by the entries that spell them.
-use Rattle.std.proofs.Common.{◌≡◌, inl, inr, ℕ, zero, suc, ◌^◌, ◌<◌, List, [], ◌∷◌, ◌++◌, length, get_or, set, map, Option, None, Some, Bool, true, false, cond, Ordering, Less, Equal, Greater, refl, sym, ap, ap₂, ◌∙◌, subst, arith, IsPermutation, is_eq}
-use Rattle.std.proofs.lemmas.Cmp.{tied_itself, nat_list_cmp_total}
+use Rattle.std.proofs.Common.{◌≡◌, ◌≢◌, ℕ, zero, suc, ◌^◌, ◌<◌, List, [], ◌∷◌, ◌++◌, length, get_or, set, map, Option, None, Some, Bool, true, false, cond, Less, Equal, refl, sym, ap, ap₂, ◌∙◌, subst, arith, add-one, IsPermutation, is_eq}
 use Rattle.std.proofs.lemmas.List.Sorted.{IsPermutation-keeps, IsPermutation-refl, IsPermutation-trans, IsPermutation-swap, IsPermutation-map}
 use Rattle.std.proofs.lemmas.Map.Keys.{IsDistinct-IsPermutation}
 use Rattle.std.specs.Prelude.{IsUtf8, IfSome, IsSomeAnd, IsTrue, OnOk, Result, option_map, option_and_then}
@@ -8,13 +7,14 @@ use Rattle.std.specs.Fmt.{◌++?◌}
 use Rattle.std.specs.List.{swap, AllByRecursion, IsDistinct}
 use Rattle.std.specs.List.Sorted.{IsStrictlySortedBy}
 use Rattle.std.specs.Map.{keys_of}
-use Rattle.std.specs.Ordering.{ordering_then}
+use Rattle.std.specs.Ordering.{is_lt}
 use Rattle.ipld_tree.specs.Key.{bytes_cmp, key_cmp}
 use Rattle.ipld_tree.specs.Tree.{Tree, null, boolean, integer, text, bytes, list, mapping, link, Entries, IsTree, entries_of, ordered, repeats_key, map_tree, all_some, pair_of, entries_tree}
 use Rattle.ipld_tree.specs.Spelling.{text_spelling, entry_count}
 use Rattle.ipld_tree.specs.Spelled.{spelled, spelled_entries, spelled_tree, spelled_head}
-use Rattle.ipld_tree.proofs.KeyOrder.{spelled_cmp}
-use Rattle.ipld_tree.proofs.Ordered.{AreDistinct, IsSortedList, same_place, same_place_flips, ordered_by_sort, distinct_from_test, test_from_distinct}
+use Rattle.ipld_tree.proofs.KeyOrder.{key_order, same_key}
+use Rattle.ipld_tree.proofs.Unique.{payload, spelling_unique}
+use Rattle.ipld_tree.proofs.Ordered.{key_cmp_total, key_cmp_same, after_not_before, AreDistinct, IsSortedList, same_place, same_place_flips, ordered_by_sort, distinct_from_test, test_from_distinct}
 use Rattle.ipld_tree.proofs.Spelled.{spelled_is}
 use Rattle.ipld_tree.proofs.WellFormed.{EachPair, IsGoodPair, are_entries}
 use Rattle.dagcbor_heads.specs.Written.{Written, Writes}
@@ -23,7 +23,7 @@ use Rattle.dagcbor_write.specs.Pairwise.{Pairwise}
 use Rattle.dagcbor_write.proofs.Lists.{OnOk-of}
 use Rattle.dagcbor_write.specs.Trees.{Pair}
 use Rattle.dagcbor_write.specs.Maps.{Texts, spelled_key, AreSpellingsOf, entries_text, map_rest, RepeatsKey}
-use Rattle.dagcbor_write.specs.Order.{head_rest, entries_bytes, RepeatsNeighbour, PutsInOrder}
+use Rattle.dagcbor_write.specs.Order.{head_rest, entries_bytes, goes_before, PutsInOrder}
 
 abbrev Named : Type 0
 Named = List ℕ × Tree
@@ -106,38 +106,44 @@ named (p ∷ ps) (e ∷ es) h =
     let more = named ps es h.1 in
     (first.0 ∷ more.0, joins (pair_of p) (all_some (map pair_of ps)) first.0 more.0 first.1 more.1, (first.2, more.2))
 
--- ---- spelled keys compare as the names do
-
-then-equal : (o : Ordering) → ordering_then o Equal ≡ o
-then-equal Less = refl
-then-equal Equal = refl
-then-equal Greater = refl
+-- ---- entries stand in the order of their bytes as the names do in key order
 
 fits : (k s : List ℕ) → spelled (text k) ≡ Some s → (length k < 2 ^ 64) × (s ≡ text_spelling k)
 fits k s e = (spelled_is (text k) s).0 e
 
-nothing-more : (xs : List ℕ) → xs ++ [] ≡ xs
-nothing-more [] = refl
-nothing-more (x ∷ xs) = ap (λ ys. x ∷ ys) (nothing-more xs)
+same-name : (p q : Named) (e f : Texts) → IsSpelledBy p e → IsSpelledBy q f → p.0 ≡ q.0 → e.0 ≡ f.0
+same-name p q e f h k same = (fits p.0 e.0 h.key).1 ∙ ap text_spelling same ∙ sym (fits q.0 f.0 k.key).1
 
-keys-compare : (p q : Named) (e f : Texts) → IsSpelledBy p e → IsSpelledBy q f → bytes_cmp e.0 f.0 ≡ key_cmp p.0 q.0
-keys-compare p q e f h k =
+same-text : (p q : Named) (e f : Texts) → IsSpelledBy p e → IsSpelledBy q f → e.0 ≡ f.0 → p.0 ≡ q.0
+same-text p q e f h k same =
     let a = fits p.0 e.0 h.key in
     let b = fits q.0 f.0 k.key in
-    ap₂ bytes_cmp (a.1 ∙ sym (nothing-more (text_spelling p.0))) (b.1 ∙ sym (nothing-more (text_spelling q.0))) ∙ spelled_cmp p.0 q.0 [] [] a.0 b.0 ∙ then-equal (key_cmp p.0 q.0)
+    ap payload (spelling_unique (text p.0) (text q.0) [] [] a.0 b.0 (ap (λ x. x ++ []) (sym a.1 ∙ same ∙ b.1))).0
 
-below-all : (p : Named) (e : Texts) (qs : List Named) (fs : List Texts) → IsSpelledBy p e → Pairwise IsSpelledBy qs fs → AllByRecursion (λ y. bytes_cmp e.0 y ≡ Less) (keys_of fs) → AllByRecursion (λ y. key_cmp p.0 y ≡ Less) (keys_of qs)
-below-all p e [] [] h w r = tt
-below-all p e [] (f ∷ fs) h w r = absurd w
-below-all p e (q ∷ qs) [] h w r = absurd w
-below-all p e (q ∷ qs) (f ∷ fs) h w r = (sym (keys-compare p q e f h w.0) ∙ r.0, below-all p e qs fs h w.1 r.1)
+follows : (p q : Named) (e f : Texts) → IsSpelledBy p e → IsSpelledBy q f → goes_before f e ≡ false → (e.0 ≡ f.0 → ⊥) → key_cmp p.0 q.0 ≡ Less
+follows p q e f h k late differ =
+    let a = fits p.0 e.0 h.key in
+    let b = fits q.0 f.0 k.key in
+    let apart : q.0 ≢ p.0 = λ same. differ (sym (same-name q p f e k h same)) in
+    let as-keys : bytes_cmp (f.0 ++ f.1) (e.0 ++ e.1) ≡ key_cmp q.0 p.0 = ap₂ (λ x y. bytes_cmp (x ++ f.1) (y ++ e.1)) b.1 a.1 ∙ key_order q.0 p.0 f.1 e.1 b.0 a.0 apart in
+    after_not_before q.0 p.0 (sym (ap is_lt as-keys) ∙ late) (λ same. apart (same_key q.0 p.0 same))
 
-sorted-names : (qs : List Named) (fs : List Texts) → Pairwise IsSpelledBy qs fs → IsStrictlySortedBy bytes_cmp (keys_of fs) → IsSortedList qs
+below-all : (p q : List ℕ) (ks : List (List ℕ)) → key_cmp p q ≡ Less → AllByRecursion (λ y. key_cmp q y ≡ Less) ks → AllByRecursion (λ y. key_cmp p y ≡ Less) ks
+below-all p q [] h r = tt
+below-all p q (k ∷ ks) h r = (key_cmp_total.trans p q k h r.0, below-all p q ks h r.1)
+
+sorted-names : (qs : List Named) (fs : List Texts) → Pairwise IsSpelledBy qs fs → ((k : ℕ) (d : Texts) → suc k < length fs → goes_before (get_or fs (suc k) d) (get_or fs k d) ≡ false) → ((k : ℕ) (d : Texts) → suc k < length fs → (get_or fs k d).0 ≡ (get_or fs (suc k) d).0 → ⊥) → IsSortedList qs
 unfolding IsStrictlySortedBy
-sorted-names [] [] w r = tt
-sorted-names [] (f ∷ fs) w r = absurd w
-sorted-names (q ∷ qs) [] w r = absurd w
-sorted-names (q ∷ qs) (f ∷ fs) w r = (below-all q f qs fs w.0 w.1 r.0, sorted-names qs fs w.1 r.1)
+sorted-names [] [] w s n = tt
+sorted-names [] (f ∷ fs) w s n = absurd w
+sorted-names (q ∷ qs) [] w s n = absurd w
+sorted-names (q ∷ []) (f ∷ []) w s n = (tt, tt)
+sorted-names (q ∷ []) (f ∷ g ∷ fs) w s n = absurd w.1
+sorted-names (q ∷ p ∷ qs) (f ∷ []) w s n = absurd w.1
+sorted-names (q ∷ p ∷ qs) (f ∷ g ∷ fs) w s n =
+    let first = follows q p f g w.0 w.1.0 (s 0 f (omega arith)) (n 0 f (omega arith)) in
+    let more = sorted-names (p ∷ qs) (g ∷ fs) w.1 (λ k d h. s (suc k) d (omega (arith, h))) (λ k d h. n (suc k) d (omega (arith, h))) in
+    ((first, below-all q.0 p.0 (keys_of qs) first more.0), more)
 
 -- ---- the text of the entries
 
@@ -180,24 +186,24 @@ pub in-order : (announced : Option ℕ) (ps : List Pair) (es fs : List Texts) �
 in-order announced ps es fs h o =
     let given = named ps es h in
     let moved = beside IsSpelledBy given.0 es fs o.0 given.2 in
-    let sorted = ordered_by_sort given.0 moved.0 moved.1 (sorted-names moved.0 fs moved.2 o.1) in
+    let sorted = ordered_by_sort given.0 moved.0 moved.1 (sorted-names moved.0 fs moved.2 (λ k d h. rw add-one at (o.1 k d (omega arith) (omega (arith, h)))) (λ k d h e. o.2 k d (omega (arith, h)) (rw add-one e))) in
     let none = test_from_distinct given.0 sorted.0 in
     let is = tree-of ps given.0 (entries_of moved.0) false given.1 none sorted.1 in
     let as_ordered = tree-of ps given.0 (ordered given.0) false given.1 none refl in
     let P : Option Tree → Type 0 = λ t. IfSome t IsTree in
     record { text = text-by announced ps moved.0 fs is moved.2; good = subst P (sym as_ordered) (are_entries given.0 sorted.0 (good-pairs given.0 es given.2)) }
 
-clash : (qs : List Named) (fs : List Texts) → Pairwise IsSpelledBy qs fs → RepeatsNeighbour fs → AreDistinct qs → ⊥
+clash : (qs : List Named) (fs : List Texts) (k : ℕ) → Pairwise IsSpelledBy qs fs → suc k < length fs → ((d : Texts) → (get_or fs k d).0 ≡ (get_or fs (suc k) d).0) → AreDistinct qs → ⊥
 unfolding IsDistinct
-clash [] [] w r d = absurd r
-clash [] (f ∷ fs) w r d = absurd w
-clash (q ∷ qs) [] w r d = absurd w
-clash (q ∷ qs) (f ∷ []) w r d = absurd r
-clash (q ∷ []) (f ∷ g ∷ fs) w r d = absurd w.1
-clash (q ∷ p ∷ qs) (f ∷ g ∷ fs) w (inl e) d =
-    let same : key_cmp q.0 p.0 ≡ Equal = sym (keys-compare q p f g w.0 w.1.0) ∙ ap (bytes_cmp f.0) (sym e) ∙ tied_itself nat_list_cmp_total f.0 in
-    let differ : true ≡ false = sym (ap is_eq same) ∙ d.0.0 in absurd (cc differ)
-clash (q ∷ p ∷ qs) (f ∷ g ∷ fs) w (inr r) d = clash (p ∷ qs) (g ∷ fs) w.1 r d.1
+clash [] [] k w h e d = omega (arith, h)
+clash [] (f ∷ fs) k w h e d = absurd w
+clash (q ∷ qs) [] k w h e d = absurd w
+clash (q ∷ qs) (f ∷ []) k w h e d = omega (arith, h)
+clash (q ∷ []) (f ∷ g ∷ fs) k w h e d = absurd w.1
+clash (q ∷ p ∷ qs) (f ∷ g ∷ fs) zero w h e d =
+    let same : key_cmp q.0 p.0 ≡ Equal = ap (key_cmp q.0) (sym (same-text q p f g w.0 w.1.0 (e f))) ∙ key_cmp_same q.0 in
+    let differ : true ≡ false = sym (ap is_eq same) ∙ d.0.0 in cc differ
+clash (q ∷ p ∷ qs) (f ∷ g ∷ fs) (suc k) w h e d = clash (p ∷ qs) (g ∷ fs) k w.1 (omega (arith, h)) e d.1
 
 repeats : (b : Bool) (qs : List Named) → repeats_key qs ≡ b → (AreDistinct qs → ⊥) → b ≡ true
 repeats true qs e n = refl
@@ -212,7 +218,7 @@ pub no-order : (announced : Option ℕ) (ps : List Pair) (es fs : List Texts) �
 no-order announced ps es fs h o =
     let given = named ps es h in
     let moved = beside IsSpelledBy given.0 es fs o.0 given.2 in
-    let apart : AreDistinct given.0 → ⊥ = λ d. clash moved.0 fs moved.2 o.1
+    let apart : AreDistinct given.0 → ⊥ = λ d. clash moved.0 fs o.2.0 moved.2 (omega (arith, o.2.1)) (λ e. rw add-one at (o.2.2 e))
     (IsDistinct-IsPermutation same_place same_place_flips (keys_of given.0) (keys_of moved.0) (IsPermutation-map (λ p. p.0) given.0 moved.0 moved.1) d) in
     let twice = repeats (repeats_key given.0) given.0 refl apart in
     let P : Option (List Named) → Type 0 = λ o. IsSomeAnd o (λ named. IsTrue (repeats_key named)) in

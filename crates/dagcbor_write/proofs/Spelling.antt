@@ -6,7 +6,7 @@ use Rattle.std.specs.declared.convert.Infallible.{Infallible}
 use Rattle.dagcbor_heads.specs.declared.error.EncodeError.{EncodeError}
 use Rattle.dagcbor_heads.specs.declared.error.EncodeError.TheVariants.{Msg, Write, OutOfMemory}
 use Rattle.dagcbor_heads.specs.Head.{head}
-use Rattle.dagcbor_heads.specs.Written.{Written, Writes, Stops, WroteFront}
+use Rattle.dagcbor_heads.specs.Written.{Written, Writes, Stops, AppendsSome, WroteFront}
 use Rattle.ipld_tree.specs.Tree.{Tree, IsTree}
 use Rattle.ipld_tree.specs.Spelling.{IsSpellable, IsSpelling, spelling}
 use Rattle.ipld_tree.specs.Spelled.{spelled, spelled_tree, spelled_head}
@@ -34,11 +34,11 @@ spelling_answered (Some t) held v tree is w = by (spelled t) refl w
     by None e w = absurd w
     by (Some s) e w = let k = (spelled_is t s).0 e in record { well_formed = tree; spellable = k.0; is = is ∙ w.0 ∙ k.1 }
 
-pub refusal_answered : (o : Option Tree) (r : Result (Vec ℕ Global) (EncodeError Infallible)) (e : EncodeError Infallible) (old new : Written) → IsErrAnd r (λ d. d ≡ e) → Stops (spelled_tree o) old new e → IsAnswer o r
+pub refusal_answered : (o : Option Tree) (r : Result (Vec ℕ Global) (EncodeError Infallible)) (e : EncodeError Infallible) (old new : List ℕ) → IsErrAnd r (λ d. d ≡ e) → Stops (spelled_tree o) (in_memory old) (in_memory new) e → IsAnswer o r
 refusal_answered o (Ok v) e old new h s = absurd h
 refusal_answered o (Err d) e old new h s = subst (λ x. IsAnswer o (Err x)) (sym h) (by o e s)
   where
-    by : (o : Option Tree) (e : EncodeError Infallible) → Stops (spelled_tree o) old new e → IsAnswer o (Err e)
+    by : (o : Option Tree) (e : EncodeError Infallible) → Stops (spelled_tree o) (in_memory old) (in_memory new) e → IsAnswer o (Err e)
     by None (Msg m) s = tt
     by (Some t) (Msg m) s = λ k. no_message t k s.0
     by o (Write x) s = elim x [ ]
@@ -51,9 +51,13 @@ sent : (o : Option Tree) (before after : Option (List ℕ)) (text : List ℕ) �
 sent None before after text tree e a = let differ : None ≡ Some text = e in cc
 sent (Some t) before after text tree e a = let k = (spelled_is t text).0 e in (text, record { well_formed = tree; spellable = k.0; is = k.1 }, a)
 
+grown : (text : Option (List ℕ)) (old new : Written) → WroteFront text old new → AppendsSome old.bytes new.bytes
+grown None old new w = w
+grown (Some text) old new w = (w.0, w.3)
+
 front_sent : (o : Option Tree) (old new : Written) → WroteFront (spelled_tree o) old new → SendsFront o old.bytes new.bytes
-front_sent None old new w = tt
-front_sent (Some t) old new w = λ k. subst (λ s. WroteFront s old new) ((spelled_is t (spelling t)).1 (k, refl)) w
+front_sent None old new w = (w, tt)
+front_sent (Some t) old new w = (grown (spelled t) old new w, λ k. subst (λ s. WroteFront s old new) ((spelled_is t (spelling t)).1 (k, refl)) w)
 
 answered : {E : Type 0} (o : Option Tree) (r : Result (Unit {0}) (EncodeError E)) (old new : Written) → OnOk r (IfSome o IsTree) → Writes (spelled_tree o) old new r → Sends o old.bytes r new.bytes
 answered {E = E} o (Ok u) old new tree w = by (spelled_tree o) refl w
@@ -61,8 +65,8 @@ answered {E = E} o (Ok u) old new tree w = by (spelled_tree o) refl w
     by : (s : Option (List ℕ)) → spelled_tree o ≡ s → Writes {T = Unit {0}} {E = E} s old new (Ok tt) → IsSomeAnd o (λ t. (b : List ℕ) × IsSpelling b t × Appends old.bytes new.bytes b)
     by None e k = absurd k
     by (Some text) e k = sent o old.bytes new.bytes text tree e k.0
-answered None (Err (Msg m)) old new tree w = tt
-answered (Some t) (Err (Msg m)) old new tree w = λ k. no_message t k w.0
+answered None (Err (Msg m)) old new tree w = (w.1, tt)
+answered (Some t) (Err (Msg m)) old new tree w = (w.1, λ k. no_message t k w.0)
 answered o (Err (Write e)) old new tree w = front_sent o old new w.0
 answered o (Err OutOfMemory) old new tree w = front_sent o old new w.0
 

@@ -6,8 +6,8 @@ use Rattle.std.specs.Result.{IsErrAnd, IsOk}
 use Rattle.std.specs.Fmt.{◌++?◌}
 use Rattle.dagcbor_heads.specs.declared.error.EncodeError.{EncodeError}
 use Rattle.dagcbor_heads.specs.declared.error.EncodeError.TheVariants.{Msg, Write, OutOfMemory}
-use Rattle.dagcbor_heads.specs.Written.{Written, WroteAll, WroteFront, Writes}
-use Rattle.dagcbor_heads.proofs.Writing.{joined, append-assoc, append-Some, Some-append, append-None, Appends-nothing, Written-but, begin-writing}
+use Rattle.dagcbor_heads.specs.Written.{Written, WroteAll, Writes}
+use Rattle.dagcbor_heads.proofs.Writing.{joined, append-assoc, append-Some, Some-append, append-None, appends_nothing, wrote_nothing, Written-but, begin-writing}
 use Rattle.dagcbor_write.specs.Gathering.{AppendsTo}
 use Rattle.dagcbor_write.specs.Each.{spelled_each}
 use Rattle.std.proofs.lemmas.List.{length-map}
@@ -51,10 +51,6 @@ Holds-more (Waits b) texts tree s (Waits d) t (Err e) h k p = cc
 Holds-more (Waits b) texts tree s (Waits d) t (Ok x) h k p =
     ((joined-append texts (spelled_tree tree) ∙ Grows-joins (spelled_tree tree) _ _ (joined texts) h.0 p.0.0.0, p.0.1 ∙ ap (λ (n : ℕ). n + 1) h.1 ∙ sym (length-append texts (spelled_tree tree ∷ []))), p.1)
 
-nothing-front : (whole : Option (List ℕ)) (s : Written) → WroteFront whole s s
-nothing-front None s = tt
-nothing-front (Some w) s = ([], w, refl, Appends-nothing s.bytes)
-
 -- an item was refused
 pub Holds-refused : {T E : Type 0} (items : Items) (texts : List (Option (List ℕ))) (tree : Option Tree) (s : Written) (left : Items) (t : Written) (e : EncodeError E) (r : Result T (EncodeError E)) (whole : Option (List ℕ)) → Holds items texts → TakesItem {T = Unit {0}} tree items s left t (Err e) → (spelled_tree tree ≡ None → whole ≡ None) → IsErrAnd r (λ d. d ≡ e) → Writes whole s t r
 Holds-refused (Announced n) texts tree s left t e r whole h p f k = absurd h
@@ -62,11 +58,11 @@ Holds-refused (Waits b) texts tree s (Announced n) t e r whole h p f k = absurd 
 Holds-refused (Waits b) texts tree s (Waits d) t e (Ok x) whole h p f k = absurd k
 Holds-refused {T} {E} (Waits b) texts tree s (Waits d) t (Msg m) (Err e) whole h p f k =
     let P : Written → Type 0 = λ u. Writes {T = T} whole s u (Err e) in let Q : EncodeError E → Type 0 = λ d. Writes {T = T} whole s s (Err d) in
-    subst P (sym p.1) (subst Q (sym k) (f p.0.1, refl, refl))
+    subst P (sym p.1) (subst Q (sym k) (f p.0.1, appends_nothing s.bytes, refl, refl))
 Holds-refused (Waits b) texts tree s (Waits d) t (Write x) (Err e) whole h p f k = absurd p.0
 Holds-refused {T} {E} (Waits b) texts tree s (Waits d) t OutOfMemory (Err e) whole h p f k =
     let P : Written → Type 0 = λ u. Writes {T = T} whole s u (Err e) in let Q : EncodeError E → Type 0 = λ d. Writes {T = T} whole s s (Err d) in
-    subst P (sym p.1) (subst Q (sym k) (nothing-front whole s, refl, refl))
+    subst P (sym p.1) (subst Q (sym k) (wrote_nothing whole s, refl, refl))
 
 -- what waits is the list of the trees
 pub Holds-list : (items : Items) (os : List (Option Tree)) → Holds items (map spelled_tree os) → waiting_text items ≡ spelled_tree (list_tree os)

@@ -2,6 +2,7 @@
 use Rattle.std.specs.Prelude.{◌≡◌, ℕ, List, ◌++◌, Option, None, Some, IfSome, Result, Ok, Err, ⊤}
 use Rattle.dagcbor_heads.specs.declared.error.EncodeError.{EncodeError}
 use Rattle.dagcbor_heads.specs.declared.error.EncodeError.TheVariants.{Msg, Write, OutOfMemory}
+use Rattle.dagcbor_heads.specs.Messages.{message_bytes}
 use Rattle.ipld_tree.specs.Tree.{Tree, IsTree}
 use Rattle.ipld_tree.specs.Spelled.{spelled_tree}
 
@@ -24,7 +25,7 @@ NoSpelling message tree m = (m ≡ message) × (spelled_tree tree ≡ None)
 
 -- what was handed over was refused: with a message, only for its cause; no device can fault
 abbrev pub Refused : {E : Type 0} → (List ℕ → Type 0) → EncodeError E → Type 0
-Refused Cause (Msg m) = Cause m.now
+Refused Cause (Msg m) = Cause (message_bytes m)
 Refused Cause (Write e) = ⊥
 Refused Cause OutOfMemory = ⊤
 

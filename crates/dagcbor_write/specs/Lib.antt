@@ -1,3 +1,4 @@
+pub use Rattle.dagcbor_heads.specs.Messages
 pub use Rattle.dagcbor_heads.specs.Written
 pub use Rattle.ipld_tree.specs.Cid
 pub use Rattle.ipld_tree.specs.Tree
@@ -12,4 +13,6 @@ pub mod Gathering
 pub mod Lists
 pub mod Maps
 pub mod Order
+pub mod Lending
+pub mod Spans
 pub mod Laws

@@ -1,13 +1,13 @@
 //! The collector of a list whose number of items is known.
 
 ghost use Rattle.std.specs.Prelude.{◌≡◌, ◌+◌, ◌<◌, IfOk, IfErr, OnOk, IfSome, IsOk};
-ghost use Rattle.std.specs.Borrow.{sem, RestsIfErr};
+ghost use Rattle.std.specs.Borrow.{sem};
 ghost use Rattle.std.specs.Fmt.{◌++?◌};
 ghost use Rattle.dagcbor_heads.specs.Written.{Writes, WroteAll, Stops};
 ghost use Rattle.ipld_tree.specs.Tree.{text, IsTree};
 ghost use Rattle.ipld_tree.specs.Spelled.{spelled_tree, spelled_head};
 ghost use Rattle.dagcbor_write.specs.Trees.{variant_head};
-ghost use Rattle.dagcbor_write.specs.contracts.serializer.Serializer.{the_row};
+ghost use Rattle.dagcbor_write.specs.Lending.{bounded_lent, bounded_left, SameLoan, BeginsOrStops};
 
 use crate::serialize::Serialize;
 use crate::serializer::Serializer;
@@ -23,7 +23,7 @@ pub struct BoundedCollect<'a, W> {
 
 impl<W> Drop for BoundedCollect<'_, W> {
     fn drop(self)
-        ensures { self.exit.0.now ≡ self.entry.ser.now }
+        ensures { self.exit.0.now ≡ (bounded_lent self.entry).now }
     {
         let Self {
             ser: _,
@@ -40,11 +40,10 @@ impl<W: Write> Serializer<W> {
         alloc: Global,
         len: usize,
     ) -> Result<BoundedCollect<'_, W>, EncodeError<W::Error>>
-        ensures* refused { sem 𝓛 (RestsIfErr (the_row W.row) self.entry (λ c. c.ser.ghost_name) result
-            (λ new. IfErr result (Stops (spelled_head 4 len) (W.written self.old) (W.written new)))) }
-        ensures same_reference { IfOk result (λ c. c.ser.ghost_name ≡ self.entry.ghost_name) }
-        ensures head { IfOk result (λ c. WroteAll (spelled_head 4 len) (W.written self.old) (W.written c.ser.now)) }
-        ensures left { IfOk result (λ c. c.left ≡ len) }
+        ensures* refused { sem 𝓛 (BeginsOrStops W.row W.written bounded_lent self.entry (spelled_head 4 len) result) }
+        ensures same_reference { IfOk result (λ c. SameLoan self.entry (bounded_lent c)) }
+        ensures head { IfOk result (λ c. WroteAll (spelled_head 4 len) (W.written self.old) (W.written (bounded_lent c).now)) }
+        ensures left { IfOk result (λ c. bounded_left c ≡ len) }
     {
         self.push_head(4, len)?;
         Ok(BoundedCollect {
@@ -61,11 +60,10 @@ impl<W: Write> Serializer<W> {
         _name: &'static str,
         len: usize,
     ) -> Result<BoundedCollect<'_, W>, EncodeError<W::Error>>
-        ensures* refused { sem 𝓛 (RestsIfErr (the_row W.row) self.entry (λ c. c.ser.ghost_name) result
-            (λ new. IfErr result (Stops (spelled_head 4 len) (W.written self.old) (W.written new)))) }
-        ensures same_reference { IfOk result (λ c. c.ser.ghost_name ≡ self.entry.ghost_name) }
-        ensures head { IfOk result (λ c. WroteAll (spelled_head 4 len) (W.written self.old) (W.written c.ser.now)) }
-        ensures left { IfOk result (λ c. c.left ≡ len) }
+        ensures* refused { sem 𝓛 (BeginsOrStops W.row W.written bounded_lent self.entry (spelled_head 4 len) result) }
+        ensures same_reference { IfOk result (λ c. SameLoan self.entry (bounded_lent c)) }
+        ensures head { IfOk result (λ c. WroteAll (spelled_head 4 len) (W.written self.old) (W.written (bounded_lent c).now)) }
+        ensures left { IfOk result (λ c. bounded_left c ≡ len) }
     {
         self.serialize_tuple(alloc, len)
     }
@@ -80,11 +78,10 @@ impl<W: Write> Serializer<W> {
         variant: &'static str,
         len: usize,
     ) -> Result<BoundedCollect<'_, W>, EncodeError<W::Error>>
-        ensures* refused { sem 𝓛 (RestsIfErr (the_row W.row) self.entry (λ c. c.ser.ghost_name) result
-            (λ new. IfErr result (Stops (variant_head variant.now ++? spelled_head 4 len) (W.written self.old) (W.written new)))) }
-        ensures same_reference { IfOk result (λ c. c.ser.ghost_name ≡ self.entry.ghost_name) }
-        ensures head { IfOk result (λ c. WroteAll (variant_head variant.now ++? spelled_head 4 len) (W.written self.old) (W.written c.ser.now)) }
-        ensures left { IfOk result (λ c. c.left ≡ len) }
+        ensures* refused { sem 𝓛 (BeginsOrStops W.row W.written bounded_lent self.entry (variant_head variant.now ++? spelled_head 4 len) result) }
+        ensures same_reference { IfOk result (λ c. SameLoan self.entry (bounded_lent c)) }
+        ensures head { IfOk result (λ c. WroteAll (variant_head variant.now ++? spelled_head 4 len) (W.written self.old) (W.written (bounded_lent c).now)) }
+        ensures left { IfOk result (λ c. bounded_left c ≡ len) }
         ensures good_name { OnOk result (IsTree (text variant.now)) }
     {
         self.push_variant_of(variant, 4, len)?;
@@ -99,7 +96,7 @@ impl<W: Write> Serializer<W> {
 impl<W: Write> BoundedCollect<'_, W> {
     /// How many of the announced items are still to come.
     pub fn left(&self) -> usize
-        ensures { result ≡ self.now.left }
+        ensures { result ≡ bounded_left self.now }
     {
         self.left
     }
@@ -109,10 +106,10 @@ impl<W: Write> BoundedCollect<'_, W> {
         &mut self,
         value: &T,
     ) -> Result<(), EncodeError<W::Error>>
-        requires { 0 < self.old.left }
-        ensures same_reference { self.new.ser.ghost_name ≡ self.old.ser.ghost_name }
-        ensures left { self.new.left + 1 ≡ self.old.left }
-        ensures item { Writes (spelled_tree (T.tree value.now)) (W.written self.old.ser.now) (W.written self.new.ser.now) result }
+        requires { 0 < bounded_left self.old }
+        ensures same_reference { SameLoan (bounded_lent self.old) (bounded_lent self.new) }
+        ensures left { bounded_left self.new + 1 ≡ bounded_left self.old }
+        ensures item { Writes (spelled_tree (T.tree value.now)) (W.written (bounded_lent self.old).now) (W.written (bounded_lent self.new).now) result }
         ensures well_formed { OnOk result (IfSome (T.tree value.now) IsTree) }
     {
         self.left -= 1;
@@ -121,10 +118,10 @@ impl<W: Write> BoundedCollect<'_, W> {
 
     /// Writes the next field: as `serialize_element`.
     pub fn serialize_field<T: Serialize>(&mut self, value: &T) -> Result<(), EncodeError<W::Error>>
-        requires { 0 < self.old.left }
-        ensures same_reference { self.new.ser.ghost_name ≡ self.old.ser.ghost_name }
-        ensures left { self.new.left + 1 ≡ self.old.left }
-        ensures item { Writes (spelled_tree (T.tree value.now)) (W.written self.old.ser.now) (W.written self.new.ser.now) result }
+        requires { 0 < bounded_left self.old }
+        ensures same_reference { SameLoan (bounded_lent self.old) (bounded_lent self.new) }
+        ensures left { bounded_left self.new + 1 ≡ bounded_left self.old }
+        ensures item { Writes (spelled_tree (T.tree value.now)) (W.written (bounded_lent self.old).now) (W.written (bounded_lent self.new).now) result }
         ensures well_formed { OnOk result (IfSome (T.tree value.now) IsTree) }
     {
         self.serialize_element(value)
@@ -132,9 +129,9 @@ impl<W: Write> BoundedCollect<'_, W> {
 
     /// Ends the list.
     pub fn end(self) -> Result<(), EncodeError<W::Error>>
-        requires { self.left ≡ 0 }
+        requires { bounded_left self ≡ 0 }
         ensures ok { IsOk result }
-        ensures unchanged { self.exit.0.now ≡ self.entry.ser.now }
+        ensures unchanged { self.exit.0.now ≡ (bounded_lent self.entry).now }
     {
         let Self {
             ser: _,

@@ -1,6 +1,6 @@
 //! Values that are written to memory before they go out.
 
-ghost use Rattle.std.specs.Prelude.{◌≡◌, ◌+◌, ◌≤◌, [], length};
+ghost use Rattle.std.specs.Prelude.{◌≡◌, ◌+◌, ◌≤◌, [], length, OnErr};
 ghost use Rattle.dagcbor_write.specs.Gathering.{Waiting, Grows, NoSpelling, Takes};
 
 use crate::serialize::Serialize;
@@ -10,21 +10,30 @@ use std::alloc::Global;
 use std::marker::Model;
 use std::mem;
 
-/// The bytes with the value's spelling behind them. A value that has none is refused with `refusal`.
-pub(crate) fn appended<T: Serialize, E>(
+/// Writes the value's spelling behind the bytes. A value that has none is refused with `refusal`. After a refusal the
+/// bytes are as before.
+pub(crate) fn append<T: Serialize, E>(
     alloc: Global,
-    bytes: Vec<u8>,
+    bytes: &mut Vec<u8>,
     value: &T,
-    refusal: &'static str,
-) -> Result<Vec<u8>, EncodeError<E>>
-    ensures { Takes (λ v. Grows (T.tree value.now) bytes.items v.items) (NoSpelling refusal.now (T.tree value.now)) result }
+    refusal: &str,
+) -> Result<(), EncodeError<E>>
+    requires { length refusal.now ≤ 63 }
+    ensures taken { Takes (λ u. Grows (T.tree value.now) bytes.old.items bytes.new.items) (NoSpelling refusal.now (T.tree value.now)) result }
+    ensures kept { OnErr result (bytes.new.items ≡ bytes.old.items) }
 {
-    let mut ser = Serializer::new(BufWriter::new(bytes));
-    match value.serialize(alloc, &mut ser) {
-        Ok(()) => Ok(ser.into_inner().into_inner()),
-        Err(EncodeError::Msg(_)) => Err(EncodeError::Msg(refusal)),
-        Err(EncodeError::OutOfMemory) => Err(EncodeError::OutOfMemory),
-        Err(EncodeError::Write(never)) => match never {},
+    let before = bytes.len();
+    let mut ser = Serializer::new(BufWriter::new(mem::replace(bytes, Vec::new(alloc))));
+    let result = value.serialize(alloc, &mut ser);
+    *bytes = ser.into_inner().into_inner();
+    let Err(error) = result else {
+        return Ok(());
+    };
+    bytes.truncate(before);
+    match error {
+        EncodeError::Msg(_) => Err(EncodeError::custom(refusal)),
+        EncodeError::OutOfMemory => Err(EncodeError::OutOfMemory),
+        EncodeError::Write(never) => match never {},
     }
 }
 
@@ -65,34 +74,19 @@ impl Buffer {
         self.count
     }
 
-    /// The values, and one more behind them.
-    fn joined<T: Serialize, E>(
-        self,
-        alloc: Global,
-        value: &T,
-        refusal: &'static str,
-    ) -> Result<Buffer, EncodeError<E>>
-        ensures { Takes (λ b. Grows (T.tree value.now) self.bytes b.bytes × (b.count ≡ self.count + 1)) (NoSpelling refusal.now (T.tree value.now)) result }
-    {
-        let Self { bytes, count } = self;
-        let bytes = appended(alloc, bytes, value, refusal)?;
-        Ok(Buffer {
-            bytes,
-            count: count + 1,
-        })
-    }
-
-    /// Writes a value behind the others.
+    /// Writes a value behind the others. After a refusal the others wait as before.
     pub(crate) fn gather<T: Serialize, E>(
         &mut self,
         alloc: Global,
         value: &T,
-        refusal: &'static str,
+        refusal: &str,
     ) -> Result<(), EncodeError<E>>
-        ensures { Takes (λ u. Grows (T.tree value.now) self.old.bytes self.new.bytes × (self.new.count ≡ self.old.count + 1)) (NoSpelling refusal.now (T.tree value.now)) result }
+        requires { length refusal.now ≤ 63 }
+        ensures taken { Takes (λ u. Grows (T.tree value.now) self.old.bytes self.new.bytes × (self.new.count ≡ self.old.count + 1)) (NoSpelling refusal.now (T.tree value.now)) result }
+        ensures kept { OnErr result (self.new ≡ self.old) }
     {
-        let held = mem::replace(self, Buffer::new(alloc));
-        *self = held.joined(alloc, value, refusal)?;
+        append(alloc, &mut self.bytes, value, refusal)?;
+        self.count += 1;
         Ok(())
     }
 }

@@ -1,7 +1,7 @@
 //! The collector of a map.
 
-ghost use Rattle.std.specs.Prelude.{◌≡◌, List, Option, Some, None, IfOk, IfErr, OnOk, IfSome, IsSome, IsTrue, is_some, codes, length};
-ghost use Rattle.std.specs.Borrow.{sem, RestsIfErr};
+ghost use Rattle.std.specs.Prelude.{◌≡◌, List, Option, Some, None, IfOk, IfErr, OnErr, OnOk, IfSome, IsSome, IsTrue, is_some, codes, length};
+ghost use Rattle.std.specs.Borrow.{sem};
 ghost use Rattle.std.specs.Fmt.{◌++?◌};
 ghost use Rattle.dagcbor_heads.specs.Written.{Writes, WroteAll, Stops};
 ghost use Rattle.ipld_tree.specs.Tree.{text, IsTree, entries_tree};
@@ -11,11 +11,9 @@ ghost use Rattle.dagcbor_write.specs.Gathering.{Takes};
 ghost use Rattle.dagcbor_write.specs.Trees.{Pair, variant_head};
 ghost use Rattle.dagcbor_write.specs.Maps.{nothing_held, is_complete, HoldsKey, JoinsValue, JoinsEntry, RefusesKey, RefusesValue, RefusesEntry, AreSpellingsOf, RepeatsKey, map_rest};
 ghost use Rattle.dagcbor_write.specs.Order.{head_rest, entries_bytes};
-ghost use Rattle.dagcbor_write.specs.contracts.serializer.Serializer.{the_row};
+ghost use Rattle.dagcbor_write.specs.Lending.{map_lent, map_held, SameLoan, BeginsOrStops};
 
-use crate::entry::Entry;
 use crate::gathered::Gathered;
-use crate::order::put_in_order;
 use crate::serialize::Serialize;
 use crate::serializer::Serializer;
 use dagcbor_heads::{EncodeError, Write};
@@ -33,7 +31,7 @@ pub struct CollectMap<'a, W, G = Gathered> {
 
 impl<W, G: Drop> Drop for CollectMap<'_, W, G> {
     fn drop(self)
-        ensures { self.exit.0.now ≡ self.entry.ser.now }
+        ensures { self.exit.0.now ≡ (map_lent self.entry).now }
     {
         let Self {
             ser: _,
@@ -46,9 +44,9 @@ impl<W, G: Drop> Drop for CollectMap<'_, W, G> {
 impl<W: Write> Serializer<W> {
     /// Begins a map, of which nothing goes out before its end. The length is not looked at.
     pub fn serialize_map(&mut self, alloc: Global, _len: Option<usize>) -> CollectMap<'_, W>
-        ensures same_reference { result.ser.ghost_name ≡ self.entry.ghost_name }
-        ensures unchanged { result.ser.now ≡ self.old }
-        ensures nothing { result.held ≡ nothing_held None }
+        ensures same_reference { SameLoan self.entry (map_lent result) }
+        ensures unchanged { (map_lent result).now ≡ self.old }
+        ensures nothing { map_held result ≡ nothing_held None }
     {
         CollectMap {
             ser: self,
@@ -64,11 +62,10 @@ impl<W: Write> Serializer<W> {
         _name: &'static str,
         len: usize,
     ) -> Result<CollectMap<'_, W>, EncodeError<W::Error>>
-        ensures* refused { sem 𝓛 (RestsIfErr (the_row W.row) self.entry (λ c. c.ser.ghost_name) result
-            (λ new. IfErr result (Stops (spelled_head 5 len) (W.written self.old) (W.written new)))) }
-        ensures same_reference { IfOk result (λ c. c.ser.ghost_name ≡ self.entry.ghost_name) }
-        ensures head { IfOk result (λ c. WroteAll (spelled_head 5 len) (W.written self.old) (W.written c.ser.now)) }
-        ensures nothing { IfOk result (λ c. c.held ≡ nothing_held (Some len)) }
+        ensures* refused { sem 𝓛 (BeginsOrStops W.row W.written map_lent self.entry (spelled_head 5 len) result) }
+        ensures same_reference { IfOk result (λ c. SameLoan self.entry (map_lent c)) }
+        ensures head { IfOk result (λ c. WroteAll (spelled_head 5 len) (W.written self.old) (W.written (map_lent c).now)) }
+        ensures nothing { IfOk result (λ c. map_held c ≡ nothing_held (Some len)) }
     {
         self.push_head(5, len)?;
         Ok(CollectMap {
@@ -88,11 +85,10 @@ impl<W: Write> Serializer<W> {
         variant: &'static str,
         len: usize,
     ) -> Result<CollectMap<'_, W>, EncodeError<W::Error>>
-        ensures* refused { sem 𝓛 (RestsIfErr (the_row W.row) self.entry (λ c. c.ser.ghost_name) result
-            (λ new. IfErr result (Stops (variant_head variant.now ++? spelled_head 5 len) (W.written self.old) (W.written new)))) }
-        ensures same_reference { IfOk result (λ c. c.ser.ghost_name ≡ self.entry.ghost_name) }
-        ensures head { IfOk result (λ c. WroteAll (variant_head variant.now ++? spelled_head 5 len) (W.written self.old) (W.written c.ser.now)) }
-        ensures nothing { IfOk result (λ c. c.held ≡ nothing_held (Some len)) }
+        ensures* refused { sem 𝓛 (BeginsOrStops W.row W.written map_lent self.entry (variant_head variant.now ++? spelled_head 5 len) result) }
+        ensures same_reference { IfOk result (λ c. SameLoan self.entry (map_lent c)) }
+        ensures head { IfOk result (λ c. WroteAll (variant_head variant.now ++? spelled_head 5 len) (W.written self.old) (W.written (map_lent c).now)) }
+        ensures nothing { IfOk result (λ c. map_held c ≡ nothing_held (Some len)) }
         ensures good_name { OnOk result (IsTree (text variant.now)) }
     {
         self.push_variant_of(variant, 5, len)?;
@@ -104,7 +100,7 @@ impl<W: Write> Serializer<W> {
     }
 
     /// Writes the entries in key order, behind the head if that is not out yet.
-    fn push_map(&mut self, held: Gathered) -> Result<(), EncodeError<W::Error>>
+    fn push_map(&mut self, mut held: Gathered) -> Result<(), EncodeError<W::Error>>
         ensures written { (given : List Pair) → AreSpellingsOf given held.entries
             → Writes (map_rest held.announced given) (W.written self.old) (W.written self.new) result }
         ensures well_formed { (given : List Pair) → AreSpellingsOf given held.entries
@@ -112,15 +108,10 @@ impl<W: Write> Serializer<W> {
         ensures message { (given : List Pair) → AreSpellingsOf given held.entries
             → IfErr result (OnMessage (λ m. (m ≡ codes "Map keys must be unique") × RepeatsKey given × (self.new ≡ self.old))) }
     {
-        let Gathered {
-            mut entries,
-            key: _,
-            announced,
-        } = held;
-        if put_in_order(&mut entries) {
-            self.push_entries(announced, entries.as_slice())
+        if held.put_in_order() {
+            self.push_entries(&held)
         } else {
-            Err(EncodeError::Msg(REPEATED_KEY))
+            Err(EncodeError::custom(REPEATED_KEY))
         }
     }
 
@@ -139,16 +130,12 @@ impl<W: Write> Serializer<W> {
     }
 
     /// Writes the entries as they stand, behind the head if that is not out yet.
-    fn push_entries(
-        &mut self,
-        announced: Option<usize>,
-        entries: &[Entry],
-    ) -> Result<(), EncodeError<W::Error>>
-        ensures { Writes (head_rest announced (length entries.now) ++? Some (entries_bytes entries.now)) (W.written self.old) (W.written self.new) result }
+    fn push_entries(&mut self, held: &Gathered) -> Result<(), EncodeError<W::Error>>
+        ensures { Writes (head_rest held.now.announced (length held.now.entries) ++? Some (entries_bytes held.now.entries)) (W.written self.old) (W.written self.new) result }
     {
-        self.push_head_if_due(announced, entries.len())?;
-        for entry in entries {
-            self.push(entry.bytes())?;
+        self.push_head_if_due(held.announced(), held.len())?;
+        for i in 0..held.len() {
+            self.push(held.entry(i))?;
         }
         Ok(())
     }
@@ -157,14 +144,14 @@ impl<W: Write> Serializer<W> {
 impl<W: Write> CollectMap<'_, W> {
     /// Whether a key waits for its value.
     pub fn has_key(&self) -> bool
-        ensures { result ≡ is_some self.now.held.key }
+        ensures { result ≡ is_some (map_held self.now).key }
     {
         self.held.has_key()
     }
 
     /// Whether no key waits for its value, and there are as many entries as were announced.
     pub fn is_complete(&self) -> bool
-        ensures { result ≡ is_complete self.now.held }
+        ensures { result ≡ is_complete (map_held self.now) }
     {
         self.held.is_complete()
     }
@@ -172,12 +159,12 @@ impl<W: Write> CollectMap<'_, W> {
     /// Takes a key, whose value comes next. Refused with `Msg("Map key cannot be serialized.")` where it has no
     /// spelling, with `Msg("Map keys must be strings")` where it is no text.
     pub fn serialize_key<K: Serialize>(&mut self, key: &K) -> Result<(), EncodeError<W::Error>>
-        requires { self.old.held.key ≡ None }
-        ensures same_reference { self.new.ser.ghost_name ≡ self.old.ser.ghost_name }
-        ensures unchanged { self.new.ser.now ≡ self.old.ser.now }
-        ensures announced { self.new.held.announced ≡ self.old.held.announced }
-        ensures entries { self.new.held.entries ≡ self.old.held.entries }
-        ensures key { Takes (λ u. HoldsKey (K.tree key.now) self.new.held.key) (RefusesKey (K.tree key.now)) result }
+        requires { (map_held self.old).key ≡ None }
+        ensures same_reference { SameLoan (map_lent self.old) (map_lent self.new) }
+        ensures unchanged { (map_lent self.new).now ≡ (map_lent self.old).now }
+        ensures announced { (map_held self.new).announced ≡ (map_held self.old).announced }
+        ensures entries { (map_held self.new).entries ≡ (map_held self.old).entries }
+        ensures key { Takes (λ u. HoldsKey (K.tree key.now) (map_held self.new).key) (RefusesKey (K.tree key.now)) result }
     {
         self.held.take_key(self.alloc, key)
     }
@@ -185,12 +172,13 @@ impl<W: Write> CollectMap<'_, W> {
     /// Takes the value of the key before it. Refused with `Msg("Struct value cannot be serialized.")` where it has no
     /// spelling.
     pub fn serialize_value<V: Serialize>(&mut self, value: &V) -> Result<(), EncodeError<W::Error>>
-        requires { IsSome self.old.held.key }
-        ensures same_reference { self.new.ser.ghost_name ≡ self.old.ser.ghost_name }
-        ensures unchanged { self.new.ser.now ≡ self.old.ser.now }
-        ensures announced { self.new.held.announced ≡ self.old.held.announced }
-        ensures key { self.new.held.key ≡ None }
-        ensures entry { Takes (λ u. JoinsValue self.old.held.key (V.tree value.now) self.old.held.entries self.new.held.entries) (RefusesValue (V.tree value.now)) result }
+        requires { IsSome (map_held self.old).key }
+        ensures same_reference { SameLoan (map_lent self.old) (map_lent self.new) }
+        ensures unchanged { (map_lent self.new).now ≡ (map_lent self.old).now }
+        ensures announced { (map_held self.new).announced ≡ (map_held self.old).announced }
+        ensures key { (map_held self.new).key ≡ None }
+        ensures entry { Takes (λ u. JoinsValue (map_held self.old).key (V.tree value.now) (map_held self.old).entries (map_held self.new).entries) (RefusesValue (V.tree value.now)) result }
+        ensures kept { OnErr result ((map_held self.new).entries ≡ (map_held self.old).entries) }
     {
         self.held.take_value(self.alloc, value)
     }
@@ -201,12 +189,13 @@ impl<W: Write> CollectMap<'_, W> {
         key: &K,
         value: &V,
     ) -> Result<(), EncodeError<W::Error>>
-        requires { self.old.held.key ≡ None }
-        ensures same_reference { self.new.ser.ghost_name ≡ self.old.ser.ghost_name }
-        ensures unchanged { self.new.ser.now ≡ self.old.ser.now }
-        ensures announced { self.new.held.announced ≡ self.old.held.announced }
-        ensures key { OnOk result (self.new.held.key ≡ None) }
-        ensures entry { Takes (λ u. JoinsEntry (K.tree key.now) (V.tree value.now) self.old.held.entries self.new.held.entries) (RefusesEntry (K.tree key.now) (V.tree value.now)) result }
+        requires { (map_held self.old).key ≡ None }
+        ensures same_reference { SameLoan (map_lent self.old) (map_lent self.new) }
+        ensures unchanged { (map_lent self.new).now ≡ (map_lent self.old).now }
+        ensures announced { (map_held self.new).announced ≡ (map_held self.old).announced }
+        ensures key { OnOk result ((map_held self.new).key ≡ None) }
+        ensures entry { Takes (λ u. JoinsEntry (K.tree key.now) (V.tree value.now) (map_held self.old).entries (map_held self.new).entries) (RefusesEntry (K.tree key.now) (V.tree value.now)) result }
+        ensures kept { OnErr result ((map_held self.new).entries ≡ (map_held self.old).entries) }
     {
         self.serialize_key(key)?;
         self.serialize_value(value)
@@ -218,12 +207,13 @@ impl<W: Write> CollectMap<'_, W> {
         name: &'static str,
         value: &V,
     ) -> Result<(), EncodeError<W::Error>>
-        requires { self.old.held.key ≡ None }
-        ensures same_reference { self.new.ser.ghost_name ≡ self.old.ser.ghost_name }
-        ensures unchanged { self.new.ser.now ≡ self.old.ser.now }
-        ensures announced { self.new.held.announced ≡ self.old.held.announced }
-        ensures key { OnOk result (self.new.held.key ≡ None) }
-        ensures entry { Takes (λ u. JoinsEntry (Some (text name.now)) (V.tree value.now) self.old.held.entries self.new.held.entries) (RefusesValue (V.tree value.now)) result }
+        requires { (map_held self.old).key ≡ None }
+        ensures same_reference { SameLoan (map_lent self.old) (map_lent self.new) }
+        ensures unchanged { (map_lent self.new).now ≡ (map_lent self.old).now }
+        ensures announced { (map_held self.new).announced ≡ (map_held self.old).announced }
+        ensures key { OnOk result ((map_held self.new).key ≡ None) }
+        ensures entry { Takes (λ u. JoinsEntry (Some (text name.now)) (V.tree value.now) (map_held self.old).entries (map_held self.new).entries) (RefusesValue (V.tree value.now)) result }
+        ensures kept { OnErr result ((map_held self.new).entries ≡ (map_held self.old).entries) }
     {
         self.serialize_entry(&name, value)
     }
@@ -231,13 +221,13 @@ impl<W: Write> CollectMap<'_, W> {
     /// Ends the map: its entries go out in key order. Two equal keys are refused with `Msg("Map keys must be unique")`
     /// before anything is written.
     pub fn end(self) -> Result<(), EncodeError<W::Error>>
-        requires { IsTrue (is_complete self.held) }
-        ensures written { (given : List Pair) → AreSpellingsOf given self.entry.held.entries
-            → Writes (map_rest self.entry.held.announced given) (W.written self.entry.ser.now) (W.written self.exit.0.now) result }
-        ensures well_formed { (given : List Pair) → AreSpellingsOf given self.entry.held.entries
+        requires { IsTrue (is_complete (map_held self)) }
+        ensures written { (given : List Pair) → AreSpellingsOf given (map_held self.entry).entries
+            → Writes (map_rest (map_held self.entry).announced given) (W.written (map_lent self.entry).now) (W.written self.exit.0.now) result }
+        ensures well_formed { (given : List Pair) → AreSpellingsOf given (map_held self.entry).entries
             → OnOk result (IfSome (entries_tree given) IsTree) }
-        ensures message { (given : List Pair) → AreSpellingsOf given self.entry.held.entries
-            → IfErr result (OnMessage (λ m. (m ≡ codes "Map keys must be unique") × RepeatsKey given × (self.exit.0.now ≡ self.entry.ser.now))) }
+        ensures message { (given : List Pair) → AreSpellingsOf given (map_held self.entry).entries
+            → IfErr result (OnMessage (λ m. (m ≡ codes "Map keys must be unique") × RepeatsKey given × (self.exit.0.now ≡ (map_lent self.entry).now))) }
     {
         let Self {
             ser,

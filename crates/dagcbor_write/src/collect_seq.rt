@@ -1,13 +1,13 @@
 //! The collector of a list whose number of items may come last.
 
-ghost use Rattle.std.specs.Prelude.{◌≡◌, IfOk, IfErr, OnOk, IfSome, Some};
-ghost use Rattle.std.specs.Borrow.{sem, RestsIfErr};
+ghost use Rattle.std.specs.Prelude.{◌≡◌, IfOk, IfErr, IsOk, OnOk, IfSome, IsSome, Some};
+ghost use Rattle.std.specs.Borrow.{sem};
 ghost use Rattle.std.specs.Fmt.{◌++?◌};
-ghost use Rattle.dagcbor_heads.specs.Written.{Writes, WroteAll, Stops};
+ghost use Rattle.dagcbor_heads.specs.Written.{Writes, WroteAll, Stops, WantsMemoryOnlyIf};
 ghost use Rattle.ipld_tree.specs.Tree.{IsTree};
 ghost use Rattle.ipld_tree.specs.Spelled.{spelled_head};
 ghost use Rattle.dagcbor_write.specs.Lists.{announced_head, items_left, IsFresh, HasRoom, IsComplete, TakesItem, waiting_text};
-ghost use Rattle.dagcbor_write.specs.contracts.serializer.Serializer.{the_row};
+ghost use Rattle.dagcbor_write.specs.Lending.{list_lent, list_items, SameLoan, BeginsOrStops};
 
 use crate::buffer::Buffer;
 use crate::serialize::Serialize;
@@ -34,7 +34,7 @@ pub struct CollectSeq<'a, W, I = Items> {
 
 impl<W, I: Drop> Drop for CollectSeq<'_, W, I> {
     fn drop(self)
-        ensures { self.exit.0.now ≡ self.entry.ser.now }
+        ensures { self.exit.0.now ≡ (list_lent self.entry).now }
     {
         let Self {
             ser: _,
@@ -52,11 +52,10 @@ impl<W: Write> Serializer<W> {
         alloc: Global,
         len: Option<usize>,
     ) -> Result<CollectSeq<'_, W>, EncodeError<W::Error>>
-        ensures* refused { sem 𝓛 (RestsIfErr (the_row W.row) self.entry (λ c. c.ser.ghost_name) result
-            (λ new. IfErr result (Stops (announced_head len) (W.written self.old) (W.written new)))) }
-        ensures same_reference { IfOk result (λ c. c.ser.ghost_name ≡ self.entry.ghost_name) }
-        ensures head { IfOk result (λ c. WroteAll (announced_head len) (W.written self.old) (W.written c.ser.now)) }
-        ensures fresh { IfOk result (λ c. IsFresh len c.items) }
+        ensures* refused { sem 𝓛 (BeginsOrStops W.row W.written list_lent self.entry (announced_head len) result) }
+        ensures same_reference { IfOk result (λ c. SameLoan self.entry (list_lent c)) }
+        ensures head { IfOk result (λ c. WroteAll (announced_head len) (W.written self.old) (W.written (list_lent c).now)) }
+        ensures fresh { IfOk result (λ c. IsFresh len (list_items c)) }
     {
         let items = self.begin_items(alloc, len)?;
         Ok(CollectSeq {
@@ -85,7 +84,8 @@ impl<W: Write> Serializer<W> {
 
     /// Writes the items that waited, behind their number.
     fn push_waiting(&mut self, buffer: &Buffer) -> Result<(), EncodeError<W::Error>>
-        ensures { Writes (spelled_head 4 buffer.now.count ++? Some buffer.now.bytes) (W.written self.old) (W.written self.new) result }
+        ensures written { Writes (spelled_head 4 buffer.now.count ++? Some buffer.now.bytes) (W.written self.old) (W.written self.new) result }
+        ensures memory { WantsMemoryOnlyIf W.takes_memory result }
     {
         self.push_head(4, buffer.count())?;
         self.push(buffer.bytes())
@@ -95,7 +95,7 @@ impl<W: Write> Serializer<W> {
 impl<W: Write> CollectSeq<'_, W> {
     /// How many of the announced items are still to come. `None` where no number was announced.
     pub fn left(&self) -> Option<usize>
-        ensures { result ≡ items_left self.now.items }
+        ensures { result ≡ items_left (list_items self.now) }
     {
         match &self.items {
             Items::Announced(left) => Some(*left),
@@ -109,10 +109,10 @@ impl<W: Write> CollectSeq<'_, W> {
         &mut self,
         value: &T,
     ) -> Result<(), EncodeError<W::Error>>
-        requires { HasRoom self.old.items }
-        ensures same_reference { self.new.ser.ghost_name ≡ self.old.ser.ghost_name }
-        ensures item { TakesItem (T.tree value.now) self.old.items (W.written self.old.ser.now)
-            self.new.items (W.written self.new.ser.now) result }
+        requires { HasRoom (list_items self.old) }
+        ensures same_reference { SameLoan (list_lent self.old) (list_lent self.new) }
+        ensures item { TakesItem (T.tree value.now) (list_items self.old) (W.written (list_lent self.old).now)
+            (list_items self.new) (W.written (list_lent self.new).now) result }
         ensures well_formed { OnOk result (IfSome (T.tree value.now) IsTree) }
     {
         match &mut self.items {
@@ -124,10 +124,13 @@ impl<W: Write> CollectSeq<'_, W> {
         }
     }
 
-    /// Ends the list: the items that waited go out behind their number.
+    /// Ends the list: the items that waited go out behind their number. Where the number was announced nothing is left
+    /// to write, and nothing can go wrong.
     pub fn end(self) -> Result<(), EncodeError<W::Error>>
-        requires { IsComplete self.items }
-        ensures { Writes (waiting_text self.entry.items) (W.written self.entry.ser.now) (W.written self.exit.0.now) result }
+        requires { IsComplete (list_items self) }
+        ensures written { Writes (waiting_text (list_items self.entry)) (W.written (list_lent self.entry).now) (W.written self.exit.0.now) result }
+        ensures memory { WantsMemoryOnlyIf W.takes_memory result }
+        ensures announced { IsSome (items_left (list_items self.entry)) → IsOk result × (self.exit.0.now ≡ (list_lent self.entry).now) }
     {
         let Self {
             ser,

@@ -1,11 +1,12 @@
 //! What the collector of a map holds.
 
-ghost use Rattle.std.specs.Prelude.{◌≡◌, is_some, Some, None, IsSome, option_map};
+ghost use Rattle.std.specs.Prelude.{◌≡◌, ◌<◌, ◌≤◌, ◌++◌, is_some, Some, None, IsSome, IfSome, OnErr, length, map, option_map, drop, slice_index_or};
+ghost use Rattle.std.specs.List.{All, slice_range};
 ghost use Rattle.dagcbor_write.specs.Gathering.{Takes};
-ghost use Rattle.dagcbor_write.specs.Maps.{Held, nothing_held, is_complete, begins_text, HoldsKey, JoinsValue, RefusesKey, RefusesValue};
+ghost use Rattle.dagcbor_write.specs.Maps.{Held, Texts, nothing_held, is_complete, begins_text, HoldsKey, JoinsValue, RefusesKey, RefusesValue};
+ghost use Rattle.dagcbor_write.specs.Order.{KeysDiffer, PutsInOrder};
 
-use crate::buffer::appended;
-use crate::entry::Entry;
+use crate::buffer::append;
 use crate::serialize::Serialize;
 use dagcbor_heads::EncodeError;
 use std::alloc::Global;
@@ -20,18 +21,35 @@ const NO_TEXT: &str = "Map keys must be strings";
 /// What a value without a spelling is refused with.
 const BAD_VALUE: &str = "Struct value cannot be serialized.";
 
-/// The entries that a map was given, encoded, and a key that waits for its value.
+/// Where an entry stands: its key from `start` to `key_end`, its value from there to `end`.
+#[derive(Drop)]
+pub struct Span {
+    start: usize,
+    key_end: usize,
+    end: usize,
+}
+
+/// The entries that a map was given, encoded in one buffer. A key that waits for its value begins at `key`, and ends
+/// the buffer. What stands in no span, as a key whose value was refused, does not count.
 #[derive(Drop)]
 pub struct Gathered {
-    pub(crate) entries: Vec<Entry>,
-    pub(crate) key: Option<Vec<u8>>,
-    pub(crate) announced: Option<usize>,
+    bytes: Vec<u8>,
+    spans: Vec<Span>,
+    key: Option<usize>,
+    announced: Option<usize>,
 }
 
 impl Model for Gathered {
+    ghost use Rattle.std.specs.Prelude.{◌≤◌, IfSome, length, map, option_map, drop};
+    ghost use Rattle.std.specs.List.{All};
+    ghost use Rattle.dagcbor_write.specs.Maps.{Held};
+    ghost use Rattle.dagcbor_write.specs.Spans.{entry_at, IsWithin};
+
     ghost Value = { Held };
 
-    ghost view = { λ g. record { entries = g.entries.items; key = option_map (λ v. v.items) g.key; announced = g.announced } };
+    ghost view = { λ g. record { entries = map (entry_at g.bytes.items) g.spans.items; key = option_map (λ start. drop start g.bytes.items) g.key; announced = g.announced } };
+
+    ghost invariant = { λ g. All (IsWithin (length g.bytes.items)) g.spans.items × IfSome g.key (λ start. start ≤ length g.bytes.items) };
 }
 
 impl Gathered {
@@ -39,10 +57,41 @@ impl Gathered {
         ensures { result ≡ nothing_held announced }
     {
         Gathered {
-            entries: Vec::new(alloc),
+            bytes: Vec::new(alloc),
+            spans: Vec::new(alloc),
             key: None,
             announced,
         }
+    }
+
+    pub(crate) fn announced(&self) -> Option<usize>
+        ensures { result ≡ self.now.announced }
+    {
+        self.announced
+    }
+
+    pub(crate) fn len(&self) -> usize
+        ensures { result ≡ length self.now.entries }
+    {
+        self.spans.len()
+    }
+
+    /// The key of the entry in place `i`.
+    fn key(&self, i: usize) -> &[u8]
+        requires { i < length self.now.entries }
+        ensures { (d : Texts) → result.now ≡ (slice_index_or self.now.entries i d).0 }
+    {
+        let span = &self.spans[i];
+        &self.bytes[span.start..span.key_end]
+    }
+
+    /// The key and the value of the entry in place `i`.
+    pub(crate) fn entry(&self, i: usize) -> &[u8]
+        requires { i < length self.now.entries }
+        ensures { (d : Texts) → result.now ≡ (slice_index_or self.now.entries i d).0 ++ (slice_index_or self.now.entries i d).1 }
+    {
+        let span = &self.spans[i];
+        &self.bytes[span.start..span.end]
     }
 
     pub(crate) fn has_key(&self) -> bool
@@ -54,9 +103,9 @@ impl Gathered {
     pub(crate) fn is_complete(&self) -> bool
         ensures { result ≡ is_complete self.now }
     {
-        match (&self.key, self.announced) {
+        match (self.key, self.announced) {
             (Some(_), _) => false,
-            (None, Some(announced)) => self.entries.len() == announced,
+            (None, Some(announced)) => self.spans.len() == announced,
             (None, None) => true,
         }
     }
@@ -72,12 +121,17 @@ impl Gathered {
         ensures announced { self.new.announced ≡ self.old.announced }
         ensures key { Takes (λ u. HoldsKey (K.tree key.now) self.new.key) (RefusesKey (K.tree key.now)) result }
     {
-        let key = encoded_key(alloc, key)?;
-        self.key = Some(key);
-        Ok(())
+        let start = self.bytes.len();
+        append(alloc, &mut self.bytes, key, BAD_KEY)?;
+        if is_text(&self.bytes[start..]) {
+            self.key = Some(start);
+            Ok(())
+        } else {
+            Err(EncodeError::custom(NO_TEXT))
+        }
     }
 
-    /// Takes the value of the key before it.
+    /// Takes the value of the key before it. After a refusal the key is gone, and the entries are as before.
     pub(crate) fn take_value<V: Serialize, E>(
         &mut self,
         alloc: Global,
@@ -87,24 +141,57 @@ impl Gathered {
         ensures key { self.new.key ≡ None }
         ensures announced { self.new.announced ≡ self.old.announced }
         ensures entry { Takes (λ u. JoinsValue self.old.key (V.tree value.now) self.old.entries self.new.entries) (RefusesValue (V.tree value.now)) result }
+        ensures kept { OnErr result (self.new.entries ≡ self.old.entries) }
     {
-        match self.key.take() {
-            Some(key) => put_entry(alloc, key, value, &mut self.entries),
-            None => Ok(()),
+        let Some(start) = self.key.take() else {
+            return Ok(());
+        };
+        let key_end = self.bytes.len();
+        append(alloc, &mut self.bytes, value, BAD_VALUE)?;
+        let end = self.bytes.len();
+        match self.spans.push(Span {
+            start,
+            key_end,
+            end,
+        }) {
+            Ok(()) => {}
+            Err(_) => return Err(EncodeError::OutOfMemory),
         }
+        Ok(())
+    }
+
+    /// Puts the entries into the order of their bytes, and says whether no key repeats. Entries of different keys stand
+    /// in this order as the keys do in key order.
+    pub(crate) fn put_in_order(&mut self) -> bool
+        ensures announced { self.new.announced ≡ self.old.announced }
+        ensures order { PutsInOrder self.old.entries self.new.entries result }
+    {
+        let bytes = self.bytes.as_slice();
+        self.spans.sort_unstable_by(|a, b| {
+            range(bytes, a.start, a.end).cmp(range(bytes, b.start, b.end))
+        });
+        self.keys_differ()
+    }
+
+    /// Whether no key is that of the entry before it.
+    fn keys_differ(&self) -> bool
+        ensures { KeysDiffer self.now.entries result }
+    {
+        for i in 1..self.len() {
+            if self.key(i - 1) == self.key(i) {
+                return false;
+            }
+        }
+        true
     }
 }
 
-/// The spelling of a key.
-fn encoded_key<K: Serialize, E>(alloc: Global, key: &K) -> Result<Vec<u8>, EncodeError<E>>
-    ensures { Takes (λ v. HoldsKey (K.tree key.now) (Some v.items)) (RefusesKey (K.tree key.now)) result }
+/// The bytes of a range, as far as it lies within them.
+fn range(bytes: &[u8], start: usize, end: usize) -> &[u8]
+    ensures { result.now ≡ slice_range bytes.now start end }
 {
-    let bytes = appended(alloc, Vec::new(alloc), key, BAD_KEY)?;
-    if is_text(bytes.as_slice()) {
-        Ok(bytes)
-    } else {
-        Err(EncodeError::Msg(NO_TEXT))
-    }
+    let end = end.min(bytes.len());
+    &bytes[start.min(end)..end]
 }
 
 /// Whether a spelling is that of a text.
@@ -114,22 +201,5 @@ fn is_text(bytes: &[u8]) -> bool
     match bytes.first() {
         Some(first) => *first / 32 == 3,
         None => false,
-    }
-}
-
-/// Puts the spelling of the value behind that of its key, and both behind the other entries.
-fn put_entry<V: Serialize, E>(
-    alloc: Global,
-    key: Vec<u8>,
-    value: &V,
-    entries: &mut Vec<Entry>,
-) -> Result<(), EncodeError<E>>
-    ensures { Takes (λ u. JoinsValue (Some key.items) (V.tree value.now) entries.old.items entries.new.items) (RefusesValue (V.tree value.now)) result }
-{
-    let key_length = key.len();
-    let bytes = appended(alloc, key, value, BAD_VALUE)?;
-    match entries.push(Entry::new(bytes, key_length)) {
-        Ok(()) => Ok(()),
-        Err(_) => Err(EncodeError::OutOfMemory),
     }
 }

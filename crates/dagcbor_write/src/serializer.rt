@@ -109,7 +109,7 @@ impl<W: Write> Serializer<W> {
         let (major, magnitude) = if v < 0 { (1, -1 - v) } else { (0, v) };
         match u64::try_from(magnitude) {
             Ok(argument) => push_head(&mut self.writer, major, argument),
-            Err(_) => Err(EncodeError::Msg(INTEGER_RANGE)),
+            Err(_) => Err(EncodeError::custom(INTEGER_RANGE)),
         }
     }
 
@@ -155,7 +155,7 @@ impl<W: Write> Serializer<W> {
     {
         match u64::try_from(v) {
             Ok(argument) => push_head(&mut self.writer, 0, argument),
-            Err(_) => Err(EncodeError::Msg(UNSIGNED_RANGE)),
+            Err(_) => Err(EncodeError::custom(UNSIGNED_RANGE)),
         }
     }
 
@@ -230,14 +230,16 @@ impl<W: Write> Serializer<W> {
     /// A head of a list or a map.
     pub(crate) fn push_head(&mut self, major: u8, count: usize) -> Result<(), EncodeError<W::Error>>
         requires { major ≤ 7 }
-        ensures { Writes (spelled_head major count) (W.written self.old) (W.written self.new) result }
+        ensures written { Writes (spelled_head major count) (W.written self.old) (W.written self.new) result }
+        ensures memory { WantsMemoryOnlyIf W.takes_memory result }
     {
         push_head(&mut self.writer, major, count as u64)
     }
 
     /// Bytes that are spelled already.
     pub(crate) fn push(&mut self, bytes: &[u8]) -> Result<(), EncodeError<W::Error>>
-        ensures { Writes (Some bytes.now) (W.written self.old) (W.written self.new) result }
+        ensures written { Writes (Some bytes.now) (W.written self.old) (W.written self.new) result }
+        ensures memory { WantsMemoryOnlyIf W.takes_memory result }
     {
         self.writer.push(bytes)
     }

@@ -19,8 +19,8 @@ pub fn to_vec<T: Serialize>(alloc: Global, value: &T) -> Result<Vec<u8>, EncodeE
     Ok(ser.into_inner().into_inner())
 }
 
-/// Writes the one spelling of the value's tree to the device. Refused with `Msg` as `to_vec`. After any other refusal the
-/// device has a beginning of the spelling, where there is one.
+/// Writes the one spelling of the value's tree to the device. Refused with `Msg` as `to_vec`. After a refusal the device
+/// holds what it held before, and behind it some bytes: of a value with a spelling a beginning of that.
 pub fn to_writer<W: io::Write, T: Serialize>(
     alloc: Global,
     writer: &mut W,

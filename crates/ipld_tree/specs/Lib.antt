@@ -10,3 +10,5 @@ pub mod CidFields
 pub mod Ipld
 pub mod Same
 pub mod CidHash
+pub mod CidIters
+pub mod Codecs

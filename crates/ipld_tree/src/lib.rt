@@ -4,13 +4,19 @@
 mod bytes;
 mod cid;
 mod cid_error;
+mod cid_iter;
+mod codec;
 mod ipld;
 pub mod laws;
+mod links;
 
 pub use bytes::{ByteSlice, Bytes};
 pub use cid::Cid;
 pub use cid_error::CidError;
+pub use cid_iter::CidIter;
+pub use codec::Codec;
 pub use ipld::Ipld;
+pub use links::Links;
 
 #[cfg(test)]
 mod tests;

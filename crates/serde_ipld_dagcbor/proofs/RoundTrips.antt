@@ -1,39 +1,42 @@
 -- Reading and writing undo each other.
-use Rattle.std.proofs.Common.{◌≡◌, ℕ, List, [], refl, sym, subst, ◌∙◌}
-use Rattle.std.specs.Prelude.{Ok, Err, Some}
+use Rattle.std.proofs.Common.{◌≡◌, ℕ, List, refl, sym, ap, subst, ◌∙◌}
+use Rattle.std.specs.Prelude.{Ok, Err, Option, Some}
 use Rattle.std.specs.declared.convert.Infallible.{Infallible}
 use Rattle.dagcbor_heads.specs.declared.error.DecodeError.{DecodeError}
 use Rattle.dagcbor_heads.specs.declared.error.DecodeError.TheVariants.{Read, RequireBorrowed, OutOfMemory, Failed}
 use Rattle.dagcbor_heads.specs.declared.error.EncodeError.TheVariants as unwritten
 use Rattle.ipld_tree.specs.Tree.{Tree, any_need}
-use Rattle.ipld_tree.specs.Spelling.{IsSpelling}
 use Rattle.ipld_tree.specs.Ipld.{tree_of}
-use Rattle.ipld_tree.specs.declared.ipld.Ipld.{Ipld}
-use Rattle.ipld_tree.proofs.Fronts.{front_unique}
-use Rattle.dagcbor_read.proofs.Wholes.{whole_front}
+use Rattle.dagcbor_write.specs.Answers.{IsAnswer}
 use Rattle.dagcbor_read.specs.Whole.{IsWhole, WholeRefused}
-use Rattle.serde_ipld_dagcbor.specs.RoundTrips.{ReadThenWritten, IsReadBack, WrittenThenRead}
+use Rattle.serde_ipld_dagcbor.specs.Codec.{spellings_are_unique}
+use Rattle.serde_ipld_dagcbor.specs.RoundTrips.{TypedReadThenWritten, ReadThenWritten, IsReadBack, TypedWrittenThenRead, WrittenThenRead}
 
-same_tree : (t u : Tree) → Some t ≡ Some u → t ≡ u
-same_tree t u e = cc
+some_same : {A : Type 0} (a b : A) → Some a ≡ Some b → a ≡ b
+some_same a b e = cc e
 
--- what was read of an `Ipld` is the spelling of its tree
-spelling_read : (b : List ℕ) (value : Ipld) → IsWhole Some any_need b (tree_of value) → IsSpelling b (tree_of value)
-spelling_read b value h = subst (IsSpelling b) (same_tree h.0 (tree_of value) h.2) h.1
+module _ {T V : Type 0} (held : T → V) (view : Tree → Option V) (need : Tree → ℕ) (tree : T → Option Tree) where
+  pub typed_read_then_written : TypedReadThenWritten held view need tree
+  typed_read_then_written b value (Ok v) own h w = let a = subst (λ o. IsAnswer o (Ok v)) (own h.0 h.2) w in a.is ∙ sym h.1.is
+  typed_read_then_written b value (Err (unwritten.Msg m)) own h w = absurd (subst (λ o. IsAnswer o (Err (unwritten.Msg m))) (own h.0 h.2) w h.1.spellable)
+  typed_read_then_written b value (Err (unwritten.Write e)) own h w = absurd w
+  typed_read_then_written b value (Err unwritten.OutOfMemory) own h w = tt
+
+  no_refusal : (x : V) (b : List ℕ) (e : DecodeError Infallible) → IsWhole view need b x → WholeRefused ⊥ view need (Some b) e → IsReadBack held x (Err e)
+  no_refusal x b (Read e) h r = r
+  no_refusal x b OutOfMemory h r = tt
+  no_refusal x b (RequireBorrowed name) h r = r
+  no_refusal x b Failed h r = r
+  no_refusal x b _ h r = r x h
+
+  pub typed_written_then_read : TypedWrittenThenRead held view need tree
+  typed_written_then_read value t x v (Ok copy) is shows within w r =
+      let same = spellings_are_unique v.items r.0 t r.1 (subst (λ o. IsAnswer o (Ok v)) is w) in
+      some_same _ _ (sym r.2 ∙ ap view same ∙ shows)
+  typed_written_then_read value t x v (Err e) is shows within w r = no_refusal x v.items e (t, subst (λ o. IsAnswer o (Ok v)) is w, shows, within) r
 
 pub read_then_written : ReadThenWritten
-read_then_written b value (Ok v) h w = w.is ∙ sym (spelling_read b value h).is
-read_then_written b value (Err (unwritten.Msg m)) h w = absurd (w (spelling_read b value h).spellable)
-read_then_written b value (Err (unwritten.Write e)) h w = absurd w
-read_then_written b value (Err unwritten.OutOfMemory) h w = tt
-
-no_refusal : (value : Ipld) (b : List ℕ) (e : DecodeError Infallible) → IsWhole Some any_need b (tree_of value) → WholeRefused ⊥ Some any_need (Some b) e → IsReadBack value (Err e)
-no_refusal value b (Read e) h r = r
-no_refusal value b OutOfMemory h r = tt
-no_refusal value b (RequireBorrowed name) h r = r
-no_refusal value b Failed h r = r
-no_refusal value b _ h r = r (tree_of value) h
+read_then_written b value written h w = typed_read_then_written tree_of Some any_need (λ v. Some (tree_of v)) b value written (λ t e. sym e) h w
 
 pub written_then_read : WrittenThenRead
-written_then_read value v (Ok copy) w within r = (front_unique v.items [] [] (tree_of copy) (tree_of value) (whole_front (spelling_read v.items copy r)) (whole_front w)).0
-written_then_read value v (Err e) w within r = no_refusal value v.items e (tree_of value, w, refl, within) r
+written_then_read value v read w within r = typed_written_then_read tree_of Some any_need (λ v. Some (tree_of v)) value (tree_of value) (tree_of value) v read refl refl within w r

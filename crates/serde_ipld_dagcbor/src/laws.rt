@@ -1,19 +1,32 @@
 //! Laws, each the contract of a function that does nothing: those of the grammar, those of streams, and those of reading and writing.
 
-ghost use Rattle.serde_ipld_dagcbor.specs.RoundTrips.{ReadThenWritten, WrittenThenRead};
+ghost use Rattle.serde_ipld_dagcbor.specs.RoundTrips.{ReadThenWritten, TypedReadThenWritten, WrittenThenRead, TypedWrittenThenRead};
 
+use dagcbor_read::Deserialize;
 pub use dagcbor_read::laws::{stream_unique, streams_exact};
+use dagcbor_write::Serialize;
 pub use dagcbor_write::laws::order_unseen;
 pub use ipld_tree::laws::{
     cid_equality, cid_faults, equality, key_order, spelled_is_the_spelling, spelling_unique,
 };
 
-/// Bytes that `from_slice` reads, `to_vec` writes again.
+/// Bytes that `from_slice` reads as an `Ipld`, `to_vec` writes again.
 pub fn read_then_written()
     ensures { ReadThenWritten }
 {}
 
-/// What `to_vec` writes, `from_slice` reads back, where its need is at most 256.
+/// The same for a value of any type whose tree is the one that it was read from. Not each is:
+/// `Some(None)` is null, which is read as `None`.
+pub fn typed_read_then_written<'de, T: Deserialize<'de> + Serialize>()
+    ensures { TypedReadThenWritten T.held T.view T.need T.tree }
+{}
+
+/// What `to_vec` writes of an `Ipld`, `from_slice` reads back, where its need is at most 256.
 pub fn written_then_read()
     ensures { WrittenThenRead }
+{}
+
+/// The same for a value of any type: it is read as what its tree shows to the type.
+pub fn typed_written_then_read<'de, T: Deserialize<'de> + Serialize>()
+    ensures { TypedWrittenThenRead T.held T.view T.need T.tree }
 {}

@@ -1,23 +1,28 @@
 //! DAG-CBOR, read and written with proofs: the names of the crate `serde_ipld_dagcbor`.
 #![tactic(auto)]
 
+pub mod codec;
+pub mod de;
+pub mod error;
 pub mod laws;
+pub mod ser;
 
 pub use dagcbor_heads::{
     ArithmeticOverflow, BufWriter, DecodeError, EncodeError, Input, IoReader, IoRefReader,
-    IoRefWriter, IoWriter, Len, Name, Read, Reference, SliceReader, Tally, Write, is_at_end,
-    is_indefinite, peek_one, pull_head, pull_one, pull_payload, pull_short_payload, push_head,
+    IoRefWriter, IoWriter, Len, Message, Name, Read, Reference, SliceReader, Tally, Write,
+    is_at_end, is_indefinite, peek_one, pull_head, pull_one, pull_payload, pull_short_payload,
+    push_head,
 };
 pub use dagcbor_read::{
-    Accessor, Deserialize, DeserializeOwned, Deserializer, EnumAccessor, Fields, IgnoredAny, Shown,
-    StreamDeserializer, Variants, any_from_slice, from_reader, from_reader_once, from_slice,
-    iter_from_reader, read_enum, read_fields, read_into, read_struct, read_struct_variant,
-    skip_value,
+    Accessor, Deserialize, DeserializeOwned, Deserializer, EnumAccessor, Fields, IgnoredAny, Kind,
+    Shown, StreamDeserializer, Variants, any_from_slice, check_slice, from_reader,
+    from_reader_once, from_slice, iter_from_reader, links_from_slice, read_enum, read_fields,
+    read_into, read_struct, read_struct_variant, skip_value,
 };
 pub use dagcbor_write::{
     BoundedCollect, CollectMap, CollectSeq, Serialize, Serializer, to_vec, to_writer,
 };
-pub use ipld_tree::{ByteSlice, Bytes, Cid, CidError, Ipld};
+pub use ipld_tree::{ByteSlice, Bytes, Cid, CidError, CidIter, Codec, Ipld, Links};
 
 /// The code of DAG-CBOR among the codes of formats (the multicodec table).
 pub const DAG_CBOR_CODE: u64 = 0x71;

@@ -1,8 +1,10 @@
 //! Rows from outside, each public call once, and devices that show little or fail.
 
 mod alike;
+mod all_links;
 mod bag;
 mod calls;
+mod codec;
 mod color;
 mod data_enum;
 mod devices;
@@ -12,19 +14,25 @@ mod io;
 mod kinded;
 mod leaves;
 mod links;
+mod maps;
 mod mascot;
+mod minimal;
 mod my_struct;
 mod newtype;
 mod one;
 mod one_by_loop;
 mod optional_person;
 mod person;
+mod readme;
 mod required;
 mod second;
+mod skips;
 mod states;
 mod std_devices;
 mod streams;
 mod tagged;
+mod told;
 mod trees;
 mod typed;
 mod typed_reads;
+mod vectors;

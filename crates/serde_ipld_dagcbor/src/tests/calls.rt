@@ -1,6 +1,6 @@
 //! Each call of a `Serializer` and of its collectors.
 
-use crate::{BufWriter, EncodeError, Serializer};
+use crate::{BufWriter, EncodeError, Message, Serializer};
 use std::alloc::Global;
 use std::convert::Infallible;
 use std::test::Fail;
@@ -9,10 +9,10 @@ fn in_memory(alloc: Global) -> Serializer<BufWriter> {
     Serializer::new(BufWriter::new(Vec::new(alloc)))
 }
 
-fn message(answer: Result<(), EncodeError<Infallible>>) -> &'static str {
+fn message(answer: Result<(), EncodeError<Infallible>>) -> Message {
     match answer {
         Err(EncodeError::Msg(message)) => message,
-        _ => "",
+        _ => Message::new(""),
     }
 }
 
@@ -100,7 +100,7 @@ fn a_map_with_two_equal_keys(rt: HostRuntime) -> Result<(), Fail> {
     let mut map = ser.serialize_map(rt.alloc(), Some(2));
     map.serialize_entry(&"a", &1u8)?;
     map.serialize_entry(&"a", &2u8)?;
-    assert_eq!(rt; message(map.end()), "Map keys must be unique");
+    assert_eq!(rt; message(map.end()).as_str(), "Map keys must be unique");
     assert_eq!(rt; ser.into_inner().buffer(), b"".as_slice());
     Ok(())
 }
@@ -119,12 +119,25 @@ fn a_list_that_ends_before_its_number_is_known(rt: HostRuntime) -> Result<(), Fa
 }
 
 #[test]
+fn a_list_of_an_announced_number(rt: HostRuntime) -> Result<(), Fail> {
+    let mut ser = in_memory(rt.alloc());
+    let mut list = ser.serialize_seq(rt.alloc(), Some(2))?;
+    list.serialize_element(&1u8)?;
+    assert_eq!(rt; list.left(), Some(1));
+    list.serialize_element(&"a")?;
+    assert_eq!(rt; list.left(), Some(0));
+    list.end()?;
+    assert_eq!(rt; ser.into_inner().buffer(), b"\x82\x01\x61a".as_slice());
+    Ok(())
+}
+
+#[test]
 fn elements_without_a_spelling(rt: HostRuntime) -> Result<(), Fail> {
     let large = 18_446_744_073_709_551_616u128;
     let mut ser = in_memory(rt.alloc());
     let mut list = ser.serialize_seq(rt.alloc(), None)?;
     assert_eq!(rt;
-        message(list.serialize_element(&large)),
+        message(list.serialize_element(&large)).as_str(),
         "List element cannot be serialized"
     );
     drop(list);
@@ -133,7 +146,7 @@ fn elements_without_a_spelling(rt: HostRuntime) -> Result<(), Fail> {
     let mut list = ser.serialize_seq(rt.alloc(), Some(1))?;
     assert_eq!(rt; list.left(), Some(1));
     assert_eq!(rt;
-        message(list.serialize_element(&large)),
+        message(list.serialize_element(&large)).as_str(),
         "Unsigned integer must be within [0, u64::MAX] range"
     );
     drop(list);

@@ -6,7 +6,7 @@ ghost use Rattle.dagcbor_write.specs.Trees.{variant_tree};
 ghost use Rattle.serde_ipld_dagcbor.specs.Color.{ColorView, is_red, is_blue, is_yellow, is_other, is_alpha, unit_color, part_color, need_part_color, view_color, need_color};
 ghost use Rattle.serde_ipld_dagcbor.specs.declared.tests.color.Color.TheVariants.{Red, Blue, Yellow, Other, Alpha};
 
-use crate::tests::typed_reads::tells;
+use crate::tests::told::tells;
 use crate::{
     DecodeError, Deserialize, Deserializer, EncodeError, EnumAccessor, Read, Serialize, Serializer,
     Shown, Variants, Write, read_enum, to_vec,
@@ -141,42 +141,34 @@ fn variants_are_written(rt: HostRuntime) -> Result<(), Fail> {
 #[test]
 fn variants_are_read(rt: HostRuntime) -> Result<(), Fail> {
     let alloc = rt.alloc();
-    assert!(rt; tells::<Color>(alloc, b"\x64Blue", "Ok(Blue)")?);
-    assert!(rt; tells::<Color>(alloc, b"\xa1\x65Other\x18\x2a", "Ok(Other(42))")?);
-    assert!(rt;
-        tells::<Color>(
-            alloc,
-            b"\xa1\x65Alpha\x82\x1a\x00\x03\x94\x47\x18\x3c",
-            "Ok(Alpha(234567, 60))"
-        )?
-    );
+    tells::<Color>(alloc, b"\x64Blue", "Ok(Blue)")?;
+    tells::<Color>(alloc, b"\xa1\x65Other\x18\x2a", "Ok(Other(42))")?;
+    tells::<Color>(
+        alloc,
+        b"\xa1\x65Alpha\x82\x1a\x00\x03\x94\x47\x18\x3c",
+        "Ok(Alpha(234567, 60))",
+    )?;
     Ok(())
 }
 
 #[test]
 fn what_is_no_variant_is_refused(rt: HostRuntime) -> Result<(), Fail> {
     let alloc = rt.alloc();
-    assert!(rt;
-        tells::<Color>(
-            alloc,
-            b"\xa1\x64Blue",
-            r#"Err(Mismatch { name: "enum", found: 161 })"#
-        )?
-    );
-    assert!(rt;
-        tells::<Color>(
-            alloc,
-            b"\xa2\x64Blue",
-            r#"Err(Mismatch { name: "enum", found: 162 })"#
-        )?
-    );
-    assert!(rt;
-        tells::<Color>(
-            alloc,
-            b"\xb8\x01\x64Blue",
-            r#"Err(Mismatch { name: "enum", found: 184 })"#
-        )?
-    );
-    assert!(rt; tells::<Color>(alloc, b"\x61z", r#"Err(Msg("unknown variant"))"#)?);
+    tells::<Color>(
+        alloc,
+        b"\xa1\x64Blue",
+        r#"Err(Mismatch { name: "enum", found: 161 })"#,
+    )?;
+    tells::<Color>(
+        alloc,
+        b"\xa2\x64Blue",
+        r#"Err(Mismatch { name: "enum", found: 162 })"#,
+    )?;
+    tells::<Color>(
+        alloc,
+        b"\xb8\x01\x64Blue",
+        r#"Err(Mismatch { name: "enum", found: 184 })"#,
+    )?;
+    tells::<Color>(alloc, b"\x61z", r#"Err(Msg("unknown variant"))"#)?;
     Ok(())
 }

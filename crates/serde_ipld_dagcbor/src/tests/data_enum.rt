@@ -7,7 +7,7 @@ ghost use Rattle.serde_ipld_dagcbor.specs.DataEnum.{DataView, is_a, is_b, is_c, 
 ghost use Rattle.serde_ipld_dagcbor.specs.declared.tests.data_enum.DataEnum.TheVariants.{A, B, C};
 
 use crate::tests::required::required;
-use crate::tests::typed_reads::tells;
+use crate::tests::told::tells;
 use crate::{
     DecodeError, Deserialize, Deserializer, EncodeError, EnumAccessor, Fields, Read, Serialize,
     Serializer, Shown, Variants, Write, read_enum, read_into, read_struct_variant, skip_value,
@@ -160,34 +160,28 @@ fn variants_with_parts_are_written(rt: HostRuntime) -> Result<(), Fail> {
 #[test]
 fn variants_with_parts_are_read(rt: HostRuntime) -> Result<(), Fail> {
     let alloc = rt.alloc();
-    assert!(rt; tells::<DataEnum>(alloc, b"\xa1\x61A\x04", "Ok(A(4))")?);
-    assert!(rt; tells::<DataEnum>(alloc, b"\xa1\x61B\x82\xf5\x05", "Ok(B(true, 5))")?);
-    assert!(rt;
-        tells::<DataEnum>(
-            alloc,
-            b"\xa1\x61C\xa2\x61x\x06\x61y\x61z",
-            r#"Ok(C { x: 6, y: "z" })"#
-        )?
-    );
+    tells::<DataEnum>(alloc, b"\xa1\x61A\x04", "Ok(A(4))")?;
+    tells::<DataEnum>(alloc, b"\xa1\x61B\x82\xf5\x05", "Ok(B(true, 5))")?;
+    tells::<DataEnum>(
+        alloc,
+        b"\xa1\x61C\xa2\x61x\x06\x61y\x61z",
+        r#"Ok(C { x: 6, y: "z" })"#,
+    )?;
     Ok(())
 }
 
 #[test]
 fn variants_without_their_parts_are_refused(rt: HostRuntime) -> Result<(), Fail> {
     let alloc = rt.alloc();
-    assert!(rt;
-        tells::<DataEnum>(
-            alloc,
-            b"\x61A\x04",
-            r#"Err(Mismatch { name: "enum", found: 97 })"#
-        )?
-    );
-    assert!(rt;
-        tells::<DataEnum>(
-            alloc,
-            b"\xa1\x61C\xa1\x61x\x06",
-            r#"Err(Msg("missing field"))"#
-        )?
-    );
+    tells::<DataEnum>(
+        alloc,
+        b"\x61A\x04",
+        r#"Err(Mismatch { name: "enum", found: 97 })"#,
+    )?;
+    tells::<DataEnum>(
+        alloc,
+        b"\xa1\x61C\xa1\x61x\x06",
+        r#"Err(Msg("missing field"))"#,
+    )?;
     Ok(())
 }

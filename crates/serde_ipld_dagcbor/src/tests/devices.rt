@@ -16,6 +16,7 @@ pub struct Pieces<'a> {
     fills: u64,
     faulty: u64,
     faults: Tally,
+    looked: Tally,
 }
 
 impl<'a> Model for Pieces<'a> {
@@ -31,6 +32,7 @@ impl<'a> Model for Pieces<'a> {
       budget = 256;
       lends = false;
       faults = s.faults.count;
+      looked = s.looked.count;
       through = [];
     } };
 
@@ -57,6 +59,7 @@ impl<'a> Pieces<'a> {
             fills: 0,
             faulty,
             faults: Tally::new(),
+            looked: Tally::new(),
         }
     }
 }
@@ -66,7 +69,7 @@ impl Read for Pieces<'_> {
 
     ghost reading = { λ s. s };
 
-    fn prepare(&mut self, _want: usize) -> Result<(), u8> {
+    fn prepare(&mut self, want: usize) -> Result<(), u8> {
         self.fills = self.fills.saturating_add(1);
         if self.fills == self.faulty {
             self.shown = 0;
@@ -74,6 +77,7 @@ impl Read for Pieces<'_> {
             return Err(7);
         }
         self.shown = self.rest.len().min(self.size);
+        self.looked.add(want.min(self.shown));
         Ok(())
     }
 
@@ -84,6 +88,7 @@ impl Read for Pieces<'_> {
     fn advance(&mut self, n: usize) {
         self.rest = &self.rest[n..];
         self.shown = 0;
+        self.looked.add(n);
     }
 
     fn step_in(&mut self) -> bool {

@@ -1,9 +1,10 @@
 //! Bytes, heads and payloads off a reader, and heads onto a writer.
 
 use crate::tests::devices::Pieces;
+use crate::tests::told::{agree, is_told};
 use crate::{
-    BufWriter, DecodeError, Input, Len, Read, Reference, SliceReader, Tally, is_at_end,
-    is_indefinite, laws, peek_one, pull_head, pull_one, pull_payload, push_head,
+    BufWriter, Input, Read, SliceReader, Tally, is_at_end, is_indefinite, laws, peek_one,
+    pull_head, pull_one, pull_payload, push_head,
 };
 use std::borrow::CowSlice;
 use std::mem::size_of;
@@ -22,12 +23,12 @@ fn heads_both_ways(rt: HostRuntime) -> Result<(), Fail> {
     for (major, argument, head) in rows {
         let mut writer = BufWriter::new(Vec::new(rt.alloc()));
         push_head(&mut writer, major, argument)?;
-        assert_eq!(rt; writer.buffer(), head);
+        agree(writer.buffer(), head)?;
         for size in [1, 2, 9] {
             let mut reader = Pieces::new(head, size);
             let (read_major, read_argument, _) = pull_head("any", &mut reader)?;
-            assert_eq!(rt; (read_major, read_argument), (major, argument));
-            assert!(rt; is_at_end(&mut reader)?);
+            agree((read_major, read_argument), (major, argument))?;
+            agree(is_at_end(&mut reader)?, true)?;
         }
     }
     Ok(())
@@ -36,86 +37,64 @@ fn heads_both_ways(rt: HostRuntime) -> Result<(), Fail> {
 #[test]
 fn bytes_are_looked_at_and_taken(rt: HostRuntime) -> Result<(), Fail> {
     let mut reader = Pieces::new(b"ab", 1);
-    assert_eq!(rt; peek_one("any", &mut reader)?, b'a');
-    assert_eq!(rt; pull_one("any", &mut reader)?, b'a');
-    assert_eq!(rt; pull_one("any", &mut reader)?, b'b');
-    let end = pull_one("any", &mut reader);
-    assert!(rt;
-        matches!(
-            end,
-            Err(DecodeError::Eof {
-                expect: Len::Small(1),
-                ..
-            })
-        )
-    );
-    let end = peek_one("any", &mut reader);
-    assert!(rt;
-        matches!(
-            end,
-            Err(DecodeError::Eof {
-                expect: Len::Small(1),
-                ..
-            })
-        )
-    );
-    assert!(rt; is_indefinite(0x9f));
-    assert!(rt; !is_indefinite(0x9e));
-    Ok(())
+    agree(peek_one("any", &mut reader)?, b'a')?;
+    agree(pull_one("any", &mut reader)?, b'a')?;
+    agree(pull_one("any", &mut reader)?, b'b')?;
+    let end = r#"Err(Eof { name: "any", expect: Small(1) })"#;
+    is_told(rt.alloc(), &pull_one("any", &mut reader), end)?;
+    is_told(rt.alloc(), &peek_one("any", &mut reader), end)?;
+    agree((is_indefinite(0x9f), is_indefinite(0x9e)), (true, false))
 }
 
 #[test]
-fn payloads_are_lent_by_slices_alone(rt: HostRuntime) -> Result<(), Fail> {
-    let alloc = rt.alloc();
+fn payloads_are_lent_by_slices(rt: HostRuntime) -> Result<(), Fail> {
     let mut slice: Input<Pieces> = Input::Slice(SliceReader::new(b"abcd"));
-    let lent = pull_payload(alloc, "bytes", &mut slice, 3)?;
-    assert!(rt; matches!(lent, CowSlice::Borrowed(b"abc")));
-    let cut = pull_payload(alloc, "bytes", &mut slice, 70_000);
-    assert!(rt;
-        matches!(
-            cut,
-            Err(DecodeError::Eof {
-                expect: Len::Big,
-                ..
-            })
-        )
-    );
-
-    let mut reader = Input::Reader(Pieces::new(b"abcd", 2));
-    let gathered = pull_payload(alloc, "bytes", &mut reader, 3)?;
-    assert!(rt; matches!(gathered, CowSlice::Owned(_)));
-    assert_eq!(rt; gathered.as_slice(), b"abc".as_slice());
-    let cut = pull_payload(alloc, "bytes", &mut reader, 2);
-    assert!(rt;
-        matches!(
-            cut,
-            Err(DecodeError::Eof {
-                expect: Len::Small(2),
-                ..
-            })
-        )
-    );
-    Ok(())
+    let lent = pull_payload(rt.alloc(), "bytes", &mut slice, 3)?;
+    agree(matches!(lent, CowSlice::Borrowed(b"abc")), true)?;
+    let cut = pull_payload(rt.alloc(), "bytes", &mut slice, 70_000).err();
+    is_told(
+        rt.alloc(),
+        &cut,
+        r#"Some(Eof { name: "bytes", expect: Big })"#,
+    )
 }
 
 #[test]
-fn inputs_show_and_step(rt: HostRuntime) -> Result<(), Fail> {
+fn payloads_are_gathered_by_readers(rt: HostRuntime) -> Result<(), Fail> {
+    let mut reader = Input::Reader(Pieces::new(b"abcd", 2));
+    let gathered = pull_payload(rt.alloc(), "bytes", &mut reader, 3)?;
+    agree(matches!(gathered, CowSlice::Owned(_)), true)?;
+    agree(gathered.as_slice(), b"abc".as_slice())?;
+    let cut = pull_payload(rt.alloc(), "bytes", &mut reader, 2).err();
+    is_told(
+        rt.alloc(),
+        &cut,
+        r#"Some(Eof { name: "bytes", expect: Small(2) })"#,
+    )
+}
+
+#[test]
+fn inputs_show_what_they_have(rt: HostRuntime) -> Result<(), Fail> {
     let mut slice: Input<Pieces> = Input::Slice(SliceReader::new(b"ab"));
-    assert!(rt; matches!(slice.fill(1)?, Reference::Long(_)));
-    assert!(rt; matches!(slice.shown(), Reference::Long(b"ab")));
+    is_told(rt.alloc(), &slice.fill(1), "Ok(Long([97, 98]))")?;
+    is_told(rt.alloc(), &slice.shown(), "Long([97, 98])")?;
     let mut reader = Input::Reader(Pieces::new(b"ab", 1));
-    assert!(rt; matches!(reader.fill(2)?, Reference::Short(b"a")));
-    assert!(rt; matches!(reader.shown(), Reference::Short(b"a")));
+    is_told(rt.alloc(), &reader.fill(2), "Ok(Short([97]))")?;
+    is_told(rt.alloc(), &reader.shown(), "Short([97])")
+}
+
+#[test]
+fn a_slice_shows_and_steps(rt: HostRuntime) -> Result<(), Fail> {
     let mut plain = SliceReader::new(b"ab");
-    assert_eq!(rt; plain.fill(1)?, b"ab".as_slice());
+    agree(plain.fill(1)?, b"ab".as_slice())?;
     assert!(rt; plain.step_in());
     plain.step_out();
     Ok(())
 }
 
 #[test]
-fn counts_take_no_bytes(rt: HostRuntime) -> Result<(), Fail> {
-    assert_eq!(rt; size_of::<Tally>(), 0);
+fn counts_take_no_bytes(_rt: HostRuntime) -> Result<(), Fail> {
+    agree(size_of::<Tally>(), 0)?;
     laws::spelling_unique();
     laws::key_order();
     laws::equality();

@@ -1,6 +1,7 @@
 //! Values from buffered sources of std and to devices of std, however little they show or take at once.
 
 use crate::tests::std_devices::{Sink, Source};
+use crate::tests::told::is_told;
 use crate::{
     Cid, DecodeError, Deserialize, Deserializer, EncodeError, IoReader, Ipld, from_reader,
     from_reader_once, from_slice, to_writer,
@@ -13,6 +14,16 @@ fn a_character_is_gathered(rt: HostRuntime) -> Result<(), Fail> {
     let text: String = from_reader(rt.alloc(), Source::new(b"\x62\xc3\xa9", 1))?;
     assert_eq!(rt; text.as_str(), "é");
     Ok(())
+}
+
+#[test]
+fn a_cut_character_is_refused(rt: HostRuntime) -> Result<(), Fail> {
+    let refused = from_reader::<String, Source<'_>>(rt.alloc(), Source::new(b"\x61\xc3", 1));
+    is_told(
+        rt.alloc(),
+        &refused,
+        r#"Err(RequireUtf8 { name: "string" })"#,
+    )
 }
 
 #[test]

@@ -1,7 +1,7 @@
 //! Leaves, written and read: the examples of the format, and what is refused by which name.
 
-use crate::tests::alike::{beginnings_are_cut, reads_alike};
-use crate::{EncodeError, Ipld, from_slice, to_vec};
+use crate::tests::alike::{beginnings_are_cut, goes_both_ways, is_refused};
+use crate::{EncodeError, Ipld, to_vec};
 use std::alloc::{AllocError, Global};
 use std::test::Fail;
 
@@ -45,14 +45,8 @@ fn integers_both_ways(rt: HostRuntime) -> Result<(), Fail> {
         (0, b"\x00"),
     ];
     for (number, spelling) in rows {
-        assert!(rt; reads_alike(rt.alloc(), spelling)?, "{number}");
-        assert!(rt; beginnings_are_cut(rt.alloc(), spelling)?, "{number}");
-        let written = to_vec(rt.alloc(), &Ipld::Integer(number))?;
-        assert_eq!(rt; written.as_slice(), spelling, "{number}");
-        assert!(rt;
-            from_slice::<Ipld>(rt.alloc(), spelling)? == Ipld::Integer(number),
-            "{number}"
-        );
+        goes_both_ways(rt.alloc(), &Ipld::Integer(number), spelling)?;
+        beginnings_are_cut(rt.alloc(), spelling)?;
     }
     Ok(())
 }
@@ -62,7 +56,7 @@ fn integers_without_a_spelling(rt: HostRuntime) -> Result<(), Fail> {
     for number in [18_446_744_073_709_551_616, -18_446_744_073_709_551_617] {
         match to_vec(rt.alloc(), &Ipld::Integer(number)) {
             Err(EncodeError::Msg(message)) => assert_eq!(rt;
-                message,
+                message.as_str(),
                 "Integer must be within [-u64::MAX-1, u64::MAX] range"
             ),
             _ => panic!(rt; "{number} has no spelling"),
@@ -87,10 +81,8 @@ fn other_leaves_both_ways(rt: HostRuntime) -> Result<(), Fail> {
         (bytes(alloc, b"\xaf\xfe")?, b"\x42\xaf\xfe"),
     ];
     for (value, spelling) in rows {
-        assert!(rt; reads_alike(alloc, spelling)?);
-        assert!(rt; beginnings_are_cut(alloc, spelling)?);
-        assert_eq!(rt; to_vec(alloc, &value)?.as_slice(), spelling);
-        assert!(rt; from_slice::<Ipld>(alloc, spelling)? == value);
+        goes_both_ways(alloc, &value, spelling)?;
+        beginnings_are_cut(alloc, spelling)?;
     }
     Ok(())
 }
@@ -105,18 +97,16 @@ fn long_byte_strings_both_ways(rt: HostRuntime) -> Result<(), Fail> {
     ];
     for (length, head) in rows {
         let value = Ipld::Bytes(vec![in alloc; 0xa5; length]?);
-        let written = to_vec(alloc, &value)?;
-        assert!(rt; written.starts_with(head), "{length}");
-        assert_eq!(rt; written.len(), head.len() + length);
-        assert!(rt; from_slice::<Ipld>(alloc, &written)? == value, "{length}");
-        assert!(rt; reads_alike(alloc, &written)?, "{length}");
+        let mut spelling = Vec::from_slice(alloc, head)?;
+        spelling.resize(head.len() + length, 0xa5)?;
+        goes_both_ways(alloc, &value, &spelling)?;
     }
     Ok(())
 }
 
 #[test]
 fn refusals_name_their_cause(rt: HostRuntime) -> Result<(), Fail> {
-    let rows: [(&[u8], &str); 15] = [
+    let rows: [(&[u8], &str); 18] = [
         (b"\x18\x17", r#"NonMinimal { name: "u64", found: 24 }"#),
         (b"\x38\x05", r#"NonMinimal { name: "any", found: 56 }"#),
         (b"\x19\x01", r#"Eof { name: "u64", expect: Small(2) }"#),
@@ -139,18 +129,20 @@ fn refusals_name_their_cause(rt: HostRuntime) -> Result<(), Fail> {
             b"\x79\xff\xff\x61",
             r#"Eof { name: "string", expect: Small(65535) }"#,
         ),
+        (
+            b"\x7a\x00\x01\x00\x00\x61",
+            r#"Eof { name: "string", expect: Big }"#,
+        ),
+        (
+            b"\x7a\x00\x00\xff\xff\x61",
+            r#"NonMinimal { name: "string", found: 122 }"#,
+        ),
+        (b"\x63\xed\xa0\x80", r#"RequireUtf8 { name: "string" }"#),
         (b"\x7f\x61\x61\xff", "IndefiniteSize"),
         (b"\xf4trailing", "TrailingData"),
     ];
     for (input, told) in rows {
-        assert!(rt; reads_alike(rt.alloc(), input)?, "{input:?}");
-        match from_slice::<Ipld>(rt.alloc(), input) {
-            Ok(_) => panic!(rt; "{input:?} was read"),
-            Err(refusal) => {
-                let text = format!(in rt.alloc(); "{refusal}")?;
-                assert_eq!(rt; text.as_str(), told);
-            }
-        }
+        is_refused(rt.alloc(), input, told)?;
     }
     Ok(())
 }

@@ -1,8 +1,9 @@
 //! Links, read and written.
 
-use crate::tests::alike::{beginnings_are_cut, reads_alike};
+use crate::tests::alike::{beginnings_are_cut, goes_both_ways, is_refused};
 use crate::tests::devices::Pieces;
-use crate::{BufWriter, Cid, Deserializer, Ipld, Serializer, from_slice, to_vec};
+use crate::tests::told::{agree, is_told};
+use crate::{BufWriter, Cid, Deserializer, Ipld, Serializer, from_slice};
 use std::alloc::{AllocError, Global};
 use std::test::Fail;
 
@@ -19,40 +20,34 @@ pub(crate) fn joined(alloc: Global, parts: &[&[u8]]) -> Result<Vec<u8>, AllocErr
     Ok(bytes)
 }
 
+/// Fails where the parts do not make so many bytes that are read, and written again.
+fn is_read_and_written(alloc: Global, parts: &[&[u8]], length: usize) -> Result<(), Fail> {
+    let bytes = joined(alloc, parts)?;
+    agree(bytes.len(), length)?;
+    beginnings_are_cut(alloc, &bytes)?;
+    goes_both_ways(alloc, &from_slice(alloc, &bytes)?, &bytes)
+}
+
 #[test]
 fn links_are_read_and_written(rt: HostRuntime) -> Result<(), Fail> {
     let alloc = rt.alloc();
-    let rows = [
-        (joined(alloc, &[LINK])?, 41),
-        (
-            joined(
-                alloc,
-                &[b"\xa2\x63\x63\x69\x64", LINK, b"\x64\x64\x61\x74\x61\xf5"],
-            )?,
-            52,
-        ),
-        (
-            joined(
-                alloc,
-                &[
-                    b"\xa3\x62\x6f\x72\x82",
-                    LINK,
-                    LINK,
-                    b"\x63\x66\x6f\x6f\xf5\x64\x73\x6f\x6d\x65\xa1\x66\x6e\x65\x73\x74\x65\x64",
-                    LINK,
-                ],
-            )?,
-            146,
-        ),
-    ];
-    for (bytes, length) in rows {
-        assert_eq!(rt; bytes.len(), length);
-        assert!(rt; reads_alike(alloc, &bytes)?);
-        assert!(rt; beginnings_are_cut(alloc, &bytes)?);
-        let value: Ipld = from_slice(alloc, &bytes)?;
-        assert_eq!(rt; to_vec(alloc, &value)?.as_slice(), bytes.as_slice());
-    }
-    Ok(())
+    is_read_and_written(alloc, &[LINK], 41)?;
+    is_read_and_written(
+        alloc,
+        &[b"\xa2\x63\x63\x69\x64", LINK, b"\x64\x64\x61\x74\x61\xf5"],
+        52,
+    )?;
+    is_read_and_written(
+        alloc,
+        &[
+            b"\xa3\x62\x6f\x72\x82",
+            LINK,
+            LINK,
+            b"\x63\x66\x6f\x6f\xf5\x64\x73\x6f\x6d\x65\xa1\x66\x6e\x65\x73\x74\x65\x64",
+            LINK,
+        ],
+        146,
+    )
 }
 
 #[test]
@@ -73,28 +68,37 @@ fn a_link_names_its_block(rt: HostRuntime) -> Result<(), Fail> {
     Ok(())
 }
 
+/// The parts of a CID, as text.
+fn parts(cid: Cid, alloc: Global) -> Result<String, Fail> {
+    let parts = (cid.version(), cid.codec(), cid.hash_code());
+    Ok(format!(in alloc; "{parts:?} {:?}", cid.digest())?)
+}
+
 #[test]
 fn a_cid_is_read_however_it_comes(rt: HostRuntime) -> Result<(), Fail> {
+    let alloc = rt.alloc();
     let input = b"\xd8\x2a\x49\x00\x01\xce\x01\x9b\x01\x02\x63\xc8";
     for size in [1, 4, 64] {
         let mut de = Deserializer::from_reader(Pieces::new(input, size));
-        let cid = de.deserialize_cid()?;
-        assert_eq!(rt;
-            (cid.version(), cid.codec(), cid.hash_code()),
-            (1, 206, 155),
-            "{size}"
-        );
-        assert_eq!(rt; cid.digest(), b"\x63\xc8".as_slice(), "{size}");
-        assert!(rt; de.end().is_ok(), "{size}");
+        let told = parts(de.deserialize_cid()?, alloc)?;
+        agree(told.as_str(), "(1, 206, 155) [99, 200]")?;
+        is_told(alloc, &de.end(), "Ok(())")?;
     }
     let cid = Deserializer::from_slice(input).deserialize_cid()?;
-    assert!(rt; cid == Cid::new_v1(206, 155, b"\x63\xc8")?);
-    Ok(())
+    agree(cid, Cid::new_v1(206, 155, b"\x63\xc8")?)
+}
+
+/// Fails where a link is read, or refused otherwise than told.
+fn is_no_link(alloc: Global, input: &[u8], told: &str) -> Result<(), Fail> {
+    match Deserializer::from_slice(input).deserialize_cid() {
+        Ok(_) => Err(Fail::new(format_args!("{input:?} was read"))),
+        Err(refusal) => is_told(alloc, &refusal, told),
+    }
 }
 
 #[test]
 fn refusals_of_links_name_their_cause(rt: HostRuntime) -> Result<(), Fail> {
-    let rows: [(&[u8], &str); 11] = [
+    let rows: [(&[u8], &str); 13] = [
         (b"\xd8\x2a\x40", r#"Msg("Invalid CID")"#),
         (b"\xd8\x2a\x41\x00", r#"Msg("Invalid CID")"#),
         (
@@ -116,17 +120,20 @@ fn refusals_of_links_name_their_cause(rt: HostRuntime) -> Result<(), Fail> {
             b"\xd8\x28\x42\x00\x01",
             r#"Mismatch { name: "CBOR tag", found: 40 }"#,
         ),
+        (
+            b"\xda\x00\x00\x00\x2a\x43\x00\x01\x02",
+            r#"Mismatch { name: "CBOR tag head", found: 218 }"#,
+        ),
+        (
+            b"\xdb\x00\x00\x00\x00\x00\x00\x00\x2a\x43\x00\x01\x02",
+            r#"Mismatch { name: "CBOR tag head", found: 219 }"#,
+        ),
         (b"\xd8", r#"Eof { name: "tag", expect: Small(1) }"#),
         (b"\xd8\x2a", r#"Eof { name: "cid", expect: Small(1) }"#),
     ];
     for (input, told) in rows {
-        assert!(rt; reads_alike(rt.alloc(), input)?, "{input:?}");
-        let text = format!(in rt.alloc(); "{:?}", from_slice::<Ipld>(rt.alloc(), input))?;
-        let wanted = format!(in rt.alloc(); "Err({told})")?;
-        assert_eq!(rt; text.as_str(), wanted.as_str());
-        let refused = Deserializer::from_slice(input).deserialize_cid();
-        let text = format!(in rt.alloc(); "{refused:?}")?;
-        assert_eq!(rt; text.as_str(), wanted.as_str());
+        is_refused(rt.alloc(), input, told)?;
+        is_no_link(rt.alloc(), input, told)?;
     }
     Ok(())
 }
@@ -136,27 +143,21 @@ fn what_begins_no_link(rt: HostRuntime) -> Result<(), Fail> {
     let rows: [(&[u8], &str); 3] = [
         (
             b"\x42\xaf\xfe",
-            r#"Err(Mismatch { name: "CBOR tag head", found: 66 })"#,
+            r#"Mismatch { name: "CBOR tag head", found: 66 }"#,
         ),
         (
             &LINK[2..],
-            r#"Err(Mismatch { name: "CBOR tag head", found: 88 })"#,
+            r#"Mismatch { name: "CBOR tag head", found: 88 }"#,
         ),
-        (b"", r#"Err(Eof { name: "tag head", expect: Small(1) })"#),
+        (b"", r#"Eof { name: "tag head", expect: Small(1) }"#),
     ];
     for (input, told) in rows {
-        let refused = Deserializer::from_slice(input).deserialize_cid();
-        let text = format!(in rt.alloc(); "{refused:?}")?;
-        assert_eq!(rt; text.as_str(), told);
+        is_no_link(rt.alloc(), input, told)?;
     }
-    let mut tags = Vec::new(rt.alloc());
-    for _i in 0..1000 {
-        tags.push(0xd1)?;
-    }
-    let text = format!(in rt.alloc(); "{:?}", from_slice::<Ipld>(rt.alloc(), &tags))?;
-    assert_eq!(rt;
-        text.as_str(),
-        r#"Err(Mismatch { name: "CBOR tag head", found: 209 })"#
-    );
-    Ok(())
+    let tags = [0xd1u8].repeat(rt.alloc(), 1000)?;
+    is_refused(
+        rt.alloc(),
+        &tags,
+        r#"Mismatch { name: "CBOR tag head", found: 209 }"#,
+    )
 }

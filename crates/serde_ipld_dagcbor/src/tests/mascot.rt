@@ -7,18 +7,18 @@ ghost use Rattle.serde_ipld_dagcbor.specs.Mascot.{MascotView, SeenMascot, take_m
 
 use crate::tests::required::required;
 use crate::tests::std_devices::{Sink, Source};
+use crate::tests::told::{agree, is_told, tells, writes};
 use crate::{
     DecodeError, Deserialize, DeserializeOwned, Deserializer, EncodeError, Fields, Read, Serialize,
-    Serializer, Shown, Write, from_reader, from_slice, read_into, read_struct, skip_value, to_vec,
-    to_writer,
+    Serializer, Shown, Write, from_reader, read_into, read_struct, skip_value, to_writer,
 };
-use std::alloc::Global;
+use std::alloc::{AllocError, Global};
 use std::fs;
 use std::fs::File;
 use std::io::{BufReader, BufWriter, Write as _};
 use std::test::Fail;
 
-#[derive(Drop)]
+#[derive(Debug, Drop)]
 pub(crate) struct Mascot {
     name: String,
     species: String,
@@ -120,71 +120,47 @@ impl<'de> DeserializeOwned<'de> for Mascot {
     ghost owned = { refl };
 }
 
-#[test]
-fn a_mascot_is_written(rt: HostRuntime) -> Result<(), Fail> {
-    let mascot = Mascot {
-        name: String::from_str(rt.alloc(), "Ferris")?,
-        species: String::from_str(rt.alloc(), "crab")?,
+fn ferris(alloc: Global) -> Result<Mascot, AllocError> {
+    let name = String::from_str(alloc, "Ferris")?;
+    let species = String::from_str(alloc, "crab")?;
+    Ok(Mascot {
+        name,
+        species,
         year_of_birth: 2015,
-    };
-    let written = to_vec(rt.alloc(), &mascot)?;
-    assert_eq!(rt; written.len(), 43);
-    assert_eq!(rt;
-        written.as_slice(),
-        b"\xa3\x64name\x66Ferris\x67species\x64crab\x6dyear_of_birth\x19\x07\xdf".as_slice()
-    );
-    Ok(())
+    })
 }
 
+/// 43 bytes.
+const FERRIS: &[u8] = b"\xa3\x64name\x66Ferris\x67species\x64crab\x6dyear_of_birth\x19\x07\xdf";
+
+const TOLD: &str = r#"Ok(Mascot { name: "Ferris", species: "crab", year_of_birth: 2015 })"#;
+
 #[test]
-fn a_mascot_is_read(rt: HostRuntime) -> Result<(), Fail> {
-    let mascot: Mascot = from_slice(
-        rt.alloc(),
-        b"\xa3\x64name\x66Ferris\x67species\x64crab\x6dyear_of_birth\x19\x07\xdf",
-    )?;
-    assert_eq!(rt; mascot.name.as_str(), "Ferris");
-    assert_eq!(rt; mascot.species.as_str(), "crab");
-    assert_eq!(rt; mascot.year_of_birth, 2015);
-    Ok(())
+fn a_mascot_is_written_and_read(rt: HostRuntime) -> Result<(), Fail> {
+    agree(FERRIS.len(), 43)?;
+    writes(rt.alloc(), &ferris(rt.alloc())?, FERRIS)?;
+    tells::<Mascot>(rt.alloc(), FERRIS, TOLD)
 }
 
 #[test]
 fn a_mascot_goes_to_a_device_and_back(rt: HostRuntime) -> Result<(), Fail> {
-    let mascot = Mascot {
-        name: String::from_str(rt.alloc(), "Ferris")?,
-        species: String::from_str(rt.alloc(), "crab")?,
-        year_of_birth: 2015,
-    };
     let mut sink = Sink::new(rt.alloc(), 3, 0);
-    to_writer(rt.alloc(), &mut sink, &mascot)?;
-    assert_eq!(rt;
-        sink.held(),
-        b"\xa3\x64name\x66Ferris\x67species\x64crab\x6dyear_of_birth\x19\x07\xdf".as_slice()
-    );
-    let back: Mascot = from_reader(rt.alloc(), Source::new(sink.held(), 3))?;
-    assert_eq!(rt; back.name.as_str(), "Ferris");
-    assert_eq!(rt; back.species.as_str(), "crab");
-    assert_eq!(rt; back.year_of_birth, 2015);
-    Ok(())
+    to_writer(rt.alloc(), &mut sink, &ferris(rt.alloc())?)?;
+    agree(sink.held(), FERRIS)?;
+    let back = from_reader::<Mascot, Source<'_>>(rt.alloc(), Source::new(FERRIS, 3));
+    is_told(rt.alloc(), &back, TOLD)
 }
 
 /// The README quotes this.
 #[test]
 fn a_mascot_goes_to_a_file_and_back(rt: HostRuntime) -> Result<(), Fail> {
-    let ferris = Mascot {
-        name: String::from_str(rt.alloc(), "Ferris")?,
-        species: String::from_str(rt.alloc(), "crab")?,
-        year_of_birth: 2015,
-    };
+    let ferris = ferris(rt.alloc())?;
     let mut file = BufWriter::new(rt.alloc(), File::create(&rt, "ferris.cbor")?)?;
     to_writer(rt.alloc(), &mut file, &ferris)?;
     file.flush()?;
 
     let source = BufReader::new(rt.alloc(), File::open(&rt, "ferris.cbor")?)?;
     let back: Mascot = from_reader(rt.alloc(), source)?;
-    assert_eq!(rt; back.name.as_str(), "Ferris");
-    assert_eq!(rt; back.species.as_str(), "crab");
-    assert_eq!(rt; back.year_of_birth, 2015);
     fs::remove_file(&rt, "ferris.cbor")?;
-    Ok(())
+    writes(rt.alloc(), &back, FERRIS)
 }

@@ -8,9 +8,10 @@ ghost use Rattle.serde_ipld_dagcbor.specs.MyStruct.{MyStructView, SeenMyStruct, 
 
 use crate::tests::links::{LINK, joined};
 use crate::tests::required::required;
+use crate::tests::told::{agree, is_told, writes};
 use crate::{
     Cid, DecodeError, Deserialize, Deserializer, EncodeError, Fields, Read, Serialize, Serializer,
-    Shown, Write, from_slice, read_into, read_struct, skip_value, to_vec,
+    Shown, Write, from_slice, read_into, read_struct, skip_value,
 };
 use std::alloc::Global;
 use std::test::Fail;
@@ -97,24 +98,23 @@ impl<'de> Deserialize<'de> for MyStruct {
 }
 
 #[test]
-fn a_struct_with_a_link_is_written(rt: HostRuntime) -> Result<(), Fail> {
-    let value = MyStruct {
-        cid: Cid::new_v1(206, 155, b"\x63\xc8")?,
-        data: true,
-    };
-    assert_eq!(rt;
-        to_vec(rt.alloc(), &value)?.as_slice(),
-        b"\xa2\x63cid\xd8\x2a\x49\x00\x01\xce\x01\x9b\x01\x02\x63\xc8\x64data\xf5".as_slice()
-    );
-    Ok(())
+fn a_struct_with_a_link_goes_both_ways(rt: HostRuntime) -> Result<(), Fail> {
+    let alloc = rt.alloc();
+    let bytes = joined(alloc, &[b"\xa2\x63cid", LINK, b"\x64data\xf5"])?;
+    agree(bytes.len(), 52)?;
+    let cid = from_slice(alloc, LINK)?;
+    writes(alloc, &MyStruct { cid, data: true }, &bytes)?;
+    let back: MyStruct = from_slice(alloc, &bytes)?;
+    agree((back.cid, back.data), (cid, true))
 }
 
 #[test]
-fn a_struct_with_a_link_is_read(rt: HostRuntime) -> Result<(), Fail> {
+fn fields_out_of_order_are_refused(rt: HostRuntime) -> Result<(), Fail> {
     let alloc = rt.alloc();
-    let bytes = joined(alloc, &[b"\xa2\x63cid", LINK, b"\x64data\xf5"])?;
-    let value: MyStruct = from_slice(alloc, &bytes)?;
-    assert!(rt; value.cid == from_slice(alloc, LINK)?);
-    assert!(rt; value.data);
-    Ok(())
+    let bytes = joined(alloc, &[b"\xa2\x64data\xf5\x63cid", LINK])?;
+    is_told(
+        alloc,
+        &from_slice::<MyStruct>(alloc, &bytes).err(),
+        "Some(UnorderedKey)",
+    )
 }

@@ -2,7 +2,7 @@
 
 ghost use Rattle.std.specs.Prelude.{false};
 ghost use Rattle.dagcbor_read.specs.Calls.{progress};
-ghost use Rattle.dagcbor_read.specs.Reads.{ReadsValue};
+ghost use Rattle.dagcbor_read.specs.Values.{ReadsValue};
 ghost use Rattle.serde_ipld_dagcbor.specs.One.{view_one, need_of_one};
 
 use crate::tests::one::One;

@@ -6,14 +6,15 @@ ghost use Rattle.dagcbor_write.specs.Trees.{option_tree, field};
 ghost use Rattle.serde_ipld_dagcbor.specs.OptionalPerson.{OptionalPersonView, SeenOptionalPerson, take_optional_person, need_optional_person, view_optional_person, need_of_optional_person};
 
 use crate::tests::required::required;
+use crate::tests::told::{agree, tells, writes};
 use crate::{
     DecodeError, Deserialize, Deserializer, EncodeError, Fields, Read, Serialize, Serializer,
-    Shown, Write, from_slice, read_into, read_struct, skip_value, to_vec,
+    Shown, Write, read_into, read_struct, skip_value,
 };
-use std::alloc::Global;
+use std::alloc::{AllocError, Global};
 use std::test::Fail;
 
-#[derive(Drop)]
+#[derive(Debug, Drop)]
 pub(crate) struct OptionalPerson {
     name: String,
     year_of_birth: Option<u16>,
@@ -125,33 +126,30 @@ impl<'de> Deserialize<'de> for OptionalPerson {
     }
 }
 
+fn grace(alloc: Global) -> Result<OptionalPerson, AllocError> {
+    let name = String::from_str(alloc, "Grace Hopper")?;
+    let profession = String::from_str(alloc, "computer scientist")?;
+    Ok(OptionalPerson {
+        name,
+        year_of_birth: None,
+        profession: Some(profession),
+    })
+}
+
+/// 49 bytes.
+const GRACE: &[u8] = b"\xa2\x64name\x6cGrace Hopper\x6aprofession\x72computer scientist";
+
 #[test]
 fn a_missing_field_is_left_out(rt: HostRuntime) -> Result<(), Fail> {
-    let person = OptionalPerson {
-        name: String::from_str(rt.alloc(), "Grace Hopper")?,
-        year_of_birth: None,
-        profession: Some(String::from_str(rt.alloc(), "computer scientist")?),
-    };
-    let written = to_vec(rt.alloc(), &person)?;
-    assert_eq!(rt; written.len(), 49);
-    assert_eq!(rt;
-        written.as_slice(),
-        b"\xa2\x64name\x6cGrace Hopper\x6aprofession\x72computer scientist".as_slice()
-    );
-    Ok(())
+    agree(GRACE.len(), 49)?;
+    writes(rt.alloc(), &grace(rt.alloc())?, GRACE)
 }
 
 #[test]
 fn a_field_that_was_left_out_is_missing(rt: HostRuntime) -> Result<(), Fail> {
-    let person: OptionalPerson = from_slice(
+    tells::<OptionalPerson>(
         rt.alloc(),
-        b"\xa2\x64name\x6cGrace Hopper\x6aprofession\x72computer scientist",
-    )?;
-    assert_eq!(rt; person.name.as_str(), "Grace Hopper");
-    assert!(rt; person.year_of_birth.is_none());
-    match &person.profession {
-        Some(profession) => assert_eq!(rt; profession.as_str(), "computer scientist"),
-        None => return Err(Fail::new("no profession")),
-    }
-    Ok(())
+        GRACE,
+        r#"Ok(OptionalPerson { name: "Grace Hopper", year_of_birth: None, profession: Some("computer scientist") })"#,
+    )
 }

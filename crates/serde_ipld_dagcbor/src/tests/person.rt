@@ -6,14 +6,15 @@ ghost use Rattle.dagcbor_write.specs.Trees.{option_tree, field};
 ghost use Rattle.serde_ipld_dagcbor.specs.Person.{PersonView, SeenPerson, take_person, need_person, view_person, need_of_person};
 
 use crate::tests::required::required;
+use crate::tests::told::{agree, tells, writes};
 use crate::{
     DecodeError, Deserialize, Deserializer, EncodeError, Fields, Read, Serialize, Serializer,
-    Shown, Write, from_slice, read_into, read_struct, skip_value, to_vec,
+    Shown, Write, read_into, read_struct, skip_value,
 };
-use std::alloc::Global;
+use std::alloc::{AllocError, Global};
 use std::test::Fail;
 
-#[derive(Drop)]
+#[derive(Debug, Drop)]
 pub(crate) struct Person {
     name: String,
     year_of_birth: u16,
@@ -111,32 +112,31 @@ impl<'de> Deserialize<'de> for Person {
     }
 }
 
+fn grace(alloc: Global) -> Result<Person, AllocError> {
+    let name = String::from_str(alloc, "Grace Hopper")?;
+    let profession = String::from_str(alloc, "computer scientist")?;
+    Ok(Person {
+        name,
+        year_of_birth: 1906,
+        profession: Some(profession),
+    })
+}
+
+/// 66 bytes.
+const GRACE: &[u8] =
+    b"\xa3\x64name\x6cGrace Hopper\x6aprofession\x72computer scientist\x6dyear_of_birth\x19\x07\x72";
+
 #[test]
 fn fields_are_written_in_key_order(rt: HostRuntime) -> Result<(), Fail> {
-    let person = Person {
-        name: String::from_str(rt.alloc(), "Grace Hopper")?,
-        year_of_birth: 1906,
-        profession: Some(String::from_str(rt.alloc(), "computer scientist")?),
-    };
-    let written = to_vec(rt.alloc(), &person)?;
-    assert_eq!(rt;
-        written.as_slice(),
-        b"\xa3\x64name\x6cGrace Hopper\x6aprofession\x72computer scientist\x6dyear_of_birth\x19\x07\x72".as_slice()
-    );
-    Ok(())
+    agree(GRACE.len(), 66)?;
+    writes(rt.alloc(), &grace(rt.alloc())?, GRACE)
 }
 
 #[test]
 fn fields_are_read_in_key_order(rt: HostRuntime) -> Result<(), Fail> {
-    let person: Person = from_slice(
+    tells::<Person>(
         rt.alloc(),
-        b"\xa3\x64name\x6cGrace Hopper\x6aprofession\x72computer scientist\x6dyear_of_birth\x19\x07\x72",
-    )?;
-    assert_eq!(rt; person.name.as_str(), "Grace Hopper");
-    assert_eq!(rt; person.year_of_birth, 1906);
-    match &person.profession {
-        Some(profession) => assert_eq!(rt; profession.as_str(), "computer scientist"),
-        None => return Err(Fail::new("no profession")),
-    }
-    Ok(())
+        GRACE,
+        r#"Ok(Person { name: "Grace Hopper", year_of_birth: 1906, profession: Some("computer scientist") })"#,
+    )
 }

@@ -9,7 +9,7 @@ ghost use Rattle.serde_ipld_dagcbor.specs.Second.{SecondView, SeenSecond, take_s
 ghost use Rattle.serde_ipld_dagcbor.specs.declared.tests.second.Second.TheVariants.{Data};
 
 use crate::tests::required::required;
-use crate::tests::typed_reads::tells;
+use crate::tests::told::tells;
 use crate::{
     DecodeError, Deserialize, Deserializer, EncodeError, EnumAccessor, Fields, Read, Serialize,
     Serializer, Shown, Variants, Write, read_enum, read_into, read_struct_variant, skip_value,
@@ -166,12 +166,10 @@ fn a_struct_variant_is_written(rt: HostRuntime) -> Result<(), Fail> {
 
 #[test]
 fn a_struct_variant_is_read(rt: HostRuntime) -> Result<(), Fail> {
-    assert!(rt;
-        tells::<Second>(
-            rt.alloc(),
-            b"\xa1\x64Data\xa3\x61a\x01\x61b\x02\x63abc\x03",
-            "Ok(Data { b: 2, abc: 3, a: 1 })"
-        )?
-    );
+    tells::<Second>(
+        rt.alloc(),
+        b"\xa1\x64Data\xa3\x61a\x01\x61b\x02\x63abc\x03",
+        "Ok(Data { b: 2, abc: 3, a: 1 })",
+    )?;
     Ok(())
 }

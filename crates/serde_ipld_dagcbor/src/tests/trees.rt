@@ -1,19 +1,30 @@
 //! Lists and maps, read and written.
 
-use crate::tests::alike::{beginnings_are_cut, reads_alike};
-use crate::{Ipld, from_slice, to_vec};
+use crate::tests::alike::{beginnings_are_cut, goes_both_ways, is_refused};
+use crate::tests::told::{agree, is_told};
+use crate::{Ipld, from_slice};
 use std::alloc::{AllocError, Global};
 use std::collections::BTreeMap;
 use std::test::Fail;
 
 /// So many times the piece, and then the end.
-fn nested(alloc: Global, piece: &[u8], times: usize, end: &[u8]) -> Result<Vec<u8>, AllocError> {
-    let mut bytes = Vec::new(alloc);
-    for _i in 0..times {
-        bytes.extend_from_slice(piece)?;
-    }
+pub(crate) fn nested(
+    alloc: Global,
+    piece: &[u8],
+    times: usize,
+    end: &[u8],
+) -> Result<Vec<u8>, AllocError> {
+    let mut bytes = piece.repeat(alloc, times)?;
     bytes.extend_from_slice(end)?;
     Ok(bytes)
+}
+
+/// Fails where the bytes are not read as the tree that is told, or that is not written as they.
+fn is_tree(alloc: Global, bytes: &[u8], told: &str) -> Result<(), Fail> {
+    let value: Ipld = from_slice(alloc, bytes)?;
+    is_told(alloc, &value, told)?;
+    goes_both_ways(alloc, &value, bytes)?;
+    beginnings_are_cut(alloc, bytes)
 }
 
 #[test]
@@ -53,19 +64,22 @@ fn trees_are_read_and_written(rt: HostRuntime) -> Result<(), Fail> {
         ),
     ];
     for (bytes, told) in rows {
-        assert!(rt; reads_alike(alloc, bytes)?, "{bytes:?}");
-        assert!(rt; beginnings_are_cut(alloc, bytes)?, "{bytes:?}");
-        let value: Ipld = from_slice(alloc, bytes)?;
-        let text = format!(in alloc; "{value:?}")?;
-        assert_eq!(rt; text.as_str(), told);
-        assert_eq!(rt; to_vec(alloc, &value)?.as_slice(), bytes);
+        is_tree(alloc, bytes, told)?;
     }
     Ok(())
 }
 
-#[test]
-fn keys_are_written_in_their_order(rt: HostRuntime) -> Result<(), Fail> {
-    let alloc = rt.alloc();
+/// A list of texts.
+fn texts(alloc: Global, words: [&str; 3]) -> Result<Ipld, AllocError> {
+    let mut items = Vec::new(alloc);
+    for word in words {
+        items.push(Ipld::String(String::from_str(alloc, word)?))?;
+    }
+    Ok(Ipld::List(items))
+}
+
+/// A map from three languages to what is said of them.
+fn languages(alloc: Global) -> Result<Ipld, AllocError> {
     let rows = [
         ("python", ["powerful", "friendly", "open"]),
         ("js", ["lightweight", "interpreted", "object-oriented"]),
@@ -73,48 +87,46 @@ fn keys_are_written_in_their_order(rt: HostRuntime) -> Result<(), Fail> {
     ];
     let mut entries = BTreeMap::new(alloc);
     for (language, words) in rows {
-        let mut items = Vec::new(alloc);
-        for word in words {
-            items.push(Ipld::String(String::from_str(alloc, word)?))?;
-        }
-        drop(entries.insert(String::from_str(alloc, language)?, Ipld::List(items))?);
+        drop(entries.insert(String::from_str(alloc, language)?, texts(alloc, words)?)?);
     }
-    let value = Ipld::Map(entries);
-    let bytes = to_vec(alloc, &value)?;
-    assert_eq!(rt; bytes.len(), 103);
-    assert!(rt; bytes.starts_with(b"\xa3\x62js\x83\x6blightweight"));
-    assert!(rt; bytes[29..].starts_with(b"\x6fobject"));
-    assert!(rt; from_slice::<Ipld>(alloc, &bytes)? == value);
-    assert!(rt; reads_alike(alloc, &bytes)?);
-    Ok(())
+    Ok(Ipld::Map(entries))
+}
+
+#[test]
+fn keys_are_written_in_their_order(rt: HostRuntime) -> Result<(), Fail> {
+    let spelling =
+        b"\xa3\x62js\x83\x6blightweight\x6binterpreted\x6fobject-oriented\x64rust\x83\x64safe\x6aconcurrent\x64fast\x66python\x83\x68powerful\x68friendly\x64open";
+    agree(spelling.len(), 103)?;
+    goes_both_ways(rt.alloc(), &languages(rt.alloc())?, spelling)
 }
 
 #[test]
 fn depth_is_bounded(rt: HostRuntime) -> Result<(), Fail> {
     let alloc = rt.alloc();
-    let rows: [(&[u8], usize, &[u8], bool); 7] = [
-        (b"\x81", 127, b"\x80", true),
-        (b"\x81", 127, b"\x00", true),
-        (b"\x81", 128, b"\x80", false),
-        (b"\x81", 128, b"\x00", false),
-        (b"\x81", 128, b"", false),
-        (b"\xa1\x60", 127, b"\xa0", true),
-        (b"\xa1\x60", 128, b"\xa0", false),
+    let rows: [(&[u8], &[u8]); 3] = [
+        (b"\x81", b"\x80"),
+        (b"\x81", b"\x00"),
+        (b"\xa1\x60", b"\xa0"),
     ];
-    for (piece, times, end, is_read) in rows {
-        let bytes = nested(alloc, piece, times, end)?;
-        assert!(rt; reads_alike(alloc, &bytes)?, "{times}");
-        match from_slice::<Ipld>(alloc, &bytes) {
-            Ok(value) => {
-                assert!(rt; is_read, "{times}");
-                assert_eq!(rt; to_vec(alloc, &value)?.as_slice(), bytes.as_slice());
-            }
-            Err(refusal) => {
-                assert!(rt; !is_read, "{times}");
-                let text = format!(in alloc; "{refusal}")?;
-                assert_eq!(rt; text.as_str(), r#"DepthOverflow { name: "any" }"#);
-            }
-        }
+    for (piece, end) in rows {
+        let bytes = nested(alloc, piece, 127, end)?;
+        goes_both_ways(alloc, &from_slice(alloc, &bytes)?, &bytes)?;
+    }
+    Ok(())
+}
+
+#[test]
+fn what_is_deeper_is_refused(rt: HostRuntime) -> Result<(), Fail> {
+    let alloc = rt.alloc();
+    let rows: [(&[u8], &[u8]); 4] = [
+        (b"\x81", b"\x80"),
+        (b"\x81", b"\x00"),
+        (b"\x81", b""),
+        (b"\xa1\x60", b"\xa0"),
+    ];
+    for (piece, end) in rows {
+        let bytes = nested(alloc, piece, 128, end)?;
+        is_refused(alloc, &bytes, r#"DepthOverflow { name: "any" }"#)?;
     }
     Ok(())
 }
@@ -122,17 +134,13 @@ fn depth_is_bounded(rt: HostRuntime) -> Result<(), Fail> {
 #[test]
 fn a_long_list(rt: HostRuntime) -> Result<(), Fail> {
     let alloc = rt.alloc();
-    let bytes = nested(alloc, b"\xf6", 300, b"")?;
     let mut list = Vec::from_slice(alloc, b"\x99\x01\x2c")?;
-    list.extend_from_slice(&bytes)?;
-    let value: Ipld = from_slice(alloc, &list)?;
-    match &value {
-        Ipld::List(items) => assert_eq!(rt; items.len(), 300),
-        _ => panic!(rt; "no list"),
+    list.resize(303, 0xf6)?;
+    let mut items = Vec::new(alloc);
+    for _ in 0..300u64 {
+        items.push(Ipld::Null)?;
     }
-    assert_eq!(rt; to_vec(alloc, &value)?.as_slice(), list.as_slice());
-    assert!(rt; reads_alike(alloc, &list)?);
-    Ok(())
+    goes_both_ways(alloc, &Ipld::List(items), &list)
 }
 
 #[test]
@@ -224,14 +232,7 @@ fn refusals_of_trees_name_their_cause(rt: HostRuntime) -> Result<(), Fail> {
         (b"\x81\x01\x02", "TrailingData"),
     ];
     for (input, told) in rows {
-        assert!(rt; reads_alike(rt.alloc(), input)?, "{input:?}");
-        match from_slice::<Ipld>(rt.alloc(), input) {
-            Ok(_) => panic!(rt; "{input:?} was read"),
-            Err(refusal) => {
-                let text = format!(in rt.alloc(); "{refusal}")?;
-                assert_eq!(rt; text.as_str(), told);
-            }
-        }
+        is_refused(rt.alloc(), input, told)?;
     }
     Ok(())
 }

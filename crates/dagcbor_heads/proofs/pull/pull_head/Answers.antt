@@ -2,6 +2,7 @@ use Rattle.std.proofs.Common.{refl, arith, sym}
 use Rattle.dagcbor_heads.specs.declared.error.DecodeError.TheVariants.{Unsupported, IndefiniteSize}
 use Rattle.dagcbor_heads.proofs.HeadFaults.{first_refused, reserved, argument_refused, too_long, small_found, wide_found}
 use Rattle.dagcbor_heads.proofs.Refusing.{refused}
+use Rattle.dagcbor_heads.proofs.Looking.{looks_both}
 use Rattle.dagcbor_heads.proofs.pull.pull_head.Goals as goal
 
 pub returns-in_err-first-clause-taken : goal.returns-in_err-first-clause-taken
@@ -33,3 +34,6 @@ returns-clause-taken g c =
     let least = rw (sym c.argument_width.ensures.value) at c.least_argument.ensures in
     wide_found (omega arith) c.argument_width.ensures.value (omega arith) (omega arith) (omega arith) c.in_ok-argument.ensures.taken.0 (omega (arith, least))
     c.in_ok-first.ensures.taken c.in_ok-argument.ensures.taken.1
+
+pub returns-clause-looked : goal.returns-clause-looked
+returns-clause-looked g c = looks_both c.in_ok-first.ensures.looked c.in_ok-argument.ensures.looked

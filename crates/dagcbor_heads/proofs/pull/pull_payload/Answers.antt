@@ -1,6 +1,7 @@
 use Rattle.std.proofs.Common.{arith, ap, refl, length-append}
 use Rattle.dagcbor_heads.specs.Causes.{PayloadCause}
 use Rattle.dagcbor_heads.proofs.Refusing.{refused, unlent_refused}
+use Rattle.dagcbor_heads.proofs.Looking.{lent_looked}
 use Rattle.dagcbor_heads.proofs.pull.pull_payload.Goals as goal
 
 pub returns-in_err-gather-in-Reader-clause-taken :
@@ -20,3 +21,6 @@ returns-in-None-clause-taken g c =
       λ h. omega (arith, none.1 _ h.left, h.long, length-append h.payload h.rest),
       λ b l. (c.new-in-None.ensures, none.1 b l),
     )
+
+pub returns-in-Some-clause-looked : goal.returns-in-Some-clause-looked
+returns-in-Some-clause-looked g c = let lent = c.in-Some.ensures.lent in rw c.in-Slice.is (lent_looked lent.0 lent.1 lent.2)

@@ -6,7 +6,7 @@ use Rattle.dagcbor_read.proofs.deserializer.Deserializer.deserialize_option.Goal
 
 pub returns-in_err-enter_option : goal.returns-in_err-enter_option
 returns-in_err-enter_option g c = call_refused (ReadsOption g.T.Shown.held g.T.Shown.view g.T.Shown.need g.T.Shown.borrows) _ _ _ _ c.from_residual.ensures.1
-    (call_passed_on EntersOption (ReadsOption g.T.Shown.held g.T.Shown.view g.T.Shown.need g.T.Shown.borrows) _ _ _ (λ r. (not_entered g.T.Shown.view g.T.Shown.need _ _ _ _ r, inl r)) c.in_err-enter_option.ensures)
+    (call_passed_on EntersOption (ReadsOption g.T.Shown.held g.T.Shown.view g.T.Shown.need g.T.Shown.borrows) _ _ _ (λ r. (not_entered g.T.Shown.view g.T.Shown.need _ _ _ _ r.0, inl r)) c.in_err-enter_option.ensures)
 
 pub returns-then-branch : goal.returns-then-branch
 returns-then-branch g c =

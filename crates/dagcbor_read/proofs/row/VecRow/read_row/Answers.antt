@@ -2,7 +2,7 @@ use Rattle.std.proofs.Common.{◌≡◌, true}
 use Rattle.dagcbor_heads.proofs.Refusing.{refused}
 use Rattle.dagcbor_read.specs.Accessors.{begun}
 use Rattle.dagcbor_read.specs.Calls.{progress}
-use Rattle.dagcbor_read.proofs.Lists.{map_pushed}
+use Rattle.dagcbor_items.proofs.Lists.{map_pushed}
 use Rattle.dagcbor_read.proofs.Answered.{element_read, no_element, element_refused, after_some, after_none}
 use Rattle.dagcbor_read.proofs.ItemRows.{one_more, none_more, item_refused}
 use Rattle.dagcbor_read.proofs.row.VecRow.read_row.Goals as goal

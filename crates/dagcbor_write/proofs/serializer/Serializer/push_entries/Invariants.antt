@@ -4,5 +4,5 @@ use Rattle.dagcbor_heads.proofs.Writing.{Written-but}
 use Rattle.dagcbor_write.specs.Order.{head_rest, entries_bytes}
 use Rattle.dagcbor_write.proofs.serializer.Serializer.push_entries.Given as goal
 
-abbrev pub invariant-loop-entry : goal.invariant-loop-entry
-invariant-loop-entry g l = Written-but (head_rest l.fn.announced (length l.entries) ++? Some (entries_bytes l.entries)) (Some (entries_bytes (drop l.entry-index l.entries)) ∷ []) (g.W.Write.written l.fn.self) (g.W.Write.written l.self)
+abbrev pub invariant-loop-i : goal.invariant-loop-i
+invariant-loop-i g l = Written-but (head_rest l.held.announced (length l.held.entries) ++? Some (entries_bytes l.held.entries)) (Some (entries_bytes (drop l.i l.held.entries)) ∷ []) (g.W.Write.written l.fn.self) (g.W.Write.written l.self)

@@ -8,4 +8,4 @@ returns-in_err-push_variant-clause-written g c = Writes-exit _ _ _ _ _ _ c.from_
 
 pub returns-clause-written : goal.returns-clause-written
 returns-clause-written g c =
-    Writes-then (variant_head c.args.variant.now) (spelled_head c.args.major c.args.len) _ (g.W.Write.written c.push_variant.new.self) _ _ c.in_ok-push_variant.ensures.written c.push_head.ensures
+    Writes-then (variant_head c.args.variant.now) (spelled_head c.args.major c.args.len) _ (g.W.Write.written c.push_variant.new.self) _ _ c.in_ok-push_variant.ensures.written c.push_head.ensures.written

@@ -31,4 +31,4 @@ pub returns : goal.returns
 returns g c =
     let w = next-part (begin-later _ _) _ c.loop-item.invariant.nothing in
     let all = rw c.deref-item-items.ensures.value at (Holds-all g.T.Serialize.tree _ _ _ c.loop-item-test.false c.loop-item.invariant.holds) in
-    record { written = Writes-at _ _ _ _ _ (search rules) (last-part w _ _ (rw all at c.end.ensures)); well_formed = OnOk-of _ (rw c.deref-item-items.ensures.value at (AreTrees-all g.T.Serialize.tree _ _ c.loop-item-test.false c.loop-item.invariant.well_formed)) }
+    record { written = Writes-at _ _ _ _ _ (search rules) (last-part w _ _ (rw all at c.end.ensures.written)); well_formed = OnOk-of _ (rw c.deref-item-items.ensures.value at (AreTrees-all g.T.Serialize.tree _ _ c.loop-item-test.false c.loop-item.invariant.well_formed)) }

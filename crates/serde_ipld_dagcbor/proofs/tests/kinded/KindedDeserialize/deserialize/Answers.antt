@@ -15,5 +15,5 @@ no_kind (ipld.Bytes b) h k = absurd (h b refl)
 no_kind (ipld.Link c) h k = absurd (k c refl)
 no_kind _ h k = search (rules, the_lemmas)
 
-pub returns : goal.returns
-returns g c = unfinished Some any_need view_kinded _ (c.custom.ensures.0, c.custom.ensures.1) (no_kind _ c.in_default.not-Bytes c.in_default.not-Link) c.in_ok-bytes.ensures
+pub returns-clause-value : goal.returns-clause-value
+returns-clause-value g c = unfinished Some any_need view_kinded _ (c.custom.ensures.0, c.custom.ensures.1) (no_kind _ c.in_default.not-Bytes c.in_default.not-Link) c.in_ok-bytes.ensures.value

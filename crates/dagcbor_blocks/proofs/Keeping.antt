@@ -1,0 +1,160 @@
+-- Keeping blocks, and finding them again.
+use Rattle.std.proofs.Common.{◌≡◌, ℕ, ◌<◌, ◌≤◌, List, [], ◌∷◌, map, Bool, true, false, cond, Ordering, Less, Equal, Greater, refl, sym, ap, ◌∙◌, subst, arith}
+use Rattle.std.specs.Prelude.{Option, None, Some, option_map, Result, Ok, Err, OnOk, OnErr, is_err, Vec}
+use Rattle.std.specs.declared.alloc.Global.{Global}
+use Rattle.std.specs.declared.convert.Infallible.{Infallible}
+use Rattle.std.specs.Ordering.{match_ordering}
+use Rattle.std.specs.List.{AllByRecursion}
+use Rattle.std.specs.Map.{lookup}
+use Rattle.std.specs.BTreeMap.{BTreeMap, is_at, insert_entry, get, Updates}
+use mathlib.Core.List.{is_set as List-set}
+use Rattle.std.proofs.Math.Nat.{ℕ_set}
+use Rattle.std.proofs.Math.Logic.{∥∥₁_elim, ∥∥₁_map}
+use Rattle.sha2.specs.Sha256.{sha256}
+use Rattle.serde_ipld_dagcbor.specs.DecodeError.{DecodeError}
+use Rattle.serde_ipld_dagcbor.specs.DecodeError.TheVariants as unread
+use Rattle.serde_ipld_dagcbor.specs.Cid.{CidParts, cid_cmp}
+use Rattle.serde_ipld_dagcbor.specs.CidHash.{same_cid, is_equal}
+use Rattle.serde_ipld_dagcbor.specs.Tree.{Tree, any_need, links_of}
+use Rattle.serde_ipld_dagcbor.specs.Spelling.{IsSpelling}
+use Rattle.serde_ipld_dagcbor.specs.Answers.{IsAnswer}
+use Rattle.serde_ipld_dagcbor.specs.Whole.{WholeRefused}
+use Rattle.serde_ipld_dagcbor.specs.AllLinks.{AreFirstLinks, LinksRefused}
+use Rattle.serde_ipld_dagcbor.specs.GrammarLaws.{SpellingsAreUnique}
+use Rattle.dagcbor_blocks.specs.Names.{block_name}
+use Rattle.dagcbor_blocks.specs.Errors.{TellsOfDecoding}
+use Rattle.dagcbor_blocks.specs.Sound.{IsSound}
+use Rattle.dagcbor_blocks.specs.Blocks.{Held, block_at, HoldsAlso, HasTree, HasBlock, CheckRefused, Stores, Keeps, Puts, IsHeld, GetRefused}
+use Rattle.dagcbor_blocks.proofs.Laws.{front_unique, whole_front, on_ok}
+use Rattle.dagcbor_blocks.specs.declared.error.BlockError.{BlockError}
+use Rattle.dagcbor_blocks.specs.declared.error.BlockError.TheVariants.{Encode, Decode, Collision, OutOfMemory}
+
+abbrev pub Entry : Type 0
+Entry = CidParts × Vec ℕ Global
+
+abbrev pub shown : List Entry → Held
+shown es = map (λ e. (e.0, e.1.items)) es
+
+abbrev items_of_vec : Vec ℕ Global → List ℕ
+items_of_vec v = v.items
+
+-- ---- look-ups
+
+pub block_at-shown : (name : CidParts) (es : List Entry) → block_at name (shown es) ≡ option_map items_of_vec (lookup (is_at (cid_cmp name)) es)
+block_at-shown name [] = refl
+block_at-shown name (e ∷ es) = by (is_at (cid_cmp name) e.0) _ _ (block_at-shown name es)
+  where
+    by : (b : Bool) (x : Option (List ℕ)) (y : Option (Vec ℕ Global)) → x ≡ option_map items_of_vec y → cond b (Some e.1.items) x ≡ option_map items_of_vec (cond b (Some e.1) y)
+    by true x y h = refl
+    by false x y h = h
+
+pub block_found : (name : CidParts) (es : List Entry) (v : Vec ℕ Global) → lookup (is_at (cid_cmp name)) es ≡ Some v → block_at name (shown es) ≡ Some v.items
+block_found name es v e = block_at-shown name es ∙ ap (option_map items_of_vec) e
+
+pub no_block_found : (name : CidParts) (es : List Entry) → lookup (is_at (cid_cmp name)) es ≡ None → block_at name (shown es) ≡ None
+no_block_found name es e = block_at-shown name es ∙ ap (option_map items_of_vec) e
+
+same_name : (name k : CidParts) → is_at (cid_cmp name) k ≡ true → name ≡ k
+same_name name k h = same_cid name k (is_equal (cid_cmp name k) h)
+
+pub found_named : (name : CidParts) (es : List Entry) (v : Vec ℕ Global) → lookup (is_at (cid_cmp name)) es ≡ Some v → AllByRecursion IsSound es → name ≡ block_name v.items
+found_named name [] v e h = absurd (cc e)
+found_named name (x ∷ es) v e h = by (is_at (cid_cmp name) x.0) refl e (λ l. found_named name es v l h.1)
+  where
+    by : (b : Bool) → is_at (cid_cmp name) x.0 ≡ b → cond b (Some x.1) (lookup (is_at (cid_cmp name)) es) ≡ Some v → (lookup (is_at (cid_cmp name)) es ≡ Some v → name ≡ block_name v.items) → name ≡ block_name v.items
+    by true t l f = let same : x.1 ≡ v = cc l in same_name name x.0 t ∙ h.0.named ∙ ap (λ (w : Vec ℕ Global). block_name w.items) same
+    by false t l f = f l
+
+pub digest_of_found : (name : CidParts) (es : List Entry) (v : Vec ℕ Global) → lookup (is_at (cid_cmp name)) es ≡ Some v → ∥ AllByRecursion IsSound es ∥₁ → name.digest ≡ sha256 v.items
+digest_of_found name es v e h = ∥∥₁_elim h (List-set ℕ_set _ _) (λ s. ap (λ (c : CidParts). c.digest) (found_named name es v e s))
+
+-- ---- storing
+
+pub sound_inserted : (es : List Entry) (k : CidParts) (v : Vec ℕ Global) → AllByRecursion IsSound es → IsSound (k, v) → AllByRecursion IsSound (insert_entry cid_cmp es k v)
+sound_inserted [] k v h s = (s, tt)
+sound_inserted (e ∷ es) k v h s = by (cid_cmp k e.0) refl (sound_inserted es k v h.1 s)
+  where
+    by : (o : Ordering) → cid_cmp k e.0 ≡ o → AllByRecursion IsSound (insert_entry cid_cmp es k v) → AllByRecursion IsSound (match_ordering o ((k, v) ∷ e ∷ es) ((e.0, v) ∷ es) (e ∷ insert_entry cid_cmp es k v))
+    by Less x r = (s, h)
+    by Equal x r = (subst (λ n. IsSound (n, v)) (same_cid k e.0 x) s, h.1)
+    by Greater x r = (h.0, r)
+
+-- whether the call took the entry or not
+pub still_sound : {X Y : Type 0} (r : Result X Y) (es fs : List Entry) (k : CidParts) (v : Vec ℕ Global) → OnOk r (fs ≡ insert_entry cid_cmp es k v) → OnErr r (fs ≡ es) → k ≡ block_name v.items → HasBlock v.items
+    → ∥ AllByRecursion IsSound es ∥₁ → ∥ AllByRecursion IsSound fs ∥₁
+still_sound (Ok x) es fs k v put same named has h = ∥∥₁_map h (λ s. subst (AllByRecursion IsSound) (sym put) (sound_inserted es k v s record { tree = has.0; is_block = has.1; named = named }))
+still_sound (Err y) es fs k v put same named has h = ∥∥₁_map h (λ s. subst (AllByRecursion IsSound) (sym same) s)
+
+pub now_held : {X Y : Type 0} (r : Result X Y) (m n : BTreeMap CidParts (Vec ℕ Global)) (name : CidParts) (v : Vec ℕ Global) → false ≡ is_err r → OnOk r (Updates cid_cmp m n name (Some v)) → HoldsAlso (shown m.entries) name v.items (shown n.entries)
+now_held r m n name v ok put q =
+    let u = (on_ok r _ ok put).0 q in
+    block_at-shown q n.entries ∙ ap (option_map items_of_vec) u ∙ by (is_at (cid_cmp name) q) ∙ ap (λ o. cond (is_at (cid_cmp name) q) (Some v.items) o) (sym (block_at-shown q m.entries))
+  where
+    by : (b : Bool) → option_map items_of_vec (cond b (Some v) (get cid_cmp m q)) ≡ cond b (Some v.items) (option_map items_of_vec (get cid_cmp m q))
+    by true = refl
+    by false = refl
+
+-- what is held already
+pub held_already : (name : CidParts) (held : Held) (b : List ℕ) → block_at name held ≡ Some b → HoldsAlso held name b held
+held_already name held b e q = by (is_at (cid_cmp name) q) refl
+  where
+    by : (c : Bool) → is_at (cid_cmp name) q ≡ c → block_at q held ≡ cond c (Some b) (block_at q held)
+    by true h = ap (λ n. block_at n held) (sym (same_name name q h)) ∙ e
+    by false h = refl
+
+-- ---- checking
+
+pub checked : SpellingsAreUnique → (b : List ℕ) (links : List (List ℕ)) → HasTree b → AreFirstLinks b links → HasBlock b
+checked law b links has h = let u = front_unique law b [] h.1 has.0 h.0 (whole_front has.1) h.2 in (has.0, (has.1, subst (λ t. any_need t ≤ 256) (sym u.0) h.3))
+
+need_of : (b : List ℕ) (t : Tree) → IsSpelling b t → ((links : List (List ℕ)) → AreFirstLinks b links → ⊥) → 256 < any_need t
+need_of b t h n = by_contradiction
+  where
+    by_contradiction : 256 < any_need t
+    by_contradiction = omega (arith, λ (le : any_need t ≤ 256). n (links_of t) (t, [], whole_front h, le, refl))
+
+pub not_checked : (b : List ℕ) (e : DecodeError Infallible) (told : BlockError) → LinksRefused e b → TellsOfDecoding e told → CheckRefused b told
+not_checked b (unread.Read e) told r h = absurd r
+not_checked b unread.OutOfMemory told r h = subst (CheckRefused b) (sym h) tt
+not_checked b (unread.RequireBorrowed n) told r h = absurd r
+not_checked b unread.Failed told r h = absurd r
+not_checked b _ told r h = subst (CheckRefused b) (sym h) (tt, λ t s. need_of b t s r.0)
+
+pub kept : (b : List ℕ) (old new : Held) (r : Result CidParts BlockError) → HasBlock b → Stores b old r new → Keeps b old r new
+kept b old new (Ok name) has h = (has, h.0, h.1)
+kept b old new (Err (Encode e)) has h = absurd h.1
+kept b old new (Err (Decode e)) has h = absurd h.1
+kept b old new (Err Collision) has h = h
+kept b old new (Err OutOfMemory) has h = h
+
+pub not_kept : (b : List ℕ) (held : Held) (e : BlockError) → CheckRefused b e → Keeps b held (Err e) held
+not_kept b held (Encode e) h = absurd h
+not_kept b held (Decode e) h = (refl, h)
+not_kept b held Collision h = absurd h
+not_kept b held OutOfMemory h = (refl, tt)
+
+-- ---- putting
+
+pub has_tree : (tree : Option Tree) (v : Vec ℕ Global) → IsAnswer tree (Ok v) → HasTree v.items
+has_tree None v h = absurd h
+has_tree (Some t) v h = (t, h)
+
+pub put_done : SpellingsAreUnique → (tree : Option Tree) (v : Vec ℕ Global) (old new : Held) (r : Result CidParts BlockError) → IsAnswer tree (Ok v) → Keeps v.items old r new → Puts tree old r new
+put_done law None v old new r a h = absurd a
+put_done law (Some t) v old new (Ok name) a h =
+    let u = front_unique law v.items [] [] h.0.0 t (whole_front h.0.1.0) (whole_front a) in
+    (a.well_formed, a.spellable, subst (λ x. any_need x ≤ 256) u.0 h.0.1.1, h.1 ∙ ap block_name a.is, subst (λ b. HoldsAlso old name b new) a.is h.2)
+put_done law (Some t) v old new (Err (Encode e)) a h = absurd h.1
+put_done law (Some t) v old new (Err (Decode e)) a h = (h.0, (h.1.0, h.1.1 t a))
+put_done law (Some t) v old new (Err Collision) a h = (h.0, (h.1.0, ap (λ b. block_at (block_name b) old) (sym a.is) ∙ h.1.1, λ e. h.1.2 (e ∙ sym a.is)))
+put_done law (Some t) v old new (Err OutOfMemory) a h = (h.0, tt)
+
+-- ---- getting
+
+module _ {V : Type 0} (view : Tree → Option V) (need : Tree → ℕ) where
+  pub not_got : (name : CidParts) (held : Held) (b : List ℕ) (e : DecodeError Infallible) (told : BlockError) → IsHeld name b held → WholeRefused ⊥ view need (Some b) e → TellsOfDecoding e told → GetRefused view need name held told
+  not_got name held b (unread.Read e) told at r h = absurd r
+  not_got name held b unread.OutOfMemory told at r h = subst (GetRefused view need name held) (sym h) tt
+  not_got name held b (unread.RequireBorrowed n) told at r h = absurd r
+  not_got name held b unread.Failed told at r h = absurd r
+  not_got name held b _ told at r h = subst (GetRefused view need name held) (sym h) (tt, (b, at, r))

@@ -1,0 +1,240 @@
+-- The links in held blocks that name no held block.
+use Rattle.std.proofs.Common.{◌≡◌, ◌⊎◌, inl, inr, ℕ, List, [], ◌∷◌, ◌++◌, map, Bool, true, false, cond, refl, sym, ap, ◌∙◌, subst, arith, append_assoc, append-nil}
+use Rattle.std.specs.Prelude.{◌↔◌, Option, None, Some, Vec}
+use Rattle.std.specs.declared.alloc.Global.{Global}
+use Rattle.std.specs.declared.convert.Infallible.{Infallible}
+use Rattle.std.specs.List.{AllByRecursion}
+use Rattle.std.specs.Map.{lookup, values_of}
+use Rattle.std.specs.BTreeMap.{BTreeMap, is_at, get}
+use Rattle.std.specs.BTreeSet.{BTreeSet}
+use mathlib.Core.List.{is_set as List-set}
+use Rattle.std.proofs.Math.Nat.{ℕ_set}
+use Rattle.std.proofs.Math.Logic.{∥∥₁_elim}
+use Rattle.std.proofs.lemmas.Grind.{not_there}
+use Rattle.sha2.proofs.Facts256.{length-sha256}
+use Rattle.serde_ipld_dagcbor.specs.DecodeError.{DecodeError}
+use Rattle.serde_ipld_dagcbor.specs.DecodeError.TheVariants as unread
+use Rattle.serde_ipld_dagcbor.specs.Cid.{CidParts, AreCidParts, IsCid, cid_bytes, cid_cmp}
+use Rattle.serde_ipld_dagcbor.specs.Tree.{Tree, null, boolean, integer, text, bytes, list, mapping, link, Items, no_items, item, Entries, no_entries, entry, IsTree, AreItems, AreEntries, links_of, items_links, entries_links}
+use Rattle.serde_ipld_dagcbor.specs.Spelling.{spelling, IsSpelling, IsFront}
+use Rattle.serde_ipld_dagcbor.specs.Whole.{IsBlock}
+use Rattle.serde_ipld_dagcbor.specs.AllLinks.{AreFirstLinks, LinksRefused}
+use Rattle.serde_ipld_dagcbor.specs.Walks.{forms}
+use Rattle.serde_ipld_dagcbor.specs.GrammarLaws.{SpellingsAreUnique, CidEqualityIsOfBytes}
+use Rattle.dagcbor_blocks.specs.Names.{block_name}
+use Rattle.dagcbor_blocks.specs.Errors.{TellsOfDecoding}
+use Rattle.dagcbor_blocks.specs.Sound.{IsSound}
+use Rattle.dagcbor_blocks.specs.Blocks.{Among, IsUnheld, IsLinked, NamesNone}
+use Rattle.dagcbor_blocks.specs.declared.error.BlockError.{BlockError}
+use Rattle.dagcbor_blocks.specs.declared.error.BlockError.TheVariants.{OutOfMemory}
+use Rattle.dagcbor_blocks.proofs.Laws.{front_unique, cid_unique, whole_front}
+use Rattle.dagcbor_blocks.proofs.Keeping.{Entry, shown}
+use Rattle.dagcbor_blocks.proofs.Missing.{at_same, same_at, among_push, push_among, AddedSoFar}
+
+-- ---- lists
+
+among_append : {X : Type 0} (x : X) (xs ys : List X) → Among x (xs ++ ys) → Among x xs ⊎ Among x ys
+among_append x [] ys h = inr h
+among_append x (z ∷ zs) ys (inl e) = inl (inl e)
+among_append x (z ∷ zs) ys (inr h) = elim (among_append x zs ys h) [ inl m ↦ inl (inr m) | inr m ↦ inr m ]
+
+among_mid : {X : Type 0} (xs : List X) (x : X) (ys : List X) → Among x (xs ++ x ∷ ys)
+among_mid [] x ys = inl refl
+among_mid (z ∷ zs) x ys = inr (among_mid zs x ys)
+
+among_map : {X Y : Type 0} (f : X → Y) (x : X) (xs : List X) → Among x xs → Among (f x) (map f xs)
+among_map f x (y ∷ ys) (inl e) = inl (ap f e)
+among_map f x (y ∷ ys) (inr h) = inr (among_map f x ys h)
+among_map f x [] h = absurd h
+
+map_among : {X Y : Type 0} (f : X → Y) (y : Y) (xs : List X) → Among y (map f xs) → (x : X) × Among x xs × (y ≡ f x)
+map_among f y [] h = absurd h
+map_among f y (x ∷ xs) (inl e) = (x, inl refl, e)
+map_among f y (x ∷ xs) (inr h) = let k = map_among f y xs h in (k.0, inr k.1, k.2)
+
+all_among : {X : Type 0} (P : X → Type 0) (xs : List X) (x : X) → AllByRecursion P xs → Among x xs → P x
+all_among P [] x h m = absurd m
+all_among P (y ∷ ys) x h (inl e) = subst P (sym e) h.0
+all_among P (y ∷ ys) x h (inr m) = all_among P ys x h.1 m
+
+-- ---- links are CIDs
+
+mutual
+  links_are_cids : (t : Tree) (form : List ℕ) → IsTree t → Among form (links_of t) → IsCid form
+  links_are_cids null form p h = absurd h
+  links_are_cids (boolean b) form p h = absurd h
+  links_are_cids (integer n) form p h = absurd h
+  links_are_cids (text s) form p h = absurd h
+  links_are_cids (bytes s) form p h = absurd h
+  links_are_cids (list ts) form p h = items_are_cids ts form p h
+  links_are_cids (mapping es) form p h = entries_are_cids es form p h
+  links_are_cids (link cid) form p (inl e) = subst IsCid (sym e) p
+  links_are_cids (link cid) form p (inr h) = absurd h
+
+  items_are_cids : (ts : Items) (form : List ℕ) → AreItems ts → Among form (items_links ts) → IsCid form
+  items_are_cids no_items form p h = absurd h
+  items_are_cids (item t ts) form p h = elim (among_append form (links_of t) (items_links ts) h) [ inl m ↦ links_are_cids t form p.0 m | inr m ↦ items_are_cids ts form p.1 m ]
+
+  entries_are_cids : (es : Entries) (form : List ℕ) → AreEntries es → Among form (entries_links es) → IsCid form
+  entries_are_cids no_entries form p h = absurd h
+  entries_are_cids (entry k t es) form p h = elim (among_append form (links_of t) (entries_links es) h) [ inl m ↦ links_are_cids t form p.1 m | inr m ↦ entries_are_cids es form p.3 m ]
+
+-- ---- a block and its links
+
+-- the binary form is that of a link in one of these blocks
+abbrev pub Linked : List (Vec ℕ Global) → List ℕ → Type 0
+Linked vs form = (v : Vec ℕ Global) × (t : Tree) × Among v vs × IsSpelling v.items t × Among form (links_of t)
+
+whole_spelling : (b rest : List ℕ) (t : Tree) → IsFront b t rest → rest ≡ [] → IsSpelling b t
+whole_spelling b rest t f none = record { well_formed = f.well_formed; spellable = f.spellable; is = f.is ∙ ap (λ r. spelling t ++ r) none ∙ append-nil (spelling t) }
+
+-- what is held is a block
+held_block : (es : List Entry) (v : Vec ℕ Global) → Among v (values_of es) → AllByRecursion IsSound es → (t : Tree) × IsBlock v.items t
+held_block es v m s =
+    let e = map_among (λ (e : Entry). e.1) v es m in
+    let sound = all_among IsSound es e.0 s e.1 in
+    (sound.tree, subst (λ (w : Vec ℕ Global). IsBlock w.items sound.tree) (sym e.2) sound.is_block)
+
+-- the first item of a held block is the whole of it
+links_of_block : SpellingsAreUnique → (es : List Entry) (v : Vec ℕ Global) (links : List (List ℕ)) → ∥ AllByRecursion IsSound es ∥₁ → Among v (values_of es) → AreFirstLinks v.items links → (t : Tree) × IsSpelling v.items t × (links ≡ links_of t)
+links_of_block law es v links h m first = (first.0, whole_spelling v.items first.1 first.0 first.2 none, first.4)
+  where
+    none : first.1 ≡ []
+    none = ∥∥₁_elim h (List-set ℕ_set _ _) (λ s. let u = held_block es v m s in (front_unique law v.items first.1 [] first.0 u.0 first.2 (whole_front u.1.0)).1)
+
+-- the links of a held block are refused for want of memory alone
+no_links : (es : List Entry) (v : Vec ℕ Global) → ∥ AllByRecursion IsSound es ∥₁ → Among v (values_of es) → ((links : List (List ℕ)) → AreFirstLinks v.items links → ⊥) → ⊥
+no_links es v h m n = not_there h (λ s. let u = held_block es v m s in n (links_of u.0) (u.0, [], whole_front u.1.0, u.1.1, refl))
+
+for_memory : (es : List Entry) (v : Vec ℕ Global) (e : DecodeError Infallible) (told : BlockError) → ∥ AllByRecursion IsSound es ∥₁ → Among v (values_of es) → LinksRefused e v.items → TellsOfDecoding e told → told ≡ OutOfMemory
+for_memory es v (unread.Read e) told h m r t = absurd r
+for_memory es v unread.OutOfMemory told h m r t = t
+for_memory es v (unread.RequireBorrowed n) told h m r t = absurd r
+for_memory es v unread.Failed told h m r t = absurd r
+for_memory es v _ told h m r t = absurd (no_links es v h m r.0)
+
+-- ---- the loop over blocks
+
+-- the set has what is to be listed of these blocks
+abbrev pub MissingOf : {X : Type 0} → BTreeMap CidParts X → List (Vec ℕ Global) → BTreeSet CidParts → Type 0
+MissingOf held vs s = (q : CidParts) → (Among q s.keys → AreCidParts q × Linked vs (cid_bytes q) × IsUnheld held q) × (AreCidParts q → Linked vs (cid_bytes q) → IsUnheld held q → Among q s.keys)
+
+missing_push : {X : Type 0} → SpellingsAreUnique → CidEqualityIsOfBytes → (held : BTreeMap CidParts X) (vs : List (Vec ℕ Global)) (v : Vec ℕ Global) (t : Tree) (links : List CidParts) (old new : BTreeSet CidParts)
+    → IsSpelling v.items t → forms links ≡ links_of t → MissingOf held vs old → AddedSoFar held links old new → MissingOf held (vs ++ v ∷ []) new
+missing_push law cids held vs v t links old new spelled found h added q = (there, back)
+  where
+    there : Among q new.keys → AreCidParts q × Linked (vs ++ v ∷ []) (cid_bytes q) × IsUnheld held q
+    there m = elim ((added.1 q).0 m) [
+      | inl o ↦ let k = (h q).0 o in (k.0, (k.1.0, k.1.1, push_among k.1.0 vs v (inl k.1.2), k.1.3, k.1.4), k.2)
+      | inr u ↦ (
+        all_among AreCidParts links q added.0 u.0,
+        (v, t, push_among v vs v (inr refl), spelled, subst (Among (cid_bytes q)) found (among_map cid_bytes q links u.0)),
+        u.1,
+      )
+    ]
+
+    in_links : AreCidParts q → (u : Tree) → IsSpelling v.items u → Among (cid_bytes q) (links_of u) → Among q links
+    in_links p u s m =
+        let same = front_unique law v.items [] [] u t (whole_front s) (whole_front spelled) in
+        let k = map_among cid_bytes (cid_bytes q) links (subst (Among (cid_bytes q)) (ap links_of same.0 ∙ sym found) m) in
+        let eq = cid_unique cids q k.0 p (all_among AreCidParts links k.0 added.0 k.1) k.2 in
+        subst (λ x. Among x links) (sym eq) k.1
+
+    back : AreCidParts q → Linked (vs ++ v ∷ []) (cid_bytes q) → IsUnheld held q → Among q new.keys
+    back p l free = elim (among_push l.0 vs v l.2) [
+      | inl m ↦ (added.1 q).1 (inl ((h q).1 p (l.0, l.1, m, l.3, l.4) free))
+      | inr e ↦ (added.1 q).1 (inr (in_links p l.1 (subst (λ (w : Vec ℕ Global). IsSpelling w.items l.1) e l.3) l.4, free))
+    ]
+
+-- the blocks so far, and those to come
+pub record SoFar (held : BTreeMap CidParts (Vec ℕ Global)) (rest : List (Vec ℕ Global)) (s : BTreeSet CidParts) : Type 0 where
+  pub seen : List (Vec ℕ Global)
+  pub all : values_of held.entries ≡ seen ++ rest
+  pub listed : MissingOf held seen s
+
+-- the block that comes next is held
+next_held : {held : BTreeMap CidParts (Vec ℕ Global)} {before rest : List (Vec ℕ Global)} {v : Vec ℕ Global} {s : BTreeSet CidParts} → before ≡ v ∷ rest → SoFar held before s → Among v (values_of held.entries)
+next_held {held} {before} {rest} {v} is h = subst (Among v) (sym (h.all ∙ ap (λ l. h.seen ++ l) is)) (among_mid h.seen v rest)
+
+pub next_refused : (held : BTreeMap CidParts (Vec ℕ Global)) (before rest : List (Vec ℕ Global)) (v : Vec ℕ Global) (s : BTreeSet CidParts) (e : DecodeError Infallible) (told : BlockError)
+    → ∥ AllByRecursion IsSound held.entries ∥₁ → before ≡ v ∷ rest → SoFar held before s → LinksRefused e v.items → TellsOfDecoding e told → told ≡ OutOfMemory
+next_refused held before rest v s e told sound is h = for_memory held.entries v e told sound (next_held is h)
+
+pub so_far_next : SpellingsAreUnique → CidEqualityIsOfBytes → (held : BTreeMap CidParts (Vec ℕ Global)) (before rest : List (Vec ℕ Global)) (v : Vec ℕ Global) (links : List CidParts) (old new : BTreeSet CidParts)
+    → ∥ AllByRecursion IsSound held.entries ∥₁ → before ≡ v ∷ rest → SoFar held before old → AreFirstLinks v.items (forms links) → AddedSoFar held links old new → SoFar held rest new
+so_far_next law cids held before rest v links old new sound is h first added =
+    let all : values_of held.entries ≡ h.seen ++ v ∷ rest = h.all ∙ ap (λ l. h.seen ++ l) is in
+    let b = links_of_block law held.entries v (forms links) sound (next_held is h) first in
+    record { seen = h.seen ++ v ∷ []; all = all ∙ sym (append_assoc h.seen (v ∷ []) rest); listed = missing_push law cids held h.seen v b.0 links old new b.1 b.2 h.listed added }
+
+-- ---- the whole
+
+name_is_cid : (b : List ℕ) → AreCidParts (block_name b)
+name_is_cid b = inr (refl, omega arith, omega arith, omega (arith, length-sha256 b))
+
+-- a look-up in the entries
+found_among : (q : CidParts) (es : List Entry) (v : Vec ℕ Global) → lookup (is_at (cid_cmp q)) es ≡ Some v → Among (q, v) es
+found_among q [] v e = absurd (cc e)
+found_among q (x ∷ es) v e = by (is_at (cid_cmp q) x.0) refl e (λ l. found_among q es v l)
+  where
+    by : (b : Bool) → is_at (cid_cmp q) x.0 ≡ b → cond b (Some x.1) (lookup (is_at (cid_cmp q)) es) ≡ Some v → (lookup (is_at (cid_cmp q)) es ≡ Some v → Among (q, v) es) → Among (q, v) (x ∷ es)
+    by true t l f = let same : x.1 ≡ v = cc l in let key = at_same q x.0 t in inl (λ i. (key i, sym same i))
+    by false t l f = inr (f l)
+
+not_unheld : (q : CidParts) (v : Vec ℕ Global) (es : List Entry) → Among (q, v) es → lookup (is_at (cid_cmp q)) es ≡ None → ⊥
+not_unheld q v [] m e = m
+not_unheld q v (x ∷ es) (inl same) e =
+    let hit = same_at q x.0 (ap (λ (p : Entry). p.0) same) in
+    let f : Some x.1 ≡ None = sym (ap (λ b. cond b (Some x.1) (lookup (is_at (cid_cmp q)) es)) hit) ∙ e in
+    absurd (cc f)
+not_unheld q v (x ∷ es) (inr m) e = by (is_at (cid_cmp q) x.0) e (λ l. not_unheld q v es m l)
+  where
+    by : (b : Bool) → cond b (Some x.1) (lookup (is_at (cid_cmp q)) es) ≡ None → (lookup (is_at (cid_cmp q)) es ≡ None → ⊥) → ⊥
+    by true l f = absurd (cc l)
+    by false l f = f l
+
+module _ (cids : CidEqualityIsOfBytes) (held : BTreeMap CidParts (Vec ℕ Global)) (sound : ∥ AllByRecursion IsSound held.entries ∥₁) where
+  linked_in : (form : List ℕ) → Linked (values_of held.entries) form → IsLinked form (shown held.entries)
+  linked_in form l =
+      let e = map_among (λ (e : Entry). e.1) l.0 held.entries l.2 in
+      ((e.0.0, e.0.1.items), l.1, among_map (λ (e : Entry). (e.0, e.1.items)) e.0 held.entries e.1, subst (λ (w : Vec ℕ Global). IsSpelling w.items l.1) e.2 l.3, l.4)
+
+  in_linked : (form : List ℕ) → IsLinked form (shown held.entries) → Linked (values_of held.entries) form
+  in_linked form l =
+      let e = map_among (λ (e : Entry). (e.0, e.1.items)) l.0 held.entries l.2 in
+      (e.0.1, l.1, among_map (λ (e : Entry). e.1) e.0 held.entries e.1, subst (λ b. IsSpelling b l.1) (ap (λ (p : CidParts × List ℕ). p.1) e.2) l.3, l.4)
+
+  unnamed : (q : CidParts) → AreCidParts q → IsUnheld held q → NamesNone (cid_bytes q) (shown held.entries)
+  unnamed q p free e m same =
+      let k = map_among (λ (e : Entry). (e.0, e.1.items)) e held.entries m in
+      not_there sound (λ s.
+      let b = all_among IsSound held.entries k.0 s k.1 in
+      let key : cid_bytes k.0.0 ≡ cid_bytes q = sym (ap (λ (p : CidParts × List ℕ). cid_bytes p.0) k.2) ∙ same in
+      let is = cid_unique cids k.0.0 q (subst AreCidParts (sym b.named) (name_is_cid k.0.1.items)) p key in
+      not_unheld q k.0.1 held.entries (subst (λ (n : CidParts). Among (n, k.0.1) held.entries) is k.1) free)
+
+  names_unheld : (q : CidParts) → NamesNone (cid_bytes q) (shown held.entries) → IsUnheld held q
+  names_unheld q n = by (get cid_cmp held q) refl
+    where
+      by : (o : Option (Vec ℕ Global)) → get cid_cmp held q ≡ o → get cid_cmp held q ≡ None
+      by None e = e
+      by (Some v) e = absurd (n (q, v.items) (among_map (λ (e : Entry). (e.0, e.1.items)) (q, v) held.entries (found_among q held.entries v e)) refl)
+
+  pub all_listed : (s : BTreeSet CidParts) (rest : List (Vec ℕ Global)) (items : List CidParts) → rest ≡ [] → SoFar held rest s → items ≡ s.keys
+      → (form : List ℕ) → Among form (forms items) ↔ (IsLinked form (shown held.entries) × NamesNone form (shown held.entries))
+  all_listed s rest items end h is form = (
+    λ m.
+        let k = map_among cid_bytes form items m in
+        let w = (h.listed k.0).0 (subst (Among k.0) is k.1) in
+        subst (λ f. IsLinked f (shown held.entries) × NamesNone f (shown held.entries)) (sym k.2)
+        (linked_in (cid_bytes k.0) (subst (λ vs. Linked vs (cid_bytes k.0)) seen w.1), unnamed k.0 w.0 w.2),
+    λ m.
+        let c = links_are_cids m.0.1 form m.0.3.well_formed m.0.4 in
+        let l = subst (λ f. Linked h.seen f) c.2 (subst (λ vs. Linked vs form) (sym seen) (in_linked form m.0)) in
+        let n = subst (λ f. NamesNone f (shown held.entries)) c.2 m.1 in
+        let found = (h.listed c.0).1 c.1 l (names_unheld c.0 n) in
+        subst (λ f. Among f (forms items)) (sym c.2) (among_map cid_bytes c.0 items (subst (Among c.0) (sym is) found)),
+  )
+    where
+      seen : h.seen ≡ values_of held.entries
+      seen = sym (h.all ∙ ap (λ l. h.seen ++ l) end ∙ append-nil h.seen)

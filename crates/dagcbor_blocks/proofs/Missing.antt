@@ -1,0 +1,153 @@
+-- Links that name no held block.
+use Rattle.std.proofs.Common.{◌≡◌, ◌⊎◌, inl, inr, ℕ, ◌+◌, ◌<◌, ◌≤◌, List, [], ◌∷◌, ◌++◌, length, get_or, take, Bool, true, false, ◌||◌, cond, Ordering, Less, Equal, Greater, refl, sym, ap, ◌∙◌, subst, arith, add-one}
+use Rattle.std.specs.Prelude.{◌↔◌, Option, None, Some, is_some, Ok}
+use Rattle.std.specs.Ordering.{nat_cmp, ordering_then, ordering_reverse, is_eq}
+use Rattle.std.specs.Cmp.Lexicographic.{slice_cmp}
+use Rattle.std.specs.List.{AllByRecursion, list_any}
+use Rattle.std.specs.BTreeMap.{BTreeMap, is_at, get}
+use Rattle.std.specs.BTreeSet as set
+use Rattle.std.specs.BTreeSet.{BTreeSet}
+use Rattle.std.proofs.Math.Seq.{take-suc, take-length}
+use Rattle.std.proofs.lemmas.Cmp.{nat_cmp_total, nat_list_cmp_total}
+use Rattle.serde_ipld_dagcbor.specs.Cid.{CidParts, AreCidParts, cid_cmp}
+use Rattle.serde_ipld_dagcbor.specs.CidHash.{same_cid, is_equal}
+use Rattle.dagcbor_blocks.specs.Blocks.{Among, IsUnheld, AddsOne}
+
+-- ---- the order of CIDs
+
+self_equal : (o : Ordering) → o ≡ ordering_reverse o → o ≡ Equal
+self_equal Less e = absurd (cc e)
+self_equal Equal e = refl
+self_equal Greater e = absurd (cc e)
+
+then_equal : (a b : Ordering) → a ≡ Equal → b ≡ Equal → ordering_then a b ≡ Equal
+then_equal a b e f = ap (λ o. ordering_then o b) e ∙ f
+
+number_equal : (n : ℕ) → nat_cmp n n ≡ Equal
+number_equal n = self_equal (nat_cmp n n) (nat_cmp_total.antisymm n n)
+
+cid_equal : (q : CidParts) → cid_cmp q q ≡ Equal
+cid_equal q = then_equal _ _ (number_equal q.version) (then_equal _ _ (number_equal q.codec) (then_equal _ _ (number_equal q.hash_code) (self_equal (slice_cmp nat_cmp q.digest q.digest) (nat_list_cmp_total.antisymm q.digest q.digest))))
+
+pub at_same : (q k : CidParts) → is_at (cid_cmp q) k ≡ true → q ≡ k
+at_same q k h = same_cid q k (is_equal (cid_cmp q k) h)
+
+pub same_at : (q k : CidParts) → q ≡ k → is_at (cid_cmp q) k ≡ true
+same_at q k e = ap is_eq (ap (cid_cmp q) (sym e) ∙ cid_equal q)
+
+-- ---- sets
+
+pub any_among : (q : CidParts) (ks : List CidParts) → list_any (is_at (cid_cmp q)) ks ≡ true → Among q ks
+any_among q [] h = absurd (cc h)
+any_among q (k ∷ ks) h = by (is_at (cid_cmp q) k) refl h (λ m. any_among q ks m)
+  where
+    by : (b : Bool) → is_at (cid_cmp q) k ≡ b → (b || list_any (is_at (cid_cmp q)) ks) ≡ true → (list_any (is_at (cid_cmp q)) ks ≡ true → Among q ks) → Among q (k ∷ ks)
+    by true t m f = inl (at_same q k t)
+    by false t m f = inr (f m)
+
+pub among_any : (q : CidParts) (ks : List CidParts) → Among q ks → list_any (is_at (cid_cmp q)) ks ≡ true
+among_any q [] h = absurd h
+among_any q (k ∷ ks) (inl e) = ap (λ b. b || list_any (is_at (cid_cmp q)) ks) (same_at q k e)
+among_any q (k ∷ ks) (inr h) = by (is_at (cid_cmp q) k) (among_any q ks h)
+  where
+    by : (b : Bool) → list_any (is_at (cid_cmp q)) ks ≡ true → (b || list_any (is_at (cid_cmp q)) ks) ≡ true
+    by true m = refl
+    by false m = m
+
+-- ---- one link
+
+pub held_link : {X : Type 0} (held : BTreeMap CidParts X) (link : CidParts) (s : BTreeSet CidParts) → AreCidParts link → true ≡ is_some (get cid_cmp held link) → AddsOne {E = ℕ} held link s (Ok tt) s
+held_link held link s valid some = (
+  valid,
+  λ q. (
+    inl,
+    λ h. elim h [
+      | inl m ↦ m
+      | inr u ↦ absurd (no_some (get cid_cmp held link) some (subst (IsUnheld held) u.0 u.1))
+    ],
+  ),
+)
+  where
+    no_some : {X : Type 0} (o : Option X) → true ≡ is_some o → o ≡ None → ⊥
+    no_some o t e = let f : is_some o ≡ false = ap is_some e in absurd (cc (t, f))
+
+pub unheld : {X : Type 0} (o : Option X) → false ≡ is_some o → o ≡ None
+unheld None e = refl
+unheld (Some x) e = absurd (cc e)
+
+pub put_link : {X : Type 0} (held : BTreeMap CidParts X) (link : CidParts) (old new : BTreeSet CidParts) → AreCidParts link → IsUnheld held link
+    → ((q : CidParts) → set.contains cid_cmp new q ≡ cond (is_at (cid_cmp link) q) true (set.contains cid_cmp old q)) → AddsOne {E = ℕ} held link old (Ok tt) new
+put_link held link old new valid free put = (
+  valid,
+  λ q. (
+    λ m. there q (is_at (cid_cmp link) q) refl (sym (put q) ∙ among_any q new.keys m),
+    λ h. any_among q new.keys (put q ∙ back q h),
+  ),
+)
+  where
+    there : (q : CidParts) (b : Bool) → is_at (cid_cmp link) q ≡ b → cond b true (set.contains cid_cmp old q) ≡ true → Among q old.keys ⊎ ((q ≡ link) × IsUnheld held q)
+    there q true t m = let same = at_same link q t in inr (sym same, subst (IsUnheld held) same free)
+    there q false t m = inl (any_among q old.keys m)
+
+    kept : (b : Bool) {x : Bool} → x ≡ true → cond b true x ≡ true
+    kept true e = refl
+    kept false e = e
+
+    back : (q : CidParts) → Among q old.keys ⊎ ((q ≡ link) × IsUnheld held q) → cond (is_at (cid_cmp link) q) true (set.contains cid_cmp old q) ≡ true
+    back q (inl m) = kept (is_at (cid_cmp link) q) (among_any q old.keys m)
+    back q (inr u) = ap (λ b. cond b true (set.contains cid_cmp old q)) (same_at link q (sym u.0))
+
+-- ---- many links
+
+pub among_push : {X : Type 0} (x : X) (xs : List X) (y : X) → Among x (xs ++ y ∷ []) → Among x xs ⊎ (x ≡ y)
+among_push x [] y (inl e) = inr e
+among_push x [] y (inr h) = absurd h
+among_push x (z ∷ zs) y (inl e) = inl (inl e)
+among_push x (z ∷ zs) y (inr h) = elim (among_push x zs y h) [ inl m ↦ inl (inr m) | inr e ↦ inr e ]
+
+pub push_among : {X : Type 0} (x : X) (xs : List X) (y : X) → Among x xs ⊎ (x ≡ y) → Among x (xs ++ y ∷ [])
+push_among x [] y (inl h) = absurd h
+push_among x [] y (inr e) = inl e
+push_among x (z ∷ zs) y (inl (inl e)) = inl e
+push_among x (z ∷ zs) y (inl (inr h)) = inr (push_among x zs y (inl h))
+push_among x (z ∷ zs) y (inr e) = inr (push_among x zs y (inr e))
+
+all_push : (xs : List CidParts) (y : CidParts) → AllByRecursion AreCidParts xs → AreCidParts y → AllByRecursion AreCidParts (xs ++ y ∷ [])
+all_push [] y h p = (p, tt)
+all_push (x ∷ xs) y h p = (h.0, all_push xs y h.1 p)
+
+-- what was added of the first so many links
+abbrev pub AddedSoFar : {X : Type 0} → BTreeMap CidParts X → List CidParts → BTreeSet CidParts → BTreeSet CidParts → Type 0
+AddedSoFar held links old new = AllByRecursion AreCidParts links × ((q : CidParts) → Among q new.keys ↔ (Among q old.keys ⊎ (Among q links × IsUnheld held q)))
+
+pub added_none : {X : Type 0} (held : BTreeMap CidParts X) (s : BTreeSet CidParts) → AddedSoFar held [] s s
+added_none held s = (tt, λ q. (inl, λ h. elim h [ inl m ↦ m | inr u ↦ absurd u.0 ]))
+
+added_push : {X : Type 0} (held : BTreeMap CidParts X) (links : List CidParts) (link : CidParts) (old mid new : BTreeSet CidParts) → AddedSoFar held links old mid → AddsOne {E = ℕ} held link mid (Ok tt) new → AddedSoFar held (links ++ link ∷ []) old new
+added_push held links link old mid new h one = (
+  all_push links link h.0 one.0,
+  λ q. (
+    λ m. elim ((one.1 q).0 m) [
+      | inl n ↦ elim ((h.1 q).0 n) [ inl o ↦ inl o | inr u ↦ inr (push_among q links link (inl u.0), u.1) ]
+      | inr u ↦ inr (push_among q links link (inr u.0), u.1)
+    ],
+    λ m. elim m [
+      | inl o ↦ (one.1 q).1 (inl ((h.1 q).1 (inl o)))
+      | inr u ↦ elim (among_push q links link u.0) [
+        | inl n ↦ (one.1 q).1 (inl ((h.1 q).1 (inr (n, u.1))))
+        | inr e ↦ (one.1 q).1 (inr (e, u.1))
+      ]
+    ],
+  ),
+)
+
+pub added_next : {X : Type 0} (held : BTreeMap CidParts X) (links : List CidParts) (i : ℕ) (link : CidParts) (old mid new : BTreeSet CidParts) → i < length links → link ≡ get_or links i link
+    → AddedSoFar held (take i links) old mid → AddsOne {E = ℕ} held link mid (Ok tt) new → AddedSoFar held (take (i + 1) links) old new
+added_next held links i link old mid new within is h one =
+    let more : take i links ++ link ∷ [] ≡ take (i + 1) links = ap (λ y. take i links ++ y ∷ []) is ∙ sym (take-suc links i link within) ∙ ap (λ n. take n links) (sym (add-one i)) in
+    subst (λ ls. AddedSoFar held ls old new) more (added_push held (take i links) link old mid new h one)
+
+pub added_all : {X : Type 0} (held : BTreeMap CidParts X) (links : List CidParts) (i : ℕ) (old new : BTreeSet CidParts) → i ≤ length links → length links ≤ i → AddedSoFar held (take i links) old new → AddedSoFar held links old new
+added_all held links i old new below end h =
+    let same : i ≡ length links = omega (arith, below, end) in
+    subst (λ ls. AddedSoFar held ls old new) (ap (λ n. take n links) same ∙ take-length links) h

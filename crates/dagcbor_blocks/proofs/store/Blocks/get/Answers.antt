@@ -1,0 +1,23 @@
+use Rattle.std.proofs.Common.{sym, subst}
+use Rattle.std.specs.Prelude.{Some}
+use Rattle.serde_ipld_dagcbor.specs.Whole.{IsWhole, WholeRefused}
+use Rattle.dagcbor_blocks.proofs.Keeping.{block_found, no_block_found, digest_of_found, not_got}
+use Rattle.dagcbor_blocks.proofs.store.Blocks.get.Goals as goal
+
+pub returns-in-None : goal.returns-in-None
+returns-in-None g c = no_block_found c.args.name.now c.args.self.now.held.entries (sym c.in-None.ensures.value)
+
+pub returns-in-Ok : goal.returns-in-Ok
+returns-in-Ok g c =
+    let found = sym c.in-Some.ensures.value in (
+      c.in-Some.block.now.items,
+      (block_found c.args.name.now c.args.self.now.held.entries c.in-Some.block.now found, digest_of_found c.args.name.now c.args.self.now.held.entries c.in-Some.block.now found c.args.self.now.sound),
+      subst (λ b. IsWhole g.T.Shown.view g.T.Shown.need b (g.T.Shown.held c.in-Ok.value)) c.deref.ensures.value c.in-Ok.ensures,
+    )
+
+pub returns-in-Err : goal.returns-in-Err
+returns-in-Err g c =
+    let found = sym c.in-Some.ensures.value in
+    not_got g.T.Shown.view g.T.Shown.need c.args.name.now _ c.in-Some.block.now.items c.in-Err.error c.of_decoding.result
+    (block_found c.args.name.now c.args.self.now.held.entries c.in-Some.block.now found, digest_of_found c.args.name.now c.args.self.now.held.entries c.in-Some.block.now found c.args.self.now.sound)
+    (subst (λ b. WholeRefused ⊥ g.T.Shown.view g.T.Shown.need (Some b) c.in-Err.error) c.deref.ensures.value c.in-Err.ensures) c.of_decoding.ensures

@@ -1,0 +1,4 @@
+pub mod Names
+pub mod Errors
+pub mod Sound
+pub mod Blocks

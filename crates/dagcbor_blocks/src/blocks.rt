@@ -1,0 +1,141 @@
+//! Keeping blocks, reading them, and finding links that lead nowhere.
+
+ghost use Rattle.std.specs.Prelude.{◌≡◌, []};
+ghost use Rattle.dagcbor_blocks.specs.Blocks.{held_blocks, HasTree, HasBlock, Checks, Stores, Keeps, Puts, Gets, AddsOne, AddsMissing, ListsSet, ListsMissing};
+
+use crate::error::BlockError;
+use crate::name::name_of_bytes;
+use crate::store::Blocks;
+use serde_ipld_dagcbor::{Cid, Deserialize, Serialize, from_slice, laws, links_from_slice, to_vec};
+use std::alloc::{AllocError, Global};
+use std::collections::{BTreeMap, BTreeSet};
+
+/// Whether the links of a spelling are read.
+fn check(alloc: Global, bytes: &[u8]) -> Result<(), BlockError>
+    requires { HasTree bytes.now }
+    ensures { Checks bytes.now result }
+{
+    laws::spelling_unique();
+    match links_from_slice(alloc, bytes) {
+        Ok(_links) => Ok(()),
+        Err(error) => Err(BlockError::of_decoding(error)),
+    }
+}
+
+/// The links of a set, in their order.
+fn in_order(alloc: Global, links: BTreeSet<Cid>) -> Result<Vec<Cid>, AllocError>
+    ensures { ListsSet links.keys result }
+{
+    let mut list = Vec::new(alloc);
+    for link in links {
+        list.push(link)?;
+    }
+    Ok(list)
+}
+
+impl Blocks {
+    pub fn new(alloc: Global) -> Blocks
+        ensures { held_blocks result ≡ [] }
+    {
+        let held = BTreeMap::new(alloc);
+        Blocks { alloc, held }
+    }
+
+    /// Keeps the value's spelling under its name. A refusal changes nothing.
+    pub fn put<T: Serialize>(&mut self, value: &T) -> Result<Cid, BlockError>
+        ensures { Puts (T.tree value.now) (held_blocks self.old) result (held_blocks self.new) }
+    {
+        laws::spelling_unique();
+        match to_vec(self.alloc, value) {
+            Ok(bytes) => self.keep(bytes),
+            Err(error) => Err(BlockError::of_encoding(error)),
+        }
+    }
+
+    fn keep(&mut self, bytes: Vec<u8>) -> Result<Cid, BlockError>
+        requires { HasTree bytes.items }
+        ensures { Keeps bytes.items (held_blocks self.old) result (held_blocks self.new) }
+    {
+        match check(self.alloc, &bytes) {
+            Ok(()) => self.store(bytes),
+            Err(error) => Err(error),
+        }
+    }
+
+    fn store(&mut self, bytes: Vec<u8>) -> Result<Cid, BlockError>
+        requires { HasBlock bytes.items }
+        ensures { Stores bytes.items (held_blocks self.old) result (held_blocks self.new) }
+    {
+        let name = name_of_bytes(&bytes);
+        if let Some(held) = self.held.get(&name) {
+            if held.as_slice() == bytes.as_slice() {
+                return Ok(name);
+            }
+            return Err(BlockError::Collision);
+        }
+        if self.held.insert(name, bytes).is_err() {
+            return Err(BlockError::OutOfMemory);
+        }
+        Ok(name)
+    }
+
+    /// The block under the name, read as a value. None where no block is held under it.
+    pub fn get<'a, T: Deserialize<'a>>(&'a self, name: &Cid) -> Result<Option<T>, BlockError>
+        ensures { Gets T.held T.view T.need name.now (held_blocks self.now) result }
+    {
+        match self.held.get(name) {
+            None => Ok(None),
+            Some(block) => match from_slice::<T>(self.alloc, block) {
+                Ok(value) => Ok(Some(value)),
+                Err(error) => Err(BlockError::of_decoding(error)),
+            },
+        }
+    }
+
+    /// The links in held blocks that name no held block, each once, in their order.
+    pub fn missing(&self) -> Result<Vec<Cid>, BlockError>
+        ensures { ListsMissing (held_blocks self.now) result }
+    {
+        laws::spelling_unique();
+        laws::cid_equality();
+        let mut missing = BTreeSet::new(self.alloc);
+        for block in self.held.values() {
+            let links = match links_from_slice(self.alloc, block) {
+                Ok(links) => links,
+                Err(error) => return Err(BlockError::of_decoding(error)),
+            };
+            if self.add_missing(&links, &mut missing).is_err() {
+                return Err(BlockError::OutOfMemory);
+            }
+        }
+        match in_order(self.alloc, missing) {
+            Ok(links) => Ok(links),
+            Err(_) => Err(BlockError::OutOfMemory),
+        }
+    }
+
+    /// Adds those of the links that name no held block.
+    fn add_missing(&self, links: &[Cid], missing: &mut BTreeSet<Cid>) -> Result<(), AllocError>
+        ensures { AddsMissing self.now.held links.now missing.old result missing.new }
+    {
+        for link in links {
+            self.add_if_missing(link, missing)?;
+        }
+        Ok(())
+    }
+
+    fn add_if_missing(&self, link: &Cid, missing: &mut BTreeSet<Cid>) -> Result<(), AllocError>
+        ensures { AddsOne self.now.held link.now missing.old result missing.new }
+    {
+        // What is known of a CID comes with its version.
+        let _version = link.version();
+        let is_held = self.held.contains_key(link);
+        if is_held {
+            return Ok(());
+        }
+        match missing.insert(*link) {
+            Ok(_added) => Ok(()),
+            Err(_) => Err(AllocError),
+        }
+    }
+}

@@ -1,0 +1,45 @@
+//! A struct written by hand, which has the name of a map of the same entries.
+
+ghost use Rattle.std.specs.Prelude.{Some, [], ◌∷◌, codes, pos};
+ghost use Rattle.serde_ipld_dagcbor.specs.Tree.{integer, entries_tree};
+ghost use Rattle.serde_ipld_dagcbor.specs.Trees.{field};
+
+use crate::name_of;
+use serde_ipld_dagcbor::{EncodeError, Serialize, Serializer, Write};
+use std::alloc::Global;
+use std::collections::HashMap;
+use std::test::Fail;
+
+struct Pair {
+    a: u8,
+    b: u8,
+}
+
+impl Serialize for Pair {
+    ghost tree = { λ p. entries_tree (field (codes "a") (Some (integer (pos p.a)))
+        ∷ field (codes "b") (Some (integer (pos p.b))) ∷ []) };
+
+    fn serialize<W: Write>(
+        &self,
+        alloc: Global,
+        ser: &mut Serializer<W>,
+    ) -> Result<(), EncodeError<W::Error>> {
+        let mut fields = ser.serialize_struct(alloc, "Pair", 2)?;
+        fields.serialize_field("a", &self.a)?;
+        fields.serialize_field("b", &self.b)?;
+        fields.end()
+    }
+}
+
+#[test]
+fn a_struct_and_a_map_have_one_name(rt: HostRuntime) -> Result<(), Fail> {
+    let alloc = rt.alloc();
+    let mut map = HashMap::new(alloc);
+    drop(map.insert("b", 2u8)?);
+    drop(map.insert("a", 1u8)?);
+    assert_eq!(rt;
+        name_of(alloc, &Pair { a: 1, b: 2 })?,
+        name_of(alloc, &map)?
+    );
+    Ok(())
+}

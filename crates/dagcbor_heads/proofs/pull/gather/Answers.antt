@@ -1,0 +1,12 @@
+use Rattle.dagcbor_heads.proofs.Refusing.{refused}
+use Rattle.dagcbor_heads.proofs.Looking.{looks_then, looks_both, taken_left}
+use Rattle.dagcbor_heads.proofs.pull.gather.Goals as goal
+
+pub returns-in_err-count-clause-looked : goal.returns-in_err-count-clause-looked
+returns-in_err-count-clause-looked g c = refused _ _ _ _ c.from_residual.ensures.1 (looks_then c.loop-left.invariant.looked c.in_err-count.ensures.looked)
+
+pub returns-then-count-eq0-clause-looked : goal.returns-then-count-eq0-clause-looked
+returns-then-count-eq0-clause-looked g c = taken_left (looks_both c.loop-left.invariant.looked c.in_ok-count.ensures.looked)
+
+pub returns-clause-looked : goal.returns-clause-looked
+returns-clause-looked g c = c.loop-left.invariant.looked

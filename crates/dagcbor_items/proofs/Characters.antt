@@ -1,0 +1,48 @@
+-- Reading characters.
+use Rattle.std.proofs.Common.{◌≡◌, inr, ℕ, List, [], ◌∷◌, ◌++◌, length, true, refl, sym, ap, ◌∙◌, subst}
+use Rattle.std.specs.Prelude.{Some, None, is_some, IsUtf8, codes}
+use Rattle.std.specs.Char.{encode_utf8}
+use Rattle.std.specs.Str.{chars}
+use Rattle.std.proofs.lemmas.Str.{chars-nil, chars_past_char, IsUtf8-past_char}
+use Rattle.dagcbor_heads.specs.Names.{Names}
+use Rattle.dagcbor_heads.specs.Reading.{Reading}
+use Rattle.dagcbor_heads.specs.Refusals.{Refuses}
+use Rattle.dagcbor_heads.specs.declared.name.Name.{Name}
+use Rattle.dagcbor_heads.specs.declared.error.DecodeError.{DecodeError}
+use Rattle.dagcbor_heads.specs.declared.error.DecodeError.TheVariants.{Msg}
+use Rattle.ipld_tree.specs.Spelling.{IsFront}
+use Rattle.ipld_tree.proofs.Fronts.{front_unique}
+use Rattle.dagcbor_items.specs.Reads.{HasFront, TakesFront}
+use Rattle.dagcbor_items.specs.Views.{only, view_text, view_char, no_need}
+use Rattle.dagcbor_items.proofs.StringReads.{shown_text}
+use Rattle.dagcbor_items.specs.LeafCauses.{CharStands}
+
+empty : (s : List ℕ) → length s ≡ 0 → s ≡ []
+empty [] e = refl
+empty (c ∷ s) e = absurd (cc e)
+
+pub one_char : (s rest : List ℕ) (c : ℕ) → IsUtf8 s → s ≡ encode_utf8 c ++ rest → length rest ≡ 0 → Some c ≡ only (chars s)
+one_char s rest c u e none = sym (ap only (chars_past_char s rest c u e ∙ ap (λ x. c ∷ chars x) (empty rest none) ∙ ap (λ x. c ∷ x) chars-nil))
+
+pub two_chars : (s rest more : List ℕ) (c d : ℕ) → IsUtf8 s → s ≡ encode_utf8 c ++ rest → rest ≡ encode_utf8 d ++ more → None ≡ only (chars s)
+two_chars s rest more c d u e f = sym (ap only (chars_past_char s rest c u e ∙ ap (λ x. c ∷ x) (chars_past_char rest more d (IsUtf8-past_char s rest c u e) f)))
+
+-- ---- a text of one character
+
+-- the refusal of a text that has not one character
+abbrev IsCharMessage : {E : Type 0} → DecodeError E → Type 0
+IsCharMessage e = (message : Name) × (e ≡ Msg message) × Names message (codes "Char must be one character")
+
+pub no_char : {E : Type 0} (lacks : Type 0) {old new : Reading} (e : DecodeError E) (s t : List ℕ) → IsCharMessage e → t ≡ s → None ≡ only (chars t) → TakesFront view_text no_need old s new
+    → Refuses (HasFront view_char no_need old) lacks ⊥ CharStands old e new
+no_char {E} lacks {old} {new} e s t is same none h = subst (λ x. Refuses {E = E} (HasFront view_char no_need old) lacks ⊥ CharStands old x new) (sym is.1) (
+  h.same.faults,
+  λ i. let k = h.taken i.bytes i.left in
+      let tree = (front_unique i.bytes i.rest k.1 i.tree k.0 i.front k.2).0 ∙ shown_text k.0 s k.3 in
+      let shown : is_some (only (chars s)) ≡ true = ap (λ t. is_some (view_char t)) (sym tree) ∙ i.accepted in
+      absurd (cc (shown, nothing)),
+  λ b l. let k = h.taken b l in inr (is.2, (s, k.1, subst (λ t. IsFront b t k.1) (shown_text k.0 s k.3) k.2, nothing)),
+)
+  where
+    nothing : only (chars s) ≡ None
+    nothing = ap (λ x. only (chars x)) (sym same) ∙ sym none

@@ -1,0 +1,99 @@
+-- Heads of some major types.
+use Rattle.std.proofs.Common.{◌≡◌, inl, inr, ℕ, ◌+◌, ◌*◌, ◌/◌, ◌<◌, ◌≤◌, List, ◌∷◌, ◌++◌, refl, sym, ap, ◌∙◌, subst, arith}
+use Rattle.std.specs.Prelude.{Some, Option}
+use Rattle.dagcbor_heads.specs.Head.{head}
+use Rattle.dagcbor_heads.specs.Names.{Names}
+use Rattle.dagcbor_heads.specs.Reading.{Reading}
+use Rattle.dagcbor_heads.specs.Fronts.{HasByte, HasHead, ShowsByte, TakesHead}
+use Rattle.dagcbor_heads.specs.Causes.{ByteCause, HeadCause, IsEndNamed, IsNamed}
+use Rattle.dagcbor_heads.specs.Refusals.{Refuses}
+use Rattle.dagcbor_heads.specs.declared.name.Name.{Name}
+use Rattle.dagcbor_heads.specs.declared.error.DecodeError.{DecodeError}
+use Rattle.dagcbor_heads.specs.declared.error.DecodeError.TheVariants.{Eof, Mismatch}
+use Rattle.dagcbor_heads.proofs.Heads.{head_first}
+use Rattle.dagcbor_heads.proofs.Taking.{stays, stays_both}
+use Rattle.dagcbor_heads.proofs.Refusing.{passed_on, byte_in_head, end_named}
+use Rattle.ipld_tree.specs.Tree.{Tree}
+use Rattle.ipld_tree.proofs.Unique.{major, argument, payload, argument_fits}
+use Rattle.ipld_tree.proofs.Fronts.{front_head}
+use Rattle.dagcbor_items.specs.Reads.{HasFront, TakesFront}
+use Rattle.dagcbor_items.specs.FirstBytes.{BeginsFrom}
+use Rattle.dagcbor_items.specs.LeafCauses.{KindStands}
+use Rattle.dagcbor_items.specs.Kinds.{HasKind, TakesKind}
+use Rattle.dagcbor_items.specs.Untyped.{StartsWithMajor}
+use Rattle.dagcbor_items.proofs.Fronts.{head_of, major_at}
+
+-- the same value in another form
+pub as_value : {V : Type 0} {view : Tree → Option V} {need : Tree → ℕ} {old new : Reading} (v w : V) → w ≡ v → TakesFront view need old v new → TakesFront view need old w new
+as_value {V} {view} {need} {old} {new} v w e h = subst (λ x. TakesFront view need old x new) (sym e) h
+
+-- a tree of such a major type has such a head
+pub kind_of_front : {V : Type 0} {view : Tree → Option V} {need : Tree → ℕ} {r : Reading} (low high : ℕ) (h : HasFront view need r) → low ≤ major h.tree → major h.tree ≤ high → HasKind low high r
+kind_of_front low high h least most = record {
+  major = major h.tree;
+  argument = argument h.tree;
+  rest = payload h.tree ++ h.rest;
+  lowest = least;
+  highest = most;
+  argument_fits = argument_fits h.tree h.front.spellable;
+  left = h.left ∙ ap Some (front_head h.front);
+}
+
+-- its first byte
+kind_first : {low high : ℕ} {r : Reading} → (h : HasKind low high r) → (i : ℕ) × (more : List ℕ) × (i < 28) × (head h.major h.argument ++ h.rest ≡ (32 * h.major + i) ∷ more)
+kind_first h = let f = head_first h.major h.argument h.argument_fits in (f.0, f.1 ++ h.rest, f.2, ap (λ s. s ++ h.rest) f.3)
+
+kind_byte : {low high : ℕ} {r : Reading} → HasKind low high r → HasByte r
+kind_byte h = let f = kind_first h in record { byte = 32 * h.major + f.0; rest = f.1; left = h.left ∙ ap Some f.3 }
+
+-- there is no byte to begin with
+pub no_byte_begins : {E : Type 0} (low high : ℕ) (e : DecodeError E) (b : List ℕ) → ByteCause e b → BeginsFrom low high b
+no_byte_begins low high (Eof n expect) b h = λ first more is. absurd (cc (is, h.1))
+no_byte_begins low high _ b h = absurd h
+
+pub kind_byte_refused : {E : Type 0} (name : List ℕ) (low high : ℕ) (old new : Reading) (e : DecodeError E) → IsEndNamed name e → Refuses (HasByte old) ⊥ ⊥ ByteCause old e new
+    → Refuses (HasKind low high old) ⊥ ⊥ (KindStands name low high) old e new
+kind_byte_refused name low high old new e named r = passed_on ByteCause (KindStands name low high) old old new e (stays old) kind_byte (λ x. x) (λ x. x) (λ b l. (b, l, λ h. inl (byte_in_head e b h, end_named name e named, no_byte_begins low high e b h))) r
+
+pub other_kind : (E : Type 0) (name : List ℕ) (low high : ℕ) {old mid : Reading} {first : ℕ} (kept : Name) → Names kept name → ShowsByte old first mid → (low ≤ first / 32 → first / 32 ≤ high → ⊥)
+    → Refuses {E = E} (HasKind low high old) ⊥ ⊥ (KindStands name low high) old (Mismatch kept first) mid
+other_kind E name low high {old} {mid} {first} kept named h other = (
+  h.same.faults,
+  λ k. let f = kind_first k in
+      let s = h.starts _ k.left in
+      let is : first ∷ s.0 ≡ (32 * k.major + f.0) ∷ f.1 = sym s.1 ∙ f.3 in
+      let same : first ≡ 32 * k.major + f.0 = cc in
+      other (omega (arith, same, f.2, k.lowest)) (omega (arith, same, f.2, k.highest)),
+  λ b l. let s = h.starts b l in inr (named, (s.0, s.1, other)),
+)
+
+-- the head behind the byte that was shown
+kind_head : {low high : ℕ} {old mid : Reading} {first : ℕ} → high < 8 → ShowsByte old first mid → HasKind low high old → HasHead mid
+kind_head few h k = record { major = k.major; argument = k.argument; rest = k.rest; major_fits = omega (arith, few, k.highest); argument_fits = k.argument_fits; left = h.kept _ k.left }
+
+pub kind_head_refused : {E : Type 0} (name : List ℕ) (low high : ℕ) {old mid : Reading} {first : ℕ} (new : Reading) (e : DecodeError E) → high < 8 → low ≤ first / 32 → first / 32 ≤ high → IsNamed name e → ShowsByte old first mid → Refuses (HasHead mid) ⊥ ⊥ HeadCause mid e new
+    → Refuses (HasKind low high old) ⊥ ⊥ (KindStands name low high) old e new
+kind_head_refused name low high {old} {mid} {first} new e few least most named h r =
+    passed_on HeadCause (KindStands name low high) old mid new e h.same (kind_head few h) (λ x. x) (λ x. x) (λ b l. (b, h.kept b l, λ c. inl (c, named, begins b l))) r
+  where
+    begins : (b : List ℕ) → old.left ≡ Some b → BeginsFrom low high b
+    begins b l = λ byte more is.
+        let s = h.starts b l in
+        let same : byte ≡ first = cc (is, s.1) in
+        (omega (arith, same, least), omega (arith, same, most))
+
+pub kind_taken : {low high : ℕ} {old mid new : Reading} {first kind n also : ℕ} → ShowsByte old first mid → low ≤ first / 32 → first / 32 ≤ high → TakesHead mid kind n also new → TakesKind low high old (first / 32) n new
+kind_taken {low} {high} {old} {mid} {new} {first} h least most t =
+    let k = head_of (first / 32) (major_at mid first (first / 32) h.still refl) t in
+    record {
+      lowest = least;
+      highest = most;
+      argument_fits = k.fits;
+      takes = record { taken = λ b l. k.taken b (h.kept b l); same = stays_both h.same k.same };
+    }
+
+-- the head behind a first byte of the major type
+pub head_kind : {kind m n first : ℕ} {old mid : Reading} → StartsWithMajor old kind → TakesHead old m n first mid → TakesKind kind kind old kind n mid
+head_kind {kind} {m} {n} {first} {old} {mid} starts t =
+    let k = head_of kind starts t in
+    record { lowest = omega arith; highest = omega arith; argument_fits = k.fits; takes = record { taken = k.taken; same = k.same } }

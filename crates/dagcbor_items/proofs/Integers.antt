@@ -1,0 +1,162 @@
+-- Reading numbers.
+use Rattle.std.proofs.Common.{◌≡◌, inl, inr, ℕ, zero, suc, ◌+◌, ◌*◌, ◌^◌, ◌<◌, ◌≤◌, ℤ, pos, negsuc, List, [], ◌∷◌, ◌++◌, true, refl, sym, ap, ◌∙◌, subst, arith, zero-le}
+use Rattle.std.specs.Prelude.{◌⊎◌, Some, None, Option, is_some, Result, Ok, Err}
+use Rattle.std.proofs.lemmas.Int.{ints, to_z-of_z}
+use Rattle.std.proofs.lemmas.Bool.Decides.{nat_tests}
+use mir.Syntax.{w128}
+use mir.Val.{SFits, to_z, of_z}
+use Rattle.dagcbor_heads.specs.Head.{head}
+use Rattle.dagcbor_heads.specs.Names.{Names}
+use Rattle.dagcbor_heads.specs.Reading.{Reading}
+use Rattle.dagcbor_heads.specs.Fronts.{HasByte, ShowsByte}
+use Rattle.dagcbor_heads.specs.Causes.{ByteCause, IsEndNamed}
+use Rattle.dagcbor_heads.specs.Refusals.{Refuses}
+use Rattle.dagcbor_heads.specs.declared.name.Name.{Name}
+use Rattle.dagcbor_heads.specs.declared.error.DecodeError.{DecodeError}
+use Rattle.dagcbor_heads.specs.declared.error.DecodeError.TheVariants.{Eof, CastOverflow, Unsupported}
+use Rattle.dagcbor_heads.proofs.Heads.{head_first}
+use Rattle.dagcbor_heads.proofs.Taking.{stays, stays_both}
+use Rattle.dagcbor_heads.proofs.Refusing.{passed_on, byte_in_head, end_named}
+use Rattle.ipld_tree.specs.Tree.{Tree, null, boolean, integer, text, bytes, list, mapping, link}
+use Rattle.ipld_tree.specs.Spelling.{IsFront}
+use Rattle.ipld_tree.proofs.Unique.{major}
+use Rattle.ipld_tree.proofs.Fronts.{front_unique}
+use Rattle.dagcbor_items.specs.Reads.{HasFront, TakesFront, Reads}
+use Rattle.dagcbor_items.specs.Views.{within, number_of, view_number, no_need}
+use Rattle.dagcbor_items.specs.LeafCauses.{BeginsNoLong, KindStands, IsOutside, LongStands}
+use Rattle.dagcbor_items.specs.Kinds.{HasKind, TakesKind}
+use Rattle.dagcbor_items.proofs.SimpleValues.{front_byte}
+use Rattle.dagcbor_items.proofs.HeadKinds.{kind_of_front, no_byte_begins}
+
+-- only a number shows one
+is_number : {V : Type 0} (accepted : ℤ → Option V) (t : Tree) → is_some (view_number accepted t) ≡ true → (n : ℤ) × (t ≡ integer n)
+is_number accepted (integer n) a = (n, refl)
+is_number accepted null a = absurd (cc a)
+is_number accepted (boolean b) a = absurd (cc a)
+is_number accepted (text b) a = absurd (cc a)
+is_number accepted (bytes b) a = absurd (cc a)
+is_number accepted (list b) a = absurd (cc a)
+is_number accepted (mapping b) a = absurd (cc a)
+is_number accepted (link b) a = absurd (cc a)
+
+number_major : (n : ℤ) → major (integer n) ≤ 1
+number_major (pos n) = omega arith
+number_major (negsuc n) = omega arith
+
+number_kind : {V : Type 0} (accepted : ℤ → Option V) {r : Reading} → HasFront (view_number accepted) no_need r → HasKind 0 1 r
+number_kind accepted h =
+    let n = is_number accepted h.tree h.accepted in
+    kind_of_front 0 1 h zero-le (subst (λ t. major t ≤ 1) (sym n.1) (number_major n.0))
+
+pub number_refused : {E : Type 0} (name : List ℕ) (old new : Reading) (e : DecodeError E) → Refuses (HasKind 0 1 old) ⊥ ⊥ (KindStands name 0 1) old e new
+    → Refuses (HasFront (view_number Some) no_need old) ⊥ ⊥ (KindStands name 0 1) old e new
+number_refused name old new e r = passed_on (KindStands name 0 1) (KindStands name 0 1) old old new e (stays old) (number_kind Some) (λ x. x) (λ x. x) (λ b l. (b, l, λ h. h)) r
+
+-- the number of a head
+number_front : (kind n : ℕ) (b rest : List ℕ) → kind ≤ 1 → n < 2 ^ 64 → b ≡ head kind n ++ rest → IsFront b (integer (number_of kind n)) rest
+number_front zero n b rest few fits e = record { well_formed = tt; spellable = fits; is = e }
+number_front (suc zero) n b rest few fits e = record { well_formed = tt; spellable = fits; is = e }
+number_front (suc (suc k)) n b rest few fits e = absurd (omega (arith, few))
+
+pub number_taken : {old new : Reading} {kind n : ℕ} → TakesKind 0 1 old kind n new → TakesFront (view_number Some) no_need old (number_of kind n) new
+number_taken {old} {new} {kind} {n} h = record {
+  taken = λ b l. let k = h.takes.taken b l in (integer (number_of kind n), k.0, number_front kind n b k.0 h.highest h.argument_fits k.1, refl, zero-le, k.2);
+  same = h.takes.same;
+}
+
+-- a number that was handed to a function
+pub handed : {V : Type 0} (accepted : ℤ → Option V) (n : ℤ) (o : Option V) → SFits w128 n → o ≡ accepted (to_z w128 (of_z w128 n)) → accepted n ≡ o
+handed accepted n o fits e = ap accepted (sym (to_z-of_z w128 n fits)) ∙ sym e
+
+-- ---- a number as a type has it
+
+all_numbers : (t : Tree) (n : ℤ) → view_number Some t ≡ Some n → t ≡ integer n
+all_numbers (integer m) n e = cc
+all_numbers null n e = absurd (cc e)
+all_numbers (boolean b) n e = absurd (cc e)
+all_numbers (text b) n e = absurd (cc e)
+all_numbers (bytes b) n e = absurd (cc e)
+all_numbers (list b) n e = absurd (cc e)
+all_numbers (mapping b) n e = absurd (cc e)
+all_numbers (link b) n e = absurd (cc e)
+
+some_number : {V : Type 0} (accepted : ℤ → Option V) {r : Reading} → HasFront (view_number accepted) no_need r → HasFront (view_number Some) no_need r
+some_number accepted h =
+    let n = is_number accepted h.tree h.accepted in
+    record { bytes = h.bytes; tree = h.tree; rest = h.rest; left = h.left; front = h.front; accepted = ap (λ t. is_some (view_number Some t)) n.1; within = zero-le }
+
+pub narrowed : {V : Type 0} (accepted : ℤ → Option V) {old new : Reading} (n : ℤ) (v : V) → accepted n ≡ Some v → TakesFront (view_number Some) no_need old n new → TakesFront (view_number accepted) no_need old v new
+narrowed accepted {old} {new} n v e h = record {
+  taken = λ b l. let k = h.taken b l in (k.0, k.1, k.2, ap (view_number accepted) (all_numbers k.0 n k.3) ∙ e, zero-le, k.5);
+  same = h.same;
+}
+
+-- the causes where not each number is accepted
+abbrev pub Narrowed : {V E : Type 0} → (ℤ → Option V) → (DecodeError E → List ℕ → Type 0) → List ℕ → DecodeError E → List ℕ → Type 0
+Narrowed accepted stands name e b = stands e b ⊎ IsOutside name accepted e b
+
+pub narrow_refused : {V E : Type 0} (accepted : ℤ → Option V) (stands : DecodeError E → List ℕ → Type 0) (name : List ℕ) (old new : Reading) (e : DecodeError E) → Refuses (HasFront (view_number Some) no_need old) ⊥ ⊥ stands old e new
+    → Refuses (HasFront (view_number accepted) no_need old) ⊥ ⊥ (Narrowed accepted stands name) old e new
+narrow_refused accepted stands name old new e r = passed_on stands (Narrowed accepted stands name) old old new e (stays old) (some_number accepted) (λ x. x) (λ x. x) (λ b l. (b, l, λ h. inl h)) r
+
+pub outside : (E : Type 0) {V : Type 0} (accepted : ℤ → Option V) (stands : DecodeError E → List ℕ → Type 0) (name : List ℕ) {old new : Reading} (n : ℤ) (kept : Name) → accepted n ≡ None → Names kept name → TakesFront (view_number Some) no_need old n new
+    → Refuses {E = E} (HasFront (view_number accepted) no_need old) ⊥ ⊥ (Narrowed accepted stands name) old (CastOverflow kept) new
+outside E accepted stands name {old} {new} n kept none named h = (
+  h.same.faults,
+  λ i. let k = h.taken i.bytes i.left in
+      let same = (front_unique i.bytes i.rest k.1 i.tree k.0 i.front k.2).0 ∙ all_numbers k.0 n k.3 in
+      let shown : is_some (accepted n) ≡ true = ap (λ t. is_some (view_number accepted t)) (sym same) ∙ i.accepted in
+      absurd (cc (shown, none)),
+  λ b l. let k = h.taken b l in inr (named, (n, k.1, subst (λ t. IsFront b t k.1) (all_numbers k.0 n k.3) k.2, none)),
+)
+
+-- ---- numbers of any size
+
+no_byte_no_tag : {E : Type 0} (e : DecodeError E) (b : List ℕ) → ByteCause e b → BeginsNoLong b
+no_byte_no_tag (Eof n expect) b h = λ found more is which. let e : [] ≡ found ∷ more = sym h.1 ∙ is in absurd (cc e)
+no_byte_no_tag _ b h = absurd h
+
+pub long_byte_refused : {E : Type 0} (name : List ℕ) (old new : Reading) (e : DecodeError E) → IsEndNamed name e → Refuses (HasByte old) ⊥ ⊥ ByteCause old e new
+    → Refuses (HasFront (view_number Some) no_need old) ⊥ ⊥ (LongStands name) old e new
+long_byte_refused name old new e named r = passed_on ByteCause (LongStands name) old old new e (stays old) front_byte (λ x. x) (λ x. x) (λ b l. (b, l, λ h. inl (inl (byte_in_head e b h, end_named name e named, no_byte_begins 0 1 e b h), no_byte_no_tag e b h))) r
+
+-- a tag is no number
+pub no_tag : (E : Type 0) (name : List ℕ) {old mid : Reading} {first : ℕ} (kept : Name) → Names kept name → ShowsByte old first mid → (first ≡ 0xc2) ⊎ (first ≡ 0xc3)
+    → Refuses {E = E} (HasFront (view_number Some) no_need old) ⊥ ⊥ (LongStands name) old (Unsupported kept first) mid
+no_tag E name {old} {mid} {first} kept named h which = (
+  h.same.faults,
+  λ i. let k = number_kind Some i in
+      let f = head_first k.major k.argument k.argument_fits in
+      let s = h.starts _ k.left in
+      let is : first ∷ s.0 ≡ (32 * k.major + f.0) ∷ (f.1 ++ k.rest) = sym s.1 ∙ ap (λ s. s ++ k.rest) f.3 in
+      let same : first ≡ 32 * k.major + f.0 = cc is in
+      elim which [ inl e ↦ omega (arith, e, same, f.2, k.highest) | inr e ↦ omega (arith, e, same, f.2, k.highest) ],
+  λ b l. let s = h.starts b l in inr (named, (s.0, s.1, which)),
+)
+
+some_still : {old mid : Reading} {first : ℕ} → ShowsByte old first mid → HasFront (view_number Some) no_need old → HasFront (view_number Some) no_need mid
+some_still h i = record { bytes = i.bytes; tree = i.tree; rest = i.rest; left = h.kept i.bytes i.left; front = i.front; accepted = i.accepted; within = zero-le }
+
+pub long_read : {E : Type 0} (name : List ℕ) {old mid : Reading} {first : ℕ} (new : Reading) (r : Result ℤ (DecodeError E)) → ShowsByte old first mid → ((first ≡ 0xc2) ⊎ (first ≡ 0xc3) → ⊥) → Reads (λ n. n) (view_number Some) no_need ⊥ ⊥ (KindStands name 0 1) mid r new
+    → Reads (λ n. n) (view_number Some) no_need ⊥ ⊥ (LongStands name) old r new
+long_read name {old} {mid} new (Ok n) h other a = record {
+  taken = λ b l. (let k = a.taken b (h.kept b l) in (k.0, k.1, k.2, k.3, zero-le, k.5));
+  same = stays_both h.same a.same;
+}
+long_read name {old} {mid} {first} new (Err e) h other r = passed_on (KindStands name 0 1) (LongStands name) old mid new e h.same (some_still h) (λ x. x) (λ x. x)
+    (λ b l. (
+      b,
+      h.kept b l,
+      λ c. inl (
+        c,
+        λ found more is which.
+            let s = h.starts b l in
+            let same : first ∷ s.0 ≡ found ∷ more = sym s.1 ∙ is in
+            let found_is : found ≡ first = cc same in
+            other (subst (λ n. (n ≡ 0xc2) ⊎ (n ≡ 0xc3)) found_is which),
+      ),
+    )) r
+
+pub within_i128 : (n : ℤ) → SFits w128 n → within (2 ^ 127) n ≡ Some n
+within_i128 (pos n) h = grind (arith, ints, nat_tests)
+within_i128 (negsuc n) h = grind (arith, ints, nat_tests)

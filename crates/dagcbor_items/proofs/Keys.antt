@@ -1,0 +1,49 @@
+-- Reading the keys of maps.
+use Rattle.std.proofs.Common.{◌≡◌, inl, inr, ℕ, List, refl, sym, subst, Bool, true, false, zero-le}
+use Rattle.std.specs.Prelude.{Option, Some, None, IsTrue, codes}
+use Rattle.dagcbor_heads.specs.Reading.{Reading}
+use Rattle.dagcbor_heads.specs.Refusals.{Refuses}
+use Rattle.dagcbor_heads.specs.declared.error.DecodeError.{DecodeError}
+use Rattle.dagcbor_heads.specs.declared.error.DecodeError.TheVariants.{UnorderedKey}
+use Rattle.dagcbor_heads.proofs.Taking.{stays}
+use Rattle.dagcbor_heads.proofs.Refusing.{passed_on}
+use Rattle.ipld_tree.specs.Key.{comes_before}
+use Rattle.ipld_tree.specs.Tree.{text}
+use Rattle.ipld_tree.specs.Spelling.{IsFront}
+use Rattle.ipld_tree.proofs.Fronts.{front_unique}
+use Rattle.dagcbor_items.specs.Untyped.{TakesItem}
+use Rattle.dagcbor_items.specs.Places.{Follows}
+use Rattle.dagcbor_items.specs.ItemCauses.{KeyStands}
+use Rattle.dagcbor_items.specs.Entries.{HasKey}
+use Rattle.dagcbor_items.specs.Reads.{HasFront}
+use Rattle.dagcbor_items.specs.Views.{view_text, no_need}
+use Rattle.dagcbor_items.specs.LeafCauses.{TextStands}
+
+is_false : (b : Bool) → (IsTrue b → ⊥) → b ≡ false
+is_false true no_more = absurd (no_more refl)
+is_false false no_more = refl
+
+key_as_text : {previous : Option (List ℕ)} {r : Reading} → HasKey previous r → HasFront view_text no_need r
+key_as_text h = record { bytes = h.bytes; tree = text h.key; rest = h.rest; left = h.left; front = h.front; accepted = refl; within = zero-le }
+
+-- no whole text stood there
+pub key_text_refused : {E : Type 0} (previous : Option (List ℕ)) (old new : Reading) (e : DecodeError E) → Refuses (HasFront view_text no_need old) (old.lends ≡ false) ⊥ (TextStands (codes "map key")) old e new
+    → Refuses (HasKey previous old) (old.lends ≡ false) ⊥ (KeyStands previous) old e new
+key_text_refused previous old new e r = passed_on (TextStands (codes "map key")) (KeyStands previous) old old new e (stays old) key_as_text (λ x. x) (λ x. x) (λ b l. (b, l, λ h. inl h)) r
+
+pub unordered : (E : Type 0) (previous : Option (List ℕ)) {old new : Reading} (key : List ℕ) → TakesItem 1 old (text key) new → (Follows previous key → ⊥) → Refuses {E = E} (HasKey previous old) (old.lends ≡ false) ⊥ (KeyStands previous) old UnorderedKey new
+unordered E previous {old} {new} key h not_after = (
+  h.same.faults,
+  λ k. let q = h.taken k.bytes k.left in
+      let same = front_unique k.bytes q.0 k.rest (text key) (text k.key) q.1 k.front in
+      let is : key ≡ k.key = cc same.0 in
+      not_after (subst (Follows previous) (sym is) k.follows),
+  λ b l. let q = h.taken b l in inr (refl, by previous not_after b q.0 q.1),
+)
+  where
+    by : (previous : Option (List ℕ)) → (Follows previous key → ⊥) → (b rest : List ℕ) → IsFront b (text key) rest → (before key' rest' : List ℕ) × (previous ≡ Some before) × IsFront b (text key') rest' × (comes_before before key' ≡ false)
+    by None no_more b rest f = absurd (no_more tt)
+    by (Some before) no_more b rest f = (before, key, rest, refl, f, is_false (comes_before before key) no_more)
+
+pub follows_as : (previous : Option (List ℕ)) (k l : List ℕ) → k ≡ l → Follows previous k → Follows previous l
+follows_as previous k l e f = subst (Follows previous) e f

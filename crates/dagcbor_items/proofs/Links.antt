@@ -1,0 +1,190 @@
+-- Reading links.
+use Rattle.std.proofs.Common.{◌≡◌, inl, inr, ℕ, ◌+◌, ◌*◌, ◌/◌, ◌^◌, ◌<◌, List, [], ◌∷◌, ◌++◌, length, refl, sym, ap, ◌∙◌, subst, arith, append_assoc}
+use Rattle.std.specs.Prelude.{Option, Some, None, Result, Ok, Err, codes}
+use Rattle.dagcbor_heads.specs.Head.{head}
+use Rattle.dagcbor_heads.specs.Names.{Names}
+use Rattle.dagcbor_heads.specs.Reading.{Reading}
+use Rattle.dagcbor_heads.specs.Fronts.{HasByte, HasHead, HasPayload, ShowsByte, Takes}
+use Rattle.dagcbor_heads.specs.Causes.{ByteCause, HeadCause, PayloadCause}
+use Rattle.dagcbor_heads.specs.Refusals.{Refuses}
+use Rattle.dagcbor_heads.specs.declared.name.Name.{Name}
+use Rattle.dagcbor_heads.specs.declared.error.DecodeError.{DecodeError}
+use Rattle.dagcbor_heads.specs.declared.error.DecodeError.TheVariants.{Msg, Eof, Unsupported}
+use Rattle.dagcbor_heads.proofs.Heads.{head_unique, head_first}
+use Rattle.dagcbor_heads.proofs.Taking.{stays, stays_both}
+use Rattle.dagcbor_heads.proofs.Refusing.{passed_on, byte_in_head}
+use Rattle.ipld_tree.specs.Cid.{CidParts, AreCidParts, IsCid, cid_bytes}
+use Rattle.ipld_tree.specs.Tree.{link}
+use Rattle.ipld_tree.specs.Spelling.{bytes_spelling, IsFront}
+use Rattle.ipld_tree.proofs.Cids.{cid_length}
+use Rattle.ipld_tree.proofs.Unique.{split_at_length}
+use Rattle.ipld_tree.proofs.Fronts.{is_link}
+use Rattle.dagcbor_items.specs.FirstBytes.{BeginsAs}
+use Rattle.dagcbor_items.specs.LinkCauses.{IsOtherByte, CidStands, LinkStands}
+use Rattle.dagcbor_items.specs.ItemCauses.{Stands}
+use Rattle.dagcbor_items.specs.Untyped.{HasItem, TakesItem, StartsWithMajor}
+use Rattle.dagcbor_items.specs.Links.{HasWanted, HasCid, TakesCid, ReadsCid, HasLink, ReadsLink, IsZeroAndCid}
+use Rattle.dagcbor_items.proofs.Places.{cause_here}
+use Rattle.dagcbor_items.proofs.Fronts.{TakesHeadOf, major_of_front}
+
+-- ---- a wanted byte
+
+wanted_byte : {wanted : ℕ} {r : Reading} → HasWanted wanted r → HasByte r
+wanted_byte {wanted} h = record { byte = wanted; rest = h.rest; left = h.left }
+
+no_byte : {E : Type 0} (other : List ℕ) (wanted : ℕ) (e : DecodeError E) (b : List ℕ) → ByteCause e b → IsOtherByte other wanted e b
+no_byte other wanted (Eof name expect) b h = h
+no_byte other wanted _ b h = absurd h
+
+pub wanted_refused : {E : Type 0} (other : List ℕ) (wanted : ℕ) (old new : Reading) (e : DecodeError E) → Refuses (HasByte old) ⊥ ⊥ ByteCause old e new → Refuses (HasWanted wanted old) ⊥ ⊥ (IsOtherByte other wanted) old e new
+wanted_refused other wanted old new e r = passed_on ByteCause (IsOtherByte other wanted) old old new e (stays old) wanted_byte (λ x. x) (λ x. x) (λ b l. (b, l, no_byte other wanted e b)) r
+
+-- ---- behind the tag
+
+-- the byte string as its head and its payload
+cid_spelled : (cid rest : List ℕ) → bytes_spelling (0x00 ∷ cid) ++ rest ≡ head 2 (length (0x00 ∷ cid)) ++ ((0x00 ∷ cid) ++ rest)
+cid_spelled cid rest = append_assoc (head 2 (length (0x00 ∷ cid))) (0x00 ∷ cid) rest
+
+cid_head : {r : Reading} → HasCid r → HasHead r
+cid_head h = record { major = 2; argument = length (0x00 ∷ h.cid); rest = (0x00 ∷ h.cid) ++ h.rest; major_fits = omega arith; argument_fits = omega (arith, h.fits); left = h.left ∙ ap Some (cid_spelled h.cid h.rest) }
+
+-- the first byte of its head
+cid_first : {r : Reading} → (h : HasCid r) → (i : ℕ) × (more : List ℕ) × (i < 28) × (bytes_spelling (0x00 ∷ h.cid) ++ h.rest ≡ (32 * 2 + i) ∷ more)
+cid_first h =
+    let f = head_first 2 (length (0x00 ∷ h.cid)) (omega (arith, h.fits)) in
+    (f.0, f.1 ++ ((0x00 ∷ h.cid) ++ h.rest), f.2, cid_spelled h.cid h.rest ∙ ap (λ s. s ++ ((0x00 ∷ h.cid) ++ h.rest)) f.3)
+
+cid_byte : {r : Reading} → HasCid r → HasByte r
+cid_byte h = let f = cid_first h in record { byte = 32 * 2 + f.0; rest = f.1; left = h.left ∙ ap Some f.3 }
+
+pub cid_byte_refused : {E : Type 0} (old new : Reading) (e : DecodeError E) → Refuses (HasByte old) ⊥ ⊥ ByteCause old e new → Refuses (HasCid old) ⊥ ⊥ CidStands old e new
+cid_byte_refused old new e r = passed_on ByteCause CidStands old old new e (stays old) cid_byte (λ x. x) (λ x. x) (λ b l. (b, l, λ h. inl (byte_in_head e b h, none e b h))) r
+  where
+    none : {E : Type 0} (e : DecodeError E) (b : List ℕ) → ByteCause e b → BeginsAs 2 b
+    none (Eof n expect) b h = λ first more is. absurd (cc (is, h.1))
+    none _ b h = absurd h
+
+pub cid_head_refused : {E : Type 0} (old new : Reading) (e : DecodeError E) → StartsWithMajor old 2 → Refuses (HasHead old) ⊥ ⊥ HeadCause old e new → Refuses (HasCid old) ⊥ ⊥ CidStands old e new
+cid_head_refused old new e starts r = passed_on HeadCause CidStands old old new e (stays old) cid_head (λ x. x) (λ x. x) (λ b l. (b, l, λ h. inl (h, begins b l))) r
+  where
+    begins : (b : List ℕ) → old.left ≡ Some b → BeginsAs 2 b
+    begins b l = λ first more is.
+        let s = starts b l in
+        let same : first ≡ s.0 = cc (is, s.2) in
+        omega (arith, same, s.3)
+
+pub no_byte_string : (E : Type 0) {old new : Reading} {first : ℕ} (name : Name) → ShowsByte old first new → (first / 32 ≡ 2 → ⊥) → Refuses {E = E} (HasCid old) ⊥ ⊥ CidStands old (Unsupported name first) new
+no_byte_string E {old} {new} {first} name h other = (
+  h.same.faults,
+  λ k. let f = cid_first k in
+      let s = h.starts _ k.left in
+      let is : first ∷ s.0 ≡ (32 * 2 + f.0) ∷ f.1 = sym s.1 ∙ f.3 in
+      let same : first ≡ 32 * 2 + f.0 = cc in
+      other (omega (arith, same, f.2)),
+  λ b l. let s = h.starts b l in inr (s.0, s.1, other),
+)
+
+-- the head was taken, and a CID stands behind it
+record StandsBehind (n : ℕ) (mid : Reading) : Type 0 where
+  cid : List ℕ
+  rest : List ℕ
+  is_cid : IsCid cid
+  long : length (0x00 ∷ cid) ≡ n
+  left : mid.left ≡ Some ((0x00 ∷ cid) ++ rest)
+
+behind_head : {old mid : Reading} {n : ℕ} → TakesHeadOf old 2 n mid → HasCid old → StandsBehind n mid
+behind_head {old} {mid} {n} h i =
+    let k = h.taken _ i.left in
+    let u = head_unique 2 (length (0x00 ∷ i.cid)) 2 n ((0x00 ∷ i.cid) ++ i.rest) k.0 (omega (arith, i.fits)) h.fits (sym (cid_spelled i.cid i.rest) ∙ k.1) in
+    record { cid = i.cid; rest = i.rest; is_cid = i.is_cid; long = u.1; left = k.2 ∙ ap Some (sym u.2) }
+
+-- the refusal of a byte string that is no zero and a CID
+abbrev pub IsInvalidCid : {E : Type 0} → DecodeError E → Type 0
+IsInvalidCid e = (message : Name) × (e ≡ Msg message) × Names message (codes "Invalid CID")
+
+pub too_long : {E : Type 0} {old mid : Reading} {n : ℕ} (e : DecodeError E) → IsInvalidCid e → TakesHeadOf old 2 n mid → 87 < n → Refuses (HasCid old) ⊥ ⊥ CidStands old e mid
+too_long {E} {old} {mid} {n} e is h more = subst (λ x. Refuses {E = E} (HasCid old) ⊥ ⊥ CidStands old x mid) (sym is.1) (
+  h.same.faults,
+  λ i. let k = behind_head h i in omega (arith, cid_length k.cid k.is_cid, k.long, more),
+  λ b l. let k = h.taken b l in inr (is.2, (n, k.0, h.fits, k.1, inl more)),
+)
+
+cut_stands : {E : Type 0} (e : DecodeError E) (b c : List ℕ) (n : ℕ) → n < 2 ^ 64 → b ≡ head 2 n ++ c → PayloadCause n e c → CidStands e b
+cut_stands (Eof name expect) b c n fits e h = inr (n, c, fits, e, h.1, h.0)
+cut_stands _ b c n fits e h = absurd h
+
+pub cid_payload_refused : {E : Type 0} {old mid : Reading} {n : ℕ} (new : Reading) (e : DecodeError E) → TakesHeadOf old 2 n mid → Refuses (HasPayload n mid) ⊥ ⊥ (PayloadCause n) mid e new → Refuses (HasCid old) ⊥ ⊥ CidStands old e new
+cid_payload_refused {E} {old} {mid} {n} new e h r = passed_on (PayloadCause n) CidStands old mid new e h.same
+    (λ i. let k = behind_head h i in record { payload = 0x00 ∷ k.cid; rest = k.rest; long = k.long; left = k.left }) (λ x. x) (λ x. x)
+    (λ b l. let k = h.taken b l in (k.0, k.2, cut_stands e b k.0 n h.fits k.1)) r
+
+pub no_cid : {E : Type 0} {old mid new : Reading} {n : ℕ} (e : DecodeError E) (s : List ℕ) → IsInvalidCid e → TakesHeadOf old 2 n mid → length s ≡ n → Takes mid s new → IsZeroAndCid s None → Refuses (HasCid old) ⊥ ⊥ CidStands old e new
+no_cid {E} {old} {mid} {new} {n} e s is h long p other = subst (λ x. Refuses {E = E} (HasCid old) ⊥ ⊥ CidStands old x new) (sym is.1) (
+  p.same.faults ∙ h.same.faults,
+  λ i. let k = behind_head h i in
+      let q = p.taken _ k.left in
+      let same = split_at_length (0x00 ∷ k.cid) s k.rest q.0 (k.long ∙ sym long) q.1 in
+      other k.cid (sym same.0) k.is_cid,
+  λ b l. let k = h.taken b l in
+      let q = p.taken k.0 k.2 in
+      inr (is.2, (n, k.0, h.fits, k.1, inr (s, q.0, q.1, long, other))),
+)
+
+pub cid_taken : {old mid new : Reading} {n : ℕ} (c : CidParts) (s : List ℕ) → TakesHeadOf old 2 n mid → length s ≡ n → Takes mid s new → AreCidParts c × (s ≡ 0x00 ∷ cid_bytes c) → TakesCid old (cid_bytes c) new
+cid_taken {old} {mid} {new} {n} c s h long p k = record {
+  is_cid = (c, k.0, refl);
+  fits = omega (arith, long, ap length k.1, h.fits);
+  takes = record {
+    taken = λ b l.
+        let q = h.taken b l in
+        let w = p.taken q.0 q.2 in
+        (w.0, q.1 ∙ ap (λ x. head 2 x ++ q.0) (sym long ∙ ap length k.1) ∙ ap (λ x. head 2 (length (0x00 ∷ cid_bytes c)) ++ x) (w.1 ∙ ap (λ x. x ++ w.0) k.1) ∙ sym (cid_spelled (cid_bytes c) w.0), w.2);
+    same = stays_both h.same p.same;
+  };
+}
+
+pub found_in : (s t : List ℕ) (o : Option CidParts) → s ≡ t → IsZeroAndCid s o → IsZeroAndCid t o
+found_in s t o e h = subst (λ x. IsZeroAndCid x o) e h
+
+-- ---- the tag
+
+-- what stands behind the first byte of a link
+behind_first : {old mid : Reading} → Takes old (0xd8 ∷ []) mid → (i : HasLink old) → mid.left ≡ Some (0x2a ∷ (bytes_spelling (0x00 ∷ i.cid) ++ i.rest))
+behind_first h i =
+    let k = h.taken i.bytes i.left in
+    let is : 0xd8 ∷ 0x2a ∷ (bytes_spelling (0x00 ∷ i.cid) ++ i.rest) ≡ 0xd8 ∷ k.0 = sym i.front.is ∙ k.1 in
+    let same : 0x2a ∷ (bytes_spelling (0x00 ∷ i.cid) ++ i.rest) ≡ k.0 = cc is in
+    k.2 ∙ ap Some (sym same)
+
+link_cid_refused : {E : Type 0} {old mid tagged : Reading} (new : Reading) (e : DecodeError E) → Takes old (0xd8 ∷ []) mid → Takes mid (0x2a ∷ []) tagged → Refuses (HasCid tagged) ⊥ ⊥ CidStands tagged e new → Refuses (HasLink old) ⊥ ⊥ LinkStands old e new
+link_cid_refused {E} {old} {mid} {tagged} new e h p r = passed_on CidStands LinkStands old tagged new e (stays_both h.same p.same)
+    (λ i. let q = p.taken _ (behind_first h i) in
+    let is : 0x2a ∷ (bytes_spelling (0x00 ∷ i.cid) ++ i.rest) ≡ 0x2a ∷ q.0 = q.1 in
+    let same : bytes_spelling (0x00 ∷ i.cid) ++ i.rest ≡ q.0 = cc is in
+    record { cid = i.cid; rest = i.rest; is_cid = i.front.well_formed; fits = i.front.spellable; left = q.2 ∙ ap Some (sym same) }) (λ x. x) (λ x. x)
+    (λ b l. let k = h.taken b l in let q = p.taken k.0 k.2 in (q.0, q.2, λ s. inr (inr (q.0, k.1 ∙ ap (λ x. 0xd8 ∷ x) q.1, s)))) r
+
+link_taken : {old mid tagged new : Reading} (cid : List ℕ) → Takes old (0xd8 ∷ []) mid → Takes mid (0x2a ∷ []) tagged → TakesCid tagged cid new → TakesItem 1 old (link cid) new
+link_taken {old} {mid} {tagged} {new} cid h p a = record {
+  taken = λ b l.
+      let k = h.taken b l in
+      let q = p.taken k.0 k.2 in
+      let w = a.takes.taken q.0 q.2 in
+      (w.0, record { well_formed = a.is_cid; spellable = a.fits; is = k.1 ∙ ap (λ x. 0xd8 ∷ x) (q.1 ∙ ap (λ x. 0x2a ∷ x) w.1) }, omega arith, w.2);
+  same = stays_both h.same (stays_both p.same a.takes.same);
+}
+
+pub link_read : {E : Type 0} {old mid tagged : Reading} (result : Result CidParts (DecodeError E)) (new : Reading) → Takes old (0xd8 ∷ []) mid → Takes mid (0x2a ∷ []) tagged → ReadsCid tagged result new → ReadsLink old result new
+link_read (Ok c) new h p r = link_taken (cid_bytes c) h p r
+link_read (Err e) new h p r = link_cid_refused new e h p r
+
+-- ---- a link as an item of unknown kind
+
+item_link : {old : Reading} {spent : ℕ} → StartsWithMajor old 6 → HasItem spent old → HasLink old
+item_link {old} {spent} starts i =
+    let l = is_link i.tree (major_of_front i.bytes i.rest i.tree 6 (starts i.bytes i.left) i.front) in
+    record { bytes = i.bytes; cid = l.0; rest = i.rest; left = i.left; front = subst (λ t. IsFront i.bytes t i.rest) l.1 i.front }
+
+pub link_refused : {E : Type 0} (old new : Reading) (e : DecodeError E) → StartsWithMajor old 6 → Refuses (HasLink old) ⊥ ⊥ LinkStands old e new → Refuses (HasItem 1 old) ⊥ ⊥ (Stands (old.steps + 1)) old e new
+link_refused old new e starts r = passed_on LinkStands (Stands (old.steps + 1)) old old new e (stays old) (item_link starts) (λ x. x) (λ x. x)
+    (λ b l. (b, l, λ h. cause_here _ e b (omega arith) (inr (inr (starts b l, h))))) r

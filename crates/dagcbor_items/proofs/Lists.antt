@@ -1,0 +1,147 @@
+-- Reading the items of a list.
+use Rattle.std.proofs.Common.{◌≡◌, inl, inr, ℕ, suc, ◌+◌, ◌<◌, ◌≤◌, List, [], ◌∷◌, ◌++◌, length, map, refl, sym, ap, ◌∙◌, subst, arith, length-append, Vec, Global, false, cond, is_ok, is_err}
+use Rattle.std.specs.Prelude.{Some, Result, Ok, Err}
+use Rattle.dagcbor_heads.specs.Head.{head}
+use Rattle.dagcbor_heads.specs.Reading.{Reading}
+use Rattle.dagcbor_heads.specs.Refusals.{Refuses}
+use Rattle.dagcbor_heads.specs.declared.name.Name.{Name}
+use Rattle.dagcbor_heads.specs.declared.error.DecodeError.{DecodeError}
+use Rattle.dagcbor_heads.specs.declared.error.DecodeError.TheVariants.{DepthOverflow}
+use Rattle.dagcbor_heads.proofs.Taking.{stays, stays_both}
+use Rattle.dagcbor_heads.proofs.Refusing.{passed_on}
+use Rattle.ipld_tree.specs.Tree.{Tree, list, Items, no_items, item, items_of, any_need, items_need}
+use Rattle.ipld_tree.specs.Spelling.{item_count, IsFront, AreFronts}
+use Rattle.ipld_tree.specs.Ipld.{tree_of, trees_of}
+use Rattle.ipld_tree.specs.declared.ipld.Ipld.{Ipld, List as List'}
+use Rattle.ipld_tree.proofs.Trees.{items_need-push, tree_of-List}
+use Rattle.ipld_tree.proofs.Fronts.{list_opened, list_closed, item_opened, item_closed, items_after, is_list}
+use Rattle.dagcbor_items.specs.ItemCauses.{Stands, StandsInItems}
+use Rattle.dagcbor_items.specs.Untyped.{HasItem, TakesItem, StartsWithMajor}
+use Rattle.dagcbor_items.specs.Items.{HasItems, TakesItems}
+use Rattle.dagcbor_items.proofs.Places.{in_list, at_steps}
+use Rattle.dagcbor_items.proofs.Fronts.{TakesHeadOf, major_of_front, as_tree}
+use Rattle.dagcbor_items.proofs.Steps.{too_deep}
+
+-- ---- lists
+
+pub is_list_at : {old : Reading} {spent : ℕ} → StartsWithMajor old 4 → (i : HasItem spent old) → (ts : Items) × (i.tree ≡ list ts)
+is_list_at starts i = is_list i.tree (major_of_front i.bytes i.rest i.tree 4 (starts i.bytes i.left) i.front)
+
+two_steps : (t : Tree) (ts : Items) → t ≡ list ts → 2 ≤ any_need t
+two_steps t ts e = omega (arith, ap any_need e)
+
+pub no_list_step : (E lacks : Type 0) (old new : Reading) (name : Name) → StartsWithMajor old 4 → old.steps ≡ 0 → new ≡ old → Refuses {E = E} (HasItem 1 old) lacks ⊥ (Stands (old.steps + 1)) old (DepthOverflow name) new
+no_list_step E lacks old new name starts none same = too_deep E lacks 1 old new name none same (λ i. let l = is_list_at starts i in two_steps i.tree l.0 l.1) (λ b l. inr (refl, inl (starts b l)))
+
+-- where a list stands, its items stand behind its head
+list_items : {stepped mid : Reading} {n : ℕ} → StartsWithMajor stepped 4 → TakesHeadOf stepped 4 n mid → HasItem 2 stepped → HasItems n mid
+list_items {stepped} {mid} {n} starts h i =
+    let l = is_list_at starts i in
+    let k = h.taken i.bytes i.left in
+    let o = list_opened i.bytes k.0 i.rest n l.0 h.fits (subst (λ t. IsFront i.bytes t i.rest) l.1 i.front) k.1 in
+    record { bytes = k.0; items = l.0; rest = i.rest; left = k.2; counted = o.0; fronts = o.1; within = omega (arith, i.within, ap any_need l.1, h.same.steps) }
+
+pub list_refused : {E lacks lacks' : Type 0} {stepped mid : Reading} (new : Reading) (n : ℕ) (e : DecodeError E) → StartsWithMajor stepped 4 → TakesHeadOf stepped 4 n mid → (lacks → lacks') → Refuses (HasItems n mid) lacks ⊥ (StandsInItems n mid.steps) mid e new → Refuses (HasItem 2 stepped) lacks' ⊥ (Stands (stepped.steps + 2)) stepped e new
+list_refused {E} {lacks} {lacks'} {stepped} {mid} new n e starts h w r = passed_on (StandsInItems n mid.steps) (Stands (stepped.steps + 2)) stepped mid new e h.same (list_items starts h) w (λ x. x)
+    (λ b l. let k = h.taken b l in (k.0, k.2, λ s. at_steps {E = E} e b _ _ (omega (arith, h.same.steps)) (in_list n mid.steps e b k.0 h.fits k.1 s))) r
+
+item_count-items_of : (ts : List Tree) → item_count (items_of ts) ≡ length ts
+item_count-items_of [] = refl
+item_count-items_of (t ∷ ts) = ap suc (item_count-items_of ts)
+
+pub list_taken : {stepped mid now : Reading} {n : ℕ} (ts : List Tree) → TakesHeadOf stepped 4 n mid → length ts ≡ n → TakesItems mid ts now → TakesItem 2 stepped (list (items_of ts)) now
+list_taken {stepped} {mid} {now} {n} ts h counted a =
+    let count : item_count (items_of ts) ≡ n = item_count-items_of ts ∙ counted in
+    record {
+      taken = λ b l.
+          let k = h.taken b l in
+          let q = a.taken k.0 k.2 in (
+            q.0,
+            subst (λ x. IsFront x (list (items_of ts)) q.0) (ap (λ m. head 4 m ++ k.0) count ∙ sym k.1) (list_closed k.0 q.0 (items_of ts) (omega (arith, count, h.fits)) q.1),
+            omega (arith, q.2, h.same.steps),
+            q.3,
+          );
+      same = stays_both h.same a.same;
+    }
+
+pub list_as_tree : {stepped mid now : Reading} {n : ℕ} (v : Vec Ipld Global) → TakesHeadOf stepped 4 n mid → (length v.items ≡ n) × TakesItems mid (trees_of v.items) now → TakesItem 2 stepped (tree_of (List' v)) now
+list_as_tree {stepped} {mid} {now} {n} v h r = as_tree (list (items_of (trees_of v.items))) _ (tree_of-List v) (list_taken (trees_of v.items) h (length_map v.items ∙ r.0) r.1)
+  where
+    length_map : (xs : List Ipld) → length (trees_of xs) ≡ length xs
+    length_map [] = refl
+    length_map (x ∷ xs) = ap suc (length_map xs)
+
+-- ---- items
+
+fronts_push : (ts : List Tree) (t : Tree) (b c d : List ℕ) → AreFronts b (items_of ts) c → IsFront c t d → AreFronts b (items_of (ts ++ t ∷ [])) d
+fronts_push [] t b c d h f = item_closed b d d t no_items (subst (λ x. IsFront x t d) (sym h.is) f) record { well_formed = tt; spellable = tt; is = refl }
+fronts_push (u ∷ ts) t b c d h f =
+    let o = item_opened b c u (items_of ts) h in
+    item_closed b _ d u (items_of (ts ++ t ∷ [])) o.0 (fronts_push ts t _ c d o.1 f)
+
+-- the items of a row that are left behind those that were read
+record ItemsLeft (us : Items) (ts : List Tree) (c rest : List ℕ) : Type 0 where
+  others : Items
+  fronts : AreFronts c others rest
+  counted : item_count us ≡ length ts + item_count others
+  within : items_need others ≤ items_need us
+
+items_left : (ts : List Tree) (us : Items) (b c rest : List ℕ) → AreFronts b (items_of ts) c → AreFronts b us rest → length ts ≤ item_count us → ItemsLeft us ts c rest
+items_left [] us b c rest h k fewer = record { others = us; fronts = subst (λ x. AreFronts x us rest) h.is k; counted = omega arith; within = omega arith }
+items_left (t ∷ ts) no_items b c rest h k fewer = absurd (omega arith)
+items_left (t ∷ ts) (item u us) b c rest h k fewer =
+    let o = item_opened b c t (items_of ts) h in
+    let a = items_after b _ rest t u us o.0 k in
+    let more = items_left ts us _ c rest o.1 a.1 (omega arith) in
+    record { others = more.others; fronts = more.fronts; counted = omega (arith, more.counted); within = omega (arith, more.within) }
+
+-- some of the items were read, and these many are left
+pub record ReadSome (count left : ℕ) (old : Reading) (ts : List Tree) (now : Reading) : Type 0 where
+  pub counted : length ts + left ≡ count
+  pub takes : TakesItems old ts now
+
+pub none_read : (old : Reading) (count left : ℕ) (ts : List Tree) → left ≡ count → ts ≡ [] → ReadSome count left old ts old
+none_read old count left ts e none = subst (λ us. ReadSome count left old us old) (sym none) record {
+  counted = omega (arith, e);
+  takes = record { taken = λ b l. (b, record { well_formed = tt; spellable = tt; is = refl }, omega arith, l); same = stays old };
+}
+
+pub one_read : {old now new : Reading} {count left left' : ℕ} {t : Tree} (ts us : List Tree) → us ≡ ts ++ t ∷ [] → left' + 1 ≡ left → ReadSome count left old ts now → TakesItem 0 now t new → ReadSome count left' old us new
+one_read {old} {now} {new} {count} {left} {left'} {t} ts us is e s a = subst (λ vs. ReadSome count left' old vs new) (sym is) record {
+  counted = omega (arith, s.counted, length-append ts (t ∷ []));
+  takes = record {
+    taken = λ b l.
+        let k = s.takes.taken b l in
+        let q = a.taken k.0 k.3 in
+        (q.0, fronts_push ts t b k.0 q.0 k.1 q.1, omega (arith, items_need-push ts t, k.2, q.2, s.takes.same.steps), q.3);
+    same = stays_both s.takes.same a.same;
+  };
+}
+
+-- where so many items stand, the next one stands behind those that were read
+next_item : {old now : Reading} {count left : ℕ} (ts : List Tree) → 0 < left → ReadSome count left old ts now → HasItems count old → HasItem 0 now
+next_item {old} {now} {count} {left} ts more s i =
+    let k = s.takes.taken i.bytes i.left in
+    let l = items_left ts i.items i.bytes k.0 i.rest k.1 i.fronts (omega (arith, s.counted, i.counted)) in
+    first l.others k.0 l.fronts k.3 (omega (arith, l.counted, s.counted, i.counted)) (omega (arith, l.within, i.within, s.takes.same.steps))
+  where
+    first : (us : Items) (c : List ℕ) {rest : List ℕ} → AreFronts c us rest → now.left ≡ Some c → 0 < item_count us → items_need us ≤ now.steps → HasItem 0 now
+    first no_items c f l some within = absurd (omega arith)
+    first (item u us) c {rest} f l some within =
+        record { bytes = c; tree = u; rest = _; left = l; front = (item_opened c rest u us f).0; within = omega (arith, within) }
+
+pub next_refused : {E lacks lacks' : Type 0} {old now : Reading} {count left : ℕ} (new : Reading) (ts : List Tree) (e : DecodeError E) → 0 < left → ReadSome count left old ts now → (lacks → lacks') → Refuses (HasItem 0 now) lacks ⊥ (Stands (now.steps + 0)) now e new → Refuses (HasItems count old) lacks' ⊥ (StandsInItems count old.steps) old e new
+next_refused {E} {lacks} {lacks'} {old} {now} {count} {left} new ts e more s w r = passed_on (Stands (now.steps + 0)) (StandsInItems count old.steps) old now new e s.takes.same (next_item ts more s) w (λ x. x)
+    (λ b l. let k = s.takes.taken b l in
+    (k.0, k.3, λ here. (items_of ts, k.0, k.1, omega (arith, item_count-items_of ts, s.counted, more), at_steps {E = E} e k.0 _ _ (omega (arith, s.takes.same.steps)) here))) r
+
+pub all_read : {old now : Reading} {count left : ℕ} (ts : List Tree) → left ≡ 0 → ReadSome count left old ts now → (length ts ≡ count) × TakesItems old ts now
+all_read ts none s = (omega (arith, s.counted, none), s.takes)
+
+map_push : {A B : Type 0} (f : A → B) (xs : List A) (x : A) → map f (xs ++ x ∷ []) ≡ map f xs ++ f x ∷ []
+map_push f [] x = refl
+map_push f (y ∷ xs) x = ap (λ l. f y ∷ l) (map_push f xs x)
+
+pub map_pushed : {A B X Y : Type 0} (f : A → B) (r : Result X Y) (xs ys : List A) (x : A) → false ≡ is_err r → ys ≡ cond (is_ok r) (xs ++ x ∷ []) xs → map f ys ≡ map f xs ++ f x ∷ []
+map_pushed f (Ok v) xs ys x e h = ap (map f) h ∙ map_push f xs x
+map_pushed f (Err d) xs ys x e h = absurd (cc)

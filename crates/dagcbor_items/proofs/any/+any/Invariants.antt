@@ -1,0 +1,43 @@
+use Rattle.std.proofs.Common.{◌+◌, ◌-◌, ◌*◌}
+use Rattle.std.specs.Prelude.{option_map}
+use Rattle.std.specs.Cow.{cow_str_bytes}
+use Rattle.dagcbor_heads.specs.Inputs.{input_reading}
+use Rattle.dagcbor_heads.specs.Looking.{LooksAtTaken}
+use Rattle.ipld_tree.specs.Tree.{ordered}
+use Rattle.ipld_tree.specs.Ipld.{trees_of, pairs_of}
+use Rattle.dagcbor_items.proofs.Lists.{ReadSome}
+use Rattle.dagcbor_items.proofs.Maps.{ReadEntries}
+use Rattle.dagcbor_items.proofs.any.+any.Given as goal
+
+abbrev pub decreases-read_any : goal.decreases-read_any
+decreases-read_any g l = 5 * (input_reading g.R.Read.reading l.input.now).steps
+
+abbrev pub decreases-read_item : goal.decreases-read_item
+decreases-read_item g l = 5 * (input_reading g.R.Read.reading l.input.now).steps + 4
+
+abbrev pub decreases-read_kind : goal.decreases-read_kind
+decreases-read_kind g l = 5 * (input_reading g.R.Read.reading l.input.now).steps + 3
+
+abbrev pub decreases-read_list : goal.decreases-read_list
+decreases-read_list g l = 5 * (input_reading g.R.Read.reading l.input.now).steps + 2
+
+abbrev pub decreases-read_items : goal.decreases-read_items
+decreases-read_items g l = 5 * (input_reading g.R.Read.reading l.input.now).steps + 1
+
+abbrev pub invariant-read_items-loop-index : goal.invariant-read_items-loop-index
+invariant-read_items-loop-index g l = record {
+  read : ReadSome l.count (l.count - l._index) (input_reading g.R.Read.reading l.fn.input) (trees_of l.items.items) (input_reading g.R.Read.reading l.input);
+  looked : LooksAtTaken 3 0 (input_reading g.R.Read.reading l.fn.input) (input_reading g.R.Read.reading l.input);
+}
+
+abbrev pub decreases-read_map : goal.decreases-read_map
+decreases-read_map g l = 5 * (input_reading g.R.Read.reading l.input.now).steps + 2
+
+abbrev pub decreases-read_entries : goal.decreases-read_entries
+decreases-read_entries g l = 5 * (input_reading g.R.Read.reading l.input.now).steps + 1
+
+abbrev pub invariant-read_entries-loop-index : goal.invariant-read_entries-loop-index
+invariant-read_entries-loop-index g l = record {
+  read : ReadEntries l.count (l.count - l._index) (input_reading g.R.Read.reading l.fn.input) (ordered (pairs_of l.entries.entries)) (option_map cow_str_bytes l.previous) (input_reading g.R.Read.reading l.input);
+  looked : LooksAtTaken 3 0 (input_reading g.R.Read.reading l.fn.input) (input_reading g.R.Read.reading l.input);
+}

@@ -1,0 +1,15 @@
+use Rattle.std.proofs.Common.{arith}
+use Rattle.dagcbor_heads.proofs.Refusing.{refused}
+use Rattle.dagcbor_items.proofs.HeadKinds.{kind_byte_refused, other_kind}
+use Rattle.dagcbor_items.proofs.kinds.peek_kind.Goals as goal
+use Rattle.dagcbor_items.proofs.kinds.peek_kind.Goals.{then-major-low-via-then-major-low, then-major-low-via-else-major-low+then-high-major}
+
+pub returns-in_err-first-clause-kind : goal.returns-in_err-first-clause-kind
+returns-in_err-first-clause-kind g c = refused _ _ _ _ c.from_residual.ensures.1 (kind_byte_refused _ c.args.low c.args.high _ _ _ c.in_err-first.ensures.named c.in_err-first.ensures.shown)
+
+pub returns-then-major-low-clause-kind : goal.returns-then-major-low-clause-kind
+returns-then-major-low-clause-kind g c = other_kind g.row.R-Error.Denot _ c.args.low c.args.high c.new.result c.new.ensures c.in_ok-first.ensures.shown
+    (λ a b. elim c.then-major-low.branch [
+      | then-major-low-via-then-major-low w ↦ omega (arith, a, w.if-major-low.true)
+      | then-major-low-via-else-major-low+then-high-major w ↦ omega (arith, b, w.if-high-major.true)
+    ])

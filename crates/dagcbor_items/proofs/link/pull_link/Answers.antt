@@ -1,0 +1,26 @@
+use Rattle.dagcbor_items.proofs.Links.{link_read}
+use Rattle.std.proofs.Common.{arith}
+use Rattle.dagcbor_heads.proofs.Refusing.{refused}
+use Rattle.dagcbor_heads.proofs.Looking.{looks_both, looks_then}
+use Rattle.dagcbor_items.proofs.Looks.{looks_behind, taken_more, major_left, byte_taken}
+use Rattle.dagcbor_items.proofs.link.pull_link.Goals as goal
+
+pub returns-clause-link : goal.returns-clause-link
+returns-clause-link g c = link_read _ _ c.in_ok-pull_wanted.ensures.wanted c.in_ok-pull_wanted-2.ensures.wanted c.pull_cid.ensures.cid
+
+pub returns-clause-looked : goal.returns-clause-looked
+returns-clause-looked g c =
+    let wanted = looks_both c.in_ok-pull_wanted.ensures.looked c.in_ok-pull_wanted-2.ensures.looked in
+    looks_behind _ _ (taken_more 2 (omega arith) wanted) c.pull_cid.ensures.looked
+
+pub returns-in_err-pull_wanted-clause-peeked : goal.returns-in_err-pull_wanted-clause-peeked
+returns-in_err-pull_wanted-clause-peeked g c = λ starts. refused _ _ _ _ c.from_residual.ensures.1 (major_left starts c.in_err-pull_wanted.ensures.looked)
+
+pub returns-in_err-pull_wanted-2-clause-peeked : goal.returns-in_err-pull_wanted-2-clause-peeked
+returns-in_err-pull_wanted-2-clause-peeked g c =
+    λ starts. refused _ _ _ _ c.from_residual-in_err-pull_wanted-2.ensures.1 (major_left starts (looks_then c.in_ok-pull_wanted.ensures.looked c.in_err-pull_wanted-2.ensures.looked))
+
+pub returns-clause-peeked : goal.returns-clause-peeked
+returns-clause-peeked g c =
+    let tag = taken_more 2 (omega arith) c.in_ok-pull_wanted-2.ensures.looked in
+    λ starts. looks_behind _ _ (looks_both (byte_taken c.in_ok-pull_wanted.ensures.looked c.in_ok-pull_wanted.ensures.wanted) tag) c.pull_cid.ensures.looked

@@ -1,0 +1,16 @@
+use Rattle.std.proofs.Common.{rules, ◌∙◌}
+use Rattle.std.proofs.lemmas.Int.{to_z-of_z}
+use mir.Syntax.{w128}
+use mir.Val.{SFits}
+use Rattle.dagcbor_heads.proofs.Refusing.{refused}
+use Rattle.dagcbor_items.proofs.HeadKinds.{as_value}
+use Rattle.dagcbor_items.proofs.Integers.{number_refused, number_taken}
+use Rattle.dagcbor_items.proofs.numbers.pull_number.Goals as goal
+
+pub returns-in_err-major-clause-number : goal.returns-in_err-major-clause-number
+returns-in_err-major-clause-number g c = refused _ _ _ _ c.from_residual.ensures.1 (number_refused _ _ _ _ c.in_err-major.ensures.kind)
+
+pub returns-clause-number : goal.returns-clause-number
+returns-clause-number g c =
+    let fits : SFits w128 c.number_of.result = search rules in
+    as_value _ _ (to_z-of_z w128 c.number_of.result fits ∙ c.number_of.ensures) (number_taken c.in_ok-major.ensures.kind)

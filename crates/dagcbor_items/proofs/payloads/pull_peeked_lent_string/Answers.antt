@@ -1,0 +1,25 @@
+use Rattle.std.proofs.Common.{ap, arith, length-append}
+use Rattle.std.specs.Prelude.{Err}
+use Rattle.dagcbor_heads.proofs.Refusing.{refused}
+use Rattle.std.specs.declared.convert.Infallible.{Infallible}
+use Rattle.dagcbor_heads.specs.declared.error.DecodeError.TheVariants.{Eof}
+use Rattle.dagcbor_heads.proofs.Looking.{looks_both, lent_looked}
+use Rattle.dagcbor_items.proofs.StringReads.{string_read, string_head_refused}
+use Rattle.dagcbor_items.proofs.HeadKinds.{head_kind}
+use Rattle.dagcbor_items.proofs.payloads.pull_peeked_lent_string.Goals as goal
+
+pub returns-in_err-count-clause-string : goal.returns-in_err-count-clause-string
+returns-in_err-count-clause-string c =
+    refused _ _ _ _ c.from_residual.ensures.1 (string_head_refused _ _ _ _ _ _ c.requires.few c.requires.starts c.in_err-count.ensures.named c.in_err-count.ensures.taken)
+
+pub returns-in-None-clause-string : goal.returns-in-None-clause-string
+returns-in-None-clause-string c =
+    let none = c.in-None.ensures.lent in
+    string_read {E = Infallible} c.args.name.now c.args.kind c.lend.new.self (Err (Eof c.new.result c.new-in-None.result)) (head_kind c.requires.starts c.in_ok-count.ensures.taken) c.new.ensures (
+      ap (λ r. r.faults) none.0,
+      λ h. omega (arith, none.1 _ h.left, h.long, length-append h.payload h.rest),
+      λ b l. (c.new-in-None.ensures, none.1 b l),
+    )
+
+pub returns-in-Some-clause-looked : goal.returns-in-Some-clause-looked
+returns-in-Some-clause-looked c = let lent = c.in-Some.ensures.lent in looks_both c.in_ok-count.ensures.looked (lent_looked lent.0 lent.1 lent.2)

@@ -1,0 +1,194 @@
+use Rattle.std.proofs.Common.{inl, refl, sym, ◌∙◌, ap, [], ◌∷◌, ◌++◌, arith}
+use Rattle.dagcbor_items.specs.Walks.{WalkLacks}
+use Rattle.dagcbor_heads.proofs.Refusing.{refused}
+use Rattle.dagcbor_heads.specs.Reading.{Reading}
+use Rattle.dagcbor_heads.proofs.Looking.{looks_both, looks_then, nothing_looked, same_looked}
+use Rattle.dagcbor_items.proofs.Looks.{head_taken, major_left, major_unread, once_left, peeked, stepped_left}
+use Rattle.dagcbor_items.proofs.Looks as looks
+use Rattle.ipld_tree.specs.Tree.{no_entries}
+use Rattle.dagcbor_items.proofs.Fronts.{head_of, head_refused, byte_refused}
+use Rattle.dagcbor_items.proofs.Leaves.{indefinite_refused}
+use Rattle.dagcbor_items.proofs.Steps.{no_step_left, spent_step, stepped_taken, stepped_major}
+use Rattle.dagcbor_items.proofs.Walking.{lacks_before, step_refused, found_none, item_found, entry_found, leaf_walked, walked_from}
+use Rattle.dagcbor_items.proofs.Lists.{no_list_step, list_refused, list_taken, none_read, next_refused, one_read, all_read}
+use Rattle.dagcbor_items.proofs.Maps as maps
+use Rattle.dagcbor_items.proofs.walk.+walk.Goals as goal
+
+pub walk_any-returns-then-not-step_in-clause-item : goal.walk_any-returns-then-not-step_in-clause-item
+walk_any-returns-then-not-step_in-clause-item g t c =
+    let step = c.if-not-step_in.ensures in
+    no_step_left g.row.I-Error.Denot (WalkLacks g.S.LinkSink.takes_memory (g.I.Read.reading c.args.input.now)) _ _ c.new.result step.0 step.1
+
+pub walk_any-returns-in_err-walk_item-clause-item : goal.walk_any-returns-in_err-walk_item-clause-item
+walk_any-returns-in_err-walk_item-clause-item g t c =
+    refused _ _ _ _ c.from_residual.ensures.1 (step_refused g.S.LinkSink.takes_memory _ 0 _ (spent_step c.if-not-step_in.ensures) c.in_err-walk_item.ensures.item)
+
+pub walk_any-returns-clause-item : goal.walk_any-returns-clause-item
+walk_any-returns-clause-item g t c = let k = c.in_ok-walk_item.ensures.item in (k.0, stepped_taken 0 (spent_step c.if-not-step_in.ensures) k.1 c.step_out.ensures, k.2)
+
+pub walk_item-returns-in_err-first-clause-item : goal.walk_item-returns-in_err-first-clause-item
+walk_item-returns-in_err-first-clause-item g t c =
+    refused _ _ _ _ c.from_residual.ensures.1 (byte_refused (WalkLacks g.S.LinkSink.takes_memory (g.I.Read.reading c.args.input.now)) 0 _ _ _ c.in_err-first.ensures.shown)
+
+pub walk_item-returns-then-is_indefinite-clause-item : goal.walk_item-returns-then-is_indefinite-clause-item
+walk_item-returns-then-is_indefinite-clause-item g t c =
+    indefinite_refused g.row.I-Error.Denot (WalkLacks g.S.LinkSink.takes_memory (g.I.Read.reading c.args.input.now)) 0 c.in_ok-first.ensures.shown (c.is_indefinite.ensures.0 c.if-is_indefinite.true)
+
+pub walk_item-returns-clause-item : goal.walk_item-returns-clause-item
+walk_item-returns-clause-item g t c = walked_from g.S.LinkSink.holds g.S.LinkSink.takes_memory c.args.links.now c.walk_kind.new.links c.walk_kind.result _ c.in_ok-first.ensures.shown c.walk_kind.ensures.item
+
+pub walk_kind-returns-in-6-clause-item : goal.walk_kind-returns-in-6-clause-item
+walk_kind-returns-in-6-clause-item g t c = c.walk_link.ensures.item
+
+pub walk_kind-returns-in_default-clause-item : goal.walk_kind-returns-in_default-clause-item
+walk_kind-returns-in_default-clause-item g t c = leaf_walked g.S.LinkSink.holds g.S.LinkSink.takes_memory (g.I.Read.reading c.args.input.now) c.args.links.now c.skip_leaf.result _ c.requires (λ x. omega arith) (λ x. omega arith) (λ x. omega arith) c.skip_leaf.ensures.item
+
+pub walk_list-returns-then-not-step_in-clause-item : goal.walk_list-returns-then-not-step_in-clause-item
+walk_list-returns-then-not-step_in-clause-item g t c =
+    let step = c.if-not-step_in.ensures in
+    no_list_step g.row.I-Error.Denot (WalkLacks g.S.LinkSink.takes_memory (g.I.Read.reading c.args.input.now)) _ _ c.new.result c.requires step.0 step.1
+
+pub walk_list-returns-in_err-count-clause-item : goal.walk_list-returns-in_err-count-clause-item
+walk_list-returns-in_err-count-clause-item g t c =
+    refused _ _ _ _ c.from_residual.ensures.1 (step_refused g.S.LinkSink.takes_memory _ 1 _ (spent_step c.if-not-step_in.ensures) (head_refused _ 1 _ _ _ c.in_err-count.ensures.taken))
+
+pub walk_list-returns-in_err-walk_items-clause-item : goal.walk_list-returns-in_err-walk_items-clause-item
+walk_list-returns-in_err-walk_items-clause-item g t c =
+    let step = spent_step c.if-not-step_in.ensures in
+    let starts = stepped_major step c.requires in
+    let head = head_of 4 starts c.in_ok-count.ensures.taken in
+    refused _ _ _ _ c.from_residual-in_err-walk_items.ensures.1 (step_refused g.S.LinkSink.takes_memory _ 1 _ step (list_refused _ _ _ starts head (lacks_before head.same) c.in_err-walk_items.ensures.items))
+
+pub walk_list-returns-clause-item : goal.walk_list-returns-clause-item
+walk_list-returns-clause-item g t c =
+    let step = spent_step c.if-not-step_in.ensures in
+    let k = c.in_ok-walk_items.ensures.items in
+    (_, stepped_taken 1 step (list_taken k.0 (head_of 4 (stepped_major step c.requires) c.in_ok-count.ensures.taken) k.1 k.2) c.step_out.ensures, k.3)
+
+pub walk_items-loop-index-init : goal.walk_items-loop-index-init
+walk_items-loop-index-init g t c = record { read = ([], none_read _ _ _ [] (omega arith) refl, found_none g.S.LinkSink.holds c.args.links.now); looked = nothing_looked _ }
+
+pub walk_items-returns-in_err-walk_any-clause-looked : goal.walk_items-returns-in_err-walk_any-clause-looked
+walk_items-returns-in_err-walk_any-clause-looked g t c = refused _ _ _ _ c.from_residual.ensures.1 (looks_then c.loop-index.invariant.looked c.in_err-walk_any.ensures.looked)
+
+pub walk_items-returns-in_err-walk_any-clause-items : goal.walk_items-returns-in_err-walk_any-clause-items
+walk_items-returns-in_err-walk_any-clause-items g t c =
+    let s = c.loop-index.invariant.read in
+    refused _ _ _ _ c.from_residual.ensures.1 (next_refused _ s.0 _ (omega arith) s.1 (lacks_before s.1.takes.same) c.in_err-walk_any.ensures.item)
+
+pub walk_items-loop-index-preserved : goal.walk_items-loop-index-preserved
+walk_items-loop-index-preserved g t c =
+    let s = c.loop-index.invariant.read in
+    let k = c.in_ok-walk_any.ensures.item in
+    record { read = (s.0 ++ k.0 ∷ [], one_read s.0 (s.0 ++ k.0 ∷ []) refl (omega arith) s.1 k.1, item_found g.S.LinkSink.holds s.0 k.0 c.args.links.now c.loop-index.links c.walk_any.new.links s.2 k.2); looked = looks_both c.loop-index.invariant.looked c.in_ok-walk_any.ensures.looked }
+
+pub walk_items-returns-clause-items : goal.walk_items-returns-clause-items
+walk_items-returns-clause-items g t c = let s = c.loop-index.invariant.read in let k = all_read s.0 (omega arith) s.1 in (s.0, k.0, k.1, s.2)
+
+pub walk_map-returns-then-not-step_in-clause-item : goal.walk_map-returns-then-not-step_in-clause-item
+walk_map-returns-then-not-step_in-clause-item g t c =
+    let step = c.if-not-step_in.ensures in
+    maps.no_map_step g.row.I-Error.Denot (WalkLacks g.S.LinkSink.takes_memory (g.I.Read.reading c.args.input.now)) _ _ c.new.result c.requires step.0 step.1
+
+pub walk_map-returns-in_err-count-clause-item : goal.walk_map-returns-in_err-count-clause-item
+walk_map-returns-in_err-count-clause-item g t c =
+    refused _ _ _ _ c.from_residual.ensures.1 (step_refused g.S.LinkSink.takes_memory _ 1 _ (spent_step c.if-not-step_in.ensures) (head_refused _ 1 _ _ _ c.in_err-count.ensures.taken))
+
+pub walk_map-returns-in_err-walk_entries-clause-item : goal.walk_map-returns-in_err-walk_entries-clause-item
+walk_map-returns-in_err-walk_entries-clause-item g t c =
+    let step = spent_step c.if-not-step_in.ensures in
+    let starts = stepped_major step c.requires in
+    let head = head_of 5 starts c.in_ok-count.ensures.taken in
+    refused _ _ _ _ c.from_residual-in_err-walk_entries.ensures.1 (step_refused g.S.LinkSink.takes_memory _ 1 _ step (maps.map_refused _ _ _ starts head (lacks_before head.same) c.in_err-walk_entries.ensures.entries))
+
+pub walk_map-returns-clause-item : goal.walk_map-returns-clause-item
+walk_map-returns-clause-item g t c =
+    let step = spent_step c.if-not-step_in.ensures in
+    let k = c.in_ok-walk_entries.ensures.entries in
+    (_, stepped_taken 1 step (maps.map_taken k.0 (head_of 5 (stepped_major step c.requires) c.in_ok-count.ensures.taken) k.1 k.2) c.step_out.ensures, k.3)
+
+pub walk_entries-loop-index-init : goal.walk_entries-loop-index-init
+walk_entries-loop-index-init g t c = record { read = (no_entries, maps.none_read _ _ _ no_entries _ (omega arith) refl refl, found_none g.S.LinkSink.holds c.args.links.now); looked = nothing_looked _ }
+
+pub walk_entries-returns-in_err-key-clause-looked : goal.walk_entries-returns-in_err-key-clause-looked
+walk_entries-returns-in_err-key-clause-looked g t c = refused _ _ _ _ c.from_residual.ensures.1 (looks_then c.loop-index.invariant.looked c.in_err-key.ensures.looked)
+
+pub walk_entries-returns-in_err-walk_any-clause-looked : goal.walk_entries-returns-in_err-walk_any-clause-looked
+walk_entries-returns-in_err-walk_any-clause-looked g t c =
+    refused _ _ _ _ c.from_residual-in_err-walk_any.ensures.1 (looks_then (looks_both c.loop-index.invariant.looked c.in_ok-key.ensures.looked) c.in_err-walk_any.ensures.looked)
+
+pub walk_entries-returns-in_err-key-clause-entries : goal.walk_entries-returns-in_err-key-clause-entries
+walk_entries-returns-in_err-key-clause-entries g t c =
+    let s = c.loop-index.invariant.read in
+    refused _ _ _ _ c.from_residual.ensures.1 (maps.next_key_refused _ _ (omega arith) s.1 (λ l. inl (sym s.1.takes.same.lends ∙ l)) c.in_err-key.ensures.key)
+
+pub walk_entries-returns-in_err-walk_any-clause-entries : goal.walk_entries-returns-in_err-walk_any-clause-entries
+walk_entries-returns-in_err-walk_any-clause-entries g t c =
+    let s = c.loop-index.invariant.read in
+    let key = c.in_ok-key.ensures.key.1 in
+    refused _ _ _ _ c.from_residual-in_err-walk_any.ensures.1 (maps.next_value_refused _ _ _ (omega arith) s.1 c.in_ok-key.ensures.key.0 key (λ l. lacks_before s.1.takes.same (lacks_before key.same l)) c.in_err-walk_any.ensures.item)
+
+pub walk_entries-loop-index-preserved : goal.walk_entries-loop-index-preserved
+walk_entries-loop-index-preserved g t c =
+    let s = c.loop-index.invariant.read in
+    let key = c.in_ok-key.ensures.key in
+    let value = c.in_ok-walk_any.ensures.item in
+    record {
+      read = (_, maps.one_read s.0 _ _ _ refl refl (omega arith) s.1 key.0 key.1 value.1, entry_found g.S.LinkSink.holds s.0 _ value.0 c.args.links.now c.loop-index.links c.walk_any.new.links s.2 value.2);
+      looked = looks_both (looks_both c.loop-index.invariant.looked c.in_ok-key.ensures.looked) c.in_ok-walk_any.ensures.looked;
+    }
+
+pub walk_entries-returns-clause-entries : goal.walk_entries-returns-clause-entries
+walk_entries-returns-clause-entries g t c = let s = c.loop-index.invariant.read in let k = maps.all_read s.0 (omega arith) s.1 in (s.0, k.0, k.1, s.2)
+
+pub walk_any-returns-then-not-step_in-clause-looked : goal.walk_any-returns-then-not-step_in-clause-looked
+walk_any-returns-then-not-step_in-clause-looked g t c = same_looked (ap (λ (r : Reading). r.looked) c.if-not-step_in.ensures.1)
+
+pub walk_any-returns-in_err-walk_item-clause-looked : goal.walk_any-returns-in_err-walk_item-clause-looked
+walk_any-returns-in_err-walk_item-clause-looked g t c = refused _ _ _ _ c.from_residual.ensures.1 (stepped_left _ c.if-not-step_in.ensures.2 c.in_err-walk_item.ensures.looked)
+
+pub walk_any-returns-clause-looked : goal.walk_any-returns-clause-looked
+walk_any-returns-clause-looked g t c = looks.stepped_taken _ c.if-not-step_in.ensures.2 c.in_ok-walk_item.ensures.looked c.step_out.ensures
+
+pub walk_item-returns-in_err-first-clause-looked : goal.walk_item-returns-in_err-first-clause-looked
+walk_item-returns-in_err-first-clause-looked g t c = refused _ _ _ _ c.from_residual.ensures.1 (once_left 3 (omega arith) c.in_err-first.ensures.looked)
+
+pub walk_item-returns-then-is_indefinite-clause-looked : goal.walk_item-returns-then-is_indefinite-clause-looked
+walk_item-returns-then-is_indefinite-clause-looked g t c = once_left 3 (omega arith) c.in_ok-first.ensures.looked
+
+pub walk_item-returns-clause-looked : goal.walk_item-returns-clause-looked
+walk_item-returns-clause-looked g t c = peeked 3 _ _ c.in_ok-first.ensures.looked c.in_ok-first.ensures.shown c.walk_kind.ensures.looked
+
+pub walk_list-returns-then-not-step_in-clause-looked : goal.walk_list-returns-then-not-step_in-clause-looked
+walk_list-returns-then-not-step_in-clause-looked g t c = major_unread c.requires (ap (λ (r : Reading). r.looked) c.if-not-step_in.ensures.1)
+
+pub walk_list-returns-in_err-count-clause-looked : goal.walk_list-returns-in_err-count-clause-looked
+walk_list-returns-in_err-count-clause-looked g t c =
+    refused _ _ _ _ c.from_residual.ensures.1 (major_left c.requires (stepped_left _ c.if-not-step_in.ensures.2 c.in_err-count.ensures.looked))
+
+pub walk_list-returns-in_err-walk_items-clause-looked : goal.walk_list-returns-in_err-walk_items-clause-looked
+walk_list-returns-in_err-walk_items-clause-looked g t c =
+    let head = head_taken c.in_ok-count.ensures.looked c.in_ok-count.ensures.taken in
+    refused _ _ _ _ c.from_residual-in_err-walk_items.ensures.1 (stepped_left _ c.if-not-step_in.ensures.2 (looks_then head c.in_err-walk_items.ensures.looked))
+
+pub walk_list-returns-clause-looked : goal.walk_list-returns-clause-looked
+walk_list-returns-clause-looked g t c =
+    let head = head_taken c.in_ok-count.ensures.looked c.in_ok-count.ensures.taken in
+    looks.stepped_taken _ c.if-not-step_in.ensures.2 (looks_both head c.in_ok-walk_items.ensures.looked) c.step_out.ensures
+
+pub walk_map-returns-then-not-step_in-clause-looked : goal.walk_map-returns-then-not-step_in-clause-looked
+walk_map-returns-then-not-step_in-clause-looked g t c = major_unread c.requires (ap (λ (r : Reading). r.looked) c.if-not-step_in.ensures.1)
+
+pub walk_map-returns-in_err-count-clause-looked : goal.walk_map-returns-in_err-count-clause-looked
+walk_map-returns-in_err-count-clause-looked g t c =
+    refused _ _ _ _ c.from_residual.ensures.1 (major_left c.requires (stepped_left _ c.if-not-step_in.ensures.2 c.in_err-count.ensures.looked))
+
+pub walk_map-returns-in_err-walk_entries-clause-looked : goal.walk_map-returns-in_err-walk_entries-clause-looked
+walk_map-returns-in_err-walk_entries-clause-looked g t c =
+    let head = head_taken c.in_ok-count.ensures.looked c.in_ok-count.ensures.taken in
+    refused _ _ _ _ c.from_residual-in_err-walk_entries.ensures.1 (stepped_left _ c.if-not-step_in.ensures.2 (looks_then head c.in_err-walk_entries.ensures.looked))
+
+pub walk_map-returns-clause-looked : goal.walk_map-returns-clause-looked
+walk_map-returns-clause-looked g t c =
+    let head = head_taken c.in_ok-count.ensures.looked c.in_ok-count.ensures.taken in
+    looks.stepped_taken _ c.if-not-step_in.ensures.2 (looks_both head c.in_ok-walk_entries.ensures.looked) c.step_out.ensures

@@ -1,0 +1,60 @@
+-- What a read of a map's entries answers and refuses.
+use Rattle.std.specs.Prelude.{◌≡◌, ℕ, ◌≤◌, false, List, Option, None, Some, Result, MatchResult, ⊤, String}
+use Rattle.std.specs.BTreeMap.{BTreeMap}
+use Rattle.std.specs.Cow.{cow_str_bytes}
+use Rattle.std.specs.declared.borrow.CowStr.{CowStr}
+use Rattle.std.specs.declared.alloc.Global.{Global}
+use Rattle.dagcbor_heads.specs.Reading.{Reading, Stays}
+use Rattle.dagcbor_heads.specs.Refusals.{Refuses}
+use Rattle.dagcbor_heads.specs.declared.error.DecodeError.{DecodeError}
+use Rattle.ipld_tree.specs.Tree.{text, Entries, ordered, entries_need, Precedes}
+use Rattle.ipld_tree.specs.Spelling.{entry_count, IsFront, AreEntryFronts}
+use Rattle.ipld_tree.specs.Ipld.{pairs_of}
+use Rattle.ipld_tree.specs.declared.ipld.Ipld.{Ipld}
+use Rattle.dagcbor_items.specs.Places.{Follows}
+use Rattle.dagcbor_items.specs.ItemCauses.{KeyStands, StandsInEntries}
+use Rattle.dagcbor_items.specs.Untyped.{TakesItem}
+
+-- a key stands at the front that follows the one before it
+pub record HasKey (previous : Option (List ℕ)) (r : Reading) : Type 0 where
+  pub bytes : List ℕ
+  pub key : List ℕ
+  pub rest : List ℕ
+  pub left : r.left ≡ Some bytes
+  pub front : IsFront bytes (text key) rest
+  pub follows : Follows previous key
+
+-- A key is read exactly where one stands that follows the one before it, with no want of memory where the input lends.
+abbrev pub ReadsKeyAs : {K E : Type 0} → (K → List ℕ) → Option (List ℕ) → Reading → Result K (DecodeError E) → Reading → Type 0
+ReadsKeyAs held previous old result new = MatchResult result
+    (λ k. Follows previous (held k) × TakesItem 1 old (text (held k)) new)
+    (λ e. Refuses (HasKey previous old) (old.lends ≡ false) ⊥ (KeyStands previous) old e new)
+
+abbrev pub ReadsKey : {E : Type 0} → Option (List ℕ) → Reading → Result (CowStr Global) (DecodeError E) → Reading → Type 0
+ReadsKey = ReadsKeyAs cow_str_bytes
+
+-- the first of the entries stands after this key
+abbrev pub AllFollow : Option (List ℕ) → Entries → Type 0
+AllFollow None es = ⊤
+AllFollow (Some k) es = Precedes k es
+
+-- so many entries stand at the front within the steps left
+pub record HasEntries (count : ℕ) (r : Reading) : Type 0 where
+  pub bytes : List ℕ
+  pub entries : Entries
+  pub rest : List ℕ
+  pub left : r.left ≡ Some bytes
+  pub counted : entry_count entries ≡ count
+  pub fronts : AreEntryFronts bytes entries rest
+  pub within : entries_need entries ≤ r.steps
+
+-- these entries stood at the front, and were taken
+pub record TakesEntries (old : Reading) (es : Entries) (new : Reading) : Type 0 where
+  pub taken : (b : List ℕ) → old.left ≡ Some b → (rest : List ℕ) × AreEntryFronts b es rest × (entries_need es ≤ old.steps) × (new.left ≡ Some rest)
+  pub same : Stays old new
+
+-- Entries are read exactly where so many stand within the steps, in the order of their keys.
+abbrev pub ReadsEntries : {E : Type 0} → ℕ → Reading → Result (BTreeMap (String Global) Ipld) (DecodeError E) → Reading → Type 0
+ReadsEntries count old result new = MatchResult result
+    (λ m. (entry_count (ordered (pairs_of m.entries)) ≡ count) × TakesEntries old (ordered (pairs_of m.entries)) new)
+    (λ e. Refuses (HasEntries count old) ⊤ ⊥ (StandsInEntries count old.steps) old e new)

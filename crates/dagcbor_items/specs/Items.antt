@@ -1,0 +1,32 @@
+-- What a read of a list's items answers and refuses.
+use Rattle.std.specs.Prelude.{◌≡◌, ℕ, ◌≤◌, List, length, Some, Result, MatchResult, ⊤, Vec}
+use Rattle.std.specs.declared.alloc.Global.{Global}
+use Rattle.dagcbor_heads.specs.Reading.{Reading, Stays}
+use Rattle.dagcbor_heads.specs.Refusals.{Refuses}
+use Rattle.dagcbor_heads.specs.declared.error.DecodeError.{DecodeError}
+use Rattle.ipld_tree.specs.Tree.{Tree, Items, items_of, items_need}
+use Rattle.ipld_tree.specs.Spelling.{item_count, AreFronts}
+use Rattle.ipld_tree.specs.Ipld.{trees_of}
+use Rattle.ipld_tree.specs.declared.ipld.Ipld.{Ipld}
+use Rattle.dagcbor_items.specs.ItemCauses.{StandsInItems}
+
+-- so many items stand at the front within the steps left
+pub record HasItems (count : ℕ) (r : Reading) : Type 0 where
+  pub bytes : List ℕ
+  pub items : Items
+  pub rest : List ℕ
+  pub left : r.left ≡ Some bytes
+  pub counted : item_count items ≡ count
+  pub fronts : AreFronts bytes items rest
+  pub within : items_need items ≤ r.steps
+
+-- these trees stood at the front, and were taken
+pub record TakesItems (old : Reading) (ts : List Tree) (new : Reading) : Type 0 where
+  pub taken : (b : List ℕ) → old.left ≡ Some b → (rest : List ℕ) × AreFronts b (items_of ts) rest × (items_need (items_of ts) ≤ old.steps) × (new.left ≡ Some rest)
+  pub same : Stays old new
+
+-- Items are read exactly where so many stand within the steps.
+abbrev pub ReadsItems : {E : Type 0} → ℕ → Reading → Result (Vec Ipld Global) (DecodeError E) → Reading → Type 0
+ReadsItems count old result new = MatchResult result
+    (λ v. (length v.items ≡ count) × TakesItems old (trees_of v.items) new)
+    (λ e. Refuses (HasItems count old) ⊤ ⊥ (StandsInItems count old.steps) old e new)

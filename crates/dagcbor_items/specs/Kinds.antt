@@ -1,0 +1,51 @@
+-- Heads of some major types, and strings of bytes.
+use Rattle.std.specs.Prelude.{◌≡◌, ℕ, ◌^◌, ◌<◌, ◌≤◌, false, List, ◌++◌, length, Some, Result, MatchResult}
+use Rattle.dagcbor_heads.specs.Head.{head}
+use Rattle.dagcbor_heads.specs.Reading.{Reading}
+use Rattle.dagcbor_heads.specs.Fronts.{Takes}
+use Rattle.dagcbor_heads.specs.Refusals.{Refuses}
+use Rattle.dagcbor_heads.specs.declared.error.DecodeError.{DecodeError}
+use Rattle.dagcbor_items.specs.LeafCauses.{KindStands, StringStands}
+
+-- a head of a major type from low to high stands at the front
+pub record HasKind (low high : ℕ) (r : Reading) : Type 0 where
+  pub major : ℕ
+  pub argument : ℕ
+  pub rest : List ℕ
+  pub lowest : low ≤ major
+  pub highest : major ≤ high
+  pub argument_fits : argument < 2 ^ 64
+  pub left : r.left ≡ Some (head major argument ++ rest)
+
+-- such a head stood at the front, and was taken
+pub record TakesKind (low high : ℕ) (old : Reading) (major argument : ℕ) (new : Reading) : Type 0 where
+  pub lowest : low ≤ major
+  pub highest : major ≤ high
+  pub argument_fits : argument < 2 ^ 64
+  pub takes : Takes old (head major argument) new
+
+-- The head is read exactly where it has one of these major types.
+abbrev pub ReadsKind : {E : Type 0} → List ℕ → (low high : ℕ) → Reading → Result (ℕ × ℕ) (DecodeError E) → Reading → Type 0
+ReadsKind name low high old result new = MatchResult result
+    (λ h. TakesKind low high old h.0 h.1 new)
+    (λ e. Refuses (HasKind low high old) ⊥ ⊥ (KindStands name low high) old e new)
+
+-- ---- strings of bytes
+
+-- a string of the major type stands at the front
+pub record HasString (kind : ℕ) (r : Reading) : Type 0 where
+  pub payload : List ℕ
+  pub rest : List ℕ
+  pub fits : length payload < 2 ^ 64
+  pub left : r.left ≡ Some (head kind (length payload) ++ (payload ++ rest))
+
+-- this string stood at the front, and was taken
+pub record TakesString (kind : ℕ) (old : Reading) (payload : List ℕ) (new : Reading) : Type 0 where
+  pub fits : length payload < 2 ^ 64
+  pub takes : Takes old (head kind (length payload) ++ payload) new
+
+-- A string is read exactly where one of the major type stands, with no want of memory where the input lends.
+abbrev pub ReadsString : {T E : Type 0} → (T → List ℕ) → List ℕ → (kind : ℕ) → Reading → Result T (DecodeError E) → Reading → Type 0
+ReadsString held name kind old result new = MatchResult result
+    (λ s. TakesString kind old (held s) new)
+    (λ e. Refuses (HasString kind old) (old.lends ≡ false) ⊥ (StringStands name kind) old e new)

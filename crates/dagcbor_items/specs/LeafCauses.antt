@@ -1,0 +1,88 @@
+-- The causes of refusals that typed reads of leaves can have. Each stands where the leaf is to stand.
+use Rattle.std.specs.Prelude.{◌≡◌, ℕ, ℤ, ◌/◌, ◌^◌, ◌<◌, ◌≤◌, ◌⊎◌, List, [], ◌∷◌, ◌++◌, length, Option, None, codes, IsUtf8}
+use Rattle.dagcbor_heads.specs.Head.{head}
+use Rattle.dagcbor_heads.specs.Causes.{HeadCause, IsNamed}
+use Rattle.dagcbor_heads.specs.Lengths.{len_of}
+use Rattle.dagcbor_heads.specs.Names.{Names}
+use Rattle.dagcbor_heads.specs.declared.error.Len.TheVariants.{Small}
+use Rattle.dagcbor_heads.specs.declared.error.DecodeError.{DecodeError}
+use Rattle.dagcbor_heads.specs.declared.error.DecodeError.TheVariants.{Msg, Eof, Mismatch, Unsupported, RequireUtf8, CastOverflow}
+use Rattle.ipld_tree.specs.Tree.{integer, text}
+use Rattle.ipld_tree.specs.Spelling.{IsFront}
+use Rattle.dagcbor_items.specs.FirstBytes.{BeginsFrom}
+use Rattle.dagcbor_items.specs.Views.{view_char}
+
+-- a byte of another major type
+abbrev pub IsOtherKind : {E : Type 0} → List ℕ → (low high : ℕ) → DecodeError E → List ℕ → Type 0
+IsOtherKind name low high (Mismatch kept found) b = Names kept name
+    × ((more : List ℕ) × (b ≡ found ∷ more) × (low ≤ found / 32 → found / 32 ≤ high → ⊥))
+IsOtherKind name low high _ b = ⊥
+
+-- where a head of a major type from low to high is to stand, a byte of such a type begins none, or no byte or one of another major type stands there
+abbrev pub KindStands : {E : Type 0} → List ℕ → (low high : ℕ) → DecodeError E → List ℕ → Type 0
+KindStands name low high e b = (HeadCause e b × IsNamed name e × BeginsFrom low high b) ⊎ IsOtherKind name low high e b
+
+-- a number that the type does not accept
+abbrev pub IsOutside : {V E : Type 0} → List ℕ → (ℤ → Option V) → DecodeError E → List ℕ → Type 0
+IsOutside name accepted (CastOverflow kept) b = Names kept name
+    × ((n : ℤ) × (rest : List ℕ) × IsFront b (integer n) rest × (accepted n ≡ None))
+IsOutside name accepted _ b = ⊥
+
+-- no number stands there that the type accepts
+abbrev pub NumberStands : {V E : Type 0} → List ℕ → (ℤ → Option V) → DecodeError E → List ℕ → Type 0
+NumberStands name accepted e b = KindStands name 0 1 e b ⊎ IsOutside name accepted e b
+
+-- a tag of a number that may be too long for a head
+abbrev pub IsLong : {E : Type 0} → List ℕ → DecodeError E → List ℕ → Type 0
+IsLong name (Unsupported kept found) b = Names kept name
+    × ((more : List ℕ) × (b ≡ found ∷ more) × ((found ≡ 0xc2) ⊎ (found ≡ 0xc3)))
+IsLong name _ b = ⊥
+
+-- the bytes do not begin with such a tag
+abbrev pub BeginsNoLong : List ℕ → Type 0
+BeginsNoLong b = (found : ℕ) (more : List ℕ) → b ≡ found ∷ more → (found ≡ 0xc2) ⊎ (found ≡ 0xc3) → ⊥
+
+-- where a number of any size is to stand, no head of one stands, and no such tag; or such a tag does
+abbrev pub LongStands : {E : Type 0} → List ℕ → DecodeError E → List ℕ → Type 0
+LongStands name e b = (KindStands name 0 1 e b × BeginsNoLong b) ⊎ IsLong name e b
+
+-- no number of any size stands there that the type accepts
+abbrev pub LongNumberStands : {V E : Type 0} → List ℕ → (ℤ → Option V) → DecodeError E → List ℕ → Type 0
+LongNumberStands name accepted e b = LongStands name e b ⊎ IsOutside name accepted e b
+
+-- a string of the major type whose payload is cut
+abbrev pub IsCut : {E : Type 0} → List ℕ → (kind : ℕ) → DecodeError E → List ℕ → Type 0
+IsCut name kind (Eof kept expect) b = Names kept name
+    × ((n : ℕ) × (rest : List ℕ) × (n < 2 ^ 64) × (b ≡ head kind n ++ rest) × (length rest < n) × (expect ≡ len_of n))
+IsCut name kind _ b = ⊥
+
+-- no whole string of the major type stands there
+abbrev pub StringStands : {E : Type 0} → List ℕ → (kind : ℕ) → DecodeError E → List ℕ → Type 0
+StringStands name kind e b = KindStands name kind kind e b ⊎ IsCut name kind e b
+
+-- a whole text that is not UTF-8
+abbrev pub IsGarbled : {E : Type 0} → List ℕ → DecodeError E → List ℕ → Type 0
+IsGarbled name (RequireUtf8 kept) b = Names kept name
+    × ((s rest : List ℕ) × (length s < 2 ^ 64) × (b ≡ head 3 (length s) ++ (s ++ rest)) × (IsUtf8 s → ⊥))
+IsGarbled name _ b = ⊥
+
+-- no whole text stands there
+abbrev pub TextStands : {E : Type 0} → List ℕ → DecodeError E → List ℕ → Type 0
+TextStands name e b = StringStands name 3 e b ⊎ IsGarbled name e b
+
+-- a text that has not exactly one character
+abbrev pub IsNoChar : {E : Type 0} → DecodeError E → List ℕ → Type 0
+IsNoChar (Msg message) b = Names message (codes "Char must be one character")
+    × ((s rest : List ℕ) × IsFront b (text s) rest × (view_char (text s) ≡ None))
+IsNoChar _ b = ⊥
+
+-- no text of one character stands there
+abbrev pub CharStands : {E : Type 0} → DecodeError E → List ℕ → Type 0
+CharStands e b = TextStands (codes "string") e b ⊎ IsNoChar e b
+
+-- no byte, or one that is neither false nor true
+abbrev pub BoolStands : {E : Type 0} → DecodeError E → List ℕ → Type 0
+BoolStands (Eof name expect) b = (expect ≡ Small 1) × (b ≡ [])
+BoolStands (Mismatch name found) b = Names name (codes "bool")
+    × ((more : List ℕ) × (b ≡ found ∷ more) × (found ≡ 0xf4 → ⊥) × (found ≡ 0xf5 → ⊥))
+BoolStands _ b = ⊥

@@ -1,0 +1,55 @@
+-- What a read of a link answers and refuses.
+use Rattle.std.specs.Prelude.{◌≡◌, ℕ, ◌+◌, ◌^◌, ◌<◌, List, ◌∷◌, ◌++◌, length, Option, None, Some, Result, MatchResult}
+use Rattle.dagcbor_heads.specs.Reading.{Reading}
+use Rattle.dagcbor_heads.specs.Fronts.{Takes}
+use Rattle.dagcbor_heads.specs.Refusals.{Refuses}
+use Rattle.dagcbor_heads.specs.declared.error.DecodeError.{DecodeError}
+use Rattle.ipld_tree.specs.Cid.{CidParts, AreCidParts, IsCid, cid_bytes}
+use Rattle.ipld_tree.specs.Tree.{link}
+use Rattle.ipld_tree.specs.Spelling.{bytes_spelling, IsFront}
+use Rattle.dagcbor_items.specs.LinkCauses.{CidStands, LinkStands}
+use Rattle.dagcbor_items.specs.Untyped.{TakesItem}
+
+-- the wanted byte stands at the front
+pub record HasWanted (wanted : ℕ) (r : Reading) : Type 0 where
+  pub rest : List ℕ
+  pub left : r.left ≡ Some (wanted ∷ rest)
+
+-- the byte string of a zero and a CID stands at the front
+pub record HasCid (r : Reading) : Type 0 where
+  pub cid : List ℕ
+  pub rest : List ℕ
+  pub is_cid : IsCid cid
+  pub fits : 1 + length cid < 2 ^ 64
+  pub left : r.left ≡ Some (bytes_spelling (0x00 ∷ cid) ++ rest)
+
+-- the byte string of a zero and this CID stood at the front, and was taken
+pub record TakesCid (old : Reading) (cid : List ℕ) (new : Reading) : Type 0 where
+  pub is_cid : IsCid cid
+  pub fits : 1 + length cid < 2 ^ 64
+  pub takes : Takes old (bytes_spelling (0x00 ∷ cid)) new
+
+-- A CID is read exactly where its byte string stands.
+abbrev pub ReadsCid : {E : Type 0} → Reading → Result CidParts (DecodeError E) → Reading → Type 0
+ReadsCid old result new = MatchResult result
+    (λ c. TakesCid old (cid_bytes c) new)
+    (λ e. Refuses (HasCid old) ⊥ ⊥ CidStands old e new)
+
+-- a link stands at the front
+pub record HasLink (r : Reading) : Type 0 where
+  pub bytes : List ℕ
+  pub cid : List ℕ
+  pub rest : List ℕ
+  pub left : r.left ≡ Some bytes
+  pub front : IsFront bytes (link cid) rest
+
+-- A link is read exactly where one stands, with no want of memory.
+abbrev pub ReadsLink : {E : Type 0} → Reading → Result CidParts (DecodeError E) → Reading → Type 0
+ReadsLink old result new = MatchResult result
+    (λ c. TakesItem 1 old (link (cid_bytes c)) new)
+    (λ e. Refuses (HasLink old) ⊥ ⊥ LinkStands old e new)
+
+-- a CID is found exactly in a zero and a CID
+abbrev pub IsZeroAndCid : List ℕ → Option CidParts → Type 0
+IsZeroAndCid payload (Some c) = AreCidParts c × (payload ≡ 0x00 ∷ cid_bytes c)
+IsZeroAndCid payload None = (cid : List ℕ) → payload ≡ 0x00 ∷ cid → IsCid cid → ⊥

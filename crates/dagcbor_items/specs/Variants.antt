@@ -1,0 +1,49 @@
+-- Which refusals a call can answer, whether its bytes are known or not: those of its causes, and those of no cause.
+use Rattle.std.specs.Prelude.{⊤}
+use Rattle.dagcbor_heads.specs.Causes.{IsCauseless}
+use Rattle.dagcbor_heads.specs.declared.error.DecodeError.{DecodeError}
+use Rattle.dagcbor_heads.specs.declared.error.DecodeError.TheVariants.{Msg, Eof, Mismatch, Unsupported, RequireUtf8, CastOverflow, DepthOverflow, IndefiniteSize, NonMinimal, UnorderedKey}
+
+-- of one byte
+abbrev pub OfByte : {E : Type 0} → DecodeError E → Type 0
+OfByte (Eof name expect) = ⊤
+OfByte (Mismatch name found) = ⊤
+OfByte e = IsCauseless e
+
+-- of a head of some major types, and of a byte string
+abbrev pub OfKind : {E : Type 0} → DecodeError E → Type 0
+OfKind (Unsupported name found) = ⊤
+OfKind IndefiniteSize = ⊤
+OfKind (NonMinimal name found) = ⊤
+OfKind e = OfByte e
+
+-- of a number of some size
+abbrev pub OfNumber : {E : Type 0} → DecodeError E → Type 0
+OfNumber (CastOverflow name) = ⊤
+OfNumber e = OfKind e
+
+-- of a text
+abbrev pub OfText : {E : Type 0} → DecodeError E → Type 0
+OfText (RequireUtf8 name) = ⊤
+OfText e = OfKind e
+
+-- of a character
+abbrev pub OfChar : {E : Type 0} → DecodeError E → Type 0
+OfChar (Msg message) = ⊤
+OfChar e = OfText e
+
+-- of a key
+abbrev pub OfKey : {E : Type 0} → DecodeError E → Type 0
+OfKey UnorderedKey = ⊤
+OfKey e = OfText e
+
+-- of a link
+abbrev pub OfLink : {E : Type 0} → DecodeError E → Type 0
+OfLink (Msg message) = ⊤
+OfLink e = OfKind e
+
+-- of an item of any kind
+abbrev pub OfItem : {E : Type 0} → DecodeError E → Type 0
+OfItem (Msg message) = ⊤
+OfItem (DepthOverflow name) = ⊤
+OfItem e = OfKey e

@@ -1,0 +1,166 @@
+//! Reading items of any kind.
+
+ghost use Rattle.std.specs.Prelude.{◌≡◌, IfErr};
+ghost use Rattle.dagcbor_heads.specs.Inputs.{input_reading};
+ghost use Rattle.dagcbor_heads.specs.Fronts.{StartsWith};
+ghost use Rattle.dagcbor_heads.specs.Looking.{Looks, LooksBehind};
+ghost use Rattle.dagcbor_items.specs.Untyped.{ReadsItem, StartsWithMajor};
+ghost use Rattle.dagcbor_items.specs.Items.{ReadsItems};
+ghost use Rattle.dagcbor_items.specs.Entries.{ReadsEntries};
+ghost use Rattle.dagcbor_items.specs.Variants.{OfItem};
+
+use crate::key::read_key;
+use crate::leaf::{read_bytes, read_natural, read_negative, read_simple, read_text};
+use crate::link::read_link;
+use dagcbor_heads::{DecodeError, Input, Name, Read, is_indefinite, peek_one, pull_head};
+use ipld_tree::Ipld;
+use std::alloc::Global;
+use std::collections::BTreeMap;
+
+/// Reads an item of any kind, no deeper than the steps that are left.
+#[cycle(any)]
+pub fn read_any<R: Read>(
+    alloc: Global,
+    input: &mut Input<'_, R>,
+) -> Result<Ipld, DecodeError<R::Error>>
+    ensures item { ReadsItem 0 (input_reading R.reading input.old) result (input_reading R.reading input.new) }
+    ensures looked { Looks 3 (input_reading R.reading input.old) result (input_reading R.reading input.new) }
+    ensures variant { IfErr result OfItem }
+{
+    if !input.step_in() {
+        return Err(DecodeError::DepthOverflow {
+            name: Name::new("any"),
+        });
+    }
+    let value = read_item(alloc, input)?;
+    input.step_out();
+    Ok(value)
+}
+
+#[tactic(auto, using(crate::proofs::Variants::end_item))]
+#[cycle(any)]
+fn read_item<R: Read>(
+    alloc: Global,
+    input: &mut Input<'_, R>,
+) -> Result<Ipld, DecodeError<R::Error>>
+    ensures item { ReadsItem 1 (input_reading R.reading input.old) result (input_reading R.reading input.new) }
+    ensures looked { Looks 3 (input_reading R.reading input.old) result (input_reading R.reading input.new) }
+    ensures variant { IfErr result OfItem }
+{
+    let first = peek_one("any", input)?;
+    if is_indefinite(first) {
+        return Err(DecodeError::IndefiniteSize);
+    }
+    read_kind(alloc, input, first)
+}
+
+#[cycle(any)]
+fn read_kind<R: Read>(
+    alloc: Global,
+    input: &mut Input<'_, R>,
+    first: u8,
+) -> Result<Ipld, DecodeError<R::Error>>
+    requires { StartsWith (input_reading R.reading input.old) first }
+    ensures item { ReadsItem 1 (input_reading R.reading input.old) result (input_reading R.reading input.new) }
+    ensures looked { LooksBehind 3 1 (input_reading R.reading input.old) result (input_reading R.reading input.new) }
+    ensures variant { IfErr result OfItem }
+{
+    match first / 32 {
+        0 => read_natural(input),
+        1 => read_negative(input),
+        2 => read_bytes(alloc, input),
+        3 => read_text(alloc, input),
+        4 => read_list(alloc, input),
+        5 => read_map(alloc, input),
+        6 => read_link(input),
+        _ => read_simple(input, first),
+    }
+}
+
+#[tactic(auto, using(crate::proofs::Variants::named_item))]
+#[cycle(any)]
+fn read_list<R: Read>(
+    alloc: Global,
+    input: &mut Input<'_, R>,
+) -> Result<Ipld, DecodeError<R::Error>>
+    requires { StartsWithMajor (input_reading R.reading input.old) 4 }
+    ensures item { ReadsItem 1 (input_reading R.reading input.old) result (input_reading R.reading input.new) }
+    ensures looked { LooksBehind 3 1 (input_reading R.reading input.old) result (input_reading R.reading input.new) }
+    ensures variant { IfErr result OfItem }
+{
+    if !input.step_in() {
+        return Err(DecodeError::DepthOverflow {
+            name: Name::new("array"),
+        });
+    }
+    let (_, count, _) = pull_head("array", input)?;
+    let items = read_items(alloc, input, count)?;
+    input.step_out();
+    Ok(Ipld::List(items))
+}
+
+#[cycle(any)]
+fn read_items<R: Read>(
+    alloc: Global,
+    input: &mut Input<'_, R>,
+    count: u64,
+) -> Result<Vec<Ipld>, DecodeError<R::Error>>
+    ensures items { ReadsItems count (input_reading R.reading input.old) result (input_reading R.reading input.new) }
+    ensures looked { Looks 3 (input_reading R.reading input.old) result (input_reading R.reading input.new) }
+    ensures variant { IfErr result OfItem }
+{
+    let mut items = Vec::new(alloc);
+    for _index in 0..count {
+        let item = read_any(alloc, input)?;
+        if items.push(item).is_err() {
+            return Err(DecodeError::OutOfMemory);
+        }
+    }
+    Ok(items)
+}
+
+#[tactic(auto, using(crate::proofs::Variants::named_item))]
+#[cycle(any)]
+fn read_map<R: Read>(alloc: Global, input: &mut Input<'_, R>) -> Result<Ipld, DecodeError<R::Error>>
+    requires { StartsWithMajor (input_reading R.reading input.old) 5 }
+    ensures item { ReadsItem 1 (input_reading R.reading input.old) result (input_reading R.reading input.new) }
+    ensures looked { LooksBehind 3 1 (input_reading R.reading input.old) result (input_reading R.reading input.new) }
+    ensures variant { IfErr result OfItem }
+{
+    if !input.step_in() {
+        return Err(DecodeError::DepthOverflow {
+            name: Name::new("map"),
+        });
+    }
+    let (_, count, _) = pull_head("map", input)?;
+    let entries = read_entries(alloc, input, count)?;
+    input.step_out();
+    Ok(Ipld::Map(entries))
+}
+
+#[tactic(auto, using(crate::proofs::Variants::key_item))]
+#[cycle(any)]
+fn read_entries<R: Read>(
+    alloc: Global,
+    input: &mut Input<'_, R>,
+    count: u64,
+) -> Result<BTreeMap<String, Ipld>, DecodeError<R::Error>>
+    ensures entries { ReadsEntries count (input_reading R.reading input.old) result (input_reading R.reading input.new) }
+    ensures looked { Looks 3 (input_reading R.reading input.old) result (input_reading R.reading input.new) }
+    ensures variant { IfErr result OfItem }
+{
+    let mut entries = BTreeMap::new(alloc);
+    let mut previous = None;
+    for _index in 0..count {
+        let key = read_key(alloc, input, &previous)?;
+        let value = read_any(alloc, input)?;
+        let Ok(name) = String::from_str(alloc, key.as_str()) else {
+            return Err(DecodeError::OutOfMemory);
+        };
+        if entries.insert(name, value).is_err() {
+            return Err(DecodeError::OutOfMemory);
+        }
+        previous = Some(key);
+    }
+    Ok(entries)
+}

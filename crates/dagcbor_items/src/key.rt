@@ -1,0 +1,51 @@
+//! Reading the keys of maps: texts, each behind the one before it.
+
+ghost use Rattle.std.specs.Prelude.{◌≡◌, ◌↔◌, true, false, IfOk, IsTrue, option_map, IfErr};
+ghost use Rattle.std.specs.Cow.{cow_str_bytes, IsBorrowedStr};
+ghost use Rattle.dagcbor_heads.specs.Inputs.{input_reading};
+ghost use Rattle.dagcbor_heads.specs.Looking.{Looks};
+ghost use Rattle.ipld_tree.specs.Key.{comes_before};
+ghost use Rattle.dagcbor_items.specs.Places.{Follows};
+ghost use Rattle.dagcbor_items.specs.Entries.{ReadsKey};
+ghost use Rattle.dagcbor_items.specs.Variants.{OfKey};
+
+use crate::strings::pull_str;
+use dagcbor_heads::{DecodeError, Input, Read};
+use std::alloc::Global;
+use std::borrow::CowStr;
+
+/// Whether a key comes before another: the shorter first, and keys of one length by their bytes.
+pub(crate) fn comes_before(key: &str, other: &str) -> bool
+    ensures { result ≡ comes_before key.now other.now }
+{
+    key.len().cmp(&other.len()).then(key.cmp(other)).is_lt()
+}
+
+/// Whether the key may stand behind the one before it.
+fn follows(previous: &Option<CowStr<'_>>, key: &CowStr<'_>) -> bool
+    ensures { IsTrue result ↔ Follows (option_map cow_str_bytes previous.now) (cow_str_bytes key.now) }
+{
+    match previous {
+        None => true,
+        Some(before) => comes_before(before.as_str(), key.as_str()),
+    }
+}
+
+/// A key, lent where the input lends.
+#[tactic(auto, using(crate::proofs::Variants::text_key))]
+pub fn read_key<'de, R: Read>(
+    alloc: Global,
+    input: &mut Input<'de, R>,
+    previous: &Option<CowStr<'de>>,
+) -> Result<CowStr<'de>, DecodeError<R::Error>>
+    ensures key { ReadsKey (option_map cow_str_bytes previous.now) (input_reading R.reading input.old) result (input_reading R.reading input.new) }
+    ensures lent { IfOk result (λ k. IsBorrowedStr k ↔ ((input_reading R.reading input.old).lends ≡ true)) }
+    ensures looked { Looks 3 (input_reading R.reading input.old) result (input_reading R.reading input.new) }
+    ensures variant { IfErr result OfKey }
+{
+    let key = pull_str(alloc, "map key", input)?;
+    if !follows(previous, &key) {
+        return Err(DecodeError::UnorderedKey);
+    }
+    Ok(key)
+}

@@ -1,0 +1,92 @@
+//! Reading leaves other than links.
+
+ghost use Rattle.std.specs.Prelude.{◌≡◌, ◌/◌, true, false, IfErr};
+ghost use Rattle.dagcbor_heads.specs.Inputs.{input_reading};
+ghost use Rattle.dagcbor_heads.specs.Fronts.{StartsWith};
+ghost use Rattle.dagcbor_heads.specs.Looking.{LooksBehind};
+ghost use Rattle.dagcbor_items.specs.Untyped.{ReadsItem, ReadsLeaf, StartsWithMajor, IsSimple};
+ghost use Rattle.dagcbor_items.specs.Variants.{OfItem};
+
+use crate::strings::{pull_peeked_owned_bytes, pull_peeked_owned_text};
+use dagcbor_heads::{DecodeError, Input, Name, Read, pull_head, pull_one};
+use ipld_tree::Ipld;
+use std::alloc::Global;
+
+#[tactic(auto, using(crate::proofs::Variants::named_item))]
+pub(crate) fn read_natural<R: Read>(reader: &mut R) -> Result<Ipld, DecodeError<R::Error>>
+    requires { StartsWithMajor (R.reading reader.old) 0 }
+    ensures leaf { ReadsLeaf (R.reading reader.old) result (R.reading reader.new) }
+    ensures looked { LooksBehind 3 1 (R.reading reader.old) result (R.reading reader.new) }
+    ensures variant { IfErr result OfItem }
+{
+    let (_, argument, _) = pull_head("u64", reader)?;
+    Ok(Ipld::Integer(i128::from(argument)))
+}
+
+#[tactic(auto, using(crate::proofs::Variants::named_item))]
+pub(crate) fn read_negative<R: Read>(reader: &mut R) -> Result<Ipld, DecodeError<R::Error>>
+    requires { StartsWithMajor (R.reading reader.old) 1 }
+    ensures leaf { ReadsLeaf (R.reading reader.old) result (R.reading reader.new) }
+    ensures looked { LooksBehind 3 1 (R.reading reader.old) result (R.reading reader.new) }
+    ensures variant { IfErr result OfItem }
+{
+    let (_, argument, _) = pull_head("any", reader)?;
+    Ok(Ipld::Integer(-1 - i128::from(argument)))
+}
+
+#[tactic(auto, using(crate::proofs::Variants::kind_item))]
+pub(crate) fn read_bytes<R: Read>(
+    alloc: Global,
+    input: &mut Input<'_, R>,
+) -> Result<Ipld, DecodeError<R::Error>>
+    requires { StartsWithMajor (input_reading R.reading input.old) 2 }
+    ensures item { ReadsItem 1 (input_reading R.reading input.old) result (input_reading R.reading input.new) }
+    ensures looked { LooksBehind 3 1 (input_reading R.reading input.old) result (input_reading R.reading input.new) }
+    ensures variant { IfErr result OfItem }
+{
+    Ok(Ipld::Bytes(pull_peeked_owned_bytes(alloc, input)?))
+}
+
+#[tactic(auto, using(crate::proofs::Variants::text_item))]
+pub(crate) fn read_text<R: Read>(
+    alloc: Global,
+    input: &mut Input<'_, R>,
+) -> Result<Ipld, DecodeError<R::Error>>
+    requires { StartsWithMajor (input_reading R.reading input.old) 3 }
+    ensures item { ReadsItem 1 (input_reading R.reading input.old) result (input_reading R.reading input.new) }
+    ensures looked { LooksBehind 3 1 (input_reading R.reading input.old) result (input_reading R.reading input.new) }
+    ensures variant { IfErr result OfItem }
+{
+    Ok(Ipld::String(pull_peeked_owned_text(alloc, input)?))
+}
+
+fn simple_value(byte: u8) -> Option<Ipld>
+    ensures { IsSimple byte result }
+{
+    match byte {
+        0xf4 => Some(Ipld::Bool(false)),
+        0xf5 => Some(Ipld::Bool(true)),
+        0xf6 => Some(Ipld::Null),
+        _ => None,
+    }
+}
+
+#[tactic(auto, using(crate::proofs::Variants::end_item))]
+pub(crate) fn read_simple<R: Read>(reader: &mut R, first: u8) -> Result<Ipld, DecodeError<R::Error>>
+    requires starts { StartsWith (R.reading reader.old) first }
+    requires major { first / 32 ≡ 7 }
+    ensures leaf { ReadsLeaf (R.reading reader.old) result (R.reading reader.new) }
+    ensures looked { LooksBehind 3 1 (R.reading reader.old) result (R.reading reader.new) }
+    ensures variant { IfErr result OfItem }
+{
+    match simple_value(first) {
+        Some(value) => {
+            pull_one("any", reader)?;
+            Ok(value)
+        }
+        None => Err(DecodeError::Unsupported {
+            name: Name::new("any"),
+            found: first,
+        }),
+    }
+}

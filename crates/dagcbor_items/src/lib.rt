@@ -1,0 +1,24 @@
+//! Reading items of DAG-CBOR from an input: leaves, keys, links, and items of any kind.
+#![tactic(auto)]
+
+mod any;
+mod key;
+mod kinds;
+mod leaf;
+mod link;
+mod numbers;
+mod payloads;
+mod simple;
+mod sink;
+mod strings;
+mod walk;
+
+pub use any::read_any;
+pub use key::read_key;
+pub use link::pull_link;
+pub use numbers::{pull_i128, pull_signed, pull_u128, pull_unsigned};
+pub use payloads::PayloadReader;
+pub use simple::{pull_bool, pull_null};
+pub use sink::{LinkSink, NoLinks};
+pub use strings::{pull_char, pull_owned_bytes, pull_owned_text, pull_slice, pull_str};
+pub use walk::{gather_links, skip_any, walk_any};

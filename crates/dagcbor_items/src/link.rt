@@ -1,0 +1,110 @@
+//! Reading links: tag 42, and in it a byte string of a zero and a CID.
+
+ghost use Rattle.std.specs.Prelude.{◌≡◌, codes, [], ◌∷◌, MatchResult, IfErr};
+ghost use Rattle.dagcbor_heads.specs.Fronts.{Takes};
+ghost use Rattle.dagcbor_heads.specs.Inputs.{input_reading};
+ghost use Rattle.dagcbor_heads.specs.Refusals.{Refuses};
+ghost use Rattle.dagcbor_heads.specs.Looking.{Looks, LooksBehind};
+ghost use Rattle.dagcbor_items.specs.LinkCauses.{IsOtherByte};
+ghost use Rattle.dagcbor_items.specs.Untyped.{ReadsLeaf, StartsWithMajor};
+ghost use Rattle.dagcbor_items.specs.Links.{HasWanted, ReadsCid, ReadsLink, IsZeroAndCid};
+ghost use Rattle.dagcbor_items.specs.Variants.{OfByte, OfItem, OfLink};
+
+use arrayvec::ArrayVec;
+use dagcbor_heads::{DecodeError, Name, Read, peek_one, pull_head, pull_one, pull_short_payload};
+use ipld_tree::{Cid, Ipld};
+
+/// The greatest length of a CID with its zero.
+const LONGEST_CID: usize = 87;
+
+/// Takes the wanted byte.
+#[tactic(auto, using(crate::proofs::Variants::end_byte))]
+pub(crate) fn pull_wanted<R: Read>(
+    name: &str,
+    other: &str,
+    reader: &mut R,
+    wanted: u8,
+) -> Result<(), DecodeError<R::Error>>
+    ensures wanted { MatchResult result
+        (λ _. Takes (R.reading reader.old) (wanted ∷ []) (R.reading reader.new))
+        (λ e. Refuses (HasWanted wanted (R.reading reader.old)) ⊥ ⊥ (IsOtherByte other.now wanted) (R.reading reader.old) e (R.reading reader.new)) }
+    ensures looked { Looks 2 (R.reading reader.old) result (R.reading reader.new) }
+    ensures variant { IfErr result OfByte }
+{
+    let found = pull_one(name, reader)?;
+    if found != wanted {
+        return Err(DecodeError::Mismatch {
+            name: Name::new(other),
+            found,
+        });
+    }
+    Ok(())
+}
+
+/// The CID behind a zero.
+fn cid_behind_zero(payload: &[u8]) -> Option<Cid>
+    ensures { IsZeroAndCid payload.now result }
+{
+    match payload {
+        [0, cid @ ..] => Cid::try_from(cid).ok(),
+        _ => None,
+    }
+}
+
+#[tactic(auto, using(crate::proofs::Variants::named_link, crate::proofs::Variants::end_link))]
+fn pull_cid_string<R: Read>(reader: &mut R) -> Result<Cid, DecodeError<R::Error>>
+    requires { StartsWithMajor (R.reading reader.old) 2 }
+    ensures cid { ReadsCid (R.reading reader.old) result (R.reading reader.new) }
+    ensures looked { Looks 2 (R.reading reader.old) result (R.reading reader.new) }
+    ensures variant { IfErr result OfLink }
+{
+    let (_, count, _) = pull_head("cid", reader)?;
+    if count > LONGEST_CID as u64 {
+        return Err(DecodeError::custom("Invalid CID"));
+    }
+    let payload: ArrayVec<u8, LONGEST_CID> = pull_short_payload("cid", reader, count)?;
+    match cid_behind_zero(&payload) {
+        Some(cid) => Ok(cid),
+        None => Err(DecodeError::custom("Invalid CID")),
+    }
+}
+
+/// Reads what stands behind the tag.
+#[tactic(auto, using(crate::proofs::Variants::end_link))]
+fn pull_cid<R: Read>(reader: &mut R) -> Result<Cid, DecodeError<R::Error>>
+    ensures cid { ReadsCid (R.reading reader.old) result (R.reading reader.new) }
+    ensures looked { Looks 3 (R.reading reader.old) result (R.reading reader.new) }
+    ensures variant { IfErr result OfLink }
+{
+    let first = peek_one("cid", reader)?;
+    if first / 32 != 2 {
+        return Err(DecodeError::Unsupported {
+            name: Name::new("cid"),
+            found: first,
+        });
+    }
+    pull_cid_string(reader)
+}
+
+/// Reads a link, and takes no memory.
+#[tactic(auto, using(crate::proofs::Variants::byte_link))]
+pub fn pull_link<R: Read>(reader: &mut R) -> Result<Cid, DecodeError<R::Error>>
+    ensures link { ReadsLink (R.reading reader.old) result (R.reading reader.new) }
+    ensures looked { Looks 3 (R.reading reader.old) result (R.reading reader.new) }
+    ensures peeked { StartsWithMajor (R.reading reader.old) 6 → LooksBehind 3 1 (R.reading reader.old) result (R.reading reader.new) }
+    ensures variant { IfErr result OfLink }
+{
+    pull_wanted("tag head", "CBOR tag head", reader, 0xd8)?;
+    pull_wanted("tag", "CBOR tag", reader, 0x2a)?;
+    pull_cid(reader)
+}
+
+#[tactic(auto, using(crate::proofs::Variants::link_item))]
+pub(crate) fn read_link<R: Read>(reader: &mut R) -> Result<Ipld, DecodeError<R::Error>>
+    requires { StartsWithMajor (R.reading reader.old) 6 }
+    ensures leaf { ReadsLeaf (R.reading reader.old) result (R.reading reader.new) }
+    ensures looked { LooksBehind 3 1 (R.reading reader.old) result (R.reading reader.new) }
+    ensures variant { IfErr result OfItem }
+{
+    Ok(Ipld::Link(pull_link(reader)?))
+}

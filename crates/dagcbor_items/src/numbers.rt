@@ -1,0 +1,137 @@
+//! Reading numbers.
+
+ghost use Rattle.std.specs.Prelude.{◌≡◌, ◌+◌, ◌≤◌, ◌^◌, Some, IfOk, pos, negsuc, ◌≤ℤ◌, IfErr};
+ghost use Rattle.dagcbor_items.specs.Reads.{Reads};
+ghost use Rattle.dagcbor_items.specs.Views.{number_of, natural_below, within, view_number, no_need};
+ghost use Rattle.dagcbor_items.specs.LeafCauses.{KindStands, LongStands};
+ghost use Rattle.dagcbor_items.specs.LeafReads.{ReadsUnsigned, ReadsSigned, ReadsU128, ReadsI128};
+ghost use Rattle.dagcbor_items.specs.Variants.{OfKind, OfNumber};
+
+use crate::kinds::pull_kind;
+use dagcbor_heads::{DecodeError, Name, Read, peek_one};
+
+/// The number of a head of major type 0 or 1.
+fn number_of(major: u8, argument: u64) -> i128
+    ensures { result ≡ number_of major argument }
+{
+    if major == 0 {
+        i128::from(argument)
+    } else {
+        -1 - i128::from(argument)
+    }
+}
+
+/// A number of any size.
+fn pull_number<R: Read>(name: &str, reader: &mut R) -> Result<i128, DecodeError<R::Error>>
+    ensures number { Reads (λ n. n) (view_number Some) no_need ⊥ ⊥ (KindStands name.now 0 1) (R.reading reader.old) result (R.reading reader.new) }
+    ensures variant { IfErr result OfKind }
+{
+    let (major, argument) = pull_kind(name, reader, 0, 1)?;
+    Ok(number_of(major, argument))
+}
+
+/// The number as a type has it that reaches from 0 to `greatest`.
+fn natural_of(number: i128, greatest: u64) -> Option<u64>
+    ensures { result ≡ natural_below (greatest + 1) number }
+{
+    match u64::try_from(number) {
+        Ok(natural) if natural <= greatest => Some(natural),
+        _ => None,
+    }
+}
+
+/// The number as a type has it that reaches from -1 - `greatest` to `greatest`.
+fn signed_of(number: i128, greatest: u64) -> Option<i128>
+    ensures { result ≡ within (greatest + 1) number }
+{
+    if number > i128::from(greatest) || number < -1 - i128::from(greatest) {
+        return None;
+    }
+    Some(number)
+}
+
+/// A number from 0 to `greatest`.
+#[tactic(auto, using(crate::proofs::Variants::kind_number))]
+pub fn pull_unsigned<R: Read>(
+    name: &str,
+    reader: &mut R,
+    greatest: u64,
+) -> Result<u64, DecodeError<R::Error>>
+    ensures number { ReadsUnsigned name.now (greatest + 1) (R.reading reader.old) result (R.reading reader.new) }
+    ensures most { IfOk result (λ n. n ≤ greatest) }
+    ensures variant { IfErr result OfNumber }
+{
+    let number = pull_number(name, reader)?;
+    match natural_of(number, greatest) {
+        Some(natural) => Ok(natural),
+        None => Err(DecodeError::CastOverflow {
+            name: Name::new(name),
+        }),
+    }
+}
+
+/// A number from -1 - `greatest` to `greatest`.
+#[tactic(auto, using(crate::proofs::Variants::kind_number))]
+pub fn pull_signed<R: Read>(
+    name: &str,
+    reader: &mut R,
+    greatest: u64,
+) -> Result<i128, DecodeError<R::Error>>
+    ensures number { ReadsSigned name.now (greatest + 1) (R.reading reader.old) result (R.reading reader.new) }
+    ensures least { IfOk result (λ n. negsuc greatest ≤ℤ n) }
+    ensures most { IfOk result (λ n. n ≤ℤ pos greatest) }
+    ensures variant { IfErr result OfNumber }
+{
+    let number = pull_number(name, reader)?;
+    match signed_of(number, greatest) {
+        Some(signed) => Ok(signed),
+        None => Err(DecodeError::CastOverflow {
+            name: Name::new(name),
+        }),
+    }
+}
+
+/// A number of any size, which no tag announces.
+#[tactic(auto, using(crate::proofs::Variants::end_kind))]
+fn pull_long<R: Read>(name: &str, reader: &mut R) -> Result<i128, DecodeError<R::Error>>
+    ensures number { Reads (λ n. n) (view_number Some) no_need ⊥ ⊥ (LongStands name.now) (R.reading reader.old) result (R.reading reader.new) }
+    ensures variant { IfErr result OfKind }
+{
+    let first = peek_one(name, reader)?;
+    if first == 0xc2 || first == 0xc3 {
+        return Err(DecodeError::Unsupported {
+            name: Name::new(name),
+            found: first,
+        });
+    }
+    pull_number(name, reader)
+}
+
+/// The number where it is not below 0.
+fn long_natural_of(number: i128) -> Option<u128>
+    ensures { result ≡ natural_below (2 ^ 128) number }
+{
+    u128::try_from(number).ok()
+}
+
+#[tactic(auto, using(crate::proofs::Variants::kind_number))]
+pub fn pull_u128<R: Read>(reader: &mut R) -> Result<u128, DecodeError<R::Error>>
+    ensures number { ReadsU128 (R.reading reader.old) result (R.reading reader.new) }
+    ensures variant { IfErr result OfNumber }
+{
+    let number = pull_long("u128", reader)?;
+    match long_natural_of(number) {
+        Some(natural) => Ok(natural),
+        None => Err(DecodeError::CastOverflow {
+            name: Name::new("u128"),
+        }),
+    }
+}
+
+pub fn pull_i128<R: Read>(reader: &mut R) -> Result<i128, DecodeError<R::Error>>
+    ensures number { ReadsI128 (R.reading reader.old) result (R.reading reader.new) }
+    ensures variant { IfErr result OfKind }
+{
+    let number = pull_long("i128", reader)?;
+    Ok(number)
+}

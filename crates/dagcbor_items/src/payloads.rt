@@ -1,0 +1,177 @@
+//! How the strings of items are read: gathered in memory where an input does not lend them, or lent by a slice.
+
+ghost use Rattle.std.specs.Prelude.{◌≡◌, ◌<◌, ◌↔◌, ℕ, List, true, false, IsTrue, option_map, IfErr};
+ghost use Rattle.std.specs.Cow.{cow_str_bytes};
+ghost use Rattle.dagcbor_heads.specs.Looking.{Looks, LooksBehind};
+ghost use Rattle.dagcbor_items.specs.Kinds.{ReadsString};
+ghost use Rattle.dagcbor_items.specs.Places.{Follows};
+ghost use Rattle.dagcbor_items.specs.Entries.{ReadsKeyAs};
+ghost use Rattle.dagcbor_items.specs.LeafReads.{ReadsTextAs};
+ghost use Rattle.dagcbor_items.specs.Variants.{OfKey, OfKind, OfText};
+ghost use Rattle.dagcbor_items.specs.Untyped.{SkipsItem, StartsWithMajor};
+
+use crate::key::{comes_before, read_key};
+use crate::kinds::peek_kind;
+use crate::strings::{pull_peeked_slice, pull_peeked_str};
+use dagcbor_heads::{DecodeError, Input, Len, Name, Read, SliceReader, pull_head};
+use std::alloc::Global;
+use std::borrow::CowStr;
+use std::convert::Infallible;
+use std::str::from_utf8;
+
+/// A reader whose strings can be skipped, and the keys of whose maps can be kept.
+pub trait PayloadReader: Read {
+    /// Where memory for a string comes from, or nothing where none is taken.
+    type Alloc: Copy;
+
+    /// A key of a map, which is kept until the next one is compared with it.
+    type Key: Drop;
+
+    ghost key_bytes: { Self.Key → List ℕ };
+
+    /// Reads a key behind the one before it.
+    fn pull_key(
+        &mut self,
+        alloc: Self::Alloc,
+        previous: &Option<Self::Key>,
+    ) -> Result<Self::Key, DecodeError<Self::Error>>
+        ensures key { ReadsKeyAs key_bytes (option_map key_bytes previous.now) (Self.reading self.old) result (Self.reading self.new) }
+        ensures looked { Looks 3 (Self.reading self.old) result (Self.reading self.new) }
+        ensures variant { IfErr result OfKey };
+
+    fn skip_bytes(&mut self, alloc: Self::Alloc) -> Result<(), DecodeError<Self::Error>>
+        requires { StartsWithMajor (Self.reading self.old) 2 }
+        ensures item { SkipsItem 1 (Self.reading self.old) result (Self.reading self.new) }
+        ensures looked { LooksBehind 3 1 (Self.reading self.old) result (Self.reading self.new) }
+        ensures variant { IfErr result OfKind };
+
+    fn skip_text(&mut self, alloc: Self::Alloc) -> Result<(), DecodeError<Self::Error>>
+        requires { StartsWithMajor (Self.reading self.old) 3 }
+        ensures item { SkipsItem 1 (Self.reading self.old) result (Self.reading self.new) }
+        ensures looked { LooksBehind 3 1 (Self.reading self.old) result (Self.reading self.new) }
+        ensures variant { IfErr result OfText };
+}
+
+/// Lent where the input lends, and else gathered in memory.
+impl<'de, R: Read> PayloadReader for Input<'de, R> {
+    type Alloc = Global;
+
+    type Key = CowStr<'de>;
+
+    ghost key_bytes = { cow_str_bytes };
+
+    fn pull_key(
+        &mut self,
+        alloc: Global,
+        previous: &Option<CowStr<'de>>,
+    ) -> Result<CowStr<'de>, DecodeError<R::Error>> {
+        read_key(alloc, self, previous)
+    }
+
+    fn skip_bytes(&mut self, alloc: Global) -> Result<(), DecodeError<R::Error>> {
+        pull_peeked_slice(alloc, self)?;
+        Ok(())
+    }
+
+    fn skip_text(&mut self, alloc: Global) -> Result<(), DecodeError<R::Error>> {
+        pull_peeked_str(alloc, "string", self)?;
+        Ok(())
+    }
+}
+
+/// The bytes of a string whose first byte has the major type.
+#[tactic(auto, using(crate::proofs::Variants::named_kind, crate::proofs::Variants::end_kind))]
+fn pull_peeked_lent_string<'de>(
+    name: &str,
+    reader: &mut SliceReader<'de>,
+    kind: u8,
+) -> Result<&'de [u8], DecodeError<Infallible>>
+    requires few { kind < 8 }
+    requires starts { StartsWithMajor reader.old kind }
+    ensures string { ReadsString (λ s. s.now) name.now kind reader.old result reader.new }
+    ensures looked { Looks 2 reader.old result reader.new }
+    ensures variant { IfErr result OfKind }
+{
+    let (_, count, _) = pull_head(name, reader)?;
+    match reader.lend(count) {
+        Some(payload) => Ok(payload),
+        None => Err(DecodeError::Eof {
+            name: Name::new(name),
+            expect: Len::new(count),
+        }),
+    }
+}
+
+/// A text whose first byte has its major type.
+#[tactic(auto, using(crate::proofs::Variants::kind_text))]
+fn pull_peeked_lent_text<'de>(
+    name: &str,
+    reader: &mut SliceReader<'de>,
+) -> Result<&'de str, DecodeError<Infallible>>
+    requires { StartsWithMajor reader.old 3 }
+    ensures text { ReadsTextAs (λ s. s.now) name.now reader.old result reader.new }
+    ensures looked { Looks 2 reader.old result reader.new }
+    ensures variant { IfErr result OfText }
+{
+    let payload = pull_peeked_lent_string(name, reader, 3)?;
+    match from_utf8(payload) {
+        Ok(text) => Ok(text),
+        Err(_) => Err(DecodeError::RequireUtf8 {
+            name: Name::new(name),
+        }),
+    }
+}
+
+#[tactic(auto, using(crate::proofs::Variants::byte_text))]
+fn pull_lent_text<'de>(
+    name: &str,
+    reader: &mut SliceReader<'de>,
+) -> Result<&'de str, DecodeError<Infallible>>
+    ensures text { ReadsTextAs (λ s. s.now) name.now reader.old result reader.new }
+    ensures looked { Looks 3 reader.old result reader.new }
+    ensures variant { IfErr result OfText }
+{
+    peek_kind(name, reader, 3, 3)?;
+    pull_peeked_lent_text(name, reader)
+}
+
+/// Whether the key may stand behind the one before it.
+fn lent_follows(previous: &Option<&str>, key: &str) -> bool
+    ensures { IsTrue result ↔ Follows (option_map (λ s. s.now) previous.now) key.now }
+{
+    match previous {
+        None => true,
+        Some(before) => comes_before(before, key),
+    }
+}
+
+/// Lent, with no allocator.
+impl<'de> PayloadReader for SliceReader<'de> {
+    type Alloc = ();
+
+    type Key = &'de str;
+
+    ghost key_bytes = { λ s. s.now };
+
+    fn pull_key(
+        &mut self,
+        _alloc: (),
+        previous: &Option<&'de str>,
+    ) -> Result<&'de str, DecodeError<Infallible>> {
+        let key = pull_lent_text("map key", self)?;
+        if !lent_follows(previous, key) {
+            return Err(DecodeError::UnorderedKey);
+        }
+        Ok(key)
+    }
+
+    fn skip_bytes(&mut self, _alloc: ()) -> Result<(), DecodeError<Infallible>> {
+        pull_peeked_lent_string("bytes", self, 2)?;
+        Ok(())
+    }
+
+    fn skip_text(&mut self, _alloc: ()) -> Result<(), DecodeError<Infallible>> {
+        pull_peeked_lent_text("string", self)?;
+        Ok(())
+    }
+}

@@ -1,0 +1,30 @@
+//! Reading null, false and true.
+
+ghost use Rattle.std.specs.Prelude.{IfErr};
+ghost use Rattle.dagcbor_items.specs.LeafReads.{ReadsNull, ReadsBool};
+ghost use Rattle.dagcbor_items.specs.Variants.{OfByte};
+
+use crate::link::pull_wanted;
+use dagcbor_heads::{DecodeError, Name, Read, pull_one};
+
+pub fn pull_null<R: Read>(reader: &mut R) -> Result<(), DecodeError<R::Error>>
+    ensures null { ReadsNull (R.reading reader.old) result (R.reading reader.new) }
+    ensures variant { IfErr result OfByte }
+{
+    pull_wanted("unit", "unit", reader, 0xf6)
+}
+
+#[tactic(auto, using(crate::proofs::Variants::end_byte))]
+pub fn pull_bool<R: Read>(reader: &mut R) -> Result<bool, DecodeError<R::Error>>
+    ensures value { ReadsBool (R.reading reader.old) result (R.reading reader.new) }
+    ensures variant { IfErr result OfByte }
+{
+    match pull_one("bool", reader)? {
+        0xf4 => Ok(false),
+        0xf5 => Ok(true),
+        found => Err(DecodeError::Mismatch {
+            name: Name::new("bool"),
+            found,
+        }),
+    }
+}

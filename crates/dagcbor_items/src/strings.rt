@@ -1,0 +1,206 @@
+//! Reading texts, characters and byte strings.
+
+ghost use Rattle.std.specs.Prelude.{◌≡◌, ◌<◌, ◌↔◌, true, IfOk, IfSome, MatchOption, IsUtf8, IfErr};
+ghost use Rattle.std.specs.Str.{chars};
+ghost use Rattle.std.specs.Cow.{cow_slice_items, cow_str_bytes, IsBorrowedSlice, IsBorrowedStr};
+ghost use Rattle.dagcbor_heads.specs.Inputs.{input_reading};
+ghost use Rattle.dagcbor_heads.specs.Looking.{Looks};
+ghost use Rattle.dagcbor_items.specs.Kinds.{ReadsString};
+ghost use Rattle.dagcbor_items.specs.Untyped.{StartsWithMajor};
+ghost use Rattle.dagcbor_items.specs.Views.{only};
+ghost use Rattle.dagcbor_items.specs.LeafReads.{ReadsStr, ReadsOwnedText, ReadsChar, ReadsByteSlice, ReadsOwnedBytes};
+ghost use Rattle.dagcbor_items.specs.Variants.{OfChar, OfKind, OfText};
+
+use crate::kinds::peek_kind;
+use dagcbor_heads::{DecodeError, Input, Name, Read, pull_head, pull_payload};
+use std::alloc::Global;
+use std::borrow::{CowSlice, CowStr};
+use std::str::from_utf8;
+
+/// The bytes of a string whose first byte has the major type, lent where the input lends.
+#[tactic(auto, using(crate::proofs::Variants::named_kind, crate::proofs::Variants::end_kind))]
+fn pull_peeked_string<'de, R: Read>(
+    alloc: Global,
+    name: &str,
+    input: &mut Input<'de, R>,
+    kind: u8,
+) -> Result<CowSlice<'de, u8>, DecodeError<R::Error>>
+    requires few { kind < 8 }
+    requires starts { StartsWithMajor (input_reading R.reading input.old) kind }
+    ensures string { ReadsString cow_slice_items name.now kind (input_reading R.reading input.old) result (input_reading R.reading input.new) }
+    ensures lent { IfOk result (λ c. IsBorrowedSlice c ↔ ((input_reading R.reading input.old).lends ≡ true)) }
+    ensures looked { Looks 2 (input_reading R.reading input.old) result (input_reading R.reading input.new) }
+    ensures variant { IfErr result OfKind }
+{
+    let (_, count, _) = pull_head(name, input)?;
+    pull_payload(alloc, name, input, count)
+}
+
+/// The payload as a text, lent where it is.
+fn text_of<'de>(payload: CowSlice<'de, u8>) -> Option<CowStr<'de>>
+    ensures text { MatchOption result (¬ IsUtf8 (cow_slice_items payload.entry))
+        (λ s. (cow_str_bytes s ≡ cow_slice_items payload.entry) × IsUtf8 (cow_str_bytes s)) }
+    ensures lent { IfSome result (λ s. IsBorrowedStr s ↔ IsBorrowedSlice payload.entry) }
+{
+    match payload {
+        CowSlice::Borrowed(bytes) => match from_utf8(bytes) {
+            Ok(text) => Some(CowStr::Borrowed(text)),
+            Err(_) => None,
+        },
+        CowSlice::Owned(bytes) => match String::from_utf8(bytes) {
+            Ok(text) => Some(CowStr::Owned(text)),
+            Err(_) => None,
+        },
+    }
+}
+
+/// A byte string whose first byte has its major type, lent where the input lends.
+pub(crate) fn pull_peeked_slice<'de, R: Read>(
+    alloc: Global,
+    input: &mut Input<'de, R>,
+) -> Result<CowSlice<'de, u8>, DecodeError<R::Error>>
+    requires { StartsWithMajor (input_reading R.reading input.old) 2 }
+    ensures bytes { ReadsByteSlice (input_reading R.reading input.old) result (input_reading R.reading input.new) }
+    ensures lent { IfOk result (λ c. IsBorrowedSlice c ↔ ((input_reading R.reading input.old).lends ≡ true)) }
+    ensures looked { Looks 2 (input_reading R.reading input.old) result (input_reading R.reading input.new) }
+    ensures variant { IfErr result OfKind }
+{
+    pull_peeked_string(alloc, "bytes", input, 2)
+}
+
+/// A byte string, lent where the input lends.
+#[tactic(auto, using(crate::proofs::Variants::byte_kind))]
+pub fn pull_slice<'de, R: Read>(
+    alloc: Global,
+    input: &mut Input<'de, R>,
+) -> Result<CowSlice<'de, u8>, DecodeError<R::Error>>
+    ensures bytes { ReadsByteSlice (input_reading R.reading input.old) result (input_reading R.reading input.new) }
+    ensures lent { IfOk result (λ c. IsBorrowedSlice c ↔ ((input_reading R.reading input.old).lends ≡ true)) }
+    ensures looked { Looks 3 (input_reading R.reading input.old) result (input_reading R.reading input.new) }
+    ensures variant { IfErr result OfKind }
+{
+    peek_kind("bytes", input, 2, 2)?;
+    pull_peeked_slice(alloc, input)
+}
+
+/// A text whose first byte has its major type, lent where the input lends.
+#[tactic(auto, using(crate::proofs::Variants::kind_text))]
+pub(crate) fn pull_peeked_str<'de, R: Read>(
+    alloc: Global,
+    name: &str,
+    input: &mut Input<'de, R>,
+) -> Result<CowStr<'de>, DecodeError<R::Error>>
+    requires { StartsWithMajor (input_reading R.reading input.old) 3 }
+    ensures text { ReadsStr name.now (input_reading R.reading input.old) result (input_reading R.reading input.new) }
+    ensures lent { IfOk result (λ s. IsBorrowedStr s ↔ ((input_reading R.reading input.old).lends ≡ true)) }
+    ensures looked { Looks 2 (input_reading R.reading input.old) result (input_reading R.reading input.new) }
+    ensures variant { IfErr result OfText }
+{
+    let payload = pull_peeked_string(alloc, name, input, 3)?;
+    match text_of(payload) {
+        Some(text) => Ok(text),
+        None => Err(DecodeError::RequireUtf8 {
+            name: Name::new(name),
+        }),
+    }
+}
+
+#[tactic(auto, using(crate::proofs::Variants::byte_text))]
+pub fn pull_str<'de, R: Read>(
+    alloc: Global,
+    name: &str,
+    input: &mut Input<'de, R>,
+) -> Result<CowStr<'de>, DecodeError<R::Error>>
+    ensures text { ReadsStr name.now (input_reading R.reading input.old) result (input_reading R.reading input.new) }
+    ensures lent { IfOk result (λ s. IsBorrowedStr s ↔ ((input_reading R.reading input.old).lends ≡ true)) }
+    ensures looked { Looks 3 (input_reading R.reading input.old) result (input_reading R.reading input.new) }
+    ensures variant { IfErr result OfText }
+{
+    peek_kind(name, input, 3, 3)?;
+    pull_peeked_str(alloc, name, input)
+}
+
+/// A text whose first byte has its major type.
+pub(crate) fn pull_peeked_owned_text<R: Read>(
+    alloc: Global,
+    input: &mut Input<'_, R>,
+) -> Result<String, DecodeError<R::Error>>
+    requires { StartsWithMajor (input_reading R.reading input.old) 3 }
+    ensures text { ReadsOwnedText (input_reading R.reading input.old) result (input_reading R.reading input.new) }
+    ensures looked { Looks 2 (input_reading R.reading input.old) result (input_reading R.reading input.new) }
+    ensures variant { IfErr result OfText }
+{
+    match pull_peeked_str(alloc, "string", input)?.into_owned(alloc) {
+        Ok(text) => Ok(text),
+        Err(_) => Err(DecodeError::OutOfMemory),
+    }
+}
+
+#[tactic(auto, using(crate::proofs::Variants::byte_text))]
+pub fn pull_owned_text<R: Read>(
+    alloc: Global,
+    input: &mut Input<'_, R>,
+) -> Result<String, DecodeError<R::Error>>
+    ensures text { ReadsOwnedText (input_reading R.reading input.old) result (input_reading R.reading input.new) }
+    ensures looked { Looks 3 (input_reading R.reading input.old) result (input_reading R.reading input.new) }
+    ensures variant { IfErr result OfText }
+{
+    peek_kind("string", input, 3, 3)?;
+    pull_peeked_owned_text(alloc, input)
+}
+
+/// A byte string whose first byte has its major type.
+pub(crate) fn pull_peeked_owned_bytes<R: Read>(
+    alloc: Global,
+    input: &mut Input<'_, R>,
+) -> Result<Vec<u8>, DecodeError<R::Error>>
+    requires { StartsWithMajor (input_reading R.reading input.old) 2 }
+    ensures bytes { ReadsOwnedBytes (input_reading R.reading input.old) result (input_reading R.reading input.new) }
+    ensures looked { Looks 2 (input_reading R.reading input.old) result (input_reading R.reading input.new) }
+    ensures variant { IfErr result OfKind }
+{
+    match pull_peeked_slice(alloc, input)?.into_owned(alloc) {
+        Ok(bytes) => Ok(bytes),
+        Err(_) => Err(DecodeError::OutOfMemory),
+    }
+}
+
+#[tactic(auto, using(crate::proofs::Variants::byte_kind))]
+pub fn pull_owned_bytes<R: Read>(
+    alloc: Global,
+    input: &mut Input<'_, R>,
+) -> Result<Vec<u8>, DecodeError<R::Error>>
+    ensures bytes { ReadsOwnedBytes (input_reading R.reading input.old) result (input_reading R.reading input.new) }
+    ensures looked { Looks 3 (input_reading R.reading input.old) result (input_reading R.reading input.new) }
+    ensures variant { IfErr result OfKind }
+{
+    peek_kind("bytes", input, 2, 2)?;
+    pull_peeked_owned_bytes(alloc, input)
+}
+
+/// The one character of a text.
+fn only_char(text: &str) -> Option<char>
+    ensures { result ≡ only (chars text.now) }
+{
+    let mut chars = text.chars();
+    let first = chars.next()?;
+    match chars.next() {
+        Some(_) => None,
+        None => Some(first),
+    }
+}
+
+#[tactic(auto, using(crate::proofs::Variants::text_char))]
+pub fn pull_char<R: Read>(
+    alloc: Global,
+    input: &mut Input<'_, R>,
+) -> Result<char, DecodeError<R::Error>>
+    ensures character { ReadsChar (input_reading R.reading input.old) result (input_reading R.reading input.new) }
+    ensures variant { IfErr result OfChar }
+{
+    let text = pull_str(alloc, "string", input)?;
+    match only_char(text.as_str()) {
+        Some(c) => Ok(c),
+        None => Err(DecodeError::custom("Char must be one character")),
+    }
+}

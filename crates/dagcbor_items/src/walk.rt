@@ -1,0 +1,267 @@
+//! Going through items of any kind: read as `any` reads them, with nothing built. How their strings are read, and what is done with
+//! their links, is the caller's.
+
+ghost use Rattle.std.specs.Prelude.{◌≡◌, ◌≢◌, ◌/◌, IfErr};
+ghost use Rattle.dagcbor_heads.specs.Inputs.{input_reading};
+ghost use Rattle.dagcbor_heads.specs.Fronts.{StartsWith};
+ghost use Rattle.dagcbor_heads.specs.Looking.{Looks, LooksBehind};
+ghost use Rattle.dagcbor_items.specs.Untyped.{SkipsItem, StartsWithMajor};
+ghost use Rattle.dagcbor_items.specs.Variants.{OfItem};
+ghost use Rattle.dagcbor_items.specs.Walks.{WalksItem, WalksItems, WalksEntries, GathersLinks};
+
+use crate::link::pull_link;
+use crate::payloads::PayloadReader;
+use crate::sink::{LinkSink, NoLinks};
+use dagcbor_heads::{DecodeError, Input, Name, Read, is_indefinite, peek_one, pull_head, pull_one};
+use ipld_tree::Cid;
+use std::alloc::Global;
+
+/// Skips an item of any kind, no deeper than the steps that are left. Over a slice it takes no memory.
+pub fn skip_any<R: Read>(
+    alloc: Global,
+    input: &mut Input<'_, R>,
+) -> Result<(), DecodeError<R::Error>>
+    ensures item { SkipsItem 0 (input_reading R.reading input.old) result (input_reading R.reading input.new) }
+    ensures looked { Looks 3 (input_reading R.reading input.old) result (input_reading R.reading input.new) }
+    ensures variant { IfErr result OfItem }
+{
+    walk_any(alloc, input, &mut NoLinks)
+}
+
+/// The links of an item of any kind, left to right, repeats kept.
+pub fn gather_links<R: Read>(
+    alloc: Global,
+    input: &mut Input<'_, R>,
+) -> Result<Vec<Cid>, DecodeError<R::Error>>
+    ensures links { GathersLinks 0 (input_reading R.reading input.old) result (input_reading R.reading input.new) }
+    ensures looked { Looks 3 (input_reading R.reading input.old) result (input_reading R.reading input.new) }
+    ensures variant { IfErr result OfItem }
+{
+    let mut links = Vec::new(alloc);
+    walk_any(alloc, input, &mut links)?;
+    Ok(links)
+}
+
+/// Goes through an item of any kind, no deeper than the steps that are left, and hands its links on.
+#[cycle(walk)]
+pub fn walk_any<I: PayloadReader, S: LinkSink>(
+    alloc: I::Alloc,
+    input: &mut I,
+    links: &mut S,
+) -> Result<(), DecodeError<I::Error>>
+    ensures item { WalksItem S.holds S.takes_memory 0 (I.reading input.old) links.old result (I.reading input.new) links.new }
+    ensures looked { Looks 3 (I.reading input.old) result (I.reading input.new) }
+    ensures variant { IfErr result OfItem }
+{
+    if !input.step_in() {
+        return Err(DecodeError::DepthOverflow {
+            name: Name::new("any"),
+        });
+    }
+    walk_item(alloc, input, links)?;
+    input.step_out();
+    Ok(())
+}
+
+#[tactic(auto, using(crate::proofs::Variants::end_item))]
+#[cycle(walk)]
+fn walk_item<I: PayloadReader, S: LinkSink>(
+    alloc: I::Alloc,
+    input: &mut I,
+    links: &mut S,
+) -> Result<(), DecodeError<I::Error>>
+    ensures item { WalksItem S.holds S.takes_memory 1 (I.reading input.old) links.old result (I.reading input.new) links.new }
+    ensures looked { Looks 3 (I.reading input.old) result (I.reading input.new) }
+    ensures variant { IfErr result OfItem }
+{
+    let first = peek_one("any", input)?;
+    if is_indefinite(first) {
+        return Err(DecodeError::IndefiniteSize);
+    }
+    walk_kind(alloc, input, links, first)
+}
+
+#[cycle(walk)]
+fn walk_kind<I: PayloadReader, S: LinkSink>(
+    alloc: I::Alloc,
+    input: &mut I,
+    links: &mut S,
+    first: u8,
+) -> Result<(), DecodeError<I::Error>>
+    requires { StartsWith (I.reading input.old) first }
+    ensures item { WalksItem S.holds S.takes_memory 1 (I.reading input.old) links.old result (I.reading input.new) links.new }
+    ensures looked { LooksBehind 3 1 (I.reading input.old) result (I.reading input.new) }
+    ensures variant { IfErr result OfItem }
+{
+    match first / 32 {
+        4 => walk_list(alloc, input, links),
+        5 => walk_map(alloc, input, links),
+        6 => walk_link(input, links),
+        _ => skip_leaf(alloc, input, first),
+    }
+}
+
+#[tactic(auto, using(crate::proofs::Variants::link_item))]
+fn walk_link<R: Read, S: LinkSink>(
+    reader: &mut R,
+    links: &mut S,
+) -> Result<(), DecodeError<R::Error>>
+    requires { StartsWithMajor (R.reading reader.old) 6 }
+    ensures item { WalksItem S.holds S.takes_memory 1 (R.reading reader.old) links.old result (R.reading reader.new) links.new }
+    ensures looked { LooksBehind 3 1 (R.reading reader.old) result (R.reading reader.new) }
+    ensures variant { IfErr result OfItem }
+{
+    let cid = pull_link(reader)?;
+    match links.take(cid) {
+        Ok(()) => Ok(()),
+        Err(_) => Err(DecodeError::OutOfMemory),
+    }
+}
+
+/// Skips an item that is no list, map or link.
+#[tactic(auto, using(crate::proofs::Variants::kind_item, crate::proofs::Variants::text_item))]
+fn skip_leaf<I: PayloadReader>(
+    alloc: I::Alloc,
+    input: &mut I,
+    first: u8,
+) -> Result<(), DecodeError<I::Error>>
+    requires starts { StartsWith (I.reading input.old) first }
+    requires no_list { first / 32 ≢ 4 }
+    requires no_map { first / 32 ≢ 5 }
+    requires no_link { first / 32 ≢ 6 }
+    ensures item { SkipsItem 1 (I.reading input.old) result (I.reading input.new) }
+    ensures looked { LooksBehind 3 1 (I.reading input.old) result (I.reading input.new) }
+    ensures variant { IfErr result OfItem }
+{
+    match first / 32 {
+        0 => skip_natural(input),
+        1 => skip_negative(input),
+        2 => input.skip_bytes(alloc),
+        3 => input.skip_text(alloc),
+        _ => skip_simple(input, first),
+    }
+}
+
+#[tactic(auto, using(crate::proofs::Variants::named_item))]
+fn skip_natural<R: Read>(reader: &mut R) -> Result<(), DecodeError<R::Error>>
+    requires { StartsWithMajor (R.reading reader.old) 0 }
+    ensures item { SkipsItem 1 (R.reading reader.old) result (R.reading reader.new) }
+    ensures looked { LooksBehind 3 1 (R.reading reader.old) result (R.reading reader.new) }
+    ensures variant { IfErr result OfItem }
+{
+    pull_head("u64", reader)?;
+    Ok(())
+}
+
+#[tactic(auto, using(crate::proofs::Variants::named_item))]
+fn skip_negative<R: Read>(reader: &mut R) -> Result<(), DecodeError<R::Error>>
+    requires { StartsWithMajor (R.reading reader.old) 1 }
+    ensures item { SkipsItem 1 (R.reading reader.old) result (R.reading reader.new) }
+    ensures looked { LooksBehind 3 1 (R.reading reader.old) result (R.reading reader.new) }
+    ensures variant { IfErr result OfItem }
+{
+    pull_head("any", reader)?;
+    Ok(())
+}
+
+#[tactic(auto, using(crate::proofs::Variants::end_item))]
+fn skip_simple<R: Read>(reader: &mut R, first: u8) -> Result<(), DecodeError<R::Error>>
+    requires starts { StartsWith (R.reading reader.old) first }
+    requires major { first / 32 ≡ 7 }
+    ensures item { SkipsItem 1 (R.reading reader.old) result (R.reading reader.new) }
+    ensures looked { LooksBehind 3 1 (R.reading reader.old) result (R.reading reader.new) }
+    ensures variant { IfErr result OfItem }
+{
+    if first < 0xf4 || first > 0xf6 {
+        return Err(DecodeError::Unsupported {
+            name: Name::new("any"),
+            found: first,
+        });
+    }
+    pull_one("any", reader)?;
+    Ok(())
+}
+
+#[tactic(auto, using(crate::proofs::Variants::named_item))]
+#[cycle(walk)]
+fn walk_list<I: PayloadReader, S: LinkSink>(
+    alloc: I::Alloc,
+    input: &mut I,
+    links: &mut S,
+) -> Result<(), DecodeError<I::Error>>
+    requires { StartsWithMajor (I.reading input.old) 4 }
+    ensures item { WalksItem S.holds S.takes_memory 1 (I.reading input.old) links.old result (I.reading input.new) links.new }
+    ensures looked { LooksBehind 3 1 (I.reading input.old) result (I.reading input.new) }
+    ensures variant { IfErr result OfItem }
+{
+    if !input.step_in() {
+        return Err(DecodeError::DepthOverflow {
+            name: Name::new("array"),
+        });
+    }
+    let (_, count, _) = pull_head("array", input)?;
+    walk_items(alloc, input, links, count)?;
+    input.step_out();
+    Ok(())
+}
+
+#[cycle(walk)]
+fn walk_items<I: PayloadReader, S: LinkSink>(
+    alloc: I::Alloc,
+    input: &mut I,
+    links: &mut S,
+    count: u64,
+) -> Result<(), DecodeError<I::Error>>
+    ensures items { WalksItems S.holds S.takes_memory count (I.reading input.old) links.old result (I.reading input.new) links.new }
+    ensures looked { Looks 3 (I.reading input.old) result (I.reading input.new) }
+    ensures variant { IfErr result OfItem }
+{
+    for _index in 0..count {
+        walk_any(alloc, input, links)?;
+    }
+    Ok(())
+}
+
+#[tactic(auto, using(crate::proofs::Variants::named_item))]
+#[cycle(walk)]
+fn walk_map<I: PayloadReader, S: LinkSink>(
+    alloc: I::Alloc,
+    input: &mut I,
+    links: &mut S,
+) -> Result<(), DecodeError<I::Error>>
+    requires { StartsWithMajor (I.reading input.old) 5 }
+    ensures item { WalksItem S.holds S.takes_memory 1 (I.reading input.old) links.old result (I.reading input.new) links.new }
+    ensures looked { LooksBehind 3 1 (I.reading input.old) result (I.reading input.new) }
+    ensures variant { IfErr result OfItem }
+{
+    if !input.step_in() {
+        return Err(DecodeError::DepthOverflow {
+            name: Name::new("map"),
+        });
+    }
+    let (_, count, _) = pull_head("map", input)?;
+    walk_entries(alloc, input, links, count)?;
+    input.step_out();
+    Ok(())
+}
+
+#[tactic(auto, using(crate::proofs::Variants::key_item))]
+#[cycle(walk)]
+fn walk_entries<I: PayloadReader, S: LinkSink>(
+    alloc: I::Alloc,
+    input: &mut I,
+    links: &mut S,
+    count: u64,
+) -> Result<(), DecodeError<I::Error>>
+    ensures entries { WalksEntries S.holds S.takes_memory count (I.reading input.old) links.old result (I.reading input.new) links.new }
+    ensures looked { Looks 3 (I.reading input.old) result (I.reading input.new) }
+    ensures variant { IfErr result OfItem }
+{
+    let mut previous = None;
+    for _index in 0..count {
+        let key = input.pull_key(alloc, &previous)?;
+        walk_any(alloc, input, links)?;
+        previous = Some(key);
+    }
+    Ok(())
+}

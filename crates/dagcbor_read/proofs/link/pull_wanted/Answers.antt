@@ -1,6 +1,0 @@
-use Rattle.dagcbor_heads.proofs.Refusing.{refused}
-use Rattle.dagcbor_read.proofs.Links.{wanted_refused}
-use Rattle.dagcbor_read.proofs.link.pull_wanted.Goals as goal
-
-pub returns-in_err-found : goal.returns-in_err-found
-returns-in_err-found g c = refused _ _ _ _ c.from_residual.ensures.1 (wanted_refused _ _ _ _ _ c.in_err-found.ensures.taken)

@@ -1,0 +1,8 @@
+use Rattle.std.proofs.Common.{◌≡◌, ◌++◌, map, take}
+use Rattle.hex.specs.Hex.{encode_lower}
+use Rattle.serde_ipld_dagcbor.specs.Cid.{cid_bytes}
+use Rattle.dagcbor_tool.specs.Answers.{behind_spaces}
+use Rattle.dagcbor_tool.proofs.answer.links_line.Given as goal
+
+abbrev pub invariant-loop-link : goal.invariant-loop-link
+invariant-loop-link l = l.text.items ≡ encode_lower (cid_bytes l.first) ++ behind_spaces (map cid_bytes (take l.link-index l.others))

@@ -1,0 +1,39 @@
+-- Collectors: the serializers that they are lent, and what they hold.
+use Rattle.std.specs.Prelude.{◌≡◌, ℕ, List, Option, Result, IfErr}
+use Rattle.std.specs.Borrow.{RestsIfErr, Fml, RattleType, MutBor}
+use Rattle.dagcbor_heads.specs.declared.error.EncodeError.{EncodeError}
+use Rattle.dagcbor_heads.specs.Written.{Written, Stops}
+use Rattle.dagcbor_write.specs.contracts.serializer.Serializer.{the_row}
+use Rattle.dagcbor_write.specs.declared.bounded.BoundedCollect.{BoundedCollect}
+use Rattle.dagcbor_write.specs.declared.collect_map.CollectMap.{CollectMap}
+use Rattle.dagcbor_write.specs.declared.collect_seq.CollectSeq.{CollectSeq}
+
+-- the serializer that a collector holds
+abbrev pub map_lent : {W G : Type 0} → CollectMap W G → MutBor W
+map_lent c = c.ser
+
+abbrev pub list_lent : {W I : Type 0} → CollectSeq W I → MutBor W
+list_lent c = c.ser
+
+abbrev pub bounded_lent : {W : Type 0} → BoundedCollect W → MutBor W
+bounded_lent c = c.ser
+
+-- what a collector was given before its end
+abbrev pub map_held : {W G : Type 0} → CollectMap W G → G
+map_held c = c.held
+
+abbrev pub list_items : {W I : Type 0} → CollectSeq W I → I
+list_items c = c.items
+
+-- how many of the announced items are still to come
+abbrev pub bounded_left : {W : Type 0} → BoundedCollect W → ℕ
+bounded_left c = c.left
+
+-- one is lent on as the other
+abbrev pub SameLoan : {W : Type 0} → MutBor W → MutBor W → Type 0
+SameLoan old new = new.ghost_name ≡ old.ghost_name
+
+-- A collector begins with the serializer, or the head was refused: then the serializer rests as that left it.
+module _ (W : RattleType) (written : W.Denot → Written) {C E : Type 0} (lent : C → MutBor W.Denot) where
+  abbrev pub BeginsOrStops : MutBor W.Denot → Option (List ℕ) → Result C (EncodeError E) → Fml
+  BeginsOrStops ser head r = RestsIfErr (the_row W) ser (λ c. (lent c).ghost_name) r (λ new. IfErr r (Stops head (written ser.now) (written new)))

@@ -1,0 +1,8 @@
+-- What an iterator over CIDs is still to give.
+use Rattle.std.specs.Prelude.{List}
+use Rattle.std.specs.Vec.Iter.{into_iter_items}
+use Rattle.ipld_tree.specs.Cid.{CidParts}
+use Rattle.ipld_tree.specs.declared.cid_iter.CidIter.{CidIter}
+
+abbrev pub cids_left : CidIter → List CidParts
+cids_left it = into_iter_items it.cids

@@ -1,0 +1,61 @@
+//! Codecs: how values of a type are written as bytes and read back.
+
+ghost use Rattle.std.specs.Prelude.{ℕ, List, Option, Some};
+ghost use Rattle.ipld_tree.specs.Codecs.{Decodes, Encodes, EncodesAsVec, EncodingsAreUnique, DataHasOneEncoding};
+
+use std::alloc::Global;
+use std::io::{BufRead, Write};
+
+/// A format in which values of type `T` are written and read. What is read borrows nothing: `'de`
+/// is the lifetime of an input that no value sees.
+pub trait Codec<'de, T> {
+    /// The code of the format (the multicodec table).
+    const CODE: u64;
+
+    type Error;
+
+    ghost CODE: { ℕ };
+
+    /// What bytes of the format stand for.
+    ghost Data: { Type 0 };
+
+    /// What a value holds, wherever it lies in memory.
+    ghost View: { Type 0 };
+
+    /// These bytes, all of them, are an encoding of the data: for writing and for reading.
+    ghost is_encoding: { List ℕ → Data → Type 0 };
+
+    /// The data of a value. None where it has none.
+    ghost data_of: { T → Option Data };
+
+    ghost held: { T → View };
+
+    /// The data is read as a value that holds this.
+    ghost is_read: { Data → View → Type 0 };
+
+    /// The error says nothing of the value or of the bytes, as want of memory, or a fault of the
+    /// device.
+    ghost is_excuse: { Self.Error → Type 0 };
+
+    /// Reads the value whose encoding the source's bytes are, all of them.
+    fn decode<R: BufRead + Drop>(alloc: Global, reader: R) -> Result<T, Self::Error>
+        ensures answers { Decodes is_encoding is_read held is_excuse (R.remaining reader) result };
+
+    /// Reads the value whose encoding the bytes are, all of them.
+    fn decode_from_slice(alloc: Global, bytes: &[u8]) -> Result<T, Self::Error>
+        ensures answers { Decodes is_encoding is_read held is_excuse (Some bytes.now) result };
+
+    /// Appends the value's encoding to what the device holds, or a beginning of it.
+    fn encode<W: Write>(alloc: Global, writer: &mut W, value: &T) -> Result<(), Self::Error>
+        ensures answers { Encodes is_encoding is_excuse (data_of value.now) (W.contents writer.old) result (W.contents writer.new) };
+
+    /// The value's encoding.
+    fn encode_to_vec(alloc: Global, value: &T) -> Result<Vec<u8>, Self::Error>
+        ensures answers { EncodesAsVec is_encoding is_excuse (data_of value.now) result };
+
+    /// No two data share an encoding.
+    ghost unique: { EncodingsAreUnique is_encoding };
+
+    /// Data has one encoding at most.
+    ghost canonical: { DataHasOneEncoding is_encoding };
+}

@@ -1,0 +1,89 @@
+-- What DAG-CBOR is as a codec: bytes are tied to trees by their spelling.
+use Rattle.std.proofs.Common.{sym, ◌∙◌, ap}
+use Rattle.std.specs.Prelude.{◌≡◌, ℕ, ◌≤◌, List, [], Option, Some, IfErr, Result, Err, Vec, ⊤}
+use Rattle.std.specs.declared.alloc.Global.{Global}
+use Rattle.dagcbor_heads.specs.declared.error.DecodeError.{DecodeError}
+use Rattle.dagcbor_heads.specs.declared.error.DecodeError.TheVariants as unread
+use Rattle.dagcbor_heads.specs.declared.error.EncodeError.{EncodeError}
+use Rattle.dagcbor_heads.specs.declared.error.EncodeError.TheVariants as unwritten
+use Rattle.ipld_tree.specs.Codecs.{EncodingsAreUnique, DataHasOneEncoding, BytesHaveOneList}
+use Rattle.ipld_tree.specs.Tree.{Tree, links_of}
+use Rattle.ipld_tree.specs.Spelling.{IsSpelling}
+use Rattle.ipld_tree.specs.declared.cid_iter.CidIter.{CidIter}
+use Rattle.ipld_tree.proofs.Fronts.{front_unique}
+use Rattle.dagcbor_read.proofs.Wholes.{whole_front}
+use Rattle.dagcbor_write.specs.Answers.{IsAnswer, Sends}
+use Rattle.dagcbor_read.specs.Whole.{WholeRefused}
+use Rattle.dagcbor_read.specs.AllLinks.{AreFirstLinks, LinksRefused}
+use Rattle.serde_ipld_dagcbor.specs.declared.error.CodecError.{CodecError}
+use Rattle.serde_ipld_dagcbor.specs.declared.error.CodecError.TheVariants.{Decode, Encode, DecodeIo, EncodeIo}
+
+-- the tree shows v to the type, within 256 steps
+abbrev pub IsReadAs : {V : Type 0} → (Tree → Option V) → (Tree → ℕ) → Tree → V → Type 0
+IsReadAs view need t v = (view t ≡ Some v) × (need t ≤ 256)
+
+-- ---- excuses
+
+-- a fault of the source, or want of memory
+abbrev pub IsReadExcuse : {E : Type 0} → DecodeError E → Type 0
+IsReadExcuse (unread.Read e) = ⊤
+IsReadExcuse unread.OutOfMemory = ⊤
+IsReadExcuse _ = ⊥
+
+-- a fault of the device, or want of memory
+abbrev pub IsWriteExcuse : {E : Type 0} → EncodeError E → Type 0
+IsWriteExcuse (unwritten.Msg m) = ⊥
+IsWriteExcuse (unwritten.Write e) = ⊤
+IsWriteExcuse unwritten.OutOfMemory = ⊤
+
+-- the error says nothing of the value or of the bytes
+abbrev pub IsExcuse : CodecError → Type 0
+IsExcuse (Decode e) = IsReadExcuse e
+IsExcuse (Encode e) = IsWriteExcuse e
+IsExcuse (DecodeIo e) = IsReadExcuse e
+IsExcuse (EncodeIo e) = IsWriteExcuse e
+
+-- ---- which error comes from which call, and what it says
+
+-- why a source's bytes, where they are known, are not read
+abbrev pub NotDecoded : {V : Type 0} → (Tree → Option V) → (Tree → ℕ) → Option (List ℕ) → CodecError → Type 0
+NotDecoded view need left (DecodeIo e) = WholeRefused ⊤ view need left e
+NotDecoded view need left _ = ⊥
+
+abbrev pub DecodeRefused : {T V : Type 0} → (Tree → Option V) → (Tree → ℕ) → Option (List ℕ) → Result T CodecError → Type 0
+DecodeRefused view need left result = IfErr result (NotDecoded view need left)
+
+-- why a value is not sent to a device, and what went out
+abbrev pub NotEncoded : Option Tree → Option (List ℕ) → Option (List ℕ) → CodecError → Type 0
+NotEncoded tree old new (EncodeIo e) = Sends tree old (Err e) new
+NotEncoded tree old new _ = ⊥
+
+abbrev pub EncodeRefused : Option Tree → Option (List ℕ) → Result (Unit {0}) CodecError → Option (List ℕ) → Type 0
+EncodeRefused tree old result new = IfErr result (NotEncoded tree old new)
+
+-- why a value is not written
+abbrev pub NotEncodedAsVec : Option Tree → CodecError → Type 0
+NotEncodedAsVec tree (Encode e) = IsAnswer tree (Err e)
+NotEncodedAsVec tree _ = ⊥
+
+abbrev pub EncodeToVecRefused : Option Tree → Result (Vec ℕ Global) CodecError → Type 0
+EncodeToVecRefused tree result = IfErr result (NotEncodedAsVec tree)
+
+-- why no links are found
+abbrev pub NoLinks : List ℕ → CodecError → Type 0
+NoLinks b (Decode e) = LinksRefused e b
+NoLinks b _ = ⊥
+
+abbrev pub LinksNotFound : List ℕ → Result CidIter CodecError → Type 0
+LinksNotFound b result = IfErr result (NoLinks b)
+
+-- ---- laws
+
+pub spellings_are_unique : EncodingsAreUnique IsSpelling
+spellings_are_unique b t u h k = (front_unique b [] [] t u (whole_front h) (whole_front k)).0
+
+pub trees_have_one_spelling : DataHasOneEncoding IsSpelling
+trees_have_one_spelling b c t h k = h.is ∙ sym k.is
+
+pub bytes_have_one_list : BytesHaveOneList AreFirstLinks
+bytes_have_one_list b links others h k = h.4 ∙ ap links_of (front_unique b h.1 k.1 h.0 k.0 h.2 k.2).0 ∙ sym k.4

@@ -1,0 +1,103 @@
+//! DAG-CBOR as a codec.
+
+ghost use Rattle.std.specs.Prelude.{Some};
+ghost use Rattle.ipld_tree.specs.Codecs.{Decodes, Encodes, EncodesAsVec, FindsLinks};
+ghost use Rattle.ipld_tree.specs.Tree.{Tree};
+ghost use Rattle.ipld_tree.specs.Spelling.{IsSpelling};
+ghost use Rattle.dagcbor_read.specs.AllLinks.{AreFirstLinks};
+ghost use Rattle.serde_ipld_dagcbor.specs.Codec.{IsReadAs, IsExcuse, DecodeRefused, EncodeRefused, EncodeToVecRefused, LinksNotFound, spellings_are_unique, trees_have_one_spelling, bytes_have_one_list};
+
+use crate::DAG_CBOR_CODE;
+use crate::error::CodecError;
+use dagcbor_read::{DeserializeOwned, from_reader, links_from_slice};
+use dagcbor_write::{Serialize, to_vec, to_writer};
+use ipld_tree::{CidIter, Codec, Links};
+use std::alloc::Global;
+use std::io::{BufRead, Write};
+
+/// DAG-CBOR, as `Codec` and `Links` speak of formats.
+#[derive(Clone, Copy, Debug, PartialEq, Eq)]
+pub struct DagCborCodec;
+
+impl<'de, T: DeserializeOwned<'de> + Serialize> Codec<'de, T> for DagCborCodec {
+    const CODE: u64 = DAG_CBOR_CODE;
+
+    type Error = CodecError;
+
+    ghost CODE = { 0x71 };
+
+    ghost Data = { Tree };
+
+    ghost View = { T.View };
+
+    ghost is_encoding = { IsSpelling };
+
+    ghost data_of = { T.tree };
+
+    ghost held = { T.held };
+
+    ghost is_read = { IsReadAs T.view T.need };
+
+    ghost is_excuse = { IsExcuse };
+
+    ghost unique = { spellings_are_unique };
+
+    ghost canonical = { trees_have_one_spelling };
+
+    fn decode<R: BufRead + Drop>(alloc: Global, reader: R) -> Result<T, CodecError>
+        ensures answers { Decodes IsSpelling (IsReadAs T.view T.need) T.held IsExcuse (R.remaining reader) result }
+        ensures exact { DecodeRefused T.view T.need (R.remaining reader) result }
+    {
+        match from_reader(alloc, reader) {
+            Ok(value) => Ok(value),
+            Err(error) => Err(CodecError::DecodeIo(error)),
+        }
+    }
+
+    fn decode_from_slice(alloc: Global, bytes: &[u8]) -> Result<T, CodecError>
+        ensures answers { Decodes IsSpelling (IsReadAs T.view T.need) T.held IsExcuse (Some bytes.now) result }
+        ensures exact { DecodeRefused T.view T.need (Some bytes.now) result }
+    {
+        <DagCborCodec as Codec<'de, T>>::decode(alloc, bytes)
+    }
+
+    fn encode<W: Write>(alloc: Global, writer: &mut W, value: &T) -> Result<(), CodecError>
+        ensures answers { Encodes IsSpelling IsExcuse (T.tree value.now) (W.contents writer.old) result (W.contents writer.new) }
+        ensures exact { EncodeRefused (T.tree value.now) (W.contents writer.old) result (W.contents writer.new) }
+    {
+        match to_writer(alloc, writer, value) {
+            Ok(()) => Ok(()),
+            Err(error) => Err(CodecError::EncodeIo(error)),
+        }
+    }
+
+    fn encode_to_vec(alloc: Global, value: &T) -> Result<Vec<u8>, CodecError>
+        ensures answers { EncodesAsVec IsSpelling IsExcuse (T.tree value.now) result }
+        ensures exact { EncodeToVecRefused (T.tree value.now) result }
+    {
+        match to_vec(alloc, value) {
+            Ok(bytes) => Ok(bytes),
+            Err(error) => Err(CodecError::Encode(error)),
+        }
+    }
+}
+
+impl Links for DagCborCodec {
+    type LinksError = CodecError;
+
+    ghost has_links = { AreFirstLinks };
+
+    ghost is_excuse = { IsExcuse };
+
+    ghost unique = { bytes_have_one_list };
+
+    fn links(alloc: Global, bytes: &[u8]) -> Result<CidIter, CodecError>
+        ensures answers { FindsLinks AreFirstLinks IsExcuse bytes.now result }
+        ensures exact { LinksNotFound bytes.now result }
+    {
+        match links_from_slice(alloc, bytes) {
+            Ok(links) => Ok(CidIter::new(links)),
+            Err(error) => Err(CodecError::Decode(error)),
+        }
+    }
+}

@@ -1,0 +1,6 @@
+//! Writing.
+
+pub use dagcbor_heads::{BufWriter, IoRefWriter, IoWriter, Tally, Write, push_head};
+pub use dagcbor_write::{
+    BoundedCollect, CollectMap, CollectSeq, Serialize, Serializer, to_vec, to_writer,
+};

@@ -81,7 +81,7 @@ impl Blocks {
 
     /// The block under the name, read as a value. None where no block is held under it.
     pub fn get<'a, T: Deserialize<'a>>(&'a self, name: &Cid) -> Result<Option<T>, BlockError>
-        ensures { Gets T.held T.view T.need name.now (held_blocks self.now) result }
+        ensures { Gets T.held T.shape name.now (held_blocks self.now) result }
     {
         match self.held.get(name) {
             None => Ok(None),

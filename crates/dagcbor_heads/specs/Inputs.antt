@@ -11,3 +11,7 @@ unlent r = record r { lends = false }
 abbrev pub input_reading : {R : Type 0} → (R → Reading) → Input R → Reading
 input_reading reading (Slice reader) = reader
 input_reading reading (Reader reader) = unlent (reading reader)
+
+-- What a call does to an input over a reader
+abbrev pub OverInput : {R A : Type 0} → (R → Reading) → (Reading → A → Reading → Type 0) → Input R → A → Input R → Type 0
+OverInput reading does old result new = does (input_reading reading old) result (input_reading reading new)

@@ -8,7 +8,7 @@ ghost use Rattle.dagcbor_heads.specs.Reading.{Fails, Stays, Keeps};
 ghost use Rattle.dagcbor_heads.specs.Fronts.{FindsEnd, Gathers, HasByte, HasHead, HasPayload, ShowsByte, Takes, TakesHead};
 ghost use Rattle.dagcbor_heads.specs.Causes.{ByteCause, ArgumentCause, HeadCause, PayloadCause, IsCauseless, IsEndNamed, IsNamed, argument_width, least_argument};
 ghost use Rattle.dagcbor_heads.specs.Refusals.{Refuses};
-ghost use Rattle.dagcbor_heads.specs.Inputs.{input_reading};
+ghost use Rattle.dagcbor_heads.specs.Inputs.{input_reading, OverInput};
 ghost use Rattle.dagcbor_heads.specs.Looking.{Looks, LooksOnce, LooksAtTaken, LooksAtMost};
 
 use crate::error::{DecodeError, Len};
@@ -290,7 +290,7 @@ pub fn pull_payload<'de, R: Read>(
         (input_reading R.reading input.old) e (input_reading R.reading input.new)) }
     ensures lent { IfOk result (λ c. IsBorrowedSlice c ↔ ((input_reading R.reading input.old).lends ≡ true)) }
     ensures named { IfErr result (λ e. IsEndNamed name.now e) }
-    ensures looked { Looks 2 (input_reading R.reading input.old) result (input_reading R.reading input.new) }
+    ensures looked { OverInput R.reading (Looks 2) input.old result input.new }
     ensures at_most { LooksAtMost (2 * n) (input_reading R.reading input.old) (input_reading R.reading input.new) }
 {
     match input {

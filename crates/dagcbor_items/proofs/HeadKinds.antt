@@ -1,6 +1,6 @@
 -- Heads of some major types.
 use Rattle.std.proofs.Common.{◌≡◌, inl, inr, ℕ, ◌+◌, ◌*◌, ◌/◌, ◌<◌, ◌≤◌, List, ◌∷◌, ◌++◌, refl, sym, ap, ◌∙◌, subst, arith}
-use Rattle.std.specs.Prelude.{Some, Option}
+use Rattle.std.specs.Prelude.{Some}
 use Rattle.dagcbor_heads.specs.Head.{head}
 use Rattle.dagcbor_heads.specs.Names.{Names}
 use Rattle.dagcbor_heads.specs.Reading.{Reading}
@@ -22,13 +22,14 @@ use Rattle.dagcbor_items.specs.LeafCauses.{KindStands}
 use Rattle.dagcbor_items.specs.Kinds.{HasKind, TakesKind}
 use Rattle.dagcbor_items.specs.Untyped.{StartsWithMajor}
 use Rattle.dagcbor_items.proofs.Fronts.{head_of, major_at}
+use Rattle.dagcbor_items.specs.Shapes.{Shape}
 
 -- the same value in another form
-pub as_value : {V : Type 0} {view : Tree → Option V} {need : Tree → ℕ} {old new : Reading} (v w : V) → w ≡ v → TakesFront view need old v new → TakesFront view need old w new
-as_value {V} {view} {need} {old} {new} v w e h = subst (λ x. TakesFront view need old x new) (sym e) h
+pub as_value : {V : Type 0} {shape : Shape Tree V} {old new : Reading} (v w : V) → w ≡ v → TakesFront shape old v new → TakesFront shape old w new
+as_value {V} {shape} {old} {new} v w e h = subst (λ x. TakesFront shape old x new) (sym e) h
 
 -- a tree of such a major type has such a head
-pub kind_of_front : {V : Type 0} {view : Tree → Option V} {need : Tree → ℕ} {r : Reading} (low high : ℕ) (h : HasFront view need r) → low ≤ major h.tree → major h.tree ≤ high → HasKind low high r
+pub kind_of_front : {V : Type 0} {shape : Shape Tree V} {r : Reading} (low high : ℕ) (h : HasFront shape r) → low ≤ major h.tree → major h.tree ≤ high → HasKind low high r
 kind_of_front low high h least most = record {
   major = major h.tree;
   argument = argument h.tree;

@@ -22,7 +22,7 @@ use Rattle.ipld_tree.specs.Spelling.{IsFront}
 use Rattle.ipld_tree.proofs.Unique.{major}
 use Rattle.ipld_tree.proofs.Fronts.{front_unique}
 use Rattle.dagcbor_items.specs.Reads.{HasFront, TakesFront, Reads}
-use Rattle.dagcbor_items.specs.Views.{within, number_of, view_number, no_need}
+use Rattle.dagcbor_items.specs.Shapes.{within, number_of, view_number, leaf}
 use Rattle.dagcbor_items.specs.LeafCauses.{BeginsNoLong, KindStands, IsOutside, LongStands}
 use Rattle.dagcbor_items.specs.Kinds.{HasKind, TakesKind}
 use Rattle.dagcbor_items.proofs.SimpleValues.{front_byte}
@@ -43,13 +43,13 @@ number_major : (n : ℤ) → major (integer n) ≤ 1
 number_major (pos n) = omega arith
 number_major (negsuc n) = omega arith
 
-number_kind : {V : Type 0} (accepted : ℤ → Option V) {r : Reading} → HasFront (view_number accepted) no_need r → HasKind 0 1 r
+number_kind : {V : Type 0} (accepted : ℤ → Option V) {r : Reading} → HasFront (leaf (view_number accepted)) r → HasKind 0 1 r
 number_kind accepted h =
     let n = is_number accepted h.tree h.accepted in
     kind_of_front 0 1 h zero-le (subst (λ t. major t ≤ 1) (sym n.1) (number_major n.0))
 
 pub number_refused : {E : Type 0} (name : List ℕ) (old new : Reading) (e : DecodeError E) → Refuses (HasKind 0 1 old) ⊥ ⊥ (KindStands name 0 1) old e new
-    → Refuses (HasFront (view_number Some) no_need old) ⊥ ⊥ (KindStands name 0 1) old e new
+    → Refuses (HasFront (leaf (view_number Some)) old) ⊥ ⊥ (KindStands name 0 1) old e new
 number_refused name old new e r = passed_on (KindStands name 0 1) (KindStands name 0 1) old old new e (stays old) (number_kind Some) (λ x. x) (λ x. x) (λ b l. (b, l, λ h. h)) r
 
 -- the number of a head
@@ -58,7 +58,7 @@ number_front zero n b rest few fits e = record { well_formed = tt; spellable = f
 number_front (suc zero) n b rest few fits e = record { well_formed = tt; spellable = fits; is = e }
 number_front (suc (suc k)) n b rest few fits e = absurd (omega (arith, few))
 
-pub number_taken : {old new : Reading} {kind n : ℕ} → TakesKind 0 1 old kind n new → TakesFront (view_number Some) no_need old (number_of kind n) new
+pub number_taken : {old new : Reading} {kind n : ℕ} → TakesKind 0 1 old kind n new → TakesFront (leaf (view_number Some)) old (number_of kind n) new
 number_taken {old} {new} {kind} {n} h = record {
   taken = λ b l. let k = h.takes.taken b l in (integer (number_of kind n), k.0, number_front kind n b k.0 h.highest h.argument_fits k.1, refl, zero-le, k.2);
   same = h.takes.same;
@@ -80,12 +80,12 @@ all_numbers (list b) n e = absurd (cc e)
 all_numbers (mapping b) n e = absurd (cc e)
 all_numbers (link b) n e = absurd (cc e)
 
-some_number : {V : Type 0} (accepted : ℤ → Option V) {r : Reading} → HasFront (view_number accepted) no_need r → HasFront (view_number Some) no_need r
+some_number : {V : Type 0} (accepted : ℤ → Option V) {r : Reading} → HasFront (leaf (view_number accepted)) r → HasFront (leaf (view_number Some)) r
 some_number accepted h =
     let n = is_number accepted h.tree h.accepted in
     record { bytes = h.bytes; tree = h.tree; rest = h.rest; left = h.left; front = h.front; accepted = ap (λ t. is_some (view_number Some t)) n.1; within = zero-le }
 
-pub narrowed : {V : Type 0} (accepted : ℤ → Option V) {old new : Reading} (n : ℤ) (v : V) → accepted n ≡ Some v → TakesFront (view_number Some) no_need old n new → TakesFront (view_number accepted) no_need old v new
+pub narrowed : {V : Type 0} (accepted : ℤ → Option V) {old new : Reading} (n : ℤ) (v : V) → accepted n ≡ Some v → TakesFront (leaf (view_number Some)) old n new → TakesFront (leaf (view_number accepted)) old v new
 narrowed accepted {old} {new} n v e h = record {
   taken = λ b l. let k = h.taken b l in (k.0, k.1, k.2, ap (view_number accepted) (all_numbers k.0 n k.3) ∙ e, zero-le, k.5);
   same = h.same;
@@ -95,12 +95,12 @@ narrowed accepted {old} {new} n v e h = record {
 abbrev pub Narrowed : {V E : Type 0} → (ℤ → Option V) → (DecodeError E → List ℕ → Type 0) → List ℕ → DecodeError E → List ℕ → Type 0
 Narrowed accepted stands name e b = stands e b ⊎ IsOutside name accepted e b
 
-pub narrow_refused : {V E : Type 0} (accepted : ℤ → Option V) (stands : DecodeError E → List ℕ → Type 0) (name : List ℕ) (old new : Reading) (e : DecodeError E) → Refuses (HasFront (view_number Some) no_need old) ⊥ ⊥ stands old e new
-    → Refuses (HasFront (view_number accepted) no_need old) ⊥ ⊥ (Narrowed accepted stands name) old e new
+pub narrow_refused : {V E : Type 0} (accepted : ℤ → Option V) (stands : DecodeError E → List ℕ → Type 0) (name : List ℕ) (old new : Reading) (e : DecodeError E) → Refuses (HasFront (leaf (view_number Some)) old) ⊥ ⊥ stands old e new
+    → Refuses (HasFront (leaf (view_number accepted)) old) ⊥ ⊥ (Narrowed accepted stands name) old e new
 narrow_refused accepted stands name old new e r = passed_on stands (Narrowed accepted stands name) old old new e (stays old) (some_number accepted) (λ x. x) (λ x. x) (λ b l. (b, l, λ h. inl h)) r
 
-pub outside : (E : Type 0) {V : Type 0} (accepted : ℤ → Option V) (stands : DecodeError E → List ℕ → Type 0) (name : List ℕ) {old new : Reading} (n : ℤ) (kept : Name) → accepted n ≡ None → Names kept name → TakesFront (view_number Some) no_need old n new
-    → Refuses {E = E} (HasFront (view_number accepted) no_need old) ⊥ ⊥ (Narrowed accepted stands name) old (CastOverflow kept) new
+pub outside : (E : Type 0) {V : Type 0} (accepted : ℤ → Option V) (stands : DecodeError E → List ℕ → Type 0) (name : List ℕ) {old new : Reading} (n : ℤ) (kept : Name) → accepted n ≡ None → Names kept name → TakesFront (leaf (view_number Some)) old n new
+    → Refuses {E = E} (HasFront (leaf (view_number accepted)) old) ⊥ ⊥ (Narrowed accepted stands name) old (CastOverflow kept) new
 outside E accepted stands name {old} {new} n kept none named h = (
   h.same.faults,
   λ i. let k = h.taken i.bytes i.left in
@@ -117,12 +117,12 @@ no_byte_no_tag (Eof n expect) b h = λ found more is which. let e : [] ≡ found
 no_byte_no_tag _ b h = absurd h
 
 pub long_byte_refused : {E : Type 0} (name : List ℕ) (old new : Reading) (e : DecodeError E) → IsEndNamed name e → Refuses (HasByte old) ⊥ ⊥ ByteCause old e new
-    → Refuses (HasFront (view_number Some) no_need old) ⊥ ⊥ (LongStands name) old e new
+    → Refuses (HasFront (leaf (view_number Some)) old) ⊥ ⊥ (LongStands name) old e new
 long_byte_refused name old new e named r = passed_on ByteCause (LongStands name) old old new e (stays old) front_byte (λ x. x) (λ x. x) (λ b l. (b, l, λ h. inl (inl (byte_in_head e b h, end_named name e named, no_byte_begins 0 1 e b h), no_byte_no_tag e b h))) r
 
 -- a tag is no number
 pub no_tag : (E : Type 0) (name : List ℕ) {old mid : Reading} {first : ℕ} (kept : Name) → Names kept name → ShowsByte old first mid → (first ≡ 0xc2) ⊎ (first ≡ 0xc3)
-    → Refuses {E = E} (HasFront (view_number Some) no_need old) ⊥ ⊥ (LongStands name) old (Unsupported kept first) mid
+    → Refuses {E = E} (HasFront (leaf (view_number Some)) old) ⊥ ⊥ (LongStands name) old (Unsupported kept first) mid
 no_tag E name {old} {mid} {first} kept named h which = (
   h.same.faults,
   λ i. let k = number_kind Some i in
@@ -134,11 +134,11 @@ no_tag E name {old} {mid} {first} kept named h which = (
   λ b l. let s = h.starts b l in inr (named, (s.0, s.1, which)),
 )
 
-some_still : {old mid : Reading} {first : ℕ} → ShowsByte old first mid → HasFront (view_number Some) no_need old → HasFront (view_number Some) no_need mid
+some_still : {old mid : Reading} {first : ℕ} → ShowsByte old first mid → HasFront (leaf (view_number Some)) old → HasFront (leaf (view_number Some)) mid
 some_still h i = record { bytes = i.bytes; tree = i.tree; rest = i.rest; left = h.kept i.bytes i.left; front = i.front; accepted = i.accepted; within = zero-le }
 
-pub long_read : {E : Type 0} (name : List ℕ) {old mid : Reading} {first : ℕ} (new : Reading) (r : Result ℤ (DecodeError E)) → ShowsByte old first mid → ((first ≡ 0xc2) ⊎ (first ≡ 0xc3) → ⊥) → Reads (λ n. n) (view_number Some) no_need ⊥ ⊥ (KindStands name 0 1) mid r new
-    → Reads (λ n. n) (view_number Some) no_need ⊥ ⊥ (LongStands name) old r new
+pub long_read : {E : Type 0} (name : List ℕ) {old mid : Reading} {first : ℕ} (new : Reading) (r : Result ℤ (DecodeError E)) → ShowsByte old first mid → ((first ≡ 0xc2) ⊎ (first ≡ 0xc3) → ⊥) → Reads (λ n. n) (leaf (view_number Some)) ⊥ ⊥ (KindStands name 0 1) mid r new
+    → Reads (λ n. n) (leaf (view_number Some)) ⊥ ⊥ (LongStands name) old r new
 long_read name {old} {mid} new (Ok n) h other a = record {
   taken = λ b l. (let k = a.taken b (h.kept b l) in (k.0, k.1, k.2, k.3, zero-le, k.5));
   same = stays_both h.same a.same;

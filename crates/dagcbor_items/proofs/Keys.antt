@@ -16,18 +16,18 @@ use Rattle.dagcbor_items.specs.Places.{Follows}
 use Rattle.dagcbor_items.specs.ItemCauses.{KeyStands}
 use Rattle.dagcbor_items.specs.Entries.{HasKey}
 use Rattle.dagcbor_items.specs.Reads.{HasFront}
-use Rattle.dagcbor_items.specs.Views.{view_text, no_need}
+use Rattle.dagcbor_items.specs.Shapes.{view_text, leaf}
 use Rattle.dagcbor_items.specs.LeafCauses.{TextStands}
 
 is_false : (b : Bool) → (IsTrue b → ⊥) → b ≡ false
 is_false true no_more = absurd (no_more refl)
 is_false false no_more = refl
 
-key_as_text : {previous : Option (List ℕ)} {r : Reading} → HasKey previous r → HasFront view_text no_need r
+key_as_text : {previous : Option (List ℕ)} {r : Reading} → HasKey previous r → HasFront (leaf view_text) r
 key_as_text h = record { bytes = h.bytes; tree = text h.key; rest = h.rest; left = h.left; front = h.front; accepted = refl; within = zero-le }
 
 -- no whole text stood there
-pub key_text_refused : {E : Type 0} (previous : Option (List ℕ)) (old new : Reading) (e : DecodeError E) → Refuses (HasFront view_text no_need old) (old.lends ≡ false) ⊥ (TextStands (codes "map key")) old e new
+pub key_text_refused : {E : Type 0} (previous : Option (List ℕ)) (old new : Reading) (e : DecodeError E) → Refuses (HasFront (leaf view_text) old) (old.lends ≡ false) ⊥ (TextStands (codes "map key")) old e new
     → Refuses (HasKey previous old) (old.lends ≡ false) ⊥ (KeyStands previous) old e new
 key_text_refused previous old new e r = passed_on (TextStands (codes "map key")) (KeyStands previous) old old new e (stays old) key_as_text (λ x. x) (λ x. x) (λ b l. (b, l, λ h. inl h)) r
 

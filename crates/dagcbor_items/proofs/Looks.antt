@@ -12,7 +12,7 @@ use Rattle.dagcbor_heads.proofs.Looking.{looks_both, looks_then}
 use Rattle.ipld_tree.specs.Tree.{Tree}
 use Rattle.dagcbor_items.specs.Untyped.{TakesItem, StartsWithMajor}
 use Rattle.dagcbor_items.specs.Reads.{Reads}
-use Rattle.dagcbor_items.specs.Views.{no_need}
+use Rattle.dagcbor_items.specs.Shapes.{leaf}
 use Rattle.dagcbor_items.proofs.Fronts.{shorter}
 
 -- ---- more looks are allowed
@@ -80,7 +80,7 @@ peeked times new (Err e) o s h = peeked_left o s h
 
 -- a value behind a byte that was peeked at
 pub peeked_value : {T V E : Type 0} (times : ℕ) (held : T → V) (view : Tree → Option V) (lacks : Reading → Type 0) (stands : DecodeError E → List ℕ → Type 0) {first : ℕ} {old mid : Reading} (new : Reading) (r : Result T (DecodeError E)) → LooksOnce old mid → ShowsByte old first mid
-    → Reads held view no_need (lacks mid) ⊥ stands mid r new → Looks times mid r new → Looks (times + 1) old r new
+    → Reads held (leaf view) (lacks mid) ⊥ stands mid r new → Looks times mid r new → Looks (times + 1) old r new
 peeked_value times held view lacks stands new (Ok v) o s a h = peeked_taken o s (taken_first h (λ b l. let k = a.taken b l in (k.1, k.5, shorter b k.1 k.0 k.2)))
 peeked_value times held view lacks stands new (Err e) o s a h = peeked_left o s (left_first h (λ b l. let k = s.still b l in omega (arith, ap length k.1)))
 

@@ -14,17 +14,17 @@ use Rattle.ipld_tree.specs.Spelling.{IsSpellable, spelling, boolean_spelling}
 use Rattle.ipld_tree.proofs.Unique.{major}
 use Rattle.ipld_tree.proofs.Fronts.{front_first}
 use Rattle.dagcbor_items.specs.Reads.{HasFront, TakesFront}
-use Rattle.dagcbor_items.specs.Views.{view_null, view_bool, no_need}
+use Rattle.dagcbor_items.specs.Shapes.{view_null, view_bool, leaf, Shape}
 use Rattle.dagcbor_items.specs.Links.{HasWanted}
 use Rattle.dagcbor_items.specs.LinkCauses.{IsOtherByte}
 use Rattle.dagcbor_items.specs.LeafCauses.{BoolStands}
 use Rattle.dagcbor_items.specs.LeafReads.{ReadsNull}
 
-pub front_byte : {V : Type 0} {view : Tree → Option V} {need : Tree → ℕ} {r : Reading} → HasFront view need r → HasByte r
+pub front_byte : {V : Type 0} {shape : Shape Tree V} {r : Reading} → HasFront shape r → HasByte r
 front_byte h = let f = front_first h.bytes h.rest h.tree h.front in record { byte = 32 * major h.tree + f.0; rest = f.1; left = h.left ∙ ap Some f.3 }
 
 -- the spelling of a tree was taken
-pub spelling_taken : {V : Type 0} (view : Tree → Option V) {old new : Reading} (t : Tree) (v : V) → IsTree t → IsSpellable t → view t ≡ Some v → Takes old (spelling t) new → TakesFront view no_need old v new
+pub spelling_taken : {V : Type 0} (view : Tree → Option V) {old new : Reading} (t : Tree) (v : V) → IsTree t → IsSpellable t → view t ≡ Some v → Takes old (spelling t) new → TakesFront (leaf view) old v new
 spelling_taken view {old} {new} t v tree spellable shown h = record {
   taken = λ b l. let k = h.taken b l in (t, k.0, record { well_formed = tree; spellable = spellable; is = k.1 }, shown, zero-le, k.2);
   same = h.same;
@@ -42,7 +42,7 @@ is_null (list b) a = absurd (cc a)
 is_null (mapping b) a = absurd (cc a)
 is_null (link b) a = absurd (cc a)
 
-null_byte : {r : Reading} → HasFront view_null no_need r → HasWanted 0xf6 r
+null_byte : {r : Reading} → HasFront (leaf view_null) r → HasWanted 0xf6 r
 null_byte h = record { rest = h.rest; left = h.left ∙ ap Some (h.front.is ∙ ap (λ t. spelling t ++ h.rest) (is_null h.tree h.accepted)) }
 
 pub null_read : {E : Type 0} (old new : Reading) (result : Result (Unit {0}) (DecodeError E))
@@ -53,12 +53,12 @@ null_read old new (Err e) h = passed_on (IsOtherByte (codes "unit") 0xf6) (IsOth
 
 -- ---- false and true
 
-pub bool_taken : {old new : Reading} {found : ℕ} (b : Bool) → found ∷ [] ≡ boolean_spelling b → Takes old (found ∷ []) new → TakesFront view_bool no_need old b new
+pub bool_taken : {old new : Reading} {found : ℕ} (b : Bool) → found ∷ [] ≡ boolean_spelling b → Takes old (found ∷ []) new → TakesFront (leaf view_bool) old b new
 bool_taken {old} {new} {found} b e h = spelling_taken view_bool (boolean b) b tt tt refl (subst (λ s. Takes old s new) e h)
 
 no_byte : {E : Type 0} (e : DecodeError E) (b : List ℕ) → ByteCause e b → BoolStands e b
 no_byte (Eof name expect) b h = h
 no_byte _ b h = absurd h
 
-pub bool_byte_refused : {E : Type 0} (old new : Reading) (e : DecodeError E) → Refuses (HasByte old) ⊥ ⊥ ByteCause old e new → Refuses (HasFront view_bool no_need old) ⊥ ⊥ BoolStands old e new
+pub bool_byte_refused : {E : Type 0} (old new : Reading) (e : DecodeError E) → Refuses (HasByte old) ⊥ ⊥ ByteCause old e new → Refuses (HasFront (leaf view_bool) old) ⊥ ⊥ BoolStands old e new
 bool_byte_refused old new e r = passed_on ByteCause BoolStands old old new e (stays old) front_byte (λ x. x) (λ x. x) (λ b l. (b, l, no_byte e b)) r

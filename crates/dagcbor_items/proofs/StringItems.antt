@@ -16,7 +16,7 @@ use Rattle.ipld_tree.proofs.Fronts.{is_bytes, is_text}
 use Rattle.dagcbor_items.specs.ItemCauses.{Stands}
 use Rattle.dagcbor_items.specs.Untyped.{HasItem, TakesItem, StartsWithMajor}
 use Rattle.dagcbor_items.specs.Reads.{HasFront, TakesFront}
-use Rattle.dagcbor_items.specs.Views.{view_text, view_bytes, no_need}
+use Rattle.dagcbor_items.specs.Shapes.{view_text, view_bytes, leaf}
 use Rattle.dagcbor_items.specs.LeafCauses.{IsOtherKind, IsCut, IsGarbled, StringStands, TextStands}
 use Rattle.dagcbor_items.proofs.Places.{cause_here}
 use Rattle.dagcbor_items.proofs.Fronts.{MajorAt, major_of_front, as_tree}
@@ -50,7 +50,7 @@ text_stands steps some name e b m (inr h) = garbled_stands steps some name e b h
 
 -- ---- texts
 
-text_front : {old : Reading} → StartsWithMajor old 3 → HasItem 1 old → HasFront view_text no_need old
+text_front : {old : Reading} → StartsWithMajor old 3 → HasItem 1 old → HasFront (leaf view_text) old
 text_front starts i = record {
   bytes = i.bytes;
   tree = i.tree;
@@ -61,22 +61,22 @@ text_front starts i = record {
   within = omega arith;
 }
 
-pub text_taken : {old new : Reading} (s : List ℕ) → TakesFront view_text no_need old s new → TakesItem 1 old (text s) new
+pub text_taken : {old new : Reading} (s : List ℕ) → TakesFront (leaf view_text) old s new → TakesItem 1 old (text s) new
 text_taken {old} {new} s h = record {
   taken = λ b l. let k = h.taken b l in let e = shown_text k.0 s k.3 in (k.1, subst (λ t. IsFront b t k.1) e k.2, omega arith, k.5);
   same = h.same;
 }
 
-pub text_refused : {E : Type 0} (lacks : Type 0) (old new : Reading) (e : DecodeError E) → StartsWithMajor old 3 → Refuses (HasFront view_text no_need old) lacks ⊥ (TextStands (codes "string")) old e new → Refuses (HasItem 1 old) lacks ⊥ (Stands (old.steps + 1)) old e new
+pub text_refused : {E : Type 0} (lacks : Type 0) (old new : Reading) (e : DecodeError E) → StartsWithMajor old 3 → Refuses (HasFront (leaf view_text) old) lacks ⊥ (TextStands (codes "string")) old e new → Refuses (HasItem 1 old) lacks ⊥ (Stands (old.steps + 1)) old e new
 text_refused lacks old new e starts r =
     passed_on (TextStands (codes "string")) (Stands (old.steps + 1)) old old new e (stays old) (text_front starts) (λ x. x) (λ x. x) (λ b l. (b, l, text_stands _ (omega arith) (codes "string") e b (starts b l))) r
 
-pub text_as_tree : {old new : Reading} (s : String Global) → TakesFront view_text no_need old (string_bytes s) new → TakesItem 1 old (tree_of (String' s)) new
+pub text_as_tree : {old new : Reading} (s : String Global) → TakesFront (leaf view_text) old (string_bytes s) new → TakesItem 1 old (tree_of (String' s)) new
 text_as_tree {old} {new} s h = as_tree (text (string_bytes s)) _ (tree_of-String s) (text_taken (string_bytes s) h)
 
 -- ---- byte strings
 
-bytes_front : {old : Reading} → StartsWithMajor old 2 → HasItem 1 old → HasFront view_bytes no_need old
+bytes_front : {old : Reading} → StartsWithMajor old 2 → HasItem 1 old → HasFront (leaf view_bytes) old
 bytes_front starts i = record {
   bytes = i.bytes;
   tree = i.tree;
@@ -87,15 +87,15 @@ bytes_front starts i = record {
   within = omega arith;
 }
 
-pub bytes_taken : {old new : Reading} (s : List ℕ) → TakesFront view_bytes no_need old s new → TakesItem 1 old (bytes s) new
+pub bytes_taken : {old new : Reading} (s : List ℕ) → TakesFront (leaf view_bytes) old s new → TakesItem 1 old (bytes s) new
 bytes_taken {old} {new} s h = record {
   taken = λ b l. let k = h.taken b l in let e = shown_bytes k.0 s k.3 in (k.1, subst (λ t. IsFront b t k.1) e k.2, omega arith, k.5);
   same = h.same;
 }
 
-pub bytes_as_tree : {old new : Reading} (v : Vec ℕ Global) → TakesFront view_bytes no_need old v.items new → TakesItem 1 old (tree_of (Bytes' v)) new
+pub bytes_as_tree : {old new : Reading} (v : Vec ℕ Global) → TakesFront (leaf view_bytes) old v.items new → TakesItem 1 old (tree_of (Bytes' v)) new
 bytes_as_tree {old} {new} v h = as_tree (bytes v.items) _ (tree_of-Bytes v) (bytes_taken v.items h)
 
-pub bytes_refused : {E : Type 0} (lacks : Type 0) (old new : Reading) (e : DecodeError E) → StartsWithMajor old 2 → Refuses (HasFront view_bytes no_need old) lacks ⊥ (StringStands (codes "bytes") 2) old e new → Refuses (HasItem 1 old) lacks ⊥ (Stands (old.steps + 1)) old e new
+pub bytes_refused : {E : Type 0} (lacks : Type 0) (old new : Reading) (e : DecodeError E) → StartsWithMajor old 2 → Refuses (HasFront (leaf view_bytes) old) lacks ⊥ (StringStands (codes "bytes") 2) old e new → Refuses (HasItem 1 old) lacks ⊥ (Stands (old.steps + 1)) old e new
 bytes_refused lacks old new e starts r =
     passed_on (StringStands (codes "bytes") 2) (Stands (old.steps + 1)) old old new e (stays old) (bytes_front starts) (λ x. x) (λ x. x) (λ b l. (b, l, string_stands _ (omega arith) (codes "bytes") 2 e b (inl refl) (starts b l))) r

@@ -20,7 +20,7 @@ use Rattle.ipld_tree.specs.Tree.{Tree, null, boolean, integer, text, bytes, list
 use Rattle.ipld_tree.specs.Spelling.{IsFront}
 use Rattle.ipld_tree.proofs.Unique.{split_at_length}
 use Rattle.dagcbor_items.specs.Reads.{HasFront, TakesFront, Reads}
-use Rattle.dagcbor_items.specs.Views.{view_text, view_bytes, no_need}
+use Rattle.dagcbor_items.specs.Shapes.{view_text, view_bytes, leaf}
 use Rattle.dagcbor_items.specs.FirstBytes.{BeginsFrom}
 use Rattle.dagcbor_items.specs.LeafCauses.{IsCut, KindStands, StringStands, TextStands}
 use Rattle.dagcbor_items.specs.LeafReads.{ReadsByteSlice}
@@ -90,14 +90,14 @@ string_head_refused lacks name kind old new e few starts named r =
 
 -- what was read behind a byte that was peeked at
 pub peeked_read : {T V E : Type 0} (held : T → V) (view : Tree → Option V) (lacks : Reading → Type 0) (stands : DecodeError E → List ℕ → Type 0) {old mid : Reading} {first : ℕ} (new : Reading) (r : Result T (DecodeError E)) → ShowsByte old first mid → (Stays old mid → lacks mid → lacks old)
-    → Reads held view no_need (lacks mid) ⊥ stands mid r new → Reads held view no_need (lacks old) ⊥ stands old r new
+    → Reads held (leaf view) (lacks mid) ⊥ stands mid r new → Reads held (leaf view) (lacks old) ⊥ stands old r new
 peeked_read held view lacks stands {old} {mid} new (Ok v) h want a = record {
   taken = λ b l. (let k = a.taken b (h.kept b l) in (k.0, k.1, k.2, k.3, zero-le, k.5));
   same = stays_both h.same a.same;
 }
 peeked_read held view lacks stands {old} {mid} new (Err e) h want r = passed_on stands stands old mid new e h.same still (want h.same) (λ x. x) (λ b l. (b, h.kept b l, λ c. c)) r
   where
-    still : HasFront view no_need old → HasFront view no_need mid
+    still : HasFront (leaf view) old → HasFront (leaf view) mid
     still f = record { bytes = f.bytes; tree = f.tree; rest = f.rest; left = h.kept f.bytes f.left; front = f.front; accepted = f.accepted; within = zero-le }
 
 some_of : {V : Type 0} (o : Option V) → is_some o ≡ true → (v : V) × (o ≡ Some v)
@@ -117,14 +117,14 @@ shown_bytes (mapping b) s e = absurd (cc e)
 shown_bytes (link b) s e = absurd (cc e)
 
 -- a string stands where its head and its payload do
-bytes_stand : {r : Reading} → HasFront view_bytes no_need r → HasString 2 r
+bytes_stand : {r : Reading} → HasFront (leaf view_bytes) r → HasString 2 r
 bytes_stand {r} h =
     let s = some_of (view_bytes h.tree) h.accepted in
     let f = subst (λ t. IsFront h.bytes t h.rest) (shown_bytes h.tree s.0 s.1) h.front in
     record { payload = s.0; rest = h.rest; fits = f.spellable; left = h.left ∙ ap Some (f.is ∙ append_assoc (head 2 (length s.0)) s.0 h.rest) }
 
 pub bytes_refused : {E : Type 0} (lacks : Type 0) (old new : Reading) (e : DecodeError E) → Refuses (HasString 2 old) lacks ⊥ (StringStands (codes "bytes") 2) old e new
-    → Refuses (HasFront view_bytes no_need old) lacks ⊥ (StringStands (codes "bytes") 2) old e new
+    → Refuses (HasFront (leaf view_bytes) old) lacks ⊥ (StringStands (codes "bytes") 2) old e new
 bytes_refused lacks old new e r = passed_on (StringStands (codes "bytes") 2) (StringStands (codes "bytes") 2) old old new e (stays old) bytes_stand (λ x. x) (λ x. x) (λ b l. (b, l, λ c. c)) r
 
 pub bytes_read : {E : Type 0} (old new : Reading) (result : Result (CowSlice ℕ Global) (DecodeError E)) → ReadsString cow_slice_items (codes "bytes") 2 old result new → ReadsByteSlice old result new
@@ -143,23 +143,23 @@ shown_text (list b) s e = absurd (cc e)
 shown_text (mapping b) s e = absurd (cc e)
 shown_text (link b) s e = absurd (cc e)
 
-text_front : {r : Reading} (h : HasFront view_text no_need r) → (s : List ℕ) × IsFront h.bytes (text s) h.rest
+text_front : {r : Reading} (h : HasFront (leaf view_text) r) → (s : List ℕ) × IsFront h.bytes (text s) h.rest
 text_front h = let s = some_of (view_text h.tree) h.accepted in (s.0, subst (λ t. IsFront h.bytes t h.rest) (shown_text h.tree s.0 s.1) h.front)
 
-text_stands : {r : Reading} → HasFront view_text no_need r → HasString 3 r
+text_stands : {r : Reading} → HasFront (leaf view_text) r → HasString 3 r
 text_stands {r} h =
     let s = text_front h in
     record { payload = s.0; rest = h.rest; fits = s.1.spellable; left = h.left ∙ ap Some (s.1.is ∙ append_assoc (head 3 (length s.0)) s.0 h.rest) }
 
 pub text_refused : {E : Type 0} (lacks : Type 0) (name : List ℕ) (old new : Reading) (e : DecodeError E) → Refuses (HasString 3 old) lacks ⊥ (StringStands name 3) old e new
-    → Refuses (HasFront view_text no_need old) lacks ⊥ (TextStands name) old e new
+    → Refuses (HasFront (leaf view_text) old) lacks ⊥ (TextStands name) old e new
 text_refused lacks name old new e r = passed_on (StringStands name 3) (TextStands name) old old new e (stays old) text_stands (λ x. x) (λ x. x) (λ b l. (b, l, λ c. inl c)) r
 
-pub text_taken : {old new : Reading} (s payload : List ℕ) → s ≡ payload → IsUtf8 s → TakesString 3 old payload new → TakesFront view_text no_need old s new
+pub text_taken : {old new : Reading} (s payload : List ℕ) → s ≡ payload → IsUtf8 s → TakesString 3 old payload new → TakesFront (leaf view_text) old s new
 text_taken {old} {new} s payload e u h = let k = subst (λ x. TakesString 3 old x new) (sym e) h in spelling_taken view_text (text s) s u k.fits refl k.takes
 
 pub garbled : (E : Type 0) (name : List ℕ) {old new : Reading} (s : List ℕ) (kept : Name) → Names kept name → TakesString 3 old s new → (IsUtf8 s → ⊥)
-    → Refuses {E = E} (HasFront view_text no_need old) ⊥ ⊥ (TextStands name) old (RequireUtf8 kept) new
+    → Refuses {E = E} (HasFront (leaf view_text) old) ⊥ ⊥ (TextStands name) old (RequireUtf8 kept) new
 garbled E name {old} {new} s kept named h not_text = (
   h.takes.same.faults,
   λ i. let t = text_front i in

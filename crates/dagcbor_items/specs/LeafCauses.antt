@@ -10,7 +10,7 @@ use Rattle.dagcbor_heads.specs.declared.error.DecodeError.TheVariants.{Msg, Eof,
 use Rattle.ipld_tree.specs.Tree.{integer, text}
 use Rattle.ipld_tree.specs.Spelling.{IsFront}
 use Rattle.dagcbor_items.specs.FirstBytes.{BeginsFrom}
-use Rattle.dagcbor_items.specs.Views.{view_char}
+use Rattle.dagcbor_items.specs.Shapes.{view_char}
 
 -- a byte of another major type
 abbrev pub IsOtherKind : {E : Type 0} → List ℕ → (low high : ℕ) → DecodeError E → List ℕ → Type 0

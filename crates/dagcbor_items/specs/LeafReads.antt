@@ -7,58 +7,57 @@ use Rattle.std.specs.declared.alloc.Global.{Global}
 use Rattle.dagcbor_heads.specs.Reading.{Reading}
 use Rattle.dagcbor_heads.specs.declared.error.DecodeError.{DecodeError}
 use Rattle.dagcbor_items.specs.Reads.{Reads}
-use Rattle.dagcbor_items.specs.Views.{natural_below, within, view_unsigned, view_signed, view_null, view_bool, view_text, view_char, view_bytes, view_ignored, no_need}
-use Rattle.ipld_tree.specs.Tree.{any_need}
+use Rattle.dagcbor_items.specs.Shapes.{natural_below, within, view_unsigned, view_signed, view_null, view_bool, view_text, view_char, view_bytes, ignored, leaf}
 use Rattle.dagcbor_items.specs.ItemCauses.{Stands}
 use Rattle.dagcbor_items.specs.LinkCauses.{IsOtherByte}
 use Rattle.dagcbor_items.specs.LeafCauses.{NumberStands, LongNumberStands, StringStands, TextStands, CharStands, BoolStands}
 
 -- A number is read exactly where one stands from 0 to the bound, exclusive.
 abbrev pub ReadsUnsigned : {E : Type 0} → List ℕ → ℕ → Reading → Result ℕ (DecodeError E) → Reading → Type 0
-ReadsUnsigned name bound = Reads (λ n. n) (view_unsigned bound) no_need ⊥ ⊥ (NumberStands name (natural_below bound))
+ReadsUnsigned name bound = Reads (λ n. n) (leaf (view_unsigned bound)) ⊥ ⊥ (NumberStands name (natural_below bound))
 
 -- A number is read exactly where one stands from - bound to bound - 1.
 abbrev pub ReadsSigned : {E : Type 0} → List ℕ → ℕ → Reading → Result ℤ (DecodeError E) → Reading → Type 0
-ReadsSigned name bound = Reads (λ n. n) (view_signed bound) no_need ⊥ ⊥ (NumberStands name (within bound))
+ReadsSigned name bound = Reads (λ n. n) (leaf (view_signed bound)) ⊥ ⊥ (NumberStands name (within bound))
 
 -- The same for a type in which each number of the format has room, but none that a tag announces.
 abbrev pub ReadsU128 : {E : Type 0} → Reading → Result ℕ (DecodeError E) → Reading → Type 0
-ReadsU128 = Reads (λ n. n) (view_unsigned (2 ^ 128)) no_need ⊥ ⊥ (LongNumberStands (codes "u128") (natural_below (2 ^ 128)))
+ReadsU128 = Reads (λ n. n) (leaf (view_unsigned (2 ^ 128))) ⊥ ⊥ (LongNumberStands (codes "u128") (natural_below (2 ^ 128)))
 
 abbrev pub ReadsI128 : {E : Type 0} → Reading → Result ℤ (DecodeError E) → Reading → Type 0
-ReadsI128 = Reads (λ n. n) (view_signed (2 ^ 127)) no_need ⊥ ⊥ (LongNumberStands (codes "i128") (within (2 ^ 127)))
+ReadsI128 = Reads (λ n. n) (leaf (view_signed (2 ^ 127))) ⊥ ⊥ (LongNumberStands (codes "i128") (within (2 ^ 127)))
 
 -- A text is read exactly where one stands, with no want of memory where the input lends.
 abbrev pub ReadsTextAs : {T E : Type 0} → (T → List ℕ) → List ℕ → Reading → Result T (DecodeError E) → Reading → Type 0
-ReadsTextAs held name old = Reads held view_text no_need (old.lends ≡ false) ⊥ (TextStands name) old
+ReadsTextAs held name old = Reads held (leaf view_text) (old.lends ≡ false) ⊥ (TextStands name) old
 
 abbrev pub ReadsStr : {E : Type 0} → List ℕ → Reading → Result (CowStr Global) (DecodeError E) → Reading → Type 0
 ReadsStr = ReadsTextAs cow_str_bytes
 
 -- A text is read exactly where one stands.
 abbrev pub ReadsOwnedText : {E : Type 0} → Reading → Result (String Global) (DecodeError E) → Reading → Type 0
-ReadsOwnedText = Reads string_bytes view_text no_need ⊤ ⊥ (TextStands (codes "string"))
+ReadsOwnedText = Reads string_bytes (leaf view_text) ⊤ ⊥ (TextStands (codes "string"))
 
 -- A text of one character is read exactly where one stands, with no want of memory where the input lends.
 abbrev pub ReadsChar : {E : Type 0} → Reading → Result ℕ (DecodeError E) → Reading → Type 0
-ReadsChar old = Reads (λ c. c) view_char no_need (old.lends ≡ false) ⊥ CharStands old
+ReadsChar old = Reads (λ c. c) (leaf view_char) (old.lends ≡ false) ⊥ CharStands old
 
 -- A byte string is read exactly where one stands, with no want of memory where the input lends.
 abbrev pub ReadsByteSlice : {E : Type 0} → Reading → Result (CowSlice ℕ Global) (DecodeError E) → Reading → Type 0
-ReadsByteSlice old = Reads cow_slice_items view_bytes no_need (old.lends ≡ false) ⊥ (StringStands (codes "bytes") 2) old
+ReadsByteSlice old = Reads cow_slice_items (leaf view_bytes) (old.lends ≡ false) ⊥ (StringStands (codes "bytes") 2) old
 
 -- A byte string is read exactly where one stands.
 abbrev pub ReadsOwnedBytes : {E : Type 0} → Reading → Result (Vec ℕ Global) (DecodeError E) → Reading → Type 0
-ReadsOwnedBytes = Reads (λ v. v.items) view_bytes no_need ⊤ ⊥ (StringStands (codes "bytes") 2)
+ReadsOwnedBytes = Reads (λ v. v.items) (leaf view_bytes) ⊤ ⊥ (StringStands (codes "bytes") 2)
 
 -- A null is read exactly where one stands.
 abbrev pub ReadsNull : {E : Type 0} → Reading → Result (Unit {0}) (DecodeError E) → Reading → Type 0
-ReadsNull = Reads (λ u. u) view_null no_need ⊥ ⊥ (IsOtherByte (codes "unit") 0xf6)
+ReadsNull = Reads (λ u. u) (leaf view_null) ⊥ ⊥ (IsOtherByte (codes "unit") 0xf6)
 
 -- False or true is read exactly where one stands.
 abbrev pub ReadsBool : {E : Type 0} → Reading → Result Bool (DecodeError E) → Reading → Type 0
-ReadsBool = Reads (λ b. b) view_bool no_need ⊥ ⊥ BoolStands
+ReadsBool = Reads (λ b. b) (leaf view_bool) ⊥ ⊥ BoolStands
 
 -- An item of any kind is skipped exactly where one stands within the steps left, with no want of memory where the input lends.
 abbrev pub ReadsIgnored : {E : Type 0} → Reading → Result (Unit {0}) (DecodeError E) → Reading → Type 0
-ReadsIgnored old = Reads (λ u. u) view_ignored any_need (old.lends ≡ false) ⊥ (Stands old.steps) old
+ReadsIgnored old = Reads (λ u. u) ignored (old.lends ≡ false) ⊥ (Stands old.steps) old

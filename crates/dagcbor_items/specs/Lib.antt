@@ -18,7 +18,7 @@ pub mod Entries
 pub mod Links
 pub mod Walks
 pub mod Reads
-pub mod Views
+pub mod Shapes
 pub mod LeafCauses
 pub mod Kinds
 pub mod Variants

@@ -1,35 +1,35 @@
--- What reading a value of a type answers and refuses. A type has a view (the value that a tree shows to it, or none) and
--- a need (the steps that reading the tree takes).
-use Rattle.std.specs.Prelude.{◌≡◌, ℕ, ◌≤◌, true, List, Option, Some, is_some, Result, MatchResult, ⊤}
+-- What reading a value of a type answers and refuses.
+use Rattle.std.specs.Prelude.{◌≡◌, ℕ, ◌≤◌, true, List, Some, is_some, Result, MatchResult, ⊤}
 use Rattle.dagcbor_heads.specs.Reading.{Reading, Stays}
 use Rattle.dagcbor_heads.specs.Refusals.{Refuses}
 use Rattle.dagcbor_heads.specs.declared.error.DecodeError.{DecodeError}
 use Rattle.dagcbor_heads.specs.declared.error.DecodeError.TheVariants.{DepthOverflow}
 use Rattle.ipld_tree.specs.Tree.{Tree}
 use Rattle.ipld_tree.specs.Spelling.{IsFront}
+use Rattle.dagcbor_items.specs.Shapes.{Shape}
 
 -- some tree stands at the front that the type accepts, and its need is within the steps left
-pub record HasFront {V : Type 0} (view : Tree → Option V) (need : Tree → ℕ) (r : Reading) : Type 0 where
+pub record HasFront {V : Type 0} (shape : Shape Tree V) (r : Reading) : Type 0 where
   pub bytes : List ℕ
   pub tree : Tree
   pub rest : List ℕ
   pub left : r.left ≡ Some bytes
   pub front : IsFront bytes tree rest
-  pub accepted : is_some (view tree) ≡ true
-  pub within : need tree ≤ r.steps
+  pub accepted : is_some (shape.view tree) ≡ true
+  pub within : shape.need tree ≤ r.steps
 
 -- a tree stood at the front that shows v, its need within the steps, and was taken
-pub record TakesFront {V : Type 0} (view : Tree → Option V) (need : Tree → ℕ) (old : Reading) (v : V) (new : Reading) : Type 0 where
+pub record TakesFront {V : Type 0} (shape : Shape Tree V) (old : Reading) (v : V) (new : Reading) : Type 0 where
   pub taken : (b : List ℕ) → old.left ≡ Some b
-      → (t : Tree) × (rest : List ℕ) × IsFront b t rest × (view t ≡ Some v) × (need t ≤ old.steps) × (new.left ≡ Some rest)
+      → (t : Tree) × (rest : List ℕ) × IsFront b t rest × (shape.view t ≡ Some v) × (shape.need t ≤ old.steps) × (new.left ≡ Some rest)
   pub same : Stays old new
 
 -- A value is read exactly where a tree stands that the type accepts within the steps. A refusal may be for want of memory
 -- where `lacks`, for want of a loan where `borrows`, and else its cause stands.
-abbrev pub Reads : {T V E : Type 0} → (T → V) → (Tree → Option V) → (Tree → ℕ) → Type 0 → Type 0 → (DecodeError E → List ℕ → Type 0) → Reading → Result T (DecodeError E) → Reading → Type 0
-Reads held view need lacks borrows stands old result new = MatchResult result
-    (λ v. TakesFront view need old (held v) new)
-    (λ e. Refuses (HasFront view need old) lacks borrows stands old e new)
+abbrev pub Reads : {T V E : Type 0} → (T → V) → Shape Tree V → Type 0 → Type 0 → (DecodeError E → List ℕ → Type 0) → Reading → Result T (DecodeError E) → Reading → Type 0
+Reads held shape lacks borrows stands old result new = MatchResult result
+    (λ v. TakesFront shape old (held v) new)
+    (λ e. Refuses (HasFront shape old) lacks borrows stands old e new)
 
 -- where a call that spends a step at once is refused for the depth, no step was left
 abbrev pub NoStepIfDeep : {E : Type 0} → Reading → DecodeError E → Type 0

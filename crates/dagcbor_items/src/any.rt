@@ -1,7 +1,7 @@
 //! Reading items of any kind.
 
 ghost use Rattle.std.specs.Prelude.{◌≡◌, IfErr};
-ghost use Rattle.dagcbor_heads.specs.Inputs.{input_reading};
+ghost use Rattle.dagcbor_heads.specs.Inputs.{input_reading, OverInput};
 ghost use Rattle.dagcbor_heads.specs.Fronts.{StartsWith};
 ghost use Rattle.dagcbor_heads.specs.Looking.{Looks, LooksBehind};
 ghost use Rattle.dagcbor_items.specs.Untyped.{ReadsItem, StartsWithMajor};
@@ -23,8 +23,8 @@ pub fn read_any<R: Read>(
     alloc: Global,
     input: &mut Input<'_, R>,
 ) -> Result<Ipld, DecodeError<R::Error>>
-    ensures item { ReadsItem 0 (input_reading R.reading input.old) result (input_reading R.reading input.new) }
-    ensures looked { Looks 3 (input_reading R.reading input.old) result (input_reading R.reading input.new) }
+    ensures item { OverInput R.reading (ReadsItem 0) input.old result input.new }
+    ensures looked { OverInput R.reading (Looks 3) input.old result input.new }
     ensures variant { IfErr result OfItem }
 {
     if !input.step_in() {
@@ -43,8 +43,8 @@ fn read_item<R: Read>(
     alloc: Global,
     input: &mut Input<'_, R>,
 ) -> Result<Ipld, DecodeError<R::Error>>
-    ensures item { ReadsItem 1 (input_reading R.reading input.old) result (input_reading R.reading input.new) }
-    ensures looked { Looks 3 (input_reading R.reading input.old) result (input_reading R.reading input.new) }
+    ensures item { OverInput R.reading (ReadsItem 1) input.old result input.new }
+    ensures looked { OverInput R.reading (Looks 3) input.old result input.new }
     ensures variant { IfErr result OfItem }
 {
     let first = peek_one("any", input)?;
@@ -61,8 +61,8 @@ fn read_kind<R: Read>(
     first: u8,
 ) -> Result<Ipld, DecodeError<R::Error>>
     requires { StartsWith (input_reading R.reading input.old) first }
-    ensures item { ReadsItem 1 (input_reading R.reading input.old) result (input_reading R.reading input.new) }
-    ensures looked { LooksBehind 3 1 (input_reading R.reading input.old) result (input_reading R.reading input.new) }
+    ensures item { OverInput R.reading (ReadsItem 1) input.old result input.new }
+    ensures looked { OverInput R.reading (LooksBehind 3 1) input.old result input.new }
     ensures variant { IfErr result OfItem }
 {
     match first / 32 {
@@ -84,8 +84,8 @@ fn read_list<R: Read>(
     input: &mut Input<'_, R>,
 ) -> Result<Ipld, DecodeError<R::Error>>
     requires { StartsWithMajor (input_reading R.reading input.old) 4 }
-    ensures item { ReadsItem 1 (input_reading R.reading input.old) result (input_reading R.reading input.new) }
-    ensures looked { LooksBehind 3 1 (input_reading R.reading input.old) result (input_reading R.reading input.new) }
+    ensures item { OverInput R.reading (ReadsItem 1) input.old result input.new }
+    ensures looked { OverInput R.reading (LooksBehind 3 1) input.old result input.new }
     ensures variant { IfErr result OfItem }
 {
     if !input.step_in() {
@@ -105,8 +105,8 @@ fn read_items<R: Read>(
     input: &mut Input<'_, R>,
     count: u64,
 ) -> Result<Vec<Ipld>, DecodeError<R::Error>>
-    ensures items { ReadsItems count (input_reading R.reading input.old) result (input_reading R.reading input.new) }
-    ensures looked { Looks 3 (input_reading R.reading input.old) result (input_reading R.reading input.new) }
+    ensures items { OverInput R.reading (ReadsItems count) input.old result input.new }
+    ensures looked { OverInput R.reading (Looks 3) input.old result input.new }
     ensures variant { IfErr result OfItem }
 {
     let mut items = Vec::new(alloc);
@@ -123,8 +123,8 @@ fn read_items<R: Read>(
 #[cycle(any)]
 fn read_map<R: Read>(alloc: Global, input: &mut Input<'_, R>) -> Result<Ipld, DecodeError<R::Error>>
     requires { StartsWithMajor (input_reading R.reading input.old) 5 }
-    ensures item { ReadsItem 1 (input_reading R.reading input.old) result (input_reading R.reading input.new) }
-    ensures looked { LooksBehind 3 1 (input_reading R.reading input.old) result (input_reading R.reading input.new) }
+    ensures item { OverInput R.reading (ReadsItem 1) input.old result input.new }
+    ensures looked { OverInput R.reading (LooksBehind 3 1) input.old result input.new }
     ensures variant { IfErr result OfItem }
 {
     if !input.step_in() {
@@ -145,8 +145,8 @@ fn read_entries<R: Read>(
     input: &mut Input<'_, R>,
     count: u64,
 ) -> Result<BTreeMap<String, Ipld>, DecodeError<R::Error>>
-    ensures entries { ReadsEntries count (input_reading R.reading input.old) result (input_reading R.reading input.new) }
-    ensures looked { Looks 3 (input_reading R.reading input.old) result (input_reading R.reading input.new) }
+    ensures entries { OverInput R.reading (ReadsEntries count) input.old result input.new }
+    ensures looked { OverInput R.reading (Looks 3) input.old result input.new }
     ensures variant { IfErr result OfItem }
 {
     let mut entries = BTreeMap::new(alloc);

@@ -2,7 +2,7 @@
 
 ghost use Rattle.std.specs.Prelude.{◌≡◌, ◌↔◌, true, false, IfOk, IsTrue, option_map, IfErr};
 ghost use Rattle.std.specs.Cow.{cow_str_bytes, IsBorrowedStr};
-ghost use Rattle.dagcbor_heads.specs.Inputs.{input_reading};
+ghost use Rattle.dagcbor_heads.specs.Inputs.{input_reading, OverInput};
 ghost use Rattle.dagcbor_heads.specs.Looking.{Looks};
 ghost use Rattle.ipld_tree.specs.Key.{comes_before};
 ghost use Rattle.dagcbor_items.specs.Places.{Follows};
@@ -38,9 +38,9 @@ pub fn read_key<'de, R: Read>(
     input: &mut Input<'de, R>,
     previous: &Option<CowStr<'de>>,
 ) -> Result<CowStr<'de>, DecodeError<R::Error>>
-    ensures key { ReadsKey (option_map cow_str_bytes previous.now) (input_reading R.reading input.old) result (input_reading R.reading input.new) }
+    ensures key { OverInput R.reading (ReadsKey (option_map cow_str_bytes previous.now)) input.old result input.new }
     ensures lent { IfOk result (λ k. IsBorrowedStr k ↔ ((input_reading R.reading input.old).lends ≡ true)) }
-    ensures looked { Looks 3 (input_reading R.reading input.old) result (input_reading R.reading input.new) }
+    ensures looked { OverInput R.reading (Looks 3) input.old result input.new }
     ensures variant { IfErr result OfKey }
 {
     let key = pull_str(alloc, "map key", input)?;

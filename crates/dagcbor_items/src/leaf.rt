@@ -1,7 +1,7 @@
 //! Reading leaves other than links.
 
 ghost use Rattle.std.specs.Prelude.{◌≡◌, ◌/◌, true, false, IfErr};
-ghost use Rattle.dagcbor_heads.specs.Inputs.{input_reading};
+ghost use Rattle.dagcbor_heads.specs.Inputs.{input_reading, OverInput};
 ghost use Rattle.dagcbor_heads.specs.Fronts.{StartsWith};
 ghost use Rattle.dagcbor_heads.specs.Looking.{LooksBehind};
 ghost use Rattle.dagcbor_items.specs.Untyped.{ReadsItem, ReadsLeaf, StartsWithMajor, IsSimple};
@@ -40,8 +40,8 @@ pub(crate) fn read_bytes<R: Read>(
     input: &mut Input<'_, R>,
 ) -> Result<Ipld, DecodeError<R::Error>>
     requires { StartsWithMajor (input_reading R.reading input.old) 2 }
-    ensures item { ReadsItem 1 (input_reading R.reading input.old) result (input_reading R.reading input.new) }
-    ensures looked { LooksBehind 3 1 (input_reading R.reading input.old) result (input_reading R.reading input.new) }
+    ensures item { OverInput R.reading (ReadsItem 1) input.old result input.new }
+    ensures looked { OverInput R.reading (LooksBehind 3 1) input.old result input.new }
     ensures variant { IfErr result OfItem }
 {
     Ok(Ipld::Bytes(pull_peeked_owned_bytes(alloc, input)?))
@@ -53,8 +53,8 @@ pub(crate) fn read_text<R: Read>(
     input: &mut Input<'_, R>,
 ) -> Result<Ipld, DecodeError<R::Error>>
     requires { StartsWithMajor (input_reading R.reading input.old) 3 }
-    ensures item { ReadsItem 1 (input_reading R.reading input.old) result (input_reading R.reading input.new) }
-    ensures looked { LooksBehind 3 1 (input_reading R.reading input.old) result (input_reading R.reading input.new) }
+    ensures item { OverInput R.reading (ReadsItem 1) input.old result input.new }
+    ensures looked { OverInput R.reading (LooksBehind 3 1) input.old result input.new }
     ensures variant { IfErr result OfItem }
 {
     Ok(Ipld::String(pull_peeked_owned_text(alloc, input)?))

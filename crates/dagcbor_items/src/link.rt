@@ -2,7 +2,6 @@
 
 ghost use Rattle.std.specs.Prelude.{◌≡◌, codes, [], ◌∷◌, MatchResult, IfErr};
 ghost use Rattle.dagcbor_heads.specs.Fronts.{Takes};
-ghost use Rattle.dagcbor_heads.specs.Inputs.{input_reading};
 ghost use Rattle.dagcbor_heads.specs.Refusals.{Refuses};
 ghost use Rattle.dagcbor_heads.specs.Looking.{Looks, LooksBehind};
 ghost use Rattle.dagcbor_items.specs.LinkCauses.{IsOtherByte};

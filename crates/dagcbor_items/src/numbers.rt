@@ -2,7 +2,7 @@
 
 ghost use Rattle.std.specs.Prelude.{◌≡◌, ◌+◌, ◌≤◌, ◌^◌, Some, IfOk, pos, negsuc, ◌≤ℤ◌, IfErr};
 ghost use Rattle.dagcbor_items.specs.Reads.{Reads};
-ghost use Rattle.dagcbor_items.specs.Views.{number_of, natural_below, within, view_number, no_need};
+ghost use Rattle.dagcbor_items.specs.Shapes.{number_of, natural_below, within, view_number, leaf};
 ghost use Rattle.dagcbor_items.specs.LeafCauses.{KindStands, LongStands};
 ghost use Rattle.dagcbor_items.specs.LeafReads.{ReadsUnsigned, ReadsSigned, ReadsU128, ReadsI128};
 ghost use Rattle.dagcbor_items.specs.Variants.{OfKind, OfNumber};
@@ -23,7 +23,7 @@ fn number_of(major: u8, argument: u64) -> i128
 
 /// A number of any size.
 fn pull_number<R: Read>(name: &str, reader: &mut R) -> Result<i128, DecodeError<R::Error>>
-    ensures number { Reads (λ n. n) (view_number Some) no_need ⊥ ⊥ (KindStands name.now 0 1) (R.reading reader.old) result (R.reading reader.new) }
+    ensures number { Reads (λ n. n) (leaf (view_number Some)) ⊥ ⊥ (KindStands name.now 0 1) (R.reading reader.old) result (R.reading reader.new) }
     ensures variant { IfErr result OfKind }
 {
     let (major, argument) = pull_kind(name, reader, 0, 1)?;
@@ -94,7 +94,7 @@ pub fn pull_signed<R: Read>(
 /// A number of any size, which no tag announces.
 #[tactic(auto, using(crate::proofs::Variants::end_kind))]
 fn pull_long<R: Read>(name: &str, reader: &mut R) -> Result<i128, DecodeError<R::Error>>
-    ensures number { Reads (λ n. n) (view_number Some) no_need ⊥ ⊥ (LongStands name.now) (R.reading reader.old) result (R.reading reader.new) }
+    ensures number { Reads (λ n. n) (leaf (view_number Some)) ⊥ ⊥ (LongStands name.now) (R.reading reader.old) result (R.reading reader.new) }
     ensures variant { IfErr result OfKind }
 {
     let first = peek_one(name, reader)?;

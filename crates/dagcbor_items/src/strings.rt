@@ -3,11 +3,11 @@
 ghost use Rattle.std.specs.Prelude.{◌≡◌, ◌<◌, ◌↔◌, true, IfOk, IfSome, MatchOption, IsUtf8, IfErr};
 ghost use Rattle.std.specs.Str.{chars};
 ghost use Rattle.std.specs.Cow.{cow_slice_items, cow_str_bytes, IsBorrowedSlice, IsBorrowedStr};
-ghost use Rattle.dagcbor_heads.specs.Inputs.{input_reading};
+ghost use Rattle.dagcbor_heads.specs.Inputs.{input_reading, OverInput};
 ghost use Rattle.dagcbor_heads.specs.Looking.{Looks};
 ghost use Rattle.dagcbor_items.specs.Kinds.{ReadsString};
 ghost use Rattle.dagcbor_items.specs.Untyped.{StartsWithMajor};
-ghost use Rattle.dagcbor_items.specs.Views.{only};
+ghost use Rattle.dagcbor_items.specs.Shapes.{only};
 ghost use Rattle.dagcbor_items.specs.LeafReads.{ReadsStr, ReadsOwnedText, ReadsChar, ReadsByteSlice, ReadsOwnedBytes};
 ghost use Rattle.dagcbor_items.specs.Variants.{OfChar, OfKind, OfText};
 
@@ -27,9 +27,9 @@ fn pull_peeked_string<'de, R: Read>(
 ) -> Result<CowSlice<'de, u8>, DecodeError<R::Error>>
     requires few { kind < 8 }
     requires starts { StartsWithMajor (input_reading R.reading input.old) kind }
-    ensures string { ReadsString cow_slice_items name.now kind (input_reading R.reading input.old) result (input_reading R.reading input.new) }
+    ensures string { OverInput R.reading (ReadsString cow_slice_items name.now kind) input.old result input.new }
     ensures lent { IfOk result (λ c. IsBorrowedSlice c ↔ ((input_reading R.reading input.old).lends ≡ true)) }
-    ensures looked { Looks 2 (input_reading R.reading input.old) result (input_reading R.reading input.new) }
+    ensures looked { OverInput R.reading (Looks 2) input.old result input.new }
     ensures variant { IfErr result OfKind }
 {
     let (_, count, _) = pull_head(name, input)?;
@@ -60,9 +60,9 @@ pub(crate) fn pull_peeked_slice<'de, R: Read>(
     input: &mut Input<'de, R>,
 ) -> Result<CowSlice<'de, u8>, DecodeError<R::Error>>
     requires { StartsWithMajor (input_reading R.reading input.old) 2 }
-    ensures bytes { ReadsByteSlice (input_reading R.reading input.old) result (input_reading R.reading input.new) }
+    ensures bytes { OverInput R.reading ReadsByteSlice input.old result input.new }
     ensures lent { IfOk result (λ c. IsBorrowedSlice c ↔ ((input_reading R.reading input.old).lends ≡ true)) }
-    ensures looked { Looks 2 (input_reading R.reading input.old) result (input_reading R.reading input.new) }
+    ensures looked { OverInput R.reading (Looks 2) input.old result input.new }
     ensures variant { IfErr result OfKind }
 {
     pull_peeked_string(alloc, "bytes", input, 2)
@@ -74,9 +74,9 @@ pub fn pull_slice<'de, R: Read>(
     alloc: Global,
     input: &mut Input<'de, R>,
 ) -> Result<CowSlice<'de, u8>, DecodeError<R::Error>>
-    ensures bytes { ReadsByteSlice (input_reading R.reading input.old) result (input_reading R.reading input.new) }
+    ensures bytes { OverInput R.reading ReadsByteSlice input.old result input.new }
     ensures lent { IfOk result (λ c. IsBorrowedSlice c ↔ ((input_reading R.reading input.old).lends ≡ true)) }
-    ensures looked { Looks 3 (input_reading R.reading input.old) result (input_reading R.reading input.new) }
+    ensures looked { OverInput R.reading (Looks 3) input.old result input.new }
     ensures variant { IfErr result OfKind }
 {
     peek_kind("bytes", input, 2, 2)?;
@@ -91,9 +91,9 @@ pub(crate) fn pull_peeked_str<'de, R: Read>(
     input: &mut Input<'de, R>,
 ) -> Result<CowStr<'de>, DecodeError<R::Error>>
     requires { StartsWithMajor (input_reading R.reading input.old) 3 }
-    ensures text { ReadsStr name.now (input_reading R.reading input.old) result (input_reading R.reading input.new) }
+    ensures text { OverInput R.reading (ReadsStr name.now) input.old result input.new }
     ensures lent { IfOk result (λ s. IsBorrowedStr s ↔ ((input_reading R.reading input.old).lends ≡ true)) }
-    ensures looked { Looks 2 (input_reading R.reading input.old) result (input_reading R.reading input.new) }
+    ensures looked { OverInput R.reading (Looks 2) input.old result input.new }
     ensures variant { IfErr result OfText }
 {
     let payload = pull_peeked_string(alloc, name, input, 3)?;
@@ -111,9 +111,9 @@ pub fn pull_str<'de, R: Read>(
     name: &str,
     input: &mut Input<'de, R>,
 ) -> Result<CowStr<'de>, DecodeError<R::Error>>
-    ensures text { ReadsStr name.now (input_reading R.reading input.old) result (input_reading R.reading input.new) }
+    ensures text { OverInput R.reading (ReadsStr name.now) input.old result input.new }
     ensures lent { IfOk result (λ s. IsBorrowedStr s ↔ ((input_reading R.reading input.old).lends ≡ true)) }
-    ensures looked { Looks 3 (input_reading R.reading input.old) result (input_reading R.reading input.new) }
+    ensures looked { OverInput R.reading (Looks 3) input.old result input.new }
     ensures variant { IfErr result OfText }
 {
     peek_kind(name, input, 3, 3)?;
@@ -126,8 +126,8 @@ pub(crate) fn pull_peeked_owned_text<R: Read>(
     input: &mut Input<'_, R>,
 ) -> Result<String, DecodeError<R::Error>>
     requires { StartsWithMajor (input_reading R.reading input.old) 3 }
-    ensures text { ReadsOwnedText (input_reading R.reading input.old) result (input_reading R.reading input.new) }
-    ensures looked { Looks 2 (input_reading R.reading input.old) result (input_reading R.reading input.new) }
+    ensures text { OverInput R.reading ReadsOwnedText input.old result input.new }
+    ensures looked { OverInput R.reading (Looks 2) input.old result input.new }
     ensures variant { IfErr result OfText }
 {
     match pull_peeked_str(alloc, "string", input)?.into_owned(alloc) {
@@ -141,8 +141,8 @@ pub fn pull_owned_text<R: Read>(
     alloc: Global,
     input: &mut Input<'_, R>,
 ) -> Result<String, DecodeError<R::Error>>
-    ensures text { ReadsOwnedText (input_reading R.reading input.old) result (input_reading R.reading input.new) }
-    ensures looked { Looks 3 (input_reading R.reading input.old) result (input_reading R.reading input.new) }
+    ensures text { OverInput R.reading ReadsOwnedText input.old result input.new }
+    ensures looked { OverInput R.reading (Looks 3) input.old result input.new }
     ensures variant { IfErr result OfText }
 {
     peek_kind("string", input, 3, 3)?;
@@ -155,8 +155,8 @@ pub(crate) fn pull_peeked_owned_bytes<R: Read>(
     input: &mut Input<'_, R>,
 ) -> Result<Vec<u8>, DecodeError<R::Error>>
     requires { StartsWithMajor (input_reading R.reading input.old) 2 }
-    ensures bytes { ReadsOwnedBytes (input_reading R.reading input.old) result (input_reading R.reading input.new) }
-    ensures looked { Looks 2 (input_reading R.reading input.old) result (input_reading R.reading input.new) }
+    ensures bytes { OverInput R.reading ReadsOwnedBytes input.old result input.new }
+    ensures looked { OverInput R.reading (Looks 2) input.old result input.new }
     ensures variant { IfErr result OfKind }
 {
     match pull_peeked_slice(alloc, input)?.into_owned(alloc) {
@@ -170,8 +170,8 @@ pub fn pull_owned_bytes<R: Read>(
     alloc: Global,
     input: &mut Input<'_, R>,
 ) -> Result<Vec<u8>, DecodeError<R::Error>>
-    ensures bytes { ReadsOwnedBytes (input_reading R.reading input.old) result (input_reading R.reading input.new) }
-    ensures looked { Looks 3 (input_reading R.reading input.old) result (input_reading R.reading input.new) }
+    ensures bytes { OverInput R.reading ReadsOwnedBytes input.old result input.new }
+    ensures looked { OverInput R.reading (Looks 3) input.old result input.new }
     ensures variant { IfErr result OfKind }
 {
     peek_kind("bytes", input, 2, 2)?;
@@ -195,7 +195,7 @@ pub fn pull_char<R: Read>(
     alloc: Global,
     input: &mut Input<'_, R>,
 ) -> Result<char, DecodeError<R::Error>>
-    ensures character { ReadsChar (input_reading R.reading input.old) result (input_reading R.reading input.new) }
+    ensures character { OverInput R.reading ReadsChar input.old result input.new }
     ensures variant { IfErr result OfChar }
 {
     let text = pull_str(alloc, "string", input)?;

@@ -2,12 +2,12 @@
 //! their links, is the caller's.
 
 ghost use Rattle.std.specs.Prelude.{◌≡◌, ◌≢◌, ◌/◌, IfErr};
-ghost use Rattle.dagcbor_heads.specs.Inputs.{input_reading};
 ghost use Rattle.dagcbor_heads.specs.Fronts.{StartsWith};
 ghost use Rattle.dagcbor_heads.specs.Looking.{Looks, LooksBehind};
 ghost use Rattle.dagcbor_items.specs.Untyped.{SkipsItem, StartsWithMajor};
 ghost use Rattle.dagcbor_items.specs.Variants.{OfItem};
 ghost use Rattle.dagcbor_items.specs.Walks.{WalksItem, WalksItems, WalksEntries, GathersLinks};
+ghost use Rattle.dagcbor_heads.specs.Inputs.{OverInput};
 
 use crate::link::pull_link;
 use crate::payloads::PayloadReader;
@@ -21,8 +21,8 @@ pub fn skip_any<R: Read>(
     alloc: Global,
     input: &mut Input<'_, R>,
 ) -> Result<(), DecodeError<R::Error>>
-    ensures item { SkipsItem 0 (input_reading R.reading input.old) result (input_reading R.reading input.new) }
-    ensures looked { Looks 3 (input_reading R.reading input.old) result (input_reading R.reading input.new) }
+    ensures item { OverInput R.reading (SkipsItem 0) input.old result input.new }
+    ensures looked { OverInput R.reading (Looks 3) input.old result input.new }
     ensures variant { IfErr result OfItem }
 {
     walk_any(alloc, input, &mut NoLinks)
@@ -33,8 +33,8 @@ pub fn gather_links<R: Read>(
     alloc: Global,
     input: &mut Input<'_, R>,
 ) -> Result<Vec<Cid>, DecodeError<R::Error>>
-    ensures links { GathersLinks 0 (input_reading R.reading input.old) result (input_reading R.reading input.new) }
-    ensures looked { Looks 3 (input_reading R.reading input.old) result (input_reading R.reading input.new) }
+    ensures links { OverInput R.reading (GathersLinks 0) input.old result input.new }
+    ensures looked { OverInput R.reading (Looks 3) input.old result input.new }
     ensures variant { IfErr result OfItem }
 {
     let mut links = Vec::new(alloc);

@@ -9,10 +9,10 @@ use Rattle.dagcbor_heads.specs.declared.error.DecodeError.{DecodeError}
 use Rattle.ipld_tree.specs.Tree.{Tree, any_need}
 use Rattle.dagcbor_read.specs.Calls.{Progress, Call}
 use Rattle.dagcbor_items.specs.Reads.{HasFront, TakesFront, Anything}
-use Rattle.dagcbor_items.specs.Views.{view_ignored}
+use Rattle.dagcbor_items.specs.Shapes.{ignored, Shape}
 use Rattle.dagcbor_read.specs.Accessors.{Begun, begun, Enters, BeginsItems, ReadsNextKey, after_key, with_value, EndsItems}
 use Rattle.dagcbor_read.specs.declared.accessor.Accessor.{Accessor}
-use Rattle.dagcbor_read.specs.Collections.{view_fields, need_fields, HasFields, TakesFields}
+use Rattle.dagcbor_read.specs.Collections.{HasFields, TakesFields, fields_of, value_of, FieldShape}
 use Rattle.dagcbor_read.proofs.Answered.{answered, call_refused, KeyRead, key_read, no_key, after_some_key, after_no_key}
 use Rattle.dagcbor_read.proofs.Answered as answer
 use Rattle.dagcbor_read.proofs.EntryRows.{FieldsSoFar, none_so_far, key_not_read, value_not_read, one_more, all_read, map_has_fields, map_taken}
@@ -24,7 +24,7 @@ pub slotted : {S V : Type 0} (f : Option V → S) (o : Option V) → option_map 
 slotted f None = refl
 slotted f (Some v) = refl
 
-module _ {S : Type 0} (take : S → List ℕ → Tree → Option S) (need : List ℕ → Tree → ℕ) (start : S) where
+module _ {S : Type 0} (shape : FieldShape S) (start : S) where
   -- A map was begun, and entries of it were read, which brought the state to s: the invariant of the loop.
   pub record MapSoFar (old : Progress) (entries : Begun) (s : S) (now : Progress) : Type 0 where
     pub before : Begun
@@ -32,7 +32,7 @@ module _ {S : Type 0} (take : S → List ℕ → Tree → Option S) (need : List
     pub enters : Enters 5 before.left old.input mid.input
     pub first : before.last ≡ None
     pub one : before.steps ≡ 1
-    pub fields : FieldsSoFar take need start before mid entries s now
+    pub fields : FieldsSoFar shape start before mid entries s now
 
   -- the key of an entry was read besides, and its value is to be read
   pub record MapAtValue (old : Progress) (with_key : Begun) (key : List ℕ) (s : S) (mid : Progress) : Type 0 where
@@ -52,21 +52,21 @@ module _ {S : Type 0} (take : S → List ℕ → Tree → Option S) (need : List
         enters = k.2.2;
         first = ap (λ (c : Begun). c.last) k.2.0;
         one = ap (λ (c : Begun). c.steps) k.2.0;
-        fields = none_so_far take need start (begun a) mid k.1 (ap (λ (c : Begun). c.is_map) k.2.0) (ap (λ (c : Begun). c.owes_value) k.2.0);
+        fields = none_so_far shape start (begun a) mid k.1 (ap (λ (c : Begun). c.is_map) k.2.0) (ap (λ (c : Begun). c.owes_value) k.2.0);
       }
 
   -- what the rest of the map refuses, the map refuses
   map_refused : {E : Type 0} {old now : Progress} {entries : Begun} {s : S} (B : Type 0) (new : Progress) (e : DecodeError E) (i : MapSoFar old entries s now)
-      → Refuses (HasFields take need start i.before.last i.before.left i.mid.input) ⊤ B Anything i.mid.input e new.input → Refuses (HasFront (view_fields take start) (need_fields need) old.input) ⊤ B Anything old.input e new.input
+      → Refuses (HasFields shape start i.before.last i.before.left i.mid.input) ⊤ B Anything i.mid.input e new.input → Refuses (HasFront (fields_of shape start) old.input) ⊤ B Anything old.input e new.input
   map_refused {E} {old} {now} B new e i r = carried Anything Anything old.input i.mid.input new.input e record { faults = i.enters.takes.same.faults; lends = i.enters.takes.same.lends }
-      (λ x. subst (λ l. HasFields take need start l i.before.left i.mid.input) (sym i.first) (map_has_fields take need start i.enters x)) (λ x. x) (λ x. x) (λ b l g. tt) r
+      (λ x. subst (λ l. HasFields shape start l i.before.left i.mid.input) (sym i.first) (map_has_fields shape start i.enters x)) (λ x. x) (λ x. x) (λ b l g. tt) r
 
   -- the next key was refused
   pub key_refused : {old : Progress} {entries : Begun} {s : S} (E B : Type 0) (now new : Progress) (e : DecodeError E) → MapSoFar old entries s now → Call (ReadsNextKey entries.last entries.left) now (Err e) new
-      → Refuses (HasFront (view_fields take start) (need_fields need) old.input) ⊤ B Anything old.input e new.input
+      → Refuses (HasFront (fields_of shape start) old.input) ⊤ B Anything old.input e new.input
   key_refused E B now new e i h =
       let k = answer.key_refused E _ _ now new e i.fields.sound h in
-      map_refused B new e i (key_not_read take need B _ _ i.fields k.0 k.1)
+      map_refused B new e i (key_not_read shape B _ _ i.fields k.0 k.1)
 
   -- the next key was read
   pub at_value : {old : Progress} {entries : Begun} {s : S} (E : Type 0) (now mid : Progress) (o : Option (CowStr Global)) (k : CowStr Global) (with_key : Begun) → MapSoFar old entries s now → o ≡ Some k
@@ -74,44 +74,44 @@ module _ {S : Type 0} (take : S → List ℕ → Tree → Option S) (need : List
   at_value {old} {entries} {s} E now mid o k with_key i is h after = record { entries = entries; now = now; so_far = i; read = key_read E _ _ now mid o k is h; after = after_some_key E o k _ _ is after }
 
   -- Its value was refused: the value of this name is read into the state by f.
-  pub value_refused : {old : Progress} {with_key : Begun} {key : List ℕ} {s : S} (E B borrows T : Type 0) {V : Type 0} (view : Tree → Option V) (as_need : Tree → ℕ) (name : List ℕ) (f : V → S) (mid new : Progress) (e : DecodeError E) → MapAtValue old with_key key s mid
-      → key ≡ name → ((t : Tree) → take s name t ≡ option_map f (view t)) → ((t : Tree) → need name t ≡ as_need t) → (borrows → B)
-      → Call {T = T} (λ old r new. MatchResult r (λ v. ⊤) (λ e. Refuses (HasFront view as_need old) ⊤ borrows Anything old e new)) mid (Err e) new
-      → Refuses (HasFront (view_fields take start) (need_fields need) old.input) ⊤ B Anything old.input e new.input
-  value_refused {old} {with_key} {key} {s} E B borrows T view as_need name f mid new e at is same as_much lent h =
-      let r = call_refused T E (λ old r new. MatchResult r (λ v. ⊤) (λ e. Refuses (HasFront view as_need old) ⊤ borrows Anything old e new)) mid new e at.read.sound h in
-      let r' = carried Anything Anything mid.input mid.input new.input e record { faults = refl; lends = refl } (λ front. front_as f view (take s name) as_need (need name) same as_much front) (λ x. x) lent (λ b l g. tt) r in
-      map_refused B new e at.so_far (value_not_read take need B new.input e key name (sym is) at.so_far.fields at.read r')
+  pub value_refused : {old : Progress} {with_key : Begun} {key : List ℕ} {s : S} (E B borrows T : Type 0) {V : Type 0} (part : Shape Tree V) (name : List ℕ) (f : V → S) (mid new : Progress) (e : DecodeError E) → MapAtValue old with_key key s mid
+      → key ≡ name → ((t : Tree) → shape.take s name t ≡ option_map f (part.view t)) → ((t : Tree) → shape.need name t ≡ part.need t) → (borrows → B)
+      → Call {T = T} (λ old r new. MatchResult r (λ v. ⊤) (λ e. Refuses (HasFront part old) ⊤ borrows Anything old e new)) mid (Err e) new
+      → Refuses (HasFront (fields_of shape start) old.input) ⊤ B Anything old.input e new.input
+  value_refused {old} {with_key} {key} {s} E B borrows T part name f mid new e at is same as_much lent h =
+      let r = call_refused T E (λ old r new. MatchResult r (λ v. ⊤) (λ e. Refuses (HasFront part old) ⊤ borrows Anything old e new)) mid new e at.read.sound h in
+      let r' = carried Anything Anything mid.input mid.input new.input e record { faults = refl; lends = refl } (λ front. front_as f part (value_of shape s name) same as_much front) (λ x. x) lent (λ b l g. tt) r in
+      map_refused B new e at.so_far (value_not_read shape B new.input e key name (sym is) at.so_far.fields at.read r')
 
   -- Its value was read, and shows this.
-  pub value_read : {old : Progress} {with_key after : Begun} {key : List ℕ} {s next : S} (E T : Type 0) {V : Type 0} (view : Tree → Option V) (as_need : Tree → ℕ) (name : List ℕ) (f : V → S) (mid new : Progress) (v : T) (shown : V) → MapAtValue old with_key key s mid
-      → key ≡ name → ((t : Tree) → take s name t ≡ option_map f (view t)) → ((t : Tree) → need name t ≡ as_need t) → next ≡ f shown → after ≡ with_value with_key
-      → Call {E = E} (λ old r new. MatchResult r (λ v. TakesFront view as_need old shown new) (λ e. ⊤)) mid (Ok v) new → MapSoFar old after next new
-  value_read {old} {with_key} {after} {key} {s} {next} E T view as_need name f mid new v shown at is same as_much is_next is_after h =
-      let r = answered T E (λ old r new. MatchResult r (λ v. TakesFront view as_need old shown new) (λ e. ⊤)) mid new v h in
-      let w = takes_as f view (take s name) as_need (need name) same as_much r.2 in
+  pub value_read : {old : Progress} {with_key after : Begun} {key : List ℕ} {s next : S} (E T : Type 0) {V : Type 0} (part : Shape Tree V) (name : List ℕ) (f : V → S) (mid new : Progress) (v : T) (shown : V) → MapAtValue old with_key key s mid
+      → key ≡ name → ((t : Tree) → shape.take s name t ≡ option_map f (part.view t)) → ((t : Tree) → shape.need name t ≡ part.need t) → next ≡ f shown → after ≡ with_value with_key
+      → Call {E = E} (λ old r new. MatchResult r (λ v. TakesFront part old shown new) (λ e. ⊤)) mid (Ok v) new → MapSoFar old after next new
+  value_read {old} {with_key} {after} {key} {s} {next} E T part name f mid new v shown at is same as_much is_next is_after h =
+      let r = answered T E (λ old r new. MatchResult r (λ v. TakesFront part old shown new) (λ e. ⊤)) mid new v h in
+      let w = takes_as f part (value_of shape s name) same as_much r.2 in
       let i = at.so_far in
-      let fields = one_more take need key name (sym is) i.fields at.read at.after is_after r.1 w in
-      record { before = i.before; mid = i.mid; enters = i.enters; first = i.first; one = i.one; fields = subst (λ x. FieldsSoFar take need start i.before i.mid after x new) (sym is_next) fields }
+      let fields = one_more shape key name (sym is) i.fields at.read at.after is_after r.1 w in
+      record { before = i.before; mid = i.mid; enters = i.enters; first = i.first; one = i.one; fields = subst (λ x. FieldsSoFar shape start i.before i.mid after x new) (sym is_next) fields }
 
   -- Its value was passed over, which was refused: it is no field's.
-  pub skip_refused : {old : Progress} {with_key : Begun} {key : List ℕ} {s : S} (E B T : Type 0) (mid new : Progress) (e : DecodeError E) → MapAtValue old with_key key s mid → ((t : Tree) → take s key t ≡ Some s) → ((t : Tree) → need key t ≡ any_need t)
-      → Call {T = T} (λ old r new. MatchResult r (λ v. ⊤) (λ e. Refuses (HasFront view_ignored any_need old) ⊤ (false ≡ true) Anything old e new)) mid (Err e) new
-      → Refuses (HasFront (view_fields take start) (need_fields need) old.input) ⊤ B Anything old.input e new.input
-  skip_refused {old} {with_key} {key} {s} E B T mid new e at same as_much h = value_refused E B (false ≡ true) T view_ignored any_need key (λ _. s) mid new e at refl same as_much (λ l. absurd (cc l)) h
+  pub skip_refused : {old : Progress} {with_key : Begun} {key : List ℕ} {s : S} (E B T : Type 0) (mid new : Progress) (e : DecodeError E) → MapAtValue old with_key key s mid → ((t : Tree) → shape.take s key t ≡ Some s) → ((t : Tree) → shape.need key t ≡ any_need t)
+      → Call {T = T} (λ old r new. MatchResult r (λ v. ⊤) (λ e. Refuses (HasFront ignored old) ⊤ (false ≡ true) Anything old e new)) mid (Err e) new
+      → Refuses (HasFront (fields_of shape start) old.input) ⊤ B Anything old.input e new.input
+  skip_refused {old} {with_key} {key} {s} E B T mid new e at same as_much h = value_refused E B (false ≡ true) T ignored key (λ _. s) mid new e at refl same as_much (λ l. absurd (cc l)) h
 
   -- Its value was passed over.
-  pub value_skipped : {old : Progress} {with_key after : Begun} {key : List ℕ} {s : S} (E T : Type 0) (mid new : Progress) (v : T) → MapAtValue old with_key key s mid → ((t : Tree) → take s key t ≡ Some s) → ((t : Tree) → need key t ≡ any_need t)
-      → after ≡ with_value with_key → Call {E = E} (λ old r new. MatchResult r (λ v. TakesFront view_ignored any_need old tt new) (λ e. ⊤)) mid (Ok v) new → MapSoFar old after s new
-  value_skipped {old} {with_key} {after} {key} {s} E T mid new v at same as_much is_after h = value_read E T view_ignored any_need key (λ _. s) mid new v tt at refl same as_much refl is_after h
+  pub value_skipped : {old : Progress} {with_key after : Begun} {key : List ℕ} {s : S} (E T : Type 0) (mid new : Progress) (v : T) → MapAtValue old with_key key s mid → ((t : Tree) → shape.take s key t ≡ Some s) → ((t : Tree) → shape.need key t ≡ any_need t)
+      → after ≡ with_value with_key → Call {E = E} (λ old r new. MatchResult r (λ v. TakesFront ignored old tt new) (λ e. ⊤)) mid (Ok v) new → MapSoFar old after s new
+  value_skipped {old} {with_key} {after} {key} {s} E T mid new v at same as_much is_after h = value_read E T ignored key (λ _. s) mid new v tt at refl same as_much refl is_after h
 
   -- behind the loop: no key was left, and the map was ended
   pub map_ended : {old : Progress} {entries : Begun} {s : S} (E : Type 0) (now mid new : Progress) (o : Option (CowStr Global)) (after : Begun) (u : Unit {0}) → MapSoFar old entries s now → o ≡ None
       → Call (ReadsNextKey {E = E} entries.last entries.left) now (Ok o) mid → after ≡ after_key {E = E} (Ok o) entries → Call (EndsItems {E = E} after) mid (Ok u) new
-      → (new.failed ≡ false) × TakesFront (view_fields take start) (need_fields need) old.input s new.input
+      → (new.failed ≡ false) × TakesFront (fields_of shape start) old.input s new.input
   map_ended {old} {entries} {s} E now mid new o after u i is h is_after end =
       let k = no_key E _ _ now mid o is h in
       let e = answered (Unit {0}) E (EndsItems after) mid new u end in
-      let a = all_read take need mid new i.fields k.1 (after_no_key E o _ _ is is_after) k.2 e.2.1 in
-      let fields = subst (λ l. TakesFields take need start l i.before.left i.mid.input s a.0) i.first a.1 in
-      (e.1, map_taken take need start i.enters fields (a.2 ∙ ap (λ n. with_steps (a.0.steps + n) a.0) i.one))
+      let a = all_read shape mid new i.fields k.1 (after_no_key E o _ _ is is_after) k.2 e.2.1 in
+      let fields = subst (λ l. TakesFields shape start l i.before.left i.mid.input s a.0) i.first a.1 in
+      (e.1, map_taken shape start i.enters fields (a.2 ∙ ap (λ n. with_steps (a.0.steps + n) a.0) i.one))

@@ -19,7 +19,7 @@ use Rattle.dagcbor_read.specs.Values.{ReadsValue}
 use Rattle.dagcbor_read.specs.Accessors.{Begun, begun, Enters, BeginsItems}
 use Rattle.dagcbor_read.specs.Enums.{BegunEnum, BeginsHeld, IsOtherForm, ReadsFieldsHeld}
 use Rattle.dagcbor_read.specs.declared.accessor.Accessor.{Accessor}
-use Rattle.dagcbor_read.specs.Collections.{view_entries, view_fields, need_entries, need_fields, HasFields, TakesFields, ReadsEntriesLeft}
+use Rattle.dagcbor_read.specs.Collections.{view_entries, view_fields, need_entries, need_fields, HasFields, TakesFields, ReadsEntriesLeft, fields_of, value_of, FieldShape}
 use Rattle.dagcbor_items.specs.Entries.{AllFollow}
 use Rattle.dagcbor_items.proofs.Maps.{map_closed}
 use Rattle.dagcbor_read.proofs.Answered.{answered, KeyRead}
@@ -34,10 +34,10 @@ follow_all : (last : Option (List ℕ)) (k : List ℕ) (t : Tree) (es : Entries)
 follow_all None k t es h = tt
 follow_all (Some l) k t es h = h
 
-module _ {S : Type 0} (take : S → List ℕ → Tree → Option S) (need : List ℕ → Tree → ℕ) where
+module _ {S : Type 0} (shape : FieldShape S) where
   -- ---- an entry before others
 
-  fields_key : {r : Reading} {state : S} {last : Option (List ℕ)} {count : ℕ} → 0 < count → HasFields take need state last count r → HasKey last r
+  fields_key : {r : Reading} {state : S} {last : Option (List ℕ)} {count : ℕ} → 0 < count → HasFields shape state last count r → HasKey last r
   fields_key {r} {state} {last} {count} some h = by h.entries h.counted h.follow h.fronts
     where
       by : (es : Entries) → entry_count es ≡ count → AllFollow last es → AreEntryFronts h.bytes es h.rest → HasKey last r
@@ -46,10 +46,10 @@ module _ {S : Type 0} (take : S → List ℕ → Tree → Option S) (need : List
           let p = entry_opened h.bytes h.rest l u es k in
           record { bytes = h.bytes; key = l; rest = p.0; left = h.left; front = p.1; follows = first_follows last l u es f }
 
-  fields_value : {old mid : Reading} {state : S} {last : Option (List ℕ)} {count : ℕ} (key : List ℕ) → 0 < count → TakesItem 1 old (text key) mid → HasFields take need state last count old → HasFront (take state key) (need key) mid
+  fields_value : {old mid : Reading} {state : S} {last : Option (List ℕ)} {count : ℕ} (key : List ℕ) → 0 < count → TakesItem 1 old (text key) mid → HasFields shape state last count old → HasFront (value_of shape state key) mid
   fields_value {old} {mid} {state} {last} {count} key some a h = by h.entries h.counted h.fronts h.accepted h.within
     where
-      by : (es : Entries) → entry_count es ≡ count → AreEntryFronts h.bytes es h.rest → is_some (view_entries take state es) ≡ true → need_entries need es ≤ old.steps → HasFront (take state key) (need key) mid
+      by : (es : Entries) → entry_count es ≡ count → AreEntryFronts h.bytes es h.rest → is_some (view_entries shape.take state es) ≡ true → need_entries shape.need es ≤ old.steps → HasFront (value_of shape state key) mid
       by no_entries e k ok w = absurd (omega (arith, e, some))
       by (entry l u es) e k ok w =
           let p = entry_opened h.bytes h.rest l u es k in
@@ -62,21 +62,21 @@ module _ {S : Type 0} (take : S → List ℕ → Tree → Option S) (need : List
             rest = entries_spelling es ++ h.rest;
             left = q.3;
             front = subst (λ x. IsFront x u (entries_spelling es ++ h.rest)) (sym same.1) p.2;
-            accepted = subst (λ x. is_some (take state x u) ≡ true) (sym is) (some_first (λ n. view_entries take n es) (take state l u) ok);
-            within = subst (λ x. need x u ≤ mid.steps) (sym is) (omega (arith, w, a.same.steps));
+            accepted = subst (λ x. is_some (shape.take state x u) ≡ true) (sym is) (some_first (λ n. view_entries shape.take n es) (shape.take state l u) ok);
+            within = subst (λ x. shape.need x u ≤ mid.steps) (sym is) (omega (arith, w, a.same.steps));
           }
 
-  fields_others : {old mid new : Reading} {state next : S} {last : Option (List ℕ)} {count : ℕ} (key : List ℕ) → 0 < count → TakesItem 1 old (text key) mid → TakesFront (take state key) (need key) mid next new
-      → HasFields take need state last count old → HasFields take need next (Some key) (count - 1) new
+  fields_others : {old mid new : Reading} {state next : S} {last : Option (List ℕ)} {count : ℕ} (key : List ℕ) → 0 < count → TakesItem 1 old (text key) mid → TakesFront (value_of shape state key) mid next new
+      → HasFields shape state last count old → HasFields shape next (Some key) (count - 1) new
   fields_others {old} {mid} {new} {state} {next} {last} {count} key some a w h = by h.entries h.counted h.fronts h.accepted h.within
     where
-      by : (es : Entries) → entry_count es ≡ count → AreEntryFronts h.bytes es h.rest → is_some (view_entries take state es) ≡ true → need_entries need es ≤ old.steps → HasFields take need next (Some key) (count - 1) new
+      by : (es : Entries) → entry_count es ≡ count → AreEntryFronts h.bytes es h.rest → is_some (view_entries shape.take state es) ≡ true → need_entries shape.need es ≤ old.steps → HasFields shape next (Some key) (count - 1) new
       by no_entries e k ok n = absurd (omega (arith, e, some))
       by (entry l u es) e k ok n =
           let q = a.taken h.bytes h.left in
           let v = w.taken q.0 q.3 in
           let m = entries_after h.bytes q.0 v.1 h.rest key l v.0 u es q.1 v.2 k in
-          let is : take state l u ≡ Some next = ap (λ x. take state x u) m.0 ∙ ap (take state key) m.1 ∙ v.3 in
+          let is : shape.take state l u ≡ Some next = ap (λ x. shape.take state x u) m.0 ∙ ap (shape.take state key) m.1 ∙ v.3 in
           record {
             bytes = v.1;
             entries = es;
@@ -85,12 +85,12 @@ module _ {S : Type 0} (take : S → List ℕ → Tree → Option S) (need : List
             counted = omega (arith, e);
             follow = subst (λ x. Precedes x es) m.0 m.2;
             fronts = m.3;
-            accepted = ap (λ o. is_some (option_and_then (λ n. view_entries take n es) o)) (sym is) ∙ ok;
+            accepted = ap (λ o. is_some (option_and_then (λ n. view_entries shape.take n es) o)) (sym is) ∙ ok;
             within = omega (arith, n, a.same.steps, w.same.steps);
           }
 
-  fields_taken : {old mid now new : Reading} {state next s : S} {last : Option (List ℕ)} {count : ℕ} (key : List ℕ) → Follows last key → TakesItem 1 old (text key) mid → TakesFront (take state key) (need key) mid next now
-      → TakesFields take need next (Some key) count now s new → TakesFields take need state last (count + 1) old s new
+  fields_taken : {old mid now new : Reading} {state next s : S} {last : Option (List ℕ)} {count : ℕ} (key : List ℕ) → Follows last key → TakesItem 1 old (text key) mid → TakesFront (value_of shape state key) mid next now
+      → TakesFields shape next (Some key) count now s new → TakesFields shape state last (count + 1) old s new
   fields_taken {old} {mid} {now} {new} {state} {next} {s} {last} {count} key f a w r = record {
     taken = λ b l.
         let q = a.taken b l in
@@ -101,7 +101,7 @@ module _ {S : Type 0} (take : S → List ℕ → Tree → Option S) (need : List
           omega (arith, o.2),
           follow_all last key v.0 o.0 f,
           entry_closed b q.0 v.1 o.1 key v.0 o.0 q.1 v.2 o.3 o.4,
-          ap (option_and_then (λ n. view_entries take n o.0)) v.3 ∙ o.5,
+          ap (option_and_then (λ n. view_entries shape.take n o.0)) v.3 ∙ o.5,
           omega (arith, v.4, o.6, a.same.steps, w.same.steps),
           o.7,
         );
@@ -118,12 +118,12 @@ module _ {S : Type 0} (take : S → List ℕ → Tree → Option S) (need : List
     pub steps : now_left.steps ≡ before.steps
     pub fewer : now_left.left ≤ before.left
     pub same : Stays old.input now.input
-    pub has : HasFields take need start before.last before.left old.input → HasFields take need s now_left.last now_left.left now.input
-    pub takes : (count : ℕ) (end : S) (new : Reading) → TakesFields take need s now_left.last count now.input end new
-        → TakesFields take need start before.last (count + (before.left - now_left.left)) old.input end new
+    pub has : HasFields shape start before.last before.left old.input → HasFields shape s now_left.last now_left.left now.input
+    pub takes : (count : ℕ) (end : S) (new : Reading) → TakesFields shape s now_left.last count now.input end new
+        → TakesFields shape start before.last (count + (before.left - now_left.left)) old.input end new
 
-  pub as_count : {old new : Reading} {state s : S} {last : Option (List ℕ)} {count count' : ℕ} → count ≡ count' → TakesFields take need state last count old s new → TakesFields take need state last count' old s new
-  as_count {old} {new} {state} {s} {last} e h = subst (λ n. TakesFields take need state last n old s new) e h
+  pub as_count : {old new : Reading} {state s : S} {last : Option (List ℕ)} {count count' : ℕ} → count ≡ count' → TakesFields shape state last count old s new → TakesFields shape state last count' old s new
+  as_count {old} {new} {state} {s} {last} e h = subst (λ n. TakesFields shape state last n old s new) e h
 
   pub none_so_far : (start : S) (before : Begun) (old : Progress) → old.failed ≡ false → before.is_map ≡ true → before.owes_value ≡ false → FieldsSoFar start before old before start old
   none_so_far start before old f m o = record {
@@ -139,22 +139,22 @@ module _ {S : Type 0} (take : S → List ℕ → Tree → Option S) (need : List
 
   pub key_not_read : {E : Type 0} {start s : S} {before now_left : Begun} {old now : Progress} (borrows : Type 0) (new : Reading) (e : DecodeError E) → FieldsSoFar start before old now_left s now → 0 < now_left.left
       → Refuses (HasKey now_left.last now.input) (now.input.lends ≡ false) ⊥ (KeyStands now_left.last) now.input e new
-      → Refuses (HasFields take need start before.last before.left old.input) ⊤ borrows Anything old.input e new
+      → Refuses (HasFields shape start before.last before.left old.input) ⊤ borrows Anything old.input e new
   key_not_read {E} {start} {s} {before} {now_left} {old} {now} borrows new e i some r =
       carried (KeyStands now_left.last) Anything old.input now.input new e (same_reader i.same) (λ h. fields_key some (i.has h)) (λ _. tt) (λ x. absurd x) (λ b l g. tt) r
 
   pub value_not_read : {E : Type 0} {start s : S} {before now_left : Begun} {old now mid : Progress} (borrows : Type 0) (new : Reading) (e : DecodeError E) (key text' : List ℕ) → text' ≡ key → FieldsSoFar start before old now_left s now
-      → KeyRead now_left.last now_left.left now key mid → Refuses (HasFront (take s text') (need text') mid.input) ⊤ borrows Anything mid.input e new
-      → Refuses (HasFields take need start before.last before.left old.input) ⊤ borrows Anything old.input e new
+      → KeyRead now_left.last now_left.left now key mid → Refuses (HasFront (value_of shape s text') mid.input) ⊤ borrows Anything mid.input e new
+      → Refuses (HasFields shape start before.last before.left old.input) ⊤ borrows Anything old.input e new
   value_not_read {E} {start} {s} {before} {now_left} {old} {now} {mid} borrows new e key text' is i k r =
       carried Anything Anything old.input mid.input new e (same_reader (stays_both i.same k.takes.same))
-      (λ h. subst (λ x. HasFront (take s x) (need x) mid.input) (sym is) (fields_value key k.some k.takes (i.has h))) (λ x. x) (λ x. x) (λ b l g. tt) r
+      (λ h. subst (λ x. HasFront (value_of shape s x) mid.input) (sym is) (fields_value key k.some k.takes (i.has h))) (λ x. x) (λ x. x) (λ b l g. tt) r
 
   pub one_more : {start s next : S} {before now_left with_key after : Begun} {old now mid new : Progress} (key text' : List ℕ) → text' ≡ key → FieldsSoFar start before old now_left s now → KeyRead now_left.last now_left.left now key mid
       → with_key ≡ record now_left { left = now_left.left - 1; last = Some key; owes_value = true } → after ≡ record with_key { owes_value = false } → new.failed ≡ false
-      → TakesFront (take s text') (need text') mid.input next new.input → FieldsSoFar start before old after next new
+      → TakesFront (value_of shape s text') mid.input next new.input → FieldsSoFar start before old after next new
   one_more {start} {s} {next} {before} {now_left} {with_key} {after} {old} {now} {mid} {new} key text' text_is i k is is' f w' =
-      let w = subst (λ x. TakesFront (take s x) (need x) mid.input next new.input) text_is w' in
+      let w = subst (λ x. TakesFront (value_of shape s x) mid.input next new.input) text_is w' in
       let both : after ≡ record now_left { left = now_left.left - 1; last = Some key; owes_value = false } = is' ∙ ap (λ (c : Begun). record c { owes_value = false }) is in
       let less : after.left ≡ now_left.left - 1 = ap (λ (c : Begun). c.left) both in
       let last : after.last ≡ Some key = ap (λ (c : Begun). c.last) both in
@@ -165,14 +165,14 @@ module _ {S : Type 0} (take : S → List ℕ → Tree → Option S) (need : List
         steps = ap (λ (c : Begun). c.steps) both ∙ i.steps;
         fewer = omega (arith, less, i.fewer);
         same = stays_both i.same (stays_both k.takes.same w.same);
-        has = λ h. subst (λ n. HasFields take need next after.last n new.input) (sym less) (subst (λ l. HasFields take need next l (now_left.left - 1) new.input) (sym last) (fields_others key k.some k.takes w (i.has h)));
-        takes = λ count end to t. as_count (omega (arith, less, k.some, i.fewer)) (i.takes (count + 1) end to (fields_taken key k.follows k.takes w (subst (λ l. TakesFields take need next l count new.input end to) last t)));
+        has = λ h. subst (λ n. HasFields shape next after.last n new.input) (sym less) (subst (λ l. HasFields shape next l (now_left.left - 1) new.input) (sym last) (fields_others key k.some k.takes w (i.has h)));
+        takes = λ count end to t. as_count (omega (arith, less, k.some, i.fewer)) (i.takes (count + 1) end to (fields_taken key k.follows k.takes w (subst (λ l. TakesFields shape next l count new.input end to) last t)));
       }
 
   pub all_read : {start s : S} {before now_left after : Begun} {old now : Progress} (mid new : Progress) → FieldsSoFar start before old now_left s now → now_left.left ≡ 0 → after ≡ now_left → mid.input ≡ now.input → new.input ≡ with_steps (mid.input.steps + after.steps) mid.input
-      → (now : Reading) × TakesFields take need start before.last before.left old.input s now × (new.input ≡ with_steps (now.steps + before.steps) now)
+      → (now : Reading) × TakesFields shape start before.last before.left old.input s now × (new.input ≡ with_steps (now.steps + before.steps) now)
   all_read {start} {s} {before} {now_left} {after} {old} {now} mid new i none is same back =
-      let end : TakesFields take need s now_left.last 0 now.input s mid.input = record {
+      let end : TakesFields shape s now_left.last 0 now.input s mid.input = record {
         taken = λ b l. (no_entries, b, refl, nothing now_left.last, record { well_formed = tt; spellable = tt; is = refl }, refl, omega arith, ap (λ (r : Reading). r.left) same ∙ l);
         same = subst (Stays now.input) (sym same) (stays now.input);
       } in
@@ -192,13 +192,13 @@ module _ {S : Type 0} (take : S → List ℕ → Tree → Option S) (need : List
       rest : List ℕ
       left : r.left ≡ Some bytes
       front : IsFront bytes (mapping entries) rest
-      accepted : is_some (view_entries take start entries) ≡ true
-      within : 1 + need_entries need entries ≤ r.steps
+      accepted : is_some (view_entries shape.take start entries) ≡ true
+      within : 1 + need_entries shape.need entries ≤ r.steps
 
-    map_front : {r : Reading} → HasFront (view_fields take start) (need_fields need) r → MapFront r
+    map_front : {r : Reading} → HasFront (fields_of shape start) r → MapFront r
     map_front {r} h = by h.tree h.front h.accepted h.within
       where
-        by : (t : Tree) → IsFront h.bytes t h.rest → is_some (view_fields take start t) ≡ true → need_fields need t ≤ r.steps → MapFront r
+        by : (t : Tree) → IsFront h.bytes t h.rest → is_some (view_fields shape.take start t) ≡ true → need_fields shape.need t ≤ r.steps → MapFront r
         by (mapping es) f a w = record { bytes = h.bytes; entries = es; rest = h.rest; left = h.left; front = f; accepted = a; within = w }
         by null f a w = absurd (cc a)
         by (boolean b) f a w = absurd (cc a)
@@ -208,14 +208,14 @@ module _ {S : Type 0} (take : S → List ℕ → Tree → Option S) (need : List
         by (list ts) f a w = absurd (cc a)
         by (link s) f a w = absurd (cc a)
 
-    pub map_has_fields : {old mid : Reading} {count : ℕ} → Enters 5 count old mid → HasFront (view_fields take start) (need_fields need) old → HasFields take need start None count mid
+    pub map_has_fields : {old mid : Reading} {count : ℕ} → Enters 5 count old mid → HasFront (fields_of shape start) old → HasFields shape start None count mid
     map_has_fields {old} {mid} {count} n h =
         let f = map_front h in
         let k = n.takes.taken f.bytes f.left in
         let o = map_opened f.bytes k.0 f.rest count f.entries n.fits f.front k.1 in
         record { bytes = k.0; entries = f.entries; rest = f.rest; left = k.2; counted = o.0; follow = tt; fronts = o.1; accepted = f.accepted; within = omega (arith, f.within, n.takes.same.steps) }
 
-    pub map_taken : {old mid now new : Reading} {count : ℕ} {s : S} → Enters 5 count old mid → TakesFields take need start None count mid s now → new ≡ with_steps (now.steps + 1) now → TakesFront (view_fields take start) (need_fields need) old s new
+    pub map_taken : {old mid now new : Reading} {count : ℕ} {s : S} → Enters 5 count old mid → TakesFields shape start None count mid s now → new ≡ with_steps (now.steps + 1) now → TakesFront (fields_of shape start) old s new
     map_taken {old} {mid} {now} {new} {count} {s} n r back = record {
       taken = λ b l.
           let k = n.takes.taken b l in
@@ -237,38 +237,38 @@ module _ {S : Type 0} (take : S → List ℕ → Tree → Option S) (need : List
     }
 
     -- all that is left is read of a map that was begun
-    pub entries_read : {T E : Type 0} (held : T → S) (borrows : Bool) (old mid new : Progress) (name : List ℕ) (a : Accessor) (result : Result T (DecodeError E)) → Call (BeginsItems {E = E} 5 name 1) old (Ok a) mid
-        → ReadsEntriesLeft held take need borrows start (begun a) mid result new → ReadsValue held (view_fields take start) (need_fields need) borrows old result new
-    entries_read {T} {E} held borrows old mid new name a (Ok v) h r f =
+    pub entries_read : {T E : Type 0} (held : T → S) (old mid new : Progress) (name : List ℕ) (a : Accessor) (result : Result T (DecodeError E)) → Call (BeginsItems {E = E} 5 name 1) old (Ok a) mid
+        → ReadsEntriesLeft held shape start (begun a) mid result new → ReadsValue held (fields_of shape start) old result new
+    entries_read {T} {E} held old mid new name a (Ok v) h r f =
         let k = answered Accessor E (BeginsItems 5 name 1) old mid a h in
         let one : a.steps ≡ 1 = ap (λ (c : Begun). c.steps) k.2.0 in
         let none : (begun a).last ≡ None = ap (λ (c : Begun). c.last) k.2.0 in
-        (r.0, map_taken k.2.2 (subst (λ l. TakesFields take need start l a.left mid.input (held v) r.1) none r.2) (r.3 ∙ ap (λ n. with_steps (r.1.steps + n) r.1) one))
-    entries_read {T} {E} held borrows old mid new name a (Err e) h r f =
+        (r.0, map_taken k.2.2 (subst (λ l. TakesFields shape start l a.left mid.input (held v) r.1) none r.2) (r.3 ∙ ap (λ n. with_steps (r.1.steps + n) r.1) one))
+    entries_read {T} {E} held old mid new name a (Err e) h r f =
         let k = answered Accessor E (BeginsItems 5 name 1) old mid a h in
         let none : (begun a).last ≡ None = ap (λ (c : Begun). c.last) k.2.0 in
         carried Anything Anything old.input mid.input new.input e record { faults = k.2.2.takes.same.faults; lends = k.2.2.takes.same.lends }
-        (λ x. subst (λ l. HasFields take need start l a.left mid.input) (sym none) (map_has_fields k.2.2 x)) (λ x. x) (λ x. x) (λ b l g. tt) r
+        (λ x. subst (λ l. HasFields shape start l a.left mid.input) (sym none) (map_has_fields k.2.2 x)) (λ x. x) (λ x. x) (λ b l g. tt) r
 
     -- the same of a map that a variant holds
-    pub held_entries_read : {T E : Type 0} (held : T → S) (borrows : Bool) (name : List ℕ) (e : BegunEnum) (old mid new : Progress) (a : Accessor) (result : Result T (DecodeError E)) → Call (BeginsHeld {E = E} 5 name e) old (Ok a) mid
-        → ReadsEntriesLeft held take need borrows start (begun a) mid result new → ReadsFieldsHeld held (view_fields take start) (need_fields need) borrows e old result new
-    held_entries_read {T} {E} held borrows name e old mid new a result h r f = by e.in_map refl (answered Accessor E (BeginsHeld 5 name e) old mid a h).2 result r
+    pub held_entries_read : {T E : Type 0} (held : T → S) (name : List ℕ) (e : BegunEnum) (old mid new : Progress) (a : Accessor) (result : Result T (DecodeError E)) → Call (BeginsHeld {E = E} 5 name e) old (Ok a) mid
+        → ReadsEntriesLeft held shape start (begun a) mid result new → ReadsFieldsHeld held (fields_of shape start) e old result new
+    held_entries_read {T} {E} held name e old mid new a result h r f = by e.in_map refl (answered Accessor E (BeginsHeld 5 name e) old mid a h).2 result r
       where
-        by : (m : Bool) → e.in_map ≡ m → MatchBool m (BeginsItems {E = E} 5 name (e.steps + 1) old.input (Ok a) mid.input) ⊥ → (result : Result T (DecodeError E)) → ReadsEntriesLeft held take need borrows start (begun a) mid result new
+        by : (m : Bool) → e.in_map ≡ m → MatchBool m (BeginsItems {E = E} 5 name (e.steps + 1) old.input (Ok a) mid.input) ⊥ → (result : Result T (DecodeError E)) → ReadsEntriesLeft held shape start (begun a) mid result new
             → IfOk result (λ v. new.failed ≡ false) × MatchResult result
-            (λ v. (e.in_map ≡ true) × ((now : Reading) × TakesFront (view_fields take start) (need_fields need) old.input (held v) now × (new.input ≡ with_steps (now.steps + e.steps) now)))
-            (λ x. MatchBool m (Refuses (HasFront (view_fields take start) (need_fields need) old.input) ⊤ (borrows ≡ true) Anything old.input x new.input) (IsOtherForm e x × (new.input ≡ old.input)))
+            (λ v. (e.in_map ≡ true) × ((now : Reading) × TakesFront (fields_of shape start) old.input (held v) now × (new.input ≡ with_steps (now.steps + e.steps) now)))
+            (λ x. MatchBool m (Refuses (HasFront (fields_of shape start) old.input) ⊤ (shape.borrows ≡ true) Anything old.input x new.input) (IsOtherForm e x × (new.input ≡ old.input)))
         by false is k result r = absurd k
         by true is k (Ok v) r =
             let steps : a.steps ≡ e.steps + 1 = ap (λ (c : Begun). c.steps) k.0 in
             let none : (begun a).last ≡ None = ap (λ (c : Begun). c.last) k.0 in
-            let taken = map_taken {new = with_steps (r.1.steps + 1) r.1} k.2 (subst (λ l. TakesFields take need start l a.left mid.input (held v) r.1) none r.2) refl in
+            let taken = map_taken {new = with_steps (r.1.steps + 1) r.1} k.2 (subst (λ l. TakesFields shape start l a.left mid.input (held v) r.1) none r.2) refl in
             let all : r.1.steps + a.steps ≡ r.1.steps + 1 + e.steps = omega (arith, steps) in
             (r.0, (is, (with_steps (r.1.steps + 1) r.1, taken, r.3 ∙ ap (λ n. with_steps n r.1) all)))
         by true is k (Err x) r =
             let none : (begun a).last ≡ None = ap (λ (c : Begun). c.last) k.0 in (
               tt,
               carried Anything Anything old.input mid.input new.input x record { faults = k.2.takes.same.faults; lends = k.2.takes.same.lends }
-                  (λ y. subst (λ l. HasFields take need start l a.left mid.input) (sym none) (map_has_fields k.2 y)) (λ y. y) (λ y. y) (λ b l g. tt) r,
+                  (λ y. subst (λ l. HasFields shape start l a.left mid.input) (sym none) (map_has_fields k.2 y)) (λ y. y) (λ y. y) (λ b l g. tt) r,
             )

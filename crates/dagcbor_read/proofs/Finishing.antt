@@ -1,5 +1,5 @@
 -- A value that is made of what was read.
-use Rattle.std.proofs.Common.{◌≡◌, ℕ, true, false, sym, ap, ◌∙◌, subst, refl}
+use Rattle.std.proofs.Common.{◌≡◌, true, false, sym, ap, ◌∙◌, subst, refl}
 use Rattle.std.specs.Prelude.{Option, None, Some, option_and_then, is_some, Result, MatchResult, IsErrAnd, ⊤}
 use Rattle.dagcbor_heads.specs.Reading.{Reading}
 use Rattle.dagcbor_heads.specs.Refusals.{Refuses}
@@ -11,14 +11,12 @@ use Rattle.dagcbor_heads.proofs.Refusing.{passed_on, refused}
 use Rattle.ipld_tree.specs.Tree.{Tree}
 use Rattle.ipld_tree.proofs.Fronts.{front_unique}
 use Rattle.dagcbor_items.specs.Reads.{HasFront, TakesFront, Anything}
+use Rattle.dagcbor_items.specs.Shapes.{Shape}
+use Rattle.dagcbor_read.specs.Collections.{finishing}
 
-module _ {S V : Type 0} (view : Tree → Option S) (need : Tree → ℕ) (finish : S → Option V) where
-  -- what the finished value shows
-  abbrev finishing : Tree → Option V
-  finishing t = option_and_then finish (view t)
-
+module _ {S V : Type 0} (shape : Shape Tree S) (finish : S → Option V) where
   -- what was read makes a value
-  pub finished : {F A : Type 0} {old new : Reading} {s : S} {v : V} → (F → A × TakesFront view need old s new) → finish s ≡ Some v → F → A × TakesFront finishing need old v new
+  pub finished : {F A : Type 0} {old new : Reading} {s : S} {v : V} → (F → A × TakesFront shape old s new) → finish s ≡ Some v → F → A × TakesFront (finishing finish shape) old v new
   finished {F} {A} {old} {new} {s} {v} h is fresh =
       let k = h fresh in (
         k.0,
@@ -32,36 +30,36 @@ module _ {S V : Type 0} (view : Tree → Option S) (need : Tree → ℕ) (finish
   no_value {o} {s} e n a = let none : is_some (option_and_then finish o) ≡ false = ap (λ x. is_some (option_and_then finish x)) e ∙ ap is_some n in absurd (cc (sym a ∙ none))
 
   -- what was read makes no value
-  pub unfinished : (B : Type 0) {F A E : Type 0} {old new : Reading} {s : S} {error : DecodeError E} → (kept : Name) × (error ≡ Msg kept) → finish s ≡ None → (F → A × TakesFront view need old s new) → F
-      → Refuses (HasFront finishing need old) ⊤ B Anything old error new
+  pub unfinished : (B : Type 0) {F A E : Type 0} {old new : Reading} {s : S} {error : DecodeError E} → (kept : Name) × (error ≡ Msg kept) → finish s ≡ None → (F → A × TakesFront shape old s new) → F
+      → Refuses (HasFront (finishing finish shape) old) ⊤ B Anything old error new
   unfinished B {F} {A} {E} {old} {new} {s} message none h fresh =
       let k = h fresh in
-      let refuses : Refuses {E = E} (HasFront finishing need old) ⊤ B Anything old (Msg message.0) new = (
+      let refuses : Refuses {E = E} (HasFront (finishing finish shape) old) ⊤ B Anything old (Msg message.0) new = (
         k.1.same.faults,
         λ front.
             let t = k.1.taken front.bytes front.left in
             let same = front_unique front.bytes front.rest t.1 front.tree t.0 front.front t.2 in
-            no_value (ap view same.0 ∙ t.3) none front.accepted,
+            no_value (ap shape.view same.0 ∙ t.3) none front.accepted,
         λ b l. tt,
       ) in
-      subst (λ e. Refuses {E = E} (HasFront finishing need old) ⊤ B Anything old e new) (sym message.1) refuses
+      subst (λ e. Refuses {E = E} (HasFront (finishing finish shape) old) ⊤ B Anything old e new) (sym message.1) refuses
 
   -- a part of it is missing, which `?` hands on
   pub missing : (B : Type 0) {F A E T : Type 0} (P : T → Type 0) {old new : Reading} {s : S} (result : Result T (DecodeError E)) {error : DecodeError E} → IsErrAnd result (λ y. y ≡ error) → (kept : Name) × (error ≡ Msg kept) → finish s ≡ None
-      → (F → A × TakesFront view need old s new) → F → MatchResult result P (λ e. Refuses (HasFront finishing need old) ⊤ B Anything old e new)
-  missing B {F} {A} {E} {T} P {old} {new} {s} result {error} is message none h fresh = refused P (λ e. Refuses (HasFront finishing need old) ⊤ B Anything old e new) result error is (unfinished B message none h fresh)
+      → (F → A × TakesFront shape old s new) → F → MatchResult result P (λ e. Refuses (HasFront (finishing finish shape) old) ⊤ B Anything old e new)
+  missing B {F} {A} {E} {T} P {old} {new} {s} result {error} is message none h fresh = refused P (λ e. Refuses (HasFront (finishing finish shape) old) ⊤ B Anything old e new) result error is (unfinished B message none h fresh)
 
   has_state : (o : Option S) → is_some (option_and_then finish o) ≡ true → is_some o ≡ true
   has_state None a = a
   has_state (Some s) a = refl
 
   -- it was not read
-  pub not_read : (B : Type 0) (old new : Reading) {F E : Type 0} (error : DecodeError E) → (F → Refuses (HasFront view need old) ⊤ B Anything old error new) → F → Refuses (HasFront finishing need old) ⊤ B Anything old error new
+  pub not_read : (B : Type 0) (old new : Reading) {F E : Type 0} (error : DecodeError E) → (F → Refuses (HasFront shape old) ⊤ B Anything old error new) → F → Refuses (HasFront (finishing finish shape) old) ⊤ B Anything old error new
   not_read B old new error h fresh = passed_on Anything Anything old old new error (stays old)
-      (λ front. record { bytes = front.bytes; tree = front.tree; rest = front.rest; left = front.left; front = front.front; accepted = has_state (view front.tree) front.accepted; within = front.within })
+      (λ front. record { bytes = front.bytes; tree = front.tree; rest = front.rest; left = front.left; front = front.front; accepted = has_state (shape.view front.tree) front.accepted; within = front.within })
       (λ x. x) (λ x. x) (λ b l. (b, l, λ x. x)) (h fresh)
 
   -- it was not read, which `?` hands on
-  pub handed_on : (B : Type 0) {F E T : Type 0} (P : T → Type 0) (old new : Reading) (result : Result T (DecodeError E)) (error : DecodeError E) → IsErrAnd result (λ y. y ≡ error) → Refuses (HasFront view need old) ⊤ B Anything old error new
-      → F → MatchResult result P (λ e. Refuses (HasFront finishing need old) ⊤ B Anything old e new)
-  handed_on B {F} {E} {T} P old new result error is h fresh = refused P (λ e. Refuses (HasFront finishing need old) ⊤ B Anything old e new) result error is (not_read B old new {F = F} error (λ f. h) fresh)
+  pub handed_on : (B : Type 0) {F E T : Type 0} (P : T → Type 0) (old new : Reading) (result : Result T (DecodeError E)) (error : DecodeError E) → IsErrAnd result (λ y. y ≡ error) → Refuses (HasFront shape old) ⊤ B Anything old error new
+      → F → MatchResult result P (λ e. Refuses (HasFront (finishing finish shape) old) ⊤ B Anything old e new)
+  handed_on B {F} {E} {T} P old new result error is h fresh = refused P (λ e. Refuses (HasFront (finishing finish shape) old) ⊤ B Anything old e new) result error is (not_read B old new {F = F} error (λ f. h) fresh)

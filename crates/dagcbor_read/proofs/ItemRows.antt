@@ -14,9 +14,10 @@ use Rattle.dagcbor_items.specs.Reads.{HasFront, TakesFront, Anything}
 use Rattle.dagcbor_read.specs.Values.{ReadsValue}
 use Rattle.dagcbor_read.specs.Accessors.{Begun, begun, Enters, BeginsItems}
 use Rattle.dagcbor_read.specs.declared.accessor.Accessor.{Accessor}
-use Rattle.dagcbor_read.specs.Collections.{view_list, need_list, view_items, need_items, view_none, need_none, view_first, need_first, HasRow, TakesRow, ReadsRest}
+use Rattle.dagcbor_read.specs.Collections.{view_list, need_list, view_none, HasRow, TakesRow, ReadsRest, list_of, items_of, no_more, first_then}
 use Rattle.dagcbor_read.proofs.Answered.{answered}
 use Rattle.dagcbor_read.proofs.Passing.{SameReader, carried}
+use Rattle.dagcbor_items.specs.Shapes.{Shape}
 
 pub same_reader : {old new : Reading} → Stays old new → SameReader old new
 same_reader h = record { faults = h.faults; lends = h.lends }
@@ -34,10 +35,10 @@ some_second f (Some a) (Some b) e = refl
 
 -- ---- no item
 
-pub nothing_taken : {old : Reading} {count : ℕ} → count ≡ 0 → TakesRow view_none need_none count old tt old
+pub nothing_taken : {old : Reading} {count : ℕ} → count ≡ 0 → TakesRow no_more count old tt old
 nothing_taken {old} e = record { taken = λ b l. (no_items, b, sym e, record { well_formed = tt; spellable = tt; is = refl }, refl, omega arith, l); same = stays old }
 
-pub none_left : {r : Reading} {count : ℕ} → HasRow view_none need_none count r → count ≡ 0
+pub none_left : {r : Reading} {count : ℕ} → HasRow no_more count r → count ≡ 0
 none_left {r} {count} h = by h.items h.counted h.accepted
   where
     by : (ts : Items) → item_count ts ≡ count → is_some (view_none ts) ≡ true → count ≡ 0
@@ -46,13 +47,13 @@ none_left {r} {count} h = by h.items h.counted h.accepted
 
 -- ---- an item before others
 
-module _ {V W U : Type 0} (view : Tree → Option V) (need : Tree → ℕ) (others : Items → Option W) (others_need : Items → ℕ) (f : V → W → U) (whole : Items → Option U) (whole_need : Items → ℕ)
-    (shows : (t : Tree) (ts : Items) → whole (item t ts) ≡ option_and_then (λ v. option_map (f v) (others ts)) (view t))
-    (needs : (t : Tree) (ts : Items) → whole_need (item t ts) ≡ max (need t) (others_need ts)) where
-  pub row_first : {r : Reading} {count : ℕ} → 0 < count → HasRow whole whole_need count r → HasFront view need r
+module _ {V W U : Type 0} (shape : Shape Tree V) (others : Shape Items W) (f : V → W → U) (whole : Shape Items U)
+    (shows : (t : Tree) (ts : Items) → whole.view (item t ts) ≡ option_and_then (λ v. option_map (f v) (others.view ts)) (shape.view t))
+    (needs : (t : Tree) (ts : Items) → whole.need (item t ts) ≡ max (shape.need t) (others.need ts)) where
+  pub row_first : {r : Reading} {count : ℕ} → 0 < count → HasRow whole count r → HasFront shape r
   row_first {r} {count} some h = by h.items h.counted h.fronts h.accepted h.within
     where
-      by : (ts : Items) → item_count ts ≡ count → AreFronts h.bytes ts h.rest → is_some (whole ts) ≡ true → whole_need ts ≤ r.steps → HasFront view need r
+      by : (ts : Items) → item_count ts ≡ count → AreFronts h.bytes ts h.rest → is_some (whole.view ts) ≡ true → whole.need ts ≤ r.steps → HasFront shape r
       by no_items e k a w = absurd (omega (arith, e, some))
       by (item t ts) e k a w = record {
         bytes = h.bytes;
@@ -60,14 +61,14 @@ module _ {V W U : Type 0} (view : Tree → Option V) (need : Tree → ℕ) (othe
         rest = items_spelling ts ++ h.rest;
         left = h.left;
         front = (item_opened h.bytes h.rest t ts k).0;
-        accepted = some_first (λ v. option_map (f v) (others ts)) (view t) (ap is_some (sym (shows t ts)) ∙ a);
+        accepted = some_first (λ v. option_map (f v) (others.view ts)) (shape.view t) (ap is_some (sym (shows t ts)) ∙ a);
         within = omega (arith, w, needs t ts);
       }
 
-  pub row_others : {old new : Reading} {count : ℕ} {v : V} → 0 < count → TakesFront view need old v new → HasRow whole whole_need count old → HasRow others others_need (count - 1) new
+  pub row_others : {old new : Reading} {count : ℕ} {v : V} → 0 < count → TakesFront shape old v new → HasRow whole count old → HasRow others (count - 1) new
   row_others {old} {new} {count} {v} some a h = by h.items h.counted h.fronts h.accepted h.within
     where
-      by : (ts : Items) → item_count ts ≡ count → AreFronts h.bytes ts h.rest → is_some (whole ts) ≡ true → whole_need ts ≤ old.steps → HasRow others others_need (count - 1) new
+      by : (ts : Items) → item_count ts ≡ count → AreFronts h.bytes ts h.rest → is_some (whole.view ts) ≡ true → whole.need ts ≤ old.steps → HasRow others (count - 1) new
       by no_items e k a w = absurd (omega (arith, e, some))
       by (item u us) e k ok w =
           let t = a.taken h.bytes h.left in
@@ -79,11 +80,11 @@ module _ {V W U : Type 0} (view : Tree → Option V) (need : Tree → ℕ) (othe
             left = t.5;
             counted = omega (arith, e);
             fronts = more.1;
-            accepted = some_second f (view u) (others us) (ap is_some (sym (shows u us)) ∙ ok);
+            accepted = some_second f (shape.view u) (others.view us) (ap is_some (sym (shows u us)) ∙ ok);
             within = omega (arith, w, needs u us, a.same.steps);
           }
 
-  pub row_taken : {old mid new : Reading} {count : ℕ} {v : V} {w : W} → TakesFront view need old v mid → TakesRow others others_need count mid w new → TakesRow whole whole_need (count + 1) old (f v w) new
+  pub row_taken : {old mid new : Reading} {count : ℕ} {v : V} {w : W} → TakesFront shape old v mid → TakesRow others count mid w new → TakesRow whole (count + 1) old (f v w) new
   row_taken {old} {mid} {new} {count} {v} {w} a o = record {
     taken = λ b l.
         let t = a.taken b l in
@@ -92,15 +93,15 @@ module _ {V W U : Type 0} (view : Tree → Option V) (need : Tree → ℕ) (othe
           ts.1,
           omega (arith, ts.2),
           item_closed b t.1 ts.1 t.0 ts.0 t.2 ts.3,
-          shows t.0 ts.0 ∙ ap (option_and_then (λ v. option_map (f v) (others ts.0))) t.3 ∙ ap (option_map (f v)) ts.4,
+          shows t.0 ts.0 ∙ ap (option_and_then (λ v. option_map (f v) (others.view ts.0))) t.3 ∙ ap (option_map (f v)) ts.4,
           omega (arith, needs t.0 ts.0, t.4, ts.5, a.same.steps),
           ts.6,
         );
     same = stays_both a.same o.same;
   }
 
-pub as_row : {V : Type 0} {view : Items → Option V} {need : Items → ℕ} {old new : Reading} {count count' : ℕ} (v w : V) → count ≡ count' → v ≡ w → TakesRow view need count old v new → TakesRow view need count' old w new
-as_row {V} {view} {need} {old} {new} {count} {count'} v w e i h = subst (λ x. TakesRow view need count' old x new) i (subst (λ n. TakesRow view need n old v new) e h)
+pub as_row : {V : Type 0} {shape : Shape Items V} {old new : Reading} {count count' : ℕ} (v w : V) → count ≡ count' → v ≡ w → TakesRow shape count old v new → TakesRow shape count' old w new
+as_row {V} {shape} {old} {new} {count} {count'} v w e i h = subst (λ x. TakesRow shape count' old x new) i (subst (λ n. TakesRow shape n old v new) e h)
 
 -- ---- a part before other parts
 
@@ -112,45 +113,44 @@ or_right : (a b : Bool) → b ≡ true → (a || b) ≡ true
 or_right true b e = refl
 or_right false b e = e
 
-module _ {V W : Type 0} (view : Tree → Option V) (need : Tree → ℕ) (others : Items → Option W) (others_need : Items → ℕ) where
-  module _ (borrows others_borrow : Bool) where
-    pub part_refused : {E : Type 0} {count : ℕ} (old new : Reading) (e : DecodeError E) → 0 < count → Refuses (HasFront view need old) ⊤ (borrows ≡ true) Anything old e new
-        → Refuses (HasRow (view_first view others) (need_first need others_need) count old) ⊤ ((borrows || others_borrow) ≡ true) Anything old e new
-    part_refused {E} {count} old new e some r = carried Anything Anything old old new e (same_reader (stays old))
-        (row_first view need others others_need (λ v w. (v, w)) (view_first view others) (need_first need others_need) (λ t ts. refl) (λ t ts. refl) some) (λ x. x) (or_left borrows others_borrow) (λ b l g. tt) r
+module _ {V W : Type 0} (shape : Shape Tree V) (others : Shape Items W) where
+  pub part_refused : {E : Type 0} {count : ℕ} (old new : Reading) (e : DecodeError E) → 0 < count → Refuses (HasFront shape old) ⊤ (shape.borrows ≡ true) Anything old e new
+      → Refuses (HasRow (first_then shape others) count old) ⊤ ((shape.borrows || others.borrows) ≡ true) Anything old e new
+  part_refused {E} {count} old new e some r = carried Anything Anything old old new e (same_reader (stays old))
+      (row_first shape others (λ v w. (v, w)) (first_then shape others) (λ t ts. refl) (λ t ts. refl) some) (λ x. x) (or_left shape.borrows others.borrows) (λ b l g. tt) r
 
-    pub parts_refused : {E : Type 0} {before after : Begun} {old mid : Reading} {v : V} (new : Reading) (e : DecodeError E) → 0 < before.left → after ≡ record before { left = before.left - 1 } → TakesFront view need old v mid
-        → Refuses (HasRow others others_need after.left mid) ⊤ (others_borrow ≡ true) Anything mid e new
-        → Refuses (HasRow (view_first view others) (need_first need others_need) before.left old) ⊤ ((borrows || others_borrow) ≡ true) Anything old e new
-    parts_refused {E} {before} {after} {old} {mid} new e some is a r = carried Anything Anything old mid new e (same_reader a.same)
-        (λ h. subst (λ n. HasRow others others_need n mid) (sym (ap (λ (c : Begun). c.left) is))
-        (row_others view need others others_need (λ v w. (v, w)) (view_first view others) (need_first need others_need) (λ t ts. refl) (λ t ts. refl) some a h)) (λ x. x) (or_right borrows others_borrow) (λ b l g. tt) r
+  pub parts_refused : {E : Type 0} {before after : Begun} {old mid : Reading} {v : V} (new : Reading) (e : DecodeError E) → 0 < before.left → after ≡ record before { left = before.left - 1 } → TakesFront shape old v mid
+      → Refuses (HasRow others after.left mid) ⊤ (others.borrows ≡ true) Anything mid e new
+      → Refuses (HasRow (first_then shape others) before.left old) ⊤ ((shape.borrows || others.borrows) ≡ true) Anything old e new
+  parts_refused {E} {before} {after} {old} {mid} new e some is a r = carried Anything Anything old mid new e (same_reader a.same)
+      (λ h. subst (λ n. HasRow others n mid) (sym (ap (λ (c : Begun). c.left) is))
+      (row_others shape others (λ v w. (v, w)) (first_then shape others) (λ t ts. refl) (λ t ts. refl) some a h)) (λ x. x) (or_right shape.borrows others.borrows) (λ b l g. tt) r
 
-  pub parts_taken : {before now_left after : Begun} {old mid : Reading} {new : Progress} {v : V} {w : W} → 0 < before.left → now_left ≡ record before { left = before.left - 1 } → TakesFront view need old v mid
-      → (new.failed ≡ false) × (after ≡ record now_left { left = after.left }) × (after.left ≤ now_left.left) × TakesRow others others_need (now_left.left - after.left) mid w new.input × (HasRow others others_need now_left.left mid → after.left ≡ 0)
-      → (new.failed ≡ false) × (after ≡ record before { left = after.left }) × (after.left ≤ before.left) × TakesRow (view_first view others) (need_first need others_need) (before.left - after.left) old (v, w) new.input
-      × (HasRow (view_first view others) (need_first need others_need) before.left old → after.left ≡ 0)
+  pub parts_taken : {before now_left after : Begun} {old mid : Reading} {new : Progress} {v : V} {w : W} → 0 < before.left → now_left ≡ record before { left = before.left - 1 } → TakesFront shape old v mid
+      → (new.failed ≡ false) × (after ≡ record now_left { left = after.left }) × (after.left ≤ now_left.left) × TakesRow others (now_left.left - after.left) mid w new.input × (HasRow others now_left.left mid → after.left ≡ 0)
+      → (new.failed ≡ false) × (after ≡ record before { left = after.left }) × (after.left ≤ before.left) × TakesRow (first_then shape others) (before.left - after.left) old (v, w) new.input
+      × (HasRow (first_then shape others) before.left old → after.left ≡ 0)
   parts_taken {before} {now_left} {after} {old} {mid} {new} {v} {w} some is a r =
       let less : now_left.left ≡ before.left - 1 = ap (λ (c : Begun). c.left) is in (
         r.0,
         r.1 ∙ ap (λ (c : Begun). record c { left = after.left }) is,
         omega (arith, less, r.2),
-        as_row (v, w) (v, w) (omega (arith, less, some, r.2)) refl (row_taken view need others others_need (λ v w. (v, w)) (view_first view others) (need_first need others_need) (λ t ts. refl) (λ t ts. refl) a r.3),
-        λ h. r.4 (subst (λ n. HasRow others others_need n mid) (sym less) (row_others view need others others_need (λ v w. (v, w)) (view_first view others) (need_first need others_need) (λ t ts. refl) (λ t ts. refl) some a h)),
+        as_row (v, w) (v, w) (omega (arith, less, some, r.2)) refl (row_taken shape others (λ v w. (v, w)) (first_then shape others) (λ t ts. refl) (λ t ts. refl) a r.3),
+        λ h. r.4 (subst (λ n. HasRow others n mid) (sym less) (row_others shape others (λ v w. (v, w)) (first_then shape others) (λ t ts. refl) (λ t ts. refl) some a h)),
       )
 
 -- ---- items of one type
 
-module _ {V : Type 0} (view : Tree → Option V) (need : Tree → ℕ) where
+module _ {V : Type 0} (shape : Shape Tree V) where
   -- some items were read, which show vs: those behind them show the others
   pub record ReadSoFar (before : Begun) (old : Progress) (now_left : Begun) (vs : List V) (now : Progress) : Type 0 where
     pub sound : now.failed ≡ false
     pub is : now_left ≡ record before { left = now_left.left }
     pub fewer : now_left.left ≤ before.left
     pub same : Stays old.input now.input
-    pub has : HasRow (view_items view) (need_items need) before.left old.input → HasRow (view_items view) (need_items need) now_left.left now.input
-    pub takes : (count : ℕ) (ws : List V) (new : Reading) → TakesRow (view_items view) (need_items need) count now.input ws new
-        → TakesRow (view_items view) (need_items need) (count + (before.left - now_left.left)) old.input (vs ++ ws) new
+    pub has : HasRow (items_of shape) before.left old.input → HasRow (items_of shape) now_left.left now.input
+    pub takes : (count : ℕ) (ws : List V) (new : Reading) → TakesRow (items_of shape) count now.input ws new
+        → TakesRow (items_of shape) (count + (before.left - now_left.left)) old.input (vs ++ ws) new
 
   pub none_so_far : (before : Begun) (old : Progress) (vs : List V) → old.failed ≡ false → vs ≡ [] → ReadSoFar before old before vs old
   none_so_far before old vs f e = subst (λ x. ReadSoFar before old before x old) (sym e) record {
@@ -162,11 +162,11 @@ module _ {V : Type 0} (view : Tree → Option V) (need : Tree → ℕ) where
     takes = λ count ws new t. as_row ws ws (omega arith) refl t;
   }
 
-  first_of : {r : Reading} {count : ℕ} → 0 < count → HasRow (view_items view) (need_items need) count r → HasFront view need r
-  first_of = row_first view need (view_items view) (need_items need) (λ v vs. v ∷ vs) (view_items view) (need_items need) (λ t ts. refl) (λ t ts. refl)
+  first_of : {r : Reading} {count : ℕ} → 0 < count → HasRow (items_of shape) count r → HasFront shape r
+  first_of = row_first shape (items_of shape) (λ v vs. v ∷ vs) (items_of shape) (λ t ts. refl) (λ t ts. refl)
 
   pub one_more : {before now_left after : Begun} {old now new : Progress} {v : V} (vs ws : List V) → ReadSoFar before old now_left vs now → 0 < now_left.left → after ≡ record now_left { left = now_left.left - 1 } → new.failed ≡ false
-      → TakesFront view need now.input v new.input → ws ≡ vs ++ v ∷ [] → ReadSoFar before old after ws new
+      → TakesFront shape now.input v new.input → ws ≡ vs ++ v ∷ [] → ReadSoFar before old after ws new
   one_more {before} {now_left} {after} {old} {now} {new} {v} vs ws s some is f a e =
       let less : after.left ≡ now_left.left - 1 = ap (λ (c : Begun). c.left) is in
       subst (λ x. ReadSoFar before old after x new) (sym e) record {
@@ -174,17 +174,17 @@ module _ {V : Type 0} (view : Tree → Option V) (need : Tree → ℕ) where
         is = is ∙ ap (λ (c : Begun). record c { left = now_left.left - 1 }) s.is ∙ ap (λ n. record before { left = n }) (sym less);
         fewer = omega (arith, less, s.fewer);
         same = stays_both s.same a.same;
-        has = λ h. subst (λ n. HasRow (view_items view) (need_items need) n new.input) (sym less)
-            (row_others view need (view_items view) (need_items need) (λ v vs. v ∷ vs) (view_items view) (need_items need) (λ t ts. refl) (λ t ts. refl) some a (s.has h));
+        has = λ h. subst (λ n. HasRow (items_of shape) n new.input) (sym less)
+            (row_others shape (items_of shape) (λ v vs. v ∷ vs) (items_of shape) (λ t ts. refl) (λ t ts. refl) some a (s.has h));
         takes = λ count xs end t. as_row (vs ++ (v ∷ xs)) ((vs ++ v ∷ []) ++ xs) (omega (arith, less, some, s.fewer)) (sym (append_assoc vs (v ∷ []) xs))
-            (s.takes (count + 1) (v ∷ xs) end (row_taken view need (view_items view) (need_items need) (λ v vs. v ∷ vs) (view_items view) (need_items need) (λ t ts. refl) (λ t ts. refl) a t));
+            (s.takes (count + 1) (v ∷ xs) end (row_taken shape (items_of shape) (λ v vs. v ∷ vs) (items_of shape) (λ t ts. refl) (λ t ts. refl) a t));
       }
 
   pub none_more : {before now_left after : Begun} {old now new : Progress} (vs : List V) → ReadSoFar before old now_left vs now → now_left.left ≡ 0 → after ≡ now_left → new.failed ≡ false → new.input ≡ now.input
-      → (new.failed ≡ false) × (after ≡ record before { left = after.left }) × (after.left ≤ before.left) × TakesRow (view_items view) (need_items need) (before.left - after.left) old.input vs new.input
-      × (HasRow (view_items view) (need_items need) before.left old.input → after.left ≡ 0)
+      → (new.failed ≡ false) × (after ≡ record before { left = after.left }) × (after.left ≤ before.left) × TakesRow (items_of shape) (before.left - after.left) old.input vs new.input
+      × (HasRow (items_of shape) before.left old.input → after.left ≡ 0)
   none_more {before} {now_left} {after} {old} {now} {new} vs s none is f same =
-      let end : TakesRow (view_items view) (need_items need) 0 now.input [] new.input =
+      let end : TakesRow (items_of shape) 0 now.input [] new.input =
       record { taken = λ b l. (no_items, b, refl, record { well_formed = tt; spellable = tt; is = refl }, refl, omega arith, ap (λ (r : Reading). r.left) same ∙ l); same = subst (Stays now.input) (sym same) (stays now.input) } in
       let as_left : after.left ≡ now_left.left = ap (λ (c : Begun). c.left) is in (
         f,
@@ -195,13 +195,13 @@ module _ {V : Type 0} (view : Tree → Option V) (need : Tree → ℕ) where
       )
 
   pub item_refused : {E : Type 0} {before now_left : Begun} {old now : Progress} {vs : List V} (borrows : Type 0) (new : Reading) (e : DecodeError E) → ReadSoFar before old now_left vs now → 0 < now_left.left
-      → Refuses (HasFront view need now.input) ⊤ borrows Anything now.input e new → Refuses (HasRow (view_items view) (need_items need) before.left old.input) ⊤ borrows Anything old.input e new
+      → Refuses (HasFront shape now.input) ⊤ borrows Anything now.input e new → Refuses (HasRow (items_of shape) before.left old.input) ⊤ borrows Anything old.input e new
   item_refused {E} {before} {now_left} {old} {now} borrows new e s some r =
       carried Anything Anything old.input now.input new e (same_reader s.same) (λ h. first_of some (s.has h)) (λ x. x) (λ x. x) (λ b l g. tt) r
 
 -- ---- the whole list
 
-module _ {V : Type 0} (view : Items → Option V) (need : Items → ℕ) where
+module _ {V : Type 0} (shape : Shape Items V) where
   -- a list stands at the front that shows something
   record ListFront (r : Reading) : Type 0 where
     bytes : List ℕ
@@ -209,13 +209,13 @@ module _ {V : Type 0} (view : Items → Option V) (need : Items → ℕ) where
     rest : List ℕ
     left : r.left ≡ Some bytes
     front : IsFront bytes (list items) rest
-    accepted : is_some (view items) ≡ true
-    within : 1 + need items ≤ r.steps
+    accepted : is_some (shape.view items) ≡ true
+    within : 1 + shape.need items ≤ r.steps
 
-  list_front : {r : Reading} → HasFront (view_list view) (need_list need) r → ListFront r
+  list_front : {r : Reading} → HasFront (list_of shape) r → ListFront r
   list_front {r} h = by h.tree h.front h.accepted h.within
     where
-      by : (t : Tree) → IsFront h.bytes t h.rest → is_some (view_list view t) ≡ true → need_list need t ≤ r.steps → ListFront r
+      by : (t : Tree) → IsFront h.bytes t h.rest → is_some (view_list shape.view t) ≡ true → need_list shape.need t ≤ r.steps → ListFront r
       by (list ts) f a w = record { bytes = h.bytes; items = ts; rest = h.rest; left = h.left; front = f; accepted = a; within = w }
       by null f a w = absurd (cc a)
       by (boolean b) f a w = absurd (cc a)
@@ -225,14 +225,14 @@ module _ {V : Type 0} (view : Items → Option V) (need : Items → ℕ) where
       by (mapping es) f a w = absurd (cc a)
       by (link s) f a w = absurd (cc a)
 
-  pub list_has_row : {old mid : Reading} {count : ℕ} → Enters 4 count old mid → HasFront (view_list view) (need_list need) old → HasRow view need count mid
+  pub list_has_row : {old mid : Reading} {count : ℕ} → Enters 4 count old mid → HasFront (list_of shape) old → HasRow shape count mid
   list_has_row {old} {mid} {count} n h =
       let f = list_front h in
       let k = n.takes.taken f.bytes f.left in
       let o = list_opened f.bytes k.0 f.rest count f.items n.fits f.front k.1 in
       record { bytes = k.0; items = f.items; rest = f.rest; left = k.2; counted = o.0; fronts = o.1; accepted = f.accepted; within = omega (arith, f.within, n.takes.same.steps) }
 
-  pub list_taken : {old mid now new : Reading} {count : ℕ} {v : V} → Enters 4 count old mid → TakesRow view need count mid v now → new ≡ with_steps (now.steps + 1) now → TakesFront (view_list view) (need_list need) old v new
+  pub list_taken : {old mid now new : Reading} {count : ℕ} {v : V} → Enters 4 count old mid → TakesRow shape count mid v now → new ≡ with_steps (now.steps + 1) now → TakesFront (list_of shape) old v new
   list_taken {old} {mid} {now} {new} {count} {v} n r back = record {
     taken = λ b l.
         let k = n.takes.taken b l in
@@ -254,12 +254,12 @@ module _ {V : Type 0} (view : Items → Option V) (need : Items → ℕ) where
   }
 
   -- all that is left is read of a list that was begun
-  pub rest_reads : {T E : Type 0} (held : T → V) (borrows : Bool) (old mid new : Progress) (name : List ℕ) (a : Accessor) (result : Result T (DecodeError E)) → Call (BeginsItems {E = E} 4 name 1) old (Ok a) mid
-      → ReadsRest held view need borrows (begun a) mid result new → ReadsValue held (view_list view) (need_list need) borrows old result new
-  rest_reads {T} {E} held borrows old mid new name a (Ok v) h r f =
+  pub rest_reads : {T E : Type 0} (held : T → V) (old mid new : Progress) (name : List ℕ) (a : Accessor) (result : Result T (DecodeError E)) → Call (BeginsItems {E = E} 4 name 1) old (Ok a) mid
+      → ReadsRest held shape (begun a) mid result new → ReadsValue held (list_of shape) old result new
+  rest_reads {T} {E} held old mid new name a (Ok v) h r f =
       let k = answered Accessor E (BeginsItems 4 name 1) old mid a h in
       let one : a.steps ≡ 1 = ap (λ (c : Begun). c.steps) k.2.0 in
       (r.0, list_taken k.2.2 r.2 (r.3 ∙ ap (λ n. with_steps (r.1.steps + n) r.1) one))
-  rest_reads {T} {E} held borrows old mid new name a (Err e) h r f =
+  rest_reads {T} {E} held old mid new name a (Err e) h r f =
       let k = answered Accessor E (BeginsItems 4 name 1) old mid a h in
       carried Anything Anything old.input mid.input new.input e record { faults = k.2.2.takes.same.faults; lends = k.2.2.takes.same.lends } (list_has_row k.2.2) (λ x. x) (λ x. x) (λ b l g. tt) r

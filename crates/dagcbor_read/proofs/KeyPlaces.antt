@@ -2,7 +2,7 @@
 use Rattle.std.proofs.Common.{◌≡◌, ℕ, List, [], ◌∷◌, refl, sym, ap, ◌∙◌, String, Global, string_bytes, string_cmp, Ordering, Less, Equal, Greater}
 use Rattle.std.proofs.lemmas.Map.Lookups.{exact_bytes}
 use Rattle.std.proofs.lemmas.Cmp.{nat_list_cmp_total, tied_itself}
-use Rattle.std.specs.Prelude.{Option, Some, option_map}
+use Rattle.std.specs.Prelude.{Some, option_map}
 use Rattle.std.specs.BTreeMap.{insert_entry}
 use Rattle.std.specs.Ordering.{match_ordering, ordering_then, ordering_reverse}
 use Rattle.ipld_tree.specs.Key.{bytes_cmp, key_cmp}
@@ -10,7 +10,8 @@ use Rattle.ipld_tree.proofs.Ordered.{key_cmp_total, key_cmp_same}
 use Rattle.dagcbor_heads.specs.Reading.{Reading}
 use Rattle.ipld_tree.specs.Tree.{Tree}
 use Rattle.dagcbor_items.specs.Reads.{TakesFront}
-use Rattle.dagcbor_read.specs.Collections.{take_entry, in_key_order, text_pairs}
+use Rattle.dagcbor_read.specs.Collections.{in_key_order, text_pairs, value_of, entries_of}
+use Rattle.dagcbor_items.specs.Shapes.{Shape}
 
 second_equal : (a b : Ordering) → ordering_then a b ≡ Equal → b ≡ Equal
 second_equal Less b e = absurd (cc e)
@@ -100,9 +101,9 @@ put_sorted {A} held (e ∷ es) k v = by (put_sorted held es k v) (string_cmp k e
         ∙ sym (put_apart (string_bytes k) (string_bytes e.0) (held v) (held e.1) (in_key_order (text_pairs held es)) apart)
 
 -- a value that was read goes to its key
-pub value_put : {V : Type 0} {old new : Reading} (view : Tree → Option V) (need : Tree → ℕ) (pairs s : List (List ℕ × V)) (key : List ℕ) (v : V) → s ≡ insert_entry key_cmp pairs key v
-    → TakesFront view need old v new → TakesFront (take_entry view pairs key) need old s new
-value_put {V} {old} {new} view need pairs s key v is a = record {
+pub value_put : {V : Type 0} {old new : Reading} (shape : Shape Tree V) (pairs s : List (List ℕ × V)) (key : List ℕ) (v : V) → s ≡ insert_entry key_cmp pairs key v
+    → TakesFront shape old v new → TakesFront (value_of (entries_of shape) pairs key) old s new
+value_put {V} {old} {new} shape pairs s key v is a = record {
   taken = λ b l. (let t = a.taken b l in (t.0, t.1, t.2, ap (option_map (λ x. insert_entry key_cmp pairs key x)) t.3 ∙ ap Some (sym is), t.4, t.5));
   same = a.same;
 }

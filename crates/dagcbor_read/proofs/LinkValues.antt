@@ -15,7 +15,7 @@ use Rattle.dagcbor_items.specs.Links.{HasLink, ReadsLink}
 use Rattle.dagcbor_read.specs.Calls.{Progress, Call}
 use Rattle.dagcbor_items.specs.Reads.{HasFront, TakesFront, Reads, Anything}
 use Rattle.dagcbor_read.specs.Values.{ReadsValue}
-use Rattle.dagcbor_items.specs.Views.{view_link, no_need}
+use Rattle.dagcbor_items.specs.Shapes.{view_link, leaf}
 use Rattle.dagcbor_read.proofs.Progressing.{call_told}
 
 is_link : (t : Tree) → is_some (view_link t) ≡ true → (cid : List ℕ) × (t ≡ link cid)
@@ -28,23 +28,23 @@ is_link (bytes b) a = absurd (cc a)
 is_link (list b) a = absurd (cc a)
 is_link (mapping b) a = absurd (cc a)
 
-link_stands : {r : Reading} → HasFront view_link no_need r → HasLink r
+link_stands : {r : Reading} → HasFront (leaf view_link) r → HasLink r
 link_stands h =
     let l = is_link h.tree h.accepted in
     record { bytes = h.bytes; cid = l.0; rest = h.rest; left = h.left; front = subst (λ t. IsFront h.bytes t h.rest) l.1 h.front }
 
-link_shown : {old new : Reading} (cid : List ℕ) → TakesItem 1 old (link cid) new → TakesFront view_link no_need old cid new
+link_shown : {old new : Reading} (cid : List ℕ) → TakesItem 1 old (link cid) new → TakesFront (leaf view_link) old cid new
 link_shown cid h = record { taken = λ b l. let k = h.taken b l in (link cid, k.0, k.1, refl, zero-le, k.3); same = h.same }
 
-link_read : {E : Type 0} (old new : Reading) (r : Result CidParts (DecodeError E)) → ReadsLink old r new → Reads cid_bytes view_link no_need ⊤ (false ≡ true) Anything old r new
+link_read : {E : Type 0} (old new : Reading) (r : Result CidParts (DecodeError E)) → ReadsLink old r new → Reads cid_bytes (leaf view_link) ⊤ (false ≡ true) Anything old r new
 link_read old new (Ok c) h = link_shown (cid_bytes c) h
 link_read old new (Err e) h = passed_on LinkStands Anything old old new e (stays old) link_stands (λ x. absurd x) (λ x. absurd x) (λ b l. (b, l, λ s. tt)) h
 
 -- what a call did on what had not failed
-value_read : {E : Type 0} (old new : Progress) (r : Result CidParts (DecodeError E)) → (new.failed ≡ is_err r) × Reads cid_bytes view_link no_need ⊤ (false ≡ true) Anything old.input r new.input
-    → MatchResult r (λ v. (new.failed ≡ false) × TakesFront view_link no_need old.input (cid_bytes v) new.input) (λ e. Refuses (HasFront view_link no_need old.input) ⊤ (false ≡ true) Anything old.input e new.input)
+value_read : {E : Type 0} (old new : Progress) (r : Result CidParts (DecodeError E)) → (new.failed ≡ is_err r) × Reads cid_bytes (leaf view_link) ⊤ (false ≡ true) Anything old.input r new.input
+    → MatchResult r (λ v. (new.failed ≡ false) × TakesFront (leaf view_link) old.input (cid_bytes v) new.input) (λ e. Refuses (HasFront (leaf view_link) old.input) ⊤ (false ≡ true) Anything old.input e new.input)
 value_read old new (Ok v) h = h
 value_read old new (Err e) h = h.1
 
-pub link_value : {E : Type 0} (old new : Progress) (r : Result CidParts (DecodeError E)) → Call ReadsLink old r new → ReadsValue cid_bytes view_link no_need false old r new
+pub link_value : {E : Type 0} (old new : Progress) (r : Result CidParts (DecodeError E)) → Call ReadsLink old r new → ReadsValue cid_bytes (leaf view_link) old r new
 link_value old new r h = λ sound. let t = call_told ReadsLink old new r sound h in value_read old new r (t.0, link_read old.input new.input r t.1)

@@ -15,9 +15,9 @@ use Rattle.ipld_tree.specs.Tree.{Tree, null, boolean, integer, text, bytes, list
 use Rattle.ipld_tree.specs.Spelling.{IsFront, entries_spelling}
 use Rattle.ipld_tree.proofs.Fronts.{front_first, front_unique, map_opened, entry_opened, entry_closed}
 use Rattle.dagcbor_items.specs.LeafCauses.{TextStands}
-use Rattle.dagcbor_items.specs.Views.{view_text, no_need}
-use Rattle.dagcbor_read.specs.EnumViews.{view_enum, need_enum, HasVariant, TakesVariant, ReadsVariant}
-use Rattle.dagcbor_read.specs.Collections.{view_fields, need_fields, view_struct}
+use Rattle.dagcbor_items.specs.Shapes.{view_text, leaf, Shape}
+use Rattle.dagcbor_read.specs.EnumViews.{view_enum, need_enum, HasVariant, TakesVariant, ReadsVariant, EnumShape, enum_of, part_of}
+use Rattle.dagcbor_read.specs.Collections.{need_fields, fields_of, struct_of, FieldShape}
 use Rattle.dagcbor_read.specs.Calls.{Progress, Call}
 use Rattle.dagcbor_items.specs.Reads.{HasFront, TakesFront, Anything}
 use Rattle.dagcbor_read.specs.Values.{ReadsValue}
@@ -87,7 +87,7 @@ opened e old mid b s l = by e.in_map refl s.3
 pub record Named (e : BegunEnum) (k : List ℕ) (old now : Reading) : Type 0 where
   pub mid : Reading
   pub spent : Spent e old mid
-  pub name : TakesFront view_text no_need mid k now
+  pub name : TakesFront (leaf view_text) mid k now
 
 same_named : {e : BegunEnum} {k : List ℕ} {old now : Reading} → Named e k old now → SameReader old now
 same_named {e} n = let a = entered e n.spent in record { faults = n.name.same.faults ∙ a.faults; lends = n.name.same.lends ∙ a.lends }
@@ -104,14 +104,14 @@ other_form_refused borrows old new e _ h same never = absurd h
 pub told_refused : {E could : Type 0} (borrows : Type 0) (old : Reading) {message : Name} (r : DecodeError E) (new : Reading) → r ≡ Msg message → new.faults ≡ old.faults → (could → ⊥) → Refuses could ⊤ borrows Anything old r new
 told_refused {E} {could} borrows old {message} r new is same never = subst (λ x. Refuses could ⊤ borrows Anything old x new) (sym is) (same, never, λ b l. tt)
 
-module _ {V : Type 0} (unit : List ℕ → Option V) (part : List ℕ → Tree → Option V) (need : List ℕ → Tree → ℕ) where
+module _ {V : Type 0} (shape : EnumShape V) where
   record UnitFront (r : Reading) : Type 0 where
     bytes : List ℕ
     name : List ℕ
     rest : List ℕ
     left : r.left ≡ Some bytes
     front : IsFront bytes (text name) rest
-    accepted : is_some (unit name) ≡ true
+    accepted : is_some (shape.unit name) ≡ true
     step : 1 ≤ r.steps
 
   record PartFront (r : Reading) : Type 0 where
@@ -123,10 +123,10 @@ module _ {V : Type 0} (unit : List ℕ → Option V) (part : List ℕ → Tree �
     left : r.left ≡ Some (161 ∷ after_head)
     name_front : IsFront after_head (text name) after_name
     value_front : IsFront after_name value rest
-    accepted : is_some (part name value) ≡ true
-    within : 1 + need name value ≤ r.steps
+    accepted : is_some (shape.part name value) ≡ true
+    within : 1 + shape.need name value ≤ r.steps
 
-  part_front : (r : Reading) (all rest k : List ℕ) (t : Tree) → r.left ≡ Some all → IsFront all (mapping (entry k t no_entries)) rest → is_some (part k t) ≡ true → 1 + need k t ≤ r.steps → PartFront r
+  part_front : (r : Reading) (all rest k : List ℕ) (t : Tree) → r.left ≡ Some all → IsFront all (mapping (entry k t no_entries)) rest → is_some (shape.part k t) ≡ true → 1 + shape.need k t ≤ r.steps → PartFront r
   part_front r all rest k t l f a w =
       let tail = entries_spelling (entry k t no_entries) ++ rest in
       let whole : all ≡ head 5 1 ++ tail = f.is ∙ append_assoc (head 5 1) (entries_spelling (entry k t no_entries)) rest in
@@ -134,7 +134,7 @@ module _ {V : Type 0} (unit : List ℕ → Option V) (part : List ℕ → Tree �
       let p = entry_opened tail rest k t no_entries o.1 in
       record { after_head = tail; after_name = p.0; name = k; value = t; rest = rest; left = l ∙ ap Some (whole ∙ ap (λ h. h ++ tail) one_pair); name_front = p.1; value_front = p.2; accepted = a; within = w }
 
-  of_tree : (r : Reading) (all rest : List ℕ) (t : Tree) → r.left ≡ Some all → IsFront all t rest → is_some (view_enum unit part t) ≡ true → need_enum need t ≤ r.steps → UnitFront r ⊎ PartFront r
+  of_tree : (r : Reading) (all rest : List ℕ) (t : Tree) → r.left ≡ Some all → IsFront all t rest → is_some (view_enum shape.unit shape.part t) ≡ true → need_enum shape.need t ≤ r.steps → UnitFront r ⊎ PartFront r
   of_tree r all rest (text k) l f a w = inl (record { bytes = all; name = k; rest = rest; left = l; front = f; accepted = a; step = w })
   of_tree r all rest (mapping (entry k t no_entries)) l f a w = inr (part_front r all rest k t l f a w)
   of_tree r all rest (mapping (entry k t (entry j u es))) l f a w = absurd (cc a)
@@ -146,10 +146,10 @@ module _ {V : Type 0} (unit : List ℕ → Option V) (part : List ℕ → Tree �
   of_tree r all rest (list b) l f a w = absurd (cc a)
   of_tree r all rest (link b) l f a w = absurd (cc a)
 
-  by_form : {r : Reading} → HasFront (view_enum unit part) (need_enum need) r → UnitFront r ⊎ PartFront r
+  by_form : {r : Reading} → HasFront (enum_of shape) r → UnitFront r ⊎ PartFront r
   by_form {r} h = of_tree r h.bytes h.rest h.tree h.left h.front h.accepted h.within
 
-  can_begin : {r : Reading} → HasFront (view_enum unit part) (need_enum need) r → HasStepEnum r
+  can_begin : {r : Reading} → HasFront (enum_of shape) r → HasStepEnum r
   can_begin {r} h = elim (by_form h) [
     | inl u ↦
         let f = front_first u.bytes u.rest (text u.name) u.front in
@@ -181,13 +181,13 @@ module _ {V : Type 0} (unit : List ℕ → Option V) (part : List ℕ → Tree �
         absurd (omega (arith, first, n.3))
   ]
 
-  behind : (e : BegunEnum) (old mid : Reading) → Spent e old mid → HasFront (view_enum unit part) (need_enum need) old → Behind e old mid
+  behind : (e : BegunEnum) (old mid : Reading) → Spent e old mid → HasFront (enum_of shape) old → Behind e old mid
   behind e old mid s h = elim (by_form h) [
     | inl u ↦ behind_unit e u (opened e old mid u.bytes s u.left)
     | inr p ↦ behind_part e p (opened e old mid (161 ∷ p.after_head) s p.left)
   ]
 
-  name_stands : (e : BegunEnum) {old mid : Reading} → Spent e old mid → HasFront (view_enum unit part) (need_enum need) old → HasFront view_text no_need mid
+  name_stands : (e : BegunEnum) {old mid : Reading} → Spent e old mid → HasFront (enum_of shape) old → HasFront (leaf view_text) mid
   unfolding Behind
   name_stands e {old} {mid} s h = elim (behind e old mid s h) [
     | inl u ↦ record { bytes = u.1.bytes; tree = text u.1.name; rest = u.1.rest; left = u.2; front = u.1.front; accepted = refl; within = zero-le }
@@ -195,8 +195,8 @@ module _ {V : Type 0} (unit : List ℕ → Option V) (part : List ℕ → Tree �
   ]
 
   -- a variant that was named is a unit, or what it holds stands behind its name
-  variant_stands : {e : BegunEnum} {k : List ℕ} {old now : Reading} → Named e k old now → HasFront (view_enum unit part) (need_enum need) old
-      → ((e.in_map ≡ false) × (is_some (unit k) ≡ true)) ⊎ ((e.in_map ≡ true) × HasFront (part k) (need k) now)
+  variant_stands : {e : BegunEnum} {k : List ℕ} {old now : Reading} → Named e k old now → HasFront (enum_of shape) old
+      → ((e.in_map ≡ false) × (is_some (shape.unit k) ≡ true)) ⊎ ((e.in_map ≡ true) × HasFront (part_of shape k) now)
   unfolding Behind
   variant_stands {e} {k} {old} {now} n h = elim (behind e old n.mid n.spent h) [
     | inl u ↦
@@ -204,13 +204,13 @@ module _ {V : Type 0} (unit : List ℕ → Option V) (part : List ℕ → Tree �
         let same = front_unique u.1.bytes t.1 u.1.rest t.0 (text u.1.name) t.2 u.1.front in
         let both : text k ≡ text u.1.name = sym (text_of t.0 k t.3) ∙ same.0 in
         let name : k ≡ u.1.name = cc both in
-        inl (u.0, ap (λ x. is_some (unit x)) name ∙ u.1.accepted)
+        inl (u.0, ap (λ x. is_some (shape.unit x)) name ∙ u.1.accepted)
     | inr p ↦
         let t = n.name.taken p.1.after_head p.2 in
         let same = front_unique p.1.after_head t.1 p.1.after_name t.0 (text p.1.name) t.2 p.1.name_front in
         let both : text k ≡ text p.1.name = sym (text_of t.0 k t.3) ∙ same.0 in
         let name : k ≡ p.1.name = cc both in
-        let much = ap (λ x. need x p.1.value) name in
+        let much = ap (λ x. shape.need x p.1.value) name in
         let steps = (entered e n.spent).steps in
         inr (
           p.0,
@@ -220,7 +220,7 @@ module _ {V : Type 0} (unit : List ℕ → Option V) (part : List ℕ → Tree �
             rest = p.1.rest;
             left = t.5;
             front = subst (λ x. IsFront x p.1.value p.1.rest) (sym same.1) p.1.value_front;
-            accepted = ap (λ x. is_some (part x p.1.value)) name ∙ p.1.accepted;
+            accepted = ap (λ x. is_some (shape.part x p.1.value)) name ∙ p.1.accepted;
             within = omega (arith, p.1.within, steps, n.name.same.steps, much);
           },
         )
@@ -229,13 +229,13 @@ module _ {V : Type 0} (unit : List ℕ → Option V) (part : List ℕ → Tree �
   -- ---- refusals
 
   pub not_begun : {E : Type 0} (borrows : Type 0) (name : List ℕ) (old new : Progress) (r : DecodeError E) → old.failed ≡ false → Call (SpendsEnum name) old (Err r) new
-      → Refuses (HasFront (view_enum unit part) (need_enum need) old.input) ⊤ borrows Anything old.input r new.input
+      → Refuses (HasFront (enum_of shape) old.input) ⊤ borrows Anything old.input r new.input
   not_begun {E} borrows name old new r f h = carried (StepEnumCause name) Anything old.input old.input new.input r (record { faults = refl; lends = refl }) can_begin (λ x. absurd x) (λ x. absurd x) (λ b l g. tt)
       (call_refused EnumAccessor E (SpendsEnum name) old new r f h).0
 
   -- no variant's name stood there
   pub not_named : {E : Type 0} (borrows : Type 0) (name : List ℕ) (old mid new : Progress) (a : EnumAccessor) (r : DecodeError E) → Call (SpendsEnum {E = E} name) old (Ok a) mid → Call ReadsName mid (Err r) new
-      → Refuses (HasFront (view_enum unit part) (need_enum need) old.input) ⊤ borrows Anything old.input r new.input
+      → Refuses (HasFront (enum_of shape) old.input) ⊤ borrows Anything old.input r new.input
   unfolding Spent
   not_named {E} borrows name old mid new a r h k =
       let s = answered EnumAccessor E (SpendsEnum name) old mid a h in
@@ -245,8 +245,8 @@ module _ {V : Type 0} (unit : List ℕ → Option V) (part : List ℕ → Tree �
 
   -- ---- answers
 
-  pub unit_taken : {e : BegunEnum} {k : List ℕ} {old now new : Reading} {v : V} → Named e k old now → (e.in_map ≡ false) × (new ≡ with_steps (now.steps + e.steps) now) → unit k ≡ Some v
-      → TakesFront (view_enum unit part) (need_enum need) old v new
+  pub unit_taken : {e : BegunEnum} {k : List ℕ} {old now new : Reading} {v : V} → Named e k old now → (e.in_map ≡ false) × (new ≡ with_steps (now.steps + e.steps) now) → shape.unit k ≡ Some v
+      → TakesFront (enum_of shape) old v new
   unfolding Spent
   unit_taken {e} {k} {old} {now} {new} {v} n h is =
       let i = entered e n.spent in
@@ -259,8 +259,8 @@ module _ {V : Type 0} (unit : List ℕ → Option V) (part : List ℕ → Tree �
               t.0,
               t.1,
               subst (λ x. IsFront x t.0 t.1) same t.2,
-              ap (view_enum unit part) name ∙ is,
-              omega (arith, ap (need_enum need) name, n.spent.1),
+              ap (view_enum shape.unit shape.part) name ∙ is,
+              omega (arith, ap (need_enum shape.need) name, n.spent.1),
               ap (λ (x : Reading). x.left) h.1 ∙ t.5,
             );
         same = record {
@@ -282,8 +282,8 @@ module _ {V : Type 0} (unit : List ℕ → Option V) (part : List ℕ → Tree �
         is = ap (λ h. h ++ behind) (sym one_pair) ∙ (ap (λ x. head 5 1 ++ x) inside.is ∙ sym (append_assoc (head 5 1) (entries_spelling (entry k t no_entries)) rest));
       }
 
-  pub part_taken : {e : BegunEnum} {k : List ℕ} {old now after new : Reading} {v : V} → Named e k old now → e.in_map ≡ true → TakesFront (part k) (need k) now v after → new ≡ with_steps (after.steps + e.steps) after
-      → TakesFront (view_enum unit part) (need_enum need) old v new
+  pub part_taken : {e : BegunEnum} {k : List ℕ} {old now after new : Reading} {v : V} → Named e k old now → e.in_map ≡ true → TakesFront (part_of shape k) now v after → new ≡ with_steps (after.steps + e.steps) after
+      → TakesFront (enum_of shape) old v new
   unfolding Spent
   part_taken {e} {k} {old} {now} {after} {new} {v} n m a back =
       let i = entered e n.spent in
@@ -319,144 +319,145 @@ variant_named E name old mid now a v h k e =
     let n = answered (CowStr Global × EnumAccessor) E ReadsName mid now v k in
     (n.1, record { mid = mid.input; spent = subst (λ x. Spent (begun_enum x) old.input mid.input) (sym e) s.2; name = n.2 })
 
-module _ {V : Type 0} (unit : List ℕ → Option V) (part : List ℕ → Tree → Option V) (need : List ℕ → Tree → ℕ) where
+module _ {V : Type 0} (shape : EnumShape V) where
   -- ---- the whole enum
 
-  as_variant : {e : BegunEnum} {k : List ℕ} {old now : Reading} → Named e k old now → HasFront (view_enum unit part) (need_enum need) old → HasVariant (unit k) (part k) (need k) e now
-  as_variant {e} {k} {old} {now} n h = elim (variant_stands unit part need n h) [
-    | inl u ↦ subst (λ b. MatchBool b (HasFront (part k) (need k) now) (is_some (unit k) ≡ true)) (sym u.0) u.1
-    | inr p ↦ subst (λ b. MatchBool b (HasFront (part k) (need k) now) (is_some (unit k) ≡ true)) (sym p.0) p.1
+  as_variant : {e : BegunEnum} {k : List ℕ} {old now : Reading} → Named e k old now → HasFront (enum_of shape) old → HasVariant shape k e now
+  as_variant {e} {k} {old} {now} n h = elim (variant_stands shape n h) [
+    | inl u ↦ subst (λ b. MatchBool b (HasFront (part_of shape k) now) (is_some (shape.unit k) ≡ true)) (sym u.0) u.1
+    | inr p ↦ subst (λ b. MatchBool b (HasFront (part_of shape k) now) (is_some (shape.unit k) ≡ true)) (sym p.0) p.1
   ]
 
-  enum_taken : {e : BegunEnum} {k : List ℕ} {old now new : Reading} {v : V} → Named e k old now → TakesVariant (unit k) (part k) (need k) e now v new → TakesFront (view_enum unit part) (need_enum need) old v new
+  enum_taken : {e : BegunEnum} {k : List ℕ} {old now new : Reading} {v : V} → Named e k old now → TakesVariant shape k e now v new → TakesFront (enum_of shape) old v new
   enum_taken {e} {k} {old} {now} {new} {v} n h = by e.in_map refl h
     where
-      by : (m : Bool) → e.in_map ≡ m → MatchBool m ((end : Reading) × TakesFront (part k) (need k) now v end × (new ≡ with_steps (end.steps + e.steps) end)) ((unit k ≡ Some v) × (new ≡ with_steps (now.steps + e.steps) now))
-          → TakesFront (view_enum unit part) (need_enum need) old v new
-      by true is t = part_taken unit part need n is t.1 t.2
-      by false is t = unit_taken unit part need n (is, t.1) t.0
+      by : (m : Bool) → e.in_map ≡ m → MatchBool m ((end : Reading) × TakesFront (part_of shape k) now v end × (new ≡ with_steps (end.steps + e.steps) end)) ((shape.unit k ≡ Some v) × (new ≡ with_steps (now.steps + e.steps) now))
+          → TakesFront (enum_of shape) old v new
+      by true is t = part_taken shape n is t.1 t.2
+      by false is t = unit_taken shape n (is, t.1) t.0
 
-  pub enum_read : {T E : Type 0} (held : T → V) (borrows : Bool) (name : List ℕ) (old mid now new : Progress) (a : EnumAccessor) (v : CowStr Global × EnumAccessor) (k : List ℕ) (result : Result T (DecodeError E))
+  pub enum_read : {T E : Type 0} (held : T → V) (name : List ℕ) (old mid now new : Progress) (a : EnumAccessor) (v : CowStr Global × EnumAccessor) (k : List ℕ) (result : Result T (DecodeError E))
       → Call (SpendsEnum {E = E} name) old (Ok a) mid → Call (ReadsName {E = E}) mid (Ok v) now → v.1 ≡ a → k ≡ cow_str_bytes v.0
-      → ReadsVariant held (unit k) (part k) (need k) borrows (begun_enum v.1) now result new → ReadsValue held (view_enum unit part) (need_enum need) borrows old result new
-  enum_read {T} {E} held borrows name old mid now new a v k (Ok w) h g same text_is r sound =
+      → ReadsVariant held shape k (begun_enum v.1) now result new → ReadsValue held (enum_of shape) old result new
+  enum_read {T} {E} held name old mid now new a v k (Ok w) h g same text_is r sound =
       let n = variant_named E name old mid now a v h g same in
       (r.0, enum_taken (subst (λ x. Named (begun_enum v.1) x old.input now.input) (sym text_is) n.1) r.1)
-  enum_read {T} {E} held borrows name old mid now new a v k (Err x) h g same text_is r sound =
+  enum_read {T} {E} held name old mid now new a v k (Err x) h g same text_is r sound =
       let n = variant_named E name old mid now a v h g same in
       let m = subst (λ x. Named (begun_enum v.1) x old.input now.input) (sym text_is) n.1 in
       refusal_passed new.input x m (as_variant m) (λ y. y) r
 
   -- ---- a variant that is its name alone
 
-  pub unit_read : (E : Type 0) (e : BegunEnum) (old new : Progress) {k : List ℕ} (name : List ℕ) {v : V} → k ≡ name → unit name ≡ Some v → Call (EndsUnit {E = E} e) old (Ok tt) new
-      → (new.failed ≡ false) × TakesVariant (unit k) (part k) (need k) e old.input v new.input
+  pub unit_read : (E : Type 0) (e : BegunEnum) (old new : Progress) {k : List ℕ} (name : List ℕ) {v : V} → k ≡ name → shape.unit name ≡ Some v → Call (EndsUnit {E = E} e) old (Ok tt) new
+      → (new.failed ≡ false) × TakesVariant shape k e old.input v new.input
   unit_read E e old new {k} name {v} is shows h =
       let r = answered (Unit {0}) E (EndsUnit e) old new tt h in
-      let taken : (unit k ≡ Some v) × (new.input ≡ with_steps (old.input.steps + e.steps) old.input) = (ap unit is ∙ shows, r.2.1) in (
+      let taken : (shape.unit k ≡ Some v) × (new.input ≡ with_steps (old.input.steps + e.steps) old.input) = (ap shape.unit is ∙ shows, r.2.1) in (
         r.1,
-        subst (λ b. MatchBool b ((end : Reading) × TakesFront (part k) (need k) old.input v end × (new.input ≡ with_steps (end.steps + e.steps) end)) ((unit k ≡ Some v) × (new.input ≡ with_steps (old.input.steps + e.steps) old.input))) (sym r.2.0) taken,
+        subst (λ b. MatchBool b ((end : Reading) × TakesFront (part_of shape k) old.input v end × (new.input ≡ with_steps (end.steps + e.steps) end)) ((shape.unit k ≡ Some v) × (new.input ≡ with_steps (old.input.steps + e.steps) old.input))) (sym r.2.0) taken,
       )
 
   -- it is not begun as a map
-  pub unit_refused : {E : Type 0} (borrows : Type 0) (e : BegunEnum) (old new : Progress) {k : List ℕ} (name : List ℕ) (r : DecodeError E) → k ≡ name → ((t : Tree) → part name t ≡ None) → old.failed ≡ false → Call (EndsUnit e) old (Err r) new
-      → Refuses (HasVariant (unit k) (part k) (need k) e old.input) ⊤ borrows Anything old.input r new.input
+  pub unit_refused : {E : Type 0} (borrows : Type 0) (e : BegunEnum) (old new : Progress) {k : List ℕ} (name : List ℕ) (r : DecodeError E) → k ≡ name → ((t : Tree) → shape.part name t ≡ None) → old.failed ≡ false → Call (EndsUnit e) old (Err r) new
+      → Refuses (HasVariant shape k e old.input) ⊤ borrows Anything old.input r new.input
   unit_refused {E} borrows e old new {k} name r is none f h =
       let g = call_refused (Unit {0}) E (EndsUnit e) old new r f h in
       other_form_refused borrows old.input new.input e r g.1 (ap (λ (x : Reading). x.faults) g.2)
       (λ i.
-      let p = subst (λ b. MatchBool b (HasFront (part k) (need k) old.input) (is_some (unit k) ≡ true)) g.0 i in
-      none_some (ap (λ x. part x p.tree) is ∙ none p.tree) p.accepted)
+      let p = subst (λ b. MatchBool b (HasFront (part_of shape k) old.input) (is_some (shape.unit k) ≡ true)) g.0 i in
+      none_some (ap (λ x. shape.part x p.tree) is ∙ none p.tree) p.accepted)
 
   -- no variant has the name
-  pub unknown_variant : {E : Type 0} (borrows : Type 0) (e : BegunEnum) (old : Reading) {k : List ℕ} {message : Name} (r : DecodeError E) → r ≡ Msg message → unit k ≡ None → ((t : Tree) → part k t ≡ None)
-      → Refuses (HasVariant (unit k) (part k) (need k) e old) ⊤ borrows Anything old r old
+  pub unknown_variant : {E : Type 0} (borrows : Type 0) (e : BegunEnum) (old : Reading) {k : List ℕ} {message : Name} (r : DecodeError E) → r ≡ Msg message → shape.unit k ≡ None → ((t : Tree) → shape.part k t ≡ None)
+      → Refuses (HasVariant shape k e old) ⊤ borrows Anything old r old
   unknown_variant borrows e old {k} r is none no_part = told_refused borrows old r old is refl (by e.in_map)
     where
-      by : (b : Bool) → MatchBool b (HasFront (part k) (need k) old) (is_some (unit k) ≡ true) → ⊥
+      by : (b : Bool) → MatchBool b (HasFront (part_of shape k) old) (is_some (shape.unit k) ≡ true) → ⊥
       by true h = none_some (no_part h.tree) h.accepted
       by false h = none_some none h
 
   -- ---- a variant that holds a value of another type
 
-  module _ {W : Type 0} (f : W → V) (view : Tree → Option W) (as_need : Tree → ℕ) {T : Type 0} (E : Type 0) (held : T → W) (own : Bool) where
-    pub fields_read : (e : BegunEnum) (old new : Progress) {k : List ℕ} (name : List ℕ) (w : T) → k ≡ name → ((t : Tree) → part name t ≡ option_map f (view t)) → ((t : Tree) → need name t ≡ as_need t)
-        → old.failed ≡ false → ReadsFieldsHeld {E = E} held view as_need own e old (Ok w) new
-        → (new.failed ≡ false) × TakesVariant (unit k) (part k) (need k) e old.input (f (held w)) new.input
+  module _ {W : Type 0} (f : W → V) (own : Shape Tree W) {T : Type 0} (E : Type 0) (held : T → W) where
+    pub fields_read : (e : BegunEnum) (old new : Progress) {k : List ℕ} (name : List ℕ) (w : T) → k ≡ name → ((t : Tree) → shape.part name t ≡ option_map f (own.view t)) → ((t : Tree) → shape.need name t ≡ own.need t)
+        → old.failed ≡ false → ReadsFieldsHeld {E = E} held own e old (Ok w) new
+        → (new.failed ≡ false) × TakesVariant shape k e old.input (f (held w)) new.input
     fields_read e old new {k} name w is same much sound h =
         let r = h sound in
         let taken = r.1.1 in
-        let takes = takes_as f view (part name) as_need (need name) same much taken.1 in
-        let there : (end : Reading) × TakesFront (part k) (need k) old.input (f (held w)) end × (new.input ≡ with_steps (end.steps + e.steps) end) =
-        (taken.0, subst (λ x. TakesFront (part x) (need x) old.input (f (held w)) taken.0) (sym is) takes, taken.2) in (
+        let takes = takes_as f own (part_of shape name) same much taken.1 in
+        let there : (end : Reading) × TakesFront (part_of shape k) old.input (f (held w)) end × (new.input ≡ with_steps (end.steps + e.steps) end) =
+        (taken.0, subst (λ x. TakesFront (part_of shape x) old.input (f (held w)) taken.0) (sym is) takes, taken.2) in (
           r.0,
-          subst (λ b. MatchBool b ((end : Reading) × TakesFront (part k) (need k) old.input (f (held w)) end × (new.input ≡ with_steps (end.steps + e.steps) end)) ((unit k ≡ Some (f (held w))) × (new.input ≡ with_steps (old.input.steps + e.steps) old.input))) (sym r.1.0) there,
+          subst (λ b. MatchBool b ((end : Reading) × TakesFront (part_of shape k) old.input (f (held w)) end × (new.input ≡ with_steps (end.steps + e.steps) end)) ((shape.unit k ≡ Some (f (held w))) × (new.input ≡ with_steps (old.input.steps + e.steps) old.input))) (sym r.1.0) there,
         )
 
-    pub fields_refused : (borrows : Type 0) (e : BegunEnum) (old new : Progress) {k : List ℕ} (name : List ℕ) (r : DecodeError E) → k ≡ name → unit name ≡ None → ((t : Tree) → part name t ≡ option_map f (view t)) → ((t : Tree) → need name t ≡ as_need t)
-        → (own ≡ true → borrows) → old.failed ≡ false → ReadsFieldsHeld held view as_need own e old (Err r) new
-        → Refuses (HasVariant (unit k) (part k) (need k) e old.input) ⊤ borrows Anything old.input r new.input
+    pub fields_refused : (borrows : Type 0) (e : BegunEnum) (old new : Progress) {k : List ℕ} (name : List ℕ) (r : DecodeError E) → k ≡ name → shape.unit name ≡ None → ((t : Tree) → shape.part name t ≡ option_map f (own.view t)) → ((t : Tree) → shape.need name t ≡ own.need t)
+        → (own.borrows ≡ true → borrows) → old.failed ≡ false → ReadsFieldsHeld held own e old (Err r) new
+        → Refuses (HasVariant shape k e old.input) ⊤ borrows Anything old.input r new.input
     fields_refused borrows e old new {k} name r is none same much w sound h = by e.in_map (h sound).1
       where
-        by : (m : Bool) → MatchBool m (Refuses (HasFront view as_need old.input) ⊤ (own ≡ true) Anything old.input r new.input) (IsOtherForm e r × (new.input ≡ old.input))
-            → Refuses (MatchBool m (HasFront (part k) (need k) old.input) (is_some (unit k) ≡ true)) ⊤ borrows Anything old.input r new.input
+        by : (m : Bool) → MatchBool m (Refuses (HasFront own old.input) ⊤ (own.borrows ≡ true) Anything old.input r new.input) (IsOtherForm e r × (new.input ≡ old.input))
+            → Refuses (MatchBool m (HasFront (part_of shape k) old.input) (is_some (shape.unit k) ≡ true)) ⊤ borrows Anything old.input r new.input
         by true g = carried Anything Anything old.input old.input new.input r (record { faults = refl; lends = refl })
-            (λ i. front_as f view (part name) as_need (need name) same much (subst (λ x. HasFront (part x) (need x) old.input) is i)) (λ x. x) w (λ b l x. tt) g
-        by false g = other_form_refused borrows old.input new.input e r g.0 (ap (λ (x : Reading). x.faults) g.1) (λ i. none_some (ap unit is ∙ none) i)
+            (λ i. front_as f own (part_of shape name) same much (subst (λ x. HasFront (part_of shape x) old.input) is i)) (λ x. x) w (λ b l x. tt) g
+        by false g = other_form_refused borrows old.input new.input e r g.0 (ap (λ (x : Reading). x.faults) g.1) (λ i. none_some (ap shape.unit is ∙ none) i)
 
     -- by a call of the accessor
-    called : (e : BegunEnum) (old new : Progress) (r : Result T (DecodeError E)) → Call (ReadsHeld held view as_need own e) old r new → ReadsFieldsHeld held view as_need own e old r new
-    called e old new (Ok w) h sound = let r = answered T E (ReadsHeld held view as_need own e) old new w h in (r.1, r.2)
-    called e old new (Err x) h sound = (tt, call_refused T E (ReadsHeld held view as_need own e) old new x sound h)
+    called : (e : BegunEnum) (old new : Progress) (r : Result T (DecodeError E)) → Call (ReadsHeld held own e) old r new → ReadsFieldsHeld held own e old r new
+    called e old new (Ok w) h sound = let r = answered T E (ReadsHeld held own e) old new w h in (r.1, r.2)
+    called e old new (Err x) h sound = (tt, call_refused T E (ReadsHeld held own e) old new x sound h)
 
-    pub held_read : (e : BegunEnum) (old new : Progress) {k : List ℕ} (name : List ℕ) (w : T) → k ≡ name → ((t : Tree) → part name t ≡ option_map f (view t)) → ((t : Tree) → need name t ≡ as_need t)
-        → old.failed ≡ false → Call (ReadsHeld {E = E} held view as_need own e) old (Ok w) new
-        → (new.failed ≡ false) × TakesVariant (unit k) (part k) (need k) e old.input (f (held w)) new.input
+    pub held_read : (e : BegunEnum) (old new : Progress) {k : List ℕ} (name : List ℕ) (w : T) → k ≡ name → ((t : Tree) → shape.part name t ≡ option_map f (own.view t)) → ((t : Tree) → shape.need name t ≡ own.need t)
+        → old.failed ≡ false → Call (ReadsHeld {E = E} held own e) old (Ok w) new
+        → (new.failed ≡ false) × TakesVariant shape k e old.input (f (held w)) new.input
     held_read e old new name w is same much sound h = fields_read e old new name w is same much sound (called e old new (Ok w) h)
 
-    pub held_refused : (borrows : Type 0) (e : BegunEnum) (old new : Progress) {k : List ℕ} (name : List ℕ) (r : DecodeError E) → k ≡ name → unit name ≡ None → ((t : Tree) → part name t ≡ option_map f (view t)) → ((t : Tree) → need name t ≡ as_need t)
-        → (own ≡ true → borrows) → old.failed ≡ false → Call (ReadsHeld held view as_need own e) old (Err r) new
-        → Refuses (HasVariant (unit k) (part k) (need k) e old.input) ⊤ borrows Anything old.input r new.input
+    pub held_refused : (borrows : Type 0) (e : BegunEnum) (old new : Progress) {k : List ℕ} (name : List ℕ) (r : DecodeError E) → k ≡ name → shape.unit name ≡ None → ((t : Tree) → shape.part name t ≡ option_map f (own.view t)) → ((t : Tree) → shape.need name t ≡ own.need t)
+        → (own.borrows ≡ true → borrows) → old.failed ≡ false → Call (ReadsHeld held own e) old (Err r) new
+        → Refuses (HasVariant shape k e old.input) ⊤ borrows Anything old.input r new.input
     held_refused borrows e old new name r is none same much w sound h = fields_refused borrows e old new name r is none same much w sound (called e old new (Err r) h)
 
 -- ---- the fields that a variant holds make a value, as a struct's do
 
-module _ {S W : Type 0} (take : S → List ℕ → Tree → Option S) (need : List ℕ → Tree → ℕ) (start : S) (finish : S → Option W) {T : Type 0} (E : Type 0) (held : T → S) (own : Bool) (e : BegunEnum) (old new : Progress) where
-  pub held_finished : (s : T) {w : W} → finish (held s) ≡ Some w → ReadsFieldsHeld {E = E} held (view_fields take start) (need_fields need) own e old (Ok s) new
-      → ReadsFieldsHeld {E = E} (λ (s : T). w) (view_struct take start finish) (need_fields need) own e old (Ok s) new
+module _ {S W : Type 0} (fields : FieldShape S) (start : S) (finish : S → Option W) {T : Type 0} (E : Type 0) (held : T → S) (e : BegunEnum) (old new : Progress) where
+  pub held_finished : (s : T) {w : W} → finish (held s) ≡ Some w → ReadsFieldsHeld {E = E} held (fields_of fields start) e old (Ok s) new
+      → ReadsFieldsHeld {E = E} (λ (s : T). w) (struct_of fields start finish) e old (Ok s) new
   held_finished s is h sound =
       let r = h sound in
-      let f = finished (view_fields take start) (need_fields need) finish (λ (u : Unit {0}). (r.0, r.1.1.1)) is tt in
+      let f = finished (fields_of fields start) finish (λ (u : Unit {0}). (r.0, r.1.1.1)) is tt in
       (r.0, (r.1.0, (r.1.1.0, f.1, r.1.1.2)))
 
   -- a field that must be there was not there
-  pub held_unfinished : (s : T) (r : DecodeError E) (message : Name) → r ≡ Msg message → finish (held s) ≡ None → ReadsFieldsHeld {E = E} held (view_fields take start) (need_fields need) own e old (Ok s) new
-      → ReadsFieldsHeld {T = W} (λ w. w) (view_struct take start finish) (need_fields need) own e old (Err r) new
+  pub held_unfinished : (s : T) (r : DecodeError E) (message : Name) → r ≡ Msg message → finish (held s) ≡ None → ReadsFieldsHeld {E = E} held (fields_of fields start) e old (Ok s) new
+      → ReadsFieldsHeld {T = W} (λ w. w) (struct_of fields start finish) e old (Err r) new
   held_unfinished s r message is none h sound =
       let k = h sound in
       let end = k.1.1.0 in
       let same : new.input.faults ≡ end.faults = ap (λ (x : Reading). x.faults) k.1.1.2 in
-      let u = unfinished (view_fields take start) (need_fields need) finish (own ≡ true) (message, is) none (λ (u : Unit {0}). (k.0, k.1.1.1)) tt in
-      let moved : Refuses (HasFront (view_struct take start finish) (need_fields need) old.input) ⊤ (own ≡ true) Anything old.input r new.input =
-      told_refused (own ≡ true) old.input r new.input is (same ∙ k.1.1.1.same.faults)
-      (subst (λ x. Refuses {E = E} (HasFront (view_struct take start finish) (need_fields need) old.input) ⊤ (own ≡ true) Anything old.input x end) is u).1 in
-      (tt, subst (λ b. MatchBool b (Refuses (HasFront (view_struct take start finish) (need_fields need) old.input) ⊤ (own ≡ true) Anything old.input r new.input) (IsOtherForm e r × (new.input ≡ old.input))) (sym k.1.0) moved)
+      let u = unfinished (fields_of fields start) finish (fields.borrows ≡ true) (message, is) none (λ (u : Unit {0}). (k.0, k.1.1.1)) tt in
+      let moved : Refuses (HasFront (struct_of fields start finish) old.input) ⊤ (fields.borrows ≡ true) Anything old.input r new.input =
+      told_refused (fields.borrows ≡ true) old.input r new.input is (same ∙ k.1.1.1.same.faults)
+      (subst (λ x. Refuses {E = E} (HasFront (struct_of fields start finish) old.input) ⊤ (fields.borrows ≡ true) Anything old.input x end) is u).1 in
+      (tt, subst (λ b. MatchBool b (Refuses (HasFront (struct_of fields start finish) old.input) ⊤ (fields.borrows ≡ true) Anything old.input r new.input) (IsOtherForm e r × (new.input ≡ old.input))) (sym k.1.0) moved)
 
   -- the fields were refused
-  pub held_not_read : (r : DecodeError E) → ReadsFieldsHeld held (view_fields take start) (need_fields need) own e old (Err r) new
-      → ReadsFieldsHeld {T = W} (λ w. w) (view_struct take start finish) (need_fields need) own e old (Err r) new
+  pub held_not_read : (r : DecodeError E) → ReadsFieldsHeld held (fields_of fields start) e old (Err r) new
+      → ReadsFieldsHeld {T = W} (λ w. w) (struct_of fields start finish) e old (Err r) new
   held_not_read r h sound = (tt, by e.in_map (h sound).1)
     where
-      by : (m : Bool) → MatchBool m (Refuses (HasFront (view_fields take start) (need_fields need) old.input) ⊤ (own ≡ true) Anything old.input r new.input) (IsOtherForm e r × (new.input ≡ old.input))
-          → MatchBool m (Refuses (HasFront (view_struct take start finish) (need_fields need) old.input) ⊤ (own ≡ true) Anything old.input r new.input) (IsOtherForm e r × (new.input ≡ old.input))
-      by true g = not_read (view_fields take start) (need_fields need) finish (own ≡ true) old.input new.input r (λ (u : Unit {0}). g) tt
+      by : (m : Bool) → MatchBool m (Refuses (HasFront (fields_of fields start) old.input) ⊤ (fields.borrows ≡ true) Anything old.input r new.input) (IsOtherForm e r × (new.input ≡ old.input))
+          → MatchBool m (Refuses (HasFront (struct_of fields start finish) old.input) ⊤ (fields.borrows ≡ true) Anything old.input r new.input) (IsOtherForm e r × (new.input ≡ old.input))
+      by true g = not_read (fields_of fields start) finish (fields.borrows ≡ true) old.input new.input r (λ (u : Unit {0}). g) tt
       by false g = g
 
 -- a field that must be there was not among those that the variant holds
-pub field_missing : {V W S T : Type 0} (unit : List ℕ → Option V) (part : List ℕ → Tree → Option V) (need : List ℕ → Tree → ℕ) (f : W → V) (take : S → List ℕ → Tree → Option S) (as_need : List ℕ → Tree → ℕ) (start : S) (finish : S → Option W) (E : Type 0) (held : T → S) (own : Bool) (borrows : Type 0)
+pub field_missing : {V W S T : Type 0} (shape : EnumShape V) (f : W → V) (fields : FieldShape S) (start : S) (finish : S → Option W) (E : Type 0) (held : T → S) (borrows : Type 0)
     (e : BegunEnum) (old new : Progress) {k : List ℕ} (name : List ℕ) (s : T) (r : DecodeError E) (message : Name)
-    → k ≡ name → unit name ≡ None → ((t : Tree) → part name t ≡ option_map f (view_struct take start finish t)) → ((t : Tree) → need name t ≡ need_fields as_need t) → (own ≡ true → borrows) → old.failed ≡ false
-    → r ≡ Msg message → finish (held s) ≡ None → ReadsFieldsHeld {E = E} held (view_fields take start) (need_fields as_need) own e old (Ok s) new
-    → Refuses (HasVariant (unit k) (part k) (need k) e old.input) ⊤ borrows Anything old.input r new.input
-field_missing {V} {W} unit part need f take as_need start finish E held own borrows e old new name s r message is none same much w sound told missing h =
-    fields_refused unit part need f (view_struct take start finish) (need_fields as_need) {T = W} E (λ w. w) own borrows e old new name r is none same much w sound (held_unfinished take as_need start finish E held own e old new s r message told missing h)
+    → k ≡ name → shape.unit name ≡ None → ((t : Tree) → shape.part name t ≡ option_map f ((struct_of fields start finish).view t)) → ((t : Tree) → shape.need name t ≡ need_fields fields.need t)
+    → (fields.borrows ≡ true → borrows) → old.failed ≡ false
+    → r ≡ Msg message → finish (held s) ≡ None → ReadsFieldsHeld {E = E} held (fields_of fields start) e old (Ok s) new
+    → Refuses (HasVariant shape k e old.input) ⊤ borrows Anything old.input r new.input
+field_missing {V} {W} shape f fields start finish E held borrows e old new name s r message is none same much w sound told missing h =
+    fields_refused shape f (struct_of fields start finish) {T = W} E (λ w. w) borrows e old new name r is none same much w sound (held_unfinished fields start finish E held e old new s r message told missing h)

@@ -11,24 +11,24 @@ use Rattle.dagcbor_heads.proofs.Refusing.{passed_on}
 use Rattle.ipld_tree.specs.Tree.{Tree, null, boolean, integer, text, bytes, list, mapping, link}
 use Rattle.ipld_tree.specs.Spelling.{spelling, IsFront}
 use Rattle.dagcbor_items.specs.Reads.{HasFront, TakesFront, Anything}
-use Rattle.dagcbor_items.specs.Views.{view_option, need_option}
+use Rattle.dagcbor_items.specs.Shapes.{view_option, need_option, Shape, option_of}
 use Rattle.dagcbor_read.specs.Parts.{CanEnter, EntersSome, OptionCause}
 use Rattle.dagcbor_items.proofs.SimpleValues.{front_byte}
 
 -- the view and the need of another tree than null
-pub record IsPart {V : Type 0} (view : Tree → Option V) (need : Tree → ℕ) (t : Tree) : Type 0 where
-  pub shown : view_option view t ≡ option_map Some (view t)
-  pub needed : need_option need t ≡ 1 + need t
+pub record IsPart {V : Type 0} (shape : Shape Tree V) (t : Tree) : Type 0 where
+  pub shown : view_option shape.view t ≡ option_map Some (shape.view t)
+  pub needed : need_option shape.need t ≡ 1 + shape.need t
 
-is_part : {V : Type 0} (view : Tree → Option V) (need : Tree → ℕ) (t : Tree) → (t ≡ null → ⊥) → IsPart view need t
-is_part view need null h = absurd (h refl)
-is_part view need (boolean b) h = record { shown = refl; needed = refl }
-is_part view need (integer b) h = record { shown = refl; needed = refl }
-is_part view need (text b) h = record { shown = refl; needed = refl }
-is_part view need (bytes b) h = record { shown = refl; needed = refl }
-is_part view need (list b) h = record { shown = refl; needed = refl }
-is_part view need (mapping b) h = record { shown = refl; needed = refl }
-is_part view need (link b) h = record { shown = refl; needed = refl }
+is_part : {V : Type 0} (shape : Shape Tree V) (t : Tree) → (t ≡ null → ⊥) → IsPart shape t
+is_part shape null h = absurd (h refl)
+is_part shape (boolean b) h = record { shown = refl; needed = refl }
+is_part shape (integer b) h = record { shown = refl; needed = refl }
+is_part shape (text b) h = record { shown = refl; needed = refl }
+is_part shape (bytes b) h = record { shown = refl; needed = refl }
+is_part shape (list b) h = record { shown = refl; needed = refl }
+is_part shape (mapping b) h = record { shown = refl; needed = refl }
+is_part shape (link b) h = record { shown = refl; needed = refl }
 
 -- a null, or another tree
 is_null_or : (t : Tree) → (t ≡ null) ⊎ (t ≡ null → ⊥)
@@ -42,8 +42,8 @@ is_null_or (mapping b) = inr (λ e. absurd (cc e))
 is_null_or (link b) = inr (λ e. absurd (cc e))
 
 -- a value stands there, so a null or a step
-pub can_enter : {V : Type 0} (view : Tree → Option V) (need : Tree → ℕ) (r : Reading) → HasFront (view_option view) (need_option need) r → CanEnter r
-can_enter view need r h =
+pub can_enter : {V : Type 0} (shape : Shape Tree V) (r : Reading) → HasFront (option_of shape) r → CanEnter r
+can_enter shape r h =
     let f = front_byte h in
     record {
       byte = f.byte;
@@ -51,19 +51,19 @@ can_enter view need r h =
       left = f.left;
       room = elim (is_null_or h.tree) [
         | inl e ↦ inl (null_first h.bytes h.rest h.tree f.byte f.rest h.front e (cc (sym h.left ∙ f.left)))
-        | inr e ↦ let p = is_part view need h.tree e in inr (omega (arith, h.within, p.needed))
+        | inr e ↦ let p = is_part shape h.tree e in inr (omega (arith, h.within, p.needed))
       ];
     }
   where
     null_first : (b rest : List ℕ) (t : Tree) (byte : ℕ) (more : List ℕ) → IsFront b t rest → t ≡ null → b ≡ byte ∷ more → byte ≡ 0xf6
     null_first b rest t byte more f e s = let is : byte ∷ more ≡ 0xf6 ∷ rest = sym s ∙ f.is ∙ ap (λ u. spelling u ++ rest) e in cc is
 
-pub not_entered : {V E : Type 0} (view : Tree → Option V) (need : Tree → ℕ) (borrows : Type 0) (old new : Reading) (e : DecodeError E) → Refuses (CanEnter old) ⊥ ⊥ OptionCause old e new
-    → Refuses (HasFront (view_option view) (need_option need) old) ⊤ borrows Anything old e new
-not_entered view need borrows old new e r = passed_on OptionCause Anything old old new e (stays old) (can_enter view need old) (λ x. absurd x) (λ x. absurd x) (λ b l. (b, l, λ h. tt)) r
+pub not_entered : {V E : Type 0} (shape : Shape Tree V) (borrows : Type 0) (old new : Reading) (e : DecodeError E) → Refuses (CanEnter old) ⊥ ⊥ OptionCause old e new
+    → Refuses (HasFront (option_of shape) old) ⊤ borrows Anything old e new
+not_entered shape borrows old new e r = passed_on OptionCause Anything old old new e (stays old) (can_enter shape old) (λ x. absurd x) (λ x. absurd x) (λ b l. (b, l, λ h. tt)) r
 
-pub null_entered : {V : Type 0} (view : Tree → Option V) (need : Tree → ℕ) {old new : Reading} → Takes old (0xf6 ∷ []) new → TakesFront (view_option view) (need_option need) old None new
-null_entered view need {old} {new} h = record {
+pub null_entered : {V : Type 0} (shape : Shape Tree V) {old new : Reading} → Takes old (0xf6 ∷ []) new → TakesFront (option_of shape) old None new
+null_entered shape {old} {new} h = record {
   taken = λ b l. let k = h.taken b l in (null, k.0, record { well_formed = tt; spellable = tt; is = k.1 }, refl, zero-le, k.2);
   same = h.same;
 }
@@ -75,12 +75,12 @@ no_null b rest t h l f e =
     let is : k.0 ∷ k.1 ≡ 0xf6 ∷ rest = sym k.2 ∙ f.is ∙ ap (λ u. spelling u ++ rest) e in
     k.3 (cc is)
 
-pub some_entered : {V : Type 0} (view : Tree → Option V) (need : Tree → ℕ) {old mid now new : Reading} (v : V) → EntersSome old mid → TakesFront view need mid v now → new ≡ with_steps (now.steps + 1) now
-    → TakesFront (view_option view) (need_option need) old (Some v) new
-some_entered view need {old} {mid} {now} {new} v h a back = record {
+pub some_entered : {V : Type 0} (shape : Shape Tree V) {old mid now new : Reading} (v : V) → EntersSome old mid → TakesFront shape mid v now → new ≡ with_steps (now.steps + 1) now
+    → TakesFront (option_of shape) old (Some v) new
+some_entered shape {old} {mid} {now} {new} v h a back = record {
   taken = λ b l.
       let k = a.taken b (h.kept b l) in
-      let p = is_part view need k.0 (no_null b k.1 k.0 h l k.2) in
+      let p = is_part shape k.0 (no_null b k.1 k.0 h l k.2) in
       (k.0, k.1, k.2, p.shown ∙ ap (option_map Some) k.3, omega (arith, k.4, p.needed, h.steps), ap (λ (r : Reading). r.left) back ∙ k.5);
   same = record {
     steps = omega (arith, ap (λ (r : Reading). r.steps) back, a.same.steps, h.steps);
@@ -92,16 +92,16 @@ some_entered view need {old} {mid} {now} {new} v h a back = record {
 }
 
 -- the part stands behind the step
-part_stands : {V : Type 0} (view : Tree → Option V) (need : Tree → ℕ) {old mid : Reading} → EntersSome old mid → HasFront (view_option view) (need_option need) old → HasFront view need mid
-part_stands view need {old} {mid} h i =
-    let p = is_part view need i.tree (no_null i.bytes i.rest i.tree h i.left i.front) in
+part_stands : {V : Type 0} (shape : Shape Tree V) {old mid : Reading} → EntersSome old mid → HasFront (option_of shape) old → HasFront shape mid
+part_stands shape {old} {mid} h i =
+    let p = is_part shape i.tree (no_null i.bytes i.rest i.tree h i.left i.front) in
     record {
       bytes = i.bytes;
       tree = i.tree;
       rest = i.rest;
       left = h.kept i.bytes i.left;
       front = i.front;
-      accepted = some_of (view i.tree) (ap is_some (sym p.shown) ∙ i.accepted);
+      accepted = some_of (shape.view i.tree) (ap is_some (sym p.shown) ∙ i.accepted);
       within = omega (arith, i.within, p.needed, h.steps);
     }
   where
@@ -118,6 +118,6 @@ part_refused borrows old mid new Failed f l c r = r
 part_refused borrows old mid new (DepthOverflow n) f l c r = (r.0 ∙ f, λ x. r.1 (c x), λ b s. tt, r.3)
 part_refused borrows old mid new _ f l c r = (r.0 ∙ f, λ x. r.1 (c x), λ b s. tt)
 
-pub some_refused : {V E : Type 0} (view : Tree → Option V) (need : Tree → ℕ) (borrows : Type 0) {old mid : Reading} (new : Reading) (e : DecodeError E) → EntersSome old mid → Refuses (HasFront view need mid) ⊤ borrows Anything mid e new
-    → Refuses (HasFront (view_option view) (need_option need) old) ⊤ borrows Anything old e new
-some_refused view need borrows {old} {mid} new e h r = part_refused borrows old mid new e h.faults h.lends (part_stands view need h) r
+pub some_refused : {V E : Type 0} (shape : Shape Tree V) (borrows : Type 0) {old mid : Reading} (new : Reading) (e : DecodeError E) → EntersSome old mid → Refuses (HasFront shape mid) ⊤ borrows Anything mid e new
+    → Refuses (HasFront (option_of shape) old) ⊤ borrows Anything old e new
+some_refused shape borrows {old} {mid} new e h r = part_refused borrows old mid new e h.faults h.lends (part_stands shape h) r

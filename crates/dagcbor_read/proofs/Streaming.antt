@@ -10,6 +10,7 @@ use Rattle.dagcbor_items.proofs.Fronts.{shorter}
 use Rattle.dagcbor_read.specs.Calls.{Progress, Call}
 use Rattle.dagcbor_read.specs.Streams.{Streaming, ReadsNext, as_answer, GivesNext, items_left_of, items_left, IsNextValue, AreStreamItems}
 use Rattle.dagcbor_read.proofs.Progressing.{call_answered}
+use Rattle.dagcbor_items.specs.Shapes.{Shape}
 
 -- ---- a stream ends
 
@@ -36,17 +37,17 @@ pub goes_on : (A P Q : Type 0) (done : Bool) (r : A) → MatchBool done ((Some r
 goes_on A P Q true r h = let e = h.0 in absurd (cc e)
 goes_on A P Q false r h = (refl, h)
 
-module _ (E : Type 0) {T V : Type 0} (held : T → V) (view : Tree → Option V) (need : Tree → ℕ) (borrows : Bool) where
+module _ (E : Type 0) {T V : Type 0} (held : T → V) (shape : Shape Tree V) where
   abbrev Reads : Progress → Result (Option T) (DecodeError E) → Progress → Type 0
-  Reads = Call (ReadsNext {E = E} held view need borrows)
+  Reads = Call (ReadsNext {E = E} held shape)
 
   abbrev Gives : Streaming → Option (Result T (DecodeError E)) → Streaming → Type 0
-  Gives = GivesNext {E = E} held view need borrows
+  Gives = GivesNext {E = E} held shape
 
   -- a value leaves fewer bytes, and known bytes stay known
   value_left : (b : List ℕ) (old new : Progress) (v : T) → old.input.left ≡ Some b → Reads old (Ok (Some v)) new → (rest : List ℕ) × (new.input.left ≡ Some rest) × (length rest < length b)
   value_left b old new v l h =
-      let a = call_answered (ReadsNext {E = E} held view need borrows) old new (Some v) h in
+      let a = call_answered (ReadsNext {E = E} held shape) old new (Some v) h in
       let taken = a.2.taken b l in
       (taken.1, taken.5, shorter b taken.1 taken.0 taken.2)
 
@@ -76,20 +77,20 @@ module _ (E : Type 0) {T V : Type 0} (held : T → V) (view : Tree → Option V)
 
 -- ---- the stream of a type on bytes
 
-module _ {V : Type 0} (view : Tree → Option V) (need : Tree → ℕ) (steps : ℕ) where
+module _ {V : Type 0} (shape : Shape Tree V) (steps : ℕ) where
   -- two fronts of the same bytes show the same value and leave the same rest
-  pub same_value : (b : List ℕ) (v w : V) (rest others : List ℕ) → IsNextValue view need steps b v rest → IsNextValue view need steps b w others → (Some v ≡ Some w) × (rest ≡ others)
+  pub same_value : (b : List ℕ) (v w : V) (rest others : List ℕ) → IsNextValue shape steps b v rest → IsNextValue shape steps b w others → (Some v ≡ Some w) × (rest ≡ others)
   same_value b v w rest others h k =
       let same = front_unique b rest others h.0 k.0 h.1 k.1 in
-      (sym h.2 ∙ ap view same.0 ∙ k.2, same.1)
+      (sym h.2 ∙ ap shape.view same.0 ∙ k.2, same.1)
 
-  pub no_value_of_none : (b rest : List ℕ) (v : V) → b ≡ [] → IsNextValue view need steps b v rest → ⊥
+  pub no_value_of_none : (b rest : List ℕ) (v : V) → b ≡ [] → IsNextValue shape steps b v rest → ⊥
   no_value_of_none b rest v e h = front_nonempty rest h.0 (subst (λ x. IsFront x h.0 rest) e h.1)
 
   pub some_of_none : (b : List ℕ) → b ≡ [] → 0 < length b → ⊥
   some_of_none b e some = omega (arith, ap length e, some)
 
-  pub unique : (b : List ℕ) (items others : List (Option V)) → AreStreamItems view need steps b items → AreStreamItems view need steps b others → items ≡ others
+  pub unique : (b : List ℕ) (items others : List (Option V)) → AreStreamItems shape steps b items → AreStreamItems shape steps b others → items ≡ others
   unique b [] [] h k = refl
   unique b [] (Some w ∷ others) h k = absurd (no_value_of_none b k.0 w h k.1)
   unique b [] (None ∷ others) h k = absurd (some_of_none b h k.1)
@@ -97,7 +98,7 @@ module _ {V : Type 0} (view : Tree → Option V) (need : Tree → ℕ) (steps : 
   unique b (Some v ∷ items) (None ∷ others) h k = absurd (k.2 v h.0 h.1)
   unique b (Some v ∷ items) (Some w ∷ others) h k =
       let same = same_value b v w h.0 k.0 h.1 k.1 in
-      let more = unique h.0 items others h.2 (subst (λ x. AreStreamItems view need steps x others) (sym same.1) k.2) in
+      let more = unique h.0 items others h.2 (subst (λ x. AreStreamItems shape steps x others) (sym same.1) k.2) in
       ap (λ x. x ∷ items) same.0 ∙ ap (λ x. Some w ∷ x) more
   unique b (None ∷ items) [] h k = absurd (some_of_none b k h.1)
   unique b (None ∷ items) (Some w ∷ others) h k = absurd (h.2 w k.0 k.1)

@@ -22,6 +22,7 @@ use Rattle.dagcbor_read.proofs.Progressing.{match_false}
 use Rattle.dagcbor_items.specs.Reads.{HasFront, TakesFront, Anything}
 use Rattle.dagcbor_read.specs.Values.{ReadsValue}
 use Rattle.dagcbor_read.specs.Whole.{IsBlock, SliceRefused, IsWhole, WholeRefused, IsFirst, FirstRefused, ReadsFirst}
+use Rattle.dagcbor_items.specs.Shapes.{Shape}
 
 pub whole_front : {b : List ℕ} {t : Tree} → IsSpelling b t → IsFront b t []
 whole_front {b} {t} h = record { well_formed = h.well_formed; spellable = h.spellable; is = h.is ∙ sym (append-nil (spelling t)) }
@@ -95,68 +96,68 @@ if_known : (left : Option (List ℕ)) (P : List ℕ → Type 0) → ((b : List �
 if_known None P f = tt
 if_known (Some b) P f = f b refl
 
-module _ {V : Type 0} (view : Tree → Option V) (need : Tree → ℕ) where
-  first_front : (r : Reading) (b : List ℕ) (v : V) (rest : List ℕ) → r.left ≡ Some b → r.steps ≡ 256 → IsFirst view need b v rest → HasFront view need r
+module _ {V : Type 0} (shape : Shape Tree V) where
+  first_front : (r : Reading) (b : List ℕ) (v : V) (rest : List ℕ) → r.left ≡ Some b → r.steps ≡ 256 → IsFirst shape b v rest → HasFront shape r
   first_front r b v rest l s h = record { bytes = b; tree = h.0; rest = rest; left = l; front = h.1; accepted = ap is_some h.2; within = omega (arith, h.3, s) }
 
-  whole_of_front : (r : Reading) (b : List ℕ) (v : V) → r.left ≡ Some b → r.steps ≡ 256 → IsWhole view need b v → HasFront view need r
+  whole_of_front : (r : Reading) (b : List ℕ) (v : V) → r.left ≡ Some b → r.steps ≡ 256 → IsWhole shape b v → HasFront shape r
   whole_of_front r b v l s h = first_front r b v [] l s (h.0, whole_front h.1, h.2, h.3)
 
-  no_whole : (b rest : List ℕ) (t : Tree) → IsFront b t rest → 0 < length rest → (v : V) → IsWhole view need b v → ⊥
+  no_whole : (b rest : List ℕ) (t : Tree) → IsFront b t rest → 0 < length rest → (v : V) → IsWhole shape b v → ⊥
   no_whole b rest t f some v h = omega (arith, some, ap length (front_unique b rest [] t h.0 f (whole_front h.1)).1)
 
-  value_trailing : {old mid new : Reading} (b : List ℕ) (v : V) (byte : ℕ) → old.left ≡ Some b → TakesFront view need old v mid → ShowsByte mid byte new → (w : V) → IsWhole view need b w → ⊥
+  value_trailing : {old mid new : Reading} (b : List ℕ) (v : V) (byte : ℕ) → old.left ≡ Some b → TakesFront shape old v mid → ShowsByte mid byte new → (w : V) → IsWhole shape b w → ⊥
   value_trailing b v byte l a h =
       let k = a.taken b l in
       let s = h.starts k.1 k.5 in
       let some : 0 < length k.1 = omega (arith, ap length s.1) in
       no_whole b k.1 k.0 k.2 some
 
-  value_whole : (b : List ℕ) (v : V) (rest : List ℕ) (t : Tree) → IsFront b t rest → view t ≡ Some v → need t ≤ 256 → rest ≡ [] → IsWhole view need b v
+  value_whole : (b : List ℕ) (v : V) (rest : List ℕ) (t : Tree) → IsFront b t rest → shape.view t ≡ Some v → shape.need t ≤ 256 → rest ≡ [] → IsWhole shape b v
   value_whole b v rest t f e n none = (t, record { well_formed = f.well_formed; spellable = f.spellable; is = f.is ∙ ap (λ x. spelling t ++ x) none ∙ append-nil (spelling t) }, e, n)
 
   -- a value was read, and then the end was found
   pub value_answered : (E : Type 0) (left : Option (List ℕ)) (start : Reading) (mid end : Progress) (v : V) → start.left ≡ left → start.steps ≡ 256
-      → (mid.failed ≡ false) × TakesFront view need start v mid.input → Ends {E = E} mid (Ok tt) end → IfSome left (λ b. IsWhole view need b v)
-  value_answered E left start mid end v at s h k = if_known left (λ b. IsWhole view need b v) (λ b l.
+      → (mid.failed ≡ false) × TakesFront shape start v mid.input → Ends {E = E} mid (Ok tt) end → IfSome left (λ b. IsWhole shape b v)
+  value_answered E left start mid end v at s h k = if_known left (λ b. IsWhole shape b v) (λ b l.
       let taken = h.1.taken b (at ∙ l) in
       let found = match_false mid.failed _ _ h.0 k in
       value_whole b v taken.1 taken.0 taken.2 taken.3 (omega (arith, taken.4, s)) (found.1.none_left taken.1 taken.5))
 
-  first_refused : {E : Type 0} (borrows : Bool) (left : Option (List ℕ)) (old new : Reading) (e : DecodeError E) → old.left ≡ left → old.steps ≡ 256 → borrows ≡ false
-      → Refuses (HasFront view need old) ⊤ (borrows ≡ true) Anything old e new → FirstRefused view need left e
-  first_refused borrows left old new (Read x) at s o r = tt
-  first_refused borrows left old new OutOfMemory at s o r = tt
-  first_refused borrows left old new (RequireBorrowed name) at s o r = let differ = sym o ∙ r.1 in cc
-  first_refused borrows left old new Failed at s o r = r
-  first_refused borrows left old new (DepthOverflow name) at s o r = if_known left _ (λ b l v rest h. r.1 (first_front old b v rest (at ∙ l) s h))
-  first_refused borrows left old new _ at s o r = if_known left _ (λ b l v rest h. r.1 (first_front old b v rest (at ∙ l) s h))
+  first_refused : {E : Type 0} (left : Option (List ℕ)) (old new : Reading) (e : DecodeError E) → old.left ≡ left → old.steps ≡ 256 → shape.borrows ≡ false
+      → Refuses (HasFront shape old) ⊤ (shape.borrows ≡ true) Anything old e new → FirstRefused shape left e
+  first_refused left old new (Read x) at s o r = tt
+  first_refused left old new OutOfMemory at s o r = tt
+  first_refused left old new (RequireBorrowed name) at s o r = let differ = sym o ∙ r.1 in cc
+  first_refused left old new Failed at s o r = r
+  first_refused left old new (DepthOverflow name) at s o r = if_known left _ (λ b l v rest h. r.1 (first_front old b v rest (at ∙ l) s h))
+  first_refused left old new _ at s o r = if_known left _ (λ b l v rest h. r.1 (first_front old b v rest (at ∙ l) s h))
 
   -- a value that borrows nothing was read, or refused; after an answer what the reader has left is what the source has
-  pub first_read : {T E : Type 0} (held : T → V) (borrows : Bool) (left after : Option (List ℕ)) (start mid : Progress) (r : Result T (DecodeError E))
-      → start.failed ≡ false → start.input.left ≡ left → start.input.steps ≡ 256 → borrows ≡ false → ReadsValue held view need borrows start r mid
-      → (Stays start.input mid.input → (b : List ℕ) → mid.input.left ≡ Some b → after ≡ Some b) → ReadsFirst held view need left r after
-  first_read held borrows left after start mid (Ok v) sound at s o h f = if_known left _ (λ b l.
+  pub first_read : {T E : Type 0} (held : T → V) (left after : Option (List ℕ)) (start mid : Progress) (r : Result T (DecodeError E))
+      → start.failed ≡ false → start.input.left ≡ left → start.input.steps ≡ 256 → shape.borrows ≡ false → ReadsValue held shape start r mid
+      → (Stays start.input mid.input → (b : List ℕ) → mid.input.left ≡ Some b → after ≡ Some b) → ReadsFirst held shape left r after
+  first_read held left after start mid (Ok v) sound at s o h f = if_known left _ (λ b l.
       let front = (h sound).1 in
       let taken = front.taken b (at ∙ l) in
       (taken.1, (taken.0, taken.2, taken.3, omega (arith, taken.4, s)), f front.same taken.1 taken.5))
-  first_read held borrows left after start mid (Err e) sound at s o h f = first_refused borrows left start.input mid.input e at s o (h sound)
+  first_read held left after start mid (Err e) sound at s o h f = first_refused left start.input mid.input e at s o (h sound)
 
   -- the source may fault where it has an error
   module _ {E : Type 0} (faults : Type 0) (may : E → faults) (left : Option (List ℕ)) where
-    value_told : {old mid : Reading} (new : Reading) (v : V) (e : DecodeError E) (failed : Bool) → old.left ≡ left → TakesFront view need old v mid → TellsEnd mid (Err e) new failed → WholeRefused faults view need left e
+    value_told : {old mid : Reading} (new : Reading) (v : V) (e : DecodeError E) (failed : Bool) → old.left ≡ left → TakesFront shape old v mid → TellsEnd mid (Err e) new failed → WholeRefused faults shape left e
     value_told new v TrailingData failed at a h = if_known left _ (λ b l. value_trailing b v h.1 (at ∙ l) a h.2)
     value_told new v (Read x) failed at a h = may x
     value_told new v _ failed at a h = absurd h
 
     -- a value was read, and then no end was found
     pub value_end_refused : (start : Reading) (mid end : Progress) (v : V) (e : DecodeError E) → start.left ≡ left
-        → (mid.failed ≡ false) × TakesFront view need start v mid.input → Ends mid (Err e) end → WholeRefused faults view need left e
+        → (mid.failed ≡ false) × TakesFront shape start v mid.input → Ends mid (Err e) end → WholeRefused faults shape left e
     value_end_refused start mid end v e at h k = value_told end.input v e end.failed at h.1 (match_false mid.failed _ _ h.0 k)
 
     -- no value was read; a loan was not wanting
     pub value_refused : (borrows : Type 0) (e : DecodeError E) (old new : Reading) → old.left ≡ left → old.steps ≡ 256 → (borrows → old.lends ≡ false → ⊥)
-        → Refuses (HasFront view need old) ⊤ borrows Anything old e new → WholeRefused faults view need left e
+        → Refuses (HasFront shape old) ⊤ borrows Anything old e new → WholeRefused faults shape left e
     value_refused borrows (Read x) old new at s n r = may x
     value_refused borrows OutOfMemory old new at s n r = tt
     value_refused borrows (RequireBorrowed name) old new at s n r = n r.1 r.2

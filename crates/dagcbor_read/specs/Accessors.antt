@@ -21,6 +21,7 @@ use Rattle.dagcbor_items.specs.Entries.{HasKey}
 use Rattle.dagcbor_items.specs.Variants.{OfKind}
 use Rattle.dagcbor_items.specs.Reads.{HasFront, TakesFront, NoStepIfDeep, Anything}
 use Rattle.dagcbor_read.specs.declared.accessor.Accessor.{Accessor}
+use Rattle.dagcbor_items.specs.Shapes.{Shape}
 
 -- a list or map that was begun
 pub record Begun : Type 0 where
@@ -95,10 +96,10 @@ BeginsItems major name steps old result new = MatchResult result
 -- ---- going on
 
 -- None exactly with no item left, else the part's answer
-abbrev pub ReadsElement : {T V E : Type 0} → (T → V) → (Tree → Option V) → (Tree → ℕ) → Type 0 → ℕ → Reading → Result (Option T) (DecodeError E) → Reading → Type 0
-ReadsElement held view need borrows left old (Ok None) new = (left ≡ 0) × (new ≡ old)
-ReadsElement held view need borrows left old (Ok (Some v)) new = (0 < left) × TakesFront view need old (held v) new
-ReadsElement held view need borrows left old (Err e) new = (0 < left) × Refuses (HasFront view need old) ⊤ borrows Anything old e new
+abbrev pub ReadsElement : {T V E : Type 0} → (T → V) → Shape Tree V → ℕ → Reading → Result (Option T) (DecodeError E) → Reading → Type 0
+ReadsElement held shape left old (Ok None) new = (left ≡ 0) × (new ≡ old)
+ReadsElement held shape left old (Ok (Some v)) new = (0 < left) × TakesFront shape old (held v) new
+ReadsElement held shape left old (Err e) new = (0 < left) × Refuses (HasFront shape old) ⊤ (shape.borrows ≡ true) Anything old e new
 
 -- an item that was answered leaves one fewer
 abbrev pub after_element : {T E : Type 0} → Result (Option T) (DecodeError E) → Begun → Begun

@@ -9,12 +9,12 @@ use Rattle.ipld_tree.specs.Cid.{CidParts}
 use Rattle.ipld_tree.specs.Tree.{Tree, any_need, links_of}
 use Rattle.ipld_tree.specs.Spelling.{IsFront}
 use Rattle.dagcbor_items.specs.ItemCauses.{Stands}
-use Rattle.dagcbor_items.specs.Walks.{forms, view_links}
+use Rattle.dagcbor_items.specs.Walks.{forms, all_links}
 use Rattle.dagcbor_items.specs.Reads.{Reads}
 
 -- The links of an item of any kind are read exactly where one stands within the steps left.
 abbrev pub ReadsLinks : {E : Type 0} → Reading → Result (Vec CidParts Global) (DecodeError E) → Reading → Type 0
-ReadsLinks old = Reads (λ v. forms v.items) view_links any_need ⊤ ⊥ (Stands old.steps) old
+ReadsLinks old = Reads (λ v. forms v.items) all_links ⊤ ⊥ (Stands old.steps) old
 
 -- the bytes begin with a tree that is read within 256 steps, and these are its links
 abbrev pub AreFirstLinks : List ℕ → List (List ℕ) → Type 0

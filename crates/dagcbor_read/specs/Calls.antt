@@ -16,6 +16,10 @@ pub record Progress : Type 0 where
 abbrev pub progress : {R : Type 0} → (R → Reading) → Deserializer R → Progress
 progress reading de = record { input = input_reading reading de.input; failed = de.failed }
 
+-- What a call does to the progress of a Deserializer over a reader
+abbrev pub Over : {R A : Type 0} → (R → Reading) → (Progress → A → Progress → Type 0) → Deserializer R → A → Deserializer R → Type 0
+Over reading does old result new = does (progress reading old) result (progress reading new)
+
 -- A call on a Deserializer that has failed answers `Failed`, and changes nothing. Any other reads, and has failed exactly
 -- where it is refused.
 abbrev pub Call : {T E : Type 0} → (Reading → Result T (DecodeError E) → Reading → Type 0) → Progress → Result T (DecodeError E) → Progress → Type 0

@@ -13,6 +13,7 @@ use Rattle.ipld_tree.specs.Spelling.{item_count, entry_count, AreFronts, AreEntr
 use Rattle.dagcbor_read.specs.Calls.{Progress}
 use Rattle.dagcbor_items.specs.Reads.{Anything}
 use Rattle.dagcbor_read.specs.Accessors.{Begun}
+use Rattle.dagcbor_items.specs.Shapes.{Shape}
 
 -- ---- lists
 
@@ -26,6 +27,9 @@ abbrev pub need_list : (Items → ℕ) → Tree → ℕ
 need_list need (list ts) = 1 + need ts
 need_list need _ = 1
 
+abbrev pub list_of : {V : Type 0} → Shape Items V → Shape Tree V
+list_of row = record { view = view_list row.view; need = need_list row.need; borrows = row.borrows }
+
 -- items of one type, any number of them
 abbrev pub view_items : {V : Type 0} → (Tree → Option V) → Items → Option (List V)
 view_items view no_items = Some []
@@ -36,13 +40,16 @@ abbrev pub need_items : (Tree → ℕ) → Items → ℕ
 need_items need no_items = 0
 need_items need (item t ts) = max (need t) (need_items need ts)
 
+abbrev pub items_of : {V : Type 0} → Shape Tree V → Shape Items (List V)
+items_of shape = record { view = view_items shape.view; need = need_items shape.need; borrows = shape.borrows }
+
 -- no item
 abbrev pub view_none : Items → Option (Unit {0})
 view_none no_items = Some tt
 view_none (item t ts) = None
 
-abbrev pub need_none : Items → ℕ
-need_none ts = 0
+abbrev pub no_more : Shape Items (Unit {0})
+no_more = record { view = view_none; need = λ ts. 0; borrows = false }
 
 -- an item of a type of its own, before other items
 abbrev pub view_first : {V W : Type 0} → (Tree → Option V) → (Items → Option W) → Items → Option (V × W)
@@ -53,35 +60,42 @@ abbrev pub need_first : (Tree → ℕ) → (Items → ℕ) → Items → ℕ
 need_first need others no_items = 0
 need_first need others (item t ts) = max (need t) (others ts)
 
+abbrev pub first_then : {V W : Type 0} → Shape Tree V → Shape Items W → Shape Items (V × W)
+first_then shape others = record {
+  view = view_first shape.view others.view;
+  need = need_first shape.need others.need;
+  borrows = shape.borrows || others.borrows;
+}
+
 -- so many items stand at the front which show something, and their need is within the steps left
-pub record HasRow {V : Type 0} (view : Items → Option V) (need : Items → ℕ) (count : ℕ) (r : Reading) : Type 0 where
+pub record HasRow {V : Type 0} (shape : Shape Items V) (count : ℕ) (r : Reading) : Type 0 where
   pub bytes : List ℕ
   pub items : Items
   pub rest : List ℕ
   pub left : r.left ≡ Some bytes
   pub counted : item_count items ≡ count
   pub fronts : AreFronts bytes items rest
-  pub accepted : is_some (view items) ≡ true
-  pub within : need items ≤ r.steps
+  pub accepted : is_some (shape.view items) ≡ true
+  pub within : shape.need items ≤ r.steps
 
 -- so many items stood at the front which show v, and were taken
-pub record TakesRow {V : Type 0} (view : Items → Option V) (need : Items → ℕ) (count : ℕ) (old : Reading) (v : V) (new : Reading) : Type 0 where
+pub record TakesRow {V : Type 0} (shape : Shape Items V) (count : ℕ) (old : Reading) (v : V) (new : Reading) : Type 0 where
   pub taken : (b : List ℕ) → old.left ≡ Some b
-      → (ts : Items) × (rest : List ℕ) × (item_count ts ≡ count) × AreFronts b ts rest × (view ts ≡ Some v) × (need ts ≤ old.steps) × (new.left ≡ Some rest)
+      → (ts : Items) × (rest : List ℕ) × (item_count ts ≡ count) × AreFronts b ts rest × (shape.view ts ≡ Some v) × (shape.need ts ≤ old.steps) × (new.left ≡ Some rest)
   pub same : Stays old new
 
 -- Items of a list that was begun are read from the first that is left on. Where all that are left make a row, none is left then.
-abbrev pub ReadsRow : {T V E : Type 0} → (T → V) → (Items → Option V) → (Items → ℕ) → Bool → Begun → Progress → Result T (DecodeError E) → Begun → Progress → Type 0
-ReadsRow held view need borrows before old result after new = MatchResult result
+abbrev pub ReadsRow : {T V E : Type 0} → (T → V) → Shape Items V → Begun → Progress → Result T (DecodeError E) → Begun → Progress → Type 0
+ReadsRow held shape before old result after new = MatchResult result
     (λ v. (new.failed ≡ false) × (after ≡ record before { left = after.left }) × (after.left ≤ before.left)
-    × TakesRow view need (before.left - after.left) old.input (held v) new.input × (HasRow view need before.left old.input → after.left ≡ 0))
-    (λ e. Refuses (HasRow view need before.left old.input) ⊤ (borrows ≡ true) Anything old.input e new.input)
+    × TakesRow shape (before.left - after.left) old.input (held v) new.input × (HasRow shape before.left old.input → after.left ≡ 0))
+    (λ e. Refuses (HasRow shape before.left old.input) ⊤ (shape.borrows ≡ true) Anything old.input e new.input)
 
 -- All that is left of a list that was begun is read, and it is ended: its steps are given back.
-abbrev pub ReadsRest : {T V E : Type 0} → (T → V) → (Items → Option V) → (Items → ℕ) → Bool → Begun → Progress → Result T (DecodeError E) → Progress → Type 0
-ReadsRest held view need borrows before old result new = MatchResult result
-    (λ v. (new.failed ≡ false) × (now : Reading) × TakesRow view need before.left old.input (held v) now × (new.input ≡ with_steps (now.steps + before.steps) now))
-    (λ e. Refuses (HasRow view need before.left old.input) ⊤ (borrows ≡ true) Anything old.input e new.input)
+abbrev pub ReadsRest : {T V E : Type 0} → (T → V) → Shape Items V → Begun → Progress → Result T (DecodeError E) → Progress → Type 0
+ReadsRest held shape before old result new = MatchResult result
+    (λ v. (new.failed ≡ false) × (now : Reading) × TakesRow shape before.left old.input (held v) now × (new.input ≡ with_steps (now.steps + before.steps) now))
+    (λ e. Refuses (HasRow shape before.left old.input) ⊤ (shape.borrows ≡ true) Anything old.input e new.input)
 
 -- neither borrows
 abbrev pub neither : {a b : Bool} → a ≡ false → b ≡ false → (a || b) ≡ false
@@ -89,7 +103,16 @@ neither {a} {b} e h = subst (λ x. (x || b) ≡ false) (sym e) h
 
 -- ---- maps
 
--- What a map's entries show to a type that takes them one after another into its state.
+-- The shape of what takes a map's entries one after another into its state.
+pub record FieldShape (S : Type 0) : Type 0 where
+  -- the state once the value of a key was read; none where the value is not accepted
+  pub take : S → List ℕ → Tree → Option S
+  -- the steps that reading the value of a key takes
+  pub need : List ℕ → Tree → ℕ
+  -- whether what is read borrows from the input
+  pub borrows : Bool
+
+-- What a map's entries show.
 abbrev pub view_entries : {S : Type 0} → (S → List ℕ → Tree → Option S) → S → Entries → Option S
 view_entries take state no_entries = Some state
 view_entries take state (entry k t es) = option_and_then (λ next. view_entries take next es) (take state k t)
@@ -108,8 +131,19 @@ abbrev pub need_fields : (List ℕ → Tree → ℕ) → Tree → ℕ
 need_fields need (mapping es) = 1 + need_entries need es
 need_fields need _ = 1
 
+-- what the value of a key shows in a state
+abbrev pub value_of : {S : Type 0} → FieldShape S → S → List ℕ → Shape Tree S
+value_of shape s k = record { view = shape.take s k; need = shape.need k; borrows = shape.borrows }
+
+abbrev pub fields_of : {S : Type 0} → FieldShape S → S → Shape Tree S
+fields_of shape start = record {
+  view = view_fields shape.take start;
+  need = need_fields shape.need;
+  borrows = shape.borrows;
+}
+
 -- so many entries stand at the front, behind the last key, which show something, and their need is within the steps left
-pub record HasFields {S : Type 0} (take : S → List ℕ → Tree → Option S) (need : List ℕ → Tree → ℕ) (state : S) (last : Option (List ℕ)) (count : ℕ) (r : Reading) : Type 0 where
+pub record HasFields {S : Type 0} (shape : FieldShape S) (state : S) (last : Option (List ℕ)) (count : ℕ) (r : Reading) : Type 0 where
   pub bytes : List ℕ
   pub entries : Entries
   pub rest : List ℕ
@@ -117,28 +151,39 @@ pub record HasFields {S : Type 0} (take : S → List ℕ → Tree → Option S) 
   pub counted : entry_count entries ≡ count
   pub follow : AllFollow last entries
   pub fronts : AreEntryFronts bytes entries rest
-  pub accepted : is_some (view_entries take state entries) ≡ true
-  pub within : need_entries need entries ≤ r.steps
+  pub accepted : is_some (view_entries shape.take state entries) ≡ true
+  pub within : need_entries shape.need entries ≤ r.steps
 
 -- so many entries stood at the front, behind the last key, which bring the state to s, and were taken
-pub record TakesFields {S : Type 0} (take : S → List ℕ → Tree → Option S) (need : List ℕ → Tree → ℕ) (state : S) (last : Option (List ℕ)) (count : ℕ) (old : Reading) (s : S) (new : Reading) : Type 0 where
+pub record TakesFields {S : Type 0} (shape : FieldShape S) (state : S) (last : Option (List ℕ)) (count : ℕ) (old : Reading) (s : S) (new : Reading) : Type 0 where
   pub taken : (b : List ℕ) → old.left ≡ Some b
-      → (es : Entries) × (rest : List ℕ) × (entry_count es ≡ count) × AllFollow last es × AreEntryFronts b es rest × (view_entries take state es ≡ Some s) × (need_entries need es ≤ old.steps) × (new.left ≡ Some rest)
+      → (es : Entries) × (rest : List ℕ) × (entry_count es ≡ count) × AllFollow last es × AreEntryFronts b es rest × (view_entries shape.take state es ≡ Some s) × (need_entries shape.need es ≤ old.steps) × (new.left ≡ Some rest)
   pub same : Stays old new
 
 -- All that is left of a map that was begun is read, and it is ended: its steps are given back.
-abbrev pub ReadsEntriesLeft : {T S E : Type 0} → (T → S) → (S → List ℕ → Tree → Option S) → (List ℕ → Tree → ℕ) → Bool → S → Begun → Progress → Result T (DecodeError E) → Progress → Type 0
-ReadsEntriesLeft held take need borrows start before old result new = MatchResult result
-    (λ v. (new.failed ≡ false) × (now : Reading) × TakesFields take need start before.last before.left old.input (held v) now × (new.input ≡ with_steps (now.steps + before.steps) now))
-    (λ e. Refuses (HasFields take need start before.last before.left old.input) ⊤ (borrows ≡ true) Anything old.input e new.input)
+abbrev pub ReadsEntriesLeft : {T S E : Type 0} → (T → S) → FieldShape S → S → Begun → Progress → Result T (DecodeError E) → Progress → Type 0
+ReadsEntriesLeft held shape start before old result new = MatchResult result
+    (λ v. (new.failed ≡ false) × (now : Reading) × TakesFields shape start before.last before.left old.input (held v) now × (new.input ≡ with_steps (now.steps + before.steps) now))
+    (λ e. Refuses (HasFields shape start before.last before.left old.input) ⊤ (shape.borrows ≡ true) Anything old.input e new.input)
 
 -- what a value shows to the place of a field
 abbrev pub view_slot : {V : Type 0} → (Tree → Option V) → Tree → Option (Option V)
 view_slot view t = option_map Some (view t)
 
+abbrev pub slot_of : {V : Type 0} → Shape Tree V → Shape Tree (Option V)
+slot_of shape = record { view = view_slot shape.view; need = shape.need; borrows = shape.borrows }
+
+-- a value is finished from what was read before
+abbrev pub finishing : {S V : Type 0} → (S → Option V) → Shape Tree S → Shape Tree V
+finishing finish shape = record {
+  view = λ t. option_and_then finish (shape.view t);
+  need = shape.need;
+  borrows = shape.borrows;
+}
+
 -- a struct is finished from what its fields showed
-abbrev pub view_struct : {S V : Type 0} → (S → List ℕ → Tree → Option S) → S → (S → Option V) → Tree → Option V
-view_struct take start finish t = option_and_then finish (view_fields take start t)
+abbrev pub struct_of : {S V : Type 0} → FieldShape S → S → (S → Option V) → Shape Tree V
+struct_of shape start finish = finishing finish (fields_of shape start)
 
 -- the keys as bytes, and what the values hold
 abbrev pub text_pairs : {A V : Type 0} → (A → V) → List (String Global × A) → List (List ℕ × V)
@@ -153,9 +198,9 @@ in_key_order (p ∷ ps) = insert_entry key_cmp (in_key_order ps) p.0 p.1
 abbrev pub take_entry : {V : Type 0} → (Tree → Option V) → List (List ℕ × V) → List ℕ → Tree → Option (List (List ℕ × V))
 take_entry view pairs k t = option_map (λ v. insert_entry key_cmp pairs k v) (view t)
 
--- a map whose values all show something shows the pairs in the order of their keys
-abbrev pub view_map : {V : Type 0} → (Tree → Option V) → Tree → Option (List (List ℕ × V))
-view_map view = view_fields (take_entry view) []
+abbrev pub entries_of : {V : Type 0} → Shape Tree V → FieldShape (List (List ℕ × V))
+entries_of shape = record { take = take_entry shape.view; need = λ k t. shape.need t; borrows = shape.borrows }
 
-abbrev pub need_map : (Tree → ℕ) → Tree → ℕ
-need_map need = need_fields (λ k t. need t)
+-- a map whose values all show something shows the pairs in the order of their keys
+abbrev pub map_of : {V : Type 0} → Shape Tree V → Shape Tree (List (List ℕ × V))
+map_of shape = fields_of (entries_of shape) []

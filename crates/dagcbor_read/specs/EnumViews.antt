@@ -7,6 +7,7 @@ use Rattle.ipld_tree.specs.Tree.{Tree, text, mapping, no_entries, entry}
 use Rattle.dagcbor_read.specs.Calls.{Progress}
 use Rattle.dagcbor_items.specs.Reads.{HasFront, TakesFront, Anything}
 use Rattle.dagcbor_read.specs.Enums.{BegunEnum}
+use Rattle.dagcbor_items.specs.Shapes.{Shape}
 
 -- A variant's name alone, or a map of one pair, from the name to what the variant holds.
 abbrev pub view_enum : {V : Type 0} → (List ℕ → Option V) → (List ℕ → Tree → Option V) → Tree → Option V
@@ -19,21 +20,43 @@ abbrev pub need_enum : (List ℕ → Tree → ℕ) → Tree → ℕ
 need_enum need (mapping (entry k t no_entries)) = 1 + need k t
 need_enum need _ = 1
 
+-- The shape of an enum: what its variants show.
+pub record EnumShape (V : Type 0) : Type 0 where
+  -- what a variant shows that is its name alone; none where there is no such variant
+  pub unit : List ℕ → Option V
+  -- what the tree shows that a variant of this name holds; none where it is not accepted
+  pub part : List ℕ → Tree → Option V
+  -- the steps that reading what a variant holds takes
+  pub need : List ℕ → Tree → ℕ
+  -- whether what is read borrows from the input
+  pub borrows : Bool
+
+abbrev pub enum_of : {V : Type 0} → EnumShape V → Shape Tree V
+enum_of shape = record {
+  view = view_enum shape.unit shape.part;
+  need = need_enum shape.need;
+  borrows = shape.borrows;
+}
+
+-- what the variant of this name holds
+abbrev pub part_of : {V : Type 0} → EnumShape V → List ℕ → Shape Tree V
+part_of shape k = record { view = shape.part k; need = shape.need k; borrows = shape.borrows }
+
 -- ---- a variant that was named
 
 -- it is its name alone, and shows something; or what it holds stands at the front
-abbrev pub HasVariant : {V : Type 0} → Option V → (Tree → Option V) → (Tree → ℕ) → BegunEnum → Reading → Type 0
-HasVariant unit part need e r = MatchBool e.in_map (HasFront part need r) (is_some unit ≡ true)
+abbrev pub HasVariant : {V : Type 0} → EnumShape V → List ℕ → BegunEnum → Reading → Type 0
+HasVariant shape k e r = MatchBool e.in_map (HasFront (part_of shape k) r) (is_some (shape.unit k) ≡ true)
 
 -- it was its name alone, which shows v; or what it holds was taken, which shows v; and the enum's steps are given back
-abbrev pub TakesVariant : {V : Type 0} → Option V → (Tree → Option V) → (Tree → ℕ) → BegunEnum → Reading → V → Reading → Type 0
-TakesVariant unit part need e old v new = MatchBool e.in_map
-    ((now : Reading) × TakesFront part need old v now × (new ≡ with_steps (now.steps + e.steps) now))
-    ((unit ≡ Some v) × (new ≡ with_steps (old.steps + e.steps) old))
+abbrev pub TakesVariant : {V : Type 0} → EnumShape V → List ℕ → BegunEnum → Reading → V → Reading → Type 0
+TakesVariant shape k e old v new = MatchBool e.in_map
+    ((now : Reading) × TakesFront (part_of shape k) old v now × (new ≡ with_steps (now.steps + e.steps) now))
+    ((shape.unit k ≡ Some v) × (new ≡ with_steps (old.steps + e.steps) old))
 
 -- A variant is read exactly where it is its name alone or holds what the type accepts, as its name wants. After an answer
 -- nothing has failed.
-abbrev pub ReadsVariant : {T V E : Type 0} → (T → V) → Option V → (Tree → Option V) → (Tree → ℕ) → Bool → BegunEnum → Progress → Result T (DecodeError E) → Progress → Type 0
-ReadsVariant held unit part need borrows e old result new = MatchResult result
-    (λ v. (new.failed ≡ false) × TakesVariant unit part need e old.input (held v) new.input)
-    (λ r. Refuses (HasVariant unit part need e old.input) ⊤ (borrows ≡ true) Anything old.input r new.input)
+abbrev pub ReadsVariant : {T V E : Type 0} → (T → V) → EnumShape V → List ℕ → BegunEnum → Progress → Result T (DecodeError E) → Progress → Type 0
+ReadsVariant held shape k e old result new = MatchResult result
+    (λ v. (new.failed ≡ false) × TakesVariant shape k e old.input (held v) new.input)
+    (λ r. Refuses (HasVariant shape k e old.input) ⊤ (shape.borrows ≡ true) Anything old.input r new.input)

@@ -1,5 +1,5 @@
 -- What contracts see of an enum that was begun, and what its calls do.
-use Rattle.std.specs.Prelude.{◌≡◌, ◌⊎◌, ℕ, ◌+◌, ◌-◌, ◌/◌, ◌<◌, Bool, true, false, List, [], ◌∷◌, Option, Some, Result, MatchResult, MatchBool, IfOk, codes, ⊤}
+use Rattle.std.specs.Prelude.{◌≡◌, ◌⊎◌, ℕ, ◌+◌, ◌-◌, ◌/◌, ◌<◌, Bool, true, false, List, [], ◌∷◌, Some, Result, MatchResult, MatchBool, IfOk, codes, ⊤}
 use Rattle.dagcbor_heads.specs.Reading.{Reading, with_steps}
 use Rattle.dagcbor_heads.specs.Fronts.{Takes, ShowsByte}
 use Rattle.dagcbor_heads.specs.Refusals.{Refuses}
@@ -11,7 +11,7 @@ use Rattle.ipld_tree.specs.Tree.{Tree}
 use Rattle.std.specs.Cow.{cow_str_bytes}
 use Rattle.std.specs.declared.borrow.CowStr.{CowStr}
 use Rattle.std.specs.declared.alloc.Global.{Global}
-use Rattle.dagcbor_items.specs.Views.{view_text, no_need}
+use Rattle.dagcbor_items.specs.Shapes.{view_text, leaf, Shape}
 use Rattle.dagcbor_items.specs.LeafCauses.{TextStands}
 use Rattle.dagcbor_read.specs.Calls.{Progress}
 use Rattle.dagcbor_items.specs.Variants.{OfByte}
@@ -88,7 +88,7 @@ IsOtherForm e _ = ⊥
 
 -- A variant's name is read exactly where a text stands, with no want of memory where the input lends.
 abbrev pub ReadsName : {E : Type 0} → Reading → Result (CowStr Global × EnumAccessor) (DecodeError E) → Reading → Type 0
-ReadsName old = Reads (λ v. cow_str_bytes v.0) view_text no_need (old.lends ≡ false) ⊥ (TextStands (codes "string")) old
+ReadsName old = Reads (λ v. cow_str_bytes v.0) (leaf view_text) (old.lends ≡ false) ⊥ (TextStands (codes "string")) old
 
 -- The form of a map is there, or the other, which is refused. Nothing is read.
 abbrev pub EntersMap : {E : Type 0} → BegunEnum → Reading → Result (Unit {0}) (DecodeError E) → Reading → Type 0
@@ -111,11 +111,11 @@ EndsUnit e old result new = MatchResult result
 
 -- What a variant holds is read as the law of its type says, exactly where the enum has the form of a map: then the enum's
 -- steps are given back.
-abbrev pub ReadsHeld : {T V E : Type 0} → (T → V) → (Tree → Option V) → (Tree → ℕ) → Bool → BegunEnum → Reading → Result T (DecodeError E) → Reading → Type 0
-ReadsHeld held view need borrows e old result new = MatchResult result
-    (λ v. (e.in_map ≡ true) × ((now : Reading) × TakesFront view need old (held v) now × (new ≡ with_steps (now.steps + e.steps) now)))
-    (λ r. MatchBool e.in_map (Refuses (HasFront view need old) ⊤ (borrows ≡ true) Anything old r new) (IsOtherForm e r × (new ≡ old)))
+abbrev pub ReadsHeld : {T V E : Type 0} → (T → V) → Shape Tree V → BegunEnum → Reading → Result T (DecodeError E) → Reading → Type 0
+ReadsHeld held shape e old result new = MatchResult result
+    (λ v. (e.in_map ≡ true) × ((now : Reading) × TakesFront shape old (held v) now × (new ≡ with_steps (now.steps + e.steps) now)))
+    (λ r. MatchBool e.in_map (Refuses (HasFront shape old) ⊤ (shape.borrows ≡ true) Anything old r new) (IsOtherForm e r × (new ≡ old)))
 
 -- The same for the fields that a variant holds, where nothing had failed. After an answer nothing has failed.
-abbrev pub ReadsFieldsHeld : {T V E : Type 0} → (T → V) → (Tree → Option V) → (Tree → ℕ) → Bool → BegunEnum → Progress → Result T (DecodeError E) → Progress → Type 0
-ReadsFieldsHeld held view need borrows e old result new = old.failed ≡ false → IfOk result (λ v. new.failed ≡ false) × ReadsHeld held view need borrows e old.input result new.input
+abbrev pub ReadsFieldsHeld : {T V E : Type 0} → (T → V) → Shape Tree V → BegunEnum → Progress → Result T (DecodeError E) → Progress → Type 0
+ReadsFieldsHeld held shape e old result new = old.failed ≡ false → IfOk result (λ v. new.failed ≡ false) × ReadsHeld held shape e old.input result new.input

@@ -21,7 +21,7 @@ pub mod Calls
 pub mod Values
 pub use Rattle.dagcbor_items.specs.Reads
 pub use Rattle.dagcbor_items.specs.Variants
-pub use Rattle.dagcbor_items.specs.Views
+pub use Rattle.dagcbor_items.specs.Shapes
 pub use Rattle.dagcbor_items.specs.LeafCauses
 pub use Rattle.dagcbor_items.specs.Kinds
 pub use Rattle.dagcbor_items.specs.LeafReads

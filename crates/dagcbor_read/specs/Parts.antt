@@ -8,13 +8,13 @@ use Rattle.dagcbor_heads.specs.declared.error.DecodeError.{DecodeError}
 use Rattle.dagcbor_heads.specs.declared.error.DecodeError.TheVariants.{Eof, DepthOverflow}
 use Rattle.dagcbor_heads.specs.declared.error.Len.TheVariants.{Small}
 use Rattle.ipld_tree.specs.Tree.{Tree}
-use Rattle.dagcbor_items.specs.Views.{view_option, need_option}
+use Rattle.dagcbor_items.specs.Shapes.{Shape, option_of}
 use Rattle.dagcbor_read.specs.Calls.{Progress}
 use Rattle.dagcbor_items.specs.Reads.{Reads, HasFront, TakesFront, NoStepIfDeep, Anything}
 
 -- A value is read as the law of its type says.
-abbrev pub ReadsPart : {T V E : Type 0} → (T → V) → (Tree → Option V) → (Tree → ℕ) → Bool → Reading → Result T (DecodeError E) → Reading → Type 0
-ReadsPart held view need borrows = Reads held view need ⊤ (borrows ≡ true) Anything
+abbrev pub ReadsPart : {T V E : Type 0} → (T → V) → Shape Tree V → Reading → Result T (DecodeError E) → Reading → Type 0
+ReadsPart held shape = Reads held shape ⊤ (shape.borrows ≡ true) Anything
 
 -- a null stands at the front, or another byte, and a step is left
 pub record CanEnter (r : Reading) : Type 0 where
@@ -51,16 +51,16 @@ EntersOption old result new = MatchResult result
     (λ e. RefusesToEnter old e new)
 
 -- the part behind the step was refused, as its law says
-abbrev pub RefusesPart : {V E : Type 0} → (Tree → Option V) → (Tree → ℕ) → Bool → Reading → DecodeError E → Reading → Type 0
-RefusesPart view need borrows old e new = (mid : Reading) × EntersSome old mid × Refuses (HasFront view need mid) ⊤ (borrows ≡ true) Anything mid e new
+abbrev pub RefusesPart : {V E : Type 0} → Shape Tree V → Reading → DecodeError E → Reading → Type 0
+RefusesPart shape old e new = (mid : Reading) × EntersSome old mid × Refuses (HasFront shape mid) ⊤ (shape.borrows ≡ true) Anything mid e new
 
 -- A null is read, or another value as the law of its type says. A refusal is the part's, or it came before the part with
 -- its cause.
-abbrev pub ReadsOption : {T V E : Type 0} → (T → V) → (Tree → Option V) → (Tree → ℕ) → Bool → Reading → Result (Option T) (DecodeError E) → Reading → Type 0
-ReadsOption held view need borrows old result new = MatchResult result
-    (λ o. TakesFront (view_option view) (need_option need) old (option_map held o) new)
-    (λ e. Refuses (HasFront (view_option view) (need_option need) old) ⊤ (borrows ≡ true) Anything old e new
-    × (RefusesToEnter old e new ⊎ RefusesPart view need borrows old e new))
+abbrev pub ReadsOption : {T V E : Type 0} → (T → V) → Shape Tree V → Reading → Result (Option T) (DecodeError E) → Reading → Type 0
+ReadsOption held shape old result new = MatchResult result
+    (λ o. TakesFront (option_of shape) old (option_map held o) new)
+    (λ e. Refuses (HasFront (option_of shape) old) ⊤ (shape.borrows ≡ true) Anything old e new
+    × (RefusesToEnter old e new ⊎ RefusesPart shape old e new))
 
 -- Where a value of several parts cannot be begun on bytes that are known, the refusal is that of the call that begins it.
 abbrev pub RefusesToBegin : {T A E : Type 0} → (Reading → Type 0) → (Reading → Result A (DecodeError E) → Reading → Type 0) → Progress → Result T (DecodeError E) → Progress → Type 0

@@ -11,28 +11,29 @@ use Rattle.ipld_tree.specs.Spelling.{IsFront}
 use Rattle.dagcbor_read.specs.Calls.{Progress, progress, Call}
 use Rattle.dagcbor_items.specs.Reads.{HasFront, TakesFront}
 use Rattle.dagcbor_read.specs.declared.stream.StreamDeserializer.{StreamDeserializer}
+use Rattle.dagcbor_items.specs.Shapes.{Shape}
 
 -- ---- the stream of a type on bytes
 
 -- a tree stands at the front that shows v, its need within the steps
-abbrev pub IsNextValue : {V : Type 0} → (Tree → Option V) → (Tree → ℕ) → ℕ → List ℕ → V → List ℕ → Type 0
-IsNextValue view need steps b v rest = (t : Tree) × IsFront b t rest × (view t ≡ Some v) × (need t ≤ steps)
+abbrev pub IsNextValue : {V : Type 0} → Shape Tree V → ℕ → List ℕ → V → List ℕ → Type 0
+IsNextValue shape steps b v rest = (t : Tree) × IsFront b t rest × (shape.view t ≡ Some v) × (shape.need t ≤ steps)
 
 -- The stream of a type on bytes, where `None` stands for a refusal: nothing for no bytes; a value that stands at the front, and then the stream of the
 -- rest; else one refusal, and the end.
-abbrev pub AreStreamItems : {V : Type 0} → (Tree → Option V) → (Tree → ℕ) → ℕ → List ℕ → List (Option V) → Type 0
-AreStreamItems view need steps b [] = b ≡ []
-AreStreamItems view need steps b (Some v ∷ items) = (rest : List ℕ) × IsNextValue view need steps b v rest × AreStreamItems view need steps rest items
-AreStreamItems {V} view need steps b (None ∷ items) = (items ≡ []) × (0 < length b) × ((v : V) (rest : List ℕ) → IsNextValue view need steps b v rest → ⊥)
+abbrev pub AreStreamItems : {V : Type 0} → Shape Tree V → ℕ → List ℕ → List (Option V) → Type 0
+AreStreamItems shape steps b [] = b ≡ []
+AreStreamItems shape steps b (Some v ∷ items) = (rest : List ℕ) × IsNextValue shape steps b v rest × AreStreamItems shape steps rest items
+AreStreamItems {V} shape steps b (None ∷ items) = (items ≡ []) × (0 < length b) × ((v : V) (rest : List ℕ) → IsNextValue shape steps b v rest → ⊥)
 
 -- The values are those of trees that stand one behind the other at the front of the bytes, before the rest, each accepted within the steps.
-abbrev pub AreNextValues : {V : Type 0} → (Tree → Option V) → (Tree → ℕ) → ℕ → List ℕ → List V → List ℕ → Type 0
-AreNextValues view need steps b [] rest = b ≡ rest
-AreNextValues view need steps b (v ∷ vs) rest = (mid : List ℕ) × IsNextValue view need steps b v mid × AreNextValues view need steps mid vs rest
+abbrev pub AreNextValues : {V : Type 0} → Shape Tree V → ℕ → List ℕ → List V → List ℕ → Type 0
+AreNextValues shape steps b [] rest = b ≡ rest
+AreNextValues shape steps b (v ∷ vs) rest = (mid : List ℕ) × IsNextValue shape steps b v mid × AreNextValues shape steps mid vs rest
 
 -- Of given bytes there is one stream at most.
-abbrev pub StreamsAreUnique : {V : Type 0} → (Tree → Option V) → (Tree → ℕ) → Type 0
-StreamsAreUnique {V} view need = (steps : ℕ) (b : List ℕ) (items others : List (Option V)) → AreStreamItems view need steps b items → AreStreamItems view need steps b others → items ≡ others
+abbrev pub StreamsAreUnique : {V : Type 0} → Shape Tree V → Type 0
+StreamsAreUnique {V} shape = (steps : ℕ) (b : List ℕ) (items others : List (Option V)) → AreStreamItems shape steps b items → AreStreamItems shape steps b others → items ≡ others
 
 -- ---- what contracts see of a stream
 
@@ -56,10 +57,10 @@ abbrev pub AreSome : {E : Type 0} → DecodeError E → List ℕ → Type 0
 AreSome e b = 0 < length b
 
 -- The end is found, or a value is read of the bytes that are left, or refused. A fault may come before it is known whether bytes are left.
-abbrev pub ReadsNext : {T V E : Type 0} → (T → V) → (Tree → Option V) → (Tree → ℕ) → Bool → Reading → Result (Option T) (DecodeError E) → Reading → Type 0
-ReadsNext held view need borrows old result new = MatchResult result
-    (λ next. MatchOption next (FindsEnd old new) (λ v. TakesFront view need old (held v) new))
-    (λ e. Refuses (HasFront view need old) (SomeLeft old) ((borrows ≡ true) × SomeLeft old) AreSome old e new)
+abbrev pub ReadsNext : {T V E : Type 0} → (T → V) → Shape Tree V → Reading → Result (Option T) (DecodeError E) → Reading → Type 0
+ReadsNext held shape old result new = MatchResult result
+    (λ next. MatchOption next (FindsEnd old new) (λ v. TakesFront shape old (held v) new))
+    (λ e. Refuses (HasFront shape old) (SomeLeft old) ((shape.borrows ≡ true) × SomeLeft old) AreSome old e new)
 
 -- what `next` gives is what reading answered, and the last but after a value
 abbrev pub as_answer : {T E : Type 0} → Option (Result T (DecodeError E)) → Result (Option T) (DecodeError E)
@@ -72,10 +73,10 @@ is_last None = true
 is_last (Some r) = is_err r
 
 -- What `next` does: nothing comes of a stream that is done; else what reading the next value answers.
-abbrev pub GivesNext : {T V E : Type 0} → (T → V) → (Tree → Option V) → (Tree → ℕ) → Bool → Streaming → Option (Result T (DecodeError E)) → Streaming → Type 0
-GivesNext held view need borrows old item new = MatchBool old.done
+abbrev pub GivesNext : {T V E : Type 0} → (T → V) → Shape Tree V → Streaming → Option (Result T (DecodeError E)) → Streaming → Type 0
+GivesNext held shape old item new = MatchBool old.done
     ((item ≡ None) × (new ≡ old))
-    ((new.done ≡ is_last item) × Call (ReadsNext held view need borrows) old.source (as_answer item) new.source)
+    ((new.done ≡ is_last item) × Call (ReadsNext held shape) old.source (as_answer item) new.source)
 
 -- Where n bytes are left, at most n + 1 items come; where the source does not tell its bytes, nothing is said.
 abbrev pub items_left_of : Bool → Option (List ℕ) → Count
@@ -133,14 +134,14 @@ pub record IsOver (b : List ℕ) (s : Streaming) : Type 0 where
   pub sound : s.source.failed ≡ false
   pub left : s.source.input.left ≡ Some b
 
-module _ {S T V : Type 0} (E : Type 0) (see : S → Streaming) (held : T → V) (view : Tree → Option V) (need : Tree → ℕ) (borrows : Bool) where
+module _ {S T V : Type 0} (E : Type 0) (see : S → Streaming) (held : T → V) (shape : Shape Tree V) where
   -- one call of `next`
   abbrev pub Gives : S → Option (Result T (DecodeError E)) → S → Type 0
-  Gives s item t = GivesNext held view need borrows (see s) item (see t)
+  Gives s item t = GivesNext held shape (see s) item (see t)
 
   -- whether a stream from s may wish to borrow
   abbrev pub MayWish : S → Type 0
-  MayWish s = MayBorrow borrows (see s).source.input.lends
+  MayWish s = MayBorrow shape.borrows (see s).source.input.lends
 
   -- what holds of the items that calls of `next` from s gave
   pub record IsStreamRun (s : S) (whole : Bool) (xs : List (Result T (DecodeError E))) : Type 0 where
@@ -149,11 +150,11 @@ module _ {S T V : Type 0} (E : Type 0) (see : S → Streaming) (held : T → V) 
     -- of n known bytes at most n + 1 items came
     pub bounded : (b : List ℕ) → IsOver b (see s) → length xs ≤ length b + 1
     -- however the run ended, the values stood one behind the other at the front of the bytes
-    pub values : (b : List ℕ) → IsOver b (see s) → (rest : List ℕ) × AreNextValues view need (see s).source.input.steps b (values_before held xs) rest
+    pub values : (b : List ℕ) → IsOver b (see s) → (rest : List ℕ) × AreNextValues shape (see s).source.input.steps b (values_before held xs) rest
     -- they are the stream of the type on the bytes, up to an error that says nothing of the bytes
-    pub same : (b : List ℕ) → IsOver b (see s) → (items : List (Option V)) → AreStreamItems view need (see s).source.input.steps b items → AreUpTo held (MayWish s) whole xs items
+    pub same : (b : List ℕ) → IsOver b (see s) → (items : List (Option V)) → AreStreamItems shape (see s).source.input.steps b items → AreUpTo held (MayWish s) whole xs items
     -- where no such error came, and all came, they make a stream
-    pub exact : (b : List ℕ) → IsOver b (see s) → whole ≡ true → NoneGivesUp (MayWish s) xs → AreStreamItems view need (see s).source.input.steps b (map (stream_item held) xs)
+    pub exact : (b : List ℕ) → IsOver b (see s) → whole ≡ true → NoneGivesUp (MayWish s) xs → AreStreamItems shape (see s).source.input.steps b (map (stream_item held) xs)
     -- of what had failed comes `Failed` alone
     pub failed : (see s).done ≡ false → (see s).source.failed ≡ true → whole ≡ true → xs ≡ Err Failed ∷ []
 

@@ -10,6 +10,7 @@ use Rattle.ipld_tree.specs.declared.ipld.Ipld.{Ipld}
 use Rattle.dagcbor_items.specs.ItemCauses.{Stands}
 use Rattle.dagcbor_read.specs.declared.kind.Kind.{Kind}
 use Rattle.dagcbor_read.specs.TreeKinds.{kind_of}
+use Rattle.dagcbor_items.specs.Shapes.{Shape}
 
 -- the bytes are the spelling of a tree that is read within 256 steps
 abbrev pub IsBlock : List ℕ → Tree → Type 0
@@ -39,41 +40,41 @@ ChecksSlice b result = MatchResult result
     (λ e. SliceRefused e b × (e ≢ OutOfMemory))
 
 -- the bytes are the spelling of a tree that shows v to the type, within 256 steps
-abbrev pub IsWhole : {V : Type 0} → (Tree → Option V) → (Tree → ℕ) → List ℕ → V → Type 0
-IsWhole view need b v = (t : Tree) × IsSpelling b t × (view t ≡ Some v) × (need t ≤ 256)
+abbrev pub IsWhole : {V : Type 0} → Shape Tree V → List ℕ → V → Type 0
+IsWhole shape b v = (t : Tree) × IsSpelling b t × (shape.view t ≡ Some v) × (shape.need t ≤ 256)
 
 -- why an input is refused as a type: for a fault of its source, where there may be one; for want of memory; or since its bytes,
 -- where they are known, are no spelling of a tree that the type accepts within 256 steps
-abbrev pub WholeRefused : {V E : Type 0} → Type 0 → (Tree → Option V) → (Tree → ℕ) → Option (List ℕ) → DecodeError E → Type 0
-WholeRefused faults view need left (Read e) = faults
-WholeRefused faults view need left OutOfMemory = ⊤
-WholeRefused faults view need left (RequireBorrowed name) = ⊥
-WholeRefused faults view need left Failed = ⊥
-WholeRefused {V} faults view need left e = IfSome left (λ b. (v : V) → IsWhole view need b v → ⊥)
+abbrev pub WholeRefused : {V E : Type 0} → Type 0 → Shape Tree V → Option (List ℕ) → DecodeError E → Type 0
+WholeRefused faults shape left (Read e) = faults
+WholeRefused faults shape left OutOfMemory = ⊤
+WholeRefused faults shape left (RequireBorrowed name) = ⊥
+WholeRefused faults shape left Failed = ⊥
+WholeRefused {V} faults shape left e = IfSome left (λ b. (v : V) → IsWhole shape b v → ⊥)
 
 -- An input, where its bytes are known, is read as a type exactly where they are the spelling of a tree that the type accepts
 -- within 256 steps; its source may fault where `faults`.
-abbrev pub ReadsWhole : {T V E : Type 0} → Type 0 → (T → V) → (Tree → Option V) → (Tree → ℕ) → Option (List ℕ) → Result T (DecodeError E) → Type 0
-ReadsWhole faults held view need left result = MatchResult result
-    (λ v. IfSome left (λ b. IsWhole view need b (held v)))
-    (λ e. WholeRefused faults view need left e)
+abbrev pub ReadsWhole : {T V E : Type 0} → Type 0 → (T → V) → Shape Tree V → Option (List ℕ) → Result T (DecodeError E) → Type 0
+ReadsWhole faults held shape left result = MatchResult result
+    (λ v. IfSome left (λ b. IsWhole shape b (held v)))
+    (λ e. WholeRefused faults shape left e)
 
 -- the bytes begin with the spelling of a tree that shows v to the type, within 256 steps, and the rest follows
-abbrev pub IsFirst : {V : Type 0} → (Tree → Option V) → (Tree → ℕ) → List ℕ → V → List ℕ → Type 0
-IsFirst view need b v rest = (t : Tree) × IsFront b t rest × (view t ≡ Some v) × (need t ≤ 256)
+abbrev pub IsFirst : {V : Type 0} → Shape Tree V → List ℕ → V → List ℕ → Type 0
+IsFirst shape b v rest = (t : Tree) × IsFront b t rest × (shape.view t ≡ Some v) × (shape.need t ≤ 256)
 
 -- why the first item is refused as a type: for a fault of the source, for want of memory, or since the bytes, where they are
 -- known, begin with no spelling of a tree that the type accepts within 256 steps
-abbrev pub FirstRefused : {V E : Type 0} → (Tree → Option V) → (Tree → ℕ) → Option (List ℕ) → DecodeError E → Type 0
-FirstRefused view need left (Read e) = ⊤
-FirstRefused view need left OutOfMemory = ⊤
-FirstRefused view need left (RequireBorrowed name) = ⊥
-FirstRefused view need left Failed = ⊥
-FirstRefused {V} view need left e = IfSome left (λ b. (v : V) (rest : List ℕ) → IsFirst view need b v rest → ⊥)
+abbrev pub FirstRefused : {V E : Type 0} → Shape Tree V → Option (List ℕ) → DecodeError E → Type 0
+FirstRefused shape left (Read e) = ⊤
+FirstRefused shape left OutOfMemory = ⊤
+FirstRefused shape left (RequireBorrowed name) = ⊥
+FirstRefused shape left Failed = ⊥
+FirstRefused {V} shape left e = IfSome left (λ b. (v : V) (rest : List ℕ) → IsFirst shape b v rest → ⊥)
 
 -- The first item is read as a type exactly where the bytes, where they are known, begin with the spelling of a tree that the
 -- type accepts within 256 steps, and exactly the rest is left.
-abbrev pub ReadsFirst : {T V E : Type 0} → (T → V) → (Tree → Option V) → (Tree → ℕ) → Option (List ℕ) → Result T (DecodeError E) → Option (List ℕ) → Type 0
-ReadsFirst held view need old result new = MatchResult result
-    (λ v. IfSome old (λ b. (rest : List ℕ) × IsFirst view need b (held v) rest × (new ≡ Some rest)))
-    (λ e. FirstRefused view need old e)
+abbrev pub ReadsFirst : {T V E : Type 0} → (T → V) → Shape Tree V → Option (List ℕ) → Result T (DecodeError E) → Option (List ℕ) → Type 0
+ReadsFirst held shape old result new = MatchResult result
+    (λ v. IfSome old (λ b. (rest : List ℕ) × IsFirst shape b (held v) rest × (new ≡ Some rest)))
+    (λ e. FirstRefused shape old e)

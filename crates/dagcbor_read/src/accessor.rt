@@ -3,9 +3,10 @@
 ghost use Rattle.std.specs.Prelude.{◌≡◌, ◌↔◌, ◌+◌, ◌≤◌, ⊤, true, false, Some, IfOk, IfErr, IfSome};
 ghost use Rattle.std.specs.Cow.{cow_str_bytes, IsBorrowedStr};
 ghost use Rattle.dagcbor_heads.specs.Reading.{with_steps};
-ghost use Rattle.dagcbor_read.specs.Calls.{progress, Call, AreOut};
+ghost use Rattle.dagcbor_read.specs.Calls.{progress, Call, AreOut, Over};
 ghost use Rattle.dagcbor_items.specs.Reads.{Reads, Anything};
 ghost use Rattle.dagcbor_items.specs.Variants.{OfKey};
+ghost use Rattle.dagcbor_read.specs.Parts.{ReadsPart};
 
 use crate::deserialize::Deserialize;
 use crate::deserializer::Deserializer;
@@ -95,7 +96,7 @@ impl<'de> Accessor<'de> {
     ) -> Result<Option<T>, DecodeError<R::Error>>
         requires { (begun self.old).is_map ≡ false }
         ensures after { begun self.new ≡ after_element result (begun self.old) }
-        ensures element { Call (ReadsElement T.held T.view T.need (T.borrows ≡ true) (begun self.old).left) (progress R.reading de.old) result (progress R.reading de.new) }
+        ensures element { Over R.reading (Call (ReadsElement T.held T.shape (begun self.old).left)) de.old result de.new }
     {
         de.check()?;
         if self.left == 0 {
@@ -115,7 +116,7 @@ impl<'de> Accessor<'de> {
         requires map { (begun self.old).is_map ≡ true }
         requires in_turn { (begun self.old).owes_value ≡ false }
         ensures after { begun self.new ≡ after_key result (begun self.old) }
-        ensures key { Call (ReadsNextKey (begun self.old).last (begun self.old).left) (progress R.reading de.old) result (progress R.reading de.new) }
+        ensures key { Over R.reading (Call (ReadsNextKey (begun self.old).last (begun self.old).left)) de.old result de.new }
         ensures lent { IfOk result (λ o. IfSome o (λ k. IsBorrowedStr k ↔ ((progress R.reading de.old).input.lends ≡ true))) }
         ensures variant { IfErr result OfKey }
     {
@@ -138,7 +139,7 @@ impl<'de> Accessor<'de> {
     ) -> Result<T, DecodeError<R::Error>>
         requires { (begun self.old).owes_value ≡ true }
         ensures after { begun self.new ≡ after_value result (begun self.old) }
-        ensures value { Call (Reads T.held T.view T.need ⊤ (T.borrows ≡ true) Anything) (progress R.reading de.old) result (progress R.reading de.new) }
+        ensures value { Over R.reading (Call (ReadsPart T.held T.shape)) de.old result de.new }
     {
         let value = de.read_part(alloc)?;
         self.owes_value = false;
@@ -156,7 +157,7 @@ impl<'de> Accessor<'de> {
     pub fn end<R: Read>(self, de: &mut Deserializer<'de, R>) -> Result<(), DecodeError<R::Error>>
         requires in_turn { (begun self).owes_value ≡ false }
         requires out { AreOut (begun self).steps (progress R.reading de.old) }
-        ensures { Call (EndsItems (begun self.entry)) (progress R.reading de.old) result (progress R.reading de.new) }
+        ensures { Over R.reading (Call (EndsItems (begun self.entry))) de.old result de.new }
     {
         de.begin()?;
         if self.left > 0 {

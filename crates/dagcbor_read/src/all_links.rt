@@ -1,7 +1,7 @@
 //! Reading the links of an item.
 
 ghost use Rattle.dagcbor_items.specs.Looks.{LooksAtAny};
-ghost use Rattle.dagcbor_read.specs.Calls.{progress, Call};
+ghost use Rattle.dagcbor_read.specs.Calls.{progress, Call, Over};
 ghost use Rattle.dagcbor_read.specs.AllLinks.{ReadsLinks, ReadsFirstLinks};
 
 use crate::deserializer::Deserializer;
@@ -14,7 +14,7 @@ use std::convert::Infallible;
 impl<'de, R: Read> Deserializer<'de, R> {
     /// Reads an item of any kind, with what `deserialize_any` refuses, and keeps its links alone: left to right, repeats kept.
     pub fn deserialize_links(&mut self, alloc: Global) -> Result<Vec<Cid>, DecodeError<R::Error>>
-        ensures links { Call ReadsLinks (progress R.reading self.old) result (progress R.reading self.new) }
+        ensures links { Over R.reading (Call ReadsLinks) self.old result self.new }
         ensures looked { LooksAtAny (progress R.reading self.old).input result (progress R.reading self.new).input }
     {
         self.begin()?;

@@ -2,11 +2,10 @@
 
 ghost use Rattle.std.specs.Prelude.{◌≡◌, ◌↔◌, ◌+◌, true, false, codes, option_map, IfOk, MatchResult, IfErr};
 ghost use Rattle.std.specs.Cow.{cow_str_bytes, IsBorrowedStr};
-ghost use Rattle.dagcbor_heads.specs.Inputs.{input_reading};
 ghost use Rattle.dagcbor_heads.specs.Refusals.{Refuses};
 ghost use Rattle.dagcbor_heads.specs.declared.error.DecodeError.TheVariants.{Failed};
 ghost use Rattle.ipld_tree.specs.Tree.{text};
-ghost use Rattle.dagcbor_read.specs.Calls.{progress, Call};
+ghost use Rattle.dagcbor_read.specs.Calls.{progress, Call, Over};
 ghost use Rattle.dagcbor_read.specs.Accessors.{ReadsHead, BeginsItems, ReadsKeyAfter, OfBegin};
 ghost use Rattle.dagcbor_items.specs.Variants.{OfKey};
 
@@ -58,7 +57,7 @@ impl<'de, R: Read> Deserializer<'de, R> {
         alloc: Global,
         last: &Option<CowStr<'de>>,
     ) -> Result<(CowStr<'de>, CowStr<'de>), DecodeError<R::Error>>
-        ensures key { Call (ReadsKeyAfter (option_map cow_str_bytes last.now)) (progress R.reading self.old) result (progress R.reading self.new) }
+        ensures key { Over R.reading (Call (ReadsKeyAfter (option_map cow_str_bytes last.now))) self.old result self.new }
         ensures lent { IfOk result (λ p. IsBorrowedStr p.0 ↔ ((progress R.reading self.old).input.lends ≡ true)) }
         ensures variant { IfErr result OfKey }
     {
@@ -78,7 +77,7 @@ impl<'de, R: Read> Deserializer<'de, R> {
         major: u8,
         more: u8,
     ) -> Result<Accessor<'de>, DecodeError<R::Error>>
-        ensures begun { Call (BeginsItems major name.now (more + 1)) (progress R.reading self.old) result (progress R.reading self.new) }
+        ensures begun { Over R.reading (Call (BeginsItems major name.now (more + 1))) self.old result self.new }
         ensures variant { IfErr result OfBegin }
     {
         self.begin()?;
@@ -90,7 +89,7 @@ impl<'de, R: Read> Deserializer<'de, R> {
 
     /// Begins a list. Takes no memory.
     pub fn deserialize_seq(&mut self) -> Result<Accessor<'de>, DecodeError<R::Error>>
-        ensures begun { Call (BeginsItems 4 (codes "array") 1) (progress R.reading self.old) result (progress R.reading self.new) }
+        ensures begun { Over R.reading (Call (BeginsItems 4 (codes "array") 1)) self.old result self.new }
         ensures variant { IfErr result OfBegin }
     {
         self.begin_items("array", 4, 0)
@@ -98,7 +97,7 @@ impl<'de, R: Read> Deserializer<'de, R> {
 
     /// Begins a list for a tuple, whose length is not looked at. Takes no memory.
     pub fn deserialize_tuple(&mut self, _len: usize) -> Result<Accessor<'de>, DecodeError<R::Error>>
-        ensures begun { Call (BeginsItems 4 (codes "tuple") 1) (progress R.reading self.old) result (progress R.reading self.new) }
+        ensures begun { Over R.reading (Call (BeginsItems 4 (codes "tuple") 1)) self.old result self.new }
         ensures variant { IfErr result OfBegin }
     {
         self.begin_items("tuple", 4, 0)
@@ -110,7 +109,7 @@ impl<'de, R: Read> Deserializer<'de, R> {
         name: &str,
         _len: usize,
     ) -> Result<Accessor<'de>, DecodeError<R::Error>>
-        ensures begun { Call (BeginsItems 4 name.now 1) (progress R.reading self.old) result (progress R.reading self.new) }
+        ensures begun { Over R.reading (Call (BeginsItems 4 name.now 1)) self.old result self.new }
         ensures variant { IfErr result OfBegin }
     {
         self.begin_items(name, 4, 0)
@@ -118,7 +117,7 @@ impl<'de, R: Read> Deserializer<'de, R> {
 
     /// Begins a map. Takes no memory.
     pub fn deserialize_map(&mut self) -> Result<Accessor<'de>, DecodeError<R::Error>>
-        ensures begun { Call (BeginsItems 5 (codes "map") 1) (progress R.reading self.old) result (progress R.reading self.new) }
+        ensures begun { Over R.reading (Call (BeginsItems 5 (codes "map") 1)) self.old result self.new }
         ensures variant { IfErr result OfBegin }
     {
         self.begin_items("map", 5, 0)
@@ -130,7 +129,7 @@ impl<'de, R: Read> Deserializer<'de, R> {
         name: &str,
         _fields: &[&str],
     ) -> Result<Accessor<'de>, DecodeError<R::Error>>
-        ensures begun { Call (BeginsItems 5 name.now 1) (progress R.reading self.old) result (progress R.reading self.new) }
+        ensures begun { Over R.reading (Call (BeginsItems 5 name.now 1)) self.old result self.new }
         ensures variant { IfErr result OfBegin }
     {
         self.begin_items(name, 5, 0)

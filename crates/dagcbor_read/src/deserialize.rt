@@ -1,7 +1,7 @@
 //! What can be read.
 
 ghost use Rattle.std.specs.Prelude.{◌≡◌, false};
-ghost use Rattle.dagcbor_read.specs.Calls.{progress, StaysFailed};
+ghost use Rattle.dagcbor_read.specs.Calls.{StaysFailed, Over};
 ghost use Rattle.dagcbor_read.specs.Values.{ReadsValue};
 
 use crate::deserializer::Deserializer;
@@ -16,11 +16,11 @@ pub trait Deserialize<'de>: Shown + Sized + Drop {
         alloc: Global,
         de: &mut Deserializer<'de, R>,
     ) -> Result<Self, DecodeError<R::Error>>
-        ensures value { ReadsValue Self.held Self.view Self.need Self.borrows (progress R.reading de.old) result (progress R.reading de.new) }
-        ensures failed { StaysFailed (progress R.reading de.old) result (progress R.reading de.new) };
+        ensures value { Over R.reading (ReadsValue Self.held Self.shape) de.old result de.new }
+        ensures failed { Over R.reading StaysFailed de.old result de.new };
 }
 
 /// A value that borrows nothing from the input.
 pub trait DeserializeOwned<'de>: Deserialize<'de> {
-    ghost owned: { Self.borrows ≡ false };
+    ghost owned: { Self.shape.borrows ≡ false };
 }

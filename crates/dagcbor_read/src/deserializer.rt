@@ -4,7 +4,7 @@ ghost use Rattle.std.specs.Prelude.{◌≡◌, [], false, true, MatchResult, Som
 ghost use Rattle.dagcbor_heads.specs.Inputs.{unlent};
 ghost use Rattle.dagcbor_heads.specs.declared.error.DecodeError.TheVariants.{Failed};
 ghost use Rattle.dagcbor_items.specs.Looks.{LooksAtAny};
-ghost use Rattle.dagcbor_read.specs.Calls.{progress, Call, Ends};
+ghost use Rattle.dagcbor_read.specs.Calls.{progress, Call, Ends, Over};
 ghost use Rattle.dagcbor_items.specs.Untyped.{ReadsItem};
 ghost use Rattle.dagcbor_items.specs.Links.{ReadsLink};
 ghost use Rattle.dagcbor_items.specs.Variants.{OfItem, OfLink};
@@ -71,7 +71,7 @@ impl<'de, R: Read> Deserializer<'de, R> {
 
     /// Reads an item of any kind, no deeper than the steps that are left.
     pub fn deserialize_any(&mut self, alloc: Global) -> Result<Ipld, DecodeError<R::Error>>
-        ensures item { Call (ReadsItem 0) (progress R.reading self.old) result (progress R.reading self.new) }
+        ensures item { Over R.reading (Call (ReadsItem 0)) self.old result self.new }
         ensures looked { LooksAtAny (progress R.reading self.old).input result (progress R.reading self.new).input }
         ensures variant { IfErr result OfItem }
     {
@@ -83,7 +83,7 @@ impl<'de, R: Read> Deserializer<'de, R> {
 
     /// Reads a link, and takes no memory.
     pub fn deserialize_cid(&mut self) -> Result<Cid, DecodeError<R::Error>>
-        ensures link { Call ReadsLink (progress R.reading self.old) result (progress R.reading self.new) }
+        ensures link { Over R.reading (Call ReadsLink) self.old result self.new }
         ensures variant { IfErr result OfLink }
     {
         self.begin()?;
@@ -94,7 +94,7 @@ impl<'de, R: Read> Deserializer<'de, R> {
 
     /// Whether the input ends here: `TrailingData` where a byte is left, which stays, and reading may go on.
     pub fn end(&mut self) -> Result<(), DecodeError<R::Error>>
-        ensures { Ends (progress R.reading self.old) result (progress R.reading self.new) }
+        ensures { Over R.reading Ends self.old result self.new }
     {
         self.begin()?;
         let at_end = is_at_end(&mut self.input)?;

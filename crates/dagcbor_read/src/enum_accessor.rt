@@ -2,7 +2,7 @@
 
 ghost use Rattle.std.specs.Prelude.{◌≡◌, ◌+◌, ◌≤◌, ◌↔◌, true, IfOk, IfErr, codes};
 ghost use Rattle.std.specs.Cow.{IsBorrowedStr};
-ghost use Rattle.dagcbor_read.specs.Calls.{progress, Call, AreOut};
+ghost use Rattle.dagcbor_read.specs.Calls.{progress, Call, AreOut, Over};
 ghost use Rattle.dagcbor_read.specs.Enums.{begun_enum, BeginsEnum, SpendsEnum, ReadsName, IsOtherForm, EntersMap, EndsUnit, ReadsHeld, BeginsHeld, OfForm};
 ghost use Rattle.dagcbor_read.specs.Accessors.{OfBegin};
 ghost use Rattle.dagcbor_items.specs.Variants.{OfByte, OfText};
@@ -68,7 +68,7 @@ impl<'de, R: Read> Deserializer<'de, R> {
         name: &str,
         _variants: &[&str],
     ) -> Result<EnumAccessor, DecodeError<R::Error>>
-        ensures form { Call (SpendsEnum name.now) (progress R.reading self.old) result (progress R.reading self.new) }
+        ensures form { Over R.reading (Call (SpendsEnum name.now)) self.old result self.new }
         ensures variant { IfErr result OfForm }
     {
         self.begin()?;
@@ -83,7 +83,7 @@ impl EnumAccessor {
     pub fn enum_<'de, R: Read>(
         de: &mut Deserializer<'de, R>,
     ) -> Result<EnumAccessor, DecodeError<R::Error>>
-        ensures form { Call BeginsEnum (progress R.reading de.old) result (progress R.reading de.new) }
+        ensures form { Over R.reading (Call BeginsEnum) de.old result de.new }
         ensures variant { IfErr result OfByte }
     {
         de.begin()?;
@@ -99,7 +99,7 @@ impl EnumAccessor {
         de: &mut Deserializer<'de, R>,
     ) -> Result<(CowStr<'de>, EnumAccessor), DecodeError<R::Error>>
         ensures same { IfOk result (λ v. v.1 ≡ self) }
-        ensures text { Call ReadsName (progress R.reading de.old) result (progress R.reading de.new) }
+        ensures text { Over R.reading (Call ReadsName) de.old result de.new }
         ensures lent { IfOk result (λ v. IsBorrowedStr v.0 ↔ ((progress R.reading de.old).input.lends ≡ true)) }
         ensures variant { IfErr result OfText }
     {
@@ -113,7 +113,7 @@ impl EnumAccessor {
         de: &mut Deserializer<'de, R>,
     ) -> Result<(), DecodeError<R::Error>>
         requires { AreOut (begun_enum self).steps (progress R.reading de.old) }
-        ensures { Call (EndsUnit (begun_enum self)) (progress R.reading de.old) result (progress R.reading de.new) }
+        ensures { Over R.reading (Call (EndsUnit (begun_enum self))) de.old result de.new }
     {
         de.begin()?;
         if self.in_map {
@@ -131,7 +131,7 @@ impl EnumAccessor {
         de: &mut Deserializer<'de, R>,
     ) -> Result<T, DecodeError<R::Error>>
         requires { AreOut (begun_enum self).steps (progress R.reading de.old) }
-        ensures { Call (ReadsHeld T.held T.view T.need T.borrows (begun_enum self)) (progress R.reading de.old) result (progress R.reading de.new) }
+        ensures { Over R.reading (Call (ReadsHeld T.held T.shape (begun_enum self))) de.old result de.new }
     {
         self.enter_map(de)?;
         let part = de.read_part(alloc)?;
@@ -146,7 +146,7 @@ impl EnumAccessor {
         _len: usize,
         de: &mut Deserializer<'de, R>,
     ) -> Result<Accessor<'de>, DecodeError<R::Error>>
-        ensures begun { Call (BeginsHeld 4 (codes "tuple") (begun_enum self)) (progress R.reading de.old) result (progress R.reading de.new) }
+        ensures begun { Over R.reading (Call (BeginsHeld 4 (codes "tuple") (begun_enum self))) de.old result de.new }
         ensures variant { IfErr result OfBegin }
     {
         self.enter_map(de)?;
@@ -161,7 +161,7 @@ impl EnumAccessor {
         _fields: &[&str],
         de: &mut Deserializer<'de, R>,
     ) -> Result<Accessor<'de>, DecodeError<R::Error>>
-        ensures begun { Call (BeginsHeld 5 (codes "map") (begun_enum self)) (progress R.reading de.old) result (progress R.reading de.new) }
+        ensures begun { Over R.reading (Call (BeginsHeld 5 (codes "map") (begun_enum self))) de.old result de.new }
         ensures variant { IfErr result OfBegin }
     {
         self.enter_map(de)?;
@@ -183,7 +183,7 @@ impl EnumAccessor {
         &self,
         de: &mut Deserializer<'de, R>,
     ) -> Result<(), DecodeError<R::Error>>
-        ensures form { Call (EntersMap (begun_enum self.now)) (progress R.reading de.old) result (progress R.reading de.new) }
+        ensures form { Over R.reading (Call (EntersMap (begun_enum self.now))) de.old result de.new }
         ensures variant { IfErr result OfByte }
     {
         de.begin()?;

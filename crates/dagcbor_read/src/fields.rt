@@ -2,12 +2,12 @@
 
 ghost use Rattle.std.specs.Prelude.{◌≡◌, ◌+◌, ◌≤◌, ℕ, List, Bool, Option, option_map, true, false, codes};
 ghost use Rattle.ipld_tree.specs.Tree.{Tree, any_need};
-ghost use Rattle.dagcbor_items.specs.Views.{view_ignored};
-ghost use Rattle.dagcbor_read.specs.Calls.{progress, StaysFailed};
+ghost use Rattle.dagcbor_items.specs.Shapes.{ignored};
+ghost use Rattle.dagcbor_read.specs.Calls.{progress, StaysFailed, Over};
 ghost use Rattle.dagcbor_read.specs.Values.{ReadsValue};
 ghost use Rattle.dagcbor_read.specs.Accessors.{begun, HasHeadOf, BeginsItems};
 ghost use Rattle.dagcbor_read.specs.Parts.{RefusesToBegin};
-ghost use Rattle.dagcbor_read.specs.Collections.{view_fields, need_fields, view_slot, ReadsEntriesLeft};
+ghost use Rattle.dagcbor_read.specs.Collections.{FieldShape, fields_of, value_of, slot_of, ReadsEntriesLeft};
 
 use crate::accessor::Accessor;
 use crate::deserialize::Deserialize;
@@ -22,14 +22,8 @@ pub trait Fields<'de>: Sized + Drop {
 
     ghost state: { Self → State };
 
-    /// What it holds once the value of a key was read. None where the value is not accepted.
-    ghost take: { State → List ℕ → Tree → Option State };
-
-    /// The steps that reading the value of a key takes.
-    ghost need: { List ℕ → Tree → ℕ };
-
-    /// Whether it borrows from the input.
-    ghost borrows: { Bool };
+    /// What the value of a key makes of it.
+    ghost shape: { FieldShape State };
 
     /// Reads the value of the key, or skips it.
     fn read_field<R: Read>(
@@ -38,7 +32,7 @@ pub trait Fields<'de>: Sized + Drop {
         key: &str,
         de: &mut Deserializer<'de, R>,
     ) -> Result<(), DecodeError<R::Error>>
-        ensures { ReadsValue (λ _. state self.new) (take (state self.old) key.now) (need key.now) Self.borrows (progress R.reading de.old) result (progress R.reading de.new) };
+        ensures { Over R.reading (ReadsValue (λ _. state self.new) (value_of Self.shape (state self.old) key.now)) de.old result de.new };
 }
 
 /// Reads all that is left of a map, and ends it.
@@ -52,7 +46,7 @@ pub(crate) fn read_entries_left<'de, F: Fields<'de>, R: Read>(
     requires in_turn { (begun entries).owes_value ≡ false }
     requires sound { (progress R.reading de.old).failed ≡ false }
     requires out { (progress R.reading de.old).input.steps + (begun entries).steps ≤ (progress R.reading de.old).input.budget }
-    ensures { ReadsEntriesLeft F.state F.take F.need F.borrows (F.state fields) (begun entries.entry) (progress R.reading de.old) result (progress R.reading de.new) }
+    ensures { Over R.reading (ReadsEntriesLeft F.state F.shape (F.state fields) (begun entries.entry)) de.old result de.new }
 {
     let mut fields = fields;
     let mut entries = entries;
@@ -70,9 +64,9 @@ pub fn read_fields<'de, F: Fields<'de>, R: Read>(
     fields: F,
     de: &mut Deserializer<'de, R>,
 ) -> Result<F, DecodeError<R::Error>>
-    ensures value { ReadsValue F.state (view_fields F.take (F.state fields)) (need_fields F.need) F.borrows (progress R.reading de.old) result (progress R.reading de.new) }
-    ensures named { RefusesToBegin (HasHeadOf 5) (BeginsItems 5 (codes "map") 1) (progress R.reading de.old) result (progress R.reading de.new) }
-    ensures failed { StaysFailed (progress R.reading de.old) result (progress R.reading de.new) }
+    ensures value { Over R.reading (ReadsValue F.state (fields_of F.shape (F.state fields))) de.old result de.new }
+    ensures named { Over R.reading (RefusesToBegin (HasHeadOf 5) (BeginsItems 5 (codes "map") 1)) de.old result de.new }
+    ensures failed { Over R.reading StaysFailed de.old result de.new }
 {
     let entries = de.deserialize_map()?;
     read_entries_left(alloc, fields, entries, de)
@@ -86,9 +80,9 @@ pub fn read_struct<'de, F: Fields<'de>, R: Read>(
     fields: F,
     de: &mut Deserializer<'de, R>,
 ) -> Result<F, DecodeError<R::Error>>
-    ensures value { ReadsValue F.state (view_fields F.take (F.state fields)) (need_fields F.need) F.borrows (progress R.reading de.old) result (progress R.reading de.new) }
-    ensures named { RefusesToBegin (HasHeadOf 5) (BeginsItems 5 name.now 1) (progress R.reading de.old) result (progress R.reading de.new) }
-    ensures failed { StaysFailed (progress R.reading de.old) result (progress R.reading de.new) }
+    ensures value { Over R.reading (ReadsValue F.state (fields_of F.shape (F.state fields))) de.old result de.new }
+    ensures named { Over R.reading (RefusesToBegin (HasHeadOf 5) (BeginsItems 5 name.now 1)) de.old result de.new }
+    ensures failed { Over R.reading StaysFailed de.old result de.new }
 {
     let entries = de.deserialize_struct(name, names)?;
     read_entries_left(alloc, fields, entries, de)
@@ -100,8 +94,8 @@ pub fn read_into<'de, T: Deserialize<'de>, R: Read>(
     place: &mut Option<T>,
     de: &mut Deserializer<'de, R>,
 ) -> Result<(), DecodeError<R::Error>>
-    ensures value { ReadsValue (λ _. option_map T.held place.new) (view_slot T.view) T.need T.borrows (progress R.reading de.old) result (progress R.reading de.new) }
-    ensures failed { StaysFailed (progress R.reading de.old) result (progress R.reading de.new) }
+    ensures value { Over R.reading (ReadsValue (λ _. option_map T.held place.new) (slot_of T.shape)) de.old result de.new }
+    ensures failed { Over R.reading StaysFailed de.old result de.new }
 {
     let value = T::deserialize(alloc, de)?;
     *place = Some(value);
@@ -113,8 +107,8 @@ pub fn skip_value<'de, R: Read>(
     alloc: Global,
     de: &mut Deserializer<'de, R>,
 ) -> Result<(), DecodeError<R::Error>>
-    ensures value { ReadsValue (λ _. tt) view_ignored any_need false (progress R.reading de.old) result (progress R.reading de.new) }
-    ensures failed { StaysFailed (progress R.reading de.old) result (progress R.reading de.new) }
+    ensures value { Over R.reading (ReadsValue (λ _. tt) ignored) de.old result de.new }
+    ensures failed { Over R.reading StaysFailed de.old result de.new }
 {
     de.deserialize_ignored_any(alloc)
 }

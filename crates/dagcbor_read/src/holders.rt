@@ -1,7 +1,7 @@
 //! Types that hold one other.
 
 ghost use Rattle.std.specs.Prelude.{Option, option_map, box_value};
-ghost use Rattle.dagcbor_items.specs.Views.{view_option, need_option};
+ghost use Rattle.dagcbor_items.specs.Shapes.{option_of};
 
 use crate::deserialize::{Deserialize, DeserializeOwned};
 use crate::deserializer::Deserializer;
@@ -14,11 +14,7 @@ impl<T: Shown> Shown for Option<T> {
 
     ghost held = { option_map T.held };
 
-    ghost view = { view_option T.view };
-
-    ghost need = { need_option T.need };
-
-    ghost borrows = { T.borrows };
+    ghost shape = { option_of T.shape };
 }
 
 impl<'de, T: Deserialize<'de>> Deserialize<'de> for Option<T> {
@@ -39,11 +35,7 @@ impl<T: Shown> Shown for Box<T> {
 
     ghost held = { λ b. T.held (box_value b) };
 
-    ghost view = { T.view };
-
-    ghost need = { T.need };
-
-    ghost borrows = { T.borrows };
+    ghost shape = { T.shape };
 }
 
 impl<'de, T: Deserialize<'de>> Deserialize<'de> for Box<T> {

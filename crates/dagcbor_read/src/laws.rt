@@ -8,10 +8,10 @@ use dagcbor_heads::Read;
 
 /// What comes of a stream over known bytes is the stream of the type on these bytes.
 pub fn streams_exact<'de, T: Deserialize<'de>, R: Read>()
-    ensures { StreamsAreExact R.Error (streaming {T = T} R.reading) T.held T.view T.need T.borrows }
+    ensures { StreamsAreExact R.Error (streaming {T = T} R.reading) T.held T.shape }
 {}
 
 /// Of given bytes there is one stream of a type.
 pub fn stream_unique<T: Shown>()
-    ensures { StreamsAreUnique T.view T.need }
+    ensures { StreamsAreUnique T.shape }
 {}

@@ -1,7 +1,7 @@
 //! The types of other leaves.
 
 ghost use Rattle.std.specs.Prelude.{refl, ℕ, List, Bool, false, string_bytes};
-ghost use Rattle.dagcbor_items.specs.Views.{view_null, view_bool, view_char, view_text, view_bytes, no_need};
+ghost use Rattle.dagcbor_items.specs.Shapes.{view_null, view_bool, view_char, view_text, view_bytes, leaf};
 
 use crate::deserialize::{Deserialize, DeserializeOwned};
 use crate::deserializer::Deserializer;
@@ -15,11 +15,7 @@ impl Shown for () {
 
     ghost held = { λ u. u };
 
-    ghost view = { view_null };
-
-    ghost need = { no_need };
-
-    ghost borrows = { false };
+    ghost shape = { leaf view_null };
 }
 
 impl<'de> Deserialize<'de> for () {
@@ -40,11 +36,7 @@ impl Shown for bool {
 
     ghost held = { λ b. b };
 
-    ghost view = { view_bool };
-
-    ghost need = { no_need };
-
-    ghost borrows = { false };
+    ghost shape = { leaf view_bool };
 }
 
 impl<'de> Deserialize<'de> for bool {
@@ -65,11 +57,7 @@ impl Shown for char {
 
     ghost held = { λ c. c };
 
-    ghost view = { view_char };
-
-    ghost need = { no_need };
-
-    ghost borrows = { false };
+    ghost shape = { leaf view_char };
 }
 
 impl<'de> Deserialize<'de> for char {
@@ -90,11 +78,7 @@ impl Shown for String {
 
     ghost held = { string_bytes };
 
-    ghost view = { view_text };
-
-    ghost need = { no_need };
-
-    ghost borrows = { false };
+    ghost shape = { leaf view_text };
 }
 
 impl<'de> Deserialize<'de> for String {
@@ -115,11 +99,7 @@ impl Shown for Bytes {
 
     ghost held = { λ b. b.0.items };
 
-    ghost view = { view_bytes };
-
-    ghost need = { no_need };
-
-    ghost borrows = { false };
+    ghost shape = { leaf view_bytes };
 }
 
 impl<'de> Deserialize<'de> for Bytes {

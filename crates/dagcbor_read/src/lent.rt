@@ -2,7 +2,7 @@
 
 ghost use Rattle.std.specs.Prelude.{ℕ, List, false, true};
 ghost use Rattle.std.specs.Cow.{cow_str_bytes};
-ghost use Rattle.dagcbor_items.specs.Views.{view_text, view_bytes, no_need};
+ghost use Rattle.dagcbor_items.specs.Shapes.{view_text, view_bytes, leaf, lent_leaf};
 
 use crate::deserialize::Deserialize;
 use crate::deserializer::Deserializer;
@@ -17,11 +17,7 @@ impl Shown for &str {
 
     ghost held = { λ s. s.now };
 
-    ghost view = { view_text };
-
-    ghost need = { no_need };
-
-    ghost borrows = { true };
+    ghost shape = { lent_leaf view_text };
 }
 
 impl<'de> Deserialize<'de> for &'de str {
@@ -43,11 +39,7 @@ impl Shown for ByteSlice<'_> {
 
     ghost held = { λ s. s.0.now };
 
-    ghost view = { view_bytes };
-
-    ghost need = { no_need };
-
-    ghost borrows = { true };
+    ghost shape = { lent_leaf view_bytes };
 }
 
 impl<'de> Deserialize<'de> for ByteSlice<'de> {
@@ -70,11 +62,7 @@ impl Shown for CowStr<'_> {
 
     ghost held = { cow_str_bytes };
 
-    ghost view = { view_text };
-
-    ghost need = { no_need };
-
-    ghost borrows = { false };
+    ghost shape = { leaf view_text };
 }
 
 impl<'de> Deserialize<'de> for CowStr<'de> {

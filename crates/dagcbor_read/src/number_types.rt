@@ -1,7 +1,7 @@
 //! The types of numbers.
 
 ghost use Rattle.std.specs.Prelude.{refl, ◌^◌, ℕ, ℤ, false};
-ghost use Rattle.dagcbor_items.specs.Views.{view_unsigned, view_signed, no_need};
+ghost use Rattle.dagcbor_items.specs.Shapes.{view_unsigned, view_signed, leaf};
 
 use crate::deserialize::{Deserialize, DeserializeOwned};
 use crate::deserializer::Deserializer;
@@ -14,11 +14,7 @@ impl Shown for u8 {
 
     ghost held = { λ n. n };
 
-    ghost view = { view_unsigned (2 ^ 8) };
-
-    ghost need = { no_need };
-
-    ghost borrows = { false };
+    ghost shape = { leaf (view_unsigned (2 ^ 8)) };
 }
 
 impl<'de> Deserialize<'de> for u8 {
@@ -39,11 +35,7 @@ impl Shown for u16 {
 
     ghost held = { λ n. n };
 
-    ghost view = { view_unsigned (2 ^ 16) };
-
-    ghost need = { no_need };
-
-    ghost borrows = { false };
+    ghost shape = { leaf (view_unsigned (2 ^ 16)) };
 }
 
 impl<'de> Deserialize<'de> for u16 {
@@ -64,11 +56,7 @@ impl Shown for u32 {
 
     ghost held = { λ n. n };
 
-    ghost view = { view_unsigned (2 ^ 32) };
-
-    ghost need = { no_need };
-
-    ghost borrows = { false };
+    ghost shape = { leaf (view_unsigned (2 ^ 32)) };
 }
 
 impl<'de> Deserialize<'de> for u32 {
@@ -89,11 +77,7 @@ impl Shown for u64 {
 
     ghost held = { λ n. n };
 
-    ghost view = { view_unsigned (2 ^ 64) };
-
-    ghost need = { no_need };
-
-    ghost borrows = { false };
+    ghost shape = { leaf (view_unsigned (2 ^ 64)) };
 }
 
 impl<'de> Deserialize<'de> for u64 {
@@ -114,11 +98,7 @@ impl Shown for usize {
 
     ghost held = { λ n. n };
 
-    ghost view = { view_unsigned (2 ^ 64) };
-
-    ghost need = { no_need };
-
-    ghost borrows = { false };
+    ghost shape = { leaf (view_unsigned (2 ^ 64)) };
 }
 
 impl<'de> Deserialize<'de> for usize {
@@ -139,11 +119,7 @@ impl Shown for i8 {
 
     ghost held = { λ n. n };
 
-    ghost view = { view_signed (2 ^ 7) };
-
-    ghost need = { no_need };
-
-    ghost borrows = { false };
+    ghost shape = { leaf (view_signed (2 ^ 7)) };
 }
 
 impl<'de> Deserialize<'de> for i8 {
@@ -164,11 +140,7 @@ impl Shown for i16 {
 
     ghost held = { λ n. n };
 
-    ghost view = { view_signed (2 ^ 15) };
-
-    ghost need = { no_need };
-
-    ghost borrows = { false };
+    ghost shape = { leaf (view_signed (2 ^ 15)) };
 }
 
 impl<'de> Deserialize<'de> for i16 {
@@ -189,11 +161,7 @@ impl Shown for i32 {
 
     ghost held = { λ n. n };
 
-    ghost view = { view_signed (2 ^ 31) };
-
-    ghost need = { no_need };
-
-    ghost borrows = { false };
+    ghost shape = { leaf (view_signed (2 ^ 31)) };
 }
 
 impl<'de> Deserialize<'de> for i32 {
@@ -214,11 +182,7 @@ impl Shown for i64 {
 
     ghost held = { λ n. n };
 
-    ghost view = { view_signed (2 ^ 63) };
-
-    ghost need = { no_need };
-
-    ghost borrows = { false };
+    ghost shape = { leaf (view_signed (2 ^ 63)) };
 }
 
 impl<'de> Deserialize<'de> for i64 {
@@ -239,11 +203,7 @@ impl Shown for isize {
 
     ghost held = { λ n. n };
 
-    ghost view = { view_signed (2 ^ 63) };
-
-    ghost need = { no_need };
-
-    ghost borrows = { false };
+    ghost shape = { leaf (view_signed (2 ^ 63)) };
 }
 
 impl<'de> Deserialize<'de> for isize {
@@ -264,11 +224,7 @@ impl Shown for u128 {
 
     ghost held = { λ n. n };
 
-    ghost view = { view_unsigned (2 ^ 128) };
-
-    ghost need = { no_need };
-
-    ghost borrows = { false };
+    ghost shape = { leaf (view_unsigned (2 ^ 128)) };
 }
 
 impl<'de> Deserialize<'de> for u128 {
@@ -289,11 +245,7 @@ impl Shown for i128 {
 
     ghost held = { λ n. n };
 
-    ghost view = { view_signed (2 ^ 127) };
-
-    ghost need = { no_need };
-
-    ghost borrows = { false };
+    ghost shape = { leaf (view_signed (2 ^ 127)) };
 }
 
 impl<'de> Deserialize<'de> for i128 {

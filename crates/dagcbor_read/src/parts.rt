@@ -1,6 +1,6 @@
 //! Reading values of other types: parts, and values that may be null.
 
-ghost use Rattle.dagcbor_read.specs.Calls.{progress, Call};
+ghost use Rattle.dagcbor_read.specs.Calls.{Call, Over};
 ghost use Rattle.dagcbor_read.specs.Parts.{ReadsPart, ReadsOption, EntersOption};
 
 use crate::deserialize::Deserialize;
@@ -27,7 +27,7 @@ fn enter_option<R: Read>(reader: &mut R) -> Result<bool, DecodeError<R::Error>>
 
 impl<'de, R: Read> Deserializer<'de, R> {
     fn enter_option(&mut self) -> Result<bool, DecodeError<R::Error>>
-        ensures { Call EntersOption (progress R.reading self.old) result (progress R.reading self.new) }
+        ensures { Over R.reading (Call EntersOption) self.old result self.new }
     {
         self.begin()?;
         let is_null = enter_option(&mut self.input)?;
@@ -40,7 +40,7 @@ impl<'de, R: Read> Deserializer<'de, R> {
         &mut self,
         alloc: Global,
     ) -> Result<T, DecodeError<R::Error>>
-        ensures { Call (ReadsPart T.held T.view T.need T.borrows) (progress R.reading self.old) result (progress R.reading self.new) }
+        ensures { Over R.reading (Call (ReadsPart T.held T.shape)) self.old result self.new }
     {
         if self.failed {
             return Err(DecodeError::Failed);
@@ -60,7 +60,7 @@ impl<'de, R: Read> Deserializer<'de, R> {
         alloc: Global,
         _name: &str,
     ) -> Result<T, DecodeError<R::Error>>
-        ensures { Call (ReadsPart T.held T.view T.need T.borrows) (progress R.reading self.old) result (progress R.reading self.new) }
+        ensures { Over R.reading (Call (ReadsPart T.held T.shape)) self.old result self.new }
     {
         self.read_part(alloc)
     }
@@ -70,7 +70,7 @@ impl<'de, R: Read> Deserializer<'de, R> {
         &mut self,
         alloc: Global,
     ) -> Result<Option<T>, DecodeError<R::Error>>
-        ensures { Call (ReadsOption T.held T.view T.need T.borrows) (progress R.reading self.old) result (progress R.reading self.new) }
+        ensures { Over R.reading (Call (ReadsOption T.held T.shape)) self.old result self.new }
     {
         if self.enter_option()? {
             return Ok(None);

@@ -3,11 +3,12 @@
 ghost use Rattle.std.specs.Prelude.{◌≡◌, ◌+◌, ◌≤◌, ℕ, Bool, List, Option, map, true, false, ◌||◌, ⊤, MatchResult};
 ghost use Rattle.dagcbor_heads.specs.Refusals.{Refuses};
 ghost use Rattle.ipld_tree.specs.Tree.{Items};
-ghost use Rattle.dagcbor_read.specs.Calls.{progress, StaysFailed};
+ghost use Rattle.dagcbor_read.specs.Calls.{progress, StaysFailed, Over};
 ghost use Rattle.dagcbor_items.specs.Reads.{Anything};
 ghost use Rattle.dagcbor_read.specs.Values.{ReadsValue};
 ghost use Rattle.dagcbor_read.specs.Accessors.{begun};
-ghost use Rattle.dagcbor_read.specs.Collections.{view_list, need_list, view_items, need_items, view_none, need_none, view_first, need_first, ReadsRow, ReadsRest};
+ghost use Rattle.dagcbor_read.specs.Collections.{list_of, items_of, no_more, first_then, ReadsRow, ReadsRest};
+ghost use Rattle.dagcbor_items.specs.Shapes.{Shape};
 
 use crate::accessor::Accessor;
 use crate::deserialize::Deserialize;
@@ -22,11 +23,8 @@ pub(crate) trait Row<'de>: Sized + Drop {
     ghost held: { Self → View };
 
     /// What the items show. None where they are not accepted.
-    ghost view: { Items → Option View };
-
-    ghost need: { Items → ℕ };
-
-    ghost borrows: { Bool };
+    /// What the items show.
+    ghost shape: { Shape Items View };
 
     /// Reads from the first item that is left on.
     fn read_row<R: Read>(
@@ -36,7 +34,7 @@ pub(crate) trait Row<'de>: Sized + Drop {
     ) -> Result<Self, DecodeError<R::Error>>
         requires list { (begun items.old).is_map ≡ false }
         requires sound { (progress R.reading de.old).failed ≡ false }
-        ensures { ReadsRow Self.held Self.view Self.need Self.borrows (begun items.old) (progress R.reading de.old) result (begun items.new) (progress R.reading de.new) };
+        ensures { ReadsRow Self.held Self.shape (begun items.old) (progress R.reading de.old) result (begun items.new) (progress R.reading de.new) };
 }
 
 impl<'de, T: Deserialize<'de>> Row<'de> for Vec<T> {
@@ -44,11 +42,7 @@ impl<'de, T: Deserialize<'de>> Row<'de> for Vec<T> {
 
     ghost held = { λ v. map T.held v.items };
 
-    ghost view = { view_items T.view };
-
-    ghost need = { need_items T.need };
-
-    ghost borrows = { T.borrows };
+    ghost shape = { items_of T.shape };
 
     fn read_row<R: Read>(
         alloc: Global,
@@ -70,11 +64,7 @@ impl<'de> Row<'de> for () {
 
     ghost held = { λ u. tt };
 
-    ghost view = { view_none };
-
-    ghost need = { need_none };
-
-    ghost borrows = { false };
+    ghost shape = { no_more };
 
     fn read_row<R: Read>(
         _alloc: Global,
@@ -90,11 +80,7 @@ impl<'de, T: Deserialize<'de>, L: Row<'de>> Row<'de> for (T, L) {
 
     ghost held = { λ p. (T.held p.0, L.held p.1) };
 
-    ghost view = { view_first T.view L.view };
-
-    ghost need = { need_first T.need L.need };
-
-    ghost borrows = { T.borrows || L.borrows };
+    ghost shape = { first_then T.shape L.shape };
 
     fn read_row<R: Read>(
         alloc: Global,
@@ -119,7 +105,7 @@ pub(crate) fn read_rest<'de, L: Row<'de>, R: Read>(
     requires in_turn { (begun items).owes_value ≡ false }
     requires sound { (progress R.reading de.old).failed ≡ false }
     requires out { (progress R.reading de.old).input.steps + (begun items).steps ≤ (progress R.reading de.old).input.budget }
-    ensures { ReadsRest L.held L.view L.need L.borrows (begun items.entry) (progress R.reading de.old) result (progress R.reading de.new) }
+    ensures { Over R.reading (ReadsRest L.held L.shape (begun items.entry)) de.old result de.new }
 {
     let mut items = items;
     let row = L::read_row(alloc, &mut items, de)?;
@@ -133,8 +119,8 @@ pub(crate) fn read_tuple<'de, L: Row<'de>, R: Read>(
     len: usize,
     de: &mut Deserializer<'de, R>,
 ) -> Result<L, DecodeError<R::Error>>
-    ensures value { ReadsValue L.held (view_list L.view) (need_list L.need) L.borrows (progress R.reading de.old) result (progress R.reading de.new) }
-    ensures failed { StaysFailed (progress R.reading de.old) result (progress R.reading de.new) }
+    ensures value { Over R.reading (ReadsValue L.held (list_of L.shape)) de.old result de.new }
+    ensures failed { Over R.reading StaysFailed de.old result de.new }
 {
     let items = de.deserialize_tuple(len)?;
     read_rest(alloc, items, de)

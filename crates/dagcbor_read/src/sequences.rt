@@ -1,7 +1,7 @@
 //! Vectors, and tuples of one to four.
 
 ghost use Rattle.std.specs.Prelude.{List, map, false, ◌||◌, refl};
-ghost use Rattle.dagcbor_read.specs.Collections.{view_list, need_list, view_items, need_items, view_none, need_none, view_first, need_first, neither};
+ghost use Rattle.dagcbor_read.specs.Collections.{list_of, items_of, no_more, first_then, neither};
 
 use crate::deserialize::{Deserialize, DeserializeOwned};
 use crate::deserializer::Deserializer;
@@ -15,11 +15,7 @@ impl<T: Shown> Shown for Vec<T> {
 
     ghost held = { λ v. map T.held v.items };
 
-    ghost view = { view_list (view_items T.view) };
-
-    ghost need = { need_list (need_items T.need) };
-
-    ghost borrows = { T.borrows };
+    ghost shape = { list_of (items_of T.shape) };
 }
 
 impl<'de, T: Deserialize<'de>> Deserialize<'de> for Vec<T> {
@@ -41,11 +37,7 @@ impl<A: Shown> Shown for (A,) {
 
     ghost held = { λ p. (A.held p.0, tt) };
 
-    ghost view = { view_list (view_first A.view view_none) };
-
-    ghost need = { need_list (need_first A.need need_none) };
-
-    ghost borrows = { A.borrows || false };
+    ghost shape = { list_of (first_then A.shape no_more) };
 }
 
 impl<'de, A: Deserialize<'de>> Deserialize<'de> for (A,) {
@@ -67,11 +59,7 @@ impl<A: Shown, B: Shown> Shown for (A, B) {
 
     ghost held = { λ p. (A.held p.0, (B.held p.1, tt)) };
 
-    ghost view = { view_list (view_first A.view (view_first B.view view_none)) };
-
-    ghost need = { need_list (need_first A.need (need_first B.need need_none)) };
-
-    ghost borrows = { A.borrows || (B.borrows || false) };
+    ghost shape = { list_of (first_then A.shape (first_then B.shape no_more)) };
 }
 
 impl<'de, A: Deserialize<'de>, B: Deserialize<'de>> Deserialize<'de> for (A, B) {
@@ -93,11 +81,7 @@ impl<A: Shown, B: Shown, C: Shown> Shown for (A, B, C) {
 
     ghost held = { λ p. (A.held p.0, (B.held p.1, (C.held p.2, tt))) };
 
-    ghost view = { view_list (view_first A.view (view_first B.view (view_first C.view view_none))) };
-
-    ghost need = { need_list (need_first A.need (need_first B.need (need_first C.need need_none))) };
-
-    ghost borrows = { A.borrows || (B.borrows || (C.borrows || false)) };
+    ghost shape = { list_of (first_then A.shape (first_then B.shape (first_then C.shape no_more))) };
 }
 
 impl<'de, A: Deserialize<'de>, B: Deserialize<'de>, C: Deserialize<'de>> Deserialize<'de>
@@ -125,11 +109,7 @@ impl<A: Shown, B: Shown, C: Shown, D: Shown> Shown for (A, B, C, D) {
 
     ghost held = { λ p. (A.held p.0, (B.held p.1, (C.held p.2, (D.held p.3, tt)))) };
 
-    ghost view = { view_list (view_first A.view (view_first B.view (view_first C.view (view_first D.view view_none)))) };
-
-    ghost need = { need_list (need_first A.need (need_first B.need (need_first C.need (need_first D.need need_none)))) };
-
-    ghost borrows = { A.borrows || (B.borrows || (C.borrows || (D.borrows || false))) };
+    ghost shape = { list_of (first_then A.shape (first_then B.shape (first_then C.shape (first_then D.shape no_more)))) };
 }
 
 impl<

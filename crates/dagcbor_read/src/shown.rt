@@ -1,7 +1,7 @@
 //! What trees mean to a type.
 
-ghost use Rattle.std.specs.Prelude.{ℕ, Bool, Option};
 ghost use Rattle.ipld_tree.specs.Tree.{Tree};
+ghost use Rattle.dagcbor_items.specs.Shapes.{Shape};
 
 /// What trees mean to a type.
 pub trait Shown {
@@ -10,12 +10,6 @@ pub trait Shown {
 
     ghost held: { Self → View };
 
-    /// What a tree shows to the type. None where the type does not accept the tree.
-    ghost view: { Tree → Option View };
-
-    /// The steps that reading the tree takes.
-    ghost need: { Tree → ℕ };
-
-    /// Whether the type borrows from the input.
-    ghost borrows: { Bool };
+    /// The value that a tree shows, the steps that reading it takes, and whether the type borrows from the input.
+    ghost shape: { Shape Tree View };
 }

@@ -2,7 +2,7 @@
 
 ghost use Rattle.std.specs.Prelude.{IfErr};
 ghost use Rattle.dagcbor_items.specs.LeafReads.{ReadsNull, ReadsBool};
-ghost use Rattle.dagcbor_read.specs.Calls.{progress, Call};
+ghost use Rattle.dagcbor_read.specs.Calls.{Call, Over};
 ghost use Rattle.dagcbor_items.specs.Variants.{OfByte};
 
 use crate::deserializer::Deserializer;
@@ -12,7 +12,7 @@ use dagcbor_items::{pull_bool, pull_null};
 impl<'de, R: Read> Deserializer<'de, R> {
     /// Reads a null.
     pub fn deserialize_unit(&mut self) -> Result<(), DecodeError<R::Error>>
-        ensures null { Call ReadsNull (progress R.reading self.old) result (progress R.reading self.new) }
+        ensures null { Over R.reading (Call ReadsNull) self.old result self.new }
         ensures variant { IfErr result OfByte }
     {
         self.begin()?;
@@ -23,7 +23,7 @@ impl<'de, R: Read> Deserializer<'de, R> {
 
     /// As `deserialize_unit`, whatever the name.
     pub fn deserialize_unit_struct(&mut self, _name: &str) -> Result<(), DecodeError<R::Error>>
-        ensures null { Call ReadsNull (progress R.reading self.old) result (progress R.reading self.new) }
+        ensures null { Over R.reading (Call ReadsNull) self.old result self.new }
         ensures variant { IfErr result OfByte }
     {
         self.deserialize_unit()
@@ -31,7 +31,7 @@ impl<'de, R: Read> Deserializer<'de, R> {
 
     /// Reads false or true.
     pub fn deserialize_bool(&mut self) -> Result<bool, DecodeError<R::Error>>
-        ensures value { Call ReadsBool (progress R.reading self.old) result (progress R.reading self.new) }
+        ensures value { Over R.reading (Call ReadsBool) self.old result self.new }
         ensures variant { IfErr result OfByte }
     {
         self.begin()?;

@@ -16,7 +16,7 @@ pub fn from_reader<'de, T: DeserializeOwned<'de>, R: BufRead + Drop>(
     alloc: Global,
     reader: R,
 ) -> Result<T, DecodeError<io::Error>>
-    ensures { ReadsWhole ⊤ T.held T.view T.need (R.remaining reader) result }
+    ensures { ReadsWhole ⊤ T.held T.shape (R.remaining reader) result }
 {
     let mut de = Deserializer::from_reader(IoReader::new(reader));
     let value = T::deserialize(alloc, &mut de)?;
@@ -30,7 +30,7 @@ pub fn from_reader_once<'de, T: DeserializeOwned<'de>, R: BufRead>(
     alloc: Global,
     reader: &mut R,
 ) -> Result<T, DecodeError<io::Error>>
-    ensures { ReadsFirst T.held T.view T.need (R.remaining reader.old) result (R.remaining reader.new) }
+    ensures { ReadsFirst T.held T.shape (R.remaining reader.old) result (R.remaining reader.new) }
 {
     let mut de = Deserializer::from_reader(IoRefReader::new(reader));
     let result = T::deserialize(alloc, &mut de);

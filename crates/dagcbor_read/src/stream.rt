@@ -1,7 +1,7 @@
 //! Streams: values one behind the other, up to the end of the input.
 
 ghost use Rattle.std.specs.Prelude.{◌≡◌, [], false};
-ghost use Rattle.dagcbor_read.specs.Calls.{progress, Call};
+ghost use Rattle.dagcbor_read.specs.Calls.{progress, Call, Over};
 ghost use Rattle.dagcbor_read.specs.Streams.{streaming, items_left, ReadsNext, GivesNext};
 
 use crate::deserialize::{Deserialize, DeserializeOwned};
@@ -47,7 +47,7 @@ impl<'de, R: Read> Deserializer<'de, R> {
         &mut self,
         alloc: Global,
     ) -> Result<Option<T>, DecodeError<R::Error>>
-        ensures { Call (ReadsNext T.held T.view T.need T.borrows) (progress R.reading self.old) result (progress R.reading self.new) }
+        ensures { Over R.reading (Call (ReadsNext T.held T.shape)) self.old result self.new }
     {
         self.begin()?;
         if is_at_end(&mut self.input)? {
@@ -64,7 +64,7 @@ impl<'de, R: Read, T: Deserialize<'de>> Iterator for StreamDeserializer<'de, R, 
     type Item = Result<T, DecodeError<R::Error>>;
 
     // Nothing of a stream that is done; else what reading the next value answers.
-    ghost next_gives = { λ old item new. GivesNext T.held T.view T.need T.borrows (streaming R.reading old) item (streaming R.reading new) };
+    ghost next_gives = { λ old item new. GivesNext T.held T.shape (streaming R.reading old) item (streaming R.reading new) };
 
     // Of n bytes at most n + 1 items, since a value takes a byte.
     ghost remaining = { λ s. items_left (streaming R.reading s) };

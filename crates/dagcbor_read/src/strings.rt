@@ -3,7 +3,7 @@
 ghost use Rattle.std.specs.Prelude.{◌≡◌, ◌↔◌, true, IfOk, codes, IfErr};
 ghost use Rattle.std.specs.Cow.{IsBorrowedSlice, IsBorrowedStr};
 ghost use Rattle.dagcbor_items.specs.LeafReads.{ReadsStr, ReadsOwnedText, ReadsChar, ReadsByteSlice, ReadsOwnedBytes};
-ghost use Rattle.dagcbor_read.specs.Calls.{progress, Call};
+ghost use Rattle.dagcbor_read.specs.Calls.{progress, Call, Over};
 ghost use Rattle.dagcbor_items.specs.Variants.{OfChar, OfKind, OfText};
 
 use crate::deserializer::Deserializer;
@@ -15,7 +15,7 @@ use std::borrow::{CowSlice, CowStr};
 impl<'de, R: Read> Deserializer<'de, R> {
     /// Reads a text, lent where the input lends.
     pub fn deserialize_str(&mut self, alloc: Global) -> Result<CowStr<'de>, DecodeError<R::Error>>
-        ensures text { Call (ReadsStr (codes "string")) (progress R.reading self.old) result (progress R.reading self.new) }
+        ensures text { Over R.reading (Call (ReadsStr (codes "string"))) self.old result self.new }
         ensures lent { IfOk result (λ s. IsBorrowedStr s ↔ ((progress R.reading self.old).input.lends ≡ true)) }
         ensures variant { IfErr result OfText }
     {
@@ -30,7 +30,7 @@ impl<'de, R: Read> Deserializer<'de, R> {
         &mut self,
         alloc: Global,
     ) -> Result<CowStr<'de>, DecodeError<R::Error>>
-        ensures text { Call (ReadsStr (codes "string")) (progress R.reading self.old) result (progress R.reading self.new) }
+        ensures text { Over R.reading (Call (ReadsStr (codes "string"))) self.old result self.new }
         ensures lent { IfOk result (λ s. IsBorrowedStr s ↔ ((progress R.reading self.old).input.lends ≡ true)) }
         ensures variant { IfErr result OfText }
     {
@@ -42,7 +42,7 @@ impl<'de, R: Read> Deserializer<'de, R> {
         &mut self,
         alloc: Global,
     ) -> Result<CowSlice<'de, u8>, DecodeError<R::Error>>
-        ensures bytes { Call ReadsByteSlice (progress R.reading self.old) result (progress R.reading self.new) }
+        ensures bytes { Over R.reading (Call ReadsByteSlice) self.old result self.new }
         ensures lent { IfOk result (λ c. IsBorrowedSlice c ↔ ((progress R.reading self.old).input.lends ≡ true)) }
         ensures variant { IfErr result OfKind }
     {
@@ -54,7 +54,7 @@ impl<'de, R: Read> Deserializer<'de, R> {
 
     /// Reads a text.
     pub fn deserialize_string(&mut self, alloc: Global) -> Result<String, DecodeError<R::Error>>
-        ensures text { Call ReadsOwnedText (progress R.reading self.old) result (progress R.reading self.new) }
+        ensures text { Over R.reading (Call ReadsOwnedText) self.old result self.new }
         ensures variant { IfErr result OfText }
     {
         self.begin()?;
@@ -65,7 +65,7 @@ impl<'de, R: Read> Deserializer<'de, R> {
 
     /// Reads a byte string.
     pub fn deserialize_byte_buf(&mut self, alloc: Global) -> Result<Vec<u8>, DecodeError<R::Error>>
-        ensures bytes { Call ReadsOwnedBytes (progress R.reading self.old) result (progress R.reading self.new) }
+        ensures bytes { Over R.reading (Call ReadsOwnedBytes) self.old result self.new }
         ensures variant { IfErr result OfKind }
     {
         self.begin()?;
@@ -76,7 +76,7 @@ impl<'de, R: Read> Deserializer<'de, R> {
 
     /// Reads a text of one character.
     pub fn deserialize_char(&mut self, alloc: Global) -> Result<char, DecodeError<R::Error>>
-        ensures character { Call ReadsChar (progress R.reading self.old) result (progress R.reading self.new) }
+        ensures character { Over R.reading (Call ReadsChar) self.old result self.new }
         ensures variant { IfErr result OfChar }
     {
         self.begin()?;

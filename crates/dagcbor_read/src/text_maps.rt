@@ -1,7 +1,7 @@
 //! Maps with text keys.
 
 ghost use Rattle.std.specs.Prelude.{ℕ, List};
-ghost use Rattle.dagcbor_read.specs.Collections.{view_map, need_map, take_entry, in_key_order, text_pairs};
+ghost use Rattle.dagcbor_read.specs.Collections.{map_of, entries_of, in_key_order, text_pairs};
 
 use crate::deserialize::{Deserialize, DeserializeOwned};
 use crate::deserializer::Deserializer;
@@ -16,11 +16,7 @@ impl<V: Shown> Shown for BTreeMap<String, V> {
 
     ghost held = { λ m. in_key_order (text_pairs V.held m.entries) };
 
-    ghost view = { view_map V.view };
-
-    ghost need = { need_map V.need };
-
-    ghost borrows = { V.borrows };
+    ghost shape = { map_of V.shape };
 }
 
 /// Each value goes to its key.
@@ -29,11 +25,7 @@ impl<'de, V: Deserialize<'de>> Fields<'de> for BTreeMap<String, V> {
 
     ghost state = { λ m. in_key_order (text_pairs V.held m.entries) };
 
-    ghost take = { take_entry V.view };
-
-    ghost need = { λ k t. V.need t };
-
-    ghost borrows = { V.borrows };
+    ghost shape = { entries_of V.shape };
 
     fn read_field<R: Read>(
         &mut self,
@@ -70,11 +62,7 @@ impl<V: Shown> Shown for HashMap<String, V> {
 
     ghost held = { λ m. in_key_order (text_pairs V.held m.entries) };
 
-    ghost view = { view_map V.view };
-
-    ghost need = { need_map V.need };
-
-    ghost borrows = { V.borrows };
+    ghost shape = { map_of V.shape };
 }
 
 /// Each value goes to its key.
@@ -83,11 +71,7 @@ impl<'de, V: Deserialize<'de>> Fields<'de> for HashMap<String, V> {
 
     ghost state = { λ m. in_key_order (text_pairs V.held m.entries) };
 
-    ghost take = { take_entry V.view };
-
-    ghost need = { λ k t. V.need t };
-
-    ghost borrows = { V.borrows };
+    ghost shape = { entries_of V.shape };
 
     fn read_field<R: Read>(
         &mut self,

@@ -5,9 +5,9 @@ ghost use Rattle.ipld_tree.specs.Cid.{cid_bytes};
 ghost use Rattle.ipld_tree.specs.Ipld.{tree_of};
 ghost use Rattle.ipld_tree.specs.Tree.{Tree, any_need};
 ghost use Rattle.dagcbor_items.specs.Looks.{LooksAtAny};
-ghost use Rattle.dagcbor_read.specs.Calls.{progress, Call};
+ghost use Rattle.dagcbor_read.specs.Calls.{progress, Call, Over};
 ghost use Rattle.dagcbor_items.specs.LeafReads.{ReadsIgnored};
-ghost use Rattle.dagcbor_items.specs.Views.{view_link, view_ignored, no_need};
+ghost use Rattle.dagcbor_items.specs.Shapes.{view_link, ignored, leaf, any_tree};
 ghost use Rattle.dagcbor_items.specs.Variants.{OfItem};
 
 use crate::deserialize::{Deserialize, DeserializeOwned};
@@ -25,7 +25,7 @@ pub struct IgnoredAny;
 impl<'de, R: Read> Deserializer<'de, R> {
     /// Skips an item of any kind, with what `deserialize_any` refuses. Over a slice it takes no memory.
     pub fn deserialize_ignored_any(&mut self, alloc: Global) -> Result<(), DecodeError<R::Error>>
-        ensures item { Call ReadsIgnored (progress R.reading self.old) result (progress R.reading self.new) }
+        ensures item { Over R.reading (Call ReadsIgnored) self.old result self.new }
         ensures looked { LooksAtAny (progress R.reading self.old).input result (progress R.reading self.new).input }
         ensures variant { IfErr result OfItem }
     {
@@ -41,11 +41,7 @@ impl Shown for IgnoredAny {
 
     ghost held = { λ _. tt };
 
-    ghost view = { view_ignored };
-
-    ghost need = { any_need };
-
-    ghost borrows = { false };
+    ghost shape = { ignored };
 }
 
 impl<'de> Deserialize<'de> for IgnoredAny {
@@ -67,11 +63,7 @@ impl Shown for Ipld {
 
     ghost held = { tree_of };
 
-    ghost view = { Some };
-
-    ghost need = { any_need };
-
-    ghost borrows = { false };
+    ghost shape = { any_tree };
 }
 
 impl<'de> Deserialize<'de> for Ipld {
@@ -92,11 +84,7 @@ impl Shown for Cid {
 
     ghost held = { cid_bytes };
 
-    ghost view = { view_link };
-
-    ghost need = { no_need };
-
-    ghost borrows = { false };
+    ghost shape = { leaf view_link };
 }
 
 impl<'de> Deserialize<'de> for Cid {

@@ -2,12 +2,12 @@
 
 ghost use Rattle.std.specs.Prelude.{◌≡◌, ◌+◌, ◌≤◌, ℕ, Bool, List, Option, false};
 ghost use Rattle.ipld_tree.specs.Tree.{Tree};
-ghost use Rattle.dagcbor_read.specs.Calls.{progress, StaysFailed, AreOut};
+ghost use Rattle.dagcbor_read.specs.Calls.{progress, StaysFailed, AreOut, Over};
 ghost use Rattle.dagcbor_read.specs.Values.{ReadsValue};
 ghost use Rattle.dagcbor_read.specs.Enums.{begun_enum, HasStepEnum, SpendsEnum, ReadsFieldsHeld};
 ghost use Rattle.dagcbor_read.specs.Parts.{RefusesToBegin};
-ghost use Rattle.dagcbor_read.specs.EnumViews.{view_enum, need_enum, ReadsVariant};
-ghost use Rattle.dagcbor_read.specs.Collections.{view_fields, need_fields};
+ghost use Rattle.dagcbor_read.specs.EnumViews.{EnumShape, enum_of, ReadsVariant};
+ghost use Rattle.dagcbor_read.specs.Collections.{fields_of};
 
 use crate::deserializer::Deserializer;
 use crate::enum_accessor::EnumAccessor;
@@ -22,17 +22,8 @@ pub trait Variants<'de>: Sized + Drop {
 
     ghost held: { Self → View };
 
-    /// What a variant shows that is its name alone. None where there is no such variant.
-    ghost unit: { List ℕ → Option View };
-
-    /// What the tree that a variant of this name holds shows. None where it is not accepted.
-    ghost part: { List ℕ → Tree → Option View };
-
-    /// The steps that reading what a variant holds takes.
-    ghost need: { List ℕ → Tree → ℕ };
-
-    /// Whether it borrows from the input.
-    ghost borrows: { Bool };
+    /// What its variants show.
+    ghost shape: { EnumShape View };
 
     /// Reads what the variant of this name holds, or ends it.
     fn read_variant<R: Read>(
@@ -43,7 +34,7 @@ pub trait Variants<'de>: Sized + Drop {
     ) -> Result<Self, DecodeError<R::Error>>
         requires sound { (progress R.reading de.old).failed ≡ false }
         requires out { (progress R.reading de.old).input.steps + (begun_enum variant).steps ≤ (progress R.reading de.old).input.budget }
-        ensures { ReadsVariant held (unit name.now) (part name.now) (need name.now) Self.borrows (begun_enum variant) (progress R.reading de.old) result (progress R.reading de.new) };
+        ensures { Over R.reading (ReadsVariant held Self.shape name.now (begun_enum variant)) de.old result de.new };
 }
 
 /// Reads an enum. The names of its variants are not looked at.
@@ -53,9 +44,9 @@ pub fn read_enum<'de, V: Variants<'de>, R: Read>(
     variants: &[&str],
     de: &mut Deserializer<'de, R>,
 ) -> Result<V, DecodeError<R::Error>>
-    ensures value { ReadsValue V.held (view_enum V.unit V.part) (need_enum V.need) V.borrows (progress R.reading de.old) result (progress R.reading de.new) }
-    ensures named { RefusesToBegin HasStepEnum (SpendsEnum name.now) (progress R.reading de.old) result (progress R.reading de.new) }
-    ensures failed { StaysFailed (progress R.reading de.old) result (progress R.reading de.new) }
+    ensures value { Over R.reading (ReadsValue V.held (enum_of V.shape)) de.old result de.new }
+    ensures named { Over R.reading (RefusesToBegin HasStepEnum (SpendsEnum name.now)) de.old result de.new }
+    ensures failed { Over R.reading StaysFailed de.old result de.new }
 {
     let begun = de.deserialize_enum(name, variants)?;
     let (variant_name, variant) = begun.variant(alloc, de)?;
@@ -71,8 +62,8 @@ pub fn read_struct_variant<'de, F: Fields<'de>, R: Read>(
     de: &mut Deserializer<'de, R>,
 ) -> Result<F, DecodeError<R::Error>>
     requires { AreOut (begun_enum variant).steps (progress R.reading de.old) }
-    ensures held { ReadsFieldsHeld F.state (view_fields F.take (F.state fields)) (need_fields F.need) F.borrows (begun_enum variant) (progress R.reading de.old) result (progress R.reading de.new) }
-    ensures failed { StaysFailed (progress R.reading de.old) result (progress R.reading de.new) }
+    ensures held { Over R.reading (ReadsFieldsHeld F.state (fields_of F.shape (F.state fields)) (begun_enum variant)) de.old result de.new }
+    ensures failed { Over R.reading StaysFailed de.old result de.new }
 {
     let entries = variant.struct_variant(names, de)?;
     read_entries_left(alloc, fields, entries, de)

@@ -17,7 +17,7 @@ pub fn from_slice<'a, T: Deserialize<'a>>(
     alloc: Global,
     bytes: &'a [u8],
 ) -> Result<T, DecodeError<Infallible>>
-    ensures { ReadsWhole ⊥ T.held T.view T.need (Some bytes.now) result }
+    ensures { ReadsWhole ⊥ T.held T.shape (Some bytes.now) result }
 {
     let mut de = Deserializer::from_slice(bytes);
     let value = T::deserialize(alloc, &mut de)?;

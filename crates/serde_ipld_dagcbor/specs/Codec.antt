@@ -17,10 +17,11 @@ use Rattle.dagcbor_read.specs.Whole.{WholeRefused}
 use Rattle.dagcbor_read.specs.AllLinks.{AreFirstLinks, LinksRefused}
 use Rattle.serde_ipld_dagcbor.specs.declared.error.CodecError.{CodecError}
 use Rattle.serde_ipld_dagcbor.specs.declared.error.CodecError.TheVariants.{Decode, Encode, DecodeIo, EncodeIo}
+use Rattle.dagcbor_read.specs.Shapes.{Shape}
 
 -- the tree shows v to the type, within 256 steps
-abbrev pub IsReadAs : {V : Type 0} → (Tree → Option V) → (Tree → ℕ) → Tree → V → Type 0
-IsReadAs view need t v = (view t ≡ Some v) × (need t ≤ 256)
+abbrev pub IsReadAs : {V : Type 0} → Shape Tree V → Tree → V → Type 0
+IsReadAs shape t v = (shape.view t ≡ Some v) × (shape.need t ≤ 256)
 
 -- ---- excuses
 
@@ -46,12 +47,12 @@ IsExcuse (EncodeIo e) = IsWriteExcuse e
 -- ---- which error comes from which call, and what it says
 
 -- why a source's bytes, where they are known, are not read
-abbrev pub NotDecoded : {V : Type 0} → (Tree → Option V) → (Tree → ℕ) → Option (List ℕ) → CodecError → Type 0
-NotDecoded view need left (DecodeIo e) = WholeRefused ⊤ view need left e
-NotDecoded view need left _ = ⊥
+abbrev pub NotDecoded : {V : Type 0} → Shape Tree V → Option (List ℕ) → CodecError → Type 0
+NotDecoded shape left (DecodeIo e) = WholeRefused ⊤ shape left e
+NotDecoded shape left _ = ⊥
 
-abbrev pub DecodeRefused : {T V : Type 0} → (Tree → Option V) → (Tree → ℕ) → Option (List ℕ) → Result T CodecError → Type 0
-DecodeRefused view need left result = IfErr result (NotDecoded view need left)
+abbrev pub DecodeRefused : {T V : Type 0} → Shape Tree V → Option (List ℕ) → Result T CodecError → Type 0
+DecodeRefused shape left result = IfErr result (NotDecoded shape left)
 
 -- why a value is not sent to a device, and what went out
 abbrev pub NotEncoded : Option Tree → Option (List ℕ) → Option (List ℕ) → CodecError → Type 0

@@ -2,9 +2,9 @@
 use Rattle.std.specs.Prelude.{ℕ, ◌^◌, Bool, List, Option, Some, None, option_map, option_and_then, if◌then◌else◌, codes}
 use Rattle.std.specs.Str.{bytes_eq}
 use Rattle.ipld_tree.specs.Tree.{Tree, any_need}
-use Rattle.dagcbor_read.specs.Views.{view_unsigned, view_bool, view_text, no_need}
-use Rattle.dagcbor_read.specs.Collections.{view_list, need_list, view_first, need_first, view_none, need_none, view_slot, view_struct, need_fields}
-use Rattle.dagcbor_read.specs.EnumViews.{view_enum, need_enum}
+use Rattle.dagcbor_read.specs.Shapes.{view_unsigned, view_bool, view_text, Shape, leaf}
+use Rattle.dagcbor_read.specs.Collections.{view_slot, need_fields, list_of, no_more, first_then, struct_of, FieldShape}
+use Rattle.dagcbor_read.specs.EnumViews.{EnumShape, enum_of}
 
 pub data DataView : Type 0 where
   is_a : ℕ → DataView
@@ -24,9 +24,12 @@ take_c s k t =
 
 abbrev pub need_c : List ℕ → Tree → ℕ
 need_c k t =
-    if bytes_eq k (codes "x") then no_need t
-    else if bytes_eq k (codes "y") then no_need t
+    if bytes_eq k (codes "x") then 0
+    else if bytes_eq k (codes "y") then 0
     else any_need t
+
+abbrev pub c_fields : FieldShape SeenC
+c_fields = record { take = take_c; need = need_c; borrows = false }
 
 abbrev pub unseen_c : SeenC
 unseen_c = record { x = None; y = None }
@@ -35,11 +38,8 @@ abbrev pub finish_c : SeenC → Option DataView
 finish_c s = option_and_then (λ x. option_map (is_c x) s.y) s.x
 
 -- a truth value and a number in a list
-abbrev pub view_b : Tree → Option (Bool × (ℕ × Unit {0}))
-view_b = view_list (view_first view_bool (view_first (view_unsigned (2 ^ 8)) view_none))
-
-abbrev pub need_b : Tree → ℕ
-need_b = need_list (need_first no_need (need_first no_need need_none))
+abbrev pub b_shape : Shape Tree (Bool × (ℕ × Unit {0}))
+b_shape = list_of (first_then (leaf view_bool) (first_then (leaf (view_unsigned (2 ^ 8))) no_more))
 
 -- no variant is its name alone
 abbrev pub unit_data : List ℕ → Option DataView
@@ -48,18 +48,18 @@ unit_data name = None
 abbrev pub part_data : List ℕ → Tree → Option DataView
 part_data name t =
     if bytes_eq name (codes "A") then option_map is_a (view_unsigned (2 ^ 32) t)
-    else if bytes_eq name (codes "B") then option_map (λ p. is_b p.0 p.1.0) (view_b t)
-    else if bytes_eq name (codes "C") then option_map (λ c. c) (view_struct take_c unseen_c finish_c t)
+    else if bytes_eq name (codes "B") then option_map (λ p. is_b p.0 p.1.0) (b_shape.view t)
+    else if bytes_eq name (codes "C") then option_map (λ c. c) ((struct_of c_fields unseen_c finish_c).view t)
     else None
 
 abbrev pub need_part_data : List ℕ → Tree → ℕ
 need_part_data name t =
-    if bytes_eq name (codes "B") then need_b t
+    if bytes_eq name (codes "B") then b_shape.need t
     else if bytes_eq name (codes "C") then need_fields need_c t
-    else no_need t
+    else 0
 
-abbrev pub view_data : Tree → Option DataView
-view_data = view_enum unit_data part_data
+abbrev pub data_variants : EnumShape DataView
+data_variants = record { unit = unit_data; part = part_data; need = need_part_data; borrows = false }
 
-abbrev pub need_data : Tree → ℕ
-need_data = need_enum need_part_data
+abbrev pub data_shape : Shape Tree DataView
+data_shape = enum_of data_variants

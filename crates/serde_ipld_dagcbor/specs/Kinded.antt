@@ -1,6 +1,7 @@
 -- What a tree shows to an enum of a byte string and a link, without a name.
 use Rattle.std.specs.Prelude.{ℕ, List, Option, Some, None}
 use Rattle.ipld_tree.specs.Tree.{Tree, bytes, link}
+use Rattle.dagcbor_read.specs.Shapes.{Shape}
 
 pub data KindedView : Type 0 where
   is_bytes : List ℕ → KindedView
@@ -10,3 +11,6 @@ abbrev pub view_kinded : Tree → Option KindedView
 view_kinded (bytes s) = Some (is_bytes s)
 view_kinded (link cid) = Some (is_link cid)
 view_kinded _ = None
+
+abbrev pub kinded_shape : Shape Tree KindedView
+kinded_shape = record { view = view_kinded; need = any_need; borrows = false }

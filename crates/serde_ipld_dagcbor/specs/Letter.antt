@@ -2,7 +2,8 @@
 use Rattle.std.specs.Prelude.{ℕ, List, Option, Some, None, if◌then◌else◌, codes}
 use Rattle.std.specs.Str.{bytes_eq}
 use Rattle.ipld_tree.specs.Tree.{Tree}
-use Rattle.dagcbor_read.specs.EnumViews.{view_enum, need_enum}
+use Rattle.dagcbor_read.specs.Shapes.{Shape}
+use Rattle.dagcbor_read.specs.EnumViews.{EnumShape, enum_of}
 
 pub data Letter : Type 0 where
   is_a : Letter
@@ -17,8 +18,8 @@ part_letter name t = None
 abbrev pub need_part_letter : List ℕ → Tree → ℕ
 need_part_letter name t = 0
 
-abbrev pub view_letter : Tree → Option Letter
-view_letter = view_enum unit_letter part_letter
+abbrev pub letter_variants : EnumShape Letter
+letter_variants = record { unit = unit_letter; part = part_letter; need = need_part_letter; borrows = false }
 
-abbrev pub need_letter : Tree → ℕ
-need_letter = need_enum need_part_letter
+abbrev pub letter_shape : Shape Tree Letter
+letter_shape = enum_of letter_variants

@@ -2,8 +2,8 @@
 use Rattle.std.specs.Prelude.{ℕ, ◌^◌, List, Option, Some, None, option_map, option_and_then, if◌then◌else◌, codes}
 use Rattle.std.specs.Str.{bytes_eq}
 use Rattle.ipld_tree.specs.Tree.{Tree, any_need}
-use Rattle.dagcbor_read.specs.Views.{view_text, view_unsigned, no_need}
-use Rattle.dagcbor_read.specs.Collections.{view_slot, view_struct, need_fields}
+use Rattle.dagcbor_read.specs.Shapes.{view_text, view_unsigned, Shape}
+use Rattle.dagcbor_read.specs.Collections.{view_slot, struct_of, FieldShape}
 
 pub record MascotView : Type 0 where
   pub name : List ℕ
@@ -25,10 +25,13 @@ take_mascot s k t =
 
 abbrev pub need_mascot : List ℕ → Tree → ℕ
 need_mascot k t =
-    if bytes_eq k (codes "name") then no_need t
-    else if bytes_eq k (codes "species") then no_need t
-    else if bytes_eq k (codes "year_of_birth") then no_need t
+    if bytes_eq k (codes "name") then 0
+    else if bytes_eq k (codes "species") then 0
+    else if bytes_eq k (codes "year_of_birth") then 0
     else any_need t
+
+abbrev pub mascot_fields : FieldShape SeenMascot
+mascot_fields = record { take = take_mascot; need = need_mascot; borrows = false }
 
 abbrev pub unseen_mascot : SeenMascot
 unseen_mascot = record { name = None; species = None; year_of_birth = None }
@@ -37,8 +40,5 @@ unseen_mascot = record { name = None; species = None; year_of_birth = None }
 abbrev pub finish_mascot : SeenMascot → Option MascotView
 finish_mascot s = option_and_then (λ name. option_and_then (λ species. option_map (λ year_of_birth. record { name = name; species = species; year_of_birth = year_of_birth }) s.year_of_birth) s.species) s.name
 
-abbrev pub view_mascot : Tree → Option MascotView
-view_mascot = view_struct take_mascot unseen_mascot finish_mascot
-
-abbrev pub need_of_mascot : Tree → ℕ
-need_of_mascot = need_fields need_mascot
+abbrev pub mascot_shape : Shape Tree MascotView
+mascot_shape = struct_of mascot_fields unseen_mascot finish_mascot

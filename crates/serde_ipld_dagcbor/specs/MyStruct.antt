@@ -2,8 +2,8 @@
 use Rattle.std.specs.Prelude.{ℕ, Bool, List, Option, Some, None, option_map, option_and_then, if◌then◌else◌, codes}
 use Rattle.std.specs.Str.{bytes_eq}
 use Rattle.ipld_tree.specs.Tree.{Tree, any_need}
-use Rattle.dagcbor_read.specs.Views.{view_link, view_bool, no_need}
-use Rattle.dagcbor_read.specs.Collections.{view_slot, view_struct, need_fields}
+use Rattle.dagcbor_read.specs.Shapes.{view_link, view_bool, Shape}
+use Rattle.dagcbor_read.specs.Collections.{view_slot, struct_of, FieldShape}
 
 pub record MyStructView : Type 0 where
   pub cid : List ℕ
@@ -22,9 +22,12 @@ take_my_struct s k t =
 
 abbrev pub need_my_struct : List ℕ → Tree → ℕ
 need_my_struct k t =
-    if bytes_eq k (codes "cid") then no_need t
-    else if bytes_eq k (codes "data") then no_need t
+    if bytes_eq k (codes "cid") then 0
+    else if bytes_eq k (codes "data") then 0
     else any_need t
+
+abbrev pub my_struct_fields : FieldShape SeenMyStruct
+my_struct_fields = record { take = take_my_struct; need = need_my_struct; borrows = false }
 
 abbrev pub unseen_my_struct : SeenMyStruct
 unseen_my_struct = record { cid = None; flag = None }
@@ -33,8 +36,5 @@ unseen_my_struct = record { cid = None; flag = None }
 abbrev pub finish_my_struct : SeenMyStruct → Option MyStructView
 finish_my_struct s = option_and_then (λ cid. option_map (λ flag. record { cid = cid; flag = flag }) s.flag) s.cid
 
-abbrev pub view_my_struct : Tree → Option MyStructView
-view_my_struct = view_struct take_my_struct unseen_my_struct finish_my_struct
-
-abbrev pub need_of_my_struct : Tree → ℕ
-need_of_my_struct = need_fields need_my_struct
+abbrev pub my_struct_shape : Shape Tree MyStructView
+my_struct_shape = struct_of my_struct_fields unseen_my_struct finish_my_struct

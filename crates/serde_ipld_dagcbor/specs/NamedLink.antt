@@ -2,8 +2,8 @@
 use Rattle.std.specs.Prelude.{ℕ, List, Option, None, option_map, if◌then◌else◌, codes}
 use Rattle.std.specs.Str.{bytes_eq}
 use Rattle.ipld_tree.specs.Tree.{Tree}
-use Rattle.dagcbor_read.specs.Views.{view_link}
-use Rattle.dagcbor_read.specs.EnumViews.{view_enum, need_enum}
+use Rattle.dagcbor_read.specs.Shapes.{view_link, Shape}
+use Rattle.dagcbor_read.specs.EnumViews.{EnumShape, enum_of}
 
 abbrev pub unit_link : List ℕ → Option (List ℕ)
 unit_link name = None
@@ -14,8 +14,8 @@ part_link name t = if bytes_eq name (codes "Cid") then option_map (λ cid. cid) 
 abbrev pub need_part_link : List ℕ → Tree → ℕ
 need_part_link name t = 0
 
-abbrev pub view_named_link : Tree → Option (List ℕ)
-view_named_link = view_enum unit_link part_link
+abbrev pub named_link_variants : EnumShape (List ℕ)
+named_link_variants = record { unit = unit_link; part = part_link; need = need_part_link; borrows = false }
 
-abbrev pub need_named_link : Tree → ℕ
-need_named_link = need_enum need_part_link
+abbrev pub named_link_shape : Shape Tree (List ℕ)
+named_link_shape = enum_of named_link_variants

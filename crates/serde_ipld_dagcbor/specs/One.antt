@@ -2,8 +2,8 @@
 use Rattle.std.specs.Prelude.{ℕ, ◌^◌, List, Option, Some, None, option_map, if◌then◌else◌, codes}
 use Rattle.std.specs.Str.{bytes_eq}
 use Rattle.ipld_tree.specs.Tree.{Tree, any_need}
-use Rattle.dagcbor_read.specs.Views.{view_unsigned, no_need}
-use Rattle.dagcbor_read.specs.Collections.{view_slot, view_struct, need_fields}
+use Rattle.dagcbor_read.specs.Shapes.{view_unsigned, Shape}
+use Rattle.dagcbor_read.specs.Collections.{view_slot, struct_of, FieldShape}
 
 -- the fields that were seen
 pub record SeenOne : Type 0 where
@@ -16,7 +16,10 @@ take_one s k t =
     else Some s
 
 abbrev pub need_one : List ℕ → Tree → ℕ
-need_one k t = if bytes_eq k (codes "a") then no_need t else any_need t
+need_one k t = if bytes_eq k (codes "a") then 0 else any_need t
+
+abbrev pub one_fields : FieldShape SeenOne
+one_fields = record { take = take_one; need = need_one; borrows = false }
 
 abbrev pub unseen_one : SeenOne
 unseen_one = record { a = None }
@@ -24,8 +27,5 @@ unseen_one = record { a = None }
 abbrev pub finish_one : SeenOne → Option ℕ
 finish_one s = s.a
 
-abbrev pub view_one : Tree → Option ℕ
-view_one = view_struct take_one unseen_one finish_one
-
-abbrev pub need_of_one : Tree → ℕ
-need_of_one = need_fields need_one
+abbrev pub one_shape : Shape Tree ℕ
+one_shape = struct_of one_fields unseen_one finish_one

@@ -3,8 +3,8 @@ use Rattle.std.specs.Prelude.{ℕ, ◌^◌, List, Option, Some, None, option_map
 use Rattle.std.specs.Option.{option_flatten}
 use Rattle.std.specs.Str.{bytes_eq}
 use Rattle.ipld_tree.specs.Tree.{Tree, any_need}
-use Rattle.dagcbor_read.specs.Views.{view_text, view_unsigned, view_option, need_option, no_need}
-use Rattle.dagcbor_read.specs.Collections.{view_slot, view_struct, need_fields}
+use Rattle.dagcbor_read.specs.Shapes.{view_text, view_unsigned, view_option, need_option, Shape}
+use Rattle.dagcbor_read.specs.Collections.{view_slot, struct_of, FieldShape}
 
 pub record OptionalPersonView : Type 0 where
   pub name : List ℕ
@@ -26,10 +26,13 @@ take_optional_person s k t =
 
 abbrev pub need_optional_person : List ℕ → Tree → ℕ
 need_optional_person k t =
-    if bytes_eq k (codes "name") then no_need t
-    else if bytes_eq k (codes "year_of_birth") then need_option no_need t
-    else if bytes_eq k (codes "profession") then need_option no_need t
+    if bytes_eq k (codes "name") then 0
+    else if bytes_eq k (codes "year_of_birth") then need_option 0
+    else if bytes_eq k (codes "profession") then need_option 0
     else any_need t
+
+abbrev pub optional_person_fields : FieldShape SeenOptionalPerson
+optional_person_fields = record { take = take_optional_person; need = need_optional_person; borrows = false }
 
 abbrev pub unseen_optional_person : SeenOptionalPerson
 unseen_optional_person = record { name = None; year_of_birth = None; profession = None }
@@ -38,8 +41,5 @@ unseen_optional_person = record { name = None; year_of_birth = None; profession 
 abbrev pub finish_optional_person : SeenOptionalPerson → Option OptionalPersonView
 finish_optional_person s = option_map (λ name. record { name = name; year_of_birth = option_flatten s.year_of_birth; profession = option_flatten s.profession }) s.name
 
-abbrev pub view_optional_person : Tree → Option OptionalPersonView
-view_optional_person = view_struct take_optional_person unseen_optional_person finish_optional_person
-
-abbrev pub need_of_optional_person : Tree → ℕ
-need_of_optional_person = need_fields need_optional_person
+abbrev pub optional_person_shape : Shape Tree OptionalPersonView
+optional_person_shape = struct_of optional_person_fields unseen_optional_person finish_optional_person

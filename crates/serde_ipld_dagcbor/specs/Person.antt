@@ -3,8 +3,8 @@ use Rattle.std.specs.Prelude.{ℕ, ◌^◌, List, Option, Some, None, option_map
 use Rattle.std.specs.Option.{option_flatten}
 use Rattle.std.specs.Str.{bytes_eq}
 use Rattle.ipld_tree.specs.Tree.{Tree, any_need}
-use Rattle.dagcbor_read.specs.Views.{view_text, view_unsigned, view_option, need_option, no_need}
-use Rattle.dagcbor_read.specs.Collections.{view_slot, view_struct, need_fields}
+use Rattle.dagcbor_read.specs.Shapes.{view_text, view_unsigned, view_option, need_option, Shape}
+use Rattle.dagcbor_read.specs.Collections.{view_slot, struct_of, FieldShape}
 
 pub record PersonView : Type 0 where
   pub name : List ℕ
@@ -26,10 +26,13 @@ take_person s k t =
 
 abbrev pub need_person : List ℕ → Tree → ℕ
 need_person k t =
-    if bytes_eq k (codes "name") then no_need t
-    else if bytes_eq k (codes "year_of_birth") then no_need t
-    else if bytes_eq k (codes "profession") then need_option no_need t
+    if bytes_eq k (codes "name") then 0
+    else if bytes_eq k (codes "year_of_birth") then 0
+    else if bytes_eq k (codes "profession") then need_option 0
     else any_need t
+
+abbrev pub person_fields : FieldShape SeenPerson
+person_fields = record { take = take_person; need = need_person; borrows = false }
 
 abbrev pub unseen_person : SeenPerson
 unseen_person = record { name = None; year_of_birth = None; profession = None }
@@ -38,8 +41,5 @@ unseen_person = record { name = None; year_of_birth = None; profession = None }
 abbrev pub finish_person : SeenPerson → Option PersonView
 finish_person s = option_and_then (λ name. option_map (λ year_of_birth. record { name = name; year_of_birth = year_of_birth; profession = option_flatten s.profession }) s.year_of_birth) s.name
 
-abbrev pub view_person : Tree → Option PersonView
-view_person = view_struct take_person unseen_person finish_person
-
-abbrev pub need_of_person : Tree → ℕ
-need_of_person = need_fields need_person
+abbrev pub person_shape : Shape Tree PersonView
+person_shape = struct_of person_fields unseen_person finish_person

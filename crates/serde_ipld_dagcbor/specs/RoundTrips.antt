@@ -11,6 +11,7 @@ use Rattle.ipld_tree.specs.Ipld.{tree_of}
 use Rattle.ipld_tree.specs.declared.ipld.Ipld.{Ipld}
 use Rattle.dagcbor_write.specs.Answers.{IsAnswer}
 use Rattle.dagcbor_read.specs.Whole.{ReadsWhole}
+use Rattle.dagcbor_read.specs.Shapes.{Shape, any_tree}
 
 -- the bytes were written, or memory was wanting
 abbrev pub IsWrittenBack : List ℕ → Result (Vec ℕ Global) (EncodeError Infallible) → Type 0
@@ -19,13 +20,13 @@ IsWrittenBack b (Err unwritten.OutOfMemory) = ⊤
 IsWrittenBack b (Err _) = ⊥
 
 -- What was read of bytes is written as the same bytes, where its tree is the one that it was read from.
-abbrev pub TypedReadThenWritten : {T V : Type 0} → (T → V) → (Tree → Option V) → (Tree → ℕ) → (T → Option Tree) → Type 0
-TypedReadThenWritten {T} held view need tree = (b : List ℕ) (value : T) (written : Result (Vec ℕ Global) (EncodeError Infallible)) → ((t : Tree) → view t ≡ Some (held value) → tree value ≡ Some t)
-    → ReadsWhole {E = Infallible} ⊥ held view need (Some b) (Ok value) → IsAnswer (tree value) written → IsWrittenBack b written
+abbrev pub TypedReadThenWritten : {T V : Type 0} → (T → V) → Shape Tree V → (T → Option Tree) → Type 0
+TypedReadThenWritten {T} held shape tree = (b : List ℕ) (value : T) (written : Result (Vec ℕ Global) (EncodeError Infallible)) → ((t : Tree) → shape.view t ≡ Some (held value) → tree value ≡ Some t)
+    → ReadsWhole {E = Infallible} ⊥ held shape (Some b) (Ok value) → IsAnswer (tree value) written → IsWrittenBack b written
 
 -- What was read of bytes is written as the same bytes.
 abbrev pub ReadThenWritten : Type 0
-ReadThenWritten = (b : List ℕ) (value : Ipld) (written : Result (Vec ℕ Global) (EncodeError Infallible)) → ReadsWhole {E = Infallible} ⊥ tree_of Some any_need (Some b) (Ok value) → IsAnswer (Some (tree_of value)) written → IsWrittenBack b written
+ReadThenWritten = (b : List ℕ) (value : Ipld) (written : Result (Vec ℕ Global) (EncodeError Infallible)) → ReadsWhole {E = Infallible} ⊥ tree_of any_tree (Some b) (Ok value) → IsAnswer (Some (tree_of value)) written → IsWrittenBack b written
 
 -- a value that holds this was read, or memory was wanting
 abbrev pub IsReadBack : {T V : Type 0} → (T → V) → V → Result T (DecodeError Infallible) → Type 0
@@ -34,10 +35,10 @@ IsReadBack held x (Err unread.OutOfMemory) = ⊤
 IsReadBack held x (Err _) = ⊥
 
 -- What was written of a value is read as what its tree shows to the type, where the need is within the steps.
-abbrev pub TypedWrittenThenRead : {T V : Type 0} → (T → V) → (Tree → Option V) → (Tree → ℕ) → (T → Option Tree) → Type 0
-TypedWrittenThenRead {T} {V} held view need tree = (value : T) (t : Tree) (x : V) (v : Vec ℕ Global) (read : Result T (DecodeError Infallible)) → tree value ≡ Some t → view t ≡ Some x → need t ≤ 256
-    → IsAnswer (tree value) (Ok v) → ReadsWhole ⊥ held view need (Some v.items) read → IsReadBack held x read
+abbrev pub TypedWrittenThenRead : {T V : Type 0} → (T → V) → Shape Tree V → (T → Option Tree) → Type 0
+TypedWrittenThenRead {T} {V} held shape tree = (value : T) (t : Tree) (x : V) (v : Vec ℕ Global) (read : Result T (DecodeError Infallible)) → tree value ≡ Some t → shape.view t ≡ Some x → shape.need t ≤ 256
+    → IsAnswer (tree value) (Ok v) → ReadsWhole ⊥ held shape (Some v.items) read → IsReadBack held x read
 
 -- What was written of a value is read as its tree, where the need is within the steps.
 abbrev pub WrittenThenRead : Type 0
-WrittenThenRead = (value : Ipld) (v : Vec ℕ Global) (read : Result Ipld (DecodeError Infallible)) → IsAnswer (Some (tree_of value)) (Ok v) → any_need (tree_of value) ≤ 256 → ReadsWhole ⊥ tree_of Some any_need (Some v.items) read → IsReadBack tree_of (tree_of value) read
+WrittenThenRead = (value : Ipld) (v : Vec ℕ Global) (read : Result Ipld (DecodeError Infallible)) → IsAnswer (Some (tree_of value)) (Ok v) → any_need (tree_of value) ≤ 256 → ReadsWhole ⊥ tree_of any_tree (Some v.items) read → IsReadBack tree_of (tree_of value) read

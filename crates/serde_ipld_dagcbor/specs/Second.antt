@@ -2,9 +2,9 @@
 use Rattle.std.specs.Prelude.{ℕ, ◌^◌, List, Option, Some, None, option_map, option_and_then, if◌then◌else◌, codes}
 use Rattle.std.specs.Str.{bytes_eq}
 use Rattle.ipld_tree.specs.Tree.{Tree, any_need}
-use Rattle.dagcbor_read.specs.Views.{view_unsigned, no_need}
-use Rattle.dagcbor_read.specs.Collections.{view_slot, view_struct, need_fields}
-use Rattle.dagcbor_read.specs.EnumViews.{view_enum, need_enum}
+use Rattle.dagcbor_read.specs.Shapes.{view_unsigned, Shape}
+use Rattle.dagcbor_read.specs.Collections.{view_slot, need_fields, struct_of, FieldShape}
+use Rattle.dagcbor_read.specs.EnumViews.{EnumShape, enum_of}
 
 pub record SecondView : Type 0 where
   pub b : ℕ
@@ -26,10 +26,13 @@ take_second s k t =
 
 abbrev pub need_second : List ℕ → Tree → ℕ
 need_second k t =
-    if bytes_eq k (codes "b") then no_need t
-    else if bytes_eq k (codes "abc") then no_need t
-    else if bytes_eq k (codes "a") then no_need t
+    if bytes_eq k (codes "b") then 0
+    else if bytes_eq k (codes "abc") then 0
+    else if bytes_eq k (codes "a") then 0
     else any_need t
+
+abbrev pub second_fields : FieldShape SeenSecond
+second_fields = record { take = take_second; need = need_second; borrows = false }
 
 abbrev pub unseen_second : SeenSecond
 unseen_second = record { b = None; abc = None; a = None }
@@ -42,13 +45,13 @@ abbrev pub unit_second : List ℕ → Option SecondView
 unit_second name = None
 
 abbrev pub part_second : List ℕ → Tree → Option SecondView
-part_second name t = if bytes_eq name (codes "Data") then option_map (λ d. d) (view_struct take_second unseen_second finish_second t) else None
+part_second name t = if bytes_eq name (codes "Data") then option_map (λ d. d) ((struct_of second_fields unseen_second finish_second).view t) else None
 
 abbrev pub need_part_second : List ℕ → Tree → ℕ
 need_part_second name t = need_fields need_second t
 
-abbrev pub view_second : Tree → Option SecondView
-view_second = view_enum unit_second part_second
+abbrev pub second_variants : EnumShape SecondView
+second_variants = record { unit = unit_second; part = part_second; need = need_part_second; borrows = false }
 
-abbrev pub need_of_second : Tree → ℕ
-need_of_second = need_enum need_part_second
+abbrev pub second_shape : Shape Tree SecondView
+second_shape = enum_of second_variants

@@ -2,8 +2,8 @@
 use Rattle.std.specs.Prelude.{ℕ, List, Option, Some, None, option_map, option_and_then, if◌then◌else◌, codes}
 use Rattle.std.specs.Str.{bytes_eq}
 use Rattle.ipld_tree.specs.Tree.{Tree, any_need}
-use Rattle.dagcbor_read.specs.Views.{view_link, view_text, no_need}
-use Rattle.dagcbor_read.specs.Collections.{view_slot, view_struct, need_fields}
+use Rattle.dagcbor_read.specs.Shapes.{view_link, view_text, Shape}
+use Rattle.dagcbor_read.specs.Collections.{view_slot, struct_of, FieldShape}
 
 -- the fields that were seen
 pub record SeenTagged : Type 0 where
@@ -18,9 +18,12 @@ take_tagged s k t =
 
 abbrev pub need_tagged : List ℕ → Tree → ℕ
 need_tagged k t =
-    if bytes_eq k (codes "type") then no_need t
-    else if bytes_eq k (codes "cid") then no_need t
+    if bytes_eq k (codes "type") then 0
+    else if bytes_eq k (codes "cid") then 0
     else any_need t
+
+abbrev pub tagged_fields : FieldShape SeenTagged
+tagged_fields = record { take = take_tagged; need = need_tagged; borrows = false }
 
 abbrev pub unseen_tagged : SeenTagged
 unseen_tagged = record { tag = None; cid = None }
@@ -29,8 +32,5 @@ unseen_tagged = record { tag = None; cid = None }
 abbrev pub finish_tagged : SeenTagged → Option (List ℕ)
 finish_tagged s = option_and_then (λ tag. if bytes_eq tag (codes "MyCid") then s.cid else None) s.tag
 
-abbrev pub view_tagged : Tree → Option (List ℕ)
-view_tagged = view_struct take_tagged unseen_tagged finish_tagged
-
-abbrev pub need_of_tagged : Tree → ℕ
-need_of_tagged = need_fields need_tagged
+abbrev pub tagged_shape : Shape Tree (List ℕ)
+tagged_shape = struct_of tagged_fields unseen_tagged finish_tagged

@@ -36,7 +36,7 @@ impl<'de, T: DeserializeOwned<'de> + Serialize> Codec<'de, T> for DagCborCodec {
 
     ghost held = { T.held };
 
-    ghost is_read = { IsReadAs T.view T.need };
+    ghost is_read = { IsReadAs T.shape };
 
     ghost is_excuse = { IsExcuse };
 
@@ -45,8 +45,8 @@ impl<'de, T: DeserializeOwned<'de> + Serialize> Codec<'de, T> for DagCborCodec {
     ghost canonical = { trees_have_one_spelling };
 
     fn decode<R: BufRead + Drop>(alloc: Global, reader: R) -> Result<T, CodecError>
-        ensures answers { Decodes IsSpelling (IsReadAs T.view T.need) T.held IsExcuse (R.remaining reader) result }
-        ensures exact { DecodeRefused T.view T.need (R.remaining reader) result }
+        ensures answers { Decodes IsSpelling (IsReadAs T.shape) T.held IsExcuse (R.remaining reader) result }
+        ensures exact { DecodeRefused T.shape (R.remaining reader) result }
     {
         match from_reader(alloc, reader) {
             Ok(value) => Ok(value),
@@ -55,8 +55,8 @@ impl<'de, T: DeserializeOwned<'de> + Serialize> Codec<'de, T> for DagCborCodec {
     }
 
     fn decode_from_slice(alloc: Global, bytes: &[u8]) -> Result<T, CodecError>
-        ensures answers { Decodes IsSpelling (IsReadAs T.view T.need) T.held IsExcuse (Some bytes.now) result }
-        ensures exact { DecodeRefused T.view T.need (Some bytes.now) result }
+        ensures answers { Decodes IsSpelling (IsReadAs T.shape) T.held IsExcuse (Some bytes.now) result }
+        ensures exact { DecodeRefused T.shape (Some bytes.now) result }
     {
         <DagCborCodec as Codec<'de, T>>::decode(alloc, bytes)
     }

@@ -3,7 +3,7 @@
 ghost use Rattle.std.specs.Prelude.{Some, [], ◌∷◌, codes, pos, false};
 ghost use Rattle.ipld_tree.specs.Tree.{text, integer, list_tree};
 ghost use Rattle.dagcbor_write.specs.Trees.{variant_tree};
-ghost use Rattle.serde_ipld_dagcbor.specs.Color.{ColorView, is_red, is_blue, is_yellow, is_other, is_alpha, unit_color, part_color, need_part_color, view_color, need_color};
+ghost use Rattle.serde_ipld_dagcbor.specs.Color.{ColorView, is_red, is_blue, is_yellow, is_other, is_alpha, color_variants, color_shape};
 ghost use Rattle.serde_ipld_dagcbor.specs.declared.tests.color.Color.TheVariants.{Red, Blue, Yellow, Other, Alpha};
 
 use crate::tests::told::tells;
@@ -57,11 +57,7 @@ impl Shown for Color {
 
     ghost held = { λ color. elim color [ Red ↦ is_red | Blue ↦ is_blue | Yellow ↦ is_yellow | Other n ↦ is_other n | Alpha n a ↦ is_alpha n a ] };
 
-    ghost view = { view_color };
-
-    ghost need = { need_color };
-
-    ghost borrows = { false };
+    ghost shape = { color_shape };
 }
 
 impl<'de> Variants<'de> for Color {
@@ -69,13 +65,7 @@ impl<'de> Variants<'de> for Color {
 
     ghost held = { λ color. elim color [ Red ↦ is_red | Blue ↦ is_blue | Yellow ↦ is_yellow | Other n ↦ is_other n | Alpha n a ↦ is_alpha n a ] };
 
-    ghost unit = { unit_color };
-
-    ghost part = { part_color };
-
-    ghost need = { need_part_color };
-
-    ghost borrows = { false };
+    ghost shape = { color_variants };
 
     fn read_variant<R: Read>(
         alloc: Global,

@@ -3,7 +3,7 @@
 ghost use Rattle.std.specs.Prelude.{Some, [], ◌∷◌, codes, pos, string_bytes, option_map, false};
 ghost use Rattle.ipld_tree.specs.Tree.{boolean, integer, text, list_tree, entries_tree};
 ghost use Rattle.dagcbor_write.specs.Trees.{field, variant_tree};
-ghost use Rattle.serde_ipld_dagcbor.specs.DataEnum.{DataView, is_a, is_b, is_c, SeenC, take_c, need_c, unit_data, part_data, need_part_data, view_data, need_data};
+ghost use Rattle.serde_ipld_dagcbor.specs.DataEnum.{DataView, is_a, is_b, is_c, SeenC, c_fields, data_variants, data_shape};
 ghost use Rattle.serde_ipld_dagcbor.specs.declared.tests.data_enum.DataEnum.TheVariants.{A, B, C};
 
 use crate::tests::required::required;
@@ -65,11 +65,7 @@ impl<'de> Fields<'de> for FieldsOfC {
 
     ghost state = { λ f. record { x = option_map (λ n. n) f.x; y = option_map string_bytes f.y } };
 
-    ghost take = { take_c };
-
-    ghost need = { need_c };
-
-    ghost borrows = { false };
+    ghost shape = { c_fields };
 
     fn read_field<R: Read>(
         &mut self,
@@ -90,11 +86,7 @@ impl Shown for DataEnum {
 
     ghost held = { λ e. elim e [ A n ↦ is_a n | B b n ↦ is_b b n | C x y ↦ is_c x (string_bytes y) ] };
 
-    ghost view = { view_data };
-
-    ghost need = { need_data };
-
-    ghost borrows = { false };
+    ghost shape = { data_shape };
 }
 
 impl<'de> Variants<'de> for DataEnum {
@@ -102,13 +94,7 @@ impl<'de> Variants<'de> for DataEnum {
 
     ghost held = { λ e. elim e [ A n ↦ is_a n | B b n ↦ is_b b n | C x y ↦ is_c x (string_bytes y) ] };
 
-    ghost unit = { unit_data };
-
-    ghost part = { part_data };
-
-    ghost need = { need_part_data };
-
-    ghost borrows = { false };
+    ghost shape = { data_variants };
 
     fn read_variant<R: Read>(
         alloc: Global,

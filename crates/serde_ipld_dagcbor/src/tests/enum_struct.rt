@@ -3,8 +3,8 @@
 ghost use Rattle.std.specs.Prelude.{Option, Some, [], ◌∷◌, false, codes, option_map};
 ghost use Rattle.ipld_tree.specs.Tree.{Tree, text, entries_tree};
 ghost use Rattle.dagcbor_write.specs.Trees.{field};
-ghost use Rattle.serde_ipld_dagcbor.specs.Letter.{Letter, is_a, is_b, unit_letter, part_letter, need_part_letter, view_letter, need_letter};
-ghost use Rattle.serde_ipld_dagcbor.specs.EnumStruct.{SeenEnumStruct, take_enum_struct, need_enum_struct, view_enum_struct, need_of_enum_struct};
+ghost use Rattle.serde_ipld_dagcbor.specs.Letter.{Letter, is_a, is_b, letter_variants, letter_shape};
+ghost use Rattle.serde_ipld_dagcbor.specs.EnumStruct.{SeenEnumStruct, enum_struct_fields, enum_struct_shape};
 ghost use Rattle.serde_ipld_dagcbor.specs.declared.tests.enum_struct.Enum.TheVariants.{A, B};
 
 use crate::tests::required::required;
@@ -42,11 +42,7 @@ impl Shown for Enum {
 
     ghost held = { λ e. elim e [ A ↦ is_a | B ↦ is_b ] };
 
-    ghost view = { view_letter };
-
-    ghost need = { need_letter };
-
-    ghost borrows = { false };
+    ghost shape = { letter_shape };
 }
 
 impl<'de> Variants<'de> for Enum {
@@ -54,13 +50,7 @@ impl<'de> Variants<'de> for Enum {
 
     ghost held = { λ e. elim e [ A ↦ is_a | B ↦ is_b ] };
 
-    ghost unit = { unit_letter };
-
-    ghost part = { part_letter };
-
-    ghost need = { need_part_letter };
-
-    ghost borrows = { false };
+    ghost shape = { letter_variants };
 
     fn read_variant<R: Read>(
         _alloc: Global,
@@ -120,11 +110,7 @@ impl<'de> Fields<'de> for EnumStructFields {
 
     ghost state = { λ f. record { e = option_map (λ e. elim e [ A ↦ is_a | B ↦ is_b ]) f.e } };
 
-    ghost take = { take_enum_struct };
-
-    ghost need = { need_enum_struct };
-
-    ghost borrows = { false };
+    ghost shape = { enum_struct_fields };
 
     fn read_field<R: Read>(
         &mut self,
@@ -144,11 +130,7 @@ impl Shown for EnumStruct {
 
     ghost held = { λ s. elim s.e [ A ↦ is_a | B ↦ is_b ] };
 
-    ghost view = { view_enum_struct };
-
-    ghost need = { need_of_enum_struct };
-
-    ghost borrows = { false };
+    ghost shape = { enum_struct_shape };
 }
 
 impl<'de> Deserialize<'de> for EnumStruct {

@@ -3,7 +3,7 @@
 ghost use Rattle.std.specs.Prelude.{Some, false};
 ghost use Rattle.ipld_tree.specs.Cid.{cid_bytes};
 ghost use Rattle.ipld_tree.specs.Tree.{bytes, link, any_need};
-ghost use Rattle.serde_ipld_dagcbor.specs.Kinded.{KindedView, is_bytes, is_link, view_kinded};
+ghost use Rattle.serde_ipld_dagcbor.specs.Kinded.{KindedView, is_bytes, is_link, kinded_shape};
 ghost use Rattle.serde_ipld_dagcbor.specs.declared.tests.kinded.Kinded.TheVariants as kinded;
 
 use crate::{
@@ -39,11 +39,7 @@ impl Shown for Kinded {
 
     ghost held = { λ k. elim k [ kinded.Bytes b ↦ is_bytes b.0.items | kinded.Link c ↦ is_link (cid_bytes c) ] };
 
-    ghost view = { view_kinded };
-
-    ghost need = { any_need };
-
-    ghost borrows = { false };
+    ghost shape = { kinded_shape };
 }
 
 impl<'de> Deserialize<'de> for Kinded {

@@ -3,7 +3,7 @@
 ghost use Rattle.std.specs.Prelude.{Some, [], ◌∷◌, codes, pos, string_bytes, option_map, false, refl};
 ghost use Rattle.ipld_tree.specs.Tree.{text, integer, entries_tree};
 ghost use Rattle.dagcbor_write.specs.Trees.{field};
-ghost use Rattle.serde_ipld_dagcbor.specs.Mascot.{MascotView, SeenMascot, take_mascot, need_mascot, view_mascot, need_of_mascot};
+ghost use Rattle.serde_ipld_dagcbor.specs.Mascot.{MascotView, SeenMascot, mascot_fields, mascot_shape};
 
 use crate::tests::required::required;
 use crate::tests::std_devices::{Sink, Source};
@@ -55,11 +55,7 @@ impl<'de> Fields<'de> for MascotFields {
 
     ghost state = { λ f. record { name = option_map string_bytes f.name; species = option_map string_bytes f.species; year_of_birth = option_map (λ n. n) f.year_of_birth } };
 
-    ghost take = { take_mascot };
-
-    ghost need = { need_mascot };
-
-    ghost borrows = { false };
+    ghost shape = { mascot_fields };
 
     fn read_field<R: Read>(
         &mut self,
@@ -81,11 +77,7 @@ impl Shown for Mascot {
 
     ghost held = { λ p. record { name = string_bytes p.name; species = string_bytes p.species; year_of_birth = p.year_of_birth } };
 
-    ghost view = { view_mascot };
-
-    ghost need = { need_of_mascot };
-
-    ghost borrows = { false };
+    ghost shape = { mascot_shape };
 }
 
 impl<'de> Deserialize<'de> for Mascot {

@@ -4,7 +4,7 @@ ghost use Rattle.std.specs.Prelude.{Some, [], ◌∷◌, codes, option_map, fals
 ghost use Rattle.ipld_tree.specs.Cid.{cid_bytes};
 ghost use Rattle.ipld_tree.specs.Tree.{boolean, link, entries_tree};
 ghost use Rattle.dagcbor_write.specs.Trees.{field};
-ghost use Rattle.serde_ipld_dagcbor.specs.MyStruct.{MyStructView, SeenMyStruct, take_my_struct, need_my_struct, view_my_struct, need_of_my_struct};
+ghost use Rattle.serde_ipld_dagcbor.specs.MyStruct.{MyStructView, SeenMyStruct, my_struct_fields, my_struct_shape};
 
 use crate::tests::links::{LINK, joined};
 use crate::tests::required::required;
@@ -49,11 +49,7 @@ impl<'de> Fields<'de> for MyStructFields {
 
     ghost state = { λ f. record { cid = option_map cid_bytes f.cid; flag = option_map (λ b. b) f.data } };
 
-    ghost take = { take_my_struct };
-
-    ghost need = { need_my_struct };
-
-    ghost borrows = { false };
+    ghost shape = { my_struct_fields };
 
     fn read_field<R: Read>(
         &mut self,
@@ -74,11 +70,7 @@ impl Shown for MyStruct {
 
     ghost held = { λ s. record { cid = cid_bytes s.cid; flag = s.data } };
 
-    ghost view = { view_my_struct };
-
-    ghost need = { need_of_my_struct };
-
-    ghost borrows = { false };
+    ghost shape = { my_struct_shape };
 }
 
 impl<'de> Deserialize<'de> for MyStruct {

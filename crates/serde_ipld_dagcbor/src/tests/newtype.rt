@@ -4,9 +4,9 @@ ghost use Rattle.std.specs.Prelude.{ℕ, List, ◌^◌, Some, false, codes, pos}
 ghost use Rattle.ipld_tree.specs.Cid.{cid_bytes};
 ghost use Rattle.ipld_tree.specs.Tree.{integer, link};
 ghost use Rattle.dagcbor_write.specs.Trees.{variant_tree};
-ghost use Rattle.dagcbor_read.specs.Views.{view_unsigned, no_need};
-ghost use Rattle.serde_ipld_dagcbor.specs.NamedLink.{unit_link, part_link, need_part_link, view_named_link, need_named_link};
+ghost use Rattle.dagcbor_read.specs.Shapes.{view_unsigned, leaf};
 ghost use Rattle.serde_ipld_dagcbor.specs.declared.tests.newtype.Externally.TheVariants as externally;
+ghost use Rattle.serde_ipld_dagcbor.specs.NamedLink.{named_link_variants, named_link_shape};
 
 use crate::tests::links::{LINK, joined};
 use crate::{
@@ -36,11 +36,7 @@ impl Shown for Newtype {
 
     ghost held = { λ n. n.0 };
 
-    ghost view = { view_unsigned (2 ^ 8) };
-
-    ghost need = { no_need };
-
-    ghost borrows = { false };
+    ghost shape = { leaf (view_unsigned (2 ^ 8)) };
 }
 
 impl<'de> Deserialize<'de> for Newtype {
@@ -82,11 +78,7 @@ impl Shown for Externally {
 
     ghost held = { λ e. elim e [ externally.Cid c ↦ cid_bytes c ] };
 
-    ghost view = { view_named_link };
-
-    ghost need = { need_named_link };
-
-    ghost borrows = { false };
+    ghost shape = { named_link_shape };
 }
 
 impl<'de> Variants<'de> for Externally {
@@ -94,13 +86,7 @@ impl<'de> Variants<'de> for Externally {
 
     ghost held = { λ e. elim e [ externally.Cid c ↦ cid_bytes c ] };
 
-    ghost unit = { unit_link };
-
-    ghost part = { part_link };
-
-    ghost need = { need_part_link };
-
-    ghost borrows = { false };
+    ghost shape = { named_link_variants };
 
     fn read_variant<R: Read>(
         alloc: Global,

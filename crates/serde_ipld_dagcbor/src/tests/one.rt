@@ -3,7 +3,7 @@
 ghost use Rattle.std.specs.Prelude.{ℕ, Some, [], ◌∷◌, codes, pos, option_map, false};
 ghost use Rattle.ipld_tree.specs.Tree.{integer, entries_tree};
 ghost use Rattle.dagcbor_write.specs.Trees.{field};
-ghost use Rattle.serde_ipld_dagcbor.specs.One.{SeenOne, take_one, need_one, view_one, need_of_one};
+ghost use Rattle.serde_ipld_dagcbor.specs.One.{SeenOne, one_fields, one_shape};
 
 use crate::{
     DecodeError, Deserialize, Deserializer, EncodeError, Fields, Read, Serialize, Serializer,
@@ -41,11 +41,7 @@ impl<'de> Fields<'de> for OneFields {
 
     ghost state = { λ f. record { a = option_map (λ n. n) f.a } };
 
-    ghost take = { take_one };
-
-    ghost need = { need_one };
-
-    ghost borrows = { false };
+    ghost shape = { one_fields };
 
     fn read_field<R: Read>(
         &mut self,
@@ -65,11 +61,7 @@ impl Shown for One {
 
     ghost held = { λ o. o.a };
 
-    ghost view = { view_one };
-
-    ghost need = { need_of_one };
-
-    ghost borrows = { false };
+    ghost shape = { one_shape };
 }
 
 impl<'de> Deserialize<'de> for One {

@@ -3,7 +3,7 @@
 ghost use Rattle.std.specs.Prelude.{Some, None, List, [], ◌∷◌, codes, pos, string_bytes, option_map, false};
 ghost use Rattle.ipld_tree.specs.Tree.{text, integer, entries_tree};
 ghost use Rattle.dagcbor_write.specs.Trees.{option_tree, field};
-ghost use Rattle.serde_ipld_dagcbor.specs.OptionalPerson.{OptionalPersonView, SeenOptionalPerson, take_optional_person, need_optional_person, view_optional_person, need_of_optional_person};
+ghost use Rattle.serde_ipld_dagcbor.specs.OptionalPerson.{OptionalPersonView, SeenOptionalPerson, optional_person_fields, optional_person_shape};
 
 use crate::tests::required::required;
 use crate::tests::told::{agree, tells, writes};
@@ -65,11 +65,7 @@ impl<'de> Fields<'de> for OptionalPersonFields {
 
     ghost state = { λ f. record { name = option_map string_bytes f.name; year_of_birth = option_map (option_map (λ n. n)) f.year_of_birth; profession = option_map (option_map string_bytes) f.profession } };
 
-    ghost take = { take_optional_person };
-
-    ghost need = { need_optional_person };
-
-    ghost borrows = { false };
+    ghost shape = { optional_person_fields };
 
     fn read_field<R: Read>(
         &mut self,
@@ -91,11 +87,7 @@ impl Shown for OptionalPerson {
 
     ghost held = { λ p. record { name = string_bytes p.name; year_of_birth = option_map (λ n. n) p.year_of_birth; profession = option_map string_bytes p.profession } };
 
-    ghost view = { view_optional_person };
-
-    ghost need = { need_of_optional_person };
-
-    ghost borrows = { false };
+    ghost shape = { optional_person_shape };
 }
 
 impl<'de> Deserialize<'de> for OptionalPerson {

@@ -3,7 +3,7 @@
 ghost use Rattle.std.specs.Prelude.{Some, [], ◌∷◌, codes, pos, string_bytes, option_map, false};
 ghost use Rattle.ipld_tree.specs.Tree.{text, integer, entries_tree};
 ghost use Rattle.dagcbor_write.specs.Trees.{option_tree, field};
-ghost use Rattle.serde_ipld_dagcbor.specs.Person.{PersonView, SeenPerson, take_person, need_person, view_person, need_of_person};
+ghost use Rattle.serde_ipld_dagcbor.specs.Person.{PersonView, SeenPerson, person_fields, person_shape};
 
 use crate::tests::required::required;
 use crate::tests::told::{agree, tells, writes};
@@ -51,11 +51,7 @@ impl<'de> Fields<'de> for PersonFields {
 
     ghost state = { λ f. record { name = option_map string_bytes f.name; year_of_birth = option_map (λ n. n) f.year_of_birth; profession = option_map (option_map string_bytes) f.profession } };
 
-    ghost take = { take_person };
-
-    ghost need = { need_person };
-
-    ghost borrows = { false };
+    ghost shape = { person_fields };
 
     fn read_field<R: Read>(
         &mut self,
@@ -77,11 +73,7 @@ impl Shown for Person {
 
     ghost held = { λ p. record { name = string_bytes p.name; year_of_birth = p.year_of_birth; profession = option_map string_bytes p.profession } };
 
-    ghost view = { view_person };
-
-    ghost need = { need_of_person };
-
-    ghost borrows = { false };
+    ghost shape = { person_shape };
 }
 
 impl<'de> Deserialize<'de> for Person {

@@ -5,7 +5,7 @@ ghost use Rattle.dagcbor_heads.specs.Written.{Writes};
 ghost use Rattle.ipld_tree.specs.Tree.{IsTree, integer, entries_tree};
 ghost use Rattle.ipld_tree.specs.Spelled.{spelled_tree};
 ghost use Rattle.dagcbor_write.specs.Trees.{field, variant_tree};
-ghost use Rattle.serde_ipld_dagcbor.specs.Second.{SecondView, SeenSecond, take_second, need_second, unit_second, part_second, need_part_second, view_second, need_of_second};
+ghost use Rattle.serde_ipld_dagcbor.specs.Second.{SecondView, SeenSecond, second_fields, second_variants, second_shape};
 ghost use Rattle.serde_ipld_dagcbor.specs.declared.tests.second.Second.TheVariants.{Data};
 
 use crate::tests::required::required;
@@ -75,11 +75,7 @@ impl<'de> Fields<'de> for FieldsOfData {
 
     ghost state = { λ f. record { b = option_map (λ n. n) f.b; abc = option_map (λ n. n) f.abc; a = option_map (λ n. n) f.a } };
 
-    ghost take = { take_second };
-
-    ghost need = { need_second };
-
-    ghost borrows = { false };
+    ghost shape = { second_fields };
 
     fn read_field<R: Read>(
         &mut self,
@@ -101,11 +97,7 @@ impl Shown for Second {
 
     ghost held = { λ e. elim e [ Data b abc a ↦ record { b = b; abc = abc; a = a } ] };
 
-    ghost view = { view_second };
-
-    ghost need = { need_of_second };
-
-    ghost borrows = { false };
+    ghost shape = { second_shape };
 }
 
 impl<'de> Variants<'de> for Second {
@@ -113,13 +105,7 @@ impl<'de> Variants<'de> for Second {
 
     ghost held = { λ e. elim e [ Data b abc a ↦ record { b = b; abc = abc; a = a } ] };
 
-    ghost unit = { unit_second };
-
-    ghost part = { part_second };
-
-    ghost need = { need_part_second };
-
-    ghost borrows = { false };
+    ghost shape = { second_variants };
 
     fn read_variant<R: Read>(
         alloc: Global,

@@ -2,7 +2,7 @@
 
 ghost use Rattle.std.specs.Prelude.{ℕ, List, option_map, string_bytes, false};
 ghost use Rattle.ipld_tree.specs.Cid.{cid_bytes};
-ghost use Rattle.serde_ipld_dagcbor.specs.Tagged.{SeenTagged, take_tagged, need_tagged, view_tagged, need_of_tagged};
+ghost use Rattle.serde_ipld_dagcbor.specs.Tagged.{SeenTagged, tagged_fields, tagged_shape};
 ghost use Rattle.serde_ipld_dagcbor.specs.declared.tests.tagged.CidInInternallyTaggedEnum.TheVariants as tagged;
 
 use crate::tests::links::{LINK, joined};
@@ -30,11 +30,7 @@ impl<'de> Fields<'de> for TaggedFields {
 
     ghost state = { λ f. record { tag = option_map string_bytes f.tag; cid = option_map cid_bytes f.cid } };
 
-    ghost take = { take_tagged };
-
-    ghost need = { need_tagged };
-
-    ghost borrows = { false };
+    ghost shape = { tagged_fields };
 
     fn read_field<R: Read>(
         &mut self,
@@ -55,11 +51,7 @@ impl Shown for CidInInternallyTaggedEnum {
 
     ghost held = { λ e. elim e [ tagged.MyCid c ↦ cid_bytes c ] };
 
-    ghost view = { view_tagged };
-
-    ghost need = { need_of_tagged };
-
-    ghost borrows = { false };
+    ghost shape = { tagged_shape };
 }
 
 impl<'de> Deserialize<'de> for CidInInternallyTaggedEnum {

@@ -4,7 +4,7 @@ use mir.Syntax.{w128}
 use mir.Val.{SFits}
 use Rattle.std.specs.Prelude.{codes}
 use Rattle.dagcbor_heads.proofs.Refusing.{refused}
-use Rattle.dagcbor_items.specs.Views.{within}
+use Rattle.dagcbor_items.specs.Shapes.{within}
 use Rattle.dagcbor_items.specs.LeafCauses.{LongStands}
 use Rattle.dagcbor_items.proofs.HeadKinds.{as_value}
 use Rattle.dagcbor_items.proofs.Integers.{within_i128, narrowed, narrow_refused}

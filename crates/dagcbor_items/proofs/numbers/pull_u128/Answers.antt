@@ -3,7 +3,7 @@ use mir.Syntax.{w128}
 use mir.Val.{SFits}
 use Rattle.std.specs.Prelude.{codes}
 use Rattle.dagcbor_heads.proofs.Refusing.{refused}
-use Rattle.dagcbor_items.specs.Views.{natural_below}
+use Rattle.dagcbor_items.specs.Shapes.{natural_below}
 use Rattle.dagcbor_items.specs.LeafCauses.{LongStands}
 use Rattle.dagcbor_items.proofs.Integers.{handed, narrowed, narrow_refused, outside}
 use Rattle.dagcbor_items.proofs.numbers.pull_u128.Goals as goal

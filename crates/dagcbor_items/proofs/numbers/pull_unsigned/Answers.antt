@@ -3,7 +3,7 @@ use mir.Syntax.{w128}
 use mir.Val.{SFits}
 use Rattle.dagcbor_heads.proofs.Refusing.{refused}
 use Rattle.dagcbor_items.specs.LeafCauses.{KindStands}
-use Rattle.dagcbor_items.specs.Views.{natural_below}
+use Rattle.dagcbor_items.specs.Shapes.{natural_below}
 use Rattle.dagcbor_items.proofs.Integers.{handed, narrowed, narrow_refused, outside}
 use Rattle.dagcbor_items.proofs.numbers.pull_unsigned.Goals as goal
 

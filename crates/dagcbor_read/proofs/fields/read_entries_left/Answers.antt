@@ -10,13 +10,13 @@ pub returns-in_err-key : goal.returns-in_err-key
 returns-in_err-key g c =
     let i = c.loop-entries.invariant in
     let k = key_refused g.row.R-Error.Denot _ _ _ (progress g.R.Read.reading c.next_key.new.de) _ i.sound c.in_err-key.ensures.key in
-    refused _ _ _ _ c.from_residual.ensures.1 (key_not_read g.F.Fields.take g.F.Fields.need (g.F.Fields.borrows ≡ true) _ _ i k.0 k.1)
+    refused _ _ _ _ c.from_residual.ensures.1 (key_not_read g.F.Fields.shape (g.F.Fields.shape.borrows ≡ true) _ _ i k.0 k.1)
 
 pub returns-in_err-read_field : goal.returns-in_err-read_field
 returns-in_err-read_field g c =
     let i = c.loop-entries.invariant in
     let k = key_read g.row.R-Error.Denot _ _ (progress g.R.Read.reading c.loop-entries.de) (progress g.R.Read.reading c.next_key.new.de) _ _ c.in-Some.is c.in_ok-key.ensures.key in
-    refused _ _ _ _ c.from_residual-in_err-read_field.ensures.1 (value_not_read g.F.Fields.take g.F.Fields.need (g.F.Fields.borrows ≡ true) _ _ _ _ c.as_str.ensures.value i k (c.in_err-read_field.ensures k.sound))
+    refused _ _ _ _ c.from_residual-in_err-read_field.ensures.1 (value_not_read g.F.Fields.shape (g.F.Fields.shape.borrows ≡ true) _ _ _ _ c.as_str.ensures.value i k (c.in_err-read_field.ensures k.sound))
 
 pub loop-entries-preserved-in_ok-read_field : goal.loop-entries-preserved-in_ok-read_field
 loop-entries-preserved-in_ok-read_field g c =
@@ -24,7 +24,7 @@ loop-entries-preserved-in_ok-read_field g c =
     let k = key_read g.row.R-Error.Denot _ _ (progress g.R.Read.reading c.loop-entries.de) (progress g.R.Read.reading c.next_key.new.de) _ _ c.in-Some.is c.in_ok-key.ensures.key in
     let after = after_some_key g.row.R-Error.Denot _ _ (begun c.loop-entries.entries) _ c.in-Some.is c.in_ok-key.ensures.after in
     let v = c.in_ok-read_field.ensures k.sound in
-    one_more g.F.Fields.take g.F.Fields.need _ _ c.as_str.ensures.value i k after c.note_value.ensures v.0 v.1
+    one_more g.F.Fields.shape _ _ c.as_str.ensures.value i k after c.note_value.ensures v.0 v.1
 
 pub loop-entries-preserved : goal.loop-entries-preserved
 loop-entries-preserved g c =
@@ -32,7 +32,7 @@ loop-entries-preserved g c =
     let k = key_read g.row.R-Error.Denot _ _ (progress g.R.Read.reading c.loop-entries.de) (progress g.R.Read.reading c.next_key.new.de) _ _ c.in-Some.is c.in_ok-key.ensures.key in
     let after = after_some_key g.row.R-Error.Denot _ _ (begun c.loop-entries.entries) _ c.in-Some.is c.in_ok-key.ensures.after in
     let v = c.in_ok-read_field.ensures k.sound in
-    one_more g.F.Fields.take g.F.Fields.need _ _ c.as_str.ensures.value i k after c.note_value.ensures v.0 v.1
+    one_more g.F.Fields.shape _ _ c.as_str.ensures.value i k after c.note_value.ensures v.0 v.1
 
 pub returns : goal.returns
 returns g c =
@@ -40,5 +40,5 @@ returns g c =
     let k = no_key g.row.R-Error.Denot _ _ (progress g.R.Read.reading c.loop-entries.de) (progress g.R.Read.reading c.next_key.new.de) _ c.in_default.is c.in_ok-key.ensures.key in
     let after = after_no_key g.row.R-Error.Denot _ (begun c.loop-entries.entries) _ c.in_default.is c.in_ok-key.ensures.after in
     let e = answered _ g.row.R-Error.Denot (EndsItems (begun c.next_key.new.self)) (progress g.R.Read.reading c.next_key.new.de) (progress g.R.Read.reading c.end.new.de) _ c.in_ok-end.ensures in
-    let a = all_read g.F.Fields.take g.F.Fields.need (progress g.R.Read.reading c.next_key.new.de) (progress g.R.Read.reading c.end.new.de) i k.1 after k.2 e.2.1 in
+    let a = all_read g.F.Fields.shape (progress g.R.Read.reading c.next_key.new.de) (progress g.R.Read.reading c.end.new.de) i k.1 after k.2 e.2.1 in
     (e.1, a.0, a.1, a.2)

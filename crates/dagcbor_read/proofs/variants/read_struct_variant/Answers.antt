@@ -6,4 +6,4 @@ use Rattle.dagcbor_read.proofs.variants.read_struct_variant.Goals as goal
 
 pub returns-clause-held : goal.returns-clause-held
 returns-clause-held g c =
-    held_entries_read g.F.Fields.take g.F.Fields.need (g.F.Fields.state c.args.fields) g.F.Fields.state g.F.Fields.borrows (codes "map") (begun_enum c.args.variant) (progress g.R.Read.reading c.args.de.now) (progress g.R.Read.reading c.struct_variant.new.de) (progress g.R.Read.reading c.read_entries_left.new.de) c.in_ok-entries.entries c.read_entries_left.result c.in_ok-entries.ensures.begun c.read_entries_left.ensures
+    held_entries_read g.F.Fields.shape (g.F.Fields.state c.args.fields) g.F.Fields.state (codes "map") (begun_enum c.args.variant) (progress g.R.Read.reading c.args.de.now) (progress g.R.Read.reading c.struct_variant.new.de) (progress g.R.Read.reading c.read_entries_left.new.de) c.in_ok-entries.entries c.read_entries_left.result c.in_ok-entries.ensures.begun c.read_entries_left.ensures

@@ -12,12 +12,12 @@ returns-in-Ok g c =
     let found = sym c.in-Some.ensures.value in (
       c.in-Some.block.now.items,
       (block_found c.args.name.now c.args.self.now.held.entries c.in-Some.block.now found, digest_of_found c.args.name.now c.args.self.now.held.entries c.in-Some.block.now found c.args.self.now.sound),
-      subst (λ b. IsWhole g.T.Shown.view g.T.Shown.need b (g.T.Shown.held c.in-Ok.value)) c.deref.ensures.value c.in-Ok.ensures,
+      subst (λ b. IsWhole g.T.Shown.shape b (g.T.Shown.held c.in-Ok.value)) c.deref.ensures.value c.in-Ok.ensures,
     )
 
 pub returns-in-Err : goal.returns-in-Err
 returns-in-Err g c =
     let found = sym c.in-Some.ensures.value in
-    not_got g.T.Shown.view g.T.Shown.need c.args.name.now _ c.in-Some.block.now.items c.in-Err.error c.of_decoding.result
+    not_got g.T.Shown.shape c.args.name.now _ c.in-Some.block.now.items c.in-Err.error c.of_decoding.result
     (block_found c.args.name.now c.args.self.now.held.entries c.in-Some.block.now found, digest_of_found c.args.name.now c.args.self.now.held.entries c.in-Some.block.now found c.args.self.now.sound)
-    (subst (λ b. WholeRefused ⊥ g.T.Shown.view g.T.Shown.need (Some b) c.in-Err.error) c.deref.ensures.value c.in-Err.ensures) c.of_decoding.ensures
+    (subst (λ b. WholeRefused ⊥ g.T.Shown.shape (Some b) c.in-Err.error) c.deref.ensures.value c.in-Err.ensures) c.of_decoding.ensures

@@ -5,7 +5,7 @@ use Rattle.dagcbor_read.proofs.ItemRows.{ReadSoFar}
 use Rattle.dagcbor_read.proofs.row.VecRow.read_row.Given as goal
 
 abbrev pub invariant-loop-all : goal.invariant-loop-all
-invariant-loop-all g l = ReadSoFar g.T.Shown.view g.T.Shown.need (begun l.fn.items) (progress g.R.Read.reading l.fn.de) (begun l.items) (map g.T.Shown.held l.all.items) (progress g.R.Read.reading l.de)
+invariant-loop-all g l = ReadSoFar g.T.Shown.shape (begun l.fn.items) (progress g.R.Read.reading l.fn.de) (begun l.items) (map g.T.Shown.held l.all.items) (progress g.R.Read.reading l.de)
 
 abbrev pub decreases-loop-all : goal.decreases-loop-all
 decreases-loop-all g l = l.items.left

@@ -11,4 +11,4 @@ returns-in-Ok-insert g c = λ f.
     let pairs = in_key_order (text_pairs g.V.Shown.held c.args.self.now.entries) in
     let placed = ap (λ es. in_key_order (text_pairs g.V.Shown.held es)) c.in-Ok-insert.ensures.entries ∙ put_sorted g.V.Shown.held c.args.self.now.entries c.in-Ok.name c.in_ok-value.value
     ∙ ap (λ x. insert_entry key_cmp pairs x (g.V.Shown.held c.in_ok-value.value)) c.in-Ok.ensures.ok in
-    (k.0, value_put g.V.Shown.view g.V.Shown.need pairs _ c.args.key.now _ placed k.1)
+    (k.0, value_put g.V.Shown.shape pairs _ c.args.key.now _ placed k.1)

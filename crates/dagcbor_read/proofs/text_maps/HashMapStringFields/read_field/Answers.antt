@@ -13,4 +13,4 @@ returns-in-Ok-insert g c = λ f.
     let put = c.in-Ok-insert.ensures in
     let placed = put_hashed g.V.Shown.held c.args.self.now.entries c.insert.new.self.entries c.in-Ok.name c.in_ok-value.value c.in-Ok-insert.field-0 put.old put.entries put.unique
     ∙ ap (λ x. insert_entry key_cmp pairs x (g.V.Shown.held c.in_ok-value.value)) c.in-Ok.ensures.ok in
-    (k.0, value_put g.V.Shown.view g.V.Shown.need pairs _ c.args.key.now _ placed k.1)
+    (k.0, value_put g.V.Shown.shape pairs _ c.args.key.now _ placed k.1)

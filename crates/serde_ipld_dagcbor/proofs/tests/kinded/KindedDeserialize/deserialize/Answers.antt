@@ -1,7 +1,7 @@
 use Rattle.std.proofs.Common.{◌≡◌, ℕ, Vec, Global, refl, rules}
 use Rattle.std.specs.Prelude.{None, Some}
 use Rattle.ipld_tree.specs.Ipld.{tree_of}
-use Rattle.ipld_tree.specs.Tree.{any_need}
+use Rattle.dagcbor_items.specs.Shapes.{any_tree}
 use Rattle.ipld_tree.specs.declared.cid.Cid.{Cid}
 use Rattle.ipld_tree.specs.declared.ipld.Ipld.{Ipld, the_lemmas}
 use Rattle.ipld_tree.specs.declared.ipld.Ipld as ipld
@@ -16,4 +16,4 @@ no_kind (ipld.Link c) h k = absurd (k c refl)
 no_kind _ h k = search (rules, the_lemmas)
 
 pub returns-clause-value : goal.returns-clause-value
-returns-clause-value g c = unfinished Some any_need view_kinded _ (c.custom.ensures.0, c.custom.ensures.1) (no_kind _ c.in_default.not-Bytes c.in_default.not-Link) c.in_ok-bytes.ensures.value
+returns-clause-value g c = unfinished any_tree view_kinded _ (c.custom.ensures.0, c.custom.ensures.1) (no_kind _ c.in_default.not-Bytes c.in_default.not-Link) c.in_ok-bytes.ensures.value

@@ -3,13 +3,13 @@ use Rattle.dagcbor_read.proofs.Finishing.{handed_on, missing}
 use Rattle.serde_ipld_dagcbor.proofs.tests.mascot.MascotDeserialize.deserialize.Goals as goal
 
 pub returns-in_err-fields-clause-value : goal.returns-in_err-fields-clause-value
-returns-in_err-fields-clause-value g c = λ sound. handed_on _ _ _ _ _ _ _ _ _ c.from_residual.ensures.1 (c.in_err-fields.ensures.value sound) sound
+returns-in_err-fields-clause-value g c = λ sound. handed_on _ _ _ _ _ _ _ _ c.from_residual.ensures.1 (c.in_err-fields.ensures.value sound) sound
 
 pub returns-in_err-name-clause-value : goal.returns-in_err-name-clause-value
-returns-in_err-name-clause-value g c = missing _ _ _ _ _ _ c.from_residual-in_err-name.ensures.1 c.in_err-name.ensures.1 (search rules) c.in_ok-fields.ensures.value
+returns-in_err-name-clause-value g c = missing _ _ _ _ _ c.from_residual-in_err-name.ensures.1 c.in_err-name.ensures.1 (search rules) c.in_ok-fields.ensures.value
 
 pub returns-in_err-species-clause-value : goal.returns-in_err-species-clause-value
-returns-in_err-species-clause-value g c = missing _ _ _ _ _ _ c.from_residual-in_err-species.ensures.1 c.in_err-species.ensures.1 (search rules) c.in_ok-fields.ensures.value
+returns-in_err-species-clause-value g c = missing _ _ _ _ _ c.from_residual-in_err-species.ensures.1 c.in_err-species.ensures.1 (search rules) c.in_ok-fields.ensures.value
 
 pub returns-in_err-year_of_birth-clause-value : goal.returns-in_err-year_of_birth-clause-value
-returns-in_err-year_of_birth-clause-value g c = missing _ _ _ _ _ _ c.from_residual-in_err-year_of_birth.ensures.1 c.in_err-year_of_birth.ensures.1 (search rules) c.in_ok-fields.ensures.value
+returns-in_err-year_of_birth-clause-value g c = missing _ _ _ _ _ c.from_residual-in_err-year_of_birth.ensures.1 c.in_err-year_of_birth.ensures.1 (search rules) c.in_ok-fields.ensures.value

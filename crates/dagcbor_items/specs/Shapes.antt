@@ -1,11 +1,23 @@
--- The value that a tree shows to a type, and the steps that reading it takes.
-use Rattle.std.specs.Prelude.{ℕ, zero, suc, ◌+◌, ℤ, pos, negsuc, Bool, List, [], ◌∷◌, Option, None, Some, option_map, if◌then◌else◌, nat_lt}
+-- The shape of a type: what it makes of the data that it is read from.
+use Rattle.std.specs.Prelude.{ℕ, zero, suc, ◌+◌, ℤ, pos, negsuc, Bool, true, false, List, [], ◌∷◌, Option, None, Some, option_map, if◌then◌else◌, nat_lt}
 use Rattle.std.specs.Str.{chars}
-use Rattle.ipld_tree.specs.Tree.{Tree, null, boolean, integer, text, bytes, link}
+use Rattle.ipld_tree.specs.Tree.{Tree, null, boolean, integer, text, bytes, link, any_need}
 
--- The reading takes no step.
-abbrev pub no_need : Tree → ℕ
-no_need t = 0
+pub record Shape (Data V : Type 0) : Type 0 where
+  -- the value that the data shows; none where the type does not accept it
+  pub view : Data → Option V
+  -- the steps that reading it takes
+  pub need : Data → ℕ
+  -- whether what is read borrows from the input
+  pub borrows : Bool
+
+-- Reading it takes no step, and borrows nothing.
+abbrev pub leaf : {V : Type 0} → (Tree → Option V) → Shape Tree V
+leaf view = record { view = view; need = λ t. 0; borrows = false }
+
+-- The same, lent by the input.
+abbrev pub lent_leaf : {V : Type 0} → (Tree → Option V) → Shape Tree V
+lent_leaf view = record { view = view; need = λ t. 0; borrows = true }
 
 -- ---- numbers
 
@@ -70,15 +82,27 @@ view_link _ = None
 
 -- ---- types that accept more
 
+-- Any tree shows itself.
+abbrev pub any_tree : Shape Tree Tree
+any_tree = record { view = Some; need = any_need; borrows = false }
+
 -- Any tree shows nothing to a type that ignores it.
-abbrev pub view_ignored : Tree → Option (Unit {0})
-view_ignored t = Some tt
+abbrev pub ignored : Shape Tree (Unit {0})
+ignored = record { view = λ t. Some tt; need = any_need; borrows = false }
 
 -- null, or what another tree shows
 abbrev pub view_option : {V : Type 0} → (Tree → Option V) → Tree → Option (Option V)
 view_option view null = Some None
 view_option view t = option_map Some (view t)
 
+-- no step for a null; a step for another tree, and what it needs
 abbrev pub need_option : (Tree → ℕ) → Tree → ℕ
 need_option need null = 0
 need_option need t = 1 + need t
+
+abbrev pub option_of : {V : Type 0} → Shape Tree V → Shape Tree (Option V)
+option_of shape = record {
+  view = view_option shape.view;
+  need = need_option shape.need;
+  borrows = shape.borrows;
+}

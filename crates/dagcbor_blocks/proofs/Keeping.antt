@@ -18,6 +18,7 @@ use Rattle.serde_ipld_dagcbor.specs.CidHash.{same_cid, is_equal}
 use Rattle.serde_ipld_dagcbor.specs.Tree.{Tree, any_need, links_of}
 use Rattle.serde_ipld_dagcbor.specs.Spelling.{IsSpelling}
 use Rattle.serde_ipld_dagcbor.specs.Answers.{IsAnswer}
+use Rattle.serde_ipld_dagcbor.specs.Shapes.{Shape}
 use Rattle.serde_ipld_dagcbor.specs.Whole.{WholeRefused}
 use Rattle.serde_ipld_dagcbor.specs.AllLinks.{AreFirstLinks, LinksRefused}
 use Rattle.serde_ipld_dagcbor.specs.GrammarLaws.{SpellingsAreUnique}
@@ -151,10 +152,10 @@ put_done law (Some t) v old new (Err OutOfMemory) a h = (h.0, tt)
 
 -- ---- getting
 
-module _ {V : Type 0} (view : Tree → Option V) (need : Tree → ℕ) where
-  pub not_got : (name : CidParts) (held : Held) (b : List ℕ) (e : DecodeError Infallible) (told : BlockError) → IsHeld name b held → WholeRefused ⊥ view need (Some b) e → TellsOfDecoding e told → GetRefused view need name held told
+module _ {V : Type 0} (shape : Shape Tree V) where
+  pub not_got : (name : CidParts) (held : Held) (b : List ℕ) (e : DecodeError Infallible) (told : BlockError) → IsHeld name b held → WholeRefused ⊥ shape (Some b) e → TellsOfDecoding e told → GetRefused shape name held told
   not_got name held b (unread.Read e) told at r h = absurd r
-  not_got name held b unread.OutOfMemory told at r h = subst (GetRefused view need name held) (sym h) tt
+  not_got name held b unread.OutOfMemory told at r h = subst (GetRefused shape name held) (sym h) tt
   not_got name held b (unread.RequireBorrowed n) told at r h = absurd r
   not_got name held b unread.Failed told at r h = absurd r
-  not_got name held b _ told at r h = subst (GetRefused view need name held) (sym h) (tt, (b, at, r))
+  not_got name held b _ told at r h = subst (GetRefused shape name held) (sym h) (tt, (b, at, r))

@@ -12,6 +12,7 @@ use Rattle.serde_ipld_dagcbor.specs.DecodeError.TheVariants as unread
 use Rattle.serde_ipld_dagcbor.specs.Cid.{CidParts, AreCidParts, cid_bytes, cid_cmp}
 use Rattle.serde_ipld_dagcbor.specs.Tree.{Tree, IsTree, any_need, links_of}
 use Rattle.serde_ipld_dagcbor.specs.Spelling.{IsSpellable, spelling, IsSpelling}
+use Rattle.serde_ipld_dagcbor.specs.Shapes.{Shape}
 use Rattle.serde_ipld_dagcbor.specs.Whole.{IsBlock, IsWhole}
 use Rattle.serde_ipld_dagcbor.specs.Walks.{forms}
 use Rattle.serde_ipld_dagcbor.specs.EncodeError.{EncodeError}
@@ -114,20 +115,20 @@ Puts tree old result new = MatchResult result
 abbrev pub IsHeld : CidParts → List ℕ → Held → Type 0
 IsHeld name b held = (block_at name held ≡ Some b) × (name.digest ≡ sha256 b)
 
-abbrev pub GetRefused : {V : Type 0} → (Tree → Option V) → (Tree → ℕ) → CidParts → Held → BlockError → Type 0
-GetRefused view need name held (Encode e) = ⊥
-GetRefused {V} view need name held (Decode e) = IsOfBytes e × ((b : List ℕ) × IsHeld name b held × ((v : V) → IsWhole view need b v → ⊥))
-GetRefused view need name held Collision = ⊥
-GetRefused view need name held OutOfMemory = ⊤
+abbrev pub GetRefused : {V : Type 0} → Shape Tree V → CidParts → Held → BlockError → Type 0
+GetRefused shape name held (Encode e) = ⊥
+GetRefused {V} shape name held (Decode e) = IsOfBytes e × ((b : List ℕ) × IsHeld name b held × ((v : V) → IsWhole shape b v → ⊥))
+GetRefused shape name held Collision = ⊥
+GetRefused shape name held OutOfMemory = ⊤
 
-abbrev pub GetsSome : {T V : Type 0} → (T → V) → (Tree → Option V) → (Tree → ℕ) → CidParts → Held → Option T → Type 0
-GetsSome show view need name held None = block_at name held ≡ None
-GetsSome show view need name held (Some v) = (b : List ℕ) × IsHeld name b held × IsWhole view need b (show v)
+abbrev pub GetsSome : {T V : Type 0} → (T → V) → Shape Tree V → CidParts → Held → Option T → Type 0
+GetsSome show shape name held None = block_at name held ≡ None
+GetsSome show shape name held (Some v) = (b : List ℕ) × IsHeld name b held × IsWhole shape b (show v)
 
 -- None is answered exactly where no block has the name, else what the tree shows whose spelling is held; refused only where the type
 -- does not accept that tree within 256 steps.
-abbrev pub Gets : {T V : Type 0} → (T → V) → (Tree → Option V) → (Tree → ℕ) → CidParts → Held → Result (Option T) BlockError → Type 0
-Gets show view need name held result = MatchResult result (GetsSome show view need name held) (GetRefused view need name held)
+abbrev pub Gets : {T V : Type 0} → (T → V) → Shape Tree V → CidParts → Held → Result (Option T) BlockError → Type 0
+Gets show shape name held result = MatchResult result (GetsSome show shape name held) (GetRefused shape name held)
 
 -- ---- links
 

@@ -11,32 +11,33 @@ use Rattle.dagcbor_write.specs.Answers.{IsAnswer}
 use Rattle.dagcbor_read.specs.Whole.{IsWhole, WholeRefused}
 use Rattle.serde_ipld_dagcbor.specs.Codec.{spellings_are_unique}
 use Rattle.serde_ipld_dagcbor.specs.RoundTrips.{TypedReadThenWritten, ReadThenWritten, IsReadBack, TypedWrittenThenRead, WrittenThenRead}
+use Rattle.dagcbor_read.specs.Shapes.{Shape, any_tree}
 
 some_same : {A : Type 0} (a b : A) → Some a ≡ Some b → a ≡ b
 some_same a b e = cc e
 
-module _ {T V : Type 0} (held : T → V) (view : Tree → Option V) (need : Tree → ℕ) (tree : T → Option Tree) where
-  pub typed_read_then_written : TypedReadThenWritten held view need tree
+module _ {T V : Type 0} (held : T → V) (shape : Shape Tree V) (tree : T → Option Tree) where
+  pub typed_read_then_written : TypedReadThenWritten held shape tree
   typed_read_then_written b value (Ok v) own h w = let a = subst (λ o. IsAnswer o (Ok v)) (own h.0 h.2) w in a.is ∙ sym h.1.is
   typed_read_then_written b value (Err (unwritten.Msg m)) own h w = absurd (subst (λ o. IsAnswer o (Err (unwritten.Msg m))) (own h.0 h.2) w h.1.spellable)
   typed_read_then_written b value (Err (unwritten.Write e)) own h w = absurd w
   typed_read_then_written b value (Err unwritten.OutOfMemory) own h w = tt
 
-  no_refusal : (x : V) (b : List ℕ) (e : DecodeError Infallible) → IsWhole view need b x → WholeRefused ⊥ view need (Some b) e → IsReadBack held x (Err e)
+  no_refusal : (x : V) (b : List ℕ) (e : DecodeError Infallible) → IsWhole shape b x → WholeRefused ⊥ shape (Some b) e → IsReadBack held x (Err e)
   no_refusal x b (Read e) h r = r
   no_refusal x b OutOfMemory h r = tt
   no_refusal x b (RequireBorrowed name) h r = r
   no_refusal x b Failed h r = r
   no_refusal x b _ h r = r x h
 
-  pub typed_written_then_read : TypedWrittenThenRead held view need tree
+  pub typed_written_then_read : TypedWrittenThenRead held shape tree
   typed_written_then_read value t x v (Ok copy) is shows within w r =
       let same = spellings_are_unique v.items r.0 t r.1 (subst (λ o. IsAnswer o (Ok v)) is w) in
-      some_same _ _ (sym r.2 ∙ ap view same ∙ shows)
+      some_same _ _ (sym r.2 ∙ ap shape.view same ∙ shows)
   typed_written_then_read value t x v (Err e) is shows within w r = no_refusal x v.items e (t, subst (λ o. IsAnswer o (Ok v)) is w, shows, within) r
 
 pub read_then_written : ReadThenWritten
-read_then_written b value written h w = typed_read_then_written tree_of Some any_need (λ v. Some (tree_of v)) b value written (λ t e. sym e) h w
+read_then_written b value written h w = typed_read_then_written tree_of any_tree (λ v. Some (tree_of v)) b value written (λ t e. sym e) h w
 
 pub written_then_read : WrittenThenRead
-written_then_read value v read w within r = typed_written_then_read tree_of Some any_need (λ v. Some (tree_of v)) value (tree_of value) (tree_of value) v read refl refl within w r
+written_then_read value v read w within r = typed_written_then_read tree_of any_tree (λ v. Some (tree_of v)) value (tree_of value) (tree_of value) v read refl refl within w r

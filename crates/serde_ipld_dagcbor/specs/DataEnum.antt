@@ -1,5 +1,5 @@
 -- What a tree shows to an enum whose variants hold a value, two values, and fields.
-use Rattle.std.specs.Prelude.{ℕ, ◌^◌, Bool, List, Option, Some, None, option_map, option_and_then, if◌then◌else◌, codes}
+use Rattle.std.specs.Prelude.{ℕ, ◌^◌, Bool, List, Option, Some, None, option_map, option_and_then, if◌then◌else◌, codes, false}
 use Rattle.std.specs.Str.{bytes_eq}
 use Rattle.ipld_tree.specs.Tree.{Tree, any_need}
 use Rattle.dagcbor_read.specs.Shapes.{view_unsigned, view_bool, view_text, Shape, leaf}

@@ -1,6 +1,6 @@
 -- What a tree shows to an enum of a byte string and a link, without a name.
-use Rattle.std.specs.Prelude.{ℕ, List, Option, Some, None}
-use Rattle.ipld_tree.specs.Tree.{Tree, bytes, link}
+use Rattle.std.specs.Prelude.{ℕ, List, Option, Some, None, false}
+use Rattle.ipld_tree.specs.Tree.{Tree, bytes, link, any_need}
 use Rattle.dagcbor_read.specs.Shapes.{Shape}
 
 pub data KindedView : Type 0 where

@@ -33,7 +33,7 @@ pub use Rattle.dagcbor_read.specs.Links
 pub use Rattle.dagcbor_read.specs.Walks
 pub use Rattle.dagcbor_read.specs.Calls
 pub use Rattle.dagcbor_read.specs.Reads
-pub use Rattle.dagcbor_read.specs.Views
+pub use Rattle.dagcbor_read.specs.Shapes
 pub use Rattle.dagcbor_read.specs.Collections
 pub use Rattle.dagcbor_read.specs.Accessors
 pub use Rattle.dagcbor_read.specs.Enums

@@ -1,5 +1,5 @@
 -- What a tree shows to a struct with two fields that may be absent.
-use Rattle.std.specs.Prelude.{ℕ, ◌^◌, List, Option, Some, None, option_map, if◌then◌else◌, codes}
+use Rattle.std.specs.Prelude.{ℕ, ◌^◌, List, Option, Some, None, option_map, if◌then◌else◌, codes, false}
 use Rattle.std.specs.Option.{option_flatten}
 use Rattle.std.specs.Str.{bytes_eq}
 use Rattle.ipld_tree.specs.Tree.{Tree, any_need}
@@ -27,8 +27,8 @@ take_optional_person s k t =
 abbrev pub need_optional_person : List ℕ → Tree → ℕ
 need_optional_person k t =
     if bytes_eq k (codes "name") then 0
-    else if bytes_eq k (codes "year_of_birth") then need_option 0
-    else if bytes_eq k (codes "profession") then need_option 0
+    else if bytes_eq k (codes "year_of_birth") then need_option (λ u. 0) t
+    else if bytes_eq k (codes "profession") then need_option (λ u. 0) t
     else any_need t
 
 abbrev pub optional_person_fields : FieldShape SeenOptionalPerson

@@ -1,5 +1,5 @@
 -- What a tree shows to a struct with a field that may be absent.
-use Rattle.std.specs.Prelude.{ℕ, ◌^◌, List, Option, Some, None, option_map, option_and_then, if◌then◌else◌, codes}
+use Rattle.std.specs.Prelude.{ℕ, ◌^◌, List, Option, Some, None, option_map, option_and_then, if◌then◌else◌, codes, false}
 use Rattle.std.specs.Option.{option_flatten}
 use Rattle.std.specs.Str.{bytes_eq}
 use Rattle.ipld_tree.specs.Tree.{Tree, any_need}
@@ -28,7 +28,7 @@ abbrev pub need_person : List ℕ → Tree → ℕ
 need_person k t =
     if bytes_eq k (codes "name") then 0
     else if bytes_eq k (codes "year_of_birth") then 0
-    else if bytes_eq k (codes "profession") then need_option 0
+    else if bytes_eq k (codes "profession") then need_option (λ u. 0) t
     else any_need t
 
 abbrev pub person_fields : FieldShape SeenPerson

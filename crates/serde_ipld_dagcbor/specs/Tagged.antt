@@ -1,5 +1,5 @@
 -- What a tree shows to an enum whose variant is named by a field.
-use Rattle.std.specs.Prelude.{ℕ, List, Option, Some, None, option_map, option_and_then, if◌then◌else◌, codes}
+use Rattle.std.specs.Prelude.{ℕ, List, Option, Some, None, option_map, option_and_then, if◌then◌else◌, codes, false}
 use Rattle.std.specs.Str.{bytes_eq}
 use Rattle.ipld_tree.specs.Tree.{Tree, any_need}
 use Rattle.dagcbor_read.specs.Shapes.{view_link, view_text, Shape}

@@ -1,7 +1,7 @@
 use Rattle.std.proofs.Common.{◌≡◌, ℕ, Vec, Global, refl, rules}
 use Rattle.std.specs.Prelude.{None, Some}
 use Rattle.ipld_tree.specs.Ipld.{tree_of}
-use Rattle.dagcbor_items.specs.Shapes.{any_tree}
+use Rattle.dagcbor_read.specs.Shapes.{any_tree}
 use Rattle.ipld_tree.specs.declared.cid.Cid.{Cid}
 use Rattle.ipld_tree.specs.declared.ipld.Ipld.{Ipld, the_lemmas}
 use Rattle.ipld_tree.specs.declared.ipld.Ipld as ipld

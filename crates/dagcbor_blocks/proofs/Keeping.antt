@@ -1,6 +1,6 @@
 -- Keeping blocks, and finding them again.
 use Rattle.std.proofs.Common.{◌≡◌, ℕ, ◌<◌, ◌≤◌, List, [], ◌∷◌, map, Bool, true, false, cond, Ordering, Less, Equal, Greater, refl, sym, ap, ◌∙◌, subst, arith}
-use Rattle.std.specs.Prelude.{Option, None, Some, option_map, Result, Ok, Err, OnOk, OnErr, is_err, Vec}
+use Rattle.std.specs.Prelude.{◌⊎◌, Option, None, Some, option_map, Result, Ok, Err, OnOk, OnErr, is_err, Vec}
 use Rattle.std.specs.declared.alloc.Global.{Global}
 use Rattle.std.specs.declared.convert.Infallible.{Infallible}
 use Rattle.std.specs.Ordering.{match_ordering}
@@ -17,9 +17,9 @@ use Rattle.serde_ipld_dagcbor.specs.Cid.{CidParts, cid_cmp}
 use Rattle.serde_ipld_dagcbor.specs.CidHash.{same_cid, is_equal}
 use Rattle.serde_ipld_dagcbor.specs.Tree.{Tree, any_need, links_of}
 use Rattle.serde_ipld_dagcbor.specs.Spelling.{IsSpelling}
-use Rattle.serde_ipld_dagcbor.specs.Answers.{IsAnswer}
+use Rattle.serde_ipld_dagcbor.specs.Answers.{AreSpellingOf}
 use Rattle.serde_ipld_dagcbor.specs.Shapes.{Shape}
-use Rattle.serde_ipld_dagcbor.specs.Whole.{WholeRefused}
+use Rattle.serde_ipld_dagcbor.specs.Whole.{HoldsNoValue, IsReadExcuse, OfWhole}
 use Rattle.serde_ipld_dagcbor.specs.AllLinks.{AreFirstLinks, LinksRefused}
 use Rattle.serde_ipld_dagcbor.specs.GrammarLaws.{SpellingsAreUnique}
 use Rattle.dagcbor_blocks.specs.Names.{block_name}
@@ -136,11 +136,11 @@ not_kept b held OutOfMemory h = (refl, tt)
 
 -- ---- putting
 
-pub has_tree : (tree : Option Tree) (v : Vec ℕ Global) → IsAnswer tree (Ok v) → HasTree v.items
+pub has_tree : (tree : Option Tree) (v : Vec ℕ Global) → AreSpellingOf tree v.items → HasTree v.items
 has_tree None v h = absurd h
 has_tree (Some t) v h = (t, h)
 
-pub put_done : SpellingsAreUnique → (tree : Option Tree) (v : Vec ℕ Global) (old new : Held) (r : Result CidParts BlockError) → IsAnswer tree (Ok v) → Keeps v.items old r new → Puts tree old r new
+pub put_done : SpellingsAreUnique → (tree : Option Tree) (v : Vec ℕ Global) (old new : Held) (r : Result CidParts BlockError) → AreSpellingOf tree v.items → Keeps v.items old r new → Puts tree old r new
 put_done law None v old new r a h = absurd a
 put_done law (Some t) v old new (Ok name) a h =
     let u = front_unique law v.items [] [] h.0.0 t (whole_front h.0.1.0) (whole_front a) in
@@ -153,9 +153,9 @@ put_done law (Some t) v old new (Err OutOfMemory) a h = (h.0, tt)
 -- ---- getting
 
 module _ {V : Type 0} (shape : Shape Tree V) where
-  pub not_got : (name : CidParts) (held : Held) (b : List ℕ) (e : DecodeError Infallible) (told : BlockError) → IsHeld name b held → WholeRefused ⊥ shape (Some b) e → TellsOfDecoding e told → GetRefused shape name held told
-  not_got name held b (unread.Read e) told at r h = absurd r
+  pub not_got : (name : CidParts) (held : Held) (b : List ℕ) (e : DecodeError Infallible) (told : BlockError) → IsHeld name b held → (IsReadExcuse e ⊎ HoldsNoValue shape b) × OfWhole e → TellsOfDecoding e told → GetRefused shape name held told
+  not_got name held b (unread.Read e) told at r h = elim e [ ]
   not_got name held b unread.OutOfMemory told at r h = subst (GetRefused shape name held) (sym h) tt
-  not_got name held b (unread.RequireBorrowed n) told at r h = absurd r
-  not_got name held b unread.Failed told at r h = absurd r
-  not_got name held b _ told at r h = subst (GetRefused shape name held) (sym h) (tt, (b, at, r))
+  not_got name held b (unread.RequireBorrowed n) told at r h = absurd r.1
+  not_got name held b unread.Failed told at r h = absurd r.1
+  not_got name held b _ told at r h = elim r.0 [ inl k ↦ absurd k | inr k ↦ subst (GetRefused shape name held) (sym h) (tt, (b, at, k)) ]

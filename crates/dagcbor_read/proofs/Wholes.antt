@@ -1,6 +1,6 @@
 -- Reading a whole input as one item.
-use Rattle.std.proofs.Common.{◌≡◌, ℕ, ◌+◌, ◌<◌, ◌≤◌, ◌++◌, Option, Bool, true, false, List, [], length, inl, inr, refl, sym, ap, ◌∙◌, arith, append-nil}
-use Rattle.std.specs.Prelude.{None, Some, IfSome, Result, Ok, Err, is_some, ⊤}
+use Rattle.std.proofs.Common.{◌≡◌, ℕ, ◌+◌, ◌<◌, ◌≤◌, ◌++◌, Option, Bool, true, false, List, [], length, inl, inr, refl, sym, ap, subst, ◌∙◌, arith, append-nil}
+use Rattle.std.specs.Prelude.{◌⊎◌, None, Some, IfSome, IfOk, IfErr, IsErrAnd, Result, Ok, Err, MatchResult, is_some, ⊤}
 use Rattle.std.specs.declared.convert.Infallible.{Infallible}
 use Rattle.dagcbor_heads.specs.Reading.{Reading, Stays}
 use Rattle.dagcbor_heads.specs.Fronts.{ShowsByte}
@@ -21,7 +21,7 @@ use Rattle.dagcbor_items.proofs.Places.{at_steps}
 use Rattle.dagcbor_read.proofs.Progressing.{match_false}
 use Rattle.dagcbor_items.specs.Reads.{HasFront, TakesFront, Anything}
 use Rattle.dagcbor_read.specs.Values.{ReadsValue}
-use Rattle.dagcbor_read.specs.Whole.{IsBlock, SliceRefused, IsWhole, WholeRefused, IsFirst, FirstRefused, ReadsFirst}
+use Rattle.dagcbor_read.specs.Whole.{IsBlock, SliceRefused, IsWhole, HoldsNoValue, IsFirst, TakesFirst, BeginsWithNoValue, IsReadExcuse, OfWhole}
 use Rattle.dagcbor_items.specs.Shapes.{Shape}
 
 pub whole_front : {b : List ℕ} {t : Tree} → IsSpelling b t → IsFront b t []
@@ -91,6 +91,19 @@ item_refused b start new e sound l s h = slice_refused e start.input new.input b
 
 -- ---- as a type
 
+-- what holds of a refusal that `?` hands on
+pub on_refusal : {T E : Type 0} (Q : DecodeError E → Type 0) (r : Result T (DecodeError E)) (e : DecodeError E) → IsErrAnd r (λ y. y ≡ e) → Q e → IfErr r Q
+on_refusal Q (Ok v) e h q = tt
+on_refusal Q (Err y) e h q = subst Q (sym h) q
+
+pub first_fact : {T E : Type 0} (P Q : DecodeError E → Type 0) (r : Result T (DecodeError E)) → IfErr r (λ e. P e × Q e) → IfErr r P
+first_fact P Q (Ok v) h = tt
+first_fact P Q (Err e) h = h.0
+
+pub second_fact : {T E : Type 0} (P Q : DecodeError E → Type 0) (r : Result T (DecodeError E)) → IfErr r (λ e. P e × Q e) → IfErr r Q
+second_fact P Q (Ok v) h = tt
+second_fact P Q (Err e) h = h.1
+
 -- what holds of the bytes, where they are known
 if_known : (left : Option (List ℕ)) (P : List ℕ → Type 0) → ((b : List ℕ) → left ≡ Some b → P b) → IfSome left P
 if_known None P f = tt
@@ -103,7 +116,7 @@ module _ {V : Type 0} (shape : Shape Tree V) where
   whole_of_front : (r : Reading) (b : List ℕ) (v : V) → r.left ≡ Some b → r.steps ≡ 256 → IsWhole shape b v → HasFront shape r
   whole_of_front r b v l s h = first_front r b v [] l s (h.0, whole_front h.1, h.2, h.3)
 
-  no_whole : (b rest : List ℕ) (t : Tree) → IsFront b t rest → 0 < length rest → (v : V) → IsWhole shape b v → ⊥
+  no_whole : (b rest : List ℕ) (t : Tree) → IsFront b t rest → 0 < length rest → (v : V) → ¬ IsWhole shape b v
   no_whole b rest t f some v h = omega (arith, some, ap length (front_unique b rest [] t h.0 f (whole_front h.1)).1)
 
   value_trailing : {old mid new : Reading} (b : List ℕ) (v : V) (byte : ℕ) → old.left ≡ Some b → TakesFront shape old v mid → ShowsByte mid byte new → (w : V) → IsWhole shape b w → ⊥
@@ -124,43 +137,62 @@ module _ {V : Type 0} (shape : Shape Tree V) where
       let found = match_false mid.failed _ _ h.0 k in
       value_whole b v taken.1 taken.0 taken.2 taken.3 (omega (arith, taken.4, s)) (found.1.none_left taken.1 taken.5))
 
+  -- why the first value is not read
+  abbrev NotFirst : {E : Type 0} → Option (List ℕ) → DecodeError E → Type 0
+  NotFirst left e = (IsReadExcuse e ⊎ IfSome left (BeginsWithNoValue shape)) × OfWhole e
+
   first_refused : {E : Type 0} (left : Option (List ℕ)) (old new : Reading) (e : DecodeError E) → old.left ≡ left → old.steps ≡ 256 → shape.borrows ≡ false
-      → Refuses (HasFront shape old) ⊤ (shape.borrows ≡ true) Anything old e new → FirstRefused shape left e
-  first_refused left old new (Read x) at s o r = tt
-  first_refused left old new OutOfMemory at s o r = tt
+      → Refuses (HasFront shape old) ⊤ (shape.borrows ≡ true) Anything old e new → NotFirst left e
+  first_refused left old new (Read x) at s o r = (inl tt, tt)
+  first_refused left old new OutOfMemory at s o r = (inl tt, tt)
   first_refused left old new (RequireBorrowed name) at s o r = let differ = sym o ∙ r.1 in cc
-  first_refused left old new Failed at s o r = r
-  first_refused left old new (DepthOverflow name) at s o r = if_known left _ (λ b l v rest h. r.1 (first_front old b v rest (at ∙ l) s h))
-  first_refused left old new _ at s o r = if_known left _ (λ b l v rest h. r.1 (first_front old b v rest (at ∙ l) s h))
+  first_refused left old new Failed at s o r = absurd r
+  first_refused left old new (DepthOverflow name) at s o r = (inr (if_known left _ (λ b l v rest h. r.1 (first_front old b v rest (at ∙ l) s h))), tt)
+  first_refused left old new _ at s o r = (inr (if_known left _ (λ b l v rest h. r.1 (first_front old b v rest (at ∙ l) s h))), tt)
 
-  -- a value that borrows nothing was read, or refused; after an answer what the reader has left is what the source has
-  pub first_read : {T E : Type 0} (held : T → V) (left after : Option (List ℕ)) (start mid : Progress) (r : Result T (DecodeError E))
-      → start.failed ≡ false → start.input.left ≡ left → start.input.steps ≡ 256 → shape.borrows ≡ false → ReadsValue held shape start r mid
-      → (Stays start.input mid.input → (b : List ℕ) → mid.input.left ≡ Some b → after ≡ Some b) → ReadsFirst held shape left r after
-  first_read held left after start mid (Ok v) sound at s o h f = if_known left _ (λ b l.
-      let front = (h sound).1 in
-      let taken = front.taken b (at ∙ l) in
-      (taken.1, (taken.0, taken.2, taken.3, omega (arith, taken.4, s)), f front.same taken.1 taken.5))
-  first_read held left after start mid (Err e) sound at s o h f = first_refused left start.input mid.input e at s o (h sound)
+  -- A value that borrows nothing was read; after an answer what the reader has left is what the source has.
+  module _ {T E : Type 0} (held : T → V) (left after : Option (List ℕ)) (start mid : Progress) (r : Result T (DecodeError E))
+      (sound : start.failed ≡ false) (at : start.input.left ≡ left) (s : start.input.steps ≡ 256) (o : shape.borrows ≡ false) (h : ReadsValue held shape start r mid)
+    where
+    pub first_read : (Stays start.input mid.input → (b : List ℕ) → mid.input.left ≡ Some b → after ≡ Some b) → IfOk r (λ v. IfSome left (λ b. TakesFirst shape b (held v) after))
+    first_read f = by r (h sound)
+      where
+        by : (r : Result T (DecodeError E)) → MatchResult r (λ v. (mid.failed ≡ false) × TakesFront shape start.input (held v) mid.input) (λ e. Refuses (HasFront shape start.input) ⊤ (shape.borrows ≡ true) Anything start.input e mid.input)
+            → IfOk r (λ v. IfSome left (λ b. TakesFirst shape b (held v) after))
+        by (Ok v) k = if_known left _ (λ b l.
+            let taken = k.1.taken b (at ∙ l) in
+            (taken.1, (taken.0, taken.2, taken.3, omega (arith, taken.4, s)), f k.1.same taken.1 taken.5))
+        by (Err e) k = tt
 
-  -- the source may fault where it has an error
-  module _ {E : Type 0} (faults : Type 0) (may : E → faults) (left : Option (List ℕ)) where
-    value_told : {old mid : Reading} (new : Reading) (v : V) (e : DecodeError E) (failed : Bool) → old.left ≡ left → TakesFront shape old v mid → TellsEnd mid (Err e) new failed → WholeRefused faults shape left e
-    value_told new v TrailingData failed at a h = if_known left _ (λ b l. value_trailing b v h.1 (at ∙ l) a h.2)
-    value_told new v (Read x) failed at a h = may x
+    pub first_not_read : IfErr r (NotFirst left)
+    first_not_read = by r (h sound)
+      where
+        by : (r : Result T (DecodeError E)) → MatchResult r (λ v. (mid.failed ≡ false) × TakesFront shape start.input (held v) mid.input) (λ e. Refuses (HasFront shape start.input) ⊤ (shape.borrows ≡ true) Anything start.input e mid.input)
+            → IfErr r (NotFirst left)
+        by (Ok v) k = tt
+        by (Err e) k = first_refused left start.input mid.input e at s o k
+
+  -- why a whole input is not read
+  abbrev NotWhole : {E : Type 0} → Option (List ℕ) → DecodeError E → Type 0
+  NotWhole left e = (IsReadExcuse e ⊎ IfSome left (HoldsNoValue shape)) × OfWhole e
+
+  module _ {E : Type 0} (left : Option (List ℕ)) where
+    value_told : {old mid : Reading} (new : Reading) (v : V) (e : DecodeError E) (failed : Bool) → old.left ≡ left → TakesFront shape old v mid → TellsEnd mid (Err e) new failed → NotWhole left e
+    value_told new v TrailingData failed at a h = (inr (if_known left _ (λ b l. value_trailing b v h.1 (at ∙ l) a h.2)), tt)
+    value_told new v (Read x) failed at a h = (inl tt, tt)
     value_told new v _ failed at a h = absurd h
 
     -- a value was read, and then no end was found
     pub value_end_refused : (start : Reading) (mid end : Progress) (v : V) (e : DecodeError E) → start.left ≡ left
-        → (mid.failed ≡ false) × TakesFront shape start v mid.input → Ends mid (Err e) end → WholeRefused faults shape left e
+        → (mid.failed ≡ false) × TakesFront shape start v mid.input → Ends mid (Err e) end → NotWhole left e
     value_end_refused start mid end v e at h k = value_told end.input v e end.failed at h.1 (match_false mid.failed _ _ h.0 k)
 
     -- no value was read; a loan was not wanting
     pub value_refused : (borrows : Type 0) (e : DecodeError E) (old new : Reading) → old.left ≡ left → old.steps ≡ 256 → (borrows → old.lends ≡ false → ⊥)
-        → Refuses (HasFront shape old) ⊤ borrows Anything old e new → WholeRefused faults shape left e
-    value_refused borrows (Read x) old new at s n r = may x
-    value_refused borrows OutOfMemory old new at s n r = tt
-    value_refused borrows (RequireBorrowed name) old new at s n r = n r.1 r.2
-    value_refused borrows Failed old new at s n r = r
-    value_refused borrows (DepthOverflow name) old new at s n r = if_known left _ (λ b l v h. r.1 (whole_of_front old b v (at ∙ l) s h))
-    value_refused borrows _ old new at s n r = if_known left _ (λ b l v h. r.1 (whole_of_front old b v (at ∙ l) s h))
+        → Refuses (HasFront shape old) ⊤ borrows Anything old e new → NotWhole left e
+    value_refused borrows (Read x) old new at s n r = (inl tt, tt)
+    value_refused borrows OutOfMemory old new at s n r = (inl tt, tt)
+    value_refused borrows (RequireBorrowed name) old new at s n r = absurd (n r.1 r.2)
+    value_refused borrows Failed old new at s n r = absurd r
+    value_refused borrows (DepthOverflow name) old new at s n r = (inr (if_known left _ (λ b l v h. r.1 (whole_of_front old b v (at ∙ l) s h))), tt)
+    value_refused borrows _ old new at s n r = (inr (if_known left _ (λ b l v h. r.1 (whole_of_front old b v (at ∙ l) s h))), tt)

@@ -1,7 +1,7 @@
 //! Reading one value from a buffered source of std.
 
-ghost use Rattle.std.specs.Prelude.{⊤};
-ghost use Rattle.dagcbor_read.specs.Whole.{ReadsFirst, ReadsWhole};
+ghost use Rattle.std.specs.Prelude.{◌⊎◌, IfOk, IfErr, IfSome};
+ghost use Rattle.dagcbor_read.specs.Whole.{IsWhole, HoldsNoValue, TakesFirst, BeginsWithNoValue, IsReadExcuse, OfWhole};
 
 use crate::deserialize::DeserializeOwned;
 use crate::deserializer::Deserializer;
@@ -16,7 +16,9 @@ pub fn from_reader<'de, T: DeserializeOwned<'de>, R: BufRead + Drop>(
     alloc: Global,
     reader: R,
 ) -> Result<T, DecodeError<io::Error>>
-    ensures { ReadsWhole ⊤ T.held T.shape (R.remaining reader) result }
+    ensures value { IfOk result (λ v. IfSome (R.remaining reader) (λ b. IsWhole T.shape b (T.held v))) }
+    ensures refused { IfErr result (λ e. IsReadExcuse e ⊎ IfSome (R.remaining reader) (HoldsNoValue T.shape)) }
+    ensures never { IfErr result OfWhole }
 {
     let mut de = Deserializer::from_reader(IoReader::new(reader));
     let value = T::deserialize(alloc, &mut de)?;
@@ -30,7 +32,10 @@ pub fn from_reader_once<'de, T: DeserializeOwned<'de>, R: BufRead>(
     alloc: Global,
     reader: &mut R,
 ) -> Result<T, DecodeError<io::Error>>
-    ensures { ReadsFirst T.held T.shape (R.remaining reader.old) result (R.remaining reader.new) }
+    ensures value { IfOk result (λ v. IfSome (R.remaining reader.old)
+        (λ b. TakesFirst T.shape b (T.held v) (R.remaining reader.new))) }
+    ensures refused { IfErr result (λ e. IsReadExcuse e ⊎ IfSome (R.remaining reader.old) (BeginsWithNoValue T.shape)) }
+    ensures never { IfErr result OfWhole }
 {
     let mut de = Deserializer::from_reader(IoRefReader::new(reader));
     let result = T::deserialize(alloc, &mut de);

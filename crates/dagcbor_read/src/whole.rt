@@ -1,7 +1,7 @@
 //! Reading one value.
 
-ghost use Rattle.std.specs.Prelude.{Some};
-ghost use Rattle.dagcbor_read.specs.Whole.{ReadsSlice, ReadsWhole, ChecksSlice};
+ghost use Rattle.std.specs.Prelude.{◌⊎◌, IfOk, IfErr};
+ghost use Rattle.dagcbor_read.specs.Whole.{IsWhole, HoldsNoValue, IsReadExcuse, OfWhole, ReadsSlice, ChecksSlice};
 
 use crate::deserialize::Deserialize;
 use crate::deserializer::Deserializer;
@@ -17,7 +17,9 @@ pub fn from_slice<'a, T: Deserialize<'a>>(
     alloc: Global,
     bytes: &'a [u8],
 ) -> Result<T, DecodeError<Infallible>>
-    ensures { ReadsWhole ⊥ T.held T.shape (Some bytes.now) result }
+    ensures value { IfOk result (λ v. IsWhole T.shape bytes.now (T.held v)) }
+    ensures refused { IfErr result (λ e. IsReadExcuse e ⊎ HoldsNoValue T.shape bytes.now) }
+    ensures never { IfErr result OfWhole }
 {
     let mut de = Deserializer::from_slice(bytes);
     let value = T::deserialize(alloc, &mut de)?;

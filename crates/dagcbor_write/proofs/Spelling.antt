@@ -1,17 +1,18 @@
 -- What a write of a tree's spelling says.
-use Rattle.std.proofs.Common.{◌≡◌, ℕ, ◌^◌, ◌<◌, List, [], refl, sym, ap, subst, ◌∙◌, Option, None, Some, Result, Ok, Err, Vec, Global, cond, lt-ltb}
-use Rattle.std.specs.Prelude.{IfSome, IsSomeAnd, IsErrAnd, OnOk}
+use Rattle.std.proofs.Common.{◌≡◌, ℕ, ◌^◌, ◌<◌, List, [], refl, sym, ap, subst, ◌∙◌, Option, None, Some, Result, Ok, Err, Vec, Global, cond, lt-ltb, ◌⊎◌, inl, inr}
+use Rattle.std.specs.Prelude.{IfSome, IsSomeAnd, IsErrAnd, IfOk, IfErr, OnOk}
 use Rattle.std.specs.Io.KnownBytes.{Appends}
 use Rattle.std.specs.declared.convert.Infallible.{Infallible}
 use Rattle.dagcbor_heads.specs.declared.error.EncodeError.{EncodeError}
 use Rattle.dagcbor_heads.specs.declared.error.EncodeError.TheVariants.{Msg, Write, OutOfMemory}
 use Rattle.dagcbor_heads.specs.Head.{head}
+use Rattle.dagcbor_heads.specs.declared.name.Message.{Message}
 use Rattle.dagcbor_heads.specs.Written.{Written, Writes, Stops, AppendsSome, WroteFront}
 use Rattle.ipld_tree.specs.Tree.{Tree, IsTree}
 use Rattle.ipld_tree.specs.Spelling.{IsSpellable, IsSpelling, spelling}
 use Rattle.ipld_tree.specs.Spelled.{spelled, spelled_tree, spelled_head}
 use Rattle.ipld_tree.proofs.Spelled.{spelled_is}
-use Rattle.dagcbor_write.specs.Answers.{IsAnswer, Sends, SendsFront}
+use Rattle.dagcbor_write.specs.Answers.{HasNoSpelling, AreSpellingOf, GrewBySpelling, GrewByFront, IsWriteExcuse}
 
 -- a tree with a spelling is refused with no message
 no_message : (t : Tree) → IsSpellable t → spelled t ≡ None → ⊥
@@ -26,7 +27,7 @@ head_is_spelled major n h = ap (λ b. cond b (Some (head major n)) None) (lt-ltb
 abbrev in_memory : List ℕ → Written
 in_memory bs = record { bytes = Some bs; faults = 0; through = [] }
 
-pub spelling_answered : (o : Option Tree) (held : List ℕ) (v : Vec ℕ Global) → IfSome o IsTree → v.items ≡ held → Writes {T = Unit {0}} {E = Infallible} (spelled_tree o) (in_memory []) (in_memory held) (Ok tt) → IsSomeAnd o (IsSpelling v.items)
+pub spelling_answered : (o : Option Tree) (held : List ℕ) (v : Vec ℕ Global) → IfSome o IsTree → v.items ≡ held → Writes {T = Unit {0}} {E = Infallible} (spelled_tree o) (in_memory []) (in_memory held) (Ok tt) → AreSpellingOf o v.items
 spelling_answered None held v tree is w = absurd w
 spelling_answered (Some t) held v tree is w = by (spelled t) refl w
   where
@@ -34,20 +35,25 @@ spelling_answered (Some t) held v tree is w = by (spelled t) refl w
     by None e w = absurd w
     by (Some s) e w = let k = (spelled_is t s).0 e in record { well_formed = tree; spellable = k.0; is = is ∙ w.0 ∙ k.1 }
 
-pub refusal_answered : (o : Option Tree) (r : Result (Vec ℕ Global) (EncodeError Infallible)) (e : EncodeError Infallible) (old new : List ℕ) → IsErrAnd r (λ d. d ≡ e) → Stops (spelled_tree o) (in_memory old) (in_memory new) e → IsAnswer o r
+-- why no vector is answered
+abbrev NotAnswered : Option Tree → EncodeError Infallible → Type 0
+NotAnswered o e = (e ≡ OutOfMemory) ⊎ HasNoSpelling o
+
+pub refusal_answered : (o : Option Tree) (r : Result (Vec ℕ Global) (EncodeError Infallible)) (e : EncodeError Infallible) (old new : List ℕ) → IsErrAnd r (λ d. d ≡ e)
+    → Stops (spelled_tree o) (in_memory old) (in_memory new) e → IfErr r (NotAnswered o)
 refusal_answered o (Ok v) e old new h s = absurd h
-refusal_answered o (Err d) e old new h s = subst (λ x. IsAnswer o (Err x)) (sym h) (by o e s)
+refusal_answered o (Err d) e old new h s = subst (NotAnswered o) (sym h) (by o e s)
   where
-    by : (o : Option Tree) (e : EncodeError Infallible) → Stops (spelled_tree o) (in_memory old) (in_memory new) e → IsAnswer o (Err e)
-    by None (Msg m) s = tt
-    by (Some t) (Msg m) s = λ k. no_message t k s.0
+    by : (o : Option Tree) (e : EncodeError Infallible) → Stops (spelled_tree o) (in_memory old) (in_memory new) e → NotAnswered o e
+    by None (Msg m) s = inr tt
+    by (Some t) (Msg m) s = inr (λ k. no_message t k s.0)
     by o (Write x) s = elim x [ ]
-    by o OutOfMemory s = tt
+    by o OutOfMemory s = inl refl
 
 -- ---- what is sent
 
 sent : (o : Option Tree) (before after : Option (List ℕ)) (text : List ℕ) → IfSome o IsTree → spelled_tree o ≡ Some text → Appends before after text
-    → IsSomeAnd o (λ t. (b : List ℕ) × IsSpelling b t × Appends before after b)
+    → GrewBySpelling o before after
 sent None before after text tree e a = let differ : None ≡ Some text = e in cc
 sent (Some t) before after text tree e a = let k = (spelled_is t text).0 e in (text, record { well_formed = tree; spellable = k.0; is = k.1 }, a)
 
@@ -55,22 +61,52 @@ grown : (text : Option (List ℕ)) (old new : Written) → WroteFront text old n
 grown None old new w = w
 grown (Some text) old new w = (w.0, w.3)
 
-front_sent : (o : Option Tree) (old new : Written) → WroteFront (spelled_tree o) old new → SendsFront o old.bytes new.bytes
+front_sent : (o : Option Tree) (old new : Written) → WroteFront (spelled_tree o) old new → GrewByFront o old.bytes new.bytes
 front_sent None old new w = (w, tt)
 front_sent (Some t) old new w = (grown (spelled t) old new w, λ k. subst (λ s. WroteFront s old new) ((spelled_is t (spelling t)).1 (k, refl)) w)
 
-answered : {E : Type 0} (o : Option Tree) (r : Result (Unit {0}) (EncodeError E)) (old new : Written) → OnOk r (IfSome o IsTree) → Writes (spelled_tree o) old new r → Sends o old.bytes r new.bytes
-answered {E = E} o (Ok u) old new tree w = by (spelled_tree o) refl w
-  where
-    by : (s : Option (List ℕ)) → spelled_tree o ≡ s → Writes {T = Unit {0}} {E = E} s old new (Ok tt) → IsSomeAnd o (λ t. (b : List ℕ) × IsSpelling b t × Appends old.bytes new.bytes b)
-    by None e k = absurd k
-    by (Some text) e k = sent o old.bytes new.bytes text tree e k.0
-answered None (Err (Msg m)) old new tree w = (w.1, tt)
-answered (Some t) (Err (Msg m)) old new tree w = (w.1, λ k. no_message t k w.0)
-answered o (Err (Write e)) old new tree w = front_sent o old new w.0
-answered o (Err OutOfMemory) old new tree w = front_sent o old new w.0
+module _ (E : Type 0) (o : Option Tree) where
+  -- a message is answered where there is no spelling; then some bytes went out
+  message_front : (old new : Written) (m : Message) → Stops {E = E} (spelled_tree o) old new (Msg m) → GrewByFront o old.bytes new.bytes
+  message_front old new m w = by o w
+    where
+      by : (o : Option Tree) → Stops {E = E} (spelled_tree o) old new (Msg m) → GrewByFront o old.bytes new.bytes
+      by None w = (w.1, tt)
+      by (Some t) w = (w.1, λ k. absurd (no_message t k w.0))
 
--- a writer over a device that held the bytes before, and holds those after
-pub device_answered : {E : Type 0} (o : Option Tree) (r : Result (Unit {0}) (EncodeError E)) (old new : Written) (before after : Option (List ℕ)) → OnOk r (IfSome o IsTree)
-    → Writes (spelled_tree o) old new r → old.bytes ≡ before → new.bytes ≡ after → Sends o before r after
-device_answered o r old new before after tree w e k = subst (λ b. Sends o before r b) k (subst (λ b. Sends o b r new.bytes) e (answered o r old new tree w))
+  -- why it refused
+  pub device_refused : (r : Result (Unit {0}) (EncodeError E)) (old new : Written) → Writes (spelled_tree o) old new r → IfErr r (λ e. IsWriteExcuse e ⊎ HasNoSpelling o)
+  device_refused r old new w = by r w
+    where
+      by : (r : Result (Unit {0}) (EncodeError E)) → Writes (spelled_tree o) old new r → IfErr r (λ e. IsWriteExcuse e ⊎ HasNoSpelling o)
+      by (Ok u) w = tt
+      by (Err (Msg m)) w = inr (none o w)
+        where
+          none : (o : Option Tree) → Stops {E = E} (spelled_tree o) old new (Msg m) → HasNoSpelling o
+          none None w = tt
+          none (Some t) w = λ k. no_message t k w.0
+      by (Err (Write e)) w = inl tt
+      by (Err OutOfMemory) w = inl tt
+
+  -- A writer over a device that held the bytes before, and holds those after: its answer,
+  module _ (r : Result (Unit {0}) (EncodeError E)) (old new : Written) (before after : Option (List ℕ)) (was : old.bytes ≡ before) (is : new.bytes ≡ after) where
+    pub value_sent : OnOk r (IfSome o IsTree) → Writes (spelled_tree o) old new r → IfOk r (λ _. GrewBySpelling o before after)
+    value_sent tree w = subst (λ b. IfOk r (λ _. GrewBySpelling o before b)) is (subst (λ b. IfOk r (λ _. GrewBySpelling o b new.bytes)) was (by r tree w))
+      where
+        whole : (s : Option (List ℕ)) → IfSome o IsTree → spelled_tree o ≡ s → Writes {T = Unit {0}} {E = E} s old new (Ok tt) → GrewBySpelling o old.bytes new.bytes
+        whole None tree e k = absurd k
+        whole (Some text) tree e k = sent o old.bytes new.bytes text tree e k.0
+
+        by : (r : Result (Unit {0}) (EncodeError E)) → OnOk r (IfSome o IsTree) → Writes (spelled_tree o) old new r → IfOk r (λ _. GrewBySpelling o old.bytes new.bytes)
+        by (Ok u) tree w = whole (spelled_tree o) tree refl w
+        by (Err e) tree w = tt
+
+    -- and what went out before a refusal.
+    pub front_before : Writes (spelled_tree o) old new r → IfErr r (λ _. GrewByFront o before after)
+    front_before w = subst (λ b. IfErr r (λ _. GrewByFront o before b)) is (subst (λ b. IfErr r (λ _. GrewByFront o b new.bytes)) was (by r w))
+      where
+        by : (r : Result (Unit {0}) (EncodeError E)) → Writes (spelled_tree o) old new r → IfErr r (λ _. GrewByFront o old.bytes new.bytes)
+        by (Ok u) w = tt
+        by (Err (Msg m)) w = message_front old new m w
+        by (Err (Write e)) w = front_sent o old new w.0
+        by (Err OutOfMemory) w = front_sent o old new w.0

@@ -1,8 +1,6 @@
 -- What writing a value into memory, and to a device, answers.
-use Rattle.std.specs.Prelude.{◌≡◌, ℕ, List, Option, IfSome, IsSomeAnd, Result, Ok, Err, Vec, ⊤}
+use Rattle.std.specs.Prelude.{◌≡◌, ℕ, List, Option, IfSome, IsSomeAnd, ⊤}
 use Rattle.std.specs.Io.KnownBytes.{Appends}
-use Rattle.std.specs.declared.alloc.Global.{Global}
-use Rattle.std.specs.declared.convert.Infallible.{Infallible}
 use Rattle.dagcbor_heads.specs.declared.error.EncodeError.{EncodeError}
 use Rattle.dagcbor_heads.specs.declared.error.EncodeError.TheVariants.{Msg, Write, OutOfMemory}
 use Rattle.dagcbor_heads.specs.Messages.{message_bytes}
@@ -10,25 +8,27 @@ use Rattle.dagcbor_heads.specs.Written.{AppendsSome, AppendsFront}
 use Rattle.ipld_tree.specs.Tree.{Tree}
 use Rattle.ipld_tree.specs.Spelling.{spelling, IsSpellable, IsSpelling}
 
--- The spelling of the value's tree is answered. A message is answered only where the value has no tree, or its tree no
--- spelling.
-abbrev pub IsAnswer : Option Tree → Result (Vec ℕ Global) (EncodeError Infallible) → Type 0
-IsAnswer tree (Ok v) = IsSomeAnd tree (IsSpelling v.items)
-IsAnswer tree (Err (Msg m)) = IfSome tree (λ t. IsSpellable t → ⊥)
-IsAnswer tree (Err (Write e)) = ⊥
-IsAnswer tree (Err OutOfMemory) = ⊤
+-- the value has no tree, or its tree no spelling
+abbrev pub HasNoSpelling : Option Tree → Type 0
+HasNoSpelling tree = IfSome tree (λ t. ¬ IsSpellable t)
+
+-- the bytes are the spelling of the value's tree
+abbrev pub AreSpellingOf : Option Tree → List ℕ → Type 0
+AreSpellingOf tree b = IsSomeAnd tree (IsSpelling b)
+
+-- known bytes grew by the spelling of the value's tree
+abbrev pub GrewBySpelling : Option Tree → Option (List ℕ) → Option (List ℕ) → Type 0
+GrewBySpelling tree old new = IsSomeAnd tree (λ t. (b : List ℕ) × IsSpelling b t × Appends old new b)
 
 -- known bytes grew by some bytes, and where the value has a spelling by a beginning of it
-abbrev pub SendsFront : Option Tree → Option (List ℕ) → Option (List ℕ) → Type 0
-SendsFront tree old new = AppendsSome old new × IfSome tree (λ t. IsSpellable t → AppendsFront old new (spelling t))
+abbrev pub GrewByFront : Option Tree → Option (List ℕ) → Option (List ℕ) → Type 0
+GrewByFront tree old new = AppendsSome old new × IfSome tree (λ t. IsSpellable t → AppendsFront old new (spelling t))
 
--- Known bytes of a device grew by the spelling of the value's tree. A message is answered only where the value has no
--- tree, or its tree no spelling. After each refusal they only grew; of a value with a spelling, by a beginning of it.
-abbrev pub Sends : {E : Type 0} → Option Tree → Option (List ℕ) → Result (Unit {0}) (EncodeError E) → Option (List ℕ) → Type 0
-Sends tree old (Ok u) new = IsSomeAnd tree (λ t. (b : List ℕ) × IsSpelling b t × Appends old new b)
-Sends tree old (Err (Msg m)) new = AppendsSome old new × IfSome tree (λ t. IsSpellable t → ⊥)
-Sends tree old (Err (Write e)) new = SendsFront tree old new
-Sends tree old (Err OutOfMemory) new = SendsFront tree old new
+-- a fault of the device, or want of memory, which say nothing of the value
+abbrev pub IsWriteExcuse : {E : Type 0} → EncodeError E → Type 0
+IsWriteExcuse (Msg m) = ⊥
+IsWriteExcuse (Write e) = ⊤
+IsWriteExcuse OutOfMemory = ⊤
 
 -- what holds of the text of a message, where one is answered
 abbrev pub OnMessage : {E : Type 0} → (List ℕ → Type 0) → EncodeError E → Type 0

@@ -1,6 +1,8 @@
 //! Writing one value.
 
-ghost use Rattle.dagcbor_write.specs.Answers.{IsAnswer, Sends};
+ghost use Rattle.std.specs.Prelude.{◌≡◌, ◌⊎◌, IfOk, IfErr};
+ghost use Rattle.dagcbor_heads.specs.declared.error.EncodeError.TheVariants.{OutOfMemory};
+ghost use Rattle.dagcbor_write.specs.Answers.{HasNoSpelling, AreSpellingOf, GrewBySpelling, GrewByFront, IsWriteExcuse};
 
 use crate::serialize::Serialize;
 use crate::serializer::Serializer;
@@ -12,7 +14,8 @@ use std::io;
 /// The one spelling of the value's tree. Refused with `Msg` only where it has none, as an integer outside
 /// -2^64 to 2^64 - 1 has none.
 pub fn to_vec<T: Serialize>(alloc: Global, value: &T) -> Result<Vec<u8>, EncodeError<Infallible>>
-    ensures { IsAnswer (T.tree value.now) result }
+    ensures value { IfOk result (λ v. AreSpellingOf (T.tree value.now) v.items) }
+    ensures refused { IfErr result (λ e. (e ≡ OutOfMemory) ⊎ HasNoSpelling (T.tree value.now)) }
 {
     let mut ser = Serializer::new(BufWriter::new(Vec::new(alloc)));
     value.serialize(alloc, &mut ser)?;
@@ -26,7 +29,9 @@ pub fn to_writer<W: io::Write, T: Serialize>(
     writer: &mut W,
     value: &T,
 ) -> Result<(), EncodeError<io::Error>>
-    ensures { Sends (T.tree value.now) (W.contents writer.old) result (W.contents writer.new) }
+    ensures value { IfOk result (λ _. GrewBySpelling (T.tree value.now) (W.contents writer.old) (W.contents writer.new)) }
+    ensures refused { IfErr result (λ e. IsWriteExcuse e ⊎ HasNoSpelling (T.tree value.now)) }
+    ensures sent { IfErr result (λ _. GrewByFront (T.tree value.now) (W.contents writer.old) (W.contents writer.new)) }
 {
     let mut ser = Serializer::new(IoRefWriter::new(writer));
     let result = value.serialize(alloc, &mut ser);

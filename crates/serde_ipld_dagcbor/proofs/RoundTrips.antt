@@ -1,5 +1,5 @@
 -- Reading and writing undo each other.
-use Rattle.std.proofs.Common.{◌≡◌, ℕ, List, refl, sym, ap, subst, ◌∙◌}
+use Rattle.std.proofs.Common.{◌≡◌, ◌⊎◌, inl, inr, ℕ, List, refl, sym, ap, subst, ◌∙◌}
 use Rattle.std.specs.Prelude.{Ok, Err, Option, Some}
 use Rattle.std.specs.declared.convert.Infallible.{Infallible}
 use Rattle.dagcbor_heads.specs.declared.error.DecodeError.{DecodeError}
@@ -7,34 +7,38 @@ use Rattle.dagcbor_heads.specs.declared.error.DecodeError.TheVariants.{Read, Req
 use Rattle.dagcbor_heads.specs.declared.error.EncodeError.TheVariants as unwritten
 use Rattle.ipld_tree.specs.Tree.{Tree, any_need}
 use Rattle.ipld_tree.specs.Ipld.{tree_of}
-use Rattle.dagcbor_write.specs.Answers.{IsAnswer}
-use Rattle.dagcbor_read.specs.Whole.{IsWhole, WholeRefused}
+use Rattle.dagcbor_write.specs.Answers.{AreSpellingOf, HasNoSpelling}
+use Rattle.dagcbor_read.specs.Whole.{IsWhole, HoldsNoValue, IsReadExcuse, OfWhole}
 use Rattle.serde_ipld_dagcbor.specs.Codec.{spellings_are_unique}
-use Rattle.serde_ipld_dagcbor.specs.RoundTrips.{TypedReadThenWritten, ReadThenWritten, IsReadBack, TypedWrittenThenRead, WrittenThenRead}
+use Rattle.serde_ipld_dagcbor.specs.RoundTrips.{TypedReadThenWritten, ReadThenWritten, IsReadBack, TypedWrittenThenRead, WrittenThenRead, IsWrittenBack}
 use Rattle.dagcbor_read.specs.Shapes.{Shape, any_tree}
+use Rattle.dagcbor_heads.specs.declared.error.EncodeError.{EncodeError}
 
 some_same : {A : Type 0} (a b : A) → Some a ≡ Some b → a ≡ b
 some_same a b e = cc e
 
 module _ {T V : Type 0} (held : T → V) (shape : Shape Tree V) (tree : T → Option Tree) where
   pub typed_read_then_written : TypedReadThenWritten held shape tree
-  typed_read_then_written b value (Ok v) own h w = let a = subst (λ o. IsAnswer o (Ok v)) (own h.0 h.2) w in a.is ∙ sym h.1.is
-  typed_read_then_written b value (Err (unwritten.Msg m)) own h w = absurd (subst (λ o. IsAnswer o (Err (unwritten.Msg m))) (own h.0 h.2) w h.1.spellable)
-  typed_read_then_written b value (Err (unwritten.Write e)) own h w = absurd w
-  typed_read_then_written b value (Err unwritten.OutOfMemory) own h w = tt
+  typed_read_then_written b value (Ok v) own h w = let a = subst (λ o. AreSpellingOf o v.items) (own h.0 h.2) w in a.is ∙ sym h.1.is
+  typed_read_then_written b value (Err e) own h w = by e w
+    where
+      by : (e : EncodeError Infallible) → (e ≡ unwritten.OutOfMemory) ⊎ HasNoSpelling (tree value) → IsWrittenBack b (Err e)
+      by unwritten.OutOfMemory w = tt
+      by (unwritten.Msg m) w = elim w [ inl k ↦ absurd (cc k) | inr k ↦ subst HasNoSpelling (own h.0 h.2) k h.1.spellable ]
+      by (unwritten.Write x) w = elim x [ ]
 
-  no_refusal : (x : V) (b : List ℕ) (e : DecodeError Infallible) → IsWhole shape b x → WholeRefused ⊥ shape (Some b) e → IsReadBack held x (Err e)
-  no_refusal x b (Read e) h r = r
+  no_refusal : (x : V) (b : List ℕ) (e : DecodeError Infallible) → IsWhole shape b x → (IsReadExcuse e ⊎ HoldsNoValue shape b) × OfWhole e → IsReadBack held x (Err e)
+  no_refusal x b (Read e) h r = elim e [ ]
   no_refusal x b OutOfMemory h r = tt
-  no_refusal x b (RequireBorrowed name) h r = r
-  no_refusal x b Failed h r = r
-  no_refusal x b _ h r = r x h
+  no_refusal x b (RequireBorrowed name) h r = r.1
+  no_refusal x b Failed h r = r.1
+  no_refusal x b _ h r = elim r.0 [ inl k ↦ k | inr k ↦ k x h ]
 
   pub typed_written_then_read : TypedWrittenThenRead held shape tree
   typed_written_then_read value t x v (Ok copy) is shows within w r =
-      let same = spellings_are_unique v.items r.0 t r.1 (subst (λ o. IsAnswer o (Ok v)) is w) in
+      let same = spellings_are_unique v.items r.0 t r.1 (subst (λ o. AreSpellingOf o v.items) is w) in
       some_same _ _ (sym r.2 ∙ ap shape.view same ∙ shows)
-  typed_written_then_read value t x v (Err e) is shows within w r = no_refusal x v.items e (t, subst (λ o. IsAnswer o (Ok v)) is w, shows, within) r
+  typed_written_then_read value t x v (Err e) is shows within w r = no_refusal x v.items e (t, subst (λ o. AreSpellingOf o v.items) is w, shows, within) r
 
 pub read_then_written : ReadThenWritten
 read_then_written b value written h w = typed_read_then_written tree_of any_tree (λ v. Some (tree_of v)) b value written (λ t e. sym e) h w

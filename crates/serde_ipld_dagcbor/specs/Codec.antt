@@ -1,6 +1,6 @@
 -- What DAG-CBOR is as a codec: bytes are tied to trees by their spelling.
 use Rattle.std.proofs.Common.{sym, ◌∙◌, ap}
-use Rattle.std.specs.Prelude.{◌≡◌, ℕ, ◌≤◌, List, [], Option, Some, IfErr, Result, Err, Vec, ⊤}
+use Rattle.std.specs.Prelude.{◌≡◌, ◌⊎◌, ℕ, ◌≤◌, List, [], Option, Some, IfSome, IfErr, Result, Vec, ⊤}
 use Rattle.std.specs.declared.alloc.Global.{Global}
 use Rattle.dagcbor_heads.specs.declared.error.DecodeError.{DecodeError}
 use Rattle.dagcbor_heads.specs.declared.error.DecodeError.TheVariants as unread
@@ -12,8 +12,8 @@ use Rattle.ipld_tree.specs.Spelling.{IsSpelling}
 use Rattle.ipld_tree.specs.declared.cid_iter.CidIter.{CidIter}
 use Rattle.ipld_tree.proofs.Fronts.{front_unique}
 use Rattle.dagcbor_read.proofs.Wholes.{whole_front}
-use Rattle.dagcbor_write.specs.Answers.{IsAnswer, Sends}
-use Rattle.dagcbor_read.specs.Whole.{WholeRefused}
+use Rattle.dagcbor_write.specs.Answers.{HasNoSpelling, GrewByFront, IsWriteExcuse}
+use Rattle.dagcbor_read.specs.Whole.{HoldsNoValue, IsReadExcuse, OfWhole}
 use Rattle.dagcbor_read.specs.AllLinks.{AreFirstLinks, LinksRefused}
 use Rattle.serde_ipld_dagcbor.specs.declared.error.CodecError.{CodecError}
 use Rattle.serde_ipld_dagcbor.specs.declared.error.CodecError.TheVariants.{Decode, Encode, DecodeIo, EncodeIo}
@@ -24,18 +24,6 @@ abbrev pub IsReadAs : {V : Type 0} → Shape Tree V → Tree → V → Type 0
 IsReadAs shape t v = (shape.view t ≡ Some v) × (shape.need t ≤ 256)
 
 -- ---- excuses
-
--- a fault of the source, or want of memory
-abbrev pub IsReadExcuse : {E : Type 0} → DecodeError E → Type 0
-IsReadExcuse (unread.Read e) = ⊤
-IsReadExcuse unread.OutOfMemory = ⊤
-IsReadExcuse _ = ⊥
-
--- a fault of the device, or want of memory
-abbrev pub IsWriteExcuse : {E : Type 0} → EncodeError E → Type 0
-IsWriteExcuse (unwritten.Msg m) = ⊥
-IsWriteExcuse (unwritten.Write e) = ⊤
-IsWriteExcuse unwritten.OutOfMemory = ⊤
 
 -- the error says nothing of the value or of the bytes
 abbrev pub IsExcuse : CodecError → Type 0
@@ -48,7 +36,7 @@ IsExcuse (EncodeIo e) = IsWriteExcuse e
 
 -- why a source's bytes, where they are known, are not read
 abbrev pub NotDecoded : {V : Type 0} → Shape Tree V → Option (List ℕ) → CodecError → Type 0
-NotDecoded shape left (DecodeIo e) = WholeRefused ⊤ shape left e
+NotDecoded shape left (DecodeIo e) = (IsReadExcuse e ⊎ IfSome left (HoldsNoValue shape)) × OfWhole e
 NotDecoded shape left _ = ⊥
 
 abbrev pub DecodeRefused : {T V : Type 0} → Shape Tree V → Option (List ℕ) → Result T CodecError → Type 0
@@ -56,7 +44,7 @@ DecodeRefused shape left result = IfErr result (NotDecoded shape left)
 
 -- why a value is not sent to a device, and what went out
 abbrev pub NotEncoded : Option Tree → Option (List ℕ) → Option (List ℕ) → CodecError → Type 0
-NotEncoded tree old new (EncodeIo e) = Sends tree old (Err e) new
+NotEncoded tree old new (EncodeIo e) = (IsWriteExcuse e ⊎ HasNoSpelling tree) × GrewByFront tree old new
 NotEncoded tree old new _ = ⊥
 
 abbrev pub EncodeRefused : Option Tree → Option (List ℕ) → Result (Unit {0}) CodecError → Option (List ℕ) → Type 0
@@ -64,7 +52,7 @@ EncodeRefused tree old result new = IfErr result (NotEncoded tree old new)
 
 -- why a value is not written
 abbrev pub NotEncodedAsVec : Option Tree → CodecError → Type 0
-NotEncodedAsVec tree (Encode e) = IsAnswer tree (Err e)
+NotEncodedAsVec tree (Encode e) = (e ≡ unwritten.OutOfMemory) ⊎ HasNoSpelling tree
 NotEncodedAsVec tree _ = ⊥
 
 abbrev pub EncodeToVecRefused : Option Tree → Result (Vec ℕ Global) CodecError → Type 0

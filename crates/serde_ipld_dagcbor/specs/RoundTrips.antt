@@ -1,5 +1,5 @@
 -- Reading and writing undo each other, want of memory aside.
-use Rattle.std.specs.Prelude.{◌≡◌, ℕ, ◌≤◌, List, Option, Some, Result, Ok, Err, Vec, ⊤}
+use Rattle.std.specs.Prelude.{◌≡◌, ◌⊎◌, ℕ, ◌≤◌, List, Option, Some, Result, Ok, Err, MatchResult, Vec, ⊤}
 use Rattle.std.specs.declared.alloc.Global.{Global}
 use Rattle.std.specs.declared.convert.Infallible.{Infallible}
 use Rattle.dagcbor_heads.specs.declared.error.DecodeError.{DecodeError}
@@ -9,9 +9,21 @@ use Rattle.dagcbor_heads.specs.declared.error.EncodeError.TheVariants as unwritt
 use Rattle.ipld_tree.specs.Tree.{Tree, any_need}
 use Rattle.ipld_tree.specs.Ipld.{tree_of}
 use Rattle.ipld_tree.specs.declared.ipld.Ipld.{Ipld}
-use Rattle.dagcbor_write.specs.Answers.{IsAnswer}
-use Rattle.dagcbor_read.specs.Whole.{ReadsWhole}
+use Rattle.dagcbor_write.specs.Answers.{AreSpellingOf, HasNoSpelling}
+use Rattle.dagcbor_read.specs.Whole.{IsWhole, HoldsNoValue, IsReadExcuse, OfWhole}
 use Rattle.dagcbor_read.specs.Shapes.{Shape, any_tree}
+
+-- what `to_vec` says of its answer
+abbrev pub IsWritten : Option Tree → Result (Vec ℕ Global) (EncodeError Infallible) → Type 0
+IsWritten tree written = MatchResult written
+    (λ v. AreSpellingOf tree v.items)
+    (λ e. (e ≡ unwritten.OutOfMemory) ⊎ HasNoSpelling tree)
+
+-- what `from_slice` says of its answer
+abbrev pub IsRead : {T V : Type 0} → (T → V) → Shape Tree V → List ℕ → Result T (DecodeError Infallible) → Type 0
+IsRead held shape b read = MatchResult read
+    (λ v. IsWhole shape b (held v))
+    (λ e. (IsReadExcuse e ⊎ HoldsNoValue shape b) × OfWhole e)
 
 -- the bytes were written, or memory was wanting
 abbrev pub IsWrittenBack : List ℕ → Result (Vec ℕ Global) (EncodeError Infallible) → Type 0
@@ -22,11 +34,12 @@ IsWrittenBack b (Err _) = ⊥
 -- What was read of bytes is written as the same bytes, where its tree is the one that it was read from.
 abbrev pub TypedReadThenWritten : {T V : Type 0} → (T → V) → Shape Tree V → (T → Option Tree) → Type 0
 TypedReadThenWritten {T} held shape tree = (b : List ℕ) (value : T) (written : Result (Vec ℕ Global) (EncodeError Infallible)) → ((t : Tree) → shape.view t ≡ Some (held value) → tree value ≡ Some t)
-    → ReadsWhole {E = Infallible} ⊥ held shape (Some b) (Ok value) → IsAnswer (tree value) written → IsWrittenBack b written
+    → IsWhole shape b (held value) → IsWritten (tree value) written → IsWrittenBack b written
 
 -- What was read of bytes is written as the same bytes.
 abbrev pub ReadThenWritten : Type 0
-ReadThenWritten = (b : List ℕ) (value : Ipld) (written : Result (Vec ℕ Global) (EncodeError Infallible)) → ReadsWhole {E = Infallible} ⊥ tree_of any_tree (Some b) (Ok value) → IsAnswer (Some (tree_of value)) written → IsWrittenBack b written
+ReadThenWritten = (b : List ℕ) (value : Ipld) (written : Result (Vec ℕ Global) (EncodeError Infallible))
+    → IsWhole any_tree b (tree_of value) → IsWritten (Some (tree_of value)) written → IsWrittenBack b written
 
 -- a value that holds this was read, or memory was wanting
 abbrev pub IsReadBack : {T V : Type 0} → (T → V) → V → Result T (DecodeError Infallible) → Type 0
@@ -37,8 +50,9 @@ IsReadBack held x (Err _) = ⊥
 -- What was written of a value is read as what its tree shows to the type, where the need is within the steps.
 abbrev pub TypedWrittenThenRead : {T V : Type 0} → (T → V) → Shape Tree V → (T → Option Tree) → Type 0
 TypedWrittenThenRead {T} {V} held shape tree = (value : T) (t : Tree) (x : V) (v : Vec ℕ Global) (read : Result T (DecodeError Infallible)) → tree value ≡ Some t → shape.view t ≡ Some x → shape.need t ≤ 256
-    → IsAnswer (tree value) (Ok v) → ReadsWhole ⊥ held shape (Some v.items) read → IsReadBack held x read
+    → AreSpellingOf (tree value) v.items → IsRead held shape v.items read → IsReadBack held x read
 
 -- What was written of a value is read as its tree, where the need is within the steps.
 abbrev pub WrittenThenRead : Type 0
-WrittenThenRead = (value : Ipld) (v : Vec ℕ Global) (read : Result Ipld (DecodeError Infallible)) → IsAnswer (Some (tree_of value)) (Ok v) → any_need (tree_of value) ≤ 256 → ReadsWhole ⊥ tree_of any_tree (Some v.items) read → IsReadBack tree_of (tree_of value) read
+WrittenThenRead = (value : Ipld) (v : Vec ℕ Global) (read : Result Ipld (DecodeError Infallible)) 
+    → AreSpellingOf (Some (tree_of value)) v.items → any_need (tree_of value) ≤ 256 → IsRead tree_of any_tree v.items read → IsReadBack tree_of (tree_of value) read

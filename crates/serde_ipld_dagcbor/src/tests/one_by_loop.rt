@@ -1,9 +1,9 @@
 //! A struct of one field, read by a loop over the keys of its map.
 
 ghost use Rattle.std.specs.Prelude.{false};
-ghost use Rattle.dagcbor_read.specs.Calls.{progress};
+ghost use Rattle.dagcbor_read.specs.Calls.{Over};
 ghost use Rattle.dagcbor_read.specs.Values.{ReadsValue};
-ghost use Rattle.serde_ipld_dagcbor.specs.One.{view_one, need_of_one};
+ghost use Rattle.serde_ipld_dagcbor.specs.One.{one_shape};
 
 use crate::tests::one::One;
 use crate::{DecodeError, Deserializer, IgnoredAny, Read};
@@ -15,7 +15,7 @@ fn read_one_by_loop<'de, R: Read>(
     alloc: Global,
     de: &mut Deserializer<'de, R>,
 ) -> Result<One, DecodeError<R::Error>>
-    ensures { ReadsValue (λ o. o.a) view_one need_of_one false (progress R.reading de.old) result (progress R.reading de.new) }
+    ensures { Over R.reading (ReadsValue (λ o. o.a) one_shape) de.old result de.new }
 {
     let mut entries = de.deserialize_map()?;
     let mut a: Option<u8> = None;

@@ -25,7 +25,7 @@ use Rattle.serde_ipld_dagcbor.specs.GrammarLaws.{SpellingsAreUnique}
 use Rattle.dagcbor_blocks.specs.Names.{block_name}
 use Rattle.dagcbor_blocks.specs.Errors.{TellsOfDecoding}
 use Rattle.dagcbor_blocks.specs.Sound.{IsSound}
-use Rattle.dagcbor_blocks.specs.Blocks.{Held, block_at, HoldsAlso, HasTree, HasBlock, CheckRefused, Stores, Keeps, Puts, IsHeld, GetRefused}
+use Rattle.dagcbor_blocks.specs.Blocks.{Held, block_at, HoldsAlso, HasTree, HasBlock, CheckRefused, Stores, KeepsBlock, Puts, IsHeld, GetRefused}
 use Rattle.dagcbor_blocks.proofs.Laws.{front_unique, whole_front, on_ok}
 use Rattle.dagcbor_blocks.specs.declared.error.BlockError.{BlockError}
 use Rattle.dagcbor_blocks.specs.declared.error.BlockError.TheVariants.{Encode, Decode, Collision, OutOfMemory}
@@ -41,19 +41,19 @@ items_of_vec v = v.items
 
 -- ---- look-ups
 
-pub block_at-shown : (name : CidParts) (es : List Entry) → block_at name (shown es) ≡ option_map items_of_vec (lookup (is_at (cid_cmp name)) es)
-block_at-shown name [] = refl
-block_at-shown name (e ∷ es) = by (is_at (cid_cmp name) e.0) _ _ (block_at-shown name es)
+pub block_at_shown : (name : CidParts) (es : List Entry) → block_at name (shown es) ≡ option_map items_of_vec (lookup (is_at (cid_cmp name)) es)
+block_at_shown name [] = refl
+block_at_shown name (e ∷ es) = by (is_at (cid_cmp name) e.0) _ _ (block_at_shown name es)
   where
     by : (b : Bool) (x : Option (List ℕ)) (y : Option (Vec ℕ Global)) → x ≡ option_map items_of_vec y → cond b (Some e.1.items) x ≡ option_map items_of_vec (cond b (Some e.1) y)
     by true x y h = refl
     by false x y h = h
 
 pub block_found : (name : CidParts) (es : List Entry) (v : Vec ℕ Global) → lookup (is_at (cid_cmp name)) es ≡ Some v → block_at name (shown es) ≡ Some v.items
-block_found name es v e = block_at-shown name es ∙ ap (option_map items_of_vec) e
+block_found name es v e = block_at_shown name es ∙ ap (option_map items_of_vec) e
 
 pub no_block_found : (name : CidParts) (es : List Entry) → lookup (is_at (cid_cmp name)) es ≡ None → block_at name (shown es) ≡ None
-no_block_found name es e = block_at-shown name es ∙ ap (option_map items_of_vec) e
+no_block_found name es e = block_at_shown name es ∙ ap (option_map items_of_vec) e
 
 same_name : (name k : CidParts) → is_at (cid_cmp name) k ≡ true → name ≡ k
 same_name name k h = same_cid name k (is_equal (cid_cmp name k) h)
@@ -89,7 +89,7 @@ still_sound (Err y) es fs k v put same named has h = ∥∥₁_map h (λ s. subs
 pub now_held : {X Y : Type 0} (r : Result X Y) (m n : BTreeMap CidParts (Vec ℕ Global)) (name : CidParts) (v : Vec ℕ Global) → false ≡ is_err r → OnOk r (Updates cid_cmp m n name (Some v)) → HoldsAlso (shown m.entries) name v.items (shown n.entries)
 now_held r m n name v ok put q =
     let u = (on_ok r _ ok put).0 q in
-    block_at-shown q n.entries ∙ ap (option_map items_of_vec) u ∙ by (is_at (cid_cmp name) q) ∙ ap (λ o. cond (is_at (cid_cmp name) q) (Some v.items) o) (sym (block_at-shown q m.entries))
+    block_at_shown q n.entries ∙ ap (option_map items_of_vec) u ∙ by (is_at (cid_cmp name) q) ∙ ap (λ o. cond (is_at (cid_cmp name) q) (Some v.items) o) (sym (block_at_shown q m.entries))
   where
     by : (b : Bool) → option_map items_of_vec (cond b (Some v) (get cid_cmp m q)) ≡ cond b (Some v.items) (option_map items_of_vec (get cid_cmp m q))
     by true = refl
@@ -121,14 +121,14 @@ not_checked b (unread.RequireBorrowed n) told r h = absurd r
 not_checked b unread.Failed told r h = absurd r
 not_checked b _ told r h = subst (CheckRefused b) (sym h) (tt, λ t s. need_of b t s r.0)
 
-pub kept : (b : List ℕ) (old new : Held) (r : Result CidParts BlockError) → HasBlock b → Stores b old r new → Keeps b old r new
+pub kept : (b : List ℕ) (old new : Held) (r : Result CidParts BlockError) → HasBlock b → Stores b old r new → KeepsBlock b old r new
 kept b old new (Ok name) has h = (has, h.0, h.1)
 kept b old new (Err (Encode e)) has h = absurd h.1
 kept b old new (Err (Decode e)) has h = absurd h.1
 kept b old new (Err Collision) has h = h
 kept b old new (Err OutOfMemory) has h = h
 
-pub not_kept : (b : List ℕ) (held : Held) (e : BlockError) → CheckRefused b e → Keeps b held (Err e) held
+pub not_kept : (b : List ℕ) (held : Held) (e : BlockError) → CheckRefused b e → KeepsBlock b held (Err e) held
 not_kept b held (Encode e) h = absurd h
 not_kept b held (Decode e) h = (refl, h)
 not_kept b held Collision h = absurd h
@@ -140,7 +140,7 @@ pub has_tree : (tree : Option Tree) (v : Vec ℕ Global) → AreSpellingOf tree 
 has_tree None v h = absurd h
 has_tree (Some t) v h = (t, h)
 
-pub put_done : SpellingsAreUnique → (tree : Option Tree) (v : Vec ℕ Global) (old new : Held) (r : Result CidParts BlockError) → AreSpellingOf tree v.items → Keeps v.items old r new → Puts tree old r new
+pub put_done : SpellingsAreUnique → (tree : Option Tree) (v : Vec ℕ Global) (old new : Held) (r : Result CidParts BlockError) → AreSpellingOf tree v.items → KeepsBlock v.items old r new → Puts tree old r new
 put_done law None v old new r a h = absurd a
 put_done law (Some t) v old new (Ok name) a h =
     let u = front_unique law v.items [] [] h.0.0 t (whole_front h.0.1.0) (whole_front a) in

@@ -93,8 +93,8 @@ KeepRefused b old Collision = (c : List ℕ) × (block_at (block_name b) old ≡
 KeepRefused b old OutOfMemory = ⊤
 
 -- A spelling is kept under its name, and is a block then. A refusal changes nothing.
-abbrev pub Keeps : List ℕ → Held → Result CidParts BlockError → Held → Type 0
-Keeps b old result new = MatchResult result
+abbrev pub KeepsBlock : List ℕ → Held → Result CidParts BlockError → Held → Type 0
+KeepsBlock b old result new = MatchResult result
     (λ name. HasBlock b × (name ≡ block_name b) × HoldsAlso old name b new)
     (λ e. (new ≡ old) × KeepRefused b old e)
 

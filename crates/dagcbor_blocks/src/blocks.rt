@@ -1,7 +1,7 @@
 //! Keeping blocks, reading them, and finding links that lead nowhere.
 
 ghost use Rattle.std.specs.Prelude.{◌≡◌, []};
-ghost use Rattle.dagcbor_blocks.specs.Blocks.{held_blocks, HasTree, HasBlock, Checks, Stores, Keeps, Puts, Gets, AddsOne, AddsMissing, ListsSet, ListsMissing};
+ghost use Rattle.dagcbor_blocks.specs.Blocks.{held_blocks, HasTree, HasBlock, Checks, Stores, KeepsBlock, Puts, Gets, AddsOne, AddsMissing, ListsSet, ListsMissing};
 
 use crate::error::BlockError;
 use crate::name::name_of_bytes;
@@ -54,7 +54,7 @@ impl Blocks {
 
     fn keep(&mut self, bytes: Vec<u8>) -> Result<Cid, BlockError>
         requires { HasTree bytes.items }
-        ensures { Keeps bytes.items (held_blocks self.old) result (held_blocks self.new) }
+        ensures { KeepsBlock bytes.items (held_blocks self.old) result (held_blocks self.new) }
     {
         match check(self.alloc, &bytes) {
             Ok(()) => self.store(bytes),
@@ -81,7 +81,7 @@ impl Blocks {
 
     /// The block under the name, read as a value. None where no block is held under it.
     pub fn get<'a, T: Deserialize<'a>>(&'a self, name: &Cid) -> Result<Option<T>, BlockError>
-        ensures { Gets T.held T.shape name.now (held_blocks self.now) result }
+        ensures { Gets T.meaning T.shape name.now (held_blocks self.now) result }
     {
         match self.held.get(name) {
             None => Ok(None),

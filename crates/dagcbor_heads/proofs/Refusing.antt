@@ -4,7 +4,7 @@ use Rattle.std.specs.Prelude.{Some, Result, Ok, Err, MatchResult, IsErrAnd}
 use Rattle.dagcbor_heads.specs.Reading.{Reading, Stays}
 use Rattle.dagcbor_heads.specs.Causes.{ByteCause, HeadCause, IsCauseless, IsEndNamed, IsNamed}
 use Rattle.dagcbor_heads.specs.Refusals.{Refuses}
-use Rattle.dagcbor_heads.specs.Inputs.{unlent}
+use Rattle.dagcbor_heads.specs.Inputs.{not_lending}
 use Rattle.dagcbor_heads.specs.declared.error.DecodeError.{DecodeError}
 use Rattle.dagcbor_heads.specs.declared.error.DecodeError.TheVariants.{Read, RequireBorrowed, OutOfMemory, Failed, Eof, Unsupported, DepthOverflow, IndefiniteSize, NonMinimal}
 
@@ -43,7 +43,7 @@ refused P Q (Err y) e h q = subst Q (sym h) q
 
 -- what a reader refuses, the input over it refuses
 pub unlent_refused : {E could could' lacks lacks' : Type 0} (stands : DecodeError E → List ℕ → Type 0) (old new : Reading) (e : DecodeError E) → (could' → could) → (lacks → lacks')
-    → Refuses could lacks ⊥ stands old e new → Refuses could' lacks' ⊥ stands (unlent old) e (unlent new)
+    → Refuses could lacks ⊥ stands old e new → Refuses could' lacks' ⊥ stands (not_lending old) e (not_lending new)
 unlent_refused stands old new (Read e) c k r = r
 unlent_refused stands old new OutOfMemory c k r = (r.0, k r.1)
 unlent_refused stands old new (RequireBorrowed n) c k r = absurd r.1

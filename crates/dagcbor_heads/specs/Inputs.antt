@@ -5,12 +5,12 @@ use Rattle.dagcbor_heads.specs.declared.input.Input.{Input}
 use Rattle.dagcbor_heads.specs.declared.input.Input.TheVariants.{Slice, Reader}
 
 -- a reader behind an input does not lend
-abbrev pub unlent : Reading → Reading
-unlent r = record r { lends = false }
+abbrev pub not_lending : Reading → Reading
+not_lending r = record r { lends = false }
 
 abbrev pub input_reading : {R : Type 0} → (R → Reading) → Input R → Reading
 input_reading reading (Slice reader) = reader
-input_reading reading (Reader reader) = unlent (reading reader)
+input_reading reading (Reader reader) = not_lending (reading reader)
 
 -- What a call does to an input over a reader
 abbrev pub OverInput : {R A : Type 0} → (R → Reading) → (Reading → A → Reading → Type 0) → Input R → A → Input R → Type 0

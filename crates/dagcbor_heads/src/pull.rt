@@ -212,7 +212,7 @@ pub fn pull_head<R: Read>(
 /// Appends as many of the bytes as are wanted, and answers how many.
 fn append_front(payload: &mut Vec<u8>, bytes: &[u8], want: u64) -> Result<usize, AllocError>
     ensures count { IfOk result (λ n. n ≡ min want (length bytes.now)) }
-    ensures appended { IfOk result (λ n. payload.new.items ≡ payload.old.items ++ take n bytes.now) }
+    ensures grows { IfOk result (λ n. payload.new.items ≡ payload.old.items ++ take n bytes.now) }
 {
     let count = bytes.len().min(want as usize);
     payload.extend_from_slice(&bytes[..count])?;
@@ -309,7 +309,7 @@ pub fn pull_payload<'de, R: Read>(
 fn copy_front<const CAP: usize>(payload: &mut ArrayVec<u8, CAP>, bytes: &[u8], want: u64) -> usize
     requires { length payload.old.items + want ≤ CAP }
     ensures count { result ≡ min want (length bytes.now) }
-    ensures appended { payload.new.items ≡ payload.old.items ++ take result bytes.now }
+    ensures grows { payload.new.items ≡ payload.old.items ++ take result bytes.now }
 {
     let count = bytes.len().min(want as usize);
     payload.try_extend_from_slice(&bytes[..count]).unwrap();

@@ -8,9 +8,9 @@ use Rattle.dagcbor_heads.specs.declared.error.DecodeError.TheVariants.{Mismatch,
 use Rattle.dagcbor_heads.proofs.Heads.{head_first}
 use Rattle.ipld_tree.specs.Spelling.{items_spelling, entries_spelling, text_spelling}
 use Rattle.dagcbor_items.specs.Places.{NextItem, NextKey, NextPart, IsInside}
-use Rattle.dagcbor_items.specs.LinkCauses.{LinkStands}
-use Rattle.dagcbor_items.specs.ItemCauses.{KeyStands, StandsAtKey, StandsAt, Stands}
-use Rattle.dagcbor_items.specs.LeafCauses.{NumberStands}
+use Rattle.dagcbor_items.specs.LinkCauses.{LinkCause}
+use Rattle.dagcbor_items.specs.ItemCauses.{KeyCause, CauseAtKey, CauseAt, CauseInside}
+use Rattle.dagcbor_items.specs.LeafCauses.{NumberCause}
 
 -- ---- no shallow block is too deep
 
@@ -54,23 +54,23 @@ inside (suc depth) b c h =
     let f = both 1 depth b h.0 c (before_part b h.0 h.1) (inside depth h.0 c h.2) in
     record { front = f.front; is = f.is; long = omega (arith, f.long) }
 
-no_link : (E : Type 0) (n : Name) (c : List ℕ) → LinkStands {E = E} (DepthOverflow n) c → ⊥
+no_link : (E : Type 0) (n : Name) (c : List ℕ) → LinkCause {E = E} (DepthOverflow n) c → ⊥
 no_link E n c h = elim h [ inl x ↦ x | inr w ↦ elim w [ inl x ↦ x.2 | inr x ↦ elim x.2 [ inl v ↦ v.0 | inr v ↦ v ] ] ]
 
-no_key : (E : Type 0) (n : Name) (before : Option (List ℕ)) (c : List ℕ) → KeyStands {E = E} before (DepthOverflow n) c → ⊥
+no_key : (E : Type 0) (n : Name) (before : Option (List ℕ)) (c : List ℕ) → KeyCause {E = E} before (DepthOverflow n) c → ⊥
 no_key E n before c h = elim h [
   | inl t ↦ elim t [ inl s ↦ elim s [ inl k ↦ elim k [ inl x ↦ x.0 | inr x ↦ x ] | inr x ↦ x ] | inr x ↦ x ]
   | inr u ↦ absurd (cc u.0)
 ]
 
 -- of 256 steps none is left only behind 128 heads of lists and maps
-pub too_deep_is_long : (E : Type 0) (n : Name) (b : List ℕ) → Stands {E = E} 256 (DepthOverflow n) b → 128 ≤ length b
+pub too_deep_is_long : (E : Type 0) (n : Name) (b : List ℕ) → CauseInside {E = E} 256 (DepthOverflow n) b → 128 ≤ length b
 too_deep_is_long E n b h =
     let deep : h.0 ≡ 128 = at h.1 h.2 h.3 h.5 in
     let f = inside h.0 b h.2 h.4 in
     omega (arith, f.long, deep, ap length f.is, length-append f.front h.2)
   where
-    at : (left : ℕ) (c : List ℕ) → 256 ≡ 2 * h.0 + left → StandsAt {E = E} left (DepthOverflow n) c → h.0 ≡ 128
+    at : (left : ℕ) (c : List ℕ) → 256 ≡ 2 * h.0 + left → CauseAt {E = E} left (DepthOverflow n) c → h.0 ≡ 128
     at left c e s = elim s [
       | inl x ↦ elim x [ inl none ↦ omega (arith, e, none) | inr one ↦ omega (arith, e, one.0) ]
       | inr y ↦ elim y [
@@ -102,11 +102,11 @@ at_key b before c h none =
     let f = head_first 5 h.count h.fits in
     first_is 5 (32 * 5 + f.0) (f.1 ++ h.behind) b (h.opens ∙ ap (λ s. s ++ h.behind) f.3) none (omega (arith, f.2))
 
-no_map : (E : Type 0) (b : List ℕ) → StandsAtKey {E = E} UnorderedKey b → HasNone 5 b → ⊥
+no_map : (E : Type 0) (b : List ℕ) → CauseAtKey {E = E} UnorderedKey b → HasNone 5 b → ⊥
 no_map E b h none = at_key b h.0 h.1 h.2 none
 
 -- no key is out of order where no map begins
-pub no_key_in_a_list : (E : Type 0) (steps : ℕ) (b : List ℕ) → HasNone 5 b → Stands {E = E} steps UnorderedKey b → ⊥
+pub no_key_in_a_list : (E : Type 0) (steps : ℕ) (b : List ℕ) → HasNone 5 b → CauseInside {E = E} steps UnorderedKey b → ⊥
 no_key_in_a_list E steps b none h = elim h.5 [
   | inl x ↦ x
   | inr y ↦ elim y [
@@ -118,15 +118,15 @@ no_key_in_a_list E steps b none h = elim h.5 [
     no_head : (c : List ℕ) → HeadCause {E = E} UnorderedKey c → ⊥
     no_head c x = x
 
-    no_link_key : (c : List ℕ) → LinkStands {E = E} UnorderedKey c → ⊥
+    no_link_key : (c : List ℕ) → LinkCause {E = E} UnorderedKey c → ⊥
     no_link_key c h = elim h [ inl x ↦ x | inr w ↦ elim w [ inl x ↦ x.2 | inr x ↦ elim x.2 [ inl v ↦ v.0 | inr v ↦ v ] ] ]
 
 -- a list of two texts and a break
-list_of_texts : (E : Type 0) → Stands {E = E} 256 UnorderedKey (0x84 ∷ 0x61 ∷ 0x62 ∷ 0x01 ∷ 0x61 ∷ 0x61 ∷ 0xff ∷ []) → ⊥
+list_of_texts : (E : Type 0) → CauseInside {E = E} 256 UnorderedKey (0x84 ∷ 0x61 ∷ 0x62 ∷ 0x01 ∷ 0x61 ∷ 0x61 ∷ 0xff ∷ []) → ⊥
 list_of_texts E h = no_key_in_a_list E 256 _ ((λ e. absurd (omega (arith, e))), ((λ e. absurd (omega (arith, e))), ((λ e. absurd (omega (arith, e))), ((λ e. absurd (omega (arith, e))), ((λ e. absurd (omega (arith, e))), ((λ e. absurd (omega (arith, e))), ((λ e. absurd (omega (arith, e))), tt))))))) h
 
 -- a number that is too long is no bad key
-pub no_bad_key : (E : Type 0) (steps found : ℕ) (n : Name) (b : List ℕ) → HasNone 5 b → HasNone 6 b → Stands {E = E} steps (Mismatch n found) b → ⊥
+pub no_bad_key : (E : Type 0) (steps found : ℕ) (n : Name) (b : List ℕ) → HasNone 5 b → HasNone 6 b → CauseInside {E = E} steps (Mismatch n found) b → ⊥
 no_bad_key E steps found n b maps tags h = elim h.5 [
   | inl x ↦ x
   | inr y ↦ elim y [
@@ -138,12 +138,12 @@ no_bad_key E steps found n b maps tags h = elim h.5 [
     no_head : (c : List ℕ) → HeadCause {E = E} (Mismatch n found) c → ⊥
     no_head c x = x
 
-long_number : (E : Type 0) (n : Name) → Stands {E = E} 256 (Mismatch n 0x18) (0x18 ∷ 0x05 ∷ []) → ⊥
+long_number : (E : Type 0) (n : Name) → CauseInside {E = E} 256 (Mismatch n 0x18) (0x18 ∷ 0x05 ∷ []) → ⊥
 long_number E n h = no_bad_key E 256 0x18 n _ ((λ e. absurd (omega (arith, e))), ((λ e. absurd (omega (arith, e))), tt)) ((λ e. absurd (omega (arith, e))), ((λ e. absurd (omega (arith, e))), tt)) h
 
 -- ---- a break is of another major type
 
-pub break_is_no_number : (E V : Type 0) (name : List ℕ) (accepted : ℤ → Option V) → NumberStands {V = V} {E = E} name accepted IndefiniteSize (0xff ∷ []) → ⊥
+pub break_is_no_number : (E V : Type 0) (name : List ℕ) (accepted : ℤ → Option V) → NumberCause {V = V} {E = E} name accepted IndefiniteSize (0xff ∷ []) → ⊥
 break_is_no_number E V name accepted h = elim h [
   | inl k ↦ elim k [ inl x ↦ (let most = (x.2 0xff [] refl).1 in absurd (omega (arith, most))) | inr x ↦ x ]
   | inr x ↦ x

@@ -14,7 +14,7 @@ use Rattle.ipld_tree.specs.Tree.{Tree}
 use Rattle.ipld_tree.specs.Spelling.{IsFront, spelling}
 use Rattle.ipld_tree.proofs.Unique.{major, argument, payload, argument_fits}
 use Rattle.ipld_tree.proofs.Fronts.{front_head, front_first, front_nonempty, major_le}
-use Rattle.dagcbor_items.specs.ItemCauses.{Stands}
+use Rattle.dagcbor_items.specs.ItemCauses.{CauseInside}
 use Rattle.dagcbor_items.proofs.Places.{cause_here}
 use Rattle.dagcbor_items.specs.Untyped.{HasItem, TakesItem, StartsWithMajor}
 
@@ -60,12 +60,12 @@ item_has_head h = record {
 pub item_has_byte : {spent : ℕ} {r : Reading} → HasItem spent r → HasByte r
 item_has_byte h = let f = front_first h.bytes h.rest h.tree h.front in record { byte = 32 * major h.tree + f.0; rest = f.1; left = h.left ∙ ap Some f.3 }
 
-pub head_refused : {E : Type 0} (lacks : Type 0) (spent : ℕ) (old new : Reading) (e : DecodeError E) → Refuses (HasHead old) ⊥ ⊥ HeadCause old e new → Refuses (HasItem (suc spent) old) lacks ⊥ (Stands (old.steps + suc spent)) old e new
-head_refused lacks spent old new e r = passed_on HeadCause (Stands (old.steps + suc spent)) old old new e (stays old) item_has_head (λ x. absurd x) (λ x. x) (λ b l. (b, l, λ h. cause_here _ e b (omega arith) (inl h))) r
+pub head_refused : {E : Type 0} (lacks : Type 0) (spent : ℕ) (old new : Reading) (e : DecodeError E) → Refuses (HasHead old) ⊥ ⊥ HeadCause old e new → Refuses (HasItem (suc spent) old) lacks ⊥ (CauseInside (old.steps + suc spent)) old e new
+head_refused lacks spent old new e r = passed_on HeadCause (CauseInside (old.steps + suc spent)) old old new e (stays old) item_has_head (λ x. absurd x) (λ x. x) (λ b l. (b, l, λ h. cause_here _ e b (omega arith) (inl h))) r
 
-pub byte_refused : {E : Type 0} (lacks : Type 0) (spent : ℕ) (old new : Reading) (e : DecodeError E) → Refuses (HasByte old) ⊥ ⊥ ByteCause old e new → Refuses (HasItem (suc spent) old) lacks ⊥ (Stands (old.steps + suc spent)) old e new
+pub byte_refused : {E : Type 0} (lacks : Type 0) (spent : ℕ) (old new : Reading) (e : DecodeError E) → Refuses (HasByte old) ⊥ ⊥ ByteCause old e new → Refuses (HasItem (suc spent) old) lacks ⊥ (CauseInside (old.steps + suc spent)) old e new
 byte_refused lacks spent old new e r =
-    passed_on ByteCause (Stands (old.steps + suc spent)) old old new e (stays old) item_has_byte (λ x. absurd x) (λ x. x) (λ b l. (b, l, λ h. cause_here _ e b (omega arith) (inl (byte_in_head e b h)))) r
+    passed_on ByteCause (CauseInside (old.steps + suc spent)) old old new e (stays old) item_has_byte (λ x. absurd x) (λ x. x) (λ b l. (b, l, λ h. cause_here _ e b (omega arith) (inl (byte_in_head e b h)))) r
 
 -- ---- a head of a known major type
 

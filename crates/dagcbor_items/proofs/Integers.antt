@@ -23,10 +23,10 @@ use Rattle.ipld_tree.proofs.Unique.{major}
 use Rattle.ipld_tree.proofs.Fronts.{front_unique}
 use Rattle.dagcbor_items.specs.Reads.{HasFront, TakesFront, Reads}
 use Rattle.dagcbor_items.specs.Shapes.{within, number_of, view_number, leaf}
-use Rattle.dagcbor_items.specs.LeafCauses.{BeginsNoLong, KindStands, IsOutside, LongStands}
-use Rattle.dagcbor_items.specs.Kinds.{HasKind, TakesKind}
+use Rattle.dagcbor_items.specs.LeafCauses.{BeginsNoLong, MajorCause, IsOutside, LongCause}
+use Rattle.dagcbor_items.specs.Majors.{HasMajor, TakesMajor}
 use Rattle.dagcbor_items.proofs.SimpleValues.{front_byte}
-use Rattle.dagcbor_items.proofs.HeadKinds.{kind_of_front, no_byte_begins}
+use Rattle.dagcbor_items.proofs.HeadMajors.{has_major, no_byte_begins}
 
 -- only a number shows one
 is_number : {V : Type 0} (accepted : ℤ → Option V) (t : Tree) → is_some (view_number accepted t) ≡ true → (n : ℤ) × (t ≡ integer n)
@@ -43,14 +43,14 @@ number_major : (n : ℤ) → major (integer n) ≤ 1
 number_major (pos n) = omega arith
 number_major (negsuc n) = omega arith
 
-number_kind : {V : Type 0} (accepted : ℤ → Option V) {r : Reading} → HasFront (leaf (view_number accepted)) r → HasKind 0 1 r
+number_kind : {V : Type 0} (accepted : ℤ → Option V) {r : Reading} → HasFront (leaf (view_number accepted)) r → HasMajor 0 1 r
 number_kind accepted h =
     let n = is_number accepted h.tree h.accepted in
-    kind_of_front 0 1 h zero-le (subst (λ t. major t ≤ 1) (sym n.1) (number_major n.0))
+    has_major 0 1 h zero-le (subst (λ t. major t ≤ 1) (sym n.1) (number_major n.0))
 
-pub number_refused : {E : Type 0} (name : List ℕ) (old new : Reading) (e : DecodeError E) → Refuses (HasKind 0 1 old) ⊥ ⊥ (KindStands name 0 1) old e new
-    → Refuses (HasFront (leaf (view_number Some)) old) ⊥ ⊥ (KindStands name 0 1) old e new
-number_refused name old new e r = passed_on (KindStands name 0 1) (KindStands name 0 1) old old new e (stays old) (number_kind Some) (λ x. x) (λ x. x) (λ b l. (b, l, λ h. h)) r
+pub number_refused : {E : Type 0} (name : List ℕ) (old new : Reading) (e : DecodeError E) → Refuses (HasMajor 0 1 old) ⊥ ⊥ (MajorCause name 0 1) old e new
+    → Refuses (HasFront (leaf (view_number Some)) old) ⊥ ⊥ (MajorCause name 0 1) old e new
+number_refused name old new e r = passed_on (MajorCause name 0 1) (MajorCause name 0 1) old old new e (stays old) (number_kind Some) (λ x. x) (λ x. x) (λ b l. (b, l, λ h. h)) r
 
 -- the number of a head
 number_front : (kind n : ℕ) (b rest : List ℕ) → kind ≤ 1 → n < 2 ^ 64 → b ≡ head kind n ++ rest → IsFront b (integer (number_of kind n)) rest
@@ -58,7 +58,7 @@ number_front zero n b rest few fits e = record { well_formed = tt; spellable = f
 number_front (suc zero) n b rest few fits e = record { well_formed = tt; spellable = fits; is = e }
 number_front (suc (suc k)) n b rest few fits e = absurd (omega (arith, few))
 
-pub number_taken : {old new : Reading} {kind n : ℕ} → TakesKind 0 1 old kind n new → TakesFront (leaf (view_number Some)) old (number_of kind n) new
+pub number_taken : {old new : Reading} {kind n : ℕ} → TakesMajor 0 1 old kind n new → TakesFront (leaf (view_number Some)) old (number_of kind n) new
 number_taken {old} {new} {kind} {n} h = record {
   taken = λ b l. let k = h.takes.taken b l in (integer (number_of kind n), k.0, number_front kind n b k.0 h.highest h.argument_fits k.1, refl, zero-le, k.2);
   same = h.takes.same;
@@ -117,12 +117,12 @@ no_byte_no_tag (Eof n expect) b h = λ found more is which. let e : [] ≡ found
 no_byte_no_tag _ b h = absurd h
 
 pub long_byte_refused : {E : Type 0} (name : List ℕ) (old new : Reading) (e : DecodeError E) → IsEndNamed name e → Refuses (HasByte old) ⊥ ⊥ ByteCause old e new
-    → Refuses (HasFront (leaf (view_number Some)) old) ⊥ ⊥ (LongStands name) old e new
-long_byte_refused name old new e named r = passed_on ByteCause (LongStands name) old old new e (stays old) front_byte (λ x. x) (λ x. x) (λ b l. (b, l, λ h. inl (inl (byte_in_head e b h, end_named name e named, no_byte_begins 0 1 e b h), no_byte_no_tag e b h))) r
+    → Refuses (HasFront (leaf (view_number Some)) old) ⊥ ⊥ (LongCause name) old e new
+long_byte_refused name old new e named r = passed_on ByteCause (LongCause name) old old new e (stays old) front_byte (λ x. x) (λ x. x) (λ b l. (b, l, λ h. inl (inl (byte_in_head e b h, end_named name e named, no_byte_begins 0 1 e b h), no_byte_no_tag e b h))) r
 
 -- a tag is no number
 pub no_tag : (E : Type 0) (name : List ℕ) {old mid : Reading} {first : ℕ} (kept : Name) → Names kept name → ShowsByte old first mid → (first ≡ 0xc2) ⊎ (first ≡ 0xc3)
-    → Refuses {E = E} (HasFront (leaf (view_number Some)) old) ⊥ ⊥ (LongStands name) old (Unsupported kept first) mid
+    → Refuses {E = E} (HasFront (leaf (view_number Some)) old) ⊥ ⊥ (LongCause name) old (Unsupported kept first) mid
 no_tag E name {old} {mid} {first} kept named h which = (
   h.same.faults,
   λ i. let k = number_kind Some i in
@@ -137,13 +137,13 @@ no_tag E name {old} {mid} {first} kept named h which = (
 some_still : {old mid : Reading} {first : ℕ} → ShowsByte old first mid → HasFront (leaf (view_number Some)) old → HasFront (leaf (view_number Some)) mid
 some_still h i = record { bytes = i.bytes; tree = i.tree; rest = i.rest; left = h.kept i.bytes i.left; front = i.front; accepted = i.accepted; within = zero-le }
 
-pub long_read : {E : Type 0} (name : List ℕ) {old mid : Reading} {first : ℕ} (new : Reading) (r : Result ℤ (DecodeError E)) → ShowsByte old first mid → ((first ≡ 0xc2) ⊎ (first ≡ 0xc3) → ⊥) → Reads (λ n. n) (leaf (view_number Some)) ⊥ ⊥ (KindStands name 0 1) mid r new
-    → Reads (λ n. n) (leaf (view_number Some)) ⊥ ⊥ (LongStands name) old r new
+pub long_read : {E : Type 0} (name : List ℕ) {old mid : Reading} {first : ℕ} (new : Reading) (r : Result ℤ (DecodeError E)) → ShowsByte old first mid → ((first ≡ 0xc2) ⊎ (first ≡ 0xc3) → ⊥) → Reads (λ n. n) (leaf (view_number Some)) ⊥ ⊥ (MajorCause name 0 1) mid r new
+    → Reads (λ n. n) (leaf (view_number Some)) ⊥ ⊥ (LongCause name) old r new
 long_read name {old} {mid} new (Ok n) h other a = record {
   taken = λ b l. (let k = a.taken b (h.kept b l) in (k.0, k.1, k.2, k.3, zero-le, k.5));
   same = stays_both h.same a.same;
 }
-long_read name {old} {mid} {first} new (Err e) h other r = passed_on (KindStands name 0 1) (LongStands name) old mid new e h.same (some_still h) (λ x. x) (λ x. x)
+long_read name {old} {mid} {first} new (Err e) h other r = passed_on (MajorCause name 0 1) (LongCause name) old mid new e h.same (some_still h) (λ x. x) (λ x. x)
     (λ b l. (
       b,
       h.kept b l,

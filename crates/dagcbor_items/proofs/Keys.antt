@@ -13,11 +13,11 @@ use Rattle.ipld_tree.specs.Spelling.{IsFront}
 use Rattle.ipld_tree.proofs.Fronts.{front_unique}
 use Rattle.dagcbor_items.specs.Untyped.{TakesItem}
 use Rattle.dagcbor_items.specs.Places.{Follows}
-use Rattle.dagcbor_items.specs.ItemCauses.{KeyStands}
+use Rattle.dagcbor_items.specs.ItemCauses.{KeyCause}
 use Rattle.dagcbor_items.specs.Entries.{HasKey}
 use Rattle.dagcbor_items.specs.Reads.{HasFront}
 use Rattle.dagcbor_items.specs.Shapes.{view_text, leaf}
-use Rattle.dagcbor_items.specs.LeafCauses.{TextStands}
+use Rattle.dagcbor_items.specs.LeafCauses.{TextCause}
 
 is_false : (b : Bool) → (IsTrue b → ⊥) → b ≡ false
 is_false true no_more = absurd (no_more refl)
@@ -27,11 +27,11 @@ key_as_text : {previous : Option (List ℕ)} {r : Reading} → HasKey previous r
 key_as_text h = record { bytes = h.bytes; tree = text h.key; rest = h.rest; left = h.left; front = h.front; accepted = refl; within = zero-le }
 
 -- no whole text stood there
-pub key_text_refused : {E : Type 0} (previous : Option (List ℕ)) (old new : Reading) (e : DecodeError E) → Refuses (HasFront (leaf view_text) old) (old.lends ≡ false) ⊥ (TextStands (codes "map key")) old e new
-    → Refuses (HasKey previous old) (old.lends ≡ false) ⊥ (KeyStands previous) old e new
-key_text_refused previous old new e r = passed_on (TextStands (codes "map key")) (KeyStands previous) old old new e (stays old) key_as_text (λ x. x) (λ x. x) (λ b l. (b, l, λ h. inl h)) r
+pub key_text_refused : {E : Type 0} (previous : Option (List ℕ)) (old new : Reading) (e : DecodeError E) → Refuses (HasFront (leaf view_text) old) (old.lends ≡ false) ⊥ (TextCause (codes "map key")) old e new
+    → Refuses (HasKey previous old) (old.lends ≡ false) ⊥ (KeyCause previous) old e new
+key_text_refused previous old new e r = passed_on (TextCause (codes "map key")) (KeyCause previous) old old new e (stays old) key_as_text (λ x. x) (λ x. x) (λ b l. (b, l, λ h. inl h)) r
 
-pub unordered : (E : Type 0) (previous : Option (List ℕ)) {old new : Reading} (key : List ℕ) → TakesItem 1 old (text key) new → (Follows previous key → ⊥) → Refuses {E = E} (HasKey previous old) (old.lends ≡ false) ⊥ (KeyStands previous) old UnorderedKey new
+pub unordered : (E : Type 0) (previous : Option (List ℕ)) {old new : Reading} (key : List ℕ) → TakesItem 1 old (text key) new → (Follows previous key → ⊥) → Refuses {E = E} (HasKey previous old) (old.lends ≡ false) ⊥ (KeyCause previous) old UnorderedKey new
 unordered E previous {old} {new} key h not_after = (
   h.same.faults,
   λ k. let q = h.taken k.bytes k.left in

@@ -9,7 +9,7 @@ use Rattle.ipld_tree.specs.Tree.{Tree}
 use Rattle.ipld_tree.specs.Spelling.{spelling}
 use Rattle.ipld_tree.proofs.Unique.{major}
 use Rattle.ipld_tree.proofs.Fronts.{front_first, is_simple}
-use Rattle.dagcbor_items.specs.ItemCauses.{Stands}
+use Rattle.dagcbor_items.specs.ItemCauses.{CauseInside}
 use Rattle.dagcbor_items.proofs.Places.{cause_here}
 use Rattle.dagcbor_items.specs.Untyped.{HasItem}
 use Rattle.dagcbor_items.proofs.Fronts.{major_of_front}
@@ -35,7 +35,7 @@ unsupported {old} {spent} {first} starts major_7 other i =
     let same : first ≡ k.0 = cc in
     other (omega (arith, same, k.2)) (omega (arith, same, k.3))
 
-pub unsupported_refused : (E lacks : Type 0) (spent : ℕ) (old : Reading) (name : Name) (first : ℕ) → StartsWith old first → first / 32 ≡ 7 → ((0xf4 ≤ first) → (first ≤ 0xf6) → ⊥) → Refuses {E = E} (HasItem (suc spent) old) lacks ⊥ (Stands (old.steps + suc spent)) old (Unsupported name first) old
+pub unsupported_refused : (E lacks : Type 0) (spent : ℕ) (old : Reading) (name : Name) (first : ℕ) → StartsWith old first → first / 32 ≡ 7 → ((0xf4 ≤ first) → (first ≤ 0xf6) → ⊥) → Refuses {E = E} (HasItem (suc spent) old) lacks ⊥ (CauseInside (old.steps + suc spent)) old (Unsupported name first) old
 unsupported_refused E lacks spent old name first starts major_7 other = (
   refl,
   unsupported starts major_7 other,
@@ -43,7 +43,7 @@ unsupported_refused E lacks spent old name first starts major_7 other = (
 )
 
 -- an indefinite length, or a break
-pub indefinite_refused : (E lacks : Type 0) (spent : ℕ) {old new : Reading} {first : ℕ} → ShowsByte old first new → first % 32 ≡ 31 → Refuses {E = E} (HasItem (suc spent) old) lacks ⊥ (Stands (old.steps + suc spent)) old IndefiniteSize new
+pub indefinite_refused : (E lacks : Type 0) (spent : ℕ) {old new : Reading} {first : ℕ} → ShowsByte old first new → first % 32 ≡ 31 → Refuses {E = E} (HasItem (suc spent) old) lacks ⊥ (CauseInside (old.steps + suc spent)) old IndefiniteSize new
 indefinite_refused E lacks spent {old} {new} {first} h e = (
   h.same.faults,
   λ i. let f = front_first i.bytes i.rest i.tree i.front in

@@ -9,7 +9,7 @@ pub mod Pushes
 pub mod Keys
 pub mod Maps
 pub mod Links
-pub mod HeadKinds
+pub mod HeadMajors
 pub mod Integers
 pub mod SimpleValues
 pub mod StringReads

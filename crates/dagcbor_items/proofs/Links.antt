@@ -20,8 +20,8 @@ use Rattle.ipld_tree.proofs.Cids.{cid_length}
 use Rattle.ipld_tree.proofs.Unique.{split_at_length}
 use Rattle.ipld_tree.proofs.Fronts.{is_link}
 use Rattle.dagcbor_items.specs.FirstBytes.{BeginsAs}
-use Rattle.dagcbor_items.specs.LinkCauses.{IsOtherByte, CidStands, LinkStands}
-use Rattle.dagcbor_items.specs.ItemCauses.{Stands}
+use Rattle.dagcbor_items.specs.LinkCauses.{IsOtherByte, LinkBytesCause, LinkCause}
+use Rattle.dagcbor_items.specs.ItemCauses.{CauseInside}
 use Rattle.dagcbor_items.specs.Untyped.{HasItem, TakesItem, StartsWithMajor}
 use Rattle.dagcbor_items.specs.Links.{HasWanted, HasCid, TakesCid, ReadsCid, HasLink, ReadsLink, IsZeroAndCid}
 use Rattle.dagcbor_items.proofs.Places.{cause_here}
@@ -57,15 +57,15 @@ cid_first h =
 cid_byte : {r : Reading} → HasCid r → HasByte r
 cid_byte h = let f = cid_first h in record { byte = 32 * 2 + f.0; rest = f.1; left = h.left ∙ ap Some f.3 }
 
-pub cid_byte_refused : {E : Type 0} (old new : Reading) (e : DecodeError E) → Refuses (HasByte old) ⊥ ⊥ ByteCause old e new → Refuses (HasCid old) ⊥ ⊥ CidStands old e new
-cid_byte_refused old new e r = passed_on ByteCause CidStands old old new e (stays old) cid_byte (λ x. x) (λ x. x) (λ b l. (b, l, λ h. inl (byte_in_head e b h, none e b h))) r
+pub cid_byte_refused : {E : Type 0} (old new : Reading) (e : DecodeError E) → Refuses (HasByte old) ⊥ ⊥ ByteCause old e new → Refuses (HasCid old) ⊥ ⊥ LinkBytesCause old e new
+cid_byte_refused old new e r = passed_on ByteCause LinkBytesCause old old new e (stays old) cid_byte (λ x. x) (λ x. x) (λ b l. (b, l, λ h. inl (byte_in_head e b h, none e b h))) r
   where
     none : {E : Type 0} (e : DecodeError E) (b : List ℕ) → ByteCause e b → BeginsAs 2 b
     none (Eof n expect) b h = λ first more is. absurd (cc (is, h.1))
     none _ b h = absurd h
 
-pub cid_head_refused : {E : Type 0} (old new : Reading) (e : DecodeError E) → StartsWithMajor old 2 → Refuses (HasHead old) ⊥ ⊥ HeadCause old e new → Refuses (HasCid old) ⊥ ⊥ CidStands old e new
-cid_head_refused old new e starts r = passed_on HeadCause CidStands old old new e (stays old) cid_head (λ x. x) (λ x. x) (λ b l. (b, l, λ h. inl (h, begins b l))) r
+pub cid_head_refused : {E : Type 0} (old new : Reading) (e : DecodeError E) → StartsWithMajor old 2 → Refuses (HasHead old) ⊥ ⊥ HeadCause old e new → Refuses (HasCid old) ⊥ ⊥ LinkBytesCause old e new
+cid_head_refused old new e starts r = passed_on HeadCause LinkBytesCause old old new e (stays old) cid_head (λ x. x) (λ x. x) (λ b l. (b, l, λ h. inl (h, begins b l))) r
   where
     begins : (b : List ℕ) → old.left ≡ Some b → BeginsAs 2 b
     begins b l = λ first more is.
@@ -73,7 +73,7 @@ cid_head_refused old new e starts r = passed_on HeadCause CidStands old old new 
         let same : first ≡ s.0 = cc (is, s.2) in
         omega (arith, same, s.3)
 
-pub no_byte_string : (E : Type 0) {old new : Reading} {first : ℕ} (name : Name) → ShowsByte old first new → (first / 32 ≡ 2 → ⊥) → Refuses {E = E} (HasCid old) ⊥ ⊥ CidStands old (Unsupported name first) new
+pub no_byte_string : (E : Type 0) {old new : Reading} {first : ℕ} (name : Name) → ShowsByte old first new → (first / 32 ≡ 2 → ⊥) → Refuses {E = E} (HasCid old) ⊥ ⊥ LinkBytesCause old (Unsupported name first) new
 no_byte_string E {old} {new} {first} name h other = (
   h.same.faults,
   λ k. let f = cid_first k in
@@ -102,24 +102,24 @@ behind_head {old} {mid} {n} h i =
 abbrev pub IsInvalidCid : {E : Type 0} → DecodeError E → Type 0
 IsInvalidCid e = (message : Name) × (e ≡ Msg message) × Names message (codes "Invalid CID")
 
-pub too_long : {E : Type 0} {old mid : Reading} {n : ℕ} (e : DecodeError E) → IsInvalidCid e → TakesHeadOf old 2 n mid → 87 < n → Refuses (HasCid old) ⊥ ⊥ CidStands old e mid
-too_long {E} {old} {mid} {n} e is h more = subst (λ x. Refuses {E = E} (HasCid old) ⊥ ⊥ CidStands old x mid) (sym is.1) (
+pub too_long : {E : Type 0} {old mid : Reading} {n : ℕ} (e : DecodeError E) → IsInvalidCid e → TakesHeadOf old 2 n mid → 87 < n → Refuses (HasCid old) ⊥ ⊥ LinkBytesCause old e mid
+too_long {E} {old} {mid} {n} e is h more = subst (λ x. Refuses {E = E} (HasCid old) ⊥ ⊥ LinkBytesCause old x mid) (sym is.1) (
   h.same.faults,
   λ i. let k = behind_head h i in omega (arith, cid_length k.cid k.is_cid, k.long, more),
   λ b l. let k = h.taken b l in inr (is.2, (n, k.0, h.fits, k.1, inl more)),
 )
 
-cut_stands : {E : Type 0} (e : DecodeError E) (b c : List ℕ) (n : ℕ) → n < 2 ^ 64 → b ≡ head 2 n ++ c → PayloadCause n e c → CidStands e b
+cut_stands : {E : Type 0} (e : DecodeError E) (b c : List ℕ) (n : ℕ) → n < 2 ^ 64 → b ≡ head 2 n ++ c → PayloadCause n e c → LinkBytesCause e b
 cut_stands (Eof name expect) b c n fits e h = inr (n, c, fits, e, h.1, h.0)
 cut_stands _ b c n fits e h = absurd h
 
-pub cid_payload_refused : {E : Type 0} {old mid : Reading} {n : ℕ} (new : Reading) (e : DecodeError E) → TakesHeadOf old 2 n mid → Refuses (HasPayload n mid) ⊥ ⊥ (PayloadCause n) mid e new → Refuses (HasCid old) ⊥ ⊥ CidStands old e new
-cid_payload_refused {E} {old} {mid} {n} new e h r = passed_on (PayloadCause n) CidStands old mid new e h.same
+pub cid_payload_refused : {E : Type 0} {old mid : Reading} {n : ℕ} (new : Reading) (e : DecodeError E) → TakesHeadOf old 2 n mid → Refuses (HasPayload n mid) ⊥ ⊥ (PayloadCause n) mid e new → Refuses (HasCid old) ⊥ ⊥ LinkBytesCause old e new
+cid_payload_refused {E} {old} {mid} {n} new e h r = passed_on (PayloadCause n) LinkBytesCause old mid new e h.same
     (λ i. let k = behind_head h i in record { payload = 0x00 ∷ k.cid; rest = k.rest; long = k.long; left = k.left }) (λ x. x) (λ x. x)
     (λ b l. let k = h.taken b l in (k.0, k.2, cut_stands e b k.0 n h.fits k.1)) r
 
-pub no_cid : {E : Type 0} {old mid new : Reading} {n : ℕ} (e : DecodeError E) (s : List ℕ) → IsInvalidCid e → TakesHeadOf old 2 n mid → length s ≡ n → Takes mid s new → IsZeroAndCid s None → Refuses (HasCid old) ⊥ ⊥ CidStands old e new
-no_cid {E} {old} {mid} {new} {n} e s is h long p other = subst (λ x. Refuses {E = E} (HasCid old) ⊥ ⊥ CidStands old x new) (sym is.1) (
+pub no_cid : {E : Type 0} {old mid new : Reading} {n : ℕ} (e : DecodeError E) (s : List ℕ) → IsInvalidCid e → TakesHeadOf old 2 n mid → length s ≡ n → Takes mid s new → IsZeroAndCid s None → Refuses (HasCid old) ⊥ ⊥ LinkBytesCause old e new
+no_cid {E} {old} {mid} {new} {n} e s is h long p other = subst (λ x. Refuses {E = E} (HasCid old) ⊥ ⊥ LinkBytesCause old x new) (sym is.1) (
   p.same.faults ∙ h.same.faults,
   λ i. let k = behind_head h i in
       let q = p.taken _ k.left in
@@ -156,8 +156,8 @@ behind_first h i =
     let same : 0x2a ∷ (bytes_spelling (0x00 ∷ i.cid) ++ i.rest) ≡ k.0 = cc is in
     k.2 ∙ ap Some (sym same)
 
-link_cid_refused : {E : Type 0} {old mid tagged : Reading} (new : Reading) (e : DecodeError E) → Takes old (0xd8 ∷ []) mid → Takes mid (0x2a ∷ []) tagged → Refuses (HasCid tagged) ⊥ ⊥ CidStands tagged e new → Refuses (HasLink old) ⊥ ⊥ LinkStands old e new
-link_cid_refused {E} {old} {mid} {tagged} new e h p r = passed_on CidStands LinkStands old tagged new e (stays_both h.same p.same)
+link_cid_refused : {E : Type 0} {old mid tagged : Reading} (new : Reading) (e : DecodeError E) → Takes old (0xd8 ∷ []) mid → Takes mid (0x2a ∷ []) tagged → Refuses (HasCid tagged) ⊥ ⊥ LinkBytesCause tagged e new → Refuses (HasLink old) ⊥ ⊥ LinkCause old e new
+link_cid_refused {E} {old} {mid} {tagged} new e h p r = passed_on LinkBytesCause LinkCause old tagged new e (stays_both h.same p.same)
     (λ i. let q = p.taken _ (behind_first h i) in
     let is : 0x2a ∷ (bytes_spelling (0x00 ∷ i.cid) ++ i.rest) ≡ 0x2a ∷ q.0 = q.1 in
     let same : bytes_spelling (0x00 ∷ i.cid) ++ i.rest ≡ q.0 = cc is in
@@ -185,6 +185,6 @@ item_link {old} {spent} starts i =
     let l = is_link i.tree (major_of_front i.bytes i.rest i.tree 6 (starts i.bytes i.left) i.front) in
     record { bytes = i.bytes; cid = l.0; rest = i.rest; left = i.left; front = subst (λ t. IsFront i.bytes t i.rest) l.1 i.front }
 
-pub link_refused : {E : Type 0} (old new : Reading) (e : DecodeError E) → StartsWithMajor old 6 → Refuses (HasLink old) ⊥ ⊥ LinkStands old e new → Refuses (HasItem 1 old) ⊥ ⊥ (Stands (old.steps + 1)) old e new
-link_refused old new e starts r = passed_on LinkStands (Stands (old.steps + 1)) old old new e (stays old) (item_link starts) (λ x. x) (λ x. x)
+pub link_refused : {E : Type 0} (old new : Reading) (e : DecodeError E) → StartsWithMajor old 6 → Refuses (HasLink old) ⊥ ⊥ LinkCause old e new → Refuses (HasItem 1 old) ⊥ ⊥ (CauseInside (old.steps + 1)) old e new
+link_refused old new e starts r = passed_on LinkCause (CauseInside (old.steps + 1)) old old new e (stays old) (item_link starts) (λ x. x) (λ x. x)
     (λ b l. (b, l, λ h. cause_here _ e b (omega arith) (inr (inr (starts b l, h))))) r

@@ -13,9 +13,9 @@ use Rattle.ipld_tree.specs.Tree.{Tree, list, Items, no_items, item, items_of, an
 use Rattle.ipld_tree.specs.Spelling.{item_count, IsFront, AreFronts}
 use Rattle.ipld_tree.specs.Ipld.{tree_of, trees_of}
 use Rattle.ipld_tree.specs.declared.ipld.Ipld.{Ipld, List as List'}
-use Rattle.ipld_tree.proofs.Trees.{items_need-push, tree_of-List}
+use Rattle.ipld_tree.proofs.Trees.{items_need_push, tree_of_List}
 use Rattle.ipld_tree.proofs.Fronts.{list_opened, list_closed, item_opened, item_closed, items_after, is_list}
-use Rattle.dagcbor_items.specs.ItemCauses.{Stands, StandsInItems}
+use Rattle.dagcbor_items.specs.ItemCauses.{CauseInside, CauseInItems}
 use Rattle.dagcbor_items.specs.Untyped.{HasItem, TakesItem, StartsWithMajor}
 use Rattle.dagcbor_items.specs.Items.{HasItems, TakesItems}
 use Rattle.dagcbor_items.proofs.Places.{in_list, at_steps}
@@ -30,7 +30,7 @@ is_list_at starts i = is_list i.tree (major_of_front i.bytes i.rest i.tree 4 (st
 two_steps : (t : Tree) (ts : Items) → t ≡ list ts → 2 ≤ any_need t
 two_steps t ts e = omega (arith, ap any_need e)
 
-pub no_list_step : (E lacks : Type 0) (old new : Reading) (name : Name) → StartsWithMajor old 4 → old.steps ≡ 0 → new ≡ old → Refuses {E = E} (HasItem 1 old) lacks ⊥ (Stands (old.steps + 1)) old (DepthOverflow name) new
+pub no_list_step : (E lacks : Type 0) (old new : Reading) (name : Name) → StartsWithMajor old 4 → old.steps ≡ 0 → new ≡ old → Refuses {E = E} (HasItem 1 old) lacks ⊥ (CauseInside (old.steps + 1)) old (DepthOverflow name) new
 no_list_step E lacks old new name starts none same = too_deep E lacks 1 old new name none same (λ i. let l = is_list_at starts i in two_steps i.tree l.0 l.1) (λ b l. inr (refl, inl (starts b l)))
 
 -- where a list stands, its items stand behind its head
@@ -41,17 +41,17 @@ list_items {stepped} {mid} {n} starts h i =
     let o = list_opened i.bytes k.0 i.rest n l.0 h.fits (subst (λ t. IsFront i.bytes t i.rest) l.1 i.front) k.1 in
     record { bytes = k.0; items = l.0; rest = i.rest; left = k.2; counted = o.0; fronts = o.1; within = omega (arith, i.within, ap any_need l.1, h.same.steps) }
 
-pub list_refused : {E lacks lacks' : Type 0} {stepped mid : Reading} (new : Reading) (n : ℕ) (e : DecodeError E) → StartsWithMajor stepped 4 → TakesHeadOf stepped 4 n mid → (lacks → lacks') → Refuses (HasItems n mid) lacks ⊥ (StandsInItems n mid.steps) mid e new → Refuses (HasItem 2 stepped) lacks' ⊥ (Stands (stepped.steps + 2)) stepped e new
-list_refused {E} {lacks} {lacks'} {stepped} {mid} new n e starts h w r = passed_on (StandsInItems n mid.steps) (Stands (stepped.steps + 2)) stepped mid new e h.same (list_items starts h) w (λ x. x)
+pub list_refused : {E lacks lacks' : Type 0} {stepped mid : Reading} (new : Reading) (n : ℕ) (e : DecodeError E) → StartsWithMajor stepped 4 → TakesHeadOf stepped 4 n mid → (lacks → lacks') → Refuses (HasItems n mid) lacks ⊥ (CauseInItems n mid.steps) mid e new → Refuses (HasItem 2 stepped) lacks' ⊥ (CauseInside (stepped.steps + 2)) stepped e new
+list_refused {E} {lacks} {lacks'} {stepped} {mid} new n e starts h w r = passed_on (CauseInItems n mid.steps) (CauseInside (stepped.steps + 2)) stepped mid new e h.same (list_items starts h) w (λ x. x)
     (λ b l. let k = h.taken b l in (k.0, k.2, λ s. at_steps {E = E} e b _ _ (omega (arith, h.same.steps)) (in_list n mid.steps e b k.0 h.fits k.1 s))) r
 
-item_count-items_of : (ts : List Tree) → item_count (items_of ts) ≡ length ts
-item_count-items_of [] = refl
-item_count-items_of (t ∷ ts) = ap suc (item_count-items_of ts)
+item_count_items_of : (ts : List Tree) → item_count (items_of ts) ≡ length ts
+item_count_items_of [] = refl
+item_count_items_of (t ∷ ts) = ap suc (item_count_items_of ts)
 
 pub list_taken : {stepped mid now : Reading} {n : ℕ} (ts : List Tree) → TakesHeadOf stepped 4 n mid → length ts ≡ n → TakesItems mid ts now → TakesItem 2 stepped (list (items_of ts)) now
 list_taken {stepped} {mid} {now} {n} ts h counted a =
-    let count : item_count (items_of ts) ≡ n = item_count-items_of ts ∙ counted in
+    let count : item_count (items_of ts) ≡ n = item_count_items_of ts ∙ counted in
     record {
       taken = λ b l.
           let k = h.taken b l in
@@ -65,7 +65,7 @@ list_taken {stepped} {mid} {now} {n} ts h counted a =
     }
 
 pub list_as_tree : {stepped mid now : Reading} {n : ℕ} (v : Vec Ipld Global) → TakesHeadOf stepped 4 n mid → (length v.items ≡ n) × TakesItems mid (trees_of v.items) now → TakesItem 2 stepped (tree_of (List' v)) now
-list_as_tree {stepped} {mid} {now} {n} v h r = as_tree (list (items_of (trees_of v.items))) _ (tree_of-List v) (list_taken (trees_of v.items) h (length_map v.items ∙ r.0) r.1)
+list_as_tree {stepped} {mid} {now} {n} v h r = as_tree (list (items_of (trees_of v.items))) _ (tree_of_List v) (list_taken (trees_of v.items) h (length_map v.items ∙ r.0) r.1)
   where
     length_map : (xs : List Ipld) → length (trees_of xs) ≡ length xs
     length_map [] = refl
@@ -113,7 +113,7 @@ one_read {old} {now} {new} {count} {left} {left'} {t} ts us is e s a = subst (λ
     taken = λ b l.
         let k = s.takes.taken b l in
         let q = a.taken k.0 k.3 in
-        (q.0, fronts_push ts t b k.0 q.0 k.1 q.1, omega (arith, items_need-push ts t, k.2, q.2, s.takes.same.steps), q.3);
+        (q.0, fronts_push ts t b k.0 q.0 k.1 q.1, omega (arith, items_need_push ts t, k.2, q.2, s.takes.same.steps), q.3);
     same = stays_both s.takes.same a.same;
   };
 }
@@ -130,10 +130,10 @@ next_item {old} {now} {count} {left} ts more s i =
     first (item u us) c {rest} f l some within =
         record { bytes = c; tree = u; rest = _; left = l; front = (item_opened c rest u us f).0; within = omega (arith, within) }
 
-pub next_refused : {E lacks lacks' : Type 0} {old now : Reading} {count left : ℕ} (new : Reading) (ts : List Tree) (e : DecodeError E) → 0 < left → ReadSome count left old ts now → (lacks → lacks') → Refuses (HasItem 0 now) lacks ⊥ (Stands (now.steps + 0)) now e new → Refuses (HasItems count old) lacks' ⊥ (StandsInItems count old.steps) old e new
-next_refused {E} {lacks} {lacks'} {old} {now} {count} {left} new ts e more s w r = passed_on (Stands (now.steps + 0)) (StandsInItems count old.steps) old now new e s.takes.same (next_item ts more s) w (λ x. x)
+pub next_refused : {E lacks lacks' : Type 0} {old now : Reading} {count left : ℕ} (new : Reading) (ts : List Tree) (e : DecodeError E) → 0 < left → ReadSome count left old ts now → (lacks → lacks') → Refuses (HasItem 0 now) lacks ⊥ (CauseInside (now.steps + 0)) now e new → Refuses (HasItems count old) lacks' ⊥ (CauseInItems count old.steps) old e new
+next_refused {E} {lacks} {lacks'} {old} {now} {count} {left} new ts e more s w r = passed_on (CauseInside (now.steps + 0)) (CauseInItems count old.steps) old now new e s.takes.same (next_item ts more s) w (λ x. x)
     (λ b l. let k = s.takes.taken b l in
-    (k.0, k.3, λ here. (items_of ts, k.0, k.1, omega (arith, item_count-items_of ts, s.counted, more), at_steps {E = E} e k.0 _ _ (omega (arith, s.takes.same.steps)) here))) r
+    (k.0, k.3, λ here. (items_of ts, k.0, k.1, omega (arith, item_count_items_of ts, s.counted, more), at_steps {E = E} e k.0 _ _ (omega (arith, s.takes.same.steps)) here))) r
 
 pub all_read : {old now : Reading} {count left : ℕ} (ts : List Tree) → left ≡ 0 → ReadSome count left old ts now → (length ts ≡ count) × TakesItems old ts now
 all_read ts none s = (omega (arith, s.counted, none), s.takes)

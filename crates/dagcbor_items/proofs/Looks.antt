@@ -79,10 +79,10 @@ peeked times new (Ok v) o s h = peeked_taken o s h
 peeked times new (Err e) o s h = peeked_left o s h
 
 -- a value behind a byte that was peeked at
-pub peeked_value : {T V E : Type 0} (times : ℕ) (held : T → V) (view : Tree → Option V) (lacks : Reading → Type 0) (stands : DecodeError E → List ℕ → Type 0) {first : ℕ} {old mid : Reading} (new : Reading) (r : Result T (DecodeError E)) → LooksOnce old mid → ShowsByte old first mid
-    → Reads held (leaf view) (lacks mid) ⊥ stands mid r new → Looks times mid r new → Looks (times + 1) old r new
-peeked_value times held view lacks stands new (Ok v) o s a h = peeked_taken o s (taken_first h (λ b l. let k = a.taken b l in (k.1, k.5, shorter b k.1 k.0 k.2)))
-peeked_value times held view lacks stands new (Err e) o s a h = peeked_left o s (left_first h (λ b l. let k = s.still b l in omega (arith, ap length k.1)))
+pub peeked_value : {T V E : Type 0} (times : ℕ) (meaning : T → V) (view : Tree → Option V) (lacks : Reading → Type 0) (stands : DecodeError E → List ℕ → Type 0) {first : ℕ} {old mid : Reading} (new : Reading) (r : Result T (DecodeError E)) → LooksOnce old mid → ShowsByte old first mid
+    → Reads meaning (leaf view) (lacks mid) ⊥ stands mid r new → Looks times mid r new → Looks (times + 1) old r new
+peeked_value times meaning view lacks stands new (Ok v) o s a h = peeked_taken o s (taken_first h (λ b l. let k = a.taken b l in (k.1, k.5, shorter b k.1 k.0 k.2)))
+peeked_value times meaning view lacks stands new (Err e) o s a h = peeked_left o s (left_first h (λ b l. let k = s.still b l in omega (arith, ap length k.1)))
 
 -- a byte was taken, and more behind it
 pub byte_taken : {times byte : ℕ} {old new : Reading} → LooksAtTaken times 0 old new → Takes old (byte ∷ []) new → LooksAtTaken (times + 1) 1 old new

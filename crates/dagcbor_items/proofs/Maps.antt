@@ -13,17 +13,17 @@ use Rattle.ipld_tree.specs.Tree.{Tree, text, mapping, Entries, no_entries, entry
 use Rattle.ipld_tree.specs.Spelling.{entry_count, entries_spelling, IsFront, AreEntryFronts}
 use Rattle.ipld_tree.specs.Ipld.{tree_of, pairs_of}
 use Rattle.ipld_tree.specs.declared.ipld.Ipld.{Ipld, Map as Map'}
-use Rattle.ipld_tree.proofs.Trees.{tree_of-Map}
+use Rattle.ipld_tree.proofs.Trees.{tree_of_Map}
 use Rattle.ipld_tree.proofs.Fronts.{map_opened, entry_opened, front_unique, is_mapping}
 use Rattle.dagcbor_items.specs.Places.{Follows, last_key}
-use Rattle.dagcbor_items.specs.ItemCauses.{KeyStands, Stands, StandsInEntries}
+use Rattle.dagcbor_items.specs.ItemCauses.{KeyCause, CauseInside, CauseInEntries}
 use Rattle.dagcbor_items.specs.Untyped.{HasItem, TakesItem, StartsWithMajor}
 use Rattle.dagcbor_items.specs.Entries.{HasKey, HasEntries, TakesEntries}
 use Rattle.dagcbor_items.specs.Entries.{AllFollow}
 use Rattle.dagcbor_items.proofs.Places.{in_map, at_steps}
 use Rattle.dagcbor_items.proofs.Fronts.{TakesHeadOf, major_of_front, as_tree}
 use Rattle.dagcbor_items.proofs.Steps.{too_deep}
-use Rattle.dagcbor_items.proofs.Pushes.{entry_push, entries_left, entry_count-push, entries_need-push, last_key-push, entries_push}
+use Rattle.dagcbor_items.proofs.Pushes.{entry_push, entries_left, entry_count_push, entries_need_push, last_key_push, entries_push}
 
 -- ---- the loop
 
@@ -73,9 +73,9 @@ next_key : {old now : Reading} {count left : ℕ} {es : Entries} {previous : Opt
 next_key more s i = let n = next_entry more s i in record { bytes = n.bytes; key = n.key; rest = n.behind; left = n.left; front = n.key_front; follows = n.follows }
 
 pub next_key_refused : {E lacks' : Type 0} {old now : Reading} {count left : ℕ} {es : Entries} {previous : Option (List ℕ)} (new : Reading) (e : DecodeError E) → 0 < left → ReadEntries count left old es previous now → (now.lends ≡ false → lacks')
-    → Refuses (HasKey previous now) (now.lends ≡ false) ⊥ (KeyStands previous) now e new → Refuses (HasEntries count old) lacks' ⊥ (StandsInEntries count old.steps) old e new
-next_key_refused {E} {lacks'} {old} {now} {count} {left} {es} {previous} new e more s w r = passed_on (KeyStands previous) (StandsInEntries count old.steps) old now new e s.takes.same (next_key more s) w (λ x. x)
-    (λ b l. let k = s.takes.taken b l in (k.0, k.3, λ here. (es, k.0, k.1, omega (arith, s.counted, more), inl (subst (λ p. KeyStands {E = E} p e k.0) (sym s.last) here)))) r
+    → Refuses (HasKey previous now) (now.lends ≡ false) ⊥ (KeyCause previous) now e new → Refuses (HasEntries count old) lacks' ⊥ (CauseInEntries count old.steps) old e new
+next_key_refused {E} {lacks'} {old} {now} {count} {left} {es} {previous} new e more s w r = passed_on (KeyCause previous) (CauseInEntries count old.steps) old now new e s.takes.same (next_key more s) w (λ x. x)
+    (λ b l. let k = s.takes.taken b l in (k.0, k.3, λ here. (es, k.0, k.1, omega (arith, s.counted, more), inl (subst (λ p. KeyCause {E = E} p e k.0) (sym s.last) here)))) r
 
 -- a key was read as well
 next_value : {old now mid : Reading} {count left : ℕ} {es : Entries} {previous : Option (List ℕ)} (key : List ℕ) → 0 < left → ReadEntries count left old es previous now → TakesItem 1 now (text key) mid → HasEntries count old → HasItem 0 mid
@@ -86,8 +86,8 @@ next_value {old} {now} {mid} {count} {left} {es} {previous} key more s a i =
     record { bytes = n.behind; tree = n.tree; rest = n.rest; left = q.3 ∙ ap Some same.1; front = n.front; within = omega (arith, n.within, a.same.steps) }
 
 pub next_value_refused : {E lacks lacks' : Type 0} {old now mid : Reading} {count left : ℕ} {es : Entries} {previous : Option (List ℕ)} (key : List ℕ) (new : Reading) (e : DecodeError E) → 0 < left → ReadEntries count left old es previous now → Follows previous key → TakesItem 1 now (text key) mid → (lacks → lacks')
-    → Refuses (HasItem 0 mid) lacks ⊥ (Stands (mid.steps + 0)) mid e new → Refuses (HasEntries count old) lacks' ⊥ (StandsInEntries count old.steps) old e new
-next_value_refused {E} {lacks} {lacks'} {old} {now} {mid} {count} {left} {es} {previous} key new e more s f a w r = passed_on (Stands (mid.steps + 0)) (StandsInEntries count old.steps) old mid new e
+    → Refuses (HasItem 0 mid) lacks ⊥ (CauseInside (mid.steps + 0)) mid e new → Refuses (HasEntries count old) lacks' ⊥ (CauseInEntries count old.steps) old e new
+next_value_refused {E} {lacks} {lacks'} {old} {now} {mid} {count} {left} {es} {previous} key new e more s f a w r = passed_on (CauseInside (mid.steps + 0)) (CauseInEntries count old.steps) old mid new e
     (stays_both s.takes.same a.same) (next_value key more s a) w (λ x. x)
     (λ b l. let k = s.takes.taken b l in let q = a.taken k.0 k.3 in (
       q.0,
@@ -108,8 +108,8 @@ on_ok (Err y) P e h = absurd (cc e)
 pub one_read : {old now mid new : Reading} {count left left' : ℕ} {previous : Option (List ℕ)} {t : Tree} (es fs : Entries) (key : List ℕ) (last : Option (List ℕ)) → fs ≡ entry_push es key t → last ≡ Some key → left' + 1 ≡ left
     → ReadEntries count left old es previous now → Follows previous key → TakesItem 1 now (text key) mid → TakesItem 0 mid t new → ReadEntries count left' old fs last new
 one_read {old} {now} {mid} {new} {count} {left} {left'} {previous} {t} es fs key last is is_last e s f a v = subst (λ x. ReadEntries count left' old x last new) (sym is) record {
-  counted = omega (arith, s.counted, entry_count-push es key t);
-  last = last_key-push es key t ∙ sym is_last;
+  counted = omega (arith, s.counted, entry_count_push es key t);
+  last = last_key_push es key t ∙ sym is_last;
   takes = record {
     taken = λ b l.
         let k = s.takes.taken b l in
@@ -117,7 +117,7 @@ one_read {old} {now} {mid} {new} {count} {left} {left'} {previous} {t} es fs key
         let w = v.taken q.0 q.3 in
         let now_steps = s.takes.same.steps in
         let mid_steps = a.same.steps in
-        (w.0, entries_push es key t b k.0 q.0 w.0 k.1 q.1 w.1 (subst (λ x. Follows x key) (sym s.last) f), omega (arith, entries_need-push es key t, k.2, w.2, now_steps, mid_steps), w.3);
+        (w.0, entries_push es key t b k.0 q.0 w.0 k.1 q.1 w.1 (subst (λ x. Follows x key) (sym s.last) f), omega (arith, entries_need_push es key t, k.2, w.2, now_steps, mid_steps), w.3);
     same = stays_both s.takes.same (stays_both a.same v.same);
   };
 }
@@ -133,7 +133,7 @@ is_map_at starts i = is_mapping i.tree (major_of_front i.bytes i.rest i.tree 5 (
 two_steps : (t : Tree) (es : Entries) → t ≡ mapping es → 2 ≤ any_need t
 two_steps t es e = omega (arith, ap any_need e)
 
-pub no_map_step : (E lacks : Type 0) (old new : Reading) (name : Name) → StartsWithMajor old 5 → old.steps ≡ 0 → new ≡ old → Refuses {E = E} (HasItem 1 old) lacks ⊥ (Stands (old.steps + 1)) old (DepthOverflow name) new
+pub no_map_step : (E lacks : Type 0) (old new : Reading) (name : Name) → StartsWithMajor old 5 → old.steps ≡ 0 → new ≡ old → Refuses {E = E} (HasItem 1 old) lacks ⊥ (CauseInside (old.steps + 1)) old (DepthOverflow name) new
 no_map_step E lacks old new name starts none same = too_deep E lacks 1 old new name none same (λ i. let l = is_map_at starts i in two_steps i.tree l.0 l.1) (λ b l. inr (refl, inr (starts b l)))
 
 map_entries : {stepped mid : Reading} {n : ℕ} → StartsWithMajor stepped 5 → TakesHeadOf stepped 5 n mid → HasItem 2 stepped → HasEntries n mid
@@ -143,8 +143,8 @@ map_entries {stepped} {mid} {n} starts h i =
     let o = map_opened i.bytes k.0 i.rest n l.0 h.fits (subst (λ t. IsFront i.bytes t i.rest) l.1 i.front) k.1 in
     record { bytes = k.0; entries = l.0; rest = i.rest; left = k.2; counted = o.0; fronts = o.1; within = omega (arith, i.within, ap any_need l.1, h.same.steps) }
 
-pub map_refused : {E lacks lacks' : Type 0} {stepped mid : Reading} (new : Reading) (n : ℕ) (e : DecodeError E) → StartsWithMajor stepped 5 → TakesHeadOf stepped 5 n mid → (lacks → lacks') → Refuses (HasEntries n mid) lacks ⊥ (StandsInEntries n mid.steps) mid e new → Refuses (HasItem 2 stepped) lacks' ⊥ (Stands (stepped.steps + 2)) stepped e new
-map_refused {E} {lacks} {lacks'} {stepped} {mid} new n e starts h w r = passed_on (StandsInEntries n mid.steps) (Stands (stepped.steps + 2)) stepped mid new e h.same (map_entries starts h) w (λ x. x)
+pub map_refused : {E lacks lacks' : Type 0} {stepped mid : Reading} (new : Reading) (n : ℕ) (e : DecodeError E) → StartsWithMajor stepped 5 → TakesHeadOf stepped 5 n mid → (lacks → lacks') → Refuses (HasEntries n mid) lacks ⊥ (CauseInEntries n mid.steps) mid e new → Refuses (HasItem 2 stepped) lacks' ⊥ (CauseInside (stepped.steps + 2)) stepped e new
+map_refused {E} {lacks} {lacks'} {stepped} {mid} new n e starts h w r = passed_on (CauseInEntries n mid.steps) (CauseInside (stepped.steps + 2)) stepped mid new e h.same (map_entries starts h) w (λ x. x)
     (λ b l. let k = h.taken b l in (k.0, k.2, λ s. at_steps {E = E} e b _ _ (omega (arith, h.same.steps)) (in_map n mid.steps e b k.0 h.fits k.1 s))) r
 
 pub map_closed : (c rest : List ℕ) (es : Entries) → entry_count es < 2 ^ 64 → AreEntryFronts c es rest → IsFront (head 5 (entry_count es) ++ c) (mapping es) rest
@@ -168,7 +168,7 @@ map_taken {stepped} {mid} {now} {n} es h counted a = record {
 }
 
 pub map_as_tree : {stepped mid now : Reading} {n : ℕ} (m : BTreeMap (String Global) Ipld) → TakesHeadOf stepped 5 n mid → (entry_count (ordered (pairs_of m.entries)) ≡ n) × TakesEntries mid (ordered (pairs_of m.entries)) now → TakesItem 2 stepped (tree_of (Map' m)) now
-map_as_tree {stepped} {mid} {now} {n} m h r = as_tree (mapping (ordered (pairs_of m.entries))) _ (tree_of-Map m) (map_taken (ordered (pairs_of m.entries)) h r.0 r.1)
+map_as_tree {stepped} {mid} {now} {n} m h r = as_tree (mapping (ordered (pairs_of m.entries))) _ (tree_of_Map m) (map_taken (ordered (pairs_of m.entries)) h r.0 r.1)
 
 pub behind_last : {count left : ℕ} {old now : Reading} {es : Entries} {previous : Option (List ℕ)} (k : List ℕ) → ReadEntries count left old es previous now → Follows previous k → Follows (last_key es) k
 behind_last k s f = subst (λ x. Follows x k) (sym s.last) f

@@ -11,7 +11,7 @@ use Rattle.ipld_tree.specs.Tree.{Tree, text, Entries, no_entries, entry, Precede
 use Rattle.ipld_tree.specs.Spelling.{entry_count, IsFront, AreEntryFronts}
 use Rattle.ipld_tree.specs.Ipld.{tree_of, pairs_of}
 use Rattle.ipld_tree.specs.declared.ipld.Ipld.{Ipld}
-use Rattle.ipld_tree.proofs.Trees.{Entry, pairs_of-insert_entry}
+use Rattle.ipld_tree.proofs.Trees.{Entry, pairs_of_insert_entry}
 use Rattle.ipld_tree.proofs.Ordered.{Pair, IsRising, Has, HasPair, key_cmp_total, key_cmp_same, less_from_before, same_entries, rising_ordered, ordered_has, has_ordered}
 use Rattle.ipld_tree.proofs.WellFormed.{distinct_entries}
 use Rattle.ipld_tree.proofs.Fronts.{entry_opened, entry_closed, entries_after}
@@ -103,7 +103,7 @@ ordered_push es new k j is sorted sorted_new f =
     let key = string_bytes k in
     let t = tree_of j in
     let rising = rising_ordered ps (distinct_entries es sorted) in
-    let put : pairs_of new ≡ insert_entry bytes_cmp ps key t = ap pairs_of is ∙ pairs_of-insert_entry es k j in
+    let put : pairs_of new ≡ insert_entry bytes_cmp ps key t = ap pairs_of is ∙ pairs_of_insert_entry es k j in
     let fresh : (l : List ℕ) (u : Tree) → HasPair ps l u → key ≡ l → ⊥ =
     λ l u h e. (let below = above_all (ordered ps) key rising f l u (ordered_has ps l u h) in
     let differ : Equal ≡ Less = sym (key_cmp_same key) ∙ ap (λ x. key_cmp x key) e ∙ below in absurd (cc differ)) in
@@ -113,21 +113,21 @@ ordered_push es new k j is sorted sorted_new f =
 
 -- ---- the fronts of entries
 
-pub entry_count-push : (es : Entries) (k : List ℕ) (t : Tree) → entry_count (entry_push es k t) ≡ entry_count es + 1
+pub entry_count_push : (es : Entries) (k : List ℕ) (t : Tree) → entry_count (entry_push es k t) ≡ entry_count es + 1
 unfolding entry_push
-entry_count-push no_entries k t = omega arith
-entry_count-push (entry l u es) k t = omega (arith, entry_count-push es k t)
+entry_count_push no_entries k t = omega arith
+entry_count_push (entry l u es) k t = omega (arith, entry_count_push es k t)
 
-pub entries_need-push : (es : Entries) (k : List ℕ) (t : Tree) → entries_need (entry_push es k t) ≡ max (entries_need es) (any_need t)
+pub entries_need_push : (es : Entries) (k : List ℕ) (t : Tree) → entries_need (entry_push es k t) ≡ max (entries_need es) (any_need t)
 unfolding entry_push
-entries_need-push no_entries k t = omega arith
-entries_need-push (entry l u es) k t = omega (arith, entries_need-push es k t)
+entries_need_push no_entries k t = omega arith
+entries_need_push (entry l u es) k t = omega (arith, entries_need_push es k t)
 
-pub last_key-push : (es : Entries) (k : List ℕ) (t : Tree) → last_key (entry_push es k t) ≡ Some k
+pub last_key_push : (es : Entries) (k : List ℕ) (t : Tree) → last_key (entry_push es k t) ≡ Some k
 unfolding entry_push last_key
-last_key-push no_entries k t = refl
-last_key-push (entry l u no_entries) k t = refl
-last_key-push (entry l u (entry m v es)) k t = last_key-push (entry m v es) k t
+last_key_push no_entries k t = refl
+last_key_push (entry l u no_entries) k t = refl
+last_key_push (entry l u (entry m v es)) k t = last_key_push (entry m v es) k t
 
 pub entries_push : (es : Entries) (k : List ℕ) (t : Tree) (b c d e : List ℕ) → AreEntryFronts b es c → IsFront c (text k) d → IsFront d t e → Follows (last_key es) k → AreEntryFronts b (entry_push es k t) e
 unfolding entry_push last_key

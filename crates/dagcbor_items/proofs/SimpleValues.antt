@@ -17,7 +17,7 @@ use Rattle.dagcbor_items.specs.Reads.{HasFront, TakesFront}
 use Rattle.dagcbor_items.specs.Shapes.{view_null, view_bool, leaf, Shape}
 use Rattle.dagcbor_items.specs.Links.{HasWanted}
 use Rattle.dagcbor_items.specs.LinkCauses.{IsOtherByte}
-use Rattle.dagcbor_items.specs.LeafCauses.{BoolStands}
+use Rattle.dagcbor_items.specs.LeafCauses.{BoolCause}
 use Rattle.dagcbor_items.specs.LeafReads.{ReadsNull}
 
 pub front_byte : {V : Type 0} {shape : Shape Tree V} {r : Reading} → HasFront shape r → HasByte r
@@ -56,9 +56,9 @@ null_read old new (Err e) h = passed_on (IsOtherByte (codes "unit") 0xf6) (IsOth
 pub bool_taken : {old new : Reading} {found : ℕ} (b : Bool) → found ∷ [] ≡ boolean_spelling b → Takes old (found ∷ []) new → TakesFront (leaf view_bool) old b new
 bool_taken {old} {new} {found} b e h = spelling_taken view_bool (boolean b) b tt tt refl (subst (λ s. Takes old s new) e h)
 
-no_byte : {E : Type 0} (e : DecodeError E) (b : List ℕ) → ByteCause e b → BoolStands e b
+no_byte : {E : Type 0} (e : DecodeError E) (b : List ℕ) → ByteCause e b → BoolCause e b
 no_byte (Eof name expect) b h = h
 no_byte _ b h = absurd h
 
-pub bool_byte_refused : {E : Type 0} (old new : Reading) (e : DecodeError E) → Refuses (HasByte old) ⊥ ⊥ ByteCause old e new → Refuses (HasFront (leaf view_bool) old) ⊥ ⊥ BoolStands old e new
-bool_byte_refused old new e r = passed_on ByteCause BoolStands old old new e (stays old) front_byte (λ x. x) (λ x. x) (λ b l. (b, l, no_byte e b)) r
+pub bool_byte_refused : {E : Type 0} (old new : Reading) (e : DecodeError E) → Refuses (HasByte old) ⊥ ⊥ ByteCause old e new → Refuses (HasFront (leaf view_bool) old) ⊥ ⊥ BoolCause old e new
+bool_byte_refused old new e r = passed_on ByteCause BoolCause old old new e (stays old) front_byte (λ x. x) (λ x. x) (λ b l. (b, l, no_byte e b)) r

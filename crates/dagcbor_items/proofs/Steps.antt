@@ -7,7 +7,7 @@ use Rattle.dagcbor_heads.specs.declared.name.Name.{Name}
 use Rattle.dagcbor_heads.specs.declared.error.DecodeError.{DecodeError}
 use Rattle.dagcbor_heads.specs.declared.error.DecodeError.TheVariants.{Read, RequireBorrowed, OutOfMemory, Failed, DepthOverflow}
 use Rattle.ipld_tree.specs.Tree.{Tree, null, boolean, integer, text, bytes, list, mapping, link, any_need}
-use Rattle.dagcbor_items.specs.ItemCauses.{IsTooDeep, Stands}
+use Rattle.dagcbor_items.specs.ItemCauses.{IsTooDeep, CauseInside}
 use Rattle.dagcbor_items.specs.Untyped.{HasItem, TakesItem, StartsWithMajor}
 use Rattle.dagcbor_items.proofs.Places.{stands_here, at_steps}
 
@@ -23,7 +23,7 @@ need_positive (link cid) = omega arith
 
 -- no step is left for what stands there
 pub too_deep : (E lacks : Type 0) (spent : ℕ) (old new : Reading) (name : Name) → old.steps ≡ 0 → new ≡ old → ((i : HasItem spent old) → spent + 1 ≤ any_need i.tree)
-    → ((b : List ℕ) → old.left ≡ Some b → IsTooDeep {E = E} spent (DepthOverflow name) b) → Refuses {E = E} (HasItem spent old) lacks ⊥ (Stands (old.steps + spent)) old (DepthOverflow name) new
+    → ((b : List ℕ) → old.left ≡ Some b → IsTooDeep {E = E} spent (DepthOverflow name) b) → Refuses {E = E} (HasItem spent old) lacks ⊥ (CauseInside (old.steps + spent)) old (DepthOverflow name) new
 too_deep E lacks spent old new name none same deep cause = (
   ap (λ (r : Reading). r.faults) same,
   λ i. omega (arith, i.within, none, deep i),
@@ -31,7 +31,7 @@ too_deep E lacks spent old new name none same deep cause = (
   ap (λ (r : Reading). r.steps) same ∙ none,
 )
 
-pub no_step_left : (E lacks : Type 0) (old new : Reading) (name : Name) → old.steps ≡ 0 → new ≡ old → Refuses {E = E} (HasItem 0 old) lacks ⊥ (Stands (old.steps + 0)) old (DepthOverflow name) new
+pub no_step_left : (E lacks : Type 0) (old new : Reading) (name : Name) → old.steps ≡ 0 → new ≡ old → Refuses {E = E} (HasItem 0 old) lacks ⊥ (CauseInside (old.steps + 0)) old (DepthOverflow name) new
 no_step_left E lacks old new name none same = too_deep E lacks 0 old new name none same (λ i. need_positive i.tree) (λ b l. inl refl)
 
 -- a step was spent
@@ -58,7 +58,7 @@ steps_same : {old stepped : Reading} (spent : ℕ) → Steps old stepped → ste
 steps_same spent s = omega (arith, s.some, ap (λ (r : Reading). r.steps) s.is)
 
 pub stepped_refused : {E lacks lacks' : Type 0} {old stepped : Reading} (new : Reading) (spent : ℕ) (e : DecodeError E) → Steps old stepped → (lacks → lacks')
-    → Refuses (HasItem (spent + 1) stepped) lacks ⊥ (Stands (stepped.steps + (spent + 1))) stepped e new → Refuses (HasItem spent old) lacks' ⊥ (Stands (old.steps + spent)) old e new
+    → Refuses (HasItem (spent + 1) stepped) lacks ⊥ (CauseInside (stepped.steps + (spent + 1))) stepped e new → Refuses (HasItem spent old) lacks' ⊥ (CauseInside (old.steps + spent)) old e new
 stepped_refused {E} {lacks} {lacks'} {old} {stepped} new spent (Read e) s k r = omega (arith, ap (λ (r : Reading). r.faults) s.is, r)
 stepped_refused {E} {lacks} {lacks'} {old} {stepped} new spent OutOfMemory s k r = (r.0 ∙ ap (λ (r : Reading). r.faults) s.is, k r.1)
 stepped_refused {E} {lacks} {lacks'} {old} {stepped} new spent (RequireBorrowed n) s k r = absurd r.1

@@ -22,16 +22,16 @@ use Rattle.ipld_tree.proofs.Unique.{split_at_length}
 use Rattle.dagcbor_items.specs.Reads.{HasFront, TakesFront, Reads}
 use Rattle.dagcbor_items.specs.Shapes.{view_text, view_bytes, leaf}
 use Rattle.dagcbor_items.specs.FirstBytes.{BeginsFrom}
-use Rattle.dagcbor_items.specs.LeafCauses.{IsCut, KindStands, StringStands, TextStands}
+use Rattle.dagcbor_items.specs.LeafCauses.{IsCut, MajorCause, StringCause, TextCause}
 use Rattle.dagcbor_items.specs.LeafReads.{ReadsByteSlice}
 use Rattle.dagcbor_items.proofs.SimpleValues.{spelling_taken}
-use Rattle.dagcbor_items.specs.Kinds.{HasKind, TakesKind, HasString, TakesString, ReadsString}
+use Rattle.dagcbor_items.specs.Majors.{HasMajor, TakesMajor, HasString, TakesString, ReadsString}
 use Rattle.dagcbor_items.specs.Untyped.{StartsWithMajor}
 
 -- ---- a string of the major type
 
 -- the head of one major type was taken
-of_kind : {kind m n : ℕ} {old mid : Reading} → TakesKind kind kind old m n mid → Takes old (head kind n) mid
+of_kind : {kind m n : ℕ} {old mid : Reading} → TakesMajor kind kind old m n mid → Takes old (head kind n) mid
 of_kind {kind} {m} {n} {old} {mid} h = let same : m ≡ kind = omega (arith, h.lowest, h.highest) in subst (λ x. Takes old (head x n) mid) same h.takes
 
 -- the string behind the head that was taken
@@ -46,8 +46,8 @@ is_cut name kind n (Eof kept expect) b c fits e named h = (named, (n, c, fits, e
 is_cut name kind n _ b c fits e named h = absurd h
 
 payload_refused : {E : Type 0} (lacks : Type 0) (name : List ℕ) (kind : ℕ) {n : ℕ} {old mid : Reading} (new : Reading) (e : DecodeError E) → n < 2 ^ 64 → Takes old (head kind n) mid → IsEndNamed name e
-    → (lacks' : Type 0) → (lacks → lacks') → Refuses (HasPayload n mid) lacks ⊥ (PayloadCause n) mid e new → Refuses (HasString kind old) lacks' ⊥ (StringStands name kind) old e new
-payload_refused lacks name kind {n} {old} {mid} new e fits t named lacks' want r = passed_on (PayloadCause n) (StringStands name kind) old mid new e t.same
+    → (lacks' : Type 0) → (lacks → lacks') → Refuses (HasPayload n mid) lacks ⊥ (PayloadCause n) mid e new → Refuses (HasString kind old) lacks' ⊥ (StringCause name kind) old e new
+payload_refused lacks name kind {n} {old} {mid} new e fits t named lacks' want r = passed_on (PayloadCause n) (StringCause name kind) old mid new e t.same
     (λ h. let k = behind_kind fits t h in record { payload = h.payload; rest = h.rest; long = k.0; left = k.1 }) want (λ x. x)
     (λ b l. let k = t.taken b l in (k.0, k.2, λ c. inr (is_cut name kind n e b k.0 fits k.1 named c))) r
 
@@ -57,7 +57,7 @@ string_taken {kind} {n} {old} {mid} {new} s fits t long p = record {
   takes = subst (λ x. Takes old (head kind x ++ s) new) (sym long) (takes_both t p);
 }
 
-pub string_read : {E : Type 0} (name : List ℕ) (kind : ℕ) {m n : ℕ} {old mid : Reading} (new : Reading) (result : Result (CowSlice ℕ Global) (DecodeError E)) → TakesKind kind kind old m n mid
+pub string_read : {E : Type 0} (name : List ℕ) (kind : ℕ) {m n : ℕ} {old mid : Reading} (new : Reading) (result : Result (CowSlice ℕ Global) (DecodeError E)) → TakesMajor kind kind old m n mid
     → IfErr result (λ e. IsEndNamed name e)
     → MatchResult result (λ c. (length (cow_slice_items c) ≡ n) × Takes mid (cow_slice_items c) new) (λ e. Refuses (HasPayload n mid) (mid.lends ≡ false) ⊥ (PayloadCause n) mid e new)
     → ReadsString cow_slice_items name kind old result new
@@ -65,19 +65,19 @@ string_read name kind new (Ok c) t named h = string_taken (cow_slice_items c) t.
 string_read name kind {m} {n} {old} {mid} new (Err e) t named h = payload_refused (mid.lends ≡ false) name kind new e t.argument_fits (of_kind t) named (old.lends ≡ false) (λ x. sym t.takes.same.lends ∙ x) h
 
 -- no byte of the major type stood there
-pub string_kind_refused : {E : Type 0} (lacks : Type 0) (name : List ℕ) (kind : ℕ) (old new : Reading) (e : DecodeError E) → Refuses (HasKind kind kind old) ⊥ ⊥ (KindStands name kind kind) old e new
-    → Refuses (HasString kind old) lacks ⊥ (StringStands name kind) old e new
+pub string_kind_refused : {E : Type 0} (lacks : Type 0) (name : List ℕ) (kind : ℕ) (old new : Reading) (e : DecodeError E) → Refuses (HasMajor kind kind old) ⊥ ⊥ (MajorCause name kind kind) old e new
+    → Refuses (HasString kind old) lacks ⊥ (StringCause name kind) old e new
 string_kind_refused lacks name kind old new e r =
-    passed_on (KindStands name kind kind) (StringStands name kind) old old new e (stays old) string_kind (λ x. absurd x) (λ x. x) (λ b l. (b, l, λ c. inl c)) r
+    passed_on (MajorCause name kind kind) (StringCause name kind) old old new e (stays old) string_kind (λ x. absurd x) (λ x. x) (λ b l. (b, l, λ c. inl c)) r
   where
-    string_kind : HasString kind old → HasKind kind kind old
+    string_kind : HasString kind old → HasMajor kind kind old
     string_kind h = record { major = kind; argument = length h.payload; rest = h.payload ++ h.rest; lowest = omega arith; highest = omega arith; argument_fits = h.fits; left = h.left }
 
 -- no head stood there, behind a first byte of the major type
 pub string_head_refused : {E : Type 0} (lacks : Type 0) (name : List ℕ) (kind : ℕ) (old new : Reading) (e : DecodeError E) → kind < 8 → StartsWithMajor old kind → IsNamed name e → Refuses (HasHead old) ⊥ ⊥ HeadCause old e new
-    → Refuses (HasString kind old) lacks ⊥ (StringStands name kind) old e new
+    → Refuses (HasString kind old) lacks ⊥ (StringCause name kind) old e new
 string_head_refused lacks name kind old new e few starts named r =
-    passed_on HeadCause (StringStands name kind) old old new e (stays old) string_head (λ x. absurd x) (λ x. x) (λ b l. (b, l, λ c. inl (inl (c, named, begins b l)))) r
+    passed_on HeadCause (StringCause name kind) old old new e (stays old) string_head (λ x. absurd x) (λ x. x) (λ b l. (b, l, λ c. inl (inl (c, named, begins b l)))) r
   where
     string_head : HasString kind old → HasHead old
     string_head h = record { major = kind; argument = length h.payload; rest = h.payload ++ h.rest; major_fits = few; argument_fits = h.fits; left = h.left }
@@ -89,13 +89,13 @@ string_head_refused lacks name kind old new e few starts named r =
         (omega (arith, same, s.3), omega (arith, same, s.3))
 
 -- what was read behind a byte that was peeked at
-pub peeked_read : {T V E : Type 0} (held : T → V) (view : Tree → Option V) (lacks : Reading → Type 0) (stands : DecodeError E → List ℕ → Type 0) {old mid : Reading} {first : ℕ} (new : Reading) (r : Result T (DecodeError E)) → ShowsByte old first mid → (Stays old mid → lacks mid → lacks old)
-    → Reads held (leaf view) (lacks mid) ⊥ stands mid r new → Reads held (leaf view) (lacks old) ⊥ stands old r new
-peeked_read held view lacks stands {old} {mid} new (Ok v) h want a = record {
+pub peeked_read : {T V E : Type 0} (meaning : T → V) (view : Tree → Option V) (lacks : Reading → Type 0) (stands : DecodeError E → List ℕ → Type 0) {old mid : Reading} {first : ℕ} (new : Reading) (r : Result T (DecodeError E)) → ShowsByte old first mid → (Stays old mid → lacks mid → lacks old)
+    → Reads meaning (leaf view) (lacks mid) ⊥ stands mid r new → Reads meaning (leaf view) (lacks old) ⊥ stands old r new
+peeked_read meaning view lacks stands {old} {mid} new (Ok v) h want a = record {
   taken = λ b l. (let k = a.taken b (h.kept b l) in (k.0, k.1, k.2, k.3, zero-le, k.5));
   same = stays_both h.same a.same;
 }
-peeked_read held view lacks stands {old} {mid} new (Err e) h want r = passed_on stands stands old mid new e h.same still (want h.same) (λ x. x) (λ b l. (b, h.kept b l, λ c. c)) r
+peeked_read meaning view lacks stands {old} {mid} new (Err e) h want r = passed_on stands stands old mid new e h.same still (want h.same) (λ x. x) (λ b l. (b, h.kept b l, λ c. c)) r
   where
     still : HasFront (leaf view) old → HasFront (leaf view) mid
     still f = record { bytes = f.bytes; tree = f.tree; rest = f.rest; left = h.kept f.bytes f.left; front = f.front; accepted = f.accepted; within = zero-le }
@@ -123,9 +123,9 @@ bytes_stand {r} h =
     let f = subst (λ t. IsFront h.bytes t h.rest) (shown_bytes h.tree s.0 s.1) h.front in
     record { payload = s.0; rest = h.rest; fits = f.spellable; left = h.left ∙ ap Some (f.is ∙ append_assoc (head 2 (length s.0)) s.0 h.rest) }
 
-pub bytes_refused : {E : Type 0} (lacks : Type 0) (old new : Reading) (e : DecodeError E) → Refuses (HasString 2 old) lacks ⊥ (StringStands (codes "bytes") 2) old e new
-    → Refuses (HasFront (leaf view_bytes) old) lacks ⊥ (StringStands (codes "bytes") 2) old e new
-bytes_refused lacks old new e r = passed_on (StringStands (codes "bytes") 2) (StringStands (codes "bytes") 2) old old new e (stays old) bytes_stand (λ x. x) (λ x. x) (λ b l. (b, l, λ c. c)) r
+pub bytes_refused : {E : Type 0} (lacks : Type 0) (old new : Reading) (e : DecodeError E) → Refuses (HasString 2 old) lacks ⊥ (StringCause (codes "bytes") 2) old e new
+    → Refuses (HasFront (leaf view_bytes) old) lacks ⊥ (StringCause (codes "bytes") 2) old e new
+bytes_refused lacks old new e r = passed_on (StringCause (codes "bytes") 2) (StringCause (codes "bytes") 2) old old new e (stays old) bytes_stand (λ x. x) (λ x. x) (λ b l. (b, l, λ c. c)) r
 
 pub bytes_read : {E : Type 0} (old new : Reading) (result : Result (CowSlice ℕ Global) (DecodeError E)) → ReadsString cow_slice_items (codes "bytes") 2 old result new → ReadsByteSlice old result new
 bytes_read old new (Ok c) h = let s = cow_slice_items c in spelling_taken view_bytes (bytes s) s tt h.fits refl h.takes
@@ -151,15 +151,15 @@ text_stands {r} h =
     let s = text_front h in
     record { payload = s.0; rest = h.rest; fits = s.1.spellable; left = h.left ∙ ap Some (s.1.is ∙ append_assoc (head 3 (length s.0)) s.0 h.rest) }
 
-pub text_refused : {E : Type 0} (lacks : Type 0) (name : List ℕ) (old new : Reading) (e : DecodeError E) → Refuses (HasString 3 old) lacks ⊥ (StringStands name 3) old e new
-    → Refuses (HasFront (leaf view_text) old) lacks ⊥ (TextStands name) old e new
-text_refused lacks name old new e r = passed_on (StringStands name 3) (TextStands name) old old new e (stays old) text_stands (λ x. x) (λ x. x) (λ b l. (b, l, λ c. inl c)) r
+pub text_refused : {E : Type 0} (lacks : Type 0) (name : List ℕ) (old new : Reading) (e : DecodeError E) → Refuses (HasString 3 old) lacks ⊥ (StringCause name 3) old e new
+    → Refuses (HasFront (leaf view_text) old) lacks ⊥ (TextCause name) old e new
+text_refused lacks name old new e r = passed_on (StringCause name 3) (TextCause name) old old new e (stays old) text_stands (λ x. x) (λ x. x) (λ b l. (b, l, λ c. inl c)) r
 
 pub text_taken : {old new : Reading} (s payload : List ℕ) → s ≡ payload → IsUtf8 s → TakesString 3 old payload new → TakesFront (leaf view_text) old s new
 text_taken {old} {new} s payload e u h = let k = subst (λ x. TakesString 3 old x new) (sym e) h in spelling_taken view_text (text s) s u k.fits refl k.takes
 
 pub garbled : (E : Type 0) (name : List ℕ) {old new : Reading} (s : List ℕ) (kept : Name) → Names kept name → TakesString 3 old s new → (IsUtf8 s → ⊥)
-    → Refuses {E = E} (HasFront (leaf view_text) old) ⊥ ⊥ (TextStands name) old (RequireUtf8 kept) new
+    → Refuses {E = E} (HasFront (leaf view_text) old) ⊥ ⊥ (TextCause name) old (RequireUtf8 kept) new
 garbled E name {old} {new} s kept named h not_text = (
   h.takes.same.faults,
   λ i. let t = text_front i in

@@ -3,23 +3,23 @@ use Rattle.std.specs.Prelude.{List, ℕ}
 use Rattle.dagcbor_heads.specs.Causes.{IsEndNamed, IsNamed}
 use Rattle.dagcbor_heads.specs.declared.error.DecodeError.{DecodeError}
 use Rattle.dagcbor_heads.specs.declared.error.DecodeError.TheVariants.{Msg, Eof, Mismatch, Unsupported, RequireUtf8, CastOverflow, DepthOverflow, IndefiniteSize, NonMinimal, UnorderedKey}
-use Rattle.dagcbor_items.specs.Variants.{OfByte, OfKind, OfNumber, OfText, OfChar, OfKey, OfLink, OfItem}
+use Rattle.dagcbor_items.specs.Variants.{OfByte, OfHead, OfNumber, OfText, OfChar, OfKey, OfLink, OfItem}
 
 pub end_byte : {E : Type 0} (text : List ℕ) (e : DecodeError E) → IsEndNamed text e → OfByte e
 end_byte text (Eof n x) h = tt
 end_byte text (Mismatch n x) h = tt
 end_byte text _ h = h
 
-pub byte_kind : {E : Type 0} (e : DecodeError E) → OfByte e → OfKind e
+pub byte_kind : {E : Type 0} (e : DecodeError E) → OfByte e → OfHead e
 byte_kind (Unsupported n x) h = tt
 byte_kind IndefiniteSize h = tt
 byte_kind (NonMinimal n x) h = tt
 byte_kind _ h = h
 
-pub end_kind : {E : Type 0} (text : List ℕ) (e : DecodeError E) → IsEndNamed text e → OfKind e
+pub end_kind : {E : Type 0} (text : List ℕ) (e : DecodeError E) → IsEndNamed text e → OfHead e
 end_kind text e h = byte_kind e (end_byte text e h)
 
-pub named_kind : {E : Type 0} (text : List ℕ) (e : DecodeError E) → IsNamed text e → OfKind e
+pub named_kind : {E : Type 0} (text : List ℕ) (e : DecodeError E) → IsNamed text e → OfHead e
 named_kind text (Eof n x) h = tt
 named_kind text (Mismatch n x) h = tt
 named_kind text (Unsupported n x) h = tt
@@ -27,11 +27,11 @@ named_kind text IndefiniteSize h = tt
 named_kind text (NonMinimal n x) h = tt
 named_kind text _ h = h
 
-pub kind_number : {E : Type 0} (e : DecodeError E) → OfKind e → OfNumber e
+pub kind_number : {E : Type 0} (e : DecodeError E) → OfHead e → OfNumber e
 kind_number (CastOverflow n) h = tt
 kind_number _ h = h
 
-pub kind_text : {E : Type 0} (e : DecodeError E) → OfKind e → OfText e
+pub kind_text : {E : Type 0} (e : DecodeError E) → OfHead e → OfText e
 kind_text (RequireUtf8 n) h = tt
 kind_text _ h = h
 
@@ -46,7 +46,7 @@ pub text_key : {E : Type 0} (e : DecodeError E) → OfText e → OfKey e
 text_key UnorderedKey h = tt
 text_key _ h = h
 
-pub kind_link : {E : Type 0} (e : DecodeError E) → OfKind e → OfLink e
+pub kind_link : {E : Type 0} (e : DecodeError E) → OfHead e → OfLink e
 kind_link (Msg n) h = tt
 kind_link _ h = h
 
@@ -67,7 +67,7 @@ key_item _ h = h
 pub text_item : {E : Type 0} (e : DecodeError E) → OfText e → OfItem e
 text_item e h = key_item e (text_key e h)
 
-pub kind_item : {E : Type 0} (e : DecodeError E) → OfKind e → OfItem e
+pub kind_item : {E : Type 0} (e : DecodeError E) → OfHead e → OfItem e
 kind_item e h = text_item e (kind_text e h)
 
 pub named_item : {E : Type 0} (text : List ℕ) (e : DecodeError E) → IsNamed text e → OfItem e

@@ -9,7 +9,7 @@ use Rattle.dagcbor_heads.proofs.Taking.{stays, stays_both}
 use Rattle.dagcbor_heads.proofs.Refusing.{passed_on}
 use Rattle.ipld_tree.specs.Tree.{Tree, null, boolean, integer, text, bytes, list, mapping, link, items_of, Entries, no_entries, entry, links_of, items_links, entries_links}
 use Rattle.ipld_tree.proofs.Unique.{major}
-use Rattle.dagcbor_items.specs.ItemCauses.{Stands}
+use Rattle.dagcbor_items.specs.ItemCauses.{CauseInside}
 use Rattle.dagcbor_items.specs.Untyped.{HasItem, TakesItem, SkipsItem}
 use Rattle.dagcbor_items.specs.Walks.{Finds, WalkLacks, WalksItem}
 use Rattle.dagcbor_items.proofs.Fronts.{TakesHeadOf, major_of_front, major_at}
@@ -24,8 +24,8 @@ pub lacks_before : {takes_memory : Bool} {old mid : Reading} → Stays old mid �
 lacks_before h (inl l) = inl (sym h.lends ∙ l)
 lacks_before h (inr m) = inr m
 
-pub step_refused : {E : Type 0} (takes_memory : Bool) {old stepped : Reading} (new : Reading) (spent : ℕ) (e : DecodeError E) → Steps old stepped → Refuses (HasItem (spent + 1) stepped) (WalkLacks takes_memory stepped) ⊥ (Stands (stepped.steps + (spent + 1))) stepped e new
-    → Refuses (HasItem spent old) (WalkLacks takes_memory old) ⊥ (Stands (old.steps + spent)) old e new
+pub step_refused : {E : Type 0} (takes_memory : Bool) {old stepped : Reading} (new : Reading) (spent : ℕ) (e : DecodeError E) → Steps old stepped → Refuses (HasItem (spent + 1) stepped) (WalkLacks takes_memory stepped) ⊥ (CauseInside (stepped.steps + (spent + 1))) stepped e new
+    → Refuses (HasItem spent old) (WalkLacks takes_memory old) ⊥ (CauseInside (old.steps + spent)) old e new
 step_refused {E} takes_memory {old} {stepped} new spent e s r = stepped_refused new spent e s lacks r
   where
     lacks : WalkLacks takes_memory stepped → WalkLacks takes_memory old
@@ -33,16 +33,16 @@ step_refused {E} takes_memory {old} {stepped} new spent e s r = stepped_refused 
     lacks (inr m) = inr m
 
 -- a call that may lack memory refuses what one refuses that lacks less
-pub more_lacks : {E : Type 0} {lacks : Type 0} (lacks' : Type 0) (spent : ℕ) (old new : Reading) (e : DecodeError E) → (lacks → lacks') → Refuses (HasItem spent old) lacks ⊥ (Stands (old.steps + spent)) old e new
-    → Refuses (HasItem spent old) lacks' ⊥ (Stands (old.steps + spent)) old e new
-more_lacks lacks' spent old new e w r = passed_on (Stands (old.steps + spent)) (Stands (old.steps + spent)) old old new e (stays old) (λ x. x) w (λ x. x) (λ b l. (b, l, λ h. h)) r
+pub more_lacks : {E : Type 0} {lacks : Type 0} (lacks' : Type 0) (spent : ℕ) (old new : Reading) (e : DecodeError E) → (lacks → lacks') → Refuses (HasItem spent old) lacks ⊥ (CauseInside (old.steps + spent)) old e new
+    → Refuses (HasItem spent old) lacks' ⊥ (CauseInside (old.steps + spent)) old e new
+more_lacks lacks' spent old new e w r = passed_on (CauseInside (old.steps + spent)) (CauseInside (old.steps + spent)) old old new e (stays old) (λ x. x) w (λ x. x) (λ b l. (b, l, λ h. h)) r
 
 -- ---- what a sink was handed
 
-entries_links-push : (es : Entries) (k : List ℕ) (t : Tree) → entries_links es ++ links_of t ≡ entries_links (entry_push es k t)
+entries_links_push : (es : Entries) (k : List ℕ) (t : Tree) → entries_links es ++ links_of t ≡ entries_links (entry_push es k t)
 unfolding entry_push
-entries_links-push no_entries k t = sym (append-nil (links_of t))
-entries_links-push (entry l u es) k t = append_assoc (links_of u) (entries_links es) (links_of t) ∙ ap (λ s. links_of u ++ s) (entries_links-push es k t)
+entries_links_push no_entries k t = sym (append-nil (links_of t))
+entries_links_push (entry l u es) k t = append_assoc (links_of u) (entries_links es) (links_of t) ∙ ap (λ s. links_of u ++ s) (entries_links_push es k t)
 
 module _ {S : Type 0} (holds : S → List (List ℕ) → Type 0) where
   pub found_none : (s : S) → Finds holds s [] s
@@ -55,14 +55,14 @@ module _ {S : Type 0} (holds : S → List (List ℕ) → Type 0) where
   found_both before mid after x y h k links l = subst (holds after) (append_assoc links x y) (k (links ++ x) (h links l))
 
   pub item_found : (ts : List Tree) (t : Tree) (before mid after : S) → Finds holds before (items_links (items_of ts)) mid → Finds holds mid (links_of t) after → Finds holds before (items_links (items_of (ts ++ t ∷ []))) after
-  item_found ts t before mid after h k = found_as before after _ _ (items_links-push ts t) (found_both before mid after (items_links (items_of ts)) (links_of t) h k)
+  item_found ts t before mid after h k = found_as before after _ _ (items_links_push ts t) (found_both before mid after (items_links (items_of ts)) (links_of t) h k)
     where
-      items_links-push : (ts : List Tree) (t : Tree) → items_links (items_of ts) ++ links_of t ≡ items_links (items_of (ts ++ t ∷ []))
-      items_links-push [] t = sym (append-nil (links_of t))
-      items_links-push (u ∷ ts) t = append_assoc (links_of u) (items_links (items_of ts)) (links_of t) ∙ ap (λ l. links_of u ++ l) (items_links-push ts t)
+      items_links_push : (ts : List Tree) (t : Tree) → items_links (items_of ts) ++ links_of t ≡ items_links (items_of (ts ++ t ∷ []))
+      items_links_push [] t = sym (append-nil (links_of t))
+      items_links_push (u ∷ ts) t = append_assoc (links_of u) (items_links (items_of ts)) (links_of t) ∙ ap (λ l. links_of u ++ l) (items_links_push ts t)
 
   pub entry_found : (es : Entries) (key : List ℕ) (t : Tree) (before mid after : S) → Finds holds before (entries_links es) mid → Finds holds mid (links_of t) after → Finds holds before (entries_links (entry_push es key t)) after
-  entry_found es key t before mid after h k = found_as before after _ _ (entries_links-push es key t) (found_both before mid after (entries_links es) (links_of t) h k)
+  entry_found es key t before mid after h k = found_as before after _ _ (entries_links_push es key t) (found_both before mid after (entries_links es) (links_of t) h k)
 
   -- ---- leaves
 
@@ -94,7 +94,7 @@ module _ {S : Type 0} (holds : S → List (List ℕ) → Type 0) where
   pub walked_from : {E : Type 0} (takes_memory : Bool) {old peeked : Reading} {first : ℕ} (before after : S) (r : Result (Unit {0}) (DecodeError E)) (new : Reading) → ShowsByte old first peeked → WalksItem holds takes_memory 1 peeked before r new after → WalksItem holds takes_memory 1 old before r new after
   walked_from {E} takes_memory {old} {peeked} before after (Ok u) new s h =
       (h.0, record { taken = λ b l. (let k = h.1.taken b (s.kept b l) in (k.0, k.1, omega (arith, k.2, s.same.steps), k.3)); same = stays_both s.same h.1.same }, h.2)
-  walked_from {E} takes_memory {old} {peeked} before after (Err e) new s h = passed_on (Stands (peeked.steps + 1)) (Stands (old.steps + 1)) old peeked new e s.same shown_item (lacks_before s.same) (λ x. x)
+  walked_from {E} takes_memory {old} {peeked} before after (Err e) new s h = passed_on (CauseInside (peeked.steps + 1)) (CauseInside (old.steps + 1)) old peeked new e s.same shown_item (lacks_before s.same) (λ x. x)
       (λ b l. (b, s.kept b l, λ x. at_steps {E = E} e b _ _ (omega (arith, s.same.steps)) x)) h
     where
       shown_item : HasItem 1 old → HasItem 1 peeked

@@ -12,7 +12,7 @@ use Rattle.ipld_tree.specs.Spelling.{entry_count, IsFront, AreEntryFronts}
 use Rattle.ipld_tree.specs.Ipld.{pairs_of}
 use Rattle.ipld_tree.specs.declared.ipld.Ipld.{Ipld}
 use Rattle.dagcbor_items.specs.Places.{Follows}
-use Rattle.dagcbor_items.specs.ItemCauses.{KeyStands, StandsInEntries}
+use Rattle.dagcbor_items.specs.ItemCauses.{KeyCause, CauseInEntries}
 use Rattle.dagcbor_items.specs.Untyped.{TakesItem}
 
 -- a key stands at the front that follows the one before it
@@ -26,9 +26,9 @@ pub record HasKey (previous : Option (List ℕ)) (r : Reading) : Type 0 where
 
 -- A key is read exactly where one stands that follows the one before it, with no want of memory where the input lends.
 abbrev pub ReadsKeyAs : {K E : Type 0} → (K → List ℕ) → Option (List ℕ) → Reading → Result K (DecodeError E) → Reading → Type 0
-ReadsKeyAs held previous old result new = MatchResult result
-    (λ k. Follows previous (held k) × TakesItem 1 old (text (held k)) new)
-    (λ e. Refuses (HasKey previous old) (old.lends ≡ false) ⊥ (KeyStands previous) old e new)
+ReadsKeyAs meaning previous old result new = MatchResult result
+    (λ k. Follows previous (meaning k) × TakesItem 1 old (text (meaning k)) new)
+    (λ e. Refuses (HasKey previous old) (old.lends ≡ false) ⊥ (KeyCause previous) old e new)
 
 abbrev pub ReadsKey : {E : Type 0} → Option (List ℕ) → Reading → Result (CowStr Global) (DecodeError E) → Reading → Type 0
 ReadsKey = ReadsKeyAs cow_str_bytes
@@ -57,4 +57,4 @@ pub record TakesEntries (old : Reading) (es : Entries) (new : Reading) : Type 0 
 abbrev pub ReadsEntries : {E : Type 0} → ℕ → Reading → Result (BTreeMap (String Global) Ipld) (DecodeError E) → Reading → Type 0
 ReadsEntries count old result new = MatchResult result
     (λ m. (entry_count (ordered (pairs_of m.entries)) ≡ count) × TakesEntries old (ordered (pairs_of m.entries)) new)
-    (λ e. Refuses (HasEntries count old) ⊤ ⊥ (StandsInEntries count old.steps) old e new)
+    (λ e. Refuses (HasEntries count old) ⊤ ⊥ (CauseInEntries count old.steps) old e new)

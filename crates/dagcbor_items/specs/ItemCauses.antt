@@ -10,17 +10,17 @@ use Rattle.ipld_tree.specs.Tree.{text, Items, Entries}
 use Rattle.ipld_tree.specs.Spelling.{item_count, entry_count, IsFront, AreFronts, AreEntryFronts}
 use Rattle.dagcbor_items.specs.FirstBytes.{BeginsWith}
 use Rattle.dagcbor_items.specs.Places.{Follows, last_key, NextKey, IsInside}
-use Rattle.dagcbor_items.specs.LeafCauses.{TextStands}
-use Rattle.dagcbor_items.specs.LinkCauses.{LinkStands}
+use Rattle.dagcbor_items.specs.LeafCauses.{TextCause}
+use Rattle.dagcbor_items.specs.LinkCauses.{LinkCause}
 
 -- where a key is to stand no whole text stands, or one that does not follow the key before it
-abbrev pub KeyStands : {E : Type 0} → Option (List ℕ) → DecodeError E → List ℕ → Type 0
-KeyStands previous e b = TextStands (codes "map key") e b
+abbrev pub KeyCause : {E : Type 0} → Option (List ℕ) → DecodeError E → List ℕ → Type 0
+KeyCause previous e b = TextCause (codes "map key") e b
     ⊎ ((e ≡ UnorderedKey) × ((before key rest : List ℕ) × (previous ≡ Some before) × IsFront b (text key) rest × (comes_before before key ≡ false)))
 
 -- a map begins there, and the cause stands where its next key is to stand
-abbrev pub StandsAtKey : {E : Type 0} → DecodeError E → List ℕ → Type 0
-StandsAtKey e b = (before : Option (List ℕ)) × (c : List ℕ) × NextKey b before c × KeyStands before e c
+abbrev pub CauseAtKey : {E : Type 0} → DecodeError E → List ℕ → Type 0
+CauseAtKey e b = (before : Option (List ℕ)) × (c : List ℕ) × NextKey b before c × KeyCause before e c
 
 -- why an item of any kind that would begin there is refused, where its head is not: a payload that is cut, a simple value that is
 -- no false, true or null, a text that is not UTF-8, or an indefinite length
@@ -38,21 +38,21 @@ IsTooDeep left _ b = ⊥
 
 -- the cause stands where an item is to stand for which so many steps are left: the steps', its head's, its own, a link's, or that of a
 -- key of the map that begins there
-abbrev pub StandsAt : {E : Type 0} → ℕ → DecodeError E → List ℕ → Type 0
-StandsAt left e b = IsTooDeep left e b
-    ⊎ ((0 < left) × (HeadCause e b ⊎ ItemCause e b ⊎ (BeginsWith 6 b × LinkStands e b)))
-    ⊎ ((1 < left) × StandsAtKey e b)
+abbrev pub CauseAt : {E : Type 0} → ℕ → DecodeError E → List ℕ → Type 0
+CauseAt left e b = IsTooDeep left e b
+    ⊎ ((0 < left) × (HeadCause e b ⊎ ItemCause e b ⊎ (BeginsWith 6 b × LinkCause e b)))
+    ⊎ ((1 < left) × CauseAtKey e b)
 
 -- the cause stands at a place in the item that begins here, for which so many steps are left: each list and each map that is open
 -- there has taken two of them
-abbrev pub Stands : {E : Type 0} → ℕ → DecodeError E → List ℕ → Type 0
-Stands steps e b = (depth left : ℕ) × (c : List ℕ) × (steps ≡ 2 * depth + left) × IsInside depth b c × StandsAt left e c
+abbrev pub CauseInside : {E : Type 0} → ℕ → DecodeError E → List ℕ → Type 0
+CauseInside steps e b = (depth left : ℕ) × (c : List ℕ) × (steps ≡ 2 * depth + left) × IsInside depth b c × CauseAt left e c
 
 -- the cause stands in one of so many items that begin here, behind whole ones
-abbrev pub StandsInItems : {E : Type 0} → ℕ → ℕ → DecodeError E → List ℕ → Type 0
-StandsInItems count steps e b = (ts : Items) × (c : List ℕ) × AreFronts b ts c × (item_count ts < count) × Stands steps e c
+abbrev pub CauseInItems : {E : Type 0} → ℕ → ℕ → DecodeError E → List ℕ → Type 0
+CauseInItems count steps e b = (ts : Items) × (c : List ℕ) × AreFronts b ts c × (item_count ts < count) × CauseInside steps e c
 
 -- the cause stands at a key, or in a value, of so many entries that begin here, behind whole ones
-abbrev pub StandsInEntries : {E : Type 0} → ℕ → ℕ → DecodeError E → List ℕ → Type 0
-StandsInEntries count steps e b = (es : Entries) × (c : List ℕ) × AreEntryFronts b es c × (entry_count es < count)
-    × (KeyStands (last_key es) e c ⊎ ((key d : List ℕ) × IsFront c (text key) d × Follows (last_key es) key × Stands steps e d))
+abbrev pub CauseInEntries : {E : Type 0} → ℕ → ℕ → DecodeError E → List ℕ → Type 0
+CauseInEntries count steps e b = (es : Entries) × (c : List ℕ) × AreEntryFronts b es c × (entry_count es < count)
+    × (KeyCause (last_key es) e c ⊎ ((key d : List ℕ) × IsFront c (text key) d × Follows (last_key es) key × CauseInside steps e d))

@@ -8,7 +8,7 @@ use Rattle.ipld_tree.specs.Tree.{Tree, Items, items_of, items_need}
 use Rattle.ipld_tree.specs.Spelling.{item_count, AreFronts}
 use Rattle.ipld_tree.specs.Ipld.{trees_of}
 use Rattle.ipld_tree.specs.declared.ipld.Ipld.{Ipld}
-use Rattle.dagcbor_items.specs.ItemCauses.{StandsInItems}
+use Rattle.dagcbor_items.specs.ItemCauses.{CauseInItems}
 
 -- so many items stand at the front within the steps left
 pub record HasItems (count : ℕ) (r : Reading) : Type 0 where
@@ -29,4 +29,4 @@ pub record TakesItems (old : Reading) (ts : List Tree) (new : Reading) : Type 0 
 abbrev pub ReadsItems : {E : Type 0} → ℕ → Reading → Result (Vec Ipld Global) (DecodeError E) → Reading → Type 0
 ReadsItems count old result new = MatchResult result
     (λ v. (length v.items ≡ count) × TakesItems old (trees_of v.items) new)
-    (λ e. Refuses (HasItems count old) ⊤ ⊥ (StandsInItems count old.steps) old e new)
+    (λ e. Refuses (HasItems count old) ⊤ ⊥ (CauseInItems count old.steps) old e new)

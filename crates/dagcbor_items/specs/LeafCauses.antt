@@ -19,8 +19,8 @@ IsOtherKind name low high (Mismatch kept found) b = Names kept name
 IsOtherKind name low high _ b = ⊥
 
 -- where a head of a major type from low to high is to stand, a byte of such a type begins none, or no byte or one of another major type stands there
-abbrev pub KindStands : {E : Type 0} → List ℕ → (low high : ℕ) → DecodeError E → List ℕ → Type 0
-KindStands name low high e b = (HeadCause e b × IsNamed name e × BeginsFrom low high b) ⊎ IsOtherKind name low high e b
+abbrev pub MajorCause : {E : Type 0} → List ℕ → (low high : ℕ) → DecodeError E → List ℕ → Type 0
+MajorCause name low high e b = (HeadCause e b × IsNamed name e × BeginsFrom low high b) ⊎ IsOtherKind name low high e b
 
 -- a number that the type does not accept
 abbrev pub IsOutside : {V E : Type 0} → List ℕ → (ℤ → Option V) → DecodeError E → List ℕ → Type 0
@@ -29,8 +29,8 @@ IsOutside name accepted (CastOverflow kept) b = Names kept name
 IsOutside name accepted _ b = ⊥
 
 -- no number stands there that the type accepts
-abbrev pub NumberStands : {V E : Type 0} → List ℕ → (ℤ → Option V) → DecodeError E → List ℕ → Type 0
-NumberStands name accepted e b = KindStands name 0 1 e b ⊎ IsOutside name accepted e b
+abbrev pub NumberCause : {V E : Type 0} → List ℕ → (ℤ → Option V) → DecodeError E → List ℕ → Type 0
+NumberCause name accepted e b = MajorCause name 0 1 e b ⊎ IsOutside name accepted e b
 
 -- a tag of a number that may be too long for a head
 abbrev pub IsLong : {E : Type 0} → List ℕ → DecodeError E → List ℕ → Type 0
@@ -43,12 +43,12 @@ abbrev pub BeginsNoLong : List ℕ → Type 0
 BeginsNoLong b = (found : ℕ) (more : List ℕ) → b ≡ found ∷ more → (found ≡ 0xc2) ⊎ (found ≡ 0xc3) → ⊥
 
 -- where a number of any size is to stand, no head of one stands, and no such tag; or such a tag does
-abbrev pub LongStands : {E : Type 0} → List ℕ → DecodeError E → List ℕ → Type 0
-LongStands name e b = (KindStands name 0 1 e b × BeginsNoLong b) ⊎ IsLong name e b
+abbrev pub LongCause : {E : Type 0} → List ℕ → DecodeError E → List ℕ → Type 0
+LongCause name e b = (MajorCause name 0 1 e b × BeginsNoLong b) ⊎ IsLong name e b
 
 -- no number of any size stands there that the type accepts
-abbrev pub LongNumberStands : {V E : Type 0} → List ℕ → (ℤ → Option V) → DecodeError E → List ℕ → Type 0
-LongNumberStands name accepted e b = LongStands name e b ⊎ IsOutside name accepted e b
+abbrev pub LongNumberCause : {V E : Type 0} → List ℕ → (ℤ → Option V) → DecodeError E → List ℕ → Type 0
+LongNumberCause name accepted e b = LongCause name e b ⊎ IsOutside name accepted e b
 
 -- a string of the major type whose payload is cut
 abbrev pub IsCut : {E : Type 0} → List ℕ → (kind : ℕ) → DecodeError E → List ℕ → Type 0
@@ -57,8 +57,8 @@ IsCut name kind (Eof kept expect) b = Names kept name
 IsCut name kind _ b = ⊥
 
 -- no whole string of the major type stands there
-abbrev pub StringStands : {E : Type 0} → List ℕ → (kind : ℕ) → DecodeError E → List ℕ → Type 0
-StringStands name kind e b = KindStands name kind kind e b ⊎ IsCut name kind e b
+abbrev pub StringCause : {E : Type 0} → List ℕ → (kind : ℕ) → DecodeError E → List ℕ → Type 0
+StringCause name kind e b = MajorCause name kind kind e b ⊎ IsCut name kind e b
 
 -- a whole text that is not UTF-8
 abbrev pub IsGarbled : {E : Type 0} → List ℕ → DecodeError E → List ℕ → Type 0
@@ -67,8 +67,8 @@ IsGarbled name (RequireUtf8 kept) b = Names kept name
 IsGarbled name _ b = ⊥
 
 -- no whole text stands there
-abbrev pub TextStands : {E : Type 0} → List ℕ → DecodeError E → List ℕ → Type 0
-TextStands name e b = StringStands name 3 e b ⊎ IsGarbled name e b
+abbrev pub TextCause : {E : Type 0} → List ℕ → DecodeError E → List ℕ → Type 0
+TextCause name e b = StringCause name 3 e b ⊎ IsGarbled name e b
 
 -- a text that has not exactly one character
 abbrev pub IsNoChar : {E : Type 0} → DecodeError E → List ℕ → Type 0
@@ -77,12 +77,12 @@ IsNoChar (Msg message) b = Names message (codes "Char must be one character")
 IsNoChar _ b = ⊥
 
 -- no text of one character stands there
-abbrev pub CharStands : {E : Type 0} → DecodeError E → List ℕ → Type 0
-CharStands e b = TextStands (codes "string") e b ⊎ IsNoChar e b
+abbrev pub CharCause : {E : Type 0} → DecodeError E → List ℕ → Type 0
+CharCause e b = TextCause (codes "string") e b ⊎ IsNoChar e b
 
 -- no byte, or one that is neither false nor true
-abbrev pub BoolStands : {E : Type 0} → DecodeError E → List ℕ → Type 0
-BoolStands (Eof name expect) b = (expect ≡ Small 1) × (b ≡ [])
-BoolStands (Mismatch name found) b = Names name (codes "bool")
+abbrev pub BoolCause : {E : Type 0} → DecodeError E → List ℕ → Type 0
+BoolCause (Eof name expect) b = (expect ≡ Small 1) × (b ≡ [])
+BoolCause (Mismatch name found) b = Names name (codes "bool")
     × ((more : List ℕ) × (b ≡ found ∷ more) × (found ≡ 0xf4 → ⊥) × (found ≡ 0xf5 → ⊥))
-BoolStands _ b = ⊥
+BoolCause _ b = ⊥

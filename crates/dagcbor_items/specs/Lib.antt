@@ -20,6 +20,6 @@ pub mod Walks
 pub mod Reads
 pub mod Shapes
 pub mod LeafCauses
-pub mod Kinds
+pub mod Majors
 pub mod Variants
 pub mod LeafReads

@@ -25,11 +25,11 @@ CidCause (Msg message) b = Names message (codes "Invalid CID") × ((n : ℕ) × 
 CidCause _ b = ⊥
 
 -- the cause stands where a byte string of a zero and a CID is to stand: its head's, where a byte of its major type stands, or its own
-abbrev pub CidStands : {E : Type 0} → DecodeError E → List ℕ → Type 0
-CidStands e b = (HeadCause e b × BeginsAs 2 b) ⊎ CidCause e b
+abbrev pub LinkBytesCause : {E : Type 0} → DecodeError E → List ℕ → Type 0
+LinkBytesCause e b = (HeadCause e b × BeginsAs 2 b) ⊎ CidCause e b
 
 -- the cause stands where a link is to stand
-abbrev pub LinkStands : {E : Type 0} → DecodeError E → List ℕ → Type 0
-LinkStands e b = IsOtherByte (codes "CBOR tag head") 0xd8 e b
+abbrev pub LinkCause : {E : Type 0} → DecodeError E → List ℕ → Type 0
+LinkCause e b = IsOtherByte (codes "CBOR tag head") 0xd8 e b
     ⊎ ((c : List ℕ) × (b ≡ 0xd8 ∷ c) × IsOtherByte (codes "CBOR tag") 0x2a e c)
-    ⊎ ((c : List ℕ) × (b ≡ 0xd8 ∷ 0x2a ∷ c) × CidStands e c)
+    ⊎ ((c : List ℕ) × (b ≡ 0xd8 ∷ 0x2a ∷ c) × LinkBytesCause e c)

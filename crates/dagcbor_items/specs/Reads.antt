@@ -27,8 +27,8 @@ pub record TakesFront {V : Type 0} (shape : Shape Tree V) (old : Reading) (v : V
 -- A value is read exactly where a tree stands that the type accepts within the steps. A refusal may be for want of memory
 -- where `lacks`, for want of a loan where `borrows`, and else its cause stands.
 abbrev pub Reads : {T V E : Type 0} → (T → V) → Shape Tree V → Type 0 → Type 0 → (DecodeError E → List ℕ → Type 0) → Reading → Result T (DecodeError E) → Reading → Type 0
-Reads held shape lacks borrows stands old result new = MatchResult result
-    (λ v. TakesFront shape old (held v) new)
+Reads meaning shape lacks borrows stands old result new = MatchResult result
+    (λ v. TakesFront shape old (meaning v) new)
     (λ e. Refuses (HasFront shape old) lacks borrows stands old e new)
 
 -- where a call that spends a step at once is refused for the depth, no step was left

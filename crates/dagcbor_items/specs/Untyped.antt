@@ -7,7 +7,7 @@ use Rattle.ipld_tree.specs.Tree.{Tree, list, mapping, IsTree, any_need}
 use Rattle.ipld_tree.specs.Spelling.{IsSpellable, spelling, IsFront}
 use Rattle.ipld_tree.specs.Ipld.{tree_of}
 use Rattle.ipld_tree.specs.declared.ipld.Ipld.{Ipld}
-use Rattle.dagcbor_items.specs.ItemCauses.{Stands}
+use Rattle.dagcbor_items.specs.ItemCauses.{CauseInside}
 
 -- the first byte of those left, where they are known, has the major type
 abbrev pub StartsWithMajor : Reading → ℕ → Type 0
@@ -31,19 +31,19 @@ pub record TakesItem (spent : ℕ) (old : Reading) (t : Tree) (new : Reading) : 
 abbrev pub ReadsItem : {E : Type 0} → ℕ → Reading → Result Ipld (DecodeError E) → Reading → Type 0
 ReadsItem spent old result new = MatchResult result
     (λ v. TakesItem spent old (tree_of v) new)
-    (λ e. Refuses (HasItem spent old) ⊤ ⊥ (Stands (old.steps + spent)) old e new)
+    (λ e. Refuses (HasItem spent old) ⊤ ⊥ (CauseInside (old.steps + spent)) old e new)
 
 -- A leaf that takes no memory is read exactly where one stands: a number, a link or a simple value.
 abbrev pub ReadsLeaf : {E : Type 0} → Reading → Result Ipld (DecodeError E) → Reading → Type 0
 ReadsLeaf old result new = MatchResult result
     (λ v. TakesItem 1 old (tree_of v) new)
-    (λ e. Refuses (HasItem 1 old) ⊥ ⊥ (Stands (old.steps + 1)) old e new)
+    (λ e. Refuses (HasItem 1 old) ⊥ ⊥ (CauseInside (old.steps + 1)) old e new)
 
 -- An item of unknown kind is skipped exactly where one is read, with no want of memory where the input lends.
 abbrev pub SkipsItem : {E : Type 0} → ℕ → Reading → Result (Unit {0}) (DecodeError E) → Reading → Type 0
 SkipsItem spent old result new = MatchResult result
     (λ _. (t : Tree) × TakesItem spent old t new)
-    (λ e. Refuses (HasItem spent old) (old.lends ≡ false) ⊥ (Stands (old.steps + spent)) old e new)
+    (λ e. Refuses (HasItem spent old) (old.lends ≡ false) ⊥ (CauseInside (old.steps + spent)) old e new)
 
 -- neither a list nor a map
 abbrev pub IsLeaf : Tree → Type 0

@@ -11,21 +11,21 @@ OfByte (Mismatch name found) = ⊤
 OfByte e = IsCauseless e
 
 -- of a head of some major types, and of a byte string
-abbrev pub OfKind : {E : Type 0} → DecodeError E → Type 0
-OfKind (Unsupported name found) = ⊤
-OfKind IndefiniteSize = ⊤
-OfKind (NonMinimal name found) = ⊤
-OfKind e = OfByte e
+abbrev pub OfHead : {E : Type 0} → DecodeError E → Type 0
+OfHead (Unsupported name found) = ⊤
+OfHead IndefiniteSize = ⊤
+OfHead (NonMinimal name found) = ⊤
+OfHead e = OfByte e
 
 -- of a number of some size
 abbrev pub OfNumber : {E : Type 0} → DecodeError E → Type 0
 OfNumber (CastOverflow name) = ⊤
-OfNumber e = OfKind e
+OfNumber e = OfHead e
 
 -- of a text
 abbrev pub OfText : {E : Type 0} → DecodeError E → Type 0
 OfText (RequireUtf8 name) = ⊤
-OfText e = OfKind e
+OfText e = OfHead e
 
 -- of a character
 abbrev pub OfChar : {E : Type 0} → DecodeError E → Type 0
@@ -40,7 +40,7 @@ OfKey e = OfText e
 -- of a link
 abbrev pub OfLink : {E : Type 0} → DecodeError E → Type 0
 OfLink (Msg message) = ⊤
-OfLink e = OfKind e
+OfLink e = OfHead e
 
 -- of an item of any kind
 abbrev pub OfItem : {E : Type 0} → DecodeError E → Type 0

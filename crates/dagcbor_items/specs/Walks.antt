@@ -8,7 +8,7 @@ use Rattle.dagcbor_heads.specs.declared.error.DecodeError.{DecodeError}
 use Rattle.ipld_tree.specs.Cid.{CidParts, cid_bytes}
 use Rattle.ipld_tree.specs.Tree.{Tree, items_of, Entries, links_of, items_links, entries_links, any_need}
 use Rattle.ipld_tree.specs.Spelling.{entry_count}
-use Rattle.dagcbor_items.specs.ItemCauses.{Stands, StandsInItems, StandsInEntries}
+use Rattle.dagcbor_items.specs.ItemCauses.{CauseInside, CauseInItems, CauseInEntries}
 use Rattle.dagcbor_items.specs.Untyped.{HasItem, TakesItem}
 use Rattle.dagcbor_items.specs.Items.{HasItems, TakesItems}
 use Rattle.dagcbor_items.specs.Entries.{HasEntries, TakesEntries}
@@ -31,19 +31,19 @@ WalkLacks takes_memory old = (old.lends ≡ false) ⊎ (takes_memory ≡ true)
 abbrev pub WalksItem : {E S : Type 0} → (S → List (List ℕ) → Type 0) → Bool → ℕ → Reading → S → Result (Unit {0}) (DecodeError E) → Reading → S → Type 0
 WalksItem holds takes_memory spent old before result new after = MatchResult result
     (λ _. (t : Tree) × TakesItem spent old t new × Finds holds before (links_of t) after)
-    (λ e. Refuses (HasItem spent old) (WalkLacks takes_memory old) ⊥ (Stands (old.steps + spent)) old e new)
+    (λ e. Refuses (HasItem spent old) (WalkLacks takes_memory old) ⊥ (CauseInside (old.steps + spent)) old e new)
 
 -- Items are gone through exactly where so many stand within the steps.
 abbrev pub WalksItems : {E S : Type 0} → (S → List (List ℕ) → Type 0) → Bool → ℕ → Reading → S → Result (Unit {0}) (DecodeError E) → Reading → S → Type 0
 WalksItems holds takes_memory count old before result new after = MatchResult result
     (λ _. (ts : List Tree) × (length ts ≡ count) × TakesItems old ts new × Finds holds before (items_links (items_of ts)) after)
-    (λ e. Refuses (HasItems count old) (WalkLacks takes_memory old) ⊥ (StandsInItems count old.steps) old e new)
+    (λ e. Refuses (HasItems count old) (WalkLacks takes_memory old) ⊥ (CauseInItems count old.steps) old e new)
 
 -- Entries are gone through exactly where so many stand within the steps, in the order of their keys.
 abbrev pub WalksEntries : {E S : Type 0} → (S → List (List ℕ) → Type 0) → Bool → ℕ → Reading → S → Result (Unit {0}) (DecodeError E) → Reading → S → Type 0
 WalksEntries holds takes_memory count old before result new after = MatchResult result
     (λ _. (es : Entries) × (entry_count es ≡ count) × TakesEntries old es new × Finds holds before (entries_links es) after)
-    (λ e. Refuses (HasEntries count old) (WalkLacks takes_memory old) ⊥ (StandsInEntries count old.steps) old e new)
+    (λ e. Refuses (HasEntries count old) (WalkLacks takes_memory old) ⊥ (CauseInEntries count old.steps) old e new)
 
 -- Any tree shows its links, left to right, repeats kept.
 abbrev pub all_links : Shape Tree (List (List ℕ))
@@ -53,4 +53,4 @@ all_links = record { view = λ t. Some (links_of t); need = any_need; borrows = 
 abbrev pub GathersLinks : {E : Type 0} → ℕ → Reading → Result (Vec CidParts Global) (DecodeError E) → Reading → Type 0
 GathersLinks spent old result new = MatchResult result
     (λ v. (t : Tree) × TakesItem spent old t new × (forms v.items ≡ links_of t))
-    (λ e. Refuses (HasItem spent old) ⊤ ⊥ (Stands (old.steps + spent)) old e new)
+    (λ e. Refuses (HasItem spent old) ⊤ ⊥ (CauseInside (old.steps + spent)) old e new)

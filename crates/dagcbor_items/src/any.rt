@@ -51,11 +51,11 @@ fn read_item<R: Read>(
     if is_indefinite(first) {
         return Err(DecodeError::IndefiniteSize);
     }
-    read_kind(alloc, input, first)
+    read_of_major(alloc, input, first)
 }
 
 #[cycle(any)]
-fn read_kind<R: Read>(
+fn read_of_major<R: Read>(
     alloc: Global,
     input: &mut Input<'_, R>,
     first: u8,

@@ -3,7 +3,7 @@
 
 mod any;
 mod key;
-mod kinds;
+mod majors;
 mod leaf;
 mod link;
 mod numbers;

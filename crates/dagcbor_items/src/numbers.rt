@@ -3,11 +3,11 @@
 ghost use Rattle.std.specs.Prelude.{◌≡◌, ◌+◌, ◌≤◌, ◌^◌, Some, IfOk, pos, negsuc, ◌≤ℤ◌, IfErr};
 ghost use Rattle.dagcbor_items.specs.Reads.{Reads};
 ghost use Rattle.dagcbor_items.specs.Shapes.{number_of, natural_below, within, view_number, leaf};
-ghost use Rattle.dagcbor_items.specs.LeafCauses.{KindStands, LongStands};
+ghost use Rattle.dagcbor_items.specs.LeafCauses.{MajorCause, LongCause};
 ghost use Rattle.dagcbor_items.specs.LeafReads.{ReadsUnsigned, ReadsSigned, ReadsU128, ReadsI128};
-ghost use Rattle.dagcbor_items.specs.Variants.{OfKind, OfNumber};
+ghost use Rattle.dagcbor_items.specs.Variants.{OfHead, OfNumber};
 
-use crate::kinds::pull_kind;
+use crate::majors::pull_major;
 use dagcbor_heads::{DecodeError, Name, Read, peek_one};
 
 /// The number of a head of major type 0 or 1.
@@ -23,10 +23,10 @@ fn number_of(major: u8, argument: u64) -> i128
 
 /// A number of any size.
 fn pull_number<R: Read>(name: &str, reader: &mut R) -> Result<i128, DecodeError<R::Error>>
-    ensures number { Reads (λ n. n) (leaf (view_number Some)) ⊥ ⊥ (KindStands name.now 0 1) (R.reading reader.old) result (R.reading reader.new) }
-    ensures variant { IfErr result OfKind }
+    ensures number { Reads (λ n. n) (leaf (view_number Some)) ⊥ ⊥ (MajorCause name.now 0 1) (R.reading reader.old) result (R.reading reader.new) }
+    ensures variant { IfErr result OfHead }
 {
-    let (major, argument) = pull_kind(name, reader, 0, 1)?;
+    let (major, argument) = pull_major(name, reader, 0, 1)?;
     Ok(number_of(major, argument))
 }
 
@@ -94,8 +94,8 @@ pub fn pull_signed<R: Read>(
 /// A number of any size, which no tag announces.
 #[tactic(auto, using(crate::proofs::Variants::end_kind))]
 fn pull_long<R: Read>(name: &str, reader: &mut R) -> Result<i128, DecodeError<R::Error>>
-    ensures number { Reads (λ n. n) (leaf (view_number Some)) ⊥ ⊥ (LongStands name.now) (R.reading reader.old) result (R.reading reader.new) }
-    ensures variant { IfErr result OfKind }
+    ensures number { Reads (λ n. n) (leaf (view_number Some)) ⊥ ⊥ (LongCause name.now) (R.reading reader.old) result (R.reading reader.new) }
+    ensures variant { IfErr result OfHead }
 {
     let first = peek_one(name, reader)?;
     if first == 0xc2 || first == 0xc3 {
@@ -130,7 +130,7 @@ pub fn pull_u128<R: Read>(reader: &mut R) -> Result<u128, DecodeError<R::Error>>
 
 pub fn pull_i128<R: Read>(reader: &mut R) -> Result<i128, DecodeError<R::Error>>
     ensures number { ReadsI128 (R.reading reader.old) result (R.reading reader.new) }
-    ensures variant { IfErr result OfKind }
+    ensures variant { IfErr result OfHead }
 {
     let number = pull_long("i128", reader)?;
     Ok(number)

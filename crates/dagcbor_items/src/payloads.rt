@@ -3,15 +3,15 @@
 ghost use Rattle.std.specs.Prelude.{◌≡◌, ◌<◌, ◌↔◌, ℕ, List, true, false, IsTrue, option_map, IfErr};
 ghost use Rattle.std.specs.Cow.{cow_str_bytes};
 ghost use Rattle.dagcbor_heads.specs.Looking.{Looks, LooksBehind};
-ghost use Rattle.dagcbor_items.specs.Kinds.{ReadsString};
+ghost use Rattle.dagcbor_items.specs.Majors.{ReadsString};
 ghost use Rattle.dagcbor_items.specs.Places.{Follows};
 ghost use Rattle.dagcbor_items.specs.Entries.{ReadsKeyAs};
 ghost use Rattle.dagcbor_items.specs.LeafReads.{ReadsTextAs};
-ghost use Rattle.dagcbor_items.specs.Variants.{OfKey, OfKind, OfText};
+ghost use Rattle.dagcbor_items.specs.Variants.{OfKey, OfHead, OfText};
 ghost use Rattle.dagcbor_items.specs.Untyped.{SkipsItem, StartsWithMajor};
 
 use crate::key::{comes_before, read_key};
-use crate::kinds::peek_kind;
+use crate::majors::peek_major;
 use crate::strings::{pull_peeked_slice, pull_peeked_str};
 use dagcbor_heads::{DecodeError, Input, Len, Name, Read, SliceReader, pull_head};
 use std::alloc::Global;
@@ -43,7 +43,7 @@ pub trait PayloadReader: Read {
         requires { StartsWithMajor (Self.reading self.old) 2 }
         ensures item { SkipsItem 1 (Self.reading self.old) result (Self.reading self.new) }
         ensures looked { LooksBehind 3 1 (Self.reading self.old) result (Self.reading self.new) }
-        ensures variant { IfErr result OfKind };
+        ensures variant { IfErr result OfHead };
 
     fn skip_text(&mut self, alloc: Self::Alloc) -> Result<(), DecodeError<Self::Error>>
         requires { StartsWithMajor (Self.reading self.old) 3 }
@@ -90,7 +90,7 @@ fn pull_peeked_lent_string<'de>(
     requires starts { StartsWithMajor reader.old kind }
     ensures string { ReadsString (λ s. s.now) name.now kind reader.old result reader.new }
     ensures looked { Looks 2 reader.old result reader.new }
-    ensures variant { IfErr result OfKind }
+    ensures variant { IfErr result OfHead }
 {
     let (_, count, _) = pull_head(name, reader)?;
     match reader.lend(count) {
@@ -131,7 +131,7 @@ fn pull_lent_text<'de>(
     ensures looked { Looks 3 reader.old result reader.new }
     ensures variant { IfErr result OfText }
 {
-    peek_kind(name, reader, 3, 3)?;
+    peek_major(name, reader, 3, 3)?;
     pull_peeked_lent_text(name, reader)
 }
 

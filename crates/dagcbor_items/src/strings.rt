@@ -5,13 +5,13 @@ ghost use Rattle.std.specs.Str.{chars};
 ghost use Rattle.std.specs.Cow.{cow_slice_items, cow_str_bytes, IsBorrowedSlice, IsBorrowedStr};
 ghost use Rattle.dagcbor_heads.specs.Inputs.{input_reading, OverInput};
 ghost use Rattle.dagcbor_heads.specs.Looking.{Looks};
-ghost use Rattle.dagcbor_items.specs.Kinds.{ReadsString};
+ghost use Rattle.dagcbor_items.specs.Majors.{ReadsString};
 ghost use Rattle.dagcbor_items.specs.Untyped.{StartsWithMajor};
 ghost use Rattle.dagcbor_items.specs.Shapes.{only};
 ghost use Rattle.dagcbor_items.specs.LeafReads.{ReadsStr, ReadsOwnedText, ReadsChar, ReadsByteSlice, ReadsOwnedBytes};
-ghost use Rattle.dagcbor_items.specs.Variants.{OfChar, OfKind, OfText};
+ghost use Rattle.dagcbor_items.specs.Variants.{OfChar, OfHead, OfText};
 
-use crate::kinds::peek_kind;
+use crate::majors::peek_major;
 use dagcbor_heads::{DecodeError, Input, Name, Read, pull_head, pull_payload};
 use std::alloc::Global;
 use std::borrow::{CowSlice, CowStr};
@@ -30,7 +30,7 @@ fn pull_peeked_string<'de, R: Read>(
     ensures string { OverInput R.reading (ReadsString cow_slice_items name.now kind) input.old result input.new }
     ensures lent { IfOk result (λ c. IsBorrowedSlice c ↔ ((input_reading R.reading input.old).lends ≡ true)) }
     ensures looked { OverInput R.reading (Looks 2) input.old result input.new }
-    ensures variant { IfErr result OfKind }
+    ensures variant { IfErr result OfHead }
 {
     let (_, count, _) = pull_head(name, input)?;
     pull_payload(alloc, name, input, count)
@@ -63,7 +63,7 @@ pub(crate) fn pull_peeked_slice<'de, R: Read>(
     ensures bytes { OverInput R.reading ReadsByteSlice input.old result input.new }
     ensures lent { IfOk result (λ c. IsBorrowedSlice c ↔ ((input_reading R.reading input.old).lends ≡ true)) }
     ensures looked { OverInput R.reading (Looks 2) input.old result input.new }
-    ensures variant { IfErr result OfKind }
+    ensures variant { IfErr result OfHead }
 {
     pull_peeked_string(alloc, "bytes", input, 2)
 }
@@ -77,9 +77,9 @@ pub fn pull_slice<'de, R: Read>(
     ensures bytes { OverInput R.reading ReadsByteSlice input.old result input.new }
     ensures lent { IfOk result (λ c. IsBorrowedSlice c ↔ ((input_reading R.reading input.old).lends ≡ true)) }
     ensures looked { OverInput R.reading (Looks 3) input.old result input.new }
-    ensures variant { IfErr result OfKind }
+    ensures variant { IfErr result OfHead }
 {
-    peek_kind("bytes", input, 2, 2)?;
+    peek_major("bytes", input, 2, 2)?;
     pull_peeked_slice(alloc, input)
 }
 
@@ -116,7 +116,7 @@ pub fn pull_str<'de, R: Read>(
     ensures looked { OverInput R.reading (Looks 3) input.old result input.new }
     ensures variant { IfErr result OfText }
 {
-    peek_kind(name, input, 3, 3)?;
+    peek_major(name, input, 3, 3)?;
     pull_peeked_str(alloc, name, input)
 }
 
@@ -145,7 +145,7 @@ pub fn pull_owned_text<R: Read>(
     ensures looked { OverInput R.reading (Looks 3) input.old result input.new }
     ensures variant { IfErr result OfText }
 {
-    peek_kind("string", input, 3, 3)?;
+    peek_major("string", input, 3, 3)?;
     pull_peeked_owned_text(alloc, input)
 }
 
@@ -157,7 +157,7 @@ pub(crate) fn pull_peeked_owned_bytes<R: Read>(
     requires { StartsWithMajor (input_reading R.reading input.old) 2 }
     ensures bytes { OverInput R.reading ReadsOwnedBytes input.old result input.new }
     ensures looked { OverInput R.reading (Looks 2) input.old result input.new }
-    ensures variant { IfErr result OfKind }
+    ensures variant { IfErr result OfHead }
 {
     match pull_peeked_slice(alloc, input)?.into_owned(alloc) {
         Ok(bytes) => Ok(bytes),
@@ -172,9 +172,9 @@ pub fn pull_owned_bytes<R: Read>(
 ) -> Result<Vec<u8>, DecodeError<R::Error>>
     ensures bytes { OverInput R.reading ReadsOwnedBytes input.old result input.new }
     ensures looked { OverInput R.reading (Looks 3) input.old result input.new }
-    ensures variant { IfErr result OfKind }
+    ensures variant { IfErr result OfHead }
 {
-    peek_kind("bytes", input, 2, 2)?;
+    peek_major("bytes", input, 2, 2)?;
     pull_peeked_owned_bytes(alloc, input)
 }
 

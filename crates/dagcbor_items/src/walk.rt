@@ -78,11 +78,11 @@ fn walk_item<I: PayloadReader, S: LinkSink>(
     if is_indefinite(first) {
         return Err(DecodeError::IndefiniteSize);
     }
-    walk_kind(alloc, input, links, first)
+    walk_of_major(alloc, input, links, first)
 }
 
 #[cycle(walk)]
-fn walk_kind<I: PayloadReader, S: LinkSink>(
+fn walk_of_major<I: PayloadReader, S: LinkSink>(
     alloc: I::Alloc,
     input: &mut I,
     links: &mut S,

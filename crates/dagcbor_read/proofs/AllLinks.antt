@@ -8,7 +8,7 @@ use Rattle.dagcbor_heads.specs.Refusals.{Refuses}
 use Rattle.dagcbor_heads.specs.declared.error.DecodeError.{DecodeError}
 use Rattle.dagcbor_heads.specs.declared.error.DecodeError.TheVariants.{Read, RequireBorrowed, OutOfMemory, Failed, DepthOverflow}
 use Rattle.ipld_tree.specs.Cid.{CidParts}
-use Rattle.dagcbor_items.specs.ItemCauses.{Stands}
+use Rattle.dagcbor_items.specs.ItemCauses.{CauseInside}
 use Rattle.dagcbor_items.specs.Reads.{HasFront}
 use Rattle.dagcbor_items.specs.Walks.{all_links}
 use Rattle.dagcbor_items.proofs.Places.{at_steps}
@@ -19,7 +19,7 @@ use Rattle.dagcbor_read.proofs.Progressing.{match_false}
 first_links : (r : Reading) (b : List ℕ) (links : List (List ℕ)) → r.left ≡ Some b → r.steps ≡ 256 → AreFirstLinks b links → HasFront all_links r
 first_links r b links l s h = record { bytes = b; tree = h.0; rest = h.1; left = l; front = h.2; accepted = refl; within = omega (arith, h.3, s) }
 
-links_refused : (e : DecodeError Infallible) (old new : Reading) (b : List ℕ) → old.left ≡ Some b → old.steps ≡ 256 → Refuses (HasFront all_links old) ⊤ ⊥ (Stands old.steps) old e new → LinksRefused e b
+links_refused : (e : DecodeError Infallible) (old new : Reading) (b : List ℕ) → old.left ≡ Some b → old.steps ≡ 256 → Refuses (HasFront all_links old) ⊤ ⊥ (CauseInside old.steps) old e new → LinksRefused e b
 links_refused (Read x) old new b l s r = elim x [ ]
 links_refused OutOfMemory old new b l s r = tt
 links_refused (RequireBorrowed n) old new b l s r = absurd r.1

@@ -10,11 +10,11 @@ use Rattle.dagcbor_heads.specs.declared.error.DecodeError.TheVariants.{Failed}
 use Rattle.ipld_tree.specs.Tree.{Tree, text}
 use Rattle.dagcbor_items.specs.Untyped.{TakesItem}
 use Rattle.dagcbor_items.specs.Places.{Follows}
-use Rattle.dagcbor_items.specs.ItemCauses.{KeyStands}
+use Rattle.dagcbor_items.specs.ItemCauses.{KeyCause}
 use Rattle.dagcbor_items.specs.Entries.{HasKey}
 use Rattle.dagcbor_read.specs.Calls.{Progress, Call}
 use Rattle.dagcbor_items.specs.Reads.{HasFront, TakesFront, Anything}
-use Rattle.dagcbor_read.specs.Accessors.{Begun, ReadsElement, after_element, ReadsNextKey, after_key}
+use Rattle.dagcbor_read.specs.Accessors.{AccessorState, ReadsElement, after_element, ReadsNextKey, after_key}
 use Rattle.dagcbor_items.specs.Shapes.{Shape}
 
 pub at_false : (b : Bool) (P Q : Type 0) → b ≡ false → MatchBool b P Q → Q
@@ -36,30 +36,30 @@ call_refused T E reads old new e f h = (at_false old.failed ((Err e ≡ Err Fail
 
 -- ---- the next item of a list
 
-module _ (E : Type 0) {T V : Type 0} (held : T → V) (shape : Shape Tree V) where
+module _ (E : Type 0) {T V : Type 0} (meaning : T → V) (shape : Shape Tree V) where
   pub record ElementRead (left : ℕ) (old : Progress) (v : T) (new : Progress) : Type 0 where
     pub sound : new.failed ≡ false
     pub some : 0 < left
-    pub takes : TakesFront shape old.input (held v) new.input
+    pub takes : TakesFront shape old.input (meaning v) new.input
 
-  pub element_read : (left : ℕ) (old new : Progress) (o : Option T) (v : T) → o ≡ Some v → Call (ReadsElement {E = E} held shape left) old (Ok o) new → ElementRead left old v new
+  pub element_read : (left : ℕ) (old new : Progress) (o : Option T) (v : T) → o ≡ Some v → Call (ReadsElement {E = E} meaning shape left) old (Ok o) new → ElementRead left old v new
   element_read left old new o v e h =
-      let k = answered (Option T) E (ReadsElement held shape left) old new (Some v) (subst (λ x. Call (ReadsElement {E = E} held shape left) old (Ok x) new) e h) in
+      let k = answered (Option T) E (ReadsElement meaning shape left) old new (Some v) (subst (λ x. Call (ReadsElement {E = E} meaning shape left) old (Ok x) new) e h) in
       record { sound = k.1; some = k.2.0; takes = k.2.1 }
 
-  pub no_element : (left : ℕ) (old new : Progress) (o : Option T) → o ≡ None → Call (ReadsElement {E = E} held shape left) old (Ok o) new → (new.failed ≡ false) × (left ≡ 0) × (new.input ≡ old.input)
+  pub no_element : (left : ℕ) (old new : Progress) (o : Option T) → o ≡ None → Call (ReadsElement {E = E} meaning shape left) old (Ok o) new → (new.failed ≡ false) × (left ≡ 0) × (new.input ≡ old.input)
   no_element left old new o e h =
-      let k = answered (Option T) E (ReadsElement held shape left) old new None (subst (λ x. Call (ReadsElement {E = E} held shape left) old (Ok x) new) e h) in
+      let k = answered (Option T) E (ReadsElement meaning shape left) old new None (subst (λ x. Call (ReadsElement {E = E} meaning shape left) old (Ok x) new) e h) in
       (k.1, k.2.0, k.2.1)
 
-  pub element_refused : (left : ℕ) (old new : Progress) (e : DecodeError E) → old.failed ≡ false → Call (ReadsElement {T = T} held shape left) old (Err e) new
+  pub element_refused : (left : ℕ) (old new : Progress) (e : DecodeError E) → old.failed ≡ false → Call (ReadsElement {T = T} meaning shape left) old (Err e) new
       → (0 < left) × Refuses (HasFront shape old.input) ⊤ (shape.borrows ≡ true) Anything old.input e new.input
-  element_refused left old new e f h = call_refused (Option T) E (ReadsElement held shape left) old new e f h
+  element_refused left old new e f h = call_refused (Option T) E (ReadsElement meaning shape left) old new e f h
 
-  pub after_some : (o : Option T) (v : T) (c d : Begun) → o ≡ Some v → d ≡ after_element {E = E} (Ok o) c → d ≡ record c { left = c.left - 1 }
+  pub after_some : (o : Option T) (v : T) (c d : AccessorState) → o ≡ Some v → d ≡ after_element {E = E} (Ok o) c → d ≡ record c { left = c.left - 1 }
   after_some o v c d e h = subst (λ x. d ≡ after_element {E = E} (Ok x) c) e h
 
-  pub after_none : (o : Option T) (c d : Begun) → o ≡ None → d ≡ after_element {E = E} (Ok o) c → d ≡ c
+  pub after_none : (o : Option T) (c d : AccessorState) → o ≡ None → d ≡ after_element {E = E} (Ok o) c → d ≡ c
   after_none o c d e h = subst (λ x. d ≡ after_element {E = E} (Ok x) c) e h
 
 -- ---- the next key of a map
@@ -81,11 +81,11 @@ no_key E last left old new o e h =
     (r.1, r.2.0, r.2.1)
 
 pub key_refused : (E : Type 0) (last : Option (List ℕ)) (left : ℕ) (old new : Progress) (e : DecodeError E) → old.failed ≡ false → Call (ReadsNextKey last left) old (Err e) new
-    → (0 < left) × Refuses (HasKey last old.input) (old.input.lends ≡ false) ⊥ (KeyStands last) old.input e new.input
+    → (0 < left) × Refuses (HasKey last old.input) (old.input.lends ≡ false) ⊥ (KeyCause last) old.input e new.input
 key_refused E last left old new e f h = call_refused (Option (CowStr Global)) E (ReadsNextKey last left) old new e f h
 
-pub after_some_key : (E : Type 0) (o : Option (CowStr Global)) (k : CowStr Global) (c d : Begun) → o ≡ Some k → d ≡ after_key {E = E} (Ok o) c → d ≡ record c { left = c.left - 1; last = Some (cow_str_bytes k); owes_value = true }
+pub after_some_key : (E : Type 0) (o : Option (CowStr Global)) (k : CowStr Global) (c d : AccessorState) → o ≡ Some k → d ≡ after_key {E = E} (Ok o) c → d ≡ record c { left = c.left - 1; last = Some (cow_str_bytes k); owes_value = true }
 after_some_key E o k c d e h = subst (λ x. d ≡ after_key {E = E} (Ok x) c) e h
 
-pub after_no_key : (E : Type 0) (o : Option (CowStr Global)) (c d : Begun) → o ≡ None → d ≡ after_key {E = E} (Ok o) c → d ≡ c
+pub after_no_key : (E : Type 0) (o : Option (CowStr Global)) (c d : AccessorState) → o ≡ None → d ≡ after_key {E = E} (Ok o) c → d ≡ c
 after_no_key E o c d e h = subst (λ x. d ≡ after_key {E = E} (Ok x) c) e h

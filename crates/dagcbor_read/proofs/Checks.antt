@@ -12,7 +12,7 @@ use Rattle.ipld_tree.specs.Tree.{Tree, null, boolean, integer}
 use Rattle.ipld_tree.specs.Spelling.{spelling, IsFront}
 use Rattle.ipld_tree.proofs.Unique.{major}
 use Rattle.ipld_tree.proofs.Fronts.{is_simple}
-use Rattle.dagcbor_items.specs.ItemCauses.{Stands}
+use Rattle.dagcbor_items.specs.ItemCauses.{CauseInside}
 use Rattle.dagcbor_items.specs.Untyped.{HasItem, TakesItem}
 use Rattle.dagcbor_items.specs.Walks.{WalkLacks}
 use Rattle.dagcbor_items.proofs.Fronts.{major_of_front, shorter}
@@ -24,10 +24,10 @@ use Rattle.dagcbor_read.specs.Whole.{IsBlock, SliceRefused}
 use Rattle.dagcbor_read.proofs.Wholes.{slice_refused, trailing}
 
 pub checked_refused : (b : List ℕ) (start new : Reading) (e : DecodeError Infallible) → start.left ≡ Some b → start.steps ≡ 256 → start.lends ≡ true
-    → Refuses (HasItem 0 start) (WalkLacks false start) ⊥ (Stands (start.steps + 0)) start e new → SliceRefused e b × (e ≢ OutOfMemory)
+    → Refuses (HasItem 0 start) (WalkLacks false start) ⊥ (CauseInside (start.steps + 0)) start e new → SliceRefused e b × (e ≢ OutOfMemory)
 checked_refused b start new e l s lends r = (
   slice_refused e start new b l s (more_lacks ⊤ 0 start new e (λ x. tt) r),
-  λ same. enough (subst (λ x. Refuses (HasItem 0 start) (WalkLacks false start) ⊥ (Stands (start.steps + 0)) start x new) same r).1,
+  λ same. enough (subst (λ x. Refuses (HasItem 0 start) (WalkLacks false start) ⊥ (CauseInside (start.steps + 0)) start x new) same r).1,
 )
   where
     enough : WalkLacks false start → ⊥

@@ -11,9 +11,9 @@ use Rattle.dagcbor_heads.specs.declared.error.DecodeError.{DecodeError}
 use Rattle.dagcbor_heads.specs.declared.error.DecodeError.TheVariants.{Eof, Mismatch, DepthOverflow}
 use Rattle.dagcbor_heads.proofs.Heads.{head_first}
 use Rattle.dagcbor_heads.proofs.Refusing.{end_named}
-use Rattle.dagcbor_items.specs.Variants.{OfByte, OfKind}
+use Rattle.dagcbor_items.specs.Variants.{OfByte, OfHead}
 use Rattle.dagcbor_items.proofs.Variants.{byte_kind, named_kind, end_kind}
-use Rattle.dagcbor_read.specs.Enums.{BegunEnum, IsOtherForm, OfForm}
+use Rattle.dagcbor_read.specs.Enums.{EnumState, IsOtherForm, OfForm}
 use Rattle.dagcbor_items.specs.Reads.{NoStepIfDeep}
 use Rattle.dagcbor_read.specs.Accessors.{HasHeadOf, EnterCause, OfBegin}
 use Rattle.dagcbor_items.proofs.Steps.{Steps}
@@ -71,7 +71,7 @@ other_major E {old} {stepped} {peeked} {first} name s named h other = (
 
 -- ---- refusals of a part among those of the whole
 
-kind_begin : {E : Type 0} (e : DecodeError E) → OfKind e → OfBegin e
+kind_begin : {E : Type 0} (e : DecodeError E) → OfHead e → OfBegin e
 kind_begin (DepthOverflow n) h = tt
 kind_begin _ h = h
 
@@ -84,7 +84,7 @@ end_begin text e h = kind_begin e (end_kind text e h)
 pub byte_begin : {E : Type 0} (e : DecodeError E) → OfByte e → OfBegin e
 byte_begin e h = kind_begin e (byte_kind e h)
 
-pub other_byte : {E : Type 0} (form : BegunEnum) (e : DecodeError E) → IsOtherForm form e → OfByte e
+pub other_byte : {E : Type 0} (form : EnumState) (e : DecodeError E) → IsOtherForm form e → OfByte e
 other_byte form (Mismatch n found) h = tt
 other_byte form _ h = absurd h
 

@@ -11,13 +11,13 @@ use Rattle.ipld_tree.specs.Spelling.{entry_count, entries_spelling, IsFront, Are
 use Rattle.ipld_tree.proofs.Fronts.{map_opened, entry_opened, entry_closed, entries_after, front_unique}
 use Rattle.dagcbor_items.specs.Untyped.{TakesItem}
 use Rattle.dagcbor_items.specs.Places.{Follows}
-use Rattle.dagcbor_items.specs.ItemCauses.{KeyStands}
+use Rattle.dagcbor_items.specs.ItemCauses.{KeyCause}
 use Rattle.dagcbor_items.specs.Entries.{HasKey}
 use Rattle.dagcbor_read.specs.Calls.{Progress, Call}
 use Rattle.dagcbor_items.specs.Reads.{HasFront, TakesFront, Anything}
 use Rattle.dagcbor_read.specs.Values.{ReadsValue}
-use Rattle.dagcbor_read.specs.Accessors.{Begun, begun, Enters, BeginsItems}
-use Rattle.dagcbor_read.specs.Enums.{BegunEnum, BeginsHeld, IsOtherForm, ReadsFieldsHeld}
+use Rattle.dagcbor_read.specs.Accessors.{AccessorState, accessor_state, Enters, BeginsItems}
+use Rattle.dagcbor_read.specs.Enums.{EnumState, BeginsHeld, IsOtherForm, ReadsFieldsHeld}
 use Rattle.dagcbor_read.specs.declared.accessor.Accessor.{Accessor}
 use Rattle.dagcbor_read.specs.Collections.{view_entries, view_fields, need_entries, need_fields, HasFields, TakesFields, ReadsEntriesLeft, fields_of, value_of, FieldShape}
 use Rattle.dagcbor_items.specs.Entries.{AllFollow}
@@ -111,7 +111,7 @@ module _ {S : Type 0} (shape : FieldShape S) where
   -- ---- the loop
 
   -- some entries were read, which brought the state to s: those behind them bring it further
-  pub record FieldsSoFar (start : S) (before : Begun) (old : Progress) (now_left : Begun) (s : S) (now : Progress) : Type 0 where
+  pub record FieldsSoFar (start : S) (before : AccessorState) (old : Progress) (now_left : AccessorState) (s : S) (now : Progress) : Type 0 where
     pub sound : now.failed ≡ false
     pub is_map : now_left.is_map ≡ true
     pub in_turn : now_left.owes_value ≡ false
@@ -125,7 +125,7 @@ module _ {S : Type 0} (shape : FieldShape S) where
   pub as_count : {old new : Reading} {state s : S} {last : Option (List ℕ)} {count count' : ℕ} → count ≡ count' → TakesFields shape state last count old s new → TakesFields shape state last count' old s new
   as_count {old} {new} {state} {s} {last} e h = subst (λ n. TakesFields shape state last n old s new) e h
 
-  pub none_so_far : (start : S) (before : Begun) (old : Progress) → old.failed ≡ false → before.is_map ≡ true → before.owes_value ≡ false → FieldsSoFar start before old before start old
+  pub none_so_far : (start : S) (before : AccessorState) (old : Progress) → old.failed ≡ false → before.is_map ≡ true → before.owes_value ≡ false → FieldsSoFar start before old before start old
   none_so_far start before old f m o = record {
     sound = f;
     is_map = m;
@@ -137,46 +137,46 @@ module _ {S : Type 0} (shape : FieldShape S) where
     takes = λ count end new t. as_count (omega arith) t;
   }
 
-  pub key_not_read : {E : Type 0} {start s : S} {before now_left : Begun} {old now : Progress} (borrows : Type 0) (new : Reading) (e : DecodeError E) → FieldsSoFar start before old now_left s now → 0 < now_left.left
-      → Refuses (HasKey now_left.last now.input) (now.input.lends ≡ false) ⊥ (KeyStands now_left.last) now.input e new
+  pub key_not_read : {E : Type 0} {start s : S} {before now_left : AccessorState} {old now : Progress} (borrows : Type 0) (new : Reading) (e : DecodeError E) → FieldsSoFar start before old now_left s now → 0 < now_left.left
+      → Refuses (HasKey now_left.last now.input) (now.input.lends ≡ false) ⊥ (KeyCause now_left.last) now.input e new
       → Refuses (HasFields shape start before.last before.left old.input) ⊤ borrows Anything old.input e new
   key_not_read {E} {start} {s} {before} {now_left} {old} {now} borrows new e i some r =
-      carried (KeyStands now_left.last) Anything old.input now.input new e (same_reader i.same) (λ h. fields_key some (i.has h)) (λ _. tt) (λ x. absurd x) (λ b l g. tt) r
+      carried (KeyCause now_left.last) Anything old.input now.input new e (same_reader i.same) (λ h. fields_key some (i.has h)) (λ _. tt) (λ x. absurd x) (λ b l g. tt) r
 
-  pub value_not_read : {E : Type 0} {start s : S} {before now_left : Begun} {old now mid : Progress} (borrows : Type 0) (new : Reading) (e : DecodeError E) (key text' : List ℕ) → text' ≡ key → FieldsSoFar start before old now_left s now
+  pub value_not_read : {E : Type 0} {start s : S} {before now_left : AccessorState} {old now mid : Progress} (borrows : Type 0) (new : Reading) (e : DecodeError E) (key text' : List ℕ) → text' ≡ key → FieldsSoFar start before old now_left s now
       → KeyRead now_left.last now_left.left now key mid → Refuses (HasFront (value_of shape s text') mid.input) ⊤ borrows Anything mid.input e new
       → Refuses (HasFields shape start before.last before.left old.input) ⊤ borrows Anything old.input e new
   value_not_read {E} {start} {s} {before} {now_left} {old} {now} {mid} borrows new e key text' is i k r =
       carried Anything Anything old.input mid.input new e (same_reader (stays_both i.same k.takes.same))
       (λ h. subst (λ x. HasFront (value_of shape s x) mid.input) (sym is) (fields_value key k.some k.takes (i.has h))) (λ x. x) (λ x. x) (λ b l g. tt) r
 
-  pub one_more : {start s next : S} {before now_left with_key after : Begun} {old now mid new : Progress} (key text' : List ℕ) → text' ≡ key → FieldsSoFar start before old now_left s now → KeyRead now_left.last now_left.left now key mid
+  pub one_more : {start s next : S} {before now_left with_key after : AccessorState} {old now mid new : Progress} (key text' : List ℕ) → text' ≡ key → FieldsSoFar start before old now_left s now → KeyRead now_left.last now_left.left now key mid
       → with_key ≡ record now_left { left = now_left.left - 1; last = Some key; owes_value = true } → after ≡ record with_key { owes_value = false } → new.failed ≡ false
       → TakesFront (value_of shape s text') mid.input next new.input → FieldsSoFar start before old after next new
   one_more {start} {s} {next} {before} {now_left} {with_key} {after} {old} {now} {mid} {new} key text' text_is i k is is' f w' =
       let w = subst (λ x. TakesFront (value_of shape s x) mid.input next new.input) text_is w' in
-      let both : after ≡ record now_left { left = now_left.left - 1; last = Some key; owes_value = false } = is' ∙ ap (λ (c : Begun). record c { owes_value = false }) is in
-      let less : after.left ≡ now_left.left - 1 = ap (λ (c : Begun). c.left) both in
-      let last : after.last ≡ Some key = ap (λ (c : Begun). c.last) both in
+      let both : after ≡ record now_left { left = now_left.left - 1; last = Some key; owes_value = false } = is' ∙ ap (λ (c : AccessorState). record c { owes_value = false }) is in
+      let less : after.left ≡ now_left.left - 1 = ap (λ (c : AccessorState). c.left) both in
+      let last : after.last ≡ Some key = ap (λ (c : AccessorState). c.last) both in
       record {
         sound = f;
-        is_map = ap (λ (c : Begun). c.is_map) both ∙ i.is_map;
-        in_turn = ap (λ (c : Begun). c.owes_value) both;
-        steps = ap (λ (c : Begun). c.steps) both ∙ i.steps;
+        is_map = ap (λ (c : AccessorState). c.is_map) both ∙ i.is_map;
+        in_turn = ap (λ (c : AccessorState). c.owes_value) both;
+        steps = ap (λ (c : AccessorState). c.steps) both ∙ i.steps;
         fewer = omega (arith, less, i.fewer);
         same = stays_both i.same (stays_both k.takes.same w.same);
         has = λ h. subst (λ n. HasFields shape next after.last n new.input) (sym less) (subst (λ l. HasFields shape next l (now_left.left - 1) new.input) (sym last) (fields_others key k.some k.takes w (i.has h)));
         takes = λ count end to t. as_count (omega (arith, less, k.some, i.fewer)) (i.takes (count + 1) end to (fields_taken key k.follows k.takes w (subst (λ l. TakesFields shape next l count new.input end to) last t)));
       }
 
-  pub all_read : {start s : S} {before now_left after : Begun} {old now : Progress} (mid new : Progress) → FieldsSoFar start before old now_left s now → now_left.left ≡ 0 → after ≡ now_left → mid.input ≡ now.input → new.input ≡ with_steps (mid.input.steps + after.steps) mid.input
+  pub all_read : {start s : S} {before now_left after : AccessorState} {old now : Progress} (mid new : Progress) → FieldsSoFar start before old now_left s now → now_left.left ≡ 0 → after ≡ now_left → mid.input ≡ now.input → new.input ≡ with_steps (mid.input.steps + after.steps) mid.input
       → (now : Reading) × TakesFields shape start before.last before.left old.input s now × (new.input ≡ with_steps (now.steps + before.steps) now)
   all_read {start} {s} {before} {now_left} {after} {old} {now} mid new i none is same back =
       let end : TakesFields shape s now_left.last 0 now.input s mid.input = record {
         taken = λ b l. (no_entries, b, refl, nothing now_left.last, record { well_formed = tt; spellable = tt; is = refl }, refl, omega arith, ap (λ (r : Reading). r.left) same ∙ l);
         same = subst (Stays now.input) (sym same) (stays now.input);
       } in
-      let steps : after.steps ≡ before.steps = ap (λ (c : Begun). c.steps) is ∙ i.steps in
+      let steps : after.steps ≡ before.steps = ap (λ (c : AccessorState). c.steps) is ∙ i.steps in
       (mid.input, as_count (omega (arith, none, i.fewer)) (i.takes 0 s mid.input end), back ∙ ap (λ n. with_steps (mid.input.steps + n) mid.input) steps)
     where
       nothing : (last : Option (List ℕ)) → AllFollow last no_entries
@@ -237,37 +237,37 @@ module _ {S : Type 0} (shape : FieldShape S) where
     }
 
     -- all that is left is read of a map that was begun
-    pub entries_read : {T E : Type 0} (held : T → S) (old mid new : Progress) (name : List ℕ) (a : Accessor) (result : Result T (DecodeError E)) → Call (BeginsItems {E = E} 5 name 1) old (Ok a) mid
-        → ReadsEntriesLeft held shape start (begun a) mid result new → ReadsValue held (fields_of shape start) old result new
-    entries_read {T} {E} held old mid new name a (Ok v) h r f =
+    pub entries_read : {T E : Type 0} (meaning : T → S) (old mid new : Progress) (name : List ℕ) (a : Accessor) (result : Result T (DecodeError E)) → Call (BeginsItems {E = E} 5 name 1) old (Ok a) mid
+        → ReadsEntriesLeft meaning shape start (accessor_state a) mid result new → ReadsValue meaning (fields_of shape start) old result new
+    entries_read {T} {E} meaning old mid new name a (Ok v) h r f =
         let k = answered Accessor E (BeginsItems 5 name 1) old mid a h in
-        let one : a.steps ≡ 1 = ap (λ (c : Begun). c.steps) k.2.0 in
-        let none : (begun a).last ≡ None = ap (λ (c : Begun). c.last) k.2.0 in
-        (r.0, map_taken k.2.2 (subst (λ l. TakesFields shape start l a.left mid.input (held v) r.1) none r.2) (r.3 ∙ ap (λ n. with_steps (r.1.steps + n) r.1) one))
-    entries_read {T} {E} held old mid new name a (Err e) h r f =
+        let one : a.steps ≡ 1 = ap (λ (c : AccessorState). c.steps) k.2.0 in
+        let none : (accessor_state a).last ≡ None = ap (λ (c : AccessorState). c.last) k.2.0 in
+        (r.0, map_taken k.2.2 (subst (λ l. TakesFields shape start l a.left mid.input (meaning v) r.1) none r.2) (r.3 ∙ ap (λ n. with_steps (r.1.steps + n) r.1) one))
+    entries_read {T} {E} meaning old mid new name a (Err e) h r f =
         let k = answered Accessor E (BeginsItems 5 name 1) old mid a h in
-        let none : (begun a).last ≡ None = ap (λ (c : Begun). c.last) k.2.0 in
+        let none : (accessor_state a).last ≡ None = ap (λ (c : AccessorState). c.last) k.2.0 in
         carried Anything Anything old.input mid.input new.input e record { faults = k.2.2.takes.same.faults; lends = k.2.2.takes.same.lends }
         (λ x. subst (λ l. HasFields shape start l a.left mid.input) (sym none) (map_has_fields k.2.2 x)) (λ x. x) (λ x. x) (λ b l g. tt) r
 
     -- the same of a map that a variant holds
-    pub held_entries_read : {T E : Type 0} (held : T → S) (name : List ℕ) (e : BegunEnum) (old mid new : Progress) (a : Accessor) (result : Result T (DecodeError E)) → Call (BeginsHeld {E = E} 5 name e) old (Ok a) mid
-        → ReadsEntriesLeft held shape start (begun a) mid result new → ReadsFieldsHeld held (fields_of shape start) e old result new
-    held_entries_read {T} {E} held name e old mid new a result h r f = by e.in_map refl (answered Accessor E (BeginsHeld 5 name e) old mid a h).2 result r
+    pub held_entries_read : {T E : Type 0} (meaning : T → S) (name : List ℕ) (e : EnumState) (old mid new : Progress) (a : Accessor) (result : Result T (DecodeError E)) → Call (BeginsHeld {E = E} 5 name e) old (Ok a) mid
+        → ReadsEntriesLeft meaning shape start (accessor_state a) mid result new → ReadsFieldsHeld meaning (fields_of shape start) e old result new
+    held_entries_read {T} {E} meaning name e old mid new a result h r f = by e.in_map refl (answered Accessor E (BeginsHeld 5 name e) old mid a h).2 result r
       where
-        by : (m : Bool) → e.in_map ≡ m → MatchBool m (BeginsItems {E = E} 5 name (e.steps + 1) old.input (Ok a) mid.input) ⊥ → (result : Result T (DecodeError E)) → ReadsEntriesLeft held shape start (begun a) mid result new
+        by : (m : Bool) → e.in_map ≡ m → MatchBool m (BeginsItems {E = E} 5 name (e.steps + 1) old.input (Ok a) mid.input) ⊥ → (result : Result T (DecodeError E)) → ReadsEntriesLeft meaning shape start (accessor_state a) mid result new
             → IfOk result (λ v. new.failed ≡ false) × MatchResult result
-            (λ v. (e.in_map ≡ true) × ((now : Reading) × TakesFront (fields_of shape start) old.input (held v) now × (new.input ≡ with_steps (now.steps + e.steps) now)))
+            (λ v. (e.in_map ≡ true) × ((now : Reading) × TakesFront (fields_of shape start) old.input (meaning v) now × (new.input ≡ with_steps (now.steps + e.steps) now)))
             (λ x. MatchBool m (Refuses (HasFront (fields_of shape start) old.input) ⊤ (shape.borrows ≡ true) Anything old.input x new.input) (IsOtherForm e x × (new.input ≡ old.input)))
         by false is k result r = absurd k
         by true is k (Ok v) r =
-            let steps : a.steps ≡ e.steps + 1 = ap (λ (c : Begun). c.steps) k.0 in
-            let none : (begun a).last ≡ None = ap (λ (c : Begun). c.last) k.0 in
-            let taken = map_taken {new = with_steps (r.1.steps + 1) r.1} k.2 (subst (λ l. TakesFields shape start l a.left mid.input (held v) r.1) none r.2) refl in
+            let steps : a.steps ≡ e.steps + 1 = ap (λ (c : AccessorState). c.steps) k.0 in
+            let none : (accessor_state a).last ≡ None = ap (λ (c : AccessorState). c.last) k.0 in
+            let taken = map_taken {new = with_steps (r.1.steps + 1) r.1} k.2 (subst (λ l. TakesFields shape start l a.left mid.input (meaning v) r.1) none r.2) refl in
             let all : r.1.steps + a.steps ≡ r.1.steps + 1 + e.steps = omega (arith, steps) in
             (r.0, (is, (with_steps (r.1.steps + 1) r.1, taken, r.3 ∙ ap (λ n. with_steps n r.1) all)))
         by true is k (Err x) r =
-            let none : (begun a).last ≡ None = ap (λ (c : Begun). c.last) k.0 in (
+            let none : (accessor_state a).last ≡ None = ap (λ (c : AccessorState). c.last) k.0 in (
               tt,
               carried Anything Anything old.input mid.input new.input x record { faults = k.2.takes.same.faults; lends = k.2.takes.same.lends }
                   (λ y. subst (λ l. HasFields shape start l a.left mid.input) (sym none) (map_has_fields k.2 y)) (λ y. y) (λ y. y) (λ b l g. tt) r,

@@ -12,9 +12,9 @@ use Rattle.ipld_tree.proofs.Fronts.{list_opened, list_closed, item_opened, item_
 use Rattle.dagcbor_read.specs.Calls.{Progress, Call}
 use Rattle.dagcbor_items.specs.Reads.{HasFront, TakesFront, Anything}
 use Rattle.dagcbor_read.specs.Values.{ReadsValue}
-use Rattle.dagcbor_read.specs.Accessors.{Begun, begun, Enters, BeginsItems}
+use Rattle.dagcbor_read.specs.Accessors.{AccessorState, accessor_state, Enters, BeginsItems}
 use Rattle.dagcbor_read.specs.declared.accessor.Accessor.{Accessor}
-use Rattle.dagcbor_read.specs.Collections.{view_list, need_list, view_none, HasRow, TakesRow, ReadsRest, list_of, items_of, no_more, first_then}
+use Rattle.dagcbor_read.specs.Collections.{view_list, need_list, view_none, HasRow, TakesRow, ReadsRest, list_of, all_of, no_more, first_then}
 use Rattle.dagcbor_read.proofs.Answered.{answered}
 use Rattle.dagcbor_read.proofs.Passing.{SameReader, carried}
 use Rattle.dagcbor_items.specs.Shapes.{Shape}
@@ -119,21 +119,21 @@ module _ {V W : Type 0} (shape : Shape Tree V) (others : Shape Items W) where
   part_refused {E} {count} old new e some r = carried Anything Anything old old new e (same_reader (stays old))
       (row_first shape others (λ v w. (v, w)) (first_then shape others) (λ t ts. refl) (λ t ts. refl) some) (λ x. x) (or_left shape.borrows others.borrows) (λ b l g. tt) r
 
-  pub parts_refused : {E : Type 0} {before after : Begun} {old mid : Reading} {v : V} (new : Reading) (e : DecodeError E) → 0 < before.left → after ≡ record before { left = before.left - 1 } → TakesFront shape old v mid
+  pub parts_refused : {E : Type 0} {before after : AccessorState} {old mid : Reading} {v : V} (new : Reading) (e : DecodeError E) → 0 < before.left → after ≡ record before { left = before.left - 1 } → TakesFront shape old v mid
       → Refuses (HasRow others after.left mid) ⊤ (others.borrows ≡ true) Anything mid e new
       → Refuses (HasRow (first_then shape others) before.left old) ⊤ ((shape.borrows || others.borrows) ≡ true) Anything old e new
   parts_refused {E} {before} {after} {old} {mid} new e some is a r = carried Anything Anything old mid new e (same_reader a.same)
-      (λ h. subst (λ n. HasRow others n mid) (sym (ap (λ (c : Begun). c.left) is))
+      (λ h. subst (λ n. HasRow others n mid) (sym (ap (λ (c : AccessorState). c.left) is))
       (row_others shape others (λ v w. (v, w)) (first_then shape others) (λ t ts. refl) (λ t ts. refl) some a h)) (λ x. x) (or_right shape.borrows others.borrows) (λ b l g. tt) r
 
-  pub parts_taken : {before now_left after : Begun} {old mid : Reading} {new : Progress} {v : V} {w : W} → 0 < before.left → now_left ≡ record before { left = before.left - 1 } → TakesFront shape old v mid
+  pub parts_taken : {before now_left after : AccessorState} {old mid : Reading} {new : Progress} {v : V} {w : W} → 0 < before.left → now_left ≡ record before { left = before.left - 1 } → TakesFront shape old v mid
       → (new.failed ≡ false) × (after ≡ record now_left { left = after.left }) × (after.left ≤ now_left.left) × TakesRow others (now_left.left - after.left) mid w new.input × (HasRow others now_left.left mid → after.left ≡ 0)
       → (new.failed ≡ false) × (after ≡ record before { left = after.left }) × (after.left ≤ before.left) × TakesRow (first_then shape others) (before.left - after.left) old (v, w) new.input
       × (HasRow (first_then shape others) before.left old → after.left ≡ 0)
   parts_taken {before} {now_left} {after} {old} {mid} {new} {v} {w} some is a r =
-      let less : now_left.left ≡ before.left - 1 = ap (λ (c : Begun). c.left) is in (
+      let less : now_left.left ≡ before.left - 1 = ap (λ (c : AccessorState). c.left) is in (
         r.0,
-        r.1 ∙ ap (λ (c : Begun). record c { left = after.left }) is,
+        r.1 ∙ ap (λ (c : AccessorState). record c { left = after.left }) is,
         omega (arith, less, r.2),
         as_row (v, w) (v, w) (omega (arith, less, some, r.2)) refl (row_taken shape others (λ v w. (v, w)) (first_then shape others) (λ t ts. refl) (λ t ts. refl) a r.3),
         λ h. r.4 (subst (λ n. HasRow others n mid) (sym less) (row_others shape others (λ v w. (v, w)) (first_then shape others) (λ t ts. refl) (λ t ts. refl) some a h)),
@@ -143,16 +143,16 @@ module _ {V W : Type 0} (shape : Shape Tree V) (others : Shape Items W) where
 
 module _ {V : Type 0} (shape : Shape Tree V) where
   -- some items were read, which show vs: those behind them show the others
-  pub record ReadSoFar (before : Begun) (old : Progress) (now_left : Begun) (vs : List V) (now : Progress) : Type 0 where
+  pub record ReadSoFar (before : AccessorState) (old : Progress) (now_left : AccessorState) (vs : List V) (now : Progress) : Type 0 where
     pub sound : now.failed ≡ false
     pub is : now_left ≡ record before { left = now_left.left }
     pub fewer : now_left.left ≤ before.left
     pub same : Stays old.input now.input
-    pub has : HasRow (items_of shape) before.left old.input → HasRow (items_of shape) now_left.left now.input
-    pub takes : (count : ℕ) (ws : List V) (new : Reading) → TakesRow (items_of shape) count now.input ws new
-        → TakesRow (items_of shape) (count + (before.left - now_left.left)) old.input (vs ++ ws) new
+    pub has : HasRow (all_of shape) before.left old.input → HasRow (all_of shape) now_left.left now.input
+    pub takes : (count : ℕ) (ws : List V) (new : Reading) → TakesRow (all_of shape) count now.input ws new
+        → TakesRow (all_of shape) (count + (before.left - now_left.left)) old.input (vs ++ ws) new
 
-  pub none_so_far : (before : Begun) (old : Progress) (vs : List V) → old.failed ≡ false → vs ≡ [] → ReadSoFar before old before vs old
+  pub none_so_far : (before : AccessorState) (old : Progress) (vs : List V) → old.failed ≡ false → vs ≡ [] → ReadSoFar before old before vs old
   none_so_far before old vs f e = subst (λ x. ReadSoFar before old before x old) (sym e) record {
     sound = f;
     is = refl;
@@ -162,31 +162,31 @@ module _ {V : Type 0} (shape : Shape Tree V) where
     takes = λ count ws new t. as_row ws ws (omega arith) refl t;
   }
 
-  first_of : {r : Reading} {count : ℕ} → 0 < count → HasRow (items_of shape) count r → HasFront shape r
-  first_of = row_first shape (items_of shape) (λ v vs. v ∷ vs) (items_of shape) (λ t ts. refl) (λ t ts. refl)
+  first_of : {r : Reading} {count : ℕ} → 0 < count → HasRow (all_of shape) count r → HasFront shape r
+  first_of = row_first shape (all_of shape) (λ v vs. v ∷ vs) (all_of shape) (λ t ts. refl) (λ t ts. refl)
 
-  pub one_more : {before now_left after : Begun} {old now new : Progress} {v : V} (vs ws : List V) → ReadSoFar before old now_left vs now → 0 < now_left.left → after ≡ record now_left { left = now_left.left - 1 } → new.failed ≡ false
+  pub one_more : {before now_left after : AccessorState} {old now new : Progress} {v : V} (vs ws : List V) → ReadSoFar before old now_left vs now → 0 < now_left.left → after ≡ record now_left { left = now_left.left - 1 } → new.failed ≡ false
       → TakesFront shape now.input v new.input → ws ≡ vs ++ v ∷ [] → ReadSoFar before old after ws new
   one_more {before} {now_left} {after} {old} {now} {new} {v} vs ws s some is f a e =
-      let less : after.left ≡ now_left.left - 1 = ap (λ (c : Begun). c.left) is in
+      let less : after.left ≡ now_left.left - 1 = ap (λ (c : AccessorState). c.left) is in
       subst (λ x. ReadSoFar before old after x new) (sym e) record {
         sound = f;
-        is = is ∙ ap (λ (c : Begun). record c { left = now_left.left - 1 }) s.is ∙ ap (λ n. record before { left = n }) (sym less);
+        is = is ∙ ap (λ (c : AccessorState). record c { left = now_left.left - 1 }) s.is ∙ ap (λ n. record before { left = n }) (sym less);
         fewer = omega (arith, less, s.fewer);
         same = stays_both s.same a.same;
-        has = λ h. subst (λ n. HasRow (items_of shape) n new.input) (sym less)
-            (row_others shape (items_of shape) (λ v vs. v ∷ vs) (items_of shape) (λ t ts. refl) (λ t ts. refl) some a (s.has h));
+        has = λ h. subst (λ n. HasRow (all_of shape) n new.input) (sym less)
+            (row_others shape (all_of shape) (λ v vs. v ∷ vs) (all_of shape) (λ t ts. refl) (λ t ts. refl) some a (s.has h));
         takes = λ count xs end t. as_row (vs ++ (v ∷ xs)) ((vs ++ v ∷ []) ++ xs) (omega (arith, less, some, s.fewer)) (sym (append_assoc vs (v ∷ []) xs))
-            (s.takes (count + 1) (v ∷ xs) end (row_taken shape (items_of shape) (λ v vs. v ∷ vs) (items_of shape) (λ t ts. refl) (λ t ts. refl) a t));
+            (s.takes (count + 1) (v ∷ xs) end (row_taken shape (all_of shape) (λ v vs. v ∷ vs) (all_of shape) (λ t ts. refl) (λ t ts. refl) a t));
       }
 
-  pub none_more : {before now_left after : Begun} {old now new : Progress} (vs : List V) → ReadSoFar before old now_left vs now → now_left.left ≡ 0 → after ≡ now_left → new.failed ≡ false → new.input ≡ now.input
-      → (new.failed ≡ false) × (after ≡ record before { left = after.left }) × (after.left ≤ before.left) × TakesRow (items_of shape) (before.left - after.left) old.input vs new.input
-      × (HasRow (items_of shape) before.left old.input → after.left ≡ 0)
+  pub none_more : {before now_left after : AccessorState} {old now new : Progress} (vs : List V) → ReadSoFar before old now_left vs now → now_left.left ≡ 0 → after ≡ now_left → new.failed ≡ false → new.input ≡ now.input
+      → (new.failed ≡ false) × (after ≡ record before { left = after.left }) × (after.left ≤ before.left) × TakesRow (all_of shape) (before.left - after.left) old.input vs new.input
+      × (HasRow (all_of shape) before.left old.input → after.left ≡ 0)
   none_more {before} {now_left} {after} {old} {now} {new} vs s none is f same =
-      let end : TakesRow (items_of shape) 0 now.input [] new.input =
+      let end : TakesRow (all_of shape) 0 now.input [] new.input =
       record { taken = λ b l. (no_items, b, refl, record { well_formed = tt; spellable = tt; is = refl }, refl, omega arith, ap (λ (r : Reading). r.left) same ∙ l); same = subst (Stays now.input) (sym same) (stays now.input) } in
-      let as_left : after.left ≡ now_left.left = ap (λ (c : Begun). c.left) is in (
+      let as_left : after.left ≡ now_left.left = ap (λ (c : AccessorState). c.left) is in (
         f,
         is ∙ s.is ∙ ap (λ n. record before { left = n }) (sym as_left),
         omega (arith, as_left, s.fewer),
@@ -194,8 +194,8 @@ module _ {V : Type 0} (shape : Shape Tree V) where
         λ h. as_left ∙ none,
       )
 
-  pub item_refused : {E : Type 0} {before now_left : Begun} {old now : Progress} {vs : List V} (borrows : Type 0) (new : Reading) (e : DecodeError E) → ReadSoFar before old now_left vs now → 0 < now_left.left
-      → Refuses (HasFront shape now.input) ⊤ borrows Anything now.input e new → Refuses (HasRow (items_of shape) before.left old.input) ⊤ borrows Anything old.input e new
+  pub item_refused : {E : Type 0} {before now_left : AccessorState} {old now : Progress} {vs : List V} (borrows : Type 0) (new : Reading) (e : DecodeError E) → ReadSoFar before old now_left vs now → 0 < now_left.left
+      → Refuses (HasFront shape now.input) ⊤ borrows Anything now.input e new → Refuses (HasRow (all_of shape) before.left old.input) ⊤ borrows Anything old.input e new
   item_refused {E} {before} {now_left} {old} {now} borrows new e s some r =
       carried Anything Anything old.input now.input new e (same_reader s.same) (λ h. first_of some (s.has h)) (λ x. x) (λ x. x) (λ b l g. tt) r
 
@@ -254,12 +254,12 @@ module _ {V : Type 0} (shape : Shape Items V) where
   }
 
   -- all that is left is read of a list that was begun
-  pub rest_reads : {T E : Type 0} (held : T → V) (old mid new : Progress) (name : List ℕ) (a : Accessor) (result : Result T (DecodeError E)) → Call (BeginsItems {E = E} 4 name 1) old (Ok a) mid
-      → ReadsRest held shape (begun a) mid result new → ReadsValue held (list_of shape) old result new
-  rest_reads {T} {E} held old mid new name a (Ok v) h r f =
+  pub rest_reads : {T E : Type 0} (meaning : T → V) (old mid new : Progress) (name : List ℕ) (a : Accessor) (result : Result T (DecodeError E)) → Call (BeginsItems {E = E} 4 name 1) old (Ok a) mid
+      → ReadsRest meaning shape (accessor_state a) mid result new → ReadsValue meaning (list_of shape) old result new
+  rest_reads {T} {E} meaning old mid new name a (Ok v) h r f =
       let k = answered Accessor E (BeginsItems 4 name 1) old mid a h in
-      let one : a.steps ≡ 1 = ap (λ (c : Begun). c.steps) k.2.0 in
+      let one : a.steps ≡ 1 = ap (λ (c : AccessorState). c.steps) k.2.0 in
       (r.0, list_taken k.2.2 r.2 (r.3 ∙ ap (λ n. with_steps (r.1.steps + n) r.1) one))
-  rest_reads {T} {E} held old mid new name a (Err e) h r f =
+  rest_reads {T} {E} meaning old mid new name a (Err e) h r f =
       let k = answered Accessor E (BeginsItems 4 name 1) old mid a h in
       carried Anything Anything old.input mid.input new.input e record { faults = k.2.2.takes.same.faults; lends = k.2.2.takes.same.lends } (list_has_row k.2.2) (λ x. x) (λ x. x) (λ b l g. tt) r

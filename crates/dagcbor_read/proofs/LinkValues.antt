@@ -9,7 +9,7 @@ use Rattle.dagcbor_heads.proofs.Refusing.{passed_on}
 use Rattle.ipld_tree.specs.Cid.{CidParts, cid_bytes}
 use Rattle.ipld_tree.specs.Tree.{Tree, null, boolean, integer, text, bytes, list, mapping, link}
 use Rattle.ipld_tree.specs.Spelling.{IsFront}
-use Rattle.dagcbor_items.specs.LinkCauses.{LinkStands}
+use Rattle.dagcbor_items.specs.LinkCauses.{LinkCause}
 use Rattle.dagcbor_items.specs.Untyped.{TakesItem}
 use Rattle.dagcbor_items.specs.Links.{HasLink, ReadsLink}
 use Rattle.dagcbor_read.specs.Calls.{Progress, Call}
@@ -38,7 +38,7 @@ link_shown cid h = record { taken = λ b l. let k = h.taken b l in (link cid, k.
 
 link_read : {E : Type 0} (old new : Reading) (r : Result CidParts (DecodeError E)) → ReadsLink old r new → Reads cid_bytes (leaf view_link) ⊤ (false ≡ true) Anything old r new
 link_read old new (Ok c) h = link_shown (cid_bytes c) h
-link_read old new (Err e) h = passed_on LinkStands Anything old old new e (stays old) link_stands (λ x. absurd x) (λ x. absurd x) (λ b l. (b, l, λ s. tt)) h
+link_read old new (Err e) h = passed_on LinkCause Anything old old new e (stays old) link_stands (λ x. absurd x) (λ x. absurd x) (λ b l. (b, l, λ s. tt)) h
 
 -- what a call did on what had not failed
 value_read : {E : Type 0} (old new : Progress) (r : Result CidParts (DecodeError E)) → (new.failed ≡ is_err r) × Reads cid_bytes (leaf view_link) ⊤ (false ≡ true) Anything old.input r new.input

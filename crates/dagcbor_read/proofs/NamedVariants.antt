@@ -14,14 +14,14 @@ use Rattle.dagcbor_heads.proofs.Heads.{head_whole}
 use Rattle.ipld_tree.specs.Tree.{Tree, null, boolean, integer, text, bytes, list, mapping, link, no_entries, entry}
 use Rattle.ipld_tree.specs.Spelling.{IsFront, entries_spelling}
 use Rattle.ipld_tree.proofs.Fronts.{front_first, front_unique, map_opened, entry_opened, entry_closed}
-use Rattle.dagcbor_items.specs.LeafCauses.{TextStands}
+use Rattle.dagcbor_items.specs.LeafCauses.{TextCause}
 use Rattle.dagcbor_items.specs.Shapes.{view_text, leaf, Shape}
 use Rattle.dagcbor_read.specs.EnumViews.{view_enum, need_enum, HasVariant, TakesVariant, ReadsVariant, EnumShape, enum_of, part_of}
 use Rattle.dagcbor_read.specs.Collections.{need_fields, fields_of, struct_of, FieldShape}
 use Rattle.dagcbor_read.specs.Calls.{Progress, Call}
 use Rattle.dagcbor_items.specs.Reads.{HasFront, TakesFront, Anything}
 use Rattle.dagcbor_read.specs.Values.{ReadsValue}
-use Rattle.dagcbor_read.specs.Enums.{BegunEnum, begun_enum, TakesForm, HasStepEnum, StepEnumCause, SpendsEnum, ReadsName, IsOtherForm, EndsUnit, ReadsHeld, ReadsFieldsHeld}
+use Rattle.dagcbor_read.specs.Enums.{EnumState, enum_state, TakesForm, HasStepEnum, StepEnumCause, SpendsEnum, ReadsName, IsOtherForm, EndsUnit, ReadsHeld, ReadsFieldsHeld}
 use Rattle.dagcbor_read.specs.declared.enum_accessor.EnumAccessor.{EnumAccessor}
 use Rattle.dagcbor_read.proofs.Answered.{answered, call_refused}
 use Rattle.dagcbor_read.proofs.FieldPlaces.{takes_as, front_as}
@@ -50,7 +50,7 @@ none_some {V} {o} n e = let both : is_some o ≡ false = ap is_some n in absurd 
 -- ---- an enum that was begun, for a step
 
 -- what `deserialize_enum` answers
-pub Spent : BegunEnum → Reading → Reading → Type 0
+pub Spent : EnumState → Reading → Reading → Type 0
 Spent e old mid = (e.steps ≡ 1) × (0 < old.steps) × (mid.steps < mid.budget) × TakesForm e (with_steps (old.steps - 1) old) mid
 
 record Entered (old mid : Reading) : Type 0 where
@@ -60,7 +60,7 @@ record Entered (old mid : Reading) : Type 0 where
   faults : mid.faults ≡ old.faults
   through : mid.through ≡ old.through
 
-entered : (e : BegunEnum) {old mid : Reading} → Spent e old mid → Entered old mid
+entered : (e : EnumState) {old mid : Reading} → Spent e old mid → Entered old mid
 unfolding Spent
 entered e {old} {mid} s = by e.in_map s.3
   where
@@ -69,12 +69,12 @@ entered e {old} {mid} s = by e.in_map s.3
     by false h = let a = h.1.same in record { steps = omega (arith, a.steps, s.1); budget = a.budget; lends = a.lends; faults = a.faults; through = a.through }
 
 -- the bytes behind the beginning, and those before it
-record Opened (e : BegunEnum) (b : List ℕ) (mid : Reading) : Type 0 where
+record Opened (e : EnumState) (b : List ℕ) (mid : Reading) : Type 0 where
   behind : List ℕ
   left : mid.left ≡ Some behind
   form : ((e.in_map ≡ true) × (b ≡ 161 ∷ behind)) ⊎ ((e.in_map ≡ false) × (b ≡ behind) × ((more : List ℕ) × (b ≡ e.first ∷ more)) × (e.first / 32 ≡ 3))
 
-opened : (e : BegunEnum) (old mid : Reading) (b : List ℕ) → Spent e old mid → old.left ≡ Some b → Opened e b mid
+opened : (e : EnumState) (old mid : Reading) (b : List ℕ) → Spent e old mid → old.left ≡ Some b → Opened e b mid
 unfolding Spent
 opened e old mid b s l = by e.in_map refl s.3
   where
@@ -84,19 +84,19 @@ opened e old mid b s l = by e.in_map refl s.3
 
 -- ---- an enum whose variant was named
 
-pub record Named (e : BegunEnum) (k : List ℕ) (old now : Reading) : Type 0 where
+pub record Named (e : EnumState) (k : List ℕ) (old now : Reading) : Type 0 where
   pub mid : Reading
   pub spent : Spent e old mid
   pub name : TakesFront (leaf view_text) mid k now
 
-same_named : {e : BegunEnum} {k : List ℕ} {old now : Reading} → Named e k old now → SameReader old now
+same_named : {e : EnumState} {k : List ℕ} {old now : Reading} → Named e k old now → SameReader old now
 same_named {e} n = let a = entered e n.spent in record { faults = n.name.same.faults ∙ a.faults; lends = n.name.same.lends ∙ a.lends }
 
-refusal_passed : {E could could' borrows borrows' : Type 0} {e : BegunEnum} {k : List ℕ} {old now : Reading} (new : Reading) (r : DecodeError E) → Named e k old now → (could' → could) → (borrows → borrows')
+refusal_passed : {E could could' borrows borrows' : Type 0} {e : EnumState} {k : List ℕ} {old now : Reading} (new : Reading) (r : DecodeError E) → Named e k old now → (could' → could) → (borrows → borrows')
     → Refuses could ⊤ borrows Anything now r new → Refuses could' ⊤ borrows' Anything old r new
 refusal_passed {E} {could} {could'} {borrows} {borrows'} {e} {k} {old} {now} new r n c w h = carried Anything Anything old now new r (same_named n) c (λ x. x) w (λ b l g. tt) h
 
-other_form_refused : {E could : Type 0} (borrows : Type 0) (old new : Reading) (e : BegunEnum) (r : DecodeError E) → IsOtherForm e r → new.faults ≡ old.faults → (could → ⊥) → Refuses could ⊤ borrows Anything old r new
+other_form_refused : {E could : Type 0} (borrows : Type 0) (old new : Reading) (e : EnumState) (r : DecodeError E) → IsOtherForm e r → new.faults ≡ old.faults → (could → ⊥) → Refuses could ⊤ borrows Anything old r new
 other_form_refused borrows old new e (Mismatch n f) h same never = (same, never, λ b l. tt)
 other_form_refused borrows old new e _ h same never = absurd h
 
@@ -158,10 +158,10 @@ module _ {V : Type 0} (shape : EnumShape V) where
   ]
 
   -- what stands behind the beginning
-  Behind : BegunEnum → Reading → Reading → Type 0
+  Behind : EnumState → Reading → Reading → Type 0
   Behind e old mid = ((e.in_map ≡ false) × (u : UnitFront old) × (mid.left ≡ Some u.bytes)) ⊎ ((e.in_map ≡ true) × (p : PartFront old) × (mid.left ≡ Some p.after_head))
 
-  behind_unit : (e : BegunEnum) {old mid : Reading} → (u : UnitFront old) → Opened e u.bytes mid → Behind e old mid
+  behind_unit : (e : EnumState) {old mid : Reading} → (u : UnitFront old) → Opened e u.bytes mid → Behind e old mid
   unfolding Behind
   behind_unit e u o = elim o.form [
     | inl m ↦
@@ -172,7 +172,7 @@ module _ {V : Type 0} (shape : EnumShape V) where
     | inr n ↦ inl (n.0, u, o.left ∙ ap Some (sym n.1))
   ]
 
-  behind_part : (e : BegunEnum) {old mid : Reading} → (p : PartFront old) → Opened e (161 ∷ p.after_head) mid → Behind e old mid
+  behind_part : (e : EnumState) {old mid : Reading} → (p : PartFront old) → Opened e (161 ∷ p.after_head) mid → Behind e old mid
   unfolding Behind
   behind_part e p o = elim o.form [
     | inl m ↦ inr (m.0, p, o.left ∙ ap Some (cc (sym m.1)))
@@ -181,13 +181,13 @@ module _ {V : Type 0} (shape : EnumShape V) where
         absurd (omega (arith, first, n.3))
   ]
 
-  behind : (e : BegunEnum) (old mid : Reading) → Spent e old mid → HasFront (enum_of shape) old → Behind e old mid
+  behind : (e : EnumState) (old mid : Reading) → Spent e old mid → HasFront (enum_of shape) old → Behind e old mid
   behind e old mid s h = elim (by_form h) [
     | inl u ↦ behind_unit e u (opened e old mid u.bytes s u.left)
     | inr p ↦ behind_part e p (opened e old mid (161 ∷ p.after_head) s p.left)
   ]
 
-  name_stands : (e : BegunEnum) {old mid : Reading} → Spent e old mid → HasFront (enum_of shape) old → HasFront (leaf view_text) mid
+  name_stands : (e : EnumState) {old mid : Reading} → Spent e old mid → HasFront (enum_of shape) old → HasFront (leaf view_text) mid
   unfolding Behind
   name_stands e {old} {mid} s h = elim (behind e old mid s h) [
     | inl u ↦ record { bytes = u.1.bytes; tree = text u.1.name; rest = u.1.rest; left = u.2; front = u.1.front; accepted = refl; within = zero-le }
@@ -195,7 +195,7 @@ module _ {V : Type 0} (shape : EnumShape V) where
   ]
 
   -- a variant that was named is a unit, or what it holds stands behind its name
-  variant_stands : {e : BegunEnum} {k : List ℕ} {old now : Reading} → Named e k old now → HasFront (enum_of shape) old
+  variant_stands : {e : EnumState} {k : List ℕ} {old now : Reading} → Named e k old now → HasFront (enum_of shape) old
       → ((e.in_map ≡ false) × (is_some (shape.unit k) ≡ true)) ⊎ ((e.in_map ≡ true) × HasFront (part_of shape k) now)
   unfolding Behind
   variant_stands {e} {k} {old} {now} n h = elim (behind e old n.mid n.spent h) [
@@ -239,13 +239,13 @@ module _ {V : Type 0} (shape : EnumShape V) where
   unfolding Spent
   not_named {E} borrows name old mid new a r h k =
       let s = answered EnumAccessor E (SpendsEnum name) old mid a h in
-      let i = entered (begun_enum a) s.2 in
-      carried (TextStands _) Anything old.input mid.input new.input r (record { faults = i.faults; lends = i.lends }) (name_stands (begun_enum a) s.2) (λ x. tt) (λ x. absurd x) (λ b l g. tt)
+      let i = entered (enum_state a) s.2 in
+      carried (TextCause _) Anything old.input mid.input new.input r (record { faults = i.faults; lends = i.lends }) (name_stands (enum_state a) s.2) (λ x. tt) (λ x. absurd x) (λ b l g. tt)
       (call_refused (CowStr Global × EnumAccessor) E ReadsName mid new r s.1 k)
 
   -- ---- answers
 
-  pub unit_taken : {e : BegunEnum} {k : List ℕ} {old now new : Reading} {v : V} → Named e k old now → (e.in_map ≡ false) × (new ≡ with_steps (now.steps + e.steps) now) → shape.unit k ≡ Some v
+  pub unit_taken : {e : EnumState} {k : List ℕ} {old now new : Reading} {v : V} → Named e k old now → (e.in_map ≡ false) × (new ≡ with_steps (now.steps + e.steps) now) → shape.unit k ≡ Some v
       → TakesFront (enum_of shape) old v new
   unfolding Spent
   unit_taken {e} {k} {old} {now} {new} {v} n h is =
@@ -282,7 +282,7 @@ module _ {V : Type 0} (shape : EnumShape V) where
         is = ap (λ h. h ++ behind) (sym one_pair) ∙ (ap (λ x. head 5 1 ++ x) inside.is ∙ sym (append_assoc (head 5 1) (entries_spelling (entry k t no_entries)) rest));
       }
 
-  pub part_taken : {e : BegunEnum} {k : List ℕ} {old now after new : Reading} {v : V} → Named e k old now → e.in_map ≡ true → TakesFront (part_of shape k) now v after → new ≡ with_steps (after.steps + e.steps) after
+  pub part_taken : {e : EnumState} {k : List ℕ} {old now after new : Reading} {v : V} → Named e k old now → e.in_map ≡ true → TakesFront (part_of shape k) now v after → new ≡ with_steps (after.steps + e.steps) after
       → TakesFront (enum_of shape) old v new
   unfolding Spent
   part_taken {e} {k} {old} {now} {after} {new} {v} n m a back =
@@ -312,23 +312,23 @@ module _ {V : Type 0} (shape : EnumShape V) where
 -- ---- calls
 
 pub variant_named : (E : Type 0) (name : List ℕ) (old mid now : Progress) (a : EnumAccessor) (v : CowStr Global × EnumAccessor) → Call (SpendsEnum {E = E} name) old (Ok a) mid → Call (ReadsName {E = E}) mid (Ok v) now → v.1 ≡ a
-    → (now.failed ≡ false) × Named (begun_enum v.1) (cow_str_bytes v.0) old.input now.input
+    → (now.failed ≡ false) × Named (enum_state v.1) (cow_str_bytes v.0) old.input now.input
 unfolding Spent
 variant_named E name old mid now a v h k e =
     let s = answered EnumAccessor E (SpendsEnum name) old mid a h in
     let n = answered (CowStr Global × EnumAccessor) E ReadsName mid now v k in
-    (n.1, record { mid = mid.input; spent = subst (λ x. Spent (begun_enum x) old.input mid.input) (sym e) s.2; name = n.2 })
+    (n.1, record { mid = mid.input; spent = subst (λ x. Spent (enum_state x) old.input mid.input) (sym e) s.2; name = n.2 })
 
 module _ {V : Type 0} (shape : EnumShape V) where
   -- ---- the whole enum
 
-  as_variant : {e : BegunEnum} {k : List ℕ} {old now : Reading} → Named e k old now → HasFront (enum_of shape) old → HasVariant shape k e now
+  as_variant : {e : EnumState} {k : List ℕ} {old now : Reading} → Named e k old now → HasFront (enum_of shape) old → HasVariant shape k e now
   as_variant {e} {k} {old} {now} n h = elim (variant_stands shape n h) [
     | inl u ↦ subst (λ b. MatchBool b (HasFront (part_of shape k) now) (is_some (shape.unit k) ≡ true)) (sym u.0) u.1
     | inr p ↦ subst (λ b. MatchBool b (HasFront (part_of shape k) now) (is_some (shape.unit k) ≡ true)) (sym p.0) p.1
   ]
 
-  enum_taken : {e : BegunEnum} {k : List ℕ} {old now new : Reading} {v : V} → Named e k old now → TakesVariant shape k e now v new → TakesFront (enum_of shape) old v new
+  enum_taken : {e : EnumState} {k : List ℕ} {old now new : Reading} {v : V} → Named e k old now → TakesVariant shape k e now v new → TakesFront (enum_of shape) old v new
   enum_taken {e} {k} {old} {now} {new} {v} n h = by e.in_map refl h
     where
       by : (m : Bool) → e.in_map ≡ m → MatchBool m ((end : Reading) × TakesFront (part_of shape k) now v end × (new ≡ with_steps (end.steps + e.steps) end)) ((shape.unit k ≡ Some v) × (new ≡ with_steps (now.steps + e.steps) now))
@@ -336,20 +336,20 @@ module _ {V : Type 0} (shape : EnumShape V) where
       by true is t = part_taken shape n is t.1 t.2
       by false is t = unit_taken shape n (is, t.1) t.0
 
-  pub enum_read : {T E : Type 0} (held : T → V) (name : List ℕ) (old mid now new : Progress) (a : EnumAccessor) (v : CowStr Global × EnumAccessor) (k : List ℕ) (result : Result T (DecodeError E))
+  pub enum_read : {T E : Type 0} (meaning : T → V) (name : List ℕ) (old mid now new : Progress) (a : EnumAccessor) (v : CowStr Global × EnumAccessor) (k : List ℕ) (result : Result T (DecodeError E))
       → Call (SpendsEnum {E = E} name) old (Ok a) mid → Call (ReadsName {E = E}) mid (Ok v) now → v.1 ≡ a → k ≡ cow_str_bytes v.0
-      → ReadsVariant held shape k (begun_enum v.1) now result new → ReadsValue held (enum_of shape) old result new
-  enum_read {T} {E} held name old mid now new a v k (Ok w) h g same text_is r sound =
+      → ReadsVariant meaning shape k (enum_state v.1) now result new → ReadsValue meaning (enum_of shape) old result new
+  enum_read {T} {E} meaning name old mid now new a v k (Ok w) h g same text_is r sound =
       let n = variant_named E name old mid now a v h g same in
-      (r.0, enum_taken (subst (λ x. Named (begun_enum v.1) x old.input now.input) (sym text_is) n.1) r.1)
-  enum_read {T} {E} held name old mid now new a v k (Err x) h g same text_is r sound =
+      (r.0, enum_taken (subst (λ x. Named (enum_state v.1) x old.input now.input) (sym text_is) n.1) r.1)
+  enum_read {T} {E} meaning name old mid now new a v k (Err x) h g same text_is r sound =
       let n = variant_named E name old mid now a v h g same in
-      let m = subst (λ x. Named (begun_enum v.1) x old.input now.input) (sym text_is) n.1 in
+      let m = subst (λ x. Named (enum_state v.1) x old.input now.input) (sym text_is) n.1 in
       refusal_passed new.input x m (as_variant m) (λ y. y) r
 
   -- ---- a variant that is its name alone
 
-  pub unit_read : (E : Type 0) (e : BegunEnum) (old new : Progress) {k : List ℕ} (name : List ℕ) {v : V} → k ≡ name → shape.unit name ≡ Some v → Call (EndsUnit {E = E} e) old (Ok tt) new
+  pub unit_read : (E : Type 0) (e : EnumState) (old new : Progress) {k : List ℕ} (name : List ℕ) {v : V} → k ≡ name → shape.unit name ≡ Some v → Call (EndsUnit {E = E} e) old (Ok tt) new
       → (new.failed ≡ false) × TakesVariant shape k e old.input v new.input
   unit_read E e old new {k} name {v} is shows h =
       let r = answered (Unit {0}) E (EndsUnit e) old new tt h in
@@ -359,7 +359,7 @@ module _ {V : Type 0} (shape : EnumShape V) where
       )
 
   -- it is not begun as a map
-  pub unit_refused : {E : Type 0} (borrows : Type 0) (e : BegunEnum) (old new : Progress) {k : List ℕ} (name : List ℕ) (r : DecodeError E) → k ≡ name → ((t : Tree) → shape.part name t ≡ None) → old.failed ≡ false → Call (EndsUnit e) old (Err r) new
+  pub unit_refused : {E : Type 0} (borrows : Type 0) (e : EnumState) (old new : Progress) {k : List ℕ} (name : List ℕ) (r : DecodeError E) → k ≡ name → ((t : Tree) → shape.part name t ≡ None) → old.failed ≡ false → Call (EndsUnit e) old (Err r) new
       → Refuses (HasVariant shape k e old.input) ⊤ borrows Anything old.input r new.input
   unit_refused {E} borrows e old new {k} name r is none f h =
       let g = call_refused (Unit {0}) E (EndsUnit e) old new r f h in
@@ -369,7 +369,7 @@ module _ {V : Type 0} (shape : EnumShape V) where
       none_some (ap (λ x. shape.part x p.tree) is ∙ none p.tree) p.accepted)
 
   -- no variant has the name
-  pub unknown_variant : {E : Type 0} (borrows : Type 0) (e : BegunEnum) (old : Reading) {k : List ℕ} {message : Name} (r : DecodeError E) → r ≡ Msg message → shape.unit k ≡ None → ((t : Tree) → shape.part k t ≡ None)
+  pub unknown_variant : {E : Type 0} (borrows : Type 0) (e : EnumState) (old : Reading) {k : List ℕ} {message : Name} (r : DecodeError E) → r ≡ Msg message → shape.unit k ≡ None → ((t : Tree) → shape.part k t ≡ None)
       → Refuses (HasVariant shape k e old) ⊤ borrows Anything old r old
   unknown_variant borrows e old {k} r is none no_part = told_refused borrows old r old is refl (by e.in_map)
     where
@@ -379,22 +379,22 @@ module _ {V : Type 0} (shape : EnumShape V) where
 
   -- ---- a variant that holds a value of another type
 
-  module _ {W : Type 0} (f : W → V) (own : Shape Tree W) {T : Type 0} (E : Type 0) (held : T → W) where
-    pub fields_read : (e : BegunEnum) (old new : Progress) {k : List ℕ} (name : List ℕ) (w : T) → k ≡ name → ((t : Tree) → shape.part name t ≡ option_map f (own.view t)) → ((t : Tree) → shape.need name t ≡ own.need t)
-        → old.failed ≡ false → ReadsFieldsHeld {E = E} held own e old (Ok w) new
-        → (new.failed ≡ false) × TakesVariant shape k e old.input (f (held w)) new.input
+  module _ {W : Type 0} (f : W → V) (own : Shape Tree W) {T : Type 0} (E : Type 0) (meaning : T → W) where
+    pub fields_read : (e : EnumState) (old new : Progress) {k : List ℕ} (name : List ℕ) (w : T) → k ≡ name → ((t : Tree) → shape.part name t ≡ option_map f (own.view t)) → ((t : Tree) → shape.need name t ≡ own.need t)
+        → old.failed ≡ false → ReadsFieldsHeld {E = E} meaning own e old (Ok w) new
+        → (new.failed ≡ false) × TakesVariant shape k e old.input (f (meaning w)) new.input
     fields_read e old new {k} name w is same much sound h =
         let r = h sound in
         let taken = r.1.1 in
         let takes = takes_as f own (part_of shape name) same much taken.1 in
-        let there : (end : Reading) × TakesFront (part_of shape k) old.input (f (held w)) end × (new.input ≡ with_steps (end.steps + e.steps) end) =
-        (taken.0, subst (λ x. TakesFront (part_of shape x) old.input (f (held w)) taken.0) (sym is) takes, taken.2) in (
+        let there : (end : Reading) × TakesFront (part_of shape k) old.input (f (meaning w)) end × (new.input ≡ with_steps (end.steps + e.steps) end) =
+        (taken.0, subst (λ x. TakesFront (part_of shape x) old.input (f (meaning w)) taken.0) (sym is) takes, taken.2) in (
           r.0,
-          subst (λ b. MatchBool b ((end : Reading) × TakesFront (part_of shape k) old.input (f (held w)) end × (new.input ≡ with_steps (end.steps + e.steps) end)) ((shape.unit k ≡ Some (f (held w))) × (new.input ≡ with_steps (old.input.steps + e.steps) old.input))) (sym r.1.0) there,
+          subst (λ b. MatchBool b ((end : Reading) × TakesFront (part_of shape k) old.input (f (meaning w)) end × (new.input ≡ with_steps (end.steps + e.steps) end)) ((shape.unit k ≡ Some (f (meaning w))) × (new.input ≡ with_steps (old.input.steps + e.steps) old.input))) (sym r.1.0) there,
         )
 
-    pub fields_refused : (borrows : Type 0) (e : BegunEnum) (old new : Progress) {k : List ℕ} (name : List ℕ) (r : DecodeError E) → k ≡ name → shape.unit name ≡ None → ((t : Tree) → shape.part name t ≡ option_map f (own.view t)) → ((t : Tree) → shape.need name t ≡ own.need t)
-        → (own.borrows ≡ true → borrows) → old.failed ≡ false → ReadsFieldsHeld held own e old (Err r) new
+    pub fields_refused : (borrows : Type 0) (e : EnumState) (old new : Progress) {k : List ℕ} (name : List ℕ) (r : DecodeError E) → k ≡ name → shape.unit name ≡ None → ((t : Tree) → shape.part name t ≡ option_map f (own.view t)) → ((t : Tree) → shape.need name t ≡ own.need t)
+        → (own.borrows ≡ true → borrows) → old.failed ≡ false → ReadsFieldsHeld meaning own e old (Err r) new
         → Refuses (HasVariant shape k e old.input) ⊤ borrows Anything old.input r new.input
     fields_refused borrows e old new {k} name r is none same much w sound h = by e.in_map (h sound).1
       where
@@ -405,24 +405,24 @@ module _ {V : Type 0} (shape : EnumShape V) where
         by false g = other_form_refused borrows old.input new.input e r g.0 (ap (λ (x : Reading). x.faults) g.1) (λ i. none_some (ap shape.unit is ∙ none) i)
 
     -- by a call of the accessor
-    called : (e : BegunEnum) (old new : Progress) (r : Result T (DecodeError E)) → Call (ReadsHeld held own e) old r new → ReadsFieldsHeld held own e old r new
-    called e old new (Ok w) h sound = let r = answered T E (ReadsHeld held own e) old new w h in (r.1, r.2)
-    called e old new (Err x) h sound = (tt, call_refused T E (ReadsHeld held own e) old new x sound h)
+    called : (e : EnumState) (old new : Progress) (r : Result T (DecodeError E)) → Call (ReadsHeld meaning own e) old r new → ReadsFieldsHeld meaning own e old r new
+    called e old new (Ok w) h sound = let r = answered T E (ReadsHeld meaning own e) old new w h in (r.1, r.2)
+    called e old new (Err x) h sound = (tt, call_refused T E (ReadsHeld meaning own e) old new x sound h)
 
-    pub held_read : (e : BegunEnum) (old new : Progress) {k : List ℕ} (name : List ℕ) (w : T) → k ≡ name → ((t : Tree) → shape.part name t ≡ option_map f (own.view t)) → ((t : Tree) → shape.need name t ≡ own.need t)
-        → old.failed ≡ false → Call (ReadsHeld {E = E} held own e) old (Ok w) new
-        → (new.failed ≡ false) × TakesVariant shape k e old.input (f (held w)) new.input
+    pub held_read : (e : EnumState) (old new : Progress) {k : List ℕ} (name : List ℕ) (w : T) → k ≡ name → ((t : Tree) → shape.part name t ≡ option_map f (own.view t)) → ((t : Tree) → shape.need name t ≡ own.need t)
+        → old.failed ≡ false → Call (ReadsHeld {E = E} meaning own e) old (Ok w) new
+        → (new.failed ≡ false) × TakesVariant shape k e old.input (f (meaning w)) new.input
     held_read e old new name w is same much sound h = fields_read e old new name w is same much sound (called e old new (Ok w) h)
 
-    pub held_refused : (borrows : Type 0) (e : BegunEnum) (old new : Progress) {k : List ℕ} (name : List ℕ) (r : DecodeError E) → k ≡ name → shape.unit name ≡ None → ((t : Tree) → shape.part name t ≡ option_map f (own.view t)) → ((t : Tree) → shape.need name t ≡ own.need t)
-        → (own.borrows ≡ true → borrows) → old.failed ≡ false → Call (ReadsHeld held own e) old (Err r) new
+    pub held_refused : (borrows : Type 0) (e : EnumState) (old new : Progress) {k : List ℕ} (name : List ℕ) (r : DecodeError E) → k ≡ name → shape.unit name ≡ None → ((t : Tree) → shape.part name t ≡ option_map f (own.view t)) → ((t : Tree) → shape.need name t ≡ own.need t)
+        → (own.borrows ≡ true → borrows) → old.failed ≡ false → Call (ReadsHeld meaning own e) old (Err r) new
         → Refuses (HasVariant shape k e old.input) ⊤ borrows Anything old.input r new.input
     held_refused borrows e old new name r is none same much w sound h = fields_refused borrows e old new name r is none same much w sound (called e old new (Err r) h)
 
 -- ---- the fields that a variant holds make a value, as a struct's do
 
-module _ {S W : Type 0} (fields : FieldShape S) (start : S) (finish : S → Option W) {T : Type 0} (E : Type 0) (held : T → S) (e : BegunEnum) (old new : Progress) where
-  pub held_finished : (s : T) {w : W} → finish (held s) ≡ Some w → ReadsFieldsHeld {E = E} held (fields_of fields start) e old (Ok s) new
+module _ {S W : Type 0} (fields : FieldShape S) (start : S) (finish : S → Option W) {T : Type 0} (E : Type 0) (meaning : T → S) (e : EnumState) (old new : Progress) where
+  pub held_finished : (s : T) {w : W} → finish (meaning s) ≡ Some w → ReadsFieldsHeld {E = E} meaning (fields_of fields start) e old (Ok s) new
       → ReadsFieldsHeld {E = E} (λ (s : T). w) (struct_of fields start finish) e old (Ok s) new
   held_finished s is h sound =
       let r = h sound in
@@ -430,7 +430,7 @@ module _ {S W : Type 0} (fields : FieldShape S) (start : S) (finish : S → Opti
       (r.0, (r.1.0, (r.1.1.0, f.1, r.1.1.2)))
 
   -- a field that must be there was not there
-  pub held_unfinished : (s : T) (r : DecodeError E) (message : Name) → r ≡ Msg message → finish (held s) ≡ None → ReadsFieldsHeld {E = E} held (fields_of fields start) e old (Ok s) new
+  pub held_unfinished : (s : T) (r : DecodeError E) (message : Name) → r ≡ Msg message → finish (meaning s) ≡ None → ReadsFieldsHeld {E = E} meaning (fields_of fields start) e old (Ok s) new
       → ReadsFieldsHeld {T = W} (λ w. w) (struct_of fields start finish) e old (Err r) new
   held_unfinished s r message is none h sound =
       let k = h sound in
@@ -443,7 +443,7 @@ module _ {S W : Type 0} (fields : FieldShape S) (start : S) (finish : S → Opti
       (tt, subst (λ b. MatchBool b (Refuses (HasFront (struct_of fields start finish) old.input) ⊤ (fields.borrows ≡ true) Anything old.input r new.input) (IsOtherForm e r × (new.input ≡ old.input))) (sym k.1.0) moved)
 
   -- the fields were refused
-  pub held_not_read : (r : DecodeError E) → ReadsFieldsHeld held (fields_of fields start) e old (Err r) new
+  pub held_not_read : (r : DecodeError E) → ReadsFieldsHeld meaning (fields_of fields start) e old (Err r) new
       → ReadsFieldsHeld {T = W} (λ w. w) (struct_of fields start finish) e old (Err r) new
   held_not_read r h sound = (tt, by e.in_map (h sound).1)
     where
@@ -453,11 +453,11 @@ module _ {S W : Type 0} (fields : FieldShape S) (start : S) (finish : S → Opti
       by false g = g
 
 -- a field that must be there was not among those that the variant holds
-pub field_missing : {V W S T : Type 0} (shape : EnumShape V) (f : W → V) (fields : FieldShape S) (start : S) (finish : S → Option W) (E : Type 0) (held : T → S) (borrows : Type 0)
-    (e : BegunEnum) (old new : Progress) {k : List ℕ} (name : List ℕ) (s : T) (r : DecodeError E) (message : Name)
+pub field_missing : {V W S T : Type 0} (shape : EnumShape V) (f : W → V) (fields : FieldShape S) (start : S) (finish : S → Option W) (E : Type 0) (meaning : T → S) (borrows : Type 0)
+    (e : EnumState) (old new : Progress) {k : List ℕ} (name : List ℕ) (s : T) (r : DecodeError E) (message : Name)
     → k ≡ name → shape.unit name ≡ None → ((t : Tree) → shape.part name t ≡ option_map f ((struct_of fields start finish).view t)) → ((t : Tree) → shape.need name t ≡ need_fields fields.need t)
     → (fields.borrows ≡ true → borrows) → old.failed ≡ false
-    → r ≡ Msg message → finish (held s) ≡ None → ReadsFieldsHeld {E = E} held (fields_of fields start) e old (Ok s) new
+    → r ≡ Msg message → finish (meaning s) ≡ None → ReadsFieldsHeld {E = E} meaning (fields_of fields start) e old (Ok s) new
     → Refuses (HasVariant shape k e old.input) ⊤ borrows Anything old.input r new.input
-field_missing {V} {W} shape f fields start finish E held borrows e old new name s r message is none same much w sound told missing h =
-    fields_refused shape f (struct_of fields start finish) {T = W} E (λ w. w) borrows e old new name r is none same much w sound (held_unfinished fields start finish E held e old new s r message told missing h)
+field_missing {V} {W} shape f fields start finish E meaning borrows e old new name s r message is none same much w sound told missing h =
+    fields_refused shape f (struct_of fields start finish) {T = W} E (λ w. w) borrows e old new name r is none same much w sound (held_unfinished fields start finish E meaning e old new s r message told missing h)

@@ -21,11 +21,11 @@ use Rattle.dagcbor_items.specs.Shapes.{Shape}
 abbrev NoValue : {V : Type 0} → Shape Tree V → ℕ → List ℕ → Type 0
 NoValue {V} shape steps b = (0 < length b) × ((v : V) (rest : List ℕ) → IsNextValue shape steps b v rest → ⊥)
 
-module _ {T V : Type 0} (E : Type 0) (held : T → V) (shape : Shape Tree V) (may : Type 0) (steps : ℕ) (whole : Bool) where
+module _ {T V : Type 0} (E : Type 0) (meaning : T → V) (shape : Shape Tree V) (may : Type 0) (steps : ℕ) (whole : Bool) where
   -- values stand one behind the other, and at the end no byte, or no value, or one at which it gave up
   abbrev Came : List ℕ → List (Result T (DecodeError E)) → Type 0
   Came b [] = whole ≡ true → b ≡ []
-  Came b (Ok v ∷ xs) = (rest : List ℕ) × IsNextValue shape steps b (held v) rest × Came rest xs
+  Came b (Ok v ∷ xs) = (rest : List ℕ) × IsNextValue shape steps b (meaning v) rest × Came rest xs
   Came b (Err e ∷ xs) = (xs ≡ []) × (GivesUp may e ⊎ NoValue shape steps b)
 
   few : (b : List ℕ) (xs : List (Result T (DecodeError E))) → Came b xs → length xs ≤ length b + 1
@@ -33,20 +33,20 @@ module _ {T V : Type 0} (E : Type 0) (held : T → V) (shape : Shape Tree V) (ma
   few b (Ok v ∷ xs) h = omega (arith, few h.0 xs h.2, shorter b h.0 h.1.0 h.1.1)
   few b (Err e ∷ xs) h = omega (arith, ap length h.0)
 
-  in_a_row : (b : List ℕ) (xs : List (Result T (DecodeError E))) → Came b xs → (rest : List ℕ) × AreNextValues shape steps b (values_before held xs) rest
+  in_a_row : (b : List ℕ) (xs : List (Result T (DecodeError E))) → Came b xs → (rest : List ℕ) × AreNextValues shape steps b (values_before meaning xs) rest
   in_a_row b [] h = (b, refl)
   in_a_row b (Ok v ∷ xs) h = let more = in_a_row h.0 xs h.2 in (more.0, (h.0, h.1, more.1))
   in_a_row b (Err e ∷ xs) h = (b, refl)
 
-  alike : (b : List ℕ) (xs : List (Result T (DecodeError E))) (items : List (Option V)) → Came b xs → AreStreamItems shape steps b items → AreUpTo held may whole xs items
+  alike : (b : List ℕ) (xs : List (Result T (DecodeError E))) (items : List (Option V)) → Came b xs → AreStreamItems shape steps b items → AreUpTo meaning may whole xs items
   alike b [] [] h k = λ w. refl
   alike b [] (Some v ∷ items) h k = λ w. absurd (no_value_of_none shape steps b k.0 v (h w) k.1)
   alike b [] (None ∷ items) h k = λ w. absurd (some_of_none shape steps b (h w) k.1)
-  alike b (Ok v ∷ xs) [] h k = absurd (no_value_of_none shape steps b h.0 (held v) k h.1)
+  alike b (Ok v ∷ xs) [] h k = absurd (no_value_of_none shape steps b h.0 (meaning v) k h.1)
   alike b (Ok v ∷ xs) (Some w ∷ items) h k =
-      let same = same_value shape steps b (held v) w h.0 k.0 h.1 k.1 in
+      let same = same_value shape steps b (meaning v) w h.0 k.0 h.1 k.1 in
       (items, ap (λ x. x ∷ items) (sym same.0), alike h.0 xs items h.2 (subst (λ x. AreStreamItems shape steps x items) (sym same.1) k.2))
-  alike b (Ok v ∷ xs) (None ∷ items) h k = absurd (k.2 (held v) h.0 h.1)
+  alike b (Ok v ∷ xs) (None ∷ items) h k = absurd (k.2 (meaning v) h.0 h.1)
   alike b (Err e ∷ xs) items h k = (h.0, elim h.1 [ inl g ↦ inl g | inr n ↦ inr (alone items k n) ])
     where
       alone : (items : List (Option V)) → AreStreamItems shape steps b items → NoValue shape steps b → items ≡ None ∷ []
@@ -54,12 +54,12 @@ module _ {T V : Type 0} (E : Type 0) (held : T → V) (shape : Shape Tree V) (ma
       alone (Some w ∷ items) k n = absurd (n.1 w k.0 k.1)
       alone (None ∷ items) k n = ap (λ x. None ∷ x) k.0
 
-  all_of_it : (b : List ℕ) (xs : List (Result T (DecodeError E))) → whole ≡ true → NoneGivesUp may xs → Came b xs → AreStreamItems shape steps b (map (stream_item held) xs)
+  all_of_it : (b : List ℕ) (xs : List (Result T (DecodeError E))) → whole ≡ true → NoneGivesUp may xs → Came b xs → AreStreamItems shape steps b (map (stream_item meaning) xs)
   all_of_it b [] w n h = h w
   all_of_it b (Ok v ∷ xs) w n h = (h.0, h.1, all_of_it h.0 xs w n h.2)
   all_of_it b (Err e ∷ xs) w n h = elim h.1 [
     | inl g ↦ absurd (n.0 g)
-    | inr k ↦ (ap (map (stream_item held)) h.0, k.0, k.1)
+    | inr k ↦ (ap (map (stream_item meaning)) h.0, k.0, k.1)
   ]
 
 -- ---- what came, against the calls
@@ -70,12 +70,12 @@ record Over (b : List ℕ) (steps : ℕ) (lends : Bool) (s : Streaming) : Type 0
   steps_left : s.source.input.steps ≡ steps
   lending : s.source.input.lends ≡ lends
 
-module _ {S T V : Type 0} (E : Type 0) (see : S → Streaming) (held : T → V) (shape : Shape Tree V) where
+module _ {S T V : Type 0} (E : Type 0) (see : S → Streaming) (meaning : T → V) (shape : Shape Tree V) where
   abbrev Step : S → Option (Result T (DecodeError E)) → S → Type 0
-  Step = Gives E see held shape
+  Step = Gives E see meaning shape
 
   abbrev Reads : Progress → Result (Option T) (DecodeError E) → Progress → Type 0
-  Reads = Call (ReadsNext {E = E} held shape)
+  Reads = Call (ReadsNext {E = E} meaning shape)
 
   -- a call on what is not done
   told : (s u : S) (item : Option (Result T (DecodeError E))) → (see s).done ≡ false → Step s item u → ((see u).done ≡ is_last item) × Reads (see s).source (as_answer item) (see u).source
@@ -101,15 +101,15 @@ module _ {S T V : Type 0} (E : Type 0) (see : S → Streaming) (held : T → V) 
   no_value b old new _ l r = inr (r.2 b l, λ v rest h. r.1 record { bytes = b; tree = h.0; rest = rest; left = l; front = h.1; accepted = ap is_some h.2; within = h.3 })
 
   came : (b : List ℕ) (steps : ℕ) (lends whole : Bool) (s t : S) (xs : List (Result T (DecodeError E))) → Over b steps lends (see s) → Yields Step s xs t → (whole ≡ true → (u : S) × Step t None u)
-      → Came E held shape (MayBorrow shape.borrows lends) steps whole b xs
+      → Came E meaning shape (MayBorrow shape.borrows lends) steps whole b xs
   came b steps lends whole s t [] o h n = λ w.
       let last = n w in
       let k = told s last.0 None o.is_over.goes_on (subst (λ x. Step x None last.0) (sym h) last.1) in
-      let a = call_answered (ReadsNext {E = E} held shape) (see s).source (see last.0).source None k.1 in
+      let a = call_answered (ReadsNext {E = E} meaning shape) (see s).source (see last.0).source None k.1 in
       a.2.none_left b o.is_over.left
   came b steps lends whole s t (Ok v ∷ xs) o h n =
       let k = told s h.0 (Some (Ok v)) o.is_over.goes_on h.1 in
-      let a = call_answered (ReadsNext {E = E} held shape) (see s).source (see h.0).source (Some v) k.1 in
+      let a = call_answered (ReadsNext {E = E} meaning shape) (see s).source (see h.0).source (Some v) k.1 in
       let taken = a.2.taken b o.is_over.left in
       let over : Over taken.1 steps lends (see h.0) = record {
         is_over = record { goes_on = k.0; sound = a.1; left = taken.5 };
@@ -119,7 +119,7 @@ module _ {S T V : Type 0} (E : Type 0) (see : S → Streaming) (held : T → V) 
       (taken.1, (taken.0, taken.2, taken.3, omega (arith, taken.4, o.steps_left)), came taken.1 steps lends whole h.0 t xs over h.2 n)
   came b steps lends whole s t (Err e ∷ xs) o h n =
       let k = told s h.0 (Some (Err e)) o.is_over.goes_on h.1 in
-      let r = call_told (ReadsNext {E = E} held shape) (see s).source (see h.0).source (Err e) o.is_over.sound k.1 in
+      let r = call_told (ReadsNext {E = E} meaning shape) (see s).source (see h.0).source (Err e) o.is_over.sound k.1 in
       let why = no_value b (see s).source.input (see h.0).source.input e o.is_over.left r.1 in
       (nothing_more h.0 t xs k.0 h.2, subst (λ x. GivesUp (MayBorrow shape.borrows x) e ⊎ NoValue shape steps b) o.lending (subst (λ x. GivesUp (MayBorrow shape.borrows (see s).source.input.lends) e ⊎ NoValue shape x b) o.steps_left why))
 
@@ -144,18 +144,18 @@ module _ {S T V : Type 0} (E : Type 0) (see : S → Streaming) (held : T → V) 
       ap (λ y. y ∷ xs) first ∙ ap (λ y. Err Failed ∷ y) none
 
   from : (s : S) (whole : Bool) (xs : List (Result T (DecodeError E))) → DrainsIf Step (whole ≡ true) s xs → (b : List ℕ) → IsOver b (see s)
-      → Came E held shape (MayBorrow shape.borrows (see s).source.input.lends) (see s).source.input.steps whole b xs
+      → Came E meaning shape (MayBorrow shape.borrows (see s).source.input.lends) (see s).source.input.steps whole b xs
   from s whole xs h b o = came b (see s).source.input.steps (see s).source.input.lends whole s h.0 xs record { is_over = o; steps_left = refl; lending = refl } h.1 h.2
 
-  pub exact : StreamsAreExact E see held shape
+  pub exact : StreamsAreExact E see meaning shape
   exact s whole xs h =
       let may = MayBorrow shape.borrows (see s).source.input.lends in
       let steps = (see s).source.input.steps in
       record {
         one_error = ends s h.0 xs h.1;
-        bounded = λ b o. few E held shape may steps whole b xs (from s whole xs h b o);
-        values = λ b o. in_a_row E held shape may steps whole b xs (from s whole xs h b o);
-        same = λ b o items k. alike E held shape may steps whole b xs items (from s whole xs h b o) k;
-        exact = λ b o w n. all_of_it E held shape may steps whole b xs w n (from s whole xs h b o);
+        bounded = λ b o. few E meaning shape may steps whole b xs (from s whole xs h b o);
+        values = λ b o. in_a_row E meaning shape may steps whole b xs (from s whole xs h b o);
+        same = λ b o items k. alike E meaning shape may steps whole b xs items (from s whole xs h b o) k;
+        exact = λ b o w n. all_of_it E meaning shape may steps whole b xs w n (from s whole xs h b o);
         failed = λ d f w. after_failure s h.0 xs d f h.1 (h.2 w);
       }

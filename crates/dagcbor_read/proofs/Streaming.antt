@@ -37,17 +37,17 @@ pub goes_on : (A P Q : Type 0) (done : Bool) (r : A) → MatchBool done ((Some r
 goes_on A P Q true r h = let e = h.0 in absurd (cc e)
 goes_on A P Q false r h = (refl, h)
 
-module _ (E : Type 0) {T V : Type 0} (held : T → V) (shape : Shape Tree V) where
+module _ (E : Type 0) {T V : Type 0} (meaning : T → V) (shape : Shape Tree V) where
   abbrev Reads : Progress → Result (Option T) (DecodeError E) → Progress → Type 0
-  Reads = Call (ReadsNext {E = E} held shape)
+  Reads = Call (ReadsNext {E = E} meaning shape)
 
   abbrev Gives : Streaming → Option (Result T (DecodeError E)) → Streaming → Type 0
-  Gives = GivesNext {E = E} held shape
+  Gives = GivesNext {E = E} meaning shape
 
   -- a value leaves fewer bytes, and known bytes stay known
   value_left : (b : List ℕ) (old new : Progress) (v : T) → old.input.left ≡ Some b → Reads old (Ok (Some v)) new → (rest : List ℕ) × (new.input.left ≡ Some rest) × (length rest < length b)
   value_left b old new v l h =
-      let a = call_answered (ReadsNext {E = E} held shape) old new (Some v) h in
+      let a = call_answered (ReadsNext {E = E} meaning shape) old new (Some v) h in
       let taken = a.2.taken b l in
       (taken.1, taken.5, shorter b taken.1 taken.0 taken.2)
 

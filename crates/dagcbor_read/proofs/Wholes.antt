@@ -15,8 +15,8 @@ use Rattle.ipld_tree.specs.declared.ipld.Ipld.{Ipld}
 use Rattle.ipld_tree.proofs.Fronts.{front_unique}
 use Rattle.dagcbor_items.specs.Untyped.{HasItem, TakesItem, ReadsItem}
 use Rattle.dagcbor_read.specs.Calls.{Progress, Call, Ends, TellsEnd}
-use Rattle.dagcbor_items.specs.LinkCauses.{LinkStands}
-use Rattle.dagcbor_items.specs.ItemCauses.{KeyStands, Stands}
+use Rattle.dagcbor_items.specs.LinkCauses.{LinkCause}
+use Rattle.dagcbor_items.specs.ItemCauses.{KeyCause, CauseInside}
 use Rattle.dagcbor_items.proofs.Places.{at_steps}
 use Rattle.dagcbor_read.proofs.Progressing.{match_false}
 use Rattle.dagcbor_items.specs.Reads.{HasFront, TakesFront, Anything}
@@ -54,7 +54,7 @@ end_refused b start mid end v e sound l h k =
     told end.input b (tree_of v) e end.failed l read.1 (match_false mid.failed _ _ read.0 k)
 
 -- the cause of trailing data stands in no item
-no_trailing : (E : Type 0) (b : List ℕ) → Stands {E = E} 256 TrailingData b → ⊥
+no_trailing : (E : Type 0) (b : List ℕ) → CauseInside {E = E} 256 TrailingData b → ⊥
 no_trailing E b h = elim h.5 [
   | inl x ↦ x
   | inr y ↦ elim y [
@@ -66,16 +66,16 @@ no_trailing E b h = elim h.5 [
     by : (c : List ℕ) → HeadCause {E = E} TrailingData c → ⊥
     by c x = x
 
-    by_link : (c : List ℕ) → LinkStands {E = E} TrailingData c → ⊥
+    by_link : (c : List ℕ) → LinkCause {E = E} TrailingData c → ⊥
     by_link c h = elim h [ inl x ↦ x | inr w ↦ elim w [ inl x ↦ x.2 | inr x ↦ elim x.2 [ inl v ↦ by x.0 v.0 | inr v ↦ v ] ] ]
 
-    by_key : (before : Option (List ℕ)) (c : List ℕ) → KeyStands {E = E} before TrailingData c → ⊥
+    by_key : (before : Option (List ℕ)) (c : List ℕ) → KeyCause {E = E} before TrailingData c → ⊥
     by_key before c h = elim h [
       | inl t ↦ elim t [ inl s ↦ elim s [ inl k ↦ elim k [ inl x ↦ by c x.0 | inr x ↦ x ] | inr x ↦ x ] | inr x ↦ x ]
       | inr u ↦ absurd (cc u.0)
     ]
 
-pub slice_refused : (e : DecodeError Infallible) (old new : Reading) (b : List ℕ) → old.left ≡ Some b → old.steps ≡ 256 → Refuses (HasItem 0 old) ⊤ ⊥ (Stands (old.steps + 0)) old e new → SliceRefused e b
+pub slice_refused : (e : DecodeError Infallible) (old new : Reading) (b : List ℕ) → old.left ≡ Some b → old.steps ≡ 256 → Refuses (HasItem 0 old) ⊤ ⊥ (CauseInside (old.steps + 0)) old e new → SliceRefused e b
 slice_refused (Read x) old new b l s r = elim x [ ]
 slice_refused OutOfMemory old new b l s r = tt
 slice_refused (RequireBorrowed n) old new b l s r = absurd r.1
@@ -151,14 +151,14 @@ module _ {V : Type 0} (shape : Shape Tree V) where
   first_refused left old new _ at s o r = (inr (if_known left _ (λ b l v rest h. r.1 (first_front old b v rest (at ∙ l) s h))), tt)
 
   -- A value that borrows nothing was read; after an answer what the reader has left is what the source has.
-  module _ {T E : Type 0} (held : T → V) (left after : Option (List ℕ)) (start mid : Progress) (r : Result T (DecodeError E))
-      (sound : start.failed ≡ false) (at : start.input.left ≡ left) (s : start.input.steps ≡ 256) (o : shape.borrows ≡ false) (h : ReadsValue held shape start r mid)
+  module _ {T E : Type 0} (meaning : T → V) (left after : Option (List ℕ)) (start mid : Progress) (r : Result T (DecodeError E))
+      (sound : start.failed ≡ false) (at : start.input.left ≡ left) (s : start.input.steps ≡ 256) (o : shape.borrows ≡ false) (h : ReadsValue meaning shape start r mid)
     where
-    pub first_read : (Stays start.input mid.input → (b : List ℕ) → mid.input.left ≡ Some b → after ≡ Some b) → IfOk r (λ v. IfSome left (λ b. TakesFirst shape b (held v) after))
+    pub first_read : (Stays start.input mid.input → (b : List ℕ) → mid.input.left ≡ Some b → after ≡ Some b) → IfOk r (λ v. IfSome left (λ b. TakesFirst shape b (meaning v) after))
     first_read f = by r (h sound)
       where
-        by : (r : Result T (DecodeError E)) → MatchResult r (λ v. (mid.failed ≡ false) × TakesFront shape start.input (held v) mid.input) (λ e. Refuses (HasFront shape start.input) ⊤ (shape.borrows ≡ true) Anything start.input e mid.input)
-            → IfOk r (λ v. IfSome left (λ b. TakesFirst shape b (held v) after))
+        by : (r : Result T (DecodeError E)) → MatchResult r (λ v. (mid.failed ≡ false) × TakesFront shape start.input (meaning v) mid.input) (λ e. Refuses (HasFront shape start.input) ⊤ (shape.borrows ≡ true) Anything start.input e mid.input)
+            → IfOk r (λ v. IfSome left (λ b. TakesFirst shape b (meaning v) after))
         by (Ok v) k = if_known left _ (λ b l.
             let taken = k.1.taken b (at ∙ l) in
             (taken.1, (taken.0, taken.2, taken.3, omega (arith, taken.4, s)), f k.1.same taken.1 taken.5))
@@ -167,7 +167,7 @@ module _ {V : Type 0} (shape : Shape Tree V) where
     pub first_not_read : IfErr r (NotFirst left)
     first_not_read = by r (h sound)
       where
-        by : (r : Result T (DecodeError E)) → MatchResult r (λ v. (mid.failed ≡ false) × TakesFront shape start.input (held v) mid.input) (λ e. Refuses (HasFront shape start.input) ⊤ (shape.borrows ≡ true) Anything start.input e mid.input)
+        by : (r : Result T (DecodeError E)) → MatchResult r (λ v. (mid.failed ≡ false) × TakesFront shape start.input (meaning v) mid.input) (λ e. Refuses (HasFront shape start.input) ⊤ (shape.borrows ≡ true) Anything start.input e mid.input)
             → IfErr r (NotFirst left)
         by (Ok v) k = tt
         by (Err e) k = first_refused left start.input mid.input e at s o k

@@ -16,15 +16,15 @@ use Rattle.ipld_tree.specs.Tree.{Tree, text}
 use Rattle.dagcbor_items.specs.Untyped.{TakesItem}
 use Rattle.dagcbor_items.specs.FirstBytes.{BeginsAs}
 use Rattle.dagcbor_items.specs.Places.{Follows}
-use Rattle.dagcbor_items.specs.ItemCauses.{KeyStands}
+use Rattle.dagcbor_items.specs.ItemCauses.{KeyCause}
 use Rattle.dagcbor_items.specs.Entries.{HasKey}
-use Rattle.dagcbor_items.specs.Variants.{OfKind}
+use Rattle.dagcbor_items.specs.Variants.{OfHead}
 use Rattle.dagcbor_items.specs.Reads.{HasFront, TakesFront, NoStepIfDeep, Anything}
 use Rattle.dagcbor_read.specs.declared.accessor.Accessor.{Accessor}
 use Rattle.dagcbor_items.specs.Shapes.{Shape}
 
 -- a list or map that was begun
-pub record Begun : Type 0 where
+pub record AccessorState : Type 0 where
   -- the name under which it was begun
   pub name : Name
   -- whether it is a map
@@ -38,8 +38,8 @@ pub record Begun : Type 0 where
   -- the steps that its end gives back
   pub steps : ℕ
 
-abbrev pub begun : Accessor → Begun
-begun a = record {
+abbrev pub accessor_state : Accessor → AccessorState
+accessor_state a = record {
   name = a.name;
   is_map = a.is_map;
   announced = a.announced;
@@ -50,7 +50,7 @@ begun a = record {
 }
 
 -- a list or map of which nothing was read
-abbrev pub fresh : Name → Bool → ℕ → ℕ → Begun
+abbrev pub fresh : Name → Bool → ℕ → ℕ → AccessorState
 fresh name is_map count steps = record { name = name; is_map = is_map; announced = count; left = count; last = None; owes_value = false; steps = steps }
 
 -- ---- beginning
@@ -79,7 +79,7 @@ EnterCause major name e b = HeadCause e b × IsNamed name e × BeginsAs major b
 -- which refusals are answered, also where the bytes are not known
 abbrev pub OfBegin : {E : Type 0} → DecodeError E → Type 0
 OfBegin (DepthOverflow name) = ⊤
-OfBegin e = OfKind e
+OfBegin e = OfHead e
 
 -- The head of a list or map is taken exactly where one stands and a step is left.
 abbrev pub ReadsHead : {E : Type 0} → ℕ → List ℕ → Reading → Result ℕ (DecodeError E) → Reading → Type 0
@@ -90,19 +90,19 @@ ReadsHead major name old result new = MatchResult result
 -- A list or map is begun exactly where its head stands and a step is left. Its end gives so many steps back.
 abbrev pub BeginsItems : {E : Type 0} → ℕ → List ℕ → ℕ → Reading → Result Accessor (DecodeError E) → Reading → Type 0
 BeginsItems major name steps old result new = MatchResult result
-    (λ a. (begun a ≡ fresh a.name (major == 5) a.left steps) × Names a.name name × Enters major a.left old new)
+    (λ a. (accessor_state a ≡ fresh a.name (major == 5) a.left steps) × Names a.name name × Enters major a.left old new)
     (λ e. Refuses (HasHeadOf major old) ⊥ ⊥ (EnterCause major name) old e new × NoStepIfDeep old e)
 
 -- ---- going on
 
 -- None exactly with no item left, else the part's answer
 abbrev pub ReadsElement : {T V E : Type 0} → (T → V) → Shape Tree V → ℕ → Reading → Result (Option T) (DecodeError E) → Reading → Type 0
-ReadsElement held shape left old (Ok None) new = (left ≡ 0) × (new ≡ old)
-ReadsElement held shape left old (Ok (Some v)) new = (0 < left) × TakesFront shape old (held v) new
-ReadsElement held shape left old (Err e) new = (0 < left) × Refuses (HasFront shape old) ⊤ (shape.borrows ≡ true) Anything old e new
+ReadsElement meaning shape left old (Ok None) new = (left ≡ 0) × (new ≡ old)
+ReadsElement meaning shape left old (Ok (Some v)) new = (0 < left) × TakesFront shape old (meaning v) new
+ReadsElement meaning shape left old (Err e) new = (0 < left) × Refuses (HasFront shape old) ⊤ (shape.borrows ≡ true) Anything old e new
 
 -- an item that was answered leaves one fewer
-abbrev pub after_element : {T E : Type 0} → Result (Option T) (DecodeError E) → Begun → Begun
+abbrev pub after_element : {T E : Type 0} → Result (Option T) (DecodeError E) → AccessorState → AccessorState
 after_element (Ok (Some v)) c = record c { left = c.left - 1 }
 after_element _ c = c
 
@@ -111,36 +111,36 @@ after_element _ c = c
 abbrev pub ReadsNextKey : {E : Type 0} → Option (List ℕ) → ℕ → Reading → Result (Option (CowStr Global)) (DecodeError E) → Reading → Type 0
 ReadsNextKey last left old (Ok None) new = (left ≡ 0) × (new ≡ old)
 ReadsNextKey last left old (Ok (Some k)) new = (0 < left) × Follows last (cow_str_bytes k) × TakesItem 1 old (text (cow_str_bytes k)) new
-ReadsNextKey last left old (Err e) new = (0 < left) × Refuses (HasKey last old) (old.lends ≡ false) ⊥ (KeyStands last) old e new
+ReadsNextKey last left old (Err e) new = (0 < left) × Refuses (HasKey last old) (old.lends ≡ false) ⊥ (KeyCause last) old e new
 
 -- a key that stands after the one before it, and the same once more
 abbrev pub ReadsKeyAfter : {E : Type 0} → Option (List ℕ) → Reading → Result (CowStr Global × CowStr Global) (DecodeError E) → Reading → Type 0
 ReadsKeyAfter last old result new = MatchResult result
     (λ p. (cow_str_bytes p.1 ≡ cow_str_bytes p.0) × Follows last (cow_str_bytes p.0) × TakesItem 1 old (text (cow_str_bytes p.0)) new)
-    (λ e. Refuses (HasKey last old) (old.lends ≡ false) ⊥ (KeyStands last) old e new)
+    (λ e. Refuses (HasKey last old) (old.lends ≡ false) ⊥ (KeyCause last) old e new)
 
 -- a key that was answered leaves one pair fewer, and its value is to be read
-abbrev pub after_key : {E : Type 0} → Result (Option (CowStr Global)) (DecodeError E) → Begun → Begun
+abbrev pub after_key : {E : Type 0} → Result (Option (CowStr Global)) (DecodeError E) → AccessorState → AccessorState
 after_key (Ok (Some k)) c = record c { left = c.left - 1; last = Some (cow_str_bytes k); owes_value = true }
 after_key _ c = c
 
-abbrev pub with_value : Begun → Begun
+abbrev pub with_value : AccessorState → AccessorState
 with_value c = record c { owes_value = false }
 
 -- a value that was answered is to be read no more
-abbrev pub after_value : {T E : Type 0} → Result T (DecodeError E) → Begun → Begun
+abbrev pub after_value : {T E : Type 0} → Result T (DecodeError E) → AccessorState → AccessorState
 after_value (Ok v) c = with_value c
 after_value (Err e) c = c
 
 -- ---- ending
 
 -- items are unread: how many were read, and how many were announced
-abbrev pub LeavesUnread : {E : Type 0} → Begun → DecodeError E → Type 0
+abbrev pub LeavesUnread : {E : Type 0} → AccessorState → DecodeError E → Type 0
 LeavesUnread c (LengthMismatch name expect value) = (name ≡ c.name) × (expect + c.left ≡ c.announced) × (value ≡ c.announced)
 LeavesUnread c _ = ⊥
 
 -- A list or map is ended exactly where no item is left, and its steps are given back.
-abbrev pub EndsItems : {E : Type 0} → Begun → Reading → Result (Unit {0}) (DecodeError E) → Reading → Type 0
+abbrev pub EndsItems : {E : Type 0} → AccessorState → Reading → Result (Unit {0}) (DecodeError E) → Reading → Type 0
 EndsItems c old result new = MatchResult result
     (λ _. (c.left ≡ 0) × (new ≡ with_steps (old.steps + c.steps) old))
     (λ e. (0 < c.left) × LeavesUnread c e × (new ≡ old))

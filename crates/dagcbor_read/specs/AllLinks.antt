@@ -8,13 +8,13 @@ use Rattle.dagcbor_heads.specs.declared.error.DecodeError.TheVariants.{Read, Req
 use Rattle.ipld_tree.specs.Cid.{CidParts}
 use Rattle.ipld_tree.specs.Tree.{Tree, any_need, links_of}
 use Rattle.ipld_tree.specs.Spelling.{IsFront}
-use Rattle.dagcbor_items.specs.ItemCauses.{Stands}
+use Rattle.dagcbor_items.specs.ItemCauses.{CauseInside}
 use Rattle.dagcbor_items.specs.Walks.{forms, all_links}
 use Rattle.dagcbor_items.specs.Reads.{Reads}
 
 -- The links of an item of any kind are read exactly where one stands within the steps left.
 abbrev pub ReadsLinks : {E : Type 0} → Reading → Result (Vec CidParts Global) (DecodeError E) → Reading → Type 0
-ReadsLinks old = Reads (λ v. forms v.items) all_links ⊤ ⊥ (Stands old.steps) old
+ReadsLinks old = Reads (λ v. forms v.items) all_links ⊤ ⊥ (CauseInside old.steps) old
 
 -- the bytes begin with a tree that is read within 256 steps, and these are its links
 abbrev pub AreFirstLinks : List ℕ → List (List ℕ) → Type 0
@@ -26,7 +26,7 @@ LinksRefused (Read e) b = ⊥
 LinksRefused OutOfMemory b = ⊤
 LinksRefused (RequireBorrowed name) b = ⊥
 LinksRefused Failed b = ⊥
-LinksRefused e b = ((links : List (List ℕ)) → AreFirstLinks b links → ⊥) × Stands 256 e b
+LinksRefused e b = ((links : List (List ℕ)) → AreFirstLinks b links → ⊥) × CauseInside 256 e b
 
 -- The links of the first item of a slice are read exactly where one stands that is read within 256 steps. What follows it is not looked at.
 abbrev pub ReadsFirstLinks : List ℕ → Result (Vec CidParts Global) (DecodeError Infallible) → Type 0

@@ -12,7 +12,7 @@ use Rattle.dagcbor_items.specs.Entries.{AllFollow}
 use Rattle.ipld_tree.specs.Spelling.{item_count, entry_count, AreFronts, AreEntryFronts}
 use Rattle.dagcbor_read.specs.Calls.{Progress}
 use Rattle.dagcbor_items.specs.Reads.{Anything}
-use Rattle.dagcbor_read.specs.Accessors.{Begun}
+use Rattle.dagcbor_read.specs.Accessors.{AccessorState}
 use Rattle.dagcbor_items.specs.Shapes.{Shape}
 
 -- ---- lists
@@ -40,8 +40,8 @@ abbrev pub need_items : (Tree → ℕ) → Items → ℕ
 need_items need no_items = 0
 need_items need (item t ts) = max (need t) (need_items need ts)
 
-abbrev pub items_of : {V : Type 0} → Shape Tree V → Shape Items (List V)
-items_of shape = record { view = view_items shape.view; need = need_items shape.need; borrows = shape.borrows }
+abbrev pub all_of : {V : Type 0} → Shape Tree V → Shape Items (List V)
+all_of shape = record { view = view_items shape.view; need = need_items shape.need; borrows = shape.borrows }
 
 -- no item
 abbrev pub view_none : Items → Option (Unit {0})
@@ -85,16 +85,16 @@ pub record TakesRow {V : Type 0} (shape : Shape Items V) (count : ℕ) (old : Re
   pub same : Stays old new
 
 -- Items of a list that was begun are read from the first that is left on. Where all that are left make a row, none is left then.
-abbrev pub ReadsRow : {T V E : Type 0} → (T → V) → Shape Items V → Begun → Progress → Result T (DecodeError E) → Begun → Progress → Type 0
-ReadsRow held shape before old result after new = MatchResult result
+abbrev pub ReadsRow : {T V E : Type 0} → (T → V) → Shape Items V → AccessorState → Progress → Result T (DecodeError E) → AccessorState → Progress → Type 0
+ReadsRow meaning shape before old result after new = MatchResult result
     (λ v. (new.failed ≡ false) × (after ≡ record before { left = after.left }) × (after.left ≤ before.left)
-    × TakesRow shape (before.left - after.left) old.input (held v) new.input × (HasRow shape before.left old.input → after.left ≡ 0))
+    × TakesRow shape (before.left - after.left) old.input (meaning v) new.input × (HasRow shape before.left old.input → after.left ≡ 0))
     (λ e. Refuses (HasRow shape before.left old.input) ⊤ (shape.borrows ≡ true) Anything old.input e new.input)
 
 -- All that is left of a list that was begun is read, and it is ended: its steps are given back.
-abbrev pub ReadsRest : {T V E : Type 0} → (T → V) → Shape Items V → Begun → Progress → Result T (DecodeError E) → Progress → Type 0
-ReadsRest held shape before old result new = MatchResult result
-    (λ v. (new.failed ≡ false) × (now : Reading) × TakesRow shape before.left old.input (held v) now × (new.input ≡ with_steps (now.steps + before.steps) now))
+abbrev pub ReadsRest : {T V E : Type 0} → (T → V) → Shape Items V → AccessorState → Progress → Result T (DecodeError E) → Progress → Type 0
+ReadsRest meaning shape before old result new = MatchResult result
+    (λ v. (new.failed ≡ false) × (now : Reading) × TakesRow shape before.left old.input (meaning v) now × (new.input ≡ with_steps (now.steps + before.steps) now))
     (λ e. Refuses (HasRow shape before.left old.input) ⊤ (shape.borrows ≡ true) Anything old.input e new.input)
 
 -- neither borrows
@@ -161,9 +161,9 @@ pub record TakesFields {S : Type 0} (shape : FieldShape S) (state : S) (last : O
   pub same : Stays old new
 
 -- All that is left of a map that was begun is read, and it is ended: its steps are given back.
-abbrev pub ReadsEntriesLeft : {T S E : Type 0} → (T → S) → FieldShape S → S → Begun → Progress → Result T (DecodeError E) → Progress → Type 0
-ReadsEntriesLeft held shape start before old result new = MatchResult result
-    (λ v. (new.failed ≡ false) × (now : Reading) × TakesFields shape start before.last before.left old.input (held v) now × (new.input ≡ with_steps (now.steps + before.steps) now))
+abbrev pub ReadsEntriesLeft : {T S E : Type 0} → (T → S) → FieldShape S → S → AccessorState → Progress → Result T (DecodeError E) → Progress → Type 0
+ReadsEntriesLeft meaning shape start before old result new = MatchResult result
+    (λ v. (new.failed ≡ false) × (now : Reading) × TakesFields shape start before.last before.left old.input (meaning v) now × (new.input ≡ with_steps (now.steps + before.steps) now))
     (λ e. Refuses (HasFields shape start before.last before.left old.input) ⊤ (shape.borrows ≡ true) Anything old.input e new.input)
 
 -- what a value shows to the place of a field
@@ -187,7 +187,7 @@ struct_of shape start finish = finishing finish (fields_of shape start)
 
 -- the keys as bytes, and what the values hold
 abbrev pub text_pairs : {A V : Type 0} → (A → V) → List (String Global × A) → List (List ℕ × V)
-text_pairs held es = map (λ e. (string_bytes e.0, held e.1)) es
+text_pairs meaning es = map (λ e. (string_bytes e.0, meaning e.1)) es
 
 -- the pairs, put one by one into the order of their keys
 abbrev pub in_key_order : {V : Type 0} → List (List ℕ × V) → List (List ℕ × V)
@@ -198,9 +198,9 @@ in_key_order (p ∷ ps) = insert_entry key_cmp (in_key_order ps) p.0 p.1
 abbrev pub take_entry : {V : Type 0} → (Tree → Option V) → List (List ℕ × V) → List ℕ → Tree → Option (List (List ℕ × V))
 take_entry view pairs k t = option_map (λ v. insert_entry key_cmp pairs k v) (view t)
 
-abbrev pub entries_of : {V : Type 0} → Shape Tree V → FieldShape (List (List ℕ × V))
-entries_of shape = record { take = take_entry shape.view; need = λ k t. shape.need t; borrows = shape.borrows }
+abbrev pub values_of : {V : Type 0} → Shape Tree V → FieldShape (List (List ℕ × V))
+values_of shape = record { take = take_entry shape.view; need = λ k t. shape.need t; borrows = shape.borrows }
 
 -- a map whose values all show something shows the pairs in the order of their keys
 abbrev pub map_of : {V : Type 0} → Shape Tree V → Shape Tree (List (List ℕ × V))
-map_of shape = fields_of (entries_of shape) []
+map_of shape = fields_of (values_of shape) []

@@ -6,7 +6,7 @@ use Rattle.dagcbor_heads.specs.declared.error.DecodeError.{DecodeError}
 use Rattle.ipld_tree.specs.Tree.{Tree, text, mapping, no_entries, entry}
 use Rattle.dagcbor_read.specs.Calls.{Progress}
 use Rattle.dagcbor_items.specs.Reads.{HasFront, TakesFront, Anything}
-use Rattle.dagcbor_read.specs.Enums.{BegunEnum}
+use Rattle.dagcbor_read.specs.Enums.{EnumState}
 use Rattle.dagcbor_items.specs.Shapes.{Shape}
 
 -- A variant's name alone, or a map of one pair, from the name to what the variant holds.
@@ -45,18 +45,18 @@ part_of shape k = record { view = shape.part k; need = shape.need k; borrows = s
 -- ---- a variant that was named
 
 -- it is its name alone, and shows something; or what it holds stands at the front
-abbrev pub HasVariant : {V : Type 0} → EnumShape V → List ℕ → BegunEnum → Reading → Type 0
+abbrev pub HasVariant : {V : Type 0} → EnumShape V → List ℕ → EnumState → Reading → Type 0
 HasVariant shape k e r = MatchBool e.in_map (HasFront (part_of shape k) r) (is_some (shape.unit k) ≡ true)
 
 -- it was its name alone, which shows v; or what it holds was taken, which shows v; and the enum's steps are given back
-abbrev pub TakesVariant : {V : Type 0} → EnumShape V → List ℕ → BegunEnum → Reading → V → Reading → Type 0
+abbrev pub TakesVariant : {V : Type 0} → EnumShape V → List ℕ → EnumState → Reading → V → Reading → Type 0
 TakesVariant shape k e old v new = MatchBool e.in_map
     ((now : Reading) × TakesFront (part_of shape k) old v now × (new ≡ with_steps (now.steps + e.steps) now))
     ((shape.unit k ≡ Some v) × (new ≡ with_steps (old.steps + e.steps) old))
 
 -- A variant is read exactly where it is its name alone or holds what the type accepts, as its name wants. After an answer
 -- nothing has failed.
-abbrev pub ReadsVariant : {T V E : Type 0} → (T → V) → EnumShape V → List ℕ → BegunEnum → Progress → Result T (DecodeError E) → Progress → Type 0
-ReadsVariant held shape k e old result new = MatchResult result
-    (λ v. (new.failed ≡ false) × TakesVariant shape k e old.input (held v) new.input)
+abbrev pub ReadsVariant : {T V E : Type 0} → (T → V) → EnumShape V → List ℕ → EnumState → Progress → Result T (DecodeError E) → Progress → Type 0
+ReadsVariant meaning shape k e old result new = MatchResult result
+    (λ v. (new.failed ≡ false) × TakesVariant shape k e old.input (meaning v) new.input)
     (λ r. Refuses (HasVariant shape k e old.input) ⊤ (shape.borrows ≡ true) Anything old.input r new.input)

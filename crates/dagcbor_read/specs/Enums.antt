@@ -12,7 +12,7 @@ use Rattle.std.specs.Cow.{cow_str_bytes}
 use Rattle.std.specs.declared.borrow.CowStr.{CowStr}
 use Rattle.std.specs.declared.alloc.Global.{Global}
 use Rattle.dagcbor_items.specs.Shapes.{view_text, leaf, Shape}
-use Rattle.dagcbor_items.specs.LeafCauses.{TextStands}
+use Rattle.dagcbor_items.specs.LeafCauses.{TextCause}
 use Rattle.dagcbor_read.specs.Calls.{Progress}
 use Rattle.dagcbor_items.specs.Variants.{OfByte}
 use Rattle.dagcbor_items.specs.Reads.{Reads, HasFront, TakesFront, NoStepIfDeep, Anything}
@@ -21,7 +21,7 @@ use Rattle.dagcbor_read.specs.declared.accessor.Accessor.{Accessor}
 use Rattle.dagcbor_read.specs.declared.enum_accessor.EnumAccessor.{EnumAccessor}
 
 -- an enum that was begun
-pub record BegunEnum : Type 0 where
+pub record EnumState : Type 0 where
   -- its first byte
   pub first : ℕ
   -- whether it is a map of one pair, from the variant's name to what it holds, and not the name alone
@@ -29,8 +29,8 @@ pub record BegunEnum : Type 0 where
   -- the steps that its end gives back
   pub steps : ℕ
 
-abbrev pub begun_enum : EnumAccessor → BegunEnum
-begun_enum a = record { first = a.first; in_map = a.in_map; steps = a.steps }
+abbrev pub enum_state : EnumAccessor → EnumState
+enum_state a = record { first = a.first; in_map = a.in_map; steps = a.steps }
 
 -- ---- beginning
 
@@ -42,7 +42,7 @@ pub record HasEnum (r : Reading) : Type 0 where
   pub accepted : (byte ≡ 0xa1) ⊎ (byte / 32 ≡ 3)
 
 -- the first byte of a text stands there, and stays; or a1 stood there, and was taken
-abbrev pub TakesForm : BegunEnum → Reading → Reading → Type 0
+abbrev pub TakesForm : EnumState → Reading → Reading → Type 0
 TakesForm e old new = MatchBool e.in_map
     ((e.first ≡ 0xa1) × Takes old (0xa1 ∷ []) new)
     ((e.first / 32 ≡ 3) × ShowsByte old e.first new)
@@ -56,7 +56,7 @@ EnumCause _ b = ⊥
 -- An enum is begun exactly where one may begin. No step is spent on it.
 abbrev pub BeginsEnum : {E : Type 0} → Reading → Result EnumAccessor (DecodeError E) → Reading → Type 0
 BeginsEnum old result new = MatchResult result
-    (λ a. ((begun_enum a).steps ≡ 0) × TakesForm (begun_enum a) old new)
+    (λ a. ((enum_state a).steps ≡ 0) × TakesForm (enum_state a) old new)
     (λ e. Refuses (HasEnum old) ⊥ ⊥ EnumCause old e new)
 
 -- why an enum that takes a step is not begun
@@ -76,46 +76,46 @@ HasStepEnum r = HasEnum r × (0 < r.steps)
 -- An enum is begun exactly where one may begin and a step is left, which is spent.
 abbrev pub SpendsEnum : {E : Type 0} → List ℕ → Reading → Result EnumAccessor (DecodeError E) → Reading → Type 0
 SpendsEnum name old result new = MatchResult result
-    (λ a. ((begun_enum a).steps ≡ 1) × (0 < old.steps) × (new.steps < new.budget) × TakesForm (begun_enum a) (with_steps (old.steps - 1) old) new)
+    (λ a. ((enum_state a).steps ≡ 1) × (0 < old.steps) × (new.steps < new.budget) × TakesForm (enum_state a) (with_steps (old.steps - 1) old) new)
     (λ e. Refuses (HasStepEnum old) ⊥ ⊥ (StepEnumCause name) old e new × NoStepIfDeep old e)
 
 -- ---- the variant
 
 -- why a variant of this form is refused: the enum has the other form
-abbrev pub IsOtherForm : {E : Type 0} → BegunEnum → DecodeError E → Type 0
+abbrev pub IsOtherForm : {E : Type 0} → EnumState → DecodeError E → Type 0
 IsOtherForm e (Mismatch name found) = Names name (codes "enum") × (found ≡ e.first)
 IsOtherForm e _ = ⊥
 
 -- A variant's name is read exactly where a text stands, with no want of memory where the input lends.
 abbrev pub ReadsName : {E : Type 0} → Reading → Result (CowStr Global × EnumAccessor) (DecodeError E) → Reading → Type 0
-ReadsName old = Reads (λ v. cow_str_bytes v.0) (leaf view_text) (old.lends ≡ false) ⊥ (TextStands (codes "string")) old
+ReadsName old = Reads (λ v. cow_str_bytes v.0) (leaf view_text) (old.lends ≡ false) ⊥ (TextCause (codes "string")) old
 
 -- The form of a map is there, or the other, which is refused. Nothing is read.
-abbrev pub EntersMap : {E : Type 0} → BegunEnum → Reading → Result (Unit {0}) (DecodeError E) → Reading → Type 0
+abbrev pub EntersMap : {E : Type 0} → EnumState → Reading → Result (Unit {0}) (DecodeError E) → Reading → Type 0
 EntersMap e old result new = MatchResult result
     (λ _. (e.in_map ≡ true) × (new ≡ old))
     (λ r. (e.in_map ≡ false) × IsOtherForm e r × (new ≡ old))
 
 -- The list or map of what a variant holds is begun as any, exactly where the enum has the form of a map. Its end gives the
 -- enum's steps back too.
-abbrev pub BeginsHeld : {E : Type 0} → ℕ → List ℕ → BegunEnum → Reading → Result Accessor (DecodeError E) → Reading → Type 0
+abbrev pub BeginsHeld : {E : Type 0} → ℕ → List ℕ → EnumState → Reading → Result Accessor (DecodeError E) → Reading → Type 0
 BeginsHeld major name e old result new = MatchBool e.in_map
     (BeginsItems major name (e.steps + 1) old result new)
     (MatchResult result (λ _. ⊥) (λ r. IsOtherForm e r × (new ≡ old)))
 
 -- A variant that is its name alone is ended exactly where the enum has that form: its steps are given back.
-abbrev pub EndsUnit : {E : Type 0} → BegunEnum → Reading → Result (Unit {0}) (DecodeError E) → Reading → Type 0
+abbrev pub EndsUnit : {E : Type 0} → EnumState → Reading → Result (Unit {0}) (DecodeError E) → Reading → Type 0
 EndsUnit e old result new = MatchResult result
     (λ _. (e.in_map ≡ false) × (new ≡ with_steps (old.steps + e.steps) old))
     (λ r. (e.in_map ≡ true) × IsOtherForm e r × (new ≡ old))
 
 -- What a variant holds is read as the law of its type says, exactly where the enum has the form of a map: then the enum's
 -- steps are given back.
-abbrev pub ReadsHeld : {T V E : Type 0} → (T → V) → Shape Tree V → BegunEnum → Reading → Result T (DecodeError E) → Reading → Type 0
-ReadsHeld held shape e old result new = MatchResult result
-    (λ v. (e.in_map ≡ true) × ((now : Reading) × TakesFront shape old (held v) now × (new ≡ with_steps (now.steps + e.steps) now)))
+abbrev pub ReadsHeld : {T V E : Type 0} → (T → V) → Shape Tree V → EnumState → Reading → Result T (DecodeError E) → Reading → Type 0
+ReadsHeld meaning shape e old result new = MatchResult result
+    (λ v. (e.in_map ≡ true) × ((now : Reading) × TakesFront shape old (meaning v) now × (new ≡ with_steps (now.steps + e.steps) now)))
     (λ r. MatchBool e.in_map (Refuses (HasFront shape old) ⊤ (shape.borrows ≡ true) Anything old r new) (IsOtherForm e r × (new ≡ old)))
 
 -- The same for the fields that a variant holds, where nothing had failed. After an answer nothing has failed.
-abbrev pub ReadsFieldsHeld : {T V E : Type 0} → (T → V) → Shape Tree V → BegunEnum → Progress → Result T (DecodeError E) → Progress → Type 0
-ReadsFieldsHeld held shape e old result new = old.failed ≡ false → IfOk result (λ v. new.failed ≡ false) × ReadsHeld held shape e old.input result new.input
+abbrev pub ReadsFieldsHeld : {T V E : Type 0} → (T → V) → Shape Tree V → EnumState → Progress → Result T (DecodeError E) → Progress → Type 0
+ReadsFieldsHeld meaning shape e old result new = old.failed ≡ false → IfOk result (λ v. new.failed ≡ false) × ReadsHeld meaning shape e old.input result new.input

@@ -23,7 +23,7 @@ pub use Rattle.dagcbor_items.specs.Reads
 pub use Rattle.dagcbor_items.specs.Variants
 pub use Rattle.dagcbor_items.specs.Shapes
 pub use Rattle.dagcbor_items.specs.LeafCauses
-pub use Rattle.dagcbor_items.specs.Kinds
+pub use Rattle.dagcbor_items.specs.Majors
 pub use Rattle.dagcbor_items.specs.LeafReads
 pub mod Parts
 pub mod Accessors

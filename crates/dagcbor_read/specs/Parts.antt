@@ -14,7 +14,7 @@ use Rattle.dagcbor_items.specs.Reads.{Reads, HasFront, TakesFront, NoStepIfDeep,
 
 -- A value is read as the law of its type says.
 abbrev pub ReadsPart : {T V E : Type 0} → (T → V) → Shape Tree V → Reading → Result T (DecodeError E) → Reading → Type 0
-ReadsPart held shape = Reads held shape ⊤ (shape.borrows ≡ true) Anything
+ReadsPart meaning shape = Reads meaning shape ⊤ (shape.borrows ≡ true) Anything
 
 -- a null stands at the front, or another byte, and a step is left
 pub record CanEnter (r : Reading) : Type 0 where
@@ -57,8 +57,8 @@ RefusesPart shape old e new = (mid : Reading) × EntersSome old mid × Refuses (
 -- A null is read, or another value as the law of its type says. A refusal is the part's, or it came before the part with
 -- its cause.
 abbrev pub ReadsOption : {T V E : Type 0} → (T → V) → Shape Tree V → Reading → Result (Option T) (DecodeError E) → Reading → Type 0
-ReadsOption held shape old result new = MatchResult result
-    (λ o. TakesFront (option_of shape) old (option_map held o) new)
+ReadsOption meaning shape old result new = MatchResult result
+    (λ o. TakesFront (option_of shape) old (option_map meaning o) new)
     (λ e. Refuses (HasFront (option_of shape) old) ⊤ (shape.borrows ≡ true) Anything old e new
     × (RefusesToEnter old e new ⊎ RefusesPart shape old e new))
 

@@ -58,8 +58,8 @@ AreSome e b = 0 < length b
 
 -- The end is found, or a value is read of the bytes that are left, or refused. A fault may come before it is known whether bytes are left.
 abbrev pub ReadsNext : {T V E : Type 0} → (T → V) → Shape Tree V → Reading → Result (Option T) (DecodeError E) → Reading → Type 0
-ReadsNext held shape old result new = MatchResult result
-    (λ next. MatchOption next (FindsEnd old new) (λ v. TakesFront shape old (held v) new))
+ReadsNext meaning shape old result new = MatchResult result
+    (λ next. MatchOption next (FindsEnd old new) (λ v. TakesFront shape old (meaning v) new))
     (λ e. Refuses (HasFront shape old) (SomeLeft old) ((shape.borrows ≡ true) × SomeLeft old) AreSome old e new)
 
 -- what `next` gives is what reading answered, and the last but after a value
@@ -74,9 +74,9 @@ is_last (Some r) = is_err r
 
 -- What `next` does: nothing comes of a stream that is done; else what reading the next value answers.
 abbrev pub GivesNext : {T V E : Type 0} → (T → V) → Shape Tree V → Streaming → Option (Result T (DecodeError E)) → Streaming → Type 0
-GivesNext held shape old item new = MatchBool old.done
+GivesNext meaning shape old item new = MatchBool old.done
     ((item ≡ None) × (new ≡ old))
-    ((new.done ≡ is_last item) × Call (ReadsNext held shape) old.source (as_answer item) new.source)
+    ((new.done ≡ is_last item) × Call (ReadsNext meaning shape) old.source (as_answer item) new.source)
 
 -- Where n bytes are left, at most n + 1 items come; where the source does not tell its bytes, nothing is said.
 abbrev pub items_left_of : Bool → Option (List ℕ) → Count
@@ -113,20 +113,20 @@ EndsAtError (Err e ∷ xs) = xs ≡ []
 
 -- what an item is in the stream of the type
 abbrev pub stream_item : {T V E : Type 0} → (T → V) → Result T (DecodeError E) → Option V
-stream_item held (Ok v) = Some (held v)
-stream_item held (Err e) = None
+stream_item meaning (Ok v) = Some (meaning v)
+stream_item meaning (Err e) = None
 
 -- what came before the first error
 abbrev pub values_before : {T V E : Type 0} → (T → V) → List (Result T (DecodeError E)) → List V
-values_before held [] = []
-values_before held (Ok v ∷ xs) = held v ∷ values_before held xs
-values_before held (Err e ∷ xs) = []
+values_before meaning [] = []
+values_before meaning (Ok v ∷ xs) = meaning v ∷ values_before meaning xs
+values_before meaning (Err e ∷ xs) = []
 
 -- What came is the stream's items, to the last where it is whole; or up to one in whose place an error came that says nothing of the bytes.
 abbrev pub AreUpTo : {T V E : Type 0} → (T → V) → Type 0 → Bool → List (Result T (DecodeError E)) → List (Option V) → Type 0
-AreUpTo held borrows whole [] items = whole ≡ true → items ≡ []
-AreUpTo {T} {V} held borrows whole (Ok v ∷ xs) items = (more : List (Option V)) × (items ≡ Some (held v) ∷ more) × AreUpTo held borrows whole xs more
-AreUpTo held borrows whole (Err e ∷ xs) items = (xs ≡ []) × (GivesUp borrows e ⊎ (items ≡ None ∷ []))
+AreUpTo meaning borrows whole [] items = whole ≡ true → items ≡ []
+AreUpTo {T} {V} meaning borrows whole (Ok v ∷ xs) items = (more : List (Option V)) × (items ≡ Some (meaning v) ∷ more) × AreUpTo meaning borrows whole xs more
+AreUpTo meaning borrows whole (Err e ∷ xs) items = (xs ≡ []) × (GivesUp borrows e ⊎ (items ≡ None ∷ []))
 
 -- a stream, not done, over known bytes, of what has not failed
 pub record IsOver (b : List ℕ) (s : Streaming) : Type 0 where
@@ -134,10 +134,10 @@ pub record IsOver (b : List ℕ) (s : Streaming) : Type 0 where
   pub sound : s.source.failed ≡ false
   pub left : s.source.input.left ≡ Some b
 
-module _ {S T V : Type 0} (E : Type 0) (see : S → Streaming) (held : T → V) (shape : Shape Tree V) where
+module _ {S T V : Type 0} (E : Type 0) (see : S → Streaming) (meaning : T → V) (shape : Shape Tree V) where
   -- one call of `next`
   abbrev pub Gives : S → Option (Result T (DecodeError E)) → S → Type 0
-  Gives s item t = GivesNext held shape (see s) item (see t)
+  Gives s item t = GivesNext meaning shape (see s) item (see t)
 
   -- whether a stream from s may wish to borrow
   abbrev pub MayWish : S → Type 0
@@ -150,11 +150,11 @@ module _ {S T V : Type 0} (E : Type 0) (see : S → Streaming) (held : T → V) 
     -- of n known bytes at most n + 1 items came
     pub bounded : (b : List ℕ) → IsOver b (see s) → length xs ≤ length b + 1
     -- however the run ended, the values stood one behind the other at the front of the bytes
-    pub values : (b : List ℕ) → IsOver b (see s) → (rest : List ℕ) × AreNextValues shape (see s).source.input.steps b (values_before held xs) rest
+    pub values : (b : List ℕ) → IsOver b (see s) → (rest : List ℕ) × AreNextValues shape (see s).source.input.steps b (values_before meaning xs) rest
     -- they are the stream of the type on the bytes, up to an error that says nothing of the bytes
-    pub same : (b : List ℕ) → IsOver b (see s) → (items : List (Option V)) → AreStreamItems shape (see s).source.input.steps b items → AreUpTo held (MayWish s) whole xs items
+    pub same : (b : List ℕ) → IsOver b (see s) → (items : List (Option V)) → AreStreamItems shape (see s).source.input.steps b items → AreUpTo meaning (MayWish s) whole xs items
     -- where no such error came, and all came, they make a stream
-    pub exact : (b : List ℕ) → IsOver b (see s) → whole ≡ true → NoneGivesUp (MayWish s) xs → AreStreamItems shape (see s).source.input.steps b (map (stream_item held) xs)
+    pub exact : (b : List ℕ) → IsOver b (see s) → whole ≡ true → NoneGivesUp (MayWish s) xs → AreStreamItems shape (see s).source.input.steps b (map (stream_item meaning) xs)
     -- of what had failed comes `Failed` alone
     pub failed : (see s).done ≡ false → (see s).source.failed ≡ true → whole ≡ true → xs ≡ Err Failed ∷ []
 

@@ -7,7 +7,7 @@ use Rattle.ipld_tree.specs.Tree.{Tree, any_need}
 use Rattle.ipld_tree.specs.Spelling.{IsFront, IsSpelling}
 use Rattle.ipld_tree.specs.Ipld.{tree_of}
 use Rattle.ipld_tree.specs.declared.ipld.Ipld.{Ipld}
-use Rattle.dagcbor_items.specs.ItemCauses.{Stands}
+use Rattle.dagcbor_items.specs.ItemCauses.{CauseInside}
 use Rattle.dagcbor_read.specs.declared.kind.Kind.{Kind}
 use Rattle.dagcbor_read.specs.TreeKinds.{kind_of}
 use Rattle.dagcbor_items.specs.Shapes.{Shape}
@@ -17,9 +17,9 @@ abbrev pub IsBlock : List ℕ → Tree → Type 0
 IsBlock b t = IsSpelling b t × (any_need t ≤ 256)
 
 -- the cause of a refusal of the whole: an item stands there with bytes behind it, or the item's own cause stands
-abbrev pub StandsInWhole : {E : Type 0} → DecodeError E → List ℕ → Type 0
-StandsInWhole TrailingData b = (t : Tree) × (rest : List ℕ) × IsFront b t rest × (0 < length rest)
-StandsInWhole e b = Stands 256 e b
+abbrev pub CauseInWhole : {E : Type 0} → DecodeError E → List ℕ → Type 0
+CauseInWhole TrailingData b = (t : Tree) × (rest : List ℕ) × IsFront b t rest × (0 < length rest)
+CauseInWhole e b = CauseInside 256 e b
 
 -- why a slice is refused: for want of memory, or since it is no block; a slice does not fault
 abbrev pub SliceRefused : DecodeError Infallible → List ℕ → Type 0
@@ -27,7 +27,7 @@ SliceRefused (Read e) b = ⊥
 SliceRefused OutOfMemory b = ⊤
 SliceRefused (RequireBorrowed name) b = ⊥
 SliceRefused Failed b = ⊥
-SliceRefused e b = ((t : Tree) → ¬ IsBlock b t) × StandsInWhole e b
+SliceRefused e b = ((t : Tree) → ¬ IsBlock b t) × CauseInWhole e b
 
 -- A slice is read exactly where it is a block.
 abbrev pub ReadsSlice : List ℕ → Result Ipld (DecodeError Infallible) → Type 0

@@ -50,11 +50,11 @@ pub(crate) fn give_back<R: Read>(reader: &mut R, steps: usize)
 }
 
 impl<'de> Accessor<'de> {
-    ghost use Rattle.dagcbor_read.specs.Accessors.{begun, fresh, ReadsElement, after_element, ReadsNextKey, after_key, after_value, with_value, EndsItems};
+    ghost use Rattle.dagcbor_read.specs.Accessors.{accessor_state, fresh, ReadsElement, after_element, ReadsNextKey, after_key, after_value, with_value, EndsItems};
 
     /// Nothing of it is read so far.
     pub(crate) fn new(name: Name, is_map: bool, announced: usize, steps: usize) -> Accessor<'de>
-        ensures { begun result ≡ fresh name is_map announced steps }
+        ensures { accessor_state result ≡ fresh name is_map announced steps }
     {
         Accessor {
             name,
@@ -69,21 +69,21 @@ impl<'de> Accessor<'de> {
 
     /// Whether it is a map, whose keys and values are read in turn, and not a list.
     pub fn is_map(&self) -> bool
-        ensures { result ≡ (begun self.now).is_map }
+        ensures { result ≡ (accessor_state self.now).is_map }
     {
         self.is_map
     }
 
     /// Whether the value of the key before it is to be read now.
     pub fn owes_value(&self) -> bool
-        ensures { result ≡ (begun self.now).owes_value }
+        ensures { result ≡ (accessor_state self.now).owes_value }
     {
         self.owes_value
     }
 
     /// How many items are left. A pair counts as read once its key is.
     pub fn size_hint(&self) -> Option<usize>
-        ensures { result ≡ Some (begun self.now).left }
+        ensures { result ≡ Some (accessor_state self.now).left }
     {
         Some(self.left)
     }
@@ -94,9 +94,9 @@ impl<'de> Accessor<'de> {
         alloc: Global,
         de: &mut Deserializer<'de, R>,
     ) -> Result<Option<T>, DecodeError<R::Error>>
-        requires { (begun self.old).is_map ≡ false }
-        ensures after { begun self.new ≡ after_element result (begun self.old) }
-        ensures element { Over R.reading (Call (ReadsElement T.held T.shape (begun self.old).left)) de.old result de.new }
+        requires { (accessor_state self.old).is_map ≡ false }
+        ensures after { accessor_state self.new ≡ after_element result (accessor_state self.old) }
+        ensures element { Over R.reading (Call (ReadsElement T.meaning T.shape (accessor_state self.old).left)) de.old result de.new }
     {
         de.check()?;
         if self.left == 0 {
@@ -113,10 +113,10 @@ impl<'de> Accessor<'de> {
         alloc: Global,
         de: &mut Deserializer<'de, R>,
     ) -> Result<Option<CowStr<'de>>, DecodeError<R::Error>>
-        requires map { (begun self.old).is_map ≡ true }
-        requires in_turn { (begun self.old).owes_value ≡ false }
-        ensures after { begun self.new ≡ after_key result (begun self.old) }
-        ensures key { Over R.reading (Call (ReadsNextKey (begun self.old).last (begun self.old).left)) de.old result de.new }
+        requires map { (accessor_state self.old).is_map ≡ true }
+        requires in_turn { (accessor_state self.old).owes_value ≡ false }
+        ensures after { accessor_state self.new ≡ after_key result (accessor_state self.old) }
+        ensures key { Over R.reading (Call (ReadsNextKey (accessor_state self.old).last (accessor_state self.old).left)) de.old result de.new }
         ensures lent { IfOk result (λ o. IfSome o (λ k. IsBorrowedStr k ↔ ((progress R.reading de.old).input.lends ≡ true))) }
         ensures variant { IfErr result OfKey }
     {
@@ -137,9 +137,9 @@ impl<'de> Accessor<'de> {
         alloc: Global,
         de: &mut Deserializer<'de, R>,
     ) -> Result<T, DecodeError<R::Error>>
-        requires { (begun self.old).owes_value ≡ true }
-        ensures after { begun self.new ≡ after_value result (begun self.old) }
-        ensures value { Over R.reading (Call (ReadsPart T.held T.shape)) de.old result de.new }
+        requires { (accessor_state self.old).owes_value ≡ true }
+        ensures after { accessor_state self.new ≡ after_value result (accessor_state self.old) }
+        ensures value { Over R.reading (Call (ReadsPart T.meaning T.shape)) de.old result de.new }
     {
         let value = de.read_part(alloc)?;
         self.owes_value = false;
@@ -148,16 +148,16 @@ impl<'de> Accessor<'de> {
 
     /// The value of the key before it was read in another way.
     pub(crate) fn note_value(&mut self)
-        ensures { begun self.new ≡ with_value (begun self.old) }
+        ensures { accessor_state self.new ≡ with_value (accessor_state self.old) }
     {
         self.owes_value = false;
     }
 
     /// Ends the list or map, and gives its steps back.
     pub fn end<R: Read>(self, de: &mut Deserializer<'de, R>) -> Result<(), DecodeError<R::Error>>
-        requires in_turn { (begun self).owes_value ≡ false }
-        requires out { AreOut (begun self).steps (progress R.reading de.old) }
-        ensures { Over R.reading (Call (EndsItems (begun self.entry))) de.old result de.new }
+        requires in_turn { (accessor_state self).owes_value ≡ false }
+        requires out { AreOut (accessor_state self).steps (progress R.reading de.old) }
+        ensures { Over R.reading (Call (EndsItems (accessor_state self.entry))) de.old result de.new }
     {
         de.begin()?;
         if self.left > 0 {

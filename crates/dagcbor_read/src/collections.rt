@@ -77,7 +77,7 @@ impl<'de, R: Read> Deserializer<'de, R> {
         major: u8,
         more: u8,
     ) -> Result<Accessor<'de>, DecodeError<R::Error>>
-        ensures begun { Over R.reading (Call (BeginsItems major name.now (more + 1))) self.old result self.new }
+        ensures accessor_state { Over R.reading (Call (BeginsItems major name.now (more + 1))) self.old result self.new }
         ensures variant { IfErr result OfBegin }
     {
         self.begin()?;
@@ -89,7 +89,7 @@ impl<'de, R: Read> Deserializer<'de, R> {
 
     /// Begins a list. Takes no memory.
     pub fn deserialize_seq(&mut self) -> Result<Accessor<'de>, DecodeError<R::Error>>
-        ensures begun { Over R.reading (Call (BeginsItems 4 (codes "array") 1)) self.old result self.new }
+        ensures accessor_state { Over R.reading (Call (BeginsItems 4 (codes "array") 1)) self.old result self.new }
         ensures variant { IfErr result OfBegin }
     {
         self.begin_items("array", 4, 0)
@@ -97,7 +97,7 @@ impl<'de, R: Read> Deserializer<'de, R> {
 
     /// Begins a list for a tuple, whose length is not looked at. Takes no memory.
     pub fn deserialize_tuple(&mut self, _len: usize) -> Result<Accessor<'de>, DecodeError<R::Error>>
-        ensures begun { Over R.reading (Call (BeginsItems 4 (codes "tuple") 1)) self.old result self.new }
+        ensures accessor_state { Over R.reading (Call (BeginsItems 4 (codes "tuple") 1)) self.old result self.new }
         ensures variant { IfErr result OfBegin }
     {
         self.begin_items("tuple", 4, 0)
@@ -109,7 +109,7 @@ impl<'de, R: Read> Deserializer<'de, R> {
         name: &str,
         _len: usize,
     ) -> Result<Accessor<'de>, DecodeError<R::Error>>
-        ensures begun { Over R.reading (Call (BeginsItems 4 name.now 1)) self.old result self.new }
+        ensures accessor_state { Over R.reading (Call (BeginsItems 4 name.now 1)) self.old result self.new }
         ensures variant { IfErr result OfBegin }
     {
         self.begin_items(name, 4, 0)
@@ -117,7 +117,7 @@ impl<'de, R: Read> Deserializer<'de, R> {
 
     /// Begins a map. Takes no memory.
     pub fn deserialize_map(&mut self) -> Result<Accessor<'de>, DecodeError<R::Error>>
-        ensures begun { Over R.reading (Call (BeginsItems 5 (codes "map") 1)) self.old result self.new }
+        ensures accessor_state { Over R.reading (Call (BeginsItems 5 (codes "map") 1)) self.old result self.new }
         ensures variant { IfErr result OfBegin }
     {
         self.begin_items("map", 5, 0)
@@ -129,7 +129,7 @@ impl<'de, R: Read> Deserializer<'de, R> {
         name: &str,
         _fields: &[&str],
     ) -> Result<Accessor<'de>, DecodeError<R::Error>>
-        ensures begun { Over R.reading (Call (BeginsItems 5 name.now 1)) self.old result self.new }
+        ensures accessor_state { Over R.reading (Call (BeginsItems 5 name.now 1)) self.old result self.new }
         ensures variant { IfErr result OfBegin }
     {
         self.begin_items(name, 5, 0)

@@ -16,7 +16,7 @@ pub trait Deserialize<'de>: Shown + Sized + Drop {
         alloc: Global,
         de: &mut Deserializer<'de, R>,
     ) -> Result<Self, DecodeError<R::Error>>
-        ensures value { Over R.reading (ReadsValue Self.held Self.shape) de.old result de.new }
+        ensures value { Over R.reading (ReadsValue Self.meaning Self.shape) de.old result de.new }
         ensures failed { Over R.reading StaysFailed de.old result de.new };
 }
 

@@ -1,7 +1,7 @@
 //! The reader's state between calls.
 
 ghost use Rattle.std.specs.Prelude.{◌≡◌, [], false, true, MatchResult, Some, IfErr};
-ghost use Rattle.dagcbor_heads.specs.Inputs.{unlent};
+ghost use Rattle.dagcbor_heads.specs.Inputs.{not_lending};
 ghost use Rattle.dagcbor_heads.specs.declared.error.DecodeError.TheVariants.{Failed};
 ghost use Rattle.dagcbor_items.specs.Looks.{LooksAtAny};
 ghost use Rattle.dagcbor_read.specs.Calls.{progress, Call, Ends, Over};
@@ -40,7 +40,7 @@ impl<'de> Deserializer<'de, SliceReader<'de>> {
 impl<'de, R: Read> Deserializer<'de, R> {
     /// Reads from the reader, whose bytes are not lent.
     pub fn from_reader(reader: R) -> Deserializer<'de, R>
-        ensures { progress R.reading result ≡ record { input = unlent (R.reading reader); failed = false } }
+        ensures { progress R.reading result ≡ record { input = not_lending (R.reading reader); failed = false } }
     {
         Deserializer {
             input: Input::Reader(reader),

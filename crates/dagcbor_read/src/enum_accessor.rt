@@ -3,7 +3,7 @@
 ghost use Rattle.std.specs.Prelude.{◌≡◌, ◌+◌, ◌≤◌, ◌↔◌, true, IfOk, IfErr, codes};
 ghost use Rattle.std.specs.Cow.{IsBorrowedStr};
 ghost use Rattle.dagcbor_read.specs.Calls.{progress, Call, AreOut, Over};
-ghost use Rattle.dagcbor_read.specs.Enums.{begun_enum, BeginsEnum, SpendsEnum, ReadsName, IsOtherForm, EntersMap, EndsUnit, ReadsHeld, BeginsHeld, OfForm};
+ghost use Rattle.dagcbor_read.specs.Enums.{enum_state, BeginsEnum, SpendsEnum, ReadsName, IsOtherForm, EntersMap, EndsUnit, ReadsHeld, BeginsHeld, OfForm};
 ghost use Rattle.dagcbor_read.specs.Accessors.{OfBegin};
 ghost use Rattle.dagcbor_items.specs.Variants.{OfByte, OfText};
 
@@ -112,8 +112,8 @@ impl EnumAccessor {
         self,
         de: &mut Deserializer<'de, R>,
     ) -> Result<(), DecodeError<R::Error>>
-        requires { AreOut (begun_enum self).steps (progress R.reading de.old) }
-        ensures { Over R.reading (Call (EndsUnit (begun_enum self))) de.old result de.new }
+        requires { AreOut (enum_state self).steps (progress R.reading de.old) }
+        ensures { Over R.reading (Call (EndsUnit (enum_state self))) de.old result de.new }
     {
         de.begin()?;
         if self.in_map {
@@ -130,8 +130,8 @@ impl EnumAccessor {
         alloc: Global,
         de: &mut Deserializer<'de, R>,
     ) -> Result<T, DecodeError<R::Error>>
-        requires { AreOut (begun_enum self).steps (progress R.reading de.old) }
-        ensures { Over R.reading (Call (ReadsHeld T.held T.shape (begun_enum self))) de.old result de.new }
+        requires { AreOut (enum_state self).steps (progress R.reading de.old) }
+        ensures { Over R.reading (Call (ReadsHeld T.meaning T.shape (enum_state self))) de.old result de.new }
     {
         self.enter_map(de)?;
         let part = de.read_part(alloc)?;
@@ -146,7 +146,7 @@ impl EnumAccessor {
         _len: usize,
         de: &mut Deserializer<'de, R>,
     ) -> Result<Accessor<'de>, DecodeError<R::Error>>
-        ensures begun { Over R.reading (Call (BeginsHeld 4 (codes "tuple") (begun_enum self))) de.old result de.new }
+        ensures accessor_state { Over R.reading (Call (BeginsHeld 4 (codes "tuple") (enum_state self))) de.old result de.new }
         ensures variant { IfErr result OfBegin }
     {
         self.enter_map(de)?;
@@ -161,7 +161,7 @@ impl EnumAccessor {
         _fields: &[&str],
         de: &mut Deserializer<'de, R>,
     ) -> Result<Accessor<'de>, DecodeError<R::Error>>
-        ensures begun { Over R.reading (Call (BeginsHeld 5 (codes "map") (begun_enum self))) de.old result de.new }
+        ensures accessor_state { Over R.reading (Call (BeginsHeld 5 (codes "map") (enum_state self))) de.old result de.new }
         ensures variant { IfErr result OfBegin }
     {
         self.enter_map(de)?;
@@ -169,7 +169,7 @@ impl EnumAccessor {
     }
 
     fn other_form<E>(&self) -> DecodeError<E>
-        ensures { IsOtherForm (begun_enum self.now) result }
+        ensures { IsOtherForm (enum_state self.now) result }
     {
         DecodeError::Mismatch {
             name: Name::new("enum"),
@@ -183,7 +183,7 @@ impl EnumAccessor {
         &self,
         de: &mut Deserializer<'de, R>,
     ) -> Result<(), DecodeError<R::Error>>
-        ensures form { Over R.reading (Call (EntersMap (begun_enum self.now))) de.old result de.new }
+        ensures form { Over R.reading (Call (EntersMap (enum_state self.now))) de.old result de.new }
         ensures variant { IfErr result OfByte }
     {
         de.begin()?;

@@ -5,7 +5,7 @@ ghost use Rattle.ipld_tree.specs.Tree.{Tree, any_need};
 ghost use Rattle.dagcbor_items.specs.Shapes.{ignored};
 ghost use Rattle.dagcbor_read.specs.Calls.{progress, StaysFailed, Over};
 ghost use Rattle.dagcbor_read.specs.Values.{ReadsValue};
-ghost use Rattle.dagcbor_read.specs.Accessors.{begun, HasHeadOf, BeginsItems};
+ghost use Rattle.dagcbor_read.specs.Accessors.{accessor_state, HasHeadOf, BeginsItems};
 ghost use Rattle.dagcbor_read.specs.Parts.{RefusesToBegin};
 ghost use Rattle.dagcbor_read.specs.Collections.{FieldShape, fields_of, value_of, slot_of, ReadsEntriesLeft};
 
@@ -42,11 +42,11 @@ pub(crate) fn read_entries_left<'de, F: Fields<'de>, R: Read>(
     entries: Accessor<'de>,
     de: &mut Deserializer<'de, R>,
 ) -> Result<F, DecodeError<R::Error>>
-    requires map { (begun entries).is_map ≡ true }
-    requires in_turn { (begun entries).owes_value ≡ false }
+    requires map { (accessor_state entries).is_map ≡ true }
+    requires in_turn { (accessor_state entries).owes_value ≡ false }
     requires sound { (progress R.reading de.old).failed ≡ false }
-    requires out { (progress R.reading de.old).input.steps + (begun entries).steps ≤ (progress R.reading de.old).input.budget }
-    ensures { Over R.reading (ReadsEntriesLeft F.state F.shape (F.state fields) (begun entries.entry)) de.old result de.new }
+    requires out { (progress R.reading de.old).input.steps + (accessor_state entries).steps ≤ (progress R.reading de.old).input.budget }
+    ensures { Over R.reading (ReadsEntriesLeft F.state F.shape (F.state fields) (accessor_state entries.entry)) de.old result de.new }
 {
     let mut fields = fields;
     let mut entries = entries;
@@ -94,7 +94,7 @@ pub fn read_into<'de, T: Deserialize<'de>, R: Read>(
     place: &mut Option<T>,
     de: &mut Deserializer<'de, R>,
 ) -> Result<(), DecodeError<R::Error>>
-    ensures value { Over R.reading (ReadsValue (λ _. option_map T.held place.new) (slot_of T.shape)) de.old result de.new }
+    ensures value { Over R.reading (ReadsValue (λ _. option_map T.meaning place.new) (slot_of T.shape)) de.old result de.new }
     ensures failed { Over R.reading StaysFailed de.old result de.new }
 {
     let value = T::deserialize(alloc, de)?;

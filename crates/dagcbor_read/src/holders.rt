@@ -12,7 +12,7 @@ use std::alloc::Global;
 impl<T: Shown> Shown for Option<T> {
     ghost View = { Option T.View };
 
-    ghost held = { option_map T.held };
+    ghost meaning = { option_map T.meaning };
 
     ghost shape = { option_of T.shape };
 }
@@ -33,7 +33,7 @@ impl<'de, T: DeserializeOwned<'de>> DeserializeOwned<'de> for Option<T> {
 impl<T: Shown> Shown for Box<T> {
     ghost View = { T.View };
 
-    ghost held = { λ b. T.held (box_value b) };
+    ghost meaning = { λ b. T.meaning (box_value b) };
 
     ghost shape = { T.shape };
 }

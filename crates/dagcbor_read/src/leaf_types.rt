@@ -13,7 +13,7 @@ use std::alloc::Global;
 impl Shown for () {
     ghost View = { Unit {0} };
 
-    ghost held = { λ u. u };
+    ghost meaning = { λ u. u };
 
     ghost shape = { leaf view_null };
 }
@@ -34,7 +34,7 @@ impl<'de> DeserializeOwned<'de> for () {
 impl Shown for bool {
     ghost View = { Bool };
 
-    ghost held = { λ b. b };
+    ghost meaning = { λ b. b };
 
     ghost shape = { leaf view_bool };
 }
@@ -55,7 +55,7 @@ impl<'de> DeserializeOwned<'de> for bool {
 impl Shown for char {
     ghost View = { ℕ };
 
-    ghost held = { λ c. c };
+    ghost meaning = { λ c. c };
 
     ghost shape = { leaf view_char };
 }
@@ -76,7 +76,7 @@ impl<'de> DeserializeOwned<'de> for char {
 impl Shown for String {
     ghost View = { List ℕ };
 
-    ghost held = { string_bytes };
+    ghost meaning = { string_bytes };
 
     ghost shape = { leaf view_text };
 }
@@ -97,7 +97,7 @@ impl<'de> DeserializeOwned<'de> for String {
 impl Shown for Bytes {
     ghost View = { List ℕ };
 
-    ghost held = { λ b. b.0.items };
+    ghost meaning = { λ b. b.0.items };
 
     ghost shape = { leaf view_bytes };
 }

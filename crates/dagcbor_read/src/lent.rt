@@ -15,7 +15,7 @@ use std::borrow::{CowSlice, CowStr};
 impl Shown for &str {
     ghost View = { List ℕ };
 
-    ghost held = { λ s. s.now };
+    ghost meaning = { λ s. s.now };
 
     ghost shape = { lent_leaf view_text };
 }
@@ -37,7 +37,7 @@ impl<'de> Deserialize<'de> for &'de str {
 impl Shown for ByteSlice<'_> {
     ghost View = { List ℕ };
 
-    ghost held = { λ s. s.0.now };
+    ghost meaning = { λ s. s.0.now };
 
     ghost shape = { lent_leaf view_bytes };
 }
@@ -60,7 +60,7 @@ impl<'de> Deserialize<'de> for ByteSlice<'de> {
 impl Shown for CowStr<'_> {
     ghost View = { List ℕ };
 
-    ghost held = { cow_str_bytes };
+    ghost meaning = { cow_str_bytes };
 
     ghost shape = { leaf view_text };
 }

@@ -12,7 +12,7 @@ use std::alloc::Global;
 impl Shown for u8 {
     ghost View = { ℕ };
 
-    ghost held = { λ n. n };
+    ghost meaning = { λ n. n };
 
     ghost shape = { leaf (view_unsigned (2 ^ 8)) };
 }
@@ -33,7 +33,7 @@ impl<'de> DeserializeOwned<'de> for u8 {
 impl Shown for u16 {
     ghost View = { ℕ };
 
-    ghost held = { λ n. n };
+    ghost meaning = { λ n. n };
 
     ghost shape = { leaf (view_unsigned (2 ^ 16)) };
 }
@@ -54,7 +54,7 @@ impl<'de> DeserializeOwned<'de> for u16 {
 impl Shown for u32 {
     ghost View = { ℕ };
 
-    ghost held = { λ n. n };
+    ghost meaning = { λ n. n };
 
     ghost shape = { leaf (view_unsigned (2 ^ 32)) };
 }
@@ -75,7 +75,7 @@ impl<'de> DeserializeOwned<'de> for u32 {
 impl Shown for u64 {
     ghost View = { ℕ };
 
-    ghost held = { λ n. n };
+    ghost meaning = { λ n. n };
 
     ghost shape = { leaf (view_unsigned (2 ^ 64)) };
 }
@@ -96,7 +96,7 @@ impl<'de> DeserializeOwned<'de> for u64 {
 impl Shown for usize {
     ghost View = { ℕ };
 
-    ghost held = { λ n. n };
+    ghost meaning = { λ n. n };
 
     ghost shape = { leaf (view_unsigned (2 ^ 64)) };
 }
@@ -117,7 +117,7 @@ impl<'de> DeserializeOwned<'de> for usize {
 impl Shown for i8 {
     ghost View = { ℤ };
 
-    ghost held = { λ n. n };
+    ghost meaning = { λ n. n };
 
     ghost shape = { leaf (view_signed (2 ^ 7)) };
 }
@@ -138,7 +138,7 @@ impl<'de> DeserializeOwned<'de> for i8 {
 impl Shown for i16 {
     ghost View = { ℤ };
 
-    ghost held = { λ n. n };
+    ghost meaning = { λ n. n };
 
     ghost shape = { leaf (view_signed (2 ^ 15)) };
 }
@@ -159,7 +159,7 @@ impl<'de> DeserializeOwned<'de> for i16 {
 impl Shown for i32 {
     ghost View = { ℤ };
 
-    ghost held = { λ n. n };
+    ghost meaning = { λ n. n };
 
     ghost shape = { leaf (view_signed (2 ^ 31)) };
 }
@@ -180,7 +180,7 @@ impl<'de> DeserializeOwned<'de> for i32 {
 impl Shown for i64 {
     ghost View = { ℤ };
 
-    ghost held = { λ n. n };
+    ghost meaning = { λ n. n };
 
     ghost shape = { leaf (view_signed (2 ^ 63)) };
 }
@@ -201,7 +201,7 @@ impl<'de> DeserializeOwned<'de> for i64 {
 impl Shown for isize {
     ghost View = { ℤ };
 
-    ghost held = { λ n. n };
+    ghost meaning = { λ n. n };
 
     ghost shape = { leaf (view_signed (2 ^ 63)) };
 }
@@ -222,7 +222,7 @@ impl<'de> DeserializeOwned<'de> for isize {
 impl Shown for u128 {
     ghost View = { ℕ };
 
-    ghost held = { λ n. n };
+    ghost meaning = { λ n. n };
 
     ghost shape = { leaf (view_unsigned (2 ^ 128)) };
 }
@@ -243,7 +243,7 @@ impl<'de> DeserializeOwned<'de> for u128 {
 impl Shown for i128 {
     ghost View = { ℤ };
 
-    ghost held = { λ n. n };
+    ghost meaning = { λ n. n };
 
     ghost shape = { leaf (view_signed (2 ^ 127)) };
 }

@@ -3,7 +3,7 @@
 ghost use Rattle.std.specs.Prelude.{◌+◌, ◌≤◌, ◌^◌, IfOk, codes, pos, negsuc, ◌≤ℤ◌, IfErr};
 ghost use Rattle.dagcbor_items.specs.LeafReads.{ReadsUnsigned, ReadsSigned, ReadsU128, ReadsI128};
 ghost use Rattle.dagcbor_read.specs.Calls.{Call, Over};
-ghost use Rattle.dagcbor_items.specs.Variants.{OfKind, OfNumber};
+ghost use Rattle.dagcbor_items.specs.Variants.{OfHead, OfNumber};
 
 use crate::deserializer::Deserializer;
 use dagcbor_heads::{DecodeError, Read};
@@ -111,7 +111,7 @@ impl<'de, R: Read> Deserializer<'de, R> {
     /// Reads any number, but none in a tag.
     pub fn deserialize_i128(&mut self) -> Result<i128, DecodeError<R::Error>>
         ensures number { Over R.reading (Call ReadsI128) self.old result self.new }
-        ensures variant { IfErr result OfKind }
+        ensures variant { IfErr result OfHead }
     {
         self.begin()?;
         let number = pull_i128(&mut self.input)?;

@@ -40,7 +40,7 @@ impl<'de, R: Read> Deserializer<'de, R> {
         &mut self,
         alloc: Global,
     ) -> Result<T, DecodeError<R::Error>>
-        ensures { Over R.reading (Call (ReadsPart T.held T.shape)) self.old result self.new }
+        ensures { Over R.reading (Call (ReadsPart T.meaning T.shape)) self.old result self.new }
     {
         if self.failed {
             return Err(DecodeError::Failed);
@@ -60,7 +60,7 @@ impl<'de, R: Read> Deserializer<'de, R> {
         alloc: Global,
         _name: &str,
     ) -> Result<T, DecodeError<R::Error>>
-        ensures { Over R.reading (Call (ReadsPart T.held T.shape)) self.old result self.new }
+        ensures { Over R.reading (Call (ReadsPart T.meaning T.shape)) self.old result self.new }
     {
         self.read_part(alloc)
     }
@@ -70,7 +70,7 @@ impl<'de, R: Read> Deserializer<'de, R> {
         &mut self,
         alloc: Global,
     ) -> Result<Option<T>, DecodeError<R::Error>>
-        ensures { Over R.reading (Call (ReadsOption T.held T.shape)) self.old result self.new }
+        ensures { Over R.reading (Call (ReadsOption T.meaning T.shape)) self.old result self.new }
     {
         if self.enter_option()? {
             return Ok(None);

@@ -6,8 +6,8 @@ ghost use Rattle.ipld_tree.specs.Tree.{Items};
 ghost use Rattle.dagcbor_read.specs.Calls.{progress, StaysFailed, Over};
 ghost use Rattle.dagcbor_items.specs.Reads.{Anything};
 ghost use Rattle.dagcbor_read.specs.Values.{ReadsValue};
-ghost use Rattle.dagcbor_read.specs.Accessors.{begun};
-ghost use Rattle.dagcbor_read.specs.Collections.{list_of, items_of, no_more, first_then, ReadsRow, ReadsRest};
+ghost use Rattle.dagcbor_read.specs.Accessors.{accessor_state};
+ghost use Rattle.dagcbor_read.specs.Collections.{list_of, all_of, no_more, first_then, ReadsRow, ReadsRest};
 ghost use Rattle.dagcbor_items.specs.Shapes.{Shape};
 
 use crate::accessor::Accessor;
@@ -20,7 +20,7 @@ use std::alloc::Global;
 pub(crate) trait Row<'de>: Sized + Drop {
     ghost View: { Type 0 };
 
-    ghost held: { Self → View };
+    ghost meaning: { Self → View };
 
     /// What the items show. None where they are not accepted.
     /// What the items show.
@@ -32,17 +32,17 @@ pub(crate) trait Row<'de>: Sized + Drop {
         items: &mut Accessor<'de>,
         de: &mut Deserializer<'de, R>,
     ) -> Result<Self, DecodeError<R::Error>>
-        requires list { (begun items.old).is_map ≡ false }
+        requires list { (accessor_state items.old).is_map ≡ false }
         requires sound { (progress R.reading de.old).failed ≡ false }
-        ensures { ReadsRow Self.held Self.shape (begun items.old) (progress R.reading de.old) result (begun items.new) (progress R.reading de.new) };
+        ensures { ReadsRow Self.meaning Self.shape (accessor_state items.old) (progress R.reading de.old) result (accessor_state items.new) (progress R.reading de.new) };
 }
 
 impl<'de, T: Deserialize<'de>> Row<'de> for Vec<T> {
     ghost View = { List T.View };
 
-    ghost held = { λ v. map T.held v.items };
+    ghost meaning = { λ v. map T.meaning v.items };
 
-    ghost shape = { items_of T.shape };
+    ghost shape = { all_of T.shape };
 
     fn read_row<R: Read>(
         alloc: Global,
@@ -62,7 +62,7 @@ impl<'de, T: Deserialize<'de>> Row<'de> for Vec<T> {
 impl<'de> Row<'de> for () {
     ghost View = { Unit {0} };
 
-    ghost held = { λ u. tt };
+    ghost meaning = { λ u. tt };
 
     ghost shape = { no_more };
 
@@ -78,7 +78,7 @@ impl<'de> Row<'de> for () {
 impl<'de, T: Deserialize<'de>, L: Row<'de>> Row<'de> for (T, L) {
     ghost View = { T.View × L.View };
 
-    ghost held = { λ p. (T.held p.0, L.held p.1) };
+    ghost meaning = { λ p. (T.meaning p.0, L.meaning p.1) };
 
     ghost shape = { first_then T.shape L.shape };
 
@@ -101,11 +101,11 @@ pub(crate) fn read_rest<'de, L: Row<'de>, R: Read>(
     items: Accessor<'de>,
     de: &mut Deserializer<'de, R>,
 ) -> Result<L, DecodeError<R::Error>>
-    requires list { (begun items).is_map ≡ false }
-    requires in_turn { (begun items).owes_value ≡ false }
+    requires list { (accessor_state items).is_map ≡ false }
+    requires in_turn { (accessor_state items).owes_value ≡ false }
     requires sound { (progress R.reading de.old).failed ≡ false }
-    requires out { (progress R.reading de.old).input.steps + (begun items).steps ≤ (progress R.reading de.old).input.budget }
-    ensures { Over R.reading (ReadsRest L.held L.shape (begun items.entry)) de.old result de.new }
+    requires out { (progress R.reading de.old).input.steps + (accessor_state items).steps ≤ (progress R.reading de.old).input.budget }
+    ensures { Over R.reading (ReadsRest L.meaning L.shape (accessor_state items.entry)) de.old result de.new }
 {
     let mut items = items;
     let row = L::read_row(alloc, &mut items, de)?;
@@ -119,7 +119,7 @@ pub(crate) fn read_tuple<'de, L: Row<'de>, R: Read>(
     len: usize,
     de: &mut Deserializer<'de, R>,
 ) -> Result<L, DecodeError<R::Error>>
-    ensures value { Over R.reading (ReadsValue L.held (list_of L.shape)) de.old result de.new }
+    ensures value { Over R.reading (ReadsValue L.meaning (list_of L.shape)) de.old result de.new }
     ensures failed { Over R.reading StaysFailed de.old result de.new }
 {
     let items = de.deserialize_tuple(len)?;

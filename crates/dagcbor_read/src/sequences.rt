@@ -1,7 +1,7 @@
 //! Vectors, and tuples of one to four.
 
 ghost use Rattle.std.specs.Prelude.{List, map, false, ◌||◌, refl};
-ghost use Rattle.dagcbor_read.specs.Collections.{list_of, items_of, no_more, first_then, neither};
+ghost use Rattle.dagcbor_read.specs.Collections.{list_of, all_of, no_more, first_then, neither};
 
 use crate::deserialize::{Deserialize, DeserializeOwned};
 use crate::deserializer::Deserializer;
@@ -13,9 +13,9 @@ use std::alloc::Global;
 impl<T: Shown> Shown for Vec<T> {
     ghost View = { List T.View };
 
-    ghost held = { λ v. map T.held v.items };
+    ghost meaning = { λ v. map T.meaning v.items };
 
-    ghost shape = { list_of (items_of T.shape) };
+    ghost shape = { list_of (all_of T.shape) };
 }
 
 impl<'de, T: Deserialize<'de>> Deserialize<'de> for Vec<T> {
@@ -35,7 +35,7 @@ impl<'de, T: DeserializeOwned<'de>> DeserializeOwned<'de> for Vec<T> {
 impl<A: Shown> Shown for (A,) {
     ghost View = { A.View × Unit {0} };
 
-    ghost held = { λ p. (A.held p.0, tt) };
+    ghost meaning = { λ p. (A.meaning p.0, tt) };
 
     ghost shape = { list_of (first_then A.shape no_more) };
 }
@@ -57,7 +57,7 @@ impl<'de, A: DeserializeOwned<'de>> DeserializeOwned<'de> for (A,) {
 impl<A: Shown, B: Shown> Shown for (A, B) {
     ghost View = { A.View × (B.View × Unit {0}) };
 
-    ghost held = { λ p. (A.held p.0, (B.held p.1, tt)) };
+    ghost meaning = { λ p. (A.meaning p.0, (B.meaning p.1, tt)) };
 
     ghost shape = { list_of (first_then A.shape (first_then B.shape no_more)) };
 }
@@ -79,7 +79,7 @@ impl<'de, A: DeserializeOwned<'de>, B: DeserializeOwned<'de>> DeserializeOwned<'
 impl<A: Shown, B: Shown, C: Shown> Shown for (A, B, C) {
     ghost View = { A.View × (B.View × (C.View × Unit {0})) };
 
-    ghost held = { λ p. (A.held p.0, (B.held p.1, (C.held p.2, tt))) };
+    ghost meaning = { λ p. (A.meaning p.0, (B.meaning p.1, (C.meaning p.2, tt))) };
 
     ghost shape = { list_of (first_then A.shape (first_then B.shape (first_then C.shape no_more))) };
 }
@@ -107,7 +107,7 @@ impl<
 impl<A: Shown, B: Shown, C: Shown, D: Shown> Shown for (A, B, C, D) {
     ghost View = { A.View × (B.View × (C.View × (D.View × Unit {0}))) };
 
-    ghost held = { λ p. (A.held p.0, (B.held p.1, (C.held p.2, (D.held p.3, tt)))) };
+    ghost meaning = { λ p. (A.meaning p.0, (B.meaning p.1, (C.meaning p.2, (D.meaning p.3, tt)))) };
 
     ghost shape = { list_of (first_then A.shape (first_then B.shape (first_then C.shape (first_then D.shape no_more)))) };
 }

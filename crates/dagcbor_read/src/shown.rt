@@ -8,7 +8,7 @@ pub trait Shown {
     /// What a value holds, wherever it lies in memory.
     ghost View: { Type 0 };
 
-    ghost held: { Self → View };
+    ghost meaning: { Self → View };
 
     /// The value that a tree shows, the steps that reading it takes, and whether the type borrows from the input.
     ghost shape: { Shape Tree View };

@@ -16,7 +16,7 @@ pub fn from_reader<'de, T: DeserializeOwned<'de>, R: BufRead + Drop>(
     alloc: Global,
     reader: R,
 ) -> Result<T, DecodeError<io::Error>>
-    ensures value { IfOk result (λ v. IfSome (R.remaining reader) (λ b. IsWhole T.shape b (T.held v))) }
+    ensures value { IfOk result (λ v. IfSome (R.remaining reader) (λ b. IsWhole T.shape b (T.meaning v))) }
     ensures refused { IfErr result (λ e. IsReadExcuse e ⊎ IfSome (R.remaining reader) (HoldsNoValue T.shape)) }
     ensures never { IfErr result OfWhole }
 {
@@ -33,7 +33,7 @@ pub fn from_reader_once<'de, T: DeserializeOwned<'de>, R: BufRead>(
     reader: &mut R,
 ) -> Result<T, DecodeError<io::Error>>
     ensures value { IfOk result (λ v. IfSome (R.remaining reader.old)
-        (λ b. TakesFirst T.shape b (T.held v) (R.remaining reader.new))) }
+        (λ b. TakesFirst T.shape b (T.meaning v) (R.remaining reader.new))) }
     ensures refused { IfErr result (λ e. IsReadExcuse e ⊎ IfSome (R.remaining reader.old) (BeginsWithNoValue T.shape)) }
     ensures never { IfErr result OfWhole }
 {

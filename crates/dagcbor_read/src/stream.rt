@@ -47,7 +47,7 @@ impl<'de, R: Read> Deserializer<'de, R> {
         &mut self,
         alloc: Global,
     ) -> Result<Option<T>, DecodeError<R::Error>>
-        ensures { Over R.reading (Call (ReadsNext T.held T.shape)) self.old result self.new }
+        ensures { Over R.reading (Call (ReadsNext T.meaning T.shape)) self.old result self.new }
     {
         self.begin()?;
         if is_at_end(&mut self.input)? {
@@ -64,7 +64,7 @@ impl<'de, R: Read, T: Deserialize<'de>> Iterator for StreamDeserializer<'de, R, 
     type Item = Result<T, DecodeError<R::Error>>;
 
     // Nothing of a stream that is done; else what reading the next value answers.
-    ghost next_gives = { λ old item new. GivesNext T.held T.shape (streaming R.reading old) item (streaming R.reading new) };
+    ghost next_gives = { λ old item new. GivesNext T.meaning T.shape (streaming R.reading old) item (streaming R.reading new) };
 
     // Of n bytes at most n + 1 items, since a value takes a byte.
     ghost remaining = { λ s. items_left (streaming R.reading s) };

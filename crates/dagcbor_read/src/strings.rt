@@ -4,7 +4,7 @@ ghost use Rattle.std.specs.Prelude.{◌≡◌, ◌↔◌, true, IfOk, codes, IfE
 ghost use Rattle.std.specs.Cow.{IsBorrowedSlice, IsBorrowedStr};
 ghost use Rattle.dagcbor_items.specs.LeafReads.{ReadsStr, ReadsOwnedText, ReadsChar, ReadsByteSlice, ReadsOwnedBytes};
 ghost use Rattle.dagcbor_read.specs.Calls.{progress, Call, Over};
-ghost use Rattle.dagcbor_items.specs.Variants.{OfChar, OfKind, OfText};
+ghost use Rattle.dagcbor_items.specs.Variants.{OfChar, OfHead, OfText};
 
 use crate::deserializer::Deserializer;
 use dagcbor_heads::{DecodeError, Read};
@@ -44,7 +44,7 @@ impl<'de, R: Read> Deserializer<'de, R> {
     ) -> Result<CowSlice<'de, u8>, DecodeError<R::Error>>
         ensures bytes { Over R.reading (Call ReadsByteSlice) self.old result self.new }
         ensures lent { IfOk result (λ c. IsBorrowedSlice c ↔ ((progress R.reading self.old).input.lends ≡ true)) }
-        ensures variant { IfErr result OfKind }
+        ensures variant { IfErr result OfHead }
     {
         self.begin()?;
         let bytes = pull_slice(alloc, &mut self.input)?;
@@ -66,7 +66,7 @@ impl<'de, R: Read> Deserializer<'de, R> {
     /// Reads a byte string.
     pub fn deserialize_byte_buf(&mut self, alloc: Global) -> Result<Vec<u8>, DecodeError<R::Error>>
         ensures bytes { Over R.reading (Call ReadsOwnedBytes) self.old result self.new }
-        ensures variant { IfErr result OfKind }
+        ensures variant { IfErr result OfHead }
     {
         self.begin()?;
         let bytes = pull_owned_bytes(alloc, &mut self.input)?;

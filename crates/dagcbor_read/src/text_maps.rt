@@ -1,7 +1,7 @@
 //! Maps with text keys.
 
 ghost use Rattle.std.specs.Prelude.{ℕ, List};
-ghost use Rattle.dagcbor_read.specs.Collections.{map_of, entries_of, in_key_order, text_pairs};
+ghost use Rattle.dagcbor_read.specs.Collections.{map_of, values_of, in_key_order, text_pairs};
 
 use crate::deserialize::{Deserialize, DeserializeOwned};
 use crate::deserializer::Deserializer;
@@ -14,7 +14,7 @@ use std::collections::{BTreeMap, HashMap};
 impl<V: Shown> Shown for BTreeMap<String, V> {
     ghost View = { List (List ℕ × V.View) };
 
-    ghost held = { λ m. in_key_order (text_pairs V.held m.entries) };
+    ghost meaning = { λ m. in_key_order (text_pairs V.meaning m.entries) };
 
     ghost shape = { map_of V.shape };
 }
@@ -23,9 +23,9 @@ impl<V: Shown> Shown for BTreeMap<String, V> {
 impl<'de, V: Deserialize<'de>> Fields<'de> for BTreeMap<String, V> {
     ghost State = { List (List ℕ × V.View) };
 
-    ghost state = { λ m. in_key_order (text_pairs V.held m.entries) };
+    ghost state = { λ m. in_key_order (text_pairs V.meaning m.entries) };
 
-    ghost shape = { entries_of V.shape };
+    ghost shape = { values_of V.shape };
 
     fn read_field<R: Read>(
         &mut self,
@@ -60,7 +60,7 @@ impl<'de, V: DeserializeOwned<'de>> DeserializeOwned<'de> for BTreeMap<String, V
 impl<V: Shown> Shown for HashMap<String, V> {
     ghost View = { List (List ℕ × V.View) };
 
-    ghost held = { λ m. in_key_order (text_pairs V.held m.entries) };
+    ghost meaning = { λ m. in_key_order (text_pairs V.meaning m.entries) };
 
     ghost shape = { map_of V.shape };
 }
@@ -69,9 +69,9 @@ impl<V: Shown> Shown for HashMap<String, V> {
 impl<'de, V: Deserialize<'de>> Fields<'de> for HashMap<String, V> {
     ghost State = { List (List ℕ × V.View) };
 
-    ghost state = { λ m. in_key_order (text_pairs V.held m.entries) };
+    ghost state = { λ m. in_key_order (text_pairs V.meaning m.entries) };
 
-    ghost shape = { entries_of V.shape };
+    ghost shape = { values_of V.shape };
 
     fn read_field<R: Read>(
         &mut self,

@@ -39,7 +39,7 @@ impl<'de, R: Read> Deserializer<'de, R> {
 impl Shown for IgnoredAny {
     ghost View = { Unit {0} };
 
-    ghost held = { λ _. tt };
+    ghost meaning = { λ _. tt };
 
     ghost shape = { ignored };
 }
@@ -61,7 +61,7 @@ impl<'de> DeserializeOwned<'de> for IgnoredAny {
 impl Shown for Ipld {
     ghost View = { Tree };
 
-    ghost held = { tree_of };
+    ghost meaning = { tree_of };
 
     ghost shape = { any_tree };
 }
@@ -82,7 +82,7 @@ impl<'de> DeserializeOwned<'de> for Ipld {
 impl Shown for Cid {
     ghost View = { List ℕ };
 
-    ghost held = { cid_bytes };
+    ghost meaning = { cid_bytes };
 
     ghost shape = { leaf view_link };
 }

@@ -4,7 +4,7 @@ ghost use Rattle.std.specs.Prelude.{◌≡◌, ◌+◌, ◌≤◌, ℕ, Bool, Li
 ghost use Rattle.ipld_tree.specs.Tree.{Tree};
 ghost use Rattle.dagcbor_read.specs.Calls.{progress, StaysFailed, AreOut, Over};
 ghost use Rattle.dagcbor_read.specs.Values.{ReadsValue};
-ghost use Rattle.dagcbor_read.specs.Enums.{begun_enum, HasStepEnum, SpendsEnum, ReadsFieldsHeld};
+ghost use Rattle.dagcbor_read.specs.Enums.{enum_state, HasStepEnum, SpendsEnum, ReadsFieldsHeld};
 ghost use Rattle.dagcbor_read.specs.Parts.{RefusesToBegin};
 ghost use Rattle.dagcbor_read.specs.EnumViews.{EnumShape, enum_of, ReadsVariant};
 ghost use Rattle.dagcbor_read.specs.Collections.{fields_of};
@@ -20,7 +20,7 @@ pub trait Variants<'de>: Sized + Drop {
     /// What a value holds, wherever it lies in memory.
     ghost View: { Type 0 };
 
-    ghost held: { Self → View };
+    ghost meaning: { Self → View };
 
     /// What its variants show.
     ghost shape: { EnumShape View };
@@ -33,8 +33,8 @@ pub trait Variants<'de>: Sized + Drop {
         de: &mut Deserializer<'de, R>,
     ) -> Result<Self, DecodeError<R::Error>>
         requires sound { (progress R.reading de.old).failed ≡ false }
-        requires out { (progress R.reading de.old).input.steps + (begun_enum variant).steps ≤ (progress R.reading de.old).input.budget }
-        ensures { Over R.reading (ReadsVariant held Self.shape name.now (begun_enum variant)) de.old result de.new };
+        requires out { (progress R.reading de.old).input.steps + (enum_state variant).steps ≤ (progress R.reading de.old).input.budget }
+        ensures { Over R.reading (ReadsVariant meaning Self.shape name.now (enum_state variant)) de.old result de.new };
 }
 
 /// Reads an enum. The names of its variants are not looked at.
@@ -44,12 +44,12 @@ pub fn read_enum<'de, V: Variants<'de>, R: Read>(
     variants: &[&str],
     de: &mut Deserializer<'de, R>,
 ) -> Result<V, DecodeError<R::Error>>
-    ensures value { Over R.reading (ReadsValue V.held (enum_of V.shape)) de.old result de.new }
+    ensures value { Over R.reading (ReadsValue V.meaning (enum_of V.shape)) de.old result de.new }
     ensures named { Over R.reading (RefusesToBegin HasStepEnum (SpendsEnum name.now)) de.old result de.new }
     ensures failed { Over R.reading StaysFailed de.old result de.new }
 {
-    let begun = de.deserialize_enum(name, variants)?;
-    let (variant_name, variant) = begun.variant(alloc, de)?;
+    let accessor_state = de.deserialize_enum(name, variants)?;
+    let (variant_name, variant) = accessor_state.variant(alloc, de)?;
     V::read_variant(alloc, variant_name.as_str(), variant, de)
 }
 
@@ -61,8 +61,8 @@ pub fn read_struct_variant<'de, F: Fields<'de>, R: Read>(
     fields: F,
     de: &mut Deserializer<'de, R>,
 ) -> Result<F, DecodeError<R::Error>>
-    requires { AreOut (begun_enum variant).steps (progress R.reading de.old) }
-    ensures held { Over R.reading (ReadsFieldsHeld F.state (fields_of F.shape (F.state fields)) (begun_enum variant)) de.old result de.new }
+    requires { AreOut (enum_state variant).steps (progress R.reading de.old) }
+    ensures meaning { Over R.reading (ReadsFieldsHeld F.state (fields_of F.shape (F.state fields)) (enum_state variant)) de.old result de.new }
     ensures failed { Over R.reading StaysFailed de.old result de.new }
 {
     let entries = variant.struct_variant(names, de)?;

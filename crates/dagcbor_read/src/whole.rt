@@ -17,7 +17,7 @@ pub fn from_slice<'a, T: Deserialize<'a>>(
     alloc: Global,
     bytes: &'a [u8],
 ) -> Result<T, DecodeError<Infallible>>
-    ensures value { IfOk result (λ v. IsWhole T.shape bytes.now (T.held v)) }
+    ensures value { IfOk result (λ v. IsWhole T.shape bytes.now (T.meaning v)) }
     ensures refused { IfErr result (λ e. IsReadExcuse e ⊎ HoldsNoValue T.shape bytes.now) }
     ensures never { IfErr result OfWhole }
 {

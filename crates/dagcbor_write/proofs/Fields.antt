@@ -6,7 +6,7 @@ use Rattle.std.proofs.Math.Seq.{drop-cons}
 use Rattle.std.proofs.lemmas.List.{take-append-drop}
 use Rattle.std.specs.Fmt.{◌++?◌}
 use Rattle.std.specs.Result.{IsErrAnd}
-use Rattle.dagcbor_heads.proofs.Writing.{append-None, append-Some, appends_nothing, wrote_nothing, Written-but, begin-writing, next-part, last-part}
+use Rattle.dagcbor_heads.proofs.Writing.{append_None, append_Some, appends_nothing, wrote_nothing, Written-but, begin_writing, next_part, last_part}
 use Rattle.dagcbor_heads.specs.Messages.{message_bytes}
 use Rattle.dagcbor_heads.specs.Written.{Written, WroteAll, Writes, Stops}
 use Rattle.dagcbor_heads.specs.declared.error.EncodeError.{EncodeError}
@@ -16,11 +16,11 @@ use Rattle.ipld_tree.specs.Spelling.{entry_count, text_spelling}
 use Rattle.ipld_tree.specs.Spelled.{spelled, spelled_bytes, spelled_entries, spelled_tree, spelled_head}
 use Rattle.ipld_tree.proofs.Ordered.{Has, HasPair, ordered_has}
 use Rattle.ipld_tree.proofs.Spelled.{spelled_is}
-use Rattle.ipld_tree.proofs.WellFormed.{entry_count-ordered}
+use Rattle.ipld_tree.proofs.WellFormed.{entry_count_ordered}
 use Rattle.dagcbor_write.specs.Trees.{Pair}
-use Rattle.dagcbor_write.specs.Gathering.{Refused, Takes}
+use Rattle.dagcbor_write.specs.Gathering.{Refused, Collects}
 use Rattle.dagcbor_write.specs.Maps.{Texts, spelled_key, IsSpellingOf, AreSpellingsOf, Joins, JoinsEntry, RefusesEntry, RefusesValue, entries_text, map_rest}
-use Rattle.dagcbor_write.proofs.Keys.{key-none}
+use Rattle.dagcbor_write.proofs.Keys.{key_none}
 use Rattle.dagcbor_write.proofs.Mapping.{pairwise_push}
 
 abbrev Named : Type 0
@@ -51,74 +51,74 @@ later (Some q) (Some qs) h = (h.0, inr h.1, h.2)
 abbrev pub CannotBeWritten : Pair → Type 0
 CannotBeWritten p = (spelled_key p.0 ≡ None) ⊎ (spelled_tree p.1 ≡ None)
 
-no-pair : (k v : Option Tree) → CannotBeWritten (k, v) → IfSome (pair_of (k, v)) NoText
-no-pair None v h = tt
-no-pair (Some (text s)) None h = tt
-no-pair (Some (text s)) (Some t) h = h
-no-pair (Some null) v h = tt
-no-pair (Some (boolean b)) v h = tt
-no-pair (Some (integer n)) v h = tt
-no-pair (Some (bytes s)) v h = tt
-no-pair (Some (list ts)) v h = tt
-no-pair (Some (mapping es)) v h = tt
-no-pair (Some (link c)) v h = tt
+no_pair : (k v : Option Tree) → CannotBeWritten (k, v) → IfSome (pair_of (k, v)) NoText
+no_pair None v h = tt
+no_pair (Some (text s)) None h = tt
+no_pair (Some (text s)) (Some t) h = h
+no_pair (Some null) v h = tt
+no_pair (Some (boolean b)) v h = tt
+no_pair (Some (integer n)) v h = tt
+no_pair (Some (bytes s)) v h = tt
+no_pair (Some (list ts)) v h = tt
+no_pair (Some (mapping es)) v h = tt
+no_pair (Some (link c)) v h = tt
 
 missing : (done left : List Pair) (p : Pair) → CannotBeWritten p → NoMap (all_some (map pair_of (done ++ p ∷ left)))
-missing [] left p h = here (pair_of p) (all_some (map pair_of left)) (no-pair p.0 p.1 h)
+missing [] left p h = here (pair_of p) (all_some (map pair_of left)) (no_pair p.0 p.1 h)
 missing (q ∷ done) left p h = later (pair_of q) (all_some (map pair_of (done ++ p ∷ left))) (missing done left p h)
 
-entries-None : (es : Entries) (k : List ℕ) (t : Tree) → Has es k t → NoText (k, t) → spelled_entries es ≡ None
+entries_None : (es : Entries) (k : List ℕ) (t : Tree) → Has es k t → NoText (k, t) → spelled_entries es ≡ None
 unfolding spelled
-entries-None no_entries k t h n = absurd h
-entries-None (entry l u es) k t (inl same) (inl n) = ap (λ x. x ++? (spelled u ++? spelled_entries es)) (ap (spelled_bytes 3) same.0 ∙ n)
-entries-None (entry l u es) k t (inl same) (inr n) = ap (λ x. spelled_bytes 3 l ++? (x ++? spelled_entries es)) (ap spelled same.1 ∙ n) ∙ append-None (spelled_bytes 3 l)
-entries-None (entry l u es) k t (inr more) n =
-    ap (λ x. spelled_bytes 3 l ++? (spelled u ++? x)) (entries-None es k t more n) ∙ ap (λ x. spelled_bytes 3 l ++? x) (append-None (spelled u)) ∙ append-None (spelled_bytes 3 l)
+entries_None no_entries k t h n = absurd h
+entries_None (entry l u es) k t (inl same) (inl n) = ap (λ x. x ++? (spelled u ++? spelled_entries es)) (ap (spelled_bytes 3) same.0 ∙ n)
+entries_None (entry l u es) k t (inl same) (inr n) = ap (λ x. spelled_bytes 3 l ++? (x ++? spelled_entries es)) (ap spelled same.1 ∙ n) ∙ append_None (spelled_bytes 3 l)
+entries_None (entry l u es) k t (inr more) n =
+    ap (λ x. spelled_bytes 3 l ++? (spelled u ++? x)) (entries_None es k t more n) ∙ ap (λ x. spelled_bytes 3 l ++? x) (append_None (spelled u)) ∙ append_None (spelled_bytes 3 l)
 
-whole-None : (b : Bool) (es : Entries) → spelled_entries es ≡ None → spelled_tree (cond b None (Some (mapping es))) ≡ None
+whole_None : (b : Bool) (es : Entries) → spelled_entries es ≡ None → spelled_tree (cond b None (Some (mapping es))) ≡ None
 unfolding spelled
-whole-None true es n = refl
-whole-None false es n = ap (λ x. spelled_head 5 (entry_count es) ++? x) n ∙ append-None (spelled_head 5 (entry_count es))
+whole_None true es n = refl
+whole_None false es n = ap (λ x. spelled_head 5 (entry_count es) ++? x) n ∙ append_None (spelled_head 5 (entry_count es))
 
-part-None : (b : Bool) (es : Entries) → spelled_entries es ≡ None → entries_text (cond b None (Some (mapping es))) ≡ None
-part-None true es n = refl
-part-None false es n = n
+part_None : (b : Bool) (es : Entries) → spelled_entries es ≡ None → entries_text (cond b None (Some (mapping es))) ≡ None
+part_None true es n = refl
+part_None false es n = n
 
-tree-None : (o : Option (List Named)) → NoMap o → (spelled_tree (option_and_then map_tree o) ≡ None) × (entries_text (option_and_then map_tree o) ≡ None)
-tree-None None h = (refl, refl)
-tree-None (Some qs) h =
-    let n = entries-None (ordered qs) h.0.0 h.0.1 (ordered_has qs h.0.0 h.0.1 h.1) h.2 in
-    (whole-None (repeats_key qs) (ordered qs) n, part-None (repeats_key qs) (ordered qs) n)
+tree_None : (o : Option (List Named)) → NoMap o → (spelled_tree (option_and_then map_tree o) ≡ None) × (entries_text (option_and_then map_tree o) ≡ None)
+tree_None None h = (refl, refl)
+tree_None (Some qs) h =
+    let n = entries_None (ordered qs) h.0.0 h.0.1 (ordered_has qs h.0.0 h.0.1 h.1) h.2 in
+    (whole_None (repeats_key qs) (ordered qs) n, part_None (repeats_key qs) (ordered qs) n)
 
-no-text : (announced : Option ℕ) (done left : List Pair) (p : Pair) → CannotBeWritten p → map_rest announced (done ++ p ∷ left) ≡ None
-no-text None done left p h = (tree-None (all_some (map pair_of (done ++ p ∷ left))) (missing done left p h)).0
-no-text (Some n) done left p h = (tree-None (all_some (map pair_of (done ++ p ∷ left))) (missing done left p h)).1
+no_text : (announced : Option ℕ) (done left : List Pair) (p : Pair) → CannotBeWritten p → map_rest announced (done ++ p ∷ left) ≡ None
+no_text None done left p h = (tree_None (all_some (map pair_of (done ++ p ∷ left))) (missing done left p h)).0
+no_text (Some n) done left p h = (tree_None (all_some (map pair_of (done ++ p ∷ left))) (missing done left p h)).1
 
 -- ---- the head of a map, and what follows it
 
 counts : (b : Bool) (qs : List Named) (n : ℕ) → length qs ≡ n → spelled_tree (cond b None (Some (mapping (ordered qs)))) ≡ spelled_head 5 n ++? entries_text (cond b None (Some (mapping (ordered qs))))
 unfolding spelled
-counts true qs n e = sym (append-None (spelled_head 5 n))
-counts false qs n e = ap (λ k. spelled_head 5 k ++? spelled_entries (ordered qs)) (entry_count-ordered qs ∙ e)
+counts true qs n e = sym (append_None (spelled_head 5 n))
+counts false qs n e = ap (λ k. spelled_head 5 k ++? spelled_entries (ordered qs)) (entry_count_ordered qs ∙ e)
 
-some-length : (ps : List Pair) → IfSome (all_some (map pair_of ps)) (λ qs. length qs ≡ length ps)
-some-length [] = refl
-some-length (p ∷ ps) = by (pair_of p) (all_some (map pair_of ps)) (some-length ps)
+some_length : (ps : List Pair) → IfSome (all_some (map pair_of ps)) (λ qs. length qs ≡ length ps)
+some_length [] = refl
+some_length (p ∷ ps) = by (pair_of p) (all_some (map pair_of ps)) (some_length ps)
   where
     by : (o : Option Named) (os : Option (List Named)) → IfSome os (λ qs. length qs ≡ length ps) → IfSome (before o os) (λ qs. length qs ≡ suc (length ps))
     by None os h = tt
     by (Some q) None h = tt
     by (Some q) (Some qs) h = ap suc h
 
-split-by : (o : Option (List Named)) (n : ℕ) → IfSome o (λ qs. length qs ≡ n) → spelled_tree (option_and_then map_tree o) ≡ spelled_head 5 n ++? entries_text (option_and_then map_tree o)
-split-by None n h = sym (append-None (spelled_head 5 n))
-split-by (Some qs) n h = counts (repeats_key qs) qs n h
+split_by : (o : Option (List Named)) (n : ℕ) → IfSome o (λ qs. length qs ≡ n) → spelled_tree (option_and_then map_tree o) ≡ spelled_head 5 n ++? entries_text (option_and_then map_tree o)
+split_by None n h = sym (append_None (spelled_head 5 n))
+split_by (Some qs) n h = counts (repeats_key qs) qs n h
 
-pub spelled-map : (ps : List Pair) (n : ℕ) → n ≡ length ps → spelled_tree (entries_tree ps) ≡ spelled_head 5 n ++? map_rest (Some n) ps
-spelled-map ps n e = split-by (all_some (map pair_of ps)) (length ps) (some-length ps) ∙ ap (λ k. spelled_head 5 k ++? map_rest (Some n) ps) (sym e)
+pub spelled_map : (ps : List Pair) (n : ℕ) → n ≡ length ps → spelled_tree (entries_tree ps) ≡ spelled_head 5 n ++? map_rest (Some n) ps
+spelled_map ps n e = split_by (all_some (map pair_of ps)) (length ps) (some_length ps) ∙ ap (λ k. spelled_head 5 k ++? map_rest (Some n) ps) (sym e)
 
-pub begin-struct : (ps : List Pair) (n : ℕ) (s : Written) → n ≡ length ps → Written-but (spelled_tree (entries_tree ps)) (spelled_head 5 n ∷ map_rest (Some n) ps ∷ []) s s
-begin-struct ps n s e = begin-writing _ _ s (spelled-map ps n e ∙ ap (λ x. spelled_head 5 n ++? x) (sym (append-Some (map_rest (Some n) ps))))
+pub begin_struct : (ps : List Pair) (n : ℕ) (s : Written) → n ≡ length ps → Written-but (spelled_tree (entries_tree ps)) (spelled_head 5 n ∷ map_rest (Some n) ps ∷ []) s s
+begin_struct ps n s e = begin_writing _ _ s (spelled_map ps n e ∙ ap (λ x. spelled_head 5 n ++? x) (sym (append_Some (map_rest (Some n) ps))))
 
 -- ---- step by step
 
@@ -128,37 +128,37 @@ pub record Given-but (whole left : List Pair) (held : List Texts) : Type 0 where
   pub split : whole ≡ done ++ left
   pub spells : AreSpellingsOf done held
 
-pub begin-map : (whole : List Pair) (held : List Texts) → held ≡ [] → Given-but whole whole held
-begin-map whole held e = let P : List Texts → Type 0 = λ x. AreSpellingsOf [] x in record { done = []; split = refl; spells = subst P (sym e) tt }
+pub begin_map : (whole : List Pair) (held : List Texts) → held ≡ [] → Given-but whole whole held
+begin_map whole held e = let P : List Texts → Type 0 = λ x. AreSpellingsOf [] x in record { done = []; split = refl; spells = subst P (sym e) tt }
 
-joined-spelling : (p : Pair) (k v : Option (List ℕ)) (old new : List Texts) → spelled_key p.0 ≡ k → spelled_tree p.1 ≡ v → Joins k v old new → IfSome p.0 IsTree → IfSome p.1 IsTree → (e : Texts) × IsSpellingOf p e × (new ≡ old ++ e ∷ [])
-joined-spelling p None v old new a b j g h = absurd j
-joined-spelling p (Some k) None old new a b j g h = absurd j
-joined-spelling p (Some k) (Some v) old new a b j g h = ((k, v), record { key = a; value = b; good_key = g; good_value = h }, j)
+joined_spelling : (p : Pair) (k v : Option (List ℕ)) (old new : List Texts) → spelled_key p.0 ≡ k → spelled_tree p.1 ≡ v → Joins k v old new → IfSome p.0 IsTree → IfSome p.1 IsTree → (e : Texts) × IsSpellingOf p e × (new ≡ old ++ e ∷ [])
+joined_spelling p None v old new a b j g h = absurd j
+joined_spelling p (Some k) None old new a b j g h = absurd j
+joined_spelling p (Some k) (Some v) old new a b j g h = ((k, v), record { key = a; value = b; good_key = g; good_value = h }, j)
 
 -- one more pair was taken
-pub next-pair : {whole left : List Pair} {p : Pair} {old : List Texts} → Given-but whole (p ∷ left) old → (new : List Texts) → JoinsEntry p.0 p.1 old new → Given-but whole left new
-next-pair {whole} {left} {p} {old} w new j =
-    let e = joined-spelling p _ _ old new refl refl j.0.0 j.1 j.0.1 in
+pub next_pair : {whole left : List Pair} {p : Pair} {old : List Texts} → Given-but whole (p ∷ left) old → (new : List Texts) → JoinsEntry p.0 p.1 old new → Given-but whole left new
+next_pair {whole} {left} {p} {old} w new j =
+    let e = joined_spelling p _ _ old new refl refl j.0.0 j.1 j.0.1 in
     let P : List Texts → Type 0 = λ x. AreSpellingsOf (w.done ++ p ∷ []) x in
     record { done = w.done ++ p ∷ []; split = w.split ∙ sym (append_assoc w.done (p ∷ []) left); spells = subst P (sym e.2) (pairwise_push IsSpellingOf w.done old p e.0 w.spells e.1) }
 
-end-of : (xs : List Pair) → xs ++ [] ≡ xs
-end-of [] = refl
-end-of (x ∷ xs) = ap (λ ys. x ∷ ys) (end-of xs)
+end_of : (xs : List Pair) → xs ++ [] ≡ xs
+end_of [] = refl
+end_of (x ∷ xs) = ap (λ ys. x ∷ ys) (end_of xs)
 
-pub all-given : {whole : List Pair} {held : List Texts} → Given-but whole [] held → AreSpellingsOf whole held
-all-given {whole} {held} w = let P : List Pair → Type 0 = λ ps. AreSpellingsOf ps held in subst P (sym (w.split ∙ end-of w.done)) w.spells
+pub all_given : {whole : List Pair} {held : List Texts} → Given-but whole [] held → AreSpellingsOf whole held
+all_given {whole} {held} w = let P : List Pair → Type 0 = λ ps. AreSpellingsOf ps held in subst P (sym (w.split ∙ end_of w.done)) w.spells
 
 -- ---- refusals
 
-no-key : (key : Option Tree) → option_and_then key_of key ≡ None → spelled_key key ≡ None
-no-key key e = ap (option_and_then (λ k. spelled (text k))) e
+no_key : (key : Option Tree) → option_and_then key_of key ≡ None → spelled_key key ≡ None
+no_key key e = ap (option_and_then (λ k. spelled (text k))) e
 
-entry-cause : (p : Pair) (m : List ℕ) → RefusesEntry p.0 p.1 m → CannotBeWritten p
-entry-cause p m (inl (inl h)) = inl (key-none p.0 h.1)
-entry-cause p m (inl (inr h)) = inl (no-key p.0 h.1)
-entry-cause p m (inr h) = inr h.1
+entry_cause : (p : Pair) (m : List ℕ) → RefusesEntry p.0 p.1 m → CannotBeWritten p
+entry_cause p m (inl (inl h)) = inl (key_none p.0 h.1)
+entry_cause p m (inl (inr h)) = inl (no_key p.0 h.1)
+entry_cause p m (inr h) = inr h.1
 
 stopped : {E : Type 0} (whole : Option (List ℕ)) (s t : Written) (Cause : List ℕ → Type 0) (e : EncodeError E) → ((m : List ℕ) → Cause m → whole ≡ None) → Refused Cause e → s ≡ t → Stops whole s t e
 stopped {E} whole s t Cause (Msg m) f p same = let P : Written → Type 0 = λ u. Stops {E = E} whole s u (Msg m) in subst P same (f (message_bytes m) p, appends_nothing s.bytes, refl, refl)
@@ -166,58 +166,58 @@ stopped whole s t Cause (Write e) f p same = absurd p
 stopped {E} whole s t Cause OutOfMemory f p same = let P : Written → Type 0 = λ u. Stops {E = E} whole s u OutOfMemory in subst P same (wrote_nothing whole s, refl, refl)
 
 -- a text is refused as a key for want of memory alone
-pub only-value : {T E : Type 0} (Taken : T → Type 0) (name : List ℕ) (value : Option Tree) (r : Result T (EncodeError E)) → length name < 2 ^ 64 → Takes Taken (RefusesEntry (Some (text name)) value) r → Takes Taken (RefusesValue value) r
-only-value Taken name value (Ok x) h t = t
-only-value Taken name value (Err (Msg m)) h (inl (inl n)) = let differ : Some (text_spelling name) ≡ None = sym ((spelled_is (text name) (text_spelling name)).1 (h, refl)) ∙ n.1 in cc
-only-value Taken name value (Err (Msg m)) h (inl (inr n)) = absurd (cc n.1)
-only-value Taken name value (Err (Msg m)) h (inr n) = n
-only-value Taken name value (Err (Write e)) h t = t
-only-value Taken name value (Err OutOfMemory) h t = t
+pub only_value : {T E : Type 0} (Taken : T → Type 0) (name : List ℕ) (value : Option Tree) (r : Result T (EncodeError E)) → length name < 2 ^ 64 → Collects Taken (RefusesEntry (Some (text name)) value) r → Collects Taken (RefusesValue value) r
+only_value Taken name value (Ok x) h t = t
+only_value Taken name value (Err (Msg m)) h (inl (inl n)) = let differ : Some (text_spelling name) ≡ None = sym ((spelled_is (text name) (text_spelling name)).1 (h, refl)) ∙ n.1 in cc
+only_value Taken name value (Err (Msg m)) h (inl (inr n)) = absurd (cc n.1)
+only_value Taken name value (Err (Msg m)) h (inr n) = n
+only_value Taken name value (Err (Write e)) h t = t
+only_value Taken name value (Err OutOfMemory) h t = t
 
 -- the exit of a `?`, where nothing has gone out
-exit-unsent : {T E : Type 0} (whole : Option (List ℕ)) (s t : Written) (Cause : List ℕ → Type 0) (r : Result T (EncodeError E)) (e : EncodeError E) → ((m : List ℕ) → Cause m → whole ≡ None) → Refused Cause e → IsErrAnd r (λ d. d ≡ e) → s ≡ t → Writes whole s t r
-exit-unsent whole s t Cause (Ok x) e f p is same = absurd is
-exit-unsent {T} {E} whole s t Cause (Err d) e f p is same = let P : EncodeError E → Type 0 = λ y. Stops whole s t y in subst P (sym is) (stopped whole s t Cause e f p same)
+exit_unsent : {T E : Type 0} (whole : Option (List ℕ)) (s t : Written) (Cause : List ℕ → Type 0) (r : Result T (EncodeError E)) (e : EncodeError E) → ((m : List ℕ) → Cause m → whole ≡ None) → Refused Cause e → IsErrAnd r (λ d. d ≡ e) → s ≡ t → Writes whole s t r
+exit_unsent whole s t Cause (Ok x) e f p is same = absurd is
+exit_unsent {T} {E} whole s t Cause (Err d) e f p is same = let P : EncodeError E → Type 0 = λ y. Stops whole s t y in subst P (sym is) (stopped whole s t Cause e f p same)
 
 -- the exit of a `?` at an entry
-pub exit-pair : {T E : Type 0} {whole left : List Pair} {p : Pair} {old : List Texts} (announced : Option ℕ) → Given-but whole (p ∷ left) old → (s t : Written) (r : Result T (EncodeError E)) (e : EncodeError E)
+pub exit_pair : {T E : Type 0} {whole left : List Pair} {p : Pair} {old : List Texts} (announced : Option ℕ) → Given-but whole (p ∷ left) old → (s t : Written) (r : Result T (EncodeError E)) (e : EncodeError E)
     → Refused (RefusesEntry p.0 p.1) e → IsErrAnd r (λ d. d ≡ e) → s ≡ t → Writes (map_rest announced whole) s t r
-exit-pair {T} {E} {whole} {left} {p} {old} announced w s t r e refused is same =
-    exit-unsent (map_rest announced whole) s t (RefusesEntry p.0 p.1) r e (λ m h. ap (map_rest announced) w.split ∙ no-text announced w.done left p (entry-cause p m h)) refused is same
+exit_pair {T} {E} {whole} {left} {p} {old} announced w s t r e refused is same =
+    exit_unsent (map_rest announced whole) s t (RefusesEntry p.0 p.1) r e (λ m h. ap (map_rest announced) w.split ∙ no_text announced w.done left p (entry_cause p m h)) refused is same
 
 -- ---- the end of a map
 
 -- the same of the state under other names
-pub Writes-from : {T E : Type 0} (whole : Option (List ℕ)) (s t u v : Written) (r : Result T (EncodeError E)) → t ≡ s → u ≡ v → Writes whole t u r → Writes whole s v r
-Writes-from {T} {E} whole s t u v r e f w =
+pub Writes_from : {T E : Type 0} (whole : Option (List ℕ)) (s t u v : Written) (r : Result T (EncodeError E)) → t ≡ s → u ≡ v → Writes whole t u r → Writes whole s v r
+Writes_from {T} {E} whole s t u v r e f w =
     let P : Written → Type 0 = λ x. Writes whole x u r in let Q : Written → Type 0 = λ x. Writes whole s x r in subst Q f (subst P e w)
 
 -- the end of a map, of which nothing has gone out
-pub end-map : {T E : Type 0} {whole : List Pair} {held : List Texts} (announced : Option ℕ) → Given-but whole [] held → announced ≡ None → (s t u v : Written) (r : Result T (EncodeError E))
+pub end_map : {T E : Type 0} {whole : List Pair} {held : List Texts} (announced : Option ℕ) → Given-but whole [] held → announced ≡ None → (s t u v : Written) (r : Result T (EncodeError E))
     → ((given : List Pair) → AreSpellingsOf given held → Writes (map_rest announced given) t u r) → t ≡ s → u ≡ v → Writes (spelled_tree (entries_tree whole)) s v r
-end-map {T} {E} {whole} {held} announced w none s t u v r told e f =
-    let P : Option ℕ → Type 0 = λ a. Writes (map_rest a whole) t u r in Writes-from (map_rest None whole) s t u v r e f (subst P none (told whole (all-given w)))
+end_map {T} {E} {whole} {held} announced w none s t u v r told e f =
+    let P : Option ℕ → Type 0 = λ a. Writes (map_rest a whole) t u r in Writes_from (map_rest None whole) s t u v r e f (subst P none (told whole (all_given w)))
 
 -- the same behind a head that went out at the beginning
-pub end-struct : {T E : Type 0} {W h : Option (List ℕ)} (n : ℕ) {whole : List Pair} {held : List Texts} {start s : Written} (announced : Option ℕ) → Written-but W (h ∷ map_rest (Some n) whole ∷ []) start start → WroteAll h start s → Given-but whole [] held → announced ≡ Some n → (t u v : Written) (r : Result T (EncodeError E))
+pub end_struct : {T E : Type 0} {W h : Option (List ℕ)} (n : ℕ) {whole : List Pair} {held : List Texts} {start s : Written} (announced : Option ℕ) → Written-but W (h ∷ map_rest (Some n) whole ∷ []) start start → WroteAll h start s → Given-but whole [] held → announced ≡ Some n → (t u v : Written) (r : Result T (EncodeError E))
     → ((given : List Pair) → AreSpellingsOf given held → Writes (map_rest announced given) t u r) → t ≡ s → u ≡ v → Writes W start v r
-end-struct {T} {E} {W} {h} n {whole} {held} {start} {s} announced begun out w is t u v r told e f =
-    let P : Option ℕ → Type 0 = λ a. Writes (map_rest a whole) t u r in last-part (next-part begun s out) v r (Writes-from (map_rest (Some n) whole) s t u v r e f (subst P is (told whole (all-given w))))
+end_struct {T} {E} {W} {h} n {whole} {held} {start} {s} announced begun out w is t u v r told e f =
+    let P : Option ℕ → Type 0 = λ a. Writes (map_rest a whole) t u r in last_part (next_part begun s out) v r (Writes_from (map_rest (Some n) whole) s t u v r e f (subst P is (told whole (all_given w))))
 
 -- ---- for a loop that goes over the pairs
 
-pub at-pair : {A : Type 0} (pair : A → Pair) {whole : List Pair} {held : List Texts} {left : List A} (e : A) (more : List A) → left ≡ e ∷ more → Given-but whole (map pair left) held → Given-but whole (pair e ∷ map pair more) held
-at-pair {A} pair {whole} {held} e more is w = let P : List A → Type 0 = λ xs. Given-but whole (map pair xs) held in subst P is w
+pub at_pair : {A : Type 0} (pair : A → Pair) {whole : List Pair} {held : List Texts} {left : List A} (e : A) (more : List A) → left ≡ e ∷ more → Given-but whole (map pair left) held → Given-but whole (pair e ∷ map pair more) held
+at_pair {A} pair {whole} {held} e more is w = let P : List A → Type 0 = λ xs. Given-but whole (map pair xs) held in subst P is w
 
-pub no-more-pairs : {A : Type 0} (pair : A → Pair) {whole : List Pair} {held : List Texts} {left : List A} → left ≡ [] → Given-but whole (map pair left) held → Given-but whole [] held
-no-more-pairs {A} pair {whole} {held} is w = let P : List A → Type 0 = λ xs. Given-but whole (map pair xs) held in subst P is w
+pub no_more_pairs : {A : Type 0} (pair : A → Pair) {whole : List Pair} {held : List Texts} {left : List A} → left ≡ [] → Given-but whole (map pair left) held → Given-but whole [] held
+no_more_pairs {A} pair {whole} {held} is w = let P : List A → Type 0 = λ xs. Given-but whole (map pair xs) held in subst P is w
 
 -- ---- the exit of a `?` at a field of a struct, by its place
 
-nth-split : (whole : List Pair) (k : ℕ) (d : Pair) → k < length whole → whole ≡ take k whole ++ get_or whole k d ∷ drop (suc k) whole
-nth-split whole k d h = sym (take-append-drop k whole) ∙ ap (λ x. take k whole ++ x) (drop-cons whole k d h)
+nth_split : (whole : List Pair) (k : ℕ) (d : Pair) → k < length whole → whole ≡ take k whole ++ get_or whole k d ∷ drop (suc k) whole
+nth_split whole k d h = sym (take-append-drop k whole) ∙ ap (λ x. take k whole ++ x) (drop-cons whole k d h)
 
-pub exit-field : {T E : Type 0} {W h : Option (List ℕ)} {start s : Written} (n : ℕ) (whole : List Pair) → Written-but W (h ∷ map_rest (Some n) whole ∷ []) start start → WroteAll h start s → (k : ℕ) (d : Pair) → k < length whole → (t : Written) (r : Result T (EncodeError E)) (e : EncodeError E)
+pub exit_field : {T E : Type 0} {W h : Option (List ℕ)} {start s : Written} (n : ℕ) (whole : List Pair) → Written-but W (h ∷ map_rest (Some n) whole ∷ []) start start → WroteAll h start s → (k : ℕ) (d : Pair) → k < length whole → (t : Written) (r : Result T (EncodeError E)) (e : EncodeError E)
     → Refused (RefusesValue (get_or whole k d).1) e → IsErrAnd r (λ d. d ≡ e) → s ≡ t → Writes W start t r
-exit-field {T} {E} {W} {h} {start} {s} n whole begun out k d below t r e refused is same =
-    last-part (next-part begun s out) t r (exit-unsent (map_rest (Some n) whole) s t (RefusesValue (get_or whole k d).1) r e (λ m c. ap (map_rest (Some n)) (nth-split whole k d below) ∙ no-text (Some n) (take k whole) (drop (suc k) whole) (get_or whole k d) (inr c.1)) refused is same)
+exit_field {T} {E} {W} {h} {start} {s} n whole begun out k d below t r e refused is same =
+    last_part (next_part begun s out) t r (exit_unsent (map_rest (Some n) whole) s t (RefusesValue (get_or whole k d).1) r e (λ m c. ap (map_rest (Some n)) (nth_split whole k d below) ∙ no_text (Some n) (take k whole) (drop (suc k) whole) (get_or whole k d) (inr c.1)) refused is same)

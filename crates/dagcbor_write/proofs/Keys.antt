@@ -13,53 +13,53 @@ use Rattle.dagcbor_write.specs.Gathering.{Grows}
 use Rattle.dagcbor_write.specs.Maps.{begins_text, spelled_key, HoldsKey}
 use Rattle.dagcbor_write.proofs.Spans.{behind}
 
-nothing-more : (xs : List ℕ) → xs ++ [] ≡ xs
-nothing-more [] = refl
-nothing-more (x ∷ xs) = ap (λ ys. x ∷ ys) (nothing-more xs)
+nothing_more : (xs : List ℕ) → xs ++ [] ≡ xs
+nothing_more [] = refl
+nothing_more (x ∷ xs) = ap (λ ys. x ∷ ys) (nothing_more xs)
 
 high : (m i : ℕ) → i < 28 → (32 * m + i) / 32 ≡ m
 high m i h = omega (arith, h)
 
-begins-by : (t : Tree) (s : List ℕ) → spelled t ≡ Some s → IsTree t → begins_text s ≡ nat_eq (major t) 3
-begins-by t s e good =
+begins_by : (t : Tree) (s : List ℕ) → spelled t ≡ Some s → IsTree t → begins_text s ≡ nat_eq (major t) 3
+begins_by t s e good =
     let is = (spelled_is t s).0 e in
-    let front : IsFront s t [] = record { well_formed = good; spellable = is.0; is = is.1 ∙ sym (nothing-more (spelling t)) } in
+    let front : IsFront s t [] = record { well_formed = good; spellable = is.0; is = is.1 ∙ sym (nothing_more (spelling t)) } in
     let first = front_first s [] t front in
     ap begins_text first.3 ∙ ap (λ n. nat_eq n 3) (high (major t) first.0 first.2)
 
-pub key-text : (o : Option Tree) (s : List ℕ) (b : Bool) → spelled_tree o ≡ Some s → IfSome o IsTree → b ≡ begins_text s → b ≡ true → spelled_key o ≡ Some s
-key-text None s b e g is x = cc
-key-text (Some (text k)) s b e g is x = e
-key-text (Some null) s b e g is x = let differ : true ≡ false = sym x ∙ is ∙ begins-by _ s e g in absurd (cc differ)
-key-text (Some (boolean v)) s b e g is x = let differ : true ≡ false = sym x ∙ is ∙ begins-by _ s e g in absurd (cc differ)
-key-text (Some (integer (pos n))) s b e g is x = let differ : true ≡ false = sym x ∙ is ∙ begins-by _ s e g in absurd (cc differ)
-key-text (Some (integer (negsuc n))) s b e g is x = let differ : true ≡ false = sym x ∙ is ∙ begins-by _ s e g in absurd (cc differ)
-key-text (Some (bytes v)) s b e g is x = let differ : true ≡ false = sym x ∙ is ∙ begins-by _ s e g in absurd (cc differ)
-key-text (Some (list v)) s b e g is x = let differ : true ≡ false = sym x ∙ is ∙ begins-by _ s e g in absurd (cc differ)
-key-text (Some (mapping v)) s b e g is x = let differ : true ≡ false = sym x ∙ is ∙ begins-by _ s e g in absurd (cc differ)
-key-text (Some (link v)) s b e g is x = let differ : true ≡ false = sym x ∙ is ∙ begins-by _ s e g in absurd (cc differ)
+pub key_text : (o : Option Tree) (s : List ℕ) (b : Bool) → spelled_tree o ≡ Some s → IfSome o IsTree → b ≡ begins_text s → b ≡ true → spelled_key o ≡ Some s
+key_text None s b e g is x = cc
+key_text (Some (text k)) s b e g is x = e
+key_text (Some null) s b e g is x = let differ : true ≡ false = sym x ∙ is ∙ begins_by _ s e g in absurd (cc differ)
+key_text (Some (boolean v)) s b e g is x = let differ : true ≡ false = sym x ∙ is ∙ begins_by _ s e g in absurd (cc differ)
+key_text (Some (integer (pos n))) s b e g is x = let differ : true ≡ false = sym x ∙ is ∙ begins_by _ s e g in absurd (cc differ)
+key_text (Some (integer (negsuc n))) s b e g is x = let differ : true ≡ false = sym x ∙ is ∙ begins_by _ s e g in absurd (cc differ)
+key_text (Some (bytes v)) s b e g is x = let differ : true ≡ false = sym x ∙ is ∙ begins_by _ s e g in absurd (cc differ)
+key_text (Some (list v)) s b e g is x = let differ : true ≡ false = sym x ∙ is ∙ begins_by _ s e g in absurd (cc differ)
+key_text (Some (mapping v)) s b e g is x = let differ : true ≡ false = sym x ∙ is ∙ begins_by _ s e g in absurd (cc differ)
+key_text (Some (link v)) s b e g is x = let differ : true ≡ false = sym x ∙ is ∙ begins_by _ s e g in absurd (cc differ)
 
-pub key-no-text : (o : Option Tree) (s : List ℕ) (b : Bool) → spelled_tree o ≡ Some s → IfSome o IsTree → b ≡ begins_text s → b ≡ false → option_and_then key_of o ≡ None
-key-no-text None s b e g is x = refl
-key-no-text (Some (text k)) s b e g is x = let differ : false ≡ true = sym x ∙ is ∙ begins-by (text k) s e g in absurd (cc differ)
-key-no-text (Some null) s b e g is x = refl
-key-no-text (Some (boolean v)) s b e g is x = refl
-key-no-text (Some (integer n)) s b e g is x = refl
-key-no-text (Some (bytes v)) s b e g is x = refl
-key-no-text (Some (list v)) s b e g is x = refl
-key-no-text (Some (mapping v)) s b e g is x = refl
-key-no-text (Some (link v)) s b e g is x = refl
+pub key_no_text : (o : Option Tree) (s : List ℕ) (b : Bool) → spelled_tree o ≡ Some s → IfSome o IsTree → b ≡ begins_text s → b ≡ false → option_and_then key_of o ≡ None
+key_no_text None s b e g is x = refl
+key_no_text (Some (text k)) s b e g is x = let differ : false ≡ true = sym x ∙ is ∙ begins_by (text k) s e g in absurd (cc differ)
+key_no_text (Some null) s b e g is x = refl
+key_no_text (Some (boolean v)) s b e g is x = refl
+key_no_text (Some (integer n)) s b e g is x = refl
+key_no_text (Some (bytes v)) s b e g is x = refl
+key_no_text (Some (list v)) s b e g is x = refl
+key_no_text (Some (mapping v)) s b e g is x = refl
+key_no_text (Some (link v)) s b e g is x = refl
 
-pub key-none : (o : Option Tree) → spelled_tree o ≡ None → spelled_key o ≡ None
-key-none None e = refl
-key-none (Some (text k)) e = e
-key-none (Some null) e = refl
-key-none (Some (boolean v)) e = refl
-key-none (Some (integer n)) e = refl
-key-none (Some (bytes v)) e = refl
-key-none (Some (list v)) e = refl
-key-none (Some (mapping v)) e = refl
-key-none (Some (link v)) e = refl
+pub key_none : (o : Option Tree) → spelled_tree o ≡ None → spelled_key o ≡ None
+key_none None e = refl
+key_none (Some (text k)) e = e
+key_none (Some null) e = refl
+key_none (Some (boolean v)) e = refl
+key_none (Some (integer n)) e = refl
+key_none (Some (bytes v)) e = refl
+key_none (Some (list v)) e = refl
+key_none (Some (mapping v)) e = refl
+key_none (Some (link v)) e = refl
 
 -- what begins as a text behind the bytes is the spelling of a key
 module _ (o : Option Tree) (old new : List ℕ) (start : ℕ) (b : Bool) (at : start ≡ length old) (g : Grows o old new) (is : b ≡ begins_text (slice_range new start (length new))) where
@@ -69,8 +69,8 @@ module _ (o : Option Tree) (old new : List ℕ) (start : ℕ) (b : Bool) (at : s
   begins : b ≡ begins_text (drop start new)
   begins = is ∙ ap begins_text (take_all (length new - start) (drop start new) (omega (arith, length-drop start new)))
 
-  pub held-key : b ≡ true → HoldsKey o (Some (drop start new))
-  held-key x = (key-text o (drop start new) b stands g.1 begins x, g.1)
+  pub held_key : b ≡ true → HoldsKey o (Some (drop start new))
+  held_key x = (key_text o (drop start new) b stands g.1 begins x, g.1)
 
-  pub refused-key : b ≡ false → option_and_then key_of o ≡ None
-  refused-key x = key-no-text o (drop start new) b stands g.1 begins x
+  pub refused_key : b ≡ false → option_and_then key_of o ≡ None
+  refused_key x = key_no_text o (drop start new) b stands g.1 begins x

@@ -12,48 +12,48 @@ abbrev pub NotEmpty : Option (List ℕ) → Type 0
 NotEmpty None = Unit {0}
 NotEmpty (Some bs) = 1 ≤ length bs
 
-cond-length : (b : Bool) (x y : List ℕ) → 1 ≤ length x → 1 ≤ length y → 1 ≤ length (if b then x else y)
-cond-length true x y p q = p
-cond-length false x y p q = q
+cond_length : (b : Bool) (x y : List ℕ) → 1 ≤ length x → 1 ≤ length y → 1 ≤ length (if b then x else y)
+cond_length true x y p q = p
+cond_length false x y p q = q
 
-one-more : (b : ℕ) (bs : List ℕ) → 1 ≤ length (b ∷ bs)
-one-more b bs = omega arith
+one_more : (b : ℕ) (bs : List ℕ) → 1 ≤ length (b ∷ bs)
+one_more b bs = omega arith
 
-pub head-length : (m n : ℕ) → 1 ≤ length (head m n)
+pub head_length : (m n : ℕ) → 1 ≤ length (head m n)
 unfolding head
-head-length m n = search (cond-length, one-more)
+head_length m n = search (cond_length, one_more)
 
-NotEmpty-append : (a b : Option (List ℕ)) → NotEmpty a → NotEmpty (a ++? b)
-NotEmpty-append None b p = tt
-NotEmpty-append (Some a) None p = tt
-NotEmpty-append (Some a) (Some b) p = omega (arith, length-append a b)
+NotEmpty_append : (a b : Option (List ℕ)) → NotEmpty a → NotEmpty (a ++? b)
+NotEmpty_append None b p = tt
+NotEmpty_append (Some a) None p = tt
+NotEmpty_append (Some a) (Some b) p = omega (arith, length-append a b)
 
-NotEmpty-if : (b : Bool) (x : List ℕ) → 1 ≤ length x → NotEmpty (if b then Some x else None)
-NotEmpty-if true x p = p
-NotEmpty-if false x p = tt
+NotEmpty_if : (b : Bool) (x : List ℕ) → 1 ≤ length x → NotEmpty (if b then Some x else None)
+NotEmpty_if true x p = p
+NotEmpty_if false x p = tt
 
-NotEmpty-head : (m n : ℕ) (b : Option (List ℕ)) → NotEmpty (spelled_head m n ++? b)
-NotEmpty-head m n b = NotEmpty-append (spelled_head m n) b (NotEmpty-if (nat_lt n (2 ^ 64)) (head m n) (head-length m n))
+NotEmpty_head : (m n : ℕ) (b : Option (List ℕ)) → NotEmpty (spelled_head m n ++? b)
+NotEmpty_head m n b = NotEmpty_append (spelled_head m n) b (NotEmpty_if (nat_lt n (2 ^ 64)) (head m n) (head_length m n))
 
-NotEmpty-alone : (m n : ℕ) → NotEmpty (spelled_head m n)
-NotEmpty-alone m n = NotEmpty-if (nat_lt n (2 ^ 64)) (head m n) (head-length m n)
+NotEmpty_alone : (m n : ℕ) → NotEmpty (spelled_head m n)
+NotEmpty_alone m n = NotEmpty_if (nat_lt n (2 ^ 64)) (head m n) (head_length m n)
 
-pub NotEmpty-spelled : (t : Tree) → NotEmpty (spelled t)
+pub NotEmpty_spelled : (t : Tree) → NotEmpty (spelled t)
 unfolding spelled
-NotEmpty-spelled null = lit≤ tt
-NotEmpty-spelled (boolean true) = lit≤ tt
-NotEmpty-spelled (boolean false) = lit≤ tt
-NotEmpty-spelled (integer (pos n)) = NotEmpty-alone 0 n
-NotEmpty-spelled (integer (negsuc n)) = NotEmpty-alone 1 n
-NotEmpty-spelled (text bs) = NotEmpty-head 3 (length bs) (Some bs)
-NotEmpty-spelled (bytes bs) = NotEmpty-head 2 (length bs) (Some bs)
-NotEmpty-spelled (list ts) = NotEmpty-head 4 (item_count ts) (spelled_items ts)
-NotEmpty-spelled (mapping es) = NotEmpty-head 5 (entry_count es) (spelled_entries es)
-NotEmpty-spelled (link cid) = NotEmpty-append (Some (0xd8 ∷ 0x2a ∷ [])) (spelled_bytes 2 (0 ∷ cid)) (lit≤ tt)
+NotEmpty_spelled null = lit≤ tt
+NotEmpty_spelled (boolean true) = lit≤ tt
+NotEmpty_spelled (boolean false) = lit≤ tt
+NotEmpty_spelled (integer (pos n)) = NotEmpty_alone 0 n
+NotEmpty_spelled (integer (negsuc n)) = NotEmpty_alone 1 n
+NotEmpty_spelled (text bs) = NotEmpty_head 3 (length bs) (Some bs)
+NotEmpty_spelled (bytes bs) = NotEmpty_head 2 (length bs) (Some bs)
+NotEmpty_spelled (list ts) = NotEmpty_head 4 (item_count ts) (spelled_items ts)
+NotEmpty_spelled (mapping es) = NotEmpty_head 5 (entry_count es) (spelled_entries es)
+NotEmpty_spelled (link cid) = NotEmpty_append (Some (0xd8 ∷ 0x2a ∷ [])) (spelled_bytes 2 (0 ∷ cid)) (lit≤ tt)
 
-pub NotEmpty-tree : (o : Option Tree) → NotEmpty (spelled_tree o)
-NotEmpty-tree None = tt
-NotEmpty-tree (Some t) = NotEmpty-spelled t
+pub NotEmpty_tree : (o : Option Tree) → NotEmpty (spelled_tree o)
+NotEmpty_tree None = tt
+NotEmpty_tree (Some t) = NotEmpty_spelled t
 
 -- bytes that a spelling was appended to are more
 grown : (o : Option (List ℕ)) (old new : List ℕ) → NotEmpty o → AppendsTo old new o → length old + 1 ≤ length new
@@ -61,4 +61,4 @@ grown None old new e w = absurd w
 grown (Some s) old new e w = rw w (omega (arith, length-append old s))
 
 pub grows : (o : Option Tree) (old new : List ℕ) → Grows o old new → length old + 1 ≤ length new
-grows o old new g = grown (spelled_tree o) old new (NotEmpty-tree o) g.0
+grows o old new g = grown (spelled_tree o) old new (NotEmpty_tree o) g.0

@@ -20,7 +20,7 @@ use Rattle.ipld_tree.proofs.WellFormed.{EachPair, IsGoodPair, are_entries}
 use Rattle.dagcbor_heads.specs.Written.{Written, Writes}
 use Rattle.dagcbor_heads.specs.declared.error.EncodeError.{EncodeError}
 use Rattle.dagcbor_write.specs.Pairwise.{Pairwise}
-use Rattle.dagcbor_write.proofs.Lists.{OnOk-of}
+use Rattle.dagcbor_write.proofs.Lists.{OnOk_of}
 use Rattle.dagcbor_write.specs.Trees.{Pair}
 use Rattle.dagcbor_write.specs.Maps.{Texts, spelled_key, AreSpellingsOf, entries_text, map_rest, RepeatsKey}
 use Rattle.dagcbor_write.specs.Order.{head_rest, entries_bytes, goes_before, PutsInOrder}
@@ -111,11 +111,11 @@ named (p ∷ ps) (e ∷ es) h =
 fits : (k s : List ℕ) → spelled (text k) ≡ Some s → (length k < 2 ^ 64) × (s ≡ text_spelling k)
 fits k s e = (spelled_is (text k) s).0 e
 
-same-name : (p q : Named) (e f : Texts) → IsSpelledBy p e → IsSpelledBy q f → p.0 ≡ q.0 → e.0 ≡ f.0
-same-name p q e f h k same = (fits p.0 e.0 h.key).1 ∙ ap text_spelling same ∙ sym (fits q.0 f.0 k.key).1
+same_name : (p q : Named) (e f : Texts) → IsSpelledBy p e → IsSpelledBy q f → p.0 ≡ q.0 → e.0 ≡ f.0
+same_name p q e f h k same = (fits p.0 e.0 h.key).1 ∙ ap text_spelling same ∙ sym (fits q.0 f.0 k.key).1
 
-same-text : (p q : Named) (e f : Texts) → IsSpelledBy p e → IsSpelledBy q f → e.0 ≡ f.0 → p.0 ≡ q.0
-same-text p q e f h k same =
+same_text : (p q : Named) (e f : Texts) → IsSpelledBy p e → IsSpelledBy q f → e.0 ≡ f.0 → p.0 ≡ q.0
+same_text p q e f h k same =
     let a = fits p.0 e.0 h.key in
     let b = fits q.0 f.0 k.key in
     ap payload (spelling_unique (text p.0) (text q.0) [] [] a.0 b.0 (ap (λ x. x ++ []) (sym a.1 ∙ same ∙ b.1))).0
@@ -124,74 +124,74 @@ follows : (p q : Named) (e f : Texts) → IsSpelledBy p e → IsSpelledBy q f �
 follows p q e f h k late differ =
     let a = fits p.0 e.0 h.key in
     let b = fits q.0 f.0 k.key in
-    let apart : q.0 ≢ p.0 = λ same. differ (sym (same-name q p f e k h same)) in
+    let apart : q.0 ≢ p.0 = λ same. differ (sym (same_name q p f e k h same)) in
     let as-keys : bytes_cmp (f.0 ++ f.1) (e.0 ++ e.1) ≡ key_cmp q.0 p.0 = ap₂ (λ x y. bytes_cmp (x ++ f.1) (y ++ e.1)) b.1 a.1 ∙ key_order q.0 p.0 f.1 e.1 b.0 a.0 apart in
     after_not_before q.0 p.0 (sym (ap is_lt as-keys) ∙ late) (λ same. apart (same_key q.0 p.0 same))
 
-below-all : (p q : List ℕ) (ks : List (List ℕ)) → key_cmp p q ≡ Less → AllByRecursion (λ y. key_cmp q y ≡ Less) ks → AllByRecursion (λ y. key_cmp p y ≡ Less) ks
-below-all p q [] h r = tt
-below-all p q (k ∷ ks) h r = (key_cmp_total.trans p q k h r.0, below-all p q ks h r.1)
+below_all : (p q : List ℕ) (ks : List (List ℕ)) → key_cmp p q ≡ Less → AllByRecursion (λ y. key_cmp q y ≡ Less) ks → AllByRecursion (λ y. key_cmp p y ≡ Less) ks
+below_all p q [] h r = tt
+below_all p q (k ∷ ks) h r = (key_cmp_total.trans p q k h r.0, below_all p q ks h r.1)
 
-sorted-names : (qs : List Named) (fs : List Texts) → Pairwise IsSpelledBy qs fs → ((k : ℕ) (d : Texts) → suc k < length fs → goes_before (get_or fs (suc k) d) (get_or fs k d) ≡ false) → ((k : ℕ) (d : Texts) → suc k < length fs → (get_or fs k d).0 ≡ (get_or fs (suc k) d).0 → ⊥) → IsSortedList qs
+sorted_names : (qs : List Named) (fs : List Texts) → Pairwise IsSpelledBy qs fs → ((k : ℕ) (d : Texts) → suc k < length fs → goes_before (get_or fs (suc k) d) (get_or fs k d) ≡ false) → ((k : ℕ) (d : Texts) → suc k < length fs → (get_or fs k d).0 ≡ (get_or fs (suc k) d).0 → ⊥) → IsSortedList qs
 unfolding IsStrictlySortedBy
-sorted-names [] [] w s n = tt
-sorted-names [] (f ∷ fs) w s n = absurd w
-sorted-names (q ∷ qs) [] w s n = absurd w
-sorted-names (q ∷ []) (f ∷ []) w s n = (tt, tt)
-sorted-names (q ∷ []) (f ∷ g ∷ fs) w s n = absurd w.1
-sorted-names (q ∷ p ∷ qs) (f ∷ []) w s n = absurd w.1
-sorted-names (q ∷ p ∷ qs) (f ∷ g ∷ fs) w s n =
+sorted_names [] [] w s n = tt
+sorted_names [] (f ∷ fs) w s n = absurd w
+sorted_names (q ∷ qs) [] w s n = absurd w
+sorted_names (q ∷ []) (f ∷ []) w s n = (tt, tt)
+sorted_names (q ∷ []) (f ∷ g ∷ fs) w s n = absurd w.1
+sorted_names (q ∷ p ∷ qs) (f ∷ []) w s n = absurd w.1
+sorted_names (q ∷ p ∷ qs) (f ∷ g ∷ fs) w s n =
     let first = follows q p f g w.0 w.1.0 (s 0 f (omega arith)) (n 0 f (omega arith)) in
-    let more = sorted-names (p ∷ qs) (g ∷ fs) w.1 (λ k d h. s (suc k) d (omega (arith, h))) (λ k d h. n (suc k) d (omega (arith, h))) in
-    ((first, below-all q.0 p.0 (keys_of qs) first more.0), more)
+    let more = sorted_names (p ∷ qs) (g ∷ fs) w.1 (λ k d h. s (suc k) d (omega (arith, h))) (λ k d h. n (suc k) d (omega (arith, h))) in
+    ((first, below_all q.0 p.0 (keys_of qs) first more.0), more)
 
 -- ---- the text of the entries
 
-pub Some-both : (a b : List ℕ) (x y : Option (List ℕ)) → x ≡ Some a → y ≡ Some b → x ++? y ≡ Some (a ++ b)
-Some-both a b x y e f = ap₂ (λ s t. s ++? t) e f
+pub Some_both : (a b : List ℕ) (x y : Option (List ℕ)) → x ≡ Some a → y ≡ Some b → x ++? y ≡ Some (a ++ b)
+Some_both a b x y e f = ap₂ (λ s t. s ++? t) e f
 
-entries-text : (qs : List Named) (fs : List Texts) → Pairwise IsSpelledBy qs fs → spelled_entries (entries_of qs) ≡ Some (entries_bytes fs)
+entries_text_is : (qs : List Named) (fs : List Texts) → Pairwise IsSpelledBy qs fs → spelled_entries (entries_of qs) ≡ Some (entries_bytes fs)
 unfolding spelled
-entries-text [] [] w = refl
-entries-text [] (f ∷ fs) w = absurd w
-entries-text (q ∷ qs) [] w = absurd w
-entries-text (q ∷ qs) (f ∷ fs) w = Some-both f.0 (f.1 ++ entries_bytes fs) _ _ w.0.key (Some-both f.1 (entries_bytes fs) _ _ w.0.value (entries-text qs fs w.1))
+entries_text_is [] [] w = refl
+entries_text_is [] (f ∷ fs) w = absurd w
+entries_text_is (q ∷ qs) [] w = absurd w
+entries_text_is (q ∷ qs) (f ∷ fs) w = Some_both f.0 (f.1 ++ entries_bytes fs) _ _ w.0.key (Some_both f.1 (entries_bytes fs) _ _ w.0.value (entries_text_is qs fs w.1))
 
-count-is : (qs : List Named) → entry_count (entries_of qs) ≡ length qs
-count-is [] = refl
-count-is (q ∷ qs) = ap suc (count-is qs)
+count_is : (qs : List Named) → entry_count (entries_of qs) ≡ length qs
+count_is [] = refl
+count_is (q ∷ qs) = ap suc (count_is qs)
 
-good-pairs : (qs : List Named) (fs : List Texts) → Pairwise IsSpelledBy qs fs → EachPair IsGoodPair qs
-good-pairs [] [] w = tt
-good-pairs [] (f ∷ fs) w = absurd w
-good-pairs (q ∷ qs) [] w = absurd w
-good-pairs (q ∷ qs) (f ∷ fs) w = (w.0.good, good-pairs qs fs w.1)
+good_pairs : (qs : List Named) (fs : List Texts) → Pairwise IsSpelledBy qs fs → EachPair IsGoodPair qs
+good_pairs [] [] w = tt
+good_pairs [] (f ∷ fs) w = absurd w
+good_pairs (q ∷ qs) [] w = absurd w
+good_pairs (q ∷ qs) (f ∷ fs) w = (w.0.good, good_pairs qs fs w.1)
 
 -- ---- the map of the pairs
 
-tree-of : (ps : List Pair) (qs : List Named) (es : Entries) (b : Bool) → all_some (map pair_of ps) ≡ Some qs → repeats_key qs ≡ b → ordered qs ≡ es → entries_tree ps ≡ cond b None (Some (mapping es))
-tree-of ps qs es b e r o = ap (λ x. option_and_then map_tree x) e ∙ ap₂ (λ c x. cond c None (Some (mapping x))) r o
+tree_of : (ps : List Pair) (qs : List Named) (es : Entries) (b : Bool) → all_some (map pair_of ps) ≡ Some qs → repeats_key qs ≡ b → ordered qs ≡ es → entries_tree ps ≡ cond b None (Some (mapping es))
+tree_of ps qs es b e r o = ap (λ x. option_and_then map_tree x) e ∙ ap₂ (λ c x. cond c None (Some (mapping x))) r o
 
-text-by : (announced : Option ℕ) (ps : List Pair) (qs : List Named) (fs : List Texts) → entries_tree ps ≡ Some (mapping (entries_of qs)) → Pairwise IsSpelledBy qs fs → map_rest announced ps ≡ head_rest announced (length fs) ++? Some (entries_bytes fs)
+text_by : (announced : Option ℕ) (ps : List Pair) (qs : List Named) (fs : List Texts) → entries_tree ps ≡ Some (mapping (entries_of qs)) → Pairwise IsSpelledBy qs fs → map_rest announced ps ≡ head_rest announced (length fs) ++? Some (entries_bytes fs)
 unfolding spelled
-text-by None ps qs fs e w = ap spelled_tree e ∙ ap₂ (λ n x. spelled_head 5 n ++? x) (count-is qs ∙ pairwise_length IsSpelledBy qs fs w) (entries-text qs fs w)
-text-by (Some n) ps qs fs e w = ap entries_text e ∙ entries-text qs fs w
+text_by None ps qs fs e w = ap spelled_tree e ∙ ap₂ (λ n x. spelled_head 5 n ++? x) (count_is qs ∙ pairwise_length IsSpelledBy qs fs w) (entries_text_is qs fs w)
+text_by (Some n) ps qs fs e w = ap entries_text e ∙ entries_text_is qs fs w
 
 -- entries in the order of their keys are the map of the pairs
 pub record IsMapOf (announced : Option ℕ) (ps : List Pair) (fs : List Texts) : Type 0 where
   pub text : map_rest announced ps ≡ head_rest announced (length fs) ++? Some (entries_bytes fs)
   pub good : IfSome (entries_tree ps) IsTree
 
-pub in-order : (announced : Option ℕ) (ps : List Pair) (es fs : List Texts) → AreSpellingsOf ps es → PutsInOrder es fs true → IsMapOf announced ps fs
-in-order announced ps es fs h o =
+pub in_order : (announced : Option ℕ) (ps : List Pair) (es fs : List Texts) → AreSpellingsOf ps es → PutsInOrder es fs true → IsMapOf announced ps fs
+in_order announced ps es fs h o =
     let given = named ps es h in
     let moved = beside IsSpelledBy given.0 es fs o.0 given.2 in
-    let sorted = ordered_by_sort given.0 moved.0 moved.1 (sorted-names moved.0 fs moved.2 (λ k d h. rw add-one at (o.1 k d (omega arith) (omega (arith, h)))) (λ k d h e. o.2 k d (omega (arith, h)) (rw add-one e))) in
+    let sorted = ordered_by_sort given.0 moved.0 moved.1 (sorted_names moved.0 fs moved.2 (λ k d h. rw add-one at (o.1 k d (omega arith) (omega (arith, h)))) (λ k d h e. o.2 k d (omega (arith, h)) (rw add-one e))) in
     let none = test_from_distinct given.0 sorted.0 in
-    let is = tree-of ps given.0 (entries_of moved.0) false given.1 none sorted.1 in
-    let as_ordered = tree-of ps given.0 (ordered given.0) false given.1 none refl in
+    let is = tree_of ps given.0 (entries_of moved.0) false given.1 none sorted.1 in
+    let as_ordered = tree_of ps given.0 (ordered given.0) false given.1 none refl in
     let P : Option Tree → Type 0 = λ t. IfSome t IsTree in
-    record { text = text-by announced ps moved.0 fs is moved.2; good = subst P (sym as_ordered) (are_entries given.0 sorted.0 (good-pairs given.0 es given.2)) }
+    record { text = text_by announced ps moved.0 fs is moved.2; good = subst P (sym as_ordered) (are_entries given.0 sorted.0 (good_pairs given.0 es given.2)) }
 
 clash : (qs : List Named) (fs : List Texts) (k : ℕ) → Pairwise IsSpelledBy qs fs → suc k < length fs → ((d : Texts) → (get_or fs k d).0 ≡ (get_or fs (suc k) d).0) → AreDistinct qs → ⊥
 unfolding IsDistinct
@@ -201,7 +201,7 @@ clash (q ∷ qs) [] k w h e d = absurd w
 clash (q ∷ qs) (f ∷ []) k w h e d = omega (arith, h)
 clash (q ∷ []) (f ∷ g ∷ fs) k w h e d = absurd w.1
 clash (q ∷ p ∷ qs) (f ∷ g ∷ fs) zero w h e d =
-    let same : key_cmp q.0 p.0 ≡ Equal = ap (key_cmp q.0) (sym (same-text q p f g w.0 w.1.0 (e f))) ∙ key_cmp_same q.0 in
+    let same : key_cmp q.0 p.0 ≡ Equal = ap (key_cmp q.0) (sym (same_text q p f g w.0 w.1.0 (e f))) ∙ key_cmp_same q.0 in
     let differ : true ≡ false = sym (ap is_eq same) ∙ d.0.0 in cc differ
 clash (q ∷ p ∷ qs) (f ∷ g ∷ fs) (suc k) w h e d = clash (p ∷ qs) (g ∷ fs) k w.1 (omega (arith, h)) e d.1
 
@@ -209,20 +209,20 @@ repeats : (b : Bool) (qs : List Named) → repeats_key qs ≡ b → (AreDistinct
 repeats true qs e n = refl
 repeats false qs e n = absurd (n (distinct_from_test qs e))
 
-rest-None : (announced : Option ℕ) (ps : List Pair) → entries_tree ps ≡ None → map_rest announced ps ≡ None
-rest-None None ps e = ap spelled_tree e
-rest-None (Some n) ps e = ap entries_text e
+rest_None : (announced : Option ℕ) (ps : List Pair) → entries_tree ps ≡ None → map_rest announced ps ≡ None
+rest_None None ps e = ap spelled_tree e
+rest_None (Some n) ps e = ap entries_text e
 
 -- where a key repeats there is no map
-pub no-order : (announced : Option ℕ) (ps : List Pair) (es fs : List Texts) → AreSpellingsOf ps es → PutsInOrder es fs false → (map_rest announced ps ≡ None) × RepeatsKey ps
-no-order announced ps es fs h o =
+pub no_order : (announced : Option ℕ) (ps : List Pair) (es fs : List Texts) → AreSpellingsOf ps es → PutsInOrder es fs false → (map_rest announced ps ≡ None) × RepeatsKey ps
+no_order announced ps es fs h o =
     let given = named ps es h in
     let moved = beside IsSpelledBy given.0 es fs o.0 given.2 in
     let apart : AreDistinct given.0 → ⊥ = λ d. clash moved.0 fs o.2.0 moved.2 (omega (arith, o.2.1)) (λ e. rw add-one at (o.2.2 e))
     (IsDistinct-IsPermutation same_place same_place_flips (keys_of given.0) (keys_of moved.0) (IsPermutation-map (λ p. p.0) given.0 moved.0 moved.1) d) in
     let twice = repeats (repeats_key given.0) given.0 refl apart in
     let P : Option (List Named) → Type 0 = λ o. IsSomeAnd o (λ named. IsTrue (repeats_key named)) in
-    (rest-None announced ps (tree-of ps given.0 (ordered given.0) true given.1 twice refl), subst P (sym given.1) (search twice))
+    (rest_None announced ps (tree_of ps given.0 (ordered given.0) true given.1 twice refl), subst P (sym given.1) (search twice))
 
 -- ---- for the end of a collector
 
@@ -230,11 +230,11 @@ module _ (ps : List Pair) (es fs : List Texts) (b : Bool) (h : AreSpellingsOf ps
   at : (c : Bool) → b ≡ c → PutsInOrder es fs c
   at c e = subst (λ x. PutsInOrder es fs x) e o
 
-  pub in-order-written : {T E : Type 0} (announced : Option ℕ) (s t : Written) (r : Result T (EncodeError E)) → b ≡ true → Writes (head_rest announced (length fs) ++? Some (entries_bytes fs)) s t r → Writes (map_rest announced ps) s t r
-  in-order-written announced s t r e w = subst (λ x. Writes x s t r) (sym (in-order announced ps es fs h (at true e)).text) w
+  pub in_order_written : {T E : Type 0} (announced : Option ℕ) (s t : Written) (r : Result T (EncodeError E)) → b ≡ true → Writes (head_rest announced (length fs) ++? Some (entries_bytes fs)) s t r → Writes (map_rest announced ps) s t r
+  in_order_written announced s t r e w = subst (λ x. Writes x s t r) (sym (in_order announced ps es fs h (at true e)).text) w
 
-  pub in-order-good : {T E : Type 0} (r : Result T E) → b ≡ true → OnOk r (IfSome (entries_tree ps) IsTree)
-  in-order-good r e = OnOk-of r (in-order None ps es fs h (at true e)).good
+  pub in_order_good : {T E : Type 0} (r : Result T E) → b ≡ true → OnOk r (IfSome (entries_tree ps) IsTree)
+  in_order_good r e = OnOk_of r (in_order None ps es fs h (at true e)).good
 
-  pub no-order-written : (announced : Option ℕ) → b ≡ false → (map_rest announced ps ≡ None) × RepeatsKey ps
-  no-order-written announced e = no-order announced ps es fs h (at false e)
+  pub no_order_written : (announced : Option ℕ) → b ≡ false → (map_rest announced ps ≡ None) × RepeatsKey ps
+  no_order_written announced e = no_order announced ps es fs h (at false e)

@@ -3,25 +3,25 @@ use Rattle.std.proofs.Common.{◌≡◌, ℕ, ◌+◌, ◌^◌, ◌<◌, List, [
 use Rattle.std.specs.Fmt.{◌++?◌}
 use Rattle.dagcbor_heads.specs.Head.{head}
 use Rattle.dagcbor_heads.specs.Written.{Written, WroteAll}
-use Rattle.dagcbor_heads.proofs.Writing.{Written-but, begin-writing, all-written, append-Some}
+use Rattle.dagcbor_heads.proofs.Writing.{Written-but, begin_writing, all_written, append_Some}
 use Rattle.ipld_tree.specs.Tree.{link}
 use Rattle.ipld_tree.specs.Spelled.{spelled, spelled_head, spelled_bytes}
 use Rattle.dagcbor_write.proofs.Spelling.{head_is_spelled}
 
 pub begin_two : (whole a b : Option (List ℕ)) (s : Written) → whole ≡ a ++? b → Written-but whole (a ∷ b ∷ []) s s
-begin_two whole a b s e = begin-writing whole (a ∷ b ∷ []) s (e ∙ ap (λ x. a ++? x) (sym (append-Some b)))
+begin_two whole a b s e = begin_writing whole (a ∷ b ∷ []) s (e ∙ ap (λ x. a ++? x) (sym (append_Some b)))
 
 -- what is left is a part and more
 pub opened : {whole a : Option (List ℕ)} {s t : Written} → (b c : Option (List ℕ)) → a ≡ b ++? c → Written-but whole (a ∷ []) s t → Written-but whole (b ∷ c ∷ []) s t
 opened {whole} {a} b c e w = record {
   done = w.done;
-  split = w.split ∙ ap (λ x. w.done ++? x) (append-Some a ∙ e ∙ ap (λ x. b ++? x) (sym (append-Some c)));
+  split = w.split ∙ ap (λ x. w.done ++? x) (append_Some a ∙ e ∙ ap (λ x. b ++? x) (sym (append_Some c)));
   wrote = w.wrote;
 }
 
 -- nothing is left
 pub ended : {whole a : Option (List ℕ)} {s t : Written} → a ≡ Some [] → Written-but whole (a ∷ []) s t → WroteAll whole s t
-ended {whole} {a} e w = all-written (record { done = w.done; split = w.split ∙ ap (λ x. w.done ++? x) (append-Some a ∙ e); wrote = w.wrote })
+ended {whole} {a} e w = all_written (record { done = w.done; split = w.split ∙ ap (λ x. w.done ++? x) (append_Some a ∙ e); wrote = w.wrote })
 
 -- a head of the number of bytes, and the bytes
 pub begin_counted : (major : ℕ) (bytes : List ℕ) (s : Written) → length bytes < 2 ^ 64 → Written-but (spelled_bytes major bytes) (Some (head major (length bytes)) ∷ Some bytes ∷ []) s s
@@ -31,5 +31,5 @@ pub begin_link : (cid : List ℕ) (n : ℕ) (s : Written) → n ≡ length cid +
 unfolding spelled
 begin_link cid n s e h =
     let long : length (0x00 ∷ cid) ≡ n = omega (arith, e) in
-    begin-writing _ _ s (ap (λ o. Some (0xd8 ∷ 0x2a ∷ []) ++? (o ++? Some (0x00 ∷ cid))) (ap (λ k. spelled_head 2 k) long ∙ head_is_spelled 2 n h)
-    ∙ ap (λ x. Some (0xd8 ∷ 0x2a ∷ []) ++? (Some (head 2 n) ++? (Some (0x00 ∷ []) ++? x))) (sym (append-Some (Some cid))))
+    begin_writing _ _ s (ap (λ o. Some (0xd8 ∷ 0x2a ∷ []) ++? (o ++? Some (0x00 ∷ cid))) (ap (λ k. spelled_head 2 k) long ∙ head_is_spelled 2 n h)
+    ∙ ap (λ x. Some (0xd8 ∷ 0x2a ∷ []) ++? (Some (head 2 n) ++? (Some (0x00 ∷ []) ++? x))) (sym (append_Some (Some cid))))

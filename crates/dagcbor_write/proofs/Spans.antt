@@ -20,8 +20,8 @@ use Rattle.dagcbor_write.specs.Order.{goes_before}
 use Rattle.dagcbor_write.specs.Spans.{entry_at, IsWithin}
 
 -- keys that a test of their bytes finds equal are
-pub same-bytes : (xs ys : List ℕ) → bytes_eq xs ys ≡ true → xs ≡ ys
-same-bytes xs ys e = decided (bytes_eq xs ys) (xs ≡ ys) (bytes_eq-Decides xs ys) e
+pub same_bytes : (xs ys : List ℕ) → bytes_eq xs ys ≡ true → xs ≡ ys
+same_bytes xs ys e = decided (bytes_eq xs ys) (xs ≡ ys) (bytes_eq-Decides xs ys) e
   where
     decided : (b : Bool) (P : Type 0) → Decides b P → b ≡ true → P
     decided b P d e = d.0 e
@@ -31,22 +31,22 @@ pub behind : (o : Option (List ℕ)) (old new : List ℕ) → AppendsTo old new 
 behind None old new h = absurd h
 behind (Some t) old new h = ap Some (sym (drop-append_seam old t) ∙ ap (drop (length old)) (sym h))
 
-range-stays : (bs more : List ℕ) (a b : ℕ) → a ≤ b → b ≤ length bs → slice_range (bs ++ more) a b ≡ slice_range bs a b
-range-stays bs more a b h k = ap (take (b - a)) (drop-append-le a bs more (omega arith)) ∙ take-append-le (b - a) (drop a bs) more (omega (arith, length-drop a bs))
+range_stays : (bs more : List ℕ) (a b : ℕ) → a ≤ b → b ≤ length bs → slice_range (bs ++ more) a b ≡ slice_range bs a b
+range_stays bs more a b h k = ap (take (b - a)) (drop-append-le a bs more (omega arith)) ∙ take-append-le (b - a) (drop a bs) more (omega (arith, length-drop a bs))
 
-entries-stay : (bs more : List ℕ) (ss : List Span) → AllByRecursion (IsWithin (length bs)) ss → map (entry_at (bs ++ more)) ss ≡ map (entry_at bs) ss
-entries-stay bs more [] w = refl
-entries-stay bs more (s ∷ ss) w =
-    ap₂ (λ e es. e ∷ es) (ap₂ (λ k v. (k, v)) (range-stays bs more s.start s.key_end w.0.0 (omega (arith, w.0))) (range-stays bs more s.key_end s.end w.0.1 w.0.2)) (entries-stay bs more ss w.1)
+entries_stay : (bs more : List ℕ) (ss : List Span) → AllByRecursion (IsWithin (length bs)) ss → map (entry_at (bs ++ more)) ss ≡ map (entry_at bs) ss
+entries_stay bs more [] w = refl
+entries_stay bs more (s ∷ ss) w =
+    ap₂ (λ e es. e ∷ es) (ap₂ (λ k v. (k, v)) (range_stays bs more s.start s.key_end w.0.0 (omega (arith, w.0))) (range_stays bs more s.key_end s.end w.0.1 w.0.2)) (entries_stay bs more ss w.1)
 
 -- bytes that are appended leave the entries as they are
-pub entries-kept : (o : Option (List ℕ)) (old new : List ℕ) (ss : List Span) → AppendsTo old new o → All (IsWithin (length old)) ss → map (entry_at new) ss ≡ map (entry_at old) ss
-entries-kept None old new ss h w = absurd h
-entries-kept (Some t) old new ss h w = ap (λ bs. map (entry_at bs) ss) h ∙ entries-stay old t ss (recursion_from_All (IsWithin (length old)) ss w)
+pub entries_kept : (o : Option (List ℕ)) (old new : List ℕ) (ss : List Span) → AppendsTo old new o → All (IsWithin (length old)) ss → map (entry_at new) ss ≡ map (entry_at old) ss
+entries_kept None old new ss h w = absurd h
+entries_kept (Some t) old new ss h w = ap (λ bs. map (entry_at bs) ss) h ∙ entries_stay old t ss (recursion_from_All (IsWithin (length old)) ss w)
 
-last-entry : (old text : List ℕ) (s : Span) → s.start ≤ length old → s.key_end ≡ length old → s.end ≡ length (old ++ text) → entry_at (old ++ text) s ≡ (drop s.start old, text)
-last-entry old text s h k e =
-    let key = range-stays old text s.start s.key_end (omega (arith, k)) (omega (arith, k)) ∙ take_all (s.key_end - s.start) (drop s.start old) (omega (arith, k, length-drop s.start old)) in
+last_entry : (old text : List ℕ) (s : Span) → s.start ≤ length old → s.key_end ≡ length old → s.end ≡ length (old ++ text) → entry_at (old ++ text) s ≡ (drop s.start old, text)
+last_entry old text s h k e =
+    let key = range_stays old text s.start s.key_end (omega (arith, k)) (omega (arith, k)) ∙ take_all (s.key_end - s.start) (drop s.start old) (omega (arith, k, length-drop s.start old)) in
     let value = ap (λ n. take (s.end - s.key_end) (drop n (old ++ text))) k ∙ ap (take (s.end - s.key_end)) (drop-append_seam old text) ∙ take_all (s.end - s.key_end) text (omega (arith, k, e, length-append old text)) in
     ap₂ (λ x y. (x, y)) key value
 
@@ -54,52 +54,52 @@ joins : (o : Option (List ℕ)) (old new : List ℕ) (ss : List Span) (s : Span)
     → Joins (Some (drop s.start old)) o (map (entry_at old) ss) (map (entry_at new) (ss ++ s ∷ []))
 joins None old new ss s h w b k e = absurd h
 joins (Some t) old new ss s h w b k e =
-    map_push (entry_at new) ss s ∙ ap₂ (λ es f. es ++ f ∷ []) (entries-kept (Some t) old new ss h w) (ap (λ bs. entry_at bs s) h ∙ last-entry old t s b k (e ∙ ap length h))
+    map_push (entry_at new) ss s ∙ ap₂ (λ es f. es ++ f ∷ []) (entries_kept (Some t) old new ss h w) (ap (λ bs. entry_at bs s) h ∙ last_entry old t s b k (e ∙ ap length h))
 
 -- a value behind the key that waits is an entry
-pub value-joins : (o : Option Tree) (old new : List ℕ) (ss : List Span) (key : Option ℕ) (s : Span) → Grows o old new → All (IsWithin (length old)) ss → IfSome key (λ start. start ≤ length old) → key ≡ Some s.start → s.key_end ≡ length old → s.end ≡ length new
+pub value_joins : (o : Option Tree) (old new : List ℕ) (ss : List Span) (key : Option ℕ) (s : Span) → Grows o old new → All (IsWithin (length old)) ss → IfSome key (λ start. start ≤ length old) → key ≡ Some s.start → s.key_end ≡ length old → s.end ≡ length new
     → JoinsValue (option_map (λ start. drop start old) key) o (map (entry_at old) ss) (map (entry_at new) (ss ++ s ∷ []))
-value-joins o old new ss key s g w b is k e =
+value_joins o old new ss key s g w b is k e =
     let P : Option ℕ → Type 0 = λ x. JoinsValue (option_map (λ start. drop start old) x) o (map (entry_at old) ss) (map (entry_at new) (ss ++ s ∷ [])) in
     let Q : Option ℕ → Type 0 = λ x. IfSome x (λ start. start ≤ length old) in
     subst P (sym is) (joins (spelled_tree o) old new ss s g.0 w (subst Q is b) k e, g.1)
 
-take-join : (n m : ℕ) (xs : List ℕ) → take n xs ++ take m (drop n xs) ≡ take (n + m) xs
-take-join zero m xs = ap (λ j. take j xs) (omega arith)
-take-join (suc n) m [] = take_all m [] (omega arith) ∙ sym (take_all (suc n + m) [] (omega arith))
-take-join (suc n) m (x ∷ xs) = let one : suc (n + m) ≡ suc n + m = omega arith in ap (λ ys. x ∷ ys) (take-join n m xs) ∙ ap (λ j. take j (x ∷ xs)) one
+take_join : (n m : ℕ) (xs : List ℕ) → take n xs ++ take m (drop n xs) ≡ take (n + m) xs
+take_join zero m xs = ap (λ j. take j xs) (omega arith)
+take_join (suc n) m [] = take_all m [] (omega arith) ∙ sym (take_all (suc n + m) [] (omega arith))
+take_join (suc n) m (x ∷ xs) = let one : suc (n + m) ≡ suc n + m = omega arith in ap (λ ys. x ∷ ys) (take_join n m xs) ∙ ap (λ j. take j (x ∷ xs)) one
 
 -- a key and its value stand one behind the other
-pub one-range : (bs : List ℕ) (s : Span) → s.start ≤ s.key_end → s.key_end ≤ s.end → (entry_at bs s).0 ++ (entry_at bs s).1 ≡ slice_range bs s.start s.end
-one-range bs s h k =
+pub one_range : (bs : List ℕ) (s : Span) → s.start ≤ s.key_end → s.key_end ≤ s.end → (entry_at bs s).0 ++ (entry_at bs s).1 ≡ slice_range bs s.start s.end
+one_range bs s h k =
     let n = s.key_end - s.start in let m = s.end - s.key_end in
     let at : s.start + n ≡ s.key_end = omega arith in
     let whole : n + m ≡ s.end - s.start = omega arith in
-    ap (λ j. take n (drop s.start bs) ++ take m (drop j bs)) (sym at) ∙ ap (λ ys. take n (drop s.start bs) ++ take m ys) (sym (drop-drop n s.start bs)) ∙ take-join n m (drop s.start bs) ∙ ap (λ j. take j (drop s.start bs)) whole
+    ap (λ j. take n (drop s.start bs) ++ take m (drop j bs)) (sym at) ∙ ap (λ ys. take n (drop s.start bs) ++ take m ys) (sym (drop-drop n s.start bs)) ∙ take_join n m (drop s.start bs) ∙ ap (λ j. take j (drop s.start bs)) whole
 
 -- the entry in a place
-pub entry-is : (n : ℕ) (bs : List ℕ) (ss : List Span) (i : ℕ) (s : Span) (d : Texts) → i < length ss → s ≡ get_or ss i s → All (IsWithin n) ss → slice_range bs s.start s.end ≡ (get_or (map (entry_at bs) ss) i d).0 ++ (get_or (map (entry_at bs) ss) i d).1
-entry-is n bs ss i s d h is w =
+pub entry_is : (n : ℕ) (bs : List ℕ) (ss : List Span) (i : ℕ) (s : Span) (d : Texts) → i < length ss → s ≡ get_or ss i s → All (IsWithin n) ss → slice_range bs s.start s.end ≡ (get_or (map (entry_at bs) ss) i d).0 ++ (get_or (map (entry_at bs) ss) i d).1
+entry_is n bs ss i s d h is w =
     let P : Span → Type 0 = λ t. IsWithin n t in
     let within : IsWithin n s = subst P (sym is) (All-get_or P ss i s h w) in
     let at : entry_at bs s ≡ get_or (map (entry_at bs) ss) i d = ap (entry_at bs) is ∙ sym (get_or-map (entry_at bs) ss i s d h) in
-    sym (one-range bs s within.0 within.1) ∙ ap (λ e. e.0 ++ e.1) at
+    sym (one_range bs s within.0 within.1) ∙ ap (λ e. e.0 ++ e.1) at
 
 -- spans in the order of their bytes are entries in that order
-pub entries-sorted : (n : ℕ) (bs : List ℕ) (ss : List Span) → All (IsWithin n) ss → IsSortedBy (λ s t. is_lt (bytes_cmp (slice_range bs s.start s.end) (slice_range bs t.start t.end))) ss → IsSortedBy goes_before (map (entry_at bs) ss)
-entries-sorted n bs ss w sorted k d low h =
+pub entries_sorted : (n : ℕ) (bs : List ℕ) (ss : List Span) → All (IsWithin n) ss → IsSortedBy (λ s t. is_lt (bytes_cmp (slice_range bs s.start s.end) (slice_range bs t.start t.end))) ss → IsSortedBy goes_before (map (entry_at bs) ss)
+entries_sorted n bs ss w sorted k d low h =
     let inside : k + 1 < length ss = omega (arith, h, length-map ss (entry_at bs)) in
     let none : Span = record { start = 0; key_end = 0; end = 0 } in
     let s : Span = get_or ss k none in
     let t : Span = get_or ss (k + 1) none in
-    let first = entry-is n bs ss k s d (omega (arith, inside)) (get_or_default ss k none s (omega (arith, inside))) w in
-    let next = entry-is n bs ss (k + 1) t d inside (get_or_default ss (k + 1) none t inside) w in
+    let first = entry_is n bs ss k s d (omega (arith, inside)) (get_or_default ss k none s (omega (arith, inside))) w in
+    let next = entry_is n bs ss (k + 1) t d inside (get_or_default ss (k + 1) none t inside) w in
     ap₂ (λ x y. is_lt (bytes_cmp x y)) (sym next) (sym first) ∙ sorted k none low inside
 
 -- spans stay within bytes that grow, and one more joins them
-pub spans-within : (n m : ℕ) (ss : List Span) (s : Span) → All (IsWithin n) ss → n ≤ m → IsWithin m s → All (IsWithin m) (ss ++ s ∷ [])
-spans-within n m ss s w grown more = All-push (IsWithin m) ss s (λ k d h. let at = w k d h in (at.0, at.1, omega (arith, at.2, grown))) more
+pub spans_within : (n m : ℕ) (ss : List Span) (s : Span) → All (IsWithin n) ss → n ≤ m → IsWithin m s → All (IsWithin m) (ss ++ s ∷ [])
+spans_within n m ss s w grown more = All-push (IsWithin m) ss s (λ k d h. let at = w k d h in (at.0, at.1, omega (arith, at.2, grown))) more
 
 -- a key that waits begins within the bytes
-pub key-within : (key : Option ℕ) (start n : ℕ) → IfSome key (λ s. s ≤ n) → key ≡ Some start → start ≤ n
-key-within key start n w is = let P : Option ℕ → Type 0 = λ x. IfSome x (λ s. s ≤ n) in subst P is w
+pub key_within : (key : Option ℕ) (start n : ℕ) → IfSome key (λ s. s ≤ n) → key ≡ Some start → start ≤ n
+key_within key start n w is = let P : Option ℕ → Type 0 = λ x. IfSome x (λ s. s ≤ n) in subst P is w

@@ -7,7 +7,7 @@ use Rattle.std.specs.Fmt.{◌++?◌}
 use Rattle.dagcbor_heads.specs.declared.error.EncodeError.{EncodeError}
 use Rattle.dagcbor_heads.specs.declared.error.EncodeError.TheVariants.{Msg, Write, OutOfMemory}
 use Rattle.dagcbor_heads.specs.Written.{Written, WroteAll, Writes}
-use Rattle.dagcbor_heads.proofs.Writing.{joined, append-assoc, append-Some, Some-append, append-None, appends_nothing, wrote_nothing, Written-but, begin-writing}
+use Rattle.dagcbor_heads.proofs.Writing.{joined, joined_assoc, append_Some, Some_append, append_None, appends_nothing, wrote_nothing, Written-but, begin_writing}
 use Rattle.dagcbor_write.specs.Gathering.{AppendsTo}
 use Rattle.dagcbor_write.specs.Each.{spelled_each}
 use Rattle.std.proofs.lemmas.List.{length-map}
@@ -15,94 +15,94 @@ use Rattle.dagcbor_write.specs.declared.collect_seq.Items.{Items}
 use Rattle.dagcbor_write.specs.declared.collect_seq.Items.TheVariants.{Announced, Waits}
 use Rattle.ipld_tree.specs.Tree.{Tree, list_tree}
 use Rattle.ipld_tree.specs.Spelled.{spelled_tree, spelled_head}
-use Rattle.dagcbor_write.specs.Lists.{IsFresh, HasRoom, IsComplete, TakesItem, waiting_text}
-use Rattle.dagcbor_write.proofs.Lists.{spelled-list, spelled-each}
+use Rattle.dagcbor_write.specs.Lists.{IsFresh, HasRoom, IsComplete, TakesElement, waiting_text}
+use Rattle.dagcbor_write.proofs.Lists.{spelled_list, each_joined}
 
 -- the items that wait are these texts
 abbrev pub Holds : Items → List (Option (List ℕ)) → Type 0
 Holds (Announced left) texts = ⊥
 Holds (Waits b) texts = (joined texts ≡ Some b.bytes) × (b.count ≡ length texts)
 
-pub Holds-room : (items : Items) (texts : List (Option (List ℕ))) → Holds items texts → HasRoom items
-Holds-room (Announced left) texts h = absurd h
-Holds-room (Waits b) texts h = tt
+pub Holds_room : (items : Items) (texts : List (Option (List ℕ))) → Holds items texts → HasRoom items
+Holds_room (Announced left) texts h = absurd h
+Holds_room (Waits b) texts h = tt
 
-pub Holds-complete : (items : Items) (texts : List (Option (List ℕ))) → Holds items texts → IsComplete items
-Holds-complete (Announced left) texts h = absurd h
-Holds-complete (Waits b) texts h = tt
+pub Holds_complete : (items : Items) (texts : List (Option (List ℕ))) → Holds items texts → IsComplete items
+Holds_complete (Announced left) texts h = absurd h
+Holds_complete (Waits b) texts h = tt
 
-pub Holds-none : (items : Items) → IsFresh None items → Holds items []
-Holds-none (Announced left) f = absurd f
-Holds-none (Waits b) f = (ap (λ w. Some w.bytes) (sym f), ap (λ w. w.count) f)
+pub Holds_none : (items : Items) → IsFresh None items → Holds items []
+Holds_none (Announced left) f = absurd f
+Holds_none (Waits b) f = (ap (λ w. Some w.bytes) (sym f), ap (λ w. w.count) f)
 
-joined-append : (xs : List (Option (List ℕ))) (o : Option (List ℕ)) → joined (xs ++ o ∷ []) ≡ joined xs ++? o
-joined-append [] o = append-Some o ∙ sym (Some-append o)
-joined-append (x ∷ xs) o = ap (λ (y : Option (List ℕ)). x ++? y) (joined-append xs o) ∙ sym (append-assoc x (joined xs) o)
+joined_append : (xs : List (Option (List ℕ))) (o : Option (List ℕ)) → joined (xs ++ o ∷ []) ≡ joined xs ++? o
+joined_append [] o = append_Some o ∙ sym (Some_append o)
+joined_append (x ∷ xs) o = ap (λ (y : Option (List ℕ)). x ++? y) (joined_append xs o) ∙ sym (joined_assoc x (joined xs) o)
 
-Grows-joins : (text : Option (List ℕ)) (old new : List ℕ) (a : Option (List ℕ)) → a ≡ Some old → AppendsTo old new text → a ++? text ≡ Some new
-Grows-joins None old new a e g = absurd g
-Grows-joins (Some t) old new a e g = ap (λ (x : Option (List ℕ)). x ++? Some t) e ∙ ap Some (sym g)
+Grows_joins : (text : Option (List ℕ)) (old new : List ℕ) (a : Option (List ℕ)) → a ≡ Some old → AppendsTo old new text → a ++? text ≡ Some new
+Grows_joins None old new a e g = absurd g
+Grows_joins (Some t) old new a e g = ap (λ (x : Option (List ℕ)). x ++? Some t) e ∙ ap Some (sym g)
 
 -- one more item waits
-pub Holds-more : {E : Type 0} (items : Items) (texts : List (Option (List ℕ))) (tree : Option Tree) (s : Written) (left : Items) (t : Written) (r : Result (Unit {0}) (EncodeError E)) → Holds items texts → IsOk r → TakesItem tree items s left t r → Holds left (texts ++ spelled_tree tree ∷ []) × (t ≡ s)
+pub Holds-more : {E : Type 0} (items : Items) (texts : List (Option (List ℕ))) (tree : Option Tree) (s : Written) (left : Items) (t : Written) (r : Result (Unit {0}) (EncodeError E)) → Holds items texts → IsOk r → TakesElement tree items s left t r → Holds left (texts ++ spelled_tree tree ∷ []) × (t ≡ s)
 Holds-more (Announced n) texts tree s left t r h k p = absurd h
 Holds-more (Waits b) texts tree s (Announced n) t r h k p = absurd p
 Holds-more (Waits b) texts tree s (Waits d) t (Err e) h k p = cc
 Holds-more (Waits b) texts tree s (Waits d) t (Ok x) h k p =
-    ((joined-append texts (spelled_tree tree) ∙ Grows-joins (spelled_tree tree) _ _ (joined texts) h.0 p.0.0.0, p.0.1 ∙ ap (λ (n : ℕ). n + 1) h.1 ∙ sym (length-append texts (spelled_tree tree ∷ []))), p.1)
+    ((joined_append texts (spelled_tree tree) ∙ Grows_joins (spelled_tree tree) _ _ (joined texts) h.0 p.0.0.0, p.0.1 ∙ ap (λ (n : ℕ). n + 1) h.1 ∙ sym (length-append texts (spelled_tree tree ∷ []))), p.1)
 
 -- an item was refused
-pub Holds-refused : {T E : Type 0} (items : Items) (texts : List (Option (List ℕ))) (tree : Option Tree) (s : Written) (left : Items) (t : Written) (e : EncodeError E) (r : Result T (EncodeError E)) (whole : Option (List ℕ)) → Holds items texts → TakesItem {T = Unit {0}} tree items s left t (Err e) → (spelled_tree tree ≡ None → whole ≡ None) → IsErrAnd r (λ d. d ≡ e) → Writes whole s t r
-Holds-refused (Announced n) texts tree s left t e r whole h p f k = absurd h
-Holds-refused (Waits b) texts tree s (Announced n) t e r whole h p f k = absurd p
-Holds-refused (Waits b) texts tree s (Waits d) t e (Ok x) whole h p f k = absurd k
-Holds-refused {T} {E} (Waits b) texts tree s (Waits d) t (Msg m) (Err e) whole h p f k =
+pub Holds_refused : {T E : Type 0} (items : Items) (texts : List (Option (List ℕ))) (tree : Option Tree) (s : Written) (left : Items) (t : Written) (e : EncodeError E) (r : Result T (EncodeError E)) (whole : Option (List ℕ)) → Holds items texts → TakesElement {T = Unit {0}} tree items s left t (Err e) → (spelled_tree tree ≡ None → whole ≡ None) → IsErrAnd r (λ d. d ≡ e) → Writes whole s t r
+Holds_refused (Announced n) texts tree s left t e r whole h p f k = absurd h
+Holds_refused (Waits b) texts tree s (Announced n) t e r whole h p f k = absurd p
+Holds_refused (Waits b) texts tree s (Waits d) t e (Ok x) whole h p f k = absurd k
+Holds_refused {T} {E} (Waits b) texts tree s (Waits d) t (Msg m) (Err e) whole h p f k =
     let P : Written → Type 0 = λ u. Writes {T = T} whole s u (Err e) in let Q : EncodeError E → Type 0 = λ d. Writes {T = T} whole s s (Err d) in
     subst P (sym p.1) (subst Q (sym k) (f p.0.1, appends_nothing s.bytes, refl, refl))
-Holds-refused (Waits b) texts tree s (Waits d) t (Write x) (Err e) whole h p f k = absurd p.0
-Holds-refused {T} {E} (Waits b) texts tree s (Waits d) t OutOfMemory (Err e) whole h p f k =
+Holds_refused (Waits b) texts tree s (Waits d) t (Write x) (Err e) whole h p f k = absurd p.0
+Holds_refused {T} {E} (Waits b) texts tree s (Waits d) t OutOfMemory (Err e) whole h p f k =
     let P : Written → Type 0 = λ u. Writes {T = T} whole s u (Err e) in let Q : EncodeError E → Type 0 = λ d. Writes {T = T} whole s s (Err d) in
     subst P (sym p.1) (subst Q (sym k) (wrote_nothing whole s, refl, refl))
 
 -- what waits is the list of the trees
-pub Holds-list : (items : Items) (os : List (Option Tree)) → Holds items (map spelled_tree os) → waiting_text items ≡ spelled_tree (list_tree os)
-Holds-list (Announced n) os h = absurd h
-Holds-list (Waits b) os h =
+pub Holds_list : (items : Items) (os : List (Option Tree)) → Holds items (map spelled_tree os) → waiting_text items ≡ spelled_tree (list_tree os)
+Holds_list (Announced n) os h = absurd h
+Holds_list (Waits b) os h =
     ap (λ (k : ℕ). spelled_head 4 k ++? Some b.bytes) (h.1 ∙ length-map os spelled_tree) ∙
-    ap (λ (x : Option (List ℕ)). spelled_head 4 (length os) ++? x) (sym h.0 ∙ sym (spelled-each os)) ∙ sym (spelled-list os)
+    ap (λ (x : Option (List ℕ)). spelled_head 4 (length os) ++? x) (sym h.0 ∙ sym (each_joined os)) ∙ sym (spelled_list os)
 
-none-each : {A : Type 0} (tree : A → Option Tree) (xs : List A) (i : ℕ) (x : A) → i < length xs → x ≡ get_or xs i x → spelled_tree (tree x) ≡ None → spelled_each (map tree xs) ≡ None
-none-each {A} tree [] i x h e n = absurd (omega (arith, h))
-none-each {A} tree (y ∷ ys) zero x h e n =
+none_each : {A : Type 0} (tree : A → Option Tree) (xs : List A) (i : ℕ) (x : A) → i < length xs → x ≡ get_or xs i x → spelled_tree (tree x) ≡ None → spelled_each (map tree xs) ≡ None
+none_each {A} tree [] i x h e n = absurd (omega (arith, h))
+none_each {A} tree (y ∷ ys) zero x h e n =
     let first : spelled_tree (tree y) ≡ None = ap (λ (z : A). spelled_tree (tree z)) (sym e) ∙ n in
     ap (λ (b : Option (List ℕ)). b ++? spelled_each (map tree ys)) first
-none-each {A} tree (y ∷ ys) (suc i) x h e n = ap (λ (b : Option (List ℕ)). spelled_tree (tree y) ++? b) (none-each tree ys i x (omega (arith, h)) e n) ∙ append-None (spelled_tree (tree y))
+none_each {A} tree (y ∷ ys) (suc i) x h e n = ap (λ (b : Option (List ℕ)). spelled_tree (tree y) ++? b) (none_each tree ys i x (omega (arith, h)) e n) ∙ append_None (spelled_tree (tree y))
 
 -- a list with an item that has no text has none
-pub none-among : {A : Type 0} (tree : A → Option Tree) (xs : List A) (i : ℕ) (x : A) → i < length xs → x ≡ get_or xs i x → spelled_tree (tree x) ≡ None → spelled_tree (list_tree (map tree xs)) ≡ None
-none-among tree xs i x h e n = spelled-list (map tree xs) ∙ ap (λ (a : Option (List ℕ)). spelled_head 4 (length (map tree xs)) ++? a) (none-each tree xs i x h e n) ∙ append-None (spelled_head 4 (length (map tree xs)))
+pub none_among : {A : Type 0} (tree : A → Option Tree) (xs : List A) (i : ℕ) (x : A) → i < length xs → x ≡ get_or xs i x → spelled_tree (tree x) ≡ None → spelled_tree (list_tree (map tree xs)) ≡ None
+none_among tree xs i x h e n = spelled_list (map tree xs) ∙ ap (λ (a : Option (List ℕ)). spelled_head 4 (length (map tree xs)) ++? a) (none_each tree xs i x h e n) ∙ append_None (spelled_head 4 (length (map tree xs)))
 
-pub begin-later : (whole : Option (List ℕ)) (s : Written) → Written-but whole (Some [] ∷ whole ∷ []) s s
-begin-later whole s = begin-writing whole (Some [] ∷ whole ∷ []) s (sym (append-Some whole) ∙ sym (Some-append (whole ++? Some [])))
+pub begin_later : (whole : Option (List ℕ)) (s : Written) → Written-but whole (Some [] ∷ whole ∷ []) s s
+begin_later whole s = begin_writing whole (Some [] ∷ whole ∷ []) s (sym (append_Some whole) ∙ sym (Some_append (whole ++? Some [])))
 
-map-more : {A B : Type 0} (f : A → B) (xs : List A) (y : A) → map f (xs ++ y ∷ []) ≡ map f xs ++ f y ∷ []
-map-more f [] y = refl
-map-more f (x ∷ xs) y = ap (λ ys. f x ∷ ys) (map-more f xs y)
+map_more : {A B : Type 0} (f : A → B) (xs : List A) (y : A) → map f (xs ++ y ∷ []) ≡ map f xs ++ f y ∷ []
+map_more f [] y = refl
+map_more f (x ∷ xs) y = ap (λ ys. f x ∷ ys) (map_more f xs y)
 
-texts-more : {A : Type 0} (tree : A → Option Tree) (xs : List A) (i : ℕ) (x : A) → i < length xs → x ≡ get_or xs i x → map spelled_tree (map tree (take i xs)) ++ spelled_tree (tree x) ∷ [] ≡ map spelled_tree (map tree (take (i + 1) xs))
-texts-more {A} tree xs i x h e =
+texts_more : {A : Type 0} (tree : A → Option Tree) (xs : List A) (i : ℕ) (x : A) → i < length xs → x ≡ get_or xs i x → map spelled_tree (map tree (take i xs)) ++ spelled_tree (tree x) ∷ [] ≡ map spelled_tree (map tree (take (i + 1) xs))
+texts_more {A} tree xs i x h e =
     let last : take i xs ++ x ∷ [] ≡ take (i + 1) xs = ap (λ (y : A). take i xs ++ y ∷ []) e ∙ sym (take_more xs i x h) in
-    sym (map-more spelled_tree (map tree (take i xs)) (tree x)) ∙ ap (λ (os : List (Option Tree)). map spelled_tree os) (sym (map-more tree (take i xs) x) ∙ ap (λ (ys : List A). map tree ys) last)
+    sym (map_more spelled_tree (map tree (take i xs)) (tree x)) ∙ ap (λ (os : List (Option Tree)). map spelled_tree os) (sym (map_more tree (take i xs) x) ∙ ap (λ (ys : List A). map tree ys) last)
 
 -- the same, of a loop that goes over the items
-pub Holds-next : {E : Type 0} {A : Type 0} (tree : A → Option Tree) (xs : List A) (i : ℕ) (x : A) (items : Items) (start s : Written) (left : Items) (t : Written) (r : Result (Unit {0}) (EncodeError E)) → i < length xs → x ≡ get_or xs i x → Holds items (map spelled_tree (map tree (take i xs))) → WroteAll (Some []) start s → IsOk r → TakesItem (tree x) items s left t r → Holds left (map spelled_tree (map tree (take (i + 1) xs))) × WroteAll (Some []) start t
-Holds-next tree xs i x items start s left t r h e holds nothing k p =
+pub Holds_next : {E : Type 0} {A : Type 0} (tree : A → Option Tree) (xs : List A) (i : ℕ) (x : A) (items : Items) (start s : Written) (left : Items) (t : Written) (r : Result (Unit {0}) (EncodeError E)) → i < length xs → x ≡ get_or xs i x → Holds items (map spelled_tree (map tree (take i xs))) → WroteAll (Some []) start s → IsOk r → TakesElement (tree x) items s left t r → Holds left (map spelled_tree (map tree (take (i + 1) xs))) × WroteAll (Some []) start t
+Holds_next tree xs i x items start s left t r h e holds nothing k p =
     let P : List (Option (List ℕ)) → Type 0 = λ texts. Holds left texts in
     let Q : Written → Type 0 = λ u. WroteAll (Some []) start u in
     let m = Holds-more items (map spelled_tree (map tree (take i xs))) (tree x) s left t r holds k p in
-    (subst P (texts-more tree xs i x h e) m.0, subst Q (sym m.1) nothing)
+    (subst P (texts_more tree xs i x h e) m.0, subst Q (sym m.1) nothing)
 
-pub Holds-all : {A : Type 0} (tree : A → Option Tree) (xs : List A) (i : ℕ) (items : Items) → length xs ≤ i → Holds items (map spelled_tree (map tree (take i xs))) → waiting_text items ≡ spelled_tree (list_tree (map tree xs))
-Holds-all {A} tree xs i items h holds =
+pub Holds_all : {A : Type 0} (tree : A → Option Tree) (xs : List A) (i : ℕ) (items : Items) → length xs ≤ i → Holds items (map spelled_tree (map tree (take i xs))) → waiting_text items ≡ spelled_tree (list_tree (map tree xs))
+Holds_all {A} tree xs i items h holds =
     let P : List A → Type 0 = λ ys. Holds items (map spelled_tree (map tree ys)) in
-    Holds-list items (map tree xs) (subst P (take_all i xs h) holds)
+    Holds_list items (map tree xs) (subst P (take_all i xs h) holds)

@@ -7,7 +7,7 @@ use Rattle.ipld_tree.specs.Tree.{Tree}
 use Rattle.ipld_tree.specs.Spelled.{spelled_tree, spelled_head}
 use Rattle.dagcbor_write.specs.declared.collect_seq.Items.{Items}
 use Rattle.dagcbor_write.specs.declared.collect_seq.Items.TheVariants.{Announced, Waits}
-use Rattle.dagcbor_write.specs.Gathering.{Grows, NoSpelling, Takes}
+use Rattle.dagcbor_write.specs.Gathering.{Grows, NoSpelling, Collects}
 
 -- what goes out at the beginning of a list: its head, where the number of items is known
 abbrev pub announced_head : Option ℕ → Option (List ℕ)
@@ -22,9 +22,9 @@ IsFresh (Some n) (Waits b) = ⊥
 IsFresh None (Announced left) = ⊥
 
 -- how many of the announced items are still to come
-abbrev pub items_left : Items → Option ℕ
-items_left (Announced left) = Some left
-items_left (Waits b) = None
+abbrev pub elements_left : Items → Option ℕ
+elements_left (Announced left) = Some left
+elements_left (Waits b) = None
 
 -- one more item may be taken
 abbrev pub HasRoom : Items → Type 0
@@ -37,12 +37,12 @@ IsComplete (Announced left) = left ≡ 0
 IsComplete (Waits b) = ⊤
 
 -- an item went out, or joined those that wait, and nothing went out; those that wait stay after a refusal
-abbrev pub TakesItem : {T E : Type 0} → Option Tree → Items → Written → Items → Written → Result T (EncodeError E) → Type 0
-TakesItem tree (Announced left) s (Announced rest) t r = Writes (spelled_tree tree) s t r × (rest + 1 ≡ left)
-TakesItem tree (Waits b) s (Waits d) t r =
-    Takes (λ x. Grows tree b.bytes d.bytes × (d.count ≡ b.count + 1)) (NoSpelling (codes "List element cannot be serialized") tree) r × (t ≡ s) × OnErr r (d ≡ b)
-TakesItem tree (Announced left) s (Waits d) t r = ⊥
-TakesItem tree (Waits b) s (Announced rest) t r = ⊥
+abbrev pub TakesElement : {T E : Type 0} → Option Tree → Items → Written → Items → Written → Result T (EncodeError E) → Type 0
+TakesElement tree (Announced left) s (Announced rest) t r = Writes (spelled_tree tree) s t r × (rest + 1 ≡ left)
+TakesElement tree (Waits b) s (Waits d) t r =
+    Collects (λ x. Grows tree b.bytes d.bytes × (d.count ≡ b.count + 1)) (NoSpelling (codes "List element cannot be serialized") tree) r × (t ≡ s) × OnErr r (d ≡ b)
+TakesElement tree (Announced left) s (Waits d) t r = ⊥
+TakesElement tree (Waits b) s (Announced rest) t r = ⊥
 
 -- what goes out at the end of a list: the items that waited, behind their number
 abbrev pub waiting_text : Items → Option (List ℕ)

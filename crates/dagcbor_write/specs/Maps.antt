@@ -12,13 +12,13 @@ Texts = List ℕ × List ℕ
 
 -- what a map was given before its end: the spellings of its entries, in the order given, that of a key that waits for
 -- its value, and the number of entries, where the head of the map is out
-pub record Held : Type 0 where
+pub record MapState : Type 0 where
   pub entries : List Texts
   pub key : Option (List ℕ)
   pub announced : Option ℕ
 
-abbrev pub nothing_held : Option ℕ → Held
-nothing_held announced = record { entries = []; key = None; announced = announced }
+abbrev pub no_entry_yet : Option ℕ → MapState
+no_entry_yet announced = record { entries = []; key = None; announced = announced }
 
 -- as many entries as were announced
 abbrev pub has_announced : Option ℕ → ℕ → Bool
@@ -26,7 +26,7 @@ has_announced None n = true
 has_announced (Some m) n = nat_eq n m
 
 -- no key waits for its value, and there are as many entries as were announced
-abbrev pub is_complete : Held → Bool
+abbrev pub is_complete : MapState → Bool
 is_complete h = is_none h.key && has_announced h.announced (length h.entries)
 
 -- ---- keys and values

@@ -1,7 +1,7 @@
 //! Values that are written to memory before they go out.
 
 ghost use Rattle.std.specs.Prelude.{◌≡◌, ◌+◌, ◌≤◌, [], length, OnErr};
-ghost use Rattle.dagcbor_write.specs.Gathering.{Waiting, Grows, NoSpelling, Takes};
+ghost use Rattle.dagcbor_write.specs.Gathering.{Waiting, Grows, NoSpelling, Collects};
 
 use crate::serialize::Serialize;
 use crate::serializer::Serializer;
@@ -19,7 +19,7 @@ pub(crate) fn append<T: Serialize, E>(
     refusal: &str,
 ) -> Result<(), EncodeError<E>>
     requires { length refusal.now ≤ 63 }
-    ensures taken { Takes (λ u. Grows (T.tree value.now) bytes.old.items bytes.new.items) (NoSpelling refusal.now (T.tree value.now)) result }
+    ensures taken { Collects (λ u. Grows (T.tree value.now) bytes.old.items bytes.new.items) (NoSpelling refusal.now (T.tree value.now)) result }
     ensures kept { OnErr result (bytes.new.items ≡ bytes.old.items) }
 {
     let before = bytes.len();
@@ -82,7 +82,7 @@ impl Buffer {
         refusal: &str,
     ) -> Result<(), EncodeError<E>>
         requires { length refusal.now ≤ 63 }
-        ensures taken { Takes (λ u. Grows (T.tree value.now) self.old.bytes self.new.bytes × (self.new.count ≡ self.old.count + 1)) (NoSpelling refusal.now (T.tree value.now)) result }
+        ensures taken { Collects (λ u. Grows (T.tree value.now) self.old.bytes self.new.bytes × (self.new.count ≡ self.old.count + 1)) (NoSpelling refusal.now (T.tree value.now)) result }
         ensures kept { OnErr result (self.new ≡ self.old) }
     {
         append(alloc, &mut self.bytes, value, refusal)?;

@@ -7,9 +7,9 @@ ghost use Rattle.dagcbor_heads.specs.Written.{Writes, WroteAll, Stops};
 ghost use Rattle.ipld_tree.specs.Tree.{text, IsTree, entries_tree};
 ghost use Rattle.ipld_tree.specs.Spelled.{spelled_head};
 ghost use Rattle.dagcbor_write.specs.Answers.{OnMessage};
-ghost use Rattle.dagcbor_write.specs.Gathering.{Takes};
+ghost use Rattle.dagcbor_write.specs.Gathering.{Collects};
 ghost use Rattle.dagcbor_write.specs.Trees.{Pair, variant_head};
-ghost use Rattle.dagcbor_write.specs.Maps.{nothing_held, is_complete, HoldsKey, JoinsValue, JoinsEntry, RefusesKey, RefusesValue, RefusesEntry, AreSpellingsOf, RepeatsKey, map_rest};
+ghost use Rattle.dagcbor_write.specs.Maps.{no_entry_yet, is_complete, HoldsKey, JoinsValue, JoinsEntry, RefusesKey, RefusesValue, RefusesEntry, AreSpellingsOf, RepeatsKey, map_rest};
 ghost use Rattle.dagcbor_write.specs.Order.{head_rest, entries_bytes};
 ghost use Rattle.dagcbor_write.specs.Lending.{map_lent, map_held, SameLoan, BeginsOrStops};
 
@@ -46,7 +46,7 @@ impl<W: Write> Serializer<W> {
     pub fn serialize_map(&mut self, alloc: Global, _len: Option<usize>) -> CollectMap<'_, W>
         ensures same_reference { SameLoan self.entry (map_lent result) }
         ensures unchanged { (map_lent result).now ≡ self.old }
-        ensures nothing { map_held result ≡ nothing_held None }
+        ensures nothing { map_held result ≡ no_entry_yet None }
     {
         CollectMap {
             ser: self,
@@ -65,7 +65,7 @@ impl<W: Write> Serializer<W> {
         ensures* refused { sem 𝓛 (BeginsOrStops W.row W.written map_lent self.entry (spelled_head 5 len) result) }
         ensures same_reference { IfOk result (λ c. SameLoan self.entry (map_lent c)) }
         ensures head { IfOk result (λ c. WroteAll (spelled_head 5 len) (W.written self.old) (W.written (map_lent c).now)) }
-        ensures nothing { IfOk result (λ c. map_held c ≡ nothing_held (Some len)) }
+        ensures nothing { IfOk result (λ c. map_held c ≡ no_entry_yet (Some len)) }
     {
         self.push_head(5, len)?;
         Ok(CollectMap {
@@ -88,7 +88,7 @@ impl<W: Write> Serializer<W> {
         ensures* refused { sem 𝓛 (BeginsOrStops W.row W.written map_lent self.entry (variant_head variant.now ++? spelled_head 5 len) result) }
         ensures same_reference { IfOk result (λ c. SameLoan self.entry (map_lent c)) }
         ensures head { IfOk result (λ c. WroteAll (variant_head variant.now ++? spelled_head 5 len) (W.written self.old) (W.written (map_lent c).now)) }
-        ensures nothing { IfOk result (λ c. map_held c ≡ nothing_held (Some len)) }
+        ensures nothing { IfOk result (λ c. map_held c ≡ no_entry_yet (Some len)) }
         ensures good_name { OnOk result (IsTree (text variant.now)) }
     {
         self.push_variant_of(variant, 5, len)?;
@@ -164,7 +164,7 @@ impl<W: Write> CollectMap<'_, W> {
         ensures unchanged { (map_lent self.new).now ≡ (map_lent self.old).now }
         ensures announced { (map_held self.new).announced ≡ (map_held self.old).announced }
         ensures entries { (map_held self.new).entries ≡ (map_held self.old).entries }
-        ensures key { Takes (λ u. HoldsKey (K.tree key.now) (map_held self.new).key) (RefusesKey (K.tree key.now)) result }
+        ensures key { Collects (λ u. HoldsKey (K.tree key.now) (map_held self.new).key) (RefusesKey (K.tree key.now)) result }
     {
         self.held.take_key(self.alloc, key)
     }
@@ -177,7 +177,7 @@ impl<W: Write> CollectMap<'_, W> {
         ensures unchanged { (map_lent self.new).now ≡ (map_lent self.old).now }
         ensures announced { (map_held self.new).announced ≡ (map_held self.old).announced }
         ensures key { (map_held self.new).key ≡ None }
-        ensures entry { Takes (λ u. JoinsValue (map_held self.old).key (V.tree value.now) (map_held self.old).entries (map_held self.new).entries) (RefusesValue (V.tree value.now)) result }
+        ensures entry { Collects (λ u. JoinsValue (map_held self.old).key (V.tree value.now) (map_held self.old).entries (map_held self.new).entries) (RefusesValue (V.tree value.now)) result }
         ensures kept { OnErr result ((map_held self.new).entries ≡ (map_held self.old).entries) }
     {
         self.held.take_value(self.alloc, value)
@@ -194,7 +194,7 @@ impl<W: Write> CollectMap<'_, W> {
         ensures unchanged { (map_lent self.new).now ≡ (map_lent self.old).now }
         ensures announced { (map_held self.new).announced ≡ (map_held self.old).announced }
         ensures key { OnOk result ((map_held self.new).key ≡ None) }
-        ensures entry { Takes (λ u. JoinsEntry (K.tree key.now) (V.tree value.now) (map_held self.old).entries (map_held self.new).entries) (RefusesEntry (K.tree key.now) (V.tree value.now)) result }
+        ensures entry { Collects (λ u. JoinsEntry (K.tree key.now) (V.tree value.now) (map_held self.old).entries (map_held self.new).entries) (RefusesEntry (K.tree key.now) (V.tree value.now)) result }
         ensures kept { OnErr result ((map_held self.new).entries ≡ (map_held self.old).entries) }
     {
         self.serialize_key(key)?;
@@ -212,7 +212,7 @@ impl<W: Write> CollectMap<'_, W> {
         ensures unchanged { (map_lent self.new).now ≡ (map_lent self.old).now }
         ensures announced { (map_held self.new).announced ≡ (map_held self.old).announced }
         ensures key { OnOk result ((map_held self.new).key ≡ None) }
-        ensures entry { Takes (λ u. JoinsEntry (Some (text name.now)) (V.tree value.now) (map_held self.old).entries (map_held self.new).entries) (RefusesValue (V.tree value.now)) result }
+        ensures entry { Collects (λ u. JoinsEntry (Some (text name.now)) (V.tree value.now) (map_held self.old).entries (map_held self.new).entries) (RefusesValue (V.tree value.now)) result }
         ensures kept { OnErr result ((map_held self.new).entries ≡ (map_held self.old).entries) }
     {
         self.serialize_entry(&name, value)

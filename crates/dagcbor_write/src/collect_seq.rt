@@ -6,7 +6,7 @@ ghost use Rattle.std.specs.Fmt.{◌++?◌};
 ghost use Rattle.dagcbor_heads.specs.Written.{Writes, WroteAll, Stops, WantsMemoryOnlyIf};
 ghost use Rattle.ipld_tree.specs.Tree.{IsTree};
 ghost use Rattle.ipld_tree.specs.Spelled.{spelled_head};
-ghost use Rattle.dagcbor_write.specs.Lists.{announced_head, items_left, IsFresh, HasRoom, IsComplete, TakesItem, waiting_text};
+ghost use Rattle.dagcbor_write.specs.Lists.{announced_head, elements_left, IsFresh, HasRoom, IsComplete, TakesElement, waiting_text};
 ghost use Rattle.dagcbor_write.specs.Lending.{list_lent, list_items, SameLoan, BeginsOrStops};
 
 use crate::buffer::Buffer;
@@ -95,7 +95,7 @@ impl<W: Write> Serializer<W> {
 impl<W: Write> CollectSeq<'_, W> {
     /// How many of the announced items are still to come. `None` where no number was announced.
     pub fn left(&self) -> Option<usize>
-        ensures { result ≡ items_left (list_items self.now) }
+        ensures { result ≡ elements_left (list_items self.now) }
     {
         match &self.items {
             Items::Announced(left) => Some(*left),
@@ -111,7 +111,7 @@ impl<W: Write> CollectSeq<'_, W> {
     ) -> Result<(), EncodeError<W::Error>>
         requires { HasRoom (list_items self.old) }
         ensures same_reference { SameLoan (list_lent self.old) (list_lent self.new) }
-        ensures item { TakesItem (T.tree value.now) (list_items self.old) (W.written (list_lent self.old).now)
+        ensures item { TakesElement (T.tree value.now) (list_items self.old) (W.written (list_lent self.old).now)
             (list_items self.new) (W.written (list_lent self.new).now) result }
         ensures well_formed { OnOk result (IfSome (T.tree value.now) IsTree) }
     {
@@ -130,7 +130,7 @@ impl<W: Write> CollectSeq<'_, W> {
         requires { IsComplete (list_items self) }
         ensures written { Writes (waiting_text (list_items self.entry)) (W.written (list_lent self.entry).now) (W.written self.exit.0.now) result }
         ensures memory { WantsMemoryOnlyIf W.takes_memory result }
-        ensures announced { IsSome (items_left (list_items self.entry)) → IsOk result × (self.exit.0.now ≡ (list_lent self.entry).now) }
+        ensures announced { IsSome (elements_left (list_items self.entry)) → IsOk result × (self.exit.0.now ≡ (list_lent self.entry).now) }
     {
         let Self {
             ser,

@@ -2,8 +2,8 @@
 
 ghost use Rattle.std.specs.Prelude.{◌≡◌, ◌<◌, ◌≤◌, ◌++◌, is_some, Some, None, IsSome, IfSome, OnErr, length, map, option_map, drop, slice_index_or};
 ghost use Rattle.std.specs.List.{All, slice_range};
-ghost use Rattle.dagcbor_write.specs.Gathering.{Takes};
-ghost use Rattle.dagcbor_write.specs.Maps.{Held, Texts, nothing_held, is_complete, begins_text, HoldsKey, JoinsValue, RefusesKey, RefusesValue};
+ghost use Rattle.dagcbor_write.specs.Gathering.{Collects};
+ghost use Rattle.dagcbor_write.specs.Maps.{MapState, Texts, no_entry_yet, is_complete, begins_text, HoldsKey, JoinsValue, RefusesKey, RefusesValue};
 ghost use Rattle.dagcbor_write.specs.Order.{KeysDiffer, PutsInOrder};
 
 use crate::buffer::append;
@@ -42,10 +42,10 @@ pub struct Gathered {
 impl Model for Gathered {
     ghost use Rattle.std.specs.Prelude.{◌≤◌, IfSome, length, map, option_map, drop};
     ghost use Rattle.std.specs.List.{All};
-    ghost use Rattle.dagcbor_write.specs.Maps.{Held};
+    ghost use Rattle.dagcbor_write.specs.Maps.{MapState};
     ghost use Rattle.dagcbor_write.specs.Spans.{entry_at, IsWithin};
 
-    ghost Value = { Held };
+    ghost Value = { MapState };
 
     ghost view = { λ g. record { entries = map (entry_at g.bytes.items) g.spans.items; key = option_map (λ start. drop start g.bytes.items) g.key; announced = g.announced } };
 
@@ -54,7 +54,7 @@ impl Model for Gathered {
 
 impl Gathered {
     pub(crate) fn new(alloc: Global, announced: Option<usize>) -> Gathered
-        ensures { result ≡ nothing_held announced }
+        ensures { result ≡ no_entry_yet announced }
     {
         Gathered {
             bytes: Vec::new(alloc),
@@ -119,7 +119,7 @@ impl Gathered {
         requires { self.old.key ≡ None }
         ensures entries { self.new.entries ≡ self.old.entries }
         ensures announced { self.new.announced ≡ self.old.announced }
-        ensures key { Takes (λ u. HoldsKey (K.tree key.now) self.new.key) (RefusesKey (K.tree key.now)) result }
+        ensures key { Collects (λ u. HoldsKey (K.tree key.now) self.new.key) (RefusesKey (K.tree key.now)) result }
     {
         let start = self.bytes.len();
         append(alloc, &mut self.bytes, key, BAD_KEY)?;
@@ -140,7 +140,7 @@ impl Gathered {
         requires { IsSome self.old.key }
         ensures key { self.new.key ≡ None }
         ensures announced { self.new.announced ≡ self.old.announced }
-        ensures entry { Takes (λ u. JoinsValue self.old.key (V.tree value.now) self.old.entries self.new.entries) (RefusesValue (V.tree value.now)) result }
+        ensures entry { Collects (λ u. JoinsValue self.old.key (V.tree value.now) self.old.entries self.new.entries) (RefusesValue (V.tree value.now)) result }
         ensures kept { OnErr result (self.new.entries ≡ self.old.entries) }
     {
         let Some(start) = self.key.take() else {

@@ -3,7 +3,7 @@ use Rattle.std.proofs.Common.{◌≡◌, ◌⊎◌, inl, inr, ℕ, ◌^◌, ◌<
 use Rattle.std.proofs.lemmas.Bool.{cases_order}
 use Rattle.std.specs.List.{AllByRecursion, flat_map}
 use Rattle.ipld_tree.specs.Cid.{varint, CidParts, IsVersion1, cid_bytes, IsCid}
-use Rattle.ipld_tree.specs.CidFault.{IsCutVarint, IsNoVarint, IsVarintFault, HasFields, AtVarint, AtDigest, IsFault}
+use Rattle.ipld_tree.specs.CidFault.{IsCutVarint, IsNoVarint, IsVarintFault, HasCidFields, AtVarint, AtDigest, IsFault}
 use Rattle.ipld_tree.specs.declared.cid_error.CidError.{CidError}
 use Rattle.ipld_tree.specs.declared.cid_error.CidError.TheVariants.{InvalidVersion, InvalidVarint, DigestTooLong, Truncated, TrailingBytes}
 use Rattle.ipld_tree.proofs.Cids.{varint_unique, form_0, form_1}
@@ -26,11 +26,11 @@ begins (m ∷ fs) (n ∷ gs) r s f g h e =
     let others = begins fs gs r s f.1 g.1 (omega arith) first.1 in
     record { more = others.more; are = λ i. sym first.0 i ∷ others.are i; fit = others.fit; is = others.is }
 
-fields_begin : (b fs gs r s : List ℕ) → HasFields b fs r → HasFields b gs s → length fs ≤ length gs → Begins fs gs r s
+fields_begin : (b fs gs r s : List ℕ) → HasCidFields b fs r → HasCidFields b gs s → length fs ≤ length gs → Begins fs gs r s
 fields_begin b fs gs r s h g few = let whole = sym h.is ∙ g.is in begins fs gs r s h.fit g.fit few (cc whole)
 
 -- where fewer fields stand, a varint follows
-next_varint : (b fs gs r s : List ℕ) → HasFields b fs r → HasFields b gs s → length fs < length gs → (n : ℕ) × (z : List ℕ) × (n < 2 ^ 64) × (r ≡ varint n ++ z)
+next_varint : (b fs gs r s : List ℕ) → HasCidFields b fs r → HasCidFields b gs s → length fs < length gs → (n : ℕ) × (z : List ℕ) × (n < 2 ^ 64) × (r ≡ varint n ++ z)
 next_varint b fs gs r s h g few = by (fields_begin b fs gs r s h g (omega arith))
   where
     by : Begins fs gs r s → (n : ℕ) × (z : List ℕ) × (n < 2 ^ 64) × (r ≡ varint n ++ z)
@@ -41,7 +41,7 @@ next_varint b fs gs r s h g few = by (fields_begin b fs gs r s h g (omega arith)
         first (n ∷ more) are fit is = (n, flat_map varint more ++ s, fit.0, is ∙ append_assoc (varint n) (flat_map varint more) s)
 
 -- fields as many are the same
-same_fields : (b : List ℕ) (j k n l m o : ℕ) (r s : List ℕ) → HasFields b (j ∷ k ∷ n ∷ []) r → HasFields b (l ∷ m ∷ o ∷ []) s → (n ≡ o) × (r ≡ s)
+same_fields : (b : List ℕ) (j k n l m o : ℕ) (r s : List ℕ) → HasCidFields b (j ∷ k ∷ n ∷ []) r → HasCidFields b (l ∷ m ∷ o ∷ []) s → (n ≡ o) × (r ≡ s)
 same_fields b j k n l m o r s h g = by (fields_begin b (j ∷ k ∷ n ∷ []) (l ∷ m ∷ o ∷ []) r s h g (omega arith))
   where
     by : Begins (j ∷ k ∷ n ∷ []) (l ∷ m ∷ o ∷ []) r s → (n ≡ o) × (r ≡ s)
@@ -53,10 +53,10 @@ same_fields b j k n l m o r s h g = by (fields_begin b (j ∷ k ∷ n ∷ []) (l
 
 -- ---- field by field
 
-pub no_field : (s : List ℕ) → HasFields (0x01 ∷ s) [] s
+pub no_field : (s : List ℕ) → HasCidFields (0x01 ∷ s) [] s
 no_field s = record { fit = tt; is = refl }
 
-pub one_field_more : {b fields r : List ℕ} (n : ℕ) (z : List ℕ) → HasFields b fields r → (n < 2 ^ 64) × (r ≡ varint n ++ z) → HasFields b (fields ++ n ∷ []) z
+pub one_field_more : {b fields r : List ℕ} (n : ℕ) (z : List ℕ) → HasCidFields b fields r → (n < 2 ^ 64) × (r ≡ varint n ++ z) → HasCidFields b (fields ++ n ∷ []) z
 one_field_more {b} {fields} {r} n z h p = record {
   fit = fit fields h.fit;
   is = h.is ∙ ap (λ s. 0x01 ∷ (flat_map varint fields ++ s)) p.1 ∙ ap (λ s. 0x01 ∷ s) (sym (is fields));
@@ -72,7 +72,7 @@ one_field_more {b} {fields} {r} n z h p = record {
 
 -- ---- the fields of a CID of version 1
 
-pub fields_of : (b : List ℕ) (c : CidParts) → IsVersion1 c → b ≡ cid_bytes c → HasFields b (c.codec ∷ c.hash_code ∷ length c.digest ∷ []) c.digest
+pub fields_of : (b : List ℕ) (c : CidParts) → IsVersion1 c → b ≡ cid_bytes c → HasCidFields b (c.codec ∷ c.hash_code ∷ length c.digest ∷ []) c.digest
 fields_of b c h e = record {
   fit = (h.1, (h.2, (omega (arith, h.3), tt)));
   is = e ∙ form_1 c h.0 ∙ ap (λ s. 0x01 ∷ s) (sym (flat c.codec c.hash_code (length c.digest) c.digest));
@@ -95,13 +95,13 @@ two_forms b (c, inr v, e) = inr (c.codec, c.hash_code, length c.digest, c.digest
 
 -- ---- what can't stand in the same bytes
 
-not_form_0 : (b fields rest : List ℕ) → HasFields b fields rest → IsForm0 b → ⊥
+not_form_0 : (b fields rest : List ℕ) → HasCidFields b fields rest → IsForm0 b → ⊥
 not_form_0 b fields rest h v = let clash = sym h.is ∙ v.2 in absurd (cc clash)
 
-not_other_version : (b fields rest : List ℕ) → HasFields b fields rest → IsFault InvalidVersion b → ⊥
+not_other_version : (b fields rest : List ℕ) → HasCidFields b fields rest → IsFault InvalidVersion b → ⊥
 not_other_version b fields rest h f = let first = sym h.is ∙ f.2 in f.3 (cc first)
 
-not_empty : (b fields rest : List ℕ) → HasFields b fields rest → b ≡ [] → ⊥
+not_empty : (b fields rest : List ℕ) → HasCidFields b fields rest → b ≡ [] → ⊥
 not_empty b fields rest h e = let clash = sym h.is ∙ e in absurd (cc clash)
 
 -- P refutes a varint
@@ -164,7 +164,7 @@ digest_or_cut b P never h (inr (inr g)) = one_digest b P IsCutDigest never h g
 
 -- ---- the faults
 
-pub varint_fault : (e : CidError) (b fields rest : List ℕ) → HasFields b fields rest → length fields ≤ 2 → IsVarintFault e rest → IsFault e b
+pub varint_fault : (e : CidError) (b fields rest : List ℕ) → HasCidFields b fields rest → length fields ≤ 2 → IsVarintFault e rest → IsFault e b
 varint_fault InvalidVarint b fields rest h few f = (fields, rest, h, few, f)
 varint_fault Truncated b fields rest h few f = inr (inl (fields, rest, h, few, f))
 varint_fault InvalidVersion b fields rest h few f = absurd f

@@ -10,7 +10,7 @@ use Rattle.ipld_tree.specs.Tree.{Tree, list, mapping, Items, no_items, item, Ent
 use Rattle.ipld_tree.specs.Ipld.{tree_of, trees_of, pairs_of}
 use Rattle.ipld_tree.specs.declared.ipld.Ipld.{Ipld, List as List', Map as Map'}
 use Rattle.ipld_tree.proofs.Ordered.{Pair, HasPair, ordered_has, has_ordered}
-use Rattle.ipld_tree.proofs.Trees.{Entry, tree_of-List, tree_of-Map}
+use Rattle.ipld_tree.proofs.Trees.{Entry, tree_of_List, tree_of_Map}
 
 -- ---- lists
 
@@ -22,17 +22,17 @@ abbrev trees_in : Items → List Tree
 trees_in no_items = []
 trees_in (item t ts) = t ∷ trees_in ts
 
-trees_in-items_of : (ts : List Tree) → trees_in (items_of ts) ≡ ts
-trees_in-items_of [] = refl
-trees_in-items_of (t ∷ ts) = ap (λ us. t ∷ us) (trees_in-items_of ts)
+trees_in_items_of : (ts : List Tree) → trees_in (items_of ts) ≡ ts
+trees_in_items_of [] = refl
+trees_in_items_of (t ∷ ts) = ap (λ us. t ∷ us) (trees_in_items_of ts)
 
 pub lists_same : (j k : Ipld) (v w : Vec Ipld Global) (xs ys : List Ipld) (b : Bool) → j ≡ List' v → k ≡ List' w → xs ≡ v.items → ys ≡ w.items
     → IsTrue b ↔ (trees_of xs ≡ trees_of ys) → IsTrue b ↔ (tree_of j ≡ tree_of k)
 lists_same j k v w xs ys b p q is are h =
-    let left : tree_of j ≡ list (items_of (trees_of xs)) = ap tree_of p ∙ tree_of-List v ∙ ap (λ zs. list (items_of (trees_of zs))) (sym is) in
-    let right : tree_of k ≡ list (items_of (trees_of ys)) = ap tree_of q ∙ tree_of-List w ∙ ap (λ zs. list (items_of (trees_of zs))) (sym are) in (
+    let left : tree_of j ≡ list (items_of (trees_of xs)) = ap tree_of p ∙ tree_of_List v ∙ ap (λ zs. list (items_of (trees_of zs))) (sym is) in
+    let right : tree_of k ≡ list (items_of (trees_of ys)) = ap tree_of q ∙ tree_of_List w ∙ ap (λ zs. list (items_of (trees_of zs))) (sym are) in (
       λ t. left ∙ ap (λ ts. list (items_of ts)) (h.0 t) ∙ sym right,
-      λ e. h.1 (sym (trees_in-items_of (trees_of xs)) ∙ ap (λ x. trees_in (inner x)) (sym left ∙ e ∙ right) ∙ trees_in-items_of (trees_of ys)),
+      λ e. h.1 (sym (trees_in_items_of (trees_of xs)) ∙ ap (λ x. trees_in (inner x)) (sym left ∙ e ∙ right) ∙ trees_in_items_of (trees_of ys)),
     )
 
 -- ---- maps
@@ -91,8 +91,8 @@ pub maps_same : (j k : Ipld) (m n : BTreeMap (String Global) Ipld) (b : Bool) �
     → IsStrictlySortedBy string_cmp (keys_of m.entries) → IsStrictlySortedBy string_cmp (keys_of n.entries)
     → IsTrue b ↔ (pairs_of m.entries ≡ pairs_of n.entries) → IsTrue b ↔ (tree_of j ≡ tree_of k)
 maps_same j k m n b p q r s h =
-    let left : tree_of j ≡ mapping (ordered (pairs_of m.entries)) = ap tree_of p ∙ tree_of-Map m in
-    let right : tree_of k ≡ mapping (ordered (pairs_of n.entries)) = ap tree_of q ∙ tree_of-Map n in (
+    let left : tree_of j ≡ mapping (ordered (pairs_of m.entries)) = ap tree_of p ∙ tree_of_Map m in
+    let right : tree_of k ≡ mapping (ordered (pairs_of n.entries)) = ap tree_of q ∙ tree_of_Map n in (
       λ t. left ∙ ap (λ ps. mapping (ordered ps)) (h.0 t) ∙ sym right,
       λ e. h.1 (same_from_ordered (pairs_of m.entries) (pairs_of n.entries) (sorted_pairs m.entries r) (sorted_pairs n.entries s) (ap within (sym left ∙ e ∙ right))),
     )

@@ -20,17 +20,17 @@ IsVarintFault Truncated b = IsCutVarint b
 IsVarintFault _ b = ⊥
 
 -- behind 01 stand the varints of the fields, and then the rest
-pub record HasFields (b fields rest : List ℕ) : Type 0 where
+pub record HasCidFields (b fields rest : List ℕ) : Type 0 where
   pub fit : AllByRecursion (λ n. n < 2 ^ 64) fields
   pub is : b ≡ 0x01 ∷ (flat_map varint fields ++ rest)
 
 -- P holds where the varint of the codec, the hash code or the length of the digest is to stand
 abbrev pub AtVarint : List ℕ → (List ℕ → Type 0) → Type 0
-AtVarint b P = (fields rest : List ℕ) × HasFields b fields rest × (length fields ≤ 2) × P rest
+AtVarint b P = (fields rest : List ℕ) × HasCidFields b fields rest × (length fields ≤ 2) × P rest
 
 -- P holds of the length of the digest and the bytes behind it
 abbrev pub AtDigest : List ℕ → (ℕ → List ℕ → Type 0) → Type 0
-AtDigest b P = (codec hash_code n : ℕ) × (rest : List ℕ) × HasFields b (codec ∷ hash_code ∷ n ∷ []) rest × P n rest
+AtDigest b P = (codec hash_code n : ℕ) × (rest : List ℕ) × HasCidFields b (codec ∷ hash_code ∷ n ∷ []) rest × P n rest
 
 -- the fault stands in the bytes
 abbrev pub IsFault : CidError → List ℕ → Type 0
@@ -41,8 +41,8 @@ IsFault Truncated b = (b ≡ []) ⊎ (AtVarint b IsCutVarint ⊎ AtDigest b (λ 
 IsFault TrailingBytes b = AtDigest b (λ n rest. (n ≤ 64) × (n < length rest))
 
 -- Bytes are read exactly where they are a CID, and refused for their first fault.
-abbrev pub ReadsCid : List ℕ → Result CidParts CidError → Type 0
-ReadsCid b result = MatchResult result
+abbrev pub ReadsBinaryCid : List ℕ → Result CidParts CidError → Type 0
+ReadsBinaryCid b result = MatchResult result
     (λ c. AreCidParts c × (b ≡ cid_bytes c))
     (λ e. (IsCid b → ⊥) × IsFault e b)
 

@@ -8,7 +8,7 @@ ghost use Rattle.std.specs.Prelude.{◌≡◌, ◌≢◌, ◌↔◌, ◌⊎◌, 
 ghost use Rattle.std.specs.Prelude.{◌++◌, ◌∷◌, [], length, IfOk, MatchResult};
 ghost use Rattle.arrayvec.specs.ArrayVec.{array_vec_len};
 ghost use Rattle.ipld_tree.specs.Cid.{cid_cmp, cid_bytes, varint, cid_parts, AreCidParts};
-ghost use Rattle.ipld_tree.specs.CidFault.{ReadsCid, IsVarintFault};
+ghost use Rattle.ipld_tree.specs.CidFault.{ReadsBinaryCid, IsVarintFault};
 ghost use Rattle.ipld_tree.specs.declared.cid_error.CidError.TheVariants.{DigestTooLong};
 
 use crate::cid_error::CidError;
@@ -141,7 +141,7 @@ impl Cid {
 impl TryFrom<&[u8]> for Cid {
     type Error = CidError;
 
-    ghost try_from_gives = { λ bytes result. ReadsCid bytes.now result };
+    ghost try_from_gives = { λ bytes result. ReadsBinaryCid bytes.now result };
 
     fn try_from(bytes: &[u8]) -> Result<Cid, CidError> {
         match bytes {
@@ -173,7 +173,7 @@ fn from_parts(version: u64, codec: u64, hash_code: u64, digest: &[u8]) -> Cid
 
 /// Reads what stands behind the first byte of version 1.
 fn read_version_1(fields: &[u8]) -> Result<Cid, CidError>
-    ensures { ReadsCid (0x01 ∷ fields.now) result }
+    ensures { ReadsBinaryCid (0x01 ∷ fields.now) result }
 {
     let (codec, rest) = split_varint(fields)?;
     let (hash_code, rest) = split_varint(rest)?;

@@ -28,7 +28,7 @@ pub trait Codec<'de, T> {
     /// The data of a value. None where it has none.
     ghost data_of: { T → Option Data };
 
-    ghost held: { T → View };
+    ghost meaning: { T → View };
 
     /// The data is read as a value that holds this.
     ghost is_read: { Data → View → Type 0 };

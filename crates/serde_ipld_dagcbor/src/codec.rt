@@ -34,7 +34,7 @@ impl<'de, T: DeserializeOwned<'de> + Serialize> Codec<'de, T> for DagCborCodec {
 
     ghost data_of = { T.tree };
 
-    ghost held = { T.held };
+    ghost meaning = { T.meaning };
 
     ghost is_read = { IsReadAs T.shape };
 
@@ -45,7 +45,7 @@ impl<'de, T: DeserializeOwned<'de> + Serialize> Codec<'de, T> for DagCborCodec {
     ghost canonical = { trees_have_one_spelling };
 
     fn decode<R: BufRead + Drop>(alloc: Global, reader: R) -> Result<T, CodecError>
-        ensures answers { Decodes IsSpelling (IsReadAs T.shape) T.held IsExcuse (R.remaining reader) result }
+        ensures answers { Decodes IsSpelling (IsReadAs T.shape) T.meaning IsExcuse (R.remaining reader) result }
         ensures exact { DecodeRefused T.shape (R.remaining reader) result }
     {
         match from_reader(alloc, reader) {
@@ -55,7 +55,7 @@ impl<'de, T: DeserializeOwned<'de> + Serialize> Codec<'de, T> for DagCborCodec {
     }
 
     fn decode_from_slice(alloc: Global, bytes: &[u8]) -> Result<T, CodecError>
-        ensures answers { Decodes IsSpelling (IsReadAs T.shape) T.held IsExcuse (Some bytes.now) result }
+        ensures answers { Decodes IsSpelling (IsReadAs T.shape) T.meaning IsExcuse (Some bytes.now) result }
         ensures exact { DecodeRefused T.shape (Some bytes.now) result }
     {
         <DagCborCodec as Codec<'de, T>>::decode(alloc, bytes)

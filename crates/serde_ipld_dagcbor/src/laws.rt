@@ -18,7 +18,7 @@ pub fn read_then_written()
 /// The same for a value of any type whose tree is the one that it was read from. Not each is:
 /// `Some(None)` is null, which is read as `None`.
 pub fn typed_read_then_written<'de, T: Deserialize<'de> + Serialize>()
-    ensures { TypedReadThenWritten T.held T.shape T.tree }
+    ensures { TypedReadThenWritten T.meaning T.shape T.tree }
 {}
 
 /// What `to_vec` writes of an `Ipld`, `from_slice` reads back, where its need is at most 256.
@@ -28,5 +28,5 @@ pub fn written_then_read()
 
 /// The same for a value of any type: it is read as what its tree shows to the type.
 pub fn typed_written_then_read<'de, T: Deserialize<'de> + Serialize>()
-    ensures { TypedWrittenThenRead T.held T.shape T.tree }
+    ensures { TypedWrittenThenRead T.meaning T.shape T.tree }
 {}

@@ -16,7 +16,7 @@ fn there_and_back<'de, T, C: Codec<'de, T>>(
     alloc: Global,
     value: &T,
 ) -> Result<(Vec<u8>, T), C::Error>
-    ensures { IsThereAndBack C.is_encoding C.is_read C.held C.is_excuse (C.data_of value.now) result }
+    ensures { IsThereAndBack C.is_encoding C.is_read C.meaning C.is_excuse (C.data_of value.now) result }
 {
     match C::encode_to_vec(alloc, value) {
         Ok(bytes) => match C::decode_from_slice(alloc, &bytes) {

@@ -55,7 +55,7 @@ impl Serialize for Color {
 impl Shown for Color {
     ghost View = { ColorView };
 
-    ghost held = { λ color. elim color [ Red ↦ is_red | Blue ↦ is_blue | Yellow ↦ is_yellow | Other n ↦ is_other n | Alpha n a ↦ is_alpha n a ] };
+    ghost meaning = { λ color. elim color [ Red ↦ is_red | Blue ↦ is_blue | Yellow ↦ is_yellow | Other n ↦ is_other n | Alpha n a ↦ is_alpha n a ] };
 
     ghost shape = { color_shape };
 }
@@ -63,7 +63,7 @@ impl Shown for Color {
 impl<'de> Variants<'de> for Color {
     ghost View = { ColorView };
 
-    ghost held = { λ color. elim color [ Red ↦ is_red | Blue ↦ is_blue | Yellow ↦ is_yellow | Other n ↦ is_other n | Alpha n a ↦ is_alpha n a ] };
+    ghost meaning = { λ color. elim color [ Red ↦ is_red | Blue ↦ is_blue | Yellow ↦ is_yellow | Other n ↦ is_other n | Alpha n a ↦ is_alpha n a ] };
 
     ghost shape = { color_variants };
 

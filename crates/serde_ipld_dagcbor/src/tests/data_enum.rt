@@ -84,7 +84,7 @@ impl<'de> Fields<'de> for FieldsOfC {
 impl Shown for DataEnum {
     ghost View = { DataView };
 
-    ghost held = { λ e. elim e [ A n ↦ is_a n | B b n ↦ is_b b n | C x y ↦ is_c x (string_bytes y) ] };
+    ghost meaning = { λ e. elim e [ A n ↦ is_a n | B b n ↦ is_b b n | C x y ↦ is_c x (string_bytes y) ] };
 
     ghost shape = { data_shape };
 }
@@ -92,7 +92,7 @@ impl Shown for DataEnum {
 impl<'de> Variants<'de> for DataEnum {
     ghost View = { DataView };
 
-    ghost held = { λ e. elim e [ A n ↦ is_a n | B b n ↦ is_b b n | C x y ↦ is_c x (string_bytes y) ] };
+    ghost meaning = { λ e. elim e [ A n ↦ is_a n | B b n ↦ is_b b n | C x y ↦ is_c x (string_bytes y) ] };
 
     ghost shape = { data_variants };
 

@@ -40,7 +40,7 @@ impl Serialize for Enum {
 impl Shown for Enum {
     ghost View = { Letter };
 
-    ghost held = { λ e. elim e [ A ↦ is_a | B ↦ is_b ] };
+    ghost meaning = { λ e. elim e [ A ↦ is_a | B ↦ is_b ] };
 
     ghost shape = { letter_shape };
 }
@@ -48,7 +48,7 @@ impl Shown for Enum {
 impl<'de> Variants<'de> for Enum {
     ghost View = { Letter };
 
-    ghost held = { λ e. elim e [ A ↦ is_a | B ↦ is_b ] };
+    ghost meaning = { λ e. elim e [ A ↦ is_a | B ↦ is_b ] };
 
     ghost shape = { letter_variants };
 
@@ -128,7 +128,7 @@ impl<'de> Fields<'de> for EnumStructFields {
 impl Shown for EnumStruct {
     ghost View = { Letter };
 
-    ghost held = { λ s. elim s.e [ A ↦ is_a | B ↦ is_b ] };
+    ghost meaning = { λ s. elim s.e [ A ↦ is_a | B ↦ is_b ] };
 
     ghost shape = { enum_struct_shape };
 }

@@ -37,7 +37,7 @@ impl Serialize for Kinded {
 impl Shown for Kinded {
     ghost View = { KindedView };
 
-    ghost held = { λ k. elim k [ kinded.Bytes b ↦ is_bytes b.0.items | kinded.Link c ↦ is_link (cid_bytes c) ] };
+    ghost meaning = { λ k. elim k [ kinded.Bytes b ↦ is_bytes b.0.items | kinded.Link c ↦ is_link (cid_bytes c) ] };
 
     ghost shape = { kinded_shape };
 }

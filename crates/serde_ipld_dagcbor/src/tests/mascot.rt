@@ -75,7 +75,7 @@ impl<'de> Fields<'de> for MascotFields {
 impl Shown for Mascot {
     ghost View = { MascotView };
 
-    ghost held = { λ p. record { name = string_bytes p.name; species = string_bytes p.species; year_of_birth = p.year_of_birth } };
+    ghost meaning = { λ p. record { name = string_bytes p.name; species = string_bytes p.species; year_of_birth = p.year_of_birth } };
 
     ghost shape = { mascot_shape };
 }

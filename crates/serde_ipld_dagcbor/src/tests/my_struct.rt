@@ -68,7 +68,7 @@ impl<'de> Fields<'de> for MyStructFields {
 impl Shown for MyStruct {
     ghost View = { MyStructView };
 
-    ghost held = { λ s. record { cid = cid_bytes s.cid; flag = s.data } };
+    ghost meaning = { λ s. record { cid = cid_bytes s.cid; flag = s.data } };
 
     ghost shape = { my_struct_shape };
 }

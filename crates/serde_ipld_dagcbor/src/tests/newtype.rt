@@ -34,7 +34,7 @@ impl Serialize for Newtype {
 impl Shown for Newtype {
     ghost View = { ℕ };
 
-    ghost held = { λ n. n.0 };
+    ghost meaning = { λ n. n.0 };
 
     ghost shape = { leaf (view_unsigned (2 ^ 8)) };
 }
@@ -76,7 +76,7 @@ impl Serialize for Externally {
 impl Shown for Externally {
     ghost View = { List ℕ };
 
-    ghost held = { λ e. elim e [ externally.Cid c ↦ cid_bytes c ] };
+    ghost meaning = { λ e. elim e [ externally.Cid c ↦ cid_bytes c ] };
 
     ghost shape = { named_link_shape };
 }
@@ -84,7 +84,7 @@ impl Shown for Externally {
 impl<'de> Variants<'de> for Externally {
     ghost View = { List ℕ };
 
-    ghost held = { λ e. elim e [ externally.Cid c ↦ cid_bytes c ] };
+    ghost meaning = { λ e. elim e [ externally.Cid c ↦ cid_bytes c ] };
 
     ghost shape = { named_link_variants };
 

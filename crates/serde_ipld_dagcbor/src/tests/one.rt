@@ -59,7 +59,7 @@ impl<'de> Fields<'de> for OneFields {
 impl Shown for One {
     ghost View = { ℕ };
 
-    ghost held = { λ o. o.a };
+    ghost meaning = { λ o. o.a };
 
     ghost shape = { one_shape };
 }

@@ -85,7 +85,7 @@ impl<'de> Fields<'de> for OptionalPersonFields {
 impl Shown for OptionalPerson {
     ghost View = { OptionalPersonView };
 
-    ghost held = { λ p. record { name = string_bytes p.name; year_of_birth = option_map (λ n. n) p.year_of_birth; profession = option_map string_bytes p.profession } };
+    ghost meaning = { λ p. record { name = string_bytes p.name; year_of_birth = option_map (λ n. n) p.year_of_birth; profession = option_map string_bytes p.profession } };
 
     ghost shape = { optional_person_shape };
 }

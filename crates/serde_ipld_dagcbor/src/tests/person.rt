@@ -71,7 +71,7 @@ impl<'de> Fields<'de> for PersonFields {
 impl Shown for Person {
     ghost View = { PersonView };
 
-    ghost held = { λ p. record { name = string_bytes p.name; year_of_birth = p.year_of_birth; profession = option_map string_bytes p.profession } };
+    ghost meaning = { λ p. record { name = string_bytes p.name; year_of_birth = p.year_of_birth; profession = option_map string_bytes p.profession } };
 
     ghost shape = { person_shape };
 }

@@ -95,7 +95,7 @@ impl<'de> Fields<'de> for FieldsOfData {
 impl Shown for Second {
     ghost View = { SecondView };
 
-    ghost held = { λ e. elim e [ Data b abc a ↦ record { b = b; abc = abc; a = a } ] };
+    ghost meaning = { λ e. elim e [ Data b abc a ↦ record { b = b; abc = abc; a = a } ] };
 
     ghost shape = { second_shape };
 }
@@ -103,7 +103,7 @@ impl Shown for Second {
 impl<'de> Variants<'de> for Second {
     ghost View = { SecondView };
 
-    ghost held = { λ e. elim e [ Data b abc a ↦ record { b = b; abc = abc; a = a } ] };
+    ghost meaning = { λ e. elim e [ Data b abc a ↦ record { b = b; abc = abc; a = a } ] };
 
     ghost shape = { second_variants };
 

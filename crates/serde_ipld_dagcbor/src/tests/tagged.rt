@@ -49,7 +49,7 @@ impl<'de> Fields<'de> for TaggedFields {
 impl Shown for CidInInternallyTaggedEnum {
     ghost View = { List ℕ };
 
-    ghost held = { λ e. elim e [ tagged.MyCid c ↦ cid_bytes c ] };
+    ghost meaning = { λ e. elim e [ tagged.MyCid c ↦ cid_bytes c ] };
 
     ghost shape = { tagged_shape };
 }

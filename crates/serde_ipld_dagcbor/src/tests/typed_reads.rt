@@ -218,8 +218,8 @@ fn entries_one_by_one(rt: HostRuntime) -> Result<(), Fail> {
 #[test]
 fn a_unit_variant(rt: HostRuntime) -> Result<(), Fail> {
     let mut de = Deserializer::from_slice(b"\x61A");
-    let begun = de.deserialize_enum("Enum", &["A", "B"])?;
-    let (name, variant) = begun.variant(rt.alloc(), &mut de)?;
+    let accessor_state = de.deserialize_enum("Enum", &["A", "B"])?;
+    let (name, variant) = accessor_state.variant(rt.alloc(), &mut de)?;
     agree(name.as_str(), "A")?;
     variant.unit_variant(&mut de)?;
     is_told(rt.alloc(), &de.end(), "Ok(())")
@@ -237,8 +237,8 @@ fn a_newtype_variant(rt: HostRuntime) -> Result<(), Fail> {
 #[test]
 fn a_tuple_variant(rt: HostRuntime) -> Result<(), Fail> {
     let mut de = Deserializer::from_slice(b"\xa1\x61A\x81\x01");
-    let begun = de.deserialize_enum("Enum", &["A"])?;
-    let (_, variant) = begun.variant(rt.alloc(), &mut de)?;
+    let accessor_state = de.deserialize_enum("Enum", &["A"])?;
+    let (_, variant) = accessor_state.variant(rt.alloc(), &mut de)?;
     let mut parts = variant.tuple_variant(1, &mut de)?;
     let part: Option<u8> = parts.next_element(rt.alloc(), &mut de)?;
     parts.end(&mut de)?;
@@ -248,8 +248,8 @@ fn a_tuple_variant(rt: HostRuntime) -> Result<(), Fail> {
 #[test]
 fn a_struct_variant(rt: HostRuntime) -> Result<(), Fail> {
     let mut de = Deserializer::from_slice(b"\xa1\x61A\xa0");
-    let begun = de.deserialize_enum("Enum", &["A"])?;
-    let (_, variant) = begun.variant(rt.alloc(), &mut de)?;
+    let accessor_state = de.deserialize_enum("Enum", &["A"])?;
+    let (_, variant) = accessor_state.variant(rt.alloc(), &mut de)?;
     variant.struct_variant(&[], &mut de)?.end(&mut de)?;
     is_told(rt.alloc(), &de.end(), "Ok(())")
 }

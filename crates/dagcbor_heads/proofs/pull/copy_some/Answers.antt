@@ -7,7 +7,7 @@ pub returns : goal.returns
 returns g c =
     let count = c.copy_front-count.ensures.count ∙ ap (λ s. min c.args.want (length s)) c.shown.ensures in
     let behind = gathered c.in_ok-prepare.ensures count
-    (c.copy_front-count.ensures.appended ∙ ap (λ s. c.args.payload.now.items ++ take c.copy_front-count.result s) c.shown.ensures) c.advance.ensures in
+    (c.copy_front-count.ensures.grows ∙ ap (λ s. c.args.payload.now.items ++ take c.copy_front-count.result s) c.shown.ensures) c.advance.ensures in
     record {
       gathered = behind;
       looked = gathered_looked c.in_ok-prepare.ensures count c.advance.ensures behind;

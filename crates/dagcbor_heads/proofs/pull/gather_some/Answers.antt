@@ -7,7 +7,7 @@ pub returns-in-Ok-append_front : goal.returns-in-Ok-append_front
 returns-in-Ok-append_front g c =
     let count = c.in-Ok-append_front.ensures.count ∙ ap (λ s. min c.args.want (length s)) c.shown.ensures in
     let behind = gathered c.in-Ok.ensures count
-    (c.in-Ok-append_front.ensures.appended ∙ ap (λ s. c.args.payload.now.items ++ take c.in-Ok-append_front.count s) c.shown.ensures) c.advance.ensures in
+    (c.in-Ok-append_front.ensures.grows ∙ ap (λ s. c.args.payload.now.items ++ take c.in-Ok-append_front.count s) c.shown.ensures) c.advance.ensures in
     record {
       gathered = behind;
       causeless = tt;

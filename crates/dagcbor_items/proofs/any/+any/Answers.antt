@@ -130,7 +130,7 @@ pub read_item-returns-then-is_indefinite-clause-looked : goal.read_item-returns-
 read_item-returns-then-is_indefinite-clause-looked g t c = once_left 3 (omega arith) c.in_ok-first.ensures.looked
 
 pub read_item-returns-clause-looked : goal.read_item-returns-clause-looked
-read_item-returns-clause-looked g t c = peeked 3 _ _ c.in_ok-first.ensures.looked c.in_ok-first.ensures.shown c.read_kind.ensures.looked
+read_item-returns-clause-looked g t c = peeked 3 _ _ c.in_ok-first.ensures.looked c.in_ok-first.ensures.shown c.read_of_major.ensures.looked
 
 pub read_list-returns-then-not-step_in-clause-looked : goal.read_list-returns-then-not-step_in-clause-looked
 read_list-returns-then-not-step_in-clause-looked g t c = major_unread c.requires (ap (λ (r : Reading). r.looked) c.if-not-step_in.ensures.1)

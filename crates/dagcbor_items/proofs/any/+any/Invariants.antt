@@ -15,8 +15,8 @@ decreases-read_any g l = 5 * (input_reading g.R.Read.reading l.input.now).steps
 abbrev pub decreases-read_item : goal.decreases-read_item
 decreases-read_item g l = 5 * (input_reading g.R.Read.reading l.input.now).steps + 4
 
-abbrev pub decreases-read_kind : goal.decreases-read_kind
-decreases-read_kind g l = 5 * (input_reading g.R.Read.reading l.input.now).steps + 3
+abbrev pub decreases-read_of_major : goal.decreases-read_of_major
+decreases-read_of_major g l = 5 * (input_reading g.R.Read.reading l.input.now).steps + 3
 
 abbrev pub decreases-read_list : goal.decreases-read_list
 decreases-read_list g l = 5 * (input_reading g.R.Read.reading l.input.now).steps + 2

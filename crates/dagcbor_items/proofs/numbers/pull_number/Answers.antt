@@ -3,7 +3,7 @@ use Rattle.std.proofs.lemmas.Int.{to_z-of_z}
 use mir.Syntax.{w128}
 use mir.Val.{SFits}
 use Rattle.dagcbor_heads.proofs.Refusing.{refused}
-use Rattle.dagcbor_items.proofs.HeadKinds.{as_value}
+use Rattle.dagcbor_items.proofs.HeadMajors.{as_value}
 use Rattle.dagcbor_items.proofs.Integers.{number_refused, number_taken}
 use Rattle.dagcbor_items.proofs.numbers.pull_number.Goals as goal
 

@@ -2,13 +2,13 @@ use Rattle.std.proofs.Common.{◌+◌, rules}
 use mir.Syntax.{w128}
 use mir.Val.{SFits}
 use Rattle.dagcbor_heads.proofs.Refusing.{refused}
-use Rattle.dagcbor_items.specs.LeafCauses.{KindStands}
+use Rattle.dagcbor_items.specs.LeafCauses.{MajorCause}
 use Rattle.dagcbor_items.specs.Shapes.{natural_below}
 use Rattle.dagcbor_items.proofs.Integers.{handed, narrowed, narrow_refused, outside}
 use Rattle.dagcbor_items.proofs.numbers.pull_unsigned.Goals as goal
 
 pub returns-in_err-number-clause-number : goal.returns-in_err-number-clause-number
-returns-in_err-number-clause-number g c = refused _ _ _ _ c.from_residual.ensures.1 (narrow_refused (natural_below (c.args.greatest + 1)) (KindStands c.args.name.now 0 1) _ _ _ _ c.in_err-number.ensures.number)
+returns-in_err-number-clause-number g c = refused _ _ _ _ c.from_residual.ensures.1 (narrow_refused (natural_below (c.args.greatest + 1)) (MajorCause c.args.name.now 0 1) _ _ _ _ c.in_err-number.ensures.number)
 
 pub returns-in-Some-clause-number : goal.returns-in-Some-clause-number
 returns-in-Some-clause-number g c =
@@ -18,4 +18,4 @@ returns-in-Some-clause-number g c =
 pub returns-in-None-clause-number : goal.returns-in-None-clause-number
 returns-in-None-clause-number g c =
     let fits : SFits w128 c.in_ok-number.number = search rules in
-    outside g.row.R-Error.Denot (natural_below (c.args.greatest + 1)) (KindStands c.args.name.now 0 1) _ _ c.new.result (handed (natural_below (c.args.greatest + 1)) c.in_ok-number.number _ fits c.in-None.ensures) c.new.ensures c.in_ok-number.ensures.number
+    outside g.row.R-Error.Denot (natural_below (c.args.greatest + 1)) (MajorCause c.args.name.now 0 1) _ _ c.new.result (handed (natural_below (c.args.greatest + 1)) c.in_ok-number.number _ fits c.in-None.ensures) c.new.ensures c.in_ok-number.ensures.number

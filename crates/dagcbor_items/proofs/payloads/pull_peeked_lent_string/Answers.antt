@@ -5,7 +5,7 @@ use Rattle.std.specs.declared.convert.Infallible.{Infallible}
 use Rattle.dagcbor_heads.specs.declared.error.DecodeError.TheVariants.{Eof}
 use Rattle.dagcbor_heads.proofs.Looking.{looks_both, lent_looked}
 use Rattle.dagcbor_items.proofs.StringReads.{string_read, string_head_refused}
-use Rattle.dagcbor_items.proofs.HeadKinds.{head_kind}
+use Rattle.dagcbor_items.proofs.HeadMajors.{head_kind}
 use Rattle.dagcbor_items.proofs.payloads.pull_peeked_lent_string.Goals as goal
 
 pub returns-in_err-count-clause-string : goal.returns-in_err-count-clause-string

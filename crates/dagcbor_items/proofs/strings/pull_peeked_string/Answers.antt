@@ -1,5 +1,5 @@
 use Rattle.dagcbor_heads.proofs.Refusing.{refused}
-use Rattle.dagcbor_items.proofs.HeadKinds.{head_kind}
+use Rattle.dagcbor_items.proofs.HeadMajors.{head_kind}
 use Rattle.dagcbor_items.proofs.StringReads.{string_read, string_head_refused}
 use Rattle.dagcbor_items.proofs.Looks.{looks_behind}
 use Rattle.dagcbor_items.proofs.strings.pull_peeked_string.Goals as goal

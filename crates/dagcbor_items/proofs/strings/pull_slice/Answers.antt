@@ -1,18 +1,18 @@
 use Rattle.std.proofs.Common.{sym, ◌∙◌}
 use Rattle.std.specs.Prelude.{◌≡◌, false, codes}
 use Rattle.dagcbor_heads.proofs.Refusing.{refused}
-use Rattle.dagcbor_items.specs.LeafCauses.{StringStands}
+use Rattle.dagcbor_items.specs.LeafCauses.{StringCause}
 use Rattle.dagcbor_items.proofs.StringReads.{bytes_refused, string_kind_refused, peeked_read}
 use Rattle.dagcbor_items.proofs.Looks.{peeked_value}
 use Rattle.dagcbor_items.proofs.strings.pull_slice.Goals as goal
 
-pub returns-in_err-peek_kind-clause-bytes : goal.returns-in_err-peek_kind-clause-bytes
-returns-in_err-peek_kind-clause-bytes g c = refused _ _ _ _ c.from_residual.ensures.1 (bytes_refused _ _ _ _ (string_kind_refused _ _ _ _ _ _ c.in_err-peek_kind.ensures.kind))
+pub returns-in_err-peek_major-clause-bytes : goal.returns-in_err-peek_major-clause-bytes
+returns-in_err-peek_major-clause-bytes g c = refused _ _ _ _ c.from_residual.ensures.1 (bytes_refused _ _ _ _ (string_kind_refused _ _ _ _ _ _ c.in_err-peek_major.ensures.kind))
 
 pub returns-clause-bytes : goal.returns-clause-bytes
-returns-clause-bytes g c = peeked_read _ _ (λ r. r.lends ≡ false) (StringStands (codes "bytes") 2) _ _ c.in_ok-peek_kind.ensures.kind.2 (λ same x. sym same.lends ∙ x) c.pull_peeked_slice.ensures.bytes
+returns-clause-bytes g c = peeked_read _ _ (λ r. r.lends ≡ false) (StringCause (codes "bytes") 2) _ _ c.in_ok-peek_major.ensures.kind.2 (λ same x. sym same.lends ∙ x) c.pull_peeked_slice.ensures.bytes
 
 pub returns-clause-looked : goal.returns-clause-looked
 returns-clause-looked g c =
-    let peeked = c.in_ok-peek_kind.ensures in
-    peeked_value 2 _ _ (λ r. r.lends ≡ false) (StringStands (codes "bytes") 2) _ _ peeked.looked peeked.kind.2 c.pull_peeked_slice.ensures.bytes c.pull_peeked_slice.ensures.looked
+    let peeked = c.in_ok-peek_major.ensures in
+    peeked_value 2 _ _ (λ r. r.lends ≡ false) (StringCause (codes "bytes") 2) _ _ peeked.looked peeked.kind.2 c.pull_peeked_slice.ensures.bytes c.pull_peeked_slice.ensures.looked

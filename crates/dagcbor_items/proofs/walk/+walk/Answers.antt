@@ -35,13 +35,13 @@ walk_item-returns-then-is_indefinite-clause-item g t c =
     indefinite_refused g.row.I-Error.Denot (WalkLacks g.S.LinkSink.takes_memory (g.I.Read.reading c.args.input.now)) 0 c.in_ok-first.ensures.shown (c.is_indefinite.ensures.0 c.if-is_indefinite.true)
 
 pub walk_item-returns-clause-item : goal.walk_item-returns-clause-item
-walk_item-returns-clause-item g t c = walked_from g.S.LinkSink.holds g.S.LinkSink.takes_memory c.args.links.now c.walk_kind.new.links c.walk_kind.result _ c.in_ok-first.ensures.shown c.walk_kind.ensures.item
+walk_item-returns-clause-item g t c = walked_from g.S.LinkSink.holds g.S.LinkSink.takes_memory c.args.links.now c.walk_of_major.new.links c.walk_of_major.result _ c.in_ok-first.ensures.shown c.walk_of_major.ensures.item
 
-pub walk_kind-returns-in-6-clause-item : goal.walk_kind-returns-in-6-clause-item
-walk_kind-returns-in-6-clause-item g t c = c.walk_link.ensures.item
+pub walk_of_major-returns-in-6-clause-item : goal.walk_of_major-returns-in-6-clause-item
+walk_of_major-returns-in-6-clause-item g t c = c.walk_link.ensures.item
 
-pub walk_kind-returns-in_default-clause-item : goal.walk_kind-returns-in_default-clause-item
-walk_kind-returns-in_default-clause-item g t c = leaf_walked g.S.LinkSink.holds g.S.LinkSink.takes_memory (g.I.Read.reading c.args.input.now) c.args.links.now c.skip_leaf.result _ c.requires (λ x. omega arith) (λ x. omega arith) (λ x. omega arith) c.skip_leaf.ensures.item
+pub walk_of_major-returns-in_default-clause-item : goal.walk_of_major-returns-in_default-clause-item
+walk_of_major-returns-in_default-clause-item g t c = leaf_walked g.S.LinkSink.holds g.S.LinkSink.takes_memory (g.I.Read.reading c.args.input.now) c.args.links.now c.skip_leaf.result _ c.requires (λ x. omega arith) (λ x. omega arith) (λ x. omega arith) c.skip_leaf.ensures.item
 
 pub walk_list-returns-then-not-step_in-clause-item : goal.walk_list-returns-then-not-step_in-clause-item
 walk_list-returns-then-not-step_in-clause-item g t c =
@@ -157,7 +157,7 @@ pub walk_item-returns-then-is_indefinite-clause-looked : goal.walk_item-returns-
 walk_item-returns-then-is_indefinite-clause-looked g t c = once_left 3 (omega arith) c.in_ok-first.ensures.looked
 
 pub walk_item-returns-clause-looked : goal.walk_item-returns-clause-looked
-walk_item-returns-clause-looked g t c = peeked 3 _ _ c.in_ok-first.ensures.looked c.in_ok-first.ensures.shown c.walk_kind.ensures.looked
+walk_item-returns-clause-looked g t c = peeked 3 _ _ c.in_ok-first.ensures.looked c.in_ok-first.ensures.shown c.walk_of_major.ensures.looked
 
 pub walk_list-returns-then-not-step_in-clause-looked : goal.walk_list-returns-then-not-step_in-clause-looked
 walk_list-returns-then-not-step_in-clause-looked g t c = major_unread c.requires (ap (λ (r : Reading). r.looked) c.if-not-step_in.ensures.1)

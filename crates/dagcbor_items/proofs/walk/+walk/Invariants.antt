@@ -13,8 +13,8 @@ decreases-walk_any g l = 5 * (g.I.Read.reading l.input.now).steps
 abbrev pub decreases-walk_item : goal.decreases-walk_item
 decreases-walk_item g l = 5 * (g.I.Read.reading l.input.now).steps + 4
 
-abbrev pub decreases-walk_kind : goal.decreases-walk_kind
-decreases-walk_kind g l = 5 * (g.I.Read.reading l.input.now).steps + 3
+abbrev pub decreases-walk_of_major : goal.decreases-walk_of_major
+decreases-walk_of_major g l = 5 * (g.I.Read.reading l.input.now).steps + 3
 
 abbrev pub decreases-walk_list : goal.decreases-walk_list
 decreases-walk_list g l = 5 * (g.I.Read.reading l.input.now).steps + 2

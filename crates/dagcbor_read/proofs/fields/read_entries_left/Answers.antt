@@ -1,6 +1,6 @@
 use Rattle.std.proofs.Common.{◌≡◌, true}
 use Rattle.dagcbor_heads.proofs.Refusing.{refused}
-use Rattle.dagcbor_read.specs.Accessors.{begun, EndsItems}
+use Rattle.dagcbor_read.specs.Accessors.{accessor_state, EndsItems}
 use Rattle.dagcbor_read.specs.Calls.{progress}
 use Rattle.dagcbor_read.proofs.Answered.{answered, key_read, no_key, key_refused, after_some_key, after_no_key}
 use Rattle.dagcbor_read.proofs.EntryRows.{key_not_read, value_not_read, one_more, all_read}
@@ -22,7 +22,7 @@ pub loop-entries-preserved-in_ok-read_field : goal.loop-entries-preserved-in_ok-
 loop-entries-preserved-in_ok-read_field g c =
     let i = c.loop-entries.invariant in
     let k = key_read g.row.R-Error.Denot _ _ (progress g.R.Read.reading c.loop-entries.de) (progress g.R.Read.reading c.next_key.new.de) _ _ c.in-Some.is c.in_ok-key.ensures.key in
-    let after = after_some_key g.row.R-Error.Denot _ _ (begun c.loop-entries.entries) _ c.in-Some.is c.in_ok-key.ensures.after in
+    let after = after_some_key g.row.R-Error.Denot _ _ (accessor_state c.loop-entries.entries) _ c.in-Some.is c.in_ok-key.ensures.after in
     let v = c.in_ok-read_field.ensures k.sound in
     one_more g.F.Fields.shape _ _ c.as_str.ensures.value i k after c.note_value.ensures v.0 v.1
 
@@ -30,7 +30,7 @@ pub loop-entries-preserved : goal.loop-entries-preserved
 loop-entries-preserved g c =
     let i = c.loop-entries.invariant in
     let k = key_read g.row.R-Error.Denot _ _ (progress g.R.Read.reading c.loop-entries.de) (progress g.R.Read.reading c.next_key.new.de) _ _ c.in-Some.is c.in_ok-key.ensures.key in
-    let after = after_some_key g.row.R-Error.Denot _ _ (begun c.loop-entries.entries) _ c.in-Some.is c.in_ok-key.ensures.after in
+    let after = after_some_key g.row.R-Error.Denot _ _ (accessor_state c.loop-entries.entries) _ c.in-Some.is c.in_ok-key.ensures.after in
     let v = c.in_ok-read_field.ensures k.sound in
     one_more g.F.Fields.shape _ _ c.as_str.ensures.value i k after c.note_value.ensures v.0 v.1
 
@@ -38,7 +38,7 @@ pub returns : goal.returns
 returns g c =
     let i = c.loop-entries.invariant in
     let k = no_key g.row.R-Error.Denot _ _ (progress g.R.Read.reading c.loop-entries.de) (progress g.R.Read.reading c.next_key.new.de) _ c.in_default.is c.in_ok-key.ensures.key in
-    let after = after_no_key g.row.R-Error.Denot _ (begun c.loop-entries.entries) _ c.in_default.is c.in_ok-key.ensures.after in
-    let e = answered _ g.row.R-Error.Denot (EndsItems (begun c.next_key.new.self)) (progress g.R.Read.reading c.next_key.new.de) (progress g.R.Read.reading c.end.new.de) _ c.in_ok-end.ensures in
+    let after = after_no_key g.row.R-Error.Denot _ (accessor_state c.loop-entries.entries) _ c.in_default.is c.in_ok-key.ensures.after in
+    let e = answered _ g.row.R-Error.Denot (EndsItems (accessor_state c.next_key.new.self)) (progress g.R.Read.reading c.next_key.new.de) (progress g.R.Read.reading c.end.new.de) _ c.in_ok-end.ensures in
     let a = all_read g.F.Fields.shape (progress g.R.Read.reading c.next_key.new.de) (progress g.R.Read.reading c.end.new.de) i k.1 after k.2 e.2.1 in
     (e.1, a.0, a.1, a.2)

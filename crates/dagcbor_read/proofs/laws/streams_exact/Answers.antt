@@ -3,4 +3,4 @@ use Rattle.dagcbor_read.proofs.laws.streams_exact.Goals as goal
 use Rattle.dagcbor_read.specs.Streams.{streaming}
 
 pub returns : goal.returns
-returns g c = exact _ (streaming g.R.Read.reading) g.T.Shown.held g.T.Shown.shape
+returns g c = exact _ (streaming g.R.Read.reading) g.T.Shown.meaning g.T.Shown.shape

@@ -24,12 +24,12 @@ pub returns-in_err-end-clause-refused : goal.returns-in_err-end-clause-refused
 returns-in_err-end-clause-refused g c =
     let start = c.from_reader-de.ensures in
     let source = c.new.ensures in
-    on_refusal _ _ _ c.from_residual-in_err-end.ensures.1 (value_end_refused g.T.Shown.shape (g.R.Read.remaining c.args.reader) _ _ _ (g.T.Shown.held c.in_ok-value.value) _ (ap (λ p. p.input.left) start ∙ ap (λ r. r.left) source)
+    on_refusal _ _ _ c.from_residual-in_err-end.ensures.1 (value_end_refused g.T.Shown.shape (g.R.Read.remaining c.args.reader) _ _ _ (g.T.Shown.meaning c.in_ok-value.value) _ (ap (λ p. p.input.left) start ∙ ap (λ r. r.left) source)
     (c.in_ok-value.ensures.value (ap (λ p. p.failed) start)) c.in_err-end.ensures).0
 
 pub returns-in_err-end-clause-never : goal.returns-in_err-end-clause-never
 returns-in_err-end-clause-never g c =
     let start = c.from_reader-de.ensures in
     let source = c.new.ensures in
-    on_refusal _ _ _ c.from_residual-in_err-end.ensures.1 (value_end_refused g.T.Shown.shape (g.R.Read.remaining c.args.reader) _ _ _ (g.T.Shown.held c.in_ok-value.value) _ (ap (λ p. p.input.left) start ∙ ap (λ r. r.left) source)
+    on_refusal _ _ _ c.from_residual-in_err-end.ensures.1 (value_end_refused g.T.Shown.shape (g.R.Read.remaining c.args.reader) _ _ _ (g.T.Shown.meaning c.in_ok-value.value) _ (ap (λ p. p.input.left) start ∙ ap (λ r. r.left) source)
     (c.in_ok-value.ensures.value (ap (λ p. p.failed) start)) c.in_err-end.ensures).1

@@ -20,16 +20,16 @@ returns-in_err-value-clause-never g c =
 pub returns-in_err-end-clause-refused : goal.returns-in_err-end-clause-refused
 returns-in_err-end-clause-refused g c =
     let start = c.from_slice-de.ensures in
-    on_refusal _ _ _ c.from_residual-in_err-end.ensures.1 (value_end_refused g.T.Shown.shape (Some c.args.bytes.now) _ _ _ (g.T.Shown.held c.in_ok-value.value) _ (ap (λ p. p.input.left) start)
+    on_refusal _ _ _ c.from_residual-in_err-end.ensures.1 (value_end_refused g.T.Shown.shape (Some c.args.bytes.now) _ _ _ (g.T.Shown.meaning c.in_ok-value.value) _ (ap (λ p. p.input.left) start)
     (c.in_ok-value.ensures.value (ap (λ p. p.failed) start)) c.in_err-end.ensures).0
 
 pub returns-in_err-end-clause-never : goal.returns-in_err-end-clause-never
 returns-in_err-end-clause-never g c =
     let start = c.from_slice-de.ensures in
-    on_refusal _ _ _ c.from_residual-in_err-end.ensures.1 (value_end_refused g.T.Shown.shape (Some c.args.bytes.now) _ _ _ (g.T.Shown.held c.in_ok-value.value) _ (ap (λ p. p.input.left) start)
+    on_refusal _ _ _ c.from_residual-in_err-end.ensures.1 (value_end_refused g.T.Shown.shape (Some c.args.bytes.now) _ _ _ (g.T.Shown.meaning c.in_ok-value.value) _ (ap (λ p. p.input.left) start)
     (c.in_ok-value.ensures.value (ap (λ p. p.failed) start)) c.in_err-end.ensures).1
 
 pub returns-clause-value : goal.returns-clause-value
 returns-clause-value g c =
     let start = c.from_slice-de.ensures in
-    value_answered g.T.Shown.shape _ (Some c.args.bytes.now) _ _ _ (g.T.Shown.held c.in_ok-value.value) (ap (λ p. p.input.left) start) (ap (λ p. p.input.steps) start) (c.in_ok-value.ensures.value (ap (λ p. p.failed) start)) c.in_ok-end.ensures
+    value_answered g.T.Shown.shape _ (Some c.args.bytes.now) _ _ _ (g.T.Shown.meaning c.in_ok-value.value) (ap (λ p. p.input.left) start) (ap (λ p. p.input.steps) start) (c.in_ok-value.ensures.value (ap (λ p. p.failed) start)) c.in_ok-end.ensures

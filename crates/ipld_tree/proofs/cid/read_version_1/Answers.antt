@@ -2,7 +2,7 @@ use Rattle.std.proofs.Common.{◌≡◌, ℕ, ◌^◌, ◌<◌, arith, Less, Gre
 use Rattle.std.proofs.lemmas.Cmp.{ranked}
 use Rattle.std.proofs.lemmas.Result.{err_from_is_err_and}
 use Rattle.ipld_tree.specs.Cid.{varint, IsCid}
-use Rattle.ipld_tree.specs.CidFault.{HasFields, IsFault}
+use Rattle.ipld_tree.specs.CidFault.{HasCidFields, IsFault}
 use Rattle.ipld_tree.specs.declared.cid_error.CidError.{CidError}
 use Rattle.ipld_tree.specs.declared.cid_error.CidError.TheVariants.{DigestTooLong, Truncated, TrailingBytes}
 use Rattle.ipld_tree.proofs.CidFaults.{no_field, one_field_more, varint_fault, fault_no_cid}
@@ -12,13 +12,13 @@ use Rattle.ipld_tree.proofs.cid.read_version_1.Goals as goal
 abbrev Read : List ℕ → ℕ → List ℕ → Type 0
 Read b n rest = (n < 2 ^ 64) × (b ≡ varint n ++ rest)
 
-one : {s r : List ℕ} (j : ℕ) → Read s j r → HasFields (0x01 ∷ s) (j ∷ []) r
+one : {s r : List ℕ} (j : ℕ) → Read s j r → HasCidFields (0x01 ∷ s) (j ∷ []) r
 one {s} {r} j h = one_field_more j r (no_field s) h
 
-two : {s r t : List ℕ} (j k : ℕ) → Read s j r → Read r k t → HasFields (0x01 ∷ s) (j ∷ k ∷ []) t
+two : {s r t : List ℕ} (j k : ℕ) → Read s j r → Read r k t → HasCidFields (0x01 ∷ s) (j ∷ k ∷ []) t
 two {s} {r} {t} j k h i = one_field_more k t (one j h) i
 
-three : {s r t d : List ℕ} (j k n : ℕ) → Read s j r → Read r k t → Read t n d → HasFields (0x01 ∷ s) (j ∷ k ∷ n ∷ []) d
+three : {s r t d : List ℕ} (j k n : ℕ) → Read s j r → Read r k t → Read t n d → HasCidFields (0x01 ∷ s) (j ∷ k ∷ n ∷ []) d
 three {s} {r} {t} {d} j k n h i l = one_field_more n d (two j k h i) l
 
 refused : (e : CidError) (b : List ℕ) → IsFault e b → (IsCid b → ⊥) × IsFault e b

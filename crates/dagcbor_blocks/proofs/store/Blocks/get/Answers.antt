@@ -12,7 +12,7 @@ returns-in-Ok g c =
     let found = sym c.in-Some.ensures.value in (
       c.in-Some.block.now.items,
       (block_found c.args.name.now c.args.self.now.held.entries c.in-Some.block.now found, digest_of_found c.args.name.now c.args.self.now.held.entries c.in-Some.block.now found c.args.self.now.sound),
-      subst (λ b. IsWhole g.T.Shown.shape b (g.T.Shown.held c.in-Ok.value)) c.deref.ensures.value c.in-Ok.ensures.value,
+      subst (λ b. IsWhole g.T.Shown.shape b (g.T.Shown.meaning c.in-Ok.value)) c.deref.ensures.value c.in-Ok.ensures.value,
     )
 
 pub returns-in-Err : goal.returns-in-Err

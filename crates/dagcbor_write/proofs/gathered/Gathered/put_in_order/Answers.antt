@@ -5,7 +5,7 @@ use Rattle.std.proofs.lemmas.List.Sorted.{All-permutation, IsPermutation-map, ra
 use Rattle.std.specs.List.{slice_range}
 use Rattle.dagcbor_write.specs.declared.gathered.Span.{Span}
 use Rattle.dagcbor_write.specs.Spans.{IsWithin, entry_at}
-use Rattle.dagcbor_write.proofs.Spans.{entries-sorted}
+use Rattle.dagcbor_write.proofs.Spans.{entries_sorted}
 use Rattle.dagcbor_write.proofs.gathered.Gathered.put_in_order.Goals as goal
 
 pub invariant_of-self : goal.invariant_of-self
@@ -19,4 +19,4 @@ returns-clause-order c =
     let sorted = c.sort_unstable_by.ensures.sorted _ by-bytes (always_returns_same _ _ _ (λ a r f k. search rules)) in
     let within = All-permutation (IsWithin (length bytes)) c.self.inside.spans.items spans c.sort_unstable_by.ensures.permutation c.self.invariant.0 in
     let moved = IsPermutation-map (entry_at bytes) c.self.inside.spans.items spans c.sort_unstable_by.ensures.permutation in
-    (rw (← c.self.view_is) moved, entries-sorted (length bytes) bytes spans within sorted, c.keys_differ.ensures)
+    (rw (← c.self.view_is) moved, entries_sorted (length bytes) bytes spans within sorted, c.keys_differ.ensures)

@@ -18,8 +18,8 @@ use Rattle.ipld_tree.proofs.Unique.{major, argument, payload, argument_fits}
 use Rattle.ipld_tree.proofs.Fronts.{front_head}
 use Rattle.dagcbor_items.specs.Reads.{HasFront, TakesFront}
 use Rattle.dagcbor_items.specs.FirstBytes.{BeginsFrom}
-use Rattle.dagcbor_items.specs.LeafCauses.{KindStands}
-use Rattle.dagcbor_items.specs.Kinds.{HasKind, TakesKind}
+use Rattle.dagcbor_items.specs.LeafCauses.{MajorCause}
+use Rattle.dagcbor_items.specs.Majors.{HasMajor, TakesMajor}
 use Rattle.dagcbor_items.specs.Untyped.{StartsWithMajor}
 use Rattle.dagcbor_items.proofs.Fronts.{head_of, major_at}
 use Rattle.dagcbor_items.specs.Shapes.{Shape}
@@ -29,8 +29,8 @@ pub as_value : {V : Type 0} {shape : Shape Tree V} {old new : Reading} (v w : V)
 as_value {V} {shape} {old} {new} v w e h = subst (λ x. TakesFront shape old x new) (sym e) h
 
 -- a tree of such a major type has such a head
-pub kind_of_front : {V : Type 0} {shape : Shape Tree V} {r : Reading} (low high : ℕ) (h : HasFront shape r) → low ≤ major h.tree → major h.tree ≤ high → HasKind low high r
-kind_of_front low high h least most = record {
+pub has_major : {V : Type 0} {shape : Shape Tree V} {r : Reading} (low high : ℕ) (h : HasFront shape r) → low ≤ major h.tree → major h.tree ≤ high → HasMajor low high r
+has_major low high h least most = record {
   major = major h.tree;
   argument = argument h.tree;
   rest = payload h.tree ++ h.rest;
@@ -41,10 +41,10 @@ kind_of_front low high h least most = record {
 }
 
 -- its first byte
-kind_first : {low high : ℕ} {r : Reading} → (h : HasKind low high r) → (i : ℕ) × (more : List ℕ) × (i < 28) × (head h.major h.argument ++ h.rest ≡ (32 * h.major + i) ∷ more)
+kind_first : {low high : ℕ} {r : Reading} → (h : HasMajor low high r) → (i : ℕ) × (more : List ℕ) × (i < 28) × (head h.major h.argument ++ h.rest ≡ (32 * h.major + i) ∷ more)
 kind_first h = let f = head_first h.major h.argument h.argument_fits in (f.0, f.1 ++ h.rest, f.2, ap (λ s. s ++ h.rest) f.3)
 
-kind_byte : {low high : ℕ} {r : Reading} → HasKind low high r → HasByte r
+kind_byte : {low high : ℕ} {r : Reading} → HasMajor low high r → HasByte r
 kind_byte h = let f = kind_first h in record { byte = 32 * h.major + f.0; rest = f.1; left = h.left ∙ ap Some f.3 }
 
 -- there is no byte to begin with
@@ -53,11 +53,11 @@ no_byte_begins low high (Eof n expect) b h = λ first more is. absurd (cc (is, h
 no_byte_begins low high _ b h = absurd h
 
 pub kind_byte_refused : {E : Type 0} (name : List ℕ) (low high : ℕ) (old new : Reading) (e : DecodeError E) → IsEndNamed name e → Refuses (HasByte old) ⊥ ⊥ ByteCause old e new
-    → Refuses (HasKind low high old) ⊥ ⊥ (KindStands name low high) old e new
-kind_byte_refused name low high old new e named r = passed_on ByteCause (KindStands name low high) old old new e (stays old) kind_byte (λ x. x) (λ x. x) (λ b l. (b, l, λ h. inl (byte_in_head e b h, end_named name e named, no_byte_begins low high e b h))) r
+    → Refuses (HasMajor low high old) ⊥ ⊥ (MajorCause name low high) old e new
+kind_byte_refused name low high old new e named r = passed_on ByteCause (MajorCause name low high) old old new e (stays old) kind_byte (λ x. x) (λ x. x) (λ b l. (b, l, λ h. inl (byte_in_head e b h, end_named name e named, no_byte_begins low high e b h))) r
 
 pub other_kind : (E : Type 0) (name : List ℕ) (low high : ℕ) {old mid : Reading} {first : ℕ} (kept : Name) → Names kept name → ShowsByte old first mid → (low ≤ first / 32 → first / 32 ≤ high → ⊥)
-    → Refuses {E = E} (HasKind low high old) ⊥ ⊥ (KindStands name low high) old (Mismatch kept first) mid
+    → Refuses {E = E} (HasMajor low high old) ⊥ ⊥ (MajorCause name low high) old (Mismatch kept first) mid
 other_kind E name low high {old} {mid} {first} kept named h other = (
   h.same.faults,
   λ k. let f = kind_first k in
@@ -69,13 +69,13 @@ other_kind E name low high {old} {mid} {first} kept named h other = (
 )
 
 -- the head behind the byte that was shown
-kind_head : {low high : ℕ} {old mid : Reading} {first : ℕ} → high < 8 → ShowsByte old first mid → HasKind low high old → HasHead mid
+kind_head : {low high : ℕ} {old mid : Reading} {first : ℕ} → high < 8 → ShowsByte old first mid → HasMajor low high old → HasHead mid
 kind_head few h k = record { major = k.major; argument = k.argument; rest = k.rest; major_fits = omega (arith, few, k.highest); argument_fits = k.argument_fits; left = h.kept _ k.left }
 
 pub kind_head_refused : {E : Type 0} (name : List ℕ) (low high : ℕ) {old mid : Reading} {first : ℕ} (new : Reading) (e : DecodeError E) → high < 8 → low ≤ first / 32 → first / 32 ≤ high → IsNamed name e → ShowsByte old first mid → Refuses (HasHead mid) ⊥ ⊥ HeadCause mid e new
-    → Refuses (HasKind low high old) ⊥ ⊥ (KindStands name low high) old e new
+    → Refuses (HasMajor low high old) ⊥ ⊥ (MajorCause name low high) old e new
 kind_head_refused name low high {old} {mid} {first} new e few least most named h r =
-    passed_on HeadCause (KindStands name low high) old mid new e h.same (kind_head few h) (λ x. x) (λ x. x) (λ b l. (b, h.kept b l, λ c. inl (c, named, begins b l))) r
+    passed_on HeadCause (MajorCause name low high) old mid new e h.same (kind_head few h) (λ x. x) (λ x. x) (λ b l. (b, h.kept b l, λ c. inl (c, named, begins b l))) r
   where
     begins : (b : List ℕ) → old.left ≡ Some b → BeginsFrom low high b
     begins b l = λ byte more is.
@@ -83,7 +83,7 @@ kind_head_refused name low high {old} {mid} {first} new e few least most named h
         let same : byte ≡ first = cc (is, s.1) in
         (omega (arith, same, least), omega (arith, same, most))
 
-pub kind_taken : {low high : ℕ} {old mid new : Reading} {first kind n also : ℕ} → ShowsByte old first mid → low ≤ first / 32 → first / 32 ≤ high → TakesHead mid kind n also new → TakesKind low high old (first / 32) n new
+pub kind_taken : {low high : ℕ} {old mid new : Reading} {first kind n also : ℕ} → ShowsByte old first mid → low ≤ first / 32 → first / 32 ≤ high → TakesHead mid kind n also new → TakesMajor low high old (first / 32) n new
 kind_taken {low} {high} {old} {mid} {new} {first} h least most t =
     let k = head_of (first / 32) (major_at mid first (first / 32) h.still refl) t in
     record {
@@ -94,7 +94,7 @@ kind_taken {low} {high} {old} {mid} {new} {first} h least most t =
     }
 
 -- the head behind a first byte of the major type
-pub head_kind : {kind m n first : ℕ} {old mid : Reading} → StartsWithMajor old kind → TakesHead old m n first mid → TakesKind kind kind old kind n mid
+pub head_kind : {kind m n first : ℕ} {old mid : Reading} → StartsWithMajor old kind → TakesHead old m n first mid → TakesMajor kind kind old kind n mid
 head_kind {kind} {m} {n} {first} {old} {mid} starts t =
     let k = head_of kind starts t in
     record { lowest = omega arith; highest = omega arith; argument_fits = k.fits; takes = record { taken = k.taken; same = k.same } }

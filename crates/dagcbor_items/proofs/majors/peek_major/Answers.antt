@@ -1,8 +1,8 @@
 use Rattle.std.proofs.Common.{arith}
 use Rattle.dagcbor_heads.proofs.Refusing.{refused}
-use Rattle.dagcbor_items.proofs.HeadKinds.{kind_byte_refused, other_kind}
-use Rattle.dagcbor_items.proofs.kinds.peek_kind.Goals as goal
-use Rattle.dagcbor_items.proofs.kinds.peek_kind.Goals.{then-major-low-via-then-major-low, then-major-low-via-else-major-low+then-high-major}
+use Rattle.dagcbor_items.proofs.HeadMajors.{kind_byte_refused, other_kind}
+use Rattle.dagcbor_items.proofs.majors.peek_major.Goals as goal
+use Rattle.dagcbor_items.proofs.majors.peek_major.Goals.{then-major-low-via-then-major-low, then-major-low-via-else-major-low+then-high-major}
 
 pub returns-in_err-first-clause-kind : goal.returns-in_err-first-clause-kind
 returns-in_err-first-clause-kind g c = refused _ _ _ _ c.from_residual.ensures.1 (kind_byte_refused _ c.args.low c.args.high _ _ _ c.in_err-first.ensures.named c.in_err-first.ensures.shown)

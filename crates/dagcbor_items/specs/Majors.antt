@@ -5,10 +5,10 @@ use Rattle.dagcbor_heads.specs.Reading.{Reading}
 use Rattle.dagcbor_heads.specs.Fronts.{Takes}
 use Rattle.dagcbor_heads.specs.Refusals.{Refuses}
 use Rattle.dagcbor_heads.specs.declared.error.DecodeError.{DecodeError}
-use Rattle.dagcbor_items.specs.LeafCauses.{KindStands, StringStands}
+use Rattle.dagcbor_items.specs.LeafCauses.{MajorCause, StringCause}
 
 -- a head of a major type from low to high stands at the front
-pub record HasKind (low high : ℕ) (r : Reading) : Type 0 where
+pub record HasMajor (low high : ℕ) (r : Reading) : Type 0 where
   pub major : ℕ
   pub argument : ℕ
   pub rest : List ℕ
@@ -18,17 +18,17 @@ pub record HasKind (low high : ℕ) (r : Reading) : Type 0 where
   pub left : r.left ≡ Some (head major argument ++ rest)
 
 -- such a head stood at the front, and was taken
-pub record TakesKind (low high : ℕ) (old : Reading) (major argument : ℕ) (new : Reading) : Type 0 where
+pub record TakesMajor (low high : ℕ) (old : Reading) (major argument : ℕ) (new : Reading) : Type 0 where
   pub lowest : low ≤ major
   pub highest : major ≤ high
   pub argument_fits : argument < 2 ^ 64
   pub takes : Takes old (head major argument) new
 
 -- The head is read exactly where it has one of these major types.
-abbrev pub ReadsKind : {E : Type 0} → List ℕ → (low high : ℕ) → Reading → Result (ℕ × ℕ) (DecodeError E) → Reading → Type 0
-ReadsKind name low high old result new = MatchResult result
-    (λ h. TakesKind low high old h.0 h.1 new)
-    (λ e. Refuses (HasKind low high old) ⊥ ⊥ (KindStands name low high) old e new)
+abbrev pub ReadsMajor : {E : Type 0} → List ℕ → (low high : ℕ) → Reading → Result (ℕ × ℕ) (DecodeError E) → Reading → Type 0
+ReadsMajor name low high old result new = MatchResult result
+    (λ h. TakesMajor low high old h.0 h.1 new)
+    (λ e. Refuses (HasMajor low high old) ⊥ ⊥ (MajorCause name low high) old e new)
 
 -- ---- strings of bytes
 
@@ -46,6 +46,6 @@ pub record TakesString (kind : ℕ) (old : Reading) (payload : List ℕ) (new : 
 
 -- A string is read exactly where one of the major type stands, with no want of memory where the input lends.
 abbrev pub ReadsString : {T E : Type 0} → (T → List ℕ) → List ℕ → (kind : ℕ) → Reading → Result T (DecodeError E) → Reading → Type 0
-ReadsString held name kind old result new = MatchResult result
-    (λ s. TakesString kind old (held s) new)
-    (λ e. Refuses (HasString kind old) (old.lends ≡ false) ⊥ (StringStands name kind) old e new)
+ReadsString meaning name kind old result new = MatchResult result
+    (λ s. TakesString kind old (meaning s) new)
+    (λ e. Refuses (HasString kind old) (old.lends ≡ false) ⊥ (StringCause name kind) old e new)

@@ -4,15 +4,15 @@ ghost use Rattle.std.specs.Prelude.{◌<◌, ◌≤◌, ◌/◌, IfErr, MatchRes
 ghost use Rattle.dagcbor_heads.specs.Fronts.{ShowsByte};
 ghost use Rattle.dagcbor_heads.specs.Looking.{Looks, LooksOnce};
 ghost use Rattle.dagcbor_heads.specs.Refusals.{Refuses};
-ghost use Rattle.dagcbor_items.specs.Kinds.{HasKind, ReadsKind};
-ghost use Rattle.dagcbor_items.specs.LeafCauses.{KindStands};
-ghost use Rattle.dagcbor_items.specs.Variants.{OfByte, OfKind};
+ghost use Rattle.dagcbor_items.specs.Majors.{HasMajor, ReadsMajor};
+ghost use Rattle.dagcbor_items.specs.LeafCauses.{MajorCause};
+ghost use Rattle.dagcbor_items.specs.Variants.{OfByte, OfHead};
 
 use dagcbor_heads::{DecodeError, Name, Read, peek_one, pull_head};
 
 /// The next byte, which is left, where its major type lies from `low` to `high`.
 #[tactic(auto, using(crate::proofs::Variants::end_byte))]
-pub(crate) fn peek_kind<R: Read>(
+pub(crate) fn peek_major<R: Read>(
     name: &str,
     reader: &mut R,
     low: u8,
@@ -20,7 +20,7 @@ pub(crate) fn peek_kind<R: Read>(
 ) -> Result<u8, DecodeError<R::Error>>
     ensures kind { MatchResult result
         (λ first. (low ≤ first / 32) × (first / 32 ≤ high) × ShowsByte (R.reading reader.old) first (R.reading reader.new))
-        (λ e. Refuses (HasKind low high (R.reading reader.old)) ⊥ ⊥ (KindStands name.now low high) (R.reading reader.old) e (R.reading reader.new)) }
+        (λ e. Refuses (HasMajor low high (R.reading reader.old)) ⊥ ⊥ (MajorCause name.now low high) (R.reading reader.old) e (R.reading reader.new)) }
     ensures looked { LooksOnce (R.reading reader.old) (R.reading reader.new) }
     ensures variant { IfErr result OfByte }
 {
@@ -37,18 +37,18 @@ pub(crate) fn peek_kind<R: Read>(
 
 /// The major type and the argument of the next head, which is taken, where its major type lies from `low` to `high`.
 #[tactic(auto, using(crate::proofs::Variants::named_kind, crate::proofs::Variants::byte_kind))]
-pub(crate) fn pull_kind<R: Read>(
+pub(crate) fn pull_major<R: Read>(
     name: &str,
     reader: &mut R,
     low: u8,
     high: u8,
 ) -> Result<(u8, u64), DecodeError<R::Error>>
     requires { high < 8 }
-    ensures kind { ReadsKind name.now low high (R.reading reader.old) result (R.reading reader.new) }
+    ensures kind { ReadsMajor name.now low high (R.reading reader.old) result (R.reading reader.new) }
     ensures looked { Looks 3 (R.reading reader.old) result (R.reading reader.new) }
-    ensures variant { IfErr result OfKind }
+    ensures variant { IfErr result OfHead }
 {
-    let first = peek_kind(name, reader, low, high)?;
+    let first = peek_major(name, reader, low, high)?;
     let (_, argument, _) = pull_head(name, reader)?;
     Ok((first / 32, argument))
 }

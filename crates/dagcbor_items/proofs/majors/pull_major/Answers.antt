@@ -1,7 +1,7 @@
 use Rattle.dagcbor_heads.proofs.Refusing.{refused}
-use Rattle.dagcbor_items.proofs.HeadKinds.{kind_head_refused, kind_taken}
+use Rattle.dagcbor_items.proofs.HeadMajors.{kind_head_refused, kind_taken}
 use Rattle.dagcbor_items.proofs.Looks.{peeked_taken, head_taken}
-use Rattle.dagcbor_items.proofs.kinds.pull_kind.Goals as goal
+use Rattle.dagcbor_items.proofs.majors.pull_major.Goals as goal
 
 pub returns-in_err-first-clause-kind : goal.returns-in_err-first-clause-kind
 returns-in_err-first-clause-kind g c = refused _ _ _ _ c.from_residual.ensures.1 c.in_err-first.ensures.kind

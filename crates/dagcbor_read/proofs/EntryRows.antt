@@ -18,7 +18,7 @@ use Rattle.dagcbor_items.specs.Reads.{HasFront, TakesFront, Anything}
 use Rattle.dagcbor_read.specs.Values.{ReadsValue}
 use Rattle.dagcbor_read.specs.Accessors.{AccessorState, accessor_state, Enters, BeginsItems}
 use Rattle.dagcbor_read.specs.Enums.{EnumState, BeginsHeld, IsOtherForm, ReadsFieldsHeld}
-use Rattle.dagcbor_read.specs.declared.accessor.Accessor.{Accessor}
+use Rattle.dagcbor_read.specs.declared.access.accessor.Accessor.{Accessor}
 use Rattle.dagcbor_read.specs.Collections.{view_entries, view_fields, need_entries, need_fields, HasFields, TakesFields, ReadsEntriesLeft, fields_of, value_of, FieldShape}
 use Rattle.dagcbor_items.specs.Entries.{AllFollow}
 use Rattle.dagcbor_items.proofs.Maps.{map_closed}

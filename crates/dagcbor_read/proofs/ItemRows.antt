@@ -13,7 +13,7 @@ use Rattle.dagcbor_read.specs.Calls.{Progress, Call}
 use Rattle.dagcbor_items.specs.Reads.{HasFront, TakesFront, Anything}
 use Rattle.dagcbor_read.specs.Values.{ReadsValue}
 use Rattle.dagcbor_read.specs.Accessors.{AccessorState, accessor_state, Enters, BeginsItems}
-use Rattle.dagcbor_read.specs.declared.accessor.Accessor.{Accessor}
+use Rattle.dagcbor_read.specs.declared.access.accessor.Accessor.{Accessor}
 use Rattle.dagcbor_read.specs.Collections.{view_list, need_list, view_none, HasRow, TakesRow, ReadsRest, list_of, all_of, no_more, first_then}
 use Rattle.dagcbor_read.proofs.Answered.{answered}
 use Rattle.dagcbor_read.proofs.Passing.{SameReader, carried}

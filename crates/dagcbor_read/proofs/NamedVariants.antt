@@ -22,7 +22,7 @@ use Rattle.dagcbor_read.specs.Calls.{Progress, Call}
 use Rattle.dagcbor_items.specs.Reads.{HasFront, TakesFront, Anything}
 use Rattle.dagcbor_read.specs.Values.{ReadsValue}
 use Rattle.dagcbor_read.specs.Enums.{EnumState, enum_state, TakesForm, HasStepEnum, StepEnumCause, SpendsEnum, ReadsName, IsOtherForm, EndsUnit, ReadsHeld, ReadsFieldsHeld}
-use Rattle.dagcbor_read.specs.declared.enum_accessor.EnumAccessor.{EnumAccessor}
+use Rattle.dagcbor_read.specs.declared.access.enum_accessor.EnumAccessor.{EnumAccessor}
 use Rattle.dagcbor_read.proofs.Answered.{answered, call_refused}
 use Rattle.dagcbor_read.proofs.FieldPlaces.{takes_as, front_as}
 use Rattle.dagcbor_read.proofs.Finishing.{finished, unfinished, not_read}

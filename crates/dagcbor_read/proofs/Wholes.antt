@@ -154,23 +154,23 @@ module _ {V : Type 0} (shape : Shape Tree V) where
   module _ {T E : Type 0} (meaning : T → V) (left after : Option (List ℕ)) (start mid : Progress) (r : Result T (DecodeError E))
       (sound : start.failed ≡ false) (at : start.input.left ≡ left) (s : start.input.steps ≡ 256) (o : shape.borrows ≡ false) (h : ReadsValue meaning shape start r mid)
     where
-    pub first_read : (Stays start.input mid.input → (b : List ℕ) → mid.input.left ≡ Some b → after ≡ Some b) → IfOk r (λ v. IfSome left (λ b. TakesFirst shape b (meaning v) after))
-    first_read f = by r (h sound)
-      where
-        by : (r : Result T (DecodeError E)) → MatchResult r (λ v. (mid.failed ≡ false) × TakesFront shape start.input (meaning v) mid.input) (λ e. Refuses (HasFront shape start.input) ⊤ (shape.borrows ≡ true) Anything start.input e mid.input)
-            → IfOk r (λ v. IfSome left (λ b. TakesFirst shape b (meaning v) after))
-        by (Ok v) k = if_known left _ (λ b l.
-            let taken = k.1.taken b (at ∙ l) in
-            (taken.1, (taken.0, taken.2, taken.3, omega (arith, taken.4, s)), f k.1.same taken.1 taken.5))
-        by (Err e) k = tt
+      pub first_read : (Stays start.input mid.input → (b : List ℕ) → mid.input.left ≡ Some b → after ≡ Some b) → IfOk r (λ v. IfSome left (λ b. TakesFirst shape b (meaning v) after))
+      first_read f = by r (h sound)
+        where
+          by : (r : Result T (DecodeError E)) → MatchResult r (λ v. (mid.failed ≡ false) × TakesFront shape start.input (meaning v) mid.input) (λ e. Refuses (HasFront shape start.input) ⊤ (shape.borrows ≡ true) Anything start.input e mid.input)
+              → IfOk r (λ v. IfSome left (λ b. TakesFirst shape b (meaning v) after))
+          by (Ok v) k = if_known left _ (λ b l.
+              let taken = k.1.taken b (at ∙ l) in
+              (taken.1, (taken.0, taken.2, taken.3, omega (arith, taken.4, s)), f k.1.same taken.1 taken.5))
+          by (Err e) k = tt
 
-    pub first_not_read : IfErr r (NotFirst left)
-    first_not_read = by r (h sound)
-      where
-        by : (r : Result T (DecodeError E)) → MatchResult r (λ v. (mid.failed ≡ false) × TakesFront shape start.input (meaning v) mid.input) (λ e. Refuses (HasFront shape start.input) ⊤ (shape.borrows ≡ true) Anything start.input e mid.input)
-            → IfErr r (NotFirst left)
-        by (Ok v) k = tt
-        by (Err e) k = first_refused left start.input mid.input e at s o k
+      pub first_not_read : IfErr r (NotFirst left)
+      first_not_read = by r (h sound)
+        where
+          by : (r : Result T (DecodeError E)) → MatchResult r (λ v. (mid.failed ≡ false) × TakesFront shape start.input (meaning v) mid.input) (λ e. Refuses (HasFront shape start.input) ⊤ (shape.borrows ≡ true) Anything start.input e mid.input)
+              → IfErr r (NotFirst left)
+          by (Ok v) k = tt
+          by (Err e) k = first_refused left start.input mid.input e at s o k
 
   -- why a whole input is not read
   abbrev NotWhole : {E : Type 0} → Option (List ℕ) → DecodeError E → Type 0

@@ -20,7 +20,7 @@ use Rattle.dagcbor_items.specs.ItemCauses.{KeyCause}
 use Rattle.dagcbor_items.specs.Entries.{HasKey}
 use Rattle.dagcbor_items.specs.Variants.{OfHead}
 use Rattle.dagcbor_items.specs.Reads.{HasFront, TakesFront, NoStepIfDeep, Anything}
-use Rattle.dagcbor_read.specs.declared.accessor.Accessor.{Accessor}
+use Rattle.dagcbor_read.specs.declared.access.accessor.Accessor.{Accessor}
 use Rattle.dagcbor_items.specs.Shapes.{Shape}
 
 -- a list or map that was begun

@@ -17,8 +17,8 @@ use Rattle.dagcbor_read.specs.Calls.{Progress}
 use Rattle.dagcbor_items.specs.Variants.{OfByte}
 use Rattle.dagcbor_items.specs.Reads.{Reads, HasFront, TakesFront, NoStepIfDeep, Anything}
 use Rattle.dagcbor_read.specs.Accessors.{BeginsItems}
-use Rattle.dagcbor_read.specs.declared.accessor.Accessor.{Accessor}
-use Rattle.dagcbor_read.specs.declared.enum_accessor.EnumAccessor.{EnumAccessor}
+use Rattle.dagcbor_read.specs.declared.access.accessor.Accessor.{Accessor}
+use Rattle.dagcbor_read.specs.declared.access.enum_accessor.EnumAccessor.{EnumAccessor}
 
 -- an enum that was begun
 pub record EnumState : Type 0 where

@@ -1,18 +1,37 @@
 //! The reader's state between calls.
 
-ghost use Rattle.std.specs.Prelude.{◌≡◌, [], false, true, MatchResult, Some, IfErr};
+ghost use Rattle.std.specs.Prelude.{◌≡◌, [], false, true, MatchResult, Some, IfErr, ◌+◌, ◌≤◌, ◌^◌, IfOk, codes, pos, negsuc, ◌≤ℤ◌, ◌↔◌, option_map};
 ghost use Rattle.dagcbor_heads.specs.Inputs.{not_lending};
 ghost use Rattle.dagcbor_heads.specs.declared.error.DecodeError.TheVariants.{Failed};
 ghost use Rattle.dagcbor_items.specs.Looks.{LooksAtAny};
 ghost use Rattle.dagcbor_read.specs.Calls.{progress, Call, Ends, Over};
 ghost use Rattle.dagcbor_items.specs.Untyped.{ReadsItem};
 ghost use Rattle.dagcbor_items.specs.Links.{ReadsLink};
-ghost use Rattle.dagcbor_items.specs.Variants.{OfItem, OfLink};
+ghost use Rattle.dagcbor_items.specs.Variants.{OfItem, OfLink, OfHead, OfNumber, OfByte, OfChar, OfText, OfKey};
+ghost use Rattle.dagcbor_items.specs.LeafReads.{ReadsUnsigned, ReadsSigned, ReadsU128, ReadsI128, ReadsNull, ReadsBool, ReadsStr, ReadsOwnedText, ReadsChar, ReadsByteSlice, ReadsOwnedBytes, ReadsIgnored};
+ghost use Rattle.std.specs.Cow.{IsBorrowedSlice, IsBorrowedStr, cow_str_bytes};
+ghost use Rattle.ipld_tree.specs.Tree.{text};
+ghost use Rattle.dagcbor_read.specs.Accessors.{ReadsHead, BeginsItems, ReadsKeyAfter, OfBegin};
+ghost use Rattle.dagcbor_read.specs.Parts.{ReadsPart, ReadsOption, EntersOption};
+ghost use Rattle.dagcbor_read.specs.Enums.{SpendsEnum, OfForm};
+ghost use Rattle.dagcbor_read.specs.AllLinks.{ReadsLinks};
+ghost use Rattle.dagcbor_read.specs.Streams.{streaming, ReadsNext};
 
-use dagcbor_heads::{DecodeError, Input, Read, SliceReader, is_at_end};
-use dagcbor_items::{pull_link, read_any};
+use crate::access::accessor::{Accessor, copied};
+use crate::access::enum_accessor::EnumAccessor;
+use crate::deserialize::Deserialize;
+use crate::stream::StreamDeserializer;
+use dagcbor_heads::{
+    DecodeError, Input, Name, Read, SliceReader, is_at_end, peek_one, pull_head, pull_one,
+};
+use dagcbor_items::{
+    gather_links, pull_bool, pull_char, pull_i128, pull_link, pull_null, pull_owned_bytes,
+    pull_owned_text, pull_signed, pull_slice, pull_str, pull_u128, pull_unsigned, read_any,
+    read_key, skip_any,
+};
 use ipld_tree::{Cid, Ipld};
 use std::alloc::Global;
+use std::borrow::{CowSlice, CowStr};
 
 /// Reads values from a slice, which lends its bytes, or from another reader. After a refusal, other than `TrailingData`,
 /// each later reading call answers `Failed`.
@@ -105,4 +124,466 @@ impl<'de, R: Read> Deserializer<'de, R> {
             Err(DecodeError::TrailingData)
         }
     }
+
+    fn unsigned(&mut self, name: &str, greatest: u64) -> Result<u64, DecodeError<R::Error>>
+        ensures number { Over R.reading (Call (ReadsUnsigned name.now (greatest + 1))) self.old result self.new }
+        ensures most { IfOk result (λ n. n ≤ greatest) }
+        ensures variant { IfErr result OfNumber }
+    {
+        self.begin()?;
+        let number = pull_unsigned(name, &mut self.input, greatest)?;
+        self.failed = false;
+        Ok(number)
+    }
+
+    fn signed(&mut self, name: &str, greatest: u64) -> Result<i128, DecodeError<R::Error>>
+        ensures number { Over R.reading (Call (ReadsSigned name.now (greatest + 1))) self.old result self.new }
+        ensures least { IfOk result (λ n. negsuc greatest ≤ℤ n) }
+        ensures most { IfOk result (λ n. n ≤ℤ pos greatest) }
+        ensures variant { IfErr result OfNumber }
+    {
+        self.begin()?;
+        let number = pull_signed(name, &mut self.input, greatest)?;
+        self.failed = false;
+        Ok(number)
+    }
+
+    /// Reads a number from 0 to 255.
+    pub fn deserialize_u8(&mut self) -> Result<u8, DecodeError<R::Error>>
+        ensures number { Over R.reading (Call (ReadsUnsigned (codes "u8") (2 ^ 8))) self.old result self.new }
+        ensures variant { IfErr result OfNumber }
+    {
+        Ok(self.unsigned("u8", 0xff)? as u8)
+    }
+
+    /// Reads a number from 0 to 65,535.
+    pub fn deserialize_u16(&mut self) -> Result<u16, DecodeError<R::Error>>
+        ensures number { Over R.reading (Call (ReadsUnsigned (codes "u16") (2 ^ 16))) self.old result self.new }
+        ensures variant { IfErr result OfNumber }
+    {
+        Ok(self.unsigned("u16", 0xffff)? as u16)
+    }
+
+    /// Reads a number from 0 to 2^32 - 1.
+    pub fn deserialize_u32(&mut self) -> Result<u32, DecodeError<R::Error>>
+        ensures number { Over R.reading (Call (ReadsUnsigned (codes "u32") (2 ^ 32))) self.old result self.new }
+        ensures variant { IfErr result OfNumber }
+    {
+        Ok(self.unsigned("u32", 0xffff_ffff)? as u32)
+    }
+
+    /// Reads a number from 0 to 2^64 - 1.
+    pub fn deserialize_u64(&mut self) -> Result<u64, DecodeError<R::Error>>
+        ensures number { Over R.reading (Call (ReadsUnsigned (codes "u64") (2 ^ 64))) self.old result self.new }
+        ensures variant { IfErr result OfNumber }
+    {
+        self.unsigned("u64", u64::MAX)
+    }
+
+    /// Reads a number from -128 to 127.
+    pub fn deserialize_i8(&mut self) -> Result<i8, DecodeError<R::Error>>
+        ensures number { Over R.reading (Call (ReadsSigned (codes "i8") (2 ^ 7))) self.old result self.new }
+        ensures variant { IfErr result OfNumber }
+    {
+        Ok(self.signed("i8", 0x7f)? as i8)
+    }
+
+    /// Reads a number from -32,768 to 32,767.
+    pub fn deserialize_i16(&mut self) -> Result<i16, DecodeError<R::Error>>
+        ensures number { Over R.reading (Call (ReadsSigned (codes "i16") (2 ^ 15))) self.old result self.new }
+        ensures variant { IfErr result OfNumber }
+    {
+        Ok(self.signed("i16", 0x7fff)? as i16)
+    }
+
+    /// Reads a number from -2^31 to 2^31 - 1.
+    pub fn deserialize_i32(&mut self) -> Result<i32, DecodeError<R::Error>>
+        ensures number { Over R.reading (Call (ReadsSigned (codes "i32") (2 ^ 31))) self.old result self.new }
+        ensures variant { IfErr result OfNumber }
+    {
+        Ok(self.signed("i32", 0x7fff_ffff)? as i32)
+    }
+
+    /// Reads a number from -2^63 to 2^63 - 1.
+    pub fn deserialize_i64(&mut self) -> Result<i64, DecodeError<R::Error>>
+        ensures number { Over R.reading (Call (ReadsSigned (codes "i64") (2 ^ 63))) self.old result self.new }
+        ensures variant { IfErr result OfNumber }
+    {
+        Ok(self.signed("i64", 0x7fff_ffff_ffff_ffff)? as i64)
+    }
+
+    /// Reads any number from 0 on, but none in a tag.
+    pub fn deserialize_u128(&mut self) -> Result<u128, DecodeError<R::Error>>
+        ensures number { Over R.reading (Call ReadsU128) self.old result self.new }
+        ensures variant { IfErr result OfNumber }
+    {
+        self.begin()?;
+        let number = pull_u128(&mut self.input)?;
+        self.failed = false;
+        Ok(number)
+    }
+
+    /// Reads any number, but none in a tag.
+    pub fn deserialize_i128(&mut self) -> Result<i128, DecodeError<R::Error>>
+        ensures number { Over R.reading (Call ReadsI128) self.old result self.new }
+        ensures variant { IfErr result OfHead }
+    {
+        self.begin()?;
+        let number = pull_i128(&mut self.input)?;
+        self.failed = false;
+        Ok(number)
+    }
+
+    /// Reads a null.
+    pub fn deserialize_unit(&mut self) -> Result<(), DecodeError<R::Error>>
+        ensures null { Over R.reading (Call ReadsNull) self.old result self.new }
+        ensures variant { IfErr result OfByte }
+    {
+        self.begin()?;
+        pull_null(&mut self.input)?;
+        self.failed = false;
+        Ok(())
+    }
+
+    /// As `deserialize_unit`, whatever the name.
+    pub fn deserialize_unit_struct(&mut self, _name: &str) -> Result<(), DecodeError<R::Error>>
+        ensures null { Over R.reading (Call ReadsNull) self.old result self.new }
+        ensures variant { IfErr result OfByte }
+    {
+        self.deserialize_unit()
+    }
+
+    /// Reads false or true.
+    pub fn deserialize_bool(&mut self) -> Result<bool, DecodeError<R::Error>>
+        ensures value { Over R.reading (Call ReadsBool) self.old result self.new }
+        ensures variant { IfErr result OfByte }
+    {
+        self.begin()?;
+        let value = pull_bool(&mut self.input)?;
+        self.failed = false;
+        Ok(value)
+    }
+
+    /// Reads a text, lent where the input lends.
+    pub fn deserialize_str(&mut self, alloc: Global) -> Result<CowStr<'de>, DecodeError<R::Error>>
+        ensures text { Over R.reading (Call (ReadsStr (codes "string"))) self.old result self.new }
+        ensures lent { IfOk result (λ s. IsBorrowedStr s ↔ ((progress R.reading self.old).input.lends ≡ true)) }
+        ensures variant { IfErr result OfText }
+    {
+        self.begin()?;
+        let text = pull_str(alloc, "string", &mut self.input)?;
+        self.failed = false;
+        Ok(text)
+    }
+
+    /// As `deserialize_str`.
+    pub fn deserialize_identifier(
+        &mut self,
+        alloc: Global,
+    ) -> Result<CowStr<'de>, DecodeError<R::Error>>
+        ensures text { Over R.reading (Call (ReadsStr (codes "string"))) self.old result self.new }
+        ensures lent { IfOk result (λ s. IsBorrowedStr s ↔ ((progress R.reading self.old).input.lends ≡ true)) }
+        ensures variant { IfErr result OfText }
+    {
+        self.deserialize_str(alloc)
+    }
+
+    /// Reads a byte string, lent where the input lends.
+    pub fn deserialize_bytes(
+        &mut self,
+        alloc: Global,
+    ) -> Result<CowSlice<'de, u8>, DecodeError<R::Error>>
+        ensures bytes { Over R.reading (Call ReadsByteSlice) self.old result self.new }
+        ensures lent { IfOk result (λ c. IsBorrowedSlice c ↔ ((progress R.reading self.old).input.lends ≡ true)) }
+        ensures variant { IfErr result OfHead }
+    {
+        self.begin()?;
+        let bytes = pull_slice(alloc, &mut self.input)?;
+        self.failed = false;
+        Ok(bytes)
+    }
+
+    /// Reads a text.
+    pub fn deserialize_string(&mut self, alloc: Global) -> Result<String, DecodeError<R::Error>>
+        ensures text { Over R.reading (Call ReadsOwnedText) self.old result self.new }
+        ensures variant { IfErr result OfText }
+    {
+        self.begin()?;
+        let text = pull_owned_text(alloc, &mut self.input)?;
+        self.failed = false;
+        Ok(text)
+    }
+
+    /// Reads a byte string.
+    pub fn deserialize_byte_buf(&mut self, alloc: Global) -> Result<Vec<u8>, DecodeError<R::Error>>
+        ensures bytes { Over R.reading (Call ReadsOwnedBytes) self.old result self.new }
+        ensures variant { IfErr result OfHead }
+    {
+        self.begin()?;
+        let bytes = pull_owned_bytes(alloc, &mut self.input)?;
+        self.failed = false;
+        Ok(bytes)
+    }
+
+    /// Reads a text of one character.
+    pub fn deserialize_char(&mut self, alloc: Global) -> Result<char, DecodeError<R::Error>>
+        ensures character { Over R.reading (Call ReadsChar) self.old result self.new }
+        ensures variant { IfErr result OfChar }
+    {
+        self.begin()?;
+        let c = pull_char(alloc, &mut self.input)?;
+        self.failed = false;
+        Ok(c)
+    }
+
+    /// Nothing was refused so far.
+    pub(crate) fn check(&self) -> Result<(), DecodeError<R::Error>>
+        ensures { MatchResult result
+            (λ _. (progress R.reading self.now).failed ≡ false)
+            (λ e. ((progress R.reading self.now).failed ≡ true) × (e ≡ Failed)) }
+    {
+        if self.failed {
+            return Err(DecodeError::Failed);
+        }
+        Ok(())
+    }
+
+    /// A key behind the one before it, twice.
+    pub(crate) fn read_key_after(
+        &mut self,
+        alloc: Global,
+        last: &Option<CowStr<'de>>,
+    ) -> Result<(CowStr<'de>, CowStr<'de>), DecodeError<R::Error>>
+        ensures key { Over R.reading (Call (ReadsKeyAfter (option_map cow_str_bytes last.now))) self.old result self.new }
+        ensures lent { IfOk result (λ p. IsBorrowedStr p.0 ↔ ((progress R.reading self.old).input.lends ≡ true)) }
+        ensures variant { IfErr result OfKey }
+    {
+        self.begin()?;
+        let key = read_key(alloc, &mut self.input, last)?;
+        let Ok(copy) = copied(alloc, &key) else {
+            return Err(DecodeError::OutOfMemory);
+        };
+        self.failed = false;
+        Ok((key, copy))
+    }
+
+    /// Begins a list (4) or map (5), whose end gives so many more steps back than its own.
+    pub(crate) fn begin_items(
+        &mut self,
+        name: &str,
+        major: u8,
+        more: u8,
+    ) -> Result<Accessor<'de>, DecodeError<R::Error>>
+        ensures accessor_state { Over R.reading (Call (BeginsItems major name.now (more + 1))) self.old result self.new }
+        ensures variant { IfErr result OfBegin }
+    {
+        self.begin()?;
+        let count = enter(name, &mut self.input, major)?;
+        self.failed = false;
+        let steps = usize::from(more) + 1;
+        Ok(Accessor::new(Name::new(name), major == 5, count as usize, steps))
+    }
+
+    /// Begins a list. Takes no memory.
+    pub fn deserialize_seq(&mut self) -> Result<Accessor<'de>, DecodeError<R::Error>>
+        ensures accessor_state { Over R.reading (Call (BeginsItems 4 (codes "array") 1)) self.old result self.new }
+        ensures variant { IfErr result OfBegin }
+    {
+        self.begin_items("array", 4, 0)
+    }
+
+    /// Begins a list for a tuple, whose length is not looked at. Takes no memory.
+    pub fn deserialize_tuple(&mut self, _len: usize) -> Result<Accessor<'de>, DecodeError<R::Error>>
+        ensures accessor_state { Over R.reading (Call (BeginsItems 4 (codes "tuple") 1)) self.old result self.new }
+        ensures variant { IfErr result OfBegin }
+    {
+        self.begin_items("tuple", 4, 0)
+    }
+
+    /// Begins a list for a tuple struct, whose length is not looked at. Takes no memory.
+    pub fn deserialize_tuple_struct(
+        &mut self,
+        name: &str,
+        _len: usize,
+    ) -> Result<Accessor<'de>, DecodeError<R::Error>>
+        ensures accessor_state { Over R.reading (Call (BeginsItems 4 name.now 1)) self.old result self.new }
+        ensures variant { IfErr result OfBegin }
+    {
+        self.begin_items(name, 4, 0)
+    }
+
+    /// Begins a map. Takes no memory.
+    pub fn deserialize_map(&mut self) -> Result<Accessor<'de>, DecodeError<R::Error>>
+        ensures accessor_state { Over R.reading (Call (BeginsItems 5 (codes "map") 1)) self.old result self.new }
+        ensures variant { IfErr result OfBegin }
+    {
+        self.begin_items("map", 5, 0)
+    }
+
+    /// Begins a map for a struct, whose fields' names are not looked at. Takes no memory.
+    pub fn deserialize_struct(
+        &mut self,
+        name: &str,
+        _fields: &[&str],
+    ) -> Result<Accessor<'de>, DecodeError<R::Error>>
+        ensures accessor_state { Over R.reading (Call (BeginsItems 5 name.now 1)) self.old result self.new }
+        ensures variant { IfErr result OfBegin }
+    {
+        self.begin_items(name, 5, 0)
+    }
+
+    fn enter_option(&mut self) -> Result<bool, DecodeError<R::Error>>
+        ensures { Over R.reading (Call EntersOption) self.old result self.new }
+    {
+        self.begin()?;
+        let is_null = enter_option(&mut self.input)?;
+        self.failed = false;
+        Ok(is_null)
+    }
+
+    /// Reads a value as its type does, and remembers a refusal of the type's own.
+    pub(crate) fn read_part<T: Deserialize<'de>>(
+        &mut self,
+        alloc: Global,
+    ) -> Result<T, DecodeError<R::Error>>
+        ensures { Over R.reading (Call (ReadsPart T.meaning T.shape)) self.old result self.new }
+    {
+        if self.failed {
+            return Err(DecodeError::Failed);
+        }
+        match T::deserialize(alloc, self) {
+            Ok(value) => Ok(value),
+            Err(e) => {
+                self.failed = true;
+                Err(e)
+            }
+        }
+    }
+
+    /// Reads the one part of a struct, whatever its name.
+    pub fn deserialize_newtype_struct<T: Deserialize<'de>>(
+        &mut self,
+        alloc: Global,
+        _name: &str,
+    ) -> Result<T, DecodeError<R::Error>>
+        ensures { Over R.reading (Call (ReadsPart T.meaning T.shape)) self.old result self.new }
+    {
+        self.read_part(alloc)
+    }
+
+    /// A null is `None`. Another value takes a step.
+    pub fn deserialize_option<T: Deserialize<'de>>(
+        &mut self,
+        alloc: Global,
+    ) -> Result<Option<T>, DecodeError<R::Error>>
+        ensures { Over R.reading (Call (ReadsOption T.meaning T.shape)) self.old result self.new }
+    {
+        if self.enter_option()? {
+            return Ok(None);
+        }
+        let value = self.read_part(alloc)?;
+        self.input.step_out();
+        Ok(Some(value))
+    }
+
+    /// Begins an enum, for a step. The names of its variants are not looked at. Takes no memory.
+    pub fn deserialize_enum(
+        &mut self,
+        name: &str,
+        _variants: &[&str],
+    ) -> Result<EnumAccessor, DecodeError<R::Error>>
+        ensures form { Over R.reading (Call (SpendsEnum name.now)) self.old result self.new }
+        ensures variant { IfErr result OfForm }
+    {
+        self.begin()?;
+        let form = spend_form(name, &mut self.input)?;
+        self.failed = false;
+        Ok(form)
+    }
+
+    /// Skips an item of any kind, with what `deserialize_any` refuses. Over a slice it takes no memory.
+    pub fn deserialize_ignored_any(&mut self, alloc: Global) -> Result<(), DecodeError<R::Error>>
+        ensures item { Over R.reading (Call ReadsIgnored) self.old result self.new }
+        ensures looked { LooksAtAny (progress R.reading self.old).input result (progress R.reading self.new).input }
+        ensures variant { IfErr result OfItem }
+    {
+        self.begin()?;
+        skip_any(alloc, &mut self.input)?;
+        self.failed = false;
+        Ok(())
+    }
+
+    /// Reads an item of any kind, with what `deserialize_any` refuses, and keeps its links alone: left to right, repeats kept.
+    pub fn deserialize_links(&mut self, alloc: Global) -> Result<Vec<Cid>, DecodeError<R::Error>>
+        ensures links { Over R.reading (Call ReadsLinks) self.old result self.new }
+        ensures looked { LooksAtAny (progress R.reading self.old).input result (progress R.reading self.new).input }
+    {
+        self.begin()?;
+        let links = gather_links(alloc, &mut self.input)?;
+        self.failed = false;
+        Ok(links)
+    }
+
+    /// The values that are left in the input.
+    pub fn into_iter<T: Deserialize<'de>>(self, alloc: Global) -> StreamDeserializer<'de, R, T>
+        ensures { streaming R.reading result ≡ record { source = progress R.reading self.entry; done = false } }
+    {
+        StreamDeserializer::new(alloc, self)
+    }
+
+    /// Reads a value, where the input does not end here. No byte is taken to see this.
+    pub(crate) fn next_value<T: Deserialize<'de>>(
+        &mut self,
+        alloc: Global,
+    ) -> Result<Option<T>, DecodeError<R::Error>>
+        ensures { Over R.reading (Call (ReadsNext T.meaning T.shape)) self.old result self.new }
+    {
+        self.begin()?;
+        if is_at_end(&mut self.input)? {
+            self.failed = false;
+            return Ok(None);
+        }
+        self.failed = false;
+        let value = self.read_part(alloc)?;
+        Ok(Some(value))
+    }
+}
+
+/// Spends a step, and takes the head of a list or map.
+#[tactic(auto, using(crate::proofs::Entering::named_begin, crate::proofs::Entering::end_begin))]
+fn enter<R: Read>(name: &str, reader: &mut R, major: u8) -> Result<u64, DecodeError<R::Error>>
+    ensures head { ReadsHead major name.now (R.reading reader.old) result (R.reading reader.new) }
+    ensures variant { IfErr result OfBegin }
+{
+    if !reader.step_in() {
+        return Err(DecodeError::DepthOverflow {
+            name: Name::new(name),
+        });
+    }
+    let first = peek_one(name, reader)?;
+    if first / 32 != major {
+        return Err(DecodeError::Mismatch {
+            name: Name::new(name),
+            found: first,
+        });
+    }
+    let (_, count, _) = pull_head(name, reader)?;
+    Ok(count)
+}
+
+/// Whether a null stood there, which is taken. Else a step is spent.
+fn enter_option<R: Read>(reader: &mut R) -> Result<bool, DecodeError<R::Error>>
+    ensures { EntersOption (R.reading reader.old) result (R.reading reader.new) }
+{
+    let first = peek_one("option", reader)?;
+    if first == 0xf6 {
+        pull_one("option", reader)?;
+        return Ok(true);
+    }
+    if !reader.step_in() {
+        return Err(DecodeError::DepthOverflow {
+            name: Name::new("option"),
+        });
+    }
+    Ok(false)
 }

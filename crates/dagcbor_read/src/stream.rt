@@ -1,12 +1,12 @@
 //! Streams: values one behind the other, up to the end of the input.
 
 ghost use Rattle.std.specs.Prelude.{◌≡◌, [], false};
-ghost use Rattle.dagcbor_read.specs.Calls.{progress, Call, Over};
-ghost use Rattle.dagcbor_read.specs.Streams.{streaming, items_left, ReadsNext, GivesNext};
+ghost use Rattle.dagcbor_read.specs.Calls.{progress};
+ghost use Rattle.dagcbor_read.specs.Streams.{streaming, items_left, GivesNext};
 
 use crate::deserialize::{Deserialize, DeserializeOwned};
 use crate::deserializer::Deserializer;
-use dagcbor_heads::{DecodeError, IoReader, Read, is_at_end};
+use dagcbor_heads::{DecodeError, IoReader, Read};
 use std::alloc::Global;
 use std::io::BufRead;
 use std::marker::PhantomData;
@@ -31,32 +31,6 @@ impl<'de, R: Read, T: Deserialize<'de>> StreamDeserializer<'de, R, T> {
             done: false,
             output: PhantomData,
         }
-    }
-}
-
-impl<'de, R: Read> Deserializer<'de, R> {
-    /// The values that are left in the input.
-    pub fn into_iter<T: Deserialize<'de>>(self, alloc: Global) -> StreamDeserializer<'de, R, T>
-        ensures { streaming R.reading result ≡ record { source = progress R.reading self.entry; done = false } }
-    {
-        StreamDeserializer::new(alloc, self)
-    }
-
-    /// Reads a value, where the input does not end here. No byte is taken to see this.
-    pub(crate) fn next_value<T: Deserialize<'de>>(
-        &mut self,
-        alloc: Global,
-    ) -> Result<Option<T>, DecodeError<R::Error>>
-        ensures { Over R.reading (Call (ReadsNext T.meaning T.shape)) self.old result self.new }
-    {
-        self.begin()?;
-        if is_at_end(&mut self.input)? {
-            self.failed = false;
-            return Ok(None);
-        }
-        self.failed = false;
-        let value = self.read_part(alloc)?;
-        Ok(Some(value))
     }
 }
 

@@ -13,7 +13,7 @@ use Rattle.std.specs.Ordering.{is_lt}
 use Rattle.ipld_tree.specs.Key.{bytes_cmp}
 use Rattle.ipld_tree.specs.Tree.{Tree}
 use Rattle.ipld_tree.specs.Spelled.{spelled_tree}
-use Rattle.dagcbor_write.specs.declared.gathered.Span.{Span}
+use Rattle.dagcbor_write.specs.declared.collect.gathered.Span.{Span}
 use Rattle.dagcbor_write.specs.Gathering.{AppendsTo, Grows}
 use Rattle.dagcbor_write.specs.Maps.{Texts, Joins, JoinsValue}
 use Rattle.dagcbor_write.specs.Order.{goes_before}

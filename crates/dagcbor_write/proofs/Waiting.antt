@@ -11,8 +11,8 @@ use Rattle.dagcbor_heads.proofs.Writing.{joined, joined_assoc, append_Some, Some
 use Rattle.dagcbor_write.specs.Gathering.{AppendsTo}
 use Rattle.dagcbor_write.specs.Each.{spelled_each}
 use Rattle.std.proofs.lemmas.List.{length-map}
-use Rattle.dagcbor_write.specs.declared.collect_seq.Items.{Items}
-use Rattle.dagcbor_write.specs.declared.collect_seq.Items.TheVariants.{Announced, Waits}
+use Rattle.dagcbor_write.specs.declared.collect.collect_seq.Items.{Items}
+use Rattle.dagcbor_write.specs.declared.collect.collect_seq.Items.TheVariants.{Announced, Waits}
 use Rattle.ipld_tree.specs.Tree.{Tree, list_tree}
 use Rattle.ipld_tree.specs.Spelled.{spelled_tree, spelled_head}
 use Rattle.dagcbor_write.specs.Lists.{IsFresh, HasRoom, IsComplete, TakesElement, waiting_text}

@@ -4,9 +4,9 @@ use Rattle.std.specs.Borrow.{RestsIfErr, Fml, RattleType, MutBor}
 use Rattle.dagcbor_heads.specs.declared.error.EncodeError.{EncodeError}
 use Rattle.dagcbor_heads.specs.Written.{Written, Stops}
 use Rattle.dagcbor_write.specs.contracts.serializer.Serializer.{the_row}
-use Rattle.dagcbor_write.specs.declared.bounded.BoundedCollect.{BoundedCollect}
-use Rattle.dagcbor_write.specs.declared.collect_map.CollectMap.{CollectMap}
-use Rattle.dagcbor_write.specs.declared.collect_seq.CollectSeq.{CollectSeq}
+use Rattle.dagcbor_write.specs.declared.collect.bounded.BoundedCollect.{BoundedCollect}
+use Rattle.dagcbor_write.specs.declared.collect.collect_map.CollectMap.{CollectMap}
+use Rattle.dagcbor_write.specs.declared.collect.collect_seq.CollectSeq.{CollectSeq}
 
 -- the serializer that a collector holds
 abbrev pub map_lent : {W G : Type 0} → CollectMap W G → MutBor W

@@ -5,8 +5,8 @@ use Rattle.dagcbor_heads.specs.declared.error.EncodeError.{EncodeError}
 use Rattle.dagcbor_heads.specs.Written.{Written, Writes}
 use Rattle.ipld_tree.specs.Tree.{Tree}
 use Rattle.ipld_tree.specs.Spelled.{spelled_tree, spelled_head}
-use Rattle.dagcbor_write.specs.declared.collect_seq.Items.{Items}
-use Rattle.dagcbor_write.specs.declared.collect_seq.Items.TheVariants.{Announced, Waits}
+use Rattle.dagcbor_write.specs.declared.collect.collect_seq.Items.{Items}
+use Rattle.dagcbor_write.specs.declared.collect.collect_seq.Items.TheVariants.{Announced, Waits}
 use Rattle.dagcbor_write.specs.Gathering.{Grows, NoSpelling, Collects}
 
 -- what goes out at the beginning of a list: its head, where the number of items is known

@@ -1,7 +1,7 @@
 -- Entries of a map that stand in one buffer.
 use Rattle.std.specs.Prelude.{ℕ, ◌≤◌, List}
 use Rattle.std.specs.List.{slice_range}
-use Rattle.dagcbor_write.specs.declared.gathered.Span.{Span}
+use Rattle.dagcbor_write.specs.declared.collect.gathered.Span.{Span}
 use Rattle.dagcbor_write.specs.Maps.{Texts}
 
 -- the key and the value that stand there

@@ -1,0 +1,7 @@
+//! Lists, maps and enums, item by item and whole.
+
+pub(crate) mod accessor;
+pub(crate) mod enum_accessor;
+pub(crate) mod fields;
+pub(crate) mod row;
+pub(crate) mod variants;

@@ -1,0 +1,179 @@
+//! Enums: a variant's name alone, or a map of one pair, from the name to what the variant holds.
+
+ghost use Rattle.std.specs.Prelude.{◌≡◌, ◌↔◌, true, IfOk, IfErr, codes};
+ghost use Rattle.std.specs.Cow.{IsBorrowedStr};
+ghost use Rattle.dagcbor_read.specs.Calls.{progress, Call, AreOut, Over};
+ghost use Rattle.dagcbor_read.specs.Enums.{enum_state, BeginsEnum, SpendsEnum, ReadsName, IsOtherForm, EntersMap, EndsUnit, ReadsHeld, BeginsHeld, OfForm};
+ghost use Rattle.dagcbor_read.specs.Accessors.{OfBegin};
+ghost use Rattle.dagcbor_items.specs.Variants.{OfByte, OfText};
+
+use crate::access::accessor::{Accessor, give_back};
+use crate::deserialize::Deserialize;
+use crate::deserializer::Deserializer;
+use dagcbor_heads::{DecodeError, Name, Read, peek_one, pull_one};
+use std::alloc::Global;
+use std::borrow::CowStr;
+
+/// An enum that was begun. It holds no `Deserializer`: each call is given the one on which it was begun. It is used once.
+#[derive(Drop)]
+pub struct EnumAccessor {
+    first: u8,
+    in_map: bool,
+    steps: u8,
+}
+
+/// The form of the enum that begins here: the first byte of a text, which stays, or a1, which is taken.
+#[tactic(auto, using(dagcbor_items::proofs::Variants::end_byte))]
+fn pull_form<R: Read>(reader: &mut R) -> Result<EnumAccessor, DecodeError<R::Error>>
+    ensures form { BeginsEnum (R.reading reader.old) result (R.reading reader.new) }
+    ensures variant { IfErr result OfByte }
+{
+    let first = peek_one("enum", reader)?;
+    let in_map = first == 0xa1;
+    if in_map {
+        pull_one("enum", reader)?;
+    } else if first / 32 != 3 {
+        return Err(DecodeError::Mismatch {
+            name: Name::new("enum"),
+            found: first,
+        });
+    }
+    Ok(EnumAccessor {
+        first,
+        in_map,
+        steps: 0,
+    })
+}
+
+/// The same, for a step.
+#[tactic(auto, using(crate::proofs::Entering::byte_form))]
+fn spend_form<R: Read>(name: &str, reader: &mut R) -> Result<EnumAccessor, DecodeError<R::Error>>
+    ensures form { SpendsEnum name.now (R.reading reader.old) result (R.reading reader.new) }
+    ensures variant { IfErr result OfForm }
+{
+    if !reader.step_in() {
+        return Err(DecodeError::DepthOverflow {
+            name: Name::new(name),
+        });
+    }
+    let mut form = pull_form(reader)?;
+    form.steps = 1;
+    Ok(form)
+}
+
+impl EnumAccessor {
+    /// Begins an enum, for no step. Takes no memory.
+    pub fn enum_<'de, R: Read>(
+        de: &mut Deserializer<'de, R>,
+    ) -> Result<EnumAccessor, DecodeError<R::Error>>
+        ensures form { Over R.reading (Call BeginsEnum) de.old result de.new }
+        ensures variant { IfErr result OfByte }
+    {
+        de.begin()?;
+        let form = pull_form(&mut de.input)?;
+        de.failed = false;
+        Ok(form)
+    }
+
+    /// The variant's name: read as `deserialize_identifier` does.
+    pub fn variant<'de, R: Read>(
+        self,
+        alloc: Global,
+        de: &mut Deserializer<'de, R>,
+    ) -> Result<(CowStr<'de>, EnumAccessor), DecodeError<R::Error>>
+        ensures same { IfOk result (λ v. v.1 ≡ self) }
+        ensures text { Over R.reading (Call ReadsName) de.old result de.new }
+        ensures lent { IfOk result (λ v. IsBorrowedStr v.0 ↔ ((progress R.reading de.old).input.lends ≡ true)) }
+        ensures variant { IfErr result OfText }
+    {
+        let name = de.deserialize_identifier(alloc)?;
+        Ok((name, self))
+    }
+
+    /// After a variant's name alone, nothing is read. Else `Mismatch` with the enum's first byte.
+    pub fn unit_variant<'de, R: Read>(
+        self,
+        de: &mut Deserializer<'de, R>,
+    ) -> Result<(), DecodeError<R::Error>>
+        requires { AreOut (enum_state self).steps (progress R.reading de.old) }
+        ensures { Over R.reading (Call (EndsUnit (enum_state self))) de.old result de.new }
+    {
+        de.begin()?;
+        if self.in_map {
+            return Err(self.other_form());
+        }
+        give_back(&mut de.input, usize::from(self.steps));
+        de.failed = false;
+        Ok(())
+    }
+
+    /// What the variant holds. After a name alone it is `Mismatch` with the enum's first byte.
+    pub fn newtype_variant<'de, T: Deserialize<'de>, R: Read>(
+        self,
+        alloc: Global,
+        de: &mut Deserializer<'de, R>,
+    ) -> Result<T, DecodeError<R::Error>>
+        requires { AreOut (enum_state self).steps (progress R.reading de.old) }
+        ensures { Over R.reading (Call (ReadsHeld T.meaning T.shape (enum_state self))) de.old result de.new }
+    {
+        self.enter_map(de)?;
+        let part = de.read_part(alloc)?;
+        give_back(&mut de.input, usize::from(self.steps));
+        Ok(part)
+    }
+
+    /// The list of what the variant holds, whose length is not looked at. Its end gives all steps back. Takes no memory.
+    #[tactic(auto, using(crate::proofs::Entering::byte_begin))]
+    pub fn tuple_variant<'de, R: Read>(
+        self,
+        _len: usize,
+        de: &mut Deserializer<'de, R>,
+    ) -> Result<Accessor<'de>, DecodeError<R::Error>>
+        ensures accessor_state { Over R.reading (Call (BeginsHeld 4 (codes "tuple") (enum_state self))) de.old result de.new }
+        ensures variant { IfErr result OfBegin }
+    {
+        self.enter_map(de)?;
+        de.begin_items("tuple", 4, self.steps)
+    }
+
+    /// The map of what the variant holds, whose fields' names are not looked at. Its end gives all steps back. Takes no
+    /// memory.
+    #[tactic(auto, using(crate::proofs::Entering::byte_begin))]
+    pub fn struct_variant<'de, R: Read>(
+        self,
+        _fields: &[&str],
+        de: &mut Deserializer<'de, R>,
+    ) -> Result<Accessor<'de>, DecodeError<R::Error>>
+        ensures accessor_state { Over R.reading (Call (BeginsHeld 5 (codes "map") (enum_state self))) de.old result de.new }
+        ensures variant { IfErr result OfBegin }
+    {
+        self.enter_map(de)?;
+        de.begin_items("map", 5, self.steps)
+    }
+
+    fn other_form<E>(&self) -> DecodeError<E>
+        ensures { IsOtherForm (enum_state self.now) result }
+    {
+        DecodeError::Mismatch {
+            name: Name::new("enum"),
+            found: self.first,
+        }
+    }
+
+    /// Goes on only where the enum is a map.
+    #[tactic(auto, using(crate::proofs::Entering::other_byte))]
+    fn enter_map<'de, R: Read>(
+        &self,
+        de: &mut Deserializer<'de, R>,
+    ) -> Result<(), DecodeError<R::Error>>
+        ensures form { Over R.reading (Call (EntersMap (enum_state self.now))) de.old result de.new }
+        ensures variant { IfErr result OfByte }
+    {
+        de.begin()?;
+        if !self.in_map {
+            return Err(self.other_form());
+        }
+        de.failed = false;
+        Ok(())
+    }
+}

@@ -1,0 +1,127 @@
+//! What the items of a list make: a vector, or the parts of a tuple.
+
+ghost use Rattle.std.specs.Prelude.{◌≡◌, ◌+◌, ◌≤◌, ℕ, Bool, List, Option, map, true, false, ◌||◌, ⊤, MatchResult};
+ghost use Rattle.dagcbor_heads.specs.Refusals.{Refuses};
+ghost use Rattle.ipld_tree.specs.Tree.{Items};
+ghost use Rattle.dagcbor_read.specs.Calls.{progress, StaysFailed, Over};
+ghost use Rattle.dagcbor_items.specs.Reads.{Anything};
+ghost use Rattle.dagcbor_read.specs.Values.{ReadsValue};
+ghost use Rattle.dagcbor_read.specs.Accessors.{accessor_state};
+ghost use Rattle.dagcbor_read.specs.Collections.{list_of, all_of, no_more, first_then, ReadsRow, ReadsRest};
+ghost use Rattle.dagcbor_items.specs.Shapes.{Shape};
+
+use crate::access::accessor::Accessor;
+use crate::deserialize::Deserialize;
+use crate::deserializer::Deserializer;
+use dagcbor_heads::{DecodeError, Read};
+use std::alloc::Global;
+
+/// What the items of a list make.
+pub(crate) trait Row<'de>: Sized + Drop {
+    ghost View: { Type 0 };
+
+    ghost meaning: { Self → View };
+
+    /// What the items show. None where they are not accepted.
+    /// What the items show.
+    ghost shape: { Shape Items View };
+
+    /// Reads from the first item that is left on.
+    fn read_row<R: Read>(
+        alloc: Global,
+        items: &mut Accessor<'de>,
+        de: &mut Deserializer<'de, R>,
+    ) -> Result<Self, DecodeError<R::Error>>
+        requires list { (accessor_state items.old).is_map ≡ false }
+        requires sound { (progress R.reading de.old).failed ≡ false }
+        ensures { ReadsRow Self.meaning Self.shape (accessor_state items.old) (progress R.reading de.old) result (accessor_state items.new) (progress R.reading de.new) };
+}
+
+impl<'de, T: Deserialize<'de>> Row<'de> for Vec<T> {
+    ghost View = { List T.View };
+
+    ghost meaning = { λ v. map T.meaning v.items };
+
+    ghost shape = { all_of T.shape };
+
+    fn read_row<R: Read>(
+        alloc: Global,
+        items: &mut Accessor<'de>,
+        de: &mut Deserializer<'de, R>,
+    ) -> Result<Vec<T>, DecodeError<R::Error>> {
+        let mut all = Vec::new(alloc);
+        while let Some(item) = items.next_element(alloc, de)? {
+            if all.push(item).is_err() {
+                return Err(DecodeError::OutOfMemory);
+            }
+        }
+        Ok(all)
+    }
+}
+
+impl<'de> Row<'de> for () {
+    ghost View = { Unit {0} };
+
+    ghost meaning = { λ u. tt };
+
+    ghost shape = { no_more };
+
+    fn read_row<R: Read>(
+        _alloc: Global,
+        _items: &mut Accessor<'de>,
+        _de: &mut Deserializer<'de, R>,
+    ) -> Result<(), DecodeError<R::Error>> {
+        Ok(())
+    }
+}
+
+impl<'de, T: Deserialize<'de>, L: Row<'de>> Row<'de> for (T, L) {
+    ghost View = { T.View × L.View };
+
+    ghost meaning = { λ p. (T.meaning p.0, L.meaning p.1) };
+
+    ghost shape = { first_then T.shape L.shape };
+
+    fn read_row<R: Read>(
+        alloc: Global,
+        items: &mut Accessor<'de>,
+        de: &mut Deserializer<'de, R>,
+    ) -> Result<(T, L), DecodeError<R::Error>> {
+        let Some(first) = items.next_element(alloc, de)? else {
+            return Err(DecodeError::custom("Too few elements"));
+        };
+        let others = L::read_row(alloc, items, de)?;
+        Ok((first, others))
+    }
+}
+
+/// Reads all that is left of a list, and ends it.
+pub(crate) fn read_rest<'de, L: Row<'de>, R: Read>(
+    alloc: Global,
+    items: Accessor<'de>,
+    de: &mut Deserializer<'de, R>,
+) -> Result<L, DecodeError<R::Error>>
+    requires list { (accessor_state items).is_map ≡ false }
+    requires in_turn { (accessor_state items).owes_value ≡ false }
+    requires sound { (progress R.reading de.old).failed ≡ false }
+    requires out { (progress R.reading de.old).input.steps + (accessor_state items).steps ≤ (progress R.reading de.old).input.budget }
+    ensures { Over R.reading (ReadsRest L.meaning L.shape (accessor_state items.entry)) de.old result de.new }
+{
+    let mut items = items;
+    let row = L::read_row(alloc, &mut items, de)?;
+    items.end(de)?;
+    Ok(row)
+}
+
+/// Reads a tuple whose parts the items make.
+pub(crate) fn read_tuple<'de, L: Row<'de>, R: Read>(
+    alloc: Global,
+    len: usize,
+    de: &mut Deserializer<'de, R>,
+) -> Result<L, DecodeError<R::Error>>
+    ensures value { Over R.reading (ReadsValue L.meaning (list_of L.shape)) de.old result de.new }
+    ensures failed { Over R.reading StaysFailed de.old result de.new }
+{
+    let items = de.deserialize_tuple(len)?;
+    read_rest(alloc, items, de)
+}

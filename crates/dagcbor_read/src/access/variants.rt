@@ -1,0 +1,70 @@
+//! Enums, whose variants are read by their names.
+
+ghost use Rattle.std.specs.Prelude.{◌≡◌, ◌+◌, ◌≤◌, ℕ, Bool, List, Option, false};
+ghost use Rattle.ipld_tree.specs.Tree.{Tree};
+ghost use Rattle.dagcbor_read.specs.Calls.{progress, StaysFailed, AreOut, Over};
+ghost use Rattle.dagcbor_read.specs.Values.{ReadsValue};
+ghost use Rattle.dagcbor_read.specs.Enums.{enum_state, HasStepEnum, SpendsEnum, ReadsFieldsHeld};
+ghost use Rattle.dagcbor_read.specs.Parts.{RefusesToBegin};
+ghost use Rattle.dagcbor_read.specs.EnumViews.{EnumShape, enum_of, ReadsVariant};
+ghost use Rattle.dagcbor_read.specs.Collections.{fields_of};
+
+use crate::access::enum_accessor::EnumAccessor;
+use crate::access::fields::{Fields, read_entries_left};
+use crate::deserializer::Deserializer;
+use dagcbor_heads::{DecodeError, Read};
+use std::alloc::Global;
+
+/// An enum that is read through a match on its variant's name.
+pub trait Variants<'de>: Sized + Drop {
+    /// What a value holds, wherever it lies in memory.
+    ghost View: { Type 0 };
+
+    ghost meaning: { Self → View };
+
+    /// What its variants show.
+    ghost shape: { EnumShape View };
+
+    /// Reads what the variant of this name holds, or ends it.
+    fn read_variant<R: Read>(
+        alloc: Global,
+        name: &str,
+        variant: EnumAccessor,
+        de: &mut Deserializer<'de, R>,
+    ) -> Result<Self, DecodeError<R::Error>>
+        requires sound { (progress R.reading de.old).failed ≡ false }
+        requires out { (progress R.reading de.old).input.steps + (enum_state variant).steps ≤ (progress R.reading de.old).input.budget }
+        ensures { Over R.reading (ReadsVariant meaning Self.shape name.now (enum_state variant)) de.old result de.new };
+}
+
+/// Reads an enum. The names of its variants are not looked at.
+pub fn read_enum<'de, V: Variants<'de>, R: Read>(
+    alloc: Global,
+    name: &str,
+    variants: &[&str],
+    de: &mut Deserializer<'de, R>,
+) -> Result<V, DecodeError<R::Error>>
+    ensures value { Over R.reading (ReadsValue V.meaning (enum_of V.shape)) de.old result de.new }
+    ensures named { Over R.reading (RefusesToBegin HasStepEnum (SpendsEnum name.now)) de.old result de.new }
+    ensures failed { Over R.reading StaysFailed de.old result de.new }
+{
+    let accessor_state = de.deserialize_enum(name, variants)?;
+    let (variant_name, variant) = accessor_state.variant(alloc, de)?;
+    V::read_variant(alloc, variant_name.as_str(), variant, de)
+}
+
+/// Reads the fields that a variant holds, whatever their order. Their names are not looked at.
+pub fn read_struct_variant<'de, F: Fields<'de>, R: Read>(
+    alloc: Global,
+    variant: EnumAccessor,
+    names: &[&str],
+    fields: F,
+    de: &mut Deserializer<'de, R>,
+) -> Result<F, DecodeError<R::Error>>
+    requires { AreOut (enum_state variant).steps (progress R.reading de.old) }
+    ensures meaning { Over R.reading (ReadsFieldsHeld F.state (fields_of F.shape (F.state fields)) (enum_state variant)) de.old result de.new }
+    ensures failed { Over R.reading StaysFailed de.old result de.new }
+{
+    let entries = variant.struct_variant(names, de)?;
+    read_entries_left(alloc, fields, entries, de)
+}

@@ -1,0 +1,9 @@
+//! What types of the library are read.
+
+pub(crate) mod data;
+pub(crate) mod holders;
+pub(crate) mod leaves;
+pub(crate) mod lent;
+pub(crate) mod lists;
+pub(crate) mod maps;
+pub(crate) mod numbers;

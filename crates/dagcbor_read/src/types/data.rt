@@ -1,0 +1,82 @@
+//! The types of items of any kind, and of links.
+
+ghost use Rattle.std.specs.Prelude.{refl, ℕ, List};
+ghost use Rattle.ipld_tree.specs.Cid.{cid_bytes};
+ghost use Rattle.ipld_tree.specs.Ipld.{tree_of};
+ghost use Rattle.ipld_tree.specs.Tree.{Tree};
+ghost use Rattle.dagcbor_items.specs.Shapes.{view_link, ignored, leaf, any_tree};
+
+use crate::deserialize::{Deserialize, DeserializeOwned};
+use crate::deserializer::Deserializer;
+use crate::shown::Shown;
+use dagcbor_heads::{DecodeError, Read};
+use ipld_tree::{Cid, Ipld};
+use std::alloc::Global;
+
+/// Accepts any item, and keeps nothing of it.
+#[derive(Clone, Copy, Debug, PartialEq, Eq)]
+pub struct IgnoredAny;
+
+impl Shown for IgnoredAny {
+    ghost View = { Unit {0} };
+
+    ghost meaning = { λ _. tt };
+
+    ghost shape = { ignored };
+}
+
+impl<'de> Deserialize<'de> for IgnoredAny {
+    fn deserialize<R: Read>(
+        alloc: Global,
+        de: &mut Deserializer<'de, R>,
+    ) -> Result<IgnoredAny, DecodeError<R::Error>> {
+        de.deserialize_ignored_any(alloc)?;
+        Ok(IgnoredAny)
+    }
+}
+
+impl<'de> DeserializeOwned<'de> for IgnoredAny {
+    ghost owned = { refl };
+}
+
+impl Shown for Ipld {
+    ghost View = { Tree };
+
+    ghost meaning = { tree_of };
+
+    ghost shape = { any_tree };
+}
+
+impl<'de> Deserialize<'de> for Ipld {
+    fn deserialize<R: Read>(
+        alloc: Global,
+        de: &mut Deserializer<'de, R>,
+    ) -> Result<Ipld, DecodeError<R::Error>> {
+        de.deserialize_any(alloc)
+    }
+}
+
+impl<'de> DeserializeOwned<'de> for Ipld {
+    ghost owned = { refl };
+}
+
+impl Shown for Cid {
+    ghost View = { List ℕ };
+
+    ghost meaning = { cid_bytes };
+
+    ghost shape = { leaf view_link };
+}
+
+impl<'de> Deserialize<'de> for Cid {
+    fn deserialize<R: Read>(
+        _alloc: Global,
+        de: &mut Deserializer<'de, R>,
+    ) -> Result<Cid, DecodeError<R::Error>> {
+        de.deserialize_cid()
+    }
+}
+
+impl<'de> DeserializeOwned<'de> for Cid {
+    ghost owned = { refl };
+}

@@ -1,0 +1,139 @@
+//! Vectors, and tuples of one to four.
+
+ghost use Rattle.std.specs.Prelude.{List, map, false, ◌||◌, refl};
+ghost use Rattle.dagcbor_read.specs.Collections.{list_of, all_of, no_more, first_then, neither};
+
+use crate::access::row::{read_rest, read_tuple};
+use crate::deserialize::{Deserialize, DeserializeOwned};
+use crate::deserializer::Deserializer;
+use crate::shown::Shown;
+use dagcbor_heads::{DecodeError, Read};
+use std::alloc::Global;
+
+impl<T: Shown> Shown for Vec<T> {
+    ghost View = { List T.View };
+
+    ghost meaning = { λ v. map T.meaning v.items };
+
+    ghost shape = { list_of (all_of T.shape) };
+}
+
+impl<'de, T: Deserialize<'de>> Deserialize<'de> for Vec<T> {
+    fn deserialize<R: Read>(
+        alloc: Global,
+        de: &mut Deserializer<'de, R>,
+    ) -> Result<Vec<T>, DecodeError<R::Error>> {
+        let items = de.deserialize_seq()?;
+        read_rest(alloc, items, de)
+    }
+}
+
+impl<'de, T: DeserializeOwned<'de>> DeserializeOwned<'de> for Vec<T> {
+    ghost owned = { T.owned };
+}
+
+impl<A: Shown> Shown for (A,) {
+    ghost View = { A.View × Unit {0} };
+
+    ghost meaning = { λ p. (A.meaning p.0, tt) };
+
+    ghost shape = { list_of (first_then A.shape no_more) };
+}
+
+impl<'de, A: Deserialize<'de>> Deserialize<'de> for (A,) {
+    fn deserialize<R: Read>(
+        alloc: Global,
+        de: &mut Deserializer<'de, R>,
+    ) -> Result<(A,), DecodeError<R::Error>> {
+        let (first, ()) = read_tuple(alloc, 1, de)?;
+        Ok((first,))
+    }
+}
+
+impl<'de, A: DeserializeOwned<'de>> DeserializeOwned<'de> for (A,) {
+    ghost owned = { neither A.owned refl };
+}
+
+impl<A: Shown, B: Shown> Shown for (A, B) {
+    ghost View = { A.View × (B.View × Unit {0}) };
+
+    ghost meaning = { λ p. (A.meaning p.0, (B.meaning p.1, tt)) };
+
+    ghost shape = { list_of (first_then A.shape (first_then B.shape no_more)) };
+}
+
+impl<'de, A: Deserialize<'de>, B: Deserialize<'de>> Deserialize<'de> for (A, B) {
+    fn deserialize<R: Read>(
+        alloc: Global,
+        de: &mut Deserializer<'de, R>,
+    ) -> Result<(A, B), DecodeError<R::Error>> {
+        let (first, (second, ())) = read_tuple(alloc, 2, de)?;
+        Ok((first, second))
+    }
+}
+
+impl<'de, A: DeserializeOwned<'de>, B: DeserializeOwned<'de>> DeserializeOwned<'de> for (A, B) {
+    ghost owned = { neither A.owned (neither B.owned refl) };
+}
+
+impl<A: Shown, B: Shown, C: Shown> Shown for (A, B, C) {
+    ghost View = { A.View × (B.View × (C.View × Unit {0})) };
+
+    ghost meaning = { λ p. (A.meaning p.0, (B.meaning p.1, (C.meaning p.2, tt))) };
+
+    ghost shape = { list_of (first_then A.shape (first_then B.shape (first_then C.shape no_more))) };
+}
+
+impl<'de, A: Deserialize<'de>, B: Deserialize<'de>, C: Deserialize<'de>> Deserialize<'de>
+    for (A, B, C) {
+    fn deserialize<R: Read>(
+        alloc: Global,
+        de: &mut Deserializer<'de, R>,
+    ) -> Result<(A, B, C), DecodeError<R::Error>> {
+        let (first, (second, (third, ()))) = read_tuple(alloc, 3, de)?;
+        Ok((first, second, third))
+    }
+}
+
+impl<
+    'de,
+    A: DeserializeOwned<'de>,
+    B: DeserializeOwned<'de>,
+    C: DeserializeOwned<'de>,
+> DeserializeOwned<'de> for (A, B, C) {
+    ghost owned = { neither A.owned (neither B.owned (neither C.owned refl)) };
+}
+
+impl<A: Shown, B: Shown, C: Shown, D: Shown> Shown for (A, B, C, D) {
+    ghost View = { A.View × (B.View × (C.View × (D.View × Unit {0}))) };
+
+    ghost meaning = { λ p. (A.meaning p.0, (B.meaning p.1, (C.meaning p.2, (D.meaning p.3, tt)))) };
+
+    ghost shape = { list_of (first_then A.shape (first_then B.shape (first_then C.shape (first_then D.shape no_more)))) };
+}
+
+impl<
+    'de,
+    A: Deserialize<'de>,
+    B: Deserialize<'de>,
+    C: Deserialize<'de>,
+    D: Deserialize<'de>,
+> Deserialize<'de> for (A, B, C, D) {
+    fn deserialize<R: Read>(
+        alloc: Global,
+        de: &mut Deserializer<'de, R>,
+    ) -> Result<(A, B, C, D), DecodeError<R::Error>> {
+        let (first, (second, (third, (fourth, ())))) = read_tuple(alloc, 4, de)?;
+        Ok((first, second, third, fourth))
+    }
+}
+
+impl<
+    'de,
+    A: DeserializeOwned<'de>,
+    B: DeserializeOwned<'de>,
+    C: DeserializeOwned<'de>,
+    D: DeserializeOwned<'de>,
+> DeserializeOwned<'de> for (A, B, C, D) {
+    ghost owned = { neither A.owned (neither B.owned (neither C.owned (neither D.owned refl))) };
+}

@@ -1,0 +1,143 @@
+//! The collector of a list whose number of items is known.
+
+ghost use Rattle.std.specs.Prelude.{◌≡◌, ◌+◌, ◌<◌, IfOk, OnOk, IfSome, IsOk};
+ghost use Rattle.std.specs.Borrow.{sem};
+ghost use Rattle.std.specs.Fmt.{◌++?◌};
+ghost use Rattle.dagcbor_heads.specs.Written.{Writes, WroteAll};
+ghost use Rattle.ipld_tree.specs.Tree.{text, IsTree};
+ghost use Rattle.ipld_tree.specs.Spelled.{spelled_tree, spelled_head};
+ghost use Rattle.dagcbor_write.specs.Trees.{variant_head};
+ghost use Rattle.dagcbor_write.specs.Lending.{bounded_lent, bounded_left, SameLoan, BeginsOrStops};
+
+use crate::serialize::Serialize;
+use crate::serializer::Serializer;
+use dagcbor_heads::{EncodeError, Write};
+use std::alloc::Global;
+
+/// Takes the items of a list whose number was announced, and writes each at once.
+pub struct BoundedCollect<'a, W> {
+    ser: &'a mut Serializer<W>,
+    alloc: Global,
+    left: usize,
+}
+
+impl<W> Drop for BoundedCollect<'_, W> {
+    fn drop(self)
+        ensures { self.exit.0.now ≡ (bounded_lent self.entry).now }
+    {
+        let Self {
+            ser: _,
+            alloc: _,
+            left: _,
+        } = self;
+    }
+}
+
+impl<W: Write> Serializer<W> {
+    /// Begins a list of `len` items: its head goes out at once.
+    pub fn serialize_tuple(
+        &mut self,
+        alloc: Global,
+        len: usize,
+    ) -> Result<BoundedCollect<'_, W>, EncodeError<W::Error>>
+        ensures* refused { sem 𝓛 (BeginsOrStops W.row W.written bounded_lent self.entry (spelled_head 4 len) result) }
+        ensures same_reference { IfOk result (λ c. SameLoan self.entry (bounded_lent c)) }
+        ensures head { IfOk result (λ c. WroteAll (spelled_head 4 len) (W.written self.old) (W.written (bounded_lent c).now)) }
+        ensures left { IfOk result (λ c. bounded_left c ≡ len) }
+    {
+        self.push_head(4, len)?;
+        Ok(BoundedCollect {
+            ser: self,
+            alloc,
+            left: len,
+        })
+    }
+
+    /// Begins a struct of `len` fields without names, as a list.
+    pub fn serialize_tuple_struct(
+        &mut self,
+        alloc: Global,
+        _name: &'static str,
+        len: usize,
+    ) -> Result<BoundedCollect<'_, W>, EncodeError<W::Error>>
+        ensures* refused { sem 𝓛 (BeginsOrStops W.row W.written bounded_lent self.entry (spelled_head 4 len) result) }
+        ensures same_reference { IfOk result (λ c. SameLoan self.entry (bounded_lent c)) }
+        ensures head { IfOk result (λ c. WroteAll (spelled_head 4 len) (W.written self.old) (W.written (bounded_lent c).now)) }
+        ensures left { IfOk result (λ c. bounded_left c ≡ len) }
+    {
+        self.serialize_tuple(alloc, len)
+    }
+
+    /// Begins a variant of `len` fields without names: a map of one entry, whose key is the variant's name and whose
+    /// value is the list of the fields.
+    pub fn serialize_tuple_variant(
+        &mut self,
+        alloc: Global,
+        _name: &'static str,
+        _index: u32,
+        variant: &'static str,
+        len: usize,
+    ) -> Result<BoundedCollect<'_, W>, EncodeError<W::Error>>
+        ensures* refused { sem 𝓛 (BeginsOrStops W.row W.written bounded_lent self.entry (variant_head variant.now ++? spelled_head 4 len) result) }
+        ensures same_reference { IfOk result (λ c. SameLoan self.entry (bounded_lent c)) }
+        ensures head { IfOk result (λ c. WroteAll (variant_head variant.now ++? spelled_head 4 len) (W.written self.old) (W.written (bounded_lent c).now)) }
+        ensures left { IfOk result (λ c. bounded_left c ≡ len) }
+        ensures good_name { OnOk result (IsTree (text variant.now)) }
+    {
+        self.push_variant_of(variant, 4, len)?;
+        Ok(BoundedCollect {
+            ser: self,
+            alloc,
+            left: len,
+        })
+    }
+}
+
+impl<W: Write> BoundedCollect<'_, W> {
+    /// How many of the announced items are still to come.
+    pub fn left(&self) -> usize
+        ensures { result ≡ bounded_left self.now }
+    {
+        self.left
+    }
+
+    /// Writes the next item.
+    pub fn serialize_element<T: Serialize>(
+        &mut self,
+        value: &T,
+    ) -> Result<(), EncodeError<W::Error>>
+        requires { 0 < bounded_left self.old }
+        ensures same_reference { SameLoan (bounded_lent self.old) (bounded_lent self.new) }
+        ensures left { bounded_left self.new + 1 ≡ bounded_left self.old }
+        ensures item { Writes (spelled_tree (T.tree value.now)) (W.written (bounded_lent self.old).now) (W.written (bounded_lent self.new).now) result }
+        ensures well_formed { OnOk result (IfSome (T.tree value.now) IsTree) }
+    {
+        self.left -= 1;
+        value.serialize(self.alloc, self.ser)
+    }
+
+    /// Writes the next field: as `serialize_element`.
+    pub fn serialize_field<T: Serialize>(&mut self, value: &T) -> Result<(), EncodeError<W::Error>>
+        requires { 0 < bounded_left self.old }
+        ensures same_reference { SameLoan (bounded_lent self.old) (bounded_lent self.new) }
+        ensures left { bounded_left self.new + 1 ≡ bounded_left self.old }
+        ensures item { Writes (spelled_tree (T.tree value.now)) (W.written (bounded_lent self.old).now) (W.written (bounded_lent self.new).now) result }
+        ensures well_formed { OnOk result (IfSome (T.tree value.now) IsTree) }
+    {
+        self.serialize_element(value)
+    }
+
+    /// Ends the list.
+    pub fn end(self) -> Result<(), EncodeError<W::Error>>
+        requires { bounded_left self ≡ 0 }
+        ensures ok { IsOk result }
+        ensures unchanged { self.exit.0.now ≡ (bounded_lent self.entry).now }
+    {
+        let Self {
+            ser: _,
+            alloc: _,
+            left: _,
+        } = self;
+        Ok(())
+    }
+}

@@ -1,0 +1,145 @@
+//! The collector of a list whose number of items may come last.
+
+ghost use Rattle.std.specs.Prelude.{◌≡◌, IfOk, IsOk, OnOk, IfSome, IsSome, Some};
+ghost use Rattle.std.specs.Borrow.{sem};
+ghost use Rattle.std.specs.Fmt.{◌++?◌};
+ghost use Rattle.dagcbor_heads.specs.Written.{Writes, WroteAll, WantsMemoryOnlyIf};
+ghost use Rattle.ipld_tree.specs.Tree.{IsTree};
+ghost use Rattle.ipld_tree.specs.Spelled.{spelled_head};
+ghost use Rattle.dagcbor_write.specs.Lists.{announced_head, elements_left, IsFresh, HasRoom, IsComplete, TakesElement, waiting_text};
+ghost use Rattle.dagcbor_write.specs.Lending.{list_lent, list_items, SameLoan, BeginsOrStops};
+
+use crate::collect::buffer::Buffer;
+use crate::serialize::Serialize;
+use crate::serializer::Serializer;
+use dagcbor_heads::{EncodeError, Write};
+use std::alloc::Global;
+
+/// What an item that waits is refused with.
+const BAD_ELEMENT: &str = "List element cannot be serialized";
+
+/// The items that a list was given: how many are still to come, or those that wait for their number.
+#[derive(Drop)]
+pub enum Items {
+    Announced(usize),
+    Waits(Buffer),
+}
+
+/// Takes the items of a list.
+pub struct CollectSeq<'a, W, I = Items> {
+    ser: &'a mut Serializer<W>,
+    alloc: Global,
+    items: I,
+}
+
+impl<W, I: Drop> Drop for CollectSeq<'_, W, I> {
+    fn drop(self)
+        ensures { self.exit.0.now ≡ (list_lent self.entry).now }
+    {
+        let Self {
+            ser: _,
+            alloc: _,
+            items: _,
+        } = self;
+    }
+}
+
+impl<W: Write> Serializer<W> {
+    /// Begins a list. Where the number of its items is known, its head goes out at once. Else the items wait in memory
+    /// until the list ends.
+    pub fn serialize_seq(
+        &mut self,
+        alloc: Global,
+        len: Option<usize>,
+    ) -> Result<CollectSeq<'_, W>, EncodeError<W::Error>>
+        ensures* refused { sem 𝓛 (BeginsOrStops W.row W.written list_lent self.entry (announced_head len) result) }
+        ensures same_reference { IfOk result (λ c. SameLoan self.entry (list_lent c)) }
+        ensures head { IfOk result (λ c. WroteAll (announced_head len) (W.written self.old) (W.written (list_lent c).now)) }
+        ensures fresh { IfOk result (λ c. IsFresh len (list_items c)) }
+    {
+        let items = self.begin_items(alloc, len)?;
+        Ok(CollectSeq {
+            ser: self,
+            alloc,
+            items,
+        })
+    }
+
+    fn begin_items(
+        &mut self,
+        alloc: Global,
+        len: Option<usize>,
+    ) -> Result<Items, EncodeError<W::Error>>
+        ensures head { Writes (announced_head len) (W.written self.old) (W.written self.new) result }
+        ensures fresh { IfOk result (IsFresh len) }
+    {
+        match len {
+            Some(count) => {
+                self.push_head(4, count)?;
+                Ok(Items::Announced(count))
+            }
+            None => Ok(Items::Waits(Buffer::new(alloc))),
+        }
+    }
+
+    /// Writes the items that waited, behind their number.
+    fn push_waiting(&mut self, buffer: &Buffer) -> Result<(), EncodeError<W::Error>>
+        ensures written { Writes (spelled_head 4 buffer.now.count ++? Some buffer.now.bytes) (W.written self.old) (W.written self.new) result }
+        ensures memory { WantsMemoryOnlyIf W.takes_memory result }
+    {
+        self.push_head(4, buffer.count())?;
+        self.push(buffer.bytes())
+    }
+}
+
+impl<W: Write> CollectSeq<'_, W> {
+    /// How many of the announced items are still to come. `None` where no number was announced.
+    pub fn left(&self) -> Option<usize>
+        ensures { result ≡ elements_left (list_items self.now) }
+    {
+        match &self.items {
+            Items::Announced(left) => Some(*left),
+            Items::Waits(_) => None,
+        }
+    }
+
+    /// Takes the next item. One that waits and has no spelling is refused with
+    /// `Msg("List element cannot be serialized")`.
+    pub fn serialize_element<T: Serialize>(
+        &mut self,
+        value: &T,
+    ) -> Result<(), EncodeError<W::Error>>
+        requires { HasRoom (list_items self.old) }
+        ensures same_reference { SameLoan (list_lent self.old) (list_lent self.new) }
+        ensures item { TakesElement (T.tree value.now) (list_items self.old) (W.written (list_lent self.old).now)
+            (list_items self.new) (W.written (list_lent self.new).now) result }
+        ensures well_formed { OnOk result (IfSome (T.tree value.now) IsTree) }
+    {
+        match &mut self.items {
+            Items::Announced(left) => {
+                *left -= 1;
+                value.serialize(self.alloc, self.ser)
+            }
+            Items::Waits(buffer) => buffer.gather(self.alloc, value, BAD_ELEMENT),
+        }
+    }
+
+    /// Ends the list: the items that waited go out behind their number. Where the number was announced nothing is left
+    /// to write, and nothing can go wrong.
+    pub fn end(self) -> Result<(), EncodeError<W::Error>>
+        requires { IsComplete (list_items self) }
+        ensures written { Writes (waiting_text (list_items self.entry)) (W.written (list_lent self.entry).now) (W.written self.exit.0.now) result }
+        ensures memory { WantsMemoryOnlyIf W.takes_memory result }
+        ensures announced { IsSome (elements_left (list_items self.entry)) → IsOk result × (self.exit.0.now ≡ (list_lent self.entry).now) }
+    {
+        let Self {
+            ser,
+            alloc: _,
+            items,
+        } = self;
+        match items {
+            Items::Announced(_) => Ok(()),
+            Items::Waits(buffer) => ser.push_waiting(&buffer),
+        }
+    }
+}

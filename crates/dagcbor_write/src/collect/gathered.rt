@@ -1,0 +1,205 @@
+//! What the collector of a map holds.
+
+ghost use Rattle.std.specs.Prelude.{◌≡◌, ◌<◌, ◌≤◌, ◌++◌, is_some, Some, None, IsSome, IfSome, OnErr, length, map, option_map, drop, slice_index_or};
+ghost use Rattle.std.specs.List.{All, slice_range};
+ghost use Rattle.dagcbor_write.specs.Gathering.{Collects};
+ghost use Rattle.dagcbor_write.specs.Maps.{MapState, Texts, no_entry_yet, is_complete, begins_text, HoldsKey, JoinsValue, RefusesKey, RefusesValue};
+ghost use Rattle.dagcbor_write.specs.Order.{KeysDiffer, PutsInOrder};
+
+use crate::collect::buffer::append;
+use crate::serialize::Serialize;
+use dagcbor_heads::EncodeError;
+use std::alloc::Global;
+use std::marker::Model;
+
+/// What a key without a spelling is refused with.
+const BAD_KEY: &str = "Map key cannot be serialized.";
+
+/// What a key that is no text is refused with.
+const NO_TEXT: &str = "Map keys must be strings";
+
+/// What a value without a spelling is refused with.
+const BAD_VALUE: &str = "Struct value cannot be serialized.";
+
+/// Where an entry stands: its key from `start` to `key_end`, its value from there to `end`.
+#[derive(Drop)]
+pub struct Span {
+    start: usize,
+    key_end: usize,
+    end: usize,
+}
+
+/// The entries that a map was given, encoded in one buffer. A key that waits for its value begins at `key`, and ends
+/// the buffer. What stands in no span, as a key whose value was refused, does not count.
+#[derive(Drop)]
+pub struct Gathered {
+    bytes: Vec<u8>,
+    spans: Vec<Span>,
+    key: Option<usize>,
+    announced: Option<usize>,
+}
+
+impl Model for Gathered {
+    ghost use Rattle.std.specs.Prelude.{◌≤◌, IfSome, length, map, option_map, drop};
+    ghost use Rattle.std.specs.List.{All};
+    ghost use Rattle.dagcbor_write.specs.Maps.{MapState};
+    ghost use Rattle.dagcbor_write.specs.Spans.{entry_at, IsWithin};
+
+    ghost Value = { MapState };
+
+    ghost view = { λ g. record { entries = map (entry_at g.bytes.items) g.spans.items; key = option_map (λ start. drop start g.bytes.items) g.key; announced = g.announced } };
+
+    ghost invariant = { λ g. All (IsWithin (length g.bytes.items)) g.spans.items × IfSome g.key (λ start. start ≤ length g.bytes.items) };
+}
+
+impl Gathered {
+    pub(crate) fn new(alloc: Global, announced: Option<usize>) -> Gathered
+        ensures { result ≡ no_entry_yet announced }
+    {
+        Gathered {
+            bytes: Vec::new(alloc),
+            spans: Vec::new(alloc),
+            key: None,
+            announced,
+        }
+    }
+
+    pub(crate) fn announced(&self) -> Option<usize>
+        ensures { result ≡ self.now.announced }
+    {
+        self.announced
+    }
+
+    pub(crate) fn len(&self) -> usize
+        ensures { result ≡ length self.now.entries }
+    {
+        self.spans.len()
+    }
+
+    /// The key of the entry in place `i`.
+    fn key(&self, i: usize) -> &[u8]
+        requires { i < length self.now.entries }
+        ensures { (d : Texts) → result.now ≡ (slice_index_or self.now.entries i d).0 }
+    {
+        let span = &self.spans[i];
+        &self.bytes[span.start..span.key_end]
+    }
+
+    /// The key and the value of the entry in place `i`.
+    pub(crate) fn entry(&self, i: usize) -> &[u8]
+        requires { i < length self.now.entries }
+        ensures { (d : Texts) → result.now ≡ (slice_index_or self.now.entries i d).0 ++ (slice_index_or self.now.entries i d).1 }
+    {
+        let span = &self.spans[i];
+        &self.bytes[span.start..span.end]
+    }
+
+    pub(crate) fn has_key(&self) -> bool
+        ensures { result ≡ is_some self.now.key }
+    {
+        self.key.is_some()
+    }
+
+    pub(crate) fn is_complete(&self) -> bool
+        ensures { result ≡ is_complete self.now }
+    {
+        match (self.key, self.announced) {
+            (Some(_), _) => false,
+            (None, Some(announced)) => self.spans.len() == announced,
+            (None, None) => true,
+        }
+    }
+
+    /// Takes a key, whose value comes next.
+    pub(crate) fn take_key<K: Serialize, E>(
+        &mut self,
+        alloc: Global,
+        key: &K,
+    ) -> Result<(), EncodeError<E>>
+        requires { self.old.key ≡ None }
+        ensures entries { self.new.entries ≡ self.old.entries }
+        ensures announced { self.new.announced ≡ self.old.announced }
+        ensures key { Collects (λ u. HoldsKey (K.tree key.now) self.new.key) (RefusesKey (K.tree key.now)) result }
+    {
+        let start = self.bytes.len();
+        append(alloc, &mut self.bytes, key, BAD_KEY)?;
+        if is_text(&self.bytes[start..]) {
+            self.key = Some(start);
+            Ok(())
+        } else {
+            Err(EncodeError::custom(NO_TEXT))
+        }
+    }
+
+    /// Takes the value of the key before it. After a refusal the key is gone, and the entries are as before.
+    pub(crate) fn take_value<V: Serialize, E>(
+        &mut self,
+        alloc: Global,
+        value: &V,
+    ) -> Result<(), EncodeError<E>>
+        requires { IsSome self.old.key }
+        ensures key { self.new.key ≡ None }
+        ensures announced { self.new.announced ≡ self.old.announced }
+        ensures entry { Collects (λ u. JoinsValue self.old.key (V.tree value.now) self.old.entries self.new.entries) (RefusesValue (V.tree value.now)) result }
+        ensures kept { OnErr result (self.new.entries ≡ self.old.entries) }
+    {
+        let Some(start) = self.key.take() else {
+            return Ok(());
+        };
+        let key_end = self.bytes.len();
+        append(alloc, &mut self.bytes, value, BAD_VALUE)?;
+        let end = self.bytes.len();
+        match self.spans.push(Span {
+            start,
+            key_end,
+            end,
+        }) {
+            Ok(()) => {}
+            Err(_) => return Err(EncodeError::OutOfMemory),
+        }
+        Ok(())
+    }
+
+    /// Puts the entries into the order of their bytes, and says whether no key repeats. Entries of different keys stand
+    /// in this order as the keys do in key order.
+    pub(crate) fn put_in_order(&mut self) -> bool
+        ensures announced { self.new.announced ≡ self.old.announced }
+        ensures order { PutsInOrder self.old.entries self.new.entries result }
+    {
+        let bytes = self.bytes.as_slice();
+        self.spans.sort_unstable_by(|a, b| {
+            range(bytes, a.start, a.end).cmp(range(bytes, b.start, b.end))
+        });
+        self.keys_differ()
+    }
+
+    /// Whether no key is that of the entry before it.
+    fn keys_differ(&self) -> bool
+        ensures { KeysDiffer self.now.entries result }
+    {
+        for i in 1..self.len() {
+            if self.key(i - 1) == self.key(i) {
+                return false;
+            }
+        }
+        true
+    }
+}
+
+/// The bytes of a range, as far as it lies within them.
+fn range(bytes: &[u8], start: usize, end: usize) -> &[u8]
+    ensures { result.now ≡ slice_range bytes.now start end }
+{
+    let end = end.min(bytes.len());
+    &bytes[start.min(end)..end]
+}
+
+/// Whether a spelling is that of a text.
+fn is_text(bytes: &[u8]) -> bool
+    ensures { result ≡ begins_text bytes.now }
+{
+    match bytes.first() {
+        Some(first) => *first / 32 == 3,
+        None => false,
+    }
+}

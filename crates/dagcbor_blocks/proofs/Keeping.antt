@@ -29,6 +29,7 @@ use Rattle.dagcbor_blocks.specs.Blocks.{Held, block_at, HoldsAlso, HasTree, HasB
 use Rattle.dagcbor_blocks.proofs.Laws.{front_unique, whole_front, on_ok}
 use Rattle.dagcbor_blocks.specs.declared.error.BlockError.{BlockError}
 use Rattle.dagcbor_blocks.specs.declared.error.BlockError.TheVariants.{Encode, Decode, Collision, OutOfMemory}
+use Rattle.serde_ipld_dagcbor.specs.Reading.{default_steps}
 
 abbrev pub Entry : Type 0
 Entry = CidParts × Vec ℕ Global
@@ -153,7 +154,7 @@ put_done law (Some t) v old new (Err OutOfMemory) a h = (h.0, tt)
 -- ---- getting
 
 module _ {V : Type 0} (shape : Shape Tree V) where
-  pub not_got : (name : CidParts) (held : Held) (b : List ℕ) (e : DecodeError Infallible) (told : BlockError) → IsHeld name b held → (IsReadExcuse e ⊎ HoldsNoValue shape b) × OfWhole e → TellsOfDecoding e told → GetRefused shape name held told
+  pub not_got : (name : CidParts) (held : Held) (b : List ℕ) (e : DecodeError Infallible) (told : BlockError) → IsHeld name b held → (IsReadExcuse e ⊎ HoldsNoValue shape default_steps b) × OfWhole e → TellsOfDecoding e told → GetRefused shape name held told
   not_got name held b (unread.Read e) told at r h = elim e [ ]
   not_got name held b unread.OutOfMemory told at r h = subst (GetRefused shape name held) (sym h) tt
   not_got name held b (unread.RequireBorrowed n) told at r h = absurd r.1

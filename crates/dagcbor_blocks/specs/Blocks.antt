@@ -21,6 +21,7 @@ use Rattle.dagcbor_blocks.specs.Names.{block_name}
 use Rattle.dagcbor_blocks.specs.declared.error.BlockError.{BlockError}
 use Rattle.dagcbor_blocks.specs.declared.error.BlockError.TheVariants.{Encode, Decode, Collision, OutOfMemory}
 use Rattle.dagcbor_blocks.specs.declared.store.Blocks.{Blocks}
+use Rattle.serde_ipld_dagcbor.specs.Reading.{default_steps}
 
 -- the names of blocks and their bytes
 abbrev pub Held : Type 0
@@ -66,7 +67,7 @@ HasBlock b = (t : Tree) × IsBlock b t
 -- why a spelling is no block
 abbrev pub CheckRefused : List ℕ → BlockError → Type 0
 CheckRefused b (Encode e) = ⊥
-CheckRefused b (Decode e) = IsOfBytes e × ((t : Tree) → IsSpelling b t → 256 < any_need t)
+CheckRefused b (Decode e) = IsOfBytes e × ((t : Tree) → IsSpelling b t → default_steps < any_need t)
 CheckRefused b Collision = ⊥
 CheckRefused b OutOfMemory = ⊤
 
@@ -88,7 +89,7 @@ Stores b old result new = MatchResult result
 -- why a spelling is not kept
 abbrev pub KeepRefused : List ℕ → Held → BlockError → Type 0
 KeepRefused b old (Encode e) = ⊥
-KeepRefused b old (Decode e) = IsOfBytes e × ((t : Tree) → IsSpelling b t → 256 < any_need t)
+KeepRefused b old (Decode e) = IsOfBytes e × ((t : Tree) → IsSpelling b t → default_steps < any_need t)
 KeepRefused b old Collision = (c : List ℕ) × (block_at (block_name b) old ≡ Some c) × (c ≢ b)
 KeepRefused b old OutOfMemory = ⊤
 
@@ -101,14 +102,14 @@ KeepsBlock b old result new = MatchResult result
 -- why a value is not kept: it has no tree, or its tree no spelling; its spelling's tree needs more than 256 steps; or other bytes are held under its name
 abbrev pub PutRefused : Option Tree → Held → BlockError → Type 0
 PutRefused tree old (Encode e) = IsOfValue e × IfSome tree (λ t. IsSpellable t → ⊥)
-PutRefused tree old (Decode e) = IsOfBytes e × IsSomeAnd tree (λ t. 256 < any_need t)
+PutRefused tree old (Decode e) = IsOfBytes e × IsSomeAnd tree (λ t. default_steps < any_need t)
 PutRefused tree old Collision = IsSomeAnd tree (λ t. (c : List ℕ) × (block_at (block_name (spelling t)) old ≡ Some c) × (c ≢ spelling t))
 PutRefused tree old OutOfMemory = ⊤
 
 -- The spelling of the value's tree is kept under its name. A refusal changes nothing.
 abbrev pub Puts : Option Tree → Held → Result CidParts BlockError → Held → Type 0
 Puts tree old result new = MatchResult result
-    (λ name. IsSomeAnd tree (λ t. IsTree t × IsSpellable t × (any_need t ≤ 256) × (name ≡ block_name (spelling t)) × HoldsAlso old name (spelling t) new))
+    (λ name. IsSomeAnd tree (λ t. IsTree t × IsSpellable t × (any_need t ≤ default_steps) × (name ≡ block_name (spelling t)) × HoldsAlso old name (spelling t) new))
     (λ e. (new ≡ old) × PutRefused tree old e)
 
 -- the bytes are held under the name, by which their SHA-256 is its digest
@@ -117,13 +118,13 @@ IsHeld name b held = (block_at name held ≡ Some b) × (name.digest ≡ sha256 
 
 abbrev pub GetRefused : {V : Type 0} → Shape Tree V → CidParts → Held → BlockError → Type 0
 GetRefused shape name held (Encode e) = ⊥
-GetRefused {V} shape name held (Decode e) = IsOfBytes e × ((b : List ℕ) × IsHeld name b held × ((v : V) → IsWhole shape b v → ⊥))
+GetRefused {V} shape name held (Decode e) = IsOfBytes e × ((b : List ℕ) × IsHeld name b held × ((v : V) → IsWhole shape default_steps b v → ⊥))
 GetRefused shape name held Collision = ⊥
 GetRefused shape name held OutOfMemory = ⊤
 
 abbrev pub GetsSome : {T V : Type 0} → (T → V) → Shape Tree V → CidParts → Held → Option T → Type 0
 GetsSome show shape name held None = block_at name held ≡ None
-GetsSome show shape name held (Some v) = (b : List ℕ) × IsHeld name b held × IsWhole shape b (show v)
+GetsSome show shape name held (Some v) = (b : List ℕ) × IsHeld name b held × IsWhole shape default_steps b (show v)
 
 -- None is answered exactly where no block has the name, else what the tree shows whose spelling is held; refused only where the type
 -- does not accept that tree within 256 steps.

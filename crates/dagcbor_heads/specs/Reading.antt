@@ -3,6 +3,15 @@ use Rattle.std.specs.Prelude.{◌≡◌, ℕ, ◌+◌, ◌<◌, ◌≤◌, min, 
 use Rattle.dagcbor_heads.specs.declared.read.Reference.{Reference}
 use Rattle.dagcbor_heads.specs.declared.read.Reference.TheVariants.{Long, Short}
 
+-- the steps that a reader has, where no other budget is given
+abbrev pub default_steps : ℕ
+default_steps = 256
+
+-- the steps left of a budget
+pub record StepsLeft : Type 0 where
+  pub left : ℕ
+  pub budget : ℕ
+
 pub record Reading : Type 0 where
   -- the bytes left, where the source tells them
   pub left : Option (List ℕ)
@@ -19,6 +28,19 @@ pub record Reading : Type 0 where
   pub looked : ℕ
   -- the references (by their ghost names) through which the source is reached
   pub through : List ℕ
+
+-- a reader that begins, with so many steps
+abbrev pub fresh_reading : Option (List ℕ) → ℕ → Bool → List ℕ → Reading
+fresh_reading left steps lends through = record {
+  left = left;
+  shown = [];
+  steps = steps;
+  budget = steps;
+  lends = lends;
+  faults = 0;
+  looked = 0;
+  through = through;
+}
 
 -- known bytes stay as they are
 abbrev pub Keeps : Reading → Reading → Type 0

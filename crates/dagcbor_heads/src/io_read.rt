@@ -1,9 +1,10 @@
 //! A reader over any buffered source.
 
-ghost use Rattle.std.specs.Prelude.{◌≡◌, [], false, List, ℕ, Some};
+ghost use Rattle.std.specs.Prelude.{◌≡◌, ◌≤◌, [], false, List, ℕ, Some};
+ghost use Rattle.dagcbor_heads.specs.Reading.{fresh_reading, default_steps};
 
 use crate::read::Read;
-use crate::steps::Steps;
+use crate::steps::{DEFAULT_STEPS, Steps};
 use crate::window::Window;
 use std::io;
 use std::io::BufRead;
@@ -28,8 +29,8 @@ impl<R: BufRead> Model for IoReader<R> {
     ghost view = { λ s. record {
       left = told s.window.shown (R.remaining s.source) (R.consumable_len s.source);
       shown = s.window.shown;
-      steps = s.steps;
-      budget = 256;
+      steps = s.steps.left;
+      budget = s.steps.budget;
       lends = false;
       faults = s.window.faults;
       looked = s.window.looked;
@@ -38,14 +39,22 @@ impl<R: BufRead> Model for IoReader<R> {
 }
 
 impl<R: BufRead> IoReader<R> {
-    /// A reader over the source, with a budget of 256 steps.
+    /// A reader over the source, with a budget of `DEFAULT_STEPS`.
     pub fn new(source: R) -> IoReader<R>
-        ensures { result ≡ record { left = R.remaining source; shown = []; steps = 256; budget = 256; lends = false; faults = 0; looked = 0; through = [] } }
+        ensures { result ≡ fresh_reading (R.remaining source) default_steps false [] }
+    {
+        IoReader::with_depth(source, DEFAULT_STEPS)
+    }
+
+    /// A reader over the source, with a budget of so many steps.
+    pub fn with_depth(source: R, steps: usize) -> IoReader<R>
+        requires { steps ≤ 1024 }
+        ensures { result ≡ fresh_reading (R.remaining source) steps false [] }
     {
         IoReader {
             source,
             window: Window::new(),
-            steps: Steps::new(),
+            steps: Steps::new(steps),
         }
     }
 

@@ -1,9 +1,10 @@
 //! A reader over a buffered source that is lent.
 
-ghost use Rattle.std.specs.Prelude.{◌≡◌, ◌∷◌, [], false, List, ℕ, Some};
+ghost use Rattle.std.specs.Prelude.{◌≡◌, ◌≤◌, ◌∷◌, [], false, List, ℕ, Some};
+ghost use Rattle.dagcbor_heads.specs.Reading.{fresh_reading, default_steps};
 
 use crate::read::Read;
-use crate::steps::Steps;
+use crate::steps::{DEFAULT_STEPS, Steps};
 use crate::window::Window;
 use std::io;
 use std::io::BufRead;
@@ -28,8 +29,8 @@ impl<'r, R: BufRead> Model for IoRefReader<'r, R> {
     ghost view = { λ s. record {
       left = told s.window.shown (R.remaining s.source.now) (R.consumable_len s.source.now);
       shown = s.window.shown;
-      steps = s.steps;
-      budget = 256;
+      steps = s.steps.left;
+      budget = s.steps.budget;
       lends = false;
       faults = s.window.faults;
       looked = s.window.looked;
@@ -38,14 +39,22 @@ impl<'r, R: BufRead> Model for IoRefReader<'r, R> {
 }
 
 impl<'r, R: BufRead> IoRefReader<'r, R> {
-    /// A reader over the source, with a budget of 256 steps.
+    /// A reader over the source, with a budget of `DEFAULT_STEPS`.
     pub fn new(source: &'r mut R) -> IoRefReader<'r, R>
-        ensures { result ≡ record { left = R.remaining source.old; shown = []; steps = 256; budget = 256; lends = false; faults = 0; looked = 0; through = source.entry.ghost_name ∷ [] } }
+        ensures { result ≡ fresh_reading (R.remaining source.old) default_steps false (source.entry.ghost_name ∷ []) }
+    {
+        IoRefReader::with_depth(source, DEFAULT_STEPS)
+    }
+
+    /// A reader over the source, with a budget of so many steps.
+    pub fn with_depth(source: &'r mut R, steps: usize) -> IoRefReader<'r, R>
+        requires { steps ≤ 1024 }
+        ensures { result ≡ fresh_reading (R.remaining source.old) steps false (source.entry.ghost_name ∷ []) }
     {
         IoRefReader {
             source,
             window: Window::new(),
-            steps: Steps::new(),
+            steps: Steps::new(steps),
         }
     }
 

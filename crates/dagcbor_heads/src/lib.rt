@@ -30,6 +30,7 @@ pub use pull::{
 };
 pub use push::push_head;
 pub use read::{Read, Reference, SliceReader};
+pub use steps::DEFAULT_STEPS;
 pub use tally::Tally;
 pub use write::{BufWriter, Write};
 

@@ -1,10 +1,10 @@
 //! Readers: a list of bytes, however they come.
 
 ghost use Rattle.std.specs.Prelude.{◌≡◌, ◌+◌, ◌-◌, ◌<◌, ◌≤◌, [], true, length, IfOk, MatchOption, MatchResult, MatchBool, Some, List, ℕ};
-ghost use Rattle.dagcbor_heads.specs.Reading.{Reading, IsShownOf, Shows, Fails, Advances, with_steps};
+ghost use Rattle.dagcbor_heads.specs.Reading.{Reading, IsShownOf, Shows, Fails, Advances, fresh_reading, default_steps, with_steps};
 ghost use Rattle.dagcbor_heads.specs.Fronts.{Takes};
 
-use crate::steps::Steps;
+use crate::steps::{DEFAULT_STEPS, Steps};
 use crate::tally::Tally;
 use std::convert::Infallible;
 use std::marker::Model;
@@ -78,8 +78,8 @@ impl<'a> Model for SliceReader<'a> {
     ghost view = { λ s. record {
       left = Some s.rest.now;
       shown = take s.shown s.rest.now;
-      steps = s.steps;
-      budget = 256;
+      steps = s.steps.left;
+      budget = s.steps.budget;
       lends = true;
       faults = 0;
       looked = s.looked.count;
@@ -90,14 +90,22 @@ impl<'a> Model for SliceReader<'a> {
 }
 
 impl<'a> SliceReader<'a> {
-    /// A reader over the bytes, with a budget of 256 steps.
+    /// A reader over the bytes, with a budget of `DEFAULT_STEPS`.
     pub fn new(bytes: &'a [u8]) -> SliceReader<'a>
-        ensures { result ≡ record { left = Some bytes.now; shown = []; steps = 256; budget = 256; lends = true; faults = 0; looked = 0; through = [] } }
+        ensures { result ≡ fresh_reading (Some bytes.now) default_steps true [] }
+    {
+        SliceReader::with_depth(bytes, DEFAULT_STEPS)
+    }
+
+    /// A reader over the bytes, with a budget of so many steps.
+    pub fn with_depth(bytes: &'a [u8], steps: usize) -> SliceReader<'a>
+        requires { steps ≤ 1024 }
+        ensures { result ≡ fresh_reading (Some bytes.now) steps true [] }
     {
         SliceReader {
             rest: bytes,
             shown: 0,
-            steps: Steps::new(),
+            steps: Steps::new(steps),
             looked: Tally::new(),
         }
     }

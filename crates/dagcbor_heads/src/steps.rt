@@ -5,37 +5,42 @@ ghost use Rattle.std.specs.Prelude.{◌≡◌, ◌+◌, ◌-◌, ◌<◌, MatchB
 use std::marker::Model;
 
 /// The steps that a reader has, where nothing else is said.
-const BUDGET: usize = 256;
+pub const DEFAULT_STEPS: usize = 256;
 
 /// How many steps are left of the budget.
 #[derive(Drop)]
 pub(crate) struct Steps {
     left: usize,
+    budget: usize,
 }
 
 impl Model for Steps {
-    ghost use Rattle.std.specs.Prelude.{ℕ, ◌≤◌};
+    ghost use Rattle.std.specs.Prelude.{◌≤◌};
+    ghost use Rattle.dagcbor_heads.specs.Reading.{StepsLeft};
 
-    ghost Value = { ℕ };
+    ghost Value = { StepsLeft };
 
-    ghost view = { λ s. s.left };
+    ghost view = { λ s. record { left = s.left; budget = s.budget } };
 
-    ghost invariant = { λ s. s.left ≤ 256 };
+    ghost invariant = { λ s. s.left ≤ s.budget };
 }
 
 impl Steps {
-    /// All of the budget.
-    pub(crate) fn new() -> Steps
-        ensures { result ≡ 256 }
+    /// All of a budget.
+    pub(crate) fn new(budget: usize) -> Steps
+        ensures { result ≡ record { left = budget; budget = budget } }
     {
-        Steps { left: BUDGET }
+        Steps {
+            left: budget,
+            budget,
+        }
     }
 
     /// Spends one, and answers false where none is left.
     pub(crate) fn spend(&mut self) -> bool
         ensures { MatchBool result
-            ((0 < self.old) × (self.new < 256) × (self.new ≡ self.old - 1))
-            ((self.old ≡ 0) × (self.new ≡ self.old)) }
+            ((0 < self.old.left) × (self.new.left < self.new.budget) × (self.new ≡ record { left = self.old.left - 1; budget = self.old.budget }))
+            ((self.old.left ≡ 0) × (self.new ≡ self.old)) }
     {
         if self.left == 0 {
             return false;
@@ -46,8 +51,8 @@ impl Steps {
 
     /// Gives one back that is out.
     pub(crate) fn give_back(&mut self)
-        requires { self.old < 256 }
-        ensures { self.new ≡ self.old + 1 }
+        requires { self.old.left < self.old.budget }
+        ensures { self.new ≡ record { left = self.old.left + 1; budget = self.old.budget } }
     {
         self.left += 1;
     }

@@ -3,9 +3,9 @@
 
 mod any;
 mod key;
-mod majors;
 mod leaf;
 mod link;
+mod majors;
 mod numbers;
 mod payloads;
 mod simple;

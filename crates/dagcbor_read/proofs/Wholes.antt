@@ -109,39 +109,39 @@ if_known : (left : Option (List ℕ)) (P : List ℕ → Type 0) → ((b : List �
 if_known None P f = tt
 if_known (Some b) P f = f b refl
 
-module _ {V : Type 0} (shape : Shape Tree V) where
-  first_front : (r : Reading) (b : List ℕ) (v : V) (rest : List ℕ) → r.left ≡ Some b → r.steps ≡ 256 → IsFirst shape b v rest → HasFront shape r
+module _ {V : Type 0} (shape : Shape Tree V) (steps : ℕ) where
+  first_front : (r : Reading) (b : List ℕ) (v : V) (rest : List ℕ) → r.left ≡ Some b → r.steps ≡ steps → IsFirst shape steps b v rest → HasFront shape r
   first_front r b v rest l s h = record { bytes = b; tree = h.0; rest = rest; left = l; front = h.1; accepted = ap is_some h.2; within = omega (arith, h.3, s) }
 
-  whole_of_front : (r : Reading) (b : List ℕ) (v : V) → r.left ≡ Some b → r.steps ≡ 256 → IsWhole shape b v → HasFront shape r
+  whole_of_front : (r : Reading) (b : List ℕ) (v : V) → r.left ≡ Some b → r.steps ≡ steps → IsWhole shape steps b v → HasFront shape r
   whole_of_front r b v l s h = first_front r b v [] l s (h.0, whole_front h.1, h.2, h.3)
 
-  no_whole : (b rest : List ℕ) (t : Tree) → IsFront b t rest → 0 < length rest → (v : V) → ¬ IsWhole shape b v
+  no_whole : (b rest : List ℕ) (t : Tree) → IsFront b t rest → 0 < length rest → (v : V) → ¬ IsWhole shape steps b v
   no_whole b rest t f some v h = omega (arith, some, ap length (front_unique b rest [] t h.0 f (whole_front h.1)).1)
 
-  value_trailing : {old mid new : Reading} (b : List ℕ) (v : V) (byte : ℕ) → old.left ≡ Some b → TakesFront shape old v mid → ShowsByte mid byte new → (w : V) → IsWhole shape b w → ⊥
+  value_trailing : {old mid new : Reading} (b : List ℕ) (v : V) (byte : ℕ) → old.left ≡ Some b → TakesFront shape old v mid → ShowsByte mid byte new → (w : V) → IsWhole shape steps b w → ⊥
   value_trailing b v byte l a h =
       let k = a.taken b l in
       let s = h.starts k.1 k.5 in
       let some : 0 < length k.1 = omega (arith, ap length s.1) in
       no_whole b k.1 k.0 k.2 some
 
-  value_whole : (b : List ℕ) (v : V) (rest : List ℕ) (t : Tree) → IsFront b t rest → shape.view t ≡ Some v → shape.need t ≤ 256 → rest ≡ [] → IsWhole shape b v
+  value_whole : (b : List ℕ) (v : V) (rest : List ℕ) (t : Tree) → IsFront b t rest → shape.view t ≡ Some v → shape.need t ≤ steps → rest ≡ [] → IsWhole shape steps b v
   value_whole b v rest t f e n none = (t, record { well_formed = f.well_formed; spellable = f.spellable; is = f.is ∙ ap (λ x. spelling t ++ x) none ∙ append-nil (spelling t) }, e, n)
 
   -- a value was read, and then the end was found
-  pub value_answered : (E : Type 0) (left : Option (List ℕ)) (start : Reading) (mid end : Progress) (v : V) → start.left ≡ left → start.steps ≡ 256
-      → (mid.failed ≡ false) × TakesFront shape start v mid.input → Ends {E = E} mid (Ok tt) end → IfSome left (λ b. IsWhole shape b v)
-  value_answered E left start mid end v at s h k = if_known left (λ b. IsWhole shape b v) (λ b l.
+  pub value_answered : (E : Type 0) (left : Option (List ℕ)) (start : Reading) (mid end : Progress) (v : V) → start.left ≡ left → start.steps ≡ steps
+      → (mid.failed ≡ false) × TakesFront shape start v mid.input → Ends {E = E} mid (Ok tt) end → IfSome left (λ b. IsWhole shape steps b v)
+  value_answered E left start mid end v at s h k = if_known left (λ b. IsWhole shape steps b v) (λ b l.
       let taken = h.1.taken b (at ∙ l) in
       let found = match_false mid.failed _ _ h.0 k in
       value_whole b v taken.1 taken.0 taken.2 taken.3 (omega (arith, taken.4, s)) (found.1.none_left taken.1 taken.5))
 
   -- why the first value is not read
   abbrev NotFirst : {E : Type 0} → Option (List ℕ) → DecodeError E → Type 0
-  NotFirst left e = (IsReadExcuse e ⊎ IfSome left (BeginsWithNoValue shape)) × OfWhole e
+  NotFirst left e = (IsReadExcuse e ⊎ IfSome left (BeginsWithNoValue shape steps)) × OfWhole e
 
-  first_refused : {E : Type 0} (left : Option (List ℕ)) (old new : Reading) (e : DecodeError E) → old.left ≡ left → old.steps ≡ 256 → shape.borrows ≡ false
+  first_refused : {E : Type 0} (left : Option (List ℕ)) (old new : Reading) (e : DecodeError E) → old.left ≡ left → old.steps ≡ steps → shape.borrows ≡ false
       → Refuses (HasFront shape old) ⊤ (shape.borrows ≡ true) Anything old e new → NotFirst left e
   first_refused left old new (Read x) at s o r = (inl tt, tt)
   first_refused left old new OutOfMemory at s o r = (inl tt, tt)
@@ -152,13 +152,13 @@ module _ {V : Type 0} (shape : Shape Tree V) where
 
   -- A value that borrows nothing was read; after an answer what the reader has left is what the source has.
   module _ {T E : Type 0} (meaning : T → V) (left after : Option (List ℕ)) (start mid : Progress) (r : Result T (DecodeError E))
-      (sound : start.failed ≡ false) (at : start.input.left ≡ left) (s : start.input.steps ≡ 256) (o : shape.borrows ≡ false) (h : ReadsValue meaning shape start r mid)
+      (sound : start.failed ≡ false) (at : start.input.left ≡ left) (s : start.input.steps ≡ steps) (o : shape.borrows ≡ false) (h : ReadsValue meaning shape start r mid)
     where
-      pub first_read : (Stays start.input mid.input → (b : List ℕ) → mid.input.left ≡ Some b → after ≡ Some b) → IfOk r (λ v. IfSome left (λ b. TakesFirst shape b (meaning v) after))
+      pub first_read : (Stays start.input mid.input → (b : List ℕ) → mid.input.left ≡ Some b → after ≡ Some b) → IfOk r (λ v. IfSome left (λ b. TakesFirst shape steps b (meaning v) after))
       first_read f = by r (h sound)
         where
           by : (r : Result T (DecodeError E)) → MatchResult r (λ v. (mid.failed ≡ false) × TakesFront shape start.input (meaning v) mid.input) (λ e. Refuses (HasFront shape start.input) ⊤ (shape.borrows ≡ true) Anything start.input e mid.input)
-              → IfOk r (λ v. IfSome left (λ b. TakesFirst shape b (meaning v) after))
+              → IfOk r (λ v. IfSome left (λ b. TakesFirst shape steps b (meaning v) after))
           by (Ok v) k = if_known left _ (λ b l.
               let taken = k.1.taken b (at ∙ l) in
               (taken.1, (taken.0, taken.2, taken.3, omega (arith, taken.4, s)), f k.1.same taken.1 taken.5))
@@ -174,7 +174,7 @@ module _ {V : Type 0} (shape : Shape Tree V) where
 
   -- why a whole input is not read
   abbrev NotWhole : {E : Type 0} → Option (List ℕ) → DecodeError E → Type 0
-  NotWhole left e = (IsReadExcuse e ⊎ IfSome left (HoldsNoValue shape)) × OfWhole e
+  NotWhole left e = (IsReadExcuse e ⊎ IfSome left (HoldsNoValue shape steps)) × OfWhole e
 
   module _ {E : Type 0} (left : Option (List ℕ)) where
     value_told : {old mid : Reading} (new : Reading) (v : V) (e : DecodeError E) (failed : Bool) → old.left ≡ left → TakesFront shape old v mid → TellsEnd mid (Err e) new failed → NotWhole left e
@@ -188,7 +188,7 @@ module _ {V : Type 0} (shape : Shape Tree V) where
     value_end_refused start mid end v e at h k = value_told end.input v e end.failed at h.1 (match_false mid.failed _ _ h.0 k)
 
     -- no value was read; a loan was not wanting
-    pub value_refused : (borrows : Type 0) (e : DecodeError E) (old new : Reading) → old.left ≡ left → old.steps ≡ 256 → (borrows → old.lends ≡ false → ⊥)
+    pub value_refused : (borrows : Type 0) (e : DecodeError E) (old new : Reading) → old.left ≡ left → old.steps ≡ steps → (borrows → old.lends ≡ false → ⊥)
         → Refuses (HasFront shape old) ⊤ borrows Anything old e new → NotWhole left e
     value_refused borrows (Read x) old new at s n r = (inl tt, tt)
     value_refused borrows OutOfMemory old new at s n r = (inl tt, tt)

@@ -2,7 +2,7 @@
 use Rattle.std.specs.Prelude.{◌≡◌, ℕ, ◌≤◌, List, Result, MatchResult, Vec, ⊤}
 use Rattle.std.specs.declared.alloc.Global.{Global}
 use Rattle.std.specs.declared.convert.Infallible.{Infallible}
-use Rattle.dagcbor_heads.specs.Reading.{Reading}
+use Rattle.dagcbor_heads.specs.Reading.{Reading, default_steps}
 use Rattle.dagcbor_heads.specs.declared.error.DecodeError.{DecodeError}
 use Rattle.dagcbor_heads.specs.declared.error.DecodeError.TheVariants.{Read, RequireBorrowed, OutOfMemory, Failed}
 use Rattle.ipld_tree.specs.Cid.{CidParts}
@@ -16,18 +16,18 @@ use Rattle.dagcbor_items.specs.Reads.{Reads}
 abbrev pub ReadsLinks : {E : Type 0} → Reading → Result (Vec CidParts Global) (DecodeError E) → Reading → Type 0
 ReadsLinks old = Reads (λ v. forms v.items) all_links ⊤ ⊥ (CauseInside old.steps) old
 
--- the bytes begin with a tree that is read within 256 steps, and these are its links
+-- the bytes begin with a tree that is read within `default_steps`, and these are its links
 abbrev pub AreFirstLinks : List ℕ → List (List ℕ) → Type 0
-AreFirstLinks b links = (t : Tree) × (rest : List ℕ) × IsFront b t rest × (any_need t ≤ 256) × (links ≡ links_of t)
+AreFirstLinks b links = (t : Tree) × (rest : List ℕ) × IsFront b t rest × (any_need t ≤ default_steps) × (links ≡ links_of t)
 
--- why no links are read: for want of memory, or since no item stands first that is read within 256 steps; a slice does not fault
+-- why no links are read: for want of memory, or since no item stands first that is read within `default_steps`; a slice does not fault
 abbrev pub LinksRefused : DecodeError Infallible → List ℕ → Type 0
 LinksRefused (Read e) b = ⊥
 LinksRefused OutOfMemory b = ⊤
 LinksRefused (RequireBorrowed name) b = ⊥
 LinksRefused Failed b = ⊥
-LinksRefused e b = ((links : List (List ℕ)) → AreFirstLinks b links → ⊥) × CauseInside 256 e b
+LinksRefused e b = ((links : List (List ℕ)) → AreFirstLinks b links → ⊥) × CauseInside default_steps e b
 
--- The links of the first item of a slice are read exactly where one stands that is read within 256 steps. What follows it is not looked at.
+-- The links of the first item of a slice are read exactly where one stands that is read within `default_steps`. What follows it is not looked at.
 abbrev pub ReadsFirstLinks : List ℕ → Result (Vec CidParts Global) (DecodeError Infallible) → Type 0
 ReadsFirstLinks b result = MatchResult result (λ v. AreFirstLinks b (forms v.items)) (λ e. LinksRefused e b)

@@ -1,6 +1,7 @@
 //! The reader's state between calls.
 
 ghost use Rattle.std.specs.Prelude.{◌≡◌, [], false, true, MatchResult, Some, IfErr, ◌+◌, ◌≤◌, ◌^◌, IfOk, codes, pos, negsuc, ◌≤ℤ◌, ◌↔◌, option_map};
+ghost use Rattle.dagcbor_heads.specs.Reading.{fresh_reading, default_steps};
 ghost use Rattle.dagcbor_heads.specs.Inputs.{not_lending};
 ghost use Rattle.dagcbor_heads.specs.declared.error.DecodeError.TheVariants.{Failed};
 ghost use Rattle.dagcbor_items.specs.Looks.{LooksAtAny};
@@ -42,15 +43,22 @@ pub struct Deserializer<'de, R> {
 }
 
 impl<'de> Deserializer<'de, SliceReader<'de>> {
-    /// Reads from the slice, whose bytes are lent, with a budget of 256 steps.
+    /// Reads from the slice, whose bytes are lent, with a budget of `DEFAULT_STEPS`.
     pub fn from_slice(bytes: &'de [u8]) -> Deserializer<'de, SliceReader<'de>>
         ensures { progress (λ r. r) result ≡ record {
-          input = record { left = Some bytes.now; shown = []; steps = 256; budget = 256; lends = true; faults = 0; looked = 0; through = [] };
+          input = fresh_reading (Some bytes.now) default_steps true [];
           failed = false;
         } }
     {
+        Deserializer::from_slice_reader(SliceReader::new(bytes))
+    }
+
+    /// Reads from what the reader of a slice has left, which is lent, with the steps that it has.
+    pub fn from_slice_reader(reader: SliceReader<'de>) -> Deserializer<'de, SliceReader<'de>>
+        ensures { progress (λ r. r) result ≡ record { input = reader.entry; failed = false } }
+    {
         Deserializer {
-            input: Input::Slice(SliceReader::new(bytes)),
+            input: Input::Slice(reader),
             failed: false,
         }
     }

@@ -25,7 +25,7 @@ pub use shown::Shown;
 pub use source::{from_reader, from_reader_once};
 pub use stream::{StreamDeserializer, iter_from_reader};
 pub use types::data::IgnoredAny;
-pub use whole::{any_from_slice, check_slice, from_slice};
+pub use whole::{any_from_slice, check_slice, from_slice, from_slice_with_depth};
 
 #[cfg(test)]
 mod tests;

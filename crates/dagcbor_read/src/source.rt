@@ -1,6 +1,7 @@
 //! Reading one value from a buffered source of std.
 
 ghost use Rattle.std.specs.Prelude.{◌⊎◌, IfOk, IfErr, IfSome};
+ghost use Rattle.dagcbor_heads.specs.Reading.{default_steps};
 ghost use Rattle.dagcbor_read.specs.Whole.{IsWhole, HoldsNoValue, TakesFirst, BeginsWithNoValue, IsReadExcuse, OfWhole};
 
 use crate::deserialize::DeserializeOwned;
@@ -16,8 +17,8 @@ pub fn from_reader<'de, T: DeserializeOwned<'de>, R: BufRead + Drop>(
     alloc: Global,
     reader: R,
 ) -> Result<T, DecodeError<io::Error>>
-    ensures value { IfOk result (λ v. IfSome (R.remaining reader) (λ b. IsWhole T.shape b (T.meaning v))) }
-    ensures refused { IfErr result (λ e. IsReadExcuse e ⊎ IfSome (R.remaining reader) (HoldsNoValue T.shape)) }
+    ensures value { IfOk result (λ v. IfSome (R.remaining reader) (λ b. IsWhole T.shape default_steps b (T.meaning v))) }
+    ensures refused { IfErr result (λ e. IsReadExcuse e ⊎ IfSome (R.remaining reader) (HoldsNoValue T.shape default_steps)) }
     ensures never { IfErr result OfWhole }
 {
     let mut de = Deserializer::from_reader(IoReader::new(reader));
@@ -33,8 +34,8 @@ pub fn from_reader_once<'de, T: DeserializeOwned<'de>, R: BufRead>(
     reader: &mut R,
 ) -> Result<T, DecodeError<io::Error>>
     ensures value { IfOk result (λ v. IfSome (R.remaining reader.old)
-        (λ b. TakesFirst T.shape b (T.meaning v) (R.remaining reader.new))) }
-    ensures refused { IfErr result (λ e. IsReadExcuse e ⊎ IfSome (R.remaining reader.old) (BeginsWithNoValue T.shape)) }
+        (λ b. TakesFirst T.shape default_steps b (T.meaning v) (R.remaining reader.new))) }
+    ensures refused { IfErr result (λ e. IsReadExcuse e ⊎ IfSome (R.remaining reader.old) (BeginsWithNoValue T.shape default_steps)) }
     ensures never { IfErr result OfWhole }
 {
     let mut de = Deserializer::from_reader(IoRefReader::new(reader));

@@ -1,6 +1,7 @@
 //! Streams: values one behind the other, up to the end of the input.
 
 ghost use Rattle.std.specs.Prelude.{◌≡◌, [], false};
+ghost use Rattle.dagcbor_heads.specs.Reading.{fresh_reading, default_steps};
 ghost use Rattle.dagcbor_read.specs.Calls.{progress};
 ghost use Rattle.dagcbor_read.specs.Streams.{streaming, items_left, GivesNext};
 
@@ -60,7 +61,7 @@ pub fn iter_from_reader<'de, T: DeserializeOwned<'de>, R: BufRead + Drop>(
 ) -> StreamDeserializer<'de, IoReader<R>, T>
     ensures { streaming (λ r. r) result ≡ record {
       source = record {
-        input = record { left = R.remaining source; shown = []; steps = 256; budget = 256; lends = false; faults = 0; looked = 0; through = [] };
+        input = fresh_reading (R.remaining source) default_steps false [];
         failed = false;
       };
       done = false;

@@ -1,12 +1,13 @@
 //! Reading one value.
 
-ghost use Rattle.std.specs.Prelude.{◌⊎◌, IfOk, IfErr};
+ghost use Rattle.std.specs.Prelude.{◌⊎◌, ◌≤◌, IfOk, IfErr};
+ghost use Rattle.dagcbor_heads.specs.Reading.{default_steps};
 ghost use Rattle.dagcbor_read.specs.Whole.{IsWhole, HoldsNoValue, IsReadExcuse, OfWhole, ReadsSlice, ChecksSlice};
 
 use crate::deserialize::Deserialize;
 use crate::deserializer::Deserializer;
 use crate::kind::{Kind, kind_of_front};
-use dagcbor_heads::{DecodeError, SliceReader, is_at_end};
+use dagcbor_heads::{DEFAULT_STEPS, DecodeError, SliceReader, is_at_end};
 use dagcbor_items::{NoLinks, walk_any};
 use ipld_tree::Ipld;
 use std::alloc::Global;
@@ -17,11 +18,25 @@ pub fn from_slice<'a, T: Deserialize<'a>>(
     alloc: Global,
     bytes: &'a [u8],
 ) -> Result<T, DecodeError<Infallible>>
-    ensures value { IfOk result (λ v. IsWhole T.shape bytes.now (T.meaning v)) }
-    ensures refused { IfErr result (λ e. IsReadExcuse e ⊎ HoldsNoValue T.shape bytes.now) }
+    ensures value { IfOk result (λ v. IsWhole T.shape default_steps bytes.now (T.meaning v)) }
+    ensures refused { IfErr result (λ e. IsReadExcuse e ⊎ HoldsNoValue T.shape default_steps bytes.now) }
     ensures never { IfErr result OfWhole }
 {
-    let mut de = Deserializer::from_slice(bytes);
+    from_slice_with_depth(alloc, bytes, DEFAULT_STEPS)
+}
+
+/// The same within a budget of so many steps, at most 1,024: each list or map takes a step or two, and needs stack (README).
+pub fn from_slice_with_depth<'a, T: Deserialize<'a>>(
+    alloc: Global,
+    bytes: &'a [u8],
+    steps: usize,
+) -> Result<T, DecodeError<Infallible>>
+    requires { steps ≤ 1024 }
+    ensures value { IfOk result (λ v. IsWhole T.shape steps bytes.now (T.meaning v)) }
+    ensures refused { IfErr result (λ e. IsReadExcuse e ⊎ HoldsNoValue T.shape steps bytes.now) }
+    ensures never { IfErr result OfWhole }
+{
+    let mut de = Deserializer::from_slice_reader(SliceReader::with_depth(bytes, steps));
     let value = T::deserialize(alloc, &mut de)?;
     de.end()?;
     Ok(value)

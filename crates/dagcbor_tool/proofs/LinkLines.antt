@@ -21,7 +21,7 @@ link_behind links i link first old spaced new within is so_far space digits =
     let form = cid_bytes link in
     let done = map cid_bytes (take i links) in
     let more : take (i + 1) links ≡ take i links ++ link ∷ [] =
-        ap (λ n. take n links) (add-one i) ∙ take-suc links i link within ∙ ap (λ y. take i links ++ y ∷ []) (sym is) in
+    ap (λ n. take n links) (add-one i) ∙ take-suc links i link within ∙ ap (λ y. take i links ++ y ∷ []) (sym is) in
     let forms : map cid_bytes (take (i + 1) links) ≡ done ++ form ∷ [] = ap (λ ls. map cid_bytes ls) more ∙ map-append cid_bytes (take i links) (link ∷ []) in
     digits ∙ ap (λ (s : List ℕ). s ++ encode_lower form) (space ∙ ap (λ (s : List ℕ). s ++ 32 ∷ []) so_far)
     ∙ append_assoc (first ++ behind_spaces done) (32 ∷ []) (encode_lower form)

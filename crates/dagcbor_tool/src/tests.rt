@@ -1,8 +1,8 @@
 //! The program's lines, words and faults.
 
 use super::*;
-use crate::run::{run_check, run_links};
 use crate::line::ToolError;
+use crate::run::{run_check, run_links};
 use std::alloc::Global;
 use std::io::{BufRead, Read, Write};
 use std::test::Fail;
@@ -123,9 +123,9 @@ fn every_kind_has_its_name(rt: HostRuntime) -> Result<(), Fail> {
 
 #[test]
 fn links_of_each_line(rt: HostRuntime) -> Result<(), Fail> {
-    let lines = b"d82a490001ce019b010263c8\n80\na26162d82a450001550000626161d82a450001710000\nf600\n81\nzz\n";
-    let answers =
-        b"01ce019b010263c8\nnone\n01550000 01710000\nnone\nrefused Eof\nrefused hex\n";
+    let lines =
+        b"d82a490001ce019b010263c8\n80\na26162d82a450001550000626161d82a450001710000\nf600\n81\nzz\n";
+    let answers = b"01ce019b010263c8\nnone\n01550000 01710000\nnone\nrefused Eof\nrefused hex\n";
     let mut output = Vec::new(rt.alloc());
     run_links(rt.alloc(), &mut &lines[..], &mut output)?;
     assert_eq!(rt; output.as_slice(), answers.as_slice());

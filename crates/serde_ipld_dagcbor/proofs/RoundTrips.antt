@@ -13,6 +13,7 @@ use Rattle.serde_ipld_dagcbor.specs.Codec.{spellings_are_unique}
 use Rattle.serde_ipld_dagcbor.specs.RoundTrips.{TypedReadThenWritten, ReadThenWritten, IsReadBack, TypedWrittenThenRead, WrittenThenRead, IsWrittenBack}
 use Rattle.dagcbor_read.specs.Shapes.{Shape, any_tree}
 use Rattle.dagcbor_heads.specs.declared.error.EncodeError.{EncodeError}
+use Rattle.dagcbor_heads.specs.Reading.{default_steps}
 
 some_same : {A : Type 0} (a b : A) → Some a ≡ Some b → a ≡ b
 some_same a b e = cc e
@@ -27,7 +28,7 @@ module _ {T V : Type 0} (held : T → V) (shape : Shape Tree V) (tree : T → Op
       by (unwritten.Msg m) w = elim w [ inl k ↦ absurd (cc k) | inr k ↦ subst HasNoSpelling (own h.0 h.2) k h.1.spellable ]
       by (unwritten.Write x) w = elim x [ ]
 
-  no_refusal : (x : V) (b : List ℕ) (e : DecodeError Infallible) → IsWhole shape b x → (IsReadExcuse e ⊎ HoldsNoValue shape b) × OfWhole e → IsReadBack held x (Err e)
+  no_refusal : (x : V) (b : List ℕ) (e : DecodeError Infallible) → IsWhole shape default_steps b x → (IsReadExcuse e ⊎ HoldsNoValue shape default_steps b) × OfWhole e → IsReadBack held x (Err e)
   no_refusal x b (Read e) h r = elim e [ ]
   no_refusal x b OutOfMemory h r = tt
   no_refusal x b (RequireBorrowed name) h r = r.1

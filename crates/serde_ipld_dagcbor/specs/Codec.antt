@@ -18,10 +18,11 @@ use Rattle.dagcbor_read.specs.AllLinks.{AreFirstLinks, LinksRefused}
 use Rattle.serde_ipld_dagcbor.specs.declared.error.CodecError.{CodecError}
 use Rattle.serde_ipld_dagcbor.specs.declared.error.CodecError.TheVariants.{Decode, Encode, DecodeIo, EncodeIo}
 use Rattle.dagcbor_read.specs.Shapes.{Shape}
+use Rattle.dagcbor_heads.specs.Reading.{default_steps}
 
 -- the tree shows v to the type, within 256 steps
 abbrev pub IsReadAs : {V : Type 0} → Shape Tree V → Tree → V → Type 0
-IsReadAs shape t v = (shape.view t ≡ Some v) × (shape.need t ≤ 256)
+IsReadAs shape t v = (shape.view t ≡ Some v) × (shape.need t ≤ default_steps)
 
 -- ---- excuses
 
@@ -36,7 +37,7 @@ IsExcuse (EncodeIo e) = IsWriteExcuse e
 
 -- why a source's bytes, where they are known, are not read
 abbrev pub NotDecoded : {V : Type 0} → Shape Tree V → Option (List ℕ) → CodecError → Type 0
-NotDecoded shape left (DecodeIo e) = (IsReadExcuse e ⊎ IfSome left (HoldsNoValue shape)) × OfWhole e
+NotDecoded shape left (DecodeIo e) = (IsReadExcuse e ⊎ IfSome left (HoldsNoValue shape default_steps)) × OfWhole e
 NotDecoded shape left _ = ⊥
 
 abbrev pub DecodeRefused : {T V : Type 0} → Shape Tree V → Option (List ℕ) → Result T CodecError → Type 0

@@ -16,8 +16,8 @@ pub use dagcbor_heads::{
 pub use dagcbor_read::{
     Accessor, Deserialize, DeserializeOwned, Deserializer, EnumAccessor, Fields, IgnoredAny, Kind,
     Shown, StreamDeserializer, Variants, any_from_slice, check_slice, from_reader,
-    from_reader_once, from_slice, iter_from_reader, links_from_slice, read_enum, read_fields,
-    read_into, read_struct, read_struct_variant, skip_value,
+    from_reader_once, from_slice, from_slice_with_depth, iter_from_reader, links_from_slice,
+    read_enum, read_fields, read_into, read_struct, read_struct_variant, skip_value,
 };
 pub use dagcbor_write::{
     BoundedCollect, CollectMap, CollectSeq, Serialize, Serializer, to_vec, to_writer,

@@ -6,8 +6,7 @@ use Rattle.dagcbor_tool.proofs.answer.verdict.Goals as goal
 
 pub returns-in_ok-sentence-in-Ok-clause-written : goal.returns-in_ok-sentence-in-Ok-clause-written
 returns-in_ok-sentence-in-Ok-clause-written c =
-    let found = c.in-Ok.ensures in
-    (
+    let found = c.in-Ok.ensures in (
       codes "ok " ++ kind_name (kind_of found.0),
       inl (found.0, found.1, refl),
       c.in_ok-sentence-in-Ok.ensures ∙ ap (λ (s : List ℕ). (codes "ok " ++ s) ++ 10 ∷ []) (c.kind_name.ensures ∙ ap kind_name found.2),

@@ -10,6 +10,7 @@ mod data_enum;
 mod devices;
 mod enum_struct;
 mod heads;
+mod hostile;
 mod io;
 mod kinded;
 mod leaves;

@@ -90,6 +90,8 @@ impl<'de, V: Deserialize<'de>> Fields<'de> for HashMap<String, V> {
     }
 }
 
+/// For a stranger's bytes read a `BTreeMap`. The hasher's seed is fixed, so anyone finds keys whose
+/// hashes agree, and n such keys take time in proportion to the square of n.
 impl<'de, V: Deserialize<'de>> Deserialize<'de> for HashMap<String, V> {
     fn deserialize<R: Read>(
         alloc: Global,

@@ -1,11 +1,11 @@
 #!/usr/bin/env python3
-"""Memory and time against size: reading, judging and writing, for a thousand to a million items.
+"""Memory and time against size: reading, judging and writing, for a thousand to four thousand items.
 
     bench/growth.py
 
 For each call a line with the processor time an item at each size, and the heap that was live at most beyond what was before, as
 a factor of the block's bytes. The time grows linearly where the numbers of a line stay what they are. The program is built with
-checks for bad accesses, so it is some ten times slower than a proved build: the growth is what counts. Nothing here is a test."""
+checks for bad accesses, so it is hundreds of times slower than a proved build: the growth is what counts. Nothing here is a test."""
 
 import os
 import subprocess

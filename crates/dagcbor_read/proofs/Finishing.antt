@@ -1,6 +1,6 @@
 -- A value that is made of what was read.
-use Rattle.std.proofs.Common.{◌≡◌, true, false, sym, ap, ◌∙◌, subst, refl}
-use Rattle.std.specs.Prelude.{Option, None, Some, option_and_then, is_some, Result, MatchResult, IsErrAnd, ⊤}
+use Rattle.std.proofs.Common.{◌≡◌, Bool, true, false, sym, ap, ◌∙◌, subst, refl}
+use Rattle.std.specs.Prelude.{Option, None, Some, option_and_then, is_some, Result, Ok, Err, MatchResult, IsErrAnd, MatchBool, ⊤}
 use Rattle.dagcbor_heads.specs.Reading.{Reading}
 use Rattle.dagcbor_heads.specs.Refusals.{Refuses}
 use Rattle.dagcbor_heads.specs.declared.name.Name.{Name}
@@ -12,6 +12,8 @@ use Rattle.ipld_tree.specs.Tree.{Tree}
 use Rattle.ipld_tree.proofs.Fronts.{front_unique}
 use Rattle.dagcbor_items.specs.Reads.{HasFront, TakesFront, Anything}
 use Rattle.dagcbor_items.specs.Shapes.{Shape}
+use Rattle.dagcbor_read.specs.Calls.{Progress}
+use Rattle.dagcbor_read.specs.Enums.{EnumState, IsOtherForm, ReadsHeld, ReadsFieldsHeld}
 use Rattle.dagcbor_read.specs.Collections.{finishing}
 
 module _ {S V : Type 0} (shape : Shape Tree S) (finish : S → Option V) where
@@ -60,6 +62,41 @@ module _ {S V : Type 0} (shape : Shape Tree S) (finish : S → Option V) where
       (λ x. x) (λ x. x) (λ b l. (b, l, λ x. x)) (h fresh)
 
   -- it was not read, which `?` hands on
-  pub handed_on : (B : Type 0) {F E T : Type 0} (P : T → Type 0) (old new : Reading) (result : Result T (DecodeError E)) (error : DecodeError E) → IsErrAnd result (λ y. y ≡ error) → Refuses (HasFront shape old) ⊤ B Anything old error new
+  pub handed_on : (B : Type 0) {F E T : Type 0} (P : T → Type 0) (old new : Reading) (result : Result T (DecodeError E)) (error : DecodeError E) → IsErrAnd result (λ y. y ≡ error) → (F → Refuses (HasFront shape old) ⊤ B Anything old error new)
       → F → MatchResult result P (λ e. Refuses (HasFront (finishing finish shape) old) ⊤ B Anything old e new)
-  handed_on B {F} {E} {T} P old new result error is h fresh = refused P (λ e. Refuses (HasFront (finishing finish shape) old) ⊤ B Anything old e new) result error is (not_read B old new {F = F} error (λ f. h) fresh)
+  handed_on B {F} {E} {T} P old new result error is h fresh = refused P (λ e. Refuses (HasFront (finishing finish shape) old) ⊤ B Anything old e new) result error is (not_read B old new {F = F} error h fresh)
+
+  -- what was read makes a value, or is refused
+  pub finishes : {F A E T : Type 0} (B : Type 0) (meaning : T → V) {old new : Reading} {s : S} (result : Result T (DecodeError E))
+      → MatchResult result (λ v. finish s ≡ Some (meaning v)) (λ e. (finish s ≡ None) × ((kept : Name) × (e ≡ Msg kept))) → (F → A × TakesFront shape old s new) → F
+      → MatchResult result (λ v. A × TakesFront (finishing finish shape) old (meaning v) new) (λ e. Refuses (HasFront (finishing finish shape) old) ⊤ B Anything old e new)
+  finishes B meaning (Ok v) h k fresh = finished k h fresh
+  finishes B meaning (Err e) h k fresh = unfinished B h.1 h.0 k fresh
+
+  -- ---- the same of the fields that a variant holds
+
+  -- what was read makes a value, or is refused
+  pub held_finishes : {E T U : Type 0} (state : T → S) (meaning : U → V) (e : EnumState) (old new : Progress) (s : T) (result : Result U (DecodeError E))
+      → MatchResult result (λ v. finish (state s) ≡ Some (meaning v)) (λ x. (finish (state s) ≡ None) × ((kept : Name) × (x ≡ Msg kept)))
+      → ReadsFieldsHeld {E = E} state shape e old (Ok s) new → ReadsFieldsHeld meaning (finishing finish shape) e old result new
+  held_finishes state meaning e old new s (Ok v) is h fresh =
+      let k = h fresh in
+      let made = finished {F = Unit {0}} {A = Unit {0}} (λ u. (tt, k.1.1.1)) is tt in
+      (k.0, (k.1.0, (k.1.1.0, made.1, k.1.1.2)))
+  held_finishes {E} state meaning e old new s (Err x) is h fresh =
+      let k = h fresh in
+      let refuses : Reading → DecodeError E → Type 0 = λ now y. Refuses {E = E} (HasFront (finishing finish shape) old.input) ⊤ (shape.borrows ≡ true) Anything old.input y now in
+      let none : refuses k.1.1.0 (Msg is.1.0) = unfinished (shape.borrows ≡ true) {F = Unit {0}} {A = Unit {0}} {E = E} {error = Msg is.1.0} (is.1.0, refl) is.0 (λ u. (tt, k.1.1.1)) tt in
+      let back : refuses new.input (Msg is.1.0) = subst (λ now. refuses now (Msg is.1.0)) (sym k.1.1.2) none in
+      (tt, subst (λ m. MatchBool m (refuses new.input x) (IsOtherForm e x × (new.input ≡ old.input))) (sym k.1.0) (subst (refuses new.input) (sym is.1.1) back))
+
+  -- it was not read, which `?` hands on
+  pub held_handed_on : {E T U : Type 0} (state : T → S) (meaning : U → V) (e : EnumState) (old new : Progress) (result : Result U (DecodeError E)) (error : DecodeError E) → IsErrAnd result (λ y. y ≡ error)
+      → ReadsFieldsHeld {E = E} state shape e old (Err error) new → ReadsFieldsHeld meaning (finishing finish shape) e old result new
+  held_handed_on state meaning e old new (Ok v) error is h fresh = absurd is
+  held_handed_on {E} {T} state meaning e old new (Err x) error is h fresh = (tt, by e.in_map (subst (λ y. ReadsHeld {T = T} {E = E} state shape e old.input (Err y) new.input) (sym is) (h fresh).1))
+    where
+      by : (m : Bool) → MatchBool m (Refuses (HasFront shape old.input) ⊤ (shape.borrows ≡ true) Anything old.input x new.input) (IsOtherForm e x × (new.input ≡ old.input))
+          → MatchBool m (Refuses (HasFront (finishing finish shape) old.input) ⊤ (shape.borrows ≡ true) Anything old.input x new.input) (IsOtherForm e x × (new.input ≡ old.input))
+      by true r = not_read (shape.borrows ≡ true) old.input new.input {F = Unit {0}} x (λ u. r) tt
+      by false r = r

@@ -28,6 +28,7 @@ pub use Rattle.dagcbor_items.specs.LeafReads
 pub mod Parts
 pub mod Accessors
 pub mod Collections
+pub mod Structs
 pub mod Enums
 pub mod EnumViews
 pub mod TreeKinds

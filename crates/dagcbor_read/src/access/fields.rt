@@ -1,6 +1,6 @@
-//! Structs, whose fields are read by their names.
+//! What the entries of a map make: the places of a struct, or a map.
 
-ghost use Rattle.std.specs.Prelude.{◌≡◌, ◌+◌, ◌≤◌, ℕ, List, Bool, Option, option_map, true, false, codes};
+ghost use Rattle.std.specs.Prelude.{◌≡◌, ◌+◌, ◌≤◌, ℕ, List, [], Bool, Option, option_map, true, false, codes};
 ghost use Rattle.ipld_tree.specs.Tree.{Tree, any_need};
 ghost use Rattle.dagcbor_items.specs.Shapes.{ignored};
 ghost use Rattle.dagcbor_read.specs.Calls.{progress, StaysFailed, Over};
@@ -8,6 +8,7 @@ ghost use Rattle.dagcbor_read.specs.Values.{ReadsValue};
 ghost use Rattle.dagcbor_read.specs.Accessors.{accessor_state, HasHeadOf, BeginsItems};
 ghost use Rattle.dagcbor_read.specs.Parts.{RefusesToBegin};
 ghost use Rattle.dagcbor_read.specs.Collections.{FieldShape, fields_of, value_of, slot_of, ReadsEntriesLeft};
+ghost use Rattle.dagcbor_read.specs.Structs.{texts};
 
 use crate::access::accessor::Accessor;
 use crate::deserialize::Deserialize;
@@ -15,77 +16,80 @@ use crate::deserializer::Deserializer;
 use dagcbor_heads::{DecodeError, Read};
 use std::alloc::Global;
 
-/// What the entries of a map make, while they are read: a struct's places, one for each field, or a map of the caller's.
+/// What the entries of a map make: the fields of a struct, or a map of the caller's.
 pub trait Fields<'de>: Sized + Drop {
     /// What was read so far.
+    type Places: Drop;
+
     ghost State: { Type 0 };
 
-    ghost state: { Self → State };
+    ghost state: { Self.Places → State };
 
-    /// What the value of a key makes of it.
-    ghost shape: { FieldShape State };
+    /// Before anything was read.
+    ghost unread: { State };
+
+    /// What the value of a key makes of it, where the fields have these names.
+    ghost shape: { List (List ℕ) → FieldShape State };
+
+    /// What the fields hold, wherever it lies in memory.
+    ghost View: { Type 0 };
+
+    ghost meaning: { Self → View };
+
+    /// Once all was read. None where a field is missing.
+    ghost finish: { State → Option View };
+
+    fn unread(alloc: Global) -> Self::Places
+        ensures { state result ≡ unread };
 
     /// Reads the value of the key, or skips it.
     fn read_field<R: Read>(
-        &mut self,
+        places: &mut Self::Places,
         alloc: Global,
+        names: &[&str],
         key: &str,
         de: &mut Deserializer<'de, R>,
     ) -> Result<(), DecodeError<R::Error>>
-        ensures { Over R.reading (ReadsValue (λ _. state self.new) (value_of Self.shape (state self.old) key.now)) de.old result de.new };
+        ensures { Over R.reading (ReadsValue (λ _. state places.new) (value_of (Self.shape (texts names.now)) (state places.old) key.now)) de.old result de.new };
+
+    fn finish(places: Self::Places) -> Option<Self>
+        ensures { option_map meaning result ≡ finish (state places) };
 }
 
 /// Reads all that is left of a map, and ends it.
 pub(crate) fn read_entries_left<'de, F: Fields<'de>, R: Read>(
     alloc: Global,
-    fields: F,
+    names: &[&str],
     entries: Accessor<'de>,
     de: &mut Deserializer<'de, R>,
-) -> Result<F, DecodeError<R::Error>>
+) -> Result<F::Places, DecodeError<R::Error>>
     requires map { (accessor_state entries).is_map ≡ true }
     requires in_turn { (accessor_state entries).owes_value ≡ false }
     requires sound { (progress R.reading de.old).failed ≡ false }
     requires out { (progress R.reading de.old).input.steps + (accessor_state entries).steps ≤ (progress R.reading de.old).input.budget }
-    ensures { Over R.reading (ReadsEntriesLeft F.state F.shape (F.state fields) (accessor_state entries.entry)) de.old result de.new }
+    ensures { Over R.reading (ReadsEntriesLeft F.state (F.shape (texts names.now)) F.unread (accessor_state entries.entry)) de.old result de.new }
 {
-    let mut fields = fields;
+    let mut places = F::unread(alloc);
     let mut entries = entries;
     while let Some(key) = entries.next_key(alloc, de)? {
-        fields.read_field(alloc, key.as_str(), de)?;
+        F::read_field(&mut places, alloc, names, key.as_str(), de)?;
         entries.note_value();
     }
     entries.end(de)?;
-    Ok(fields)
+    Ok(places)
 }
 
-/// Reads the fields from a map, whatever their order.
+/// Reads the entries of a map, whatever their order: what they make, before it is finished.
 pub fn read_fields<'de, F: Fields<'de>, R: Read>(
     alloc: Global,
-    fields: F,
     de: &mut Deserializer<'de, R>,
-) -> Result<F, DecodeError<R::Error>>
-    ensures value { Over R.reading (ReadsValue F.state (fields_of F.shape (F.state fields))) de.old result de.new }
+) -> Result<F::Places, DecodeError<R::Error>>
+    ensures value { Over R.reading (ReadsValue F.state (fields_of (F.shape []) F.unread)) de.old result de.new }
     ensures named { Over R.reading (RefusesToBegin (HasHeadOf 5) (BeginsItems 5 (codes "map") 1)) de.old result de.new }
     ensures failed { Over R.reading StaysFailed de.old result de.new }
 {
     let entries = de.deserialize_map()?;
-    read_entries_left(alloc, fields, entries, de)
-}
-
-/// Reads the fields from a map, whatever their order, under the struct's name. The fields' names are not looked at.
-pub fn read_struct<'de, F: Fields<'de>, R: Read>(
-    alloc: Global,
-    name: &str,
-    names: &[&str],
-    fields: F,
-    de: &mut Deserializer<'de, R>,
-) -> Result<F, DecodeError<R::Error>>
-    ensures value { Over R.reading (ReadsValue F.state (fields_of F.shape (F.state fields))) de.old result de.new }
-    ensures named { Over R.reading (RefusesToBegin (HasHeadOf 5) (BeginsItems 5 name.now 1)) de.old result de.new }
-    ensures failed { Over R.reading StaysFailed de.old result de.new }
-{
-    let entries = de.deserialize_struct(name, names)?;
-    read_entries_left(alloc, fields, entries, de)
+    read_entries_left::<F, R>(alloc, &[], entries, de)
 }
 
 /// Reads the value of a field into its place.

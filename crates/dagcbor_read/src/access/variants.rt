@@ -7,10 +7,8 @@ ghost use Rattle.dagcbor_read.specs.Values.{ReadsValue};
 ghost use Rattle.dagcbor_read.specs.Enums.{enum_state, HasStepEnum, SpendsEnum, ReadsFieldsHeld};
 ghost use Rattle.dagcbor_read.specs.Parts.{RefusesToBegin};
 ghost use Rattle.dagcbor_read.specs.EnumViews.{EnumShape, enum_of, ReadsVariant};
-ghost use Rattle.dagcbor_read.specs.Collections.{fields_of};
 
 use crate::access::enum_accessor::EnumAccessor;
-use crate::access::fields::{Fields, read_entries_left};
 use crate::deserializer::Deserializer;
 use dagcbor_heads::{DecodeError, Read};
 use std::alloc::Global;
@@ -51,20 +49,4 @@ pub fn read_enum<'de, V: Variants<'de>, R: Read>(
     let accessor_state = de.deserialize_enum(name, variants)?;
     let (variant_name, variant) = accessor_state.variant(alloc, de)?;
     V::read_variant(alloc, variant_name.as_str(), variant, de)
-}
-
-/// Reads the fields that a variant holds, whatever their order. Their names are not looked at.
-pub fn read_struct_variant<'de, F: Fields<'de>, R: Read>(
-    alloc: Global,
-    variant: EnumAccessor,
-    names: &[&str],
-    fields: F,
-    de: &mut Deserializer<'de, R>,
-) -> Result<F, DecodeError<R::Error>>
-    requires { AreOut (enum_state variant).steps (progress R.reading de.old) }
-    ensures meaning { Over R.reading (ReadsFieldsHeld F.state (fields_of F.shape (F.state fields)) (enum_state variant)) de.old result de.new }
-    ensures failed { Over R.reading StaysFailed de.old result de.new }
-{
-    let entries = variant.struct_variant(names, de)?;
-    read_entries_left(alloc, fields, entries, de)
 }

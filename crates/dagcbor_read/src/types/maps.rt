@@ -1,6 +1,6 @@
 //! Maps with text keys.
 
-ghost use Rattle.std.specs.Prelude.{ℕ, List};
+ghost use Rattle.std.specs.Prelude.{ℕ, List, [], Some};
 ghost use Rattle.dagcbor_read.specs.Collections.{map_of, values_of, in_key_order, text_pairs};
 
 use crate::access::fields::{Fields, read_fields};
@@ -21,15 +21,30 @@ impl<V: Shown> Shown for BTreeMap<String, V> {
 
 /// Each value goes to its key.
 impl<'de, V: Deserialize<'de>> Fields<'de> for BTreeMap<String, V> {
+    type Places = BTreeMap<String, V>;
+
     ghost State = { List (List ℕ × V.View) };
 
     ghost state = { λ m. in_key_order (text_pairs V.meaning m.entries) };
 
-    ghost shape = { values_of V.shape };
+    ghost unread = { [] };
+
+    ghost shape = { λ names. values_of V.shape };
+
+    ghost View = { List (List ℕ × V.View) };
+
+    ghost meaning = { λ m. in_key_order (text_pairs V.meaning m.entries) };
+
+    ghost finish = { Some };
+
+    fn unread(alloc: Global) -> BTreeMap<String, V> {
+        BTreeMap::new(alloc)
+    }
 
     fn read_field<R: Read>(
-        &mut self,
+        places: &mut BTreeMap<String, V>,
         alloc: Global,
+        _names: &[&str],
         key: &str,
         de: &mut Deserializer<'de, R>,
     ) -> Result<(), DecodeError<R::Error>> {
@@ -37,10 +52,14 @@ impl<'de, V: Deserialize<'de>> Fields<'de> for BTreeMap<String, V> {
         let Ok(name) = String::from_str(alloc, key) else {
             return Err(DecodeError::OutOfMemory);
         };
-        match self.insert(name, value) {
+        match places.insert(name, value) {
             Ok(_) => Ok(()),
             Err(_) => Err(DecodeError::OutOfMemory),
         }
+    }
+
+    fn finish(places: BTreeMap<String, V>) -> Option<BTreeMap<String, V>> {
+        Some(places)
     }
 }
 
@@ -49,7 +68,7 @@ impl<'de, V: Deserialize<'de>> Deserialize<'de> for BTreeMap<String, V> {
         alloc: Global,
         de: &mut Deserializer<'de, R>,
     ) -> Result<BTreeMap<String, V>, DecodeError<R::Error>> {
-        read_fields(alloc, BTreeMap::new(alloc), de)
+        read_fields::<BTreeMap<String, V>, R>(alloc, de)
     }
 }
 
@@ -67,15 +86,30 @@ impl<V: Shown> Shown for HashMap<String, V> {
 
 /// Each value goes to its key.
 impl<'de, V: Deserialize<'de>> Fields<'de> for HashMap<String, V> {
+    type Places = HashMap<String, V>;
+
     ghost State = { List (List ℕ × V.View) };
 
     ghost state = { λ m. in_key_order (text_pairs V.meaning m.entries) };
 
-    ghost shape = { values_of V.shape };
+    ghost unread = { [] };
+
+    ghost shape = { λ names. values_of V.shape };
+
+    ghost View = { List (List ℕ × V.View) };
+
+    ghost meaning = { λ m. in_key_order (text_pairs V.meaning m.entries) };
+
+    ghost finish = { Some };
+
+    fn unread(alloc: Global) -> HashMap<String, V> {
+        HashMap::new(alloc)
+    }
 
     fn read_field<R: Read>(
-        &mut self,
+        places: &mut HashMap<String, V>,
         alloc: Global,
+        _names: &[&str],
         key: &str,
         de: &mut Deserializer<'de, R>,
     ) -> Result<(), DecodeError<R::Error>> {
@@ -83,10 +117,14 @@ impl<'de, V: Deserialize<'de>> Fields<'de> for HashMap<String, V> {
         let Ok(name) = String::from_str(alloc, key) else {
             return Err(DecodeError::OutOfMemory);
         };
-        match self.insert(name, value) {
+        match places.insert(name, value) {
             Ok(_) => Ok(()),
             Err(_) => Err(DecodeError::OutOfMemory),
         }
+    }
+
+    fn finish(places: HashMap<String, V>) -> Option<HashMap<String, V>> {
+        Some(places)
     }
 }
 
@@ -97,7 +135,7 @@ impl<'de, V: Deserialize<'de>> Deserialize<'de> for HashMap<String, V> {
         alloc: Global,
         de: &mut Deserializer<'de, R>,
     ) -> Result<HashMap<String, V>, DecodeError<R::Error>> {
-        read_fields(alloc, HashMap::new(alloc), de)
+        read_fields::<HashMap<String, V>, R>(alloc, de)
     }
 }
 

@@ -9,8 +9,8 @@ use Rattle.dagcbor_read.proofs.types.maps.HashMapStringFields.read_field.Goals a
 pub returns-in-Ok-insert : goal.returns-in-Ok-insert
 returns-in-Ok-insert g c = λ f.
     let k = c.in_ok-value.ensures.value f in
-    let pairs = in_key_order (text_pairs g.V.Shown.meaning c.args.self.now.entries) in
+    let pairs = in_key_order (text_pairs g.V.Shown.meaning c.args.places.now.entries) in
     let put = c.in-Ok-insert.ensures in
-    let placed = put_hashed g.V.Shown.meaning c.args.self.now.entries c.insert.new.self.entries c.in-Ok.name c.in_ok-value.value c.in-Ok-insert.field-0 put.old put.entries put.unique
+    let placed = put_hashed g.V.Shown.meaning c.args.places.now.entries c.insert.new.self.entries c.in-Ok.name c.in_ok-value.value c.in-Ok-insert.field-0 put.old put.entries put.unique
     ∙ ap (λ x. insert_entry key_cmp pairs x (g.V.Shown.meaning c.in_ok-value.value)) c.in-Ok.ensures.ok in
     (k.0, value_put g.V.Shown.shape pairs _ c.args.key.now _ placed k.1)

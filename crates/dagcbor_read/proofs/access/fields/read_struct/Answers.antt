@@ -1,7 +1,0 @@
-use Rattle.dagcbor_read.specs.Calls.{progress}
-use Rattle.dagcbor_read.proofs.EntryRows.{entries_read}
-use Rattle.dagcbor_read.proofs.access.fields.read_struct.Goals as goal
-
-pub returns-clause-value : goal.returns-clause-value
-returns-clause-value g c =
-    entries_read g.F.Fields.shape (g.F.Fields.state c.args.fields) g.F.Fields.state (progress g.R.Read.reading c.args.de.now) (progress g.R.Read.reading c.deserialize_struct.new.self) (progress g.R.Read.reading c.read_entries_left.new.de) _ c.in_ok-entries.entries c.read_entries_left.result c.in_ok-entries.ensures.accessor_state c.read_entries_left.ensures

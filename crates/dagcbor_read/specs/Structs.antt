@@ -1,0 +1,79 @@
+-- What a map's entries show to a struct, whose fields have a place each.
+use Rattle.std.specs.Prelude.{◌||◌, ℕ, List, [], ◌∷◌, map, Option, None, Some, option_map, option_and_then, if◌then◌else◌, false}
+use Rattle.std.specs.Option.{option_flatten}
+use Rattle.std.specs.Borrow.{Bor}
+use Rattle.std.specs.Str.{bytes_eq}
+use Rattle.ipld_tree.specs.Tree.{Tree, any_need}
+use Rattle.dagcbor_items.specs.Shapes.{Shape, option_of}
+use Rattle.dagcbor_read.specs.Collections.{FieldShape, struct_of}
+
+-- the texts behind references
+abbrev pub texts : List (Bor (List ℕ)) → List (List ℕ)
+texts = map (λ s. s.now)
+
+-- no place: the value of any key is skipped
+abbrev pub no_places : FieldShape (Unit {0})
+no_places = record { take = λ s k t. Some s; need = λ k t. any_need t; borrows = false }
+
+-- The value of this name goes to the first place, any other to the others.
+abbrev pub place : {V S : Type 0} → List ℕ → Shape Tree V → FieldShape S → FieldShape (Option V × S)
+place name shape others = record {
+  take = λ s k t.
+      if bytes_eq k name then option_map (λ v. (Some v, s.1)) (shape.view t)
+      else option_map (λ o. (s.0, o)) (others.take s.1 k t);
+  need = λ k t. if bytes_eq k name then shape.need t else others.need k t;
+  borrows = shape.borrows || others.borrows;
+}
+
+-- a place that has no name: nothing goes to it
+abbrev pub unnamed : {V S : Type 0} → FieldShape S → FieldShape (Option V × S)
+unnamed others = record {
+  take = λ s k t. option_map (λ o. (s.0, o)) (others.take s.1 k t);
+  need = others.need;
+  borrows = others.borrows;
+}
+
+-- places that are named in their order
+abbrev pub places : {V S : Type 0} → Shape Tree V → (List (List ℕ) → FieldShape S) → List (List ℕ) → FieldShape (Option V × S)
+places shape others [] = unnamed (others [])
+places shape others (name ∷ names) = place name shape (others names)
+
+-- ---- structs
+
+-- The shape of a struct's fields: what their places take, and what they hold once all were read.
+pub record StructShape (S V : Type 0) : Type 0 where
+  pub fields : FieldShape S
+  -- before any was read
+  pub unread : S
+  -- none where one is missing
+  pub finish : S → Option V
+
+abbrev pub struct_shape : {S V : Type 0} → StructShape S V → Shape Tree V
+struct_shape s = struct_of s.fields s.unread s.finish
+
+abbrev pub no_fields : StructShape (Unit {0}) (Unit {0})
+no_fields = record { fields = no_places; unread = tt; finish = Some }
+
+-- the first is there, and so are the others
+abbrev pub finish_required : {V S W : Type 0} → (S → Option W) → Option V × S → Option (V × W)
+finish_required others s = option_and_then (λ v. option_map (λ w. (v, w)) (others s.1)) s.0
+
+-- a field that must be there, before others
+abbrev pub required : {V S W : Type 0} → List ℕ → Shape Tree V → StructShape S W → StructShape (Option V × S) (V × W)
+required name shape others = record {
+  fields = place name shape others.fields;
+  unread = (None, others.unread);
+  finish = finish_required others.finish;
+}
+
+-- the first may be absent
+abbrev pub finish_optional : {V S W : Type 0} → (S → Option W) → Option (Option V) × S → Option (Option V × W)
+finish_optional others s = option_map (λ w. (option_flatten s.0, w)) (others s.1)
+
+-- a field that may be absent, or null, before others
+abbrev pub optional : {V S W : Type 0} → List ℕ → Shape Tree V → StructShape S W → StructShape (Option (Option V) × S) (Option V × W)
+optional name shape others = record {
+  fields = place name (option_of shape) others.fields;
+  unread = (None, others.unread);
+  finish = finish_optional others.finish;
+}

@@ -1,0 +1,202 @@
+//! Structs, whose fields are read by their names.
+
+ghost use Rattle.std.specs.Prelude.{◌≡◌, ◌+◌, ℕ, List, Bool, Option, None, Some, option_map, MatchResult};
+ghost use Rattle.std.specs.Option.{option_flatten};
+ghost use Rattle.dagcbor_heads.specs.declared.name.Name.{Name};
+ghost use Rattle.dagcbor_heads.specs.declared.error.DecodeError.TheVariants.{Msg};
+ghost use Rattle.dagcbor_items.specs.Shapes.{option_of};
+ghost use Rattle.dagcbor_read.specs.Calls.{progress, StaysFailed, AreOut, Over};
+ghost use Rattle.dagcbor_read.specs.Values.{ReadsValue};
+ghost use Rattle.dagcbor_read.specs.Accessors.{HasHeadOf, BeginsItems};
+ghost use Rattle.dagcbor_read.specs.Parts.{RefusesToBegin};
+ghost use Rattle.dagcbor_read.specs.Enums.{enum_state, ReadsFieldsHeld};
+ghost use Rattle.dagcbor_read.specs.Collections.{FieldShape, value_of, struct_of};
+ghost use Rattle.dagcbor_read.specs.Structs.{texts, no_places, places, finish_required, finish_optional};
+
+use crate::access::enum_accessor::EnumAccessor;
+use crate::access::fields::{Fields, read_entries_left, read_into, skip_value};
+use crate::deserialize::Deserialize;
+use crate::deserializer::Deserializer;
+use dagcbor_heads::{DecodeError, Read};
+use std::alloc::Global;
+
+/// A field that must be there.
+#[derive(Drop)]
+pub struct Required<T>(pub T);
+
+/// No field: the value of any key is skipped.
+impl<'de> Fields<'de> for () {
+    type Places = ();
+
+    ghost State = { Unit {0} };
+
+    ghost state = { λ u. tt };
+
+    ghost unread = { tt };
+
+    ghost shape = { λ names. no_places };
+
+    ghost View = { Unit {0} };
+
+    ghost meaning = { λ u. tt };
+
+    ghost finish = { Some };
+
+    fn unread(_alloc: Global) -> () {}
+
+    fn read_field<R: Read>(
+        _places: &mut (),
+        alloc: Global,
+        _names: &[&str],
+        _key: &str,
+        de: &mut Deserializer<'de, R>,
+    ) -> Result<(), DecodeError<R::Error>> {
+        skip_value(alloc, de)
+    }
+
+    fn finish(_places: ()) -> Option<()> {
+        Some(())
+    }
+}
+
+/// The value of the first name goes to the first place, any other to the others.
+fn read_place<'de, T: Deserialize<'de>, L: Fields<'de>, R: Read>(
+    into: &mut (Option<T>, L::Places),
+    alloc: Global,
+    names: &[&str],
+    key: &str,
+    de: &mut Deserializer<'de, R>,
+) -> Result<(), DecodeError<R::Error>>
+    ensures { Over R.reading (ReadsValue (λ _. (option_map T.meaning into.new.0, L.state into.new.1)) (value_of (places T.shape L.shape (texts names.now)) (option_map T.meaning into.old.0, L.state into.old.1) key.now)) de.old result de.new }
+{
+    let Some((name, others)) = names.split_first() else {
+        return L::read_field(&mut into.1, alloc, names, key, de);
+    };
+    if key == *name {
+        return read_into(alloc, &mut into.0, de);
+    }
+    L::read_field(&mut into.1, alloc, others, key, de)
+}
+
+/// A field that must be there, before others.
+impl<'de, T: Deserialize<'de>, L: Fields<'de>> Fields<'de> for (Required<T>, L) {
+    type Places = (Option<T>, L::Places);
+
+    ghost State = { Option T.View × L.State };
+
+    ghost state = { λ p. (option_map T.meaning p.0, L.state p.1) };
+
+    ghost unread = { (None, L.unread) };
+
+    ghost shape = { places T.shape L.shape };
+
+    ghost View = { T.View × L.View };
+
+    ghost meaning = { λ p. (T.meaning p.0.0, L.meaning p.1) };
+
+    ghost finish = { finish_required L.finish };
+
+    fn unread(alloc: Global) -> (Option<T>, L::Places) {
+        (None, L::unread(alloc))
+    }
+
+    fn read_field<R: Read>(
+        places: &mut (Option<T>, L::Places),
+        alloc: Global,
+        names: &[&str],
+        key: &str,
+        de: &mut Deserializer<'de, R>,
+    ) -> Result<(), DecodeError<R::Error>> {
+        read_place::<T, L, R>(places, alloc, names, key, de)
+    }
+
+    fn finish(places: (Option<T>, L::Places)) -> Option<(Required<T>, L)> {
+        let (value, others) = places;
+        let value = value?;
+        let others = L::finish(others)?;
+        Some((Required(value), others))
+    }
+}
+
+/// A field that may be absent, before others.
+impl<'de, T: Deserialize<'de>, L: Fields<'de>> Fields<'de> for (Option<T>, L) {
+    type Places = (Option<Option<T>>, L::Places);
+
+    ghost State = { Option (Option T.View) × L.State };
+
+    ghost state = { λ p. (option_map (option_map T.meaning) p.0, L.state p.1) };
+
+    ghost unread = { (None, L.unread) };
+
+    ghost shape = { places (option_of T.shape) L.shape };
+
+    ghost View = { Option T.View × L.View };
+
+    ghost meaning = { λ p. (option_map T.meaning p.0, L.meaning p.1) };
+
+    ghost finish = { finish_optional L.finish };
+
+    fn unread(alloc: Global) -> (Option<Option<T>>, L::Places) {
+        (None, L::unread(alloc))
+    }
+
+    fn read_field<R: Read>(
+        places: &mut (Option<Option<T>>, L::Places),
+        alloc: Global,
+        names: &[&str],
+        key: &str,
+        de: &mut Deserializer<'de, R>,
+    ) -> Result<(), DecodeError<R::Error>> {
+        read_place::<Option<T>, L, R>(places, alloc, names, key, de)
+    }
+
+    fn finish(places: (Option<Option<T>>, L::Places)) -> Option<(Option<T>, L)> {
+        let (value, others) = places;
+        let others = L::finish(others)?;
+        Some((value.flatten(), others))
+    }
+}
+
+/// The fields, once all were read.
+fn finished<'de, F: Fields<'de>, E>(places: F::Places) -> Result<F, DecodeError<E>>
+    ensures { MatchResult result
+        (λ v. F.finish (F.state places) ≡ Some (F.meaning v))
+        (λ e. (F.finish (F.state places) ≡ None) × ((kept : Name) × (e ≡ Msg kept))) }
+{
+    match F::finish(places) {
+        Some(fields) => Ok(fields),
+        None => Err(DecodeError::custom("missing field")),
+    }
+}
+
+/// Reads a struct's fields, which have these names, from a map, whatever their order.
+pub fn read_struct<'de, F: Fields<'de>, R: Read>(
+    alloc: Global,
+    name: &str,
+    names: &[&str],
+    de: &mut Deserializer<'de, R>,
+) -> Result<F, DecodeError<R::Error>>
+    ensures value { Over R.reading (ReadsValue F.meaning (struct_of (F.shape (texts names.now)) F.unread F.finish)) de.old result de.new }
+    ensures named { Over R.reading (RefusesToBegin (HasHeadOf 5) (BeginsItems 5 name.now 1)) de.old result de.new }
+    ensures failed { Over R.reading StaysFailed de.old result de.new }
+{
+    let entries = de.deserialize_struct(name, names)?;
+    let places = read_entries_left::<F, R>(alloc, names, entries, de)?;
+    finished(places)
+}
+
+/// Reads the fields that a variant holds, which have these names, whatever their order.
+pub fn read_struct_variant<'de, F: Fields<'de>, R: Read>(
+    alloc: Global,
+    variant: EnumAccessor,
+    names: &[&str],
+    de: &mut Deserializer<'de, R>,
+) -> Result<F, DecodeError<R::Error>>
+    requires { AreOut (enum_state variant).steps (progress R.reading de.old) }
+    ensures fields { Over R.reading (ReadsFieldsHeld F.meaning (struct_of (F.shape (texts names.now)) F.unread F.finish) (enum_state variant)) de.old result de.new }
+    ensures failed { Over R.reading StaysFailed de.old result de.new }
+{
+    let entries = variant.struct_variant(names, de)?;
+    let places = read_entries_left::<F, R>(alloc, names, entries, de)?;
+    finished(places)
+}

@@ -19,7 +19,7 @@ ghost use Rattle.dagcbor_read.specs.AllLinks.{ReadsLinks};
 ghost use Rattle.dagcbor_read.specs.Streams.{streaming, ReadsNext};
 
 use crate::access::accessor::{Accessor, copied};
-use crate::access::enum_accessor::EnumAccessor;
+use crate::access::enum_accessor::{EnumAccessor, spend_form};
 use crate::deserialize::Deserialize;
 use crate::stream::StreamDeserializer;
 use dagcbor_heads::{

@@ -36,6 +36,7 @@ pub use Rattle.dagcbor_read.specs.Reads
 pub use Rattle.dagcbor_read.specs.Shapes
 pub use Rattle.dagcbor_read.specs.Collections
 pub use Rattle.dagcbor_read.specs.Accessors
+pub use Rattle.dagcbor_read.specs.Structs
 pub use Rattle.dagcbor_read.specs.Enums
 pub use Rattle.dagcbor_read.specs.TreeKinds
 pub use Rattle.dagcbor_read.specs.declared.kind.Kind
@@ -47,17 +48,4 @@ pub use Rattle.dagcbor_heads.specs.declared.error.DecodeError
 pub use Rattle.dagcbor_heads.specs.declared.error.EncodeError
 pub mod RoundTrips
 pub mod Codec
-pub mod Letter
-pub mod NamedLink
-pub mod Color
-pub mod DataEnum
-pub mod Second
-pub mod One
-pub mod Mascot
-pub mod Person
-pub mod OptionalPerson
-pub mod MyStruct
-pub mod EnumStruct
-pub mod Kinded
-pub mod Tagged
-pub mod ThereAndBack
+pub mod tests

@@ -1,38 +1,43 @@
 //! Untyped reads of a buffered source, skips and checks, which are untyped reads of a slice.
 
-use crate::tests::std_devices::Source;
+use crate::tests::devices::std_devices::Source;
 use crate::tests::told::{agree, is_told, tells, writes};
-use crate::{DecodeError, Deserialize, IgnoredAny, Ipld, check_slice, from_reader, from_slice};
-use std::alloc::Global;
+use crate::{DecodeError, IgnoredAny, Ipld, check_slice, from_reader, from_slice};
+use std::alloc::{AllocError, Global};
 use std::test::Fail;
 
-/// The text of a read's refusal, or of none.
-fn refusal<'de, T: Deserialize<'de> + Drop>(
-    alloc: Global,
-    bytes: &'de [u8],
-) -> Result<String, Fail> {
-    let refused = from_slice::<T>(alloc, bytes).err();
-    Ok(format!(in alloc; "{refused:?}")?)
+/// What an untyped read answers, as text.
+fn told(alloc: Global, bytes: &[u8]) -> Result<String, AllocError> {
+    format!(in alloc; "{:?}", from_slice::<Ipld>(alloc, bytes))
 }
 
-/// Fails where a skip or a check is refused otherwise than a read, or only one of them is.
-fn skips_alike(alloc: Global, bytes: &[u8]) -> Result<(), Fail> {
-    let of_read = refusal::<Ipld>(alloc, bytes)?;
-    let of_skip = refusal::<IgnoredAny>(alloc, bytes)?;
-    agree(of_skip.as_str(), of_read.as_str())?;
-    is_told(alloc, &check_slice(bytes).err(), &of_read)
+/// The text of an untyped read's refusal, or of none.
+fn refusal(alloc: Global, bytes: &[u8]) -> Result<String, AllocError> {
+    format!(in alloc; "{:?}", from_slice::<Ipld>(alloc, bytes).err())
+}
+
+/// Fails where a skip or a check is refused otherwise, or is not.
+fn skips_alike(alloc: Global, bytes: &[u8], refusal: &str) -> Result<(), Fail> {
+    is_told(
+        alloc,
+        &from_slice::<IgnoredAny>(alloc, bytes).err(),
+        refusal,
+    )?;
+    is_told(alloc, &check_slice(bytes).err(), refusal)
+}
+
+/// Fails where a source that shows so many bytes a fill gives anything else.
+fn comes(alloc: Global, bytes: &[u8], size: usize, told: &str) -> Result<(), Fail> {
+    let read = from_reader::<Ipld, Source<'_>>(alloc, Source::new(bytes, size));
+    is_told(alloc, &read, told)
 }
 
 /// Fails where sources that show one byte a fill, or three, do not give what the slice gives: the same tree, or the same
 /// refusal; and where a skip or a check does not.
 pub(crate) fn reads_alike(alloc: Global, bytes: &[u8]) -> Result<(), Fail> {
-    skips_alike(alloc, bytes)?;
-    let of_slice = format!(in alloc; "{:?}", from_slice::<Ipld>(alloc, bytes))?;
-    for size in [1, 3] {
-        let of_source = from_reader::<Ipld, Source<'_>>(alloc, Source::new(bytes, size));
-        is_told(alloc, &of_source, &of_slice)?;
-    }
-    Ok(())
+    skips_alike(alloc, bytes, &refusal(alloc, bytes)?)?;
+    comes(alloc, bytes, 1, &told(alloc, bytes)?)?;
+    comes(alloc, bytes, 3, &told(alloc, bytes)?)
 }
 
 /// Fails where the bytes, however they come, are not refused so.
@@ -42,14 +47,43 @@ pub(crate) fn is_refused(alloc: Global, bytes: &[u8], told: &str) -> Result<(), 
     tells::<Ipld>(alloc, bytes, &wanted)
 }
 
+/// Fails where a row's bytes, however they come, are not refused as is told beside them.
+pub(crate) fn each_is_refused(alloc: Global, rows: &[(&[u8], &str)]) -> Result<(), Fail> {
+    for (bytes, told) in rows {
+        is_refused(alloc, bytes, told)?;
+    }
+    Ok(())
+}
+
+/// Whether the bytes are read as the value.
+pub(crate) fn is_read_as(alloc: Global, bytes: &[u8], value: &Ipld) -> bool {
+    match from_slice::<Ipld>(alloc, bytes) {
+        Ok(read) => read == *value,
+        Err(_) => false,
+    }
+}
+
 /// Fails where the value is not written as these bytes, or these, however they come, are not read as the value.
 pub(crate) fn goes_both_ways(alloc: Global, value: &Ipld, spelling: &[u8]) -> Result<(), Fail> {
     writes(alloc, value, spelling)?;
     reads_alike(alloc, spelling)?;
-    if from_slice::<Ipld>(alloc, spelling)? == *value {
-        return Ok(());
-    }
-    Err(Fail::new(format_args!("{spelling:?} was read as another value")))
+    agree(
+        (spelling, is_read_as(alloc, spelling, value)),
+        (spelling, true),
+    )
+}
+
+/// Fails where the bytes, however they come, are not read as a value that is written as they.
+pub(crate) fn is_written_again(alloc: Global, bytes: &[u8]) -> Result<(), Fail> {
+    goes_both_ways(alloc, &from_slice(alloc, bytes)?, bytes)
+}
+
+/// Whether the bytes are refused as cut.
+fn is_cut(alloc: Global, bytes: &[u8]) -> bool {
+    matches!(
+        from_slice::<Ipld>(alloc, bytes),
+        Err(DecodeError::Eof { .. })
+    )
 }
 
 /// Fails where a beginning of the bytes, but the whole, is not refused as cut.
@@ -57,12 +91,7 @@ pub(crate) fn beginnings_are_cut(alloc: Global, bytes: &[u8]) -> Result<(), Fail
     for count in 0..bytes.len() {
         let beginning = &bytes[..count];
         reads_alike(alloc, beginning)?;
-        if !matches!(
-            from_slice::<Ipld>(alloc, beginning),
-            Err(DecodeError::Eof { .. })
-        ) {
-            return Err(Fail::new(format_args!("{beginning:?} is not cut")));
-        }
+        agree((beginning, is_cut(alloc, beginning)), (beginning, true))?;
     }
     Ok(())
 }

@@ -1,0 +1,23 @@
+use Rattle.std.proofs.Common.{rules, List, ap, [], ◌∷◌, Some, None, pos, codes, refl, lit<}
+use Rattle.dagcbor_heads.proofs.Writing.{exit_part}
+use Rattle.ipld_tree.specs.Tree.{integer}
+use Rattle.dagcbor_write.specs.Trees.{Pair, field}
+use Rattle.dagcbor_write.proofs.Fields.{begin_struct, begin_map, next_pair, exit_field, end_struct}
+use Rattle.serde_ipld_dagcbor.specs.declared.tests.by_hand.one.One.{One}
+use Rattle.serde_ipld_dagcbor.proofs.tests.by_hand.one.OneSerialize.serialize.Goals as goal
+
+abbrev fields : One → List Pair
+fields p =
+    field (codes "a") (Some (integer (pos p.a))) ∷ []
+
+pub returns-in_err-fields-clause-written : goal.returns-in_err-fields-clause-written
+returns-in_err-fields-clause-written g c = exit_part (begin_struct (fields c.args.self.now) 1 _ refl) _ _ _ c.from_residual.ensures.1 (rw c.in_err-fields.was at c.serialize_struct.follows.holds-at-none)
+
+pub returns-in_err-serialize_field-clause-written : goal.returns-in_err-serialize_field-clause-written
+returns-in_err-serialize_field-clause-written g c = exit_field 1 (fields c.args.self.now) (begin_struct (fields c.args.self.now) 1 _ refl) c.in_ok-fields.ensures.head 0 (None, None) (lit< tt) _ _ _ c.in_err-serialize_field.ensures.entry c.from_residual-in_err-serialize_field.ensures.1 (search rules)
+
+pub returns-clause-written : goal.returns-clause-written
+returns-clause-written g c =
+    let given = begin_map (fields c.args.self.now) _ (ap (λ held. held.entries) c.in_ok-fields.ensures.nothing) in
+    let given = next_pair given _ c.in_ok-serialize_field.ensures.entry in
+    end_struct 1 _ (begin_struct (fields c.args.self.now) 1 _ refl) c.in_ok-fields.ensures.head given (search rules) _ _ _ _ c.end.ensures.written (search rules) (search rules)

@@ -1,0 +1,33 @@
+use Rattle.std.proofs.Common.{rules, List, ap, [], ◌∷◌, Some, None, pos, string_bytes, codes, refl, lit<}
+use Rattle.dagcbor_heads.proofs.Writing.{exit_part}
+use Rattle.ipld_tree.specs.Tree.{text, integer}
+use Rattle.dagcbor_write.specs.Trees.{Pair, option_tree, field}
+use Rattle.dagcbor_write.proofs.Fields.{begin_struct, begin_map, next_pair, exit_field, end_struct}
+use Rattle.serde_ipld_dagcbor.specs.declared.tests.by_hand.person.Person.{Person}
+use Rattle.serde_ipld_dagcbor.proofs.tests.by_hand.person.PersonSerialize.serialize.Goals as goal
+
+abbrev fields : Person → List Pair
+fields p =
+    field (codes "name") (Some (text (string_bytes p.name)))
+    ∷ field (codes "year_of_birth") (Some (integer (pos p.year_of_birth)))
+    ∷ field (codes "profession") (option_tree (λ s. Some (text (string_bytes s))) p.profession) ∷ []
+
+pub returns-in_err-fields-clause-written : goal.returns-in_err-fields-clause-written
+returns-in_err-fields-clause-written g c = exit_part (begin_struct (fields c.args.self.now) 3 _ refl) _ _ _ c.from_residual.ensures.1 (rw c.in_err-fields.was at c.serialize_struct.follows.holds-at-none)
+
+pub returns-in_err-serialize_field-clause-written : goal.returns-in_err-serialize_field-clause-written
+returns-in_err-serialize_field-clause-written g c = exit_field 3 (fields c.args.self.now) (begin_struct (fields c.args.self.now) 3 _ refl) c.in_ok-fields.ensures.head 0 (None, None) (lit< tt) _ _ _ c.in_err-serialize_field.ensures.entry c.from_residual-in_err-serialize_field.ensures.1 (search rules)
+
+pub returns-in_err-serialize_field-2-clause-written : goal.returns-in_err-serialize_field-2-clause-written
+returns-in_err-serialize_field-2-clause-written g c = exit_field 3 (fields c.args.self.now) (begin_struct (fields c.args.self.now) 3 _ refl) c.in_ok-fields.ensures.head 1 (None, None) (lit< tt) _ _ _ c.in_err-serialize_field-2.ensures.entry c.from_residual-in_err-serialize_field-2.ensures.1 (search rules)
+
+pub returns-in_err-serialize_field-3-clause-written : goal.returns-in_err-serialize_field-3-clause-written
+returns-in_err-serialize_field-3-clause-written g c = exit_field 3 (fields c.args.self.now) (begin_struct (fields c.args.self.now) 3 _ refl) c.in_ok-fields.ensures.head 2 (None, None) (lit< tt) _ _ _ c.in_err-serialize_field-3.ensures.entry c.from_residual-in_err-serialize_field-3.ensures.1 (search rules)
+
+pub returns-clause-written : goal.returns-clause-written
+returns-clause-written g c =
+    let given = begin_map (fields c.args.self.now) _ (ap (λ held. held.entries) c.in_ok-fields.ensures.nothing) in
+    let given = next_pair given _ c.in_ok-serialize_field.ensures.entry in
+    let given = next_pair given _ c.in_ok-serialize_field-2.ensures.entry in
+    let given = next_pair given _ c.in_ok-serialize_field-3.ensures.entry in
+    end_struct 3 _ (begin_struct (fields c.args.self.now) 3 _ refl) c.in_ok-fields.ensures.head given (search rules) _ _ _ _ c.end.ensures.written (search rules) (search rules)

@@ -1,9 +1,0 @@
-use Rattle.std.proofs.Common.{rules}
-use Rattle.dagcbor_read.proofs.Finishing.{handed_on, missing}
-use Rattle.serde_ipld_dagcbor.proofs.tests.enum_struct.EnumStructDeserialize.deserialize.Goals as goal
-
-pub returns-in_err-fields-clause-value : goal.returns-in_err-fields-clause-value
-returns-in_err-fields-clause-value g c = λ sound. handed_on _ _ _ _ _ _ _ _ c.from_residual.ensures.1 (c.in_err-fields.ensures.value sound) sound
-
-pub returns-in_err-e-clause-value : goal.returns-in_err-e-clause-value
-returns-in_err-e-clause-value g c = missing _ _ _ _ _ c.from_residual-in_err-e.ensures.1 c.in_err-e.ensures.1 (search rules) c.in_ok-fields.ensures.value

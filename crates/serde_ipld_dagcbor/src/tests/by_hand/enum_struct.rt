@@ -1,0 +1,138 @@
+//! An enum of unit variants, and a struct that holds one, written by hand.
+
+ghost use Rattle.std.specs.Prelude.{Option, Some, [], ◌∷◌, codes};
+ghost use Rattle.ipld_tree.specs.Tree.{Tree, text, entries_tree};
+ghost use Rattle.dagcbor_write.specs.Trees.{field};
+ghost use Rattle.serde_ipld_dagcbor.specs.tests.Letter.{Letter, is_a, is_b, letter_variants, letter_shape};
+ghost use Rattle.serde_ipld_dagcbor.specs.tests.EnumStruct.{enum_struct_shape};
+ghost use Rattle.serde_ipld_dagcbor.specs.declared.tests.by_hand.enum_struct.Enum.TheVariants.{A, B};
+
+use crate::tests::told::{each_writes, tells};
+use crate::{
+    DecodeError, Deserialize, Deserializer, EncodeError, EnumAccessor, Read, Required, Serialize,
+    Serializer, Shown, Variants, Write, read_enum, read_struct,
+};
+use std::alloc::Global;
+use std::test::Fail;
+
+#[derive(Clone, Copy, Debug, PartialEq, Eq)]
+pub(crate) enum Enum {
+    A,
+    B,
+}
+
+impl Serialize for Enum {
+    ghost tree = { λ e. elim e [ A ↦ Some (text (codes "A")) | B ↦ Some (text (codes "B")) ] };
+
+    fn serialize<W: Write>(
+        &self,
+        _alloc: Global,
+        ser: &mut Serializer<W>,
+    ) -> Result<(), EncodeError<W::Error>> {
+        match self {
+            Enum::A => ser.serialize_unit_variant("Enum", 0, "A"),
+            Enum::B => ser.serialize_unit_variant("Enum", 1, "B"),
+        }
+    }
+}
+
+impl Shown for Enum {
+    ghost View = { Letter };
+
+    ghost meaning = { λ e. elim e [ A ↦ is_a | B ↦ is_b ] };
+
+    ghost shape = { letter_shape };
+}
+
+impl<'de> Variants<'de> for Enum {
+    ghost View = { Letter };
+
+    ghost meaning = { λ e. elim e [ A ↦ is_a | B ↦ is_b ] };
+
+    ghost shape = { letter_variants };
+
+    fn read_variant<R: Read>(
+        _alloc: Global,
+        name: &str,
+        variant: EnumAccessor,
+        de: &mut Deserializer<'de, R>,
+    ) -> Result<Enum, DecodeError<R::Error>> {
+        match name {
+            "A" => {
+                variant.unit_variant(de)?;
+                Ok(Enum::A)
+            }
+            "B" => {
+                variant.unit_variant(de)?;
+                Ok(Enum::B)
+            }
+            _ => Err(DecodeError::custom("unknown variant")),
+        }
+    }
+}
+
+impl<'de> Deserialize<'de> for Enum {
+    fn deserialize<R: Read>(
+        alloc: Global,
+        de: &mut Deserializer<'de, R>,
+    ) -> Result<Enum, DecodeError<R::Error>> {
+        read_enum(alloc, "Enum", &["A", "B"], de)
+    }
+}
+
+#[derive(Debug, Drop)]
+pub(crate) struct EnumStruct {
+    e: Enum,
+}
+
+impl Serialize for EnumStruct {
+    ghost tree = { λ p. entries_tree (field (codes "e") (elim p.e [ A ↦ Some (text (codes "A")) | B ↦ Some (text (codes "B")) ]) ∷ []) };
+
+    fn serialize<W: Write>(
+        &self,
+        alloc: Global,
+        ser: &mut Serializer<W>,
+    ) -> Result<(), EncodeError<W::Error>> {
+        let mut fields = ser.serialize_struct(alloc, "EnumStruct", 1)?;
+        fields.serialize_field("e", &self.e)?;
+        fields.end()
+    }
+}
+
+impl Shown for EnumStruct {
+    ghost View = { Letter × Unit {0} };
+
+    ghost meaning = { λ s. (elim s.e [ A ↦ is_a | B ↦ is_b ], tt) };
+
+    ghost shape = { enum_struct_shape };
+}
+
+impl<'de> Deserialize<'de> for EnumStruct {
+    fn deserialize<R: Read>(
+        alloc: Global,
+        de: &mut Deserializer<'de, R>,
+    ) -> Result<EnumStruct, DecodeError<R::Error>> {
+        let (Required(e), ()) = read_struct(alloc, "EnumStruct", &["e"], de)?;
+        Ok(EnumStruct { e })
+    }
+}
+
+#[test]
+fn an_enum_in_a_struct_is_written(rt: HostRuntime) -> Result<(), Fail> {
+    each_writes::<EnumStruct>(
+        rt.alloc(),
+        &[
+            (EnumStruct { e: Enum::A }, b"\xa1\x61e\x61A"),
+            (EnumStruct { e: Enum::B }, b"\xa1\x61e\x61B"),
+        ],
+    )
+}
+
+#[test]
+fn an_enum_is_read(rt: HostRuntime) -> Result<(), Fail> {
+    let alloc = rt.alloc();
+    tells::<Enum>(alloc, b"\x61A", "Ok(A)")?;
+    tells::<Enum>(alloc, b"\x61B", "Ok(B)")?;
+    tells::<EnumStruct>(alloc, b"\xa1\x61e\x61B", "Ok(EnumStruct { e: B })")?;
+    tells::<Vec<Enum>>(alloc, b"\x9f\x67require\xff", "Err(IndefiniteSize)")
+}

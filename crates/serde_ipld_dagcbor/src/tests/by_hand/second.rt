@@ -1,0 +1,114 @@
+//! An enum whose variant is a struct, written by hand.
+
+ghost use Rattle.std.specs.Prelude.{Some, [], ◌∷◌, OnOk, IfSome, codes, pos};
+ghost use Rattle.dagcbor_heads.specs.Written.{Writes};
+ghost use Rattle.ipld_tree.specs.Tree.{IsTree, integer, entries_tree};
+ghost use Rattle.ipld_tree.specs.Spelled.{spelled_tree};
+ghost use Rattle.dagcbor_write.specs.Trees.{field, variant_tree};
+ghost use Rattle.serde_ipld_dagcbor.specs.tests.Second.{SecondView, second_variants, second_shape};
+ghost use Rattle.serde_ipld_dagcbor.specs.declared.tests.by_hand.second.Second.TheVariants.{Data};
+
+use crate::tests::told::{tells, writes};
+use crate::{
+    DecodeError, Deserialize, Deserializer, EncodeError, EnumAccessor, Read, Required, Serialize,
+    Serializer, Shown, Variants, Write, read_enum, read_struct_variant,
+};
+use std::alloc::Global;
+use std::test::Fail;
+
+#[derive(Drop, Debug)]
+pub(crate) enum Second {
+    Data { b: u8, abc: u8, a: u8 },
+}
+
+impl Serialize for Second {
+    ghost tree = { λ e. elim e [
+      | Data b abc a ↦ variant_tree (codes "Data") (entries_tree (field (codes "b") (Some (integer (pos b)))
+          ∷ field (codes "abc") (Some (integer (pos abc)))
+          ∷ field (codes "a") (Some (integer (pos a))) ∷ []))
+    ] };
+
+    fn serialize<W: Write>(
+        &self,
+        alloc: Global,
+        ser: &mut Serializer<W>,
+    ) -> Result<(), EncodeError<W::Error>> {
+        match self {
+            Second::Data { b, abc, a } => serialize_data(alloc, *b, *abc, *a, ser),
+        }
+    }
+}
+
+/// The variant `Data`. A match of one arm tells a proof nothing, so what is under it is a function.
+fn serialize_data<W: Write>(
+    alloc: Global,
+    b: u8,
+    abc: u8,
+    a: u8,
+    ser: &mut Serializer<W>,
+) -> Result<(), EncodeError<W::Error>>
+    ensures written { Writes (spelled_tree (variant_tree (codes "Data") (entries_tree (field (codes "b") (Some (integer (pos b)))
+        ∷ field (codes "abc") (Some (integer (pos abc)))
+        ∷ field (codes "a") (Some (integer (pos a))) ∷ [])))) (W.written ser.old) (W.written ser.new) result }
+    ensures well_formed { OnOk result (IfSome (variant_tree (codes "Data") (entries_tree (field (codes "b") (Some (integer (pos b)))
+        ∷ field (codes "abc") (Some (integer (pos abc)))
+        ∷ field (codes "a") (Some (integer (pos a))) ∷ []))) IsTree) }
+{
+    let mut fields = ser.serialize_struct_variant(alloc, "Second", 0, "Data", 3)?;
+    fields.serialize_field("b", &b)?;
+    fields.serialize_field("abc", &abc)?;
+    fields.serialize_field("a", &a)?;
+    fields.end()
+}
+
+impl Shown for Second {
+    ghost View = { SecondView };
+
+    ghost meaning = { λ e. elim e [ Data b abc a ↦ (b, (abc, (a, tt))) ] };
+
+    ghost shape = { second_shape };
+}
+
+impl<'de> Variants<'de> for Second {
+    ghost View = { SecondView };
+
+    ghost meaning = { λ e. elim e [ Data b abc a ↦ (b, (abc, (a, tt))) ] };
+
+    ghost shape = { second_variants };
+
+    fn read_variant<R: Read>(
+        alloc: Global,
+        name: &str,
+        variant: EnumAccessor,
+        de: &mut Deserializer<'de, R>,
+    ) -> Result<Second, DecodeError<R::Error>> {
+        match name {
+            "Data" => {
+                let (Required(b), (Required(abc), (Required(a), ()))) = read_struct_variant(
+                    alloc,
+                    variant,
+                    &["b", "abc", "a"],
+                    de,
+                )?;
+                Ok(Second::Data { b, abc, a })
+            }
+            _ => Err(DecodeError::custom("unknown variant")),
+        }
+    }
+}
+
+impl<'de> Deserialize<'de> for Second {
+    fn deserialize<R: Read>(
+        alloc: Global,
+        de: &mut Deserializer<'de, R>,
+    ) -> Result<Second, DecodeError<R::Error>> {
+        read_enum(alloc, "Second", &["Data"], de)
+    }
+}
+
+#[test]
+fn a_struct_variant_goes_both_ways(rt: HostRuntime) -> Result<(), Fail> {
+    let bytes = b"\xa1\x64Data\xa3\x61a\x01\x61b\x02\x63abc\x03";
+    writes(rt.alloc(), &Second::Data { b: 2, abc: 3, a: 1 }, bytes)?;
+    tells::<Second>(rt.alloc(), bytes, "Ok(Data { b: 2, abc: 3, a: 1 })")
+}

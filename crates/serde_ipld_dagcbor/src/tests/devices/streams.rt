@@ -1,0 +1,185 @@
+//! Values one behind the other.
+
+ghost use Rattle.std.specs.Prelude.{◌+◌, ◌≤◌, length, IfOk, List, Option, true};
+ghost use Rattle.dagcbor_read.specs.Streams.{AreStreamItems, AreUpTo, MayBorrow};
+
+use crate::tests::devices::own_devices::Pieces;
+use crate::tests::rows::links::joined;
+use crate::tests::told::{agree, is_told};
+use crate::{
+    DecodeError, Deserialize, Deserializer, IoReader, Ipld, Read, SliceReader, StreamDeserializer,
+    from_slice, iter_from_reader, laws,
+};
+use std::alloc::{AllocError, Global};
+use std::convert::Infallible;
+use std::fmt::Debug;
+use std::test::Fail;
+
+/// Fails where something else comes next, as text.
+fn comes<'de, T: Deserialize<'de> + Debug, R: Read>(
+    alloc: Global,
+    stream: &mut StreamDeserializer<'de, R, T>,
+    told: &str,
+) -> Result<(), Fail>
+where
+    R::Error: Debug,
+{
+    is_told(alloc, &stream.next(), told)
+}
+
+/// Fails where anything comes but two texts, and nothing.
+fn is_two_texts<R: Read>(
+    alloc: Global,
+    stream: &mut StreamDeserializer<'_, R, String>,
+) -> Result<(), Fail>
+where
+    R::Error: Debug,
+{
+    comes(alloc, stream, r#"Some(Ok("foobar"))"#)?;
+    comes(alloc, stream, r#"Some(Ok("baz"))"#)?;
+    comes(alloc, stream, "None")
+}
+
+#[test]
+fn texts_one_behind_the_other(rt: HostRuntime) -> Result<(), Fail> {
+    let alloc = rt.alloc();
+    let texts = b"\x66foobar\x63baz".as_slice();
+    is_two_texts(alloc, &mut iter_from_reader::<String, _>(alloc, texts))?;
+    let reader = Deserializer::from_reader(IoReader::new(texts));
+    is_two_texts(alloc, &mut reader.into_iter::<String>(alloc))
+}
+
+/// Fails where anything comes but a text, a refusal for a cut one, and nothing.
+fn is_cut_behind_a_text<R: Read>(
+    alloc: Global,
+    stream: &mut StreamDeserializer<'_, R, String>,
+) -> Result<(), Fail>
+where
+    R::Error: Debug,
+{
+    comes(alloc, stream, r#"Some(Ok("foobar"))"#)?;
+    comes(
+        alloc,
+        stream,
+        r#"Some(Err(Eof { name: "string", expect: Small(3) }))"#,
+    )?;
+    comes(alloc, stream, "None")
+}
+
+#[test]
+fn a_cut_text_is_the_last(rt: HostRuntime) -> Result<(), Fail> {
+    let alloc = rt.alloc();
+    let cut = b"\x66foobar\x63ba".as_slice();
+    is_cut_behind_a_text(alloc, &mut iter_from_reader::<String, _>(alloc, cut))?;
+    let reader = Deserializer::from_reader(IoReader::new(cut));
+    is_cut_behind_a_text(alloc, &mut reader.into_iter::<String>(alloc))?;
+    let slice = Deserializer::from_slice(cut);
+    is_cut_behind_a_text(alloc, &mut slice.into_iter::<String>(alloc))
+}
+
+/// Fails where anything comes but this, and nothing.
+fn is_last<'de, T: Deserialize<'de> + Debug, R: Read>(
+    alloc: Global,
+    mut stream: StreamDeserializer<'de, R, T>,
+    told: &str,
+) -> Result<(), Fail>
+where
+    R::Error: Debug,
+{
+    comes(alloc, &mut stream, told)?;
+    comes(alloc, &mut stream, "None")
+}
+
+/// Fails where a fault at this fill is not the last that comes.
+fn is_fault(alloc: Global, fill: u64) -> Result<(), Fail> {
+    let reader = Pieces::failing(b"\x83\x01\x02\x03", 1, fill);
+    let stream = Deserializer::from_reader(reader).into_iter::<Ipld>(alloc);
+    is_last(alloc, stream, "Some(Err(Read(7)))")
+}
+
+#[test]
+fn a_fault_is_the_last(rt: HostRuntime) -> Result<(), Fail> {
+    for fill in 1..7 {
+        is_fault(rt.alloc(), fill)?;
+    }
+    Ok(())
+}
+
+#[test]
+fn a_refusal_is_the_last(rt: HostRuntime) -> Result<(), Fail> {
+    let alloc = rt.alloc();
+    is_last(
+        alloc,
+        Deserializer::from_slice(b"\x18\x17\x01").into_iter::<u8>(alloc),
+        r#"Some(Err(NonMinimal { name: "u8", found: 24 }))"#,
+    )?;
+    let mut de = Deserializer::from_slice(b"\x18\x17");
+    agree(de.deserialize_u8().is_err(), true)?;
+    is_last(alloc, de.into_iter::<u8>(alloc), "Some(Err(Failed))")
+}
+
+#[test]
+fn a_list_that_was_begun(rt: HostRuntime) -> Result<(), Fail> {
+    let alloc = rt.alloc();
+    let mut de = Deserializer::from_slice(b"\x82\x01\x02\x01");
+    agree(de.deserialize_seq().is_ok(), true)?;
+    let mut stream = de.into_iter::<u8>(alloc);
+    comes(alloc, &mut stream, "Some(Ok(1))")?;
+    comes(alloc, &mut stream, "Some(Ok(2))")?;
+    is_last(alloc, stream, "Some(Ok(1))")
+}
+
+/// How many items come of the bytes. That the iterator ends is known of its contract.
+fn how_many(alloc: Global, bytes: &[u8]) -> usize
+    ensures { result ≤ length bytes.now + 1 }
+{
+    Deserializer::from_slice(bytes)
+        .into_iter::<u8>(alloc)
+        .count()
+}
+
+#[test]
+fn a_stream_is_an_iterator(rt: HostRuntime) -> Result<(), Fail> {
+    agree(how_many(rt.alloc(), b"\x01\x02"), 2)?;
+    agree(how_many(rt.alloc(), b"\x01\x02\x20\x03"), 3)?;
+    agree(how_many(rt.alloc(), b""), 0)
+}
+
+/// What comes of the bytes: the stream of the type on them, by the law.
+fn items_of<'a, T: Deserialize<'a>>(
+    alloc: Global,
+    bytes: &'a [u8],
+) -> Result<Vec<Result<T, DecodeError<Infallible>>>, AllocError>
+    ensures { IfOk result (λ v. (items : List (Option T.View)) → AreStreamItems T.shape 256 bytes.now items
+        → AreUpTo T.meaning (MayBorrow T.shape.borrows true) true v.items items) }
+{
+    laws::streams_exact::<T, SliceReader>();
+    Deserializer::from_slice(bytes)
+        .into_iter::<T>(alloc)
+        .collect(alloc)
+}
+
+/// What the two blocks are read as, as the text of a list.
+fn two_items(alloc: Global, first: &[u8], second: &[u8]) -> Result<String, AllocError> {
+    let one = from_slice::<Ipld>(alloc, first);
+    let other = from_slice::<Ipld>(alloc, second);
+    format!(in alloc; "[{one:?}, {other:?}]")
+}
+
+/// Fails where the two blocks, one behind the other, give another stream than the two.
+pub(crate) fn is_split(alloc: Global, first: &[u8], second: &[u8]) -> Result<(), Fail> {
+    let bytes = joined(alloc, &[first, second])?;
+    let items = items_of::<Ipld>(alloc, &bytes)?;
+    is_told(alloc, &items, &two_items(alloc, first, second)?)
+}
+
+#[test]
+fn laws_of_streams(rt: HostRuntime) -> Result<(), Fail> {
+    laws::stream_unique::<u8>();
+    let items = items_of::<u8>(rt.alloc(), b"\x01\x02\x20\x03")?;
+    is_told(
+        rt.alloc(),
+        &items,
+        r#"[Ok(1), Ok(2), Err(CastOverflow { name: "u8" })]"#,
+    )
+}

@@ -47,7 +47,10 @@ fn pull_form<R: Read>(reader: &mut R) -> Result<EnumAccessor, DecodeError<R::Err
 
 /// The same, for a step.
 #[tactic(auto, using(crate::proofs::Entering::byte_form))]
-pub(crate) fn spend_form<R: Read>(name: &str, reader: &mut R) -> Result<EnumAccessor, DecodeError<R::Error>>
+pub(crate) fn spend_form<R: Read>(
+    name: &str,
+    reader: &mut R,
+) -> Result<EnumAccessor, DecodeError<R::Error>>
     ensures form { SpendsEnum name.now (R.reading reader.old) result (R.reading reader.new) }
     ensures variant { IfErr result OfForm }
 {

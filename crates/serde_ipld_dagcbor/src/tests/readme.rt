@@ -2,7 +2,7 @@
 
 use crate::tests::rows::links::LINK;
 use crate::tests::told::{agree, is_told};
-use crate::{Deserializer, Ipld, from_slice, to_vec};
+use crate::{Deserializer, Ipld, check_slice, from_slice, to_vec};
 use std::alloc::Global;
 use std::test::Fail;
 
@@ -11,7 +11,8 @@ fn is_read(alloc: Global, bytes: &[u8]) -> Result<(), Fail> {
     let pair: (i16, &str) = from_slice(alloc, bytes)?;
     agree(pair, (-300, "a"))?;
     let value: Ipld = from_slice(alloc, bytes)?;
-    is_told(alloc, &value, r#"List([Integer(-300), String("a")])"#)
+    is_told(alloc, &value, r#"List([Integer(-300), String("a")])"#)?;
+    is_told(alloc, &check_slice(bytes), "Ok(List)")
 }
 
 #[test]

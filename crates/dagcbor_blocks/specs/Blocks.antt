@@ -1,5 +1,7 @@
 -- What a store of blocks holds, and what its calls answer.
-use Rattle.std.specs.Prelude.{◌≡◌, ◌≢◌, ◌↔◌, ◌⊎◌, [], ◌∷◌, ℕ, ◌<◌, ◌≤◌, cond, List, map, Option, None, Some, IfSome, IsSomeAnd, Result, MatchResult, IfOk, OnOk, Vec, ⊤}
+use Rattle.std.specs.Prelude.{◌≡◌, ◌≢◌, ◌↔◌, ◌⊎◌, [], ◌∷◌, ℕ, ◌<◌, ◌≤◌, cond, List, map, Option}
+use Rattle.std.specs.Prelude.{None, Some, IfSome, IsSomeAnd, Result, MatchResult, IfOk, OnOk, Vec}
+use Rattle.std.specs.Prelude.{⊤}
 use Rattle.std.specs.List.{AllByRecursion}
 use Rattle.std.specs.List.Sorted.{IsStrictlySortedBy}
 use Rattle.std.specs.Map.{lookup}
@@ -19,7 +21,8 @@ use Rattle.serde_ipld_dagcbor.specs.EncodeError.{EncodeError}
 use Rattle.serde_ipld_dagcbor.specs.EncodeError.TheVariants as unwritten
 use Rattle.dagcbor_blocks.specs.Names.{block_name}
 use Rattle.dagcbor_blocks.specs.declared.error.BlockError.{BlockError}
-use Rattle.dagcbor_blocks.specs.declared.error.BlockError.TheVariants.{Encode, Decode, Collision, OutOfMemory}
+use Rattle.dagcbor_blocks.specs.declared.error.BlockError.TheVariants.{Encode, Decode, Collision}
+use Rattle.dagcbor_blocks.specs.declared.error.BlockError.TheVariants.{OutOfMemory}
 use Rattle.dagcbor_blocks.specs.declared.store.Blocks.{Blocks}
 use Rattle.serde_ipld_dagcbor.specs.Reading.{default_steps}
 
@@ -36,7 +39,8 @@ block_at name held = lookup (is_at (cid_cmp name)) held
 
 -- under the name stand these bytes, and under each other name what stood there
 abbrev pub HoldsAlso : Held → CidParts → List ℕ → Held → Type 0
-HoldsAlso old name b new = (q : CidParts) → block_at q new ≡ cond (is_at (cid_cmp name) q) (Some b) (block_at q old)
+HoldsAlso old name b new = (q : CidParts)
+    → block_at q new ≡ cond (is_at (cid_cmp name) q) (Some b) (block_at q old)
 
 -- the bytes are a spelling
 abbrev pub HasTree : List ℕ → Type 0
@@ -89,7 +93,8 @@ Stores b old result new = MatchResult result
 -- why a spelling is not kept
 abbrev pub KeepRefused : List ℕ → Held → BlockError → Type 0
 KeepRefused b old (Encode e) = ⊥
-KeepRefused b old (Decode e) = IsOfBytes e × ((t : Tree) → IsSpelling b t → default_steps < any_need t)
+KeepRefused b old (Decode e) = IsOfBytes e
+    × ((t : Tree) → IsSpelling b t → default_steps < any_need t)
 KeepRefused b old Collision = (c : List ℕ) × (block_at (block_name b) old ≡ Some c) × (c ≢ b)
 KeepRefused b old OutOfMemory = ⊤
 
@@ -99,7 +104,8 @@ KeepsBlock b old result new = MatchResult result
     (λ name. HasBlock b × (name ≡ block_name b) × HoldsAlso old name b new)
     (λ e. (new ≡ old) × KeepRefused b old e)
 
--- why a value is not kept: it has no tree, or its tree no spelling; its spelling's tree needs more than 256 steps; or other bytes are held under its name
+-- why a value is not kept: it has no tree, or its tree no spelling; its spelling's tree needs more
+-- than 256 steps; or other bytes are held under its name
 abbrev pub PutRefused : Option Tree → Held → BlockError → Type 0
 PutRefused tree old (Encode e) = IsOfValue e × IfSome tree (λ t. IsSpellable t → ⊥)
 PutRefused tree old (Decode e) = IsOfBytes e × IsSomeAnd tree (λ t. default_steps < any_need t)
@@ -118,17 +124,20 @@ IsHeld name b held = (block_at name held ≡ Some b) × (name.digest ≡ sha256 
 
 abbrev pub GetRefused : {V : Type 0} → Shape Tree V → CidParts → Held → BlockError → Type 0
 GetRefused shape name held (Encode e) = ⊥
-GetRefused {V} shape name held (Decode e) = IsOfBytes e × ((b : List ℕ) × IsHeld name b held × ((v : V) → IsWhole shape default_steps b v → ⊥))
+GetRefused {V} shape name held (Decode e) = IsOfBytes e
+    × ((b : List ℕ) × IsHeld name b held × ((v : V) → IsWhole shape default_steps b v → ⊥))
 GetRefused shape name held Collision = ⊥
 GetRefused shape name held OutOfMemory = ⊤
 
 abbrev pub GetsSome : {T V : Type 0} → (T → V) → Shape Tree V → CidParts → Held → Option T → Type 0
 GetsSome show shape name held None = block_at name held ≡ None
-GetsSome show shape name held (Some v) = (b : List ℕ) × IsHeld name b held × IsWhole shape default_steps b (show v)
+GetsSome show shape name held (Some v) = (b : List ℕ) × IsHeld name b held
+    × IsWhole shape default_steps b (show v)
 
--- None is answered exactly where no block has the name, else what the tree shows whose spelling is held; refused only where the type
--- does not accept that tree within 256 steps.
-abbrev pub Gets : {T V : Type 0} → (T → V) → Shape Tree V → CidParts → Held → Result (Option T) BlockError → Type 0
+-- None is answered exactly where no block has the name, else what the tree shows whose spelling is
+-- held; refused only where the type does not accept that tree within 256 steps.
+abbrev pub Gets : {T V : Type 0} → (T → V) → Shape Tree V → CidParts → Held
+    → Result (Option T) BlockError → Type 0
 Gets show shape name held result = MatchResult result (GetsSome show shape name held) (GetRefused shape name held)
 
 -- ---- links
@@ -143,11 +152,13 @@ abbrev pub IsUnheld : {X : Type 0} → BTreeMap CidParts X → CidParts → Type
 IsUnheld held name = get cid_cmp held name ≡ None
 
 -- The link is put into the set where it names no entry of the map.
-abbrev pub AddsOne : {X E : Type 0} → BTreeMap CidParts X → CidParts → BTreeSet CidParts → Result (Unit {0}) E → BTreeSet CidParts → Type 0
+abbrev pub AddsOne : {X E : Type 0} → BTreeMap CidParts X → CidParts → BTreeSet CidParts
+    → Result (Unit {0}) E → BTreeSet CidParts → Type 0
 AddsOne held link old result new = OnOk result (AreCidParts link × ((q : CidParts) → Among q new.keys ↔ (Among q old.keys ⊎ ((q ≡ link) × IsUnheld held q))))
 
 -- The links that name no entry of the map are put into the set.
-abbrev pub AddsMissing : {X E : Type 0} → BTreeMap CidParts X → List CidParts → BTreeSet CidParts → Result (Unit {0}) E → BTreeSet CidParts → Type 0
+abbrev pub AddsMissing : {X E : Type 0} → BTreeMap CidParts X → List CidParts → BTreeSet CidParts
+    → Result (Unit {0}) E → BTreeSet CidParts → Type 0
 AddsMissing held links old result new = OnOk result (AllByRecursion AreCidParts links × ((q : CidParts) → Among q new.keys ↔ (Among q old.keys ⊎ (Among q links × IsUnheld held q))))
 
 -- The CIDs of a set are listed, each once, in their order.
@@ -156,7 +167,8 @@ ListsSet keys result = IfOk result (λ v. IsStrictlySortedBy cid_cmp v.items × 
 
 -- the binary form is that of a link in a held block
 abbrev pub IsLinked : List ℕ → Held → Type 0
-IsLinked form held = (e : CidParts × List ℕ) × (t : Tree) × Among e held × IsSpelling e.1 t × Among form (links_of t)
+IsLinked form held = (e : CidParts × List ℕ) × (t : Tree) × Among e held × IsSpelling e.1 t
+    × Among form (links_of t)
 
 -- it names no held block
 abbrev pub NamesNone : List ℕ → Held → Type 0

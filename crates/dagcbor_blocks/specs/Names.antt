@@ -12,8 +12,8 @@ use Rattle.serde_ipld_dagcbor.specs.Spelling.{IsSpellable, spelling}
 abbrev pub block_name : List ℕ → CidParts
 block_name b = cid_parts 1 0x71 0x12 (sha256 b)
 
--- The name of the spelling of the value's tree is answered. A message is answered only where the value has no tree, or its tree no
--- spelling.
+-- The name of the spelling of the value's tree is answered. A message is answered only where the
+-- value has no tree, or its tree no spelling.
 abbrev pub IsNameOf : Option Tree → Result CidParts (EncodeError Infallible) → Type 0
 IsNameOf tree (Ok name) = IsSomeAnd tree (λ t. IsTree t × IsSpellable t × (name ≡ block_name (spelling t)))
 IsNameOf tree (Err (Msg m)) = IfSome tree (λ t. IsSpellable t → ⊥)

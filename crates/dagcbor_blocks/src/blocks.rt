@@ -1,7 +1,9 @@
 //! Keeping blocks, reading them, and finding links that lead nowhere.
 
 ghost use Rattle.std.specs.Prelude.{◌≡◌, []};
-ghost use Rattle.dagcbor_blocks.specs.Blocks.{held_blocks, HasTree, HasBlock, Checks, Stores, KeepsBlock, Puts, Gets, AddsOne, AddsMissing, ListsSet, ListsMissing};
+ghost use Rattle.dagcbor_blocks.specs.Blocks.{held_blocks, HasTree, HasBlock, Checks, Stores};
+ghost use Rattle.dagcbor_blocks.specs.Blocks.{KeepsBlock, Puts, Gets, AddsOne, AddsMissing};
+ghost use Rattle.dagcbor_blocks.specs.Blocks.{ListsSet, ListsMissing};
 
 use crate::error::BlockError;
 use crate::name::name_of_bytes;

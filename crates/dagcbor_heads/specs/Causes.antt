@@ -1,11 +1,16 @@
--- The causes of refusals that heads and payloads can have, each where it stands (RFC 8949, section 3).
-use Rattle.std.specs.Prelude.{◌≡◌, ◌==◌, ℕ, ◌%◌, ◌^◌, ◌<◌, ◌≤◌, List, [], ◌∷◌, ◌++◌, length, if◌then◌else◌, ⊤}
+-- The causes of refusals that heads and payloads can have, each where it stands (RFC 8949, section
+-- 3).
+use Rattle.std.specs.Prelude.{◌≡◌, ◌==◌, ℕ, ◌%◌, ◌^◌, ◌<◌, ◌≤◌, List, [], ◌∷◌, ◌++◌, length}
+use Rattle.std.specs.Prelude.{if◌then◌else◌, ⊤}
 use Rattle.std.specs.Int.{bytes_high_first}
 use Rattle.dagcbor_heads.specs.Lengths.{len_of}
 use Rattle.dagcbor_heads.specs.Names.{Names}
 use Rattle.dagcbor_heads.specs.declared.error.Len.TheVariants.{Small}
 use Rattle.dagcbor_heads.specs.declared.error.DecodeError.{DecodeError}
-use Rattle.dagcbor_heads.specs.declared.error.DecodeError.TheVariants.{Read, Eof, Unsupported, RequireBorrowed, IndefiniteSize, NonMinimal, OutOfMemory, Failed}
+use Rattle.dagcbor_heads.specs.declared.error.DecodeError.TheVariants.{Read, Eof, Unsupported}
+use Rattle.dagcbor_heads.specs.declared.error.DecodeError.TheVariants.{RequireBorrowed}
+use Rattle.dagcbor_heads.specs.declared.error.DecodeError.TheVariants.{IndefiniteSize, NonMinimal}
+use Rattle.dagcbor_heads.specs.declared.error.DecodeError.TheVariants.{OutOfMemory, Failed}
 
 -- how many bytes of argument stand behind a first byte with this additional information
 abbrev pub argument_width : ℕ → ℕ
@@ -35,11 +40,14 @@ abbrev pub ArgumentCause : {E : Type 0} → ℕ → DecodeError E → List ℕ �
 ArgumentCause width (Eof name expect) b = (expect ≡ Small width) × (length b < width)
 ArgumentCause width _ b = ⊥
 
--- a head stands there that is missing, cut, reserved, of indefinite length, or longer than it need be
+-- a head stands there that is missing, cut, reserved, of indefinite length, or longer than it need
+-- be
 abbrev pub HeadCause : {E : Type 0} → DecodeError E → List ℕ → Type 0
 HeadCause (Eof name expect) [] = expect ≡ Small 1
-HeadCause (Eof name expect) (first ∷ more) = (expect ≡ Small (argument_width (first % 32))) × (length more < argument_width (first % 32))
-HeadCause (Unsupported name found) (first ∷ more) = (found ≡ first) × (28 ≤ first % 32) × (first % 32 ≤ 30)
+HeadCause (Eof name expect) (first ∷ more) = (expect ≡ Small (argument_width (first % 32)))
+    × (length more < argument_width (first % 32))
+HeadCause (Unsupported name found) (first ∷ more) = (found ≡ first) × (28 ≤ first % 32)
+    × (first % 32 ≤ 30)
 HeadCause IndefiniteSize (first ∷ more) = first % 32 ≡ 31
 HeadCause (NonMinimal name found) (first ∷ more) = (found ≡ first)
     × ((n : ℕ) × (rest : List ℕ) × (n < least_argument (argument_width (first % 32))) × (more ≡ bytes_high_first (argument_width (first % 32)) n ++ rest))

@@ -44,7 +44,8 @@ pub record FindsEnd (old new : Reading) : Type 0 where
 
 -- these bytes stood at the front, and were taken
 pub record Takes (old : Reading) (bytes : List ℕ) (new : Reading) : Type 0 where
-  pub taken : (b : List ℕ) → old.left ≡ Some b → (rest : List ℕ) × (b ≡ bytes ++ rest) × (new.left ≡ Some rest)
+  pub taken : (b : List ℕ) → old.left ≡ Some b → (rest : List ℕ) × (b ≡ bytes ++ rest)
+      × (new.left ≡ Some rest)
   pub same : Stays old new
 
 -- this head stood at the front, with this first byte, and was taken
@@ -55,7 +56,8 @@ pub record TakesHead (old : Reading) (major argument first : ℕ) (new : Reading
   pub starts : StartsWith old first
   pub takes : Takes old (head major argument) new
 
--- some bytes were taken, at most as many as were wanted, and put behind those that were gathered before: none only at the end
+-- some bytes were taken, at most as many as were wanted, and put behind those that were gathered
+-- before: none only at the end
 pub record Gathers (old : Reading) (before : List ℕ) (want count : ℕ) (after : List ℕ) (new : Reading) : Type 0 where
   pub bytes : List ℕ
   pub counted : length bytes ≡ count

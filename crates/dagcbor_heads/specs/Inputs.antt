@@ -13,5 +13,6 @@ input_reading reading (Slice reader) = reader
 input_reading reading (Reader reader) = not_lending (reading reader)
 
 -- What a call does to an input over a reader
-abbrev pub OverInput : {R A : Type 0} → (R → Reading) → (Reading → A → Reading → Type 0) → Input R → A → Input R → Type 0
+abbrev pub OverInput : {R A : Type 0} → (R → Reading) → (Reading → A → Reading → Type 0) → Input R
+    → A → Input R → Type 0
 OverInput reading does old result new = does (input_reading reading old) result (input_reading reading new)

@@ -1,12 +1,14 @@
 -- What contracts see of a reader over a buffered source.
-use Rattle.std.specs.Prelude.{◌≡◌, ℕ, ◌<◌, ◌≤◌, Bool, ◌&&◌, true, List, [], length, take, IfSome, nat_le, bytes_eq, if◌then◌else◌, Option, None, Some}
+use Rattle.std.specs.Prelude.{◌≡◌, ℕ, ◌<◌, ◌≤◌, Bool, ◌&&◌, true, List, [], length, take, IfSome}
+use Rattle.std.specs.Prelude.{nat_le, bytes_eq, if◌then◌else◌, Option, None, Some}
 
 -- whether n bytes may be consumed at once
 abbrev pub may_consume : ℕ → Option ℕ → Bool
 may_consume n None = true
 may_consume n (Some most) = nat_le n most
 
--- the bytes of the source, where it tells them, they begin with those that are shown, and those may be consumed
+-- the bytes of the source, where it tells them, they begin with those that are shown, and those may
+-- be consumed
 abbrev pub told : List ℕ → Option (List ℕ) → Option ℕ → Option (List ℕ)
 told shown None most = None
 told shown (Some b) most = if bytes_eq (take (length shown) b) shown && may_consume (length shown) most then Some b else None
@@ -17,7 +19,8 @@ pub record Windowed : Type 0 where
   pub faults : ℕ
   pub looked : ℕ
 
--- known bytes are kept, and they begin with those that are shown, which may be consumed: none only at the end, or where none is wanted
+-- known bytes are kept, and they begin with those that are shown, which may be consumed: none only
+-- at the end, or where none is wanted
 pub record Copies (old new : Option (List ℕ)) (most : Option ℕ) (want : ℕ) (shown : List ℕ) : Type 0 where
   pub kept : IfSome old (λ b. new ≡ Some b)
   pub limit : IfSome old (λ _. IfSome most (λ k. length shown ≤ k))

@@ -12,21 +12,26 @@ pub record LooksOnce (old new : Reading) : Type 0 where
   pub one : LooksAtMost 1 old new
   pub left : (b : List ℕ) → old.left ≡ Some b → new.looked ≤ old.looked + length b
 
--- n bytes were taken, and at most so many times n looked at, counted with those that were looked at before the call
+-- n bytes were taken, and at most so many times n looked at, counted with those that were looked at
+-- before the call
 pub record LooksAtTaken (times before : ℕ) (old new : Reading) : Type 0 where
   pub grows : old.looked ≤ new.looked
   pub most : (b : List ℕ) → old.left ≡ Some b
-      → (rest : List ℕ) × (n : ℕ) × (new.left ≡ Some rest) × (length b ≡ n + length rest) × (before + new.looked ≤ old.looked + times * n)
+      → (rest : List ℕ) × (n : ℕ) × (new.left ≡ Some rest) × (length b ≡ n + length rest)
+      × (before + new.looked ≤ old.looked + times * n)
 
--- at most so many times as many as were left, counted with those that were looked at before the call
+-- at most so many times as many as were left, counted with those that were looked at before the
+-- call
 pub record LooksAtLeft (times before : ℕ) (old new : Reading) : Type 0 where
   pub grows : old.looked ≤ new.looked
   pub most : (b : List ℕ) → old.left ≡ Some b → before + new.looked ≤ old.looked + times * length b
 
 -- the same of either result
-abbrev pub LooksBehind : {T E : Type 0} → (times before : ℕ) → Reading → Result T E → Reading → Type 0
+abbrev pub LooksBehind : {T E : Type 0} → (times before : ℕ) → Reading → Result T E → Reading
+    → Type 0
 LooksBehind times before old result new = MatchResult result (λ _. LooksAtTaken times before old new) (λ _. LooksAtLeft times before old new)
 
--- An answer looks at most so many times at each byte that it takes, a refusal at each that was left.
+-- An answer looks at most so many times at each byte that it takes, a refusal at each that was
+-- left.
 abbrev pub Looks : {T E : Type 0} → (times : ℕ) → Reading → Result T E → Reading → Type 0
 Looks times = LooksBehind times 0

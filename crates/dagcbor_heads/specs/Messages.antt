@@ -7,6 +7,7 @@ use Rattle.dagcbor_heads.specs.declared.name.Message.{Message}
 abbrev pub message_bytes : Message → List ℕ
 message_bytes message = text_bytes message.text
 
--- the message is the longest beginning of the text that has at most 63 bytes and ends with a character
+-- the message is the longest beginning of the text that has at most 63 bytes and ends with a
+-- character
 pub record Says (message : Message) (text : List ℕ) : Type 0 where
   pub kept : IsKept 63 (message_bytes message) text

@@ -1,5 +1,6 @@
 -- What contracts see of a reader, and what its calls do to it.
-use Rattle.std.specs.Prelude.{◌≡◌, ℕ, ◌+◌, ◌<◌, ◌≤◌, min, List, [], Bool, true, false, length, take, drop, Option, Some}
+use Rattle.std.specs.Prelude.{◌≡◌, ℕ, ◌+◌, ◌<◌, ◌≤◌, min, List, [], Bool, true, false, length}
+use Rattle.std.specs.Prelude.{take, drop, Option, Some}
 use Rattle.dagcbor_heads.specs.declared.read.Reference.{Reference}
 use Rattle.dagcbor_heads.specs.declared.read.Reference.TheVariants.{Long, Short}
 
@@ -24,7 +25,8 @@ pub record Reading : Type 0 where
   pub lends : Bool
   -- how often the source faulted so far
   pub faults : ℕ
-  -- how many bytes were looked at so far: of each fill as many as were wanted and shown, and each byte that was taken
+  -- how many bytes were looked at so far: of each fill as many as were wanted and shown, and each
+  -- byte that was taken
   pub looked : ℕ
   -- the references (by their ghost names) through which the source is reached
   pub through : List ℕ
@@ -58,8 +60,8 @@ pub record Stays (old new : Reading) : Type 0 where
   pub faults : new.faults ≡ old.faults
   pub through : new.through ≡ old.through
 
--- what is shown of the bytes left: a beginning, which is empty only at their end or where no byte is wanted;
--- one that is lent has all that was wanted, as far as there is so much
+-- what is shown of the bytes left: a beginning, which is empty only at their end or where no byte
+-- is wanted; one that is lent has all that was wanted, as far as there is so much
 pub record IsShownOf (b shown : List ℕ) (want : ℕ) (lends : Bool) : Type 0 where
   pub front : take (length shown) b ≡ shown
   pub end : 0 < want → length shown ≡ 0 → b ≡ []

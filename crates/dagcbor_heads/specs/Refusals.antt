@@ -2,20 +2,23 @@
 use Rattle.std.specs.Prelude.{◌≡◌, ℕ, ◌<◌, List, false, Some}
 use Rattle.dagcbor_heads.specs.Reading.{Reading}
 use Rattle.dagcbor_heads.specs.declared.error.DecodeError.{DecodeError}
-use Rattle.dagcbor_heads.specs.declared.error.DecodeError.TheVariants.{Read, RequireBorrowed, DepthOverflow, OutOfMemory, Failed}
+use Rattle.dagcbor_heads.specs.declared.error.DecodeError.TheVariants.{Read, RequireBorrowed}
+use Rattle.dagcbor_heads.specs.declared.error.DecodeError.TheVariants.{DepthOverflow, OutOfMemory}
+use Rattle.dagcbor_heads.specs.declared.error.DecodeError.TheVariants.{Failed}
 
--- A refusal is one of these:
--- a fault of the source, which was counted;
--- want of memory, where the call may lack memory;
--- a wish to borrow, where the call may have it and the reader does not lend;
--- or else one that comes only where the call could not answer, and whose cause stands at the front of the bytes left
--- (where it is the depth, no step is left).
-abbrev pub Refuses : {E : Type 0} → (could lacks borrows : Type 0) → (DecodeError E → List ℕ → Type 0) → Reading → DecodeError E → Reading → Type 0
+-- A refusal is one of these: a fault of the source, which was counted; want of memory, where the
+-- call may lack memory; a wish to borrow, where the call may have it and the reader does not lend;
+-- or else one that comes only where the call could not answer, and whose cause stands at the front
+-- of the bytes left (where it is the depth, no step is left).
+abbrev pub Refuses : {E : Type 0} → (could lacks borrows : Type 0)
+    → (DecodeError E → List ℕ → Type 0) → Reading → DecodeError E → Reading → Type 0
 Refuses could lacks borrows stands old (Read e) new = old.faults < new.faults
 Refuses could lacks borrows stands old OutOfMemory new = (new.faults ≡ old.faults) × lacks
-Refuses could lacks borrows stands old (RequireBorrowed name) new = (new.faults ≡ old.faults) × borrows × (old.lends ≡ false)
+Refuses could lacks borrows stands old (RequireBorrowed name) new = (new.faults ≡ old.faults)
+    × borrows × (old.lends ≡ false)
 Refuses could lacks borrows stands old Failed new = ⊥
-Refuses could lacks borrows stands old (DepthOverflow name) new = (new.faults ≡ old.faults) × (could → ⊥)
+Refuses could lacks borrows stands old (DepthOverflow name) new = (new.faults ≡ old.faults)
+    × (could → ⊥)
     × ((b : List ℕ) → old.left ≡ Some b → stands (DepthOverflow name) b) × (new.steps ≡ 0)
 Refuses could lacks borrows stands old e new = (new.faults ≡ old.faults) × (could → ⊥)
     × ((b : List ℕ) → old.left ≡ Some b → stands e b)

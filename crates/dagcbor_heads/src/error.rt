@@ -81,15 +81,16 @@ impl<E: Debug> Display for EncodeError<E> {
 
 impl<E: Error> Error for EncodeError<E> {}
 
-/// Why a value was not read. `E` is the reader's error; a name says what was being read, and `found` is the byte
-/// that stands at the place.
+/// Why a value was not read. `E` is the reader's error; a name says what was being read, and
+/// `found` is the byte that stands at the place.
 #[derive(Debug, Drop)]
 pub enum DecodeError<E> {
     /// A type accepts no such value.
     Msg(Name),
     /// The reader faulted.
     Read(E),
-    /// The input ends before `expect` bytes: the whole width of an argument, or the whole announced length.
+    /// The input ends before `expect` bytes: the whole width of an argument, or the whole announced
+    /// length.
     Eof {
         name: Name,
         expect: Len,

@@ -10,8 +10,9 @@ use std::io;
 use std::io::BufRead;
 use std::marker::Model;
 
-/// A reader over a buffered source. It takes no byte from the source before `advance` does: what is shown are copies of
-/// bytes that the source still has. An interrupted call is a fault like any other.
+/// A reader over a buffered source. It takes no byte from the source before `advance` does: what is
+/// shown are copies of bytes that the source still has. An interrupted call is a fault like any
+/// other.
 #[derive(Drop)]
 pub struct IoReader<R: BufRead> {
     source: R,

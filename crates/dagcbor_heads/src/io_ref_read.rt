@@ -10,8 +10,8 @@ use std::io;
 use std::io::BufRead;
 use std::marker::Model;
 
-/// A reader over a buffered source that is lent, as `IoReader` over one of its own. Contracts see through which reference
-/// it reads, so that a caller knows what its source has left.
+/// A reader over a buffered source that is lent, as `IoReader` over one of its own. Contracts see
+/// through which reference it reads, so that a caller knows what its source has left.
 #[derive(Drop)]
 pub struct IoRefReader<'r, R: BufRead> {
     source: &'r mut R,

@@ -9,8 +9,8 @@ use crate::write::Write;
 use std::io;
 use std::marker::Model;
 
-/// A writer over a device that is lent, as `IoWriter` over one of its own. Contracts see through which reference it
-/// writes, so that a caller knows what its device holds.
+/// A writer over a device that is lent, as `IoWriter` over one of its own. Contracts see through
+/// which reference it writes, so that a caller knows what its device holds.
 #[derive(Drop)]
 pub struct IoRefWriter<'w, W: io::Write> {
     device: &'w mut W,

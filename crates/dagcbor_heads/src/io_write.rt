@@ -11,8 +11,9 @@ use std::io;
 use std::io::ErrorKind;
 use std::marker::Model;
 
-/// A writer over a device. A refused push leaves a beginning of the bytes there. A write that takes no byte of a rest is the
-/// fault `WriteZero`; nothing is tried again, an interrupted write neither.
+/// A writer over a device. A refused push leaves a beginning of the bytes there. A write that takes
+/// no byte of a rest is the fault `WriteZero`; nothing is tried again, an interrupted write
+/// neither.
 #[derive(Drop)]
 pub struct IoWriter<W: io::Write> {
     device: W,

@@ -21,7 +21,8 @@ pub struct Message {
 }
 
 impl Name {
-    /// The text, or the longest beginning of it that has at most 31 bytes and ends with a character.
+    /// The text, or the longest beginning of it that has at most 31 bytes and ends with a
+    /// character.
     pub fn new(text: &str) -> Name
         ensures { Names result text.now }
     {
@@ -38,7 +39,8 @@ impl Name {
 }
 
 impl Message {
-    /// The text, or the longest beginning of it that has at most 63 bytes and ends with a character.
+    /// The text, or the longest beginning of it that has at most 63 bytes and ends with a
+    /// character.
     pub fn new(text: &str) -> Message
         ensures kept { Says result text.now }
         ensures whole { length text.now ≤ 63 → message_bytes result ≡ text.now }

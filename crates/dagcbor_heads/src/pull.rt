@@ -1,12 +1,17 @@
 //! Takes bytes, heads and payloads off any reader.
 
-ghost use Rattle.std.specs.Prelude.{◌≡◌, ◌↔◌, ◌<◌, ◌≤◌, ◌+◌, ◌*◌, ◌%◌, ◌^◌, [], ◌∷◌, ◌++◌, ⊤, Some, true, false, min, length, take, IfOk, IfErr, IfSome, IsTrue, MatchOption, MatchResult, MatchBool, List, ℕ};
+ghost use Rattle.std.specs.Prelude.{◌≡◌, ◌↔◌, ◌<◌, ◌≤◌, ◌+◌, ◌*◌, ◌%◌, ◌^◌, [], ◌∷◌, ◌++◌, ⊤, Some};
+ghost use Rattle.std.specs.Prelude.{true, false, min, length, take, IfOk, IfErr, IfSome, IsTrue};
+ghost use Rattle.std.specs.Prelude.{MatchOption, MatchResult, MatchBool, List, ℕ};
 ghost use Rattle.std.specs.Cow.{cow_slice_items, IsBorrowedSlice};
 ghost use Rattle.std.specs.Int.{bytes_high_first};
 ghost use Rattle.dagcbor_heads.specs.Head.{head};
 ghost use Rattle.dagcbor_heads.specs.Reading.{Fails, Stays, Keeps};
-ghost use Rattle.dagcbor_heads.specs.Fronts.{FindsEnd, Gathers, HasByte, HasHead, HasPayload, ShowsByte, Takes, TakesHead};
-ghost use Rattle.dagcbor_heads.specs.Causes.{ByteCause, ArgumentCause, HeadCause, PayloadCause, IsCauseless, IsEndNamed, IsNamed, argument_width, least_argument};
+ghost use Rattle.dagcbor_heads.specs.Fronts.{FindsEnd, Gathers, HasByte, HasHead, HasPayload};
+ghost use Rattle.dagcbor_heads.specs.Fronts.{ShowsByte, Takes, TakesHead};
+ghost use Rattle.dagcbor_heads.specs.Causes.{ByteCause, ArgumentCause, HeadCause, PayloadCause};
+ghost use Rattle.dagcbor_heads.specs.Causes.{IsCauseless, IsEndNamed, IsNamed, argument_width};
+ghost use Rattle.dagcbor_heads.specs.Causes.{least_argument};
 ghost use Rattle.dagcbor_heads.specs.Refusals.{Refuses};
 ghost use Rattle.dagcbor_heads.specs.Inputs.{input_reading, OverInput};
 ghost use Rattle.dagcbor_heads.specs.Looking.{Looks, LooksOnce, LooksAtTaken, LooksAtMost};
@@ -219,7 +224,8 @@ fn append_front(payload: &mut Vec<u8>, bytes: &[u8], want: u64) -> Result<usize,
     Ok(count)
 }
 
-/// Moves some of the next bytes to the end of the payload, and answers how many: none only at the end.
+/// Moves some of the next bytes to the end of the payload, and answers how many: none only at the
+/// end.
 fn gather_some<R: Read>(
     reader: &mut R,
     payload: &mut Vec<u8>,
@@ -316,7 +322,8 @@ fn copy_front<const CAP: usize>(payload: &mut ArrayVec<u8, CAP>, bytes: &[u8], w
     count
 }
 
-/// Moves some of the next bytes to the end of the payload, and answers how many: none only at the end.
+/// Moves some of the next bytes to the end of the payload, and answers how many: none only at the
+/// end.
 fn copy_some<R: Read, const CAP: usize>(
     reader: &mut R,
     payload: &mut ArrayVec<u8, CAP>,

@@ -1,7 +1,9 @@
 //! Readers: a list of bytes, however they come.
 
-ghost use Rattle.std.specs.Prelude.{◌≡◌, ◌+◌, ◌-◌, ◌<◌, ◌≤◌, [], true, length, IfOk, MatchOption, MatchResult, MatchBool, Some, List, ℕ};
-ghost use Rattle.dagcbor_heads.specs.Reading.{Reading, IsShownOf, Shows, Fails, Advances, fresh_reading, default_steps, with_steps};
+ghost use Rattle.std.specs.Prelude.{◌≡◌, ◌+◌, ◌-◌, ◌<◌, ◌≤◌, [], true, length, IfOk, MatchOption};
+ghost use Rattle.std.specs.Prelude.{MatchResult, MatchBool, Some, List, ℕ};
+ghost use Rattle.dagcbor_heads.specs.Reading.{Reading, IsShownOf, Shows, Fails, Advances};
+ghost use Rattle.dagcbor_heads.specs.Reading.{fresh_reading, default_steps, with_steps};
 ghost use Rattle.dagcbor_heads.specs.Fronts.{Takes};
 
 use crate::steps::{DEFAULT_STEPS, Steps};
@@ -23,8 +25,8 @@ pub trait Read: Drop {
     /// What contracts see of the reader.
     ghost reading: { Self → Reading };
 
-    /// Sees to it that a front of the bytes left is shown, and takes nothing. None are shown only at the end of the
-    /// bytes, or where `want` is 0.
+    /// Sees to it that a front of the bytes left is shown, and takes nothing. None are shown only
+    /// at the end of the bytes, or where `want` is 0.
     fn prepare(&mut self, want: usize) -> Result<(), Self::Error>
         ensures { MatchResult result
             (λ _. Shows (reading self.old) want (reading self.new))

@@ -14,7 +14,8 @@ pub(crate) struct Text<const MOST: usize> {
 }
 
 impl<const MOST: usize> Text<MOST> {
-    /// The text, or the longest beginning of it that has at most `MOST` bytes and ends with a character.
+    /// The text, or the longest beginning of it that has at most `MOST` bytes and ends with a
+    /// character.
     pub(crate) fn new(text: &str) -> Text<MOST>
         ensures { IsKept MOST (text_bytes result) text.now }
     {

@@ -1,6 +1,7 @@
 //! What a reader over a buffered source shows.
 
-ghost use Rattle.std.specs.Prelude.{◌≡◌, ◌+◌, ◌<◌, [], min, length, take, IfSome, MatchResult, Some};
+ghost use Rattle.std.specs.Prelude.{◌≡◌, ◌+◌, ◌<◌, [], min, length, take, IfSome, MatchResult};
+ghost use Rattle.std.specs.Prelude.{Some};
 ghost use Rattle.dagcbor_heads.specs.IoReading.{Copies};
 
 use crate::tally::Tally;
@@ -11,7 +12,8 @@ use std::marker::Model;
 /// The most bytes that are shown at once.
 const WINDOW: usize = 4096;
 
-/// Copies of bytes that a source still has, how often it faulted, and how many bytes were looked at.
+/// Copies of bytes that a source still has, how often it faulted, and how many bytes were looked
+/// at.
 #[derive(Drop)]
 pub(crate) struct Window {
     bytes: [u8; WINDOW],
@@ -44,8 +46,8 @@ impl Window {
         }
     }
 
-    /// Copies some of the next bytes of the source, which stay there: at most as many as are wanted, and none only at the
-    /// end, or where none is wanted. A fault is counted.
+    /// Copies some of the next bytes of the source, which stay there: at most as many as are
+    /// wanted, and none only at the end, or where none is wanted. A fault is counted.
     pub(crate) fn look<R: BufRead>(&mut self, source: &mut R, want: usize) -> io::Result<()>
         ensures { MatchResult result
             (λ _. Copies (R.remaining source.old) (R.remaining source.new) (R.consumable_len source.new) want self.new.shown

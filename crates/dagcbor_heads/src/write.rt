@@ -17,7 +17,8 @@ pub trait Write {
     /// Whether a push may take memory.
     ghost takes_memory: { Bool };
 
-    /// Appends the bytes. Refused with `Write` or `OutOfMemory` alone; a beginning of the bytes may have gone out then.
+    /// Appends the bytes. Refused with `Write` or `OutOfMemory` alone; a beginning of the bytes may
+    /// have gone out then.
     fn push(&mut self, bytes: &[u8]) -> Result<(), EncodeError<Self::Error>>
         ensures written { Writes (Some bytes.now) (written self.old) (written self.new) result }
         ensures memory { WantsMemoryOnlyIf takes_memory result };

@@ -1,5 +1,6 @@
 -- What a read of a map's entries answers and refuses.
-use Rattle.std.specs.Prelude.{◌≡◌, ℕ, ◌≤◌, false, List, Option, None, Some, Result, MatchResult, ⊤, String}
+use Rattle.std.specs.Prelude.{◌≡◌, ℕ, ◌≤◌, false, List, Option, None, Some, Result, MatchResult, ⊤}
+use Rattle.std.specs.Prelude.{String}
 use Rattle.std.specs.BTreeMap.{BTreeMap}
 use Rattle.std.specs.Cow.{cow_str_bytes}
 use Rattle.std.specs.declared.borrow.CowStr.{CowStr}
@@ -24,13 +25,16 @@ pub record HasKey (previous : Option (List ℕ)) (r : Reading) : Type 0 where
   pub front : IsFront bytes (text key) rest
   pub follows : Follows previous key
 
--- A key is read exactly where one stands that follows the one before it, with no want of memory where the input lends.
-abbrev pub ReadsKeyAs : {K E : Type 0} → (K → List ℕ) → Option (List ℕ) → Reading → Result K (DecodeError E) → Reading → Type 0
+-- A key is read exactly where one stands that follows the one before it, with no want of memory
+-- where the input lends.
+abbrev pub ReadsKeyAs : {K E : Type 0} → (K → List ℕ) → Option (List ℕ) → Reading
+    → Result K (DecodeError E) → Reading → Type 0
 ReadsKeyAs meaning previous old result new = MatchResult result
     (λ k. Follows previous (meaning k) × TakesItem 1 old (text (meaning k)) new)
     (λ e. Refuses (HasKey previous old) (old.lends ≡ false) ⊥ (KeyCause previous) old e new)
 
-abbrev pub ReadsKey : {E : Type 0} → Option (List ℕ) → Reading → Result (CowStr Global) (DecodeError E) → Reading → Type 0
+abbrev pub ReadsKey : {E : Type 0} → Option (List ℕ) → Reading
+    → Result (CowStr Global) (DecodeError E) → Reading → Type 0
 ReadsKey = ReadsKeyAs cow_str_bytes
 
 -- the first of the entries stands after this key
@@ -50,11 +54,13 @@ pub record HasEntries (count : ℕ) (r : Reading) : Type 0 where
 
 -- these entries stood at the front, and were taken
 pub record TakesEntries (old : Reading) (es : Entries) (new : Reading) : Type 0 where
-  pub taken : (b : List ℕ) → old.left ≡ Some b → (rest : List ℕ) × AreEntryFronts b es rest × (entries_need es ≤ old.steps) × (new.left ≡ Some rest)
+  pub taken : (b : List ℕ) → old.left ≡ Some b → (rest : List ℕ) × AreEntryFronts b es rest
+      × (entries_need es ≤ old.steps) × (new.left ≡ Some rest)
   pub same : Stays old new
 
 -- Entries are read exactly where so many stand within the steps, in the order of their keys.
-abbrev pub ReadsEntries : {E : Type 0} → ℕ → Reading → Result (BTreeMap (String Global) Ipld) (DecodeError E) → Reading → Type 0
+abbrev pub ReadsEntries : {E : Type 0} → ℕ → Reading
+    → Result (BTreeMap (String Global) Ipld) (DecodeError E) → Reading → Type 0
 ReadsEntries count old result new = MatchResult result
     (λ m. (entry_count (ordered (pairs_of m.entries)) ≡ count) × TakesEntries old (ordered (pairs_of m.entries)) new)
     (λ e. Refuses (HasEntries count old) ⊤ ⊥ (CauseInEntries count old.steps) old e new)

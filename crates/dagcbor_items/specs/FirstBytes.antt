@@ -11,4 +11,5 @@ BeginsAs major b = (first : ℕ) (more : List ℕ) → b ≡ first ∷ more → 
 
 -- bytes that are there begin with a byte of a major type from low to high
 abbrev pub BeginsFrom : (low high : ℕ) → List ℕ → Type 0
-BeginsFrom low high b = (first : ℕ) (more : List ℕ) → b ≡ first ∷ more → (low ≤ first / 32) × (first / 32 ≤ high)
+BeginsFrom low high b = (first : ℕ) (more : List ℕ) → b ≡ first ∷ more → (low ≤ first / 32)
+    × (first / 32 ≤ high)

@@ -1,10 +1,14 @@
 -- The causes of refusals that an item of unknown kind can have, each where it stands.
-use Rattle.std.specs.Prelude.{◌≡◌, ℕ, ◌+◌, ◌*◌, ◌/◌, ◌%◌, ◌^◌, ◌<◌, ◌≤◌, ◌⊎◌, false, List, ◌∷◌, ◌++◌, length, Option, Some, IsUtf8, codes}
+use Rattle.std.specs.Prelude.{◌≡◌, ℕ, ◌+◌, ◌*◌, ◌/◌, ◌%◌, ◌^◌, ◌<◌, ◌≤◌, ◌⊎◌, false, List, ◌∷◌}
+use Rattle.std.specs.Prelude.{◌++◌, length, Option, Some, IsUtf8, codes}
 use Rattle.dagcbor_heads.specs.Head.{head}
 use Rattle.dagcbor_heads.specs.Causes.{HeadCause}
 use Rattle.dagcbor_heads.specs.Lengths.{len_of}
 use Rattle.dagcbor_heads.specs.declared.error.DecodeError.{DecodeError}
-use Rattle.dagcbor_heads.specs.declared.error.DecodeError.TheVariants.{Eof, Unsupported, RequireUtf8, DepthOverflow, IndefiniteSize, UnorderedKey}
+use Rattle.dagcbor_heads.specs.declared.error.DecodeError.TheVariants.{Eof, Unsupported}
+use Rattle.dagcbor_heads.specs.declared.error.DecodeError.TheVariants.{RequireUtf8, DepthOverflow}
+use Rattle.dagcbor_heads.specs.declared.error.DecodeError.TheVariants.{IndefiniteSize}
+use Rattle.dagcbor_heads.specs.declared.error.DecodeError.TheVariants.{UnorderedKey}
 use Rattle.ipld_tree.specs.Key.{comes_before}
 use Rattle.ipld_tree.specs.Tree.{text, Items, Entries}
 use Rattle.ipld_tree.specs.Spelling.{item_count, entry_count, IsFront, AreFronts, AreEntryFronts}
@@ -20,39 +24,49 @@ KeyCause previous e b = TextCause (codes "map key") e b
 
 -- a map begins there, and the cause stands where its next key is to stand
 abbrev pub CauseAtKey : {E : Type 0} → DecodeError E → List ℕ → Type 0
-CauseAtKey e b = (before : Option (List ℕ)) × (c : List ℕ) × NextKey b before c × KeyCause before e c
+CauseAtKey e b = (before : Option (List ℕ)) × (c : List ℕ) × NextKey b before c
+    × KeyCause before e c
 
--- why an item of any kind that would begin there is refused, where its head is not: a payload that is cut, a simple value that is
--- no false, true or null, a text that is not UTF-8, or an indefinite length
+-- why an item of any kind that would begin there is refused, where its head is not: a payload that
+-- is cut, a simple value that is no false, true or null, a text that is not UTF-8, or an indefinite
+-- length
 abbrev pub ItemCause : {E : Type 0} → DecodeError E → List ℕ → Type 0
-ItemCause (Eof name expect) b = (major n : ℕ) × (rest : List ℕ) × ((major ≡ 2) ⊎ (major ≡ 3)) × (n < 2 ^ 64) × (b ≡ head major n ++ rest) × (length rest < n) × (expect ≡ len_of n)
-ItemCause (Unsupported name found) b = (more : List ℕ) × (b ≡ found ∷ more) × (found / 32 ≡ 7) × ((0xf4 ≤ found) → (found ≤ 0xf6) → ⊥)
-ItemCause (RequireUtf8 name) b = (s rest : List ℕ) × (length s < 2 ^ 64) × (b ≡ head 3 (length s) ++ (s ++ rest)) × (IsUtf8 s → ⊥)
+ItemCause (Eof name expect) b = (major n : ℕ) × (rest : List ℕ) × ((major ≡ 2) ⊎ (major ≡ 3))
+    × (n < 2 ^ 64) × (b ≡ head major n ++ rest) × (length rest < n) × (expect ≡ len_of n)
+ItemCause (Unsupported name found) b = (more : List ℕ) × (b ≡ found ∷ more) × (found / 32 ≡ 7)
+    × ((0xf4 ≤ found) → (found ≤ 0xf6) → ⊥)
+ItemCause (RequireUtf8 name) b = (s rest : List ℕ) × (length s < 2 ^ 64)
+    × (b ≡ head 3 (length s) ++ (s ++ rest)) × (IsUtf8 s → ⊥)
 ItemCause IndefiniteSize b = (first : ℕ) × (more : List ℕ) × (b ≡ first ∷ more) × (first % 32 ≡ 31)
 ItemCause _ b = ⊥
 
--- no step is left for the item that is to stand there, or one alone where a list or a map begins, which takes two
+-- no step is left for the item that is to stand there, or one alone where a list or a map begins,
+-- which takes two
 abbrev pub IsTooDeep : {E : Type 0} → ℕ → DecodeError E → List ℕ → Type 0
-IsTooDeep left (DepthOverflow name) b = (left ≡ 0) ⊎ ((left ≡ 1) × (BeginsWith 4 b ⊎ BeginsWith 5 b))
+IsTooDeep left (DepthOverflow name) b = (left ≡ 0)
+    ⊎ ((left ≡ 1) × (BeginsWith 4 b ⊎ BeginsWith 5 b))
 IsTooDeep left _ b = ⊥
 
--- the cause stands where an item is to stand for which so many steps are left: the steps', its head's, its own, a link's, or that of a
--- key of the map that begins there
+-- the cause stands where an item is to stand for which so many steps are left: the steps', its
+-- head's, its own, a link's, or that of a key of the map that begins there
 abbrev pub CauseAt : {E : Type 0} → ℕ → DecodeError E → List ℕ → Type 0
 CauseAt left e b = IsTooDeep left e b
     ⊎ ((0 < left) × (HeadCause e b ⊎ ItemCause e b ⊎ (BeginsWith 6 b × LinkCause e b)))
     ⊎ ((1 < left) × CauseAtKey e b)
 
--- the cause stands at a place in the item that begins here, for which so many steps are left: each list and each map that is open
--- there has taken two of them
+-- the cause stands at a place in the item that begins here, for which so many steps are left: each
+-- list and each map that is open there has taken two of them
 abbrev pub CauseInside : {E : Type 0} → ℕ → DecodeError E → List ℕ → Type 0
-CauseInside steps e b = (depth left : ℕ) × (c : List ℕ) × (steps ≡ 2 * depth + left) × IsInside depth b c × CauseAt left e c
+CauseInside steps e b = (depth left : ℕ) × (c : List ℕ) × (steps ≡ 2 * depth + left)
+    × IsInside depth b c × CauseAt left e c
 
 -- the cause stands in one of so many items that begin here, behind whole ones
 abbrev pub CauseInItems : {E : Type 0} → ℕ → ℕ → DecodeError E → List ℕ → Type 0
-CauseInItems count steps e b = (ts : Items) × (c : List ℕ) × AreFronts b ts c × (item_count ts < count) × CauseInside steps e c
+CauseInItems count steps e b = (ts : Items) × (c : List ℕ) × AreFronts b ts c
+    × (item_count ts < count) × CauseInside steps e c
 
 -- the cause stands at a key, or in a value, of so many entries that begin here, behind whole ones
 abbrev pub CauseInEntries : {E : Type 0} → ℕ → ℕ → DecodeError E → List ℕ → Type 0
-CauseInEntries count steps e b = (es : Entries) × (c : List ℕ) × AreEntryFronts b es c × (entry_count es < count)
+CauseInEntries count steps e b = (es : Entries) × (c : List ℕ) × AreEntryFronts b es c
+    × (entry_count es < count)
     × (KeyCause (last_key es) e c ⊎ ((key d : List ℕ) × IsFront c (text key) d × Follows (last_key es) key × CauseInside steps e d))

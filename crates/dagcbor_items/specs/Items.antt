@@ -22,11 +22,13 @@ pub record HasItems (count : ℕ) (r : Reading) : Type 0 where
 
 -- these trees stood at the front, and were taken
 pub record TakesItems (old : Reading) (ts : List Tree) (new : Reading) : Type 0 where
-  pub taken : (b : List ℕ) → old.left ≡ Some b → (rest : List ℕ) × AreFronts b (items_of ts) rest × (items_need (items_of ts) ≤ old.steps) × (new.left ≡ Some rest)
+  pub taken : (b : List ℕ) → old.left ≡ Some b → (rest : List ℕ) × AreFronts b (items_of ts) rest
+      × (items_need (items_of ts) ≤ old.steps) × (new.left ≡ Some rest)
   pub same : Stays old new
 
 -- Items are read exactly where so many stand within the steps.
-abbrev pub ReadsItems : {E : Type 0} → ℕ → Reading → Result (Vec Ipld Global) (DecodeError E) → Reading → Type 0
+abbrev pub ReadsItems : {E : Type 0} → ℕ → Reading → Result (Vec Ipld Global) (DecodeError E)
+    → Reading → Type 0
 ReadsItems count old result new = MatchResult result
     (λ v. (length v.items ≡ count) × TakesItems old (trees_of v.items) new)
     (λ e. Refuses (HasItems count old) ⊤ ⊥ (CauseInItems count old.steps) old e new)

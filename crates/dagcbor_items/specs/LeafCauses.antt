@@ -1,12 +1,16 @@
--- The causes of refusals that typed reads of leaves can have. Each stands where the leaf is to stand.
-use Rattle.std.specs.Prelude.{◌≡◌, ℕ, ℤ, ◌/◌, ◌^◌, ◌<◌, ◌≤◌, ◌⊎◌, List, [], ◌∷◌, ◌++◌, length, Option, None, codes, IsUtf8}
+-- The causes of refusals that typed reads of leaves can have. Each stands where the leaf is to
+-- stand.
+use Rattle.std.specs.Prelude.{◌≡◌, ℕ, ℤ, ◌/◌, ◌^◌, ◌<◌, ◌≤◌, ◌⊎◌, List, [], ◌∷◌, ◌++◌, length}
+use Rattle.std.specs.Prelude.{Option, None, codes, IsUtf8}
 use Rattle.dagcbor_heads.specs.Head.{head}
 use Rattle.dagcbor_heads.specs.Causes.{HeadCause, IsNamed}
 use Rattle.dagcbor_heads.specs.Lengths.{len_of}
 use Rattle.dagcbor_heads.specs.Names.{Names}
 use Rattle.dagcbor_heads.specs.declared.error.Len.TheVariants.{Small}
 use Rattle.dagcbor_heads.specs.declared.error.DecodeError.{DecodeError}
-use Rattle.dagcbor_heads.specs.declared.error.DecodeError.TheVariants.{Msg, Eof, Mismatch, Unsupported, RequireUtf8, CastOverflow}
+use Rattle.dagcbor_heads.specs.declared.error.DecodeError.TheVariants.{Msg, Eof, Mismatch}
+use Rattle.dagcbor_heads.specs.declared.error.DecodeError.TheVariants.{Unsupported, RequireUtf8}
+use Rattle.dagcbor_heads.specs.declared.error.DecodeError.TheVariants.{CastOverflow}
 use Rattle.ipld_tree.specs.Tree.{integer, text}
 use Rattle.ipld_tree.specs.Spelling.{IsFront}
 use Rattle.dagcbor_items.specs.FirstBytes.{BeginsFrom}
@@ -18,9 +22,11 @@ IsOtherKind name low high (Mismatch kept found) b = Names kept name
     × ((more : List ℕ) × (b ≡ found ∷ more) × (low ≤ found / 32 → found / 32 ≤ high → ⊥))
 IsOtherKind name low high _ b = ⊥
 
--- where a head of a major type from low to high is to stand, a byte of such a type begins none, or no byte or one of another major type stands there
+-- where a head of a major type from low to high is to stand, a byte of such a type begins none, or
+-- no byte or one of another major type stands there
 abbrev pub MajorCause : {E : Type 0} → List ℕ → (low high : ℕ) → DecodeError E → List ℕ → Type 0
-MajorCause name low high e b = (HeadCause e b × IsNamed name e × BeginsFrom low high b) ⊎ IsOtherKind name low high e b
+MajorCause name low high e b = (HeadCause e b × IsNamed name e × BeginsFrom low high b)
+    ⊎ IsOtherKind name low high e b
 
 -- a number that the type does not accept
 abbrev pub IsOutside : {V E : Type 0} → List ℕ → (ℤ → Option V) → DecodeError E → List ℕ → Type 0
@@ -40,14 +46,17 @@ IsLong name _ b = ⊥
 
 -- the bytes do not begin with such a tag
 abbrev pub BeginsNoLong : List ℕ → Type 0
-BeginsNoLong b = (found : ℕ) (more : List ℕ) → b ≡ found ∷ more → (found ≡ 0xc2) ⊎ (found ≡ 0xc3) → ⊥
+BeginsNoLong b = (found : ℕ) (more : List ℕ) → b ≡ found ∷ more → (found ≡ 0xc2) ⊎ (found ≡ 0xc3)
+    → ⊥
 
--- where a number of any size is to stand, no head of one stands, and no such tag; or such a tag does
+-- where a number of any size is to stand, no head of one stands, and no such tag; or such a tag
+-- does
 abbrev pub LongCause : {E : Type 0} → List ℕ → DecodeError E → List ℕ → Type 0
 LongCause name e b = (MajorCause name 0 1 e b × BeginsNoLong b) ⊎ IsLong name e b
 
 -- no number of any size stands there that the type accepts
-abbrev pub LongNumberCause : {V E : Type 0} → List ℕ → (ℤ → Option V) → DecodeError E → List ℕ → Type 0
+abbrev pub LongNumberCause : {V E : Type 0} → List ℕ → (ℤ → Option V) → DecodeError E → List ℕ
+    → Type 0
 LongNumberCause name accepted e b = LongCause name e b ⊎ IsOutside name accepted e b
 
 -- a string of the major type whose payload is cut

@@ -1,5 +1,6 @@
 -- What typed reads of leaves answer and refuse.
-use Rattle.std.specs.Prelude.{◌≡◌, ℕ, ◌^◌, ℤ, false, Bool, List, Result, codes, String, string_bytes, ⊤, Vec}
+use Rattle.std.specs.Prelude.{◌≡◌, ℕ, ◌^◌, ℤ, false, Bool, List, Result, codes, String}
+use Rattle.std.specs.Prelude.{string_bytes, ⊤, Vec}
 use Rattle.std.specs.Cow.{cow_str_bytes, cow_slice_items}
 use Rattle.std.specs.declared.borrow.CowStr.{CowStr}
 use Rattle.std.specs.declared.borrow.CowSlice.{CowSlice}
@@ -7,17 +8,22 @@ use Rattle.std.specs.declared.alloc.Global.{Global}
 use Rattle.dagcbor_heads.specs.Reading.{Reading}
 use Rattle.dagcbor_heads.specs.declared.error.DecodeError.{DecodeError}
 use Rattle.dagcbor_items.specs.Reads.{Reads}
-use Rattle.dagcbor_items.specs.Shapes.{natural_below, within, view_unsigned, view_signed, view_null, view_bool, view_text, view_char, view_bytes, ignored, leaf}
+use Rattle.dagcbor_items.specs.Shapes.{natural_below, within, view_unsigned, view_signed}
+use Rattle.dagcbor_items.specs.Shapes.{view_null, view_bool, view_text, view_char, view_bytes}
+use Rattle.dagcbor_items.specs.Shapes.{ignored, leaf}
 use Rattle.dagcbor_items.specs.ItemCauses.{CauseInside}
 use Rattle.dagcbor_items.specs.LinkCauses.{IsOtherByte}
-use Rattle.dagcbor_items.specs.LeafCauses.{NumberCause, LongNumberCause, StringCause, TextCause, CharCause, BoolCause}
+use Rattle.dagcbor_items.specs.LeafCauses.{NumberCause, LongNumberCause, StringCause, TextCause}
+use Rattle.dagcbor_items.specs.LeafCauses.{CharCause, BoolCause}
 
 -- A number is read exactly where one stands from 0 to the bound, exclusive.
-abbrev pub ReadsUnsigned : {E : Type 0} → List ℕ → ℕ → Reading → Result ℕ (DecodeError E) → Reading → Type 0
+abbrev pub ReadsUnsigned : {E : Type 0} → List ℕ → ℕ → Reading → Result ℕ (DecodeError E) → Reading
+    → Type 0
 ReadsUnsigned name bound = Reads (λ n. n) (leaf (view_unsigned bound)) ⊥ ⊥ (NumberCause name (natural_below bound))
 
 -- A number is read exactly where one stands from - bound to bound - 1.
-abbrev pub ReadsSigned : {E : Type 0} → List ℕ → ℕ → Reading → Result ℤ (DecodeError E) → Reading → Type 0
+abbrev pub ReadsSigned : {E : Type 0} → List ℕ → ℕ → Reading → Result ℤ (DecodeError E) → Reading
+    → Type 0
 ReadsSigned name bound = Reads (λ n. n) (leaf (view_signed bound)) ⊥ ⊥ (NumberCause name (within bound))
 
 -- The same for a type in which each number of the format has room, but none that a tag announces.
@@ -28,26 +34,32 @@ abbrev pub ReadsI128 : {E : Type 0} → Reading → Result ℤ (DecodeError E) �
 ReadsI128 = Reads (λ n. n) (leaf (view_signed (2 ^ 127))) ⊥ ⊥ (LongNumberCause (codes "i128") (within (2 ^ 127)))
 
 -- A text is read exactly where one stands, with no want of memory where the input lends.
-abbrev pub ReadsTextAs : {T E : Type 0} → (T → List ℕ) → List ℕ → Reading → Result T (DecodeError E) → Reading → Type 0
+abbrev pub ReadsTextAs : {T E : Type 0} → (T → List ℕ) → List ℕ → Reading → Result T (DecodeError E)
+    → Reading → Type 0
 ReadsTextAs meaning name old = Reads meaning (leaf view_text) (old.lends ≡ false) ⊥ (TextCause name) old
 
-abbrev pub ReadsStr : {E : Type 0} → List ℕ → Reading → Result (CowStr Global) (DecodeError E) → Reading → Type 0
+abbrev pub ReadsStr : {E : Type 0} → List ℕ → Reading → Result (CowStr Global) (DecodeError E)
+    → Reading → Type 0
 ReadsStr = ReadsTextAs cow_str_bytes
 
 -- A text is read exactly where one stands.
-abbrev pub ReadsOwnedText : {E : Type 0} → Reading → Result (String Global) (DecodeError E) → Reading → Type 0
+abbrev pub ReadsOwnedText : {E : Type 0} → Reading → Result (String Global) (DecodeError E)
+    → Reading → Type 0
 ReadsOwnedText = Reads string_bytes (leaf view_text) ⊤ ⊥ (TextCause (codes "string"))
 
--- A text of one character is read exactly where one stands, with no want of memory where the input lends.
+-- A text of one character is read exactly where one stands, with no want of memory where the input
+-- lends.
 abbrev pub ReadsChar : {E : Type 0} → Reading → Result ℕ (DecodeError E) → Reading → Type 0
 ReadsChar old = Reads (λ c. c) (leaf view_char) (old.lends ≡ false) ⊥ CharCause old
 
 -- A byte string is read exactly where one stands, with no want of memory where the input lends.
-abbrev pub ReadsByteSlice : {E : Type 0} → Reading → Result (CowSlice ℕ Global) (DecodeError E) → Reading → Type 0
+abbrev pub ReadsByteSlice : {E : Type 0} → Reading → Result (CowSlice ℕ Global) (DecodeError E)
+    → Reading → Type 0
 ReadsByteSlice old = Reads cow_slice_items (leaf view_bytes) (old.lends ≡ false) ⊥ (StringCause (codes "bytes") 2) old
 
 -- A byte string is read exactly where one stands.
-abbrev pub ReadsOwnedBytes : {E : Type 0} → Reading → Result (Vec ℕ Global) (DecodeError E) → Reading → Type 0
+abbrev pub ReadsOwnedBytes : {E : Type 0} → Reading → Result (Vec ℕ Global) (DecodeError E)
+    → Reading → Type 0
 ReadsOwnedBytes = Reads (λ v. v.items) (leaf view_bytes) ⊤ ⊥ (StringCause (codes "bytes") 2)
 
 -- A null is read exactly where one stands.
@@ -58,6 +70,8 @@ ReadsNull = Reads (λ u. u) (leaf view_null) ⊥ ⊥ (IsOtherByte (codes "unit")
 abbrev pub ReadsBool : {E : Type 0} → Reading → Result Bool (DecodeError E) → Reading → Type 0
 ReadsBool = Reads (λ b. b) (leaf view_bool) ⊥ ⊥ BoolCause
 
--- An item of any kind is skipped exactly where one stands within the steps left, with no want of memory where the input lends.
-abbrev pub ReadsIgnored : {E : Type 0} → Reading → Result (Unit {0}) (DecodeError E) → Reading → Type 0
+-- An item of any kind is skipped exactly where one stands within the steps left, with no want of
+-- memory where the input lends.
+abbrev pub ReadsIgnored : {E : Type 0} → Reading → Result (Unit {0}) (DecodeError E) → Reading
+    → Type 0
 ReadsIgnored old = Reads (λ u. u) ignored (old.lends ≡ false) ⊥ (CauseInside old.steps) old

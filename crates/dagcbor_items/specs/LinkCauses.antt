@@ -1,4 +1,5 @@
--- The causes of refusals that a link can have: at its place, or behind the d8 or d8 2a that begins there.
+-- The causes of refusals that a link can have: at its place, or behind the d8 or d8 2a that begins
+-- there.
 use Rattle.std.specs.Prelude.{◌≡◌, ℕ, ◌/◌, ◌^◌, ◌<◌, ◌⊎◌, List, [], ◌∷◌, ◌++◌, length, codes}
 use Rattle.dagcbor_heads.specs.Head.{head}
 use Rattle.dagcbor_heads.specs.Causes.{HeadCause}
@@ -6,25 +7,31 @@ use Rattle.dagcbor_heads.specs.Lengths.{len_of}
 use Rattle.dagcbor_heads.specs.Names.{Names}
 use Rattle.dagcbor_heads.specs.declared.error.Len.TheVariants.{Small}
 use Rattle.dagcbor_heads.specs.declared.error.DecodeError.{DecodeError}
-use Rattle.dagcbor_heads.specs.declared.error.DecodeError.TheVariants.{Msg, Eof, Mismatch, Unsupported}
+use Rattle.dagcbor_heads.specs.declared.error.DecodeError.TheVariants.{Msg, Eof, Mismatch}
+use Rattle.dagcbor_heads.specs.declared.error.DecodeError.TheVariants.{Unsupported}
 use Rattle.ipld_tree.specs.Cid.{IsCid}
 use Rattle.dagcbor_items.specs.FirstBytes.{BeginsAs}
 
 -- no byte, or another than the wanted one, which is refused under the name
 abbrev pub IsOtherByte : {E : Type 0} → List ℕ → ℕ → DecodeError E → List ℕ → Type 0
 IsOtherByte other wanted (Eof name expect) b = (expect ≡ Small 1) × (b ≡ [])
-IsOtherByte other wanted (Mismatch name found) b = Names name other × ((more : List ℕ) × (b ≡ found ∷ more) × (found ≡ wanted → ⊥))
+IsOtherByte other wanted (Mismatch name found) b = Names name other
+    × ((more : List ℕ) × (b ≡ found ∷ more) × (found ≡ wanted → ⊥))
 IsOtherByte other wanted _ b = ⊥
 
--- a byte string that is cut, a byte that begins none, or a byte string that is no zero and a CID: the greatest has 87 bytes
+-- a byte string that is cut, a byte that begins none, or a byte string that is no zero and a CID:
+-- the greatest has 87 bytes
 abbrev pub CidCause : {E : Type 0} → DecodeError E → List ℕ → Type 0
-CidCause (Eof name expect) b = (n : ℕ) × (rest : List ℕ) × (n < 2 ^ 64) × (b ≡ head 2 n ++ rest) × (length rest < n) × (expect ≡ len_of n)
+CidCause (Eof name expect) b = (n : ℕ) × (rest : List ℕ) × (n < 2 ^ 64) × (b ≡ head 2 n ++ rest)
+    × (length rest < n) × (expect ≡ len_of n)
 CidCause (Unsupported name found) b = (more : List ℕ) × (b ≡ found ∷ more) × (found / 32 ≡ 2 → ⊥)
-CidCause (Msg message) b = Names message (codes "Invalid CID") × ((n : ℕ) × (rest : List ℕ) × (n < 2 ^ 64) × (b ≡ head 2 n ++ rest)
+CidCause (Msg message) b = Names message (codes "Invalid CID")
+    × ((n : ℕ) × (rest : List ℕ) × (n < 2 ^ 64) × (b ≡ head 2 n ++ rest)
     × ((87 < n) ⊎ ((s after : List ℕ) × (rest ≡ s ++ after) × (length s ≡ n) × ((cid : List ℕ) → s ≡ 0x00 ∷ cid → IsCid cid → ⊥))))
 CidCause _ b = ⊥
 
--- the cause stands where a byte string of a zero and a CID is to stand: its head's, where a byte of its major type stands, or its own
+-- the cause stands where a byte string of a zero and a CID is to stand: its head's, where a byte of
+-- its major type stands, or its own
 abbrev pub LinkBytesCause : {E : Type 0} → DecodeError E → List ℕ → Type 0
 LinkBytesCause e b = (HeadCause e b × BeginsAs 2 b) ⊎ CidCause e b
 

@@ -5,12 +5,15 @@ use Rattle.dagcbor_heads.specs.Looking.{LooksAtLeft}
 use Rattle.ipld_tree.specs.Tree.{Tree}
 use Rattle.ipld_tree.specs.Spelling.{IsFront, spelling}
 
--- a tree stood at the front, and was taken, and at most three times as many bytes were looked at as its spelling has
+-- a tree stood at the front, and was taken, and at most three times as many bytes were looked at as
+-- its spelling has
 pub record LooksAtItem (old new : Reading) : Type 0 where
   pub grows : old.looked ≤ new.looked
   pub most : (b : List ℕ) → old.left ≡ Some b
-      → (t : Tree) × (rest : List ℕ) × IsFront b t rest × (new.left ≡ Some rest) × (new.looked ≤ old.looked + 3 * length (spelling t))
+      → (t : Tree) × (rest : List ℕ) × IsFront b t rest × (new.left ≡ Some rest)
+      × (new.looked ≤ old.looked + 3 * length (spelling t))
 
--- An item is read with at most three looks for each byte of its spelling, and refused with at most three for each byte that was left.
+-- An item is read with at most three looks for each byte of its spelling, and refused with at most
+-- three for each byte that was left.
 abbrev pub LooksAtAny : {T E : Type 0} → Reading → Result T E → Reading → Type 0
 LooksAtAny old result new = MatchResult result (λ _. LooksAtItem old new) (λ _. LooksAtLeft 3 0 old new)

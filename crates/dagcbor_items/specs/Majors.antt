@@ -1,5 +1,6 @@
 -- Heads of some major types, and strings of bytes.
-use Rattle.std.specs.Prelude.{◌≡◌, ℕ, ◌^◌, ◌<◌, ◌≤◌, false, List, ◌++◌, length, Some, Result, MatchResult}
+use Rattle.std.specs.Prelude.{◌≡◌, ℕ, ◌^◌, ◌<◌, ◌≤◌, false, List, ◌++◌, length, Some, Result}
+use Rattle.std.specs.Prelude.{MatchResult}
 use Rattle.dagcbor_heads.specs.Head.{head}
 use Rattle.dagcbor_heads.specs.Reading.{Reading}
 use Rattle.dagcbor_heads.specs.Fronts.{Takes}
@@ -25,7 +26,8 @@ pub record TakesMajor (low high : ℕ) (old : Reading) (major argument : ℕ) (n
   pub takes : Takes old (head major argument) new
 
 -- The head is read exactly where it has one of these major types.
-abbrev pub ReadsMajor : {E : Type 0} → List ℕ → (low high : ℕ) → Reading → Result (ℕ × ℕ) (DecodeError E) → Reading → Type 0
+abbrev pub ReadsMajor : {E : Type 0} → List ℕ → (low high : ℕ) → Reading
+    → Result (ℕ × ℕ) (DecodeError E) → Reading → Type 0
 ReadsMajor name low high old result new = MatchResult result
     (λ h. TakesMajor low high old h.0 h.1 new)
     (λ e. Refuses (HasMajor low high old) ⊥ ⊥ (MajorCause name low high) old e new)
@@ -44,8 +46,10 @@ pub record TakesString (kind : ℕ) (old : Reading) (payload : List ℕ) (new : 
   pub fits : length payload < 2 ^ 64
   pub takes : Takes old (head kind (length payload) ++ payload) new
 
--- A string is read exactly where one of the major type stands, with no want of memory where the input lends.
-abbrev pub ReadsString : {T E : Type 0} → (T → List ℕ) → List ℕ → (kind : ℕ) → Reading → Result T (DecodeError E) → Reading → Type 0
+-- A string is read exactly where one of the major type stands, with no want of memory where the
+-- input lends.
+abbrev pub ReadsString : {T E : Type 0} → (T → List ℕ) → List ℕ → (kind : ℕ) → Reading
+    → Result T (DecodeError E) → Reading → Type 0
 ReadsString meaning name kind old result new = MatchResult result
     (λ s. TakesString kind old (meaning s) new)
     (λ e. Refuses (HasString kind old) (old.lends ≡ false) ⊥ (StringCause name kind) old e new)

@@ -1,5 +1,7 @@
--- Places in an item where another is to stand: behind the heads of the lists and maps that are open there, and behind what was whole in each of them.
-use Rattle.std.specs.Prelude.{◌≡◌, ◌⊎◌, ℕ, zero, suc, ◌^◌, ◌<◌, List, ◌++◌, Option, None, Some, IsTrue, ⊤}
+-- Places in an item where another is to stand: behind the heads of the lists and maps that are open
+-- there, and behind what was whole in each of them.
+use Rattle.std.specs.Prelude.{◌≡◌, ◌⊎◌, ℕ, zero, suc, ◌^◌, ◌<◌, List, ◌++◌, Option, None, Some}
+use Rattle.std.specs.Prelude.{IsTrue, ⊤}
 use Rattle.dagcbor_heads.specs.Head.{head}
 use Rattle.ipld_tree.specs.Key.{comes_before}
 use Rattle.ipld_tree.specs.Tree.{text, Items, Entries, no_entries, entry}
@@ -16,7 +18,8 @@ last_key no_entries = None
 last_key (entry k t no_entries) = Some k
 last_key (entry k t (entry l u es)) = last_key (entry l u es)
 
--- A list begins at b, and its next item is to stand at c: behind the list's head are whole items alone, fewer than it announces.
+-- A list begins at b, and its next item is to stand at c: behind the list's head are whole items
+-- alone, fewer than it announces.
 pub record NextItem (b c : List ℕ) : Type 0 where
   pub count : ℕ
   pub items : Items
@@ -26,8 +29,8 @@ pub record NextItem (b c : List ℕ) : Type 0 where
   pub whole : AreFronts behind items c
   pub fewer : item_count items < count
 
--- A map begins at b, and its next key is to stand at c, after the key before: behind the map's head are whole entries alone, their
--- keys in order, fewer than it announces.
+-- A map begins at b, and its next key is to stand at c, after the key before: behind the map's head
+-- are whole entries alone, their keys in order, fewer than it announces.
 pub record NextKey (b : List ℕ) (before : Option (List ℕ)) (c : List ℕ) : Type 0 where
   pub count : ℕ
   pub entries : Entries
@@ -51,7 +54,8 @@ pub record NextValue (b c : List ℕ) : Type 0 where
 abbrev pub NextPart : List ℕ → List ℕ → Type 0
 NextPart b c = NextItem b c ⊎ NextValue b c
 
--- at c an item is to stand inside so many lists and maps that are open there, of which the outermost begins at b
+-- at c an item is to stand inside so many lists and maps that are open there, of which the
+-- outermost begins at b
 abbrev pub IsInside : ℕ → List ℕ → List ℕ → Type 0
 IsInside zero b c = c ≡ b
 IsInside (suc depth) b c = (d : List ℕ) × NextPart b d × IsInside depth d c

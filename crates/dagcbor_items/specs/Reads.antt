@@ -21,12 +21,15 @@ pub record HasFront {V : Type 0} (shape : Shape Tree V) (r : Reading) : Type 0 w
 -- a tree stood at the front that shows v, its need within the steps, and was taken
 pub record TakesFront {V : Type 0} (shape : Shape Tree V) (old : Reading) (v : V) (new : Reading) : Type 0 where
   pub taken : (b : List ℕ) → old.left ≡ Some b
-      → (t : Tree) × (rest : List ℕ) × IsFront b t rest × (shape.view t ≡ Some v) × (shape.need t ≤ old.steps) × (new.left ≡ Some rest)
+      → (t : Tree) × (rest : List ℕ) × IsFront b t rest × (shape.view t ≡ Some v)
+      × (shape.need t ≤ old.steps) × (new.left ≡ Some rest)
   pub same : Stays old new
 
--- A value is read exactly where a tree stands that the type accepts within the steps. A refusal may be for want of memory
--- where `lacks`, for want of a loan where `borrows`, and else its cause stands.
-abbrev pub Reads : {T V E : Type 0} → (T → V) → Shape Tree V → Type 0 → Type 0 → (DecodeError E → List ℕ → Type 0) → Reading → Result T (DecodeError E) → Reading → Type 0
+-- A value is read exactly where a tree stands that the type accepts within the steps. A refusal may
+-- be for want of memory where `lacks`, for want of a loan where `borrows`, and else its cause
+-- stands.
+abbrev pub Reads : {T V E : Type 0} → (T → V) → Shape Tree V → Type 0 → Type 0
+    → (DecodeError E → List ℕ → Type 0) → Reading → Result T (DecodeError E) → Reading → Type 0
 Reads meaning shape lacks borrows stands old result new = MatchResult result
     (λ v. TakesFront shape old (meaning v) new)
     (λ e. Refuses (HasFront shape old) lacks borrows stands old e new)

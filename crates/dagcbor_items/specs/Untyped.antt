@@ -1,5 +1,6 @@
 -- What an untyped read answers and refuses.
-use Rattle.std.specs.Prelude.{◌≡◌, ℕ, ◌+◌, ◌/◌, ◌≤◌, false, List, [], ◌∷◌, Option, None, Some, Result, MatchResult, ⊤}
+use Rattle.std.specs.Prelude.{◌≡◌, ℕ, ◌+◌, ◌/◌, ◌≤◌, false, List, [], ◌∷◌, Option, None, Some}
+use Rattle.std.specs.Prelude.{Result, MatchResult, ⊤}
 use Rattle.dagcbor_heads.specs.Reading.{Reading, Stays}
 use Rattle.dagcbor_heads.specs.Refusals.{Refuses}
 use Rattle.dagcbor_heads.specs.declared.error.DecodeError.{DecodeError}
@@ -11,7 +12,8 @@ use Rattle.dagcbor_items.specs.ItemCauses.{CauseInside}
 
 -- the first byte of those left, where they are known, has the major type
 abbrev pub StartsWithMajor : Reading → ℕ → Type 0
-StartsWithMajor r major = (b : List ℕ) → r.left ≡ Some b → (first : ℕ) × (more : List ℕ) × (b ≡ first ∷ more) × (first / 32 ≡ major)
+StartsWithMajor r major = (b : List ℕ) → r.left ≡ Some b → (first : ℕ) × (more : List ℕ)
+    × (b ≡ first ∷ more) × (first / 32 ≡ major)
 
 -- some tree stands at the front whose need is within the steps left and those already spent on it
 pub record HasItem (spent : ℕ) (r : Reading) : Type 0 where
@@ -24,10 +26,12 @@ pub record HasItem (spent : ℕ) (r : Reading) : Type 0 where
 
 -- this tree stood at the front, and was taken
 pub record TakesItem (spent : ℕ) (old : Reading) (t : Tree) (new : Reading) : Type 0 where
-  pub taken : (b : List ℕ) → old.left ≡ Some b → (rest : List ℕ) × IsFront b t rest × (any_need t ≤ old.steps + spent) × (new.left ≡ Some rest)
+  pub taken : (b : List ℕ) → old.left ≡ Some b → (rest : List ℕ) × IsFront b t rest
+      × (any_need t ≤ old.steps + spent) × (new.left ≡ Some rest)
   pub same : Stays old new
 
--- An item of unknown kind is read exactly where one stands within the steps, of which so many are already spent on it.
+-- An item of unknown kind is read exactly where one stands within the steps, of which so many are
+-- already spent on it.
 abbrev pub ReadsItem : {E : Type 0} → ℕ → Reading → Result Ipld (DecodeError E) → Reading → Type 0
 ReadsItem spent old result new = MatchResult result
     (λ v. TakesItem spent old (tree_of v) new)
@@ -39,8 +43,10 @@ ReadsLeaf old result new = MatchResult result
     (λ v. TakesItem 1 old (tree_of v) new)
     (λ e. Refuses (HasItem 1 old) ⊥ ⊥ (CauseInside (old.steps + 1)) old e new)
 
--- An item of unknown kind is skipped exactly where one is read, with no want of memory where the input lends.
-abbrev pub SkipsItem : {E : Type 0} → ℕ → Reading → Result (Unit {0}) (DecodeError E) → Reading → Type 0
+-- An item of unknown kind is skipped exactly where one is read, with no want of memory where the
+-- input lends.
+abbrev pub SkipsItem : {E : Type 0} → ℕ → Reading → Result (Unit {0}) (DecodeError E) → Reading
+    → Type 0
 SkipsItem spent old result new = MatchResult result
     (λ _. (t : Tree) × TakesItem spent old t new)
     (λ e. Refuses (HasItem spent old) (old.lends ≡ false) ⊥ (CauseInside (old.steps + spent)) old e new)
@@ -53,5 +59,6 @@ IsLeaf _ = ⊤
 
 -- a simple value and its one byte
 abbrev pub IsSimple : ℕ → Option Ipld → Type 0
-IsSimple byte (Some v) = IsLeaf (tree_of v) × IsTree (tree_of v) × IsSpellable (tree_of v) × (spelling (tree_of v) ≡ byte ∷ [])
+IsSimple byte (Some v) = IsLeaf (tree_of v) × IsTree (tree_of v) × IsSpellable (tree_of v)
+    × (spelling (tree_of v) ≡ byte ∷ [])
 IsSimple byte None = (0xf4 ≤ byte) → (byte ≤ 0xf6) → ⊥

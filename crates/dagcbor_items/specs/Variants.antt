@@ -1,8 +1,13 @@
--- Which refusals a call can answer, whether its bytes are known or not: those of its causes, and those of no cause.
+-- Which refusals a call can answer, whether its bytes are known or not: those of its causes, and
+-- those of no cause.
 use Rattle.std.specs.Prelude.{⊤}
 use Rattle.dagcbor_heads.specs.Causes.{IsCauseless}
 use Rattle.dagcbor_heads.specs.declared.error.DecodeError.{DecodeError}
-use Rattle.dagcbor_heads.specs.declared.error.DecodeError.TheVariants.{Msg, Eof, Mismatch, Unsupported, RequireUtf8, CastOverflow, DepthOverflow, IndefiniteSize, NonMinimal, UnorderedKey}
+use Rattle.dagcbor_heads.specs.declared.error.DecodeError.TheVariants.{Msg, Eof, Mismatch}
+use Rattle.dagcbor_heads.specs.declared.error.DecodeError.TheVariants.{Unsupported, RequireUtf8}
+use Rattle.dagcbor_heads.specs.declared.error.DecodeError.TheVariants.{CastOverflow, DepthOverflow}
+use Rattle.dagcbor_heads.specs.declared.error.DecodeError.TheVariants.{IndefiniteSize, NonMinimal}
+use Rattle.dagcbor_heads.specs.declared.error.DecodeError.TheVariants.{UnorderedKey}
 
 -- of one byte
 abbrev pub OfByte : {E : Type 0} → DecodeError E → Type 0

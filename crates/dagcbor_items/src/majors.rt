@@ -35,7 +35,8 @@ pub(crate) fn peek_major<R: Read>(
     Ok(first)
 }
 
-/// The major type and the argument of the next head, which is taken, where its major type lies from `low` to `high`.
+/// The major type and the argument of the next head, which is taken, where its major type lies from
+/// `low` to `high`.
 #[tactic(auto, using(crate::proofs::Variants::named_kind, crate::proofs::Variants::byte_kind))]
 pub(crate) fn pull_major<R: Read>(
     name: &str,

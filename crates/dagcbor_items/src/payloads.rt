@@ -1,4 +1,5 @@
-//! How the strings of items are read: gathered in memory where an input does not lend them, or lent by a slice.
+//! How the strings of items are read: gathered in memory where an input does not lend them, or lent
+//! by a slice.
 
 ghost use Rattle.std.specs.Prelude.{◌≡◌, ◌<◌, ◌↔◌, ℕ, List, true, false, IsTrue, option_map, IfErr};
 ghost use Rattle.std.specs.Cow.{cow_str_bytes};

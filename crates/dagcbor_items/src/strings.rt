@@ -8,7 +8,8 @@ ghost use Rattle.dagcbor_heads.specs.Looking.{Looks};
 ghost use Rattle.dagcbor_items.specs.Majors.{ReadsString};
 ghost use Rattle.dagcbor_items.specs.Untyped.{StartsWithMajor};
 ghost use Rattle.dagcbor_items.specs.Shapes.{only};
-ghost use Rattle.dagcbor_items.specs.LeafReads.{ReadsStr, ReadsOwnedText, ReadsChar, ReadsByteSlice, ReadsOwnedBytes};
+ghost use Rattle.dagcbor_items.specs.LeafReads.{ReadsStr, ReadsOwnedText, ReadsChar};
+ghost use Rattle.dagcbor_items.specs.LeafReads.{ReadsByteSlice, ReadsOwnedBytes};
 ghost use Rattle.dagcbor_items.specs.Variants.{OfChar, OfHead, OfText};
 
 use crate::majors::peek_major;

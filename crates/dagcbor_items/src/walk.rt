@@ -1,5 +1,5 @@
-//! Going through items of any kind: read as `any` reads them, with nothing built. How their strings are read, and what is done with
-//! their links, is the caller's.
+//! Going through items of any kind: read as `any` reads them, with nothing built. How their strings
+//! are read, and what is done with their links, is the caller's.
 
 ghost use Rattle.std.specs.Prelude.{◌≡◌, ◌≢◌, ◌/◌, IfErr};
 ghost use Rattle.dagcbor_heads.specs.Fronts.{StartsWith};
@@ -16,7 +16,8 @@ use dagcbor_heads::{DecodeError, Input, Name, Read, is_indefinite, peek_one, pul
 use ipld_tree::Cid;
 use std::alloc::Global;
 
-/// Skips an item of any kind, no deeper than the steps that are left. Over a slice it takes no memory.
+/// Skips an item of any kind, no deeper than the steps that are left. Over a slice it takes no
+/// memory.
 pub fn skip_any<R: Read>(
     alloc: Global,
     input: &mut Input<'_, R>,
@@ -42,7 +43,8 @@ pub fn gather_links<R: Read>(
     Ok(links)
 }
 
-/// Goes through an item of any kind, no deeper than the steps that are left, and hands its links on.
+/// Goes through an item of any kind, no deeper than the steps that are left, and hands its links
+/// on.
 #[cycle(walk)]
 pub fn walk_any<I: PayloadReader, S: LinkSink>(
     alloc: I::Alloc,

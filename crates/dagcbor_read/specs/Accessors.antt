@@ -1,5 +1,7 @@
 -- What contracts see of an accessor, and what its calls do.
-use Rattle.std.specs.Prelude.{◌≡◌, ◌==◌, ℕ, ◌+◌, ◌-◌, ◌^◌, ◌/◌, ◌<◌, Bool, false, true, List, ◌∷◌, ◌++◌, Option, None, Some, option_map, Result, Ok, Err, MatchResult, ⊤}
+use Rattle.std.specs.Prelude.{◌≡◌, ◌==◌, ℕ, ◌+◌, ◌-◌, ◌^◌, ◌/◌, ◌<◌, Bool, false, true, List, ◌∷◌}
+use Rattle.std.specs.Prelude.{◌++◌, Option, None, Some, option_map, Result, Ok, Err, MatchResult}
+use Rattle.std.specs.Prelude.{⊤}
 use Rattle.std.specs.Cow.{cow_str_bytes}
 use Rattle.std.specs.declared.borrow.CowStr.{CowStr}
 use Rattle.std.specs.declared.alloc.Global.{Global}
@@ -11,7 +13,8 @@ use Rattle.dagcbor_heads.specs.Refusals.{Refuses}
 use Rattle.dagcbor_heads.specs.Names.{Names}
 use Rattle.dagcbor_heads.specs.declared.name.Name.{Name}
 use Rattle.dagcbor_heads.specs.declared.error.DecodeError.{DecodeError}
-use Rattle.dagcbor_heads.specs.declared.error.DecodeError.TheVariants.{Mismatch, DepthOverflow, LengthMismatch}
+use Rattle.dagcbor_heads.specs.declared.error.DecodeError.TheVariants.{Mismatch, DepthOverflow}
+use Rattle.dagcbor_heads.specs.declared.error.DecodeError.TheVariants.{LengthMismatch}
 use Rattle.ipld_tree.specs.Tree.{Tree, text}
 use Rattle.dagcbor_items.specs.Untyped.{TakesItem}
 use Rattle.dagcbor_items.specs.FirstBytes.{BeginsAs}
@@ -29,7 +32,8 @@ pub record AccessorState : Type 0 where
   pub name : Name
   -- whether it is a map
   pub is_map : Bool
-  -- the items or pairs that its head announced, and those that are left, where a pair counts as read once its key is
+  -- the items or pairs that its head announced, and those that are left, where a pair counts as
+  -- read once its key is
   pub announced : ℕ
   pub left : ℕ
   -- the key that was read last, and whether its value is still to be read
@@ -70,10 +74,12 @@ pub record Enters (major count : ℕ) (old new : Reading) : Type 0 where
   pub is_out : new.steps < new.budget
   pub takes : Takes (with_steps (old.steps - 1) old) (head major count) new
 
--- why a list or map is not begun, under its name: no step is left, a byte of another major type stands there, or no head does
+-- why a list or map is not begun, under its name: no step is left, a byte of another major type
+-- stands there, or no head does
 abbrev pub EnterCause : {E : Type 0} → ℕ → List ℕ → DecodeError E → List ℕ → Type 0
 EnterCause major name (DepthOverflow n) b = Names n name
-EnterCause major name (Mismatch n found) b = Names n name × ((more : List ℕ) × (b ≡ found ∷ more) × (found / 32 ≡ major → ⊥))
+EnterCause major name (Mismatch n found) b = Names n name
+    × ((more : List ℕ) × (b ≡ found ∷ more) × (found / 32 ≡ major → ⊥))
 EnterCause major name e b = HeadCause e b × IsNamed name e × BeginsAs major b
 
 -- which refusals are answered, also where the bytes are not known
@@ -82,13 +88,16 @@ OfBegin (DepthOverflow name) = ⊤
 OfBegin e = OfHead e
 
 -- The head of a list or map is taken exactly where one stands and a step is left.
-abbrev pub ReadsHead : {E : Type 0} → ℕ → List ℕ → Reading → Result ℕ (DecodeError E) → Reading → Type 0
+abbrev pub ReadsHead : {E : Type 0} → ℕ → List ℕ → Reading → Result ℕ (DecodeError E) → Reading
+    → Type 0
 ReadsHead major name old result new = MatchResult result
     (λ count. Enters major count old new)
     (λ e. Refuses (HasHeadOf major old) ⊥ ⊥ (EnterCause major name) old e new × NoStepIfDeep old e)
 
--- A list or map is begun exactly where its head stands and a step is left. Its end gives so many steps back.
-abbrev pub BeginsItems : {E : Type 0} → ℕ → List ℕ → ℕ → Reading → Result Accessor (DecodeError E) → Reading → Type 0
+-- A list or map is begun exactly where its head stands and a step is left. Its end gives so many
+-- steps back.
+abbrev pub BeginsItems : {E : Type 0} → ℕ → List ℕ → ℕ → Reading → Result Accessor (DecodeError E)
+    → Reading → Type 0
 BeginsItems major name steps old result new = MatchResult result
     (λ a. (accessor_state a ≡ fresh a.name (major == 5) a.left steps) × Names a.name name × Enters major a.left old new)
     (λ e. Refuses (HasHeadOf major old) ⊥ ⊥ (EnterCause major name) old e new × NoStepIfDeep old e)
@@ -96,31 +105,40 @@ BeginsItems major name steps old result new = MatchResult result
 -- ---- going on
 
 -- None exactly with no item left, else the part's answer
-abbrev pub ReadsElement : {T V E : Type 0} → (T → V) → Shape Tree V → ℕ → Reading → Result (Option T) (DecodeError E) → Reading → Type 0
+abbrev pub ReadsElement : {T V E : Type 0} → (T → V) → Shape Tree V → ℕ → Reading
+    → Result (Option T) (DecodeError E) → Reading → Type 0
 ReadsElement meaning shape left old (Ok None) new = (left ≡ 0) × (new ≡ old)
-ReadsElement meaning shape left old (Ok (Some v)) new = (0 < left) × TakesFront shape old (meaning v) new
-ReadsElement meaning shape left old (Err e) new = (0 < left) × Refuses (HasFront shape old) ⊤ (shape.borrows ≡ true) Anything old e new
+ReadsElement meaning shape left old (Ok (Some v)) new = (0 < left)
+    × TakesFront shape old (meaning v) new
+ReadsElement meaning shape left old (Err e) new = (0 < left)
+    × Refuses (HasFront shape old) ⊤ (shape.borrows ≡ true) Anything old e new
 
 -- an item that was answered leaves one fewer
-abbrev pub after_element : {T E : Type 0} → Result (Option T) (DecodeError E) → AccessorState → AccessorState
+abbrev pub after_element : {T E : Type 0} → Result (Option T) (DecodeError E) → AccessorState
+    → AccessorState
 after_element (Ok (Some v)) c = record c { left = c.left - 1 }
 after_element _ c = c
 
--- None exactly with no pair left, else exactly a key that stands after the one before it. Memory lacks only where nothing
--- is lent.
-abbrev pub ReadsNextKey : {E : Type 0} → Option (List ℕ) → ℕ → Reading → Result (Option (CowStr Global)) (DecodeError E) → Reading → Type 0
+-- None exactly with no pair left, else exactly a key that stands after the one before it. Memory
+-- lacks only where nothing is lent.
+abbrev pub ReadsNextKey : {E : Type 0} → Option (List ℕ) → ℕ → Reading
+    → Result (Option (CowStr Global)) (DecodeError E) → Reading → Type 0
 ReadsNextKey last left old (Ok None) new = (left ≡ 0) × (new ≡ old)
-ReadsNextKey last left old (Ok (Some k)) new = (0 < left) × Follows last (cow_str_bytes k) × TakesItem 1 old (text (cow_str_bytes k)) new
-ReadsNextKey last left old (Err e) new = (0 < left) × Refuses (HasKey last old) (old.lends ≡ false) ⊥ (KeyCause last) old e new
+ReadsNextKey last left old (Ok (Some k)) new = (0 < left) × Follows last (cow_str_bytes k)
+    × TakesItem 1 old (text (cow_str_bytes k)) new
+ReadsNextKey last left old (Err e) new = (0 < left)
+    × Refuses (HasKey last old) (old.lends ≡ false) ⊥ (KeyCause last) old e new
 
 -- a key that stands after the one before it, and the same once more
-abbrev pub ReadsKeyAfter : {E : Type 0} → Option (List ℕ) → Reading → Result (CowStr Global × CowStr Global) (DecodeError E) → Reading → Type 0
+abbrev pub ReadsKeyAfter : {E : Type 0} → Option (List ℕ) → Reading
+    → Result (CowStr Global × CowStr Global) (DecodeError E) → Reading → Type 0
 ReadsKeyAfter last old result new = MatchResult result
     (λ p. (cow_str_bytes p.1 ≡ cow_str_bytes p.0) × Follows last (cow_str_bytes p.0) × TakesItem 1 old (text (cow_str_bytes p.0)) new)
     (λ e. Refuses (HasKey last old) (old.lends ≡ false) ⊥ (KeyCause last) old e new)
 
 -- a key that was answered leaves one pair fewer, and its value is to be read
-abbrev pub after_key : {E : Type 0} → Result (Option (CowStr Global)) (DecodeError E) → AccessorState → AccessorState
+abbrev pub after_key : {E : Type 0} → Result (Option (CowStr Global)) (DecodeError E)
+    → AccessorState → AccessorState
 after_key (Ok (Some k)) c = record c { left = c.left - 1; last = Some (cow_str_bytes k); owes_value = true }
 after_key _ c = c
 
@@ -136,11 +154,13 @@ after_value (Err e) c = c
 
 -- items are unread: how many were read, and how many were announced
 abbrev pub LeavesUnread : {E : Type 0} → AccessorState → DecodeError E → Type 0
-LeavesUnread c (LengthMismatch name expect value) = (name ≡ c.name) × (expect + c.left ≡ c.announced) × (value ≡ c.announced)
+LeavesUnread c (LengthMismatch name expect value) = (name ≡ c.name)
+    × (expect + c.left ≡ c.announced) × (value ≡ c.announced)
 LeavesUnread c _ = ⊥
 
 -- A list or map is ended exactly where no item is left, and its steps are given back.
-abbrev pub EndsItems : {E : Type 0} → AccessorState → Reading → Result (Unit {0}) (DecodeError E) → Reading → Type 0
+abbrev pub EndsItems : {E : Type 0} → AccessorState → Reading → Result (Unit {0}) (DecodeError E)
+    → Reading → Type 0
 EndsItems c old result new = MatchResult result
     (λ _. (c.left ≡ 0) × (new ≡ with_steps (old.steps + c.steps) old))
     (λ e. (0 < c.left) × LeavesUnread c e × (new ≡ old))

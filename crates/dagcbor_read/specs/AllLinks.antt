@@ -4,7 +4,8 @@ use Rattle.std.specs.declared.alloc.Global.{Global}
 use Rattle.std.specs.declared.convert.Infallible.{Infallible}
 use Rattle.dagcbor_heads.specs.Reading.{Reading, default_steps}
 use Rattle.dagcbor_heads.specs.declared.error.DecodeError.{DecodeError}
-use Rattle.dagcbor_heads.specs.declared.error.DecodeError.TheVariants.{Read, RequireBorrowed, OutOfMemory, Failed}
+use Rattle.dagcbor_heads.specs.declared.error.DecodeError.TheVariants.{Read, RequireBorrowed}
+use Rattle.dagcbor_heads.specs.declared.error.DecodeError.TheVariants.{OutOfMemory, Failed}
 use Rattle.ipld_tree.specs.Cid.{CidParts}
 use Rattle.ipld_tree.specs.Tree.{Tree, any_need, links_of}
 use Rattle.ipld_tree.specs.Spelling.{IsFront}
@@ -13,21 +14,26 @@ use Rattle.dagcbor_items.specs.Walks.{forms, all_links}
 use Rattle.dagcbor_items.specs.Reads.{Reads}
 
 -- The links of an item of any kind are read exactly where one stands within the steps left.
-abbrev pub ReadsLinks : {E : Type 0} → Reading → Result (Vec CidParts Global) (DecodeError E) → Reading → Type 0
+abbrev pub ReadsLinks : {E : Type 0} → Reading → Result (Vec CidParts Global) (DecodeError E)
+    → Reading → Type 0
 ReadsLinks old = Reads (λ v. forms v.items) all_links ⊤ ⊥ (CauseInside old.steps) old
 
 -- the bytes begin with a tree that is read within `default_steps`, and these are its links
 abbrev pub AreFirstLinks : List ℕ → List (List ℕ) → Type 0
-AreFirstLinks b links = (t : Tree) × (rest : List ℕ) × IsFront b t rest × (any_need t ≤ default_steps) × (links ≡ links_of t)
+AreFirstLinks b links = (t : Tree) × (rest : List ℕ) × IsFront b t rest
+    × (any_need t ≤ default_steps) × (links ≡ links_of t)
 
--- why no links are read: for want of memory, or since no item stands first that is read within `default_steps`; a slice does not fault
+-- why no links are read: for want of memory, or since no item stands first that is read within
+-- `default_steps`; a slice does not fault
 abbrev pub LinksRefused : DecodeError Infallible → List ℕ → Type 0
 LinksRefused (Read e) b = ⊥
 LinksRefused OutOfMemory b = ⊤
 LinksRefused (RequireBorrowed name) b = ⊥
 LinksRefused Failed b = ⊥
-LinksRefused e b = ((links : List (List ℕ)) → AreFirstLinks b links → ⊥) × CauseInside default_steps e b
+LinksRefused e b = ((links : List (List ℕ)) → AreFirstLinks b links → ⊥)
+    × CauseInside default_steps e b
 
--- The links of the first item of a slice are read exactly where one stands that is read within `default_steps`. What follows it is not looked at.
+-- The links of the first item of a slice are read exactly where one stands that is read within
+-- `default_steps`. What follows it is not looked at.
 abbrev pub ReadsFirstLinks : List ℕ → Result (Vec CidParts Global) (DecodeError Infallible) → Type 0
 ReadsFirstLinks b result = MatchResult result (λ v. AreFirstLinks b (forms v.items)) (λ e. LinksRefused e b)

@@ -1,5 +1,6 @@
 -- What contracts see of a Deserializer, and what its calls do to it.
-use Rattle.std.specs.Prelude.{◌≡◌, ℕ, ◌+◌, ◌<◌, ◌≤◌, Bool, true, false, Result, Ok, Err, is_err, MatchBool}
+use Rattle.std.specs.Prelude.{◌≡◌, ℕ, ◌+◌, ◌<◌, ◌≤◌, Bool, true, false, Result, Ok, Err, is_err}
+use Rattle.std.specs.Prelude.{MatchBool}
 use Rattle.dagcbor_heads.specs.Reading.{Reading}
 use Rattle.dagcbor_heads.specs.Fronts.{FindsEnd, ShowsByte}
 use Rattle.dagcbor_heads.specs.Inputs.{input_reading}
@@ -17,12 +18,14 @@ abbrev pub progress : {R : Type 0} → (R → Reading) → Deserializer R → Pr
 progress reading de = record { input = input_reading reading de.input; failed = de.failed }
 
 -- What a call does to the progress of a Deserializer over a reader
-abbrev pub Over : {R A : Type 0} → (R → Reading) → (Progress → A → Progress → Type 0) → Deserializer R → A → Deserializer R → Type 0
+abbrev pub Over : {R A : Type 0} → (R → Reading) → (Progress → A → Progress → Type 0)
+    → Deserializer R → A → Deserializer R → Type 0
 Over reading does old result new = does (progress reading old) result (progress reading new)
 
--- A call on a Deserializer that has failed answers `Failed`, and changes nothing. Any other reads, and has failed exactly
--- where it is refused.
-abbrev pub Call : {T E : Type 0} → (Reading → Result T (DecodeError E) → Reading → Type 0) → Progress → Result T (DecodeError E) → Progress → Type 0
+-- A call on a Deserializer that has failed answers `Failed`, and changes nothing. Any other reads,
+-- and has failed exactly where it is refused.
+abbrev pub Call : {T E : Type 0} → (Reading → Result T (DecodeError E) → Reading → Type 0)
+    → Progress → Result T (DecodeError E) → Progress → Type 0
 Call reads old result new = MatchBool old.failed
     ((result ≡ Err Failed) × (new ≡ old))
     ((new.failed ≡ is_err result) × reads old.input result new.input)
@@ -35,8 +38,10 @@ StaysFailed old result new = old.failed ≡ true → (result ≡ Err Failed) × 
 abbrev pub AreOut : ℕ → Progress → Type 0
 AreOut steps de = de.failed ≡ false → de.input.steps + steps ≤ de.input.budget
 
--- the end of the input was found; or bytes behind the item, which stay, and then nothing has failed; or the reader faulted
-abbrev pub TellsEnd : {E : Type 0} → Reading → Result (Unit {0}) (DecodeError E) → Reading → Bool → Type 0
+-- the end of the input was found; or bytes behind the item, which stay, and then nothing has
+-- failed; or the reader faulted
+abbrev pub TellsEnd : {E : Type 0} → Reading → Result (Unit {0}) (DecodeError E) → Reading → Bool
+    → Type 0
 TellsEnd old (Ok u) new failed = (failed ≡ false) × FindsEnd old new
 TellsEnd old (Err TrailingData) new failed = (failed ≡ false) × (byte : ℕ) × ShowsByte old byte new
 TellsEnd old (Err (Read e)) new failed = (failed ≡ true) × (old.faults < new.faults)

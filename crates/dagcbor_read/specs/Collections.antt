@@ -1,5 +1,7 @@
 -- What lists and maps show to a type, and the steps that reading them takes.
-use Rattle.std.specs.Prelude.{◌≡◌, ◌||◌, ℕ, ◌+◌, ◌-◌, ◌≤◌, max, Bool, true, false, List, [], ◌∷◌, Option, None, Some, option_map, option_and_then, is_some, Result, MatchResult, ⊤, map, String, string_bytes}
+use Rattle.std.specs.Prelude.{◌≡◌, ◌||◌, ℕ, ◌+◌, ◌-◌, ◌≤◌, max, Bool, true, false, List, [], ◌∷◌}
+use Rattle.std.specs.Prelude.{Option, None, Some, option_map, option_and_then, is_some, Result}
+use Rattle.std.specs.Prelude.{MatchResult, ⊤, map, String, string_bytes}
 use Rattle.std.specs.declared.alloc.Global.{Global}
 use Rattle.std.proofs.Common.{sym, subst}
 use Rattle.std.specs.BTreeMap.{insert_entry}
@@ -7,7 +9,8 @@ use Rattle.dagcbor_heads.specs.Reading.{Reading, Stays, with_steps}
 use Rattle.dagcbor_heads.specs.Refusals.{Refuses}
 use Rattle.dagcbor_heads.specs.declared.error.DecodeError.{DecodeError}
 use Rattle.ipld_tree.specs.Key.{key_cmp}
-use Rattle.ipld_tree.specs.Tree.{Tree, list, mapping, Items, no_items, item, Entries, no_entries, entry}
+use Rattle.ipld_tree.specs.Tree.{Tree, list, mapping, Items, no_items, item, Entries, no_entries}
+use Rattle.ipld_tree.specs.Tree.{entry}
 use Rattle.dagcbor_items.specs.Entries.{AllFollow}
 use Rattle.ipld_tree.specs.Spelling.{item_count, entry_count, AreFronts, AreEntryFronts}
 use Rattle.dagcbor_read.specs.Calls.{Progress}
@@ -52,7 +55,8 @@ abbrev pub no_more : Shape Items (Unit {0})
 no_more = record { view = view_none; need = λ ts. 0; borrows = false }
 
 -- an item of a type of its own, before other items
-abbrev pub view_first : {V W : Type 0} → (Tree → Option V) → (Items → Option W) → Items → Option (V × W)
+abbrev pub view_first : {V W : Type 0} → (Tree → Option V) → (Items → Option W) → Items
+    → Option (V × W)
 view_first view others no_items = None
 view_first view others (item t ts) = option_and_then (λ v. option_map (λ w. (v, w)) (others ts)) (view t)
 
@@ -81,18 +85,23 @@ pub record HasRow {V : Type 0} (shape : Shape Items V) (count : ℕ) (r : Readin
 -- so many items stood at the front which show v, and were taken
 pub record TakesRow {V : Type 0} (shape : Shape Items V) (count : ℕ) (old : Reading) (v : V) (new : Reading) : Type 0 where
   pub taken : (b : List ℕ) → old.left ≡ Some b
-      → (ts : Items) × (rest : List ℕ) × (item_count ts ≡ count) × AreFronts b ts rest × (shape.view ts ≡ Some v) × (shape.need ts ≤ old.steps) × (new.left ≡ Some rest)
+      → (ts : Items) × (rest : List ℕ) × (item_count ts ≡ count) × AreFronts b ts rest
+      × (shape.view ts ≡ Some v) × (shape.need ts ≤ old.steps) × (new.left ≡ Some rest)
   pub same : Stays old new
 
--- Items of a list that was begun are read from the first that is left on. Where all that are left make a row, none is left then.
-abbrev pub ReadsRow : {T V E : Type 0} → (T → V) → Shape Items V → AccessorState → Progress → Result T (DecodeError E) → AccessorState → Progress → Type 0
+-- Items of a list that was begun are read from the first that is left on. Where all that are left
+-- make a row, none is left then.
+abbrev pub ReadsRow : {T V E : Type 0} → (T → V) → Shape Items V → AccessorState → Progress
+    → Result T (DecodeError E) → AccessorState → Progress → Type 0
 ReadsRow meaning shape before old result after new = MatchResult result
     (λ v. (new.failed ≡ false) × (after ≡ record before { left = after.left }) × (after.left ≤ before.left)
-    × TakesRow shape (before.left - after.left) old.input (meaning v) new.input × (HasRow shape before.left old.input → after.left ≡ 0))
+    × TakesRow shape (before.left - after.left) old.input (meaning v) new.input
+    × (HasRow shape before.left old.input → after.left ≡ 0))
     (λ e. Refuses (HasRow shape before.left old.input) ⊤ (shape.borrows ≡ true) Anything old.input e new.input)
 
 -- All that is left of a list that was begun is read, and it is ended: its steps are given back.
-abbrev pub ReadsRest : {T V E : Type 0} → (T → V) → Shape Items V → AccessorState → Progress → Result T (DecodeError E) → Progress → Type 0
+abbrev pub ReadsRest : {T V E : Type 0} → (T → V) → Shape Items V → AccessorState → Progress
+    → Result T (DecodeError E) → Progress → Type 0
 ReadsRest meaning shape before old result new = MatchResult result
     (λ v. (new.failed ≡ false) × (now : Reading) × TakesRow shape before.left old.input (meaning v) now × (new.input ≡ with_steps (now.steps + before.steps) now))
     (λ e. Refuses (HasRow shape before.left old.input) ⊤ (shape.borrows ≡ true) Anything old.input e new.input)
@@ -142,7 +151,8 @@ fields_of shape start = record {
   borrows = shape.borrows;
 }
 
--- so many entries stand at the front, behind the last key, which show something, and their need is within the steps left
+-- so many entries stand at the front, behind the last key, which show something, and their need is
+-- within the steps left
 pub record HasFields {S : Type 0} (shape : FieldShape S) (state : S) (last : Option (List ℕ)) (count : ℕ) (r : Reading) : Type 0 where
   pub bytes : List ℕ
   pub entries : Entries
@@ -154,14 +164,18 @@ pub record HasFields {S : Type 0} (shape : FieldShape S) (state : S) (last : Opt
   pub accepted : is_some (view_entries shape.take state entries) ≡ true
   pub within : need_entries shape.need entries ≤ r.steps
 
--- so many entries stood at the front, behind the last key, which bring the state to s, and were taken
+-- so many entries stood at the front, behind the last key, which bring the state to s, and were
+-- taken
 pub record TakesFields {S : Type 0} (shape : FieldShape S) (state : S) (last : Option (List ℕ)) (count : ℕ) (old : Reading) (s : S) (new : Reading) : Type 0 where
   pub taken : (b : List ℕ) → old.left ≡ Some b
-      → (es : Entries) × (rest : List ℕ) × (entry_count es ≡ count) × AllFollow last es × AreEntryFronts b es rest × (view_entries shape.take state es ≡ Some s) × (need_entries shape.need es ≤ old.steps) × (new.left ≡ Some rest)
+      → (es : Entries) × (rest : List ℕ) × (entry_count es ≡ count) × AllFollow last es
+      × AreEntryFronts b es rest × (view_entries shape.take state es ≡ Some s)
+      × (need_entries shape.need es ≤ old.steps) × (new.left ≡ Some rest)
   pub same : Stays old new
 
 -- All that is left of a map that was begun is read, and it is ended: its steps are given back.
-abbrev pub ReadsEntriesLeft : {T S E : Type 0} → (T → S) → FieldShape S → S → AccessorState → Progress → Result T (DecodeError E) → Progress → Type 0
+abbrev pub ReadsEntriesLeft : {T S E : Type 0} → (T → S) → FieldShape S → S → AccessorState
+    → Progress → Result T (DecodeError E) → Progress → Type 0
 ReadsEntriesLeft meaning shape start before old result new = MatchResult result
     (λ v. (new.failed ≡ false) × (now : Reading) × TakesFields shape start before.last before.left old.input (meaning v) now × (new.input ≡ with_steps (now.steps + before.steps) now))
     (λ e. Refuses (HasFields shape start before.last before.left old.input) ⊤ (shape.borrows ≡ true) Anything old.input e new.input)
@@ -195,7 +209,8 @@ in_key_order [] = []
 in_key_order (p ∷ ps) = insert_entry key_cmp (in_key_order ps) p.0 p.1
 
 -- what a value shows goes to the place of its key
-abbrev pub take_entry : {V : Type 0} → (Tree → Option V) → List (List ℕ × V) → List ℕ → Tree → Option (List (List ℕ × V))
+abbrev pub take_entry : {V : Type 0} → (Tree → Option V) → List (List ℕ × V) → List ℕ → Tree
+    → Option (List (List ℕ × V))
 take_entry view pairs k t = option_map (λ v. insert_entry key_cmp pairs k v) (view t)
 
 abbrev pub values_of : {V : Type 0} → Shape Tree V → FieldShape (List (List ℕ × V))

@@ -1,5 +1,6 @@
 -- What an enum's tree shows to a type, and the steps that reading it takes.
-use Rattle.std.specs.Prelude.{◌≡◌, ℕ, ◌+◌, Bool, true, false, List, Option, None, Some, is_some, Result, MatchResult, MatchBool, ⊤}
+use Rattle.std.specs.Prelude.{◌≡◌, ℕ, ◌+◌, Bool, true, false, List, Option, None, Some, is_some}
+use Rattle.std.specs.Prelude.{Result, MatchResult, MatchBool, ⊤}
 use Rattle.dagcbor_heads.specs.Reading.{Reading, with_steps}
 use Rattle.dagcbor_heads.specs.Refusals.{Refuses}
 use Rattle.dagcbor_heads.specs.declared.error.DecodeError.{DecodeError}
@@ -10,7 +11,8 @@ use Rattle.dagcbor_read.specs.Enums.{EnumState}
 use Rattle.dagcbor_items.specs.Shapes.{Shape}
 
 -- A variant's name alone, or a map of one pair, from the name to what the variant holds.
-abbrev pub view_enum : {V : Type 0} → (List ℕ → Option V) → (List ℕ → Tree → Option V) → Tree → Option V
+abbrev pub view_enum : {V : Type 0} → (List ℕ → Option V) → (List ℕ → Tree → Option V) → Tree
+    → Option V
 view_enum unit part (text s) = unit s
 view_enum unit part (mapping (entry k t no_entries)) = part k t
 view_enum unit part _ = None
@@ -48,15 +50,18 @@ part_of shape k = record { view = shape.part k; need = shape.need k; borrows = s
 abbrev pub HasVariant : {V : Type 0} → EnumShape V → List ℕ → EnumState → Reading → Type 0
 HasVariant shape k e r = MatchBool e.in_map (HasFront (part_of shape k) r) (is_some (shape.unit k) ≡ true)
 
--- it was its name alone, which shows v; or what it holds was taken, which shows v; and the enum's steps are given back
-abbrev pub TakesVariant : {V : Type 0} → EnumShape V → List ℕ → EnumState → Reading → V → Reading → Type 0
+-- it was its name alone, which shows v; or what it holds was taken, which shows v; and the enum's
+-- steps are given back
+abbrev pub TakesVariant : {V : Type 0} → EnumShape V → List ℕ → EnumState → Reading → V → Reading
+    → Type 0
 TakesVariant shape k e old v new = MatchBool e.in_map
     ((now : Reading) × TakesFront (part_of shape k) old v now × (new ≡ with_steps (now.steps + e.steps) now))
     ((shape.unit k ≡ Some v) × (new ≡ with_steps (old.steps + e.steps) old))
 
--- A variant is read exactly where it is its name alone or holds what the type accepts, as its name wants. After an answer
--- nothing has failed.
-abbrev pub ReadsVariant : {T V E : Type 0} → (T → V) → EnumShape V → List ℕ → EnumState → Progress → Result T (DecodeError E) → Progress → Type 0
+-- A variant is read exactly where it is its name alone or holds what the type accepts, as its name
+-- wants. After an answer nothing has failed.
+abbrev pub ReadsVariant : {T V E : Type 0} → (T → V) → EnumShape V → List ℕ → EnumState → Progress
+    → Result T (DecodeError E) → Progress → Type 0
 ReadsVariant meaning shape k e old result new = MatchResult result
     (λ v. (new.failed ≡ false) × TakesVariant shape k e old.input (meaning v) new.input)
     (λ r. Refuses (HasVariant shape k e old.input) ⊤ (shape.borrows ≡ true) Anything old.input r new.input)

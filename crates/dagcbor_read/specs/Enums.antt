@@ -1,5 +1,6 @@
 -- What contracts see of an enum that was begun, and what its calls do.
-use Rattle.std.specs.Prelude.{◌≡◌, ◌⊎◌, ℕ, ◌+◌, ◌-◌, ◌/◌, ◌<◌, Bool, true, false, List, [], ◌∷◌, Some, Result, MatchResult, MatchBool, IfOk, codes, ⊤}
+use Rattle.std.specs.Prelude.{◌≡◌, ◌⊎◌, ℕ, ◌+◌, ◌-◌, ◌/◌, ◌<◌, Bool, true, false, List, [], ◌∷◌}
+use Rattle.std.specs.Prelude.{Some, Result, MatchResult, MatchBool, IfOk, codes, ⊤}
 use Rattle.dagcbor_heads.specs.Reading.{Reading, with_steps}
 use Rattle.dagcbor_heads.specs.Fronts.{Takes, ShowsByte}
 use Rattle.dagcbor_heads.specs.Refusals.{Refuses}
@@ -24,7 +25,8 @@ use Rattle.dagcbor_read.specs.declared.access.enum_accessor.EnumAccessor.{EnumAc
 pub record EnumState : Type 0 where
   -- its first byte
   pub first : ℕ
-  -- whether it is a map of one pair, from the variant's name to what it holds, and not the name alone
+  -- whether it is a map of one pair, from the variant's name to what it holds, and not the name
+  -- alone
   pub in_map : Bool
   -- the steps that its end gives back
   pub steps : ℕ
@@ -50,11 +52,13 @@ TakesForm e old new = MatchBool e.in_map
 -- why an enum is not begun: no byte, or one that begins no enum
 abbrev pub EnumCause : {E : Type 0} → DecodeError E → List ℕ → Type 0
 EnumCause (Eof name expect) b = Names name (codes "enum") × (expect ≡ Small 1) × (b ≡ [])
-EnumCause (Mismatch name found) b = Names name (codes "enum") × ((more : List ℕ) × (b ≡ found ∷ more) × (found ≡ 0xa1 → ⊥) × (found / 32 ≡ 3 → ⊥))
+EnumCause (Mismatch name found) b = Names name (codes "enum")
+    × ((more : List ℕ) × (b ≡ found ∷ more) × (found ≡ 0xa1 → ⊥) × (found / 32 ≡ 3 → ⊥))
 EnumCause _ b = ⊥
 
 -- An enum is begun exactly where one may begin. No step is spent on it.
-abbrev pub BeginsEnum : {E : Type 0} → Reading → Result EnumAccessor (DecodeError E) → Reading → Type 0
+abbrev pub BeginsEnum : {E : Type 0} → Reading → Result EnumAccessor (DecodeError E) → Reading
+    → Type 0
 BeginsEnum old result new = MatchResult result
     (λ a. ((enum_state a).steps ≡ 0) × TakesForm (enum_state a) old new)
     (λ e. Refuses (HasEnum old) ⊥ ⊥ EnumCause old e new)
@@ -74,7 +78,8 @@ abbrev pub HasStepEnum : Reading → Type 0
 HasStepEnum r = HasEnum r × (0 < r.steps)
 
 -- An enum is begun exactly where one may begin and a step is left, which is spent.
-abbrev pub SpendsEnum : {E : Type 0} → List ℕ → Reading → Result EnumAccessor (DecodeError E) → Reading → Type 0
+abbrev pub SpendsEnum : {E : Type 0} → List ℕ → Reading → Result EnumAccessor (DecodeError E)
+    → Reading → Type 0
 SpendsEnum name old result new = MatchResult result
     (λ a. ((enum_state a).steps ≡ 1) × (0 < old.steps) × (new.steps < new.budget) × TakesForm (enum_state a) (with_steps (old.steps - 1) old) new)
     (λ e. Refuses (HasStepEnum old) ⊥ ⊥ (StepEnumCause name) old e new × NoStepIfDeep old e)
@@ -86,36 +91,45 @@ abbrev pub IsOtherForm : {E : Type 0} → EnumState → DecodeError E → Type 0
 IsOtherForm e (Mismatch name found) = Names name (codes "enum") × (found ≡ e.first)
 IsOtherForm e _ = ⊥
 
--- A variant's name is read exactly where a text stands, with no want of memory where the input lends.
-abbrev pub ReadsName : {E : Type 0} → Reading → Result (CowStr Global × EnumAccessor) (DecodeError E) → Reading → Type 0
+-- A variant's name is read exactly where a text stands, with no want of memory where the input
+-- lends.
+abbrev pub ReadsName : {E : Type 0} → Reading
+    → Result (CowStr Global × EnumAccessor) (DecodeError E) → Reading → Type 0
 ReadsName old = Reads (λ v. cow_str_bytes v.0) (leaf view_text) (old.lends ≡ false) ⊥ (TextCause (codes "string")) old
 
 -- The form of a map is there, or the other, which is refused. Nothing is read.
-abbrev pub EntersMap : {E : Type 0} → EnumState → Reading → Result (Unit {0}) (DecodeError E) → Reading → Type 0
+abbrev pub EntersMap : {E : Type 0} → EnumState → Reading → Result (Unit {0}) (DecodeError E)
+    → Reading → Type 0
 EntersMap e old result new = MatchResult result
     (λ _. (e.in_map ≡ true) × (new ≡ old))
     (λ r. (e.in_map ≡ false) × IsOtherForm e r × (new ≡ old))
 
--- The list or map of what a variant holds is begun as any, exactly where the enum has the form of a map. Its end gives the
--- enum's steps back too.
-abbrev pub BeginsHeld : {E : Type 0} → ℕ → List ℕ → EnumState → Reading → Result Accessor (DecodeError E) → Reading → Type 0
+-- The list or map of what a variant holds is begun as any, exactly where the enum has the form of a
+-- map. Its end gives the enum's steps back too.
+abbrev pub BeginsHeld : {E : Type 0} → ℕ → List ℕ → EnumState → Reading
+    → Result Accessor (DecodeError E) → Reading → Type 0
 BeginsHeld major name e old result new = MatchBool e.in_map
     (BeginsItems major name (e.steps + 1) old result new)
     (MatchResult result (λ _. ⊥) (λ r. IsOtherForm e r × (new ≡ old)))
 
--- A variant that is its name alone is ended exactly where the enum has that form: its steps are given back.
-abbrev pub EndsUnit : {E : Type 0} → EnumState → Reading → Result (Unit {0}) (DecodeError E) → Reading → Type 0
+-- A variant that is its name alone is ended exactly where the enum has that form: its steps are
+-- given back.
+abbrev pub EndsUnit : {E : Type 0} → EnumState → Reading → Result (Unit {0}) (DecodeError E)
+    → Reading → Type 0
 EndsUnit e old result new = MatchResult result
     (λ _. (e.in_map ≡ false) × (new ≡ with_steps (old.steps + e.steps) old))
     (λ r. (e.in_map ≡ true) × IsOtherForm e r × (new ≡ old))
 
--- What a variant holds is read as the law of its type says, exactly where the enum has the form of a map: then the enum's
--- steps are given back.
-abbrev pub ReadsHeld : {T V E : Type 0} → (T → V) → Shape Tree V → EnumState → Reading → Result T (DecodeError E) → Reading → Type 0
+-- What a variant holds is read as the law of its type says, exactly where the enum has the form of
+-- a map: then the enum's steps are given back.
+abbrev pub ReadsHeld : {T V E : Type 0} → (T → V) → Shape Tree V → EnumState → Reading
+    → Result T (DecodeError E) → Reading → Type 0
 ReadsHeld meaning shape e old result new = MatchResult result
     (λ v. (e.in_map ≡ true) × ((now : Reading) × TakesFront shape old (meaning v) now × (new ≡ with_steps (now.steps + e.steps) now)))
     (λ r. MatchBool e.in_map (Refuses (HasFront shape old) ⊤ (shape.borrows ≡ true) Anything old r new) (IsOtherForm e r × (new ≡ old)))
 
--- The same for the fields that a variant holds, where nothing had failed. After an answer nothing has failed.
-abbrev pub ReadsFieldsHeld : {T V E : Type 0} → (T → V) → Shape Tree V → EnumState → Progress → Result T (DecodeError E) → Progress → Type 0
+-- The same for the fields that a variant holds, where nothing had failed. After an answer nothing
+-- has failed.
+abbrev pub ReadsFieldsHeld : {T V E : Type 0} → (T → V) → Shape Tree V → EnumState → Progress
+    → Result T (DecodeError E) → Progress → Type 0
 ReadsFieldsHeld meaning shape e old result new = old.failed ≡ false → IfOk result (λ v. new.failed ≡ false) × ReadsHeld meaning shape e old.input result new.input

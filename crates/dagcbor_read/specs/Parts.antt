@@ -1,5 +1,7 @@
 -- What reading a value of another type answers and refuses.
-use Rattle.std.specs.Prelude.{◌≡◌, ℕ, ◌+◌, ◌<◌, ◌⊎◌, Bool, true, List, [], ◌∷◌, Option, Some, option_map, Result, Err, IfErr, MatchResult, MatchBool, codes, false, ⊤}
+use Rattle.std.specs.Prelude.{◌≡◌, ℕ, ◌+◌, ◌<◌, ◌⊎◌, Bool, true, List, [], ◌∷◌, Option, Some}
+use Rattle.std.specs.Prelude.{option_map, Result, Err, IfErr, MatchResult, MatchBool, codes, false}
+use Rattle.std.specs.Prelude.{⊤}
 use Rattle.dagcbor_heads.specs.Reading.{Reading, Keeps}
 use Rattle.dagcbor_heads.specs.Fronts.{Takes}
 use Rattle.dagcbor_heads.specs.Refusals.{Refuses}
@@ -13,7 +15,8 @@ use Rattle.dagcbor_read.specs.Calls.{Progress}
 use Rattle.dagcbor_items.specs.Reads.{Reads, HasFront, TakesFront, NoStepIfDeep, Anything}
 
 -- A value is read as the law of its type says.
-abbrev pub ReadsPart : {T V E : Type 0} → (T → V) → Shape Tree V → Reading → Result T (DecodeError E) → Reading → Type 0
+abbrev pub ReadsPart : {T V E : Type 0} → (T → V) → Shape Tree V → Reading
+    → Result T (DecodeError E) → Reading → Type 0
 ReadsPart meaning shape = Reads meaning shape ⊤ (shape.borrows ≡ true) Anything
 
 -- a null stands at the front, or another byte, and a step is left
@@ -25,7 +28,8 @@ pub record CanEnter (r : Reading) : Type 0 where
 
 -- something else than a null stands at the front, and a step was spent on it
 pub record EntersSome (old new : Reading) : Type 0 where
-  pub begins : (b : List ℕ) → old.left ≡ Some b → (byte : ℕ) × (rest : List ℕ) × (b ≡ byte ∷ rest) × (byte ≡ 0xf6 → ⊥)
+  pub begins : (b : List ℕ) → old.left ≡ Some b → (byte : ℕ) × (rest : List ℕ) × (b ≡ byte ∷ rest)
+      × (byte ≡ 0xf6 → ⊥)
   pub kept : Keeps old new
   pub steps : new.steps + 1 ≡ old.steps
   pub is_out : new.steps < new.budget
@@ -52,16 +56,21 @@ EntersOption old result new = MatchResult result
 
 -- the part behind the step was refused, as its law says
 abbrev pub RefusesPart : {V E : Type 0} → Shape Tree V → Reading → DecodeError E → Reading → Type 0
-RefusesPart shape old e new = (mid : Reading) × EntersSome old mid × Refuses (HasFront shape mid) ⊤ (shape.borrows ≡ true) Anything mid e new
+RefusesPart shape old e new = (mid : Reading) × EntersSome old mid
+    × Refuses (HasFront shape mid) ⊤ (shape.borrows ≡ true) Anything mid e new
 
--- A null is read, or another value as the law of its type says. A refusal is the part's, or it came before the part with
--- its cause.
-abbrev pub ReadsOption : {T V E : Type 0} → (T → V) → Shape Tree V → Reading → Result (Option T) (DecodeError E) → Reading → Type 0
+-- A null is read, or another value as the law of its type says. A refusal is the part's, or it came
+-- before the part with its cause.
+abbrev pub ReadsOption : {T V E : Type 0} → (T → V) → Shape Tree V → Reading
+    → Result (Option T) (DecodeError E) → Reading → Type 0
 ReadsOption meaning shape old result new = MatchResult result
     (λ o. TakesFront (option_of shape) old (option_map meaning o) new)
     (λ e. Refuses (HasFront (option_of shape) old) ⊤ (shape.borrows ≡ true) Anything old e new
     × (RefusesToEnter old e new ⊎ RefusesPart shape old e new))
 
--- Where a value of several parts cannot be begun on bytes that are known, the refusal is that of the call that begins it.
-abbrev pub RefusesToBegin : {T A E : Type 0} → (Reading → Type 0) → (Reading → Result A (DecodeError E) → Reading → Type 0) → Progress → Result T (DecodeError E) → Progress → Type 0
+-- Where a value of several parts cannot be begun on bytes that are known, the refusal is that of
+-- the call that begins it.
+abbrev pub RefusesToBegin : {T A E : Type 0} → (Reading → Type 0)
+    → (Reading → Result A (DecodeError E) → Reading → Type 0) → Progress → Result T (DecodeError E)
+    → Progress → Type 0
 RefusesToBegin could begins old result new = old.failed ≡ false → (b : List ℕ) → old.input.left ≡ Some b → (could old.input → ⊥) → IfErr result (λ e. begins old.input (Err e) new.input)

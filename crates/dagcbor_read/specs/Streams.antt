@@ -1,11 +1,14 @@
 -- Streams: values one behind the other.
-use Rattle.std.specs.Prelude.{◌≡◌, ℕ, ◌+◌, ◌<◌, ◌≤◌, ◌⊎◌, Bool, true, false, List, [], ◌∷◌, length, map, Option, None, Some, Result, Ok, Err, is_err, MatchBool, MatchOption, MatchResult, ⊤}
+use Rattle.std.specs.Prelude.{◌≡◌, ℕ, ◌+◌, ◌<◌, ◌≤◌, ◌⊎◌, Bool, true, false, List, [], ◌∷◌, length}
+use Rattle.std.specs.Prelude.{map, Option, None, Some, Result, Ok, Err, is_err, MatchBool}
+use Rattle.std.specs.Prelude.{MatchOption, MatchResult, ⊤}
 use Rattle.std.specs.Iterator.{Count, at_most, endless, DrainsIf}
 use Rattle.dagcbor_heads.specs.Reading.{Reading}
 use Rattle.dagcbor_heads.specs.Fronts.{FindsEnd}
 use Rattle.dagcbor_heads.specs.Refusals.{Refuses}
 use Rattle.dagcbor_heads.specs.declared.error.DecodeError.{DecodeError}
-use Rattle.dagcbor_heads.specs.declared.error.DecodeError.TheVariants.{Read, RequireBorrowed, OutOfMemory, Failed}
+use Rattle.dagcbor_heads.specs.declared.error.DecodeError.TheVariants.{Read, RequireBorrowed}
+use Rattle.dagcbor_heads.specs.declared.error.DecodeError.TheVariants.{OutOfMemory, Failed}
 use Rattle.ipld_tree.specs.Tree.{Tree}
 use Rattle.ipld_tree.specs.Spelling.{IsFront}
 use Rattle.dagcbor_read.specs.Calls.{Progress, progress, Call}
@@ -17,23 +20,29 @@ use Rattle.dagcbor_items.specs.Shapes.{Shape}
 
 -- a tree stands at the front that shows v, its need within the steps
 abbrev pub IsNextValue : {V : Type 0} → Shape Tree V → ℕ → List ℕ → V → List ℕ → Type 0
-IsNextValue shape steps b v rest = (t : Tree) × IsFront b t rest × (shape.view t ≡ Some v) × (shape.need t ≤ steps)
+IsNextValue shape steps b v rest = (t : Tree) × IsFront b t rest × (shape.view t ≡ Some v)
+    × (shape.need t ≤ steps)
 
--- The stream of a type on bytes, where `None` stands for a refusal: nothing for no bytes; a value that stands at the front, and then the stream of the
--- rest; else one refusal, and the end.
+-- The stream of a type on bytes, where `None` stands for a refusal: nothing for no bytes; a value
+-- that stands at the front, and then the stream of the rest; else one refusal, and the end.
 abbrev pub AreStreamItems : {V : Type 0} → Shape Tree V → ℕ → List ℕ → List (Option V) → Type 0
 AreStreamItems shape steps b [] = b ≡ []
-AreStreamItems shape steps b (Some v ∷ items) = (rest : List ℕ) × IsNextValue shape steps b v rest × AreStreamItems shape steps rest items
-AreStreamItems {V} shape steps b (None ∷ items) = (items ≡ []) × (0 < length b) × ((v : V) (rest : List ℕ) → IsNextValue shape steps b v rest → ⊥)
+AreStreamItems shape steps b (Some v ∷ items) = (rest : List ℕ) × IsNextValue shape steps b v rest
+    × AreStreamItems shape steps rest items
+AreStreamItems {V} shape steps b (None ∷ items) = (items ≡ []) × (0 < length b)
+    × ((v : V) (rest : List ℕ) → IsNextValue shape steps b v rest → ⊥)
 
--- The values are those of trees that stand one behind the other at the front of the bytes, before the rest, each accepted within the steps.
+-- The values are those of trees that stand one behind the other at the front of the bytes, before
+-- the rest, each accepted within the steps.
 abbrev pub AreNextValues : {V : Type 0} → Shape Tree V → ℕ → List ℕ → List V → List ℕ → Type 0
 AreNextValues shape steps b [] rest = b ≡ rest
-AreNextValues shape steps b (v ∷ vs) rest = (mid : List ℕ) × IsNextValue shape steps b v mid × AreNextValues shape steps mid vs rest
+AreNextValues shape steps b (v ∷ vs) rest = (mid : List ℕ) × IsNextValue shape steps b v mid
+    × AreNextValues shape steps mid vs rest
 
 -- Of given bytes there is one stream at most.
 abbrev pub StreamsAreUnique : {V : Type 0} → Shape Tree V → Type 0
-StreamsAreUnique {V} shape = (steps : ℕ) (b : List ℕ) (items others : List (Option V)) → AreStreamItems shape steps b items → AreStreamItems shape steps b others → items ≡ others
+StreamsAreUnique {V} shape = (steps : ℕ) (b : List ℕ) (items others : List (Option V))
+    → AreStreamItems shape steps b items → AreStreamItems shape steps b others → items ≡ others
 
 -- ---- what contracts see of a stream
 
@@ -56,14 +65,17 @@ SomeLeft r = (b : List ℕ) → r.left ≡ Some b → 0 < length b
 abbrev pub AreSome : {E : Type 0} → DecodeError E → List ℕ → Type 0
 AreSome e b = 0 < length b
 
--- The end is found, or a value is read of the bytes that are left, or refused. A fault may come before it is known whether bytes are left.
-abbrev pub ReadsNext : {T V E : Type 0} → (T → V) → Shape Tree V → Reading → Result (Option T) (DecodeError E) → Reading → Type 0
+-- The end is found, or a value is read of the bytes that are left, or refused. A fault may come
+-- before it is known whether bytes are left.
+abbrev pub ReadsNext : {T V E : Type 0} → (T → V) → Shape Tree V → Reading
+    → Result (Option T) (DecodeError E) → Reading → Type 0
 ReadsNext meaning shape old result new = MatchResult result
     (λ next. MatchOption next (FindsEnd old new) (λ v. TakesFront shape old (meaning v) new))
     (λ e. Refuses (HasFront shape old) (SomeLeft old) ((shape.borrows ≡ true) × SomeLeft old) AreSome old e new)
 
 -- what `next` gives is what reading answered, and the last but after a value
-abbrev pub as_answer : {T E : Type 0} → Option (Result T (DecodeError E)) → Result (Option T) (DecodeError E)
+abbrev pub as_answer : {T E : Type 0} → Option (Result T (DecodeError E))
+    → Result (Option T) (DecodeError E)
 as_answer None = Ok None
 as_answer (Some (Ok v)) = Ok (Some v)
 as_answer (Some (Err e)) = Err e
@@ -72,13 +84,16 @@ abbrev pub is_last : {T E : Type 0} → Option (Result T (DecodeError E)) → Bo
 is_last None = true
 is_last (Some r) = is_err r
 
--- What `next` does: nothing comes of a stream that is done; else what reading the next value answers.
-abbrev pub GivesNext : {T V E : Type 0} → (T → V) → Shape Tree V → Streaming → Option (Result T (DecodeError E)) → Streaming → Type 0
+-- What `next` does: nothing comes of a stream that is done; else what reading the next value
+-- answers.
+abbrev pub GivesNext : {T V E : Type 0} → (T → V) → Shape Tree V → Streaming
+    → Option (Result T (DecodeError E)) → Streaming → Type 0
 GivesNext meaning shape old item new = MatchBool old.done
     ((item ≡ None) × (new ≡ old))
     ((new.done ≡ is_last item) × Call (ReadsNext meaning shape) old.source (as_answer item) new.source)
 
--- Where n bytes are left, at most n + 1 items come; where the source does not tell its bytes, nothing is said.
+-- Where n bytes are left, at most n + 1 items come; where the source does not tell its bytes,
+-- nothing is said.
 abbrev pub items_left_of : Bool → Option (List ℕ) → Count
 items_left_of true left = at_most 0
 items_left_of false None = endless
@@ -89,7 +104,8 @@ items_left s = items_left_of s.done s.source.input.left
 
 -- ---- what comes of runs of `next`
 
--- an error that says nothing of the bytes: a fault, want of memory, or, where that may be, a wish to borrow
+-- an error that says nothing of the bytes: a fault, want of memory, or, where that may be, a wish
+-- to borrow
 abbrev pub GivesUp : {E : Type 0} → Type 0 → DecodeError E → Type 0
 GivesUp borrows (Read e) = ⊤
 GivesUp borrows OutOfMemory = ⊤
@@ -122,11 +138,15 @@ values_before meaning [] = []
 values_before meaning (Ok v ∷ xs) = meaning v ∷ values_before meaning xs
 values_before meaning (Err e ∷ xs) = []
 
--- What came is the stream's items, to the last where it is whole; or up to one in whose place an error came that says nothing of the bytes.
-abbrev pub AreUpTo : {T V E : Type 0} → (T → V) → Type 0 → Bool → List (Result T (DecodeError E)) → List (Option V) → Type 0
+-- What came is the stream's items, to the last where it is whole; or up to one in whose place an
+-- error came that says nothing of the bytes.
+abbrev pub AreUpTo : {T V E : Type 0} → (T → V) → Type 0 → Bool → List (Result T (DecodeError E))
+    → List (Option V) → Type 0
 AreUpTo meaning borrows whole [] items = whole ≡ true → items ≡ []
-AreUpTo {T} {V} meaning borrows whole (Ok v ∷ xs) items = (more : List (Option V)) × (items ≡ Some (meaning v) ∷ more) × AreUpTo meaning borrows whole xs more
-AreUpTo meaning borrows whole (Err e ∷ xs) items = (xs ≡ []) × (GivesUp borrows e ⊎ (items ≡ None ∷ []))
+AreUpTo {T} {V} meaning borrows whole (Ok v ∷ xs) items = (more : List (Option V))
+    × (items ≡ Some (meaning v) ∷ more) × AreUpTo meaning borrows whole xs more
+AreUpTo meaning borrows whole (Err e ∷ xs) items = (xs ≡ [])
+    × (GivesUp borrows e ⊎ (items ≡ None ∷ []))
 
 -- a stream, not done, over known bytes, of what has not failed
 pub record IsOver (b : List ℕ) (s : Streaming) : Type 0 where
@@ -150,14 +170,21 @@ module _ {S T V : Type 0} (E : Type 0) (see : S → Streaming) (meaning : T → 
     -- of n known bytes at most n + 1 items came
     pub bounded : (b : List ℕ) → IsOver b (see s) → length xs ≤ length b + 1
     -- however the run ended, the values stood one behind the other at the front of the bytes
-    pub values : (b : List ℕ) → IsOver b (see s) → (rest : List ℕ) × AreNextValues shape (see s).source.input.steps b (values_before meaning xs) rest
+    pub values : (b : List ℕ) → IsOver b (see s) → (rest : List ℕ)
+        × AreNextValues shape (see s).source.input.steps b (values_before meaning xs) rest
     -- they are the stream of the type on the bytes, up to an error that says nothing of the bytes
-    pub same : (b : List ℕ) → IsOver b (see s) → (items : List (Option V)) → AreStreamItems shape (see s).source.input.steps b items → AreUpTo meaning (MayWish s) whole xs items
+    pub same : (b : List ℕ) → IsOver b (see s) → (items : List (Option V))
+        → AreStreamItems shape (see s).source.input.steps b items
+        → AreUpTo meaning (MayWish s) whole xs items
     -- where no such error came, and all came, they make a stream
-    pub exact : (b : List ℕ) → IsOver b (see s) → whole ≡ true → NoneGivesUp (MayWish s) xs → AreStreamItems shape (see s).source.input.steps b (map (stream_item meaning) xs)
+    pub exact : (b : List ℕ) → IsOver b (see s) → whole ≡ true → NoneGivesUp (MayWish s) xs
+        → AreStreamItems shape (see s).source.input.steps b (map (stream_item meaning) xs)
     -- of what had failed comes `Failed` alone
-    pub failed : (see s).done ≡ false → (see s).source.failed ≡ true → whole ≡ true → xs ≡ Err Failed ∷ []
+    pub failed : (see s).done ≡ false → (see s).source.failed ≡ true → whole ≡ true
+        → xs ≡ Err Failed ∷ []
 
-  -- Whatever came of calls of `next`, and of one more that gave nothing where the run is whole, is so.
+  -- Whatever came of calls of `next`, and of one more that gave nothing where the run is whole, is
+  -- so.
   abbrev pub StreamsAreExact : Type 0
-  StreamsAreExact = (s : S) (whole : Bool) (xs : List (Result T (DecodeError E))) → DrainsIf Gives (whole ≡ true) s xs → IsStreamRun s whole xs
+  StreamsAreExact = (s : S) (whole : Bool) (xs : List (Result T (DecodeError E)))
+      → DrainsIf Gives (whole ≡ true) s xs → IsStreamRun s whole xs

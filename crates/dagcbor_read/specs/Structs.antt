@@ -1,5 +1,6 @@
 -- What a map's entries show to a struct, whose fields have a place each.
-use Rattle.std.specs.Prelude.{◌||◌, ℕ, List, [], ◌∷◌, map, Option, None, Some, option_map, option_and_then, if◌then◌else◌, false}
+use Rattle.std.specs.Prelude.{◌||◌, ℕ, List, [], ◌∷◌, map, Option, None, Some, option_map}
+use Rattle.std.specs.Prelude.{option_and_then, if◌then◌else◌, false}
 use Rattle.std.specs.Option.{option_flatten}
 use Rattle.std.specs.Borrow.{Bor}
 use Rattle.std.specs.Str.{bytes_eq}
@@ -34,7 +35,8 @@ unnamed others = record {
 }
 
 -- places that are named in their order
-abbrev pub places : {V S : Type 0} → Shape Tree V → (List (List ℕ) → FieldShape S) → List (List ℕ) → FieldShape (Option V × S)
+abbrev pub places : {V S : Type 0} → Shape Tree V → (List (List ℕ) → FieldShape S) → List (List ℕ)
+    → FieldShape (Option V × S)
 places shape others [] = unnamed (others [])
 places shape others (name ∷ names) = place name shape (others names)
 
@@ -59,7 +61,8 @@ abbrev pub finish_required : {V S W : Type 0} → (S → Option W) → Option V 
 finish_required others s = option_and_then (λ v. option_map (λ w. (v, w)) (others s.1)) s.0
 
 -- a field that must be there, before others
-abbrev pub required : {V S W : Type 0} → List ℕ → Shape Tree V → StructShape S W → StructShape (Option V × S) (V × W)
+abbrev pub required : {V S W : Type 0} → List ℕ → Shape Tree V → StructShape S W
+    → StructShape (Option V × S) (V × W)
 required name shape others = record {
   fields = place name shape others.fields;
   unread = (None, others.unread);
@@ -67,11 +70,13 @@ required name shape others = record {
 }
 
 -- the first may be absent
-abbrev pub finish_optional : {V S W : Type 0} → (S → Option W) → Option (Option V) × S → Option (Option V × W)
+abbrev pub finish_optional : {V S W : Type 0} → (S → Option W) → Option (Option V) × S
+    → Option (Option V × W)
 finish_optional others s = option_map (λ w. (option_flatten s.0, w)) (others s.1)
 
 -- a field that may be absent, or null, before others
-abbrev pub optional : {V S W : Type 0} → List ℕ → Shape Tree V → StructShape S W → StructShape (Option (Option V) × S) (Option V × W)
+abbrev pub optional : {V S W : Type 0} → List ℕ → Shape Tree V → StructShape S W
+    → StructShape (Option (Option V) × S) (Option V × W)
 optional name shape others = record {
   fields = place name (option_of shape) others.fields;
   unread = (None, others.unread);

@@ -17,7 +17,8 @@ kind_of (link cid) = kinds.Link
 
 -- each tree whose spelling begins with the byte is of the kind
 abbrev pub IsKindAt : ℕ → Kind → Type 0
-IsKindAt first kind = (t : Tree) (more rest : List ℕ) → IsFront (first ∷ more) t rest → kind ≡ kind_of t
+IsKindAt first kind = (t : Tree) (more rest : List ℕ) → IsFront (first ∷ more) t rest
+    → kind ≡ kind_of t
 
 -- each tree whose spelling the bytes begin with is of the kind
 abbrev pub IsKindOfFront : List ℕ → Kind → Type 0

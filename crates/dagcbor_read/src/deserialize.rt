@@ -11,7 +11,8 @@ use std::alloc::Global;
 
 /// A value that can be read from a `Deserializer` whose input lives for `'de`.
 pub trait Deserialize<'de>: Shown + Sized + Drop {
-    /// Reads a value: exactly where a tree stands that the type accepts, within the steps that are left.
+    /// Reads a value: exactly where a tree stands that the type accepts, within the steps that are
+    /// left.
     fn deserialize<R: Read>(
         alloc: Global,
         de: &mut Deserializer<'de, R>,

@@ -1,6 +1,7 @@
 //! The reader's state between calls.
 
-ghost use Rattle.std.specs.Prelude.{◌≡◌, [], false, true, MatchResult, Some, IfErr, ◌+◌, ◌≤◌, ◌^◌, IfOk, codes, pos, negsuc, ◌≤ℤ◌, ◌↔◌, option_map};
+ghost use Rattle.std.specs.Prelude.{◌≡◌, [], false, true, MatchResult, Some, IfErr, ◌+◌, ◌≤◌, ◌^◌};
+ghost use Rattle.std.specs.Prelude.{IfOk, codes, pos, negsuc, ◌≤ℤ◌, ◌↔◌, option_map};
 ghost use Rattle.dagcbor_heads.specs.Reading.{fresh_reading, default_steps};
 ghost use Rattle.dagcbor_heads.specs.Inputs.{not_lending};
 ghost use Rattle.dagcbor_heads.specs.declared.error.DecodeError.TheVariants.{Failed};
@@ -8,8 +9,12 @@ ghost use Rattle.dagcbor_items.specs.Looks.{LooksAtAny};
 ghost use Rattle.dagcbor_read.specs.Calls.{progress, Call, Ends, Over};
 ghost use Rattle.dagcbor_items.specs.Untyped.{ReadsItem};
 ghost use Rattle.dagcbor_items.specs.Links.{ReadsLink};
-ghost use Rattle.dagcbor_items.specs.Variants.{OfItem, OfLink, OfHead, OfNumber, OfByte, OfChar, OfText, OfKey};
-ghost use Rattle.dagcbor_items.specs.LeafReads.{ReadsUnsigned, ReadsSigned, ReadsU128, ReadsI128, ReadsNull, ReadsBool, ReadsStr, ReadsOwnedText, ReadsChar, ReadsByteSlice, ReadsOwnedBytes, ReadsIgnored};
+ghost use Rattle.dagcbor_items.specs.Variants.{OfItem, OfLink, OfHead, OfNumber, OfByte, OfChar};
+ghost use Rattle.dagcbor_items.specs.Variants.{OfText, OfKey};
+ghost use Rattle.dagcbor_items.specs.LeafReads.{ReadsUnsigned, ReadsSigned, ReadsU128, ReadsI128};
+ghost use Rattle.dagcbor_items.specs.LeafReads.{ReadsNull, ReadsBool, ReadsStr, ReadsOwnedText};
+ghost use Rattle.dagcbor_items.specs.LeafReads.{ReadsChar, ReadsByteSlice, ReadsOwnedBytes};
+ghost use Rattle.dagcbor_items.specs.LeafReads.{ReadsIgnored};
 ghost use Rattle.std.specs.Cow.{IsBorrowedSlice, IsBorrowedStr, cow_str_bytes};
 ghost use Rattle.ipld_tree.specs.Tree.{text};
 ghost use Rattle.dagcbor_read.specs.Accessors.{ReadsHead, BeginsItems, ReadsKeyAfter, OfBegin};
@@ -34,8 +39,8 @@ use ipld_tree::{Cid, Ipld};
 use std::alloc::Global;
 use std::borrow::{CowSlice, CowStr};
 
-/// Reads values from a slice, which lends its bytes, or from another reader. After a refusal, other than `TrailingData`,
-/// each later reading call answers `Failed`.
+/// Reads values from a slice, which lends its bytes, or from another reader. After a refusal, other
+/// than `TrailingData`, each later reading call answers `Failed`.
 #[derive(Drop)]
 pub struct Deserializer<'de, R> {
     pub(crate) input: Input<'de, R>,
@@ -119,7 +124,8 @@ impl<'de, R: Read> Deserializer<'de, R> {
         Ok(cid)
     }
 
-    /// Whether the input ends here: `TrailingData` where a byte is left, which stays, and reading may go on.
+    /// Whether the input ends here: `TrailingData` where a byte is left, which stays, and reading
+    /// may go on.
     pub fn end(&mut self) -> Result<(), DecodeError<R::Error>>
         ensures { Over R.reading Ends self.old result self.new }
     {
@@ -509,7 +515,8 @@ impl<'de, R: Read> Deserializer<'de, R> {
         Ok(form)
     }
 
-    /// Skips an item of any kind, with what `deserialize_any` refuses. Over a slice it takes no memory.
+    /// Skips an item of any kind, with what `deserialize_any` refuses. Over a slice it takes no
+    /// memory.
     pub fn deserialize_ignored_any(&mut self, alloc: Global) -> Result<(), DecodeError<R::Error>>
         ensures item { Over R.reading (Call ReadsIgnored) self.old result self.new }
         ensures looked { LooksAtAny (progress R.reading self.old).input result (progress R.reading self.new).input }
@@ -521,7 +528,8 @@ impl<'de, R: Read> Deserializer<'de, R> {
         Ok(())
     }
 
-    /// Reads an item of any kind, with what `deserialize_any` refuses, and keeps its links alone: left to right, repeats kept.
+    /// Reads an item of any kind, with what `deserialize_any` refuses, and keeps its links alone:
+    /// left to right, repeats kept.
     pub fn deserialize_links(&mut self, alloc: Global) -> Result<Vec<Cid>, DecodeError<R::Error>>
         ensures links { Over R.reading (Call ReadsLinks) self.old result self.new }
         ensures looked { LooksAtAny (progress R.reading self.old).input result (progress R.reading self.new).input }

@@ -10,6 +10,7 @@ pub trait Shown {
 
     ghost meaning: { Self → View };
 
-    /// The value that a tree shows, the steps that reading it takes, and whether the type borrows from the input.
+    /// The value that a tree shows, the steps that reading it takes, and whether the type borrows
+    /// from the input.
     ghost shape: { Shape Tree View };
 }

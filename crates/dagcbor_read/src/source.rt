@@ -2,7 +2,8 @@
 
 ghost use Rattle.std.specs.Prelude.{◌⊎◌, IfOk, IfErr, IfSome};
 ghost use Rattle.dagcbor_heads.specs.Reading.{default_steps};
-ghost use Rattle.dagcbor_read.specs.Whole.{IsWhole, HoldsNoValue, TakesFirst, BeginsWithNoValue, IsReadExcuse, OfWhole};
+ghost use Rattle.dagcbor_read.specs.Whole.{IsWhole, HoldsNoValue, TakesFirst, BeginsWithNoValue};
+ghost use Rattle.dagcbor_read.specs.Whole.{IsReadExcuse, OfWhole};
 
 use crate::deserialize::DeserializeOwned;
 use crate::deserializer::Deserializer;
@@ -11,8 +12,8 @@ use std::alloc::Global;
 use std::io;
 use std::io::BufRead;
 
-/// The value whose spelling the source's bytes are, all of them: a value exactly where `from_slice` answers one, with the same view, where the
-/// source does not fault.
+/// The value whose spelling the source's bytes are, all of them: a value exactly where `from_slice`
+/// answers one, with the same view, where the source does not fault.
 pub fn from_reader<'de, T: DeserializeOwned<'de>, R: BufRead + Drop>(
     alloc: Global,
     reader: R,
@@ -27,8 +28,8 @@ pub fn from_reader<'de, T: DeserializeOwned<'de>, R: BufRead + Drop>(
     Ok(value)
 }
 
-/// The value whose spelling stands first in the source, which has exactly what follows it left. Nothing is said of what it has
-/// left after a refusal.
+/// The value whose spelling stands first in the source, which has exactly what follows it left.
+/// Nothing is said of what it has left after a refusal.
 pub fn from_reader_once<'de, T: DeserializeOwned<'de>, R: BufRead>(
     alloc: Global,
     reader: &mut R,

@@ -12,7 +12,8 @@ use std::alloc::Global;
 use std::io::BufRead;
 use std::marker::PhantomData;
 
-/// The values that stand one behind the other in an input. After an error, and after the end, nothing more comes.
+/// The values that stand one behind the other in an input. After an error, and after the end,
+/// nothing more comes.
 #[derive(Drop)]
 pub struct StreamDeserializer<'de, R, T> {
     alloc: Global,

@@ -2,7 +2,8 @@
 
 ghost use Rattle.std.specs.Prelude.{◌⊎◌, ◌≤◌, IfOk, IfErr};
 ghost use Rattle.dagcbor_heads.specs.Reading.{default_steps};
-ghost use Rattle.dagcbor_read.specs.Whole.{IsWhole, HoldsNoValue, IsReadExcuse, OfWhole, ReadsSlice, ChecksSlice};
+ghost use Rattle.dagcbor_read.specs.Whole.{IsWhole, HoldsNoValue, IsReadExcuse, OfWhole};
+ghost use Rattle.dagcbor_read.specs.Whole.{ReadsSlice, ChecksSlice};
 
 use crate::deserialize::Deserialize;
 use crate::deserializer::Deserializer;
@@ -25,7 +26,8 @@ pub fn from_slice<'a, T: Deserialize<'a>>(
     from_slice_with_depth(alloc, bytes, DEFAULT_STEPS)
 }
 
-/// The same within a budget of so many steps, at most 1,024: each list or map takes a step or two, and needs stack (README).
+/// The same within a budget of so many steps, at most 1,024: each list or map takes a step or two,
+/// and needs stack (README).
 pub fn from_slice_with_depth<'a, T: Deserialize<'a>>(
     alloc: Global,
     bytes: &'a [u8],
@@ -42,7 +44,8 @@ pub fn from_slice_with_depth<'a, T: Deserialize<'a>>(
     Ok(value)
 }
 
-/// The data whose spelling the bytes are, as `from_slice` answers it. Its contract also names the cause of a refusal.
+/// The data whose spelling the bytes are, as `from_slice` answers it. Its contract also names the
+/// cause of a refusal.
 pub fn any_from_slice(alloc: Global, bytes: &[u8]) -> Result<Ipld, DecodeError<Infallible>>
     ensures { ReadsSlice bytes.now result }
 {
@@ -52,7 +55,8 @@ pub fn any_from_slice(alloc: Global, bytes: &[u8]) -> Result<Ipld, DecodeError<I
     Ok(value)
 }
 
-/// The kind of the data whose spelling the bytes are. What `any_from_slice` refuses is refused, but nothing is built, and no memory taken.
+/// The kind of the data whose spelling the bytes are. What `any_from_slice` refuses is refused, but
+/// nothing is built, and no memory taken.
 pub fn check_slice(bytes: &[u8]) -> Result<Kind, DecodeError<Infallible>>
     ensures { ChecksSlice bytes.now result }
 {

@@ -1,5 +1,6 @@
 -- What the program writes for its input.
-use Rattle.std.specs.Prelude.{◌≡◌, ◌≢◌, ◌⊎◌, ℕ, List, [], ◌∷◌, ◌++◌, codes, Option, Some, MatchResult}
+use Rattle.std.specs.Prelude.{◌≡◌, ◌≢◌, ◌⊎◌, ℕ, List, [], ◌∷◌, ◌++◌, codes, Option, Some}
+use Rattle.std.specs.Prelude.{MatchResult}
 use Rattle.std.specs.Io.KnownBytes.{Appends}
 use Rattle.std.specs.Str.Lines.{lines}
 use Rattle.std.specs.declared.convert.Infallible.{Infallible}
@@ -49,7 +50,8 @@ variant_name refusals.UnorderedKey = codes "UnorderedKey"
 variant_name refusals.OutOfMemory = codes "OutOfMemory"
 variant_name refusals.Failed = codes "Failed"
 
--- what `check` says of a block: its kind where it is a tree's spelling, else the name of a refusal whose cause stands
+-- what `check` says of a block: its kind where it is a tree's spelling, else the name of a refusal
+-- whose cause stands
 abbrev pub IsVerdict : List ℕ → List ℕ → Type 0
 IsVerdict block said =
     ((t : Tree) × IsBlock block t × (said ≡ codes "ok " ++ kind_name (kind_of t)))
@@ -85,37 +87,53 @@ IsAnswer command line said = MatchResult (decode_of line) (λ block. IsSaid comm
 -- one line of output for each line, in order
 abbrev pub AreAnswers : (List ℕ → List ℕ → Type 0) → List (List ℕ) → List ℕ → Type 0
 AreAnswers Said [] out = out ≡ []
-AreAnswers Said (line ∷ lines) out = (said more : List ℕ) × Said line said × (out ≡ said ++ 10 ∷ more) × AreAnswers Said lines more
+AreAnswers Said (line ∷ lines) out = (said more : List ℕ) × Said line said
+    × (out ≡ said ++ 10 ∷ more) × AreAnswers Said lines more
 
 -- what a call wrote is one line of output for each of these lines
-abbrev pub WritesAnswers : (List ℕ → List ℕ → Type 0) → Option (List ℕ) → Option (List ℕ) → List (List ℕ) → Type 0
+abbrev pub WritesAnswers : (List ℕ → List ℕ → Type 0) → Option (List ℕ) → Option (List ℕ)
+    → List (List ℕ) → Type 0
 WritesAnswers Said old new asked = (out : List ℕ) × AreAnswers Said asked out × Appends old new out
 
 -- nothing, or a beginning of what is said of the first of these lines
 abbrev pub IsBeginning : (List ℕ → List ℕ → Type 0) → List ℕ → List (List ℕ) → Type 0
 IsBeginning Said part [] = part ≡ []
-IsBeginning Said part (line ∷ others) = (part ≡ []) ⊎ ((said back : List ℕ) × Said line said × (said ++ 10 ∷ [] ≡ part ++ back))
+IsBeginning Said part (line ∷ others) = (part ≡ [])
+    ⊎ ((said back : List ℕ) × Said line said × (said ++ 10 ∷ [] ≡ part ++ back))
 
 -- one line was taken from the input, and answered
-abbrev pub AnswersOne : (List ℕ → List ℕ → Type 0) → List ℕ → Option (List ℕ) → Option (List ℕ) → Option (List ℕ) → Type 0
-AnswersOne Said input left old new = (line rest said : List ℕ) × (lines input ≡ line ∷ lines rest) × (left ≡ Some rest) × Said line said × Appends old new (said ++ 10 ∷ [])
+abbrev pub AnswersOne : (List ℕ → List ℕ → Type 0) → List ℕ → Option (List ℕ) → Option (List ℕ)
+    → Option (List ℕ) → Type 0
+AnswersOne Said input left old new = (line rest said : List ℕ) × (lines input ≡ line ∷ lines rest)
+    × (left ≡ Some rest) × Said line said × Appends old new (said ++ 10 ∷ [])
 
 -- what was taken from the input so far are whole lines, and each was answered
-abbrev pub HasAnswered : (List ℕ → List ℕ → Type 0) → List ℕ → Option (List ℕ) → Option (List ℕ) → Option (List ℕ) → Type 0
-HasAnswered Said input left old new = (done : List (List ℕ)) × (rest out : List ℕ) × (left ≡ Some rest) × (lines input ≡ done ++ lines rest) × AreAnswers Said done out × Appends old new out
+abbrev pub HasAnswered : (List ℕ → List ℕ → Type 0) → List ℕ → Option (List ℕ) → Option (List ℕ)
+    → Option (List ℕ) → Type 0
+HasAnswered Said input left old new = (done : List (List ℕ)) × (rest out : List ℕ)
+    × (left ≡ Some rest) × (lines input ≡ done ++ lines rest) × AreAnswers Said done out
+    × Appends old new out
 
 -- nothing was left in the input, and nothing was written
 abbrev pub FindsNone : List ℕ → Option (List ℕ) → Option (List ℕ) → Option (List ℕ) → Type 0
 FindsNone input left old new = (input ≡ []) × (left ≡ Some []) × Appends old new []
 
--- of the next line some was taken from the input, or all, or nothing, and at most a beginning of its answer was written
-abbrev pub BreaksOff : (List ℕ → List ℕ → Type 0) → List ℕ → Option (List ℕ) → Option (List ℕ) → Option (List ℕ) → Type 0
-BreaksOff Said input left old new = (taken rest part : List ℕ) × (input ≡ taken ++ rest) × (left ≡ Some rest) × IsOfOneLine taken × IsBeginning Said part (lines input) × Appends old new part
+-- of the next line some was taken from the input, or all, or nothing, and at most a beginning of
+-- its answer was written
+abbrev pub BreaksOff : (List ℕ → List ℕ → Type 0) → List ℕ → Option (List ℕ) → Option (List ℕ)
+    → Option (List ℕ) → Type 0
+BreaksOff Said input left old new = (taken rest part : List ℕ) × (input ≡ taken ++ rest)
+    × (left ≡ Some rest) × IsOfOneLine taken × IsBeginning Said part (lines input)
+    × Appends old new part
 
 -- all of the input was taken, and each line was answered
-abbrev pub AnswersAll : (List ℕ → List ℕ → Type 0) → List ℕ → Option (List ℕ) → Option (List ℕ) → Option (List ℕ) → Type 0
+abbrev pub AnswersAll : (List ℕ → List ℕ → Type 0) → List ℕ → Option (List ℕ) → Option (List ℕ)
+    → Option (List ℕ) → Type 0
 AnswersAll Said input left old new = WritesAnswers Said old new (lines input) × (left ≡ Some [])
 
--- whole lines were taken from the input, and each was answered; then the run broke off, in the next line or before it
-abbrev pub AnswersSome : (List ℕ → List ℕ → Type 0) → List ℕ → Option (List ℕ) → Option (List ℕ) → Option (List ℕ) → Type 0
-AnswersSome Said input left old new = (mid : List ℕ) × (now : Option (List ℕ)) × HasAnswered Said input (Some mid) old now × BreaksOff Said mid left now new
+-- whole lines were taken from the input, and each was answered; then the run broke off, in the next
+-- line or before it
+abbrev pub AnswersSome : (List ℕ → List ℕ → Type 0) → List ℕ → Option (List ℕ) → Option (List ℕ)
+    → Option (List ℕ) → Type 0
+AnswersSome Said input left old new = (mid : List ℕ) × (now : Option (List ℕ))
+    × HasAnswered Said input (Some mid) old now × BreaksOff Said mid left now new

@@ -1,9 +1,11 @@
 //! What the program says of a line.
 
-ghost use Rattle.std.specs.Prelude.{◌≡◌, ◌≢◌, ◌++◌, ◌∷◌, [], ℕ, List, map, codes, OnOk, IfOk, IfErr};
+ghost use Rattle.std.specs.Prelude.{◌≡◌, ◌≢◌, ◌++◌, ◌∷◌, [], ℕ, List, map, codes, OnOk, IfOk};
+ghost use Rattle.std.specs.Prelude.{IfErr};
 ghost use Rattle.hex.specs.Hex.{encode_lower};
 ghost use Rattle.serde_ipld_dagcbor.specs.Cid.{cid_bytes};
-ghost use Rattle.dagcbor_tool.specs.Answers.{kind_name, variant_name, links_text, IsVerdict, IsLinkLine, IsSaid, IsAnswer};
+ghost use Rattle.dagcbor_tool.specs.Answers.{kind_name, variant_name, links_text, IsVerdict};
+ghost use Rattle.dagcbor_tool.specs.Answers.{IsLinkLine, IsSaid, IsAnswer};
 
 use crate::command::Command;
 use crate::line::ToolError;

@@ -1,7 +1,8 @@
 //! A run of a command: each line of the input is answered by a line of the output.
 
 ghost use Rattle.std.specs.Prelude.{MatchResult, MatchBool, IfSome, OnOk, OnErr};
-ghost use Rattle.dagcbor_tool.specs.Answers.{IsAnswer, AnswersOne, FindsNone, BreaksOff, AnswersAll, AnswersSome};
+ghost use Rattle.dagcbor_tool.specs.Answers.{IsAnswer, AnswersOne, FindsNone, BreaksOff};
+ghost use Rattle.dagcbor_tool.specs.Answers.{AnswersAll, AnswersSome};
 
 use crate::answer::answer_of;
 use crate::command::Command;

@@ -30,6 +30,7 @@ Refused Cause (Write e) = ⊥
 Refused Cause OutOfMemory = ⊤
 
 -- what was handed over was taken into memory, or refused
-abbrev pub Collects : {T E : Type 0} → (T → Type 0) → (List ℕ → Type 0) → Result T (EncodeError E) → Type 0
+abbrev pub Collects : {T E : Type 0} → (T → Type 0) → (List ℕ → Type 0) → Result T (EncodeError E)
+    → Type 0
 Collects Taken Cause (Ok x) = Taken x
 Collects Taken Cause (Err e) = Refused Cause e

@@ -33,7 +33,8 @@ bounded_left c = c.left
 abbrev pub SameLoan : {W : Type 0} → MutBor W → MutBor W → Type 0
 SameLoan old new = new.ghost_name ≡ old.ghost_name
 
--- A collector begins with the serializer, or the head was refused: then the serializer rests as that left it.
+-- A collector begins with the serializer, or the head was refused: then the serializer rests as
+-- that left it.
 module _ (W : RattleType) (written : W.Denot → Written) {C E : Type 0} (lent : C → MutBor W.Denot) where
   abbrev pub BeginsOrStops : MutBor W.Denot → Option (List ℕ) → Result C (EncodeError E) → Fml
   BeginsOrStops ser head r = RestsIfErr (the_row W) ser (λ c. (lent c).ghost_name) r (λ new. IfErr r (Stops head (written ser.now) (written new)))

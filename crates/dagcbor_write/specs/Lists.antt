@@ -1,5 +1,6 @@
 -- What the collector of a list holds and does.
-use Rattle.std.specs.Prelude.{◌≡◌, ℕ, ◌+◌, ◌<◌, List, [], Option, None, Some, Result, OnErr, codes, ⊤}
+use Rattle.std.specs.Prelude.{◌≡◌, ℕ, ◌+◌, ◌<◌, List, [], Option, None, Some, Result, OnErr, codes}
+use Rattle.std.specs.Prelude.{⊤}
 use Rattle.std.specs.Fmt.{◌++?◌}
 use Rattle.dagcbor_heads.specs.declared.error.EncodeError.{EncodeError}
 use Rattle.dagcbor_heads.specs.Written.{Written, Writes}
@@ -36,9 +37,12 @@ abbrev pub IsComplete : Items → Type 0
 IsComplete (Announced left) = left ≡ 0
 IsComplete (Waits b) = ⊤
 
--- an item went out, or joined those that wait, and nothing went out; those that wait stay after a refusal
-abbrev pub TakesElement : {T E : Type 0} → Option Tree → Items → Written → Items → Written → Result T (EncodeError E) → Type 0
-TakesElement tree (Announced left) s (Announced rest) t r = Writes (spelled_tree tree) s t r × (rest + 1 ≡ left)
+-- an item went out, or joined those that wait, and nothing went out; those that wait stay after a
+-- refusal
+abbrev pub TakesElement : {T E : Type 0} → Option Tree → Items → Written → Items → Written
+    → Result T (EncodeError E) → Type 0
+TakesElement tree (Announced left) s (Announced rest) t r = Writes (spelled_tree tree) s t r
+    × (rest + 1 ≡ left)
 TakesElement tree (Waits b) s (Waits d) t r =
     Collects (λ x. Grows tree b.bytes d.bytes × (d.count ≡ b.count + 1)) (NoSpelling (codes "List element cannot be serialized") tree) r × (t ≡ s) × OnErr r (d ≡ b)
 TakesElement tree (Announced left) s (Waits d) t r = ⊥

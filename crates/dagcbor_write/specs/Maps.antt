@@ -1,6 +1,9 @@
 -- What the collector of a map is given, holds and does.
-use Rattle.std.specs.Prelude.{◌≡◌, ◌⊎◌, ℕ, ◌/◌, Bool, true, false, ◌&&◌, is_none, nat_eq, IsTrue, List, [], ◌∷◌, ◌++◌, length, map, Option, None, Some, option_and_then, IfSome, IsSomeAnd, codes}
-use Rattle.ipld_tree.specs.Tree.{Tree, text, mapping, IsTree, key_of, all_some, pair_of, repeats_key, entries_tree}
+use Rattle.std.specs.Prelude.{◌≡◌, ◌⊎◌, ℕ, ◌/◌, Bool, true, false, ◌&&◌, is_none, nat_eq, IsTrue}
+use Rattle.std.specs.Prelude.{List, [], ◌∷◌, ◌++◌, length, map, Option, None, Some}
+use Rattle.std.specs.Prelude.{option_and_then, IfSome, IsSomeAnd, codes}
+use Rattle.ipld_tree.specs.Tree.{Tree, text, mapping, IsTree, key_of, all_some, pair_of}
+use Rattle.ipld_tree.specs.Tree.{repeats_key, entries_tree}
 use Rattle.ipld_tree.specs.Spelled.{spelled, spelled_entries, spelled_tree}
 use Rattle.dagcbor_write.specs.Pairwise.{Pairwise}
 use Rattle.dagcbor_write.specs.Trees.{Pair}
@@ -10,8 +13,8 @@ use Rattle.dagcbor_write.specs.Gathering.{NoSpelling}
 abbrev pub Texts : Type 0
 Texts = List ℕ × List ℕ
 
--- what a map was given before its end: the spellings of its entries, in the order given, that of a key that waits for
--- its value, and the number of entries, where the head of the map is out
+-- what a map was given before its end: the spellings of its entries, in the order given, that of a
+-- key that waits for its value, and the number of entries, where the head of the map is out
 pub record MapState : Type 0 where
   pub entries : List Texts
   pub key : Option (List ℕ)
@@ -42,7 +45,8 @@ spelled_key key = option_and_then (λ k. spelled (text k)) (option_and_then key_
 
 -- the causes of a key's message: it has no spelling, or is no text
 abbrev pub RefusesKey : Option Tree → List ℕ → Type 0
-RefusesKey key m = NoSpelling (codes "Map key cannot be serialized.") key m ⊎ ((m ≡ codes "Map keys must be strings") × (option_and_then key_of key ≡ None))
+RefusesKey key m = NoSpelling (codes "Map key cannot be serialized.") key m
+    ⊎ ((m ≡ codes "Map keys must be strings") × (option_and_then key_of key ≡ None))
 
 -- the cause of a value's message: it has no spelling
 abbrev pub RefusesValue : Option Tree → List ℕ → Type 0
@@ -88,7 +92,8 @@ abbrev pub entries_text : Option Tree → Option (List ℕ)
 entries_text (Some (mapping es)) = spelled_entries es
 entries_text o = None
 
--- what is still to be written of the map of the pairs: all of it, or what follows the head that was announced
+-- what is still to be written of the map of the pairs: all of it, or what follows the head that was
+-- announced
 abbrev pub map_rest : Option ℕ → List Pair → Option (List ℕ)
 map_rest None ps = spelled_tree (entries_tree ps)
 map_rest (Some n) ps = entries_text (entries_tree ps)

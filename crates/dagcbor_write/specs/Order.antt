@@ -1,5 +1,6 @@
 -- What putting the entries of a map into key order answers.
-use Rattle.std.specs.Prelude.{◌≡◌, ℕ, ◌+◌, ◌<◌, Bool, true, false, List, [], ◌∷◌, ◌++◌, Option, None, Some, length, slice_index_or, IsPermutation}
+use Rattle.std.specs.Prelude.{◌≡◌, ℕ, ◌+◌, ◌<◌, Bool, true, false, List, [], ◌∷◌, ◌++◌, Option}
+use Rattle.std.specs.Prelude.{None, Some, length, slice_index_or, IsPermutation}
 use Rattle.std.specs.List.Sorted.{IsSortedBy}
 use Rattle.std.specs.Ordering.{is_lt}
 use Rattle.ipld_tree.specs.Key.{bytes_cmp}
@@ -8,14 +9,17 @@ use Rattle.dagcbor_write.specs.Maps.{Texts}
 
 -- each key differs from the one before it, or one does not
 abbrev pub KeysDiffer : List Texts → Bool → Type 0
-KeysDiffer es true = (k : ℕ) (d : Texts) → k + 1 < length es → (slice_index_or es k d).0 ≡ (slice_index_or es (k + 1) d).0 → ⊥
-KeysDiffer es false = (k : ℕ) × (k + 1 < length es) × ((d : Texts) → (slice_index_or es k d).0 ≡ (slice_index_or es (k + 1) d).0)
+KeysDiffer es true = (k : ℕ) (d : Texts) → k + 1 < length es
+    → (slice_index_or es k d).0 ≡ (slice_index_or es (k + 1) d).0 → ⊥
+KeysDiffer es false = (k : ℕ) × (k + 1 < length es)
+    × ((d : Texts) → (slice_index_or es k d).0 ≡ (slice_index_or es (k + 1) d).0)
 
 -- whether an entry's bytes, key and value together, stand before another's
 abbrev pub goes_before : Texts → Texts → Bool
 goes_before d e = is_lt (bytes_cmp (d.0 ++ d.1) (e.0 ++ e.1))
 
--- the entries were put in the order of their bytes, and whether each key differs from the one before it
+-- the entries were put in the order of their bytes, and whether each key differs from the one
+-- before it
 abbrev pub PutsInOrder : List Texts → List Texts → Bool → Type 0
 PutsInOrder old new b = IsPermutation old new × IsSortedBy goes_before new × KeysDiffer new b
 

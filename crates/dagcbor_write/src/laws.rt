@@ -2,7 +2,8 @@
 
 ghost use Rattle.dagcbor_write.specs.Laws.{OrderUnseen};
 
-/// Entries that come in another order have the same tree, and so the same spelling: a hashed map's walk does not show.
+/// Entries that come in another order have the same tree, and so the same spelling: a hashed map's
+/// walk does not show.
 pub fn order_unseen()
     ensures { OrderUnseen }
 {}

@@ -14,8 +14,8 @@ pub trait Serialize {
     /// The value's tree. None where it has none, as a map whose key is a number.
     ghost tree: { Self → Option Tree };
 
-    /// Appends the spelling of the value's tree. Refused with `Msg` only where there is none. After a refusal of a value
-    /// with a spelling a beginning of it may have gone out.
+    /// Appends the spelling of the value's tree. Refused with `Msg` only where there is none. After
+    /// a refusal of a value with a spelling a beginning of it may have gone out.
     fn serialize<W: Write>(
         &self,
         alloc: Global,

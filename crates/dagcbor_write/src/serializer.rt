@@ -150,7 +150,8 @@ impl<W: Write> Serializer<W> {
         push_head(&mut self.writer, 0, v)
     }
 
-    /// A head of major type 0. Above 2^64 - 1 refused with `Msg("Unsigned integer must be within [0, u64::MAX] range")`.
+    /// A head of major type 0. Above 2^64 - 1 refused with `Msg("Unsigned integer must be within
+    /// [0, u64::MAX] range")`.
     #[tactic(auto, unfolding(ipld_tree::specs::Spelled::spelled))]
     pub fn serialize_u128(&mut self, v: u128) -> Result<(), EncodeError<W::Error>>
         ensures written { Writes (spelled (integer (pos v))) (W.written self.old) (W.written self.new) result }
@@ -219,7 +220,8 @@ impl<W: Write> Serializer<W> {
         self.serialize_unit()
     }
 
-    /// d8 2a, a head of major type 2, a zero byte and the binary form. Each CID has a spelling, so `Msg` is never answered.
+    /// d8 2a, a head of major type 2, a zero byte and the binary form. Each CID has a spelling, so
+    /// `Msg` is never answered.
     pub fn serialize_cid(&mut self, cid: &Cid) -> Result<(), EncodeError<W::Error>>
         ensures written { Writes (spelled (link (cid_bytes cid.now))) (W.written self.old) (W.written self.new) result }
         ensures memory { WantsMemoryOnlyIf W.takes_memory result }

@@ -2,7 +2,8 @@
 
 ghost use Rattle.std.specs.Prelude.{◌≡◌, ◌⊎◌, IfOk, IfErr};
 ghost use Rattle.dagcbor_heads.specs.declared.error.EncodeError.TheVariants.{OutOfMemory};
-ghost use Rattle.dagcbor_write.specs.Answers.{HasNoSpelling, AreSpellingOf, GrewBySpelling, GrewByFront, IsWriteExcuse};
+ghost use Rattle.dagcbor_write.specs.Answers.{HasNoSpelling, AreSpellingOf, GrewBySpelling};
+ghost use Rattle.dagcbor_write.specs.Answers.{GrewByFront, IsWriteExcuse};
 
 use crate::serialize::Serialize;
 use crate::serializer::Serializer;
@@ -11,7 +12,8 @@ use std::alloc::Global;
 use std::convert::Infallible;
 use std::io;
 
-/// The one spelling of the value's tree. Refused with `Msg` only where it has none, as an integer outside
+/// The one spelling of the value's tree. Refused with `Msg` only where it has none, as an integer
+/// outside
 /// -2^64 to 2^64 - 1 has none.
 pub fn to_vec<T: Serialize>(alloc: Global, value: &T) -> Result<Vec<u8>, EncodeError<Infallible>>
     ensures value { IfOk result (λ v. AreSpellingOf (T.tree value.now) v.items) }
@@ -22,8 +24,9 @@ pub fn to_vec<T: Serialize>(alloc: Global, value: &T) -> Result<Vec<u8>, EncodeE
     Ok(ser.into_inner().into_inner())
 }
 
-/// Writes the one spelling of the value's tree to the device. Refused with `Msg` as `to_vec`. After a refusal the device
-/// holds what it held before, and behind it some bytes: of a value with a spelling a beginning of that.
+/// Writes the one spelling of the value's tree to the device. Refused with `Msg` as `to_vec`. After
+/// a refusal the device holds what it held before, and behind it some bytes: of a value with a
+/// spelling a beginning of that.
 pub fn to_writer<W: io::Write, T: Serialize>(
     alloc: Global,
     writer: &mut W,

@@ -1,5 +1,6 @@
 -- The binary form of a CID, versions 0 and 1 (CID specification), with digests of at most 64 bytes.
-use Rattle.std.specs.Prelude.{◌≡◌, ℕ, zero, suc, ◌+◌, ◌/◌, ◌%◌, ◌^◌, ◌<◌, ◌≤◌, List, [], ◌∷◌, ◌++◌, length, if◌then◌else◌, nat_lt, ◌==◌, ◌⊎◌}
+use Rattle.std.specs.Prelude.{◌≡◌, ℕ, zero, suc, ◌+◌, ◌/◌, ◌%◌, ◌^◌, ◌<◌, ◌≤◌, List, [], ◌∷◌, ◌++◌}
+use Rattle.std.specs.Prelude.{length, if◌then◌else◌, nat_lt, ◌==◌, ◌⊎◌}
 use Rattle.std.specs.declared.cmp.Ordering.{Ordering}
 use Rattle.std.specs.Ordering.{nat_cmp, on, then_cmp}
 use Rattle.std.specs.Cmp.Lexicographic.{slice_cmp}
@@ -28,7 +29,8 @@ abbrev pub IsVersion0 : CidParts → Type 0
 IsVersion0 c = (c.version ≡ 0) × (c.codec ≡ 0x70) × (c.hash_code ≡ 0x12) × (length c.digest ≡ 32)
 
 abbrev pub IsVersion1 : CidParts → Type 0
-IsVersion1 c = (c.version ≡ 1) × (c.codec < 2 ^ 64) × (c.hash_code < 2 ^ 64) × (length c.digest ≤ 64)
+IsVersion1 c = (c.version ≡ 1) × (c.codec < 2 ^ 64) × (c.hash_code < 2 ^ 64)
+    × (length c.digest ≤ 64)
 
 abbrev pub AreCidParts : CidParts → Type 0
 AreCidParts c = IsVersion0 c ⊎ IsVersion1 c

@@ -1,13 +1,17 @@
 -- Why bytes are no CID: the first fault from the front (CID specification, decoding).
-use Rattle.std.specs.Prelude.{◌≡◌, ◌≢◌, ℕ, ◌^◌, ◌<◌, ◌≤◌, ◌⊎◌, List, [], ◌∷◌, ◌++◌, length, Result, MatchResult}
+use Rattle.std.specs.Prelude.{◌≡◌, ◌≢◌, ℕ, ◌^◌, ◌<◌, ◌≤◌, ◌⊎◌, List, [], ◌∷◌, ◌++◌, length, Result}
+use Rattle.std.specs.Prelude.{MatchResult}
 use Rattle.std.specs.List.{AllByRecursion, flat_map}
 use Rattle.ipld_tree.specs.Cid.{varint, CidParts, AreCidParts, cid_bytes, IsCid}
 use Rattle.ipld_tree.specs.declared.cid_error.CidError.{CidError}
-use Rattle.ipld_tree.specs.declared.cid_error.CidError.TheVariants.{InvalidVersion, InvalidVarint, DigestTooLong, Truncated, TrailingBytes}
+use Rattle.ipld_tree.specs.declared.cid_error.CidError.TheVariants.{InvalidVersion, InvalidVarint}
+use Rattle.ipld_tree.specs.declared.cid_error.CidError.TheVariants.{DigestTooLong, Truncated}
+use Rattle.ipld_tree.specs.declared.cid_error.CidError.TheVariants.{TrailingBytes}
 
 -- the bytes end inside a varint
 abbrev pub IsCutVarint : List ℕ → Type 0
-IsCutVarint b = (n : ℕ) × (more : List ℕ) × (n < 2 ^ 64) × (0 < length more) × (b ++ more ≡ varint n)
+IsCutVarint b = (n : ℕ) × (more : List ℕ) × (n < 2 ^ 64) × (0 < length more)
+    × (b ++ more ≡ varint n)
 
 -- no varint of a number below 2 ^ 64 stands there, whatever follows
 abbrev pub IsNoVarint : List ℕ → Type 0
@@ -30,11 +34,13 @@ AtVarint b P = (fields rest : List ℕ) × HasCidFields b fields rest × (length
 
 -- P holds of the length of the digest and the bytes behind it
 abbrev pub AtDigest : List ℕ → (ℕ → List ℕ → Type 0) → Type 0
-AtDigest b P = (codec hash_code n : ℕ) × (rest : List ℕ) × HasCidFields b (codec ∷ hash_code ∷ n ∷ []) rest × P n rest
+AtDigest b P = (codec hash_code n : ℕ) × (rest : List ℕ)
+    × HasCidFields b (codec ∷ hash_code ∷ n ∷ []) rest × P n rest
 
 -- the fault stands in the bytes
 abbrev pub IsFault : CidError → List ℕ → Type 0
-IsFault InvalidVersion b = (first : ℕ) × (rest : List ℕ) × (b ≡ first ∷ rest) × (first ≢ 0x01) × ((digest : List ℕ) → length digest ≡ 32 → b ≢ 0x12 ∷ 0x20 ∷ digest)
+IsFault InvalidVersion b = (first : ℕ) × (rest : List ℕ) × (b ≡ first ∷ rest) × (first ≢ 0x01)
+    × ((digest : List ℕ) → length digest ≡ 32 → b ≢ 0x12 ∷ 0x20 ∷ digest)
 IsFault InvalidVarint b = AtVarint b IsNoVarint
 IsFault DigestTooLong b = AtDigest b (λ n rest. 64 < n)
 IsFault Truncated b = (b ≡ []) ⊎ (AtVarint b IsCutVarint ⊎ AtDigest b (λ n rest. (n ≤ 64) × (length rest < n)))
@@ -48,4 +54,5 @@ ReadsBinaryCid b result = MatchResult result
 
 -- At most one fault stands in bytes, and none in a CID.
 abbrev pub CidFaultsAreUnique : Type 0
-CidFaultsAreUnique = (b : List ℕ) (e : CidError) → IsFault e b → (IsCid b → ⊥) × ((f : CidError) → IsFault f b → e ≡ f)
+CidFaultsAreUnique = (b : List ℕ) (e : CidError) → IsFault e b → (IsCid b → ⊥)
+    × ((f : CidError) → IsFault f b → e ≡ f)

@@ -37,5 +37,6 @@ is_equal Equal x = refl
 is_equal Greater x = absurd (true≢false (sym x))
 
 -- equal CIDs hand over the same
-pub hashes_alike : (c d : CidParts) → eq_by_cmp cid_cmp c d ≡ true → cid_hash_input c ≡ cid_hash_input d
+pub hashes_alike : (c d : CidParts) → eq_by_cmp cid_cmp c d ≡ true
+    → cid_hash_input c ≡ cid_hash_input d
 hashes_alike c d h = ap cid_hash_input (same_cid c d (is_equal (cid_cmp c d) h))

@@ -1,4 +1,5 @@
--- The order of a map's keys (DAG-CBOR specification, strictness): the shorter first, and keys of one length by their bytes.
+-- The order of a map's keys (DAG-CBOR specification, strictness): the shorter first, and keys of
+-- one length by their bytes.
 use Rattle.std.specs.Prelude.{ℕ, Bool, List, length}
 use Rattle.std.specs.declared.cmp.Ordering.{Ordering}
 use Rattle.std.specs.Ordering.{nat_cmp, ordering_then, is_lt}

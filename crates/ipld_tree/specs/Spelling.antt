@@ -1,7 +1,11 @@
--- The one spelling of a tree in DAG-CBOR (DAG-CBOR specification, strictness), item by item as in RFC 8949, section 3.
-use Rattle.std.specs.Prelude.{◌≡◌, ℕ, suc, ℤ, pos, negsuc, ◌+◌, ◌^◌, ◌<◌, Bool, true, false, List, [], ◌∷◌, ◌++◌, length, ⊤}
+-- The one spelling of a tree in DAG-CBOR (DAG-CBOR specification, strictness), item by item as in
+-- RFC 8949, section 3.
+use Rattle.std.specs.Prelude.{◌≡◌, ℕ, suc, ℤ, pos, negsuc, ◌+◌, ◌^◌, ◌<◌, Bool, true, false, List}
+use Rattle.std.specs.Prelude.{[], ◌∷◌, ◌++◌, length, ⊤}
 use Rattle.dagcbor_heads.specs.Head.{head}
-use Rattle.ipld_tree.specs.Tree.{Tree, null, boolean, integer, text, bytes, list, mapping, link, Items, no_items, item, Entries, no_entries, entry, IsTree, AreItems, AreEntries}
+use Rattle.ipld_tree.specs.Tree.{Tree, null, boolean, integer, text, bytes, list, mapping, link}
+use Rattle.ipld_tree.specs.Tree.{Items, no_items, item, Entries, no_entries, entry, IsTree}
+use Rattle.ipld_tree.specs.Tree.{AreItems, AreEntries}
 
 abbrev pub item_count : Items → ℕ
 item_count no_items = 0
@@ -50,7 +54,8 @@ bytes_spelling s = head 2 (length s) ++ s
 abbrev pub text_spelling : List ℕ → List ℕ
 text_spelling s = head 3 (length s) ++ s
 
--- null, false and true are the only simple values; a link is tag 42 before a zero byte and its CID (DAG-CBOR specification, links)
+-- null, false and true are the only simple values; a link is tag 42 before a zero byte and its CID
+-- (DAG-CBOR specification, links)
 abbrev mutual
   pub spelling : Tree → List ℕ
   spelling null = 0xf6 ∷ []

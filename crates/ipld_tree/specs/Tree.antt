@@ -1,5 +1,7 @@
 -- The data of DAG-CBOR, without floats (DAG-CBOR specification: the IPLD data model).
-use Rattle.std.specs.Prelude.{ℕ, ℤ, ◌+◌, max, Bool, false, ◌||◌, List, [], ◌∷◌, ◌++◌, Option, Some, None, option_map, option_and_then, map, if◌then◌else◌, IsUtf8, IsTrue, ⊤}
+use Rattle.std.specs.Prelude.{ℕ, ℤ, ◌+◌, max, Bool, false, ◌||◌, List, [], ◌∷◌, ◌++◌, Option, Some}
+use Rattle.std.specs.Prelude.{None, option_map, option_and_then, map, if◌then◌else◌, IsUtf8}
+use Rattle.std.specs.Prelude.{IsTrue, ⊤}
 use Rattle.std.specs.Ordering.{is_eq}
 use Rattle.ipld_tree.specs.Key.{key_cmp, comes_before}
 use Rattle.ipld_tree.specs.Cid.{IsCid}
@@ -112,7 +114,8 @@ entries_tree ps = option_and_then map_tree (all_some (map pair_of ps))
 
 -- ---- depth and links
 
--- The steps that an untyped read takes: 1 for a leaf, 2 and the greatest need inside for a list or a map.
+-- The steps that an untyped read takes: 1 for a leaf, 2 and the greatest need inside for a list or
+-- a map.
 abbrev mutual
   pub any_need : Tree → ℕ
   any_need null = 1

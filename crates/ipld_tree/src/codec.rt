@@ -1,7 +1,8 @@
 //! Codecs: how values of a type are written as bytes and read back.
 
 ghost use Rattle.std.specs.Prelude.{ℕ, List, Option, Some};
-ghost use Rattle.ipld_tree.specs.Codecs.{Decodes, Encodes, EncodesAsVec, EncodingsAreUnique, DataHasOneEncoding};
+ghost use Rattle.ipld_tree.specs.Codecs.{Decodes, Encodes, EncodesAsVec, EncodingsAreUnique};
+ghost use Rattle.ipld_tree.specs.Codecs.{DataHasOneEncoding};
 
 use std::alloc::Global;
 use std::io::{BufRead, Write};

@@ -1,6 +1,7 @@
 //! Laws of the definitions, each the contract of a function that does nothing.
 
-ghost use Rattle.ipld_tree.specs.Laws.{SpellingsAreUnique, SpelledKeysKeepTheirOrder, EqualityIsOfTrees, CidEqualityIsOfBytes};
+ghost use Rattle.ipld_tree.specs.Laws.{SpellingsAreUnique, SpelledKeysKeepTheirOrder};
+ghost use Rattle.ipld_tree.specs.Laws.{EqualityIsOfTrees, CidEqualityIsOfBytes};
 ghost use Rattle.ipld_tree.specs.CidFault.{CidFaultsAreUnique};
 ghost use Rattle.ipld_tree.specs.Spelled.{SpelledIsTheSpelling};
 

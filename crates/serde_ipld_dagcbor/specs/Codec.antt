@@ -1,6 +1,7 @@
 -- What DAG-CBOR is as a codec: bytes are tied to trees by their spelling.
 use Rattle.std.proofs.Common.{sym, ◌∙◌, ap}
-use Rattle.std.specs.Prelude.{◌≡◌, ◌⊎◌, ℕ, ◌≤◌, List, [], Option, Some, IfSome, IfErr, Result, Vec, ⊤}
+use Rattle.std.specs.Prelude.{◌≡◌, ◌⊎◌, ℕ, ◌≤◌, List, [], Option, Some, IfSome, IfErr, Result, Vec}
+use Rattle.std.specs.Prelude.{⊤}
 use Rattle.std.specs.declared.alloc.Global.{Global}
 use Rattle.dagcbor_heads.specs.declared.error.DecodeError.{DecodeError}
 use Rattle.dagcbor_heads.specs.declared.error.DecodeError.TheVariants as unread
@@ -16,7 +17,8 @@ use Rattle.dagcbor_write.specs.Answers.{HasNoSpelling, GrewByFront, IsWriteExcus
 use Rattle.dagcbor_read.specs.Whole.{HoldsNoValue, IsReadExcuse, OfWhole}
 use Rattle.dagcbor_read.specs.AllLinks.{AreFirstLinks, LinksRefused}
 use Rattle.serde_ipld_dagcbor.specs.declared.error.CodecError.{CodecError}
-use Rattle.serde_ipld_dagcbor.specs.declared.error.CodecError.TheVariants.{Decode, Encode, DecodeIo, EncodeIo}
+use Rattle.serde_ipld_dagcbor.specs.declared.error.CodecError.TheVariants.{Decode, Encode}
+use Rattle.serde_ipld_dagcbor.specs.declared.error.CodecError.TheVariants.{DecodeIo, EncodeIo}
 use Rattle.dagcbor_read.specs.Shapes.{Shape}
 use Rattle.dagcbor_heads.specs.Reading.{default_steps}
 
@@ -37,18 +39,22 @@ IsExcuse (EncodeIo e) = IsWriteExcuse e
 
 -- why a source's bytes, where they are known, are not read
 abbrev pub NotDecoded : {V : Type 0} → Shape Tree V → Option (List ℕ) → CodecError → Type 0
-NotDecoded shape left (DecodeIo e) = (IsReadExcuse e ⊎ IfSome left (HoldsNoValue shape default_steps)) × OfWhole e
+NotDecoded shape left (DecodeIo e) = (IsReadExcuse e ⊎ IfSome left (HoldsNoValue shape default_steps))
+    × OfWhole e
 NotDecoded shape left _ = ⊥
 
-abbrev pub DecodeRefused : {T V : Type 0} → Shape Tree V → Option (List ℕ) → Result T CodecError → Type 0
+abbrev pub DecodeRefused : {T V : Type 0} → Shape Tree V → Option (List ℕ) → Result T CodecError
+    → Type 0
 DecodeRefused shape left result = IfErr result (NotDecoded shape left)
 
 -- why a value is not sent to a device, and what went out
 abbrev pub NotEncoded : Option Tree → Option (List ℕ) → Option (List ℕ) → CodecError → Type 0
-NotEncoded tree old new (EncodeIo e) = (IsWriteExcuse e ⊎ HasNoSpelling tree) × GrewByFront tree old new
+NotEncoded tree old new (EncodeIo e) = (IsWriteExcuse e ⊎ HasNoSpelling tree)
+    × GrewByFront tree old new
 NotEncoded tree old new _ = ⊥
 
-abbrev pub EncodeRefused : Option Tree → Option (List ℕ) → Result (Unit {0}) CodecError → Option (List ℕ) → Type 0
+abbrev pub EncodeRefused : Option Tree → Option (List ℕ) → Result (Unit {0}) CodecError
+    → Option (List ℕ) → Type 0
 EncodeRefused tree old result new = IfErr result (NotEncoded tree old new)
 
 -- why a value is not written

@@ -1,5 +1,6 @@
 -- Reading and writing undo each other, want of memory aside.
-use Rattle.std.specs.Prelude.{◌≡◌, ◌⊎◌, ℕ, ◌≤◌, List, Option, Some, Result, Ok, Err, MatchResult, Vec, ⊤}
+use Rattle.std.specs.Prelude.{◌≡◌, ◌⊎◌, ℕ, ◌≤◌, List, Option, Some, Result, Ok, Err, MatchResult}
+use Rattle.std.specs.Prelude.{Vec, ⊤}
 use Rattle.std.specs.declared.alloc.Global.{Global}
 use Rattle.std.specs.declared.convert.Infallible.{Infallible}
 use Rattle.dagcbor_heads.specs.declared.error.DecodeError.{DecodeError}
@@ -21,7 +22,8 @@ IsWritten tree written = MatchResult written
     (λ e. (e ≡ unwritten.OutOfMemory) ⊎ HasNoSpelling tree)
 
 -- what `from_slice` says of its answer
-abbrev pub IsRead : {T V : Type 0} → (T → V) → Shape Tree V → List ℕ → Result T (DecodeError Infallible) → Type 0
+abbrev pub IsRead : {T V : Type 0} → (T → V) → Shape Tree V → List ℕ
+    → Result T (DecodeError Infallible) → Type 0
 IsRead held shape b read = MatchResult read
     (λ v. IsWhole shape default_steps b (held v))
     (λ e. (IsReadExcuse e ⊎ HoldsNoValue shape default_steps b) × OfWhole e)
@@ -32,15 +34,20 @@ IsWrittenBack b (Ok v) = v.items ≡ b
 IsWrittenBack b (Err unwritten.OutOfMemory) = ⊤
 IsWrittenBack b (Err _) = ⊥
 
--- What was read of bytes is written as the same bytes, where its tree is the one that it was read from.
-abbrev pub TypedReadThenWritten : {T V : Type 0} → (T → V) → Shape Tree V → (T → Option Tree) → Type 0
-TypedReadThenWritten {T} held shape tree = (b : List ℕ) (value : T) (written : Result (Vec ℕ Global) (EncodeError Infallible)) → ((t : Tree) → shape.view t ≡ Some (held value) → tree value ≡ Some t)
-    → IsWhole shape default_steps b (held value) → IsWritten (tree value) written → IsWrittenBack b written
+-- What was read of bytes is written as the same bytes, where its tree is the one that it was read
+-- from.
+abbrev pub TypedReadThenWritten : {T V : Type 0} → (T → V) → Shape Tree V → (T → Option Tree)
+    → Type 0
+TypedReadThenWritten {T} held shape tree = (b : List ℕ) (value : T) (written : Result (Vec ℕ Global) (EncodeError Infallible))
+    → ((t : Tree) → shape.view t ≡ Some (held value) → tree value ≡ Some t)
+    → IsWhole shape default_steps b (held value) → IsWritten (tree value) written
+    → IsWrittenBack b written
 
 -- What was read of bytes is written as the same bytes.
 abbrev pub ReadThenWritten : Type 0
 ReadThenWritten = (b : List ℕ) (value : Ipld) (written : Result (Vec ℕ Global) (EncodeError Infallible))
-    → IsWhole any_tree default_steps b (tree_of value) → IsWritten (Some (tree_of value)) written → IsWrittenBack b written
+    → IsWhole any_tree default_steps b (tree_of value) → IsWritten (Some (tree_of value)) written
+    → IsWrittenBack b written
 
 -- a value that holds this was read, or memory was wanting
 abbrev pub IsReadBack : {T V : Type 0} → (T → V) → V → Result T (DecodeError Infallible) → Type 0
@@ -48,12 +55,16 @@ IsReadBack held x (Ok copy) = held copy ≡ x
 IsReadBack held x (Err unread.OutOfMemory) = ⊤
 IsReadBack held x (Err _) = ⊥
 
--- What was written of a value is read as what its tree shows to the type, where the need is within the steps.
-abbrev pub TypedWrittenThenRead : {T V : Type 0} → (T → V) → Shape Tree V → (T → Option Tree) → Type 0
-TypedWrittenThenRead {T} {V} held shape tree = (value : T) (t : Tree) (x : V) (v : Vec ℕ Global) (read : Result T (DecodeError Infallible)) → tree value ≡ Some t → shape.view t ≡ Some x → shape.need t ≤ default_steps
+-- What was written of a value is read as what its tree shows to the type, where the need is within
+-- the steps.
+abbrev pub TypedWrittenThenRead : {T V : Type 0} → (T → V) → Shape Tree V → (T → Option Tree)
+    → Type 0
+TypedWrittenThenRead {T} {V} held shape tree = (value : T) (t : Tree) (x : V) (v : Vec ℕ Global) (read : Result T (DecodeError Infallible))
+    → tree value ≡ Some t → shape.view t ≡ Some x → shape.need t ≤ default_steps
     → AreSpellingOf (tree value) v.items → IsRead held shape v.items read → IsReadBack held x read
 
 -- What was written of a value is read as its tree, where the need is within the steps.
 abbrev pub WrittenThenRead : Type 0
 WrittenThenRead = (value : Ipld) (v : Vec ℕ Global) (read : Result Ipld (DecodeError Infallible))
-    → AreSpellingOf (Some (tree_of value)) v.items → any_need (tree_of value) ≤ default_steps → IsRead tree_of any_tree v.items read → IsReadBack tree_of (tree_of value) read
+    → AreSpellingOf (Some (tree_of value)) v.items → any_need (tree_of value) ≤ default_steps
+    → IsRead tree_of any_tree v.items read → IsReadBack tree_of (tree_of value) read

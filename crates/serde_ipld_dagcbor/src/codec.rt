@@ -5,7 +5,10 @@ ghost use Rattle.ipld_tree.specs.Codecs.{Decodes, Encodes, EncodesAsVec, FindsLi
 ghost use Rattle.ipld_tree.specs.Tree.{Tree};
 ghost use Rattle.ipld_tree.specs.Spelling.{IsSpelling};
 ghost use Rattle.dagcbor_read.specs.AllLinks.{AreFirstLinks};
-ghost use Rattle.serde_ipld_dagcbor.specs.Codec.{IsReadAs, IsExcuse, DecodeRefused, EncodeRefused, EncodeToVecRefused, LinksNotFound, spellings_are_unique, trees_have_one_spelling, bytes_have_one_list};
+ghost use Rattle.serde_ipld_dagcbor.specs.Codec.{IsReadAs, IsExcuse, DecodeRefused, EncodeRefused};
+ghost use Rattle.serde_ipld_dagcbor.specs.Codec.{EncodeToVecRefused, LinksNotFound};
+ghost use Rattle.serde_ipld_dagcbor.specs.Codec.{spellings_are_unique, trees_have_one_spelling};
+ghost use Rattle.serde_ipld_dagcbor.specs.Codec.{bytes_have_one_list};
 
 use crate::DAG_CBOR_CODE;
 use crate::error::CodecError;

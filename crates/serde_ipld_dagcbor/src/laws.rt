@@ -1,6 +1,8 @@
-//! Laws, each the contract of a function that does nothing: those of the grammar, those of streams, and those of reading and writing.
+//! Laws, each the contract of a function that does nothing: those of the grammar, those of streams,
+//! and those of reading and writing.
 
-ghost use Rattle.serde_ipld_dagcbor.specs.RoundTrips.{ReadThenWritten, TypedReadThenWritten, WrittenThenRead, TypedWrittenThenRead};
+ghost use Rattle.serde_ipld_dagcbor.specs.RoundTrips.{ReadThenWritten, TypedReadThenWritten};
+ghost use Rattle.serde_ipld_dagcbor.specs.RoundTrips.{WrittenThenRead, TypedWrittenThenRead};
 
 use dagcbor_read::Deserialize;
 pub use dagcbor_read::laws::{stream_unique, streams_exact};

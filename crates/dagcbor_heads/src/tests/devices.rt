@@ -1,4 +1,5 @@
-//! Devices of std: a source that shows little a fill, and a sink that takes little a call. Each is interrupted once.
+//! Devices of std: a source that shows little a fill, and a sink that takes little a call. Each is
+//! interrupted once.
 
 use std::alloc::Global;
 use std::io;

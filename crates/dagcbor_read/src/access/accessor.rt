@@ -14,8 +14,9 @@ use dagcbor_heads::{DecodeError, Name, Read};
 use std::alloc::{AllocError, Global};
 use std::borrow::CowStr;
 
-/// A list or map that was begun, and what is left of it. It holds no `Deserializer`: each call is given the one on which
-/// it was begun. Dropped before its end, the rest stays unread, and its steps stay spent.
+/// A list or map that was begun, and what is left of it. It holds no `Deserializer`: each call is
+/// given the one on which it was begun. Dropped before its end, the rest stays unread, and its
+/// steps stay spent.
 #[derive(Drop)]
 pub struct Accessor<'de> {
     name: Name,
@@ -50,7 +51,9 @@ pub(crate) fn give_back<R: Read>(reader: &mut R, steps: usize)
 }
 
 impl<'de> Accessor<'de> {
-    ghost use Rattle.dagcbor_read.specs.Accessors.{accessor_state, fresh, ReadsElement, after_element, ReadsNextKey, after_key, after_value, with_value, EndsItems};
+    ghost use Rattle.dagcbor_read.specs.Accessors.{accessor_state, fresh, ReadsElement};
+    ghost use Rattle.dagcbor_read.specs.Accessors.{after_element, ReadsNextKey, after_key};
+    ghost use Rattle.dagcbor_read.specs.Accessors.{after_value, with_value, EndsItems};
 
     /// Nothing of it is read so far.
     pub(crate) fn new(name: Name, is_map: bool, announced: usize, steps: usize) -> Accessor<'de>

@@ -3,7 +3,9 @@
 ghost use Rattle.std.specs.Prelude.{◌≡◌, ◌↔◌, true, IfOk, IfErr, codes};
 ghost use Rattle.std.specs.Cow.{IsBorrowedStr};
 ghost use Rattle.dagcbor_read.specs.Calls.{progress, Call, AreOut, Over};
-ghost use Rattle.dagcbor_read.specs.Enums.{enum_state, BeginsEnum, SpendsEnum, ReadsName, IsOtherForm, EntersMap, EndsUnit, ReadsHeld, BeginsHeld, OfForm};
+ghost use Rattle.dagcbor_read.specs.Enums.{enum_state, BeginsEnum, SpendsEnum, ReadsName};
+ghost use Rattle.dagcbor_read.specs.Enums.{IsOtherForm, EntersMap, EndsUnit, ReadsHeld, BeginsHeld};
+ghost use Rattle.dagcbor_read.specs.Enums.{OfForm};
 ghost use Rattle.dagcbor_read.specs.Accessors.{OfBegin};
 ghost use Rattle.dagcbor_items.specs.Variants.{OfByte, OfText};
 
@@ -14,7 +16,8 @@ use dagcbor_heads::{DecodeError, Name, Read, peek_one, pull_one};
 use std::alloc::Global;
 use std::borrow::CowStr;
 
-/// An enum that was begun. It holds no `Deserializer`: each call is given the one on which it was begun. It is used once.
+/// An enum that was begun. It holds no `Deserializer`: each call is given the one on which it was
+/// begun. It is used once.
 #[derive(Drop)]
 pub struct EnumAccessor {
     first: u8,
@@ -22,7 +25,8 @@ pub struct EnumAccessor {
     steps: u8,
 }
 
-/// The form of the enum that begins here: the first byte of a text, which stays, or a1, which is taken.
+/// The form of the enum that begins here: the first byte of a text, which stays, or a1, which is
+/// taken.
 #[tactic(auto, using(dagcbor_items::proofs::Variants::end_byte))]
 fn pull_form<R: Read>(reader: &mut R) -> Result<EnumAccessor, DecodeError<R::Error>>
     ensures form { BeginsEnum (R.reading reader.old) result (R.reading reader.new) }
@@ -125,7 +129,8 @@ impl EnumAccessor {
         Ok(part)
     }
 
-    /// The list of what the variant holds, whose length is not looked at. Its end gives all steps back. Takes no memory.
+    /// The list of what the variant holds, whose length is not looked at. Its end gives all steps
+    /// back. Takes no memory.
     #[tactic(auto, using(crate::proofs::Entering::byte_begin))]
     pub fn tuple_variant<'de, R: Read>(
         self,
@@ -139,8 +144,8 @@ impl EnumAccessor {
         de.begin_items("tuple", 4, self.steps)
     }
 
-    /// The map of what the variant holds, whose fields' names are not looked at. Its end gives all steps back. Takes no
-    /// memory.
+    /// The map of what the variant holds, whose fields' names are not looked at. Its end gives all
+    /// steps back. Takes no memory.
     #[tactic(auto, using(crate::proofs::Entering::byte_begin))]
     pub fn struct_variant<'de, R: Read>(
         self,

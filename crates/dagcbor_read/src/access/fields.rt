@@ -1,13 +1,15 @@
 //! What the entries of a map make: the places of a struct, or a map.
 
-ghost use Rattle.std.specs.Prelude.{◌≡◌, ◌+◌, ◌≤◌, ℕ, List, [], Bool, Option, option_map, true, false, codes};
+ghost use Rattle.std.specs.Prelude.{◌≡◌, ◌+◌, ◌≤◌, ℕ, List, [], Bool, Option, option_map, true};
+ghost use Rattle.std.specs.Prelude.{false, codes};
 ghost use Rattle.ipld_tree.specs.Tree.{Tree, any_need};
 ghost use Rattle.dagcbor_items.specs.Shapes.{ignored};
 ghost use Rattle.dagcbor_read.specs.Calls.{progress, StaysFailed, Over};
 ghost use Rattle.dagcbor_read.specs.Values.{ReadsValue};
 ghost use Rattle.dagcbor_read.specs.Accessors.{accessor_state, HasHeadOf, BeginsItems};
 ghost use Rattle.dagcbor_read.specs.Parts.{RefusesToBegin};
-ghost use Rattle.dagcbor_read.specs.Collections.{FieldShape, fields_of, value_of, slot_of, ReadsEntriesLeft};
+ghost use Rattle.dagcbor_read.specs.Collections.{FieldShape, fields_of, value_of, slot_of};
+ghost use Rattle.dagcbor_read.specs.Collections.{ReadsEntriesLeft};
 ghost use Rattle.dagcbor_read.specs.Structs.{texts};
 
 use crate::access::accessor::Accessor;

@@ -1,6 +1,7 @@
 //! Structs, whose fields are read by their names.
 
-ghost use Rattle.std.specs.Prelude.{◌≡◌, ◌+◌, ℕ, List, Bool, Option, None, Some, option_map, MatchResult};
+ghost use Rattle.std.specs.Prelude.{◌≡◌, ◌+◌, ℕ, List, Bool, Option, None, Some, option_map};
+ghost use Rattle.std.specs.Prelude.{MatchResult};
 ghost use Rattle.std.specs.Option.{option_flatten};
 ghost use Rattle.dagcbor_heads.specs.declared.name.Name.{Name};
 ghost use Rattle.dagcbor_heads.specs.declared.error.DecodeError.TheVariants.{Msg};
@@ -11,7 +12,8 @@ ghost use Rattle.dagcbor_read.specs.Accessors.{HasHeadOf, BeginsItems};
 ghost use Rattle.dagcbor_read.specs.Parts.{RefusesToBegin};
 ghost use Rattle.dagcbor_read.specs.Enums.{enum_state, ReadsFieldsHeld};
 ghost use Rattle.dagcbor_read.specs.Collections.{FieldShape, value_of, struct_of};
-ghost use Rattle.dagcbor_read.specs.Structs.{texts, no_places, places, finish_required, finish_optional};
+ghost use Rattle.dagcbor_read.specs.Structs.{texts, no_places, places, finish_required};
+ghost use Rattle.dagcbor_read.specs.Structs.{finish_optional};
 
 use crate::access::enum_accessor::EnumAccessor;
 use crate::access::fields::{Fields, read_entries_left, read_into, skip_value};

@@ -1,7 +1,8 @@
 //! The types of other leaves.
 
 ghost use Rattle.std.specs.Prelude.{refl, ℕ, List, Bool, false, string_bytes};
-ghost use Rattle.dagcbor_items.specs.Shapes.{view_null, view_bool, view_char, view_text, view_bytes, leaf};
+ghost use Rattle.dagcbor_items.specs.Shapes.{view_null, view_bool, view_char, view_text};
+ghost use Rattle.dagcbor_items.specs.Shapes.{view_bytes, leaf};
 
 use crate::deserialize::{Deserialize, DeserializeOwned};
 use crate::deserializer::Deserializer;

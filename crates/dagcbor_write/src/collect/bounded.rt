@@ -68,8 +68,8 @@ impl<W: Write> Serializer<W> {
         self.serialize_tuple(alloc, len)
     }
 
-    /// Begins a variant of `len` fields without names: a map of one entry, whose key is the variant's name and whose
-    /// value is the list of the fields.
+    /// Begins a variant of `len` fields without names: a map of one entry, whose key is the
+    /// variant's name and whose value is the list of the fields.
     pub fn serialize_tuple_variant(
         &mut self,
         alloc: Global,

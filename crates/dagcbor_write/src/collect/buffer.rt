@@ -10,8 +10,8 @@ use std::alloc::Global;
 use std::marker::Model;
 use std::mem;
 
-/// Writes the value's spelling behind the bytes. A value that has none is refused with `refusal`. After a refusal the
-/// bytes are as before.
+/// Writes the value's spelling behind the bytes. A value that has none is refused with `refusal`.
+/// After a refusal the bytes are as before.
 pub(crate) fn append<T: Serialize, E>(
     alloc: Global,
     bytes: &mut Vec<u8>,

@@ -1,6 +1,7 @@
 //! The collector of a map.
 
-ghost use Rattle.std.specs.Prelude.{◌≡◌, List, Option, Some, None, IfOk, IfErr, OnErr, OnOk, IfSome, IsSome, IsTrue, is_some, codes, length};
+ghost use Rattle.std.specs.Prelude.{◌≡◌, List, Option, Some, None, IfOk, IfErr, OnErr, OnOk};
+ghost use Rattle.std.specs.Prelude.{IfSome, IsSome, IsTrue, is_some, codes, length};
 ghost use Rattle.std.specs.Borrow.{sem};
 ghost use Rattle.std.specs.Fmt.{◌++?◌};
 ghost use Rattle.dagcbor_heads.specs.Written.{Writes, WroteAll};
@@ -9,7 +10,9 @@ ghost use Rattle.ipld_tree.specs.Spelled.{spelled_head};
 ghost use Rattle.dagcbor_write.specs.Answers.{OnMessage};
 ghost use Rattle.dagcbor_write.specs.Gathering.{Collects};
 ghost use Rattle.dagcbor_write.specs.Trees.{Pair, variant_head};
-ghost use Rattle.dagcbor_write.specs.Maps.{no_entry_yet, is_complete, HoldsKey, JoinsValue, JoinsEntry, RefusesKey, RefusesValue, RefusesEntry, AreSpellingsOf, RepeatsKey, map_rest};
+ghost use Rattle.dagcbor_write.specs.Maps.{no_entry_yet, is_complete, HoldsKey, JoinsValue};
+ghost use Rattle.dagcbor_write.specs.Maps.{JoinsEntry, RefusesKey, RefusesValue, RefusesEntry};
+ghost use Rattle.dagcbor_write.specs.Maps.{AreSpellingsOf, RepeatsKey, map_rest};
 ghost use Rattle.dagcbor_write.specs.Order.{head_rest, entries_bytes};
 ghost use Rattle.dagcbor_write.specs.Lending.{map_lent, map_held, SameLoan, BeginsOrStops};
 
@@ -75,8 +78,8 @@ impl<W: Write> Serializer<W> {
         })
     }
 
-    /// Begins a variant of `len` fields: a map of one entry, whose key is the variant's name and whose value is the map
-    /// of the fields.
+    /// Begins a variant of `len` fields: a map of one entry, whose key is the variant's name and
+    /// whose value is the map of the fields.
     pub fn serialize_struct_variant(
         &mut self,
         alloc: Global,
@@ -156,8 +159,8 @@ impl<W: Write> CollectMap<'_, W> {
         self.held.is_complete()
     }
 
-    /// Takes a key, whose value comes next. Refused with `Msg("Map key cannot be serialized.")` where it has no
-    /// spelling, with `Msg("Map keys must be strings")` where it is no text.
+    /// Takes a key, whose value comes next. Refused with `Msg("Map key cannot be serialized.")`
+    /// where it has no spelling, with `Msg("Map keys must be strings")` where it is no text.
     pub fn serialize_key<K: Serialize>(&mut self, key: &K) -> Result<(), EncodeError<W::Error>>
         requires { (map_held self.old).key ≡ None }
         ensures same_reference { SameLoan (map_lent self.old) (map_lent self.new) }
@@ -169,8 +172,8 @@ impl<W: Write> CollectMap<'_, W> {
         self.held.take_key(self.alloc, key)
     }
 
-    /// Takes the value of the key before it. Refused with `Msg("Struct value cannot be serialized.")` where it has no
-    /// spelling.
+    /// Takes the value of the key before it. Refused with `Msg("Struct value cannot be
+    /// serialized.")` where it has no spelling.
     pub fn serialize_value<V: Serialize>(&mut self, value: &V) -> Result<(), EncodeError<W::Error>>
         requires { IsSome (map_held self.old).key }
         ensures same_reference { SameLoan (map_lent self.old) (map_lent self.new) }
@@ -218,8 +221,8 @@ impl<W: Write> CollectMap<'_, W> {
         self.serialize_entry(&name, value)
     }
 
-    /// Ends the map: its entries go out in key order. Two equal keys are refused with `Msg("Map keys must be unique")`
-    /// before anything is written.
+    /// Ends the map: its entries go out in key order. Two equal keys are refused with `Msg("Map
+    /// keys must be unique")` before anything is written.
     pub fn end(self) -> Result<(), EncodeError<W::Error>>
         requires { IsTrue (is_complete (map_held self)) }
         ensures written { (given : List Pair) → AreSpellingsOf given (map_held self.entry).entries

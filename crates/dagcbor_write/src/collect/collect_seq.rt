@@ -6,7 +6,8 @@ ghost use Rattle.std.specs.Fmt.{◌++?◌};
 ghost use Rattle.dagcbor_heads.specs.Written.{Writes, WroteAll, WantsMemoryOnlyIf};
 ghost use Rattle.ipld_tree.specs.Tree.{IsTree};
 ghost use Rattle.ipld_tree.specs.Spelled.{spelled_head};
-ghost use Rattle.dagcbor_write.specs.Lists.{announced_head, elements_left, IsFresh, HasRoom, IsComplete, TakesElement, waiting_text};
+ghost use Rattle.dagcbor_write.specs.Lists.{announced_head, elements_left, IsFresh, HasRoom};
+ghost use Rattle.dagcbor_write.specs.Lists.{IsComplete, TakesElement, waiting_text};
 ghost use Rattle.dagcbor_write.specs.Lending.{list_lent, list_items, SameLoan, BeginsOrStops};
 
 use crate::collect::buffer::Buffer;
@@ -18,7 +19,8 @@ use std::alloc::Global;
 /// What an item that waits is refused with.
 const BAD_ELEMENT: &str = "List element cannot be serialized";
 
-/// The items that a list was given: how many are still to come, or those that wait for their number.
+/// The items that a list was given: how many are still to come, or those that wait for their
+/// number.
 #[derive(Drop)]
 pub enum Items {
     Announced(usize),
@@ -45,8 +47,8 @@ impl<W, I: Drop> Drop for CollectSeq<'_, W, I> {
 }
 
 impl<W: Write> Serializer<W> {
-    /// Begins a list. Where the number of its items is known, its head goes out at once. Else the items wait in memory
-    /// until the list ends.
+    /// Begins a list. Where the number of its items is known, its head goes out at once. Else the
+    /// items wait in memory until the list ends.
     pub fn serialize_seq(
         &mut self,
         alloc: Global,
@@ -124,8 +126,8 @@ impl<W: Write> CollectSeq<'_, W> {
         }
     }
 
-    /// Ends the list: the items that waited go out behind their number. Where the number was announced nothing is left
-    /// to write, and nothing can go wrong.
+    /// Ends the list: the items that waited go out behind their number. Where the number was
+    /// announced nothing is left to write, and nothing can go wrong.
     pub fn end(self) -> Result<(), EncodeError<W::Error>>
         requires { IsComplete (list_items self) }
         ensures written { Writes (waiting_text (list_items self.entry)) (W.written (list_lent self.entry).now) (W.written self.exit.0.now) result }

@@ -1,9 +1,11 @@
 //! What the collector of a map holds.
 
-ghost use Rattle.std.specs.Prelude.{◌≡◌, ◌<◌, ◌≤◌, ◌++◌, is_some, Some, None, IsSome, IfSome, OnErr, length, map, option_map, drop, slice_index_or};
+ghost use Rattle.std.specs.Prelude.{◌≡◌, ◌<◌, ◌≤◌, ◌++◌, is_some, Some, None, IsSome, IfSome};
+ghost use Rattle.std.specs.Prelude.{OnErr, length, map, option_map, drop, slice_index_or};
 ghost use Rattle.std.specs.List.{All, slice_range};
 ghost use Rattle.dagcbor_write.specs.Gathering.{Collects};
-ghost use Rattle.dagcbor_write.specs.Maps.{MapState, Texts, no_entry_yet, is_complete, begins_text, HoldsKey, JoinsValue, RefusesKey, RefusesValue};
+ghost use Rattle.dagcbor_write.specs.Maps.{MapState, Texts, no_entry_yet, is_complete, begins_text};
+ghost use Rattle.dagcbor_write.specs.Maps.{HoldsKey, JoinsValue, RefusesKey, RefusesValue};
 ghost use Rattle.dagcbor_write.specs.Order.{KeysDiffer, PutsInOrder};
 
 use crate::collect::buffer::append;
@@ -29,8 +31,9 @@ pub struct Span {
     end: usize,
 }
 
-/// The entries that a map was given, encoded in one buffer. A key that waits for its value begins at `key`, and ends
-/// the buffer. What stands in no span, as a key whose value was refused, does not count.
+/// The entries that a map was given, encoded in one buffer. A key that waits for its value begins
+/// at `key`, and ends the buffer. What stands in no span, as a key whose value was refused, does
+/// not count.
 #[derive(Drop)]
 pub struct Gathered {
     bytes: Vec<u8>,
@@ -131,7 +134,8 @@ impl Gathered {
         }
     }
 
-    /// Takes the value of the key before it. After a refusal the key is gone, and the entries are as before.
+    /// Takes the value of the key before it. After a refusal the key is gone, and the entries are
+    /// as before.
     pub(crate) fn take_value<V: Serialize, E>(
         &mut self,
         alloc: Global,
@@ -160,8 +164,8 @@ impl Gathered {
         Ok(())
     }
 
-    /// Puts the entries into the order of their bytes, and says whether no key repeats. Entries of different keys stand
-    /// in this order as the keys do in key order.
+    /// Puts the entries into the order of their bytes, and says whether no key repeats. Entries of
+    /// different keys stand in this order as the keys do in key order.
     pub(crate) fn put_in_order(&mut self) -> bool
         ensures announced { self.new.announced ≡ self.old.announced }
         ensures order { PutsInOrder self.old.entries self.new.entries result }

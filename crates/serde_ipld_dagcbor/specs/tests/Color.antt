@@ -1,5 +1,6 @@
 -- What a tree shows to an enum with unit variants and variants that hold one or two numbers.
-use Rattle.std.specs.Prelude.{ℕ, ◌^◌, List, Option, Some, None, option_map, if◌then◌else◌, codes, false}
+use Rattle.std.specs.Prelude.{ℕ, ◌^◌, List, Option, Some, None, option_map, if◌then◌else◌, codes}
+use Rattle.std.specs.Prelude.{false}
 use Rattle.std.specs.Str.{bytes_eq}
 use Rattle.ipld_tree.specs.Tree.{Tree}
 use Rattle.dagcbor_read.specs.Shapes.{view_unsigned, Shape, leaf}

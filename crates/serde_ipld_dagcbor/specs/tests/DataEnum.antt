@@ -1,5 +1,6 @@
 -- What a tree shows to an enum whose variants hold a value, two values, and fields.
-use Rattle.std.specs.Prelude.{ℕ, ◌^◌, Bool, List, Option, None, option_map, if◌then◌else◌, codes, false}
+use Rattle.std.specs.Prelude.{ℕ, ◌^◌, Bool, List, Option, None, option_map, if◌then◌else◌, codes}
+use Rattle.std.specs.Prelude.{false}
 use Rattle.std.specs.Str.{bytes_eq}
 use Rattle.ipld_tree.specs.Tree.{Tree}
 use Rattle.dagcbor_read.specs.Shapes.{view_unsigned, view_bool, view_text, Shape, leaf}

@@ -32,8 +32,8 @@ fn comes(alloc: Global, bytes: &[u8], size: usize, told: &str) -> Result<(), Fai
     is_told(alloc, &read, told)
 }
 
-/// Fails where sources that show one byte a fill, or three, do not give what the slice gives: the same tree, or the same
-/// refusal; and where a skip or a check does not.
+/// Fails where sources that show one byte a fill, or three, do not give what the slice gives: the
+/// same tree, or the same refusal; and where a skip or a check does not.
 pub(crate) fn reads_alike(alloc: Global, bytes: &[u8]) -> Result<(), Fail> {
     skips_alike(alloc, bytes, &refusal(alloc, bytes)?)?;
     comes(alloc, bytes, 1, &told(alloc, bytes)?)?;
@@ -63,7 +63,8 @@ pub(crate) fn is_read_as(alloc: Global, bytes: &[u8], value: &Ipld) -> bool {
     }
 }
 
-/// Fails where the value is not written as these bytes, or these, however they come, are not read as the value.
+/// Fails where the value is not written as these bytes, or these, however they come, are not read
+/// as the value.
 pub(crate) fn goes_both_ways(alloc: Global, value: &Ipld, spelling: &[u8]) -> Result<(), Fail> {
     writes(alloc, value, spelling)?;
     reads_alike(alloc, spelling)?;

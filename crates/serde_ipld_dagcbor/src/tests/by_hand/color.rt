@@ -3,8 +3,14 @@
 ghost use Rattle.std.specs.Prelude.{Some, [], ◌∷◌, codes, pos, false};
 ghost use Rattle.ipld_tree.specs.Tree.{text, integer, list_tree};
 ghost use Rattle.dagcbor_write.specs.Trees.{variant_tree};
-ghost use Rattle.serde_ipld_dagcbor.specs.tests.Color.{ColorView, is_red, is_blue, is_yellow, is_other, is_alpha, color_variants, color_shape};
-ghost use Rattle.serde_ipld_dagcbor.specs.declared.tests.by_hand.color.Color.TheVariants.{Red, Blue, Yellow, Other, Alpha};
+ghost use Rattle.serde_ipld_dagcbor.specs.tests.Color.{ColorView, is_red, is_blue, is_yellow};
+ghost use Rattle.serde_ipld_dagcbor.specs.tests.Color.{is_other, is_alpha, color_variants};
+ghost use Rattle.serde_ipld_dagcbor.specs.tests.Color.{color_shape};
+ghost use Rattle.serde_ipld_dagcbor.specs.declared.tests.by_hand.color.Color.TheVariants.{Red};
+ghost use Rattle.serde_ipld_dagcbor.specs.declared.tests.by_hand.color.Color.TheVariants.{Blue};
+ghost use Rattle.serde_ipld_dagcbor.specs.declared.tests.by_hand.color.Color.TheVariants.{Yellow};
+ghost use Rattle.serde_ipld_dagcbor.specs.declared.tests.by_hand.color.Color.TheVariants.{Other};
+ghost use Rattle.serde_ipld_dagcbor.specs.declared.tests.by_hand.color.Color.TheVariants.{Alpha};
 
 use crate::tests::told::{each_tells, each_writes};
 use crate::{

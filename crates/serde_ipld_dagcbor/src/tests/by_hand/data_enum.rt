@@ -3,8 +3,11 @@
 ghost use Rattle.std.specs.Prelude.{Some, [], ◌∷◌, codes, pos, string_bytes};
 ghost use Rattle.ipld_tree.specs.Tree.{boolean, integer, text, list_tree, entries_tree};
 ghost use Rattle.dagcbor_write.specs.Trees.{field, variant_tree};
-ghost use Rattle.serde_ipld_dagcbor.specs.tests.DataEnum.{DataView, is_a, is_b, is_c, data_variants, data_shape};
-ghost use Rattle.serde_ipld_dagcbor.specs.declared.tests.by_hand.data_enum.DataEnum.TheVariants.{A, B, C};
+ghost use Rattle.serde_ipld_dagcbor.specs.tests.DataEnum.{DataView, is_a, is_b, is_c};
+ghost use Rattle.serde_ipld_dagcbor.specs.tests.DataEnum.{data_variants, data_shape};
+ghost use Rattle.serde_ipld_dagcbor.specs.declared.tests.by_hand.data_enum.DataEnum.TheVariants.{A};
+ghost use Rattle.serde_ipld_dagcbor.specs.declared.tests.by_hand.data_enum.DataEnum.TheVariants.{B};
+ghost use Rattle.serde_ipld_dagcbor.specs.declared.tests.by_hand.data_enum.DataEnum.TheVariants.{C};
 
 use crate::tests::told::{each_tells, writes};
 use crate::{

@@ -3,9 +3,11 @@
 ghost use Rattle.std.specs.Prelude.{Option, Some, [], ◌∷◌, codes};
 ghost use Rattle.ipld_tree.specs.Tree.{Tree, text, entries_tree};
 ghost use Rattle.dagcbor_write.specs.Trees.{field};
-ghost use Rattle.serde_ipld_dagcbor.specs.tests.Letter.{Letter, is_a, is_b, letter_variants, letter_shape};
+ghost use Rattle.serde_ipld_dagcbor.specs.tests.Letter.{Letter, is_a, is_b, letter_variants};
+ghost use Rattle.serde_ipld_dagcbor.specs.tests.Letter.{letter_shape};
 ghost use Rattle.serde_ipld_dagcbor.specs.tests.EnumStruct.{enum_struct_shape};
-ghost use Rattle.serde_ipld_dagcbor.specs.declared.tests.by_hand.enum_struct.Enum.TheVariants.{A, B};
+ghost use Rattle.serde_ipld_dagcbor.specs.declared.tests.by_hand.enum_struct.Enum.TheVariants.{A};
+ghost use Rattle.serde_ipld_dagcbor.specs.declared.tests.by_hand.enum_struct.Enum.TheVariants.{B};
 
 use crate::tests::told::{each_writes, tells};
 use crate::{

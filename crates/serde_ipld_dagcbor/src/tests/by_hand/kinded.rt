@@ -3,7 +3,8 @@
 ghost use Rattle.std.specs.Prelude.{Some, false};
 ghost use Rattle.ipld_tree.specs.Cid.{cid_bytes};
 ghost use Rattle.ipld_tree.specs.Tree.{bytes, link};
-ghost use Rattle.serde_ipld_dagcbor.specs.tests.Kinded.{KindedView, is_bytes, is_link, kinded_shape};
+ghost use Rattle.serde_ipld_dagcbor.specs.tests.Kinded.{KindedView, is_bytes, is_link};
+ghost use Rattle.serde_ipld_dagcbor.specs.tests.Kinded.{kinded_shape};
 ghost use Rattle.serde_ipld_dagcbor.specs.declared.tests.by_hand.kinded.Kinded.TheVariants as kinded;
 
 use crate::tests::told::{tells, writes};

@@ -1,9 +1,11 @@
 //! A struct with a field that is left out where it is missing, written by hand.
 
-ghost use Rattle.std.specs.Prelude.{Some, None, List, [], ◌∷◌, codes, pos, string_bytes, option_map};
+ghost use Rattle.std.specs.Prelude.{Some, None, List, [], ◌∷◌, codes, pos, string_bytes};
+ghost use Rattle.std.specs.Prelude.{option_map};
 ghost use Rattle.ipld_tree.specs.Tree.{text, integer, entries_tree};
 ghost use Rattle.dagcbor_write.specs.Trees.{option_tree, field};
-ghost use Rattle.serde_ipld_dagcbor.specs.tests.OptionalPerson.{OptionalPersonView, optional_person_shape};
+ghost use Rattle.serde_ipld_dagcbor.specs.tests.OptionalPerson.{OptionalPersonView};
+ghost use Rattle.serde_ipld_dagcbor.specs.tests.OptionalPerson.{optional_person_shape};
 
 use crate::tests::told::{agree, tells, writes};
 use crate::{

@@ -1,4 +1,5 @@
-//! Values from buffered sources of std and to devices of std, however little they show or take at once.
+//! Values from buffered sources of std and to devices of std, however little they show or take at
+//! once.
 
 use crate::tests::devices::std_devices::{Sink, Source};
 use crate::tests::told::{agree, is_told};

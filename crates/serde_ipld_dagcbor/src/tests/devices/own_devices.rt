@@ -1,4 +1,5 @@
-//! Devices of a caller's own: a reader that shows little a fill and may fail, and a writer that fails.
+//! Devices of a caller's own: a reader that shows little a fill and may fail, and a writer that
+//! fails.
 
 ghost use Rattle.std.specs.Prelude.{◌≡◌, [], ◌++◌, List, ℕ};
 

@@ -77,7 +77,8 @@ fn an_announced_length_reserves_nothing(rt: HostRuntime) -> Result<(), Fail> {
     )
 }
 
-/// Fails where a read whose reader faults at this fill, and the end behind it, answer anything else.
+/// Fails where a read whose reader faults at this fill, and the end behind it, answer anything
+/// else.
 fn text_and_end(alloc: Global, fill: u64, told: &str) -> Result<(), Fail> {
     let mut de = Deserializer::from_reader(Pieces::failing(b"\x62ab", 1, fill));
     let answer = de.deserialize_any(alloc);

@@ -1,4 +1,5 @@
-//! Hostile bytes: what is cut is refused as cut, and a typed read of a source answers what that of a slice does.
+//! Hostile bytes: what is cut is refused as cut, and a typed read of a source answers what that of
+//! a slice does.
 
 use crate::tests::alike::beginnings_are_cut;
 use crate::tests::by_hand::color::Color;
@@ -34,7 +35,8 @@ fn each_beginning_is_cut(rt: HostRuntime) -> Result<(), Fail> {
     beginnings_are_cut(rt.alloc(), &long)
 }
 
-/// Fails where a read of the slice, or of a source of one byte a fill, answers anything but this, as text.
+/// Fails where a read of the slice, or of a source of one byte a fill, answers anything but this,
+/// as text.
 fn answers<'de, T: Deserialize<'de> + Debug>(
     alloc: Global,
     bytes: &'de [u8],

@@ -27,7 +27,8 @@ fn value(alloc: Global, leaf: Leaf) -> Result<Ipld, AllocError> {
     }
 }
 
-/// Fails where a leaf goes not both ways with the bytes beside it, or a beginning of them is not refused as cut.
+/// Fails where a leaf goes not both ways with the bytes beside it, or a beginning of them is not
+/// refused as cut.
 fn each_goes_both_ways(alloc: Global, rows: &[(Leaf, &[u8])]) -> Result<(), Fail> {
     for (leaf, spelling) in rows {
         goes_both_ways(alloc, &value(alloc, *leaf)?, spelling)?;

@@ -29,7 +29,8 @@ fn refusal(alloc: Global, name: &str, first: u8) -> Result<String, AllocError> {
     format!(in alloc; "NonMinimal {{ name: {name:?}, found: {first} }}")
 }
 
-/// Fails where a head of this major type, behind these bytes, is not refused in each width that is too wide.
+/// Fails where a head of this major type, behind these bytes, is not refused in each width that is
+/// too wide.
 fn is_minimal(alloc: Global, before: &[u8], major: u8, name: &str) -> Result<(), Fail> {
     for (width, argument) in &TOO_WIDE {
         let first = major | *width;

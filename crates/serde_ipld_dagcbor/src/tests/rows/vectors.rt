@@ -1,4 +1,5 @@
-//! Blocks of the standard's and the original's examples: each is the spelling of one tree, however its bytes come.
+//! Blocks of the standard's and the original's examples: each is the spelling of one tree, however
+//! its bytes come.
 
 use crate::tests::alike::is_written_again;
 use crate::tests::devices::streams::is_split;

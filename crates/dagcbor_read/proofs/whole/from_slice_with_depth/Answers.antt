@@ -8,14 +8,14 @@ pub returns-in_err-value-clause-refused : goal.returns-in_err-value-clause-refus
 returns-in_err-value-clause-refused g c =
     let start = c.from_slice_reader-de.ensures in
     let source = c.with_depth.ensures in
-    on_refusal _ _ _ c.from_residual.ensures.1 (value_refused g.T.Shown.shape _ (Some c.args.bytes.now) _ _ _ _ (ap (λ p. p.input.left) start ∙ ap (λ r. r.left) source) (ap (λ p. p.input.steps) start ∙ ap (λ r. r.steps) source)
+    on_refusal _ _ _ c.from_residual.ensures.1 (value_refused g.T.Shown.shape c.args.steps (Some c.args.bytes.now) _ _ _ _ (ap (λ p. p.input.left) start ∙ ap (λ r. r.left) source) (ap (λ p. p.input.steps) start ∙ ap (λ r. r.steps) source)
     (λ b n. let differ = sym (ap (λ p. p.input.lends) start ∙ ap (λ r. r.lends) source) ∙ n in cc) (c.in_err-value.ensures.value (ap (λ p. p.failed) start))).0
 
 pub returns-in_err-value-clause-never : goal.returns-in_err-value-clause-never
 returns-in_err-value-clause-never g c =
     let start = c.from_slice_reader-de.ensures in
     let source = c.with_depth.ensures in
-    on_refusal _ _ _ c.from_residual.ensures.1 (value_refused g.T.Shown.shape _ (Some c.args.bytes.now) _ _ _ _ (ap (λ p. p.input.left) start ∙ ap (λ r. r.left) source) (ap (λ p. p.input.steps) start ∙ ap (λ r. r.steps) source)
+    on_refusal _ _ _ c.from_residual.ensures.1 (value_refused g.T.Shown.shape c.args.steps (Some c.args.bytes.now) _ _ _ _ (ap (λ p. p.input.left) start ∙ ap (λ r. r.left) source) (ap (λ p. p.input.steps) start ∙ ap (λ r. r.steps) source)
     (λ b n. let differ = sym (ap (λ p. p.input.lends) start ∙ ap (λ r. r.lends) source) ∙ n in cc) (c.in_err-value.ensures.value (ap (λ p. p.failed) start))).1
 
 -- it was read, and then no end was found
@@ -23,14 +23,14 @@ pub returns-in_err-end-clause-refused : goal.returns-in_err-end-clause-refused
 returns-in_err-end-clause-refused g c =
     let start = c.from_slice_reader-de.ensures in
     let source = c.with_depth.ensures in
-    on_refusal _ _ _ c.from_residual-in_err-end.ensures.1 (value_end_refused g.T.Shown.shape _ (Some c.args.bytes.now) _ _ _ (g.T.Shown.meaning c.in_ok-value.value) _ (ap (λ p. p.input.left) start ∙ ap (λ r. r.left) source)
+    on_refusal _ _ _ c.from_residual-in_err-end.ensures.1 (value_end_refused g.T.Shown.shape c.args.steps (Some c.args.bytes.now) _ _ _ (g.T.Shown.meaning c.in_ok-value.value) _ (ap (λ p. p.input.left) start ∙ ap (λ r. r.left) source)
     (c.in_ok-value.ensures.value (ap (λ p. p.failed) start)) c.in_err-end.ensures).0
 
 pub returns-in_err-end-clause-never : goal.returns-in_err-end-clause-never
 returns-in_err-end-clause-never g c =
     let start = c.from_slice_reader-de.ensures in
     let source = c.with_depth.ensures in
-    on_refusal _ _ _ c.from_residual-in_err-end.ensures.1 (value_end_refused g.T.Shown.shape _ (Some c.args.bytes.now) _ _ _ (g.T.Shown.meaning c.in_ok-value.value) _ (ap (λ p. p.input.left) start ∙ ap (λ r. r.left) source)
+    on_refusal _ _ _ c.from_residual-in_err-end.ensures.1 (value_end_refused g.T.Shown.shape c.args.steps (Some c.args.bytes.now) _ _ _ (g.T.Shown.meaning c.in_ok-value.value) _ (ap (λ p. p.input.left) start ∙ ap (λ r. r.left) source)
     (c.in_ok-value.ensures.value (ap (λ p. p.failed) start)) c.in_err-end.ensures).1
 
 pub returns-clause-value : goal.returns-clause-value

@@ -1,7 +1,7 @@
 use Rattle.dagcbor_heads.proofs.Refusing.{refused}
 use Rattle.dagcbor_items.proofs.Steps.{spent_step}
 use Rattle.dagcbor_read.proofs.Entering.{no_byte_entered, other_major}
-use Rattle.dagcbor_read.proofs.collections.enter.Goals as goal
+use Rattle.dagcbor_read.proofs.deserializer.enter.Goals as goal
 
 pub returns-in_err-first-clause-head : goal.returns-in_err-first-clause-head
 returns-in_err-first-clause-head g c =

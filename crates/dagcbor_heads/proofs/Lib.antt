@@ -6,6 +6,7 @@ pub mod Taking
 pub mod Looking
 pub mod Refusing
 pub mod HeadForms
+pub mod Splitting
 pub mod Arguments
 pub mod HeadFaults
 pub mod Keeping

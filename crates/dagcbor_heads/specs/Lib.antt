@@ -6,6 +6,7 @@ pub mod Messages
 pub mod Lengths
 pub mod Reading
 pub mod Fronts
+pub mod Splits
 pub mod Looking
 pub mod Causes
 pub mod Refusals

@@ -30,6 +30,7 @@ impl<W: io::Write> Model for IoWriter<W> {
 }
 
 impl<W: io::Write> IoWriter<W> {
+    /// A writer to a device of its own, which has not faulted yet.
     pub fn new(device: W) -> IoWriter<W>
         ensures { result ≡ record { bytes = W.contents device; faults = 0; through = [] } }
     {

@@ -1,7 +1,15 @@
 //! Heads of DAG-CBOR items, and the readers, writers and errors below them.
+//!
+//! A list of three items begins, and its first is 1 (`src/tests/writers.rt`):
+//!
+//! ```rust
+//! push_head(&mut writer, 4, 3)?;
+//! push_head(&mut writer, 0, 1)?;
+//! ```
 #![tactic(auto)]
 
 mod error;
+mod front;
 mod input;
 mod io_read;
 mod io_ref_read;
@@ -19,6 +27,7 @@ mod window;
 mod write;
 
 pub use error::{ArithmeticOverflow, DecodeError, EncodeError, Len};
+pub use front::split_head;
 pub use input::Input;
 pub use io_read::IoReader;
 pub use io_ref_read::IoRefReader;

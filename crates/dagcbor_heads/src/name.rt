@@ -31,6 +31,7 @@ impl Name {
         }
     }
 
+    /// The text, of at most 31 bytes.
     pub fn as_str(&self) -> &str
         ensures { result.now ≡ name_bytes self.now }
     {
@@ -50,6 +51,7 @@ impl Message {
         }
     }
 
+    /// The text, of at most 63 bytes.
     pub fn as_str(&self) -> &str
         ensures { result.now ≡ message_bytes self.now }
     {

@@ -136,7 +136,7 @@ fn argument_width(information: u8) -> u16
 }
 
 /// The least argument that needs the width of an additional information from 24 to 27.
-fn least_argument(information: u8) -> u64
+pub(crate) fn least_argument(information: u8) -> u64
     requires low { 24 ≤ information }
     requires high { information ≤ 27 }
     ensures { result ≡ least_argument (argument_width information) }

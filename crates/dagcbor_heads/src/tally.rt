@@ -15,6 +15,7 @@ impl Model for Tally {
 }
 
 impl Tally {
+    /// A count of nothing yet.
     pub fn new() -> Tally
         ensures { result.count ≡ 0 }
     {

@@ -69,6 +69,7 @@ impl BufWriter {
         self.bytes.as_slice()
     }
 
+    /// The bytes that were written.
     pub fn into_inner(self) -> Vec<u8>
         ensures { result.items ≡ self }
     {

@@ -4,6 +4,7 @@ pub mod Fronts
 pub mod Leaves
 pub mod Steps
 pub mod Walking
+pub mod Judging
 pub mod Lists
 pub mod Pushes
 pub mod Keys

@@ -1,5 +1,6 @@
 pub use Rattle.dagcbor_heads.specs.Reading
 pub use Rattle.dagcbor_heads.specs.Fronts
+pub use Rattle.dagcbor_heads.specs.Splits
 pub use Rattle.dagcbor_heads.specs.Looking
 pub use Rattle.dagcbor_heads.specs.Causes
 pub use Rattle.dagcbor_heads.specs.Refusals
@@ -17,6 +18,7 @@ pub mod Items
 pub mod Entries
 pub mod Links
 pub mod Walks
+pub mod Judging
 pub mod Reads
 pub mod Shapes
 pub mod LeafCauses

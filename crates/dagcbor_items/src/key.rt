@@ -13,12 +13,19 @@ use crate::strings::pull_str;
 use dagcbor_heads::{DecodeError, Input, Read};
 use std::alloc::Global;
 use std::borrow::CowStr;
+use std::cmp::Ordering;
 
-/// Whether a key comes before another: the shorter first, and keys of one length by their bytes.
-pub(crate) fn comes_before(key: &str, other: &str) -> bool
+/// Whether a key comes before another: the shorter first, and keys of one length by their bytes,
+/// which are looked at then alone.
+#[inline]
+pub(crate) fn comes_before(key: &[u8], other: &[u8]) -> bool
     ensures { result ≡ comes_before key.now other.now }
 {
-    key.len().cmp(&other.len()).then(key.cmp(other)).is_lt()
+    match key.len().cmp(&other.len()) {
+        Ordering::Less => true,
+        Ordering::Equal => key.cmp(other).is_lt(),
+        Ordering::Greater => false,
+    }
 }
 
 /// Whether the key may stand behind the one before it.
@@ -27,7 +34,7 @@ fn follows(previous: &Option<CowStr<'_>>, key: &CowStr<'_>) -> bool
 {
     match previous {
         None => true,
-        Some(before) => comes_before(before.as_str(), key.as_str()),
+        Some(before) => comes_before(before.as_str().as_bytes(), key.as_str().as_bytes()),
     }
 }
 

@@ -1,7 +1,15 @@
 //! Reading items of DAG-CBOR from an input: leaves, keys, links, and items of any kind.
+//!
+//! A walk through the item at the front of a slice, which builds nothing and takes no memory:
+//!
+//! ```rust
+//! let mut reader = SliceReader::new(bytes);
+//! walk_any((), &mut reader, &mut NoLinks)?;
+//! ```
 #![tactic(auto)]
 
 mod any;
+mod judge;
 mod key;
 mod leaf;
 mod link;
@@ -14,6 +22,7 @@ mod strings;
 mod walk;
 
 pub use any::read_any;
+pub use judge::behind_item;
 pub use key::read_key;
 pub use link::pull_link;
 pub use numbers::{pull_i128, pull_signed, pull_u128, pull_unsigned};

@@ -114,6 +114,7 @@ fn long_natural_of(number: i128) -> Option<u128>
     u128::try_from(number).ok()
 }
 
+/// A number from 0 on, of any size that has a spelling.
 #[tactic(auto, using(crate::proofs::Variants::kind_number))]
 pub fn pull_u128<R: Read>(reader: &mut R) -> Result<u128, DecodeError<R::Error>>
     ensures number { ReadsU128 (R.reading reader.old) result (R.reading reader.new) }
@@ -128,6 +129,7 @@ pub fn pull_u128<R: Read>(reader: &mut R) -> Result<u128, DecodeError<R::Error>>
     }
 }
 
+/// A number of any size that has a spelling.
 pub fn pull_i128<R: Read>(reader: &mut R) -> Result<i128, DecodeError<R::Error>>
     ensures number { ReadsI128 (R.reading reader.old) result (R.reading reader.new) }
     ensures variant { IfErr result OfHead }

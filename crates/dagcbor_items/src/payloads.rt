@@ -40,12 +40,14 @@ pub trait PayloadReader: Read {
         ensures looked { Looks 3 (Self.reading self.old) result (Self.reading self.new) }
         ensures variant { IfErr result OfKey };
 
+    /// Goes through a byte string, whose first byte was seen.
     fn skip_bytes(&mut self, alloc: Self::Alloc) -> Result<(), DecodeError<Self::Error>>
         requires { StartsWithMajor (Self.reading self.old) 2 }
         ensures item { SkipsItem 1 (Self.reading self.old) result (Self.reading self.new) }
         ensures looked { LooksBehind 3 1 (Self.reading self.old) result (Self.reading self.new) }
         ensures variant { IfErr result OfHead };
 
+    /// Goes through a text, whose first byte was seen, and checks that it is UTF-8.
     fn skip_text(&mut self, alloc: Self::Alloc) -> Result<(), DecodeError<Self::Error>>
         requires { StartsWithMajor (Self.reading self.old) 3 }
         ensures item { SkipsItem 1 (Self.reading self.old) result (Self.reading self.new) }
@@ -142,7 +144,7 @@ fn lent_follows(previous: &Option<&str>, key: &str) -> bool
 {
     match previous {
         None => true,
-        Some(before) => comes_before(before, key),
+        Some(before) => comes_before(before.as_bytes(), key.as_bytes()),
     }
 }
 

@@ -7,6 +7,7 @@ ghost use Rattle.dagcbor_items.specs.Variants.{OfByte};
 use crate::link::pull_wanted;
 use dagcbor_heads::{DecodeError, Name, Read, pull_one};
 
+/// A null.
 pub fn pull_null<R: Read>(reader: &mut R) -> Result<(), DecodeError<R::Error>>
     ensures null { ReadsNull (R.reading reader.old) result (R.reading reader.new) }
     ensures variant { IfErr result OfByte }
@@ -14,6 +15,7 @@ pub fn pull_null<R: Read>(reader: &mut R) -> Result<(), DecodeError<R::Error>>
     pull_wanted("unit", "unit", reader, 0xf6)
 }
 
+/// A boolean.
 #[tactic(auto, using(crate::proofs::Variants::end_byte))]
 pub fn pull_bool<R: Read>(reader: &mut R) -> Result<bool, DecodeError<R::Error>>
     ensures value { ReadsBool (R.reading reader.old) result (R.reading reader.new) }

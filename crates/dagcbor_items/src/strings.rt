@@ -106,6 +106,7 @@ pub(crate) fn pull_peeked_str<'de, R: Read>(
     }
 }
 
+/// A text, lent where the input lends. Refusals carry the name.
 #[tactic(auto, using(crate::proofs::Variants::byte_text))]
 pub fn pull_str<'de, R: Read>(
     alloc: Global,
@@ -137,6 +138,7 @@ pub(crate) fn pull_peeked_owned_text<R: Read>(
     }
 }
 
+/// A text of its own, also where the input lends.
 #[tactic(auto, using(crate::proofs::Variants::byte_text))]
 pub fn pull_owned_text<R: Read>(
     alloc: Global,
@@ -166,6 +168,7 @@ pub(crate) fn pull_peeked_owned_bytes<R: Read>(
     }
 }
 
+/// A byte string of its own, also where the input lends.
 #[tactic(auto, using(crate::proofs::Variants::byte_kind))]
 pub fn pull_owned_bytes<R: Read>(
     alloc: Global,
@@ -191,6 +194,7 @@ fn only_char(text: &str) -> Option<char>
     }
 }
 
+/// A text of one character.
 #[tactic(auto, using(crate::proofs::Variants::text_char))]
 pub fn pull_char<R: Read>(
     alloc: Global,

@@ -1,0 +1,270 @@
+//! Judging bytes that are all there: what is behind the item with which they begin. Nothing is
+//! built, no memory is taken, and a refusal has no cause.
+
+ghost use Rattle.std.specs.Prelude.{◌≡◌, ◌≢◌, ◌↔◌, ◌<◌, ◌≤◌, length, List, ℕ, IsTrue, IsUtf8, MatchOption};
+ghost use Rattle.std.specs.Prelude.{option_map};
+ghost use Rattle.std.specs.List.{list_all};
+ghost use Rattle.std.specs.Char.{is_ascii};
+ghost use Rattle.dagcbor_heads.specs.Splits.{SplitsHead};
+ghost use Rattle.ipld_tree.specs.Cid.{IsCid};
+ghost use Rattle.dagcbor_items.specs.Places.{Follows};
+ghost use Rattle.dagcbor_items.specs.Judging.{SplitsPayload, SplitsText, SplitsKey, SplitsCid};
+ghost use Rattle.dagcbor_items.specs.Judging.{SplitsLeaf, SplitsItem, SplitsItems, SplitsEntries};
+
+use crate::key::comes_before;
+use dagcbor_heads::split_head;
+use ipld_tree::Cid;
+use simdutf8::is_utf8;
+
+/// The next n bytes, and the bytes behind them.
+#[inline(always)]
+fn split_payload(bytes: &[u8], n: u64) -> Option<(&[u8], &[u8])>
+    ensures { MatchOption result (length bytes.now < n) (λ p. SplitsPayload bytes.now n p.0.now p.1.now) }
+{
+    if (bytes.len() as u64) < n {
+        return None;
+    }
+    Some(bytes.split_at(n as usize))
+}
+
+/// Texts below this length are first looked at byte by byte.
+const SHORT: usize = 32;
+
+/// Whether all of the bytes are ASCII.
+#[inline(always)]
+fn is_plain(bytes: &[u8]) -> bool
+    ensures { result ≡ list_all is_ascii bytes.now }
+{
+    bytes.iter().all(|byte| byte.is_ascii())
+}
+
+/// Whether the bytes are a text.
+#[inline(always)]
+fn is_text(bytes: &[u8]) -> bool
+    ensures { IsTrue result ↔ IsUtf8 bytes.now }
+{
+    if bytes.len() < SHORT && is_plain(bytes) {
+        return true;
+    }
+    is_utf8(bytes)
+}
+
+/// The bytes of a text of n bytes, and the bytes behind it.
+#[inline(always)]
+fn split_text(bytes: &[u8], n: u64) -> Option<(&[u8], &[u8])>
+    ensures { MatchOption result (¬ ((s : List ℕ) × (rest : List ℕ) × SplitsText bytes.now n s rest))
+        (λ p. SplitsText bytes.now n p.0.now p.1.now) }
+{
+    let (payload, rest) = split_payload(bytes, n)?;
+    if !is_text(payload) {
+        return None;
+    }
+    Some((payload, rest))
+}
+
+/// The bytes of a key, and the bytes behind it.
+#[inline(always)]
+fn split_key(bytes: &[u8]) -> Option<(&[u8], &[u8])>
+    ensures { MatchOption result (¬ ((key : List ℕ) × (rest : List ℕ) × SplitsKey bytes.now key rest))
+        (λ p. SplitsKey bytes.now p.0.now p.1.now) }
+{
+    let (major, count, behind) = split_head(bytes)?;
+    if major != 3 {
+        return None;
+    }
+    split_text(behind, count)
+}
+
+/// Whether the key may stand behind the one before it.
+#[inline(always)]
+fn follows(previous: &Option<&[u8]>, key: &[u8]) -> bool
+    ensures { IsTrue result ↔ Follows (option_map (λ s. s.now) previous.now) key.now }
+{
+    match previous {
+        None => true,
+        Some(before) => comes_before(before, key),
+    }
+}
+
+/// Whether these are fields of one byte each, with a digest of so many bytes behind them.
+#[inline(always)]
+fn are_short_fields(codec: u8, hash_code: u8, count: u8, digest: &[u8]) -> bool
+    ensures { IsTrue result → (codec < 128) × (hash_code < 128) × (count ≤ 64) × (length digest.now ≡ count) }
+{
+    if codec >= 128 || hash_code >= 128 || count > 64 {
+        return false;
+    }
+    digest.len() == usize::from(count)
+}
+
+/// Whether the bytes are a CID of version 1 with fields of one byte each, as most are.
+#[inline(always)]
+fn is_plain_cid(bytes: &[u8]) -> bool
+    ensures { IsTrue result → IsCid bytes.now }
+{
+    let Some((version, fields)) = bytes.split_first() else {
+        return false;
+    };
+    let Some((codec, fields)) = fields.split_first() else {
+        return false;
+    };
+    let Some((hash_code, fields)) = fields.split_first() else {
+        return false;
+    };
+    let Some((count, digest)) = fields.split_first() else {
+        return false;
+    };
+    if *version != 1 {
+        return false;
+    }
+    are_short_fields(*codec, *hash_code, *count, digest)
+}
+
+#[cold]
+#[inline(never)]
+fn is_any_cid(bytes: &[u8]) -> bool
+    ensures { IsTrue result ↔ IsCid bytes.now }
+{
+    Cid::try_from(bytes).is_ok()
+}
+
+#[inline(always)]
+fn is_cid(bytes: &[u8]) -> bool
+    ensures { IsTrue result ↔ IsCid bytes.now }
+{
+    is_plain_cid(bytes) || is_any_cid(bytes)
+}
+
+/// The bytes behind a byte string of a zero and a CID.
+#[inline(always)]
+fn behind_cid(bytes: &[u8]) -> Option<&[u8]>
+    ensures { MatchOption result (¬ ((cid : List ℕ) × (rest : List ℕ) × SplitsCid bytes.now cid rest))
+        (λ rest. (cid : List ℕ) × SplitsCid bytes.now cid rest.now) }
+{
+    let (major, count, behind) = split_head(bytes)?;
+    if major != 2 {
+        return None;
+    }
+    let (payload, rest) = split_payload(behind, count)?;
+    let (zero, cid) = payload.split_first()?;
+    if *zero != 0 {
+        return None;
+    }
+    if !is_cid(cid) {
+        return None;
+    }
+    Some(rest)
+}
+
+/// The bytes behind what a tag of this number stands before, where that is the tag of links.
+#[inline(always)]
+fn behind_tag(number: u64, bytes: &[u8]) -> Option<&[u8]>
+    ensures { MatchOption result (number ≡ 42 → ¬ ((cid : List ℕ) × (rest : List ℕ) × SplitsCid bytes.now cid rest))
+        (λ rest. (cid : List ℕ) × (number ≡ 42) × SplitsCid bytes.now cid rest.now) }
+{
+    if number != 42 {
+        return None;
+    }
+    behind_cid(bytes)
+}
+
+/// The bytes behind a simple value, where it is one of data: false, true or null.
+#[inline(always)]
+fn behind_simple(value: u64, bytes: &[u8]) -> Option<&[u8]>
+    ensures { MatchOption result (20 ≤ value → ¬ (value ≤ 22)) (λ rest. (20 ≤ value) × (value ≤ 22) × (rest.now ≡ bytes.now)) }
+{
+    if value < 20 {
+        return None;
+    }
+    if value > 22 {
+        return None;
+    }
+    Some(bytes)
+}
+
+/// The bytes behind an item that holds no others, whose head was split off.
+#[inline(always)]
+fn behind_leaf(major: u8, argument: u64, behind: &[u8]) -> Option<&[u8]>
+    requires no_list { major ≢ 4 }
+    requires no_map { major ≢ 5 }
+    ensures { (b : List ℕ) → SplitsHead b major argument behind.now →
+        MatchOption result (¬ ((rest : List ℕ) × SplitsLeaf b rest)) (λ rest. SplitsLeaf b rest.now) }
+{
+    match major {
+        0 => Some(behind),
+        1 => Some(behind),
+        2 => {
+            let (_payload, rest) = split_payload(behind, argument)?;
+            Some(rest)
+        }
+        3 => {
+            let (_text, rest) = split_text(behind, argument)?;
+            Some(rest)
+        }
+        6 => behind_tag(argument, behind),
+        7 => behind_simple(argument, behind),
+        _ => None,
+    }
+}
+
+/// The bytes behind the item at the front, where one stands that takes no more than these steps.
+#[cycle(judge)]
+#[inline(always)]
+pub fn behind_item(bytes: &[u8], steps: usize) -> Option<&[u8]>
+    ensures { MatchOption result (¬ ((rest : List ℕ) × SplitsItem bytes.now steps rest))
+        (λ rest. SplitsItem bytes.now steps rest.now) }
+{
+    let (major, argument, behind) = split_head(bytes)?;
+    if major == 4 {
+        if steps < 2 {
+            return None;
+        }
+        let left = left_behind_items(behind, argument, steps - 2)?;
+        return Some(&behind[behind.len() - left..]);
+    }
+    if major == 5 {
+        if steps < 2 {
+            return None;
+        }
+        let left = left_behind_entries(behind, argument, steps - 2)?;
+        return Some(&behind[behind.len() - left..]);
+    }
+    if steps < 1 {
+        return None;
+    }
+    behind_leaf(major, argument, behind)
+}
+
+/// How many bytes are left behind so many items.
+#[cycle(judge)]
+#[inline(never)]
+fn left_behind_items(bytes: &[u8], count: u64, steps: usize) -> Option<usize>
+    ensures { MatchOption result (¬ ((rest : List ℕ) × SplitsItems bytes.now count steps rest))
+        (λ left. (rest : List ℕ) × (length rest ≡ left) × SplitsItems bytes.now count steps rest) }
+{
+    let mut rest = bytes;
+    for _index in 0..count {
+        rest = behind_item(rest, steps)?;
+    }
+    Some(rest.len())
+}
+
+/// How many bytes are left behind so many entries.
+#[cycle(judge)]
+#[inline(never)]
+fn left_behind_entries(bytes: &[u8], count: u64, steps: usize) -> Option<usize>
+    ensures { MatchOption result (¬ ((rest : List ℕ) × SplitsEntries bytes.now count steps rest))
+        (λ left. (rest : List ℕ) × (length rest ≡ left) × SplitsEntries bytes.now count steps rest) }
+{
+    let mut rest = bytes;
+    let mut previous = None;
+    for _index in 0..count {
+        let (key, behind) = split_key(rest)?;
+        if !follows(&previous, key) {
+            return None;
+        }
+        rest = behind_item(behind, steps)?;
+        previous = Some(key);
+    }
+    Some(rest.len())
+}

@@ -1,14 +1,14 @@
 -- The trees of data of any kind, by those of its parts.
-use Rattle.std.proofs.Common.{◌≡◌, List, [], ◌∷◌, map, Option, None, Some, Result, Vec, BTreeMap, String, Global, string_bytes, string_cmp, cond, refl, sym, ap, ◌∙◌, subst}
+use Rattle.std.proofs.Common.{◌≡◌, List, [], ◌∷◌, map, Option, None, Some, Result, Vec, BTreeMap, String, Global, Bool, string_bytes, string_cmp, cond, refl, sym, ap, ◌∙◌, subst, rules}
 use Rattle.std.specs.Prelude.{IfSome, OnOk, option_map, option_and_then}
 use Rattle.std.specs.List.Sorted.{IsStrictlySortedBy}
 use Rattle.std.specs.Map.{keys_of}
 use Rattle.dagcbor_heads.specs.declared.error.EncodeError.{EncodeError}
 use Rattle.dagcbor_heads.specs.Written.{Written, Writes}
-use Rattle.ipld_tree.specs.Tree.{Tree, text, list, mapping, IsTree, items_of, ordered, map_tree, all_some, list_tree, pair_of, entries_tree}
+use Rattle.ipld_tree.specs.Tree.{Tree, boolean, text, list, mapping, IsTree, items_of, ordered, map_tree, all_some, list_tree, pair_of, entries_tree}
 use Rattle.ipld_tree.specs.Ipld.{tree_of, pairs_of}
 use Rattle.ipld_tree.specs.Spelled.{spelled, spelled_tree}
-use Rattle.ipld_tree.specs.declared.ipld.Ipld.{Ipld, List as List', Map as Map'}
+use Rattle.ipld_tree.specs.declared.ipld.Ipld.{Ipld, Bool as Bool', List as List', Map as Map', the_lemmas}
 use Rattle.ipld_tree.proofs.Ordered.{test_from_distinct}
 use Rattle.ipld_tree.proofs.Trees.{tree_of_List, tree_of_Map}
 use Rattle.ipld_tree.proofs.WellFormed.{distinct_entries}
@@ -16,6 +16,11 @@ use Rattle.ipld_tree.proofs.WellFormed.{distinct_entries}
 all_there : {A : Type 0} (f : A → Tree) (xs : List A) → all_some (map (λ x. Some (f x)) xs) ≡ Some (map f xs)
 all_there f [] = refl
 all_there f (x ∷ xs) = ap (option_map (λ more. f x ∷ more)) (all_there f xs)
+
+pub bool_kind : (j : Ipld) (b : Bool) → j ≡ Bool' b → Some (boolean b) ≡ Some (tree_of j)
+bool_kind j b is =
+    let shown : tree_of (Bool' b) ≡ boolean b = search (rules, the_lemmas) in
+    ap Some (sym shown ∙ ap tree_of (sym is))
 
 pub list_kind : (j : Ipld) (v : Vec Ipld Global) → j ≡ List' v → list_tree (map (λ x. Some (tree_of x)) v.items) ≡ Some (tree_of j)
 list_kind j v is = ap (option_map (λ found. list (items_of found))) (all_there tree_of v.items) ∙ ap Some (sym (tree_of_List v) ∙ ap tree_of (sym is))

@@ -18,11 +18,13 @@ AreSpellingOf tree b = IsSomeAnd tree (IsSpelling b)
 
 -- known bytes grew by the spelling of the value's tree
 abbrev pub GrewBySpelling : Option Tree → Option (List ℕ) → Option (List ℕ) → Type 0
-GrewBySpelling tree old new = IsSomeAnd tree (λ t. (b : List ℕ) × IsSpelling b t × Appends old new b)
+GrewBySpelling tree old new = IsSomeAnd tree
+    (λ t. (b : List ℕ) × IsSpelling b t × Appends old new b)
 
 -- known bytes grew by some bytes, and where the value has a spelling by a beginning of it
 abbrev pub GrewByFront : Option Tree → Option (List ℕ) → Option (List ℕ) → Type 0
-GrewByFront tree old new = AppendsSome old new × IfSome tree (λ t. IsSpellable t → AppendsFront old new (spelling t))
+GrewByFront tree old new = AppendsSome old new
+    × IfSome tree (λ t. IsSpellable t → AppendsFront old new (spelling t))
 
 -- a fault of the device, or want of memory, which say nothing of the value
 abbrev pub IsWriteExcuse : {E : Type 0} → EncodeError E → Type 0

@@ -35,6 +35,8 @@ SameLoan old new = new.ghost_name ≡ old.ghost_name
 
 -- A collector begins with the serializer, or the head was refused: then the serializer rests as
 -- that left it.
-module _ (W : RattleType) (written : W.Denot → Written) {C E : Type 0} (lent : C → MutBor W.Denot) where
+module _ (W : RattleType) (written : W.Denot → Written) {C E : Type 0}
+    (lent : C → MutBor W.Denot) where
   abbrev pub BeginsOrStops : MutBor W.Denot → Option (List ℕ) → Result C (EncodeError E) → Fml
-  BeginsOrStops ser head r = RestsIfErr (the_row W) ser (λ c. (lent c).ghost_name) r (λ new. IfErr r (Stops head (written ser.now) (written new)))
+  BeginsOrStops ser head r = RestsIfErr (the_row W) ser (λ c. (lent c).ghost_name) r
+      (λ new. IfErr r (Stops head (written ser.now) (written new)))

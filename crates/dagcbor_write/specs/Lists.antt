@@ -44,7 +44,8 @@ abbrev pub TakesElement : {T E : Type 0} → Option Tree → Items → Written �
 TakesElement tree (Announced left) s (Announced rest) t r = Writes (spelled_tree tree) s t r
     × (rest + 1 ≡ left)
 TakesElement tree (Waits b) s (Waits d) t r =
-    Collects (λ x. Grows tree b.bytes d.bytes × (d.count ≡ b.count + 1)) (NoSpelling (codes "List element cannot be serialized") tree) r × (t ≡ s) × OnErr r (d ≡ b)
+    Collects (λ x. Grows tree b.bytes d.bytes × (d.count ≡ b.count + 1))
+    (NoSpelling (codes "List element cannot be serialized") tree) r × (t ≡ s) × OnErr r (d ≡ b)
 TakesElement tree (Announced left) s (Waits d) t r = ⊥
 TakesElement tree (Waits b) s (Announced rest) t r = ⊥
 

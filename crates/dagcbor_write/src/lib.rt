@@ -1,4 +1,12 @@
 //! Writing values as DAG-CBOR.
+//!
+//! The examples here are taken from `src/tests/recipes.rt` of `serde_ipld_dagcbor`; `agree` is the
+//! tests' own, and fails where the answer is another:
+//!
+//! ```rust
+//! let block = to_vec(alloc, &(-300i16, "a"))?;
+//! agree(block.as_slice(), b"\x82\x39\x01\x2b\x61a".as_slice())?;
+//! ```
 #![tactic(auto)]
 
 mod collect;

@@ -21,6 +21,7 @@ pub trait Serialize {
         alloc: Global,
         ser: &mut Serializer<W>,
     ) -> Result<(), EncodeError<W::Error>>
-        ensures written { Writes (spelled_tree (tree self.now)) (W.written ser.old) (W.written ser.new) result }
+        ensures written { Writes (spelled_tree (tree self.now))
+            (W.written ser.old) (W.written ser.new) result }
         ensures well_formed { OnOk result (IfSome (tree self.now) IsTree) };
 }

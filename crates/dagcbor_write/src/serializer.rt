@@ -37,12 +37,14 @@ impl<W> Model for Serializer<W> {
 }
 
 impl<W> Serializer<W> {
+    /// A serializer that appends to what the writer holds.
     pub fn new(writer: W) -> Serializer<W>
         ensures { result ≡ writer }
     {
         Serializer { writer }
     }
 
+    /// The writer, with what was written to it.
     pub fn into_inner(self) -> W
         ensures { result ≡ self }
     {
@@ -62,7 +64,8 @@ impl<W: Write> Serializer<W> {
     /// f4 or f5.
     #[tactic(auto, unfolding(ipld_tree::specs::Spelled::spelled))]
     pub fn serialize_bool(&mut self, v: bool) -> Result<(), EncodeError<W::Error>>
-        ensures written { Writes (spelled (boolean v)) (W.written self.old) (W.written self.new) result }
+        ensures written { Writes (spelled (boolean v))
+            (W.written self.old) (W.written self.new) result }
         ensures memory { WantsMemoryOnlyIf W.takes_memory result }
     {
         self.writer.push(&[if v { 0xf5 } else { 0xf4 }])
@@ -70,7 +73,8 @@ impl<W: Write> Serializer<W> {
 
     /// As `serialize_i16`.
     pub fn serialize_i8(&mut self, v: i8) -> Result<(), EncodeError<W::Error>>
-        ensures written { Writes (spelled (integer v)) (W.written self.old) (W.written self.new) result }
+        ensures written { Writes (spelled (integer v))
+            (W.written self.old) (W.written self.new) result }
         ensures memory { WantsMemoryOnlyIf W.takes_memory result }
     {
         self.serialize_i16(v as i16)
@@ -78,7 +82,8 @@ impl<W: Write> Serializer<W> {
 
     /// As `serialize_i32`.
     pub fn serialize_i16(&mut self, v: i16) -> Result<(), EncodeError<W::Error>>
-        ensures written { Writes (spelled (integer v)) (W.written self.old) (W.written self.new) result }
+        ensures written { Writes (spelled (integer v))
+            (W.written self.old) (W.written self.new) result }
         ensures memory { WantsMemoryOnlyIf W.takes_memory result }
     {
         self.serialize_i32(v as i32)
@@ -86,7 +91,8 @@ impl<W: Write> Serializer<W> {
 
     /// As `serialize_i64`.
     pub fn serialize_i32(&mut self, v: i32) -> Result<(), EncodeError<W::Error>>
-        ensures written { Writes (spelled (integer v)) (W.written self.old) (W.written self.new) result }
+        ensures written { Writes (spelled (integer v))
+            (W.written self.old) (W.written self.new) result }
         ensures memory { WantsMemoryOnlyIf W.takes_memory result }
     {
         self.serialize_i64(v as i64)
@@ -95,7 +101,8 @@ impl<W: Write> Serializer<W> {
     /// A head of major type 0 or 1.
     #[tactic(auto, unfolding(ipld_tree::specs::Spelled::spelled))]
     pub fn serialize_i64(&mut self, v: i64) -> Result<(), EncodeError<W::Error>>
-        ensures written { Writes (spelled (integer v)) (W.written self.old) (W.written self.new) result }
+        ensures written { Writes (spelled (integer v))
+            (W.written self.old) (W.written self.new) result }
         ensures memory { WantsMemoryOnlyIf W.takes_memory result }
     {
         let (major, argument) = if v < 0 { (1, -1 - v) } else { (0, v) };
@@ -106,9 +113,11 @@ impl<W: Write> Serializer<W> {
     /// `Msg("Integer must be within [-u64::MAX-1, u64::MAX] range")`.
     #[tactic(auto, unfolding(ipld_tree::specs::Spelled::spelled))]
     pub fn serialize_i128(&mut self, v: i128) -> Result<(), EncodeError<W::Error>>
-        ensures written { Writes (spelled (integer v)) (W.written self.old) (W.written self.new) result }
+        ensures written { Writes (spelled (integer v))
+            (W.written self.old) (W.written self.new) result }
         ensures memory { WantsMemoryOnlyIf W.takes_memory result }
-        ensures message { IfErr result (IsMessage (codes "Integer must be within [-u64::MAX-1, u64::MAX] range")) }
+        ensures message { IfErr result
+            (IsMessage (codes "Integer must be within [-u64::MAX-1, u64::MAX] range")) }
     {
         let (major, magnitude) = if v < 0 { (1, -1 - v) } else { (0, v) };
         match u64::try_from(magnitude) {
@@ -119,7 +128,8 @@ impl<W: Write> Serializer<W> {
 
     /// As `serialize_u16`.
     pub fn serialize_u8(&mut self, v: u8) -> Result<(), EncodeError<W::Error>>
-        ensures written { Writes (spelled (integer (pos v))) (W.written self.old) (W.written self.new) result }
+        ensures written { Writes (spelled (integer (pos v)))
+            (W.written self.old) (W.written self.new) result }
         ensures memory { WantsMemoryOnlyIf W.takes_memory result }
     {
         self.serialize_u16(v as u16)
@@ -127,7 +137,8 @@ impl<W: Write> Serializer<W> {
 
     /// As `serialize_u32`.
     pub fn serialize_u16(&mut self, v: u16) -> Result<(), EncodeError<W::Error>>
-        ensures written { Writes (spelled (integer (pos v))) (W.written self.old) (W.written self.new) result }
+        ensures written { Writes (spelled (integer (pos v)))
+            (W.written self.old) (W.written self.new) result }
         ensures memory { WantsMemoryOnlyIf W.takes_memory result }
     {
         self.serialize_u32(v as u32)
@@ -135,7 +146,8 @@ impl<W: Write> Serializer<W> {
 
     /// As `serialize_u64`.
     pub fn serialize_u32(&mut self, v: u32) -> Result<(), EncodeError<W::Error>>
-        ensures written { Writes (spelled (integer (pos v))) (W.written self.old) (W.written self.new) result }
+        ensures written { Writes (spelled (integer (pos v)))
+            (W.written self.old) (W.written self.new) result }
         ensures memory { WantsMemoryOnlyIf W.takes_memory result }
     {
         self.serialize_u64(v as u64)
@@ -144,7 +156,8 @@ impl<W: Write> Serializer<W> {
     /// A head of major type 0.
     #[tactic(auto, unfolding(ipld_tree::specs::Spelled::spelled))]
     pub fn serialize_u64(&mut self, v: u64) -> Result<(), EncodeError<W::Error>>
-        ensures written { Writes (spelled (integer (pos v))) (W.written self.old) (W.written self.new) result }
+        ensures written { Writes (spelled (integer (pos v)))
+            (W.written self.old) (W.written self.new) result }
         ensures memory { WantsMemoryOnlyIf W.takes_memory result }
     {
         push_head(&mut self.writer, 0, v)
@@ -154,9 +167,11 @@ impl<W: Write> Serializer<W> {
     /// [0, u64::MAX] range")`.
     #[tactic(auto, unfolding(ipld_tree::specs::Spelled::spelled))]
     pub fn serialize_u128(&mut self, v: u128) -> Result<(), EncodeError<W::Error>>
-        ensures written { Writes (spelled (integer (pos v))) (W.written self.old) (W.written self.new) result }
+        ensures written { Writes (spelled (integer (pos v)))
+            (W.written self.old) (W.written self.new) result }
         ensures memory { WantsMemoryOnlyIf W.takes_memory result }
-        ensures message { IfErr result (IsMessage (codes "Unsigned integer must be within [0, u64::MAX] range")) }
+        ensures message { IfErr result
+            (IsMessage (codes "Unsigned integer must be within [0, u64::MAX] range")) }
     {
         match u64::try_from(v) {
             Ok(argument) => push_head(&mut self.writer, 0, argument),
@@ -166,7 +181,8 @@ impl<W: Write> Serializer<W> {
 
     /// A text of one character.
     pub fn serialize_char(&mut self, v: char) -> Result<(), EncodeError<W::Error>>
-        ensures written { Writes (spelled (text (encode_utf8 v))) (W.written self.old) (W.written self.new) result }
+        ensures written { Writes (spelled (text (encode_utf8 v)))
+            (W.written self.old) (W.written self.new) result }
         ensures memory { WantsMemoryOnlyIf W.takes_memory result }
         ensures well_formed { OnOk result (IsTree (text (encode_utf8 v))) }
     {
@@ -177,7 +193,8 @@ impl<W: Write> Serializer<W> {
     /// A head of major type 3 and the bytes of the text.
     #[tactic(auto, unfolding(ipld_tree::specs::Spelled::spelled))]
     pub fn serialize_str(&mut self, v: &str) -> Result<(), EncodeError<W::Error>>
-        ensures written { Writes (spelled (text v.now)) (W.written self.old) (W.written self.new) result }
+        ensures written { Writes (spelled (text v.now))
+            (W.written self.old) (W.written self.new) result }
         ensures memory { WantsMemoryOnlyIf W.takes_memory result }
     {
         push_counted(&mut self.writer, 3, v.as_bytes())
@@ -186,7 +203,8 @@ impl<W: Write> Serializer<W> {
     /// A head of major type 2 and the bytes.
     #[tactic(auto, unfolding(ipld_tree::specs::Spelled::spelled))]
     pub fn serialize_bytes(&mut self, v: &[u8]) -> Result<(), EncodeError<W::Error>>
-        ensures written { Writes (spelled (bytes v.now)) (W.written self.old) (W.written self.new) result }
+        ensures written { Writes (spelled (bytes v.now))
+            (W.written self.old) (W.written self.new) result }
         ensures memory { WantsMemoryOnlyIf W.takes_memory result }
     {
         push_counted(&mut self.writer, 2, v)
@@ -223,7 +241,8 @@ impl<W: Write> Serializer<W> {
     /// d8 2a, a head of major type 2, a zero byte and the binary form. Each CID has a spelling, so
     /// `Msg` is never answered.
     pub fn serialize_cid(&mut self, cid: &Cid) -> Result<(), EncodeError<W::Error>>
-        ensures written { Writes (spelled (link (cid_bytes cid.now))) (W.written self.old) (W.written self.new) result }
+        ensures written { Writes (spelled (link (cid_bytes cid.now)))
+            (W.written self.old) (W.written self.new) result }
         ensures memory { WantsMemoryOnlyIf W.takes_memory result }
         ensures well_formed { OnOk result (IsTree (link (cid_bytes cid.now))) }
         ensures spellable { IsSpellable (link (cid_bytes cid.now)) }
@@ -236,7 +255,8 @@ impl<W: Write> Serializer<W> {
     /// A head of a list or a map.
     pub(crate) fn push_head(&mut self, major: u8, count: usize) -> Result<(), EncodeError<W::Error>>
         requires { major ≤ 7 }
-        ensures written { Writes (spelled_head major count) (W.written self.old) (W.written self.new) result }
+        ensures written { Writes (spelled_head major count)
+            (W.written self.old) (W.written self.new) result }
         ensures memory { WantsMemoryOnlyIf W.takes_memory result }
     {
         push_head(&mut self.writer, major, count as u64)
@@ -256,7 +276,8 @@ impl<W: Write> Serializer<W> {
         alloc: Global,
         value: &T,
     ) -> Result<(), EncodeError<W::Error>>
-        ensures written { Writes (spelled_tree (T.tree value.now)) (W.written self.old) (W.written self.new) result }
+        ensures written { Writes (spelled_tree (T.tree value.now))
+            (W.written self.old) (W.written self.new) result }
         ensures well_formed { OnOk result (IfSome (T.tree value.now) IsTree) }
     {
         value.serialize(alloc, self)
@@ -269,7 +290,8 @@ impl<W: Write> Serializer<W> {
         _name: &'static str,
         value: &T,
     ) -> Result<(), EncodeError<W::Error>>
-        ensures written { Writes (spelled_tree (T.tree value.now)) (W.written self.old) (W.written self.new) result }
+        ensures written { Writes (spelled_tree (T.tree value.now))
+            (W.written self.old) (W.written self.new) result }
         ensures well_formed { OnOk result (IfSome (T.tree value.now) IsTree) }
     {
         self.serialize_some(alloc, value)
@@ -282,7 +304,8 @@ impl<W: Write> Serializer<W> {
         _index: u32,
         variant: &'static str,
     ) -> Result<(), EncodeError<W::Error>>
-        ensures written { Writes (spelled (text variant.now)) (W.written self.old) (W.written self.new) result }
+        ensures written { Writes (spelled (text variant.now))
+            (W.written self.old) (W.written self.new) result }
         ensures memory { WantsMemoryOnlyIf W.takes_memory result }
         ensures well_formed { OnOk result (IsTree (text variant.now)) }
     {
@@ -298,8 +321,10 @@ impl<W: Write> Serializer<W> {
         variant: &'static str,
         value: &T,
     ) -> Result<(), EncodeError<W::Error>>
-        ensures written { Writes (spelled_tree (variant_tree variant.now (T.tree value.now))) (W.written self.old) (W.written self.new) result }
-        ensures well_formed { OnOk result (IfSome (variant_tree variant.now (T.tree value.now)) IsTree) }
+        ensures written { Writes (spelled_tree (variant_tree variant.now (T.tree value.now)))
+            (W.written self.old) (W.written self.new) result }
+        ensures well_formed { OnOk result
+            (IfSome (variant_tree variant.now (T.tree value.now)) IsTree) }
     {
         self.push_variant(variant)?;
         Serialize::serialize(value, alloc, self)
@@ -307,7 +332,8 @@ impl<W: Write> Serializer<W> {
 
     /// The head of a map of one entry, and its key.
     fn push_variant(&mut self, name: &'static str) -> Result<(), EncodeError<W::Error>>
-        ensures written { Writes (variant_head name.now) (W.written self.old) (W.written self.new) result }
+        ensures written { Writes (variant_head name.now)
+            (W.written self.old) (W.written self.new) result }
         ensures well_formed { OnOk result (IsTree (text name.now)) }
     {
         self.push_head(5, 1)?;
@@ -322,7 +348,8 @@ impl<W: Write> Serializer<W> {
         len: usize,
     ) -> Result<(), EncodeError<W::Error>>
         requires { major ≤ 7 }
-        ensures written { Writes (variant_head variant.now ++? spelled_head major len) (W.written self.old) (W.written self.new) result }
+        ensures written { Writes (variant_head variant.now ++? spelled_head major len)
+            (W.written self.old) (W.written self.new) result }
         ensures well_formed { OnOk result (IsTree (text variant.now)) }
     {
         self.push_variant(variant)?;
@@ -337,7 +364,8 @@ fn push_counted<W: Write>(
     payload: &[u8],
 ) -> Result<(), EncodeError<W::Error>>
     requires { major ≤ 7 }
-    ensures written { Writes (spelled_bytes major payload.now) (W.written writer.old) (W.written writer.new) result }
+    ensures written { Writes (spelled_bytes major payload.now)
+        (W.written writer.old) (W.written writer.new) result }
     ensures memory { WantsMemoryOnlyIf W.takes_memory result }
 {
     push_head(writer, major, payload.len() as u64)?;
@@ -346,7 +374,8 @@ fn push_counted<W: Write>(
 
 /// Appends the link to a CID of this binary form.
 fn push_link<W: Write>(writer: &mut W, cid: &ArrayVec<u8, 86>) -> Result<(), EncodeError<W::Error>>
-    ensures written { Writes (spelled (link cid.now.items)) (W.written writer.old) (W.written writer.new) result }
+    ensures written { Writes (spelled (link cid.now.items))
+        (W.written writer.old) (W.written writer.new) result }
     ensures memory { WantsMemoryOnlyIf W.takes_memory result }
     ensures spellable { IsSpellable (link cid.now.items) }
 {

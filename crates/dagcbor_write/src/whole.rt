@@ -13,8 +13,12 @@ use std::convert::Infallible;
 use std::io;
 
 /// The one spelling of the value's tree. Refused with `Msg` only where it has none, as an integer
-/// outside
-/// -2^64 to 2^64 - 1 has none.
+/// outside -2^64 to 2^64 - 1 has none.
+///
+/// ```rust
+/// let block = to_vec(alloc, &(-300i16, "a"))?;
+/// agree(block.as_slice(), b"\x82\x39\x01\x2b\x61a".as_slice())?;
+/// ```
 pub fn to_vec<T: Serialize>(alloc: Global, value: &T) -> Result<Vec<u8>, EncodeError<Infallible>>
     ensures value { IfOk result (λ v. AreSpellingOf (T.tree value.now) v.items) }
     ensures refused { IfErr result (λ e. (e ≡ OutOfMemory) ⊎ HasNoSpelling (T.tree value.now)) }
@@ -27,14 +31,23 @@ pub fn to_vec<T: Serialize>(alloc: Global, value: &T) -> Result<Vec<u8>, EncodeE
 /// Writes the one spelling of the value's tree to the device. Refused with `Msg` as `to_vec`. After
 /// a refusal the device holds what it held before, and behind it some bytes: of a value with a
 /// spelling a beginning of that.
+///
+/// ```rust
+/// let mut device = Vec::new(alloc);
+/// to_writer(alloc, &mut device, &(1u8, "a"))?;
+/// to_writer(alloc, &mut device, &2u8)?;
+/// agree(device.as_slice(), b"\x82\x01\x61a\x02".as_slice())?;
+/// ```
 pub fn to_writer<W: io::Write, T: Serialize>(
     alloc: Global,
     writer: &mut W,
     value: &T,
 ) -> Result<(), EncodeError<io::Error>>
-    ensures value { IfOk result (λ _. GrewBySpelling (T.tree value.now) (W.contents writer.old) (W.contents writer.new)) }
+    ensures value { IfOk result
+        (λ _. GrewBySpelling (T.tree value.now) (W.contents writer.old) (W.contents writer.new)) }
     ensures refused { IfErr result (λ e. IsWriteExcuse e ⊎ HasNoSpelling (T.tree value.now)) }
-    ensures sent { IfErr result (λ _. GrewByFront (T.tree value.now) (W.contents writer.old) (W.contents writer.new)) }
+    ensures sent { IfErr result
+        (λ _. GrewByFront (T.tree value.now) (W.contents writer.old) (W.contents writer.new)) }
 {
     let mut ser = Serializer::new(IoRefWriter::new(writer));
     let result = value.serialize(alloc, &mut ser);

@@ -8,7 +8,8 @@ use Rattle.std.specs.Cmp.Lexicographic.{slice_cmp}
 -- n in at most so many groups of seven bits
 abbrev pub varint_groups : ℕ → ℕ → List ℕ
 varint_groups zero n = []
-varint_groups (suc more) n = if nat_lt n 128 then n ∷ [] else (128 + n % 128) ∷ varint_groups more (n / 128)
+varint_groups (suc more) n =
+    if nat_lt n 128 then n ∷ [] else (128 + n % 128) ∷ varint_groups more (n / 128)
 
 -- n below 2 ^ 64, in shortest form: the lowest group first, the high bit set on all but the last
 unfoldable pub varint : ℕ → List ℕ
@@ -22,7 +23,8 @@ pub record CidParts : Type 0 where
   pub digest : List ℕ
 
 abbrev pub cid_parts : ℕ → ℕ → ℕ → List ℕ → CidParts
-cid_parts version codec hash_code digest = record { version = version; codec = codec; hash_code = hash_code; digest = digest }
+cid_parts version codec hash_code digest =
+    record { version = version; codec = codec; hash_code = hash_code; digest = digest }
 
 -- version 0 names a node of the codec dag-pb by its SHA-256
 abbrev pub IsVersion0 : CidParts → Type 0
@@ -46,4 +48,6 @@ IsCid bytes = (parts : CidParts) × AreCidParts parts × (bytes ≡ cid_bytes pa
 
 -- CIDs compare by version, codec, hash code and the bytes of the digest, in this order
 abbrev pub cid_cmp : CidParts → CidParts → Ordering
-cid_cmp = then_cmp (on (λ c. c.version) nat_cmp) (then_cmp (on (λ c. c.codec) nat_cmp) (then_cmp (on (λ c. c.hash_code) nat_cmp) (on (λ c. c.digest) (slice_cmp nat_cmp))))
+cid_cmp = then_cmp (on (λ c. c.version) nat_cmp)
+    (then_cmp (on (λ c. c.codec) nat_cmp)
+    (then_cmp (on (λ c. c.hash_code) nat_cmp) (on (λ c. c.digest) (slice_cmp nat_cmp))))

@@ -43,7 +43,8 @@ IsFault InvalidVersion b = (first : ℕ) × (rest : List ℕ) × (b ≡ first �
     × ((digest : List ℕ) → length digest ≡ 32 → b ≢ 0x12 ∷ 0x20 ∷ digest)
 IsFault InvalidVarint b = AtVarint b IsNoVarint
 IsFault DigestTooLong b = AtDigest b (λ n rest. 64 < n)
-IsFault Truncated b = (b ≡ []) ⊎ (AtVarint b IsCutVarint ⊎ AtDigest b (λ n rest. (n ≤ 64) × (length rest < n)))
+IsFault Truncated b = (b ≡ [])
+    ⊎ (AtVarint b IsCutVarint ⊎ AtDigest b (λ n rest. (n ≤ 64) × (length rest < n)))
 IsFault TrailingBytes b = AtDigest b (λ n rest. (n ≤ 64) × (n < length rest))
 
 -- Bytes are read exactly where they are a CID, and refused for their first fault.

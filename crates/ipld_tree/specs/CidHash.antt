@@ -8,7 +8,8 @@ use Rattle.std.specs.Hash as fed
 use Rattle.ipld_tree.specs.Cid.{CidParts, cid_cmp}
 
 abbrev pub cid_hash_input : CidParts → fed.HashWrites
-cid_hash_input c = fed.u64 c.version ++ (fed.u64 c.codec ++ (fed.u64 c.hash_code ++ fed.slice fed.u8 c.digest))
+cid_hash_input c =
+    fed.u64 c.version ++ (fed.u64 c.codec ++ (fed.u64 c.hash_code ++ fed.slice fed.u8 c.digest))
 
 then_both : (a b : Ordering) → ordering_then a b ≡ Equal → (a ≡ Equal) × (b ≡ Equal)
 then_both Less b e = absurd (true≢false (ap is_lt e))

@@ -31,7 +31,8 @@ abbrev pub Encodes : {D E : Type 0} → (List ℕ → D → Type 0) → (E → T
     → Option (List ℕ) → Result (Unit {0}) E → Option (List ℕ) → Type 0
 Encodes is_encoding is_excuse datum old result new = MatchResult result
     (λ _. IsSomeAnd datum (λ d. (b : List ℕ) × is_encoding b d × Appends old new b))
-    (λ e. HasNoEncoding is_encoding datum ⊎ (is_excuse e × IfSome datum (λ d. (b : List ℕ) → is_encoding b d → AppendsFront old new b)))
+    (λ e. HasNoEncoding is_encoding datum
+    ⊎ (is_excuse e × IfSome datum (λ d. (b : List ℕ) → is_encoding b d → AppendsFront old new b)))
 
 -- An encoding of the value's data is answered. Only a value that has none is refused without an
 -- excuse.

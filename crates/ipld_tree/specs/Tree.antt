@@ -65,7 +65,8 @@ entries_of (p ∷ ps) = entry p.0 p.1 (entries_of ps)
 -- the entries, with t at k put into its place
 abbrev pub insert : List ℕ → Tree → Entries → Entries
 insert k t no_entries = entry k t no_entries
-insert k t (entry l u es) = if comes_before k l then entry k t (entry l u es) else entry l u (insert k t es)
+insert k t (entry l u es) =
+    if comes_before k l then entry k t (entry l u es) else entry l u (insert k t es)
 
 -- the pairs put one by one into their places
 abbrev pub ordered : List (List ℕ × Tree) → Entries

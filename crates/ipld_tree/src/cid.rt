@@ -72,6 +72,7 @@ impl Cid {
         Ok(from_parts(1, codec, hash_code, digest))
     }
 
+    /// 0 or 1.
     pub fn version(&self) -> u64
         ensures valid { AreCidParts self.now }
         ensures version { result ≡ self.now.version }
@@ -79,6 +80,7 @@ impl Cid {
         self.version
     }
 
+    /// The code of the format of what is linked (the multicodec table): 0x70 in version 0.
     pub fn codec(&self) -> u64
         ensures { result ≡ self.now.codec }
     {
@@ -92,6 +94,7 @@ impl Cid {
         self.hash_code
     }
 
+    /// The digest that the hash function gave, of at most 64 bytes.
     pub fn digest(&self) -> &[u8]
         ensures { result.now ≡ self.now.digest }
     {

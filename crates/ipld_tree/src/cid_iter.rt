@@ -15,6 +15,7 @@ pub struct CidIter {
 }
 
 impl CidIter {
+    /// An iterator over these.
     pub fn new(cids: Vec<Cid>) -> CidIter
         ensures { cids_left result ≡ cids.items }
     {

@@ -40,7 +40,8 @@ pub trait Codec<'de, T> {
 
     /// Reads the value whose encoding the source's bytes are, all of them.
     fn decode<R: BufRead + Drop>(alloc: Global, reader: R) -> Result<T, Self::Error>
-        ensures answers { Decodes is_encoding is_read meaning is_excuse (R.remaining reader) result };
+        ensures answers { Decodes is_encoding is_read meaning is_excuse
+            (R.remaining reader) result };
 
     /// Reads the value whose encoding the bytes are, all of them.
     fn decode_from_slice(alloc: Global, bytes: &[u8]) -> Result<T, Self::Error>
@@ -48,7 +49,8 @@ pub trait Codec<'de, T> {
 
     /// Appends the value's encoding to what the device holds, or a beginning of it.
     fn encode<W: Write>(alloc: Global, writer: &mut W, value: &T) -> Result<(), Self::Error>
-        ensures answers { Encodes is_encoding is_excuse (data_of value.now) (W.contents writer.old) result (W.contents writer.new) };
+        ensures answers { Encodes is_encoding is_excuse (data_of value.now)
+            (W.contents writer.old) result (W.contents writer.new) };
 
     /// The value's encoding.
     fn encode_to_vec(alloc: Global, value: &T) -> Result<Vec<u8>, Self::Error>

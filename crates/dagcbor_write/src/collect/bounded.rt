@@ -40,9 +40,11 @@ impl<W: Write> Serializer<W> {
         alloc: Global,
         len: usize,
     ) -> Result<BoundedCollect<'_, W>, EncodeError<W::Error>>
-        ensures* refused { sem 𝓛 (BeginsOrStops W.row W.written bounded_lent self.entry (spelled_head 4 len) result) }
+        ensures* refused { sem 𝓛 (BeginsOrStops W.row W.written bounded_lent self.entry
+            (spelled_head 4 len) result) }
         ensures same_reference { IfOk result (λ c. SameLoan self.entry (bounded_lent c)) }
-        ensures head { IfOk result (λ c. WroteAll (spelled_head 4 len) (W.written self.old) (W.written (bounded_lent c).now)) }
+        ensures head { IfOk result (λ c. WroteAll (spelled_head 4 len)
+            (W.written self.old) (W.written (bounded_lent c).now)) }
         ensures left { IfOk result (λ c. bounded_left c ≡ len) }
     {
         self.push_head(4, len)?;
@@ -60,9 +62,11 @@ impl<W: Write> Serializer<W> {
         _name: &'static str,
         len: usize,
     ) -> Result<BoundedCollect<'_, W>, EncodeError<W::Error>>
-        ensures* refused { sem 𝓛 (BeginsOrStops W.row W.written bounded_lent self.entry (spelled_head 4 len) result) }
+        ensures* refused { sem 𝓛 (BeginsOrStops W.row W.written bounded_lent self.entry
+            (spelled_head 4 len) result) }
         ensures same_reference { IfOk result (λ c. SameLoan self.entry (bounded_lent c)) }
-        ensures head { IfOk result (λ c. WroteAll (spelled_head 4 len) (W.written self.old) (W.written (bounded_lent c).now)) }
+        ensures head { IfOk result (λ c. WroteAll (spelled_head 4 len)
+            (W.written self.old) (W.written (bounded_lent c).now)) }
         ensures left { IfOk result (λ c. bounded_left c ≡ len) }
     {
         self.serialize_tuple(alloc, len)
@@ -78,9 +82,11 @@ impl<W: Write> Serializer<W> {
         variant: &'static str,
         len: usize,
     ) -> Result<BoundedCollect<'_, W>, EncodeError<W::Error>>
-        ensures* refused { sem 𝓛 (BeginsOrStops W.row W.written bounded_lent self.entry (variant_head variant.now ++? spelled_head 4 len) result) }
+        ensures* refused { sem 𝓛 (BeginsOrStops W.row W.written bounded_lent self.entry
+            (variant_head variant.now ++? spelled_head 4 len) result) }
         ensures same_reference { IfOk result (λ c. SameLoan self.entry (bounded_lent c)) }
-        ensures head { IfOk result (λ c. WroteAll (variant_head variant.now ++? spelled_head 4 len) (W.written self.old) (W.written (bounded_lent c).now)) }
+        ensures head { IfOk result (λ c. WroteAll (variant_head variant.now ++? spelled_head 4 len)
+            (W.written self.old) (W.written (bounded_lent c).now)) }
         ensures left { IfOk result (λ c. bounded_left c ≡ len) }
         ensures good_name { OnOk result (IsTree (text variant.now)) }
     {
@@ -109,7 +115,8 @@ impl<W: Write> BoundedCollect<'_, W> {
         requires { 0 < bounded_left self.old }
         ensures same_reference { SameLoan (bounded_lent self.old) (bounded_lent self.new) }
         ensures left { bounded_left self.new + 1 ≡ bounded_left self.old }
-        ensures item { Writes (spelled_tree (T.tree value.now)) (W.written (bounded_lent self.old).now) (W.written (bounded_lent self.new).now) result }
+        ensures item { Writes (spelled_tree (T.tree value.now))
+            (W.written (bounded_lent self.old).now) (W.written (bounded_lent self.new).now) result }
         ensures well_formed { OnOk result (IfSome (T.tree value.now) IsTree) }
     {
         self.left -= 1;
@@ -121,7 +128,8 @@ impl<W: Write> BoundedCollect<'_, W> {
         requires { 0 < bounded_left self.old }
         ensures same_reference { SameLoan (bounded_lent self.old) (bounded_lent self.new) }
         ensures left { bounded_left self.new + 1 ≡ bounded_left self.old }
-        ensures item { Writes (spelled_tree (T.tree value.now)) (W.written (bounded_lent self.old).now) (W.written (bounded_lent self.new).now) result }
+        ensures item { Writes (spelled_tree (T.tree value.now))
+            (W.written (bounded_lent self.old).now) (W.written (bounded_lent self.new).now) result }
         ensures well_formed { OnOk result (IfSome (T.tree value.now) IsTree) }
     {
         self.serialize_element(value)

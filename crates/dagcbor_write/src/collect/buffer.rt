@@ -19,7 +19,8 @@ pub(crate) fn append<T: Serialize, E>(
     refusal: &str,
 ) -> Result<(), EncodeError<E>>
     requires { length refusal.now ≤ 63 }
-    ensures taken { Collects (λ u. Grows (T.tree value.now) bytes.old.items bytes.new.items) (NoSpelling refusal.now (T.tree value.now)) result }
+    ensures taken { Collects (λ u. Grows (T.tree value.now) bytes.old.items bytes.new.items)
+        (NoSpelling refusal.now (T.tree value.now)) result }
     ensures kept { OnErr result (bytes.new.items ≡ bytes.old.items) }
 {
     let before = bytes.len();
@@ -82,7 +83,10 @@ impl Buffer {
         refusal: &str,
     ) -> Result<(), EncodeError<E>>
         requires { length refusal.now ≤ 63 }
-        ensures taken { Collects (λ u. Grows (T.tree value.now) self.old.bytes self.new.bytes × (self.new.count ≡ self.old.count + 1)) (NoSpelling refusal.now (T.tree value.now)) result }
+        ensures taken { Collects
+            (λ u. Grows (T.tree value.now) self.old.bytes self.new.bytes
+            × (self.new.count ≡ self.old.count + 1))
+            (NoSpelling refusal.now (T.tree value.now)) result }
         ensures kept { OnErr result (self.new ≡ self.old) }
     {
         append(alloc, &mut self.bytes, value, refusal)?;

@@ -65,9 +65,11 @@ impl<W: Write> Serializer<W> {
         _name: &'static str,
         len: usize,
     ) -> Result<CollectMap<'_, W>, EncodeError<W::Error>>
-        ensures* refused { sem 𝓛 (BeginsOrStops W.row W.written map_lent self.entry (spelled_head 5 len) result) }
+        ensures* refused { sem 𝓛 (BeginsOrStops W.row W.written map_lent self.entry
+            (spelled_head 5 len) result) }
         ensures same_reference { IfOk result (λ c. SameLoan self.entry (map_lent c)) }
-        ensures head { IfOk result (λ c. WroteAll (spelled_head 5 len) (W.written self.old) (W.written (map_lent c).now)) }
+        ensures head { IfOk result (λ c. WroteAll (spelled_head 5 len)
+            (W.written self.old) (W.written (map_lent c).now)) }
         ensures nothing { IfOk result (λ c. map_held c ≡ no_entry_yet (Some len)) }
     {
         self.push_head(5, len)?;
@@ -88,9 +90,11 @@ impl<W: Write> Serializer<W> {
         variant: &'static str,
         len: usize,
     ) -> Result<CollectMap<'_, W>, EncodeError<W::Error>>
-        ensures* refused { sem 𝓛 (BeginsOrStops W.row W.written map_lent self.entry (variant_head variant.now ++? spelled_head 5 len) result) }
+        ensures* refused { sem 𝓛 (BeginsOrStops W.row W.written map_lent self.entry
+            (variant_head variant.now ++? spelled_head 5 len) result) }
         ensures same_reference { IfOk result (λ c. SameLoan self.entry (map_lent c)) }
-        ensures head { IfOk result (λ c. WroteAll (variant_head variant.now ++? spelled_head 5 len) (W.written self.old) (W.written (map_lent c).now)) }
+        ensures head { IfOk result (λ c. WroteAll (variant_head variant.now ++? spelled_head 5 len)
+            (W.written self.old) (W.written (map_lent c).now)) }
         ensures nothing { IfOk result (λ c. map_held c ≡ no_entry_yet (Some len)) }
         ensures good_name { OnOk result (IsTree (text variant.now)) }
     {
@@ -105,11 +109,13 @@ impl<W: Write> Serializer<W> {
     /// Writes the entries in key order, behind the head if that is not out yet.
     fn push_map(&mut self, mut held: Gathered) -> Result<(), EncodeError<W::Error>>
         ensures written { (given : List Pair) → AreSpellingsOf given held.entries
-            → Writes (map_rest held.announced given) (W.written self.old) (W.written self.new) result }
+            → Writes (map_rest held.announced given)
+            (W.written self.old) (W.written self.new) result }
         ensures well_formed { (given : List Pair) → AreSpellingsOf given held.entries
             → OnOk result (IfSome (entries_tree given) IsTree) }
         ensures message { (given : List Pair) → AreSpellingsOf given held.entries
-            → IfErr result (OnMessage (λ m. (m ≡ codes "Map keys must be unique") × RepeatsKey given × (self.new ≡ self.old))) }
+            → IfErr result (OnMessage (λ m. (m ≡ codes "Map keys must be unique")
+            × RepeatsKey given × (self.new ≡ self.old))) }
     {
         if held.put_in_order() {
             self.push_entries(&held)
@@ -124,7 +130,8 @@ impl<W: Write> Serializer<W> {
         announced: Option<usize>,
         count: usize,
     ) -> Result<(), EncodeError<W::Error>>
-        ensures { Writes (head_rest announced count) (W.written self.old) (W.written self.new) result }
+        ensures { Writes (head_rest announced count)
+            (W.written self.old) (W.written self.new) result }
     {
         match announced {
             Some(_) => Ok(()),
@@ -134,7 +141,9 @@ impl<W: Write> Serializer<W> {
 
     /// Writes the entries as they stand, behind the head if that is not out yet.
     fn push_entries(&mut self, held: &Gathered) -> Result<(), EncodeError<W::Error>>
-        ensures { Writes (head_rest held.now.announced (length held.now.entries) ++? Some (entries_bytes held.now.entries)) (W.written self.old) (W.written self.new) result }
+        ensures { Writes (head_rest held.now.announced (length held.now.entries)
+            ++? Some (entries_bytes held.now.entries))
+            (W.written self.old) (W.written self.new) result }
     {
         self.push_head_if_due(held.announced(), held.len())?;
         for i in 0..held.len() {
@@ -167,7 +176,8 @@ impl<W: Write> CollectMap<'_, W> {
         ensures unchanged { (map_lent self.new).now ≡ (map_lent self.old).now }
         ensures announced { (map_held self.new).announced ≡ (map_held self.old).announced }
         ensures entries { (map_held self.new).entries ≡ (map_held self.old).entries }
-        ensures key { Collects (λ u. HoldsKey (K.tree key.now) (map_held self.new).key) (RefusesKey (K.tree key.now)) result }
+        ensures key { Collects (λ u. HoldsKey (K.tree key.now) (map_held self.new).key)
+            (RefusesKey (K.tree key.now)) result }
     {
         self.held.take_key(self.alloc, key)
     }
@@ -180,7 +190,10 @@ impl<W: Write> CollectMap<'_, W> {
         ensures unchanged { (map_lent self.new).now ≡ (map_lent self.old).now }
         ensures announced { (map_held self.new).announced ≡ (map_held self.old).announced }
         ensures key { (map_held self.new).key ≡ None }
-        ensures entry { Collects (λ u. JoinsValue (map_held self.old).key (V.tree value.now) (map_held self.old).entries (map_held self.new).entries) (RefusesValue (V.tree value.now)) result }
+        ensures entry { Collects
+            (λ u. JoinsValue (map_held self.old).key (V.tree value.now)
+            (map_held self.old).entries (map_held self.new).entries)
+            (RefusesValue (V.tree value.now)) result }
         ensures kept { OnErr result ((map_held self.new).entries ≡ (map_held self.old).entries) }
     {
         self.held.take_value(self.alloc, value)
@@ -197,7 +210,10 @@ impl<W: Write> CollectMap<'_, W> {
         ensures unchanged { (map_lent self.new).now ≡ (map_lent self.old).now }
         ensures announced { (map_held self.new).announced ≡ (map_held self.old).announced }
         ensures key { OnOk result ((map_held self.new).key ≡ None) }
-        ensures entry { Collects (λ u. JoinsEntry (K.tree key.now) (V.tree value.now) (map_held self.old).entries (map_held self.new).entries) (RefusesEntry (K.tree key.now) (V.tree value.now)) result }
+        ensures entry { Collects
+            (λ u. JoinsEntry (K.tree key.now) (V.tree value.now)
+            (map_held self.old).entries (map_held self.new).entries)
+            (RefusesEntry (K.tree key.now) (V.tree value.now)) result }
         ensures kept { OnErr result ((map_held self.new).entries ≡ (map_held self.old).entries) }
     {
         self.serialize_key(key)?;
@@ -215,7 +231,10 @@ impl<W: Write> CollectMap<'_, W> {
         ensures unchanged { (map_lent self.new).now ≡ (map_lent self.old).now }
         ensures announced { (map_held self.new).announced ≡ (map_held self.old).announced }
         ensures key { OnOk result ((map_held self.new).key ≡ None) }
-        ensures entry { Collects (λ u. JoinsEntry (Some (text name.now)) (V.tree value.now) (map_held self.old).entries (map_held self.new).entries) (RefusesValue (V.tree value.now)) result }
+        ensures entry { Collects
+            (λ u. JoinsEntry (Some (text name.now)) (V.tree value.now)
+            (map_held self.old).entries (map_held self.new).entries)
+            (RefusesValue (V.tree value.now)) result }
         ensures kept { OnErr result ((map_held self.new).entries ≡ (map_held self.old).entries) }
     {
         self.serialize_entry(&name, value)
@@ -226,11 +245,14 @@ impl<W: Write> CollectMap<'_, W> {
     pub fn end(self) -> Result<(), EncodeError<W::Error>>
         requires { IsTrue (is_complete (map_held self)) }
         ensures written { (given : List Pair) → AreSpellingsOf given (map_held self.entry).entries
-            → Writes (map_rest (map_held self.entry).announced given) (W.written (map_lent self.entry).now) (W.written self.exit.0.now) result }
-        ensures well_formed { (given : List Pair) → AreSpellingsOf given (map_held self.entry).entries
+            → Writes (map_rest (map_held self.entry).announced given)
+            (W.written (map_lent self.entry).now) (W.written self.exit.0.now) result }
+        ensures well_formed { (given : List Pair)
+            → AreSpellingsOf given (map_held self.entry).entries
             → OnOk result (IfSome (entries_tree given) IsTree) }
         ensures message { (given : List Pair) → AreSpellingsOf given (map_held self.entry).entries
-            → IfErr result (OnMessage (λ m. (m ≡ codes "Map keys must be unique") × RepeatsKey given × (self.exit.0.now ≡ (map_lent self.entry).now))) }
+            → IfErr result (OnMessage (λ m. (m ≡ codes "Map keys must be unique")
+            × RepeatsKey given × (self.exit.0.now ≡ (map_lent self.entry).now))) }
     {
         let Self {
             ser,

@@ -54,9 +54,11 @@ impl<W: Write> Serializer<W> {
         alloc: Global,
         len: Option<usize>,
     ) -> Result<CollectSeq<'_, W>, EncodeError<W::Error>>
-        ensures* refused { sem 𝓛 (BeginsOrStops W.row W.written list_lent self.entry (announced_head len) result) }
+        ensures* refused { sem 𝓛 (BeginsOrStops W.row W.written list_lent self.entry
+            (announced_head len) result) }
         ensures same_reference { IfOk result (λ c. SameLoan self.entry (list_lent c)) }
-        ensures head { IfOk result (λ c. WroteAll (announced_head len) (W.written self.old) (W.written (list_lent c).now)) }
+        ensures head { IfOk result (λ c. WroteAll (announced_head len)
+            (W.written self.old) (W.written (list_lent c).now)) }
         ensures fresh { IfOk result (λ c. IsFresh len (list_items c)) }
     {
         let items = self.begin_items(alloc, len)?;
@@ -72,7 +74,8 @@ impl<W: Write> Serializer<W> {
         alloc: Global,
         len: Option<usize>,
     ) -> Result<Items, EncodeError<W::Error>>
-        ensures head { Writes (announced_head len) (W.written self.old) (W.written self.new) result }
+        ensures head { Writes (announced_head len)
+            (W.written self.old) (W.written self.new) result }
         ensures fresh { IfOk result (IsFresh len) }
     {
         match len {
@@ -86,7 +89,8 @@ impl<W: Write> Serializer<W> {
 
     /// Writes the items that waited, behind their number.
     fn push_waiting(&mut self, buffer: &Buffer) -> Result<(), EncodeError<W::Error>>
-        ensures written { Writes (spelled_head 4 buffer.now.count ++? Some buffer.now.bytes) (W.written self.old) (W.written self.new) result }
+        ensures written { Writes (spelled_head 4 buffer.now.count ++? Some buffer.now.bytes)
+            (W.written self.old) (W.written self.new) result }
         ensures memory { WantsMemoryOnlyIf W.takes_memory result }
     {
         self.push_head(4, buffer.count())?;
@@ -113,7 +117,8 @@ impl<W: Write> CollectSeq<'_, W> {
     ) -> Result<(), EncodeError<W::Error>>
         requires { HasRoom (list_items self.old) }
         ensures same_reference { SameLoan (list_lent self.old) (list_lent self.new) }
-        ensures item { TakesElement (T.tree value.now) (list_items self.old) (W.written (list_lent self.old).now)
+        ensures item { TakesElement (T.tree value.now) (list_items self.old)
+            (W.written (list_lent self.old).now)
             (list_items self.new) (W.written (list_lent self.new).now) result }
         ensures well_formed { OnOk result (IfSome (T.tree value.now) IsTree) }
     {
@@ -130,9 +135,11 @@ impl<W: Write> CollectSeq<'_, W> {
     /// announced nothing is left to write, and nothing can go wrong.
     pub fn end(self) -> Result<(), EncodeError<W::Error>>
         requires { IsComplete (list_items self) }
-        ensures written { Writes (waiting_text (list_items self.entry)) (W.written (list_lent self.entry).now) (W.written self.exit.0.now) result }
+        ensures written { Writes (waiting_text (list_items self.entry))
+            (W.written (list_lent self.entry).now) (W.written self.exit.0.now) result }
         ensures memory { WantsMemoryOnlyIf W.takes_memory result }
-        ensures announced { IsSome (elements_left (list_items self.entry)) → IsOk result × (self.exit.0.now ≡ (list_lent self.entry).now) }
+        ensures announced { IsSome (elements_left (list_items self.entry)) → IsOk result
+            × (self.exit.0.now ≡ (list_lent self.entry).now) }
     {
         let Self {
             ser,

@@ -50,9 +50,14 @@ impl Model for Gathered {
 
     ghost Value = { MapState };
 
-    ghost view = { λ g. record { entries = map (entry_at g.bytes.items) g.spans.items; key = option_map (λ start. drop start g.bytes.items) g.key; announced = g.announced } };
+    ghost view = { λ g. record {
+      entries = map (entry_at g.bytes.items) g.spans.items;
+      key = option_map (λ start. drop start g.bytes.items) g.key;
+      announced = g.announced;
+    } };
 
-    ghost invariant = { λ g. All (IsWithin (length g.bytes.items)) g.spans.items × IfSome g.key (λ start. start ≤ length g.bytes.items) };
+    ghost invariant = { λ g. All (IsWithin (length g.bytes.items)) g.spans.items
+        × IfSome g.key (λ start. start ≤ length g.bytes.items) };
 }
 
 impl Gathered {
@@ -91,7 +96,9 @@ impl Gathered {
     /// The key and the value of the entry in place `i`.
     pub(crate) fn entry(&self, i: usize) -> &[u8]
         requires { i < length self.now.entries }
-        ensures { (d : Texts) → result.now ≡ (slice_index_or self.now.entries i d).0 ++ (slice_index_or self.now.entries i d).1 }
+        ensures { (d : Texts)
+            → result.now ≡ (slice_index_or self.now.entries i d).0
+            ++ (slice_index_or self.now.entries i d).1 }
     {
         let span = &self.spans[i];
         &self.bytes[span.start..span.end]
@@ -122,7 +129,8 @@ impl Gathered {
         requires { self.old.key ≡ None }
         ensures entries { self.new.entries ≡ self.old.entries }
         ensures announced { self.new.announced ≡ self.old.announced }
-        ensures key { Collects (λ u. HoldsKey (K.tree key.now) self.new.key) (RefusesKey (K.tree key.now)) result }
+        ensures key { Collects (λ u. HoldsKey (K.tree key.now) self.new.key)
+            (RefusesKey (K.tree key.now)) result }
     {
         let start = self.bytes.len();
         append(alloc, &mut self.bytes, key, BAD_KEY)?;
@@ -144,7 +152,9 @@ impl Gathered {
         requires { IsSome self.old.key }
         ensures key { self.new.key ≡ None }
         ensures announced { self.new.announced ≡ self.old.announced }
-        ensures entry { Collects (λ u. JoinsValue self.old.key (V.tree value.now) self.old.entries self.new.entries) (RefusesValue (V.tree value.now)) result }
+        ensures entry { Collects
+            (λ u. JoinsValue self.old.key (V.tree value.now) self.old.entries self.new.entries)
+            (RefusesValue (V.tree value.now)) result }
         ensures kept { OnErr result (self.new.entries ≡ self.old.entries) }
     {
         let Some(start) = self.key.take() else {

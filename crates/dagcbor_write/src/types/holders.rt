@@ -80,7 +80,8 @@ fn serialize_items<T: Serialize, W: Write>(
     items: &[T],
     ser: &mut Serializer<W>,
 ) -> Result<(), EncodeError<W::Error>>
-    ensures written { Writes (spelled_tree (list_tree (map T.tree items.now))) (W.written ser.old) (W.written ser.new) result }
+    ensures written { Writes (spelled_tree (list_tree (map T.tree items.now)))
+        (W.written ser.old) (W.written ser.new) result }
     ensures well_formed { OnOk result (IfSome (list_tree (map T.tree items.now)) IsTree) }
 {
     let mut list = ser.serialize_tuple(alloc, items.len())?;

@@ -22,7 +22,8 @@ trait Part: Copy {
         alloc: Global,
         ser: &mut Serializer<W>,
     ) -> Result<(), EncodeError<W::Error>>
-        ensures written { Writes (spelled_each (trees self)) (W.written ser.old) (W.written ser.new) result }
+        ensures written { Writes (spelled_each (trees self))
+            (W.written ser.old) (W.written ser.new) result }
         ensures well_formed { OnOk result (AreTrees (trees self)) };
 }
 
@@ -57,9 +58,13 @@ fn serialize_parts<A: Part, B: Part, C: Part, D: Part, W: Write>(
     len: usize,
     parts: (A, B, C, D),
 ) -> Result<(), EncodeError<W::Error>>
-    requires { len ≡ length (in_turn (A.trees parts.0) (B.trees parts.1) (C.trees parts.2) (D.trees parts.3)) }
-    ensures written { Writes (spelled_tree (list_tree (in_turn (A.trees parts.0) (B.trees parts.1) (C.trees parts.2) (D.trees parts.3)))) (W.written ser.old) (W.written ser.new) result }
-    ensures well_formed { OnOk result (IfSome (list_tree (in_turn (A.trees parts.0) (B.trees parts.1) (C.trees parts.2) (D.trees parts.3))) IsTree) }
+    requires { len ≡ length
+        (in_turn (A.trees parts.0) (B.trees parts.1) (C.trees parts.2) (D.trees parts.3)) }
+    ensures written { Writes (spelled_tree (list_tree
+        (in_turn (A.trees parts.0) (B.trees parts.1) (C.trees parts.2) (D.trees parts.3))))
+        (W.written ser.old) (W.written ser.new) result }
+    ensures well_formed { OnOk result (IfSome (list_tree
+        (in_turn (A.trees parts.0) (B.trees parts.1) (C.trees parts.2) (D.trees parts.3))) IsTree) }
 {
     ser.push_head(4, len)?;
     parts.0.serialize_part(alloc, ser)?;

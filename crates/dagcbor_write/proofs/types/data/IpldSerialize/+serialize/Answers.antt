@@ -1,5 +1,8 @@
-use Rattle.dagcbor_write.proofs.IpldTrees.{list_kind, map_kind, Writes_tree, good_tree}
+use Rattle.dagcbor_write.proofs.IpldTrees.{bool_kind, list_kind, map_kind, Writes_tree, good_tree}
 use Rattle.dagcbor_write.proofs.types.data.IpldSerialize.+serialize.Goals as goal
+
+pub returns-in-Bool-clause-written : goal.returns-in-Bool-clause-written
+returns-in-Bool-clause-written g t c = Writes_tree _ _ _ _ _ (bool_kind c.args.self.now c.in-Bool.b c.in-Bool.is) c.serialize_bool.ensures.written
 
 pub returns-in-List-clause-written : goal.returns-in-List-clause-written
 returns-in-List-clause-written g t c = Writes_tree _ _ _ _ _ (list_kind c.args.self.now c.in-List.items c.in-List.is) c.serialize.ensures.written

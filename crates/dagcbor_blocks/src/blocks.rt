@@ -36,6 +36,7 @@ fn in_order(alloc: Global, links: BTreeSet<Cid>) -> Result<Vec<Cid>, AllocError>
 }
 
 impl Blocks {
+    /// A store that holds nothing.
     pub fn new(alloc: Global) -> Blocks
         ensures { held_blocks result ≡ [] }
     {

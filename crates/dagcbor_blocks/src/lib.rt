@@ -1,4 +1,16 @@
 //! DAG-CBOR blocks under their names.
+//!
+//! Two blocks, and the first again (`src/tests.rt`):
+//!
+//! ```rust
+//! let mut blocks = Blocks::new(alloc);
+//! let name = blocks.put(&numbers(alloc)?)?;
+//! let text = blocks.put(&"a")?;
+//! let Some(back) = blocks.get::<Vec<u8>>(&name)? else {
+//!     return Err(Fail::new("no block"));
+//! };
+//! assert_eq!(rt; back.as_slice(), [1, 2, 3].as_slice());
+//! ```
 #![tactic(auto)]
 
 mod blocks;

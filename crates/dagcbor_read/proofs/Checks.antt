@@ -1,5 +1,5 @@
 -- Whether a slice is a block.
-use Rattle.std.proofs.Common.{◌≡◌, ◌≢◌, ◌++◌, append-nil, inl, inr, ℕ, pos, negsuc, ◌+◌, ◌/◌, ◌≤◌, List, [], ◌∷◌, true, false, refl, sym, ap, ◌∙◌, subst, arith}
+use Rattle.std.proofs.Common.{◌≡◌, ◌≢◌, ◌++◌, append-nil, inl, inr, ℕ, pos, negsuc, ◌+◌, ◌/◌, ◌≤◌, List, [], ◌∷◌, length, true, false, refl, sym, ap, ◌∙◌, subst, arith}
 use Rattle.std.specs.Prelude.{Option, Some, IfSome, ⊤}
 use Rattle.std.specs.List.{slice_get}
 use Rattle.std.specs.declared.convert.Infallible.{Infallible}
@@ -15,6 +15,7 @@ use Rattle.ipld_tree.proofs.Fronts.{is_simple}
 use Rattle.dagcbor_items.specs.ItemCauses.{CauseInside}
 use Rattle.dagcbor_items.specs.Untyped.{HasItem, TakesItem}
 use Rattle.dagcbor_items.specs.Walks.{WalkLacks}
+use Rattle.dagcbor_items.specs.Judging.{SplitsItem}
 use Rattle.dagcbor_items.proofs.Fronts.{major_of_front, shorter}
 use Rattle.dagcbor_items.proofs.Walking.{more_lacks}
 use Rattle.dagcbor_read.specs.declared.kind.Kind.{Kind}
@@ -88,3 +89,13 @@ bool_kind byte t more rest other large f = elim (is_simple t (greatest_major t (
     | inr h ↦ absurd (other (simple_first byte 0xf6 t null more rest h.0 refl f))
   ]
 ]
+
+-- ---- a block at one look
+
+-- an item whose rest has no byte is the whole
+pub judged_whole : (b rest : List ℕ) → length rest ≡ 0 → (k : SplitsItem b 256 rest) → IsBlock b k.0
+judged_whole b rest none k = (record { well_formed = k.1.well_formed; spellable = k.1.spellable; is = k.1.is ∙ ap (λ x. spelling k.0 ++ x) (empty rest none) ∙ append-nil (spelling k.0) }, k.2)
+  where
+    empty : (x : List ℕ) → length x ≡ 0 → x ≡ []
+    empty [] e = refl
+    empty (y ∷ ys) e = absurd (omega (arith, e))

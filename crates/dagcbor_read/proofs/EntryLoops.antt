@@ -19,11 +19,6 @@ use Rattle.dagcbor_read.proofs.EntryRows.{FieldsSoFar, none_so_far, key_not_read
 use Rattle.dagcbor_read.proofs.FieldPlaces.{takes_as, front_as}
 use Rattle.dagcbor_read.proofs.Passing.{carried}
 
--- what a value shows, put into the place of a field
-pub slotted : {S V : Type 0} (f : Option V → S) (o : Option V) → option_map f (option_map Some o) ≡ option_map (λ v. f (Some v)) o
-slotted f None = refl
-slotted f (Some v) = refl
-
 module _ {S : Type 0} (shape : FieldShape S) (start : S) where
   -- A map was begun, and entries of it were read, which brought the state to s: the invariant of the loop.
   pub record MapSoFar (old : Progress) (entries : AccessorState) (s : S) (now : Progress) : Type 0 where

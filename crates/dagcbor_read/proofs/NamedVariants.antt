@@ -25,7 +25,7 @@ use Rattle.dagcbor_read.specs.Enums.{EnumState, enum_state, TakesForm, HasStepEn
 use Rattle.dagcbor_read.specs.declared.access.enum_accessor.EnumAccessor.{EnumAccessor}
 use Rattle.dagcbor_read.proofs.Answered.{answered, call_refused}
 use Rattle.dagcbor_read.proofs.FieldPlaces.{takes_as, front_as}
-use Rattle.dagcbor_read.proofs.Finishing.{finished, unfinished, not_read}
+use Rattle.dagcbor_read.proofs.Finishing.{unfinished}
 use Rattle.dagcbor_read.proofs.Passing.{SameReader, carried}
 
 -- ---- texts and the first byte
@@ -422,13 +422,6 @@ module _ {V : Type 0} (shape : EnumShape V) where
 -- ---- the fields that a variant holds make a value, as a struct's do
 
 module _ {S W : Type 0} (fields : FieldShape S) (start : S) (finish : S → Option W) {T : Type 0} (E : Type 0) (meaning : T → S) (e : EnumState) (old new : Progress) where
-  pub held_finished : (s : T) {w : W} → finish (meaning s) ≡ Some w → ReadsFieldsHeld {E = E} meaning (fields_of fields start) e old (Ok s) new
-      → ReadsFieldsHeld {E = E} (λ (s : T). w) (struct_of fields start finish) e old (Ok s) new
-  held_finished s is h sound =
-      let r = h sound in
-      let f = finished (fields_of fields start) finish (λ (u : Unit {0}). (r.0, r.1.1.1)) is tt in
-      (r.0, (r.1.0, (r.1.1.0, f.1, r.1.1.2)))
-
   -- a field that must be there was not there
   pub held_unfinished : (s : T) (r : DecodeError E) (message : Name) → r ≡ Msg message → finish (meaning s) ≡ None → ReadsFieldsHeld {E = E} meaning (fields_of fields start) e old (Ok s) new
       → ReadsFieldsHeld {T = W} (λ w. w) (struct_of fields start finish) e old (Err r) new
@@ -441,16 +434,6 @@ module _ {S W : Type 0} (fields : FieldShape S) (start : S) (finish : S → Opti
       told_refused (fields.borrows ≡ true) old.input r new.input is (same ∙ k.1.1.1.same.faults)
       (subst (λ x. Refuses {E = E} (HasFront (struct_of fields start finish) old.input) ⊤ (fields.borrows ≡ true) Anything old.input x end) is u).1 in
       (tt, subst (λ b. MatchBool b (Refuses (HasFront (struct_of fields start finish) old.input) ⊤ (fields.borrows ≡ true) Anything old.input r new.input) (IsOtherForm e r × (new.input ≡ old.input))) (sym k.1.0) moved)
-
-  -- the fields were refused
-  pub held_not_read : (r : DecodeError E) → ReadsFieldsHeld meaning (fields_of fields start) e old (Err r) new
-      → ReadsFieldsHeld {T = W} (λ w. w) (struct_of fields start finish) e old (Err r) new
-  held_not_read r h sound = (tt, by e.in_map (h sound).1)
-    where
-      by : (m : Bool) → MatchBool m (Refuses (HasFront (fields_of fields start) old.input) ⊤ (fields.borrows ≡ true) Anything old.input r new.input) (IsOtherForm e r × (new.input ≡ old.input))
-          → MatchBool m (Refuses (HasFront (struct_of fields start finish) old.input) ⊤ (fields.borrows ≡ true) Anything old.input r new.input) (IsOtherForm e r × (new.input ≡ old.input))
-      by true g = not_read (fields_of fields start) finish (fields.borrows ≡ true) old.input new.input r (λ (u : Unit {0}). g) tt
-      by false g = g
 
 -- a field that must be there was not among those that the variant holds
 pub field_missing : {V W S T : Type 0} (shape : EnumShape V) (f : W → V) (fields : FieldShape S) (start : S) (finish : S → Option W) (E : Type 0) (meaning : T → S) (borrows : Type 0)

@@ -58,3 +58,25 @@ passed T U E false e Same Q Q' f h = f h
 pub call_passed_on : {T U E : Type 0} (reads : Reading → Result T (DecodeError E) → Reading → Type 0) (reads' : Reading → Result U (DecodeError E) → Reading → Type 0) (old new : Progress) (e : DecodeError E)
     → (reads old.input (Err e) new.input → reads' old.input (Err e) new.input) → Call reads old (Err e) new → Call reads' old (Err e) new
 call_passed_on {T} {U} {E} reads reads' old new e f h = passed T U E old.failed e _ _ _ (λ k. (k.0, f k.1)) h
+
+-- ---- a call that begins, and reads by another
+
+-- what beginning did: it counts as refused until it answers
+abbrev Begun : Progress → Progress → Type 0
+Begun old mid = (old.failed ≡ false) × (mid ≡ record { input = old.input; failed = true })
+
+pub begun_and_read : {T E : Type 0} (reads : Reading → Result T (DecodeError E) → Reading → Type 0)
+    (old mid : Progress) (v : T) (now : Reading) → Begun old mid → reads mid.input (Ok v) now
+    → Call reads old (Ok v) (record { input = now; failed = false })
+begun_and_read reads old mid v now b r =
+    called reads old _ (Ok v) b.0 (refl, subst (λ (p : Progress). reads p.input (Ok v) now) b.1 r)
+
+-- the error that `?` hands on
+pub begun_and_refused : {T E : Type 0} (reads : Reading → Result T (DecodeError E) → Reading → Type 0)
+    (old mid : Progress) (r : Result T (DecodeError E)) (e : DecodeError E) (now : Reading)
+    → Begun old mid → IsErrAnd r (λ y. y ≡ e) → reads mid.input (Err e) now
+    → Call reads old r (record { input = now; failed = mid.failed })
+begun_and_refused reads old mid r e now b h q =
+    call_refused reads old _ r e h
+    (called reads old (record { input = now; failed = mid.failed }) (Err e) b.0
+    (ap (λ (p : Progress). p.failed) b.1, subst (λ (p : Progress). reads p.input (Err e) now) b.1 q))

@@ -1,5 +1,5 @@
 -- What reading the links of an item answers and refuses.
-use Rattle.std.specs.Prelude.{◌≡◌, ℕ, ◌≤◌, List, Result, MatchResult, Vec, ⊤}
+use Rattle.std.specs.Prelude.{◌≡◌, ℕ, ◌≤◌, Bool, true, List, Result, MatchResult, Vec, ⊤}
 use Rattle.std.specs.declared.alloc.Global.{Global}
 use Rattle.std.specs.declared.convert.Infallible.{Infallible}
 use Rattle.dagcbor_heads.specs.Reading.{Reading, default_steps}
@@ -10,8 +10,10 @@ use Rattle.ipld_tree.specs.Cid.{CidParts}
 use Rattle.ipld_tree.specs.Tree.{Tree, any_need, links_of}
 use Rattle.ipld_tree.specs.Spelling.{IsFront}
 use Rattle.dagcbor_items.specs.ItemCauses.{CauseInside}
-use Rattle.dagcbor_items.specs.Walks.{forms, all_links}
+use Rattle.dagcbor_items.specs.Walks.{forms, all_links, Finds}
 use Rattle.dagcbor_items.specs.Reads.{Reads}
+use Rattle.dagcbor_read.specs.declared.kind.Kind.{Kind}
+use Rattle.dagcbor_read.specs.TreeKinds.{kind_of}
 
 -- The links of an item of any kind are read exactly where one stands within the steps left.
 abbrev pub ReadsLinks : {E : Type 0} → Reading → Result (Vec CidParts Global) (DecodeError E)
@@ -37,3 +39,11 @@ LinksRefused e b = ((links : List (List ℕ)) → AreFirstLinks b links → ⊥)
 -- `default_steps`. What follows it is not looked at.
 abbrev pub ReadsFirstLinks : List ℕ → Result (Vec CidParts Global) (DecodeError Infallible) → Type 0
 ReadsFirstLinks b result = MatchResult result (λ v. AreFirstLinks b (forms v.items)) (λ e. LinksRefused e b)
+
+-- The first item of a slice is gone through exactly where one stands that is read within
+-- `default_steps`, and its links are handed to the sink, which alone may want memory.
+abbrev pub WalksFirst : {S : Type 0} → (S → List (List ℕ) → Type 0) → Bool → List ℕ → S
+    → Result Kind (DecodeError Infallible) → S → Type 0
+WalksFirst holds takes_memory b before result after = MatchResult result
+    (λ kind. (t : Tree) × (rest : List ℕ) × IsFront b t rest × (any_need t ≤ default_steps) × (kind ≡ kind_of t) × Finds holds before (links_of t) after)
+    (λ e. LinksRefused e b × (e ≡ OutOfMemory → takes_memory ≡ true))

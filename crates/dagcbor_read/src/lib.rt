@@ -1,4 +1,14 @@
 //! Reading values from DAG-CBOR.
+//!
+//! The examples here are taken from `src/tests/recipes.rt` of `serde_ipld_dagcbor`; `agree` and
+//! `is_told` are the tests' own, and fail where the answer is another:
+//!
+//! ```rust
+//! let block = to_vec(alloc, &(-300i16, "a"))?;
+//! agree(block.as_slice(), b"\x82\x39\x01\x2b\x61a".as_slice())?;
+//! let pair: (i16, &str) = from_slice(alloc, &block)?;
+//! agree(pair, (-300, "a"))?;
+//! ```
 #![tactic(auto)]
 
 mod access;
@@ -18,7 +28,7 @@ pub use access::enum_accessor::EnumAccessor;
 pub use access::fields::{Fields, read_fields, read_into, skip_value};
 pub use access::structs::{Required, read_struct, read_struct_variant};
 pub use access::variants::{Variants, read_enum};
-pub use all_links::links_from_slice;
+pub use all_links::{links_from_slice, walk_slice};
 pub use deserialize::{Deserialize, DeserializeOwned};
 pub use deserializer::Deserializer;
 pub use kind::Kind;

@@ -14,6 +14,11 @@ use std::io::BufRead;
 
 /// The value whose spelling the source's bytes are, all of them: a value exactly where `from_slice`
 /// answers one, with the same view, where the source does not fault.
+///
+/// ```rust
+/// let source = BufReader::new(rt.alloc(), File::open(&rt, "ferris.cbor")?)?;
+/// let back: Mascot = from_reader(rt.alloc(), source)?;
+/// ```
 pub fn from_reader<'de, T: DeserializeOwned<'de>, R: BufRead + Drop>(
     alloc: Global,
     reader: R,
@@ -30,6 +35,13 @@ pub fn from_reader<'de, T: DeserializeOwned<'de>, R: BufRead + Drop>(
 
 /// The value whose spelling stands first in the source, which has exactly what follows it left.
 /// Nothing is said of what it has left after a refusal.
+///
+/// ```rust
+/// let mut source = device.as_slice();
+/// let first: (u8, String) = from_reader_once(alloc, &mut source)?;
+/// let last: u8 = from_reader(alloc, source)?;
+/// agree((first.0, first.1.as_str(), last), (1, "a", 2))
+/// ```
 pub fn from_reader_once<'de, T: DeserializeOwned<'de>, R: BufRead>(
     alloc: Global,
     reader: &mut R,

@@ -56,6 +56,15 @@ impl<'de, R: Read, T: Deserialize<'de>> Iterator for StreamDeserializer<'de, R, 
 }
 
 /// The values in the source.
+///
+/// ```rust
+/// let source = b"\x66foobar\x63baz".as_slice();
+/// let mut texts = Vec::new(alloc);
+/// for text in iter_from_reader::<String, _>(alloc, source) {
+///     texts.push(text?)?;
+/// }
+/// is_told(alloc, &texts, r#"["foobar", "baz"]"#)
+/// ```
 pub fn iter_from_reader<'de, T: DeserializeOwned<'de>, R: BufRead + Drop>(
     alloc: Global,
     source: R,

@@ -55,7 +55,8 @@ variant_name refusals.Failed = codes "Failed"
 abbrev pub IsVerdict : List ℕ → List ℕ → Type 0
 IsVerdict block said =
     ((t : Tree) × IsBlock block t × (said ≡ codes "ok " ++ kind_name (kind_of t)))
-    ⊎ ((e : DecodeError Infallible) × (e ≢ refusals.OutOfMemory) × SliceRefused e block × (said ≡ codes "refused " ++ variant_name e))
+    ⊎ ((e : DecodeError Infallible) × (e ≢ refusals.OutOfMemory) × SliceRefused e block
+    × (said ≡ codes "refused " ++ variant_name e))
 
 -- each in hexadecimal, behind a space
 abbrev pub behind_spaces : List (List ℕ) → List ℕ
@@ -71,7 +72,8 @@ links_text (first ∷ others) = encode_lower first ++ behind_spaces others
 abbrev pub IsLinkLine : List ℕ → List ℕ → Type 0
 IsLinkLine block said =
     ((links : List (List ℕ)) × AreFirstLinks block links × (said ≡ links_text links))
-    ⊎ ((e : DecodeError Infallible) × (e ≢ refusals.OutOfMemory) × LinksRefused e block × (said ≡ codes "refused " ++ variant_name e))
+    ⊎ ((e : DecodeError Infallible) × (e ≢ refusals.OutOfMemory) × LinksRefused e block
+    × (said ≡ codes "refused " ++ variant_name e))
 
 -- what a command says of a block
 abbrev pub IsSaid : Command → List ℕ → List ℕ → Type 0
@@ -80,7 +82,8 @@ IsSaid Links = IsLinkLine
 
 -- what a command says of a line
 abbrev pub IsAnswer : Command → List ℕ → List ℕ → Type 0
-IsAnswer command line said = MatchResult (decode_of line) (λ block. IsSaid command block said) (λ _. said ≡ codes "refused hex")
+IsAnswer command line said = MatchResult (decode_of line) (λ block. IsSaid command block said)
+    (λ _. said ≡ codes "refused hex")
 
 -- The definitions below take what may be said of a line as a parameter.
 

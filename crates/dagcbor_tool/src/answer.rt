@@ -69,7 +69,9 @@ fn sentence(alloc: Global, word: &str, name: &str) -> Result<Vec<u8>, AllocError
 
 /// What is written for a refusal. Want of memory is none, and ends the run.
 fn refused(alloc: Global, refusal: &DecodeError<Infallible>) -> Result<Vec<u8>, ToolError>
-    ensures written { IfOk result (λ v. (refusal.now ≢ DecodeError.OutOfMemory) × (v.items ≡ (codes "refused " ++ variant_name refusal.now) ++ 10 ∷ [])) }
+    ensures written { IfOk result
+        (λ v. (refusal.now ≢ DecodeError.OutOfMemory)
+        × (v.items ≡ (codes "refused " ++ variant_name refusal.now) ++ 10 ∷ [])) }
     ensures memory { IfErr result (λ e. e ≡ ToolError.OutOfMemory) }
 {
     match refusal {
@@ -80,7 +82,8 @@ fn refused(alloc: Global, refusal: &DecodeError<Infallible>) -> Result<Vec<u8>, 
 
 /// What `check` writes for a block.
 fn verdict(alloc: Global, block: &[u8]) -> Result<Vec<u8>, ToolError>
-    ensures written { IfOk result (λ v. (said : List ℕ) × IsVerdict block.now said × (v.items ≡ said ++ 10 ∷ [])) }
+    ensures written { IfOk result
+        (λ v. (said : List ℕ) × IsVerdict block.now said × (v.items ≡ said ++ 10 ∷ [])) }
     ensures memory { IfErr result (λ e. e ≡ ToolError.OutOfMemory) }
 {
     match check_slice(block) {
@@ -99,7 +102,8 @@ fn push_link(alloc: Global, text: &mut Vec<u8>, link: &Cid) -> Result<(), AllocE
 
 /// The links in hexadecimal, a space between, and a line feed.
 fn links_line(alloc: Global, first: &Cid, others: &[Cid]) -> Result<Vec<u8>, AllocError>
-    ensures { IfOk result (λ v. v.items ≡ links_text (cid_bytes first.now ∷ map cid_bytes others.now) ++ 10 ∷ []) }
+    ensures { IfOk result
+        (λ v. v.items ≡ links_text (cid_bytes first.now ∷ map cid_bytes others.now) ++ 10 ∷ []) }
 {
     let mut text = Vec::new(alloc);
     push_link(alloc, &mut text, first)?;
@@ -123,7 +127,8 @@ fn line_of(alloc: Global, links: &[Cid]) -> Result<Vec<u8>, AllocError>
 
 /// What `links` writes for a block.
 fn link_line(alloc: Global, block: &[u8]) -> Result<Vec<u8>, ToolError>
-    ensures written { IfOk result (λ v. (said : List ℕ) × IsLinkLine block.now said × (v.items ≡ said ++ 10 ∷ [])) }
+    ensures written { IfOk result
+        (λ v. (said : List ℕ) × IsLinkLine block.now said × (v.items ≡ said ++ 10 ∷ [])) }
     ensures memory { IfErr result (λ e. e ≡ ToolError.OutOfMemory) }
 {
     match links_from_slice(alloc, block) {
@@ -134,7 +139,8 @@ fn link_line(alloc: Global, block: &[u8]) -> Result<Vec<u8>, ToolError>
 
 /// What the command writes for a block.
 fn said_of(alloc: Global, command: Command, block: &[u8]) -> Result<Vec<u8>, ToolError>
-    ensures written { IfOk result (λ v. (said : List ℕ) × IsSaid command block.now said × (v.items ≡ said ++ 10 ∷ [])) }
+    ensures written { IfOk result
+        (λ v. (said : List ℕ) × IsSaid command block.now said × (v.items ≡ said ++ 10 ∷ [])) }
     ensures memory { IfErr result (λ e. e ≡ ToolError.OutOfMemory) }
 {
     match command {
@@ -145,7 +151,8 @@ fn said_of(alloc: Global, command: Command, block: &[u8]) -> Result<Vec<u8>, Too
 
 /// What is written for a line.
 pub fn answer_of(alloc: Global, command: Command, line: &[u8]) -> Result<Vec<u8>, ToolError>
-    ensures written { IfOk result (λ v. (said : List ℕ) × IsAnswer command line.now said × (v.items ≡ said ++ 10 ∷ [])) }
+    ensures written { IfOk result
+        (λ v. (said : List ℕ) × IsAnswer command line.now said × (v.items ≡ said ++ 10 ∷ [])) }
     ensures memory { IfErr result (λ e. e ≡ ToolError.OutOfMemory) }
 {
     match hex::decode(alloc, line) {

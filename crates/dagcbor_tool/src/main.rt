@@ -1,4 +1,12 @@
 //! The program `dagcbor`: tests lines of hexadecimal text against DAG-CBOR, or lists their links.
+//!
+//! Each line is answered by one (`src/tests.rt`):
+//!
+//! ```rust
+//! const LINES: &[u8] = b"1817\nzz\n\nF6\n63616263\r\nF5\n420102";
+//! run_check(alloc, &mut &LINES[..], &mut output)?;
+//! assert_eq!(rt; output.as_slice(), ANSWERS);
+//! ```
 #![tactic(auto)]
 
 mod answer;

@@ -18,9 +18,12 @@ fn answer_line<R: BufRead, W: Write>(
     writer: &mut W,
 ) -> Result<bool, ToolError>
     ensures { IfSome (R.remaining reader.old) (λ input. MatchResult result
-        (λ more. MatchBool more (AnswersOne (IsAnswer command) input (R.remaining reader.new) (W.contents writer.old) (W.contents writer.new))
+        (λ more. MatchBool more
+        (AnswersOne (IsAnswer command) input (R.remaining reader.new)
+        (W.contents writer.old) (W.contents writer.new))
         (FindsNone input (R.remaining reader.new) (W.contents writer.old) (W.contents writer.new)))
-        (λ _. BreaksOff (IsAnswer command) input (R.remaining reader.new) (W.contents writer.old) (W.contents writer.new))) }
+        (λ _. BreaksOff (IsAnswer command) input (R.remaining reader.new)
+        (W.contents writer.old) (W.contents writer.new))) }
 {
     let mut line = Vec::new(alloc);
     take_line(reader, &mut line)?;
@@ -40,9 +43,11 @@ pub fn run_lines<R: BufRead, W: Write>(
     writer: &mut W,
 ) -> Result<(), ToolError>
     ensures answered { OnOk result (IfSome (R.remaining reader.old) (λ input.
-        AnswersAll (IsAnswer command) input (R.remaining reader.new) (W.contents writer.old) (W.contents writer.new))) }
+        AnswersAll (IsAnswer command) input (R.remaining reader.new)
+        (W.contents writer.old) (W.contents writer.new))) }
     ensures broken { OnErr result (IfSome (R.remaining reader.old) (λ input.
-        AnswersSome (IsAnswer command) input (R.remaining reader.new) (W.contents writer.old) (W.contents writer.new))) }
+        AnswersSome (IsAnswer command) input (R.remaining reader.new)
+        (W.contents writer.old) (W.contents writer.new))) }
 {
     for _ in 0..u64::MAX {
         let more = answer_line(alloc, command, reader, writer)?;
@@ -60,9 +65,11 @@ pub fn run_check<R: BufRead, W: Write>(
     writer: &mut W,
 ) -> Result<(), ToolError>
     ensures answered { OnOk result (IfSome (R.remaining reader.old) (λ input.
-        AnswersAll (IsAnswer Command.Check) input (R.remaining reader.new) (W.contents writer.old) (W.contents writer.new))) }
+        AnswersAll (IsAnswer Command.Check) input (R.remaining reader.new)
+        (W.contents writer.old) (W.contents writer.new))) }
     ensures broken { OnErr result (IfSome (R.remaining reader.old) (λ input.
-        AnswersSome (IsAnswer Command.Check) input (R.remaining reader.new) (W.contents writer.old) (W.contents writer.new))) }
+        AnswersSome (IsAnswer Command.Check) input (R.remaining reader.new)
+        (W.contents writer.old) (W.contents writer.new))) }
 {
     run_lines(alloc, Command::Check, reader, writer)
 }
@@ -74,9 +81,11 @@ pub fn run_links<R: BufRead, W: Write>(
     writer: &mut W,
 ) -> Result<(), ToolError>
     ensures answered { OnOk result (IfSome (R.remaining reader.old) (λ input.
-        AnswersAll (IsAnswer Command.Links) input (R.remaining reader.new) (W.contents writer.old) (W.contents writer.new))) }
+        AnswersAll (IsAnswer Command.Links) input (R.remaining reader.new)
+        (W.contents writer.old) (W.contents writer.new))) }
     ensures broken { OnErr result (IfSome (R.remaining reader.old) (λ input.
-        AnswersSome (IsAnswer Command.Links) input (R.remaining reader.new) (W.contents writer.old) (W.contents writer.new))) }
+        AnswersSome (IsAnswer Command.Links) input (R.remaining reader.new)
+        (W.contents writer.old) (W.contents writer.new))) }
 {
     run_lines(alloc, Command::Links, reader, writer)
 }

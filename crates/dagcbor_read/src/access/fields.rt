@@ -41,6 +41,7 @@ pub trait Fields<'de>: Sized + Drop {
     /// Once all was read. None where a field is missing.
     ghost finish: { State → Option View };
 
+    /// The places before anything was read.
     fn unread(alloc: Global) -> Self::Places
         ensures { state result ≡ unread };
 
@@ -54,6 +55,7 @@ pub trait Fields<'de>: Sized + Drop {
     ) -> Result<(), DecodeError<R::Error>>
         ensures { Over R.reading (ReadsValue (λ _. state places.new) (value_of (Self.shape (texts names.now)) (state places.old) key.now)) de.old result de.new };
 
+    /// What the places make once all was read. None where a field is missing.
     fn finish(places: Self::Places) -> Option<Self>
         ensures { option_map meaning result ≡ finish (state places) };
 }

@@ -1,0 +1,5 @@
+use Rattle.std.proofs.Common.{rules}
+use Rattle.dagcbor_read.proofs.access.enum_accessor.EnumAccessor.newtype_variant.Goals as goal
+
+pub returns : goal.returns
+returns g c = search rules

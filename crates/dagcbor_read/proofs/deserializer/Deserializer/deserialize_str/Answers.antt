@@ -1,0 +1,10 @@
+use Rattle.std.specs.Prelude.{codes}
+use Rattle.dagcbor_items.specs.LeafReads.{ReadsStr}
+use Rattle.dagcbor_read.proofs.Progressing.{begun_and_read, begun_and_refused}
+use Rattle.dagcbor_read.proofs.deserializer.Deserializer.deserialize_str.Goals as goal
+
+pub returns-in_err-text-clause-text : goal.returns-in_err-text-clause-text
+returns-in_err-text-clause-text g c = begun_and_refused (ReadsStr (codes "string")) _ _ _ _ _ c.in_ok-begin.ensures c.from_residual-in_err-text.ensures.1 c.in_err-text.ensures.text
+
+pub returns-clause-text : goal.returns-clause-text
+returns-clause-text g c = begun_and_read (ReadsStr (codes "string")) _ _ _ _ c.in_ok-begin.ensures c.in_ok-text.ensures.text

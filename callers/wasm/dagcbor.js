@@ -1,0 +1,52 @@
+// The WebAssembly module for JavaScript: const { check, links, name } = await load(bytesOfTheModule).
+// It imports nothing, and has a 64-bit memory: addresses and lengths are BigInts.
+const PAGE = 65536;
+
+exports.load = async (module) => {
+  const { instance } = await WebAssembly.instantiate(module);
+  const { memory, __heap_base, dagcbor_check, dagcbor_links, dagcbor_name } = instance.exports;
+  const base = Number(__heap_base.value); // what stands from here on is the host's
+  const grow = (pages) => {
+    try {
+      memory.grow(BigInt(pages));
+    } catch (e) {
+      if (!(e instanceof TypeError)) throw e;
+      memory.grow(pages); // as V8 of Node 20 wants it
+    }
+  };
+  // Room for so many bytes from the base on.
+  const view = (length) => {
+    const more = base + length - memory.buffer.byteLength;
+    if (more > 0) grow(Math.ceil(more / PAGE));
+    return new Uint8Array(memory.buffer, base, length);
+  };
+  // From the base on: 64 bytes for a name or a number, the block, and then what is packed.
+  const put = (block, room) => {
+    const all = view(64 + block.length + room);
+    all.set(block, 64);
+    return [BigInt(base + 64), BigInt(block.length)];
+  };
+  const linksInto = (block, room) => {
+    const given = put(block, room);
+    const out = 64 + block.length;
+    const code = dagcbor_links(...given, BigInt(base + out), BigInt(room), BigInt(base));
+    const needed = Number(new DataView(memory.buffer, base, 8).getBigUint64(0, true));
+    return { code, needed, packed: view(out + room).slice(out, out + needed) };
+  };
+  return {
+    check: (block) => dagcbor_check(...put(block, 1)),
+    // The number of a refusal, or CIDs.
+    links: (block) => {
+      const { code, needed } = linksInto(block, 0);
+      if (code < 0) return code;
+      const { packed } = linksInto(block, needed);
+      const found = [];
+      for (let at = 0; at < needed; at += 1 + packed[at]) found.push(packed.slice(at + 1, at + 1 + packed[at]));
+      return found;
+    },
+    name: (block) => {
+      dagcbor_name(...put(block, 1), BigInt(base));
+      return view(36).slice();
+    },
+  };
+};

@@ -1,0 +1,70 @@
+/* DAG-CBOR for C: whether bytes are a block, the links of an item, and a block's name.
+
+   The library takes no memory and keeps none: link with libdagcbor_ffi.a alone.
+
+   What a caller owes, which nothing checks:
+   - `bytes` is not NULL, also where `length` is 0 (dagcbor_from); `length` bytes stand there, and nobody
+     writes them during the call; `length` is below 2^63.
+   - `out` likewise, for `room` bytes that nobody else reads or writes during the call, and `needed` for one
+     number; none of these overlaps another.
+   - The thread has 128 KB of stack left; the CPU is an x86-64-v2.
+   Calls on different threads need no lock: nothing is shared between them. */
+#ifndef DAGCBOR_H
+#define DAGCBOR_H
+
+#include <stddef.h>
+#include <stdint.h>
+
+#ifdef __cplusplus
+extern "C" {
+#endif
+
+/* The kind of the item. */
+enum dagcbor_kind {
+    DAGCBOR_NULL = 0,
+    DAGCBOR_BOOL = 1,
+    DAGCBOR_INTEGER = 2,
+    DAGCBOR_STRING = 3,
+    DAGCBOR_BYTES = 4,
+    DAGCBOR_LIST = 5,
+    DAGCBOR_MAP = 6,
+    DAGCBOR_LINK = 7
+};
+
+/* Why there is no such item. The other numbers from -1 to -19 are never answered: -2 a reader's fault, -6, -7,
+   -9, -10, -11, -13 (of types), -18 want of memory, -19 a reader that had failed. */
+enum dagcbor_refusal {
+    DAGCBOR_MSG = -1,              /* a link holds no CID */
+    DAGCBOR_EOF = -3,              /* the bytes end too early */
+    DAGCBOR_MISMATCH = -4,         /* a key that is no text, or another tag than that of a link */
+    DAGCBOR_UNSUPPORTED = -5,      /* a float or another simple value, or a link without a byte string */
+    DAGCBOR_REQUIRE_UTF8 = -8,     /* a text that is not UTF-8 */
+    DAGCBOR_DEPTH_OVERFLOW = -12,  /* too deep: a leaf takes one of 256 steps, and a list or a map two around what is in it */
+    DAGCBOR_TRAILING_DATA = -14,   /* bytes behind the item; of dagcbor_check alone */
+    DAGCBOR_INDEFINITE_SIZE = -15, /* an indefinite length, or a break */
+    DAGCBOR_NON_MINIMAL = -16,     /* a number or a length in more bytes than it needs */
+    DAGCBOR_UNORDERED_KEY = -17    /* a key that does not come behind the one before it */
+};
+
+/* The kind, from 0, exactly where the bytes are a block; else, below 0, a refusal whose cause stands in them. */
+int32_t dagcbor_check(const uint8_t *bytes, size_t length);
+
+/* The kind of the first item, from 0, exactly where one stands; what follows it is not looked at. Else, below 0, a
+   refusal whose cause stands in the bytes. *needed becomes the length of the item's links, packed in the order of
+   the block, repeats kept: for each a byte of its CID's length, and the CID. Where that is at most `room` they are
+   put at the front of `out`, and else `out` stays as it was. After a refusal *needed is 0 and `out` as it was. */
+int32_t dagcbor_links(const uint8_t *bytes, size_t length, uint8_t *out, size_t room, size_t *needed);
+
+/* The block's name: the CID of version 1, of the codec DAG-CBOR, by the SHA-256 of the bytes. Any bytes have one. */
+void dagcbor_name(const uint8_t *bytes, size_t length, uint8_t out[36]);
+
+/* A pointer that each call takes, also where there are no bytes and `bytes` is NULL. */
+static inline const uint8_t *dagcbor_from(const uint8_t *bytes, size_t length) {
+    return length ? bytes : (const uint8_t *)"";
+}
+
+#ifdef __cplusplus
+}
+#endif
+
+#endif

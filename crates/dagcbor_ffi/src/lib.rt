@@ -1,0 +1,51 @@
+//! DAG-CBOR for callers in other languages: the judge of blocks, the links of an item, and a
+//! block's name, by the C ABI.
+//!
+//! A slice crosses as a pointer and a length. `include/dagcbor.h` has what C declares, and
+//! `docs/OTHER_LANGUAGES.md` what a caller owes.
+#![tactic(auto)]
+
+ghost use Rattle.std.specs.Prelude.{◌≡◌};
+ghost use Rattle.sha2.specs.Sha256.{sha256};
+ghost use Rattle.ipld_tree.specs.Cid.{cid_bytes, cid_parts};
+ghost use Rattle.dagcbor_ffi.specs.Answers.{IsCheckAnswer, IsLinksAnswer};
+
+mod code;
+mod links;
+mod name;
+
+use crate::code::code_of;
+use crate::links::put_links;
+use crate::name::name_of;
+use dagcbor_read::check_slice;
+
+/// The number of the kind of a block, from 0; below 0 that of the refusal.
+#[unsafe(no_mangle)]
+pub extern "C" fn dagcbor_check(bytes: &[u8]) -> i32
+    ensures { IsCheckAnswer bytes.now result }
+{
+    code_of(&check_slice(bytes))
+}
+
+/// The number of the kind of the first item, from 0; below 0 that of the refusal. What follows the
+/// item is not looked at. `needed` becomes the length of its links, packed: each a byte of its
+/// CID's length, and the CID. Where `out` has room for them all they are put at its front, and else
+/// it stays.
+#[unsafe(no_mangle)]
+pub extern "C" fn dagcbor_links(bytes: &[u8], out: &mut [u8], needed: &mut usize) -> i32
+    ensures { IsLinksAnswer bytes.now out.old out.new needed.new result }
+{
+    code_of(&put_links(bytes, out, needed))
+}
+
+/// Puts the block's name into `out`: the CID of version 1, of the codec DAG-CBOR, by the SHA-256 of
+/// the bytes.
+#[unsafe(no_mangle)]
+pub extern "C" fn dagcbor_name(bytes: &[u8], out: &mut [u8; 36])
+    ensures { out.new ≡ cid_bytes (cid_parts 1 0x71 0x12 (sha256 bytes.now)) }
+{
+    *out = name_of(bytes);
+}
+
+#[cfg(test)]
+mod tests;

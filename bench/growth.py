@@ -1,62 +1,99 @@
 #!/usr/bin/env python3
-"""Memory and time against size: reading, judging and writing, for a thousand to four thousand items.
+"""Memory and time against size: the library's calls, proved and built, for a thousand to a million items.
 
-    bench/growth.py
+    bench/growth.py [WORD..]
 
-For each call a line with the processor time an item at each size, and the heap that was live at most beyond what was before, as
-a factor of the block's bytes. The time grows linearly where the numbers of a line stay what they are. The program is built with
-checks for bad accesses, so it is hundreds of times slower than a proved build: the growth is what counts. Nothing here is a test."""
+For each call (or each whose name has one of the words) a line with the processor time an item at each size, and the heap that was
+live at most beyond what was before, as a factor of the block's bytes. The time grows linearly where the numbers of a call stay
+what they are. For a call of `to_vec` the value that is written was before. Nothing here is a test."""
 
-import os
 import subprocess
 import sys
 import tempfile
 
-ROOT = os.path.dirname(os.path.dirname(os.path.realpath(__file__)))
-sys.dont_write_bytecode = True
-sys.path.insert(0, os.path.join(ROOT, "faults"))
+from blocks import LINK, digits, keyed, listed, numbers, string
+from measuring import ROOT, building, built, called, heap_counter
 
-import building
-
+SIZES = (1_000, 10_000, 100_000, 1_000_000)
+# So many items are gone through at each size, that the time can be told.
+ITEMS = 2_000_000
 # So many keys whose hashes agree in so many bits.
-KEYS, BITS = 3200, 11
+KEYS, BITS = 12_800, 14
+
+PAIRS = b"\xa1\x60\x00"
+TEXT = b"\x63abc"
+NUMBER = b"\x18\x18"
+
+# Each call with what its block is, and the block of so many items.
+CALLS = (
+    ("check_slice", "list of 00", lambda n: listed(n, b"\x00")),
+    ("check_slice", "list of a1 60 00", lambda n: listed(n, PAIRS)),
+    ("check_slice", "map", digits),
+    ("links_from_slice", "list of 00", lambda n: listed(n, b"\x00")),
+    ("links_from_slice", "list of links", lambda n: listed(n, LINK)),
+    ("from_slice::<IgnoredAny>", "map", digits),
+    ("from_reader::<IgnoredAny>", "map", digits),
+    ("from_slice::<Ipld>", "list of 00", lambda n: listed(n, b"\x00")),
+    ("from_slice::<Ipld>", "list of 61 61", lambda n: listed(n, b"\x61a")),
+    ("from_slice::<Ipld>", "list of 81 00", lambda n: listed(n, b"\x81\x00")),
+    ("from_slice::<Ipld>", "list of a1 60 00", lambda n: listed(n, PAIRS)),
+    ("from_slice::<Ipld>", "map", digits),
+    ("from_reader::<Ipld>", "list of 00", lambda n: listed(n, b"\x00")),
+    ("from_reader::<Ipld>", "map", digits),
+    ("from_slice::<Vec<u64>>", "list of 18 18", lambda n: listed(n, NUMBER)),
+    ("from_reader::<Vec<u64>>", "list of 18 18", lambda n: listed(n, NUMBER)),
+    ("from_slice::<BTreeMap>", "map", digits),
+    ("from_reader::<BTreeMap>", "map", digits),
+    ("from_slice::<HashMap>", "map", digits),
+    ("from_slice::<Bytes>", "byte string", string),
+    ("from_reader::<Bytes>", "byte string", string),
+    ("iter_from_reader::<String>", "stream of 63 61 62 63", lambda n: TEXT * n),
+    ("to_vec::<Ipld>", "list of 00", lambda n: listed(n, b"\x00")),
+    ("to_vec::<Ipld>", "map", digits),
+    ("to_vec::<Vec<u64>>", "list of 18 18", lambda n: listed(n, NUMBER)),
+    ("to_vec::<Bag<u64>>", "list of 18 18, its number last", lambda n: listed(n, NUMBER)),
+    ("to_vec::<BTreeMap>", "map, in key order", digits),
+    ("to_vec::<BTreeMap>", "map, in another order", numbers),
+    ("to_vec::<HashMap>", "map", digits),
+    ("to_vec::<Bytes>", "byte string", string),
+)
 
 
 def chosen_keys(folder):
-    """A file of keys in their order, one behind the other."""
-    program, file = os.path.join(folder, "chosen_keys"), os.path.join(folder, "keys")
+    """Keys of eight letters in their order, whose hashes agree in their low bits."""
+    program = f"{folder}/chosen_keys"
     words = [*building.c_compiler(), "-O2", f"{ROOT}/bench/chosen_keys.c", "-o", program]
     subprocess.run(words, check=True)
     found = subprocess.run([program, str(KEYS), str(BITS)], capture_output=True, check=True).stdout
-    with open(file, "wb") as out:
-        out.write(b"".join(sorted(found[i : i + 8] for i in range(0, len(found), 8))))
-    return file
+    return sorted(found[i : i + 8] for i in range(0, len(found), 8))
 
 
-def table(lines):
-    """One line for each call: its sizes stand behind one another."""
-    rows = {}
-    for line in lines:
-        name, items, size, time, held = line.split("\t")
-        rows.setdefault(name, []).append((int(items), int(size), int(time), int(held)))
-    print(f"{'call':36} {'items':>9} {'bytes':>9} {'ns an item':>11} {'heap, as a factor':>18}")
-    for name, sizes in rows.items():
-        for items, size, time, held in sizes:
-            print(f"{name:36} {items:9} {size:9} {time / items:11.0f} {held / size:18.2f}")
+def line(program, library, name, call, items, block, times):
+    """One line of the table: the calls' time and heap beyond those of a run that prepares and calls nothing."""
+    before, held_before = called(program, call, 0, block, library=library)
+    time, held = called(program, call, times, block, library=library)
+    each = max(0, time - before) * 1e9 / times / items
+    print(f"{name:48} {items:9} {len(block):9} {each:11.1f} {(held - held_before) / len(block):18.2f}", flush=True)
 
 
-def main():
-    if building.c_compiler() is None:
-        print("bench/growth.py: skipped, since there is no C compiler: cc, gcc or clang, or what CC names")
-        return 0
+def main(words):
+    program = built("dagcbor_bench")
     with tempfile.TemporaryDirectory(prefix="growth-") as folder:
-        crate, heap = f"{ROOT}/bench/growth", f"{ROOT}/bench/heap.c"
-        how = {"given": chosen_keys(folder), "seconds": 600}
-        lines, fault = building.build_and_run(ROOT, crate, ["serde_ipld_dagcbor"], heap, folder, **how)
-    table(lines)
-    if fault:
-        print(fault, file=sys.stderr)
-    return 1 if fault else 0
+        library = heap_counter(folder)
+        if library is None:
+            print("bench/growth.py: skipped, since there is no C compiler: cc, gcc or clang, or what CC names")
+            return
+        print(f"{'call':48} {'items':>9} {'bytes':>9} {'ns an item':>11} {'heap, as a factor':>18}")
+        for call, what, block in CALLS:
+            name = f"{call}, {what}"
+            if not words or any(word in name for word in words):
+                for items in SIZES:
+                    line(program, library, name, call, items, block(items), max(1, ITEMS // items))
+        if not words or any(word in "chosen keys" for word in words):
+            keys = chosen_keys(folder)
+            for call in ("from_slice::<HashMap>", "from_slice::<BTreeMap>"):
+                for items in (KEYS // 16, KEYS // 4, KEYS // 2, KEYS):
+                    line(program, library, f"{call}, chosen keys", call, items, keyed(keys[:items]), 1)
 
 
-sys.exit(main())
+main(sys.argv[1:])

@@ -1,0 +1,238 @@
+#!/usr/bin/env python3
+"""Speed, beside a Rust program over serde_cbor: the library's calls on small blocks, the program on 20 MB of lines, and the heap.
+
+    bench/speed.py [RUNS] [page]
+
+Builds what is not built, makes its data with a fixed seed, runs ours and the peer in turn, and prints tables of processor time, the
+least of so many runs (7 where none is given), and of the heap that a tree takes. With `page` the tables are put into docs/SPEED.md too.
+The peer is built where cargo and Debian's sources of serde_cbor and serde_derive are on the machine; else its columns are left out.
+Nothing here is a test."""
+
+import datetime
+import os
+import random
+import shutil
+import subprocess
+import sys
+import tempfile
+
+from blocks import listed
+from measuring import ROOT, built, called, heap_counter, processor_seconds
+
+SOURCES = "/usr/share/cargo/registry"
+MANIFEST = """[package]
+name = "peer"
+version = "0.1.0"
+edition = "2021"
+
+[dependencies]
+serde = "1"
+serde_cbor = {{ version = "0.11.2", features = ["tags"] }}
+serde_derive = "1"
+
+[[bin]]
+name = "calls"
+path = "{root}/bench/peer/calls.rs"
+
+[[bin]]
+name = "lines"
+path = "{root}/bench/peer/lines.rs"
+"""
+SETTINGS = f"""[source.crates-io]
+replace-with = "debian"
+
+[source.debian]
+directory = "{SOURCES}"
+"""
+LINES = 20_000_000
+PAGE = f"{ROOT}/docs/SPEED.md"
+BEGIN, END = "<!-- made by bench/speed.py page -->\n", "<!-- so far -->\n"
+
+told = []
+
+
+def tell(line):
+    """Prints the line, and keeps it for the page."""
+    print(line, flush=True)
+    told.append(line + "\n")
+
+
+def peer():
+    """The folder of the peer's programs, or none where they can't be built."""
+    there = shutil.which("cargo") and os.path.isdir(f"{SOURCES}/serde_cbor-0.11.2")
+    if not there or not os.path.isdir(f"{SOURCES}/serde_derive-1.0.152"):
+        print(f"the peer is skipped: it wants cargo, and serde_cbor 0.11.2 and serde_derive in {SOURCES}\n")
+        return None
+    folder = f"{ROOT}/bench/out/peer"
+    os.makedirs(f"{folder}/.cargo", exist_ok=True)
+    for name, text in (("Cargo.toml", MANIFEST.format(root=ROOT)), (".cargo/config.toml", SETTINGS)):
+        with open(f"{folder}/{name}", "w", encoding="utf-8") as file:
+            file.write(text)
+    ran = subprocess.run(["cargo", "build", "--release", "--offline", "-q"], cwd=folder)
+    if ran.returncode:
+        print("the peer is skipped: it could not be built\n")
+        return None
+    return f"{folder}/target/release"
+
+
+def record(chance):
+    """84 bytes: a map of four, with a link, and a list of three numbers that ends in a byte of its own."""
+    letters = bytes(chance.randrange(97, 123) for _ in range(9))
+    numbers = b"".join(b"\x19" + chance.randrange(256, 1 << 16).to_bytes(2, "big") for _ in range(2))
+    return (
+        b"\xa4\x63seq\x1a" + chance.randrange(1 << 16, 1 << 32).to_bytes(4, "big")
+        + b"\x64link\xd8\x2a\x58\x25\x00\x01\x71\x12\x20" + chance.randbytes(32)
+        + b"\x64name\x69" + letters + b"\x64tags\x83" + numbers + bytes([chance.randrange(24)])
+    )
+
+
+def number(chance):
+    """An integer of one to nine bytes."""
+    width = chance.choice((0, 1, 2, 4, 8))
+    if width == 0:
+        return bytes([chance.randrange(24)])
+    info = {1: 0x18, 2: 0x19, 4: 0x1A, 8: 0x1B}[width]
+    least = 24 if width == 1 else 1 << 4 * width
+    return bytes([info]) + chance.randrange(least, 1 << 8 * width).to_bytes(width, "big")
+
+
+KINDS = {
+    "records": record,
+    "numbers": lambda chance: b"\x98\xc8" + b"".join(number(chance) for _ in range(200)),
+    "nested": lambda chance: b"\x81" * 100 + number(chance),
+    "payload": lambda chance: b"\x59\x03\xe8" + chance.randbytes(1000),
+}
+
+
+def least_of(runs, calls):
+    """The least time of each of the calls, which are made in turn."""
+    times = [[call() for call in calls] for _ in range(runs)]
+    return [min(column) for column in zip(*times)]
+
+
+def row(name, unit, ours, theirs):
+    """A line of a table; the peer's time and the ratio where there are any."""
+    peers = "" if theirs is None else f" | {theirs * unit:.3g} | {ours / theirs:.2f}"
+    tell(f"| {name} | {ours * unit:.3g}{peers} |")
+
+
+def head(first, unit, folder):
+    columns = [first, f"ours, {unit}"] + ([f"serde_cbor, {unit}", "ours / serde_cbor"] if folder else [])
+    tell(f"\n| {' | '.join(columns)} |\n|{'---|' * len(columns)}")
+
+
+def calls(folder, runs):
+    """The library's calls, each on one small block."""
+    chance = random.Random(1)
+    good, integer = record(chance), b"\x1a\x12\x34\x56\x78"
+    wrong = good[:-1] + b"\xff"
+    rows = (
+        ("judging a record of 84 bytes", "check_slice", "IgnoredAny", good, 400_000),
+        ("judging an integer of five bytes", "check_slice", "IgnoredAny", integer, 4_000_000),
+        ("refusing the record, for its last byte", "check_slice", "IgnoredAny", wrong, 400_000),
+        ("reading a tree of the record", "from_slice::<Ipld>", "Value", good, 100_000),
+        ("refusing it as a tree", "from_slice::<Ipld>", "Value", wrong, 100_000),
+        ("writing the tree", "to_vec::<Ipld>", "Value", good, 100_000),
+        ("reading a struct of the record", "from_slice::<Record>", "Record", good, 200_000),
+        ("refusing it as a struct", "from_slice::<Record>", "Record", wrong, 200_000),
+        ("writing the struct", "to_vec::<Record>", "Record", good, 200_000),
+    )
+    ours = built("dagcbor_bench")
+    head("Call", "ns", folder)
+    for name, call, kind, block, times in rows:
+        right = 0 if block is wrong else times
+        # A run that calls nothing prepares what the others do, and its time is none of the call's.
+        runner = lambda program, call, times, right: lambda: called(program, call, times, block, right)[0]
+        row_calls = [runner(ours, call, times, right), runner(ours, call, 0, 0)]
+        if folder:
+            theirs = "to_vec::<" if call.startswith("to_vec") else "from_slice::<"
+            program = f"{folder}/calls"
+            row_calls += [runner(program, f"{theirs}{kind}>", times, right), runner(program, f"{theirs}{kind}>", 0, 0)]
+        best = least_of(runs, row_calls)
+        row(name, 1e9 / times, best[0] - best[1], best[2] - best[3] if folder else None)
+
+
+def program_seconds(words, file, piped, answers):
+    """The processor seconds of a program over the file, which it reads itself or through a pipe."""
+    with open(answers, "wb") as out, open(file, "rb") as source:
+        if not piped:
+            return processor_seconds(words, source, out)
+        with subprocess.Popen(["cat"], stdin=source, stdout=subprocess.PIPE) as cat:
+            return processor_seconds(words, cat.stdout, out)
+
+
+def lines(folder, runs, kind, scratch):
+    """The program over 20 MB of lines of one kind, from a file and from a pipe."""
+    chance, data = random.Random(2), bytearray()
+    while len(data) < LINES:
+        data += KINDS[kind](chance).hex().encode() + b"\n"
+    given = f"{scratch}/{kind}"
+    with open(given, "wb") as file:
+        file.write(data)
+    programs = [built("dagcbor_tool")] + ([f"{folder}/lines"] if folder else [])
+    for command in ("check", "links"):
+        for piped in (False, True):
+            runner = lambda at: lambda: program_seconds([programs[at], command], given, piped, f"{scratch}/answers{at}")
+            best = least_of(runs, [runner(at) for at in range(len(programs))])
+            if folder:
+                compared(scratch, command, kind)
+            name = f"`dagcbor {command}`, {kind}, from a {'pipe' if piped else 'file'}"
+            row(name, 1, best[0], best[1] if folder else None)
+
+
+def compared(scratch, command, kind):
+    """Ends the run where the programs don't answer the same."""
+    with open(f"{scratch}/answers0", "rb") as ours, open(f"{scratch}/answers1", "rb") as theirs:
+        if ours.read() != theirs.read():
+            sys.exit(f"bench/speed.py: the answers of {command} on {kind} differ")
+
+
+def heap(folder, scratch):
+    """The heap that a tree takes at most while it is read, as a factor of its block."""
+    library = heap_counter(scratch)
+    if library is None:
+        print("\nthe heap is skipped, since there is no C compiler")
+        return
+    programs = [(built("dagcbor_bench"), "from_slice::<Ipld>")]
+    programs += [(f"{folder}/calls", "from_slice::<Value>")] if folder else []
+    columns = ["A list of 100,000 times", "`Ipld`, as a factor of the block"] + (["`Value`"] if folder else [])
+    tell(f"\n| {' | '.join(columns)} |\n|{'---|' * len(columns)}")
+    for item in (b"\x00", b"\x81\x00", b"\xa1\x60\x00", record(random.Random(1))):
+        block, factors = listed(100_000, item), []
+        for program, call in programs:
+            before, most = (called(program, call, times, block, library=library)[1] for times in (0, 1))
+            factors.append(f"{(most - before) / len(block):.3g}")
+        tell(f"| `{item.hex(' ')}` | {' | '.join(factors)} |" if len(item) < 4 else f"| the record | {' | '.join(factors)} |")
+
+
+def machine():
+    """When and where this is."""
+    with open("/proc/cpuinfo", encoding="utf-8") as file:
+        speeds = [float(line.rpartition(":")[2]) for line in file if line.startswith("cpu MHz")]
+    clock = f", {speeds[0] / 1000:.1f} GHz" if speeds else ""
+    return f"{datetime.date.today()}, {os.cpu_count()} cores{clock}"
+
+
+def into_page():
+    """Puts what was told into the page, in the place of the tables that stand there."""
+    with open(PAGE, encoding="utf-8") as file:
+        before, _, rest = file.read().partition(BEGIN)
+    with open(PAGE, "w", encoding="utf-8") as file:
+        file.write(before + BEGIN + "".join(told) + "\n" + END + rest.partition(END)[2])
+
+
+def main(words):
+    runs = next((int(word) for word in words if word.isdigit()), 7)
+    folder = peer()
+    tell(f"Measured {machine()}, the least of {runs} runs.")
+    calls(folder, runs)
+    head("Program, 20 MB of lines", "s", folder)
+    with tempfile.TemporaryDirectory(prefix="speed-") as scratch:
+        for kind in KINDS:
+            lines(folder, runs, kind, scratch)
+        heap(folder, scratch)
+    if "page" in words:
+        into_page()
+
+
+main(sys.argv[1:])

@@ -1,0 +1,28 @@
+//! A list whose number of items comes last, so that they wait for it.
+
+ghost use Rattle.std.specs.Prelude.{map};
+ghost use Rattle.ipld_tree.specs.Tree.{list_tree};
+
+use serde_ipld_dagcbor::{EncodeError, Serialize, Serializer, Write};
+use std::alloc::Global;
+
+#[derive(Drop)]
+pub struct Bag<T> {
+    pub items: Vec<T>,
+}
+
+impl<T: Serialize> Serialize for Bag<T> {
+    ghost tree = { λ bag. list_tree (map T.tree bag.items.items) };
+
+    fn serialize<W: Write>(
+        &self,
+        alloc: Global,
+        ser: &mut Serializer<W>,
+    ) -> Result<(), EncodeError<W::Error>> {
+        let mut list = ser.serialize_seq(alloc, None)?;
+        for item in &self.items {
+            list.serialize_element(item)?;
+        }
+        list.end()
+    }
+}

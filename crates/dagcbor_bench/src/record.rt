@@ -1,0 +1,71 @@
+//! A record of four fields, written and read by hand.
+
+ghost use Rattle.std.specs.Prelude.{Some, [], ◌∷◌, codes, pos, string_bytes, map, refl};
+ghost use Rattle.ipld_tree.specs.Cid.{cid_bytes};
+ghost use Rattle.ipld_tree.specs.Tree.{text, integer, link, list_tree, entries_tree};
+ghost use Rattle.dagcbor_write.specs.Trees.{field};
+ghost use Rattle.dagcbor_bench.specs.Record.{RecordView, record_shape};
+
+use serde_ipld_dagcbor::{
+    Cid, DecodeError, Deserialize, DeserializeOwned, Deserializer, EncodeError, Read, Required,
+    Serialize, Serializer, Shown, Write, read_struct,
+};
+use std::alloc::Global;
+
+#[derive(Drop)]
+pub struct Record {
+    link: Cid,
+    name: String,
+    seq: u32,
+    tags: Vec<u16>,
+}
+
+impl Serialize for Record {
+    ghost tree = { λ r. entries_tree (field (codes "link") (Some (link (cid_bytes r.link)))
+        ∷ field (codes "name") (Some (text (string_bytes r.name)))
+        ∷ field (codes "seq") (Some (integer (pos r.seq)))
+        ∷ field (codes "tags") (list_tree (map (λ tag. Some (integer (pos tag))) r.tags.items)) ∷ []) };
+
+    fn serialize<W: Write>(
+        &self,
+        alloc: Global,
+        ser: &mut Serializer<W>,
+    ) -> Result<(), EncodeError<W::Error>> {
+        let mut fields = ser.serialize_struct(alloc, "Record", 4)?;
+        fields.serialize_field("link", &self.link)?;
+        fields.serialize_field("name", &self.name)?;
+        fields.serialize_field("seq", &self.seq)?;
+        fields.serialize_field("tags", &self.tags)?;
+        fields.end()
+    }
+}
+
+impl Shown for Record {
+    ghost View = { RecordView };
+
+    ghost meaning = { λ r. (cid_bytes r.link, (string_bytes r.name, (r.seq, (r.tags.items, tt)))) };
+
+    ghost shape = { record_shape };
+}
+
+impl<'de> Deserialize<'de> for Record {
+    fn deserialize<R: Read>(
+        alloc: Global,
+        de: &mut Deserializer<'de, R>,
+    ) -> Result<Record, DecodeError<R::Error>> {
+        let names = &["link", "name", "seq", "tags"];
+        let (Required(link), (Required(name), (Required(seq), (Required(tags), ())))) = read_struct(
+            alloc, "Record", names, de,
+        )?;
+        Ok(Record {
+            link,
+            name,
+            seq,
+            tags,
+        })
+    }
+}
+
+impl<'de> DeserializeOwned<'de> for Record {
+    ghost owned = { refl };
+}

@@ -6,6 +6,7 @@ pub mod DataEnum
 pub mod Second
 pub mod One
 pub mod Mascot
+pub mod Note
 pub mod Person
 pub mod OptionalPerson
 pub mod MyStruct

@@ -1,4 +1,16 @@
 //! DAG-CBOR, read and written with proofs: the names of the crate `serde_ipld_dagcbor`.
+//!
+//! docs/CALLING.md has recipes. This one is a test, in `src/tests/recipes.rt`; `agree` and
+//! `is_told` are the tests' own, and fail where the answer is another:
+//!
+//! ```rust
+//! let block = to_vec(alloc, &(-300i16, "a"))?;
+//! agree(block.as_slice(), b"\x82\x39\x01\x2b\x61a".as_slice())?;
+//! let pair: (i16, &str) = from_slice(alloc, &block)?;
+//! agree(pair, (-300, "a"))?;
+//! let value: Ipld = from_slice(alloc, &block)?;
+//! is_told(alloc, &value, r#"List([Integer(-300), String("a")])"#)
+//! ```
 #![tactic(auto)]
 
 pub mod codec;

@@ -3,6 +3,6 @@
 mod alike;
 mod by_hand;
 mod devices;
-mod readme;
+mod recipes;
 mod rows;
 mod told;

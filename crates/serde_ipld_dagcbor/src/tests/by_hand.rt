@@ -1,9 +1,11 @@
 //! Types written by hand, as a user of the library writes them.
 
 pub(crate) mod bag;
+mod caller;
 pub(crate) mod color;
 pub(crate) mod data_enum;
 pub(crate) mod enum_struct;
+pub(crate) mod first;
 pub(crate) mod kinded;
 pub(crate) mod mascot;
 pub(crate) mod my_struct;

@@ -102,7 +102,7 @@ fn a_mascot_goes_to_a_device_and_back(rt: HostRuntime) -> Result<(), Fail> {
     is_told(rt.alloc(), &back, TOLD)
 }
 
-/// The README quotes this.
+/// A file, behind the buffers of std.
 #[test]
 fn a_mascot_goes_to_a_file_and_back(rt: HostRuntime) -> Result<(), Fail> {
     let ferris = ferris(rt.alloc())?;

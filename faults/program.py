@@ -52,14 +52,18 @@ EIO, EINTR, EAGAIN, ENOSPC, EPIPE = 5, 4, 11, 28, 32
 class Sweep:
     def __init__(self, program, library, folder, report):
         self.program, self.library, self.report = program, library, report
-        self.counts = os.path.join(folder, "counts")
+        self.counts, self.input = (os.path.join(folder, name) for name in ("counts", "input"))
+        with open(self.input, "wb") as file:
+            file.write(INPUT)
 
     def run(self, words, **faults):
         """Status, standard output and standard error; and how many allocations, reads and writes there were."""
         faults = {name: str(value) for name, value in faults.items()}
         env = {**os.environ, **faults, "LD_PRELOAD": self.library, "COUNTS": self.counts}
-        how = {"input": INPUT, "capture_output": True, "env": env, "timeout": 60}
-        ran = subprocess.run([self.program, *words], **how)
+        # From a file, since it gives each read its bytes whole: a pipe's reads are as many as its two ends' turns.
+        with open(self.input, "rb") as file:
+            how = {"stdin": file, "capture_output": True, "env": env, "timeout": 60}
+            ran = subprocess.run([self.program, *words], **how)
         with open(self.counts, encoding="ascii") as file:
             allocations, reads, writes = map(int, file.read().split())
         return (ran.returncode, ran.stdout, ran.stderr), (allocations, reads, writes)

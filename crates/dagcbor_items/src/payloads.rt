@@ -15,10 +15,10 @@ use crate::key::{comes_before, read_key};
 use crate::majors::peek_major;
 use crate::strings::{pull_peeked_slice, pull_peeked_str};
 use dagcbor_heads::{DecodeError, Input, Len, Name, Read, SliceReader, pull_head};
+use simdutf8::compat::from_utf8;
 use std::alloc::Global;
 use std::borrow::CowStr;
 use std::convert::Infallible;
-use std::str::from_utf8;
 
 /// A reader whose strings can be skipped, and the keys of whose maps can be kept.
 pub trait PayloadReader: Read {

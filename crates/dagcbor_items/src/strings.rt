@@ -1,6 +1,7 @@
 //! Reading texts, characters and byte strings.
 
 ghost use Rattle.std.specs.Prelude.{◌≡◌, ◌<◌, ◌↔◌, true, IfOk, IfSome, MatchOption, IsUtf8, IfErr};
+ghost use Rattle.std.specs.Prelude.{string_bytes};
 ghost use Rattle.std.specs.Str.{chars};
 ghost use Rattle.std.specs.Cow.{cow_slice_items, cow_str_bytes, IsBorrowedSlice, IsBorrowedStr};
 ghost use Rattle.dagcbor_heads.specs.Inputs.{input_reading, OverInput};
@@ -14,9 +15,9 @@ ghost use Rattle.dagcbor_items.specs.Variants.{OfChar, OfHead, OfText};
 
 use crate::majors::peek_major;
 use dagcbor_heads::{DecodeError, Input, Name, Read, pull_head, pull_payload};
+use simdutf8::compat::from_utf8;
 use std::alloc::Global;
 use std::borrow::{CowSlice, CowStr};
-use std::str::from_utf8;
 
 /// The bytes of a string whose first byte has the major type, lent where the input lends.
 #[tactic(auto, using(crate::proofs::Variants::named_kind, crate::proofs::Variants::end_kind))]
@@ -37,6 +38,18 @@ fn pull_peeked_string<'de, R: Read>(
     pull_payload(alloc, name, input, count)
 }
 
+/// The bytes as a text, in their memory.
+fn owned_text_of(bytes: Vec<u8>) -> Option<String>
+    ensures { MatchOption result (¬ IsUtf8 bytes.items)
+        (λ s. (string_bytes s ≡ bytes.items) × IsUtf8 bytes.items) }
+{
+    match from_utf8(&bytes) {
+        Ok(_) => {}
+        Err(_) => return None,
+    }
+    Some(unsafe { String::from_utf8_unchecked(bytes) })
+}
+
 /// The payload as a text, lent where it is.
 fn text_of<'de>(payload: CowSlice<'de, u8>) -> Option<CowStr<'de>>
     ensures text { MatchOption result (¬ IsUtf8 (cow_slice_items payload.entry))
@@ -48,10 +61,7 @@ fn text_of<'de>(payload: CowSlice<'de, u8>) -> Option<CowStr<'de>>
             Ok(text) => Some(CowStr::Borrowed(text)),
             Err(_) => None,
         },
-        CowSlice::Owned(bytes) => match String::from_utf8(bytes) {
-            Ok(text) => Some(CowStr::Owned(text)),
-            Err(_) => None,
-        },
+        CowSlice::Owned(bytes) => Some(CowStr::Owned(owned_text_of(bytes)?)),
     }
 }
 

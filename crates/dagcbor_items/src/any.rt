@@ -1,6 +1,6 @@
 //! Reading items of any kind.
 
-ghost use Rattle.std.specs.Prelude.{◌≡◌, IfErr};
+ghost use Rattle.std.specs.Prelude.{◌≡◌, ◌++◌, ◌∷◌, [], IfErr, is_ok, if◌then◌else◌};
 ghost use Rattle.dagcbor_heads.specs.Inputs.{input_reading, OverInput};
 ghost use Rattle.dagcbor_heads.specs.Fronts.{StartsWith};
 ghost use Rattle.dagcbor_heads.specs.Looking.{Looks, LooksBehind};
@@ -14,7 +14,7 @@ use crate::leaf::{read_bytes, read_natural, read_negative, read_simple, read_tex
 use crate::link::read_link;
 use dagcbor_heads::{DecodeError, Input, Name, Read, is_indefinite, peek_one, pull_head};
 use ipld_tree::Ipld;
-use std::alloc::Global;
+use std::alloc::{AllocError, Global};
 use std::collections::BTreeMap;
 
 /// Reads an item of any kind, no deeper than the steps that are left.
@@ -112,11 +112,26 @@ fn read_items<R: Read>(
     let mut items = Vec::new(alloc);
     for _index in 0..count {
         let item = read_any(alloc, input)?;
-        if items.push(item).is_err() {
+        if push_item(&mut items, item, count).is_err() {
             return Err(DecodeError::OutOfMemory);
         }
     }
     Ok(items)
+}
+
+/// The room that a vector of items takes at first.
+const FIRST_ROOM: u64 = 4;
+
+/// Appends an item of a list of so many. A shorter list than the vector's first room takes room for
+/// its items alone: an `Ipld` has a hundred bytes.
+fn push_item(items: &mut Vec<Ipld>, item: Ipld, count: u64) -> Result<(), AllocError>
+    ensures { items.new.items
+        ≡ (if is_ok result then items.old.items ++ item ∷ [] else items.old.items) }
+{
+    if items.is_empty() {
+        items.reserve_exact(count.min(FIRST_ROOM) as usize)?;
+    }
+    items.push(item).map_err(|_| AllocError)
 }
 
 #[tactic(auto, using(crate::proofs::Variants::named_item))]

@@ -5,6 +5,7 @@ ghost use Rattle.dagcbor_heads.specs.declared.error.EncodeError.TheVariants.{Out
 ghost use Rattle.dagcbor_write.specs.Answers.{HasNoSpelling, AreSpellingOf, GrewBySpelling};
 ghost use Rattle.dagcbor_write.specs.Answers.{GrewByFront, IsWriteExcuse};
 
+use crate::collect::buffer::FIRST_ROOM;
 use crate::serialize::Serialize;
 use crate::serializer::Serializer;
 use dagcbor_heads::{BufWriter, EncodeError, IoRefWriter};
@@ -23,7 +24,10 @@ pub fn to_vec<T: Serialize>(alloc: Global, value: &T) -> Result<Vec<u8>, EncodeE
     ensures value { IfOk result (λ v. AreSpellingOf (T.tree value.now) v.items) }
     ensures refused { IfErr result (λ e. (e ≡ OutOfMemory) ⊎ HasNoSpelling (T.tree value.now)) }
 {
-    let mut ser = Serializer::new(BufWriter::new(Vec::new(alloc)));
+    let Ok(bytes) = Vec::with_capacity(alloc, FIRST_ROOM) else {
+        return Err(EncodeError::OutOfMemory);
+    };
+    let mut ser = Serializer::new(BufWriter::new(bytes));
     value.serialize(alloc, &mut ser)?;
     Ok(ser.into_inner().into_inner())
 }

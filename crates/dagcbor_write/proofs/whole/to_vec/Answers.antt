@@ -8,4 +8,4 @@ returns-in_err-serialize-clause-refused g c = refusal_answered _ _ _ _ _ c.from_
 pub returns-clause-value : goal.returns-clause-value
 returns-clause-value g c =
     spelling_answered _ _ c.into_inner-2.result c.in_ok-serialize.ensures.well_formed (c.into_inner-2.ensures ∙ c.into_inner.ensures)
-    (rw (c.new-ser.ensures ∙ c.new-2.ensures ∙ c.new.ensures.items) at c.in_ok-serialize.ensures.written)
+    (rw (c.new-ser.ensures ∙ c.new.ensures ∙ c.in-Ok.ensures.items) at c.in_ok-serialize.ensures.written)

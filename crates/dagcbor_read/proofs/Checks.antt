@@ -1,5 +1,5 @@
 -- Whether a slice is a block.
-use Rattle.std.proofs.Common.{◌≡◌, ◌≢◌, ◌++◌, append-nil, inl, inr, ℕ, pos, negsuc, ◌+◌, ◌/◌, ◌≤◌, List, [], ◌∷◌, length, true, false, refl, sym, ap, ◌∙◌, subst, arith}
+use Rattle.std.proofs.Common.{◌≡◌, ◌≢◌, ◌++◌, append-nil, inl, inr, ℕ, pos, negsuc, ◌+◌, ◌/◌, ◌≤◌, ◌<◌, List, [], ◌∷◌, length, true, false, refl, sym, ap, ◌∙◌, subst, arith}
 use Rattle.std.specs.Prelude.{Option, Some, IfSome, ⊤}
 use Rattle.std.specs.List.{slice_get}
 use Rattle.std.specs.declared.convert.Infallible.{Infallible}
@@ -22,7 +22,7 @@ use Rattle.dagcbor_read.specs.declared.kind.Kind.{Kind}
 use Rattle.dagcbor_read.specs.declared.kind.Kind.TheVariants as kinds
 use Rattle.dagcbor_read.specs.TreeKinds.{kind_of, IsKindAt, IsKindOfFront}
 use Rattle.dagcbor_read.specs.Whole.{IsBlock, SliceRefused}
-use Rattle.dagcbor_read.proofs.Wholes.{slice_refused, trailing}
+use Rattle.dagcbor_read.proofs.Wholes.{slice_refused, trailing, no_block}
 
 pub checked_refused : (b : List ℕ) (start new : Reading) (e : DecodeError Infallible) → start.left ≡ Some b → start.steps ≡ 256 → start.lends ≡ true
     → Refuses (HasItem 0 start) (WalkLacks false start) ⊥ (CauseInside (start.steps + 0)) start e new → SliceRefused e b × (e ≢ OutOfMemory)
@@ -99,3 +99,8 @@ judged_whole b rest none k = (record { well_formed = k.1.well_formed; spellable 
     empty : (x : List ℕ) → length x ≡ 0 → x ≡ []
     empty [] e = refl
     empty (y ∷ ys) e = absurd (omega (arith, e))
+
+-- an item with bytes behind it is not the whole
+pub judged_trailing : (b rest : List ℕ) → 0 < length rest → SplitsItem b 256 rest
+    → SliceRefused TrailingData b × (◌≢◌ {A = DecodeError Infallible} TrailingData OutOfMemory)
+judged_trailing b rest some k = ((no_block b rest k.0 k.1 some, (k.0, rest, k.1, some)), λ same. absurd (cc same))

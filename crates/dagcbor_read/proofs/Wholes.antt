@@ -31,7 +31,7 @@ block_item : (r : Reading) (b : List ℕ) (t : Tree) → r.left ≡ Some b → r
 block_item r b t l s h = record { bytes = b; tree = t; rest = []; left = l; front = whole_front h.0; within = omega (arith, h.1, s) }
 
 -- with bytes behind its item the whole is no block
-no_block : (b rest : List ℕ) (t : Tree) → IsFront b t rest → 0 < length rest → (u : Tree) → IsBlock b u → ⊥
+pub no_block : (b rest : List ℕ) (t : Tree) → IsFront b t rest → 0 < length rest → (u : Tree) → IsBlock b u → ⊥
 no_block b rest t f some u h = omega (arith, some, ap length (front_unique b rest [] t u f (whole_front h.0)).1)
 
 pub trailing : {old mid new : Reading} (b : List ℕ) (t : Tree) (byte : ℕ) → old.left ≡ Some b → TakesItem 0 old t mid → ShowsByte mid byte new → SliceRefused TrailingData b

@@ -87,7 +87,8 @@ pub fn check_slice(bytes: &[u8]) -> Result<Kind, DecodeError<Infallible>>
 {
     match behind_item(bytes, DEFAULT_STEPS) {
         Some([]) => Ok(kind_of_front(bytes)),
-        _ => check_slowly(bytes),
+        Some(_) => Err(DecodeError::TrailingData),
+        None => check_slowly(bytes),
     }
 }
 

@@ -19,6 +19,7 @@ mod payloads;
 mod simple;
 mod sink;
 mod strings;
+mod utf8;
 mod walk;
 
 pub use any::read_any;

@@ -14,8 +14,8 @@ ghost use Rattle.dagcbor_items.specs.Untyped.{SkipsItem, StartsWithMajor};
 use crate::key::{comes_before, read_key};
 use crate::majors::peek_major;
 use crate::strings::{pull_peeked_slice, pull_peeked_str};
+use crate::utf8::as_text;
 use dagcbor_heads::{DecodeError, Input, Len, Name, Read, SliceReader, pull_head};
-use simdutf8::compat::from_utf8;
 use std::alloc::Global;
 use std::borrow::CowStr;
 use std::convert::Infallible;
@@ -117,9 +117,9 @@ fn pull_peeked_lent_text<'de>(
     ensures variant { IfErr result OfText }
 {
     let payload = pull_peeked_lent_string(name, reader, 3)?;
-    match from_utf8(payload) {
-        Ok(text) => Ok(text),
-        Err(_) => Err(DecodeError::RequireUtf8 {
+    match as_text(payload) {
+        Some(text) => Ok(text),
+        None => Err(DecodeError::RequireUtf8 {
             name: Name::new(name),
         }),
     }

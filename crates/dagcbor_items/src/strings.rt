@@ -14,8 +14,8 @@ ghost use Rattle.dagcbor_items.specs.LeafReads.{ReadsByteSlice, ReadsOwnedBytes}
 ghost use Rattle.dagcbor_items.specs.Variants.{OfChar, OfHead, OfText};
 
 use crate::majors::peek_major;
+use crate::utf8::as_text;
 use dagcbor_heads::{DecodeError, Input, Name, Read, pull_head, pull_payload};
-use simdutf8::compat::from_utf8;
 use std::alloc::Global;
 use std::borrow::{CowSlice, CowStr};
 
@@ -43,10 +43,7 @@ fn owned_text_of(bytes: Vec<u8>) -> Option<String>
     ensures { MatchOption result (¬ IsUtf8 bytes.items)
         (λ s. (string_bytes s ≡ bytes.items) × IsUtf8 bytes.items) }
 {
-    match from_utf8(&bytes) {
-        Ok(_) => {}
-        Err(_) => return None,
-    }
+    as_text(&bytes)?;
     Some(unsafe { String::from_utf8_unchecked(bytes) })
 }
 
@@ -57,10 +54,7 @@ fn text_of<'de>(payload: CowSlice<'de, u8>) -> Option<CowStr<'de>>
     ensures lent { IfSome result (λ s. IsBorrowedStr s ↔ IsBorrowedSlice payload.entry) }
 {
     match payload {
-        CowSlice::Borrowed(bytes) => match from_utf8(bytes) {
-            Ok(text) => Some(CowStr::Borrowed(text)),
-            Err(_) => None,
-        },
+        CowSlice::Borrowed(bytes) => Some(CowStr::Borrowed(as_text(bytes)?)),
         CowSlice::Owned(bytes) => Some(CowStr::Owned(owned_text_of(bytes)?)),
     }
 }

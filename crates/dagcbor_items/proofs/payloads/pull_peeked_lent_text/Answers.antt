@@ -8,9 +8,9 @@ use Rattle.dagcbor_items.proofs.payloads.pull_peeked_lent_text.Goals as goal
 pub returns-in_err-payload-clause-text : goal.returns-in_err-payload-clause-text
 returns-in_err-payload-clause-text c = refused _ _ _ _ c.from_residual.ensures.1 (text_refused _ _ _ _ _ c.in_err-payload.ensures.string)
 
-pub returns-in-Ok-clause-text : goal.returns-in-Ok-clause-text
-returns-in-Ok-clause-text c =
-    text_taken c.in-Ok.text.now c.in_ok-payload.payload.now c.in-Ok.ensures.cases.0 (subst IsUtf8 (sym c.in-Ok.ensures.cases.0) c.in-Ok.ensures.cases.1) c.in_ok-payload.ensures.string
+pub returns-in-Some-clause-text : goal.returns-in-Some-clause-text
+returns-in-Some-clause-text c =
+    text_taken c.in-Some.text.now c.in_ok-payload.payload.now c.in-Some.ensures.0 (subst IsUtf8 (sym c.in-Some.ensures.0) c.in-Some.ensures.1) c.in_ok-payload.ensures.string
 
-pub returns-in-Err-clause-text : goal.returns-in-Err-clause-text
-returns-in-Err-clause-text c = garbled Infallible _ _ c.new.result c.new.ensures c.in_ok-payload.ensures.string c.in-Err.ensures.cases.0
+pub returns-in-None-clause-text : goal.returns-in-None-clause-text
+returns-in-None-clause-text c = garbled Infallible _ _ c.new.result c.new.ensures c.in_ok-payload.ensures.string c.in-None.ensures

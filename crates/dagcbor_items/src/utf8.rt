@@ -1,0 +1,20 @@
+//! Whether bytes are a text: short ones are read byte by byte, longer ones 64 bytes a step.
+
+ghost use Rattle.std.specs.Prelude.{◌≡◌, IsUtf8, MatchOption};
+
+use simdutf8::basic;
+use std::str::from_utf8;
+
+/// From how many bytes on a step of 64 pays.
+const LONG: usize = 64;
+
+/// The bytes as a text.
+pub(crate) fn as_text(bytes: &[u8]) -> Option<&str>
+    ensures { MatchOption result (¬ IsUtf8 bytes.now) (λ s. (s.now ≡ bytes.now) × IsUtf8 bytes.now) }
+{
+    if bytes.len() < LONG {
+        from_utf8(bytes).ok()
+    } else {
+        basic::from_utf8(bytes).ok()
+    }
+}

@@ -1,14 +1,37 @@
 //! Appends heads.
 
-ghost use Rattle.std.specs.Prelude.{◌≤◌, Some};
+ghost use Rattle.std.specs.Prelude.{◌≡◌, ◌≤◌, take, Some};
 ghost use Rattle.dagcbor_heads.specs.Head.{head};
 ghost use Rattle.dagcbor_heads.specs.Written.{Writes, WantsMemoryOnlyIf};
 
 use crate::error::EncodeError;
 use crate::write::Write;
 
-/// Appends the shortest head of a major type and an argument.
+/// The bytes of the shortest head, and zeros behind them; and how many its bytes are.
 #[tactic(auto, unfolding(crate::specs::Head::head))]
+fn head_bytes(major: u8, argument: u64) -> ([u8; 9], usize)
+    requires { major ≤ 7 }
+    ensures count { result.1 ≤ 9 }
+    ensures bytes { take result.1 result.0 ≡ head major argument }
+{
+    let first = 32 * major;
+    if argument < 24 {
+        ([first + argument as u8, 0, 0, 0, 0, 0, 0, 0, 0], 1)
+    } else if argument < 1 << 8 {
+        ([first + 24, argument as u8, 0, 0, 0, 0, 0, 0, 0], 2)
+    } else if argument < 1 << 16 {
+        let [a, b] = (argument as u16).to_be_bytes();
+        ([first + 25, a, b, 0, 0, 0, 0, 0, 0], 3)
+    } else if argument < 1 << 32 {
+        let [a, b, c, d] = (argument as u32).to_be_bytes();
+        ([first + 26, a, b, c, d, 0, 0, 0, 0], 5)
+    } else {
+        let [a, b, c, d, e, f, g, h] = argument.to_be_bytes();
+        ([first + 27, a, b, c, d, e, f, g, h], 9)
+    }
+}
+
+/// Appends the shortest head of a major type and an argument.
 pub fn push_head<W: Write>(
     writer: &mut W,
     major: u8,
@@ -18,19 +41,6 @@ pub fn push_head<W: Write>(
     ensures written { Writes (Some (head major argument)) (W.written writer.old) (W.written writer.new) result }
     ensures memory { WantsMemoryOnlyIf W.takes_memory result }
 {
-    let first = 32 * major;
-    if argument < 24 {
-        writer.push(&[first + argument as u8])
-    } else if argument < 1 << 8 {
-        writer.push(&[first + 24, argument as u8])
-    } else if argument < 1 << 16 {
-        let [a, b] = (argument as u16).to_be_bytes();
-        writer.push(&[first + 25, a, b])
-    } else if argument < 1 << 32 {
-        let [a, b, c, d] = (argument as u32).to_be_bytes();
-        writer.push(&[first + 26, a, b, c, d])
-    } else {
-        let [a, b, c, d, e, f, g, h] = argument.to_be_bytes();
-        writer.push(&[first + 27, a, b, c, d, e, f, g, h])
-    }
+    let (bytes, count) = head_bytes(major, argument);
+    writer.push(&bytes[..count])
 }

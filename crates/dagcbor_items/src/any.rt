@@ -1,6 +1,6 @@
 //! Reading items of any kind.
 
-ghost use Rattle.std.specs.Prelude.{◌≡◌, ◌++◌, ◌∷◌, [], IfErr, is_ok, if◌then◌else◌};
+ghost use Rattle.std.specs.Prelude.{◌≡◌, IfErr};
 ghost use Rattle.dagcbor_heads.specs.Inputs.{input_reading, OverInput};
 ghost use Rattle.dagcbor_heads.specs.Fronts.{StartsWith};
 ghost use Rattle.dagcbor_heads.specs.Looking.{Looks, LooksBehind};
@@ -112,7 +112,10 @@ fn read_items<R: Read>(
     let mut items = Vec::new(alloc);
     for _index in 0..count {
         let item = read_any(alloc, input)?;
-        if push_item(&mut items, item, count).is_err() {
+        if take_first_room(&mut items, count).is_err() {
+            return Err(DecodeError::OutOfMemory);
+        }
+        if items.push(item).is_err() {
             return Err(DecodeError::OutOfMemory);
         }
     }
@@ -122,16 +125,15 @@ fn read_items<R: Read>(
 /// The room that a vector of items takes at first.
 const FIRST_ROOM: u64 = 4;
 
-/// Appends an item of a list of so many. A shorter list than the vector's first room takes room for
-/// its items alone: an `Ipld` has a hundred bytes.
-fn push_item(items: &mut Vec<Ipld>, item: Ipld, count: u64) -> Result<(), AllocError>
-    ensures { items.new.items
-        ≡ (if is_ok result then items.old.items ++ item ∷ [] else items.old.items) }
+/// Takes the first room of the vector of a list of so many items. A shorter list than that room
+/// takes room for its items alone: an `Ipld` has a hundred bytes.
+fn take_first_room(items: &mut Vec<Ipld>, count: u64) -> Result<(), AllocError>
+    ensures { items.new.items ≡ items.old.items }
 {
-    if items.is_empty() {
+    if items.capacity() == 0 {
         items.reserve_exact(count.min(FIRST_ROOM) as usize)?;
     }
-    items.push(item).map_err(|_| AllocError)
+    Ok(())
 }
 
 #[tactic(auto, using(crate::proofs::Variants::named_item))]

@@ -53,7 +53,7 @@ read_items-returns-in_err-item-clause-items g t c =
 
 pub read_items-loop-index-preserved : goal.read_items-loop-index-preserved
 read_items-loop-index-preserved g t c = record {
-  read = one_read _ _ (map_pushed tree_of c.push_item.result _ _ _ c.if-is_err.ensures.value c.push_item.ensures) (omega arith) c.loop-index.invariant.read c.in_ok-item.ensures.item;
+  read = one_read _ _ (map_pushed tree_of c.push.result _ _ _ c.if-is_err-2.ensures.value (rw c.take_first_room.ensures at c.push.ensures.items)) (omega arith) c.loop-index.invariant.read c.in_ok-item.ensures.item;
   looked = looks_both c.loop-index.invariant.looked c.in_ok-item.ensures.looked;
 }
 

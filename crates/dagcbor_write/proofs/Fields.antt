@@ -5,6 +5,7 @@ use Rattle.std.proofs.Common.{◌<◌, ◌^◌, take, drop, get_or, arith}
 use Rattle.std.proofs.Math.Seq.{drop-cons}
 use Rattle.std.proofs.lemmas.List.{take-append-drop}
 use Rattle.std.specs.Fmt.{◌++?◌}
+use Rattle.std.specs.Map.Iter.{TakesFirst}
 use Rattle.std.specs.Result.{IsErrAnd}
 use Rattle.dagcbor_heads.proofs.Writing.{append_None, append_Some, appends_nothing, wrote_nothing, Written-but, begin_writing, next_part, last_part}
 use Rattle.dagcbor_heads.specs.Messages.{message_bytes}
@@ -19,7 +20,7 @@ use Rattle.ipld_tree.proofs.Spelled.{spelled_is}
 use Rattle.ipld_tree.proofs.WellFormed.{entry_count_ordered}
 use Rattle.dagcbor_write.specs.Trees.{Pair}
 use Rattle.dagcbor_write.specs.Gathering.{Refused, Collects}
-use Rattle.dagcbor_write.specs.Maps.{Texts, spelled_key, IsSpellingOf, AreSpellingsOf, Joins, JoinsEntry, RefusesEntry, RefusesValue, entries_text, map_rest, JoinAll, RefusesAnyValue}
+use Rattle.dagcbor_write.specs.Maps.{Texts, spelled_key, IsSpellingOf, AreSpellingsOf, Joins, JoinsEntry, RefusesEntry, RefusesValue, entries_text, map_rest, JoinAll, RefusesAnyValue, ShowsPairs}
 use Rattle.dagcbor_write.proofs.Keys.{key_none}
 use Rattle.dagcbor_write.proofs.Mapping.{pairwise_push}
 
@@ -206,11 +207,13 @@ end_struct {T} {E} {W} {h} n {whole} {held} {start} {s} announced begun out w is
 
 -- ---- for a loop that goes over the pairs
 
-pub at_pair : {A : Type 0} (pair : A → Pair) {whole : List Pair} {held : List Texts} {left : List A} (e : A) (more : List A) → left ≡ e ∷ more → Given-but whole (map pair left) held → Given-but whole (pair e ∷ map pair more) held
-at_pair {A} pair {whole} {held} e more is w = let P : List A → Type 0 = λ xs. Given-but whole (map pair xs) held in subst P is w
+pub left_as : {whole left more : List Pair} {held : List Texts} → left ≡ more → Given-but whole left held → Given-but whole more held
+left_as {whole} {left} {more} {held} is w = let P : List Pair → Type 0 = λ ps. Given-but whole ps held in subst P is w
 
-pub no_more_pairs : {A : Type 0} (pair : A → Pair) {whole : List Pair} {held : List Texts} {left : List A} → left ≡ [] → Given-but whole (map pair left) held → Given-but whole [] held
-no_more_pairs {A} pair {whole} {held} is w = let P : List A → Type 0 = λ xs. Given-but whole (map pair xs) held in subst P is w
+-- the iterator of a map shows as the list that it has left
+pub list_shows : {A X : Type 0} (shows : A → X) (pair : X → Pair) → ShowsPairs (TakesFirst shows) (λ e. pair (shows e)) (map pair)
+list_shows shows pair s None t h = (ap (map pair) h.0, ap (map pair) h.1)
+list_shows shows pair s (Some x) t h = ap (map pair) h
 
 -- ---- the exit of a `?` at a field of a struct, by its place
 
@@ -236,6 +239,12 @@ pair_and_others p ps old middle new (Ok x) j h =
 pair_and_others p ps old middle new (Err (Msg m)) j h = any_later p ps h
 pair_and_others p ps old middle new (Err (Write e)) j h = h
 pair_and_others p ps old middle new (Err OutOfMemory) j h = h
+
+-- all were taken, one after another
+pub given_row : (whole : List Pair) (old new : List Texts) → old ≡ [] → JoinAll whole old new → Given-but whole [] new
+given_row whole old new e h =
+    let P : List Texts → Type 0 = λ held. AreSpellingsOf whole held in
+    record { done = whole; split = sym (end_of whole); spells = subst P (sym (h.2 ∙ ap (λ xs. xs ++ h.0) e)) h.1 }
 
 -- the exit of a `?` at a row of pairs
 pub exit_pairs : {T E : Type 0} (whole : List Pair) (s t : Written) (r : Result T (EncodeError E)) (e : EncodeError E) → Refused (RefusesAnyValue whole) e → IsErrAnd r (λ d. d ≡ e) → s ≡ t → Writes (spelled_tree (entries_tree whole)) s t r

@@ -61,7 +61,13 @@ impl<T: Serialize, L: FieldRow> FieldRow for (Field<'_, T>, L) {
     }
 }
 
-/// Writes a struct of these fields, as a map, in key order.
+/// Writes a struct of these fields, as a map, in key order. Nothing goes out before each field has
+/// been spelled in memory.
+///
+/// ```rust
+/// let fields = (Field("year", &self.year), (Field("text", &self.text), ()));
+/// write_struct(alloc, fields, ser)
+/// ```
 pub fn write_struct<F: FieldRow, W: Write>(
     alloc: Global,
     fields: F,
@@ -78,9 +84,14 @@ pub fn write_struct<F: FieldRow, W: Write>(
 
 /// Writes a variant with these fields: a map of one entry, from the variant's name to the map of
 /// the fields.
+///
+/// ```rust
+/// let fields = (Field("x", x), (Field("y", y), ()));
+/// write_struct_variant(alloc, "C", fields, ser)
+/// ```
 pub fn write_struct_variant<F: FieldRow, W: Write>(
     alloc: Global,
-    variant: &'static str,
+    variant: &str,
     fields: F,
     ser: &mut Serializer<W>,
 ) -> Result<(), EncodeError<W::Error>>

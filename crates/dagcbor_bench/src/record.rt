@@ -7,8 +7,8 @@ ghost use Rattle.dagcbor_write.specs.Trees.{field};
 ghost use Rattle.dagcbor_bench.specs.Record.{RecordView, record_shape};
 
 use serde_ipld_dagcbor::{
-    Cid, DecodeError, Deserialize, DeserializeOwned, Deserializer, EncodeError, Read, Required,
-    Serialize, Serializer, Shown, Write, read_struct,
+    Cid, DecodeError, Deserialize, DeserializeOwned, Deserializer, EncodeError, Field, Read,
+    Required, Serialize, Serializer, Shown, Write, read_struct, write_struct,
 };
 use std::alloc::Global;
 
@@ -31,12 +31,14 @@ impl Serialize for Record {
         alloc: Global,
         ser: &mut Serializer<W>,
     ) -> Result<(), EncodeError<W::Error>> {
-        let mut fields = ser.serialize_struct(alloc, "Record", 4)?;
-        fields.serialize_field("link", &self.link)?;
-        fields.serialize_field("name", &self.name)?;
-        fields.serialize_field("seq", &self.seq)?;
-        fields.serialize_field("tags", &self.tags)?;
-        fields.end()
+        let fields = (
+            Field("link", &self.link),
+            (
+                Field("name", &self.name),
+                (Field("seq", &self.seq), (Field("tags", &self.tags), ())),
+            ),
+        );
+        write_struct(alloc, fields, ser)
     }
 }
 

@@ -1,10 +1,11 @@
 -- The pairs of a map, handed over one after another.
 use Rattle.std.proofs.Common.{◌≡◌, ◌⊎◌, inl, inr, ℕ, suc, List, [], ◌∷◌, ◌++◌, length, map, Option, None, Some, Bool, true, false, cond, Result, Ok, Err, refl, sym, ap, ◌∙◌, subst, append_assoc}
-use Rattle.std.specs.Prelude.{IfSome, option_map, option_and_then}
-use Rattle.std.proofs.Common.{◌<◌, ◌^◌, take, drop, get_or}
+use Rattle.std.specs.Prelude.{Any, IfSome, option_map, option_and_then}
+use Rattle.std.proofs.Common.{◌<◌, ◌^◌, take, drop, get_or, arith}
 use Rattle.std.proofs.Math.Seq.{drop-cons}
 use Rattle.std.proofs.lemmas.List.{take-append-drop}
 use Rattle.std.specs.Fmt.{◌++?◌}
+use Rattle.std.specs.Map.Iter.{TakesFirst}
 use Rattle.std.specs.Result.{IsErrAnd}
 use Rattle.dagcbor_heads.proofs.Writing.{append_None, append_Some, appends_nothing, wrote_nothing, Written-but, begin_writing, next_part, last_part}
 use Rattle.dagcbor_heads.specs.Messages.{message_bytes}
@@ -19,7 +20,7 @@ use Rattle.ipld_tree.proofs.Spelled.{spelled_is}
 use Rattle.ipld_tree.proofs.WellFormed.{entry_count_ordered}
 use Rattle.dagcbor_write.specs.Trees.{Pair}
 use Rattle.dagcbor_write.specs.Gathering.{Refused, Collects}
-use Rattle.dagcbor_write.specs.Maps.{Texts, spelled_key, IsSpellingOf, AreSpellingsOf, Joins, JoinsEntry, RefusesEntry, RefusesValue, entries_text, map_rest}
+use Rattle.dagcbor_write.specs.Maps.{Texts, spelled_key, IsSpellingOf, AreSpellingsOf, Joins, JoinsEntry, RefusesEntry, RefusesValue, entries_text, map_rest, JoinAll, RefusesAnyValue, ShowsPairs}
 use Rattle.dagcbor_write.proofs.Keys.{key_none}
 use Rattle.dagcbor_write.proofs.Mapping.{pairwise_push}
 
@@ -206,11 +207,13 @@ end_struct {T} {E} {W} {h} n {whole} {held} {start} {s} announced begun out w is
 
 -- ---- for a loop that goes over the pairs
 
-pub at_pair : {A : Type 0} (pair : A → Pair) {whole : List Pair} {held : List Texts} {left : List A} (e : A) (more : List A) → left ≡ e ∷ more → Given-but whole (map pair left) held → Given-but whole (pair e ∷ map pair more) held
-at_pair {A} pair {whole} {held} e more is w = let P : List A → Type 0 = λ xs. Given-but whole (map pair xs) held in subst P is w
+pub left_as : {whole left more : List Pair} {held : List Texts} → left ≡ more → Given-but whole left held → Given-but whole more held
+left_as {whole} {left} {more} {held} is w = let P : List Pair → Type 0 = λ ps. Given-but whole ps held in subst P is w
 
-pub no_more_pairs : {A : Type 0} (pair : A → Pair) {whole : List Pair} {held : List Texts} {left : List A} → left ≡ [] → Given-but whole (map pair left) held → Given-but whole [] held
-no_more_pairs {A} pair {whole} {held} is w = let P : List A → Type 0 = λ xs. Given-but whole (map pair xs) held in subst P is w
+-- the iterator of a map shows as the list that it has left
+pub list_shows : {A X : Type 0} (shows : A → X) (pair : X → Pair) → ShowsPairs (TakesFirst shows) (λ e. pair (shows e)) (map pair)
+list_shows shows pair s None t h = (ap (map pair) h.0, ap (map pair) h.1)
+list_shows shows pair s (Some x) t h = ap (map pair) h
 
 -- ---- the exit of a `?` at a field of a struct, by its place
 
@@ -221,3 +224,29 @@ pub exit_field : {T E : Type 0} {W h : Option (List ℕ)} {start s : Written} (n
     → Refused (RefusesValue (get_or whole k d).1) e → IsErrAnd r (λ d. d ≡ e) → s ≡ t → Writes W start t r
 exit_field {T} {E} {W} {h} {start} {s} n whole begun out k d below t r e refused is same =
     last_part (next_part begun s out) t r (exit_unsent (map_rest (Some n) whole) s t (RefusesValue (get_or whole k d).1) r e (λ m c. ap (map_rest (Some n)) (nth_split whole k d below) ∙ no_text (Some n) (take k whole) (drop (suc k) whole) (get_or whole k d) (inr c.1)) refused is same)
+
+-- ---- a row of pairs
+
+any_later : {A : Type 0} {P : A → Type 0} (x : A) (xs : List A) → Any P xs → Any P (x ∷ xs)
+any_later x xs h = (suc h.0, h.1, omega (arith, h.2), h.3, h.4)
+
+-- a pair was taken, and then the others were taken or refused
+pub pair_and_others : {T E : Type 0} (p : Pair) (ps : List Pair) (old middle new : List Texts) (r : Result T (EncodeError E)) → JoinsEntry p.0 p.1 old middle
+    → Collects (λ u. JoinAll ps middle new) (RefusesAnyValue ps) r → Collects (λ u. JoinAll (p ∷ ps) old new) (RefusesAnyValue (p ∷ ps)) r
+pair_and_others p ps old middle new (Ok x) j h =
+    let e = joined_spelling p _ _ old middle refl refl j.0.0 j.1 j.0.1 in
+    (e.0 ∷ h.0, (e.1, h.1), h.2 ∙ ap (λ xs. xs ++ h.0) e.2 ∙ append_assoc old (e.0 ∷ []) h.0)
+pair_and_others p ps old middle new (Err (Msg m)) j h = any_later p ps h
+pair_and_others p ps old middle new (Err (Write e)) j h = h
+pair_and_others p ps old middle new (Err OutOfMemory) j h = h
+
+-- all were taken, one after another
+pub given_row : (whole : List Pair) (old new : List Texts) → old ≡ [] → JoinAll whole old new → Given-but whole [] new
+given_row whole old new e h =
+    let P : List Texts → Type 0 = λ held. AreSpellingsOf whole held in
+    record { done = whole; split = sym (end_of whole); spells = subst P (sym (h.2 ∙ ap (λ xs. xs ++ h.0) e)) h.1 }
+
+-- the exit of a `?` at a row of pairs
+pub exit_pairs : {T E : Type 0} (whole : List Pair) (s t : Written) (r : Result T (EncodeError E)) (e : EncodeError E) → Refused (RefusesAnyValue whole) e → IsErrAnd r (λ d. d ≡ e) → s ≡ t → Writes (spelled_tree (entries_tree whole)) s t r
+exit_pairs whole s t r e refused is same =
+    exit_unsent (map_rest None whole) s t (RefusesAnyValue whole) r e (λ m h. ap (map_rest None) (nth_split whole h.0 h.1 h.2) ∙ no_text None (take h.0 whole) (drop (suc h.0) whole) (get_or whole h.0 h.1) (inr (ap (λ p. spelled_tree p.1) h.3 ∙ h.4.1))) refused is same

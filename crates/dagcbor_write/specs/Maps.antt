@@ -1,7 +1,8 @@
 -- What the collector of a map is given, holds and does.
 use Rattle.std.specs.Prelude.{◌≡◌, ◌⊎◌, ℕ, ◌/◌, Bool, true, false, ◌&&◌, is_none, nat_eq, IsTrue}
 use Rattle.std.specs.Prelude.{List, [], ◌∷◌, ◌++◌, length, map, Option, None, Some}
-use Rattle.std.specs.Prelude.{option_and_then, IfSome, IsSomeAnd, codes}
+use Rattle.std.specs.Prelude.{option_and_then, IfSome, IsSomeAnd, Any, codes}
+use Rattle.std.specs.Iterator.{YieldsFirstBy}
 use Rattle.ipld_tree.specs.Tree.{Tree, text, mapping, IsTree, key_of, all_some, pair_of}
 use Rattle.ipld_tree.specs.Tree.{repeats_key, entries_tree}
 use Rattle.ipld_tree.specs.Spelled.{spelled, spelled_entries, spelled_tree}
@@ -97,6 +98,20 @@ entries_text o = None
 abbrev pub map_rest : Option ℕ → List Pair → Option (List ℕ)
 map_rest None ps = spelled_tree (entries_tree ps)
 map_rest (Some n) ps = entries_text (entries_tree ps)
+
+-- the spellings of the pairs, in turn, joined the others
+abbrev pub JoinAll : List Pair → List Texts → List Texts → Type 0
+JoinAll ps old new = (more : List Texts) × AreSpellingsOf ps more × (new ≡ old ++ more)
+
+-- the cause of a value's message: one of the values has no spelling
+abbrev pub RefusesAnyValue : List Pair → List ℕ → Type 0
+RefusesAnyValue ps m = Any (λ p. RefusesValue p.1 m) ps
+
+-- what an iterator has left shows as these pairs: a call gives the first of them
+abbrev pub ShowsPairs : {S A : Type 0} → (S → Option A → S → Type 0) → (A → Pair)
+    → (S → List Pair) → Type 0
+ShowsPairs {S} {A} gives pair rest = (s : S) (r : Option A) (t : S) → gives s r t
+    → YieldsFirstBy pair rest s r t
 
 -- a key of the pairs is there twice
 abbrev pub RepeatsKey : List Pair → Type 0

@@ -13,6 +13,7 @@ mod collect;
 pub mod laws;
 mod serialize;
 mod serializer;
+mod structs;
 mod types;
 mod whole;
 
@@ -21,6 +22,7 @@ pub use collect::collect_map::CollectMap;
 pub use collect::collect_seq::CollectSeq;
 pub use serialize::Serialize;
 pub use serializer::Serializer;
+pub use structs::{Field, FieldRow, write_struct, write_struct_variant};
 pub use whole::{to_vec, to_writer};
 
 #[cfg(test)]

@@ -331,7 +331,7 @@ impl<W: Write> Serializer<W> {
     }
 
     /// The head of a map of one entry, and its key.
-    fn push_variant(&mut self, name: &'static str) -> Result<(), EncodeError<W::Error>>
+    pub(crate) fn push_variant(&mut self, name: &str) -> Result<(), EncodeError<W::Error>>
         ensures written { Writes (variant_head name.now)
             (W.written self.old) (W.written self.new) result }
         ensures well_formed { OnOk result (IsTree (text name.now)) }

@@ -32,7 +32,8 @@ pub use dagcbor_read::{
     read_enum, read_fields, read_into, read_struct, read_struct_variant, skip_value,
 };
 pub use dagcbor_write::{
-    BoundedCollect, CollectMap, CollectSeq, Serialize, Serializer, to_vec, to_writer,
+    BoundedCollect, CollectMap, CollectSeq, Field, FieldRow, Serialize, Serializer, to_vec,
+    to_writer, write_struct, write_struct_variant,
 };
 pub use ipld_tree::{ByteSlice, Bytes, Cid, CidError, CidIter, Codec, Ipld, Links};
 

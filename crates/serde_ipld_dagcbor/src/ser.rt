@@ -2,5 +2,6 @@
 
 pub use dagcbor_heads::{BufWriter, IoRefWriter, IoWriter, Tally, Write, push_head};
 pub use dagcbor_write::{
-    BoundedCollect, CollectMap, CollectSeq, Serialize, Serializer, to_vec, to_writer,
+    BoundedCollect, CollectMap, CollectSeq, Field, FieldRow, Serialize, Serializer, to_vec,
+    to_writer, write_struct, write_struct_variant,
 };

@@ -5,7 +5,7 @@ ghost use Rattle.serde_ipld_dagcbor.specs.Tree.{integer, entries_tree};
 ghost use Rattle.serde_ipld_dagcbor.specs.Trees.{field};
 
 use crate::name_of;
-use serde_ipld_dagcbor::{EncodeError, Serialize, Serializer, Write};
+use serde_ipld_dagcbor::{EncodeError, Field, Serialize, Serializer, Write, write_struct};
 use std::alloc::Global;
 use std::collections::HashMap;
 use std::test::Fail;
@@ -24,10 +24,8 @@ impl Serialize for Pair {
         alloc: Global,
         ser: &mut Serializer<W>,
     ) -> Result<(), EncodeError<W::Error>> {
-        let mut fields = ser.serialize_struct(alloc, "Pair", 2)?;
-        fields.serialize_field("a", &self.a)?;
-        fields.serialize_field("b", &self.b)?;
-        fields.end()
+        let fields = (Field("a", &self.a), (Field("b", &self.b), ()));
+        write_struct(alloc, fields, ser)
     }
 }
 

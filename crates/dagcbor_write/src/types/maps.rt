@@ -1,7 +1,12 @@
 //! Maps, sorted and hashed.
 
-ghost use Rattle.std.specs.Prelude.{map};
-ghost use Rattle.ipld_tree.specs.Tree.{entries_tree};
+ghost use Rattle.std.specs.Prelude.{List, OnOk, IfSome, map};
+ghost use Rattle.std.specs.Iterator.{IsFinite};
+ghost use Rattle.dagcbor_heads.specs.Written.{Writes};
+ghost use Rattle.ipld_tree.specs.Tree.{IsTree, entries_tree};
+ghost use Rattle.ipld_tree.specs.Spelled.{spelled_tree};
+ghost use Rattle.dagcbor_write.specs.Trees.{Pair};
+ghost use Rattle.dagcbor_write.specs.Maps.{ShowsPairs};
 
 use crate::serialize::Serialize;
 use crate::serializer::Serializer;
@@ -9,6 +14,31 @@ use dagcbor_heads::{EncodeError, Write};
 use std::alloc::Global;
 use std::collections::{BTreeMap, HashMap};
 use std::hash::Hash;
+
+/// Appends the map of the entries that an iterator has left, in key order.
+fn write_entries<
+    'a,
+    K: Serialize + 'a,
+    V: Serialize + 'a,
+    I: Iterator<Item = (&'a K, &'a V)> + Drop,
+    W: Write,
+>(alloc: Global, entries: I, ser: &mut Serializer<W>) -> Result<(), EncodeError<W::Error>>
+    requires can { I.can_next entries }
+    requires ends { IsFinite (I.remaining entries) }
+    ensures written { (rest : I → List Pair)
+        → ShowsPairs I.next_gives (λ e. (K.tree e.0.now, V.tree e.1.now)) rest
+        → Writes (spelled_tree (entries_tree (rest entries)))
+        (W.written ser.old) (W.written ser.new) result }
+    ensures well_formed { (rest : I → List Pair)
+        → ShowsPairs I.next_gives (λ e. (K.tree e.0.now, V.tree e.1.now)) rest
+        → OnOk result (IfSome (entries_tree (rest entries)) IsTree) }
+{
+    let mut map = ser.serialize_map(alloc, None);
+    for (key, value) in entries {
+        map.serialize_entry(key, value)?;
+    }
+    map.end()
+}
 
 impl<K: Ord + Serialize, V: Serialize> Serialize for BTreeMap<K, V> {
     ghost tree = { λ m. entries_tree (map (λ e. (K.tree e.0, V.tree e.1)) m.entries) };
@@ -18,11 +48,7 @@ impl<K: Ord + Serialize, V: Serialize> Serialize for BTreeMap<K, V> {
         alloc: Global,
         ser: &mut Serializer<W>,
     ) -> Result<(), EncodeError<W::Error>> {
-        let mut map = ser.serialize_map(alloc, None);
-        for (key, value) in self.iter() {
-            map.serialize_entry(key, value)?;
-        }
-        map.end()
+        write_entries(alloc, self.iter(), ser)
     }
 }
 
@@ -34,10 +60,6 @@ impl<K: Eq + Hash + Serialize, V: Serialize> Serialize for HashMap<K, V> {
         alloc: Global,
         ser: &mut Serializer<W>,
     ) -> Result<(), EncodeError<W::Error>> {
-        let mut map = ser.serialize_map(alloc, None);
-        for (key, value) in self.iter() {
-            map.serialize_entry(key, value)?;
-        }
-        map.end()
+        write_entries(alloc, self.iter(), ser)
     }
 }

@@ -11,8 +11,9 @@ ghost use Rattle.serde_ipld_dagcbor.specs.declared.tests.by_hand.data_enum.DataE
 
 use crate::tests::told::{each_tells, writes};
 use crate::{
-    DecodeError, Deserialize, Deserializer, EncodeError, EnumAccessor, Read, Required, Serialize,
-    Serializer, Shown, Variants, Write, read_enum, read_struct_variant,
+    DecodeError, Deserialize, Deserializer, EncodeError, EnumAccessor, Field, Read, Required,
+    Serialize, Serializer, Shown, Variants, Write, read_enum, read_struct_variant,
+    write_struct_variant,
 };
 use std::alloc::Global;
 use std::test::Fail;
@@ -46,10 +47,8 @@ impl Serialize for DataEnum {
                 parts.end()
             }
             DataEnum::C { x, y } => {
-                let mut fields = ser.serialize_struct_variant(alloc, "DataEnum", 2, "C", 2)?;
-                fields.serialize_field("x", x)?;
-                fields.serialize_field("y", y)?;
-                fields.end()
+                let fields = (Field("x", x), (Field("y", y), ()));
+                write_struct_variant(alloc, "C", fields, ser)
             }
         }
     }

@@ -11,8 +11,8 @@ ghost use Rattle.serde_ipld_dagcbor.specs.declared.tests.by_hand.enum_struct.Enu
 
 use crate::tests::told::{each_writes, tells};
 use crate::{
-    DecodeError, Deserialize, Deserializer, EncodeError, EnumAccessor, Read, Required, Serialize,
-    Serializer, Shown, Variants, Write, read_enum, read_struct,
+    DecodeError, Deserialize, Deserializer, EncodeError, EnumAccessor, Field, Read, Required,
+    Serialize, Serializer, Shown, Variants, Write, read_enum, read_struct, write_struct,
 };
 use std::alloc::Global;
 use std::test::Fail;
@@ -95,9 +95,7 @@ impl Serialize for EnumStruct {
         alloc: Global,
         ser: &mut Serializer<W>,
     ) -> Result<(), EncodeError<W::Error>> {
-        let mut fields = ser.serialize_struct(alloc, "EnumStruct", 1)?;
-        fields.serialize_field("e", &self.e)?;
-        fields.end()
+        write_struct(alloc, (Field("e", &self.e), ()), ser)
     }
 }
 

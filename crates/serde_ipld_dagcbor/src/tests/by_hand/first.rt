@@ -7,8 +7,8 @@ ghost use Rattle.serde_ipld_dagcbor.specs.tests.Note.{NoteView, note_shape};
 
 use crate::tests::told::{agree, is_told};
 use crate::{
-    DecodeError, Deserialize, Deserializer, EncodeError, Read, Required, Serialize, Serializer,
-    Shown, Write, from_slice, read_struct, to_vec,
+    DecodeError, Deserialize, Deserializer, EncodeError, Field, Read, Required, Serialize,
+    Serializer, Shown, Write, from_slice, read_struct, to_vec, write_struct,
 };
 use std::alloc::Global;
 use std::test::Fail;
@@ -28,10 +28,8 @@ impl Serialize for Note {
         alloc: Global,
         ser: &mut Serializer<W>,
     ) -> Result<(), EncodeError<W::Error>> {
-        let mut fields = ser.serialize_struct(alloc, "Note", 2)?;
-        fields.serialize_field("year", &self.year)?;
-        fields.serialize_field("text", &self.text)?;
-        fields.end()
+        let fields = (Field("year", &self.year), (Field("text", &self.text), ()));
+        write_struct(alloc, fields, ser)
     }
 }
 

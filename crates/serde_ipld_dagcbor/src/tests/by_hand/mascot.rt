@@ -8,8 +8,8 @@ ghost use Rattle.serde_ipld_dagcbor.specs.tests.Mascot.{MascotView, mascot_shape
 use crate::tests::devices::std_devices::{Sink, Source};
 use crate::tests::told::{agree, is_told, tells, writes};
 use crate::{
-    DecodeError, Deserialize, DeserializeOwned, Deserializer, EncodeError, Read, Required,
-    Serialize, Serializer, Shown, Write, from_reader, read_struct, to_writer,
+    DecodeError, Deserialize, DeserializeOwned, Deserializer, EncodeError, Field, Read, Required,
+    Serialize, Serializer, Shown, Write, from_reader, read_struct, to_writer, write_struct,
 };
 use std::alloc::{AllocError, Global};
 use std::fs;
@@ -34,11 +34,14 @@ impl Serialize for Mascot {
         alloc: Global,
         ser: &mut Serializer<W>,
     ) -> Result<(), EncodeError<W::Error>> {
-        let mut fields = ser.serialize_struct(alloc, "Mascot", 3)?;
-        fields.serialize_field("name", &self.name)?;
-        fields.serialize_field("species", &self.species)?;
-        fields.serialize_field("year_of_birth", &self.year_of_birth)?;
-        fields.end()
+        let fields = (
+            Field("name", &self.name),
+            (
+                Field("species", &self.species),
+                (Field("year_of_birth", &self.year_of_birth), ()),
+            ),
+        );
+        write_struct(alloc, fields, ser)
     }
 }
 

@@ -21,6 +21,7 @@ pub(crate) struct MyStruct {
     data: bool,
 }
 
+/// Field by field, so that the calls below `write_struct` stay tried.
 impl Serialize for MyStruct {
     ghost tree = { λ p. entries_tree (field (codes "cid") (Some (link (cid_bytes p.cid)))
         ∷ field (codes "data") (Some (boolean p.data)) ∷ []) };

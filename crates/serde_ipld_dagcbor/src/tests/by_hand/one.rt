@@ -8,8 +8,8 @@ ghost use Rattle.serde_ipld_dagcbor.specs.tests.One.{one_shape};
 use crate::tests::rows::links::joined;
 use crate::tests::told::{each_tells, tells, writes};
 use crate::{
-    DecodeError, Deserialize, Deserializer, EncodeError, Read, Required, Serialize, Serializer,
-    Shown, Write, read_struct,
+    DecodeError, Deserialize, Deserializer, EncodeError, Field, Read, Required, Serialize,
+    Serializer, Shown, Write, read_struct, write_struct,
 };
 use std::alloc::Global;
 use std::test::Fail;
@@ -27,9 +27,7 @@ impl Serialize for One {
         alloc: Global,
         ser: &mut Serializer<W>,
     ) -> Result<(), EncodeError<W::Error>> {
-        let mut fields = ser.serialize_struct(alloc, "One", 1)?;
-        fields.serialize_field("a", &self.a)?;
-        fields.end()
+        write_struct(alloc, (Field("a", &self.a), ()), ser)
     }
 }
 

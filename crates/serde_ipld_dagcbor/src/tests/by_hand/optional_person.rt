@@ -9,8 +9,8 @@ ghost use Rattle.serde_ipld_dagcbor.specs.tests.OptionalPerson.{optional_person_
 
 use crate::tests::told::{agree, tells, writes};
 use crate::{
-    DecodeError, Deserialize, Deserializer, EncodeError, Read, Required, Serialize, Serializer,
-    Shown, Write, read_struct,
+    DecodeError, Deserialize, Deserializer, EncodeError, Field, Read, Required, Serialize,
+    Serializer, Shown, Write, read_struct, write_struct,
 };
 use std::alloc::{AllocError, Global};
 use std::test::Fail;
@@ -36,19 +36,16 @@ impl Serialize for OptionalPerson {
         alloc: Global,
         ser: &mut Serializer<W>,
     ) -> Result<(), EncodeError<W::Error>> {
+        let profession = Field("profession", &self.profession);
         match &self.year_of_birth {
             None => {
-                let mut fields = ser.serialize_struct(alloc, "OptionalPerson", 2)?;
-                fields.serialize_field("name", &self.name)?;
-                fields.serialize_field("profession", &self.profession)?;
-                fields.end()
+                let fields = (Field("name", &self.name), (profession, ()));
+                write_struct(alloc, fields, ser)
             }
             Some(year) => {
-                let mut fields = ser.serialize_struct(alloc, "OptionalPerson", 3)?;
-                fields.serialize_field("name", &self.name)?;
-                fields.serialize_field("year_of_birth", year)?;
-                fields.serialize_field("profession", &self.profession)?;
-                fields.end()
+                let year = Field("year_of_birth", year);
+                let fields = (Field("name", &self.name), (year, (profession, ())));
+                write_struct(alloc, fields, ser)
             }
         }
     }

@@ -7,8 +7,8 @@ ghost use Rattle.serde_ipld_dagcbor.specs.tests.Person.{PersonView, person_shape
 
 use crate::tests::told::{agree, tells, writes};
 use crate::{
-    DecodeError, Deserialize, Deserializer, EncodeError, Read, Required, Serialize, Serializer,
-    Shown, Write, read_struct,
+    DecodeError, Deserialize, Deserializer, EncodeError, Field, Read, Required, Serialize,
+    Serializer, Shown, Write, read_struct, write_struct,
 };
 use std::alloc::{AllocError, Global};
 use std::test::Fail;
@@ -30,11 +30,14 @@ impl Serialize for Person {
         alloc: Global,
         ser: &mut Serializer<W>,
     ) -> Result<(), EncodeError<W::Error>> {
-        let mut fields = ser.serialize_struct(alloc, "Person", 3)?;
-        fields.serialize_field("name", &self.name)?;
-        fields.serialize_field("year_of_birth", &self.year_of_birth)?;
-        fields.serialize_field("profession", &self.profession)?;
-        fields.end()
+        let fields = (
+            Field("name", &self.name),
+            (
+                Field("year_of_birth", &self.year_of_birth),
+                (Field("profession", &self.profession), ()),
+            ),
+        );
+        write_struct(alloc, fields, ser)
     }
 }
 

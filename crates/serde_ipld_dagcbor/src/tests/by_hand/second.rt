@@ -40,6 +40,7 @@ impl Serialize for Second {
 }
 
 /// The variant `Data`. A match of one arm tells a proof nothing, so what is under it is a function.
+/// Field by field, so that the calls below `write_struct_variant` stay tried.
 fn serialize_data<W: Write>(
     alloc: Global,
     b: u8,

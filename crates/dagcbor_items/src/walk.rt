@@ -13,7 +13,7 @@ use crate::link::pull_link;
 use crate::payloads::PayloadReader;
 use crate::sink::{LinkSink, NoLinks};
 use dagcbor_heads::{
-    DecodeError, Input, Name, Read, is_indefinite, peek_one, pull_head, pull_one, spend_step,
+    DecodeError, Input, Read, is_indefinite, peek_one, pull_head, pull_one, spend_step,
 };
 use ipld_tree::Cid;
 use std::alloc::Global;
@@ -174,10 +174,7 @@ fn skip_simple<R: Read>(reader: &mut R, first: u8) -> Result<(), DecodeError<R::
     ensures variant { IfErr result OfItem }
 {
     if first < 0xf4 || first > 0xf6 {
-        return Err(DecodeError::Unsupported {
-            name: Name::new("any"),
-            found: first,
-        });
+        return Err(DecodeError::unsupported("any", first));
     }
     pull_one("any", reader)?;
     Ok(())

@@ -575,10 +575,7 @@ fn enter<R: Read>(name: &str, reader: &mut R, major: u8) -> Result<u64, DecodeEr
     spend_step(name, reader)?;
     let first = peek_one(name, reader)?;
     if first / 32 != major {
-        return Err(DecodeError::Mismatch {
-            name: Name::new(name),
-            found: first,
-        });
+        return Err(DecodeError::mismatch(name, first));
     }
     let (_, count, _) = pull_head(name, reader)?;
     Ok(count)

@@ -14,4 +14,5 @@ returns-in_err-first-clause-head g c =
 
 pub returns-then-first-major-clause-head : goal.returns-then-first-major-clause-head
 returns-then-first-major-clause-head g c =
-    other_major g.row.R-Error.Denot _ c.in_ok-spend_step.ensures c.new.ensures c.in_ok-first.ensures.shown c.if-first-major.true
+    let told = c.mismatch.ensures in
+    rw told.1 (other_major g.row.R-Error.Denot told.0 c.in_ok-spend_step.ensures told.2 c.in_ok-first.ensures.shown c.if-first-major.true)

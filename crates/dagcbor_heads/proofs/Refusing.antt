@@ -1,10 +1,12 @@
 -- A refusal of a part is a refusal of the whole.
-use Rattle.std.proofs.Common.{◌≡◌, ℕ, List, sym, ◌∙◌, arith, subst}
+use Rattle.std.proofs.Common.{◌≡◌, ℕ, ◌<◌, List, sym, ap, ◌∙◌, arith, subst}
 use Rattle.std.specs.Prelude.{Some, Result, Ok, Err, MatchResult, IsErrAnd}
 use Rattle.dagcbor_heads.specs.Reading.{Reading, Stays}
 use Rattle.dagcbor_heads.specs.Causes.{ByteCause, HeadCause, IsCauseless, IsEndNamed, IsNamed}
-use Rattle.dagcbor_heads.specs.Refusals.{Refuses}
+use Rattle.dagcbor_heads.specs.Names.{Names}
+use Rattle.dagcbor_heads.specs.Refusals.{Refuses, NoStep}
 use Rattle.dagcbor_heads.specs.Inputs.{not_lending}
+use Rattle.dagcbor_heads.specs.declared.name.Name.{Name}
 use Rattle.dagcbor_heads.specs.declared.error.DecodeError.{DecodeError}
 use Rattle.dagcbor_heads.specs.declared.error.DecodeError.TheVariants.{Read, RequireBorrowed, OutOfMemory, Failed, Eof, Unsupported, DepthOverflow, IndefiniteSize, NonMinimal}
 
@@ -19,6 +21,13 @@ passed_on stands stands' old mid new (RequireBorrowed n) h c k w s r = (r.0 ∙ 
 passed_on stands stands' old mid new Failed h c k w s r = r
 passed_on stands stands' old mid new (DepthOverflow n) h c k w s r = (r.0 ∙ h.faults, λ x. r.1 (c x), λ b l. (let at = s b l in at.2 (r.2 at.0 at.1)), r.3)
 passed_on stands stands' old mid new _ h c k w s r = (r.0 ∙ h.faults, λ x. r.1 (c x), λ b l. let at = s b l in at.2 (r.2 at.0 at.1))
+
+-- where no step was left, what wants one is refused
+pub no_step_refused : {E could : Type 0} (lacks borrows : Type 0) (stands : DecodeError E → List ℕ → Type 0) {text : List ℕ} {old mid new : Reading} (e : DecodeError E) → Stays old mid → NoStep text mid e new → (could → 0 < old.steps)
+    → ((n : Name) → Names n text → (b : List ℕ) → old.left ≡ Some b → stands (DepthOverflow n) b) → Refuses could lacks borrows stands old e new
+no_step_refused lacks borrows stands (DepthOverflow n) k h some cause =
+    (ap (λ (r : Reading). r.faults) h.same ∙ k.faults, λ x. omega (arith, h.none, k.steps, some x), λ b l. cause n h.named b l, ap (λ (r : Reading). r.steps) h.same ∙ h.none)
+no_step_refused lacks borrows stands _ k h some cause = absurd h.named
 
 -- the same causes seen from further up
 pub byte_in_head : {E : Type 0} (e : DecodeError E) (b : List ℕ) → ByteCause e b → HeadCause e b

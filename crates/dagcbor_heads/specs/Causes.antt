@@ -8,7 +8,7 @@ use Rattle.dagcbor_heads.specs.Names.{Names}
 use Rattle.dagcbor_heads.specs.declared.error.Len.TheVariants.{Small}
 use Rattle.dagcbor_heads.specs.declared.error.DecodeError.{DecodeError}
 use Rattle.dagcbor_heads.specs.declared.error.DecodeError.TheVariants.{Read, Eof, Unsupported}
-use Rattle.dagcbor_heads.specs.declared.error.DecodeError.TheVariants.{RequireBorrowed}
+use Rattle.dagcbor_heads.specs.declared.error.DecodeError.TheVariants.{RequireBorrowed, DepthOverflow}
 use Rattle.dagcbor_heads.specs.declared.error.DecodeError.TheVariants.{IndefiniteSize, NonMinimal}
 use Rattle.dagcbor_heads.specs.declared.error.DecodeError.TheVariants.{OutOfMemory, Failed}
 
@@ -77,3 +77,8 @@ IsNamed text (Unsupported name found) = Names name text
 IsNamed text IndefiniteSize = ⊤
 IsNamed text (NonMinimal name found) = Names name text
 IsNamed text e = IsEndNamed text e
+
+-- for the depth, under this name
+abbrev pub IsDepthNamed : {E : Type 0} → List ℕ → DecodeError E → Type 0
+IsDepthNamed text (DepthOverflow name) = Names name text
+IsDepthNamed text e = ⊥

@@ -1,5 +1,5 @@
 -- What contracts see of a reader, and what its calls do to it.
-use Rattle.std.specs.Prelude.{◌≡◌, ℕ, ◌+◌, ◌<◌, ◌≤◌, min, List, [], Bool, true, false, length}
+use Rattle.std.specs.Prelude.{◌≡◌, ℕ, ◌+◌, ◌-◌, ◌<◌, ◌≤◌, min, List, [], Bool, true, false, length}
 use Rattle.std.specs.Prelude.{take, drop, Option, Some}
 use Rattle.dagcbor_heads.specs.declared.read.Reference.{Reference}
 use Rattle.dagcbor_heads.specs.declared.read.Reference.TheVariants.{Long, Short}
@@ -95,6 +95,12 @@ pub record Advances (old : Reading) (n : ℕ) (new : Reading) : Type 0 where
 -- the same reader with so many steps left
 abbrev pub with_steps : ℕ → Reading → Reading
 with_steps n r = record r { steps = n }
+
+-- a step was spent, and nothing else
+pub record SpentStep (old new : Reading) : Type 0 where
+  pub some : 0 < old.steps
+  pub is_out : new.steps < new.budget
+  pub is : new ≡ with_steps (old.steps - 1) old
 
 -- the bytes of a reference, and whether they outlive the reader
 abbrev pub reference_bytes : Reference → List ℕ

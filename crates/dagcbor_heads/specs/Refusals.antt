@@ -1,6 +1,7 @@
 -- What a refusal says.
-use Rattle.std.specs.Prelude.{◌≡◌, ℕ, ◌<◌, List, false, Some}
-use Rattle.dagcbor_heads.specs.Reading.{Reading}
+use Rattle.std.specs.Prelude.{◌≡◌, ℕ, ◌<◌, List, false, Some, Result, MatchResult}
+use Rattle.dagcbor_heads.specs.Reading.{Reading, SpentStep}
+use Rattle.dagcbor_heads.specs.Causes.{IsDepthNamed}
 use Rattle.dagcbor_heads.specs.declared.error.DecodeError.{DecodeError}
 use Rattle.dagcbor_heads.specs.declared.error.DecodeError.TheVariants.{Read, RequireBorrowed}
 use Rattle.dagcbor_heads.specs.declared.error.DecodeError.TheVariants.{DepthOverflow, OutOfMemory}
@@ -22,3 +23,16 @@ Refuses could lacks borrows stands old (DepthOverflow name) new = (new.faults �
     × ((b : List ℕ) → old.left ≡ Some b → stands (DepthOverflow name) b) × (new.steps ≡ 0)
 Refuses could lacks borrows stands old e new = (new.faults ≡ old.faults) × (could → ⊥)
     × ((b : List ℕ) → old.left ≡ Some b → stands e b)
+
+-- no step was left: the reader is as before, and the refusal is for the depth, under this name
+pub record NoStep {E : Type 0} (text : List ℕ) (old : Reading) (e : DecodeError E) (new : Reading)
+    : Type 0 where
+  pub none : old.steps ≡ 0
+  pub same : new ≡ old
+  pub named : IsDepthNamed text e
+
+-- A step is spent exactly where one is left.
+abbrev pub SpendsStep : {E : Type 0} → List ℕ → Reading → Result (Unit {0}) (DecodeError E)
+    → Reading → Type 0
+SpendsStep text old result new = MatchResult result (λ _. SpentStep old new)
+    (λ e. NoStep text old e new)

@@ -170,6 +170,53 @@ impl<E> DecodeError<E> {
     {
         DecodeError::Msg(Name::new(message))
     }
+
+    /// The input ends before so many bytes.
+    #[cold]
+    #[inline(never)]
+    pub fn end(name: &str, expect: Len) -> DecodeError<E>
+        ensures { (kept : Name) × (result ≡ DecodeError.Eof kept expect) × Names kept name.now }
+    {
+        DecodeError::Eof {
+            name: Name::new(name),
+            expect,
+        }
+    }
+
+    /// The byte begins no item that is wanted.
+    #[cold]
+    #[inline(never)]
+    pub fn mismatch(name: &str, found: u8) -> DecodeError<E>
+        ensures { (kept : Name) × (result ≡ DecodeError.Mismatch kept found) × Names kept name.now }
+    {
+        DecodeError::Mismatch {
+            name: Name::new(name),
+            found,
+        }
+    }
+
+    /// The byte begins no item of the format.
+    #[cold]
+    #[inline(never)]
+    pub fn unsupported(name: &str, found: u8) -> DecodeError<E>
+        ensures { (kept : Name) × (result ≡ DecodeError.Unsupported kept found) × Names kept name.now }
+    {
+        DecodeError::Unsupported {
+            name: Name::new(name),
+            found,
+        }
+    }
+
+    /// The number is outside the wanted type.
+    #[cold]
+    #[inline(never)]
+    pub fn out_of_range(name: &str) -> DecodeError<E>
+        ensures { (kept : Name) × (result ≡ DecodeError.CastOverflow kept) × Names kept name.now }
+    {
+        DecodeError::CastOverflow {
+            name: Name::new(name),
+        }
+    }
 }
 
 impl<E> From<E> for DecodeError<E> {

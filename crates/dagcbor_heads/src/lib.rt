@@ -39,7 +39,7 @@ pub use pull::{
 };
 pub use push::push_head;
 pub use read::{Read, Reference, SliceReader};
-pub use steps::DEFAULT_STEPS;
+pub use steps::{DEFAULT_STEPS, spend_step};
 pub use tally::Tally;
 pub use write::{BufWriter, Write};
 

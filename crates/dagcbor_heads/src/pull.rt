@@ -93,10 +93,7 @@ pub fn peek_one<R: Read>(name: &str, reader: &mut R) -> Result<u8, DecodeError<R
 {
     match look(reader) {
         Ok(Some(byte)) => Ok(byte),
-        Ok(None) => Err(DecodeError::Eof {
-            name: Name::new(name),
-            expect: Len::Small(1),
-        }),
+        Ok(None) => Err(DecodeError::end(name, Len::Small(1))),
         Err(fault) => Err(DecodeError::Read(fault)),
     }
 }
@@ -112,10 +109,7 @@ pub fn pull_one<R: Read>(name: &str, reader: &mut R) -> Result<u8, DecodeError<R
 {
     match next_byte(reader) {
         Ok(Some(byte)) => Ok(byte),
-        Ok(None) => Err(DecodeError::Eof {
-            name: Name::new(name),
-            expect: Len::Small(1),
-        }),
+        Ok(None) => Err(DecodeError::end(name, Len::Small(1))),
         Err(fault) => Err(DecodeError::Read(fault)),
     }
 }
@@ -167,10 +161,7 @@ fn pull_argument<R: Read>(
     for _i in 0..width {
         match next_byte(reader) {
             Ok(Some(byte)) => argument = argument * 256 + u64::from(byte),
-            Ok(None) => return Err(DecodeError::Eof {
-                name: Name::new(name),
-                expect: Len::Small(width),
-            }),
+            Ok(None) => return Err(DecodeError::end(name, Len::Small(width))),
             Err(fault) => return Err(DecodeError::Read(fault)),
         }
     }
@@ -199,10 +190,7 @@ pub fn pull_head<R: Read>(
         return Err(DecodeError::IndefiniteSize);
     }
     if information > 27 {
-        return Err(DecodeError::Unsupported {
-            name: Name::new(name),
-            found: first,
-        });
+        return Err(DecodeError::unsupported(name, first));
     }
     let argument = pull_argument(name, reader, argument_width(information))?;
     if argument < least_argument(information) {
@@ -273,10 +261,7 @@ fn gather<R: Read>(
     while left > 0 {
         let count = gather_some(reader, &mut payload, left)?;
         if count == 0 {
-            return Err(DecodeError::Eof {
-                name: Name::new(name),
-                expect: Len::new(n),
-            });
+            return Err(DecodeError::end(name, Len::new(n)));
         }
         left -= count as u64;
     }
@@ -302,10 +287,7 @@ pub fn pull_payload<'de, R: Read>(
     match input {
         Input::Slice(reader) => match reader.lend(n) {
             Some(payload) => Ok(CowSlice::Borrowed(payload)),
-            None => Err(DecodeError::Eof {
-                name: Name::new(name),
-                expect: Len::new(n),
-            }),
+            None => Err(DecodeError::end(name, Len::new(n))),
         },
         Input::Reader(reader) => Ok(CowSlice::Owned(gather(alloc, name, reader, n)?)),
     }
@@ -362,10 +344,7 @@ pub fn pull_short_payload<R: Read, const CAP: usize>(
     let mut left = n;
     while left > 0 {
         match copy_some(reader, &mut payload, left) {
-            Ok(0) => return Err(DecodeError::Eof {
-                name: Name::new(name),
-                expect: Len::new(n),
-            }),
+            Ok(0) => return Err(DecodeError::end(name, Len::new(n))),
             Ok(count) => left -= count as u64,
             Err(fault) => return Err(DecodeError::Read(fault)),
         }

@@ -1,7 +1,11 @@
 //! The steps into items that a reader has left.
 
 ghost use Rattle.std.specs.Prelude.{◌≡◌, ◌+◌, ◌-◌, ◌<◌, MatchBool};
+ghost use Rattle.dagcbor_heads.specs.Refusals.{SpendsStep};
 
+use crate::error::DecodeError;
+use crate::name::Name;
+use crate::read::Read;
 use std::marker::Model;
 
 /// The steps that a reader has, where nothing else is said.
@@ -56,4 +60,16 @@ impl Steps {
     {
         self.left += 1;
     }
+}
+
+/// Spends a step of the reader, or refuses for the depth. No byte is looked at.
+pub fn spend_step<R: Read>(name: &str, reader: &mut R) -> Result<(), DecodeError<R::Error>>
+    ensures { SpendsStep name.now (R.reading reader.old) result (R.reading reader.new) }
+{
+    if reader.step_in() {
+        return Ok(());
+    }
+    Err(DecodeError::DepthOverflow {
+        name: Name::new(name),
+    })
 }

@@ -3,10 +3,8 @@ use Rattle.std.proofs.Common.{◌≡◌, inl, inr, ℕ, suc, ◌+◌, ◌<◌, �
 use Rattle.std.specs.Prelude.{Some, Result, Ok, Err}
 use Rattle.dagcbor_heads.specs.Head.{head}
 use Rattle.dagcbor_heads.specs.Reading.{Reading}
-use Rattle.dagcbor_heads.specs.Refusals.{Refuses}
-use Rattle.dagcbor_heads.specs.declared.name.Name.{Name}
+use Rattle.dagcbor_heads.specs.Refusals.{Refuses, NoStep}
 use Rattle.dagcbor_heads.specs.declared.error.DecodeError.{DecodeError}
-use Rattle.dagcbor_heads.specs.declared.error.DecodeError.TheVariants.{DepthOverflow}
 use Rattle.dagcbor_heads.proofs.Taking.{stays, stays_both}
 use Rattle.dagcbor_heads.proofs.Refusing.{passed_on}
 use Rattle.ipld_tree.specs.Tree.{Tree, list, Items, no_items, item, items_of, any_need, items_need}
@@ -30,8 +28,8 @@ is_list_at starts i = is_list i.tree (major_of_front i.bytes i.rest i.tree 4 (st
 two_steps : (t : Tree) (ts : Items) → t ≡ list ts → 2 ≤ any_need t
 two_steps t ts e = omega (arith, ap any_need e)
 
-pub no_list_step : (E lacks : Type 0) (old new : Reading) (name : Name) → StartsWithMajor old 4 → old.steps ≡ 0 → new ≡ old → Refuses {E = E} (HasItem 1 old) lacks ⊥ (CauseInside (old.steps + 1)) old (DepthOverflow name) new
-no_list_step E lacks old new name starts none same = too_deep E lacks 1 old new name none same (λ i. let l = is_list_at starts i in two_steps i.tree l.0 l.1) (λ b l. inr (refl, inl (starts b l)))
+pub no_list_step : {E : Type 0} (lacks : Type 0) {text : List ℕ} {old new : Reading} (e : DecodeError E) → StartsWithMajor old 4 → NoStep text old e new → Refuses (HasItem 1 old) lacks ⊥ (CauseInside (old.steps + 1)) old e new
+no_list_step lacks e starts h = too_deep lacks 1 e h (λ i. let l = is_list_at starts i in two_steps i.tree l.0 l.1) (λ n b l. inr (refl, inl (starts b l)))
 
 -- where a list stands, its items stand behind its head
 list_items : {stepped mid : Reading} {n : ℕ} → StartsWithMajor stepped 4 → TakesHeadOf stepped 4 n mid → HasItem 2 stepped → HasItems n mid

@@ -3,10 +3,8 @@ use Rattle.std.proofs.Common.{◌≡◌, inl, inr, ℕ, ◌+◌, ◌^◌, ◌<�
 use Rattle.std.specs.Prelude.{Option, Some, None, Result, Ok, Err, OnOk}
 use Rattle.dagcbor_heads.specs.Head.{head}
 use Rattle.dagcbor_heads.specs.Reading.{Reading}
-use Rattle.dagcbor_heads.specs.Refusals.{Refuses}
-use Rattle.dagcbor_heads.specs.declared.name.Name.{Name}
+use Rattle.dagcbor_heads.specs.Refusals.{Refuses, NoStep}
 use Rattle.dagcbor_heads.specs.declared.error.DecodeError.{DecodeError}
-use Rattle.dagcbor_heads.specs.declared.error.DecodeError.TheVariants.{DepthOverflow}
 use Rattle.dagcbor_heads.proofs.Taking.{stays, stays_both}
 use Rattle.dagcbor_heads.proofs.Refusing.{passed_on}
 use Rattle.ipld_tree.specs.Tree.{Tree, text, mapping, Entries, no_entries, entry, ordered, any_need, entries_need}
@@ -133,8 +131,8 @@ is_map_at starts i = is_mapping i.tree (major_of_front i.bytes i.rest i.tree 5 (
 two_steps : (t : Tree) (es : Entries) → t ≡ mapping es → 2 ≤ any_need t
 two_steps t es e = omega (arith, ap any_need e)
 
-pub no_map_step : (E lacks : Type 0) (old new : Reading) (name : Name) → StartsWithMajor old 5 → old.steps ≡ 0 → new ≡ old → Refuses {E = E} (HasItem 1 old) lacks ⊥ (CauseInside (old.steps + 1)) old (DepthOverflow name) new
-no_map_step E lacks old new name starts none same = too_deep E lacks 1 old new name none same (λ i. let l = is_map_at starts i in two_steps i.tree l.0 l.1) (λ b l. inr (refl, inr (starts b l)))
+pub no_map_step : {E : Type 0} (lacks : Type 0) {text : List ℕ} {old new : Reading} (e : DecodeError E) → StartsWithMajor old 5 → NoStep text old e new → Refuses (HasItem 1 old) lacks ⊥ (CauseInside (old.steps + 1)) old e new
+no_map_step lacks e starts h = too_deep lacks 1 e h (λ i. let l = is_map_at starts i in two_steps i.tree l.0 l.1) (λ n b l. inr (refl, inr (starts b l)))
 
 map_entries : {stepped mid : Reading} {n : ℕ} → StartsWithMajor stepped 5 → TakesHeadOf stepped 5 n mid → HasItem 2 stepped → HasEntries n mid
 map_entries {stepped} {mid} {n} starts h i =

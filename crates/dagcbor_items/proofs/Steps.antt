@@ -1,11 +1,13 @@
 -- Steps that are spent on entering an item, and given back at its end.
-use Rattle.std.proofs.Common.{◌≡◌, inl, ℕ, ◌+◌, ◌-◌, ◌<◌, ◌≤◌, List, refl, sym, ap, ◌∙◌, arith}
+use Rattle.std.proofs.Common.{◌≡◌, inl, ℕ, ◌+◌, ◌≤◌, List, refl, sym, ap, ◌∙◌, arith}
 use Rattle.std.specs.Prelude.{Some}
-use Rattle.dagcbor_heads.specs.Reading.{Reading, with_steps}
-use Rattle.dagcbor_heads.specs.Refusals.{Refuses}
+use Rattle.dagcbor_heads.specs.Reading.{Reading, SpentStep, with_steps}
+use Rattle.dagcbor_heads.specs.Refusals.{Refuses, NoStep}
 use Rattle.dagcbor_heads.specs.declared.name.Name.{Name}
 use Rattle.dagcbor_heads.specs.declared.error.DecodeError.{DecodeError}
 use Rattle.dagcbor_heads.specs.declared.error.DecodeError.TheVariants.{Read, RequireBorrowed, OutOfMemory, Failed, DepthOverflow}
+use Rattle.dagcbor_heads.proofs.Taking.{stays}
+use Rattle.dagcbor_heads.proofs.Refusing.{no_step_refused}
 use Rattle.ipld_tree.specs.Tree.{Tree, null, boolean, integer, text, bytes, list, mapping, link, any_need}
 use Rattle.dagcbor_items.specs.ItemCauses.{IsTooDeep, CauseInside}
 use Rattle.dagcbor_items.specs.Untyped.{HasItem, TakesItem, StartsWithMajor}
@@ -22,28 +24,17 @@ need_positive (mapping es) = omega arith
 need_positive (link cid) = omega arith
 
 -- no step is left for what stands there
-pub too_deep : (E lacks : Type 0) (spent : ℕ) (old new : Reading) (name : Name) → old.steps ≡ 0 → new ≡ old → ((i : HasItem spent old) → spent + 1 ≤ any_need i.tree)
-    → ((b : List ℕ) → old.left ≡ Some b → IsTooDeep {E = E} spent (DepthOverflow name) b) → Refuses {E = E} (HasItem spent old) lacks ⊥ (CauseInside (old.steps + spent)) old (DepthOverflow name) new
-too_deep E lacks spent old new name none same deep cause = (
-  ap (λ (r : Reading). r.faults) same,
-  λ i. omega (arith, i.within, none, deep i),
-  λ b l. at_steps {E = E} (DepthOverflow name) b spent _ (omega (arith, none)) (stands_here {E = E} spent (DepthOverflow name) b (inl (cause b l))),
-  ap (λ (r : Reading). r.steps) same ∙ none,
-)
+pub too_deep : {E : Type 0} (lacks : Type 0) (spent : ℕ) {text : List ℕ} {old new : Reading} (e : DecodeError E) → NoStep text old e new → ((i : HasItem spent old) → spent + 1 ≤ any_need i.tree)
+    → ((n : Name) (b : List ℕ) → old.left ≡ Some b → IsTooDeep {E = E} spent (DepthOverflow n) b) → Refuses (HasItem spent old) lacks ⊥ (CauseInside (old.steps + spent)) old e new
+too_deep {E} lacks spent {text} {old} e h deep cause = no_step_refused lacks ⊥ (CauseInside (old.steps + spent)) e (stays old) h (λ i. omega (arith, i.within, deep i))
+    (λ n named b l. at_steps {E = E} (DepthOverflow n) b spent _ (omega (arith, h.none)) (stands_here {E = E} spent (DepthOverflow n) b (inl (cause n b l))))
 
-pub no_step_left : (E lacks : Type 0) (old new : Reading) (name : Name) → old.steps ≡ 0 → new ≡ old → Refuses {E = E} (HasItem 0 old) lacks ⊥ (CauseInside (old.steps + 0)) old (DepthOverflow name) new
-no_step_left E lacks old new name none same = too_deep E lacks 0 old new name none same (λ i. need_positive i.tree) (λ b l. inl refl)
+pub no_step_left : {E : Type 0} (lacks : Type 0) {text : List ℕ} {old new : Reading} (e : DecodeError E) → NoStep text old e new → Refuses (HasItem 0 old) lacks ⊥ (CauseInside (old.steps + 0)) old e new
+no_step_left lacks e h = too_deep lacks 0 e h (λ i. need_positive i.tree) (λ n b l. inl refl)
 
--- a step was spent
-pub record Steps (old stepped : Reading) : Type 0 where
-  pub some : 0 < old.steps
-  pub is_out : stepped.steps < stepped.budget
-  pub is : stepped ≡ with_steps (old.steps - 1) old
+-- ---- a step was spent
 
-pub spent_step : {old stepped : Reading} → (0 < old.steps) × (stepped.steps < stepped.budget) × (stepped ≡ with_steps (old.steps - 1) old) → Steps old stepped
-spent_step h = record { some = h.0; is_out = h.1; is = h.2 }
-
-item_stepped : {old stepped : Reading} {spent : ℕ} → Steps old stepped → HasItem spent old → HasItem (spent + 1) stepped
+item_stepped : {old stepped : Reading} {spent : ℕ} → SpentStep old stepped → HasItem spent old → HasItem (spent + 1) stepped
 item_stepped {old} {stepped} {spent} s i = record {
   bytes = i.bytes;
   tree = i.tree;
@@ -54,10 +45,10 @@ item_stepped {old} {stepped} {spent} s i = record {
 }
 
 -- the steps for an item are those that are left, and those that were spent on it
-steps_same : {old stepped : Reading} (spent : ℕ) → Steps old stepped → stepped.steps + (spent + 1) ≡ old.steps + spent
+steps_same : {old stepped : Reading} (spent : ℕ) → SpentStep old stepped → stepped.steps + (spent + 1) ≡ old.steps + spent
 steps_same spent s = omega (arith, s.some, ap (λ (r : Reading). r.steps) s.is)
 
-pub stepped_refused : {E lacks lacks' : Type 0} {old stepped : Reading} (new : Reading) (spent : ℕ) (e : DecodeError E) → Steps old stepped → (lacks → lacks')
+pub stepped_refused : {E lacks lacks' : Type 0} {old stepped : Reading} (new : Reading) (spent : ℕ) (e : DecodeError E) → SpentStep old stepped → (lacks → lacks')
     → Refuses (HasItem (spent + 1) stepped) lacks ⊥ (CauseInside (stepped.steps + (spent + 1))) stepped e new → Refuses (HasItem spent old) lacks' ⊥ (CauseInside (old.steps + spent)) old e new
 stepped_refused {E} {lacks} {lacks'} {old} {stepped} new spent (Read e) s k r = omega (arith, ap (λ (r : Reading). r.faults) s.is, r)
 stepped_refused {E} {lacks} {lacks'} {old} {stepped} new spent OutOfMemory s k r = (r.0 ∙ ap (λ (r : Reading). r.faults) s.is, k r.1)
@@ -69,7 +60,7 @@ stepped_refused {E} {lacks} {lacks'} {old} {stepped} new spent e s k r =
     (r.0 ∙ ap (λ (r : Reading). r.faults) s.is, λ i. r.1 (item_stepped s i), λ b l. at_steps {E = E} e b _ _ (steps_same spent s) (r.2 b (ap (λ (r : Reading). r.left) s.is ∙ l)))
 
 -- the step was given back behind the item
-pub stepped_taken : {old stepped now new : Reading} {t : Tree} (spent : ℕ) → Steps old stepped → TakesItem (spent + 1) stepped t now → new ≡ with_steps (now.steps + 1) now → TakesItem spent old t new
+pub stepped_taken : {old stepped now new : Reading} {t : Tree} (spent : ℕ) → SpentStep old stepped → TakesItem (spent + 1) stepped t now → new ≡ with_steps (now.steps + 1) now → TakesItem spent old t new
 stepped_taken {old} {stepped} {now} {new} {t} spent s a back =
     let at_stepped = ap (λ (r : Reading). r.steps) s.is in
     record {
@@ -85,5 +76,5 @@ stepped_taken {old} {stepped} {now} {new} {t} spent s a back =
       };
     }
 
-pub stepped_major : {old stepped : Reading} {m : ℕ} → Steps old stepped → StartsWithMajor old m → StartsWithMajor stepped m
+pub stepped_major : {old stepped : Reading} {m : ℕ} → SpentStep old stepped → StartsWithMajor old m → StartsWithMajor stepped m
 stepped_major s h b l = h b (ap (λ (r : Reading). r.left) (sym s.is) ∙ l)

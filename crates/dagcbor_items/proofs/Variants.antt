@@ -1,6 +1,6 @@
 -- The refusals of a part are among those of the whole.
 use Rattle.std.specs.Prelude.{List, ℕ}
-use Rattle.dagcbor_heads.specs.Causes.{IsEndNamed, IsNamed}
+use Rattle.dagcbor_heads.specs.Causes.{IsDepthNamed, IsEndNamed, IsNamed}
 use Rattle.dagcbor_heads.specs.declared.error.DecodeError.{DecodeError}
 use Rattle.dagcbor_heads.specs.declared.error.DecodeError.TheVariants.{Msg, Eof, Mismatch, Unsupported, RequireUtf8, CastOverflow, DepthOverflow, IndefiniteSize, NonMinimal, UnorderedKey}
 use Rattle.dagcbor_items.specs.Variants.{OfByte, OfHead, OfNumber, OfText, OfChar, OfKey, OfLink, OfItem}
@@ -75,6 +75,10 @@ named_item text e h = kind_item e (named_kind text e h)
 
 pub end_item : {E : Type 0} (text : List ℕ) (e : DecodeError E) → IsEndNamed text e → OfItem e
 end_item text e h = kind_item e (end_kind text e h)
+
+pub depth_item : {E : Type 0} (text : List ℕ) (e : DecodeError E) → IsDepthNamed text e → OfItem e
+depth_item text (DepthOverflow n) h = tt
+depth_item text _ h = absurd h
 
 pub link_item : {E : Type 0} (e : DecodeError E) → OfLink e → OfItem e
 link_item (Msg n) h = tt

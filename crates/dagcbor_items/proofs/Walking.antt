@@ -1,7 +1,7 @@
 -- Going through items, their links handed to a sink.
 use Rattle.std.proofs.Common.{◌≡◌, ◌≢◌, inl, inr, ℕ, zero, suc, ◌+◌, ◌-◌, ◌/◌, ◌<◌, ◌≤◌, pos, negsuc, List, [], ◌∷◌, ◌++◌, Bool, true, false, refl, sym, ap, ◌∙◌, subst, arith, append_assoc, append-nil}
 use Rattle.std.specs.Prelude.{Option, None, Some, Result, Ok, Err}
-use Rattle.dagcbor_heads.specs.Reading.{Reading, Stays}
+use Rattle.dagcbor_heads.specs.Reading.{Reading, SpentStep, Stays}
 use Rattle.dagcbor_heads.specs.Fronts.{StartsWith, ShowsByte, Takes}
 use Rattle.dagcbor_heads.specs.Refusals.{Refuses}
 use Rattle.dagcbor_heads.specs.declared.error.DecodeError.{DecodeError}
@@ -15,7 +15,7 @@ use Rattle.dagcbor_items.specs.Walks.{Finds, WalkLacks, WalksItem}
 use Rattle.dagcbor_items.proofs.Fronts.{TakesHeadOf, major_of_front, major_at}
 use Rattle.dagcbor_items.proofs.Places.{at_steps}
 use Rattle.dagcbor_items.proofs.Pushes.{entry_push}
-use Rattle.dagcbor_items.proofs.Steps.{Steps, stepped_refused}
+use Rattle.dagcbor_items.proofs.Steps.{stepped_refused}
 
 -- ---- want of memory
 
@@ -24,7 +24,7 @@ pub lacks_before : {takes_memory : Bool} {old mid : Reading} → Stays old mid �
 lacks_before h (inl l) = inl (sym h.lends ∙ l)
 lacks_before h (inr m) = inr m
 
-pub step_refused : {E : Type 0} (takes_memory : Bool) {old stepped : Reading} (new : Reading) (spent : ℕ) (e : DecodeError E) → Steps old stepped → Refuses (HasItem (spent + 1) stepped) (WalkLacks takes_memory stepped) ⊥ (CauseInside (stepped.steps + (spent + 1))) stepped e new
+pub step_refused : {E : Type 0} (takes_memory : Bool) {old stepped : Reading} (new : Reading) (spent : ℕ) (e : DecodeError E) → SpentStep old stepped → Refuses (HasItem (spent + 1) stepped) (WalkLacks takes_memory stepped) ⊥ (CauseInside (stepped.steps + (spent + 1))) stepped e new
     → Refuses (HasItem spent old) (WalkLacks takes_memory old) ⊥ (CauseInside (old.steps + spent)) old e new
 step_refused {E} takes_memory {old} {stepped} new spent e s r = stepped_refused new spent e s lacks r
   where

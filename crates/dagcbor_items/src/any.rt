@@ -12,12 +12,13 @@ ghost use Rattle.dagcbor_items.specs.Variants.{OfItem};
 use crate::key::read_key;
 use crate::leaf::{read_bytes, read_natural, read_negative, read_simple, read_text};
 use crate::link::read_link;
-use dagcbor_heads::{DecodeError, Input, Name, Read, is_indefinite, peek_one, pull_head};
+use dagcbor_heads::{DecodeError, Input, Read, is_indefinite, peek_one, pull_head, spend_step};
 use ipld_tree::Ipld;
 use std::alloc::{AllocError, Global};
 use std::collections::BTreeMap;
 
 /// Reads an item of any kind, no deeper than the steps that are left.
+#[tactic(auto, using(crate::proofs::Variants::depth_item))]
 #[cycle(any)]
 pub fn read_any<R: Read>(
     alloc: Global,
@@ -27,11 +28,7 @@ pub fn read_any<R: Read>(
     ensures looked { OverInput R.reading (Looks 3) input.old result input.new }
     ensures variant { IfErr result OfItem }
 {
-    if !input.step_in() {
-        return Err(DecodeError::DepthOverflow {
-            name: Name::new("any"),
-        });
-    }
+    spend_step("any", input)?;
     let value = read_item(alloc, input)?;
     input.step_out();
     Ok(value)
@@ -77,7 +74,7 @@ fn read_of_major<R: Read>(
     }
 }
 
-#[tactic(auto, using(crate::proofs::Variants::named_item))]
+#[tactic(auto, using(crate::proofs::Variants::depth_item, crate::proofs::Variants::named_item))]
 #[cycle(any)]
 fn read_list<R: Read>(
     alloc: Global,
@@ -88,11 +85,7 @@ fn read_list<R: Read>(
     ensures looked { OverInput R.reading (LooksBehind 3 1) input.old result input.new }
     ensures variant { IfErr result OfItem }
 {
-    if !input.step_in() {
-        return Err(DecodeError::DepthOverflow {
-            name: Name::new("array"),
-        });
-    }
+    spend_step("array", input)?;
     let (_, count, _) = pull_head("array", input)?;
     let items = read_items(alloc, input, count)?;
     input.step_out();
@@ -136,7 +129,7 @@ fn take_first_room(items: &mut Vec<Ipld>, count: u64) -> Result<(), AllocError>
     Ok(())
 }
 
-#[tactic(auto, using(crate::proofs::Variants::named_item))]
+#[tactic(auto, using(crate::proofs::Variants::depth_item, crate::proofs::Variants::named_item))]
 #[cycle(any)]
 fn read_map<R: Read>(alloc: Global, input: &mut Input<'_, R>) -> Result<Ipld, DecodeError<R::Error>>
     requires { StartsWithMajor (input_reading R.reading input.old) 5 }
@@ -144,11 +137,7 @@ fn read_map<R: Read>(alloc: Global, input: &mut Input<'_, R>) -> Result<Ipld, De
     ensures looked { OverInput R.reading (LooksBehind 3 1) input.old result input.new }
     ensures variant { IfErr result OfItem }
 {
-    if !input.step_in() {
-        return Err(DecodeError::DepthOverflow {
-            name: Name::new("map"),
-        });
-    }
+    spend_step("map", input)?;
     let (_, count, _) = pull_head("map", input)?;
     let entries = read_entries(alloc, input, count)?;
     input.step_out();

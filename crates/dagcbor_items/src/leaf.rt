@@ -8,7 +8,7 @@ ghost use Rattle.dagcbor_items.specs.Untyped.{ReadsItem, ReadsLeaf, StartsWithMa
 ghost use Rattle.dagcbor_items.specs.Variants.{OfItem};
 
 use crate::strings::{pull_peeked_owned_bytes, pull_peeked_owned_text};
-use dagcbor_heads::{DecodeError, Input, Name, Read, pull_head, pull_one};
+use dagcbor_heads::{DecodeError, Input, Read, pull_head, pull_one};
 use ipld_tree::Ipld;
 use std::alloc::Global;
 
@@ -84,9 +84,6 @@ pub(crate) fn read_simple<R: Read>(reader: &mut R, first: u8) -> Result<Ipld, De
             pull_one("any", reader)?;
             Ok(value)
         }
-        None => Err(DecodeError::Unsupported {
-            name: Name::new("any"),
-            found: first,
-        }),
+        None => Err(DecodeError::unsupported("any", first)),
     }
 }

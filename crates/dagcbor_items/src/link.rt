@@ -10,7 +10,7 @@ ghost use Rattle.dagcbor_items.specs.Links.{HasWanted, ReadsCid, ReadsLink, IsZe
 ghost use Rattle.dagcbor_items.specs.Variants.{OfByte, OfItem, OfLink};
 
 use arrayvec::ArrayVec;
-use dagcbor_heads::{DecodeError, Name, Read, peek_one, pull_head, pull_one, pull_short_payload};
+use dagcbor_heads::{DecodeError, Read, peek_one, pull_head, pull_one, pull_short_payload};
 use ipld_tree::{Cid, Ipld};
 
 /// The greatest length of a CID with its zero.
@@ -32,10 +32,7 @@ pub(crate) fn pull_wanted<R: Read>(
 {
     let found = pull_one(name, reader)?;
     if found != wanted {
-        return Err(DecodeError::Mismatch {
-            name: Name::new(other),
-            found,
-        });
+        return Err(DecodeError::mismatch(other, found));
     }
     Ok(())
 }
@@ -77,10 +74,7 @@ fn pull_cid<R: Read>(reader: &mut R) -> Result<Cid, DecodeError<R::Error>>
 {
     let first = peek_one("cid", reader)?;
     if first / 32 != 2 {
-        return Err(DecodeError::Unsupported {
-            name: Name::new("cid"),
-            found: first,
-        });
+        return Err(DecodeError::unsupported("cid", first));
     }
     pull_cid_string(reader)
 }

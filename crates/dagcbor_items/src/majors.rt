@@ -8,7 +8,7 @@ ghost use Rattle.dagcbor_items.specs.Majors.{HasMajor, ReadsMajor};
 ghost use Rattle.dagcbor_items.specs.LeafCauses.{MajorCause};
 ghost use Rattle.dagcbor_items.specs.Variants.{OfByte, OfHead};
 
-use dagcbor_heads::{DecodeError, Name, Read, peek_one, pull_head};
+use dagcbor_heads::{DecodeError, Read, peek_one, pull_head};
 
 /// The next byte, which is left, where its major type lies from `low` to `high`.
 #[tactic(auto, using(crate::proofs::Variants::end_byte))]
@@ -27,10 +27,7 @@ pub(crate) fn peek_major<R: Read>(
     let first = peek_one(name, reader)?;
     let major = first / 32;
     if major < low || high < major {
-        return Err(DecodeError::Mismatch {
-            name: Name::new(name),
-            found: first,
-        });
+        return Err(DecodeError::mismatch(name, first));
     }
     Ok(first)
 }

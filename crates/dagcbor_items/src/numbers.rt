@@ -8,7 +8,7 @@ ghost use Rattle.dagcbor_items.specs.LeafReads.{ReadsUnsigned, ReadsSigned, Read
 ghost use Rattle.dagcbor_items.specs.Variants.{OfHead, OfNumber};
 
 use crate::majors::pull_major;
-use dagcbor_heads::{DecodeError, Name, Read, peek_one};
+use dagcbor_heads::{DecodeError, Read, peek_one};
 
 /// The number of a head of major type 0 or 1.
 fn number_of(major: u8, argument: u64) -> i128
@@ -64,9 +64,7 @@ pub fn pull_unsigned<R: Read>(
     let number = pull_number(name, reader)?;
     match natural_of(number, greatest) {
         Some(natural) => Ok(natural),
-        None => Err(DecodeError::CastOverflow {
-            name: Name::new(name),
-        }),
+        None => Err(DecodeError::out_of_range(name)),
     }
 }
 
@@ -85,9 +83,7 @@ pub fn pull_signed<R: Read>(
     let number = pull_number(name, reader)?;
     match signed_of(number, greatest) {
         Some(signed) => Ok(signed),
-        None => Err(DecodeError::CastOverflow {
-            name: Name::new(name),
-        }),
+        None => Err(DecodeError::out_of_range(name)),
     }
 }
 
@@ -99,10 +95,7 @@ fn pull_long<R: Read>(name: &str, reader: &mut R) -> Result<i128, DecodeError<R:
 {
     let first = peek_one(name, reader)?;
     if first == 0xc2 || first == 0xc3 {
-        return Err(DecodeError::Unsupported {
-            name: Name::new(name),
-            found: first,
-        });
+        return Err(DecodeError::unsupported(name, first));
     }
     pull_number(name, reader)
 }
@@ -123,9 +116,7 @@ pub fn pull_u128<R: Read>(reader: &mut R) -> Result<u128, DecodeError<R::Error>>
     let number = pull_long("u128", reader)?;
     match long_natural_of(number) {
         Some(natural) => Ok(natural),
-        None => Err(DecodeError::CastOverflow {
-            name: Name::new("u128"),
-        }),
+        None => Err(DecodeError::out_of_range("u128")),
     }
 }
 

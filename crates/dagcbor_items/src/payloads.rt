@@ -98,10 +98,7 @@ fn pull_peeked_lent_string<'de>(
     let (_, count, _) = pull_head(name, reader)?;
     match reader.lend(count) {
         Some(payload) => Ok(payload),
-        None => Err(DecodeError::Eof {
-            name: Name::new(name),
-            expect: Len::new(count),
-        }),
+        None => Err(DecodeError::end(name, Len::new(count))),
     }
 }
 

@@ -5,7 +5,7 @@ ghost use Rattle.dagcbor_items.specs.LeafReads.{ReadsNull, ReadsBool};
 ghost use Rattle.dagcbor_items.specs.Variants.{OfByte};
 
 use crate::link::pull_wanted;
-use dagcbor_heads::{DecodeError, Name, Read, pull_one};
+use dagcbor_heads::{DecodeError, Read, pull_one};
 
 /// A null.
 pub fn pull_null<R: Read>(reader: &mut R) -> Result<(), DecodeError<R::Error>>
@@ -24,9 +24,6 @@ pub fn pull_bool<R: Read>(reader: &mut R) -> Result<bool, DecodeError<R::Error>>
     match pull_one("bool", reader)? {
         0xf4 => Ok(false),
         0xf5 => Ok(true),
-        found => Err(DecodeError::Mismatch {
-            name: Name::new("bool"),
-            found,
-        }),
+        found => Err(DecodeError::mismatch("bool", found)),
     }
 }

@@ -12,7 +12,9 @@ ghost use Rattle.dagcbor_heads.specs.Inputs.{OverInput};
 use crate::link::pull_link;
 use crate::payloads::PayloadReader;
 use crate::sink::{LinkSink, NoLinks};
-use dagcbor_heads::{DecodeError, Input, Name, Read, is_indefinite, peek_one, pull_head, pull_one};
+use dagcbor_heads::{
+    DecodeError, Input, Read, is_indefinite, peek_one, pull_head, pull_one, spend_step,
+};
 use ipld_tree::Cid;
 use std::alloc::Global;
 
@@ -45,6 +47,7 @@ pub fn gather_links<R: Read>(
 
 /// Goes through an item of any kind, no deeper than the steps that are left, and hands its links
 /// on.
+#[tactic(auto, using(crate::proofs::Variants::depth_item))]
 #[cycle(walk)]
 pub fn walk_any<I: PayloadReader, S: LinkSink>(
     alloc: I::Alloc,
@@ -55,11 +58,7 @@ pub fn walk_any<I: PayloadReader, S: LinkSink>(
     ensures looked { Looks 3 (I.reading input.old) result (I.reading input.new) }
     ensures variant { IfErr result OfItem }
 {
-    if !input.step_in() {
-        return Err(DecodeError::DepthOverflow {
-            name: Name::new("any"),
-        });
-    }
+    spend_step("any", input)?;
     walk_item(alloc, input, links)?;
     input.step_out();
     Ok(())
@@ -175,16 +174,13 @@ fn skip_simple<R: Read>(reader: &mut R, first: u8) -> Result<(), DecodeError<R::
     ensures variant { IfErr result OfItem }
 {
     if first < 0xf4 || first > 0xf6 {
-        return Err(DecodeError::Unsupported {
-            name: Name::new("any"),
-            found: first,
-        });
+        return Err(DecodeError::unsupported("any", first));
     }
     pull_one("any", reader)?;
     Ok(())
 }
 
-#[tactic(auto, using(crate::proofs::Variants::named_item))]
+#[tactic(auto, using(crate::proofs::Variants::depth_item, crate::proofs::Variants::named_item))]
 #[cycle(walk)]
 fn walk_list<I: PayloadReader, S: LinkSink>(
     alloc: I::Alloc,
@@ -196,11 +192,7 @@ fn walk_list<I: PayloadReader, S: LinkSink>(
     ensures looked { LooksBehind 3 1 (I.reading input.old) result (I.reading input.new) }
     ensures variant { IfErr result OfItem }
 {
-    if !input.step_in() {
-        return Err(DecodeError::DepthOverflow {
-            name: Name::new("array"),
-        });
-    }
+    spend_step("array", input)?;
     let (_, count, _) = pull_head("array", input)?;
     walk_items(alloc, input, links, count)?;
     input.step_out();
@@ -224,7 +216,7 @@ fn walk_items<I: PayloadReader, S: LinkSink>(
     Ok(())
 }
 
-#[tactic(auto, using(crate::proofs::Variants::named_item))]
+#[tactic(auto, using(crate::proofs::Variants::depth_item, crate::proofs::Variants::named_item))]
 #[cycle(walk)]
 fn walk_map<I: PayloadReader, S: LinkSink>(
     alloc: I::Alloc,
@@ -236,11 +228,7 @@ fn walk_map<I: PayloadReader, S: LinkSink>(
     ensures looked { LooksBehind 3 1 (I.reading input.old) result (I.reading input.new) }
     ensures variant { IfErr result OfItem }
 {
-    if !input.step_in() {
-        return Err(DecodeError::DepthOverflow {
-            name: Name::new("map"),
-        });
-    }
+    spend_step("map", input)?;
     let (_, count, _) = pull_head("map", input)?;
     walk_entries(alloc, input, links, count)?;
     input.step_out();

@@ -1,29 +1,37 @@
 -- Beginning a list or a map.
-use Rattle.std.proofs.Common.{◌≡◌, ℕ, ◌+◌, ◌*◌, ◌/◌, List, ◌∷◌, ◌++◌, sym, ap, ◌∙◌, arith}
+use Rattle.std.proofs.Common.{◌≡◌, ℕ, ◌+◌, ◌*◌, ◌/◌, ◌<◌, List, ◌∷◌, ◌++◌, sym, ap, ◌∙◌, arith}
 use Rattle.std.specs.Prelude.{Some}
-use Rattle.dagcbor_heads.specs.Reading.{Reading}
+use Rattle.dagcbor_heads.specs.Reading.{Reading, SpentStep, Stays}
 use Rattle.dagcbor_heads.specs.Fronts.{HasByte, ShowsByte}
-use Rattle.dagcbor_heads.specs.Causes.{ByteCause, IsEndNamed, IsNamed}
+use Rattle.dagcbor_heads.specs.Causes.{ByteCause, IsDepthNamed, IsEndNamed, IsNamed}
 use Rattle.dagcbor_heads.specs.Names.{Names}
-use Rattle.dagcbor_heads.specs.Refusals.{Refuses}
+use Rattle.dagcbor_heads.specs.Refusals.{Refuses, NoStep}
 use Rattle.dagcbor_heads.specs.declared.name.Name.{Name}
 use Rattle.dagcbor_heads.specs.declared.error.DecodeError.{DecodeError}
 use Rattle.dagcbor_heads.specs.declared.error.DecodeError.TheVariants.{Eof, Mismatch, DepthOverflow}
 use Rattle.dagcbor_heads.proofs.Heads.{head_first}
-use Rattle.dagcbor_heads.proofs.Refusing.{end_named}
+use Rattle.dagcbor_heads.proofs.Refusing.{end_named, no_step_refused}
 use Rattle.dagcbor_items.specs.Variants.{OfByte, OfHead}
 use Rattle.dagcbor_items.proofs.Variants.{byte_kind, named_kind, end_kind}
 use Rattle.dagcbor_read.specs.Enums.{EnumState, IsOtherForm, OfForm}
 use Rattle.dagcbor_items.specs.Reads.{NoStepIfDeep}
 use Rattle.dagcbor_read.specs.Accessors.{HasHeadOf, EnterCause, OfBegin}
-use Rattle.dagcbor_items.proofs.Steps.{Steps}
 use Rattle.dagcbor_read.proofs.Passing.{SameReader, carried}
 
-pub same_stepped : {old stepped : Reading} → Steps old stepped → SameReader old stepped
+pub same_stepped : {old stepped : Reading} → SpentStep old stepped → SameReader old stepped
 same_stepped s = record { faults = ap (λ (r : Reading). r.faults) s.is; lends = ap (λ (r : Reading). r.lends) s.is }
 
-left_stepped : {old stepped : Reading} → Steps old stepped → stepped.left ≡ old.left
+left_stepped : {old stepped : Reading} → SpentStep old stepped → stepped.left ≡ old.left
 left_stepped s = ap (λ (r : Reading). r.left) s.is
+
+-- no step was left
+pub no_step_told : {E could : Type 0} (stands : DecodeError E → List ℕ → Type 0) {text : List ℕ} {old mid new : Reading} (e : DecodeError E) → Stays old mid → NoStep text mid e new → (could → 0 < old.steps)
+    → ((n : Name) → Names n text → (b : List ℕ) → stands (DepthOverflow n) b) → Refuses could ⊥ ⊥ stands old e new × NoStepIfDeep old e
+no_step_told {E} stands {text} {old} {mid} {new} e k h some cause = (no_step_refused ⊥ ⊥ stands e k h some (λ n named b l. cause n named b), none e h)
+  where
+    none : (e : DecodeError E) → NoStep text mid e new → NoStepIfDeep old e
+    none (DepthOverflow n) h = sym k.steps ∙ h.none
+    none _ h = tt
 
 -- a head begins with a byte of its major type
 record BeginsHead (major : ℕ) (r : Reading) : Type 0 where
@@ -42,7 +50,7 @@ pub not_deep : {E : Type 0} (old : Reading) (name : List ℕ) (e : DecodeError E
 not_deep old name (DepthOverflow n) named = absurd named
 not_deep old name _ named = tt
 
-pub no_byte_entered : {E : Type 0} {old stepped : Reading} (major : ℕ) (name : List ℕ) (new : Reading) (e : DecodeError E) → Steps old stepped → IsEndNamed name e
+pub no_byte_entered : {E : Type 0} {old stepped : Reading} (major : ℕ) (name : List ℕ) (new : Reading) (e : DecodeError E) → SpentStep old stepped → IsEndNamed name e
     → Refuses (HasByte stepped) ⊥ ⊥ ByteCause stepped e new → Refuses (HasHeadOf major old) ⊥ ⊥ (EnterCause major name) old e new × NoStepIfDeep old e
 no_byte_entered {E} {old} {stepped} major name new e s named r = (
   carried ByteCause (EnterCause major name) old stepped new e (same_stepped s)
@@ -55,7 +63,7 @@ no_byte_entered {E} {old} {stepped} major name new e s named r = (
     cause (Eof n expect) b named h = (rw h.1 h.0, named, λ first more is. absurd (cc (is, h.1)))
     cause _ b named h = absurd h
 
-pub other_major : (E : Type 0) {old stepped peeked : Reading} {first major : ℕ} {text : List ℕ} (name : Name) → Steps old stepped → Names name text → ShowsByte stepped first peeked → (first / 32 ≡ major → ⊥)
+pub other_major : (E : Type 0) {old stepped peeked : Reading} {first major : ℕ} {text : List ℕ} (name : Name) → SpentStep old stepped → Names name text → ShowsByte stepped first peeked → (first / 32 ≡ major → ⊥)
     → Refuses {E = E} (HasHeadOf major old) ⊥ ⊥ (EnterCause major text) old (Mismatch name first) peeked × NoStepIfDeep {E = E} old (Mismatch name first)
 other_major E {old} {stepped} {peeked} {first} name s named h other = (
   (
@@ -81,6 +89,13 @@ named_begin text e h = kind_begin e (named_kind text e h)
 pub end_begin : {E : Type 0} (text : List ℕ) (e : DecodeError E) → IsEndNamed text e → OfBegin e
 end_begin text e h = kind_begin e (end_kind text e h)
 
+pub depth_begin : {E : Type 0} (text : List ℕ) (e : DecodeError E) → IsDepthNamed text e → OfBegin e
+depth_begin text (DepthOverflow n) h = tt
+depth_begin text _ h = absurd h
+
+-- those of the parts of a beginning
+pub ruleset begins = (depth_begin, end_begin, named_begin)
+
 pub byte_begin : {E : Type 0} (e : DecodeError E) → OfByte e → OfBegin e
 byte_begin e h = kind_begin e (byte_kind e h)
 
@@ -91,3 +106,7 @@ other_byte form _ h = absurd h
 pub byte_form : {E : Type 0} (e : DecodeError E) → OfByte e → OfForm e
 byte_form (DepthOverflow n) h = tt
 byte_form _ h = h
+
+pub depth_form : {E : Type 0} (text : List ℕ) (e : DecodeError E) → IsDepthNamed text e → OfForm e
+depth_form text (DepthOverflow n) h = tt
+depth_form text _ h = absurd h

@@ -1,8 +1,8 @@
 -- Values that may be null.
-use Rattle.std.proofs.Common.{◌≡◌, inl, inr, ℕ, ◌+◌, List, [], ◌∷◌, ◌++◌, true, refl, sym, ap, ◌∙◌, arith, zero-le}
+use Rattle.std.proofs.Common.{◌≡◌, inl, inr, ℕ, ◌+◌, ◌<◌, List, [], ◌∷◌, ◌++◌, true, refl, sym, ap, ◌∙◌, arith, zero-le}
 use Rattle.std.specs.Prelude.{◌⊎◌, Some, None, Option, option_map, is_some, ⊤}
 use Rattle.dagcbor_heads.specs.Reading.{Reading, with_steps}
-use Rattle.dagcbor_heads.specs.Fronts.{Takes}
+use Rattle.dagcbor_heads.specs.Fronts.{ShowsByte, Takes}
 use Rattle.dagcbor_heads.specs.Refusals.{Refuses}
 use Rattle.dagcbor_heads.specs.declared.error.DecodeError.{DecodeError}
 use Rattle.dagcbor_heads.specs.declared.error.DecodeError.TheVariants.{Read, RequireBorrowed, OutOfMemory, Failed, DepthOverflow}
@@ -57,6 +57,15 @@ can_enter shape r h =
   where
     null_first : (b rest : List ℕ) (t : Tree) (byte : ℕ) (more : List ℕ) → IsFront b t rest → t ≡ null → b ≡ byte ∷ more → byte ≡ 0xf6
     null_first b rest t byte more f e s = let is : byte ∷ more ≡ 0xf6 ∷ rest = sym s ∙ f.is ∙ ap (λ u. spelling u ++ rest) e in cc is
+
+-- behind another byte than a null's, a step is what is wanted
+pub wants_step : {old peeked : Reading} {first : ℕ} → ShowsByte old first peeked → (first ≡ 0xf6 → ⊥) → CanEnter old → 0 < old.steps
+wants_step h other i =
+    let k = h.starts (i.byte ∷ i.rest) i.left in
+    elim i.room [
+      | inl e ↦ absurd (other (cc (k.1, e)))
+      | inr s ↦ s
+    ]
 
 pub not_entered : {V E : Type 0} (shape : Shape Tree V) (borrows : Type 0) (old new : Reading) (e : DecodeError E) → Refuses (CanEnter old) ⊥ ⊥ OptionCause old e new
     → Refuses (HasFront (option_of shape) old) ⊤ borrows Anything old e new

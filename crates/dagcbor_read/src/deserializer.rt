@@ -29,6 +29,7 @@ use crate::deserialize::Deserialize;
 use crate::stream::StreamDeserializer;
 use dagcbor_heads::{
     DecodeError, Input, Name, Read, SliceReader, is_at_end, peek_one, pull_head, pull_one,
+    spend_step,
 };
 use dagcbor_items::{
     gather_links, pull_bool, pull_char, pull_i128, pull_link, pull_null, pull_owned_bytes,
@@ -566,22 +567,15 @@ impl<'de, R: Read> Deserializer<'de, R> {
 }
 
 /// Spends a step, and takes the head of a list or map.
-#[tactic(auto, using(crate::proofs::Entering::named_begin, crate::proofs::Entering::end_begin))]
+#[tactic(auto, using(crate::proofs::Entering::begins))]
 fn enter<R: Read>(name: &str, reader: &mut R, major: u8) -> Result<u64, DecodeError<R::Error>>
     ensures head { ReadsHead major name.now (R.reading reader.old) result (R.reading reader.new) }
     ensures variant { IfErr result OfBegin }
 {
-    if !reader.step_in() {
-        return Err(DecodeError::DepthOverflow {
-            name: Name::new(name),
-        });
-    }
+    spend_step(name, reader)?;
     let first = peek_one(name, reader)?;
     if first / 32 != major {
-        return Err(DecodeError::Mismatch {
-            name: Name::new(name),
-            found: first,
-        });
+        return Err(DecodeError::mismatch(name, first));
     }
     let (_, count, _) = pull_head(name, reader)?;
     Ok(count)
@@ -596,10 +590,6 @@ fn enter_option<R: Read>(reader: &mut R) -> Result<bool, DecodeError<R::Error>>
         pull_one("option", reader)?;
         return Ok(true);
     }
-    if !reader.step_in() {
-        return Err(DecodeError::DepthOverflow {
-            name: Name::new("option"),
-        });
-    }
+    spend_step("option", reader)?;
     Ok(false)
 }

@@ -12,7 +12,7 @@ ghost use Rattle.dagcbor_items.specs.Variants.{OfByte, OfText};
 use crate::access::accessor::{Accessor, give_back};
 use crate::deserialize::Deserialize;
 use crate::deserializer::Deserializer;
-use dagcbor_heads::{DecodeError, Name, Read, peek_one, pull_one};
+use dagcbor_heads::{DecodeError, Read, peek_one, pull_one, spend_step};
 use std::alloc::Global;
 use std::borrow::CowStr;
 
@@ -37,10 +37,7 @@ fn pull_form<R: Read>(reader: &mut R) -> Result<EnumAccessor, DecodeError<R::Err
     if in_map {
         pull_one("enum", reader)?;
     } else if first / 32 != 3 {
-        return Err(DecodeError::Mismatch {
-            name: Name::new("enum"),
-            found: first,
-        });
+        return Err(DecodeError::mismatch("enum", first));
     }
     Ok(EnumAccessor {
         first,
@@ -50,7 +47,7 @@ fn pull_form<R: Read>(reader: &mut R) -> Result<EnumAccessor, DecodeError<R::Err
 }
 
 /// The same, for a step.
-#[tactic(auto, using(crate::proofs::Entering::byte_form))]
+#[tactic(auto, using(crate::proofs::Entering::depth_form, crate::proofs::Entering::byte_form))]
 pub(crate) fn spend_form<R: Read>(
     name: &str,
     reader: &mut R,
@@ -58,11 +55,7 @@ pub(crate) fn spend_form<R: Read>(
     ensures form { SpendsEnum name.now (R.reading reader.old) result (R.reading reader.new) }
     ensures variant { IfErr result OfForm }
 {
-    if !reader.step_in() {
-        return Err(DecodeError::DepthOverflow {
-            name: Name::new(name),
-        });
-    }
+    spend_step(name, reader)?;
     let mut form = pull_form(reader)?;
     form.steps = 1;
     Ok(form)
@@ -162,10 +155,7 @@ impl EnumAccessor {
     fn other_form<E>(&self) -> DecodeError<E>
         ensures { IsOtherForm (enum_state self.now) result }
     {
-        DecodeError::Mismatch {
-            name: Name::new("enum"),
-            found: self.first,
-        }
+        DecodeError::mismatch("enum", self.first)
     }
 
     /// Goes on only where the enum is a map.

@@ -7,7 +7,9 @@ pub loop-i-init : goal.loop-i-init
 loop-i-init g c = record { read = none_read _; looked = nothing_looked _; at_most = omega arith }
 
 pub returns-in-Ok-None-clause-taken : goal.returns-in-Ok-None-clause-taken
-returns-in-Ok-None-clause-taken g c = cut g.row.R-Error.Denot c.new.result c.loop-i-test.true c.loop-i.invariant.read (rw c.in-Ok-None.field-0-is at c.in-Ok-None.ensures.taken)
+returns-in-Ok-None-clause-taken g c =
+    let told = c.end.ensures in
+    rw told.1 (cut g.row.R-Error.Denot told.0 c.loop-i-test.true c.loop-i.invariant.read (rw c.in-Ok-None.field-0-is at c.in-Ok-None.ensures.taken))
 
 pub returns-in-Ok-None-clause-looked : goal.returns-in-Ok-None-clause-looked
 returns-in-Ok-None-clause-looked g c = looks_then c.loop-i.invariant.looked (once_left (rw c.in-Ok-None.field-0-is at c.in-Ok-None.ensures.looked))

@@ -16,7 +16,8 @@ returns-then-information-eq31-clause-taken g c = reserved g.row.R-Error.Denot In
 
 pub returns-then-information-gt27-clause-taken : goal.returns-then-information-gt27-clause-taken
 returns-then-information-gt27-clause-taken g c =
-    reserved g.row.R-Error.Denot (Unsupported c.new.result c.in_ok-first.first) c.in_ok-first.ensures.taken (omega arith) (λ more. (refl, (omega arith), (omega arith)))
+    let told = c.unsupported.ensures in
+    rw told.1 (reserved g.row.R-Error.Denot (Unsupported told.0 c.in_ok-first.first) c.in_ok-first.ensures.taken (omega arith) (λ more. (refl, (omega arith), (omega arith))))
 
 pub returns-in_err-argument-clause-taken : goal.returns-in_err-argument-clause-taken
 returns-in_err-argument-clause-taken g c =
@@ -26,7 +27,7 @@ pub returns-then-argument-least_argument-clause-taken :
     goal.returns-then-argument-least_argument-clause-taken
 returns-then-argument-least_argument-clause-taken g c =
     let least = rw (sym c.argument_width.ensures.value) at c.least_argument.ensures in
-    too_long g.row.R-Error.Denot c.new-then-argument-least_argument.result c.argument_width.ensures.value (omega arith) c.in_ok-argument.ensures.taken.0 (omega (arith, least))
+    too_long g.row.R-Error.Denot c.new.result c.argument_width.ensures.value (omega arith) c.in_ok-argument.ensures.taken.0 (omega (arith, least))
     c.in_ok-first.ensures.taken c.in_ok-argument.ensures.taken.1
 
 pub returns-clause-taken : goal.returns-clause-taken

@@ -16,10 +16,10 @@ returns-in-Some-clause-lent g c = rw c.in-Slice.is (λ _. c.lend.ensures.lends, 
 pub returns-in-None-clause-taken : goal.returns-in-None-clause-taken
 returns-in-None-clause-taken g c =
     let none = c.in-None.ensures.lent in
-    rw c.in-Slice.is (
+    rw (c.in-Slice.is, c.end.ensures.1) (
       ap (λ r. r.faults) none.0,
       λ h. omega (arith, none.1 _ h.left, h.long, length-append h.payload h.rest),
-      λ b l. (c.new-in-None.ensures, none.1 b l),
+      λ b l. (c.new.ensures, none.1 b l),
     )
 
 pub returns-in-Some-clause-looked : goal.returns-in-Some-clause-looked

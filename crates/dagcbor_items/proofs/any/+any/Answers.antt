@@ -9,19 +9,19 @@ use Rattle.ipld_tree.specs.Tree.{ordered}
 use Rattle.ipld_tree.specs.Ipld.{tree_of, pairs_of}
 use Rattle.dagcbor_items.proofs.Fronts.{head_of, head_refused, byte_refused}
 use Rattle.dagcbor_items.proofs.Leaves.{indefinite_refused}
-use Rattle.dagcbor_items.proofs.Steps.{no_step_left, spent_step, stepped_refused, stepped_taken, stepped_major}
+use Rattle.dagcbor_items.proofs.Steps.{no_step_left, stepped_refused, stepped_taken, stepped_major}
 use Rattle.dagcbor_items.proofs.Lists.{no_list_step, list_refused, list_as_tree, next_refused, one_read, map_pushed}
 use Rattle.dagcbor_items.proofs.Maps as maps
 use Rattle.dagcbor_items.proofs.Pushes.{ordered_push, pushed_as}
 use Rattle.dagcbor_items.proofs.Keys.{follows_as}
 use Rattle.dagcbor_items.proofs.any.+any.Goals as goal
 
-pub read_any-returns-then-not-step_in-clause-item : goal.read_any-returns-then-not-step_in-clause-item
-read_any-returns-then-not-step_in-clause-item g t c = let step = c.if-not-step_in.ensures in no_step_left g.row.R-Error.Denot ⊤ _ _ c.new.result step.0 step.1
+pub read_any-returns-in_err-spend_step-clause-item : goal.read_any-returns-in_err-spend_step-clause-item
+read_any-returns-in_err-spend_step-clause-item g t c = refused _ _ _ _ c.from_residual.ensures.1 (no_step_left _ _ c.in_err-spend_step.ensures)
 
 pub read_any-returns-in_err-value-clause-item : goal.read_any-returns-in_err-value-clause-item
 read_any-returns-in_err-value-clause-item g t c =
-    refused _ _ _ _ c.from_residual.ensures.1 (stepped_refused _ 0 _ (spent_step c.if-not-step_in.ensures) (λ x. x) c.in_err-value.ensures.item)
+    refused _ _ _ _ c.from_residual-in_err-value.ensures.1 (stepped_refused _ 0 _ c.in_ok-spend_step.ensures (λ x. x) c.in_err-value.ensures.item)
 
 pub read_item-returns-in_err-first-clause-item : goal.read_item-returns-in_err-first-clause-item
 read_item-returns-in_err-first-clause-item g t c = refused _ _ _ _ c.from_residual.ensures.1 (byte_refused ⊤ 0 _ _ _ c.in_err-first.ensures.shown)
@@ -29,22 +29,22 @@ read_item-returns-in_err-first-clause-item g t c = refused _ _ _ _ c.from_residu
 pub read_item-returns-then-is_indefinite-clause-item : goal.read_item-returns-then-is_indefinite-clause-item
 read_item-returns-then-is_indefinite-clause-item g t c = indefinite_refused g.row.R-Error.Denot ⊤ 0 c.in_ok-first.ensures.shown (c.is_indefinite.ensures.0 c.if-is_indefinite.true)
 
-pub read_list-returns-then-not-step_in-clause-item : goal.read_list-returns-then-not-step_in-clause-item
-read_list-returns-then-not-step_in-clause-item g t c = let step = c.if-not-step_in.ensures in no_list_step g.row.R-Error.Denot ⊤ _ _ c.new.result c.requires step.0 step.1
+pub read_list-returns-in_err-spend_step-clause-item : goal.read_list-returns-in_err-spend_step-clause-item
+read_list-returns-in_err-spend_step-clause-item g t c = refused _ _ _ _ c.from_residual.ensures.1 (no_list_step _ _ c.requires c.in_err-spend_step.ensures)
 
 pub read_list-returns-in_err-count-clause-item : goal.read_list-returns-in_err-count-clause-item
 read_list-returns-in_err-count-clause-item g t c =
-    refused _ _ _ _ c.from_residual.ensures.1 (stepped_refused _ 1 _ (spent_step c.if-not-step_in.ensures) (λ x. x) (head_refused ⊤ 1 _ _ _ c.in_err-count.ensures.taken))
+    refused _ _ _ _ c.from_residual-in_err-count.ensures.1 (stepped_refused _ 1 _ c.in_ok-spend_step.ensures (λ x. x) (head_refused ⊤ 1 _ _ _ c.in_err-count.ensures.taken))
 
 pub read_list-returns-in_err-items-clause-item : goal.read_list-returns-in_err-items-clause-item
 read_list-returns-in_err-items-clause-item g t c =
-    let step = spent_step c.if-not-step_in.ensures in
+    let step = c.in_ok-spend_step.ensures in
     let starts = stepped_major step c.requires in
     refused _ _ _ _ c.from_residual-in_err-items.ensures.1 (stepped_refused _ 1 _ step (λ x. x) (list_refused _ _ _ starts (head_of 4 starts c.in_ok-count.ensures.taken) (λ x. x) c.in_err-items.ensures.items))
 
 pub read_list-returns-clause-item : goal.read_list-returns-clause-item
 read_list-returns-clause-item g t c =
-    let step = spent_step c.if-not-step_in.ensures in
+    let step = c.in_ok-spend_step.ensures in
     stepped_taken 1 step (list_as_tree _ (head_of 4 (stepped_major step c.requires) c.in_ok-count.ensures.taken) c.in_ok-items.ensures.items) c.step_out.ensures
 
 pub read_items-returns-in_err-item-clause-items : goal.read_items-returns-in_err-item-clause-items
@@ -63,22 +63,22 @@ read_items-loop-index-init g t c = record { read = search rules; looked = nothin
 pub read_items-returns-in_err-item-clause-looked : goal.read_items-returns-in_err-item-clause-looked
 read_items-returns-in_err-item-clause-looked g t c = refused _ _ _ _ c.from_residual.ensures.1 (looks_then c.loop-index.invariant.looked c.in_err-item.ensures.looked)
 
-pub read_map-returns-then-not-step_in-clause-item : goal.read_map-returns-then-not-step_in-clause-item
-read_map-returns-then-not-step_in-clause-item g t c = let step = c.if-not-step_in.ensures in maps.no_map_step g.row.R-Error.Denot ⊤ _ _ c.new.result c.requires step.0 step.1
+pub read_map-returns-in_err-spend_step-clause-item : goal.read_map-returns-in_err-spend_step-clause-item
+read_map-returns-in_err-spend_step-clause-item g t c = refused _ _ _ _ c.from_residual.ensures.1 (maps.no_map_step _ _ c.requires c.in_err-spend_step.ensures)
 
 pub read_map-returns-in_err-count-clause-item : goal.read_map-returns-in_err-count-clause-item
 read_map-returns-in_err-count-clause-item g t c =
-    refused _ _ _ _ c.from_residual.ensures.1 (stepped_refused _ 1 _ (spent_step c.if-not-step_in.ensures) (λ x. x) (head_refused ⊤ 1 _ _ _ c.in_err-count.ensures.taken))
+    refused _ _ _ _ c.from_residual-in_err-count.ensures.1 (stepped_refused _ 1 _ c.in_ok-spend_step.ensures (λ x. x) (head_refused ⊤ 1 _ _ _ c.in_err-count.ensures.taken))
 
 pub read_map-returns-in_err-entries-clause-item : goal.read_map-returns-in_err-entries-clause-item
 read_map-returns-in_err-entries-clause-item g t c =
-    let step = spent_step c.if-not-step_in.ensures in
+    let step = c.in_ok-spend_step.ensures in
     let starts = stepped_major step c.requires in
     refused _ _ _ _ c.from_residual-in_err-entries.ensures.1 (stepped_refused _ 1 _ step (λ x. x) (maps.map_refused _ _ _ starts (head_of 5 starts c.in_ok-count.ensures.taken) (λ x. x) c.in_err-entries.ensures.entries))
 
 pub read_map-returns-clause-item : goal.read_map-returns-clause-item
 read_map-returns-clause-item g t c =
-    let step = spent_step c.if-not-step_in.ensures in
+    let step = c.in_ok-spend_step.ensures in
     stepped_taken 1 step (maps.map_as_tree _ (head_of 5 (stepped_major step c.requires) c.in_ok-count.ensures.taken) c.in_ok-entries.ensures.entries) c.step_out.ensures
 
 pub read_entries-loop-index-init : goal.read_entries-loop-index-init
@@ -114,14 +114,14 @@ read_entries-loop-index-preserved g t c =
       looked = looks_both (looks_both c.loop-index.invariant.looked c.in_ok-key.ensures.looked) c.in_ok-value.ensures.looked;
     }
 
-pub read_any-returns-then-not-step_in-clause-looked : goal.read_any-returns-then-not-step_in-clause-looked
-read_any-returns-then-not-step_in-clause-looked g t c = same_looked (ap (λ (r : Reading). r.looked) c.if-not-step_in.ensures.1)
+pub read_any-returns-in_err-spend_step-clause-looked : goal.read_any-returns-in_err-spend_step-clause-looked
+read_any-returns-in_err-spend_step-clause-looked g t c = refused _ _ _ _ c.from_residual.ensures.1 (same_looked (ap (λ (r : Reading). r.looked) c.in_err-spend_step.ensures.same))
 
 pub read_any-returns-in_err-value-clause-looked : goal.read_any-returns-in_err-value-clause-looked
-read_any-returns-in_err-value-clause-looked g t c = refused _ _ _ _ c.from_residual.ensures.1 (stepped_left _ c.if-not-step_in.ensures.2 c.in_err-value.ensures.looked)
+read_any-returns-in_err-value-clause-looked g t c = refused _ _ _ _ c.from_residual-in_err-value.ensures.1 (stepped_left _ c.in_ok-spend_step.ensures.is c.in_err-value.ensures.looked)
 
 pub read_any-returns-clause-looked : goal.read_any-returns-clause-looked
-read_any-returns-clause-looked g t c = looks.stepped_taken _ c.if-not-step_in.ensures.2 c.in_ok-value.ensures.looked c.step_out.ensures
+read_any-returns-clause-looked g t c = looks.stepped_taken _ c.in_ok-spend_step.ensures.is c.in_ok-value.ensures.looked c.step_out.ensures
 
 pub read_item-returns-in_err-first-clause-looked : goal.read_item-returns-in_err-first-clause-looked
 read_item-returns-in_err-first-clause-looked g t c = refused _ _ _ _ c.from_residual.ensures.1 (once_left 3 (omega arith) c.in_err-first.ensures.looked)
@@ -132,36 +132,36 @@ read_item-returns-then-is_indefinite-clause-looked g t c = once_left 3 (omega ar
 pub read_item-returns-clause-looked : goal.read_item-returns-clause-looked
 read_item-returns-clause-looked g t c = peeked 3 _ _ c.in_ok-first.ensures.looked c.in_ok-first.ensures.shown c.read_of_major.ensures.looked
 
-pub read_list-returns-then-not-step_in-clause-looked : goal.read_list-returns-then-not-step_in-clause-looked
-read_list-returns-then-not-step_in-clause-looked g t c = major_unread c.requires (ap (λ (r : Reading). r.looked) c.if-not-step_in.ensures.1)
+pub read_list-returns-in_err-spend_step-clause-looked : goal.read_list-returns-in_err-spend_step-clause-looked
+read_list-returns-in_err-spend_step-clause-looked g t c = refused _ _ _ _ c.from_residual.ensures.1 (major_unread c.requires (ap (λ (r : Reading). r.looked) c.in_err-spend_step.ensures.same))
 
 pub read_list-returns-in_err-count-clause-looked : goal.read_list-returns-in_err-count-clause-looked
 read_list-returns-in_err-count-clause-looked g t c =
-    refused _ _ _ _ c.from_residual.ensures.1 (major_left c.requires (stepped_left _ c.if-not-step_in.ensures.2 c.in_err-count.ensures.looked))
+    refused _ _ _ _ c.from_residual-in_err-count.ensures.1 (major_left c.requires (stepped_left _ c.in_ok-spend_step.ensures.is c.in_err-count.ensures.looked))
 
 pub read_list-returns-in_err-items-clause-looked : goal.read_list-returns-in_err-items-clause-looked
 read_list-returns-in_err-items-clause-looked g t c =
     let head = head_taken c.in_ok-count.ensures.looked c.in_ok-count.ensures.taken in
-    refused _ _ _ _ c.from_residual-in_err-items.ensures.1 (stepped_left _ c.if-not-step_in.ensures.2 (looks_then head c.in_err-items.ensures.looked))
+    refused _ _ _ _ c.from_residual-in_err-items.ensures.1 (stepped_left _ c.in_ok-spend_step.ensures.is (looks_then head c.in_err-items.ensures.looked))
 
 pub read_list-returns-clause-looked : goal.read_list-returns-clause-looked
 read_list-returns-clause-looked g t c =
     let head = head_taken c.in_ok-count.ensures.looked c.in_ok-count.ensures.taken in
-    looks.stepped_taken _ c.if-not-step_in.ensures.2 (looks_both head c.in_ok-items.ensures.looked) c.step_out.ensures
+    looks.stepped_taken _ c.in_ok-spend_step.ensures.is (looks_both head c.in_ok-items.ensures.looked) c.step_out.ensures
 
-pub read_map-returns-then-not-step_in-clause-looked : goal.read_map-returns-then-not-step_in-clause-looked
-read_map-returns-then-not-step_in-clause-looked g t c = major_unread c.requires (ap (λ (r : Reading). r.looked) c.if-not-step_in.ensures.1)
+pub read_map-returns-in_err-spend_step-clause-looked : goal.read_map-returns-in_err-spend_step-clause-looked
+read_map-returns-in_err-spend_step-clause-looked g t c = refused _ _ _ _ c.from_residual.ensures.1 (major_unread c.requires (ap (λ (r : Reading). r.looked) c.in_err-spend_step.ensures.same))
 
 pub read_map-returns-in_err-count-clause-looked : goal.read_map-returns-in_err-count-clause-looked
 read_map-returns-in_err-count-clause-looked g t c =
-    refused _ _ _ _ c.from_residual.ensures.1 (major_left c.requires (stepped_left _ c.if-not-step_in.ensures.2 c.in_err-count.ensures.looked))
+    refused _ _ _ _ c.from_residual-in_err-count.ensures.1 (major_left c.requires (stepped_left _ c.in_ok-spend_step.ensures.is c.in_err-count.ensures.looked))
 
 pub read_map-returns-in_err-entries-clause-looked : goal.read_map-returns-in_err-entries-clause-looked
 read_map-returns-in_err-entries-clause-looked g t c =
     let head = head_taken c.in_ok-count.ensures.looked c.in_ok-count.ensures.taken in
-    refused _ _ _ _ c.from_residual-in_err-entries.ensures.1 (stepped_left _ c.if-not-step_in.ensures.2 (looks_then head c.in_err-entries.ensures.looked))
+    refused _ _ _ _ c.from_residual-in_err-entries.ensures.1 (stepped_left _ c.in_ok-spend_step.ensures.is (looks_then head c.in_err-entries.ensures.looked))
 
 pub read_map-returns-clause-looked : goal.read_map-returns-clause-looked
 read_map-returns-clause-looked g t c =
     let head = head_taken c.in_ok-count.ensures.looked c.in_ok-count.ensures.taken in
-    looks.stepped_taken _ c.if-not-step_in.ensures.2 (looks_both head c.in_ok-entries.ensures.looked) c.step_out.ensures
+    looks.stepped_taken _ c.in_ok-spend_step.ensures.is (looks_both head c.in_ok-entries.ensures.looked) c.step_out.ensures

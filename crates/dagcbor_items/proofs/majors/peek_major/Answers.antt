@@ -8,8 +8,10 @@ pub returns-in_err-first-clause-kind : goal.returns-in_err-first-clause-kind
 returns-in_err-first-clause-kind g c = refused _ _ _ _ c.from_residual.ensures.1 (kind_byte_refused _ c.args.low c.args.high _ _ _ c.in_err-first.ensures.named c.in_err-first.ensures.shown)
 
 pub returns-then-major-low-clause-kind : goal.returns-then-major-low-clause-kind
-returns-then-major-low-clause-kind g c = other_kind g.row.R-Error.Denot _ c.args.low c.args.high c.new.result c.new.ensures c.in_ok-first.ensures.shown
+returns-then-major-low-clause-kind g c =
+    let told = c.mismatch.ensures in
+    rw told.1 (other_kind g.row.R-Error.Denot _ c.args.low c.args.high told.0 told.2 c.in_ok-first.ensures.shown
     (λ a b. elim c.then-major-low.branch [
       | then-major-low-via-then-major-low w ↦ omega (arith, a, w.if-major-low.true)
       | then-major-low-via-else-major-low+then-high-major w ↦ omega (arith, b, w.if-high-major.true)
-    ])
+    ]))

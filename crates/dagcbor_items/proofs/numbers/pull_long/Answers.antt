@@ -7,7 +7,9 @@ pub returns-in_err-first-clause-number : goal.returns-in_err-first-clause-number
 returns-in_err-first-clause-number g c = refused _ _ _ _ c.from_residual.ensures.1 (long_byte_refused _ _ _ _ c.in_err-first.ensures.named c.in_err-first.ensures.shown)
 
 pub returns-then-first-clause-number : goal.returns-then-first-clause-number
-returns-then-first-clause-number g c = no_tag g.row.R-Error.Denot _ c.new.result c.new.ensures c.in_ok-first.ensures.shown (elim c.then-first.either [ inl e ↦ inl e | inr e ↦ inr e.1 ])
+returns-then-first-clause-number g c =
+    let told = c.unsupported.ensures in
+    rw told.1 (no_tag g.row.R-Error.Denot _ told.0 told.2 c.in_ok-first.ensures.shown (elim c.then-first.either [ inl e ↦ inl e | inr e ↦ inr e.1 ]))
 
 pub returns-clause-number : goal.returns-clause-number
 returns-clause-number g c = long_read _ _ _ c.in_ok-first.ensures.shown (search rules) c.pull_number.ensures.number

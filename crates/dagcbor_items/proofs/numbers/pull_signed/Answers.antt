@@ -21,4 +21,5 @@ returns-in-Some-clause-number g c =
 pub returns-in-None-clause-number : goal.returns-in-None-clause-number
 returns-in-None-clause-number g c =
     let fits : SFits w128 c.in_ok-number.number = search rules in
-    outside g.row.R-Error.Denot (within (c.args.greatest + 1)) (MajorCause c.args.name.now 0 1) _ _ c.new.result (handed (within (c.args.greatest + 1)) c.in_ok-number.number _ fits c.in-None.ensures) c.new.ensures c.in_ok-number.ensures.number
+    let told = c.out_of_range.ensures in
+    rw told.1 (outside g.row.R-Error.Denot (within (c.args.greatest + 1)) (MajorCause c.args.name.now 0 1) _ _ told.0 (handed (within (c.args.greatest + 1)) c.in_ok-number.number _ fits c.in-None.ensures) told.2 c.in_ok-number.ensures.number)

@@ -15,11 +15,12 @@ returns-in_err-count-clause-string c =
 pub returns-in-None-clause-string : goal.returns-in-None-clause-string
 returns-in-None-clause-string c =
     let none = c.in-None.ensures.lent in
-    string_read {E = Infallible} c.args.name.now c.args.kind c.lend.new.self (Err (Eof c.new.result c.new-in-None.result)) (head_kind c.requires.starts c.in_ok-count.ensures.taken) c.new.ensures (
+    let told = c.end.ensures in
+    rw told.1 (string_read {E = Infallible} c.args.name.now c.args.kind c.lend.new.self (Err (Eof told.0 c.new.result)) (head_kind c.requires.starts c.in_ok-count.ensures.taken) told.2 (
       ap (λ r. r.faults) none.0,
       λ h. omega (arith, none.1 _ h.left, h.long, length-append h.payload h.rest),
-      λ b l. (c.new-in-None.ensures, none.1 b l),
-    )
+      λ b l. (c.new.ensures, none.1 b l),
+    ))
 
 pub returns-in-Some-clause-looked : goal.returns-in-Some-clause-looked
 returns-in-Some-clause-looked c = let lent = c.in-Some.ensures.lent in looks_both c.in_ok-count.ensures.looked (lent_looked lent.0 lent.1 lent.2)

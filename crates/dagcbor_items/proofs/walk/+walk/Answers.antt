@@ -8,23 +8,21 @@ use Rattle.dagcbor_items.proofs.Looks as looks
 use Rattle.ipld_tree.specs.Tree.{no_entries}
 use Rattle.dagcbor_items.proofs.Fronts.{head_of, head_refused, byte_refused}
 use Rattle.dagcbor_items.proofs.Leaves.{indefinite_refused}
-use Rattle.dagcbor_items.proofs.Steps.{no_step_left, spent_step, stepped_taken, stepped_major}
+use Rattle.dagcbor_items.proofs.Steps.{no_step_left, stepped_taken, stepped_major}
 use Rattle.dagcbor_items.proofs.Walking.{lacks_before, step_refused, found_none, item_found, entry_found, leaf_walked, walked_from}
 use Rattle.dagcbor_items.proofs.Lists.{no_list_step, list_refused, list_taken, none_read, next_refused, one_read, all_read}
 use Rattle.dagcbor_items.proofs.Maps as maps
 use Rattle.dagcbor_items.proofs.walk.+walk.Goals as goal
 
-pub walk_any-returns-then-not-step_in-clause-item : goal.walk_any-returns-then-not-step_in-clause-item
-walk_any-returns-then-not-step_in-clause-item g t c =
-    let step = c.if-not-step_in.ensures in
-    no_step_left g.row.I-Error.Denot (WalkLacks g.S.LinkSink.takes_memory (g.I.Read.reading c.args.input.now)) _ _ c.new.result step.0 step.1
+pub walk_any-returns-in_err-spend_step-clause-item : goal.walk_any-returns-in_err-spend_step-clause-item
+walk_any-returns-in_err-spend_step-clause-item g t c = refused _ _ _ _ c.from_residual.ensures.1 (no_step_left _ _ c.in_err-spend_step.ensures)
 
 pub walk_any-returns-in_err-walk_item-clause-item : goal.walk_any-returns-in_err-walk_item-clause-item
 walk_any-returns-in_err-walk_item-clause-item g t c =
-    refused _ _ _ _ c.from_residual.ensures.1 (step_refused g.S.LinkSink.takes_memory _ 0 _ (spent_step c.if-not-step_in.ensures) c.in_err-walk_item.ensures.item)
+    refused _ _ _ _ c.from_residual-in_err-walk_item.ensures.1 (step_refused g.S.LinkSink.takes_memory _ 0 _ c.in_ok-spend_step.ensures c.in_err-walk_item.ensures.item)
 
 pub walk_any-returns-clause-item : goal.walk_any-returns-clause-item
-walk_any-returns-clause-item g t c = let k = c.in_ok-walk_item.ensures.item in (k.0, stepped_taken 0 (spent_step c.if-not-step_in.ensures) k.1 c.step_out.ensures, k.2)
+walk_any-returns-clause-item g t c = let k = c.in_ok-walk_item.ensures.item in (k.0, stepped_taken 0 c.in_ok-spend_step.ensures k.1 c.step_out.ensures, k.2)
 
 pub walk_item-returns-in_err-first-clause-item : goal.walk_item-returns-in_err-first-clause-item
 walk_item-returns-in_err-first-clause-item g t c =
@@ -43,25 +41,23 @@ walk_of_major-returns-in-6-clause-item g t c = c.walk_link.ensures.item
 pub walk_of_major-returns-in_default-clause-item : goal.walk_of_major-returns-in_default-clause-item
 walk_of_major-returns-in_default-clause-item g t c = leaf_walked g.S.LinkSink.holds g.S.LinkSink.takes_memory (g.I.Read.reading c.args.input.now) c.args.links.now c.skip_leaf.result _ c.requires (λ x. omega arith) (λ x. omega arith) (λ x. omega arith) c.skip_leaf.ensures.item
 
-pub walk_list-returns-then-not-step_in-clause-item : goal.walk_list-returns-then-not-step_in-clause-item
-walk_list-returns-then-not-step_in-clause-item g t c =
-    let step = c.if-not-step_in.ensures in
-    no_list_step g.row.I-Error.Denot (WalkLacks g.S.LinkSink.takes_memory (g.I.Read.reading c.args.input.now)) _ _ c.new.result c.requires step.0 step.1
+pub walk_list-returns-in_err-spend_step-clause-item : goal.walk_list-returns-in_err-spend_step-clause-item
+walk_list-returns-in_err-spend_step-clause-item g t c = refused _ _ _ _ c.from_residual.ensures.1 (no_list_step _ _ c.requires c.in_err-spend_step.ensures)
 
 pub walk_list-returns-in_err-count-clause-item : goal.walk_list-returns-in_err-count-clause-item
 walk_list-returns-in_err-count-clause-item g t c =
-    refused _ _ _ _ c.from_residual.ensures.1 (step_refused g.S.LinkSink.takes_memory _ 1 _ (spent_step c.if-not-step_in.ensures) (head_refused _ 1 _ _ _ c.in_err-count.ensures.taken))
+    refused _ _ _ _ c.from_residual-in_err-count.ensures.1 (step_refused g.S.LinkSink.takes_memory _ 1 _ c.in_ok-spend_step.ensures (head_refused _ 1 _ _ _ c.in_err-count.ensures.taken))
 
 pub walk_list-returns-in_err-walk_items-clause-item : goal.walk_list-returns-in_err-walk_items-clause-item
 walk_list-returns-in_err-walk_items-clause-item g t c =
-    let step = spent_step c.if-not-step_in.ensures in
+    let step = c.in_ok-spend_step.ensures in
     let starts = stepped_major step c.requires in
     let head = head_of 4 starts c.in_ok-count.ensures.taken in
     refused _ _ _ _ c.from_residual-in_err-walk_items.ensures.1 (step_refused g.S.LinkSink.takes_memory _ 1 _ step (list_refused _ _ _ starts head (lacks_before head.same) c.in_err-walk_items.ensures.items))
 
 pub walk_list-returns-clause-item : goal.walk_list-returns-clause-item
 walk_list-returns-clause-item g t c =
-    let step = spent_step c.if-not-step_in.ensures in
+    let step = c.in_ok-spend_step.ensures in
     let k = c.in_ok-walk_items.ensures.items in
     (_, stepped_taken 1 step (list_taken k.0 (head_of 4 (stepped_major step c.requires) c.in_ok-count.ensures.taken) k.1 k.2) c.step_out.ensures, k.3)
 
@@ -85,25 +81,23 @@ walk_items-loop-index-preserved g t c =
 pub walk_items-returns-clause-items : goal.walk_items-returns-clause-items
 walk_items-returns-clause-items g t c = let s = c.loop-index.invariant.read in let k = all_read s.0 (omega arith) s.1 in (s.0, k.0, k.1, s.2)
 
-pub walk_map-returns-then-not-step_in-clause-item : goal.walk_map-returns-then-not-step_in-clause-item
-walk_map-returns-then-not-step_in-clause-item g t c =
-    let step = c.if-not-step_in.ensures in
-    maps.no_map_step g.row.I-Error.Denot (WalkLacks g.S.LinkSink.takes_memory (g.I.Read.reading c.args.input.now)) _ _ c.new.result c.requires step.0 step.1
+pub walk_map-returns-in_err-spend_step-clause-item : goal.walk_map-returns-in_err-spend_step-clause-item
+walk_map-returns-in_err-spend_step-clause-item g t c = refused _ _ _ _ c.from_residual.ensures.1 (maps.no_map_step _ _ c.requires c.in_err-spend_step.ensures)
 
 pub walk_map-returns-in_err-count-clause-item : goal.walk_map-returns-in_err-count-clause-item
 walk_map-returns-in_err-count-clause-item g t c =
-    refused _ _ _ _ c.from_residual.ensures.1 (step_refused g.S.LinkSink.takes_memory _ 1 _ (spent_step c.if-not-step_in.ensures) (head_refused _ 1 _ _ _ c.in_err-count.ensures.taken))
+    refused _ _ _ _ c.from_residual-in_err-count.ensures.1 (step_refused g.S.LinkSink.takes_memory _ 1 _ c.in_ok-spend_step.ensures (head_refused _ 1 _ _ _ c.in_err-count.ensures.taken))
 
 pub walk_map-returns-in_err-walk_entries-clause-item : goal.walk_map-returns-in_err-walk_entries-clause-item
 walk_map-returns-in_err-walk_entries-clause-item g t c =
-    let step = spent_step c.if-not-step_in.ensures in
+    let step = c.in_ok-spend_step.ensures in
     let starts = stepped_major step c.requires in
     let head = head_of 5 starts c.in_ok-count.ensures.taken in
     refused _ _ _ _ c.from_residual-in_err-walk_entries.ensures.1 (step_refused g.S.LinkSink.takes_memory _ 1 _ step (maps.map_refused _ _ _ starts head (lacks_before head.same) c.in_err-walk_entries.ensures.entries))
 
 pub walk_map-returns-clause-item : goal.walk_map-returns-clause-item
 walk_map-returns-clause-item g t c =
-    let step = spent_step c.if-not-step_in.ensures in
+    let step = c.in_ok-spend_step.ensures in
     let k = c.in_ok-walk_entries.ensures.entries in
     (_, stepped_taken 1 step (maps.map_taken k.0 (head_of 5 (stepped_major step c.requires) c.in_ok-count.ensures.taken) k.1 k.2) c.step_out.ensures, k.3)
 
@@ -141,14 +135,14 @@ walk_entries-loop-index-preserved g t c =
 pub walk_entries-returns-clause-entries : goal.walk_entries-returns-clause-entries
 walk_entries-returns-clause-entries g t c = let s = c.loop-index.invariant.read in let k = maps.all_read s.0 (omega arith) s.1 in (s.0, k.0, k.1, s.2)
 
-pub walk_any-returns-then-not-step_in-clause-looked : goal.walk_any-returns-then-not-step_in-clause-looked
-walk_any-returns-then-not-step_in-clause-looked g t c = same_looked (ap (λ (r : Reading). r.looked) c.if-not-step_in.ensures.1)
+pub walk_any-returns-in_err-spend_step-clause-looked : goal.walk_any-returns-in_err-spend_step-clause-looked
+walk_any-returns-in_err-spend_step-clause-looked g t c = refused _ _ _ _ c.from_residual.ensures.1 (same_looked (ap (λ (r : Reading). r.looked) c.in_err-spend_step.ensures.same))
 
 pub walk_any-returns-in_err-walk_item-clause-looked : goal.walk_any-returns-in_err-walk_item-clause-looked
-walk_any-returns-in_err-walk_item-clause-looked g t c = refused _ _ _ _ c.from_residual.ensures.1 (stepped_left _ c.if-not-step_in.ensures.2 c.in_err-walk_item.ensures.looked)
+walk_any-returns-in_err-walk_item-clause-looked g t c = refused _ _ _ _ c.from_residual-in_err-walk_item.ensures.1 (stepped_left _ c.in_ok-spend_step.ensures.is c.in_err-walk_item.ensures.looked)
 
 pub walk_any-returns-clause-looked : goal.walk_any-returns-clause-looked
-walk_any-returns-clause-looked g t c = looks.stepped_taken _ c.if-not-step_in.ensures.2 c.in_ok-walk_item.ensures.looked c.step_out.ensures
+walk_any-returns-clause-looked g t c = looks.stepped_taken _ c.in_ok-spend_step.ensures.is c.in_ok-walk_item.ensures.looked c.step_out.ensures
 
 pub walk_item-returns-in_err-first-clause-looked : goal.walk_item-returns-in_err-first-clause-looked
 walk_item-returns-in_err-first-clause-looked g t c = refused _ _ _ _ c.from_residual.ensures.1 (once_left 3 (omega arith) c.in_err-first.ensures.looked)
@@ -159,36 +153,36 @@ walk_item-returns-then-is_indefinite-clause-looked g t c = once_left 3 (omega ar
 pub walk_item-returns-clause-looked : goal.walk_item-returns-clause-looked
 walk_item-returns-clause-looked g t c = peeked 3 _ _ c.in_ok-first.ensures.looked c.in_ok-first.ensures.shown c.walk_of_major.ensures.looked
 
-pub walk_list-returns-then-not-step_in-clause-looked : goal.walk_list-returns-then-not-step_in-clause-looked
-walk_list-returns-then-not-step_in-clause-looked g t c = major_unread c.requires (ap (λ (r : Reading). r.looked) c.if-not-step_in.ensures.1)
+pub walk_list-returns-in_err-spend_step-clause-looked : goal.walk_list-returns-in_err-spend_step-clause-looked
+walk_list-returns-in_err-spend_step-clause-looked g t c = refused _ _ _ _ c.from_residual.ensures.1 (major_unread c.requires (ap (λ (r : Reading). r.looked) c.in_err-spend_step.ensures.same))
 
 pub walk_list-returns-in_err-count-clause-looked : goal.walk_list-returns-in_err-count-clause-looked
 walk_list-returns-in_err-count-clause-looked g t c =
-    refused _ _ _ _ c.from_residual.ensures.1 (major_left c.requires (stepped_left _ c.if-not-step_in.ensures.2 c.in_err-count.ensures.looked))
+    refused _ _ _ _ c.from_residual-in_err-count.ensures.1 (major_left c.requires (stepped_left _ c.in_ok-spend_step.ensures.is c.in_err-count.ensures.looked))
 
 pub walk_list-returns-in_err-walk_items-clause-looked : goal.walk_list-returns-in_err-walk_items-clause-looked
 walk_list-returns-in_err-walk_items-clause-looked g t c =
     let head = head_taken c.in_ok-count.ensures.looked c.in_ok-count.ensures.taken in
-    refused _ _ _ _ c.from_residual-in_err-walk_items.ensures.1 (stepped_left _ c.if-not-step_in.ensures.2 (looks_then head c.in_err-walk_items.ensures.looked))
+    refused _ _ _ _ c.from_residual-in_err-walk_items.ensures.1 (stepped_left _ c.in_ok-spend_step.ensures.is (looks_then head c.in_err-walk_items.ensures.looked))
 
 pub walk_list-returns-clause-looked : goal.walk_list-returns-clause-looked
 walk_list-returns-clause-looked g t c =
     let head = head_taken c.in_ok-count.ensures.looked c.in_ok-count.ensures.taken in
-    looks.stepped_taken _ c.if-not-step_in.ensures.2 (looks_both head c.in_ok-walk_items.ensures.looked) c.step_out.ensures
+    looks.stepped_taken _ c.in_ok-spend_step.ensures.is (looks_both head c.in_ok-walk_items.ensures.looked) c.step_out.ensures
 
-pub walk_map-returns-then-not-step_in-clause-looked : goal.walk_map-returns-then-not-step_in-clause-looked
-walk_map-returns-then-not-step_in-clause-looked g t c = major_unread c.requires (ap (λ (r : Reading). r.looked) c.if-not-step_in.ensures.1)
+pub walk_map-returns-in_err-spend_step-clause-looked : goal.walk_map-returns-in_err-spend_step-clause-looked
+walk_map-returns-in_err-spend_step-clause-looked g t c = refused _ _ _ _ c.from_residual.ensures.1 (major_unread c.requires (ap (λ (r : Reading). r.looked) c.in_err-spend_step.ensures.same))
 
 pub walk_map-returns-in_err-count-clause-looked : goal.walk_map-returns-in_err-count-clause-looked
 walk_map-returns-in_err-count-clause-looked g t c =
-    refused _ _ _ _ c.from_residual.ensures.1 (major_left c.requires (stepped_left _ c.if-not-step_in.ensures.2 c.in_err-count.ensures.looked))
+    refused _ _ _ _ c.from_residual-in_err-count.ensures.1 (major_left c.requires (stepped_left _ c.in_ok-spend_step.ensures.is c.in_err-count.ensures.looked))
 
 pub walk_map-returns-in_err-walk_entries-clause-looked : goal.walk_map-returns-in_err-walk_entries-clause-looked
 walk_map-returns-in_err-walk_entries-clause-looked g t c =
     let head = head_taken c.in_ok-count.ensures.looked c.in_ok-count.ensures.taken in
-    refused _ _ _ _ c.from_residual-in_err-walk_entries.ensures.1 (stepped_left _ c.if-not-step_in.ensures.2 (looks_then head c.in_err-walk_entries.ensures.looked))
+    refused _ _ _ _ c.from_residual-in_err-walk_entries.ensures.1 (stepped_left _ c.in_ok-spend_step.ensures.is (looks_then head c.in_err-walk_entries.ensures.looked))
 
 pub walk_map-returns-clause-looked : goal.walk_map-returns-clause-looked
 walk_map-returns-clause-looked g t c =
     let head = head_taken c.in_ok-count.ensures.looked c.in_ok-count.ensures.taken in
-    looks.stepped_taken _ c.if-not-step_in.ensures.2 (looks_both head c.in_ok-walk_entries.ensures.looked) c.step_out.ensures
+    looks.stepped_taken _ c.in_ok-spend_step.ensures.is (looks_both head c.in_ok-walk_entries.ensures.looked) c.step_out.ensures

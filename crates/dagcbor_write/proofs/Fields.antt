@@ -20,7 +20,7 @@ use Rattle.ipld_tree.proofs.Spelled.{spelled_is}
 use Rattle.ipld_tree.proofs.WellFormed.{entry_count_ordered}
 use Rattle.dagcbor_write.specs.Trees.{Pair}
 use Rattle.dagcbor_write.specs.Gathering.{Refused, Collects}
-use Rattle.dagcbor_write.specs.Maps.{Texts, spelled_key, IsSpellingOf, AreSpellingsOf, Joins, JoinsEntry, RefusesEntry, RefusesValue, entries_text, map_rest, JoinAll, RefusesAnyValue, ShowsPairs}
+use Rattle.dagcbor_write.specs.Maps.{Texts, spelled_key, IsSpellingOf, AreSpellingsOf, Joins, JoinsEntry, RefusesEntry, RefusesValue, entries_text, map_rest, JoinsPairs, RefusesAnyValue, ShowsPairs}
 use Rattle.dagcbor_write.proofs.Keys.{key_none}
 use Rattle.dagcbor_write.proofs.Mapping.{pairwise_push}
 
@@ -232,7 +232,7 @@ any_later x xs h = (suc h.0, h.1, omega (arith, h.2), h.3, h.4)
 
 -- a pair was taken, and then the others were taken or refused
 pub pair_and_others : {T E : Type 0} (p : Pair) (ps : List Pair) (old middle new : List Texts) (r : Result T (EncodeError E)) → JoinsEntry p.0 p.1 old middle
-    → Collects (λ u. JoinAll ps middle new) (RefusesAnyValue ps) r → Collects (λ u. JoinAll (p ∷ ps) old new) (RefusesAnyValue (p ∷ ps)) r
+    → Collects (λ u. JoinsPairs ps middle new) (RefusesAnyValue ps) r → Collects (λ u. JoinsPairs (p ∷ ps) old new) (RefusesAnyValue (p ∷ ps)) r
 pair_and_others p ps old middle new (Ok x) j h =
     let e = joined_spelling p _ _ old middle refl refl j.0.0 j.1 j.0.1 in
     (e.0 ∷ h.0, (e.1, h.1), h.2 ∙ ap (λ xs. xs ++ h.0) e.2 ∙ append_assoc old (e.0 ∷ []) h.0)
@@ -241,7 +241,7 @@ pair_and_others p ps old middle new (Err (Write e)) j h = h
 pair_and_others p ps old middle new (Err OutOfMemory) j h = h
 
 -- all were taken, one after another
-pub given_row : (whole : List Pair) (old new : List Texts) → old ≡ [] → JoinAll whole old new → Given-but whole [] new
+pub given_row : (whole : List Pair) (old new : List Texts) → old ≡ [] → JoinsPairs whole old new → Given-but whole [] new
 given_row whole old new e h =
     let P : List Texts → Type 0 = λ held. AreSpellingsOf whole held in
     record { done = whole; split = sym (end_of whole); spells = subst P (sym (h.2 ∙ ap (λ xs. xs ++ h.0) e)) h.1 }

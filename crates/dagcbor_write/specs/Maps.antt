@@ -99,9 +99,9 @@ abbrev pub map_rest : Option ℕ → List Pair → Option (List ℕ)
 map_rest None ps = spelled_tree (entries_tree ps)
 map_rest (Some n) ps = entries_text (entries_tree ps)
 
--- the spellings of the pairs, in turn, joined the others
-abbrev pub JoinAll : List Pair → List Texts → List Texts → Type 0
-JoinAll ps old new = (more : List Texts) × AreSpellingsOf ps more × (new ≡ old ++ more)
+-- the spellings of well-formed pairs, in turn, joined the others
+abbrev pub JoinsPairs : List Pair → List Texts → List Texts → Type 0
+JoinsPairs ps old new = (more : List Texts) × AreSpellingsOf ps more × (new ≡ old ++ more)
 
 -- the cause of a value's message: one of the values has no spelling
 abbrev pub RefusesAnyValue : List Pair → List ℕ → Type 0

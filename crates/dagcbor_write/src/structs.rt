@@ -6,7 +6,7 @@ ghost use Rattle.ipld_tree.specs.Tree.{IsTree, entries_tree};
 ghost use Rattle.ipld_tree.specs.Spelled.{spelled_tree};
 ghost use Rattle.dagcbor_write.specs.Gathering.{Collects};
 ghost use Rattle.dagcbor_write.specs.Trees.{Pair, field, variant_tree};
-ghost use Rattle.dagcbor_write.specs.Maps.{JoinAll, RefusesAnyValue};
+ghost use Rattle.dagcbor_write.specs.Maps.{JoinsPairs, RefusesAnyValue};
 ghost use Rattle.dagcbor_write.specs.Lending.{map_lent, map_held, SameLoan};
 
 use crate::collect::collect_map::CollectMap;
@@ -33,7 +33,7 @@ pub trait FieldRow: Copy {
         ensures announced { (map_held map.new).announced ≡ (map_held map.old).announced }
         ensures key { OnOk result ((map_held map.new).key ≡ None) }
         ensures entries { Collects
-            (λ u. JoinAll (pairs self) (map_held map.old).entries (map_held map.new).entries)
+            (λ u. JoinsPairs (pairs self) (map_held map.old).entries (map_held map.new).entries)
             (RefusesAnyValue (pairs self)) result };
 }
 

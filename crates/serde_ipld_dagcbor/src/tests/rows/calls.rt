@@ -2,7 +2,7 @@
 
 use crate::tests::rows::maps::{Ended, is_ended};
 use crate::tests::told::agree;
-use crate::{BufWriter, EncodeError, Serializer};
+use crate::{BufWriter, EncodeError, Field, Serializer, write_struct};
 use std::alloc::Global;
 use std::convert::Infallible;
 use std::test::Fail;
@@ -215,5 +215,22 @@ fn elements_without_a_spelling(rt: HostRuntime) -> Result<(), Fail> {
         a_large_element_of_one(rt.alloc()),
         r#"Err(Msg("Unsigned integer must be within [0, u64::MAX] range"))"#,
         b"\x81",
+    )
+}
+
+fn a_large_field_of_a_row(alloc: Global) -> Result<Ended, EncodeError<Infallible>> {
+    let mut ser = Serializer::new(BufWriter::new(Vec::new(alloc)));
+    let fields = (Field("a", &1u8), (Field("b", &LARGE), ()));
+    let answer = write_struct(alloc, fields, &mut ser);
+    Ok((answer, ser.into_inner().into_inner()))
+}
+
+#[test]
+fn a_field_without_a_spelling_leaves_nothing_behind(rt: HostRuntime) -> Result<(), Fail> {
+    is_ended(
+        rt.alloc(),
+        a_large_field_of_a_row(rt.alloc()),
+        r#"Err(Msg("Struct value cannot be serialized."))"#,
+        b"",
     )
 }

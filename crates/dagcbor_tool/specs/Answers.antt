@@ -93,22 +93,41 @@ AreAnswers Said [] out = out ≡ []
 AreAnswers Said (line ∷ lines) out = (said more : List ℕ) × Said line said
     × (out ≡ said ++ 10 ∷ more) × AreAnswers Said lines more
 
+-- what is said, and a line feed, was appended to these bytes
+abbrev pub AppendsLine : (List ℕ → Type 0) → List ℕ → List ℕ → Type 0
+AppendsLine IsSaid old new = (said : List ℕ) × IsSaid said × (new ≡ old ++ (said ++ 10 ∷ []))
+
+-- whatever follows the text: its lines are those asked, and then those of what is left of it
+abbrev pub BeginsWithLines : List ℕ → List (List ℕ) → List ℕ → Type 0
+BeginsWithLines text asked left = (more : List ℕ)
+    → lines (text ++ more) ≡ asked ++ lines (left ++ more)
+
+-- one line of output for each of the first lines of the text was appended to these bytes
+abbrev pub AppendsAnswers : (List ℕ → List ℕ → Type 0) → List ℕ → List ℕ → List ℕ → List ℕ → Type 0
+AppendsAnswers Said text left old new = (asked : List (List ℕ)) × (said : List ℕ)
+    × BeginsWithLines text asked left × AreAnswers Said asked said × (new ≡ old ++ said)
+
 -- what a call wrote is one line of output for each of these lines
 abbrev pub WritesAnswers : (List ℕ → List ℕ → Type 0) → Option (List ℕ) → Option (List ℕ)
     → List (List ℕ) → Type 0
 WritesAnswers Said old new asked = (out : List ℕ) × AreAnswers Said asked out × Appends old new out
 
--- nothing, or a beginning of what is said of the first of these lines
-abbrev pub IsBeginning : (List ℕ → List ℕ → Type 0) → List ℕ → List (List ℕ) → Type 0
-IsBeginning Said part [] = part ≡ []
-IsBeginning Said part (line ∷ others) = (part ≡ [])
-    ⊎ ((said back : List ℕ) × Said line said × (said ++ 10 ∷ [] ≡ part ++ back))
+-- what a call wrote is one line of output for each of the first lines of the input
+abbrev pub WritesWhole : (List ℕ → List ℕ → Type 0) → List ℕ → Option (List ℕ) → Option (List ℕ)
+    → Type 0
+WritesWhole Said input old new = (asked others : List (List ℕ)) × (lines input ≡ asked ++ others)
+    × WritesAnswers Said old new asked
 
--- one line was taken from the input, and answered
-abbrev pub AnswersOne : (List ℕ → List ℕ → Type 0) → List ℕ → Option (List ℕ) → Option (List ℕ)
-    → Option (List ℕ) → Type 0
-AnswersOne Said input left old new = (line rest said : List ℕ) × (lines input ≡ line ∷ lines rest)
-    × (left ≡ Some rest) × Said line said × Appends old new (said ++ 10 ∷ [])
+-- a beginning of what is said of some of these lines, from the first
+abbrev pub IsBeginning : (List ℕ → List ℕ → Type 0) → List ℕ → List (List ℕ) → Type 0
+IsBeginning Said part lines = (asked others : List (List ℕ)) × (said back : List ℕ)
+    × (lines ≡ asked ++ others) × AreAnswers Said asked said × (said ≡ part ++ back)
+
+-- what a call wrote is such a beginning
+abbrev pub WritesBeginning : (List ℕ → List ℕ → Type 0) → Option (List ℕ) → Option (List ℕ)
+    → List (List ℕ) → Type 0
+WritesBeginning Said old new lines = (part : List ℕ) × IsBeginning Said part lines
+    × Appends old new part
 
 -- what was taken from the input so far are whole lines, and each was answered
 abbrev pub HasAnswered : (List ℕ → List ℕ → Type 0) → List ℕ → Option (List ℕ) → Option (List ℕ)
@@ -117,12 +136,8 @@ HasAnswered Said input left old new = (done : List (List ℕ)) × (rest out : Li
     × (left ≡ Some rest) × (lines input ≡ done ++ lines rest) × AreAnswers Said done out
     × Appends old new out
 
--- nothing was left in the input, and nothing was written
-abbrev pub FindsNone : List ℕ → Option (List ℕ) → Option (List ℕ) → Option (List ℕ) → Type 0
-FindsNone input left old new = (input ≡ []) × (left ≡ Some []) × Appends old new []
-
--- of the next line some was taken from the input, or all, or nothing, and at most a beginning of
--- its answer was written
+-- of the next line some was taken from the input, or nothing, and at most a beginning of the
+-- answers of the next lines was written
 abbrev pub BreaksOff : (List ℕ → List ℕ → Type 0) → List ℕ → Option (List ℕ) → Option (List ℕ)
     → Option (List ℕ) → Type 0
 BreaksOff Said input left old new = (taken rest part : List ℕ) × (input ≡ taken ++ rest)
@@ -135,7 +150,7 @@ abbrev pub AnswersAll : (List ℕ → List ℕ → Type 0) → List ℕ → Opti
 AnswersAll Said input left old new = WritesAnswers Said old new (lines input) × (left ≡ Some [])
 
 -- whole lines were taken from the input, and each was answered; then the run broke off, in the next
--- line or before it
+-- line or before it, and of the answers of the next lines at most a beginning was written
 abbrev pub AnswersSome : (List ℕ → List ℕ → Type 0) → List ℕ → Option (List ℕ) → Option (List ℕ)
     → Option (List ℕ) → Type 0
 AnswersSome Said input left old new = (mid : List ℕ) × (now : Option (List ℕ))

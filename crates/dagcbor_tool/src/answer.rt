@@ -1,15 +1,15 @@
 //! What the program says of a line.
 
-ghost use Rattle.std.specs.Prelude.{◌≡◌, ◌≢◌, ◌++◌, ◌∷◌, [], ℕ, List, map, codes, OnOk, IfOk};
-ghost use Rattle.std.specs.Prelude.{IfErr};
-ghost use Rattle.hex.specs.Hex.{encode_lower};
+ghost use Rattle.std.specs.Prelude.{◌≡◌, ◌≢◌, ◌++◌, ◌∷◌, [], ℕ, List, map, codes, OnOk, OnErr};
+ghost use Rattle.std.specs.Prelude.{IfOk, IfErr, IsTrue, MatchResult, false};
+ghost use Rattle.std.specs.Io.{StartsWith};
+ghost use Rattle.hex.specs.Hex.{decode_of, encode_lower};
 ghost use Rattle.serde_ipld_dagcbor.specs.Cid.{cid_bytes};
 ghost use Rattle.dagcbor_tool.specs.Answers.{kind_name, variant_name, links_text, IsVerdict};
-ghost use Rattle.dagcbor_tool.specs.Answers.{IsLinkLine, IsSaid, IsAnswer};
+ghost use Rattle.dagcbor_tool.specs.Answers.{IsLinkLine, IsSaid, IsAnswer, AppendsLine};
 
 use crate::command::Command;
 use crate::line::ToolError;
-use hex::FromHexError;
 use serde_ipld_dagcbor::{Cid, DecodeError, Kind, check_slice, links_from_slice};
 use std::alloc::{AllocError, Global};
 use std::convert::Infallible;
@@ -57,109 +57,165 @@ fn variant_name<E>(refusal: &DecodeError<E>) -> &'static str
     }
 }
 
-/// Two words and a line feed.
-fn sentence(alloc: Global, word: &str, name: &str) -> Result<Vec<u8>, AllocError>
-    ensures { IfOk result (λ v. v.items ≡ (word.now ++ name.now) ++ 10 ∷ []) }
+/// Appends two words and a line feed.
+fn push_sentence(out: &mut Vec<u8>, word: &str, name: &str) -> Result<(), AllocError>
+    ensures kept { StartsWith out.new.items out.old.items }
+    ensures written { OnOk result
+        (out.new.items ≡ out.old.items ++ ((word.now ++ name.now) ++ 10 ∷ [])) }
 {
-    let mut text = Vec::from_slice(alloc, word.as_bytes())?;
-    text.extend_from_slice(name.as_bytes())?;
-    text.push(b'\n')?;
-    Ok(text)
+    out.extend_from_slice(word.as_bytes())?;
+    out.extend_from_slice(name.as_bytes())?;
+    out.push(b'\n')?;
+    Ok(())
 }
 
-/// What is written for a refusal. Want of memory is none, and ends the run.
-fn refused(alloc: Global, refusal: &DecodeError<Infallible>) -> Result<Vec<u8>, ToolError>
-    ensures written { IfOk result
-        (λ v. (refusal.now ≢ DecodeError.OutOfMemory)
-        × (v.items ≡ (codes "refused " ++ variant_name refusal.now) ++ 10 ∷ [])) }
+/// Appends what is said of a refusal. Want of memory is none, and ends the run.
+fn push_refusal(out: &mut Vec<u8>, refusal: &DecodeError<Infallible>) -> Result<(), ToolError>
+    ensures kept { StartsWith out.new.items out.old.items }
+    ensures written { OnOk result ((refusal.now ≢ DecodeError.OutOfMemory)
+        × (out.new.items ≡ out.old.items
+        ++ ((codes "refused " ++ variant_name refusal.now) ++ 10 ∷ []))) }
     ensures memory { IfErr result (λ e. e ≡ ToolError.OutOfMemory) }
 {
     match refusal {
         DecodeError::OutOfMemory => Err(ToolError::OutOfMemory),
-        _ => Ok(sentence(alloc, "refused ", variant_name(refusal))?),
+        _ => Ok(push_sentence(out, "refused ", variant_name(refusal))?),
     }
 }
 
-/// What `check` writes for a block.
-fn verdict(alloc: Global, block: &[u8]) -> Result<Vec<u8>, ToolError>
-    ensures written { IfOk result
-        (λ v. (said : List ℕ) × IsVerdict block.now said × (v.items ≡ said ++ 10 ∷ [])) }
+/// Appends what `check` says of a block.
+fn push_verdict(out: &mut Vec<u8>, block: &[u8]) -> Result<(), ToolError>
+    ensures kept { StartsWith out.new.items out.old.items }
+    ensures written { OnOk result
+        (AppendsLine (IsVerdict block.now) out.old.items out.new.items) }
     ensures memory { IfErr result (λ e. e ≡ ToolError.OutOfMemory) }
 {
     match check_slice(block) {
-        Ok(kind) => Ok(sentence(alloc, "ok ", kind_name(kind))?),
-        Err(refusal) => refused(alloc, &refusal),
+        Ok(kind) => Ok(push_sentence(out, "ok ", kind_name(kind))?),
+        Err(refusal) => push_refusal(out, &refusal),
     }
 }
 
 /// Appends the binary form of a link in lower case hexadecimal.
-fn push_link(alloc: Global, text: &mut Vec<u8>, link: &Cid) -> Result<(), AllocError>
-    ensures { OnOk result (text.new.items ≡ text.old.items ++ encode_lower (cid_bytes link.now)) }
+fn push_link(alloc: Global, out: &mut Vec<u8>, link: &Cid) -> Result<(), AllocError>
+    ensures written { OnOk result
+        (out.new.items ≡ out.old.items ++ encode_lower (cid_bytes link.now)) }
+    ensures same { OnErr result (out.new.items ≡ out.old.items) }
 {
     let digits = hex::encode(alloc, link.to_bytes(alloc)?)?;
-    text.extend_from_slice(digits.as_bytes())
+    out.extend_from_slice(digits.as_bytes())
 }
 
-/// The links in hexadecimal, a space between, and a line feed.
-fn links_line(alloc: Global, first: &Cid, others: &[Cid]) -> Result<Vec<u8>, AllocError>
-    ensures { IfOk result
-        (λ v. v.items ≡ links_text (cid_bytes first.now ∷ map cid_bytes others.now) ++ 10 ∷ []) }
+/// Appends the links in hexadecimal, a space between, and a line feed.
+fn push_links(
+    alloc: Global,
+    out: &mut Vec<u8>,
+    first: &Cid,
+    others: &[Cid],
+) -> Result<(), AllocError>
+    ensures kept { StartsWith out.new.items out.old.items }
+    ensures written { OnOk result (out.new.items ≡ out.old.items
+        ++ (links_text (cid_bytes first.now ∷ map cid_bytes others.now) ++ 10 ∷ [])) }
 {
-    let mut text = Vec::new(alloc);
-    push_link(alloc, &mut text, first)?;
+    push_link(alloc, out, first)?;
     for link in others {
-        text.push(b' ')?;
-        push_link(alloc, &mut text, link)?;
+        out.push(b' ')?;
+        push_link(alloc, out, link)?;
     }
-    text.push(b'\n')?;
-    Ok(text)
+    out.push(b'\n')?;
+    Ok(())
 }
 
-/// The line for links: `none` where there is none.
-fn line_of(alloc: Global, links: &[Cid]) -> Result<Vec<u8>, AllocError>
-    ensures { IfOk result (λ v. v.items ≡ links_text (map cid_bytes links.now) ++ 10 ∷ []) }
+/// Appends the line for links: `none` where there is none.
+fn push_links_line(alloc: Global, out: &mut Vec<u8>, links: &[Cid]) -> Result<(), AllocError>
+    ensures kept { StartsWith out.new.items out.old.items }
+    ensures written { OnOk result (out.new.items ≡ out.old.items
+        ++ (links_text (map cid_bytes links.now) ++ 10 ∷ [])) }
 {
     match links {
-        [] => sentence(alloc, "none", ""),
-        [first, others @ ..] => links_line(alloc, first, others),
+        [] => push_sentence(out, "none", ""),
+        [first, others @ ..] => push_links(alloc, out, first, others),
     }
 }
 
-/// What `links` writes for a block.
-fn link_line(alloc: Global, block: &[u8]) -> Result<Vec<u8>, ToolError>
-    ensures written { IfOk result
-        (λ v. (said : List ℕ) × IsLinkLine block.now said × (v.items ≡ said ++ 10 ∷ [])) }
+/// Appends what `links` says of a block.
+fn push_link_line(alloc: Global, out: &mut Vec<u8>, block: &[u8]) -> Result<(), ToolError>
+    ensures kept { StartsWith out.new.items out.old.items }
+    ensures written { OnOk result
+        (AppendsLine (IsLinkLine block.now) out.old.items out.new.items) }
     ensures memory { IfErr result (λ e. e ≡ ToolError.OutOfMemory) }
 {
     match links_from_slice(alloc, block) {
-        Ok(links) => Ok(line_of(alloc, &links)?),
-        Err(refusal) => refused(alloc, &refusal),
+        Ok(links) => Ok(push_links_line(alloc, out, &links)?),
+        Err(refusal) => push_refusal(out, &refusal),
     }
 }
 
-/// What the command writes for a block.
-fn said_of(alloc: Global, command: Command, block: &[u8]) -> Result<Vec<u8>, ToolError>
-    ensures written { IfOk result
-        (λ v. (said : List ℕ) × IsSaid command block.now said × (v.items ≡ said ++ 10 ∷ [])) }
+/// Appends what the command says of a block.
+fn push_said(
+    alloc: Global,
+    command: Command,
+    block: &[u8],
+    out: &mut Vec<u8>,
+) -> Result<(), ToolError>
+    ensures kept { StartsWith out.new.items out.old.items }
+    ensures written { OnOk result
+        (AppendsLine (IsSaid command block.now) out.old.items out.new.items) }
     ensures memory { IfErr result (λ e. e ≡ ToolError.OutOfMemory) }
 {
     match command {
-        Command::Check => verdict(alloc, block),
-        Command::Links => link_line(alloc, block),
+        Command::Check => push_verdict(out, block),
+        Command::Links => push_link_line(alloc, out, block),
     }
 }
 
-/// What is written for a line.
-pub fn answer_of(alloc: Global, command: Command, line: &[u8]) -> Result<Vec<u8>, ToolError>
-    ensures written { IfOk result
-        (λ v. (said : List ℕ) × IsAnswer command line.now said × (v.items ≡ said ++ 10 ∷ [])) }
+/// Decodes the line, if it is hexadecimal text, and answers whether it is.
+fn decode_line(line: &[u8], block: &mut Vec<u8>) -> Result<bool, AllocError>
+    ensures { IfOk result (λ is_text. MatchResult (decode_of line.now)
+        (λ bytes. IsTrue is_text × (block.new.items ≡ bytes)) (λ _. is_text ≡ false)) }
+{
+    block.resize(line.len() / 2, 0)?;
+    Ok(hex::decode_to_slice(line, block.as_mut_slice()).is_ok())
+}
+
+/// Appends what is said of a line, or a part of that where memory lacks.
+fn push_some(
+    alloc: Global,
+    command: Command,
+    line: &[u8],
+    block: &mut Vec<u8>,
+    out: &mut Vec<u8>,
+) -> Result<(), ToolError>
+    ensures kept { StartsWith out.new.items out.old.items }
+    ensures written { OnOk result
+        (AppendsLine (IsAnswer command line.now) out.old.items out.new.items) }
     ensures memory { IfErr result (λ e. e ≡ ToolError.OutOfMemory) }
 {
-    match hex::decode(alloc, line) {
-        Ok(block) => said_of(alloc, command, &block),
-        Err(e) => match e {
-            FromHexError::OutOfMemory => Err(ToolError::OutOfMemory),
-            _ => Ok(sentence(alloc, "refused ", "hex")?),
-        },
+    let is_text = decode_line(line, block)?;
+    if is_text {
+        push_said(alloc, command, block, out)
+    } else {
+        Ok(push_sentence(out, "refused ", "hex")?)
     }
+}
+
+/// Appends what is said of a line, or nothing where memory lacks. The block is room for its bytes.
+pub fn push_answer(
+    alloc: Global,
+    command: Command,
+    line: &[u8],
+    block: &mut Vec<u8>,
+    out: &mut Vec<u8>,
+) -> Result<(), ToolError>
+    ensures written { OnOk result
+        (AppendsLine (IsAnswer command line.now) out.old.items out.new.items) }
+    ensures same { OnErr result (out.new.items ≡ out.old.items) }
+    ensures memory { IfErr result (λ e. e ≡ ToolError.OutOfMemory) }
+{
+    let before = out.len();
+    let pushed = push_some(alloc, command, line, block, out);
+    if pushed.is_err() {
+        out.truncate(before);
+    }
+    pushed
 }

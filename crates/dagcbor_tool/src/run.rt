@@ -1,41 +1,144 @@
-//! A run of a command: each line of the input is answered by a line of the output.
+//! A run of a command: each line of the input is answered by a line of the output, the lines of a
+//! fill in one piece.
 
-ghost use Rattle.std.specs.Prelude.{MatchResult, MatchBool, IfSome, OnOk, OnErr};
-ghost use Rattle.dagcbor_tool.specs.Answers.{IsAnswer, AnswersOne, FindsNone, BreaksOff};
-ghost use Rattle.dagcbor_tool.specs.Answers.{AnswersAll, AnswersSome};
+ghost use Rattle.std.specs.Prelude.{◌≡◌, ◌≢◌, ◌++◌, [], ℕ, List, All, IfSome, IfErr, false};
+ghost use Rattle.std.specs.Prelude.{OnOk, OnErr};
+ghost use Rattle.std.specs.Io.KnownBytes.{prepend_known, IsAtEnd};
+ghost use Rattle.std.specs.Str.Lines.{lines, strip_carriage_return};
+ghost use Rattle.dagcbor_tool.specs.Answers.{IsAnswer, AppendsLine, AppendsAnswers, HasAnswered};
+ghost use Rattle.dagcbor_tool.specs.Answers.{WritesAnswers, WritesBeginning, WritesWhole};
+ghost use Rattle.dagcbor_tool.specs.Answers.{BreaksOff, AnswersAll, AnswersSome};
 
-use crate::answer::answer_of;
+use crate::answer::push_answer;
 use crate::command::Command;
-use crate::line::{ToolError, content, take_line, write_all};
+use crate::line::{ToolError, line_feed, without_return, write_all};
 use std::alloc::Global;
 use std::io::{BufRead, Write};
 
-/// Answers the next line of the input, if there is one.
-fn answer_line<R: BufRead, W: Write>(
+/// What is kept from one fill to the next.
+#[derive(Drop)]
+struct Kept {
+    /// What stands behind the last line feed.
+    held: Vec<u8>,
+    /// Room for the bytes of a line's block.
+    block: Vec<u8>,
+    /// The answers that are not written yet.
+    out: Vec<u8>,
+    ghost one_line: { All (λ b. b ≢ 10) held.items },
+}
+
+/// Answers the line that ends with these bytes, in front of which what is held stands.
+fn answer_line(
+    alloc: Global,
+    command: Command,
+    end: &[u8],
+    kept: &mut Kept,
+) -> Result<(), ToolError>
+    requires { All (λ b. b ≢ 10) end.now }
+    ensures written { OnOk result (AppendsLine
+        (IsAnswer command (strip_carriage_return (kept.old.held.items ++ end.now)))
+        kept.old.out.items kept.new.out.items) }
+    ensures held { OnOk result (kept.new.held.items ≡ []) }
+    ensures same { OnErr result (kept.new.out.items ≡ kept.old.out.items) }
+    ensures memory { IfErr result (λ e. e ≡ ToolError.OutOfMemory) }
+{
+    if kept.held.is_empty() {
+        let line = without_return(end);
+        return push_answer(alloc, command, line, &mut kept.block, &mut kept.out);
+    }
+    kept.held.extend_from_slice(end)?;
+    let line = without_return(&kept.held);
+    push_answer(alloc, command, line, &mut kept.block, &mut kept.out)?;
+    kept.held.clear();
+    Ok(())
+}
+
+/// Answers each line that ends in what is shown, and holds what stands behind the last of them.
+fn answer_shown(
+    alloc: Global,
+    command: Command,
+    shown: &[u8],
+    kept: &mut Kept,
+) -> Result<(), ToolError>
+    ensures answered { OnOk result (AppendsAnswers (IsAnswer command)
+        (kept.old.held.items ++ shown.now) kept.new.held.items
+        kept.old.out.items kept.new.out.items) }
+    ensures some { (left : List ℕ) × AppendsAnswers (IsAnswer command)
+        (kept.old.held.items ++ shown.now) left kept.old.out.items kept.new.out.items }
+    ensures memory { IfErr result (λ e. e ≡ ToolError.OutOfMemory) }
+{
+    let mut rest = shown;
+    while let Some(at) = line_feed(rest) {
+        answer_line(alloc, command, &rest[..at], kept)?;
+        rest = &rest[at + 1..];
+    }
+    kept.held.extend_from_slice(rest)?;
+    Ok(())
+}
+
+/// Answers the lines that end in the next fill, and answers whether it showed any byte.
+fn answer_fill<R: BufRead, W: Write>(
     alloc: Global,
     command: Command,
     reader: &mut R,
     writer: &mut W,
+    kept: &mut Kept,
 ) -> Result<bool, ToolError>
-    ensures { IfSome (R.remaining reader.old) (λ input. MatchResult result
-        (λ more. MatchBool more
-        (AnswersOne (IsAnswer command) input (R.remaining reader.new)
-        (W.contents writer.old) (W.contents writer.new))
-        (FindsNone input (R.remaining reader.new) (W.contents writer.old) (W.contents writer.new)))
-        (λ _. BreaksOff (IsAnswer command) input (R.remaining reader.new)
+    ensures answered { OnOk result
+        (IfSome (prepend_known kept.old.held.items (R.remaining reader.old)) (λ input.
+        HasAnswered (IsAnswer command) input
+        (prepend_known kept.new.held.items (R.remaining reader.new))
         (W.contents writer.old) (W.contents writer.new))) }
+    ensures end { result ≡ Ok false
+        → IfSome (R.remaining reader.old) (λ _. IsAtEnd (R.remaining reader.new)) }
+    ensures broken { OnErr result
+        (IfSome (prepend_known kept.old.held.items (R.remaining reader.old)) (λ input.
+        BreaksOff (IsAnswer command) input (R.remaining reader.new)
+        (W.contents writer.old) (W.contents writer.new))) }
+    ensures whole { IfErr result (λ e. e ≢ ToolError.Output
+        → IfSome (prepend_known kept.old.held.items (R.remaining reader.old)) (λ input.
+        WritesWhole (IsAnswer command) input (W.contents writer.old) (W.contents writer.new))) }
 {
-    let mut line = Vec::new(alloc);
-    take_line(reader, &mut line)?;
-    if line.is_empty() {
+    let Ok(shown) = reader.fill_buf() else {
+        return Err(ToolError::Input);
+    };
+    let taken = shown.len();
+    if taken == 0 {
         return Ok(false);
     }
-    let answer = answer_of(alloc, command, content(&line))?;
-    write_all(writer, &answer)?;
+    kept.out.clear();
+    let answered = answer_shown(alloc, command, shown, kept);
+    write_all(writer, &kept.out)?;
+    answered?;
+    reader.consume(taken);
     Ok(true)
 }
 
-/// Answers each line of the input by a line of the output, as the command says.
+/// Answers the line that is held at the end of the input, if one is.
+fn answer_last<W: Write>(
+    alloc: Global,
+    command: Command,
+    writer: &mut W,
+    kept: &mut Kept,
+) -> Result<(), ToolError>
+    ensures answered { OnOk result (WritesAnswers (IsAnswer command)
+        (W.contents writer.old) (W.contents writer.new) (lines kept.old.held.items)) }
+    ensures broken { OnErr result (WritesBeginning (IsAnswer command)
+        (W.contents writer.old) (W.contents writer.new) (lines kept.old.held.items)) }
+    ensures whole { IfErr result (λ e. e ≢ ToolError.Output
+        → WritesWhole (IsAnswer command) kept.old.held.items
+        (W.contents writer.old) (W.contents writer.new)) }
+{
+    if kept.held.is_empty() {
+        return Ok(());
+    }
+    kept.out.clear();
+    push_answer(alloc, command, &kept.held, &mut kept.block, &mut kept.out)?;
+    write_all(writer, &kept.out)
+}
+
+/// Answers each line of the input by a line of the output, as the command says. What a fill ends is
+/// answered before the next is waited for.
 pub fn run_lines<R: BufRead, W: Write>(
     alloc: Global,
     command: Command,
@@ -48,11 +151,19 @@ pub fn run_lines<R: BufRead, W: Write>(
     ensures broken { OnErr result (IfSome (R.remaining reader.old) (λ input.
         AnswersSome (IsAnswer command) input (R.remaining reader.new)
         (W.contents writer.old) (W.contents writer.new))) }
+    ensures whole { IfErr result (λ e. e ≢ ToolError.Output
+        → IfSome (R.remaining reader.old) (λ input.
+        WritesWhole (IsAnswer command) input (W.contents writer.old) (W.contents writer.new))) }
 {
+    let mut kept = Kept {
+        held: Vec::new(alloc),
+        block: Vec::new(alloc),
+        out: Vec::new(alloc),
+    };
     for _ in 0..u64::MAX {
-        let more = answer_line(alloc, command, reader, writer)?;
+        let more = answer_fill(alloc, command, reader, writer, &mut kept)?;
         if !more {
-            return Ok(());
+            return answer_last(alloc, command, writer, &mut kept);
         }
     }
     Err(ToolError::Input)
@@ -70,6 +181,9 @@ pub fn run_check<R: BufRead, W: Write>(
     ensures broken { OnErr result (IfSome (R.remaining reader.old) (λ input.
         AnswersSome (IsAnswer Command.Check) input (R.remaining reader.new)
         (W.contents writer.old) (W.contents writer.new))) }
+    ensures whole { IfErr result (λ e. e ≢ ToolError.Output
+        → IfSome (R.remaining reader.old) (λ input. WritesWhole (IsAnswer Command.Check) input
+        (W.contents writer.old) (W.contents writer.new))) }
 {
     run_lines(alloc, Command::Check, reader, writer)
 }
@@ -85,6 +199,9 @@ pub fn run_links<R: BufRead, W: Write>(
         (W.contents writer.old) (W.contents writer.new))) }
     ensures broken { OnErr result (IfSome (R.remaining reader.old) (λ input.
         AnswersSome (IsAnswer Command.Links) input (R.remaining reader.new)
+        (W.contents writer.old) (W.contents writer.new))) }
+    ensures whole { IfErr result (λ e. e ≢ ToolError.Output
+        → IfSome (R.remaining reader.old) (λ input. WritesWhole (IsAnswer Command.Links) input
         (W.contents writer.old) (W.contents writer.new))) }
 {
     run_lines(alloc, Command::Links, reader, writer)

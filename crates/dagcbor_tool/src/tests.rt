@@ -7,19 +7,21 @@ use std::alloc::Global;
 use std::io::{BufRead, Read, Write};
 use std::test::Fail;
 
-/// Shows one byte a fill, and fails in this way at one of its fills.
+/// Shows so many bytes a fill, and fails in this way at one of its fills.
 #[derive(Drop)]
-struct OneByte<'a> {
+struct Pieces<'a> {
     bytes: &'a [u8],
+    size: usize,
     fills: usize,
     faulty: usize,
     fault: ErrorKind,
 }
 
-impl<'a> OneByte<'a> {
-    fn new(bytes: &'a [u8], faulty: usize, fault: ErrorKind) -> OneByte<'a> {
-        OneByte {
+impl<'a> Pieces<'a> {
+    fn new(bytes: &'a [u8], size: usize, faulty: usize, fault: ErrorKind) -> Pieces<'a> {
+        Pieces {
             bytes,
+            size,
             fills: 0,
             faulty,
             fault,
@@ -27,22 +29,20 @@ impl<'a> OneByte<'a> {
     }
 }
 
-impl Read for OneByte<'_> {
+impl Read for Pieces<'_> {
     fn read(&mut self, _buf: &mut [u8]) -> io::Result<usize> {
         Ok(0)
     }
 }
 
-impl BufRead for OneByte<'_> {
+impl BufRead for Pieces<'_> {
     fn fill_buf(&mut self) -> io::Result<&[u8]> {
         self.fills = self.fills.saturating_add(1);
         if self.fills == self.faulty {
             return Err(io::Error::from(self.fault));
         }
-        Ok(match self.bytes {
-            [] => self.bytes,
-            [_, ..] => &self.bytes[..1],
-        })
+        let size = self.size.min(self.bytes.len());
+        Ok(&self.bytes[..size])
     }
 
     fn consume(&mut self, amount: usize) {
@@ -103,10 +103,13 @@ fn answers_each_line(rt: HostRuntime) -> Result<(), Fail> {
     let mut output = Vec::new(alloc);
     run_check(alloc, &mut &LINES[..], &mut output)?;
     assert_eq!(rt; output.as_slice(), ANSWERS);
-    let mut stingy = Stingy::new(alloc, 1000, None);
-    let mut input = OneByte::new(LINES, 0, ErrorKind::Other);
-    run_check(alloc, &mut input, &mut stingy)?;
-    assert_eq!(rt; stingy.held.as_slice(), ANSWERS);
+    // The fills cut the lines at each of their bytes.
+    for size in 1..LINES.len() {
+        let mut stingy = Stingy::new(alloc, 1000, None);
+        let mut input = Pieces::new(LINES, size, 0, ErrorKind::Other);
+        run_check(alloc, &mut input, &mut stingy)?;
+        assert_eq!(rt; stingy.held.as_slice(), ANSWERS, "{size}");
+    }
     Ok(())
 }
 
@@ -136,13 +139,23 @@ fn links_of_each_line(rt: HostRuntime) -> Result<(), Fail> {
 fn a_reader_that_fails_ends_the_run(rt: HostRuntime) -> Result<(), Fail> {
     // An interrupted call is not made again.
     for fault in [ErrorKind::Other, ErrorKind::Interrupted] {
-        for (fill, written) in [(1, 0), (5, 0), (6, 19), (9, 31)] {
+        // What an earlier fill ends is out, and no part of a line that none has ended.
+        let rows = [
+            (1, 1, 0),
+            (1, 5, 0),
+            (1, 6, 19),
+            (1, 9, 31),
+            (7, 2, 19),
+            (10, 2, 43),
+            (20, 3, 69),
+        ];
+        for (size, fill, written) in rows {
             let mut output = Vec::new(rt.alloc());
-            let mut input = OneByte::new(LINES, fill, fault);
+            let mut input = Pieces::new(LINES, size, fill, fault);
             let ended = run_check(rt.alloc(), &mut input, &mut output);
-            assert!(rt; matches!(ended, Err(ToolError::Input)), "{fill}");
-            assert!(rt; ANSWERS.starts_with(output.as_slice()), "{fill}");
-            assert_eq!(rt; output.len(), written, "{fill}");
+            assert!(rt; matches!(ended, Err(ToolError::Input)), "{size}, {fill}");
+            assert!(rt; ANSWERS.starts_with(output.as_slice()), "{size}, {fill}");
+            assert_eq!(rt; output.len(), written, "{size}, {fill}");
         }
     }
     Ok(())
@@ -203,7 +216,7 @@ fn words_pick_the_command(rt: HostRuntime) -> Result<(), Fail> {
 fn faults_are_told(rt: HostRuntime) -> Result<(), Fail> {
     let alloc = rt.alloc();
     let mut errors = Vec::new(alloc);
-    let mut input = OneByte::new(LINES, 2, ErrorKind::Other);
+    let mut input = Pieces::new(LINES, 1, 2, ErrorKind::Other);
     let mut output = Vec::new(alloc);
     let ended = run_words(alloc, &["check"], &mut input, &mut output, &mut errors)?;
     assert_eq!(rt; ended, 1);

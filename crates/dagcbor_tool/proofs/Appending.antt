@@ -1,0 +1,41 @@
+-- Lists that were appended to, and why a refusal is said.
+use Rattle.std.proofs.Common.{◌≡◌, ◌≢◌, ◌++◌, ◌∷◌, ◌%◌, ◌/◌, ◌==◌, ℕ, Bool, true, false, cond, List, [], length, take, drop, Result, Ok, Err, codes, refl, sym, ap, ◌∙◌, append_assoc}
+use Rattle.std.specs.Io.{StartsWith}
+use Rattle.std.specs.Prelude.{OnOk, IsTrue, MatchResult}
+use Rattle.std.specs.declared.convert.Infallible.{Infallible}
+use Rattle.std.proofs.KnownBytes.{starts_with_rest}
+use Rattle.std.proofs.lemmas.List.{append-nil}
+use Rattle.std.proofs.Math.Seq.{take-append_seam}
+use Rattle.serde_ipld_dagcbor.specs.DecodeError.{DecodeError}
+use Rattle.serde_ipld_dagcbor.specs.DecodeError.TheVariants as refusals
+use Rattle.hex.specs.Hex.{decode_of}
+use Rattle.hex.specs.declared.error.FromHexError.{FromHexError}
+use Rattle.dagcbor_tool.specs.declared.command.Command.{Command}
+use Rattle.dagcbor_tool.specs.Answers.{variant_name, IsSaid, IsAnswer, AppendsLine}
+
+-- what was appended to stands at the front
+pub starts_appended : (old part new : List ℕ) → new ≡ old ++ part → StartsWith new old
+starts_appended old part new is = ap (take (length old)) is ∙ take-append_seam old part
+
+pub starts_same : (old new : List ℕ) → new ≡ old → StartsWith new old
+starts_same old new is = starts_appended old [] new (is ∙ sym (append-nil old))
+
+-- a refusal is said, and why it is said
+pub refused_said : {E : Type 0} (Said : List ℕ → Type 0) (r : Result Unit E) (e : DecodeError Infallible) (old new : List ℕ)
+    → OnOk r ((e ≢ refusals.OutOfMemory) × (new ≡ old ++ ((codes "refused " ++ variant_name e) ++ 10 ∷ [])))
+    → (e ≢ refusals.OutOfMemory → Said (codes "refused " ++ variant_name e))
+    → OnOk r (AppendsLine Said old new)
+refused_said Said (Ok v) e old new h s = (codes "refused " ++ variant_name e, s h.0, h.1)
+refused_said Said (Err x) e old new h s = tt
+
+-- ---- hexadecimal text
+
+-- what no hexadecimal text is is said so
+pub hex_refused : (command : Command) (line block : List ℕ) (is_text : Bool) → MatchResult (decode_of line) (λ bytes. IsTrue is_text × (block ≡ bytes)) (λ _. is_text ≡ false)
+    → is_text ≡ false → IsAnswer command line (codes "refused hex")
+hex_refused command line block is_text decoded none = by_cases (decode_of line) decoded
+  where
+    by_cases : (r : Result (List ℕ) FromHexError) → MatchResult r (λ bytes. IsTrue is_text × (block ≡ bytes)) (λ _. is_text ≡ false)
+        → MatchResult r (λ bytes. IsSaid command bytes (codes "refused hex")) (λ _. codes "refused hex" ≡ codes "refused hex")
+    by_cases (Ok bytes) h = absurd (cc (h.0, none))
+    by_cases (Err e) h = refl

@@ -1,0 +1,12 @@
+use Rattle.std.proofs.Common.{◌++◌, ◌≤◌, length}
+use Rattle.dagcbor_tool.specs.Answers.{IsAnswer, AppendsAnswers}
+use Rattle.dagcbor_tool.proofs.run.answer_shown.Given as goal
+
+abbrev pub invariant-loop-at : goal.invariant-loop-at
+invariant-loop-at l = record {
+  shorter : length l.rest ≤ length l.shown;
+  answered : AppendsAnswers (IsAnswer l.command) (l.fn.kept.held.items ++ l.shown) (l.kept.held.items ++ l.rest) l.fn.kept.out.items l.kept.out.items;
+}
+
+abbrev pub decreases-loop-at : goal.decreases-loop-at
+decreases-loop-at l = length l.rest

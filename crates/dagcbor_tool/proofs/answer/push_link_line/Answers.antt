@@ -1,6 +1,6 @@
 use Rattle.std.proofs.Common.{refl, inr}
 use Rattle.dagcbor_tool.specs.Answers.{IsLinkLine}
-use Rattle.dagcbor_tool.proofs.Appending.{refused_said}
+use Rattle.dagcbor_tool.proofs.Refusals.{refused_said}
 use Rattle.dagcbor_tool.proofs.answer.push_link_line.Goals as goal
 
 pub returns-in-Err-clause-written : goal.returns-in-Err-clause-written

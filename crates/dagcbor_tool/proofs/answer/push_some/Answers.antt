@@ -1,5 +1,5 @@
 use Rattle.std.proofs.Common.{codes}
-use Rattle.dagcbor_tool.proofs.Appending.{hex_refused}
+use Rattle.dagcbor_tool.proofs.Refusals.{hex_refused}
 use Rattle.dagcbor_tool.proofs.answer.push_some.Goals as goal
 
 pub returns-in_ok-push_sentence-clause-written : goal.returns-in_ok-push_sentence-clause-written

@@ -1,4 +1,4 @@
--- Lists that were appended to, and why a refusal is said.
+-- Why a refusal of a block is said, and that of a line that is no hexadecimal text.
 use Rattle.std.proofs.Common.{◌≡◌, ◌≢◌, ◌++◌, ◌∷◌, ◌%◌, ◌/◌, ◌==◌, ℕ, Bool, true, false, cond, List, [], length, take, drop, Result, Ok, Err, codes, refl, sym, ap, ◌∙◌, append_assoc}
 use Rattle.std.specs.Io.{StartsWith}
 use Rattle.std.specs.Prelude.{OnOk, IsTrue, MatchResult}
@@ -13,13 +13,6 @@ use Rattle.hex.specs.declared.error.FromHexError.{FromHexError}
 use Rattle.dagcbor_tool.specs.declared.command.Command.{Command}
 use Rattle.dagcbor_tool.specs.Answers.{variant_name, IsSaid, IsAnswer, AppendsLine}
 
--- what was appended to stands at the front
-pub starts_appended : (old part new : List ℕ) → new ≡ old ++ part → StartsWith new old
-starts_appended old part new is = ap (take (length old)) is ∙ take-append_seam old part
-
-pub starts_same : (old new : List ℕ) → new ≡ old → StartsWith new old
-starts_same old new is = starts_appended old [] new (is ∙ sym (append-nil old))
-
 -- a refusal is said, and why it is said
 pub refused_said : {E : Type 0} (Said : List ℕ → Type 0) (r : Result Unit E) (e : DecodeError Infallible) (old new : List ℕ)
     → OnOk r ((e ≢ refusals.OutOfMemory) × (new ≡ old ++ ((codes "refused " ++ variant_name e) ++ 10 ∷ [])))
@@ -30,7 +23,7 @@ refused_said Said (Err x) e old new h s = tt
 
 -- ---- hexadecimal text
 
--- what no hexadecimal text is is said so
+-- a line that is no hexadecimal text is said to be none
 pub hex_refused : (command : Command) (line block : List ℕ) (is_text : Bool) → MatchResult (decode_of line) (λ bytes. IsTrue is_text × (block ≡ bytes)) (λ _. is_text ≡ false)
     → is_text ≡ false → IsAnswer command line (codes "refused hex")
 hex_refused command line block is_text decoded none = by_cases (decode_of line) decoded

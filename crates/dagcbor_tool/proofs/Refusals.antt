@@ -1,11 +1,7 @@
 -- Why a refusal of a block is said, and that of a line that is no hexadecimal text.
-use Rattle.std.proofs.Common.{◌≡◌, ◌≢◌, ◌++◌, ◌∷◌, ◌%◌, ◌/◌, ◌==◌, ℕ, Bool, true, false, cond, List, [], length, take, drop, Result, Ok, Err, codes, refl, sym, ap, ◌∙◌, append_assoc}
-use Rattle.std.specs.Io.{StartsWith}
+use Rattle.std.proofs.Common.{◌≡◌, ◌≢◌, ◌++◌, ◌∷◌, ℕ, Bool, false, List, [], Result, Ok, Err, codes, refl}
 use Rattle.std.specs.Prelude.{OnOk, IsTrue, MatchResult}
 use Rattle.std.specs.declared.convert.Infallible.{Infallible}
-use Rattle.std.proofs.KnownBytes.{starts_with_rest}
-use Rattle.std.proofs.lemmas.List.{append-nil}
-use Rattle.std.proofs.Math.Seq.{take-append_seam}
 use Rattle.serde_ipld_dagcbor.specs.DecodeError.{DecodeError}
 use Rattle.serde_ipld_dagcbor.specs.DecodeError.TheVariants as refusals
 use Rattle.hex.specs.Hex.{decode_of}

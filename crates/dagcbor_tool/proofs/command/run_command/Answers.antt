@@ -1,4 +1,4 @@
-use Rattle.std.proofs.Common.{sym, subst, rules}
+use Rattle.std.proofs.Common.{subst, rules}
 use Rattle.std.specs.Prelude.{IfSome}
 use Rattle.dagcbor_tool.specs.Answers.{IsAnswer, AnswersAll, AnswersSome}
 use Rattle.dagcbor_tool.proofs.Words.{same_command, ended_well, ended_badly}

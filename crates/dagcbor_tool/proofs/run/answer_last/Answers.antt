@@ -1,5 +1,5 @@
-use Rattle.std.proofs.Common.{rules, ◌≡◌, ◌<◌, ◌++◌, ◌∷◌, ℕ, List, [], length, ap, subst, ◌∙◌}
-use Rattle.dagcbor_tool.specs.Answers.{IsAnswer, AppendsLine}
+use Rattle.std.proofs.Common.{rules, ◌<◌, length}
+use Rattle.dagcbor_tool.specs.Answers.{IsAnswer}
 use Rattle.dagcbor_tool.proofs.Answering.{answer_is, on_err, last_answered, last_begun}
 use Rattle.dagcbor_tool.proofs.run.answer_last.Goals as goal
 

@@ -2,7 +2,6 @@
 
 ghost use Rattle.dagcbor_read.specs.AllLinks.{ReadsFirstLinks, WalksFirst};
 
-use crate::deserializer::Deserializer;
 use crate::kind::{Kind, kind_of_front};
 use dagcbor_heads::{DecodeError, SliceReader};
 use dagcbor_items::{LinkSink, walk_any};
@@ -22,7 +21,9 @@ use std::convert::Infallible;
 pub fn links_from_slice(alloc: Global, bytes: &[u8]) -> Result<Vec<Cid>, DecodeError<Infallible>>
     ensures { ReadsFirstLinks bytes.now result }
 {
-    Deserializer::from_slice(bytes).deserialize_links(alloc)
+    let mut links = Vec::new(alloc);
+    walk_slice(bytes, &mut links)?;
+    Ok(links)
 }
 
 /// The kind of the first item of the bytes, whose links are handed on. What follows it is not

@@ -49,10 +49,7 @@ impl Serialize for Color {
             Color::Yellow => ser.serialize_unit_variant("Color", 2, "Yellow"),
             Color::Other(n) => ser.serialize_newtype_variant(alloc, "Color", 3, "Other", n),
             Color::Alpha(n, alpha) => {
-                let mut parts = ser.serialize_tuple_variant(alloc, "Color", 4, "Alpha", 2)?;
-                parts.serialize_field(n)?;
-                parts.serialize_field(alpha)?;
-                parts.end()
+                ser.serialize_newtype_variant(alloc, "Color", 4, "Alpha", &(*n, *alpha))
             }
         }
     }

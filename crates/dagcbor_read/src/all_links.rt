@@ -2,6 +2,7 @@
 
 ghost use Rattle.dagcbor_read.specs.AllLinks.{ReadsFirstLinks, WalksFirst};
 
+use crate::deserializer::Deserializer;
 use crate::kind::{Kind, kind_of_front};
 use dagcbor_heads::{DecodeError, SliceReader};
 use dagcbor_items::{LinkSink, walk_any};
@@ -21,9 +22,7 @@ use std::convert::Infallible;
 pub fn links_from_slice(alloc: Global, bytes: &[u8]) -> Result<Vec<Cid>, DecodeError<Infallible>>
     ensures { ReadsFirstLinks bytes.now result }
 {
-    let mut links = Vec::new(alloc);
-    walk_slice(bytes, &mut links)?;
-    Ok(links)
+    Deserializer::from_slice(bytes).deserialize_links(alloc)
 }
 
 /// The kind of the first item of the bytes, whose links are handed on. What follows it is not

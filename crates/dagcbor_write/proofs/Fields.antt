@@ -1,6 +1,7 @@
 -- The pairs of a map, handed over one after another.
 use Rattle.std.proofs.Common.{◌≡◌, ◌⊎◌, inl, inr, ℕ, suc, List, [], ◌∷◌, ◌++◌, length, map, Option, None, Some, Bool, true, false, cond, Result, Ok, Err, refl, sym, ap, ◌∙◌, subst, append_assoc}
-use Rattle.std.specs.Prelude.{Any, IfSome, option_map, option_and_then}
+use Rattle.dagcbor_write.specs.Answers.{OnMessage}
+use Rattle.std.specs.Prelude.{Any, IfErr, IfSome, option_map, option_and_then}
 use Rattle.std.proofs.Common.{◌<◌, ◌^◌, take, drop, get_or, arith}
 use Rattle.std.proofs.Math.Seq.{drop-cons}
 use Rattle.std.proofs.lemmas.List.{take-append-drop}
@@ -250,3 +251,10 @@ given_row whole old new e h =
 pub exit_pairs : {T E : Type 0} (whole : List Pair) (s t : Written) (r : Result T (EncodeError E)) (e : EncodeError E) → Refused (RefusesAnyValue whole) e → IsErrAnd r (λ d. d ≡ e) → s ≡ t → Writes (spelled_tree (entries_tree whole)) s t r
 exit_pairs whole s t r e refused is same =
     exit_unsent (map_rest None whole) s t (RefusesAnyValue whole) r e (λ m h. ap (map_rest None) (nth_split whole h.0 h.1 h.2) ∙ no_text None (take h.0 whole) (drop (suc h.0) whole) (get_or whole h.0 h.1) (inr (ap (λ p. spelled_tree p.1) h.3 ∙ h.4.1))) refused is same
+
+-- where a message leaves its writer as it was, so does a call around it
+pub still_unsent : {T E Writer : Type 0} {s t u v : Writer} (IsText : List ℕ → Type 0) (Cause : Type 0) (r : Result T (EncodeError E)) → IfErr r (OnMessage (λ m. IsText m × Cause × (u ≡ v))) → s ≡ u → v ≡ t → IfErr r (OnMessage (λ m. s ≡ t))
+still_unsent IsText Cause (Ok x) h earlier later = tt
+still_unsent IsText Cause (Err (Msg m)) h earlier later = earlier ∙ h.2 ∙ later
+still_unsent IsText Cause (Err (Write e)) h earlier later = h
+still_unsent IsText Cause (Err OutOfMemory) h earlier later = h

@@ -1,6 +1,7 @@
 //! Structs that are written by a row of their fields.
 
-ghost use Rattle.std.specs.Prelude.{◌≡◌, List, [], ◌∷◌, None, OnOk, IfSome};
+ghost use Rattle.std.specs.Prelude.{◌≡◌, List, [], ◌∷◌, None, OnOk, IfErr, IfSome};
+ghost use Rattle.dagcbor_write.specs.Answers.{OnMessage};
 ghost use Rattle.dagcbor_heads.specs.Written.{Writes};
 ghost use Rattle.ipld_tree.specs.Tree.{IsTree, entries_tree};
 ghost use Rattle.ipld_tree.specs.Spelled.{spelled_tree};
@@ -76,6 +77,7 @@ pub fn write_struct<F: FieldRow, W: Write>(
     ensures written { Writes (spelled_tree (entries_tree (F.pairs fields)))
         (W.written ser.old) (W.written ser.new) result }
     ensures well_formed { OnOk result (IfSome (entries_tree (F.pairs fields)) IsTree) }
+    ensures unsent { IfErr result (OnMessage (λ m. ser.new ≡ ser.old)) }
 {
     let mut map = ser.serialize_map(alloc, None);
     fields.push_fields(&mut map)?;

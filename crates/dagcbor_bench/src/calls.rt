@@ -2,7 +2,7 @@
 
 ghost use Rattle.std.specs.Prelude.{◌≡◌, ◌≤◌, Bool, true, false};
 ghost use Rattle.serde_ipld_dagcbor.specs.Tree.{Tree};
-ghost use Rattle.serde_ipld_dagcbor.specs.Whole.{IsBlock};
+ghost use Rattle.serde_ipld_dagcbor.specs.Slices.{IsBlock};
 
 use crate::bag::Bag;
 use crate::record::Record;

@@ -20,7 +20,7 @@ use Rattle.serde_ipld_dagcbor.specs.Spelling.{IsSpelling}
 use Rattle.serde_ipld_dagcbor.specs.Answers.{AreSpellingOf}
 use Rattle.serde_ipld_dagcbor.specs.Shapes.{Shape}
 use Rattle.serde_ipld_dagcbor.specs.Whole.{HoldsNoValue, IsReadExcuse, OfWhole}
-use Rattle.serde_ipld_dagcbor.specs.AllLinks.{AreFirstLinks, LinksRefused}
+use Rattle.serde_ipld_dagcbor.specs.Slices.{AreFirstLinks, LinksRefused}
 use Rattle.serde_ipld_dagcbor.specs.GrammarLaws.{SpellingsAreUnique}
 use Rattle.dagcbor_blocks.specs.Names.{block_name}
 use Rattle.dagcbor_blocks.specs.Errors.{TellsOfDecoding}

@@ -17,8 +17,8 @@ use Rattle.serde_ipld_dagcbor.specs.DecodeError.TheVariants as unread
 use Rattle.serde_ipld_dagcbor.specs.Cid.{CidParts, AreCidParts, IsCid, cid_bytes, cid_cmp}
 use Rattle.serde_ipld_dagcbor.specs.Tree.{Tree, null, boolean, integer, text, bytes, list, mapping, link, Items, no_items, item, Entries, no_entries, entry, IsTree, AreItems, AreEntries, links_of, items_links, entries_links}
 use Rattle.serde_ipld_dagcbor.specs.Spelling.{spelling, IsSpelling, IsFront}
-use Rattle.serde_ipld_dagcbor.specs.Whole.{IsBlock}
-use Rattle.serde_ipld_dagcbor.specs.AllLinks.{AreFirstLinks, LinksRefused}
+use Rattle.serde_ipld_dagcbor.specs.Slices.{IsBlock}
+use Rattle.serde_ipld_dagcbor.specs.Slices.{AreFirstLinks, LinksRefused}
 use Rattle.serde_ipld_dagcbor.specs.Walks.{forms}
 use Rattle.serde_ipld_dagcbor.specs.GrammarLaws.{SpellingsAreUnique, CidEqualityIsOfBytes}
 use Rattle.dagcbor_blocks.specs.Names.{block_name}

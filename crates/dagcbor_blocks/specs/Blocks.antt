@@ -15,7 +15,8 @@ use Rattle.serde_ipld_dagcbor.specs.Cid.{CidParts, AreCidParts, cid_bytes, cid_c
 use Rattle.serde_ipld_dagcbor.specs.Tree.{Tree, IsTree, any_need, links_of}
 use Rattle.serde_ipld_dagcbor.specs.Spelling.{IsSpellable, spelling, IsSpelling}
 use Rattle.serde_ipld_dagcbor.specs.Shapes.{Shape}
-use Rattle.serde_ipld_dagcbor.specs.Whole.{IsBlock, IsWhole}
+use Rattle.serde_ipld_dagcbor.specs.Slices.{IsBlock}
+use Rattle.serde_ipld_dagcbor.specs.Whole.{IsWhole}
 use Rattle.serde_ipld_dagcbor.specs.Walks.{forms}
 use Rattle.serde_ipld_dagcbor.specs.EncodeError.{EncodeError}
 use Rattle.serde_ipld_dagcbor.specs.EncodeError.TheVariants as unwritten

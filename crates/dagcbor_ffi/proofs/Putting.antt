@@ -11,7 +11,7 @@ use Rattle.dagcbor_heads.specs.declared.error.DecodeError.{DecodeError}
 use Rattle.dagcbor_heads.specs.declared.error.DecodeError.TheVariants.{Read, RequireBorrowed, OutOfMemory, Failed, DepthOverflow}
 use Rattle.ipld_tree.specs.Tree.{Tree, any_need, links_of}
 use Rattle.ipld_tree.specs.Spelling.{IsFront}
-use Rattle.dagcbor_read.specs.AllLinks.{LinksRefused}
+use Rattle.dagcbor_items.specs.Slices.{LinksRefused}
 use Rattle.dagcbor_ffi.specs.Packed.{packed, packed_links, overwritten, put_at, Puts, HasPut, HoldsPacked}
 use Rattle.dagcbor_ffi.specs.declared.links.PackedLinks.{PackedLinks}
 use Rattle.dagcbor_ffi.proofs.Packing.{packed_push}

@@ -6,9 +6,9 @@ use Rattle.dagcbor_heads.specs.declared.error.DecodeError.{DecodeError}
 use Rattle.dagcbor_heads.specs.declared.error.DecodeError.TheVariants.{OutOfMemory}
 use Rattle.ipld_tree.specs.Tree.{Tree, any_need}
 use Rattle.ipld_tree.specs.Spelling.{IsFront}
-use Rattle.dagcbor_read.specs.TreeKinds.{kind_of}
-use Rattle.dagcbor_read.specs.Whole.{IsBlock, SliceRefused}
-use Rattle.dagcbor_read.specs.AllLinks.{LinksRefused}
+use Rattle.dagcbor_items.specs.TreeKinds.{kind_of}
+use Rattle.dagcbor_items.specs.Slices.{IsBlock, SliceRefused}
+use Rattle.dagcbor_items.specs.Slices.{LinksRefused}
 use Rattle.dagcbor_ffi.specs.Codes.{kind_code, refusal_code}
 use Rattle.dagcbor_ffi.specs.Packed.{packed_links, overwritten}
 

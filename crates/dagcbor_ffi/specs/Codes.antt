@@ -2,8 +2,8 @@
 use Rattle.std.specs.Prelude.{ℤ, pos, negsuc, Result, Ok, Err}
 use Rattle.dagcbor_heads.specs.declared.error.DecodeError.{DecodeError}
 use Rattle.dagcbor_heads.specs.declared.error.DecodeError.TheVariants as refusals
-use Rattle.dagcbor_read.specs.declared.kind.Kind.{Kind}
-use Rattle.dagcbor_read.specs.declared.kind.Kind.TheVariants as kinds
+use Rattle.dagcbor_items.specs.declared.kind.Kind.{Kind}
+use Rattle.dagcbor_items.specs.declared.kind.Kind.TheVariants as kinds
 
 -- the number of a kind, from 0
 abbrev pub kind_code : Kind → ℤ

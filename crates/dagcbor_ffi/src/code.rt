@@ -4,7 +4,7 @@ ghost use Rattle.std.specs.Prelude.{◌≡◌};
 ghost use Rattle.dagcbor_ffi.specs.Codes.{kind_code, refusal_code, answer_code};
 
 use dagcbor_heads::DecodeError;
-use dagcbor_read::Kind;
+use dagcbor_items::Kind;
 
 /// The number of an answer.
 pub(crate) fn code_of<E>(answer: &Result<Kind, DecodeError<E>>) -> i32

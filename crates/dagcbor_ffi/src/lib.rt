@@ -17,7 +17,7 @@ mod name;
 use crate::code::code_of;
 use crate::links::put_links;
 use crate::name::name_of;
-use dagcbor_read::check_slice;
+use dagcbor_items::check_slice;
 
 /// The number of the kind of a block, from 0; below 0 that of the refusal.
 #[unsafe(no_mangle)]

@@ -5,8 +5,7 @@ ghost use Rattle.dagcbor_ffi.specs.Packed.{HoldsPacked, Puts, put_at, Fills, Put
 
 use arrayvec::ArrayVec;
 use dagcbor_heads::DecodeError;
-use dagcbor_items::LinkSink;
-use dagcbor_read::{Kind, walk_slice};
+use dagcbor_items::{Kind, LinkSink, walk_slice};
 use ipld_tree::Cid;
 use std::alloc::AllocError;
 use std::convert::Infallible;

@@ -18,3 +18,5 @@ pub mod Characters
 pub mod StringItems
 pub mod Examples
 pub mod Looks
+pub mod KindBytes
+pub mod SliceReads

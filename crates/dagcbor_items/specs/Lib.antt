@@ -25,3 +25,5 @@ pub mod LeafCauses
 pub mod Majors
 pub mod Variants
 pub mod LeafReads
+pub mod TreeKinds
+pub mod Slices

@@ -1,7 +1,7 @@
 -- What going through an item, its links handed to a sink, answers and refuses. A sink holds links,
 -- or counts or writes them: of each state it says whether these may be the links that it was handed
 -- so far.
-use Rattle.std.specs.Prelude.{◌≡◌, ◌⊎◌, ◌+◌, ℕ, Bool, true, false, List, ◌++◌, length, map, Some}
+use Rattle.std.specs.Prelude.{◌≡◌, ◌⊎◌, ◌+◌, ℕ, Bool, true, false, List, ◌++◌, length, map}
 use Rattle.std.specs.Prelude.{Result, MatchResult, Vec, ⊤}
 use Rattle.std.specs.declared.alloc.Global.{Global}
 use Rattle.dagcbor_heads.specs.Reading.{Reading}
@@ -9,13 +9,11 @@ use Rattle.dagcbor_heads.specs.Refusals.{Refuses}
 use Rattle.dagcbor_heads.specs.declared.error.DecodeError.{DecodeError}
 use Rattle.ipld_tree.specs.Cid.{CidParts, cid_bytes}
 use Rattle.ipld_tree.specs.Tree.{Tree, items_of, Entries, links_of, items_links, entries_links}
-use Rattle.ipld_tree.specs.Tree.{any_need}
 use Rattle.ipld_tree.specs.Spelling.{entry_count}
 use Rattle.dagcbor_items.specs.ItemCauses.{CauseInside, CauseInItems, CauseInEntries}
 use Rattle.dagcbor_items.specs.Untyped.{HasItem, TakesItem}
 use Rattle.dagcbor_items.specs.Items.{HasItems, TakesItems}
 use Rattle.dagcbor_items.specs.Entries.{HasEntries, TakesEntries}
-use Rattle.dagcbor_items.specs.Shapes.{Shape}
 
 -- the binary forms of CIDs, in their order
 abbrev pub forms : List CidParts → List (List ℕ)
@@ -52,10 +50,6 @@ abbrev pub WalksEntries : {E S : Type 0} → (S → List (List ℕ) → Type 0) 
 WalksEntries holds takes_memory count old before result new after = MatchResult result
     (λ _. (es : Entries) × (entry_count es ≡ count) × TakesEntries old es new × Finds holds before (entries_links es) after)
     (λ e. Refuses (HasEntries count old) (WalkLacks takes_memory old) ⊥ (CauseInEntries count old.steps) old e new)
-
--- Any tree shows its links, left to right, repeats kept.
-abbrev pub all_links : Shape Tree (List (List ℕ))
-all_links = record { view = λ t. Some (links_of t); need = any_need; borrows = false }
 
 -- The links of an item of unknown kind are read exactly where one stands within the steps, of which
 -- so many are already spent on it.

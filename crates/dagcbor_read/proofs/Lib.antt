@@ -6,8 +6,6 @@ pub mod EntryRows
 pub mod KeyPlaces
 pub mod HashedPlaces
 pub mod Wholes
-pub mod AllLinks
-pub mod Checks
 pub mod Streaming
 pub mod StreamRuns
 pub mod Progressing

@@ -1,95 +1,21 @@
--- Reading a whole input as one item.
+-- Reading a whole input as a value.
 use Rattle.std.proofs.Common.{◌≡◌, ℕ, ◌+◌, ◌<◌, ◌≤◌, ◌++◌, Option, Bool, true, false, List, [], length, inl, inr, refl, sym, ap, subst, ◌∙◌, arith, append-nil}
 use Rattle.std.specs.Prelude.{◌⊎◌, None, Some, IfSome, IfOk, IfErr, IsErrAnd, Result, Ok, Err, MatchResult, is_some, ⊤}
-use Rattle.std.specs.declared.convert.Infallible.{Infallible}
 use Rattle.dagcbor_heads.specs.Reading.{Reading, Stays}
 use Rattle.dagcbor_heads.specs.Fronts.{ShowsByte}
-use Rattle.dagcbor_heads.specs.Causes.{HeadCause}
 use Rattle.dagcbor_heads.specs.Refusals.{Refuses}
 use Rattle.dagcbor_heads.specs.declared.error.DecodeError.{DecodeError}
 use Rattle.dagcbor_heads.specs.declared.error.DecodeError.TheVariants.{Read, RequireBorrowed, OutOfMemory, Failed, TrailingData, DepthOverflow}
 use Rattle.ipld_tree.specs.Tree.{Tree}
 use Rattle.ipld_tree.specs.Spelling.{spelling, IsFront, IsSpelling}
-use Rattle.ipld_tree.specs.Ipld.{tree_of}
-use Rattle.ipld_tree.specs.declared.ipld.Ipld.{Ipld}
 use Rattle.ipld_tree.proofs.Fronts.{front_unique}
-use Rattle.dagcbor_items.specs.Untyped.{HasItem, TakesItem, ReadsItem}
 use Rattle.dagcbor_read.specs.Calls.{Progress, Call, Ends, TellsEnd}
-use Rattle.dagcbor_items.specs.LinkCauses.{LinkCause}
-use Rattle.dagcbor_items.specs.ItemCauses.{KeyCause, CauseInside}
-use Rattle.dagcbor_items.proofs.Places.{at_steps}
+use Rattle.dagcbor_items.proofs.SliceReads.{whole_front}
 use Rattle.dagcbor_read.proofs.Progressing.{match_false}
 use Rattle.dagcbor_items.specs.Reads.{HasFront, TakesFront, Anything}
 use Rattle.dagcbor_read.specs.Values.{ReadsValue}
-use Rattle.dagcbor_read.specs.Whole.{IsBlock, SliceRefused, IsWhole, HoldsNoValue, IsFirst, TakesFirst, BeginsWithNoValue, IsReadExcuse, OfWhole}
+use Rattle.dagcbor_read.specs.Whole.{IsWhole, HoldsNoValue, IsFirst, TakesFirst, BeginsWithNoValue, IsReadExcuse, OfWhole}
 use Rattle.dagcbor_items.specs.Shapes.{Shape}
-
-pub whole_front : {b : List ℕ} {t : Tree} → IsSpelling b t → IsFront b t []
-whole_front {b} {t} h = record { well_formed = h.well_formed; spellable = h.spellable; is = h.is ∙ sym (append-nil (spelling t)) }
-
-block_item : (r : Reading) (b : List ℕ) (t : Tree) → r.left ≡ Some b → r.steps ≡ 256 → IsBlock b t → HasItem 0 r
-block_item r b t l s h = record { bytes = b; tree = t; rest = []; left = l; front = whole_front h.0; within = omega (arith, h.1, s) }
-
--- with bytes behind its item the whole is no block
-pub no_block : (b rest : List ℕ) (t : Tree) → IsFront b t rest → 0 < length rest → (u : Tree) → IsBlock b u → ⊥
-no_block b rest t f some u h = omega (arith, some, ap length (front_unique b rest [] t u f (whole_front h.0)).1)
-
-pub trailing : {old mid new : Reading} (b : List ℕ) (t : Tree) (byte : ℕ) → old.left ≡ Some b → TakesItem 0 old t mid → ShowsByte mid byte new → SliceRefused TrailingData b
-trailing b t byte l a h =
-    let k = a.taken b l in
-    let s = h.starts k.0 k.3 in
-    let some : 0 < length k.0 = omega (arith, ap length s.1) in
-    (no_block b k.0 t k.1 some, (t, k.0, k.1, some))
-
-told : {old mid : Reading} (new : Reading) (b : List ℕ) (t : Tree) (e : DecodeError Infallible) (failed : Bool) → old.left ≡ Some b → TakesItem 0 old t mid → TellsEnd mid (Err e) new failed → SliceRefused e b
-told new b t TrailingData failed l a h = trailing b t h.1 l a h.2
-told new b t (Read x) failed l a h = elim x [ ]
-told new b t _ failed l a h = absurd h
-
--- an item was read, and then no end was found
-pub end_refused : (b : List ℕ) (start mid end : Progress) (v : Ipld) (e : DecodeError Infallible) → start.failed ≡ false → start.input.left ≡ Some b
-    → Call {E = Infallible} (ReadsItem 0) start (Ok v) mid → Ends mid (Err e) end → SliceRefused e b
-end_refused b start mid end v e sound l h k =
-    let read = match_false start.failed _ _ sound h in
-    told end.input b (tree_of v) e end.failed l read.1 (match_false mid.failed _ _ read.0 k)
-
--- the cause of trailing data stands in no item
-no_trailing : (E : Type 0) (b : List ℕ) → CauseInside {E = E} 256 TrailingData b → ⊥
-no_trailing E b h = elim h.5 [
-  | inl x ↦ x
-  | inr y ↦ elim y [
-    | inl x ↦ elim x.1 [ inl v ↦ by h.2 v | inr z ↦ elim z [ inl v ↦ v | inr w ↦ by_link h.2 w.1 ] ]
-    | inr x ↦ by_key x.1.0 x.1.1 x.1.3
-  ]
-]
-  where
-    by : (c : List ℕ) → HeadCause {E = E} TrailingData c → ⊥
-    by c x = x
-
-    by_link : (c : List ℕ) → LinkCause {E = E} TrailingData c → ⊥
-    by_link c h = elim h [ inl x ↦ x | inr w ↦ elim w [ inl x ↦ x.2 | inr x ↦ elim x.2 [ inl v ↦ by x.0 v.0 | inr v ↦ v ] ] ]
-
-    by_key : (before : Option (List ℕ)) (c : List ℕ) → KeyCause {E = E} before TrailingData c → ⊥
-    by_key before c h = elim h [
-      | inl t ↦ elim t [ inl s ↦ elim s [ inl k ↦ elim k [ inl x ↦ by c x.0 | inr x ↦ x ] | inr x ↦ x ] | inr x ↦ x ]
-      | inr u ↦ absurd (cc u.0)
-    ]
-
-pub slice_refused : (e : DecodeError Infallible) (old new : Reading) (b : List ℕ) → old.left ≡ Some b → old.steps ≡ 256 → Refuses (HasItem 0 old) ⊤ ⊥ (CauseInside (old.steps + 0)) old e new → SliceRefused e b
-slice_refused (Read x) old new b l s r = elim x [ ]
-slice_refused OutOfMemory old new b l s r = tt
-slice_refused (RequireBorrowed n) old new b l s r = absurd r.1
-slice_refused Failed old new b l s r = r
-slice_refused TrailingData old new b l s r = absurd (no_trailing Infallible b (at_steps {E = Infallible} TrailingData b _ 256 (omega (arith, s)) (r.2 b l)))
-slice_refused (DepthOverflow n) old new b l s r = (λ t h. r.1 (block_item old b t l s h), at_steps {E = Infallible} (DepthOverflow n) b _ 256 (omega (arith, s)) (r.2 b l))
-slice_refused e old new b l s r = (λ t h. r.1 (block_item old b t l s h), at_steps {E = Infallible} e b _ 256 (omega (arith, s)) (r.2 b l))
-
--- no item was read
-pub item_refused : (b : List ℕ) (start new : Progress) (e : DecodeError Infallible) → start.failed ≡ false → start.input.left ≡ Some b → start.input.steps ≡ 256
-    → Call {E = Infallible} (ReadsItem 0) start (Err e) new → SliceRefused e b
-item_refused b start new e sound l s h = slice_refused e start.input new.input b l s (match_false start.failed _ _ sound h).1
-
--- ---- as a type
 
 -- what holds of a refusal that `?` hands on
 pub on_refusal : {T E : Type 0} (Q : DecodeError E → Type 0) (r : Result T (DecodeError E)) (e : DecodeError E) → IsErrAnd r (λ y. y ≡ e) → Q e → IfErr r Q

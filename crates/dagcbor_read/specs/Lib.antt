@@ -31,7 +31,5 @@ pub mod Collections
 pub mod Structs
 pub mod Enums
 pub mod EnumViews
-pub mod TreeKinds
 pub mod Whole
-pub mod AllLinks
 pub mod Streams

@@ -20,7 +20,7 @@ ghost use Rattle.ipld_tree.specs.Tree.{text};
 ghost use Rattle.dagcbor_read.specs.Accessors.{ReadsHead, BeginsItems, ReadsKeyAfter, OfBegin};
 ghost use Rattle.dagcbor_read.specs.Parts.{ReadsPart, ReadsOption, EntersOption};
 ghost use Rattle.dagcbor_read.specs.Enums.{SpendsEnum, OfForm};
-ghost use Rattle.dagcbor_read.specs.AllLinks.{ReadsLinks};
+ghost use Rattle.dagcbor_items.specs.Walks.{GathersLinks};
 ghost use Rattle.dagcbor_read.specs.Streams.{streaming, ReadsNext};
 
 use crate::access::accessor::{Accessor, copied};
@@ -532,7 +532,7 @@ impl<'de, R: Read> Deserializer<'de, R> {
     /// Reads an item of any kind, with what `deserialize_any` refuses, and keeps its links alone:
     /// left to right, repeats kept.
     pub fn deserialize_links(&mut self, alloc: Global) -> Result<Vec<Cid>, DecodeError<R::Error>>
-        ensures links { Over R.reading (Call ReadsLinks) self.old result self.new }
+        ensures links { Over R.reading (Call (GathersLinks 0)) self.old result self.new }
         ensures looked { LooksAtAny (progress R.reading self.old).input result (progress R.reading self.new).input }
     {
         self.begin()?;

@@ -12,10 +12,8 @@
 #![tactic(auto)]
 
 mod access;
-mod all_links;
 mod deserialize;
 mod deserializer;
-mod kind;
 pub mod laws;
 mod shown;
 mod source;
@@ -28,15 +26,13 @@ pub use access::enum_accessor::EnumAccessor;
 pub use access::fields::{Fields, read_fields, read_into, skip_value};
 pub use access::structs::{Required, read_struct, read_struct_variant};
 pub use access::variants::{Variants, read_enum};
-pub use all_links::{links_from_slice, walk_slice};
 pub use deserialize::{Deserialize, DeserializeOwned};
 pub use deserializer::Deserializer;
-pub use kind::Kind;
 pub use shown::Shown;
 pub use source::{from_reader, from_reader_once};
 pub use stream::{StreamDeserializer, iter_from_reader};
 pub use types::data::IgnoredAny;
-pub use whole::{any_from_slice, check_slice, from_slice, from_slice_with_depth};
+pub use whole::{from_slice, from_slice_with_depth};
 
 #[cfg(test)]
 mod tests;

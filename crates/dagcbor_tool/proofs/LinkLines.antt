@@ -4,7 +4,7 @@ use Rattle.std.proofs.Math.Seq.{take-suc}
 use Rattle.std.proofs.Math.Numerals.{add-one}
 use Rattle.std.proofs.lemmas.List.{map-append, append-nil}
 use Rattle.hex.specs.Hex.{encode_lower}
-use Rattle.serde_ipld_dagcbor.specs.Cid.{CidParts, cid_bytes}
+use Rattle.ipld_tree.specs.Cid.{CidParts, cid_bytes}
 use Rattle.dagcbor_tool.specs.Answers.{behind_spaces}
 
 behind_next : (forms : List (List ℕ)) (form : List ℕ) → behind_spaces (forms ++ form ∷ []) ≡ behind_spaces forms ++ 32 ∷ encode_lower form

@@ -2,8 +2,8 @@
 use Rattle.std.proofs.Common.{◌≡◌, ◌≢◌, ◌++◌, ◌∷◌, ℕ, Bool, false, List, [], Result, Ok, Err, codes, refl}
 use Rattle.std.specs.Prelude.{OnOk, IsTrue, MatchResult}
 use Rattle.std.specs.declared.convert.Infallible.{Infallible}
-use Rattle.serde_ipld_dagcbor.specs.DecodeError.{DecodeError}
-use Rattle.serde_ipld_dagcbor.specs.DecodeError.TheVariants as refusals
+use Rattle.dagcbor_heads.specs.declared.error.DecodeError.{DecodeError}
+use Rattle.dagcbor_heads.specs.declared.error.DecodeError.TheVariants as refusals
 use Rattle.hex.specs.Hex.{decode_of}
 use Rattle.hex.specs.declared.error.FromHexError.{FromHexError}
 use Rattle.dagcbor_tool.specs.declared.command.Command.{Command}

@@ -8,14 +8,14 @@ use Rattle.hex.specs.Hex.{decode_of, encode_lower}
 use Rattle.dagcbor_tool.specs.Pieces.{IsOfOneLine}
 use Rattle.dagcbor_tool.specs.declared.command.Command.{Command}
 use Rattle.dagcbor_tool.specs.declared.command.Command.TheVariants.{Check, Links}
-use Rattle.serde_ipld_dagcbor.specs.Tree.{Tree}
-use Rattle.serde_ipld_dagcbor.specs.TreeKinds.{kind_of}
-use Rattle.serde_ipld_dagcbor.specs.Kind.{Kind}
-use Rattle.serde_ipld_dagcbor.specs.Kind.TheVariants as kinds
-use Rattle.serde_ipld_dagcbor.specs.Whole.{IsBlock, SliceRefused}
-use Rattle.serde_ipld_dagcbor.specs.AllLinks.{AreFirstLinks, LinksRefused}
-use Rattle.serde_ipld_dagcbor.specs.DecodeError.{DecodeError}
-use Rattle.serde_ipld_dagcbor.specs.DecodeError.TheVariants as refusals
+use Rattle.ipld_tree.specs.Tree.{Tree}
+use Rattle.dagcbor_items.specs.TreeKinds.{kind_of}
+use Rattle.dagcbor_items.specs.declared.kind.Kind.{Kind}
+use Rattle.dagcbor_items.specs.declared.kind.Kind.TheVariants as kinds
+use Rattle.dagcbor_items.specs.Slices.{IsBlock, SliceRefused}
+use Rattle.dagcbor_items.specs.Slices.{AreFirstLinks, LinksRefused}
+use Rattle.dagcbor_heads.specs.declared.error.DecodeError.{DecodeError}
+use Rattle.dagcbor_heads.specs.declared.error.DecodeError.TheVariants as refusals
 
 -- the name of a kind
 abbrev pub kind_name : Kind → List ℕ

@@ -4,13 +4,15 @@ ghost use Rattle.std.specs.Prelude.{◌≡◌, ◌≢◌, ◌++◌, ◌∷◌, [
 ghost use Rattle.std.specs.Prelude.{IfOk, IfErr, IsTrue, MatchResult, false};
 ghost use Rattle.std.specs.Io.{StartsWith};
 ghost use Rattle.hex.specs.Hex.{decode_of, encode_lower};
-ghost use Rattle.serde_ipld_dagcbor.specs.Cid.{cid_bytes};
+ghost use Rattle.ipld_tree.specs.Cid.{cid_bytes};
 ghost use Rattle.dagcbor_tool.specs.Answers.{kind_name, variant_name, links_text, IsVerdict};
 ghost use Rattle.dagcbor_tool.specs.Answers.{IsLinkLine, IsSaid, IsAnswer, AppendsLine};
 
 use crate::command::Command;
 use crate::line::ToolError;
-use serde_ipld_dagcbor::{Cid, DecodeError, Kind, check_slice, links_from_slice};
+use dagcbor_heads::DecodeError;
+use dagcbor_items::{Kind, check_slice, links_from_slice};
+use ipld_tree::Cid;
 use std::alloc::{AllocError, Global};
 use std::convert::Infallible;
 

@@ -12,10 +12,10 @@ use Rattle.ipld_tree.specs.Tree.{Tree, links_of}
 use Rattle.ipld_tree.specs.Spelling.{IsSpelling}
 use Rattle.ipld_tree.specs.declared.cid_iter.CidIter.{CidIter}
 use Rattle.ipld_tree.proofs.Fronts.{front_unique}
-use Rattle.dagcbor_read.proofs.Wholes.{whole_front}
+use Rattle.dagcbor_items.proofs.SliceReads.{whole_front}
 use Rattle.dagcbor_write.specs.Answers.{HasNoSpelling, GrewByFront, IsWriteExcuse}
 use Rattle.dagcbor_read.specs.Whole.{HoldsNoValue, IsReadExcuse, OfWhole}
-use Rattle.dagcbor_read.specs.AllLinks.{AreFirstLinks, LinksRefused}
+use Rattle.dagcbor_items.specs.Slices.{AreFirstLinks, LinksRefused}
 use Rattle.serde_ipld_dagcbor.specs.declared.error.CodecError.{CodecError}
 use Rattle.serde_ipld_dagcbor.specs.declared.error.CodecError.TheVariants.{Decode, Encode}
 use Rattle.serde_ipld_dagcbor.specs.declared.error.CodecError.TheVariants.{DecodeIo, EncodeIo}

@@ -38,10 +38,10 @@ pub use Rattle.dagcbor_read.specs.Collections
 pub use Rattle.dagcbor_read.specs.Accessors
 pub use Rattle.dagcbor_read.specs.Structs
 pub use Rattle.dagcbor_read.specs.Enums
-pub use Rattle.dagcbor_read.specs.TreeKinds
-pub use Rattle.dagcbor_read.specs.declared.kind.Kind
+pub use Rattle.dagcbor_items.specs.TreeKinds
+pub use Rattle.dagcbor_items.specs.declared.kind.Kind
 pub use Rattle.dagcbor_read.specs.Whole
-pub use Rattle.dagcbor_read.specs.AllLinks
+pub use Rattle.dagcbor_items.specs.Slices
 pub use Rattle.dagcbor_read.specs.Streams
 pub use Rattle.dagcbor_read.specs.EnumViews
 pub use Rattle.dagcbor_heads.specs.declared.error.DecodeError

@@ -4,7 +4,7 @@ ghost use Rattle.std.specs.Prelude.{Some};
 ghost use Rattle.ipld_tree.specs.Codecs.{Decodes, Encodes, EncodesAsVec, FindsLinks};
 ghost use Rattle.ipld_tree.specs.Tree.{Tree};
 ghost use Rattle.ipld_tree.specs.Spelling.{IsSpelling};
-ghost use Rattle.dagcbor_read.specs.AllLinks.{AreFirstLinks};
+ghost use Rattle.dagcbor_items.specs.Slices.{AreFirstLinks};
 ghost use Rattle.serde_ipld_dagcbor.specs.Codec.{IsReadAs, IsExcuse, DecodeRefused, EncodeRefused};
 ghost use Rattle.serde_ipld_dagcbor.specs.Codec.{EncodeToVecRefused, LinksNotFound};
 ghost use Rattle.serde_ipld_dagcbor.specs.Codec.{spellings_are_unique, trees_have_one_spelling};
@@ -12,7 +12,8 @@ ghost use Rattle.serde_ipld_dagcbor.specs.Codec.{bytes_have_one_list};
 
 use crate::DAG_CBOR_CODE;
 use crate::error::CodecError;
-use dagcbor_read::{DeserializeOwned, from_reader, links_from_slice};
+use dagcbor_items::links_from_slice;
+use dagcbor_read::{DeserializeOwned, from_reader};
 use dagcbor_write::{Serialize, to_vec, to_writer};
 use ipld_tree::{CidIter, Codec, Links};
 use std::alloc::Global;

@@ -1,6 +1,6 @@
 use Rattle.std.proofs.Common.{◌≡◌, ◌++◌, map, take}
 use Rattle.hex.specs.Hex.{encode_lower}
-use Rattle.serde_ipld_dagcbor.specs.Cid.{cid_bytes}
+use Rattle.ipld_tree.specs.Cid.{cid_bytes}
 use Rattle.dagcbor_tool.specs.Answers.{behind_spaces}
 use Rattle.dagcbor_tool.proofs.answer.push_links.Given as goal
 

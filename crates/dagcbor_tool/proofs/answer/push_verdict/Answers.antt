@@ -1,5 +1,5 @@
 use Rattle.std.proofs.Common.{◌++◌, ◌∷◌, [], ℕ, List, codes, refl, ap, ◌∙◌, inl, inr}
-use Rattle.serde_ipld_dagcbor.specs.TreeKinds.{kind_of}
+use Rattle.dagcbor_items.specs.TreeKinds.{kind_of}
 use Rattle.dagcbor_tool.specs.Answers.{kind_name, IsVerdict}
 use Rattle.dagcbor_tool.proofs.Refusals.{refused_said}
 use Rattle.dagcbor_tool.proofs.answer.push_verdict.Goals as goal

@@ -12,8 +12,9 @@ pub returns : goal.returns
 returns g c =
     let w = given_row (g.F.FieldRow.pairs c.args.fields) _ _ (ap (λ held. held.entries) c.serialize_map-map.ensures.nothing) c.in_ok-push_fields.ensures.entries in
     record {
-        written = end_map _ w (search rules) _ _ _ _ _ c.end.ensures.written (search rules) (search rules);
-        well_formed = c.end.ensures.well_formed _ (all_given w);
-        unsent = still_unsent {u = c.end.new.self.0} {v = (map_lent c.push_fields.new.map).now}
-            (λ m. m ≡ codes "Map keys must be unique") (RepeatsKey (g.F.FieldRow.pairs c.args.fields)) _
-            (c.end.ensures.message _ (all_given w)) (search rules) (search rules) }
+      written = end_map _ w (search rules) _ _ _ _ _ c.end.ensures.written (search rules) (search rules);
+      well_formed = c.end.ensures.well_formed _ (all_given w);
+      unsent = still_unsent {u = c.end.new.self.0} {v = (map_lent c.push_fields.new.map).now}
+          (λ m. m ≡ codes "Map keys must be unique") (RepeatsKey (g.F.FieldRow.pairs c.args.fields)) _
+          (c.end.ensures.message _ (all_given w)) (search rules) (search rules);
+    }

@@ -1,7 +1,6 @@
 use Rattle.std.proofs.Common.{[], arith}
-use Rattle.dagcbor_read.proofs.Wholes.{whole_front}
-use Rattle.dagcbor_read.proofs.Checks.{judged_whole, judged_trailing}
-use Rattle.dagcbor_read.proofs.whole.check_slice.Goals as goal
+use Rattle.dagcbor_items.proofs.SliceReads.{whole_front, judged_whole, judged_trailing}
+use Rattle.dagcbor_items.proofs.slices.check_slice.Goals as goal
 
 pub returns-in-Some-empty : goal.returns-in-Some-empty
 returns-in-Some-empty c =

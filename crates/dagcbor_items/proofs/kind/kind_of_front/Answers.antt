@@ -1,9 +1,9 @@
 use Rattle.std.proofs.Common.{◌≡◌}
 use Rattle.std.specs.Prelude.{Some, None}
 use Rattle.std.specs.List.{slice_get}
-use Rattle.dagcbor_read.specs.declared.kind.Kind.TheVariants.{Null}
-use Rattle.dagcbor_read.proofs.Checks.{front_kind}
-use Rattle.dagcbor_read.proofs.kind.kind_of_front.Goals as goal
+use Rattle.dagcbor_items.specs.declared.kind.Kind.TheVariants.{Null}
+use Rattle.dagcbor_items.proofs.KindBytes.{front_kind}
+use Rattle.dagcbor_items.proofs.kind.kind_of_front.Goals as goal
 
 pub returns-in-Some : goal.returns-in-Some
 returns-in-Some c =

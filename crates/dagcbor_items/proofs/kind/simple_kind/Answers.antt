@@ -1,6 +1,6 @@
 use Rattle.std.proofs.Common.{arith}
-use Rattle.dagcbor_read.proofs.Checks.{null_kind, bool_kind}
-use Rattle.dagcbor_read.proofs.kind.simple_kind.Goals as goal
+use Rattle.dagcbor_items.proofs.KindBytes.{null_kind, bool_kind}
+use Rattle.dagcbor_items.proofs.kind.simple_kind.Goals as goal
 
 pub returns-then-byte-eq246 : goal.returns-then-byte-eq246
 returns-then-byte-eq246 c t more rest f = null_kind c.args.byte t more rest (omega (arith, c.if-byte-eq246.true)) c.requires f

@@ -2,8 +2,8 @@
 use Rattle.std.specs.Prelude.{◌≡◌, ℕ, List, ◌∷◌}
 use Rattle.ipld_tree.specs.Tree.{Tree, null, boolean, integer, text, bytes, list, mapping, link}
 use Rattle.ipld_tree.specs.Spelling.{IsFront}
-use Rattle.dagcbor_read.specs.declared.kind.Kind.{Kind}
-use Rattle.dagcbor_read.specs.declared.kind.Kind.TheVariants as kinds
+use Rattle.dagcbor_items.specs.declared.kind.Kind.{Kind}
+use Rattle.dagcbor_items.specs.declared.kind.Kind.TheVariants as kinds
 
 abbrev pub kind_of : Tree → Kind
 kind_of null = kinds.Null

@@ -1,8 +1,8 @@
 use Rattle.std.proofs.Common.{ap, ◌≤◌, arith}
 use Rattle.dagcbor_heads.proofs.Refusing.{refused}
 use Rattle.ipld_tree.specs.Tree.{any_need}
-use Rattle.dagcbor_read.proofs.AllLinks.{walk_refused}
-use Rattle.dagcbor_read.proofs.all_links.walk_slice.Goals as goal
+use Rattle.dagcbor_items.proofs.SliceReads.{walk_refused}
+use Rattle.dagcbor_items.proofs.slices.walk_slice.Goals as goal
 
 pub returns-in_err-walk_any : goal.returns-in_err-walk_any
 returns-in_err-walk_any g c =

@@ -1,8 +1,8 @@
 use Rattle.std.proofs.Common.{sym, ap, arith}
 use Rattle.ipld_tree.proofs.Fronts.{is_bytes, is_text, is_list, is_mapping, is_link}
-use Rattle.dagcbor_read.specs.TreeKinds.{kind_of}
-use Rattle.dagcbor_read.proofs.Checks.{major_at_first, integer_kind}
-use Rattle.dagcbor_read.proofs.kind.kind_at.Goals as goal
+use Rattle.dagcbor_items.specs.TreeKinds.{kind_of}
+use Rattle.dagcbor_items.proofs.KindBytes.{major_at_first, integer_kind}
+use Rattle.dagcbor_items.proofs.kind.kind_at.Goals as goal
 
 pub returns-in-0 : goal.returns-in-0
 returns-in-0 c t more rest f = integer_kind t (omega (arith, major_at_first c.args.first t more rest 0 (omega (arith, c.in-0.is)) f))

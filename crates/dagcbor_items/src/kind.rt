@@ -1,7 +1,7 @@
 //! The kinds of data.
 
 ghost use Rattle.std.specs.Prelude.{◌≤◌, ◌/◌};
-ghost use Rattle.dagcbor_read.specs.TreeKinds.{IsKindAt, IsKindOfFront};
+ghost use Rattle.dagcbor_items.specs.TreeKinds.{IsKindAt, IsKindOfFront};
 
 /// The kinds of data, as of an `Ipld`.
 #[derive(Clone, Copy, Debug, PartialEq, Eq)]

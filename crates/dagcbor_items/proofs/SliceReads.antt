@@ -1,0 +1,139 @@
+-- Slices that are read as one item, or whose first item is.
+use Rattle.std.proofs.Common.{◌≡◌, ◌≢◌, ◌++◌, append-nil, inl, inr, ℕ, ◌+◌, ◌<◌, ◌≤◌, Bool, true, false, List, [], ◌∷◌, length, refl, sym, ap, ◌∙◌, subst, arith}
+use Rattle.std.specs.Prelude.{Option, Some, Result, Ok, Err, Vec, ⊤}
+use Rattle.std.specs.declared.alloc.Global.{Global}
+use Rattle.std.specs.declared.convert.Infallible.{Infallible}
+use Rattle.dagcbor_heads.specs.Reading.{Reading}
+use Rattle.dagcbor_heads.specs.Fronts.{FindsEnd, ShowsByte}
+use Rattle.dagcbor_heads.specs.Causes.{HeadCause}
+use Rattle.dagcbor_heads.specs.Refusals.{Refuses}
+use Rattle.dagcbor_heads.specs.declared.error.DecodeError.{DecodeError}
+use Rattle.dagcbor_heads.specs.declared.error.DecodeError.TheVariants.{Read, RequireBorrowed, OutOfMemory, Failed, TrailingData, DepthOverflow}
+use Rattle.ipld_tree.specs.Cid.{CidParts}
+use Rattle.ipld_tree.specs.Tree.{Tree}
+use Rattle.ipld_tree.specs.Spelling.{spelling, IsFront, IsSpelling}
+use Rattle.ipld_tree.proofs.Fronts.{front_unique}
+use Rattle.dagcbor_items.specs.ItemCauses.{KeyCause, CauseInside}
+use Rattle.dagcbor_items.specs.LinkCauses.{LinkCause}
+use Rattle.dagcbor_items.specs.Untyped.{HasItem, TakesItem}
+use Rattle.dagcbor_items.specs.Walks.{WalkLacks, GathersLinks}
+use Rattle.dagcbor_items.specs.Judging.{SplitsItem}
+use Rattle.dagcbor_items.specs.Slices.{IsBlock, SliceRefused, PullsEnd, AreFirstLinks, LinksRefused, ReadsFirstLinks}
+use Rattle.dagcbor_items.proofs.Places.{at_steps}
+use Rattle.dagcbor_items.proofs.Walking.{more_lacks}
+
+-- ---- the whole slice
+
+pub whole_front : {b : List ℕ} {t : Tree} → IsSpelling b t → IsFront b t []
+whole_front {b} {t} h = record { well_formed = h.well_formed; spellable = h.spellable; is = h.is ∙ sym (append-nil (spelling t)) }
+
+block_item : (r : Reading) (b : List ℕ) (t : Tree) → r.left ≡ Some b → r.steps ≡ 256 → IsBlock b t → HasItem 0 r
+block_item r b t l s h = record { bytes = b; tree = t; rest = []; left = l; front = whole_front h.0; within = omega (arith, h.1, s) }
+
+-- with bytes behind its item the whole is no block
+pub no_block : (b rest : List ℕ) (t : Tree) → IsFront b t rest → 0 < length rest → (u : Tree) → IsBlock b u → ⊥
+no_block b rest t f some u h = omega (arith, some, ap length (front_unique b rest [] t u f (whole_front h.0)).1)
+
+pub trailing : {old mid new : Reading} (b : List ℕ) (t : Tree) (byte : ℕ) → old.left ≡ Some b → TakesItem 0 old t mid → ShowsByte mid byte new → SliceRefused TrailingData b
+trailing b t byte l a h =
+    let k = a.taken b l in
+    let s = h.starts k.0 k.3 in
+    let some : 0 < length k.0 = omega (arith, ap length s.1) in
+    (no_block b k.0 t k.1 some, (t, k.0, k.1, some))
+
+-- the cause of trailing data stands in no item
+no_trailing : (E : Type 0) (b : List ℕ) → CauseInside {E = E} 256 TrailingData b → ⊥
+no_trailing E b h = elim h.5 [
+  | inl x ↦ x
+  | inr y ↦ elim y [
+    | inl x ↦ elim x.1 [ inl v ↦ by h.2 v | inr z ↦ elim z [ inl v ↦ v | inr w ↦ by_link h.2 w.1 ] ]
+    | inr x ↦ by_key x.1.0 x.1.1 x.1.3
+  ]
+]
+  where
+    by : (c : List ℕ) → HeadCause {E = E} TrailingData c → ⊥
+    by c x = x
+
+    by_link : (c : List ℕ) → LinkCause {E = E} TrailingData c → ⊥
+    by_link c h = elim h [ inl x ↦ x | inr w ↦ elim w [ inl x ↦ x.2 | inr x ↦ elim x.2 [ inl v ↦ by x.0 v.0 | inr v ↦ v ] ] ]
+
+    by_key : (before : Option (List ℕ)) (c : List ℕ) → KeyCause {E = E} before TrailingData c → ⊥
+    by_key before c h = elim h [
+      | inl t ↦ elim t [ inl s ↦ elim s [ inl k ↦ elim k [ inl x ↦ by c x.0 | inr x ↦ x ] | inr x ↦ x ] | inr x ↦ x ]
+      | inr u ↦ absurd (cc u.0)
+    ]
+
+pub slice_refused : (e : DecodeError Infallible) (old new : Reading) (b : List ℕ) → old.left ≡ Some b → old.steps ≡ 256 → Refuses (HasItem 0 old) ⊤ ⊥ (CauseInside (old.steps + 0)) old e new → SliceRefused e b
+slice_refused (Read x) old new b l s r = elim x [ ]
+slice_refused OutOfMemory old new b l s r = tt
+slice_refused (RequireBorrowed n) old new b l s r = absurd r.1
+slice_refused Failed old new b l s r = r
+slice_refused TrailingData old new b l s r = absurd (no_trailing Infallible b (at_steps {E = Infallible} TrailingData b _ 256 (omega (arith, s)) (r.2 b l)))
+slice_refused (DepthOverflow n) old new b l s r = (λ t h. r.1 (block_item old b t l s h), at_steps {E = Infallible} (DepthOverflow n) b _ 256 (omega (arith, s)) (r.2 b l))
+slice_refused e old new b l s r = (λ t h. r.1 (block_item old b t l s h), at_steps {E = Infallible} e b _ 256 (omega (arith, s)) (r.2 b l))
+
+pub checked_refused : (b : List ℕ) (start new : Reading) (e : DecodeError Infallible) → start.left ≡ Some b → start.steps ≡ 256 → start.lends ≡ true
+    → Refuses (HasItem 0 start) (WalkLacks false start) ⊥ (CauseInside (start.steps + 0)) start e new → SliceRefused e b × (e ≢ OutOfMemory)
+checked_refused b start new e l s lends r = (
+  slice_refused e start new b l s (more_lacks ⊤ 0 start new e (λ x. tt) r),
+  λ same. enough (subst (λ x. Refuses (HasItem 0 start) (WalkLacks false start) ⊥ (CauseInside (start.steps + 0)) start x new) same r).1,
+)
+  where
+    enough : WalkLacks false start → ⊥
+    enough (inl x) = let differ = sym lends ∙ x in cc
+    enough (inr x) = absurd (cc x)
+
+pub block_taken : (b : List ℕ) (start mid end : Reading) (t : Tree) → start.left ≡ Some b → start.steps ≡ 256 → TakesItem 0 start t mid → FindsEnd mid end → IsBlock b t
+block_taken b start mid end t l s a f =
+    let k = a.taken b l in
+    let none = f.none_left k.0 k.3 in
+    (record { well_formed = k.1.well_formed; spellable = k.1.spellable; is = k.1.is ∙ ap (λ x. spelling t ++ x) none ∙ append-nil (spelling t) }, omega (arith, k.2, s))
+
+-- an item was read, and then no end was found
+pub end_refused : (b : List ℕ) (start mid end : Reading) (t : Tree) (e : DecodeError Infallible) → start.left ≡ Some b → TakesItem 0 start t mid → PullsEnd mid (Err e) end → SliceRefused e b × (e ≢ OutOfMemory)
+end_refused b start mid end t TrailingData l a h = (trailing b t h.0 l a h.1, λ same. absurd (cc same))
+end_refused b start mid end t (Read x) l a h = elim x [ ]
+end_refused b start mid end t _ l a h = absurd h
+
+-- an item whose rest has no byte is the whole
+pub judged_whole : (b rest : List ℕ) → length rest ≡ 0 → (k : SplitsItem b 256 rest) → IsBlock b k.0
+judged_whole b rest none k = (record { well_formed = k.1.well_formed; spellable = k.1.spellable; is = k.1.is ∙ ap (λ x. spelling k.0 ++ x) (empty rest none) ∙ append-nil (spelling k.0) }, k.2)
+  where
+    empty : (x : List ℕ) → length x ≡ 0 → x ≡ []
+    empty [] e = refl
+    empty (y ∷ ys) e = absurd (omega (arith, e))
+
+-- an item with bytes behind it is not the whole
+pub judged_trailing : (b rest : List ℕ) → 0 < length rest → SplitsItem b 256 rest
+    → SliceRefused TrailingData b × (◌≢◌ {A = DecodeError Infallible} TrailingData OutOfMemory)
+judged_trailing b rest some k = ((no_block b rest k.0 k.1 some, (k.0, rest, k.1, some)), λ same. absurd (cc same))
+
+-- ---- its first item
+
+first_item : (r : Reading) (b : List ℕ) (links : List (List ℕ)) → r.left ≡ Some b → r.steps ≡ 256 → AreFirstLinks b links → HasItem 0 r
+first_item r b links l s h = record { bytes = b; tree = h.0; rest = h.1; left = l; front = h.2; within = omega (arith, h.3, s) }
+
+item_refused : (lacks : Type 0) (e : DecodeError Infallible) (old new : Reading) (b : List ℕ) → old.left ≡ Some b → old.steps ≡ 256 → Refuses (HasItem 0 old) lacks ⊥ (CauseInside (old.steps + 0)) old e new → LinksRefused e b
+item_refused lacks (Read x) old new b l s r = elim x [ ]
+item_refused lacks OutOfMemory old new b l s r = tt
+item_refused lacks (RequireBorrowed n) old new b l s r = absurd r.1
+item_refused lacks Failed old new b l s r = r
+item_refused lacks (DepthOverflow n) old new b l s r = (λ links h. r.1 (first_item old b links l s h), at_steps {E = Infallible} (DepthOverflow n) b _ 256 (omega (arith, s)) (r.2 b l))
+item_refused lacks e old new b l s r = (λ links h. r.1 (first_item old b links l s h), at_steps {E = Infallible} e b _ 256 (omega (arith, s)) (r.2 b l))
+
+pub first_links_read : (b : List ℕ) (start new : Reading) (r : Result (Vec CidParts Global) (DecodeError Infallible)) → start.left ≡ Some b → start.steps ≡ 256 → GathersLinks 0 start r new → ReadsFirstLinks b r
+first_links_read b start new (Ok v) l s h =
+    let taken = h.1.taken b l in
+    (h.0, taken.0, taken.1, omega (arith, taken.2, s), h.2)
+first_links_read b start new (Err e) l s h = item_refused ⊤ e start new b l s h
+
+pub walk_refused : (takes_memory : Bool) (b : List ℕ) (old new : Reading) (e : DecodeError Infallible) → old.left ≡ Some b → old.steps ≡ 256 → old.lends ≡ true
+    → Refuses (HasItem 0 old) (WalkLacks takes_memory old) ⊥ (CauseInside (old.steps + 0)) old e new → LinksRefused e b × (e ≡ OutOfMemory → takes_memory ≡ true)
+walk_refused takes_memory b old new e l s lends r = (
+  item_refused (WalkLacks takes_memory old) e old new b l s r,
+  λ same. wanting (subst (λ x. Refuses (HasItem 0 old) (WalkLacks takes_memory old) ⊥ (CauseInside (old.steps + 0)) old x new) same r).1,
+)
+  where
+    wanting : WalkLacks takes_memory old → takes_memory ≡ true
+    wanting (inl x) = let differ = sym lends ∙ x in cc
+    wanting (inr x) = x

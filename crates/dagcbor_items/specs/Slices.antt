@@ -1,0 +1,88 @@
+-- Reading a slice as one item of any kind: its tree, its kind or its links.
+use Rattle.std.specs.Prelude.{◌≡◌, ◌≢◌, ℕ, ◌<◌, ◌≤◌, Bool, true, List, length, Vec, ⊤}
+use Rattle.std.specs.Prelude.{Result, Ok, Err, MatchResult}
+use Rattle.std.specs.declared.alloc.Global.{Global}
+use Rattle.std.specs.declared.convert.Infallible.{Infallible}
+use Rattle.dagcbor_heads.specs.Reading.{Reading, default_steps}
+use Rattle.dagcbor_heads.specs.Fronts.{FindsEnd, ShowsByte}
+use Rattle.dagcbor_heads.specs.declared.error.DecodeError.{DecodeError}
+use Rattle.dagcbor_heads.specs.declared.error.DecodeError.TheVariants.{Read, RequireBorrowed}
+use Rattle.dagcbor_heads.specs.declared.error.DecodeError.TheVariants.{OutOfMemory, Failed}
+use Rattle.dagcbor_heads.specs.declared.error.DecodeError.TheVariants.{TrailingData}
+use Rattle.ipld_tree.specs.Cid.{CidParts}
+use Rattle.ipld_tree.specs.Tree.{Tree, any_need, links_of}
+use Rattle.ipld_tree.specs.Spelling.{IsFront, IsSpelling}
+use Rattle.ipld_tree.specs.Ipld.{tree_of}
+use Rattle.ipld_tree.specs.declared.ipld.Ipld.{Ipld}
+use Rattle.dagcbor_items.specs.ItemCauses.{CauseInside}
+use Rattle.dagcbor_items.specs.TreeKinds.{kind_of}
+use Rattle.dagcbor_items.specs.Walks.{forms, Finds}
+use Rattle.dagcbor_items.specs.declared.kind.Kind.{Kind}
+
+-- ---- the whole slice
+
+-- the bytes are the spelling of a tree that is read within `default_steps`
+abbrev pub IsBlock : List ℕ → Tree → Type 0
+IsBlock b t = IsSpelling b t × (any_need t ≤ default_steps)
+
+-- the cause of a refusal of the whole: an item stands there with bytes behind it, or the item's own
+-- cause stands
+abbrev pub CauseInWhole : {E : Type 0} → DecodeError E → List ℕ → Type 0
+CauseInWhole TrailingData b = (t : Tree) × (rest : List ℕ) × IsFront b t rest × (0 < length rest)
+CauseInWhole e b = CauseInside default_steps e b
+
+-- why a slice is refused: for want of memory, or since it is no block; a slice does not fault
+abbrev pub SliceRefused : DecodeError Infallible → List ℕ → Type 0
+SliceRefused (Read e) b = ⊥
+SliceRefused OutOfMemory b = ⊤
+SliceRefused (RequireBorrowed name) b = ⊥
+SliceRefused Failed b = ⊥
+SliceRefused e b = ((t : Tree) → ¬ IsBlock b t) × CauseInWhole e b
+
+-- A slice is read exactly where it is a block.
+abbrev pub ReadsSlice : List ℕ → Result Ipld (DecodeError Infallible) → Type 0
+ReadsSlice b result = MatchResult result (λ v. IsBlock b (tree_of v)) (λ e. SliceRefused e b)
+
+-- A slice is found to be a block, and of which kind, exactly where it is one, with no want of
+-- memory.
+abbrev pub ChecksSlice : List ℕ → Result Kind (DecodeError Infallible) → Type 0
+ChecksSlice b result = MatchResult result
+    (λ kind. (t : Tree) × IsBlock b t × (kind ≡ kind_of t))
+    (λ e. SliceRefused e b × (e ≢ OutOfMemory))
+
+-- the end of the input was found; or bytes are left, which stay; or the reader faulted
+abbrev pub PullsEnd : {E : Type 0} → Reading → Result (Unit {0}) (DecodeError E) → Reading → Type 0
+PullsEnd old (Ok u) new = FindsEnd old new
+PullsEnd old (Err TrailingData) new = (byte : ℕ) × ShowsByte old byte new
+PullsEnd old (Err (Read e)) new = old.faults < new.faults
+PullsEnd old (Err _) new = ⊥
+
+-- ---- its first item
+
+-- the bytes begin with a tree that is read within `default_steps`, and these are its links
+abbrev pub AreFirstLinks : List ℕ → List (List ℕ) → Type 0
+AreFirstLinks b links = (t : Tree) × (rest : List ℕ) × IsFront b t rest
+    × (any_need t ≤ default_steps) × (links ≡ links_of t)
+
+-- why no links are read: for want of memory, or since no item stands first that is read within
+-- `default_steps`; a slice does not fault
+abbrev pub LinksRefused : DecodeError Infallible → List ℕ → Type 0
+LinksRefused (Read e) b = ⊥
+LinksRefused OutOfMemory b = ⊤
+LinksRefused (RequireBorrowed name) b = ⊥
+LinksRefused Failed b = ⊥
+LinksRefused e b = ((links : List (List ℕ)) → AreFirstLinks b links → ⊥)
+    × CauseInside default_steps e b
+
+-- The links of the first item of a slice are read exactly where one stands that is read within
+-- `default_steps`. What follows it is not looked at.
+abbrev pub ReadsFirstLinks : List ℕ → Result (Vec CidParts Global) (DecodeError Infallible) → Type 0
+ReadsFirstLinks b result = MatchResult result (λ v. AreFirstLinks b (forms v.items)) (λ e. LinksRefused e b)
+
+-- The first item of a slice is gone through exactly where one stands that is read within
+-- `default_steps`, and its links are handed to the sink, which alone may want memory.
+abbrev pub WalksFirst : {S : Type 0} → (S → List (List ℕ) → Type 0) → Bool → List ℕ → S
+    → Result Kind (DecodeError Infallible) → S → Type 0
+WalksFirst holds takes_memory b before result after = MatchResult result
+    (λ kind. (t : Tree) × (rest : List ℕ) × IsFront b t rest × (any_need t ≤ default_steps) × (kind ≡ kind_of t) × Finds holds before (links_of t) after)
+    (λ e. LinksRefused e b × (e ≡ OutOfMemory → takes_memory ≡ true))

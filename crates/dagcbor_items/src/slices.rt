@@ -1,0 +1,104 @@
+//! Reading a slice as one item of any kind: its tree, its kind or its links.
+
+ghost use Rattle.std.specs.Prelude.{◌≡◌, Some, [], true};
+ghost use Rattle.dagcbor_heads.specs.Reading.{default_steps, fresh_reading};
+ghost use Rattle.dagcbor_heads.specs.Inputs.{input_reading};
+ghost use Rattle.dagcbor_items.specs.Slices.{ReadsSlice, ChecksSlice, ReadsFirstLinks, WalksFirst};
+ghost use Rattle.dagcbor_items.specs.Slices.{PullsEnd};
+
+use crate::any::read_any;
+use crate::judge::behind_item;
+use crate::kind::{Kind, kind_of_front};
+use crate::sink::{LinkSink, NoLinks};
+use crate::walk::{gather_links, walk_any};
+use dagcbor_heads::{DEFAULT_STEPS, DecodeError, Input, Read, SliceReader, is_at_end};
+use ipld_tree::{Cid, Ipld};
+use std::alloc::Global;
+use std::convert::Infallible;
+
+/// The data whose spelling the bytes are, as `from_slice` answers it. Its contract also names the
+/// cause of a refusal.
+///
+/// ```rust
+/// let place = r#"Err(NonMinimal { name: "u64", found: 24 })"#;
+/// is_told(alloc, &any_from_slice(alloc, b"\x81\x18\x17"), place)
+/// ```
+pub fn any_from_slice(alloc: Global, bytes: &[u8]) -> Result<Ipld, DecodeError<Infallible>>
+    ensures { ReadsSlice bytes.now result }
+{
+    let mut input = lent(bytes);
+    let value = read_any(alloc, &mut input)?;
+    pull_end(&mut input)?;
+    Ok(value)
+}
+
+/// The kind of the data whose spelling the bytes are. What `any_from_slice` refuses is refused, but
+/// nothing is built, and no memory taken.
+///
+/// ```rust
+/// agree(check_slice(b"\x82\x39\x01\x2b\x61a")?, Kind::List)?;
+/// is_told(alloc, &check_slice(b"\x01\x02"), "Err(TrailingData)")?;
+/// ```
+pub fn check_slice(bytes: &[u8]) -> Result<Kind, DecodeError<Infallible>>
+    ensures { ChecksSlice bytes.now result }
+{
+    match behind_item(bytes, DEFAULT_STEPS) {
+        Some([]) => Ok(kind_of_front(bytes)),
+        Some(_) => Err(DecodeError::TrailingData),
+        None => check_slowly(bytes),
+    }
+}
+
+/// The same by the walk that names the cause of a refusal.
+#[cold]
+#[inline(never)]
+fn check_slowly(bytes: &[u8]) -> Result<Kind, DecodeError<Infallible>>
+    ensures { ChecksSlice bytes.now result }
+{
+    let mut reader = SliceReader::new(bytes);
+    walk_any((), &mut reader, &mut NoLinks)?;
+    pull_end(&mut reader)?;
+    Ok(kind_of_front(bytes))
+}
+
+/// The links of the first item of the bytes. What follows it is not looked at.
+///
+/// ```rust
+/// let links = links_from_slice(alloc, link)?;
+/// let Some(first) = links.first() else {
+///     return Err(Fail::new("no link"));
+/// };
+/// agree(first.to_bytes(alloc)?.as_slice(), &link[5..])
+/// ```
+pub fn links_from_slice(alloc: Global, bytes: &[u8]) -> Result<Vec<Cid>, DecodeError<Infallible>>
+    ensures { ReadsFirstLinks bytes.now result }
+{
+    gather_links(alloc, &mut lent(bytes))
+}
+
+/// The kind of the first item of the bytes, whose links are handed on. What follows it is not
+/// looked at, and no memory is taken but by the sink.
+pub fn walk_slice<S: LinkSink>(bytes: &[u8], links: &mut S) -> Result<Kind, DecodeError<Infallible>>
+    ensures { WalksFirst S.holds S.takes_memory bytes.now links.old result links.new }
+{
+    walk_any((), &mut SliceReader::new(bytes), links)?;
+    Ok(kind_of_front(bytes))
+}
+
+/// The bytes as an input, which lends them, with a budget of `DEFAULT_STEPS`.
+fn lent<'de>(bytes: &'de [u8]) -> Input<'de, SliceReader<'de>>
+    ensures { input_reading (λ r. r) result ≡ fresh_reading (Some bytes.now) default_steps true [] }
+{
+    Input::Slice(SliceReader::new(bytes))
+}
+
+/// Takes nothing: `TrailingData` where a byte is left.
+fn pull_end<R: Read>(reader: &mut R) -> Result<(), DecodeError<R::Error>>
+    ensures { PullsEnd (R.reading reader.old) result (R.reading reader.new) }
+{
+    if is_at_end(reader)? {
+        Ok(())
+    } else {
+        Err(DecodeError::TrailingData)
+    }
+}

@@ -3,7 +3,7 @@
 ghost use Rattle.std.specs.Prelude.{map};
 ghost use Rattle.ipld_tree.specs.Tree.{list_tree};
 
-use serde_ipld_dagcbor::{EncodeError, Serialize, Serializer, Write};
+use serde_ipld_dagcbor::{Serialize, Serializer, Write, WriteResult};
 use std::alloc::Global;
 
 #[derive(Drop)]
@@ -14,11 +14,7 @@ pub struct Bag<T> {
 impl<T: Serialize> Serialize for Bag<T> {
     ghost tree = { λ bag. list_tree (map T.tree bag.items.items) };
 
-    fn serialize<W: Write>(
-        &self,
-        alloc: Global,
-        ser: &mut Serializer<W>,
-    ) -> Result<(), EncodeError<W::Error>> {
+    fn serialize<W: Write>(&self, alloc: Global, ser: &mut Serializer<W>) -> WriteResult<(), W> {
         let mut list = ser.serialize_seq(alloc, None)?;
         for item in &self.items {
             list.serialize_element(item)?;

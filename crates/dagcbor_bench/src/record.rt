@@ -7,8 +7,8 @@ ghost use Rattle.dagcbor_write.specs.Trees.{field};
 ghost use Rattle.dagcbor_bench.specs.Record.{RecordView, record_shape};
 
 use serde_ipld_dagcbor::{
-    Cid, DecodeError, Deserialize, DeserializeOwned, Deserializer, EncodeError, Field, Read,
-    Required, Serialize, Serializer, Shown, Write, read_struct, write_struct,
+    Cid, Deserialize, DeserializeOwned, Deserializer, Field, Read, ReadResult, Required, Serialize,
+    Serializer, Shown, Write, WriteResult, read_struct, write_struct,
 };
 use std::alloc::Global;
 
@@ -26,11 +26,7 @@ impl Serialize for Record {
         ∷ field (codes "seq") (Some (integer (pos r.seq)))
         ∷ field (codes "tags") (list_tree (map (λ tag. Some (integer (pos tag))) r.tags.items)) ∷ []) };
 
-    fn serialize<W: Write>(
-        &self,
-        alloc: Global,
-        ser: &mut Serializer<W>,
-    ) -> Result<(), EncodeError<W::Error>> {
+    fn serialize<W: Write>(&self, alloc: Global, ser: &mut Serializer<W>) -> WriteResult<(), W> {
         let fields = (
             Field("link", &self.link),
             (
@@ -51,10 +47,7 @@ impl Shown for Record {
 }
 
 impl<'de> Deserialize<'de> for Record {
-    fn deserialize<R: Read>(
-        alloc: Global,
-        de: &mut Deserializer<'de, R>,
-    ) -> Result<Record, DecodeError<R::Error>> {
+    fn deserialize<R: Read>(alloc: Global, de: &mut Deserializer<'de, R>) -> ReadResult<Self, R> {
         let names = &["link", "name", "seq", "tags"];
         let (Required(link), (Required(name), (Required(seq), (Required(tags), ())))) = read_struct(
             alloc, "Record", names, de,

@@ -38,10 +38,10 @@ pub use pull::{
     is_at_end, is_indefinite, peek_one, pull_head, pull_one, pull_payload, pull_short_payload,
 };
 pub use push::push_head;
-pub use read::{Read, Reference, SliceReader};
+pub use read::{Read, ReadResult, Reference, SliceReader};
 pub use steps::{DEFAULT_STEPS, spend_step};
 pub use tally::Tally;
-pub use write::{BufWriter, Write};
+pub use write::{BufWriter, Write, WriteResult};
 
 #[cfg(test)]
 mod tests;

@@ -19,7 +19,7 @@ ghost use Rattle.dagcbor_heads.specs.Looking.{Looks, LooksOnce, LooksAtTaken, Lo
 use crate::error::{DecodeError, Len};
 use crate::input::Input;
 use crate::name::Name;
-use crate::read::Read;
+use crate::read::{Read, ReadResult};
 use arrayvec::ArrayVec;
 use std::alloc::{AllocError, Global};
 use std::borrow::CowSlice;
@@ -84,7 +84,7 @@ pub fn is_at_end<R: Read>(reader: &mut R) -> Result<bool, R::Error>
 }
 
 /// The next byte, which is left.
-pub fn peek_one<R: Read>(name: &str, reader: &mut R) -> Result<u8, DecodeError<R::Error>>
+pub fn peek_one<R: Read>(name: &str, reader: &mut R) -> ReadResult<u8, R>
     ensures shown { MatchResult result
         (λ byte. ShowsByte (R.reading reader.old) byte (R.reading reader.new))
         (λ e. Refuses (HasByte (R.reading reader.old)) ⊥ ⊥ ByteCause (R.reading reader.old) e (R.reading reader.new)) }
@@ -99,7 +99,7 @@ pub fn peek_one<R: Read>(name: &str, reader: &mut R) -> Result<u8, DecodeError<R
 }
 
 /// The next byte, which is taken.
-pub fn pull_one<R: Read>(name: &str, reader: &mut R) -> Result<u8, DecodeError<R::Error>>
+pub fn pull_one<R: Read>(name: &str, reader: &mut R) -> ReadResult<u8, R>
     ensures taken { MatchResult result
         (λ byte. Takes (R.reading reader.old) (byte ∷ []) (R.reading reader.new))
         (λ e. Refuses (HasByte (R.reading reader.old)) ⊥ ⊥ ByteCause (R.reading reader.old) e (R.reading reader.new)) }
@@ -144,11 +144,7 @@ pub(crate) fn least_argument(information: u8) -> u64
 }
 
 /// The number that the next bytes spell, the highest of them first. They are taken.
-fn pull_argument<R: Read>(
-    name: &str,
-    reader: &mut R,
-    width: u16,
-) -> Result<u64, DecodeError<R::Error>>
+fn pull_argument<R: Read>(name: &str, reader: &mut R, width: u16) -> ReadResult<u64, R>
     requires { width ≤ 8 }
     ensures taken { MatchResult result
         (λ n. (n < 256 ^ width) × Takes (R.reading reader.old) (bytes_high_first width n) (R.reading reader.new))
@@ -170,10 +166,7 @@ fn pull_argument<R: Read>(
 
 /// The head of the next item: its major type, its argument and its first byte. It is taken.
 #[tactic(auto, using(crate::proofs::Refusing::end_named))]
-pub fn pull_head<R: Read>(
-    name: &str,
-    reader: &mut R,
-) -> Result<(u8, u64, u8), DecodeError<R::Error>>
+pub fn pull_head<R: Read>(name: &str, reader: &mut R) -> ReadResult<(u8, u64, u8), R>
     ensures taken { MatchResult result
         (λ h. TakesHead (R.reading reader.old) h.0 h.1 h.2 (R.reading reader.new))
         (λ e. Refuses (HasHead (R.reading reader.old)) ⊥ ⊥ HeadCause (R.reading reader.old) e (R.reading reader.new)) }
@@ -214,11 +207,7 @@ fn append_front(payload: &mut Vec<u8>, bytes: &[u8], want: u64) -> Result<usize,
 
 /// Moves some of the next bytes to the end of the payload, and answers how many: none only at the
 /// end.
-fn gather_some<R: Read>(
-    reader: &mut R,
-    payload: &mut Vec<u8>,
-    want: u64,
-) -> Result<usize, DecodeError<R::Error>>
+fn gather_some<R: Read>(reader: &mut R, payload: &mut Vec<u8>, want: u64) -> ReadResult<usize, R>
     ensures gathered { MatchResult result
         (λ n. Gathers (R.reading reader.old) payload.old.items want n payload.new.items (R.reading reader.new))
         (λ e. Refuses ⊤ ⊤ ⊥ (λ _ _. ⊥) (R.reading reader.old) e (R.reading reader.new)) }
@@ -243,12 +232,7 @@ fn gather_some<R: Read>(
 
 /// The next n bytes, gathered in a vector that grows as they come. They are taken.
 #[tactic(auto, using(crate::proofs::Refusing::causeless_named))]
-fn gather<R: Read>(
-    alloc: Global,
-    name: &str,
-    reader: &mut R,
-    n: u64,
-) -> Result<Vec<u8>, DecodeError<R::Error>>
+fn gather<R: Read>(alloc: Global, name: &str, reader: &mut R, n: u64) -> ReadResult<Vec<u8>, R>
     ensures taken { MatchResult result
         (λ v. (length v.items ≡ n) × Takes (R.reading reader.old) v.items (R.reading reader.new))
         (λ e. Refuses (HasPayload n (R.reading reader.old)) ⊤ ⊥ (PayloadCause n) (R.reading reader.old) e (R.reading reader.new)) }
@@ -274,7 +258,7 @@ pub fn pull_payload<'de, R: Read>(
     name: &str,
     input: &mut Input<'de, R>,
     n: u64,
-) -> Result<CowSlice<'de, u8>, DecodeError<R::Error>>
+) -> ReadResult<CowSlice<'de, u8>, R>
     ensures taken { MatchResult result
         (λ c. (length (cow_slice_items c) ≡ n) × Takes (input_reading R.reading input.old) (cow_slice_items c) (input_reading R.reading input.new))
         (λ e. Refuses (HasPayload n (input_reading R.reading input.old)) ((input_reading R.reading input.old).lends ≡ false) ⊥ (PayloadCause n)
@@ -331,7 +315,7 @@ pub fn pull_short_payload<R: Read, const CAP: usize>(
     name: &str,
     reader: &mut R,
     n: u64,
-) -> Result<ArrayVec<u8, CAP>, DecodeError<R::Error>>
+) -> ReadResult<ArrayVec<u8, CAP>, R>
     requires { n ≤ CAP }
     ensures taken { MatchResult result
         (λ v. (length v.items ≡ n) × Takes (R.reading reader.old) v.items (R.reading reader.new))

@@ -4,8 +4,7 @@ ghost use Rattle.std.specs.Prelude.{◌≡◌, ◌≤◌, take, Some};
 ghost use Rattle.dagcbor_heads.specs.Head.{head};
 ghost use Rattle.dagcbor_heads.specs.Written.{Writes, WantsMemoryOnlyIf};
 
-use crate::error::EncodeError;
-use crate::write::Write;
+use crate::write::{Write, WriteResult};
 
 /// The bytes of the shortest head, and zeros behind them; and how many its bytes are.
 #[tactic(auto, unfolding(crate::specs::Head::head))]
@@ -32,11 +31,7 @@ fn head_bytes(major: u8, argument: u64) -> ([u8; 9], usize)
 }
 
 /// Appends the shortest head of a major type and an argument.
-pub fn push_head<W: Write>(
-    writer: &mut W,
-    major: u8,
-    argument: u64,
-) -> Result<(), EncodeError<W::Error>>
+pub fn push_head<W: Write>(writer: &mut W, major: u8, argument: u64) -> WriteResult<(), W>
     requires { major ≤ 7 }
     ensures written { Writes (Some (head major argument)) (W.written writer.old) (W.written writer.new) result }
     ensures memory { WantsMemoryOnlyIf W.takes_memory result }

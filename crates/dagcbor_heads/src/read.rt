@@ -6,6 +6,7 @@ ghost use Rattle.dagcbor_heads.specs.Reading.{Reading, IsShownOf, Shows, Fails, 
 ghost use Rattle.dagcbor_heads.specs.Reading.{fresh_reading, default_steps, with_steps};
 ghost use Rattle.dagcbor_heads.specs.Fronts.{Takes};
 
+use crate::error::DecodeError;
 use crate::steps::{DEFAULT_STEPS, Steps};
 use crate::tally::Tally;
 use std::convert::Infallible;
@@ -17,6 +18,9 @@ pub enum Reference<'de, 'a> {
     Long(&'de [u8]),
     Short(&'a [u8]),
 }
+
+/// What a call that reads answers.
+pub type ReadResult<T, R> = Result<T, DecodeError<<R as Read>::Error>>;
 
 /// A source of bytes, with a budget of steps into items.
 pub trait Read: Drop {

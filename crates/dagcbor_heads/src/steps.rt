@@ -5,7 +5,7 @@ ghost use Rattle.dagcbor_heads.specs.Refusals.{SpendsStep};
 
 use crate::error::DecodeError;
 use crate::name::Name;
-use crate::read::Read;
+use crate::read::{Read, ReadResult};
 use std::marker::Model;
 
 /// The steps that a reader has, where nothing else is said.
@@ -63,7 +63,7 @@ impl Steps {
 }
 
 /// Spends a step of the reader, or refuses for the depth. No byte is looked at.
-pub fn spend_step<R: Read>(name: &str, reader: &mut R) -> Result<(), DecodeError<R::Error>>
+pub fn spend_step<R: Read>(name: &str, reader: &mut R) -> ReadResult<(), R>
     ensures { SpendsStep name.now (R.reading reader.old) result (R.reading reader.new) }
 {
     if reader.step_in() {

@@ -7,6 +7,9 @@ use crate::error::EncodeError;
 use std::convert::Infallible;
 use std::marker::Model;
 
+/// What a call that writes answers.
+pub type WriteResult<T, W> = Result<T, EncodeError<<W as Write>::Error>>;
+
 /// A place that takes bytes.
 pub trait Write {
     type Error: Drop;
@@ -19,7 +22,7 @@ pub trait Write {
 
     /// Appends the bytes. Refused with `Write` or `OutOfMemory` alone; a beginning of the bytes may
     /// have gone out then.
-    fn push(&mut self, bytes: &[u8]) -> Result<(), EncodeError<Self::Error>>
+    fn push(&mut self, bytes: &[u8]) -> WriteResult<(), Self>
         ensures written { Writes (Some bytes.now) (written self.old) (written self.new) result }
         ensures memory { WantsMemoryOnlyIf takes_memory result };
 }
@@ -35,7 +38,7 @@ impl<W: Write> Write for &mut W {
 
     ghost takes_memory = { W.takes_memory };
 
-    fn push(&mut self, bytes: &[u8]) -> Result<(), EncodeError<W::Error>> {
+    fn push(&mut self, bytes: &[u8]) -> WriteResult<(), W> {
         W::push(*self, bytes)
     }
 }

@@ -12,7 +12,9 @@ ghost use Rattle.dagcbor_items.specs.Variants.{OfItem};
 use crate::key::read_key;
 use crate::leaf::{read_bytes, read_natural, read_negative, read_simple, read_text};
 use crate::link::read_link;
-use dagcbor_heads::{DecodeError, Input, Read, is_indefinite, peek_one, pull_head, spend_step};
+use dagcbor_heads::{
+    DecodeError, Input, Read, ReadResult, is_indefinite, peek_one, pull_head, spend_step,
+};
 use ipld_tree::Ipld;
 use std::alloc::{AllocError, Global};
 use std::collections::BTreeMap;
@@ -20,10 +22,7 @@ use std::collections::BTreeMap;
 /// Reads an item of any kind, no deeper than the steps that are left.
 #[tactic(auto, using(crate::proofs::Variants::depth_item))]
 #[cycle(any)]
-pub fn read_any<R: Read>(
-    alloc: Global,
-    input: &mut Input<'_, R>,
-) -> Result<Ipld, DecodeError<R::Error>>
+pub fn read_any<R: Read>(alloc: Global, input: &mut Input<'_, R>) -> ReadResult<Ipld, R>
     ensures item { OverInput R.reading (ReadsItem 0) input.old result input.new }
     ensures looked { OverInput R.reading (Looks 3) input.old result input.new }
     ensures variant { IfErr result OfItem }
@@ -36,10 +35,7 @@ pub fn read_any<R: Read>(
 
 #[tactic(auto, using(crate::proofs::Variants::end_item))]
 #[cycle(any)]
-fn read_item<R: Read>(
-    alloc: Global,
-    input: &mut Input<'_, R>,
-) -> Result<Ipld, DecodeError<R::Error>>
+fn read_item<R: Read>(alloc: Global, input: &mut Input<'_, R>) -> ReadResult<Ipld, R>
     ensures item { OverInput R.reading (ReadsItem 1) input.old result input.new }
     ensures looked { OverInput R.reading (Looks 3) input.old result input.new }
     ensures variant { IfErr result OfItem }
@@ -52,11 +48,7 @@ fn read_item<R: Read>(
 }
 
 #[cycle(any)]
-fn read_of_major<R: Read>(
-    alloc: Global,
-    input: &mut Input<'_, R>,
-    first: u8,
-) -> Result<Ipld, DecodeError<R::Error>>
+fn read_of_major<R: Read>(alloc: Global, input: &mut Input<'_, R>, first: u8) -> ReadResult<Ipld, R>
     requires { StartsWith (input_reading R.reading input.old) first }
     ensures item { OverInput R.reading (ReadsItem 1) input.old result input.new }
     ensures looked { OverInput R.reading (LooksBehind 3 1) input.old result input.new }
@@ -76,10 +68,7 @@ fn read_of_major<R: Read>(
 
 #[tactic(auto, using(crate::proofs::Variants::depth_item, crate::proofs::Variants::named_item))]
 #[cycle(any)]
-fn read_list<R: Read>(
-    alloc: Global,
-    input: &mut Input<'_, R>,
-) -> Result<Ipld, DecodeError<R::Error>>
+fn read_list<R: Read>(alloc: Global, input: &mut Input<'_, R>) -> ReadResult<Ipld, R>
     requires { StartsWithMajor (input_reading R.reading input.old) 4 }
     ensures item { OverInput R.reading (ReadsItem 1) input.old result input.new }
     ensures looked { OverInput R.reading (LooksBehind 3 1) input.old result input.new }
@@ -97,7 +86,7 @@ fn read_items<R: Read>(
     alloc: Global,
     input: &mut Input<'_, R>,
     count: u64,
-) -> Result<Vec<Ipld>, DecodeError<R::Error>>
+) -> ReadResult<Vec<Ipld>, R>
     ensures items { OverInput R.reading (ReadsItems count) input.old result input.new }
     ensures looked { OverInput R.reading (Looks 3) input.old result input.new }
     ensures variant { IfErr result OfItem }
@@ -131,7 +120,7 @@ fn take_first_room(items: &mut Vec<Ipld>, count: u64) -> Result<(), AllocError>
 
 #[tactic(auto, using(crate::proofs::Variants::depth_item, crate::proofs::Variants::named_item))]
 #[cycle(any)]
-fn read_map<R: Read>(alloc: Global, input: &mut Input<'_, R>) -> Result<Ipld, DecodeError<R::Error>>
+fn read_map<R: Read>(alloc: Global, input: &mut Input<'_, R>) -> ReadResult<Ipld, R>
     requires { StartsWithMajor (input_reading R.reading input.old) 5 }
     ensures item { OverInput R.reading (ReadsItem 1) input.old result input.new }
     ensures looked { OverInput R.reading (LooksBehind 3 1) input.old result input.new }
@@ -150,7 +139,7 @@ fn read_entries<R: Read>(
     alloc: Global,
     input: &mut Input<'_, R>,
     count: u64,
-) -> Result<BTreeMap<String, Ipld>, DecodeError<R::Error>>
+) -> ReadResult<BTreeMap<String, Ipld>, R>
     ensures entries { OverInput R.reading (ReadsEntries count) input.old result input.new }
     ensures looked { OverInput R.reading (Looks 3) input.old result input.new }
     ensures variant { IfErr result OfItem }

@@ -10,7 +10,7 @@ ghost use Rattle.dagcbor_items.specs.Entries.{ReadsKey};
 ghost use Rattle.dagcbor_items.specs.Variants.{OfKey};
 
 use crate::strings::pull_str;
-use dagcbor_heads::{DecodeError, Input, Read};
+use dagcbor_heads::{DecodeError, Input, Read, ReadResult};
 use std::alloc::Global;
 use std::borrow::CowStr;
 use std::cmp::Ordering;
@@ -44,7 +44,7 @@ pub fn read_key<'de, R: Read>(
     alloc: Global,
     input: &mut Input<'de, R>,
     previous: &Option<CowStr<'de>>,
-) -> Result<CowStr<'de>, DecodeError<R::Error>>
+) -> ReadResult<CowStr<'de>, R>
     ensures key { OverInput R.reading (ReadsKey (option_map cow_str_bytes previous.now)) input.old result input.new }
     ensures lent { IfOk result (λ k. IsBorrowedStr k ↔ ((input_reading R.reading input.old).lends ≡ true)) }
     ensures looked { OverInput R.reading (Looks 3) input.old result input.new }

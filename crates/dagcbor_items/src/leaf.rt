@@ -8,12 +8,12 @@ ghost use Rattle.dagcbor_items.specs.Untyped.{ReadsItem, ReadsLeaf, StartsWithMa
 ghost use Rattle.dagcbor_items.specs.Variants.{OfItem};
 
 use crate::strings::{pull_peeked_owned_bytes, pull_peeked_owned_text};
-use dagcbor_heads::{DecodeError, Input, Read, pull_head, pull_one};
+use dagcbor_heads::{DecodeError, Input, Read, ReadResult, pull_head, pull_one};
 use ipld_tree::Ipld;
 use std::alloc::Global;
 
 #[tactic(auto, using(crate::proofs::Variants::named_item))]
-pub(crate) fn read_natural<R: Read>(reader: &mut R) -> Result<Ipld, DecodeError<R::Error>>
+pub(crate) fn read_natural<R: Read>(reader: &mut R) -> ReadResult<Ipld, R>
     requires { StartsWithMajor (R.reading reader.old) 0 }
     ensures leaf { ReadsLeaf (R.reading reader.old) result (R.reading reader.new) }
     ensures looked { LooksBehind 3 1 (R.reading reader.old) result (R.reading reader.new) }
@@ -24,7 +24,7 @@ pub(crate) fn read_natural<R: Read>(reader: &mut R) -> Result<Ipld, DecodeError<
 }
 
 #[tactic(auto, using(crate::proofs::Variants::named_item))]
-pub(crate) fn read_negative<R: Read>(reader: &mut R) -> Result<Ipld, DecodeError<R::Error>>
+pub(crate) fn read_negative<R: Read>(reader: &mut R) -> ReadResult<Ipld, R>
     requires { StartsWithMajor (R.reading reader.old) 1 }
     ensures leaf { ReadsLeaf (R.reading reader.old) result (R.reading reader.new) }
     ensures looked { LooksBehind 3 1 (R.reading reader.old) result (R.reading reader.new) }
@@ -35,10 +35,7 @@ pub(crate) fn read_negative<R: Read>(reader: &mut R) -> Result<Ipld, DecodeError
 }
 
 #[tactic(auto, using(crate::proofs::Variants::kind_item))]
-pub(crate) fn read_bytes<R: Read>(
-    alloc: Global,
-    input: &mut Input<'_, R>,
-) -> Result<Ipld, DecodeError<R::Error>>
+pub(crate) fn read_bytes<R: Read>(alloc: Global, input: &mut Input<'_, R>) -> ReadResult<Ipld, R>
     requires { StartsWithMajor (input_reading R.reading input.old) 2 }
     ensures item { OverInput R.reading (ReadsItem 1) input.old result input.new }
     ensures looked { OverInput R.reading (LooksBehind 3 1) input.old result input.new }
@@ -48,10 +45,7 @@ pub(crate) fn read_bytes<R: Read>(
 }
 
 #[tactic(auto, using(crate::proofs::Variants::text_item))]
-pub(crate) fn read_text<R: Read>(
-    alloc: Global,
-    input: &mut Input<'_, R>,
-) -> Result<Ipld, DecodeError<R::Error>>
+pub(crate) fn read_text<R: Read>(alloc: Global, input: &mut Input<'_, R>) -> ReadResult<Ipld, R>
     requires { StartsWithMajor (input_reading R.reading input.old) 3 }
     ensures item { OverInput R.reading (ReadsItem 1) input.old result input.new }
     ensures looked { OverInput R.reading (LooksBehind 3 1) input.old result input.new }
@@ -72,7 +66,7 @@ fn simple_value(byte: u8) -> Option<Ipld>
 }
 
 #[tactic(auto, using(crate::proofs::Variants::end_item))]
-pub(crate) fn read_simple<R: Read>(reader: &mut R, first: u8) -> Result<Ipld, DecodeError<R::Error>>
+pub(crate) fn read_simple<R: Read>(reader: &mut R, first: u8) -> ReadResult<Ipld, R>
     requires starts { StartsWith (R.reading reader.old) first }
     requires major { first / 32 ≡ 7 }
     ensures leaf { ReadsLeaf (R.reading reader.old) result (R.reading reader.new) }

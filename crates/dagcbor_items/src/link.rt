@@ -10,7 +10,9 @@ ghost use Rattle.dagcbor_items.specs.Links.{HasWanted, ReadsCid, ReadsLink, IsZe
 ghost use Rattle.dagcbor_items.specs.Variants.{OfByte, OfItem, OfLink};
 
 use arrayvec::ArrayVec;
-use dagcbor_heads::{DecodeError, Read, peek_one, pull_head, pull_one, pull_short_payload};
+use dagcbor_heads::{
+    DecodeError, Read, ReadResult, peek_one, pull_head, pull_one, pull_short_payload,
+};
 use ipld_tree::{Cid, Ipld};
 
 /// The greatest length of a CID with its zero.
@@ -23,7 +25,7 @@ pub(crate) fn pull_wanted<R: Read>(
     other: &str,
     reader: &mut R,
     wanted: u8,
-) -> Result<(), DecodeError<R::Error>>
+) -> ReadResult<(), R>
     ensures wanted { MatchResult result
         (λ _. Takes (R.reading reader.old) (wanted ∷ []) (R.reading reader.new))
         (λ e. Refuses (HasWanted wanted (R.reading reader.old)) ⊥ ⊥ (IsOtherByte other.now wanted) (R.reading reader.old) e (R.reading reader.new)) }
@@ -48,7 +50,7 @@ fn cid_behind_zero(payload: &[u8]) -> Option<Cid>
 }
 
 #[tactic(auto, using(crate::proofs::Variants::named_link, crate::proofs::Variants::end_link))]
-fn pull_cid_string<R: Read>(reader: &mut R) -> Result<Cid, DecodeError<R::Error>>
+fn pull_cid_string<R: Read>(reader: &mut R) -> ReadResult<Cid, R>
     requires { StartsWithMajor (R.reading reader.old) 2 }
     ensures cid { ReadsCid (R.reading reader.old) result (R.reading reader.new) }
     ensures looked { Looks 2 (R.reading reader.old) result (R.reading reader.new) }
@@ -67,7 +69,7 @@ fn pull_cid_string<R: Read>(reader: &mut R) -> Result<Cid, DecodeError<R::Error>
 
 /// Reads what stands behind the tag.
 #[tactic(auto, using(crate::proofs::Variants::end_link))]
-fn pull_cid<R: Read>(reader: &mut R) -> Result<Cid, DecodeError<R::Error>>
+fn pull_cid<R: Read>(reader: &mut R) -> ReadResult<Cid, R>
     ensures cid { ReadsCid (R.reading reader.old) result (R.reading reader.new) }
     ensures looked { Looks 3 (R.reading reader.old) result (R.reading reader.new) }
     ensures variant { IfErr result OfLink }
@@ -81,7 +83,7 @@ fn pull_cid<R: Read>(reader: &mut R) -> Result<Cid, DecodeError<R::Error>>
 
 /// Reads a link, and takes no memory.
 #[tactic(auto, using(crate::proofs::Variants::byte_link))]
-pub fn pull_link<R: Read>(reader: &mut R) -> Result<Cid, DecodeError<R::Error>>
+pub fn pull_link<R: Read>(reader: &mut R) -> ReadResult<Cid, R>
     ensures link { ReadsLink (R.reading reader.old) result (R.reading reader.new) }
     ensures looked { Looks 3 (R.reading reader.old) result (R.reading reader.new) }
     ensures peeked { StartsWithMajor (R.reading reader.old) 6 → LooksBehind 3 1 (R.reading reader.old) result (R.reading reader.new) }
@@ -93,7 +95,7 @@ pub fn pull_link<R: Read>(reader: &mut R) -> Result<Cid, DecodeError<R::Error>>
 }
 
 #[tactic(auto, using(crate::proofs::Variants::link_item))]
-pub(crate) fn read_link<R: Read>(reader: &mut R) -> Result<Ipld, DecodeError<R::Error>>
+pub(crate) fn read_link<R: Read>(reader: &mut R) -> ReadResult<Ipld, R>
     requires { StartsWithMajor (R.reading reader.old) 6 }
     ensures leaf { ReadsLeaf (R.reading reader.old) result (R.reading reader.new) }
     ensures looked { LooksBehind 3 1 (R.reading reader.old) result (R.reading reader.new) }

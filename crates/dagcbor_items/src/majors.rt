@@ -8,7 +8,7 @@ ghost use Rattle.dagcbor_items.specs.Majors.{HasMajor, ReadsMajor};
 ghost use Rattle.dagcbor_items.specs.LeafCauses.{MajorCause};
 ghost use Rattle.dagcbor_items.specs.Variants.{OfByte, OfHead};
 
-use dagcbor_heads::{DecodeError, Read, peek_one, pull_head};
+use dagcbor_heads::{DecodeError, Read, ReadResult, peek_one, pull_head};
 
 /// The next byte, which is left, where its major type lies from `low` to `high`.
 #[tactic(auto, using(crate::proofs::Variants::end_byte))]
@@ -17,7 +17,7 @@ pub(crate) fn peek_major<R: Read>(
     reader: &mut R,
     low: u8,
     high: u8,
-) -> Result<u8, DecodeError<R::Error>>
+) -> ReadResult<u8, R>
     ensures kind { MatchResult result
         (λ first. (low ≤ first / 32) × (first / 32 ≤ high) × ShowsByte (R.reading reader.old) first (R.reading reader.new))
         (λ e. Refuses (HasMajor low high (R.reading reader.old)) ⊥ ⊥ (MajorCause name.now low high) (R.reading reader.old) e (R.reading reader.new)) }
@@ -40,7 +40,7 @@ pub(crate) fn pull_major<R: Read>(
     reader: &mut R,
     low: u8,
     high: u8,
-) -> Result<(u8, u64), DecodeError<R::Error>>
+) -> ReadResult<(u8, u64), R>
     requires { high < 8 }
     ensures kind { ReadsMajor name.now low high (R.reading reader.old) result (R.reading reader.new) }
     ensures looked { Looks 3 (R.reading reader.old) result (R.reading reader.new) }

@@ -8,7 +8,7 @@ ghost use Rattle.dagcbor_items.specs.LeafReads.{ReadsUnsigned, ReadsSigned, Read
 ghost use Rattle.dagcbor_items.specs.Variants.{OfHead, OfNumber};
 
 use crate::majors::pull_major;
-use dagcbor_heads::{DecodeError, Read, peek_one};
+use dagcbor_heads::{DecodeError, Read, ReadResult, peek_one};
 
 /// The number of a head of major type 0 or 1.
 fn number_of(major: u8, argument: u64) -> i128
@@ -22,7 +22,7 @@ fn number_of(major: u8, argument: u64) -> i128
 }
 
 /// A number of any size.
-fn pull_number<R: Read>(name: &str, reader: &mut R) -> Result<i128, DecodeError<R::Error>>
+fn pull_number<R: Read>(name: &str, reader: &mut R) -> ReadResult<i128, R>
     ensures number { Reads (λ n. n) (leaf (view_number Some)) ⊥ ⊥ (MajorCause name.now 0 1) (R.reading reader.old) result (R.reading reader.new) }
     ensures variant { IfErr result OfHead }
 {
@@ -52,11 +52,7 @@ fn signed_of(number: i128, greatest: u64) -> Option<i128>
 
 /// A number from 0 to `greatest`.
 #[tactic(auto, using(crate::proofs::Variants::kind_number))]
-pub fn pull_unsigned<R: Read>(
-    name: &str,
-    reader: &mut R,
-    greatest: u64,
-) -> Result<u64, DecodeError<R::Error>>
+pub fn pull_unsigned<R: Read>(name: &str, reader: &mut R, greatest: u64) -> ReadResult<u64, R>
     ensures number { ReadsUnsigned name.now (greatest + 1) (R.reading reader.old) result (R.reading reader.new) }
     ensures most { IfOk result (λ n. n ≤ greatest) }
     ensures variant { IfErr result OfNumber }
@@ -70,11 +66,7 @@ pub fn pull_unsigned<R: Read>(
 
 /// A number from -1 - `greatest` to `greatest`.
 #[tactic(auto, using(crate::proofs::Variants::kind_number))]
-pub fn pull_signed<R: Read>(
-    name: &str,
-    reader: &mut R,
-    greatest: u64,
-) -> Result<i128, DecodeError<R::Error>>
+pub fn pull_signed<R: Read>(name: &str, reader: &mut R, greatest: u64) -> ReadResult<i128, R>
     ensures number { ReadsSigned name.now (greatest + 1) (R.reading reader.old) result (R.reading reader.new) }
     ensures least { IfOk result (λ n. negsuc greatest ≤ℤ n) }
     ensures most { IfOk result (λ n. n ≤ℤ pos greatest) }
@@ -89,7 +81,7 @@ pub fn pull_signed<R: Read>(
 
 /// A number of any size, which no tag announces.
 #[tactic(auto, using(crate::proofs::Variants::end_kind))]
-fn pull_long<R: Read>(name: &str, reader: &mut R) -> Result<i128, DecodeError<R::Error>>
+fn pull_long<R: Read>(name: &str, reader: &mut R) -> ReadResult<i128, R>
     ensures number { Reads (λ n. n) (leaf (view_number Some)) ⊥ ⊥ (LongCause name.now) (R.reading reader.old) result (R.reading reader.new) }
     ensures variant { IfErr result OfHead }
 {
@@ -109,7 +101,7 @@ fn long_natural_of(number: i128) -> Option<u128>
 
 /// A number from 0 on, of any size that has a spelling.
 #[tactic(auto, using(crate::proofs::Variants::kind_number))]
-pub fn pull_u128<R: Read>(reader: &mut R) -> Result<u128, DecodeError<R::Error>>
+pub fn pull_u128<R: Read>(reader: &mut R) -> ReadResult<u128, R>
     ensures number { ReadsU128 (R.reading reader.old) result (R.reading reader.new) }
     ensures variant { IfErr result OfNumber }
 {
@@ -121,7 +113,7 @@ pub fn pull_u128<R: Read>(reader: &mut R) -> Result<u128, DecodeError<R::Error>>
 }
 
 /// A number of any size that has a spelling.
-pub fn pull_i128<R: Read>(reader: &mut R) -> Result<i128, DecodeError<R::Error>>
+pub fn pull_i128<R: Read>(reader: &mut R) -> ReadResult<i128, R>
     ensures number { ReadsI128 (R.reading reader.old) result (R.reading reader.new) }
     ensures variant { IfErr result OfHead }
 {

@@ -15,7 +15,7 @@ use crate::key::{comes_before, read_key};
 use crate::majors::peek_major;
 use crate::strings::{pull_peeked_slice, pull_peeked_str};
 use crate::utf8::as_text;
-use dagcbor_heads::{DecodeError, Input, Len, Name, Read, SliceReader, pull_head};
+use dagcbor_heads::{DecodeError, Input, Len, Name, Read, ReadResult, SliceReader, pull_head};
 use std::alloc::Global;
 use std::borrow::CowStr;
 use std::convert::Infallible;
@@ -35,20 +35,20 @@ pub trait PayloadReader: Read {
         &mut self,
         alloc: Self::Alloc,
         previous: &Option<Self::Key>,
-    ) -> Result<Self::Key, DecodeError<Self::Error>>
+    ) -> ReadResult<Self::Key, Self>
         ensures key { ReadsKeyAs key_bytes (option_map key_bytes previous.now) (Self.reading self.old) result (Self.reading self.new) }
         ensures looked { Looks 3 (Self.reading self.old) result (Self.reading self.new) }
         ensures variant { IfErr result OfKey };
 
     /// Goes through a byte string, whose first byte was seen.
-    fn skip_bytes(&mut self, alloc: Self::Alloc) -> Result<(), DecodeError<Self::Error>>
+    fn skip_bytes(&mut self, alloc: Self::Alloc) -> ReadResult<(), Self>
         requires { StartsWithMajor (Self.reading self.old) 2 }
         ensures item { SkipsItem 1 (Self.reading self.old) result (Self.reading self.new) }
         ensures looked { LooksBehind 3 1 (Self.reading self.old) result (Self.reading self.new) }
         ensures variant { IfErr result OfHead };
 
     /// Goes through a text, whose first byte was seen, and checks that it is UTF-8.
-    fn skip_text(&mut self, alloc: Self::Alloc) -> Result<(), DecodeError<Self::Error>>
+    fn skip_text(&mut self, alloc: Self::Alloc) -> ReadResult<(), Self>
         requires { StartsWithMajor (Self.reading self.old) 3 }
         ensures item { SkipsItem 1 (Self.reading self.old) result (Self.reading self.new) }
         ensures looked { LooksBehind 3 1 (Self.reading self.old) result (Self.reading self.new) }
@@ -67,16 +67,16 @@ impl<'de, R: Read> PayloadReader for Input<'de, R> {
         &mut self,
         alloc: Global,
         previous: &Option<CowStr<'de>>,
-    ) -> Result<CowStr<'de>, DecodeError<R::Error>> {
+    ) -> ReadResult<CowStr<'de>, R> {
         read_key(alloc, self, previous)
     }
 
-    fn skip_bytes(&mut self, alloc: Global) -> Result<(), DecodeError<R::Error>> {
+    fn skip_bytes(&mut self, alloc: Global) -> ReadResult<(), R> {
         pull_peeked_slice(alloc, self)?;
         Ok(())
     }
 
-    fn skip_text(&mut self, alloc: Global) -> Result<(), DecodeError<R::Error>> {
+    fn skip_text(&mut self, alloc: Global) -> ReadResult<(), R> {
         pull_peeked_str(alloc, "string", self)?;
         Ok(())
     }

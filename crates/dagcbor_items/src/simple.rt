@@ -5,10 +5,10 @@ ghost use Rattle.dagcbor_items.specs.LeafReads.{ReadsNull, ReadsBool};
 ghost use Rattle.dagcbor_items.specs.Variants.{OfByte};
 
 use crate::link::pull_wanted;
-use dagcbor_heads::{DecodeError, Read, pull_one};
+use dagcbor_heads::{DecodeError, Read, ReadResult, pull_one};
 
 /// A null.
-pub fn pull_null<R: Read>(reader: &mut R) -> Result<(), DecodeError<R::Error>>
+pub fn pull_null<R: Read>(reader: &mut R) -> ReadResult<(), R>
     ensures null { ReadsNull (R.reading reader.old) result (R.reading reader.new) }
     ensures variant { IfErr result OfByte }
 {
@@ -17,7 +17,7 @@ pub fn pull_null<R: Read>(reader: &mut R) -> Result<(), DecodeError<R::Error>>
 
 /// A boolean.
 #[tactic(auto, using(crate::proofs::Variants::end_byte))]
-pub fn pull_bool<R: Read>(reader: &mut R) -> Result<bool, DecodeError<R::Error>>
+pub fn pull_bool<R: Read>(reader: &mut R) -> ReadResult<bool, R>
     ensures value { ReadsBool (R.reading reader.old) result (R.reading reader.new) }
     ensures variant { IfErr result OfByte }
 {

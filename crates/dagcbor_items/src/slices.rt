@@ -11,7 +11,7 @@ use crate::judge::behind_item;
 use crate::kind::{Kind, kind_of_front};
 use crate::sink::{LinkSink, NoLinks};
 use crate::walk::{gather_links, walk_any};
-use dagcbor_heads::{DEFAULT_STEPS, DecodeError, Input, Read, SliceReader, is_at_end};
+use dagcbor_heads::{DEFAULT_STEPS, DecodeError, Input, Read, ReadResult, SliceReader, is_at_end};
 use ipld_tree::{Cid, Ipld};
 use std::alloc::Global;
 use std::convert::Infallible;
@@ -93,7 +93,7 @@ fn lent<'de>(bytes: &'de [u8]) -> Input<'de, SliceReader<'de>>
 }
 
 /// Takes nothing: `TrailingData` where a byte is left.
-fn pull_end<R: Read>(reader: &mut R) -> Result<(), DecodeError<R::Error>>
+fn pull_end<R: Read>(reader: &mut R) -> ReadResult<(), R>
     ensures { PullsEnd (R.reading reader.old) result (R.reading reader.new) }
 {
     if is_at_end(reader)? {

@@ -15,7 +15,7 @@ ghost use Rattle.dagcbor_items.specs.Variants.{OfChar, OfHead, OfText};
 
 use crate::majors::peek_major;
 use crate::utf8::as_text;
-use dagcbor_heads::{DecodeError, Input, Name, Read, pull_head, pull_payload};
+use dagcbor_heads::{DecodeError, Input, Name, Read, ReadResult, pull_head, pull_payload};
 use std::alloc::Global;
 use std::borrow::{CowSlice, CowStr};
 
@@ -26,7 +26,7 @@ fn pull_peeked_string<'de, R: Read>(
     name: &str,
     input: &mut Input<'de, R>,
     kind: u8,
-) -> Result<CowSlice<'de, u8>, DecodeError<R::Error>>
+) -> ReadResult<CowSlice<'de, u8>, R>
     requires few { kind < 8 }
     requires starts { StartsWithMajor (input_reading R.reading input.old) kind }
     ensures string { OverInput R.reading (ReadsString cow_slice_items name.now kind) input.old result input.new }
@@ -63,7 +63,7 @@ fn text_of<'de>(payload: CowSlice<'de, u8>) -> Option<CowStr<'de>>
 pub(crate) fn pull_peeked_slice<'de, R: Read>(
     alloc: Global,
     input: &mut Input<'de, R>,
-) -> Result<CowSlice<'de, u8>, DecodeError<R::Error>>
+) -> ReadResult<CowSlice<'de, u8>, R>
     requires { StartsWithMajor (input_reading R.reading input.old) 2 }
     ensures bytes { OverInput R.reading ReadsByteSlice input.old result input.new }
     ensures lent { IfOk result (λ c. IsBorrowedSlice c ↔ ((input_reading R.reading input.old).lends ≡ true)) }
@@ -78,7 +78,7 @@ pub(crate) fn pull_peeked_slice<'de, R: Read>(
 pub fn pull_slice<'de, R: Read>(
     alloc: Global,
     input: &mut Input<'de, R>,
-) -> Result<CowSlice<'de, u8>, DecodeError<R::Error>>
+) -> ReadResult<CowSlice<'de, u8>, R>
     ensures bytes { OverInput R.reading ReadsByteSlice input.old result input.new }
     ensures lent { IfOk result (λ c. IsBorrowedSlice c ↔ ((input_reading R.reading input.old).lends ≡ true)) }
     ensures looked { OverInput R.reading (Looks 3) input.old result input.new }
@@ -94,7 +94,7 @@ pub(crate) fn pull_peeked_str<'de, R: Read>(
     alloc: Global,
     name: &str,
     input: &mut Input<'de, R>,
-) -> Result<CowStr<'de>, DecodeError<R::Error>>
+) -> ReadResult<CowStr<'de>, R>
     requires { StartsWithMajor (input_reading R.reading input.old) 3 }
     ensures text { OverInput R.reading (ReadsStr name.now) input.old result input.new }
     ensures lent { IfOk result (λ s. IsBorrowedStr s ↔ ((input_reading R.reading input.old).lends ≡ true)) }
@@ -116,7 +116,7 @@ pub fn pull_str<'de, R: Read>(
     alloc: Global,
     name: &str,
     input: &mut Input<'de, R>,
-) -> Result<CowStr<'de>, DecodeError<R::Error>>
+) -> ReadResult<CowStr<'de>, R>
     ensures text { OverInput R.reading (ReadsStr name.now) input.old result input.new }
     ensures lent { IfOk result (λ s. IsBorrowedStr s ↔ ((input_reading R.reading input.old).lends ≡ true)) }
     ensures looked { OverInput R.reading (Looks 3) input.old result input.new }
@@ -130,7 +130,7 @@ pub fn pull_str<'de, R: Read>(
 pub(crate) fn pull_peeked_owned_text<R: Read>(
     alloc: Global,
     input: &mut Input<'_, R>,
-) -> Result<String, DecodeError<R::Error>>
+) -> ReadResult<String, R>
     requires { StartsWithMajor (input_reading R.reading input.old) 3 }
     ensures text { OverInput R.reading ReadsOwnedText input.old result input.new }
     ensures looked { OverInput R.reading (Looks 2) input.old result input.new }
@@ -144,10 +144,7 @@ pub(crate) fn pull_peeked_owned_text<R: Read>(
 
 /// A text of its own, also where the input lends.
 #[tactic(auto, using(crate::proofs::Variants::byte_text))]
-pub fn pull_owned_text<R: Read>(
-    alloc: Global,
-    input: &mut Input<'_, R>,
-) -> Result<String, DecodeError<R::Error>>
+pub fn pull_owned_text<R: Read>(alloc: Global, input: &mut Input<'_, R>) -> ReadResult<String, R>
     ensures text { OverInput R.reading ReadsOwnedText input.old result input.new }
     ensures looked { OverInput R.reading (Looks 3) input.old result input.new }
     ensures variant { IfErr result OfText }
@@ -160,7 +157,7 @@ pub fn pull_owned_text<R: Read>(
 pub(crate) fn pull_peeked_owned_bytes<R: Read>(
     alloc: Global,
     input: &mut Input<'_, R>,
-) -> Result<Vec<u8>, DecodeError<R::Error>>
+) -> ReadResult<Vec<u8>, R>
     requires { StartsWithMajor (input_reading R.reading input.old) 2 }
     ensures bytes { OverInput R.reading ReadsOwnedBytes input.old result input.new }
     ensures looked { OverInput R.reading (Looks 2) input.old result input.new }
@@ -174,10 +171,7 @@ pub(crate) fn pull_peeked_owned_bytes<R: Read>(
 
 /// A byte string of its own, also where the input lends.
 #[tactic(auto, using(crate::proofs::Variants::byte_kind))]
-pub fn pull_owned_bytes<R: Read>(
-    alloc: Global,
-    input: &mut Input<'_, R>,
-) -> Result<Vec<u8>, DecodeError<R::Error>>
+pub fn pull_owned_bytes<R: Read>(alloc: Global, input: &mut Input<'_, R>) -> ReadResult<Vec<u8>, R>
     ensures bytes { OverInput R.reading ReadsOwnedBytes input.old result input.new }
     ensures looked { OverInput R.reading (Looks 3) input.old result input.new }
     ensures variant { IfErr result OfHead }
@@ -200,10 +194,7 @@ fn only_char(text: &str) -> Option<char>
 
 /// A text of one character.
 #[tactic(auto, using(crate::proofs::Variants::text_char))]
-pub fn pull_char<R: Read>(
-    alloc: Global,
-    input: &mut Input<'_, R>,
-) -> Result<char, DecodeError<R::Error>>
+pub fn pull_char<R: Read>(alloc: Global, input: &mut Input<'_, R>) -> ReadResult<char, R>
     ensures character { OverInput R.reading ReadsChar input.old result input.new }
     ensures variant { IfErr result OfChar }
 {

@@ -13,17 +13,14 @@ use crate::link::pull_link;
 use crate::payloads::PayloadReader;
 use crate::sink::{LinkSink, NoLinks};
 use dagcbor_heads::{
-    DecodeError, Input, Read, is_indefinite, peek_one, pull_head, pull_one, spend_step,
+    DecodeError, Input, Read, ReadResult, is_indefinite, peek_one, pull_head, pull_one, spend_step,
 };
 use ipld_tree::Cid;
 use std::alloc::Global;
 
 /// Skips an item of any kind, no deeper than the steps that are left. Over a slice it takes no
 /// memory.
-pub fn skip_any<R: Read>(
-    alloc: Global,
-    input: &mut Input<'_, R>,
-) -> Result<(), DecodeError<R::Error>>
+pub fn skip_any<R: Read>(alloc: Global, input: &mut Input<'_, R>) -> ReadResult<(), R>
     ensures item { OverInput R.reading (SkipsItem 0) input.old result input.new }
     ensures looked { OverInput R.reading (Looks 3) input.old result input.new }
     ensures variant { IfErr result OfItem }
@@ -32,10 +29,7 @@ pub fn skip_any<R: Read>(
 }
 
 /// The links of an item of any kind, left to right, repeats kept.
-pub fn gather_links<R: Read>(
-    alloc: Global,
-    input: &mut Input<'_, R>,
-) -> Result<Vec<Cid>, DecodeError<R::Error>>
+pub fn gather_links<R: Read>(alloc: Global, input: &mut Input<'_, R>) -> ReadResult<Vec<Cid>, R>
     ensures links { OverInput R.reading (GathersLinks 0) input.old result input.new }
     ensures looked { OverInput R.reading (Looks 3) input.old result input.new }
     ensures variant { IfErr result OfItem }
@@ -53,7 +47,7 @@ pub fn walk_any<I: PayloadReader, S: LinkSink>(
     alloc: I::Alloc,
     input: &mut I,
     links: &mut S,
-) -> Result<(), DecodeError<I::Error>>
+) -> ReadResult<(), I>
     ensures item { WalksItem S.holds S.takes_memory 0 (I.reading input.old) links.old result (I.reading input.new) links.new }
     ensures looked { Looks 3 (I.reading input.old) result (I.reading input.new) }
     ensures variant { IfErr result OfItem }
@@ -70,7 +64,7 @@ fn walk_item<I: PayloadReader, S: LinkSink>(
     alloc: I::Alloc,
     input: &mut I,
     links: &mut S,
-) -> Result<(), DecodeError<I::Error>>
+) -> ReadResult<(), I>
     ensures item { WalksItem S.holds S.takes_memory 1 (I.reading input.old) links.old result (I.reading input.new) links.new }
     ensures looked { Looks 3 (I.reading input.old) result (I.reading input.new) }
     ensures variant { IfErr result OfItem }
@@ -88,7 +82,7 @@ fn walk_of_major<I: PayloadReader, S: LinkSink>(
     input: &mut I,
     links: &mut S,
     first: u8,
-) -> Result<(), DecodeError<I::Error>>
+) -> ReadResult<(), I>
     requires { StartsWith (I.reading input.old) first }
     ensures item { WalksItem S.holds S.takes_memory 1 (I.reading input.old) links.old result (I.reading input.new) links.new }
     ensures looked { LooksBehind 3 1 (I.reading input.old) result (I.reading input.new) }
@@ -103,10 +97,7 @@ fn walk_of_major<I: PayloadReader, S: LinkSink>(
 }
 
 #[tactic(auto, using(crate::proofs::Variants::link_item))]
-fn walk_link<R: Read, S: LinkSink>(
-    reader: &mut R,
-    links: &mut S,
-) -> Result<(), DecodeError<R::Error>>
+fn walk_link<R: Read, S: LinkSink>(reader: &mut R, links: &mut S) -> ReadResult<(), R>
     requires { StartsWithMajor (R.reading reader.old) 6 }
     ensures item { WalksItem S.holds S.takes_memory 1 (R.reading reader.old) links.old result (R.reading reader.new) links.new }
     ensures looked { LooksBehind 3 1 (R.reading reader.old) result (R.reading reader.new) }
@@ -121,11 +112,7 @@ fn walk_link<R: Read, S: LinkSink>(
 
 /// Skips an item that is no list, map or link.
 #[tactic(auto, using(crate::proofs::Variants::kind_item, crate::proofs::Variants::text_item))]
-fn skip_leaf<I: PayloadReader>(
-    alloc: I::Alloc,
-    input: &mut I,
-    first: u8,
-) -> Result<(), DecodeError<I::Error>>
+fn skip_leaf<I: PayloadReader>(alloc: I::Alloc, input: &mut I, first: u8) -> ReadResult<(), I>
     requires starts { StartsWith (I.reading input.old) first }
     requires no_list { first / 32 ≢ 4 }
     requires no_map { first / 32 ≢ 5 }
@@ -144,7 +131,7 @@ fn skip_leaf<I: PayloadReader>(
 }
 
 #[tactic(auto, using(crate::proofs::Variants::named_item))]
-fn skip_natural<R: Read>(reader: &mut R) -> Result<(), DecodeError<R::Error>>
+fn skip_natural<R: Read>(reader: &mut R) -> ReadResult<(), R>
     requires { StartsWithMajor (R.reading reader.old) 0 }
     ensures item { SkipsItem 1 (R.reading reader.old) result (R.reading reader.new) }
     ensures looked { LooksBehind 3 1 (R.reading reader.old) result (R.reading reader.new) }
@@ -155,7 +142,7 @@ fn skip_natural<R: Read>(reader: &mut R) -> Result<(), DecodeError<R::Error>>
 }
 
 #[tactic(auto, using(crate::proofs::Variants::named_item))]
-fn skip_negative<R: Read>(reader: &mut R) -> Result<(), DecodeError<R::Error>>
+fn skip_negative<R: Read>(reader: &mut R) -> ReadResult<(), R>
     requires { StartsWithMajor (R.reading reader.old) 1 }
     ensures item { SkipsItem 1 (R.reading reader.old) result (R.reading reader.new) }
     ensures looked { LooksBehind 3 1 (R.reading reader.old) result (R.reading reader.new) }
@@ -166,7 +153,7 @@ fn skip_negative<R: Read>(reader: &mut R) -> Result<(), DecodeError<R::Error>>
 }
 
 #[tactic(auto, using(crate::proofs::Variants::end_item))]
-fn skip_simple<R: Read>(reader: &mut R, first: u8) -> Result<(), DecodeError<R::Error>>
+fn skip_simple<R: Read>(reader: &mut R, first: u8) -> ReadResult<(), R>
     requires starts { StartsWith (R.reading reader.old) first }
     requires major { first / 32 ≡ 7 }
     ensures item { SkipsItem 1 (R.reading reader.old) result (R.reading reader.new) }
@@ -186,7 +173,7 @@ fn walk_list<I: PayloadReader, S: LinkSink>(
     alloc: I::Alloc,
     input: &mut I,
     links: &mut S,
-) -> Result<(), DecodeError<I::Error>>
+) -> ReadResult<(), I>
     requires { StartsWithMajor (I.reading input.old) 4 }
     ensures item { WalksItem S.holds S.takes_memory 1 (I.reading input.old) links.old result (I.reading input.new) links.new }
     ensures looked { LooksBehind 3 1 (I.reading input.old) result (I.reading input.new) }
@@ -205,7 +192,7 @@ fn walk_items<I: PayloadReader, S: LinkSink>(
     input: &mut I,
     links: &mut S,
     count: u64,
-) -> Result<(), DecodeError<I::Error>>
+) -> ReadResult<(), I>
     ensures items { WalksItems S.holds S.takes_memory count (I.reading input.old) links.old result (I.reading input.new) links.new }
     ensures looked { Looks 3 (I.reading input.old) result (I.reading input.new) }
     ensures variant { IfErr result OfItem }
@@ -222,7 +209,7 @@ fn walk_map<I: PayloadReader, S: LinkSink>(
     alloc: I::Alloc,
     input: &mut I,
     links: &mut S,
-) -> Result<(), DecodeError<I::Error>>
+) -> ReadResult<(), I>
     requires { StartsWithMajor (I.reading input.old) 5 }
     ensures item { WalksItem S.holds S.takes_memory 1 (I.reading input.old) links.old result (I.reading input.new) links.new }
     ensures looked { LooksBehind 3 1 (I.reading input.old) result (I.reading input.new) }
@@ -242,7 +229,7 @@ fn walk_entries<I: PayloadReader, S: LinkSink>(
     input: &mut I,
     links: &mut S,
     count: u64,
-) -> Result<(), DecodeError<I::Error>>
+) -> ReadResult<(), I>
     ensures entries { WalksEntries S.holds S.takes_memory count (I.reading input.old) links.old result (I.reading input.new) links.new }
     ensures looked { Looks 3 (I.reading input.old) result (I.reading input.new) }
     ensures variant { IfErr result OfItem }

@@ -28,8 +28,8 @@ use crate::access::enum_accessor::{EnumAccessor, spend_form};
 use crate::deserialize::Deserialize;
 use crate::stream::StreamDeserializer;
 use dagcbor_heads::{
-    DecodeError, Input, Name, Read, SliceReader, is_at_end, peek_one, pull_head, pull_one,
-    spend_step,
+    DecodeError, Input, Name, Read, ReadResult, SliceReader, is_at_end, peek_one, pull_head,
+    pull_one, spend_step,
 };
 use dagcbor_items::{
     gather_links, pull_bool, pull_char, pull_i128, pull_link, pull_null, pull_owned_bytes,
@@ -89,7 +89,7 @@ impl<'de, R: Read> Deserializer<'de, R> {
     }
 
     /// Until the call answers, it counts as refused.
-    pub(crate) fn begin(&mut self) -> Result<(), DecodeError<R::Error>>
+    pub(crate) fn begin(&mut self) -> ReadResult<(), R>
         ensures { MatchResult result
             (λ _. ((progress R.reading self.old).failed ≡ false)
             × (progress R.reading self.new ≡ record { input = (progress R.reading self.old).input; failed = true }))
@@ -103,7 +103,7 @@ impl<'de, R: Read> Deserializer<'de, R> {
     }
 
     /// Reads an item of any kind, no deeper than the steps that are left.
-    pub fn deserialize_any(&mut self, alloc: Global) -> Result<Ipld, DecodeError<R::Error>>
+    pub fn deserialize_any(&mut self, alloc: Global) -> ReadResult<Ipld, R>
         ensures item { Over R.reading (Call (ReadsItem 0)) self.old result self.new }
         ensures looked { LooksAtAny (progress R.reading self.old).input result (progress R.reading self.new).input }
         ensures variant { IfErr result OfItem }
@@ -115,7 +115,7 @@ impl<'de, R: Read> Deserializer<'de, R> {
     }
 
     /// Reads a link, and takes no memory.
-    pub fn deserialize_cid(&mut self) -> Result<Cid, DecodeError<R::Error>>
+    pub fn deserialize_cid(&mut self) -> ReadResult<Cid, R>
         ensures link { Over R.reading (Call ReadsLink) self.old result self.new }
         ensures variant { IfErr result OfLink }
     {
@@ -127,7 +127,7 @@ impl<'de, R: Read> Deserializer<'de, R> {
 
     /// Whether the input ends here: `TrailingData` where a byte is left, which stays, and reading
     /// may go on.
-    pub fn end(&mut self) -> Result<(), DecodeError<R::Error>>
+    pub fn end(&mut self) -> ReadResult<(), R>
         ensures { Over R.reading Ends self.old result self.new }
     {
         self.begin()?;
@@ -140,7 +140,7 @@ impl<'de, R: Read> Deserializer<'de, R> {
         }
     }
 
-    fn unsigned(&mut self, name: &str, greatest: u64) -> Result<u64, DecodeError<R::Error>>
+    fn unsigned(&mut self, name: &str, greatest: u64) -> ReadResult<u64, R>
         ensures number { Over R.reading (Call (ReadsUnsigned name.now (greatest + 1))) self.old result self.new }
         ensures most { IfOk result (λ n. n ≤ greatest) }
         ensures variant { IfErr result OfNumber }
@@ -151,7 +151,7 @@ impl<'de, R: Read> Deserializer<'de, R> {
         Ok(number)
     }
 
-    fn signed(&mut self, name: &str, greatest: u64) -> Result<i128, DecodeError<R::Error>>
+    fn signed(&mut self, name: &str, greatest: u64) -> ReadResult<i128, R>
         ensures number { Over R.reading (Call (ReadsSigned name.now (greatest + 1))) self.old result self.new }
         ensures least { IfOk result (λ n. negsuc greatest ≤ℤ n) }
         ensures most { IfOk result (λ n. n ≤ℤ pos greatest) }
@@ -164,7 +164,7 @@ impl<'de, R: Read> Deserializer<'de, R> {
     }
 
     /// Reads a number from 0 to 255.
-    pub fn deserialize_u8(&mut self) -> Result<u8, DecodeError<R::Error>>
+    pub fn deserialize_u8(&mut self) -> ReadResult<u8, R>
         ensures number { Over R.reading (Call (ReadsUnsigned (codes "u8") (2 ^ 8))) self.old result self.new }
         ensures variant { IfErr result OfNumber }
     {
@@ -172,7 +172,7 @@ impl<'de, R: Read> Deserializer<'de, R> {
     }
 
     /// Reads a number from 0 to 65,535.
-    pub fn deserialize_u16(&mut self) -> Result<u16, DecodeError<R::Error>>
+    pub fn deserialize_u16(&mut self) -> ReadResult<u16, R>
         ensures number { Over R.reading (Call (ReadsUnsigned (codes "u16") (2 ^ 16))) self.old result self.new }
         ensures variant { IfErr result OfNumber }
     {
@@ -180,7 +180,7 @@ impl<'de, R: Read> Deserializer<'de, R> {
     }
 
     /// Reads a number from 0 to 2^32 - 1.
-    pub fn deserialize_u32(&mut self) -> Result<u32, DecodeError<R::Error>>
+    pub fn deserialize_u32(&mut self) -> ReadResult<u32, R>
         ensures number { Over R.reading (Call (ReadsUnsigned (codes "u32") (2 ^ 32))) self.old result self.new }
         ensures variant { IfErr result OfNumber }
     {
@@ -188,7 +188,7 @@ impl<'de, R: Read> Deserializer<'de, R> {
     }
 
     /// Reads a number from 0 to 2^64 - 1.
-    pub fn deserialize_u64(&mut self) -> Result<u64, DecodeError<R::Error>>
+    pub fn deserialize_u64(&mut self) -> ReadResult<u64, R>
         ensures number { Over R.reading (Call (ReadsUnsigned (codes "u64") (2 ^ 64))) self.old result self.new }
         ensures variant { IfErr result OfNumber }
     {
@@ -196,7 +196,7 @@ impl<'de, R: Read> Deserializer<'de, R> {
     }
 
     /// Reads a number from -128 to 127.
-    pub fn deserialize_i8(&mut self) -> Result<i8, DecodeError<R::Error>>
+    pub fn deserialize_i8(&mut self) -> ReadResult<i8, R>
         ensures number { Over R.reading (Call (ReadsSigned (codes "i8") (2 ^ 7))) self.old result self.new }
         ensures variant { IfErr result OfNumber }
     {
@@ -204,7 +204,7 @@ impl<'de, R: Read> Deserializer<'de, R> {
     }
 
     /// Reads a number from -32,768 to 32,767.
-    pub fn deserialize_i16(&mut self) -> Result<i16, DecodeError<R::Error>>
+    pub fn deserialize_i16(&mut self) -> ReadResult<i16, R>
         ensures number { Over R.reading (Call (ReadsSigned (codes "i16") (2 ^ 15))) self.old result self.new }
         ensures variant { IfErr result OfNumber }
     {
@@ -212,7 +212,7 @@ impl<'de, R: Read> Deserializer<'de, R> {
     }
 
     /// Reads a number from -2^31 to 2^31 - 1.
-    pub fn deserialize_i32(&mut self) -> Result<i32, DecodeError<R::Error>>
+    pub fn deserialize_i32(&mut self) -> ReadResult<i32, R>
         ensures number { Over R.reading (Call (ReadsSigned (codes "i32") (2 ^ 31))) self.old result self.new }
         ensures variant { IfErr result OfNumber }
     {
@@ -220,7 +220,7 @@ impl<'de, R: Read> Deserializer<'de, R> {
     }
 
     /// Reads a number from -2^63 to 2^63 - 1.
-    pub fn deserialize_i64(&mut self) -> Result<i64, DecodeError<R::Error>>
+    pub fn deserialize_i64(&mut self) -> ReadResult<i64, R>
         ensures number { Over R.reading (Call (ReadsSigned (codes "i64") (2 ^ 63))) self.old result self.new }
         ensures variant { IfErr result OfNumber }
     {
@@ -228,7 +228,7 @@ impl<'de, R: Read> Deserializer<'de, R> {
     }
 
     /// Reads any number from 0 on, but none in a tag.
-    pub fn deserialize_u128(&mut self) -> Result<u128, DecodeError<R::Error>>
+    pub fn deserialize_u128(&mut self) -> ReadResult<u128, R>
         ensures number { Over R.reading (Call ReadsU128) self.old result self.new }
         ensures variant { IfErr result OfNumber }
     {
@@ -239,7 +239,7 @@ impl<'de, R: Read> Deserializer<'de, R> {
     }
 
     /// Reads any number, but none in a tag.
-    pub fn deserialize_i128(&mut self) -> Result<i128, DecodeError<R::Error>>
+    pub fn deserialize_i128(&mut self) -> ReadResult<i128, R>
         ensures number { Over R.reading (Call ReadsI128) self.old result self.new }
         ensures variant { IfErr result OfHead }
     {
@@ -250,7 +250,7 @@ impl<'de, R: Read> Deserializer<'de, R> {
     }
 
     /// Reads a null.
-    pub fn deserialize_unit(&mut self) -> Result<(), DecodeError<R::Error>>
+    pub fn deserialize_unit(&mut self) -> ReadResult<(), R>
         ensures null { Over R.reading (Call ReadsNull) self.old result self.new }
         ensures variant { IfErr result OfByte }
     {
@@ -261,7 +261,7 @@ impl<'de, R: Read> Deserializer<'de, R> {
     }
 
     /// As `deserialize_unit`, whatever the name.
-    pub fn deserialize_unit_struct(&mut self, _name: &str) -> Result<(), DecodeError<R::Error>>
+    pub fn deserialize_unit_struct(&mut self, _name: &str) -> ReadResult<(), R>
         ensures null { Over R.reading (Call ReadsNull) self.old result self.new }
         ensures variant { IfErr result OfByte }
     {
@@ -269,7 +269,7 @@ impl<'de, R: Read> Deserializer<'de, R> {
     }
 
     /// Reads false or true.
-    pub fn deserialize_bool(&mut self) -> Result<bool, DecodeError<R::Error>>
+    pub fn deserialize_bool(&mut self) -> ReadResult<bool, R>
         ensures value { Over R.reading (Call ReadsBool) self.old result self.new }
         ensures variant { IfErr result OfByte }
     {
@@ -280,7 +280,7 @@ impl<'de, R: Read> Deserializer<'de, R> {
     }
 
     /// Reads a text, lent where the input lends.
-    pub fn deserialize_str(&mut self, alloc: Global) -> Result<CowStr<'de>, DecodeError<R::Error>>
+    pub fn deserialize_str(&mut self, alloc: Global) -> ReadResult<CowStr<'de>, R>
         ensures text { Over R.reading (Call (ReadsStr (codes "string"))) self.old result self.new }
         ensures lent { IfOk result (λ s. IsBorrowedStr s ↔ ((progress R.reading self.old).input.lends ≡ true)) }
         ensures variant { IfErr result OfText }
@@ -292,10 +292,7 @@ impl<'de, R: Read> Deserializer<'de, R> {
     }
 
     /// As `deserialize_str`.
-    pub fn deserialize_identifier(
-        &mut self,
-        alloc: Global,
-    ) -> Result<CowStr<'de>, DecodeError<R::Error>>
+    pub fn deserialize_identifier(&mut self, alloc: Global) -> ReadResult<CowStr<'de>, R>
         ensures text { Over R.reading (Call (ReadsStr (codes "string"))) self.old result self.new }
         ensures lent { IfOk result (λ s. IsBorrowedStr s ↔ ((progress R.reading self.old).input.lends ≡ true)) }
         ensures variant { IfErr result OfText }
@@ -304,10 +301,7 @@ impl<'de, R: Read> Deserializer<'de, R> {
     }
 
     /// Reads a byte string, lent where the input lends.
-    pub fn deserialize_bytes(
-        &mut self,
-        alloc: Global,
-    ) -> Result<CowSlice<'de, u8>, DecodeError<R::Error>>
+    pub fn deserialize_bytes(&mut self, alloc: Global) -> ReadResult<CowSlice<'de, u8>, R>
         ensures bytes { Over R.reading (Call ReadsByteSlice) self.old result self.new }
         ensures lent { IfOk result (λ c. IsBorrowedSlice c ↔ ((progress R.reading self.old).input.lends ≡ true)) }
         ensures variant { IfErr result OfHead }
@@ -319,7 +313,7 @@ impl<'de, R: Read> Deserializer<'de, R> {
     }
 
     /// Reads a text.
-    pub fn deserialize_string(&mut self, alloc: Global) -> Result<String, DecodeError<R::Error>>
+    pub fn deserialize_string(&mut self, alloc: Global) -> ReadResult<String, R>
         ensures text { Over R.reading (Call ReadsOwnedText) self.old result self.new }
         ensures variant { IfErr result OfText }
     {
@@ -330,7 +324,7 @@ impl<'de, R: Read> Deserializer<'de, R> {
     }
 
     /// Reads a byte string.
-    pub fn deserialize_byte_buf(&mut self, alloc: Global) -> Result<Vec<u8>, DecodeError<R::Error>>
+    pub fn deserialize_byte_buf(&mut self, alloc: Global) -> ReadResult<Vec<u8>, R>
         ensures bytes { Over R.reading (Call ReadsOwnedBytes) self.old result self.new }
         ensures variant { IfErr result OfHead }
     {
@@ -341,7 +335,7 @@ impl<'de, R: Read> Deserializer<'de, R> {
     }
 
     /// Reads a text of one character.
-    pub fn deserialize_char(&mut self, alloc: Global) -> Result<char, DecodeError<R::Error>>
+    pub fn deserialize_char(&mut self, alloc: Global) -> ReadResult<char, R>
         ensures character { Over R.reading (Call ReadsChar) self.old result self.new }
         ensures variant { IfErr result OfChar }
     {
@@ -352,7 +346,7 @@ impl<'de, R: Read> Deserializer<'de, R> {
     }
 
     /// Nothing was refused so far.
-    pub(crate) fn check(&self) -> Result<(), DecodeError<R::Error>>
+    pub(crate) fn check(&self) -> ReadResult<(), R>
         ensures { MatchResult result
             (λ _. (progress R.reading self.now).failed ≡ false)
             (λ e. ((progress R.reading self.now).failed ≡ true) × (e ≡ Failed)) }
@@ -368,7 +362,7 @@ impl<'de, R: Read> Deserializer<'de, R> {
         &mut self,
         alloc: Global,
         last: &Option<CowStr<'de>>,
-    ) -> Result<(CowStr<'de>, CowStr<'de>), DecodeError<R::Error>>
+    ) -> ReadResult<(CowStr<'de>, CowStr<'de>), R>
         ensures key { Over R.reading (Call (ReadsKeyAfter (option_map cow_str_bytes last.now))) self.old result self.new }
         ensures lent { IfOk result (λ p. IsBorrowedStr p.0 ↔ ((progress R.reading self.old).input.lends ≡ true)) }
         ensures variant { IfErr result OfKey }
@@ -388,7 +382,7 @@ impl<'de, R: Read> Deserializer<'de, R> {
         name: &str,
         major: u8,
         more: u8,
-    ) -> Result<Accessor<'de>, DecodeError<R::Error>>
+    ) -> ReadResult<Accessor<'de>, R>
         ensures accessor_state { Over R.reading (Call (BeginsItems major name.now (more + 1))) self.old result self.new }
         ensures variant { IfErr result OfBegin }
     {
@@ -400,7 +394,7 @@ impl<'de, R: Read> Deserializer<'de, R> {
     }
 
     /// Begins a list. Takes no memory.
-    pub fn deserialize_seq(&mut self) -> Result<Accessor<'de>, DecodeError<R::Error>>
+    pub fn deserialize_seq(&mut self) -> ReadResult<Accessor<'de>, R>
         ensures accessor_state { Over R.reading (Call (BeginsItems 4 (codes "array") 1)) self.old result self.new }
         ensures variant { IfErr result OfBegin }
     {
@@ -408,7 +402,7 @@ impl<'de, R: Read> Deserializer<'de, R> {
     }
 
     /// Begins a list for a tuple, whose length is not looked at. Takes no memory.
-    pub fn deserialize_tuple(&mut self, _len: usize) -> Result<Accessor<'de>, DecodeError<R::Error>>
+    pub fn deserialize_tuple(&mut self, _len: usize) -> ReadResult<Accessor<'de>, R>
         ensures accessor_state { Over R.reading (Call (BeginsItems 4 (codes "tuple") 1)) self.old result self.new }
         ensures variant { IfErr result OfBegin }
     {
@@ -420,7 +414,7 @@ impl<'de, R: Read> Deserializer<'de, R> {
         &mut self,
         name: &str,
         _len: usize,
-    ) -> Result<Accessor<'de>, DecodeError<R::Error>>
+    ) -> ReadResult<Accessor<'de>, R>
         ensures accessor_state { Over R.reading (Call (BeginsItems 4 name.now 1)) self.old result self.new }
         ensures variant { IfErr result OfBegin }
     {
@@ -428,7 +422,7 @@ impl<'de, R: Read> Deserializer<'de, R> {
     }
 
     /// Begins a map. Takes no memory.
-    pub fn deserialize_map(&mut self) -> Result<Accessor<'de>, DecodeError<R::Error>>
+    pub fn deserialize_map(&mut self) -> ReadResult<Accessor<'de>, R>
         ensures accessor_state { Over R.reading (Call (BeginsItems 5 (codes "map") 1)) self.old result self.new }
         ensures variant { IfErr result OfBegin }
     {
@@ -440,14 +434,14 @@ impl<'de, R: Read> Deserializer<'de, R> {
         &mut self,
         name: &str,
         _fields: &[&str],
-    ) -> Result<Accessor<'de>, DecodeError<R::Error>>
+    ) -> ReadResult<Accessor<'de>, R>
         ensures accessor_state { Over R.reading (Call (BeginsItems 5 name.now 1)) self.old result self.new }
         ensures variant { IfErr result OfBegin }
     {
         self.begin_items(name, 5, 0)
     }
 
-    fn enter_option(&mut self) -> Result<bool, DecodeError<R::Error>>
+    fn enter_option(&mut self) -> ReadResult<bool, R>
         ensures { Over R.reading (Call EntersOption) self.old result self.new }
     {
         self.begin()?;
@@ -457,10 +451,7 @@ impl<'de, R: Read> Deserializer<'de, R> {
     }
 
     /// Reads a value as its type does, and remembers a refusal of the type's own.
-    pub(crate) fn read_part<T: Deserialize<'de>>(
-        &mut self,
-        alloc: Global,
-    ) -> Result<T, DecodeError<R::Error>>
+    pub(crate) fn read_part<T: Deserialize<'de>>(&mut self, alloc: Global) -> ReadResult<T, R>
         ensures { Over R.reading (Call (ReadsPart T.meaning T.shape)) self.old result self.new }
     {
         if self.failed {
@@ -480,7 +471,7 @@ impl<'de, R: Read> Deserializer<'de, R> {
         &mut self,
         alloc: Global,
         _name: &str,
-    ) -> Result<T, DecodeError<R::Error>>
+    ) -> ReadResult<T, R>
         ensures { Over R.reading (Call (ReadsPart T.meaning T.shape)) self.old result self.new }
     {
         self.read_part(alloc)
@@ -490,7 +481,7 @@ impl<'de, R: Read> Deserializer<'de, R> {
     pub fn deserialize_option<T: Deserialize<'de>>(
         &mut self,
         alloc: Global,
-    ) -> Result<Option<T>, DecodeError<R::Error>>
+    ) -> ReadResult<Option<T>, R>
         ensures { Over R.reading (Call (ReadsOption T.meaning T.shape)) self.old result self.new }
     {
         if self.enter_option()? {
@@ -506,7 +497,7 @@ impl<'de, R: Read> Deserializer<'de, R> {
         &mut self,
         name: &str,
         _variants: &[&str],
-    ) -> Result<EnumAccessor, DecodeError<R::Error>>
+    ) -> ReadResult<EnumAccessor, R>
         ensures form { Over R.reading (Call (SpendsEnum name.now)) self.old result self.new }
         ensures variant { IfErr result OfForm }
     {
@@ -518,7 +509,7 @@ impl<'de, R: Read> Deserializer<'de, R> {
 
     /// Skips an item of any kind, with what `deserialize_any` refuses. Over a slice it takes no
     /// memory.
-    pub fn deserialize_ignored_any(&mut self, alloc: Global) -> Result<(), DecodeError<R::Error>>
+    pub fn deserialize_ignored_any(&mut self, alloc: Global) -> ReadResult<(), R>
         ensures item { Over R.reading (Call ReadsIgnored) self.old result self.new }
         ensures looked { LooksAtAny (progress R.reading self.old).input result (progress R.reading self.new).input }
         ensures variant { IfErr result OfItem }
@@ -531,7 +522,7 @@ impl<'de, R: Read> Deserializer<'de, R> {
 
     /// Reads an item of any kind, with what `deserialize_any` refuses, and keeps its links alone:
     /// left to right, repeats kept.
-    pub fn deserialize_links(&mut self, alloc: Global) -> Result<Vec<Cid>, DecodeError<R::Error>>
+    pub fn deserialize_links(&mut self, alloc: Global) -> ReadResult<Vec<Cid>, R>
         ensures links { Over R.reading (Call (GathersLinks 0)) self.old result self.new }
         ensures looked { LooksAtAny (progress R.reading self.old).input result (progress R.reading self.new).input }
     {
@@ -552,7 +543,7 @@ impl<'de, R: Read> Deserializer<'de, R> {
     pub(crate) fn next_value<T: Deserialize<'de>>(
         &mut self,
         alloc: Global,
-    ) -> Result<Option<T>, DecodeError<R::Error>>
+    ) -> ReadResult<Option<T>, R>
         ensures { Over R.reading (Call (ReadsNext T.meaning T.shape)) self.old result self.new }
     {
         self.begin()?;
@@ -568,7 +559,7 @@ impl<'de, R: Read> Deserializer<'de, R> {
 
 /// Spends a step, and takes the head of a list or map.
 #[tactic(auto, using(crate::proofs::Entering::begins))]
-fn enter<R: Read>(name: &str, reader: &mut R, major: u8) -> Result<u64, DecodeError<R::Error>>
+fn enter<R: Read>(name: &str, reader: &mut R, major: u8) -> ReadResult<u64, R>
     ensures head { ReadsHead major name.now (R.reading reader.old) result (R.reading reader.new) }
     ensures variant { IfErr result OfBegin }
 {
@@ -582,7 +573,7 @@ fn enter<R: Read>(name: &str, reader: &mut R, major: u8) -> Result<u64, DecodeEr
 }
 
 /// Whether a null stood there, which is taken. Else a step is spent.
-fn enter_option<R: Read>(reader: &mut R) -> Result<bool, DecodeError<R::Error>>
+fn enter_option<R: Read>(reader: &mut R) -> ReadResult<bool, R>
     ensures { EntersOption (R.reading reader.old) result (R.reading reader.new) }
 {
     let first = peek_one("option", reader)?;

@@ -7,7 +7,7 @@ ghost use Rattle.dagcbor_read.specs.Streams.{streaming, items_left, GivesNext};
 
 use crate::deserialize::{Deserialize, DeserializeOwned};
 use crate::deserializer::Deserializer;
-use dagcbor_heads::{DecodeError, IoReader, Read};
+use dagcbor_heads::{IoReader, Read, ReadResult};
 use std::alloc::Global;
 use std::io::BufRead;
 use std::marker::PhantomData;
@@ -37,7 +37,7 @@ impl<'de, R: Read, T: Deserialize<'de>> StreamDeserializer<'de, R, T> {
 }
 
 impl<'de, R: Read, T: Deserialize<'de>> Iterator for StreamDeserializer<'de, R, T> {
-    type Item = Result<T, DecodeError<R::Error>>;
+    type Item = ReadResult<T, R>;
 
     // Nothing of a stream that is done; else what reading the next value answers.
     ghost next_gives = { λ old item new. GivesNext T.meaning T.shape (streaming R.reading old) item (streaming R.reading new) };
@@ -45,7 +45,7 @@ impl<'de, R: Read, T: Deserialize<'de>> Iterator for StreamDeserializer<'de, R, 
     // Of n bytes at most n + 1 items, since a value takes a byte.
     ghost remaining = { λ s. items_left (streaming R.reading s) };
 
-    fn next(&mut self) -> Option<Result<T, DecodeError<R::Error>>> {
+    fn next(&mut self) -> Option<ReadResult<T, R>> {
         if self.done {
             return None;
         }

@@ -6,7 +6,7 @@ ghost use Rattle.ipld_tree.specs.Tree.{Tree, IsTree};
 ghost use Rattle.ipld_tree.specs.Spelled.{spelled_tree};
 
 use crate::serializer::Serializer;
-use dagcbor_heads::{EncodeError, Write};
+use dagcbor_heads::{Write, WriteResult};
 use std::alloc::Global;
 
 /// A value that can be written.
@@ -16,11 +16,7 @@ pub trait Serialize {
 
     /// Appends the spelling of the value's tree. Refused with `Msg` only where there is none. After
     /// a refusal of a value with a spelling a beginning of it may have gone out.
-    fn serialize<W: Write>(
-        &self,
-        alloc: Global,
-        ser: &mut Serializer<W>,
-    ) -> Result<(), EncodeError<W::Error>>
+    fn serialize<W: Write>(&self, alloc: Global, ser: &mut Serializer<W>) -> WriteResult<(), W>
         ensures written { Writes (spelled_tree (tree self.now))
             (W.written ser.old) (W.written ser.new) result }
         ensures well_formed { OnOk result (IfSome (tree self.now) IsTree) };

@@ -13,7 +13,7 @@ ghost use Rattle.dagcbor_write.specs.Trees.{variant_tree, variant_head};
 
 use crate::serialize::Serialize;
 use arrayvec::ArrayVec;
-use dagcbor_heads::{EncodeError, Write, push_head};
+use dagcbor_heads::{EncodeError, Write, WriteResult, push_head};
 use ipld_tree::Cid;
 use std::alloc::Global;
 use std::marker::Model;
@@ -63,7 +63,7 @@ impl<W> Serializer<W> {
 impl<W: Write> Serializer<W> {
     /// f4 or f5.
     #[tactic(auto, unfolding(ipld_tree::specs::Spelled::spelled))]
-    pub fn serialize_bool(&mut self, v: bool) -> Result<(), EncodeError<W::Error>>
+    pub fn serialize_bool(&mut self, v: bool) -> WriteResult<(), W>
         ensures written { Writes (spelled (boolean v))
             (W.written self.old) (W.written self.new) result }
         ensures memory { WantsMemoryOnlyIf W.takes_memory result }
@@ -72,7 +72,7 @@ impl<W: Write> Serializer<W> {
     }
 
     /// As `serialize_i16`.
-    pub fn serialize_i8(&mut self, v: i8) -> Result<(), EncodeError<W::Error>>
+    pub fn serialize_i8(&mut self, v: i8) -> WriteResult<(), W>
         ensures written { Writes (spelled (integer v))
             (W.written self.old) (W.written self.new) result }
         ensures memory { WantsMemoryOnlyIf W.takes_memory result }
@@ -81,7 +81,7 @@ impl<W: Write> Serializer<W> {
     }
 
     /// As `serialize_i32`.
-    pub fn serialize_i16(&mut self, v: i16) -> Result<(), EncodeError<W::Error>>
+    pub fn serialize_i16(&mut self, v: i16) -> WriteResult<(), W>
         ensures written { Writes (spelled (integer v))
             (W.written self.old) (W.written self.new) result }
         ensures memory { WantsMemoryOnlyIf W.takes_memory result }
@@ -90,7 +90,7 @@ impl<W: Write> Serializer<W> {
     }
 
     /// As `serialize_i64`.
-    pub fn serialize_i32(&mut self, v: i32) -> Result<(), EncodeError<W::Error>>
+    pub fn serialize_i32(&mut self, v: i32) -> WriteResult<(), W>
         ensures written { Writes (spelled (integer v))
             (W.written self.old) (W.written self.new) result }
         ensures memory { WantsMemoryOnlyIf W.takes_memory result }
@@ -100,7 +100,7 @@ impl<W: Write> Serializer<W> {
 
     /// A head of major type 0 or 1.
     #[tactic(auto, unfolding(ipld_tree::specs::Spelled::spelled))]
-    pub fn serialize_i64(&mut self, v: i64) -> Result<(), EncodeError<W::Error>>
+    pub fn serialize_i64(&mut self, v: i64) -> WriteResult<(), W>
         ensures written { Writes (spelled (integer v))
             (W.written self.old) (W.written self.new) result }
         ensures memory { WantsMemoryOnlyIf W.takes_memory result }
@@ -112,7 +112,7 @@ impl<W: Write> Serializer<W> {
     /// A head of major type 0 or 1. Outside -2^64 to 2^64 - 1 refused with
     /// `Msg("Integer must be within [-u64::MAX-1, u64::MAX] range")`.
     #[tactic(auto, unfolding(ipld_tree::specs::Spelled::spelled))]
-    pub fn serialize_i128(&mut self, v: i128) -> Result<(), EncodeError<W::Error>>
+    pub fn serialize_i128(&mut self, v: i128) -> WriteResult<(), W>
         ensures written { Writes (spelled (integer v))
             (W.written self.old) (W.written self.new) result }
         ensures memory { WantsMemoryOnlyIf W.takes_memory result }
@@ -127,7 +127,7 @@ impl<W: Write> Serializer<W> {
     }
 
     /// As `serialize_u16`.
-    pub fn serialize_u8(&mut self, v: u8) -> Result<(), EncodeError<W::Error>>
+    pub fn serialize_u8(&mut self, v: u8) -> WriteResult<(), W>
         ensures written { Writes (spelled (integer (pos v)))
             (W.written self.old) (W.written self.new) result }
         ensures memory { WantsMemoryOnlyIf W.takes_memory result }
@@ -136,7 +136,7 @@ impl<W: Write> Serializer<W> {
     }
 
     /// As `serialize_u32`.
-    pub fn serialize_u16(&mut self, v: u16) -> Result<(), EncodeError<W::Error>>
+    pub fn serialize_u16(&mut self, v: u16) -> WriteResult<(), W>
         ensures written { Writes (spelled (integer (pos v)))
             (W.written self.old) (W.written self.new) result }
         ensures memory { WantsMemoryOnlyIf W.takes_memory result }
@@ -145,7 +145,7 @@ impl<W: Write> Serializer<W> {
     }
 
     /// As `serialize_u64`.
-    pub fn serialize_u32(&mut self, v: u32) -> Result<(), EncodeError<W::Error>>
+    pub fn serialize_u32(&mut self, v: u32) -> WriteResult<(), W>
         ensures written { Writes (spelled (integer (pos v)))
             (W.written self.old) (W.written self.new) result }
         ensures memory { WantsMemoryOnlyIf W.takes_memory result }
@@ -155,7 +155,7 @@ impl<W: Write> Serializer<W> {
 
     /// A head of major type 0.
     #[tactic(auto, unfolding(ipld_tree::specs::Spelled::spelled))]
-    pub fn serialize_u64(&mut self, v: u64) -> Result<(), EncodeError<W::Error>>
+    pub fn serialize_u64(&mut self, v: u64) -> WriteResult<(), W>
         ensures written { Writes (spelled (integer (pos v)))
             (W.written self.old) (W.written self.new) result }
         ensures memory { WantsMemoryOnlyIf W.takes_memory result }
@@ -166,7 +166,7 @@ impl<W: Write> Serializer<W> {
     /// A head of major type 0. Above 2^64 - 1 refused with `Msg("Unsigned integer must be within
     /// [0, u64::MAX] range")`.
     #[tactic(auto, unfolding(ipld_tree::specs::Spelled::spelled))]
-    pub fn serialize_u128(&mut self, v: u128) -> Result<(), EncodeError<W::Error>>
+    pub fn serialize_u128(&mut self, v: u128) -> WriteResult<(), W>
         ensures written { Writes (spelled (integer (pos v)))
             (W.written self.old) (W.written self.new) result }
         ensures memory { WantsMemoryOnlyIf W.takes_memory result }
@@ -180,7 +180,7 @@ impl<W: Write> Serializer<W> {
     }
 
     /// A text of one character.
-    pub fn serialize_char(&mut self, v: char) -> Result<(), EncodeError<W::Error>>
+    pub fn serialize_char(&mut self, v: char) -> WriteResult<(), W>
         ensures written { Writes (spelled (text (encode_utf8 v)))
             (W.written self.old) (W.written self.new) result }
         ensures memory { WantsMemoryOnlyIf W.takes_memory result }
@@ -192,7 +192,7 @@ impl<W: Write> Serializer<W> {
 
     /// A head of major type 3 and the bytes of the text.
     #[tactic(auto, unfolding(ipld_tree::specs::Spelled::spelled))]
-    pub fn serialize_str(&mut self, v: &str) -> Result<(), EncodeError<W::Error>>
+    pub fn serialize_str(&mut self, v: &str) -> WriteResult<(), W>
         ensures written { Writes (spelled (text v.now))
             (W.written self.old) (W.written self.new) result }
         ensures memory { WantsMemoryOnlyIf W.takes_memory result }
@@ -202,7 +202,7 @@ impl<W: Write> Serializer<W> {
 
     /// A head of major type 2 and the bytes.
     #[tactic(auto, unfolding(ipld_tree::specs::Spelled::spelled))]
-    pub fn serialize_bytes(&mut self, v: &[u8]) -> Result<(), EncodeError<W::Error>>
+    pub fn serialize_bytes(&mut self, v: &[u8]) -> WriteResult<(), W>
         ensures written { Writes (spelled (bytes v.now))
             (W.written self.old) (W.written self.new) result }
         ensures memory { WantsMemoryOnlyIf W.takes_memory result }
@@ -212,7 +212,7 @@ impl<W: Write> Serializer<W> {
 
     /// f6.
     #[tactic(auto, unfolding(ipld_tree::specs::Spelled::spelled))]
-    pub fn serialize_none(&mut self) -> Result<(), EncodeError<W::Error>>
+    pub fn serialize_none(&mut self) -> WriteResult<(), W>
         ensures written { Writes (spelled null) (W.written self.old) (W.written self.new) result }
         ensures memory { WantsMemoryOnlyIf W.takes_memory result }
     {
@@ -220,7 +220,7 @@ impl<W: Write> Serializer<W> {
     }
 
     /// f6.
-    pub fn serialize_unit(&mut self) -> Result<(), EncodeError<W::Error>>
+    pub fn serialize_unit(&mut self) -> WriteResult<(), W>
         ensures written { Writes (spelled null) (W.written self.old) (W.written self.new) result }
         ensures memory { WantsMemoryOnlyIf W.takes_memory result }
     {
@@ -228,10 +228,7 @@ impl<W: Write> Serializer<W> {
     }
 
     /// f6. The name is not looked at.
-    pub fn serialize_unit_struct(
-        &mut self,
-        _name: &'static str,
-    ) -> Result<(), EncodeError<W::Error>>
+    pub fn serialize_unit_struct(&mut self, _name: &'static str) -> WriteResult<(), W>
         ensures written { Writes (spelled null) (W.written self.old) (W.written self.new) result }
         ensures memory { WantsMemoryOnlyIf W.takes_memory result }
     {
@@ -240,7 +237,7 @@ impl<W: Write> Serializer<W> {
 
     /// d8 2a, a head of major type 2, a zero byte and the binary form. Each CID has a spelling, so
     /// `Msg` is never answered.
-    pub fn serialize_cid(&mut self, cid: &Cid) -> Result<(), EncodeError<W::Error>>
+    pub fn serialize_cid(&mut self, cid: &Cid) -> WriteResult<(), W>
         ensures written { Writes (spelled (link (cid_bytes cid.now)))
             (W.written self.old) (W.written self.new) result }
         ensures memory { WantsMemoryOnlyIf W.takes_memory result }
@@ -253,7 +250,7 @@ impl<W: Write> Serializer<W> {
     }
 
     /// A head of a list or a map.
-    pub(crate) fn push_head(&mut self, major: u8, count: usize) -> Result<(), EncodeError<W::Error>>
+    pub(crate) fn push_head(&mut self, major: u8, count: usize) -> WriteResult<(), W>
         requires { major ≤ 7 }
         ensures written { Writes (spelled_head major count)
             (W.written self.old) (W.written self.new) result }
@@ -263,7 +260,7 @@ impl<W: Write> Serializer<W> {
     }
 
     /// Bytes that are spelled already.
-    pub(crate) fn push(&mut self, bytes: &[u8]) -> Result<(), EncodeError<W::Error>>
+    pub(crate) fn push(&mut self, bytes: &[u8]) -> WriteResult<(), W>
         ensures written { Writes (Some bytes.now) (W.written self.old) (W.written self.new) result }
         ensures memory { WantsMemoryOnlyIf W.takes_memory result }
     {
@@ -271,11 +268,7 @@ impl<W: Write> Serializer<W> {
     }
 
     /// The part itself.
-    pub fn serialize_some<T: Serialize>(
-        &mut self,
-        alloc: Global,
-        value: &T,
-    ) -> Result<(), EncodeError<W::Error>>
+    pub fn serialize_some<T: Serialize>(&mut self, alloc: Global, value: &T) -> WriteResult<(), W>
         ensures written { Writes (spelled_tree (T.tree value.now))
             (W.written self.old) (W.written self.new) result }
         ensures well_formed { OnOk result (IfSome (T.tree value.now) IsTree) }
@@ -289,7 +282,7 @@ impl<W: Write> Serializer<W> {
         alloc: Global,
         _name: &'static str,
         value: &T,
-    ) -> Result<(), EncodeError<W::Error>>
+    ) -> WriteResult<(), W>
         ensures written { Writes (spelled_tree (T.tree value.now))
             (W.written self.old) (W.written self.new) result }
         ensures well_formed { OnOk result (IfSome (T.tree value.now) IsTree) }
@@ -303,7 +296,7 @@ impl<W: Write> Serializer<W> {
         _name: &'static str,
         _index: u32,
         variant: &'static str,
-    ) -> Result<(), EncodeError<W::Error>>
+    ) -> WriteResult<(), W>
         ensures written { Writes (spelled (text variant.now))
             (W.written self.old) (W.written self.new) result }
         ensures memory { WantsMemoryOnlyIf W.takes_memory result }
@@ -320,7 +313,7 @@ impl<W: Write> Serializer<W> {
         _index: u32,
         variant: &'static str,
         value: &T,
-    ) -> Result<(), EncodeError<W::Error>>
+    ) -> WriteResult<(), W>
         ensures written { Writes (spelled_tree (variant_tree variant.now (T.tree value.now)))
             (W.written self.old) (W.written self.new) result }
         ensures well_formed { OnOk result
@@ -331,7 +324,7 @@ impl<W: Write> Serializer<W> {
     }
 
     /// The head of a map of one entry, and its key.
-    pub(crate) fn push_variant(&mut self, name: &str) -> Result<(), EncodeError<W::Error>>
+    pub(crate) fn push_variant(&mut self, name: &str) -> WriteResult<(), W>
         ensures written { Writes (variant_head name.now)
             (W.written self.old) (W.written self.new) result }
         ensures well_formed { OnOk result (IsTree (text name.now)) }
@@ -346,7 +339,7 @@ impl<W: Write> Serializer<W> {
         variant: &'static str,
         major: u8,
         len: usize,
-    ) -> Result<(), EncodeError<W::Error>>
+    ) -> WriteResult<(), W>
         requires { major ≤ 7 }
         ensures written { Writes (variant_head variant.now ++? spelled_head major len)
             (W.written self.old) (W.written self.new) result }
@@ -358,11 +351,7 @@ impl<W: Write> Serializer<W> {
 }
 
 /// Appends a head of the number of bytes, and the bytes.
-fn push_counted<W: Write>(
-    writer: &mut W,
-    major: u8,
-    payload: &[u8],
-) -> Result<(), EncodeError<W::Error>>
+fn push_counted<W: Write>(writer: &mut W, major: u8, payload: &[u8]) -> WriteResult<(), W>
     requires { major ≤ 7 }
     ensures written { Writes (spelled_bytes major payload.now)
         (W.written writer.old) (W.written writer.new) result }
@@ -373,7 +362,7 @@ fn push_counted<W: Write>(
 }
 
 /// Appends the link to a CID of this binary form.
-fn push_link<W: Write>(writer: &mut W, cid: &ArrayVec<u8, 86>) -> Result<(), EncodeError<W::Error>>
+fn push_link<W: Write>(writer: &mut W, cid: &ArrayVec<u8, 86>) -> WriteResult<(), W>
     ensures written { Writes (spelled (link cid.now.items))
         (W.written writer.old) (W.written writer.new) result }
     ensures memory { WantsMemoryOnlyIf W.takes_memory result }

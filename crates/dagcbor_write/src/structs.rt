@@ -13,7 +13,7 @@ ghost use Rattle.dagcbor_write.specs.Lending.{map_lent, map_held, SameLoan};
 use crate::collect::collect_map::CollectMap;
 use crate::serialize::Serialize;
 use crate::serializer::Serializer;
-use dagcbor_heads::{EncodeError, Write};
+use dagcbor_heads::{Write, WriteResult};
 use std::alloc::Global;
 
 /// A field of a struct: its name and its value.
@@ -27,7 +27,7 @@ pub trait FieldRow: Copy {
 
     /// Hands the fields over, one after another. Refused with `Msg("Struct value cannot be
     /// serialized.")` where one has no spelling.
-    fn push_fields<W: Write>(self, map: &mut CollectMap<'_, W>) -> Result<(), EncodeError<W::Error>>
+    fn push_fields<W: Write>(self, map: &mut CollectMap<'_, W>) -> WriteResult<(), W>
         requires { (map_held map.old).key ≡ None }
         ensures same_reference { SameLoan (map_lent map.old) (map_lent map.new) }
         ensures unchanged { (map_lent map.new).now ≡ (map_lent map.old).now }
@@ -41,10 +41,7 @@ pub trait FieldRow: Copy {
 impl FieldRow for () {
     ghost pairs = { λ u. [] };
 
-    fn push_fields<W: Write>(
-        self,
-        _map: &mut CollectMap<'_, W>,
-    ) -> Result<(), EncodeError<W::Error>> {
+    fn push_fields<W: Write>(self, _map: &mut CollectMap<'_, W>) -> WriteResult<(), W> {
         Ok(())
     }
 }
@@ -52,10 +49,7 @@ impl FieldRow for () {
 impl<T: Serialize, L: FieldRow> FieldRow for (Field<'_, T>, L) {
     ghost pairs = { λ row. field row.0.0.now (T.tree row.0.1.now) ∷ L.pairs row.1 };
 
-    fn push_fields<W: Write>(
-        self,
-        map: &mut CollectMap<'_, W>,
-    ) -> Result<(), EncodeError<W::Error>> {
+    fn push_fields<W: Write>(self, map: &mut CollectMap<'_, W>) -> WriteResult<(), W> {
         let (Field(name, value), others) = self;
         map.serialize_field(name, value)?;
         others.push_fields(map)
@@ -73,7 +67,7 @@ pub fn write_struct<F: FieldRow, W: Write>(
     alloc: Global,
     fields: F,
     ser: &mut Serializer<W>,
-) -> Result<(), EncodeError<W::Error>>
+) -> WriteResult<(), W>
     ensures written { Writes (spelled_tree (entries_tree (F.pairs fields)))
         (W.written ser.old) (W.written ser.new) result }
     ensures well_formed { OnOk result (IfSome (entries_tree (F.pairs fields)) IsTree) }
@@ -96,7 +90,7 @@ pub fn write_struct_variant<F: FieldRow, W: Write>(
     variant: &str,
     fields: F,
     ser: &mut Serializer<W>,
-) -> Result<(), EncodeError<W::Error>>
+) -> WriteResult<(), W>
     ensures written { Writes
         (spelled_tree (variant_tree variant.now (entries_tree (F.pairs fields))))
         (W.written ser.old) (W.written ser.new) result }

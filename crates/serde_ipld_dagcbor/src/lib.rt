@@ -21,9 +21,9 @@ pub mod ser;
 
 pub use dagcbor_heads::{
     ArithmeticOverflow, BufWriter, DEFAULT_STEPS, DecodeError, EncodeError, Input, IoReader,
-    IoRefReader, IoRefWriter, IoWriter, Len, Message, Name, Read, Reference, SliceReader, Tally,
-    Write, is_at_end, is_indefinite, peek_one, pull_head, pull_one, pull_payload,
-    pull_short_payload, push_head,
+    IoRefReader, IoRefWriter, IoWriter, Len, Message, Name, Read, ReadResult, Reference,
+    SliceReader, Tally, Write, WriteResult, is_at_end, is_indefinite, peek_one, pull_head,
+    pull_one, pull_payload, pull_short_payload, push_head,
 };
 pub use dagcbor_items::{Kind, any_from_slice, check_slice, links_from_slice};
 pub use dagcbor_read::{

@@ -5,7 +5,7 @@ ghost use Rattle.serde_ipld_dagcbor.specs.Tree.{integer, entries_tree};
 ghost use Rattle.serde_ipld_dagcbor.specs.Trees.{field};
 
 use crate::name_of;
-use serde_ipld_dagcbor::{EncodeError, Field, Serialize, Serializer, Write, write_struct};
+use serde_ipld_dagcbor::{Field, Serialize, Serializer, Write, WriteResult, write_struct};
 use std::alloc::Global;
 use std::collections::HashMap;
 use std::test::Fail;
@@ -19,11 +19,7 @@ impl Serialize for Pair {
     ghost tree = { λ p. entries_tree (field (codes "a") (Some (integer (pos p.a)))
         ∷ field (codes "b") (Some (integer (pos p.b))) ∷ []) };
 
-    fn serialize<W: Write>(
-        &self,
-        alloc: Global,
-        ser: &mut Serializer<W>,
-    ) -> Result<(), EncodeError<W::Error>> {
+    fn serialize<W: Write>(&self, alloc: Global, ser: &mut Serializer<W>) -> WriteResult<(), W> {
         let fields = (Field("a", &self.a), (Field("b", &self.b), ()));
         write_struct(alloc, fields, ser)
     }

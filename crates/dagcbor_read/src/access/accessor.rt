@@ -10,7 +10,7 @@ ghost use Rattle.dagcbor_read.specs.Parts.{ReadsPart};
 
 use crate::deserialize::Deserialize;
 use crate::deserializer::Deserializer;
-use dagcbor_heads::{DecodeError, Name, Read};
+use dagcbor_heads::{DecodeError, Name, Read, ReadResult};
 use std::alloc::{AllocError, Global};
 use std::borrow::CowStr;
 
@@ -96,7 +96,7 @@ impl<'de> Accessor<'de> {
         &mut self,
         alloc: Global,
         de: &mut Deserializer<'de, R>,
-    ) -> Result<Option<T>, DecodeError<R::Error>>
+    ) -> ReadResult<Option<T>, R>
         requires { (accessor_state self.old).is_map ≡ false }
         ensures after { accessor_state self.new ≡ after_element result (accessor_state self.old) }
         ensures element { Over R.reading (Call (ReadsElement T.meaning T.shape (accessor_state self.old).left)) de.old result de.new }
@@ -115,7 +115,7 @@ impl<'de> Accessor<'de> {
         &mut self,
         alloc: Global,
         de: &mut Deserializer<'de, R>,
-    ) -> Result<Option<CowStr<'de>>, DecodeError<R::Error>>
+    ) -> ReadResult<Option<CowStr<'de>>, R>
         requires map { (accessor_state self.old).is_map ≡ true }
         requires in_turn { (accessor_state self.old).owes_value ≡ false }
         ensures after { accessor_state self.new ≡ after_key result (accessor_state self.old) }
@@ -139,7 +139,7 @@ impl<'de> Accessor<'de> {
         &mut self,
         alloc: Global,
         de: &mut Deserializer<'de, R>,
-    ) -> Result<T, DecodeError<R::Error>>
+    ) -> ReadResult<T, R>
         requires { (accessor_state self.old).owes_value ≡ true }
         ensures after { accessor_state self.new ≡ after_value result (accessor_state self.old) }
         ensures value { Over R.reading (Call (ReadsPart T.meaning T.shape)) de.old result de.new }
@@ -157,7 +157,7 @@ impl<'de> Accessor<'de> {
     }
 
     /// Ends the list or map, and gives its steps back.
-    pub fn end<R: Read>(self, de: &mut Deserializer<'de, R>) -> Result<(), DecodeError<R::Error>>
+    pub fn end<R: Read>(self, de: &mut Deserializer<'de, R>) -> ReadResult<(), R>
         requires in_turn { (accessor_state self).owes_value ≡ false }
         requires out { AreOut (accessor_state self).steps (progress R.reading de.old) }
         ensures { Over R.reading (Call (EndsItems (accessor_state self.entry))) de.old result de.new }

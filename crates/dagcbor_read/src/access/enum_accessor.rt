@@ -12,7 +12,7 @@ ghost use Rattle.dagcbor_items.specs.Variants.{OfByte, OfText};
 use crate::access::accessor::{Accessor, give_back};
 use crate::deserialize::Deserialize;
 use crate::deserializer::Deserializer;
-use dagcbor_heads::{DecodeError, Read, peek_one, pull_one, spend_step};
+use dagcbor_heads::{DecodeError, Read, ReadResult, peek_one, pull_one, spend_step};
 use std::alloc::Global;
 use std::borrow::CowStr;
 
@@ -28,7 +28,7 @@ pub struct EnumAccessor {
 /// The form of the enum that begins here: the first byte of a text, which stays, or a1, which is
 /// taken.
 #[tactic(auto, using(dagcbor_items::proofs::Variants::end_byte))]
-fn pull_form<R: Read>(reader: &mut R) -> Result<EnumAccessor, DecodeError<R::Error>>
+fn pull_form<R: Read>(reader: &mut R) -> ReadResult<EnumAccessor, R>
     ensures form { BeginsEnum (R.reading reader.old) result (R.reading reader.new) }
     ensures variant { IfErr result OfByte }
 {
@@ -48,10 +48,7 @@ fn pull_form<R: Read>(reader: &mut R) -> Result<EnumAccessor, DecodeError<R::Err
 
 /// The same, for a step.
 #[tactic(auto, using(crate::proofs::Entering::depth_form, crate::proofs::Entering::byte_form))]
-pub(crate) fn spend_form<R: Read>(
-    name: &str,
-    reader: &mut R,
-) -> Result<EnumAccessor, DecodeError<R::Error>>
+pub(crate) fn spend_form<R: Read>(name: &str, reader: &mut R) -> ReadResult<EnumAccessor, R>
     ensures form { SpendsEnum name.now (R.reading reader.old) result (R.reading reader.new) }
     ensures variant { IfErr result OfForm }
 {
@@ -63,9 +60,7 @@ pub(crate) fn spend_form<R: Read>(
 
 impl EnumAccessor {
     /// Begins an enum, for no step. Takes no memory.
-    pub fn enum_<'de, R: Read>(
-        de: &mut Deserializer<'de, R>,
-    ) -> Result<EnumAccessor, DecodeError<R::Error>>
+    pub fn enum_<'de, R: Read>(de: &mut Deserializer<'de, R>) -> ReadResult<EnumAccessor, R>
         ensures form { Over R.reading (Call BeginsEnum) de.old result de.new }
         ensures variant { IfErr result OfByte }
     {
@@ -80,7 +75,7 @@ impl EnumAccessor {
         self,
         alloc: Global,
         de: &mut Deserializer<'de, R>,
-    ) -> Result<(CowStr<'de>, EnumAccessor), DecodeError<R::Error>>
+    ) -> ReadResult<(CowStr<'de>, EnumAccessor), R>
         ensures same { IfOk result (λ v. v.1 ≡ self) }
         ensures text { Over R.reading (Call ReadsName) de.old result de.new }
         ensures lent { IfOk result (λ v. IsBorrowedStr v.0 ↔ ((progress R.reading de.old).input.lends ≡ true)) }
@@ -91,10 +86,7 @@ impl EnumAccessor {
     }
 
     /// After a variant's name alone, nothing is read. Else `Mismatch` with the enum's first byte.
-    pub fn unit_variant<'de, R: Read>(
-        self,
-        de: &mut Deserializer<'de, R>,
-    ) -> Result<(), DecodeError<R::Error>>
+    pub fn unit_variant<'de, R: Read>(self, de: &mut Deserializer<'de, R>) -> ReadResult<(), R>
         requires { AreOut (enum_state self).steps (progress R.reading de.old) }
         ensures { Over R.reading (Call (EndsUnit (enum_state self))) de.old result de.new }
     {
@@ -112,7 +104,7 @@ impl EnumAccessor {
         self,
         alloc: Global,
         de: &mut Deserializer<'de, R>,
-    ) -> Result<T, DecodeError<R::Error>>
+    ) -> ReadResult<T, R>
         requires { AreOut (enum_state self).steps (progress R.reading de.old) }
         ensures { Over R.reading (Call (ReadsHeld T.meaning T.shape (enum_state self))) de.old result de.new }
     {
@@ -129,7 +121,7 @@ impl EnumAccessor {
         self,
         _len: usize,
         de: &mut Deserializer<'de, R>,
-    ) -> Result<Accessor<'de>, DecodeError<R::Error>>
+    ) -> ReadResult<Accessor<'de>, R>
         ensures accessor_state { Over R.reading (Call (BeginsHeld 4 (codes "tuple") (enum_state self))) de.old result de.new }
         ensures variant { IfErr result OfBegin }
     {
@@ -144,7 +136,7 @@ impl EnumAccessor {
         self,
         _fields: &[&str],
         de: &mut Deserializer<'de, R>,
-    ) -> Result<Accessor<'de>, DecodeError<R::Error>>
+    ) -> ReadResult<Accessor<'de>, R>
         ensures accessor_state { Over R.reading (Call (BeginsHeld 5 (codes "map") (enum_state self))) de.old result de.new }
         ensures variant { IfErr result OfBegin }
     {
@@ -160,10 +152,7 @@ impl EnumAccessor {
 
     /// Goes on only where the enum is a map.
     #[tactic(auto, using(crate::proofs::Entering::other_byte))]
-    fn enter_map<'de, R: Read>(
-        &self,
-        de: &mut Deserializer<'de, R>,
-    ) -> Result<(), DecodeError<R::Error>>
+    fn enter_map<'de, R: Read>(&self, de: &mut Deserializer<'de, R>) -> ReadResult<(), R>
         ensures form { Over R.reading (Call (EntersMap (enum_state self.now))) de.old result de.new }
         ensures variant { IfErr result OfByte }
     {

@@ -15,7 +15,7 @@ ghost use Rattle.dagcbor_read.specs.Structs.{texts};
 use crate::access::accessor::Accessor;
 use crate::deserialize::Deserialize;
 use crate::deserializer::Deserializer;
-use dagcbor_heads::{DecodeError, Read};
+use dagcbor_heads::{Read, ReadResult};
 use std::alloc::Global;
 
 /// What the entries of a map make: the fields of a struct, or a map of the caller's.
@@ -52,7 +52,7 @@ pub trait Fields<'de>: Sized + Drop {
         names: &[&str],
         key: &str,
         de: &mut Deserializer<'de, R>,
-    ) -> Result<(), DecodeError<R::Error>>
+    ) -> ReadResult<(), R>
         ensures { Over R.reading (ReadsValue (λ _. state places.new) (value_of (Self.shape (texts names.now)) (state places.old) key.now)) de.old result de.new };
 
     /// What the places make once all was read. None where a field is missing.
@@ -66,7 +66,7 @@ pub(crate) fn read_entries_left<'de, F: Fields<'de>, R: Read>(
     names: &[&str],
     entries: Accessor<'de>,
     de: &mut Deserializer<'de, R>,
-) -> Result<F::Places, DecodeError<R::Error>>
+) -> ReadResult<F::Places, R>
     requires map { (accessor_state entries).is_map ≡ true }
     requires in_turn { (accessor_state entries).owes_value ≡ false }
     requires sound { (progress R.reading de.old).failed ≡ false }
@@ -87,7 +87,7 @@ pub(crate) fn read_entries_left<'de, F: Fields<'de>, R: Read>(
 pub fn read_fields<'de, F: Fields<'de>, R: Read>(
     alloc: Global,
     de: &mut Deserializer<'de, R>,
-) -> Result<F::Places, DecodeError<R::Error>>
+) -> ReadResult<F::Places, R>
     ensures value { Over R.reading (ReadsValue F.state (fields_of (F.shape []) F.unread)) de.old result de.new }
     ensures named { Over R.reading (RefusesToBegin (HasHeadOf 5) (BeginsItems 5 (codes "map") 1)) de.old result de.new }
     ensures failed { Over R.reading StaysFailed de.old result de.new }
@@ -101,7 +101,7 @@ pub fn read_into<'de, T: Deserialize<'de>, R: Read>(
     alloc: Global,
     place: &mut Option<T>,
     de: &mut Deserializer<'de, R>,
-) -> Result<(), DecodeError<R::Error>>
+) -> ReadResult<(), R>
     ensures value { Over R.reading (ReadsValue (λ _. option_map T.meaning place.new) (slot_of T.shape)) de.old result de.new }
     ensures failed { Over R.reading StaysFailed de.old result de.new }
 {
@@ -111,10 +111,7 @@ pub fn read_into<'de, T: Deserialize<'de>, R: Read>(
 }
 
 /// Skips the value of a field that the struct does not have: an item of any kind.
-pub fn skip_value<'de, R: Read>(
-    alloc: Global,
-    de: &mut Deserializer<'de, R>,
-) -> Result<(), DecodeError<R::Error>>
+pub fn skip_value<'de, R: Read>(alloc: Global, de: &mut Deserializer<'de, R>) -> ReadResult<(), R>
     ensures value { Over R.reading (ReadsValue (λ _. tt) ignored) de.old result de.new }
     ensures failed { Over R.reading StaysFailed de.old result de.new }
 {

@@ -15,7 +15,7 @@ ghost use Rattle.dagcbor_items.specs.Shapes.{Shape};
 use crate::access::accessor::Accessor;
 use crate::deserialize::Deserialize;
 use crate::deserializer::Deserializer;
-use dagcbor_heads::{DecodeError, Read};
+use dagcbor_heads::{DecodeError, Read, ReadResult};
 use std::alloc::Global;
 
 /// What the items of a list make.
@@ -33,7 +33,7 @@ pub(crate) trait Row<'de>: Sized + Drop {
         alloc: Global,
         items: &mut Accessor<'de>,
         de: &mut Deserializer<'de, R>,
-    ) -> Result<Self, DecodeError<R::Error>>
+    ) -> ReadResult<Self, R>
         requires list { (accessor_state items.old).is_map ≡ false }
         requires sound { (progress R.reading de.old).failed ≡ false }
         ensures { ReadsRow Self.meaning Self.shape (accessor_state items.old) (progress R.reading de.old) result (accessor_state items.new) (progress R.reading de.new) };
@@ -50,7 +50,7 @@ impl<'de, T: Deserialize<'de>> Row<'de> for Vec<T> {
         alloc: Global,
         items: &mut Accessor<'de>,
         de: &mut Deserializer<'de, R>,
-    ) -> Result<Vec<T>, DecodeError<R::Error>> {
+    ) -> ReadResult<Vec<T>, R> {
         let mut all = Vec::new(alloc);
         while let Some(item) = items.next_element(alloc, de)? {
             if all.push(item).is_err() {
@@ -72,7 +72,7 @@ impl<'de> Row<'de> for () {
         _alloc: Global,
         _items: &mut Accessor<'de>,
         _de: &mut Deserializer<'de, R>,
-    ) -> Result<(), DecodeError<R::Error>> {
+    ) -> ReadResult<(), R> {
         Ok(())
     }
 }
@@ -88,7 +88,7 @@ impl<'de, T: Deserialize<'de>, L: Row<'de>> Row<'de> for (T, L) {
         alloc: Global,
         items: &mut Accessor<'de>,
         de: &mut Deserializer<'de, R>,
-    ) -> Result<(T, L), DecodeError<R::Error>> {
+    ) -> ReadResult<(T, L), R> {
         let Some(first) = items.next_element(alloc, de)? else {
             return Err(DecodeError::custom("Too few elements"));
         };
@@ -102,7 +102,7 @@ pub(crate) fn read_rest<'de, L: Row<'de>, R: Read>(
     alloc: Global,
     items: Accessor<'de>,
     de: &mut Deserializer<'de, R>,
-) -> Result<L, DecodeError<R::Error>>
+) -> ReadResult<L, R>
     requires list { (accessor_state items).is_map ≡ false }
     requires in_turn { (accessor_state items).owes_value ≡ false }
     requires sound { (progress R.reading de.old).failed ≡ false }
@@ -120,7 +120,7 @@ pub(crate) fn read_tuple<'de, L: Row<'de>, R: Read>(
     alloc: Global,
     len: usize,
     de: &mut Deserializer<'de, R>,
-) -> Result<L, DecodeError<R::Error>>
+) -> ReadResult<L, R>
     ensures value { Over R.reading (ReadsValue L.meaning (list_of L.shape)) de.old result de.new }
     ensures failed { Over R.reading StaysFailed de.old result de.new }
 {

@@ -19,7 +19,7 @@ use crate::access::enum_accessor::EnumAccessor;
 use crate::access::fields::{Fields, read_entries_left, read_into, skip_value};
 use crate::deserialize::Deserialize;
 use crate::deserializer::Deserializer;
-use dagcbor_heads::{DecodeError, Read};
+use dagcbor_heads::{DecodeError, Read, ReadResult};
 use std::alloc::Global;
 
 /// A field that must be there.
@@ -52,7 +52,7 @@ impl<'de> Fields<'de> for () {
         _names: &[&str],
         _key: &str,
         de: &mut Deserializer<'de, R>,
-    ) -> Result<(), DecodeError<R::Error>> {
+    ) -> ReadResult<(), R> {
         skip_value(alloc, de)
     }
 
@@ -68,7 +68,7 @@ fn read_place<'de, T: Deserialize<'de>, L: Fields<'de>, R: Read>(
     names: &[&str],
     key: &str,
     de: &mut Deserializer<'de, R>,
-) -> Result<(), DecodeError<R::Error>>
+) -> ReadResult<(), R>
     ensures { Over R.reading (ReadsValue (λ _. (option_map T.meaning into.new.0, L.state into.new.1)) (value_of (places T.shape L.shape (texts names.now)) (option_map T.meaning into.old.0, L.state into.old.1) key.now)) de.old result de.new }
 {
     let Some((name, others)) = names.split_first() else {
@@ -108,7 +108,7 @@ impl<'de, T: Deserialize<'de>, L: Fields<'de>> Fields<'de> for (Required<T>, L) 
         names: &[&str],
         key: &str,
         de: &mut Deserializer<'de, R>,
-    ) -> Result<(), DecodeError<R::Error>> {
+    ) -> ReadResult<(), R> {
         read_place::<T, L, R>(places, alloc, names, key, de)
     }
 
@@ -148,7 +148,7 @@ impl<'de, T: Deserialize<'de>, L: Fields<'de>> Fields<'de> for (Option<T>, L) {
         names: &[&str],
         key: &str,
         de: &mut Deserializer<'de, R>,
-    ) -> Result<(), DecodeError<R::Error>> {
+    ) -> ReadResult<(), R> {
         read_place::<Option<T>, L, R>(places, alloc, names, key, de)
     }
 
@@ -177,7 +177,7 @@ pub fn read_struct<'de, F: Fields<'de>, R: Read>(
     name: &str,
     names: &[&str],
     de: &mut Deserializer<'de, R>,
-) -> Result<F, DecodeError<R::Error>>
+) -> ReadResult<F, R>
     ensures value { Over R.reading (ReadsValue F.meaning (struct_of (F.shape (texts names.now)) F.unread F.finish)) de.old result de.new }
     ensures named { Over R.reading (RefusesToBegin (HasHeadOf 5) (BeginsItems 5 name.now 1)) de.old result de.new }
     ensures failed { Over R.reading StaysFailed de.old result de.new }
@@ -193,7 +193,7 @@ pub fn read_struct_variant<'de, F: Fields<'de>, R: Read>(
     variant: EnumAccessor,
     names: &[&str],
     de: &mut Deserializer<'de, R>,
-) -> Result<F, DecodeError<R::Error>>
+) -> ReadResult<F, R>
     requires { AreOut (enum_state variant).steps (progress R.reading de.old) }
     ensures fields { Over R.reading (ReadsFieldsHeld F.meaning (struct_of (F.shape (texts names.now)) F.unread F.finish) (enum_state variant)) de.old result de.new }
     ensures failed { Over R.reading StaysFailed de.old result de.new }

@@ -10,7 +10,7 @@ ghost use Rattle.dagcbor_read.specs.EnumViews.{EnumShape, enum_of, ReadsVariant}
 
 use crate::access::enum_accessor::EnumAccessor;
 use crate::deserializer::Deserializer;
-use dagcbor_heads::{DecodeError, Read};
+use dagcbor_heads::{Read, ReadResult};
 use std::alloc::Global;
 
 /// An enum that is read through a match on its variant's name.
@@ -29,7 +29,7 @@ pub trait Variants<'de>: Sized + Drop {
         name: &str,
         variant: EnumAccessor,
         de: &mut Deserializer<'de, R>,
-    ) -> Result<Self, DecodeError<R::Error>>
+    ) -> ReadResult<Self, R>
         requires sound { (progress R.reading de.old).failed ≡ false }
         requires out { (progress R.reading de.old).input.steps + (enum_state variant).steps ≤ (progress R.reading de.old).input.budget }
         ensures { Over R.reading (ReadsVariant meaning Self.shape name.now (enum_state variant)) de.old result de.new };
@@ -41,7 +41,7 @@ pub fn read_enum<'de, V: Variants<'de>, R: Read>(
     name: &str,
     variants: &[&str],
     de: &mut Deserializer<'de, R>,
-) -> Result<V, DecodeError<R::Error>>
+) -> ReadResult<V, R>
     ensures value { Over R.reading (ReadsValue V.meaning (enum_of V.shape)) de.old result de.new }
     ensures named { Over R.reading (RefusesToBegin HasStepEnum (SpendsEnum name.now)) de.old result de.new }
     ensures failed { Over R.reading StaysFailed de.old result de.new }

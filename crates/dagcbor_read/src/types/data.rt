@@ -9,7 +9,7 @@ ghost use Rattle.dagcbor_items.specs.Shapes.{view_link, ignored, leaf, any_tree}
 use crate::deserialize::{Deserialize, DeserializeOwned};
 use crate::deserializer::Deserializer;
 use crate::shown::Shown;
-use dagcbor_heads::{DecodeError, Read};
+use dagcbor_heads::{Read, ReadResult};
 use ipld_tree::{Cid, Ipld};
 use std::alloc::Global;
 
@@ -26,10 +26,7 @@ impl Shown for IgnoredAny {
 }
 
 impl<'de> Deserialize<'de> for IgnoredAny {
-    fn deserialize<R: Read>(
-        alloc: Global,
-        de: &mut Deserializer<'de, R>,
-    ) -> Result<IgnoredAny, DecodeError<R::Error>> {
+    fn deserialize<R: Read>(alloc: Global, de: &mut Deserializer<'de, R>) -> ReadResult<Self, R> {
         de.deserialize_ignored_any(alloc)?;
         Ok(IgnoredAny)
     }
@@ -48,10 +45,7 @@ impl Shown for Ipld {
 }
 
 impl<'de> Deserialize<'de> for Ipld {
-    fn deserialize<R: Read>(
-        alloc: Global,
-        de: &mut Deserializer<'de, R>,
-    ) -> Result<Ipld, DecodeError<R::Error>> {
+    fn deserialize<R: Read>(alloc: Global, de: &mut Deserializer<'de, R>) -> ReadResult<Self, R> {
         de.deserialize_any(alloc)
     }
 }
@@ -69,10 +63,7 @@ impl Shown for Cid {
 }
 
 impl<'de> Deserialize<'de> for Cid {
-    fn deserialize<R: Read>(
-        _alloc: Global,
-        de: &mut Deserializer<'de, R>,
-    ) -> Result<Cid, DecodeError<R::Error>> {
+    fn deserialize<R: Read>(_alloc: Global, de: &mut Deserializer<'de, R>) -> ReadResult<Self, R> {
         de.deserialize_cid()
     }
 }

@@ -6,7 +6,7 @@ ghost use Rattle.dagcbor_items.specs.Shapes.{option_of};
 use crate::deserialize::{Deserialize, DeserializeOwned};
 use crate::deserializer::Deserializer;
 use crate::shown::Shown;
-use dagcbor_heads::{DecodeError, Read};
+use dagcbor_heads::{DecodeError, Read, ReadResult};
 use std::alloc::Global;
 
 impl<T: Shown> Shown for Option<T> {
@@ -18,10 +18,7 @@ impl<T: Shown> Shown for Option<T> {
 }
 
 impl<'de, T: Deserialize<'de>> Deserialize<'de> for Option<T> {
-    fn deserialize<R: Read>(
-        alloc: Global,
-        de: &mut Deserializer<'de, R>,
-    ) -> Result<Option<T>, DecodeError<R::Error>> {
+    fn deserialize<R: Read>(alloc: Global, de: &mut Deserializer<'de, R>) -> ReadResult<Self, R> {
         de.deserialize_option(alloc)
     }
 }
@@ -39,10 +36,7 @@ impl<T: Shown> Shown for Box<T> {
 }
 
 impl<'de, T: Deserialize<'de>> Deserialize<'de> for Box<T> {
-    fn deserialize<R: Read>(
-        alloc: Global,
-        de: &mut Deserializer<'de, R>,
-    ) -> Result<Box<T>, DecodeError<R::Error>> {
+    fn deserialize<R: Read>(alloc: Global, de: &mut Deserializer<'de, R>) -> ReadResult<Self, R> {
         let value = T::deserialize(alloc, de)?;
         match Box::new(alloc, value) {
             Ok(boxed) => Ok(boxed),

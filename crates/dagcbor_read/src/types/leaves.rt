@@ -7,7 +7,7 @@ ghost use Rattle.dagcbor_items.specs.Shapes.{view_bytes, leaf};
 use crate::deserialize::{Deserialize, DeserializeOwned};
 use crate::deserializer::Deserializer;
 use crate::shown::Shown;
-use dagcbor_heads::{DecodeError, Read};
+use dagcbor_heads::{Read, ReadResult};
 use ipld_tree::Bytes;
 use std::alloc::Global;
 
@@ -20,10 +20,7 @@ impl Shown for () {
 }
 
 impl<'de> Deserialize<'de> for () {
-    fn deserialize<R: Read>(
-        _alloc: Global,
-        de: &mut Deserializer<'de, R>,
-    ) -> Result<(), DecodeError<R::Error>> {
+    fn deserialize<R: Read>(_alloc: Global, de: &mut Deserializer<'de, R>) -> ReadResult<Self, R> {
         de.deserialize_unit()
     }
 }
@@ -41,10 +38,7 @@ impl Shown for bool {
 }
 
 impl<'de> Deserialize<'de> for bool {
-    fn deserialize<R: Read>(
-        _alloc: Global,
-        de: &mut Deserializer<'de, R>,
-    ) -> Result<bool, DecodeError<R::Error>> {
+    fn deserialize<R: Read>(_alloc: Global, de: &mut Deserializer<'de, R>) -> ReadResult<Self, R> {
         de.deserialize_bool()
     }
 }
@@ -62,10 +56,7 @@ impl Shown for char {
 }
 
 impl<'de> Deserialize<'de> for char {
-    fn deserialize<R: Read>(
-        alloc: Global,
-        de: &mut Deserializer<'de, R>,
-    ) -> Result<char, DecodeError<R::Error>> {
+    fn deserialize<R: Read>(alloc: Global, de: &mut Deserializer<'de, R>) -> ReadResult<Self, R> {
         de.deserialize_char(alloc)
     }
 }
@@ -83,10 +74,7 @@ impl Shown for String {
 }
 
 impl<'de> Deserialize<'de> for String {
-    fn deserialize<R: Read>(
-        alloc: Global,
-        de: &mut Deserializer<'de, R>,
-    ) -> Result<String, DecodeError<R::Error>> {
+    fn deserialize<R: Read>(alloc: Global, de: &mut Deserializer<'de, R>) -> ReadResult<Self, R> {
         de.deserialize_string(alloc)
     }
 }
@@ -104,10 +92,7 @@ impl Shown for Bytes {
 }
 
 impl<'de> Deserialize<'de> for Bytes {
-    fn deserialize<R: Read>(
-        alloc: Global,
-        de: &mut Deserializer<'de, R>,
-    ) -> Result<Bytes, DecodeError<R::Error>> {
+    fn deserialize<R: Read>(alloc: Global, de: &mut Deserializer<'de, R>) -> ReadResult<Self, R> {
         Ok(Bytes(de.deserialize_byte_buf(alloc)?))
     }
 }

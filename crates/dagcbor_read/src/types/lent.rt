@@ -7,7 +7,7 @@ ghost use Rattle.dagcbor_items.specs.Shapes.{view_text, view_bytes, leaf, lent_l
 use crate::deserialize::Deserialize;
 use crate::deserializer::Deserializer;
 use crate::shown::Shown;
-use dagcbor_heads::{DecodeError, Name, Read};
+use dagcbor_heads::{DecodeError, Name, Read, ReadResult};
 use ipld_tree::ByteSlice;
 use std::alloc::Global;
 use std::borrow::{CowSlice, CowStr};
@@ -21,10 +21,7 @@ impl Shown for &str {
 }
 
 impl<'de> Deserialize<'de> for &'de str {
-    fn deserialize<R: Read>(
-        alloc: Global,
-        de: &mut Deserializer<'de, R>,
-    ) -> Result<&'de str, DecodeError<R::Error>> {
+    fn deserialize<R: Read>(alloc: Global, de: &mut Deserializer<'de, R>) -> ReadResult<Self, R> {
         match de.deserialize_str(alloc)? {
             CowStr::Borrowed(text) => Ok(text),
             CowStr::Owned(_) => Err(DecodeError::RequireBorrowed {
@@ -43,10 +40,7 @@ impl Shown for ByteSlice<'_> {
 }
 
 impl<'de> Deserialize<'de> for ByteSlice<'de> {
-    fn deserialize<R: Read>(
-        alloc: Global,
-        de: &mut Deserializer<'de, R>,
-    ) -> Result<ByteSlice<'de>, DecodeError<R::Error>> {
+    fn deserialize<R: Read>(alloc: Global, de: &mut Deserializer<'de, R>) -> ReadResult<Self, R> {
         match de.deserialize_bytes(alloc)? {
             CowSlice::Borrowed(bytes) => Ok(ByteSlice(bytes)),
             CowSlice::Owned(_) => Err(DecodeError::RequireBorrowed {
@@ -66,10 +60,7 @@ impl Shown for CowStr<'_> {
 }
 
 impl<'de> Deserialize<'de> for CowStr<'de> {
-    fn deserialize<R: Read>(
-        alloc: Global,
-        de: &mut Deserializer<'de, R>,
-    ) -> Result<CowStr<'de>, DecodeError<R::Error>> {
+    fn deserialize<R: Read>(alloc: Global, de: &mut Deserializer<'de, R>) -> ReadResult<Self, R> {
         de.deserialize_str(alloc)
     }
 }

@@ -7,7 +7,7 @@ use crate::access::row::{read_rest, read_tuple};
 use crate::deserialize::{Deserialize, DeserializeOwned};
 use crate::deserializer::Deserializer;
 use crate::shown::Shown;
-use dagcbor_heads::{DecodeError, Read};
+use dagcbor_heads::{Read, ReadResult};
 use std::alloc::Global;
 
 impl<T: Shown> Shown for Vec<T> {
@@ -19,10 +19,7 @@ impl<T: Shown> Shown for Vec<T> {
 }
 
 impl<'de, T: Deserialize<'de>> Deserialize<'de> for Vec<T> {
-    fn deserialize<R: Read>(
-        alloc: Global,
-        de: &mut Deserializer<'de, R>,
-    ) -> Result<Vec<T>, DecodeError<R::Error>> {
+    fn deserialize<R: Read>(alloc: Global, de: &mut Deserializer<'de, R>) -> ReadResult<Self, R> {
         let items = de.deserialize_seq()?;
         read_rest(alloc, items, de)
     }
@@ -41,10 +38,7 @@ impl<A: Shown> Shown for (A,) {
 }
 
 impl<'de, A: Deserialize<'de>> Deserialize<'de> for (A,) {
-    fn deserialize<R: Read>(
-        alloc: Global,
-        de: &mut Deserializer<'de, R>,
-    ) -> Result<(A,), DecodeError<R::Error>> {
+    fn deserialize<R: Read>(alloc: Global, de: &mut Deserializer<'de, R>) -> ReadResult<Self, R> {
         let (first, ()) = read_tuple(alloc, 1, de)?;
         Ok((first,))
     }
@@ -63,10 +57,7 @@ impl<A: Shown, B: Shown> Shown for (A, B) {
 }
 
 impl<'de, A: Deserialize<'de>, B: Deserialize<'de>> Deserialize<'de> for (A, B) {
-    fn deserialize<R: Read>(
-        alloc: Global,
-        de: &mut Deserializer<'de, R>,
-    ) -> Result<(A, B), DecodeError<R::Error>> {
+    fn deserialize<R: Read>(alloc: Global, de: &mut Deserializer<'de, R>) -> ReadResult<Self, R> {
         let (first, (second, ())) = read_tuple(alloc, 2, de)?;
         Ok((first, second))
     }
@@ -86,10 +77,7 @@ impl<A: Shown, B: Shown, C: Shown> Shown for (A, B, C) {
 
 impl<'de, A: Deserialize<'de>, B: Deserialize<'de>, C: Deserialize<'de>> Deserialize<'de>
     for (A, B, C) {
-    fn deserialize<R: Read>(
-        alloc: Global,
-        de: &mut Deserializer<'de, R>,
-    ) -> Result<(A, B, C), DecodeError<R::Error>> {
+    fn deserialize<R: Read>(alloc: Global, de: &mut Deserializer<'de, R>) -> ReadResult<Self, R> {
         let (first, (second, (third, ()))) = read_tuple(alloc, 3, de)?;
         Ok((first, second, third))
     }
@@ -119,10 +107,7 @@ impl<
     C: Deserialize<'de>,
     D: Deserialize<'de>,
 > Deserialize<'de> for (A, B, C, D) {
-    fn deserialize<R: Read>(
-        alloc: Global,
-        de: &mut Deserializer<'de, R>,
-    ) -> Result<(A, B, C, D), DecodeError<R::Error>> {
+    fn deserialize<R: Read>(alloc: Global, de: &mut Deserializer<'de, R>) -> ReadResult<Self, R> {
         let (first, (second, (third, (fourth, ())))) = read_tuple(alloc, 4, de)?;
         Ok((first, second, third, fourth))
     }

@@ -7,7 +7,7 @@ use crate::access::fields::{Fields, read_fields};
 use crate::deserialize::{Deserialize, DeserializeOwned};
 use crate::deserializer::Deserializer;
 use crate::shown::Shown;
-use dagcbor_heads::{DecodeError, Read};
+use dagcbor_heads::{DecodeError, Read, ReadResult};
 use std::alloc::Global;
 use std::collections::{BTreeMap, HashMap};
 
@@ -47,7 +47,7 @@ impl<'de, V: Deserialize<'de>> Fields<'de> for BTreeMap<String, V> {
         _names: &[&str],
         key: &str,
         de: &mut Deserializer<'de, R>,
-    ) -> Result<(), DecodeError<R::Error>> {
+    ) -> ReadResult<(), R> {
         let value = V::deserialize(alloc, de)?;
         let Ok(name) = String::from_str(alloc, key) else {
             return Err(DecodeError::OutOfMemory);
@@ -64,10 +64,7 @@ impl<'de, V: Deserialize<'de>> Fields<'de> for BTreeMap<String, V> {
 }
 
 impl<'de, V: Deserialize<'de>> Deserialize<'de> for BTreeMap<String, V> {
-    fn deserialize<R: Read>(
-        alloc: Global,
-        de: &mut Deserializer<'de, R>,
-    ) -> Result<BTreeMap<String, V>, DecodeError<R::Error>> {
+    fn deserialize<R: Read>(alloc: Global, de: &mut Deserializer<'de, R>) -> ReadResult<Self, R> {
         read_fields::<BTreeMap<String, V>, R>(alloc, de)
     }
 }
@@ -112,7 +109,7 @@ impl<'de, V: Deserialize<'de>> Fields<'de> for HashMap<String, V> {
         _names: &[&str],
         key: &str,
         de: &mut Deserializer<'de, R>,
-    ) -> Result<(), DecodeError<R::Error>> {
+    ) -> ReadResult<(), R> {
         let value = V::deserialize(alloc, de)?;
         let Ok(name) = String::from_str(alloc, key) else {
             return Err(DecodeError::OutOfMemory);
@@ -131,10 +128,7 @@ impl<'de, V: Deserialize<'de>> Fields<'de> for HashMap<String, V> {
 /// For a stranger's bytes read a `BTreeMap`. The hasher's seed is fixed, so anyone finds keys whose
 /// hashes agree, and n such keys take time in proportion to the square of n.
 impl<'de, V: Deserialize<'de>> Deserialize<'de> for HashMap<String, V> {
-    fn deserialize<R: Read>(
-        alloc: Global,
-        de: &mut Deserializer<'de, R>,
-    ) -> Result<HashMap<String, V>, DecodeError<R::Error>> {
+    fn deserialize<R: Read>(alloc: Global, de: &mut Deserializer<'de, R>) -> ReadResult<Self, R> {
         read_fields::<HashMap<String, V>, R>(alloc, de)
     }
 }

@@ -6,7 +6,7 @@ ghost use Rattle.dagcbor_items.specs.Shapes.{view_unsigned, view_signed, leaf};
 use crate::deserialize::{Deserialize, DeserializeOwned};
 use crate::deserializer::Deserializer;
 use crate::shown::Shown;
-use dagcbor_heads::{DecodeError, Read};
+use dagcbor_heads::{Read, ReadResult};
 use std::alloc::Global;
 
 impl Shown for u8 {
@@ -18,10 +18,7 @@ impl Shown for u8 {
 }
 
 impl<'de> Deserialize<'de> for u8 {
-    fn deserialize<R: Read>(
-        _alloc: Global,
-        de: &mut Deserializer<'de, R>,
-    ) -> Result<u8, DecodeError<R::Error>> {
+    fn deserialize<R: Read>(_alloc: Global, de: &mut Deserializer<'de, R>) -> ReadResult<Self, R> {
         de.deserialize_u8()
     }
 }
@@ -39,10 +36,7 @@ impl Shown for u16 {
 }
 
 impl<'de> Deserialize<'de> for u16 {
-    fn deserialize<R: Read>(
-        _alloc: Global,
-        de: &mut Deserializer<'de, R>,
-    ) -> Result<u16, DecodeError<R::Error>> {
+    fn deserialize<R: Read>(_alloc: Global, de: &mut Deserializer<'de, R>) -> ReadResult<Self, R> {
         de.deserialize_u16()
     }
 }
@@ -60,10 +54,7 @@ impl Shown for u32 {
 }
 
 impl<'de> Deserialize<'de> for u32 {
-    fn deserialize<R: Read>(
-        _alloc: Global,
-        de: &mut Deserializer<'de, R>,
-    ) -> Result<u32, DecodeError<R::Error>> {
+    fn deserialize<R: Read>(_alloc: Global, de: &mut Deserializer<'de, R>) -> ReadResult<Self, R> {
         de.deserialize_u32()
     }
 }
@@ -81,10 +72,7 @@ impl Shown for u64 {
 }
 
 impl<'de> Deserialize<'de> for u64 {
-    fn deserialize<R: Read>(
-        _alloc: Global,
-        de: &mut Deserializer<'de, R>,
-    ) -> Result<u64, DecodeError<R::Error>> {
+    fn deserialize<R: Read>(_alloc: Global, de: &mut Deserializer<'de, R>) -> ReadResult<Self, R> {
         de.deserialize_u64()
     }
 }
@@ -102,10 +90,7 @@ impl Shown for usize {
 }
 
 impl<'de> Deserialize<'de> for usize {
-    fn deserialize<R: Read>(
-        _alloc: Global,
-        de: &mut Deserializer<'de, R>,
-    ) -> Result<usize, DecodeError<R::Error>> {
+    fn deserialize<R: Read>(_alloc: Global, de: &mut Deserializer<'de, R>) -> ReadResult<Self, R> {
         Ok(de.deserialize_u64()? as usize)
     }
 }
@@ -123,10 +108,7 @@ impl Shown for i8 {
 }
 
 impl<'de> Deserialize<'de> for i8 {
-    fn deserialize<R: Read>(
-        _alloc: Global,
-        de: &mut Deserializer<'de, R>,
-    ) -> Result<i8, DecodeError<R::Error>> {
+    fn deserialize<R: Read>(_alloc: Global, de: &mut Deserializer<'de, R>) -> ReadResult<Self, R> {
         de.deserialize_i8()
     }
 }
@@ -144,10 +126,7 @@ impl Shown for i16 {
 }
 
 impl<'de> Deserialize<'de> for i16 {
-    fn deserialize<R: Read>(
-        _alloc: Global,
-        de: &mut Deserializer<'de, R>,
-    ) -> Result<i16, DecodeError<R::Error>> {
+    fn deserialize<R: Read>(_alloc: Global, de: &mut Deserializer<'de, R>) -> ReadResult<Self, R> {
         de.deserialize_i16()
     }
 }
@@ -165,10 +144,7 @@ impl Shown for i32 {
 }
 
 impl<'de> Deserialize<'de> for i32 {
-    fn deserialize<R: Read>(
-        _alloc: Global,
-        de: &mut Deserializer<'de, R>,
-    ) -> Result<i32, DecodeError<R::Error>> {
+    fn deserialize<R: Read>(_alloc: Global, de: &mut Deserializer<'de, R>) -> ReadResult<Self, R> {
         de.deserialize_i32()
     }
 }
@@ -186,10 +162,7 @@ impl Shown for i64 {
 }
 
 impl<'de> Deserialize<'de> for i64 {
-    fn deserialize<R: Read>(
-        _alloc: Global,
-        de: &mut Deserializer<'de, R>,
-    ) -> Result<i64, DecodeError<R::Error>> {
+    fn deserialize<R: Read>(_alloc: Global, de: &mut Deserializer<'de, R>) -> ReadResult<Self, R> {
         de.deserialize_i64()
     }
 }
@@ -207,10 +180,7 @@ impl Shown for isize {
 }
 
 impl<'de> Deserialize<'de> for isize {
-    fn deserialize<R: Read>(
-        _alloc: Global,
-        de: &mut Deserializer<'de, R>,
-    ) -> Result<isize, DecodeError<R::Error>> {
+    fn deserialize<R: Read>(_alloc: Global, de: &mut Deserializer<'de, R>) -> ReadResult<Self, R> {
         Ok(de.deserialize_i64()? as isize)
     }
 }
@@ -228,10 +198,7 @@ impl Shown for u128 {
 }
 
 impl<'de> Deserialize<'de> for u128 {
-    fn deserialize<R: Read>(
-        _alloc: Global,
-        de: &mut Deserializer<'de, R>,
-    ) -> Result<u128, DecodeError<R::Error>> {
+    fn deserialize<R: Read>(_alloc: Global, de: &mut Deserializer<'de, R>) -> ReadResult<Self, R> {
         de.deserialize_u128()
     }
 }
@@ -249,10 +216,7 @@ impl Shown for i128 {
 }
 
 impl<'de> Deserialize<'de> for i128 {
-    fn deserialize<R: Read>(
-        _alloc: Global,
-        de: &mut Deserializer<'de, R>,
-    ) -> Result<i128, DecodeError<R::Error>> {
+    fn deserialize<R: Read>(_alloc: Global, de: &mut Deserializer<'de, R>) -> ReadResult<Self, R> {
         de.deserialize_i128()
     }
 }

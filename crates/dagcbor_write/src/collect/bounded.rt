@@ -11,7 +11,7 @@ ghost use Rattle.dagcbor_write.specs.Lending.{bounded_lent, bounded_left, SameLo
 
 use crate::serialize::Serialize;
 use crate::serializer::Serializer;
-use dagcbor_heads::{EncodeError, Write};
+use dagcbor_heads::{Write, WriteResult};
 use std::alloc::Global;
 
 /// Takes the items of a list whose number was announced, and writes each at once.
@@ -39,7 +39,7 @@ impl<W: Write> Serializer<W> {
         &mut self,
         alloc: Global,
         len: usize,
-    ) -> Result<BoundedCollect<'_, W>, EncodeError<W::Error>>
+    ) -> WriteResult<BoundedCollect<'_, W>, W>
         ensures* refused { sem 𝓛 (BeginsOrStops W.row W.written bounded_lent self.entry
             (spelled_head 4 len) result) }
         ensures same_reference { IfOk result (λ c. SameLoan self.entry (bounded_lent c)) }
@@ -61,7 +61,7 @@ impl<W: Write> Serializer<W> {
         alloc: Global,
         _name: &'static str,
         len: usize,
-    ) -> Result<BoundedCollect<'_, W>, EncodeError<W::Error>>
+    ) -> WriteResult<BoundedCollect<'_, W>, W>
         ensures* refused { sem 𝓛 (BeginsOrStops W.row W.written bounded_lent self.entry
             (spelled_head 4 len) result) }
         ensures same_reference { IfOk result (λ c. SameLoan self.entry (bounded_lent c)) }
@@ -81,7 +81,7 @@ impl<W: Write> Serializer<W> {
         _index: u32,
         variant: &'static str,
         len: usize,
-    ) -> Result<BoundedCollect<'_, W>, EncodeError<W::Error>>
+    ) -> WriteResult<BoundedCollect<'_, W>, W>
         ensures* refused { sem 𝓛 (BeginsOrStops W.row W.written bounded_lent self.entry
             (variant_head variant.now ++? spelled_head 4 len) result) }
         ensures same_reference { IfOk result (λ c. SameLoan self.entry (bounded_lent c)) }
@@ -108,10 +108,7 @@ impl<W: Write> BoundedCollect<'_, W> {
     }
 
     /// Writes the next item.
-    pub fn serialize_element<T: Serialize>(
-        &mut self,
-        value: &T,
-    ) -> Result<(), EncodeError<W::Error>>
+    pub fn serialize_element<T: Serialize>(&mut self, value: &T) -> WriteResult<(), W>
         requires { 0 < bounded_left self.old }
         ensures same_reference { SameLoan (bounded_lent self.old) (bounded_lent self.new) }
         ensures left { bounded_left self.new + 1 ≡ bounded_left self.old }
@@ -124,7 +121,7 @@ impl<W: Write> BoundedCollect<'_, W> {
     }
 
     /// Writes the next field: as `serialize_element`.
-    pub fn serialize_field<T: Serialize>(&mut self, value: &T) -> Result<(), EncodeError<W::Error>>
+    pub fn serialize_field<T: Serialize>(&mut self, value: &T) -> WriteResult<(), W>
         requires { 0 < bounded_left self.old }
         ensures same_reference { SameLoan (bounded_lent self.old) (bounded_lent self.new) }
         ensures left { bounded_left self.new + 1 ≡ bounded_left self.old }
@@ -136,7 +133,7 @@ impl<W: Write> BoundedCollect<'_, W> {
     }
 
     /// Ends the list.
-    pub fn end(self) -> Result<(), EncodeError<W::Error>>
+    pub fn end(self) -> WriteResult<(), W>
         requires { bounded_left self ≡ 0 }
         ensures ok { IsOk result }
         ensures unchanged { self.exit.0.now ≡ (bounded_lent self.entry).now }

@@ -19,7 +19,7 @@ ghost use Rattle.dagcbor_write.specs.Lending.{map_lent, map_held, SameLoan, Begi
 use crate::collect::gathered::Gathered;
 use crate::serialize::Serialize;
 use crate::serializer::Serializer;
-use dagcbor_heads::{EncodeError, Write};
+use dagcbor_heads::{EncodeError, Write, WriteResult};
 use std::alloc::Global;
 
 /// What a map with two equal keys is refused with.
@@ -64,7 +64,7 @@ impl<W: Write> Serializer<W> {
         alloc: Global,
         _name: &'static str,
         len: usize,
-    ) -> Result<CollectMap<'_, W>, EncodeError<W::Error>>
+    ) -> WriteResult<CollectMap<'_, W>, W>
         ensures* refused { sem 𝓛 (BeginsOrStops W.row W.written map_lent self.entry
             (spelled_head 5 len) result) }
         ensures same_reference { IfOk result (λ c. SameLoan self.entry (map_lent c)) }
@@ -89,7 +89,7 @@ impl<W: Write> Serializer<W> {
         _index: u32,
         variant: &'static str,
         len: usize,
-    ) -> Result<CollectMap<'_, W>, EncodeError<W::Error>>
+    ) -> WriteResult<CollectMap<'_, W>, W>
         ensures* refused { sem 𝓛 (BeginsOrStops W.row W.written map_lent self.entry
             (variant_head variant.now ++? spelled_head 5 len) result) }
         ensures same_reference { IfOk result (λ c. SameLoan self.entry (map_lent c)) }
@@ -107,7 +107,7 @@ impl<W: Write> Serializer<W> {
     }
 
     /// Writes the entries in key order, behind the head if that is not out yet.
-    fn push_map(&mut self, mut held: Gathered) -> Result<(), EncodeError<W::Error>>
+    fn push_map(&mut self, mut held: Gathered) -> WriteResult<(), W>
         ensures written { (given : List Pair) → AreSpellingsOf given held.entries
             → Writes (map_rest held.announced given)
             (W.written self.old) (W.written self.new) result }
@@ -125,11 +125,7 @@ impl<W: Write> Serializer<W> {
     }
 
     /// Writes the head of a map, if it is not out yet.
-    fn push_head_if_due(
-        &mut self,
-        announced: Option<usize>,
-        count: usize,
-    ) -> Result<(), EncodeError<W::Error>>
+    fn push_head_if_due(&mut self, announced: Option<usize>, count: usize) -> WriteResult<(), W>
         ensures { Writes (head_rest announced count)
             (W.written self.old) (W.written self.new) result }
     {
@@ -140,7 +136,7 @@ impl<W: Write> Serializer<W> {
     }
 
     /// Writes the entries as they stand, behind the head if that is not out yet.
-    fn push_entries(&mut self, held: &Gathered) -> Result<(), EncodeError<W::Error>>
+    fn push_entries(&mut self, held: &Gathered) -> WriteResult<(), W>
         ensures { Writes (head_rest held.now.announced (length held.now.entries)
             ++? Some (entries_bytes held.now.entries))
             (W.written self.old) (W.written self.new) result }
@@ -170,7 +166,7 @@ impl<W: Write> CollectMap<'_, W> {
 
     /// Takes a key, whose value comes next. Refused with `Msg("Map key cannot be serialized.")`
     /// where it has no spelling, with `Msg("Map keys must be strings")` where it is no text.
-    pub fn serialize_key<K: Serialize>(&mut self, key: &K) -> Result<(), EncodeError<W::Error>>
+    pub fn serialize_key<K: Serialize>(&mut self, key: &K) -> WriteResult<(), W>
         requires { (map_held self.old).key ≡ None }
         ensures same_reference { SameLoan (map_lent self.old) (map_lent self.new) }
         ensures unchanged { (map_lent self.new).now ≡ (map_lent self.old).now }
@@ -184,7 +180,7 @@ impl<W: Write> CollectMap<'_, W> {
 
     /// Takes the value of the key before it. Refused with `Msg("Struct value cannot be
     /// serialized.")` where it has no spelling.
-    pub fn serialize_value<V: Serialize>(&mut self, value: &V) -> Result<(), EncodeError<W::Error>>
+    pub fn serialize_value<V: Serialize>(&mut self, value: &V) -> WriteResult<(), W>
         requires { IsSome (map_held self.old).key }
         ensures same_reference { SameLoan (map_lent self.old) (map_lent self.new) }
         ensures unchanged { (map_lent self.new).now ≡ (map_lent self.old).now }
@@ -204,7 +200,7 @@ impl<W: Write> CollectMap<'_, W> {
         &mut self,
         key: &K,
         value: &V,
-    ) -> Result<(), EncodeError<W::Error>>
+    ) -> WriteResult<(), W>
         requires { (map_held self.old).key ≡ None }
         ensures same_reference { SameLoan (map_lent self.old) (map_lent self.new) }
         ensures unchanged { (map_lent self.new).now ≡ (map_lent self.old).now }
@@ -225,7 +221,7 @@ impl<W: Write> CollectMap<'_, W> {
         &mut self,
         name: &'static str,
         value: &V,
-    ) -> Result<(), EncodeError<W::Error>>
+    ) -> WriteResult<(), W>
         requires { (map_held self.old).key ≡ None }
         ensures same_reference { SameLoan (map_lent self.old) (map_lent self.new) }
         ensures unchanged { (map_lent self.new).now ≡ (map_lent self.old).now }
@@ -242,7 +238,7 @@ impl<W: Write> CollectMap<'_, W> {
 
     /// Ends the map: its entries go out in key order. Two equal keys are refused with `Msg("Map
     /// keys must be unique")` before anything is written.
-    pub fn end(self) -> Result<(), EncodeError<W::Error>>
+    pub fn end(self) -> WriteResult<(), W>
         requires { IsTrue (is_complete (map_held self)) }
         ensures written { (given : List Pair) → AreSpellingsOf given (map_held self.entry).entries
             → Writes (map_rest (map_held self.entry).announced given)

@@ -13,7 +13,7 @@ ghost use Rattle.dagcbor_write.specs.Lending.{list_lent, list_items, SameLoan, B
 use crate::collect::buffer::Buffer;
 use crate::serialize::Serialize;
 use crate::serializer::Serializer;
-use dagcbor_heads::{EncodeError, Write};
+use dagcbor_heads::{Write, WriteResult};
 use std::alloc::Global;
 
 /// What an item that waits is refused with.
@@ -53,7 +53,7 @@ impl<W: Write> Serializer<W> {
         &mut self,
         alloc: Global,
         len: Option<usize>,
-    ) -> Result<CollectSeq<'_, W>, EncodeError<W::Error>>
+    ) -> WriteResult<CollectSeq<'_, W>, W>
         ensures* refused { sem 𝓛 (BeginsOrStops W.row W.written list_lent self.entry
             (announced_head len) result) }
         ensures same_reference { IfOk result (λ c. SameLoan self.entry (list_lent c)) }
@@ -69,11 +69,7 @@ impl<W: Write> Serializer<W> {
         })
     }
 
-    fn begin_items(
-        &mut self,
-        alloc: Global,
-        len: Option<usize>,
-    ) -> Result<Items, EncodeError<W::Error>>
+    fn begin_items(&mut self, alloc: Global, len: Option<usize>) -> WriteResult<Items, W>
         ensures head { Writes (announced_head len)
             (W.written self.old) (W.written self.new) result }
         ensures fresh { IfOk result (IsFresh len) }
@@ -88,7 +84,7 @@ impl<W: Write> Serializer<W> {
     }
 
     /// Writes the items that waited, behind their number.
-    fn push_waiting(&mut self, buffer: &Buffer) -> Result<(), EncodeError<W::Error>>
+    fn push_waiting(&mut self, buffer: &Buffer) -> WriteResult<(), W>
         ensures written { Writes (spelled_head 4 buffer.now.count ++? Some buffer.now.bytes)
             (W.written self.old) (W.written self.new) result }
         ensures memory { WantsMemoryOnlyIf W.takes_memory result }
@@ -111,10 +107,7 @@ impl<W: Write> CollectSeq<'_, W> {
 
     /// Takes the next item. One that waits and has no spelling is refused with
     /// `Msg("List element cannot be serialized")`.
-    pub fn serialize_element<T: Serialize>(
-        &mut self,
-        value: &T,
-    ) -> Result<(), EncodeError<W::Error>>
+    pub fn serialize_element<T: Serialize>(&mut self, value: &T) -> WriteResult<(), W>
         requires { HasRoom (list_items self.old) }
         ensures same_reference { SameLoan (list_lent self.old) (list_lent self.new) }
         ensures item { TakesElement (T.tree value.now) (list_items self.old)
@@ -133,7 +126,7 @@ impl<W: Write> CollectSeq<'_, W> {
 
     /// Ends the list: the items that waited go out behind their number. Where the number was
     /// announced nothing is left to write, and nothing can go wrong.
-    pub fn end(self) -> Result<(), EncodeError<W::Error>>
+    pub fn end(self) -> WriteResult<(), W>
         requires { IsComplete (list_items self) }
         ensures written { Writes (waiting_text (list_items self.entry))
             (W.written (list_lent self.entry).now) (W.written self.exit.0.now) result }

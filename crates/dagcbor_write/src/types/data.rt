@@ -5,18 +5,14 @@ ghost use Rattle.ipld_tree.specs.Ipld.{tree_of};
 
 use crate::serialize::Serialize;
 use crate::serializer::Serializer;
-use dagcbor_heads::{EncodeError, Write};
+use dagcbor_heads::{Write, WriteResult};
 use ipld_tree::Ipld;
 use std::alloc::Global;
 
 impl Serialize for Ipld {
     ghost tree = { λ v. Some (tree_of v) };
 
-    fn serialize<W: Write>(
-        &self,
-        alloc: Global,
-        ser: &mut Serializer<W>,
-    ) -> Result<(), EncodeError<W::Error>> {
+    fn serialize<W: Write>(&self, alloc: Global, ser: &mut Serializer<W>) -> WriteResult<(), W> {
         match self {
             Ipld::Null => ser.serialize_unit(),
             Ipld::Bool(b) => ser.serialize_bool(*b),

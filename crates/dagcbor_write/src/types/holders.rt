@@ -8,17 +8,13 @@ ghost use Rattle.dagcbor_write.specs.Trees.{option_tree};
 
 use crate::serialize::Serialize;
 use crate::serializer::Serializer;
-use dagcbor_heads::{EncodeError, Write};
+use dagcbor_heads::{Write, WriteResult};
 use std::alloc::Global;
 
 impl<T: Serialize> Serialize for &T {
     ghost tree = { λ v. T.tree v.now };
 
-    fn serialize<W: Write>(
-        &self,
-        alloc: Global,
-        ser: &mut Serializer<W>,
-    ) -> Result<(), EncodeError<W::Error>> {
+    fn serialize<W: Write>(&self, alloc: Global, ser: &mut Serializer<W>) -> WriteResult<(), W> {
         Serialize::serialize(*self, alloc, ser)
     }
 }
@@ -26,11 +22,7 @@ impl<T: Serialize> Serialize for &T {
 impl<T: Serialize> Serialize for Box<T> {
     ghost tree = { λ v. T.tree v.value };
 
-    fn serialize<W: Write>(
-        &self,
-        alloc: Global,
-        ser: &mut Serializer<W>,
-    ) -> Result<(), EncodeError<W::Error>> {
+    fn serialize<W: Write>(&self, alloc: Global, ser: &mut Serializer<W>) -> WriteResult<(), W> {
         Serialize::serialize(&**self, alloc, ser)
     }
 }
@@ -38,11 +30,7 @@ impl<T: Serialize> Serialize for Box<T> {
 impl<T: Serialize> Serialize for Option<T> {
     ghost tree = { option_tree T.tree };
 
-    fn serialize<W: Write>(
-        &self,
-        alloc: Global,
-        ser: &mut Serializer<W>,
-    ) -> Result<(), EncodeError<W::Error>> {
+    fn serialize<W: Write>(&self, alloc: Global, ser: &mut Serializer<W>) -> WriteResult<(), W> {
         match self {
             Some(value) => ser.serialize_some(alloc, value),
             None => ser.serialize_none(),
@@ -53,11 +41,7 @@ impl<T: Serialize> Serialize for Option<T> {
 impl<T: Serialize> Serialize for Vec<T> {
     ghost tree = { λ v. list_tree (map T.tree v.items) };
 
-    fn serialize<W: Write>(
-        &self,
-        alloc: Global,
-        ser: &mut Serializer<W>,
-    ) -> Result<(), EncodeError<W::Error>> {
+    fn serialize<W: Write>(&self, alloc: Global, ser: &mut Serializer<W>) -> WriteResult<(), W> {
         serialize_items(alloc, self.as_slice(), ser)
     }
 }
@@ -65,11 +49,7 @@ impl<T: Serialize> Serialize for Vec<T> {
 impl<T: Serialize> Serialize for &[T] {
     ghost tree = { λ v. list_tree (map T.tree v.now) };
 
-    fn serialize<W: Write>(
-        &self,
-        alloc: Global,
-        ser: &mut Serializer<W>,
-    ) -> Result<(), EncodeError<W::Error>> {
+    fn serialize<W: Write>(&self, alloc: Global, ser: &mut Serializer<W>) -> WriteResult<(), W> {
         serialize_items(alloc, *self, ser)
     }
 }
@@ -79,7 +59,7 @@ fn serialize_items<T: Serialize, W: Write>(
     alloc: Global,
     items: &[T],
     ser: &mut Serializer<W>,
-) -> Result<(), EncodeError<W::Error>>
+) -> WriteResult<(), W>
     ensures written { Writes (spelled_tree (list_tree (map T.tree items.now)))
         (W.written ser.old) (W.written ser.new) result }
     ensures well_formed { OnOk result (IfSome (list_tree (map T.tree items.now)) IsTree) }

@@ -7,18 +7,14 @@ ghost use Rattle.ipld_tree.specs.Tree.{null, boolean, integer, text, bytes, link
 
 use crate::serialize::Serialize;
 use crate::serializer::Serializer;
-use dagcbor_heads::{EncodeError, Write};
+use dagcbor_heads::{Write, WriteResult};
 use ipld_tree::{ByteSlice, Bytes, Cid};
 use std::alloc::Global;
 
 impl Serialize for () {
     ghost tree = { λ v. Some null };
 
-    fn serialize<W: Write>(
-        &self,
-        _alloc: Global,
-        ser: &mut Serializer<W>,
-    ) -> Result<(), EncodeError<W::Error>> {
+    fn serialize<W: Write>(&self, _alloc: Global, ser: &mut Serializer<W>) -> WriteResult<(), W> {
         ser.serialize_unit()
     }
 }
@@ -26,11 +22,7 @@ impl Serialize for () {
 impl Serialize for bool {
     ghost tree = { λ v. Some (boolean v) };
 
-    fn serialize<W: Write>(
-        &self,
-        _alloc: Global,
-        ser: &mut Serializer<W>,
-    ) -> Result<(), EncodeError<W::Error>> {
+    fn serialize<W: Write>(&self, _alloc: Global, ser: &mut Serializer<W>) -> WriteResult<(), W> {
         ser.serialize_bool(*self)
     }
 }
@@ -38,11 +30,7 @@ impl Serialize for bool {
 impl Serialize for i8 {
     ghost tree = { λ v. Some (integer v) };
 
-    fn serialize<W: Write>(
-        &self,
-        _alloc: Global,
-        ser: &mut Serializer<W>,
-    ) -> Result<(), EncodeError<W::Error>> {
+    fn serialize<W: Write>(&self, _alloc: Global, ser: &mut Serializer<W>) -> WriteResult<(), W> {
         ser.serialize_i8(*self)
     }
 }
@@ -50,11 +38,7 @@ impl Serialize for i8 {
 impl Serialize for i16 {
     ghost tree = { λ v. Some (integer v) };
 
-    fn serialize<W: Write>(
-        &self,
-        _alloc: Global,
-        ser: &mut Serializer<W>,
-    ) -> Result<(), EncodeError<W::Error>> {
+    fn serialize<W: Write>(&self, _alloc: Global, ser: &mut Serializer<W>) -> WriteResult<(), W> {
         ser.serialize_i16(*self)
     }
 }
@@ -62,11 +46,7 @@ impl Serialize for i16 {
 impl Serialize for i32 {
     ghost tree = { λ v. Some (integer v) };
 
-    fn serialize<W: Write>(
-        &self,
-        _alloc: Global,
-        ser: &mut Serializer<W>,
-    ) -> Result<(), EncodeError<W::Error>> {
+    fn serialize<W: Write>(&self, _alloc: Global, ser: &mut Serializer<W>) -> WriteResult<(), W> {
         ser.serialize_i32(*self)
     }
 }
@@ -74,11 +54,7 @@ impl Serialize for i32 {
 impl Serialize for i64 {
     ghost tree = { λ v. Some (integer v) };
 
-    fn serialize<W: Write>(
-        &self,
-        _alloc: Global,
-        ser: &mut Serializer<W>,
-    ) -> Result<(), EncodeError<W::Error>> {
+    fn serialize<W: Write>(&self, _alloc: Global, ser: &mut Serializer<W>) -> WriteResult<(), W> {
         ser.serialize_i64(*self)
     }
 }
@@ -86,11 +62,7 @@ impl Serialize for i64 {
 impl Serialize for i128 {
     ghost tree = { λ v. Some (integer v) };
 
-    fn serialize<W: Write>(
-        &self,
-        _alloc: Global,
-        ser: &mut Serializer<W>,
-    ) -> Result<(), EncodeError<W::Error>> {
+    fn serialize<W: Write>(&self, _alloc: Global, ser: &mut Serializer<W>) -> WriteResult<(), W> {
         ser.serialize_i128(*self)
     }
 }
@@ -98,11 +70,7 @@ impl Serialize for i128 {
 impl Serialize for isize {
     ghost tree = { λ v. Some (integer v) };
 
-    fn serialize<W: Write>(
-        &self,
-        _alloc: Global,
-        ser: &mut Serializer<W>,
-    ) -> Result<(), EncodeError<W::Error>> {
+    fn serialize<W: Write>(&self, _alloc: Global, ser: &mut Serializer<W>) -> WriteResult<(), W> {
         ser.serialize_i64(*self as i64)
     }
 }
@@ -110,11 +78,7 @@ impl Serialize for isize {
 impl Serialize for u8 {
     ghost tree = { λ v. Some (integer (pos v)) };
 
-    fn serialize<W: Write>(
-        &self,
-        _alloc: Global,
-        ser: &mut Serializer<W>,
-    ) -> Result<(), EncodeError<W::Error>> {
+    fn serialize<W: Write>(&self, _alloc: Global, ser: &mut Serializer<W>) -> WriteResult<(), W> {
         ser.serialize_u8(*self)
     }
 }
@@ -122,11 +86,7 @@ impl Serialize for u8 {
 impl Serialize for u16 {
     ghost tree = { λ v. Some (integer (pos v)) };
 
-    fn serialize<W: Write>(
-        &self,
-        _alloc: Global,
-        ser: &mut Serializer<W>,
-    ) -> Result<(), EncodeError<W::Error>> {
+    fn serialize<W: Write>(&self, _alloc: Global, ser: &mut Serializer<W>) -> WriteResult<(), W> {
         ser.serialize_u16(*self)
     }
 }
@@ -134,11 +94,7 @@ impl Serialize for u16 {
 impl Serialize for u32 {
     ghost tree = { λ v. Some (integer (pos v)) };
 
-    fn serialize<W: Write>(
-        &self,
-        _alloc: Global,
-        ser: &mut Serializer<W>,
-    ) -> Result<(), EncodeError<W::Error>> {
+    fn serialize<W: Write>(&self, _alloc: Global, ser: &mut Serializer<W>) -> WriteResult<(), W> {
         ser.serialize_u32(*self)
     }
 }
@@ -146,11 +102,7 @@ impl Serialize for u32 {
 impl Serialize for u64 {
     ghost tree = { λ v. Some (integer (pos v)) };
 
-    fn serialize<W: Write>(
-        &self,
-        _alloc: Global,
-        ser: &mut Serializer<W>,
-    ) -> Result<(), EncodeError<W::Error>> {
+    fn serialize<W: Write>(&self, _alloc: Global, ser: &mut Serializer<W>) -> WriteResult<(), W> {
         ser.serialize_u64(*self)
     }
 }
@@ -158,11 +110,7 @@ impl Serialize for u64 {
 impl Serialize for u128 {
     ghost tree = { λ v. Some (integer (pos v)) };
 
-    fn serialize<W: Write>(
-        &self,
-        _alloc: Global,
-        ser: &mut Serializer<W>,
-    ) -> Result<(), EncodeError<W::Error>> {
+    fn serialize<W: Write>(&self, _alloc: Global, ser: &mut Serializer<W>) -> WriteResult<(), W> {
         ser.serialize_u128(*self)
     }
 }
@@ -170,11 +118,7 @@ impl Serialize for u128 {
 impl Serialize for usize {
     ghost tree = { λ v. Some (integer (pos v)) };
 
-    fn serialize<W: Write>(
-        &self,
-        _alloc: Global,
-        ser: &mut Serializer<W>,
-    ) -> Result<(), EncodeError<W::Error>> {
+    fn serialize<W: Write>(&self, _alloc: Global, ser: &mut Serializer<W>) -> WriteResult<(), W> {
         ser.serialize_u64(*self as u64)
     }
 }
@@ -182,11 +126,7 @@ impl Serialize for usize {
 impl Serialize for char {
     ghost tree = { λ v. Some (text (encode_utf8 v)) };
 
-    fn serialize<W: Write>(
-        &self,
-        _alloc: Global,
-        ser: &mut Serializer<W>,
-    ) -> Result<(), EncodeError<W::Error>> {
+    fn serialize<W: Write>(&self, _alloc: Global, ser: &mut Serializer<W>) -> WriteResult<(), W> {
         ser.serialize_char(*self)
     }
 }
@@ -194,11 +134,7 @@ impl Serialize for char {
 impl Serialize for &str {
     ghost tree = { λ v. Some (text v.now) };
 
-    fn serialize<W: Write>(
-        &self,
-        _alloc: Global,
-        ser: &mut Serializer<W>,
-    ) -> Result<(), EncodeError<W::Error>> {
+    fn serialize<W: Write>(&self, _alloc: Global, ser: &mut Serializer<W>) -> WriteResult<(), W> {
         ser.serialize_str(*self)
     }
 }
@@ -206,11 +142,7 @@ impl Serialize for &str {
 impl Serialize for String {
     ghost tree = { λ v. Some (text (string_bytes v)) };
 
-    fn serialize<W: Write>(
-        &self,
-        _alloc: Global,
-        ser: &mut Serializer<W>,
-    ) -> Result<(), EncodeError<W::Error>> {
+    fn serialize<W: Write>(&self, _alloc: Global, ser: &mut Serializer<W>) -> WriteResult<(), W> {
         ser.serialize_str(self.as_str())
     }
 }
@@ -218,11 +150,7 @@ impl Serialize for String {
 impl Serialize for Bytes {
     ghost tree = { λ v. Some (bytes v.0.items) };
 
-    fn serialize<W: Write>(
-        &self,
-        _alloc: Global,
-        ser: &mut Serializer<W>,
-    ) -> Result<(), EncodeError<W::Error>> {
+    fn serialize<W: Write>(&self, _alloc: Global, ser: &mut Serializer<W>) -> WriteResult<(), W> {
         ser.serialize_bytes(self.0.as_slice())
     }
 }
@@ -230,11 +158,7 @@ impl Serialize for Bytes {
 impl Serialize for ByteSlice<'_> {
     ghost tree = { λ v. Some (bytes v.0.now) };
 
-    fn serialize<W: Write>(
-        &self,
-        _alloc: Global,
-        ser: &mut Serializer<W>,
-    ) -> Result<(), EncodeError<W::Error>> {
+    fn serialize<W: Write>(&self, _alloc: Global, ser: &mut Serializer<W>) -> WriteResult<(), W> {
         ser.serialize_bytes(self.0)
     }
 }
@@ -242,11 +166,7 @@ impl Serialize for ByteSlice<'_> {
 impl Serialize for Cid {
     ghost tree = { λ c. Some (link (cid_bytes c)) };
 
-    fn serialize<W: Write>(
-        &self,
-        _alloc: Global,
-        ser: &mut Serializer<W>,
-    ) -> Result<(), EncodeError<W::Error>> {
+    fn serialize<W: Write>(&self, _alloc: Global, ser: &mut Serializer<W>) -> WriteResult<(), W> {
         ser.serialize_cid(self)
     }
 }

@@ -8,7 +8,7 @@ ghost use Rattle.dagcbor_write.specs.Each.{spelled_each, AreTrees, in_turn};
 
 use crate::serialize::Serialize;
 use crate::serializer::Serializer;
-use dagcbor_heads::{EncodeError, Write};
+use dagcbor_heads::{Write, WriteResult};
 use std::alloc::Global;
 
 /// A part of a tuple, or `()` where a tuple has no such part.
@@ -17,11 +17,7 @@ trait Part: Copy {
     ghost trees: { Self → List (Option Tree) };
 
     /// Appends the part's spelling.
-    fn serialize_part<W: Write>(
-        self,
-        alloc: Global,
-        ser: &mut Serializer<W>,
-    ) -> Result<(), EncodeError<W::Error>>
+    fn serialize_part<W: Write>(self, alloc: Global, ser: &mut Serializer<W>) -> WriteResult<(), W>
         ensures written { Writes (spelled_each (trees self))
             (W.written ser.old) (W.written ser.new) result }
         ensures well_formed { OnOk result (AreTrees (trees self)) };
@@ -34,7 +30,7 @@ impl Part for () {
         self,
         _alloc: Global,
         _ser: &mut Serializer<W>,
-    ) -> Result<(), EncodeError<W::Error>> {
+    ) -> WriteResult<(), W> {
         Ok(())
     }
 }
@@ -46,7 +42,7 @@ impl<T: Serialize> Part for &T {
         self,
         alloc: Global,
         ser: &mut Serializer<W>,
-    ) -> Result<(), EncodeError<W::Error>> {
+    ) -> WriteResult<(), W> {
         self.serialize(alloc, ser)
     }
 }
@@ -57,7 +53,7 @@ fn serialize_parts<A: Part, B: Part, C: Part, D: Part, W: Write>(
     ser: &mut Serializer<W>,
     len: usize,
     parts: (A, B, C, D),
-) -> Result<(), EncodeError<W::Error>>
+) -> WriteResult<(), W>
     requires { len ≡ length
         (in_turn (A.trees parts.0) (B.trees parts.1) (C.trees parts.2) (D.trees parts.3)) }
     ensures written { Writes (spelled_tree (list_tree
@@ -76,11 +72,7 @@ fn serialize_parts<A: Part, B: Part, C: Part, D: Part, W: Write>(
 impl<A: Serialize> Serialize for (A,) {
     ghost tree = { λ p. list_tree (A.tree p.0 ∷ []) };
 
-    fn serialize<W: Write>(
-        &self,
-        alloc: Global,
-        ser: &mut Serializer<W>,
-    ) -> Result<(), EncodeError<W::Error>> {
+    fn serialize<W: Write>(&self, alloc: Global, ser: &mut Serializer<W>) -> WriteResult<(), W> {
         serialize_parts(alloc, ser, 1, (&self.0, (), (), ()))
     }
 }
@@ -88,11 +80,7 @@ impl<A: Serialize> Serialize for (A,) {
 impl<A: Serialize, B: Serialize> Serialize for (A, B) {
     ghost tree = { λ p. list_tree (A.tree p.0 ∷ B.tree p.1 ∷ []) };
 
-    fn serialize<W: Write>(
-        &self,
-        alloc: Global,
-        ser: &mut Serializer<W>,
-    ) -> Result<(), EncodeError<W::Error>> {
+    fn serialize<W: Write>(&self, alloc: Global, ser: &mut Serializer<W>) -> WriteResult<(), W> {
         serialize_parts(alloc, ser, 2, (&self.0, &self.1, (), ()))
     }
 }
@@ -100,11 +88,7 @@ impl<A: Serialize, B: Serialize> Serialize for (A, B) {
 impl<A: Serialize, B: Serialize, C: Serialize> Serialize for (A, B, C) {
     ghost tree = { λ p. list_tree (A.tree p.0 ∷ B.tree p.1 ∷ C.tree p.2 ∷ []) };
 
-    fn serialize<W: Write>(
-        &self,
-        alloc: Global,
-        ser: &mut Serializer<W>,
-    ) -> Result<(), EncodeError<W::Error>> {
+    fn serialize<W: Write>(&self, alloc: Global, ser: &mut Serializer<W>) -> WriteResult<(), W> {
         serialize_parts(alloc, ser, 3, (&self.0, &self.1, &self.2, ()))
     }
 }
@@ -112,11 +96,7 @@ impl<A: Serialize, B: Serialize, C: Serialize> Serialize for (A, B, C) {
 impl<A: Serialize, B: Serialize, C: Serialize, D: Serialize> Serialize for (A, B, C, D) {
     ghost tree = { λ p. list_tree (A.tree p.0 ∷ B.tree p.1 ∷ C.tree p.2 ∷ D.tree p.3 ∷ []) };
 
-    fn serialize<W: Write>(
-        &self,
-        alloc: Global,
-        ser: &mut Serializer<W>,
-    ) -> Result<(), EncodeError<W::Error>> {
+    fn serialize<W: Write>(&self, alloc: Global, ser: &mut Serializer<W>) -> WriteResult<(), W> {
         serialize_parts(alloc, ser, 4, (&self.0, &self.1, &self.2, &self.3))
     }
 }

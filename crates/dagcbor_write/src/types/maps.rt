@@ -10,7 +10,7 @@ ghost use Rattle.dagcbor_write.specs.Maps.{ShowsPairs};
 
 use crate::serialize::Serialize;
 use crate::serializer::Serializer;
-use dagcbor_heads::{EncodeError, Write};
+use dagcbor_heads::{Write, WriteResult};
 use std::alloc::Global;
 use std::collections::{BTreeMap, HashMap};
 use std::hash::Hash;
@@ -22,7 +22,7 @@ fn write_entries<
     V: Serialize + 'a,
     I: Iterator<Item = (&'a K, &'a V)> + Drop,
     W: Write,
->(alloc: Global, entries: I, ser: &mut Serializer<W>) -> Result<(), EncodeError<W::Error>>
+>(alloc: Global, entries: I, ser: &mut Serializer<W>) -> WriteResult<(), W>
     requires can { I.can_next entries }
     requires ends { IsFinite (I.remaining entries) }
     ensures written { (rest : I → List Pair)
@@ -43,11 +43,7 @@ fn write_entries<
 impl<K: Ord + Serialize, V: Serialize> Serialize for BTreeMap<K, V> {
     ghost tree = { λ m. entries_tree (map (λ e. (K.tree e.0, V.tree e.1)) m.entries) };
 
-    fn serialize<W: Write>(
-        &self,
-        alloc: Global,
-        ser: &mut Serializer<W>,
-    ) -> Result<(), EncodeError<W::Error>> {
+    fn serialize<W: Write>(&self, alloc: Global, ser: &mut Serializer<W>) -> WriteResult<(), W> {
         write_entries(alloc, self.iter(), ser)
     }
 }
@@ -55,11 +51,7 @@ impl<K: Ord + Serialize, V: Serialize> Serialize for BTreeMap<K, V> {
 impl<K: Eq + Hash + Serialize, V: Serialize> Serialize for HashMap<K, V> {
     ghost tree = { λ m. entries_tree (map (λ e. (K.tree e.0, V.tree e.1)) m.entries) };
 
-    fn serialize<W: Write>(
-        &self,
-        alloc: Global,
-        ser: &mut Serializer<W>,
-    ) -> Result<(), EncodeError<W::Error>> {
+    fn serialize<W: Write>(&self, alloc: Global, ser: &mut Serializer<W>) -> WriteResult<(), W> {
         write_entries(alloc, self.iter(), ser)
     }
 }

@@ -4,7 +4,7 @@ ghost use Rattle.std.specs.Prelude.{map};
 ghost use Rattle.ipld_tree.specs.Tree.{list_tree};
 
 use crate::tests::told::writes;
-use crate::{EncodeError, Serialize, Serializer, Write};
+use crate::{Serialize, Serializer, Write, WriteResult};
 use std::alloc::Global;
 use std::test::Fail;
 
@@ -16,11 +16,7 @@ struct Bag<T> {
 impl<T: Serialize> Serialize for Bag<T> {
     ghost tree = { λ bag. list_tree (map T.tree bag.items.items) };
 
-    fn serialize<W: Write>(
-        &self,
-        alloc: Global,
-        ser: &mut Serializer<W>,
-    ) -> Result<(), EncodeError<W::Error>> {
+    fn serialize<W: Write>(&self, alloc: Global, ser: &mut Serializer<W>) -> WriteResult<(), W> {
         let mut list = ser.serialize_seq(alloc, None)?;
         for item in &self.items {
             list.serialize_element(item)?;

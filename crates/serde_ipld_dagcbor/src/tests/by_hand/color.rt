@@ -14,8 +14,8 @@ ghost use Rattle.serde_ipld_dagcbor.specs.declared.tests.by_hand.color.Color.The
 
 use crate::tests::told::{each_tells, each_writes};
 use crate::{
-    DecodeError, Deserialize, Deserializer, EncodeError, EnumAccessor, Read, Serialize, Serializer,
-    Shown, Variants, Write, read_enum,
+    DecodeError, Deserialize, Deserializer, EnumAccessor, Read, ReadResult, Serialize, Serializer,
+    Shown, Variants, Write, WriteResult, read_enum,
 };
 use std::alloc::Global;
 use std::test::Fail;
@@ -38,11 +38,7 @@ impl Serialize for Color {
       | Alpha n a ↦ variant_tree (codes "Alpha") (list_tree (Some (integer (pos n)) ∷ Some (integer (pos a)) ∷ []))
     ] };
 
-    fn serialize<W: Write>(
-        &self,
-        alloc: Global,
-        ser: &mut Serializer<W>,
-    ) -> Result<(), EncodeError<W::Error>> {
+    fn serialize<W: Write>(&self, alloc: Global, ser: &mut Serializer<W>) -> WriteResult<(), W> {
         match self {
             Color::Red => ser.serialize_unit_variant("Color", 0, "Red"),
             Color::Blue => ser.serialize_unit_variant("Color", 1, "Blue"),
@@ -75,7 +71,7 @@ impl<'de> Variants<'de> for Color {
         name: &str,
         variant: EnumAccessor,
         de: &mut Deserializer<'de, R>,
-    ) -> Result<Color, DecodeError<R::Error>> {
+    ) -> ReadResult<Color, R> {
         match name {
             "Red" => {
                 variant.unit_variant(de)?;
@@ -100,10 +96,7 @@ impl<'de> Variants<'de> for Color {
 }
 
 impl<'de> Deserialize<'de> for Color {
-    fn deserialize<R: Read>(
-        alloc: Global,
-        de: &mut Deserializer<'de, R>,
-    ) -> Result<Color, DecodeError<R::Error>> {
+    fn deserialize<R: Read>(alloc: Global, de: &mut Deserializer<'de, R>) -> ReadResult<Self, R> {
         read_enum(
             alloc,
             "Color",

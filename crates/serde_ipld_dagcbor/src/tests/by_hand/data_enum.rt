@@ -11,8 +11,8 @@ ghost use Rattle.serde_ipld_dagcbor.specs.declared.tests.by_hand.data_enum.DataE
 
 use crate::tests::told::{each_tells, writes};
 use crate::{
-    DecodeError, Deserialize, Deserializer, EncodeError, EnumAccessor, Field, Read, Required,
-    Serialize, Serializer, Shown, Variants, Write, read_enum, read_struct_variant,
+    DecodeError, Deserialize, Deserializer, EnumAccessor, Field, Read, ReadResult, Required,
+    Serialize, Serializer, Shown, Variants, Write, WriteResult, read_enum, read_struct_variant,
     write_struct_variant,
 };
 use std::alloc::Global;
@@ -33,11 +33,7 @@ impl Serialize for DataEnum {
           ∷ field (codes "y") (Some (text (string_bytes y))) ∷ []))
     ] };
 
-    fn serialize<W: Write>(
-        &self,
-        alloc: Global,
-        ser: &mut Serializer<W>,
-    ) -> Result<(), EncodeError<W::Error>> {
+    fn serialize<W: Write>(&self, alloc: Global, ser: &mut Serializer<W>) -> WriteResult<(), W> {
         match self {
             DataEnum::A(n) => ser.serialize_newtype_variant(alloc, "DataEnum", 0, "A", n),
             DataEnum::B(flag, n) => {
@@ -74,7 +70,7 @@ impl<'de> Variants<'de> for DataEnum {
         name: &str,
         variant: EnumAccessor,
         de: &mut Deserializer<'de, R>,
-    ) -> Result<DataEnum, DecodeError<R::Error>> {
+    ) -> ReadResult<DataEnum, R> {
         match name {
             "A" => Ok(DataEnum::A(variant.newtype_variant(alloc, de)?)),
             "B" => {
@@ -96,10 +92,7 @@ impl<'de> Variants<'de> for DataEnum {
 }
 
 impl<'de> Deserialize<'de> for DataEnum {
-    fn deserialize<R: Read>(
-        alloc: Global,
-        de: &mut Deserializer<'de, R>,
-    ) -> Result<DataEnum, DecodeError<R::Error>> {
+    fn deserialize<R: Read>(alloc: Global, de: &mut Deserializer<'de, R>) -> ReadResult<Self, R> {
         read_enum(alloc, "DataEnum", &["A", "B", "C"], de)
     }
 }

@@ -11,8 +11,9 @@ ghost use Rattle.serde_ipld_dagcbor.specs.declared.tests.by_hand.enum_struct.Enu
 
 use crate::tests::told::{each_writes, tells};
 use crate::{
-    DecodeError, Deserialize, Deserializer, EncodeError, EnumAccessor, Field, Read, Required,
-    Serialize, Serializer, Shown, Variants, Write, read_enum, read_struct, write_struct,
+    DecodeError, Deserialize, Deserializer, EnumAccessor, Field, Read, ReadResult, Required,
+    Serialize, Serializer, Shown, Variants, Write, WriteResult, read_enum, read_struct,
+    write_struct,
 };
 use std::alloc::Global;
 use std::test::Fail;
@@ -26,11 +27,7 @@ pub(crate) enum Enum {
 impl Serialize for Enum {
     ghost tree = { λ e. elim e [ A ↦ Some (text (codes "A")) | B ↦ Some (text (codes "B")) ] };
 
-    fn serialize<W: Write>(
-        &self,
-        _alloc: Global,
-        ser: &mut Serializer<W>,
-    ) -> Result<(), EncodeError<W::Error>> {
+    fn serialize<W: Write>(&self, _alloc: Global, ser: &mut Serializer<W>) -> WriteResult<(), W> {
         match self {
             Enum::A => ser.serialize_unit_variant("Enum", 0, "A"),
             Enum::B => ser.serialize_unit_variant("Enum", 1, "B"),
@@ -58,7 +55,7 @@ impl<'de> Variants<'de> for Enum {
         name: &str,
         variant: EnumAccessor,
         de: &mut Deserializer<'de, R>,
-    ) -> Result<Enum, DecodeError<R::Error>> {
+    ) -> ReadResult<Enum, R> {
         match name {
             "A" => {
                 variant.unit_variant(de)?;
@@ -74,10 +71,7 @@ impl<'de> Variants<'de> for Enum {
 }
 
 impl<'de> Deserialize<'de> for Enum {
-    fn deserialize<R: Read>(
-        alloc: Global,
-        de: &mut Deserializer<'de, R>,
-    ) -> Result<Enum, DecodeError<R::Error>> {
+    fn deserialize<R: Read>(alloc: Global, de: &mut Deserializer<'de, R>) -> ReadResult<Self, R> {
         read_enum(alloc, "Enum", &["A", "B"], de)
     }
 }
@@ -90,11 +84,7 @@ pub(crate) struct EnumStruct {
 impl Serialize for EnumStruct {
     ghost tree = { λ p. entries_tree (field (codes "e") (elim p.e [ A ↦ Some (text (codes "A")) | B ↦ Some (text (codes "B")) ]) ∷ []) };
 
-    fn serialize<W: Write>(
-        &self,
-        alloc: Global,
-        ser: &mut Serializer<W>,
-    ) -> Result<(), EncodeError<W::Error>> {
+    fn serialize<W: Write>(&self, alloc: Global, ser: &mut Serializer<W>) -> WriteResult<(), W> {
         write_struct(alloc, (Field("e", &self.e), ()), ser)
     }
 }
@@ -108,10 +98,7 @@ impl Shown for EnumStruct {
 }
 
 impl<'de> Deserialize<'de> for EnumStruct {
-    fn deserialize<R: Read>(
-        alloc: Global,
-        de: &mut Deserializer<'de, R>,
-    ) -> Result<EnumStruct, DecodeError<R::Error>> {
+    fn deserialize<R: Read>(alloc: Global, de: &mut Deserializer<'de, R>) -> ReadResult<Self, R> {
         let (Required(e), ()) = read_struct(alloc, "EnumStruct", &["e"], de)?;
         Ok(EnumStruct { e })
     }

@@ -7,8 +7,8 @@ ghost use Rattle.serde_ipld_dagcbor.specs.tests.Note.{NoteView, note_shape};
 
 use crate::tests::told::{agree, is_told};
 use crate::{
-    DecodeError, Deserialize, Deserializer, EncodeError, Field, Read, Required, Serialize,
-    Serializer, Shown, Write, from_slice, read_struct, to_vec, write_struct,
+    Deserialize, Deserializer, Field, Read, ReadResult, Required, Serialize, Serializer, Shown,
+    Write, WriteResult, from_slice, read_struct, to_vec, write_struct,
 };
 use std::alloc::Global;
 use std::test::Fail;
@@ -23,11 +23,7 @@ impl Serialize for Note {
     ghost tree = { λ n. entries_tree (field (codes "year") (Some (integer (pos n.year)))
         ∷ field (codes "text") (Some (text (string_bytes n.text))) ∷ []) };
 
-    fn serialize<W: Write>(
-        &self,
-        alloc: Global,
-        ser: &mut Serializer<W>,
-    ) -> Result<(), EncodeError<W::Error>> {
+    fn serialize<W: Write>(&self, alloc: Global, ser: &mut Serializer<W>) -> WriteResult<(), W> {
         let fields = (Field("year", &self.year), (Field("text", &self.text), ()));
         write_struct(alloc, fields, ser)
     }
@@ -42,10 +38,7 @@ impl Shown for Note {
 }
 
 impl<'de> Deserialize<'de> for Note {
-    fn deserialize<R: Read>(
-        alloc: Global,
-        de: &mut Deserializer<'de, R>,
-    ) -> Result<Note, DecodeError<R::Error>> {
+    fn deserialize<R: Read>(alloc: Global, de: &mut Deserializer<'de, R>) -> ReadResult<Self, R> {
         let names = &["year", "text"];
         let (Required(year), (Required(text), ())) = read_struct(alloc, "Note", names, de)?;
         Ok(Note { year, text })

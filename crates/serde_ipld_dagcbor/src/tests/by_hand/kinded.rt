@@ -9,8 +9,8 @@ ghost use Rattle.serde_ipld_dagcbor.specs.declared.tests.by_hand.kinded.Kinded.T
 
 use crate::tests::told::{tells, writes};
 use crate::{
-    Bytes, Cid, DecodeError, Deserialize, Deserializer, EncodeError, Ipld, Read, Serialize,
-    Serializer, Shown, Write, from_slice,
+    Bytes, Cid, DecodeError, Deserialize, Deserializer, Ipld, Read, ReadResult, Serialize,
+    Serializer, Shown, Write, WriteResult, from_slice,
 };
 use std::alloc::Global;
 use std::test::Fail;
@@ -24,11 +24,7 @@ pub(crate) enum Kinded {
 impl Serialize for Kinded {
     ghost tree = { λ k. elim k [ kinded.Bytes b ↦ Some (bytes b.0.items) | kinded.Link c ↦ Some (link (cid_bytes c)) ] };
 
-    fn serialize<W: Write>(
-        &self,
-        alloc: Global,
-        ser: &mut Serializer<W>,
-    ) -> Result<(), EncodeError<W::Error>> {
+    fn serialize<W: Write>(&self, alloc: Global, ser: &mut Serializer<W>) -> WriteResult<(), W> {
         match self {
             Kinded::Bytes(bytes) => bytes.serialize(alloc, ser),
             Kinded::Link(cid) => cid.serialize(alloc, ser),
@@ -45,10 +41,7 @@ impl Shown for Kinded {
 }
 
 impl<'de> Deserialize<'de> for Kinded {
-    fn deserialize<R: Read>(
-        alloc: Global,
-        de: &mut Deserializer<'de, R>,
-    ) -> Result<Kinded, DecodeError<R::Error>> {
+    fn deserialize<R: Read>(alloc: Global, de: &mut Deserializer<'de, R>) -> ReadResult<Self, R> {
         match Ipld::deserialize(alloc, de)? {
             Ipld::Bytes(bytes) => Ok(Kinded::Bytes(Bytes(bytes))),
             Ipld::Link(cid) => Ok(Kinded::Link(cid)),

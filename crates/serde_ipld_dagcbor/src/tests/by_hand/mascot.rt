@@ -8,8 +8,8 @@ ghost use Rattle.serde_ipld_dagcbor.specs.tests.Mascot.{MascotView, mascot_shape
 use crate::tests::devices::std_devices::{Sink, Source};
 use crate::tests::told::{agree, is_told, tells, writes};
 use crate::{
-    DecodeError, Deserialize, DeserializeOwned, Deserializer, EncodeError, Field, Read, Required,
-    Serialize, Serializer, Shown, Write, from_reader, read_struct, to_writer, write_struct,
+    Deserialize, DeserializeOwned, Deserializer, Field, Read, ReadResult, Required, Serialize,
+    Serializer, Shown, Write, WriteResult, from_reader, read_struct, to_writer, write_struct,
 };
 use std::alloc::{AllocError, Global};
 use std::fs;
@@ -29,11 +29,7 @@ impl Serialize for Mascot {
         ∷ field (codes "species") (Some (text (string_bytes p.species)))
         ∷ field (codes "year_of_birth") (Some (integer (pos p.year_of_birth))) ∷ []) };
 
-    fn serialize<W: Write>(
-        &self,
-        alloc: Global,
-        ser: &mut Serializer<W>,
-    ) -> Result<(), EncodeError<W::Error>> {
+    fn serialize<W: Write>(&self, alloc: Global, ser: &mut Serializer<W>) -> WriteResult<(), W> {
         let fields = (
             Field("name", &self.name),
             (
@@ -54,10 +50,7 @@ impl Shown for Mascot {
 }
 
 impl<'de> Deserialize<'de> for Mascot {
-    fn deserialize<R: Read>(
-        alloc: Global,
-        de: &mut Deserializer<'de, R>,
-    ) -> Result<Mascot, DecodeError<R::Error>> {
+    fn deserialize<R: Read>(alloc: Global, de: &mut Deserializer<'de, R>) -> ReadResult<Self, R> {
         let names = &["name", "species", "year_of_birth"];
         let (Required(name), (Required(species), (Required(year_of_birth), ()))) = read_struct(
             alloc, "Mascot", names, de,

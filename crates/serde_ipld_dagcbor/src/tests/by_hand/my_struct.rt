@@ -9,8 +9,8 @@ ghost use Rattle.serde_ipld_dagcbor.specs.tests.MyStruct.{MyStructView, my_struc
 use crate::tests::rows::links::{LINK, joined};
 use crate::tests::told::{agree, tells, writes};
 use crate::{
-    Cid, DecodeError, Deserialize, Deserializer, EncodeError, Read, Required, Serialize,
-    Serializer, Shown, Write, from_slice, read_struct,
+    Cid, Deserialize, Deserializer, Read, ReadResult, Required, Serialize, Serializer, Shown,
+    Write, WriteResult, from_slice, read_struct,
 };
 use std::alloc::Global;
 use std::test::Fail;
@@ -26,11 +26,7 @@ impl Serialize for MyStruct {
     ghost tree = { λ p. entries_tree (field (codes "cid") (Some (link (cid_bytes p.cid)))
         ∷ field (codes "data") (Some (boolean p.data)) ∷ []) };
 
-    fn serialize<W: Write>(
-        &self,
-        alloc: Global,
-        ser: &mut Serializer<W>,
-    ) -> Result<(), EncodeError<W::Error>> {
+    fn serialize<W: Write>(&self, alloc: Global, ser: &mut Serializer<W>) -> WriteResult<(), W> {
         let mut fields = ser.serialize_struct(alloc, "MyStruct", 2)?;
         fields.serialize_field("cid", &self.cid)?;
         fields.serialize_field("data", &self.data)?;
@@ -47,10 +43,7 @@ impl Shown for MyStruct {
 }
 
 impl<'de> Deserialize<'de> for MyStruct {
-    fn deserialize<R: Read>(
-        alloc: Global,
-        de: &mut Deserializer<'de, R>,
-    ) -> Result<MyStruct, DecodeError<R::Error>> {
+    fn deserialize<R: Read>(alloc: Global, de: &mut Deserializer<'de, R>) -> ReadResult<Self, R> {
         let (Required(cid), (Required(data), ())) = read_struct(
             alloc,
             "MyStruct",

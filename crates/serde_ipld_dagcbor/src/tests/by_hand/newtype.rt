@@ -11,8 +11,8 @@ ghost use Rattle.serde_ipld_dagcbor.specs.tests.NamedLink.{named_link_variants, 
 use crate::tests::rows::links::{LINK, joined};
 use crate::tests::told::{tells, writes};
 use crate::{
-    Cid, DecodeError, Deserialize, Deserializer, EncodeError, EnumAccessor, Read, Serialize,
-    Serializer, Shown, Variants, Write, from_slice, read_enum,
+    Cid, DecodeError, Deserialize, Deserializer, EnumAccessor, Read, ReadResult, Serialize,
+    Serializer, Shown, Variants, Write, WriteResult, from_slice, read_enum,
 };
 use std::alloc::Global;
 use std::test::Fail;
@@ -23,11 +23,7 @@ pub(crate) struct Newtype(u8);
 impl Serialize for Newtype {
     ghost tree = { λ n. Some (integer (pos n.0)) };
 
-    fn serialize<W: Write>(
-        &self,
-        alloc: Global,
-        ser: &mut Serializer<W>,
-    ) -> Result<(), EncodeError<W::Error>> {
+    fn serialize<W: Write>(&self, alloc: Global, ser: &mut Serializer<W>) -> WriteResult<(), W> {
         ser.serialize_newtype_struct(alloc, "Newtype", &self.0)
     }
 }
@@ -41,10 +37,7 @@ impl Shown for Newtype {
 }
 
 impl<'de> Deserialize<'de> for Newtype {
-    fn deserialize<R: Read>(
-        alloc: Global,
-        de: &mut Deserializer<'de, R>,
-    ) -> Result<Newtype, DecodeError<R::Error>> {
+    fn deserialize<R: Read>(alloc: Global, de: &mut Deserializer<'de, R>) -> ReadResult<Self, R> {
         Ok(Newtype(de.deserialize_newtype_struct(alloc, "Newtype")?))
     }
 }
@@ -57,11 +50,7 @@ pub(crate) enum Externally {
 impl Serialize for Externally {
     ghost tree = { λ e. elim e [ externally.Cid c ↦ variant_tree (codes "Cid") (Some (link (cid_bytes c))) ] };
 
-    fn serialize<W: Write>(
-        &self,
-        alloc: Global,
-        ser: &mut Serializer<W>,
-    ) -> Result<(), EncodeError<W::Error>> {
+    fn serialize<W: Write>(&self, alloc: Global, ser: &mut Serializer<W>) -> WriteResult<(), W> {
         match self {
             Externally::Cid(cid) => ser.serialize_newtype_variant(
                 alloc,
@@ -94,7 +83,7 @@ impl<'de> Variants<'de> for Externally {
         name: &str,
         variant: EnumAccessor,
         de: &mut Deserializer<'de, R>,
-    ) -> Result<Externally, DecodeError<R::Error>> {
+    ) -> ReadResult<Externally, R> {
         match name {
             "Cid" => Ok(Externally::Cid(variant.newtype_variant(alloc, de)?)),
             _ => Err(DecodeError::custom("unknown variant")),
@@ -103,10 +92,7 @@ impl<'de> Variants<'de> for Externally {
 }
 
 impl<'de> Deserialize<'de> for Externally {
-    fn deserialize<R: Read>(
-        alloc: Global,
-        de: &mut Deserializer<'de, R>,
-    ) -> Result<Externally, DecodeError<R::Error>> {
+    fn deserialize<R: Read>(alloc: Global, de: &mut Deserializer<'de, R>) -> ReadResult<Self, R> {
         read_enum(alloc, "Externally", &["Cid"], de)
     }
 }

@@ -8,8 +8,8 @@ ghost use Rattle.serde_ipld_dagcbor.specs.tests.One.{one_shape};
 use crate::tests::rows::links::joined;
 use crate::tests::told::{each_tells, tells, writes};
 use crate::{
-    DecodeError, Deserialize, Deserializer, EncodeError, Field, Read, Required, Serialize,
-    Serializer, Shown, Write, read_struct, write_struct,
+    Deserialize, Deserializer, Field, Read, ReadResult, Required, Serialize, Serializer, Shown,
+    Write, WriteResult, read_struct, write_struct,
 };
 use std::alloc::Global;
 use std::test::Fail;
@@ -22,11 +22,7 @@ pub(crate) struct One {
 impl Serialize for One {
     ghost tree = { λ p. entries_tree (field (codes "a") (Some (integer (pos p.a))) ∷ []) };
 
-    fn serialize<W: Write>(
-        &self,
-        alloc: Global,
-        ser: &mut Serializer<W>,
-    ) -> Result<(), EncodeError<W::Error>> {
+    fn serialize<W: Write>(&self, alloc: Global, ser: &mut Serializer<W>) -> WriteResult<(), W> {
         write_struct(alloc, (Field("a", &self.a), ()), ser)
     }
 }
@@ -40,10 +36,7 @@ impl Shown for One {
 }
 
 impl<'de> Deserialize<'de> for One {
-    fn deserialize<R: Read>(
-        alloc: Global,
-        de: &mut Deserializer<'de, R>,
-    ) -> Result<One, DecodeError<R::Error>> {
+    fn deserialize<R: Read>(alloc: Global, de: &mut Deserializer<'de, R>) -> ReadResult<Self, R> {
         let (Required(a), ()) = read_struct(alloc, "One", &["a"], de)?;
         Ok(One { a })
     }

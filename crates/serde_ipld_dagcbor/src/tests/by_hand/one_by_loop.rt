@@ -6,7 +6,7 @@ ghost use Rattle.serde_ipld_dagcbor.specs.tests.One.{one_shape};
 
 use crate::tests::by_hand::one::One;
 use crate::tests::told::is_told;
-use crate::{DecodeError, Deserializer, IgnoredAny, Read, from_slice};
+use crate::{DecodeError, Deserializer, IgnoredAny, Read, ReadResult, from_slice};
 use std::alloc::Global;
 use std::test::Fail;
 
@@ -14,7 +14,7 @@ use std::test::Fail;
 fn read_one_by_loop<'de, R: Read>(
     alloc: Global,
     de: &mut Deserializer<'de, R>,
-) -> Result<One, DecodeError<R::Error>>
+) -> ReadResult<One, R>
     ensures { Over R.reading (ReadsValue (λ o. (o.a, tt)) one_shape) de.old result de.new }
 {
     let mut entries = de.deserialize_map()?;

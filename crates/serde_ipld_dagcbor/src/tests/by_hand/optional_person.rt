@@ -9,8 +9,8 @@ ghost use Rattle.serde_ipld_dagcbor.specs.tests.OptionalPerson.{optional_person_
 
 use crate::tests::told::{agree, tells, writes};
 use crate::{
-    DecodeError, Deserialize, Deserializer, EncodeError, Field, Read, Required, Serialize,
-    Serializer, Shown, Write, read_struct, write_struct,
+    Deserialize, Deserializer, Field, Read, ReadResult, Required, Serialize, Serializer, Shown,
+    Write, WriteResult, read_struct, write_struct,
 };
 use std::alloc::{AllocError, Global};
 use std::test::Fail;
@@ -31,11 +31,7 @@ impl Serialize for OptionalPerson {
           ∷ field (codes "profession") (option_tree (λ s. Some (text (string_bytes s))) p.profession) ∷ [])
     ] };
 
-    fn serialize<W: Write>(
-        &self,
-        alloc: Global,
-        ser: &mut Serializer<W>,
-    ) -> Result<(), EncodeError<W::Error>> {
+    fn serialize<W: Write>(&self, alloc: Global, ser: &mut Serializer<W>) -> WriteResult<(), W> {
         let profession = Field("profession", &self.profession);
         match &self.year_of_birth {
             None => {
@@ -60,10 +56,7 @@ impl Shown for OptionalPerson {
 }
 
 impl<'de> Deserialize<'de> for OptionalPerson {
-    fn deserialize<R: Read>(
-        alloc: Global,
-        de: &mut Deserializer<'de, R>,
-    ) -> Result<OptionalPerson, DecodeError<R::Error>> {
+    fn deserialize<R: Read>(alloc: Global, de: &mut Deserializer<'de, R>) -> ReadResult<Self, R> {
         let names = &["name", "year_of_birth", "profession"];
         let (Required(name), (year_of_birth, (profession, ()))) = read_struct(
             alloc,

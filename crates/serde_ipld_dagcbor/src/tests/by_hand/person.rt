@@ -7,8 +7,8 @@ ghost use Rattle.serde_ipld_dagcbor.specs.tests.Person.{PersonView, person_shape
 
 use crate::tests::told::{agree, tells, writes};
 use crate::{
-    DecodeError, Deserialize, Deserializer, EncodeError, Field, Read, Required, Serialize,
-    Serializer, Shown, Write, read_struct, write_struct,
+    Deserialize, Deserializer, Field, Read, ReadResult, Required, Serialize, Serializer, Shown,
+    Write, WriteResult, read_struct, write_struct,
 };
 use std::alloc::{AllocError, Global};
 use std::test::Fail;
@@ -25,11 +25,7 @@ impl Serialize for Person {
         ∷ field (codes "year_of_birth") (Some (integer (pos p.year_of_birth)))
         ∷ field (codes "profession") (option_tree (λ s. Some (text (string_bytes s))) p.profession) ∷ []) };
 
-    fn serialize<W: Write>(
-        &self,
-        alloc: Global,
-        ser: &mut Serializer<W>,
-    ) -> Result<(), EncodeError<W::Error>> {
+    fn serialize<W: Write>(&self, alloc: Global, ser: &mut Serializer<W>) -> WriteResult<(), W> {
         let fields = (
             Field("name", &self.name),
             (
@@ -50,10 +46,7 @@ impl Shown for Person {
 }
 
 impl<'de> Deserialize<'de> for Person {
-    fn deserialize<R: Read>(
-        alloc: Global,
-        de: &mut Deserializer<'de, R>,
-    ) -> Result<Person, DecodeError<R::Error>> {
+    fn deserialize<R: Read>(alloc: Global, de: &mut Deserializer<'de, R>) -> ReadResult<Self, R> {
         let names = &["name", "year_of_birth", "profession"];
         let (Required(name), (Required(year_of_birth), (profession, ()))) = read_struct(
             alloc, "Person", names, de,

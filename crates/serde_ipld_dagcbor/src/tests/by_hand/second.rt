@@ -10,8 +10,8 @@ ghost use Rattle.serde_ipld_dagcbor.specs.declared.tests.by_hand.second.Second.T
 
 use crate::tests::told::{tells, writes};
 use crate::{
-    DecodeError, Deserialize, Deserializer, EncodeError, EnumAccessor, Read, Required, Serialize,
-    Serializer, Shown, Variants, Write, read_enum, read_struct_variant,
+    DecodeError, Deserialize, Deserializer, EnumAccessor, Read, ReadResult, Required, Serialize,
+    Serializer, Shown, Variants, Write, WriteResult, read_enum, read_struct_variant,
 };
 use std::alloc::Global;
 use std::test::Fail;
@@ -28,11 +28,7 @@ impl Serialize for Second {
           ∷ field (codes "a") (Some (integer (pos a))) ∷ []))
     ] };
 
-    fn serialize<W: Write>(
-        &self,
-        alloc: Global,
-        ser: &mut Serializer<W>,
-    ) -> Result<(), EncodeError<W::Error>> {
+    fn serialize<W: Write>(&self, alloc: Global, ser: &mut Serializer<W>) -> WriteResult<(), W> {
         match self {
             Second::Data { b, abc, a } => serialize_data(alloc, *b, *abc, *a, ser),
         }
@@ -47,7 +43,7 @@ fn serialize_data<W: Write>(
     abc: u8,
     a: u8,
     ser: &mut Serializer<W>,
-) -> Result<(), EncodeError<W::Error>>
+) -> WriteResult<(), W>
     ensures written { Writes (spelled_tree (variant_tree (codes "Data") (entries_tree (field (codes "b") (Some (integer (pos b)))
         ∷ field (codes "abc") (Some (integer (pos abc)))
         ∷ field (codes "a") (Some (integer (pos a))) ∷ [])))) (W.written ser.old) (W.written ser.new) result }
@@ -82,7 +78,7 @@ impl<'de> Variants<'de> for Second {
         name: &str,
         variant: EnumAccessor,
         de: &mut Deserializer<'de, R>,
-    ) -> Result<Second, DecodeError<R::Error>> {
+    ) -> ReadResult<Second, R> {
         match name {
             "Data" => {
                 let (Required(b), (Required(abc), (Required(a), ()))) = read_struct_variant(
@@ -99,10 +95,7 @@ impl<'de> Variants<'de> for Second {
 }
 
 impl<'de> Deserialize<'de> for Second {
-    fn deserialize<R: Read>(
-        alloc: Global,
-        de: &mut Deserializer<'de, R>,
-    ) -> Result<Second, DecodeError<R::Error>> {
+    fn deserialize<R: Read>(alloc: Global, de: &mut Deserializer<'de, R>) -> ReadResult<Self, R> {
         read_enum(alloc, "Second", &["Data"], de)
     }
 }

@@ -8,7 +8,8 @@ ghost use Rattle.serde_ipld_dagcbor.specs.declared.tests.by_hand.tagged.CidInInt
 use crate::tests::rows::links::{LINK, joined};
 use crate::tests::told::{each_tells, tells};
 use crate::{
-    Cid, DecodeError, Deserialize, Deserializer, Read, Required, Shown, from_slice, read_struct,
+    Cid, DecodeError, Deserialize, Deserializer, Read, ReadResult, Required, Shown, from_slice,
+    read_struct,
 };
 use std::alloc::Global;
 use std::test::Fail;
@@ -27,10 +28,7 @@ impl Shown for CidInInternallyTaggedEnum {
 }
 
 impl<'de> Deserialize<'de> for CidInInternallyTaggedEnum {
-    fn deserialize<R: Read>(
-        alloc: Global,
-        de: &mut Deserializer<'de, R>,
-    ) -> Result<CidInInternallyTaggedEnum, DecodeError<R::Error>> {
+    fn deserialize<R: Read>(alloc: Global, de: &mut Deserializer<'de, R>) -> ReadResult<Self, R> {
         let fields: (Required<String>, (Required<Cid>, ())) = read_struct(
             alloc,
             "CidInInternallyTaggedEnum",

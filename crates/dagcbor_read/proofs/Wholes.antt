@@ -22,6 +22,10 @@ pub on_refusal : {T E : Type 0} (Q : DecodeError E → Type 0) (r : Result T (De
 on_refusal Q (Ok v) e h q = tt
 on_refusal Q (Err y) e h q = subst Q (sym h) q
 
+pub not_answered : {T E : Type 0} (P : T → Type 0) (r : Result T (DecodeError E)) (e : DecodeError E) → IsErrAnd r (λ y. y ≡ e) → IfOk r P
+not_answered P (Ok v) e h = absurd h
+not_answered P (Err y) e h = tt
+
 pub first_fact : {T E : Type 0} (P Q : DecodeError E → Type 0) (r : Result T (DecodeError E)) → IfErr r (λ e. P e × Q e) → IfErr r P
 first_fact P Q (Ok v) h = tt
 first_fact P Q (Err e) h = h.0

@@ -1,37 +1,27 @@
 use Rattle.std.proofs.Common.{ap, sym, ◌∙◌}
 use Rattle.std.specs.Prelude.{Some}
-use Rattle.dagcbor_read.proofs.Wholes.{on_refusal, value_refused, value_end_refused, value_answered}
+use Rattle.dagcbor_read.proofs.Wholes.{not_answered, on_refusal, value_refused, value_end_refused, value_answered}
 use Rattle.dagcbor_read.proofs.whole.from_slice_with_depth.Goals as goal
 
 -- no value was read
-pub returns-in_err-value-clause-refused : goal.returns-in_err-value-clause-refused
-returns-in_err-value-clause-refused g c =
+pub returns-in_err-value : goal.returns-in_err-value
+returns-in_err-value g c =
     let start = c.from_slice_reader-de.ensures in
     let source = c.with_depth.ensures in
-    on_refusal _ _ _ c.from_residual.ensures.1 (value_refused g.T.Shown.shape c.args.steps (Some c.args.bytes.now) _ _ _ _ (ap (λ p. p.input.left) start ∙ ap (λ r. r.left) source) (ap (λ p. p.input.steps) start ∙ ap (λ r. r.steps) source)
-    (λ b n. let differ = sym (ap (λ p. p.input.lends) start ∙ ap (λ r. r.lends) source) ∙ n in cc) (c.in_err-value.ensures.value (ap (λ p. p.failed) start))).0
-
-pub returns-in_err-value-clause-never : goal.returns-in_err-value-clause-never
-returns-in_err-value-clause-never g c =
-    let start = c.from_slice_reader-de.ensures in
-    let source = c.with_depth.ensures in
-    on_refusal _ _ _ c.from_residual.ensures.1 (value_refused g.T.Shown.shape c.args.steps (Some c.args.bytes.now) _ _ _ _ (ap (λ p. p.input.left) start ∙ ap (λ r. r.left) source) (ap (λ p. p.input.steps) start ∙ ap (λ r. r.steps) source)
-    (λ b n. let differ = sym (ap (λ p. p.input.lends) start ∙ ap (λ r. r.lends) source) ∙ n in cc) (c.in_err-value.ensures.value (ap (λ p. p.failed) start))).1
+    let told = value_refused g.T.Shown.shape c.args.steps (Some c.args.bytes.now) _ _ _ _ (ap (λ p. p.input.left) start ∙ ap (λ r. r.left) source) (ap (λ p. p.input.steps) start ∙ ap (λ r. r.steps) source)
+        (λ b n. let differ = sym (ap (λ p. p.input.lends) start ∙ ap (λ r. r.lends) source) ∙ n in cc) (c.in_err-value.ensures.value (ap (λ p. p.failed) start)) in
+    let handed = c.from_residual.ensures.1 in
+    record { value = not_answered _ _ _ handed; refused = on_refusal _ _ _ handed told.0; never = on_refusal _ _ _ handed told.1 }
 
 -- it was read, and then no end was found
-pub returns-in_err-end-clause-refused : goal.returns-in_err-end-clause-refused
-returns-in_err-end-clause-refused g c =
+pub returns-in_err-end : goal.returns-in_err-end
+returns-in_err-end g c =
     let start = c.from_slice_reader-de.ensures in
     let source = c.with_depth.ensures in
-    on_refusal _ _ _ c.from_residual-in_err-end.ensures.1 (value_end_refused g.T.Shown.shape c.args.steps (Some c.args.bytes.now) _ _ _ (g.T.Shown.meaning c.in_ok-value.value) _ (ap (λ p. p.input.left) start ∙ ap (λ r. r.left) source)
-    (c.in_ok-value.ensures.value (ap (λ p. p.failed) start)) c.in_err-end.ensures).0
-
-pub returns-in_err-end-clause-never : goal.returns-in_err-end-clause-never
-returns-in_err-end-clause-never g c =
-    let start = c.from_slice_reader-de.ensures in
-    let source = c.with_depth.ensures in
-    on_refusal _ _ _ c.from_residual-in_err-end.ensures.1 (value_end_refused g.T.Shown.shape c.args.steps (Some c.args.bytes.now) _ _ _ (g.T.Shown.meaning c.in_ok-value.value) _ (ap (λ p. p.input.left) start ∙ ap (λ r. r.left) source)
-    (c.in_ok-value.ensures.value (ap (λ p. p.failed) start)) c.in_err-end.ensures).1
+    let told = value_end_refused g.T.Shown.shape c.args.steps (Some c.args.bytes.now) _ _ _ (g.T.Shown.meaning c.in_ok-value.value) _ (ap (λ p. p.input.left) start ∙ ap (λ r. r.left) source)
+        (c.in_ok-value.ensures.value (ap (λ p. p.failed) start)) c.in_err-end.ensures in
+    let handed = c.from_residual-in_err-end.ensures.1 in
+    record { value = not_answered _ _ _ handed; refused = on_refusal _ _ _ handed told.0; never = on_refusal _ _ _ handed told.1 }
 
 pub returns-clause-value : goal.returns-clause-value
 returns-clause-value g c =

@@ -19,23 +19,19 @@ returns-in_err-write_all-clause-broken g c =
     let p = err_from_is_err_and c.from_residual.result c.from_residual.ensures.1 in
     rw p.1 (fill_broken _ _ _ _ _ _ c.in-Ok.shown.now some.0 _ w.0 w.1 c.args.kept.now.one_line c.fill_buf.follows.holds-at-none.0 c.in-Ok.ensures.front a w.2 w.3)
 
-pub returns-in_err-answered-clause-broken : goal.returns-in_err-answered-clause-broken
-returns-in_err-answered-clause-broken g c =
+pub returns-in_err-answered : goal.returns-in_err-answered
+returns-in_err-answered g c =
     let text = c.args.kept.now.held.items ++ c.in-Ok.shown.now in
     let some = c.answer_shown-answered.ensures.some in
     let a = answers_are (IsAnswer c.args.command) text some.0 _ _ _ c.clear.ensures.items c.deref.ensures.value some.1 in
     let w = c.in_ok-write_all.ensures.written in
     let p = err_from_is_err_and c.from_residual-in_err-answered.result c.from_residual-in_err-answered.ensures.1 in
-    rw p.1 (fill_broken _ _ _ _ _ _ c.in-Ok.shown.now some.0 _ w.0 w.1 c.args.kept.now.one_line c.fill_buf.follows.holds-at-none.0 c.in-Ok.ensures.front a w.2 w.3)
-
-pub returns-in_err-answered-clause-whole : goal.returns-in_err-answered-clause-whole
-returns-in_err-answered-clause-whole g c =
-    let text = c.args.kept.now.held.items ++ c.in-Ok.shown.now in
-    let some = c.answer_shown-answered.ensures.some in
-    let a = answers_are (IsAnswer c.args.command) text some.0 _ _ _ c.clear.ensures.items c.deref.ensures.value some.1 in
-    let w = c.in_ok-write_all.ensures.written in
-    let p = err_from_is_err_and c.from_residual-in_err-answered.result c.from_residual-in_err-answered.ensures.1 in
-    rw p.1 (λ _. fill_written _ _ _ _ _ c.in-Ok.shown.now some.0 _ w.0 w.1 c.in-Ok.ensures.front a w.2 w.3 w.4)
+    rw p.1 (record {
+      answered = tt;
+      end = λ e. absurd (cc e);
+      broken = fill_broken _ _ _ _ _ _ c.in-Ok.shown.now some.0 _ w.0 w.1 c.args.kept.now.one_line c.fill_buf.follows.holds-at-none.0 c.in-Ok.ensures.front a w.2 w.3;
+      whole = λ _. fill_written _ _ _ _ _ c.in-Ok.shown.now some.0 _ w.0 w.1 c.in-Ok.ensures.front a w.2 w.3 w.4;
+    })
 
 pub returns-clause-answered : goal.returns-clause-answered
 returns-clause-answered g c =

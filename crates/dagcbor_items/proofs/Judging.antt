@@ -1,5 +1,5 @@
 -- Judging bytes that are all there: what stands behind what was passed, and where nothing stands.
-use Rattle.std.proofs.Common.{◌≡◌, ◌⊎◌, inl, inr, ℕ, ◌+◌, ◌-◌, ◌<◌, ◌≤◌, ◌^◌, pos, negsuc, List, [], ◌∷◌, ◌++◌, length, take, drop, true, false, refl, sym, ap, ◌∙◌, subst, arith, length-append, append_assoc, append-nil, All}
+use Rattle.std.proofs.Common.{◌≡◌, inl, inr, ℕ, ◌+◌, ◌-◌, ◌<◌, ◌≤◌, pos, negsuc, List, ◌∷◌, ◌++◌, length, take, drop, true, false, refl, sym, ap, ◌∙◌, subst, arith, length-append, append_assoc, All}
 use Rattle.std.specs.Prelude.{Option, Some, None, IsUtf8, MatchOption}
 use Rattle.std.proofs.Math.Seq.{drop-append_seam, take-append_seam, take-length}
 use Rattle.std.specs.List.{list_all}
@@ -11,10 +11,10 @@ use Rattle.std.proofs.lemmas.Str.{IsUtf8-from_ascii}
 use Rattle.std.proofs.lemmas.Str.Ascii.{IsAscii-from_all}
 use Rattle.dagcbor_heads.specs.Head.{head}
 use Rattle.dagcbor_heads.specs.Splits.{SplitsHead, BeginsWithHead}
-use Rattle.ipld_tree.specs.Cid.{varint, cid_parts, IsCid, cid_bytes}
+use Rattle.ipld_tree.specs.Cid.{varint, cid_parts, IsCid}
 use Rattle.ipld_tree.proofs.Cids.{one_group, form_1}
 use Rattle.ipld_tree.specs.Tree.{Tree, null, boolean, integer, text, bytes, list, mapping, link, Items, no_items, item, Entries, no_entries, entry, Precedes, any_need, items_need, entries_need}
-use Rattle.ipld_tree.specs.Spelling.{spelling, items_spelling, entries_spelling, bytes_spelling, item_count, entry_count, IsFront, AreFronts, AreEntryFronts}
+use Rattle.ipld_tree.specs.Spelling.{items_spelling, entries_spelling, item_count, entry_count, IsFront, AreFronts, AreEntryFronts}
 use Rattle.ipld_tree.proofs.Unique.{major, argument, payload, argument_fits}
 use Rattle.ipld_tree.proofs.Fronts.{by_head, front_head, front_unique, is_bytes, is_text, is_list, is_mapping, is_link, is_simple, major_le, list_opened, list_closed, item_opened, item_closed, items_after, map_opened, entry_opened, entry_closed, entries_after}
 use Rattle.dagcbor_items.specs.Places.{Follows}

@@ -7,9 +7,9 @@ use Rattle.dagcbor_heads.specs.Refusals.{Refuses}
 use Rattle.dagcbor_heads.specs.declared.error.DecodeError.{DecodeError}
 use Rattle.dagcbor_heads.specs.declared.error.DecodeError.TheVariants.{Read, RequireBorrowed, OutOfMemory, Failed, TrailingData, DepthOverflow}
 use Rattle.ipld_tree.specs.Tree.{Tree}
-use Rattle.ipld_tree.specs.Spelling.{spelling, IsFront, IsSpelling}
+use Rattle.ipld_tree.specs.Spelling.{spelling, IsFront}
 use Rattle.ipld_tree.proofs.Fronts.{front_unique}
-use Rattle.dagcbor_read.specs.Calls.{Progress, Call, Ends, TellsEnd}
+use Rattle.dagcbor_read.specs.Calls.{Progress, Ends, TellsEnd}
 use Rattle.dagcbor_items.proofs.SliceReads.{whole_front}
 use Rattle.dagcbor_read.proofs.Progressing.{match_false}
 use Rattle.dagcbor_items.specs.Reads.{HasFront, TakesFront, Anything}

@@ -1,6 +1,6 @@
 -- DAG-CBOR as a codec.
 use Rattle.std.proofs.Common.{◌⊎◌, inl, inr, ℕ, List}
-use Rattle.std.specs.Prelude.{Option, None, Some, IfSome, ⊤}
+use Rattle.std.specs.Prelude.{Option, None, Some, IfSome}
 use Rattle.dagcbor_heads.specs.declared.error.DecodeError.{DecodeError}
 use Rattle.ipld_tree.specs.Codecs.{AreRead}
 use Rattle.ipld_tree.specs.Tree.{Tree}

@@ -5,7 +5,7 @@ use Rattle.std.specs.declared.convert.Infallible.{Infallible}
 use Rattle.dagcbor_heads.specs.declared.error.DecodeError.{DecodeError}
 use Rattle.dagcbor_heads.specs.declared.error.DecodeError.TheVariants.{Read, RequireBorrowed, OutOfMemory, Failed}
 use Rattle.dagcbor_heads.specs.declared.error.EncodeError.TheVariants as unwritten
-use Rattle.ipld_tree.specs.Tree.{Tree, any_need}
+use Rattle.ipld_tree.specs.Tree.{Tree}
 use Rattle.ipld_tree.specs.Ipld.{tree_of}
 use Rattle.dagcbor_write.specs.Answers.{AreSpellingOf, HasNoSpelling}
 use Rattle.dagcbor_read.specs.Whole.{IsWhole, HoldsNoValue, IsReadExcuse, OfWhole}

@@ -1,11 +1,8 @@
 -- What DAG-CBOR is as a codec: bytes are tied to trees by their spelling.
 use Rattle.std.proofs.Common.{sym, ◌∙◌, ap}
 use Rattle.std.specs.Prelude.{◌≡◌, ◌⊎◌, ℕ, ◌≤◌, List, [], Option, Some, IfSome, IfErr, Result, Vec}
-use Rattle.std.specs.Prelude.{⊤}
 use Rattle.std.specs.declared.alloc.Global.{Global}
-use Rattle.dagcbor_heads.specs.declared.error.DecodeError.{DecodeError}
 use Rattle.dagcbor_heads.specs.declared.error.DecodeError.TheVariants as unread
-use Rattle.dagcbor_heads.specs.declared.error.EncodeError.{EncodeError}
 use Rattle.dagcbor_heads.specs.declared.error.EncodeError.TheVariants as unwritten
 use Rattle.ipld_tree.specs.Codecs.{EncodingsAreUnique, DataHasOneEncoding, BytesHaveOneList}
 use Rattle.ipld_tree.specs.Tree.{Tree, links_of}

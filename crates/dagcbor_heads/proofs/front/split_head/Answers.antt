@@ -1,4 +1,4 @@
-use Rattle.std.proofs.Common.{rules, arith, sym, ◌∙◌}
+use Rattle.std.proofs.Common.{arith}
 use Rattle.dagcbor_heads.proofs.Splitting.{small_split, wide_split, no_head_nowhere, no_defined_head, no_whole_head, no_short_head}
 use Rattle.dagcbor_heads.proofs.front.split_head.Goals as goal
 

@@ -9,7 +9,7 @@ returns-in_err-value g c =
     let start = c.from_slice_reader-de.ensures in
     let source = c.with_depth.ensures in
     let told = value_refused g.T.Shown.shape c.args.steps (Some c.args.bytes.now) _ _ _ _ (ap (λ p. p.input.left) start ∙ ap (λ r. r.left) source) (ap (λ p. p.input.steps) start ∙ ap (λ r. r.steps) source)
-        (λ b n. let differ = sym (ap (λ p. p.input.lends) start ∙ ap (λ r. r.lends) source) ∙ n in cc) (c.in_err-value.ensures.value (ap (λ p. p.failed) start)) in
+    (λ b n. let differ = sym (ap (λ p. p.input.lends) start ∙ ap (λ r. r.lends) source) ∙ n in cc) (c.in_err-value.ensures.value (ap (λ p. p.failed) start)) in
     let handed = c.from_residual.ensures.1 in
     record { value = not_answered _ _ _ handed; refused = on_refusal _ _ _ handed told.0; never = on_refusal _ _ _ handed told.1 }
 
@@ -19,7 +19,7 @@ returns-in_err-end g c =
     let start = c.from_slice_reader-de.ensures in
     let source = c.with_depth.ensures in
     let told = value_end_refused g.T.Shown.shape c.args.steps (Some c.args.bytes.now) _ _ _ (g.T.Shown.meaning c.in_ok-value.value) _ (ap (λ p. p.input.left) start ∙ ap (λ r. r.left) source)
-        (c.in_ok-value.ensures.value (ap (λ p. p.failed) start)) c.in_err-end.ensures in
+    (c.in_ok-value.ensures.value (ap (λ p. p.failed) start)) c.in_err-end.ensures in
     let handed = c.from_residual-in_err-end.ensures.1 in
     record { value = not_answered _ _ _ handed; refused = on_refusal _ _ _ handed told.0; never = on_refusal _ _ _ handed told.1 }
 

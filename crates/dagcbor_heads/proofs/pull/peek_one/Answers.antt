@@ -1,0 +1,8 @@
+use Rattle.std.proofs.Common.{rules}
+use Rattle.dagcbor_heads.proofs.pull.peek_one.Goals as goal
+
+pub returns-in-Ok-None-clause-shown : goal.returns-in-Ok-None-clause-shown
+returns-in-Ok-None-clause-shown g c = search rules
+
+pub returns-in-Ok-None-clause-named : goal.returns-in-Ok-None-clause-named
+returns-in-Ok-None-clause-named g c = search rules

@@ -17,7 +17,7 @@ use Rattle.dagcbor_heads.specs.declared.error.DecodeError.TheVariants.{Eof, Cast
 use Rattle.dagcbor_heads.proofs.Heads.{head_first}
 use Rattle.dagcbor_heads.proofs.Taking.{stays, stays_both}
 use Rattle.dagcbor_heads.proofs.Refusing.{passed_on, byte_in_head, end_named}
-use Rattle.ipld_tree.specs.Tree.{Tree, null, boolean, integer, text, bytes, list, mapping, link}
+use Rattle.ipld_tree.specs.Tree.{Tree, integer}
 use Rattle.ipld_tree.specs.Spelling.{IsFront}
 use Rattle.ipld_tree.proofs.Unique.{major}
 use Rattle.ipld_tree.proofs.Fronts.{front_unique}
@@ -31,13 +31,7 @@ use Rattle.dagcbor_items.proofs.HeadMajors.{has_major, no_byte_begins}
 -- only a number shows one
 is_number : {V : Type 0} (accepted : ℤ → Option V) (t : Tree) → is_some (view_number accepted t) ≡ true → (n : ℤ) × (t ≡ integer n)
 is_number accepted (integer n) a = (n, refl)
-is_number accepted null a = absurd (cc a)
-is_number accepted (boolean b) a = absurd (cc a)
-is_number accepted (text b) a = absurd (cc a)
-is_number accepted (bytes b) a = absurd (cc a)
-is_number accepted (list b) a = absurd (cc a)
-is_number accepted (mapping b) a = absurd (cc a)
-is_number accepted (link b) a = absurd (cc a)
+is_number accepted _ a = absurd (cc a)
 
 number_major : (n : ℤ) → major (integer n) ≤ 1
 number_major (pos n) = omega arith
@@ -72,13 +66,7 @@ handed accepted n o fits e = ap accepted (sym (to_z-of_z w128 n fits)) ∙ sym e
 
 all_numbers : (t : Tree) (n : ℤ) → view_number Some t ≡ Some n → t ≡ integer n
 all_numbers (integer m) n e = cc
-all_numbers null n e = absurd (cc e)
-all_numbers (boolean b) n e = absurd (cc e)
-all_numbers (text b) n e = absurd (cc e)
-all_numbers (bytes b) n e = absurd (cc e)
-all_numbers (list b) n e = absurd (cc e)
-all_numbers (mapping b) n e = absurd (cc e)
-all_numbers (link b) n e = absurd (cc e)
+all_numbers _ n e = absurd (cc e)
 
 some_number : {V : Type 0} (accepted : ℤ → Option V) {r : Reading} → HasFront (leaf (view_number accepted)) r → HasFront (leaf (view_number Some)) r
 some_number accepted h =

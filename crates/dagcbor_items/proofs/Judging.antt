@@ -20,6 +20,7 @@ use Rattle.ipld_tree.proofs.Fronts.{by_head, front_head, front_unique, is_bytes,
 use Rattle.dagcbor_items.specs.Places.{Follows}
 use Rattle.dagcbor_items.specs.Entries.{AllFollow}
 use Rattle.dagcbor_items.specs.Judging.{SplitsPayload, SplitsText, SplitsKey, SplitsCid, SplitsLeaf, SplitsItem, SplitsItems, SplitsEntries}
+use Rattle.dagcbor_items.proofs.Steps.{need_positive}
 
 -- ---- heads
 
@@ -131,29 +132,14 @@ no_bytes n b c rest t h few f =
     let l = is_bytes t (opened 2 n b c rest t h f).0 in
     too_few n c l.0 rest few (bytes_opened 2 n b c l.0 rest h (subst (λ u. IsFront b u rest) l.1 f)).1
 
-need_positive : (t : Tree) → 1 ≤ any_need t
-need_positive null = omega arith
-need_positive (boolean b) = omega arith
-need_positive (integer n) = omega arith
-need_positive (text s) = omega arith
-need_positive (bytes s) = omega arith
-need_positive (list ts) = omega arith
-need_positive (mapping es) = omega arith
-need_positive (link cid) = omega arith
-
 pub no_step : (b : List ℕ) (steps : ℕ) → steps < 1 → ¬ ((rest : List ℕ) × SplitsItem b steps rest)
 no_step b steps none k = omega (arith, none, k.1.2, need_positive k.1.0)
 
 -- what is neither a list nor a map takes one step
 leaf_need : (t : Tree) → ¬ (major t ≡ 4) → ¬ (major t ≡ 5) → any_need t ≡ 1
-leaf_need null a b = refl
-leaf_need (boolean c) a b = refl
-leaf_need (integer n) a b = refl
-leaf_need (text s) a b = refl
-leaf_need (bytes s) a b = refl
 leaf_need (list ts) a b = absurd (a refl)
 leaf_need (mapping es) a b = absurd (b refl)
-leaf_need (link cid) a b = refl
+leaf_need _ a b = refl
 
 -- ---- what is left behind
 

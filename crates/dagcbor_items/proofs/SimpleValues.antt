@@ -9,7 +9,7 @@ use Rattle.dagcbor_heads.specs.declared.error.DecodeError.{DecodeError}
 use Rattle.dagcbor_heads.specs.declared.error.DecodeError.TheVariants.{Eof}
 use Rattle.dagcbor_heads.proofs.Taking.{stays}
 use Rattle.dagcbor_heads.proofs.Refusing.{passed_on}
-use Rattle.ipld_tree.specs.Tree.{Tree, null, boolean, integer, text, bytes, list, mapping, link, IsTree}
+use Rattle.ipld_tree.specs.Tree.{Tree, null, boolean, IsTree}
 use Rattle.ipld_tree.specs.Spelling.{IsSpellable, spelling, boolean_spelling}
 use Rattle.ipld_tree.proofs.Unique.{major}
 use Rattle.ipld_tree.proofs.Fronts.{front_first}
@@ -34,13 +34,7 @@ spelling_taken view {old} {new} t v tree spellable shown h = record {
 
 is_null : (t : Tree) → is_some (view_null t) ≡ true → t ≡ null
 is_null null a = refl
-is_null (boolean b) a = absurd (cc a)
-is_null (integer b) a = absurd (cc a)
-is_null (text b) a = absurd (cc a)
-is_null (bytes b) a = absurd (cc a)
-is_null (list b) a = absurd (cc a)
-is_null (mapping b) a = absurd (cc a)
-is_null (link b) a = absurd (cc a)
+is_null _ a = absurd (cc a)
 
 null_byte : {r : Reading} → HasFront (leaf view_null) r → HasWanted 0xf6 r
 null_byte h = record { rest = h.rest; left = h.left ∙ ap Some (h.front.is ∙ ap (λ t. spelling t ++ h.rest) (is_null h.tree h.accepted)) }

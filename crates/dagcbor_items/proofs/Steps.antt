@@ -8,20 +8,15 @@ use Rattle.dagcbor_heads.specs.declared.error.DecodeError.{DecodeError}
 use Rattle.dagcbor_heads.specs.declared.error.DecodeError.TheVariants.{Read, RequireBorrowed, OutOfMemory, Failed, DepthOverflow}
 use Rattle.dagcbor_heads.proofs.Taking.{stays}
 use Rattle.dagcbor_heads.proofs.Refusing.{no_step_refused}
-use Rattle.ipld_tree.specs.Tree.{Tree, null, boolean, integer, text, bytes, list, mapping, link, any_need}
+use Rattle.ipld_tree.specs.Tree.{Tree, list, mapping, any_need}
 use Rattle.dagcbor_items.specs.ItemCauses.{IsTooDeep, CauseInside}
 use Rattle.dagcbor_items.specs.Untyped.{HasItem, TakesItem, StartsWithMajor}
 use Rattle.dagcbor_items.proofs.Places.{stands_here, at_steps}
 
-need_positive : (t : Tree) → 1 ≤ any_need t
-need_positive null = omega arith
-need_positive (boolean b) = omega arith
-need_positive (integer n) = omega arith
-need_positive (text s) = omega arith
-need_positive (bytes s) = omega arith
+pub need_positive : (t : Tree) → 1 ≤ any_need t
 need_positive (list ts) = omega arith
 need_positive (mapping es) = omega arith
-need_positive (link cid) = omega arith
+need_positive _ = omega arith
 
 -- no step is left for what stands there
 pub too_deep : {E : Type 0} (lacks : Type 0) (spent : ℕ) {text : List ℕ} {old new : Reading} (e : DecodeError E) → NoStep text old e new → ((i : HasItem spent old) → spent + 1 ≤ any_need i.tree)

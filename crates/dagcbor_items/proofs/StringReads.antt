@@ -16,7 +16,7 @@ use Rattle.dagcbor_heads.specs.declared.error.DecodeError.TheVariants.{Eof, Requ
 use Rattle.dagcbor_heads.proofs.Heads.{head_unique}
 use Rattle.dagcbor_heads.proofs.Taking.{stays, stays_both, takes_both}
 use Rattle.dagcbor_heads.proofs.Refusing.{passed_on}
-use Rattle.ipld_tree.specs.Tree.{Tree, null, boolean, integer, text, bytes, list, mapping, link}
+use Rattle.ipld_tree.specs.Tree.{Tree, text, bytes}
 use Rattle.ipld_tree.specs.Spelling.{IsFront}
 use Rattle.ipld_tree.proofs.Unique.{split_at_length}
 use Rattle.dagcbor_items.specs.Reads.{HasFront, TakesFront, Reads}
@@ -108,13 +108,7 @@ some_of None e = absurd (cc e)
 
 pub shown_bytes : (t : Tree) (s : List ℕ) → view_bytes t ≡ Some s → t ≡ bytes s
 shown_bytes (bytes v) s e = cc
-shown_bytes null s e = absurd (cc e)
-shown_bytes (boolean b) s e = absurd (cc e)
-shown_bytes (integer b) s e = absurd (cc e)
-shown_bytes (text b) s e = absurd (cc e)
-shown_bytes (list b) s e = absurd (cc e)
-shown_bytes (mapping b) s e = absurd (cc e)
-shown_bytes (link b) s e = absurd (cc e)
+shown_bytes _ s e = absurd (cc e)
 
 -- a string stands where its head and its payload do
 bytes_stand : {r : Reading} → HasFront (leaf view_bytes) r → HasString 2 r
@@ -135,13 +129,7 @@ bytes_read old new (Err e) h = bytes_refused (old.lends ≡ false) old new e h
 
 pub shown_text : (t : Tree) (s : List ℕ) → view_text t ≡ Some s → t ≡ text s
 shown_text (text v) s e = cc
-shown_text null s e = absurd (cc e)
-shown_text (boolean b) s e = absurd (cc e)
-shown_text (integer b) s e = absurd (cc e)
-shown_text (bytes b) s e = absurd (cc e)
-shown_text (list b) s e = absurd (cc e)
-shown_text (mapping b) s e = absurd (cc e)
-shown_text (link b) s e = absurd (cc e)
+shown_text _ s e = absurd (cc e)
 
 text_front : {r : Reading} (h : HasFront (leaf view_text) r) → (s : List ℕ) × IsFront h.bytes (text s) h.rest
 text_front h = let s = some_of (view_text h.tree) h.accepted in (s.0, subst (λ t. IsFront h.bytes t h.rest) (shown_text h.tree s.0 s.1) h.front)

@@ -7,7 +7,7 @@ use Rattle.dagcbor_heads.specs.Refusals.{Refuses}
 use Rattle.dagcbor_heads.specs.declared.error.DecodeError.{DecodeError}
 use Rattle.dagcbor_heads.proofs.Taking.{stays, stays_both}
 use Rattle.dagcbor_heads.proofs.Refusing.{passed_on}
-use Rattle.ipld_tree.specs.Tree.{Tree, null, boolean, integer, text, bytes, list, mapping, link, items_of, Entries, no_entries, entry, links_of, items_links, entries_links}
+use Rattle.ipld_tree.specs.Tree.{Tree, null, boolean, integer, list, mapping, link, items_of, Entries, no_entries, entry, links_of, items_links, entries_links}
 use Rattle.ipld_tree.proofs.Unique.{major}
 use Rattle.dagcbor_items.specs.ItemCauses.{CauseInside}
 use Rattle.dagcbor_items.specs.Untyped.{HasItem, TakesItem, SkipsItem}
@@ -71,14 +71,10 @@ module _ {S : Type 0} (holds : S → List (List ℕ) → Type 0) where
     where
       -- only lists, maps and links have links in them
       no_links : (t : Tree) → major t ≢ 4 → major t ≢ 5 → major t ≢ 6 → links_of t ≡ []
-      no_links null a b c = refl
-      no_links (boolean x) a b c = refl
-      no_links (integer n) a b c = refl
-      no_links (text s) a b c = refl
-      no_links (bytes s) a b c = refl
       no_links (list ts) a b c = absurd (a refl)
       no_links (mapping es) a b c = absurd (b refl)
       no_links (link cid) a b c = absurd (c refl)
+      no_links _ a b c = refl
 
       -- where the bytes are not known, null may be named for what was taken
       by : (o : Option (List ℕ)) → old.left ≡ o → (t : Tree) × TakesItem 1 old t new × Finds holds s (links_of t) s

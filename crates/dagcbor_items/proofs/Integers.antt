@@ -19,7 +19,7 @@ use Rattle.dagcbor_heads.proofs.Taking.{stays, stays_both}
 use Rattle.dagcbor_heads.proofs.Refusing.{passed_on, byte_in_head, end_named}
 use Rattle.ipld_tree.specs.Tree.{Tree, integer}
 use Rattle.ipld_tree.specs.Spelling.{IsFront}
-use Rattle.ipld_tree.proofs.Unique.{major}
+use Rattle.ipld_tree.proofs.Unique.{major, integer_major}
 use Rattle.ipld_tree.proofs.Fronts.{front_unique}
 use Rattle.dagcbor_items.specs.Reads.{HasFront, TakesFront, Reads}
 use Rattle.dagcbor_items.specs.Shapes.{within, number_of, view_number, leaf}
@@ -33,14 +33,10 @@ is_number : {V : Type 0} (accepted : ℤ → Option V) (t : Tree) → is_some (v
 is_number accepted (integer n) a = (n, refl)
 is_number accepted _ a = absurd (cc a)
 
-number_major : (n : ℤ) → major (integer n) ≤ 1
-number_major (pos n) = omega arith
-number_major (negsuc n) = omega arith
-
 number_kind : {V : Type 0} (accepted : ℤ → Option V) {r : Reading} → HasFront (leaf (view_number accepted)) r → HasMajor 0 1 r
 number_kind accepted h =
     let n = is_number accepted h.tree h.accepted in
-    has_major 0 1 h zero-le (subst (λ t. major t ≤ 1) (sym n.1) (number_major n.0))
+    has_major 0 1 h zero-le (subst (λ t. major t ≤ 1) (sym n.1) (integer_major n.0))
 
 pub number_refused : {E : Type 0} (name : List ℕ) (old new : Reading) (e : DecodeError E) → Refuses (HasMajor 0 1 old) ⊥ ⊥ (MajorCause name 0 1) old e new
     → Refuses (HasFront (leaf (view_number Some)) old) ⊥ ⊥ (MajorCause name 0 1) old e new

@@ -1,10 +1,10 @@
 -- The kind of an item, by its first byte.
-use Rattle.std.proofs.Common.{◌≡◌, ◌≢◌, ◌++◌, inl, inr, ℕ, pos, negsuc, ◌/◌, ◌≤◌, List, [], ◌∷◌, true, false, refl, sym, ap, ◌∙◌, subst, arith}
+use Rattle.std.proofs.Common.{◌≡◌, ◌≢◌, ◌++◌, inl, inr, ℕ, ◌/◌, ◌≤◌, List, [], ◌∷◌, true, false, refl, sym, ap, ◌∙◌, subst, arith}
 use Rattle.std.specs.Prelude.{Option, IfSome}
 use Rattle.std.specs.List.{slice_get}
 use Rattle.ipld_tree.specs.Tree.{Tree, null, boolean, integer}
 use Rattle.ipld_tree.specs.Spelling.{spelling, IsFront}
-use Rattle.ipld_tree.proofs.Unique.{major}
+use Rattle.ipld_tree.proofs.Unique.{major, integer_major}
 use Rattle.ipld_tree.proofs.Fronts.{is_simple}
 use Rattle.dagcbor_items.specs.TreeKinds.{kind_of, IsKindAt, IsKindOfFront}
 use Rattle.dagcbor_items.specs.declared.kind.Kind.{Kind}
@@ -26,8 +26,7 @@ integer_kind t h = absurd (omega arith)
 greatest_major : (t : Tree) → 7 ≤ major t → major t ≡ 7
 greatest_major null h = refl
 greatest_major (boolean b) h = refl
-greatest_major (integer (pos n)) h = absurd (omega arith)
-greatest_major (integer (negsuc n)) h = absurd (omega arith)
+greatest_major (integer n) h = absurd (omega (arith, h, integer_major n))
 greatest_major t h = absurd (omega arith)
 
 -- the byte of a simple value

@@ -43,7 +43,7 @@ pub number_refused : {E : Type 0} (name : List ℕ) (old new : Reading) (e : Dec
 number_refused name old new e r = passed_on (MajorCause name 0 1) (MajorCause name 0 1) old old new e (stays old) (number_kind Some) (λ x. x) (λ x. x) (λ b l. (b, l, λ h. h)) r
 
 -- the number of a head
-number_front : (kind n : ℕ) (b rest : List ℕ) → kind ≤ 1 → n < 2 ^ 64 → b ≡ head kind n ++ rest → IsFront b (integer (number_of kind n)) rest
+pub number_front : (kind n : ℕ) (b rest : List ℕ) → kind ≤ 1 → n < 2 ^ 64 → b ≡ head kind n ++ rest → IsFront b (integer (number_of kind n)) rest
 number_front zero n b rest few fits e = record { well_formed = tt; spellable = fits; is = e }
 number_front (suc zero) n b rest few fits e = record { well_formed = tt; spellable = fits; is = e }
 number_front (suc (suc k)) n b rest few fits e = absurd (omega (arith, few))

@@ -1,8 +1,8 @@
 -- Going through items, their links handed to a sink.
-use Rattle.std.proofs.Common.{◌≡◌, ◌≢◌, inl, inr, ℕ, zero, suc, ◌+◌, ◌-◌, ◌/◌, ◌<◌, ◌≤◌, pos, negsuc, List, [], ◌∷◌, ◌++◌, Bool, true, false, refl, sym, ap, ◌∙◌, subst, arith, append_assoc, append-nil}
+use Rattle.std.proofs.Common.{◌≡◌, ◌≢◌, inl, inr, ℕ, zero, suc, ◌+◌, ◌-◌, ◌/◌, ◌<◌, ◌≤◌, List, [], ◌∷◌, ◌++◌, Bool, true, false, refl, sym, ap, ◌∙◌, subst, arith, append_assoc, append-nil}
 use Rattle.std.specs.Prelude.{Option, None, Some, Result, Ok, Err}
 use Rattle.dagcbor_heads.specs.Reading.{Reading, SpentStep, Stays}
-use Rattle.dagcbor_heads.specs.Fronts.{StartsWith, ShowsByte, Takes}
+use Rattle.dagcbor_heads.specs.Fronts.{StartsWith, ShowsByte, Takes, TakesHead}
 use Rattle.dagcbor_heads.specs.Refusals.{Refuses}
 use Rattle.dagcbor_heads.specs.declared.error.DecodeError.{DecodeError}
 use Rattle.dagcbor_heads.proofs.Taking.{stays, stays_both}
@@ -12,7 +12,9 @@ use Rattle.ipld_tree.proofs.Unique.{major}
 use Rattle.dagcbor_items.specs.ItemCauses.{CauseInside}
 use Rattle.dagcbor_items.specs.Untyped.{HasItem, TakesItem, SkipsItem}
 use Rattle.dagcbor_items.specs.Walks.{Finds, WalkLacks, WalksItem}
-use Rattle.dagcbor_items.proofs.Fronts.{TakesHeadOf, major_of_front, major_at}
+use Rattle.dagcbor_items.proofs.Fronts.{head_of, major_of_front, major_at}
+use Rattle.dagcbor_items.specs.Shapes.{number_of}
+use Rattle.dagcbor_items.proofs.Integers.{number_front}
 use Rattle.dagcbor_items.proofs.Places.{at_steps}
 use Rattle.dagcbor_items.proofs.Pushes.{entry_push}
 use Rattle.dagcbor_items.proofs.Steps.{stepped_refused}
@@ -98,11 +100,10 @@ module _ {S : Type 0} (holds : S → List (List ℕ) → Type 0) where
 
 -- ---- numbers and simple values
 
-pub natural_taken : {old mid : Reading} {n : ℕ} → TakesHeadOf old 0 n mid → TakesItem 1 old (integer (pos n)) mid
-natural_taken h = record { taken = λ b l. (let k = h.taken b l in (k.0, record { well_formed = tt; spellable = h.fits; is = k.1 }, omega arith, k.2)); same = h.same }
-
-pub negative_taken : {old mid : Reading} {n : ℕ} → TakesHeadOf old 1 n mid → TakesItem 1 old (integer (negsuc n)) mid
-negative_taken h = record { taken = λ b l. (let k = h.taken b l in (k.0, record { well_formed = tt; spellable = h.fits; is = k.1 }, omega arith, k.2)); same = h.same }
+pub integer_taken : {old mid : Reading} {first m n also : ℕ} → StartsWith old first → first / 32 ≤ 1 → TakesHead old m n also mid → (t : Tree) × TakesItem 1 old t mid
+integer_taken {old} {mid} {first} {m} {n} starts few h =
+    let k = head_of (first / 32) (major_at old first (first / 32) starts refl) h in
+    (integer (number_of (first / 32) n), record { taken = λ b l. (let q = k.taken b l in (q.0, number_front (first / 32) n b q.0 few k.fits q.1, omega arith, q.2)); same = k.same })
 
 simple_at : (k : ℕ) → k < 3 → {old new : Reading} → Takes old ((0xf4 + k) ∷ []) new → (t : Tree) × TakesItem 1 old t new
 simple_at zero few h = (boolean false, record { taken = λ b l. (let k = h.taken b l in (k.0, record { well_formed = tt; spellable = tt; is = k.1 }, omega arith, k.2)); same = h.same })

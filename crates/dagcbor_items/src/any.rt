@@ -10,7 +10,7 @@ ghost use Rattle.dagcbor_items.specs.Entries.{ReadsEntries};
 ghost use Rattle.dagcbor_items.specs.Variants.{OfItem};
 
 use crate::key::read_key;
-use crate::leaf::{read_bytes, read_natural, read_negative, read_simple, read_text};
+use crate::leaf::{read_bytes, read_integer, read_simple, read_text};
 use crate::link::read_link;
 use dagcbor_heads::{
     DecodeError, Input, Read, ReadResult, is_indefinite, peek_one, pull_head, spend_step,
@@ -55,8 +55,8 @@ fn read_of_major<R: Read>(alloc: Global, input: &mut Input<'_, R>, first: u8) ->
     ensures variant { IfErr result OfItem }
 {
     match first / 32 {
-        0 => read_natural(input),
-        1 => read_negative(input),
+        0 => read_integer("u64", input, first),
+        1 => read_integer("any", input, first),
         2 => read_bytes(alloc, input),
         3 => read_text(alloc, input),
         4 => read_list(alloc, input),

@@ -1,37 +1,29 @@
 //! Reading leaves other than links.
 
-ghost use Rattle.std.specs.Prelude.{◌≡◌, ◌/◌, true, false, IfErr};
+ghost use Rattle.std.specs.Prelude.{◌≡◌, ◌≤◌, ◌/◌, true, false, IfErr};
 ghost use Rattle.dagcbor_heads.specs.Inputs.{input_reading, OverInput};
 ghost use Rattle.dagcbor_heads.specs.Fronts.{StartsWith};
 ghost use Rattle.dagcbor_heads.specs.Looking.{LooksBehind};
 ghost use Rattle.dagcbor_items.specs.Untyped.{ReadsItem, ReadsLeaf, StartsWithMajor, IsSimple};
 ghost use Rattle.dagcbor_items.specs.Variants.{OfItem};
 
+use crate::numbers::number_of;
 use crate::strings::{pull_peeked_owned_bytes, pull_peeked_owned_text};
 use dagcbor_heads::{DecodeError, Input, Read, ReadResult, pull_head, pull_one};
 use ipld_tree::Ipld;
 use std::alloc::Global;
 
+/// Reads an integer, whose first byte was seen.
 #[tactic(auto, using(crate::proofs::Variants::named_item))]
-pub(crate) fn read_natural<R: Read>(reader: &mut R) -> ReadResult<Ipld, R>
-    requires { StartsWithMajor (R.reading reader.old) 0 }
+pub(crate) fn read_integer<R: Read>(name: &str, reader: &mut R, first: u8) -> ReadResult<Ipld, R>
+    requires starts { StartsWith (R.reading reader.old) first }
+    requires major { first / 32 ≤ 1 }
     ensures leaf { ReadsLeaf (R.reading reader.old) result (R.reading reader.new) }
     ensures looked { LooksBehind 3 1 (R.reading reader.old) result (R.reading reader.new) }
     ensures variant { IfErr result OfItem }
 {
-    let (_, argument, _) = pull_head("u64", reader)?;
-    Ok(Ipld::Integer(i128::from(argument)))
-}
-
-#[tactic(auto, using(crate::proofs::Variants::named_item))]
-pub(crate) fn read_negative<R: Read>(reader: &mut R) -> ReadResult<Ipld, R>
-    requires { StartsWithMajor (R.reading reader.old) 1 }
-    ensures leaf { ReadsLeaf (R.reading reader.old) result (R.reading reader.new) }
-    ensures looked { LooksBehind 3 1 (R.reading reader.old) result (R.reading reader.new) }
-    ensures variant { IfErr result OfItem }
-{
-    let (_, argument, _) = pull_head("any", reader)?;
-    Ok(Ipld::Integer(-1 - i128::from(argument)))
+    let (_, argument, _) = pull_head(name, reader)?;
+    Ok(Ipld::Integer(number_of(first / 32, argument)))
 }
 
 #[tactic(auto, using(crate::proofs::Variants::kind_item))]

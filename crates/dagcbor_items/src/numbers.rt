@@ -11,7 +11,7 @@ use crate::majors::pull_major;
 use dagcbor_heads::{DecodeError, Read, ReadResult, peek_one};
 
 /// The number of a head of major type 0 or 1.
-fn number_of(major: u8, argument: u64) -> i128
+pub(crate) fn number_of(major: u8, argument: u64) -> i128
     ensures { result ≡ number_of major argument }
 {
     if major == 0 {

@@ -1,7 +1,7 @@
 //! Going through items of any kind: read as `any` reads them, with nothing built. How their strings
 //! are read, and what is done with their links, is the caller's.
 
-ghost use Rattle.std.specs.Prelude.{◌≡◌, ◌≢◌, ◌/◌, IfErr};
+ghost use Rattle.std.specs.Prelude.{◌≡◌, ◌≢◌, ◌≤◌, ◌/◌, IfErr};
 ghost use Rattle.dagcbor_heads.specs.Fronts.{StartsWith};
 ghost use Rattle.dagcbor_heads.specs.Looking.{Looks, LooksBehind};
 ghost use Rattle.dagcbor_items.specs.Untyped.{SkipsItem, StartsWithMajor};
@@ -122,8 +122,8 @@ fn skip_leaf<I: PayloadReader>(alloc: I::Alloc, input: &mut I, first: u8) -> Rea
     ensures variant { IfErr result OfItem }
 {
     match first / 32 {
-        0 => skip_natural(input),
-        1 => skip_negative(input),
+        0 => skip_integer("u64", input, first),
+        1 => skip_integer("any", input, first),
         2 => input.skip_bytes(alloc),
         3 => input.skip_text(alloc),
         _ => skip_simple(input, first),
@@ -131,24 +131,14 @@ fn skip_leaf<I: PayloadReader>(alloc: I::Alloc, input: &mut I, first: u8) -> Rea
 }
 
 #[tactic(auto, using(crate::proofs::Variants::named_item))]
-fn skip_natural<R: Read>(reader: &mut R) -> ReadResult<(), R>
-    requires { StartsWithMajor (R.reading reader.old) 0 }
+fn skip_integer<R: Read>(name: &str, reader: &mut R, first: u8) -> ReadResult<(), R>
+    requires starts { StartsWith (R.reading reader.old) first }
+    requires major { first / 32 ≤ 1 }
     ensures item { SkipsItem 1 (R.reading reader.old) result (R.reading reader.new) }
     ensures looked { LooksBehind 3 1 (R.reading reader.old) result (R.reading reader.new) }
     ensures variant { IfErr result OfItem }
 {
-    pull_head("u64", reader)?;
-    Ok(())
-}
-
-#[tactic(auto, using(crate::proofs::Variants::named_item))]
-fn skip_negative<R: Read>(reader: &mut R) -> ReadResult<(), R>
-    requires { StartsWithMajor (R.reading reader.old) 1 }
-    ensures item { SkipsItem 1 (R.reading reader.old) result (R.reading reader.new) }
-    ensures looked { LooksBehind 3 1 (R.reading reader.old) result (R.reading reader.new) }
-    ensures variant { IfErr result OfItem }
-{
-    pull_head("any", reader)?;
+    pull_head(name, reader)?;
     Ok(())
 }
 

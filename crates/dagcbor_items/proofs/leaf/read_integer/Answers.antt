@@ -1,7 +1,7 @@
 use Rattle.dagcbor_heads.proofs.Refusing.{refused}
 use Rattle.dagcbor_items.proofs.Fronts.{head_refused}
 use Rattle.dagcbor_items.proofs.Looks.{head_taken}
-use Rattle.dagcbor_items.proofs.leaf.read_natural.Goals as goal
+use Rattle.dagcbor_items.proofs.leaf.read_integer.Goals as goal
 
 pub returns-in_err-argument-clause-leaf : goal.returns-in_err-argument-clause-leaf
 returns-in_err-argument-clause-leaf g c = refused _ _ _ _ c.from_residual.ensures.1 (head_refused ⊥ 0 _ _ _ c.in_err-argument.ensures.taken)

@@ -6,7 +6,7 @@ use Rattle.dagcbor_heads.specs.Reading.{Reading, Stays, with_steps}
 use Rattle.dagcbor_heads.specs.Refusals.{Refuses}
 use Rattle.dagcbor_heads.specs.declared.error.DecodeError.{DecodeError}
 use Rattle.dagcbor_heads.proofs.Taking.{stays, stays_both}
-use Rattle.ipld_tree.specs.Tree.{Tree, null, boolean, integer, text, bytes, list, mapping, link, Entries, no_entries, entry, Precedes}
+use Rattle.ipld_tree.specs.Tree.{Tree, text, mapping, Entries, no_entries, entry, Precedes}
 use Rattle.ipld_tree.specs.Spelling.{entry_count, entries_spelling, IsFront, AreEntryFronts}
 use Rattle.ipld_tree.proofs.Fronts.{map_opened, entry_opened, entry_closed, entries_after, front_unique}
 use Rattle.dagcbor_items.specs.Untyped.{TakesItem}
@@ -23,7 +23,7 @@ use Rattle.dagcbor_read.specs.Collections.{view_entries, view_fields, need_entri
 use Rattle.dagcbor_items.specs.Entries.{AllFollow}
 use Rattle.dagcbor_items.proofs.Maps.{map_closed}
 use Rattle.dagcbor_read.proofs.Answered.{answered, KeyRead}
-use Rattle.dagcbor_read.proofs.ItemRows.{same_reader, some_first}
+use Rattle.dagcbor_read.proofs.ItemRows.{same_reader, left_again, some_first}
 use Rattle.dagcbor_read.proofs.Passing.{carried}
 
 first_follows : (last : Option (List ℕ)) (k : List ℕ) (t : Tree) (es : Entries) → AllFollow last (entry k t es) → Follows last k
@@ -200,13 +200,7 @@ module _ {S : Type 0} (shape : FieldShape S) where
       where
         by : (t : Tree) → IsFront h.bytes t h.rest → is_some (view_fields shape.take start t) ≡ true → need_fields shape.need t ≤ r.steps → MapFront r
         by (mapping es) f a w = record { bytes = h.bytes; entries = es; rest = h.rest; left = h.left; front = f; accepted = a; within = w }
-        by null f a w = absurd (cc a)
-        by (boolean b) f a w = absurd (cc a)
-        by (integer n) f a w = absurd (cc a)
-        by (text s) f a w = absurd (cc a)
-        by (bytes s) f a w = absurd (cc a)
-        by (list ts) f a w = absurd (cc a)
-        by (link s) f a w = absurd (cc a)
+        by _ f a w = absurd (cc a)
 
     pub map_has_fields : {old mid : Reading} {count : ℕ} → Enters 5 count old mid → HasFront (fields_of shape start) old → HasFields shape start None count mid
     map_has_fields {old} {mid} {count} n h =
@@ -227,13 +221,7 @@ module _ {S : Type 0} (shape : FieldShape S) where
             omega (arith, q.6, n.takes.same.steps, n.step),
             ap (λ (r : Reading). r.left) back ∙ q.7,
           );
-      same = record {
-        steps = omega (arith, ap (λ (r : Reading). r.steps) back, r.same.steps, n.takes.same.steps, n.step);
-        budget = ap (λ (r : Reading). r.budget) back ∙ r.same.budget ∙ n.takes.same.budget;
-        lends = ap (λ (r : Reading). r.lends) back ∙ r.same.lends ∙ n.takes.same.lends;
-        faults = ap (λ (r : Reading). r.faults) back ∙ r.same.faults ∙ n.takes.same.faults;
-        through = ap (λ (r : Reading). r.through) back ∙ r.same.through ∙ n.takes.same.through;
-      };
+      same = left_again n r.same back;
     }
 
     -- all that is left is read of a map that was begun

@@ -6,7 +6,7 @@ use Rattle.dagcbor_heads.specs.Reading.{Reading, Stays, with_steps}
 use Rattle.dagcbor_heads.specs.Refusals.{Refuses}
 use Rattle.dagcbor_heads.specs.declared.error.DecodeError.{DecodeError}
 use Rattle.dagcbor_heads.proofs.Taking.{stays, stays_both}
-use Rattle.ipld_tree.specs.Tree.{Tree, null, boolean, integer, text, bytes, list, mapping, link, Items, no_items, item}
+use Rattle.ipld_tree.specs.Tree.{Tree, list, Items, no_items, item}
 use Rattle.ipld_tree.specs.Spelling.{item_count, items_spelling, IsFront, AreFronts}
 use Rattle.ipld_tree.proofs.Fronts.{list_opened, list_closed, item_opened, item_closed, items_after}
 use Rattle.dagcbor_read.specs.Calls.{Progress, Call}
@@ -21,6 +21,16 @@ use Rattle.dagcbor_items.specs.Shapes.{Shape}
 
 pub same_reader : {old new : Reading} → Stays old new → SameReader old new
 same_reader h = record { faults = h.faults; lends = h.lends }
+
+-- what was entered with a step is left with that step again
+pub left_again : {major count : ℕ} {old mid now new : Reading} → Enters major count old mid → Stays mid now → new ≡ with_steps (now.steps + 1) now → Stays old new
+left_again {major} {count} {old} {mid} {now} {new} n r back = record {
+  steps = omega (arith, ap (λ (r : Reading). r.steps) back, r.steps, n.takes.same.steps, n.step);
+  budget = ap (λ (r : Reading). r.budget) back ∙ r.budget ∙ n.takes.same.budget;
+  lends = ap (λ (r : Reading). r.lends) back ∙ r.lends ∙ n.takes.same.lends;
+  faults = ap (λ (r : Reading). r.faults) back ∙ r.faults ∙ n.takes.same.faults;
+  through = ap (λ (r : Reading). r.through) back ∙ r.through ∙ n.takes.same.through;
+}
 
 -- ---- options
 
@@ -217,13 +227,7 @@ module _ {V : Type 0} (shape : Shape Items V) where
     where
       by : (t : Tree) → IsFront h.bytes t h.rest → is_some (view_list shape.view t) ≡ true → need_list shape.need t ≤ r.steps → ListFront r
       by (list ts) f a w = record { bytes = h.bytes; items = ts; rest = h.rest; left = h.left; front = f; accepted = a; within = w }
-      by null f a w = absurd (cc a)
-      by (boolean b) f a w = absurd (cc a)
-      by (integer n) f a w = absurd (cc a)
-      by (text s) f a w = absurd (cc a)
-      by (bytes s) f a w = absurd (cc a)
-      by (mapping es) f a w = absurd (cc a)
-      by (link s) f a w = absurd (cc a)
+      by _ f a w = absurd (cc a)
 
   pub list_has_row : {old mid : Reading} {count : ℕ} → Enters 4 count old mid → HasFront (list_of shape) old → HasRow shape count mid
   list_has_row {old} {mid} {count} n h =
@@ -244,13 +248,7 @@ module _ {V : Type 0} (shape : Shape Items V) where
           omega (arith, q.5, n.takes.same.steps, n.step),
           ap (λ (r : Reading). r.left) back ∙ q.6,
         );
-    same = record {
-      steps = omega (arith, ap (λ (r : Reading). r.steps) back, r.same.steps, n.takes.same.steps, n.step);
-      budget = ap (λ (r : Reading). r.budget) back ∙ r.same.budget ∙ n.takes.same.budget;
-      lends = ap (λ (r : Reading). r.lends) back ∙ r.same.lends ∙ n.takes.same.lends;
-      faults = ap (λ (r : Reading). r.faults) back ∙ r.same.faults ∙ n.takes.same.faults;
-      through = ap (λ (r : Reading). r.through) back ∙ r.same.through ∙ n.takes.same.through;
-    };
+    same = left_again n r.same back;
   }
 
   -- all that is left is read of a list that was begun

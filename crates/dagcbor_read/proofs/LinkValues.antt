@@ -7,7 +7,7 @@ use Rattle.dagcbor_heads.specs.declared.error.DecodeError.{DecodeError}
 use Rattle.dagcbor_heads.proofs.Taking.{stays}
 use Rattle.dagcbor_heads.proofs.Refusing.{passed_on}
 use Rattle.ipld_tree.specs.Cid.{CidParts, cid_bytes}
-use Rattle.ipld_tree.specs.Tree.{Tree, null, boolean, integer, text, bytes, list, mapping, link}
+use Rattle.ipld_tree.specs.Tree.{Tree, link}
 use Rattle.ipld_tree.specs.Spelling.{IsFront}
 use Rattle.dagcbor_items.specs.LinkCauses.{LinkCause}
 use Rattle.dagcbor_items.specs.Untyped.{TakesItem}
@@ -20,13 +20,7 @@ use Rattle.dagcbor_read.proofs.Progressing.{call_told}
 
 is_link : (t : Tree) → is_some (view_link t) ≡ true → (cid : List ℕ) × (t ≡ link cid)
 is_link (link cid) a = (cid, refl)
-is_link null a = absurd (cc a)
-is_link (boolean b) a = absurd (cc a)
-is_link (integer b) a = absurd (cc a)
-is_link (text b) a = absurd (cc a)
-is_link (bytes b) a = absurd (cc a)
-is_link (list b) a = absurd (cc a)
-is_link (mapping b) a = absurd (cc a)
+is_link _ a = absurd (cc a)
 
 link_stands : {r : Reading} → HasFront (leaf view_link) r → HasLink r
 link_stands h =

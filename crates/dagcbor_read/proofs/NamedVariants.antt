@@ -11,7 +11,7 @@ use Rattle.dagcbor_heads.specs.declared.error.DecodeError.{DecodeError}
 use Rattle.dagcbor_heads.specs.declared.error.DecodeError.TheVariants.{Msg, Mismatch}
 use Rattle.dagcbor_heads.specs.declared.name.Name.{Name}
 use Rattle.dagcbor_heads.proofs.Heads.{head_whole}
-use Rattle.ipld_tree.specs.Tree.{Tree, null, boolean, integer, text, bytes, list, mapping, link, no_entries, entry}
+use Rattle.ipld_tree.specs.Tree.{Tree, text, mapping, no_entries, entry}
 use Rattle.ipld_tree.specs.Spelling.{IsFront, entries_spelling}
 use Rattle.ipld_tree.proofs.Fronts.{front_first, front_unique, map_opened, entry_opened, entry_closed}
 use Rattle.dagcbor_items.specs.LeafCauses.{TextCause}
@@ -32,13 +32,7 @@ use Rattle.dagcbor_read.proofs.Passing.{SameReader, carried}
 
 text_of : (t : Tree) (k : List ℕ) → view_text t ≡ Some k → t ≡ text k
 text_of (text s) k e = ap (λ x. text x) (cc e)
-text_of null k e = absurd (cc e)
-text_of (boolean b) k e = absurd (cc e)
-text_of (integer b) k e = absurd (cc e)
-text_of (bytes b) k e = absurd (cc e)
-text_of (list b) k e = absurd (cc e)
-text_of (mapping b) k e = absurd (cc e)
-text_of (link b) k e = absurd (cc e)
+text_of _ k e = absurd (cc e)
 
 -- the head of a map of one pair is one byte
 one_pair : head 5 1 ≡ 161 ∷ []
@@ -137,14 +131,7 @@ module _ {V : Type 0} (shape : EnumShape V) where
   of_tree : (r : Reading) (all rest : List ℕ) (t : Tree) → r.left ≡ Some all → IsFront all t rest → is_some (view_enum shape.unit shape.part t) ≡ true → need_enum shape.need t ≤ r.steps → UnitFront r ⊎ PartFront r
   of_tree r all rest (text k) l f a w = inl (record { bytes = all; name = k; rest = rest; left = l; front = f; accepted = a; step = w })
   of_tree r all rest (mapping (entry k t no_entries)) l f a w = inr (part_front r all rest k t l f a w)
-  of_tree r all rest (mapping (entry k t (entry j u es))) l f a w = absurd (cc a)
-  of_tree r all rest (mapping no_entries) l f a w = absurd (cc a)
-  of_tree r all rest null l f a w = absurd (cc a)
-  of_tree r all rest (boolean b) l f a w = absurd (cc a)
-  of_tree r all rest (integer b) l f a w = absurd (cc a)
-  of_tree r all rest (bytes b) l f a w = absurd (cc a)
-  of_tree r all rest (list b) l f a w = absurd (cc a)
-  of_tree r all rest (link b) l f a w = absurd (cc a)
+  of_tree r all rest _ l f a w = absurd (cc a)
 
   by_form : {r : Reading} → HasFront (enum_of shape) r → UnitFront r ⊎ PartFront r
   by_form {r} h = of_tree r h.bytes h.rest h.tree h.left h.front h.accepted h.within

@@ -8,7 +8,7 @@ use Rattle.dagcbor_heads.specs.declared.error.DecodeError.{DecodeError}
 use Rattle.dagcbor_heads.specs.declared.error.DecodeError.TheVariants.{Read, RequireBorrowed, OutOfMemory, Failed, DepthOverflow}
 use Rattle.dagcbor_heads.proofs.Taking.{stays}
 use Rattle.dagcbor_heads.proofs.Refusing.{passed_on}
-use Rattle.ipld_tree.specs.Tree.{Tree, null, boolean, integer, text, bytes, list, mapping, link}
+use Rattle.ipld_tree.specs.Tree.{Tree, null}
 use Rattle.ipld_tree.specs.Spelling.{spelling, IsFront}
 use Rattle.dagcbor_items.specs.Reads.{HasFront, TakesFront, Anything}
 use Rattle.dagcbor_items.specs.Shapes.{view_option, need_option, Shape, option_of}
@@ -22,24 +22,12 @@ pub record IsPart {V : Type 0} (shape : Shape Tree V) (t : Tree) : Type 0 where
 
 is_part : {V : Type 0} (shape : Shape Tree V) (t : Tree) → (t ≡ null → ⊥) → IsPart shape t
 is_part shape null h = absurd (h refl)
-is_part shape (boolean b) h = record { shown = refl; needed = refl }
-is_part shape (integer b) h = record { shown = refl; needed = refl }
-is_part shape (text b) h = record { shown = refl; needed = refl }
-is_part shape (bytes b) h = record { shown = refl; needed = refl }
-is_part shape (list b) h = record { shown = refl; needed = refl }
-is_part shape (mapping b) h = record { shown = refl; needed = refl }
-is_part shape (link b) h = record { shown = refl; needed = refl }
+is_part shape _ h = record { shown = refl; needed = refl }
 
 -- a null, or another tree
 is_null_or : (t : Tree) → (t ≡ null) ⊎ (t ≡ null → ⊥)
 is_null_or null = inl refl
-is_null_or (boolean b) = inr (λ e. absurd (cc e))
-is_null_or (integer b) = inr (λ e. absurd (cc e))
-is_null_or (text b) = inr (λ e. absurd (cc e))
-is_null_or (bytes b) = inr (λ e. absurd (cc e))
-is_null_or (list b) = inr (λ e. absurd (cc e))
-is_null_or (mapping b) = inr (λ e. absurd (cc e))
-is_null_or (link b) = inr (λ e. absurd (cc e))
+is_null_or _ = inr (λ e. absurd (cc e))
 
 -- a value stands there, so a null or a step
 pub can_enter : {V : Type 0} (shape : Shape Tree V) (r : Reading) → HasFront (option_of shape) r → CanEnter r

@@ -13,7 +13,7 @@ use Rattle.dagcbor_heads.specs.Messages.{message_bytes}
 use Rattle.dagcbor_heads.specs.Written.{Written, WroteAll, Writes, Stops}
 use Rattle.dagcbor_heads.specs.declared.error.EncodeError.{EncodeError}
 use Rattle.dagcbor_heads.specs.declared.error.EncodeError.TheVariants.{Msg, Write, OutOfMemory}
-use Rattle.ipld_tree.specs.Tree.{Tree, null, boolean, integer, text, bytes, list, mapping, link, Entries, no_entries, entry, IsTree, ordered, repeats_key, map_tree, all_some, key_of, pair_of, entries_tree}
+use Rattle.ipld_tree.specs.Tree.{Tree, text, mapping, Entries, no_entries, entry, IsTree, ordered, repeats_key, map_tree, all_some, key_of, pair_of, entries_tree}
 use Rattle.ipld_tree.specs.Spelling.{entry_count, text_spelling}
 use Rattle.ipld_tree.specs.Spelled.{spelled, spelled_bytes, spelled_entries, spelled_tree, spelled_head}
 use Rattle.ipld_tree.proofs.Ordered.{Has, HasPair, ordered_has}
@@ -57,13 +57,7 @@ no_pair : (k v : Option Tree) → CannotBeWritten (k, v) → IfSome (pair_of (k,
 no_pair None v h = tt
 no_pair (Some (text s)) None h = tt
 no_pair (Some (text s)) (Some t) h = h
-no_pair (Some null) v h = tt
-no_pair (Some (boolean b)) v h = tt
-no_pair (Some (integer n)) v h = tt
-no_pair (Some (bytes s)) v h = tt
-no_pair (Some (list ts)) v h = tt
-no_pair (Some (mapping es)) v h = tt
-no_pair (Some (link c)) v h = tt
+no_pair (Some _) v h = tt
 
 missing : (done left : List Pair) (p : Pair) → CannotBeWritten p → NoMap (all_some (map pair_of (done ++ p ∷ left)))
 missing [] left p h = here (pair_of p) (all_some (map pair_of left)) (no_pair p.0 p.1 h)

@@ -3,7 +3,7 @@ use Rattle.std.proofs.Common.{◌≡◌, ℕ, ◌+◌, ◌*◌, ◌/◌, ◌<◌
 use Rattle.std.proofs.lemmas.List.{take_all, length-drop}
 use Rattle.std.specs.List.{slice_range}
 use Rattle.std.specs.Prelude.{IfSome, nat_eq, option_and_then}
-use Rattle.ipld_tree.specs.Tree.{Tree, null, boolean, integer, text, bytes, list, mapping, link, IsTree, key_of}
+use Rattle.ipld_tree.specs.Tree.{Tree, integer, text, IsTree, key_of}
 use Rattle.ipld_tree.specs.Spelling.{IsFront, spelling}
 use Rattle.ipld_tree.specs.Spelled.{spelled, spelled_tree}
 use Rattle.ipld_tree.proofs.Fronts.{front_first}
@@ -30,36 +30,19 @@ begins_by t s e good =
 pub key_text : (o : Option Tree) (s : List ℕ) (b : Bool) → spelled_tree o ≡ Some s → IfSome o IsTree → b ≡ begins_text s → b ≡ true → spelled_key o ≡ Some s
 key_text None s b e g is x = cc
 key_text (Some (text k)) s b e g is x = e
-key_text (Some null) s b e g is x = let differ : true ≡ false = sym x ∙ is ∙ begins_by _ s e g in absurd (cc differ)
-key_text (Some (boolean v)) s b e g is x = let differ : true ≡ false = sym x ∙ is ∙ begins_by _ s e g in absurd (cc differ)
 key_text (Some (integer (pos n))) s b e g is x = let differ : true ≡ false = sym x ∙ is ∙ begins_by _ s e g in absurd (cc differ)
 key_text (Some (integer (negsuc n))) s b e g is x = let differ : true ≡ false = sym x ∙ is ∙ begins_by _ s e g in absurd (cc differ)
-key_text (Some (bytes v)) s b e g is x = let differ : true ≡ false = sym x ∙ is ∙ begins_by _ s e g in absurd (cc differ)
-key_text (Some (list v)) s b e g is x = let differ : true ≡ false = sym x ∙ is ∙ begins_by _ s e g in absurd (cc differ)
-key_text (Some (mapping v)) s b e g is x = let differ : true ≡ false = sym x ∙ is ∙ begins_by _ s e g in absurd (cc differ)
-key_text (Some (link v)) s b e g is x = let differ : true ≡ false = sym x ∙ is ∙ begins_by _ s e g in absurd (cc differ)
+key_text (Some _) s b e g is x = let differ : true ≡ false = sym x ∙ is ∙ begins_by _ s e g in absurd (cc differ)
 
 pub key_no_text : (o : Option Tree) (s : List ℕ) (b : Bool) → spelled_tree o ≡ Some s → IfSome o IsTree → b ≡ begins_text s → b ≡ false → option_and_then key_of o ≡ None
 key_no_text None s b e g is x = refl
 key_no_text (Some (text k)) s b e g is x = let differ : false ≡ true = sym x ∙ is ∙ begins_by (text k) s e g in absurd (cc differ)
-key_no_text (Some null) s b e g is x = refl
-key_no_text (Some (boolean v)) s b e g is x = refl
-key_no_text (Some (integer n)) s b e g is x = refl
-key_no_text (Some (bytes v)) s b e g is x = refl
-key_no_text (Some (list v)) s b e g is x = refl
-key_no_text (Some (mapping v)) s b e g is x = refl
-key_no_text (Some (link v)) s b e g is x = refl
+key_no_text (Some _) s b e g is x = refl
 
 pub key_none : (o : Option Tree) → spelled_tree o ≡ None → spelled_key o ≡ None
 key_none None e = refl
 key_none (Some (text k)) e = e
-key_none (Some null) e = refl
-key_none (Some (boolean v)) e = refl
-key_none (Some (integer n)) e = refl
-key_none (Some (bytes v)) e = refl
-key_none (Some (list v)) e = refl
-key_none (Some (mapping v)) e = refl
-key_none (Some (link v)) e = refl
+key_none (Some _) e = refl
 
 -- what begins as a text behind the bytes is the spelling of a key
 module _ (o : Option Tree) (old new : List ℕ) (start : ℕ) (b : Bool) (at : start ≡ length old) (g : Grows o old new) (is : b ≡ begins_text (slice_range new start (length new))) where

@@ -9,7 +9,7 @@ use Rattle.std.specs.List.Sorted.{IsStrictlySortedBy}
 use Rattle.std.specs.Map.{keys_of}
 use Rattle.std.specs.Ordering.{is_lt}
 use Rattle.ipld_tree.specs.Key.{bytes_cmp, key_cmp}
-use Rattle.ipld_tree.specs.Tree.{Tree, null, boolean, integer, text, bytes, list, mapping, link, Entries, IsTree, entries_of, ordered, repeats_key, map_tree, all_some, pair_of, entries_tree}
+use Rattle.ipld_tree.specs.Tree.{Tree, text, mapping, Entries, IsTree, entries_of, ordered, repeats_key, map_tree, all_some, pair_of, entries_tree}
 use Rattle.ipld_tree.specs.Spelling.{text_spelling, entry_count}
 use Rattle.ipld_tree.specs.Spelled.{spelled, spelled_entries, spelled_tree, spelled_head}
 use Rattle.ipld_tree.proofs.KeyOrder.{key_order, same_key}
@@ -86,13 +86,7 @@ one : (k v : Option Tree) (e : Texts) → spelled_key k ≡ Some e.0 → spelled
 one None v e h j g w = cc
 one (Some (text s)) None e h j g w = cc
 one (Some (text s)) (Some t) e h j g w = ((s, t), refl, record { key = h; value = j; good = (g, w) })
-one (Some null) v e h j g w = cc
-one (Some (boolean b)) v e h j g w = cc
-one (Some (integer n)) v e h j g w = cc
-one (Some (bytes s)) v e h j g w = cc
-one (Some (list ts)) v e h j g w = cc
-one (Some (mapping es)) v e h j g w = cc
-one (Some (link c)) v e h j g w = cc
+one (Some _) v e h j g w = cc
 
 joins : (o : Option Named) (os : Option (List Named)) (q : Named) (qs : List Named) → o ≡ Some q → os ≡ Some qs → option_and_then (λ a. option_map (λ more. a ∷ more) os) o ≡ Some (q ∷ qs)
 joins o os q qs e f = ap₂ (λ x y. option_and_then (λ a. option_map (λ more. a ∷ more) y) x) e f

@@ -15,86 +15,48 @@ use std::convert::Infallible;
 use std::fmt::Debug;
 use std::test::Fail;
 
-/// Fails where something else comes next, as text.
-fn comes<'de, T: Deserialize<'de> + Debug, R: Read>(
+/// Fails where anything else comes than these, told in turn, and then nothing.
+fn gives<'de, T: Deserialize<'de> + Debug, R: Read>(
     alloc: Global,
-    stream: &mut StreamDeserializer<'de, R, T>,
-    told: &str,
+    mut stream: StreamDeserializer<'de, R, T>,
+    told: &[&str],
 ) -> Result<(), Fail>
 where
     R::Error: Debug,
 {
-    is_told(alloc, &stream.next(), told)
+    for item in told {
+        is_told(alloc, &stream.next(), &format!(in alloc; "Some({item})")?)?;
+    }
+    agree(stream.next().is_none(), true)
 }
 
-/// Fails where anything comes but two texts, and nothing.
-fn is_two_texts<R: Read>(
-    alloc: Global,
-    stream: &mut StreamDeserializer<'_, R, String>,
-) -> Result<(), Fail>
-where
-    R::Error: Debug,
-{
-    comes(alloc, stream, r#"Some(Ok("foobar"))"#)?;
-    comes(alloc, stream, r#"Some(Ok("baz"))"#)?;
-    comes(alloc, stream, "None")
+/// Fails where readers of the bytes give anything else as texts.
+fn gives_texts(alloc: Global, bytes: &[u8], told: &[&str]) -> Result<(), Fail> {
+    gives(alloc, iter_from_reader::<String, _>(alloc, bytes), told)?;
+    let reader = Deserializer::from_reader(IoReader::new(bytes));
+    gives(alloc, reader.into_iter::<String>(alloc), told)?;
+    let slice = Deserializer::from_slice(bytes);
+    gives(alloc, slice.into_iter::<String>(alloc), told)
 }
 
 #[test]
 fn texts_one_behind_the_other(rt: HostRuntime) -> Result<(), Fail> {
-    let alloc = rt.alloc();
-    let texts = b"\x66foobar\x63baz".as_slice();
-    is_two_texts(alloc, &mut iter_from_reader::<String, _>(alloc, texts))?;
-    let reader = Deserializer::from_reader(IoReader::new(texts));
-    is_two_texts(alloc, &mut reader.into_iter::<String>(alloc))
-}
-
-/// Fails where anything comes but a text, a refusal for a cut one, and nothing.
-fn is_cut_behind_a_text<R: Read>(
-    alloc: Global,
-    stream: &mut StreamDeserializer<'_, R, String>,
-) -> Result<(), Fail>
-where
-    R::Error: Debug,
-{
-    comes(alloc, stream, r#"Some(Ok("foobar"))"#)?;
-    comes(
-        alloc,
-        stream,
-        r#"Some(Err(Eof { name: "string", expect: Small(3) }))"#,
-    )?;
-    comes(alloc, stream, "None")
+    let told = &[r#"Ok("foobar")"#, r#"Ok("baz")"#];
+    gives_texts(rt.alloc(), b"\x66foobar\x63baz", told)
 }
 
 #[test]
 fn a_cut_text_is_the_last(rt: HostRuntime) -> Result<(), Fail> {
-    let alloc = rt.alloc();
-    let cut = b"\x66foobar\x63ba".as_slice();
-    is_cut_behind_a_text(alloc, &mut iter_from_reader::<String, _>(alloc, cut))?;
-    let reader = Deserializer::from_reader(IoReader::new(cut));
-    is_cut_behind_a_text(alloc, &mut reader.into_iter::<String>(alloc))?;
-    let slice = Deserializer::from_slice(cut);
-    is_cut_behind_a_text(alloc, &mut slice.into_iter::<String>(alloc))
-}
-
-/// Fails where anything comes but this, and nothing.
-fn is_last<'de, T: Deserialize<'de> + Debug, R: Read>(
-    alloc: Global,
-    mut stream: StreamDeserializer<'de, R, T>,
-    told: &str,
-) -> Result<(), Fail>
-where
-    R::Error: Debug,
-{
-    comes(alloc, &mut stream, told)?;
-    comes(alloc, &mut stream, "None")
+    let refused = r#"Err(Eof { name: "string", expect: Small(3) })"#;
+    let told = &[r#"Ok("foobar")"#, refused];
+    gives_texts(rt.alloc(), b"\x66foobar\x63ba", told)
 }
 
 /// Fails where a fault at this fill is not the last that comes.
 fn is_fault(alloc: Global, fill: u64) -> Result<(), Fail> {
     let reader = Pieces::failing(b"\x83\x01\x02\x03", 1, fill);
     let stream = Deserializer::from_reader(reader).into_iter::<Ipld>(alloc);
-    is_last(alloc, stream, "Some(Err(Read(7)))")
+    gives(alloc, stream, &["Err(Read(7))"])
 }
 
 #[test]
@@ -108,14 +70,12 @@ fn a_fault_is_the_last(rt: HostRuntime) -> Result<(), Fail> {
 #[test]
 fn a_refusal_is_the_last(rt: HostRuntime) -> Result<(), Fail> {
     let alloc = rt.alloc();
-    is_last(
-        alloc,
-        Deserializer::from_slice(b"\x18\x17\x01").into_iter::<u8>(alloc),
-        r#"Some(Err(NonMinimal { name: "u8", found: 24 }))"#,
-    )?;
+    let stream = Deserializer::from_slice(b"\x18\x17\x01").into_iter::<u8>(alloc);
+    let refused = r#"Err(NonMinimal { name: "u8", found: 24 })"#;
+    gives(alloc, stream, &[refused])?;
     let mut de = Deserializer::from_slice(b"\x18\x17");
     agree(de.deserialize_u8().is_err(), true)?;
-    is_last(alloc, de.into_iter::<u8>(alloc), "Some(Err(Failed))")
+    gives(alloc, de.into_iter::<u8>(alloc), &["Err(Failed)"])
 }
 
 #[test]
@@ -123,10 +83,8 @@ fn a_list_that_was_begun(rt: HostRuntime) -> Result<(), Fail> {
     let alloc = rt.alloc();
     let mut de = Deserializer::from_slice(b"\x82\x01\x02\x01");
     agree(de.deserialize_seq().is_ok(), true)?;
-    let mut stream = de.into_iter::<u8>(alloc);
-    comes(alloc, &mut stream, "Some(Ok(1))")?;
-    comes(alloc, &mut stream, "Some(Ok(2))")?;
-    is_last(alloc, stream, "Some(Ok(1))")
+    let stream = de.into_iter::<u8>(alloc);
+    gives(alloc, stream, &["Ok(1)", "Ok(2)", "Ok(1)"])
 }
 
 /// How many items come of the bytes. That the iterator ends is known of its contract.

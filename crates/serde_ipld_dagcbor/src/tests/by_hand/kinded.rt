@@ -58,11 +58,8 @@ fn kinds_go_both_ways_without_a_name(rt: HostRuntime) -> Result<(), Fail> {
     writes(alloc, &Kinded::Link(cid), link)?;
     tells::<Kinded>(alloc, link, &format!(in alloc; "Ok(Link({cid:?}))")?)?;
     tells::<Kinded>(alloc, b"\x41a", "Ok(Bytes(Bytes([97])))")?;
-    tells::<Kinded>(
-        alloc,
-        b"\x61a",
-        r#"Err(Msg("No matching enum variant found"))"#,
-    )?;
+    let refused = r#"Err(Msg("No matching enum variant found"))"#;
+    tells::<Kinded>(alloc, b"\x61a", refused)?;
     let bytes = Bytes(Vec::from_slice(alloc, b"a")?);
     writes(alloc, &Kinded::Bytes(bytes), b"\x41a")
 }

@@ -53,27 +53,18 @@ fn leaves_are_read_alike(rt: HostRuntime) -> Result<(), Fail> {
     let refused = r#"Err(Mismatch { name: "bool", found: 248 })"#;
     answers::<bool>(alloc, b"\xf8\x20", refused)?;
     answers::<u8>(alloc, b"\x20", r#"Err(CastOverflow { name: "u8" })"#)?;
-    answers::<u8>(
-        alloc,
-        b"\x19\x01\x00",
-        r#"Err(CastOverflow { name: "u8" })"#,
-    )?;
+    let refused = r#"Err(CastOverflow { name: "u8" })"#;
+    answers::<u8>(alloc, b"\x19\x01\x00", refused)?;
     answers::<i8>(alloc, b"\x38\x80", r#"Err(CastOverflow { name: "i8" })"#)?;
-    answers::<u8>(
-        alloc,
-        b"\x18\x17",
-        r#"Err(NonMinimal { name: "u8", found: 24 })"#,
-    )?;
+    let refused = r#"Err(NonMinimal { name: "u8", found: 24 })"#;
+    answers::<u8>(alloc, b"\x18\x17", refused)?;
     let refused = r#"Err(Unsupported { name: "u128", found: 194 })"#;
     answers::<u128>(alloc, b"\xc2\x41\x01", refused)?;
     answers::<String>(alloc, b"\x62\xc3\xa9", r#"Ok("é")"#)?;
     answers::<String>(alloc, b"\x7f\x61\x61\xff", "Err(IndefiniteSize)")?;
     answers::<Bytes>(alloc, b"\x5f", "Err(IndefiniteSize)")?;
-    answers::<char>(
-        alloc,
-        b"\x62ab",
-        r#"Err(Msg("Char must be one character"))"#,
-    )?;
+    let refused = r#"Err(Msg("Char must be one character"))"#;
+    answers::<char>(alloc, b"\x62ab", refused)?;
     answers::<Cid>(alloc, b"\xd8\x2a\x40", r#"Err(Msg("Invalid CID"))"#)
 }
 
@@ -91,16 +82,10 @@ fn parts_are_read_alike(rt: HostRuntime) -> Result<(), Fail> {
     let refused = r#"Err(Msg("missing field"))"#;
     answers::<DataEnum>(alloc, b"\xa1\x61C\xa1\x61x\x06", refused)?;
     let skipped = b"\xa2\x61a\x01\x61b\x18\x05";
-    answers::<IgnoredAny>(
-        alloc,
-        skipped,
-        r#"Err(NonMinimal { name: "u64", found: 24 })"#,
-    )?;
+    let refused = r#"Err(NonMinimal { name: "u64", found: 24 })"#;
+    answers::<IgnoredAny>(alloc, skipped, refused)?;
     let mut de = Deserializer::from_reader(IoReader::new(Source::new(skipped, 1)));
-    let refused = One::deserialize(alloc, &mut de).err();
-    is_told(
-        alloc,
-        &refused,
-        r#"Some(NonMinimal { name: "u64", found: 24 })"#,
-    )
+    let refusal = One::deserialize(alloc, &mut de).err();
+    let told = r#"Some(NonMinimal { name: "u64", found: 24 })"#;
+    is_told(alloc, &refusal, told)
 }

@@ -15,6 +15,18 @@ use std::convert::Infallible;
 use std::fmt::Debug;
 use std::test::Fail;
 
+/// Fails where something else comes next, as text.
+fn comes<'de, T: Deserialize<'de> + Debug, R: Read>(
+    alloc: Global,
+    stream: &mut StreamDeserializer<'de, R, T>,
+    told: &str,
+) -> Result<(), Fail>
+where
+    R::Error: Debug,
+{
+    is_told(alloc, &stream.next(), told)
+}
+
 /// Fails where anything else comes than these, told in turn, and then nothing.
 fn gives<'de, T: Deserialize<'de> + Debug, R: Read>(
     alloc: Global,
@@ -25,9 +37,9 @@ where
     R::Error: Debug,
 {
     for item in told {
-        is_told(alloc, &stream.next(), &format!(in alloc; "Some({item})")?)?;
+        comes(alloc, &mut stream, item)?;
     }
-    agree(stream.next().is_none(), true)
+    comes(alloc, &mut stream, "None")
 }
 
 /// Fails where readers of the bytes give anything else as texts.
@@ -41,14 +53,14 @@ fn gives_texts(alloc: Global, bytes: &[u8], told: &[&str]) -> Result<(), Fail> {
 
 #[test]
 fn texts_one_behind_the_other(rt: HostRuntime) -> Result<(), Fail> {
-    let told = &[r#"Ok("foobar")"#, r#"Ok("baz")"#];
+    let told = &[r#"Some(Ok("foobar"))"#, r#"Some(Ok("baz"))"#];
     gives_texts(rt.alloc(), b"\x66foobar\x63baz", told)
 }
 
 #[test]
 fn a_cut_text_is_the_last(rt: HostRuntime) -> Result<(), Fail> {
-    let refused = r#"Err(Eof { name: "string", expect: Small(3) })"#;
-    let told = &[r#"Ok("foobar")"#, refused];
+    let refused = r#"Some(Err(Eof { name: "string", expect: Small(3) }))"#;
+    let told = &[r#"Some(Ok("foobar"))"#, refused];
     gives_texts(rt.alloc(), b"\x66foobar\x63ba", told)
 }
 
@@ -56,7 +68,7 @@ fn a_cut_text_is_the_last(rt: HostRuntime) -> Result<(), Fail> {
 fn is_fault(alloc: Global, fill: u64) -> Result<(), Fail> {
     let reader = Pieces::failing(b"\x83\x01\x02\x03", 1, fill);
     let stream = Deserializer::from_reader(reader).into_iter::<Ipld>(alloc);
-    gives(alloc, stream, &["Err(Read(7))"])
+    gives(alloc, stream, &["Some(Err(Read(7)))"])
 }
 
 #[test]
@@ -71,11 +83,11 @@ fn a_fault_is_the_last(rt: HostRuntime) -> Result<(), Fail> {
 fn a_refusal_is_the_last(rt: HostRuntime) -> Result<(), Fail> {
     let alloc = rt.alloc();
     let stream = Deserializer::from_slice(b"\x18\x17\x01").into_iter::<u8>(alloc);
-    let refused = r#"Err(NonMinimal { name: "u8", found: 24 })"#;
+    let refused = r#"Some(Err(NonMinimal { name: "u8", found: 24 }))"#;
     gives(alloc, stream, &[refused])?;
     let mut de = Deserializer::from_slice(b"\x18\x17");
     agree(de.deserialize_u8().is_err(), true)?;
-    gives(alloc, de.into_iter::<u8>(alloc), &["Err(Failed)"])
+    gives(alloc, de.into_iter::<u8>(alloc), &["Some(Err(Failed))"])
 }
 
 #[test]
@@ -84,7 +96,11 @@ fn a_list_that_was_begun(rt: HostRuntime) -> Result<(), Fail> {
     let mut de = Deserializer::from_slice(b"\x82\x01\x02\x01");
     agree(de.deserialize_seq().is_ok(), true)?;
     let stream = de.into_iter::<u8>(alloc);
-    gives(alloc, stream, &["Ok(1)", "Ok(2)", "Ok(1)"])
+    gives(
+        alloc,
+        stream,
+        &["Some(Ok(1))", "Some(Ok(2))", "Some(Ok(1))"],
+    )
 }
 
 /// How many items come of the bytes. That the iterator ends is known of its contract.

@@ -16,6 +16,8 @@ use Rattle.ipld_tree.proofs.Unique.{major, argument, payload, argument_fits}
 use Rattle.ipld_tree.proofs.Fronts.{front_head, front_first, front_nonempty, major_le}
 use Rattle.dagcbor_items.specs.ItemCauses.{CauseInside}
 use Rattle.dagcbor_items.proofs.Places.{cause_here}
+use Rattle.dagcbor_items.specs.Shapes.{Shape}
+use Rattle.dagcbor_items.specs.Reads.{HasFront}
 use Rattle.dagcbor_items.specs.Untyped.{HasItem, TakesItem, StartsWithMajor}
 
 -- ---- the major type at the front
@@ -47,8 +49,8 @@ shorter b rest t f = by (spelling t) refl
 
 -- ---- what is refused where no byte or no head stands
 
-pub item_has_head : {spent : ℕ} {r : Reading} → HasItem spent r → HasHead r
-item_has_head h = record {
+pub front_head_stands : {V : Type 0} {shape : Shape Tree V} {r : Reading} → HasFront shape r → HasHead r
+front_head_stands h = record {
   major = major h.tree;
   argument = argument h.tree;
   rest = payload h.tree ++ h.rest;
@@ -57,15 +59,15 @@ item_has_head h = record {
   left = h.left ∙ ap Some (front_head h.front);
 }
 
-pub item_has_byte : {spent : ℕ} {r : Reading} → HasItem spent r → HasByte r
-item_has_byte h = let f = front_first h.bytes h.rest h.tree h.front in record { byte = 32 * major h.tree + f.0; rest = f.1; left = h.left ∙ ap Some f.3 }
+pub front_byte : {V : Type 0} {shape : Shape Tree V} {r : Reading} → HasFront shape r → HasByte r
+front_byte h = let f = front_first h.bytes h.rest h.tree h.front in record { byte = 32 * major h.tree + f.0; rest = f.1; left = h.left ∙ ap Some f.3 }
 
 pub head_refused : {E : Type 0} (lacks : Type 0) (spent : ℕ) (old new : Reading) (e : DecodeError E) → Refuses (HasHead old) ⊥ ⊥ HeadCause old e new → Refuses (HasItem (suc spent) old) lacks ⊥ (CauseInside (old.steps + suc spent)) old e new
-head_refused lacks spent old new e r = passed_on HeadCause (CauseInside (old.steps + suc spent)) old old new e (stays old) item_has_head (λ x. absurd x) (λ x. x) (λ b l. (b, l, λ h. cause_here _ e b (omega arith) (inl h))) r
+head_refused lacks spent old new e r = passed_on HeadCause (CauseInside (old.steps + suc spent)) old old new e (stays old) front_head_stands (λ x. absurd x) (λ x. x) (λ b l. (b, l, λ h. cause_here _ e b (omega arith) (inl h))) r
 
 pub byte_refused : {E : Type 0} (lacks : Type 0) (spent : ℕ) (old new : Reading) (e : DecodeError E) → Refuses (HasByte old) ⊥ ⊥ ByteCause old e new → Refuses (HasItem (suc spent) old) lacks ⊥ (CauseInside (old.steps + suc spent)) old e new
 byte_refused lacks spent old new e r =
-    passed_on ByteCause (CauseInside (old.steps + suc spent)) old old new e (stays old) item_has_byte (λ x. absurd x) (λ x. x) (λ b l. (b, l, λ h. cause_here _ e b (omega arith) (inl (byte_in_head e b h)))) r
+    passed_on ByteCause (CauseInside (old.steps + suc spent)) old old new e (stays old) front_byte (λ x. absurd x) (λ x. x) (λ b l. (b, l, λ h. cause_here _ e b (omega arith) (inl (byte_in_head e b h)))) r
 
 -- ---- a head of a known major type
 

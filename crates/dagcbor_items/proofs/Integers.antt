@@ -25,7 +25,7 @@ use Rattle.dagcbor_items.specs.Reads.{HasFront, TakesFront, Reads}
 use Rattle.dagcbor_items.specs.Shapes.{within, number_of, view_number, leaf}
 use Rattle.dagcbor_items.specs.LeafCauses.{BeginsNoLong, MajorCause, IsOutside, LongCause}
 use Rattle.dagcbor_items.specs.Majors.{HasMajor, TakesMajor}
-use Rattle.dagcbor_items.proofs.SimpleValues.{front_byte}
+use Rattle.dagcbor_items.proofs.Fronts.{front_byte}
 use Rattle.dagcbor_items.proofs.HeadMajors.{has_major, no_byte_begins}
 
 -- only a number shows one

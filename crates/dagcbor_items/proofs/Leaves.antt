@@ -9,6 +9,8 @@ use Rattle.ipld_tree.specs.Tree.{Tree}
 use Rattle.ipld_tree.specs.Spelling.{spelling}
 use Rattle.ipld_tree.proofs.Unique.{major}
 use Rattle.ipld_tree.proofs.Fronts.{front_first, is_simple}
+use Rattle.dagcbor_items.specs.Shapes.{Shape}
+use Rattle.dagcbor_items.specs.Reads.{HasFront}
 use Rattle.dagcbor_items.specs.ItemCauses.{CauseInside}
 use Rattle.dagcbor_items.proofs.Places.{cause_here}
 use Rattle.dagcbor_items.specs.Untyped.{HasItem}
@@ -26,8 +28,8 @@ simple_byte t m = elim (is_simple t m) [
   ]
 ]
 
-unsupported : {old : Reading} {spent first : ℕ} → StartsWith old first → first / 32 ≡ 7 → ((0xf4 ≤ first) → (first ≤ 0xf6) → ⊥) → HasItem spent old → ⊥
-unsupported {old} {spent} {first} starts major_7 other i =
+unsupported : {V : Type 0} {shape : Shape Tree V} {old : Reading} {first : ℕ} → StartsWith old first → first / 32 ≡ 7 → ((0xf4 ≤ first) → (first ≤ 0xf6) → ⊥) → HasFront shape old → ⊥
+unsupported {V} {shape} {old} {first} starts major_7 other i =
     let s = starts i.bytes i.left in
     let m = major_of_front i.bytes i.rest i.tree 7 (first, s.0, s.1, major_7) i.front in
     let k = simple_byte i.tree m in

@@ -14,11 +14,13 @@ use Rattle.dagcbor_heads.proofs.Heads.{head_unique, head_first}
 use Rattle.dagcbor_heads.proofs.Taking.{stays, stays_both}
 use Rattle.dagcbor_heads.proofs.Refusing.{passed_on, byte_in_head}
 use Rattle.ipld_tree.specs.Cid.{CidParts, AreCidParts, IsCid, cid_bytes}
-use Rattle.ipld_tree.specs.Tree.{link}
+use Rattle.ipld_tree.specs.Tree.{Tree, link}
 use Rattle.ipld_tree.specs.Spelling.{bytes_spelling, IsFront}
 use Rattle.ipld_tree.proofs.Cids.{cid_length}
 use Rattle.ipld_tree.proofs.Unique.{split_at_length}
 use Rattle.ipld_tree.proofs.Fronts.{is_link}
+use Rattle.dagcbor_items.specs.Shapes.{Shape}
+use Rattle.dagcbor_items.specs.Reads.{HasFront}
 use Rattle.dagcbor_items.specs.FirstBytes.{BeginsAs}
 use Rattle.dagcbor_items.specs.LinkCauses.{IsOtherByte, LinkBytesCause, LinkCause}
 use Rattle.dagcbor_items.specs.ItemCauses.{CauseInside}
@@ -180,8 +182,8 @@ link_read (Err e) new h p r = link_cid_refused new e h p r
 
 -- ---- a link as an item of unknown kind
 
-item_link : {old : Reading} {spent : ℕ} → StartsWithMajor old 6 → HasItem spent old → HasLink old
-item_link {old} {spent} starts i =
+item_link : {V : Type 0} {shape : Shape Tree V} {old : Reading} → StartsWithMajor old 6 → HasFront shape old → HasLink old
+item_link {V} {shape} {old} starts i =
     let l = is_link i.tree (major_of_front i.bytes i.rest i.tree 6 (starts i.bytes i.left) i.front) in
     record { bytes = i.bytes; cid = l.0; rest = i.rest; left = i.left; front = subst (λ t. IsFront i.bytes t i.rest) l.1 i.front }
 

@@ -13,6 +13,8 @@ use Rattle.ipld_tree.specs.Ipld.{tree_of, trees_of}
 use Rattle.ipld_tree.specs.declared.ipld.Ipld.{Ipld, List as List'}
 use Rattle.ipld_tree.proofs.Trees.{items_need_push, tree_of_List}
 use Rattle.ipld_tree.proofs.Fronts.{list_opened, list_closed, item_opened, item_closed, items_after, is_list}
+use Rattle.dagcbor_items.specs.Shapes.{Shape}
+use Rattle.dagcbor_items.specs.Reads.{HasFront}
 use Rattle.dagcbor_items.specs.ItemCauses.{CauseInside, CauseInItems}
 use Rattle.dagcbor_items.specs.Untyped.{HasItem, TakesItem, StartsWithMajor}
 use Rattle.dagcbor_items.specs.Items.{HasItems, TakesItems}
@@ -22,7 +24,7 @@ use Rattle.dagcbor_items.proofs.Steps.{too_deep}
 
 -- ---- lists
 
-pub is_list_at : {old : Reading} {spent : ℕ} → StartsWithMajor old 4 → (i : HasItem spent old) → (ts : Items) × (i.tree ≡ list ts)
+pub is_list_at : {V : Type 0} {shape : Shape Tree V} {old : Reading} → StartsWithMajor old 4 → (i : HasFront shape old) → (ts : Items) × (i.tree ≡ list ts)
 is_list_at starts i = is_list i.tree (major_of_front i.bytes i.rest i.tree 4 (starts i.bytes i.left) i.front)
 
 two_steps : (t : Tree) (ts : Items) → t ≡ list ts → 2 ≤ any_need t
@@ -126,7 +128,7 @@ next_item {old} {now} {count} {left} ts more s i =
     first : (us : Items) (c : List ℕ) {rest : List ℕ} → AreFronts c us rest → now.left ≡ Some c → 0 < item_count us → items_need us ≤ now.steps → HasItem 0 now
     first no_items c f l some within = absurd (omega arith)
     first (item u us) c {rest} f l some within =
-        record { bytes = c; tree = u; rest = _; left = l; front = (item_opened c rest u us f).0; within = omega (arith, within) }
+        record { bytes = c; tree = u; rest = _; left = l; front = (item_opened c rest u us f).0; accepted = refl; within = omega (arith, within) }
 
 pub next_refused : {E lacks lacks' : Type 0} {old now : Reading} {count left : ℕ} (new : Reading) (ts : List Tree) (e : DecodeError E) → 0 < left → ReadSome count left old ts now → (lacks → lacks') → Refuses (HasItem 0 now) lacks ⊥ (CauseInside (now.steps + 0)) now e new → Refuses (HasItems count old) lacks' ⊥ (CauseInItems count old.steps) old e new
 next_refused {E} {lacks} {lacks'} {old} {now} {count} {left} new ts e more s w r = passed_on (CauseInside (now.steps + 0)) (CauseInItems count old.steps) old now new e s.takes.same (next_item ts more s) w (λ x. x)

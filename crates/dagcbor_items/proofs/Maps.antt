@@ -13,6 +13,8 @@ use Rattle.ipld_tree.specs.Ipld.{tree_of, pairs_of}
 use Rattle.ipld_tree.specs.declared.ipld.Ipld.{Ipld, Map as Map'}
 use Rattle.ipld_tree.proofs.Trees.{tree_of_Map}
 use Rattle.ipld_tree.proofs.Fronts.{map_opened, entry_opened, front_unique, is_mapping}
+use Rattle.dagcbor_items.specs.Shapes.{Shape}
+use Rattle.dagcbor_items.specs.Reads.{HasFront}
 use Rattle.dagcbor_items.specs.Places.{Follows, last_key}
 use Rattle.dagcbor_items.specs.ItemCauses.{KeyCause, CauseInside, CauseInEntries}
 use Rattle.dagcbor_items.specs.Untyped.{HasItem, TakesItem, StartsWithMajor}
@@ -81,7 +83,7 @@ next_value {old} {now} {mid} {count} {left} {es} {previous} key more s a i =
     let n = next_entry more s i in
     let q = a.taken n.bytes n.left in
     let same = front_unique n.bytes q.0 n.behind (text key) (text n.key) q.1 n.key_front in
-    record { bytes = n.behind; tree = n.tree; rest = n.rest; left = q.3 ∙ ap Some same.1; front = n.front; within = omega (arith, n.within, a.same.steps) }
+    record { bytes = n.behind; tree = n.tree; rest = n.rest; left = q.3 ∙ ap Some same.1; front = n.front; accepted = refl; within = omega (arith, n.within, a.same.steps) }
 
 pub next_value_refused : {E lacks lacks' : Type 0} {old now mid : Reading} {count left : ℕ} {es : Entries} {previous : Option (List ℕ)} (key : List ℕ) (new : Reading) (e : DecodeError E) → 0 < left → ReadEntries count left old es previous now → Follows previous key → TakesItem 1 now (text key) mid → (lacks → lacks')
     → Refuses (HasItem 0 mid) lacks ⊥ (CauseInside (mid.steps + 0)) mid e new → Refuses (HasEntries count old) lacks' ⊥ (CauseInEntries count old.steps) old e new
@@ -125,7 +127,7 @@ all_read es none s = (omega (arith, s.counted, none), s.takes)
 
 -- ---- the whole map
 
-is_map_at : {old : Reading} {spent : ℕ} → StartsWithMajor old 5 → (i : HasItem spent old) → (es : Entries) × (i.tree ≡ mapping es)
+is_map_at : {V : Type 0} {shape : Shape Tree V} {old : Reading} → StartsWithMajor old 5 → (i : HasFront shape old) → (es : Entries) × (i.tree ≡ mapping es)
 is_map_at starts i = is_mapping i.tree (major_of_front i.bytes i.rest i.tree 5 (starts i.bytes i.left) i.front)
 
 two_steps : (t : Tree) (es : Entries) → t ≡ mapping es → 2 ≤ any_need t

@@ -1,5 +1,5 @@
 -- Reading null, false and true.
-use Rattle.std.proofs.Common.{◌≡◌, ℕ, ◌+◌, ◌*◌, List, [], ◌∷◌, ◌++◌, Bool, true, refl, ap, ◌∙◌, subst, zero-le}
+use Rattle.std.proofs.Common.{◌≡◌, ℕ, List, [], ◌∷◌, ◌++◌, Bool, true, refl, ap, ◌∙◌, subst, zero-le}
 use Rattle.std.specs.Prelude.{Some, Option, is_some, Result, Ok, Err, MatchResult, codes}
 use Rattle.dagcbor_heads.specs.Reading.{Reading}
 use Rattle.dagcbor_heads.specs.Fronts.{HasByte, Takes}
@@ -11,17 +11,13 @@ use Rattle.dagcbor_heads.proofs.Taking.{stays}
 use Rattle.dagcbor_heads.proofs.Refusing.{passed_on}
 use Rattle.ipld_tree.specs.Tree.{Tree, null, boolean, IsTree}
 use Rattle.ipld_tree.specs.Spelling.{IsSpellable, spelling, boolean_spelling}
-use Rattle.ipld_tree.proofs.Unique.{major}
-use Rattle.ipld_tree.proofs.Fronts.{front_first}
+use Rattle.dagcbor_items.proofs.Fronts.{front_byte}
 use Rattle.dagcbor_items.specs.Reads.{HasFront, TakesFront}
-use Rattle.dagcbor_items.specs.Shapes.{view_null, view_bool, leaf, Shape}
+use Rattle.dagcbor_items.specs.Shapes.{view_null, view_bool, leaf}
 use Rattle.dagcbor_items.specs.Links.{HasWanted}
 use Rattle.dagcbor_items.specs.LinkCauses.{IsOtherByte}
 use Rattle.dagcbor_items.specs.LeafCauses.{BoolCause}
 use Rattle.dagcbor_items.specs.LeafReads.{ReadsNull}
-
-pub front_byte : {V : Type 0} {shape : Shape Tree V} {r : Reading} → HasFront shape r → HasByte r
-front_byte h = let f = front_first h.bytes h.rest h.tree h.front in record { byte = 32 * major h.tree + f.0; rest = f.1; left = h.left ∙ ap Some f.3 }
 
 -- the spelling of a tree was taken
 pub spelling_taken : {V : Type 0} (view : Tree → Option V) {old new : Reading} (t : Tree) (v : V) → IsTree t → IsSpellable t → view t ≡ Some v → Takes old (spelling t) new → TakesFront (leaf view) old v new

@@ -28,7 +28,7 @@ pub whole_front : {b : List ℕ} {t : Tree} → IsSpelling b t → IsFront b t [
 whole_front {b} {t} h = record { well_formed = h.well_formed; spellable = h.spellable; is = h.is ∙ sym (append-nil (spelling t)) }
 
 block_item : (r : Reading) (b : List ℕ) (t : Tree) → r.left ≡ Some b → r.steps ≡ 256 → IsBlock b t → HasItem 0 r
-block_item r b t l s h = record { bytes = b; tree = t; rest = []; left = l; front = whole_front h.0; within = omega (arith, h.1, s) }
+block_item r b t l s h = record { bytes = b; tree = t; rest = []; left = l; front = whole_front h.0; accepted = refl; within = omega (arith, h.1, s) }
 
 -- with bytes behind its item the whole is no block
 pub no_block : (b rest : List ℕ) (t : Tree) → IsFront b t rest → 0 < length rest → (u : Tree) → IsBlock b u → ⊥
@@ -111,7 +111,7 @@ judged_trailing b rest some k = ((no_block b rest k.0 k.1 some, (k.0, rest, k.1,
 -- ---- its first item
 
 first_item : (r : Reading) (b : List ℕ) (links : List (List ℕ)) → r.left ≡ Some b → r.steps ≡ 256 → AreFirstLinks b links → HasItem 0 r
-first_item r b links l s h = record { bytes = b; tree = h.0; rest = h.1; left = l; front = h.2; within = omega (arith, h.3, s) }
+first_item r b links l s h = record { bytes = b; tree = h.0; rest = h.1; left = l; front = h.2; accepted = refl; within = omega (arith, h.3, s) }
 
 item_refused : (lacks : Type 0) (e : DecodeError Infallible) (old new : Reading) (b : List ℕ) → old.left ≡ Some b → old.steps ≡ 256 → Refuses (HasItem 0 old) lacks ⊥ (CauseInside (old.steps + 0)) old e new → LinksRefused e b
 item_refused lacks (Read x) old new b l s r = elim x [ ]

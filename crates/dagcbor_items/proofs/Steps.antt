@@ -29,13 +29,14 @@ no_step_left lacks e h = too_deep lacks 0 e h (λ i. need_positive i.tree) (λ n
 
 -- ---- a step was spent
 
-item_stepped : {old stepped : Reading} {spent : ℕ} → SpentStep old stepped → HasItem spent old → HasItem (spent + 1) stepped
-item_stepped {old} {stepped} {spent} s i = record {
+item_stepped : {old stepped : Reading} (spent : ℕ) → SpentStep old stepped → HasItem spent old → HasItem (spent + 1) stepped
+item_stepped {old} {stepped} spent s i = record {
   bytes = i.bytes;
   tree = i.tree;
   rest = i.rest;
   left = ap (λ (r : Reading). r.left) s.is ∙ i.left;
   front = i.front;
+  accepted = refl;
   within = omega (arith, i.within, s.some, ap (λ (r : Reading). r.steps) s.is);
 }
 
@@ -50,9 +51,9 @@ stepped_refused {E} {lacks} {lacks'} {old} {stepped} new spent OutOfMemory s k r
 stepped_refused {E} {lacks} {lacks'} {old} {stepped} new spent (RequireBorrowed n) s k r = absurd r.1
 stepped_refused {E} {lacks} {lacks'} {old} {stepped} new spent Failed s k r = r
 stepped_refused {E} {lacks} {lacks'} {old} {stepped} new spent (DepthOverflow n) s k r =
-    (r.0 ∙ ap (λ (r : Reading). r.faults) s.is, λ i. r.1 (item_stepped s i), λ b l. at_steps {E = E} (DepthOverflow n) b _ _ (steps_same spent s) (r.2 b (ap (λ (r : Reading). r.left) s.is ∙ l)), r.3)
+    (r.0 ∙ ap (λ (r : Reading). r.faults) s.is, λ i. r.1 (item_stepped spent s i), λ b l. at_steps {E = E} (DepthOverflow n) b _ _ (steps_same spent s) (r.2 b (ap (λ (r : Reading). r.left) s.is ∙ l)), r.3)
 stepped_refused {E} {lacks} {lacks'} {old} {stepped} new spent e s k r =
-    (r.0 ∙ ap (λ (r : Reading). r.faults) s.is, λ i. r.1 (item_stepped s i), λ b l. at_steps {E = E} e b _ _ (steps_same spent s) (r.2 b (ap (λ (r : Reading). r.left) s.is ∙ l)))
+    (r.0 ∙ ap (λ (r : Reading). r.faults) s.is, λ i. r.1 (item_stepped spent s i), λ b l. at_steps {E = E} e b _ _ (steps_same spent s) (r.2 b (ap (λ (r : Reading). r.left) s.is ∙ l)))
 
 -- the step was given back behind the item
 pub stepped_taken : {old stepped now new : Reading} {t : Tree} (spent : ℕ) → SpentStep old stepped → TakesItem (spent + 1) stepped t now → new ≡ with_steps (now.steps + 1) now → TakesItem spent old t new

@@ -96,7 +96,7 @@ module _ {S : Type 0} (holds : S → List (List ℕ) → Type 0) where
       (λ b l. (b, s.kept b l, λ x. at_steps {E = E} e b _ _ (omega (arith, s.same.steps)) x)) h
     where
       shown_item : HasItem 1 old → HasItem 1 peeked
-      shown_item i = record { bytes = i.bytes; tree = i.tree; rest = i.rest; left = s.kept i.bytes i.left; front = i.front; within = omega (arith, i.within, s.same.steps) }
+      shown_item i = record { bytes = i.bytes; tree = i.tree; rest = i.rest; left = s.kept i.bytes i.left; front = i.front; accepted = refl; within = omega (arith, i.within, s.same.steps) }
 
 -- ---- numbers and simple values
 

@@ -1,5 +1,5 @@
 -- What an untyped read answers and refuses.
-use Rattle.std.specs.Prelude.{◌≡◌, ℕ, ◌+◌, ◌/◌, ◌≤◌, false, List, [], ◌∷◌, Option, None, Some}
+use Rattle.std.specs.Prelude.{◌≡◌, ℕ, ◌+◌, ◌-◌, ◌/◌, ◌≤◌, false, List, [], ◌∷◌, Option, None, Some}
 use Rattle.std.specs.Prelude.{Result, MatchResult, ⊤}
 use Rattle.dagcbor_heads.specs.Reading.{Reading, Stays}
 use Rattle.dagcbor_heads.specs.Refusals.{Refuses}
@@ -9,20 +9,21 @@ use Rattle.ipld_tree.specs.Spelling.{IsSpellable, spelling, IsFront}
 use Rattle.ipld_tree.specs.Ipld.{tree_of}
 use Rattle.ipld_tree.specs.declared.ipld.Ipld.{Ipld}
 use Rattle.dagcbor_items.specs.ItemCauses.{CauseInside}
+use Rattle.dagcbor_items.specs.Shapes.{Shape}
+use Rattle.dagcbor_items.specs.Reads.{HasFront}
 
 -- the first byte of those left, where they are known, has the major type
 abbrev pub StartsWithMajor : Reading → ℕ → Type 0
 StartsWithMajor r major = (b : List ℕ) → r.left ≡ Some b → (first : ℕ) × (more : List ℕ)
     × (b ≡ first ∷ more) × (first / 32 ≡ major)
 
+-- any tree, of whose need so many steps are already spent
+abbrev pub any_item : ℕ → Shape Tree Tree
+any_item spent = record { view = Some; need = λ t. any_need t - spent; borrows = false }
+
 -- some tree stands at the front whose need is within the steps left and those already spent on it
-pub record HasItem (spent : ℕ) (r : Reading) : Type 0 where
-  pub bytes : List ℕ
-  pub tree : Tree
-  pub rest : List ℕ
-  pub left : r.left ≡ Some bytes
-  pub front : IsFront bytes tree rest
-  pub within : any_need tree ≤ r.steps + spent
+abbrev pub HasItem : ℕ → Reading → Type 0
+HasItem spent = HasFront (any_item spent)
 
 -- this tree stood at the front, and was taken
 pub record TakesItem (spent : ℕ) (old : Reading) (t : Tree) (new : Reading) : Type 0 where

@@ -13,7 +13,7 @@ use Rattle.ipld_tree.specs.Spelling.{spelling, IsFront}
 use Rattle.dagcbor_items.specs.Reads.{HasFront, TakesFront, Anything}
 use Rattle.dagcbor_items.specs.Shapes.{view_option, need_option, Shape, option_of}
 use Rattle.dagcbor_read.specs.Parts.{CanEnter, EntersSome, OptionCause}
-use Rattle.dagcbor_items.proofs.SimpleValues.{front_byte}
+use Rattle.dagcbor_items.proofs.Fronts.{front_byte}
 
 -- the view and the need of another tree than null
 pub record IsPart {V : Type 0} (shape : Shape Tree V) (t : Tree) : Type 0 where

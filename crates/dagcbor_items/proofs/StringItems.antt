@@ -1,17 +1,18 @@
 -- Texts and byte strings as items of unknown kind.
 use Rattle.std.proofs.Common.{◌≡◌, inl, inr, ℕ, ◌+◌, ◌<◌, List, ◌∷◌, refl, sym, ap, ◌∙◌, subst, arith, Vec, Global}
-use Rattle.std.specs.Prelude.{◌⊎◌, is_some, String, string_bytes, codes}
+use Rattle.std.specs.Prelude.{◌⊎◌, Option, Some, is_some, String, string_bytes, codes}
 use Rattle.dagcbor_heads.specs.Reading.{Reading}
 use Rattle.dagcbor_heads.specs.Refusals.{Refuses}
 use Rattle.dagcbor_heads.specs.declared.error.DecodeError.{DecodeError}
 use Rattle.dagcbor_heads.specs.declared.error.DecodeError.TheVariants.{Eof, Mismatch, RequireUtf8}
 use Rattle.dagcbor_heads.proofs.Taking.{stays}
 use Rattle.dagcbor_heads.proofs.Refusing.{passed_on}
-use Rattle.ipld_tree.specs.Tree.{text, bytes}
+use Rattle.ipld_tree.specs.Tree.{Tree, text, bytes, any_need}
 use Rattle.ipld_tree.specs.Spelling.{IsFront}
 use Rattle.ipld_tree.specs.Ipld.{tree_of}
 use Rattle.ipld_tree.specs.declared.ipld.Ipld.{Bytes as Bytes', String as String'}
 use Rattle.ipld_tree.proofs.Trees.{tree_of_Bytes, tree_of_String}
+use Rattle.ipld_tree.proofs.Unique.{major}
 use Rattle.ipld_tree.proofs.Fronts.{is_bytes, is_text}
 use Rattle.dagcbor_items.specs.ItemCauses.{CauseInside}
 use Rattle.dagcbor_items.specs.Untyped.{HasItem, TakesItem, StartsWithMajor}
@@ -48,24 +49,32 @@ text_stands : {E : Type 0} (steps : ℕ) → 0 < steps → (name : List ℕ) (e 
 text_stands steps some name e b m (inl h) = string_stands steps some name 3 e b (inr refl) m h
 text_stands steps some name e b m (inr h) = garbled_stands steps some name e b h
 
--- ---- texts
+-- ---- strings of either kind
 
-text_front : {old : Reading} → StartsWithMajor old 3 → HasItem 1 old → HasFront (leaf view_text) old
-text_front starts i = record {
+string_front : (kind : ℕ) (view : Tree → Option (List ℕ)) (made : List ℕ → Tree) → ((s : List ℕ) → view (made s) ≡ Some s) → ((t : Tree) → major t ≡ kind → (s : List ℕ) × (t ≡ made s)) → {old : Reading} → StartsWithMajor old kind → HasItem 1 old → HasFront (leaf view) old
+string_front kind view made shows is starts i = record {
   bytes = i.bytes;
   tree = i.tree;
   rest = i.rest;
   left = i.left;
   front = i.front;
-  accepted = let s = is_text i.tree (major_of_front i.bytes i.rest i.tree 3 (starts i.bytes i.left) i.front) in ap (λ t. is_some (view_text t)) s.1;
+  accepted = let s = is i.tree (major_of_front i.bytes i.rest i.tree kind (starts i.bytes i.left) i.front) in ap (λ t. is_some (view t)) s.1 ∙ ap is_some (shows s.0);
   within = omega arith;
 }
 
-pub text_taken : {old new : Reading} (s : List ℕ) → TakesFront (leaf view_text) old s new → TakesItem 1 old (text s) new
-text_taken {old} {new} s h = record {
-  taken = λ b l. let k = h.taken b l in let e = shown_text k.0 s k.3 in (k.1, subst (λ t. IsFront b t k.1) e k.2, omega arith, k.5);
+string_taken : (view : Tree → Option (List ℕ)) (made : List ℕ → Tree) → ((t : Tree) (s : List ℕ) → view t ≡ Some s → t ≡ made s) → ((s : List ℕ) → any_need (made s) ≡ 1) → {old new : Reading} (s : List ℕ) → TakesFront (leaf view) old s new → TakesItem 1 old (made s) new
+string_taken view made shown needs {old} {new} s h = record {
+  taken = λ b l. let k = h.taken b l in let e = shown k.0 s k.3 in (k.1, subst (λ t. IsFront b t k.1) e k.2, omega (arith, needs s), k.5);
   same = h.same;
 }
+
+-- ---- texts
+
+text_front : {old : Reading} → StartsWithMajor old 3 → HasItem 1 old → HasFront (leaf view_text) old
+text_front = string_front 3 view_text text (λ s. refl) is_text
+
+pub text_taken : {old new : Reading} (s : List ℕ) → TakesFront (leaf view_text) old s new → TakesItem 1 old (text s) new
+text_taken = string_taken view_text text shown_text (λ s. refl)
 
 pub text_refused : {E : Type 0} (lacks : Type 0) (old new : Reading) (e : DecodeError E) → StartsWithMajor old 3 → Refuses (HasFront (leaf view_text) old) lacks ⊥ (TextCause (codes "string")) old e new → Refuses (HasItem 1 old) lacks ⊥ (CauseInside (old.steps + 1)) old e new
 text_refused lacks old new e starts r =
@@ -77,21 +86,10 @@ text_as_tree {old} {new} s h = as_tree (text (string_bytes s)) _ (tree_of_String
 -- ---- byte strings
 
 bytes_front : {old : Reading} → StartsWithMajor old 2 → HasItem 1 old → HasFront (leaf view_bytes) old
-bytes_front starts i = record {
-  bytes = i.bytes;
-  tree = i.tree;
-  rest = i.rest;
-  left = i.left;
-  front = i.front;
-  accepted = let s = is_bytes i.tree (major_of_front i.bytes i.rest i.tree 2 (starts i.bytes i.left) i.front) in ap (λ t. is_some (view_bytes t)) s.1;
-  within = omega arith;
-}
+bytes_front = string_front 2 view_bytes bytes (λ s. refl) is_bytes
 
 pub bytes_taken : {old new : Reading} (s : List ℕ) → TakesFront (leaf view_bytes) old s new → TakesItem 1 old (bytes s) new
-bytes_taken {old} {new} s h = record {
-  taken = λ b l. let k = h.taken b l in let e = shown_bytes k.0 s k.3 in (k.1, subst (λ t. IsFront b t k.1) e k.2, omega arith, k.5);
-  same = h.same;
-}
+bytes_taken = string_taken view_bytes bytes shown_bytes (λ s. refl)
 
 pub bytes_as_tree : {old new : Reading} (v : Vec ℕ Global) → TakesFront (leaf view_bytes) old v.items new → TakesItem 1 old (tree_of (Bytes' v)) new
 bytes_as_tree {old} {new} v h = as_tree (bytes v.items) _ (tree_of_Bytes v) (bytes_taken v.items h)

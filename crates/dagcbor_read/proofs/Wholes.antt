@@ -26,11 +26,11 @@ pub not_answered : {T E : Type 0} (P : T → Type 0) (r : Result T (DecodeError 
 not_answered P (Ok v) e h = absurd h
 not_answered P (Err y) e h = tt
 
-pub first_fact : {T E : Type 0} (P Q : DecodeError E → Type 0) (r : Result T (DecodeError E)) → IfErr r (λ e. P e × Q e) → IfErr r P
+first_fact : {T E : Type 0} (P Q : DecodeError E → Type 0) (r : Result T (DecodeError E)) → IfErr r (λ e. P e × Q e) → IfErr r P
 first_fact P Q (Ok v) h = tt
 first_fact P Q (Err e) h = h.0
 
-pub second_fact : {T E : Type 0} (P Q : DecodeError E → Type 0) (r : Result T (DecodeError E)) → IfErr r (λ e. P e × Q e) → IfErr r Q
+second_fact : {T E : Type 0} (P Q : DecodeError E → Type 0) (r : Result T (DecodeError E)) → IfErr r (λ e. P e × Q e) → IfErr r Q
 second_fact P Q (Ok v) h = tt
 second_fact P Q (Err e) h = h.1
 
@@ -84,7 +84,7 @@ module _ {V : Type 0} (shape : Shape Tree V) (steps : ℕ) where
   module _ {T E : Type 0} (meaning : T → V) (left after : Option (List ℕ)) (start mid : Progress) (r : Result T (DecodeError E))
       (sound : start.failed ≡ false) (at : start.input.left ≡ left) (s : start.input.steps ≡ steps) (o : shape.borrows ≡ false) (h : ReadsValue meaning shape start r mid)
     where
-      pub first_read : (Stays start.input mid.input → (b : List ℕ) → mid.input.left ≡ Some b → after ≡ Some b) → IfOk r (λ v. IfSome left (λ b. TakesFirst shape steps b (meaning v) after))
+      first_read : (Stays start.input mid.input → (b : List ℕ) → mid.input.left ≡ Some b → after ≡ Some b) → IfOk r (λ v. IfSome left (λ b. TakesFirst shape steps b (meaning v) after))
       first_read f = by r (h sound)
         where
           by : (r : Result T (DecodeError E)) → MatchResult r (λ v. (mid.failed ≡ false) × TakesFront shape start.input (meaning v) mid.input) (λ e. Refuses (HasFront shape start.input) ⊤ (shape.borrows ≡ true) Anything start.input e mid.input)
@@ -94,13 +94,18 @@ module _ {V : Type 0} (shape : Shape Tree V) (steps : ℕ) where
               (taken.1, (taken.0, taken.2, taken.3, omega (arith, taken.4, s)), f k.1.same taken.1 taken.5))
           by (Err e) k = tt
 
-      pub first_not_read : IfErr r (NotFirst left)
+      first_not_read : IfErr r (NotFirst left)
       first_not_read = by r (h sound)
         where
           by : (r : Result T (DecodeError E)) → MatchResult r (λ v. (mid.failed ≡ false) × TakesFront shape start.input (meaning v) mid.input) (λ e. Refuses (HasFront shape start.input) ⊤ (shape.borrows ≡ true) Anything start.input e mid.input)
               → IfErr r (NotFirst left)
           by (Ok v) k = tt
           by (Err e) k = first_refused left start.input mid.input e at s o k
+
+      -- all that is said of the first value alone
+      pub first_told : (Stays start.input mid.input → (b : List ℕ) → mid.input.left ≡ Some b → after ≡ Some b)
+          → IfOk r (λ v. IfSome left (λ b. TakesFirst shape steps b (meaning v) after)) × IfErr r (λ e. IsReadExcuse e ⊎ IfSome left (BeginsWithNoValue shape steps)) × IfErr r OfWhole
+      first_told f = (first_read f, first_fact _ _ r first_not_read, second_fact _ _ r first_not_read)
 
   -- why a whole input is not read
   abbrev NotWhole : {E : Type 0} → Option (List ℕ) → DecodeError E → Type 0

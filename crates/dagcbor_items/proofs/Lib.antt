@@ -5,10 +5,12 @@ pub mod Leaves
 pub mod Steps
 pub mod Walking
 pub mod Judging
+pub mod Rows
 pub mod Lists
 pub mod Pushes
 pub mod Keys
 pub mod Maps
+pub mod Entering
 pub mod Links
 pub mod HeadMajors
 pub mod Integers

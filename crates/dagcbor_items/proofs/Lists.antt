@@ -1,9 +1,9 @@
 -- Reading the items of a list.
-use Rattle.std.proofs.Common.{◌≡◌, inl, inr, ℕ, suc, ◌+◌, ◌<◌, ◌≤◌, List, [], ◌∷◌, ◌++◌, length, map, refl, sym, ap, ◌∙◌, subst, arith, length-append, Vec, Global, false, cond, is_ok, is_err}
-use Rattle.std.specs.Prelude.{Some, Result, Ok, Err}
+use Rattle.std.proofs.Common.{◌≡◌, ℕ, suc, ◌+◌, ◌-◌, ◌<◌, ◌≤◌, List, [], ◌∷◌, ◌++◌, length, map, refl, sym, ap, ◌∙◌, subst, arith, length-append, Vec, Global, false, cond, is_ok, is_err}
+use Rattle.std.specs.Prelude.{Result, Ok, Err}
 use Rattle.dagcbor_heads.specs.Head.{head}
-use Rattle.dagcbor_heads.specs.Reading.{Reading}
-use Rattle.dagcbor_heads.specs.Refusals.{Refuses, NoStep}
+use Rattle.dagcbor_heads.specs.Reading.{Reading, with_steps}
+use Rattle.dagcbor_heads.specs.Refusals.{Refuses}
 use Rattle.dagcbor_heads.specs.declared.error.DecodeError.{DecodeError}
 use Rattle.dagcbor_heads.proofs.Taking.{stays, stays_both}
 use Rattle.dagcbor_heads.proofs.Refusing.{passed_on}
@@ -16,56 +16,52 @@ use Rattle.ipld_tree.proofs.Fronts.{list_opened, list_closed, item_opened, item_
 use Rattle.dagcbor_items.specs.Shapes.{Shape}
 use Rattle.dagcbor_items.specs.Reads.{HasFront}
 use Rattle.dagcbor_items.specs.ItemCauses.{CauseInside, CauseInItems}
-use Rattle.dagcbor_items.specs.Untyped.{HasItem, TakesItem, StartsWithMajor}
-use Rattle.dagcbor_items.specs.Items.{HasItems, TakesItems}
+use Rattle.dagcbor_items.specs.Untyped.{any_item, HasItem, TakesItem, StartsWithMajor}
+use Rattle.dagcbor_items.specs.Entering.{Enters}
+use Rattle.dagcbor_items.specs.Items.{any_items, HasItems, TakesItems}
 use Rattle.dagcbor_items.proofs.Places.{in_list, at_steps}
-use Rattle.dagcbor_items.proofs.Fronts.{TakesHeadOf, major_of_front, as_tree}
-use Rattle.dagcbor_items.proofs.Steps.{too_deep}
+use Rattle.dagcbor_items.proofs.Fronts.{major_of_front, as_tree}
+use Rattle.dagcbor_items.proofs.Rows.{row_first}
+use Rattle.dagcbor_items.proofs.Steps.{spent_step, stepped_refused, stepped_taken}
 
 -- ---- lists
 
 pub is_list_at : {V : Type 0} {shape : Shape Tree V} {old : Reading} → StartsWithMajor old 4 → (i : HasFront shape old) → (ts : Items) × (i.tree ≡ list ts)
 is_list_at starts i = is_list i.tree (major_of_front i.bytes i.rest i.tree 4 (starts i.bytes i.left) i.front)
 
-two_steps : (t : Tree) (ts : Items) → t ≡ list ts → 2 ≤ any_need t
-two_steps t ts e = omega (arith, ap any_need e)
-
-pub no_list_step : {E : Type 0} (lacks : Type 0) {text : List ℕ} {old new : Reading} (e : DecodeError E) → StartsWithMajor old 4 → NoStep text old e new → Refuses (HasItem 1 old) lacks ⊥ (CauseInside (old.steps + 1)) old e new
-no_list_step lacks e starts h = too_deep lacks 1 e h (λ i. let l = is_list_at starts i in two_steps i.tree l.0 l.1) (λ n b l. inr (refl, inl (starts b l)))
-
 -- where a list stands, its items stand behind its head
-list_items : {stepped mid : Reading} {n : ℕ} → StartsWithMajor stepped 4 → TakesHeadOf stepped 4 n mid → HasItem 2 stepped → HasItems n mid
-list_items {stepped} {mid} {n} starts h i =
+list_items : {old mid : Reading} {n : ℕ} → StartsWithMajor old 4 → Enters 4 n old mid → HasItem 2 (with_steps (old.steps - 1) old) → HasItems n mid
+list_items {old} {mid} {n} starts h i =
     let l = is_list_at starts i in
-    let k = h.taken i.bytes i.left in
+    let k = h.takes.taken i.bytes i.left in
     let o = list_opened i.bytes k.0 i.rest n l.0 h.fits (subst (λ t. IsFront i.bytes t i.rest) l.1 i.front) k.1 in
-    record { bytes = k.0; items = l.0; rest = i.rest; left = k.2; counted = o.0; fronts = o.1; within = omega (arith, i.within, ap any_need l.1, h.same.steps) }
+    record { bytes = k.0; items = l.0; rest = i.rest; left = k.2; counted = o.0; fronts = o.1; accepted = refl; within = omega (arith, i.within, ap any_need l.1, h.takes.same.steps) }
 
-pub list_refused : {E lacks lacks' : Type 0} {stepped mid : Reading} (new : Reading) (n : ℕ) (e : DecodeError E) → StartsWithMajor stepped 4 → TakesHeadOf stepped 4 n mid → (lacks → lacks') → Refuses (HasItems n mid) lacks ⊥ (CauseInItems n mid.steps) mid e new → Refuses (HasItem 2 stepped) lacks' ⊥ (CauseInside (stepped.steps + 2)) stepped e new
-list_refused {E} {lacks} {lacks'} {stepped} {mid} new n e starts h w r = passed_on (CauseInItems n mid.steps) (CauseInside (stepped.steps + 2)) stepped mid new e h.same (list_items starts h) w (λ x. x)
-    (λ b l. let k = h.taken b l in (k.0, k.2, λ s. at_steps {E = E} e b _ _ (omega (arith, h.same.steps)) (in_list n mid.steps e b k.0 h.fits k.1 s))) r
+pub list_refused : {E lacks lacks' : Type 0} {old mid : Reading} (new : Reading) (n : ℕ) (e : DecodeError E) → StartsWithMajor old 4 → Enters 4 n old mid → (lacks → lacks') → Refuses (HasItems n mid) lacks ⊥ (CauseInItems n mid.steps) mid e new → Refuses (HasItem 1 old) lacks' ⊥ (CauseInside (old.steps + 1)) old e new
+list_refused {E} {lacks} {lacks'} {old} {mid} new n e starts h w r = stepped_refused new 1 e (spent_step h) w (passed_on (CauseInItems n mid.steps) (CauseInside (old.steps - 1 + 2)) (with_steps (old.steps - 1) old) mid new e h.takes.same (list_items starts h) (λ x. x) (λ x. x)
+    (λ b l. let k = h.takes.taken b l in (k.0, k.2, λ s. at_steps {E = E} e b _ _ (omega (arith, h.takes.same.steps)) (in_list n mid.steps e b k.0 h.fits k.1 s))) r)
 
 item_count_items_of : (ts : List Tree) → item_count (items_of ts) ≡ length ts
 item_count_items_of [] = refl
 item_count_items_of (t ∷ ts) = ap suc (item_count_items_of ts)
 
-pub list_taken : {stepped mid now : Reading} {n : ℕ} (ts : List Tree) → TakesHeadOf stepped 4 n mid → length ts ≡ n → TakesItems mid ts now → TakesItem 2 stepped (list (items_of ts)) now
-list_taken {stepped} {mid} {now} {n} ts h counted a =
+pub list_taken : {old mid now new : Reading} {n : ℕ} (ts : List Tree) → Enters 4 n old mid → length ts ≡ n → TakesItems mid ts now → new ≡ with_steps (now.steps + 1) now → TakesItem 1 old (list (items_of ts)) new
+list_taken {old} {mid} {now} {new} {n} ts h counted a back =
     let count : item_count (items_of ts) ≡ n = item_count_items_of ts ∙ counted in
-    record {
+    stepped_taken 1 (spent_step h) record {
       taken = λ b l.
-          let k = h.taken b l in
+          let k = h.takes.taken b l in
           let q = a.taken k.0 k.2 in (
             q.0,
             subst (λ x. IsFront x (list (items_of ts)) q.0) (ap (λ m. head 4 m ++ k.0) count ∙ sym k.1) (list_closed k.0 q.0 (items_of ts) (omega (arith, count, h.fits)) q.1),
-            omega (arith, q.2, h.same.steps),
+            omega (arith, q.2, h.takes.same.steps),
             q.3,
           );
-      same = stays_both h.same a.same;
-    }
+      same = stays_both h.takes.same a.same;
+    } back
 
-pub list_as_tree : {stepped mid now : Reading} {n : ℕ} (v : Vec Ipld Global) → TakesHeadOf stepped 4 n mid → (length v.items ≡ n) × TakesItems mid (trees_of v.items) now → TakesItem 2 stepped (tree_of (List' v)) now
-list_as_tree {stepped} {mid} {now} {n} v h r = as_tree (list (items_of (trees_of v.items))) _ (tree_of_List v) (list_taken (trees_of v.items) h (length_map v.items ∙ r.0) r.1)
+pub list_as_tree : {old mid now new : Reading} {n : ℕ} (v : Vec Ipld Global) → Enters 4 n old mid → (length v.items ≡ n) × TakesItems mid (trees_of v.items) now → new ≡ with_steps (now.steps + 1) now → TakesItem 1 old (tree_of (List' v)) new
+list_as_tree {old} {mid} {now} {new} {n} v h r back = as_tree (list (items_of (trees_of v.items))) _ (tree_of_List v) (list_taken (trees_of v.items) h (length_map v.items ∙ r.0) r.1 back)
   where
     length_map : (xs : List Ipld) → length (trees_of xs) ≡ length xs
     length_map [] = refl
@@ -118,17 +114,15 @@ one_read {old} {now} {new} {count} {left} {left'} {t} ts us is e s a = subst (λ
   };
 }
 
--- where so many items stand, the next one stands behind those that were read
-next_item : {old now : Reading} {count left : ℕ} (ts : List Tree) → 0 < left → ReadSome count left old ts now → HasItems count old → HasItem 0 now
-next_item {old} {now} {count} {left} ts more s i =
+-- where so many items stand, those that were not read stand behind those that were
+next_row : {old now : Reading} {count left : ℕ} (ts : List Tree) → ReadSome count left old ts now → HasItems count old → HasItems left now
+next_row {old} {now} {count} {left} ts s i =
     let k = s.takes.taken i.bytes i.left in
     let l = items_left ts i.items i.bytes k.0 i.rest k.1 i.fronts (omega (arith, s.counted, i.counted)) in
-    first l.others k.0 l.fronts k.3 (omega (arith, l.counted, s.counted, i.counted)) (omega (arith, l.within, i.within, s.takes.same.steps))
-  where
-    first : (us : Items) (c : List ℕ) {rest : List ℕ} → AreFronts c us rest → now.left ≡ Some c → 0 < item_count us → items_need us ≤ now.steps → HasItem 0 now
-    first no_items c f l some within = absurd (omega arith)
-    first (item u us) c {rest} f l some within =
-        record { bytes = c; tree = u; rest = _; left = l; front = (item_opened c rest u us f).0; accepted = refl; within = omega (arith, within) }
+    record { bytes = k.0; items = l.others; rest = i.rest; left = k.3; counted = omega (arith, l.counted, s.counted, i.counted); fronts = l.fronts; accepted = refl; within = omega (arith, l.within, i.within, s.takes.same.steps) }
+
+next_item : {old now : Reading} {count left : ℕ} (ts : List Tree) → 0 < left → ReadSome count left old ts now → HasItems count old → HasItem 0 now
+next_item ts more s i = row_first (any_item 0) any_items item any_items (λ t us. refl) (λ t us. omega arith) more (next_row ts s i)
 
 pub next_refused : {E lacks lacks' : Type 0} {old now : Reading} {count left : ℕ} (new : Reading) (ts : List Tree) (e : DecodeError E) → 0 < left → ReadSome count left old ts now → (lacks → lacks') → Refuses (HasItem 0 now) lacks ⊥ (CauseInside (now.steps + 0)) now e new → Refuses (HasItems count old) lacks' ⊥ (CauseInItems count old.steps) old e new
 next_refused {E} {lacks} {lacks'} {old} {now} {count} {left} new ts e more s w r = passed_on (CauseInside (now.steps + 0)) (CauseInItems count old.steps) old now new e s.takes.same (next_item ts more s) w (λ x. x)

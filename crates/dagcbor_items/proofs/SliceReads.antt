@@ -20,7 +20,7 @@ use Rattle.dagcbor_items.specs.Walks.{WalkLacks, GathersLinks}
 use Rattle.dagcbor_items.specs.Judging.{SplitsItem}
 use Rattle.dagcbor_items.specs.Slices.{IsBlock, SliceRefused, PullsEnd, AreFirstLinks, LinksRefused, ReadsFirstLinks}
 use Rattle.dagcbor_items.proofs.Places.{at_steps}
-use Rattle.dagcbor_items.proofs.Walking.{more_lacks}
+use Rattle.dagcbor_items.proofs.Steps.{more_lacks}
 
 -- ---- the whole slice
 

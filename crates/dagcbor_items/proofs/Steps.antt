@@ -1,5 +1,5 @@
 -- Steps that are spent on entering an item, and given back at its end.
-use Rattle.std.proofs.Common.{◌≡◌, inl, ℕ, ◌+◌, ◌≤◌, List, refl, sym, ap, ◌∙◌, arith}
+use Rattle.std.proofs.Common.{◌≡◌, inl, ℕ, ◌+◌, ◌-◌, ◌≤◌, List, refl, sym, ap, ◌∙◌, arith}
 use Rattle.std.specs.Prelude.{Some}
 use Rattle.dagcbor_heads.specs.Reading.{Reading, SpentStep, with_steps}
 use Rattle.dagcbor_heads.specs.Refusals.{Refuses, NoStep}
@@ -7,10 +7,11 @@ use Rattle.dagcbor_heads.specs.declared.name.Name.{Name}
 use Rattle.dagcbor_heads.specs.declared.error.DecodeError.{DecodeError}
 use Rattle.dagcbor_heads.specs.declared.error.DecodeError.TheVariants.{Read, RequireBorrowed, OutOfMemory, Failed, DepthOverflow}
 use Rattle.dagcbor_heads.proofs.Taking.{stays}
-use Rattle.dagcbor_heads.proofs.Refusing.{no_step_refused}
+use Rattle.dagcbor_heads.proofs.Refusing.{no_step_refused, passed_on}
 use Rattle.ipld_tree.specs.Tree.{Tree, list, mapping, any_need}
 use Rattle.dagcbor_items.specs.ItemCauses.{IsTooDeep, CauseInside}
 use Rattle.dagcbor_items.specs.Untyped.{HasItem, TakesItem, StartsWithMajor}
+use Rattle.dagcbor_items.specs.Entering.{Enters}
 use Rattle.dagcbor_items.proofs.Places.{stands_here, at_steps}
 
 pub need_positive : (t : Tree) → 1 ≤ any_need t
@@ -27,7 +28,16 @@ too_deep {E} lacks spent {text} {old} e h deep cause = no_step_refused lacks ⊥
 pub no_step_left : {E : Type 0} (lacks : Type 0) {text : List ℕ} {old new : Reading} (e : DecodeError E) → NoStep text old e new → Refuses (HasItem 0 old) lacks ⊥ (CauseInside (old.steps + 0)) old e new
 no_step_left lacks e h = too_deep lacks 0 e h (λ i. need_positive i.tree) (λ n b l. inl refl)
 
+-- a call that may lack memory refuses what one refuses that lacks less
+pub more_lacks : {E : Type 0} {lacks : Type 0} (lacks' : Type 0) (spent : ℕ) (old new : Reading) (e : DecodeError E) → (lacks → lacks') → Refuses (HasItem spent old) lacks ⊥ (CauseInside (old.steps + spent)) old e new
+    → Refuses (HasItem spent old) lacks' ⊥ (CauseInside (old.steps + spent)) old e new
+more_lacks lacks' spent old new e w r = passed_on (CauseInside (old.steps + spent)) (CauseInside (old.steps + spent)) old old new e (stays old) (λ x. x) w (λ x. x) (λ b l. (b, l, λ h. h)) r
+
 -- ---- a step was spent
+
+-- the step that was spent on the head of a list or map
+pub spent_step : {old mid : Reading} {m n : ℕ} → Enters m n old mid → SpentStep old (with_steps (old.steps - 1) old)
+spent_step h = record { some = h.step; is_out = omega (arith, h.is_out, h.takes.same.steps, h.takes.same.budget); is = refl }
 
 item_stepped : {old stepped : Reading} (spent : ℕ) → SpentStep old stepped → HasItem spent old → HasItem (spent + 1) stepped
 item_stepped {old} {stepped} spent s i = record {

@@ -5,7 +5,7 @@ use Rattle.dagcbor_heads.specs.Reading.{Reading, SpentStep, Stays}
 use Rattle.dagcbor_heads.specs.Fronts.{StartsWith, ShowsByte, Takes, TakesHead}
 use Rattle.dagcbor_heads.specs.Refusals.{Refuses}
 use Rattle.dagcbor_heads.specs.declared.error.DecodeError.{DecodeError}
-use Rattle.dagcbor_heads.proofs.Taking.{stays, stays_both}
+use Rattle.dagcbor_heads.proofs.Taking.{stays_both}
 use Rattle.dagcbor_heads.proofs.Refusing.{passed_on}
 use Rattle.ipld_tree.specs.Tree.{Tree, null, boolean, integer, list, mapping, link, items_of, Entries, no_entries, entry, links_of, items_links, entries_links}
 use Rattle.ipld_tree.proofs.Unique.{major}
@@ -17,7 +17,7 @@ use Rattle.dagcbor_items.specs.Shapes.{number_of}
 use Rattle.dagcbor_items.proofs.Integers.{number_front}
 use Rattle.dagcbor_items.proofs.Places.{at_steps}
 use Rattle.dagcbor_items.proofs.Pushes.{entry_push}
-use Rattle.dagcbor_items.proofs.Steps.{stepped_refused}
+use Rattle.dagcbor_items.proofs.Steps.{stepped_refused, more_lacks}
 
 -- ---- want of memory
 
@@ -33,11 +33,6 @@ step_refused {E} takes_memory {old} {stepped} new spent e s r = stepped_refused 
     lacks : WalkLacks takes_memory stepped → WalkLacks takes_memory old
     lacks (inl l) = inl (ap (λ (r : Reading). r.lends) (sym s.is) ∙ l)
     lacks (inr m) = inr m
-
--- a call that may lack memory refuses what one refuses that lacks less
-pub more_lacks : {E : Type 0} {lacks : Type 0} (lacks' : Type 0) (spent : ℕ) (old new : Reading) (e : DecodeError E) → (lacks → lacks') → Refuses (HasItem spent old) lacks ⊥ (CauseInside (old.steps + spent)) old e new
-    → Refuses (HasItem spent old) lacks' ⊥ (CauseInside (old.steps + spent)) old e new
-more_lacks lacks' spent old new e w r = passed_on (CauseInside (old.steps + spent)) (CauseInside (old.steps + spent)) old old new e (stays old) (λ x. x) w (λ x. x) (λ b l. (b, l, λ h. h)) r
 
 -- ---- what a sink was handed
 

@@ -1,6 +1,6 @@
 -- What a read of a map's entries answers and refuses.
-use Rattle.std.specs.Prelude.{◌≡◌, ℕ, ◌≤◌, false, List, Option, None, Some, Result, MatchResult, ⊤}
-use Rattle.std.specs.Prelude.{String}
+use Rattle.std.specs.Prelude.{◌≡◌, ℕ, ◌≤◌, true, false, List, Option, None, Some, is_some, Result}
+use Rattle.std.specs.Prelude.{MatchResult, ⊤, String}
 use Rattle.std.specs.BTreeMap.{BTreeMap}
 use Rattle.std.specs.Cow.{cow_str_bytes}
 use Rattle.std.specs.declared.borrow.CowStr.{CowStr}
@@ -14,6 +14,7 @@ use Rattle.ipld_tree.specs.Ipld.{pairs_of}
 use Rattle.ipld_tree.specs.declared.ipld.Ipld.{Ipld}
 use Rattle.dagcbor_items.specs.Places.{Follows}
 use Rattle.dagcbor_items.specs.ItemCauses.{KeyCause, CauseInEntries}
+use Rattle.dagcbor_items.specs.Shapes.{Shape}
 use Rattle.dagcbor_items.specs.Untyped.{TakesItem}
 
 -- a key stands at the front that follows the one before it
@@ -42,15 +43,26 @@ abbrev pub AllFollow : Option (List ℕ) → Entries → Type 0
 AllFollow None es = ⊤
 AllFollow (Some k) es = Precedes k es
 
--- so many entries stand at the front within the steps left
-pub record HasEntries (count : ℕ) (r : Reading) : Type 0 where
+-- so many entries stand at the front, behind the last key, which show something, and their need is
+-- within the steps left
+pub record HasEntryRow {V : Type 0} (shape : Shape Entries V) (last : Option (List ℕ)) (count : ℕ) (r : Reading) : Type 0 where
   pub bytes : List ℕ
   pub entries : Entries
   pub rest : List ℕ
   pub left : r.left ≡ Some bytes
   pub counted : entry_count entries ≡ count
+  pub follow : AllFollow last entries
   pub fronts : AreEntryFronts bytes entries rest
-  pub within : entries_need entries ≤ r.steps
+  pub accepted : is_some (shape.view entries) ≡ true
+  pub within : shape.need entries ≤ r.steps
+
+-- any entries
+abbrev pub any_entries : Shape Entries Entries
+any_entries = record { view = Some; need = entries_need; borrows = false }
+
+-- so many entries stand at the front, from the first, within the steps left
+abbrev pub HasEntries : ℕ → Reading → Type 0
+HasEntries = HasEntryRow any_entries None
 
 -- these entries stood at the front, and were taken
 pub record TakesEntries (old : Reading) (es : Entries) (new : Reading) : Type 0 where

@@ -1,5 +1,6 @@
 -- What a read of a list's items answers and refuses.
-use Rattle.std.specs.Prelude.{◌≡◌, ℕ, ◌≤◌, List, length, Some, Result, MatchResult, ⊤, Vec}
+use Rattle.std.specs.Prelude.{◌≡◌, ℕ, ◌≤◌, true, false, List, length, Some, is_some, Result}
+use Rattle.std.specs.Prelude.{MatchResult, ⊤, Vec}
 use Rattle.std.specs.declared.alloc.Global.{Global}
 use Rattle.dagcbor_heads.specs.Reading.{Reading, Stays}
 use Rattle.dagcbor_heads.specs.Refusals.{Refuses}
@@ -9,16 +10,26 @@ use Rattle.ipld_tree.specs.Spelling.{item_count, AreFronts}
 use Rattle.ipld_tree.specs.Ipld.{trees_of}
 use Rattle.ipld_tree.specs.declared.ipld.Ipld.{Ipld}
 use Rattle.dagcbor_items.specs.ItemCauses.{CauseInItems}
+use Rattle.dagcbor_items.specs.Shapes.{Shape}
 
--- so many items stand at the front within the steps left
-pub record HasItems (count : ℕ) (r : Reading) : Type 0 where
+-- so many items stand at the front which show something, and their need is within the steps left
+pub record HasRow {V : Type 0} (shape : Shape Items V) (count : ℕ) (r : Reading) : Type 0 where
   pub bytes : List ℕ
   pub items : Items
   pub rest : List ℕ
   pub left : r.left ≡ Some bytes
   pub counted : item_count items ≡ count
   pub fronts : AreFronts bytes items rest
-  pub within : items_need items ≤ r.steps
+  pub accepted : is_some (shape.view items) ≡ true
+  pub within : shape.need items ≤ r.steps
+
+-- any items
+abbrev pub any_items : Shape Items Items
+any_items = record { view = Some; need = items_need; borrows = false }
+
+-- so many items stand at the front within the steps left
+abbrev pub HasItems : ℕ → Reading → Type 0
+HasItems = HasRow any_items
 
 -- these trees stood at the front, and were taken
 pub record TakesItems (old : Reading) (ts : List Tree) (new : Reading) : Type 0 where

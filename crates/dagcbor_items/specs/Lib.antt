@@ -14,6 +14,7 @@ pub mod LinkCauses
 pub mod ItemCauses
 pub mod Untyped
 pub mod Looks
+pub mod Entering
 pub mod Items
 pub mod Entries
 pub mod Links

@@ -9,12 +9,11 @@ ghost use Rattle.dagcbor_items.specs.Items.{ReadsItems};
 ghost use Rattle.dagcbor_items.specs.Entries.{ReadsEntries};
 ghost use Rattle.dagcbor_items.specs.Variants.{OfItem};
 
+use crate::enter::enter;
 use crate::key::read_key;
 use crate::leaf::{read_bytes, read_integer, read_simple, read_text};
 use crate::link::read_link;
-use dagcbor_heads::{
-    DecodeError, Input, Read, ReadResult, is_indefinite, peek_one, pull_head, spend_step,
-};
+use dagcbor_heads::{DecodeError, Input, Read, ReadResult, is_indefinite, peek_one, spend_step};
 use ipld_tree::Ipld;
 use std::alloc::{AllocError, Global};
 use std::collections::BTreeMap;
@@ -66,7 +65,6 @@ fn read_of_major<R: Read>(alloc: Global, input: &mut Input<'_, R>, first: u8) ->
     }
 }
 
-#[tactic(auto, using(crate::proofs::Variants::depth_item, crate::proofs::Variants::named_item))]
 #[cycle(any)]
 fn read_list<R: Read>(alloc: Global, input: &mut Input<'_, R>) -> ReadResult<Ipld, R>
     requires { StartsWithMajor (input_reading R.reading input.old) 4 }
@@ -74,8 +72,7 @@ fn read_list<R: Read>(alloc: Global, input: &mut Input<'_, R>) -> ReadResult<Ipl
     ensures looked { OverInput R.reading (LooksBehind 3 1) input.old result input.new }
     ensures variant { IfErr result OfItem }
 {
-    spend_step("array", input)?;
-    let (_, count, _) = pull_head("array", input)?;
+    let count = enter("array", input)?;
     let items = read_items(alloc, input, count)?;
     input.step_out();
     Ok(Ipld::List(items))
@@ -118,7 +115,6 @@ fn take_first_room(items: &mut Vec<Ipld>, count: u64) -> Result<(), AllocError>
     Ok(())
 }
 
-#[tactic(auto, using(crate::proofs::Variants::depth_item, crate::proofs::Variants::named_item))]
 #[cycle(any)]
 fn read_map<R: Read>(alloc: Global, input: &mut Input<'_, R>) -> ReadResult<Ipld, R>
     requires { StartsWithMajor (input_reading R.reading input.old) 5 }
@@ -126,8 +122,7 @@ fn read_map<R: Read>(alloc: Global, input: &mut Input<'_, R>) -> ReadResult<Ipld
     ensures looked { OverInput R.reading (LooksBehind 3 1) input.old result input.new }
     ensures variant { IfErr result OfItem }
 {
-    spend_step("map", input)?;
-    let (_, count, _) = pull_head("map", input)?;
+    let count = enter("map", input)?;
     let entries = read_entries(alloc, input, count)?;
     input.step_out();
     Ok(Ipld::Map(entries))

@@ -8,6 +8,7 @@
 #![tactic(auto)]
 
 mod any;
+mod enter;
 mod judge;
 mod key;
 mod kind;

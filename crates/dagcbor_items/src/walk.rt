@@ -9,6 +9,7 @@ ghost use Rattle.dagcbor_items.specs.Variants.{OfItem};
 ghost use Rattle.dagcbor_items.specs.Walks.{WalksItem, WalksItems, WalksEntries, GathersLinks};
 ghost use Rattle.dagcbor_heads.specs.Inputs.{OverInput};
 
+use crate::enter::enter;
 use crate::link::pull_link;
 use crate::payloads::PayloadReader;
 use crate::sink::{LinkSink, NoLinks};
@@ -157,7 +158,6 @@ fn skip_simple<R: Read>(reader: &mut R, first: u8) -> ReadResult<(), R>
     Ok(())
 }
 
-#[tactic(auto, using(crate::proofs::Variants::depth_item, crate::proofs::Variants::named_item))]
 #[cycle(walk)]
 fn walk_list<I: PayloadReader, S: LinkSink>(
     alloc: I::Alloc,
@@ -169,8 +169,7 @@ fn walk_list<I: PayloadReader, S: LinkSink>(
     ensures looked { LooksBehind 3 1 (I.reading input.old) result (I.reading input.new) }
     ensures variant { IfErr result OfItem }
 {
-    spend_step("array", input)?;
-    let (_, count, _) = pull_head("array", input)?;
+    let count = enter("array", input)?;
     walk_items(alloc, input, links, count)?;
     input.step_out();
     Ok(())
@@ -193,7 +192,6 @@ fn walk_items<I: PayloadReader, S: LinkSink>(
     Ok(())
 }
 
-#[tactic(auto, using(crate::proofs::Variants::depth_item, crate::proofs::Variants::named_item))]
 #[cycle(walk)]
 fn walk_map<I: PayloadReader, S: LinkSink>(
     alloc: I::Alloc,
@@ -205,8 +203,7 @@ fn walk_map<I: PayloadReader, S: LinkSink>(
     ensures looked { LooksBehind 3 1 (I.reading input.old) result (I.reading input.new) }
     ensures variant { IfErr result OfItem }
 {
-    spend_step("map", input)?;
-    let (_, count, _) = pull_head("map", input)?;
+    let count = enter("map", input)?;
     walk_entries(alloc, input, links, count)?;
     input.step_out();
     Ok(())

@@ -10,7 +10,8 @@ use Rattle.ipld_tree.specs.Tree.{Tree, any_need}
 use Rattle.dagcbor_read.specs.Calls.{Progress, Call}
 use Rattle.dagcbor_items.specs.Reads.{HasFront, TakesFront, Anything}
 use Rattle.dagcbor_items.specs.Shapes.{ignored, Shape}
-use Rattle.dagcbor_read.specs.Accessors.{AccessorState, accessor_state, Enters, BeginsItems, ReadsNextKey, after_key, with_value, EndsItems}
+use Rattle.dagcbor_items.specs.Entering.{Enters}
+use Rattle.dagcbor_read.specs.Accessors.{AccessorState, accessor_state, BeginsItems, ReadsNextKey, after_key, with_value, EndsItems}
 use Rattle.dagcbor_read.specs.declared.access.accessor.Accessor.{Accessor}
 use Rattle.dagcbor_read.specs.Collections.{HasFields, TakesFields, fields_of, value_of, FieldShape}
 use Rattle.dagcbor_read.proofs.Answered.{answered, call_refused, KeyRead, key_read, no_key, after_some_key, after_no_key}

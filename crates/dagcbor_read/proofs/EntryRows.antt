@@ -8,7 +8,7 @@ use Rattle.dagcbor_heads.specs.declared.error.DecodeError.{DecodeError}
 use Rattle.dagcbor_heads.proofs.Taking.{stays, stays_both}
 use Rattle.ipld_tree.specs.Tree.{Tree, text, mapping, Entries, no_entries, entry, Precedes}
 use Rattle.ipld_tree.specs.Spelling.{entry_count, entries_spelling, IsFront, AreEntryFronts}
-use Rattle.ipld_tree.proofs.Fronts.{map_opened, entry_opened, entry_closed, entries_after, front_unique}
+use Rattle.ipld_tree.proofs.Fronts.{map_opened, entry_closed, entries_after}
 use Rattle.dagcbor_items.specs.Untyped.{TakesItem}
 use Rattle.dagcbor_items.specs.Places.{Follows}
 use Rattle.dagcbor_items.specs.ItemCauses.{KeyCause}
@@ -16,19 +16,17 @@ use Rattle.dagcbor_items.specs.Entries.{HasKey}
 use Rattle.dagcbor_read.specs.Calls.{Progress, Call}
 use Rattle.dagcbor_items.specs.Reads.{HasFront, TakesFront, Anything}
 use Rattle.dagcbor_read.specs.Values.{ReadsValue}
-use Rattle.dagcbor_read.specs.Accessors.{AccessorState, accessor_state, Enters, BeginsItems}
+use Rattle.dagcbor_items.specs.Entering.{Enters}
+use Rattle.dagcbor_read.specs.Accessors.{AccessorState, accessor_state, BeginsItems}
 use Rattle.dagcbor_read.specs.Enums.{EnumState, BeginsHeld, IsOtherForm, ReadsFieldsHeld}
 use Rattle.dagcbor_read.specs.declared.access.accessor.Accessor.{Accessor}
 use Rattle.dagcbor_read.specs.Collections.{view_entries, view_fields, need_entries, need_fields, HasFields, TakesFields, ReadsEntriesLeft, fields_of, value_of, FieldShape}
 use Rattle.dagcbor_items.specs.Entries.{AllFollow}
+use Rattle.dagcbor_items.proofs.Rows.{some_first, row_key, row_value}
 use Rattle.dagcbor_items.proofs.Maps.{map_closed}
 use Rattle.dagcbor_read.proofs.Answered.{answered, KeyRead}
-use Rattle.dagcbor_read.proofs.ItemRows.{same_reader, left_again, some_first}
+use Rattle.dagcbor_read.proofs.ItemRows.{same_reader, left_again}
 use Rattle.dagcbor_read.proofs.Passing.{carried}
-
-first_follows : (last : Option (List ℕ)) (k : List ℕ) (t : Tree) (es : Entries) → AllFollow last (entry k t es) → Follows last k
-first_follows None k t es h = tt
-first_follows (Some l) k t es h = h
 
 follow_all : (last : Option (List ℕ)) (k : List ℕ) (t : Tree) (es : Entries) → Follows last k → AllFollow last (entry k t es)
 follow_all None k t es h = tt
@@ -37,34 +35,17 @@ follow_all (Some l) k t es h = h
 module _ {S : Type 0} (shape : FieldShape S) where
   -- ---- an entry before others
 
-  fields_key : {r : Reading} {state : S} {last : Option (List ℕ)} {count : ℕ} → 0 < count → HasFields shape state last count r → HasKey last r
-  fields_key {r} {state} {last} {count} some h = by h.entries h.counted h.follow h.fronts
-    where
-      by : (es : Entries) → entry_count es ≡ count → AllFollow last es → AreEntryFronts h.bytes es h.rest → HasKey last r
-      by no_entries e f k = absurd (omega (arith, e, some))
-      by (entry l u es) e f k =
-          let p = entry_opened h.bytes h.rest l u es k in
-          record { bytes = h.bytes; key = l; rest = p.0; left = h.left; front = p.1; follows = first_follows last l u es f }
-
   fields_value : {old mid : Reading} {state : S} {last : Option (List ℕ)} {count : ℕ} (key : List ℕ) → 0 < count → TakesItem 1 old (text key) mid → HasFields shape state last count old → HasFront (value_of shape state key) mid
-  fields_value {old} {mid} {state} {last} {count} key some a h = by h.entries h.counted h.fronts h.accepted h.within
-    where
-      by : (es : Entries) → entry_count es ≡ count → AreEntryFronts h.bytes es h.rest → is_some (view_entries shape.take state es) ≡ true → need_entries shape.need es ≤ old.steps → HasFront (value_of shape state key) mid
-      by no_entries e k ok w = absurd (omega (arith, e, some))
-      by (entry l u es) e k ok w =
-          let p = entry_opened h.bytes h.rest l u es k in
-          let q = a.taken h.bytes h.left in
-          let same = front_unique h.bytes q.0 p.0 (text key) (text l) q.1 p.1 in
-          let is : key ≡ l = cc same.0 in
-          record {
-            bytes = q.0;
-            tree = u;
-            rest = entries_spelling es ++ h.rest;
-            left = q.3;
-            front = subst (λ x. IsFront x u (entries_spelling es ++ h.rest)) (sym same.1) p.2;
-            accepted = subst (λ x. is_some (shape.take state x u) ≡ true) (sym is) (some_first (λ n. view_entries shape.take n es) (shape.take state l u) ok);
-            within = subst (λ x. shape.need x u ≤ mid.steps) (sym is) (omega (arith, w, a.same.steps));
-          }
+  fields_value {old} {mid} {state} {last} {count} key some a h =
+      let v = row_value key some a h in record {
+        bytes = v.2;
+        tree = v.0;
+        rest = entries_spelling v.1 ++ h.rest;
+        left = v.4;
+        front = v.5;
+        accepted = some_first (λ n. view_entries shape.take n v.1) (shape.take state key v.0) (ap (λ es. is_some (view_entries shape.take state es)) (sym v.3) ∙ h.accepted);
+        within = omega (arith, h.within, ap (need_entries shape.need) v.3, a.same.steps);
+      }
 
   fields_others : {old mid new : Reading} {state next : S} {last : Option (List ℕ)} {count : ℕ} (key : List ℕ) → 0 < count → TakesItem 1 old (text key) mid → TakesFront (value_of shape state key) mid next new
       → HasFields shape state last count old → HasFields shape next (Some key) (count - 1) new
@@ -141,7 +122,7 @@ module _ {S : Type 0} (shape : FieldShape S) where
       → Refuses (HasKey now_left.last now.input) (now.input.lends ≡ false) ⊥ (KeyCause now_left.last) now.input e new
       → Refuses (HasFields shape start before.last before.left old.input) ⊤ borrows Anything old.input e new
   key_not_read {E} {start} {s} {before} {now_left} {old} {now} borrows new e i some r =
-      carried (KeyCause now_left.last) Anything old.input now.input new e (same_reader i.same) (λ h. fields_key some (i.has h)) (λ _. tt) (λ x. absurd x) (λ b l g. tt) r
+      carried (KeyCause now_left.last) Anything old.input now.input new e (same_reader i.same) (λ h. row_key some (i.has h)) (λ _. tt) (λ x. absurd x) (λ b l g. tt) r
 
   pub value_not_read : {E : Type 0} {start s : S} {before now_left : AccessorState} {old now mid : Progress} (borrows : Type 0) (new : Reading) (e : DecodeError E) (key text' : List ℕ) → text' ≡ key → FieldsSoFar start before old now_left s now
       → KeyRead now_left.last now_left.left now key mid → Refuses (HasFront (value_of shape s text') mid.input) ⊤ borrows Anything mid.input e new

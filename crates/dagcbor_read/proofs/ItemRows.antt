@@ -7,14 +7,17 @@ use Rattle.dagcbor_heads.specs.Refusals.{Refuses}
 use Rattle.dagcbor_heads.specs.declared.error.DecodeError.{DecodeError}
 use Rattle.dagcbor_heads.proofs.Taking.{stays, stays_both}
 use Rattle.ipld_tree.specs.Tree.{Tree, list, Items, no_items, item}
-use Rattle.ipld_tree.specs.Spelling.{item_count, items_spelling, IsFront, AreFronts}
-use Rattle.ipld_tree.proofs.Fronts.{list_opened, list_closed, item_opened, item_closed, items_after}
+use Rattle.ipld_tree.specs.Spelling.{item_count, IsFront, AreFronts}
+use Rattle.ipld_tree.proofs.Fronts.{list_opened, list_closed, item_closed, items_after}
 use Rattle.dagcbor_read.specs.Calls.{Progress, Call}
 use Rattle.dagcbor_items.specs.Reads.{HasFront, TakesFront, Anything}
 use Rattle.dagcbor_read.specs.Values.{ReadsValue}
-use Rattle.dagcbor_read.specs.Accessors.{AccessorState, accessor_state, Enters, BeginsItems}
+use Rattle.dagcbor_items.specs.Entering.{Enters}
+use Rattle.dagcbor_read.specs.Accessors.{AccessorState, accessor_state, BeginsItems}
 use Rattle.dagcbor_read.specs.declared.access.accessor.Accessor.{Accessor}
-use Rattle.dagcbor_read.specs.Collections.{view_list, need_list, view_none, HasRow, TakesRow, ReadsRest, list_of, all_of, no_more, first_then}
+use Rattle.dagcbor_items.specs.Items.{HasRow}
+use Rattle.dagcbor_read.specs.Collections.{view_list, need_list, view_none, TakesRow, ReadsRest, list_of, all_of, no_more, first_then}
+use Rattle.dagcbor_items.proofs.Rows.{row_first}
 use Rattle.dagcbor_read.proofs.Answered.{answered}
 use Rattle.dagcbor_read.proofs.Passing.{SameReader, carried}
 use Rattle.dagcbor_items.specs.Shapes.{Shape}
@@ -33,10 +36,6 @@ left_again {major} {count} {old} {mid} {now} {new} n r back = record {
 }
 
 -- ---- options
-
-pub some_first : {A B : Type 0} (f : A → Option B) (o : Option A) → is_some (option_and_then f o) ≡ true → is_some o ≡ true
-some_first f None e = absurd (cc e)
-some_first f (Some a) e = refl
 
 some_second : {A B C : Type 0} (f : A → B → C) (o : Option A) (p : Option B) → is_some (option_and_then (λ a. option_map (f a) p) o) ≡ true → is_some p ≡ true
 some_second f None p e = absurd (cc e)
@@ -60,21 +59,6 @@ none_left {r} {count} h = by h.items h.counted h.accepted
 module _ {V W U : Type 0} (shape : Shape Tree V) (others : Shape Items W) (f : V → W → U) (whole : Shape Items U)
     (shows : (t : Tree) (ts : Items) → whole.view (item t ts) ≡ option_and_then (λ v. option_map (f v) (others.view ts)) (shape.view t))
     (needs : (t : Tree) (ts : Items) → whole.need (item t ts) ≡ max (shape.need t) (others.need ts)) where
-  pub row_first : {r : Reading} {count : ℕ} → 0 < count → HasRow whole count r → HasFront shape r
-  row_first {r} {count} some h = by h.items h.counted h.fronts h.accepted h.within
-    where
-      by : (ts : Items) → item_count ts ≡ count → AreFronts h.bytes ts h.rest → is_some (whole.view ts) ≡ true → whole.need ts ≤ r.steps → HasFront shape r
-      by no_items e k a w = absurd (omega (arith, e, some))
-      by (item t ts) e k a w = record {
-        bytes = h.bytes;
-        tree = t;
-        rest = items_spelling ts ++ h.rest;
-        left = h.left;
-        front = (item_opened h.bytes h.rest t ts k).0;
-        accepted = some_first (λ v. option_map (f v) (others.view ts)) (shape.view t) (ap is_some (sym (shows t ts)) ∙ a);
-        within = omega (arith, w, needs t ts);
-      }
-
   pub row_others : {old new : Reading} {count : ℕ} {v : V} → 0 < count → TakesFront shape old v new → HasRow whole count old → HasRow others (count - 1) new
   row_others {old} {new} {count} {v} some a h = by h.items h.counted h.fronts h.accepted h.within
     where

@@ -7,7 +7,6 @@ use Rattle.std.specs.declared.borrow.CowStr.{CowStr}
 use Rattle.std.specs.declared.alloc.Global.{Global}
 use Rattle.dagcbor_heads.specs.Head.{head}
 use Rattle.dagcbor_heads.specs.Reading.{Reading, with_steps}
-use Rattle.dagcbor_heads.specs.Fronts.{Takes}
 use Rattle.dagcbor_heads.specs.Causes.{HeadCause, IsNamed}
 use Rattle.dagcbor_heads.specs.Refusals.{Refuses}
 use Rattle.dagcbor_heads.specs.Names.{Names}
@@ -20,6 +19,7 @@ use Rattle.dagcbor_items.specs.Untyped.{TakesItem}
 use Rattle.dagcbor_items.specs.FirstBytes.{BeginsAs}
 use Rattle.dagcbor_items.specs.Places.{Follows}
 use Rattle.dagcbor_items.specs.ItemCauses.{KeyCause}
+use Rattle.dagcbor_items.specs.Entering.{Enters}
 use Rattle.dagcbor_items.specs.Entries.{HasKey}
 use Rattle.dagcbor_items.specs.Variants.{OfHead}
 use Rattle.dagcbor_items.specs.Reads.{HasFront, TakesFront, NoStepIfDeep, Anything}
@@ -66,13 +66,6 @@ pub record HasHeadOf (major : ℕ) (r : Reading) : Type 0 where
   pub fits : count < 2 ^ 64
   pub left : r.left ≡ Some (head major count ++ rest)
   pub step : 0 < r.steps
-
--- a step was spent, and the head of so many items was taken
-pub record Enters (major count : ℕ) (old new : Reading) : Type 0 where
-  pub fits : count < 2 ^ 64
-  pub step : 0 < old.steps
-  pub is_out : new.steps < new.budget
-  pub takes : Takes (with_steps (old.steps - 1) old) (head major count) new
 
 -- why a list or map is not begun, under its name: no step is left, a byte of another major type
 -- stands there, or no head does

@@ -1,6 +1,6 @@
 -- What lists and maps show to a type, and the steps that reading them takes.
 use Rattle.std.specs.Prelude.{◌≡◌, ◌||◌, ℕ, ◌+◌, ◌-◌, ◌≤◌, max, Bool, true, false, List, [], ◌∷◌}
-use Rattle.std.specs.Prelude.{Option, None, Some, option_map, option_and_then, is_some, Result}
+use Rattle.std.specs.Prelude.{Option, None, Some, option_map, option_and_then, Result}
 use Rattle.std.specs.Prelude.{MatchResult, ⊤, map, String, string_bytes}
 use Rattle.std.specs.declared.alloc.Global.{Global}
 use Rattle.std.proofs.Common.{sym, subst}
@@ -11,7 +11,8 @@ use Rattle.dagcbor_heads.specs.declared.error.DecodeError.{DecodeError}
 use Rattle.ipld_tree.specs.Key.{key_cmp}
 use Rattle.ipld_tree.specs.Tree.{Tree, list, mapping, Items, no_items, item, Entries, no_entries}
 use Rattle.ipld_tree.specs.Tree.{entry}
-use Rattle.dagcbor_items.specs.Entries.{AllFollow}
+use Rattle.dagcbor_items.specs.Items.{HasRow}
+use Rattle.dagcbor_items.specs.Entries.{AllFollow, HasEntryRow}
 use Rattle.ipld_tree.specs.Spelling.{item_count, entry_count, AreFronts, AreEntryFronts}
 use Rattle.dagcbor_read.specs.Calls.{Progress}
 use Rattle.dagcbor_items.specs.Reads.{Anything}
@@ -70,17 +71,6 @@ first_then shape others = record {
   need = need_first shape.need others.need;
   borrows = shape.borrows || others.borrows;
 }
-
--- so many items stand at the front which show something, and their need is within the steps left
-pub record HasRow {V : Type 0} (shape : Shape Items V) (count : ℕ) (r : Reading) : Type 0 where
-  pub bytes : List ℕ
-  pub items : Items
-  pub rest : List ℕ
-  pub left : r.left ≡ Some bytes
-  pub counted : item_count items ≡ count
-  pub fronts : AreFronts bytes items rest
-  pub accepted : is_some (shape.view items) ≡ true
-  pub within : shape.need items ≤ r.steps
 
 -- so many items stood at the front which show v, and were taken
 pub record TakesRow {V : Type 0} (shape : Shape Items V) (count : ℕ) (old : Reading) (v : V) (new : Reading) : Type 0 where
@@ -151,18 +141,16 @@ fields_of shape start = record {
   borrows = shape.borrows;
 }
 
--- so many entries stand at the front, behind the last key, which show something, and their need is
--- within the steps left
-pub record HasFields {S : Type 0} (shape : FieldShape S) (state : S) (last : Option (List ℕ)) (count : ℕ) (r : Reading) : Type 0 where
-  pub bytes : List ℕ
-  pub entries : Entries
-  pub rest : List ℕ
-  pub left : r.left ≡ Some bytes
-  pub counted : entry_count entries ≡ count
-  pub follow : AllFollow last entries
-  pub fronts : AreEntryFronts bytes entries rest
-  pub accepted : is_some (view_entries shape.take state entries) ≡ true
-  pub within : need_entries shape.need entries ≤ r.steps
+-- what entries show, taken one after another from a state on
+abbrev pub entries_of : {S : Type 0} → FieldShape S → S → Shape Entries S
+entries_of shape state = record {
+  view = view_entries shape.take state;
+  need = need_entries shape.need;
+  borrows = shape.borrows;
+}
+
+abbrev pub HasFields : {S : Type 0} → FieldShape S → S → Option (List ℕ) → ℕ → Reading → Type 0
+HasFields shape state = HasEntryRow (entries_of shape state)
 
 -- so many entries stood at the front, behind the last key, which bring the state to s, and were
 -- taken

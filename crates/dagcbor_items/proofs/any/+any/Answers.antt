@@ -3,15 +3,16 @@ use Rattle.std.specs.Prelude.{⊤}
 use Rattle.dagcbor_heads.proofs.Refusing.{refused}
 use Rattle.dagcbor_heads.specs.Reading.{Reading}
 use Rattle.dagcbor_heads.proofs.Looking.{looks_both, looks_then, nothing_looked, same_looked}
-use Rattle.dagcbor_items.proofs.Looks.{head_taken, major_left, major_unread, once_left, peeked, stepped_left}
+use Rattle.dagcbor_items.proofs.Looks.{once_left, peeked, stepped_left}
 use Rattle.dagcbor_items.proofs.Looks as looks
 use Rattle.ipld_tree.specs.Tree.{ordered}
 use Rattle.ipld_tree.specs.Ipld.{tree_of, pairs_of}
-use Rattle.dagcbor_items.proofs.Fronts.{head_of, head_refused, byte_refused}
+use Rattle.dagcbor_items.proofs.Fronts.{byte_refused}
 use Rattle.dagcbor_items.proofs.Leaves.{indefinite_refused}
-use Rattle.dagcbor_items.proofs.Steps.{no_step_left, stepped_refused, stepped_taken, stepped_major}
-use Rattle.dagcbor_items.proofs.Lists.{no_list_step, list_refused, list_as_tree, next_refused, one_read, map_pushed}
+use Rattle.dagcbor_items.proofs.Steps.{no_step_left, stepped_refused, more_lacks}
+use Rattle.dagcbor_items.proofs.Lists.{list_refused, list_as_tree, next_refused, one_read, map_pushed}
 use Rattle.dagcbor_items.proofs.Maps as maps
+use Rattle.dagcbor_items.proofs.Entering.{enters}
 use Rattle.dagcbor_items.proofs.Pushes.{ordered_push, pushed_as}
 use Rattle.dagcbor_items.proofs.Keys.{follows_as}
 use Rattle.dagcbor_items.proofs.any.+any.Goals as goal
@@ -29,23 +30,24 @@ read_item-returns-in_err-first-clause-item g t c = refused _ _ _ _ c.from_residu
 pub read_item-returns-then-is_indefinite-clause-item : goal.read_item-returns-then-is_indefinite-clause-item
 read_item-returns-then-is_indefinite-clause-item g t c = indefinite_refused g.row.R-Error.Denot ⊤ 0 c.in_ok-first.ensures.shown (c.is_indefinite.ensures.0 c.if-is_indefinite.true)
 
-pub read_list-returns-in_err-spend_step-clause-item : goal.read_list-returns-in_err-spend_step-clause-item
-read_list-returns-in_err-spend_step-clause-item g t c = refused _ _ _ _ c.from_residual.ensures.1 (no_list_step _ _ c.requires c.in_err-spend_step.ensures)
-
 pub read_list-returns-in_err-count-clause-item : goal.read_list-returns-in_err-count-clause-item
-read_list-returns-in_err-count-clause-item g t c =
-    refused _ _ _ _ c.from_residual-in_err-count.ensures.1 (stepped_refused _ 1 _ c.in_ok-spend_step.ensures (λ x. x) (head_refused ⊤ 1 _ _ _ c.in_err-count.ensures.taken))
+read_list-returns-in_err-count-clause-item g t c = refused _ _ _ _ c.from_residual.ensures.1 (more_lacks ⊤ 1 _ _ _ (λ x. absurd x) c.in_err-count.ensures.count)
 
 pub read_list-returns-in_err-items-clause-item : goal.read_list-returns-in_err-items-clause-item
 read_list-returns-in_err-items-clause-item g t c =
-    let step = c.in_ok-spend_step.ensures in
-    let starts = stepped_major step c.requires in
-    refused _ _ _ _ c.from_residual-in_err-items.ensures.1 (stepped_refused _ 1 _ step (λ x. x) (list_refused _ _ _ starts (head_of 4 starts c.in_ok-count.ensures.taken) (λ x. x) c.in_err-items.ensures.items))
+    refused _ _ _ _ c.from_residual-in_err-items.ensures.1 (list_refused _ _ _ c.requires (enters 4 c.requires c.in_ok-count.ensures.count) (λ x. x) c.in_err-items.ensures.items)
 
 pub read_list-returns-clause-item : goal.read_list-returns-clause-item
-read_list-returns-clause-item g t c =
-    let step = c.in_ok-spend_step.ensures in
-    stepped_taken 1 step (list_as_tree _ (head_of 4 (stepped_major step c.requires) c.in_ok-count.ensures.taken) c.in_ok-items.ensures.items) c.step_out.ensures
+read_list-returns-clause-item g t c = list_as_tree _ (enters 4 c.requires c.in_ok-count.ensures.count) c.in_ok-items.ensures.items c.step_out.ensures
+
+pub read_list-returns-in_err-count-clause-looked : goal.read_list-returns-in_err-count-clause-looked
+read_list-returns-in_err-count-clause-looked g t c = refused _ _ _ _ c.from_residual.ensures.1 c.in_err-count.ensures.looked
+
+pub read_list-returns-in_err-items-clause-looked : goal.read_list-returns-in_err-items-clause-looked
+read_list-returns-in_err-items-clause-looked g t c = refused _ _ _ _ c.from_residual-in_err-items.ensures.1 (looks_then c.in_ok-count.ensures.looked c.in_err-items.ensures.looked)
+
+pub read_list-returns-clause-looked : goal.read_list-returns-clause-looked
+read_list-returns-clause-looked g t c = looks.stepped_taken _ refl (looks_both c.in_ok-count.ensures.looked c.in_ok-items.ensures.looked) c.step_out.ensures
 
 pub read_items-returns-in_err-item-clause-items : goal.read_items-returns-in_err-item-clause-items
 read_items-returns-in_err-item-clause-items g t c =
@@ -63,23 +65,24 @@ read_items-loop-index-init g t c = record { read = search rules; looked = nothin
 pub read_items-returns-in_err-item-clause-looked : goal.read_items-returns-in_err-item-clause-looked
 read_items-returns-in_err-item-clause-looked g t c = refused _ _ _ _ c.from_residual.ensures.1 (looks_then c.loop-index.invariant.looked c.in_err-item.ensures.looked)
 
-pub read_map-returns-in_err-spend_step-clause-item : goal.read_map-returns-in_err-spend_step-clause-item
-read_map-returns-in_err-spend_step-clause-item g t c = refused _ _ _ _ c.from_residual.ensures.1 (maps.no_map_step _ _ c.requires c.in_err-spend_step.ensures)
-
 pub read_map-returns-in_err-count-clause-item : goal.read_map-returns-in_err-count-clause-item
-read_map-returns-in_err-count-clause-item g t c =
-    refused _ _ _ _ c.from_residual-in_err-count.ensures.1 (stepped_refused _ 1 _ c.in_ok-spend_step.ensures (λ x. x) (head_refused ⊤ 1 _ _ _ c.in_err-count.ensures.taken))
+read_map-returns-in_err-count-clause-item g t c = refused _ _ _ _ c.from_residual.ensures.1 (more_lacks ⊤ 1 _ _ _ (λ x. absurd x) c.in_err-count.ensures.count)
 
 pub read_map-returns-in_err-entries-clause-item : goal.read_map-returns-in_err-entries-clause-item
 read_map-returns-in_err-entries-clause-item g t c =
-    let step = c.in_ok-spend_step.ensures in
-    let starts = stepped_major step c.requires in
-    refused _ _ _ _ c.from_residual-in_err-entries.ensures.1 (stepped_refused _ 1 _ step (λ x. x) (maps.map_refused _ _ _ starts (head_of 5 starts c.in_ok-count.ensures.taken) (λ x. x) c.in_err-entries.ensures.entries))
+    refused _ _ _ _ c.from_residual-in_err-entries.ensures.1 (maps.map_refused _ _ _ c.requires (enters 5 c.requires c.in_ok-count.ensures.count) (λ x. x) c.in_err-entries.ensures.entries)
 
 pub read_map-returns-clause-item : goal.read_map-returns-clause-item
-read_map-returns-clause-item g t c =
-    let step = c.in_ok-spend_step.ensures in
-    stepped_taken 1 step (maps.map_as_tree _ (head_of 5 (stepped_major step c.requires) c.in_ok-count.ensures.taken) c.in_ok-entries.ensures.entries) c.step_out.ensures
+read_map-returns-clause-item g t c = maps.map_as_tree _ (enters 5 c.requires c.in_ok-count.ensures.count) c.in_ok-entries.ensures.entries c.step_out.ensures
+
+pub read_map-returns-in_err-count-clause-looked : goal.read_map-returns-in_err-count-clause-looked
+read_map-returns-in_err-count-clause-looked g t c = refused _ _ _ _ c.from_residual.ensures.1 c.in_err-count.ensures.looked
+
+pub read_map-returns-in_err-entries-clause-looked : goal.read_map-returns-in_err-entries-clause-looked
+read_map-returns-in_err-entries-clause-looked g t c = refused _ _ _ _ c.from_residual-in_err-entries.ensures.1 (looks_then c.in_ok-count.ensures.looked c.in_err-entries.ensures.looked)
+
+pub read_map-returns-clause-looked : goal.read_map-returns-clause-looked
+read_map-returns-clause-looked g t c = looks.stepped_taken _ refl (looks_both c.in_ok-count.ensures.looked c.in_ok-entries.ensures.looked) c.step_out.ensures
 
 pub read_entries-loop-index-init : goal.read_entries-loop-index-init
 read_entries-loop-index-init g t c = record {
@@ -131,37 +134,3 @@ read_item-returns-then-is_indefinite-clause-looked g t c = once_left 3 (omega ar
 
 pub read_item-returns-clause-looked : goal.read_item-returns-clause-looked
 read_item-returns-clause-looked g t c = peeked 3 _ _ c.in_ok-first.ensures.looked c.in_ok-first.ensures.shown c.read_of_major.ensures.looked
-
-pub read_list-returns-in_err-spend_step-clause-looked : goal.read_list-returns-in_err-spend_step-clause-looked
-read_list-returns-in_err-spend_step-clause-looked g t c = refused _ _ _ _ c.from_residual.ensures.1 (major_unread c.requires (ap (λ (r : Reading). r.looked) c.in_err-spend_step.ensures.same))
-
-pub read_list-returns-in_err-count-clause-looked : goal.read_list-returns-in_err-count-clause-looked
-read_list-returns-in_err-count-clause-looked g t c =
-    refused _ _ _ _ c.from_residual-in_err-count.ensures.1 (major_left c.requires (stepped_left _ c.in_ok-spend_step.ensures.is c.in_err-count.ensures.looked))
-
-pub read_list-returns-in_err-items-clause-looked : goal.read_list-returns-in_err-items-clause-looked
-read_list-returns-in_err-items-clause-looked g t c =
-    let head = head_taken c.in_ok-count.ensures.looked c.in_ok-count.ensures.taken in
-    refused _ _ _ _ c.from_residual-in_err-items.ensures.1 (stepped_left _ c.in_ok-spend_step.ensures.is (looks_then head c.in_err-items.ensures.looked))
-
-pub read_list-returns-clause-looked : goal.read_list-returns-clause-looked
-read_list-returns-clause-looked g t c =
-    let head = head_taken c.in_ok-count.ensures.looked c.in_ok-count.ensures.taken in
-    looks.stepped_taken _ c.in_ok-spend_step.ensures.is (looks_both head c.in_ok-items.ensures.looked) c.step_out.ensures
-
-pub read_map-returns-in_err-spend_step-clause-looked : goal.read_map-returns-in_err-spend_step-clause-looked
-read_map-returns-in_err-spend_step-clause-looked g t c = refused _ _ _ _ c.from_residual.ensures.1 (major_unread c.requires (ap (λ (r : Reading). r.looked) c.in_err-spend_step.ensures.same))
-
-pub read_map-returns-in_err-count-clause-looked : goal.read_map-returns-in_err-count-clause-looked
-read_map-returns-in_err-count-clause-looked g t c =
-    refused _ _ _ _ c.from_residual-in_err-count.ensures.1 (major_left c.requires (stepped_left _ c.in_ok-spend_step.ensures.is c.in_err-count.ensures.looked))
-
-pub read_map-returns-in_err-entries-clause-looked : goal.read_map-returns-in_err-entries-clause-looked
-read_map-returns-in_err-entries-clause-looked g t c =
-    let head = head_taken c.in_ok-count.ensures.looked c.in_ok-count.ensures.taken in
-    refused _ _ _ _ c.from_residual-in_err-entries.ensures.1 (stepped_left _ c.in_ok-spend_step.ensures.is (looks_then head c.in_err-entries.ensures.looked))
-
-pub read_map-returns-clause-looked : goal.read_map-returns-clause-looked
-read_map-returns-clause-looked g t c =
-    let head = head_taken c.in_ok-count.ensures.looked c.in_ok-count.ensures.taken in
-    looks.stepped_taken _ c.in_ok-spend_step.ensures.is (looks_both head c.in_ok-entries.ensures.looked) c.step_out.ensures

@@ -3,15 +3,16 @@ use Rattle.dagcbor_items.specs.Walks.{WalkLacks}
 use Rattle.dagcbor_heads.proofs.Refusing.{refused}
 use Rattle.dagcbor_heads.specs.Reading.{Reading}
 use Rattle.dagcbor_heads.proofs.Looking.{looks_both, looks_then, nothing_looked, same_looked}
-use Rattle.dagcbor_items.proofs.Looks.{head_taken, major_left, major_unread, once_left, peeked, stepped_left}
+use Rattle.dagcbor_items.proofs.Looks.{once_left, peeked, stepped_left}
 use Rattle.dagcbor_items.proofs.Looks as looks
 use Rattle.ipld_tree.specs.Tree.{no_entries}
-use Rattle.dagcbor_items.proofs.Fronts.{head_of, head_refused, byte_refused}
+use Rattle.dagcbor_items.proofs.Fronts.{byte_refused}
 use Rattle.dagcbor_items.proofs.Leaves.{indefinite_refused}
-use Rattle.dagcbor_items.proofs.Steps.{no_step_left, stepped_taken, stepped_major}
+use Rattle.dagcbor_items.proofs.Steps.{no_step_left, stepped_taken, more_lacks}
 use Rattle.dagcbor_items.proofs.Walking.{lacks_before, step_refused, found_none, item_found, entry_found, leaf_walked, walked_from}
-use Rattle.dagcbor_items.proofs.Lists.{no_list_step, list_refused, list_taken, none_read, next_refused, one_read, all_read}
+use Rattle.dagcbor_items.proofs.Lists.{list_refused, list_taken, none_read, next_refused, one_read, all_read}
 use Rattle.dagcbor_items.proofs.Maps as maps
+use Rattle.dagcbor_items.proofs.Entering.{enters}
 use Rattle.dagcbor_items.proofs.walk.+walk.Goals as goal
 
 pub walk_any-returns-in_err-spend_step-clause-item : goal.walk_any-returns-in_err-spend_step-clause-item
@@ -41,25 +42,25 @@ walk_of_major-returns-in-6-clause-item g t c = c.walk_link.ensures.item
 pub walk_of_major-returns-in_default-clause-item : goal.walk_of_major-returns-in_default-clause-item
 walk_of_major-returns-in_default-clause-item g t c = leaf_walked g.S.LinkSink.holds g.S.LinkSink.takes_memory (g.I.Read.reading c.args.input.now) c.args.links.now c.skip_leaf.result _ c.requires (λ x. omega arith) (λ x. omega arith) (λ x. omega arith) c.skip_leaf.ensures.item
 
-pub walk_list-returns-in_err-spend_step-clause-item : goal.walk_list-returns-in_err-spend_step-clause-item
-walk_list-returns-in_err-spend_step-clause-item g t c = refused _ _ _ _ c.from_residual.ensures.1 (no_list_step _ _ c.requires c.in_err-spend_step.ensures)
-
 pub walk_list-returns-in_err-count-clause-item : goal.walk_list-returns-in_err-count-clause-item
-walk_list-returns-in_err-count-clause-item g t c =
-    refused _ _ _ _ c.from_residual-in_err-count.ensures.1 (step_refused g.S.LinkSink.takes_memory _ 1 _ c.in_ok-spend_step.ensures (head_refused _ 1 _ _ _ c.in_err-count.ensures.taken))
+walk_list-returns-in_err-count-clause-item g t c = refused _ _ _ _ c.from_residual.ensures.1 (more_lacks _ 1 _ _ _ (λ x. absurd x) c.in_err-count.ensures.count)
 
 pub walk_list-returns-in_err-walk_items-clause-item : goal.walk_list-returns-in_err-walk_items-clause-item
 walk_list-returns-in_err-walk_items-clause-item g t c =
-    let step = c.in_ok-spend_step.ensures in
-    let starts = stepped_major step c.requires in
-    let head = head_of 4 starts c.in_ok-count.ensures.taken in
-    refused _ _ _ _ c.from_residual-in_err-walk_items.ensures.1 (step_refused g.S.LinkSink.takes_memory _ 1 _ step (list_refused _ _ _ starts head (lacks_before head.same) c.in_err-walk_items.ensures.items))
+    let parts = enters 4 c.requires c.in_ok-count.ensures.count in
+    refused _ _ _ _ c.from_residual-in_err-walk_items.ensures.1 (list_refused _ _ _ c.requires parts (lacks_before parts.takes.same) c.in_err-walk_items.ensures.items)
 
 pub walk_list-returns-clause-item : goal.walk_list-returns-clause-item
-walk_list-returns-clause-item g t c =
-    let step = c.in_ok-spend_step.ensures in
-    let k = c.in_ok-walk_items.ensures.items in
-    (_, stepped_taken 1 step (list_taken k.0 (head_of 4 (stepped_major step c.requires) c.in_ok-count.ensures.taken) k.1 k.2) c.step_out.ensures, k.3)
+walk_list-returns-clause-item g t c = let k = c.in_ok-walk_items.ensures.items in (_, list_taken k.0 (enters 4 c.requires c.in_ok-count.ensures.count) k.1 k.2 c.step_out.ensures, k.3)
+
+pub walk_list-returns-in_err-count-clause-looked : goal.walk_list-returns-in_err-count-clause-looked
+walk_list-returns-in_err-count-clause-looked g t c = refused _ _ _ _ c.from_residual.ensures.1 c.in_err-count.ensures.looked
+
+pub walk_list-returns-in_err-walk_items-clause-looked : goal.walk_list-returns-in_err-walk_items-clause-looked
+walk_list-returns-in_err-walk_items-clause-looked g t c = refused _ _ _ _ c.from_residual-in_err-walk_items.ensures.1 (looks_then c.in_ok-count.ensures.looked c.in_err-walk_items.ensures.looked)
+
+pub walk_list-returns-clause-looked : goal.walk_list-returns-clause-looked
+walk_list-returns-clause-looked g t c = looks.stepped_taken _ refl (looks_both c.in_ok-count.ensures.looked c.in_ok-walk_items.ensures.looked) c.step_out.ensures
 
 pub walk_items-loop-index-init : goal.walk_items-loop-index-init
 walk_items-loop-index-init g t c = record { read = ([], none_read _ _ _ [] (omega arith) refl, found_none g.S.LinkSink.holds c.args.links.now); looked = nothing_looked _ }
@@ -81,25 +82,25 @@ walk_items-loop-index-preserved g t c =
 pub walk_items-returns-clause-items : goal.walk_items-returns-clause-items
 walk_items-returns-clause-items g t c = let s = c.loop-index.invariant.read in let k = all_read s.0 (omega arith) s.1 in (s.0, k.0, k.1, s.2)
 
-pub walk_map-returns-in_err-spend_step-clause-item : goal.walk_map-returns-in_err-spend_step-clause-item
-walk_map-returns-in_err-spend_step-clause-item g t c = refused _ _ _ _ c.from_residual.ensures.1 (maps.no_map_step _ _ c.requires c.in_err-spend_step.ensures)
-
 pub walk_map-returns-in_err-count-clause-item : goal.walk_map-returns-in_err-count-clause-item
-walk_map-returns-in_err-count-clause-item g t c =
-    refused _ _ _ _ c.from_residual-in_err-count.ensures.1 (step_refused g.S.LinkSink.takes_memory _ 1 _ c.in_ok-spend_step.ensures (head_refused _ 1 _ _ _ c.in_err-count.ensures.taken))
+walk_map-returns-in_err-count-clause-item g t c = refused _ _ _ _ c.from_residual.ensures.1 (more_lacks _ 1 _ _ _ (λ x. absurd x) c.in_err-count.ensures.count)
 
 pub walk_map-returns-in_err-walk_entries-clause-item : goal.walk_map-returns-in_err-walk_entries-clause-item
 walk_map-returns-in_err-walk_entries-clause-item g t c =
-    let step = c.in_ok-spend_step.ensures in
-    let starts = stepped_major step c.requires in
-    let head = head_of 5 starts c.in_ok-count.ensures.taken in
-    refused _ _ _ _ c.from_residual-in_err-walk_entries.ensures.1 (step_refused g.S.LinkSink.takes_memory _ 1 _ step (maps.map_refused _ _ _ starts head (lacks_before head.same) c.in_err-walk_entries.ensures.entries))
+    let parts = enters 5 c.requires c.in_ok-count.ensures.count in
+    refused _ _ _ _ c.from_residual-in_err-walk_entries.ensures.1 (maps.map_refused _ _ _ c.requires parts (lacks_before parts.takes.same) c.in_err-walk_entries.ensures.entries)
 
 pub walk_map-returns-clause-item : goal.walk_map-returns-clause-item
-walk_map-returns-clause-item g t c =
-    let step = c.in_ok-spend_step.ensures in
-    let k = c.in_ok-walk_entries.ensures.entries in
-    (_, stepped_taken 1 step (maps.map_taken k.0 (head_of 5 (stepped_major step c.requires) c.in_ok-count.ensures.taken) k.1 k.2) c.step_out.ensures, k.3)
+walk_map-returns-clause-item g t c = let k = c.in_ok-walk_entries.ensures.entries in (_, maps.map_taken k.0 (enters 5 c.requires c.in_ok-count.ensures.count) k.1 k.2 c.step_out.ensures, k.3)
+
+pub walk_map-returns-in_err-count-clause-looked : goal.walk_map-returns-in_err-count-clause-looked
+walk_map-returns-in_err-count-clause-looked g t c = refused _ _ _ _ c.from_residual.ensures.1 c.in_err-count.ensures.looked
+
+pub walk_map-returns-in_err-walk_entries-clause-looked : goal.walk_map-returns-in_err-walk_entries-clause-looked
+walk_map-returns-in_err-walk_entries-clause-looked g t c = refused _ _ _ _ c.from_residual-in_err-walk_entries.ensures.1 (looks_then c.in_ok-count.ensures.looked c.in_err-walk_entries.ensures.looked)
+
+pub walk_map-returns-clause-looked : goal.walk_map-returns-clause-looked
+walk_map-returns-clause-looked g t c = looks.stepped_taken _ refl (looks_both c.in_ok-count.ensures.looked c.in_ok-walk_entries.ensures.looked) c.step_out.ensures
 
 pub walk_entries-loop-index-init : goal.walk_entries-loop-index-init
 walk_entries-loop-index-init g t c = record { read = (no_entries, maps.none_read _ _ _ no_entries _ (omega arith) refl refl, found_none g.S.LinkSink.holds c.args.links.now); looked = nothing_looked _ }
@@ -152,37 +153,3 @@ walk_item-returns-then-is_indefinite-clause-looked g t c = once_left 3 (omega ar
 
 pub walk_item-returns-clause-looked : goal.walk_item-returns-clause-looked
 walk_item-returns-clause-looked g t c = peeked 3 _ _ c.in_ok-first.ensures.looked c.in_ok-first.ensures.shown c.walk_of_major.ensures.looked
-
-pub walk_list-returns-in_err-spend_step-clause-looked : goal.walk_list-returns-in_err-spend_step-clause-looked
-walk_list-returns-in_err-spend_step-clause-looked g t c = refused _ _ _ _ c.from_residual.ensures.1 (major_unread c.requires (ap (λ (r : Reading). r.looked) c.in_err-spend_step.ensures.same))
-
-pub walk_list-returns-in_err-count-clause-looked : goal.walk_list-returns-in_err-count-clause-looked
-walk_list-returns-in_err-count-clause-looked g t c =
-    refused _ _ _ _ c.from_residual-in_err-count.ensures.1 (major_left c.requires (stepped_left _ c.in_ok-spend_step.ensures.is c.in_err-count.ensures.looked))
-
-pub walk_list-returns-in_err-walk_items-clause-looked : goal.walk_list-returns-in_err-walk_items-clause-looked
-walk_list-returns-in_err-walk_items-clause-looked g t c =
-    let head = head_taken c.in_ok-count.ensures.looked c.in_ok-count.ensures.taken in
-    refused _ _ _ _ c.from_residual-in_err-walk_items.ensures.1 (stepped_left _ c.in_ok-spend_step.ensures.is (looks_then head c.in_err-walk_items.ensures.looked))
-
-pub walk_list-returns-clause-looked : goal.walk_list-returns-clause-looked
-walk_list-returns-clause-looked g t c =
-    let head = head_taken c.in_ok-count.ensures.looked c.in_ok-count.ensures.taken in
-    looks.stepped_taken _ c.in_ok-spend_step.ensures.is (looks_both head c.in_ok-walk_items.ensures.looked) c.step_out.ensures
-
-pub walk_map-returns-in_err-spend_step-clause-looked : goal.walk_map-returns-in_err-spend_step-clause-looked
-walk_map-returns-in_err-spend_step-clause-looked g t c = refused _ _ _ _ c.from_residual.ensures.1 (major_unread c.requires (ap (λ (r : Reading). r.looked) c.in_err-spend_step.ensures.same))
-
-pub walk_map-returns-in_err-count-clause-looked : goal.walk_map-returns-in_err-count-clause-looked
-walk_map-returns-in_err-count-clause-looked g t c =
-    refused _ _ _ _ c.from_residual-in_err-count.ensures.1 (major_left c.requires (stepped_left _ c.in_ok-spend_step.ensures.is c.in_err-count.ensures.looked))
-
-pub walk_map-returns-in_err-walk_entries-clause-looked : goal.walk_map-returns-in_err-walk_entries-clause-looked
-walk_map-returns-in_err-walk_entries-clause-looked g t c =
-    let head = head_taken c.in_ok-count.ensures.looked c.in_ok-count.ensures.taken in
-    refused _ _ _ _ c.from_residual-in_err-walk_entries.ensures.1 (stepped_left _ c.in_ok-spend_step.ensures.is (looks_then head c.in_err-walk_entries.ensures.looked))
-
-pub walk_map-returns-clause-looked : goal.walk_map-returns-clause-looked
-walk_map-returns-clause-looked g t c =
-    let head = head_taken c.in_ok-count.ensures.looked c.in_ok-count.ensures.taken in
-    looks.stepped_taken _ c.in_ok-spend_step.ensures.is (looks_both head c.in_ok-walk_entries.ensures.looked) c.step_out.ensures

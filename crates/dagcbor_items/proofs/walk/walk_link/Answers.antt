@@ -2,7 +2,7 @@ use Rattle.dagcbor_heads.proofs.Refusing.{refused}
 use Rattle.dagcbor_heads.proofs.Looking.{taken_left}
 use Rattle.dagcbor_items.proofs.Links.{link_refused}
 use Rattle.dagcbor_items.specs.Walks.{WalkLacks}
-use Rattle.dagcbor_items.proofs.Walking.{more_lacks}
+use Rattle.dagcbor_items.proofs.Steps.{more_lacks}
 use Rattle.dagcbor_items.proofs.walk.walk_link.Goals as goal
 
 pub returns-in_err-cid-clause-item : goal.returns-in_err-cid-clause-item

@@ -1,0 +1,21 @@
+//! Entering a list or a map, as an item of unknown kind.
+
+ghost use Rattle.std.specs.Prelude.{IfErr};
+ghost use Rattle.dagcbor_heads.specs.Looking.{LooksBehind};
+ghost use Rattle.dagcbor_items.specs.Entering.{StartsWithParts, ReadsCount};
+ghost use Rattle.dagcbor_items.specs.Variants.{OfItem};
+
+use dagcbor_heads::{Read, ReadResult, pull_head, spend_step};
+
+/// Spends a step, and takes the head of a list or map: how many items or entries it has.
+#[tactic(auto, using(crate::proofs::Variants::depth_item, crate::proofs::Variants::named_item))]
+pub(crate) fn enter<R: Read>(name: &str, reader: &mut R) -> ReadResult<u64, R>
+    requires { StartsWithParts (R.reading reader.old) }
+    ensures count { ReadsCount (R.reading reader.old) result (R.reading reader.new) }
+    ensures looked { LooksBehind 3 1 (R.reading reader.old) result (R.reading reader.new) }
+    ensures variant { IfErr result OfItem }
+{
+    spend_step(name, reader)?;
+    let (_, count, _) = pull_head(name, reader)?;
+    Ok(count)
+}

@@ -2,7 +2,7 @@
 use Rattle.std.specs.Prelude.{ℕ, ◌+◌, ◌-◌, ◌^◌, ◌<◌, ◌⊎◌, Result, MatchResult}
 use Rattle.dagcbor_heads.specs.Head.{head}
 use Rattle.dagcbor_heads.specs.Reading.{Reading, with_steps}
-use Rattle.dagcbor_heads.specs.Fronts.{Takes, TakesHead}
+use Rattle.dagcbor_heads.specs.Fronts.{Takes}
 use Rattle.dagcbor_heads.specs.Refusals.{Refuses}
 use Rattle.dagcbor_heads.specs.declared.error.DecodeError.{DecodeError}
 use Rattle.dagcbor_items.specs.ItemCauses.{CauseInside}
@@ -19,16 +19,8 @@ pub record Enters (major count : ℕ) (old new : Reading) : Type 0 where
 abbrev pub StartsWithParts : Reading → Type 0
 StartsWithParts r = StartsWithMajor r 4 ⊎ StartsWithMajor r 5
 
--- a step was spent, and a head of so many parts was taken
-pub record EntersParts (count : ℕ) (old new : Reading) : Type 0 where
-  pub major : ℕ
-  pub first : ℕ
-  pub step : 0 < old.steps
-  pub is_out : new.steps < new.budget
-  pub takes_head : TakesHead (with_steps (old.steps - 1) old) major count first new
-
 -- A list or a map is entered as an item of unknown kind on which one step is already spent.
 abbrev pub ReadsCount : {E : Type 0} → Reading → Result ℕ (DecodeError E) → Reading → Type 0
 ReadsCount old result new = MatchResult result
-    (λ count. EntersParts count old new)
+    (λ count. (major : ℕ) × Enters major count old new)
     (λ e. Refuses (HasItem 1 old) ⊥ ⊥ (CauseInside (old.steps + 1)) old e new)

@@ -97,17 +97,17 @@ now_held r m n name v ok put q =
     by false = refl
 
 -- what is held already
-pub held_already : (name : CidParts) (held : Held) (b : List ℕ) → block_at name held ≡ Some b → HoldsAlso held name b held
-held_already name held b e q = by (is_at (cid_cmp name) q) refl
+pub held_already : (name : CidParts) (blocks : Held) (b : List ℕ) → block_at name blocks ≡ Some b → HoldsAlso blocks name b blocks
+held_already name blocks b e q = by (is_at (cid_cmp name) q) refl
   where
-    by : (c : Bool) → is_at (cid_cmp name) q ≡ c → block_at q held ≡ cond c (Some b) (block_at q held)
-    by true h = ap (λ n. block_at n held) (sym (same_name name q h)) ∙ e
+    by : (c : Bool) → is_at (cid_cmp name) q ≡ c → block_at q blocks ≡ cond c (Some b) (block_at q blocks)
+    by true h = ap (λ n. block_at n blocks) (sym (same_name name q h)) ∙ e
     by false h = refl
 
 -- ---- checking
 
-pub checked : SpellingsAreUnique → (b : List ℕ) (links : List (List ℕ)) → HasTree b → AreFirstLinks b links → HasBlock b
-checked law b links has h = let u = front_unique law b [] h.1 has.0 h.0 (whole_front has.1) h.2 in (has.0, (has.1, subst (λ t. any_need t ≤ 256) (sym u.0) h.3))
+pub check_holds : SpellingsAreUnique → (b : List ℕ) (links : List (List ℕ)) → HasTree b → AreFirstLinks b links → HasBlock b
+check_holds law b links has h = let u = front_unique law b [] h.1 has.0 h.0 (whole_front has.1) h.2 in (has.0, (has.1, subst (λ t. any_need t ≤ 256) (sym u.0) h.3))
 
 need_of : (b : List ℕ) (t : Tree) → IsSpelling b t → ((links : List (List ℕ)) → AreFirstLinks b links → ⊥) → 256 < any_need t
 need_of b t h n = by_contradiction
@@ -122,18 +122,18 @@ not_checked b (unread.RequireBorrowed n) told r h = absurd r
 not_checked b unread.Failed told r h = absurd r
 not_checked b _ told r h = subst (CheckRefused b) (sym h) (tt, λ t s. need_of b t s r.0)
 
-pub kept : (b : List ℕ) (old new : Held) (r : Result CidParts BlockError) → HasBlock b → Stores b old r new → KeepsBlock b old r new
-kept b old new (Ok name) has h = (has, h.0, h.1)
-kept b old new (Err (Encode e)) has h = absurd h.1
-kept b old new (Err (Decode e)) has h = absurd h.1
-kept b old new (Err Collision) has h = h
-kept b old new (Err OutOfMemory) has h = h
+pub block_kept : (b : List ℕ) (old new : Held) (r : Result CidParts BlockError) → HasBlock b → Stores b old r new → KeepsBlock b old r new
+block_kept b old new (Ok name) has h = (has, h.0, h.1)
+block_kept b old new (Err (Encode e)) has h = absurd h.1
+block_kept b old new (Err (Decode e)) has h = absurd h.1
+block_kept b old new (Err Collision) has h = h
+block_kept b old new (Err OutOfMemory) has h = h
 
-pub not_kept : (b : List ℕ) (held : Held) (e : BlockError) → CheckRefused b e → KeepsBlock b held (Err e) held
-not_kept b held (Encode e) h = absurd h
-not_kept b held (Decode e) h = (refl, h)
-not_kept b held Collision h = absurd h
-not_kept b held OutOfMemory h = (refl, tt)
+pub not_kept : (b : List ℕ) (blocks : Held) (e : BlockError) → CheckRefused b e → KeepsBlock b blocks (Err e) blocks
+not_kept b blocks (Encode e) h = absurd h
+not_kept b blocks (Decode e) h = (refl, h)
+not_kept b blocks Collision h = absurd h
+not_kept b blocks OutOfMemory h = (refl, tt)
 
 -- ---- putting
 
@@ -154,9 +154,9 @@ put_done law (Some t) v old new (Err OutOfMemory) a h = (h.0, tt)
 -- ---- getting
 
 module _ {V : Type 0} (shape : Shape Tree V) where
-  pub not_got : (name : CidParts) (held : Held) (b : List ℕ) (e : DecodeError Infallible) (told : BlockError) → IsHeld name b held → (IsReadExcuse e ⊎ HoldsNoValue shape default_steps b) × OfWhole e → TellsOfDecoding e told → GetRefused shape name held told
-  not_got name held b (unread.Read e) told at r h = elim e [ ]
-  not_got name held b unread.OutOfMemory told at r h = subst (GetRefused shape name held) (sym h) tt
-  not_got name held b (unread.RequireBorrowed n) told at r h = absurd r.1
-  not_got name held b unread.Failed told at r h = absurd r.1
-  not_got name held b _ told at r h = elim r.0 [ inl k ↦ absurd k | inr k ↦ subst (GetRefused shape name held) (sym h) (tt, (b, at, k)) ]
+  pub not_got : (name : CidParts) (blocks : Held) (b : List ℕ) (e : DecodeError Infallible) (told : BlockError) → IsHeld name b blocks → (IsReadExcuse e ⊎ HoldsNoValue shape default_steps b) × OfWhole e → TellsOfDecoding e told → GetRefused shape name blocks told
+  not_got name blocks b (unread.Read e) told at r h = elim e [ ]
+  not_got name blocks b unread.OutOfMemory told at r h = subst (GetRefused shape name blocks) (sym h) tt
+  not_got name blocks b (unread.RequireBorrowed n) told at r h = absurd r.1
+  not_got name blocks b unread.Failed told at r h = absurd r.1
+  not_got name blocks b _ told at r h = elim r.0 [ inl k ↦ absurd k | inr k ↦ subst (GetRefused shape name blocks) (sym h) (tt, (b, at, k)) ]

@@ -117,13 +117,13 @@ for_memory es v _ told h m r t = absurd (no_links es v h m r.0)
 
 -- the set has what is to be listed of these blocks
 abbrev pub MissingOf : {X : Type 0} → BTreeMap CidParts X → List (Vec ℕ Global) → BTreeSet CidParts → Type 0
-MissingOf held vs s = (q : CidParts) → (Among q s.keys → AreCidParts q × Linked vs (cid_bytes q) × IsUnheld held q) × (AreCidParts q → Linked vs (cid_bytes q) → IsUnheld held q → Among q s.keys)
+MissingOf blocks vs s = (q : CidParts) → (Among q s.keys → AreCidParts q × Linked vs (cid_bytes q) × IsUnheld blocks q) × (AreCidParts q → Linked vs (cid_bytes q) → IsUnheld blocks q → Among q s.keys)
 
-missing_push : {X : Type 0} → SpellingsAreUnique → CidEqualityIsOfBytes → (held : BTreeMap CidParts X) (vs : List (Vec ℕ Global)) (v : Vec ℕ Global) (t : Tree) (links : List CidParts) (old new : BTreeSet CidParts)
-    → IsSpelling v.items t → forms links ≡ links_of t → MissingOf held vs old → AddedSoFar held links old new → MissingOf held (vs ++ v ∷ []) new
-missing_push law cids held vs v t links old new spelled found h added q = (there, back)
+missing_push : {X : Type 0} → SpellingsAreUnique → CidEqualityIsOfBytes → (blocks : BTreeMap CidParts X) (vs : List (Vec ℕ Global)) (v : Vec ℕ Global) (t : Tree) (links : List CidParts) (old new : BTreeSet CidParts)
+    → IsSpelling v.items t → forms links ≡ links_of t → MissingOf blocks vs old → AddedSoFar blocks links old new → MissingOf blocks (vs ++ v ∷ []) new
+missing_push law cids blocks vs v t links old new spelled found h added q = (there, back)
   where
-    there : Among q new.keys → AreCidParts q × Linked (vs ++ v ∷ []) (cid_bytes q) × IsUnheld held q
+    there : Among q new.keys → AreCidParts q × Linked (vs ++ v ∷ []) (cid_bytes q) × IsUnheld blocks q
     there m = elim ((added.1 q).0 m) [
       | inl o ↦ let k = (h q).0 o in (k.0, (k.1.0, k.1.1, push_among k.1.0 vs v (inl k.1.2), k.1.3, k.1.4), k.2)
       | inr u ↦ (
@@ -140,32 +140,32 @@ missing_push law cids held vs v t links old new spelled found h added q = (there
         let eq = cid_unique cids q k.0 p (all_among AreCidParts links k.0 added.0 k.1) k.2 in
         subst (λ x. Among x links) (sym eq) k.1
 
-    back : AreCidParts q → Linked (vs ++ v ∷ []) (cid_bytes q) → IsUnheld held q → Among q new.keys
+    back : AreCidParts q → Linked (vs ++ v ∷ []) (cid_bytes q) → IsUnheld blocks q → Among q new.keys
     back p l free = elim (among_push l.0 vs v l.2) [
       | inl m ↦ (added.1 q).1 (inl ((h q).1 p (l.0, l.1, m, l.3, l.4) free))
       | inr e ↦ (added.1 q).1 (inr (in_links p l.1 (subst (λ (w : Vec ℕ Global). IsSpelling w.items l.1) e l.3) l.4, free))
     ]
 
 -- the blocks so far, and those to come
-pub record SoFar (held : BTreeMap CidParts (Vec ℕ Global)) (rest : List (Vec ℕ Global)) (s : BTreeSet CidParts) : Type 0 where
+pub record SoFar (blocks : BTreeMap CidParts (Vec ℕ Global)) (rest : List (Vec ℕ Global)) (s : BTreeSet CidParts) : Type 0 where
   pub seen : List (Vec ℕ Global)
-  pub all : values_of held.entries ≡ seen ++ rest
-  pub listed : MissingOf held seen s
+  pub all : values_of blocks.entries ≡ seen ++ rest
+  pub listed : MissingOf blocks seen s
 
 -- the block that comes next is held
-next_held : {held : BTreeMap CidParts (Vec ℕ Global)} {before rest : List (Vec ℕ Global)} {v : Vec ℕ Global} {s : BTreeSet CidParts} → before ≡ v ∷ rest → SoFar held before s → Among v (values_of held.entries)
-next_held {held} {before} {rest} {v} is h = subst (Among v) (sym (h.all ∙ ap (λ l. h.seen ++ l) is)) (among_mid h.seen v rest)
+next_held : {blocks : BTreeMap CidParts (Vec ℕ Global)} {before rest : List (Vec ℕ Global)} {v : Vec ℕ Global} {s : BTreeSet CidParts} → before ≡ v ∷ rest → SoFar blocks before s → Among v (values_of blocks.entries)
+next_held {blocks} {before} {rest} {v} is h = subst (Among v) (sym (h.all ∙ ap (λ l. h.seen ++ l) is)) (among_mid h.seen v rest)
 
-pub next_refused : (held : BTreeMap CidParts (Vec ℕ Global)) (before rest : List (Vec ℕ Global)) (v : Vec ℕ Global) (s : BTreeSet CidParts) (e : DecodeError Infallible) (told : BlockError)
-    → ∥ AllByRecursion IsSound held.entries ∥₁ → before ≡ v ∷ rest → SoFar held before s → LinksRefused e v.items → TellsOfDecoding e told → told ≡ OutOfMemory
-next_refused held before rest v s e told sound is h = for_memory held.entries v e told sound (next_held is h)
+pub next_refused : (blocks : BTreeMap CidParts (Vec ℕ Global)) (before rest : List (Vec ℕ Global)) (v : Vec ℕ Global) (s : BTreeSet CidParts) (e : DecodeError Infallible) (told : BlockError)
+    → ∥ AllByRecursion IsSound blocks.entries ∥₁ → before ≡ v ∷ rest → SoFar blocks before s → LinksRefused e v.items → TellsOfDecoding e told → told ≡ OutOfMemory
+next_refused blocks before rest v s e told sound is h = for_memory blocks.entries v e told sound (next_held is h)
 
-pub so_far_next : SpellingsAreUnique → CidEqualityIsOfBytes → (held : BTreeMap CidParts (Vec ℕ Global)) (before rest : List (Vec ℕ Global)) (v : Vec ℕ Global) (links : List CidParts) (old new : BTreeSet CidParts)
-    → ∥ AllByRecursion IsSound held.entries ∥₁ → before ≡ v ∷ rest → SoFar held before old → AreFirstLinks v.items (forms links) → AddedSoFar held links old new → SoFar held rest new
-so_far_next law cids held before rest v links old new sound is h first added =
-    let all : values_of held.entries ≡ h.seen ++ v ∷ rest = h.all ∙ ap (λ l. h.seen ++ l) is in
-    let b = links_of_block law held.entries v (forms links) sound (next_held is h) first in
-    record { seen = h.seen ++ v ∷ []; all = all ∙ sym (append_assoc h.seen (v ∷ []) rest); listed = missing_push law cids held h.seen v b.0 links old new b.1 b.2 h.listed added }
+pub so_far_next : SpellingsAreUnique → CidEqualityIsOfBytes → (blocks : BTreeMap CidParts (Vec ℕ Global)) (before rest : List (Vec ℕ Global)) (v : Vec ℕ Global) (links : List CidParts) (old new : BTreeSet CidParts)
+    → ∥ AllByRecursion IsSound blocks.entries ∥₁ → before ≡ v ∷ rest → SoFar blocks before old → AreFirstLinks v.items (forms links) → AddedSoFar blocks links old new → SoFar blocks rest new
+so_far_next law cids blocks before rest v links old new sound is h first added =
+    let all : values_of blocks.entries ≡ h.seen ++ v ∷ rest = h.all ∙ ap (λ l. h.seen ++ l) is in
+    let b = links_of_block law blocks.entries v (forms links) sound (next_held is h) first in
+    record { seen = h.seen ++ v ∷ []; all = all ∙ sym (append_assoc h.seen (v ∷ []) rest); listed = missing_push law cids blocks h.seen v b.0 links old new b.1 b.2 h.listed added }
 
 -- ---- the whole
 
@@ -193,48 +193,48 @@ not_unheld q v (x ∷ es) (inr m) e = by (is_at (cid_cmp q) x.0) e (λ l. not_un
     by true l f = absurd (cc l)
     by false l f = f l
 
-module _ (cids : CidEqualityIsOfBytes) (held : BTreeMap CidParts (Vec ℕ Global)) (sound : ∥ AllByRecursion IsSound held.entries ∥₁) where
-  linked_in : (form : List ℕ) → Linked (values_of held.entries) form → IsLinked form (shown held.entries)
+module _ (cids : CidEqualityIsOfBytes) (blocks : BTreeMap CidParts (Vec ℕ Global)) (sound : ∥ AllByRecursion IsSound blocks.entries ∥₁) where
+  linked_in : (form : List ℕ) → Linked (values_of blocks.entries) form → IsLinked form (shown blocks.entries)
   linked_in form l =
-      let e = map_among (λ (e : Entry). e.1) l.0 held.entries l.2 in
-      ((e.0.0, e.0.1.items), l.1, among_map (λ (e : Entry). (e.0, e.1.items)) e.0 held.entries e.1, subst (λ (w : Vec ℕ Global). IsSpelling w.items l.1) e.2 l.3, l.4)
+      let e = map_among (λ (e : Entry). e.1) l.0 blocks.entries l.2 in
+      ((e.0.0, e.0.1.items), l.1, among_map (λ (e : Entry). (e.0, e.1.items)) e.0 blocks.entries e.1, subst (λ (w : Vec ℕ Global). IsSpelling w.items l.1) e.2 l.3, l.4)
 
-  in_linked : (form : List ℕ) → IsLinked form (shown held.entries) → Linked (values_of held.entries) form
+  in_linked : (form : List ℕ) → IsLinked form (shown blocks.entries) → Linked (values_of blocks.entries) form
   in_linked form l =
-      let e = map_among (λ (e : Entry). (e.0, e.1.items)) l.0 held.entries l.2 in
-      (e.0.1, l.1, among_map (λ (e : Entry). e.1) e.0 held.entries e.1, subst (λ b. IsSpelling b l.1) (ap (λ (p : CidParts × List ℕ). p.1) e.2) l.3, l.4)
+      let e = map_among (λ (e : Entry). (e.0, e.1.items)) l.0 blocks.entries l.2 in
+      (e.0.1, l.1, among_map (λ (e : Entry). e.1) e.0 blocks.entries e.1, subst (λ b. IsSpelling b l.1) (ap (λ (p : CidParts × List ℕ). p.1) e.2) l.3, l.4)
 
-  unnamed : (q : CidParts) → AreCidParts q → IsUnheld held q → NamesNone (cid_bytes q) (shown held.entries)
+  unnamed : (q : CidParts) → AreCidParts q → IsUnheld blocks q → NamesNone (cid_bytes q) (shown blocks.entries)
   unnamed q p free e m same =
-      let k = map_among (λ (e : Entry). (e.0, e.1.items)) e held.entries m in
+      let k = map_among (λ (e : Entry). (e.0, e.1.items)) e blocks.entries m in
       not_there sound (λ s.
-      let b = all_among IsSound held.entries k.0 s k.1 in
+      let b = all_among IsSound blocks.entries k.0 s k.1 in
       let key : cid_bytes k.0.0 ≡ cid_bytes q = sym (ap (λ (p : CidParts × List ℕ). cid_bytes p.0) k.2) ∙ same in
       let is = cid_unique cids k.0.0 q (subst AreCidParts (sym b.named) (name_is_cid k.0.1.items)) p key in
-      not_unheld q k.0.1 held.entries (subst (λ (n : CidParts). Among (n, k.0.1) held.entries) is k.1) free)
+      not_unheld q k.0.1 blocks.entries (subst (λ (n : CidParts). Among (n, k.0.1) blocks.entries) is k.1) free)
 
-  names_unheld : (q : CidParts) → NamesNone (cid_bytes q) (shown held.entries) → IsUnheld held q
-  names_unheld q n = by (get cid_cmp held q) refl
+  names_unheld : (q : CidParts) → NamesNone (cid_bytes q) (shown blocks.entries) → IsUnheld blocks q
+  names_unheld q n = by (get cid_cmp blocks q) refl
     where
-      by : (o : Option (Vec ℕ Global)) → get cid_cmp held q ≡ o → get cid_cmp held q ≡ None
+      by : (o : Option (Vec ℕ Global)) → get cid_cmp blocks q ≡ o → get cid_cmp blocks q ≡ None
       by None e = e
-      by (Some v) e = absurd (n (q, v.items) (among_map (λ (e : Entry). (e.0, e.1.items)) (q, v) held.entries (found_among q held.entries v e)) refl)
+      by (Some v) e = absurd (n (q, v.items) (among_map (λ (e : Entry). (e.0, e.1.items)) (q, v) blocks.entries (found_among q blocks.entries v e)) refl)
 
-  pub all_listed : (s : BTreeSet CidParts) (rest : List (Vec ℕ Global)) (items : List CidParts) → rest ≡ [] → SoFar held rest s → items ≡ s.keys
-      → (form : List ℕ) → Among form (forms items) ↔ (IsLinked form (shown held.entries) × NamesNone form (shown held.entries))
+  pub all_listed : (s : BTreeSet CidParts) (rest : List (Vec ℕ Global)) (items : List CidParts) → rest ≡ [] → SoFar blocks rest s → items ≡ s.keys
+      → (form : List ℕ) → Among form (forms items) ↔ (IsLinked form (shown blocks.entries) × NamesNone form (shown blocks.entries))
   all_listed s rest items end h is form = (
     λ m.
         let k = map_among cid_bytes form items m in
         let w = (h.listed k.0).0 (subst (Among k.0) is k.1) in
-        subst (λ f. IsLinked f (shown held.entries) × NamesNone f (shown held.entries)) (sym k.2)
+        subst (λ f. IsLinked f (shown blocks.entries) × NamesNone f (shown blocks.entries)) (sym k.2)
         (linked_in (cid_bytes k.0) (subst (λ vs. Linked vs (cid_bytes k.0)) seen w.1), unnamed k.0 w.0 w.2),
     λ m.
         let c = links_are_cids m.0.1 form m.0.3.well_formed m.0.4 in
         let l = subst (λ f. Linked h.seen f) c.2 (subst (λ vs. Linked vs form) (sym seen) (in_linked form m.0)) in
-        let n = subst (λ f. NamesNone f (shown held.entries)) c.2 m.1 in
+        let n = subst (λ f. NamesNone f (shown blocks.entries)) c.2 m.1 in
         let found = (h.listed c.0).1 c.1 l (names_unheld c.0 n) in
         subst (λ f. Among f (forms items)) (sym c.2) (among_map cid_bytes c.0 items (subst (Among c.0) (sym is) found)),
   )
     where
-      seen : h.seen ≡ values_of held.entries
+      seen : h.seen ≡ values_of blocks.entries
       seen = sym (h.all ∙ ap (λ l. h.seen ++ l) end ∙ append-nil h.seen)

@@ -56,14 +56,14 @@ among_any q (k ∷ ks) (inr h) = by (is_at (cid_cmp q) k) (among_any q ks h)
 
 -- ---- one link
 
-pub held_link : {X : Type 0} (held : BTreeMap CidParts X) (link : CidParts) (s : BTreeSet CidParts) → AreCidParts link → true ≡ is_some (get cid_cmp held link) → AddsOne {E = ℕ} held link s (Ok tt) s
-held_link held link s valid some = (
+pub held_link : {X : Type 0} (blocks : BTreeMap CidParts X) (link : CidParts) (s : BTreeSet CidParts) → AreCidParts link → true ≡ is_some (get cid_cmp blocks link) → AddsOne {E = ℕ} blocks link s (Ok tt) s
+held_link blocks link s valid some = (
   valid,
   λ q. (
     inl,
     λ h. elim h [
       | inl m ↦ m
-      | inr u ↦ absurd (no_some (get cid_cmp held link) some (subst (IsUnheld held) u.0 u.1))
+      | inr u ↦ absurd (no_some (get cid_cmp blocks link) some (subst (IsUnheld blocks) u.0 u.1))
     ],
   ),
 )
@@ -75,9 +75,9 @@ pub unheld : {X : Type 0} (o : Option X) → false ≡ is_some o → o ≡ None
 unheld None e = refl
 unheld (Some x) e = absurd (cc e)
 
-pub put_link : {X : Type 0} (held : BTreeMap CidParts X) (link : CidParts) (old new : BTreeSet CidParts) → AreCidParts link → IsUnheld held link
-    → ((q : CidParts) → set.contains cid_cmp new q ≡ cond (is_at (cid_cmp link) q) true (set.contains cid_cmp old q)) → AddsOne {E = ℕ} held link old (Ok tt) new
-put_link held link old new valid free put = (
+pub put_link : {X : Type 0} (blocks : BTreeMap CidParts X) (link : CidParts) (old new : BTreeSet CidParts) → AreCidParts link → IsUnheld blocks link
+    → ((q : CidParts) → set.contains cid_cmp new q ≡ cond (is_at (cid_cmp link) q) true (set.contains cid_cmp old q)) → AddsOne {E = ℕ} blocks link old (Ok tt) new
+put_link blocks link old new valid free put = (
   valid,
   λ q. (
     λ m. there q (is_at (cid_cmp link) q) refl (sym (put q) ∙ among_any q new.keys m),
@@ -85,15 +85,15 @@ put_link held link old new valid free put = (
   ),
 )
   where
-    there : (q : CidParts) (b : Bool) → is_at (cid_cmp link) q ≡ b → cond b true (set.contains cid_cmp old q) ≡ true → Among q old.keys ⊎ ((q ≡ link) × IsUnheld held q)
-    there q true t m = let same = at_same link q t in inr (sym same, subst (IsUnheld held) same free)
+    there : (q : CidParts) (b : Bool) → is_at (cid_cmp link) q ≡ b → cond b true (set.contains cid_cmp old q) ≡ true → Among q old.keys ⊎ ((q ≡ link) × IsUnheld blocks q)
+    there q true t m = let same = at_same link q t in inr (sym same, subst (IsUnheld blocks) same free)
     there q false t m = inl (any_among q old.keys m)
 
     kept : (b : Bool) {x : Bool} → x ≡ true → cond b true x ≡ true
     kept true e = refl
     kept false e = e
 
-    back : (q : CidParts) → Among q old.keys ⊎ ((q ≡ link) × IsUnheld held q) → cond (is_at (cid_cmp link) q) true (set.contains cid_cmp old q) ≡ true
+    back : (q : CidParts) → Among q old.keys ⊎ ((q ≡ link) × IsUnheld blocks q) → cond (is_at (cid_cmp link) q) true (set.contains cid_cmp old q) ≡ true
     back q (inl m) = kept (is_at (cid_cmp link) q) (among_any q old.keys m)
     back q (inr u) = ap (λ b. cond b true (set.contains cid_cmp old q)) (same_at link q (sym u.0))
 
@@ -118,13 +118,13 @@ all_push (x ∷ xs) y h p = (h.0, all_push xs y h.1 p)
 
 -- what was added of the first so many links
 abbrev pub AddedSoFar : {X : Type 0} → BTreeMap CidParts X → List CidParts → BTreeSet CidParts → BTreeSet CidParts → Type 0
-AddedSoFar held links old new = AllByRecursion AreCidParts links × ((q : CidParts) → Among q new.keys ↔ (Among q old.keys ⊎ (Among q links × IsUnheld held q)))
+AddedSoFar blocks links old new = AllByRecursion AreCidParts links × ((q : CidParts) → Among q new.keys ↔ (Among q old.keys ⊎ (Among q links × IsUnheld blocks q)))
 
-pub added_none : {X : Type 0} (held : BTreeMap CidParts X) (s : BTreeSet CidParts) → AddedSoFar held [] s s
-added_none held s = (tt, λ q. (inl, λ h. elim h [ inl m ↦ m | inr u ↦ absurd u.0 ]))
+pub added_none : {X : Type 0} (blocks : BTreeMap CidParts X) (s : BTreeSet CidParts) → AddedSoFar blocks [] s s
+added_none blocks s = (tt, λ q. (inl, λ h. elim h [ inl m ↦ m | inr u ↦ absurd u.0 ]))
 
-added_push : {X : Type 0} (held : BTreeMap CidParts X) (links : List CidParts) (link : CidParts) (old mid new : BTreeSet CidParts) → AddedSoFar held links old mid → AddsOne {E = ℕ} held link mid (Ok tt) new → AddedSoFar held (links ++ link ∷ []) old new
-added_push held links link old mid new h one = (
+added_push : {X : Type 0} (blocks : BTreeMap CidParts X) (links : List CidParts) (link : CidParts) (old mid new : BTreeSet CidParts) → AddedSoFar blocks links old mid → AddsOne {E = ℕ} blocks link mid (Ok tt) new → AddedSoFar blocks (links ++ link ∷ []) old new
+added_push blocks links link old mid new h one = (
   all_push links link h.0 one.0,
   λ q. (
     λ m. elim ((one.1 q).0 m) [
@@ -141,13 +141,13 @@ added_push held links link old mid new h one = (
   ),
 )
 
-pub added_next : {X : Type 0} (held : BTreeMap CidParts X) (links : List CidParts) (i : ℕ) (link : CidParts) (old mid new : BTreeSet CidParts) → i < length links → link ≡ get_or links i link
-    → AddedSoFar held (take i links) old mid → AddsOne {E = ℕ} held link mid (Ok tt) new → AddedSoFar held (take (i + 1) links) old new
-added_next held links i link old mid new within is h one =
+pub added_next : {X : Type 0} (blocks : BTreeMap CidParts X) (links : List CidParts) (i : ℕ) (link : CidParts) (old mid new : BTreeSet CidParts) → i < length links → link ≡ get_or links i link
+    → AddedSoFar blocks (take i links) old mid → AddsOne {E = ℕ} blocks link mid (Ok tt) new → AddedSoFar blocks (take (i + 1) links) old new
+added_next blocks links i link old mid new within is h one =
     let more : take i links ++ link ∷ [] ≡ take (i + 1) links = ap (λ y. take i links ++ y ∷ []) is ∙ sym (take-suc links i link within) ∙ ap (λ n. take n links) (sym (add-one i)) in
-    subst (λ ls. AddedSoFar held ls old new) more (added_push held (take i links) link old mid new h one)
+    subst (λ ls. AddedSoFar blocks ls old new) more (added_push blocks (take i links) link old mid new h one)
 
-pub added_all : {X : Type 0} (held : BTreeMap CidParts X) (links : List CidParts) (i : ℕ) (old new : BTreeSet CidParts) → i ≤ length links → length links ≤ i → AddedSoFar held (take i links) old new → AddedSoFar held links old new
-added_all held links i old new below end h =
+pub added_all : {X : Type 0} (blocks : BTreeMap CidParts X) (links : List CidParts) (i : ℕ) (old new : BTreeSet CidParts) → i ≤ length links → length links ≤ i → AddedSoFar blocks (take i links) old new → AddedSoFar blocks links old new
+added_all blocks links i old new below end h =
     let same : i ≡ length links = omega (arith, below, end) in
-    subst (λ ls. AddedSoFar held ls old new) (ap (λ n. take n links) same ∙ take-length links) h
+    subst (λ ls. AddedSoFar blocks ls old new) (ap (λ n. take n links) same ∙ take-length links) h

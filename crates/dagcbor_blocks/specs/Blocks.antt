@@ -32,11 +32,11 @@ abbrev pub Held : Type 0
 Held = List (CidParts × List ℕ)
 
 abbrev pub held_blocks : Blocks → Held
-held_blocks s = map (λ e. (e.0, e.1.items)) s.held.entries
+held_blocks s = map (λ e. (e.0, e.1.items)) s.blocks.entries
 
 -- the block under the name
 abbrev pub block_at : CidParts → Held → Option (List ℕ)
-block_at name held = lookup (is_at (cid_cmp name)) held
+block_at name blocks = lookup (is_at (cid_cmp name)) blocks
 
 -- under the name stand these bytes, and under each other name what stood there
 abbrev pub HoldsAlso : Held → CidParts → List ℕ → Held → Type 0
@@ -121,25 +121,25 @@ Puts tree old result new = MatchResult result
 
 -- the bytes are held under the name, by which their SHA-256 is its digest
 abbrev pub IsHeld : CidParts → List ℕ → Held → Type 0
-IsHeld name b held = (block_at name held ≡ Some b) × (name.digest ≡ sha256 b)
+IsHeld name b blocks = (block_at name blocks ≡ Some b) × (name.digest ≡ sha256 b)
 
 abbrev pub GetRefused : {V : Type 0} → Shape Tree V → CidParts → Held → BlockError → Type 0
-GetRefused shape name held (Encode e) = ⊥
-GetRefused {V} shape name held (Decode e) = IsOfBytes e
-    × ((b : List ℕ) × IsHeld name b held × ((v : V) → IsWhole shape default_steps b v → ⊥))
-GetRefused shape name held Collision = ⊥
-GetRefused shape name held OutOfMemory = ⊤
+GetRefused shape name blocks (Encode e) = ⊥
+GetRefused {V} shape name blocks (Decode e) = IsOfBytes e
+    × ((b : List ℕ) × IsHeld name b blocks × ((v : V) → IsWhole shape default_steps b v → ⊥))
+GetRefused shape name blocks Collision = ⊥
+GetRefused shape name blocks OutOfMemory = ⊤
 
 abbrev pub GetsSome : {T V : Type 0} → (T → V) → Shape Tree V → CidParts → Held → Option T → Type 0
-GetsSome show shape name held None = block_at name held ≡ None
-GetsSome show shape name held (Some v) = (b : List ℕ) × IsHeld name b held
+GetsSome show shape name blocks None = block_at name blocks ≡ None
+GetsSome show shape name blocks (Some v) = (b : List ℕ) × IsHeld name b blocks
     × IsWhole shape default_steps b (show v)
 
 -- None is answered exactly where no block has the name, else what the tree shows whose spelling is
 -- held; refused only where the type does not accept that tree within 256 steps.
 abbrev pub Gets : {T V : Type 0} → (T → V) → Shape Tree V → CidParts → Held
     → Result (Option T) BlockError → Type 0
-Gets show shape name held result = MatchResult result (GetsSome show shape name held) (GetRefused shape name held)
+Gets show shape name blocks result = MatchResult result (GetsSome show shape name blocks) (GetRefused shape name blocks)
 
 -- ---- links
 
@@ -150,17 +150,17 @@ Among x (y ∷ ys) = (x ≡ y) ⊎ Among x ys
 
 -- the map has no entry at the name
 abbrev pub IsUnheld : {X : Type 0} → BTreeMap CidParts X → CidParts → Type 0
-IsUnheld held name = get cid_cmp held name ≡ None
+IsUnheld blocks name = get cid_cmp blocks name ≡ None
 
 -- The link is put into the set where it names no entry of the map.
 abbrev pub AddsOne : {X E : Type 0} → BTreeMap CidParts X → CidParts → BTreeSet CidParts
     → Result (Unit {0}) E → BTreeSet CidParts → Type 0
-AddsOne held link old result new = OnOk result (AreCidParts link × ((q : CidParts) → Among q new.keys ↔ (Among q old.keys ⊎ ((q ≡ link) × IsUnheld held q))))
+AddsOne blocks link old result new = OnOk result (AreCidParts link × ((q : CidParts) → Among q new.keys ↔ (Among q old.keys ⊎ ((q ≡ link) × IsUnheld blocks q))))
 
 -- The links that name no entry of the map are put into the set.
 abbrev pub AddsMissing : {X E : Type 0} → BTreeMap CidParts X → List CidParts → BTreeSet CidParts
     → Result (Unit {0}) E → BTreeSet CidParts → Type 0
-AddsMissing held links old result new = OnOk result (AllByRecursion AreCidParts links × ((q : CidParts) → Among q new.keys ↔ (Among q old.keys ⊎ (Among q links × IsUnheld held q))))
+AddsMissing blocks links old result new = OnOk result (AllByRecursion AreCidParts links × ((q : CidParts) → Among q new.keys ↔ (Among q old.keys ⊎ (Among q links × IsUnheld blocks q))))
 
 -- The CIDs of a set are listed, each once, in their order.
 abbrev pub ListsSet : {E : Type 0} → List CidParts → Result (Vec CidParts Global) E → Type 0
@@ -168,15 +168,15 @@ ListsSet keys result = IfOk result (λ v. IsStrictlySortedBy cid_cmp v.items × 
 
 -- the binary form is that of a link in a held block
 abbrev pub IsLinked : List ℕ → Held → Type 0
-IsLinked form held = (e : CidParts × List ℕ) × (t : Tree) × Among e held × IsSpelling e.1 t
+IsLinked form blocks = (e : CidParts × List ℕ) × (t : Tree) × Among e blocks × IsSpelling e.1 t
     × Among form (links_of t)
 
 -- it names no held block
 abbrev pub NamesNone : List ℕ → Held → Type 0
-NamesNone form held = (e : CidParts × List ℕ) → Among e held → cid_bytes e.0 ≢ form
+NamesNone form blocks = (e : CidParts × List ℕ) → Among e blocks → cid_bytes e.0 ≢ form
 
 -- The links in held blocks that name no held block are listed, each once, in their order.
 abbrev pub ListsMissing : Held → Result (Vec CidParts Global) BlockError → Type 0
-ListsMissing held result = MatchResult result
-    (λ v. IsStrictlySortedBy cid_cmp v.items × ((form : List ℕ) → Among form (forms v.items) ↔ (IsLinked form held × NamesNone form held)))
+ListsMissing blocks result = MatchResult result
+    (λ v. IsStrictlySortedBy cid_cmp v.items × ((form : List ℕ) → Among form (forms v.items) ↔ (IsLinked form blocks × NamesNone form blocks)))
     (λ e. e ≡ OutOfMemory)

@@ -40,8 +40,8 @@ impl Blocks {
     pub fn new(alloc: Global) -> Blocks
         ensures { held_blocks result ≡ [] }
     {
-        let held = BTreeMap::new(alloc);
-        Blocks { alloc, held }
+        let blocks = BTreeMap::new(alloc);
+        Blocks { alloc, blocks }
     }
 
     /// Keeps the value's spelling under its name. A refusal changes nothing.
@@ -70,13 +70,13 @@ impl Blocks {
         ensures { Stores bytes.items (held_blocks self.old) result (held_blocks self.new) }
     {
         let name = name_of_bytes(&bytes);
-        if let Some(held) = self.held.get(&name) {
-            if held.as_slice() == bytes.as_slice() {
+        if let Some(other) = self.blocks.get(&name) {
+            if other.as_slice() == bytes.as_slice() {
                 return Ok(name);
             }
             return Err(BlockError::Collision);
         }
-        if self.held.insert(name, bytes).is_err() {
+        if self.blocks.insert(name, bytes).is_err() {
             return Err(BlockError::OutOfMemory);
         }
         Ok(name)
@@ -86,7 +86,7 @@ impl Blocks {
     pub fn get<'a, T: Deserialize<'a>>(&'a self, name: &Cid) -> Result<Option<T>, BlockError>
         ensures { Gets T.meaning T.shape name.now (held_blocks self.now) result }
     {
-        match self.held.get(name) {
+        match self.blocks.get(name) {
             None => Ok(None),
             Some(block) => match from_slice::<T>(self.alloc, block) {
                 Ok(value) => Ok(Some(value)),
@@ -102,7 +102,7 @@ impl Blocks {
         laws::spelling_unique();
         laws::cid_equality();
         let mut missing = BTreeSet::new(self.alloc);
-        for block in self.held.values() {
+        for block in self.blocks.values() {
             let links = match links_from_slice(self.alloc, block) {
                 Ok(links) => links,
                 Err(error) => return Err(BlockError::of_decoding(error)),
@@ -119,7 +119,7 @@ impl Blocks {
 
     /// Adds those of the links that name no held block.
     fn add_missing(&self, links: &[Cid], missing: &mut BTreeSet<Cid>) -> Result<(), AllocError>
-        ensures { AddsMissing self.now.held links.now missing.old result missing.new }
+        ensures { AddsMissing self.now.blocks links.now missing.old result missing.new }
     {
         for link in links {
             self.add_if_missing(link, missing)?;
@@ -128,11 +128,11 @@ impl Blocks {
     }
 
     fn add_if_missing(&self, link: &Cid, missing: &mut BTreeSet<Cid>) -> Result<(), AllocError>
-        ensures { AddsOne self.now.held link.now missing.old result missing.new }
+        ensures { AddsOne self.now.blocks link.now missing.old result missing.new }
     {
         // What is known of a CID comes with its version.
         let _version = link.version();
-        let is_held = self.held.contains_key(link);
+        let is_held = self.blocks.contains_key(link);
         if is_held {
             return Ok(());
         }

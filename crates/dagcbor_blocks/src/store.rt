@@ -11,6 +11,6 @@ use std::collections::BTreeMap;
 #[derive(Drop)]
 pub struct Blocks {
     pub(crate) alloc: Global,
-    pub(crate) held: BTreeMap<Cid, Vec<u8>>,
-    ghost sound: { ∥ AllByRecursion IsSound held.entries ∥₁ },
+    pub(crate) blocks: BTreeMap<Cid, Vec<u8>>,
+    ghost sound: { ∥ AllByRecursion IsSound blocks.entries ∥₁ },
 }

@@ -12,7 +12,7 @@ use Rattle.dagcbor_heads.specs.declared.error.DecodeError.TheVariants.{Read, Req
 use Rattle.ipld_tree.specs.Tree.{Tree, any_need, links_of}
 use Rattle.ipld_tree.specs.Spelling.{IsFront}
 use Rattle.dagcbor_items.specs.Slices.{LinksRefused}
-use Rattle.dagcbor_ffi.specs.Packed.{packed, packed_links, overwritten, put_at, Puts, HasPut, HoldsPacked}
+use Rattle.dagcbor_ffi.specs.Packed.{packed_cids, packed_links, with_front, put_at, Puts, HasPut, HoldsPacked}
 use Rattle.dagcbor_ffi.specs.declared.links.PackedLinks.{PackedLinks}
 use Rattle.dagcbor_ffi.proofs.Packing.{packed_push}
 
@@ -65,14 +65,14 @@ took [] cid p mid q g k h = absurd h
 took ([] ∷ more) cid p mid q g k h = absurd h
 took ((name ∷ []) ∷ []) cid p mid q g k h = absurd h
 took ((name ∷ []) ∷ before ∷ found) cid p mid q g k h =
-    let byte = put_more name before (packed found) (length cid ∷ []) p mid h g in
-    let both = put_more name before (packed found ++ length cid ∷ []) cid mid q byte k in
-    subst (λ bs. HasPut name before bs q) (append_assoc (packed found) (length cid ∷ []) cid ∙ sym (packed_push found cid)) both
+    let byte = put_more name before (packed_cids found) (length cid ∷ []) p mid h g in
+    let both = put_more name before (packed_cids found ++ length cid ∷ []) cid mid q byte k in
+    subst (λ bs. HasPut name before bs q) (append_assoc (packed_cids found) (length cid ∷ []) cid ∙ sym (packed_push found cid)) both
 took ((name ∷ other ∷ more) ∷ links) cid p mid q g k h = absurd h
 
 -- nothing was put yet
-pub begun : (p : PackedLinks) (name : ℕ) (before : List ℕ) → p.out.ghost_name ≡ name → p.out.now ≡ before → p.needed ≡ 0 → length before < 2 ^ 64 → HoldsPacked p ((name ∷ []) ∷ before ∷ [])
-begun p name before n e z small = record {
+pub nothing_put : (p : PackedLinks) (name : ℕ) (before : List ℕ) → p.out.ghost_name ≡ name → p.out.now ≡ before → p.needed ≡ 0 → length before < 2 ^ 64 → HoldsPacked p ((name ∷ []) ∷ before ∷ [])
+nothing_put p name before n e z small = record {
   same_reference = n;
   counted = z;
   fits = small;
@@ -80,10 +80,10 @@ begun p name before n e z small = record {
   stands = λ room. e;
 }
 
-pub overwritten_where_room : (bs old : List ℕ) → length bs ≤ length old → overwritten bs old ≡ bs ++ drop (length bs) old
+pub overwritten_where_room : (bs old : List ℕ) → length bs ≤ length old → with_front bs old ≡ bs ++ drop (length bs) old
 overwritten_where_room bs old h = ap (λ (x : Bool). if x then old else (bs ++ drop (length bs) old)) (le-ltb (length old) (length bs) h)
 
-pub stays_without_room : (bs old : List ℕ) → length old < length bs → overwritten bs old ≡ old
+pub stays_without_room : (bs old : List ℕ) → length old < length bs → with_front bs old ≡ old
 stays_without_room bs old h = ap (λ (x : Bool). if x then old else (bs ++ drop (length bs) old)) (lt-ltb (length old) (length bs) h)
 
 -- ---- the second walk
@@ -98,5 +98,5 @@ never_refused b rest t (DepthOverflow n) f w r never = r.0 (links_of t) (t, rest
 never_refused b rest t e f w r never = r.0 (links_of t) (t, rest, f, w, refl)
 
 -- the memory behind the second walk, which goes through the same item
-pub filled : (old new : List ℕ) (t u : Tree) → (length (packed_links u) ≤ length old → new ≡ packed_links u ++ drop (length (packed_links u)) old) → u ≡ t → length (packed_links t) ≤ length old → new ≡ overwritten (packed_links t) old
-filled old new t u h same room = subst (λ v. length (packed_links v) ≤ length old → new ≡ packed_links v ++ drop (length (packed_links v)) old) same h room ∙ sym (overwritten_where_room (packed_links t) old room)
+pub second_walk_fills : (old new : List ℕ) (t u : Tree) → (length (packed_links u) ≤ length old → new ≡ packed_links u ++ drop (length (packed_links u)) old) → u ≡ t → length (packed_links t) ≤ length old → new ≡ with_front (packed_links t) old
+second_walk_fills old new t u h same room = subst (λ v. length (packed_links v) ≤ length old → new ≡ packed_links v ++ drop (length (packed_links v)) old) same h room ∙ sym (overwritten_where_room (packed_links t) old room)

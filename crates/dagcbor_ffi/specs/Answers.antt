@@ -10,7 +10,7 @@ use Rattle.dagcbor_items.specs.TreeKinds.{kind_of}
 use Rattle.dagcbor_items.specs.Slices.{IsBlock, SliceRefused}
 use Rattle.dagcbor_items.specs.Slices.{LinksRefused}
 use Rattle.dagcbor_ffi.specs.Codes.{kind_code, refusal_code}
-use Rattle.dagcbor_ffi.specs.Packed.{packed_links, overwritten}
+use Rattle.dagcbor_ffi.specs.Packed.{packed_links, with_front}
 
 -- the number of the kind where the bytes are a block; else that of a refusal whose cause stands,
 -- and never want of memory
@@ -25,5 +25,5 @@ IsCheckAnswer b code =
 -- memory, and then nothing is needed, and nothing changed
 abbrev pub IsLinksAnswer : List ℕ → List ℕ → List ℕ → ℕ → ℤ → Type 0
 IsLinksAnswer b old new needed code =
-    ((t : Tree) × (rest : List ℕ) × IsFront b t rest × (any_need t ≤ default_steps) × (code ≡ kind_code (kind_of t)) × (needed ≡ length (packed_links t)) × (new ≡ overwritten (packed_links t) old))
+    ((t : Tree) × (rest : List ℕ) × IsFront b t rest × (any_need t ≤ default_steps) × (code ≡ kind_code (kind_of t)) × (needed ≡ length (packed_links t)) × (new ≡ with_front (packed_links t) old))
     ⊎ ((e : DecodeError Infallible) × LinksRefused e b × (e ≡ OutOfMemory → ⊥) × (code ≡ refusal_code e) × (needed ≡ 0) × (new ≡ old))

@@ -13,17 +13,17 @@ use Rattle.dagcbor_items.specs.Slices.{LinksRefused}
 use Rattle.dagcbor_ffi.specs.declared.links.PackedLinks.{PackedLinks}
 
 -- each CID behind a byte of its length, one behind the other
-abbrev pub packed : List (List ℕ) → List ℕ
-packed [] = []
-packed (cid ∷ more) = (length cid ∷ cid) ++ packed more
+abbrev pub packed_cids : List (List ℕ) → List ℕ
+packed_cids [] = []
+packed_cids (cid ∷ more) = (length cid ∷ cid) ++ packed_cids more
 
 -- the links of an item, packed, in the order of its spelling
 abbrev pub packed_links : Tree → List ℕ
-packed_links t = packed (links_of t)
+packed_links t = packed_cids (links_of t)
 
 -- memory with the bytes at its front, where there is room for them; else the memory stays
-abbrev pub overwritten : List ℕ → List ℕ → List ℕ
-overwritten bytes old = if nat_lt (length old) (length bytes) then old
+abbrev pub with_front : List ℕ → List ℕ → List ℕ
+with_front bytes old = if nat_lt (length old) (length bytes) then old
     else bytes ++ drop (length bytes) old
 
 -- the same at a place
@@ -49,7 +49,7 @@ pub record HasPut (name : ℕ) (before bytes : List ℕ) (p : PackedLinks) : Typ
 -- Which links were handed to it: behind two that tell of the memory that it was lent, its name and
 -- what stood there. So a walk, which speaks of the links alone, says what becomes of that memory.
 abbrev pub HoldsPacked : PackedLinks → List (List ℕ) → Type 0
-HoldsPacked p ((name ∷ []) ∷ before ∷ links) = HasPut name before (packed links) p
+HoldsPacked p ((name ∷ []) ∷ before ∷ links) = HasPut name before (packed_cids links) p
 HoldsPacked p _ = ⊥
 
 -- The links of the first item of a slice are put at the front of the memory, where there is room for
@@ -65,5 +65,5 @@ Fills b old new result = MatchResult result
 abbrev pub PutsLinks : List ℕ → List ℕ → List ℕ → ℕ → Result Kind (DecodeError Infallible)
     → Type 0
 PutsLinks b old new needed result = MatchResult result
-    (λ kind. (t : Tree) × (rest : List ℕ) × IsFront b t rest × (any_need t ≤ default_steps) × (kind ≡ kind_of t) × (needed ≡ length (packed_links t)) × (new ≡ overwritten (packed_links t) old))
+    (λ kind. (t : Tree) × (rest : List ℕ) × IsFront b t rest × (any_need t ≤ default_steps) × (kind ≡ kind_of t) × (needed ≡ length (packed_links t)) × (new ≡ with_front (packed_links t) old))
     (λ e. LinksRefused e b × (e ≡ OutOfMemory → ⊥) × (needed ≡ 0) × (new ≡ old))

@@ -34,9 +34,9 @@ pub starts : {old mid : Reading} {first : ℕ} → Takes old (first ∷ []) mid 
 starts t b l = let k = t.taken b l in (k.0, k.1)
 
 -- a reserved width, or an indefinite length
-pub reserved : (E : Type 0) {old mid : Reading} {first : ℕ} (e : DecodeError E) → Takes old (first ∷ []) mid → 28 ≤ first % 32 → ((more : List ℕ) → HeadCause e (first ∷ more))
+pub reserved_refused : (E : Type 0) {old mid : Reading} {first : ℕ} (e : DecodeError E) → Takes old (first ∷ []) mid → 28 ≤ first % 32 → ((more : List ℕ) → HeadCause e (first ∷ more))
     → (mid.faults ≡ old.faults) × (HasHead old → ⊥) × ((b : List ℕ) → old.left ≡ Some b → HeadCause e b)
-reserved E {old} {mid} {first} e t high stands = (
+reserved_refused E {old} {mid} {first} e t high stands = (
   t.same.faults,
   λ h. let k = head_begins t h in omega (arith, high, k.2.defined),
   λ b l. let k = t.taken b l in subst (HeadCause e) (sym k.1) (stands k.0),

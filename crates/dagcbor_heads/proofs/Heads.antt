@@ -8,7 +8,7 @@ use Rattle.std.specs.Ordering.{nat_cmp, ordering_then}
 use Rattle.std.specs.Cmp.Lexicographic.{slice_cmp}
 use Rattle.std.specs.Int.{bytes_high_first}
 use Rattle.dagcbor_heads.specs.Head.{head}
-use Rattle.dagcbor_heads.proofs.Bytes.{less, tied, greater, cmp_bytes}
+use Rattle.dagcbor_heads.proofs.Bytes.{less, equal, greater, cmp_bytes}
 
 pub head_whole : (major n : ℕ) → n < 24 → head major n ≡ (32 * major + n) ∷ []
 unfolding head
@@ -70,7 +70,7 @@ of_width : (w k n o : ℕ) → w ≡ k → n < 256 ^ k → o < 256 ^ k → nat_c
 of_width w k n o e h l = rw e (rw (mod-eq_of_lt h, mod-eq_of_lt l) refl)
 
 of_none : (w n o : ℕ) → w ≡ 0 → n ≡ o → nat_cmp (n % 256 ^ w) (o % 256 ^ w) ≡ nat_cmp n o
-of_none w n o e h = tied _ _ (ap (λ m. m % 256 ^ w) h) ∙ sym (tied n o h)
+of_none w n o e h = equal _ _ (ap (λ m. m % 256 ^ w) h) ∙ sym (equal n o h)
 
 compare : {i w n j v o : ℕ} → Row i w n → Row j v o → Ranked i w n j v o
 compare {i} {w} {n} {j} {v} {o} (whole a1 b1 c1) (whole a2 b2 c2) = elim (cases_order n o) [
@@ -112,7 +112,7 @@ head_cmp major n o x y h k =
     by : (s : Shape major n) (t : Shape major o) → Ranked s.information s.width n t.information t.width o →
         slice_cmp nat_cmp ((32 * major + s.information) ∷ (bytes_high_first s.width n ++ x)) ((32 * major + t.information) ∷ (bytes_high_first t.width o ++ y)) ≡ ordering_then (nat_cmp n o) (slice_cmp nat_cmp x y)
     by s t (lower a b) = ap (λ c. ordering_then c (slice_cmp nat_cmp (bytes_high_first s.width n ++ x) (bytes_high_first t.width o ++ y))) (less (32 * major + s.information) (32 * major + t.information) (omega arith)) ∙ ap (λ c. ordering_then c (slice_cmp nat_cmp x y)) (sym (less n o b))
-    by s t (level a b c) = ap (λ c. ordering_then c (slice_cmp nat_cmp (bytes_high_first s.width n ++ x) (bytes_high_first t.width o ++ y))) (tied (32 * major + s.information) (32 * major + t.information) (omega arith))
+    by s t (level a b c) = ap (λ c. ordering_then c (slice_cmp nat_cmp (bytes_high_first s.width n ++ x) (bytes_high_first t.width o ++ y))) (equal (32 * major + s.information) (32 * major + t.information) (omega arith))
         ∙ ap (λ w. slice_cmp nat_cmp (bytes_high_first s.width n ++ x) (bytes_high_first w o ++ y)) (sym b)
         ∙ cmp_bytes s.width n o x y
         ∙ ap (λ o. ordering_then o (slice_cmp nat_cmp x y)) c

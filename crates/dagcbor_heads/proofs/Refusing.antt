@@ -46,9 +46,9 @@ end_named text (NonMinimal n x) h = absurd h
 end_named text _ h = h
 
 -- the error that `?` hands on
-pub refused : {T E : Type 0} (P : T → Type 0) (Q : DecodeError E → Type 0) (r : Result T (DecodeError E)) (e : DecodeError E) → IsErrAnd r (λ y. y ≡ e) → Q e → MatchResult r P Q
-refused P Q (Ok v) e h q = absurd h
-refused P Q (Err y) e h q = subst Q (sym h) q
+pub as_refusal : {T E : Type 0} (P : T → Type 0) (Q : DecodeError E → Type 0) (r : Result T (DecodeError E)) (e : DecodeError E) → IsErrAnd r (λ y. y ≡ e) → Q e → MatchResult r P Q
+as_refusal P Q (Ok v) e h q = absurd h
+as_refusal P Q (Err y) e h q = subst Q (sym h) q
 
 -- what a reader refuses, the input over it refuses
 pub unlent_refused : {E could could' lacks lacks' : Type 0} (stands : DecodeError E → List ℕ → Type 0) (old new : Reading) (e : DecodeError E) → (could' → could) → (lacks → lacks')

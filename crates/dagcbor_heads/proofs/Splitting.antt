@@ -28,20 +28,20 @@ no_head_nowhere b none h =
     omega (arith, none, ap length is)
 
 -- what a head that stands there says of its first byte and of what follows
-begun : (first : ℕ) (b behind : List ℕ) → b ≡ first ∷ behind → (h : BeginsWithHead b) → Begins first behind h.0 h.1 h.2
-begun first b behind e h = begins first behind h.0 h.1 h.2 h.3.1 (sym e ∙ h.3.2)
+head_begins : (first : ℕ) (b behind : List ℕ) → b ≡ first ∷ behind → (h : BeginsWithHead b) → Begins first behind h.0 h.1 h.2
+head_begins first b behind e h = begins first behind h.0 h.1 h.2 h.3.1 (sym e ∙ h.3.2)
 
 pub no_defined_head : (first : ℕ) (b behind : List ℕ) → b ≡ first ∷ behind → 27 < first % 32 → ¬ BeginsWithHead b
-no_defined_head first b behind e past h = omega (arith, past, (begun first b behind e h).defined)
+no_defined_head first b behind e past h = omega (arith, past, (head_begins first b behind e h).defined)
 
 pub no_whole_head : (first : ℕ) (b behind : List ℕ) → b ≡ first ∷ behind → length behind < argument_width (first % 32) → ¬ BeginsWithHead b
 no_whole_head first b behind e few h =
-    let k = begun first b behind e h in
+    let k = head_begins first b behind e h in
     let wide = argument_width (first % 32) in
     omega (arith, few, ap length k.behind, length-append (bytes_high_first wide h.1) h.2, length-bytes_high_first wide h.1)
 
 pub no_short_head : (first n : ℕ) (b behind rest : List ℕ) → b ≡ first ∷ behind → 24 ≤ first % 32 → SplitsNumber (argument_width (first % 32)) behind n rest → n < least_argument (argument_width (first % 32)) → ¬ BeginsWithHead b
 no_short_head first n b behind rest e wide s long h =
-    let k = begun first b behind e h in
+    let k = head_begins first b behind e h in
     let same = same_bytes (argument_width (first % 32)) n h.1 rest h.2 s.0 (k.fits wide) (sym s.2 ∙ k.behind) in
     omega (arith, same, long, k.least)

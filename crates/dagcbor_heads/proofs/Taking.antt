@@ -68,9 +68,9 @@ pub nothing_taken : (r : Reading) → Takes r [] r
 nothing_taken r = record { taken = λ b l. (b, refl, l); same = stays r }
 
 -- what one fill brought of a payload
-pub gathered : {old mid new : Reading} {want n : ℕ} {before after : List ℕ} → Shows old want mid → n ≡ min want (length mid.shown) → after ≡ before ++ take n mid.shown → Advances mid n new
+pub fill_gathers : {old mid new : Reading} {want n : ℕ} {before after : List ℕ} → Shows old want mid → n ≡ min want (length mid.shown) → after ≡ before ++ take n mid.shown → Advances mid n new
     → Gathers old before want n after new
-gathered {old} {mid} {new} {want} {n} h is behind a = record {
+fill_gathers {old} {mid} {new} {want} {n} h is behind a = record {
   bytes = take n mid.shown;
   counted = length-take-le n mid.shown (omega (arith, is));
   takes = front_taken n h (omega (arith, is)) a;

@@ -9,9 +9,9 @@ may_consume n (Some most) = nat_le n most
 
 -- the bytes of the source, where it tells them, they begin with those that are shown, and those may
 -- be consumed
-abbrev pub told : List ℕ → Option (List ℕ) → Option ℕ → Option (List ℕ)
-told shown None most = None
-told shown (Some b) most = if bytes_eq (take (length shown) b) shown && may_consume (length shown) most then Some b else None
+abbrev pub bytes_told : List ℕ → Option (List ℕ) → Option ℕ → Option (List ℕ)
+bytes_told shown None most = None
+bytes_told shown (Some b) most = if bytes_eq (take (length shown) b) shown && may_consume (length shown) most then Some b else None
 
 -- what a window shows, how often its source faulted, and how many bytes were looked at
 pub record Windowed : Type 0 where

@@ -23,12 +23,12 @@ pub struct IoReader<R: BufRead> {
 impl<R: BufRead> Model for IoReader<R> {
     ghost use Rattle.std.specs.Prelude.{[], false};
     ghost use Rattle.dagcbor_heads.specs.Reading.{Reading};
-    ghost use Rattle.dagcbor_heads.specs.IoReading.{told};
+    ghost use Rattle.dagcbor_heads.specs.IoReading.{bytes_told};
 
     ghost Value = { Reading };
 
     ghost view = { λ s. record {
-      left = told s.window.shown (R.remaining s.source) (R.consumable_len s.source);
+      left = bytes_told s.window.shown (R.remaining s.source) (R.consumable_len s.source);
       shown = s.window.shown;
       steps = s.steps.left;
       budget = s.steps.budget;

@@ -22,12 +22,12 @@ pub struct IoRefReader<'r, R: BufRead> {
 impl<'r, R: BufRead> Model for IoRefReader<'r, R> {
     ghost use Rattle.std.specs.Prelude.{◌∷◌, [], false};
     ghost use Rattle.dagcbor_heads.specs.Reading.{Reading};
-    ghost use Rattle.dagcbor_heads.specs.IoReading.{told};
+    ghost use Rattle.dagcbor_heads.specs.IoReading.{bytes_told};
 
     ghost Value = { Reading };
 
     ghost view = { λ s. record {
-      left = told s.window.shown (R.remaining s.source.now) (R.consumable_len s.source.now);
+      left = bytes_told s.window.shown (R.remaining s.source.now) (R.consumable_len s.source.now);
       shown = s.window.shown;
       steps = s.steps.left;
       budget = s.steps.budget;

@@ -55,8 +55,8 @@ number_taken {old} {new} {kind} {n} h = record {
 }
 
 -- a number that was handed to a function
-pub handed : {V : Type 0} (accepted : ℤ → Option V) (n : ℤ) (o : Option V) → SFits w128 n → o ≡ accepted (to_z w128 (of_z w128 n)) → accepted n ≡ o
-handed accepted n o fits e = ap accepted (sym (to_z-of_z w128 n fits)) ∙ sym e
+pub number_handed : {V : Type 0} (accepted : ℤ → Option V) (n : ℤ) (o : Option V) → SFits w128 n → o ≡ accepted (to_z w128 (of_z w128 n)) → accepted n ≡ o
+number_handed accepted n o fits e = ap accepted (sym (to_z-of_z w128 n fits)) ∙ sym e
 
 -- ---- a number as a type has it
 
@@ -69,8 +69,8 @@ some_number accepted h =
     let n = is_number accepted h.tree h.accepted in
     record { bytes = h.bytes; tree = h.tree; rest = h.rest; left = h.left; front = h.front; accepted = ap (λ t. is_some (view_number Some t)) n.1; within = zero-le }
 
-pub narrowed : {V : Type 0} (accepted : ℤ → Option V) {old new : Reading} (n : ℤ) (v : V) → accepted n ≡ Some v → TakesFront (leaf (view_number Some)) old n new → TakesFront (leaf (view_number accepted)) old v new
-narrowed accepted {old} {new} n v e h = record {
+pub number_narrowed : {V : Type 0} (accepted : ℤ → Option V) {old new : Reading} (n : ℤ) (v : V) → accepted n ≡ Some v → TakesFront (leaf (view_number Some)) old n new → TakesFront (leaf (view_number accepted)) old v new
+number_narrowed accepted {old} {new} n v e h = record {
   taken = λ b l. let k = h.taken b l in (k.0, k.1, k.2, ap (view_number accepted) (all_numbers k.0 n k.3) ∙ e, zero-le, k.5);
   same = h.same;
 }

@@ -17,6 +17,7 @@ use Rattle.ipld_tree.specs.Tree.{Tree, null, boolean, integer, text, bytes, list
 use Rattle.ipld_tree.specs.Spelling.{items_spelling, entries_spelling, item_count, entry_count, IsFront, AreFronts, AreEntryFronts}
 use Rattle.ipld_tree.proofs.Unique.{major, argument, payload, argument_fits}
 use Rattle.ipld_tree.proofs.Fronts.{by_head, front_head, front_unique, is_bytes, is_text, is_list, is_mapping, is_link, is_simple, major_le, list_opened, list_closed, item_opened, item_closed, items_after, map_opened, entry_opened, entry_closed, entries_after}
+use Rattle.dagcbor_items.proofs.Rows.{first_follows, all_follow}
 use Rattle.dagcbor_items.specs.Places.{Follows}
 use Rattle.dagcbor_items.specs.Entries.{AllFollow}
 use Rattle.dagcbor_items.specs.Judging.{SplitsPayload, SplitsText, SplitsKey, SplitsCid, SplitsLeaf, SplitsItem, SplitsItems, SplitsEntries}
@@ -86,8 +87,8 @@ link_opened m n b c cid rest h f =
 -- ---- leaves
 
 -- the tree whose front has this head
-pub opened : (m n : ℕ) (b c rest : List ℕ) (t : Tree) → SplitsHead b m n c → IsFront b t rest → (major t ≡ m) × (argument t ≡ n) × (payload t ++ rest ≡ c)
-opened m n b c rest t h f = by_head m n b c rest t h.1 f h.2
+pub head_opened : (m n : ℕ) (b c rest : List ℕ) (t : Tree) → SplitsHead b m n c → IsFront b t rest → (major t ≡ m) × (argument t ≡ n) × (payload t ++ rest ≡ c)
+head_opened m n b c rest t h f = by_head m n b c rest t h.1 f h.2
 
 pub natural_passed : (n : ℕ) (b c : List ℕ) → SplitsHead b 0 n c → IsFront b (integer (pos n)) c
 natural_passed n b c h = record { well_formed = tt; spellable = h.1; is = h.2 }
@@ -107,7 +108,7 @@ simple_passed n b c low high h = elim (cases_lt n 21) [
 
 pub no_simple : (n : ℕ) (b c rest : List ℕ) (t : Tree) → SplitsHead b 7 n c → (20 ≤ n → ¬ (n ≤ 22)) → ¬ IsFront b t rest
 no_simple n b c rest t h none f =
-    let k = opened 7 n b c rest t h f in
+    let k = head_opened 7 n b c rest t h f in
     elim (is_simple t k.0) [
       | inl s ↦ none (omega (arith, k.1, s.1)) (omega (arith, k.1, s.1))
       | inr r ↦ elim r [
@@ -118,18 +119,18 @@ no_simple n b c rest t h none f =
 
 pub no_link : (n : ℕ) (b c rest : List ℕ) (t : Tree) → SplitsHead b 6 n c → ((cid : List ℕ) → n ≡ 42 → ¬ SplitsCid c cid rest) → ¬ IsFront b t rest
 no_link n b c rest t h none f =
-    let l = is_link t (opened 6 n b c rest t h f).0 in
+    let l = is_link t (head_opened 6 n b c rest t h f).0 in
     let k = link_opened 6 n b c l.0 rest h (subst (λ u. IsFront b u rest) l.1 f) in
     none l.0 k.1 k.2
 
 pub no_text : (n : ℕ) (b c rest : List ℕ) (t : Tree) → SplitsHead b 3 n c → ((s : List ℕ) → ¬ SplitsText c n s rest) → ¬ IsFront b t rest
 no_text n b c rest t h none f =
-    let l = is_text t (opened 3 n b c rest t h f).0 in
+    let l = is_text t (head_opened 3 n b c rest t h f).0 in
     none l.0 (text_opened 3 n b c l.0 rest h (subst (λ u. IsFront b u rest) l.1 f)).1
 
 pub no_bytes : (n : ℕ) (b c rest : List ℕ) (t : Tree) → SplitsHead b 2 n c → length c < n → ¬ IsFront b t rest
 no_bytes n b c rest t h few f =
-    let l = is_bytes t (opened 2 n b c rest t h f).0 in
+    let l = is_bytes t (head_opened 2 n b c rest t h f).0 in
     too_few n c l.0 rest few (bytes_opened 2 n b c l.0 rest h (subst (λ u. IsFront b u rest) l.1 f)).1
 
 pub no_step : (b : List ℕ) (steps : ℕ) → steps < 1 → ¬ ((rest : List ℕ) × SplitsItem b steps rest)
@@ -169,7 +170,7 @@ items_fit n steps left c rest e k = omega (arith, e, ap length k.2.is, length-ap
 
 list_inside : (n steps : ℕ) (b c : List ℕ) → SplitsHead b 4 n c → (i : (rest : List ℕ) × SplitsItem b steps rest) → (2 ≤ steps) × ((rest : List ℕ) × SplitsItems c n (steps - 2) rest)
 list_inside n steps b c h i =
-    let l = is_list i.1.0 (opened 4 n b c i.0 i.1.0 h i.1.1).0 in
+    let l = is_list i.1.0 (head_opened 4 n b c i.0 i.1.0 h i.1.1).0 in
     let o = list_opened b c i.0 n l.0 h.1 (subst (λ t. IsFront b t i.0) l.1 i.1.1) h.2 in
     let need = ap any_need l.1 in
     (omega (arith, need, i.1.2), (i.0, (l.0, o.0, o.1, omega (arith, need, i.1.2))))
@@ -233,7 +234,7 @@ entries_fit n steps left c rest e k = omega (arith, e, ap length k.2.is, length-
 
 map_inside : (n steps : ℕ) (b c : List ℕ) → SplitsHead b 5 n c → (i : (rest : List ℕ) × SplitsItem b steps rest) → (2 ≤ steps) × ((rest : List ℕ) × SplitsEntries c n (steps - 2) rest)
 map_inside n steps b c h i =
-    let l = is_mapping i.1.0 (opened 5 n b c i.0 i.1.0 h i.1.1).0 in
+    let l = is_mapping i.1.0 (head_opened 5 n b c i.0 i.1.0 h i.1.1).0 in
     let o = map_opened b c i.0 n l.0 h.1 (subst (λ t. IsFront b t i.0) l.1 i.1.1) h.2 in
     let need = ap any_need l.1 in
     (omega (arith, need, i.1.2), (i.0, (l.0, o.0, o.1, omega (arith, need, i.1.2))))
@@ -243,14 +244,6 @@ no_map_step n steps b c h few i = omega (arith, few, (map_inside n steps b c h i
 
 pub no_map : (n steps : ℕ) (b c : List ℕ) → SplitsHead b 5 n c → ¬ ((rest : List ℕ) × SplitsEntries c n (steps - 2) rest) → ¬ ((rest : List ℕ) × SplitsItem b steps rest)
 no_map n steps b c h none i = none (map_inside n steps b c h i).1
-
-leads : (previous : Option (List ℕ)) (k : List ℕ) (t : Tree) (es : Entries) → Follows previous k → AllFollow previous (entry k t es)
-leads None k t es h = tt
-leads (Some l) k t es h = h
-
-led : (previous : Option (List ℕ)) (k : List ℕ) (t : Tree) (es : Entries) → AllFollow previous (entry k t es) → Follows previous k
-led None k t es h = tt
-led (Some l) k t es h = h
 
 -- the entries that were passed, and those that are still to come where so many stand there
 pub record EntriesPassed (b : List ℕ) (count index steps : ℕ) (previous : Option (List ℕ)) (now : List ℕ) : Type 0 where
@@ -265,7 +258,7 @@ pub one_entry_passed : (b now c rest key : List ℕ) (count index steps : ℕ) (
     → EntriesPassed b count (index + 1) steps (Some key) rest
 one_entry_passed b now c rest key count index steps previous more_left s h follows k = record {
   passed = λ end more f n a.
-      let q = s.passed end (entry key k.0 more) (entry_closed now c rest end key k.0 more h k.1 a f) (omega (arith, n, k.2)) (leads previous key k.0 more follows) in
+      let q = s.passed end (entry key k.0 more) (entry_closed now c rest end key k.0 more h k.1 a f) (omega (arith, n, k.2)) (all_follow previous key k.0 more follows) in
       (q.0, omega (arith, q.1), q.2, q.3);
   left = λ end i. let q = s.left end i in behind q.0 q.1 q.2 q.3;
 }
@@ -287,7 +280,7 @@ next_entry b now count index steps previous more_left s h = let q = s.left h.0 h
     next no_entries e f n a = absurd (omega (arith, e, more_left))
     next {end} (entry l u es) e f n a =
         let p = entry_opened now end l u es f in
-        (l, p.0, p.1, led previous l u es a, (_, (u, p.2, omega (arith, n))))
+        (l, p.0, p.1, first_follows previous l u es a, (_, (u, p.2, omega (arith, n))))
 
 pub no_key : (b now : List ℕ) (count index steps : ℕ) (previous : Option (List ℕ)) → index < count → EntriesPassed b count index steps previous now → ¬ ((key : List ℕ) × (rest : List ℕ) × SplitsKey now key rest)
     → ¬ ((rest : List ℕ) × SplitsEntries b count steps rest)
@@ -348,7 +341,7 @@ simple_judged now n b c (Some x) h k = subst (SplitsLeaf b) (sym k.2) (simple_pa
 pub leaf_judged : {R : Type 0} (now : R → List ℕ) (m n steps : ℕ) (b c : List ℕ) (r : Option R) → 1 ≤ steps → SplitsHead b m n c → ¬ (m ≡ 4) → ¬ (m ≡ 5)
     → MatchOption r (¬ ((rest : List ℕ) × SplitsLeaf b rest)) (λ x. SplitsLeaf b (now x)) → MatchOption r (¬ ((rest : List ℕ) × SplitsItem b steps rest)) (λ x. SplitsItem b steps (now x))
 leaf_judged now m n steps b c None some h no_list no_map none = λ k.
-    let e = (opened m n b c k.0 k.1.0 h k.1.1).0 in
+    let e = (head_opened m n b c k.0 k.1.0 h k.1.1).0 in
     none (k.0, (k.1.0, k.1.1, leaf_need k.1.0 (λ is. no_list (sym e ∙ is)) (λ is. no_map (sym e ∙ is))))
 leaf_judged now m n steps b c (Some x) some h no_list no_map k = (k.0, k.1, omega (arith, some, k.2))
 

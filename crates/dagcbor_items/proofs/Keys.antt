@@ -31,8 +31,8 @@ pub key_text_refused : {E : Type 0} (previous : Option (List ℕ)) (old new : Re
     → Refuses (HasKey previous old) (old.lends ≡ false) ⊥ (KeyCause previous) old e new
 key_text_refused previous old new e r = passed_on (TextCause (codes "map key")) (KeyCause previous) old old new e (stays old) key_as_text (λ x. x) (λ x. x) (λ b l. (b, l, λ h. inl h)) r
 
-pub unordered : (E : Type 0) (previous : Option (List ℕ)) {old new : Reading} (key : List ℕ) → TakesItem 1 old (text key) new → (Follows previous key → ⊥) → Refuses {E = E} (HasKey previous old) (old.lends ≡ false) ⊥ (KeyCause previous) old UnorderedKey new
-unordered E previous {old} {new} key h not_after = (
+pub unordered_refused : (E : Type 0) (previous : Option (List ℕ)) {old new : Reading} (key : List ℕ) → TakesItem 1 old (text key) new → (Follows previous key → ⊥) → Refuses {E = E} (HasKey previous old) (old.lends ≡ false) ⊥ (KeyCause previous) old UnorderedKey new
+unordered_refused E previous {old} {new} key h not_after = (
   h.same.faults,
   λ k. let q = h.taken k.bytes k.left in
       let same = front_unique k.bytes q.0 k.rest (text key) (text k.key) q.1 k.front in

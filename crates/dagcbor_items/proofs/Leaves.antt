@@ -28,8 +28,8 @@ simple_byte t m = elim (is_simple t m) [
   ]
 ]
 
-unsupported : {V : Type 0} {shape : Shape Tree V} {old : Reading} {first : ℕ} → StartsWith old first → first / 32 ≡ 7 → ((0xf4 ≤ first) → (first ≤ 0xf6) → ⊥) → HasFront shape old → ⊥
-unsupported {V} {shape} {old} {first} starts major_7 other i =
+no_simple_value : {V : Type 0} {shape : Shape Tree V} {old : Reading} {first : ℕ} → StartsWith old first → first / 32 ≡ 7 → ((0xf4 ≤ first) → (first ≤ 0xf6) → ⊥) → HasFront shape old → ⊥
+no_simple_value {V} {shape} {old} {first} starts major_7 other i =
     let s = starts i.bytes i.left in
     let m = major_of_front i.bytes i.rest i.tree 7 (first, s.0, s.1, major_7) i.front in
     let k = simple_byte i.tree m in
@@ -40,7 +40,7 @@ unsupported {V} {shape} {old} {first} starts major_7 other i =
 pub unsupported_refused : (E lacks : Type 0) (spent : ℕ) (old : Reading) (name : Name) (first : ℕ) → StartsWith old first → first / 32 ≡ 7 → ((0xf4 ≤ first) → (first ≤ 0xf6) → ⊥) → Refuses {E = E} (HasItem (suc spent) old) lacks ⊥ (CauseInside (old.steps + suc spent)) old (Unsupported name first) old
 unsupported_refused E lacks spent old name first starts major_7 other = (
   refl,
-  unsupported starts major_7 other,
+  no_simple_value starts major_7 other,
   λ b l. let s = starts b l in cause_here {E = E} _ (Unsupported name first) b (omega arith) (inr (inl (s.0, s.1, major_7, other))),
 )
 

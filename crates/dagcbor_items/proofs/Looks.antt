@@ -74,9 +74,9 @@ peeked_taken {times} {byte} {old} {mid} {new} o s h = record {
 pub peeked_left : {times byte : ℕ} {old mid new : Reading} → LooksOnce old mid → ShowsByte old byte mid → LooksAtLeft times 1 mid new → LooksAtLeft times 0 old new
 peeked_left {times} {byte} {old} {mid} {new} o s h = record { grows = omega (arith, o.grows, h.grows); most = λ b l. omega (arith, o.one, h.most b (s.kept b l)) }
 
-pub peeked : {T E : Type 0} {byte : ℕ} {old mid : Reading} (times : ℕ) (new : Reading) (r : Result T E) → LooksOnce old mid → ShowsByte old byte mid → LooksBehind times 1 mid r new → Looks times old r new
-peeked times new (Ok v) o s h = peeked_taken o s h
-peeked times new (Err e) o s h = peeked_left o s h
+pub looks_behind_peek : {T E : Type 0} {byte : ℕ} {old mid : Reading} (times : ℕ) (new : Reading) (r : Result T E) → LooksOnce old mid → ShowsByte old byte mid → LooksBehind times 1 mid r new → Looks times old r new
+looks_behind_peek times new (Ok v) o s h = peeked_taken o s h
+looks_behind_peek times new (Err e) o s h = peeked_left o s h
 
 -- a value behind a byte that was peeked at
 pub peeked_value : {T V E : Type 0} (times : ℕ) (meaning : T → V) (view : Tree → Option V) (lacks : Reading → Type 0) (stands : DecodeError E → List ℕ → Type 0) {first : ℕ} {old mid : Reading} (new : Reading) (r : Result T (DecodeError E)) → LooksOnce old mid → ShowsByte old first mid

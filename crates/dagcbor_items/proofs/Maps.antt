@@ -7,7 +7,7 @@ use Rattle.dagcbor_heads.specs.Refusals.{Refuses}
 use Rattle.dagcbor_heads.specs.declared.error.DecodeError.{DecodeError}
 use Rattle.dagcbor_heads.proofs.Taking.{stays, stays_both}
 use Rattle.dagcbor_heads.proofs.Refusing.{passed_on}
-use Rattle.ipld_tree.specs.Tree.{Tree, text, mapping, Entries, no_entries, ordered, any_need, entries_need}
+use Rattle.ipld_tree.specs.Tree.{Tree, text, mapping, Entries, no_entries, ordered_entries, any_need, entries_need}
 use Rattle.ipld_tree.specs.Spelling.{entry_count, entries_spelling, IsFront, AreEntryFronts}
 use Rattle.ipld_tree.specs.Ipld.{tree_of, pairs_of}
 use Rattle.ipld_tree.specs.declared.ipld.Ipld.{Ipld, Map as Map'}
@@ -146,8 +146,8 @@ map_taken {old} {mid} {now} {new} {n} es h counted a back = stepped_taken 1 (spe
   same = stays_both h.takes.same a.same;
 } back
 
-pub map_as_tree : {old mid now new : Reading} {n : ℕ} (m : BTreeMap (String Global) Ipld) → Enters 5 n old mid → (entry_count (ordered (pairs_of m.entries)) ≡ n) × TakesEntries mid (ordered (pairs_of m.entries)) now → new ≡ with_steps (now.steps + 1) now → TakesItem 1 old (tree_of (Map' m)) new
-map_as_tree m h r back = as_tree (mapping (ordered (pairs_of m.entries))) _ (tree_of_Map m) (map_taken (ordered (pairs_of m.entries)) h r.0 r.1 back)
+pub map_as_tree : {old mid now new : Reading} {n : ℕ} (m : BTreeMap (String Global) Ipld) → Enters 5 n old mid → (entry_count (ordered_entries (pairs_of m.entries)) ≡ n) × TakesEntries mid (ordered_entries (pairs_of m.entries)) now → new ≡ with_steps (now.steps + 1) now → TakesItem 1 old (tree_of (Map' m)) new
+map_as_tree m h r back = as_tree (mapping (ordered_entries (pairs_of m.entries))) _ (tree_of_Map m) (map_taken (ordered_entries (pairs_of m.entries)) h r.0 r.1 back)
 
 pub behind_last : {count left : ℕ} {old now : Reading} {es : Entries} {previous : Option (List ℕ)} (k : List ℕ) → ReadEntries count left old es previous now → Follows previous k → Follows (last_key es) k
 behind_last k s f = subst (λ x. Follows x k) (sym s.last) f

@@ -7,7 +7,7 @@ use Rattle.std.specs.Map.{keys_of}
 use Rattle.std.specs.Ordering.{match_ordering}
 use Rattle.std.proofs.lemmas.Map.Lookups.{exact_bytes}
 use Rattle.ipld_tree.specs.Key.{bytes_cmp, key_cmp}
-use Rattle.ipld_tree.specs.Tree.{Tree, text, Entries, no_entries, entry, Precedes, ordered, any_need, entries_need}
+use Rattle.ipld_tree.specs.Tree.{Tree, text, Entries, no_entries, entry, Precedes, ordered_entries, any_need, entries_need}
 use Rattle.ipld_tree.specs.Spelling.{entry_count, IsFront, AreEntryFronts}
 use Rattle.ipld_tree.specs.Ipld.{tree_of, pairs_of}
 use Rattle.ipld_tree.specs.declared.ipld.Ipld.{Ipld}
@@ -96,7 +96,7 @@ put_insert (p ∷ ps) k t fresh l u h = put_here (bytes_cmp k p.0) p ps (insert_
 
 -- a key that follows the last one goes behind it
 pub ordered_push : (es new : List Entry) (k : String Global) (j : Ipld) → new ≡ insert_entry string_cmp es k j → IsStrictlySortedBy string_cmp (keys_of es) → IsStrictlySortedBy string_cmp (keys_of new)
-    → Follows (last_key (ordered (pairs_of es))) (string_bytes k) → ordered (pairs_of new) ≡ entry_push (ordered (pairs_of es)) (string_bytes k) (tree_of j)
+    → Follows (last_key (ordered_entries (pairs_of es))) (string_bytes k) → ordered_entries (pairs_of new) ≡ entry_push (ordered_entries (pairs_of es)) (string_bytes k) (tree_of j)
 unfolding Put Fresh
 ordered_push es new k j is sorted sorted_new f =
     let ps = pairs_of es in
@@ -105,11 +105,11 @@ ordered_push es new k j is sorted sorted_new f =
     let rising = rising_ordered ps (distinct_entries es sorted) in
     let put : pairs_of new ≡ insert_entry bytes_cmp ps key t = ap pairs_of is ∙ pairs_of_insert_entry es k j in
     let fresh : (l : List ℕ) (u : Tree) → HasPair ps l u → key ≡ l → ⊥ =
-    λ l u h e. (let below = above_all (ordered ps) key rising f l u (ordered_has ps l u h) in
+    λ l u h e. (let below = above_all (ordered_entries ps) key rising f l u (ordered_has ps l u h) in
     let differ : Equal ≡ Less = sym (key_cmp_same key) ∙ ap (λ x. key_cmp x key) e ∙ below in absurd (cc differ)) in
-    same_entries (ordered (pairs_of new)) (entry_push (ordered ps) key t) (rising_ordered (pairs_of new) (distinct_entries new sorted_new)) (rising_push (ordered ps) key t rising f)
-    (λ l u h. push_has (ordered ps) key t l u (elim (insert_put ps key t fresh l u (subst (λ qs. HasPair qs l u) put (has_ordered (pairs_of new) l u h))) [ inl same ↦ inl same | inr more ↦ inr (ordered_has ps l u more) ]))
-    (λ l u h. ordered_has (pairs_of new) l u (subst (λ qs. HasPair qs l u) (sym put) (put_insert ps key t fresh l u (elim (has_push (ordered ps) key t l u h) [ inl same ↦ inl same | inr more ↦ inr (has_ordered ps l u more) ]))))
+    same_entries (ordered_entries (pairs_of new)) (entry_push (ordered_entries ps) key t) (rising_ordered (pairs_of new) (distinct_entries new sorted_new)) (rising_push (ordered_entries ps) key t rising f)
+    (λ l u h. push_has (ordered_entries ps) key t l u (elim (insert_put ps key t fresh l u (subst (λ qs. HasPair qs l u) put (has_ordered (pairs_of new) l u h))) [ inl same ↦ inl same | inr more ↦ inr (ordered_has ps l u more) ]))
+    (λ l u h. ordered_has (pairs_of new) l u (subst (λ qs. HasPair qs l u) (sym put) (put_insert ps key t fresh l u (elim (has_push (ordered_entries ps) key t l u h) [ inl same ↦ inl same | inr more ↦ inr (has_ordered ps l u more) ]))))
 
 -- ---- the fronts of entries
 

@@ -35,14 +35,19 @@ row_first shape others f whole shows needs {r} {count} some h = by h.items h.cou
       within = omega (arith, w, needs t ts);
     }
 
+-- the first of the entries, and all of them, behind a key
+pub first_follows : (last : Option (List ℕ)) (k : List ℕ) (t : Tree) (es : Entries) → AllFollow last (entry k t es) → Follows last k
+first_follows None k t es f = tt
+first_follows (Some l) k t es f = f
+
+pub all_follow : (last : Option (List ℕ)) (k : List ℕ) (t : Tree) (es : Entries) → Follows last k → AllFollow last (entry k t es)
+all_follow None k t es f = tt
+all_follow (Some l) k t es f = f
+
 -- the key of an entry before others
 pub row_key : {V : Type 0} {shape : Shape Entries V} {r : Reading} {last : Option (List ℕ)} {count : ℕ} → 0 < count → HasEntryRow shape last count r → HasKey last r
 row_key {V} {shape} {r} {last} {count} some h = by h.entries h.counted h.follow h.fronts
   where
-    first_follows : (last : Option (List ℕ)) (k : List ℕ) (t : Tree) (es : Entries) → AllFollow last (entry k t es) → Follows last k
-    first_follows None k t es f = tt
-    first_follows (Some l) k t es f = f
-
     by : (es : Entries) → entry_count es ≡ count → AllFollow last es → AreEntryFronts h.bytes es h.rest → HasKey last r
     by no_entries e f k = absurd (omega (arith, e, some))
     by (entry l u es) e f k =

@@ -146,9 +146,9 @@ text_refused lacks name old new e r = passed_on (StringCause name 3) (TextCause 
 pub text_taken : {old new : Reading} (s payload : List ℕ) → s ≡ payload → IsUtf8 s → TakesString 3 old payload new → TakesFront (leaf view_text) old s new
 text_taken {old} {new} s payload e u h = let k = subst (λ x. TakesString 3 old x new) (sym e) h in spelling_taken view_text (text s) s u k.fits refl k.takes
 
-pub garbled : (E : Type 0) (name : List ℕ) {old new : Reading} (s : List ℕ) (kept : Name) → Names kept name → TakesString 3 old s new → (IsUtf8 s → ⊥)
+pub no_text_refused : (E : Type 0) (name : List ℕ) {old new : Reading} (s : List ℕ) (kept : Name) → Names kept name → TakesString 3 old s new → (IsUtf8 s → ⊥)
     → Refuses {E = E} (HasFront (leaf view_text) old) ⊥ ⊥ (TextCause name) old (RequireUtf8 kept) new
-garbled E name {old} {new} s kept named h not_text = (
+no_text_refused E name {old} {new} s kept named h not_text = (
   h.takes.same.faults,
   λ i. let t = text_front i in
       let k = h.takes.taken i.bytes i.left in

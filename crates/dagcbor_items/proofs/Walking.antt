@@ -127,9 +127,9 @@ simple_taken first byte {old} {new} starts least most taken =
 -- ---- the walks that are called from outside
 
 -- a walk whose sink takes no memory
-pub skipped : {E S : Type 0} (holds : S → List (List ℕ) → Type 0) (spent : ℕ) (old : Reading) (before after : S) (r : Result (Unit {0}) (DecodeError E)) (new : Reading) → WalksItem holds false spent old before r new after → SkipsItem spent old r new
-skipped holds spent old before after (Ok u) new h = (h.0, h.1)
-skipped holds spent old before after (Err e) new h = more_lacks (old.lends ≡ false) spent old new e only h
+pub walk_skips : {E S : Type 0} (holds : S → List (List ℕ) → Type 0) (spent : ℕ) (old : Reading) (before after : S) (r : Result (Unit {0}) (DecodeError E)) (new : Reading) → WalksItem holds false spent old before r new after → SkipsItem spent old r new
+walk_skips holds spent old before after (Ok u) new h = (h.0, h.1)
+walk_skips holds spent old before after (Err e) new h = more_lacks (old.lends ≡ false) spent old new e only h
   where
     only : WalkLacks false old → old.lends ≡ false
     only (inl l) = l

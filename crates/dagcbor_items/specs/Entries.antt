@@ -8,7 +8,7 @@ use Rattle.std.specs.declared.alloc.Global.{Global}
 use Rattle.dagcbor_heads.specs.Reading.{Reading, Stays}
 use Rattle.dagcbor_heads.specs.Refusals.{Refuses}
 use Rattle.dagcbor_heads.specs.declared.error.DecodeError.{DecodeError}
-use Rattle.ipld_tree.specs.Tree.{text, Entries, ordered, entries_need, Precedes}
+use Rattle.ipld_tree.specs.Tree.{text, Entries, ordered_entries, entries_need, Precedes}
 use Rattle.ipld_tree.specs.Spelling.{entry_count, IsFront, AreEntryFronts}
 use Rattle.ipld_tree.specs.Ipld.{pairs_of}
 use Rattle.ipld_tree.specs.declared.ipld.Ipld.{Ipld}
@@ -74,5 +74,5 @@ pub record TakesEntries (old : Reading) (es : Entries) (new : Reading) : Type 0 
 abbrev pub ReadsEntries : {E : Type 0} → ℕ → Reading
     → Result (BTreeMap (String Global) Ipld) (DecodeError E) → Reading → Type 0
 ReadsEntries count old result new = MatchResult result
-    (λ m. (entry_count (ordered (pairs_of m.entries)) ≡ count) × TakesEntries old (ordered (pairs_of m.entries)) new)
+    (λ m. (entry_count (ordered_entries (pairs_of m.entries)) ≡ count) × TakesEntries old (ordered_entries (pairs_of m.entries)) new)
     (λ e. Refuses (HasEntries count old) ⊤ ⊥ (CauseInEntries count old.steps) old e new)

@@ -10,7 +10,7 @@ use Rattle.dagcbor_heads.specs.declared.error.DecodeError.{DecodeError}
 use Rattle.dagcbor_items.specs.Reads.{Reads}
 use Rattle.dagcbor_items.specs.Shapes.{natural_below, within, view_unsigned, view_signed}
 use Rattle.dagcbor_items.specs.Shapes.{view_null, view_bool, view_text, view_char, view_bytes}
-use Rattle.dagcbor_items.specs.Shapes.{ignored, leaf}
+use Rattle.dagcbor_items.specs.Shapes.{ignored_item, leaf}
 use Rattle.dagcbor_items.specs.ItemCauses.{CauseInside}
 use Rattle.dagcbor_items.specs.LinkCauses.{IsOtherByte}
 use Rattle.dagcbor_items.specs.LeafCauses.{NumberCause, LongNumberCause, StringCause, TextCause}
@@ -74,4 +74,4 @@ ReadsBool = Reads (λ b. b) (leaf view_bool) ⊥ ⊥ BoolCause
 -- memory where the input lends.
 abbrev pub ReadsIgnored : {E : Type 0} → Reading → Result (Unit {0}) (DecodeError E) → Reading
     → Type 0
-ReadsIgnored old = Reads (λ u. u) ignored (old.lends ≡ false) ⊥ (CauseInside old.steps) old
+ReadsIgnored old = Reads (λ u. u) ignored_item (old.lends ≡ false) ⊥ (CauseInside old.steps) old

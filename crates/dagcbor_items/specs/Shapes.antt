@@ -88,8 +88,8 @@ abbrev pub any_tree : Shape Tree Tree
 any_tree = record { view = Some; need = any_need; borrows = false }
 
 -- Any tree shows nothing to a type that ignores it.
-abbrev pub ignored : Shape Tree (Unit {0})
-ignored = record { view = λ t. Some tt; need = any_need; borrows = false }
+abbrev pub ignored_item : Shape Tree (Unit {0})
+ignored_item = record { view = λ t. Some tt; need = any_need; borrows = false }
 
 -- null, or what another tree shows
 abbrev pub view_option : {V : Type 0} → (Tree → Option V) → Tree → Option (Option V)

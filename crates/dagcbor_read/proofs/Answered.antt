@@ -1,12 +1,10 @@
 -- What calls say that answered, or were refused, on a Deserializer that had not failed.
-use Rattle.std.proofs.Common.{◌≡◌, ℕ, List, Global, ◌<◌, ◌-◌, Bool, true, false, refl, subst}
-use Rattle.std.specs.Prelude.{Option, None, Some, Result, Ok, Err, MatchBool, ⊤}
+use Rattle.std.proofs.Common.{◌≡◌, ℕ, List, Global, ◌<◌, ◌-◌, true, false, subst}
+use Rattle.std.specs.Prelude.{Option, None, Some, Ok, Err, ⊤}
 use Rattle.std.specs.Cow.{cow_str_bytes}
 use Rattle.std.specs.declared.borrow.CowStr.{CowStr}
-use Rattle.dagcbor_heads.specs.Reading.{Reading}
 use Rattle.dagcbor_heads.specs.Refusals.{Refuses}
 use Rattle.dagcbor_heads.specs.declared.error.DecodeError.{DecodeError}
-use Rattle.dagcbor_heads.specs.declared.error.DecodeError.TheVariants.{Failed}
 use Rattle.ipld_tree.specs.Tree.{Tree, text}
 use Rattle.dagcbor_items.specs.Untyped.{TakesItem}
 use Rattle.dagcbor_items.specs.Places.{Follows}
@@ -14,25 +12,9 @@ use Rattle.dagcbor_items.specs.ItemCauses.{KeyCause}
 use Rattle.dagcbor_items.specs.Entries.{HasKey}
 use Rattle.dagcbor_read.specs.Calls.{Progress, Call}
 use Rattle.dagcbor_items.specs.Reads.{HasFront, TakesFront, Anything}
+use Rattle.dagcbor_read.proofs.Progressing.{call_answered, call_told}
 use Rattle.dagcbor_read.specs.Accessors.{AccessorState, ReadsElement, after_element, ReadsNextKey, after_key}
 use Rattle.dagcbor_items.specs.Shapes.{Shape}
-
-pub at_false : (b : Bool) (P Q : Type 0) → b ≡ false → MatchBool b P Q → Q
-at_false true P Q e h = absurd (cc e)
-at_false false P Q e h = h
-
--- a call that answered had not failed, and has not
-pub answered : (T E : Type 0) (reads : Reading → Result T (DecodeError E) → Reading → Type 0) (old new : Progress) (v : T) → Call reads old (Ok v) new
-    → (old.failed ≡ false) × (new.failed ≡ false) × reads old.input (Ok v) new.input
-answered T E reads old new v h = by old.failed h
-  where
-    by : (b : Bool) → MatchBool b ((◌≡◌ {A = Result T (DecodeError E)} (Ok v) (Err Failed)) × (new ≡ old)) ((new.failed ≡ false) × reads old.input (Ok v) new.input)
-        → (b ≡ false) × (new.failed ≡ false) × reads old.input (Ok v) new.input
-    by true k = let e = k.0 in absurd (cc e)
-    by false k = (refl, k.0, k.1)
-
-pub call_refused : (T E : Type 0) (reads : Reading → Result T (DecodeError E) → Reading → Type 0) (old new : Progress) (e : DecodeError E) → old.failed ≡ false → Call reads old (Err e) new → reads old.input (Err e) new.input
-call_refused T E reads old new e f h = (at_false old.failed ((Err e ≡ Err Failed) × (new ≡ old)) ((new.failed ≡ true) × reads old.input (Err e) new.input) f h).1
 
 -- ---- the next item of a list
 
@@ -44,17 +26,17 @@ module _ (E : Type 0) {T V : Type 0} (meaning : T → V) (shape : Shape Tree V) 
 
   pub element_read : (left : ℕ) (old new : Progress) (o : Option T) (v : T) → o ≡ Some v → Call (ReadsElement {E = E} meaning shape left) old (Ok o) new → ElementRead left old v new
   element_read left old new o v e h =
-      let k = answered (Option T) E (ReadsElement meaning shape left) old new (Some v) (subst (λ x. Call (ReadsElement {E = E} meaning shape left) old (Ok x) new) e h) in
+      let k = call_answered (ReadsElement meaning shape left) old new (Some v) (subst (λ x. Call (ReadsElement {E = E} meaning shape left) old (Ok x) new) e h) in
       record { sound = k.1; some = k.2.0; takes = k.2.1 }
 
   pub no_element : (left : ℕ) (old new : Progress) (o : Option T) → o ≡ None → Call (ReadsElement {E = E} meaning shape left) old (Ok o) new → (new.failed ≡ false) × (left ≡ 0) × (new.input ≡ old.input)
   no_element left old new o e h =
-      let k = answered (Option T) E (ReadsElement meaning shape left) old new None (subst (λ x. Call (ReadsElement {E = E} meaning shape left) old (Ok x) new) e h) in
+      let k = call_answered (ReadsElement meaning shape left) old new None (subst (λ x. Call (ReadsElement {E = E} meaning shape left) old (Ok x) new) e h) in
       (k.1, k.2.0, k.2.1)
 
   pub element_refused : (left : ℕ) (old new : Progress) (e : DecodeError E) → old.failed ≡ false → Call (ReadsElement {T = T} meaning shape left) old (Err e) new
       → (0 < left) × Refuses (HasFront shape old.input) ⊤ (shape.borrows ≡ true) Anything old.input e new.input
-  element_refused left old new e f h = call_refused (Option T) E (ReadsElement meaning shape left) old new e f h
+  element_refused left old new e f h = (call_told (ReadsElement meaning shape left) old new (Err e) f h).1
 
   pub after_some : (o : Option T) (v : T) (c d : AccessorState) → o ≡ Some v → d ≡ after_element {E = E} (Ok o) c → d ≡ record c { left = c.left - 1 }
   after_some o v c d e h = subst (λ x. d ≡ after_element {E = E} (Ok x) c) e h
@@ -72,17 +54,17 @@ pub record KeyRead (last : Option (List ℕ)) (left : ℕ) (old : Progress) (key
 
 pub key_read : (E : Type 0) (last : Option (List ℕ)) (left : ℕ) (old new : Progress) (o : Option (CowStr Global)) (k : CowStr Global) → o ≡ Some k → Call (ReadsNextKey {E = E} last left) old (Ok o) new → KeyRead last left old (cow_str_bytes k) new
 key_read E last left old new o k e h =
-    let r = answered (Option (CowStr Global)) E (ReadsNextKey last left) old new (Some k) (subst (λ x. Call (ReadsNextKey {E = E} last left) old (Ok x) new) e h) in
+    let r = call_answered (ReadsNextKey last left) old new (Some k) (subst (λ x. Call (ReadsNextKey {E = E} last left) old (Ok x) new) e h) in
     record { sound = r.1; some = r.2.0; follows = r.2.1; takes = r.2.2 }
 
 pub no_key : (E : Type 0) (last : Option (List ℕ)) (left : ℕ) (old new : Progress) (o : Option (CowStr Global)) → o ≡ None → Call (ReadsNextKey {E = E} last left) old (Ok o) new → (new.failed ≡ false) × (left ≡ 0) × (new.input ≡ old.input)
 no_key E last left old new o e h =
-    let r = answered (Option (CowStr Global)) E (ReadsNextKey last left) old new None (subst (λ x. Call (ReadsNextKey {E = E} last left) old (Ok x) new) e h) in
+    let r = call_answered (ReadsNextKey last left) old new None (subst (λ x. Call (ReadsNextKey {E = E} last left) old (Ok x) new) e h) in
     (r.1, r.2.0, r.2.1)
 
 pub key_refused : (E : Type 0) (last : Option (List ℕ)) (left : ℕ) (old new : Progress) (e : DecodeError E) → old.failed ≡ false → Call (ReadsNextKey last left) old (Err e) new
     → (0 < left) × Refuses (HasKey last old.input) (old.input.lends ≡ false) ⊥ (KeyCause last) old.input e new.input
-key_refused E last left old new e f h = call_refused (Option (CowStr Global)) E (ReadsNextKey last left) old new e f h
+key_refused E last left old new e f h = (call_told (ReadsNextKey last left) old new (Err e) f h).1
 
 pub after_some_key : (E : Type 0) (o : Option (CowStr Global)) (k : CowStr Global) (c d : AccessorState) → o ≡ Some k → d ≡ after_key {E = E} (Ok o) c → d ≡ record c { left = c.left - 1; last = Some (cow_str_bytes k); owes_value = true }
 after_some_key E o k c d e h = subst (λ x. d ≡ after_key {E = E} (Ok x) c) e h

@@ -16,7 +16,7 @@ use Rattle.dagcbor_items.proofs.Variants.{byte_kind, named_kind, end_kind}
 use Rattle.dagcbor_read.specs.Enums.{EnumState, IsOtherForm, OfForm}
 use Rattle.dagcbor_items.specs.Reads.{NoStepIfDeep}
 use Rattle.dagcbor_read.specs.Accessors.{HasHeadOf, EnterCause, OfBegin}
-use Rattle.dagcbor_read.proofs.Passing.{SameReader, carried}
+use Rattle.dagcbor_read.proofs.Passing.{SameReader, refusal_carried}
 
 pub same_stepped : {old stepped : Reading} → SpentStep old stepped → SameReader old stepped
 same_stepped s = record { faults = ap (λ (r : Reading). r.faults) s.is; lends = ap (λ (r : Reading). r.lends) s.is }
@@ -53,7 +53,7 @@ not_deep old name _ named = tt
 pub no_byte_entered : {E : Type 0} {old stepped : Reading} (major : ℕ) (name : List ℕ) (new : Reading) (e : DecodeError E) → SpentStep old stepped → IsEndNamed name e
     → Refuses (HasByte stepped) ⊥ ⊥ ByteCause stepped e new → Refuses (HasHeadOf major old) ⊥ ⊥ (EnterCause major name) old e new × NoStepIfDeep old e
 no_byte_entered {E} {old} {stepped} major name new e s named r = (
-  carried ByteCause (EnterCause major name) old stepped new e (same_stepped s)
+  refusal_carried ByteCause (EnterCause major name) old stepped new e (same_stepped s)
       (λ h. let b = begins_head h in record { byte = b.first; rest = b.more; left = left_stepped s ∙ b.left }) (λ x. x) (λ x. x)
       (λ b l f. cause e b named (f b (left_stepped s ∙ l))) r,
   not_deep old name e (end_named name e named),

@@ -9,16 +9,17 @@ use Rattle.dagcbor_heads.specs.declared.error.DecodeError.{DecodeError}
 use Rattle.ipld_tree.specs.Tree.{Tree, any_need}
 use Rattle.dagcbor_read.specs.Calls.{Progress, Call}
 use Rattle.dagcbor_items.specs.Reads.{HasFront, TakesFront, Anything}
-use Rattle.dagcbor_items.specs.Shapes.{ignored, Shape}
+use Rattle.dagcbor_items.specs.Shapes.{ignored_item, Shape}
 use Rattle.dagcbor_items.specs.Entering.{Enters}
 use Rattle.dagcbor_read.specs.Accessors.{AccessorState, accessor_state, BeginsItems, ReadsNextKey, after_key, with_value, EndsItems}
 use Rattle.dagcbor_read.specs.declared.access.accessor.Accessor.{Accessor}
 use Rattle.dagcbor_read.specs.Collections.{HasFields, TakesFields, fields_of, value_of, FieldShape}
-use Rattle.dagcbor_read.proofs.Answered.{answered, call_refused, KeyRead, key_read, no_key, after_some_key, after_no_key}
+use Rattle.dagcbor_read.proofs.Progressing.{call_answered, call_told}
+use Rattle.dagcbor_read.proofs.Answered.{KeyRead, key_read, no_key, after_some_key, after_no_key}
 use Rattle.dagcbor_read.proofs.Answered as answer
 use Rattle.dagcbor_read.proofs.EntryRows.{FieldsSoFar, none_so_far, key_not_read, value_not_read, one_more, all_read, map_has_fields, map_taken}
 use Rattle.dagcbor_read.proofs.FieldPlaces.{takes_as, front_as}
-use Rattle.dagcbor_read.proofs.Passing.{carried}
+use Rattle.dagcbor_read.proofs.Passing.{refusal_carried}
 
 module _ {S : Type 0} (shape : FieldShape S) (start : S) where
   -- A map was begun, and entries of it were read, which brought the state to s: the invariant of the loop.
@@ -41,7 +42,7 @@ module _ {S : Type 0} (shape : FieldShape S) (start : S) where
   -- before the loop
   pub map_begun : (E : Type 0) (old mid : Progress) (name : List ℕ) (a : Accessor) → Call (BeginsItems {E = E} 5 name 1) old (Ok a) mid → MapSoFar old (accessor_state a) start mid
   map_begun E old mid name a h =
-      let k = answered Accessor E (BeginsItems 5 name 1) old mid a h in
+      let k = call_answered (BeginsItems 5 name 1) old mid a h in
       record {
         before = accessor_state a;
         mid = mid;
@@ -54,7 +55,7 @@ module _ {S : Type 0} (shape : FieldShape S) (start : S) where
   -- what the rest of the map refuses, the map refuses
   map_refused : {E : Type 0} {old now : Progress} {entries : AccessorState} {s : S} (B : Type 0) (new : Progress) (e : DecodeError E) (i : MapSoFar old entries s now)
       → Refuses (HasFields shape start i.before.last i.before.left i.mid.input) ⊤ B Anything i.mid.input e new.input → Refuses (HasFront (fields_of shape start) old.input) ⊤ B Anything old.input e new.input
-  map_refused {E} {old} {now} B new e i r = carried Anything Anything old.input i.mid.input new.input e record { faults = i.enters.takes.same.faults; lends = i.enters.takes.same.lends }
+  map_refused {E} {old} {now} B new e i r = refusal_carried Anything Anything old.input i.mid.input new.input e record { faults = i.enters.takes.same.faults; lends = i.enters.takes.same.lends }
       (λ x. subst (λ l. HasFields shape start l i.before.left i.mid.input) (sym i.first) (map_has_fields shape start i.enters x)) (λ x. x) (λ x. x) (λ b l g. tt) r
 
   -- the next key was refused
@@ -75,8 +76,8 @@ module _ {S : Type 0} (shape : FieldShape S) (start : S) where
       → Call {T = T} (λ old r new. MatchResult r (λ v. ⊤) (λ e. Refuses (HasFront part old) ⊤ borrows Anything old e new)) mid (Err e) new
       → Refuses (HasFront (fields_of shape start) old.input) ⊤ B Anything old.input e new.input
   value_refused {old} {with_key} {key} {s} E B borrows T part name f mid new e at is same as_much lent h =
-      let r = call_refused T E (λ old r new. MatchResult r (λ v. ⊤) (λ e. Refuses (HasFront part old) ⊤ borrows Anything old e new)) mid new e at.read.sound h in
-      let r' = carried Anything Anything mid.input mid.input new.input e record { faults = refl; lends = refl } (λ front. front_as f part (value_of shape s name) same as_much front) (λ x. x) lent (λ b l g. tt) r in
+      let r = (call_told (λ old r new. MatchResult r (λ v. ⊤) (λ e. Refuses (HasFront part old) ⊤ borrows Anything old e new)) mid new (Err e) at.read.sound h).1 in
+      let r' = refusal_carried Anything Anything mid.input mid.input new.input e record { faults = refl; lends = refl } (λ front. front_as f part (value_of shape s name) same as_much front) (λ x. x) lent (λ b l g. tt) r in
       map_refused B new e at.so_far (value_not_read shape B new.input e key name (sym is) at.so_far.fields at.read r')
 
   -- Its value was read, and shows this.
@@ -84,7 +85,7 @@ module _ {S : Type 0} (shape : FieldShape S) (start : S) where
       → key ≡ name → ((t : Tree) → shape.take s name t ≡ option_map f (part.view t)) → ((t : Tree) → shape.need name t ≡ part.need t) → next ≡ f shown → after ≡ with_value with_key
       → Call {E = E} (λ old r new. MatchResult r (λ v. TakesFront part old shown new) (λ e. ⊤)) mid (Ok v) new → MapSoFar old after next new
   value_read {old} {with_key} {after} {key} {s} {next} E T part name f mid new v shown at is same as_much is_next is_after h =
-      let r = answered T E (λ old r new. MatchResult r (λ v. TakesFront part old shown new) (λ e. ⊤)) mid new v h in
+      let r = call_answered (λ old r new. MatchResult r (λ v. TakesFront part old shown new) (λ e. ⊤)) mid new v h in
       let w = takes_as f part (value_of shape s name) same as_much r.2 in
       let i = at.so_far in
       let fields = one_more shape key name (sym is) i.fields at.read at.after is_after r.1 w in
@@ -92,14 +93,14 @@ module _ {S : Type 0} (shape : FieldShape S) (start : S) where
 
   -- Its value was passed over, which was refused: it is no field's.
   pub skip_refused : {old : Progress} {with_key : AccessorState} {key : List ℕ} {s : S} (E B T : Type 0) (mid new : Progress) (e : DecodeError E) → MapAtValue old with_key key s mid → ((t : Tree) → shape.take s key t ≡ Some s) → ((t : Tree) → shape.need key t ≡ any_need t)
-      → Call {T = T} (λ old r new. MatchResult r (λ v. ⊤) (λ e. Refuses (HasFront ignored old) ⊤ (false ≡ true) Anything old e new)) mid (Err e) new
+      → Call {T = T} (λ old r new. MatchResult r (λ v. ⊤) (λ e. Refuses (HasFront ignored_item old) ⊤ (false ≡ true) Anything old e new)) mid (Err e) new
       → Refuses (HasFront (fields_of shape start) old.input) ⊤ B Anything old.input e new.input
-  skip_refused {old} {with_key} {key} {s} E B T mid new e at same as_much h = value_refused E B (false ≡ true) T ignored key (λ _. s) mid new e at refl same as_much (λ l. absurd (cc l)) h
+  skip_refused {old} {with_key} {key} {s} E B T mid new e at same as_much h = value_refused E B (false ≡ true) T ignored_item key (λ _. s) mid new e at refl same as_much (λ l. absurd (cc l)) h
 
   -- Its value was passed over.
   pub value_skipped : {old : Progress} {with_key after : AccessorState} {key : List ℕ} {s : S} (E T : Type 0) (mid new : Progress) (v : T) → MapAtValue old with_key key s mid → ((t : Tree) → shape.take s key t ≡ Some s) → ((t : Tree) → shape.need key t ≡ any_need t)
-      → after ≡ with_value with_key → Call {E = E} (λ old r new. MatchResult r (λ v. TakesFront ignored old tt new) (λ e. ⊤)) mid (Ok v) new → MapSoFar old after s new
-  value_skipped {old} {with_key} {after} {key} {s} E T mid new v at same as_much is_after h = value_read E T ignored key (λ _. s) mid new v tt at refl same as_much refl is_after h
+      → after ≡ with_value with_key → Call {E = E} (λ old r new. MatchResult r (λ v. TakesFront ignored_item old tt new) (λ e. ⊤)) mid (Ok v) new → MapSoFar old after s new
+  value_skipped {old} {with_key} {after} {key} {s} E T mid new v at same as_much is_after h = value_read E T ignored_item key (λ _. s) mid new v tt at refl same as_much refl is_after h
 
   -- behind the loop: no key was left, and the map was ended
   pub map_ended : {old : Progress} {entries : AccessorState} {s : S} (E : Type 0) (now mid new : Progress) (o : Option (CowStr Global)) (after : AccessorState) (u : Unit {0}) → MapSoFar old entries s now → o ≡ None
@@ -107,7 +108,7 @@ module _ {S : Type 0} (shape : FieldShape S) (start : S) where
       → (new.failed ≡ false) × TakesFront (fields_of shape start) old.input s new.input
   map_ended {old} {entries} {s} E now mid new o after u i is h is_after end =
       let k = no_key E _ _ now mid o is h in
-      let e = answered (Unit {0}) E (EndsItems after) mid new u end in
+      let e = call_answered (EndsItems after) mid new u end in
       let a = all_read shape mid new i.fields k.1 (after_no_key E o _ _ is is_after) k.2 e.2.1 in
       let fields = subst (λ l. TakesFields shape start l i.before.left i.mid.input s a.0) i.first a.1 in
       (e.1, map_taken shape start i.enters fields (a.2 ∙ ap (λ n. with_steps (a.0.steps + n) a.0) i.one))

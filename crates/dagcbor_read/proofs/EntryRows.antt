@@ -22,15 +22,12 @@ use Rattle.dagcbor_read.specs.Enums.{EnumState, BeginsHeld, IsOtherForm, ReadsFi
 use Rattle.dagcbor_read.specs.declared.access.accessor.Accessor.{Accessor}
 use Rattle.dagcbor_read.specs.Collections.{view_entries, view_fields, need_entries, need_fields, HasFields, TakesFields, ReadsEntriesLeft, fields_of, value_of, FieldShape}
 use Rattle.dagcbor_items.specs.Entries.{AllFollow}
-use Rattle.dagcbor_items.proofs.Rows.{some_first, row_key, row_value}
+use Rattle.dagcbor_items.proofs.Rows.{some_first, all_follow, row_key, row_value}
 use Rattle.dagcbor_items.proofs.Maps.{map_closed}
-use Rattle.dagcbor_read.proofs.Answered.{answered, KeyRead}
+use Rattle.dagcbor_read.proofs.Progressing.{call_answered}
+use Rattle.dagcbor_read.proofs.Answered.{KeyRead}
 use Rattle.dagcbor_read.proofs.ItemRows.{same_reader, left_again}
-use Rattle.dagcbor_read.proofs.Passing.{carried}
-
-follow_all : (last : Option (List ℕ)) (k : List ℕ) (t : Tree) (es : Entries) → Follows last k → AllFollow last (entry k t es)
-follow_all None k t es h = tt
-follow_all (Some l) k t es h = h
+use Rattle.dagcbor_read.proofs.Passing.{refusal_carried}
 
 module _ {S : Type 0} (shape : FieldShape S) where
   -- ---- an entry before others
@@ -80,7 +77,7 @@ module _ {S : Type 0} (shape : FieldShape S) where
           entry key v.0 o.0,
           o.1,
           omega (arith, o.2),
-          follow_all last key v.0 o.0 f,
+          all_follow last key v.0 o.0 f,
           entry_closed b q.0 v.1 o.1 key v.0 o.0 q.1 v.2 o.3 o.4,
           ap (option_and_then (λ n. view_entries shape.take n o.0)) v.3 ∙ o.5,
           omega (arith, v.4, o.6, a.same.steps, w.same.steps),
@@ -122,13 +119,13 @@ module _ {S : Type 0} (shape : FieldShape S) where
       → Refuses (HasKey now_left.last now.input) (now.input.lends ≡ false) ⊥ (KeyCause now_left.last) now.input e new
       → Refuses (HasFields shape start before.last before.left old.input) ⊤ borrows Anything old.input e new
   key_not_read {E} {start} {s} {before} {now_left} {old} {now} borrows new e i some r =
-      carried (KeyCause now_left.last) Anything old.input now.input new e (same_reader i.same) (λ h. row_key some (i.has h)) (λ _. tt) (λ x. absurd x) (λ b l g. tt) r
+      refusal_carried (KeyCause now_left.last) Anything old.input now.input new e (same_reader i.same) (λ h. row_key some (i.has h)) (λ _. tt) (λ x. absurd x) (λ b l g. tt) r
 
   pub value_not_read : {E : Type 0} {start s : S} {before now_left : AccessorState} {old now mid : Progress} (borrows : Type 0) (new : Reading) (e : DecodeError E) (key text' : List ℕ) → text' ≡ key → FieldsSoFar start before old now_left s now
       → KeyRead now_left.last now_left.left now key mid → Refuses (HasFront (value_of shape s text') mid.input) ⊤ borrows Anything mid.input e new
       → Refuses (HasFields shape start before.last before.left old.input) ⊤ borrows Anything old.input e new
   value_not_read {E} {start} {s} {before} {now_left} {old} {now} {mid} borrows new e key text' is i k r =
-      carried Anything Anything old.input mid.input new e (same_reader (stays_both i.same k.takes.same))
+      refusal_carried Anything Anything old.input mid.input new e (same_reader (stays_both i.same k.takes.same))
       (λ h. subst (λ x. HasFront (value_of shape s x) mid.input) (sym is) (fields_value key k.some k.takes (i.has h))) (λ x. x) (λ x. x) (λ b l g. tt) r
 
   pub one_more : {start s next : S} {before now_left with_key after : AccessorState} {old now mid new : Progress} (key text' : List ℕ) → text' ≡ key → FieldsSoFar start before old now_left s now → KeyRead now_left.last now_left.left now key mid
@@ -209,20 +206,20 @@ module _ {S : Type 0} (shape : FieldShape S) where
     pub entries_read : {T E : Type 0} (meaning : T → S) (old mid new : Progress) (name : List ℕ) (a : Accessor) (result : Result T (DecodeError E)) → Call (BeginsItems {E = E} 5 name 1) old (Ok a) mid
         → ReadsEntriesLeft meaning shape start (accessor_state a) mid result new → ReadsValue meaning (fields_of shape start) old result new
     entries_read {T} {E} meaning old mid new name a (Ok v) h r f =
-        let k = answered Accessor E (BeginsItems 5 name 1) old mid a h in
+        let k = call_answered (BeginsItems 5 name 1) old mid a h in
         let one : a.steps ≡ 1 = ap (λ (c : AccessorState). c.steps) k.2.0 in
         let none : (accessor_state a).last ≡ None = ap (λ (c : AccessorState). c.last) k.2.0 in
         (r.0, map_taken k.2.2 (subst (λ l. TakesFields shape start l a.left mid.input (meaning v) r.1) none r.2) (r.3 ∙ ap (λ n. with_steps (r.1.steps + n) r.1) one))
     entries_read {T} {E} meaning old mid new name a (Err e) h r f =
-        let k = answered Accessor E (BeginsItems 5 name 1) old mid a h in
+        let k = call_answered (BeginsItems 5 name 1) old mid a h in
         let none : (accessor_state a).last ≡ None = ap (λ (c : AccessorState). c.last) k.2.0 in
-        carried Anything Anything old.input mid.input new.input e record { faults = k.2.2.takes.same.faults; lends = k.2.2.takes.same.lends }
+        refusal_carried Anything Anything old.input mid.input new.input e record { faults = k.2.2.takes.same.faults; lends = k.2.2.takes.same.lends }
         (λ x. subst (λ l. HasFields shape start l a.left mid.input) (sym none) (map_has_fields k.2.2 x)) (λ x. x) (λ x. x) (λ b l g. tt) r
 
     -- the same of a map that a variant holds
     pub held_entries_read : {T E : Type 0} (meaning : T → S) (name : List ℕ) (e : EnumState) (old mid new : Progress) (a : Accessor) (result : Result T (DecodeError E)) → Call (BeginsHeld {E = E} 5 name e) old (Ok a) mid
         → ReadsEntriesLeft meaning shape start (accessor_state a) mid result new → ReadsFieldsHeld meaning (fields_of shape start) e old result new
-    held_entries_read {T} {E} meaning name e old mid new a result h r f = by e.in_map refl (answered Accessor E (BeginsHeld 5 name e) old mid a h).2 result r
+    held_entries_read {T} {E} meaning name e old mid new a result h r f = by e.in_map refl (call_answered (BeginsHeld 5 name e) old mid a h).2 result r
       where
         by : (m : Bool) → e.in_map ≡ m → MatchBool m (BeginsItems {E = E} 5 name (e.steps + 1) old.input (Ok a) mid.input) ⊥ → (result : Result T (DecodeError E)) → ReadsEntriesLeft meaning shape start (accessor_state a) mid result new
             → IfOk result (λ v. new.failed ≡ false) × MatchResult result
@@ -238,6 +235,6 @@ module _ {S : Type 0} (shape : FieldShape S) where
         by true is k (Err x) r =
             let none : (accessor_state a).last ≡ None = ap (λ (c : AccessorState). c.last) k.0 in (
               tt,
-              carried Anything Anything old.input mid.input new.input x record { faults = k.2.takes.same.faults; lends = k.2.takes.same.lends }
+              refusal_carried Anything Anything old.input mid.input new.input x record { faults = k.2.takes.same.faults; lends = k.2.takes.same.lends }
                   (λ y. subst (λ l. HasFields shape start l a.left mid.input) (sym none) (map_has_fields k.2 y)) (λ y. y) (λ y. y) (λ b l g. tt) r,
             )

@@ -7,7 +7,7 @@ use Rattle.dagcbor_heads.specs.declared.name.Name.{Name}
 use Rattle.dagcbor_heads.specs.declared.error.DecodeError.{DecodeError}
 use Rattle.dagcbor_heads.specs.declared.error.DecodeError.TheVariants.{Msg}
 use Rattle.dagcbor_heads.proofs.Taking.{stays}
-use Rattle.dagcbor_heads.proofs.Refusing.{passed_on, refused}
+use Rattle.dagcbor_heads.proofs.Refusing.{passed_on, as_refusal}
 use Rattle.ipld_tree.specs.Tree.{Tree}
 use Rattle.ipld_tree.proofs.Fronts.{front_unique}
 use Rattle.dagcbor_items.specs.Reads.{HasFront, TakesFront, Anything}
@@ -18,8 +18,8 @@ use Rattle.dagcbor_read.specs.Collections.{finishing}
 
 module _ {S V : Type 0} (shape : Shape Tree S) (finish : S → Option V) where
   -- what was read makes a value
-  pub finished : {F A : Type 0} {old new : Reading} {s : S} {v : V} → (F → A × TakesFront shape old s new) → finish s ≡ Some v → F → A × TakesFront (finishing finish shape) old v new
-  finished {F} {A} {old} {new} {s} {v} h is fresh =
+  pub value_finished : {F A : Type 0} {old new : Reading} {s : S} {v : V} → (F → A × TakesFront shape old s new) → finish s ≡ Some v → F → A × TakesFront (finishing finish shape) old v new
+  value_finished {F} {A} {old} {new} {s} {v} h is fresh =
       let k = h fresh in (
         k.0,
         record {
@@ -32,9 +32,9 @@ module _ {S V : Type 0} (shape : Shape Tree S) (finish : S → Option V) where
   no_value {o} {s} e n a = let none : is_some (option_and_then finish o) ≡ false = ap (λ x. is_some (option_and_then finish x)) e ∙ ap is_some n in absurd (cc (sym a ∙ none))
 
   -- what was read makes no value
-  pub unfinished : (B : Type 0) {F A E : Type 0} {old new : Reading} {s : S} {error : DecodeError E} → (kept : Name) × (error ≡ Msg kept) → finish s ≡ None → (F → A × TakesFront shape old s new) → F
+  pub value_unfinished : (B : Type 0) {F A E : Type 0} {old new : Reading} {s : S} {error : DecodeError E} → (kept : Name) × (error ≡ Msg kept) → finish s ≡ None → (F → A × TakesFront shape old s new) → F
       → Refuses (HasFront (finishing finish shape) old) ⊤ B Anything old error new
-  unfinished B {F} {A} {E} {old} {new} {s} message none h fresh =
+  value_unfinished B {F} {A} {E} {old} {new} {s} message none h fresh =
       let k = h fresh in
       let refuses : Refuses {E = E} (HasFront (finishing finish shape) old) ⊤ B Anything old (Msg message.0) new = (
         k.1.same.faults,
@@ -49,7 +49,7 @@ module _ {S V : Type 0} (shape : Shape Tree S) (finish : S → Option V) where
   -- a part of it is missing, which `?` hands on
   pub missing : (B : Type 0) {F A E T : Type 0} (P : T → Type 0) {old new : Reading} {s : S} (result : Result T (DecodeError E)) {error : DecodeError E} → IsErrAnd result (λ y. y ≡ error) → (kept : Name) × (error ≡ Msg kept) → finish s ≡ None
       → (F → A × TakesFront shape old s new) → F → MatchResult result P (λ e. Refuses (HasFront (finishing finish shape) old) ⊤ B Anything old e new)
-  missing B {F} {A} {E} {T} P {old} {new} {s} result {error} is message none h fresh = refused P (λ e. Refuses (HasFront (finishing finish shape) old) ⊤ B Anything old e new) result error is (unfinished B message none h fresh)
+  missing B {F} {A} {E} {T} P {old} {new} {s} result {error} is message none h fresh = as_refusal P (λ e. Refuses (HasFront (finishing finish shape) old) ⊤ B Anything old e new) result error is (value_unfinished B message none h fresh)
 
   has_state : (o : Option S) → is_some (option_and_then finish o) ≡ true → is_some o ≡ true
   has_state None a = a
@@ -64,14 +64,14 @@ module _ {S V : Type 0} (shape : Shape Tree S) (finish : S → Option V) where
   -- it was not read, which `?` hands on
   pub handed_on : (B : Type 0) {F E T : Type 0} (P : T → Type 0) (old new : Reading) (result : Result T (DecodeError E)) (error : DecodeError E) → IsErrAnd result (λ y. y ≡ error) → (F → Refuses (HasFront shape old) ⊤ B Anything old error new)
       → F → MatchResult result P (λ e. Refuses (HasFront (finishing finish shape) old) ⊤ B Anything old e new)
-  handed_on B {F} {E} {T} P old new result error is h fresh = refused P (λ e. Refuses (HasFront (finishing finish shape) old) ⊤ B Anything old e new) result error is (not_read B old new {F = F} error h fresh)
+  handed_on B {F} {E} {T} P old new result error is h fresh = as_refusal P (λ e. Refuses (HasFront (finishing finish shape) old) ⊤ B Anything old e new) result error is (not_read B old new {F = F} error h fresh)
 
   -- what was read makes a value, or is refused
   pub finishes : {F A E T : Type 0} (B : Type 0) (meaning : T → V) {old new : Reading} {s : S} (result : Result T (DecodeError E))
       → MatchResult result (λ v. finish s ≡ Some (meaning v)) (λ e. (finish s ≡ None) × ((kept : Name) × (e ≡ Msg kept))) → (F → A × TakesFront shape old s new) → F
       → MatchResult result (λ v. A × TakesFront (finishing finish shape) old (meaning v) new) (λ e. Refuses (HasFront (finishing finish shape) old) ⊤ B Anything old e new)
-  finishes B meaning (Ok v) h k fresh = finished k h fresh
-  finishes B meaning (Err e) h k fresh = unfinished B h.1 h.0 k fresh
+  finishes B meaning (Ok v) h k fresh = value_finished k h fresh
+  finishes B meaning (Err e) h k fresh = value_unfinished B h.1 h.0 k fresh
 
   -- ---- the same of the fields that a variant holds
 
@@ -81,12 +81,12 @@ module _ {S V : Type 0} (shape : Shape Tree S) (finish : S → Option V) where
       → ReadsFieldsHeld {E = E} state shape e old (Ok s) new → ReadsFieldsHeld meaning (finishing finish shape) e old result new
   held_finishes state meaning e old new s (Ok v) is h fresh =
       let k = h fresh in
-      let made = finished {F = Unit {0}} {A = Unit {0}} (λ u. (tt, k.1.1.1)) is tt in
+      let made = value_finished {F = Unit {0}} {A = Unit {0}} (λ u. (tt, k.1.1.1)) is tt in
       (k.0, (k.1.0, (k.1.1.0, made.1, k.1.1.2)))
   held_finishes {E} state meaning e old new s (Err x) is h fresh =
       let k = h fresh in
       let refuses : Reading → DecodeError E → Type 0 = λ now y. Refuses {E = E} (HasFront (finishing finish shape) old.input) ⊤ (shape.borrows ≡ true) Anything old.input y now in
-      let none : refuses k.1.1.0 (Msg is.1.0) = unfinished (shape.borrows ≡ true) {F = Unit {0}} {A = Unit {0}} {E = E} {error = Msg is.1.0} (is.1.0, refl) is.0 (λ u. (tt, k.1.1.1)) tt in
+      let none : refuses k.1.1.0 (Msg is.1.0) = value_unfinished (shape.borrows ≡ true) {F = Unit {0}} {A = Unit {0}} {E = E} {error = Msg is.1.0} (is.1.0, refl) is.0 (λ u. (tt, k.1.1.1)) tt in
       let back : refuses new.input (Msg is.1.0) = subst (λ now. refuses now (Msg is.1.0)) (sym k.1.1.2) none in
       (tt, subst (λ m. MatchBool m (refuses new.input x) (IsOtherForm e x × (new.input ≡ old.input))) (sym k.1.0) (subst (refuses new.input) (sym is.1.1) back))
 

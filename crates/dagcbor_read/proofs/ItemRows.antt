@@ -18,8 +18,8 @@ use Rattle.dagcbor_read.specs.declared.access.accessor.Accessor.{Accessor}
 use Rattle.dagcbor_items.specs.Items.{HasRow}
 use Rattle.dagcbor_read.specs.Collections.{view_list, need_list, view_none, TakesRow, ReadsRest, list_of, all_of, no_more, first_then}
 use Rattle.dagcbor_items.proofs.Rows.{row_first}
-use Rattle.dagcbor_read.proofs.Answered.{answered}
-use Rattle.dagcbor_read.proofs.Passing.{SameReader, carried}
+use Rattle.dagcbor_read.proofs.Progressing.{call_answered}
+use Rattle.dagcbor_read.proofs.Passing.{SameReader, refusal_carried}
 use Rattle.dagcbor_items.specs.Shapes.{Shape}
 
 pub same_reader : {old new : Reading} → Stays old new → SameReader old new
@@ -110,13 +110,13 @@ or_right false b e = e
 module _ {V W : Type 0} (shape : Shape Tree V) (others : Shape Items W) where
   pub part_refused : {E : Type 0} {count : ℕ} (old new : Reading) (e : DecodeError E) → 0 < count → Refuses (HasFront shape old) ⊤ (shape.borrows ≡ true) Anything old e new
       → Refuses (HasRow (first_then shape others) count old) ⊤ ((shape.borrows || others.borrows) ≡ true) Anything old e new
-  part_refused {E} {count} old new e some r = carried Anything Anything old old new e (same_reader (stays old))
+  part_refused {E} {count} old new e some r = refusal_carried Anything Anything old old new e (same_reader (stays old))
       (row_first shape others (λ v w. (v, w)) (first_then shape others) (λ t ts. refl) (λ t ts. refl) some) (λ x. x) (or_left shape.borrows others.borrows) (λ b l g. tt) r
 
   pub parts_refused : {E : Type 0} {before after : AccessorState} {old mid : Reading} {v : V} (new : Reading) (e : DecodeError E) → 0 < before.left → after ≡ record before { left = before.left - 1 } → TakesFront shape old v mid
       → Refuses (HasRow others after.left mid) ⊤ (others.borrows ≡ true) Anything mid e new
       → Refuses (HasRow (first_then shape others) before.left old) ⊤ ((shape.borrows || others.borrows) ≡ true) Anything old e new
-  parts_refused {E} {before} {after} {old} {mid} new e some is a r = carried Anything Anything old mid new e (same_reader a.same)
+  parts_refused {E} {before} {after} {old} {mid} new e some is a r = refusal_carried Anything Anything old mid new e (same_reader a.same)
       (λ h. subst (λ n. HasRow others n mid) (sym (ap (λ (c : AccessorState). c.left) is))
       (row_others shape others (λ v w. (v, w)) (first_then shape others) (λ t ts. refl) (λ t ts. refl) some a h)) (λ x. x) (or_right shape.borrows others.borrows) (λ b l g. tt) r
 
@@ -191,7 +191,7 @@ module _ {V : Type 0} (shape : Shape Tree V) where
   pub item_refused : {E : Type 0} {before now_left : AccessorState} {old now : Progress} {vs : List V} (borrows : Type 0) (new : Reading) (e : DecodeError E) → ReadSoFar before old now_left vs now → 0 < now_left.left
       → Refuses (HasFront shape now.input) ⊤ borrows Anything now.input e new → Refuses (HasRow (all_of shape) before.left old.input) ⊤ borrows Anything old.input e new
   item_refused {E} {before} {now_left} {old} {now} borrows new e s some r =
-      carried Anything Anything old.input now.input new e (same_reader s.same) (λ h. first_of some (s.has h)) (λ x. x) (λ x. x) (λ b l g. tt) r
+      refusal_carried Anything Anything old.input now.input new e (same_reader s.same) (λ h. first_of some (s.has h)) (λ x. x) (λ x. x) (λ b l g. tt) r
 
 -- ---- the whole list
 
@@ -239,9 +239,9 @@ module _ {V : Type 0} (shape : Shape Items V) where
   pub rest_reads : {T E : Type 0} (meaning : T → V) (old mid new : Progress) (name : List ℕ) (a : Accessor) (result : Result T (DecodeError E)) → Call (BeginsItems {E = E} 4 name 1) old (Ok a) mid
       → ReadsRest meaning shape (accessor_state a) mid result new → ReadsValue meaning (list_of shape) old result new
   rest_reads {T} {E} meaning old mid new name a (Ok v) h r f =
-      let k = answered Accessor E (BeginsItems 4 name 1) old mid a h in
+      let k = call_answered (BeginsItems 4 name 1) old mid a h in
       let one : a.steps ≡ 1 = ap (λ (c : AccessorState). c.steps) k.2.0 in
       (r.0, list_taken k.2.2 r.2 (r.3 ∙ ap (λ n. with_steps (r.1.steps + n) r.1) one))
   rest_reads {T} {E} meaning old mid new name a (Err e) h r f =
-      let k = answered Accessor E (BeginsItems 4 name 1) old mid a h in
-      carried Anything Anything old.input mid.input new.input e record { faults = k.2.2.takes.same.faults; lends = k.2.2.takes.same.lends } (list_has_row k.2.2) (λ x. x) (λ x. x) (λ b l g. tt) r
+      let k = call_answered (BeginsItems 4 name 1) old mid a h in
+      refusal_carried Anything Anything old.input mid.input new.input e record { faults = k.2.2.takes.same.faults; lends = k.2.2.takes.same.lends } (list_has_row k.2.2) (λ x. x) (λ x. x) (λ b l g. tt) r

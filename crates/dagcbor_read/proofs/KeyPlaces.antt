@@ -24,8 +24,8 @@ same_key k l e = exact_bytes k l (second_equal _ (bytes_cmp k l) e)
 bytes_same : (k : List ℕ) → bytes_cmp k k ≡ Equal
 bytes_same k = tied_itself nat_list_cmp_total k
 
-turned : (k l : List ℕ) (o : Ordering) → key_cmp k l ≡ o → key_cmp l k ≡ ordering_reverse o
-turned k l o e = key_cmp_total.antisymm l k ∙ ap ordering_reverse e
+key_cmp_turned : (k l : List ℕ) (o : Ordering) → key_cmp k l ≡ o → key_cmp l k ≡ ordering_reverse o
+key_cmp_turned k l o e = key_cmp_total.antisymm l k ∙ ap ordering_reverse e
 
 module _ {V : Type 0} where
   abbrev put : List ℕ → V → List (List ℕ × V) → List (List ℕ × V)
@@ -53,11 +53,11 @@ module _ {V : Type 0} where
 
   -- keys that differ are put in any order
   put_below : (k l : List ℕ) (v w : V) (ps : List (List ℕ × V)) → key_cmp k l ≡ Less → put k v (put l w ps) ≡ put l w (put k v ps)
-  put_below k l v w [] less = put_less k v (l, w) [] less ∙ sym (put_greater l w (k, v) [] (turned k l Less less))
+  put_below k l v w [] less = put_less k v (l, w) [] less ∙ sym (put_greater l w (k, v) [] (key_cmp_turned k l Less less))
   put_below k l v w (p ∷ ps) less = by (put_below k l v w ps less) (key_cmp l p.0) (key_cmp k p.0) refl refl
     where
       above_k : put l w ((k, v) ∷ p ∷ ps) ≡ (k, v) ∷ put l w (p ∷ ps)
-      above_k = put_greater l w (k, v) (p ∷ ps) (turned k l Less less)
+      above_k = put_greater l w (k, v) (p ∷ ps) (key_cmp_turned k l Less less)
 
       by : put k v (put l w ps) ≡ put l w (put k v ps) → (b a : Ordering) → key_cmp l p.0 ≡ b → key_cmp k p.0 ≡ a → put k v (put l w (p ∷ ps)) ≡ put l w (put k v (p ∷ ps))
       by more Less a e f =
@@ -79,7 +79,7 @@ module _ {V : Type 0} where
       by : (o : Ordering) → key_cmp k l ≡ o → put k v (put l w ps) ≡ put l w (put k v ps)
       by Less e = put_below k l v w ps e
       by Equal e = absurd (apart (same_key k l e))
-      by Greater e = sym (put_below l k w v ps (turned k l Greater e))
+      by Greater e = sym (put_below l k w v ps (key_cmp_turned k l Greater e))
 
 -- a value that goes to its key in a sorted map
 pub put_sorted : {A V : Type 0} (meaning : A → V) (es : List (String Global × A)) (k : String Global) (v : A)

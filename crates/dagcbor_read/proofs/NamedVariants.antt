@@ -23,10 +23,10 @@ use Rattle.dagcbor_items.specs.Reads.{HasFront, TakesFront, Anything}
 use Rattle.dagcbor_read.specs.Values.{ReadsValue}
 use Rattle.dagcbor_read.specs.Enums.{EnumState, enum_state, TakesForm, HasStepEnum, StepEnumCause, SpendsEnum, ReadsName, IsOtherForm, EndsUnit, ReadsHeld, ReadsFieldsHeld}
 use Rattle.dagcbor_read.specs.declared.access.enum_accessor.EnumAccessor.{EnumAccessor}
-use Rattle.dagcbor_read.proofs.Answered.{answered, call_refused}
+use Rattle.dagcbor_read.proofs.Progressing.{call_answered, call_told}
 use Rattle.dagcbor_read.proofs.FieldPlaces.{takes_as, front_as}
-use Rattle.dagcbor_read.proofs.Finishing.{unfinished}
-use Rattle.dagcbor_read.proofs.Passing.{SameReader, carried}
+use Rattle.dagcbor_read.proofs.Finishing.{value_unfinished}
+use Rattle.dagcbor_read.proofs.Passing.{SameReader, refusal_carried}
 
 -- ---- texts and the first byte
 
@@ -54,9 +54,9 @@ record Entered (old mid : Reading) : Type 0 where
   faults : mid.faults ≡ old.faults
   through : mid.through ≡ old.through
 
-entered : (e : EnumState) {old mid : Reading} → Spent e old mid → Entered old mid
+enum_entered : (e : EnumState) {old mid : Reading} → Spent e old mid → Entered old mid
 unfolding Spent
-entered e {old} {mid} s = by e.in_map s.3
+enum_entered e {old} {mid} s = by e.in_map s.3
   where
     by : (b : Bool) → MatchBool b ((e.first ≡ 0xa1) × Takes (with_steps (old.steps - 1) old) (0xa1 ∷ []) mid) ((e.first / 32 ≡ 3) × ShowsByte (with_steps (old.steps - 1) old) e.first mid) → Entered old mid
     by true h = let a = h.1.same in record { steps = omega (arith, a.steps, s.1); budget = a.budget; lends = a.lends; faults = a.faults; through = a.through }
@@ -68,9 +68,9 @@ record Opened (e : EnumState) (b : List ℕ) (mid : Reading) : Type 0 where
   left : mid.left ≡ Some behind
   form : ((e.in_map ≡ true) × (b ≡ 161 ∷ behind)) ⊎ ((e.in_map ≡ false) × (b ≡ behind) × ((more : List ℕ) × (b ≡ e.first ∷ more)) × (e.first / 32 ≡ 3))
 
-opened : (e : EnumState) (old mid : Reading) (b : List ℕ) → Spent e old mid → old.left ≡ Some b → Opened e b mid
+enum_opened : (e : EnumState) (old mid : Reading) (b : List ℕ) → Spent e old mid → old.left ≡ Some b → Opened e b mid
 unfolding Spent
-opened e old mid b s l = by e.in_map refl s.3
+enum_opened e old mid b s l = by e.in_map refl s.3
   where
     by : (m : Bool) → e.in_map ≡ m → MatchBool m ((e.first ≡ 0xa1) × Takes (with_steps (old.steps - 1) old) (0xa1 ∷ []) mid) ((e.first / 32 ≡ 3) × ShowsByte (with_steps (old.steps - 1) old) e.first mid) → Opened e b mid
     by true is h = let k = h.1.taken b l in record { behind = k.0; left = k.2; form = inl (is, k.1) }
@@ -84,11 +84,11 @@ pub record Named (e : EnumState) (k : List ℕ) (old now : Reading) : Type 0 whe
   pub name : TakesFront (leaf view_text) mid k now
 
 same_named : {e : EnumState} {k : List ℕ} {old now : Reading} → Named e k old now → SameReader old now
-same_named {e} n = let a = entered e n.spent in record { faults = n.name.same.faults ∙ a.faults; lends = n.name.same.lends ∙ a.lends }
+same_named {e} n = let a = enum_entered e n.spent in record { faults = n.name.same.faults ∙ a.faults; lends = n.name.same.lends ∙ a.lends }
 
 refusal_passed : {E could could' borrows borrows' : Type 0} {e : EnumState} {k : List ℕ} {old now : Reading} (new : Reading) (r : DecodeError E) → Named e k old now → (could' → could) → (borrows → borrows')
     → Refuses could ⊤ borrows Anything now r new → Refuses could' ⊤ borrows' Anything old r new
-refusal_passed {E} {could} {could'} {borrows} {borrows'} {e} {k} {old} {now} new r n c w h = carried Anything Anything old now new r (same_named n) c (λ x. x) w (λ b l g. tt) h
+refusal_passed {E} {could} {could'} {borrows} {borrows'} {e} {k} {old} {now} new r n c w h = refusal_carried Anything Anything old now new r (same_named n) c (λ x. x) w (λ b l g. tt) h
 
 other_form_refused : {E could : Type 0} (borrows : Type 0) (old new : Reading) (e : EnumState) (r : DecodeError E) → IsOtherForm e r → new.faults ≡ old.faults → (could → ⊥) → Refuses could ⊤ borrows Anything old r new
 other_form_refused borrows old new e (Mismatch n f) h same never = (same, never, λ b l. tt)
@@ -170,8 +170,8 @@ module _ {V : Type 0} (shape : EnumShape V) where
 
   behind : (e : EnumState) (old mid : Reading) → Spent e old mid → HasFront (enum_of shape) old → Behind e old mid
   behind e old mid s h = elim (by_form h) [
-    | inl u ↦ behind_unit e u (opened e old mid u.bytes s u.left)
-    | inr p ↦ behind_part e p (opened e old mid (161 ∷ p.after_head) s p.left)
+    | inl u ↦ behind_unit e u (enum_opened e old mid u.bytes s u.left)
+    | inr p ↦ behind_part e p (enum_opened e old mid (161 ∷ p.after_head) s p.left)
   ]
 
   name_stands : (e : EnumState) {old mid : Reading} → Spent e old mid → HasFront (enum_of shape) old → HasFront (leaf view_text) mid
@@ -198,7 +198,7 @@ module _ {V : Type 0} (shape : EnumShape V) where
         let both : text k ≡ text p.1.name = sym (text_of t.0 k t.3) ∙ same.0 in
         let name : k ≡ p.1.name = cc both in
         let much = ap (λ x. shape.need x p.1.value) name in
-        let steps = (entered e n.spent).steps in
+        let steps = (enum_entered e n.spent).steps in
         inr (
           p.0,
           record {
@@ -217,18 +217,18 @@ module _ {V : Type 0} (shape : EnumShape V) where
 
   pub not_begun : {E : Type 0} (borrows : Type 0) (name : List ℕ) (old new : Progress) (r : DecodeError E) → old.failed ≡ false → Call (SpendsEnum name) old (Err r) new
       → Refuses (HasFront (enum_of shape) old.input) ⊤ borrows Anything old.input r new.input
-  not_begun {E} borrows name old new r f h = carried (StepEnumCause name) Anything old.input old.input new.input r (record { faults = refl; lends = refl }) can_begin (λ x. absurd x) (λ x. absurd x) (λ b l g. tt)
-      (call_refused EnumAccessor E (SpendsEnum name) old new r f h).0
+  not_begun {E} borrows name old new r f h = refusal_carried (StepEnumCause name) Anything old.input old.input new.input r (record { faults = refl; lends = refl }) can_begin (λ x. absurd x) (λ x. absurd x) (λ b l g. tt)
+      (call_told (SpendsEnum name) old new (Err r) f h).1.0
 
   -- no variant's name stood there
   pub not_named : {E : Type 0} (borrows : Type 0) (name : List ℕ) (old mid new : Progress) (a : EnumAccessor) (r : DecodeError E) → Call (SpendsEnum {E = E} name) old (Ok a) mid → Call ReadsName mid (Err r) new
       → Refuses (HasFront (enum_of shape) old.input) ⊤ borrows Anything old.input r new.input
   unfolding Spent
   not_named {E} borrows name old mid new a r h k =
-      let s = answered EnumAccessor E (SpendsEnum name) old mid a h in
-      let i = entered (enum_state a) s.2 in
-      carried (TextCause _) Anything old.input mid.input new.input r (record { faults = i.faults; lends = i.lends }) (name_stands (enum_state a) s.2) (λ x. tt) (λ x. absurd x) (λ b l g. tt)
-      (call_refused (CowStr Global × EnumAccessor) E ReadsName mid new r s.1 k)
+      let s = call_answered (SpendsEnum name) old mid a h in
+      let i = enum_entered (enum_state a) s.2 in
+      refusal_carried (TextCause _) Anything old.input mid.input new.input r (record { faults = i.faults; lends = i.lends }) (name_stands (enum_state a) s.2) (λ x. tt) (λ x. absurd x) (λ b l g. tt)
+      (call_told ReadsName mid new (Err r) s.1 k).1
 
   -- ---- answers
 
@@ -236,10 +236,10 @@ module _ {V : Type 0} (shape : EnumShape V) where
       → TakesFront (enum_of shape) old v new
   unfolding Spent
   unit_taken {e} {k} {old} {now} {new} {v} n h is =
-      let i = entered e n.spent in
+      let i = enum_entered e n.spent in
       record {
         taken = λ b l.
-            let o = opened e old n.mid b n.spent l in
+            let o = enum_opened e old n.mid b n.spent l in
             let same : o.behind ≡ b = elim o.form [ inl m ↦ absurd (cc (sym m.0 ∙ h.0)) | inr f ↦ sym f.1 ] in
             let t = n.name.taken o.behind o.left in
             let name = text_of t.0 k t.3 in (
@@ -273,10 +273,10 @@ module _ {V : Type 0} (shape : EnumShape V) where
       → TakesFront (enum_of shape) old v new
   unfolding Spent
   part_taken {e} {k} {old} {now} {after} {new} {v} n m a back =
-      let i = entered e n.spent in
+      let i = enum_entered e n.spent in
       record {
         taken = λ b l.
-            let o = opened e old n.mid b n.spent l in
+            let o = enum_opened e old n.mid b n.spent l in
             let same : b ≡ 161 ∷ o.behind = elim o.form [ inl f ↦ f.1 | inr f ↦ absurd (cc (sym m ∙ f.0)) ] in
             let t = n.name.taken o.behind o.left in
             let u = a.taken t.1 t.5 in (
@@ -302,8 +302,8 @@ pub variant_named : (E : Type 0) (name : List ℕ) (old mid now : Progress) (a :
     → (now.failed ≡ false) × Named (enum_state v.1) (cow_str_bytes v.0) old.input now.input
 unfolding Spent
 variant_named E name old mid now a v h k e =
-    let s = answered EnumAccessor E (SpendsEnum name) old mid a h in
-    let n = answered (CowStr Global × EnumAccessor) E ReadsName mid now v k in
+    let s = call_answered (SpendsEnum name) old mid a h in
+    let n = call_answered ReadsName mid now v k in
     (n.1, record { mid = mid.input; spent = subst (λ x. Spent (enum_state x) old.input mid.input) (sym e) s.2; name = n.2 })
 
 module _ {V : Type 0} (shape : EnumShape V) where
@@ -339,7 +339,7 @@ module _ {V : Type 0} (shape : EnumShape V) where
   pub unit_read : (E : Type 0) (e : EnumState) (old new : Progress) {k : List ℕ} (name : List ℕ) {v : V} → k ≡ name → shape.unit name ≡ Some v → Call (EndsUnit {E = E} e) old (Ok tt) new
       → (new.failed ≡ false) × TakesVariant shape k e old.input v new.input
   unit_read E e old new {k} name {v} is shows h =
-      let r = answered (Unit {0}) E (EndsUnit e) old new tt h in
+      let r = call_answered (EndsUnit e) old new tt h in
       let taken : (shape.unit k ≡ Some v) × (new.input ≡ with_steps (old.input.steps + e.steps) old.input) = (ap shape.unit is ∙ shows, r.2.1) in (
         r.1,
         subst (λ b. MatchBool b ((end : Reading) × TakesFront (part_of shape k) old.input v end × (new.input ≡ with_steps (end.steps + e.steps) end)) ((shape.unit k ≡ Some v) × (new.input ≡ with_steps (old.input.steps + e.steps) old.input))) (sym r.2.0) taken,
@@ -349,7 +349,7 @@ module _ {V : Type 0} (shape : EnumShape V) where
   pub unit_refused : {E : Type 0} (borrows : Type 0) (e : EnumState) (old new : Progress) {k : List ℕ} (name : List ℕ) (r : DecodeError E) → k ≡ name → ((t : Tree) → shape.part name t ≡ None) → old.failed ≡ false → Call (EndsUnit e) old (Err r) new
       → Refuses (HasVariant shape k e old.input) ⊤ borrows Anything old.input r new.input
   unit_refused {E} borrows e old new {k} name r is none f h =
-      let g = call_refused (Unit {0}) E (EndsUnit e) old new r f h in
+      let g = (call_told (EndsUnit e) old new (Err r) f h).1 in
       other_form_refused borrows old.input new.input e r g.1 (ap (λ (x : Reading). x.faults) g.2)
       (λ i.
       let p = subst (λ b. MatchBool b (HasFront (part_of shape k) old.input) (is_some (shape.unit k) ≡ true)) g.0 i in
@@ -387,14 +387,14 @@ module _ {V : Type 0} (shape : EnumShape V) where
       where
         by : (m : Bool) → MatchBool m (Refuses (HasFront own old.input) ⊤ (own.borrows ≡ true) Anything old.input r new.input) (IsOtherForm e r × (new.input ≡ old.input))
             → Refuses (MatchBool m (HasFront (part_of shape k) old.input) (is_some (shape.unit k) ≡ true)) ⊤ borrows Anything old.input r new.input
-        by true g = carried Anything Anything old.input old.input new.input r (record { faults = refl; lends = refl })
+        by true g = refusal_carried Anything Anything old.input old.input new.input r (record { faults = refl; lends = refl })
             (λ i. front_as f own (part_of shape name) same much (subst (λ x. HasFront (part_of shape x) old.input) is i)) (λ x. x) w (λ b l x. tt) g
         by false g = other_form_refused borrows old.input new.input e r g.0 (ap (λ (x : Reading). x.faults) g.1) (λ i. none_some (ap shape.unit is ∙ none) i)
 
     -- by a call of the accessor
     called : (e : EnumState) (old new : Progress) (r : Result T (DecodeError E)) → Call (ReadsHeld meaning own e) old r new → ReadsFieldsHeld meaning own e old r new
-    called e old new (Ok w) h sound = let r = answered T E (ReadsHeld meaning own e) old new w h in (r.1, r.2)
-    called e old new (Err x) h sound = (tt, call_refused T E (ReadsHeld meaning own e) old new x sound h)
+    called e old new (Ok w) h sound = let r = call_answered (ReadsHeld meaning own e) old new w h in (r.1, r.2)
+    called e old new (Err x) h sound = (tt, (call_told (ReadsHeld meaning own e) old new (Err x) sound h).1)
 
     pub held_read : (e : EnumState) (old new : Progress) {k : List ℕ} (name : List ℕ) (w : T) → k ≡ name → ((t : Tree) → shape.part name t ≡ option_map f (own.view t)) → ((t : Tree) → shape.need name t ≡ own.need t)
         → old.failed ≡ false → Call (ReadsHeld {E = E} meaning own e) old (Ok w) new
@@ -416,7 +416,7 @@ module _ {S W : Type 0} (fields : FieldShape S) (start : S) (finish : S → Opti
       let k = h sound in
       let end = k.1.1.0 in
       let same : new.input.faults ≡ end.faults = ap (λ (x : Reading). x.faults) k.1.1.2 in
-      let u = unfinished (fields_of fields start) finish (fields.borrows ≡ true) (message, is) none (λ (u : Unit {0}). (k.0, k.1.1.1)) tt in
+      let u = value_unfinished (fields_of fields start) finish (fields.borrows ≡ true) (message, is) none (λ (u : Unit {0}). (k.0, k.1.1.1)) tt in
       let moved : Refuses (HasFront (struct_of fields start finish) old.input) ⊤ (fields.borrows ≡ true) Anything old.input r new.input =
       told_refused (fields.borrows ≡ true) old.input r new.input is (same ∙ k.1.1.1.same.faults)
       (subst (λ x. Refuses {E = E} (HasFront (struct_of fields start finish) old.input) ⊤ (fields.borrows ≡ true) Anything old.input x end) is u).1 in

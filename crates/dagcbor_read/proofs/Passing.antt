@@ -11,13 +11,13 @@ pub record SameReader (old mid : Reading) : Type 0 where
   pub faults : mid.faults ≡ old.faults
   pub lends : mid.lends ≡ old.lends
 
-pub carried : {E could could' lacks lacks' borrows borrows' : Type 0} (stands stands' : DecodeError E → List ℕ → Type 0) (old mid new : Reading) (e : DecodeError E)
+pub refusal_carried : {E could could' lacks lacks' borrows borrows' : Type 0} (stands stands' : DecodeError E → List ℕ → Type 0) (old mid new : Reading) (e : DecodeError E)
     → SameReader old mid → (could' → could) → (lacks → lacks') → (borrows → borrows')
     → ((b : List ℕ) → old.left ≡ Some b → ((c : List ℕ) → mid.left ≡ Some c → stands e c) → stands' e b)
     → Refuses could lacks borrows stands mid e new → Refuses could' lacks' borrows' stands' old e new
-carried stands stands' old mid new (Read e) h c k w s r = omega (arith, h.faults, r)
-carried stands stands' old mid new OutOfMemory h c k w s r = (r.0 ∙ h.faults, k r.1)
-carried stands stands' old mid new (RequireBorrowed n) h c k w s r = (r.0 ∙ h.faults, w r.1, sym h.lends ∙ r.2)
-carried stands stands' old mid new Failed h c k w s r = r
-carried stands stands' old mid new (DepthOverflow n) h c k w s r = (r.0 ∙ h.faults, λ x. r.1 (c x), λ b l. s b l r.2, r.3)
-carried stands stands' old mid new _ h c k w s r = (r.0 ∙ h.faults, λ x. r.1 (c x), λ b l. s b l r.2)
+refusal_carried stands stands' old mid new (Read e) h c k w s r = omega (arith, h.faults, r)
+refusal_carried stands stands' old mid new OutOfMemory h c k w s r = (r.0 ∙ h.faults, k r.1)
+refusal_carried stands stands' old mid new (RequireBorrowed n) h c k w s r = (r.0 ∙ h.faults, w r.1, sym h.lends ∙ r.2)
+refusal_carried stands stands' old mid new Failed h c k w s r = r
+refusal_carried stands stands' old mid new (DepthOverflow n) h c k w s r = (r.0 ∙ h.faults, λ x. r.1 (c x), λ b l. s b l r.2, r.3)
+refusal_carried stands stands' old mid new _ h c k w s r = (r.0 ∙ h.faults, λ x. r.1 (c x), λ b l. s b l r.2)

@@ -37,9 +37,9 @@ pub call_told : {T E : Type 0} (reads : Reading → Result T (DecodeError E) →
     → (new.failed ≡ is_err r) × reads old.input r new.input
 call_told reads old new r sound h = match_false old.failed _ _ sound h
 
-pub called : {T E : Type 0} (reads : Reading → Result T (DecodeError E) → Reading → Type 0) (old new : Progress) (r : Result T (DecodeError E)) → old.failed ≡ false
+pub call_of : {T E : Type 0} (reads : Reading → Result T (DecodeError E) → Reading → Type 0) (old new : Progress) (r : Result T (DecodeError E)) → old.failed ≡ false
     → (new.failed ≡ is_err r) × reads old.input r new.input → Call reads old r new
-called reads old new r sound h = by_false old.failed _ _ sound h
+call_of reads old new r sound h = by_false old.failed _ _ sound h
 
 -- the error that `?` hands on
 pub call_refused : {T E : Type 0} (reads : Reading → Result T (DecodeError E) → Reading → Type 0) (old new : Progress) (r : Result T (DecodeError E)) (e : DecodeError E) → IsErrAnd r (λ y. y ≡ e)
@@ -50,14 +50,14 @@ call_refused reads old new (Err y) e h q = subst (λ x. Call reads old (Err x) n
 is_failed : (T U E : Type 0) (e : DecodeError E) → IsFailed {T = T} (Err e) → IsFailed {T = U} (Err e)
 is_failed T U E e h = let same : e ≡ Failed = cc h in ap (λ x. Err x) same
 
-passed : (T U E : Type 0) (failed : Bool) (e : DecodeError E) (Same Q Q' : Type 0) → (Q → Q') → MatchBool failed (IsFailed {T = T} (Err e) × Same) Q → MatchBool failed (IsFailed {T = U} (Err e) × Same) Q'
-passed T U E true e Same Q Q' f h = (is_failed T U E e h.0, h.1)
-passed T U E false e Same Q Q' f h = f h
+failure_passed : (T U E : Type 0) (failed : Bool) (e : DecodeError E) (Same Q Q' : Type 0) → (Q → Q') → MatchBool failed (IsFailed {T = T} (Err e) × Same) Q → MatchBool failed (IsFailed {T = U} (Err e) × Same) Q'
+failure_passed T U E true e Same Q Q' f h = (is_failed T U E e h.0, h.1)
+failure_passed T U E false e Same Q Q' f h = f h
 
 -- the refusal of a call on the same, which is one of the whole
 pub call_passed_on : {T U E : Type 0} (reads : Reading → Result T (DecodeError E) → Reading → Type 0) (reads' : Reading → Result U (DecodeError E) → Reading → Type 0) (old new : Progress) (e : DecodeError E)
     → (reads old.input (Err e) new.input → reads' old.input (Err e) new.input) → Call reads old (Err e) new → Call reads' old (Err e) new
-call_passed_on {T} {U} {E} reads reads' old new e f h = passed T U E old.failed e _ _ _ (λ k. (k.0, f k.1)) h
+call_passed_on {T} {U} {E} reads reads' old new e f h = failure_passed T U E old.failed e _ _ _ (λ k. (k.0, f k.1)) h
 
 -- ---- a call that begins, and reads by another
 
@@ -69,7 +69,7 @@ pub begun_and_read : {T E : Type 0} (reads : Reading → Result T (DecodeError E
     (old mid : Progress) (v : T) (now : Reading) → Begun old mid → reads mid.input (Ok v) now
     → Call reads old (Ok v) (record { input = now; failed = false })
 begun_and_read reads old mid v now b r =
-    called reads old _ (Ok v) b.0 (refl, subst (λ (p : Progress). reads p.input (Ok v) now) b.1 r)
+    call_of reads old _ (Ok v) b.0 (refl, subst (λ (p : Progress). reads p.input (Ok v) now) b.1 r)
 
 -- the error that `?` hands on
 pub begun_and_refused : {T E : Type 0} (reads : Reading → Result T (DecodeError E) → Reading → Type 0)
@@ -78,5 +78,5 @@ pub begun_and_refused : {T E : Type 0} (reads : Reading → Result T (DecodeErro
     → Call reads old r (record { input = now; failed = mid.failed })
 begun_and_refused reads old mid r e now b h q =
     call_refused reads old _ r e h
-    (called reads old (record { input = now; failed = mid.failed }) (Err e) b.0
+    (call_of reads old (record { input = now; failed = mid.failed }) (Err e) b.0
     (ap (λ (p : Progress). p.failed) b.1, subst (λ (p : Progress). reads p.input (Err e) now) b.1 q))

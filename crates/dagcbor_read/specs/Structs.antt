@@ -27,8 +27,8 @@ place name shape others = record {
 }
 
 -- a place that has no name: nothing goes to it
-abbrev pub unnamed : {V S : Type 0} → FieldShape S → FieldShape (Option V × S)
-unnamed others = record {
+abbrev pub unnamed_place : {V S : Type 0} → FieldShape S → FieldShape (Option V × S)
+unnamed_place others = record {
   take = λ s k t. option_map (λ o. (s.0, o)) (others.take s.1 k t);
   need = others.need;
   borrows = others.borrows;
@@ -37,7 +37,7 @@ unnamed others = record {
 -- places that are named in their order
 abbrev pub places : {V S : Type 0} → Shape Tree V → (List (List ℕ) → FieldShape S) → List (List ℕ)
     → FieldShape (Option V × S)
-places shape others [] = unnamed (others [])
+places shape others [] = unnamed_place (others [])
 places shape others (name ∷ names) = place name shape (others names)
 
 -- ---- structs
@@ -61,9 +61,9 @@ abbrev pub finish_required : {V S W : Type 0} → (S → Option W) → Option V 
 finish_required others s = option_and_then (λ v. option_map (λ w. (v, w)) (others s.1)) s.0
 
 -- a field that must be there, before others
-abbrev pub required : {V S W : Type 0} → List ℕ → Shape Tree V → StructShape S W
+abbrev pub required_field : {V S W : Type 0} → List ℕ → Shape Tree V → StructShape S W
     → StructShape (Option V × S) (V × W)
-required name shape others = record {
+required_field name shape others = record {
   fields = place name shape others.fields;
   unread = (None, others.unread);
   finish = finish_required others.finish;
@@ -75,9 +75,9 @@ abbrev pub finish_optional : {V S W : Type 0} → (S → Option W) → Option (O
 finish_optional others s = option_map (λ w. (option_flatten s.0, w)) (others s.1)
 
 -- a field that may be absent, or null, before others
-abbrev pub optional : {V S W : Type 0} → List ℕ → Shape Tree V → StructShape S W
+abbrev pub optional_field : {V S W : Type 0} → List ℕ → Shape Tree V → StructShape S W
     → StructShape (Option (Option V) × S) (Option V × W)
-optional name shape others = record {
+optional_field name shape others = record {
   fields = place name (option_of shape) others.fields;
   unread = (None, others.unread);
   finish = finish_optional others.finish;

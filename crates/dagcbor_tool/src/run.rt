@@ -17,14 +17,14 @@ use std::io::{BufRead, Write};
 
 /// What is kept from one fill to the next.
 #[derive(Drop)]
-struct Kept {
+struct Buffers {
     /// What stands behind the last line feed.
-    held: Vec<u8>,
+    partial: Vec<u8>,
     /// Room for the bytes of a line's block.
     block: Vec<u8>,
     /// The answers that are not written yet.
     out: Vec<u8>,
-    ghost one_line: { All (λ b. b ≢ 10) held.items },
+    ghost one_line: { All (λ b. b ≢ 10) partial.items },
 }
 
 /// Answers the line that ends with these bytes, in front of which what is held stands.
@@ -32,24 +32,24 @@ fn answer_line(
     alloc: Global,
     command: Command,
     end: &[u8],
-    kept: &mut Kept,
+    buffers: &mut Buffers,
 ) -> Result<(), ToolError>
     requires { All (λ b. b ≢ 10) end.now }
     ensures written { OnOk result (AppendsLine
-        (IsAnswer command (strip_carriage_return (kept.old.held.items ++ end.now)))
-        kept.old.out.items kept.new.out.items) }
-    ensures held { OnOk result (kept.new.held.items ≡ []) }
-    ensures same { OnErr result (kept.new.out.items ≡ kept.old.out.items) }
+        (IsAnswer command (strip_carriage_return (buffers.old.partial.items ++ end.now)))
+        buffers.old.out.items buffers.new.out.items) }
+    ensures emptied { OnOk result (buffers.new.partial.items ≡ []) }
+    ensures same { OnErr result (buffers.new.out.items ≡ buffers.old.out.items) }
     ensures memory { IfErr result (λ e. e ≡ ToolError.OutOfMemory) }
 {
-    if kept.held.is_empty() {
+    if buffers.partial.is_empty() {
         let line = without_return(end);
-        return push_answer(alloc, command, line, &mut kept.block, &mut kept.out);
+        return push_answer(alloc, command, line, &mut buffers.block, &mut buffers.out);
     }
-    kept.held.extend_from_slice(end)?;
-    let line = without_return(&kept.held);
-    push_answer(alloc, command, line, &mut kept.block, &mut kept.out)?;
-    kept.held.clear();
+    buffers.partial.extend_from_slice(end)?;
+    let line = without_return(&buffers.partial);
+    push_answer(alloc, command, line, &mut buffers.block, &mut buffers.out)?;
+    buffers.partial.clear();
     Ok(())
 }
 
@@ -58,21 +58,21 @@ fn answer_shown(
     alloc: Global,
     command: Command,
     shown: &[u8],
-    kept: &mut Kept,
+    buffers: &mut Buffers,
 ) -> Result<(), ToolError>
     ensures answered { OnOk result (AppendsAnswers (IsAnswer command)
-        (kept.old.held.items ++ shown.now) kept.new.held.items
-        kept.old.out.items kept.new.out.items) }
+        (buffers.old.partial.items ++ shown.now) buffers.new.partial.items
+        buffers.old.out.items buffers.new.out.items) }
     ensures some { (left : List ℕ) × AppendsAnswers (IsAnswer command)
-        (kept.old.held.items ++ shown.now) left kept.old.out.items kept.new.out.items }
+        (buffers.old.partial.items ++ shown.now) left buffers.old.out.items buffers.new.out.items }
     ensures memory { IfErr result (λ e. e ≡ ToolError.OutOfMemory) }
 {
     let mut rest = shown;
     while let Some(at) = line_feed(rest) {
-        answer_line(alloc, command, &rest[..at], kept)?;
+        answer_line(alloc, command, &rest[..at], buffers)?;
         rest = &rest[at + 1..];
     }
-    kept.held.extend_from_slice(rest)?;
+    buffers.partial.extend_from_slice(rest)?;
     Ok(())
 }
 
@@ -82,21 +82,21 @@ fn answer_fill<R: BufRead, W: Write>(
     command: Command,
     reader: &mut R,
     writer: &mut W,
-    kept: &mut Kept,
+    buffers: &mut Buffers,
 ) -> Result<bool, ToolError>
     ensures answered { OnOk result
-        (IfSome (prepend_known kept.old.held.items (R.remaining reader.old)) (λ input.
+        (IfSome (prepend_known buffers.old.partial.items (R.remaining reader.old)) (λ input.
         HasAnswered (IsAnswer command) input
-        (prepend_known kept.new.held.items (R.remaining reader.new))
+        (prepend_known buffers.new.partial.items (R.remaining reader.new))
         (W.contents writer.old) (W.contents writer.new))) }
     ensures end { result ≡ Ok false
         → IfSome (R.remaining reader.old) (λ _. IsAtEnd (R.remaining reader.new)) }
     ensures broken { OnErr result
-        (IfSome (prepend_known kept.old.held.items (R.remaining reader.old)) (λ input.
+        (IfSome (prepend_known buffers.old.partial.items (R.remaining reader.old)) (λ input.
         BreaksOff (IsAnswer command) input (R.remaining reader.new)
         (W.contents writer.old) (W.contents writer.new))) }
     ensures whole { IfErr result (λ e. e ≢ ToolError.Output
-        → IfSome (prepend_known kept.old.held.items (R.remaining reader.old)) (λ input.
+        → IfSome (prepend_known buffers.old.partial.items (R.remaining reader.old)) (λ input.
         WritesWhole (IsAnswer command) input (W.contents writer.old) (W.contents writer.new))) }
 {
     let Ok(shown) = reader.fill_buf() else {
@@ -106,9 +106,9 @@ fn answer_fill<R: BufRead, W: Write>(
     if taken == 0 {
         return Ok(false);
     }
-    kept.out.clear();
-    let answered = answer_shown(alloc, command, shown, kept);
-    write_all(writer, &kept.out)?;
+    buffers.out.clear();
+    let answered = answer_shown(alloc, command, shown, buffers);
+    write_all(writer, &buffers.out)?;
     answered?;
     reader.consume(taken);
     Ok(true)
@@ -119,22 +119,28 @@ fn answer_last<W: Write>(
     alloc: Global,
     command: Command,
     writer: &mut W,
-    kept: &mut Kept,
+    buffers: &mut Buffers,
 ) -> Result<(), ToolError>
     ensures answered { OnOk result (WritesAnswers (IsAnswer command)
-        (W.contents writer.old) (W.contents writer.new) (lines kept.old.held.items)) }
+        (W.contents writer.old) (W.contents writer.new) (lines buffers.old.partial.items)) }
     ensures broken { OnErr result (WritesBeginning (IsAnswer command)
-        (W.contents writer.old) (W.contents writer.new) (lines kept.old.held.items)) }
+        (W.contents writer.old) (W.contents writer.new) (lines buffers.old.partial.items)) }
     ensures whole { IfErr result (λ e. e ≢ ToolError.Output
-        → WritesWhole (IsAnswer command) kept.old.held.items
+        → WritesWhole (IsAnswer command) buffers.old.partial.items
         (W.contents writer.old) (W.contents writer.new)) }
 {
-    if kept.held.is_empty() {
+    if buffers.partial.is_empty() {
         return Ok(());
     }
-    kept.out.clear();
-    push_answer(alloc, command, &kept.held, &mut kept.block, &mut kept.out)?;
-    write_all(writer, &kept.out)
+    buffers.out.clear();
+    push_answer(
+        alloc,
+        command,
+        &buffers.partial,
+        &mut buffers.block,
+        &mut buffers.out,
+    )?;
+    write_all(writer, &buffers.out)
 }
 
 /// Answers each line of the input by a line of the output, as the command says. What a fill ends is
@@ -155,15 +161,15 @@ pub fn run_lines<R: BufRead, W: Write>(
         → IfSome (R.remaining reader.old) (λ input.
         WritesWhole (IsAnswer command) input (W.contents writer.old) (W.contents writer.new))) }
 {
-    let mut kept = Kept {
-        held: Vec::new(alloc),
+    let mut buffers = Buffers {
+        partial: Vec::new(alloc),
         block: Vec::new(alloc),
         out: Vec::new(alloc),
     };
     for _ in 0..u64::MAX {
-        let more = answer_fill(alloc, command, reader, writer, &mut kept)?;
+        let more = answer_fill(alloc, command, reader, writer, &mut buffers)?;
         if !more {
-            return answer_last(alloc, command, writer, &mut kept);
+            return answer_last(alloc, command, writer, &mut buffers);
         }
     }
     Err(ToolError::Input)

@@ -13,7 +13,7 @@ use Rattle.dagcbor_heads.specs.Messages.{message_bytes}
 use Rattle.dagcbor_heads.specs.Written.{Written, WroteAll, Writes, Stops}
 use Rattle.dagcbor_heads.specs.declared.error.EncodeError.{EncodeError}
 use Rattle.dagcbor_heads.specs.declared.error.EncodeError.TheVariants.{Msg, Write, OutOfMemory}
-use Rattle.ipld_tree.specs.Tree.{Tree, text, mapping, Entries, no_entries, entry, IsTree, ordered, repeats_key, map_tree, all_some, key_of, pair_of, entries_tree}
+use Rattle.ipld_tree.specs.Tree.{Tree, text, mapping, Entries, no_entries, entry, IsTree, ordered_entries, repeats_key, map_tree, all_some, key_of, pair_of, entries_tree}
 use Rattle.ipld_tree.specs.Spelling.{entry_count, text_spelling}
 use Rattle.ipld_tree.specs.Spelled.{spelled, spelled_bytes, spelled_entries, spelled_tree, spelled_head}
 use Rattle.ipld_tree.proofs.Ordered.{Has, HasPair, ordered_has}
@@ -83,8 +83,8 @@ part_None false es n = n
 tree_None : (o : Option (List Named)) → NoMap o → (spelled_tree (option_and_then map_tree o) ≡ None) × (entries_text (option_and_then map_tree o) ≡ None)
 tree_None None h = (refl, refl)
 tree_None (Some qs) h =
-    let n = entries_None (ordered qs) h.0.0 h.0.1 (ordered_has qs h.0.0 h.0.1 h.1) h.2 in
-    (whole_None (repeats_key qs) (ordered qs) n, part_None (repeats_key qs) (ordered qs) n)
+    let n = entries_None (ordered_entries qs) h.0.0 h.0.1 (ordered_has qs h.0.0 h.0.1 h.1) h.2 in
+    (whole_None (repeats_key qs) (ordered_entries qs) n, part_None (repeats_key qs) (ordered_entries qs) n)
 
 no_text : (announced : Option ℕ) (done left : List Pair) (p : Pair) → CannotBeWritten p → map_rest announced (done ++ p ∷ left) ≡ None
 no_text None done left p h = (tree_None (all_some (map pair_of (done ++ p ∷ left))) (missing done left p h)).0
@@ -92,10 +92,10 @@ no_text (Some n) done left p h = (tree_None (all_some (map pair_of (done ++ p �
 
 -- ---- the head of a map, and what follows it
 
-counts : (b : Bool) (qs : List Named) (n : ℕ) → length qs ≡ n → spelled_tree (cond b None (Some (mapping (ordered qs)))) ≡ spelled_head 5 n ++? entries_text (cond b None (Some (mapping (ordered qs))))
+counts : (b : Bool) (qs : List Named) (n : ℕ) → length qs ≡ n → spelled_tree (cond b None (Some (mapping (ordered_entries qs)))) ≡ spelled_head 5 n ++? entries_text (cond b None (Some (mapping (ordered_entries qs))))
 unfolding spelled
 counts true qs n e = sym (append_None (spelled_head 5 n))
-counts false qs n e = ap (λ k. spelled_head 5 k ++? spelled_entries (ordered qs)) (entry_count_ordered qs ∙ e)
+counts false qs n e = ap (λ k. spelled_head 5 k ++? spelled_entries (ordered_entries qs)) (entry_count_ordered qs ∙ e)
 
 some_length : (ps : List Pair) → IfSome (all_some (map pair_of ps)) (λ qs. length qs ≡ length ps)
 some_length [] = refl
@@ -156,10 +156,10 @@ entry_cause p m (inl (inl h)) = inl (key_none p.0 h.1)
 entry_cause p m (inl (inr h)) = inl (no_key p.0 h.1)
 entry_cause p m (inr h) = inr h.1
 
-stopped : {E : Type 0} (whole : Option (List ℕ)) (s t : Written) (Cause : List ℕ → Type 0) (e : EncodeError E) → ((m : List ℕ) → Cause m → whole ≡ None) → Refused Cause e → s ≡ t → Stops whole s t e
-stopped {E} whole s t Cause (Msg m) f p same = let P : Written → Type 0 = λ u. Stops {E = E} whole s u (Msg m) in subst P same (f (message_bytes m) p, appends_nothing s.bytes, refl, refl)
-stopped whole s t Cause (Write e) f p same = absurd p
-stopped {E} whole s t Cause OutOfMemory f p same = let P : Written → Type 0 = λ u. Stops {E = E} whole s u OutOfMemory in subst P same (wrote_nothing whole s, refl, refl)
+refusal_stops : {E : Type 0} (whole : Option (List ℕ)) (s t : Written) (Cause : List ℕ → Type 0) (e : EncodeError E) → ((m : List ℕ) → Cause m → whole ≡ None) → Refused Cause e → s ≡ t → Stops whole s t e
+refusal_stops {E} whole s t Cause (Msg m) f p same = let P : Written → Type 0 = λ u. Stops {E = E} whole s u (Msg m) in subst P same (f (message_bytes m) p, appends_nothing s.bytes, refl, refl)
+refusal_stops whole s t Cause (Write e) f p same = absurd p
+refusal_stops {E} whole s t Cause OutOfMemory f p same = let P : Written → Type 0 = λ u. Stops {E = E} whole s u OutOfMemory in subst P same (wrote_nothing whole s, refl, refl)
 
 -- a text is refused as a key for want of memory alone
 pub only_value : {T E : Type 0} (Taken : T → Type 0) (name : List ℕ) (value : Option Tree) (r : Result T (EncodeError E)) → length name < 2 ^ 64 → Collects Taken (RefusesEntry (Some (text name)) value) r → Collects Taken (RefusesValue value) r
@@ -173,7 +173,7 @@ only_value Taken name value (Err OutOfMemory) h t = t
 -- the exit of a `?`, where nothing has gone out
 exit_unsent : {T E : Type 0} (whole : Option (List ℕ)) (s t : Written) (Cause : List ℕ → Type 0) (r : Result T (EncodeError E)) (e : EncodeError E) → ((m : List ℕ) → Cause m → whole ≡ None) → Refused Cause e → IsErrAnd r (λ d. d ≡ e) → s ≡ t → Writes whole s t r
 exit_unsent whole s t Cause (Ok x) e f p is same = absurd is
-exit_unsent {T} {E} whole s t Cause (Err d) e f p is same = let P : EncodeError E → Type 0 = λ y. Stops whole s t y in subst P (sym is) (stopped whole s t Cause e f p same)
+exit_unsent {T} {E} whole s t Cause (Err d) e f p is same = let P : EncodeError E → Type 0 = λ y. Stops whole s t y in subst P (sym is) (refusal_stops whole s t Cause e f p same)
 
 -- the exit of a `?` at an entry
 pub exit_pair : {T E : Type 0} {whole left : List Pair} {p : Pair} {old : List Texts} (announced : Option ℕ) → Given-but whole (p ∷ left) old → (s t : Written) (r : Result T (EncodeError E)) (e : EncodeError E)

@@ -5,7 +5,7 @@ use Rattle.std.specs.List.Sorted.{IsStrictlySortedBy}
 use Rattle.std.specs.Map.{keys_of}
 use Rattle.dagcbor_heads.specs.declared.error.EncodeError.{EncodeError}
 use Rattle.dagcbor_heads.specs.Written.{Written, Writes}
-use Rattle.ipld_tree.specs.Tree.{Tree, boolean, text, list, mapping, IsTree, items_of, ordered, map_tree, all_some, list_tree, pair_of, entries_tree}
+use Rattle.ipld_tree.specs.Tree.{Tree, boolean, text, list, mapping, IsTree, items_of, ordered_entries, map_tree, all_some, list_tree, pair_of, entries_tree}
 use Rattle.ipld_tree.specs.Ipld.{tree_of, pairs_of}
 use Rattle.ipld_tree.specs.Spelled.{spelled, spelled_tree}
 use Rattle.ipld_tree.specs.declared.ipld.Ipld.{Ipld, Bool as Bool', List as List', Map as Map', the_lemmas}
@@ -35,7 +35,7 @@ all_named (e ∷ es) = ap (option_map (λ more. (string_bytes e.0, tree_of e.1) 
 pub map_kind : (j : Ipld) (m : BTreeMap (String Global) Ipld) → j ≡ Map' m → IsStrictlySortedBy string_cmp (keys_of m.entries) → entries_tree (map pair m.entries) ≡ Some (tree_of j)
 map_kind j m is sorted =
     ap (option_and_then map_tree) (all_named m.entries)
-    ∙ ap (λ b. cond b None (Some (mapping (ordered (pairs_of m.entries))))) (test_from_distinct (pairs_of m.entries) (distinct_entries m.entries sorted))
+    ∙ ap (λ b. cond b None (Some (mapping (ordered_entries (pairs_of m.entries))))) (test_from_distinct (pairs_of m.entries) (distinct_entries m.entries sorted))
     ∙ ap Some (sym (tree_of_Map m) ∙ ap tree_of (sym is))
 
 -- the same of a tree under another name

@@ -5,7 +5,7 @@ use Rattle.std.proofs.Math.ListN.{drop_of_length-le}
 use Rattle.std.proofs.lemmas.List.{length-map, take_more, take_all}
 use Rattle.std.specs.Prelude.{option_map, option_and_then, IfSome, OnOk, Result, Ok, Err}
 use Rattle.std.specs.Fmt.{◌++?◌}
-use Rattle.dagcbor_heads.proofs.Writing.{append_None, append_Some, Some_append, joined_assoc, Written-but, begin_writing, joined}
+use Rattle.dagcbor_heads.proofs.Writing.{append_None, append_Some, Some_append, joined_assoc, Written-but, begin_writing, join_parts}
 use Rattle.dagcbor_heads.specs.Written.{Written}
 use Rattle.ipld_tree.specs.Tree.{Tree, IsTree, AreItems, items_of, all_some, list_tree}
 use Rattle.ipld_tree.specs.Spelling.{item_count}
@@ -52,7 +52,7 @@ spelled_by (Some ts) n c = ap (λ (k : ℕ). spelled_head 4 k ++? spelled_items 
 pub spelled_list : (os : List (Option Tree)) → spelled_tree (list_tree os) ≡ spelled_head 4 (length os) ++? spelled_each os
 spelled_list os = spelled_by (all_some os) (length os) (counts_trees os) ∙ ap (λ (x : Option (List ℕ)). spelled_head 4 (length os) ++? x) (spelled_trees os)
 
-pub each_joined : (os : List (Option Tree)) → spelled_each os ≡ joined (map spelled_tree os)
+pub each_joined : (os : List (Option Tree)) → spelled_each os ≡ join_parts (map spelled_tree os)
 each_joined [] = refl
 each_joined (o ∷ os) = ap (λ (x : Option (List ℕ)). spelled_tree o ++? x) (each_joined os)
 
@@ -66,7 +66,7 @@ each_append (x ∷ xs) ys = ap (λ (t : Option (List ℕ)). spelled_tree x ++? t
 
 pub begin_parts : (a b c d : List (Option Tree)) (n : ℕ) (s : Written) → n ≡ length (in_turn a b c d) → Written-but (spelled_tree (list_tree (in_turn a b c d))) (spelled_head 4 n ∷ spelled_each a ∷ spelled_each b ∷ spelled_each c ∷ spelled_each d ∷ []) s s
 begin_parts a b c d n s e =
-    let parts : spelled_each (in_turn a b c d) ≡ joined (spelled_each a ∷ spelled_each b ∷ spelled_each c ∷ spelled_each d ∷ []) =
+    let parts : spelled_each (in_turn a b c d) ≡ join_parts (spelled_each a ∷ spelled_each b ∷ spelled_each c ∷ spelled_each d ∷ []) =
     each_append a (b ++ (c ++ d)) ∙ ap (λ (x : Option (List ℕ)). spelled_each a ++? x) (each_append b (c ++ d) ∙ ap (λ (x : Option (List ℕ)). spelled_each b ++? x) (each_append c d ∙ ap (λ (x : Option (List ℕ)). spelled_each c ++? x) (sym (append_Some (spelled_each d))))) in
     begin_writing _ _ s (spelled_list (in_turn a b c d) ∙ ap₂ (λ k (x : Option (List ℕ)). spelled_head 4 k ++? x) (sym e) parts)
 

@@ -9,7 +9,7 @@ use Rattle.std.specs.List.Sorted.{IsStrictlySortedBy}
 use Rattle.std.specs.Map.{keys_of}
 use Rattle.std.specs.Ordering.{is_lt}
 use Rattle.ipld_tree.specs.Key.{bytes_cmp, key_cmp}
-use Rattle.ipld_tree.specs.Tree.{Tree, text, mapping, Entries, IsTree, entries_of, ordered, repeats_key, map_tree, all_some, pair_of, entries_tree}
+use Rattle.ipld_tree.specs.Tree.{Tree, text, mapping, Entries, IsTree, entries_of, ordered_entries, repeats_key, map_tree, all_some, pair_of, entries_tree}
 use Rattle.ipld_tree.specs.Spelling.{text_spelling, entry_count}
 use Rattle.ipld_tree.specs.Spelled.{spelled, spelled_entries, spelled_tree, spelled_head}
 use Rattle.ipld_tree.proofs.KeyOrder.{key_order, same_key}
@@ -91,13 +91,13 @@ one (Some _) v e h j g w = cc
 joins : (o : Option Named) (os : Option (List Named)) (q : Named) (qs : List Named) → o ≡ Some q → os ≡ Some qs → option_and_then (λ a. option_map (λ more. a ∷ more) os) o ≡ Some (q ∷ qs)
 joins o os q qs e f = ap₂ (λ x y. option_and_then (λ a. option_map (λ more. a ∷ more) y) x) e f
 
-named : (ps : List Pair) (es : List Texts) → AreSpellingsOf ps es → (qs : List Named) × (all_some (map pair_of ps) ≡ Some qs) × Pairwise IsSpelledBy qs es
-named [] [] p = ([], refl, tt)
-named [] (e ∷ es) p = absurd p
-named (p ∷ ps) [] h = absurd h
-named (p ∷ ps) (e ∷ es) h =
+pairs_named : (ps : List Pair) (es : List Texts) → AreSpellingsOf ps es → (qs : List Named) × (all_some (map pair_of ps) ≡ Some qs) × Pairwise IsSpelledBy qs es
+pairs_named [] [] p = ([], refl, tt)
+pairs_named [] (e ∷ es) p = absurd p
+pairs_named (p ∷ ps) [] h = absurd h
+pairs_named (p ∷ ps) (e ∷ es) h =
     let first = one p.0 p.1 e h.0.key h.0.value h.0.good_key h.0.good_value in
-    let more = named ps es h.1 in
+    let more = pairs_named ps es h.1 in
     (first.0 ∷ more.0, joins (pair_of p) (all_some (map pair_of ps)) first.0 more.0 first.1 more.1, (first.2, more.2))
 
 -- ---- entries stand in the order of their bytes as the names do in key order
@@ -163,7 +163,7 @@ good_pairs (q ∷ qs) (f ∷ fs) w = (w.0.good, good_pairs qs fs w.1)
 
 -- ---- the map of the pairs
 
-tree_of : (ps : List Pair) (qs : List Named) (es : Entries) (b : Bool) → all_some (map pair_of ps) ≡ Some qs → repeats_key qs ≡ b → ordered qs ≡ es → entries_tree ps ≡ cond b None (Some (mapping es))
+tree_of : (ps : List Pair) (qs : List Named) (es : Entries) (b : Bool) → all_some (map pair_of ps) ≡ Some qs → repeats_key qs ≡ b → ordered_entries qs ≡ es → entries_tree ps ≡ cond b None (Some (mapping es))
 tree_of ps qs es b e r o = ap (λ x. option_and_then map_tree x) e ∙ ap₂ (λ c x. cond c None (Some (mapping x))) r o
 
 text_by : (announced : Option ℕ) (ps : List Pair) (qs : List Named) (fs : List Texts) → entries_tree ps ≡ Some (mapping (entries_of qs)) → Pairwise IsSpelledBy qs fs → map_rest announced ps ≡ head_rest announced (length fs) ++? Some (entries_bytes fs)
@@ -178,12 +178,12 @@ pub record IsMapOf (announced : Option ℕ) (ps : List Pair) (fs : List Texts) :
 
 pub in_order : (announced : Option ℕ) (ps : List Pair) (es fs : List Texts) → AreSpellingsOf ps es → PutsInOrder es fs true → IsMapOf announced ps fs
 in_order announced ps es fs h o =
-    let given = named ps es h in
+    let given = pairs_named ps es h in
     let moved = beside IsSpelledBy given.0 es fs o.0 given.2 in
     let sorted = ordered_by_sort given.0 moved.0 moved.1 (sorted_names moved.0 fs moved.2 (λ k d h. rw add-one at (o.1 k d (omega arith) (omega (arith, h)))) (λ k d h e. o.2 k d (omega (arith, h)) (rw add-one e))) in
     let none = test_from_distinct given.0 sorted.0 in
     let is = tree_of ps given.0 (entries_of moved.0) false given.1 none sorted.1 in
-    let as_ordered = tree_of ps given.0 (ordered given.0) false given.1 none refl in
+    let as_ordered = tree_of ps given.0 (ordered_entries given.0) false given.1 none refl in
     let P : Option Tree → Type 0 = λ t. IfSome t IsTree in
     record { text = text_by announced ps moved.0 fs is moved.2; good = subst P (sym as_ordered) (are_entries given.0 sorted.0 (good_pairs given.0 es given.2)) }
 
@@ -210,13 +210,13 @@ rest_None (Some n) ps e = ap entries_text e
 -- where a key repeats there is no map
 pub no_order : (announced : Option ℕ) (ps : List Pair) (es fs : List Texts) → AreSpellingsOf ps es → PutsInOrder es fs false → (map_rest announced ps ≡ None) × RepeatsKey ps
 no_order announced ps es fs h o =
-    let given = named ps es h in
+    let given = pairs_named ps es h in
     let moved = beside IsSpelledBy given.0 es fs o.0 given.2 in
     let apart : AreDistinct given.0 → ⊥ = λ d. clash moved.0 fs o.2.0 moved.2 (omega (arith, o.2.1)) (λ e. rw add-one at (o.2.2 e))
     (IsDistinct-IsPermutation same_place same_place_flips (keys_of given.0) (keys_of moved.0) (IsPermutation-map (λ p. p.0) given.0 moved.0 moved.1) d) in
     let twice = repeats (repeats_key given.0) given.0 refl apart in
-    let P : Option (List Named) → Type 0 = λ o. IsSomeAnd o (λ named. IsTrue (repeats_key named)) in
-    (rest_None announced ps (tree_of ps given.0 (ordered given.0) true given.1 twice refl), subst P (sym given.1) (search twice))
+    let P : Option (List Named) → Type 0 = λ o. IsSomeAnd o (λ pairs_named. IsTrue (repeats_key pairs_named)) in
+    (rest_None announced ps (tree_of ps given.0 (ordered_entries given.0) true given.1 twice refl), subst P (sym given.1) (search twice))
 
 -- ---- for the end of a collector
 

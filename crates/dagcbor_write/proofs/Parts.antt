@@ -12,16 +12,16 @@ pub begin_two : (whole a b : Option (List ℕ)) (s : Written) → whole ≡ a ++
 begin_two whole a b s e = begin_writing whole (a ∷ b ∷ []) s (e ∙ ap (λ x. a ++? x) (sym (append_Some b)))
 
 -- what is left is a part and more
-pub opened : {whole a : Option (List ℕ)} {s t : Written} → (b c : Option (List ℕ)) → a ≡ b ++? c → Written-but whole (a ∷ []) s t → Written-but whole (b ∷ c ∷ []) s t
-opened {whole} {a} b c e w = record {
+pub part_opened : {whole a : Option (List ℕ)} {s t : Written} → (b c : Option (List ℕ)) → a ≡ b ++? c → Written-but whole (a ∷ []) s t → Written-but whole (b ∷ c ∷ []) s t
+part_opened {whole} {a} b c e w = record {
   done = w.done;
   split = w.split ∙ ap (λ x. w.done ++? x) (append_Some a ∙ e ∙ ap (λ x. b ++? x) (sym (append_Some c)));
   wrote = w.wrote;
 }
 
 -- nothing is left
-pub ended : {whole a : Option (List ℕ)} {s t : Written} → a ≡ Some [] → Written-but whole (a ∷ []) s t → WroteAll whole s t
-ended {whole} {a} e w = all_written (record { done = w.done; split = w.split ∙ ap (λ x. w.done ++? x) (append_Some a ∙ e); wrote = w.wrote })
+pub parts_ended : {whole a : Option (List ℕ)} {s t : Written} → a ≡ Some [] → Written-but whole (a ∷ []) s t → WroteAll whole s t
+parts_ended {whole} {a} e w = all_written (record { done = w.done; split = w.split ∙ ap (λ x. w.done ++? x) (append_Some a ∙ e); wrote = w.wrote })
 
 -- a head of the number of bytes, and the bytes
 pub begin_counted : (major : ℕ) (bytes : List ℕ) (s : Written) → length bytes < 2 ^ 64 → Written-but (spelled_bytes major bytes) (Some (head major (length bytes)) ∷ Some bytes ∷ []) s s

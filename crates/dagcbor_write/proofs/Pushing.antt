@@ -5,7 +5,7 @@ use Rattle.std.proofs.Math.ListN.{drop_of_length-le}
 use Rattle.std.specs.Fmt.{◌++?◌}
 use Rattle.dagcbor_heads.specs.Written.{Written, WroteAll}
 use Rattle.dagcbor_heads.proofs.Writing.{Written-but, begin_writing, append_Some, Appends_nothing, next_part, all_written}
-use Rattle.dagcbor_write.proofs.Parts.{opened}
+use Rattle.dagcbor_write.proofs.Parts.{part_opened}
 use Rattle.dagcbor_write.specs.Maps.{Texts}
 use Rattle.dagcbor_write.specs.Order.{head_rest, entries_bytes}
 
@@ -21,7 +21,7 @@ at_entry es i bytes h is whole s t w =
     let begins : drop i es ≡ e ∷ drop (i + 1) es = rw add-one (drop-cons es i ([], []) h) in
     let more : List ℕ = entries_bytes (drop (i + 1) es) in
     let first : entries_bytes (drop i es) ≡ bytes ++ more = ap entries_bytes begins ∙ sym (append_assoc e.0 e.1 more) ∙ ap (λ x. x ++ more) (sym (is ([], []))) in
-    opened (Some bytes) (Some more) (ap Some first) w
+    part_opened (Some bytes) (Some more) (ap Some first) w
 
 pub no_entry : (es : List Texts) (i : ℕ) → length es ≤ i → (whole : Option (List ℕ)) (s t : Written) → Written-but whole (Some (entries_bytes (drop i es)) ∷ []) s t → WroteAll whole s t
 no_entry es i h whole s t w = all_written (next_part (subst (λ fs. Written-but whole (Some (entries_bytes fs) ∷ []) s t) (drop_of_length-le es h) w) t (Appends_nothing t.bytes, refl, refl))

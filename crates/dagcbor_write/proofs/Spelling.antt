@@ -52,10 +52,10 @@ refusal_answered o (Err d) e old new h s = subst (NotAnswered o) (sym h) (by o e
 
 -- ---- what is sent
 
-sent : (o : Option Tree) (before after : Option (List ℕ)) (text : List ℕ) → IfSome o IsTree → spelled_tree o ≡ Some text → Appends before after text
+spelling_sent : (o : Option Tree) (before after : Option (List ℕ)) (text : List ℕ) → IfSome o IsTree → spelled_tree o ≡ Some text → Appends before after text
     → GrewBySpelling o before after
-sent None before after text tree e a = let differ : None ≡ Some text = e in cc
-sent (Some t) before after text tree e a = let k = (spelled_is t text).0 e in (text, record { well_formed = tree; spellable = k.0; is = k.1 }, a)
+spelling_sent None before after text tree e a = let differ : None ≡ Some text = e in cc
+spelling_sent (Some t) before after text tree e a = let k = (spelled_is t text).0 e in (text, record { well_formed = tree; spellable = k.0; is = k.1 }, a)
 
 grown : (text : Option (List ℕ)) (old new : Written) → WroteFront text old new → AppendsSome old.bytes new.bytes
 grown None old new w = w
@@ -95,7 +95,7 @@ module _ (E : Type 0) (o : Option Tree) where
       where
         whole : (s : Option (List ℕ)) → IfSome o IsTree → spelled_tree o ≡ s → Writes {T = Unit {0}} {E = E} s old new (Ok tt) → GrewBySpelling o old.bytes new.bytes
         whole None tree e k = absurd k
-        whole (Some text) tree e k = sent o old.bytes new.bytes text tree e k.0
+        whole (Some text) tree e k = spelling_sent o old.bytes new.bytes text tree e k.0
 
         by : (r : Result (Unit {0}) (EncodeError E)) → OnOk r (IfSome o IsTree) → Writes (spelled_tree o) old new r → IfOk r (λ _. GrewBySpelling o old.bytes new.bytes)
         by (Ok u) tree w = whole (spelled_tree o) tree refl w

@@ -7,7 +7,7 @@ use Rattle.std.specs.Fmt.{◌++?◌}
 use Rattle.dagcbor_heads.specs.declared.error.EncodeError.{EncodeError}
 use Rattle.dagcbor_heads.specs.declared.error.EncodeError.TheVariants.{Msg, Write, OutOfMemory}
 use Rattle.dagcbor_heads.specs.Written.{Written, WroteAll, Writes}
-use Rattle.dagcbor_heads.proofs.Writing.{joined, joined_assoc, append_Some, Some_append, append_None, appends_nothing, wrote_nothing, Written-but, begin_writing}
+use Rattle.dagcbor_heads.proofs.Writing.{join_parts, joined_assoc, append_Some, Some_append, append_None, appends_nothing, wrote_nothing, Written-but, begin_writing}
 use Rattle.dagcbor_write.specs.Gathering.{AppendsTo}
 use Rattle.dagcbor_write.specs.Each.{spelled_each}
 use Rattle.std.proofs.lemmas.List.{length-map}
@@ -21,7 +21,7 @@ use Rattle.dagcbor_write.proofs.Lists.{spelled_list, each_joined}
 -- the items that wait are these texts
 abbrev pub Holds : Items → List (Option (List ℕ)) → Type 0
 Holds (Announced left) texts = ⊥
-Holds (Waits b) texts = (joined texts ≡ Some b.bytes) × (b.count ≡ length texts)
+Holds (Waits b) texts = (join_parts texts ≡ Some b.bytes) × (b.count ≡ length texts)
 
 pub Holds_room : (items : Items) (texts : List (Option (List ℕ))) → Holds items texts → HasRoom items
 Holds_room (Announced left) texts h = absurd h
@@ -35,9 +35,9 @@ pub Holds_none : (items : Items) → IsFresh None items → Holds items []
 Holds_none (Announced left) f = absurd f
 Holds_none (Waits b) f = (ap (λ w. Some w.bytes) (sym f), ap (λ w. w.count) f)
 
-joined_append : (xs : List (Option (List ℕ))) (o : Option (List ℕ)) → joined (xs ++ o ∷ []) ≡ joined xs ++? o
+joined_append : (xs : List (Option (List ℕ))) (o : Option (List ℕ)) → join_parts (xs ++ o ∷ []) ≡ join_parts xs ++? o
 joined_append [] o = append_Some o ∙ sym (Some_append o)
-joined_append (x ∷ xs) o = ap (λ (y : Option (List ℕ)). x ++? y) (joined_append xs o) ∙ sym (joined_assoc x (joined xs) o)
+joined_append (x ∷ xs) o = ap (λ (y : Option (List ℕ)). x ++? y) (joined_append xs o) ∙ sym (joined_assoc x (join_parts xs) o)
 
 Grows_joins : (text : Option (List ℕ)) (old new : List ℕ) (a : Option (List ℕ)) → a ≡ Some old → AppendsTo old new text → a ++? text ≡ Some new
 Grows_joins None old new a e g = absurd g
@@ -49,7 +49,7 @@ Holds-more (Announced n) texts tree s left t r h k p = absurd h
 Holds-more (Waits b) texts tree s (Announced n) t r h k p = absurd p
 Holds-more (Waits b) texts tree s (Waits d) t (Err e) h k p = cc
 Holds-more (Waits b) texts tree s (Waits d) t (Ok x) h k p =
-    ((joined_append texts (spelled_tree tree) ∙ Grows_joins (spelled_tree tree) _ _ (joined texts) h.0 p.0.0.0, p.0.1 ∙ ap (λ (n : ℕ). n + 1) h.1 ∙ sym (length-append texts (spelled_tree tree ∷ []))), p.1)
+    ((joined_append texts (spelled_tree tree) ∙ Grows_joins (spelled_tree tree) _ _ (join_parts texts) h.0 p.0.0.0, p.0.1 ∙ ap (λ (n : ℕ). n + 1) h.1 ∙ sym (length-append texts (spelled_tree tree ∷ []))), p.1)
 
 -- an item was refused
 pub Holds_refused : {T E : Type 0} (items : Items) (texts : List (Option (List ℕ))) (tree : Option Tree) (s : Written) (left : Items) (t : Written) (e : EncodeError E) (r : Result T (EncodeError E)) (whole : Option (List ℕ)) → Holds items texts → TakesElement {T = Unit {0}} tree items s left t (Err e) → (spelled_tree tree ≡ None → whole ≡ None) → IsErrAnd r (λ d. d ≡ e) → Writes whole s t r

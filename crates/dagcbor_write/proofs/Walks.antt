@@ -4,7 +4,7 @@ use Rattle.std.proofs.lemmas.List.Sorted.{IsPermutation-map, IsPermutation-sym}
 use Rattle.std.proofs.lemmas.Map.Keys.{IsDistinct-IsPermutation}
 use Rattle.std.specs.Prelude.{IfSome, option_map, option_and_then}
 use Rattle.std.specs.Map.{keys_of}
-use Rattle.ipld_tree.specs.Tree.{Tree, mapping, ordered, repeats_key, map_tree, all_some, pair_of, entries_tree}
+use Rattle.ipld_tree.specs.Tree.{Tree, mapping, ordered_entries, repeats_key, map_tree, all_some, pair_of, entries_tree}
 use Rattle.ipld_tree.proofs.Ordered.{AreDistinct, same_place, same_place_flips, ordered_moved, distinct_from_test, test_from_distinct}
 use Rattle.dagcbor_write.specs.Pairwise.{Pairwise}
 use Rattle.dagcbor_write.specs.Trees.{Pair}
@@ -25,9 +25,9 @@ names [] (n ∷ ns) w = absurd w
 names (p ∷ ps) [] w = absurd w
 names (p ∷ ps) (n ∷ ns) w = ap₂ before w.0 (names ps ns w.1)
 
-named : (ps : List Pair) → IfSome (all_some (map pair_of ps)) (λ ns. Pairwise IsNamed ns ps)
-named [] = tt
-named (p ∷ ps) = by (pair_of p) refl (all_some (map pair_of ps)) (named ps)
+names_given : (ps : List Pair) → IfSome (all_some (map pair_of ps)) (λ ns. Pairwise IsNamed ns ps)
+names_given [] = tt
+names_given (p ∷ ps) = by (pair_of p) refl (all_some (map pair_of ps)) (names_given ps)
   where
     by : (o : Option Named) → pair_of p ≡ o → (os : Option (List Named)) → IfSome os (λ ns. Pairwise IsNamed ns ps) → IfSome (before o os) (λ ns. Pairwise IsNamed ns (p ∷ ps))
     by None e os h = tt
@@ -40,7 +40,7 @@ stay_distinct ns ws moved d = IsDistinct-IsPermutation same_place same_place_fli
 map_moved : (ns ws : List Named) → IsPermutation ns ws → map_tree ns ≡ map_tree ws
 map_moved ns ws moved = by (repeats_key ns) (repeats_key ws) refl refl
   where
-    by : (b c : Bool) → repeats_key ns ≡ b → repeats_key ws ≡ c → cond b None (Some (mapping (ordered ns))) ≡ cond c None (Some (mapping (ordered ws)))
+    by : (b c : Bool) → repeats_key ns ≡ b → repeats_key ws ≡ c → cond b None (Some (mapping (ordered_entries ns))) ≡ cond c None (Some (mapping (ordered_entries ws)))
     by true true e f = refl
     by false false e f = ap (λ es. Some (mapping es)) (ordered_moved ns ws (distinct_from_test ns e) (distinct_from_test ws f) moved)
     by false true e f = let differ : true ≡ false = sym f ∙ test_from_distinct ws (stay_distinct ns ws moved (distinct_from_test ns e)) in absurd (cc differ)
@@ -53,7 +53,7 @@ others ps qs (Some ns) e h moved = let b = beside IsNamed ns ps qs moved h in (b
 
 pub same_map : (ps qs : List Pair) → IsPermutation ps qs → entries_tree ps ≡ entries_tree qs
 same_map ps qs moved =
-    by (all_some (map pair_of ps)) (all_some (map pair_of qs)) refl (others ps qs _ refl (named ps) moved) (others qs ps _ refl (named qs) (IsPermutation-sym ps qs moved))
+    by (all_some (map pair_of ps)) (all_some (map pair_of qs)) refl (others ps qs _ refl (names_given ps) moved) (others qs ps _ refl (names_given qs) (IsPermutation-sym ps qs moved))
   where
     by : (o r : Option (List Named)) → all_some (map pair_of ps) ≡ o → IfSome o (λ ns. (ws : List Named) × IsPermutation ns ws × (r ≡ Some ws)) → IfSome r (λ ns. (ws : List Named) × IsPermutation ns ws × (o ≡ Some ws)) → option_and_then map_tree o ≡ option_and_then map_tree r
     by None None e h k = refl

@@ -19,8 +19,8 @@ abbrev pub bounded_lent : {W : Type 0} → BoundedCollect W → MutBor W
 bounded_lent c = c.ser
 
 -- what a collector was given before its end
-abbrev pub map_held : {W G : Type 0} → CollectMap W G → G
-map_held c = c.held
+abbrev pub map_state : {W G : Type 0} → CollectMap W G → G
+map_state c = c.state
 
 abbrev pub list_items : {W I : Type 0} → CollectSeq W I → I
 list_items c = c.items

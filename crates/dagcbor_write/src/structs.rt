@@ -8,7 +8,7 @@ ghost use Rattle.ipld_tree.specs.Spelled.{spelled_tree};
 ghost use Rattle.dagcbor_write.specs.Gathering.{Collects};
 ghost use Rattle.dagcbor_write.specs.Trees.{Pair, field, variant_tree};
 ghost use Rattle.dagcbor_write.specs.Maps.{JoinsPairs, RefusesAnyValue};
-ghost use Rattle.dagcbor_write.specs.Lending.{map_lent, map_held, SameLoan};
+ghost use Rattle.dagcbor_write.specs.Lending.{map_lent, map_state, SameLoan};
 
 use crate::collect::collect_map::CollectMap;
 use crate::serialize::Serialize;
@@ -28,13 +28,13 @@ pub trait FieldRow: Copy {
     /// Hands the fields over, one after another. Refused with `Msg("Struct value cannot be
     /// serialized.")` where one has no spelling.
     fn push_fields<W: Write>(self, map: &mut CollectMap<'_, W>) -> WriteResult<(), W>
-        requires { (map_held map.old).key ≡ None }
+        requires { (map_state map.old).key ≡ None }
         ensures same_reference { SameLoan (map_lent map.old) (map_lent map.new) }
         ensures unchanged { (map_lent map.new).now ≡ (map_lent map.old).now }
-        ensures announced { (map_held map.new).announced ≡ (map_held map.old).announced }
-        ensures key { OnOk result ((map_held map.new).key ≡ None) }
+        ensures announced { (map_state map.new).announced ≡ (map_state map.old).announced }
+        ensures key { OnOk result ((map_state map.new).key ≡ None) }
         ensures entries { Collects
-            (λ u. JoinsPairs (pairs self) (map_held map.old).entries (map_held map.new).entries)
+            (λ u. JoinsPairs (pairs self) (map_state map.old).entries (map_state map.new).entries)
             (RefusesAnyValue (pairs self)) result };
 }
 

@@ -3,7 +3,7 @@ use Rattle.std.proofs.Common.{◌≡◌, ℕ, ◌^◌, ◌-◌, pos, negsuc, Lis
 use Rattle.dagcbor_heads.specs.Head.{head}
 use Rattle.ipld_tree.specs.Key.{comes_before}
 use Rattle.ipld_tree.specs.Cid.{varint, cid_parts, cid_bytes}
-use Rattle.ipld_tree.specs.Tree.{Tree, null, boolean, integer, text, list, mapping, link, no_items, item, no_entries, entry, items_of, ordered, map_tree, list_tree, entries_tree, any_need, links_of}
+use Rattle.ipld_tree.specs.Tree.{Tree, null, boolean, integer, text, list, mapping, link, no_items, item, no_entries, entry, items_of, ordered_entries, map_tree, list_tree, entries_tree, any_need, links_of}
 use Rattle.ipld_tree.specs.Spelling.{spelling}
 
 shorter_first : comes_before (98 ∷ []) (97 ∷ 98 ∷ 99 ∷ []) ≡ true
@@ -47,7 +47,7 @@ unfolding head
 least = refl
 
 abbrev small_map : Tree
-small_map = mapping (ordered ((98 ∷ [], integer (pos 2)) ∷ (97 ∷ 98 ∷ 99 ∷ [], integer (pos 3)) ∷ (97 ∷ [], integer (pos 1)) ∷ []))
+small_map = mapping (ordered_entries ((98 ∷ [], integer (pos 2)) ∷ (97 ∷ 98 ∷ 99 ∷ [], integer (pos 3)) ∷ (97 ∷ [], integer (pos 1)) ∷ []))
 
 map_spelling : spelling small_map ≡ 0xa3 ∷ 0x61 ∷ 0x61 ∷ 0x01 ∷ 0x61 ∷ 0x62 ∷ 0x02 ∷ 0x63 ∷ 0x61 ∷ 0x62 ∷ 0x63 ∷ 0x03 ∷ []
 unfolding head

@@ -10,7 +10,7 @@ use Rattle.std.specs.List.Sorted.{IsStrictlySortedBy}
 use Rattle.std.specs.Map.{keys_of}
 use Rattle.std.specs.Ordering.{is_lt, ordering_reverse}
 use Rattle.ipld_tree.specs.Key.{key_cmp, comes_before}
-use Rattle.ipld_tree.specs.Tree.{Tree, Entries, no_entries, entry, Precedes, entries_of, insert, ordered, has_key, repeats_key}
+use Rattle.ipld_tree.specs.Tree.{Tree, Entries, no_entries, entry, Precedes, entries_of, insert, ordered_entries, has_key, repeats_key}
 
 or_false : (a b : Bool) → (a || b) ≡ false → (a ≡ false) × (b ≡ false)
 or_false true b h = absurd cc
@@ -134,16 +134,16 @@ abbrev pub HasPair : List Pair → List ℕ → Tree → Type 0
 HasPair [] k t = ⊥
 HasPair (p ∷ ps) k t = ((p.0 ≡ k) × (p.1 ≡ t)) ⊎ HasPair ps k t
 
-pub ordered_has : (ps : List Pair) (k : List ℕ) (t : Tree) → HasPair ps k t → Has (ordered ps) k t
+pub ordered_has : (ps : List Pair) (k : List ℕ) (t : Tree) → HasPair ps k t → Has (ordered_entries ps) k t
 unfolding Put
 ordered_has [] k t h = h
-ordered_has (p ∷ ps) k t (inl same) = insert_has p.0 p.1 (ordered ps) k t (inl same)
-ordered_has (p ∷ ps) k t (inr more) = insert_has p.0 p.1 (ordered ps) k t (inr (ordered_has ps k t more))
+ordered_has (p ∷ ps) k t (inl same) = insert_has p.0 p.1 (ordered_entries ps) k t (inl same)
+ordered_has (p ∷ ps) k t (inr more) = insert_has p.0 p.1 (ordered_entries ps) k t (inr (ordered_has ps k t more))
 
-pub has_ordered : (ps : List Pair) (k : List ℕ) (t : Tree) → Has (ordered ps) k t → HasPair ps k t
+pub has_ordered : (ps : List Pair) (k : List ℕ) (t : Tree) → Has (ordered_entries ps) k t → HasPair ps k t
 unfolding Put
 has_ordered [] k t h = h
-has_ordered (p ∷ ps) k t h = elim (has_insert p.0 p.1 (ordered ps) k t h) [ inl same ↦ inl same | inr more ↦ inr (has_ordered ps k t more) ]
+has_ordered (p ∷ ps) k t h = elim (has_insert p.0 p.1 (ordered_entries ps) k t h) [ inl same ↦ inl same | inr more ↦ inr (has_ordered ps k t more) ]
 
 abbrev pub same_place : List ℕ → List ℕ → Bool
 same_place k l = is_eq (key_cmp k l)
@@ -157,10 +157,10 @@ apart_from k [] d l u h e = h
 apart_from k (p ∷ ps) d l u (inl same) e = let differ : true ≡ false = sym (ap is_eq e) ∙ ap (same_place k) (sym same.0) ∙ d.0 in absurd (cc differ)
 apart_from k (p ∷ ps) d l u (inr more) e = apart_from k ps d.1 l u more e
 
-pub rising_ordered : (ps : List Pair) → AreDistinct ps → IsRising (ordered ps)
+pub rising_ordered : (ps : List Pair) → AreDistinct ps → IsRising (ordered_entries ps)
 unfolding IsDistinct
 rising_ordered [] d = tt
-rising_ordered (p ∷ ps) d = rising_insert p.0 p.1 (ordered ps) (rising_ordered ps d.1) (λ l u h. apart_from p.0 ps d.0 l u (has_ordered ps l u h))
+rising_ordered (p ∷ ps) d = rising_insert p.0 p.1 (ordered_entries ps) (rising_ordered ps d.1) (λ l u h. apart_from p.0 ps d.0 l u (has_ordered ps l u h))
 
 -- ---- a sorted list of the same pairs
 
@@ -181,7 +181,7 @@ in_front k t [] h = refl
 in_front k t (p ∷ ps) h = ap (λ o. cond (is_lt o) (entry k t (entry p.0 p.1 (entries_of ps))) (entry p.0 p.1 (insert k t (entries_of ps)))) h.0
 
 -- pairs that are sorted stay as they stand
-pub ordered_sorted : (ps : List Pair) → IsSortedList ps → ordered ps ≡ entries_of ps
+pub ordered_sorted : (ps : List Pair) → IsSortedList ps → ordered_entries ps ≡ entries_of ps
 unfolding IsStrictlySortedBy
 ordered_sorted [] h = refl
 ordered_sorted (p ∷ ps) h = ap (insert p.0 p.1) (ordered_sorted ps h.1) ∙ in_front p.0 p.1 ps h.0
@@ -200,8 +200,8 @@ has_moved : (ps qs : List Pair) → IsPermutation ps qs → (k : List ℕ) (t : 
 has_moved ps qs moved k t h = let c = Contains-permutation ps qs (k, t) moved (contains_from_has ps k t h) in has_from_contains qs c.0 (k, t) c.1 c.2
 
 -- pairs of distinct keys have one order, in whichever order they come
-pub ordered_moved : (ps qs : List Pair) → AreDistinct ps → AreDistinct qs → IsPermutation ps qs → ordered ps ≡ ordered qs
-ordered_moved ps qs d f moved = same_entries (ordered ps) (ordered qs) (rising_ordered ps d) (rising_ordered qs f)
+pub ordered_moved : (ps qs : List Pair) → AreDistinct ps → AreDistinct qs → IsPermutation ps qs → ordered_entries ps ≡ ordered_entries qs
+ordered_moved ps qs d f moved = same_entries (ordered_entries ps) (ordered_entries qs) (rising_ordered ps d) (rising_ordered qs f)
     (λ k t h. ordered_has qs k t (has_moved ps qs moved k t (has_ordered ps k t h)))
     (λ k t h. ordered_has ps k t (has_moved qs ps (IsPermutation-sym ps qs moved) k t (has_ordered qs k t h)))
 
@@ -214,7 +214,7 @@ same_place_flips k l = ap is_eq (key_cmp_total.antisymm k l) ∙ turned (key_cmp
     turned Greater = refl
 
 -- what a sort of the pairs gives is their order
-pub ordered_by_sort : (ps qs : List Pair) → IsPermutation ps qs → IsSortedList qs → AreDistinct ps × (ordered ps ≡ entries_of qs)
+pub ordered_by_sort : (ps qs : List Pair) → IsPermutation ps qs → IsSortedList qs → AreDistinct ps × (ordered_entries ps ≡ entries_of qs)
 ordered_by_sort ps qs moved sorted =
     let there = distinct_from_sorted (keys_of qs) sorted in
     let here : AreDistinct ps = IsDistinct-IsPermutation same_place same_place_flips (keys_of qs) (keys_of ps) (IsPermutation-map (λ p. p.0) qs ps (IsPermutation-sym ps qs moved)) there in

@@ -6,7 +6,7 @@ use Rattle.std.specs.List.{AllByRecursion}
 use Rattle.std.specs.List.Sorted.{IsStrictlySortedBy}
 use Rattle.std.specs.Map.{keys_of}
 use Rattle.ipld_tree.specs.Key.{bytes_cmp}
-use Rattle.ipld_tree.specs.Tree.{Tree, list, mapping, Items, no_items, item, Entries, no_entries, items_of, ordered}
+use Rattle.ipld_tree.specs.Tree.{Tree, list, mapping, Items, no_items, item, Entries, no_entries, items_of, ordered_entries}
 use Rattle.ipld_tree.specs.Ipld.{tree_of, trees_of, pairs_of}
 use Rattle.ipld_tree.specs.declared.ipld.Ipld.{Ipld, List as List', Map as Map'}
 use Rattle.ipld_tree.proofs.Ordered.{Pair, HasPair, ordered_has, has_ordered}
@@ -73,7 +73,7 @@ same_pairs (p ∷ ps) (q ∷ qs) r s f g =
     (λ m v h. others q p qs ps m v s.0 (sym first.0) h (g m v (inr h))) in
     λ i. (first.0 i, first.1 i) ∷ more i
 
-same_from_ordered : (ps qs : List Pair) → IsSorted ps → IsSorted qs → ordered ps ≡ ordered qs → ps ≡ qs
+same_from_ordered : (ps qs : List Pair) → IsSorted ps → IsSorted qs → ordered_entries ps ≡ ordered_entries qs → ps ≡ qs
 same_from_ordered ps qs r s e = same_pairs ps qs r s
     (λ k t h. has_ordered qs k t (rw (sym e) (ordered_has ps k t h)))
     (λ k t h. has_ordered ps k t (rw e (ordered_has qs k t h)))
@@ -91,8 +91,8 @@ pub maps_same : (j k : Ipld) (m n : BTreeMap (String Global) Ipld) (b : Bool) �
     → IsStrictlySortedBy string_cmp (keys_of m.entries) → IsStrictlySortedBy string_cmp (keys_of n.entries)
     → IsTrue b ↔ (pairs_of m.entries ≡ pairs_of n.entries) → IsTrue b ↔ (tree_of j ≡ tree_of k)
 maps_same j k m n b p q r s h =
-    let left : tree_of j ≡ mapping (ordered (pairs_of m.entries)) = ap tree_of p ∙ tree_of_Map m in
-    let right : tree_of k ≡ mapping (ordered (pairs_of n.entries)) = ap tree_of q ∙ tree_of_Map n in (
-      λ t. left ∙ ap (λ ps. mapping (ordered ps)) (h.0 t) ∙ sym right,
+    let left : tree_of j ≡ mapping (ordered_entries (pairs_of m.entries)) = ap tree_of p ∙ tree_of_Map m in
+    let right : tree_of k ≡ mapping (ordered_entries (pairs_of n.entries)) = ap tree_of q ∙ tree_of_Map n in (
+      λ t. left ∙ ap (λ ps. mapping (ordered_entries ps)) (h.0 t) ∙ sym right,
       λ e. h.1 (same_from_ordered (pairs_of m.entries) (pairs_of n.entries) (sorted_pairs m.entries r) (sorted_pairs n.entries s) (ap within (sym left ∙ e ∙ right))),
     )

@@ -10,7 +10,7 @@ use Rattle.std.specs.List.Sorted.{IsStrictlySortedBy}
 use Rattle.std.specs.Map.{keys_of}
 use Rattle.std.specs.Ordering.{nat_cmp, is_lt, ord_max, match_ordering, ordering_reverse}
 use Rattle.ipld_tree.specs.Key.{bytes_cmp, comes_before}
-use Rattle.ipld_tree.specs.Tree.{Tree, text, bytes, list, mapping, Items, Entries, no_entries, entry, items_of, insert, ordered, any_need, items_need, entries_need}
+use Rattle.ipld_tree.specs.Tree.{Tree, text, bytes, list, mapping, Items, Entries, no_entries, entry, items_of, insert, ordered_entries, any_need, items_need, entries_need}
 use Rattle.ipld_tree.specs.Ipld.{tree_of, trees_of, pairs_of}
 use Rattle.ipld_tree.specs.declared.ipld.Ipld.{Ipld, String as String', Bytes as Bytes', List as List', Map as Map', the_lemmas}
 
@@ -23,7 +23,7 @@ items_tree xs = items_of (trees_of xs)
 pub tree_of_List : (v : Vec Ipld Global) → tree_of (List' v) ≡ list (items_of (trees_of v.items))
 tree_of_List v = search (rules, the_lemmas)
 
-pub tree_of_Map : (m : BTreeMap (String Global) Ipld) → tree_of (Map' m) ≡ mapping (ordered (pairs_of m.entries))
+pub tree_of_Map : (m : BTreeMap (String Global) Ipld) → tree_of (Map' m) ≡ mapping (ordered_entries (pairs_of m.entries))
 tree_of_Map m = search (rules, the_lemmas)
 
 pub items_need_push : (ts : List Tree) (t : Tree) → items_need (items_of (ts ++ t ∷ [])) ≡ max (items_need (items_of ts)) (any_need t)
@@ -40,9 +40,9 @@ entries_need_insert k t (entry l u es) =
     entries_need_cond (comes_before k l) (entry k t (entry l u es)) (entry l u (insert k t es)) _ refl (omega (arith, entries_need_insert k t es))
 
 -- in whichever order the entries stand, they need as much
-pub entries_need_ordered : (ps : List (List ℕ × Tree)) → entries_need (ordered ps) ≡ items_need (items_of (map (λ p. p.1) ps))
+pub entries_need_ordered : (ps : List (List ℕ × Tree)) → entries_need (ordered_entries ps) ≡ items_need (items_of (map (λ p. p.1) ps))
 entries_need_ordered [] = refl
-entries_need_ordered (p ∷ ps) = omega (arith, entries_need_insert p.0 p.1 (ordered ps), entries_need_ordered ps)
+entries_need_ordered (p ∷ ps) = omega (arith, entries_need_insert p.0 p.1 (ordered_entries ps), entries_need_ordered ps)
 
 -- ---- for `depth_need`, with a limit in place of the greatest `u64`
 

@@ -66,8 +66,8 @@ below_two m unit n is within fits = let product : m * unit ≡ m * 2 ^ 63 = ap (
 
 -- ---- one step
 
-shifted : (number unit bits m : ℕ) → number + (bits + m * 128) * unit ≡ (number + bits * unit) + m * (unit * 128)
-shifted number unit bits m =
+number_shift : (number unit bits m : ℕ) → number + (bits + m * 128) * unit ≡ (number + bits * unit) + m * (unit * 128)
+number_shift number unit bits m =
     let apart = add-mul bits (m * 128) unit in
     let outer : m * 128 * unit ≡ m * (unit * 128) = mul_assoc m 128 unit ∙ ap (λ u. m * u) (mul_comm 128 unit) in
     omega (arith, apart, outer)
@@ -111,7 +111,7 @@ one_read bytes i number unit g bits r here is long byte low ok = by r.left r.few
 
         more : (m : ℕ) → 0 < m → varint (number + bits * unit + m * (unit * 128)) ≡ take (i + 1) bytes ++ varint_groups (suc k) m
         more m h =
-            ap varint (sym (shifted number unit bits m))
+            ap varint (sym (number_shift number unit bits m))
             ∙ goes (bits + m * 128) (inl (omega arith))
             ∙ ap (λ gs. take i bytes ++ gs) (group_before (suc k) g bits m h (omega arith) (omega arith))
             ∙ one_taken bytes i g (varint_groups (suc k) m) here is

@@ -69,9 +69,9 @@ insert k t (entry l u es) =
     if comes_before k l then entry k t (entry l u es) else entry l u (insert k t es)
 
 -- the pairs put one by one into their places
-abbrev pub ordered : List (List ℕ × Tree) → Entries
-ordered [] = no_entries
-ordered (p ∷ ps) = insert p.0 p.1 (ordered ps)
+abbrev pub ordered_entries : List (List ℕ × Tree) → Entries
+ordered_entries [] = no_entries
+ordered_entries (p ∷ ps) = insert p.0 p.1 (ordered_entries ps)
 
 -- whether k is among the keys
 abbrev pub has_key : List ℕ → List (List ℕ × Tree) → Bool
@@ -84,7 +84,7 @@ repeats_key (p ∷ ps) = has_key p.0 ps || repeats_key ps
 
 -- the map of the pairs, and none if a key repeats
 abbrev pub map_tree : List (List ℕ × Tree) → Option Tree
-map_tree ps = if repeats_key ps then None else Some (mapping (ordered ps))
+map_tree ps = if repeats_key ps then None else Some (mapping (ordered_entries ps))
 
 -- the list, and none where an item has no tree
 abbrev pub all_some : {A : Type 0} → List (Option A) → Option (List A)

@@ -3,7 +3,7 @@
 ghost use Rattle.std.specs.Prelude.{◌≡◌, ◌+◌, ◌≤◌, ℕ, List, [], Bool, Option, option_map, true};
 ghost use Rattle.std.specs.Prelude.{false, codes};
 ghost use Rattle.ipld_tree.specs.Tree.{Tree, any_need};
-ghost use Rattle.dagcbor_items.specs.Shapes.{ignored};
+ghost use Rattle.dagcbor_items.specs.Shapes.{ignored_item};
 ghost use Rattle.dagcbor_read.specs.Calls.{progress, StaysFailed, Over};
 ghost use Rattle.dagcbor_read.specs.Values.{ReadsValue};
 ghost use Rattle.dagcbor_read.specs.Accessors.{accessor_state, HasHeadOf, BeginsItems};
@@ -112,7 +112,7 @@ pub fn read_into<'de, T: Deserialize<'de>, R: Read>(
 
 /// Skips the value of a field that the struct does not have: an item of any kind.
 pub fn skip_value<'de, R: Read>(alloc: Global, de: &mut Deserializer<'de, R>) -> ReadResult<(), R>
-    ensures value { Over R.reading (ReadsValue (λ _. tt) ignored) de.old result de.new }
+    ensures value { Over R.reading (ReadsValue (λ _. tt) ignored_item) de.old result de.new }
     ensures failed { Over R.reading StaysFailed de.old result de.new }
 {
     de.deserialize_ignored_any(alloc)

@@ -4,7 +4,7 @@ ghost use Rattle.std.specs.Prelude.{refl, ℕ, List};
 ghost use Rattle.ipld_tree.specs.Cid.{cid_bytes};
 ghost use Rattle.ipld_tree.specs.Ipld.{tree_of};
 ghost use Rattle.ipld_tree.specs.Tree.{Tree};
-ghost use Rattle.dagcbor_items.specs.Shapes.{view_link, ignored, leaf, any_tree};
+ghost use Rattle.dagcbor_items.specs.Shapes.{view_link, ignored_item, leaf, any_tree};
 
 use crate::deserialize::{Deserialize, DeserializeOwned};
 use crate::deserializer::Deserializer;
@@ -22,7 +22,7 @@ impl Shown for IgnoredAny {
 
     ghost meaning = { λ _. tt };
 
-    ghost shape = { ignored };
+    ghost shape = { ignored_item };
 }
 
 impl<'de> Deserialize<'de> for IgnoredAny {

@@ -14,7 +14,7 @@ ghost use Rattle.dagcbor_write.specs.Maps.{no_entry_yet, is_complete, HoldsKey, 
 ghost use Rattle.dagcbor_write.specs.Maps.{JoinsEntry, RefusesKey, RefusesValue, RefusesEntry};
 ghost use Rattle.dagcbor_write.specs.Maps.{AreSpellingsOf, RepeatsKey, map_rest};
 ghost use Rattle.dagcbor_write.specs.Order.{head_rest, entries_bytes};
-ghost use Rattle.dagcbor_write.specs.Lending.{map_lent, map_held, SameLoan, BeginsOrStops};
+ghost use Rattle.dagcbor_write.specs.Lending.{map_lent, map_state, SameLoan, BeginsOrStops};
 
 use crate::collect::gathered::Gathered;
 use crate::serialize::Serialize;
@@ -29,7 +29,7 @@ const REPEATED_KEY: &str = "Map keys must be unique";
 pub struct CollectMap<'a, W, G = Gathered> {
     ser: &'a mut Serializer<W>,
     alloc: Global,
-    held: G,
+    state: G,
 }
 
 impl<W, G: Drop> Drop for CollectMap<'_, W, G> {
@@ -39,7 +39,7 @@ impl<W, G: Drop> Drop for CollectMap<'_, W, G> {
         let Self {
             ser: _,
             alloc: _,
-            held: _,
+            state: _,
         } = self;
     }
 }
@@ -49,12 +49,12 @@ impl<W: Write> Serializer<W> {
     pub fn serialize_map(&mut self, alloc: Global, _len: Option<usize>) -> CollectMap<'_, W>
         ensures same_reference { SameLoan self.entry (map_lent result) }
         ensures unchanged { (map_lent result).now ≡ self.old }
-        ensures nothing { map_held result ≡ no_entry_yet None }
+        ensures nothing { map_state result ≡ no_entry_yet None }
     {
         CollectMap {
             ser: self,
             alloc,
-            held: Gathered::new(alloc, None),
+            state: Gathered::new(alloc, None),
         }
     }
 
@@ -70,13 +70,13 @@ impl<W: Write> Serializer<W> {
         ensures same_reference { IfOk result (λ c. SameLoan self.entry (map_lent c)) }
         ensures head { IfOk result (λ c. WroteAll (spelled_head 5 len)
             (W.written self.old) (W.written (map_lent c).now)) }
-        ensures nothing { IfOk result (λ c. map_held c ≡ no_entry_yet (Some len)) }
+        ensures nothing { IfOk result (λ c. map_state c ≡ no_entry_yet (Some len)) }
     {
         self.push_head(5, len)?;
         Ok(CollectMap {
             ser: self,
             alloc,
-            held: Gathered::new(alloc, Some(len)),
+            state: Gathered::new(alloc, Some(len)),
         })
     }
 
@@ -95,30 +95,30 @@ impl<W: Write> Serializer<W> {
         ensures same_reference { IfOk result (λ c. SameLoan self.entry (map_lent c)) }
         ensures head { IfOk result (λ c. WroteAll (variant_head variant.now ++? spelled_head 5 len)
             (W.written self.old) (W.written (map_lent c).now)) }
-        ensures nothing { IfOk result (λ c. map_held c ≡ no_entry_yet (Some len)) }
+        ensures nothing { IfOk result (λ c. map_state c ≡ no_entry_yet (Some len)) }
         ensures good_name { OnOk result (IsTree (text variant.now)) }
     {
         self.push_variant_of(variant, 5, len)?;
         Ok(CollectMap {
             ser: self,
             alloc,
-            held: Gathered::new(alloc, Some(len)),
+            state: Gathered::new(alloc, Some(len)),
         })
     }
 
     /// Writes the entries in key order, behind the head if that is not out yet.
-    fn push_map(&mut self, mut held: Gathered) -> WriteResult<(), W>
-        ensures written { (given : List Pair) → AreSpellingsOf given held.entries
-            → Writes (map_rest held.announced given)
+    fn push_map(&mut self, mut state: Gathered) -> WriteResult<(), W>
+        ensures written { (given : List Pair) → AreSpellingsOf given state.entries
+            → Writes (map_rest state.announced given)
             (W.written self.old) (W.written self.new) result }
-        ensures well_formed { (given : List Pair) → AreSpellingsOf given held.entries
+        ensures well_formed { (given : List Pair) → AreSpellingsOf given state.entries
             → OnOk result (IfSome (entries_tree given) IsTree) }
-        ensures message { (given : List Pair) → AreSpellingsOf given held.entries
+        ensures message { (given : List Pair) → AreSpellingsOf given state.entries
             → IfErr result (OnMessage (λ m. (m ≡ codes "Map keys must be unique")
             × RepeatsKey given × (self.new ≡ self.old))) }
     {
-        if held.put_in_order() {
-            self.push_entries(&held)
+        if state.put_in_order() {
+            self.push_entries(&state)
         } else {
             Err(EncodeError::custom(REPEATED_KEY))
         }
@@ -136,14 +136,14 @@ impl<W: Write> Serializer<W> {
     }
 
     /// Writes the entries as they stand, behind the head if that is not out yet.
-    fn push_entries(&mut self, held: &Gathered) -> WriteResult<(), W>
-        ensures { Writes (head_rest held.now.announced (length held.now.entries)
-            ++? Some (entries_bytes held.now.entries))
+    fn push_entries(&mut self, state: &Gathered) -> WriteResult<(), W>
+        ensures { Writes (head_rest state.now.announced (length state.now.entries)
+            ++? Some (entries_bytes state.now.entries))
             (W.written self.old) (W.written self.new) result }
     {
-        self.push_head_if_due(held.announced(), held.len())?;
-        for i in 0..held.len() {
-            self.push(held.entry(i))?;
+        self.push_head_if_due(state.announced(), state.len())?;
+        for i in 0..state.len() {
+            self.push(state.entry(i))?;
         }
         Ok(())
     }
@@ -152,47 +152,47 @@ impl<W: Write> Serializer<W> {
 impl<W: Write> CollectMap<'_, W> {
     /// Whether a key waits for its value.
     pub fn has_key(&self) -> bool
-        ensures { result ≡ is_some (map_held self.now).key }
+        ensures { result ≡ is_some (map_state self.now).key }
     {
-        self.held.has_key()
+        self.state.has_key()
     }
 
     /// Whether no key waits for its value, and there are as many entries as were announced.
     pub fn is_complete(&self) -> bool
-        ensures { result ≡ is_complete (map_held self.now) }
+        ensures { result ≡ is_complete (map_state self.now) }
     {
-        self.held.is_complete()
+        self.state.is_complete()
     }
 
     /// Takes a key, whose value comes next. Refused with `Msg("Map key cannot be serialized.")`
     /// where it has no spelling, with `Msg("Map keys must be strings")` where it is no text.
     pub fn serialize_key<K: Serialize>(&mut self, key: &K) -> WriteResult<(), W>
-        requires { (map_held self.old).key ≡ None }
+        requires { (map_state self.old).key ≡ None }
         ensures same_reference { SameLoan (map_lent self.old) (map_lent self.new) }
         ensures unchanged { (map_lent self.new).now ≡ (map_lent self.old).now }
-        ensures announced { (map_held self.new).announced ≡ (map_held self.old).announced }
-        ensures entries { (map_held self.new).entries ≡ (map_held self.old).entries }
-        ensures key { Collects (λ u. HoldsKey (K.tree key.now) (map_held self.new).key)
+        ensures announced { (map_state self.new).announced ≡ (map_state self.old).announced }
+        ensures entries { (map_state self.new).entries ≡ (map_state self.old).entries }
+        ensures key { Collects (λ u. HoldsKey (K.tree key.now) (map_state self.new).key)
             (RefusesKey (K.tree key.now)) result }
     {
-        self.held.take_key(self.alloc, key)
+        self.state.take_key(self.alloc, key)
     }
 
     /// Takes the value of the key before it. Refused with `Msg("Struct value cannot be
     /// serialized.")` where it has no spelling.
     pub fn serialize_value<V: Serialize>(&mut self, value: &V) -> WriteResult<(), W>
-        requires { IsSome (map_held self.old).key }
+        requires { IsSome (map_state self.old).key }
         ensures same_reference { SameLoan (map_lent self.old) (map_lent self.new) }
         ensures unchanged { (map_lent self.new).now ≡ (map_lent self.old).now }
-        ensures announced { (map_held self.new).announced ≡ (map_held self.old).announced }
-        ensures key { (map_held self.new).key ≡ None }
+        ensures announced { (map_state self.new).announced ≡ (map_state self.old).announced }
+        ensures key { (map_state self.new).key ≡ None }
         ensures entry { Collects
-            (λ u. JoinsValue (map_held self.old).key (V.tree value.now)
-            (map_held self.old).entries (map_held self.new).entries)
+            (λ u. JoinsValue (map_state self.old).key (V.tree value.now)
+            (map_state self.old).entries (map_state self.new).entries)
             (RefusesValue (V.tree value.now)) result }
-        ensures kept { OnErr result ((map_held self.new).entries ≡ (map_held self.old).entries) }
+        ensures kept { OnErr result ((map_state self.new).entries ≡ (map_state self.old).entries) }
     {
-        self.held.take_value(self.alloc, value)
+        self.state.take_value(self.alloc, value)
     }
 
     /// Takes a key and its value.
@@ -201,16 +201,16 @@ impl<W: Write> CollectMap<'_, W> {
         key: &K,
         value: &V,
     ) -> WriteResult<(), W>
-        requires { (map_held self.old).key ≡ None }
+        requires { (map_state self.old).key ≡ None }
         ensures same_reference { SameLoan (map_lent self.old) (map_lent self.new) }
         ensures unchanged { (map_lent self.new).now ≡ (map_lent self.old).now }
-        ensures announced { (map_held self.new).announced ≡ (map_held self.old).announced }
-        ensures key { OnOk result ((map_held self.new).key ≡ None) }
+        ensures announced { (map_state self.new).announced ≡ (map_state self.old).announced }
+        ensures key { OnOk result ((map_state self.new).key ≡ None) }
         ensures entry { Collects
             (λ u. JoinsEntry (K.tree key.now) (V.tree value.now)
-            (map_held self.old).entries (map_held self.new).entries)
+            (map_state self.old).entries (map_state self.new).entries)
             (RefusesEntry (K.tree key.now) (V.tree value.now)) result }
-        ensures kept { OnErr result ((map_held self.new).entries ≡ (map_held self.old).entries) }
+        ensures kept { OnErr result ((map_state self.new).entries ≡ (map_state self.old).entries) }
     {
         self.serialize_key(key)?;
         self.serialize_value(value)
@@ -222,16 +222,16 @@ impl<W: Write> CollectMap<'_, W> {
         name: &'static str,
         value: &V,
     ) -> WriteResult<(), W>
-        requires { (map_held self.old).key ≡ None }
+        requires { (map_state self.old).key ≡ None }
         ensures same_reference { SameLoan (map_lent self.old) (map_lent self.new) }
         ensures unchanged { (map_lent self.new).now ≡ (map_lent self.old).now }
-        ensures announced { (map_held self.new).announced ≡ (map_held self.old).announced }
-        ensures key { OnOk result ((map_held self.new).key ≡ None) }
+        ensures announced { (map_state self.new).announced ≡ (map_state self.old).announced }
+        ensures key { OnOk result ((map_state self.new).key ≡ None) }
         ensures entry { Collects
             (λ u. JoinsEntry (Some (text name.now)) (V.tree value.now)
-            (map_held self.old).entries (map_held self.new).entries)
+            (map_state self.old).entries (map_state self.new).entries)
             (RefusesValue (V.tree value.now)) result }
-        ensures kept { OnErr result ((map_held self.new).entries ≡ (map_held self.old).entries) }
+        ensures kept { OnErr result ((map_state self.new).entries ≡ (map_state self.old).entries) }
     {
         self.serialize_entry(&name, value)
     }
@@ -239,22 +239,22 @@ impl<W: Write> CollectMap<'_, W> {
     /// Ends the map: its entries go out in key order. Two equal keys are refused with `Msg("Map
     /// keys must be unique")` before anything is written.
     pub fn end(self) -> WriteResult<(), W>
-        requires { IsTrue (is_complete (map_held self)) }
-        ensures written { (given : List Pair) → AreSpellingsOf given (map_held self.entry).entries
-            → Writes (map_rest (map_held self.entry).announced given)
+        requires { IsTrue (is_complete (map_state self)) }
+        ensures written { (given : List Pair) → AreSpellingsOf given (map_state self.entry).entries
+            → Writes (map_rest (map_state self.entry).announced given)
             (W.written (map_lent self.entry).now) (W.written self.exit.0.now) result }
         ensures well_formed { (given : List Pair)
-            → AreSpellingsOf given (map_held self.entry).entries
+            → AreSpellingsOf given (map_state self.entry).entries
             → OnOk result (IfSome (entries_tree given) IsTree) }
-        ensures message { (given : List Pair) → AreSpellingsOf given (map_held self.entry).entries
+        ensures message { (given : List Pair) → AreSpellingsOf given (map_state self.entry).entries
             → IfErr result (OnMessage (λ m. (m ≡ codes "Map keys must be unique")
             × RepeatsKey given × (self.exit.0.now ≡ (map_lent self.entry).now))) }
     {
         let Self {
             ser,
             alloc: _,
-            held,
+            state,
         } = self;
-        ser.push_map(held)
+        ser.push_map(state)
     }
 }

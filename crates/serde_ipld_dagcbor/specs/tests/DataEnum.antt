@@ -5,7 +5,7 @@ use Rattle.std.specs.Str.{bytes_eq}
 use Rattle.ipld_tree.specs.Tree.{Tree}
 use Rattle.dagcbor_read.specs.Shapes.{view_unsigned, view_bool, view_text, Shape, leaf}
 use Rattle.dagcbor_read.specs.Collections.{list_of, no_more, first_then}
-use Rattle.dagcbor_read.specs.Structs.{required, no_fields, struct_shape}
+use Rattle.dagcbor_read.specs.Structs.{required_field, no_fields, struct_shape}
 use Rattle.dagcbor_read.specs.EnumViews.{EnumShape, enum_of}
 
 pub data DataView : Type 0 where
@@ -15,8 +15,8 @@ pub data DataView : Type 0 where
 
 -- the fields of C
 abbrev pub c_shape : Shape Tree (ℕ × (List ℕ × Unit {0}))
-c_shape = struct_shape (required (codes "x") (leaf (view_unsigned (2 ^ 8)))
-    (required (codes "y") (leaf view_text) no_fields))
+c_shape = struct_shape (required_field (codes "x") (leaf (view_unsigned (2 ^ 8)))
+    (required_field (codes "y") (leaf view_text) no_fields))
 
 -- a truth value and a number in a list
 abbrev pub b_shape : Shape Tree (Bool × (ℕ × Unit {0}))

@@ -2,11 +2,11 @@
 use Rattle.std.specs.Prelude.{ℕ, Bool, List, codes}
 use Rattle.ipld_tree.specs.Tree.{Tree}
 use Rattle.dagcbor_read.specs.Shapes.{view_link, view_bool, leaf, Shape}
-use Rattle.dagcbor_read.specs.Structs.{required, no_fields, struct_shape}
+use Rattle.dagcbor_read.specs.Structs.{required_field, no_fields, struct_shape}
 
 abbrev pub MyStructView : Type 0
 MyStructView = List ℕ × (Bool × Unit {0})
 
 abbrev pub my_struct_shape : Shape Tree MyStructView
-my_struct_shape = struct_shape (required (codes "cid") (leaf view_link)
-    (required (codes "data") (leaf view_bool) no_fields))
+my_struct_shape = struct_shape (required_field (codes "cid") (leaf view_link)
+    (required_field (codes "data") (leaf view_bool) no_fields))

@@ -2,10 +2,10 @@
 use Rattle.std.specs.Prelude.{ℕ, ◌^◌, Option, codes}
 use Rattle.ipld_tree.specs.Tree.{Tree}
 use Rattle.dagcbor_read.specs.Shapes.{view_unsigned, leaf, Shape}
-use Rattle.dagcbor_read.specs.Structs.{StructShape, required, no_fields, struct_shape}
+use Rattle.dagcbor_read.specs.Structs.{StructShape, required_field, no_fields, struct_shape}
 
 abbrev pub one_fields : StructShape (Option ℕ × Unit {0}) (ℕ × Unit {0})
-one_fields = required (codes "a") (leaf (view_unsigned (2 ^ 8))) no_fields
+one_fields = required_field (codes "a") (leaf (view_unsigned (2 ^ 8))) no_fields
 
 abbrev pub one_shape : Shape Tree (ℕ × Unit {0})
 one_shape = struct_shape one_fields

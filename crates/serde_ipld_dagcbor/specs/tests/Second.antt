@@ -3,7 +3,7 @@ use Rattle.std.specs.Prelude.{ℕ, ◌^◌, List, Option, None, if◌then◌else
 use Rattle.std.specs.Str.{bytes_eq}
 use Rattle.ipld_tree.specs.Tree.{Tree}
 use Rattle.dagcbor_read.specs.Shapes.{view_unsigned, leaf, Shape}
-use Rattle.dagcbor_read.specs.Structs.{required, no_fields, struct_shape}
+use Rattle.dagcbor_read.specs.Structs.{required_field, no_fields, struct_shape}
 use Rattle.dagcbor_read.specs.EnumViews.{EnumShape, enum_of}
 
 abbrev pub SecondView : Type 0
@@ -11,9 +11,9 @@ SecondView = ℕ × (ℕ × (ℕ × Unit {0}))
 
 -- the fields of the variant
 abbrev pub fields_shape : Shape Tree SecondView
-fields_shape = struct_shape (required (codes "b") (leaf (view_unsigned (2 ^ 8)))
-    (required (codes "abc") (leaf (view_unsigned (2 ^ 8)))
-    (required (codes "a") (leaf (view_unsigned (2 ^ 8))) no_fields)))
+fields_shape = struct_shape (required_field (codes "b") (leaf (view_unsigned (2 ^ 8)))
+    (required_field (codes "abc") (leaf (view_unsigned (2 ^ 8)))
+    (required_field (codes "a") (leaf (view_unsigned (2 ^ 8))) no_fields)))
 
 -- no variant is its name alone
 abbrev pub unit_second : List ℕ → Option SecondView

@@ -2,14 +2,14 @@
 use Rattle.std.specs.Prelude.{ℕ, List, Option, Some, None, if◌then◌else◌, codes}
 use Rattle.ipld_tree.specs.Tree.{Tree}
 use Rattle.dagcbor_read.specs.Shapes.{view_link, view_text, leaf, Shape}
-use Rattle.dagcbor_read.specs.Structs.{required, no_fields, struct_shape}
+use Rattle.dagcbor_read.specs.Structs.{required_field, no_fields, struct_shape}
 use Rattle.std.specs.Str.{bytes_eq}
 use Rattle.dagcbor_read.specs.Collections.{finishing}
 
 -- the tag and the link
 abbrev pub tagged_fields : Shape Tree (List ℕ × (List ℕ × Unit {0}))
-tagged_fields = struct_shape (required (codes "type") (leaf view_text)
-    (required (codes "cid") (leaf view_link) no_fields))
+tagged_fields = struct_shape (required_field (codes "type") (leaf view_text)
+    (required_field (codes "cid") (leaf view_link) no_fields))
 
 -- the variant is the one that is known
 abbrev pub finish_tagged : List ℕ × (List ℕ × Unit {0}) → Option (List ℕ)

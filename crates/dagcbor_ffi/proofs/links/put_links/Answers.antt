@@ -2,7 +2,7 @@ use Rattle.std.proofs.Common.{◌≡◌, [], ◌∷◌, length, refl, ap, sym, �
 use Rattle.ipld_tree.proofs.Fronts.{front_unique}
 use Rattle.dagcbor_ffi.specs.Packed.{packed_links, HasPut}
 use Rattle.dagcbor_ffi.proofs.Packing.{packed_fits}
-use Rattle.dagcbor_ffi.proofs.Putting.{begun, never_refused, filled, stays_without_room}
+use Rattle.dagcbor_ffi.proofs.Putting.{nothing_put, never_refused, second_walk_fills, stays_without_room}
 use Rattle.dagcbor_ffi.proofs.links.put_links.Goals as goal
 use Rattle.dagcbor_ffi.proofs.links.put_links.Goals.{then-counted-out+in_ok-fill, else-counted-out}
 
@@ -17,7 +17,7 @@ returns c =
     let walked = c.in_ok-kind.ensures in
     let none = c.new-counted.result in
     let counted : HasPut none.out.ghost_name none.out.now (packed_links walked.0) c.walk_slice.new.links =
-    walked.5 ((none.out.ghost_name ∷ []) ∷ none.out.now ∷ []) (begun none none.out.ghost_name none.out.now refl refl c.new-counted.ensures.needed (omega (arith, ap length c.new-counted.ensures.bytes))) in
+    walked.5 ((none.out.ghost_name ∷ []) ∷ none.out.now ∷ []) (nothing_put none none.out.ghost_name none.out.now refl refl c.new-counted.ensures.needed (omega (arith, ap length c.new-counted.ensures.bytes))) in
     let needed : c.walk_slice.new.links.needed ≡ length (packed_links walked.0) = omega (arith, counted.counted, packed_fits c.args.bytes.now walked.1 walked.0 walked.2) in (
       walked.0,
       walked.1,
@@ -29,7 +29,7 @@ returns c =
         | then-counted-out+in_ok-fill w ↦ (
             let again = w.in_ok-fill.ensures in
             let same : again.0 ≡ walked.0 = (front_unique c.args.bytes.now again.1 walked.1 again.0 walked.0 again.2 walked.2).0 in
-            w.out-is ∙ filled c.args.out.now _ walked.0 again.0 again.3 same (omega (arith, w.if-counted-out.true, needed))
+            w.out-is ∙ second_walk_fills c.args.out.now _ walked.0 again.0 again.3 same (omega (arith, w.if-counted-out.true, needed))
             )
         | else-counted-out w ↦ w.out-is ∙ sym (stays_without_room (packed_links walked.0) c.args.out.now (omega (arith, w.if-counted-out.false, needed)))
       ],

@@ -1,12 +1,12 @@
 use Rattle.std.proofs.Common.{ap, ◌∙◌, ◌++◌, take, length, min}
-use Rattle.dagcbor_heads.proofs.Taking.{gathered}
+use Rattle.dagcbor_heads.proofs.Taking.{fill_gathers}
 use Rattle.dagcbor_heads.proofs.Looking.{gathered_looked, gathered_most}
 use Rattle.dagcbor_heads.proofs.pull.gather_some.Goals as goal
 
 pub returns-in-Ok-append_front : goal.returns-in-Ok-append_front
 returns-in-Ok-append_front g c =
     let count = c.in-Ok-append_front.ensures.count ∙ ap (λ s. min c.args.want (length s)) c.shown.ensures in
-    let behind = gathered c.in-Ok.ensures count
+    let behind = fill_gathers c.in-Ok.ensures count
     (c.in-Ok-append_front.ensures.grows ∙ ap (λ s. c.args.payload.now.items ++ take c.in-Ok-append_front.count s) c.shown.ensures) c.advance.ensures in
     record {
       gathered = behind;

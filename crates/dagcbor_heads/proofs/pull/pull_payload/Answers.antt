@@ -1,13 +1,13 @@
 use Rattle.std.proofs.Common.{arith, ap, refl, length-append}
 use Rattle.dagcbor_heads.specs.Causes.{PayloadCause}
-use Rattle.dagcbor_heads.proofs.Refusing.{refused, unlent_refused}
+use Rattle.dagcbor_heads.proofs.Refusing.{as_refusal, unlent_refused}
 use Rattle.dagcbor_heads.proofs.Looking.{lent_looked}
 use Rattle.dagcbor_heads.proofs.pull.pull_payload.Goals as goal
 
 pub returns-in_err-gather-in-Reader-clause-taken :
     goal.returns-in_err-gather-in-Reader-clause-taken
 returns-in_err-gather-in-Reader-clause-taken g c =
-    rw c.in-Reader.is (refused _ _ _ _ c.from_residual.ensures.1
+    rw c.in-Reader.is (as_refusal _ _ _ _ c.from_residual.ensures.1
     (unlent_refused (PayloadCause c.args.n) (g.R.Read.reading c.in-Reader.reader) (g.R.Read.reading c.gather.new.reader) _ (λ h. record { payload = h.payload; rest = h.rest; long = h.long; left = h.left }) (λ _. refl) c.in_err-gather-in-Reader.ensures.taken))
 
 pub returns-in-Some-clause-lent : goal.returns-in-Some-clause-lent

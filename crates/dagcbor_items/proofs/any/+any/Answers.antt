@@ -1,11 +1,11 @@
 use Rattle.std.proofs.Common.{refl, sym, ap, arith, rules, ◌∙◌}
 use Rattle.std.specs.Prelude.{⊤}
-use Rattle.dagcbor_heads.proofs.Refusing.{refused}
+use Rattle.dagcbor_heads.proofs.Refusing.{as_refusal}
 use Rattle.dagcbor_heads.specs.Reading.{Reading}
 use Rattle.dagcbor_heads.proofs.Looking.{looks_both, looks_then, nothing_looked, same_looked}
-use Rattle.dagcbor_items.proofs.Looks.{once_left, peeked, stepped_left}
+use Rattle.dagcbor_items.proofs.Looks.{once_left, looks_behind_peek, stepped_left}
 use Rattle.dagcbor_items.proofs.Looks as looks
-use Rattle.ipld_tree.specs.Tree.{ordered}
+use Rattle.ipld_tree.specs.Tree.{ordered_entries}
 use Rattle.ipld_tree.specs.Ipld.{tree_of, pairs_of}
 use Rattle.dagcbor_items.proofs.Fronts.{byte_refused}
 use Rattle.dagcbor_items.proofs.Leaves.{indefinite_refused}
@@ -18,40 +18,40 @@ use Rattle.dagcbor_items.proofs.Keys.{follows_as}
 use Rattle.dagcbor_items.proofs.any.+any.Goals as goal
 
 pub read_any-returns-in_err-spend_step-clause-item : goal.read_any-returns-in_err-spend_step-clause-item
-read_any-returns-in_err-spend_step-clause-item g t c = refused _ _ _ _ c.from_residual.ensures.1 (no_step_left _ _ c.in_err-spend_step.ensures)
+read_any-returns-in_err-spend_step-clause-item g t c = as_refusal _ _ _ _ c.from_residual.ensures.1 (no_step_left _ _ c.in_err-spend_step.ensures)
 
 pub read_any-returns-in_err-value-clause-item : goal.read_any-returns-in_err-value-clause-item
 read_any-returns-in_err-value-clause-item g t c =
-    refused _ _ _ _ c.from_residual-in_err-value.ensures.1 (stepped_refused _ 0 _ c.in_ok-spend_step.ensures (λ x. x) c.in_err-value.ensures.item)
+    as_refusal _ _ _ _ c.from_residual-in_err-value.ensures.1 (stepped_refused _ 0 _ c.in_ok-spend_step.ensures (λ x. x) c.in_err-value.ensures.item)
 
 pub read_item-returns-in_err-first-clause-item : goal.read_item-returns-in_err-first-clause-item
-read_item-returns-in_err-first-clause-item g t c = refused _ _ _ _ c.from_residual.ensures.1 (byte_refused ⊤ 0 _ _ _ c.in_err-first.ensures.shown)
+read_item-returns-in_err-first-clause-item g t c = as_refusal _ _ _ _ c.from_residual.ensures.1 (byte_refused ⊤ 0 _ _ _ c.in_err-first.ensures.shown)
 
 pub read_item-returns-then-is_indefinite-clause-item : goal.read_item-returns-then-is_indefinite-clause-item
 read_item-returns-then-is_indefinite-clause-item g t c = indefinite_refused g.row.R-Error.Denot ⊤ 0 c.in_ok-first.ensures.shown (c.is_indefinite.ensures.0 c.if-is_indefinite.true)
 
 pub read_list-returns-in_err-count-clause-item : goal.read_list-returns-in_err-count-clause-item
-read_list-returns-in_err-count-clause-item g t c = refused _ _ _ _ c.from_residual.ensures.1 (more_lacks ⊤ 1 _ _ _ (λ x. absurd x) c.in_err-count.ensures.count)
+read_list-returns-in_err-count-clause-item g t c = as_refusal _ _ _ _ c.from_residual.ensures.1 (more_lacks ⊤ 1 _ _ _ (λ x. absurd x) c.in_err-count.ensures.count)
 
 pub read_list-returns-in_err-items-clause-item : goal.read_list-returns-in_err-items-clause-item
 read_list-returns-in_err-items-clause-item g t c =
-    refused _ _ _ _ c.from_residual-in_err-items.ensures.1 (list_refused _ _ _ c.requires (enters 4 c.requires c.in_ok-count.ensures.count) (λ x. x) c.in_err-items.ensures.items)
+    as_refusal _ _ _ _ c.from_residual-in_err-items.ensures.1 (list_refused _ _ _ c.requires (enters 4 c.requires c.in_ok-count.ensures.count) (λ x. x) c.in_err-items.ensures.items)
 
 pub read_list-returns-clause-item : goal.read_list-returns-clause-item
 read_list-returns-clause-item g t c = list_as_tree _ (enters 4 c.requires c.in_ok-count.ensures.count) c.in_ok-items.ensures.items c.step_out.ensures
 
 pub read_list-returns-in_err-count-clause-looked : goal.read_list-returns-in_err-count-clause-looked
-read_list-returns-in_err-count-clause-looked g t c = refused _ _ _ _ c.from_residual.ensures.1 c.in_err-count.ensures.looked
+read_list-returns-in_err-count-clause-looked g t c = as_refusal _ _ _ _ c.from_residual.ensures.1 c.in_err-count.ensures.looked
 
 pub read_list-returns-in_err-items-clause-looked : goal.read_list-returns-in_err-items-clause-looked
-read_list-returns-in_err-items-clause-looked g t c = refused _ _ _ _ c.from_residual-in_err-items.ensures.1 (looks_then c.in_ok-count.ensures.looked c.in_err-items.ensures.looked)
+read_list-returns-in_err-items-clause-looked g t c = as_refusal _ _ _ _ c.from_residual-in_err-items.ensures.1 (looks_then c.in_ok-count.ensures.looked c.in_err-items.ensures.looked)
 
 pub read_list-returns-clause-looked : goal.read_list-returns-clause-looked
 read_list-returns-clause-looked g t c = looks.stepped_taken _ refl (looks_both c.in_ok-count.ensures.looked c.in_ok-items.ensures.looked) c.step_out.ensures
 
 pub read_items-returns-in_err-item-clause-items : goal.read_items-returns-in_err-item-clause-items
 read_items-returns-in_err-item-clause-items g t c =
-    refused _ _ _ _ c.from_residual.ensures.1 (next_refused _ _ _ (omega arith) c.loop-index.invariant.read (λ x. x) c.in_err-item.ensures.item)
+    as_refusal _ _ _ _ c.from_residual.ensures.1 (next_refused _ _ _ (omega arith) c.loop-index.invariant.read (λ x. x) c.in_err-item.ensures.item)
 
 pub read_items-loop-index-preserved : goal.read_items-loop-index-preserved
 read_items-loop-index-preserved g t c = record {
@@ -63,47 +63,47 @@ pub read_items-loop-index-init : goal.read_items-loop-index-init
 read_items-loop-index-init g t c = record { read = search rules; looked = nothing_looked _ }
 
 pub read_items-returns-in_err-item-clause-looked : goal.read_items-returns-in_err-item-clause-looked
-read_items-returns-in_err-item-clause-looked g t c = refused _ _ _ _ c.from_residual.ensures.1 (looks_then c.loop-index.invariant.looked c.in_err-item.ensures.looked)
+read_items-returns-in_err-item-clause-looked g t c = as_refusal _ _ _ _ c.from_residual.ensures.1 (looks_then c.loop-index.invariant.looked c.in_err-item.ensures.looked)
 
 pub read_map-returns-in_err-count-clause-item : goal.read_map-returns-in_err-count-clause-item
-read_map-returns-in_err-count-clause-item g t c = refused _ _ _ _ c.from_residual.ensures.1 (more_lacks ⊤ 1 _ _ _ (λ x. absurd x) c.in_err-count.ensures.count)
+read_map-returns-in_err-count-clause-item g t c = as_refusal _ _ _ _ c.from_residual.ensures.1 (more_lacks ⊤ 1 _ _ _ (λ x. absurd x) c.in_err-count.ensures.count)
 
 pub read_map-returns-in_err-entries-clause-item : goal.read_map-returns-in_err-entries-clause-item
 read_map-returns-in_err-entries-clause-item g t c =
-    refused _ _ _ _ c.from_residual-in_err-entries.ensures.1 (maps.map_refused _ _ _ c.requires (enters 5 c.requires c.in_ok-count.ensures.count) (λ x. x) c.in_err-entries.ensures.entries)
+    as_refusal _ _ _ _ c.from_residual-in_err-entries.ensures.1 (maps.map_refused _ _ _ c.requires (enters 5 c.requires c.in_ok-count.ensures.count) (λ x. x) c.in_err-entries.ensures.entries)
 
 pub read_map-returns-clause-item : goal.read_map-returns-clause-item
 read_map-returns-clause-item g t c = maps.map_as_tree _ (enters 5 c.requires c.in_ok-count.ensures.count) c.in_ok-entries.ensures.entries c.step_out.ensures
 
 pub read_map-returns-in_err-count-clause-looked : goal.read_map-returns-in_err-count-clause-looked
-read_map-returns-in_err-count-clause-looked g t c = refused _ _ _ _ c.from_residual.ensures.1 c.in_err-count.ensures.looked
+read_map-returns-in_err-count-clause-looked g t c = as_refusal _ _ _ _ c.from_residual.ensures.1 c.in_err-count.ensures.looked
 
 pub read_map-returns-in_err-entries-clause-looked : goal.read_map-returns-in_err-entries-clause-looked
-read_map-returns-in_err-entries-clause-looked g t c = refused _ _ _ _ c.from_residual-in_err-entries.ensures.1 (looks_then c.in_ok-count.ensures.looked c.in_err-entries.ensures.looked)
+read_map-returns-in_err-entries-clause-looked g t c = as_refusal _ _ _ _ c.from_residual-in_err-entries.ensures.1 (looks_then c.in_ok-count.ensures.looked c.in_err-entries.ensures.looked)
 
 pub read_map-returns-clause-looked : goal.read_map-returns-clause-looked
 read_map-returns-clause-looked g t c = looks.stepped_taken _ refl (looks_both c.in_ok-count.ensures.looked c.in_ok-entries.ensures.looked) c.step_out.ensures
 
 pub read_entries-loop-index-init : goal.read_entries-loop-index-init
 read_entries-loop-index-init g t c = record {
-  read = maps.none_read _ _ _ _ _ (omega arith) (ap (λ es. ordered (pairs_of es)) c.new-entries.ensures.empty) refl;
+  read = maps.none_read _ _ _ _ _ (omega arith) (ap (λ es. ordered_entries (pairs_of es)) c.new-entries.ensures.empty) refl;
   looked = nothing_looked _;
 }
 
 pub read_entries-returns-in_err-key-clause-looked : goal.read_entries-returns-in_err-key-clause-looked
-read_entries-returns-in_err-key-clause-looked g t c = refused _ _ _ _ c.from_residual.ensures.1 (looks_then c.loop-index.invariant.looked c.in_err-key.ensures.looked)
+read_entries-returns-in_err-key-clause-looked g t c = as_refusal _ _ _ _ c.from_residual.ensures.1 (looks_then c.loop-index.invariant.looked c.in_err-key.ensures.looked)
 
 pub read_entries-returns-in_err-value-clause-looked : goal.read_entries-returns-in_err-value-clause-looked
 read_entries-returns-in_err-value-clause-looked g t c =
-    refused _ _ _ _ c.from_residual-in_err-value.ensures.1 (looks_then (looks_both c.loop-index.invariant.looked c.in_ok-key.ensures.looked) c.in_err-value.ensures.looked)
+    as_refusal _ _ _ _ c.from_residual-in_err-value.ensures.1 (looks_then (looks_both c.loop-index.invariant.looked c.in_ok-key.ensures.looked) c.in_err-value.ensures.looked)
 
 pub read_entries-returns-in_err-key-clause-entries : goal.read_entries-returns-in_err-key-clause-entries
 read_entries-returns-in_err-key-clause-entries g t c =
-    refused _ _ _ _ c.from_residual.ensures.1 (maps.next_key_refused _ _ (omega arith) c.loop-index.invariant.read (λ _. tt) c.in_err-key.ensures.key)
+    as_refusal _ _ _ _ c.from_residual.ensures.1 (maps.next_key_refused _ _ (omega arith) c.loop-index.invariant.read (λ _. tt) c.in_err-key.ensures.key)
 
 pub read_entries-returns-in_err-value-clause-entries : goal.read_entries-returns-in_err-value-clause-entries
 read_entries-returns-in_err-value-clause-entries g t c =
-    refused _ _ _ _ c.from_residual-in_err-value.ensures.1 (maps.next_value_refused _ _ _ (omega arith) c.loop-index.invariant.read c.in_ok-key.ensures.key.0 c.in_ok-key.ensures.key.1 (λ x. x) c.in_err-value.ensures.item)
+    as_refusal _ _ _ _ c.from_residual-in_err-value.ensures.1 (maps.next_value_refused _ _ _ (omega arith) c.loop-index.invariant.read c.in_ok-key.ensures.key.0 c.in_ok-key.ensures.key.1 (λ x. x) c.in_err-value.ensures.item)
 
 pub read_entries-loop-index-preserved : goal.read_entries-loop-index-preserved
 read_entries-loop-index-preserved g t c =
@@ -118,19 +118,19 @@ read_entries-loop-index-preserved g t c =
     }
 
 pub read_any-returns-in_err-spend_step-clause-looked : goal.read_any-returns-in_err-spend_step-clause-looked
-read_any-returns-in_err-spend_step-clause-looked g t c = refused _ _ _ _ c.from_residual.ensures.1 (same_looked (ap (λ (r : Reading). r.looked) c.in_err-spend_step.ensures.same))
+read_any-returns-in_err-spend_step-clause-looked g t c = as_refusal _ _ _ _ c.from_residual.ensures.1 (same_looked (ap (λ (r : Reading). r.looked) c.in_err-spend_step.ensures.same))
 
 pub read_any-returns-in_err-value-clause-looked : goal.read_any-returns-in_err-value-clause-looked
-read_any-returns-in_err-value-clause-looked g t c = refused _ _ _ _ c.from_residual-in_err-value.ensures.1 (stepped_left _ c.in_ok-spend_step.ensures.is c.in_err-value.ensures.looked)
+read_any-returns-in_err-value-clause-looked g t c = as_refusal _ _ _ _ c.from_residual-in_err-value.ensures.1 (stepped_left _ c.in_ok-spend_step.ensures.is c.in_err-value.ensures.looked)
 
 pub read_any-returns-clause-looked : goal.read_any-returns-clause-looked
 read_any-returns-clause-looked g t c = looks.stepped_taken _ c.in_ok-spend_step.ensures.is c.in_ok-value.ensures.looked c.step_out.ensures
 
 pub read_item-returns-in_err-first-clause-looked : goal.read_item-returns-in_err-first-clause-looked
-read_item-returns-in_err-first-clause-looked g t c = refused _ _ _ _ c.from_residual.ensures.1 (once_left 3 (omega arith) c.in_err-first.ensures.looked)
+read_item-returns-in_err-first-clause-looked g t c = as_refusal _ _ _ _ c.from_residual.ensures.1 (once_left 3 (omega arith) c.in_err-first.ensures.looked)
 
 pub read_item-returns-then-is_indefinite-clause-looked : goal.read_item-returns-then-is_indefinite-clause-looked
 read_item-returns-then-is_indefinite-clause-looked g t c = once_left 3 (omega arith) c.in_ok-first.ensures.looked
 
 pub read_item-returns-clause-looked : goal.read_item-returns-clause-looked
-read_item-returns-clause-looked g t c = peeked 3 _ _ c.in_ok-first.ensures.looked c.in_ok-first.ensures.shown c.read_of_major.ensures.looked
+read_item-returns-clause-looked g t c = looks_behind_peek 3 _ _ c.in_ok-first.ensures.looked c.in_ok-first.ensures.shown c.read_of_major.ensures.looked

@@ -3,7 +3,7 @@ use Rattle.std.specs.Prelude.{option_map}
 use Rattle.std.specs.Cow.{cow_str_bytes}
 use Rattle.dagcbor_heads.specs.Inputs.{input_reading}
 use Rattle.dagcbor_heads.specs.Looking.{LooksAtTaken}
-use Rattle.ipld_tree.specs.Tree.{ordered}
+use Rattle.ipld_tree.specs.Tree.{ordered_entries}
 use Rattle.ipld_tree.specs.Ipld.{trees_of, pairs_of}
 use Rattle.dagcbor_items.proofs.Lists.{ReadSome}
 use Rattle.dagcbor_items.proofs.Maps.{ReadEntries}
@@ -38,6 +38,6 @@ decreases-read_entries g l = 5 * (input_reading g.R.Read.reading l.input.now).st
 
 abbrev pub invariant-read_entries-loop-index : goal.invariant-read_entries-loop-index
 invariant-read_entries-loop-index g l = record {
-  read : ReadEntries l.count (l.count - l._index) (input_reading g.R.Read.reading l.fn.input) (ordered (pairs_of l.entries.entries)) (option_map cow_str_bytes l.previous) (input_reading g.R.Read.reading l.input);
+  read : ReadEntries l.count (l.count - l._index) (input_reading g.R.Read.reading l.fn.input) (ordered_entries (pairs_of l.entries.entries)) (option_map cow_str_bytes l.previous) (input_reading g.R.Read.reading l.input);
   looked : LooksAtTaken 3 0 (input_reading g.R.Read.reading l.fn.input) (input_reading g.R.Read.reading l.input);
 }

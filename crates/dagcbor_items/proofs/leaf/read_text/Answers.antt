@@ -1,10 +1,10 @@
-use Rattle.dagcbor_heads.proofs.Refusing.{refused}
+use Rattle.dagcbor_heads.proofs.Refusing.{as_refusal}
 use Rattle.dagcbor_items.proofs.StringItems.{text_as_tree, text_taken, text_refused}
 use Rattle.dagcbor_items.proofs.Looks.{item_taken}
 use Rattle.dagcbor_items.proofs.leaf.read_text.Goals as goal
 
 pub returns-in_err-pull_peeked_owned_text-clause-item : goal.returns-in_err-pull_peeked_owned_text-clause-item
-returns-in_err-pull_peeked_owned_text-clause-item g c = refused _ _ _ _ c.from_residual.ensures.1 (text_refused _ _ _ _ c.requires c.in_err-pull_peeked_owned_text.ensures.text)
+returns-in_err-pull_peeked_owned_text-clause-item g c = as_refusal _ _ _ _ c.from_residual.ensures.1 (text_refused _ _ _ _ c.requires c.in_err-pull_peeked_owned_text.ensures.text)
 
 pub returns-clause-item : goal.returns-clause-item
 returns-clause-item g c = text_as_tree _ c.in_ok-pull_peeked_owned_text.ensures.text

@@ -1,9 +1,9 @@
-use Rattle.dagcbor_heads.proofs.Refusing.{refused}
+use Rattle.dagcbor_heads.proofs.Refusing.{as_refusal}
 use Rattle.dagcbor_items.proofs.Links.{cid_byte_refused, no_byte_string}
 use Rattle.dagcbor_items.proofs.link.pull_cid.Goals as goal
 
 pub returns-in_err-first-clause-cid : goal.returns-in_err-first-clause-cid
-returns-in_err-first-clause-cid g c = refused _ _ _ _ c.from_residual.ensures.1 (cid_byte_refused _ _ _ c.in_err-first.ensures.shown)
+returns-in_err-first-clause-cid g c = as_refusal _ _ _ _ c.from_residual.ensures.1 (cid_byte_refused _ _ _ c.in_err-first.ensures.shown)
 
 pub returns-then-first-ne2-clause-cid : goal.returns-then-first-ne2-clause-cid
 returns-then-first-ne2-clause-cid g c =

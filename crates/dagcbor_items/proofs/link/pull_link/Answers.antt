@@ -1,6 +1,6 @@
 use Rattle.dagcbor_items.proofs.Links.{link_read}
 use Rattle.std.proofs.Common.{arith}
-use Rattle.dagcbor_heads.proofs.Refusing.{refused}
+use Rattle.dagcbor_heads.proofs.Refusing.{as_refusal}
 use Rattle.dagcbor_heads.proofs.Looking.{looks_both, looks_then}
 use Rattle.dagcbor_items.proofs.Looks.{looks_behind, taken_more, major_left, byte_taken}
 use Rattle.dagcbor_items.proofs.link.pull_link.Goals as goal
@@ -14,11 +14,11 @@ returns-clause-looked g c =
     looks_behind _ _ (taken_more 2 (omega arith) wanted) c.pull_cid.ensures.looked
 
 pub returns-in_err-pull_wanted-clause-peeked : goal.returns-in_err-pull_wanted-clause-peeked
-returns-in_err-pull_wanted-clause-peeked g c = λ starts. refused _ _ _ _ c.from_residual.ensures.1 (major_left starts c.in_err-pull_wanted.ensures.looked)
+returns-in_err-pull_wanted-clause-peeked g c = λ starts. as_refusal _ _ _ _ c.from_residual.ensures.1 (major_left starts c.in_err-pull_wanted.ensures.looked)
 
 pub returns-in_err-pull_wanted-2-clause-peeked : goal.returns-in_err-pull_wanted-2-clause-peeked
 returns-in_err-pull_wanted-2-clause-peeked g c =
-    λ starts. refused _ _ _ _ c.from_residual-in_err-pull_wanted-2.ensures.1 (major_left starts (looks_then c.in_ok-pull_wanted.ensures.looked c.in_err-pull_wanted-2.ensures.looked))
+    λ starts. as_refusal _ _ _ _ c.from_residual-in_err-pull_wanted-2.ensures.1 (major_left starts (looks_then c.in_ok-pull_wanted.ensures.looked c.in_err-pull_wanted-2.ensures.looked))
 
 pub returns-clause-peeked : goal.returns-clause-peeked
 returns-clause-peeked g c =

@@ -1,12 +1,12 @@
-use Rattle.dagcbor_heads.proofs.Refusing.{refused}
+use Rattle.dagcbor_heads.proofs.Refusing.{as_refusal}
 use Rattle.dagcbor_items.proofs.Links.{link_refused}
 use Rattle.dagcbor_items.proofs.link.read_link.Goals as goal
 
 pub returns-in_err-pull_link-clause-leaf : goal.returns-in_err-pull_link-clause-leaf
-returns-in_err-pull_link-clause-leaf g c = refused _ _ _ _ c.from_residual.ensures.1 (link_refused _ _ _ c.requires c.in_err-pull_link.ensures.link)
+returns-in_err-pull_link-clause-leaf g c = as_refusal _ _ _ _ c.from_residual.ensures.1 (link_refused _ _ _ c.requires c.in_err-pull_link.ensures.link)
 
 pub returns-in_err-pull_link-clause-looked : goal.returns-in_err-pull_link-clause-looked
-returns-in_err-pull_link-clause-looked g c = refused _ _ _ _ c.from_residual.ensures.1 (c.in_err-pull_link.ensures.peeked c.requires)
+returns-in_err-pull_link-clause-looked g c = as_refusal _ _ _ _ c.from_residual.ensures.1 (c.in_err-pull_link.ensures.peeked c.requires)
 
 pub returns-clause-looked : goal.returns-clause-looked
 returns-clause-looked g c = c.in_ok-pull_link.ensures.peeked c.requires

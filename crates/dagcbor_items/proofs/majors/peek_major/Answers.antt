@@ -1,11 +1,11 @@
 use Rattle.std.proofs.Common.{arith}
-use Rattle.dagcbor_heads.proofs.Refusing.{refused}
+use Rattle.dagcbor_heads.proofs.Refusing.{as_refusal}
 use Rattle.dagcbor_items.proofs.HeadMajors.{kind_byte_refused, other_kind}
 use Rattle.dagcbor_items.proofs.majors.peek_major.Goals as goal
 use Rattle.dagcbor_items.proofs.majors.peek_major.Goals.{then-major-low-via-then-major-low, then-major-low-via-else-major-low+then-high-major}
 
 pub returns-in_err-first-clause-kind : goal.returns-in_err-first-clause-kind
-returns-in_err-first-clause-kind g c = refused _ _ _ _ c.from_residual.ensures.1 (kind_byte_refused _ c.args.low c.args.high _ _ _ c.in_err-first.ensures.named c.in_err-first.ensures.shown)
+returns-in_err-first-clause-kind g c = as_refusal _ _ _ _ c.from_residual.ensures.1 (kind_byte_refused _ c.args.low c.args.high _ _ _ c.in_err-first.ensures.named c.in_err-first.ensures.shown)
 
 pub returns-then-major-low-clause-kind : goal.returns-then-major-low-clause-kind
 returns-then-major-low-clause-kind g c =

@@ -1,15 +1,15 @@
-use Rattle.dagcbor_heads.proofs.Refusing.{refused}
+use Rattle.dagcbor_heads.proofs.Refusing.{as_refusal}
 use Rattle.dagcbor_items.proofs.HeadMajors.{kind_head_refused, kind_taken}
 use Rattle.dagcbor_items.proofs.Looks.{peeked_taken, head_taken}
 use Rattle.dagcbor_items.proofs.majors.pull_major.Goals as goal
 
 pub returns-in_err-first-clause-kind : goal.returns-in_err-first-clause-kind
-returns-in_err-first-clause-kind g c = refused _ _ _ _ c.from_residual.ensures.1 c.in_err-first.ensures.kind
+returns-in_err-first-clause-kind g c = as_refusal _ _ _ _ c.from_residual.ensures.1 c.in_err-first.ensures.kind
 
 pub returns-in_err-argument-clause-kind : goal.returns-in_err-argument-clause-kind
 returns-in_err-argument-clause-kind g c =
     let first = c.in_ok-first.ensures.kind in
-    refused _ _ _ _ c.from_residual-in_err-argument.ensures.1
+    as_refusal _ _ _ _ c.from_residual-in_err-argument.ensures.1
     (kind_head_refused _ c.args.low c.args.high _ _ c.requires first.0 first.1 c.in_err-argument.ensures.named first.2 c.in_err-argument.ensures.taken)
 
 pub returns-clause-kind : goal.returns-clause-kind

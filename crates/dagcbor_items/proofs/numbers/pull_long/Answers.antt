@@ -1,10 +1,10 @@
 use Rattle.std.proofs.Common.{rules, inl, inr}
-use Rattle.dagcbor_heads.proofs.Refusing.{refused}
+use Rattle.dagcbor_heads.proofs.Refusing.{as_refusal}
 use Rattle.dagcbor_items.proofs.Integers.{long_byte_refused, no_tag, long_read}
 use Rattle.dagcbor_items.proofs.numbers.pull_long.Goals as goal
 
 pub returns-in_err-first-clause-number : goal.returns-in_err-first-clause-number
-returns-in_err-first-clause-number g c = refused _ _ _ _ c.from_residual.ensures.1 (long_byte_refused _ _ _ _ c.in_err-first.ensures.named c.in_err-first.ensures.shown)
+returns-in_err-first-clause-number g c = as_refusal _ _ _ _ c.from_residual.ensures.1 (long_byte_refused _ _ _ _ c.in_err-first.ensures.named c.in_err-first.ensures.shown)
 
 pub returns-then-first-clause-number : goal.returns-then-first-clause-number
 returns-then-first-clause-number g c =

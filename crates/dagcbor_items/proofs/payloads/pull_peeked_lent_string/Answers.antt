@@ -1,6 +1,6 @@
 use Rattle.std.proofs.Common.{ap, arith, length-append}
 use Rattle.std.specs.Prelude.{Err}
-use Rattle.dagcbor_heads.proofs.Refusing.{refused}
+use Rattle.dagcbor_heads.proofs.Refusing.{as_refusal}
 use Rattle.std.specs.declared.convert.Infallible.{Infallible}
 use Rattle.dagcbor_heads.specs.declared.error.DecodeError.TheVariants.{Eof}
 use Rattle.dagcbor_heads.proofs.Looking.{looks_both, lent_looked}
@@ -10,7 +10,7 @@ use Rattle.dagcbor_items.proofs.payloads.pull_peeked_lent_string.Goals as goal
 
 pub returns-in_err-count-clause-string : goal.returns-in_err-count-clause-string
 returns-in_err-count-clause-string c =
-    refused _ _ _ _ c.from_residual.ensures.1 (string_head_refused _ _ _ _ _ _ c.requires.few c.requires.starts c.in_err-count.ensures.named c.in_err-count.ensures.taken)
+    as_refusal _ _ _ _ c.from_residual.ensures.1 (string_head_refused _ _ _ _ _ _ c.requires.few c.requires.starts c.in_err-count.ensures.named c.in_err-count.ensures.taken)
 
 pub returns-in-None-clause-string : goal.returns-in-None-clause-string
 returns-in-None-clause-string c =

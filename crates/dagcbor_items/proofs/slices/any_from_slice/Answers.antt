@@ -1,17 +1,17 @@
 use Rattle.std.proofs.Common.{ap}
-use Rattle.dagcbor_heads.proofs.Refusing.{refused}
+use Rattle.dagcbor_heads.proofs.Refusing.{as_refusal}
 use Rattle.dagcbor_items.proofs.SliceReads.{slice_refused, end_refused, block_taken}
 use Rattle.dagcbor_items.proofs.slices.any_from_slice.Goals as goal
 
 pub returns-in_err-value : goal.returns-in_err-value
 returns-in_err-value c =
     let start = c.lent-input.ensures in
-    refused _ _ _ _ c.from_residual.ensures.1 (slice_refused _ _ _ c.args.bytes.now (ap (λ r. r.left) start) (ap (λ r. r.steps) start) c.in_err-value.ensures.item)
+    as_refusal _ _ _ _ c.from_residual.ensures.1 (slice_refused _ _ _ c.args.bytes.now (ap (λ r. r.left) start) (ap (λ r. r.steps) start) c.in_err-value.ensures.item)
 
 pub returns-in_err-pull_end : goal.returns-in_err-pull_end
 returns-in_err-pull_end c =
     let start = c.lent-input.ensures in
-    refused _ _ _ _ c.from_residual-in_err-pull_end.ensures.1 (end_refused c.args.bytes.now _ _ _ _ _ (ap (λ r. r.left) start) c.in_ok-value.ensures.item c.in_err-pull_end.ensures).0
+    as_refusal _ _ _ _ c.from_residual-in_err-pull_end.ensures.1 (end_refused c.args.bytes.now _ _ _ _ _ (ap (λ r. r.left) start) c.in_ok-value.ensures.item c.in_err-pull_end.ensures).0
 
 pub returns : goal.returns
 returns c =

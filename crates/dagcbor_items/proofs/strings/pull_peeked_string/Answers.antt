@@ -1,4 +1,4 @@
-use Rattle.dagcbor_heads.proofs.Refusing.{refused}
+use Rattle.dagcbor_heads.proofs.Refusing.{as_refusal}
 use Rattle.dagcbor_items.proofs.HeadMajors.{head_kind}
 use Rattle.dagcbor_items.proofs.StringReads.{string_read, string_head_refused}
 use Rattle.dagcbor_items.proofs.Looks.{looks_behind}
@@ -6,7 +6,7 @@ use Rattle.dagcbor_items.proofs.strings.pull_peeked_string.Goals as goal
 
 pub returns-in_err-count-clause-string : goal.returns-in_err-count-clause-string
 returns-in_err-count-clause-string g c =
-    refused _ _ _ _ c.from_residual.ensures.1 (string_head_refused _ _ _ _ _ _ c.requires.few c.requires.starts c.in_err-count.ensures.named c.in_err-count.ensures.taken)
+    as_refusal _ _ _ _ c.from_residual.ensures.1 (string_head_refused _ _ _ _ _ _ c.requires.few c.requires.starts c.in_err-count.ensures.named c.in_err-count.ensures.taken)
 
 pub returns-clause-string : goal.returns-clause-string
 returns-clause-string g c = string_read _ c.args.kind _ _ (head_kind c.requires.starts c.in_ok-count.ensures.taken) c.pull_payload.ensures.named c.pull_payload.ensures.taken

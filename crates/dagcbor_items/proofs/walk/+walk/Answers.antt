@@ -1,9 +1,9 @@
 use Rattle.std.proofs.Common.{inl, refl, sym, ◌∙◌, ap, [], ◌∷◌, ◌++◌, arith}
 use Rattle.dagcbor_items.specs.Walks.{WalkLacks}
-use Rattle.dagcbor_heads.proofs.Refusing.{refused}
+use Rattle.dagcbor_heads.proofs.Refusing.{as_refusal}
 use Rattle.dagcbor_heads.specs.Reading.{Reading}
 use Rattle.dagcbor_heads.proofs.Looking.{looks_both, looks_then, nothing_looked, same_looked}
-use Rattle.dagcbor_items.proofs.Looks.{once_left, peeked, stepped_left}
+use Rattle.dagcbor_items.proofs.Looks.{once_left, looks_behind_peek, stepped_left}
 use Rattle.dagcbor_items.proofs.Looks as looks
 use Rattle.ipld_tree.specs.Tree.{no_entries}
 use Rattle.dagcbor_items.proofs.Fronts.{byte_refused}
@@ -16,18 +16,18 @@ use Rattle.dagcbor_items.proofs.Entering.{enters}
 use Rattle.dagcbor_items.proofs.walk.+walk.Goals as goal
 
 pub walk_any-returns-in_err-spend_step-clause-item : goal.walk_any-returns-in_err-spend_step-clause-item
-walk_any-returns-in_err-spend_step-clause-item g t c = refused _ _ _ _ c.from_residual.ensures.1 (no_step_left _ _ c.in_err-spend_step.ensures)
+walk_any-returns-in_err-spend_step-clause-item g t c = as_refusal _ _ _ _ c.from_residual.ensures.1 (no_step_left _ _ c.in_err-spend_step.ensures)
 
 pub walk_any-returns-in_err-walk_item-clause-item : goal.walk_any-returns-in_err-walk_item-clause-item
 walk_any-returns-in_err-walk_item-clause-item g t c =
-    refused _ _ _ _ c.from_residual-in_err-walk_item.ensures.1 (step_refused g.S.LinkSink.takes_memory _ 0 _ c.in_ok-spend_step.ensures c.in_err-walk_item.ensures.item)
+    as_refusal _ _ _ _ c.from_residual-in_err-walk_item.ensures.1 (step_refused g.S.LinkSink.takes_memory _ 0 _ c.in_ok-spend_step.ensures c.in_err-walk_item.ensures.item)
 
 pub walk_any-returns-clause-item : goal.walk_any-returns-clause-item
 walk_any-returns-clause-item g t c = let k = c.in_ok-walk_item.ensures.item in (k.0, stepped_taken 0 c.in_ok-spend_step.ensures k.1 c.step_out.ensures, k.2)
 
 pub walk_item-returns-in_err-first-clause-item : goal.walk_item-returns-in_err-first-clause-item
 walk_item-returns-in_err-first-clause-item g t c =
-    refused _ _ _ _ c.from_residual.ensures.1 (byte_refused (WalkLacks g.S.LinkSink.takes_memory (g.I.Read.reading c.args.input.now)) 0 _ _ _ c.in_err-first.ensures.shown)
+    as_refusal _ _ _ _ c.from_residual.ensures.1 (byte_refused (WalkLacks g.S.LinkSink.takes_memory (g.I.Read.reading c.args.input.now)) 0 _ _ _ c.in_err-first.ensures.shown)
 
 pub walk_item-returns-then-is_indefinite-clause-item : goal.walk_item-returns-then-is_indefinite-clause-item
 walk_item-returns-then-is_indefinite-clause-item g t c =
@@ -43,21 +43,21 @@ pub walk_of_major-returns-in_default-clause-item : goal.walk_of_major-returns-in
 walk_of_major-returns-in_default-clause-item g t c = leaf_walked g.S.LinkSink.holds g.S.LinkSink.takes_memory (g.I.Read.reading c.args.input.now) c.args.links.now c.skip_leaf.result _ c.requires (λ x. omega arith) (λ x. omega arith) (λ x. omega arith) c.skip_leaf.ensures.item
 
 pub walk_list-returns-in_err-count-clause-item : goal.walk_list-returns-in_err-count-clause-item
-walk_list-returns-in_err-count-clause-item g t c = refused _ _ _ _ c.from_residual.ensures.1 (more_lacks _ 1 _ _ _ (λ x. absurd x) c.in_err-count.ensures.count)
+walk_list-returns-in_err-count-clause-item g t c = as_refusal _ _ _ _ c.from_residual.ensures.1 (more_lacks _ 1 _ _ _ (λ x. absurd x) c.in_err-count.ensures.count)
 
 pub walk_list-returns-in_err-walk_items-clause-item : goal.walk_list-returns-in_err-walk_items-clause-item
 walk_list-returns-in_err-walk_items-clause-item g t c =
     let parts = enters 4 c.requires c.in_ok-count.ensures.count in
-    refused _ _ _ _ c.from_residual-in_err-walk_items.ensures.1 (list_refused _ _ _ c.requires parts (lacks_before parts.takes.same) c.in_err-walk_items.ensures.items)
+    as_refusal _ _ _ _ c.from_residual-in_err-walk_items.ensures.1 (list_refused _ _ _ c.requires parts (lacks_before parts.takes.same) c.in_err-walk_items.ensures.items)
 
 pub walk_list-returns-clause-item : goal.walk_list-returns-clause-item
 walk_list-returns-clause-item g t c = let k = c.in_ok-walk_items.ensures.items in (_, list_taken k.0 (enters 4 c.requires c.in_ok-count.ensures.count) k.1 k.2 c.step_out.ensures, k.3)
 
 pub walk_list-returns-in_err-count-clause-looked : goal.walk_list-returns-in_err-count-clause-looked
-walk_list-returns-in_err-count-clause-looked g t c = refused _ _ _ _ c.from_residual.ensures.1 c.in_err-count.ensures.looked
+walk_list-returns-in_err-count-clause-looked g t c = as_refusal _ _ _ _ c.from_residual.ensures.1 c.in_err-count.ensures.looked
 
 pub walk_list-returns-in_err-walk_items-clause-looked : goal.walk_list-returns-in_err-walk_items-clause-looked
-walk_list-returns-in_err-walk_items-clause-looked g t c = refused _ _ _ _ c.from_residual-in_err-walk_items.ensures.1 (looks_then c.in_ok-count.ensures.looked c.in_err-walk_items.ensures.looked)
+walk_list-returns-in_err-walk_items-clause-looked g t c = as_refusal _ _ _ _ c.from_residual-in_err-walk_items.ensures.1 (looks_then c.in_ok-count.ensures.looked c.in_err-walk_items.ensures.looked)
 
 pub walk_list-returns-clause-looked : goal.walk_list-returns-clause-looked
 walk_list-returns-clause-looked g t c = looks.stepped_taken _ refl (looks_both c.in_ok-count.ensures.looked c.in_ok-walk_items.ensures.looked) c.step_out.ensures
@@ -66,12 +66,12 @@ pub walk_items-loop-index-init : goal.walk_items-loop-index-init
 walk_items-loop-index-init g t c = record { read = ([], none_read _ _ _ [] (omega arith) refl, found_none g.S.LinkSink.holds c.args.links.now); looked = nothing_looked _ }
 
 pub walk_items-returns-in_err-walk_any-clause-looked : goal.walk_items-returns-in_err-walk_any-clause-looked
-walk_items-returns-in_err-walk_any-clause-looked g t c = refused _ _ _ _ c.from_residual.ensures.1 (looks_then c.loop-index.invariant.looked c.in_err-walk_any.ensures.looked)
+walk_items-returns-in_err-walk_any-clause-looked g t c = as_refusal _ _ _ _ c.from_residual.ensures.1 (looks_then c.loop-index.invariant.looked c.in_err-walk_any.ensures.looked)
 
 pub walk_items-returns-in_err-walk_any-clause-items : goal.walk_items-returns-in_err-walk_any-clause-items
 walk_items-returns-in_err-walk_any-clause-items g t c =
     let s = c.loop-index.invariant.read in
-    refused _ _ _ _ c.from_residual.ensures.1 (next_refused _ s.0 _ (omega arith) s.1 (lacks_before s.1.takes.same) c.in_err-walk_any.ensures.item)
+    as_refusal _ _ _ _ c.from_residual.ensures.1 (next_refused _ s.0 _ (omega arith) s.1 (lacks_before s.1.takes.same) c.in_err-walk_any.ensures.item)
 
 pub walk_items-loop-index-preserved : goal.walk_items-loop-index-preserved
 walk_items-loop-index-preserved g t c =
@@ -83,21 +83,21 @@ pub walk_items-returns-clause-items : goal.walk_items-returns-clause-items
 walk_items-returns-clause-items g t c = let s = c.loop-index.invariant.read in let k = all_read s.0 (omega arith) s.1 in (s.0, k.0, k.1, s.2)
 
 pub walk_map-returns-in_err-count-clause-item : goal.walk_map-returns-in_err-count-clause-item
-walk_map-returns-in_err-count-clause-item g t c = refused _ _ _ _ c.from_residual.ensures.1 (more_lacks _ 1 _ _ _ (λ x. absurd x) c.in_err-count.ensures.count)
+walk_map-returns-in_err-count-clause-item g t c = as_refusal _ _ _ _ c.from_residual.ensures.1 (more_lacks _ 1 _ _ _ (λ x. absurd x) c.in_err-count.ensures.count)
 
 pub walk_map-returns-in_err-walk_entries-clause-item : goal.walk_map-returns-in_err-walk_entries-clause-item
 walk_map-returns-in_err-walk_entries-clause-item g t c =
     let parts = enters 5 c.requires c.in_ok-count.ensures.count in
-    refused _ _ _ _ c.from_residual-in_err-walk_entries.ensures.1 (maps.map_refused _ _ _ c.requires parts (lacks_before parts.takes.same) c.in_err-walk_entries.ensures.entries)
+    as_refusal _ _ _ _ c.from_residual-in_err-walk_entries.ensures.1 (maps.map_refused _ _ _ c.requires parts (lacks_before parts.takes.same) c.in_err-walk_entries.ensures.entries)
 
 pub walk_map-returns-clause-item : goal.walk_map-returns-clause-item
 walk_map-returns-clause-item g t c = let k = c.in_ok-walk_entries.ensures.entries in (_, maps.map_taken k.0 (enters 5 c.requires c.in_ok-count.ensures.count) k.1 k.2 c.step_out.ensures, k.3)
 
 pub walk_map-returns-in_err-count-clause-looked : goal.walk_map-returns-in_err-count-clause-looked
-walk_map-returns-in_err-count-clause-looked g t c = refused _ _ _ _ c.from_residual.ensures.1 c.in_err-count.ensures.looked
+walk_map-returns-in_err-count-clause-looked g t c = as_refusal _ _ _ _ c.from_residual.ensures.1 c.in_err-count.ensures.looked
 
 pub walk_map-returns-in_err-walk_entries-clause-looked : goal.walk_map-returns-in_err-walk_entries-clause-looked
-walk_map-returns-in_err-walk_entries-clause-looked g t c = refused _ _ _ _ c.from_residual-in_err-walk_entries.ensures.1 (looks_then c.in_ok-count.ensures.looked c.in_err-walk_entries.ensures.looked)
+walk_map-returns-in_err-walk_entries-clause-looked g t c = as_refusal _ _ _ _ c.from_residual-in_err-walk_entries.ensures.1 (looks_then c.in_ok-count.ensures.looked c.in_err-walk_entries.ensures.looked)
 
 pub walk_map-returns-clause-looked : goal.walk_map-returns-clause-looked
 walk_map-returns-clause-looked g t c = looks.stepped_taken _ refl (looks_both c.in_ok-count.ensures.looked c.in_ok-walk_entries.ensures.looked) c.step_out.ensures
@@ -106,22 +106,22 @@ pub walk_entries-loop-index-init : goal.walk_entries-loop-index-init
 walk_entries-loop-index-init g t c = record { read = (no_entries, maps.none_read _ _ _ no_entries _ (omega arith) refl refl, found_none g.S.LinkSink.holds c.args.links.now); looked = nothing_looked _ }
 
 pub walk_entries-returns-in_err-key-clause-looked : goal.walk_entries-returns-in_err-key-clause-looked
-walk_entries-returns-in_err-key-clause-looked g t c = refused _ _ _ _ c.from_residual.ensures.1 (looks_then c.loop-index.invariant.looked c.in_err-key.ensures.looked)
+walk_entries-returns-in_err-key-clause-looked g t c = as_refusal _ _ _ _ c.from_residual.ensures.1 (looks_then c.loop-index.invariant.looked c.in_err-key.ensures.looked)
 
 pub walk_entries-returns-in_err-walk_any-clause-looked : goal.walk_entries-returns-in_err-walk_any-clause-looked
 walk_entries-returns-in_err-walk_any-clause-looked g t c =
-    refused _ _ _ _ c.from_residual-in_err-walk_any.ensures.1 (looks_then (looks_both c.loop-index.invariant.looked c.in_ok-key.ensures.looked) c.in_err-walk_any.ensures.looked)
+    as_refusal _ _ _ _ c.from_residual-in_err-walk_any.ensures.1 (looks_then (looks_both c.loop-index.invariant.looked c.in_ok-key.ensures.looked) c.in_err-walk_any.ensures.looked)
 
 pub walk_entries-returns-in_err-key-clause-entries : goal.walk_entries-returns-in_err-key-clause-entries
 walk_entries-returns-in_err-key-clause-entries g t c =
     let s = c.loop-index.invariant.read in
-    refused _ _ _ _ c.from_residual.ensures.1 (maps.next_key_refused _ _ (omega arith) s.1 (λ l. inl (sym s.1.takes.same.lends ∙ l)) c.in_err-key.ensures.key)
+    as_refusal _ _ _ _ c.from_residual.ensures.1 (maps.next_key_refused _ _ (omega arith) s.1 (λ l. inl (sym s.1.takes.same.lends ∙ l)) c.in_err-key.ensures.key)
 
 pub walk_entries-returns-in_err-walk_any-clause-entries : goal.walk_entries-returns-in_err-walk_any-clause-entries
 walk_entries-returns-in_err-walk_any-clause-entries g t c =
     let s = c.loop-index.invariant.read in
     let key = c.in_ok-key.ensures.key.1 in
-    refused _ _ _ _ c.from_residual-in_err-walk_any.ensures.1 (maps.next_value_refused _ _ _ (omega arith) s.1 c.in_ok-key.ensures.key.0 key (λ l. lacks_before s.1.takes.same (lacks_before key.same l)) c.in_err-walk_any.ensures.item)
+    as_refusal _ _ _ _ c.from_residual-in_err-walk_any.ensures.1 (maps.next_value_refused _ _ _ (omega arith) s.1 c.in_ok-key.ensures.key.0 key (λ l. lacks_before s.1.takes.same (lacks_before key.same l)) c.in_err-walk_any.ensures.item)
 
 pub walk_entries-loop-index-preserved : goal.walk_entries-loop-index-preserved
 walk_entries-loop-index-preserved g t c =
@@ -137,19 +137,19 @@ pub walk_entries-returns-clause-entries : goal.walk_entries-returns-clause-entri
 walk_entries-returns-clause-entries g t c = let s = c.loop-index.invariant.read in let k = maps.all_read s.0 (omega arith) s.1 in (s.0, k.0, k.1, s.2)
 
 pub walk_any-returns-in_err-spend_step-clause-looked : goal.walk_any-returns-in_err-spend_step-clause-looked
-walk_any-returns-in_err-spend_step-clause-looked g t c = refused _ _ _ _ c.from_residual.ensures.1 (same_looked (ap (λ (r : Reading). r.looked) c.in_err-spend_step.ensures.same))
+walk_any-returns-in_err-spend_step-clause-looked g t c = as_refusal _ _ _ _ c.from_residual.ensures.1 (same_looked (ap (λ (r : Reading). r.looked) c.in_err-spend_step.ensures.same))
 
 pub walk_any-returns-in_err-walk_item-clause-looked : goal.walk_any-returns-in_err-walk_item-clause-looked
-walk_any-returns-in_err-walk_item-clause-looked g t c = refused _ _ _ _ c.from_residual-in_err-walk_item.ensures.1 (stepped_left _ c.in_ok-spend_step.ensures.is c.in_err-walk_item.ensures.looked)
+walk_any-returns-in_err-walk_item-clause-looked g t c = as_refusal _ _ _ _ c.from_residual-in_err-walk_item.ensures.1 (stepped_left _ c.in_ok-spend_step.ensures.is c.in_err-walk_item.ensures.looked)
 
 pub walk_any-returns-clause-looked : goal.walk_any-returns-clause-looked
 walk_any-returns-clause-looked g t c = looks.stepped_taken _ c.in_ok-spend_step.ensures.is c.in_ok-walk_item.ensures.looked c.step_out.ensures
 
 pub walk_item-returns-in_err-first-clause-looked : goal.walk_item-returns-in_err-first-clause-looked
-walk_item-returns-in_err-first-clause-looked g t c = refused _ _ _ _ c.from_residual.ensures.1 (once_left 3 (omega arith) c.in_err-first.ensures.looked)
+walk_item-returns-in_err-first-clause-looked g t c = as_refusal _ _ _ _ c.from_residual.ensures.1 (once_left 3 (omega arith) c.in_err-first.ensures.looked)
 
 pub walk_item-returns-then-is_indefinite-clause-looked : goal.walk_item-returns-then-is_indefinite-clause-looked
 walk_item-returns-then-is_indefinite-clause-looked g t c = once_left 3 (omega arith) c.in_ok-first.ensures.looked
 
 pub walk_item-returns-clause-looked : goal.walk_item-returns-clause-looked
-walk_item-returns-clause-looked g t c = peeked 3 _ _ c.in_ok-first.ensures.looked c.in_ok-first.ensures.shown c.walk_of_major.ensures.looked
+walk_item-returns-clause-looked g t c = looks_behind_peek 3 _ _ c.in_ok-first.ensures.looked c.in_ok-first.ensures.shown c.walk_of_major.ensures.looked

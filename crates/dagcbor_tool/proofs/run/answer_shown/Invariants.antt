@@ -5,7 +5,7 @@ use Rattle.dagcbor_tool.proofs.run.answer_shown.Given as goal
 abbrev pub invariant-loop-at : goal.invariant-loop-at
 invariant-loop-at l = record {
   shorter : length l.rest ≤ length l.shown;
-  answered : AppendsAnswers (IsAnswer l.command) (l.fn.kept.held.items ++ l.shown) (l.kept.held.items ++ l.rest) l.fn.kept.out.items l.kept.out.items;
+  answered : AppendsAnswers (IsAnswer l.command) (l.fn.buffers.partial.items ++ l.shown) (l.buffers.partial.items ++ l.rest) l.fn.buffers.out.items l.buffers.out.items;
 }
 
 abbrev pub decreases-loop-at : goal.decreases-loop-at

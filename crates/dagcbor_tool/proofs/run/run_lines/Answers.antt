@@ -32,7 +32,7 @@ returns-then-not-more-clause-broken g c =
     let none : c.in_ok-more.more ≡ false = search rules in
     let so_far = answered_next (IsAnswer c.args.command) _ _ _ _ _ _ c.loop.invariant c.in_ok-more.ensures.answered in
     let end = end_told (IsAnswer c.args.command) _ _ _ _ _ _ c.loop.invariant (c.in_ok-more.ensures.end (ap Ok none)) in
-    err_then c.answer_last.result c.answer_last.ensures.broken (λ begun. last_broken _ _ _ _ _ _ _ c.answer_fill.new.kept.one_line so_far end begun)
+    err_then c.answer_last.result c.answer_last.ensures.broken (λ begun. last_broken _ _ _ _ _ _ _ c.answer_fill.new.buffers.one_line so_far end begun)
 
 pub returns-then-not-more-clause-whole : goal.returns-then-not-more-clause-whole
 returns-then-not-more-clause-whole g c =
@@ -42,7 +42,7 @@ returns-then-not-more-clause-whole g c =
     IfErr-weaker c.answer_last.result _ _ (λ e whole other. last_written _ _ _ _ _ _ _ so_far end (whole other)) c.answer_last.ensures.whole
 
 pub returns-clause-broken : goal.returns-clause-broken
-returns-clause-broken g c = answered_so_far _ _ _ _ _ _ c.loop.kept.one_line c.loop.invariant
+returns-clause-broken g c = answered_so_far _ _ _ _ _ _ c.loop.buffers.one_line c.loop.invariant
 
 pub returns-clause-whole : goal.returns-clause-whole
 returns-clause-whole g c = λ _. answered_whole _ _ _ _ _ c.loop.invariant

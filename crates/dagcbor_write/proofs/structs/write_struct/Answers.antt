@@ -10,7 +10,7 @@ returns-in_err-push_fields-clause-written g c =
 
 pub returns : goal.returns
 returns g c =
-    let w = given_row (g.F.FieldRow.pairs c.args.fields) _ _ (ap (λ held. held.entries) c.serialize_map-map.ensures.nothing) c.in_ok-push_fields.ensures.entries in
+    let w = given_row (g.F.FieldRow.pairs c.args.fields) _ _ (ap (λ state. state.entries) c.serialize_map-map.ensures.nothing) c.in_ok-push_fields.ensures.entries in
     record {
       written = end_map _ w (search rules) _ _ _ _ _ c.end.ensures.written (search rules) (search rules);
       well_formed = c.end.ensures.well_formed _ (all_given w);

@@ -6,13 +6,13 @@ use Rattle.serde_ipld_dagcbor.specs.Reading.{default_steps}
 use Rattle.dagcbor_blocks.proofs.store.Blocks.get.Goals as goal
 
 pub returns-in-None : goal.returns-in-None
-returns-in-None g c = no_block_found c.args.name.now c.args.self.now.held.entries (sym c.in-None.ensures.value)
+returns-in-None g c = no_block_found c.args.name.now c.args.self.now.blocks.entries (sym c.in-None.ensures.value)
 
 pub returns-in-Ok : goal.returns-in-Ok
 returns-in-Ok g c =
     let found = sym c.in-Some.ensures.value in (
       c.in-Some.block.now.items,
-      (block_found c.args.name.now c.args.self.now.held.entries c.in-Some.block.now found, digest_of_found c.args.name.now c.args.self.now.held.entries c.in-Some.block.now found c.args.self.now.sound),
+      (block_found c.args.name.now c.args.self.now.blocks.entries c.in-Some.block.now found, digest_of_found c.args.name.now c.args.self.now.blocks.entries c.in-Some.block.now found c.args.self.now.sound),
       subst (λ b. IsWhole g.T.Shown.shape default_steps b (g.T.Shown.meaning c.in-Ok.value)) c.deref.ensures.value c.in-Ok.ensures.value,
     )
 
@@ -20,5 +20,5 @@ pub returns-in-Err : goal.returns-in-Err
 returns-in-Err g c =
     let found = sym c.in-Some.ensures.value in
     not_got g.T.Shown.shape c.args.name.now _ c.in-Some.block.now.items c.in-Err.error c.of_decoding.result
-    (block_found c.args.name.now c.args.self.now.held.entries c.in-Some.block.now found, digest_of_found c.args.name.now c.args.self.now.held.entries c.in-Some.block.now found c.args.self.now.sound)
+    (block_found c.args.name.now c.args.self.now.blocks.entries c.in-Some.block.now found, digest_of_found c.args.name.now c.args.self.now.blocks.entries c.in-Some.block.now found c.args.self.now.sound)
     (subst (λ b. (IsReadExcuse c.in-Err.error ⊎ HoldsNoValue g.T.Shown.shape default_steps b) × OfWhole c.in-Err.error) c.deref.ensures.value (c.in-Err.ensures.refused, c.in-Err.ensures.never)) c.of_decoding.ensures

@@ -2,4 +2,4 @@ use Rattle.dagcbor_blocks.proofs.Listing.{SoFar}
 use Rattle.dagcbor_blocks.proofs.store.Blocks.missing.Given as goal
 
 abbrev pub invariant-loop-block : goal.invariant-loop-block
-invariant-loop-block l = SoFar l.self.held l.block-iterator l.missing
+invariant-loop-block l = SoFar l.self.blocks l.block-iterator l.missing

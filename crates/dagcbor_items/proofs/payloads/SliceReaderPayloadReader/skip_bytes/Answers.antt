@@ -1,7 +1,7 @@
 use Rattle.std.specs.Prelude.{◌≡◌, false, Ok, Err}
 use Rattle.std.specs.declared.convert.Infallible.{Infallible}
 use Rattle.std.specs.declared.borrow.CowSlice.TheVariants.{Borrowed}
-use Rattle.dagcbor_heads.proofs.Refusing.{refused}
+use Rattle.dagcbor_heads.proofs.Refusing.{as_refusal}
 use Rattle.dagcbor_items.proofs.StringReads.{bytes_read}
 use Rattle.dagcbor_items.proofs.StringItems.{bytes_taken, bytes_refused}
 use Rattle.dagcbor_items.proofs.Looks.{item_taken}
@@ -9,7 +9,7 @@ use Rattle.dagcbor_items.proofs.payloads.SliceReaderPayloadReader.skip_bytes.Goa
 
 pub returns-in_err-pull_peeked_lent_string-clause-item : goal.returns-in_err-pull_peeked_lent_string-clause-item
 returns-in_err-pull_peeked_lent_string-clause-item c =
-    refused _ _ _ _ c.from_residual.ensures.1 (bytes_refused (c.args.self.now.lends ≡ false) _ _ _ c.requires (bytes_read _ _ (Err _) c.in_err-pull_peeked_lent_string.ensures.string))
+    as_refusal _ _ _ _ c.from_residual.ensures.1 (bytes_refused (c.args.self.now.lends ≡ false) _ _ _ c.requires (bytes_read _ _ (Err _) c.in_err-pull_peeked_lent_string.ensures.string))
 
 pub returns-clause-item : goal.returns-clause-item
 returns-clause-item c = (_, bytes_taken c.in_ok-pull_peeked_lent_string.field-0.now (bytes_read {E = Infallible} _ _ (Ok (Borrowed c.in_ok-pull_peeked_lent_string.field-0)) c.in_ok-pull_peeked_lent_string.ensures.string))

@@ -1,9 +1,10 @@
 use Rattle.std.proofs.Common.{◌≡◌, true}
-use Rattle.dagcbor_heads.proofs.Refusing.{refused}
+use Rattle.dagcbor_heads.proofs.Refusing.{as_refusal}
 use Rattle.dagcbor_read.specs.Accessors.{accessor_state, EndsItems}
 use Rattle.dagcbor_read.specs.Calls.{progress}
 use Rattle.dagcbor_read.specs.Structs.{texts}
-use Rattle.dagcbor_read.proofs.Answered.{answered, key_read, no_key, key_refused, after_some_key, after_no_key}
+use Rattle.dagcbor_read.proofs.Progressing.{call_answered}
+use Rattle.dagcbor_read.proofs.Answered.{key_read, no_key, key_refused, after_some_key, after_no_key}
 use Rattle.dagcbor_read.proofs.EntryRows.{key_not_read, value_not_read, one_more, all_read}
 use Rattle.dagcbor_read.proofs.access.fields.read_entries_left.Goals as goal
 
@@ -11,13 +12,13 @@ pub returns-in_err-key : goal.returns-in_err-key
 returns-in_err-key g c =
     let i = c.loop-entries.invariant in
     let k = key_refused g.row.R-Error.Denot _ _ _ (progress g.R.Read.reading c.next_key.new.de) _ i.sound c.in_err-key.ensures.key in
-    refused _ _ _ _ c.from_residual.ensures.1 (key_not_read (g.F.Fields.shape (texts c.args.names.now)) ((g.F.Fields.shape (texts c.args.names.now)).borrows ≡ true) _ _ i k.0 k.1)
+    as_refusal _ _ _ _ c.from_residual.ensures.1 (key_not_read (g.F.Fields.shape (texts c.args.names.now)) ((g.F.Fields.shape (texts c.args.names.now)).borrows ≡ true) _ _ i k.0 k.1)
 
 pub returns-in_err-read_field : goal.returns-in_err-read_field
 returns-in_err-read_field g c =
     let i = c.loop-entries.invariant in
     let k = key_read g.row.R-Error.Denot _ _ (progress g.R.Read.reading c.loop-entries.de) (progress g.R.Read.reading c.next_key.new.de) _ _ c.in-Some.is c.in_ok-key.ensures.key in
-    refused _ _ _ _ c.from_residual-in_err-read_field.ensures.1 (value_not_read (g.F.Fields.shape (texts c.args.names.now)) ((g.F.Fields.shape (texts c.args.names.now)).borrows ≡ true) _ _ _ _ c.as_str.ensures.value i k (c.in_err-read_field.ensures k.sound))
+    as_refusal _ _ _ _ c.from_residual-in_err-read_field.ensures.1 (value_not_read (g.F.Fields.shape (texts c.args.names.now)) ((g.F.Fields.shape (texts c.args.names.now)).borrows ≡ true) _ _ _ _ c.as_str.ensures.value i k (c.in_err-read_field.ensures k.sound))
 
 pub loop-entries-preserved-in_ok-read_field : goal.loop-entries-preserved-in_ok-read_field
 loop-entries-preserved-in_ok-read_field g c =
@@ -40,6 +41,6 @@ returns g c =
     let i = c.loop-entries.invariant in
     let k = no_key g.row.R-Error.Denot _ _ (progress g.R.Read.reading c.loop-entries.de) (progress g.R.Read.reading c.next_key.new.de) _ c.in_default.is c.in_ok-key.ensures.key in
     let after = after_no_key g.row.R-Error.Denot _ (accessor_state c.loop-entries.entries) _ c.in_default.is c.in_ok-key.ensures.after in
-    let e = answered _ g.row.R-Error.Denot (EndsItems (accessor_state c.next_key.new.self)) (progress g.R.Read.reading c.next_key.new.de) (progress g.R.Read.reading c.end.new.de) _ c.in_ok-end.ensures in
+    let e = call_answered (EndsItems (accessor_state c.next_key.new.self)) (progress g.R.Read.reading c.next_key.new.de) (progress g.R.Read.reading c.end.new.de) _ c.in_ok-end.ensures in
     let a = all_read (g.F.Fields.shape (texts c.args.names.now)) (progress g.R.Read.reading c.next_key.new.de) (progress g.R.Read.reading c.end.new.de) i k.1 after k.2 e.2.1 in
     (e.1, a.0, a.1, a.2)

@@ -1,6 +1,6 @@
 use Rattle.std.proofs.Common.{inl, inr}
 use Rattle.dagcbor_read.specs.Parts.{ReadsPart, ReadsOption, EntersOption}
-use Rattle.dagcbor_read.proofs.Progressing.{match_true, match_false, call_answered, call_told, called, call_refused, call_passed_on}
+use Rattle.dagcbor_read.proofs.Progressing.{match_true, match_false, call_answered, call_told, call_of, call_refused, call_passed_on}
 use Rattle.dagcbor_read.proofs.Nullable.{not_entered, null_entered, some_entered, some_refused}
 use Rattle.dagcbor_read.proofs.deserializer.Deserializer.deserialize_option.Goals as goal
 
@@ -11,7 +11,7 @@ returns-in_err-enter_option g c = call_refused (ReadsOption g.T.Shown.meaning g.
 pub returns-then-branch : goal.returns-then-branch
 returns-then-branch g c =
     let a = call_answered EntersOption _ _ _ c.in_ok-enter_option.ensures in
-    called (ReadsOption g.T.Shown.meaning g.T.Shown.shape) _ _ _ a.0 (a.1, null_entered g.T.Shown.shape (match_true _ _ _ c.if-branch.true a.2))
+    call_of (ReadsOption g.T.Shown.meaning g.T.Shown.shape) _ _ _ a.0 (a.1, null_entered g.T.Shown.shape (match_true _ _ _ c.if-branch.true a.2))
 
 pub returns-in_err-value : goal.returns-in_err-value
 returns-in_err-value g c =
@@ -19,11 +19,11 @@ returns-in_err-value g c =
     let enters = match_false _ _ _ c.if-branch.false a.2 in
     let t = call_told (ReadsPart g.T.Shown.meaning g.T.Shown.shape) _ _ _ a.1 c.in_err-value.ensures in
     call_refused (ReadsOption g.T.Shown.meaning g.T.Shown.shape) _ _ _ _ c.from_residual-in_err-value.ensures.1
-    (called (ReadsOption g.T.Shown.meaning g.T.Shown.shape) _ _ _ a.0 (t.0, (some_refused g.T.Shown.shape _ _ _ enters t.1, inr (_, enters, t.1))))
+    (call_of (ReadsOption g.T.Shown.meaning g.T.Shown.shape) _ _ _ a.0 (t.0, (some_refused g.T.Shown.shape _ _ _ enters t.1, inr (_, enters, t.1))))
 
 pub returns : goal.returns
 returns g c =
     let a = call_answered EntersOption _ _ _ c.in_ok-enter_option.ensures in
     let enters = match_false _ _ _ c.if-branch.false a.2 in
     let t = call_told (ReadsPart g.T.Shown.meaning g.T.Shown.shape) _ _ _ a.1 c.in_ok-value.ensures in
-    called (ReadsOption g.T.Shown.meaning g.T.Shown.shape) _ _ _ a.0 (t.0, some_entered g.T.Shown.shape _ enters t.1 c.step_out.ensures)
+    call_of (ReadsOption g.T.Shown.meaning g.T.Shown.shape) _ _ _ a.0 (t.0, some_entered g.T.Shown.shape _ enters t.1 c.step_out.ensures)

@@ -3,10 +3,10 @@ use Rattle.dagcbor_write.proofs.Pushing.{begin_entries, at_entry, no_entry}
 use Rattle.dagcbor_write.proofs.serializer.Serializer.push_entries.Goals as goal
 
 pub returns-in_err-push_head_if_due : goal.returns-in_err-push_head_if_due
-returns-in_err-push_head_if_due g c = exit_part (begin_entries c.args.held.now.announced c.args.held.now.entries _) _ _ _ c.from_residual.ensures.1 (rw (c.announced.ensures, c.len.ensures) at c.in_err-push_head_if_due.ensures)
+returns-in_err-push_head_if_due g c = exit_part (begin_entries c.args.state.now.announced c.args.state.now.entries _) _ _ _ c.from_residual.ensures.1 (rw (c.announced.ensures, c.len.ensures) at c.in_err-push_head_if_due.ensures)
 
 pub loop-i-init : goal.loop-i-init
-loop-i-init g c = next_part (begin_entries c.args.held.now.announced c.args.held.now.entries _) _ (rw (c.announced.ensures, c.len.ensures) at c.in_ok-push_head_if_due.ensures)
+loop-i-init g c = next_part (begin_entries c.args.state.now.announced c.args.state.now.entries _) _ (rw (c.announced.ensures, c.len.ensures) at c.in_ok-push_head_if_due.ensures)
 
 pub returns-in_err-push : goal.returns-in_err-push
 returns-in_err-push g c =

@@ -5,4 +5,4 @@ use Rattle.dagcbor_write.specs.Order.{head_rest, entries_bytes}
 use Rattle.dagcbor_write.proofs.serializer.Serializer.push_entries.Given as goal
 
 abbrev pub invariant-loop-i : goal.invariant-loop-i
-invariant-loop-i g l = Written-but (head_rest l.held.announced (length l.held.entries) ++? Some (entries_bytes l.held.entries)) (Some (entries_bytes (drop l.i l.held.entries)) ∷ []) (g.W.Write.written l.fn.self) (g.W.Write.written l.self)
+invariant-loop-i g l = Written-but (head_rest l.state.announced (length l.state.entries) ++? Some (entries_bytes l.state.entries)) (Some (entries_bytes (drop l.i l.state.entries)) ∷ []) (g.W.Write.written l.fn.self) (g.W.Write.written l.self)

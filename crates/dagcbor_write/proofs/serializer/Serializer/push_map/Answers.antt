@@ -7,16 +7,16 @@ use Rattle.dagcbor_write.proofs.serializer.Serializer.push_map.Goals as goal
 
 pub returns-then-put_in_order-clause-written : goal.returns-then-put_in_order-clause-written
 returns-then-put_in_order-clause-written g c given h =
-    in_order_written given c.args.held.entries c.put_in_order.new.self.entries _ h c.put_in_order.ensures.order c.args.held.announced _ _ _ c.if-put_in_order.true (rw c.put_in_order.ensures.announced at c.push_entries.ensures)
+    in_order_written given c.args.state.entries c.put_in_order.new.self.entries _ h c.put_in_order.ensures.order c.args.state.announced _ _ _ c.if-put_in_order.true (rw c.put_in_order.ensures.announced at c.push_entries.ensures)
 
 pub returns-then-put_in_order-clause-well_formed : goal.returns-then-put_in_order-clause-well_formed
 returns-then-put_in_order-clause-well_formed g c given h =
-    in_order_good given c.args.held.entries c.put_in_order.new.self.entries _ h c.put_in_order.ensures.order _ c.if-put_in_order.true
+    in_order_good given c.args.state.entries c.put_in_order.new.self.entries _ h c.put_in_order.ensures.order _ c.if-put_in_order.true
 
 pub returns-clause-written : goal.returns-clause-written
 returns-clause-written g c given h =
-    stops_with c.custom.ensures _ _ (no_order_written given c.args.held.entries c.put_in_order.new.self.entries _ h c.put_in_order.ensures.order c.args.held.announced c.if-put_in_order.false).0
+    stops_with c.custom.ensures _ _ (no_order_written given c.args.state.entries c.put_in_order.new.self.entries _ h c.put_in_order.ensures.order c.args.state.announced c.if-put_in_order.false).0
 
 pub returns-clause-message : goal.returns-clause-message
 returns-clause-message g c given h =
-    on_message_with c.custom.ensures (lit≤ tt) (λ m. (m ≡ codes "Map keys must be unique") × RepeatsKey given × (c.args.self.now ≡ c.args.self.now)) (refl, (no_order_written given c.args.held.entries c.put_in_order.new.self.entries _ h c.put_in_order.ensures.order c.args.held.announced c.if-put_in_order.false).1, refl)
+    on_message_with c.custom.ensures (lit≤ tt) (λ m. (m ≡ codes "Map keys must be unique") × RepeatsKey given × (c.args.self.now ≡ c.args.self.now)) (refl, (no_order_written given c.args.state.entries c.put_in_order.new.self.entries _ h c.put_in_order.ensures.order c.args.state.announced c.if-put_in_order.false).1, refl)

@@ -11,7 +11,7 @@ loop-key-init g c =
       unchanged = search rules;
       key = search rules;
       announced = search rules;
-      given = λ rest shows. left_as (ap rest (sym c.into_iter-key-iterator.ensures.into_iter_gives)) (begin_map (rest c.args.entries) _ (ap (λ held. held.entries) c.serialize_map-map.ensures.nothing));
+      given = λ rest shows. left_as (ap rest (sym c.into_iter-key-iterator.ensures.into_iter_gives)) (begin_map (rest c.args.entries) _ (ap (λ state. state.entries) c.serialize_map-map.ensures.nothing));
     }
 
 pub loop-key-preserved : goal.loop-key-preserved

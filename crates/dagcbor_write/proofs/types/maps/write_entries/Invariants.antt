@@ -10,7 +10,7 @@ invariant-loop-key g l = record {
   is_finite : (goal.iterator-loop-key g).is_finite l.key-iterator;
   same_reference : l.map.ser.ghost_name ≡ l.initial.map.ser.ghost_name;
   unchanged : l.map.ser.now ≡ l.initial.map.ser.now;
-  key : l.map.held.key ≡ None;
-  announced : l.map.held.announced ≡ None;
-  given : (rest : g.row.I.Denot → List Pair) → ShowsPairs g.I.Iterator.next_gives (λ e. (g.K.Serialize.tree e.0.now, g.V.Serialize.tree e.1.now)) rest → Given-but (rest l.fn.entries) (rest l.key-iterator) l.map.held.entries;
+  key : l.map.state.key ≡ None;
+  announced : l.map.state.announced ≡ None;
+  given : (rest : g.row.I.Denot → List Pair) → ShowsPairs g.I.Iterator.next_gives (λ e. (g.K.Serialize.tree e.0.now, g.V.Serialize.tree e.1.now)) rest → Given-but (rest l.fn.entries) (rest l.key-iterator) l.map.state.entries;
 }

@@ -1,4 +1,4 @@
-use Rattle.dagcbor_heads.proofs.Refusing.{refused}
+use Rattle.dagcbor_heads.proofs.Refusing.{as_refusal}
 use Rattle.dagcbor_read.specs.Accessors.{accessor_state}
 use Rattle.dagcbor_read.specs.Calls.{progress}
 use Rattle.dagcbor_read.proofs.Answered.{element_read, element_refused, after_some}
@@ -8,13 +8,13 @@ use Rattle.dagcbor_read.proofs.access.row.Tuple2Row.read_row.Goals as goal
 pub returns-in_err-first : goal.returns-in_err-first
 returns-in_err-first g c =
     let k = element_refused g.row.R-Error.Denot g.T.Shown.meaning g.T.Shown.shape _ _ (progress g.R.Read.reading c.next_element.new.de) _ c.requires.sound c.in_err-first.ensures.element in
-    refused _ _ _ _ c.from_residual.ensures.1 (part_refused g.T.Shown.shape g.L.Row.shape _ _ _ k.0 k.1)
+    as_refusal _ _ _ _ c.from_residual.ensures.1 (part_refused g.T.Shown.shape g.L.Row.shape _ _ _ k.0 k.1)
 
 pub returns-in_err-others : goal.returns-in_err-others
 returns-in_err-others g c =
     let k = element_read g.row.R-Error.Denot g.T.Shown.meaning g.T.Shown.shape _ (progress g.R.Read.reading c.args.de.now) (progress g.R.Read.reading c.next_element.new.de) _ _ c.in-Some.is c.in_ok-first.ensures.element in
     let after = after_some g.row.R-Error.Denot g.T.Shown.meaning g.T.Shown.shape _ _ (accessor_state c.args.items.now) _ c.in-Some.is c.in_ok-first.ensures.after in
-    refused _ _ _ _ c.from_residual-in_err-others.ensures.1 (parts_refused g.T.Shown.shape g.L.Row.shape _ _ k.some after k.takes c.in_err-others.ensures)
+    as_refusal _ _ _ _ c.from_residual-in_err-others.ensures.1 (parts_refused g.T.Shown.shape g.L.Row.shape _ _ k.some after k.takes c.in_err-others.ensures)
 
 pub returns : goal.returns
 returns g c =

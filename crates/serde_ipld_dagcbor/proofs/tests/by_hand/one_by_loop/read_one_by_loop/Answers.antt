@@ -3,7 +3,7 @@ use Rattle.std.specs.Prelude.{Some, codes}
 use Rattle.dagcbor_read.specs.Shapes.{view_unsigned, leaf}
 use Rattle.dagcbor_read.proofs.EntryLoops.{map_begun, key_refused, at_value, value_refused, value_read, skip_refused, value_skipped, map_ended}
 use Rattle.dagcbor_read.proofs.FieldPlaces.{other_name}
-use Rattle.dagcbor_read.proofs.Finishing.{handed_on, finished, unfinished}
+use Rattle.dagcbor_read.proofs.Finishing.{handed_on, value_finished, value_unfinished}
 use Rattle.serde_ipld_dagcbor.specs.tests.One.{one_fields}
 use Rattle.serde_ipld_dagcbor.proofs.tests.by_hand.one_by_loop.read_one_by_loop.Goals as goal
 use Rattle.serde_ipld_dagcbor.proofs.tests.by_hand.one_by_loop.read_one_by_loop.Goals.{in-a+in_ok-next_value-in-a, in_default-as_str+in_ok-next_value-in_default-as_str}
@@ -45,7 +45,7 @@ loop-entries-preserved g c =
     ]
 
 pub returns-in-Some-a : goal.returns-in-Some-a
-returns-in-Some-a g c = finished _ _ (λ _. map_ended _ _ _ _ _ _ _ _ _ c.loop-entries.invariant c.in_default.is c.in_ok-key.ensures.key c.in_ok-key.ensures.after c.in_ok-end.ensures) (search rules)
+returns-in-Some-a g c = value_finished _ _ (λ _. map_ended _ _ _ _ _ _ _ _ _ c.loop-entries.invariant c.in_default.is c.in_ok-key.ensures.key c.in_ok-key.ensures.after c.in_ok-end.ensures) (search rules)
 
 pub returns-in-None : goal.returns-in-None
-returns-in-None g c = unfinished _ _ _ (c.custom.ensures.0, c.custom.ensures.1) (search rules) (λ _. map_ended _ _ _ _ _ _ _ _ _ c.loop-entries.invariant c.in_default.is c.in_ok-key.ensures.key c.in_ok-key.ensures.after c.in_ok-end.ensures)
+returns-in-None g c = value_unfinished _ _ _ (c.custom.ensures.0, c.custom.ensures.1) (search rules) (λ _. map_ended _ _ _ _ _ _ _ _ _ c.loop-entries.invariant c.in_default.is c.in_ok-key.ensures.key c.in_ok-key.ensures.after c.in_ok-end.ensures)

@@ -23,7 +23,7 @@ returns-in_err-serialize_field-3-clause-written g c = (exit_field 3 (fields c.ar
 
 pub returns-clause-written : goal.returns-clause-written
 returns-clause-written g c =
-    let given = begin_map (fields c.args.b c.args.abc c.args.a) _ (ap (λ held. held.entries) c.in_ok-fields.ensures.nothing) in
+    let given = begin_map (fields c.args.b c.args.abc c.args.a) _ (ap (λ state. state.entries) c.in_ok-fields.ensures.nothing) in
     let given = next_pair given _ c.in_ok-serialize_field.ensures.entry in
     let given = next_pair given _ c.in_ok-serialize_field-2.ensures.entry in
     let given = next_pair given _ c.in_ok-serialize_field-3.ensures.entry in

@@ -6,7 +6,7 @@ use Rattle.ipld_tree.specs.declared.cid.Cid.{Cid}
 use Rattle.ipld_tree.specs.declared.ipld.Ipld.{Ipld, the_lemmas}
 use Rattle.ipld_tree.specs.declared.ipld.Ipld as ipld
 use Rattle.serde_ipld_dagcbor.specs.tests.Kinded.{view_kinded}
-use Rattle.dagcbor_read.proofs.Finishing.{unfinished}
+use Rattle.dagcbor_read.proofs.Finishing.{value_unfinished}
 use Rattle.serde_ipld_dagcbor.proofs.tests.by_hand.kinded.KindedDeserialize.deserialize.Goals as goal
 
 -- a tree of another kind shows nothing
@@ -16,4 +16,4 @@ no_kind (ipld.Link c) h k = absurd (k c refl)
 no_kind _ h k = search (rules, the_lemmas)
 
 pub returns-clause-value : goal.returns-clause-value
-returns-clause-value g c = unfinished any_tree view_kinded _ (c.custom.ensures.0, c.custom.ensures.1) (no_kind _ c.in_default.not-Bytes c.in_default.not-Link) c.in_ok-bytes.ensures.value
+returns-clause-value g c = value_unfinished any_tree view_kinded _ (c.custom.ensures.0, c.custom.ensures.1) (no_kind _ c.in_default.not-Bytes c.in_default.not-Link) c.in_ok-bytes.ensures.value

@@ -23,7 +23,7 @@ returns-in_err-serialize_field-2-clause-written g c = exit_field 2 (fields c.arg
 
 pub returns-clause-written : goal.returns-clause-written
 returns-clause-written g c =
-    let given = begin_map (fields c.args.self.now) _ (ap (λ held. held.entries) c.in_ok-fields.ensures.nothing) in
+    let given = begin_map (fields c.args.self.now) _ (ap (λ state. state.entries) c.in_ok-fields.ensures.nothing) in
     let given = next_pair given _ c.in_ok-serialize_field.ensures.entry in
     let given = next_pair given _ c.in_ok-serialize_field-2.ensures.entry in
     end_struct 2 _ (begin_struct (fields c.args.self.now) 2 _ refl) c.in_ok-fields.ensures.head given (search rules) _ _ _ _ c.end.ensures.written (search rules) (search rules)

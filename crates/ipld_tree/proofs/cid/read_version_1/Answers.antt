@@ -21,38 +21,38 @@ two {s} {r} {t} j k h i = one_field_more k t (one j h) i
 three : {s r t d : List ℕ} (j k n : ℕ) → Read s j r → Read r k t → Read t n d → HasCidFields (0x01 ∷ s) (j ∷ k ∷ n ∷ []) d
 three {s} {r} {t} {d} j k n h i l = one_field_more n d (two j k h i) l
 
-refused : (e : CidError) (b : List ℕ) → IsFault e b → (IsCid b → ⊥) × IsFault e b
-refused e b f = (fault_no_cid e b f, f)
+fault_refuses : (e : CidError) (b : List ℕ) → IsFault e b → (IsCid b → ⊥) × IsFault e b
+fault_refuses e b f = (fault_no_cid e b f, f)
 
 pub returns-in_err-codec : goal.returns-in_err-codec
 returns-in_err-codec c =
     let p = err_from_is_err_and c.from_residual.result c.from_residual.ensures.1 in
-    rw (p.1, p.2) (refused _ _ (varint_fault c.in_err-codec.field-0.0 _ [] _ (no_field _) (omega arith) c.in_err-codec.ensures))
+    rw (p.1, p.2) (fault_refuses _ _ (varint_fault c.in_err-codec.field-0.0 _ [] _ (no_field _) (omega arith) c.in_err-codec.ensures))
 
 pub returns-in_err-hash_code : goal.returns-in_err-hash_code
 returns-in_err-hash_code c =
     let p = err_from_is_err_and c.from_residual-in_err-hash_code.result c.from_residual-in_err-hash_code.ensures.1 in
-    rw (p.1, p.2) (refused _ _ (varint_fault c.in_err-hash_code.field-0.0 _ _ _ (one c.in_ok-codec.codec c.in_ok-codec.ensures) (omega arith) c.in_err-hash_code.ensures))
+    rw (p.1, p.2) (fault_refuses _ _ (varint_fault c.in_err-hash_code.field-0.0 _ _ _ (one c.in_ok-codec.codec c.in_ok-codec.ensures) (omega arith) c.in_err-hash_code.ensures))
 
 pub returns-in_err-length : goal.returns-in_err-length
 returns-in_err-length c =
     let p = err_from_is_err_and c.from_residual-in_err-length.result c.from_residual-in_err-length.ensures.1 in
-    rw (p.1, p.2) (refused _ _ (varint_fault c.in_err-length.field-0.0 _ _ _ (two c.in_ok-codec.codec c.in_ok-hash_code.hash_code c.in_ok-codec.ensures c.in_ok-hash_code.ensures) (omega arith) c.in_err-length.ensures))
+    rw (p.1, p.2) (fault_refuses _ _ (varint_fault c.in_err-length.field-0.0 _ _ _ (two c.in_ok-codec.codec c.in_ok-hash_code.hash_code c.in_ok-codec.ensures c.in_ok-hash_code.ensures) (omega arith) c.in_err-length.ensures))
 
 pub returns-then-length : goal.returns-then-length
 returns-then-length c =
     let fields = three c.in_ok-codec.codec c.in_ok-hash_code.hash_code c.in_ok-length.length c.in_ok-codec.ensures c.in_ok-hash_code.ensures c.in_ok-length.ensures in
     let at : IsFault DigestTooLong (0x01 ∷ c.args.fields.now) = (_, _, _, _, fields, c.if-length.true) in
-    refused DigestTooLong _ at
+    fault_refuses DigestTooLong _ at
 
 pub returns-in-Less : goal.returns-in-Less
 returns-in-Less c =
     let fields = three c.in_ok-codec.codec c.in_ok-hash_code.hash_code c.in_ok-length.length c.in_ok-codec.ensures c.in_ok-hash_code.ensures c.in_ok-length.ensures in
     let at : IsFault Truncated (0x01 ∷ c.args.fields.now) = inr (inr (_, _, _, _, fields, (c.if-length.false, ranked _ _ Less c.in-Less.ensures))) in
-    refused Truncated _ at
+    fault_refuses Truncated _ at
 
 pub returns-in-Greater : goal.returns-in-Greater
 returns-in-Greater c =
     let fields = three c.in_ok-codec.codec c.in_ok-hash_code.hash_code c.in_ok-length.length c.in_ok-codec.ensures c.in_ok-hash_code.ensures c.in_ok-length.ensures in
     let at : IsFault TrailingBytes (0x01 ∷ c.args.fields.now) = (_, _, _, _, fields, (c.if-length.false, ranked _ _ Greater c.in-Greater.ensures)) in
-    refused TrailingBytes _ at
+    fault_refuses TrailingBytes _ at

@@ -31,10 +31,10 @@ use Rattle.dagcbor_blocks.specs.declared.error.BlockError.{BlockError}
 use Rattle.dagcbor_blocks.specs.declared.error.BlockError.TheVariants.{Encode, Decode, Collision, OutOfMemory}
 use Rattle.serde_ipld_dagcbor.specs.Reading.{default_steps}
 
-abbrev pub Entry : Type 0
-Entry = CidParts × Vec ℕ Global
+abbrev pub BlockEntry : Type 0
+BlockEntry = CidParts × Vec ℕ Global
 
-abbrev pub shown : List Entry → Held
+abbrev pub shown : List BlockEntry → Held
 shown es = map (λ e. (e.0, e.1.items)) es
 
 abbrev items_of_vec : Vec ℕ Global → List ℕ
@@ -42,7 +42,7 @@ items_of_vec v = v.items
 
 -- ---- look-ups
 
-pub block_at_shown : (name : CidParts) (es : List Entry) → block_at name (shown es) ≡ option_map items_of_vec (lookup (is_at (cid_cmp name)) es)
+pub block_at_shown : (name : CidParts) (es : List BlockEntry) → block_at name (shown es) ≡ option_map items_of_vec (lookup (is_at (cid_cmp name)) es)
 block_at_shown name [] = refl
 block_at_shown name (e ∷ es) = by (is_at (cid_cmp name) e.0) _ _ (block_at_shown name es)
   where
@@ -50,16 +50,16 @@ block_at_shown name (e ∷ es) = by (is_at (cid_cmp name) e.0) _ _ (block_at_sho
     by true x y h = refl
     by false x y h = h
 
-pub block_found : (name : CidParts) (es : List Entry) (v : Vec ℕ Global) → lookup (is_at (cid_cmp name)) es ≡ Some v → block_at name (shown es) ≡ Some v.items
+pub block_found : (name : CidParts) (es : List BlockEntry) (v : Vec ℕ Global) → lookup (is_at (cid_cmp name)) es ≡ Some v → block_at name (shown es) ≡ Some v.items
 block_found name es v e = block_at_shown name es ∙ ap (option_map items_of_vec) e
 
-pub no_block_found : (name : CidParts) (es : List Entry) → lookup (is_at (cid_cmp name)) es ≡ None → block_at name (shown es) ≡ None
+pub no_block_found : (name : CidParts) (es : List BlockEntry) → lookup (is_at (cid_cmp name)) es ≡ None → block_at name (shown es) ≡ None
 no_block_found name es e = block_at_shown name es ∙ ap (option_map items_of_vec) e
 
 same_name : (name k : CidParts) → is_at (cid_cmp name) k ≡ true → name ≡ k
 same_name name k h = same_cid name k (is_equal (cid_cmp name k) h)
 
-pub found_named : (name : CidParts) (es : List Entry) (v : Vec ℕ Global) → lookup (is_at (cid_cmp name)) es ≡ Some v → AllByRecursion IsSound es → name ≡ block_name v.items
+pub found_named : (name : CidParts) (es : List BlockEntry) (v : Vec ℕ Global) → lookup (is_at (cid_cmp name)) es ≡ Some v → AllByRecursion IsSound es → name ≡ block_name v.items
 found_named name [] v e h = absurd (cc e)
 found_named name (x ∷ es) v e h = by (is_at (cid_cmp name) x.0) refl e (λ l. found_named name es v l h.1)
   where
@@ -67,12 +67,12 @@ found_named name (x ∷ es) v e h = by (is_at (cid_cmp name) x.0) refl e (λ l. 
     by true t l f = let same : x.1 ≡ v = cc l in same_name name x.0 t ∙ h.0.named ∙ ap (λ (w : Vec ℕ Global). block_name w.items) same
     by false t l f = f l
 
-pub digest_of_found : (name : CidParts) (es : List Entry) (v : Vec ℕ Global) → lookup (is_at (cid_cmp name)) es ≡ Some v → ∥ AllByRecursion IsSound es ∥₁ → name.digest ≡ sha256 v.items
+pub digest_of_found : (name : CidParts) (es : List BlockEntry) (v : Vec ℕ Global) → lookup (is_at (cid_cmp name)) es ≡ Some v → ∥ AllByRecursion IsSound es ∥₁ → name.digest ≡ sha256 v.items
 digest_of_found name es v e h = ∥∥₁_elim h (List-set ℕ_set _ _) (λ s. ap (λ (c : CidParts). c.digest) (found_named name es v e s))
 
 -- ---- storing
 
-pub sound_inserted : (es : List Entry) (k : CidParts) (v : Vec ℕ Global) → AllByRecursion IsSound es → IsSound (k, v) → AllByRecursion IsSound (insert_entry cid_cmp es k v)
+pub sound_inserted : (es : List BlockEntry) (k : CidParts) (v : Vec ℕ Global) → AllByRecursion IsSound es → IsSound (k, v) → AllByRecursion IsSound (insert_entry cid_cmp es k v)
 sound_inserted [] k v h s = (s, tt)
 sound_inserted (e ∷ es) k v h s = by (cid_cmp k e.0) refl (sound_inserted es k v h.1 s)
   where
@@ -82,7 +82,7 @@ sound_inserted (e ∷ es) k v h s = by (cid_cmp k e.0) refl (sound_inserted es k
     by Greater x r = (h.0, r)
 
 -- whether the call took the entry or not
-pub still_sound : {X Y : Type 0} (r : Result X Y) (es fs : List Entry) (k : CidParts) (v : Vec ℕ Global) → OnOk r (fs ≡ insert_entry cid_cmp es k v) → OnErr r (fs ≡ es) → k ≡ block_name v.items → HasBlock v.items
+pub still_sound : {X Y : Type 0} (r : Result X Y) (es fs : List BlockEntry) (k : CidParts) (v : Vec ℕ Global) → OnOk r (fs ≡ insert_entry cid_cmp es k v) → OnErr r (fs ≡ es) → k ≡ block_name v.items → HasBlock v.items
     → ∥ AllByRecursion IsSound es ∥₁ → ∥ AllByRecursion IsSound fs ∥₁
 still_sound (Ok x) es fs k v put same named has h = ∥∥₁_map h (λ s. subst (AllByRecursion IsSound) (sym put) (sound_inserted es k v s record { tree = has.0; is_block = has.1; named = named }))
 still_sound (Err y) es fs k v put same named has h = ∥∥₁_map h (λ s. subst (AllByRecursion IsSound) (sym same) s)

@@ -28,7 +28,7 @@ use Rattle.dagcbor_blocks.specs.Blocks.{Among, IsUnheld, IsLinked, NamesNone}
 use Rattle.dagcbor_blocks.specs.declared.error.BlockError.{BlockError}
 use Rattle.dagcbor_blocks.specs.declared.error.BlockError.TheVariants.{OutOfMemory}
 use Rattle.dagcbor_blocks.proofs.Laws.{front_unique, cid_unique, whole_front}
-use Rattle.dagcbor_blocks.proofs.Keeping.{Entry, shown}
+use Rattle.dagcbor_blocks.proofs.Keeping.{BlockEntry, shown}
 use Rattle.dagcbor_blocks.proofs.Missing.{at_same, same_at, among_push, push_among, AddedSoFar}
 
 -- ---- lists
@@ -89,24 +89,24 @@ whole_spelling : (b rest : List ℕ) (t : Tree) → IsFront b t rest → rest �
 whole_spelling b rest t f none = record { well_formed = f.well_formed; spellable = f.spellable; is = f.is ∙ ap (λ r. spelling t ++ r) none ∙ append-nil (spelling t) }
 
 -- what is held is a block
-held_block : (es : List Entry) (v : Vec ℕ Global) → Among v (values_of es) → AllByRecursion IsSound es → (t : Tree) × IsBlock v.items t
+held_block : (es : List BlockEntry) (v : Vec ℕ Global) → Among v (values_of es) → AllByRecursion IsSound es → (t : Tree) × IsBlock v.items t
 held_block es v m s =
-    let e = map_among (λ (e : Entry). e.1) v es m in
+    let e = map_among (λ (e : BlockEntry). e.1) v es m in
     let sound = all_among IsSound es e.0 s e.1 in
     (sound.tree, subst (λ (w : Vec ℕ Global). IsBlock w.items sound.tree) (sym e.2) sound.is_block)
 
 -- the first item of a held block is the whole of it
-links_of_block : SpellingsAreUnique → (es : List Entry) (v : Vec ℕ Global) (links : List (List ℕ)) → ∥ AllByRecursion IsSound es ∥₁ → Among v (values_of es) → AreFirstLinks v.items links → (t : Tree) × IsSpelling v.items t × (links ≡ links_of t)
+links_of_block : SpellingsAreUnique → (es : List BlockEntry) (v : Vec ℕ Global) (links : List (List ℕ)) → ∥ AllByRecursion IsSound es ∥₁ → Among v (values_of es) → AreFirstLinks v.items links → (t : Tree) × IsSpelling v.items t × (links ≡ links_of t)
 links_of_block law es v links h m first = (first.0, whole_spelling v.items first.1 first.0 first.2 none, first.4)
   where
     none : first.1 ≡ []
     none = ∥∥₁_elim h (List-set ℕ_set _ _) (λ s. let u = held_block es v m s in (front_unique law v.items first.1 [] first.0 u.0 first.2 (whole_front u.1.0)).1)
 
 -- the links of a held block are refused for want of memory alone
-no_links : (es : List Entry) (v : Vec ℕ Global) → ∥ AllByRecursion IsSound es ∥₁ → Among v (values_of es) → ((links : List (List ℕ)) → AreFirstLinks v.items links → ⊥) → ⊥
+no_links : (es : List BlockEntry) (v : Vec ℕ Global) → ∥ AllByRecursion IsSound es ∥₁ → Among v (values_of es) → ((links : List (List ℕ)) → AreFirstLinks v.items links → ⊥) → ⊥
 no_links es v h m n = not_there h (λ s. let u = held_block es v m s in n (links_of u.0) (u.0, [], whole_front u.1.0, u.1.1, refl))
 
-for_memory : (es : List Entry) (v : Vec ℕ Global) (e : DecodeError Infallible) (told : BlockError) → ∥ AllByRecursion IsSound es ∥₁ → Among v (values_of es) → LinksRefused e v.items → TellsOfDecoding e told → told ≡ OutOfMemory
+for_memory : (es : List BlockEntry) (v : Vec ℕ Global) (e : DecodeError Infallible) (told : BlockError) → ∥ AllByRecursion IsSound es ∥₁ → Among v (values_of es) → LinksRefused e v.items → TellsOfDecoding e told → told ≡ OutOfMemory
 for_memory es v (unread.Read e) told h m r t = absurd r
 for_memory es v unread.OutOfMemory told h m r t = t
 for_memory es v (unread.RequireBorrowed n) told h m r t = absurd r
@@ -156,9 +156,9 @@ pub record SoFar (blocks : BTreeMap CidParts (Vec ℕ Global)) (rest : List (Vec
 next_held : {blocks : BTreeMap CidParts (Vec ℕ Global)} {before rest : List (Vec ℕ Global)} {v : Vec ℕ Global} {s : BTreeSet CidParts} → before ≡ v ∷ rest → SoFar blocks before s → Among v (values_of blocks.entries)
 next_held {blocks} {before} {rest} {v} is h = subst (Among v) (sym (h.all ∙ ap (λ l. h.seen ++ l) is)) (among_mid h.seen v rest)
 
-pub next_refused : (blocks : BTreeMap CidParts (Vec ℕ Global)) (before rest : List (Vec ℕ Global)) (v : Vec ℕ Global) (s : BTreeSet CidParts) (e : DecodeError Infallible) (told : BlockError)
+pub next_block_refused : (blocks : BTreeMap CidParts (Vec ℕ Global)) (before rest : List (Vec ℕ Global)) (v : Vec ℕ Global) (s : BTreeSet CidParts) (e : DecodeError Infallible) (told : BlockError)
     → ∥ AllByRecursion IsSound blocks.entries ∥₁ → before ≡ v ∷ rest → SoFar blocks before s → LinksRefused e v.items → TellsOfDecoding e told → told ≡ OutOfMemory
-next_refused blocks before rest v s e told sound is h = for_memory blocks.entries v e told sound (next_held is h)
+next_block_refused blocks before rest v s e told sound is h = for_memory blocks.entries v e told sound (next_held is h)
 
 pub so_far_next : SpellingsAreUnique → CidEqualityIsOfBytes → (blocks : BTreeMap CidParts (Vec ℕ Global)) (before rest : List (Vec ℕ Global)) (v : Vec ℕ Global) (links : List CidParts) (old new : BTreeSet CidParts)
     → ∥ AllByRecursion IsSound blocks.entries ∥₁ → before ≡ v ∷ rest → SoFar blocks before old → AreFirstLinks v.items (forms links) → AddedSoFar blocks links old new → SoFar blocks rest new
@@ -173,7 +173,7 @@ name_is_cid : (b : List ℕ) → AreCidParts (block_name b)
 name_is_cid b = inr (refl, omega arith, omega arith, omega (arith, length-sha256 b))
 
 -- a look-up in the entries
-found_among : (q : CidParts) (es : List Entry) (v : Vec ℕ Global) → lookup (is_at (cid_cmp q)) es ≡ Some v → Among (q, v) es
+found_among : (q : CidParts) (es : List BlockEntry) (v : Vec ℕ Global) → lookup (is_at (cid_cmp q)) es ≡ Some v → Among (q, v) es
 found_among q [] v e = absurd (cc e)
 found_among q (x ∷ es) v e = by (is_at (cid_cmp q) x.0) refl e (λ l. found_among q es v l)
   where
@@ -181,10 +181,10 @@ found_among q (x ∷ es) v e = by (is_at (cid_cmp q) x.0) refl e (λ l. found_am
     by true t l f = let same : x.1 ≡ v = cc l in let key = at_same q x.0 t in inl (λ i. (key i, sym same i))
     by false t l f = inr (f l)
 
-not_unheld : (q : CidParts) (v : Vec ℕ Global) (es : List Entry) → Among (q, v) es → lookup (is_at (cid_cmp q)) es ≡ None → ⊥
+not_unheld : (q : CidParts) (v : Vec ℕ Global) (es : List BlockEntry) → Among (q, v) es → lookup (is_at (cid_cmp q)) es ≡ None → ⊥
 not_unheld q v [] m e = m
 not_unheld q v (x ∷ es) (inl same) e =
-    let hit = same_at q x.0 (ap (λ (p : Entry). p.0) same) in
+    let hit = same_at q x.0 (ap (λ (p : BlockEntry). p.0) same) in
     let f : Some x.1 ≡ None = sym (ap (λ b. cond b (Some x.1) (lookup (is_at (cid_cmp q)) es)) hit) ∙ e in
     absurd (cc f)
 not_unheld q v (x ∷ es) (inr m) e = by (is_at (cid_cmp q) x.0) e (λ l. not_unheld q v es m l)
@@ -196,17 +196,17 @@ not_unheld q v (x ∷ es) (inr m) e = by (is_at (cid_cmp q) x.0) e (λ l. not_un
 module _ (cids : CidEqualityIsOfBytes) (blocks : BTreeMap CidParts (Vec ℕ Global)) (sound : ∥ AllByRecursion IsSound blocks.entries ∥₁) where
   linked_in : (form : List ℕ) → Linked (values_of blocks.entries) form → IsLinked form (shown blocks.entries)
   linked_in form l =
-      let e = map_among (λ (e : Entry). e.1) l.0 blocks.entries l.2 in
-      ((e.0.0, e.0.1.items), l.1, among_map (λ (e : Entry). (e.0, e.1.items)) e.0 blocks.entries e.1, subst (λ (w : Vec ℕ Global). IsSpelling w.items l.1) e.2 l.3, l.4)
+      let e = map_among (λ (e : BlockEntry). e.1) l.0 blocks.entries l.2 in
+      ((e.0.0, e.0.1.items), l.1, among_map (λ (e : BlockEntry). (e.0, e.1.items)) e.0 blocks.entries e.1, subst (λ (w : Vec ℕ Global). IsSpelling w.items l.1) e.2 l.3, l.4)
 
   in_linked : (form : List ℕ) → IsLinked form (shown blocks.entries) → Linked (values_of blocks.entries) form
   in_linked form l =
-      let e = map_among (λ (e : Entry). (e.0, e.1.items)) l.0 blocks.entries l.2 in
-      (e.0.1, l.1, among_map (λ (e : Entry). e.1) e.0 blocks.entries e.1, subst (λ b. IsSpelling b l.1) (ap (λ (p : CidParts × List ℕ). p.1) e.2) l.3, l.4)
+      let e = map_among (λ (e : BlockEntry). (e.0, e.1.items)) l.0 blocks.entries l.2 in
+      (e.0.1, l.1, among_map (λ (e : BlockEntry). e.1) e.0 blocks.entries e.1, subst (λ b. IsSpelling b l.1) (ap (λ (p : CidParts × List ℕ). p.1) e.2) l.3, l.4)
 
   unnamed : (q : CidParts) → AreCidParts q → IsUnheld blocks q → NamesNone (cid_bytes q) (shown blocks.entries)
   unnamed q p free e m same =
-      let k = map_among (λ (e : Entry). (e.0, e.1.items)) e blocks.entries m in
+      let k = map_among (λ (e : BlockEntry). (e.0, e.1.items)) e blocks.entries m in
       not_there sound (λ s.
       let b = all_among IsSound blocks.entries k.0 s k.1 in
       let key : cid_bytes k.0.0 ≡ cid_bytes q = sym (ap (λ (p : CidParts × List ℕ). cid_bytes p.0) k.2) ∙ same in
@@ -218,7 +218,7 @@ module _ (cids : CidEqualityIsOfBytes) (blocks : BTreeMap CidParts (Vec ℕ Glob
     where
       by : (o : Option (Vec ℕ Global)) → get cid_cmp blocks q ≡ o → get cid_cmp blocks q ≡ None
       by None e = e
-      by (Some v) e = absurd (n (q, v.items) (among_map (λ (e : Entry). (e.0, e.1.items)) (q, v) blocks.entries (found_among q blocks.entries v e)) refl)
+      by (Some v) e = absurd (n (q, v.items) (among_map (λ (e : BlockEntry). (e.0, e.1.items)) (q, v) blocks.entries (found_among q blocks.entries v e)) refl)
 
   pub all_listed : (s : BTreeSet CidParts) (rest : List (Vec ℕ Global)) (items : List CidParts) → rest ≡ [] → SoFar blocks rest s → items ≡ s.keys
       → (form : List ℕ) → Among form (forms items) ↔ (IsLinked form (shown blocks.entries) × NamesNone form (shown blocks.entries))

@@ -14,21 +14,21 @@ use Rattle.dagcbor_heads.proofs.HeadForms.{one_byte_more}
 use Rattle.dagcbor_heads.proofs.Taking.{nothing_taken, takes_both}
 
 -- the first i bytes of an argument were taken, and spell this number
-pub record ReadSome (i argument : ℕ) (old now : Reading) : Type 0 where
+pub record ReadArgument (i argument : ℕ) (old now : Reading) : Type 0 where
   pub small : argument < 256 ^ i
   pub takes : Takes old (bytes_high_first i argument) now
 
-pub none_read : (r : Reading) → ReadSome 0 0 r r
-none_read r = record { small = omega arith; takes = nothing_taken r }
+pub no_byte_read : (r : Reading) → ReadArgument 0 0 r r
+no_byte_read r = record { small = omega arith; takes = nothing_taken r }
 
-pub one_read : {i argument byte : ℕ} {old now new : Reading} → byte < 256 → ReadSome i argument old now → Takes now (byte ∷ []) new → ReadSome (i + 1) (argument * 256 + byte) old new
-one_read {i} {argument} {byte} {old} {now} {new} low s t = rw add-one record {
+pub one_byte_read : {i argument byte : ℕ} {old now new : Reading} → byte < 256 → ReadArgument i argument old now → Takes now (byte ∷ []) new → ReadArgument (i + 1) (argument * 256 + byte) old new
+one_byte_read {i} {argument} {byte} {old} {now} {new} low s t = rw add-one record {
   small = let step = pow-succ' 256 i in omega (arith, s.small);
   takes = subst (λ bs. Takes old bs new) (sym (one_byte_more i argument byte low)) (takes_both s.takes t);
 }
 
 -- the bytes end inside the argument
-pub cut : (E : Type 0) {i argument width : ℕ} {old now new : Reading} (name : Name) → i < width → ReadSome i argument old now → FindsEnd now new
+pub cut : (E : Type 0) {i argument width : ℕ} {old now new : Reading} (name : Name) → i < width → ReadArgument i argument old now → FindsEnd now new
     → Refuses {E = E} (HasPayload width old) ⊥ ⊥ (ArgumentCause width) old (Eof name (Small width)) new
 cut E {i} {argument} {width} {old} {now} {new} name few s f = (
   f.same.faults ∙ s.takes.same.faults,

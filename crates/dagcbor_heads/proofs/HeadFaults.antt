@@ -10,7 +10,7 @@ use Rattle.dagcbor_heads.specs.Refusals.{Refuses}
 use Rattle.dagcbor_heads.specs.declared.error.DecodeError.{DecodeError}
 use Rattle.dagcbor_heads.specs.declared.error.DecodeError.TheVariants.{Eof, NonMinimal}
 use Rattle.dagcbor_heads.specs.declared.name.Name.{Name}
-use Rattle.dagcbor_heads.proofs.Heads.{head_first, length-bytes_high_first, same_bytes}
+use Rattle.dagcbor_heads.proofs.Heads.{head_first, length-bytes_high_first, same_of_bytes}
 use Rattle.dagcbor_heads.proofs.HeadForms.{Begins, begins, small_head, wide_head}
 use Rattle.dagcbor_heads.proofs.Refusing.{passed_on, byte_in_head}
 use Rattle.dagcbor_heads.proofs.Taking.{takes_both, stays}
@@ -69,7 +69,7 @@ too_long E {old} {mid} {new} {first} {n} {width} name is wide fits small t u = (
       let q = u.taken k.0 k.1 in
       let w = argument_width (first % 32) in
       let at : bytes_high_first w n ++ q.0 ≡ bytes_high_first w h.argument ++ h.rest = ap (λ x. bytes_high_first x n ++ q.0) (sym is) ∙ sym q.1 ∙ k.2.behind in
-      let same : n ≡ h.argument = same_bytes w n h.argument q.0 h.rest (subst (λ x. n < 256 ^ x) is fits) (k.2.fits wide) at in
+      let same : n ≡ h.argument = same_of_bytes w n h.argument q.0 h.rest (subst (λ x. n < 256 ^ x) is fits) (k.2.fits wide) at in
       omega (arith, same, subst (λ x. n < least_argument x) is small, k.2.least),
   λ b l. let k = t.taken b l in
       let q = u.taken k.0 k.2 in

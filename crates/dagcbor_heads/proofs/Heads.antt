@@ -39,13 +39,13 @@ pub data Row (i w n : ℕ) : Type 0 where
   eight : i ≡ 27 → w ≡ 8 → 2 ^ 32 ≤ n → n < 2 ^ 64 → Row i w n
 
 -- a head, by its row
-pub record Shape (major n : ℕ) : Type 0 where
+pub record HeadShape (major n : ℕ) : Type 0 where
   pub information : ℕ
   pub width : ℕ
   pub is : head major n ≡ (32 * major + information) ∷ bytes_high_first width n
   pub row : Row information width n
 
-pub shape : (major n : ℕ) → n < 2 ^ 64 → Shape major n
+pub shape : (major n : ℕ) → n < 2 ^ 64 → HeadShape major n
 shape major n h = elim (cases_lt n 24) [
   | inl a ↦ record { information = n; width = 0; is = head_whole major n a; row = whole refl refl a }
   | inr a ↦ elim (cases_lt n (2 ^ 8)) [
@@ -109,7 +109,7 @@ head_cmp major n o x y h k =
     let t = shape major o k in
     ap₂ (λ a b. slice_cmp nat_cmp (a ++ x) (b ++ y)) s.is t.is ∙ by s t (compare s.row t.row)
   where
-    by : (s : Shape major n) (t : Shape major o) → Ranked s.information s.width n t.information t.width o →
+    by : (s : HeadShape major n) (t : HeadShape major o) → Ranked s.information s.width n t.information t.width o →
         slice_cmp nat_cmp ((32 * major + s.information) ∷ (bytes_high_first s.width n ++ x)) ((32 * major + t.information) ∷ (bytes_high_first t.width o ++ y)) ≡ ordering_then (nat_cmp n o) (slice_cmp nat_cmp x y)
     by s t (lower a b) = ap (λ c. ordering_then c (slice_cmp nat_cmp (bytes_high_first s.width n ++ x) (bytes_high_first t.width o ++ y))) (less (32 * major + s.information) (32 * major + t.information) (omega arith)) ∙ ap (λ c. ordering_then c (slice_cmp nat_cmp x y)) (sym (less n o b))
     by s t (level a b c) = ap (λ c. ordering_then c (slice_cmp nat_cmp (bytes_high_first s.width n ++ x) (bytes_high_first t.width o ++ y))) (equal (32 * major + s.information) (32 * major + t.information) (omega arith))
@@ -158,7 +158,7 @@ head_unique major n other o x y h k e =
     (major_is, n_is, append_cancel_left (head major n) x y (whole ∙ ap (λ m. head major m ++ y) (sym n_is)))
 
 -- k bytes spell one number below 256 ^ k, whatever follows them
-pub same_bytes : (k n o : ℕ) (x y : List ℕ) → n < 256 ^ k → o < 256 ^ k → bytes_high_first k n ++ x ≡ bytes_high_first k o ++ y → n ≡ o
-same_bytes k n o x y h l e =
+pub same_of_bytes : (k n o : ℕ) (x y : List ℕ) → n < 256 ^ k → o < 256 ^ k → bytes_high_first k n ++ x ≡ bytes_high_first k o ++ y → n ≡ o
+same_of_bytes k n o x y h l e =
     let same = same_from_nat_cmp _ _ (first_of_cmp _ (slice_cmp nat_cmp x y) (sym (cmp_bytes k n o x y) ∙ cmp_of_same _ _ e)) in
     sym (mod-eq_of_lt h) ∙ same ∙ mod-eq_of_lt l

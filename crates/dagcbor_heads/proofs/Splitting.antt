@@ -5,7 +5,7 @@ use Rattle.std.specs.Int.{bytes_high_first}
 use Rattle.dagcbor_heads.specs.Head.{head}
 use Rattle.dagcbor_heads.specs.Causes.{argument_width, least_argument}
 use Rattle.dagcbor_heads.specs.Splits.{SplitsNumber, SplitsHead, BeginsWithHead}
-use Rattle.dagcbor_heads.proofs.Heads.{head_first, length-bytes_high_first, same_bytes}
+use Rattle.dagcbor_heads.proofs.Heads.{head_first, length-bytes_high_first, same_of_bytes}
 use Rattle.dagcbor_heads.proofs.HeadForms.{Begins, begins, small_head, wide_head}
 
 pub number_split : (width n : ℕ) (b number rest : List ℕ) → bytes_high_first width n ≡ number → number ≡ take width b → rest ≡ drop width b → b ≡ bytes_high_first width n ++ rest
@@ -43,5 +43,5 @@ no_whole_head first b behind e few h =
 pub no_short_head : (first n : ℕ) (b behind rest : List ℕ) → b ≡ first ∷ behind → 24 ≤ first % 32 → SplitsNumber (argument_width (first % 32)) behind n rest → n < least_argument (argument_width (first % 32)) → ¬ BeginsWithHead b
 no_short_head first n b behind rest e wide s long h =
     let k = head_begins first b behind e h in
-    let same = same_bytes (argument_width (first % 32)) n h.1 rest h.2 s.0 (k.fits wide) (sym s.2 ∙ k.behind) in
+    let same = same_of_bytes (argument_width (first % 32)) n h.1 rest h.2 s.0 (k.fits wide) (sym s.2 ∙ k.behind) in
     omega (arith, same, long, k.least)

@@ -201,8 +201,8 @@ one_passed b now rest count index steps more_left s k = record {
     behind no_items e f n = absurd (omega (arith, e, more_left))
     behind {end} (item u us) e f n = (us, omega (arith, e), (items_after now rest end k.0 u us k.1 f).1, omega (arith, n))
 
-pub no_more : (b now : List ℕ) (count index steps : ℕ) → index < count → ItemsPassed b count index steps now → ¬ ((rest : List ℕ) × SplitsItem now steps rest) → ¬ ((rest : List ℕ) × SplitsItems b count steps rest)
-no_more b now count index steps more_left s none h = let q = s.left h.0 h.1 in next q.0 q.1 q.2 q.3
+pub no_item_there : (b now : List ℕ) (count index steps : ℕ) → index < count → ItemsPassed b count index steps now → ¬ ((rest : List ℕ) × SplitsItem now steps rest) → ¬ ((rest : List ℕ) × SplitsItems b count steps rest)
+no_item_there b now count index steps more_left s none h = let q = s.left h.0 h.1 in next q.0 q.1 q.2 q.3
   where
     next : {end : List ℕ} (more : Items) → item_count more + index ≡ count → AreFronts now more end → items_need more ≤ steps → ⊥
     next no_items e f n = omega (arith, e, more_left)
@@ -282,15 +282,15 @@ next_entry b now count index steps previous more_left s h = let q = s.left h.0 h
         let p = entry_opened now end l u es f in
         (l, p.0, p.1, first_follows previous l u es a, (_, (u, p.2, omega (arith, n))))
 
-pub no_key : (b now : List ℕ) (count index steps : ℕ) (previous : Option (List ℕ)) → index < count → EntriesPassed b count index steps previous now → ¬ ((key : List ℕ) × (rest : List ℕ) × SplitsKey now key rest)
+pub no_key_there : (b now : List ℕ) (count index steps : ℕ) (previous : Option (List ℕ)) → index < count → EntriesPassed b count index steps previous now → ¬ ((key : List ℕ) × (rest : List ℕ) × SplitsKey now key rest)
     → ¬ ((rest : List ℕ) × SplitsEntries b count steps rest)
-no_key b now count index steps previous more_left s none h = let k = next_entry b now count index steps previous more_left s h in none (k.0, k.1, k.2)
+no_key_there b now count index steps previous more_left s none h = let k = next_entry b now count index steps previous more_left s h in none (k.0, k.1, k.2)
 
 same_key : (now key key' c c' : List ℕ) → SplitsKey now key c → SplitsKey now key' c' → (key' ≡ key) × (c' ≡ c)
 same_key now key key' c c' h i = let u = front_unique now c' c (text key') (text key) i h in let is : key' ≡ key = cc u.0 in (is, u.1)
 
-pub no_order : (b now key c : List ℕ) (count index steps : ℕ) (previous : Option (List ℕ)) → index < count → EntriesPassed b count index steps previous now → SplitsKey now key c → ¬ Follows previous key → ¬ ((rest : List ℕ) × SplitsEntries b count steps rest)
-no_order b now key c count index steps previous more_left s h none i =
+pub no_key_in_order : (b now key c : List ℕ) (count index steps : ℕ) (previous : Option (List ℕ)) → index < count → EntriesPassed b count index steps previous now → SplitsKey now key c → ¬ Follows previous key → ¬ ((rest : List ℕ) × SplitsEntries b count steps rest)
+no_key_in_order b now key c count index steps previous more_left s h none i =
     let k = next_entry b now count index steps previous more_left s i in
     none (subst (Follows previous) (same_key now key k.0 c k.1 h k.2).0 k.3)
 
@@ -359,8 +359,8 @@ cid_is n b c s rest h p k = one_payload n c s (0x00 ∷ k.0) rest k.1 p (bytes_o
 pub no_zero_byte : (n : ℕ) (b c s rest : List ℕ) → SplitsHead b 2 n c → SplitsPayload c n s rest → length s ≡ 0 → ¬ ((cid : List ℕ) × (x : List ℕ) × SplitsCid b cid x)
 no_zero_byte n b c s rest h p none k = omega (arith, none, ap length (cid_is n b c s rest h p k))
 
-pub other_byte : (n first : ℕ) (b c s more rest : List ℕ) → SplitsHead b 2 n c → SplitsPayload c n s rest → s ≡ first ∷ more → ¬ (first ≡ 0) → ¬ ((cid : List ℕ) × (x : List ℕ) × SplitsCid b cid x)
-other_byte n first b c s more rest h p is other k =
+pub no_zero_at_front : (n first : ℕ) (b c s more rest : List ℕ) → SplitsHead b 2 n c → SplitsPayload c n s rest → s ≡ first ∷ more → ¬ (first ≡ 0) → ¬ ((cid : List ℕ) × (x : List ℕ) × SplitsCid b cid x)
+no_zero_at_front n first b c s more rest h p is other k =
     let same : first ∷ more ≡ 0x00 ∷ k.0 = sym is ∙ cid_is n b c s rest h p k in
     other (cc same)
 

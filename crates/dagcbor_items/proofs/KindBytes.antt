@@ -44,8 +44,8 @@ null_kind byte t more rest is large f = elim (is_simple t (greatest_major t (ome
   ]
 ]
 
-pub bool_kind : (byte : ℕ) (t : Tree) (more rest : List ℕ) → byte ≢ 0xf6 → 7 ≤ byte / 32 → IsFront (byte ∷ more) t rest → kinds.Bool ≡ kind_of t
-bool_kind byte t more rest other large f = elim (is_simple t (greatest_major t (omega (arith, large, major_at_first byte t more rest (byte / 32) refl f)))) [
+pub kind_of_bool : (byte : ℕ) (t : Tree) (more rest : List ℕ) → byte ≢ 0xf6 → 7 ≤ byte / 32 → IsFront (byte ∷ more) t rest → kinds.Bool ≡ kind_of t
+kind_of_bool byte t more rest other large f = elim (is_simple t (greatest_major t (omega (arith, large, major_at_first byte t more rest (byte / 32) refl f)))) [
   | inl h ↦ sym (ap kind_of h.0)
   | inr g ↦ elim g [
     | inl h ↦ sym (ap kind_of h.0)

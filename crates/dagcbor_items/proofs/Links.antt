@@ -104,8 +104,8 @@ behind_head {old} {mid} {n} h i =
 abbrev pub IsInvalidCid : {E : Type 0} → DecodeError E → Type 0
 IsInvalidCid e = (message : Name) × (e ≡ Msg message) × Names message (codes "Invalid CID")
 
-pub too_long : {E : Type 0} {old mid : Reading} {n : ℕ} (e : DecodeError E) → IsInvalidCid e → TakesHeadOf old 2 n mid → 87 < n → Refuses (HasCid old) ⊥ ⊥ LinkBytesCause old e mid
-too_long {E} {old} {mid} {n} e is h more = subst (λ x. Refuses {E = E} (HasCid old) ⊥ ⊥ LinkBytesCause old x mid) (sym is.1) (
+pub link_too_long : {E : Type 0} {old mid : Reading} {n : ℕ} (e : DecodeError E) → IsInvalidCid e → TakesHeadOf old 2 n mid → 87 < n → Refuses (HasCid old) ⊥ ⊥ LinkBytesCause old e mid
+link_too_long {E} {old} {mid} {n} e is h more = subst (λ x. Refuses {E = E} (HasCid old) ⊥ ⊥ LinkBytesCause old x mid) (sym is.1) (
   h.same.faults,
   λ i. let k = behind_head h i in omega (arith, cid_length k.cid k.is_cid, k.long, more),
   λ b l. let k = h.taken b l in inr (is.2, (n, k.0, h.fits, k.1, inl more)),

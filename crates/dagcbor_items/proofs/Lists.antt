@@ -96,14 +96,14 @@ pub record ReadSome (count left : ℕ) (old : Reading) (ts : List Tree) (now : R
   pub counted : length ts + left ≡ count
   pub takes : TakesItems old ts now
 
-pub none_read : (old : Reading) (count left : ℕ) (ts : List Tree) → left ≡ count → ts ≡ [] → ReadSome count left old ts old
-none_read old count left ts e none = subst (λ us. ReadSome count left old us old) (sym none) record {
+pub no_item_read : (old : Reading) (count left : ℕ) (ts : List Tree) → left ≡ count → ts ≡ [] → ReadSome count left old ts old
+no_item_read old count left ts e none = subst (λ us. ReadSome count left old us old) (sym none) record {
   counted = omega (arith, e);
   takes = record { taken = λ b l. (b, record { well_formed = tt; spellable = tt; is = refl }, omega arith, l); same = stays old };
 }
 
-pub one_read : {old now new : Reading} {count left left' : ℕ} {t : Tree} (ts us : List Tree) → us ≡ ts ++ t ∷ [] → left' + 1 ≡ left → ReadSome count left old ts now → TakesItem 0 now t new → ReadSome count left' old us new
-one_read {old} {now} {new} {count} {left} {left'} {t} ts us is e s a = subst (λ vs. ReadSome count left' old vs new) (sym is) record {
+pub one_item_read : {old now new : Reading} {count left left' : ℕ} {t : Tree} (ts us : List Tree) → us ≡ ts ++ t ∷ [] → left' + 1 ≡ left → ReadSome count left old ts now → TakesItem 0 now t new → ReadSome count left' old us new
+one_item_read {old} {now} {new} {count} {left} {left'} {t} ts us is e s a = subst (λ vs. ReadSome count left' old vs new) (sym is) record {
   counted = omega (arith, s.counted, length-append ts (t ∷ []));
   takes = record {
     taken = λ b l.
@@ -115,22 +115,22 @@ one_read {old} {now} {new} {count} {left} {left'} {t} ts us is e s a = subst (λ
 }
 
 -- where so many items stand, those that were not read stand behind those that were
-next_row : {old now : Reading} {count left : ℕ} (ts : List Tree) → ReadSome count left old ts now → HasItems count old → HasItems left now
-next_row {old} {now} {count} {left} ts s i =
+next_items : {old now : Reading} {count left : ℕ} (ts : List Tree) → ReadSome count left old ts now → HasItems count old → HasItems left now
+next_items {old} {now} {count} {left} ts s i =
     let k = s.takes.taken i.bytes i.left in
     let l = items_left ts i.items i.bytes k.0 i.rest k.1 i.fronts (omega (arith, s.counted, i.counted)) in
     record { bytes = k.0; items = l.others; rest = i.rest; left = k.3; counted = omega (arith, l.counted, s.counted, i.counted); fronts = l.fronts; accepted = refl; within = omega (arith, l.within, i.within, s.takes.same.steps) }
 
 next_item : {old now : Reading} {count left : ℕ} (ts : List Tree) → 0 < left → ReadSome count left old ts now → HasItems count old → HasItem 0 now
-next_item ts more s i = row_first (any_item 0) any_items item any_items (λ t us. refl) (λ t us. omega arith) more (next_row ts s i)
+next_item ts more s i = row_first (any_item 0) any_items item any_items (λ t us. refl) (λ t us. omega arith) more (next_items ts s i)
 
 pub next_refused : {E lacks lacks' : Type 0} {old now : Reading} {count left : ℕ} (new : Reading) (ts : List Tree) (e : DecodeError E) → 0 < left → ReadSome count left old ts now → (lacks → lacks') → Refuses (HasItem 0 now) lacks ⊥ (CauseInside (now.steps + 0)) now e new → Refuses (HasItems count old) lacks' ⊥ (CauseInItems count old.steps) old e new
 next_refused {E} {lacks} {lacks'} {old} {now} {count} {left} new ts e more s w r = passed_on (CauseInside (now.steps + 0)) (CauseInItems count old.steps) old now new e s.takes.same (next_item ts more s) w (λ x. x)
     (λ b l. let k = s.takes.taken b l in
     (k.0, k.3, λ here. (items_of ts, k.0, k.1, omega (arith, item_count_items_of ts, s.counted, more), at_steps {E = E} e k.0 _ _ (omega (arith, s.takes.same.steps)) here))) r
 
-pub all_read : {old now : Reading} {count left : ℕ} (ts : List Tree) → left ≡ 0 → ReadSome count left old ts now → (length ts ≡ count) × TakesItems old ts now
-all_read ts none s = (omega (arith, s.counted, none), s.takes)
+pub all_items_read : {old now : Reading} {count left : ℕ} (ts : List Tree) → left ≡ 0 → ReadSome count left old ts now → (length ts ≡ count) × TakesItems old ts now
+all_items_read ts none s = (omega (arith, s.counted, none), s.takes)
 
 map_push : {A B : Type 0} (f : A → B) (xs : List A) (x : A) → map f (xs ++ x ∷ []) ≡ map f xs ++ f x ∷ []
 map_push f [] x = refl

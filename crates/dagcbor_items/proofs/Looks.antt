@@ -62,8 +62,8 @@ major_unread {m} {old} {new} starts e = record { grows = omega (arith, e); most 
 
 -- ---- behind a byte that was looked at, and stayed
 
-pub once_left : {old new : Reading} (times : ℕ) → 1 ≤ times → LooksOnce old new → LooksAtLeft times 0 old new
-once_left {old} {new} times some o = record { grows = o.grows; most = λ b l. omega (arith, o.left b l, mul-le-mul_right (length b) some) }
+pub once_left_more : {old new : Reading} (times : ℕ) → 1 ≤ times → LooksOnce old new → LooksAtLeft times 0 old new
+once_left_more {old} {new} times some o = record { grows = o.grows; most = λ b l. omega (arith, o.left b l, mul-le-mul_right (length b) some) }
 
 pub peeked_taken : {times byte : ℕ} {old mid new : Reading} → LooksOnce old mid → ShowsByte old byte mid → LooksAtTaken times 1 mid new → LooksAtTaken times 0 old new
 peeked_taken {times} {byte} {old} {mid} {new} o s h = record {
@@ -85,13 +85,13 @@ peeked_value times meaning view lacks stands new (Ok v) o s a h = peeked_taken o
 peeked_value times meaning view lacks stands new (Err e) o s a h = peeked_left o s (left_first h (λ b l. let k = s.still b l in omega (arith, ap length k.1)))
 
 -- a byte was taken, and more behind it
-pub byte_taken : {times byte : ℕ} {old new : Reading} → LooksAtTaken times 0 old new → Takes old (byte ∷ []) new → LooksAtTaken (times + 1) 1 old new
-byte_taken {times} {byte} {old} {new} h t = taken_first h (λ b l. let k = t.taken b l in (k.0, k.2, omega (arith, ap length k.1)))
+pub one_byte_taken : {times byte : ℕ} {old new : Reading} → LooksAtTaken times 0 old new → Takes old (byte ∷ []) new → LooksAtTaken (times + 1) 1 old new
+one_byte_taken {times} {byte} {old} {new} h t = taken_first h (λ b l. let k = t.taken b l in (k.0, k.2, omega (arith, ap length k.1)))
 
 -- ---- steps are no looks
 
-pub stepped_taken : {times before k : ℕ} {old stepped now new : Reading} → (j : ℕ) → stepped ≡ with_steps j old → LooksAtTaken times before stepped now → new ≡ with_steps k now → LooksAtTaken times before old new
-stepped_taken {times} {before} {k} {old} {stepped} {now} {new} j into h out = record {
+pub looks_stepped : {times before k : ℕ} {old stepped now new : Reading} → (j : ℕ) → stepped ≡ with_steps j old → LooksAtTaken times before stepped now → new ≡ with_steps k now → LooksAtTaken times before old new
+looks_stepped {times} {before} {k} {old} {stepped} {now} {new} j into h out = record {
   grows = omega (arith, h.grows, ap (λ (r : Reading). r.looked) into, ap (λ (r : Reading). r.looked) out);
   most = λ b l.
       let p = h.most b (ap (λ (r : Reading). r.left) into ∙ l) in

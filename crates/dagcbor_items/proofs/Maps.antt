@@ -33,17 +33,17 @@ pub record ReadEntries (count left : ℕ) (old : Reading) (es : Entries) (previo
   pub last : last_key es ≡ previous
   pub takes : TakesEntries old es now
 
-pub none_read : (old : Reading) (count left : ℕ) (es : Entries) (previous : Option (List ℕ)) → left ≡ count → es ≡ no_entries → previous ≡ None → ReadEntries count left old es previous old
+pub no_entry_read : (old : Reading) (count left : ℕ) (es : Entries) (previous : Option (List ℕ)) → left ≡ count → es ≡ no_entries → previous ≡ None → ReadEntries count left old es previous old
 unfolding last_key
-none_read old count left es previous e none empty = subst (λ x. ReadEntries count left old x previous old) (sym none) record {
+no_entry_read old count left es previous e none empty = subst (λ x. ReadEntries count left old x previous old) (sym none) record {
   counted = omega (arith, e);
   last = sym empty;
   takes = record { taken = λ b l. (b, record { well_formed = tt; spellable = tt; is = refl }, omega arith, l); same = stays old };
 }
 
 -- where so many entries stand, those that were not read stand behind those that were
-next_row : {old now : Reading} {count left : ℕ} {es : Entries} {previous : Option (List ℕ)} → ReadEntries count left old es previous now → HasEntries count old → HasEntryRow any_entries previous left now
-next_row {old} {now} {count} {left} {es} {previous} s i =
+next_entries : {old now : Reading} {count left : ℕ} {es : Entries} {previous : Option (List ℕ)} → ReadEntries count left old es previous now → HasEntries count old → HasEntryRow any_entries previous left now
+next_entries {old} {now} {count} {left} {es} {previous} s i =
     let k = s.takes.taken i.bytes i.left in
     let l = entries_left es i.entries i.bytes k.0 i.rest k.1 i.fronts (omega (arith, s.counted, i.counted)) in
     record {
@@ -60,13 +60,13 @@ next_row {old} {now} {count} {left} {es} {previous} s i =
 
 pub next_key_refused : {E lacks' : Type 0} {old now : Reading} {count left : ℕ} {es : Entries} {previous : Option (List ℕ)} (new : Reading) (e : DecodeError E) → 0 < left → ReadEntries count left old es previous now → (now.lends ≡ false → lacks')
     → Refuses (HasKey previous now) (now.lends ≡ false) ⊥ (KeyCause previous) now e new → Refuses (HasEntries count old) lacks' ⊥ (CauseInEntries count old.steps) old e new
-next_key_refused {E} {lacks'} {old} {now} {count} {left} {es} {previous} new e more s w r = passed_on (KeyCause previous) (CauseInEntries count old.steps) old now new e s.takes.same (λ i. row_key more (next_row s i)) w (λ x. x)
+next_key_refused {E} {lacks'} {old} {now} {count} {left} {es} {previous} new e more s w r = passed_on (KeyCause previous) (CauseInEntries count old.steps) old now new e s.takes.same (λ i. row_key more (next_entries s i)) w (λ x. x)
     (λ b l. let k = s.takes.taken b l in (k.0, k.3, λ here. (es, k.0, k.1, omega (arith, s.counted, more), inl (subst (λ p. KeyCause {E = E} p e k.0) (sym s.last) here)))) r
 
 -- a key was read as well
 next_value : {old now mid : Reading} {count left : ℕ} {es : Entries} {previous : Option (List ℕ)} (key : List ℕ) → 0 < left → ReadEntries count left old es previous now → TakesItem 1 now (text key) mid → HasEntries count old → HasItem 0 mid
 next_value key more s a i =
-    let row = next_row s i in
+    let row = next_entries s i in
     let v = row_value key more a row in
     record { bytes = v.2; tree = v.0; rest = entries_spelling v.1 ++ row.rest; left = v.4; front = v.5; accepted = refl; within = omega (arith, row.within, ap entries_need v.3, a.same.steps) }
 
@@ -90,9 +90,9 @@ pub on_ok : {X Y : Type 0} (r : Result X Y) (P : Type 0) → false ≡ is_err r 
 on_ok (Ok x) P e h = h
 on_ok (Err y) P e h = absurd (cc e)
 
-pub one_read : {old now mid new : Reading} {count left left' : ℕ} {previous : Option (List ℕ)} {t : Tree} (es fs : Entries) (key : List ℕ) (last : Option (List ℕ)) → fs ≡ entry_push es key t → last ≡ Some key → left' + 1 ≡ left
+pub one_entry_read : {old now mid new : Reading} {count left left' : ℕ} {previous : Option (List ℕ)} {t : Tree} (es fs : Entries) (key : List ℕ) (last : Option (List ℕ)) → fs ≡ entry_push es key t → last ≡ Some key → left' + 1 ≡ left
     → ReadEntries count left old es previous now → Follows previous key → TakesItem 1 now (text key) mid → TakesItem 0 mid t new → ReadEntries count left' old fs last new
-one_read {old} {now} {mid} {new} {count} {left} {left'} {previous} {t} es fs key last is is_last e s f a v = subst (λ x. ReadEntries count left' old x last new) (sym is) record {
+one_entry_read {old} {now} {mid} {new} {count} {left} {left'} {previous} {t} es fs key last is is_last e s f a v = subst (λ x. ReadEntries count left' old x last new) (sym is) record {
   counted = omega (arith, s.counted, entry_count_push es key t);
   last = last_key_push es key t ∙ sym is_last;
   takes = record {
@@ -107,8 +107,8 @@ one_read {old} {now} {mid} {new} {count} {left} {left'} {previous} {t} es fs key
   };
 }
 
-pub all_read : {old now : Reading} {count left : ℕ} {previous : Option (List ℕ)} (es : Entries) → left ≡ 0 → ReadEntries count left old es previous now → (entry_count es ≡ count) × TakesEntries old es now
-all_read es none s = (omega (arith, s.counted, none), s.takes)
+pub all_entries_read : {old now : Reading} {count left : ℕ} {previous : Option (List ℕ)} (es : Entries) → left ≡ 0 → ReadEntries count left old es previous now → (entry_count es ≡ count) × TakesEntries old es now
+all_entries_read es none s = (omega (arith, s.counted, none), s.takes)
 
 -- ---- the whole map
 

@@ -11,8 +11,8 @@ use Rattle.ipld_tree.specs.Tree.{Tree, text, Entries, no_entries, entry, Precede
 use Rattle.ipld_tree.specs.Spelling.{entry_count, IsFront, AreEntryFronts}
 use Rattle.ipld_tree.specs.Ipld.{tree_of, pairs_of}
 use Rattle.ipld_tree.specs.declared.ipld.Ipld.{Ipld}
-use Rattle.ipld_tree.proofs.Trees.{Entry, pairs_of_insert_entry}
-use Rattle.ipld_tree.proofs.Ordered.{Pair, IsRising, Has, HasPair, key_cmp_total, key_cmp_same, less_from_before, same_entries, rising_ordered, ordered_has, has_ordered}
+use Rattle.ipld_tree.proofs.Trees.{IpldEntry, pairs_of_insert_entry}
+use Rattle.ipld_tree.proofs.Ordered.{KeyAndTree, IsRising, Has, HasPair, key_cmp_total, key_cmp_same, less_from_before, same_entries, rising_ordered, ordered_has, has_ordered}
 use Rattle.ipld_tree.proofs.WellFormed.{distinct_entries}
 use Rattle.ipld_tree.proofs.Fronts.{entry_opened, entry_closed, entries_after}
 use Rattle.dagcbor_items.specs.Places.{Follows, last_key}
@@ -57,13 +57,13 @@ has_push (entry m v es) k t l u (inr h) = elim (has_push es k t l u h) [ inl sam
 
 -- ---- a new key of a `BTreeMap`
 
-Put : List ℕ → Tree → List Pair → List ℕ → Tree → Type 0
+Put : List ℕ → Tree → List KeyAndTree → List ℕ → Tree → Type 0
 Put k t ps l u = ((k ≡ l) × (t ≡ u)) ⊎ HasPair ps l u
 
-Fresh : List Pair → List ℕ → Type 0
+Fresh : List KeyAndTree → List ℕ → Type 0
 Fresh ps k = (l : List ℕ) (u : Tree) → HasPair ps l u → k ≡ l → ⊥
 
-insert_here : (o : Ordering) (p : Pair) (ps qs : List Pair) (k : List ℕ) (t : Tree) (l : List ℕ) (u : Tree) → (o ≡ Equal → k ≡ p.0) → Fresh (p ∷ ps) k → (HasPair qs l u → Put k t ps l u)
+insert_here : (o : Ordering) (p : KeyAndTree) (ps qs : List KeyAndTree) (k : List ℕ) (t : Tree) (l : List ℕ) (u : Tree) → (o ≡ Equal → k ≡ p.0) → Fresh (p ∷ ps) k → (HasPair qs l u → Put k t ps l u)
     → HasPair (match_ordering o ((k, t) ∷ p ∷ ps) ((p.0, t) ∷ ps) (p ∷ qs)) l u → Put k t (p ∷ ps) l u
 unfolding Put Fresh
 insert_here Less p ps qs k t l u e fresh more (inl same) = inl same
@@ -72,13 +72,13 @@ insert_here Equal p ps qs k t l u e fresh more g = absurd (fresh p.0 p.1 (inl (r
 insert_here Greater p ps qs k t l u e fresh more (inl same) = inr (inl same)
 insert_here Greater p ps qs k t l u e fresh more (inr g) = elim (more g) [ inl same ↦ inl same | inr h ↦ inr (inr h) ]
 
-insert_put : (ps : List Pair) (k : List ℕ) (t : Tree) → Fresh ps k → (l : List ℕ) (u : Tree) → HasPair (insert_entry bytes_cmp ps k t) l u → Put k t ps l u
+insert_put : (ps : List KeyAndTree) (k : List ℕ) (t : Tree) → Fresh ps k → (l : List ℕ) (u : Tree) → HasPair (insert_entry bytes_cmp ps k t) l u → Put k t ps l u
 unfolding Put Fresh
 insert_put [] k t fresh l u (inl same) = inl same
 insert_put [] k t fresh l u (inr h) = absurd h
 insert_put (p ∷ ps) k t fresh l u h = insert_here (bytes_cmp k p.0) p ps (insert_entry bytes_cmp ps k t) k t l u (λ e. exact_bytes k p.0 e) fresh (insert_put ps k t (λ m v i. fresh m v (inr i)) l u) h
 
-put_here : (o : Ordering) (p : Pair) (ps qs : List Pair) (k : List ℕ) (t : Tree) (l : List ℕ) (u : Tree) → (o ≡ Equal → k ≡ p.0) → Fresh (p ∷ ps) k → (Put k t ps l u → HasPair qs l u)
+put_here : (o : Ordering) (p : KeyAndTree) (ps qs : List KeyAndTree) (k : List ℕ) (t : Tree) (l : List ℕ) (u : Tree) → (o ≡ Equal → k ≡ p.0) → Fresh (p ∷ ps) k → (Put k t ps l u → HasPair qs l u)
     → Put k t (p ∷ ps) l u → HasPair (match_ordering o ((k, t) ∷ p ∷ ps) ((p.0, t) ∷ ps) (p ∷ qs)) l u
 unfolding Put Fresh
 put_here Less p ps qs k t l u e fresh more (inl same) = inl same
@@ -88,14 +88,14 @@ put_here Greater p ps qs k t l u e fresh more (inl same) = inr (more (inl same))
 put_here Greater p ps qs k t l u e fresh more (inr (inl here)) = inl here
 put_here Greater p ps qs k t l u e fresh more (inr (inr g)) = inr (more (inr g))
 
-put_insert : (ps : List Pair) (k : List ℕ) (t : Tree) → Fresh ps k → (l : List ℕ) (u : Tree) → Put k t ps l u → HasPair (insert_entry bytes_cmp ps k t) l u
+put_insert : (ps : List KeyAndTree) (k : List ℕ) (t : Tree) → Fresh ps k → (l : List ℕ) (u : Tree) → Put k t ps l u → HasPair (insert_entry bytes_cmp ps k t) l u
 unfolding Put Fresh
 put_insert [] k t fresh l u (inl same) = inl same
 put_insert [] k t fresh l u (inr h) = absurd h
 put_insert (p ∷ ps) k t fresh l u h = put_here (bytes_cmp k p.0) p ps (insert_entry bytes_cmp ps k t) k t l u (λ e. exact_bytes k p.0 e) fresh (put_insert ps k t (λ m v i. fresh m v (inr i)) l u) h
 
 -- a key that follows the last one goes behind it
-pub ordered_push : (es new : List Entry) (k : String Global) (j : Ipld) → new ≡ insert_entry string_cmp es k j → IsStrictlySortedBy string_cmp (keys_of es) → IsStrictlySortedBy string_cmp (keys_of new)
+pub ordered_push : (es new : List IpldEntry) (k : String Global) (j : Ipld) → new ≡ insert_entry string_cmp es k j → IsStrictlySortedBy string_cmp (keys_of es) → IsStrictlySortedBy string_cmp (keys_of new)
     → Follows (last_key (ordered_entries (pairs_of es))) (string_bytes k) → ordered_entries (pairs_of new) ≡ entry_push (ordered_entries (pairs_of es)) (string_bytes k) (tree_of j)
 unfolding Put Fresh
 ordered_push es new k j is sorted sorted_new f =

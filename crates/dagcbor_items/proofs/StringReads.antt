@@ -117,13 +117,13 @@ bytes_stand {r} h =
     let f = subst (λ t. IsFront h.bytes t h.rest) (shown_bytes h.tree s.0 s.1) h.front in
     record { payload = s.0; rest = h.rest; fits = f.spellable; left = h.left ∙ ap Some (f.is ∙ append_assoc (head 2 (length s.0)) s.0 h.rest) }
 
-pub bytes_refused : {E : Type 0} (lacks : Type 0) (old new : Reading) (e : DecodeError E) → Refuses (HasString 2 old) lacks ⊥ (StringCause (codes "bytes") 2) old e new
+pub bytes_string_refused : {E : Type 0} (lacks : Type 0) (old new : Reading) (e : DecodeError E) → Refuses (HasString 2 old) lacks ⊥ (StringCause (codes "bytes") 2) old e new
     → Refuses (HasFront (leaf view_bytes) old) lacks ⊥ (StringCause (codes "bytes") 2) old e new
-bytes_refused lacks old new e r = passed_on (StringCause (codes "bytes") 2) (StringCause (codes "bytes") 2) old old new e (stays old) bytes_stand (λ x. x) (λ x. x) (λ b l. (b, l, λ c. c)) r
+bytes_string_refused lacks old new e r = passed_on (StringCause (codes "bytes") 2) (StringCause (codes "bytes") 2) old old new e (stays old) bytes_stand (λ x. x) (λ x. x) (λ b l. (b, l, λ c. c)) r
 
 pub bytes_read : {E : Type 0} (old new : Reading) (result : Result (CowSlice ℕ Global) (DecodeError E)) → ReadsString cow_slice_items (codes "bytes") 2 old result new → ReadsByteSlice old result new
 bytes_read old new (Ok c) h = let s = cow_slice_items c in spelling_taken view_bytes (bytes s) s tt h.fits refl h.takes
-bytes_read old new (Err e) h = bytes_refused (old.lends ≡ false) old new e h
+bytes_read old new (Err e) h = bytes_string_refused (old.lends ≡ false) old new e h
 
 -- ---- texts
 
@@ -139,12 +139,12 @@ text_stands {r} h =
     let s = text_front h in
     record { payload = s.0; rest = h.rest; fits = s.1.spellable; left = h.left ∙ ap Some (s.1.is ∙ append_assoc (head 3 (length s.0)) s.0 h.rest) }
 
-pub text_refused : {E : Type 0} (lacks : Type 0) (name : List ℕ) (old new : Reading) (e : DecodeError E) → Refuses (HasString 3 old) lacks ⊥ (StringCause name 3) old e new
+pub text_string_refused : {E : Type 0} (lacks : Type 0) (name : List ℕ) (old new : Reading) (e : DecodeError E) → Refuses (HasString 3 old) lacks ⊥ (StringCause name 3) old e new
     → Refuses (HasFront (leaf view_text) old) lacks ⊥ (TextCause name) old e new
-text_refused lacks name old new e r = passed_on (StringCause name 3) (TextCause name) old old new e (stays old) text_stands (λ x. x) (λ x. x) (λ b l. (b, l, λ c. inl c)) r
+text_string_refused lacks name old new e r = passed_on (StringCause name 3) (TextCause name) old old new e (stays old) text_stands (λ x. x) (λ x. x) (λ b l. (b, l, λ c. inl c)) r
 
-pub text_taken : {old new : Reading} (s payload : List ℕ) → s ≡ payload → IsUtf8 s → TakesString 3 old payload new → TakesFront (leaf view_text) old s new
-text_taken {old} {new} s payload e u h = let k = subst (λ x. TakesString 3 old x new) (sym e) h in spelling_taken view_text (text s) s u k.fits refl k.takes
+pub text_string_taken : {old new : Reading} (s payload : List ℕ) → s ≡ payload → IsUtf8 s → TakesString 3 old payload new → TakesFront (leaf view_text) old s new
+text_string_taken {old} {new} s payload e u h = let k = subst (λ x. TakesString 3 old x new) (sym e) h in spelling_taken view_text (text s) s u k.fits refl k.takes
 
 pub no_text_refused : (E : Type 0) (name : List ℕ) {old new : Reading} (s : List ℕ) (kept : Name) → Names kept name → TakesString 3 old s new → (IsUtf8 s → ⊥)
     → Refuses {E = E} (HasFront (leaf view_text) old) ⊥ ⊥ (TextCause name) old (RequireUtf8 kept) new

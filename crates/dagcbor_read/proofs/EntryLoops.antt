@@ -17,7 +17,7 @@ use Rattle.dagcbor_read.specs.Collections.{HasFields, TakesFields, fields_of, va
 use Rattle.dagcbor_read.proofs.Progressing.{call_answered, call_told}
 use Rattle.dagcbor_read.proofs.Answered.{KeyRead, key_read, no_key, after_some_key, after_no_key}
 use Rattle.dagcbor_read.proofs.Answered as answer
-use Rattle.dagcbor_read.proofs.EntryRows.{FieldsSoFar, none_so_far, key_not_read, value_not_read, one_more, all_read, map_has_fields, map_taken}
+use Rattle.dagcbor_read.proofs.EntryRows.{FieldsSoFar, no_field_so_far, key_not_read, value_not_read, one_more_field, all_fields_read, map_has_fields, typed_map_taken}
 use Rattle.dagcbor_read.proofs.FieldPlaces.{takes_as, front_as}
 use Rattle.dagcbor_read.proofs.Passing.{refusal_carried}
 
@@ -49,7 +49,7 @@ module _ {S : Type 0} (shape : FieldShape S) (start : S) where
         enters = k.2.2;
         first = ap (λ (c : AccessorState). c.last) k.2.0;
         one = ap (λ (c : AccessorState). c.steps) k.2.0;
-        fields = none_so_far shape start (accessor_state a) mid k.1 (ap (λ (c : AccessorState). c.is_map) k.2.0) (ap (λ (c : AccessorState). c.owes_value) k.2.0);
+        fields = no_field_so_far shape start (accessor_state a) mid k.1 (ap (λ (c : AccessorState). c.is_map) k.2.0) (ap (λ (c : AccessorState). c.owes_value) k.2.0);
       }
 
   -- what the rest of the map refuses, the map refuses
@@ -59,9 +59,9 @@ module _ {S : Type 0} (shape : FieldShape S) (start : S) where
       (λ x. subst (λ l. HasFields shape start l i.before.left i.mid.input) (sym i.first) (map_has_fields shape start i.enters x)) (λ x. x) (λ x. x) (λ b l g. tt) r
 
   -- the next key was refused
-  pub key_refused : {old : Progress} {entries : AccessorState} {s : S} (E B : Type 0) (now new : Progress) (e : DecodeError E) → MapSoFar old entries s now → Call (ReadsNextKey entries.last entries.left) now (Err e) new
+  pub map_key_refused : {old : Progress} {entries : AccessorState} {s : S} (E B : Type 0) (now new : Progress) (e : DecodeError E) → MapSoFar old entries s now → Call (ReadsNextKey entries.last entries.left) now (Err e) new
       → Refuses (HasFront (fields_of shape start) old.input) ⊤ B Anything old.input e new.input
-  key_refused E B now new e i h =
+  map_key_refused E B now new e i h =
       let k = answer.key_refused E _ _ now new e i.fields.sound h in
       map_refused B new e i (key_not_read shape B _ _ i.fields k.0 k.1)
 
@@ -71,11 +71,11 @@ module _ {S : Type 0} (shape : FieldShape S) (start : S) where
   at_value {old} {entries} {s} E now mid o k with_key i is h after = record { entries = entries; now = now; so_far = i; read = key_read E _ _ now mid o k is h; after = after_some_key E o k _ _ is after }
 
   -- Its value was refused: the value of this name is read into the state by f.
-  pub value_refused : {old : Progress} {with_key : AccessorState} {key : List ℕ} {s : S} (E B borrows T : Type 0) {V : Type 0} (part : Shape Tree V) (name : List ℕ) (f : V → S) (mid new : Progress) (e : DecodeError E) → MapAtValue old with_key key s mid
+  pub map_value_refused : {old : Progress} {with_key : AccessorState} {key : List ℕ} {s : S} (E B borrows T : Type 0) {V : Type 0} (part : Shape Tree V) (name : List ℕ) (f : V → S) (mid new : Progress) (e : DecodeError E) → MapAtValue old with_key key s mid
       → key ≡ name → ((t : Tree) → shape.take s name t ≡ option_map f (part.view t)) → ((t : Tree) → shape.need name t ≡ part.need t) → (borrows → B)
       → Call {T = T} (λ old r new. MatchResult r (λ v. ⊤) (λ e. Refuses (HasFront part old) ⊤ borrows Anything old e new)) mid (Err e) new
       → Refuses (HasFront (fields_of shape start) old.input) ⊤ B Anything old.input e new.input
-  value_refused {old} {with_key} {key} {s} E B borrows T part name f mid new e at is same as_much lent h =
+  map_value_refused {old} {with_key} {key} {s} E B borrows T part name f mid new e at is same as_much lent h =
       let r = (call_told (λ old r new. MatchResult r (λ v. ⊤) (λ e. Refuses (HasFront part old) ⊤ borrows Anything old e new)) mid new (Err e) at.read.sound h).1 in
       let r' = refusal_carried Anything Anything mid.input mid.input new.input e record { faults = refl; lends = refl } (λ front. front_as f part (value_of shape s name) same as_much front) (λ x. x) lent (λ b l g. tt) r in
       map_refused B new e at.so_far (value_not_read shape B new.input e key name (sym is) at.so_far.fields at.read r')
@@ -88,14 +88,14 @@ module _ {S : Type 0} (shape : FieldShape S) (start : S) where
       let r = call_answered (λ old r new. MatchResult r (λ v. TakesFront part old shown new) (λ e. ⊤)) mid new v h in
       let w = takes_as f part (value_of shape s name) same as_much r.2 in
       let i = at.so_far in
-      let fields = one_more shape key name (sym is) i.fields at.read at.after is_after r.1 w in
+      let fields = one_more_field shape key name (sym is) i.fields at.read at.after is_after r.1 w in
       record { before = i.before; mid = i.mid; enters = i.enters; first = i.first; one = i.one; fields = subst (λ x. FieldsSoFar shape start i.before i.mid after x new) (sym is_next) fields }
 
   -- Its value was passed over, which was refused: it is no field's.
   pub skip_refused : {old : Progress} {with_key : AccessorState} {key : List ℕ} {s : S} (E B T : Type 0) (mid new : Progress) (e : DecodeError E) → MapAtValue old with_key key s mid → ((t : Tree) → shape.take s key t ≡ Some s) → ((t : Tree) → shape.need key t ≡ any_need t)
       → Call {T = T} (λ old r new. MatchResult r (λ v. ⊤) (λ e. Refuses (HasFront ignored_item old) ⊤ (false ≡ true) Anything old e new)) mid (Err e) new
       → Refuses (HasFront (fields_of shape start) old.input) ⊤ B Anything old.input e new.input
-  skip_refused {old} {with_key} {key} {s} E B T mid new e at same as_much h = value_refused E B (false ≡ true) T ignored_item key (λ _. s) mid new e at refl same as_much (λ l. absurd (cc l)) h
+  skip_refused {old} {with_key} {key} {s} E B T mid new e at same as_much h = map_value_refused E B (false ≡ true) T ignored_item key (λ _. s) mid new e at refl same as_much (λ l. absurd (cc l)) h
 
   -- Its value was passed over.
   pub value_skipped : {old : Progress} {with_key after : AccessorState} {key : List ℕ} {s : S} (E T : Type 0) (mid new : Progress) (v : T) → MapAtValue old with_key key s mid → ((t : Tree) → shape.take s key t ≡ Some s) → ((t : Tree) → shape.need key t ≡ any_need t)
@@ -109,6 +109,6 @@ module _ {S : Type 0} (shape : FieldShape S) (start : S) where
   map_ended {old} {entries} {s} E now mid new o after u i is h is_after end =
       let k = no_key E _ _ now mid o is h in
       let e = call_answered (EndsItems after) mid new u end in
-      let a = all_read shape mid new i.fields k.1 (after_no_key E o _ _ is is_after) k.2 e.2.1 in
+      let a = all_fields_read shape mid new i.fields k.1 (after_no_key E o _ _ is is_after) k.2 e.2.1 in
       let fields = subst (λ l. TakesFields shape start l i.before.left i.mid.input s a.0) i.first a.1 in
-      (e.1, map_taken shape start i.enters fields (a.2 ∙ ap (λ n. with_steps (a.0.steps + n) a.0) i.one))
+      (e.1, typed_map_taken shape start i.enters fields (a.2 ∙ ap (λ n. with_steps (a.0.steps + n) a.0) i.one))

@@ -103,8 +103,8 @@ module _ {S : Type 0} (shape : FieldShape S) where
   pub as_count : {old new : Reading} {state s : S} {last : Option (List ℕ)} {count count' : ℕ} → count ≡ count' → TakesFields shape state last count old s new → TakesFields shape state last count' old s new
   as_count {old} {new} {state} {s} {last} e h = subst (λ n. TakesFields shape state last n old s new) e h
 
-  pub none_so_far : (start : S) (before : AccessorState) (old : Progress) → old.failed ≡ false → before.is_map ≡ true → before.owes_value ≡ false → FieldsSoFar start before old before start old
-  none_so_far start before old f m o = record {
+  pub no_field_so_far : (start : S) (before : AccessorState) (old : Progress) → old.failed ≡ false → before.is_map ≡ true → before.owes_value ≡ false → FieldsSoFar start before old before start old
+  no_field_so_far start before old f m o = record {
     sound = f;
     is_map = m;
     in_turn = o;
@@ -128,10 +128,10 @@ module _ {S : Type 0} (shape : FieldShape S) where
       refusal_carried Anything Anything old.input mid.input new e (same_reader (stays_both i.same k.takes.same))
       (λ h. subst (λ x. HasFront (value_of shape s x) mid.input) (sym is) (fields_value key k.some k.takes (i.has h))) (λ x. x) (λ x. x) (λ b l g. tt) r
 
-  pub one_more : {start s next : S} {before now_left with_key after : AccessorState} {old now mid new : Progress} (key text' : List ℕ) → text' ≡ key → FieldsSoFar start before old now_left s now → KeyRead now_left.last now_left.left now key mid
+  pub one_more_field : {start s next : S} {before now_left with_key after : AccessorState} {old now mid new : Progress} (key text' : List ℕ) → text' ≡ key → FieldsSoFar start before old now_left s now → KeyRead now_left.last now_left.left now key mid
       → with_key ≡ record now_left { left = now_left.left - 1; last = Some key; owes_value = true } → after ≡ record with_key { owes_value = false } → new.failed ≡ false
       → TakesFront (value_of shape s text') mid.input next new.input → FieldsSoFar start before old after next new
-  one_more {start} {s} {next} {before} {now_left} {with_key} {after} {old} {now} {mid} {new} key text' text_is i k is is' f w' =
+  one_more_field {start} {s} {next} {before} {now_left} {with_key} {after} {old} {now} {mid} {new} key text' text_is i k is is' f w' =
       let w = subst (λ x. TakesFront (value_of shape s x) mid.input next new.input) text_is w' in
       let both : after ≡ record now_left { left = now_left.left - 1; last = Some key; owes_value = false } = is' ∙ ap (λ (c : AccessorState). record c { owes_value = false }) is in
       let less : after.left ≡ now_left.left - 1 = ap (λ (c : AccessorState). c.left) both in
@@ -147,9 +147,9 @@ module _ {S : Type 0} (shape : FieldShape S) where
         takes = λ count end to t. as_count (omega (arith, less, k.some, i.fewer)) (i.takes (count + 1) end to (fields_taken key k.follows k.takes w (subst (λ l. TakesFields shape next l count new.input end to) last t)));
       }
 
-  pub all_read : {start s : S} {before now_left after : AccessorState} {old now : Progress} (mid new : Progress) → FieldsSoFar start before old now_left s now → now_left.left ≡ 0 → after ≡ now_left → mid.input ≡ now.input → new.input ≡ with_steps (mid.input.steps + after.steps) mid.input
+  pub all_fields_read : {start s : S} {before now_left after : AccessorState} {old now : Progress} (mid new : Progress) → FieldsSoFar start before old now_left s now → now_left.left ≡ 0 → after ≡ now_left → mid.input ≡ now.input → new.input ≡ with_steps (mid.input.steps + after.steps) mid.input
       → (now : Reading) × TakesFields shape start before.last before.left old.input s now × (new.input ≡ with_steps (now.steps + before.steps) now)
-  all_read {start} {s} {before} {now_left} {after} {old} {now} mid new i none is same back =
+  all_fields_read {start} {s} {before} {now_left} {after} {old} {now} mid new i none is same back =
       let end : TakesFields shape s now_left.last 0 now.input s mid.input = record {
         taken = λ b l. (no_entries, b, refl, nothing now_left.last, record { well_formed = tt; spellable = tt; is = refl }, refl, omega arith, ap (λ (r : Reading). r.left) same ∙ l);
         same = subst (Stays now.input) (sym same) (stays now.input);
@@ -187,8 +187,8 @@ module _ {S : Type 0} (shape : FieldShape S) where
         let o = map_opened f.bytes k.0 f.rest count f.entries n.fits f.front k.1 in
         record { bytes = k.0; entries = f.entries; rest = f.rest; left = k.2; counted = o.0; follow = tt; fronts = o.1; accepted = f.accepted; within = omega (arith, f.within, n.takes.same.steps) }
 
-    pub map_taken : {old mid now new : Reading} {count : ℕ} {s : S} → Enters 5 count old mid → TakesFields shape start None count mid s now → new ≡ with_steps (now.steps + 1) now → TakesFront (fields_of shape start) old s new
-    map_taken {old} {mid} {now} {new} {count} {s} n r back = record {
+    pub typed_map_taken : {old mid now new : Reading} {count : ℕ} {s : S} → Enters 5 count old mid → TakesFields shape start None count mid s now → new ≡ with_steps (now.steps + 1) now → TakesFront (fields_of shape start) old s new
+    typed_map_taken {old} {mid} {now} {new} {count} {s} n r back = record {
       taken = λ b l.
           let k = n.takes.taken b l in
           let q = r.taken k.0 k.2 in (
@@ -209,7 +209,7 @@ module _ {S : Type 0} (shape : FieldShape S) where
         let k = call_answered (BeginsItems 5 name 1) old mid a h in
         let one : a.steps ≡ 1 = ap (λ (c : AccessorState). c.steps) k.2.0 in
         let none : (accessor_state a).last ≡ None = ap (λ (c : AccessorState). c.last) k.2.0 in
-        (r.0, map_taken k.2.2 (subst (λ l. TakesFields shape start l a.left mid.input (meaning v) r.1) none r.2) (r.3 ∙ ap (λ n. with_steps (r.1.steps + n) r.1) one))
+        (r.0, typed_map_taken k.2.2 (subst (λ l. TakesFields shape start l a.left mid.input (meaning v) r.1) none r.2) (r.3 ∙ ap (λ n. with_steps (r.1.steps + n) r.1) one))
     entries_read {T} {E} meaning old mid new name a (Err e) h r f =
         let k = call_answered (BeginsItems 5 name 1) old mid a h in
         let none : (accessor_state a).last ≡ None = ap (λ (c : AccessorState). c.last) k.2.0 in
@@ -229,7 +229,7 @@ module _ {S : Type 0} (shape : FieldShape S) where
         by true is k (Ok v) r =
             let steps : a.steps ≡ e.steps + 1 = ap (λ (c : AccessorState). c.steps) k.0 in
             let none : (accessor_state a).last ≡ None = ap (λ (c : AccessorState). c.last) k.0 in
-            let taken = map_taken {new = with_steps (r.1.steps + 1) r.1} k.2 (subst (λ l. TakesFields shape start l a.left mid.input (meaning v) r.1) none r.2) refl in
+            let taken = typed_map_taken {new = with_steps (r.1.steps + 1) r.1} k.2 (subst (λ l. TakesFields shape start l a.left mid.input (meaning v) r.1) none r.2) refl in
             let all : r.1.steps + a.steps ≡ r.1.steps + 1 + e.steps = omega (arith, steps) in
             (r.0, (is, (with_steps (r.1.steps + 1) r.1, taken, r.3 ∙ ap (λ n. with_steps n r.1) all)))
         by true is k (Err x) r =

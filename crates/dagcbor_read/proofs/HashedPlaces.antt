@@ -17,7 +17,8 @@ use Rattle.std.specs.declared.cmp.Ordering.TheVariants.{Less, Equal, Greater}
 use Rattle.ipld_tree.specs.Key.{key_cmp}
 use Rattle.ipld_tree.proofs.Ordered.{key_cmp_total, same_place, same_place_flips}
 use Rattle.dagcbor_read.specs.Collections.{in_key_order, text_pairs}
-use Rattle.dagcbor_read.proofs.KeyPlaces.{same_key, put_again, put_apart}
+use Rattle.ipld_tree.proofs.KeyOrder.{same_key}
+use Rattle.dagcbor_read.proofs.KeyPlaces.{put_again, put_apart}
 
 exact : (k l : List ℕ) → same_place k l ≡ true → k ≡ l
 exact k l e = same_key k l (by (key_cmp k l) e)

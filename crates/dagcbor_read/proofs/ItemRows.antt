@@ -44,8 +44,8 @@ some_second f (Some a) (Some b) e = refl
 
 -- ---- no item
 
-pub nothing_taken : {old : Reading} {count : ℕ} → count ≡ 0 → TakesRow no_more count old tt old
-nothing_taken {old} e = record { taken = λ b l. (no_items, b, sym e, record { well_formed = tt; spellable = tt; is = refl }, refl, omega arith, l); same = stays old }
+pub no_row_taken : {old : Reading} {count : ℕ} → count ≡ 0 → TakesRow no_more count old tt old
+no_row_taken {old} e = record { taken = λ b l. (no_items, b, sym e, record { well_formed = tt; spellable = tt; is = refl }, refl, omega arith, l); same = stays old }
 
 pub none_left : {r : Reading} {count : ℕ} → HasRow no_more count r → count ≡ 0
 none_left {r} {count} h = by h.items h.counted h.accepted
@@ -146,8 +146,8 @@ module _ {V : Type 0} (shape : Shape Tree V) where
     pub takes : (count : ℕ) (ws : List V) (new : Reading) → TakesRow (all_of shape) count now.input ws new
         → TakesRow (all_of shape) (count + (before.left - now_left.left)) old.input (vs ++ ws) new
 
-  pub none_so_far : (before : AccessorState) (old : Progress) (vs : List V) → old.failed ≡ false → vs ≡ [] → ReadSoFar before old before vs old
-  none_so_far before old vs f e = subst (λ x. ReadSoFar before old before x old) (sym e) record {
+  pub no_item_so_far : (before : AccessorState) (old : Progress) (vs : List V) → old.failed ≡ false → vs ≡ [] → ReadSoFar before old before vs old
+  no_item_so_far before old vs f e = subst (λ x. ReadSoFar before old before x old) (sym e) record {
     sound = f;
     is = refl;
     fewer = omega arith;
@@ -159,9 +159,9 @@ module _ {V : Type 0} (shape : Shape Tree V) where
   first_of : {r : Reading} {count : ℕ} → 0 < count → HasRow (all_of shape) count r → HasFront shape r
   first_of = row_first shape (all_of shape) (λ v vs. v ∷ vs) (all_of shape) (λ t ts. refl) (λ t ts. refl)
 
-  pub one_more : {before now_left after : AccessorState} {old now new : Progress} {v : V} (vs ws : List V) → ReadSoFar before old now_left vs now → 0 < now_left.left → after ≡ record now_left { left = now_left.left - 1 } → new.failed ≡ false
+  pub one_more_item : {before now_left after : AccessorState} {old now new : Progress} {v : V} (vs ws : List V) → ReadSoFar before old now_left vs now → 0 < now_left.left → after ≡ record now_left { left = now_left.left - 1 } → new.failed ≡ false
       → TakesFront shape now.input v new.input → ws ≡ vs ++ v ∷ [] → ReadSoFar before old after ws new
-  one_more {before} {now_left} {after} {old} {now} {new} {v} vs ws s some is f a e =
+  one_more_item {before} {now_left} {after} {old} {now} {new} {v} vs ws s some is f a e =
       let less : after.left ≡ now_left.left - 1 = ap (λ (c : AccessorState). c.left) is in
       subst (λ x. ReadSoFar before old after x new) (sym e) record {
         sound = f;
@@ -220,8 +220,8 @@ module _ {V : Type 0} (shape : Shape Items V) where
       let o = list_opened f.bytes k.0 f.rest count f.items n.fits f.front k.1 in
       record { bytes = k.0; items = f.items; rest = f.rest; left = k.2; counted = o.0; fronts = o.1; accepted = f.accepted; within = omega (arith, f.within, n.takes.same.steps) }
 
-  pub list_taken : {old mid now new : Reading} {count : ℕ} {v : V} → Enters 4 count old mid → TakesRow shape count mid v now → new ≡ with_steps (now.steps + 1) now → TakesFront (list_of shape) old v new
-  list_taken {old} {mid} {now} {new} {count} {v} n r back = record {
+  pub typed_list_taken : {old mid now new : Reading} {count : ℕ} {v : V} → Enters 4 count old mid → TakesRow shape count mid v now → new ≡ with_steps (now.steps + 1) now → TakesFront (list_of shape) old v new
+  typed_list_taken {old} {mid} {now} {new} {count} {v} n r back = record {
     taken = λ b l.
         let k = n.takes.taken b l in
         let q = r.taken k.0 k.2 in (
@@ -241,7 +241,7 @@ module _ {V : Type 0} (shape : Shape Items V) where
   rest_reads {T} {E} meaning old mid new name a (Ok v) h r f =
       let k = call_answered (BeginsItems 4 name 1) old mid a h in
       let one : a.steps ≡ 1 = ap (λ (c : AccessorState). c.steps) k.2.0 in
-      (r.0, list_taken k.2.2 r.2 (r.3 ∙ ap (λ n. with_steps (r.1.steps + n) r.1) one))
+      (r.0, typed_list_taken k.2.2 r.2 (r.3 ∙ ap (λ n. with_steps (r.1.steps + n) r.1) one))
   rest_reads {T} {E} meaning old mid new name a (Err e) h r f =
       let k = call_answered (BeginsItems 4 name 1) old mid a h in
       refusal_carried Anything Anything old.input mid.input new.input e record { faults = k.2.2.takes.same.faults; lends = k.2.2.takes.same.lends } (list_has_row k.2.2) (λ x. x) (λ x. x) (λ b l g. tt) r

@@ -4,22 +4,15 @@ use Rattle.std.proofs.lemmas.Map.Lookups.{exact_bytes}
 use Rattle.std.proofs.lemmas.Cmp.{nat_list_cmp_total, tied_itself}
 use Rattle.std.specs.Prelude.{Some, option_map}
 use Rattle.std.specs.BTreeMap.{insert_entry}
-use Rattle.std.specs.Ordering.{match_ordering, ordering_then, ordering_reverse}
+use Rattle.std.specs.Ordering.{match_ordering, ordering_reverse}
 use Rattle.ipld_tree.specs.Key.{bytes_cmp, key_cmp}
+use Rattle.ipld_tree.proofs.KeyOrder.{same_key}
 use Rattle.ipld_tree.proofs.Ordered.{key_cmp_total, key_cmp_same}
 use Rattle.dagcbor_heads.specs.Reading.{Reading}
 use Rattle.ipld_tree.specs.Tree.{Tree}
 use Rattle.dagcbor_items.specs.Reads.{TakesFront}
 use Rattle.dagcbor_read.specs.Collections.{in_key_order, text_pairs, value_of, values_of}
 use Rattle.dagcbor_items.specs.Shapes.{Shape}
-
-second_equal : (a b : Ordering) → ordering_then a b ≡ Equal → b ≡ Equal
-second_equal Less b e = absurd (cc e)
-second_equal Equal b e = e
-second_equal Greater b e = absurd (cc e)
-
-pub same_key : (k l : List ℕ) → key_cmp k l ≡ Equal → k ≡ l
-same_key k l e = exact_bytes k l (second_equal _ (bytes_cmp k l) e)
 
 bytes_same : (k : List ℕ) → bytes_cmp k k ≡ Equal
 bytes_same k = tied_itself nat_list_cmp_total k

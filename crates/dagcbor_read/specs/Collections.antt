@@ -142,15 +142,15 @@ fields_of shape start = record {
 }
 
 -- what entries show, taken one after another from a state on
-abbrev pub entries_of : {S : Type 0} → FieldShape S → S → Shape Entries S
-entries_of shape state = record {
+abbrev pub all_entries : {S : Type 0} → FieldShape S → S → Shape Entries S
+all_entries shape state = record {
   view = view_entries shape.take state;
   need = need_entries shape.need;
   borrows = shape.borrows;
 }
 
 abbrev pub HasFields : {S : Type 0} → FieldShape S → S → Option (List ℕ) → ℕ → Reading → Type 0
-HasFields shape state = HasEntryRow (entries_of shape state)
+HasFields shape state = HasEntryRow (all_entries shape state)
 
 -- so many entries stood at the front, behind the last key, which bring the state to s, and were
 -- taken

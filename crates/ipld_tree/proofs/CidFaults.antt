@@ -72,8 +72,8 @@ one_field_more {b} {fields} {r} n z h p = record {
 
 -- ---- the fields of a CID of version 1
 
-pub fields_of : (b : List ℕ) (c : CidParts) → IsVersion1 c → b ≡ cid_bytes c → HasCidFields b (c.codec ∷ c.hash_code ∷ length c.digest ∷ []) c.digest
-fields_of b c h e = record {
+pub cid_fields : (b : List ℕ) (c : CidParts) → IsVersion1 c → b ≡ cid_bytes c → HasCidFields b (c.codec ∷ c.hash_code ∷ length c.digest ∷ []) c.digest
+cid_fields b c h e = record {
   fit = (h.1, (h.2, (omega (arith, h.3), tt)));
   is = e ∙ form_1 c h.0 ∙ ap (λ s. 0x01 ∷ s) (sym (flat c.codec c.hash_code (length c.digest) c.digest));
 }
@@ -91,7 +91,7 @@ IsForm0 b = (digest : List ℕ) × (length digest ≡ 32) × (b ≡ 0x12 ∷ 0x2
 
 two_forms : (b : List ℕ) → IsCid b → IsForm0 b ⊎ AtDigest b IsWhole
 two_forms b (c, inl v, e) = inl (c.digest, v.3, e ∙ form_0 c v.0)
-two_forms b (c, inr v, e) = inr (c.codec, c.hash_code, length c.digest, c.digest, fields_of b c v e, (v.3, refl))
+two_forms b (c, inr v, e) = inr (c.codec, c.hash_code, length c.digest, c.digest, cid_fields b c v e, (v.3, refl))
 
 -- ---- what can't stand in the same bytes
 

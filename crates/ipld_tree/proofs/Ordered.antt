@@ -16,8 +16,8 @@ or_false : (a b : Bool) → (a || b) ≡ false → (a ≡ false) × (b ≡ false
 or_false true b h = absurd cc
 or_false false b h = (refl, h)
 
-abbrev pub Pair : Type 0
-Pair = List ℕ × Tree
+abbrev pub KeyAndTree : Type 0
+KeyAndTree = List ℕ × Tree
 
 -- each key comes before the next
 abbrev pub IsRising : Entries → Type 0
@@ -130,17 +130,17 @@ rising_insert k t (entry l u es) r apart =
 
 -- ---- lists of pairs
 
-abbrev pub HasPair : List Pair → List ℕ → Tree → Type 0
+abbrev pub HasPair : List KeyAndTree → List ℕ → Tree → Type 0
 HasPair [] k t = ⊥
 HasPair (p ∷ ps) k t = ((p.0 ≡ k) × (p.1 ≡ t)) ⊎ HasPair ps k t
 
-pub ordered_has : (ps : List Pair) (k : List ℕ) (t : Tree) → HasPair ps k t → Has (ordered_entries ps) k t
+pub ordered_has : (ps : List KeyAndTree) (k : List ℕ) (t : Tree) → HasPair ps k t → Has (ordered_entries ps) k t
 unfolding Put
 ordered_has [] k t h = h
 ordered_has (p ∷ ps) k t (inl same) = insert_has p.0 p.1 (ordered_entries ps) k t (inl same)
 ordered_has (p ∷ ps) k t (inr more) = insert_has p.0 p.1 (ordered_entries ps) k t (inr (ordered_has ps k t more))
 
-pub has_ordered : (ps : List Pair) (k : List ℕ) (t : Tree) → Has (ordered_entries ps) k t → HasPair ps k t
+pub has_ordered : (ps : List KeyAndTree) (k : List ℕ) (t : Tree) → Has (ordered_entries ps) k t → HasPair ps k t
 unfolding Put
 has_ordered [] k t h = h
 has_ordered (p ∷ ps) k t h = elim (has_insert p.0 p.1 (ordered_entries ps) k t h) [ inl same ↦ inl same | inr more ↦ inr (has_ordered ps k t more) ]
@@ -149,22 +149,22 @@ abbrev pub same_place : List ℕ → List ℕ → Bool
 same_place k l = is_eq (key_cmp k l)
 
 -- the keys are distinct
-abbrev pub AreDistinct : List Pair → Type 0
+abbrev pub AreDistinct : List KeyAndTree → Type 0
 AreDistinct ps = IsDistinct same_place (keys_of ps)
 
-apart_from : (k : List ℕ) (ps : List Pair) → AllByRecursion (λ l. same_place k l ≡ false) (keys_of ps) → (l : List ℕ) (u : Tree) → HasPair ps l u → key_cmp k l ≡ Equal → ⊥
+apart_from : (k : List ℕ) (ps : List KeyAndTree) → AllByRecursion (λ l. same_place k l ≡ false) (keys_of ps) → (l : List ℕ) (u : Tree) → HasPair ps l u → key_cmp k l ≡ Equal → ⊥
 apart_from k [] d l u h e = h
 apart_from k (p ∷ ps) d l u (inl same) e = let differ : true ≡ false = sym (ap is_eq e) ∙ ap (same_place k) (sym same.0) ∙ d.0 in absurd (cc differ)
 apart_from k (p ∷ ps) d l u (inr more) e = apart_from k ps d.1 l u more e
 
-pub rising_ordered : (ps : List Pair) → AreDistinct ps → IsRising (ordered_entries ps)
+pub rising_ordered : (ps : List KeyAndTree) → AreDistinct ps → IsRising (ordered_entries ps)
 unfolding IsDistinct
 rising_ordered [] d = tt
 rising_ordered (p ∷ ps) d = rising_insert p.0 p.1 (ordered_entries ps) (rising_ordered ps d.1) (λ l u h. apart_from p.0 ps d.0 l u (has_ordered ps l u h))
 
 -- ---- a sorted list of the same pairs
 
-abbrev pub IsSortedList : List Pair → Type 0
+abbrev pub IsSortedList : List KeyAndTree → Type 0
 IsSortedList ps = IsStrictlySortedBy key_cmp (keys_of ps)
 
 distinct_from_below : (k : List ℕ) (ks : List (List ℕ)) → AllByRecursion (λ l. key_cmp k l ≡ Less) ks → AllByRecursion (λ l. same_place k l ≡ false) ks
@@ -176,31 +176,31 @@ unfolding IsDistinct IsStrictlySortedBy
 distinct_from_sorted [] h = tt
 distinct_from_sorted (k ∷ ks) h = (distinct_from_below k ks h.0, distinct_from_sorted ks h.1)
 
-in_front : (k : List ℕ) (t : Tree) (ps : List Pair) → AllByRecursion (λ l. key_cmp k l ≡ Less) (keys_of ps) → insert k t (entries_of ps) ≡ entry k t (entries_of ps)
+in_front : (k : List ℕ) (t : Tree) (ps : List KeyAndTree) → AllByRecursion (λ l. key_cmp k l ≡ Less) (keys_of ps) → insert k t (entries_of ps) ≡ entry k t (entries_of ps)
 in_front k t [] h = refl
 in_front k t (p ∷ ps) h = ap (λ o. cond (is_lt o) (entry k t (entry p.0 p.1 (entries_of ps))) (entry p.0 p.1 (insert k t (entries_of ps)))) h.0
 
 -- pairs that are sorted stay as they stand
-pub ordered_sorted : (ps : List Pair) → IsSortedList ps → ordered_entries ps ≡ entries_of ps
+pub ordered_sorted : (ps : List KeyAndTree) → IsSortedList ps → ordered_entries ps ≡ entries_of ps
 unfolding IsStrictlySortedBy
 ordered_sorted [] h = refl
 ordered_sorted (p ∷ ps) h = ap (insert p.0 p.1) (ordered_sorted ps h.1) ∙ in_front p.0 p.1 ps h.0
 
-has_from_contains : (ps : List Pair) (i : ℕ) (e : Pair) → i < length ps → get_or ps i e ≡ e → HasPair ps e.0 e.1
+has_from_contains : (ps : List KeyAndTree) (i : ℕ) (e : KeyAndTree) → i < length ps → get_or ps i e ≡ e → HasPair ps e.0 e.1
 has_from_contains [] i e lt is = absurd (omega arith)
 has_from_contains (p ∷ ps) zero e lt is = inl (ap (λ q. q.0) is, ap (λ q. q.1) is)
 has_from_contains (p ∷ ps) (suc i) e lt is = inr (has_from_contains ps i e (omega arith) is)
 
-contains_from_has : (ps : List Pair) (k : List ℕ) (t : Tree) → HasPair ps k t → Contains ps (k, t)
+contains_from_has : (ps : List KeyAndTree) (k : List ℕ) (t : Tree) → HasPair ps k t → Contains ps (k, t)
 contains_from_has [] k t h = absurd h
 contains_from_has (p ∷ ps) k t (inl same) = (0, omega arith, λ i. (same.0 i, same.1 i))
 contains_from_has (p ∷ ps) k t (inr more) = let c = contains_from_has ps k t more in (suc c.0, omega (arith, c.1), c.2)
 
-has_moved : (ps qs : List Pair) → IsPermutation ps qs → (k : List ℕ) (t : Tree) → HasPair ps k t → HasPair qs k t
+has_moved : (ps qs : List KeyAndTree) → IsPermutation ps qs → (k : List ℕ) (t : Tree) → HasPair ps k t → HasPair qs k t
 has_moved ps qs moved k t h = let c = Contains-permutation ps qs (k, t) moved (contains_from_has ps k t h) in has_from_contains qs c.0 (k, t) c.1 c.2
 
 -- pairs of distinct keys have one order, in whichever order they come
-pub ordered_moved : (ps qs : List Pair) → AreDistinct ps → AreDistinct qs → IsPermutation ps qs → ordered_entries ps ≡ ordered_entries qs
+pub ordered_moved : (ps qs : List KeyAndTree) → AreDistinct ps → AreDistinct qs → IsPermutation ps qs → ordered_entries ps ≡ ordered_entries qs
 ordered_moved ps qs d f moved = same_entries (ordered_entries ps) (ordered_entries qs) (rising_ordered ps d) (rising_ordered qs f)
     (λ k t h. ordered_has qs k t (has_moved ps qs moved k t (has_ordered ps k t h)))
     (λ k t h. ordered_has ps k t (has_moved qs ps (IsPermutation-sym ps qs moved) k t (has_ordered qs k t h)))
@@ -214,7 +214,7 @@ same_place_flips k l = ap is_eq (key_cmp_total.antisymm k l) ∙ turned (key_cmp
     turned Greater = refl
 
 -- what a sort of the pairs gives is their order
-pub ordered_by_sort : (ps qs : List Pair) → IsPermutation ps qs → IsSortedList qs → AreDistinct ps × (ordered_entries ps ≡ entries_of qs)
+pub ordered_by_sort : (ps qs : List KeyAndTree) → IsPermutation ps qs → IsSortedList qs → AreDistinct ps × (ordered_entries ps ≡ entries_of qs)
 ordered_by_sort ps qs moved sorted =
     let there = distinct_from_sorted (keys_of qs) sorted in
     let here : AreDistinct ps = IsDistinct-IsPermutation same_place same_place_flips (keys_of qs) (keys_of ps) (IsPermutation-map (λ p. p.0) qs ps (IsPermutation-sym ps qs moved)) there in
@@ -222,20 +222,20 @@ ordered_by_sort ps qs moved sorted =
 
 -- ---- the test of a repeated key
 
-all_apart : (k : List ℕ) (ps : List Pair) → has_key k ps ≡ false → AllByRecursion (λ l. same_place k l ≡ false) (keys_of ps)
+all_apart : (k : List ℕ) (ps : List KeyAndTree) → has_key k ps ≡ false → AllByRecursion (λ l. same_place k l ≡ false) (keys_of ps)
 all_apart k [] h = tt
 all_apart k (p ∷ ps) h = let both = or_false _ _ h in (both.0, all_apart k ps both.1)
 
-none_same : (k : List ℕ) (ps : List Pair) → AllByRecursion (λ l. same_place k l ≡ false) (keys_of ps) → has_key k ps ≡ false
+none_same : (k : List ℕ) (ps : List KeyAndTree) → AllByRecursion (λ l. same_place k l ≡ false) (keys_of ps) → has_key k ps ≡ false
 none_same k [] h = refl
 none_same k (p ∷ ps) h = ap₂ (λ a b. a || b) h.0 (none_same k ps h.1)
 
-pub distinct_from_test : (ps : List Pair) → repeats_key ps ≡ false → AreDistinct ps
+pub distinct_from_test : (ps : List KeyAndTree) → repeats_key ps ≡ false → AreDistinct ps
 unfolding IsDistinct
 distinct_from_test [] h = tt
 distinct_from_test (p ∷ ps) h = let both = or_false _ _ h in (all_apart p.0 ps both.0, distinct_from_test ps both.1)
 
-pub test_from_distinct : (ps : List Pair) → AreDistinct ps → repeats_key ps ≡ false
+pub test_from_distinct : (ps : List KeyAndTree) → AreDistinct ps → repeats_key ps ≡ false
 unfolding IsDistinct
 test_from_distinct [] d = refl
 test_from_distinct (p ∷ ps) d = ap₂ (λ a b. a || b) (none_same p.0 ps d.0) (test_from_distinct ps d.1)

@@ -9,8 +9,8 @@ use Rattle.ipld_tree.specs.Key.{bytes_cmp}
 use Rattle.ipld_tree.specs.Tree.{Tree, list, mapping, Items, no_items, item, Entries, no_entries, items_of, ordered_entries}
 use Rattle.ipld_tree.specs.Ipld.{tree_of, trees_of, pairs_of}
 use Rattle.ipld_tree.specs.declared.ipld.Ipld.{Ipld, List as List', Map as Map'}
-use Rattle.ipld_tree.proofs.Ordered.{Pair, HasPair, ordered_has, has_ordered}
-use Rattle.ipld_tree.proofs.Trees.{Entry, tree_of_List, tree_of_Map}
+use Rattle.ipld_tree.proofs.Ordered.{KeyAndTree, HasPair, ordered_has, has_ordered}
+use Rattle.ipld_tree.proofs.Trees.{IpldEntry, tree_of_List, tree_of_Map}
 
 -- ---- lists
 
@@ -41,27 +41,27 @@ abbrev within : Tree → Entries
 within (mapping es) = es
 within _ = no_entries
 
-abbrev IsSorted : List Pair → Type 0
+abbrev IsSorted : List KeyAndTree → Type 0
 IsSorted ps = IsStrictlySortedBy bytes_cmp (keys_of ps)
 
 pub differs : (k l : List ℕ) → bytes_cmp k l ≡ Less → k ≡ l → ⊥
 differs k l h e = let clash : Equal ≡ Less = sym (tied_itself nat_list_cmp_total k) ∙ ap (bytes_cmp k) e ∙ h in absurd (cc clash)
 
-below : (k : List ℕ) (ps : List Pair) → AllByRecursion (λ l. bytes_cmp k l ≡ Less) (keys_of ps) → (l : List ℕ) (t : Tree) → HasPair ps l t → bytes_cmp k l ≡ Less
+below : (k : List ℕ) (ps : List KeyAndTree) → AllByRecursion (λ l. bytes_cmp k l ≡ Less) (keys_of ps) → (l : List ℕ) (t : Tree) → HasPair ps l t → bytes_cmp k l ≡ Less
 below k [] a l t h = absurd h
 below k (p ∷ ps) a l t (inl same) = ap (bytes_cmp k) (sym same.0) ∙ a.0
 below k (p ∷ ps) a l t (inr more) = below k ps a.1 l t more
 
-heads : (p q : Pair) (ps qs : List Pair) → AllByRecursion (λ l. bytes_cmp p.0 l ≡ Less) (keys_of ps) → AllByRecursion (λ l. bytes_cmp q.0 l ≡ Less) (keys_of qs) → HasPair (q ∷ qs) p.0 p.1 → HasPair (p ∷ ps) q.0 q.1 → (p.0 ≡ q.0) × (p.1 ≡ q.1)
+heads : (p q : KeyAndTree) (ps qs : List KeyAndTree) → AllByRecursion (λ l. bytes_cmp p.0 l ≡ Less) (keys_of ps) → AllByRecursion (λ l. bytes_cmp q.0 l ≡ Less) (keys_of qs) → HasPair (q ∷ qs) p.0 p.1 → HasPair (p ∷ ps) q.0 q.1 → (p.0 ≡ q.0) × (p.1 ≡ q.1)
 heads p q ps qs a b (inl same) h = (sym same.0, sym same.1)
 heads p q ps qs a b (inr g) (inl same) = (same.0, same.1)
 heads p q ps qs a b (inr g) (inr h) = absurd (differs p.0 p.0 (nat_list_cmp_total.trans p.0 q.0 p.0 (below p.0 ps a q.0 q.1 h) (below q.0 qs b p.0 p.1 g)) refl)
 
-others : (p q : Pair) (ps qs : List Pair) (m : List ℕ) (v : Tree) → AllByRecursion (λ l. bytes_cmp p.0 l ≡ Less) (keys_of ps) → p.0 ≡ q.0 → HasPair ps m v → HasPair (q ∷ qs) m v → HasPair qs m v
+others : (p q : KeyAndTree) (ps qs : List KeyAndTree) (m : List ℕ) (v : Tree) → AllByRecursion (λ l. bytes_cmp p.0 l ≡ Less) (keys_of ps) → p.0 ≡ q.0 → HasPair ps m v → HasPair (q ∷ qs) m v → HasPair qs m v
 others p q ps qs m v a e h (inl same) = absurd (differs p.0 m (below p.0 ps a m v h) (e ∙ same.0))
 others p q ps qs m v a e h (inr more) = more
 
-same_pairs : (ps qs : List Pair) → IsSorted ps → IsSorted qs → ((k : List ℕ) (t : Tree) → HasPair ps k t → HasPair qs k t) → ((k : List ℕ) (t : Tree) → HasPair qs k t → HasPair ps k t) → ps ≡ qs
+same_pairs : (ps qs : List KeyAndTree) → IsSorted ps → IsSorted qs → ((k : List ℕ) (t : Tree) → HasPair ps k t → HasPair qs k t) → ((k : List ℕ) (t : Tree) → HasPair qs k t → HasPair ps k t) → ps ≡ qs
 unfolding IsStrictlySortedBy
 same_pairs [] [] r s f g = refl
 same_pairs [] (q ∷ qs) r s f g = absurd (g q.0 q.1 (inl (refl, refl)))
@@ -73,16 +73,16 @@ same_pairs (p ∷ ps) (q ∷ qs) r s f g =
     (λ m v h. others q p qs ps m v s.0 (sym first.0) h (g m v (inr h))) in
     λ i. (first.0 i, first.1 i) ∷ more i
 
-same_from_ordered : (ps qs : List Pair) → IsSorted ps → IsSorted qs → ordered_entries ps ≡ ordered_entries qs → ps ≡ qs
+same_from_ordered : (ps qs : List KeyAndTree) → IsSorted ps → IsSorted qs → ordered_entries ps ≡ ordered_entries qs → ps ≡ qs
 same_from_ordered ps qs r s e = same_pairs ps qs r s
     (λ k t h. has_ordered qs k t (rw (sym e) (ordered_has ps k t h)))
     (λ k t h. has_ordered ps k t (rw e (ordered_has qs k t h)))
 
-all_named : (k : String Global) (es : List Entry) → AllByRecursion (λ l. string_cmp k l ≡ Less) (keys_of es) → AllByRecursion (λ l. bytes_cmp (string_bytes k) l ≡ Less) (keys_of (pairs_of es))
+all_named : (k : String Global) (es : List IpldEntry) → AllByRecursion (λ l. string_cmp k l ≡ Less) (keys_of es) → AllByRecursion (λ l. bytes_cmp (string_bytes k) l ≡ Less) (keys_of (pairs_of es))
 all_named k [] h = tt
 all_named k (e ∷ es) h = (h.0, all_named k es h.1)
 
-pub sorted_pairs : (es : List Entry) → IsStrictlySortedBy string_cmp (keys_of es) → IsSorted (pairs_of es)
+pub sorted_pairs : (es : List IpldEntry) → IsStrictlySortedBy string_cmp (keys_of es) → IsSorted (pairs_of es)
 unfolding IsStrictlySortedBy
 sorted_pairs [] h = tt
 sorted_pairs (e ∷ es) h = (all_named e.0 es h.0, sorted_pairs es h.1)

@@ -14,8 +14,8 @@ use Rattle.ipld_tree.specs.Tree.{Tree, text, bytes, list, mapping, Items, Entrie
 use Rattle.ipld_tree.specs.Ipld.{tree_of, trees_of, pairs_of}
 use Rattle.ipld_tree.specs.declared.ipld.Ipld.{Ipld, String as String', Bytes as Bytes', List as List', Map as Map', the_lemmas}
 
-abbrev pub Entry : Type 0
-Entry = String Global × Ipld
+abbrev pub IpldEntry : Type 0
+IpldEntry = String Global × Ipld
 
 abbrev pub items_tree : List Ipld → Items
 items_tree xs = items_of (trees_of xs)
@@ -71,7 +71,7 @@ need_of_map j m limit need r is all e =
     let same = ap (λ ts. items_need (items_of ts)) (values_of m.entries) in
     omega (arith, whole, each, same)
   where
-    values_of : (es : List Entry) → map (λ p. p.1) (pairs_of es) ≡ trees_of (map (λ e. e.1) es)
+    values_of : (es : List IpldEntry) → map (λ p. p.1) (pairs_of es) ≡ trees_of (map (λ e. e.1) es)
     values_of [] = refl
     values_of (e ∷ es) = ap (λ ts. tree_of e.1 ∷ ts) (values_of es)
 
@@ -86,24 +86,24 @@ tree_of_Bytes v = search (rules, the_lemmas)
 pub bytes_copied : (j : Ipld) (v w : Vec ℕ Global) → j ≡ Bytes' v → w.items ≡ v.items → tree_of (Bytes' w) ≡ tree_of j
 bytes_copied j v w is e = tree_of_Bytes w ∙ ap bytes e ∙ sym (tree_of_Bytes v) ∙ ap tree_of (sym is)
 
-pairs_of_match_ordering : (o : Ordering) (a b c : List Entry) → pairs_of (match_ordering o a b c) ≡ match_ordering o (pairs_of a) (pairs_of b) (pairs_of c)
+pairs_of_match_ordering : (o : Ordering) (a b c : List IpldEntry) → pairs_of (match_ordering o a b c) ≡ match_ordering o (pairs_of a) (pairs_of b) (pairs_of c)
 pairs_of_match_ordering Less a b c = refl
 pairs_of_match_ordering Equal a b c = refl
 pairs_of_match_ordering Greater a b c = refl
 
 -- what a `BTreeMap` does at a key, on the pairs
-pub pairs_of_insert_entry : (es : List Entry) (k : String Global) (j : Ipld) → pairs_of (insert_entry string_cmp es k j) ≡ insert_entry bytes_cmp (pairs_of es) (string_bytes k) (tree_of j)
+pub pairs_of_insert_entry : (es : List IpldEntry) (k : String Global) (j : Ipld) → pairs_of (insert_entry string_cmp es k j) ≡ insert_entry bytes_cmp (pairs_of es) (string_bytes k) (tree_of j)
 pairs_of_insert_entry [] k j = refl
 pairs_of_insert_entry (e ∷ es) k j =
     pairs_of_match_ordering (string_cmp k e.0) ((k, j) ∷ e ∷ es) ((e.0, j) ∷ es) (e ∷ insert_entry string_cmp es k j)
     ∙ ap (λ ps. match_ordering (string_cmp k e.0) ((string_bytes k, tree_of j) ∷ pairs_of (e ∷ es)) ((string_bytes e.0, tree_of j) ∷ pairs_of es) ((string_bytes e.0, tree_of e.1) ∷ ps)) (pairs_of_insert_entry es k j)
 
-below_middle : (first : Entry) (es : List Entry) (e : Entry) (more : List Entry) → AllByRecursion (λ y. string_cmp first.0 y ≡ Less) (keys_of (es ++ e ∷ more)) → string_cmp first.0 e.0 ≡ Less
+below_middle : (first : IpldEntry) (es : List IpldEntry) (e : IpldEntry) (more : List IpldEntry) → AllByRecursion (λ y. string_cmp first.0 y ≡ Less) (keys_of (es ++ e ∷ more)) → string_cmp first.0 e.0 ≡ Less
 below_middle first [] e more h = h.0
 below_middle first (x ∷ es) e more h = below_middle first es e more h.1
 
 -- a key that is above those before it goes last
-last_pair : (done : List Entry) (e : Entry) (more : List Entry) (t : Tree) → IsStrictlySortedBy string_cmp (keys_of (done ++ e ∷ more))
+last_pair : (done : List IpldEntry) (e : IpldEntry) (more : List IpldEntry) (t : Tree) → IsStrictlySortedBy string_cmp (keys_of (done ++ e ∷ more))
     → insert_entry bytes_cmp (pairs_of done) (string_bytes e.0) t ≡ pairs_of done ++ (string_bytes e.0, t) ∷ []
 unfolding IsStrictlySortedBy
 last_pair [] e more t h = refl
@@ -112,14 +112,14 @@ last_pair (first ∷ done) e more t h =
     nat_list_cmp_total.antisymm (string_bytes e.0) (string_bytes first.0) ∙ ap ordering_reverse (below_middle first done e more h.0) in
     rw above (ap (λ ps. (string_bytes first.0, tree_of first.1) ∷ ps) (last_pair done e more t h.1))
 
-pairs_of_push : (es : List Entry) (e : Entry) → pairs_of (es ++ e ∷ []) ≡ pairs_of es ++ (string_bytes e.0, tree_of e.1) ∷ []
+pairs_of_push : (es : List IpldEntry) (e : IpldEntry) → pairs_of (es ++ e ∷ []) ≡ pairs_of es ++ (string_bytes e.0, tree_of e.1) ∷ []
 pairs_of_push [] e = refl
 pairs_of_push (x ∷ es) e = ap (λ ps. (string_bytes x.0, tree_of x.1) ∷ ps) (pairs_of_push es e)
 
-pub next_pair : (e : Entry) (k : String Global) (j : Ipld) (entries all copies new left more : List Entry) → left ≡ e ∷ more → all ≡ entries → IsStrictlySortedBy string_cmp (keys_of entries)
+pub next_entry_tree : (e : IpldEntry) (k : String Global) (j : Ipld) (entries all copies new left more : List IpldEntry) → left ≡ e ∷ more → all ≡ entries → IsStrictlySortedBy string_cmp (keys_of entries)
     → string_bytes k ≡ string_bytes e.0 → tree_of j ≡ tree_of e.1 → new ≡ insert_entry string_cmp copies k j
-    → (done : List Entry) × (all ≡ done ++ left) × (pairs_of copies ≡ pairs_of done) → (done : List Entry) × (all ≡ done ++ more) × (pairs_of new ≡ pairs_of done)
-next_pair e k j entries all copies new left more is same sorted key tree put h =
+    → (done : List IpldEntry) × (all ≡ done ++ left) × (pairs_of copies ≡ pairs_of done) → (done : List IpldEntry) × (all ≡ done ++ more) × (pairs_of new ≡ pairs_of done)
+next_entry_tree e k j entries all copies new left more is same sorted key tree put h =
     let whole : all ≡ h.0 ++ e ∷ more = h.1 ∙ ap (λ es. h.0 ++ es) is in (
       h.0 ++ e ∷ [],
       whole ∙ sym (append_assoc h.0 (e ∷ []) more),

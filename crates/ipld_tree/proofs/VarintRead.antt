@@ -21,7 +21,7 @@ pub record HasRest (bytes : List ℕ) (i unit left n : ℕ) (x y : List ℕ) : T
   pub is : drop i bytes ++ x ≡ varint_groups (suc left) rest ++ y
 
 -- the first i groups are read, and their bits make the number
-pub record IsRead (bytes : List ℕ) (i number unit : ℕ) : Type 0 where
+pub record IsVarintRead (bytes : List ℕ) (i number unit : ℕ) : Type 0 where
   pub left : ℕ
   pub few : i + left ≡ 9
   pub unit_is : unit ≡ 128 ^ i
@@ -29,9 +29,9 @@ pub record IsRead (bytes : List ℕ) (i number unit : ℕ) : Type 0 where
   pub goes_on : (m : ℕ) → IsRest i m → varint (number + m * unit) ≡ take i bytes ++ varint_groups (suc left) m
   pub only_so : (n : ℕ) (x y : List ℕ) → n < 2 ^ 64 → bytes ++ x ≡ varint n ++ y → HasRest bytes i unit left n x y
 
-pub none_read : (bytes : List ℕ) → IsRead bytes 0 0 1
+pub no_varint_byte_read : (bytes : List ℕ) → IsVarintRead bytes 0 0 1
 unfolding varint
-none_read bytes = record {
+no_varint_byte_read bytes = record {
   left = 9;
   few = refl;
   unit_is = refl;
@@ -88,13 +88,13 @@ one_taken bytes i g s h is =
 one_dropped : (bytes : List ℕ) (i g : ℕ) → i < length bytes → g ≡ get_or bytes i 0 → drop i bytes ≡ g ∷ drop (i + 1) bytes
 one_dropped bytes i g h is = drop-cons bytes i 0 h ∙ (λ j. sym is j ∷ drop (sym (add-one i) j) bytes)
 
-pub one_read : (bytes : List ℕ) (i number unit g bits : ℕ) → IsRead bytes i number unit → i < length bytes → g ≡ get_or bytes i 0 → 128 ≤ g → g < 256 → bits ≡ g % 128
-    → ((g ≡ 0) × (0 < i) ⊎ (i ≡ 9) × (g ≢ 1) → ⊥) → IsRead bytes (i + 1) (number + bits * unit) (unit * 128)
-one_read bytes i number unit g bits r here is long byte low ok = by r.left r.few r.goes_on r.only_so
+pub one_varint_byte_read : (bytes : List ℕ) (i number unit g bits : ℕ) → IsVarintRead bytes i number unit → i < length bytes → g ≡ get_or bytes i 0 → 128 ≤ g → g < 256 → bits ≡ g % 128
+    → ((g ≡ 0) × (0 < i) ⊎ (i ≡ 9) × (g ≢ 1) → ⊥) → IsVarintRead bytes (i + 1) (number + bits * unit) (unit * 128)
+one_varint_byte_read bytes i number unit g bits r here is long byte low ok = by r.left r.few r.goes_on r.only_so
   where
     by : (left : ℕ) → i + left ≡ 9 → ((m : ℕ) → IsRest i m → varint (number + m * unit) ≡ take i bytes ++ varint_groups (suc left) m)
         → ((n : ℕ) (x y : List ℕ) → n < 2 ^ 64 → bytes ++ x ≡ varint n ++ y → HasRest bytes i unit left n x y)
-        → IsRead bytes (i + 1) (number + bits * unit) (unit * 128)
+        → IsVarintRead bytes (i + 1) (number + bits * unit) (unit * 128)
     by zero few goes only = absurd (ok (inr (omega arith, λ one. omega (arith, one))))
     by (suc k) few goes only = record {
       left = k;
@@ -135,7 +135,7 @@ one_read bytes i number unit g bits r here is long byte low ok = by r.left r.few
 -- ---- the ends
 
 -- a last group that stands at its place ends a varint
-pub last_read : (bytes : List ℕ) (i number unit g bits : ℕ) → IsRead bytes i number unit → i < length bytes → g ≡ get_or bytes i 0 → g < 128 → bits ≡ g % 128
+pub last_read : (bytes : List ℕ) (i number unit g bits : ℕ) → IsVarintRead bytes i number unit → i < length bytes → g ≡ get_or bytes i 0 → g < 128 → bits ≡ g % 128
     → ((g ≡ 0) × (0 < i) ⊎ (i ≡ 9) × (g ≢ 1) → ⊥) → (number + bits * unit < 2 ^ 64) × (bytes ≡ varint (number + bits * unit) ++ drop (i + 1) bytes)
 last_read bytes i number unit g bits r here is short low ok = (fits (cases_eq i 9), whole)
   where
@@ -168,8 +168,8 @@ last_read bytes i number unit g bits r here is short low ok = (fits (cases_eq i 
         ∙ ap (λ v. v ++ drop (i + 1) bytes) (sym ends)
 
 -- where all bytes are groups with more to come, a 01 would end a varint
-pub all_read : (bytes : List ℕ) (i number unit : ℕ) → IsRead bytes i number unit → length bytes ≤ i → IsCutVarint bytes
-all_read bytes i number unit r past =
+pub all_varint_bytes_read : (bytes : List ℕ) (i number unit : ℕ) → IsVarintRead bytes i number unit → length bytes ≤ i → IsCutVarint bytes
+all_varint_bytes_read bytes i number unit r past =
     let most = unit_at_most i r.left unit r.few r.unit_is in
     let bound = r.below in
     let one = one-mul unit in (
@@ -181,7 +181,7 @@ all_read bytes i number unit r past =
     )
 
 -- no varint has a group that is misplaced
-pub none_from_misplaced : (bytes : List ℕ) (i number unit g : ℕ) → IsRead bytes i number unit → i < length bytes → g ≡ get_or bytes i 0 → (g ≡ 0) × (0 < i) ⊎ (i ≡ 9) × (g ≢ 1) → IsNoVarint bytes
+pub none_from_misplaced : (bytes : List ℕ) (i number unit g : ℕ) → IsVarintRead bytes i number unit → i < length bytes → g ≡ get_or bytes i 0 → (g ≡ 0) × (0 < i) ⊎ (i ≡ 9) × (g ≢ 1) → IsNoVarint bytes
 none_from_misplaced bytes i number unit g r here is misplaced n x y fits e = by (r.only_so n x y fits e)
   where
     by : HasRest bytes i unit r.left n x y → ⊥

@@ -1,10 +1,10 @@
 use Rattle.std.proofs.Common.{arith}
-use Rattle.dagcbor_heads.proofs.Arguments.{cut, one_read, none_read}
+use Rattle.dagcbor_heads.proofs.Arguments.{cut, one_byte_read, no_byte_read}
 use Rattle.dagcbor_heads.proofs.Looking.{looks_both, looks_then, once_left, nothing_looked}
 use Rattle.dagcbor_heads.proofs.pull.pull_argument.Goals as goal
 
 pub loop-i-init : goal.loop-i-init
-loop-i-init g c = record { read = none_read _; looked = nothing_looked _; at_most = omega arith }
+loop-i-init g c = record { read = no_byte_read _; looked = nothing_looked _; at_most = omega arith }
 
 pub returns-in-Ok-None-clause-taken : goal.returns-in-Ok-None-clause-taken
 returns-in-Ok-None-clause-taken g c =
@@ -19,7 +19,7 @@ returns-in-Err-clause-looked g c = looks_then c.loop-i.invariant.looked (once_le
 
 pub loop-i-preserved : goal.loop-i-preserved
 loop-i-preserved g c = record {
-  read = rw c.from.ensures (one_read (rw c.in-Ok-Some.field-0-is at c.in-Ok-Some.ensures.is_byte) c.loop-i.invariant.read (rw c.in-Ok-Some.field-0-is at c.in-Ok-Some.ensures.taken));
+  read = rw c.from.ensures (one_byte_read (rw c.in-Ok-Some.field-0-is at c.in-Ok-Some.ensures.is_byte) c.loop-i.invariant.read (rw c.in-Ok-Some.field-0-is at c.in-Ok-Some.ensures.taken));
   looked = looks_both c.loop-i.invariant.looked (rw c.in-Ok-Some.field-0-is at c.in-Ok-Some.ensures.looked);
   at_most = omega (arith, c.loop-i.invariant.at_most, c.in-Ok-Some.ensures.at_most);
 }

@@ -3,14 +3,13 @@ use Rattle.std.specs.Prelude.{⊤}
 use Rattle.dagcbor_heads.proofs.Refusing.{as_refusal}
 use Rattle.dagcbor_heads.specs.Reading.{Reading}
 use Rattle.dagcbor_heads.proofs.Looking.{looks_both, looks_then, nothing_looked, same_looked}
-use Rattle.dagcbor_items.proofs.Looks.{once_left, looks_behind_peek, stepped_left}
-use Rattle.dagcbor_items.proofs.Looks as looks
+use Rattle.dagcbor_items.proofs.Looks.{once_left_more, looks_behind_peek, stepped_left, looks_stepped}
 use Rattle.ipld_tree.specs.Tree.{ordered_entries}
 use Rattle.ipld_tree.specs.Ipld.{tree_of, pairs_of}
 use Rattle.dagcbor_items.proofs.Fronts.{byte_refused}
 use Rattle.dagcbor_items.proofs.Leaves.{indefinite_refused}
 use Rattle.dagcbor_items.proofs.Steps.{no_step_left, stepped_refused, more_lacks}
-use Rattle.dagcbor_items.proofs.Lists.{list_refused, list_as_tree, next_refused, one_read, map_pushed}
+use Rattle.dagcbor_items.proofs.Lists.{list_refused, list_as_tree, next_refused, one_item_read, map_pushed}
 use Rattle.dagcbor_items.proofs.Maps as maps
 use Rattle.dagcbor_items.proofs.Entering.{enters}
 use Rattle.dagcbor_items.proofs.Pushes.{ordered_push, pushed_as}
@@ -47,7 +46,7 @@ pub read_list-returns-in_err-items-clause-looked : goal.read_list-returns-in_err
 read_list-returns-in_err-items-clause-looked g t c = as_refusal _ _ _ _ c.from_residual-in_err-items.ensures.1 (looks_then c.in_ok-count.ensures.looked c.in_err-items.ensures.looked)
 
 pub read_list-returns-clause-looked : goal.read_list-returns-clause-looked
-read_list-returns-clause-looked g t c = looks.stepped_taken _ refl (looks_both c.in_ok-count.ensures.looked c.in_ok-items.ensures.looked) c.step_out.ensures
+read_list-returns-clause-looked g t c = looks_stepped _ refl (looks_both c.in_ok-count.ensures.looked c.in_ok-items.ensures.looked) c.step_out.ensures
 
 pub read_items-returns-in_err-item-clause-items : goal.read_items-returns-in_err-item-clause-items
 read_items-returns-in_err-item-clause-items g t c =
@@ -55,7 +54,7 @@ read_items-returns-in_err-item-clause-items g t c =
 
 pub read_items-loop-index-preserved : goal.read_items-loop-index-preserved
 read_items-loop-index-preserved g t c = record {
-  read = one_read _ _ (map_pushed tree_of c.push.result _ _ _ c.if-is_err-2.ensures.value (rw c.take_first_room.ensures at c.push.ensures.items)) (omega arith) c.loop-index.invariant.read c.in_ok-item.ensures.item;
+  read = one_item_read _ _ (map_pushed tree_of c.push.result _ _ _ c.if-is_err-2.ensures.value (rw c.take_first_room.ensures at c.push.ensures.items)) (omega arith) c.loop-index.invariant.read c.in_ok-item.ensures.item;
   looked = looks_both c.loop-index.invariant.looked c.in_ok-item.ensures.looked;
 }
 
@@ -82,11 +81,11 @@ pub read_map-returns-in_err-entries-clause-looked : goal.read_map-returns-in_err
 read_map-returns-in_err-entries-clause-looked g t c = as_refusal _ _ _ _ c.from_residual-in_err-entries.ensures.1 (looks_then c.in_ok-count.ensures.looked c.in_err-entries.ensures.looked)
 
 pub read_map-returns-clause-looked : goal.read_map-returns-clause-looked
-read_map-returns-clause-looked g t c = looks.stepped_taken _ refl (looks_both c.in_ok-count.ensures.looked c.in_ok-entries.ensures.looked) c.step_out.ensures
+read_map-returns-clause-looked g t c = looks_stepped _ refl (looks_both c.in_ok-count.ensures.looked c.in_ok-entries.ensures.looked) c.step_out.ensures
 
 pub read_entries-loop-index-init : goal.read_entries-loop-index-init
 read_entries-loop-index-init g t c = record {
-  read = maps.none_read _ _ _ _ _ (omega arith) (ap (λ es. ordered_entries (pairs_of es)) c.new-entries.ensures.empty) refl;
+  read = maps.no_entry_read _ _ _ _ _ (omega arith) (ap (λ es. ordered_entries (pairs_of es)) c.new-entries.ensures.empty) refl;
   looked = nothing_looked _;
 }
 
@@ -113,7 +112,7 @@ read_entries-loop-index-preserved g t c =
     let same = c.in-Ok.ensures.ok ∙ c.as_str.ensures.value in
     let pushed = ordered_push _ _ _ _ put c.insert.ensures.was_ordered c.insert.ensures.ordered (follows_as _ _ _ (sym same) behind) in
     record {
-      read = maps.one_read _ _ _ _ (pushed_as _ _ _ _ _ same pushed) refl (omega arith) c.loop-index.invariant.read follows c.in_ok-key.ensures.key.1 c.in_ok-value.ensures.item;
+      read = maps.one_entry_read _ _ _ _ (pushed_as _ _ _ _ _ same pushed) refl (omega arith) c.loop-index.invariant.read follows c.in_ok-key.ensures.key.1 c.in_ok-value.ensures.item;
       looked = looks_both (looks_both c.loop-index.invariant.looked c.in_ok-key.ensures.looked) c.in_ok-value.ensures.looked;
     }
 
@@ -124,13 +123,13 @@ pub read_any-returns-in_err-value-clause-looked : goal.read_any-returns-in_err-v
 read_any-returns-in_err-value-clause-looked g t c = as_refusal _ _ _ _ c.from_residual-in_err-value.ensures.1 (stepped_left _ c.in_ok-spend_step.ensures.is c.in_err-value.ensures.looked)
 
 pub read_any-returns-clause-looked : goal.read_any-returns-clause-looked
-read_any-returns-clause-looked g t c = looks.stepped_taken _ c.in_ok-spend_step.ensures.is c.in_ok-value.ensures.looked c.step_out.ensures
+read_any-returns-clause-looked g t c = looks_stepped _ c.in_ok-spend_step.ensures.is c.in_ok-value.ensures.looked c.step_out.ensures
 
 pub read_item-returns-in_err-first-clause-looked : goal.read_item-returns-in_err-first-clause-looked
-read_item-returns-in_err-first-clause-looked g t c = as_refusal _ _ _ _ c.from_residual.ensures.1 (once_left 3 (omega arith) c.in_err-first.ensures.looked)
+read_item-returns-in_err-first-clause-looked g t c = as_refusal _ _ _ _ c.from_residual.ensures.1 (once_left_more 3 (omega arith) c.in_err-first.ensures.looked)
 
 pub read_item-returns-then-is_indefinite-clause-looked : goal.read_item-returns-then-is_indefinite-clause-looked
-read_item-returns-then-is_indefinite-clause-looked g t c = once_left 3 (omega arith) c.in_ok-first.ensures.looked
+read_item-returns-then-is_indefinite-clause-looked g t c = once_left_more 3 (omega arith) c.in_ok-first.ensures.looked
 
 pub read_item-returns-clause-looked : goal.read_item-returns-clause-looked
 read_item-returns-clause-looked g t c = looks_behind_peek 3 _ _ c.in_ok-first.ensures.looked c.in_ok-first.ensures.shown c.read_of_major.ensures.looked

@@ -1,7 +1,7 @@
 use Rattle.std.proofs.Common.{ap, refl}
 use Rattle.dagcbor_heads.proofs.Refusing.{as_refusal}
 use Rattle.dagcbor_heads.specs.Reading.{Reading}
-use Rattle.dagcbor_items.proofs.Looks.{head_taken, stepped_left, stepped_taken}
+use Rattle.dagcbor_items.proofs.Looks.{head_taken, stepped_left, looks_stepped}
 use Rattle.dagcbor_items.proofs.Fronts.{head_refused}
 use Rattle.dagcbor_items.proofs.Steps.{stepped_refused}
 use Rattle.dagcbor_items.proofs.Entering.{no_step_inside, enters_parts, parts_left, parts_unread}
@@ -25,4 +25,4 @@ returns-in_err-count-clause-looked g c =
     as_refusal _ _ _ _ c.from_residual-in_err-count.ensures.1 (parts_left c.requires (stepped_left _ c.in_ok-spend_step.ensures.is c.in_err-count.ensures.looked))
 
 pub returns-clause-looked : goal.returns-clause-looked
-returns-clause-looked g c = stepped_taken _ c.in_ok-spend_step.ensures.is (head_taken c.in_ok-count.ensures.looked c.in_ok-count.ensures.taken) refl
+returns-clause-looked g c = looks_stepped _ c.in_ok-spend_step.ensures.is (head_taken c.in_ok-count.ensures.looked c.in_ok-count.ensures.taken) refl

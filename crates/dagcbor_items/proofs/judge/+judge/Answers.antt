@@ -1,5 +1,5 @@
 use Rattle.std.proofs.Common.{arith, refl}
-use Rattle.dagcbor_items.proofs.Judging.{no_front, no_step, list_left, no_list_step, no_list, none_passed, one_passed, no_more, all_passed, map_left, no_map_step, no_map, no_entry_passed, one_entry_passed, no_key, no_order, no_value, all_entries_passed, leaf_judged}
+use Rattle.dagcbor_items.proofs.Judging.{no_front, no_step, list_left, no_list_step, no_list, none_passed, one_passed, no_item_there, all_passed, map_left, no_map_step, no_map, no_entry_passed, one_entry_passed, no_key_there, no_key_in_order, no_value, all_entries_passed, leaf_judged}
 use Rattle.dagcbor_items.proofs.judge.+judge.Goals as goal
 
 pub behind_item-returns-in_err-major : goal.behind_item-returns-in_err-major
@@ -37,10 +37,10 @@ pub left_behind_entries-loop-index-init : goal.left_behind_entries-loop-index-in
 left_behind_entries-loop-index-init t c = no_entry_passed _ _ _
 
 pub left_behind_entries-returns-in_err-key : goal.left_behind_entries-returns-in_err-key
-left_behind_entries-returns-in_err-key t c = rw c.from_residual.ensures (no_key _ _ _ _ _ _ (omega arith) c.loop-index.invariant c.in_err-key.ensures)
+left_behind_entries-returns-in_err-key t c = rw c.from_residual.ensures (no_key_there _ _ _ _ _ _ (omega arith) c.loop-index.invariant c.in_err-key.ensures)
 
 pub left_behind_entries-returns-then-not-follows : goal.left_behind_entries-returns-then-not-follows
-left_behind_entries-returns-then-not-follows t c = no_order _ _ _ _ _ _ _ _ (omega arith) c.loop-index.invariant c.in_ok-key.ensures (λ f. cc (c.follows.ensures.1 f, c.if-not-follows.true))
+left_behind_entries-returns-then-not-follows t c = no_key_in_order _ _ _ _ _ _ _ _ (omega arith) c.loop-index.invariant c.in_ok-key.ensures (λ f. cc (c.follows.ensures.1 f, c.if-not-follows.true))
 
 pub left_behind_entries-returns-in_err-rest : goal.left_behind_entries-returns-in_err-rest
 left_behind_entries-returns-in_err-rest t c = rw c.from_residual-in_err-rest.ensures (no_value _ _ _ _ _ _ _ _ (omega arith) c.loop-index.invariant c.in_ok-key.ensures c.in_err-rest.ensures)
@@ -56,7 +56,7 @@ pub left_behind_items-loop-index-init : goal.left_behind_items-loop-index-init
 left_behind_items-loop-index-init t c = none_passed _ _ _
 
 pub left_behind_items-returns-in_err-rest : goal.left_behind_items-returns-in_err-rest
-left_behind_items-returns-in_err-rest t c = rw c.from_residual.ensures (no_more _ _ _ _ _ (omega arith) c.loop-index.invariant c.in_err-rest.ensures)
+left_behind_items-returns-in_err-rest t c = rw c.from_residual.ensures (no_item_there _ _ _ _ _ (omega arith) c.loop-index.invariant c.in_err-rest.ensures)
 
 pub left_behind_items-loop-index-preserved : goal.left_behind_items-loop-index-preserved
 left_behind_items-loop-index-preserved t c = one_passed _ _ _ _ _ _ (omega arith) c.loop-index.invariant c.in_ok-rest.ensures

@@ -1,4 +1,4 @@
-use Rattle.dagcbor_items.proofs.Judging.{no_front, no_cid_of, no_cid_payload, no_zero_byte, other_byte, no_cid_there, cid_passed}
+use Rattle.dagcbor_items.proofs.Judging.{no_front, no_cid_of, no_cid_payload, no_zero_byte, no_zero_at_front, no_cid_there, cid_passed}
 use Rattle.dagcbor_items.proofs.judge.behind_cid.Goals as goal
 
 pub returns-in_err-major : goal.returns-in_err-major
@@ -14,7 +14,7 @@ pub returns-in_err-zero : goal.returns-in_err-zero
 returns-in_err-zero c = rw c.from_residual-in_err-zero.ensures (no_zero_byte _ _ c.in_ok-major.behind.now _ _ (rw c.if-major-ne2.false at c.in_ok-major.ensures) c.in_ok-payload.ensures c.in_err-zero.ensures.cases)
 
 pub returns-then-zero-ne0 : goal.returns-then-zero-ne0
-returns-then-zero-ne0 c = other_byte _ _ _ c.in_ok-major.behind.now _ _ _ (rw c.if-major-ne2.false at c.in_ok-major.ensures) c.in_ok-payload.ensures c.in_ok-zero.ensures.cases.0 c.if-zero-ne0.true
+returns-then-zero-ne0 c = no_zero_at_front _ _ _ c.in_ok-major.behind.now _ _ _ (rw c.if-major-ne2.false at c.in_ok-major.ensures) c.in_ok-payload.ensures c.in_ok-zero.ensures.cases.0 c.if-zero-ne0.true
 
 pub returns-then-not-is_cid : goal.returns-then-not-is_cid
 returns-then-not-is_cid c = no_cid_there _ _ _ c.in_ok-major.behind.now _ _ _ (rw c.if-major-ne2.false at c.in_ok-major.ensures) c.in_ok-payload.ensures c.in_ok-zero.ensures.cases.0 (λ valid. cc (c.is_cid.ensures.1 valid, c.if-not-is_cid.true))

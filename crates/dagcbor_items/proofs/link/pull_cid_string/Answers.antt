@@ -1,7 +1,7 @@
 use Rattle.std.specs.Prelude.{None, Some}
 use Rattle.dagcbor_heads.proofs.Refusing.{as_refusal}
 use Rattle.dagcbor_items.proofs.Fronts.{head_of}
-use Rattle.dagcbor_items.proofs.Links.{cid_head_refused, too_long, cid_payload_refused, cid_taken, no_cid, found_in}
+use Rattle.dagcbor_items.proofs.Links.{cid_head_refused, link_too_long, cid_payload_refused, cid_taken, no_cid, found_in}
 use Rattle.dagcbor_heads.proofs.Looking.{looks_both}
 use Rattle.dagcbor_items.proofs.link.pull_cid_string.Goals as goal
 
@@ -9,7 +9,7 @@ pub returns-in_err-count-clause-cid : goal.returns-in_err-count-clause-cid
 returns-in_err-count-clause-cid g c = as_refusal _ _ _ _ c.from_residual.ensures.1 (cid_head_refused _ _ _ c.requires c.in_err-count.ensures.taken)
 
 pub returns-then-count-clause-cid : goal.returns-then-count-clause-cid
-returns-then-count-clause-cid g c = too_long _ c.custom.ensures (head_of 2 c.requires c.in_ok-count.ensures.taken) c.if-count.true
+returns-then-count-clause-cid g c = link_too_long _ c.custom.ensures (head_of 2 c.requires c.in_ok-count.ensures.taken) c.if-count.true
 
 pub returns-in_err-payload-clause-cid : goal.returns-in_err-payload-clause-cid
 returns-in_err-payload-clause-cid g c =

@@ -2,7 +2,7 @@ use Rattle.dagcbor_items.proofs.Links.{link_read}
 use Rattle.std.proofs.Common.{arith}
 use Rattle.dagcbor_heads.proofs.Refusing.{as_refusal}
 use Rattle.dagcbor_heads.proofs.Looking.{looks_both, looks_then}
-use Rattle.dagcbor_items.proofs.Looks.{looks_behind, taken_more, major_left, byte_taken}
+use Rattle.dagcbor_items.proofs.Looks.{looks_behind, taken_more, major_left, one_byte_taken}
 use Rattle.dagcbor_items.proofs.link.pull_link.Goals as goal
 
 pub returns-clause-link : goal.returns-clause-link
@@ -23,4 +23,4 @@ returns-in_err-pull_wanted-2-clause-peeked g c =
 pub returns-clause-peeked : goal.returns-clause-peeked
 returns-clause-peeked g c =
     let tag = taken_more 2 (omega arith) c.in_ok-pull_wanted-2.ensures.looked in
-    λ starts. looks_behind _ _ (looks_both (byte_taken c.in_ok-pull_wanted.ensures.looked c.in_ok-pull_wanted.ensures.wanted) tag) c.pull_cid.ensures.looked
+    λ starts. looks_behind _ _ (looks_both (one_byte_taken c.in_ok-pull_wanted.ensures.looked c.in_ok-pull_wanted.ensures.wanted) tag) c.pull_cid.ensures.looked

@@ -1,12 +1,12 @@
 use Rattle.std.specs.Prelude.{⊤, codes}
 use Rattle.dagcbor_heads.proofs.Refusing.{as_refusal}
 use Rattle.dagcbor_items.specs.LeafCauses.{TextCause}
-use Rattle.dagcbor_items.proofs.StringReads.{text_refused, string_kind_refused, peeked_read}
+use Rattle.dagcbor_items.proofs.StringReads.{text_string_refused, string_kind_refused, peeked_read}
 use Rattle.dagcbor_items.proofs.Looks.{peeked_value}
 use Rattle.dagcbor_items.proofs.strings.pull_owned_text.Goals as goal
 
 pub returns-in_err-peek_major-clause-text : goal.returns-in_err-peek_major-clause-text
-returns-in_err-peek_major-clause-text g c = as_refusal _ _ _ _ c.from_residual.ensures.1 (text_refused _ _ _ _ _ (string_kind_refused _ _ _ _ _ _ c.in_err-peek_major.ensures.kind))
+returns-in_err-peek_major-clause-text g c = as_refusal _ _ _ _ c.from_residual.ensures.1 (text_string_refused _ _ _ _ _ (string_kind_refused _ _ _ _ _ _ c.in_err-peek_major.ensures.kind))
 
 pub returns-clause-text : goal.returns-clause-text
 returns-clause-text g c = peeked_read _ _ (λ r. ⊤) (TextCause (codes "string")) _ _ c.in_ok-peek_major.ensures.kind.2 (λ same x. x) c.pull_peeked_owned_text.ensures.text

@@ -2,12 +2,12 @@ use Rattle.std.proofs.Common.{sym, ◌∙◌}
 use Rattle.std.specs.Prelude.{◌≡◌, false, codes}
 use Rattle.dagcbor_heads.proofs.Refusing.{as_refusal}
 use Rattle.dagcbor_items.specs.LeafCauses.{StringCause}
-use Rattle.dagcbor_items.proofs.StringReads.{bytes_refused, string_kind_refused, peeked_read}
+use Rattle.dagcbor_items.proofs.StringReads.{bytes_string_refused, string_kind_refused, peeked_read}
 use Rattle.dagcbor_items.proofs.Looks.{peeked_value}
 use Rattle.dagcbor_items.proofs.strings.pull_slice.Goals as goal
 
 pub returns-in_err-peek_major-clause-bytes : goal.returns-in_err-peek_major-clause-bytes
-returns-in_err-peek_major-clause-bytes g c = as_refusal _ _ _ _ c.from_residual.ensures.1 (bytes_refused _ _ _ _ (string_kind_refused _ _ _ _ _ _ c.in_err-peek_major.ensures.kind))
+returns-in_err-peek_major-clause-bytes g c = as_refusal _ _ _ _ c.from_residual.ensures.1 (bytes_string_refused _ _ _ _ (string_kind_refused _ _ _ _ _ _ c.in_err-peek_major.ensures.kind))
 
 pub returns-clause-bytes : goal.returns-clause-bytes
 returns-clause-bytes g c = peeked_read _ _ (λ r. r.lends ≡ false) (StringCause (codes "bytes") 2) _ _ c.in_ok-peek_major.ensures.kind.2 (λ same x. sym same.lends ∙ x) c.pull_peeked_slice.ensures.bytes

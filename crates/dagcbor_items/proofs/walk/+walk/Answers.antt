@@ -3,14 +3,13 @@ use Rattle.dagcbor_items.specs.Walks.{WalkLacks}
 use Rattle.dagcbor_heads.proofs.Refusing.{as_refusal}
 use Rattle.dagcbor_heads.specs.Reading.{Reading}
 use Rattle.dagcbor_heads.proofs.Looking.{looks_both, looks_then, nothing_looked, same_looked}
-use Rattle.dagcbor_items.proofs.Looks.{once_left, looks_behind_peek, stepped_left}
-use Rattle.dagcbor_items.proofs.Looks as looks
+use Rattle.dagcbor_items.proofs.Looks.{once_left_more, looks_behind_peek, stepped_left, looks_stepped}
 use Rattle.ipld_tree.specs.Tree.{no_entries}
 use Rattle.dagcbor_items.proofs.Fronts.{byte_refused}
 use Rattle.dagcbor_items.proofs.Leaves.{indefinite_refused}
 use Rattle.dagcbor_items.proofs.Steps.{no_step_left, stepped_taken, more_lacks}
 use Rattle.dagcbor_items.proofs.Walking.{lacks_before, step_refused, found_none, item_found, entry_found, leaf_walked, walked_from}
-use Rattle.dagcbor_items.proofs.Lists.{list_refused, list_taken, none_read, next_refused, one_read, all_read}
+use Rattle.dagcbor_items.proofs.Lists.{list_refused, list_taken, no_item_read, next_refused, one_item_read, all_items_read}
 use Rattle.dagcbor_items.proofs.Maps as maps
 use Rattle.dagcbor_items.proofs.Entering.{enters}
 use Rattle.dagcbor_items.proofs.walk.+walk.Goals as goal
@@ -60,10 +59,10 @@ pub walk_list-returns-in_err-walk_items-clause-looked : goal.walk_list-returns-i
 walk_list-returns-in_err-walk_items-clause-looked g t c = as_refusal _ _ _ _ c.from_residual-in_err-walk_items.ensures.1 (looks_then c.in_ok-count.ensures.looked c.in_err-walk_items.ensures.looked)
 
 pub walk_list-returns-clause-looked : goal.walk_list-returns-clause-looked
-walk_list-returns-clause-looked g t c = looks.stepped_taken _ refl (looks_both c.in_ok-count.ensures.looked c.in_ok-walk_items.ensures.looked) c.step_out.ensures
+walk_list-returns-clause-looked g t c = looks_stepped _ refl (looks_both c.in_ok-count.ensures.looked c.in_ok-walk_items.ensures.looked) c.step_out.ensures
 
 pub walk_items-loop-index-init : goal.walk_items-loop-index-init
-walk_items-loop-index-init g t c = record { read = ([], none_read _ _ _ [] (omega arith) refl, found_none g.S.LinkSink.holds c.args.links.now); looked = nothing_looked _ }
+walk_items-loop-index-init g t c = record { read = ([], no_item_read _ _ _ [] (omega arith) refl, found_none g.S.LinkSink.holds c.args.links.now); looked = nothing_looked _ }
 
 pub walk_items-returns-in_err-walk_any-clause-looked : goal.walk_items-returns-in_err-walk_any-clause-looked
 walk_items-returns-in_err-walk_any-clause-looked g t c = as_refusal _ _ _ _ c.from_residual.ensures.1 (looks_then c.loop-index.invariant.looked c.in_err-walk_any.ensures.looked)
@@ -77,10 +76,10 @@ pub walk_items-loop-index-preserved : goal.walk_items-loop-index-preserved
 walk_items-loop-index-preserved g t c =
     let s = c.loop-index.invariant.read in
     let k = c.in_ok-walk_any.ensures.item in
-    record { read = (s.0 ++ k.0 ∷ [], one_read s.0 (s.0 ++ k.0 ∷ []) refl (omega arith) s.1 k.1, item_found g.S.LinkSink.holds s.0 k.0 c.args.links.now c.loop-index.links c.walk_any.new.links s.2 k.2); looked = looks_both c.loop-index.invariant.looked c.in_ok-walk_any.ensures.looked }
+    record { read = (s.0 ++ k.0 ∷ [], one_item_read s.0 (s.0 ++ k.0 ∷ []) refl (omega arith) s.1 k.1, item_found g.S.LinkSink.holds s.0 k.0 c.args.links.now c.loop-index.links c.walk_any.new.links s.2 k.2); looked = looks_both c.loop-index.invariant.looked c.in_ok-walk_any.ensures.looked }
 
 pub walk_items-returns-clause-items : goal.walk_items-returns-clause-items
-walk_items-returns-clause-items g t c = let s = c.loop-index.invariant.read in let k = all_read s.0 (omega arith) s.1 in (s.0, k.0, k.1, s.2)
+walk_items-returns-clause-items g t c = let s = c.loop-index.invariant.read in let k = all_items_read s.0 (omega arith) s.1 in (s.0, k.0, k.1, s.2)
 
 pub walk_map-returns-in_err-count-clause-item : goal.walk_map-returns-in_err-count-clause-item
 walk_map-returns-in_err-count-clause-item g t c = as_refusal _ _ _ _ c.from_residual.ensures.1 (more_lacks _ 1 _ _ _ (λ x. absurd x) c.in_err-count.ensures.count)
@@ -100,10 +99,10 @@ pub walk_map-returns-in_err-walk_entries-clause-looked : goal.walk_map-returns-i
 walk_map-returns-in_err-walk_entries-clause-looked g t c = as_refusal _ _ _ _ c.from_residual-in_err-walk_entries.ensures.1 (looks_then c.in_ok-count.ensures.looked c.in_err-walk_entries.ensures.looked)
 
 pub walk_map-returns-clause-looked : goal.walk_map-returns-clause-looked
-walk_map-returns-clause-looked g t c = looks.stepped_taken _ refl (looks_both c.in_ok-count.ensures.looked c.in_ok-walk_entries.ensures.looked) c.step_out.ensures
+walk_map-returns-clause-looked g t c = looks_stepped _ refl (looks_both c.in_ok-count.ensures.looked c.in_ok-walk_entries.ensures.looked) c.step_out.ensures
 
 pub walk_entries-loop-index-init : goal.walk_entries-loop-index-init
-walk_entries-loop-index-init g t c = record { read = (no_entries, maps.none_read _ _ _ no_entries _ (omega arith) refl refl, found_none g.S.LinkSink.holds c.args.links.now); looked = nothing_looked _ }
+walk_entries-loop-index-init g t c = record { read = (no_entries, maps.no_entry_read _ _ _ no_entries _ (omega arith) refl refl, found_none g.S.LinkSink.holds c.args.links.now); looked = nothing_looked _ }
 
 pub walk_entries-returns-in_err-key-clause-looked : goal.walk_entries-returns-in_err-key-clause-looked
 walk_entries-returns-in_err-key-clause-looked g t c = as_refusal _ _ _ _ c.from_residual.ensures.1 (looks_then c.loop-index.invariant.looked c.in_err-key.ensures.looked)
@@ -129,12 +128,12 @@ walk_entries-loop-index-preserved g t c =
     let key = c.in_ok-key.ensures.key in
     let value = c.in_ok-walk_any.ensures.item in
     record {
-      read = (_, maps.one_read s.0 _ _ _ refl refl (omega arith) s.1 key.0 key.1 value.1, entry_found g.S.LinkSink.holds s.0 _ value.0 c.args.links.now c.loop-index.links c.walk_any.new.links s.2 value.2);
+      read = (_, maps.one_entry_read s.0 _ _ _ refl refl (omega arith) s.1 key.0 key.1 value.1, entry_found g.S.LinkSink.holds s.0 _ value.0 c.args.links.now c.loop-index.links c.walk_any.new.links s.2 value.2);
       looked = looks_both (looks_both c.loop-index.invariant.looked c.in_ok-key.ensures.looked) c.in_ok-walk_any.ensures.looked;
     }
 
 pub walk_entries-returns-clause-entries : goal.walk_entries-returns-clause-entries
-walk_entries-returns-clause-entries g t c = let s = c.loop-index.invariant.read in let k = maps.all_read s.0 (omega arith) s.1 in (s.0, k.0, k.1, s.2)
+walk_entries-returns-clause-entries g t c = let s = c.loop-index.invariant.read in let k = maps.all_entries_read s.0 (omega arith) s.1 in (s.0, k.0, k.1, s.2)
 
 pub walk_any-returns-in_err-spend_step-clause-looked : goal.walk_any-returns-in_err-spend_step-clause-looked
 walk_any-returns-in_err-spend_step-clause-looked g t c = as_refusal _ _ _ _ c.from_residual.ensures.1 (same_looked (ap (λ (r : Reading). r.looked) c.in_err-spend_step.ensures.same))
@@ -143,13 +142,13 @@ pub walk_any-returns-in_err-walk_item-clause-looked : goal.walk_any-returns-in_e
 walk_any-returns-in_err-walk_item-clause-looked g t c = as_refusal _ _ _ _ c.from_residual-in_err-walk_item.ensures.1 (stepped_left _ c.in_ok-spend_step.ensures.is c.in_err-walk_item.ensures.looked)
 
 pub walk_any-returns-clause-looked : goal.walk_any-returns-clause-looked
-walk_any-returns-clause-looked g t c = looks.stepped_taken _ c.in_ok-spend_step.ensures.is c.in_ok-walk_item.ensures.looked c.step_out.ensures
+walk_any-returns-clause-looked g t c = looks_stepped _ c.in_ok-spend_step.ensures.is c.in_ok-walk_item.ensures.looked c.step_out.ensures
 
 pub walk_item-returns-in_err-first-clause-looked : goal.walk_item-returns-in_err-first-clause-looked
-walk_item-returns-in_err-first-clause-looked g t c = as_refusal _ _ _ _ c.from_residual.ensures.1 (once_left 3 (omega arith) c.in_err-first.ensures.looked)
+walk_item-returns-in_err-first-clause-looked g t c = as_refusal _ _ _ _ c.from_residual.ensures.1 (once_left_more 3 (omega arith) c.in_err-first.ensures.looked)
 
 pub walk_item-returns-then-is_indefinite-clause-looked : goal.walk_item-returns-then-is_indefinite-clause-looked
-walk_item-returns-then-is_indefinite-clause-looked g t c = once_left 3 (omega arith) c.in_ok-first.ensures.looked
+walk_item-returns-then-is_indefinite-clause-looked g t c = once_left_more 3 (omega arith) c.in_ok-first.ensures.looked
 
 pub walk_item-returns-clause-looked : goal.walk_item-returns-clause-looked
 walk_item-returns-clause-looked g t c = looks_behind_peek 3 _ _ c.in_ok-first.ensures.looked c.in_ok-first.ensures.shown c.walk_of_major.ensures.looked

@@ -1,6 +1,6 @@
 use Rattle.std.proofs.Common.{◌∙◌}
 use Rattle.std.specs.List.{each_same}
-use Rattle.ipld_tree.proofs.Trees.{next_pair, bytes_copied}
+use Rattle.ipld_tree.proofs.Trees.{next_entry_tree, bytes_copied}
 use Rattle.ipld_tree.proofs.ipld.+try_clone.Goals as goal
 
 pub Ipld::try_clone-returns-in_ok-clone-in-Bytes : goal.Ipld::try_clone-returns-in_ok-clone-in-Bytes
@@ -8,6 +8,6 @@ Ipld::try_clone-returns-in_ok-clone-in-Bytes t c = bytes_copied c.args.self.now 
 
 pub clone_entries-loop-key-preserved : goal.clone_entries-loop-key-preserved
 clone_entries-loop-key-preserved t c =
-    next_pair (c.in-Some.key.now, c.in-Some.value.now) c.in_ok-name.name c.in_ok-try_clone.field-0 c.args.entries.now.entries _ _ _ _ _
+    next_entry_tree (c.in-Some.key.now, c.in-Some.value.now) c.in_ok-name.name c.in_ok-try_clone.field-0 c.args.entries.now.entries _ _ _ _ _
     c.in-Some.ensures.steps (c.into_iter-key-iterator.ensures.into_iter_gives ∙ c.iter-key-items.ensures.rest) c.iter-key-items.ensures.ordered
     c.in_ok-name.ensures.cases c.in_ok-try_clone.ensures c.in_ok-insert.ensures.entries c.loop-key.invariant

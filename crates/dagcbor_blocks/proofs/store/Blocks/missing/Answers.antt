@@ -3,7 +3,7 @@ use Rattle.serde_ipld_dagcbor.specs.Slices.{AreFirstLinks, LinksRefused}
 use Rattle.serde_ipld_dagcbor.specs.Walks.{forms}
 use Rattle.dagcbor_blocks.proofs.Laws.{on_ok}
 use Rattle.dagcbor_blocks.proofs.Missing.{AddedSoFar}
-use Rattle.dagcbor_blocks.proofs.Listing.{next_refused, so_far_next, all_listed}
+use Rattle.dagcbor_blocks.proofs.Listing.{next_block_refused, so_far_next, all_listed}
 use Rattle.dagcbor_blocks.proofs.store.Blocks.missing.Goals as goal
 
 pub loop-block-preserved : goal.loop-block-preserved
@@ -15,7 +15,7 @@ loop-block-preserved c =
 
 pub returns-in-Err : goal.returns-in-Err
 returns-in-Err c =
-    next_refused c.args.self.now.blocks c.loop-block.block-iterator c.next.new.self c.in-Some.block.now c.loop-block.missing c.in-Err.error c.of_decoding.result c.args.self.now.sound c.in-Some.ensures.steps c.loop-block.invariant
+    next_block_refused c.args.self.now.blocks c.loop-block.block-iterator c.next.new.self c.in-Some.block.now c.loop-block.missing c.in-Err.error c.of_decoding.result c.args.self.now.sound c.in-Some.ensures.steps c.loop-block.invariant
     (subst (λ b. LinksRefused c.in-Err.error b) c.deref.ensures.value c.in-Err.ensures) c.of_decoding.ensures
 
 pub returns-in-Ok-in_order : goal.returns-in-Ok-in_order

@@ -5,7 +5,7 @@ use Rattle.dagcbor_read.specs.Calls.{progress}
 use Rattle.dagcbor_read.specs.Structs.{texts}
 use Rattle.dagcbor_read.proofs.Progressing.{call_answered}
 use Rattle.dagcbor_read.proofs.Answered.{key_read, no_key, key_refused, after_some_key, after_no_key}
-use Rattle.dagcbor_read.proofs.EntryRows.{key_not_read, value_not_read, one_more, all_read}
+use Rattle.dagcbor_read.proofs.EntryRows.{key_not_read, value_not_read, one_more_field, all_fields_read}
 use Rattle.dagcbor_read.proofs.access.fields.read_entries_left.Goals as goal
 
 pub returns-in_err-key : goal.returns-in_err-key
@@ -26,7 +26,7 @@ loop-entries-preserved-in_ok-read_field g c =
     let k = key_read g.row.R-Error.Denot _ _ (progress g.R.Read.reading c.loop-entries.de) (progress g.R.Read.reading c.next_key.new.de) _ _ c.in-Some.is c.in_ok-key.ensures.key in
     let after = after_some_key g.row.R-Error.Denot _ _ (accessor_state c.loop-entries.entries) _ c.in-Some.is c.in_ok-key.ensures.after in
     let v = c.in_ok-read_field.ensures k.sound in
-    one_more (g.F.Fields.shape (texts c.args.names.now)) _ _ c.as_str.ensures.value i k after c.note_value.ensures v.0 v.1
+    one_more_field (g.F.Fields.shape (texts c.args.names.now)) _ _ c.as_str.ensures.value i k after c.note_value.ensures v.0 v.1
 
 pub loop-entries-preserved : goal.loop-entries-preserved
 loop-entries-preserved g c =
@@ -34,7 +34,7 @@ loop-entries-preserved g c =
     let k = key_read g.row.R-Error.Denot _ _ (progress g.R.Read.reading c.loop-entries.de) (progress g.R.Read.reading c.next_key.new.de) _ _ c.in-Some.is c.in_ok-key.ensures.key in
     let after = after_some_key g.row.R-Error.Denot _ _ (accessor_state c.loop-entries.entries) _ c.in-Some.is c.in_ok-key.ensures.after in
     let v = c.in_ok-read_field.ensures k.sound in
-    one_more (g.F.Fields.shape (texts c.args.names.now)) _ _ c.as_str.ensures.value i k after c.note_value.ensures v.0 v.1
+    one_more_field (g.F.Fields.shape (texts c.args.names.now)) _ _ c.as_str.ensures.value i k after c.note_value.ensures v.0 v.1
 
 pub returns : goal.returns
 returns g c =
@@ -42,5 +42,5 @@ returns g c =
     let k = no_key g.row.R-Error.Denot _ _ (progress g.R.Read.reading c.loop-entries.de) (progress g.R.Read.reading c.next_key.new.de) _ c.in_default.is c.in_ok-key.ensures.key in
     let after = after_no_key g.row.R-Error.Denot _ (accessor_state c.loop-entries.entries) _ c.in_default.is c.in_ok-key.ensures.after in
     let e = call_answered (EndsItems (accessor_state c.next_key.new.self)) (progress g.R.Read.reading c.next_key.new.de) (progress g.R.Read.reading c.end.new.de) _ c.in_ok-end.ensures in
-    let a = all_read (g.F.Fields.shape (texts c.args.names.now)) (progress g.R.Read.reading c.next_key.new.de) (progress g.R.Read.reading c.end.new.de) i k.1 after k.2 e.2.1 in
+    let a = all_fields_read (g.F.Fields.shape (texts c.args.names.now)) (progress g.R.Read.reading c.next_key.new.de) (progress g.R.Read.reading c.end.new.de) i k.1 after k.2 e.2.1 in
     (e.1, a.0, a.1, a.2)

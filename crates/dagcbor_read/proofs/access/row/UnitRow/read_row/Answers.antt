@@ -1,6 +1,6 @@
 use Rattle.std.proofs.Common.{refl, arith}
-use Rattle.dagcbor_read.proofs.ItemRows.{nothing_taken, none_left}
+use Rattle.dagcbor_read.proofs.ItemRows.{no_row_taken, none_left}
 use Rattle.dagcbor_read.proofs.access.row.UnitRow.read_row.Goals as goal
 
 pub returns : goal.returns
-returns g c = (c.requires.sound, refl, omega arith, nothing_taken (omega arith), none_left)
+returns g c = (c.requires.sound, refl, omega arith, no_row_taken (omega arith), none_left)

@@ -4,7 +4,7 @@ use Rattle.dagcbor_read.specs.Accessors.{accessor_state}
 use Rattle.dagcbor_read.specs.Calls.{progress}
 use Rattle.dagcbor_items.proofs.Lists.{map_pushed}
 use Rattle.dagcbor_read.proofs.Answered.{element_read, no_element, element_refused, after_some, after_none}
-use Rattle.dagcbor_read.proofs.ItemRows.{one_more, none_more, item_refused}
+use Rattle.dagcbor_read.proofs.ItemRows.{one_more_item, none_more, item_refused}
 use Rattle.dagcbor_read.proofs.access.row.VecRow.read_row.Goals as goal
 
 pub returns-in_err-item : goal.returns-in_err-item
@@ -18,7 +18,7 @@ loop-all-preserved g c =
     let i = c.loop-all.invariant in
     let k = element_read g.row.R-Error.Denot g.T.Shown.meaning g.T.Shown.shape _ (progress g.R.Read.reading c.loop-all.de) (progress g.R.Read.reading c.next_element.new.de) _ _ c.in-Some.is c.in_ok-item.ensures.element in
     let after = after_some g.row.R-Error.Denot g.T.Shown.meaning g.T.Shown.shape _ _ (accessor_state c.loop-all.items) _ c.in-Some.is c.in_ok-item.ensures.after in
-    one_more g.T.Shown.shape _ _ i k.some after k.sound k.takes (map_pushed g.T.Shown.meaning c.push.result _ _ _ c.if-is_err.ensures.value c.push.ensures.items)
+    one_more_item g.T.Shown.shape _ _ i k.some after k.sound k.takes (map_pushed g.T.Shown.meaning c.push.result _ _ _ c.if-is_err.ensures.value c.push.ensures.items)
 
 pub returns : goal.returns
 returns g c =

@@ -1,7 +1,7 @@
 use Rattle.std.proofs.Common.{◌^◌, refl, sym, ◌∙◌, rules}
 use Rattle.std.specs.Prelude.{Some, codes}
 use Rattle.dagcbor_read.specs.Shapes.{view_unsigned, leaf}
-use Rattle.dagcbor_read.proofs.EntryLoops.{map_begun, key_refused, at_value, value_refused, value_read, skip_refused, value_skipped, map_ended}
+use Rattle.dagcbor_read.proofs.EntryLoops.{map_begun, map_key_refused, at_value, map_value_refused, value_read, skip_refused, value_skipped, map_ended}
 use Rattle.dagcbor_read.proofs.FieldPlaces.{other_name}
 use Rattle.dagcbor_read.proofs.Finishing.{handed_on, value_finished, value_unfinished}
 use Rattle.serde_ipld_dagcbor.specs.tests.One.{one_fields}
@@ -12,13 +12,13 @@ pub loop-entries-init : goal.loop-entries-init
 loop-entries-init g c = map_begun one_fields.fields one_fields.unread _ _ _ (codes "map") _ c.in_ok-entries.ensures.accessor_state
 
 pub returns-in_err-key : goal.returns-in_err-key
-returns-in_err-key g c = handed_on _ _ _ _ _ _ _ _ c.from_residual-in_err-key.ensures.1 (λ _. key_refused _ _ _ _ _ _ _ c.loop-entries.invariant c.in_err-key.ensures.key)
+returns-in_err-key g c = handed_on _ _ _ _ _ _ _ _ c.from_residual-in_err-key.ensures.1 (λ _. map_key_refused _ _ _ _ _ _ _ c.loop-entries.invariant c.in_err-key.ensures.key)
 
 pub returns-in_err-next_value-in-a : goal.returns-in_err-next_value-in-a
 returns-in_err-next_value-in-a g c =
     let at = at_value _ _ _ _ _ _ _ _ c.loop-entries.invariant c.in-Some.is c.in_ok-key.ensures.key c.in_ok-key.ensures.after in
     handed_on _ _ _ _ _ _ _ _ c.from_residual-in_err-next_value-in-a.ensures.1
-    (λ _. value_refused _ _ _ _ _ _ _ (codes "a") (λ a. (Some a, tt)) _ _ _ at (sym c.as_str.ensures.value ∙ c.in-a.is) (λ t. refl) (λ t. refl) (λ l. l) c.in_err-next_value-in-a.ensures.value)
+    (λ _. map_value_refused _ _ _ _ _ _ _ (codes "a") (λ a. (Some a, tt)) _ _ _ at (sym c.as_str.ensures.value ∙ c.in-a.is) (λ t. refl) (λ t. refl) (λ l. l) c.in_err-next_value-in-a.ensures.value)
 
 pub returns-in_err-next_value-in_default-as_str : goal.returns-in_err-next_value-in_default-as_str
 returns-in_err-next_value-in_default-as_str g c =

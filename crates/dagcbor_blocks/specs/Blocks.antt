@@ -108,7 +108,7 @@ KeepsBlock b old result new = MatchResult result
 -- why a value is not kept: it has no tree, or its tree no spelling; its spelling's tree needs more
 -- than 256 steps; or other bytes are held under its name
 abbrev pub PutRefused : Option Tree → Held → BlockError → Type 0
-PutRefused tree old (Encode e) = IsOfValue e × IfSome tree (λ t. IsSpellable t → ⊥)
+PutRefused tree old (Encode e) = IsOfValue e × IfSome tree (λ t. ¬ IsSpellable t)
 PutRefused tree old (Decode e) = IsOfBytes e × IsSomeAnd tree (λ t. default_steps < any_need t)
 PutRefused tree old Collision = IsSomeAnd tree (λ t. (c : List ℕ) × (block_at (block_name (spelling t)) old ≡ Some c) × (c ≢ spelling t))
 PutRefused tree old OutOfMemory = ⊤
@@ -126,7 +126,7 @@ IsHeld name b blocks = (block_at name blocks ≡ Some b) × (name.digest ≡ sha
 abbrev pub GetRefused : {V : Type 0} → Shape Tree V → CidParts → Held → BlockError → Type 0
 GetRefused shape name blocks (Encode e) = ⊥
 GetRefused {V} shape name blocks (Decode e) = IsOfBytes e
-    × ((b : List ℕ) × IsHeld name b blocks × ((v : V) → IsWhole shape default_steps b v → ⊥))
+    × ((b : List ℕ) × IsHeld name b blocks × ((v : V) → ¬ IsWhole shape default_steps b v))
 GetRefused shape name blocks Collision = ⊥
 GetRefused shape name blocks OutOfMemory = ⊤
 

@@ -16,6 +16,6 @@ block_name b = cid_parts 1 0x71 0x12 (sha256 b)
 -- value has no tree, or its tree no spelling.
 abbrev pub IsNameOf : Option Tree → Result CidParts (EncodeError Infallible) → Type 0
 IsNameOf tree (Ok name) = IsSomeAnd tree (λ t. IsTree t × IsSpellable t × (name ≡ block_name (spelling t)))
-IsNameOf tree (Err (Msg m)) = IfSome tree (λ t. IsSpellable t → ⊥)
+IsNameOf tree (Err (Msg m)) = IfSome tree (λ t. ¬ IsSpellable t)
 IsNameOf tree (Err (Write e)) = ⊥
 IsNameOf tree (Err OutOfMemory) = ⊤

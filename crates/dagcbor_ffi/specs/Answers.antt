@@ -1,5 +1,5 @@
 -- What callers in other languages are answered.
-use Rattle.std.specs.Prelude.{◌≡◌, ◌⊎◌, ℕ, ◌≤◌, ℤ, List, length}
+use Rattle.std.specs.Prelude.{◌≡◌, ◌≢◌, ◌⊎◌, ℕ, ◌≤◌, ℤ, List, length}
 use Rattle.std.specs.declared.convert.Infallible.{Infallible}
 use Rattle.dagcbor_heads.specs.Reading.{default_steps}
 use Rattle.dagcbor_heads.specs.declared.error.DecodeError.{DecodeError}
@@ -17,7 +17,7 @@ use Rattle.dagcbor_ffi.specs.Packed.{packed_links, with_front}
 abbrev pub IsCheckAnswer : List ℕ → ℤ → Type 0
 IsCheckAnswer b code =
     ((t : Tree) × IsBlock b t × (code ≡ kind_code (kind_of t)))
-    ⊎ ((e : DecodeError Infallible) × SliceRefused e b × (e ≡ OutOfMemory → ⊥) × (code ≡ refusal_code e))
+    ⊎ ((e : DecodeError Infallible) × SliceRefused e b × (e ≢ OutOfMemory) × (code ≡ refusal_code e))
 
 -- the number of the kind of the item that stands first within `default_steps`, and how many bytes
 -- its packed links need, which stand at the front of the memory where there is room for them all,
@@ -26,4 +26,4 @@ IsCheckAnswer b code =
 abbrev pub IsLinksAnswer : List ℕ → List ℕ → List ℕ → ℕ → ℤ → Type 0
 IsLinksAnswer b old new needed code =
     ((t : Tree) × (rest : List ℕ) × IsFront b t rest × (any_need t ≤ default_steps) × (code ≡ kind_code (kind_of t)) × (needed ≡ length (packed_links t)) × (new ≡ with_front (packed_links t) old))
-    ⊎ ((e : DecodeError Infallible) × LinksRefused e b × (e ≡ OutOfMemory → ⊥) × (code ≡ refusal_code e) × (needed ≡ 0) × (new ≡ old))
+    ⊎ ((e : DecodeError Infallible) × LinksRefused e b × (e ≢ OutOfMemory) × (code ≡ refusal_code e) × (needed ≡ 0) × (new ≡ old))

@@ -1,5 +1,5 @@
 -- Links, packed into memory.
-use Rattle.std.specs.Prelude.{◌≡◌, ℕ, ◌+◌, ◌-◌, ◌^◌, ◌<◌, ◌≤◌, min, List, [], ◌∷◌, ◌++◌, length, take, drop}
+use Rattle.std.specs.Prelude.{◌≡◌, ◌≢◌, ℕ, ◌+◌, ◌-◌, ◌^◌, ◌<◌, ◌≤◌, min, List, [], ◌∷◌, ◌++◌, length, take, drop}
 use Rattle.std.specs.Prelude.{if◌then◌else◌, nat_lt, Result, MatchResult}
 use Rattle.std.specs.declared.convert.Infallible.{Infallible}
 use Rattle.dagcbor_heads.specs.Reading.{default_steps}
@@ -57,7 +57,7 @@ HoldsPacked p _ = ⊥
 abbrev pub Fills : List ℕ → List ℕ → List ℕ → Result Kind (DecodeError Infallible) → Type 0
 Fills b old new result = MatchResult result
     (λ _. (t : Tree) × (rest : List ℕ) × IsFront b t rest × (length (packed_links t) ≤ length old → new ≡ packed_links t ++ drop (length (packed_links t)) old))
-    (λ e. LinksRefused e b × (e ≡ OutOfMemory → ⊥))
+    (λ e. LinksRefused e b × (e ≢ OutOfMemory))
 
 -- The links of the first item of a slice are counted, and put at the front of the memory where
 -- there is room for them all, exactly where an item stands first that is read within
@@ -66,4 +66,4 @@ abbrev pub PutsLinks : List ℕ → List ℕ → List ℕ → ℕ → Result Kin
     → Type 0
 PutsLinks b old new needed result = MatchResult result
     (λ kind. (t : Tree) × (rest : List ℕ) × IsFront b t rest × (any_need t ≤ default_steps) × (kind ≡ kind_of t) × (needed ≡ length (packed_links t)) × (new ≡ with_front (packed_links t) old))
-    (λ e. LinksRefused e b × (e ≡ OutOfMemory → ⊥) × (needed ≡ 0) × (new ≡ old))
+    (λ e. LinksRefused e b × (e ≢ OutOfMemory) × (needed ≡ 0) × (new ≡ old))

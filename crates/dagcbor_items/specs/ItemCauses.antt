@@ -34,9 +34,9 @@ abbrev pub ItemCause : {E : Type 0} → DecodeError E → List ℕ → Type 0
 ItemCause (Eof name expect) b = (major n : ℕ) × (rest : List ℕ) × ((major ≡ 2) ⊎ (major ≡ 3))
     × (n < 2 ^ 64) × (b ≡ head major n ++ rest) × (length rest < n) × (expect ≡ len_of n)
 ItemCause (Unsupported name found) b = (more : List ℕ) × (b ≡ found ∷ more) × (found / 32 ≡ 7)
-    × ((0xf4 ≤ found) → (found ≤ 0xf6) → ⊥)
+    × ((0xf4 ≤ found) → ¬ (found ≤ 0xf6))
 ItemCause (RequireUtf8 name) b = (s rest : List ℕ) × (length s < 2 ^ 64)
-    × (b ≡ head 3 (length s) ++ (s ++ rest)) × (IsUtf8 s → ⊥)
+    × (b ≡ head 3 (length s) ++ (s ++ rest)) × (¬ IsUtf8 s)
 ItemCause IndefiniteSize b = (first : ℕ) × (more : List ℕ) × (b ≡ first ∷ more) × (first % 32 ≡ 31)
 ItemCause _ b = ⊥
 

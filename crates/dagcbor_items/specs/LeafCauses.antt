@@ -1,6 +1,6 @@
 -- The causes of refusals that typed reads of leaves can have. Each stands where the leaf is to
 -- stand.
-use Rattle.std.specs.Prelude.{◌≡◌, ℕ, ℤ, ◌/◌, ◌^◌, ◌<◌, ◌≤◌, ◌⊎◌, List, [], ◌∷◌, ◌++◌, length}
+use Rattle.std.specs.Prelude.{◌≡◌, ◌≢◌, ℕ, ℤ, ◌/◌, ◌^◌, ◌<◌, ◌≤◌, ◌⊎◌, List, [], ◌∷◌, ◌++◌, length}
 use Rattle.std.specs.Prelude.{Option, None, codes, IsUtf8}
 use Rattle.dagcbor_heads.specs.Head.{head}
 use Rattle.dagcbor_heads.specs.Causes.{HeadCause, IsNamed}
@@ -19,7 +19,7 @@ use Rattle.dagcbor_items.specs.Shapes.{view_char}
 -- a byte of another major type
 abbrev pub IsOtherKind : {E : Type 0} → List ℕ → (low high : ℕ) → DecodeError E → List ℕ → Type 0
 IsOtherKind name low high (Mismatch kept found) b = Names kept name
-    × ((more : List ℕ) × (b ≡ found ∷ more) × (low ≤ found / 32 → found / 32 ≤ high → ⊥))
+    × ((more : List ℕ) × (b ≡ found ∷ more) × (low ≤ found / 32 → ¬ (found / 32 ≤ high)))
 IsOtherKind name low high _ b = ⊥
 
 -- where a head of a major type from low to high is to stand, a byte of such a type begins none, or
@@ -72,7 +72,7 @@ StringCause name kind e b = MajorCause name kind kind e b ⊎ IsCut name kind e 
 -- a whole text that is not UTF-8
 abbrev pub IsGarbled : {E : Type 0} → List ℕ → DecodeError E → List ℕ → Type 0
 IsGarbled name (RequireUtf8 kept) b = Names kept name
-    × ((s rest : List ℕ) × (length s < 2 ^ 64) × (b ≡ head 3 (length s) ++ (s ++ rest)) × (IsUtf8 s → ⊥))
+    × ((s rest : List ℕ) × (length s < 2 ^ 64) × (b ≡ head 3 (length s) ++ (s ++ rest)) × (¬ IsUtf8 s))
 IsGarbled name _ b = ⊥
 
 -- no whole text stands there
@@ -93,5 +93,5 @@ CharCause e b = TextCause (codes "string") e b ⊎ IsNoChar e b
 abbrev pub BoolCause : {E : Type 0} → DecodeError E → List ℕ → Type 0
 BoolCause (Eof name expect) b = (expect ≡ Small 1) × (b ≡ [])
 BoolCause (Mismatch name found) b = Names name (codes "bool")
-    × ((more : List ℕ) × (b ≡ found ∷ more) × (found ≡ 0xf4 → ⊥) × (found ≡ 0xf5 → ⊥))
+    × ((more : List ℕ) × (b ≡ found ∷ more) × (found ≢ 0xf4) × (found ≢ 0xf5))
 BoolCause _ b = ⊥

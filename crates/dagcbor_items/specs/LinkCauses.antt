@@ -1,6 +1,6 @@
 -- The causes of refusals that a link can have: at its place, or behind the d8 or d8 2a that begins
 -- there.
-use Rattle.std.specs.Prelude.{◌≡◌, ℕ, ◌/◌, ◌^◌, ◌<◌, ◌⊎◌, List, [], ◌∷◌, ◌++◌, length, codes}
+use Rattle.std.specs.Prelude.{◌≡◌, ◌≢◌, ℕ, ◌/◌, ◌^◌, ◌<◌, ◌⊎◌, List, [], ◌∷◌, ◌++◌, length, codes}
 use Rattle.dagcbor_heads.specs.Head.{head}
 use Rattle.dagcbor_heads.specs.Causes.{HeadCause}
 use Rattle.dagcbor_heads.specs.Lengths.{len_of}
@@ -16,7 +16,7 @@ use Rattle.dagcbor_items.specs.FirstBytes.{BeginsAs}
 abbrev pub IsOtherByte : {E : Type 0} → List ℕ → ℕ → DecodeError E → List ℕ → Type 0
 IsOtherByte other wanted (Eof name expect) b = (expect ≡ Small 1) × (b ≡ [])
 IsOtherByte other wanted (Mismatch name found) b = Names name other
-    × ((more : List ℕ) × (b ≡ found ∷ more) × (found ≡ wanted → ⊥))
+    × ((more : List ℕ) × (b ≡ found ∷ more) × (found ≢ wanted))
 IsOtherByte other wanted _ b = ⊥
 
 -- a byte string that is cut, a byte that begins none, or a byte string that is no zero and a CID:
@@ -24,7 +24,7 @@ IsOtherByte other wanted _ b = ⊥
 abbrev pub CidCause : {E : Type 0} → DecodeError E → List ℕ → Type 0
 CidCause (Eof name expect) b = (n : ℕ) × (rest : List ℕ) × (n < 2 ^ 64) × (b ≡ head 2 n ++ rest)
     × (length rest < n) × (expect ≡ len_of n)
-CidCause (Unsupported name found) b = (more : List ℕ) × (b ≡ found ∷ more) × (found / 32 ≡ 2 → ⊥)
+CidCause (Unsupported name found) b = (more : List ℕ) × (b ≡ found ∷ more) × (found / 32 ≢ 2)
 CidCause (Msg message) b = Names message (codes "Invalid CID")
     × ((n : ℕ) × (rest : List ℕ) × (n < 2 ^ 64) × (b ≡ head 2 n ++ rest)
     × ((87 < n) ⊎ ((s after : List ℕ) × (rest ≡ s ++ after) × (length s ≡ n) × ((cid : List ℕ) → s ≡ 0x00 ∷ cid → IsCid cid → ⊥))))

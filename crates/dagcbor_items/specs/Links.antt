@@ -53,4 +53,4 @@ ReadsLink old result new = MatchResult result
 -- a CID is found exactly in a zero and a CID
 abbrev pub IsZeroAndCid : List ℕ → Option CidParts → Type 0
 IsZeroAndCid payload (Some c) = AreCidParts c × (payload ≡ 0x00 ∷ cid_bytes c)
-IsZeroAndCid payload None = (cid : List ℕ) → payload ≡ 0x00 ∷ cid → IsCid cid → ⊥
+IsZeroAndCid payload None = (cid : List ℕ) → payload ≡ 0x00 ∷ cid → ¬ IsCid cid

@@ -71,7 +71,7 @@ LinksRefused (Read e) b = ⊥
 LinksRefused OutOfMemory b = ⊤
 LinksRefused (RequireBorrowed name) b = ⊥
 LinksRefused Failed b = ⊥
-LinksRefused e b = ((links : List (List ℕ)) → AreFirstLinks b links → ⊥)
+LinksRefused e b = ((links : List (List ℕ)) → ¬ AreFirstLinks b links)
     × CauseInside default_steps e b
 
 -- The links of the first item of a slice are read exactly where one stands that is read within

@@ -62,4 +62,4 @@ IsLeaf _ = ⊤
 abbrev pub IsSimple : ℕ → Option Ipld → Type 0
 IsSimple byte (Some v) = IsLeaf (tree_of v) × IsTree (tree_of v) × IsSpellable (tree_of v)
     × (spelling (tree_of v) ≡ byte ∷ [])
-IsSimple byte None = (0xf4 ≤ byte) → (byte ≤ 0xf6) → ⊥
+IsSimple byte None = (0xf4 ≤ byte) → ¬ (byte ≤ 0xf6)

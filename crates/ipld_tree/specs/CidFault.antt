@@ -51,9 +51,9 @@ IsFault TrailingBytes b = AtDigest b (λ n rest. (n ≤ 64) × (n < length rest)
 abbrev pub ReadsBinaryCid : List ℕ → Result CidParts CidError → Type 0
 ReadsBinaryCid b result = MatchResult result
     (λ c. AreCidParts c × (b ≡ cid_bytes c))
-    (λ e. (IsCid b → ⊥) × IsFault e b)
+    (λ e. ¬ IsCid b × IsFault e b)
 
 -- At most one fault stands in bytes, and none in a CID.
 abbrev pub CidFaultsAreUnique : Type 0
-CidFaultsAreUnique = (b : List ℕ) (e : CidError) → IsFault e b → (IsCid b → ⊥)
+CidFaultsAreUnique = (b : List ℕ) (e : CidError) → IsFault e b → ¬ IsCid b
     × ((f : CidError) → IsFault f b → e ≡ f)

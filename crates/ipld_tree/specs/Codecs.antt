@@ -19,11 +19,11 @@ abbrev pub Decodes : {T D V E : Type 0} → (List ℕ → D → Type 0) → (D �
     → (E → Type 0) → Option (List ℕ) → Result T E → Type 0
 Decodes {V = V} is_encoding is_read held is_excuse left result = MatchResult result
     (λ v. IfSome left (λ b. AreRead is_encoding is_read b (held v)))
-    (λ e. is_excuse e ⊎ IfSome left (λ b. (v : V) → AreRead is_encoding is_read b v → ⊥))
+    (λ e. is_excuse e ⊎ IfSome left (λ b. (v : V) → ¬ AreRead is_encoding is_read b v))
 
 -- the value has no data, or its data no encoding
 abbrev pub HasNoEncoding : {D : Type 0} → (List ℕ → D → Type 0) → Option D → Type 0
-HasNoEncoding is_encoding datum = IfSome datum (λ d. (b : List ℕ) → is_encoding b d → ⊥)
+HasNoEncoding is_encoding datum = IfSome datum (λ d. (b : List ℕ) → ¬ is_encoding b d)
 
 -- Known bytes of the device grew by an encoding of the value's data. Only a value that has none is
 -- refused without an excuse; else a beginning of each encoding went out.
@@ -58,7 +58,7 @@ abbrev pub FindsLinks : {E : Type 0} → (List ℕ → List (List ℕ) → Type 
     → Result CidIter E → Type 0
 FindsLinks has_links is_excuse b result = MatchResult result
     (λ cids. has_links b (map cid_bytes (cids_left cids)))
-    (λ e. is_excuse e ⊎ ((links : List (List ℕ)) → has_links b links → ⊥))
+    (λ e. is_excuse e ⊎ ((links : List (List ℕ)) → ¬ has_links b links))
 
 -- Bytes have one list of links.
 abbrev pub BytesHaveOneList : (List ℕ → List (List ℕ) → Type 0) → Type 0

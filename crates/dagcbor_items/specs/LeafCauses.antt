@@ -46,8 +46,8 @@ IsLong name _ b = ⊥
 
 -- the bytes do not begin with such a tag
 abbrev pub BeginsNoLong : List ℕ → Type 0
-BeginsNoLong b = (found : ℕ) (more : List ℕ) → b ≡ found ∷ more → (found ≡ 0xc2) ⊎ (found ≡ 0xc3)
-    → ⊥
+BeginsNoLong b = (found : ℕ) (more : List ℕ) → b ≡ found ∷ more
+    → ¬ ((found ≡ 0xc2) ⊎ (found ≡ 0xc3))
 
 -- where a number of any size is to stand, no head of one stands, and no such tag; or such a tag
 -- does

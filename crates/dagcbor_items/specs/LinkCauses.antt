@@ -27,7 +27,7 @@ CidCause (Eof name expect) b = (n : ℕ) × (rest : List ℕ) × (n < 2 ^ 64) ×
 CidCause (Unsupported name found) b = (more : List ℕ) × (b ≡ found ∷ more) × (found / 32 ≢ 2)
 CidCause (Msg message) b = Names message (codes "Invalid CID")
     × ((n : ℕ) × (rest : List ℕ) × (n < 2 ^ 64) × (b ≡ head 2 n ++ rest)
-    × ((87 < n) ⊎ ((s after : List ℕ) × (rest ≡ s ++ after) × (length s ≡ n) × ((cid : List ℕ) → s ≡ 0x00 ∷ cid → IsCid cid → ⊥))))
+    × ((87 < n) ⊎ ((s after : List ℕ) × (rest ≡ s ++ after) × (length s ≡ n) × ((cid : List ℕ) → s ≡ 0x00 ∷ cid → ¬ IsCid cid))))
 CidCause _ b = ⊥
 
 -- the cause stands where a byte string of a zero and a CID is to stand: its head's, where a byte of

@@ -1,5 +1,5 @@
 -- What contracts see of an accessor, and what its calls do.
-use Rattle.std.specs.Prelude.{◌≡◌, ◌==◌, ℕ, ◌+◌, ◌-◌, ◌^◌, ◌/◌, ◌<◌, Bool, false, true, List, ◌∷◌}
+use Rattle.std.specs.Prelude.{◌≡◌, ◌≢◌, ◌==◌, ℕ, ◌+◌, ◌-◌, ◌^◌, ◌/◌, ◌<◌, Bool, false, true, List, ◌∷◌}
 use Rattle.std.specs.Prelude.{◌++◌, Option, None, Some, option_map, Result, Ok, Err, MatchResult}
 use Rattle.std.specs.Prelude.{⊤}
 use Rattle.std.specs.Cow.{cow_str_bytes}
@@ -72,7 +72,7 @@ pub record HasHeadOf (major : ℕ) (r : Reading) : Type 0 where
 abbrev pub EnterCause : {E : Type 0} → ℕ → List ℕ → DecodeError E → List ℕ → Type 0
 EnterCause major name (DepthOverflow n) b = Names n name
 EnterCause major name (Mismatch n found) b = Names n name
-    × ((more : List ℕ) × (b ≡ found ∷ more) × (found / 32 ≡ major → ⊥))
+    × ((more : List ℕ) × (b ≡ found ∷ more) × (found / 32 ≢ major))
 EnterCause major name e b = HeadCause e b × IsNamed name e × BeginsAs major b
 
 -- which refusals are answered, also where the bytes are not known

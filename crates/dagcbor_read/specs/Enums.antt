@@ -1,5 +1,5 @@
 -- What contracts see of an enum that was begun, and what its calls do.
-use Rattle.std.specs.Prelude.{◌≡◌, ◌⊎◌, ℕ, ◌+◌, ◌-◌, ◌/◌, ◌<◌, Bool, true, false, List, [], ◌∷◌}
+use Rattle.std.specs.Prelude.{◌≡◌, ◌≢◌, ◌⊎◌, ℕ, ◌+◌, ◌-◌, ◌/◌, ◌<◌, Bool, true, false, List, [], ◌∷◌}
 use Rattle.std.specs.Prelude.{Some, Result, MatchResult, MatchBool, IfOk, codes, ⊤}
 use Rattle.dagcbor_heads.specs.Reading.{Reading, with_steps}
 use Rattle.dagcbor_heads.specs.Fronts.{Takes, ShowsByte}
@@ -53,7 +53,7 @@ TakesForm e old new = MatchBool e.in_map
 abbrev pub EnumCause : {E : Type 0} → DecodeError E → List ℕ → Type 0
 EnumCause (Eof name expect) b = Names name (codes "enum") × (expect ≡ Small 1) × (b ≡ [])
 EnumCause (Mismatch name found) b = Names name (codes "enum")
-    × ((more : List ℕ) × (b ≡ found ∷ more) × (found ≡ 0xa1 → ⊥) × (found / 32 ≡ 3 → ⊥))
+    × ((more : List ℕ) × (b ≡ found ∷ more) × (found ≢ 0xa1) × (found / 32 ≢ 3))
 EnumCause _ b = ⊥
 
 -- An enum is begun exactly where one may begin. No step is spent on it.

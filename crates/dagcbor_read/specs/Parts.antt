@@ -1,5 +1,5 @@
 -- What reading a value of another type answers and refuses.
-use Rattle.std.specs.Prelude.{◌≡◌, ℕ, ◌+◌, ◌<◌, ◌⊎◌, Bool, true, List, [], ◌∷◌, Option, Some}
+use Rattle.std.specs.Prelude.{◌≡◌, ◌≢◌, ℕ, ◌+◌, ◌<◌, ◌⊎◌, Bool, true, List, [], ◌∷◌, Option, Some}
 use Rattle.std.specs.Prelude.{option_map, Result, Err, IfErr, MatchResult, MatchBool, codes, false}
 use Rattle.std.specs.Prelude.{⊤}
 use Rattle.dagcbor_heads.specs.Reading.{Reading, Keeps}
@@ -29,7 +29,7 @@ pub record CanEnter (r : Reading) : Type 0 where
 -- something else than a null stands at the front, and a step was spent on it
 pub record EntersSome (old new : Reading) : Type 0 where
   pub begins : (b : List ℕ) → old.left ≡ Some b → (byte : ℕ) × (rest : List ℕ) × (b ≡ byte ∷ rest)
-      × (byte ≡ 0xf6 → ⊥)
+      × (byte ≢ 0xf6)
   pub kept : Keeps old new
   pub steps : new.steps + 1 ≡ old.steps
   pub is_out : new.steps < new.budget
@@ -73,4 +73,4 @@ ReadsOption meaning shape old result new = MatchResult result
 abbrev pub RefusesToBegin : {T A E : Type 0} → (Reading → Type 0)
     → (Reading → Result A (DecodeError E) → Reading → Type 0) → Progress → Result T (DecodeError E)
     → Progress → Type 0
-RefusesToBegin could begins old result new = old.failed ≡ false → (b : List ℕ) → old.input.left ≡ Some b → (could old.input → ⊥) → IfErr result (λ e. begins old.input (Err e) new.input)
+RefusesToBegin could begins old result new = old.failed ≡ false → (b : List ℕ) → old.input.left ≡ Some b → (¬ could old.input) → IfErr result (λ e. begins old.input (Err e) new.input)

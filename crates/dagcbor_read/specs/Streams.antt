@@ -30,7 +30,7 @@ AreStreamItems shape steps b [] = b ≡ []
 AreStreamItems shape steps b (Some v ∷ items) = (rest : List ℕ) × IsNextValue shape steps b v rest
     × AreStreamItems shape steps rest items
 AreStreamItems {V} shape steps b (None ∷ items) = (items ≡ []) × (0 < length b)
-    × ((v : V) (rest : List ℕ) → IsNextValue shape steps b v rest → ⊥)
+    × ((v : V) (rest : List ℕ) → ¬ IsNextValue shape steps b v rest)
 
 -- The values are those of trees that stand one behind the other at the front of the bytes, before
 -- the rest, each accepted within the steps.
@@ -119,7 +119,7 @@ MayBorrow borrows lends = (borrows ≡ true) × (lends ≡ false)
 abbrev pub NoneGivesUp : {T E : Type 0} → Type 0 → List (Result T (DecodeError E)) → Type 0
 NoneGivesUp borrows [] = ⊤
 NoneGivesUp borrows (Ok v ∷ xs) = NoneGivesUp borrows xs
-NoneGivesUp borrows (Err e ∷ xs) = (GivesUp borrows e → ⊥) × NoneGivesUp borrows xs
+NoneGivesUp borrows (Err e ∷ xs) = (¬ GivesUp borrows e) × NoneGivesUp borrows xs
 
 -- behind an error nothing comes
 abbrev pub EndsAtError : {T E : Type 0} → List (Result T (DecodeError E)) → Type 0

@@ -1,5 +1,5 @@
 -- What putting the entries of a map into key order answers.
-use Rattle.std.specs.Prelude.{◌≡◌, ℕ, ◌+◌, ◌<◌, Bool, true, false, List, [], ◌∷◌, ◌++◌, Option}
+use Rattle.std.specs.Prelude.{◌≡◌, ◌≢◌, ℕ, ◌+◌, ◌<◌, Bool, true, false, List, [], ◌∷◌, ◌++◌, Option}
 use Rattle.std.specs.Prelude.{None, Some, length, slice_index_or, IsPermutation}
 use Rattle.std.specs.List.Sorted.{IsSortedBy}
 use Rattle.std.specs.Ordering.{is_lt}
@@ -10,7 +10,7 @@ use Rattle.dagcbor_write.specs.Maps.{Texts}
 -- each key differs from the one before it, or one does not
 abbrev pub KeysDiffer : List Texts → Bool → Type 0
 KeysDiffer es true = (k : ℕ) (d : Texts) → k + 1 < length es
-    → (slice_index_or es k d).0 ≡ (slice_index_or es (k + 1) d).0 → ⊥
+    → (slice_index_or es k d).0 ≢ (slice_index_or es (k + 1) d).0
 KeysDiffer es false = (k : ℕ) × (k + 1 < length es)
     × ((d : Texts) → (slice_index_or es k d).0 ≡ (slice_index_or es (k + 1) d).0)
 

@@ -32,7 +32,7 @@ pub struct Accessor<'de> {
 /// The same key once more, with no memory where it is lent.
 pub(crate) fn copied<'de>(alloc: Global, key: &CowStr<'de>) -> Result<CowStr<'de>, AllocError>
     ensures same { IfOk result (λ c. cow_str_bytes c ≡ cow_str_bytes key.now) }
-    ensures lent { IfErr result (λ _. IsBorrowedStr key.now → ⊥) }
+    ensures lent { IfErr result (λ _. ¬ IsBorrowedStr key.now) }
 {
     Ok(match key {
         CowStr::Borrowed(text) => CowStr::Borrowed(text),

@@ -8,4 +8,4 @@ abbrev pub IsThereAndBack : {T D V E : Type 0} → (List ℕ → D → Type 0) �
     → (E → Type 0) → Option D → Result (Vec ℕ Global × T) E → Type 0
 IsThereAndBack {V = V} is_encoding is_read held is_excuse datum result = MatchResult result
     (λ p. IsSomeAnd datum (λ d. is_encoding p.0.items d × is_read d (held p.1)))
-    (λ e. is_excuse e ⊎ IfSome datum (λ d. (b : List ℕ) (v : V) → is_encoding b d → is_read d v → ⊥))
+    (λ e. is_excuse e ⊎ IfSome datum (λ d. (b : List ℕ) (v : V) → is_encoding b d → ¬ is_read d v))

@@ -19,9 +19,9 @@ Refuses could lacks borrows stands old (RequireBorrowed name) new = (new.faults 
     × borrows × (old.lends ≡ false)
 Refuses could lacks borrows stands old Failed new = ⊥
 Refuses could lacks borrows stands old (DepthOverflow name) new = (new.faults ≡ old.faults)
-    × (could → ⊥)
+    × (¬ could)
     × ((b : List ℕ) → old.left ≡ Some b → stands (DepthOverflow name) b) × (new.steps ≡ 0)
-Refuses could lacks borrows stands old e new = (new.faults ≡ old.faults) × (could → ⊥)
+Refuses could lacks borrows stands old e new = (new.faults ≡ old.faults) × (¬ could)
     × ((b : List ℕ) → old.left ≡ Some b → stands e b)
 
 -- no step was left: the reader is as before, and the refusal is for the depth, under this name

@@ -1,9 +1,10 @@
 -- Bytes that are shown and taken.
-use Rattle.std.proofs.Common.{◌≡◌, ℕ, ◌+◌, ◌≤◌, min, List, [], ◌∷◌, ◌++◌, length, take, drop, Option, Some, MatchOption, refl, sym, ap, subst, ◌∙◌, arith, append_assoc}
+use Rattle.std.proofs.Common.{◌≡◌, ℕ, ◌+◌, ◌*◌, ◌≤◌, min, List, [], ◌∷◌, ◌++◌, length, take, drop, Option, Some, MatchOption, refl, sym, ap, subst, ◌∙◌, arith, append_assoc}
 use Rattle.std.proofs.lemmas.List.{take-append-drop, take-append-le, length-take-le}
 use Rattle.std.specs.List.{slice_get}
 use Rattle.dagcbor_heads.specs.Reading.{Reading, Stays, Shows, Advances}
 use Rattle.dagcbor_heads.specs.Fronts.{FindsEnd, ShowsByte, Takes, Gathers}
+use Rattle.dagcbor_heads.specs.Looking.{LooksAtTaken}
 
 -- ---- the same reader
 
@@ -79,7 +80,9 @@ fill_gathers {old} {mid} {new} {want} {n} h is behind a = record {
   none_left = λ none some b l. (h.front b l).end some (omega (arith, is));
 }
 
--- some of n bytes were gathered, and the others are still to come
+-- some of n bytes were gathered, each looked at twice at most, and the others are still to come
 pub record GatheredSome (n left : ℕ) (old : Reading) (payload : List ℕ) (now : Reading) : Type 0 where
   pub counted : length payload + left ≡ n
   pub takes : Takes old payload now
+  pub looked : LooksAtTaken 2 0 old now
+  pub at_most : now.looked + 2 * left ≤ old.looked + 2 * n

@@ -7,6 +7,7 @@ use Rattle.dagcbor_write.specs.contracts.serializer.Serializer.{the_row}
 use Rattle.dagcbor_write.specs.declared.collect.bounded.BoundedCollect.{BoundedCollect}
 use Rattle.dagcbor_write.specs.declared.collect.collect_map.CollectMap.{CollectMap}
 use Rattle.dagcbor_write.specs.declared.collect.collect_seq.CollectSeq.{CollectSeq}
+use Rattle.dagcbor_write.specs.Maps.{MapState}
 
 -- the serializer that a collector holds
 abbrev pub map_lent : {W G : Type 0} → CollectMap W G → MutBor W
@@ -32,6 +33,12 @@ bounded_left c = c.left
 -- one is lent on as the other
 abbrev pub SameLoan : {W : Type 0} → MutBor W → MutBor W → Type 0
 SameLoan old new = new.ghost_name ≡ old.ghost_name
+
+-- nothing was written: the serializer stands as it was, and so does the number that was announced
+pub record WritesNothing {W : Type 0} (old new : CollectMap W MapState) : Type 0 where
+  pub same_reference : SameLoan (map_lent old) (map_lent new)
+  pub unchanged : (map_lent new).now ≡ (map_lent old).now
+  pub announced : (map_state new).announced ≡ (map_state old).announced
 
 -- A collector begins with the serializer, or the head was refused: then the serializer rests as
 -- that left it.

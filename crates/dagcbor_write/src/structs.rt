@@ -8,7 +8,7 @@ ghost use Rattle.ipld_tree.specs.Spelled.{spelled_tree};
 ghost use Rattle.dagcbor_write.specs.Gathering.{Collects};
 ghost use Rattle.dagcbor_write.specs.Trees.{Pair, field, variant_tree};
 ghost use Rattle.dagcbor_write.specs.Maps.{JoinsPairs, RefusesAnyValue};
-ghost use Rattle.dagcbor_write.specs.Lending.{map_lent, map_state, SameLoan};
+ghost use Rattle.dagcbor_write.specs.Lending.{map_state, WritesNothing};
 
 use crate::collect::collect_map::CollectMap;
 use crate::serialize::Serialize;
@@ -29,9 +29,7 @@ pub trait FieldRow: Copy {
     /// serialized.")` where one has no spelling.
     fn push_fields<W: Write>(self, map: &mut CollectMap<'_, W>) -> WriteResult<(), W>
         requires { (map_state map.old).key ≡ None }
-        ensures same_reference { SameLoan (map_lent map.old) (map_lent map.new) }
-        ensures unchanged { (map_lent map.new).now ≡ (map_lent map.old).now }
-        ensures announced { (map_state map.new).announced ≡ (map_state map.old).announced }
+        ensures nothing_written { WritesNothing map.old map.new }
         ensures key { OnOk result ((map_state map.new).key ≡ None) }
         ensures entries { Collects
             (λ u. JoinsPairs (pairs self) (map_state map.old).entries (map_state map.new).entries)

@@ -14,7 +14,8 @@ ghost use Rattle.dagcbor_write.specs.Maps.{no_entry_yet, is_complete, HoldsKey, 
 ghost use Rattle.dagcbor_write.specs.Maps.{JoinsEntry, RefusesKey, RefusesValue, RefusesEntry};
 ghost use Rattle.dagcbor_write.specs.Maps.{AreSpellingsOf, RepeatsKey, map_rest};
 ghost use Rattle.dagcbor_write.specs.Order.{head_rest, entries_bytes};
-ghost use Rattle.dagcbor_write.specs.Lending.{map_lent, map_state, SameLoan, BeginsOrStops};
+ghost use Rattle.dagcbor_write.specs.Lending.{map_lent, map_state, SameLoan, WritesNothing};
+ghost use Rattle.dagcbor_write.specs.Lending.{BeginsOrStops};
 
 use crate::collect::gathered::Gathered;
 use crate::serialize::Serialize;
@@ -168,9 +169,7 @@ impl<W: Write> CollectMap<'_, W> {
     /// where it has no spelling, with `Msg("Map keys must be strings")` where it is no text.
     pub fn serialize_key<K: Serialize>(&mut self, key: &K) -> WriteResult<(), W>
         requires { (map_state self.old).key ≡ None }
-        ensures same_reference { SameLoan (map_lent self.old) (map_lent self.new) }
-        ensures unchanged { (map_lent self.new).now ≡ (map_lent self.old).now }
-        ensures announced { (map_state self.new).announced ≡ (map_state self.old).announced }
+        ensures nothing_written { WritesNothing self.old self.new }
         ensures entries { (map_state self.new).entries ≡ (map_state self.old).entries }
         ensures key { Collects (λ u. HoldsKey (K.tree key.now) (map_state self.new).key)
             (RefusesKey (K.tree key.now)) result }
@@ -182,9 +181,7 @@ impl<W: Write> CollectMap<'_, W> {
     /// serialized.")` where it has no spelling.
     pub fn serialize_value<V: Serialize>(&mut self, value: &V) -> WriteResult<(), W>
         requires { IsSome (map_state self.old).key }
-        ensures same_reference { SameLoan (map_lent self.old) (map_lent self.new) }
-        ensures unchanged { (map_lent self.new).now ≡ (map_lent self.old).now }
-        ensures announced { (map_state self.new).announced ≡ (map_state self.old).announced }
+        ensures nothing_written { WritesNothing self.old self.new }
         ensures key { (map_state self.new).key ≡ None }
         ensures entry { Collects
             (λ u. JoinsValue (map_state self.old).key (V.tree value.now)
@@ -202,9 +199,7 @@ impl<W: Write> CollectMap<'_, W> {
         value: &V,
     ) -> WriteResult<(), W>
         requires { (map_state self.old).key ≡ None }
-        ensures same_reference { SameLoan (map_lent self.old) (map_lent self.new) }
-        ensures unchanged { (map_lent self.new).now ≡ (map_lent self.old).now }
-        ensures announced { (map_state self.new).announced ≡ (map_state self.old).announced }
+        ensures nothing_written { WritesNothing self.old self.new }
         ensures key { OnOk result ((map_state self.new).key ≡ None) }
         ensures entry { Collects
             (λ u. JoinsEntry (K.tree key.now) (V.tree value.now)
@@ -223,9 +218,7 @@ impl<W: Write> CollectMap<'_, W> {
         value: &V,
     ) -> WriteResult<(), W>
         requires { (map_state self.old).key ≡ None }
-        ensures same_reference { SameLoan (map_lent self.old) (map_lent self.new) }
-        ensures unchanged { (map_lent self.new).now ≡ (map_lent self.old).now }
-        ensures announced { (map_state self.new).announced ≡ (map_state self.old).announced }
+        ensures nothing_written { WritesNothing self.old self.new }
         ensures key { OnOk result ((map_state self.new).key ≡ None) }
         ensures entry { Collects
             (λ u. JoinsEntry (Some (text name.now)) (V.tree value.now)

@@ -7,10 +7,8 @@ loop-key-init g c =
     record {
       can_next = search rules;
       is_finite = search rules;
-      same_reference = search rules;
-      unchanged = search rules;
+      nothing_written = search rules;
       key = search rules;
-      announced = search rules;
       given = λ rest shows. left_as (ap rest (sym c.into_iter-key-iterator.ensures.into_iter_gives)) (begin_map (rest c.args.entries) _ (ap (λ state. state.entries) c.serialize_map-map.ensures.nothing));
     }
 
@@ -19,10 +17,8 @@ loop-key-preserved g c =
     record {
       can_next = search rules;
       is_finite = search rules;
-      same_reference = search rules;
-      unchanged = search rules;
+      nothing_written = search rules;
       key = search rules;
-      announced = search rules;
       given = λ rest shows. next_pair (left_as (shows _ _ _ c.in-Some.ensures.steps) (c.loop-key.invariant.given rest shows)) _ c.in_ok-serialize_entry.ensures.entry;
     }
 

@@ -1,6 +1,7 @@
 use Rattle.std.proofs.Common.{◌≡◌, None, List}
 use Rattle.dagcbor_write.specs.Trees.{Pair}
 use Rattle.dagcbor_write.specs.Maps.{ShowsPairs}
+use Rattle.dagcbor_write.specs.Lending.{WritesNothing}
 use Rattle.dagcbor_write.proofs.Fields.{Given-but}
 use Rattle.dagcbor_write.proofs.types.maps.write_entries.Given as goal
 
@@ -8,9 +9,7 @@ abbrev pub invariant-loop-key : goal.invariant-loop-key
 invariant-loop-key g l = record {
   can_next : (goal.iterator-loop-key g).can_next l.key-iterator;
   is_finite : (goal.iterator-loop-key g).is_finite l.key-iterator;
-  same_reference : l.map.ser.ghost_name ≡ l.initial.map.ser.ghost_name;
-  unchanged : l.map.ser.now ≡ l.initial.map.ser.now;
+  nothing_written : WritesNothing l.initial.map l.map;
   key : l.map.state.key ≡ None;
-  announced : l.map.state.announced ≡ None;
   given : (rest : g.row.I.Denot → List Pair) → ShowsPairs g.I.Iterator.next_gives (λ e. (g.K.Serialize.tree e.0.now, g.V.Serialize.tree e.1.now)) rest → Given-but (rest l.fn.entries) (rest l.key-iterator) l.map.state.entries;
 }

@@ -10,6 +10,7 @@ ghost use Rattle.ipld_tree.specs.Cid.{IsCid};
 ghost use Rattle.dagcbor_items.specs.Places.{Follows};
 ghost use Rattle.dagcbor_items.specs.Judging.{SplitsPayload, SplitsText, SplitsKey, SplitsCid};
 ghost use Rattle.dagcbor_items.specs.Judging.{SplitsLeaf, SplitsItem, SplitsItems, SplitsEntries};
+ghost use Rattle.dagcbor_items.specs.Judging.{GivesRest, GivesLeft};
 
 use crate::key::comes_before;
 use dagcbor_heads::split_head;
@@ -188,7 +189,7 @@ fn behind_leaf(major: u8, argument: u64, behind: &[u8]) -> Option<&[u8]>
     requires no_list { major ≢ 4 }
     requires no_map { major ≢ 5 }
     ensures { (b : List ℕ) → SplitsHead b major argument behind.now →
-        MatchOption result (¬ ((rest : List ℕ) × SplitsLeaf b rest)) (λ rest. SplitsLeaf b rest.now) }
+        GivesRest (λ rest. rest.now) (SplitsLeaf b) result }
 {
     match major {
         0 => Some(behind),
@@ -211,8 +212,7 @@ fn behind_leaf(major: u8, argument: u64, behind: &[u8]) -> Option<&[u8]>
 #[cycle(judge)]
 #[inline(always)]
 pub fn behind_item(bytes: &[u8], steps: usize) -> Option<&[u8]>
-    ensures { MatchOption result (¬ ((rest : List ℕ) × SplitsItem bytes.now steps rest))
-        (λ rest. SplitsItem bytes.now steps rest.now) }
+    ensures { GivesRest (λ rest. rest.now) (SplitsItem bytes.now steps) result }
 {
     let (major, argument, behind) = split_head(bytes)?;
     if major == 4 {
@@ -239,8 +239,7 @@ pub fn behind_item(bytes: &[u8], steps: usize) -> Option<&[u8]>
 #[cycle(judge)]
 #[inline(never)]
 fn left_behind_items(bytes: &[u8], count: u64, steps: usize) -> Option<usize>
-    ensures { MatchOption result (¬ ((rest : List ℕ) × SplitsItems bytes.now count steps rest))
-        (λ left. (rest : List ℕ) × (length rest ≡ left) × SplitsItems bytes.now count steps rest) }
+    ensures { GivesLeft (SplitsItems bytes.now count steps) result }
 {
     let mut rest = bytes;
     for _index in 0..count {
@@ -253,11 +252,10 @@ fn left_behind_items(bytes: &[u8], count: u64, steps: usize) -> Option<usize>
 #[cycle(judge)]
 #[inline(never)]
 fn left_behind_entries(bytes: &[u8], count: u64, steps: usize) -> Option<usize>
-    ensures { MatchOption result (¬ ((rest : List ℕ) × SplitsEntries bytes.now count steps rest))
-        (λ left. (rest : List ℕ) × (length rest ≡ left) × SplitsEntries bytes.now count steps rest) }
+    ensures { GivesLeft (SplitsEntries bytes.now count steps) result }
 {
-    let mut rest = bytes;
     let mut previous = None;
+    let mut rest = bytes;
     for _index in 0..count {
         let (key, behind) = split_key(rest)?;
         if !follows(&previous, key) {

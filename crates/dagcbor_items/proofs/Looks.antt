@@ -10,9 +10,9 @@ use Rattle.dagcbor_heads.specs.Looking.{Looks, LooksBehind, LooksOnce, LooksAtTa
 use Rattle.dagcbor_heads.proofs.Heads.{head_first}
 use Rattle.dagcbor_heads.proofs.Looking.{looks_both, looks_then}
 use Rattle.ipld_tree.specs.Tree.{Tree}
-use Rattle.dagcbor_items.specs.Untyped.{TakesItem, StartsWithMajor}
-use Rattle.dagcbor_items.specs.Reads.{Reads}
-use Rattle.dagcbor_items.specs.Shapes.{leaf}
+use Rattle.dagcbor_items.specs.Untyped.{StartsWithMajor}
+use Rattle.dagcbor_items.specs.Reads.{Reads, TakesFront}
+use Rattle.dagcbor_items.specs.Shapes.{Shape, leaf}
 use Rattle.dagcbor_items.proofs.Fronts.{shorter}
 
 -- ---- more looks are allowed
@@ -50,8 +50,8 @@ head_taken {m} {n} {first} {old} {new} h t = taken_first h (λ b l.
     let f = head_first m n t.argument_fits in
     (k.0, k.2, omega (arith, ap length k.1, length-append (head m n) k.0, ap length f.3)))
 
-pub item_taken : {spent : ℕ} {old new : Reading} {t : Tree} → LooksAtTaken 2 0 old new → TakesItem spent old t new → LooksAtTaken 3 1 old new
-item_taken {spent} {old} {new} {t} h a = taken_first h (λ b l. let k = a.taken b l in (k.0, k.3, shorter b k.0 t k.1))
+pub front_looked : {V : Type 0} {shape : Shape Tree V} {v : V} {old new : Reading} → LooksAtTaken 2 0 old new → TakesFront shape old v new → LooksAtTaken 3 1 old new
+front_looked h a = taken_first h (λ b l. let k = a.taken b l in (k.1, k.5, shorter b k.1 k.0 k.2))
 
 pub major_left : {times m : ℕ} {old new : Reading} → StartsWithMajor old m → LooksAtLeft times 0 old new → LooksAtLeft (times + 1) 1 old new
 major_left {times} {m} {old} {new} starts h = left_first h (λ b l. let s = starts b l in omega (arith, ap length s.2))

@@ -6,7 +6,7 @@ use Rattle.dagcbor_heads.specs.Refusals.{Refuses}
 use Rattle.dagcbor_heads.specs.declared.error.DecodeError.{DecodeError}
 use Rattle.dagcbor_heads.specs.declared.error.DecodeError.TheVariants.{Eof, Mismatch, RequireUtf8}
 use Rattle.dagcbor_heads.proofs.Taking.{stays}
-use Rattle.dagcbor_heads.proofs.Refusing.{passed_on}
+use Rattle.dagcbor_heads.proofs.Refusing.{passed_on, as_refusal}
 use Rattle.ipld_tree.specs.Tree.{Tree, text, bytes, any_need}
 use Rattle.ipld_tree.specs.Spelling.{IsFront}
 use Rattle.ipld_tree.specs.Ipld.{tree_of}
@@ -97,3 +97,9 @@ bytes_as_tree {old} {new} v h = as_tree (bytes v.items) _ (tree_of_Bytes v) (byt
 pub bytes_refused : {E : Type 0} (lacks : Type 0) (old new : Reading) (e : DecodeError E) → StartsWithMajor old 2 → Refuses (HasFront (leaf view_bytes) old) lacks ⊥ (StringCause (codes "bytes") 2) old e new → Refuses (HasItem 1 old) lacks ⊥ (CauseInside (old.steps + 1)) old e new
 bytes_refused lacks old new e starts r =
     passed_on (StringCause (codes "bytes") 2) (CauseInside (old.steps + 1)) old old new e (stays old) (bytes_front starts) (λ x. x) (λ x. x) (λ b l. (b, l, string_stands _ (omega arith) (codes "bytes") 2 e b (inl refl) (starts b l))) r
+
+-- ---- for the calls that read a string as an item
+
+pub ruleset text_items = (text_as_tree, text_taken, text_refused, as_refusal)
+
+pub ruleset bytes_items = (bytes_as_tree, bytes_taken, bytes_refused, as_refusal)

@@ -26,7 +26,7 @@ pub(crate) fn read_integer<R: Read>(name: &str, reader: &mut R, first: u8) -> Re
     Ok(Ipld::Integer(number_of(first / 32, argument)))
 }
 
-#[tactic(auto, using(crate::proofs::Variants::kind_item))]
+#[tactic(auto, using(crate::proofs::Variants::kind_item, crate::proofs::StringItems::bytes_items))]
 pub(crate) fn read_bytes<R: Read>(alloc: Global, input: &mut Input<'_, R>) -> ReadResult<Ipld, R>
     requires { StartsWithMajor (input_reading R.reading input.old) 2 }
     ensures item { OverInput R.reading (ReadsItem 1) input.old result input.new }
@@ -36,7 +36,7 @@ pub(crate) fn read_bytes<R: Read>(alloc: Global, input: &mut Input<'_, R>) -> Re
     Ok(Ipld::Bytes(pull_peeked_owned_bytes(alloc, input)?))
 }
 
-#[tactic(auto, using(crate::proofs::Variants::text_item))]
+#[tactic(auto, using(crate::proofs::Variants::text_item, crate::proofs::StringItems::text_items))]
 pub(crate) fn read_text<R: Read>(alloc: Global, input: &mut Input<'_, R>) -> ReadResult<Ipld, R>
     requires { StartsWithMajor (input_reading R.reading input.old) 3 }
     ensures item { OverInput R.reading (ReadsItem 1) input.old result input.new }

@@ -71,11 +71,13 @@ impl<'de, R: Read> PayloadReader for Input<'de, R> {
         read_key(alloc, self, previous)
     }
 
+    #[tactic(auto, using(crate::proofs::StringItems::bytes_items))]
     fn skip_bytes(&mut self, alloc: Global) -> ReadResult<(), R> {
         pull_peeked_slice(alloc, self)?;
         Ok(())
     }
 
+    #[tactic(auto, using(crate::proofs::StringItems::text_items))]
     fn skip_text(&mut self, alloc: Global) -> ReadResult<(), R> {
         pull_peeked_str(alloc, "string", self)?;
         Ok(())

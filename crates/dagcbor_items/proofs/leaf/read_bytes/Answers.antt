@@ -1,13 +1,5 @@
-use Rattle.dagcbor_heads.proofs.Refusing.{as_refusal}
-use Rattle.dagcbor_items.proofs.StringItems.{bytes_as_tree, bytes_taken, bytes_refused}
-use Rattle.dagcbor_items.proofs.Looks.{item_taken}
+use Rattle.dagcbor_items.proofs.Looks.{front_looked}
 use Rattle.dagcbor_items.proofs.leaf.read_bytes.Goals as goal
 
-pub returns-in_err-pull_peeked_owned_bytes-clause-item : goal.returns-in_err-pull_peeked_owned_bytes-clause-item
-returns-in_err-pull_peeked_owned_bytes-clause-item g c = as_refusal _ _ _ _ c.from_residual.ensures.1 (bytes_refused _ _ _ _ c.requires c.in_err-pull_peeked_owned_bytes.ensures.bytes)
-
-pub returns-clause-item : goal.returns-clause-item
-returns-clause-item g c = bytes_as_tree _ c.in_ok-pull_peeked_owned_bytes.ensures.bytes
-
 pub returns-clause-looked : goal.returns-clause-looked
-returns-clause-looked g c = item_taken c.in_ok-pull_peeked_owned_bytes.ensures.looked (bytes_taken _ c.in_ok-pull_peeked_owned_bytes.ensures.bytes)
+returns-clause-looked g c = front_looked c.in_ok-pull_peeked_owned_bytes.ensures.looked c.in_ok-pull_peeked_owned_bytes.ensures.bytes

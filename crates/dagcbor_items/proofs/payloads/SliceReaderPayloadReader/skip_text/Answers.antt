@@ -1,7 +1,7 @@
 use Rattle.std.specs.Prelude.{◌≡◌, false}
 use Rattle.dagcbor_heads.proofs.Refusing.{as_refusal}
 use Rattle.dagcbor_items.proofs.StringItems.{text_taken, text_refused}
-use Rattle.dagcbor_items.proofs.Looks.{item_taken}
+use Rattle.dagcbor_items.proofs.Looks.{front_looked}
 use Rattle.dagcbor_items.proofs.payloads.SliceReaderPayloadReader.skip_text.Goals as goal
 
 pub returns-in_err-pull_peeked_lent_text-clause-item : goal.returns-in_err-pull_peeked_lent_text-clause-item
@@ -12,4 +12,4 @@ pub returns-clause-item : goal.returns-clause-item
 returns-clause-item c = (_, text_taken _ c.in_ok-pull_peeked_lent_text.ensures.text)
 
 pub returns-clause-looked : goal.returns-clause-looked
-returns-clause-looked c = item_taken c.in_ok-pull_peeked_lent_text.ensures.looked (text_taken _ c.in_ok-pull_peeked_lent_text.ensures.text)
+returns-clause-looked c = front_looked c.in_ok-pull_peeked_lent_text.ensures.looked c.in_ok-pull_peeked_lent_text.ensures.text

@@ -12,7 +12,7 @@ use Rattle.ipld_tree.specs.Spelling.{item_count, IsFront, AreFronts}
 use Rattle.ipld_tree.specs.Ipld.{tree_of, trees_of}
 use Rattle.ipld_tree.specs.declared.ipld.Ipld.{Ipld, List as List'}
 use Rattle.ipld_tree.proofs.Trees.{items_need_push, tree_of_List}
-use Rattle.ipld_tree.proofs.Fronts.{list_opened, list_closed, item_opened, item_closed, items_after, is_list}
+use Rattle.ipld_tree.proofs.Fronts.{list_closed, item_opened, item_closed, items_after, is_list}
 use Rattle.dagcbor_items.specs.Shapes.{Shape}
 use Rattle.dagcbor_items.specs.Reads.{HasFront}
 use Rattle.dagcbor_items.specs.ItemCauses.{CauseInside, CauseInItems}
@@ -21,7 +21,7 @@ use Rattle.dagcbor_items.specs.Entering.{Enters}
 use Rattle.dagcbor_items.specs.Items.{any_items, HasItems, TakesItems}
 use Rattle.dagcbor_items.proofs.Places.{in_list, at_steps}
 use Rattle.dagcbor_items.proofs.Fronts.{major_of_front, as_tree}
-use Rattle.dagcbor_items.proofs.Rows.{row_first}
+use Rattle.dagcbor_items.proofs.Rows.{row_entered, row_first}
 use Rattle.dagcbor_items.proofs.Steps.{spent_step, stepped_refused, stepped_taken}
 
 -- ---- lists
@@ -29,13 +29,10 @@ use Rattle.dagcbor_items.proofs.Steps.{spent_step, stepped_refused, stepped_take
 pub is_list_at : {V : Type 0} {shape : Shape Tree V} {old : Reading} → StartsWithMajor old 4 → (i : HasFront shape old) → (ts : Items) × (i.tree ≡ list ts)
 is_list_at starts i = is_list i.tree (major_of_front i.bytes i.rest i.tree 4 (starts i.bytes i.left) i.front)
 
--- where a list stands, its items stand behind its head
 list_items : {old mid : Reading} {n : ℕ} → StartsWithMajor old 4 → Enters 4 n old mid → HasItem 2 (with_steps (old.steps - 1) old) → HasItems n mid
 list_items {old} {mid} {n} starts h i =
     let l = is_list_at starts i in
-    let k = h.takes.taken i.bytes i.left in
-    let o = list_opened i.bytes k.0 i.rest n l.0 h.fits (subst (λ t. IsFront i.bytes t i.rest) l.1 i.front) k.1 in
-    record { bytes = k.0; items = l.0; rest = i.rest; left = k.2; counted = o.0; fronts = o.1; accepted = refl; within = omega (arith, i.within, ap any_need l.1, h.takes.same.steps) }
+    row_entered l.0 h i.left (subst (λ t. IsFront i.bytes t i.rest) l.1 i.front) refl (omega (arith, i.within, ap any_need l.1, h.takes.same.steps))
 
 pub list_refused : {E lacks lacks' : Type 0} {old mid : Reading} (new : Reading) (n : ℕ) (e : DecodeError E) → StartsWithMajor old 4 → Enters 4 n old mid → (lacks → lacks') → Refuses (HasItems n mid) lacks ⊥ (CauseInItems n mid.steps) mid e new → Refuses (HasItem 1 old) lacks' ⊥ (CauseInside (old.steps + 1)) old e new
 list_refused {E} {lacks} {lacks'} {old} {mid} new n e starts h w r = stepped_refused new 1 e (spent_step h) w (passed_on (CauseInItems n mid.steps) (CauseInside (old.steps - 1 + 2)) (with_steps (old.steps - 1) old) mid new e h.takes.same (list_items starts h) (λ x. x) (λ x. x)

@@ -12,7 +12,7 @@ use Rattle.ipld_tree.specs.Spelling.{entry_count, entries_spelling, IsFront, Are
 use Rattle.ipld_tree.specs.Ipld.{tree_of, pairs_of}
 use Rattle.ipld_tree.specs.declared.ipld.Ipld.{Ipld, Map as Map'}
 use Rattle.ipld_tree.proofs.Trees.{tree_of_Map}
-use Rattle.ipld_tree.proofs.Fronts.{map_opened, is_mapping}
+use Rattle.ipld_tree.proofs.Fronts.{is_mapping}
 use Rattle.dagcbor_items.specs.Shapes.{Shape}
 use Rattle.dagcbor_items.specs.Reads.{HasFront}
 use Rattle.dagcbor_items.specs.Places.{Follows, last_key}
@@ -22,7 +22,7 @@ use Rattle.dagcbor_items.specs.Entering.{Enters}
 use Rattle.dagcbor_items.specs.Entries.{HasKey, AllFollow, HasEntryRow, any_entries, HasEntries, TakesEntries}
 use Rattle.dagcbor_items.proofs.Places.{in_map, at_steps}
 use Rattle.dagcbor_items.proofs.Fronts.{major_of_front, as_tree}
-use Rattle.dagcbor_items.proofs.Rows.{row_key, row_value}
+use Rattle.dagcbor_items.proofs.Rows.{entries_entered, row_key, row_value}
 use Rattle.dagcbor_items.proofs.Steps.{spent_step, stepped_refused, stepped_taken}
 use Rattle.dagcbor_items.proofs.Pushes.{entry_push, entries_left, entry_count_push, entries_need_push, last_key_push, entries_push}
 
@@ -118,9 +118,7 @@ is_map_at starts i = is_mapping i.tree (major_of_front i.bytes i.rest i.tree 5 (
 map_entries : {old mid : Reading} {n : ℕ} → StartsWithMajor old 5 → Enters 5 n old mid → HasItem 2 (with_steps (old.steps - 1) old) → HasEntries n mid
 map_entries {old} {mid} {n} starts h i =
     let l = is_map_at starts i in
-    let k = h.takes.taken i.bytes i.left in
-    let o = map_opened i.bytes k.0 i.rest n l.0 h.fits (subst (λ t. IsFront i.bytes t i.rest) l.1 i.front) k.1 in
-    record { bytes = k.0; entries = l.0; rest = i.rest; left = k.2; counted = o.0; follow = tt; fronts = o.1; accepted = refl; within = omega (arith, i.within, ap any_need l.1, h.takes.same.steps) }
+    entries_entered l.0 h i.left (subst (λ t. IsFront i.bytes t i.rest) l.1 i.front) refl (omega (arith, i.within, ap any_need l.1, h.takes.same.steps))
 
 pub map_refused : {E lacks lacks' : Type 0} {old mid : Reading} (new : Reading) (n : ℕ) (e : DecodeError E) → StartsWithMajor old 5 → Enters 5 n old mid → (lacks → lacks') → Refuses (HasEntries n mid) lacks ⊥ (CauseInEntries n mid.steps) mid e new → Refuses (HasItem 1 old) lacks' ⊥ (CauseInside (old.steps + 1)) old e new
 map_refused {E} {lacks} {lacks'} {old} {mid} new n e starts h w r = stepped_refused new 1 e (spent_step h) w (passed_on (CauseInEntries n mid.steps) (CauseInside (old.steps - 1 + 2)) (with_steps (old.steps - 1) old) mid new e h.takes.same (map_entries starts h) (λ x. x) (λ x. x)

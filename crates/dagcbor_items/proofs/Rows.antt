@@ -1,16 +1,32 @@
--- Of a row of items or entries, what stands first.
+-- A row of items or entries behind the head of its list or map, and what stands first in it.
 use Rattle.std.proofs.Common.{◌≡◌, ℕ, ◌<◌, ◌≤◌, max, List, ◌++◌, true, refl, sym, ap, ◌∙◌, subst, arith}
 use Rattle.std.specs.Prelude.{Option, None, Some, is_some, option_map, option_and_then}
 use Rattle.dagcbor_heads.specs.Reading.{Reading}
-use Rattle.ipld_tree.specs.Tree.{Tree, text, Items, no_items, item, Entries, no_entries, entry}
+use Rattle.ipld_tree.specs.Tree.{Tree, text, list, mapping, Items, no_items, item, Entries, no_entries, entry}
 use Rattle.ipld_tree.specs.Spelling.{item_count, entry_count, items_spelling, entries_spelling, IsFront, AreFronts, AreEntryFronts}
-use Rattle.ipld_tree.proofs.Fronts.{item_opened, entry_opened, front_unique}
+use Rattle.ipld_tree.proofs.Fronts.{list_opened, map_opened, item_opened, entry_opened, front_unique}
 use Rattle.dagcbor_items.specs.Shapes.{Shape}
 use Rattle.dagcbor_items.specs.Reads.{HasFront}
 use Rattle.dagcbor_items.specs.Places.{Follows}
 use Rattle.dagcbor_items.specs.Untyped.{TakesItem}
+use Rattle.dagcbor_items.specs.Entering.{Enters}
 use Rattle.dagcbor_items.specs.Items.{HasRow}
 use Rattle.dagcbor_items.specs.Entries.{HasKey, AllFollow, HasEntryRow}
+
+-- where a list or a map stands, its row stands behind its head
+pub row_entered : {V : Type 0} {shape : Shape Items V} {old mid : Reading} {count : ℕ} {b rest : List ℕ} (ts : Items) → Enters 4 count old mid → old.left ≡ Some b → IsFront b (list ts) rest
+    → is_some (shape.view ts) ≡ true → shape.need ts ≤ mid.steps → HasRow shape count mid
+row_entered {b = b} {rest = rest} ts n l f accepted within =
+    let k = n.takes.taken b l in
+    let o = list_opened b k.0 rest _ ts n.fits f k.1 in
+    record { bytes = k.0; items = ts; rest = rest; left = k.2; counted = o.0; fronts = o.1; accepted = accepted; within = within }
+
+pub entries_entered : {V : Type 0} {shape : Shape Entries V} {old mid : Reading} {count : ℕ} {b rest : List ℕ} (es : Entries) → Enters 5 count old mid → old.left ≡ Some b → IsFront b (mapping es) rest
+    → is_some (shape.view es) ≡ true → shape.need es ≤ mid.steps → HasEntryRow shape None count mid
+entries_entered {b = b} {rest = rest} es n l f accepted within =
+    let k = n.takes.taken b l in
+    let o = map_opened b k.0 rest _ es n.fits f k.1 in
+    record { bytes = k.0; entries = es; rest = rest; left = k.2; counted = o.0; follow = tt; fronts = o.1; accepted = accepted; within = within }
 
 pub some_first : {A B : Type 0} (f : A → Option B) (o : Option A) → is_some (option_and_then f o) ≡ true → is_some o ≡ true
 some_first f None e = absurd (cc e)

@@ -1,21 +1,19 @@
 -- Why a refusal of a block is said, and that of a line that is no hexadecimal text.
-use Rattle.std.proofs.Common.{◌≡◌, ◌≢◌, ◌++◌, ◌∷◌, ℕ, Bool, false, List, [], Result, Ok, Err, codes, refl}
+use Rattle.std.proofs.Common.{◌≡◌, ℕ, Bool, false, List, Result, Ok, Err, codes, refl}
 use Rattle.std.specs.Prelude.{OnOk, IsTrue, MatchResult}
-use Rattle.std.specs.declared.convert.Infallible.{Infallible}
-use Rattle.dagcbor_heads.specs.declared.error.DecodeError.{DecodeError}
-use Rattle.dagcbor_heads.specs.declared.error.DecodeError.TheVariants as refusals
 use Rattle.hex.specs.Hex.{decode_of}
 use Rattle.hex.specs.declared.error.FromHexError.{FromHexError}
 use Rattle.dagcbor_tool.specs.declared.command.Command.{Command}
-use Rattle.dagcbor_tool.specs.Answers.{variant_name, IsSaid, IsAnswer, AppendsLine}
+use Rattle.dagcbor_tool.specs.declared.line.ToolError.{ToolError}
+use Rattle.dagcbor_tool.specs.Answers.{IsSaid, IsAnswer, AppendsLine, PushesLine}
 
--- a refusal is said, and why it is said
-pub refused_said : {E : Type 0} (Said : List ℕ → Type 0) (r : Result Unit E) (e : DecodeError Infallible) (old new : List ℕ)
-    → OnOk r ((e ≢ refusals.OutOfMemory) × (new ≡ old ++ ((codes "refused " ++ variant_name e) ++ 10 ∷ [])))
-    → (e ≢ refusals.OutOfMemory → Said (codes "refused " ++ variant_name e))
-    → OnOk r (AppendsLine Said old new)
-refused_said Said (Ok v) e old new h s = (codes "refused " ++ variant_name e, s h.0, h.1)
-refused_said Said (Err x) e old new h s = tt
+-- what is pushed may be said for another reason
+pub said_as : {Said Other : List ℕ → Type 0} {old new : List ℕ} {r : Result Unit ToolError} → ((said : List ℕ) → Said said → Other said) → PushesLine Said old new r → PushesLine Other old new r
+said_as {Said} {Other} {old} {new} {r} why p = record { kept = p.kept; written = by r p.written; memory = p.memory }
+  where
+    by : (r : Result Unit ToolError) → OnOk r (AppendsLine Said old new) → OnOk r (AppendsLine Other old new)
+    by (Ok v) h = (h.0, why h.0 h.1, h.2)
+    by (Err e) h = tt
 
 -- ---- hexadecimal text
 

@@ -1,6 +1,7 @@
 -- What the program writes for its input.
 use Rattle.std.specs.Prelude.{◌≡◌, ◌≢◌, ◌⊎◌, ℕ, List, [], ◌∷◌, ◌++◌, codes, Option, Some}
-use Rattle.std.specs.Prelude.{MatchResult}
+use Rattle.std.specs.Prelude.{MatchResult, Result, OnOk, IfErr}
+use Rattle.std.specs.Io.{StartsWith}
 use Rattle.std.specs.Io.KnownBytes.{Appends}
 use Rattle.std.specs.Str.Lines.{lines}
 use Rattle.std.specs.declared.convert.Infallible.{Infallible}
@@ -8,6 +9,8 @@ use Rattle.hex.specs.Hex.{decode_of, encode_lower}
 use Rattle.dagcbor_tool.specs.Pieces.{IsOfOneLine}
 use Rattle.dagcbor_tool.specs.declared.command.Command.{Command}
 use Rattle.dagcbor_tool.specs.declared.command.Command.TheVariants.{Check, Links}
+use Rattle.dagcbor_tool.specs.declared.line.ToolError.{ToolError}
+use Rattle.dagcbor_tool.specs.declared.line.ToolError.TheVariants.{OutOfMemory}
 use Rattle.ipld_tree.specs.Tree.{Tree}
 use Rattle.dagcbor_items.specs.TreeKinds.{kind_of}
 use Rattle.dagcbor_items.specs.declared.kind.Kind.{Kind}
@@ -96,6 +99,13 @@ AreAnswers Said (line ∷ lines) out = (said more : List ℕ) × Said line said
 -- what is said, and a line feed, was appended to these bytes
 abbrev pub AppendsLine : (List ℕ → Type 0) → List ℕ → List ℕ → Type 0
 AppendsLine IsSaid old new = (said : List ℕ) × IsSaid said × (new ≡ old ++ (said ++ 10 ∷ []))
+
+-- What stood before stays, whatever comes; on `Ok` what is said and a line feed follow it; and memory
+-- alone can be wanting.
+pub record PushesLine (IsSaid : List ℕ → Type 0) (old new : List ℕ) (r : Result Unit ToolError) : Type 0 where
+  pub kept : StartsWith new old
+  pub written : OnOk r (AppendsLine IsSaid old new)
+  pub memory : IfErr r (λ e. e ≡ OutOfMemory)
 
 -- whatever follows the text: its lines are those asked, and then those of what is left of it
 abbrev pub BeginsWithLines : List ℕ → List (List ℕ) → List ℕ → Type 0

@@ -6,7 +6,7 @@ ghost use Rattle.std.specs.Io.{StartsWith};
 ghost use Rattle.hex.specs.Hex.{decode_of, encode_lower};
 ghost use Rattle.ipld_tree.specs.Cid.{cid_bytes};
 ghost use Rattle.dagcbor_tool.specs.Answers.{kind_name, variant_name, links_text, IsVerdict};
-ghost use Rattle.dagcbor_tool.specs.Answers.{IsLinkLine, IsSaid, IsAnswer, AppendsLine};
+ghost use Rattle.dagcbor_tool.specs.Answers.{IsLinkLine, IsSaid, IsAnswer, AppendsLine, PushesLine};
 
 use crate::command::Command;
 use crate::line::ToolError;
@@ -73,11 +73,8 @@ fn push_sentence(out: &mut Vec<u8>, word: &str, name: &str) -> Result<(), AllocE
 
 /// Appends what is said of a refusal. Want of memory is none, and ends the run.
 fn push_refusal(out: &mut Vec<u8>, refusal: &DecodeError<Infallible>) -> Result<(), ToolError>
-    ensures kept { StartsWith out.new.items out.old.items }
-    ensures written { OnOk result ((refusal.now ≢ DecodeError.OutOfMemory)
-        × (out.new.items ≡ out.old.items
-        ++ ((codes "refused " ++ variant_name refusal.now) ++ 10 ∷ []))) }
-    ensures memory { IfErr result (λ e. e ≡ ToolError.OutOfMemory) }
+    ensures { PushesLine (λ said. (refusal.now ≢ DecodeError.OutOfMemory)
+        × (said ≡ codes "refused " ++ variant_name refusal.now)) out.old.items out.new.items result }
 {
     match refusal {
         DecodeError::OutOfMemory => Err(ToolError::OutOfMemory),
@@ -87,10 +84,7 @@ fn push_refusal(out: &mut Vec<u8>, refusal: &DecodeError<Infallible>) -> Result<
 
 /// Appends what `check` says of a block.
 fn push_verdict(out: &mut Vec<u8>, block: &[u8]) -> Result<(), ToolError>
-    ensures kept { StartsWith out.new.items out.old.items }
-    ensures written { OnOk result
-        (AppendsLine (IsVerdict block.now) out.old.items out.new.items) }
-    ensures memory { IfErr result (λ e. e ≡ ToolError.OutOfMemory) }
+    ensures { PushesLine (IsVerdict block.now) out.old.items out.new.items result }
 {
     match check_slice(block) {
         Ok(kind) => Ok(push_sentence(out, "ok ", kind_name(kind))?),
@@ -142,10 +136,7 @@ fn push_links_line(alloc: Global, out: &mut Vec<u8>, links: &[Cid]) -> Result<()
 
 /// Appends what `links` says of a block.
 fn push_link_line(alloc: Global, out: &mut Vec<u8>, block: &[u8]) -> Result<(), ToolError>
-    ensures kept { StartsWith out.new.items out.old.items }
-    ensures written { OnOk result
-        (AppendsLine (IsLinkLine block.now) out.old.items out.new.items) }
-    ensures memory { IfErr result (λ e. e ≡ ToolError.OutOfMemory) }
+    ensures { PushesLine (IsLinkLine block.now) out.old.items out.new.items result }
 {
     match links_from_slice(alloc, block) {
         Ok(links) => Ok(push_links_line(alloc, out, &links)?),
@@ -160,10 +151,7 @@ fn push_said(
     block: &[u8],
     out: &mut Vec<u8>,
 ) -> Result<(), ToolError>
-    ensures kept { StartsWith out.new.items out.old.items }
-    ensures written { OnOk result
-        (AppendsLine (IsSaid command block.now) out.old.items out.new.items) }
-    ensures memory { IfErr result (λ e. e ≡ ToolError.OutOfMemory) }
+    ensures { PushesLine (IsSaid command block.now) out.old.items out.new.items result }
 {
     match command {
         Command::Check => push_verdict(out, block),
@@ -188,10 +176,7 @@ fn push_some(
     block: &mut Vec<u8>,
     out: &mut Vec<u8>,
 ) -> Result<(), ToolError>
-    ensures kept { StartsWith out.new.items out.old.items }
-    ensures written { OnOk result
-        (AppendsLine (IsAnswer command line.now) out.old.items out.new.items) }
-    ensures memory { IfErr result (λ e. e ≡ ToolError.OutOfMemory) }
+    ensures { PushesLine (IsAnswer command line.now) out.old.items out.new.items result }
 {
     let is_text = decode_line(line, block)?;
     if is_text {

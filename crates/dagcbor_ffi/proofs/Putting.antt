@@ -12,6 +12,7 @@ use Rattle.dagcbor_heads.specs.declared.error.DecodeError.TheVariants.{Read, Req
 use Rattle.ipld_tree.specs.Tree.{Tree, any_need, links_of}
 use Rattle.ipld_tree.specs.Spelling.{IsFront}
 use Rattle.dagcbor_items.specs.Slices.{LinksRefused}
+use Rattle.dagcbor_items.specs.Walks.{Finds}
 use Rattle.dagcbor_ffi.specs.Packed.{packed_cids, packed_links, with_front, put_at, PutsBytes, HasPut, HoldsPacked}
 use Rattle.dagcbor_ffi.specs.declared.links.PackedLinks.{PackedLinks}
 use Rattle.dagcbor_ffi.proofs.Packing.{packed_push}
@@ -71,14 +72,12 @@ took ((name ∷ []) ∷ before ∷ found) cid p mid q g k h =
 took ((name ∷ other ∷ more) ∷ links) cid p mid q g k h = absurd h
 
 -- nothing was put yet
-pub nothing_put : (p : PackedLinks) (name : ℕ) (before : List ℕ) → p.out.ghost_name ≡ name → p.out.now ≡ before → p.needed ≡ 0 → length before < 2 ^ 64 → HoldsPacked p ((name ∷ []) ∷ before ∷ [])
-nothing_put p name before n e z small = record {
-  same_reference = n;
-  counted = z;
-  fits = small;
-  same_length = ap length e;
-  stands = λ room. e;
-}
+nothing_put : (p : PackedLinks) → p.needed ≡ 0 → length p.out.now < 2 ^ 64 → HoldsPacked p ((p.out.ghost_name ∷ []) ∷ p.out.now ∷ [])
+nothing_put p none small = record { same_reference = refl; counted = none; fits = small; same_length = refl; stands = λ room. refl }
+
+-- what a walk found was put into the memory that was lent
+pub found_put : (p q : PackedLinks) (t : Tree) → Finds HoldsPacked p (links_of t) q → p.needed ≡ 0 → length p.out.now < 2 ^ 64 → HasPut p.out.ghost_name p.out.now (packed_links t) q
+found_put p q t finds none small = finds ((p.out.ghost_name ∷ []) ∷ p.out.now ∷ []) (nothing_put p none small)
 
 pub overwritten_where_room : (bs old : List ℕ) → length bs ≤ length old → with_front bs old ≡ bs ++ drop (length bs) old
 overwritten_where_room bs old h = ap (λ (x : Bool). if x then old else (bs ++ drop (length bs) old)) (le-ltb (length old) (length bs) h)

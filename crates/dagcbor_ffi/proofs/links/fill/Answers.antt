@@ -1,14 +1,13 @@
 use Rattle.std.proofs.Common.{rules, ◌≡◌, [], ◌∷◌, ◌++◌, length, drop, refl, ap, ◌∙◌, arith}
-use Rattle.dagcbor_ffi.specs.Packed.{packed_links, HasPut}
-use Rattle.dagcbor_ffi.proofs.Putting.{nothing_put}
+use Rattle.dagcbor_ffi.specs.Packed.{packed_links}
+use Rattle.dagcbor_ffi.proofs.Putting.{found_put}
 use Rattle.dagcbor_ffi.proofs.links.fill.Goals as goal
 
 pub returns : goal.returns
 returns c =
     let walked = c.in_ok-kind.ensures in
     let packed = c.new-packed.result in
-    let put : HasPut packed.out.ghost_name packed.out.now (packed_links walked.0) c.walk_slice.new.links =
-    walked.5 ((packed.out.ghost_name ∷ []) ∷ packed.out.now ∷ []) (nothing_put packed packed.out.ghost_name packed.out.now refl refl c.new-packed.ensures.needed (omega (arith, ap length c.new-packed.ensures.bytes))) in
+    let put = found_put packed c.walk_slice.new.links walked.0 walked.5 c.new-packed.ensures.needed (omega (arith, ap length c.new-packed.ensures.bytes)) in
     let chain = put.same_reference ∙ c.new-packed.ensures.reference in
     let bytes : packed.out.now ≡ c.args.out.now = c.new-packed.ensures.bytes in
     (walked.0, walked.1, walked.2, λ room. (search (rules, chain)) ∙ put.stands (omega (arith, room, ap length bytes)) ∙ ap (λ o. packed_links walked.0 ++ drop (length (packed_links walked.0)) o) bytes)

@@ -1,8 +1,8 @@
 use Rattle.std.proofs.Common.{◌≡◌, [], ◌∷◌, length, refl, ap, sym, ◌∙◌, arith}
 use Rattle.ipld_tree.proofs.Fronts.{front_unique}
-use Rattle.dagcbor_ffi.specs.Packed.{packed_links, HasPut}
+use Rattle.dagcbor_ffi.specs.Packed.{packed_links}
 use Rattle.dagcbor_ffi.proofs.Packing.{packed_fits}
-use Rattle.dagcbor_ffi.proofs.Putting.{nothing_put, never_refused, second_walk_fills, stays_without_room}
+use Rattle.dagcbor_ffi.proofs.Putting.{found_put, never_refused, second_walk_fills, stays_without_room}
 use Rattle.dagcbor_ffi.proofs.links.put_links.Goals as goal
 use Rattle.dagcbor_ffi.proofs.links.put_links.Goals.{then-counted-out+in_ok-fill, else-counted-out}
 
@@ -15,9 +15,7 @@ returns-in_err-fill c =
 pub returns : goal.returns
 returns c =
     let walked = c.in_ok-kind.ensures in
-    let none = c.new-counted.result in
-    let counted : HasPut none.out.ghost_name none.out.now (packed_links walked.0) c.walk_slice.new.links =
-    walked.5 ((none.out.ghost_name ∷ []) ∷ none.out.now ∷ []) (nothing_put none none.out.ghost_name none.out.now refl refl c.new-counted.ensures.needed (omega (arith, ap length c.new-counted.ensures.bytes))) in
+    let counted = found_put c.new-counted.result c.walk_slice.new.links walked.0 walked.5 c.new-counted.ensures.needed (omega (arith, ap length c.new-counted.ensures.bytes)) in
     let needed : c.walk_slice.new.links.needed ≡ length (packed_links walked.0) = omega (arith, counted.counted, packed_fits c.args.bytes.now walked.1 walked.0 walked.2) in (
       walked.0,
       walked.1,

@@ -8,7 +8,7 @@ use Rattle.dagcbor_heads.specs.declared.error.DecodeError.{DecodeError}
 use Rattle.dagcbor_heads.proofs.Taking.{stays, stays_both}
 use Rattle.ipld_tree.specs.Tree.{Tree, text, mapping, Entries, no_entries, entry, Precedes}
 use Rattle.ipld_tree.specs.Spelling.{entry_count, entries_spelling, IsFront, AreEntryFronts}
-use Rattle.ipld_tree.proofs.Fronts.{map_opened, entry_closed, entries_after}
+use Rattle.ipld_tree.proofs.Fronts.{entry_closed, entries_after}
 use Rattle.dagcbor_items.specs.Untyped.{TakesItem}
 use Rattle.dagcbor_items.specs.Places.{Follows}
 use Rattle.dagcbor_items.specs.ItemCauses.{KeyCause}
@@ -22,7 +22,7 @@ use Rattle.dagcbor_read.specs.Enums.{EnumState, BeginsHeld, IsOtherForm, ReadsFi
 use Rattle.dagcbor_read.specs.declared.access.accessor.Accessor.{Accessor}
 use Rattle.dagcbor_read.specs.Collections.{view_entries, view_fields, need_entries, need_fields, HasFields, TakesFields, ReadsEntriesLeft, fields_of, value_of, FieldShape}
 use Rattle.dagcbor_items.specs.Entries.{AllFollow}
-use Rattle.dagcbor_items.proofs.Rows.{some_first, all_follow, row_key, row_value}
+use Rattle.dagcbor_items.proofs.Rows.{entries_entered, some_first, all_follow, row_key, row_value}
 use Rattle.dagcbor_items.proofs.Maps.{map_closed}
 use Rattle.dagcbor_read.proofs.Progressing.{call_answered}
 use Rattle.dagcbor_read.proofs.Answered.{KeyRead}
@@ -164,28 +164,12 @@ module _ {S : Type 0} (shape : FieldShape S) where
   -- ---- the whole map
 
   module _ (start : S) where
-    record MapFront (r : Reading) : Type 0 where
-      bytes : List ℕ
-      entries : Entries
-      rest : List ℕ
-      left : r.left ≡ Some bytes
-      front : IsFront bytes (mapping entries) rest
-      accepted : is_some (view_entries shape.take start entries) ≡ true
-      within : 1 + need_entries shape.need entries ≤ r.steps
-
-    map_front : {r : Reading} → HasFront (fields_of shape start) r → MapFront r
-    map_front {r} h = by h.tree h.front h.accepted h.within
-      where
-        by : (t : Tree) → IsFront h.bytes t h.rest → is_some (view_fields shape.take start t) ≡ true → need_fields shape.need t ≤ r.steps → MapFront r
-        by (mapping es) f a w = record { bytes = h.bytes; entries = es; rest = h.rest; left = h.left; front = f; accepted = a; within = w }
-        by _ f a w = absurd (cc a)
-
     pub map_has_fields : {old mid : Reading} {count : ℕ} → Enters 5 count old mid → HasFront (fields_of shape start) old → HasFields shape start None count mid
-    map_has_fields {old} {mid} {count} n h =
-        let f = map_front h in
-        let k = n.takes.taken f.bytes f.left in
-        let o = map_opened f.bytes k.0 f.rest count f.entries n.fits f.front k.1 in
-        record { bytes = k.0; entries = f.entries; rest = f.rest; left = k.2; counted = o.0; follow = tt; fronts = o.1; accepted = f.accepted; within = omega (arith, f.within, n.takes.same.steps) }
+    map_has_fields {old} {mid} {count} n h = by h.tree h.front h.accepted h.within
+      where
+        by : (t : Tree) → IsFront h.bytes t h.rest → is_some (view_fields shape.take start t) ≡ true → need_fields shape.need t ≤ old.steps → HasFields shape start None count mid
+        by (mapping es) f a w = entries_entered es n h.left f a (omega (arith, w, n.takes.same.steps))
+        by _ f a w = absurd (cc a)
 
     pub typed_map_taken : {old mid now new : Reading} {count : ℕ} {s : S} → Enters 5 count old mid → TakesFields shape start None count mid s now → new ≡ with_steps (now.steps + 1) now → TakesFront (fields_of shape start) old s new
     typed_map_taken {old} {mid} {now} {new} {count} {s} n r back = record {

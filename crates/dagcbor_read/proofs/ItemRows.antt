@@ -8,7 +8,7 @@ use Rattle.dagcbor_heads.specs.declared.error.DecodeError.{DecodeError}
 use Rattle.dagcbor_heads.proofs.Taking.{stays, stays_both}
 use Rattle.ipld_tree.specs.Tree.{Tree, list, Items, no_items, item}
 use Rattle.ipld_tree.specs.Spelling.{item_count, IsFront, AreFronts}
-use Rattle.ipld_tree.proofs.Fronts.{list_opened, list_closed, item_closed, items_after}
+use Rattle.ipld_tree.proofs.Fronts.{list_closed, item_closed, items_after}
 use Rattle.dagcbor_read.specs.Calls.{Progress, Call}
 use Rattle.dagcbor_items.specs.Reads.{HasFront, TakesFront, Anything}
 use Rattle.dagcbor_read.specs.Values.{ReadsValue}
@@ -17,7 +17,7 @@ use Rattle.dagcbor_read.specs.Accessors.{AccessorState, accessor_state, BeginsIt
 use Rattle.dagcbor_read.specs.declared.access.accessor.Accessor.{Accessor}
 use Rattle.dagcbor_items.specs.Items.{HasRow}
 use Rattle.dagcbor_read.specs.Collections.{view_list, need_list, view_none, TakesRow, ReadsRest, list_of, all_of, no_more, first_then}
-use Rattle.dagcbor_items.proofs.Rows.{row_first}
+use Rattle.dagcbor_items.proofs.Rows.{row_entered, row_first}
 use Rattle.dagcbor_read.proofs.Progressing.{call_answered}
 use Rattle.dagcbor_read.proofs.Passing.{SameReader, refusal_carried}
 use Rattle.dagcbor_items.specs.Shapes.{Shape}
@@ -196,29 +196,12 @@ module _ {V : Type 0} (shape : Shape Tree V) where
 -- ---- the whole list
 
 module _ {V : Type 0} (shape : Shape Items V) where
-  -- a list stands at the front that shows something
-  record ListFront (r : Reading) : Type 0 where
-    bytes : List ℕ
-    items : Items
-    rest : List ℕ
-    left : r.left ≡ Some bytes
-    front : IsFront bytes (list items) rest
-    accepted : is_some (shape.view items) ≡ true
-    within : 1 + shape.need items ≤ r.steps
-
-  list_front : {r : Reading} → HasFront (list_of shape) r → ListFront r
-  list_front {r} h = by h.tree h.front h.accepted h.within
-    where
-      by : (t : Tree) → IsFront h.bytes t h.rest → is_some (view_list shape.view t) ≡ true → need_list shape.need t ≤ r.steps → ListFront r
-      by (list ts) f a w = record { bytes = h.bytes; items = ts; rest = h.rest; left = h.left; front = f; accepted = a; within = w }
-      by _ f a w = absurd (cc a)
-
   pub list_has_row : {old mid : Reading} {count : ℕ} → Enters 4 count old mid → HasFront (list_of shape) old → HasRow shape count mid
-  list_has_row {old} {mid} {count} n h =
-      let f = list_front h in
-      let k = n.takes.taken f.bytes f.left in
-      let o = list_opened f.bytes k.0 f.rest count f.items n.fits f.front k.1 in
-      record { bytes = k.0; items = f.items; rest = f.rest; left = k.2; counted = o.0; fronts = o.1; accepted = f.accepted; within = omega (arith, f.within, n.takes.same.steps) }
+  list_has_row {old} {mid} {count} n h = by h.tree h.front h.accepted h.within
+    where
+      by : (t : Tree) → IsFront h.bytes t h.rest → is_some (view_list shape.view t) ≡ true → need_list shape.need t ≤ old.steps → HasRow shape count mid
+      by (list ts) f a w = row_entered ts n h.left f a (omega (arith, w, n.takes.same.steps))
+      by _ f a w = absurd (cc a)
 
   pub typed_list_taken : {old mid now new : Reading} {count : ℕ} {v : V} → Enters 4 count old mid → TakesRow shape count mid v now → new ≡ with_steps (now.steps + 1) now → TakesFront (list_of shape) old v new
   typed_list_taken {old} {mid} {now} {new} {count} {v} n r back = record {

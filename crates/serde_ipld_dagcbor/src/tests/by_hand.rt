@@ -1,6 +1,5 @@
 //! Types written by hand, as a user of the library writes them.
 
-pub(crate) mod bag;
 mod caller;
 pub(crate) mod color;
 pub(crate) mod data_enum;

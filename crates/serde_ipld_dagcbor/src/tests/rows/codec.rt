@@ -4,7 +4,7 @@ ghost use Rattle.serde_ipld_dagcbor.specs.tests.ThereAndBack.{IsThereAndBack};
 
 use crate::codec::DagCborCodec;
 use crate::error::CodecError;
-use crate::tests::rows::links::{LINK, joined};
+use crate::tests::rows::links::{LINK, THREE_LINKS, joined};
 use crate::tests::told::{agree, is_told};
 use crate::{Cid, Codec, DAG_CBOR_CODE, DecodeError, Ipld, Links, from_slice, laws, to_vec};
 use std::alloc::Global;
@@ -78,16 +78,7 @@ fn finds(alloc: Global, bytes: &[u8], wanted: &[Cid]) -> Result<(), Fail> {
 #[test]
 fn links_are_listed_with_repeats(rt: HostRuntime) -> Result<(), Fail> {
     let alloc = rt.alloc();
-    let block = joined(
-        alloc,
-        &[
-            b"\xa3\x62\x6f\x72\x82",
-            LINK,
-            LINK,
-            b"\x63\x66\x6f\x6f\xf5\x64\x73\x6f\x6d\x65\xa1\x66\x6e\x65\x73\x74\x65\x64",
-            LINK,
-        ],
-    )?;
+    let block = joined(alloc, THREE_LINKS)?;
     agree(block.len(), 146)?;
     let link: Cid = from_slice(alloc, LINK)?;
     finds(alloc, &block, &[link, link, link])

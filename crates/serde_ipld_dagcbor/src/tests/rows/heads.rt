@@ -70,45 +70,42 @@ fn bytes_are_looked_at_and_taken(rt: HostRuntime) -> Result<(), Fail> {
 }
 
 /// Whether a payload is lent, and what it is.
-fn is_lent(payload: &CowSlice<'_, u8>, wanted: &[u8]) -> bool {
+fn lent_or_gathered<'a>(payload: &'a CowSlice<'_, u8>) -> (bool, &'a [u8]) {
     match payload {
-        CowSlice::Borrowed(lent) => *lent == wanted,
-        CowSlice::Owned(_) => false,
+        CowSlice::Borrowed(lent) => (true, lent),
+        CowSlice::Owned(gathered) => (false, gathered.as_slice()),
     }
 }
 
-/// Whether a payload is gathered, and what it is.
-fn is_gathered(payload: &CowSlice<'_, u8>, wanted: &[u8]) -> bool {
-    match payload {
-        CowSlice::Borrowed(_) => false,
-        CowSlice::Owned(gathered) => gathered.as_slice() == wanted,
-    }
+/// Fails where other bytes than "abc" come first, or where so many more are told otherwise.
+fn pulls(
+    alloc: Global,
+    input: &mut Input<'_, Pieces<'_>>,
+    lent: bool,
+    more: u64,
+    told: &str,
+) -> Result<(), Fail> {
+    let payload = pull_payload(alloc, "bytes", input, 3)?;
+    agree(lent_or_gathered(&payload), (lent, b"abc".as_slice()))?;
+    is_told(
+        alloc,
+        &pull_payload(alloc, "bytes", input, more).err(),
+        told,
+    )
 }
 
 #[test]
 fn payloads_are_lent_by_slices(rt: HostRuntime) -> Result<(), Fail> {
     let mut slice: Input<Pieces> = Input::Slice(SliceReader::new(b"abcd"));
-    let lent = pull_payload(rt.alloc(), "bytes", &mut slice, 3)?;
-    agree(is_lent(&lent, b"abc"), true)?;
-    let cut = pull_payload(rt.alloc(), "bytes", &mut slice, 70_000).err();
-    is_told(
-        rt.alloc(),
-        &cut,
-        r#"Some(Eof { name: "bytes", expect: Big })"#,
-    )
+    let cut = r#"Some(Eof { name: "bytes", expect: Big })"#;
+    pulls(rt.alloc(), &mut slice, true, 70_000, cut)
 }
 
 #[test]
 fn payloads_are_gathered_by_readers(rt: HostRuntime) -> Result<(), Fail> {
     let mut reader = Input::Reader(Pieces::new(b"abcd", 2));
-    let gathered = pull_payload(rt.alloc(), "bytes", &mut reader, 3)?;
-    agree(is_gathered(&gathered, b"abc"), true)?;
-    let cut = pull_payload(rt.alloc(), "bytes", &mut reader, 2).err();
-    is_told(
-        rt.alloc(),
-        &cut,
-        r#"Some(Eof { name: "bytes", expect: Small(2) })"#,
-    )
+    let cut = r#"Some(Eof { name: "bytes", expect: Small(2) })"#;
+    pulls(rt.alloc(), &mut reader, false, 2, cut)
 }
 
 #[test]

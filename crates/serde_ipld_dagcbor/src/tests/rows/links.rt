@@ -15,6 +15,15 @@ use std::test::Fail;
 pub(crate) const LINK: &[u8] =
     b"\xd8\x2a\x58\x25\x00\x01\x55\x12\x20\x2c\x26\xb4\x6b\x68\xff\xc6\x8f\xf9\x9b\x45\x3c\x1d\x30\x41\x34\x13\x42\x2d\x70\x64\x83\xbf\xa0\xf9\x8a\x5e\x88\x62\x66\xe7\xae";
 
+/// The parts of `{"or": [link, link], "foo": true, "some": {"nested": link}}`.
+pub(crate) const THREE_LINKS: &[&[u8]] = &[
+    b"\xa3\x62\x6f\x72\x82",
+    LINK,
+    LINK,
+    b"\x63\x66\x6f\x6f\xf5\x64\x73\x6f\x6d\x65\xa1\x66\x6e\x65\x73\x74\x65\x64",
+    LINK,
+];
+
 /// The parts, one behind another.
 pub(crate) fn joined(alloc: Global, parts: &[&[u8]]) -> Result<Vec<u8>, AllocError> {
     let mut bytes = Vec::new(alloc);
@@ -41,17 +50,7 @@ fn links_are_read_and_written(rt: HostRuntime) -> Result<(), Fail> {
         &[b"\xa2\x63\x63\x69\x64", LINK, b"\x64\x64\x61\x74\x61\xf5"],
         52,
     )?;
-    is_read_and_written(
-        alloc,
-        &[
-            b"\xa3\x62\x6f\x72\x82",
-            LINK,
-            LINK,
-            b"\x63\x66\x6f\x6f\xf5\x64\x73\x6f\x6d\x65\xa1\x66\x6e\x65\x73\x74\x65\x64",
-            LINK,
-        ],
-        146,
-    )
+    is_read_and_written(alloc, THREE_LINKS, 146)
 }
 
 /// The parts of a CID, as text.

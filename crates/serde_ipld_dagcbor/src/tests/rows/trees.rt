@@ -76,6 +76,13 @@ fn trees_are_read_and_written(rt: HostRuntime) -> Result<(), Fail> {
     )
 }
 
+/// Three languages, and what is said of them.
+pub(crate) const LANGUAGES: [(&str, [&str; 3]); 3] = [
+    ("python", ["powerful", "friendly", "open"]),
+    ("js", ["lightweight", "interpreted", "object-oriented"]),
+    ("rust", ["safe", "concurrent", "fast"]),
+];
+
 /// A list of texts.
 fn texts(alloc: Global, words: [&str; 3]) -> Result<Ipld, AllocError> {
     let mut items = Vec::new(alloc);
@@ -87,13 +94,8 @@ fn texts(alloc: Global, words: [&str; 3]) -> Result<Ipld, AllocError> {
 
 /// A map from three languages to what is said of them.
 fn languages(alloc: Global) -> Result<Ipld, AllocError> {
-    let rows = [
-        ("python", ["powerful", "friendly", "open"]),
-        ("js", ["lightweight", "interpreted", "object-oriented"]),
-        ("rust", ["safe", "concurrent", "fast"]),
-    ];
     let mut entries = BTreeMap::new(alloc);
-    for (language, words) in rows {
+    for (language, words) in LANGUAGES {
         drop(entries.insert(String::from_str(alloc, language)?, texts(alloc, words)?)?);
     }
     Ok(Ipld::Map(entries))

@@ -1,5 +1,6 @@
 //! Values of the types of the library, written.
 
+use crate::tests::rows::trees::LANGUAGES;
 use crate::tests::told::{is_unwritten, writes};
 use crate::{ByteSlice, Bytes, Cid, Ipld, Serialize};
 use std::alloc::{AllocError, Global};
@@ -131,13 +132,8 @@ fn texts(alloc: Global, words: [&str; 3]) -> Result<Vec<String>, AllocError> {
 
 /// A map from three languages to what is said of them.
 fn languages(alloc: Global) -> Result<BTreeMap<String, Vec<String>>, AllocError> {
-    let rows = [
-        ("python", ["powerful", "friendly", "open"]),
-        ("js", ["lightweight", "interpreted", "object-oriented"]),
-        ("rust", ["safe", "concurrent", "fast"]),
-    ];
     let mut map = BTreeMap::new(alloc);
-    for (language, words) in rows {
+    for (language, words) in LANGUAGES {
         drop(map.insert(text(alloc, language)?, texts(alloc, words)?)?);
     }
     Ok(map)

@@ -1,4 +1,4 @@
-use Rattle.std.proofs.Common.{rules, ◌≡◌, [], ◌∷◌, ◌++◌, length, drop, refl, ap, ◌∙◌, arith}
+use Rattle.std.proofs.Common.{rules, ◌≡◌, ◌++◌, length, drop, ap, ◌∙◌, arith}
 use Rattle.dagcbor_ffi.specs.Packed.{packed_links}
 use Rattle.dagcbor_ffi.proofs.Putting.{found_put}
 use Rattle.dagcbor_ffi.proofs.links.fill.Goals as goal

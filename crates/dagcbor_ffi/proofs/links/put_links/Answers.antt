@@ -1,4 +1,4 @@
-use Rattle.std.proofs.Common.{◌≡◌, [], ◌∷◌, length, refl, ap, sym, ◌∙◌, arith}
+use Rattle.std.proofs.Common.{◌≡◌, length, ap, sym, ◌∙◌, arith}
 use Rattle.ipld_tree.proofs.Fronts.{front_unique}
 use Rattle.dagcbor_ffi.specs.Packed.{packed_links}
 use Rattle.dagcbor_ffi.proofs.Packing.{packed_fits}

@@ -1,4 +1,4 @@
-use Rattle.std.proofs.Common.{◌++◌, ◌∷◌, [], ℕ, List, codes, rules, refl, ap, ◌∙◌, inl, inr}
+use Rattle.std.proofs.Common.{◌++◌, ◌∷◌, [], ℕ, List, codes, refl, ap, ◌∙◌, inl, inr}
 use Rattle.dagcbor_items.specs.TreeKinds.{kind_of}
 use Rattle.dagcbor_tool.specs.Answers.{kind_name}
 use Rattle.dagcbor_tool.proofs.Refusals.{said_as}

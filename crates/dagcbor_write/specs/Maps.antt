@@ -1,14 +1,15 @@
 -- What the collector of a map is given, holds and does.
 use Rattle.std.specs.Prelude.{◌≡◌, ◌⊎◌, ℕ, ◌/◌, Bool, true, false, ◌&&◌, is_none, nat_eq, IsTrue}
 use Rattle.std.specs.Prelude.{List, [], ◌∷◌, ◌++◌, length, map, Option, None, Some}
-use Rattle.std.specs.Prelude.{option_and_then, IfSome, IsSomeAnd, Any, codes}
+use Rattle.std.specs.Prelude.{option_and_then, IfSome, IsSomeAnd, Any, codes, Result, OnOk, OnErr}
+use Rattle.dagcbor_heads.specs.declared.error.EncodeError.{EncodeError}
 use Rattle.std.specs.Iterator.{YieldsFirstBy}
 use Rattle.ipld_tree.specs.Tree.{Tree, text, mapping, IsTree, key_of, all_some, pair_of}
 use Rattle.ipld_tree.specs.Tree.{repeats_key, entries_tree}
 use Rattle.ipld_tree.specs.Spelled.{spelled, spelled_entries, spelled_tree}
 use Rattle.dagcbor_write.specs.Pairwise.{Pairwise}
 use Rattle.dagcbor_write.specs.Trees.{Pair}
-use Rattle.dagcbor_write.specs.Gathering.{NoSpelling}
+use Rattle.dagcbor_write.specs.Gathering.{NoSpelling, Collects}
 
 -- the spellings of a key and of its value
 abbrev pub Texts : Type 0
@@ -74,6 +75,12 @@ JoinsValue key value old new = Joins key (spelled_tree value) old new × IfSome 
 -- the spellings of a well-formed key and value joined the others
 abbrev pub JoinsEntry : Option Tree → Option Tree → List Texts → List Texts → Type 0
 JoinsEntry key value old new = JoinsValue (spelled_key key) value old new × IfSome key IsTree
+
+-- a key and its value joined the others, or one of them was refused, and then the others stay
+pub record TakesEntry {T E : Type 0} (key value : Option Tree) (IsMessage : List ℕ → Type 0) (old new : MapState) (r : Result T (EncodeError E)) : Type 0 where
+  pub no_key : OnOk r (new.key ≡ None)
+  pub joins : Collects (λ u. JoinsEntry key value old.entries new.entries) IsMessage r
+  pub kept : OnErr r (new.entries ≡ old.entries)
 
 -- ---- the end of a map
 

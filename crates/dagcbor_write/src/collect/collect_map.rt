@@ -11,7 +11,7 @@ ghost use Rattle.dagcbor_write.specs.Answers.{OnMessage};
 ghost use Rattle.dagcbor_write.specs.Gathering.{Collects};
 ghost use Rattle.dagcbor_write.specs.Trees.{Pair, variant_head};
 ghost use Rattle.dagcbor_write.specs.Maps.{no_entry_yet, is_complete, HoldsKey, JoinsValue};
-ghost use Rattle.dagcbor_write.specs.Maps.{JoinsEntry, RefusesKey, RefusesValue, RefusesEntry};
+ghost use Rattle.dagcbor_write.specs.Maps.{TakesEntry, RefusesKey, RefusesValue, RefusesEntry};
 ghost use Rattle.dagcbor_write.specs.Maps.{AreSpellingsOf, RepeatsKey, map_rest};
 ghost use Rattle.dagcbor_write.specs.Order.{head_rest, entries_bytes};
 ghost use Rattle.dagcbor_write.specs.Lending.{map_lent, map_state, SameLoan, WritesNothing};
@@ -200,12 +200,9 @@ impl<W: Write> CollectMap<'_, W> {
     ) -> WriteResult<(), W>
         requires { (map_state self.old).key ≡ None }
         ensures nothing_written { WritesNothing self.old self.new }
-        ensures key { OnOk result ((map_state self.new).key ≡ None) }
-        ensures entry { Collects
-            (λ u. JoinsEntry (K.tree key.now) (V.tree value.now)
-            (map_state self.old).entries (map_state self.new).entries)
-            (RefusesEntry (K.tree key.now) (V.tree value.now)) result }
-        ensures kept { OnErr result ((map_state self.new).entries ≡ (map_state self.old).entries) }
+        ensures entry { TakesEntry (K.tree key.now) (V.tree value.now)
+            (RefusesEntry (K.tree key.now) (V.tree value.now))
+            (map_state self.old) (map_state self.new) result }
     {
         self.serialize_key(key)?;
         self.serialize_value(value)
@@ -219,12 +216,8 @@ impl<W: Write> CollectMap<'_, W> {
     ) -> WriteResult<(), W>
         requires { (map_state self.old).key ≡ None }
         ensures nothing_written { WritesNothing self.old self.new }
-        ensures key { OnOk result ((map_state self.new).key ≡ None) }
-        ensures entry { Collects
-            (λ u. JoinsEntry (Some (text name.now)) (V.tree value.now)
-            (map_state self.old).entries (map_state self.new).entries)
-            (RefusesValue (V.tree value.now)) result }
-        ensures kept { OnErr result ((map_state self.new).entries ≡ (map_state self.old).entries) }
+        ensures entry { TakesEntry (Some (text name.now)) (V.tree value.now)
+            (RefusesValue (V.tree value.now)) (map_state self.old) (map_state self.new) result }
     {
         self.serialize_entry(&name, value)
     }

@@ -65,35 +65,28 @@ fn checks(alloc: Global, bytes: &[u8], told: &str) -> Result<(), Fail> {
     is_told(alloc, &check_slice(bytes), told)
 }
 
-/// Fails where a check of a row's bytes is told otherwise than beside them.
-fn each_checks(alloc: Global, rows: &[(&[u8], &str)]) -> Result<(), Fail> {
-    for (bytes, told) in rows {
-        checks(alloc, bytes, told)?;
-    }
-    Ok(())
-}
-
 #[test]
 fn a_block_is_of_a_kind(rt: HostRuntime) -> Result<(), Fail> {
-    each_checks(
-        rt.alloc(),
-        &[
-            (b"\xf6", "Ok(Null)"),
-            (b"\xf4", "Ok(Bool)"),
-            (b"\xf5", "Ok(Bool)"),
-            (b"\x17", "Ok(Integer)"),
-            (b"\x20", "Ok(Integer)"),
-            (b"\x60", "Ok(String)"),
-            (b"\x40", "Ok(Bytes)"),
-            (b"\x81\xf6", "Ok(List)"),
-            (b"\xa1\x60\xf6", "Ok(Map)"),
-            (LINK, "Ok(Link)"),
-            (b"\xf6\x00", "Err(TrailingData)"),
-            (b"\x18\x17", r#"Err(NonMinimal { name: "u64", found: 24 })"#),
-            (b"\x81", r#"Err(Eof { name: "any", expect: Small(1) })"#),
-            (b"\xa2\x60\x00\x60\x00", "Err(UnorderedKey)"),
-        ],
-    )
+    let rows: &[(&[u8], &str)] = &[
+        (b"\xf6", "Ok(Null)"),
+        (b"\xf4", "Ok(Bool)"),
+        (b"\xf5", "Ok(Bool)"),
+        (b"\x17", "Ok(Integer)"),
+        (b"\x20", "Ok(Integer)"),
+        (b"\x60", "Ok(String)"),
+        (b"\x40", "Ok(Bytes)"),
+        (b"\x81\xf6", "Ok(List)"),
+        (b"\xa1\x60\xf6", "Ok(Map)"),
+        (LINK, "Ok(Link)"),
+        (b"\xf6\x00", "Err(TrailingData)"),
+        (b"\x18\x17", r#"Err(NonMinimal { name: "u64", found: 24 })"#),
+        (b"\x81", r#"Err(Eof { name: "any", expect: Small(1) })"#),
+        (b"\xa2\x60\x00\x60\x00", "Err(UnorderedKey)"),
+    ];
+    for (bytes, told) in rows {
+        checks(rt.alloc(), bytes, told)?;
+    }
+    Ok(())
 }
 
 #[test]

@@ -204,18 +204,11 @@ fn a_large_element_of_one(alloc: Global) -> Result<Ended, EncodeError<Infallible
 
 #[test]
 fn elements_without_a_spelling(rt: HostRuntime) -> Result<(), Fail> {
-    is_ended(
-        rt.alloc(),
-        a_large_element(rt.alloc()),
-        r#"Err(Msg("List element cannot be serialized"))"#,
-        b"",
-    )?;
-    is_ended(
-        rt.alloc(),
-        a_large_element_of_one(rt.alloc()),
-        r#"Err(Msg("Unsigned integer must be within [0, u64::MAX] range"))"#,
-        b"\x81",
-    )
+    let alloc = rt.alloc();
+    let waits = r#"Err(Msg("List element cannot be serialized"))"#;
+    is_ended(alloc, a_large_element(alloc), waits, b"")?;
+    let announced = r#"Err(Msg("Unsigned integer must be within [0, u64::MAX] range"))"#;
+    is_ended(alloc, a_large_element_of_one(alloc), announced, b"\x81")
 }
 
 fn a_large_field_of_a_row(alloc: Global) -> Result<Ended, EncodeError<Infallible>> {

@@ -19,12 +19,12 @@ loop-key-preserved g c =
       is_finite = search rules;
       nothing_written = search rules;
       key = search rules;
-      given = λ rest shows. next_pair (left_as (shows _ _ _ c.in-Some.ensures.steps) (c.loop-key.invariant.given rest shows)) _ c.in_ok-serialize_entry.ensures.entry;
+      given = λ rest shows. next_pair (left_as (shows _ _ _ c.in-Some.ensures.steps) (c.loop-key.invariant.given rest shows)) _ c.in_ok-serialize_entry.ensures.entry.joins;
     }
 
 pub returns-in_err-serialize_entry-clause-written : goal.returns-in_err-serialize_entry-clause-written
 returns-in_err-serialize_entry-clause-written g c rest shows =
-    exit_pair None (left_as (shows _ _ _ c.in-Some.ensures.steps) (c.loop-key.invariant.given rest shows)) _ _ _ _ c.in_err-serialize_entry.ensures.entry c.from_residual.ensures.1 (search rules)
+    exit_pair None (left_as (shows _ _ _ c.in-Some.ensures.steps) (c.loop-key.invariant.given rest shows)) _ _ _ _ c.in_err-serialize_entry.ensures.entry.joins c.from_residual.ensures.1 (search rules)
 
 pub returns : goal.returns
 returns g c =

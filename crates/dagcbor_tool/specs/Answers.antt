@@ -1,5 +1,5 @@
 -- What the program writes for its input.
-use Rattle.std.specs.Prelude.{◌≡◌, ◌≢◌, ◌⊎◌, ℕ, List, [], ◌∷◌, ◌++◌, codes, Option, Some}
+use Rattle.std.specs.Prelude.{◌≡◌, ◌≢◌, ◌⊎◌, ℕ, List, [], ◌∷◌, ◌++◌, codes, Option, None, Some}
 use Rattle.std.specs.Prelude.{MatchResult, Result, OnOk, IfErr}
 use Rattle.std.specs.Io.{StartsWith}
 use Rattle.std.specs.Io.KnownBytes.{Appends}
@@ -87,6 +87,11 @@ IsSaid Links = IsLinkLine
 abbrev pub IsAnswer : Command → List ℕ → List ℕ → Type 0
 IsAnswer command line said = MatchResult (decode_of line) (λ block. IsSaid command block said)
     (λ _. said ≡ codes "refused hex")
+
+-- the same of the block whose text a line is, or of none where it is no text
+abbrev pub IsSaidOf : {A : Type 0} → (A → List ℕ) → Command → Option A → List ℕ → Type 0
+IsSaidOf bytes_of command None said = said ≡ codes "refused hex"
+IsSaidOf bytes_of command (Some block) said = IsSaid command (bytes_of block) said
 
 -- The definitions below take what may be said of a line as a parameter.
 

@@ -6,7 +6,8 @@ ghost use Rattle.std.specs.Io.{StartsWith};
 ghost use Rattle.hex.specs.Hex.{decode_of, encode_lower};
 ghost use Rattle.ipld_tree.specs.Cid.{cid_bytes};
 ghost use Rattle.dagcbor_tool.specs.Answers.{kind_name, variant_name, links_text, IsVerdict};
-ghost use Rattle.dagcbor_tool.specs.Answers.{IsLinkLine, IsSaid, IsAnswer, AppendsLine, PushesLine};
+ghost use Rattle.dagcbor_tool.specs.Answers.{IsLinkLine, IsSaid, IsSaidOf, IsAnswer, AppendsLine};
+ghost use Rattle.dagcbor_tool.specs.Answers.{PushesLine};
 
 use crate::command::Command;
 use crate::line::ToolError;
@@ -168,21 +169,18 @@ fn decode_line(line: &[u8], block: &mut Vec<u8>) -> Result<bool, AllocError>
     Ok(hex::decode_to_slice(line, block.as_mut_slice()).is_ok())
 }
 
-/// Appends what is said of a line, or a part of that where memory lacks.
+/// Appends what is said of a line: of the block, where the line is its text.
 fn push_some(
     alloc: Global,
     command: Command,
-    line: &[u8],
-    block: &mut Vec<u8>,
+    block: Option<&[u8]>,
     out: &mut Vec<u8>,
 ) -> Result<(), ToolError>
-    ensures { PushesLine (IsAnswer command line.now) out.old.items out.new.items result }
+    ensures { PushesLine (IsSaidOf (λ b. b.now) command block.entry) out.old.items out.new.items result }
 {
-    let is_text = decode_line(line, block)?;
-    if is_text {
-        push_said(alloc, command, block, out)
-    } else {
-        Ok(push_sentence(out, "refused ", "hex")?)
+    match block {
+        Some(block) => push_said(alloc, command, block, out),
+        None => Ok(push_sentence(out, "refused ", "hex")?),
     }
 }
 
@@ -200,7 +198,8 @@ pub fn push_answer(
     ensures memory { IfErr result (λ e. e ≡ ToolError.OutOfMemory) }
 {
     let before = out.len();
-    let pushed = push_some(alloc, command, line, block, out);
+    let is_text = decode_line(line, block)?;
+    let pushed = push_some(alloc, command, is_text.then_some(block.as_slice()), out);
     if pushed.is_err() {
         out.truncate(before);
     }

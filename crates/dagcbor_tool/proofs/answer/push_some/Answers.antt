@@ -1,10 +1,9 @@
-use Rattle.std.proofs.Common.{codes}
-use Rattle.dagcbor_tool.proofs.Refusals.{hex_refused}
+use Rattle.std.proofs.Common.{codes, refl}
 use Rattle.dagcbor_tool.proofs.answer.push_some.Goals as goal
 
-pub returns-in_ok-push_sentence : goal.returns-in_ok-push_sentence
-returns-in_ok-push_sentence c = record {
-  kept = c.in_ok-push_sentence.ensures.kept;
-  written = (codes "refused hex", hex_refused _ _ _ _ c.in_ok-is_text.ensures c.if-is_text.false, c.in_ok-push_sentence.ensures.written);
+pub returns-in_ok-push_sentence-in-None : goal.returns-in_ok-push_sentence-in-None
+returns-in_ok-push_sentence-in-None c = record {
+  kept = c.in_ok-push_sentence-in-None.ensures.kept;
+  written = (codes "refused hex", rw c.in-None.is refl, c.in_ok-push_sentence-in-None.ensures.written);
   memory = tt;
 }

@@ -32,21 +32,40 @@ read_item-returns-then-is_indefinite-clause-item g t c = indefinite_refused g.ro
 pub read_list-returns-in_err-count-clause-item : goal.read_list-returns-in_err-count-clause-item
 read_list-returns-in_err-count-clause-item g t c = as_refusal _ _ _ _ c.from_residual.ensures.1 (more_lacks ⊤ 1 _ _ _ (λ x. absurd x) c.in_err-count.ensures.count)
 
+pub read_map-returns-in_err-count-clause-item : goal.read_map-returns-in_err-count-clause-item
+read_map-returns-in_err-count-clause-item g t c = as_refusal _ _ _ _ c.from_residual.ensures.1 (more_lacks ⊤ 1 _ _ _ (λ x. absurd x) c.in_err-count.ensures.count)
+
 pub read_list-returns-in_err-items-clause-item : goal.read_list-returns-in_err-items-clause-item
 read_list-returns-in_err-items-clause-item g t c =
     as_refusal _ _ _ _ c.from_residual-in_err-items.ensures.1 (list_refused _ _ _ c.requires (enters 4 c.requires c.in_ok-count.ensures.count) (λ x. x) c.in_err-items.ensures.items)
 
+pub read_map-returns-in_err-entries-clause-item : goal.read_map-returns-in_err-entries-clause-item
+read_map-returns-in_err-entries-clause-item g t c =
+    as_refusal _ _ _ _ c.from_residual-in_err-entries.ensures.1 (maps.map_refused _ _ _ c.requires (enters 5 c.requires c.in_ok-count.ensures.count) (λ x. x) c.in_err-entries.ensures.entries)
+
 pub read_list-returns-clause-item : goal.read_list-returns-clause-item
 read_list-returns-clause-item g t c = list_as_tree _ (enters 4 c.requires c.in_ok-count.ensures.count) c.in_ok-items.ensures.items c.step_out.ensures
+
+pub read_map-returns-clause-item : goal.read_map-returns-clause-item
+read_map-returns-clause-item g t c = maps.map_as_tree _ (enters 5 c.requires c.in_ok-count.ensures.count) c.in_ok-entries.ensures.entries c.step_out.ensures
 
 pub read_list-returns-in_err-count-clause-looked : goal.read_list-returns-in_err-count-clause-looked
 read_list-returns-in_err-count-clause-looked g t c = as_refusal _ _ _ _ c.from_residual.ensures.1 c.in_err-count.ensures.looked
 
+pub read_map-returns-in_err-count-clause-looked : goal.read_map-returns-in_err-count-clause-looked
+read_map-returns-in_err-count-clause-looked g t c = as_refusal _ _ _ _ c.from_residual.ensures.1 c.in_err-count.ensures.looked
+
 pub read_list-returns-in_err-items-clause-looked : goal.read_list-returns-in_err-items-clause-looked
 read_list-returns-in_err-items-clause-looked g t c = as_refusal _ _ _ _ c.from_residual-in_err-items.ensures.1 (looks_then c.in_ok-count.ensures.looked c.in_err-items.ensures.looked)
 
+pub read_map-returns-in_err-entries-clause-looked : goal.read_map-returns-in_err-entries-clause-looked
+read_map-returns-in_err-entries-clause-looked g t c = as_refusal _ _ _ _ c.from_residual-in_err-entries.ensures.1 (looks_then c.in_ok-count.ensures.looked c.in_err-entries.ensures.looked)
+
 pub read_list-returns-clause-looked : goal.read_list-returns-clause-looked
 read_list-returns-clause-looked g t c = looks_stepped _ refl (looks_both c.in_ok-count.ensures.looked c.in_ok-items.ensures.looked) c.step_out.ensures
+
+pub read_map-returns-clause-looked : goal.read_map-returns-clause-looked
+read_map-returns-clause-looked g t c = looks_stepped _ refl (looks_both c.in_ok-count.ensures.looked c.in_ok-entries.ensures.looked) c.step_out.ensures
 
 pub read_items-returns-in_err-item-clause-items : goal.read_items-returns-in_err-item-clause-items
 read_items-returns-in_err-item-clause-items g t c =
@@ -63,25 +82,6 @@ read_items-loop-index-init g t c = record { read = search rules; looked = nothin
 
 pub read_items-returns-in_err-item-clause-looked : goal.read_items-returns-in_err-item-clause-looked
 read_items-returns-in_err-item-clause-looked g t c = as_refusal _ _ _ _ c.from_residual.ensures.1 (looks_then c.loop-index.invariant.looked c.in_err-item.ensures.looked)
-
-pub read_map-returns-in_err-count-clause-item : goal.read_map-returns-in_err-count-clause-item
-read_map-returns-in_err-count-clause-item g t c = as_refusal _ _ _ _ c.from_residual.ensures.1 (more_lacks ⊤ 1 _ _ _ (λ x. absurd x) c.in_err-count.ensures.count)
-
-pub read_map-returns-in_err-entries-clause-item : goal.read_map-returns-in_err-entries-clause-item
-read_map-returns-in_err-entries-clause-item g t c =
-    as_refusal _ _ _ _ c.from_residual-in_err-entries.ensures.1 (maps.map_refused _ _ _ c.requires (enters 5 c.requires c.in_ok-count.ensures.count) (λ x. x) c.in_err-entries.ensures.entries)
-
-pub read_map-returns-clause-item : goal.read_map-returns-clause-item
-read_map-returns-clause-item g t c = maps.map_as_tree _ (enters 5 c.requires c.in_ok-count.ensures.count) c.in_ok-entries.ensures.entries c.step_out.ensures
-
-pub read_map-returns-in_err-count-clause-looked : goal.read_map-returns-in_err-count-clause-looked
-read_map-returns-in_err-count-clause-looked g t c = as_refusal _ _ _ _ c.from_residual.ensures.1 c.in_err-count.ensures.looked
-
-pub read_map-returns-in_err-entries-clause-looked : goal.read_map-returns-in_err-entries-clause-looked
-read_map-returns-in_err-entries-clause-looked g t c = as_refusal _ _ _ _ c.from_residual-in_err-entries.ensures.1 (looks_then c.in_ok-count.ensures.looked c.in_err-entries.ensures.looked)
-
-pub read_map-returns-clause-looked : goal.read_map-returns-clause-looked
-read_map-returns-clause-looked g t c = looks_stepped _ refl (looks_both c.in_ok-count.ensures.looked c.in_ok-entries.ensures.looked) c.step_out.ensures
 
 pub read_entries-loop-index-init : goal.read_entries-loop-index-init
 read_entries-loop-index-init g t c = record {

@@ -44,22 +44,42 @@ walk_of_major-returns-in_default-clause-item g t c = leaf_walked g.S.LinkSink.ho
 pub walk_list-returns-in_err-count-clause-item : goal.walk_list-returns-in_err-count-clause-item
 walk_list-returns-in_err-count-clause-item g t c = as_refusal _ _ _ _ c.from_residual.ensures.1 (more_lacks _ 1 _ _ _ (λ x. absurd x) c.in_err-count.ensures.count)
 
+pub walk_map-returns-in_err-count-clause-item : goal.walk_map-returns-in_err-count-clause-item
+walk_map-returns-in_err-count-clause-item g t c = as_refusal _ _ _ _ c.from_residual.ensures.1 (more_lacks _ 1 _ _ _ (λ x. absurd x) c.in_err-count.ensures.count)
+
 pub walk_list-returns-in_err-walk_items-clause-item : goal.walk_list-returns-in_err-walk_items-clause-item
 walk_list-returns-in_err-walk_items-clause-item g t c =
     let parts = enters 4 c.requires c.in_ok-count.ensures.count in
     as_refusal _ _ _ _ c.from_residual-in_err-walk_items.ensures.1 (list_refused _ _ _ c.requires parts (lacks_before parts.takes.same) c.in_err-walk_items.ensures.items)
 
+pub walk_map-returns-in_err-walk_entries-clause-item : goal.walk_map-returns-in_err-walk_entries-clause-item
+walk_map-returns-in_err-walk_entries-clause-item g t c =
+    let parts = enters 5 c.requires c.in_ok-count.ensures.count in
+    as_refusal _ _ _ _ c.from_residual-in_err-walk_entries.ensures.1 (maps.map_refused _ _ _ c.requires parts (lacks_before parts.takes.same) c.in_err-walk_entries.ensures.entries)
+
 pub walk_list-returns-clause-item : goal.walk_list-returns-clause-item
 walk_list-returns-clause-item g t c = let k = c.in_ok-walk_items.ensures.items in (_, list_taken k.0 (enters 4 c.requires c.in_ok-count.ensures.count) k.1 k.2 c.step_out.ensures, k.3)
+
+pub walk_map-returns-clause-item : goal.walk_map-returns-clause-item
+walk_map-returns-clause-item g t c = let k = c.in_ok-walk_entries.ensures.entries in (_, maps.map_taken k.0 (enters 5 c.requires c.in_ok-count.ensures.count) k.1 k.2 c.step_out.ensures, k.3)
 
 pub walk_list-returns-in_err-count-clause-looked : goal.walk_list-returns-in_err-count-clause-looked
 walk_list-returns-in_err-count-clause-looked g t c = as_refusal _ _ _ _ c.from_residual.ensures.1 c.in_err-count.ensures.looked
 
+pub walk_map-returns-in_err-count-clause-looked : goal.walk_map-returns-in_err-count-clause-looked
+walk_map-returns-in_err-count-clause-looked g t c = as_refusal _ _ _ _ c.from_residual.ensures.1 c.in_err-count.ensures.looked
+
 pub walk_list-returns-in_err-walk_items-clause-looked : goal.walk_list-returns-in_err-walk_items-clause-looked
 walk_list-returns-in_err-walk_items-clause-looked g t c = as_refusal _ _ _ _ c.from_residual-in_err-walk_items.ensures.1 (looks_then c.in_ok-count.ensures.looked c.in_err-walk_items.ensures.looked)
 
+pub walk_map-returns-in_err-walk_entries-clause-looked : goal.walk_map-returns-in_err-walk_entries-clause-looked
+walk_map-returns-in_err-walk_entries-clause-looked g t c = as_refusal _ _ _ _ c.from_residual-in_err-walk_entries.ensures.1 (looks_then c.in_ok-count.ensures.looked c.in_err-walk_entries.ensures.looked)
+
 pub walk_list-returns-clause-looked : goal.walk_list-returns-clause-looked
 walk_list-returns-clause-looked g t c = looks_stepped _ refl (looks_both c.in_ok-count.ensures.looked c.in_ok-walk_items.ensures.looked) c.step_out.ensures
+
+pub walk_map-returns-clause-looked : goal.walk_map-returns-clause-looked
+walk_map-returns-clause-looked g t c = looks_stepped _ refl (looks_both c.in_ok-count.ensures.looked c.in_ok-walk_entries.ensures.looked) c.step_out.ensures
 
 pub walk_items-loop-index-init : goal.walk_items-loop-index-init
 walk_items-loop-index-init g t c = record { read = ([], no_item_read _ _ _ [] (omega arith) refl, found_none g.S.LinkSink.holds c.args.links.now); looked = nothing_looked _ }
@@ -80,26 +100,6 @@ walk_items-loop-index-preserved g t c =
 
 pub walk_items-returns-clause-items : goal.walk_items-returns-clause-items
 walk_items-returns-clause-items g t c = let s = c.loop-index.invariant.read in let k = all_items_read s.0 (omega arith) s.1 in (s.0, k.0, k.1, s.2)
-
-pub walk_map-returns-in_err-count-clause-item : goal.walk_map-returns-in_err-count-clause-item
-walk_map-returns-in_err-count-clause-item g t c = as_refusal _ _ _ _ c.from_residual.ensures.1 (more_lacks _ 1 _ _ _ (λ x. absurd x) c.in_err-count.ensures.count)
-
-pub walk_map-returns-in_err-walk_entries-clause-item : goal.walk_map-returns-in_err-walk_entries-clause-item
-walk_map-returns-in_err-walk_entries-clause-item g t c =
-    let parts = enters 5 c.requires c.in_ok-count.ensures.count in
-    as_refusal _ _ _ _ c.from_residual-in_err-walk_entries.ensures.1 (maps.map_refused _ _ _ c.requires parts (lacks_before parts.takes.same) c.in_err-walk_entries.ensures.entries)
-
-pub walk_map-returns-clause-item : goal.walk_map-returns-clause-item
-walk_map-returns-clause-item g t c = let k = c.in_ok-walk_entries.ensures.entries in (_, maps.map_taken k.0 (enters 5 c.requires c.in_ok-count.ensures.count) k.1 k.2 c.step_out.ensures, k.3)
-
-pub walk_map-returns-in_err-count-clause-looked : goal.walk_map-returns-in_err-count-clause-looked
-walk_map-returns-in_err-count-clause-looked g t c = as_refusal _ _ _ _ c.from_residual.ensures.1 c.in_err-count.ensures.looked
-
-pub walk_map-returns-in_err-walk_entries-clause-looked : goal.walk_map-returns-in_err-walk_entries-clause-looked
-walk_map-returns-in_err-walk_entries-clause-looked g t c = as_refusal _ _ _ _ c.from_residual-in_err-walk_entries.ensures.1 (looks_then c.in_ok-count.ensures.looked c.in_err-walk_entries.ensures.looked)
-
-pub walk_map-returns-clause-looked : goal.walk_map-returns-clause-looked
-walk_map-returns-clause-looked g t c = looks_stepped _ refl (looks_both c.in_ok-count.ensures.looked c.in_ok-walk_entries.ensures.looked) c.step_out.ensures
 
 pub walk_entries-loop-index-init : goal.walk_entries-loop-index-init
 walk_entries-loop-index-init g t c = record { read = (no_entries, maps.no_entry_read _ _ _ no_entries _ (omega arith) refl refl, found_none g.S.LinkSink.holds c.args.links.now); looked = nothing_looked _ }

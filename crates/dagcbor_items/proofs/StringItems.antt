@@ -100,6 +100,6 @@ bytes_refused lacks old new e starts r =
 
 -- ---- for the calls that read a string as an item
 
-pub ruleset text_items = (text_as_tree, text_taken, text_refused, as_refusal)
+pub ruleset text_items = (text_as_tree, text_refused, as_refusal)
 
-pub ruleset bytes_items = (bytes_as_tree, bytes_taken, bytes_refused, as_refusal)
+pub ruleset bytes_items = (bytes_as_tree, bytes_refused, as_refusal)

@@ -170,7 +170,7 @@ fn decode_line(line: &[u8], block: &mut Vec<u8>) -> Result<bool, AllocError>
 }
 
 /// Appends what is said of a line: of the block, where the line is its text.
-fn push_some(
+fn push_said_of(
     alloc: Global,
     command: Command,
     block: Option<&[u8]>,
@@ -199,7 +199,7 @@ pub fn push_answer(
 {
     let before = out.len();
     let is_text = decode_line(line, block)?;
-    let pushed = push_some(alloc, command, is_text.then_some(block.as_slice()), out);
+    let pushed = push_said_of(alloc, command, is_text.then_some(block.as_slice()), out);
     if pushed.is_err() {
         out.truncate(before);
     }

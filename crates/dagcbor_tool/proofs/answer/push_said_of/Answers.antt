@@ -1,5 +1,5 @@
 use Rattle.std.proofs.Common.{codes, refl}
-use Rattle.dagcbor_tool.proofs.answer.push_some.Goals as goal
+use Rattle.dagcbor_tool.proofs.answer.push_said_of.Goals as goal
 
 pub returns-in_ok-push_sentence-in-None : goal.returns-in_ok-push_sentence-in-None
 returns-in_ok-push_sentence-in-None c = record {

@@ -1,4 +1,4 @@
-/* The exports for Node, by Node-API: check(buffer), links(buffer), name(buffer). */
+/* The exports for Node, by Node-API: check(buffer), tape(buffer), links(buffer), name(buffer). */
 #include "dagcbor.h"
 #include <node_api.h>
 #include <stdlib.h>
@@ -22,6 +22,21 @@ static napi_value check(napi_env env, napi_callback_info info) {
     const uint8_t *bytes = bytes_of(env, info, &length);
     napi_value answer = NULL;
     if (bytes) napi_create_int32(env, dagcbor_check(bytes, length), &answer);
+    return answer;
+}
+
+/* The number of a refusal, or a BigUint64Array of three numbers for each token. */
+static napi_value tape(napi_env env, napi_callback_info info) {
+    size_t length, needed;
+    const uint8_t *bytes = bytes_of(env, info, &length);
+    dagcbor_token none, *room;
+    napi_value words, answer = NULL;
+    if (!bytes) return NULL;
+    int32_t code = dagcbor_tape(bytes, length, &none, 0, &needed);
+    if (code < 0) return napi_create_int32(env, code, &answer), answer;
+    if (napi_create_arraybuffer(env, needed * sizeof none, (void **)&room, &words) != napi_ok) return NULL;
+    dagcbor_tape(bytes, length, room, needed, &needed);
+    napi_create_typedarray(env, napi_biguint64_array, 3 * needed, words, 0, &answer);
     return answer;
 }
 
@@ -59,8 +74,8 @@ static napi_value name(napi_env env, napi_callback_info info) {
 }
 
 NAPI_MODULE_INIT() {
-    const struct { const char *name; napi_callback call; } all[] = {{"check", check}, {"links", links}, {"name", name}};
-    for (int i = 0; i < 3; i++) {
+    const struct { const char *name; napi_callback call; } all[] = {{"check", check}, {"tape", tape}, {"links", links}, {"name", name}};
+    for (int i = 0; i < 4; i++) {
         napi_value call;
         napi_create_function(env, all[i].name, NAPI_AUTO_LENGTH, all[i].call, NULL, &call);
         napi_set_named_property(env, exports, all[i].name, call);

@@ -24,7 +24,44 @@ static size_t from_hex(const char *text, uint8_t *out, int packed) {
     }
 }
 
-static int is_right(char *const field[5]) {
+/* The tokens of text, and how many. A '-' is none. */
+static size_t from_tape(const char *text, dagcbor_token *tape) {
+    size_t count = 0;
+    char *at = (char *)text;
+    if (strcmp(text, "-") == 0) return 0;
+    for (;; at++) {
+        tape[count].kind = strtoull(at, &at, 10);
+        tape[count].number = strtoull(at + 1, &at, 10);
+        tape[count++].place = strtoull(at + 1, &at, 10);
+        if (*at == 0) return count;
+    }
+}
+
+/* The tokens of a block tell the block again. */
+static int is_spelled(const uint8_t *bytes, size_t length, int check, const dagcbor_token *tape, size_t count) {
+    static uint8_t out[MOST];
+    size_t needed = 99;
+    memset(out, 0xee, sizeof out);
+    if (dagcbor_spell(bytes, length, tape, count, out, length - 1, &needed) != DAGCBOR_NO_ROOM) return 0;
+    if (needed != length || out[0] != 0xee) return 0;
+    if (dagcbor_spell(bytes, length, tape, count, out, MOST, &needed) != check || needed != length) return 0;
+    return memcmp(out, bytes, length) == 0 && out[length] == 0xee;
+}
+
+static int is_right_tape(const uint8_t *bytes, size_t length, int check, const char *text) {
+    static dagcbor_token wanted[MOST], tape[MOST];
+    size_t count = from_tape(text, wanted), needed = 99;
+    memset(tape, 0xee, sizeof tape);
+    /* Asked with room for one too few it tells how many there are, and puts none. */
+    if (dagcbor_tape(bytes, length, tape, count ? count - 1 : 0, &needed) != check) return 0;
+    if (needed != count || count > length || tape[0].kind != 0xeeeeeeeeeeeeeeee) return 0;
+    if (dagcbor_tape(bytes, length, tape, count, &needed) != check || needed != count) return 0;
+    if (memcmp(tape, wanted, count * sizeof *tape) != 0 || tape[count].kind != 0xeeeeeeeeeeeeeeee) return 0;
+    if (dagcbor_tape(bytes, length, tape, MOST, &needed) != check) return 0;
+    return memcmp(tape, wanted, count * sizeof *tape) == 0 && (check < 0 || is_spelled(bytes, length, check, tape, count));
+}
+
+static int is_right(char *const field[6]) {
     static uint8_t block[MOST], links[MOST], wanted_name[MOST], out[MOST], name[36];
     size_t length = from_hex(field[0], block, 0), packed = from_hex(field[3], links, 1), needed = 99;
     const uint8_t *bytes = dagcbor_from(length ? block : NULL, length);
@@ -37,6 +74,7 @@ static int is_right(char *const field[5]) {
     if (needed != packed || out[0] != 0xee) return 0;
     if (dagcbor_links(bytes, length, out, sizeof out, &needed) != first || needed != packed) return 0;
     if (memcmp(out, links, packed) != 0 || out[packed] != 0xee) return 0;
+    if (!is_right_tape(bytes, length, check, field[5])) return 0;
     dagcbor_name(bytes, length, name);
     return memcmp(name, wanted_name, 36) == 0;
 }
@@ -47,10 +85,10 @@ int main(int count, char **words) {
     int rows = 0;
     if (!table) return 2;
     while (fgets(line, sizeof line, table)) {
-        char *field[5];
+        char *field[6];
         if (line[0] == '#') continue;
         field[0] = strtok(line, " \n");
-        for (int i = 1; i < 5; i++) field[i] = strtok(NULL, " \n");
+        for (int i = 1; i < 6; i++) field[i] = strtok(NULL, " \n");
         if (!is_right(field)) return printf("wrong: %s\n", field[0]), 1;
         rows++;
     }

@@ -2,8 +2,23 @@
 
 use std::ffi::c_int;
 
+#[repr(C)]
+#[derive(Clone, Copy, Debug, Default, PartialEq)]
+struct Token {
+    kind: u64,
+    number: u64,
+    place: u64,
+}
+
 unsafe extern "C" {
     fn dagcbor_check(bytes: *const u8, length: usize) -> c_int;
+    fn dagcbor_tape(
+        bytes: *const u8,
+        length: usize,
+        tape: *mut Token,
+        room: usize,
+        needed: *mut usize,
+    ) -> c_int;
     fn dagcbor_links(
         bytes: *const u8,
         length: usize,
@@ -18,6 +33,18 @@ fn check(block: &[u8]) -> i32 {
     // SAFETY: the pointer and the length are those of one slice, which is lent for the call. That of
     // an empty slice is not null.
     unsafe { dagcbor_check(block.as_ptr(), block.len()) }
+}
+
+/// The number of the kind, or of the refusal, and the tokens.
+fn tape(block: &[u8]) -> (i32, Vec<Token>) {
+    let (mut needed, mut tape) = (0, vec![Token::default(); block.len()]);
+    // SAFETY: as above, and `tape` and `needed` are this function's own. That of an empty vector is
+    // not null.
+    let code = unsafe {
+        dagcbor_tape(block.as_ptr(), block.len(), tape.as_mut_ptr(), tape.len(), &mut needed)
+    };
+    tape.truncate(needed);
+    (code, tape)
 }
 
 /// The number of the kind, or of the refusal, and the links.
@@ -54,10 +81,17 @@ fn from_hex(text: &str) -> Vec<u8> {
     digits.chunks(2).map(|it| it[0] * 16 + it[1]).collect()
 }
 
+fn from_words(text: &str) -> Token {
+    let words: Vec<u64> = text.split(':').map(|it| it.parse().unwrap()).collect();
+    Token { kind: words[0], number: words[1], place: words[2] }
+}
+
 fn is_right(row: &[&str]) -> bool {
     let block = from_hex(row[0]);
     let wanted = row[3].split(',').filter(|it| *it != "-").map(from_hex).collect();
+    let tokens = row[5].split(',').filter(|it| *it != "-").map(from_words).collect();
     check(&block).to_string() == row[1]
+        && tape(&block) == (row[1].parse().unwrap(), tokens)
         && links(&block) == (row[2].parse().unwrap(), wanted)
         && name(&block)[..] == from_hex(row[4])
 }

@@ -1,10 +1,10 @@
-// The WebAssembly module for JavaScript: const { check, links, name } = await load(bytesOfTheModule).
+// The WebAssembly module for JavaScript: const { check, tape, links, name } = await load(bytesOfTheModule).
 // It imports nothing, and has a 64-bit memory: addresses and lengths are BigInts.
 const PAGE = 65536;
 
 exports.load = async (module) => {
   const { instance } = await WebAssembly.instantiate(module);
-  const { memory, __heap_base, dagcbor_check, dagcbor_links, dagcbor_name } = instance.exports;
+  const { memory, __heap_base, dagcbor_check, dagcbor_tape, dagcbor_links, dagcbor_name } = instance.exports;
   const base = Number(__heap_base.value); // what stands from here on is the host's
   const grow = (pages) => {
     try {
@@ -33,8 +33,19 @@ exports.load = async (module) => {
     const needed = Number(new DataView(memory.buffer, base, 8).getBigUint64(0, true));
     return { code, needed, packed: view(out + room).slice(out, out + needed) };
   };
+  // Three BigInts for each token, behind the block, at a multiple of 8.
+  const tapeOf = (block) => {
+    const out = Math.ceil((base + 64 + block.length) / 8) * 8 - base;
+    const end = out + 24 * block.length;
+    const given = put(block, end - 64 - block.length);
+    const code = dagcbor_tape(...given, BigInt(base + out), BigInt(block.length), BigInt(base));
+    const needed = Number(new DataView(memory.buffer, base, 8).getBigUint64(0, true));
+    return code < 0 ? code : new BigUint64Array(view(end).slice(out, out + 24 * needed).buffer);
+  };
   return {
     check: (block) => dagcbor_check(...put(block, 1)),
+    // The number of a refusal, or the tokens.
+    tape: tapeOf,
     // The number of a refusal, or CIDs.
     links: (block) => {
       const { code, needed } = linksInto(block, 0);

@@ -21,17 +21,17 @@ pub struct Record {
 }
 
 impl Serialize for Record {
-    ghost tree = { λ r. entries_tree (field (codes "link") (Some (link (cid_bytes r.link)))
+    ghost tree = { λ r. entries_tree (field (codes "seq") (Some (integer (pos r.seq)))
+        ∷ field (codes "link") (Some (link (cid_bytes r.link)))
         ∷ field (codes "name") (Some (text (string_bytes r.name)))
-        ∷ field (codes "seq") (Some (integer (pos r.seq)))
         ∷ field (codes "tags") (list_tree (map (λ tag. Some (integer (pos tag))) r.tags.items)) ∷ []) };
 
     fn serialize<W: Write>(&self, alloc: Global, ser: &mut Serializer<W>) -> WriteResult<(), W> {
         let fields = (
-            Field("link", &self.link),
+            Field("seq", &self.seq),
             (
-                Field("name", &self.name),
-                (Field("seq", &self.seq), (Field("tags", &self.tags), ())),
+                Field("link", &self.link),
+                (Field("name", &self.name), (Field("tags", &self.tags), ())),
             ),
         );
         write_struct(alloc, fields, ser)

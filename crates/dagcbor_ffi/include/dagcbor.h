@@ -1,12 +1,12 @@
-/* DAG-CBOR for C: whether bytes are a block, the links of an item, and a block's name.
+/* DAG-CBOR for C: whether bytes are a block, what it holds, how it is spelled, the links of an item, and a block's name.
 
    The library takes no memory and keeps none: link with libdagcbor_ffi.a alone.
 
    What a caller owes, which nothing checks:
    - `bytes` is not NULL, also where `length` is 0 (dagcbor_from); `length` bytes stand there, and nobody
      writes them during the call; `length` is below 2^63.
-   - `out` likewise, for `room` bytes that nobody else reads or writes during the call, and `needed` for one
-     number; none of these overlaps another.
+   - `out` likewise, for `room` bytes that nobody else reads or writes during the call, `tape` for `room`
+     tokens, and `needed` for one number; none of these overlaps another.
    - The thread has 128 KB of stack left; the CPU is an x86-64-v2.
    Calls on different threads need no lock: nothing is shared between them. */
 #ifndef DAGCBOR_H
@@ -28,10 +28,27 @@ enum dagcbor_kind {
     DAGCBOR_BYTES = 4,
     DAGCBOR_LIST = 5,
     DAGCBOR_MAP = 6,
-    DAGCBOR_LINK = 7
+    DAGCBOR_LINK = 7,
+    DAGCBOR_NEGATIVE = 8 /* of a token alone: an integer below 0, which DAGCBOR_INTEGER is not then */
 };
 
-/* Why there is no such item. The other numbers from -1 to -19 are never answered: -2 a reader's fault, -6, -7,
+/* A part of a block, by its head. What `number` and `place` are, by `kind`:
+   DAGCBOR_NULL                     0
+   DAGCBOR_BOOL                     0 or 1
+   DAGCBOR_INTEGER                  the integer
+   DAGCBOR_NEGATIVE                 n, where the integer is -1 - n
+   DAGCBOR_STRING, DAGCBOR_BYTES    how many bytes it has; they stand at `place`
+   DAGCBOR_LINK                     how many bytes its CID has; they stand at `place`
+   DAGCBOR_LIST                     how many items it has, whose tokens follow
+   DAGCBOR_MAP                      how many entries it has; of each the key's token follows, a string, and the value's tokens
+   `place` is counted from the block's front. Of the other kinds it is that behind the head. */
+typedef struct dagcbor_token {
+    uint64_t kind;
+    uint64_t number;
+    uint64_t place;
+} dagcbor_token;
+
+/* Why there is no such item. The other numbers down to -19 are never answered: -2 a reader's fault, -6, -7,
    -9, -10, -11, -13 (of types), -18 want of memory, -19 a reader that had failed. */
 enum dagcbor_refusal {
     DAGCBOR_MSG = -1,              /* a link holds no CID */
@@ -40,14 +57,29 @@ enum dagcbor_refusal {
     DAGCBOR_UNSUPPORTED = -5,      /* a float or another simple value, or a link without a byte string */
     DAGCBOR_REQUIRE_UTF8 = -8,     /* a text that is not UTF-8 */
     DAGCBOR_DEPTH_OVERFLOW = -12,  /* too deep: a leaf takes one of 256 steps, and a list or a map two around what is in it */
-    DAGCBOR_TRAILING_DATA = -14,   /* bytes behind the item; of dagcbor_check alone */
+    DAGCBOR_TRAILING_DATA = -14,   /* bytes behind the item; not of dagcbor_links */
     DAGCBOR_INDEFINITE_SIZE = -15, /* an indefinite length, or a break */
     DAGCBOR_NON_MINIMAL = -16,     /* a number or a length in more bytes than it needs */
-    DAGCBOR_UNORDERED_KEY = -17    /* a key that does not come behind the one before it */
+    DAGCBOR_UNORDERED_KEY = -17,   /* a key that does not come behind the one before it */
+    DAGCBOR_NO_TOKEN = -20,        /* of dagcbor_spell: a kind or a number that is none, or a payload outside the bytes */
+    DAGCBOR_NO_ROOM = -21          /* of dagcbor_spell: what the tape tells has no room */
 };
 
 /* The kind, from 0, exactly where the bytes are a block; else, below 0, a refusal whose cause stands in them. */
 int32_t dagcbor_check(const uint8_t *bytes, size_t length);
+
+/* As dagcbor_check. *needed becomes the number of the block's tokens, in the order of the block: at most `length`.
+   Where that is at most `room` they are put at the front of `tape`, and else `tape` stays as it was. After a refusal
+   *needed is 0 and `tape` as it was. With `room` as `length` one call is enough. */
+int32_t dagcbor_tape(const uint8_t *bytes, size_t length, dagcbor_token *tape, size_t room, size_t *needed);
+
+/* The other way: what the `count` tokens tell, each its head and its payload out of `bytes`, one behind the other.
+   *needed becomes its length. Where that is at most `room` it is put at the front of `out`, and the answer is that of
+   dagcbor_check on it: a kind exactly where it is a block (else the front of `out` holds no block). Without room
+   DAGCBOR_NO_ROOM, and `out` stays as it was. Where a token is none DAGCBOR_NO_TOKEN, *needed is 0 and `out` as it was.
+   Places of tokens without a payload are not looked at. */
+int32_t dagcbor_spell(const uint8_t *bytes, size_t length, const dagcbor_token *tape, size_t count, uint8_t *out,
+                      size_t room, size_t *needed);
 
 /* The kind of the first item, from 0, exactly where one stands; what follows it is not looked at. Else, below 0, a
    refusal whose cause stands in the bytes. *needed becomes the length of the item's links, packed in the order of

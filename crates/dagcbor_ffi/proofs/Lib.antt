@@ -1,2 +1,5 @@
 pub mod Packing
 pub mod Putting
+pub mod Tapes
+pub mod Telling
+pub mod Spelling

@@ -47,7 +47,7 @@ put_behind bs more before h =
 
 -- ---- a sink's memory
 
-put_more : (name : ℕ) (before bs more : List ℕ) (p q : PackedLinks) → HasPut name before bs p → PutsBytes more p q → HasPut name before (bs ++ more) q
+pub put_more : (name : ℕ) (before bs more : List ℕ) (p q : PackedLinks) → HasPut name before bs p → PutsBytes more p q → HasPut name before (bs ++ more) q
 put_more name before bs more p q h g =
     let l = length-append bs more in
     record {
@@ -72,7 +72,7 @@ took ((name ∷ []) ∷ before ∷ found) cid p mid q g k h =
 took ((name ∷ other ∷ more) ∷ links) cid p mid q g k h = absurd h
 
 -- nothing was put yet
-nothing_put : (p : PackedLinks) → p.needed ≡ 0 → length p.out.now < 2 ^ 64 → HoldsPacked p ((p.out.ghost_name ∷ []) ∷ p.out.now ∷ [])
+pub nothing_put : (p : PackedLinks) → p.needed ≡ 0 → length p.out.now < 2 ^ 64 → HoldsPacked p ((p.out.ghost_name ∷ []) ∷ p.out.now ∷ [])
 nothing_put p none small = record { same_reference = refl; counted = none; fits = small; same_length = refl; stands = λ room. refl }
 
 -- what a walk found was put into the memory that was lent

@@ -1,3 +1,5 @@
 pub mod Codes
 pub mod Packed
+pub mod Tapes
+pub mod Told
 pub mod Answers

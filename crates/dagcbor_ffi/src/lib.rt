@@ -8,15 +8,20 @@
 ghost use Rattle.std.specs.Prelude.{◌≡◌};
 ghost use Rattle.sha2.specs.Sha256.{sha256};
 ghost use Rattle.ipld_tree.specs.Cid.{cid_bytes, cid_parts};
-ghost use Rattle.dagcbor_ffi.specs.Answers.{IsCheckAnswer, IsLinksAnswer};
+ghost use Rattle.dagcbor_ffi.specs.Answers.{IsCheckAnswer, IsLinksAnswer, IsTapeAnswer, IsSpellAnswer};
 
 mod code;
+pub mod laws;
 mod links;
 mod name;
+mod spell;
+mod tape;
 
 use crate::code::code_of;
 use crate::links::put_links;
 use crate::name::name_of;
+use crate::spell::spell;
+use crate::tape::{Token, put_tape};
 use dagcbor_items::check_slice;
 
 /// The number of the kind of a block, from 0; below 0 that of the refusal.
@@ -36,6 +41,31 @@ pub extern "C" fn dagcbor_links(bytes: &[u8], out: &mut [u8], needed: &mut usize
     ensures { IsLinksAnswer bytes.now out.old out.new needed.new result }
 {
     code_of(&put_links(bytes, out, needed))
+}
+
+/// The number of the kind of a block, from 0; below 0 that of the refusal. `needed` becomes the number
+/// of its tokens, in the order of its spelling; they are no more than its bytes. Where `tape` has room
+/// for them all they are put at its front, and else it stays.
+#[unsafe(no_mangle)]
+pub extern "C" fn dagcbor_tape(bytes: &[u8], tape: &mut [Token], needed: &mut usize) -> i32
+    ensures { IsTapeAnswer bytes.now tape.old tape.new needed.new result }
+{
+    code_of(&put_tape(bytes, tape, needed))
+}
+
+/// Puts the bytes that a tape tells at the front of `out`, where there is room for them, and judges
+/// them as `dagcbor_check`. Its payloads are taken from `bytes`. `needed` becomes the number of these
+/// bytes. -20 is answered where a token tells nothing, and -21 where there is no room; then `out` stays.
+#[unsafe(no_mangle)]
+pub extern "C" fn dagcbor_spell(
+    bytes: &[u8],
+    tape: &[Token],
+    out: &mut [u8],
+    needed: &mut usize,
+) -> i32
+    ensures { IsSpellAnswer bytes.now tape.now out.old out.new needed.new result }
+{
+    spell(bytes, tape, out, needed)
 }
 
 /// Puts the block's name into `out`: the CID of version 1, of the codec DAG-CBOR, by the SHA-256 of

@@ -14,12 +14,12 @@ use std::convert::Infallible;
 /// counted alone.
 #[derive(Drop)]
 pub(crate) struct PackedLinks<'a> {
-    out: &'a mut [u8],
-    needed: usize,
+    pub(crate) out: &'a mut [u8],
+    pub(crate) needed: usize,
 }
 
 impl<'a> PackedLinks<'a> {
-    fn new(out: &'a mut [u8]) -> PackedLinks<'a>
+    pub(crate) fn new(out: &'a mut [u8]) -> PackedLinks<'a>
         ensures reference { result.out.ghost_name ≡ out.entry.ghost_name }
         ensures bytes { result.out.now ≡ out.old }
         ensures needed { result.needed ≡ 0 }
@@ -28,7 +28,7 @@ impl<'a> PackedLinks<'a> {
     }
 
     /// Puts the bytes behind those before, and counts them.
-    fn put(&mut self, bytes: &[u8])
+    pub(crate) fn put(&mut self, bytes: &[u8])
         ensures { PutsBytes bytes.now self.old self.new }
     {
         put_at(self.out, self.needed, bytes);

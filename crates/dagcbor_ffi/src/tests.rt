@@ -75,6 +75,119 @@ fn a_refusal_puts_no_link(rt: HostRuntime) -> Result<(), Fail> {
     Ok(())
 }
 
+fn is_token(token: &Token, words: [u64; 3]) -> bool {
+    [token.kind, token.number, token.place] == words
+}
+
+/// A list of each kind once: null, true, 24, -256, "a", two bytes, a map and a link.
+const EACH_KIND: &[u8] = b"\x88\xf6\xf5\x18\x18\x38\xff\x61a\x42\x01\x02\xa1\x61b\xf4\
+    \xd8\x2a\x45\x00\x01\x55\x00\x00";
+
+#[test]
+fn a_tape_has_each_head(rt: HostRuntime) -> Result<(), Fail> {
+    let mut tape = [Token {
+        kind: 99,
+        number: 99,
+        place: 99,
+    }; 12];
+    let mut needed = 99;
+    assert_eq!(rt; dagcbor_tape(EACH_KIND, &mut tape[..10], &mut needed), 5);
+    assert_eq!(rt; needed, 11);
+    assert!(rt; tape.iter().all(|token| is_token(token, [99, 99, 99])));
+    assert_eq!(rt; dagcbor_tape(EACH_KIND, &mut tape, &mut needed), 5);
+    assert_eq!(rt; needed, 11);
+    let rows = [
+        [5, 8, 1],
+        [0, 0, 2],
+        [1, 1, 3],
+        [2, 24, 5],
+        [8, 255, 7],
+        [3, 1, 8],
+        [4, 2, 10],
+        [6, 1, 13],
+        [3, 1, 14],
+        [1, 0, 16],
+        [7, 4, 20],
+        [99, 99, 99],
+    ];
+    for (token, words) in tape.iter().zip(rows) {
+        assert!(rt; is_token(token, words));
+    }
+    Ok(())
+}
+
+#[test]
+fn a_refusal_puts_no_token(rt: HostRuntime) -> Result<(), Fail> {
+    let mut tape = [Token {
+        kind: 99,
+        number: 99,
+        place: 99,
+    }; 2];
+    let mut needed = 99;
+    assert_eq!(rt; dagcbor_tape(b"\xf6\xf6", &mut tape, &mut needed), -14);
+    assert_eq!(rt; needed, 0);
+    assert!(rt; tape.iter().all(|token| is_token(token, [99, 99, 99])));
+    Ok(())
+}
+
+#[test]
+fn a_tape_is_spelled_again(rt: HostRuntime) -> Result<(), Fail> {
+    let mut tape = [Token {
+        kind: 99,
+        number: 99,
+        place: 99,
+    }; 11];
+    let mut needed = 99;
+    dagcbor_tape(EACH_KIND, &mut tape, &mut needed);
+    let mut room = [0xee; 32];
+    let count = EACH_KIND.len();
+    assert_eq!(rt;
+        dagcbor_spell(EACH_KIND, &tape, &mut room[..count - 1], &mut needed),
+        -21
+    );
+    assert_eq!(rt; needed, count);
+    assert_eq!(rt; room, [0xee; 32]);
+    assert_eq!(rt; dagcbor_spell(EACH_KIND, &tape, &mut room, &mut needed), 5);
+    assert_eq!(rt; needed, count);
+    assert!(rt; room.starts_with(EACH_KIND));
+    assert_eq!(rt; room[count], 0xee);
+    Ok(())
+}
+
+/// What is answered of one token over the bytes "ab".
+fn spelled(kind: u64, number: u64, place: u64) -> i32 {
+    let mut room = [0; 16];
+    let mut needed = 99;
+    dagcbor_spell(
+        b"ab",
+        &[Token {
+            kind,
+            number,
+            place,
+        }],
+        &mut room,
+        &mut needed,
+    )
+}
+
+#[test]
+fn a_tape_that_tells_no_block_is_refused(rt: HostRuntime) -> Result<(), Fail> {
+    let rows = [
+        ([3, 2, 0], 3),
+        ([3, 2, 1], -20),
+        ([4, u64::MAX, 1], -20),
+        ([0, 1, 0], -20),
+        ([1, 2, 0], -20),
+        ([9, 0, 0], -20),
+        ([5, 1, 0], -3),
+        ([7, 2, 0], -1),
+    ];
+    for ([kind, number, place], code) in rows {
+        assert_eq!(rt; spelled(kind, number, place), code);
+    }
+    Ok(())
+}
+
 /// The name of the empty map, as the SHA-256 of the byte a0 makes it.
 const EMPTY_MAP: &[u8; 36] = b"\x01\x71\x12\x20\xc1\x9a\x79\x7f\xa1\xfd\x59\x0c\xd2\xe5\xb4\x2d\
     \x1c\xf5\xf2\x46\xe2\x9b\x91\x68\x4e\x2f\x87\x40\x4b\x81\xdc\x34\x5c\x7a\x56\xa0";

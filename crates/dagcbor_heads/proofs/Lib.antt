@@ -10,3 +10,4 @@ pub mod Splitting
 pub mod Arguments
 pub mod HeadFaults
 pub mod Keeping
+pub mod Slices

@@ -1,6 +1,9 @@
 //! What values are read from: a slice, which lends its bytes, or another reader.
 
-ghost use Rattle.std.specs.Prelude.{◌≡◌, true, IfOk, MatchOption, Some, List, ℕ};
+ghost use Rattle.std.specs.Prelude.{◌≡◌, ◌<◌, ◌++◌, ◌^◌, true, length, IfOk, IfSome, MatchOption, Some, List, ℕ};
+ghost use Rattle.dagcbor_heads.specs.Head.{head};
+ghost use Rattle.dagcbor_heads.specs.Fronts.{Takes};
+ghost use Rattle.dagcbor_heads.specs.Looking.{LooksAtTaken};
 ghost use Rattle.dagcbor_heads.specs.Reading.{IsShownOf, reference_bytes, is_long};
 ghost use Rattle.dagcbor_heads.specs.Inputs.{input_reading};
 
@@ -37,6 +40,22 @@ impl<'de, R: Read> Input<'de, R> {
         Ok(self.shown())
     }
 
+    /// Takes the string of this major type at the front, with its head, and lends its bytes, where
+    /// the input is a slice that has all of them. Else nothing is taken.
+    #[inline(always)]
+    pub fn take_string(&mut self, kind: u8) -> Option<&'de [u8]>
+        ensures taken { MatchOption result
+            (self.new ≡ self.old)
+            (λ s. (kind < 8) × (length s.now < 2 ^ 64) × Takes (input_reading R.reading self.old) (head kind (length s.now) ++ s.now) (input_reading R.reading self.new)) }
+        ensures lends { IfSome result (λ _. (input_reading R.reading self.old).lends ≡ true) }
+        ensures looked { IfSome result (λ _. LooksAtTaken 2 0 (input_reading R.reading self.old) (input_reading R.reading self.new)) }
+    {
+        match self {
+            Input::Slice(reader) => reader.take_string(kind),
+            Input::Reader(_) => None,
+        }
+    }
+
     /// The reader, where it is no slice.
     pub fn into_reader(self) -> Option<R>
         ensures { MatchOption result ((input_reading R.reading self.entry).lends ≡ true) (λ r. self.entry ≡ Reader r) }
@@ -71,6 +90,14 @@ impl<R: Read> Read for Input<'_, R> {
         match self {
             Input::Slice(reader) => reader.long(),
             Input::Reader(reader) => reader.shown(),
+        }
+    }
+
+    #[inline(always)]
+    fn take_head(&mut self) -> Option<(u8, u64, u8)> {
+        match self {
+            Input::Slice(reader) => reader.take_head(),
+            Input::Reader(reader) => reader.take_head(),
         }
     }
 

@@ -35,7 +35,8 @@ pub use io_ref_write::IoRefWriter;
 pub use io_write::IoWriter;
 pub use name::{Message, Name};
 pub use pull::{
-    is_at_end, is_indefinite, peek_one, pull_head, pull_one, pull_payload, pull_short_payload,
+    is_at_end, is_indefinite, peek_one, pull_head, pull_head_argument, pull_one, pull_payload,
+    pull_short_payload,
 };
 pub use push::push_head;
 pub use read::{Read, ReadResult, Reference, SliceReader};

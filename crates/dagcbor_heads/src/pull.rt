@@ -195,6 +195,36 @@ pub fn pull_head<R: Read>(name: &str, reader: &mut R) -> ReadResult<(u8, u64, u8
     Ok((major, argument, first))
 }
 
+/// The argument of the next head, which is taken, byte by byte.
+#[cold]
+#[inline(never)]
+fn pull_head_argument_slowly<R: Read>(name: &str, reader: &mut R) -> ReadResult<u64, R>
+    ensures taken { MatchResult result
+        (λ n. (major first : ℕ) × TakesHead (R.reading reader.old) major n first (R.reading reader.new))
+        (λ e. Refuses (HasHead (R.reading reader.old)) ⊥ ⊥ HeadCause (R.reading reader.old) e (R.reading reader.new)) }
+    ensures named { IfErr result (λ e. IsNamed name.now e) }
+    ensures looked { Looks 2 (R.reading reader.old) result (R.reading reader.new) }
+{
+    let (_, argument, _) = pull_head(name, reader)?;
+    Ok(argument)
+}
+
+/// The argument of the next head, which is taken. It is quicker than `pull_head` where the major
+/// type is known from the first byte: only a number is handed up.
+#[inline(never)]
+pub fn pull_head_argument<R: Read>(name: &str, reader: &mut R) -> ReadResult<u64, R>
+    ensures taken { MatchResult result
+        (λ n. (major first : ℕ) × TakesHead (R.reading reader.old) major n first (R.reading reader.new))
+        (λ e. Refuses (HasHead (R.reading reader.old)) ⊥ ⊥ HeadCause (R.reading reader.old) e (R.reading reader.new)) }
+    ensures named { IfErr result (λ e. IsNamed name.now e) }
+    ensures looked { Looks 2 (R.reading reader.old) result (R.reading reader.new) }
+{
+    if let Some((_, argument, _)) = reader.take_head() {
+        return Ok(argument);
+    }
+    pull_head_argument_slowly(name, reader)
+}
+
 /// Appends as many of the bytes as are wanted, and answers how many.
 fn append_front(payload: &mut Vec<u8>, bytes: &[u8], want: u64) -> Result<usize, AllocError>
     ensures count { IfOk result (λ n. n ≡ min want (length bytes.now)) }

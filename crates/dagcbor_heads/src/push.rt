@@ -31,11 +31,25 @@ fn head_bytes(major: u8, argument: u64) -> ([u8; 9], usize)
 }
 
 /// Appends the shortest head of a major type and an argument.
+///
+/// Where all is well the answer is made anew, so that none of the room of a refusal is copied up.
+#[tactic(auto, unfolding(crate::specs::Head::head))]
 pub fn push_head<W: Write>(writer: &mut W, major: u8, argument: u64) -> WriteResult<(), W>
     requires { major ≤ 7 }
     ensures written { Writes (Some (head major argument)) (W.written writer.old) (W.written writer.new) result }
     ensures memory { WantsMemoryOnlyIf W.takes_memory result }
 {
+    if argument <= 23 {
+        let pushed = writer.push(&[32 * major + argument as u8]);
+        if pushed.is_ok() {
+            return Ok(());
+        }
+        return pushed;
+    }
     let (bytes, count) = head_bytes(major, argument);
-    writer.push(&bytes[..count])
+    let pushed = writer.push(&bytes[..count]);
+    if pushed.is_ok() {
+        return Ok(());
+    }
+    pushed
 }

@@ -1,12 +1,15 @@
 //! Readers: a list of bytes, however they come.
 
 ghost use Rattle.std.specs.Prelude.{◌≡◌, ◌+◌, ◌-◌, ◌<◌, ◌≤◌, [], true, length, IfOk, MatchOption};
-ghost use Rattle.std.specs.Prelude.{MatchResult, MatchBool, Some, List, ℕ};
+ghost use Rattle.std.specs.Prelude.{MatchResult, MatchBool, Some, List, ℕ, IfSome, ◌++◌, ◌^◌};
 ghost use Rattle.dagcbor_heads.specs.Reading.{Reading, IsShownOf, Shows, Fails, Advances};
 ghost use Rattle.dagcbor_heads.specs.Reading.{fresh_reading, default_steps, with_steps};
-ghost use Rattle.dagcbor_heads.specs.Fronts.{Takes};
+ghost use Rattle.dagcbor_heads.specs.Head.{head};
+ghost use Rattle.dagcbor_heads.specs.Fronts.{Takes, TakesHead};
+ghost use Rattle.dagcbor_heads.specs.Looking.{LooksAtTaken, LooksAtMost};
 
 use crate::error::DecodeError;
+use crate::front::split_head;
 use crate::steps::{DEFAULT_STEPS, Steps};
 use crate::tally::Tally;
 use std::convert::Infallible;
@@ -56,6 +59,19 @@ pub trait Read: Drop {
     fn step_out(&mut self)
         requires { (reading self.old).steps < (reading self.old).budget }
         ensures { reading self.new ≡ with_steps ((reading self.old).steps + 1) (reading self.old) };
+
+    /// Takes the head at the front where all of it is at hand: its major type, its argument and its
+    /// first byte. Else nothing is taken, and nothing counted: what looks at a byte of a head that is
+    /// not at hand counts it twice.
+    fn take_head(&mut self) -> Option<(u8, u64, u8)>
+        ensures taken { MatchOption result
+            (reading self.new ≡ reading self.old)
+            (λ h. TakesHead (reading self.old) h.0 h.1 h.2 (reading self.new)) }
+        ensures looked { IfSome result (λ _. LooksAtTaken 2 0 (reading self.old) (reading self.new)) }
+        ensures at_most { IfSome result (λ _. LooksAtMost 18 (reading self.old) (reading self.new)) }
+    {
+        None
+    }
 
     /// Shows a front of the bytes left, and takes nothing.
     final fn fill(&mut self, want: usize) -> Result<&[u8], Self::Error>
@@ -124,6 +140,30 @@ impl<'a> SliceReader<'a> {
         &self.rest[..self.shown]
     }
 
+    /// Takes the string of this major type at the front, with its head, and lends its bytes, where
+    /// all of them are left. Else nothing is taken.
+    #[inline(always)]
+    pub fn take_string(&mut self, kind: u8) -> Option<&'a [u8]>
+        ensures taken { MatchOption result
+            (self.new ≡ self.old)
+            (λ s. (kind < 8) × (length s.now < 2 ^ 64) × Takes self.old (head kind (length s.now) ++ s.now) self.new) }
+        ensures lends { self.old.lends ≡ true }
+        ensures looked { IfSome result (λ _. LooksAtTaken 2 0 self.old self.new) }
+    {
+        let (major, count, behind) = split_head(self.rest)?;
+        if major != kind {
+            return None;
+        }
+        if (behind.len() as u64) < count {
+            return None;
+        }
+        let (payload, rest) = behind.split_at(count as usize);
+        self.looked.add(self.rest.len() - rest.len());
+        self.rest = rest;
+        self.shown = 0;
+        Some(payload)
+    }
+
     /// Takes the next n bytes and lends them, where so many are left.
     pub fn lend(&mut self, n: u64) -> Option<&'a [u8]>
         ensures lends { self.old.lends ≡ true }
@@ -155,6 +195,17 @@ impl Read for SliceReader<'_> {
 
     fn shown(&self) -> &[u8] {
         self.long()
+    }
+
+    #[inline(always)]
+    fn take_head(&mut self) -> Option<(u8, u64, u8)> {
+        let (first, _behind) = self.rest.split_first()?;
+        let first = *first;
+        let (major, argument, rest) = split_head(self.rest)?;
+        self.looked.add(self.rest.len() - rest.len());
+        self.rest = rest;
+        self.shown = 0;
+        Some((major, argument, first))
     }
 
     fn advance(&mut self, n: usize) {

@@ -1,6 +1,7 @@
 //! Writers: what bytes are appended to.
 
-ghost use Rattle.std.specs.Prelude.{◌≡◌, ◌∷◌, [], Some, OnErr, Bool, true};
+ghost use Rattle.std.specs.Prelude.{◌≡◌, ◌∷◌, [], Some, OnErr, Bool, true, Err};
+ghost use Rattle.dagcbor_heads.specs.declared.error.EncodeError.TheVariants.{OutOfMemory};
 ghost use Rattle.dagcbor_heads.specs.Written.{Written, Writes, WantsMemoryOnlyIf};
 
 use crate::error::EncodeError;
@@ -102,9 +103,18 @@ impl Write for BufWriter {
         ensures memory { WantsMemoryOnlyIf true result }
         ensures unchanged { OnErr result (self.new ≡ self.old) }
     {
-        match self.bytes.extend_from_slice(bytes) {
-            Ok(()) => Ok(()),
-            Err(_) => Err(EncodeError::OutOfMemory),
+        if self.bytes.extend_from_slice(bytes).is_ok() {
+            return Ok(());
         }
+        out_of_memory()
     }
+}
+
+/// The refusal of a growth. Made apart, so that a push that is taken writes none of it.
+#[cold]
+#[inline(never)]
+fn out_of_memory<E>() -> Result<(), EncodeError<E>>
+    ensures { result ≡ Err OutOfMemory }
+{
+    Err(EncodeError::OutOfMemory)
 }

@@ -14,7 +14,7 @@ use Rattle.ipld_tree.specs.Ipld.{pairs_of}
 use Rattle.ipld_tree.specs.declared.ipld.Ipld.{Ipld}
 use Rattle.dagcbor_items.specs.Places.{Follows}
 use Rattle.dagcbor_items.specs.ItemCauses.{KeyCause, CauseInEntries}
-use Rattle.dagcbor_items.specs.Shapes.{Shape}
+use Rattle.dagcbor_items.specs.Shapes.{Shape, takes_some}
 use Rattle.dagcbor_items.specs.Untyped.{TakesItem}
 
 -- a key stands at the front that follows the one before it
@@ -58,7 +58,7 @@ pub record HasEntryRow {V : Type 0} (shape : Shape Entries V) (last : Option (Li
 
 -- any entries
 abbrev pub any_entries : Shape Entries Entries
-any_entries = record { view = Some; need = entries_need; borrows = false }
+any_entries = record { view = Some; need = entries_need; wants_loan = false; memory = takes_some }
 
 -- so many entries stand at the front, from the first, within the steps left
 abbrev pub HasEntries : ℕ → Reading → Type 0

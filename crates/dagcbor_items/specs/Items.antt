@@ -10,7 +10,7 @@ use Rattle.ipld_tree.specs.Spelling.{item_count, AreFronts}
 use Rattle.ipld_tree.specs.Ipld.{trees_of}
 use Rattle.ipld_tree.specs.declared.ipld.Ipld.{Ipld}
 use Rattle.dagcbor_items.specs.ItemCauses.{CauseInItems}
-use Rattle.dagcbor_items.specs.Shapes.{Shape}
+use Rattle.dagcbor_items.specs.Shapes.{Shape, takes_some}
 
 -- so many items stand at the front which show something, and their need is within the steps left
 pub record HasRow {V : Type 0} (shape : Shape Items V) (count : ℕ) (r : Reading) : Type 0 where
@@ -25,7 +25,7 @@ pub record HasRow {V : Type 0} (shape : Shape Items V) (count : ℕ) (r : Readin
 
 -- any items
 abbrev pub any_items : Shape Items Items
-any_items = record { view = Some; need = items_need; borrows = false }
+any_items = record { view = Some; need = items_need; wants_loan = false; memory = takes_some }
 
 -- so many items stand at the front within the steps left
 abbrev pub HasItems : ℕ → Reading → Type 0

@@ -1,5 +1,5 @@
 -- What reading a value of a type answers and refuses.
-use Rattle.std.specs.Prelude.{◌≡◌, ℕ, ◌≤◌, true, List, Some, is_some, Result, MatchResult, ⊤}
+use Rattle.std.specs.Prelude.{◌≡◌, ℕ, ◌≤◌, Bool, true, List, Some, is_some, Result, MatchResult, ⊤}
 use Rattle.dagcbor_heads.specs.Reading.{Reading, Stays}
 use Rattle.dagcbor_heads.specs.Refusals.{Refuses}
 use Rattle.dagcbor_heads.specs.declared.error.DecodeError.{DecodeError}
@@ -33,6 +33,10 @@ abbrev pub Reads : {T V E : Type 0} → (T → V) → Shape Tree V → Type 0 �
 Reads meaning shape lacks borrows stands old result new = MatchResult result
     (λ v. TakesFront shape old (meaning v) new)
     (λ e. Refuses (HasFront shape old) lacks borrows stands old e new)
+
+-- reading it there may take memory
+abbrev pub MayLack : (Bool → Bool) → Reading → Type 0
+MayLack memory r = memory r.lends ≡ true
 
 -- where a call that spends a step at once is refused for the depth, no step was left
 abbrev pub NoStepIfDeep : {E : Type 0} → Reading → DecodeError E → Type 0

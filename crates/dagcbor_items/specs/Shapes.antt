@@ -9,16 +9,41 @@ pub record Shape (Data V : Type 0) : Type 0 where
   pub view : Data → Option V
   -- the steps that reading it takes
   pub need : Data → ℕ
-  -- whether what is read borrows from the input
-  pub borrows : Bool
+  -- whether reading it wants a loan of the input
+  pub wants_loan : Bool
+  -- whether reading it may take memory, of an input that lends or of one that does not
+  pub memory : Bool → Bool
 
--- Reading it takes no step, and borrows nothing.
+-- ---- memory
+
+abbrev pub takes_none : Bool → Bool
+takes_none lends = false
+
+abbrev pub takes_some : Bool → Bool
+takes_some lends = true
+
+-- what the input lends takes none
+abbrev pub unless_lent : Bool → Bool
+unless_lent true = false
+unless_lent false = true
+
+-- ---- leaves
+
+-- Reading it takes no step and no memory, and wants no loan.
 abbrev pub leaf : {V : Type 0} → (Tree → Option V) → Shape Tree V
-leaf view = record { view = view; need = λ t. 0; borrows = false }
+leaf view = record { view = view; need = λ t. 0; wants_loan = false; memory = takes_none }
+
+-- The same, in memory of its own.
+abbrev pub owned_leaf : {V : Type 0} → (Tree → Option V) → Shape Tree V
+owned_leaf view = record { view = view; need = λ t. 0; wants_loan = false; memory = takes_some }
+
+-- The same, read without memory where the input lends.
+abbrev pub cow_leaf : {V : Type 0} → (Tree → Option V) → Shape Tree V
+cow_leaf view = record { view = view; need = λ t. 0; wants_loan = false; memory = unless_lent }
 
 -- The same, lent by the input.
 abbrev pub lent_leaf : {V : Type 0} → (Tree → Option V) → Shape Tree V
-lent_leaf view = record { view = view; need = λ t. 0; borrows = true }
+lent_leaf view = record { view = view; need = λ t. 0; wants_loan = true; memory = unless_lent }
 
 -- ---- numbers
 
@@ -85,11 +110,11 @@ view_link _ = None
 
 -- Any tree shows itself.
 abbrev pub any_tree : Shape Tree Tree
-any_tree = record { view = Some; need = any_need; borrows = false }
+any_tree = record { view = Some; need = any_need; wants_loan = false; memory = takes_some }
 
 -- Any tree shows nothing to a type that ignores it.
 abbrev pub ignored_item : Shape Tree (Unit {0})
-ignored_item = record { view = λ t. Some tt; need = any_need; borrows = false }
+ignored_item = record { view = λ t. Some tt; need = any_need; wants_loan = false; memory = unless_lent }
 
 -- null, or what another tree shows
 abbrev pub view_option : {V : Type 0} → (Tree → Option V) → Tree → Option (Option V)
@@ -105,5 +130,10 @@ abbrev pub option_of : {V : Type 0} → Shape Tree V → Shape Tree (Option V)
 option_of shape = record {
   view = view_option shape.view;
   need = need_option shape.need;
-  borrows = shape.borrows;
+  wants_loan = shape.wants_loan;
+  memory = shape.memory;
 }
+
+-- a value in memory of its own
+abbrev pub boxed_of : {V : Type 0} → Shape Tree V → Shape Tree V
+boxed_of shape = record shape { memory = takes_some }

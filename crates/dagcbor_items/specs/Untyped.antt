@@ -9,7 +9,7 @@ use Rattle.ipld_tree.specs.Spelling.{IsSpellable, spelling, IsFront}
 use Rattle.ipld_tree.specs.Ipld.{tree_of}
 use Rattle.ipld_tree.specs.declared.ipld.Ipld.{Ipld}
 use Rattle.dagcbor_items.specs.ItemCauses.{CauseInside}
-use Rattle.dagcbor_items.specs.Shapes.{Shape}
+use Rattle.dagcbor_items.specs.Shapes.{Shape, takes_some}
 use Rattle.dagcbor_items.specs.Reads.{HasFront}
 
 -- the first byte of those left, where they are known, has the major type
@@ -19,7 +19,7 @@ StartsWithMajor r major = (b : List ℕ) → r.left ≡ Some b → (first : ℕ)
 
 -- any tree, of whose need so many steps are already spent
 abbrev pub any_item : ℕ → Shape Tree Tree
-any_item spent = record { view = Some; need = λ t. any_need t - spent; borrows = false }
+any_item spent = record { view = Some; need = λ t. any_need t - spent; wants_loan = false; memory = takes_some }
 
 -- some tree stands at the front whose need is within the steps left and those already spent on it
 abbrev pub HasItem : ℕ → Reading → Type 0

@@ -5,7 +5,7 @@ ghost use Rattle.dagcbor_heads.specs.Looking.{LooksBehind};
 ghost use Rattle.dagcbor_items.specs.Entering.{StartsWithParts, ReadsCount};
 ghost use Rattle.dagcbor_items.specs.Variants.{OfItem};
 
-use dagcbor_heads::{Read, ReadResult, pull_head, spend_step};
+use dagcbor_heads::{Read, ReadResult, pull_head_argument, spend_step};
 
 /// Spends a step, and takes the head of a list or map: how many items or entries it has.
 #[tactic(auto, using(crate::proofs::Variants::depth_item, crate::proofs::Variants::named_item))]
@@ -16,6 +16,6 @@ pub(crate) fn enter<R: Read>(name: &str, reader: &mut R) -> ReadResult<u64, R>
     ensures variant { IfErr result OfItem }
 {
     spend_step(name, reader)?;
-    let (_, count, _) = pull_head(name, reader)?;
+    let count = pull_head_argument(name, reader)?;
     Ok(count)
 }

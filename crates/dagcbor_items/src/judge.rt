@@ -29,11 +29,11 @@ fn split_payload(bytes: &[u8], n: u64) -> Option<(&[u8], &[u8])>
 }
 
 /// Texts below this length are first looked at byte by byte.
-const SHORT: usize = 32;
+pub(crate) const SHORT: usize = 32;
 
 /// Whether all of the bytes are ASCII.
 #[inline(always)]
-fn is_plain(bytes: &[u8]) -> bool
+pub(crate) fn is_plain(bytes: &[u8]) -> bool
     ensures { result ≡ list_all is_ascii bytes.now }
 {
     bytes.iter().all(|byte| byte.is_ascii())

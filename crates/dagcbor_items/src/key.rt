@@ -40,6 +40,7 @@ fn follows(previous: &Option<CowStr<'_>>, key: &CowStr<'_>) -> bool
 
 /// A key, lent where the input lends.
 #[tactic(auto, using(crate::proofs::Variants::text_key))]
+#[inline(always)]
 pub fn read_key<'de, R: Read>(
     alloc: Global,
     input: &mut Input<'de, R>,

@@ -9,7 +9,7 @@ ghost use Rattle.dagcbor_items.specs.Variants.{OfItem};
 
 use crate::numbers::number_of;
 use crate::strings::{pull_peeked_owned_bytes, pull_peeked_owned_text};
-use dagcbor_heads::{DecodeError, Input, Read, ReadResult, pull_head, pull_one};
+use dagcbor_heads::{DecodeError, Input, Read, ReadResult, pull_head_argument, pull_one};
 use ipld_tree::Ipld;
 use std::alloc::Global;
 
@@ -22,7 +22,7 @@ pub(crate) fn read_integer<R: Read>(name: &str, reader: &mut R, first: u8) -> Re
     ensures looked { LooksBehind 3 1 (R.reading reader.old) result (R.reading reader.new) }
     ensures variant { IfErr result OfItem }
 {
-    let (_, argument, _) = pull_head(name, reader)?;
+    let argument = pull_head_argument(name, reader)?;
     Ok(Ipld::Integer(number_of(first / 32, argument)))
 }
 

@@ -11,7 +11,7 @@ ghost use Rattle.dagcbor_items.specs.Variants.{OfByte, OfItem, OfLink};
 
 use arrayvec::ArrayVec;
 use dagcbor_heads::{
-    DecodeError, Read, ReadResult, peek_one, pull_head, pull_one, pull_short_payload,
+    DecodeError, Read, ReadResult, peek_one, pull_head_argument, pull_one, pull_short_payload,
 };
 use ipld_tree::{Cid, Ipld};
 
@@ -56,7 +56,7 @@ fn pull_cid_string<R: Read>(reader: &mut R) -> ReadResult<Cid, R>
     ensures looked { Looks 2 (R.reading reader.old) result (R.reading reader.new) }
     ensures variant { IfErr result OfLink }
 {
-    let (_, count, _) = pull_head("cid", reader)?;
+    let count = pull_head_argument("cid", reader)?;
     if count > LONGEST_CID as u64 {
         return Err(DecodeError::custom("Invalid CID"));
     }

@@ -8,7 +8,7 @@ ghost use Rattle.dagcbor_items.specs.Majors.{HasMajor, ReadsMajor};
 ghost use Rattle.dagcbor_items.specs.LeafCauses.{MajorCause};
 ghost use Rattle.dagcbor_items.specs.Variants.{OfByte, OfHead};
 
-use dagcbor_heads::{DecodeError, Read, ReadResult, peek_one, pull_head};
+use dagcbor_heads::{DecodeError, Read, ReadResult, peek_one, pull_head_argument};
 
 /// The next byte, which is left, where its major type lies from `low` to `high`.
 #[tactic(auto, using(crate::proofs::Variants::end_byte))]
@@ -47,6 +47,6 @@ pub(crate) fn pull_major<R: Read>(
     ensures variant { IfErr result OfHead }
 {
     let first = peek_major(name, reader, low, high)?;
-    let (_, argument, _) = pull_head(name, reader)?;
+    let argument = pull_head_argument(name, reader)?;
     Ok((first / 32, argument))
 }

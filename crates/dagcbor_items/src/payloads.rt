@@ -13,7 +13,7 @@ ghost use Rattle.dagcbor_items.specs.Untyped.{SkipsItem, StartsWithMajor};
 
 use crate::key::{comes_before, read_key};
 use crate::majors::peek_major;
-use crate::strings::{pull_peeked_slice, pull_peeked_str};
+use crate::strings::{no_text, pull_peeked_slice, pull_peeked_str};
 use crate::utf8::as_text;
 use dagcbor_heads::{DecodeError, Input, Len, Name, Read, ReadResult, SliceReader, pull_head};
 use std::alloc::Global;
@@ -124,8 +124,11 @@ fn pull_peeked_lent_text<'de>(
     }
 }
 
+/// The same byte by byte: a refusal names its cause.
 #[tactic(auto, using(crate::proofs::Variants::byte_text))]
-fn pull_lent_text<'de>(
+#[cold]
+#[inline(never)]
+fn pull_lent_text_slowly<'de>(
     name: &str,
     reader: &mut SliceReader<'de>,
 ) -> Result<&'de str, DecodeError<Infallible>>
@@ -135,6 +138,23 @@ fn pull_lent_text<'de>(
 {
     peek_major(name, reader, 3, 3)?;
     pull_peeked_lent_text(name, reader)
+}
+
+fn pull_lent_text<'de>(
+    name: &str,
+    reader: &mut SliceReader<'de>,
+) -> Result<&'de str, DecodeError<Infallible>>
+    ensures text { ReadsTextAs (λ s. s.now) name.now reader.old result reader.new }
+    ensures looked { Looks 3 reader.old result reader.new }
+    ensures variant { IfErr result OfText }
+{
+    if let Some(payload) = reader.take_string(3) {
+        return match as_text(payload) {
+            Some(text) => Ok(text),
+            None => Err(no_text(name)),
+        };
+    }
+    pull_lent_text_slowly(name, reader)
 }
 
 /// Whether the key may stand behind the one before it.

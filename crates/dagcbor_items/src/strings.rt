@@ -4,6 +4,9 @@ ghost use Rattle.std.specs.Prelude.{◌≡◌, ◌<◌, ◌↔◌, true, IfOk, I
 ghost use Rattle.std.specs.Prelude.{string_bytes};
 ghost use Rattle.std.specs.Str.{chars};
 ghost use Rattle.std.specs.Cow.{cow_slice_items, cow_str_bytes, IsBorrowedSlice, IsBorrowedStr};
+ghost use Rattle.dagcbor_heads.specs.Names.{Names};
+ghost use Rattle.dagcbor_heads.specs.declared.name.Name.{Name};
+ghost use Rattle.dagcbor_heads.specs.declared.error.DecodeError.{DecodeError};
 ghost use Rattle.dagcbor_heads.specs.Inputs.{input_reading, OverInput};
 ghost use Rattle.dagcbor_heads.specs.Looking.{Looks};
 ghost use Rattle.dagcbor_items.specs.Majors.{ReadsString};
@@ -110,9 +113,22 @@ pub(crate) fn pull_peeked_str<'de, R: Read>(
     }
 }
 
-/// A text, lent where the input lends. Refusals carry the name.
+/// What refuses a payload that is no text.
+#[cold]
+#[inline(never)]
+pub(crate) fn no_text<E>(name: &str) -> DecodeError<E>
+    ensures { (kept : Name) × (result ≡ DecodeError.RequireUtf8 kept) × Names kept name.now }
+{
+    DecodeError::RequireUtf8 {
+        name: Name::new(name),
+    }
+}
+
+/// The same byte by byte: a refusal names its cause.
 #[tactic(auto, using(crate::proofs::Variants::byte_text))]
-pub fn pull_str<'de, R: Read>(
+#[cold]
+#[inline(never)]
+fn pull_str_slowly<'de, R: Read>(
     alloc: Global,
     name: &str,
     input: &mut Input<'de, R>,
@@ -124,6 +140,27 @@ pub fn pull_str<'de, R: Read>(
 {
     peek_major(name, input, 3, 3)?;
     pull_peeked_str(alloc, name, input)
+}
+
+/// A text, lent where the input lends. Refusals carry the name.
+#[inline(always)]
+pub fn pull_str<'de, R: Read>(
+    alloc: Global,
+    name: &str,
+    input: &mut Input<'de, R>,
+) -> ReadResult<CowStr<'de>, R>
+    ensures text { OverInput R.reading (ReadsStr name.now) input.old result input.new }
+    ensures lent { IfOk result (λ s. IsBorrowedStr s ↔ ((input_reading R.reading input.old).lends ≡ true)) }
+    ensures looked { OverInput R.reading (Looks 3) input.old result input.new }
+    ensures variant { IfErr result OfText }
+{
+    if let Some(payload) = input.take_string(3) {
+        return match as_text(payload) {
+            Some(text) => Ok(CowStr::Borrowed(text)),
+            None => Err(no_text(name)),
+        };
+    }
+    pull_str_slowly(alloc, name, input)
 }
 
 /// A text whose first byte has its major type.
@@ -149,8 +186,10 @@ pub fn pull_owned_text<R: Read>(alloc: Global, input: &mut Input<'_, R>) -> Read
     ensures looked { OverInput R.reading (Looks 3) input.old result input.new }
     ensures variant { IfErr result OfText }
 {
-    peek_major("string", input, 3, 3)?;
-    pull_peeked_owned_text(alloc, input)
+    match pull_str(alloc, "string", input)?.into_owned(alloc) {
+        Ok(text) => Ok(text),
+        Err(_) => Err(DecodeError::OutOfMemory),
+    }
 }
 
 /// A byte string whose first byte has its major type.

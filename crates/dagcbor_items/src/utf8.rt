@@ -1,17 +1,23 @@
-//! Whether bytes are a text: short ones are read byte by byte, longer ones 64 bytes a step.
+//! Whether bytes are a text: short ones are first looked at for ASCII, longer ones are read 64 bytes
+//! a step.
 
 ghost use Rattle.std.specs.Prelude.{◌≡◌, IsUtf8, MatchOption};
 
+use crate::judge::{SHORT, is_plain};
 use simdutf8::basic;
-use std::str::from_utf8;
+use std::str::{from_utf8, from_utf8_unchecked};
 
 /// From how many bytes on a step of 64 pays.
 const LONG: usize = 64;
 
 /// The bytes as a text.
+#[tactic(auto, using(crate::proofs::Judging::plain_text))]
 pub(crate) fn as_text(bytes: &[u8]) -> Option<&str>
     ensures { MatchOption result (¬ IsUtf8 bytes.now) (λ s. (s.now ≡ bytes.now) × IsUtf8 bytes.now) }
 {
+    if bytes.len() < SHORT && is_plain(bytes) {
+        return Some(unsafe { from_utf8_unchecked(bytes) });
+    }
     if bytes.len() < LONG {
         from_utf8(bytes).ok()
     } else {

@@ -14,7 +14,8 @@ use crate::link::pull_link;
 use crate::payloads::PayloadReader;
 use crate::sink::{LinkSink, NoLinks};
 use dagcbor_heads::{
-    DecodeError, Input, Read, ReadResult, is_indefinite, peek_one, pull_head, pull_one, spend_step,
+    DecodeError, Input, Read, ReadResult, is_indefinite, peek_one, pull_head_argument, pull_one,
+    spend_step,
 };
 use ipld_tree::Cid;
 use std::alloc::Global;
@@ -139,7 +140,7 @@ fn skip_integer<R: Read>(name: &str, reader: &mut R, first: u8) -> ReadResult<()
     ensures looked { LooksBehind 3 1 (R.reading reader.old) result (R.reading reader.new) }
     ensures variant { IfErr result OfItem }
 {
-    pull_head(name, reader)?;
+    pull_head_argument(name, reader)?;
     Ok(())
 }
 

@@ -1,6 +1,6 @@
 -- What calls say that answered, or were refused, on a Deserializer that had not failed.
 use Rattle.std.proofs.Common.{◌≡◌, ℕ, List, Global, ◌<◌, ◌-◌, true, false, subst}
-use Rattle.std.specs.Prelude.{Option, None, Some, Ok, Err, ⊤}
+use Rattle.std.specs.Prelude.{Option, None, Some, Ok, Err}
 use Rattle.std.specs.Cow.{cow_str_bytes}
 use Rattle.std.specs.declared.borrow.CowStr.{CowStr}
 use Rattle.dagcbor_heads.specs.Refusals.{Refuses}
@@ -11,7 +11,7 @@ use Rattle.dagcbor_items.specs.Places.{Follows}
 use Rattle.dagcbor_items.specs.ItemCauses.{KeyCause}
 use Rattle.dagcbor_items.specs.Entries.{HasKey}
 use Rattle.dagcbor_read.specs.Calls.{Progress, Call}
-use Rattle.dagcbor_items.specs.Reads.{HasFront, TakesFront, Anything}
+use Rattle.dagcbor_items.specs.Reads.{HasFront, TakesFront, MayLack, Anything}
 use Rattle.dagcbor_read.proofs.Progressing.{call_answered, call_told}
 use Rattle.dagcbor_read.specs.Accessors.{AccessorState, ReadsElement, after_element, ReadsNextKey, after_key}
 use Rattle.dagcbor_items.specs.Shapes.{Shape}
@@ -35,7 +35,7 @@ module _ (E : Type 0) {T V : Type 0} (meaning : T → V) (shape : Shape Tree V) 
       (k.1, k.2.0, k.2.1)
 
   pub element_refused : (left : ℕ) (old new : Progress) (e : DecodeError E) → old.failed ≡ false → Call (ReadsElement {T = T} meaning shape left) old (Err e) new
-      → (0 < left) × Refuses (HasFront shape old.input) ⊤ (shape.borrows ≡ true) Anything old.input e new.input
+      → (0 < left) × Refuses (HasFront shape old.input) (MayLack shape.memory old.input) (shape.wants_loan ≡ true) Anything old.input e new.input
   element_refused left old new e f h = (call_told (ReadsElement meaning shape left) old new (Err e) f h).1
 
   pub after_some : (o : Option T) (v : T) (c d : AccessorState) → o ≡ Some v → d ≡ after_element {E = E} (Ok o) c → d ≡ record c { left = c.left - 1 }

@@ -1,6 +1,6 @@
 -- Entries of a map, read one by one into a state.
 use Rattle.std.proofs.Common.{◌≡◌, ℕ, ◌+◌, ◌-◌, ◌<◌, ◌≤◌, Bool, List, ◌++◌, true, false, refl, sym, ap, ◌∙◌, subst, arith}
-use Rattle.std.specs.Prelude.{Option, None, Some, is_some, option_and_then, Result, Ok, Err, MatchResult, MatchBool, IfOk, ⊤}
+use Rattle.std.specs.Prelude.{Option, None, Some, is_some, option_and_then, Result, Ok, Err, MatchResult, MatchBool, IfOk}
 use Rattle.dagcbor_heads.specs.Head.{head}
 use Rattle.dagcbor_heads.specs.Reading.{Reading, Stays, with_steps}
 use Rattle.dagcbor_heads.specs.Refusals.{Refuses}
@@ -14,20 +14,21 @@ use Rattle.dagcbor_items.specs.Places.{Follows}
 use Rattle.dagcbor_items.specs.ItemCauses.{KeyCause}
 use Rattle.dagcbor_items.specs.Entries.{HasKey}
 use Rattle.dagcbor_read.specs.Calls.{Progress, Call}
-use Rattle.dagcbor_items.specs.Reads.{HasFront, TakesFront, Anything}
+use Rattle.dagcbor_items.specs.Reads.{HasFront, TakesFront, MayLack, Anything}
 use Rattle.dagcbor_read.specs.Values.{ReadsValue}
 use Rattle.dagcbor_items.specs.Entering.{Enters}
 use Rattle.dagcbor_read.specs.Accessors.{AccessorState, accessor_state, BeginsItems}
 use Rattle.dagcbor_read.specs.Enums.{EnumState, BeginsHeld, IsOtherForm, ReadsFieldsHeld}
 use Rattle.dagcbor_read.specs.declared.access.accessor.Accessor.{Accessor}
-use Rattle.dagcbor_read.specs.Collections.{view_entries, view_fields, need_entries, need_fields, HasFields, TakesFields, ReadsEntriesLeft, fields_of, value_of, FieldShape}
+use Rattle.dagcbor_read.specs.Collections.{view_entries, view_fields, need_entries, need_fields, HasFields, TakesFields, ReadsEntriesLeft, fields_of, fields_memory, value_of, FieldShape}
 use Rattle.dagcbor_items.specs.Entries.{AllFollow}
 use Rattle.dagcbor_items.proofs.Rows.{entries_entered, some_first, all_follow, row_key, row_value}
 use Rattle.dagcbor_items.proofs.Maps.{map_closed}
 use Rattle.dagcbor_read.proofs.Progressing.{call_answered}
 use Rattle.dagcbor_read.proofs.Answered.{KeyRead}
 use Rattle.dagcbor_read.proofs.ItemRows.{same_reader, left_again}
-use Rattle.dagcbor_read.proofs.Passing.{refusal_carried}
+use Rattle.dagcbor_read.proofs.Passing.{refusal_carried, or_left, lacks_before, lacks_unlent}
+use Rattle.dagcbor_items.specs.Shapes.{unless_lent}
 
 module _ {S : Type 0} (shape : FieldShape S) where
   -- ---- an entry before others
@@ -117,16 +118,17 @@ module _ {S : Type 0} (shape : FieldShape S) where
 
   pub key_not_read : {E : Type 0} {start s : S} {before now_left : AccessorState} {old now : Progress} (borrows : Type 0) (new : Reading) (e : DecodeError E) → FieldsSoFar start before old now_left s now → 0 < now_left.left
       → Refuses (HasKey now_left.last now.input) (now.input.lends ≡ false) ⊥ (KeyCause now_left.last) now.input e new
-      → Refuses (HasFields shape start before.last before.left old.input) ⊤ borrows Anything old.input e new
+      → Refuses (HasFields shape start before.last before.left old.input) (MayLack (fields_memory shape) old.input) borrows Anything old.input e new
   key_not_read {E} {start} {s} {before} {now_left} {old} {now} borrows new e i some r =
-      refusal_carried (KeyCause now_left.last) Anything old.input now.input new e (same_reader i.same) (λ h. row_key some (i.has h)) (λ _. tt) (λ x. absurd x) (λ b l g. tt) r
+      refusal_carried (KeyCause now_left.last) Anything old.input now.input new e (same_reader i.same) (λ h. row_key some (i.has h)) (λ x. or_left (unless_lent old.input.lends) (shape.memory old.input.lends) (lacks_unlent i.same.lends x)) (λ x. absurd x) (λ b l g. tt) r
 
-  pub value_not_read : {E : Type 0} {start s : S} {before now_left : AccessorState} {old now mid : Progress} (borrows : Type 0) (new : Reading) (e : DecodeError E) (key text' : List ℕ) → text' ≡ key → FieldsSoFar start before old now_left s now
-      → KeyRead now_left.last now_left.left now key mid → Refuses (HasFront (value_of shape s text') mid.input) ⊤ borrows Anything mid.input e new
-      → Refuses (HasFields shape start before.last before.left old.input) ⊤ borrows Anything old.input e new
-  value_not_read {E} {start} {s} {before} {now_left} {old} {now} {mid} borrows new e key text' is i k r =
-      refusal_carried Anything Anything old.input mid.input new e (same_reader (stays_both i.same k.takes.same))
-      (λ h. subst (λ x. HasFront (value_of shape s x) mid.input) (sym is) (fields_value key k.some k.takes (i.has h))) (λ x. x) (λ x. x) (λ b l g. tt) r
+  pub value_not_read : {E : Type 0} {start s : S} {before now_left : AccessorState} {old now mid : Progress} (L borrows : Type 0) (new : Reading) (e : DecodeError E) (key text' : List ℕ) → text' ≡ key → FieldsSoFar start before old now_left s now
+      → KeyRead now_left.last now_left.left now key mid → (L → MayLack (fields_memory shape) mid.input) → Refuses (HasFront (value_of shape s text') mid.input) L borrows Anything mid.input e new
+      → Refuses (HasFields shape start before.last before.left old.input) (MayLack (fields_memory shape) old.input) borrows Anything old.input e new
+  value_not_read {E} {start} {s} {before} {now_left} {old} {now} {mid} L borrows new e key text' is i k may r =
+      let same = same_reader (stays_both i.same k.takes.same) in
+      refusal_carried Anything Anything old.input mid.input new e same
+      (λ h. subst (λ x. HasFront (value_of shape s x) mid.input) (sym is) (fields_value key k.some k.takes (i.has h))) (λ x. lacks_before (fields_memory shape) same.lends (may x)) (λ x. x) (λ b l g. tt) r
 
   pub one_more_field : {start s next : S} {before now_left with_key after : AccessorState} {old now mid new : Progress} (key text' : List ℕ) → text' ≡ key → FieldsSoFar start before old now_left s now → KeyRead now_left.last now_left.left now key mid
       → with_key ≡ record now_left { left = now_left.left - 1; last = Some key; owes_value = true } → after ≡ record with_key { owes_value = false } → new.failed ≡ false
@@ -198,7 +200,7 @@ module _ {S : Type 0} (shape : FieldShape S) where
         let k = call_answered (BeginsItems 5 name 1) old mid a h in
         let none : (accessor_state a).last ≡ None = ap (λ (c : AccessorState). c.last) k.2.0 in
         refusal_carried Anything Anything old.input mid.input new.input e record { faults = k.2.2.takes.same.faults; lends = k.2.2.takes.same.lends }
-        (λ x. subst (λ l. HasFields shape start l a.left mid.input) (sym none) (map_has_fields k.2.2 x)) (λ x. x) (λ x. x) (λ b l g. tt) r
+        (λ x. subst (λ l. HasFields shape start l a.left mid.input) (sym none) (map_has_fields k.2.2 x)) (lacks_before (fields_memory shape) k.2.2.takes.same.lends) (λ x. x) (λ b l g. tt) r
 
     -- the same of a map that a variant holds
     pub held_entries_read : {T E : Type 0} (meaning : T → S) (name : List ℕ) (e : EnumState) (old mid new : Progress) (a : Accessor) (result : Result T (DecodeError E)) → Call (BeginsHeld {E = E} 5 name e) old (Ok a) mid
@@ -208,7 +210,7 @@ module _ {S : Type 0} (shape : FieldShape S) where
         by : (m : Bool) → e.in_map ≡ m → MatchBool m (BeginsItems {E = E} 5 name (e.steps + 1) old.input (Ok a) mid.input) ⊥ → (result : Result T (DecodeError E)) → ReadsEntriesLeft meaning shape start (accessor_state a) mid result new
             → IfOk result (λ v. new.failed ≡ false) × MatchResult result
             (λ v. (e.in_map ≡ true) × ((now : Reading) × TakesFront (fields_of shape start) old.input (meaning v) now × (new.input ≡ with_steps (now.steps + e.steps) now)))
-            (λ x. MatchBool m (Refuses (HasFront (fields_of shape start) old.input) ⊤ (shape.borrows ≡ true) Anything old.input x new.input) (IsOtherForm e x × (new.input ≡ old.input)))
+            (λ x. MatchBool m (Refuses (HasFront (fields_of shape start) old.input) (MayLack (fields_memory shape) old.input) (shape.wants_loan ≡ true) Anything old.input x new.input) (IsOtherForm e x × (new.input ≡ old.input)))
         by false is k result r = absurd k
         by true is k (Ok v) r =
             let steps : a.steps ≡ e.steps + 1 = ap (λ (c : AccessorState). c.steps) k.0 in
@@ -220,5 +222,5 @@ module _ {S : Type 0} (shape : FieldShape S) where
             let none : (accessor_state a).last ≡ None = ap (λ (c : AccessorState). c.last) k.0 in (
               tt,
               refusal_carried Anything Anything old.input mid.input new.input x record { faults = k.2.takes.same.faults; lends = k.2.takes.same.lends }
-                  (λ y. subst (λ l. HasFields shape start l a.left mid.input) (sym none) (map_has_fields k.2 y)) (λ y. y) (λ y. y) (λ b l g. tt) r,
+                  (λ y. subst (λ l. HasFields shape start l a.left mid.input) (sym none) (map_has_fields k.2 y)) (lacks_before (fields_memory shape) k.2.takes.same.lends) (λ y. y) (λ b l g. tt) r,
             )

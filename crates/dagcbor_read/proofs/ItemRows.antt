@@ -1,6 +1,6 @@
 -- Rows of items, read one by one.
-use Rattle.std.proofs.Common.{◌≡◌, ℕ, ◌+◌, ◌-◌, ◌<◌, ◌≤◌, max, List, [], ◌∷◌, ◌++◌, Bool, true, false, ◌||◌, refl, sym, ap, ◌∙◌, subst, arith, append_assoc, append-nil}
-use Rattle.std.specs.Prelude.{Option, None, Some, is_some, option_map, option_and_then, Result, Ok, Err, ⊤}
+use Rattle.std.proofs.Common.{◌≡◌, ℕ, ◌+◌, ◌-◌, ◌<◌, ◌≤◌, max, List, [], ◌∷◌, ◌++◌, true, false, ◌||◌, refl, sym, ap, ◌∙◌, subst, arith, append_assoc, append-nil}
+use Rattle.std.specs.Prelude.{Option, None, Some, is_some, option_map, option_and_then, Result, Ok, Err}
 use Rattle.dagcbor_heads.specs.Head.{head}
 use Rattle.dagcbor_heads.specs.Reading.{Reading, Stays, with_steps}
 use Rattle.dagcbor_heads.specs.Refusals.{Refuses}
@@ -10,7 +10,7 @@ use Rattle.ipld_tree.specs.Tree.{Tree, list, Items, no_items, item}
 use Rattle.ipld_tree.specs.Spelling.{item_count, IsFront, AreFronts}
 use Rattle.ipld_tree.proofs.Fronts.{list_closed, item_closed, items_after}
 use Rattle.dagcbor_read.specs.Calls.{Progress, Call}
-use Rattle.dagcbor_items.specs.Reads.{HasFront, TakesFront, Anything}
+use Rattle.dagcbor_items.specs.Reads.{HasFront, TakesFront, MayLack, Anything}
 use Rattle.dagcbor_read.specs.Values.{ReadsValue}
 use Rattle.dagcbor_items.specs.Entering.{Enters}
 use Rattle.dagcbor_read.specs.Accessors.{AccessorState, accessor_state, BeginsItems}
@@ -19,7 +19,7 @@ use Rattle.dagcbor_items.specs.Items.{HasRow}
 use Rattle.dagcbor_read.specs.Collections.{view_list, need_list, view_none, TakesRow, ReadsRest, list_of, all_of, no_more, first_then}
 use Rattle.dagcbor_items.proofs.Rows.{row_entered, row_first}
 use Rattle.dagcbor_read.proofs.Progressing.{call_answered}
-use Rattle.dagcbor_read.proofs.Passing.{SameReader, refusal_carried}
+use Rattle.dagcbor_read.proofs.Passing.{SameReader, refusal_carried, or_left, or_right, lacks_before}
 use Rattle.dagcbor_items.specs.Shapes.{Shape}
 
 pub same_reader : {old new : Reading} → Stays old new → SameReader old new
@@ -99,26 +99,18 @@ as_row {V} {shape} {old} {new} {count} {count'} v w e i h = subst (λ x. TakesRo
 
 -- ---- a part before other parts
 
-or_left : (a b : Bool) → a ≡ true → (a || b) ≡ true
-or_left true b e = refl
-or_left false b e = absurd (cc e)
-
-or_right : (a b : Bool) → b ≡ true → (a || b) ≡ true
-or_right true b e = refl
-or_right false b e = e
-
 module _ {V W : Type 0} (shape : Shape Tree V) (others : Shape Items W) where
-  pub part_refused : {E : Type 0} {count : ℕ} (old new : Reading) (e : DecodeError E) → 0 < count → Refuses (HasFront shape old) ⊤ (shape.borrows ≡ true) Anything old e new
-      → Refuses (HasRow (first_then shape others) count old) ⊤ ((shape.borrows || others.borrows) ≡ true) Anything old e new
+  pub part_refused : {E : Type 0} {count : ℕ} (old new : Reading) (e : DecodeError E) → 0 < count → Refuses (HasFront shape old) (MayLack shape.memory old) (shape.wants_loan ≡ true) Anything old e new
+      → Refuses (HasRow (first_then shape others) count old) (MayLack (first_then shape others).memory old) ((shape.wants_loan || others.wants_loan) ≡ true) Anything old e new
   part_refused {E} {count} old new e some r = refusal_carried Anything Anything old old new e (same_reader (stays old))
-      (row_first shape others (λ v w. (v, w)) (first_then shape others) (λ t ts. refl) (λ t ts. refl) some) (λ x. x) (or_left shape.borrows others.borrows) (λ b l g. tt) r
+      (row_first shape others (λ v w. (v, w)) (first_then shape others) (λ t ts. refl) (λ t ts. refl) some) (or_left (shape.memory old.lends) (others.memory old.lends)) (or_left shape.wants_loan others.wants_loan) (λ b l g. tt) r
 
   pub parts_refused : {E : Type 0} {before after : AccessorState} {old mid : Reading} {v : V} (new : Reading) (e : DecodeError E) → 0 < before.left → after ≡ record before { left = before.left - 1 } → TakesFront shape old v mid
-      → Refuses (HasRow others after.left mid) ⊤ (others.borrows ≡ true) Anything mid e new
-      → Refuses (HasRow (first_then shape others) before.left old) ⊤ ((shape.borrows || others.borrows) ≡ true) Anything old e new
+      → Refuses (HasRow others after.left mid) (MayLack others.memory mid) (others.wants_loan ≡ true) Anything mid e new
+      → Refuses (HasRow (first_then shape others) before.left old) (MayLack (first_then shape others).memory old) ((shape.wants_loan || others.wants_loan) ≡ true) Anything old e new
   parts_refused {E} {before} {after} {old} {mid} new e some is a r = refusal_carried Anything Anything old mid new e (same_reader a.same)
       (λ h. subst (λ n. HasRow others n mid) (sym (ap (λ (c : AccessorState). c.left) is))
-      (row_others shape others (λ v w. (v, w)) (first_then shape others) (λ t ts. refl) (λ t ts. refl) some a h)) (λ x. x) (or_right shape.borrows others.borrows) (λ b l g. tt) r
+      (row_others shape others (λ v w. (v, w)) (first_then shape others) (λ t ts. refl) (λ t ts. refl) some a h)) (λ x. or_right (shape.memory old.lends) (others.memory old.lends) (lacks_before others.memory a.same.lends x)) (or_right shape.wants_loan others.wants_loan) (λ b l g. tt) r
 
   pub parts_taken : {before now_left after : AccessorState} {old mid : Reading} {new : Progress} {v : V} {w : W} → 0 < before.left → now_left ≡ record before { left = before.left - 1 } → TakesFront shape old v mid
       → (new.failed ≡ false) × (after ≡ record now_left { left = after.left }) × (after.left ≤ now_left.left) × TakesRow others (now_left.left - after.left) mid w new.input × (HasRow others now_left.left mid → after.left ≡ 0)
@@ -189,9 +181,9 @@ module _ {V : Type 0} (shape : Shape Tree V) where
       )
 
   pub item_refused : {E : Type 0} {before now_left : AccessorState} {old now : Progress} {vs : List V} (borrows : Type 0) (new : Reading) (e : DecodeError E) → ReadSoFar before old now_left vs now → 0 < now_left.left
-      → Refuses (HasFront shape now.input) ⊤ borrows Anything now.input e new → Refuses (HasRow (all_of shape) before.left old.input) ⊤ borrows Anything old.input e new
+      → Refuses (HasFront shape now.input) (MayLack shape.memory now.input) borrows Anything now.input e new → Refuses (HasRow (all_of shape) before.left old.input) (MayLack (all_of shape).memory old.input) borrows Anything old.input e new
   item_refused {E} {before} {now_left} {old} {now} borrows new e s some r =
-      refusal_carried Anything Anything old.input now.input new e (same_reader s.same) (λ h. first_of some (s.has h)) (λ x. x) (λ x. x) (λ b l g. tt) r
+      refusal_carried Anything Anything old.input now.input new e (same_reader s.same) (λ h. first_of some (s.has h)) (λ x. refl) (λ x. x) (λ b l g. tt) r
 
 -- ---- the whole list
 
@@ -227,4 +219,4 @@ module _ {V : Type 0} (shape : Shape Items V) where
       (r.0, typed_list_taken k.2.2 r.2 (r.3 ∙ ap (λ n. with_steps (r.1.steps + n) r.1) one))
   rest_reads {T} {E} meaning old mid new name a (Err e) h r f =
       let k = call_answered (BeginsItems 4 name 1) old mid a h in
-      refusal_carried Anything Anything old.input mid.input new.input e record { faults = k.2.2.takes.same.faults; lends = k.2.2.takes.same.lends } (list_has_row k.2.2) (λ x. x) (λ x. x) (λ b l g. tt) r
+      refusal_carried Anything Anything old.input mid.input new.input e record { faults = k.2.2.takes.same.faults; lends = k.2.2.takes.same.lends } (list_has_row k.2.2) (lacks_before shape.memory k.2.2.takes.same.lends) (λ x. x) (λ b l g. tt) r

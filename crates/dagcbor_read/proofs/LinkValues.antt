@@ -1,6 +1,6 @@
 -- Links as values of a type.
 use Rattle.std.proofs.Common.{◌≡◌, ℕ, List, true, false, refl, subst, zero-le}
-use Rattle.std.specs.Prelude.{is_some, is_err, Result, Ok, Err, MatchResult, ⊤}
+use Rattle.std.specs.Prelude.{is_some, is_err, Result, Ok, Err, MatchResult}
 use Rattle.dagcbor_heads.specs.Reading.{Reading}
 use Rattle.dagcbor_heads.specs.Refusals.{Refuses}
 use Rattle.dagcbor_heads.specs.declared.error.DecodeError.{DecodeError}
@@ -30,13 +30,13 @@ link_stands h =
 link_shown : {old new : Reading} (cid : List ℕ) → TakesItem 1 old (link cid) new → TakesFront (leaf view_link) old cid new
 link_shown cid h = record { taken = λ b l. let k = h.taken b l in (link cid, k.0, k.1, refl, zero-le, k.3); same = h.same }
 
-link_read : {E : Type 0} (old new : Reading) (r : Result CidParts (DecodeError E)) → ReadsLink old r new → Reads cid_bytes (leaf view_link) ⊤ (false ≡ true) Anything old r new
+link_read : {E : Type 0} (old new : Reading) (r : Result CidParts (DecodeError E)) → ReadsLink old r new → Reads cid_bytes (leaf view_link) (false ≡ true) (false ≡ true) Anything old r new
 link_read old new (Ok c) h = link_shown (cid_bytes c) h
 link_read old new (Err e) h = passed_on LinkCause Anything old old new e (stays old) link_stands (λ x. absurd x) (λ x. absurd x) (λ b l. (b, l, λ s. tt)) h
 
 -- what a call did on what had not failed
-value_read : {E : Type 0} (old new : Progress) (r : Result CidParts (DecodeError E)) → (new.failed ≡ is_err r) × Reads cid_bytes (leaf view_link) ⊤ (false ≡ true) Anything old.input r new.input
-    → MatchResult r (λ v. (new.failed ≡ false) × TakesFront (leaf view_link) old.input (cid_bytes v) new.input) (λ e. Refuses (HasFront (leaf view_link) old.input) ⊤ (false ≡ true) Anything old.input e new.input)
+value_read : {E : Type 0} (old new : Progress) (r : Result CidParts (DecodeError E)) → (new.failed ≡ is_err r) × Reads cid_bytes (leaf view_link) (false ≡ true) (false ≡ true) Anything old.input r new.input
+    → MatchResult r (λ v. (new.failed ≡ false) × TakesFront (leaf view_link) old.input (cid_bytes v) new.input) (λ e. Refuses (HasFront (leaf view_link) old.input) (false ≡ true) (false ≡ true) Anything old.input e new.input)
 value_read old new (Ok v) h = h
 value_read old new (Err e) h = h.1
 

@@ -1,6 +1,6 @@
 -- Reading an enum: its variant's name, or a map from the name to what the variant holds.
 use Rattle.std.proofs.Common.{◌≡◌, inl, inr, ℕ, ◌+◌, ◌-◌, ◌*◌, ◌/◌, ◌<◌, ◌≤◌, List, [], ◌∷◌, ◌++◌, Bool, true, false, Global, refl, sym, ◌∙◌, ap, subst, arith, append_assoc, zero-le}
-use Rattle.std.specs.Prelude.{◌⊎◌, Option, Some, None, is_some, option_map, Result, Ok, Err, MatchBool, ⊤}
+use Rattle.std.specs.Prelude.{◌⊎◌, Option, Some, None, is_some, option_map, Result, Ok, Err, MatchBool}
 use Rattle.std.specs.Cow.{cow_str_bytes}
 use Rattle.std.specs.declared.borrow.CowStr.{CowStr}
 use Rattle.dagcbor_heads.specs.Head.{head}
@@ -15,18 +15,18 @@ use Rattle.ipld_tree.specs.Tree.{Tree, text, mapping, no_entries, entry}
 use Rattle.ipld_tree.specs.Spelling.{IsFront, entries_spelling}
 use Rattle.ipld_tree.proofs.Fronts.{front_first, front_unique, map_opened, entry_opened, entry_closed}
 use Rattle.dagcbor_items.specs.LeafCauses.{TextCause}
-use Rattle.dagcbor_items.specs.Shapes.{view_text, leaf, Shape}
+use Rattle.dagcbor_items.specs.Shapes.{view_text, leaf, unless_lent, Shape}
 use Rattle.dagcbor_read.specs.EnumViews.{view_enum, need_enum, HasVariant, TakesVariant, ReadsVariant, EnumShape, enum_of, part_of}
-use Rattle.dagcbor_read.specs.Collections.{need_fields, fields_of, struct_of, FieldShape}
+use Rattle.dagcbor_read.specs.Collections.{need_fields, fields_of, fields_memory, struct_of, FieldShape}
 use Rattle.dagcbor_read.specs.Calls.{Progress, Call}
-use Rattle.dagcbor_items.specs.Reads.{HasFront, TakesFront, Anything}
+use Rattle.dagcbor_items.specs.Reads.{HasFront, TakesFront, MayLack, Anything}
 use Rattle.dagcbor_read.specs.Values.{ReadsValue}
 use Rattle.dagcbor_read.specs.Enums.{EnumState, enum_state, TakesForm, HasStepEnum, StepEnumCause, SpendsEnum, ReadsName, IsOtherForm, EndsUnit, ReadsHeld, ReadsFieldsHeld}
 use Rattle.dagcbor_read.specs.declared.access.enum_accessor.EnumAccessor.{EnumAccessor}
 use Rattle.dagcbor_read.proofs.Progressing.{call_answered, call_told}
 use Rattle.dagcbor_read.proofs.FieldPlaces.{takes_as, front_as}
 use Rattle.dagcbor_read.proofs.Finishing.{value_unfinished}
-use Rattle.dagcbor_read.proofs.Passing.{SameReader, refusal_carried}
+use Rattle.dagcbor_read.proofs.Passing.{SameReader, refusal_carried, or_left, or_right, lacks_before, lacks_unlent}
 
 -- ---- texts and the first byte
 
@@ -86,17 +86,17 @@ pub record Named (e : EnumState) (k : List ℕ) (old now : Reading) : Type 0 whe
 same_named : {e : EnumState} {k : List ℕ} {old now : Reading} → Named e k old now → SameReader old now
 same_named {e} n = let a = enum_entered e n.spent in record { faults = n.name.same.faults ∙ a.faults; lends = n.name.same.lends ∙ a.lends }
 
-refusal_passed : {E could could' borrows borrows' : Type 0} {e : EnumState} {k : List ℕ} {old now : Reading} (new : Reading) (r : DecodeError E) → Named e k old now → (could' → could) → (borrows → borrows')
-    → Refuses could ⊤ borrows Anything now r new → Refuses could' ⊤ borrows' Anything old r new
-refusal_passed {E} {could} {could'} {borrows} {borrows'} {e} {k} {old} {now} new r n c w h = refusal_carried Anything Anything old now new r (same_named n) c (λ x. x) w (λ b l g. tt) h
+refusal_passed : {E could could' lacks lacks' borrows borrows' : Type 0} {e : EnumState} {k : List ℕ} {old now : Reading} (new : Reading) (r : DecodeError E) → Named e k old now → (could' → could) → (lacks → lacks') → (borrows → borrows')
+    → Refuses could lacks borrows Anything now r new → Refuses could' lacks' borrows' Anything old r new
+refusal_passed {E} {could} {could'} {lacks} {lacks'} {borrows} {borrows'} {e} {k} {old} {now} new r n c m w h = refusal_carried Anything Anything old now new r (same_named n) c m w (λ b l g. tt) h
 
-other_form_refused : {E could : Type 0} (borrows : Type 0) (old new : Reading) (e : EnumState) (r : DecodeError E) → IsOtherForm e r → new.faults ≡ old.faults → (could → ⊥) → Refuses could ⊤ borrows Anything old r new
-other_form_refused borrows old new e (Mismatch n f) h same never = (same, never, λ b l. tt)
-other_form_refused borrows old new e _ h same never = absurd h
+other_form_refused : {E could : Type 0} (lacks borrows : Type 0) (old new : Reading) (e : EnumState) (r : DecodeError E) → IsOtherForm e r → new.faults ≡ old.faults → (could → ⊥) → Refuses could lacks borrows Anything old r new
+other_form_refused lacks borrows old new e (Mismatch n f) h same never = (same, never, λ b l. tt)
+other_form_refused lacks borrows old new e _ h same never = absurd h
 
 -- a refusal with a message of the type's own
-pub told_refused : {E could : Type 0} (borrows : Type 0) (old : Reading) {message : Name} (r : DecodeError E) (new : Reading) → r ≡ Msg message → new.faults ≡ old.faults → (could → ⊥) → Refuses could ⊤ borrows Anything old r new
-told_refused {E} {could} borrows old {message} r new is same never = subst (λ x. Refuses could ⊤ borrows Anything old x new) (sym is) (same, never, λ b l. tt)
+pub told_refused : {E could : Type 0} (lacks borrows : Type 0) (old : Reading) {message : Name} (r : DecodeError E) (new : Reading) → r ≡ Msg message → new.faults ≡ old.faults → (could → ⊥) → Refuses could lacks borrows Anything old r new
+told_refused {E} {could} lacks borrows old {message} r new is same never = subst (λ x. Refuses could lacks borrows Anything old x new) (sym is) (same, never, λ b l. tt)
 
 module _ {V : Type 0} (shape : EnumShape V) where
   record UnitFront (r : Reading) : Type 0 where
@@ -216,18 +216,18 @@ module _ {V : Type 0} (shape : EnumShape V) where
   -- ---- refusals
 
   pub not_begun : {E : Type 0} (borrows : Type 0) (name : List ℕ) (old new : Progress) (r : DecodeError E) → old.failed ≡ false → Call (SpendsEnum name) old (Err r) new
-      → Refuses (HasFront (enum_of shape) old.input) ⊤ borrows Anything old.input r new.input
+      → Refuses (HasFront (enum_of shape) old.input) (MayLack (enum_of shape).memory old.input) borrows Anything old.input r new.input
   not_begun {E} borrows name old new r f h = refusal_carried (StepEnumCause name) Anything old.input old.input new.input r (record { faults = refl; lends = refl }) can_begin (λ x. absurd x) (λ x. absurd x) (λ b l g. tt)
       (call_told (SpendsEnum name) old new (Err r) f h).1.0
 
   -- no variant's name stood there
   pub not_named : {E : Type 0} (borrows : Type 0) (name : List ℕ) (old mid new : Progress) (a : EnumAccessor) (r : DecodeError E) → Call (SpendsEnum {E = E} name) old (Ok a) mid → Call ReadsName mid (Err r) new
-      → Refuses (HasFront (enum_of shape) old.input) ⊤ borrows Anything old.input r new.input
+      → Refuses (HasFront (enum_of shape) old.input) (MayLack (enum_of shape).memory old.input) borrows Anything old.input r new.input
   unfolding Spent
   not_named {E} borrows name old mid new a r h k =
       let s = call_answered (SpendsEnum name) old mid a h in
       let i = enum_entered (enum_state a) s.2 in
-      refusal_carried (TextCause _) Anything old.input mid.input new.input r (record { faults = i.faults; lends = i.lends }) (name_stands (enum_state a) s.2) (λ x. tt) (λ x. absurd x) (λ b l g. tt)
+      refusal_carried (TextCause _) Anything old.input mid.input new.input r (record { faults = i.faults; lends = i.lends }) (name_stands (enum_state a) s.2) (λ x. or_left (unless_lent old.input.lends) (shape.memory old.input.lends) (lacks_unlent i.lends x)) (λ x. absurd x) (λ b l g. tt)
       (call_told ReadsName mid new (Err r) s.1 k).1
 
   -- ---- answers
@@ -332,7 +332,7 @@ module _ {V : Type 0} (shape : EnumShape V) where
   enum_read {T} {E} meaning name old mid now new a v k (Err x) h g same text_is r sound =
       let n = variant_named E name old mid now a v h g same in
       let m = subst (λ x. Named (enum_state v.1) x old.input now.input) (sym text_is) n.1 in
-      refusal_passed new.input x m (as_variant m) (λ y. y) r
+      refusal_passed new.input x m (as_variant m) (λ y. or_right (unless_lent old.input.lends) (shape.memory old.input.lends) (lacks_before shape.memory (same_named m).lends y)) (λ y. y) r
 
   -- ---- a variant that is its name alone
 
@@ -347,18 +347,18 @@ module _ {V : Type 0} (shape : EnumShape V) where
 
   -- it is not begun as a map
   pub unit_refused : {E : Type 0} (borrows : Type 0) (e : EnumState) (old new : Progress) {k : List ℕ} (name : List ℕ) (r : DecodeError E) → k ≡ name → ((t : Tree) → shape.part name t ≡ None) → old.failed ≡ false → Call (EndsUnit e) old (Err r) new
-      → Refuses (HasVariant shape k e old.input) ⊤ borrows Anything old.input r new.input
+      → Refuses (HasVariant shape k e old.input) (MayLack shape.memory old.input) borrows Anything old.input r new.input
   unit_refused {E} borrows e old new {k} name r is none f h =
       let g = (call_told (EndsUnit e) old new (Err r) f h).1 in
-      other_form_refused borrows old.input new.input e r g.1 (ap (λ (x : Reading). x.faults) g.2)
+      other_form_refused (MayLack shape.memory old.input) borrows old.input new.input e r g.1 (ap (λ (x : Reading). x.faults) g.2)
       (λ i.
       let p = subst (λ b. MatchBool b (HasFront (part_of shape k) old.input) (is_some (shape.unit k) ≡ true)) g.0 i in
       none_some (ap (λ x. shape.part x p.tree) is ∙ none p.tree) p.accepted)
 
   -- no variant has the name
   pub unknown_variant : {E : Type 0} (borrows : Type 0) (e : EnumState) (old : Reading) {k : List ℕ} {message : Name} (r : DecodeError E) → r ≡ Msg message → shape.unit k ≡ None → ((t : Tree) → shape.part k t ≡ None)
-      → Refuses (HasVariant shape k e old) ⊤ borrows Anything old r old
-  unknown_variant borrows e old {k} r is none no_part = told_refused borrows old r old is refl (by e.in_map)
+      → Refuses (HasVariant shape k e old) (MayLack shape.memory old) borrows Anything old r old
+  unknown_variant borrows e old {k} r is none no_part = told_refused (MayLack shape.memory old) borrows old r old is refl (by e.in_map)
     where
       by : (b : Bool) → MatchBool b (HasFront (part_of shape k) old) (is_some (shape.unit k) ≡ true) → ⊥
       by true h = none_some (no_part h.tree) h.accepted
@@ -381,15 +381,15 @@ module _ {V : Type 0} (shape : EnumShape V) where
         )
 
     pub fields_refused : (borrows : Type 0) (e : EnumState) (old new : Progress) {k : List ℕ} (name : List ℕ) (r : DecodeError E) → k ≡ name → shape.unit name ≡ None → ((t : Tree) → shape.part name t ≡ option_map f (own.view t)) → ((t : Tree) → shape.need name t ≡ own.need t)
-        → (own.borrows ≡ true → borrows) → old.failed ≡ false → ReadsFieldsHeld meaning own e old (Err r) new
-        → Refuses (HasVariant shape k e old.input) ⊤ borrows Anything old.input r new.input
-    fields_refused borrows e old new {k} name r is none same much w sound h = by e.in_map (h sound).1
+        → (own.wants_loan ≡ true → borrows) → ((lends : Bool) → own.memory lends ≡ true → shape.memory lends ≡ true) → old.failed ≡ false → ReadsFieldsHeld meaning own e old (Err r) new
+        → Refuses (HasVariant shape k e old.input) (MayLack shape.memory old.input) borrows Anything old.input r new.input
+    fields_refused borrows e old new {k} name r is none same much w may sound h = by e.in_map (h sound).1
       where
-        by : (m : Bool) → MatchBool m (Refuses (HasFront own old.input) ⊤ (own.borrows ≡ true) Anything old.input r new.input) (IsOtherForm e r × (new.input ≡ old.input))
-            → Refuses (MatchBool m (HasFront (part_of shape k) old.input) (is_some (shape.unit k) ≡ true)) ⊤ borrows Anything old.input r new.input
+        by : (m : Bool) → MatchBool m (Refuses (HasFront own old.input) (MayLack own.memory old.input) (own.wants_loan ≡ true) Anything old.input r new.input) (IsOtherForm e r × (new.input ≡ old.input))
+            → Refuses (MatchBool m (HasFront (part_of shape k) old.input) (is_some (shape.unit k) ≡ true)) (MayLack shape.memory old.input) borrows Anything old.input r new.input
         by true g = refusal_carried Anything Anything old.input old.input new.input r (record { faults = refl; lends = refl })
-            (λ i. front_as f own (part_of shape name) same much (subst (λ x. HasFront (part_of shape x) old.input) is i)) (λ x. x) w (λ b l x. tt) g
-        by false g = other_form_refused borrows old.input new.input e r g.0 (ap (λ (x : Reading). x.faults) g.1) (λ i. none_some (ap shape.unit is ∙ none) i)
+            (λ i. front_as f own (part_of shape name) same much (subst (λ x. HasFront (part_of shape x) old.input) is i)) (may old.input.lends) w (λ b l x. tt) g
+        by false g = other_form_refused (MayLack shape.memory old.input) borrows old.input new.input e r g.0 (ap (λ (x : Reading). x.faults) g.1) (λ i. none_some (ap shape.unit is ∙ none) i)
 
     -- by a call of the accessor
     called : (e : EnumState) (old new : Progress) (r : Result T (DecodeError E)) → Call (ReadsHeld meaning own e) old r new → ReadsFieldsHeld meaning own e old r new
@@ -402,9 +402,9 @@ module _ {V : Type 0} (shape : EnumShape V) where
     held_read e old new name w is same much sound h = fields_read e old new name w is same much sound (called e old new (Ok w) h)
 
     pub held_refused : (borrows : Type 0) (e : EnumState) (old new : Progress) {k : List ℕ} (name : List ℕ) (r : DecodeError E) → k ≡ name → shape.unit name ≡ None → ((t : Tree) → shape.part name t ≡ option_map f (own.view t)) → ((t : Tree) → shape.need name t ≡ own.need t)
-        → (own.borrows ≡ true → borrows) → old.failed ≡ false → Call (ReadsHeld meaning own e) old (Err r) new
-        → Refuses (HasVariant shape k e old.input) ⊤ borrows Anything old.input r new.input
-    held_refused borrows e old new name r is none same much w sound h = fields_refused borrows e old new name r is none same much w sound (called e old new (Err r) h)
+        → (own.wants_loan ≡ true → borrows) → ((lends : Bool) → own.memory lends ≡ true → shape.memory lends ≡ true) → old.failed ≡ false → Call (ReadsHeld meaning own e) old (Err r) new
+        → Refuses (HasVariant shape k e old.input) (MayLack shape.memory old.input) borrows Anything old.input r new.input
+    held_refused borrows e old new name r is none same much w may sound h = fields_refused borrows e old new name r is none same much w may sound (called e old new (Err r) h)
 
 -- ---- the fields that a variant holds make a value, as a struct's do
 
@@ -416,18 +416,18 @@ module _ {S W : Type 0} (fields : FieldShape S) (start : S) (finish : S → Opti
       let k = h sound in
       let end = k.1.1.0 in
       let same : new.input.faults ≡ end.faults = ap (λ (x : Reading). x.faults) k.1.1.2 in
-      let u = value_unfinished (fields_of fields start) finish (fields.borrows ≡ true) (message, is) none (λ (u : Unit {0}). (k.0, k.1.1.1)) tt in
-      let moved : Refuses (HasFront (struct_of fields start finish) old.input) ⊤ (fields.borrows ≡ true) Anything old.input r new.input =
-      told_refused (fields.borrows ≡ true) old.input r new.input is (same ∙ k.1.1.1.same.faults)
-      (subst (λ x. Refuses {E = E} (HasFront (struct_of fields start finish) old.input) ⊤ (fields.borrows ≡ true) Anything old.input x end) is u).1 in
-      (tt, subst (λ b. MatchBool b (Refuses (HasFront (struct_of fields start finish) old.input) ⊤ (fields.borrows ≡ true) Anything old.input r new.input) (IsOtherForm e r × (new.input ≡ old.input))) (sym k.1.0) moved)
+      let u = value_unfinished (fields_of fields start) finish (fields.wants_loan ≡ true) (message, is) none (λ (u : Unit {0}). (k.0, k.1.1.1)) tt in
+      let moved : Refuses (HasFront (struct_of fields start finish) old.input) (MayLack (fields_memory fields) old.input) (fields.wants_loan ≡ true) Anything old.input r new.input =
+      told_refused (MayLack (fields_memory fields) old.input) (fields.wants_loan ≡ true) old.input r new.input is (same ∙ k.1.1.1.same.faults)
+      (subst (λ x. Refuses {E = E} (HasFront (struct_of fields start finish) old.input) (MayLack (fields_memory fields) old.input) (fields.wants_loan ≡ true) Anything old.input x end) is u).1 in
+      (tt, subst (λ b. MatchBool b (Refuses (HasFront (struct_of fields start finish) old.input) (MayLack (fields_memory fields) old.input) (fields.wants_loan ≡ true) Anything old.input r new.input) (IsOtherForm e r × (new.input ≡ old.input))) (sym k.1.0) moved)
 
 -- a field that must be there was not among those that the variant holds
 pub field_missing : {V W S T : Type 0} (shape : EnumShape V) (f : W → V) (fields : FieldShape S) (start : S) (finish : S → Option W) (E : Type 0) (meaning : T → S) (borrows : Type 0)
     (e : EnumState) (old new : Progress) {k : List ℕ} (name : List ℕ) (s : T) (r : DecodeError E) (message : Name)
     → k ≡ name → shape.unit name ≡ None → ((t : Tree) → shape.part name t ≡ option_map f ((struct_of fields start finish).view t)) → ((t : Tree) → shape.need name t ≡ need_fields fields.need t)
-    → (fields.borrows ≡ true → borrows) → old.failed ≡ false
+    → (fields.wants_loan ≡ true → borrows) → ((lends : Bool) → fields_memory fields lends ≡ true → shape.memory lends ≡ true) → old.failed ≡ false
     → r ≡ Msg message → finish (meaning s) ≡ None → ReadsFieldsHeld {E = E} meaning (fields_of fields start) e old (Ok s) new
-    → Refuses (HasVariant shape k e old.input) ⊤ borrows Anything old.input r new.input
-field_missing {V} {W} shape f fields start finish E meaning borrows e old new name s r message is none same much w sound told missing h =
-    fields_refused shape f (struct_of fields start finish) {T = W} E (λ w. w) borrows e old new name r is none same much w sound (held_unfinished fields start finish E meaning e old new s r message told missing h)
+    → Refuses (HasVariant shape k e old.input) (MayLack shape.memory old.input) borrows Anything old.input r new.input
+field_missing {V} {W} shape f fields start finish E meaning borrows e old new name s r message is none same much w may sound told missing h =
+    fields_refused shape f (struct_of fields start finish) {T = W} E (λ w. w) borrows e old new name r is none same much w may sound (held_unfinished fields start finish E meaning e old new s r message told missing h)

@@ -1,6 +1,6 @@
 -- Values that may be null.
 use Rattle.std.proofs.Common.{◌≡◌, inl, inr, ℕ, ◌+◌, ◌<◌, List, [], ◌∷◌, ◌++◌, true, refl, sym, ap, ◌∙◌, arith, zero-le}
-use Rattle.std.specs.Prelude.{◌⊎◌, Some, None, Option, option_map, is_some, ⊤}
+use Rattle.std.specs.Prelude.{◌⊎◌, Some, None, Option, option_map, is_some}
 use Rattle.dagcbor_heads.specs.Reading.{Reading, with_steps}
 use Rattle.dagcbor_heads.specs.Fronts.{ShowsByte, Takes}
 use Rattle.dagcbor_heads.specs.Refusals.{Refuses}
@@ -10,7 +10,8 @@ use Rattle.dagcbor_heads.proofs.Taking.{stays}
 use Rattle.dagcbor_heads.proofs.Refusing.{passed_on}
 use Rattle.ipld_tree.specs.Tree.{Tree, null}
 use Rattle.ipld_tree.specs.Spelling.{spelling, IsFront}
-use Rattle.dagcbor_items.specs.Reads.{HasFront, TakesFront, Anything}
+use Rattle.dagcbor_items.specs.Reads.{HasFront, TakesFront, MayLack, Anything}
+use Rattle.dagcbor_read.proofs.Passing.{lacks_before}
 use Rattle.dagcbor_items.specs.Shapes.{view_option, need_option, Shape, option_of}
 use Rattle.dagcbor_read.specs.Parts.{CanEnter, EntersSome, OptionCause}
 use Rattle.dagcbor_items.proofs.Fronts.{front_byte}
@@ -56,7 +57,7 @@ wants_step h other i =
     ]
 
 pub not_entered : {V E : Type 0} (shape : Shape Tree V) (borrows : Type 0) (old new : Reading) (e : DecodeError E) → Refuses (CanEnter old) ⊥ ⊥ OptionCause old e new
-    → Refuses (HasFront (option_of shape) old) ⊤ borrows Anything old e new
+    → Refuses (HasFront (option_of shape) old) (MayLack shape.memory old) borrows Anything old e new
 not_entered shape borrows old new e r = passed_on OptionCause Anything old old new e (stays old) (can_enter shape old) (λ x. absurd x) (λ x. absurd x) (λ b l. (b, l, λ h. tt)) r
 
 pub null_entered : {V : Type 0} (shape : Shape Tree V) {old new : Reading} → Takes old (0xf6 ∷ []) new → TakesFront (option_of shape) old None new
@@ -106,15 +107,15 @@ part_stands shape {old} {mid} h i =
     some_of (Some a) e = refl
     some_of None e = e
 
-part_refused : {E could could' : Type 0} (borrows : Type 0) (old mid new : Reading) (e : DecodeError E) → mid.faults ≡ old.faults → mid.lends ≡ old.lends → (could' → could)
-    → Refuses could ⊤ borrows Anything mid e new → Refuses could' ⊤ borrows Anything old e new
-part_refused borrows old mid new (Read e) f l c r = omega (arith, f, r)
-part_refused borrows old mid new OutOfMemory f l c r = (r.0 ∙ f, tt)
-part_refused borrows old mid new (RequireBorrowed n) f l c r = (r.0 ∙ f, r.1, sym l ∙ r.2)
-part_refused borrows old mid new Failed f l c r = r
-part_refused borrows old mid new (DepthOverflow n) f l c r = (r.0 ∙ f, λ x. r.1 (c x), λ b s. tt, r.3)
-part_refused borrows old mid new _ f l c r = (r.0 ∙ f, λ x. r.1 (c x), λ b s. tt)
+part_refused : {E could could' lacks lacks' : Type 0} (borrows : Type 0) (old mid new : Reading) (e : DecodeError E) → mid.faults ≡ old.faults → mid.lends ≡ old.lends → (could' → could) → (lacks → lacks')
+    → Refuses could lacks borrows Anything mid e new → Refuses could' lacks' borrows Anything old e new
+part_refused borrows old mid new (Read e) f l c k r = omega (arith, f, r)
+part_refused borrows old mid new OutOfMemory f l c k r = (r.0 ∙ f, k r.1)
+part_refused borrows old mid new (RequireBorrowed n) f l c k r = (r.0 ∙ f, r.1, sym l ∙ r.2)
+part_refused borrows old mid new Failed f l c k r = r
+part_refused borrows old mid new (DepthOverflow n) f l c k r = (r.0 ∙ f, λ x. r.1 (c x), λ b s. tt, r.3)
+part_refused borrows old mid new _ f l c k r = (r.0 ∙ f, λ x. r.1 (c x), λ b s. tt)
 
-pub some_refused : {V E : Type 0} (shape : Shape Tree V) (borrows : Type 0) {old mid : Reading} (new : Reading) (e : DecodeError E) → EntersSome old mid → Refuses (HasFront shape mid) ⊤ borrows Anything mid e new
-    → Refuses (HasFront (option_of shape) old) ⊤ borrows Anything old e new
-some_refused shape borrows {old} {mid} new e h r = part_refused borrows old mid new e h.faults h.lends (part_stands shape h) r
+pub some_refused : {V E : Type 0} (shape : Shape Tree V) (borrows : Type 0) {old mid : Reading} (new : Reading) (e : DecodeError E) → EntersSome old mid → Refuses (HasFront shape mid) (MayLack shape.memory mid) borrows Anything mid e new
+    → Refuses (HasFront (option_of shape) old) (MayLack shape.memory old) borrows Anything old e new
+some_refused shape borrows {old} {mid} new e h r = part_refused borrows old mid new e h.faults h.lends (part_stands shape h) (lacks_before shape.memory h.lends) r

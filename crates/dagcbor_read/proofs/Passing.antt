@@ -1,9 +1,10 @@
 -- A refusal of a part is a refusal of the whole, though steps were spent.
-use Rattle.std.proofs.Common.{◌≡◌, ℕ, List, sym, ◌∙◌, arith}
+use Rattle.std.proofs.Common.{◌≡◌, ℕ, List, Bool, true, false, ◌||◌, refl, sym, ap, ◌∙◌, arith}
 use Rattle.std.specs.Prelude.{Some}
 use Rattle.dagcbor_heads.specs.Reading.{Reading}
 use Rattle.dagcbor_heads.specs.Refusals.{Refuses}
 use Rattle.dagcbor_heads.specs.declared.error.DecodeError.{DecodeError}
+use Rattle.dagcbor_items.specs.Shapes.{unless_lent}
 use Rattle.dagcbor_heads.specs.declared.error.DecodeError.TheVariants.{Read, RequireBorrowed, OutOfMemory, Failed, DepthOverflow}
 
 -- what a reader keeps between calls of a part, whatever its steps are
@@ -21,3 +22,21 @@ refusal_carried stands stands' old mid new (RequireBorrowed n) h c k w s r = (r.
 refusal_carried stands stands' old mid new Failed h c k w s r = r
 refusal_carried stands stands' old mid new (DepthOverflow n) h c k w s r = (r.0 ∙ h.faults, λ x. r.1 (c x), λ b l. s b l r.2, r.3)
 refusal_carried stands stands' old mid new _ h c k w s r = (r.0 ∙ h.faults, λ x. r.1 (c x), λ b l. s b l r.2)
+
+-- ---- memory
+
+pub or_left : (a b : Bool) → a ≡ true → (a || b) ≡ true
+or_left true b e = refl
+or_left false b e = absurd (cc e)
+
+pub or_right : (a b : Bool) → b ≡ true → (a || b) ≡ true
+or_right true b e = refl
+or_right false b e = e
+
+-- what takes memory of a reader takes it of what that was before, which lends the same
+pub lacks_before : (memory : Bool → Bool) {old mid : Bool} → mid ≡ old → memory mid ≡ true → memory old ≡ true
+lacks_before memory same h = ap memory (sym same) ∙ h
+
+-- what is not lent takes memory
+pub lacks_unlent : {old mid : Bool} → mid ≡ old → mid ≡ false → unless_lent old ≡ true
+lacks_unlent same h = ap unless_lent (sym same ∙ h)

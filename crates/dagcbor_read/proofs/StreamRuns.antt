@@ -8,7 +8,7 @@ use Rattle.dagcbor_heads.specs.declared.error.DecodeError.{DecodeError}
 use Rattle.dagcbor_heads.specs.declared.error.DecodeError.TheVariants.{Read, RequireBorrowed, OutOfMemory, Failed, DepthOverflow}
 use Rattle.ipld_tree.specs.Tree.{Tree}
 use Rattle.dagcbor_read.specs.Calls.{Progress, Call}
-use Rattle.dagcbor_items.specs.Reads.{HasFront}
+use Rattle.dagcbor_items.specs.Reads.{HasFront, MayLack}
 use Rattle.dagcbor_read.specs.Streams.{Streaming, SomeLeft, AreSome, ReadsNext, as_answer, is_last, IsNextValue, AreNextValues, values_before, AreStreamItems, GivesUp, NoneGivesUp, EndsAtError, stream_item, AreUpTo, IsOver, Gives, MayBorrow, StreamsAreExact}
 use Rattle.dagcbor_read.proofs.Progressing.{match_true, match_false, call_answered, call_told}
 use Rattle.dagcbor_items.proofs.Fronts.{shorter}
@@ -91,8 +91,8 @@ module _ {S T V : Type 0} (E : Type 0) (see : S → Streaming) (meaning : T → 
   ends s t (Err e ∷ xs) h = let k = goes_on (Result T (DecodeError E)) _ _ (see s).done (Err e) h.1 in nothing_more h.0 t xs k.1.0 h.2
 
   -- why there was no value
-  no_value : (b : List ℕ) (old new : Reading) (e : DecodeError E) → old.left ≡ Some b → Refuses (HasFront shape old) (SomeLeft old) ((shape.borrows ≡ true) × SomeLeft old) AreSome old e new
-      → GivesUp (MayBorrow shape.borrows old.lends) e ⊎ NoValue shape old.steps b
+  no_value : (b : List ℕ) (old new : Reading) (e : DecodeError E) → old.left ≡ Some b → Refuses (HasFront shape old) (MayLack shape.memory old × SomeLeft old) ((shape.wants_loan ≡ true) × SomeLeft old) AreSome old e new
+      → GivesUp (MayBorrow shape.wants_loan old.lends) e ⊎ NoValue shape old.steps b
   no_value b old new (Read x) l r = inl tt
   no_value b old new OutOfMemory l r = inl tt
   no_value b old new (RequireBorrowed n) l r = inl (r.1.0, r.2)
@@ -101,7 +101,7 @@ module _ {S T V : Type 0} (E : Type 0) (see : S → Streaming) (meaning : T → 
   no_value b old new _ l r = inr (r.2 b l, λ v rest h. r.1 record { bytes = b; tree = h.0; rest = rest; left = l; front = h.1; accepted = ap is_some h.2; within = h.3 })
 
   came : (b : List ℕ) (steps : ℕ) (lends whole : Bool) (s t : S) (xs : List (Result T (DecodeError E))) → Over b steps lends (see s) → Yields Step s xs t → (whole ≡ true → (u : S) × Step t None u)
-      → Came E meaning shape (MayBorrow shape.borrows lends) steps whole b xs
+      → Came E meaning shape (MayBorrow shape.wants_loan lends) steps whole b xs
   came b steps lends whole s t [] o h n = λ w.
       let last = n w in
       let k = told s last.0 None o.is_over.goes_on (subst (λ x. Step x None last.0) (sym h) last.1) in
@@ -121,7 +121,7 @@ module _ {S T V : Type 0} (E : Type 0) (see : S → Streaming) (meaning : T → 
       let k = told s h.0 (Some (Err e)) o.is_over.goes_on h.1 in
       let r = call_told (ReadsNext {E = E} meaning shape) (see s).source (see h.0).source (Err e) o.is_over.sound k.1 in
       let why = no_value b (see s).source.input (see h.0).source.input e o.is_over.left r.1 in
-      (nothing_more h.0 t xs k.0 h.2, subst (λ x. GivesUp (MayBorrow shape.borrows x) e ⊎ NoValue shape steps b) o.lending (subst (λ x. GivesUp (MayBorrow shape.borrows (see s).source.input.lends) e ⊎ NoValue shape x b) o.steps_left why))
+      (nothing_more h.0 t xs k.0 h.2, subst (λ x. GivesUp (MayBorrow shape.wants_loan x) e ⊎ NoValue shape steps b) o.lending (subst (λ x. GivesUp (MayBorrow shape.wants_loan (see s).source.input.lends) e ⊎ NoValue shape x b) o.steps_left why))
 
   -- what had failed gives `Failed`
   failed_item : (failed : Bool) (x : Result T (DecodeError E)) (P Q : Type 0) → failed ≡ true → MatchBool failed ((as_answer (Some x) ≡ Err Failed) × P) Q → x ≡ Err Failed
@@ -144,12 +144,12 @@ module _ {S T V : Type 0} (E : Type 0) (see : S → Streaming) (meaning : T → 
       ap (λ y. y ∷ xs) first ∙ ap (λ y. Err Failed ∷ y) none
 
   from : (s : S) (whole : Bool) (xs : List (Result T (DecodeError E))) → DrainsIf Step (whole ≡ true) s xs → (b : List ℕ) → IsOver b (see s)
-      → Came E meaning shape (MayBorrow shape.borrows (see s).source.input.lends) (see s).source.input.steps whole b xs
+      → Came E meaning shape (MayBorrow shape.wants_loan (see s).source.input.lends) (see s).source.input.steps whole b xs
   from s whole xs h b o = came b (see s).source.input.steps (see s).source.input.lends whole s h.0 xs record { is_over = o; steps_left = refl; lending = refl } h.1 h.2
 
   pub exact : StreamsAreExact E see meaning shape
   exact s whole xs h =
-      let may = MayBorrow shape.borrows (see s).source.input.lends in
+      let may = MayBorrow shape.wants_loan (see s).source.input.lends in
       let steps = (see s).source.input.steps in
       record {
         one_error = ends s h.0 xs h.1;

@@ -1,6 +1,6 @@
 -- Reading a whole input as a value.
 use Rattle.std.proofs.Common.{◌≡◌, ℕ, ◌<◌, ◌≤◌, ◌++◌, Option, Bool, true, false, List, [], length, inl, inr, refl, sym, ap, subst, ◌∙◌, arith, append-nil}
-use Rattle.std.specs.Prelude.{◌⊎◌, None, Some, IfSome, IfOk, IfErr, IsErrAnd, Result, Ok, Err, MatchResult, is_some, ⊤}
+use Rattle.std.specs.Prelude.{◌⊎◌, None, Some, IfSome, IfOk, IfErr, IsErrAnd, Result, Ok, Err, MatchResult, is_some}
 use Rattle.dagcbor_heads.specs.Reading.{Reading, Stays}
 use Rattle.dagcbor_heads.specs.Fronts.{ShowsByte}
 use Rattle.dagcbor_heads.specs.Refusals.{Refuses}
@@ -12,9 +12,9 @@ use Rattle.ipld_tree.proofs.Fronts.{front_unique}
 use Rattle.dagcbor_read.specs.Calls.{Progress, Ends, TellsEnd}
 use Rattle.dagcbor_items.proofs.SliceReads.{whole_front}
 use Rattle.dagcbor_read.proofs.Progressing.{match_false}
-use Rattle.dagcbor_items.specs.Reads.{HasFront, TakesFront, Anything}
+use Rattle.dagcbor_items.specs.Reads.{HasFront, TakesFront, MayLack, Anything}
 use Rattle.dagcbor_read.specs.Values.{ReadsValue}
-use Rattle.dagcbor_read.specs.Whole.{IsWhole, HoldsNoValue, IsFirst, TakesFirst, BeginsWithNoValue, IsReadExcuse, OfWhole}
+use Rattle.dagcbor_read.specs.Whole.{IsWhole, HoldsNoValue, IsFirst, TakesFirst, BeginsWithNoValue, IsReadExcuse, OfWhole, IsForBehind, LacksMemoryIf}
 use Rattle.dagcbor_items.specs.Shapes.{Shape}
 
 -- what holds of a refusal that `?` hands on
@@ -26,13 +26,10 @@ pub not_answered : {T E : Type 0} (P : T → Type 0) (r : Result T (DecodeError 
 not_answered P (Ok v) e h = absurd h
 not_answered P (Err y) e h = tt
 
-first_fact : {T E : Type 0} (P Q : DecodeError E → Type 0) (r : Result T (DecodeError E)) → IfErr r (λ e. P e × Q e) → IfErr r P
-first_fact P Q (Ok v) h = tt
-first_fact P Q (Err e) h = h.0
-
-second_fact : {T E : Type 0} (P Q : DecodeError E → Type 0) (r : Result T (DecodeError E)) → IfErr r (λ e. P e × Q e) → IfErr r Q
-second_fact P Q (Ok v) h = tt
-second_fact P Q (Err e) h = h.1
+-- what follows of a refusal
+follows : {T E : Type 0} (P Q : DecodeError E → Type 0) → ((e : DecodeError E) → P e → Q e) → (r : Result T (DecodeError E)) → IfErr r P → IfErr r Q
+follows P Q f (Ok v) h = tt
+follows P Q f (Err e) h = f e h
 
 -- what holds of the bytes, where they are known
 if_known : (left : Option (List ℕ)) (P : List ℕ → Type 0) → ((b : List ℕ) → left ≡ Some b → P b) → IfSome left P
@@ -69,25 +66,25 @@ module _ {V : Type 0} (shape : Shape Tree V) (steps : ℕ) where
 
   -- why the first value is not read
   abbrev NotFirst : {E : Type 0} → Option (List ℕ) → DecodeError E → Type 0
-  NotFirst left e = (IsReadExcuse e ⊎ IfSome left (BeginsWithNoValue shape steps)) × OfWhole e
+  NotFirst left e = (IsReadExcuse e ⊎ IfSome left (BeginsWithNoValue shape steps)) × OfWhole e × LacksMemoryIf (shape.memory false) e
 
-  first_refused : {E : Type 0} (left : Option (List ℕ)) (old new : Reading) (e : DecodeError E) → old.left ≡ left → old.steps ≡ steps → shape.borrows ≡ false
-      → Refuses (HasFront shape old) ⊤ (shape.borrows ≡ true) Anything old e new → NotFirst left e
-  first_refused left old new (Read x) at s o r = (inl tt, tt)
-  first_refused left old new OutOfMemory at s o r = (inl tt, tt)
-  first_refused left old new (RequireBorrowed name) at s o r = let differ = sym o ∙ r.1 in cc
-  first_refused left old new Failed at s o r = absurd r
-  first_refused left old new (DepthOverflow name) at s o r = (inr (if_known left _ (λ b l v rest h. r.1 (first_front old b v rest (at ∙ l) s h))), tt)
-  first_refused left old new _ at s o r = (inr (if_known left _ (λ b l v rest h. r.1 (first_front old b v rest (at ∙ l) s h))), tt)
+  first_refused : {E : Type 0} (left : Option (List ℕ)) (old new : Reading) (e : DecodeError E) → old.left ≡ left → old.steps ≡ steps → shape.wants_loan ≡ false → old.lends ≡ false
+      → Refuses (HasFront shape old) (MayLack shape.memory old) (shape.wants_loan ≡ true) Anything old e new → NotFirst left e
+  first_refused left old new (Read x) at s o n r = (inl tt, tt, tt)
+  first_refused left old new OutOfMemory at s o n r = (inl tt, tt, ap shape.memory (sym n) ∙ r.1)
+  first_refused left old new (RequireBorrowed name) at s o n r = let differ = sym o ∙ r.1 in cc
+  first_refused left old new Failed at s o n r = absurd r
+  first_refused left old new (DepthOverflow name) at s o n r = (inr (if_known left _ (λ b l v rest h. r.1 (first_front old b v rest (at ∙ l) s h))), tt, tt)
+  first_refused left old new _ at s o n r = (inr (if_known left _ (λ b l v rest h. r.1 (first_front old b v rest (at ∙ l) s h))), tt, tt)
 
   -- A value that borrows nothing was read; after an answer what the reader has left is what the source has.
   module _ {T E : Type 0} (meaning : T → V) (left after : Option (List ℕ)) (start mid : Progress) (r : Result T (DecodeError E))
-      (sound : start.failed ≡ false) (at : start.input.left ≡ left) (s : start.input.steps ≡ steps) (o : shape.borrows ≡ false) (h : ReadsValue meaning shape start r mid)
+      (sound : start.failed ≡ false) (at : start.input.left ≡ left) (s : start.input.steps ≡ steps) (o : shape.wants_loan ≡ false) (n : start.input.lends ≡ false) (h : ReadsValue meaning shape start r mid)
     where
       first_read : (Stays start.input mid.input → (b : List ℕ) → mid.input.left ≡ Some b → after ≡ Some b) → IfOk r (λ v. IfSome left (λ b. TakesFirst shape steps b (meaning v) after))
       first_read f = by r (h sound)
         where
-          by : (r : Result T (DecodeError E)) → MatchResult r (λ v. (mid.failed ≡ false) × TakesFront shape start.input (meaning v) mid.input) (λ e. Refuses (HasFront shape start.input) ⊤ (shape.borrows ≡ true) Anything start.input e mid.input)
+          by : (r : Result T (DecodeError E)) → MatchResult r (λ v. (mid.failed ≡ false) × TakesFront shape start.input (meaning v) mid.input) (λ e. Refuses (HasFront shape start.input) (MayLack shape.memory start.input) (shape.wants_loan ≡ true) Anything start.input e mid.input)
               → IfOk r (λ v. IfSome left (λ b. TakesFirst shape steps b (meaning v) after))
           by (Ok v) k = if_known left _ (λ b l.
               let taken = k.1.taken b (at ∙ l) in
@@ -97,37 +94,46 @@ module _ {V : Type 0} (shape : Shape Tree V) (steps : ℕ) where
       first_not_read : IfErr r (NotFirst left)
       first_not_read = by r (h sound)
         where
-          by : (r : Result T (DecodeError E)) → MatchResult r (λ v. (mid.failed ≡ false) × TakesFront shape start.input (meaning v) mid.input) (λ e. Refuses (HasFront shape start.input) ⊤ (shape.borrows ≡ true) Anything start.input e mid.input)
+          by : (r : Result T (DecodeError E)) → MatchResult r (λ v. (mid.failed ≡ false) × TakesFront shape start.input (meaning v) mid.input) (λ e. Refuses (HasFront shape start.input) (MayLack shape.memory start.input) (shape.wants_loan ≡ true) Anything start.input e mid.input)
               → IfErr r (NotFirst left)
           by (Ok v) k = tt
-          by (Err e) k = first_refused left start.input mid.input e at s o k
+          by (Err e) k = first_refused left start.input mid.input e at s o n k
 
       -- all that is said of the first value alone
       pub first_told : (Stays start.input mid.input → (b : List ℕ) → mid.input.left ≡ Some b → after ≡ Some b)
-          → IfOk r (λ v. IfSome left (λ b. TakesFirst shape steps b (meaning v) after)) × IfErr r (λ e. IsReadExcuse e ⊎ IfSome left (BeginsWithNoValue shape steps)) × IfErr r OfWhole
-      first_told f = (first_read f, first_fact _ _ r first_not_read, second_fact _ _ r first_not_read)
+          → IfOk r (λ v. IfSome left (λ b. TakesFirst shape steps b (meaning v) after)) × IfErr r (λ e. IsReadExcuse e ⊎ IfSome left (BeginsWithNoValue shape steps)) × IfErr r OfWhole × IfErr r (LacksMemoryIf (shape.memory false))
+      first_told f = (
+        first_read f,
+        follows (NotFirst left) (λ e. IsReadExcuse e ⊎ IfSome left (BeginsWithNoValue shape steps)) (λ e h. h.0) r first_not_read,
+        follows (NotFirst left) OfWhole (λ e h. h.1) r first_not_read,
+        follows (NotFirst left) (LacksMemoryIf (shape.memory false)) (λ e h. h.2) r first_not_read,
+      )
 
   -- why a whole input is not read
-  abbrev NotWhole : {E : Type 0} → Option (List ℕ) → DecodeError E → Type 0
-  NotWhole left e = (IsReadExcuse e ⊎ IfSome left (HoldsNoValue shape steps)) × OfWhole e
+  abbrev NotWhole : {E : Type 0} → Option (List ℕ) → Bool → DecodeError E → Type 0
+  NotWhole left lends e = (IsReadExcuse e ⊎ IfSome left (HoldsNoValue shape steps)) × OfWhole e × IfSome left (λ b. IsForBehind shape steps b e) × LacksMemoryIf (shape.memory lends) e
 
-  module _ {E : Type 0} (left : Option (List ℕ)) where
-    value_told : {old mid : Reading} (new : Reading) (v : V) (e : DecodeError E) (failed : Bool) → old.left ≡ left → TakesFront shape old v mid → TellsEnd mid (Err e) new failed → NotWhole left e
-    value_told new v TrailingData failed at a h = (inr (if_known left _ (λ b l. value_trailing b v h.1 (at ∙ l) a h.2)), tt)
-    value_told new v (Read x) failed at a h = (inl tt, tt)
+  module _ {E : Type 0} (left : Option (List ℕ)) (lends : Bool) where
+    value_told : {old mid : Reading} (new : Reading) (v : V) (e : DecodeError E) (failed : Bool) → old.left ≡ left → TakesFront shape old v mid → TellsEnd mid (Err e) new failed → NotWhole left lends e
+    value_told new v TrailingData failed at a h = (inr (if_known left _ (λ b l. value_trailing b v h.1 (at ∙ l) a h.2)), tt, if_known left _ (λ b l w rest f. inr refl), tt)
+    value_told new v (Read x) failed at a h = (inl tt, tt, if_known left _ (λ b l w rest f. inl tt), tt)
     value_told new v _ failed at a h = absurd h
 
     -- a value was read, and then no end was found
     pub value_end_refused : (start : Reading) (mid end : Progress) (v : V) (e : DecodeError E) → start.left ≡ left
-        → (mid.failed ≡ false) × TakesFront shape start v mid.input → Ends mid (Err e) end → NotWhole left e
+        → (mid.failed ≡ false) × TakesFront shape start v mid.input → Ends mid (Err e) end → NotWhole left lends e
     value_end_refused start mid end v e at h k = value_told end.input v e end.failed at h.1 (match_false mid.failed _ _ h.0 k)
 
+    -- where no front stands
+    no_front : (old : Reading) (e : DecodeError E) → old.left ≡ left → old.steps ≡ steps → (HasFront shape old → ⊥) → IfSome left (HoldsNoValue shape steps) × IfSome left (λ b. IsForBehind shape steps b e)
+    no_front old e at s n = (if_known left _ (λ b l v h. n (whole_of_front old b v (at ∙ l) s h)), if_known left _ (λ b l v rest h. absurd (n (first_front old b v rest (at ∙ l) s h))))
+
     -- no value was read; a loan was not wanting
-    pub value_refused : (borrows : Type 0) (e : DecodeError E) (old new : Reading) → old.left ≡ left → old.steps ≡ steps → (borrows → old.lends ≡ false → ⊥)
-        → Refuses (HasFront shape old) ⊤ borrows Anything old e new → NotWhole left e
-    value_refused borrows (Read x) old new at s n r = (inl tt, tt)
-    value_refused borrows OutOfMemory old new at s n r = (inl tt, tt)
-    value_refused borrows (RequireBorrowed name) old new at s n r = absurd (n r.1 r.2)
-    value_refused borrows Failed old new at s n r = absurd r
-    value_refused borrows (DepthOverflow name) old new at s n r = (inr (if_known left _ (λ b l v h. r.1 (whole_of_front old b v (at ∙ l) s h))), tt)
-    value_refused borrows _ old new at s n r = (inr (if_known left _ (λ b l v h. r.1 (whole_of_front old b v (at ∙ l) s h))), tt)
+    pub value_refused : (borrows : Type 0) (e : DecodeError E) (old new : Reading) → old.left ≡ left → old.steps ≡ steps → old.lends ≡ lends → (borrows → old.lends ≡ false → ⊥)
+        → Refuses (HasFront shape old) (MayLack shape.memory old) borrows Anything old e new → NotWhole left lends e
+    value_refused borrows (Read x) old new at s o n r = (inl tt, tt, if_known left _ (λ b l v rest h. inl tt), tt)
+    value_refused borrows OutOfMemory old new at s o n r = (inl tt, tt, if_known left _ (λ b l v rest h. inl tt), ap shape.memory (sym o) ∙ r.1)
+    value_refused borrows (RequireBorrowed name) old new at s o n r = absurd (n r.1 r.2)
+    value_refused borrows Failed old new at s o n r = absurd r
+    value_refused borrows (DepthOverflow name) old new at s o n r = let none = no_front old (DepthOverflow name) at s r.1 in (inr none.0, tt, none.1, tt)
+    value_refused borrows e old new at s o n r = let none = no_front old e at s r.1 in (inr none.0, tt, none.1, tt)

@@ -22,7 +22,7 @@ use Rattle.dagcbor_items.specs.ItemCauses.{KeyCause}
 use Rattle.dagcbor_items.specs.Entering.{Enters}
 use Rattle.dagcbor_items.specs.Entries.{HasKey}
 use Rattle.dagcbor_items.specs.Variants.{OfHead}
-use Rattle.dagcbor_items.specs.Reads.{HasFront, TakesFront, NoStepIfDeep, Anything}
+use Rattle.dagcbor_items.specs.Reads.{HasFront, TakesFront, NoStepIfDeep, MayLack, Anything}
 use Rattle.dagcbor_read.specs.declared.access.accessor.Accessor.{Accessor}
 use Rattle.dagcbor_items.specs.Shapes.{Shape}
 
@@ -104,7 +104,7 @@ ReadsElement meaning shape left old (Ok None) new = (left ≡ 0) × (new ≡ old
 ReadsElement meaning shape left old (Ok (Some v)) new = (0 < left)
     × TakesFront shape old (meaning v) new
 ReadsElement meaning shape left old (Err e) new = (0 < left)
-    × Refuses (HasFront shape old) ⊤ (shape.borrows ≡ true) Anything old e new
+    × Refuses (HasFront shape old) (MayLack shape.memory old) (shape.wants_loan ≡ true) Anything old e new
 
 -- an item that was answered leaves one fewer
 abbrev pub after_element : {T E : Type 0} → Result (Option T) (DecodeError E) → AccessorState

@@ -1,7 +1,7 @@
 -- What lists and maps show to a type, and the steps that reading them takes.
 use Rattle.std.specs.Prelude.{◌≡◌, ◌||◌, ℕ, ◌+◌, ◌-◌, ◌≤◌, max, Bool, true, false, List, [], ◌∷◌}
 use Rattle.std.specs.Prelude.{Option, None, Some, option_map, option_and_then, Result}
-use Rattle.std.specs.Prelude.{MatchResult, ⊤, map, String, string_bytes}
+use Rattle.std.specs.Prelude.{MatchResult, map, String, string_bytes}
 use Rattle.std.specs.declared.alloc.Global.{Global}
 use Rattle.std.proofs.Common.{sym, subst}
 use Rattle.std.specs.BTreeMap.{insert_entry}
@@ -15,9 +15,9 @@ use Rattle.dagcbor_items.specs.Items.{HasRow}
 use Rattle.dagcbor_items.specs.Entries.{AllFollow, HasEntryRow}
 use Rattle.ipld_tree.specs.Spelling.{item_count, entry_count, AreFronts, AreEntryFronts}
 use Rattle.dagcbor_read.specs.Calls.{Progress}
-use Rattle.dagcbor_items.specs.Reads.{Anything}
+use Rattle.dagcbor_items.specs.Reads.{MayLack, Anything}
 use Rattle.dagcbor_read.specs.Accessors.{AccessorState}
-use Rattle.dagcbor_items.specs.Shapes.{Shape}
+use Rattle.dagcbor_items.specs.Shapes.{Shape, takes_none, takes_some, unless_lent}
 
 -- ---- lists
 
@@ -32,7 +32,12 @@ need_list need (list ts) = 1 + need ts
 need_list need _ = 1
 
 abbrev pub list_of : {V : Type 0} → Shape Items V → Shape Tree V
-list_of row = record { view = view_list row.view; need = need_list row.need; borrows = row.borrows }
+list_of row = record {
+  view = view_list row.view;
+  need = need_list row.need;
+  wants_loan = row.wants_loan;
+  memory = row.memory;
+}
 
 -- items of one type, any number of them
 abbrev pub view_items : {V : Type 0} → (Tree → Option V) → Items → Option (List V)
@@ -45,7 +50,12 @@ need_items need no_items = 0
 need_items need (item t ts) = max (need t) (need_items need ts)
 
 abbrev pub all_of : {V : Type 0} → Shape Tree V → Shape Items (List V)
-all_of shape = record { view = view_items shape.view; need = need_items shape.need; borrows = shape.borrows }
+all_of shape = record {
+  view = view_items shape.view;
+  need = need_items shape.need;
+  wants_loan = shape.wants_loan;
+  memory = takes_some;
+}
 
 -- no item
 abbrev pub view_none : Items → Option (Unit {0})
@@ -53,7 +63,7 @@ view_none no_items = Some tt
 view_none (item t ts) = None
 
 abbrev pub no_more : Shape Items (Unit {0})
-no_more = record { view = view_none; need = λ ts. 0; borrows = false }
+no_more = record { view = view_none; need = λ ts. 0; wants_loan = false; memory = takes_none }
 
 -- an item of a type of its own, before other items
 abbrev pub view_first : {V W : Type 0} → (Tree → Option V) → (Items → Option W) → Items
@@ -69,7 +79,8 @@ abbrev pub first_then : {V W : Type 0} → Shape Tree V → Shape Items W → Sh
 first_then shape others = record {
   view = view_first shape.view others.view;
   need = need_first shape.need others.need;
-  borrows = shape.borrows || others.borrows;
+  wants_loan = shape.wants_loan || others.wants_loan;
+  memory = λ lends. shape.memory lends || others.memory lends;
 }
 
 -- so many items stood at the front which show v, and were taken
@@ -87,16 +98,16 @@ ReadsRow meaning shape before old result after new = MatchResult result
     (λ v. (new.failed ≡ false) × (after ≡ record before { left = after.left }) × (after.left ≤ before.left)
     × TakesRow shape (before.left - after.left) old.input (meaning v) new.input
     × (HasRow shape before.left old.input → after.left ≡ 0))
-    (λ e. Refuses (HasRow shape before.left old.input) ⊤ (shape.borrows ≡ true) Anything old.input e new.input)
+    (λ e. Refuses (HasRow shape before.left old.input) (MayLack shape.memory old.input) (shape.wants_loan ≡ true) Anything old.input e new.input)
 
 -- All that is left of a list that was begun is read, and it is ended: its steps are given back.
 abbrev pub ReadsRest : {T V E : Type 0} → (T → V) → Shape Items V → AccessorState → Progress
     → Result T (DecodeError E) → Progress → Type 0
 ReadsRest meaning shape before old result new = MatchResult result
     (λ v. (new.failed ≡ false) × (now : Reading) × TakesRow shape before.left old.input (meaning v) now × (new.input ≡ with_steps (now.steps + before.steps) now))
-    (λ e. Refuses (HasRow shape before.left old.input) ⊤ (shape.borrows ≡ true) Anything old.input e new.input)
+    (λ e. Refuses (HasRow shape before.left old.input) (MayLack shape.memory old.input) (shape.wants_loan ≡ true) Anything old.input e new.input)
 
--- neither borrows
+-- neither wants a loan
 abbrev pub neither : {a b : Bool} → a ≡ false → b ≡ false → (a || b) ≡ false
 neither {a} {b} e h = subst (λ x. (x || b) ≡ false) (sym e) h
 
@@ -108,8 +119,10 @@ pub record FieldShape (S : Type 0) : Type 0 where
   pub take : S → List ℕ → Tree → Option S
   -- the steps that reading the value of a key takes
   pub need : List ℕ → Tree → ℕ
-  -- whether what is read borrows from the input
-  pub borrows : Bool
+  -- whether reading it wants a loan of the input
+  pub wants_loan : Bool
+  -- whether reading a value may take memory, of an input that lends or of one that does not
+  pub memory : Bool → Bool
 
 -- What a map's entries show.
 abbrev pub view_entries : {S : Type 0} → (S → List ℕ → Tree → Option S) → S → Entries → Option S
@@ -132,13 +145,23 @@ need_fields need _ = 1
 
 -- what the value of a key shows in a state
 abbrev pub value_of : {S : Type 0} → FieldShape S → S → List ℕ → Shape Tree S
-value_of shape s k = record { view = shape.take s k; need = shape.need k; borrows = shape.borrows }
+value_of shape s k = record {
+  view = shape.take s k;
+  need = shape.need k;
+  wants_loan = shape.wants_loan;
+  memory = shape.memory;
+}
+
+-- the keys are read without memory where the input lends
+abbrev pub fields_memory : {S : Type 0} → FieldShape S → Bool → Bool
+fields_memory shape lends = unless_lent lends || shape.memory lends
 
 abbrev pub fields_of : {S : Type 0} → FieldShape S → S → Shape Tree S
 fields_of shape start = record {
   view = view_fields shape.take start;
   need = need_fields shape.need;
-  borrows = shape.borrows;
+  wants_loan = shape.wants_loan;
+  memory = fields_memory shape;
 }
 
 -- what entries show, taken one after another from a state on
@@ -146,7 +169,8 @@ abbrev pub all_entries : {S : Type 0} → FieldShape S → S → Shape Entries S
 all_entries shape state = record {
   view = view_entries shape.take state;
   need = need_entries shape.need;
-  borrows = shape.borrows;
+  wants_loan = shape.wants_loan;
+  memory = fields_memory shape;
 }
 
 abbrev pub HasFields : {S : Type 0} → FieldShape S → S → Option (List ℕ) → ℕ → Reading → Type 0
@@ -166,21 +190,27 @@ abbrev pub ReadsEntriesLeft : {T S E : Type 0} → (T → S) → FieldShape S �
     → Progress → Result T (DecodeError E) → Progress → Type 0
 ReadsEntriesLeft meaning shape start before old result new = MatchResult result
     (λ v. (new.failed ≡ false) × (now : Reading) × TakesFields shape start before.last before.left old.input (meaning v) now × (new.input ≡ with_steps (now.steps + before.steps) now))
-    (λ e. Refuses (HasFields shape start before.last before.left old.input) ⊤ (shape.borrows ≡ true) Anything old.input e new.input)
+    (λ e. Refuses (HasFields shape start before.last before.left old.input) (MayLack (fields_memory shape) old.input) (shape.wants_loan ≡ true) Anything old.input e new.input)
 
 -- what a value shows to the place of a field
 abbrev pub view_slot : {V : Type 0} → (Tree → Option V) → Tree → Option (Option V)
 view_slot view t = option_map Some (view t)
 
 abbrev pub slot_of : {V : Type 0} → Shape Tree V → Shape Tree (Option V)
-slot_of shape = record { view = view_slot shape.view; need = shape.need; borrows = shape.borrows }
+slot_of shape = record {
+  view = view_slot shape.view;
+  need = shape.need;
+  wants_loan = shape.wants_loan;
+  memory = shape.memory;
+}
 
 -- a value is finished from what was read before
 abbrev pub finishing : {S V : Type 0} → (S → Option V) → Shape Tree S → Shape Tree V
 finishing finish shape = record {
   view = λ t. option_and_then finish (shape.view t);
   need = shape.need;
-  borrows = shape.borrows;
+  wants_loan = shape.wants_loan;
+  memory = shape.memory;
 }
 
 -- a struct is finished from what its fields showed
@@ -202,7 +232,12 @@ abbrev pub take_entry : {V : Type 0} → (Tree → Option V) → List (List ℕ 
 take_entry view pairs k t = option_map (λ v. insert_entry key_cmp pairs k v) (view t)
 
 abbrev pub values_of : {V : Type 0} → Shape Tree V → FieldShape (List (List ℕ × V))
-values_of shape = record { take = take_entry shape.view; need = λ k t. shape.need t; borrows = shape.borrows }
+values_of shape = record {
+  take = take_entry shape.view;
+  need = λ k t. shape.need t;
+  wants_loan = shape.wants_loan;
+  memory = takes_some;
+}
 
 -- a map whose values all show something shows the pairs in the order of their keys
 abbrev pub map_of : {V : Type 0} → Shape Tree V → Shape Tree (List (List ℕ × V))

@@ -1,14 +1,14 @@
 -- What an enum's tree shows to a type, and the steps that reading it takes.
 use Rattle.std.specs.Prelude.{◌≡◌, ℕ, ◌+◌, Bool, true, false, List, Option, None, Some, is_some}
-use Rattle.std.specs.Prelude.{Result, MatchResult, MatchBool, ⊤}
+use Rattle.std.specs.Prelude.{Result, MatchResult, MatchBool, ◌||◌}
 use Rattle.dagcbor_heads.specs.Reading.{Reading, with_steps}
 use Rattle.dagcbor_heads.specs.Refusals.{Refuses}
 use Rattle.dagcbor_heads.specs.declared.error.DecodeError.{DecodeError}
 use Rattle.ipld_tree.specs.Tree.{Tree, text, mapping, no_entries, entry}
 use Rattle.dagcbor_read.specs.Calls.{Progress}
-use Rattle.dagcbor_items.specs.Reads.{HasFront, TakesFront, Anything}
+use Rattle.dagcbor_items.specs.Reads.{HasFront, TakesFront, MayLack, Anything}
 use Rattle.dagcbor_read.specs.Enums.{EnumState}
-use Rattle.dagcbor_items.specs.Shapes.{Shape}
+use Rattle.dagcbor_items.specs.Shapes.{Shape, unless_lent}
 
 -- A variant's name alone, or a map of one pair, from the name to what the variant holds.
 abbrev pub view_enum : {V : Type 0} → (List ℕ → Option V) → (List ℕ → Tree → Option V) → Tree
@@ -30,19 +30,23 @@ pub record EnumShape (V : Type 0) : Type 0 where
   pub part : List ℕ → Tree → Option V
   -- the steps that reading what a variant holds takes
   pub need : List ℕ → Tree → ℕ
-  -- whether what is read borrows from the input
-  pub borrows : Bool
+  -- whether reading it wants a loan of the input
+  pub wants_loan : Bool
+  -- whether reading what a variant holds may take memory, of an input that lends or of one that
+  -- does not
+  pub memory : Bool → Bool
 
 abbrev pub enum_of : {V : Type 0} → EnumShape V → Shape Tree V
 enum_of shape = record {
   view = view_enum shape.unit shape.part;
   need = need_enum shape.need;
-  borrows = shape.borrows;
+  wants_loan = shape.wants_loan;
+  memory = λ lends. unless_lent lends || shape.memory lends;
 }
 
 -- what the variant of this name holds
 abbrev pub part_of : {V : Type 0} → EnumShape V → List ℕ → Shape Tree V
-part_of shape k = record { view = shape.part k; need = shape.need k; borrows = shape.borrows }
+part_of shape k = record { view = shape.part k; need = shape.need k; wants_loan = shape.wants_loan; memory = shape.memory }
 
 -- ---- a variant that was named
 
@@ -64,4 +68,4 @@ abbrev pub ReadsVariant : {T V E : Type 0} → (T → V) → EnumShape V → Lis
     → Result T (DecodeError E) → Progress → Type 0
 ReadsVariant meaning shape k e old result new = MatchResult result
     (λ v. (new.failed ≡ false) × TakesVariant shape k e old.input (meaning v) new.input)
-    (λ r. Refuses (HasVariant shape k e old.input) ⊤ (shape.borrows ≡ true) Anything old.input r new.input)
+    (λ r. Refuses (HasVariant shape k e old.input) (MayLack shape.memory old.input) (shape.wants_loan ≡ true) Anything old.input r new.input)

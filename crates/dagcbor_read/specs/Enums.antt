@@ -16,7 +16,7 @@ use Rattle.dagcbor_items.specs.Shapes.{view_text, leaf, Shape}
 use Rattle.dagcbor_items.specs.LeafCauses.{TextCause}
 use Rattle.dagcbor_read.specs.Calls.{Progress}
 use Rattle.dagcbor_items.specs.Variants.{OfByte}
-use Rattle.dagcbor_items.specs.Reads.{Reads, HasFront, TakesFront, NoStepIfDeep, Anything}
+use Rattle.dagcbor_items.specs.Reads.{Reads, HasFront, MayLack, TakesFront, NoStepIfDeep, Anything}
 use Rattle.dagcbor_read.specs.Accessors.{BeginsItems}
 use Rattle.dagcbor_read.specs.declared.access.accessor.Accessor.{Accessor}
 use Rattle.dagcbor_read.specs.declared.access.enum_accessor.EnumAccessor.{EnumAccessor}
@@ -126,7 +126,7 @@ abbrev pub ReadsHeld : {T V E : Type 0} → (T → V) → Shape Tree V → EnumS
     → Result T (DecodeError E) → Reading → Type 0
 ReadsHeld meaning shape e old result new = MatchResult result
     (λ v. (e.in_map ≡ true) × ((now : Reading) × TakesFront shape old (meaning v) now × (new ≡ with_steps (now.steps + e.steps) now)))
-    (λ r. MatchBool e.in_map (Refuses (HasFront shape old) ⊤ (shape.borrows ≡ true) Anything old r new) (IsOtherForm e r × (new ≡ old)))
+    (λ r. MatchBool e.in_map (Refuses (HasFront shape old) (MayLack shape.memory old) (shape.wants_loan ≡ true) Anything old r new) (IsOtherForm e r × (new ≡ old)))
 
 -- The same for the fields that a variant holds, where nothing had failed. After an answer nothing
 -- has failed.

@@ -1,7 +1,6 @@
 -- What reading a value of another type answers and refuses.
 use Rattle.std.specs.Prelude.{◌≡◌, ◌≢◌, ℕ, ◌+◌, ◌<◌, ◌⊎◌, Bool, true, List, [], ◌∷◌, Option, Some}
 use Rattle.std.specs.Prelude.{option_map, Result, Err, IfErr, MatchResult, MatchBool, codes, false}
-use Rattle.std.specs.Prelude.{⊤}
 use Rattle.dagcbor_heads.specs.Reading.{Reading, Keeps}
 use Rattle.dagcbor_heads.specs.Fronts.{Takes}
 use Rattle.dagcbor_heads.specs.Refusals.{Refuses}
@@ -12,12 +11,12 @@ use Rattle.dagcbor_heads.specs.declared.error.Len.TheVariants.{Small}
 use Rattle.ipld_tree.specs.Tree.{Tree}
 use Rattle.dagcbor_items.specs.Shapes.{Shape, option_of}
 use Rattle.dagcbor_read.specs.Calls.{Progress}
-use Rattle.dagcbor_items.specs.Reads.{Reads, HasFront, TakesFront, NoStepIfDeep, Anything}
+use Rattle.dagcbor_items.specs.Reads.{Reads, HasFront, MayLack, TakesFront, NoStepIfDeep, Anything}
 
 -- A value is read as the law of its type says.
 abbrev pub ReadsPart : {T V E : Type 0} → (T → V) → Shape Tree V → Reading
     → Result T (DecodeError E) → Reading → Type 0
-ReadsPart meaning shape = Reads meaning shape ⊤ (shape.borrows ≡ true) Anything
+ReadsPart meaning shape old = Reads meaning shape (MayLack shape.memory old) (shape.wants_loan ≡ true) Anything old
 
 -- a null stands at the front, or another byte, and a step is left
 pub record CanEnter (r : Reading) : Type 0 where
@@ -57,7 +56,7 @@ EntersOption old result new = MatchResult result
 -- the part behind the step was refused, as its law says
 abbrev pub RefusesPart : {V E : Type 0} → Shape Tree V → Reading → DecodeError E → Reading → Type 0
 RefusesPart shape old e new = (mid : Reading) × EntersSome old mid
-    × Refuses (HasFront shape mid) ⊤ (shape.borrows ≡ true) Anything mid e new
+    × Refuses (HasFront shape mid) (MayLack shape.memory mid) (shape.wants_loan ≡ true) Anything mid e new
 
 -- A null is read, or another value as the law of its type says. A refusal is the part's, or it came
 -- before the part with its cause.
@@ -65,7 +64,7 @@ abbrev pub ReadsOption : {T V E : Type 0} → (T → V) → Shape Tree V → Rea
     → Result (Option T) (DecodeError E) → Reading → Type 0
 ReadsOption meaning shape old result new = MatchResult result
     (λ o. TakesFront (option_of shape) old (option_map meaning o) new)
-    (λ e. Refuses (HasFront (option_of shape) old) ⊤ (shape.borrows ≡ true) Anything old e new
+    (λ e. Refuses (HasFront (option_of shape) old) (MayLack shape.memory old) (shape.wants_loan ≡ true) Anything old e new
     × (RefusesToEnter old e new ⊎ RefusesPart shape old e new))
 
 -- Where a value of several parts cannot be begun on bytes that are known, the refusal is that of

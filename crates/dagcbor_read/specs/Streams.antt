@@ -12,7 +12,7 @@ use Rattle.dagcbor_heads.specs.declared.error.DecodeError.TheVariants.{OutOfMemo
 use Rattle.ipld_tree.specs.Tree.{Tree}
 use Rattle.ipld_tree.specs.Spelling.{IsFront}
 use Rattle.dagcbor_read.specs.Calls.{Progress, progress, Call}
-use Rattle.dagcbor_items.specs.Reads.{HasFront, TakesFront}
+use Rattle.dagcbor_items.specs.Reads.{HasFront, TakesFront, MayLack}
 use Rattle.dagcbor_read.specs.declared.stream.StreamDeserializer.{StreamDeserializer}
 use Rattle.dagcbor_items.specs.Shapes.{Shape}
 
@@ -71,7 +71,7 @@ abbrev pub ReadsNext : {T V E : Type 0} → (T → V) → Shape Tree V → Readi
     → Result (Option T) (DecodeError E) → Reading → Type 0
 ReadsNext meaning shape old result new = MatchResult result
     (λ next. MatchOption next (FindsEnd old new) (λ v. TakesFront shape old (meaning v) new))
-    (λ e. Refuses (HasFront shape old) (SomeLeft old) ((shape.borrows ≡ true) × SomeLeft old) AreSome old e new)
+    (λ e. Refuses (HasFront shape old) (MayLack shape.memory old × SomeLeft old) ((shape.wants_loan ≡ true) × SomeLeft old) AreSome old e new)
 
 -- what `next` gives is what reading answered, and the last but after a value
 abbrev pub as_answer : {T E : Type 0} → Option (Result T (DecodeError E))
@@ -161,7 +161,7 @@ module _ {S T V : Type 0} (E : Type 0) (see : S → Streaming) (meaning : T → 
 
   -- whether a stream from s may wish to borrow
   abbrev pub MayWish : S → Type 0
-  MayWish s = MayBorrow shape.borrows (see s).source.input.lends
+  MayWish s = MayBorrow shape.wants_loan (see s).source.input.lends
 
   -- what holds of the items that calls of `next` from s gave
   pub record IsStreamRun (s : S) (whole : Bool) (xs : List (Result T (DecodeError E))) : Type 0 where

@@ -5,7 +5,7 @@ use Rattle.std.specs.Option.{option_flatten}
 use Rattle.std.specs.Borrow.{Bor}
 use Rattle.std.specs.Str.{bytes_eq}
 use Rattle.ipld_tree.specs.Tree.{Tree, any_need}
-use Rattle.dagcbor_items.specs.Shapes.{Shape, option_of}
+use Rattle.dagcbor_items.specs.Shapes.{Shape, option_of, unless_lent}
 use Rattle.dagcbor_read.specs.Collections.{FieldShape, struct_of}
 
 -- the texts behind references
@@ -14,7 +14,7 @@ texts = map (λ s. s.now)
 
 -- no place: the value of any key is skipped
 abbrev pub no_places : FieldShape (Unit {0})
-no_places = record { take = λ s k t. Some s; need = λ k t. any_need t; borrows = false }
+no_places = record { take = λ s k t. Some s; need = λ k t. any_need t; wants_loan = false; memory = unless_lent }
 
 -- The value of this name goes to the first place, any other to the others.
 abbrev pub place : {V S : Type 0} → List ℕ → Shape Tree V → FieldShape S → FieldShape (Option V × S)
@@ -23,7 +23,8 @@ place name shape others = record {
       if bytes_eq k name then option_map (λ v. (Some v, s.1)) (shape.view t)
       else option_map (λ o. (s.0, o)) (others.take s.1 k t);
   need = λ k t. if bytes_eq k name then shape.need t else others.need k t;
-  borrows = shape.borrows || others.borrows;
+  wants_loan = shape.wants_loan || others.wants_loan;
+  memory = λ lends. shape.memory lends || others.memory lends;
 }
 
 -- a place that has no name: nothing goes to it
@@ -31,7 +32,8 @@ abbrev pub unnamed_place : {V S : Type 0} → FieldShape S → FieldShape (Optio
 unnamed_place others = record {
   take = λ s k t. option_map (λ o. (s.0, o)) (others.take s.1 k t);
   need = others.need;
-  borrows = others.borrows;
+  wants_loan = others.wants_loan;
+  memory = others.memory;
 }
 
 -- places that are named in their order

@@ -1,9 +1,9 @@
 -- What reading a value of a type does to a Deserializer.
-use Rattle.std.specs.Prelude.{◌≡◌, true, false, Result, MatchResult, ⊤}
+use Rattle.std.specs.Prelude.{◌≡◌, true, false, Result, MatchResult}
 use Rattle.dagcbor_heads.specs.Refusals.{Refuses}
 use Rattle.dagcbor_heads.specs.declared.error.DecodeError.{DecodeError}
 use Rattle.ipld_tree.specs.Tree.{Tree}
-use Rattle.dagcbor_items.specs.Reads.{HasFront, TakesFront, Anything}
+use Rattle.dagcbor_items.specs.Reads.{HasFront, TakesFront, MayLack, Anything}
 use Rattle.dagcbor_read.specs.Calls.{Progress}
 use Rattle.dagcbor_items.specs.Shapes.{Shape}
 
@@ -12,4 +12,4 @@ abbrev pub ReadsValue : {T V E : Type 0} → (T → V) → Shape Tree V → Prog
     → Result T (DecodeError E) → Progress → Type 0
 ReadsValue meaning shape old result new = old.failed ≡ false → MatchResult result
     (λ v. (new.failed ≡ false) × TakesFront shape old.input (meaning v) new.input)
-    (λ e. Refuses (HasFront shape old.input) ⊤ (shape.borrows ≡ true) Anything old.input e new.input)
+    (λ e. Refuses (HasFront shape old.input) (MayLack shape.memory old.input) (shape.wants_loan ≡ true) Anything old.input e new.input)

@@ -1,8 +1,8 @@
 -- Reading a whole input as a value, and its first value alone.
-use Rattle.std.specs.Prelude.{◌≡◌, ℕ, ◌≤◌, List, Option, Some, ⊤}
+use Rattle.std.specs.Prelude.{◌≡◌, ◌⊎◌, ℕ, ◌≤◌, Bool, true, List, Option, Some, ⊤}
 use Rattle.dagcbor_heads.specs.declared.error.DecodeError.{DecodeError}
 use Rattle.dagcbor_heads.specs.declared.error.DecodeError.TheVariants.{Read, RequireBorrowed}
-use Rattle.dagcbor_heads.specs.declared.error.DecodeError.TheVariants.{OutOfMemory, Failed}
+use Rattle.dagcbor_heads.specs.declared.error.DecodeError.TheVariants.{OutOfMemory, Failed, TrailingData}
 use Rattle.ipld_tree.specs.Tree.{Tree}
 use Rattle.ipld_tree.specs.Spelling.{IsFront, IsSpelling}
 use Rattle.dagcbor_items.specs.Shapes.{Shape}
@@ -36,6 +36,16 @@ abbrev pub IsReadExcuse : {E : Type 0} → DecodeError E → Type 0
 IsReadExcuse (Read e) = ⊤
 IsReadExcuse OutOfMemory = ⊤
 IsReadExcuse _ = ⊥
+
+-- where a value stands first, with bytes behind it, these are why
+abbrev pub IsForBehind : {V E : Type 0} → Shape Tree V → ℕ → List ℕ → DecodeError E → Type 0
+IsForBehind {V} shape steps b e = (v : V) (rest : List ℕ) → IsFirst shape steps b v rest
+    → IsReadExcuse e ⊎ (e ≡ TrailingData)
+
+-- want of memory comes only where reading may take some
+abbrev pub LacksMemoryIf : {E : Type 0} → Bool → DecodeError E → Type 0
+LacksMemoryIf may OutOfMemory = may ≡ true
+LacksMemoryIf may _ = ⊤
 
 -- which refusals are answered
 abbrev pub OfWhole : {E : Type 0} → DecodeError E → Type 0

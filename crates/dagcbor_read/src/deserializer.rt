@@ -28,7 +28,7 @@ use crate::access::enum_accessor::{EnumAccessor, spend_form};
 use crate::deserialize::Deserialize;
 use crate::stream::StreamDeserializer;
 use dagcbor_heads::{
-    DecodeError, Input, Name, Read, ReadResult, SliceReader, is_at_end, peek_one, pull_head,
+    DecodeError, Input, Name, Read, ReadResult, SliceReader, is_at_end, peek_one, pull_head_argument,
     pull_one, spend_step,
 };
 use dagcbor_items::{
@@ -568,7 +568,7 @@ fn enter<R: Read>(name: &str, reader: &mut R, major: u8) -> ReadResult<u64, R>
     if first / 32 != major {
         return Err(DecodeError::mismatch(name, first));
     }
-    let (_, count, _) = pull_head(name, reader)?;
+    let count = pull_head_argument(name, reader)?;
     Ok(count)
 }
 

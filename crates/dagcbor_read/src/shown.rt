@@ -10,7 +10,7 @@ pub trait Shown {
 
     ghost meaning: { Self → View };
 
-    /// The value that a tree shows, the steps that reading it takes, and whether the type borrows
-    /// from the input.
+    /// The value that a tree shows, the steps that reading it takes, whether it wants a loan of the
+    /// input, and whether it may take memory.
     ghost shape: { Shape Tree View };
 }

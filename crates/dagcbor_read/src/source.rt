@@ -1,9 +1,9 @@
 //! Reading one value from a buffered source of std.
 
-ghost use Rattle.std.specs.Prelude.{◌⊎◌, IfOk, IfErr, IfSome};
+ghost use Rattle.std.specs.Prelude.{◌⊎◌, false, IfOk, IfErr, IfSome};
 ghost use Rattle.dagcbor_heads.specs.Reading.{default_steps};
 ghost use Rattle.dagcbor_read.specs.Whole.{IsWhole, HoldsNoValue, TakesFirst, BeginsWithNoValue};
-ghost use Rattle.dagcbor_read.specs.Whole.{IsReadExcuse, OfWhole};
+ghost use Rattle.dagcbor_read.specs.Whole.{IsReadExcuse, OfWhole, IsForBehind, LacksMemoryIf};
 
 use crate::deserialize::DeserializeOwned;
 use crate::deserializer::Deserializer;
@@ -25,7 +25,9 @@ pub fn from_reader<'de, T: DeserializeOwned<'de>, R: BufRead + Drop>(
 ) -> Result<T, DecodeError<io::Error>>
     ensures value { IfOk result (λ v. IfSome (R.remaining reader) (λ b. IsWhole T.shape default_steps b (T.meaning v))) }
     ensures refused { IfErr result (λ e. IsReadExcuse e ⊎ IfSome (R.remaining reader) (HoldsNoValue T.shape default_steps)) }
+    ensures behind { IfErr result (λ e. IfSome (R.remaining reader) (λ b. IsForBehind T.shape default_steps b e)) }
     ensures never { IfErr result OfWhole }
+    ensures memory { IfErr result (LacksMemoryIf (T.shape.memory false)) }
 {
     let mut de = Deserializer::from_reader(IoReader::new(reader));
     let value = T::deserialize(alloc, &mut de)?;
@@ -50,6 +52,7 @@ pub fn from_reader_once<'de, T: DeserializeOwned<'de>, R: BufRead>(
         (λ b. TakesFirst T.shape default_steps b (T.meaning v) (R.remaining reader.new))) }
     ensures refused { IfErr result (λ e. IsReadExcuse e ⊎ IfSome (R.remaining reader.old) (BeginsWithNoValue T.shape default_steps)) }
     ensures never { IfErr result OfWhole }
+    ensures memory { IfErr result (LacksMemoryIf (T.shape.memory false)) }
 {
     let mut de = Deserializer::from_reader(IoRefReader::new(reader));
     let result = T::deserialize(alloc, &mut de);

@@ -1,5 +1,5 @@
 -- The pairs of a map, handed over one after another.
-use Rattle.std.proofs.Common.{◌≡◌, ◌⊎◌, inl, inr, ℕ, suc, List, [], ◌∷◌, ◌++◌, length, map, Option, None, Some, Bool, true, false, cond, Result, Ok, Err, refl, sym, ap, ◌∙◌, subst, append_assoc}
+use Rattle.std.proofs.Common.{◌≡◌, ◌⊎◌, inl, inr, ℕ, suc, List, [], ◌∷◌, ◌++◌, length, map, Option, None, Some, Bool, true, false, cond, Result, Ok, Err, refl, sym, ap, ap₂, ◌∙◌, subst, append_assoc}
 use Rattle.dagcbor_write.specs.Answers.{OnMessage}
 use Rattle.std.specs.Prelude.{Any, IfErr, IfSome, option_map, option_and_then}
 use Rattle.std.proofs.Common.{◌<◌, ◌^◌, take, drop, get_or, arith}
@@ -21,6 +21,7 @@ use Rattle.ipld_tree.proofs.Spelled.{spelled_is}
 use Rattle.ipld_tree.proofs.WellFormed.{entry_count_ordered}
 use Rattle.dagcbor_write.specs.Trees.{Pair}
 use Rattle.dagcbor_write.specs.Gathering.{Refused, Collects}
+use Rattle.dagcbor_write.specs.Rows.{spelled_pairs}
 use Rattle.dagcbor_write.specs.Maps.{Texts, spelled_key, IsSpellingOf, AreSpellingsOf, Joins, JoinsEntry, RefusesEntry, RefusesValue, entries_text, map_rest, JoinsPairs, RefusesAnyValue, ShowsPairs}
 use Rattle.dagcbor_write.proofs.Keys.{key_none}
 use Rattle.dagcbor_write.proofs.Mapping.{pairwise_push}
@@ -245,6 +246,25 @@ given_row whole old new e h =
 pub exit_pairs : {T E : Type 0} (whole : List Pair) (s t : Written) (r : Result T (EncodeError E)) (e : EncodeError E) → Refused (RefusesAnyValue whole) e → IsErrAnd r (λ d. d ≡ e) → s ≡ t → Writes (spelled_tree (entries_tree whole)) s t r
 exit_pairs whole s t r e refused is same =
     exit_unsent (map_rest None whole) s t (RefusesAnyValue whole) r e (λ m h. ap (map_rest None) (nth_split whole h.0 h.1 h.2) ∙ no_text None (take h.0 whole) (drop (suc h.0) whole) (get_or whole h.0 h.1) (inr (ap (λ p. spelled_tree p.1) h.3 ∙ h.4.1))) refused is same
+
+-- ---- a row whose keys rise
+
+later_None : (x y : List ℕ) (o : Option (List ℕ)) → Some x ++? (Some y ++? o) ≡ None → o ≡ None
+later_None x y None e = refl
+later_None x y (Some z) e = cc
+
+row_None : (whole done ps : List Pair) → whole ≡ done ++ ps → spelled_pairs ps ≡ None → spelled_tree (entries_tree whole) ≡ None
+row_None whole done [] is e = cc
+row_None whole done (p ∷ ps) is e = by (spelled_key p.0) (spelled_tree p.1) refl refl (row_None whole (done ++ p ∷ []) ps (is ∙ sym (append_assoc done (p ∷ []) ps)))
+  where
+    by : (a b : Option (List ℕ)) → spelled_key p.0 ≡ a → spelled_tree p.1 ≡ b → (spelled_pairs ps ≡ None → spelled_tree (entries_tree whole) ≡ None) → spelled_tree (entries_tree whole) ≡ None
+    by None b f g more = ap (map_rest None) is ∙ no_text None done ps p (inl f)
+    by (Some x) None f g more = ap (map_rest None) is ∙ no_text None done ps p (inr g)
+    by (Some x) (Some y) f g more = more (later_None x y (spelled_pairs ps) (sym (ap₂ (λ a b. a ++? (b ++? spelled_pairs ps)) f g) ∙ e))
+
+-- the exit of a `?` at a row that is written in one piece
+pub exit_row : {T E : Type 0} (whole : List Pair) (s t : Written) (r : Result T (EncodeError E)) (e : EncodeError E) → Refused (λ m. spelled_pairs whole ≡ None) e → IsErrAnd r (λ d. d ≡ e) → s ≡ t → Writes (spelled_tree (entries_tree whole)) s t r
+exit_row whole s t r e refused is same = exit_unsent (spelled_tree (entries_tree whole)) s t (λ m. spelled_pairs whole ≡ None) r e (λ m h. row_None whole [] whole refl h) refused is same
 
 -- where a message leaves its writer as it was, so does a call around it
 pub still_unsent : {T E Writer : Type 0} {s t u v : Writer} (IsText : List ℕ → Type 0) (Cause : Type 0) (r : Result T (EncodeError E)) → IfErr r (OnMessage (λ m. IsText m × Cause × (u ≡ v))) → s ≡ u → v ≡ t → IfErr r (OnMessage (λ m. s ≡ t))

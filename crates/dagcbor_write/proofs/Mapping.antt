@@ -22,7 +22,9 @@ use Rattle.dagcbor_heads.specs.declared.error.EncodeError.{EncodeError}
 use Rattle.dagcbor_write.specs.Pairwise.{Pairwise}
 use Rattle.dagcbor_write.proofs.Lists.{OnOk_of}
 use Rattle.dagcbor_write.specs.Trees.{Pair}
-use Rattle.dagcbor_write.specs.Maps.{Texts, spelled_key, AreSpellingsOf, entries_text, map_rest, RepeatsKey}
+use Rattle.dagcbor_write.specs.Gathering.{AppendsTo}
+use Rattle.dagcbor_write.specs.Rows.{spelled_pairs, ArePairs, KeysRise}
+use Rattle.dagcbor_write.specs.Maps.{Texts, spelled_key, IsSpellingOf, AreSpellingsOf, entries_text, map_rest, RepeatsKey}
 use Rattle.dagcbor_write.specs.Order.{head_rest, entries_bytes, goes_before, PutsInOrder}
 
 abbrev Named : Type 0
@@ -186,6 +188,66 @@ in_order announced ps es fs h o =
     let as_ordered = tree_of ps given.0 (ordered_entries given.0) false given.1 none refl in
     let P : Option Tree → Type 0 = λ t. IfSome t IsTree in
     record { text = text_by announced ps moved.0 fs is moved.2; good = subst P (sym as_ordered) (are_entries given.0 sorted.0 (good_pairs given.0 es given.2)) }
+
+-- ---- a row of pairs whose keys rise
+
+has_text : (o : Option (List ℕ)) (bs : List ℕ) → AppendsTo [] bs o → o ≡ Some bs
+has_text None bs h = absurd h
+has_text (Some t) bs h = ap Some (sym h)
+
+both : (a b : Option (List ℕ)) (bs : List ℕ) → a ++? b ≡ Some bs → (x : List ℕ) × (y : List ℕ) × (a ≡ Some x) × (b ≡ Some y) × (bs ≡ x ++ y)
+both None b bs e = cc
+both (Some x) None bs e = cc
+both (Some x) (Some y) bs e = (x, y, refl, refl, cc)
+
+texts_of : (ps : List Pair) (bs : List ℕ) → spelled_pairs ps ≡ Some bs → ArePairs ps → (es : List Texts) × AreSpellingsOf ps es × (bs ≡ entries_bytes es)
+texts_of [] bs e g = ([], tt, cc)
+texts_of (p ∷ ps) bs e g =
+    let first = both (spelled_key p.0) (spelled_tree p.1 ++? spelled_pairs ps) bs e in
+    let next = both (spelled_tree p.1) (spelled_pairs ps) first.1 first.3 in
+    let more = texts_of ps next.1 next.3 g.2 in
+    ((first.0, next.0) ∷ more.0, (record { key = first.2; value = next.2; good_key = g.0; good_value = g.1 }, more.1), first.4 ∙ ap (λ x. first.0 ++ x) (next.4 ∙ ap (λ x. next.0 ++ x) more.2))
+
+-- the names of the pairs, which rise
+record AreNamed (last : List ℕ) (ps : List Pair) (es : List Texts) : Type 0 where
+  pub names : List Named
+  pub are : all_some (map pair_of ps) ≡ Some names
+  pub spelled_by : Pairwise IsSpelledBy names es
+  pub behind : AllByRecursion (λ y. key_cmp last y ≡ Less) (keys_of names)
+  pub sorted : IsSortedList names
+
+rising_named : (last : List ℕ) (ps : List Pair) (es : List Texts) → AreSpellingsOf ps es → KeysRise last ps → AreNamed last ps es
+unfolding IsStrictlySortedBy
+rising_named last [] [] h r = record { names = []; are = refl; spelled_by = tt; behind = tt; sorted = tt }
+rising_named last [] (e ∷ es) h r = absurd h
+rising_named last (p ∷ ps) [] h r = absurd h
+rising_named last ((None, v) ∷ ps) (e ∷ es) h r = absurd r
+rising_named last ((Some (text k), None) ∷ ps) (e ∷ es) h r = let differ : None ≡ Some e.1 = h.0.value in cc
+rising_named last ((Some (text k), Some t) ∷ ps) (e ∷ es) h r =
+    let more = rising_named k ps es h.1 r.1 in
+    record {
+      names = (k, t) ∷ more.names;
+      are = ap (option_map (λ qs. (k, t) ∷ qs)) more.are;
+      spelled_by = (record { key = h.0.key; value = h.0.value; good = (h.0.good_key, h.0.good_value) }, more.spelled_by);
+      behind = (r.0, below_all last k (keys_of more.names) r.0 more.behind);
+      sorted = (more.behind, more.sorted);
+    }
+rising_named last ((Some _, v) ∷ ps) (e ∷ es) h r = absurd r
+
+-- what is written of a row whose keys rise is the map of its pairs
+pub rising_map : (ps : List Pair) (n : ℕ) (bs : List ℕ) → n ≡ length ps → AppendsTo [] bs (spelled_pairs ps) → ArePairs ps → KeysRise [] ps → (spelled_tree (entries_tree ps) ≡ spelled_head 5 n ++? Some bs) × IfSome (entries_tree ps) IsTree
+rising_map ps n bs count h g r =
+    let texts = texts_of ps bs (has_text (spelled_pairs ps) bs h) g in
+    let named = rising_named [] ps texts.0 texts.1 r in
+    let sorted = ordered_by_sort named.names named.names (IsPermutation-refl named.names) named.sorted in
+    let none = test_from_distinct named.names sorted.0 in
+    let is = tree_of ps named.names (entries_of named.names) false named.are none sorted.1 in
+    let as_ordered = tree_of ps named.names (ordered_entries named.names) false named.are none refl in
+    let length_is : length texts.0 ≡ n = sym (count ∙ pairwise_length IsSpellingOf ps texts.0 texts.1) in
+    let P : Option Tree → Type 0 = λ t. IfSome t IsTree in (
+      text_by None ps named.names texts.0 is named.spelled_by ∙ ap₂ (λ k x. spelled_head 5 k ++? Some x) length_is (sym texts.2),
+      subst P (sym as_ordered) (are_entries named.names sorted.0 (good_pairs named.names texts.0 named.spelled_by)),
+    )
 
 clash : (qs : List Named) (fs : List Texts) (k : ℕ) → Pairwise IsSpelledBy qs fs → suc k < length fs → ((d : Texts) → (get_or fs k d).0 ≡ (get_or fs (suc k) d).0) → AreDistinct qs → ⊥
 unfolding IsDistinct

@@ -264,7 +264,11 @@ impl<W: Write> Serializer<W> {
         ensures written { Writes (Some bytes.now) (W.written self.old) (W.written self.new) result }
         ensures memory { WantsMemoryOnlyIf W.takes_memory result }
     {
-        self.writer.push(bytes)
+        let pushed = self.writer.push(bytes);
+        if pushed.is_ok() {
+            return Ok(());
+        }
+        pushed
     }
 
     /// The part itself.
@@ -357,8 +361,15 @@ fn push_counted<W: Write>(writer: &mut W, major: u8, payload: &[u8]) -> WriteRes
         (W.written writer.old) (W.written writer.new) result }
     ensures memory { WantsMemoryOnlyIf W.takes_memory result }
 {
-    push_head(writer, major, payload.len() as u64)?;
-    writer.push(payload)
+    let head = push_head(writer, major, payload.len() as u64);
+    if head.is_err() {
+        return head;
+    }
+    let pushed = writer.push(payload);
+    if pushed.is_ok() {
+        return Ok(());
+    }
+    pushed
 }
 
 /// Appends the link to a CID of this binary form.
@@ -369,8 +380,21 @@ fn push_link<W: Write>(writer: &mut W, cid: &ArrayVec<u8, 86>) -> WriteResult<()
     ensures spellable { IsSpellable (link cid.now.items) }
 {
     let count = cid.len() as u64 + 1;
-    writer.push(&[0xd8, 0x2a])?;
-    push_head(writer, 2, count)?;
-    writer.push(&[0x00])?;
-    writer.push(cid.as_slice())
+    let tag = writer.push(&[0xd8, 0x2a]);
+    if tag.is_err() {
+        return tag;
+    }
+    let head = push_head(writer, 2, count);
+    if head.is_err() {
+        return head;
+    }
+    let zero = writer.push(&[0x00]);
+    if zero.is_err() {
+        return zero;
+    }
+    let pushed = writer.push(cid.as_slice());
+    if pushed.is_ok() {
+        return Ok(());
+    }
+    pushed
 }

@@ -1,20 +1,29 @@
 //! Structs that are written by a row of their fields.
 
-ghost use Rattle.std.specs.Prelude.{◌≡◌, List, [], ◌∷◌, None, OnOk, IfErr, IfSome};
+ghost use Rattle.std.specs.Prelude.{◌≡◌, ◌+◌, List, [], ◌∷◌, length, None, OnOk, IfErr, IfSome};
+ghost use Rattle.ipld_tree.specs.Key.{comes_before};
 ghost use Rattle.dagcbor_write.specs.Answers.{OnMessage};
 ghost use Rattle.dagcbor_heads.specs.Written.{Writes};
 ghost use Rattle.ipld_tree.specs.Tree.{IsTree, entries_tree};
 ghost use Rattle.ipld_tree.specs.Spelled.{spelled_tree};
-ghost use Rattle.dagcbor_write.specs.Gathering.{Collects};
+ghost use Rattle.dagcbor_write.specs.Gathering.{AppendsTo, Collects};
+ghost use Rattle.dagcbor_write.specs.Rows.{spelled_pairs, ArePairs, KeysRise};
 ghost use Rattle.dagcbor_write.specs.Trees.{Pair, field, variant_tree};
 ghost use Rattle.dagcbor_write.specs.Maps.{JoinsPairs, RefusesAnyValue};
 ghost use Rattle.dagcbor_write.specs.Lending.{map_state, WritesNothing};
 
+use crate::collect::buffer::take_first_room;
 use crate::collect::collect_map::CollectMap;
+use crate::collect::gathered::BAD_VALUE;
 use crate::serialize::Serialize;
 use crate::serializer::Serializer;
-use dagcbor_heads::{Write, WriteResult};
+use dagcbor_heads::{BufWriter, EncodeError, Write, WriteResult};
 use std::alloc::Global;
+use std::cmp::Ordering;
+use std::mem;
+
+/// As many fields are counted at most.
+const MOST_FIELDS: usize = 65_535;
 
 /// A field of a struct: its name and its value.
 #[derive_where(Clone, Copy)]
@@ -34,12 +43,37 @@ pub trait FieldRow: Copy {
         ensures entries { Collects
             (λ u. JoinsPairs (pairs self) (map_state map.old).entries (map_state map.new).entries)
             (RefusesAnyValue (pairs self)) result };
+
+    /// How many fields there are, and `before` more, where each name stands behind the one before
+    /// it, in key order, and the first behind `last`. None where one does not, or where they are
+    /// very many.
+    fn count_rising(self, last: &str, before: usize) -> Option<usize>
+        ensures { IfSome result
+            (λ n. (n ≡ before + length (pairs self)) × KeysRise last.now (pairs self)) };
+
+    /// Writes the names and the values, one after another.
+    fn write_fields<W: Write>(self, alloc: Global, ser: &mut Serializer<W>) -> WriteResult<(), W>
+        ensures written { Writes (spelled_pairs (pairs self))
+            (W.written ser.old) (W.written ser.new) result }
+        ensures well_formed { OnOk result (ArePairs (pairs self)) };
 }
 
 impl FieldRow for () {
     ghost pairs = { λ u. [] };
 
     fn push_fields<W: Write>(self, _map: &mut CollectMap<'_, W>) -> WriteResult<(), W> {
+        Ok(())
+    }
+
+    fn count_rising(self, _last: &str, before: usize) -> Option<usize> {
+        Some(before)
+    }
+
+    fn write_fields<W: Write>(
+        self,
+        _alloc: Global,
+        _ser: &mut Serializer<W>,
+    ) -> WriteResult<(), W> {
         Ok(())
     }
 }
@@ -52,10 +86,109 @@ impl<T: Serialize, L: FieldRow> FieldRow for (Field<'_, T>, L) {
         map.serialize_field(name, value)?;
         others.push_fields(map)
     }
+
+    fn count_rising(self, last: &str, before: usize) -> Option<usize> {
+        let (Field(name, _), others) = self;
+        if before < MOST_FIELDS && comes_before(last.as_bytes(), name.as_bytes()) {
+            others.count_rising(name, before + 1)
+        } else {
+            None
+        }
+    }
+
+    fn write_fields<W: Write>(self, alloc: Global, ser: &mut Serializer<W>) -> WriteResult<(), W> {
+        let (Field(name, value), others) = self;
+        let key = ser.serialize_str(name);
+        if key.is_err() {
+            return key;
+        }
+        let part = value.serialize(alloc, ser);
+        if part.is_err() {
+            return part;
+        }
+        others.write_fields(alloc, ser)
+    }
+}
+
+/// Whether a key comes before another: the shorter first, and keys of one length by their bytes.
+fn comes_before(key: &[u8], other: &[u8]) -> bool
+    ensures { result ≡ comes_before key.now other.now }
+{
+    match key.len().cmp(&other.len()) {
+        Ordering::Less => true,
+        Ordering::Equal => key.cmp(other).is_lt(),
+        Ordering::Greater => false,
+    }
+}
+
+/// Writes the fields behind the bytes, one after another. Refused with `Msg("Struct value cannot be
+/// serialized.")` where one has no spelling.
+fn gather_fields<F: FieldRow, E>(
+    alloc: Global,
+    bytes: &mut Vec<u8>,
+    fields: F,
+) -> Result<(), EncodeError<E>>
+    ensures { Collects (λ u. AppendsTo bytes.old.items bytes.new.items (spelled_pairs (F.pairs fields))
+        × ArePairs (F.pairs fields))
+        (λ m. spelled_pairs (F.pairs fields) ≡ None) result }
+{
+    if take_first_room(bytes).is_err() {
+        return Err(EncodeError::OutOfMemory);
+    }
+    let mut ser = Serializer::new(BufWriter::new(mem::replace(bytes, Vec::new(alloc))));
+    let result = fields.write_fields(alloc, &mut ser);
+    *bytes = ser.into_inner().into_inner();
+    let Err(error) = result else {
+        return Ok(());
+    };
+    match error {
+        EncodeError::Msg(_) => Err(EncodeError::custom(BAD_VALUE)),
+        EncodeError::OutOfMemory => Err(EncodeError::OutOfMemory),
+        EncodeError::Write(never) => match never {},
+    }
+}
+
+/// Writes a struct of these fields, whose names rise.
+fn write_rising<F: FieldRow, W: Write>(
+    alloc: Global,
+    fields: F,
+    count: usize,
+    ser: &mut Serializer<W>,
+) -> WriteResult<(), W>
+    requires count { count ≡ length (F.pairs fields) }
+    requires rising { KeysRise [] (F.pairs fields) }
+    ensures written { Writes (spelled_tree (entries_tree (F.pairs fields)))
+        (W.written ser.old) (W.written ser.new) result }
+    ensures well_formed { OnOk result (IfSome (entries_tree (F.pairs fields)) IsTree) }
+    ensures unsent { IfErr result (OnMessage (λ m. ser.new ≡ ser.old)) }
+{
+    let mut bytes = Vec::new(alloc);
+    gather_fields(alloc, &mut bytes, fields)?;
+    let head = ser.push_head(5, count);
+    if head.is_err() {
+        return head;
+    }
+    ser.push(bytes.as_slice())
+}
+
+/// Writes a struct of these fields, whatever the order of their names.
+fn write_any<F: FieldRow, W: Write>(
+    alloc: Global,
+    fields: F,
+    ser: &mut Serializer<W>,
+) -> WriteResult<(), W>
+    ensures written { Writes (spelled_tree (entries_tree (F.pairs fields)))
+        (W.written ser.old) (W.written ser.new) result }
+    ensures well_formed { OnOk result (IfSome (entries_tree (F.pairs fields)) IsTree) }
+    ensures unsent { IfErr result (OnMessage (λ m. ser.new ≡ ser.old)) }
+{
+    let mut map = ser.serialize_map(alloc, None);
+    fields.push_fields(&mut map)?;
+    map.end()
 }
 
 /// Writes a struct of these fields, as a map, in key order. Nothing goes out before each field has
-/// been spelled in memory.
+/// been spelled in memory. Where the row is in key order already, nothing is sorted.
 ///
 /// ```rust
 /// let fields = (Field("year", &self.year), (Field("text", &self.text), ()));
@@ -71,9 +204,10 @@ pub fn write_struct<F: FieldRow, W: Write>(
     ensures well_formed { OnOk result (IfSome (entries_tree (F.pairs fields)) IsTree) }
     ensures unsent { IfErr result (OnMessage (λ m. ser.new ≡ ser.old)) }
 {
-    let mut map = ser.serialize_map(alloc, None);
-    fields.push_fields(&mut map)?;
-    map.end()
+    match fields.count_rising("", 0) {
+        Some(count) => write_rising(alloc, fields, count, ser),
+        None => write_any(alloc, fields, ser),
+    }
 }
 
 /// Writes a variant with these fields: a map of one entry, from the variant's name to the map of

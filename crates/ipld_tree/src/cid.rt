@@ -192,7 +192,7 @@ fn read_version_1(fields: &[u8]) -> Result<Cid, CidError>
 }
 
 /// The varint at the front, and the bytes behind it.
-fn split_varint(bytes: &[u8]) -> Result<(u64, &[u8]), CidError>
+pub fn split_varint(bytes: &[u8]) -> Result<(u64, &[u8]), CidError>
     ensures { MatchResult result
         (λ p. (p.0 < 2 ^ 64) × (bytes.now ≡ varint p.0 ++ p.1.now))
         (λ error. IsVarintFault error bytes.now) }

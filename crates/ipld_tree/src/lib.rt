@@ -19,7 +19,7 @@ pub mod laws;
 mod links;
 
 pub use bytes::{ByteSlice, Bytes};
-pub use cid::Cid;
+pub use cid::{Cid, split_varint};
 pub use cid_error::CidError;
 pub use cid_iter::CidIter;
 pub use codec::Codec;

@@ -1,12 +1,13 @@
 -- DAG-CBOR as a codec.
-use Rattle.std.proofs.Common.{◌⊎◌, inl, inr, ℕ, List}
+use Rattle.std.proofs.Common.{◌≡◌, ◌⊎◌, inl, inr, ℕ, List, sym, subst}
 use Rattle.std.specs.Prelude.{Option, None, Some, IfSome}
 use Rattle.dagcbor_heads.specs.declared.error.DecodeError.{DecodeError}
+use Rattle.dagcbor_heads.specs.declared.error.DecodeError.TheVariants.{Read, RequireBorrowed, OutOfMemory, Failed}
 use Rattle.ipld_tree.specs.Codecs.{AreRead}
 use Rattle.ipld_tree.specs.Tree.{Tree}
 use Rattle.ipld_tree.specs.Spelling.{IsSpelling}
-use Rattle.dagcbor_read.specs.Whole.{HoldsNoValue, IsReadExcuse}
-use Rattle.serde_ipld_dagcbor.specs.Codec.{IsReadAs}
+use Rattle.dagcbor_read.specs.Whole.{HoldsNoValue, IsReadExcuse, OfWhole}
+use Rattle.serde_ipld_dagcbor.specs.Codec.{IsReadAs, AreAlike}
 use Rattle.dagcbor_read.specs.Shapes.{Shape}
 use Rattle.dagcbor_heads.specs.Reading.{default_steps}
 
@@ -19,3 +20,16 @@ module _ {V : Type 0} (shape : Shape Tree V) where
   pub not_decoded : {E : Type 0} (left : Option (List ℕ)) (e : DecodeError E) → IsReadExcuse e ⊎ IfSome left (HoldsNoValue shape default_steps)
       → IsReadExcuse e ⊎ IfSome left (λ b. (v : V) → ¬ AreRead IsSpelling (IsReadAs shape) b v)
   not_decoded left e r = elim r [ inl k ↦ inl k | inr k ↦ inr (unread left k) ]
+
+  -- a slice is refused for want of memory, or holds no value
+  pub slice_not_decoded : {E F : Type 0} (b : List ℕ) (e : DecodeError E) (f : DecodeError F) → AreAlike e f → IsReadExcuse e ⊎ HoldsNoValue shape default_steps b → OfWhole e
+      → ((f ≡ OutOfMemory) ⊎ HoldsNoValue shape default_steps b) × OfWhole f
+  slice_not_decoded b (Read x) f h r w = absurd h
+  slice_not_decoded b OutOfMemory f h r w = (inl h, subst OfWhole (sym h) tt)
+  slice_not_decoded b (RequireBorrowed name) f h r w = absurd w
+  slice_not_decoded b Failed f h r w = absurd w
+  slice_not_decoded b _ f h r w = (inr (elim r [ inl k ↦ absurd k | inr k ↦ k ]), subst OfWhole (sym h) tt)
+
+  -- which is an excuse, or the slice is read as no value
+  pub slice_excused : {F : Type 0} (b : List ℕ) (f : DecodeError F) → (f ≡ OutOfMemory) ⊎ HoldsNoValue shape default_steps b → IsReadExcuse f ⊎ ((v : V) → ¬ AreRead IsSpelling (IsReadAs shape) b v)
+  slice_excused b f r = elim r [ inl k ↦ inl (subst IsReadExcuse (sym k) tt) | inr k ↦ inr (unread (Some b) k) ]

@@ -2,6 +2,8 @@
 use Rattle.std.proofs.Common.{sym, ◌∙◌, ap}
 use Rattle.std.specs.Prelude.{◌≡◌, ◌⊎◌, ℕ, ◌≤◌, List, [], Option, Some, IfSome, IfErr, Result, Vec}
 use Rattle.std.specs.declared.alloc.Global.{Global}
+use Rattle.dagcbor_heads.specs.declared.error.DecodeError.{DecodeError}
+use Rattle.dagcbor_heads.specs.declared.error.DecodeError.TheVariants as unread
 use Rattle.dagcbor_heads.specs.declared.error.EncodeError.TheVariants as unwritten
 use Rattle.ipld_tree.specs.Codecs.{EncodingsAreUnique, DataHasOneEncoding, BytesHaveOneList}
 use Rattle.ipld_tree.specs.Tree.{Tree, links_of}
@@ -42,6 +44,38 @@ NotDecoded shape left _ = ⊥
 abbrev pub DecodeRefused : {T V : Type 0} → Shape Tree V → Option (List ℕ) → Result T CodecError
     → Type 0
 DecodeRefused shape left result = IfErr result (NotDecoded shape left)
+
+-- the same refusal, of no source's fault
+abbrev pub AreAlike : {E F : Type 0} → DecodeError E → DecodeError F → Type 0
+AreAlike (unread.Msg name) f = f ≡ unread.Msg name
+AreAlike (unread.Read e) f = ⊥
+AreAlike (unread.Eof name expect) f = f ≡ unread.Eof name expect
+AreAlike (unread.Mismatch name found) f = f ≡ unread.Mismatch name found
+AreAlike (unread.Unsupported name found) f = f ≡ unread.Unsupported name found
+AreAlike (unread.RequireLength name found) f = f ≡ unread.RequireLength name found
+AreAlike (unread.RequireBorrowed name) f = f ≡ unread.RequireBorrowed name
+AreAlike (unread.RequireUtf8 name) f = f ≡ unread.RequireUtf8 name
+AreAlike (unread.LengthOverflow name found) f = f ≡ unread.LengthOverflow name found
+AreAlike (unread.CastOverflow name) f = f ≡ unread.CastOverflow name
+AreAlike (unread.ArithmeticOverflow name ty) f = f ≡ unread.ArithmeticOverflow name ty
+AreAlike (unread.DepthOverflow name) f = f ≡ unread.DepthOverflow name
+AreAlike (unread.LengthMismatch name expect value) f = f ≡ unread.LengthMismatch name expect value
+AreAlike unread.TrailingData f = f ≡ unread.TrailingData
+AreAlike unread.IndefiniteSize f = f ≡ unread.IndefiniteSize
+AreAlike (unread.NonMinimal name found) f = f ≡ unread.NonMinimal name found
+AreAlike unread.UnorderedKey f = f ≡ unread.UnorderedKey
+AreAlike unread.OutOfMemory f = f ≡ unread.OutOfMemory
+AreAlike unread.Failed f = f ≡ unread.Failed
+
+-- why a slice's bytes are not read: for want of memory, or they hold no value
+abbrev pub NotDecodedFromSlice : {V : Type 0} → Shape Tree V → List ℕ → CodecError → Type 0
+NotDecodedFromSlice shape b (DecodeIo e) = ((e ≡ unread.OutOfMemory) ⊎ HoldsNoValue shape default_steps b)
+    × OfWhole e
+NotDecodedFromSlice shape b _ = ⊥
+
+abbrev pub DecodeFromSliceRefused : {T V : Type 0} → Shape Tree V → List ℕ → Result T CodecError
+    → Type 0
+DecodeFromSliceRefused shape b result = IfErr result (NotDecodedFromSlice shape b)
 
 -- why a value is not sent to a device, and what went out
 abbrev pub NotEncoded : Option Tree → Option (List ℕ) → Option (List ℕ) → CodecError → Type 0

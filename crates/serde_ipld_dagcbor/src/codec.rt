@@ -7,17 +7,58 @@ ghost use Rattle.ipld_tree.specs.Spelling.{IsSpelling};
 ghost use Rattle.dagcbor_items.specs.Slices.{AreFirstLinks};
 ghost use Rattle.serde_ipld_dagcbor.specs.Codec.{IsReadAs, IsExcuse, DecodeRefused, EncodeRefused};
 ghost use Rattle.serde_ipld_dagcbor.specs.Codec.{EncodeToVecRefused, LinksNotFound};
+ghost use Rattle.serde_ipld_dagcbor.specs.Codec.{DecodeFromSliceRefused, AreAlike};
 ghost use Rattle.serde_ipld_dagcbor.specs.Codec.{spellings_are_unique, trees_have_one_spelling};
 ghost use Rattle.serde_ipld_dagcbor.specs.Codec.{bytes_have_one_list};
 
 use crate::DAG_CBOR_CODE;
 use crate::error::CodecError;
+use dagcbor_heads::DecodeError;
 use dagcbor_items::links_from_slice;
-use dagcbor_read::{DeserializeOwned, from_reader};
+use dagcbor_read::{DeserializeOwned, from_reader, from_slice_owned};
 use dagcbor_write::{Serialize, to_vec, to_writer};
 use ipld_tree::{CidIter, Codec, Links};
 use std::alloc::Global;
+use std::convert::Infallible;
+use std::io;
 use std::io::{BufRead, Write};
+
+/// The refusal of a slice, as that of a source.
+fn of_no_device(error: DecodeError<Infallible>) -> DecodeError<io::Error>
+    ensures { AreAlike error result }
+{
+    match error {
+        DecodeError::Msg(name) => DecodeError::Msg(name),
+        DecodeError::Read(never) => match never {},
+        DecodeError::Eof { name, expect } => DecodeError::Eof { name, expect },
+        DecodeError::Mismatch { name, found } => DecodeError::Mismatch { name, found },
+        DecodeError::Unsupported { name, found } => DecodeError::Unsupported { name, found },
+        DecodeError::RequireLength { name, found } => DecodeError::RequireLength { name, found },
+        DecodeError::RequireBorrowed { name } => DecodeError::RequireBorrowed { name },
+        DecodeError::RequireUtf8 { name } => DecodeError::RequireUtf8 { name },
+        DecodeError::LengthOverflow { name, found } => DecodeError::LengthOverflow { name, found },
+        DecodeError::CastOverflow { name } => DecodeError::CastOverflow { name },
+        DecodeError::ArithmeticOverflow { name, ty } => {
+            DecodeError::ArithmeticOverflow { name, ty }
+        }
+        DecodeError::DepthOverflow { name } => DecodeError::DepthOverflow { name },
+        DecodeError::LengthMismatch {
+            name,
+            expect,
+            value,
+        } => DecodeError::LengthMismatch {
+            name,
+            expect,
+            value,
+        },
+        DecodeError::TrailingData => DecodeError::TrailingData,
+        DecodeError::IndefiniteSize => DecodeError::IndefiniteSize,
+        DecodeError::NonMinimal { name, found } => DecodeError::NonMinimal { name, found },
+        DecodeError::UnorderedKey => DecodeError::UnorderedKey,
+        DecodeError::OutOfMemory => DecodeError::OutOfMemory,
+        DecodeError::Failed => DecodeError::Failed,
+    }
+}
 
 /// DAG-CBOR, as `Codec` and `Links` speak of formats.
 #[derive(Clone, Copy, Debug, PartialEq, Eq)]
@@ -60,9 +101,12 @@ impl<'de, T: DeserializeOwned<'de> + Serialize> Codec<'de, T> for DagCborCodec {
 
     fn decode_from_slice(alloc: Global, bytes: &[u8]) -> Result<T, CodecError>
         ensures answers { Decodes IsSpelling (IsReadAs T.shape) T.meaning IsExcuse (Some bytes.now) result }
-        ensures exact { DecodeRefused T.shape (Some bytes.now) result }
+        ensures exact { DecodeFromSliceRefused T.shape bytes.now result }
     {
-        <DagCborCodec as Codec<'de, T>>::decode(alloc, bytes)
+        match from_slice_owned(alloc, bytes) {
+            Ok(back) => Ok(back),
+            Err(error) => Err(CodecError::DecodeIo(of_no_device(error))),
+        }
     }
 
     fn encode<W: Write>(alloc: Global, writer: &mut W, value: &T) -> Result<(), CodecError>

@@ -1,7 +1,7 @@
 //! Types that hold one other.
 
 ghost use Rattle.std.specs.Prelude.{Option, option_map, box_value};
-ghost use Rattle.dagcbor_items.specs.Shapes.{option_of};
+ghost use Rattle.dagcbor_items.specs.Shapes.{option_of, boxed_of};
 
 use crate::deserialize::{Deserialize, DeserializeOwned};
 use crate::deserializer::Deserializer;
@@ -32,7 +32,7 @@ impl<T: Shown> Shown for Box<T> {
 
     ghost meaning = { λ b. T.meaning (box_value b) };
 
-    ghost shape = { T.shape };
+    ghost shape = { boxed_of T.shape };
 }
 
 impl<'de, T: Deserialize<'de>> Deserialize<'de> for Box<T> {

@@ -2,7 +2,7 @@
 
 ghost use Rattle.std.specs.Prelude.{refl, ℕ, List, Bool, false, string_bytes};
 ghost use Rattle.dagcbor_items.specs.Shapes.{view_null, view_bool, view_char, view_text};
-ghost use Rattle.dagcbor_items.specs.Shapes.{view_bytes, leaf};
+ghost use Rattle.dagcbor_items.specs.Shapes.{view_bytes, leaf, owned_leaf, cow_leaf};
 
 use crate::deserialize::{Deserialize, DeserializeOwned};
 use crate::deserializer::Deserializer;
@@ -52,7 +52,7 @@ impl Shown for char {
 
     ghost meaning = { λ c. c };
 
-    ghost shape = { leaf view_char };
+    ghost shape = { cow_leaf view_char };
 }
 
 impl<'de> Deserialize<'de> for char {
@@ -70,7 +70,7 @@ impl Shown for String {
 
     ghost meaning = { string_bytes };
 
-    ghost shape = { leaf view_text };
+    ghost shape = { owned_leaf view_text };
 }
 
 impl<'de> Deserialize<'de> for String {
@@ -88,7 +88,7 @@ impl Shown for Bytes {
 
     ghost meaning = { λ b. b.0.items };
 
-    ghost shape = { leaf view_bytes };
+    ghost shape = { owned_leaf view_bytes };
 }
 
 impl<'de> Deserialize<'de> for Bytes {

@@ -1,8 +1,8 @@
 //! Types that are lent by the input.
 
-ghost use Rattle.std.specs.Prelude.{ℕ, List, false, true};
-ghost use Rattle.std.specs.Cow.{cow_str_bytes};
-ghost use Rattle.dagcbor_items.specs.Shapes.{view_text, view_bytes, leaf, lent_leaf};
+ghost use Rattle.std.specs.Prelude.{◌≡◌, ◌↔◌, ℕ, List, false, true};
+ghost use Rattle.std.specs.Cow.{cow_str_bytes, IsBorrowedStr};
+ghost use Rattle.dagcbor_items.specs.Shapes.{view_text, view_bytes, cow_leaf, lent_leaf};
 
 use crate::deserialize::Deserialize;
 use crate::deserializer::Deserializer;
@@ -56,10 +56,12 @@ impl Shown for CowStr<'_> {
 
     ghost meaning = { cow_str_bytes };
 
-    ghost shape = { leaf view_text };
+    ghost shape = { cow_leaf view_text };
 }
 
 impl<'de> Deserialize<'de> for CowStr<'de> {
+    ghost lies = { λ lends s. IsBorrowedStr s ↔ (lends ≡ true) };
+
     fn deserialize<R: Read>(alloc: Global, de: &mut Deserializer<'de, R>) -> ReadResult<Self, R> {
         de.deserialize_str(alloc)
     }

@@ -11,10 +11,10 @@ use std::marker::Model;
 use std::mem;
 
 /// The room that bytes take at first, so that a short value does not make them grow step by step.
-pub(crate) const FIRST_ROOM: usize = 64;
+pub(crate) const FIRST_ROOM: usize = 128;
 
 /// Takes the first room of bytes that have none.
-fn take_first_room(bytes: &mut Vec<u8>) -> Result<(), AllocError>
+pub(crate) fn take_first_room(bytes: &mut Vec<u8>) -> Result<(), AllocError>
     ensures { bytes.new.items ≡ bytes.old.items }
 {
     if bytes.capacity() == 0 {

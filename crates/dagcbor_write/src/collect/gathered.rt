@@ -21,7 +21,7 @@ const BAD_KEY: &str = "Map key cannot be serialized.";
 const NO_TEXT: &str = "Map keys must be strings";
 
 /// What a value without a spelling is refused with.
-const BAD_VALUE: &str = "Struct value cannot be serialized.";
+pub(crate) const BAD_VALUE: &str = "Struct value cannot be serialized.";
 
 /// Where an entry stands: its key from `start` to `key_end`, its value from there to `end`.
 #[derive(Drop)]

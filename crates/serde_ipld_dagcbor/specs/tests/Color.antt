@@ -3,7 +3,7 @@ use Rattle.std.specs.Prelude.{ℕ, ◌^◌, List, Option, Some, None, option_map
 use Rattle.std.specs.Prelude.{false}
 use Rattle.std.specs.Str.{bytes_eq}
 use Rattle.ipld_tree.specs.Tree.{Tree}
-use Rattle.dagcbor_read.specs.Shapes.{view_unsigned, Shape, leaf}
+use Rattle.dagcbor_read.specs.Shapes.{view_unsigned, Shape, leaf, takes_none}
 use Rattle.dagcbor_read.specs.Collections.{list_of, no_more, first_then}
 use Rattle.dagcbor_read.specs.EnumViews.{EnumShape, enum_of}
 
@@ -35,7 +35,7 @@ abbrev pub need_part_color : List ℕ → Tree → ℕ
 need_part_color name t = if bytes_eq name (codes "Alpha") then two_numbers.need t else 0
 
 abbrev pub color_variants : EnumShape ColorView
-color_variants = record { unit = unit_color; part = part_color; need = need_part_color; borrows = false }
+color_variants = record { unit = unit_color; part = part_color; need = need_part_color; wants_loan = false; memory = takes_none }
 
 abbrev pub color_shape : Shape Tree ColorView
 color_shape = enum_of color_variants

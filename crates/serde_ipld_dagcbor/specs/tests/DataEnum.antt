@@ -3,7 +3,7 @@ use Rattle.std.specs.Prelude.{ℕ, ◌^◌, Bool, List, Option, None, option_map
 use Rattle.std.specs.Prelude.{false}
 use Rattle.std.specs.Str.{bytes_eq}
 use Rattle.ipld_tree.specs.Tree.{Tree}
-use Rattle.dagcbor_read.specs.Shapes.{view_unsigned, view_bool, view_text, Shape, leaf}
+use Rattle.dagcbor_read.specs.Shapes.{view_unsigned, view_bool, view_text, Shape, leaf, owned_leaf, takes_some}
 use Rattle.dagcbor_read.specs.Collections.{list_of, no_more, first_then}
 use Rattle.dagcbor_read.specs.Structs.{required_field, no_fields, struct_shape}
 use Rattle.dagcbor_read.specs.EnumViews.{EnumShape, enum_of}
@@ -16,7 +16,7 @@ pub data DataView : Type 0 where
 -- the fields of C
 abbrev pub c_shape : Shape Tree (ℕ × (List ℕ × Unit {0}))
 c_shape = struct_shape (required_field (codes "x") (leaf (view_unsigned (2 ^ 8)))
-    (required_field (codes "y") (leaf view_text) no_fields))
+    (required_field (codes "y") (owned_leaf view_text) no_fields))
 
 -- a truth value and a number in a list
 abbrev pub b_shape : Shape Tree (Bool × (ℕ × Unit {0}))
@@ -40,7 +40,7 @@ need_part_data name t =
     else 0
 
 abbrev pub data_variants : EnumShape DataView
-data_variants = record { unit = unit_data; part = part_data; need = need_part_data; borrows = false }
+data_variants = record { unit = unit_data; part = part_data; need = need_part_data; wants_loan = false; memory = takes_some }
 
 abbrev pub data_shape : Shape Tree DataView
 data_shape = enum_of data_variants

@@ -1,7 +1,7 @@
 -- What a tree shows to an enum of a byte string and a link, without a name.
 use Rattle.std.specs.Prelude.{ℕ, List, Option, Some, None, false}
 use Rattle.ipld_tree.specs.Tree.{Tree, bytes, link, any_need}
-use Rattle.dagcbor_read.specs.Shapes.{Shape}
+use Rattle.dagcbor_read.specs.Shapes.{Shape, takes_some}
 
 pub data KindedView : Type 0 where
   is_bytes : List ℕ → KindedView
@@ -13,4 +13,4 @@ view_kinded (link cid) = Some (is_link cid)
 view_kinded _ = None
 
 abbrev pub kinded_shape : Shape Tree KindedView
-kinded_shape = record { view = view_kinded; need = any_need; borrows = false }
+kinded_shape = record { view = view_kinded; need = any_need; wants_loan = false; memory = takes_some }

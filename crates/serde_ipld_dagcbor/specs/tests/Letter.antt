@@ -2,7 +2,7 @@
 use Rattle.std.specs.Prelude.{ℕ, List, Option, Some, None, if◌then◌else◌, codes, false}
 use Rattle.std.specs.Str.{bytes_eq}
 use Rattle.ipld_tree.specs.Tree.{Tree}
-use Rattle.dagcbor_read.specs.Shapes.{Shape}
+use Rattle.dagcbor_read.specs.Shapes.{Shape, takes_none}
 use Rattle.dagcbor_read.specs.EnumViews.{EnumShape, enum_of}
 
 pub data Letter : Type 0 where
@@ -19,7 +19,7 @@ abbrev pub need_part_letter : List ℕ → Tree → ℕ
 need_part_letter name t = 0
 
 abbrev pub letter_variants : EnumShape Letter
-letter_variants = record { unit = unit_letter; part = part_letter; need = need_part_letter; borrows = false }
+letter_variants = record { unit = unit_letter; part = part_letter; need = need_part_letter; wants_loan = false; memory = takes_none }
 
 abbrev pub letter_shape : Shape Tree Letter
 letter_shape = enum_of letter_variants

@@ -1,7 +1,7 @@
 -- What a tree shows to a struct of texts and a number.
 use Rattle.std.specs.Prelude.{ℕ, ◌^◌, List, codes}
 use Rattle.ipld_tree.specs.Tree.{Tree}
-use Rattle.dagcbor_read.specs.Shapes.{view_text, view_unsigned, leaf, Shape}
+use Rattle.dagcbor_read.specs.Shapes.{view_text, view_unsigned, leaf, owned_leaf, Shape}
 use Rattle.dagcbor_read.specs.Structs.{required_field, no_fields, struct_shape}
 
 -- the name, the species, and the year of birth
@@ -9,6 +9,6 @@ abbrev pub MascotView : Type 0
 MascotView = List ℕ × (List ℕ × (ℕ × Unit {0}))
 
 abbrev pub mascot_shape : Shape Tree MascotView
-mascot_shape = struct_shape (required_field (codes "name") (leaf view_text)
-    (required_field (codes "species") (leaf view_text)
+mascot_shape = struct_shape (required_field (codes "name") (owned_leaf view_text)
+    (required_field (codes "species") (owned_leaf view_text)
     (required_field (codes "year_of_birth") (leaf (view_unsigned (2 ^ 32))) no_fields)))

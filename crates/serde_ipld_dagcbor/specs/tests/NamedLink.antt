@@ -2,7 +2,7 @@
 use Rattle.std.specs.Prelude.{ℕ, List, Option, None, option_map, if◌then◌else◌, codes, false}
 use Rattle.std.specs.Str.{bytes_eq}
 use Rattle.ipld_tree.specs.Tree.{Tree}
-use Rattle.dagcbor_read.specs.Shapes.{view_link, Shape}
+use Rattle.dagcbor_read.specs.Shapes.{view_link, Shape, takes_none}
 use Rattle.dagcbor_read.specs.EnumViews.{EnumShape, enum_of}
 
 abbrev pub unit_link : List ℕ → Option (List ℕ)
@@ -15,7 +15,7 @@ abbrev pub need_part_link : List ℕ → Tree → ℕ
 need_part_link name t = 0
 
 abbrev pub named_link_variants : EnumShape (List ℕ)
-named_link_variants = record { unit = unit_link; part = part_link; need = need_part_link; borrows = false }
+named_link_variants = record { unit = unit_link; part = part_link; need = need_part_link; wants_loan = false; memory = takes_none }
 
 abbrev pub named_link_shape : Shape Tree (List ℕ)
 named_link_shape = enum_of named_link_variants

@@ -1,7 +1,7 @@
 -- What a tree shows to a note.
 use Rattle.std.specs.Prelude.{ℕ, ◌^◌, List, codes}
 use Rattle.ipld_tree.specs.Tree.{Tree}
-use Rattle.dagcbor_read.specs.Shapes.{view_text, view_unsigned, leaf, Shape}
+use Rattle.dagcbor_read.specs.Shapes.{view_text, view_unsigned, leaf, owned_leaf, Shape}
 use Rattle.dagcbor_read.specs.Structs.{required_field, no_fields, struct_shape}
 
 -- the year and the text
@@ -10,4 +10,4 @@ NoteView = ℕ × (List ℕ × Unit {0})
 
 abbrev pub note_shape : Shape Tree NoteView
 note_shape = struct_shape (required_field (codes "year") (leaf (view_unsigned (2 ^ 16)))
-    (required_field (codes "text") (leaf view_text) no_fields))
+    (required_field (codes "text") (owned_leaf view_text) no_fields))

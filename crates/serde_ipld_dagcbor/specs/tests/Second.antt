@@ -26,7 +26,7 @@ abbrev pub need_part_second : List ℕ → Tree → ℕ
 need_part_second name t = fields_shape.need t
 
 abbrev pub second_variants : EnumShape SecondView
-second_variants = record { unit = unit_second; part = part_second; need = need_part_second; borrows = false }
+second_variants = record { unit = unit_second; part = part_second; need = need_part_second; wants_loan = false; memory = fields_shape.memory }
 
 abbrev pub second_shape : Shape Tree SecondView
 second_shape = enum_of second_variants

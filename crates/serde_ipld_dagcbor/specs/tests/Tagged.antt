@@ -1,14 +1,14 @@
 -- What a tree shows to an enum whose variant is named by a field.
 use Rattle.std.specs.Prelude.{ℕ, List, Option, Some, None, if◌then◌else◌, codes}
 use Rattle.ipld_tree.specs.Tree.{Tree}
-use Rattle.dagcbor_read.specs.Shapes.{view_link, view_text, leaf, Shape}
+use Rattle.dagcbor_read.specs.Shapes.{view_link, view_text, leaf, owned_leaf, Shape}
 use Rattle.dagcbor_read.specs.Structs.{required_field, no_fields, struct_shape}
 use Rattle.std.specs.Str.{bytes_eq}
 use Rattle.dagcbor_read.specs.Collections.{finishing}
 
 -- the tag and the link
 abbrev pub tagged_fields : Shape Tree (List ℕ × (List ℕ × Unit {0}))
-tagged_fields = struct_shape (required_field (codes "type") (leaf view_text)
+tagged_fields = struct_shape (required_field (codes "type") (owned_leaf view_text)
     (required_field (codes "cid") (leaf view_link) no_fields))
 
 -- the variant is the one that is known

@@ -7,6 +7,7 @@ pub(crate) mod depth;
 mod heads;
 pub(crate) mod hostile;
 mod leaves;
+pub(crate) mod lent;
 pub(crate) mod links;
 pub(crate) mod maps;
 pub(crate) mod minimal;

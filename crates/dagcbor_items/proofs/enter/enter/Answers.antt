@@ -15,7 +15,7 @@ returns-in_err-count-clause-count g c =
     as_refusal _ _ _ _ c.from_residual-in_err-count.ensures.1 (stepped_refused _ 1 _ c.in_ok-spend_step.ensures (λ x. x) (head_refused ⊥ 1 _ _ _ c.in_err-count.ensures.taken))
 
 pub returns-clause-count : goal.returns-clause-count
-returns-clause-count g c = enters_parts c.in_ok-spend_step.ensures c.in_ok-count.ensures.taken
+returns-clause-count g c = enters_parts c.in_ok-spend_step.ensures c.in_ok-count.ensures.taken.2
 
 pub returns-in_err-spend_step-clause-looked : goal.returns-in_err-spend_step-clause-looked
 returns-in_err-spend_step-clause-looked g c = as_refusal _ _ _ _ c.from_residual.ensures.1 (parts_unread c.requires (ap (λ (r : Reading). r.looked) c.in_err-spend_step.ensures.same))
@@ -25,4 +25,4 @@ returns-in_err-count-clause-looked g c =
     as_refusal _ _ _ _ c.from_residual-in_err-count.ensures.1 (parts_left c.requires (stepped_left _ c.in_ok-spend_step.ensures.is c.in_err-count.ensures.looked))
 
 pub returns-clause-looked : goal.returns-clause-looked
-returns-clause-looked g c = looks_stepped _ c.in_ok-spend_step.ensures.is (head_taken c.in_ok-count.ensures.looked c.in_ok-count.ensures.taken) refl
+returns-clause-looked g c = looks_stepped _ c.in_ok-spend_step.ensures.is (head_taken c.in_ok-count.ensures.looked c.in_ok-count.ensures.taken.2) refl

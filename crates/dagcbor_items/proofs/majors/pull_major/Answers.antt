@@ -13,7 +13,7 @@ returns-in_err-argument-clause-kind g c =
     (kind_head_refused _ c.args.low c.args.high _ _ c.requires first.0 first.1 c.in_err-argument.ensures.named first.2 c.in_err-argument.ensures.taken)
 
 pub returns-clause-kind : goal.returns-clause-kind
-returns-clause-kind g c = let first = c.in_ok-first.ensures.kind in kind_taken first.2 first.0 first.1 c.in_ok-argument.ensures.taken
+returns-clause-kind g c = let first = c.in_ok-first.ensures.kind in kind_taken first.2 first.0 first.1 c.in_ok-argument.ensures.taken.2
 
 pub returns-clause-looked : goal.returns-clause-looked
-returns-clause-looked g c = peeked_taken c.in_ok-first.ensures.looked c.in_ok-first.ensures.kind.2 (head_taken c.in_ok-argument.ensures.looked c.in_ok-argument.ensures.taken)
+returns-clause-looked g c = peeked_taken c.in_ok-first.ensures.looked c.in_ok-first.ensures.kind.2 (head_taken c.in_ok-argument.ensures.looked c.in_ok-argument.ensures.taken.2)

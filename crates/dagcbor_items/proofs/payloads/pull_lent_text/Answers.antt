@@ -1,18 +1,17 @@
-use Rattle.std.proofs.Common.{sym, ◌∙◌}
-use Rattle.std.specs.Prelude.{◌≡◌, false}
-use Rattle.dagcbor_heads.proofs.Refusing.{as_refusal}
-use Rattle.dagcbor_items.specs.LeafCauses.{TextCause}
-use Rattle.dagcbor_items.proofs.StringReads.{text_string_refused, string_kind_refused, peeked_read}
-use Rattle.dagcbor_items.proofs.Looks.{peeked_value}
+use Rattle.std.proofs.Common.{sym, subst}
+use Rattle.std.specs.Prelude.{IsUtf8}
+use Rattle.std.specs.declared.convert.Infallible.{Infallible}
+use Rattle.dagcbor_items.proofs.StringReads.{text_string_taken, no_text_refused}
 use Rattle.dagcbor_items.proofs.payloads.pull_lent_text.Goals as goal
 
-pub returns-in_err-peek_major-clause-text : goal.returns-in_err-peek_major-clause-text
-returns-in_err-peek_major-clause-text c = as_refusal _ _ _ _ c.from_residual.ensures.1 (text_string_refused _ _ _ _ _ (string_kind_refused _ _ _ _ _ _ c.in_err-peek_major.ensures.kind))
+pub returns-in-Some-as_text-clause-text : goal.returns-in-Some-as_text-clause-text
+returns-in-Some-as_text-clause-text c =
+    let string = c.in-Some.ensures.taken in
+    let text = c.in-Some-as_text.ensures in
+    text_string_taken _ _ text.0 (subst IsUtf8 (sym text.0) text.1) record { fits = string.1; takes = string.2 }
 
-pub returns-clause-text : goal.returns-clause-text
-returns-clause-text c = peeked_read _ _ (λ r. r.lends ≡ false) (TextCause c.args.name.now) _ _ c.in_ok-peek_major.ensures.kind.2 (λ same x. sym same.lends ∙ x) c.pull_peeked_lent_text.ensures.text
-
-pub returns-clause-looked : goal.returns-clause-looked
-returns-clause-looked c =
-    let peeked = c.in_ok-peek_major.ensures in
-    peeked_value 2 _ _ (λ r. r.lends ≡ false) (TextCause c.args.name.now) _ _ peeked.looked peeked.kind.2 c.pull_peeked_lent_text.ensures.text c.pull_peeked_lent_text.ensures.looked
+pub returns-in-None-clause-text : goal.returns-in-None-clause-text
+returns-in-None-clause-text c =
+    let string = c.in-Some.ensures.taken in
+    let told = c.no_text.ensures in
+    rw told.1 (no_text_refused Infallible _ _ told.0 told.2 record { fits = string.1; takes = string.2 } c.in-None.ensures)

@@ -5,11 +5,11 @@ use Rattle.dagcbor_items.proofs.Looks.{head_taken}
 use Rattle.dagcbor_items.proofs.Walking.{integer_taken}
 use Rattle.dagcbor_items.proofs.walk.skip_integer.Goals as goal
 
-pub returns-in_err-pull_head-clause-item : goal.returns-in_err-pull_head-clause-item
-returns-in_err-pull_head-clause-item g c = as_refusal _ _ _ _ c.from_residual.ensures.1 (head_refused ((g.R.Read.reading c.args.reader.now).lends ≡ false) 0 _ _ _ c.in_err-pull_head.ensures.taken)
+pub returns-in_err-pull_head_argument-clause-item : goal.returns-in_err-pull_head_argument-clause-item
+returns-in_err-pull_head_argument-clause-item g c = as_refusal _ _ _ _ c.from_residual.ensures.1 (head_refused ((g.R.Read.reading c.args.reader.now).lends ≡ false) 0 _ _ _ c.in_err-pull_head_argument.ensures.taken)
 
 pub returns-clause-item : goal.returns-clause-item
-returns-clause-item g c = integer_taken c.requires.starts c.requires.major c.in_ok-pull_head.ensures.taken
+returns-clause-item g c = integer_taken c.requires.starts c.requires.major c.in_ok-pull_head_argument.ensures.taken.2
 
 pub returns-clause-looked : goal.returns-clause-looked
-returns-clause-looked g c = head_taken c.in_ok-pull_head.ensures.looked c.in_ok-pull_head.ensures.taken
+returns-clause-looked g c = head_taken c.in_ok-pull_head_argument.ensures.looked c.in_ok-pull_head_argument.ensures.taken.2

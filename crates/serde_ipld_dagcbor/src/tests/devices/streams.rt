@@ -125,7 +125,7 @@ fn items_of<'a, T: Deserialize<'a>>(
     bytes: &'a [u8],
 ) -> Result<Vec<Result<T, DecodeError<Infallible>>>, AllocError>
     ensures { IfOk result (λ v. (items : List (Option T.View)) → AreStreamItems T.shape 256 bytes.now items
-        → AreUpTo T.meaning (MayBorrow T.shape.borrows true) true v.items items) }
+        → AreUpTo T.meaning (MayBorrow T.shape.wants_loan true) true v.items items) }
 {
     laws::streams_exact::<T, SliceReader>();
     Deserializer::from_slice(bytes)

@@ -6,19 +6,20 @@ use Rattle.dagcbor_read.specs.Structs.{texts}
 use Rattle.dagcbor_read.proofs.Progressing.{call_answered}
 use Rattle.dagcbor_read.proofs.Answered.{key_read, no_key, key_refused, after_some_key, after_no_key}
 use Rattle.dagcbor_read.proofs.EntryRows.{key_not_read, value_not_read, one_more_field, all_fields_read}
+use Rattle.dagcbor_read.proofs.Passing.{or_right}
 use Rattle.dagcbor_read.proofs.access.fields.read_entries_left.Goals as goal
 
 pub returns-in_err-key : goal.returns-in_err-key
 returns-in_err-key g c =
     let i = c.loop-entries.invariant in
     let k = key_refused g.row.R-Error.Denot _ _ _ (progress g.R.Read.reading c.next_key.new.de) _ i.sound c.in_err-key.ensures.key in
-    as_refusal _ _ _ _ c.from_residual.ensures.1 (key_not_read (g.F.Fields.shape (texts c.args.names.now)) ((g.F.Fields.shape (texts c.args.names.now)).borrows ≡ true) _ _ i k.0 k.1)
+    as_refusal _ _ _ _ c.from_residual.ensures.1 (key_not_read (g.F.Fields.shape (texts c.args.names.now)) ((g.F.Fields.shape (texts c.args.names.now)).wants_loan ≡ true) _ _ i k.0 k.1)
 
 pub returns-in_err-read_field : goal.returns-in_err-read_field
 returns-in_err-read_field g c =
     let i = c.loop-entries.invariant in
     let k = key_read g.row.R-Error.Denot _ _ (progress g.R.Read.reading c.loop-entries.de) (progress g.R.Read.reading c.next_key.new.de) _ _ c.in-Some.is c.in_ok-key.ensures.key in
-    as_refusal _ _ _ _ c.from_residual-in_err-read_field.ensures.1 (value_not_read (g.F.Fields.shape (texts c.args.names.now)) ((g.F.Fields.shape (texts c.args.names.now)).borrows ≡ true) _ _ _ _ c.as_str.ensures.value i k (c.in_err-read_field.ensures k.sound))
+    as_refusal _ _ _ _ c.from_residual-in_err-read_field.ensures.1 (value_not_read (g.F.Fields.shape (texts c.args.names.now)) ((g.F.Fields.shape (texts c.args.names.now)).memory (progress g.R.Read.reading c.next_key.new.de).input.lends ≡ true) ((g.F.Fields.shape (texts c.args.names.now)).wants_loan ≡ true) _ _ _ _ c.as_str.ensures.value i k (or_right _ _) (c.in_err-read_field.ensures k.sound))
 
 pub loop-entries-preserved-in_ok-read_field : goal.loop-entries-preserved-in_ok-read_field
 loop-entries-preserved-in_ok-read_field g c =

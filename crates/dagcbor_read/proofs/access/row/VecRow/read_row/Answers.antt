@@ -11,7 +11,7 @@ pub returns-in_err-item : goal.returns-in_err-item
 returns-in_err-item g c =
     let i = c.loop-all.invariant in
     let k = element_refused g.row.R-Error.Denot g.T.Shown.meaning g.T.Shown.shape _ _ (progress g.R.Read.reading c.next_element.new.de) _ i.sound c.in_err-item.ensures.element in
-    as_refusal _ _ _ _ c.from_residual.ensures.1 (item_refused g.T.Shown.shape (g.T.Shown.shape.borrows ≡ true) _ _ i k.0 k.1)
+    as_refusal _ _ _ _ c.from_residual.ensures.1 (item_refused g.T.Shown.shape (g.T.Shown.shape.wants_loan ≡ true) _ _ i k.0 k.1)
 
 pub loop-all-preserved : goal.loop-all-preserved
 loop-all-preserved g c =

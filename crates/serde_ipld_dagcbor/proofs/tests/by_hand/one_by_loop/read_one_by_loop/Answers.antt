@@ -18,7 +18,7 @@ pub returns-in_err-next_value-in-a : goal.returns-in_err-next_value-in-a
 returns-in_err-next_value-in-a g c =
     let at = at_value _ _ _ _ _ _ _ _ c.loop-entries.invariant c.in-Some.is c.in_ok-key.ensures.key c.in_ok-key.ensures.after in
     handed_on _ _ _ _ _ _ _ _ c.from_residual-in_err-next_value-in-a.ensures.1
-    (λ _. map_value_refused _ _ _ _ _ _ _ (codes "a") (λ a. (Some a, tt)) _ _ _ at (sym c.as_str.ensures.value ∙ c.in-a.is) (λ t. refl) (λ t. refl) (λ l. l) c.in_err-next_value-in-a.ensures.value)
+    (λ _. map_value_refused _ _ _ _ _ _ _ (codes "a") (λ a. (Some a, tt)) _ _ _ at (sym c.as_str.ensures.value ∙ c.in-a.is) (λ t. refl) (λ t. refl) (λ l. l) (λ lends x. absurd (cc x)) c.in_err-next_value-in-a.ensures.value)
 
 pub returns-in_err-next_value-in_default-as_str : goal.returns-in_err-next_value-in_default-as_str
 returns-in_err-next_value-in_default-as_str g c =

@@ -2,7 +2,7 @@ use Rattle.std.proofs.Common.{rules, ap, codes, ◌≡◌}
 use Rattle.dagcbor_write.proofs.Fields.{exit_pairs, given_row, end_map, all_given, still_unsent}
 use Rattle.dagcbor_write.specs.Lending.{map_lent}
 use Rattle.dagcbor_write.specs.Maps.{RepeatsKey}
-use Rattle.dagcbor_write.proofs.structs.write_struct.Goals as goal
+use Rattle.dagcbor_write.proofs.structs.write_any.Goals as goal
 
 pub returns-in_err-push_fields-clause-written : goal.returns-in_err-push_fields-clause-written
 returns-in_err-push_fields-clause-written g c =

@@ -1,0 +1,7 @@
+pub mod Cars
+pub mod Fronts
+pub mod Counts
+pub mod Headers
+pub mod Members
+pub mod Checking
+pub mod Files

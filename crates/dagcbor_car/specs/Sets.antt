@@ -1,0 +1,40 @@
+-- Sets of CIDs.
+use Rattle.std.specs.Prelude.{◌≡◌, ◌↔◌, ◌⊎◌, ℕ, List, [], ◌∷◌, Result, OnOk}
+use Rattle.ipld_tree.specs.Cid.{CidParts, AreCidParts}
+use Rattle.ipld_tree.specs.Tree.{Tree, links_of}
+use Rattle.dagcbor_items.specs.Slices.{IsBlock}
+use Rattle.dagcbor_items.specs.Walks.{forms, Finds}
+use Rattle.dagcbor_car.specs.declared.cid_set.CidSet.{CidSet}
+
+-- x is one of the list
+abbrev pub Among : {X : Type 0} → X → List X → Type 0
+Among x [] = ⊥
+Among x (y ∷ ys) = (x ≡ y) ⊎ Among x ys
+
+-- the CIDs of a set
+abbrev pub members : CidSet → List CidParts
+members s = s.cids.keys
+
+-- the members are the old ones and this CID
+abbrev pub AddsCid : CidParts → CidSet → CidSet → Type 0
+AddsCid c old new = AreCidParts c
+    × ((q : CidParts) → Among q (members new) ↔ (Among q (members old) ⊎ (q ≡ c)))
+
+-- the members are the old ones without those of the other set
+abbrev pub TakesAway : CidSet → CidSet → CidSet → Type 0
+TakesAway old others new = (q : CidParts)
+    → Among q (members new) ↔ (Among q (members old) × ¬ Among q (members others))
+
+-- the members are CIDs
+abbrev pub AreCids : CidSet → Type 0
+AreCids s = (q : CidParts) → Among q (members s) → AreCidParts q
+
+-- the members are CIDs, and their binary forms are the links
+abbrev pub HoldsLinks : CidSet → List (List ℕ) → Type 0
+HoldsLinks s links = AreCids s
+    × ((form : List ℕ) → Among form (forms (members s)) ↔ Among form links)
+
+-- The links of a block joined those before.
+abbrev pub AddsLinks : {E : Type 0} → List ℕ → CidSet → Result (Unit {0}) E → CidSet → Type 0
+AddsLinks b old result new = OnOk result
+    ((t : Tree) × IsBlock b t × Finds HoldsLinks old (links_of t) new)

@@ -1,0 +1,97 @@
+-- What stands at the front of the bytes of a file, and why it does not.
+use Rattle.std.specs.Prelude.{◌≡◌, ◌≢◌, ◌⊎◌, ℕ, ◌^◌, ◌<◌, List, ◌++◌, length, ⊤}
+use Rattle.std.specs.Prelude.{Result, MatchResult, Vec}
+use Rattle.std.specs.declared.alloc.Global.{Global}
+use Rattle.dagcbor_heads.specs.declared.error.DecodeError.TheVariants as unread
+use Rattle.ipld_tree.specs.Cid.{varint, CidParts, AreCidParts, cid_bytes}
+use Rattle.ipld_tree.specs.CidFault.{IsCutVarint, IsNoVarint, IsFault}
+use Rattle.ipld_tree.specs.declared.cid_error.CidError.{CidError}
+use Rattle.ipld_tree.specs.Tree.{Tree}
+use Rattle.ipld_tree.specs.Spelling.{IsSpelling}
+use Rattle.dagcbor_items.specs.Slices.{IsBlock, SliceRefused}
+use Rattle.dagcbor_items.specs.Walks.{forms}
+use Rattle.dagcbor_car.specs.Car.{counted, Section, section_bytes, IsSection}
+use Rattle.dagcbor_car.specs.Car.{header_tree, header_bytes, IsHeader}
+use Rattle.dagcbor_car.specs.declared.error.CarError.{CarError}
+use Rattle.dagcbor_car.specs.declared.error.CarError.TheVariants.{Truncated, InvalidLength}
+use Rattle.dagcbor_car.specs.declared.error.CarError.TheVariants.{InvalidCid, NoBlock, OtherHeader}
+use Rattle.dagcbor_car.specs.declared.error.CarError.TheVariants.{OutOfMemory}
+
+-- ---- what is counted
+
+-- the bytes begin with others behind their length, and the rest follows
+abbrev pub SplitsCounted : List ℕ → List ℕ → List ℕ → Type 0
+SplitsCounted b inner rest = (length inner < 2 ^ 64) × (b ≡ counted inner ++ rest)
+
+-- the bytes end inside a length, or before as many follow
+abbrev pub IsCut : List ℕ → Type 0
+IsCut b = IsCutVarint b
+    ⊎ ((n : ℕ) × (rest : List ℕ) × (n < 2 ^ 64) × (length rest < n) × (b ≡ varint n ++ rest))
+
+-- why no bytes stand behind their length
+abbrev pub CountFault : CarError → List ℕ → Type 0
+CountFault Truncated b = IsCut b
+CountFault InvalidLength b = IsNoVarint b
+CountFault _ b = ⊥
+
+-- ---- a CID
+
+-- the bytes begin with a CID, and the rest follows
+abbrev pub SplitsCid : List ℕ → CidParts → List ℕ → Type 0
+SplitsCid b c rest = AreCidParts c × (b ≡ cid_bytes c ++ rest)
+
+-- no CID stands first, and the fault is that of the bytes as a CID
+abbrev pub BeginsNoCid : CidError → List ℕ → Type 0
+BeginsNoCid e b = ((c : CidParts) (rest : List ℕ) → ¬ SplitsCid b c rest) × IsFault e b
+
+-- ---- a section
+
+-- the bytes begin with a section, and the rest follows
+abbrev pub SplitsSection : List ℕ → Section → List ℕ → Type 0
+SplitsSection b s rest = IsSection s × (b ≡ section_bytes s ++ rest)
+
+-- no section stands first
+abbrev pub BeginsNoSection : List ℕ → Type 0
+BeginsNoSection b = (s : Section) (rest : List ℕ) → ¬ SplitsSection b s rest
+
+-- why no section stands first
+abbrev pub SectionFault : CarError → List ℕ → Type 0
+SectionFault (InvalidCid e) b = (body rest : List ℕ) × SplitsCounted b body rest × IsFault e body
+SectionFault e b = CountFault e b
+
+-- ---- the header
+
+-- the bytes begin with the header of these roots, and the rest follows
+abbrev pub SplitsHeader : List ℕ → List (List ℕ) → List ℕ → Type 0
+SplitsHeader b roots rest = IsHeader roots × (b ≡ header_bytes roots ++ rest)
+
+-- no header stands first
+abbrev pub BeginsNoHeader : List ℕ → Type 0
+BeginsNoHeader b = (roots : List (List ℕ)) (rest : List ℕ) → ¬ SplitsHeader b roots rest
+
+-- the bytes are a block of DAG-CBOR
+abbrev pub HasBlock : List ℕ → Type 0
+HasBlock b = (t : Tree) × IsBlock b t
+
+-- why the bytes are no header, want of memory aside
+abbrev pub IsNoHeader : CarError → List ℕ → Type 0
+IsNoHeader (NoBlock e) b = SliceRefused e b × (e ≢ unread.OutOfMemory)
+IsNoHeader OtherHeader b = HasBlock b × ((roots : List (List ℕ)) → ¬ IsSpelling b (header_tree roots))
+IsNoHeader OutOfMemory b = ⊤
+IsNoHeader _ b = ⊥
+
+-- The bytes are read exactly where they are a header, want of memory aside.
+abbrev pub ReadsHeader : List ℕ → Result (Vec CidParts Global) CarError → Type 0
+ReadsHeader b result = MatchResult result (λ v. IsSpelling b (header_tree (forms v.items))) (λ e. IsNoHeader e b)
+
+-- why no header stands first
+abbrev pub HeaderFault : CarError → List ℕ → Type 0
+HeaderFault (NoBlock e) b = (inner rest : List ℕ) × SplitsCounted b inner rest × SliceRefused e inner
+    × (e ≢ unread.OutOfMemory)
+HeaderFault OtherHeader b = (inner rest : List ℕ) × SplitsCounted b inner rest × HasBlock inner
+HeaderFault e b = CountFault e b
+
+-- why a header is not read
+abbrev pub HeaderRefused : CarError → List ℕ → Type 0
+HeaderRefused OutOfMemory b = ⊤
+HeaderRefused e b = BeginsNoHeader b × HeaderFault e b

@@ -1,0 +1,29 @@
+//! Why bytes are no file of blocks.
+
+use dagcbor_heads::DecodeError;
+use ipld_tree::CidError;
+use std::convert::Infallible;
+use thiserror::Error;
+
+/// Why bytes are no file of blocks, at the first place where they are none.
+#[derive(Debug, Drop, Error)]
+pub enum CarError {
+    /// The bytes end inside a length, or before as many follow.
+    #[error("the file is cut short")]
+    Truncated,
+    /// A length is no varint in shortest form below 2^64.
+    #[error("a length is not in shortest form or too large")]
+    InvalidLength,
+    /// What is in a section begins with no CID.
+    #[error("no name stands before a block: {0}")]
+    InvalidCid(CidError),
+    /// What is in the header is no block of DAG-CBOR that is read within 256 steps.
+    #[error("the header is no block: {0}")]
+    NoBlock(DecodeError<Infallible>),
+    /// The header is a block that is not the map of roots, and of the version 1.
+    #[error("the header is not that of version 1")]
+    OtherHeader,
+    /// A growth was refused.
+    #[error("out of memory")]
+    OutOfMemory,
+}

@@ -1,0 +1,29 @@
+//! Reading one value that wants no loan from a slice.
+
+ghost use Rattle.std.specs.Prelude.{◌⊎◌, false, IfOk, IfErr};
+ghost use Rattle.dagcbor_heads.specs.Reading.{default_steps};
+ghost use Rattle.dagcbor_read.specs.Whole.{IsWhole, HoldsNoValue, IsReadExcuse, OfWhole};
+ghost use Rattle.dagcbor_read.specs.Whole.{IsForBehind, LacksMemoryIf};
+
+use crate::deserialize::DeserializeOwned;
+use crate::deserializer::Deserializer;
+use dagcbor_heads::{DecodeError, SliceReader};
+use std::alloc::Global;
+use std::convert::Infallible;
+
+/// What `from_slice` answers, from bytes that need not outlive the value.
+pub fn from_slice_owned<'de, T: DeserializeOwned<'de>>(
+    alloc: Global,
+    bytes: &[u8],
+) -> Result<T, DecodeError<Infallible>>
+    ensures value { IfOk result (λ v. IsWhole T.shape default_steps bytes.now (T.meaning v)) }
+    ensures refused { IfErr result (λ e. IsReadExcuse e ⊎ HoldsNoValue T.shape default_steps bytes.now) }
+    ensures behind { IfErr result (IsForBehind T.shape default_steps bytes.now) }
+    ensures never { IfErr result OfWhole }
+    ensures memory { IfErr result (LacksMemoryIf (T.shape.memory false)) }
+{
+    let mut de = Deserializer::from_reader(SliceReader::new(bytes));
+    let value = T::deserialize(alloc, &mut de)?;
+    de.end()?;
+    Ok(value)
+}

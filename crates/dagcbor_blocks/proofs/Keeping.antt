@@ -156,7 +156,7 @@ put_done law (Some t) v old new (Err OutOfMemory) a h = (h.0, tt)
 module _ {V : Type 0} (shape : Shape Tree V) where
   pub not_got : (name : CidParts) (blocks : Held) (b : List ℕ) (e : DecodeError Infallible) (told : BlockError) → IsHeld name b blocks → (IsReadExcuse e ⊎ HoldsNoValue shape default_steps b) × OfWhole e → TellsOfDecoding e told → GetRefused shape name blocks told
   not_got name blocks b (unread.Read e) told at r h = elim e [ ]
-  not_got name blocks b unread.OutOfMemory told at r h = subst (GetRefused shape name blocks) (sym h) tt
+  not_got name blocks b unread.OutOfMemory told at r h = subst (GetRefused shape name blocks) (sym h) (b, at)
   not_got name blocks b (unread.RequireBorrowed n) told at r h = absurd r.1
   not_got name blocks b unread.Failed told at r h = absurd r.1
   not_got name blocks b _ told at r h = elim r.0 [ inl k ↦ absurd k | inr k ↦ subst (GetRefused shape name blocks) (sym h) (tt, (b, at, k)) ]

@@ -128,7 +128,7 @@ GetRefused shape name blocks (Encode e) = ⊥
 GetRefused {V} shape name blocks (Decode e) = IsOfBytes e
     × ((b : List ℕ) × IsHeld name b blocks × ((v : V) → ¬ IsWhole shape default_steps b v))
 GetRefused shape name blocks Collision = ⊥
-GetRefused shape name blocks OutOfMemory = ⊤
+GetRefused shape name blocks OutOfMemory = (b : List ℕ) × IsHeld name b blocks
 
 abbrev pub GetsSome : {T V : Type 0} → (T → V) → Shape Tree V → CidParts → Held → Option T → Type 0
 GetsSome show shape name blocks None = block_at name blocks ≡ None

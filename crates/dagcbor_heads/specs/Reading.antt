@@ -75,9 +75,10 @@ pub record Shows (old : Reading) (want : ℕ) (new : Reading) : Type 0 where
   pub looked : new.looked ≡ old.looked + min want (length new.shown)
   pub same : Stays old new
 
--- the source faulted, and no byte was taken or looked at
+-- the source faulted, no byte was taken or looked at, and none counts as shown
 pub record Fails (old new : Reading) : Type 0 where
   pub kept : Keeps old new
+  pub none_shown : new.shown ≡ []
   pub looked : new.looked ≡ old.looked
   pub steps : new.steps ≡ old.steps
   pub budget : new.budget ≡ old.budget

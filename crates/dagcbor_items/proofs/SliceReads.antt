@@ -34,12 +34,12 @@ block_item r b t l s h = record { bytes = b; tree = t; rest = []; left = l; fron
 pub no_block : (b rest : List ℕ) (t : Tree) → IsFront b t rest → 0 < length rest → (u : Tree) → IsBlock b u → ⊥
 no_block b rest t f some u h = omega (arith, some, ap length (front_unique b rest [] t u f (whole_front h.0)).1)
 
-pub trailing : {old mid new : Reading} (b : List ℕ) (t : Tree) (byte : ℕ) → old.left ≡ Some b → TakesItem 0 old t mid → ShowsByte mid byte new → SliceRefused TrailingData b
-trailing b t byte l a h =
+pub trailing : {old mid new : Reading} (b : List ℕ) (t : Tree) (byte : ℕ) → old.left ≡ Some b → old.steps ≡ 256 → TakesItem 0 old t mid → ShowsByte mid byte new → SliceRefused TrailingData b
+trailing b t byte l steps a h =
     let k = a.taken b l in
     let s = h.starts k.0 k.3 in
     let some : 0 < length k.0 = omega (arith, ap length s.1) in
-    (no_block b k.0 t k.1 some, (t, k.0, k.1, some))
+    (no_block b k.0 t k.1 some, (t, k.0, k.1, omega (arith, k.2, steps), some))
 
 -- the cause of trailing data stands in no item
 no_trailing : (E : Type 0) (b : List ℕ) → CauseInside {E = E} 256 TrailingData b → ⊥
@@ -90,10 +90,10 @@ block_taken b start mid end t l s a f =
     (record { well_formed = k.1.well_formed; spellable = k.1.spellable; is = k.1.is ∙ ap (λ x. spelling t ++ x) none ∙ append-nil (spelling t) }, omega (arith, k.2, s))
 
 -- an item was read, and then no end was found
-pub end_refused : (b : List ℕ) (start mid end : Reading) (t : Tree) (e : DecodeError Infallible) → start.left ≡ Some b → TakesItem 0 start t mid → PullsEnd mid (Err e) end → SliceRefused e b × (e ≢ OutOfMemory)
-end_refused b start mid end t TrailingData l a h = (trailing b t h.0 l a h.1, λ same. absurd (cc same))
-end_refused b start mid end t (Read x) l a h = elim x [ ]
-end_refused b start mid end t _ l a h = absurd h
+pub end_refused : (b : List ℕ) (start mid end : Reading) (t : Tree) (e : DecodeError Infallible) → start.left ≡ Some b → start.steps ≡ 256 → TakesItem 0 start t mid → PullsEnd mid (Err e) end → SliceRefused e b × (e ≢ OutOfMemory)
+end_refused b start mid end t TrailingData l steps a h = (trailing b t h.0 l steps a h.1, λ same. absurd (cc same))
+end_refused b start mid end t (Read x) l steps a h = elim x [ ]
+end_refused b start mid end t _ l steps a h = absurd h
 
 -- an item whose rest has no byte is the whole
 pub judged_whole : (b rest : List ℕ) → length rest ≡ 0 → (k : SplitsItem b 256 rest) → IsBlock b k.0
@@ -106,7 +106,7 @@ judged_whole b rest none k = (record { well_formed = k.1.well_formed; spellable 
 -- an item with bytes behind it is not the whole
 pub judged_trailing : (b rest : List ℕ) → 0 < length rest → SplitsItem b 256 rest
     → SliceRefused TrailingData b × (◌≢◌ {A = DecodeError Infallible} TrailingData OutOfMemory)
-judged_trailing b rest some k = ((no_block b rest k.0 k.1 some, (k.0, rest, k.1, some)), λ same. absurd (cc same))
+judged_trailing b rest some k = ((no_block b rest k.0 k.1 some, (k.0, rest, k.1, k.2, some)), λ same. absurd (cc same))
 
 -- ---- its first item
 

@@ -28,7 +28,8 @@ IsBlock b t = IsSpelling b t × (any_need t ≤ default_steps)
 -- the cause of a refusal of the whole: an item stands there with bytes behind it, or the item's own
 -- cause stands
 abbrev pub CauseInWhole : {E : Type 0} → DecodeError E → List ℕ → Type 0
-CauseInWhole TrailingData b = (t : Tree) × (rest : List ℕ) × IsFront b t rest × (0 < length rest)
+CauseInWhole TrailingData b = (t : Tree) × (rest : List ℕ) × IsFront b t rest × (any_need t ≤ default_steps)
+    × (0 < length rest)
 CauseInWhole e b = CauseInside default_steps e b
 
 -- why a slice is refused: for want of memory, or since it is no block; a slice does not fault

@@ -5,6 +5,7 @@ ghost use Rattle.dagcbor_items.specs.Reads.{Reads};
 ghost use Rattle.dagcbor_items.specs.Shapes.{number_of, natural_below, within, view_number, leaf};
 ghost use Rattle.dagcbor_items.specs.LeafCauses.{MajorCause, LongCause};
 ghost use Rattle.dagcbor_items.specs.LeafReads.{ReadsUnsigned, ReadsSigned, ReadsU128, ReadsI128};
+ghost use Rattle.dagcbor_heads.specs.Looking.{Looks};
 ghost use Rattle.dagcbor_items.specs.Variants.{OfHead, OfNumber};
 
 use crate::majors::pull_major;
@@ -24,6 +25,7 @@ pub(crate) fn number_of(major: u8, argument: u64) -> i128
 /// A number of any size.
 fn pull_number<R: Read>(name: &str, reader: &mut R) -> ReadResult<i128, R>
     ensures number { Reads (λ n. n) (leaf (view_number Some)) ⊥ ⊥ (MajorCause name.now 0 1) (R.reading reader.old) result (R.reading reader.new) }
+    ensures looked { Looks 3 (R.reading reader.old) result (R.reading reader.new) }
     ensures variant { IfErr result OfHead }
 {
     let (major, argument) = pull_major(name, reader, 0, 1)?;
@@ -55,6 +57,7 @@ fn signed_of(number: i128, greatest: u64) -> Option<i128>
 pub fn pull_unsigned<R: Read>(name: &str, reader: &mut R, greatest: u64) -> ReadResult<u64, R>
     ensures number { ReadsUnsigned name.now (greatest + 1) (R.reading reader.old) result (R.reading reader.new) }
     ensures most { IfOk result (λ n. n ≤ greatest) }
+    ensures looked { Looks 3 (R.reading reader.old) result (R.reading reader.new) }
     ensures variant { IfErr result OfNumber }
 {
     let number = pull_number(name, reader)?;
@@ -70,6 +73,7 @@ pub fn pull_signed<R: Read>(name: &str, reader: &mut R, greatest: u64) -> ReadRe
     ensures number { ReadsSigned name.now (greatest + 1) (R.reading reader.old) result (R.reading reader.new) }
     ensures least { IfOk result (λ n. negsuc greatest ≤ℤ n) }
     ensures most { IfOk result (λ n. n ≤ℤ pos greatest) }
+    ensures looked { Looks 3 (R.reading reader.old) result (R.reading reader.new) }
     ensures variant { IfErr result OfNumber }
 {
     let number = pull_number(name, reader)?;
@@ -83,6 +87,7 @@ pub fn pull_signed<R: Read>(name: &str, reader: &mut R, greatest: u64) -> ReadRe
 #[tactic(auto, using(crate::proofs::Variants::end_kind))]
 fn pull_long<R: Read>(name: &str, reader: &mut R) -> ReadResult<i128, R>
     ensures number { Reads (λ n. n) (leaf (view_number Some)) ⊥ ⊥ (LongCause name.now) (R.reading reader.old) result (R.reading reader.new) }
+    ensures looked { Looks 4 (R.reading reader.old) result (R.reading reader.new) }
     ensures variant { IfErr result OfHead }
 {
     let first = peek_one(name, reader)?;
@@ -103,6 +108,7 @@ fn long_natural_of(number: i128) -> Option<u128>
 #[tactic(auto, using(crate::proofs::Variants::kind_number))]
 pub fn pull_u128<R: Read>(reader: &mut R) -> ReadResult<u128, R>
     ensures number { ReadsU128 (R.reading reader.old) result (R.reading reader.new) }
+    ensures looked { Looks 4 (R.reading reader.old) result (R.reading reader.new) }
     ensures variant { IfErr result OfNumber }
 {
     let number = pull_long("u128", reader)?;
@@ -115,6 +121,7 @@ pub fn pull_u128<R: Read>(reader: &mut R) -> ReadResult<u128, R>
 /// A number of any size that has a spelling.
 pub fn pull_i128<R: Read>(reader: &mut R) -> ReadResult<i128, R>
     ensures number { ReadsI128 (R.reading reader.old) result (R.reading reader.new) }
+    ensures looked { Looks 4 (R.reading reader.old) result (R.reading reader.new) }
     ensures variant { IfErr result OfHead }
 {
     let number = pull_long("i128", reader)?;

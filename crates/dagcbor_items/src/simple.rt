@@ -2,6 +2,7 @@
 
 ghost use Rattle.std.specs.Prelude.{IfErr};
 ghost use Rattle.dagcbor_items.specs.LeafReads.{ReadsNull, ReadsBool};
+ghost use Rattle.dagcbor_heads.specs.Looking.{Looks};
 ghost use Rattle.dagcbor_items.specs.Variants.{OfByte};
 
 use crate::link::pull_wanted;
@@ -10,6 +11,7 @@ use dagcbor_heads::{DecodeError, Read, ReadResult, pull_one};
 /// A null.
 pub fn pull_null<R: Read>(reader: &mut R) -> ReadResult<(), R>
     ensures null { ReadsNull (R.reading reader.old) result (R.reading reader.new) }
+    ensures looked { Looks 2 (R.reading reader.old) result (R.reading reader.new) }
     ensures variant { IfErr result OfByte }
 {
     pull_wanted("unit", "unit", reader, 0xf6)
@@ -19,6 +21,7 @@ pub fn pull_null<R: Read>(reader: &mut R) -> ReadResult<(), R>
 #[tactic(auto, using(crate::proofs::Variants::end_byte))]
 pub fn pull_bool<R: Read>(reader: &mut R) -> ReadResult<bool, R>
     ensures value { ReadsBool (R.reading reader.old) result (R.reading reader.new) }
+    ensures looked { Looks 2 (R.reading reader.old) result (R.reading reader.new) }
     ensures variant { IfErr result OfByte }
 {
     match pull_one("bool", reader)? {

@@ -235,6 +235,7 @@ fn only_char(text: &str) -> Option<char>
 #[tactic(auto, using(crate::proofs::Variants::text_char))]
 pub fn pull_char<R: Read>(alloc: Global, input: &mut Input<'_, R>) -> ReadResult<char, R>
     ensures character { OverInput R.reading ReadsChar input.old result input.new }
+    ensures looked { OverInput R.reading (Looks 3) input.old result input.new }
     ensures variant { IfErr result OfChar }
 {
     let text = pull_str(alloc, "string", input)?;

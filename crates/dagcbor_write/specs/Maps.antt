@@ -78,7 +78,7 @@ JoinsEntry key value old new = JoinsValue (spelled_key key) value old new × IfS
 
 -- a key and its value joined the others, or one of them was refused, and then the others stay
 pub record TakesEntry {T E : Type 0} (key value : Option Tree) (IsMessage : List ℕ → Type 0) (old new : MapState) (r : Result T (EncodeError E)) : Type 0 where
-  pub no_key : OnOk r (new.key ≡ None)
+  pub no_key : new.key ≡ None
   pub joins : Collects (λ u. JoinsEntry key value old.entries new.entries) IsMessage r
   pub kept : OnErr r (new.entries ≡ old.entries)
 

@@ -3,7 +3,7 @@
 ghost use Rattle.std.specs.Prelude.{◌≡◌, ◌+◌, ◌<◌, IfOk, OnOk, IfSome, IsOk};
 ghost use Rattle.std.specs.Borrow.{sem};
 ghost use Rattle.std.specs.Fmt.{◌++?◌};
-ghost use Rattle.dagcbor_heads.specs.Written.{Writes, WroteAll};
+ghost use Rattle.dagcbor_heads.specs.Written.{Writes, WroteAll, WantsMemoryOnlyIf};
 ghost use Rattle.ipld_tree.specs.Tree.{text, IsTree};
 ghost use Rattle.ipld_tree.specs.Spelled.{spelled_tree, spelled_head};
 ghost use Rattle.dagcbor_write.specs.Trees.{variant_head};
@@ -46,6 +46,7 @@ impl<W: Write> Serializer<W> {
         ensures head { IfOk result (λ c. WroteAll (spelled_head 4 len)
             (W.written self.old) (W.written (bounded_lent c).now)) }
         ensures left { IfOk result (λ c. bounded_left c ≡ len) }
+        ensures memory { WantsMemoryOnlyIf W.takes_memory result }
     {
         self.push_head(4, len)?;
         Ok(BoundedCollect {

@@ -4,7 +4,7 @@ ghost use Rattle.std.specs.Prelude.{◌≡◌, List, Option, Some, None, IfOk, I
 ghost use Rattle.std.specs.Prelude.{IfSome, IsSome, IsTrue, is_some, codes, length};
 ghost use Rattle.std.specs.Borrow.{sem};
 ghost use Rattle.std.specs.Fmt.{◌++?◌};
-ghost use Rattle.dagcbor_heads.specs.Written.{Writes, WroteAll};
+ghost use Rattle.dagcbor_heads.specs.Written.{Writes, WroteAll, WantsMemoryOnlyIf};
 ghost use Rattle.ipld_tree.specs.Tree.{text, IsTree, entries_tree};
 ghost use Rattle.ipld_tree.specs.Spelled.{spelled_head};
 ghost use Rattle.dagcbor_write.specs.Answers.{OnMessage};
@@ -117,6 +117,7 @@ impl<W: Write> Serializer<W> {
         ensures message { (given : List Pair) → AreSpellingsOf given state.entries
             → IfErr result (OnMessage (λ m. (m ≡ codes "Map keys must be unique")
             × RepeatsKey given × (self.new ≡ self.old))) }
+        ensures memory { WantsMemoryOnlyIf W.takes_memory result }
     {
         if state.put_in_order() {
             self.push_entries(&state)
@@ -127,8 +128,9 @@ impl<W: Write> Serializer<W> {
 
     /// Writes the head of a map, if it is not out yet.
     fn push_head_if_due(&mut self, announced: Option<usize>, count: usize) -> WriteResult<(), W>
-        ensures { Writes (head_rest announced count)
+        ensures written { Writes (head_rest announced count)
             (W.written self.old) (W.written self.new) result }
+        ensures memory { WantsMemoryOnlyIf W.takes_memory result }
     {
         match announced {
             Some(_) => Ok(()),
@@ -138,9 +140,10 @@ impl<W: Write> Serializer<W> {
 
     /// Writes the entries as they stand, behind the head if that is not out yet.
     fn push_entries(&mut self, state: &Gathered) -> WriteResult<(), W>
-        ensures { Writes (head_rest state.now.announced (length state.now.entries)
+        ensures written { Writes (head_rest state.now.announced (length state.now.entries)
             ++? Some (entries_bytes state.now.entries))
             (W.written self.old) (W.written self.new) result }
+        ensures memory { WantsMemoryOnlyIf W.takes_memory result }
     {
         self.push_head_if_due(state.announced(), state.len())?;
         for i in 0..state.len() {
@@ -173,6 +176,7 @@ impl<W: Write> CollectMap<'_, W> {
         ensures entries { (map_state self.new).entries ≡ (map_state self.old).entries }
         ensures key { Collects (λ u. HoldsKey (K.tree key.now) (map_state self.new).key)
             (RefusesKey (K.tree key.now)) result }
+        ensures no_key { OnErr result ((map_state self.new).key ≡ None) }
     {
         self.state.take_key(self.alloc, key)
     }
@@ -235,6 +239,7 @@ impl<W: Write> CollectMap<'_, W> {
         ensures message { (given : List Pair) → AreSpellingsOf given (map_state self.entry).entries
             → IfErr result (OnMessage (λ m. (m ≡ codes "Map keys must be unique")
             × RepeatsKey given × (self.exit.0.now ≡ (map_lent self.entry).now))) }
+        ensures memory { WantsMemoryOnlyIf W.takes_memory result }
     {
         let Self {
             ser,

@@ -131,6 +131,7 @@ impl Gathered {
         ensures announced { self.new.announced ≡ self.old.announced }
         ensures key { Collects (λ u. HoldsKey (K.tree key.now) self.new.key)
             (RefusesKey (K.tree key.now)) result }
+        ensures no_key { OnErr result (self.new.key ≡ None) }
     {
         let start = self.bytes.len();
         append(alloc, &mut self.bytes, key, BAD_KEY)?;

@@ -11,7 +11,7 @@ returns-in_err-value c =
 pub returns-in_err-pull_end : goal.returns-in_err-pull_end
 returns-in_err-pull_end c =
     let start = c.lent-input.ensures in
-    as_refusal _ _ _ _ c.from_residual-in_err-pull_end.ensures.1 (end_refused c.args.bytes.now _ _ _ _ _ (ap (λ r. r.left) start) c.in_ok-value.ensures.item c.in_err-pull_end.ensures).0
+    as_refusal _ _ _ _ c.from_residual-in_err-pull_end.ensures.1 (end_refused c.args.bytes.now _ _ _ _ _ (ap (λ r. r.left) start) (ap (λ r. r.steps) start) c.in_ok-value.ensures.item c.in_err-pull_end.ensures).0
 
 pub returns : goal.returns
 returns c =

@@ -10,7 +10,7 @@ returns-in_err-walk_any c =
 
 pub returns-in_err-pull_end : goal.returns-in_err-pull_end
 returns-in_err-pull_end c =
-    as_refusal _ _ _ _ c.from_residual-in_err-pull_end.ensures.1 (end_refused c.args.bytes.now c.new-reader.result _ _ _ _ (ap (λ r. r.left) c.new-reader.ensures) c.in_ok-walk_any.ensures.item.1 c.in_err-pull_end.ensures)
+    as_refusal _ _ _ _ c.from_residual-in_err-pull_end.ensures.1 (end_refused c.args.bytes.now c.new-reader.result _ _ _ _ (ap (λ r. r.left) c.new-reader.ensures) (ap (λ r. r.steps) c.new-reader.ensures) c.in_ok-walk_any.ensures.item.1 c.in_err-pull_end.ensures)
 
 pub returns : goal.returns
 returns c =

@@ -7,7 +7,7 @@ use Rattle.dagcbor_write.proofs.serializer.Serializer.push_map.Goals as goal
 
 pub returns-then-put_in_order-clause-written : goal.returns-then-put_in_order-clause-written
 returns-then-put_in_order-clause-written g c given h =
-    in_order_written given c.args.state.entries c.put_in_order.new.self.entries _ h c.put_in_order.ensures.order c.args.state.announced _ _ _ c.if-put_in_order.true (rw c.put_in_order.ensures.announced at c.push_entries.ensures)
+    in_order_written given c.args.state.entries c.put_in_order.new.self.entries _ h c.put_in_order.ensures.order c.args.state.announced _ _ _ c.if-put_in_order.true (rw c.put_in_order.ensures.announced at c.push_entries.ensures.written)
 
 pub returns-then-put_in_order-clause-well_formed : goal.returns-then-put_in_order-clause-well_formed
 returns-then-put_in_order-clause-well_formed g c given h =

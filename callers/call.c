@@ -55,6 +55,7 @@ static int is_right_tape(const uint8_t *bytes, size_t length, int check, const c
     /* Asked with room for one too few it tells how many there are, and puts none. */
     if (dagcbor_tape(bytes, length, tape, count ? count - 1 : 0, &needed) != check) return 0;
     if (needed != count || count > length || tape[0].kind != 0xeeeeeeeeeeeeeeee) return 0;
+    if (dagcbor_tape(bytes, length, dagcbor_tape_into(NULL, 0), 0, &needed) != check || needed != count) return 0;
     if (dagcbor_tape(bytes, length, tape, count, &needed) != check || needed != count) return 0;
     if (memcmp(tape, wanted, count * sizeof *tape) != 0 || tape[count].kind != 0xeeeeeeeeeeeeeeee) return 0;
     if (dagcbor_tape(bytes, length, tape, MOST, &needed) != check) return 0;
@@ -72,6 +73,8 @@ static int is_right(char *const field[6]) {
     /* Asked with one byte too few it tells how many are needed, and puts none. */
     if (dagcbor_links(bytes, length, out, packed ? packed - 1 : 0, &needed) != first) return 0;
     if (needed != packed || out[0] != 0xee) return 0;
+    /* The usual way to ask how many are needed. */
+    if (dagcbor_links(bytes, length, dagcbor_into(NULL, 0), 0, &needed) != first || needed != packed) return 0;
     if (dagcbor_links(bytes, length, out, sizeof out, &needed) != first || needed != packed) return 0;
     if (memcmp(out, links, packed) != 0 || out[packed] != 0xee) return 0;
     if (!is_right_tape(bytes, length, check, field[5])) return 0;

@@ -270,7 +270,7 @@ WITHOUT_MEMORY = {
     "pulls, source": "Ok(true)",
     "pulls, own reader": "Ok(true)",
     "lent": "(true, Ok(true), Ok(true), true)",
-    "skipped": "(true, true)",
+    "skipped": "(true, true, true)",
     "cids": "(true, 34)",
     # a boolean, ten numbers of one byte, a character, a text, a byte string, three nulls, a variant's name, a link
     "leaves and heads": f"Ok(({1 + 10 + 2 + 4 + 4 + 3 + 2 + 39}, true))",

@@ -1,12 +1,16 @@
 /* DAG-CBOR for C: whether bytes are a block, what it holds, how it is spelled, the links of an item, and a block's name.
 
+   A block is the one spelling of a DAG-CBOR item that reading takes at most 256 steps of depth: one for a leaf, and
+   two for each list or map around it. An item of more steps is refused here as too deep.
+
    The library takes no memory and keeps none: link with libdagcbor_ffi.a alone.
 
    What a caller owes, which nothing checks:
-   - `bytes` is not NULL, also where `length` is 0 (dagcbor_from); `length` bytes stand there, and nobody
-     writes them during the call; `length` is below 2^63.
-   - `out` likewise, for `room` bytes that nobody else reads or writes during the call, `tape` for `room`
-     tokens, and `needed` for one number; none of these overlaps another.
+   - `bytes` is not NULL, also where `length` is 0 (dagcbor_from makes such a pointer); `length` bytes stand
+     there, and nobody writes them during the call, no other thread either; `length` is below 2^63.
+   - `out` likewise, also where `room` is 0 (dagcbor_into), for `room` bytes that nobody else reads or writes
+     during the call; `tape` for `room` tokens (dagcbor_tape_into), aligned as a uint64_t, and fewer than 2^58 of
+     them; `needed` for one number. None of these overlaps another.
    - The thread has 128 KB of stack left; the CPU is an x86-64-v2.
    Calls on different threads need no lock: nothing is shared between them. */
 #ifndef DAGCBOR_H
@@ -54,11 +58,11 @@ enum dagcbor_refusal {
     DAGCBOR_MSG = -1,              /* a link holds no CID */
     DAGCBOR_EOF = -3,              /* the bytes end too early */
     DAGCBOR_MISMATCH = -4,         /* a key that is no text, or another tag than that of a link */
-    DAGCBOR_UNSUPPORTED = -5,      /* a float or another simple value, or a link without a byte string */
+    DAGCBOR_UNSUPPORTED = -5,      /* a float or another simple value, a link without a byte string, or a reserved width (information 28 to 30) */
     DAGCBOR_REQUIRE_UTF8 = -8,     /* a text that is not UTF-8 */
     DAGCBOR_DEPTH_OVERFLOW = -12,  /* too deep: a leaf takes one of 256 steps, and a list or a map two around what is in it */
     DAGCBOR_TRAILING_DATA = -14,   /* bytes behind the item; not of dagcbor_links */
-    DAGCBOR_INDEFINITE_SIZE = -15, /* an indefinite length, or a break */
+    DAGCBOR_INDEFINITE_SIZE = -15, /* an indefinite length, a break, or information 31 of any other first byte */
     DAGCBOR_NON_MINIMAL = -16,     /* a number or a length in more bytes than it needs */
     DAGCBOR_UNORDERED_KEY = -17,   /* a key that does not come behind the one before it */
     DAGCBOR_NO_TOKEN = -20,        /* of dagcbor_spell: a kind or a number that is none, or a payload outside the bytes */
@@ -90,9 +94,20 @@ int32_t dagcbor_links(const uint8_t *bytes, size_t length, uint8_t *out, size_t 
 /* The block's name: the CID of version 1, of the codec DAG-CBOR, by the SHA-256 of the bytes. Any bytes have one. */
 void dagcbor_name(const uint8_t *bytes, size_t length, uint8_t out[36]);
 
-/* A pointer that each call takes, also where there are no bytes and `bytes` is NULL. */
+/* Pointers that each call takes, also where there are no bytes, or there is no room, and the pointer is NULL. So
+   dagcbor_links(bytes, length, dagcbor_into(NULL, 0), 0, &needed) asks how long the links are. */
 static inline const uint8_t *dagcbor_from(const uint8_t *bytes, size_t length) {
     return length ? bytes : (const uint8_t *)"";
+}
+
+static inline uint8_t *dagcbor_into(uint8_t *out, size_t room) {
+    static uint8_t none[1];
+    return room ? out : none;
+}
+
+static inline dagcbor_token *dagcbor_tape_into(dagcbor_token *tape, size_t room) {
+    static dagcbor_token none[1];
+    return room ? tape : none;
 }
 
 #ifdef __cplusplus

@@ -115,6 +115,7 @@ class Sweep:
             self.short(command, "SHORT_READ", reads)
             self.short(command, "SHORT_WRITE", writes)
         usage = (2, b"", b"usage: dagcbor check|links\n")
-        words = ([], ["check", "check"], ["list"])
+        # The last two are no text.
+        words = ([], ["check", "check"], ["list"], ["--help"], [b"\xff"], [b"check\xff"])
         wrong = [(it, found) for it in words for found in [self.run(it)[0]] if found != usage]
         self.report("dagcbor, words that are no command", len(words), wrong)

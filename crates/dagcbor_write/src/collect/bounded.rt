@@ -69,6 +69,7 @@ impl<W: Write> Serializer<W> {
         ensures head { IfOk result (λ c. WroteAll (spelled_head 4 len)
             (W.written self.old) (W.written (bounded_lent c).now)) }
         ensures left { IfOk result (λ c. bounded_left c ≡ len) }
+        ensures memory { WantsMemoryOnlyIf W.takes_memory result }
     {
         self.serialize_tuple(alloc, len)
     }
@@ -90,6 +91,7 @@ impl<W: Write> Serializer<W> {
             (W.written self.old) (W.written (bounded_lent c).now)) }
         ensures left { IfOk result (λ c. bounded_left c ≡ len) }
         ensures good_name { OnOk result (IsTree (text variant.now)) }
+        ensures memory { WantsMemoryOnlyIf W.takes_memory result }
     {
         self.push_variant_of(variant, 4, len)?;
         Ok(BoundedCollect {

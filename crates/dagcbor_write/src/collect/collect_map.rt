@@ -72,6 +72,7 @@ impl<W: Write> Serializer<W> {
         ensures head { IfOk result (λ c. WroteAll (spelled_head 5 len)
             (W.written self.old) (W.written (map_lent c).now)) }
         ensures nothing { IfOk result (λ c. map_state c ≡ no_entry_yet (Some len)) }
+        ensures memory { WantsMemoryOnlyIf W.takes_memory result }
     {
         self.push_head(5, len)?;
         Ok(CollectMap {
@@ -98,6 +99,7 @@ impl<W: Write> Serializer<W> {
             (W.written self.old) (W.written (map_lent c).now)) }
         ensures nothing { IfOk result (λ c. map_state c ≡ no_entry_yet (Some len)) }
         ensures good_name { OnOk result (IsTree (text variant.now)) }
+        ensures memory { WantsMemoryOnlyIf W.takes_memory result }
     {
         self.push_variant_of(variant, 5, len)?;
         Ok(CollectMap {

@@ -1,6 +1,6 @@
 //! The collector of a list whose number of items may come last.
 
-ghost use Rattle.std.specs.Prelude.{◌≡◌, IfOk, IsOk, OnOk, IfSome, IsSome, Some};
+ghost use Rattle.std.specs.Prelude.{◌≡◌, IfOk, IsOk, OnOk, IfSome, IsSome, IsNone, IsOkAnd, Some};
 ghost use Rattle.std.specs.Borrow.{sem};
 ghost use Rattle.std.specs.Fmt.{◌++?◌};
 ghost use Rattle.dagcbor_heads.specs.Written.{Writes, WroteAll, WantsMemoryOnlyIf};
@@ -48,7 +48,7 @@ impl<W, I: Drop> Drop for CollectSeq<'_, W, I> {
 
 impl<W: Write> Serializer<W> {
     /// Begins a list. Where the number of its items is known, its head goes out at once. Else the
-    /// items wait in memory until the list ends.
+    /// items wait in memory until the list ends, and nothing can go wrong here.
     pub fn serialize_seq(
         &mut self,
         alloc: Global,
@@ -60,6 +60,8 @@ impl<W: Write> Serializer<W> {
         ensures head { IfOk result (λ c. WroteAll (announced_head len)
             (W.written self.old) (W.written (list_lent c).now)) }
         ensures fresh { IfOk result (λ c. IsFresh len (list_items c)) }
+        ensures memory { WantsMemoryOnlyIf W.takes_memory result }
+        ensures unannounced { IsNone len → IsOkAnd result (λ c. (list_lent c).now ≡ self.old) }
     {
         let items = self.begin_items(alloc, len)?;
         Ok(CollectSeq {
@@ -73,6 +75,8 @@ impl<W: Write> Serializer<W> {
         ensures head { Writes (announced_head len)
             (W.written self.old) (W.written self.new) result }
         ensures fresh { IfOk result (IsFresh len) }
+        ensures memory { WantsMemoryOnlyIf W.takes_memory result }
+        ensures unannounced { IsNone len → IsOk result × (self.new ≡ self.old) }
     {
         match len {
             Some(count) => {

@@ -1,7 +1,6 @@
 -- The pairs of a map, handed over one after another.
-use Rattle.std.proofs.Common.{◌≡◌, ◌⊎◌, inl, inr, ℕ, suc, List, [], ◌∷◌, ◌++◌, length, map, Option, None, Some, Bool, true, false, cond, Result, Ok, Err, refl, sym, ap, ap₂, ◌∙◌, subst, append_assoc}
-use Rattle.dagcbor_write.specs.Answers.{OnMessage}
-use Rattle.std.specs.Prelude.{Any, IfErr, IfSome, option_map, option_and_then}
+use Rattle.std.proofs.Common.{◌≡◌, ◌⊎◌, inl, inr, ℕ, zero, suc, List, [], ◌∷◌, ◌++◌, length, map, Option, None, Some, Bool, true, false, cond, Result, Ok, Err, refl, sym, ap, ◌∙◌, subst, append_assoc, append-nil}
+use Rattle.std.specs.Prelude.{Any, IfSome, MatchResult, option_map, option_and_then}
 use Rattle.std.proofs.Common.{◌<◌, ◌^◌, take, drop, get_or, arith}
 use Rattle.std.proofs.Math.Seq.{drop-cons}
 use Rattle.std.proofs.lemmas.List.{take-append-drop}
@@ -21,8 +20,7 @@ use Rattle.ipld_tree.proofs.Spelled.{spelled_is}
 use Rattle.ipld_tree.proofs.WellFormed.{entry_count_ordered}
 use Rattle.dagcbor_write.specs.Trees.{Pair}
 use Rattle.dagcbor_write.specs.Gathering.{Refused, Collects}
-use Rattle.dagcbor_write.specs.Rows.{spelled_pairs}
-use Rattle.dagcbor_write.specs.Maps.{Texts, spelled_key, IsSpellingOf, AreSpellingsOf, Joins, JoinsEntry, RefusesEntry, RefusesValue, entries_text, map_rest, JoinsPairs, RefusesAnyValue, ShowsPairs}
+use Rattle.dagcbor_write.specs.Maps.{Texts, spelled_key, IsSpellingOf, AreSpellingsOf, Joins, JoinsEntry, RefusesEntry, RefusesValue, entries_text, map_rest, JoinsPairs, StopsAtPair, LacksValue, RefusesAnyValue, ShowsPairs}
 use Rattle.dagcbor_write.proofs.Keys.{key_none}
 use Rattle.dagcbor_write.proofs.Mapping.{pairwise_push}
 
@@ -226,15 +224,54 @@ exit_field {T} {E} {W} {h} {start} {s} n whole begun out k d below t r e refused
 any_later : {A : Type 0} {P : A → Type 0} (x : A) (xs : List A) → Any P xs → Any P (x ∷ xs)
 any_later x xs h = (suc h.0, h.1, omega (arith, h.2), h.3, h.4)
 
--- a pair was taken, and then the others were taken or refused
-pub pair_and_others : {T E : Type 0} (p : Pair) (ps : List Pair) (old middle new : List Texts) (r : Result T (EncodeError E)) → JoinsEntry p.0 p.1 old middle
-    → Collects (λ u. JoinsPairs ps middle new) (RefusesAnyValue ps) r → Collects (λ u. JoinsPairs (p ∷ ps) old new) (RefusesAnyValue (p ∷ ps)) r
-pair_and_others p ps old middle new (Ok x) j h =
+pub first_lacks : (p : Pair) (ps : List Pair) → spelled_tree p.1 ≡ None → LacksValue (p ∷ ps)
+first_lacks p ps h = (0, p, omega arith, refl, h)
+
+pub other_lacks : (p : Pair) (ps : List Pair) → LacksValue ps → LacksValue (p ∷ ps)
+other_lacks p ps h = any_later p ps h
+
+some_lacks : (taken left : List Pair) (p : Pair) → spelled_tree p.1 ≡ None → LacksValue (taken ++ p ∷ left)
+some_lacks [] left p h = first_lacks p left h
+some_lacks (q ∷ taken) left p h = other_lacks q (taken ++ p ∷ left) (some_lacks taken left p h)
+
+joins_first : (p : Pair) (ps : List Pair) (old middle new : List Texts) → JoinsEntry p.0 p.1 old middle → JoinsPairs ps middle new → JoinsPairs (p ∷ ps) old new
+joins_first p ps old middle new j h =
     let e = joined_spelling p _ _ old middle refl refl j.0.0 j.1 j.0.1 in
     (e.0 ∷ h.0, (e.1, h.1), h.2 ∙ ap (λ xs. xs ++ h.0) e.2 ∙ append_assoc old (e.0 ∷ []) h.0)
-pair_and_others p ps old middle new (Err (Msg m)) j h = any_later p ps h
-pair_and_others p ps old middle new (Err (Write e)) j h = h
-pair_and_others p ps old middle new (Err OutOfMemory) j h = h
+
+-- a pair was taken, and then the others were taken, or one of them refused
+pub pair_and_others : {T E : Type 0} (p : Pair) (ps : List Pair) (old middle new : List Texts) (r : Result T (EncodeError E)) → JoinsEntry p.0 p.1 old middle
+    → MatchResult r (λ _. JoinsPairs ps middle new) (StopsAtPair ps middle new) → MatchResult r (λ _. JoinsPairs (p ∷ ps) old new) (StopsAtPair (p ∷ ps) old new)
+pair_and_others p ps old middle new (Ok x) j h = joins_first p ps old middle new j h
+pair_and_others p ps old middle new (Err e) j h =
+    record { taken = p ∷ h.taken; refused = h.refused; left = h.left; split = ap (λ qs. p ∷ qs) h.split; joined = joins_first p h.taken old middle new j h.joined; cause = h.cause }
+
+-- the exit of a `?` at the first pair, which was refused
+pub first_refused : {T E : Type 0} (p : Pair) (ps : List Pair) (old new : List Texts) (r : Result T (EncodeError E)) (e : EncodeError E) → Refused (RefusesValue p.1) e → new ≡ old → IsErrAnd r (λ d. d ≡ e)
+    → MatchResult r (λ _. JoinsPairs (p ∷ ps) old new) (StopsAtPair (p ∷ ps) old new)
+first_refused p ps old new (Ok x) e h same is = absurd is
+first_refused {T} {E} p ps old new (Err d) e h same is =
+    let P : EncodeError E → Type 0 = λ y. StopsAtPair (p ∷ ps) old new y in
+    subst P (sym is) record { taken = []; refused = p; left = ps; split = refl; joined = ([], tt, same ∙ sym (append-nil old)); cause = h }
+
+-- why a row was refused, whichever pair it was
+pub row_cause : {E : Type 0} (ps : List Pair) (old new : List Texts) (e : EncodeError E) → StopsAtPair ps old new e → Refused (RefusesAnyValue ps) e
+row_cause {E} ps old new e h = by e h.cause
+  where
+    by : (e : EncodeError E) → Refused (RefusesValue h.refused.1) e → Refused (RefusesAnyValue ps) e
+    by (Msg m) c = let P : List Pair → Type 0 = λ qs. LacksValue qs in (c.0, subst P (sym h.split) (some_lacks h.taken h.left h.refused c.1))
+    by (Write x) c = c
+    by OutOfMemory c = tt
+
+-- no value of the pairs is without a spelling
+pub none_lacks : (ps : List Pair) (es : List Texts) → AreSpellingsOf ps es → LacksValue ps → ⊥
+none_lacks ps es h l = by ps es l.0 h l.2 l.3 l.4
+  where
+    by : (ps : List Pair) (es : List Texts) (k : ℕ) → AreSpellingsOf ps es → k < length ps → get_or ps k l.1 ≡ l.1 → spelled_tree l.1.1 ≡ None → ⊥
+    by [] es k h below at n = omega (arith, below)
+    by (p ∷ ps) [] k h below at n = h
+    by (p ∷ ps) (e ∷ es) zero h below at n = let differ : Some e.1 ≡ None = sym h.0.value ∙ ap (λ q. spelled_tree q.1) at ∙ n in absurd (cc differ)
+    by (p ∷ ps) (e ∷ es) (suc k) h below at n = by ps es k h.1 (omega (arith, below)) at n
 
 -- all were taken, one after another
 pub given_row : (whole : List Pair) (old new : List Texts) → old ≡ [] → JoinsPairs whole old new → Given-but whole [] new
@@ -243,32 +280,6 @@ given_row whole old new e h =
     record { done = whole; split = sym (end_of whole); spells = subst P (sym (h.2 ∙ ap (λ xs. xs ++ h.0) e)) h.1 }
 
 -- the exit of a `?` at a row of pairs
-pub exit_pairs : {T E : Type 0} (whole : List Pair) (s t : Written) (r : Result T (EncodeError E)) (e : EncodeError E) → Refused (RefusesAnyValue whole) e → IsErrAnd r (λ d. d ≡ e) → s ≡ t → Writes (spelled_tree (entries_tree whole)) s t r
-exit_pairs whole s t r e refused is same =
-    exit_unsent (map_rest None whole) s t (RefusesAnyValue whole) r e (λ m h. ap (map_rest None) (nth_split whole h.0 h.1 h.2) ∙ no_text None (take h.0 whole) (drop (suc h.0) whole) (get_or whole h.0 h.1) (inr (ap (λ p. spelled_tree p.1) h.3 ∙ h.4.1))) refused is same
-
--- ---- a row whose keys rise
-
-later_None : (x y : List ℕ) (o : Option (List ℕ)) → Some x ++? (Some y ++? o) ≡ None → o ≡ None
-later_None x y None e = refl
-later_None x y (Some z) e = cc
-
-row_None : (whole done ps : List Pair) → whole ≡ done ++ ps → spelled_pairs ps ≡ None → spelled_tree (entries_tree whole) ≡ None
-row_None whole done [] is e = cc
-row_None whole done (p ∷ ps) is e = by (spelled_key p.0) (spelled_tree p.1) refl refl (row_None whole (done ++ p ∷ []) ps (is ∙ sym (append_assoc done (p ∷ []) ps)))
-  where
-    by : (a b : Option (List ℕ)) → spelled_key p.0 ≡ a → spelled_tree p.1 ≡ b → (spelled_pairs ps ≡ None → spelled_tree (entries_tree whole) ≡ None) → spelled_tree (entries_tree whole) ≡ None
-    by None b f g more = ap (map_rest None) is ∙ no_text None done ps p (inl f)
-    by (Some x) None f g more = ap (map_rest None) is ∙ no_text None done ps p (inr g)
-    by (Some x) (Some y) f g more = more (later_None x y (spelled_pairs ps) (sym (ap₂ (λ a b. a ++? (b ++? spelled_pairs ps)) f g) ∙ e))
-
--- the exit of a `?` at a row that is written in one piece
-pub exit_row : {T E : Type 0} (whole : List Pair) (s t : Written) (r : Result T (EncodeError E)) (e : EncodeError E) → Refused (λ m. spelled_pairs whole ≡ None) e → IsErrAnd r (λ d. d ≡ e) → s ≡ t → Writes (spelled_tree (entries_tree whole)) s t r
-exit_row whole s t r e refused is same = exit_unsent (spelled_tree (entries_tree whole)) s t (λ m. spelled_pairs whole ≡ None) r e (λ m h. row_None whole [] whole refl h) refused is same
-
--- where a message leaves its writer as it was, so does a call around it
-pub still_unsent : {T E Writer : Type 0} {s t u v : Writer} (IsText : List ℕ → Type 0) (Cause : Type 0) (r : Result T (EncodeError E)) → IfErr r (OnMessage (λ m. IsText m × Cause × (u ≡ v))) → s ≡ u → v ≡ t → IfErr r (OnMessage (λ m. s ≡ t))
-still_unsent IsText Cause (Ok x) h earlier later = tt
-still_unsent IsText Cause (Err (Msg m)) h earlier later = earlier ∙ h.2 ∙ later
-still_unsent IsText Cause (Err (Write e)) h earlier later = h
-still_unsent IsText Cause (Err OutOfMemory) h earlier later = h
+pub exit_row : {T E : Type 0} (whole : List Pair) (s t : Written) (r : Result T (EncodeError E)) (e : EncodeError E) → Refused (RefusesAnyValue whole) e → IsErrAnd r (λ d. d ≡ e) → s ≡ t → Writes (spelled_tree (entries_tree whole)) s t r
+exit_row whole s t r e refused is same =
+    exit_unsent (map_rest None whole) s t (RefusesAnyValue whole) r e (λ m h. let l = h.1 in ap (map_rest None) (nth_split whole l.0 l.1 l.2) ∙ no_text None (take l.0 whole) (drop (suc l.0) whole) (get_or whole l.0 l.1) (inr (ap (λ p. spelled_tree p.1) l.3 ∙ l.4))) refused is same

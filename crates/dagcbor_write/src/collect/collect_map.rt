@@ -1,7 +1,7 @@
 //! The collector of a map.
 
 ghost use Rattle.std.specs.Prelude.{◌≡◌, List, Option, Some, None, IfOk, IfErr, OnErr, OnOk};
-ghost use Rattle.std.specs.Prelude.{IfSome, IsSome, IsTrue, is_some, codes, length};
+ghost use Rattle.std.specs.Prelude.{IfSome, IsSome, IsTrue, is_some, length};
 ghost use Rattle.std.specs.Borrow.{sem};
 ghost use Rattle.std.specs.Fmt.{◌++?◌};
 ghost use Rattle.dagcbor_heads.specs.Written.{Writes, WroteAll, WantsMemoryOnlyIf};
@@ -12,7 +12,7 @@ ghost use Rattle.dagcbor_write.specs.Gathering.{Collects};
 ghost use Rattle.dagcbor_write.specs.Trees.{Pair, variant_head};
 ghost use Rattle.dagcbor_write.specs.Maps.{no_entry_yet, is_complete, HoldsKey, JoinsValue};
 ghost use Rattle.dagcbor_write.specs.Maps.{TakesEntry, RefusesKey, RefusesValue, RefusesEntry};
-ghost use Rattle.dagcbor_write.specs.Maps.{AreSpellingsOf, RepeatsKey, map_rest};
+ghost use Rattle.dagcbor_write.specs.Maps.{AreSpellingsOf, RefusesKeys, map_rest};
 ghost use Rattle.dagcbor_write.specs.Order.{head_rest, entries_bytes};
 ghost use Rattle.dagcbor_write.specs.Lending.{map_lent, map_state, SameLoan, WritesNothing};
 ghost use Rattle.dagcbor_write.specs.Lending.{BeginsOrStops};
@@ -117,8 +117,7 @@ impl<W: Write> Serializer<W> {
         ensures well_formed { (given : List Pair) → AreSpellingsOf given state.entries
             → OnOk result (IfSome (entries_tree given) IsTree) }
         ensures message { (given : List Pair) → AreSpellingsOf given state.entries
-            → IfErr result (OnMessage (λ m. (m ≡ codes "Map keys must be unique")
-            × RepeatsKey given × (self.new ≡ self.old))) }
+            → IfErr result (OnMessage (λ m. RefusesKeys given m × (self.new ≡ self.old))) }
         ensures memory { WantsMemoryOnlyIf W.takes_memory result }
     {
         if state.put_in_order() {
@@ -239,8 +238,8 @@ impl<W: Write> CollectMap<'_, W> {
             → AreSpellingsOf given (map_state self.entry).entries
             → OnOk result (IfSome (entries_tree given) IsTree) }
         ensures message { (given : List Pair) → AreSpellingsOf given (map_state self.entry).entries
-            → IfErr result (OnMessage (λ m. (m ≡ codes "Map keys must be unique")
-            × RepeatsKey given × (self.exit.0.now ≡ (map_lent self.entry).now))) }
+            → IfErr result (OnMessage (λ m. RefusesKeys given m
+            × (self.exit.0.now ≡ (map_lent self.entry).now))) }
         ensures memory { WantsMemoryOnlyIf W.takes_memory result }
     {
         let Self {

@@ -1,6 +1,6 @@
 -- The pairs of a map, handed over one after another.
 use Rattle.std.proofs.Common.{◌≡◌, ◌⊎◌, inl, inr, ℕ, zero, suc, List, [], ◌∷◌, ◌++◌, length, map, Option, None, Some, Bool, true, false, cond, Result, Ok, Err, refl, sym, ap, ◌∙◌, subst, append_assoc, append-nil}
-use Rattle.std.specs.Prelude.{Any, IfSome, MatchResult, option_map, option_and_then}
+use Rattle.std.specs.Prelude.{Any, IfSome, is_some, MatchResult, option_map, option_and_then}
 use Rattle.std.proofs.Common.{◌<◌, ◌^◌, take, drop, get_or, arith}
 use Rattle.std.proofs.Math.Seq.{drop-cons}
 use Rattle.std.proofs.lemmas.List.{take-append-drop}
@@ -85,9 +85,9 @@ tree_None (Some qs) h =
     let n = entries_None (ordered_entries qs) h.0.0 h.0.1 (ordered_has qs h.0.0 h.0.1 h.1) h.2 in
     (whole_None (repeats_key qs) (ordered_entries qs) n, part_None (repeats_key qs) (ordered_entries qs) n)
 
-no_text : (announced : Option ℕ) (done left : List Pair) (p : Pair) → CannotBeWritten p → map_rest announced (done ++ p ∷ left) ≡ None
-no_text None done left p h = (tree_None (all_some (map pair_of (done ++ p ∷ left))) (missing done left p h)).0
-no_text (Some n) done left p h = (tree_None (all_some (map pair_of (done ++ p ∷ left))) (missing done left p h)).1
+no_text : (out : Bool) (done left : List Pair) (p : Pair) → CannotBeWritten p → map_rest out (done ++ p ∷ left) ≡ None
+no_text false done left p h = (tree_None (all_some (map pair_of (done ++ p ∷ left))) (missing done left p h)).0
+no_text true done left p h = (tree_None (all_some (map pair_of (done ++ p ∷ left))) (missing done left p h)).1
 
 -- ---- the head of a map, and what follows it
 
@@ -109,11 +109,11 @@ split_by : (o : Option (List Named)) (n : ℕ) → IfSome o (λ qs. length qs �
 split_by None n h = sym (append_None (spelled_head 5 n))
 split_by (Some qs) n h = counts (repeats_key qs) qs n h
 
-pub spelled_map : (ps : List Pair) (n : ℕ) → n ≡ length ps → spelled_tree (entries_tree ps) ≡ spelled_head 5 n ++? map_rest (Some n) ps
-spelled_map ps n e = split_by (all_some (map pair_of ps)) (length ps) (some_length ps) ∙ ap (λ k. spelled_head 5 k ++? map_rest (Some n) ps) (sym e)
+pub spelled_map : (ps : List Pair) (n : ℕ) → n ≡ length ps → spelled_tree (entries_tree ps) ≡ spelled_head 5 n ++? map_rest true ps
+spelled_map ps n e = split_by (all_some (map pair_of ps)) (length ps) (some_length ps) ∙ ap (λ k. spelled_head 5 k ++? map_rest true ps) (sym e)
 
-pub begin_struct : (ps : List Pair) (n : ℕ) (s : Written) → n ≡ length ps → Written-but (spelled_tree (entries_tree ps)) (spelled_head 5 n ∷ map_rest (Some n) ps ∷ []) s s
-begin_struct ps n s e = begin_writing _ _ s (spelled_map ps n e ∙ ap (λ x. spelled_head 5 n ++? x) (sym (append_Some (map_rest (Some n) ps))))
+pub begin_struct : (ps : List Pair) (n : ℕ) (s : Written) → n ≡ length ps → Written-but (spelled_tree (entries_tree ps)) (spelled_head 5 n ∷ map_rest true ps ∷ []) s s
+begin_struct ps n s e = begin_writing _ _ s (spelled_map ps n e ∙ ap (λ x. spelled_head 5 n ++? x) (sym (append_Some (map_rest true ps))))
 
 -- ---- step by step
 
@@ -175,10 +175,10 @@ exit_unsent whole s t Cause (Ok x) e f p is same = absurd is
 exit_unsent {T} {E} whole s t Cause (Err d) e f p is same = let P : EncodeError E → Type 0 = λ y. Stops whole s t y in subst P (sym is) (refusal_stops whole s t Cause e f p same)
 
 -- the exit of a `?` at an entry
-pub exit_pair : {T E : Type 0} {whole left : List Pair} {p : Pair} {old : List Texts} (announced : Option ℕ) → Given-but whole (p ∷ left) old → (s t : Written) (r : Result T (EncodeError E)) (e : EncodeError E)
-    → Refused (RefusesEntry p.0 p.1) e → IsErrAnd r (λ d. d ≡ e) → s ≡ t → Writes (map_rest announced whole) s t r
-exit_pair {T} {E} {whole} {left} {p} {old} announced w s t r e refused is same =
-    exit_unsent (map_rest announced whole) s t (RefusesEntry p.0 p.1) r e (λ m h. ap (map_rest announced) w.split ∙ no_text announced w.done left p (entry_cause p m h)) refused is same
+pub exit_pair : {T E : Type 0} {whole left : List Pair} {p : Pair} {old : List Texts} (out : Bool) → Given-but whole (p ∷ left) old → (s t : Written) (r : Result T (EncodeError E)) (e : EncodeError E)
+    → Refused (RefusesEntry p.0 p.1) e → IsErrAnd r (λ d. d ≡ e) → s ≡ t → Writes (map_rest out whole) s t r
+exit_pair {T} {E} {whole} {left} {p} {old} out w s t r e refused is same =
+    exit_unsent (map_rest out whole) s t (RefusesEntry p.0 p.1) r e (λ m h. ap (map_rest out) w.split ∙ no_text out w.done left p (entry_cause p m h)) refused is same
 
 -- ---- the end of a map
 
@@ -189,15 +189,15 @@ Writes_from {T} {E} whole s t u v r e f w =
 
 -- the end of a map, of which nothing has gone out
 pub end_map : {T E : Type 0} {whole : List Pair} {held : List Texts} (announced : Option ℕ) → Given-but whole [] held → announced ≡ None → (s t u v : Written) (r : Result T (EncodeError E))
-    → ((given : List Pair) → AreSpellingsOf given held → Writes (map_rest announced given) t u r) → t ≡ s → u ≡ v → Writes (spelled_tree (entries_tree whole)) s v r
+    → ((given : List Pair) → AreSpellingsOf given held → Writes (map_rest (is_some announced) given) t u r) → t ≡ s → u ≡ v → Writes (spelled_tree (entries_tree whole)) s v r
 end_map {T} {E} {whole} {held} announced w none s t u v r told e f =
-    let P : Option ℕ → Type 0 = λ a. Writes (map_rest a whole) t u r in Writes_from (map_rest None whole) s t u v r e f (subst P none (told whole (all_given w)))
+    let P : Option ℕ → Type 0 = λ a. Writes (map_rest (is_some a) whole) t u r in Writes_from (map_rest false whole) s t u v r e f (subst P none (told whole (all_given w)))
 
 -- the same behind a head that went out at the beginning
-pub end_struct : {T E : Type 0} {W h : Option (List ℕ)} (n : ℕ) {whole : List Pair} {held : List Texts} {start s : Written} (announced : Option ℕ) → Written-but W (h ∷ map_rest (Some n) whole ∷ []) start start → WroteAll h start s → Given-but whole [] held → announced ≡ Some n → (t u v : Written) (r : Result T (EncodeError E))
-    → ((given : List Pair) → AreSpellingsOf given held → Writes (map_rest announced given) t u r) → t ≡ s → u ≡ v → Writes W start v r
+pub end_struct : {T E : Type 0} {W h : Option (List ℕ)} (n : ℕ) {whole : List Pair} {held : List Texts} {start s : Written} (announced : Option ℕ) → Written-but W (h ∷ map_rest true whole ∷ []) start start → WroteAll h start s → Given-but whole [] held → announced ≡ Some n → (t u v : Written) (r : Result T (EncodeError E))
+    → ((given : List Pair) → AreSpellingsOf given held → Writes (map_rest (is_some announced) given) t u r) → t ≡ s → u ≡ v → Writes W start v r
 end_struct {T} {E} {W} {h} n {whole} {held} {start} {s} announced begun out w is t u v r told e f =
-    let P : Option ℕ → Type 0 = λ a. Writes (map_rest a whole) t u r in last_part (next_part begun s out) v r (Writes_from (map_rest (Some n) whole) s t u v r e f (subst P is (told whole (all_given w))))
+    let P : Option ℕ → Type 0 = λ a. Writes (map_rest (is_some a) whole) t u r in last_part (next_part begun s out) v r (Writes_from (map_rest true whole) s t u v r e f (subst P is (told whole (all_given w))))
 
 -- ---- for a loop that goes over the pairs
 
@@ -214,10 +214,10 @@ list_shows shows pair s (Some x) t h = ap (map pair) h
 nth_split : (whole : List Pair) (k : ℕ) (d : Pair) → k < length whole → whole ≡ take k whole ++ get_or whole k d ∷ drop (suc k) whole
 nth_split whole k d h = sym (take-append-drop k whole) ∙ ap (λ x. take k whole ++ x) (drop-cons whole k d h)
 
-pub exit_field : {T E : Type 0} {W h : Option (List ℕ)} {start s : Written} (n : ℕ) (whole : List Pair) → Written-but W (h ∷ map_rest (Some n) whole ∷ []) start start → WroteAll h start s → (k : ℕ) (d : Pair) → k < length whole → (t : Written) (r : Result T (EncodeError E)) (e : EncodeError E)
+pub exit_field : {T E : Type 0} {W h : Option (List ℕ)} {start s : Written} (whole : List Pair) → Written-but W (h ∷ map_rest true whole ∷ []) start start → WroteAll h start s → (k : ℕ) (d : Pair) → k < length whole → (t : Written) (r : Result T (EncodeError E)) (e : EncodeError E)
     → Refused (RefusesValue (get_or whole k d).1) e → IsErrAnd r (λ d. d ≡ e) → s ≡ t → Writes W start t r
-exit_field {T} {E} {W} {h} {start} {s} n whole begun out k d below t r e refused is same =
-    last_part (next_part begun s out) t r (exit_unsent (map_rest (Some n) whole) s t (RefusesValue (get_or whole k d).1) r e (λ m c. ap (map_rest (Some n)) (nth_split whole k d below) ∙ no_text (Some n) (take k whole) (drop (suc k) whole) (get_or whole k d) (inr c.1)) refused is same)
+exit_field {T} {E} {W} {h} {start} {s} whole begun out k d below t r e refused is same =
+    last_part (next_part begun s out) t r (exit_unsent (map_rest true whole) s t (RefusesValue (get_or whole k d).1) r e (λ m c. ap (map_rest true) (nth_split whole k d below) ∙ no_text true (take k whole) (drop (suc k) whole) (get_or whole k d) (inr c.1)) refused is same)
 
 -- ---- a row of pairs
 
@@ -282,4 +282,4 @@ given_row whole old new e h =
 -- the exit of a `?` at a row of pairs
 pub exit_row : {T E : Type 0} (whole : List Pair) (s t : Written) (r : Result T (EncodeError E)) (e : EncodeError E) → Refused (RefusesAnyValue whole) e → IsErrAnd r (λ d. d ≡ e) → s ≡ t → Writes (spelled_tree (entries_tree whole)) s t r
 exit_row whole s t r e refused is same =
-    exit_unsent (map_rest None whole) s t (RefusesAnyValue whole) r e (λ m h. let l = h.1 in ap (map_rest None) (nth_split whole l.0 l.1 l.2) ∙ no_text None (take l.0 whole) (drop (suc l.0) whole) (get_or whole l.0 l.1) (inr (ap (λ p. spelled_tree p.1) l.3 ∙ l.4))) refused is same
+    exit_unsent (map_rest false whole) s t (RefusesAnyValue whole) r e (λ m h. let l = h.1 in ap (map_rest false) (nth_split whole l.0 l.1 l.2) ∙ no_text false (take l.0 whole) (drop (suc l.0) whole) (get_or whole l.0 l.1) (inr (ap (λ p. spelled_tree p.1) l.3 ∙ l.4))) refused is same

@@ -9,7 +9,7 @@ use Rattle.ipld_tree.specs.Tree.{repeats_key, entries_tree}
 use Rattle.ipld_tree.specs.Spelled.{spelled, spelled_entries, spelled_tree}
 use Rattle.dagcbor_write.specs.Pairwise.{Pairwise}
 use Rattle.dagcbor_write.specs.Trees.{Pair}
-use Rattle.dagcbor_write.specs.Gathering.{NoSpelling, Refused, Collects}
+use Rattle.dagcbor_write.specs.Gathering.{RefusedFor, Refused, Collects}
 
 -- the spellings of a key and of its value
 abbrev pub Texts : Type 0
@@ -47,12 +47,12 @@ spelled_key key = option_and_then (λ k. spelled (text k)) (option_and_then key_
 
 -- the causes of a key's message: it has no spelling, or is no text
 abbrev pub RefusesKey : Option Tree → List ℕ → Type 0
-RefusesKey key m = NoSpelling (codes "Map key cannot be serialized.") key m
+RefusesKey key m = RefusedFor (codes "Map key cannot be serialized.") key m
     ⊎ ((m ≡ codes "Map keys must be strings") × (option_and_then key_of key ≡ None))
 
 -- the cause of a value's message: it has no spelling
 abbrev pub RefusesValue : Option Tree → List ℕ → Type 0
-RefusesValue value m = NoSpelling (codes "Struct value cannot be serialized.") value m
+RefusesValue value m = RefusedFor (codes "Struct value cannot be serialized.") value m
 
 abbrev pub RefusesEntry : Option Tree → Option Tree → List ℕ → Type 0
 RefusesEntry key value m = RefusesKey key m ⊎ RefusesValue value m
@@ -77,9 +77,9 @@ abbrev pub JoinsEntry : Option Tree → Option Tree → List Texts → List Text
 JoinsEntry key value old new = JoinsValue (spelled_key key) value old new × IfSome key IsTree
 
 -- a key and its value joined the others, or one of them was refused, and then the others stay
-pub record TakesEntry {T E : Type 0} (key value : Option Tree) (IsMessage : List ℕ → Type 0) (old new : MapState) (r : Result T (EncodeError E)) : Type 0 where
+pub record TakesEntry {T E : Type 0} (key value : Option Tree) (Cause : List ℕ → Type 0) (old new : MapState) (r : Result T (EncodeError E)) : Type 0 where
   pub no_key : new.key ≡ None
-  pub joins : Collects (λ u. JoinsEntry key value old.entries new.entries) IsMessage r
+  pub joins : Collects (λ u. JoinsEntry key value old.entries new.entries) Cause r
   pub kept : OnErr r (new.entries ≡ old.entries)
 
 -- ---- the end of a map
@@ -100,11 +100,11 @@ abbrev pub entries_text : Option Tree → Option (List ℕ)
 entries_text (Some (mapping es)) = spelled_entries es
 entries_text o = None
 
--- what is still to be written of the map of the pairs: all of it, or what follows the head that was
--- announced
-abbrev pub map_rest : Option ℕ → List Pair → Option (List ℕ)
-map_rest None ps = spelled_tree (entries_tree ps)
-map_rest (Some n) ps = entries_text (entries_tree ps)
+-- what is still to be written of the map of the pairs: all of it, or where its head is out what
+-- follows that
+abbrev pub map_rest : Bool → List Pair → Option (List ℕ)
+map_rest false ps = spelled_tree (entries_tree ps)
+map_rest true ps = entries_text (entries_tree ps)
 
 -- the spellings of well-formed pairs, in turn, joined the others
 abbrev pub JoinsPairs : List Pair → List Texts → List Texts → Type 0

@@ -112,7 +112,7 @@ impl<W: Write> Serializer<W> {
     /// Writes the entries in key order, behind the head if that is not out yet.
     fn push_map(&mut self, mut state: Gathered) -> WriteResult<(), W>
         ensures written { (given : List Pair) → AreSpellingsOf given state.entries
-            → Writes (map_rest state.announced given)
+            → Writes (map_rest (is_some state.announced) given)
             (W.written self.old) (W.written self.new) result }
         ensures well_formed { (given : List Pair) → AreSpellingsOf given state.entries
             → OnOk result (IfSome (entries_tree given) IsTree) }
@@ -129,7 +129,7 @@ impl<W: Write> Serializer<W> {
 
     /// Writes the head of a map, if it is not out yet.
     fn push_head_if_due(&mut self, announced: Option<usize>, count: usize) -> WriteResult<(), W>
-        ensures written { Writes (head_rest announced count)
+        ensures written { Writes (head_rest (is_some announced) count)
             (W.written self.old) (W.written self.new) result }
         ensures memory { WantsMemoryOnlyIf W.takes_memory result }
     {
@@ -141,7 +141,8 @@ impl<W: Write> Serializer<W> {
 
     /// Writes the entries as they stand, behind the head if that is not out yet.
     fn push_entries(&mut self, state: &Gathered) -> WriteResult<(), W>
-        ensures written { Writes (head_rest state.now.announced (length state.now.entries)
+        ensures written { Writes
+            (head_rest (is_some state.now.announced) (length state.now.entries)
             ++? Some (entries_bytes state.now.entries))
             (W.written self.old) (W.written self.new) result }
         ensures memory { WantsMemoryOnlyIf W.takes_memory result }
@@ -232,7 +233,7 @@ impl<W: Write> CollectMap<'_, W> {
     pub fn end(self) -> WriteResult<(), W>
         requires { IsTrue (is_complete (map_state self)) }
         ensures written { (given : List Pair) → AreSpellingsOf given (map_state self.entry).entries
-            → Writes (map_rest (map_state self.entry).announced given)
+            → Writes (map_rest (is_some (map_state self.entry).announced) given)
             (W.written (map_lent self.entry).now) (W.written self.exit.0.now) result }
         ensures well_formed { (given : List Pair)
             → AreSpellingsOf given (map_state self.entry).entries

@@ -1,5 +1,5 @@
 -- The spelling of a variant.
-use Rattle.std.proofs.Common.{◌≡◌, ℕ, List, [], ◌∷◌, length, map, Option, None, Some, sym, ap, ◌∙◌}
+use Rattle.std.proofs.Common.{◌≡◌, ℕ, List, [], ◌∷◌, length, map, Option, None, Some, true, sym, ap, ◌∙◌}
 use Rattle.std.specs.Fmt.{◌++?◌}
 use Rattle.dagcbor_heads.specs.Written.{Written}
 use Rattle.dagcbor_heads.proofs.Writing.{append_None, append_Some, joined_assoc, Written-but, begin_writing, join_parts}
@@ -24,7 +24,7 @@ begin_tuple_variant name os s = begin_writing _ _ s
     (spelled_variant name (list_tree os) ∙ ap (λ x. variant_head name ++? x) (spelled_list os ∙ ap (λ x. spelled_head 4 (length os) ++? x) (each_joined os))
     ∙ sym (joined_assoc (variant_head name) (spelled_head 4 (length os)) (join_parts (map spelled_tree os))))
 
-pub begin_struct_variant : (name : List ℕ) (ps : List Pair) (n : ℕ) (s : Written) → n ≡ length ps → Written-but (spelled_tree (variant_tree name (entries_tree ps))) ((variant_head name ++? spelled_head 5 n) ∷ map_rest (Some n) ps ∷ []) s s
+pub begin_struct_variant : (name : List ℕ) (ps : List Pair) (n : ℕ) (s : Written) → n ≡ length ps → Written-but (spelled_tree (variant_tree name (entries_tree ps))) ((variant_head name ++? spelled_head 5 n) ∷ map_rest true ps ∷ []) s s
 begin_struct_variant name ps n s e = begin_writing _ _ s
-    (spelled_variant name (entries_tree ps) ∙ ap (λ x. variant_head name ++? x) (spelled_map ps n e ∙ ap (λ x. spelled_head 5 n ++? x) (sym (append_Some (map_rest (Some n) ps))))
-    ∙ sym (joined_assoc (variant_head name) (spelled_head 5 n) (map_rest (Some n) ps ++? Some [])))
+    (spelled_variant name (entries_tree ps) ∙ ap (λ x. variant_head name ++? x) (spelled_map ps n e ∙ ap (λ x. spelled_head 5 n ++? x) (sym (append_Some (map_rest true ps))))
+    ∙ sym (joined_assoc (variant_head name) (spelled_head 5 n) (map_rest true ps ++? Some [])))

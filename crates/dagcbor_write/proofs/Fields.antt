@@ -1,7 +1,6 @@
 -- The pairs of a map, handed over one after another.
-use Rattle.std.proofs.Common.{◌≡◌, ◌⊎◌, inl, inr, ℕ, suc, List, [], ◌∷◌, ◌++◌, length, map, Option, None, Some, Bool, true, false, cond, Result, Ok, Err, refl, sym, ap, ap₂, ◌∙◌, subst, append_assoc}
-use Rattle.dagcbor_write.specs.Answers.{OnMessage}
-use Rattle.std.specs.Prelude.{Any, IfErr, IfSome, option_map, option_and_then}
+use Rattle.std.proofs.Common.{◌≡◌, ◌⊎◌, inl, inr, ℕ, zero, suc, List, [], ◌∷◌, ◌++◌, length, map, Option, None, Some, Bool, true, false, cond, Result, Ok, Err, refl, sym, ap, ◌∙◌, subst, append_assoc, append-nil}
+use Rattle.std.specs.Prelude.{Any, IfSome, is_some, MatchResult, option_map, option_and_then}
 use Rattle.std.proofs.Common.{◌<◌, ◌^◌, take, drop, get_or, arith}
 use Rattle.std.proofs.Math.Seq.{drop-cons}
 use Rattle.std.proofs.lemmas.List.{take-append-drop}
@@ -21,8 +20,7 @@ use Rattle.ipld_tree.proofs.Spelled.{spelled_is}
 use Rattle.ipld_tree.proofs.WellFormed.{entry_count_ordered}
 use Rattle.dagcbor_write.specs.Trees.{Pair}
 use Rattle.dagcbor_write.specs.Gathering.{Refused, Collects}
-use Rattle.dagcbor_write.specs.Rows.{spelled_pairs}
-use Rattle.dagcbor_write.specs.Maps.{Texts, spelled_key, IsSpellingOf, AreSpellingsOf, Joins, JoinsEntry, RefusesEntry, RefusesValue, entries_text, map_rest, JoinsPairs, RefusesAnyValue, ShowsPairs}
+use Rattle.dagcbor_write.specs.Maps.{Texts, spelled_key, IsSpellingOf, AreSpellingsOf, Joins, JoinsEntry, RefusesEntry, RefusesValue, entries_text, map_rest, JoinsPairs, StopsAtPair, LacksValue, RefusesAnyValue, ShowsPairs}
 use Rattle.dagcbor_write.proofs.Keys.{key_none}
 use Rattle.dagcbor_write.proofs.Mapping.{pairwise_push}
 
@@ -87,9 +85,9 @@ tree_None (Some qs) h =
     let n = entries_None (ordered_entries qs) h.0.0 h.0.1 (ordered_has qs h.0.0 h.0.1 h.1) h.2 in
     (whole_None (repeats_key qs) (ordered_entries qs) n, part_None (repeats_key qs) (ordered_entries qs) n)
 
-no_text : (announced : Option ℕ) (done left : List Pair) (p : Pair) → CannotBeWritten p → map_rest announced (done ++ p ∷ left) ≡ None
-no_text None done left p h = (tree_None (all_some (map pair_of (done ++ p ∷ left))) (missing done left p h)).0
-no_text (Some n) done left p h = (tree_None (all_some (map pair_of (done ++ p ∷ left))) (missing done left p h)).1
+no_text : (out : Bool) (done left : List Pair) (p : Pair) → CannotBeWritten p → map_rest out (done ++ p ∷ left) ≡ None
+no_text false done left p h = (tree_None (all_some (map pair_of (done ++ p ∷ left))) (missing done left p h)).0
+no_text true done left p h = (tree_None (all_some (map pair_of (done ++ p ∷ left))) (missing done left p h)).1
 
 -- ---- the head of a map, and what follows it
 
@@ -111,11 +109,11 @@ split_by : (o : Option (List Named)) (n : ℕ) → IfSome o (λ qs. length qs �
 split_by None n h = sym (append_None (spelled_head 5 n))
 split_by (Some qs) n h = counts (repeats_key qs) qs n h
 
-pub spelled_map : (ps : List Pair) (n : ℕ) → n ≡ length ps → spelled_tree (entries_tree ps) ≡ spelled_head 5 n ++? map_rest (Some n) ps
-spelled_map ps n e = split_by (all_some (map pair_of ps)) (length ps) (some_length ps) ∙ ap (λ k. spelled_head 5 k ++? map_rest (Some n) ps) (sym e)
+pub spelled_map : (ps : List Pair) (n : ℕ) → n ≡ length ps → spelled_tree (entries_tree ps) ≡ spelled_head 5 n ++? map_rest true ps
+spelled_map ps n e = split_by (all_some (map pair_of ps)) (length ps) (some_length ps) ∙ ap (λ k. spelled_head 5 k ++? map_rest true ps) (sym e)
 
-pub begin_struct : (ps : List Pair) (n : ℕ) (s : Written) → n ≡ length ps → Written-but (spelled_tree (entries_tree ps)) (spelled_head 5 n ∷ map_rest (Some n) ps ∷ []) s s
-begin_struct ps n s e = begin_writing _ _ s (spelled_map ps n e ∙ ap (λ x. spelled_head 5 n ++? x) (sym (append_Some (map_rest (Some n) ps))))
+pub begin_struct : (ps : List Pair) (n : ℕ) (s : Written) → n ≡ length ps → Written-but (spelled_tree (entries_tree ps)) (spelled_head 5 n ∷ map_rest true ps ∷ []) s s
+begin_struct ps n s e = begin_writing _ _ s (spelled_map ps n e ∙ ap (λ x. spelled_head 5 n ++? x) (sym (append_Some (map_rest true ps))))
 
 -- ---- step by step
 
@@ -177,10 +175,10 @@ exit_unsent whole s t Cause (Ok x) e f p is same = absurd is
 exit_unsent {T} {E} whole s t Cause (Err d) e f p is same = let P : EncodeError E → Type 0 = λ y. Stops whole s t y in subst P (sym is) (refusal_stops whole s t Cause e f p same)
 
 -- the exit of a `?` at an entry
-pub exit_pair : {T E : Type 0} {whole left : List Pair} {p : Pair} {old : List Texts} (announced : Option ℕ) → Given-but whole (p ∷ left) old → (s t : Written) (r : Result T (EncodeError E)) (e : EncodeError E)
-    → Refused (RefusesEntry p.0 p.1) e → IsErrAnd r (λ d. d ≡ e) → s ≡ t → Writes (map_rest announced whole) s t r
-exit_pair {T} {E} {whole} {left} {p} {old} announced w s t r e refused is same =
-    exit_unsent (map_rest announced whole) s t (RefusesEntry p.0 p.1) r e (λ m h. ap (map_rest announced) w.split ∙ no_text announced w.done left p (entry_cause p m h)) refused is same
+pub exit_pair : {T E : Type 0} {whole left : List Pair} {p : Pair} {old : List Texts} (out : Bool) → Given-but whole (p ∷ left) old → (s t : Written) (r : Result T (EncodeError E)) (e : EncodeError E)
+    → Refused (RefusesEntry p.0 p.1) e → IsErrAnd r (λ d. d ≡ e) → s ≡ t → Writes (map_rest out whole) s t r
+exit_pair {T} {E} {whole} {left} {p} {old} out w s t r e refused is same =
+    exit_unsent (map_rest out whole) s t (RefusesEntry p.0 p.1) r e (λ m h. ap (map_rest out) w.split ∙ no_text out w.done left p (entry_cause p m h)) refused is same
 
 -- ---- the end of a map
 
@@ -191,15 +189,15 @@ Writes_from {T} {E} whole s t u v r e f w =
 
 -- the end of a map, of which nothing has gone out
 pub end_map : {T E : Type 0} {whole : List Pair} {held : List Texts} (announced : Option ℕ) → Given-but whole [] held → announced ≡ None → (s t u v : Written) (r : Result T (EncodeError E))
-    → ((given : List Pair) → AreSpellingsOf given held → Writes (map_rest announced given) t u r) → t ≡ s → u ≡ v → Writes (spelled_tree (entries_tree whole)) s v r
+    → ((given : List Pair) → AreSpellingsOf given held → Writes (map_rest (is_some announced) given) t u r) → t ≡ s → u ≡ v → Writes (spelled_tree (entries_tree whole)) s v r
 end_map {T} {E} {whole} {held} announced w none s t u v r told e f =
-    let P : Option ℕ → Type 0 = λ a. Writes (map_rest a whole) t u r in Writes_from (map_rest None whole) s t u v r e f (subst P none (told whole (all_given w)))
+    let P : Option ℕ → Type 0 = λ a. Writes (map_rest (is_some a) whole) t u r in Writes_from (map_rest false whole) s t u v r e f (subst P none (told whole (all_given w)))
 
 -- the same behind a head that went out at the beginning
-pub end_struct : {T E : Type 0} {W h : Option (List ℕ)} (n : ℕ) {whole : List Pair} {held : List Texts} {start s : Written} (announced : Option ℕ) → Written-but W (h ∷ map_rest (Some n) whole ∷ []) start start → WroteAll h start s → Given-but whole [] held → announced ≡ Some n → (t u v : Written) (r : Result T (EncodeError E))
-    → ((given : List Pair) → AreSpellingsOf given held → Writes (map_rest announced given) t u r) → t ≡ s → u ≡ v → Writes W start v r
+pub end_struct : {T E : Type 0} {W h : Option (List ℕ)} (n : ℕ) {whole : List Pair} {held : List Texts} {start s : Written} (announced : Option ℕ) → Written-but W (h ∷ map_rest true whole ∷ []) start start → WroteAll h start s → Given-but whole [] held → announced ≡ Some n → (t u v : Written) (r : Result T (EncodeError E))
+    → ((given : List Pair) → AreSpellingsOf given held → Writes (map_rest (is_some announced) given) t u r) → t ≡ s → u ≡ v → Writes W start v r
 end_struct {T} {E} {W} {h} n {whole} {held} {start} {s} announced begun out w is t u v r told e f =
-    let P : Option ℕ → Type 0 = λ a. Writes (map_rest a whole) t u r in last_part (next_part begun s out) v r (Writes_from (map_rest (Some n) whole) s t u v r e f (subst P is (told whole (all_given w))))
+    let P : Option ℕ → Type 0 = λ a. Writes (map_rest (is_some a) whole) t u r in last_part (next_part begun s out) v r (Writes_from (map_rest true whole) s t u v r e f (subst P is (told whole (all_given w))))
 
 -- ---- for a loop that goes over the pairs
 
@@ -216,25 +214,64 @@ list_shows shows pair s (Some x) t h = ap (map pair) h
 nth_split : (whole : List Pair) (k : ℕ) (d : Pair) → k < length whole → whole ≡ take k whole ++ get_or whole k d ∷ drop (suc k) whole
 nth_split whole k d h = sym (take-append-drop k whole) ∙ ap (λ x. take k whole ++ x) (drop-cons whole k d h)
 
-pub exit_field : {T E : Type 0} {W h : Option (List ℕ)} {start s : Written} (n : ℕ) (whole : List Pair) → Written-but W (h ∷ map_rest (Some n) whole ∷ []) start start → WroteAll h start s → (k : ℕ) (d : Pair) → k < length whole → (t : Written) (r : Result T (EncodeError E)) (e : EncodeError E)
+pub exit_field : {T E : Type 0} {W h : Option (List ℕ)} {start s : Written} (whole : List Pair) → Written-but W (h ∷ map_rest true whole ∷ []) start start → WroteAll h start s → (k : ℕ) (d : Pair) → k < length whole → (t : Written) (r : Result T (EncodeError E)) (e : EncodeError E)
     → Refused (RefusesValue (get_or whole k d).1) e → IsErrAnd r (λ d. d ≡ e) → s ≡ t → Writes W start t r
-exit_field {T} {E} {W} {h} {start} {s} n whole begun out k d below t r e refused is same =
-    last_part (next_part begun s out) t r (exit_unsent (map_rest (Some n) whole) s t (RefusesValue (get_or whole k d).1) r e (λ m c. ap (map_rest (Some n)) (nth_split whole k d below) ∙ no_text (Some n) (take k whole) (drop (suc k) whole) (get_or whole k d) (inr c.1)) refused is same)
+exit_field {T} {E} {W} {h} {start} {s} whole begun out k d below t r e refused is same =
+    last_part (next_part begun s out) t r (exit_unsent (map_rest true whole) s t (RefusesValue (get_or whole k d).1) r e (λ m c. ap (map_rest true) (nth_split whole k d below) ∙ no_text true (take k whole) (drop (suc k) whole) (get_or whole k d) (inr c.1)) refused is same)
 
 -- ---- a row of pairs
 
 any_later : {A : Type 0} {P : A → Type 0} (x : A) (xs : List A) → Any P xs → Any P (x ∷ xs)
 any_later x xs h = (suc h.0, h.1, omega (arith, h.2), h.3, h.4)
 
--- a pair was taken, and then the others were taken or refused
-pub pair_and_others : {T E : Type 0} (p : Pair) (ps : List Pair) (old middle new : List Texts) (r : Result T (EncodeError E)) → JoinsEntry p.0 p.1 old middle
-    → Collects (λ u. JoinsPairs ps middle new) (RefusesAnyValue ps) r → Collects (λ u. JoinsPairs (p ∷ ps) old new) (RefusesAnyValue (p ∷ ps)) r
-pair_and_others p ps old middle new (Ok x) j h =
+pub first_lacks : (p : Pair) (ps : List Pair) → spelled_tree p.1 ≡ None → LacksValue (p ∷ ps)
+first_lacks p ps h = (0, p, omega arith, refl, h)
+
+pub other_lacks : (p : Pair) (ps : List Pair) → LacksValue ps → LacksValue (p ∷ ps)
+other_lacks p ps h = any_later p ps h
+
+some_lacks : (taken left : List Pair) (p : Pair) → spelled_tree p.1 ≡ None → LacksValue (taken ++ p ∷ left)
+some_lacks [] left p h = first_lacks p left h
+some_lacks (q ∷ taken) left p h = other_lacks q (taken ++ p ∷ left) (some_lacks taken left p h)
+
+joins_first : (p : Pair) (ps : List Pair) (old middle new : List Texts) → JoinsEntry p.0 p.1 old middle → JoinsPairs ps middle new → JoinsPairs (p ∷ ps) old new
+joins_first p ps old middle new j h =
     let e = joined_spelling p _ _ old middle refl refl j.0.0 j.1 j.0.1 in
     (e.0 ∷ h.0, (e.1, h.1), h.2 ∙ ap (λ xs. xs ++ h.0) e.2 ∙ append_assoc old (e.0 ∷ []) h.0)
-pair_and_others p ps old middle new (Err (Msg m)) j h = any_later p ps h
-pair_and_others p ps old middle new (Err (Write e)) j h = h
-pair_and_others p ps old middle new (Err OutOfMemory) j h = h
+
+-- a pair was taken, and then the others were taken, or one of them refused
+pub pair_and_others : {T E : Type 0} (p : Pair) (ps : List Pair) (old middle new : List Texts) (r : Result T (EncodeError E)) → JoinsEntry p.0 p.1 old middle
+    → MatchResult r (λ _. JoinsPairs ps middle new) (StopsAtPair ps middle new) → MatchResult r (λ _. JoinsPairs (p ∷ ps) old new) (StopsAtPair (p ∷ ps) old new)
+pair_and_others p ps old middle new (Ok x) j h = joins_first p ps old middle new j h
+pair_and_others p ps old middle new (Err e) j h =
+    record { taken = p ∷ h.taken; refused = h.refused; left = h.left; split = ap (λ qs. p ∷ qs) h.split; joined = joins_first p h.taken old middle new j h.joined; cause = h.cause }
+
+-- the exit of a `?` at the first pair, which was refused
+pub first_refused : {T E : Type 0} (p : Pair) (ps : List Pair) (old new : List Texts) (r : Result T (EncodeError E)) (e : EncodeError E) → Refused (RefusesValue p.1) e → new ≡ old → IsErrAnd r (λ d. d ≡ e)
+    → MatchResult r (λ _. JoinsPairs (p ∷ ps) old new) (StopsAtPair (p ∷ ps) old new)
+first_refused p ps old new (Ok x) e h same is = absurd is
+first_refused {T} {E} p ps old new (Err d) e h same is =
+    let P : EncodeError E → Type 0 = λ y. StopsAtPair (p ∷ ps) old new y in
+    subst P (sym is) record { taken = []; refused = p; left = ps; split = refl; joined = ([], tt, same ∙ sym (append-nil old)); cause = h }
+
+-- why a row was refused, whichever pair it was
+pub row_cause : {E : Type 0} (ps : List Pair) (old new : List Texts) (e : EncodeError E) → StopsAtPair ps old new e → Refused (RefusesAnyValue ps) e
+row_cause {E} ps old new e h = by e h.cause
+  where
+    by : (e : EncodeError E) → Refused (RefusesValue h.refused.1) e → Refused (RefusesAnyValue ps) e
+    by (Msg m) c = let P : List Pair → Type 0 = λ qs. LacksValue qs in (c.0, subst P (sym h.split) (some_lacks h.taken h.left h.refused c.1))
+    by (Write x) c = c
+    by OutOfMemory c = tt
+
+-- no value of the pairs is without a spelling
+pub none_lacks : (ps : List Pair) (es : List Texts) → AreSpellingsOf ps es → LacksValue ps → ⊥
+none_lacks ps es h l = by ps es l.0 h l.2 l.3 l.4
+  where
+    by : (ps : List Pair) (es : List Texts) (k : ℕ) → AreSpellingsOf ps es → k < length ps → get_or ps k l.1 ≡ l.1 → spelled_tree l.1.1 ≡ None → ⊥
+    by [] es k h below at n = omega (arith, below)
+    by (p ∷ ps) [] k h below at n = h
+    by (p ∷ ps) (e ∷ es) zero h below at n = let differ : Some e.1 ≡ None = sym h.0.value ∙ ap (λ q. spelled_tree q.1) at ∙ n in absurd (cc differ)
+    by (p ∷ ps) (e ∷ es) (suc k) h below at n = by ps es k h.1 (omega (arith, below)) at n
 
 -- all were taken, one after another
 pub given_row : (whole : List Pair) (old new : List Texts) → old ≡ [] → JoinsPairs whole old new → Given-but whole [] new
@@ -243,32 +280,6 @@ given_row whole old new e h =
     record { done = whole; split = sym (end_of whole); spells = subst P (sym (h.2 ∙ ap (λ xs. xs ++ h.0) e)) h.1 }
 
 -- the exit of a `?` at a row of pairs
-pub exit_pairs : {T E : Type 0} (whole : List Pair) (s t : Written) (r : Result T (EncodeError E)) (e : EncodeError E) → Refused (RefusesAnyValue whole) e → IsErrAnd r (λ d. d ≡ e) → s ≡ t → Writes (spelled_tree (entries_tree whole)) s t r
-exit_pairs whole s t r e refused is same =
-    exit_unsent (map_rest None whole) s t (RefusesAnyValue whole) r e (λ m h. ap (map_rest None) (nth_split whole h.0 h.1 h.2) ∙ no_text None (take h.0 whole) (drop (suc h.0) whole) (get_or whole h.0 h.1) (inr (ap (λ p. spelled_tree p.1) h.3 ∙ h.4.1))) refused is same
-
--- ---- a row whose keys rise
-
-later_None : (x y : List ℕ) (o : Option (List ℕ)) → Some x ++? (Some y ++? o) ≡ None → o ≡ None
-later_None x y None e = refl
-later_None x y (Some z) e = cc
-
-row_None : (whole done ps : List Pair) → whole ≡ done ++ ps → spelled_pairs ps ≡ None → spelled_tree (entries_tree whole) ≡ None
-row_None whole done [] is e = cc
-row_None whole done (p ∷ ps) is e = by (spelled_key p.0) (spelled_tree p.1) refl refl (row_None whole (done ++ p ∷ []) ps (is ∙ sym (append_assoc done (p ∷ []) ps)))
-  where
-    by : (a b : Option (List ℕ)) → spelled_key p.0 ≡ a → spelled_tree p.1 ≡ b → (spelled_pairs ps ≡ None → spelled_tree (entries_tree whole) ≡ None) → spelled_tree (entries_tree whole) ≡ None
-    by None b f g more = ap (map_rest None) is ∙ no_text None done ps p (inl f)
-    by (Some x) None f g more = ap (map_rest None) is ∙ no_text None done ps p (inr g)
-    by (Some x) (Some y) f g more = more (later_None x y (spelled_pairs ps) (sym (ap₂ (λ a b. a ++? (b ++? spelled_pairs ps)) f g) ∙ e))
-
--- the exit of a `?` at a row that is written in one piece
-pub exit_row : {T E : Type 0} (whole : List Pair) (s t : Written) (r : Result T (EncodeError E)) (e : EncodeError E) → Refused (λ m. spelled_pairs whole ≡ None) e → IsErrAnd r (λ d. d ≡ e) → s ≡ t → Writes (spelled_tree (entries_tree whole)) s t r
-exit_row whole s t r e refused is same = exit_unsent (spelled_tree (entries_tree whole)) s t (λ m. spelled_pairs whole ≡ None) r e (λ m h. row_None whole [] whole refl h) refused is same
-
--- where a message leaves its writer as it was, so does a call around it
-pub still_unsent : {T E Writer : Type 0} {s t u v : Writer} (IsText : List ℕ → Type 0) (Cause : Type 0) (r : Result T (EncodeError E)) → IfErr r (OnMessage (λ m. IsText m × Cause × (u ≡ v))) → s ≡ u → v ≡ t → IfErr r (OnMessage (λ m. s ≡ t))
-still_unsent IsText Cause (Ok x) h earlier later = tt
-still_unsent IsText Cause (Err (Msg m)) h earlier later = earlier ∙ h.2 ∙ later
-still_unsent IsText Cause (Err (Write e)) h earlier later = h
-still_unsent IsText Cause (Err OutOfMemory) h earlier later = h
+pub exit_row : {T E : Type 0} (whole : List Pair) (s t : Written) (r : Result T (EncodeError E)) (e : EncodeError E) → Refused (RefusesAnyValue whole) e → IsErrAnd r (λ d. d ≡ e) → s ≡ t → Writes (spelled_tree (entries_tree whole)) s t r
+exit_row whole s t r e refused is same =
+    exit_unsent (map_rest false whole) s t (RefusesAnyValue whole) r e (λ m h. let l = h.1 in ap (map_rest false) (nth_split whole l.0 l.1 l.2) ∙ no_text false (take l.0 whole) (drop (suc l.0) whole) (get_or whole l.0 l.1) (inr (ap (λ p. spelled_tree p.1) l.3 ∙ l.4))) refused is same

@@ -9,6 +9,7 @@ pub mod Keys
 pub mod Pushing
 pub mod Mapping
 pub mod Fields
+pub mod Messages
 pub mod Enums
 pub mod IpldTrees
 pub mod Walks

@@ -168,18 +168,18 @@ good_pairs (q ∷ qs) (f ∷ fs) w = (w.0.good, good_pairs qs fs w.1)
 tree_of : (ps : List Pair) (qs : List Named) (es : Entries) (b : Bool) → all_some (map pair_of ps) ≡ Some qs → repeats_key qs ≡ b → ordered_entries qs ≡ es → entries_tree ps ≡ cond b None (Some (mapping es))
 tree_of ps qs es b e r o = ap (λ x. option_and_then map_tree x) e ∙ ap₂ (λ c x. cond c None (Some (mapping x))) r o
 
-text_by : (announced : Option ℕ) (ps : List Pair) (qs : List Named) (fs : List Texts) → entries_tree ps ≡ Some (mapping (entries_of qs)) → Pairwise IsSpelledBy qs fs → map_rest announced ps ≡ head_rest announced (length fs) ++? Some (entries_bytes fs)
+text_by : (out : Bool) (ps : List Pair) (qs : List Named) (fs : List Texts) → entries_tree ps ≡ Some (mapping (entries_of qs)) → Pairwise IsSpelledBy qs fs → map_rest out ps ≡ head_rest out (length fs) ++? Some (entries_bytes fs)
 unfolding spelled
-text_by None ps qs fs e w = ap spelled_tree e ∙ ap₂ (λ n x. spelled_head 5 n ++? x) (count_is qs ∙ pairwise_length IsSpelledBy qs fs w) (entries_text_is qs fs w)
-text_by (Some n) ps qs fs e w = ap entries_text e ∙ entries_text_is qs fs w
+text_by false ps qs fs e w = ap spelled_tree e ∙ ap₂ (λ n x. spelled_head 5 n ++? x) (count_is qs ∙ pairwise_length IsSpelledBy qs fs w) (entries_text_is qs fs w)
+text_by true ps qs fs e w = ap entries_text e ∙ entries_text_is qs fs w
 
 -- entries in the order of their keys are the map of the pairs
-pub record IsMapOf (announced : Option ℕ) (ps : List Pair) (fs : List Texts) : Type 0 where
-  pub text : map_rest announced ps ≡ head_rest announced (length fs) ++? Some (entries_bytes fs)
+pub record IsMapOf (out : Bool) (ps : List Pair) (fs : List Texts) : Type 0 where
+  pub text : map_rest out ps ≡ head_rest out (length fs) ++? Some (entries_bytes fs)
   pub good : IfSome (entries_tree ps) IsTree
 
-pub in_order : (announced : Option ℕ) (ps : List Pair) (es fs : List Texts) → AreSpellingsOf ps es → PutsInOrder es fs true → IsMapOf announced ps fs
-in_order announced ps es fs h o =
+pub in_order : (out : Bool) (ps : List Pair) (es fs : List Texts) → AreSpellingsOf ps es → PutsInOrder es fs true → IsMapOf out ps fs
+in_order out ps es fs h o =
     let given = pairs_named ps es h in
     let moved = beside IsSpelledBy given.0 es fs o.0 given.2 in
     let sorted = ordered_by_sort given.0 moved.0 moved.1 (sorted_names moved.0 fs moved.2 (λ k d h. rw add-one at (o.1 k d (omega arith) (omega (arith, h)))) (λ k d h e. o.2 k d (omega (arith, h)) (rw add-one e))) in
@@ -187,7 +187,7 @@ in_order announced ps es fs h o =
     let is = tree_of ps given.0 (entries_of moved.0) false given.1 none sorted.1 in
     let as_ordered = tree_of ps given.0 (ordered_entries given.0) false given.1 none refl in
     let P : Option Tree → Type 0 = λ t. IfSome t IsTree in
-    record { text = text_by announced ps moved.0 fs is moved.2; good = subst P (sym as_ordered) (are_entries given.0 sorted.0 (good_pairs given.0 es given.2)) }
+    record { text = text_by out ps moved.0 fs is moved.2; good = subst P (sym as_ordered) (are_entries given.0 sorted.0 (good_pairs given.0 es given.2)) }
 
 -- ---- a row of pairs whose keys rise
 
@@ -245,7 +245,7 @@ rising_map ps n bs count h g r =
     let as_ordered = tree_of ps named.names (ordered_entries named.names) false named.are none refl in
     let length_is : length texts.0 ≡ n = sym (count ∙ pairwise_length IsSpellingOf ps texts.0 texts.1) in
     let P : Option Tree → Type 0 = λ t. IfSome t IsTree in (
-      text_by None ps named.names texts.0 is named.spelled_by ∙ ap₂ (λ k x. spelled_head 5 k ++? Some x) length_is (sym texts.2),
+      text_by false ps named.names texts.0 is named.spelled_by ∙ ap₂ (λ k x. spelled_head 5 k ++? Some x) length_is (sym texts.2),
       subst P (sym as_ordered) (are_entries named.names sorted.0 (good_pairs named.names texts.0 named.spelled_by)),
     )
 
@@ -265,20 +265,20 @@ repeats : (b : Bool) (qs : List Named) → repeats_key qs ≡ b → (AreDistinct
 repeats true qs e n = refl
 repeats false qs e n = absurd (n (distinct_from_test qs e))
 
-rest_None : (announced : Option ℕ) (ps : List Pair) → entries_tree ps ≡ None → map_rest announced ps ≡ None
-rest_None None ps e = ap spelled_tree e
-rest_None (Some n) ps e = ap entries_text e
+rest_None : (out : Bool) (ps : List Pair) → entries_tree ps ≡ None → map_rest out ps ≡ None
+rest_None false ps e = ap spelled_tree e
+rest_None true ps e = ap entries_text e
 
 -- where a key repeats there is no map
-pub no_order : (announced : Option ℕ) (ps : List Pair) (es fs : List Texts) → AreSpellingsOf ps es → PutsInOrder es fs false → (map_rest announced ps ≡ None) × RepeatsKey ps
-no_order announced ps es fs h o =
+pub no_order : (out : Bool) (ps : List Pair) (es fs : List Texts) → AreSpellingsOf ps es → PutsInOrder es fs false → (map_rest out ps ≡ None) × RepeatsKey ps
+no_order out ps es fs h o =
     let given = pairs_named ps es h in
     let moved = beside IsSpelledBy given.0 es fs o.0 given.2 in
     let apart : AreDistinct given.0 → ⊥ = λ d. clash moved.0 fs o.2.0 moved.2 (omega (arith, o.2.1)) (λ e. rw add-one at (o.2.2 e))
     (IsDistinct-IsPermutation same_place same_place_flips (keys_of given.0) (keys_of moved.0) (IsPermutation-map (λ p. p.0) given.0 moved.0 moved.1) d) in
     let twice = repeats (repeats_key given.0) given.0 refl apart in
     let P : Option (List Named) → Type 0 = λ o. IsSomeAnd o (λ pairs_named. IsTrue (repeats_key pairs_named)) in
-    (rest_None announced ps (tree_of ps given.0 (ordered_entries given.0) true given.1 twice refl), subst P (sym given.1) (search twice))
+    (rest_None out ps (tree_of ps given.0 (ordered_entries given.0) true given.1 twice refl), subst P (sym given.1) (search twice))
 
 -- ---- for the end of a collector
 
@@ -286,11 +286,11 @@ module _ (ps : List Pair) (es fs : List Texts) (b : Bool) (h : AreSpellingsOf ps
   at : (c : Bool) → b ≡ c → PutsInOrder es fs c
   at c e = subst (λ x. PutsInOrder es fs x) e o
 
-  pub in_order_written : {T E : Type 0} (announced : Option ℕ) (s t : Written) (r : Result T (EncodeError E)) → b ≡ true → Writes (head_rest announced (length fs) ++? Some (entries_bytes fs)) s t r → Writes (map_rest announced ps) s t r
-  in_order_written announced s t r e w = subst (λ x. Writes x s t r) (sym (in_order announced ps es fs h (at true e)).text) w
+  pub in_order_written : {T E : Type 0} (out : Bool) (s t : Written) (r : Result T (EncodeError E)) → b ≡ true → Writes (head_rest out (length fs) ++? Some (entries_bytes fs)) s t r → Writes (map_rest out ps) s t r
+  in_order_written out s t r e w = subst (λ x. Writes x s t r) (sym (in_order out ps es fs h (at true e)).text) w
 
   pub in_order_good : {T E : Type 0} (r : Result T E) → b ≡ true → OnOk r (IfSome (entries_tree ps) IsTree)
-  in_order_good r e = OnOk_of r (in_order None ps es fs h (at true e)).good
+  in_order_good r e = OnOk_of r (in_order false ps es fs h (at true e)).good
 
-  pub no_order_written : (announced : Option ℕ) → b ≡ false → (map_rest announced ps ≡ None) × RepeatsKey ps
-  no_order_written announced e = no_order announced ps es fs h (at false e)
+  pub no_order_written : (out : Bool) → b ≡ false → (map_rest out ps ≡ None) × RepeatsKey ps
+  no_order_written out e = no_order out ps es fs h (at false e)

@@ -1,5 +1,5 @@
 -- The entries of a map, written one after another.
-use Rattle.std.proofs.Common.{◌≡◌, ℕ, ◌+◌, ◌<◌, ◌≤◌, List, [], ◌∷◌, ◌++◌, length, get_or, drop, Option, Some, refl, sym, ap, ◌∙◌, subst, add-one, append_assoc}
+use Rattle.std.proofs.Common.{◌≡◌, ℕ, ◌+◌, ◌<◌, ◌≤◌, List, [], ◌∷◌, ◌++◌, length, get_or, drop, Option, Some, Bool, refl, sym, ap, ◌∙◌, subst, add-one, append_assoc}
 use Rattle.std.proofs.Math.Seq.{drop-cons}
 use Rattle.std.proofs.Math.ListN.{drop_of_length-le}
 use Rattle.std.specs.Fmt.{◌++?◌}
@@ -10,8 +10,8 @@ use Rattle.dagcbor_write.specs.Maps.{Texts}
 use Rattle.dagcbor_write.specs.Order.{head_rest, entries_bytes}
 
 -- a head, where it is not out yet, and the entries
-pub begin_entries : (announced : Option ℕ) (es : List Texts) (s : Written) → Written-but (head_rest announced (length es) ++? Some (entries_bytes es)) (head_rest announced (length es) ∷ Some (entries_bytes es) ∷ []) s s
-begin_entries announced es s = begin_writing _ _ s (ap (λ x. head_rest announced (length es) ++? x) (sym (append_Some (Some (entries_bytes es)))))
+pub begin_entries : (out : Bool) (es : List Texts) (s : Written) → Written-but (head_rest out (length es) ++? Some (entries_bytes es)) (head_rest out (length es) ∷ Some (entries_bytes es) ∷ []) s s
+begin_entries out es s = begin_writing _ _ s (ap (λ x. head_rest out (length es) ++? x) (sym (append_Some (Some (entries_bytes es)))))
 
 -- the first of the entries that are left
 pub at_entry : (es : List Texts) (i : ℕ) (bytes : List ℕ) → i < length es → ((d : Texts) → bytes ≡ (get_or es i d).0 ++ (get_or es i d).1) → (whole : Option (List ℕ)) (s t : Written) → Written-but whole (Some (entries_bytes (drop i es)) ∷ []) s t

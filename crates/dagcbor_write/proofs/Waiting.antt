@@ -11,27 +11,27 @@ use Rattle.dagcbor_heads.proofs.Writing.{join_parts, joined_assoc, append_Some, 
 use Rattle.dagcbor_write.specs.Gathering.{AppendsTo}
 use Rattle.dagcbor_write.specs.Each.{spelled_each}
 use Rattle.std.proofs.lemmas.List.{length-map}
-use Rattle.dagcbor_write.specs.declared.collect.collect_seq.Items.{Items}
-use Rattle.dagcbor_write.specs.declared.collect.collect_seq.Items.TheVariants.{Announced, Waits}
+use Rattle.dagcbor_write.specs.declared.collect.collect_seq.ListState.{ListState}
+use Rattle.dagcbor_write.specs.declared.collect.collect_seq.ListState.TheVariants.{Announced, Waits}
 use Rattle.ipld_tree.specs.Tree.{Tree, list_tree}
 use Rattle.ipld_tree.specs.Spelled.{spelled_tree, spelled_head}
 use Rattle.dagcbor_write.specs.Lists.{IsFresh, HasRoom, IsComplete, TakesElement, waiting_text}
 use Rattle.dagcbor_write.proofs.Lists.{spelled_list, each_joined}
 
 -- the items that wait are these texts
-abbrev pub Holds : Items → List (Option (List ℕ)) → Type 0
+abbrev pub Holds : ListState → List (Option (List ℕ)) → Type 0
 Holds (Announced left) texts = ⊥
 Holds (Waits b) texts = (join_parts texts ≡ Some b.bytes) × (b.count ≡ length texts)
 
-pub Holds_room : (items : Items) (texts : List (Option (List ℕ))) → Holds items texts → HasRoom items
+pub Holds_room : (items : ListState) (texts : List (Option (List ℕ))) → Holds items texts → HasRoom items
 Holds_room (Announced left) texts h = absurd h
 Holds_room (Waits b) texts h = tt
 
-pub Holds_complete : (items : Items) (texts : List (Option (List ℕ))) → Holds items texts → IsComplete items
+pub Holds_complete : (items : ListState) (texts : List (Option (List ℕ))) → Holds items texts → IsComplete items
 Holds_complete (Announced left) texts h = absurd h
 Holds_complete (Waits b) texts h = tt
 
-pub Holds_none : (items : Items) → IsFresh None items → Holds items []
+pub Holds_none : (items : ListState) → IsFresh None items → Holds items []
 Holds_none (Announced left) f = absurd f
 Holds_none (Waits b) f = (ap (λ w. Some w.bytes) (sym f), ap (λ w. w.count) f)
 
@@ -44,7 +44,7 @@ Grows_joins None old new a e g = absurd g
 Grows_joins (Some t) old new a e g = ap (λ (x : Option (List ℕ)). x ++? Some t) e ∙ ap Some (sym g)
 
 -- one more item waits
-pub Holds-more : {E : Type 0} (items : Items) (texts : List (Option (List ℕ))) (tree : Option Tree) (s : Written) (left : Items) (t : Written) (r : Result (Unit {0}) (EncodeError E)) → Holds items texts → IsOk r → TakesElement tree items s left t r → Holds left (texts ++ spelled_tree tree ∷ []) × (t ≡ s)
+pub Holds-more : {E : Type 0} (items : ListState) (texts : List (Option (List ℕ))) (tree : Option Tree) (s : Written) (left : ListState) (t : Written) (r : Result (Unit {0}) (EncodeError E)) → Holds items texts → IsOk r → TakesElement tree items s left t r → Holds left (texts ++ spelled_tree tree ∷ []) × (t ≡ s)
 Holds-more (Announced n) texts tree s left t r h k p = absurd h
 Holds-more (Waits b) texts tree s (Announced n) t r h k p = absurd p
 Holds-more (Waits b) texts tree s (Waits d) t (Err e) h k p = cc
@@ -52,7 +52,7 @@ Holds-more (Waits b) texts tree s (Waits d) t (Ok x) h k p =
     ((joined_append texts (spelled_tree tree) ∙ Grows_joins (spelled_tree tree) _ _ (join_parts texts) h.0 p.0.0.0, p.0.1 ∙ ap (λ (n : ℕ). n + 1) h.1 ∙ sym (length-append texts (spelled_tree tree ∷ []))), p.1)
 
 -- an item was refused
-pub Holds_refused : {T E : Type 0} (items : Items) (texts : List (Option (List ℕ))) (tree : Option Tree) (s : Written) (left : Items) (t : Written) (e : EncodeError E) (r : Result T (EncodeError E)) (whole : Option (List ℕ)) → Holds items texts → TakesElement {T = Unit {0}} tree items s left t (Err e) → (spelled_tree tree ≡ None → whole ≡ None) → IsErrAnd r (λ d. d ≡ e) → Writes whole s t r
+pub Holds_refused : {T E : Type 0} (items : ListState) (texts : List (Option (List ℕ))) (tree : Option Tree) (s : Written) (left : ListState) (t : Written) (e : EncodeError E) (r : Result T (EncodeError E)) (whole : Option (List ℕ)) → Holds items texts → TakesElement {T = Unit {0}} tree items s left t (Err e) → (spelled_tree tree ≡ None → whole ≡ None) → IsErrAnd r (λ d. d ≡ e) → Writes whole s t r
 Holds_refused (Announced n) texts tree s left t e r whole h p f k = absurd h
 Holds_refused (Waits b) texts tree s (Announced n) t e r whole h p f k = absurd p
 Holds_refused (Waits b) texts tree s (Waits d) t e (Ok x) whole h p f k = absurd k
@@ -65,7 +65,7 @@ Holds_refused {T} {E} (Waits b) texts tree s (Waits d) t OutOfMemory (Err e) who
     subst P (sym p.1) (subst Q (sym k) (wrote_nothing whole s, refl, refl))
 
 -- what waits is the list of the trees
-pub Holds_list : (items : Items) (os : List (Option Tree)) → Holds items (map spelled_tree os) → waiting_text items ≡ spelled_tree (list_tree os)
+pub Holds_list : (items : ListState) (os : List (Option Tree)) → Holds items (map spelled_tree os) → waiting_text items ≡ spelled_tree (list_tree os)
 Holds_list (Announced n) os h = absurd h
 Holds_list (Waits b) os h =
     ap (λ (k : ℕ). spelled_head 4 k ++? Some b.bytes) (h.1 ∙ length-map os spelled_tree) ∙
@@ -95,14 +95,14 @@ texts_more {A} tree xs i x h e =
     sym (map_more spelled_tree (map tree (take i xs)) (tree x)) ∙ ap (λ (os : List (Option Tree)). map spelled_tree os) (sym (map_more tree (take i xs) x) ∙ ap (λ (ys : List A). map tree ys) last)
 
 -- the same, of a loop that goes over the items
-pub Holds_next : {E : Type 0} {A : Type 0} (tree : A → Option Tree) (xs : List A) (i : ℕ) (x : A) (items : Items) (start s : Written) (left : Items) (t : Written) (r : Result (Unit {0}) (EncodeError E)) → i < length xs → x ≡ get_or xs i x → Holds items (map spelled_tree (map tree (take i xs))) → WroteAll (Some []) start s → IsOk r → TakesElement (tree x) items s left t r → Holds left (map spelled_tree (map tree (take (i + 1) xs))) × WroteAll (Some []) start t
+pub Holds_next : {E : Type 0} {A : Type 0} (tree : A → Option Tree) (xs : List A) (i : ℕ) (x : A) (items : ListState) (start s : Written) (left : ListState) (t : Written) (r : Result (Unit {0}) (EncodeError E)) → i < length xs → x ≡ get_or xs i x → Holds items (map spelled_tree (map tree (take i xs))) → WroteAll (Some []) start s → IsOk r → TakesElement (tree x) items s left t r → Holds left (map spelled_tree (map tree (take (i + 1) xs))) × WroteAll (Some []) start t
 Holds_next tree xs i x items start s left t r h e holds nothing k p =
     let P : List (Option (List ℕ)) → Type 0 = λ texts. Holds left texts in
     let Q : Written → Type 0 = λ u. WroteAll (Some []) start u in
     let m = Holds-more items (map spelled_tree (map tree (take i xs))) (tree x) s left t r holds k p in
     (subst P (texts_more tree xs i x h e) m.0, subst Q (sym m.1) nothing)
 
-pub Holds_all : {A : Type 0} (tree : A → Option Tree) (xs : List A) (i : ℕ) (items : Items) → length xs ≤ i → Holds items (map spelled_tree (map tree (take i xs))) → waiting_text items ≡ spelled_tree (list_tree (map tree xs))
+pub Holds_all : {A : Type 0} (tree : A → Option Tree) (xs : List A) (i : ℕ) (items : ListState) → length xs ≤ i → Holds items (map spelled_tree (map tree (take i xs))) → waiting_text items ≡ spelled_tree (list_tree (map tree xs))
 Holds_all {A} tree xs i items h holds =
     let P : List A → Type 0 = λ ys. Holds items (map spelled_tree (map tree ys)) in
     Holds_list items (map tree xs) (subst P (take_all i xs h) holds)

@@ -20,8 +20,8 @@ abbrev pub Grows : Option Tree → List ℕ → List ℕ → Type 0
 Grows tree old new = AppendsTo old new (spelled_tree tree) × IfSome tree IsTree
 
 -- the cause of this message: the tree has no spelling
-abbrev pub NoSpelling : List ℕ → Option Tree → List ℕ → Type 0
-NoSpelling message tree m = (m ≡ message) × (spelled_tree tree ≡ None)
+abbrev pub RefusedFor : List ℕ → Option Tree → List ℕ → Type 0
+RefusedFor message tree m = (m ≡ message) × (spelled_tree tree ≡ None)
 
 -- what was handed over was refused: with a message, only for its cause; no device can fault
 abbrev pub Refused : {E : Type 0} → (List ℕ → Type 0) → EncodeError E → Type 0

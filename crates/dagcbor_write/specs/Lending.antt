@@ -23,8 +23,8 @@ bounded_lent c = c.ser
 abbrev pub map_state : {W G : Type 0} → CollectMap W G → G
 map_state c = c.state
 
-abbrev pub list_items : {W I : Type 0} → CollectSeq W I → I
-list_items c = c.items
+abbrev pub list_state : {W I : Type 0} → CollectSeq W I → I
+list_state c = c.items
 
 -- how many of the announced items are still to come
 abbrev pub bounded_left : {W : Type 0} → BoundedCollect W → ℕ

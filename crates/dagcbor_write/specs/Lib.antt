@@ -15,5 +15,6 @@ pub mod Maps
 pub mod Order
 pub mod Rows
 pub mod Lending
+pub mod Bounded
 pub mod Spans
 pub mod Laws

@@ -1,7 +1,7 @@
 -- What the collector of a map is given, holds and does.
 use Rattle.std.specs.Prelude.{◌≡◌, ◌⊎◌, ℕ, ◌/◌, Bool, true, false, ◌&&◌, is_none, nat_eq, IsTrue}
 use Rattle.std.specs.Prelude.{List, [], ◌∷◌, ◌++◌, length, map, Option, None, Some}
-use Rattle.std.specs.Prelude.{option_and_then, IfSome, IsSomeAnd, Any, codes, Result, OnOk, OnErr}
+use Rattle.std.specs.Prelude.{option_and_then, IfSome, IsSomeAnd, Any, codes, Result, OnErr}
 use Rattle.dagcbor_heads.specs.declared.error.EncodeError.{EncodeError}
 use Rattle.std.specs.Iterator.{YieldsFirstBy}
 use Rattle.ipld_tree.specs.Tree.{Tree, text, mapping, IsTree, key_of, all_some, pair_of}
@@ -9,7 +9,7 @@ use Rattle.ipld_tree.specs.Tree.{repeats_key, entries_tree}
 use Rattle.ipld_tree.specs.Spelled.{spelled, spelled_entries, spelled_tree}
 use Rattle.dagcbor_write.specs.Pairwise.{Pairwise}
 use Rattle.dagcbor_write.specs.Trees.{Pair}
-use Rattle.dagcbor_write.specs.Gathering.{NoSpelling, Collects}
+use Rattle.dagcbor_write.specs.Gathering.{RefusedFor, Refused, Collects}
 
 -- the spellings of a key and of its value
 abbrev pub Texts : Type 0
@@ -47,12 +47,12 @@ spelled_key key = option_and_then (λ k. spelled (text k)) (option_and_then key_
 
 -- the causes of a key's message: it has no spelling, or is no text
 abbrev pub RefusesKey : Option Tree → List ℕ → Type 0
-RefusesKey key m = NoSpelling (codes "Map key cannot be serialized.") key m
+RefusesKey key m = RefusedFor (codes "Map key cannot be serialized.") key m
     ⊎ ((m ≡ codes "Map keys must be strings") × (option_and_then key_of key ≡ None))
 
 -- the cause of a value's message: it has no spelling
 abbrev pub RefusesValue : Option Tree → List ℕ → Type 0
-RefusesValue value m = NoSpelling (codes "Struct value cannot be serialized.") value m
+RefusesValue value m = RefusedFor (codes "Struct value cannot be serialized.") value m
 
 abbrev pub RefusesEntry : Option Tree → Option Tree → List ℕ → Type 0
 RefusesEntry key value m = RefusesKey key m ⊎ RefusesValue value m
@@ -77,9 +77,9 @@ abbrev pub JoinsEntry : Option Tree → Option Tree → List Texts → List Text
 JoinsEntry key value old new = JoinsValue (spelled_key key) value old new × IfSome key IsTree
 
 -- a key and its value joined the others, or one of them was refused, and then the others stay
-pub record TakesEntry {T E : Type 0} (key value : Option Tree) (IsMessage : List ℕ → Type 0) (old new : MapState) (r : Result T (EncodeError E)) : Type 0 where
+pub record TakesEntry {T E : Type 0} (key value : Option Tree) (Cause : List ℕ → Type 0) (old new : MapState) (r : Result T (EncodeError E)) : Type 0 where
   pub no_key : new.key ≡ None
-  pub joins : Collects (λ u. JoinsEntry key value old.entries new.entries) IsMessage r
+  pub joins : Collects (λ u. JoinsEntry key value old.entries new.entries) Cause r
   pub kept : OnErr r (new.entries ≡ old.entries)
 
 -- ---- the end of a map
@@ -100,19 +100,32 @@ abbrev pub entries_text : Option Tree → Option (List ℕ)
 entries_text (Some (mapping es)) = spelled_entries es
 entries_text o = None
 
--- what is still to be written of the map of the pairs: all of it, or what follows the head that was
--- announced
-abbrev pub map_rest : Option ℕ → List Pair → Option (List ℕ)
-map_rest None ps = spelled_tree (entries_tree ps)
-map_rest (Some n) ps = entries_text (entries_tree ps)
+-- what is still to be written of the map of the pairs: all of it, or where its head is out what
+-- follows that
+abbrev pub map_rest : Bool → List Pair → Option (List ℕ)
+map_rest false ps = spelled_tree (entries_tree ps)
+map_rest true ps = entries_text (entries_tree ps)
 
 -- the spellings of well-formed pairs, in turn, joined the others
 abbrev pub JoinsPairs : List Pair → List Texts → List Texts → Type 0
 JoinsPairs ps old new = (more : List Texts) × AreSpellingsOf ps more × (new ≡ old ++ more)
 
--- the cause of a value's message: one of the values has no spelling
+-- the pairs before one joined the others, and the value of that one was refused
+pub record StopsAtPair {E : Type 0} (ps : List Pair) (old new : List Texts) (e : EncodeError E) : Type 0 where
+  pub taken : List Pair
+  pub refused : Pair
+  pub left : List Pair
+  pub split : ps ≡ taken ++ refused ∷ left
+  pub joined : JoinsPairs taken old new
+  pub cause : Refused (RefusesValue refused.1) e
+
+-- one of the values has no spelling
+abbrev pub LacksValue : List Pair → Type 0
+LacksValue ps = Any (λ p. spelled_tree p.1 ≡ None) ps
+
+-- the cause of a value's message, where it may be that of any pair
 abbrev pub RefusesAnyValue : List Pair → List ℕ → Type 0
-RefusesAnyValue ps m = Any (λ p. RefusesValue p.1 m) ps
+RefusesAnyValue ps m = (m ≡ codes "Struct value cannot be serialized.") × LacksValue ps
 
 -- what an iterator has left shows as these pairs: a call gives the first of them
 abbrev pub ShowsPairs : {S A : Type 0} → (S → Option A → S → Type 0) → (A → Pair)
@@ -123,3 +136,11 @@ ShowsPairs {S} {A} gives pair rest = (s : S) (r : Option A) (t : S) → gives s 
 -- a key of the pairs is there twice
 abbrev pub RepeatsKey : List Pair → Type 0
 RepeatsKey ps = IsSomeAnd (all_some (map pair_of ps)) (λ named. IsTrue (repeats_key named))
+
+-- the cause of a map's message: a key is there twice
+abbrev pub RefusesKeys : List Pair → List ℕ → Type 0
+RefusesKeys ps m = (m ≡ codes "Map keys must be unique") × RepeatsKey ps
+
+-- the causes of a struct's message: a value's, or where all have spellings that of the keys
+abbrev pub RefusesPairs : List Pair → List ℕ → Type 0
+RefusesPairs ps m = RefusesAnyValue ps m ⊎ (RefusesKeys ps m × ¬ LacksValue ps)

@@ -1,6 +1,6 @@
 -- What putting the entries of a map into key order answers.
 use Rattle.std.specs.Prelude.{◌≡◌, ◌≢◌, ℕ, ◌+◌, ◌<◌, Bool, true, false, List, [], ◌∷◌, ◌++◌, Option}
-use Rattle.std.specs.Prelude.{None, Some, length, slice_index_or, IsPermutation}
+use Rattle.std.specs.Prelude.{Some, length, slice_index_or, IsPermutation}
 use Rattle.std.specs.List.Sorted.{IsSortedBy}
 use Rattle.std.specs.Ordering.{is_lt}
 use Rattle.ipld_tree.specs.Key.{bytes_cmp}
@@ -23,10 +23,10 @@ goes_before d e = is_lt (bytes_cmp (d.0 ++ d.1) (e.0 ++ e.1))
 abbrev pub PutsInOrder : List Texts → List Texts → Bool → Type 0
 PutsInOrder old new b = IsPermutation old new × IsSortedBy goes_before new × KeysDiffer new b
 
--- the head of a map, where it is not out yet
-abbrev pub head_rest : Option ℕ → ℕ → Option (List ℕ)
-head_rest None n = spelled_head 5 n
-head_rest (Some m) n = Some []
+-- the head of a map of n entries, where it is not out yet
+abbrev pub head_rest : Bool → ℕ → Option (List ℕ)
+head_rest false n = spelled_head 5 n
+head_rest true n = Some []
 
 -- the entries, one after another
 abbrev pub entries_bytes : List Texts → List ℕ

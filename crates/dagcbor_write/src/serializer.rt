@@ -331,6 +331,7 @@ impl<W: Write> Serializer<W> {
     pub(crate) fn push_variant(&mut self, name: &str) -> WriteResult<(), W>
         ensures written { Writes (variant_head name.now)
             (W.written self.old) (W.written self.new) result }
+        ensures memory { WantsMemoryOnlyIf W.takes_memory result }
         ensures well_formed { OnOk result (IsTree (text name.now)) }
     {
         self.push_head(5, 1)?;
@@ -347,6 +348,7 @@ impl<W: Write> Serializer<W> {
         requires { major ≤ 7 }
         ensures written { Writes (variant_head variant.now ++? spelled_head major len)
             (W.written self.old) (W.written self.new) result }
+        ensures memory { WantsMemoryOnlyIf W.takes_memory result }
         ensures well_formed { OnOk result (IsTree (text variant.now)) }
     {
         self.push_variant(variant)?;

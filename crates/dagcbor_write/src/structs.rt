@@ -1,15 +1,17 @@
 //! Structs that are written by a row of their fields.
 
 ghost use Rattle.std.specs.Prelude.{◌≡◌, ◌+◌, List, [], ◌∷◌, length, None, OnOk, IfErr, IfSome};
+ghost use Rattle.std.specs.Prelude.{MatchResult};
 ghost use Rattle.ipld_tree.specs.Key.{comes_before};
 ghost use Rattle.dagcbor_write.specs.Answers.{OnMessage};
-ghost use Rattle.dagcbor_heads.specs.Written.{Writes};
+ghost use Rattle.dagcbor_heads.specs.Written.{Writes, WroteAll};
 ghost use Rattle.ipld_tree.specs.Tree.{IsTree, entries_tree};
 ghost use Rattle.ipld_tree.specs.Spelled.{spelled_tree};
 ghost use Rattle.dagcbor_write.specs.Gathering.{AppendsTo, Collects};
 ghost use Rattle.dagcbor_write.specs.Rows.{spelled_pairs, ArePairs, KeysRise};
-ghost use Rattle.dagcbor_write.specs.Trees.{Pair, field, variant_tree};
-ghost use Rattle.dagcbor_write.specs.Maps.{JoinsPairs, RefusesAnyValue};
+ghost use Rattle.dagcbor_write.specs.Trees.{Pair, field, variant_tree, variant_head};
+ghost use Rattle.dagcbor_write.specs.Maps.{JoinsPairs, StopsAtPair, LacksValue, RefusesAnyValue};
+ghost use Rattle.dagcbor_write.specs.Maps.{RefusesPairs};
 ghost use Rattle.dagcbor_write.specs.Lending.{map_state, WritesNothing};
 
 use crate::collect::buffer::take_first_room;
@@ -35,14 +37,14 @@ pub trait FieldRow: Copy {
     ghost pairs: { Self → List Pair };
 
     /// Hands the fields over, one after another. Refused with `Msg("Struct value cannot be
-    /// serialized.")` where one has no spelling.
+    /// serialized.")` where one has no spelling; those before it stay then.
     fn push_fields<W: Write>(self, map: &mut CollectMap<'_, W>) -> WriteResult<(), W>
         requires { (map_state map.old).key ≡ None }
         ensures nothing_written { WritesNothing map.old map.new }
-        ensures key { OnOk result ((map_state map.new).key ≡ None) }
-        ensures entries { Collects
-            (λ u. JoinsPairs (pairs self) (map_state map.old).entries (map_state map.new).entries)
-            (RefusesAnyValue (pairs self)) result };
+        ensures key { (map_state map.new).key ≡ None }
+        ensures entries { MatchResult result
+            (λ _. JoinsPairs (pairs self) (map_state map.old).entries (map_state map.new).entries)
+            (StopsAtPair (pairs self) (map_state map.old).entries (map_state map.new).entries) };
 
     /// How many fields there are, and `before` more, where each name stands behind the one before
     /// it, in key order, and the first behind `last`. None where one does not, or where they are
@@ -55,7 +57,8 @@ pub trait FieldRow: Copy {
     fn write_fields<W: Write>(self, alloc: Global, ser: &mut Serializer<W>) -> WriteResult<(), W>
         ensures written { Writes (spelled_pairs (pairs self))
             (W.written ser.old) (W.written ser.new) result }
-        ensures well_formed { OnOk result (ArePairs (pairs self)) };
+        ensures well_formed { OnOk result (ArePairs (pairs self)) }
+        ensures message { IfErr result (OnMessage (λ _. LacksValue (pairs self))) };
 }
 
 impl FieldRow for () {
@@ -130,7 +133,7 @@ fn gather_fields<F: FieldRow, E>(
 ) -> Result<(), EncodeError<E>>
     ensures { Collects (λ u. AppendsTo bytes.old.items bytes.new.items (spelled_pairs (F.pairs fields))
         × ArePairs (F.pairs fields))
-        (λ m. spelled_pairs (F.pairs fields) ≡ None) result }
+        (RefusesAnyValue (F.pairs fields)) result }
 {
     if take_first_room(bytes).is_err() {
         return Err(EncodeError::OutOfMemory);
@@ -160,7 +163,8 @@ fn write_rising<F: FieldRow, W: Write>(
     ensures written { Writes (spelled_tree (entries_tree (F.pairs fields)))
         (W.written ser.old) (W.written ser.new) result }
     ensures well_formed { OnOk result (IfSome (entries_tree (F.pairs fields)) IsTree) }
-    ensures unsent { IfErr result (OnMessage (λ m. ser.new ≡ ser.old)) }
+    ensures message { IfErr result
+        (OnMessage (λ m. RefusesAnyValue (F.pairs fields) m × (ser.new ≡ ser.old))) }
 {
     let mut bytes = Vec::new(alloc);
     gather_fields(alloc, &mut bytes, fields)?;
@@ -180,7 +184,8 @@ fn write_any<F: FieldRow, W: Write>(
     ensures written { Writes (spelled_tree (entries_tree (F.pairs fields)))
         (W.written ser.old) (W.written ser.new) result }
     ensures well_formed { OnOk result (IfSome (entries_tree (F.pairs fields)) IsTree) }
-    ensures unsent { IfErr result (OnMessage (λ m. ser.new ≡ ser.old)) }
+    ensures message { IfErr result
+        (OnMessage (λ m. RefusesPairs (F.pairs fields) m × (ser.new ≡ ser.old))) }
 {
     let mut map = ser.serialize_map(alloc, None);
     fields.push_fields(&mut map)?;
@@ -188,7 +193,9 @@ fn write_any<F: FieldRow, W: Write>(
 }
 
 /// Writes a struct of these fields, as a map, in key order. Nothing goes out before each field has
-/// been spelled in memory. Where the row is in key order already, nothing is sorted.
+/// been spelled in memory. Where the row is in key order already, nothing is sorted. Refused with
+/// `Msg("Struct value cannot be serialized.")` where a value has no spelling, else with `Msg("Map
+/// keys must be unique")` where a name is there twice.
 ///
 /// ```rust
 /// let fields = (Field("year", &self.year), (Field("text", &self.text), ()));
@@ -202,7 +209,8 @@ pub fn write_struct<F: FieldRow, W: Write>(
     ensures written { Writes (spelled_tree (entries_tree (F.pairs fields)))
         (W.written ser.old) (W.written ser.new) result }
     ensures well_formed { OnOk result (IfSome (entries_tree (F.pairs fields)) IsTree) }
-    ensures unsent { IfErr result (OnMessage (λ m. ser.new ≡ ser.old)) }
+    ensures message { IfErr result
+        (OnMessage (λ m. RefusesPairs (F.pairs fields) m × (ser.new ≡ ser.old))) }
 {
     match fields.count_rising("", 0) {
         Some(count) => write_rising(alloc, fields, count, ser),
@@ -211,7 +219,7 @@ pub fn write_struct<F: FieldRow, W: Write>(
 }
 
 /// Writes a variant with these fields: a map of one entry, from the variant's name to the map of
-/// the fields.
+/// the fields. Refused with a message as `write_struct`; the variant's name is out then.
 ///
 /// ```rust
 /// let fields = (Field("x", x), (Field("y", y), ()));
@@ -228,6 +236,8 @@ pub fn write_struct_variant<F: FieldRow, W: Write>(
         (W.written ser.old) (W.written ser.new) result }
     ensures well_formed { OnOk result
         (IfSome (variant_tree variant.now (entries_tree (F.pairs fields))) IsTree) }
+    ensures message { IfErr result (OnMessage (λ m. RefusesPairs (F.pairs fields) m
+        × WroteAll (variant_head variant.now) (W.written ser.old) (W.written ser.new))) }
 {
     ser.push_variant(variant)?;
     write_struct(alloc, fields, ser)

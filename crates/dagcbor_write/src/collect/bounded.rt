@@ -1,13 +1,13 @@
 //! The collector of a list whose number of items is known.
 
-ghost use Rattle.std.specs.Prelude.{◌≡◌, ◌+◌, ◌<◌, IfOk, OnOk, IfSome, IsOk};
+ghost use Rattle.std.specs.Prelude.{◌≡◌, ◌<◌, OnOk, IsOk};
 ghost use Rattle.std.specs.Borrow.{sem};
 ghost use Rattle.std.specs.Fmt.{◌++?◌};
-ghost use Rattle.dagcbor_heads.specs.Written.{Writes, WroteAll, WantsMemoryOnlyIf};
 ghost use Rattle.ipld_tree.specs.Tree.{text, IsTree};
-ghost use Rattle.ipld_tree.specs.Spelled.{spelled_tree, spelled_head};
+ghost use Rattle.ipld_tree.specs.Spelled.{spelled_head};
 ghost use Rattle.dagcbor_write.specs.Trees.{variant_head};
-ghost use Rattle.dagcbor_write.specs.Lending.{bounded_lent, bounded_left, SameLoan, BeginsOrStops};
+ghost use Rattle.dagcbor_write.specs.Lending.{bounded_lent, bounded_left, BeginsOrStops};
+ghost use Rattle.dagcbor_write.specs.Bounded.{BeginsList, WritesItem};
 
 use crate::serialize::Serialize;
 use crate::serializer::Serializer;
@@ -42,11 +42,8 @@ impl<W: Write> Serializer<W> {
     ) -> WriteResult<BoundedCollect<'_, W>, W>
         ensures* refused { sem 𝓛 (BeginsOrStops W.row W.written bounded_lent self.entry
             (spelled_head 4 len) result) }
-        ensures same_reference { IfOk result (λ c. SameLoan self.entry (bounded_lent c)) }
-        ensures head { IfOk result (λ c. WroteAll (spelled_head 4 len)
-            (W.written self.old) (W.written (bounded_lent c).now)) }
-        ensures left { IfOk result (λ c. bounded_left c ≡ len) }
-        ensures memory { WantsMemoryOnlyIf W.takes_memory result }
+        ensures begins { BeginsList W.written W.takes_memory (spelled_head 4 len)
+            len self.entry result }
     {
         self.push_head(4, len)?;
         Ok(BoundedCollect {
@@ -65,10 +62,8 @@ impl<W: Write> Serializer<W> {
     ) -> WriteResult<BoundedCollect<'_, W>, W>
         ensures* refused { sem 𝓛 (BeginsOrStops W.row W.written bounded_lent self.entry
             (spelled_head 4 len) result) }
-        ensures same_reference { IfOk result (λ c. SameLoan self.entry (bounded_lent c)) }
-        ensures head { IfOk result (λ c. WroteAll (spelled_head 4 len)
-            (W.written self.old) (W.written (bounded_lent c).now)) }
-        ensures left { IfOk result (λ c. bounded_left c ≡ len) }
+        ensures begins { BeginsList W.written W.takes_memory (spelled_head 4 len)
+            len self.entry result }
     {
         self.serialize_tuple(alloc, len)
     }
@@ -85,10 +80,8 @@ impl<W: Write> Serializer<W> {
     ) -> WriteResult<BoundedCollect<'_, W>, W>
         ensures* refused { sem 𝓛 (BeginsOrStops W.row W.written bounded_lent self.entry
             (variant_head variant.now ++? spelled_head 4 len) result) }
-        ensures same_reference { IfOk result (λ c. SameLoan self.entry (bounded_lent c)) }
-        ensures head { IfOk result (λ c. WroteAll (variant_head variant.now ++? spelled_head 4 len)
-            (W.written self.old) (W.written (bounded_lent c).now)) }
-        ensures left { IfOk result (λ c. bounded_left c ≡ len) }
+        ensures begins { BeginsList W.written W.takes_memory
+            (variant_head variant.now ++? spelled_head 4 len) len self.entry result }
         ensures good_name { OnOk result (IsTree (text variant.now)) }
     {
         self.push_variant_of(variant, 4, len)?;
@@ -111,11 +104,7 @@ impl<W: Write> BoundedCollect<'_, W> {
     /// Writes the next item.
     pub fn serialize_element<T: Serialize>(&mut self, value: &T) -> WriteResult<(), W>
         requires { 0 < bounded_left self.old }
-        ensures same_reference { SameLoan (bounded_lent self.old) (bounded_lent self.new) }
-        ensures left { bounded_left self.new + 1 ≡ bounded_left self.old }
-        ensures item { Writes (spelled_tree (T.tree value.now))
-            (W.written (bounded_lent self.old).now) (W.written (bounded_lent self.new).now) result }
-        ensures well_formed { OnOk result (IfSome (T.tree value.now) IsTree) }
+        ensures { WritesItem W.written (T.tree value.now) self.old self.new result }
     {
         self.left -= 1;
         value.serialize(self.alloc, self.ser)
@@ -124,11 +113,7 @@ impl<W: Write> BoundedCollect<'_, W> {
     /// Writes the next field: as `serialize_element`.
     pub fn serialize_field<T: Serialize>(&mut self, value: &T) -> WriteResult<(), W>
         requires { 0 < bounded_left self.old }
-        ensures same_reference { SameLoan (bounded_lent self.old) (bounded_lent self.new) }
-        ensures left { bounded_left self.new + 1 ≡ bounded_left self.old }
-        ensures item { Writes (spelled_tree (T.tree value.now))
-            (W.written (bounded_lent self.old).now) (W.written (bounded_lent self.new).now) result }
-        ensures well_formed { OnOk result (IfSome (T.tree value.now) IsTree) }
+        ensures { WritesItem W.written (T.tree value.now) self.old self.new result }
     {
         self.serialize_element(value)
     }

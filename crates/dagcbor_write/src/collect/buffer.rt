@@ -1,7 +1,7 @@
 //! Values that are written to memory before they go out.
 
 ghost use Rattle.std.specs.Prelude.{◌≡◌, ◌+◌, ◌≤◌, [], length, OnErr};
-ghost use Rattle.dagcbor_write.specs.Gathering.{Waiting, Grows, NoSpelling, Collects};
+ghost use Rattle.dagcbor_write.specs.Gathering.{Waiting, Grows, RefusedFor, Collects};
 
 use crate::serialize::Serialize;
 use crate::serializer::Serializer;
@@ -33,7 +33,7 @@ pub(crate) fn append<T: Serialize, E>(
 ) -> Result<(), EncodeError<E>>
     requires { length refusal.now ≤ 63 }
     ensures taken { Collects (λ u. Grows (T.tree value.now) bytes.old.items bytes.new.items)
-        (NoSpelling refusal.now (T.tree value.now)) result }
+        (RefusedFor refusal.now (T.tree value.now)) result }
     ensures kept { OnErr result (bytes.new.items ≡ bytes.old.items) }
 {
     if take_first_room(bytes).is_err() {
@@ -102,7 +102,7 @@ impl Buffer {
         ensures taken { Collects
             (λ u. Grows (T.tree value.now) self.old.bytes self.new.bytes
             × (self.new.count ≡ self.old.count + 1))
-            (NoSpelling refusal.now (T.tree value.now)) result }
+            (RefusedFor refusal.now (T.tree value.now)) result }
         ensures kept { OnErr result (self.new ≡ self.old) }
     {
         append(alloc, &mut self.bytes, value, refusal)?;

@@ -1,7 +1,7 @@
 //! The collector of a map.
 
 ghost use Rattle.std.specs.Prelude.{◌≡◌, List, Option, Some, None, IfOk, IfErr, OnErr, OnOk};
-ghost use Rattle.std.specs.Prelude.{IfSome, IsSome, IsTrue, is_some, codes, length};
+ghost use Rattle.std.specs.Prelude.{IfSome, IsSome, IsTrue, is_some, length};
 ghost use Rattle.std.specs.Borrow.{sem};
 ghost use Rattle.std.specs.Fmt.{◌++?◌};
 ghost use Rattle.dagcbor_heads.specs.Written.{Writes, WroteAll, WantsMemoryOnlyIf};
@@ -12,7 +12,7 @@ ghost use Rattle.dagcbor_write.specs.Gathering.{Collects};
 ghost use Rattle.dagcbor_write.specs.Trees.{Pair, variant_head};
 ghost use Rattle.dagcbor_write.specs.Maps.{no_entry_yet, is_complete, HoldsKey, JoinsValue};
 ghost use Rattle.dagcbor_write.specs.Maps.{TakesEntry, RefusesKey, RefusesValue, RefusesEntry};
-ghost use Rattle.dagcbor_write.specs.Maps.{AreSpellingsOf, RepeatsKey, map_rest};
+ghost use Rattle.dagcbor_write.specs.Maps.{AreSpellingsOf, RefusesKeys, map_rest};
 ghost use Rattle.dagcbor_write.specs.Order.{head_rest, entries_bytes};
 ghost use Rattle.dagcbor_write.specs.Lending.{map_lent, map_state, SameLoan, WritesNothing};
 ghost use Rattle.dagcbor_write.specs.Lending.{BeginsOrStops};
@@ -72,6 +72,7 @@ impl<W: Write> Serializer<W> {
         ensures head { IfOk result (λ c. WroteAll (spelled_head 5 len)
             (W.written self.old) (W.written (map_lent c).now)) }
         ensures nothing { IfOk result (λ c. map_state c ≡ no_entry_yet (Some len)) }
+        ensures memory { WantsMemoryOnlyIf W.takes_memory result }
     {
         self.push_head(5, len)?;
         Ok(CollectMap {
@@ -98,6 +99,7 @@ impl<W: Write> Serializer<W> {
             (W.written self.old) (W.written (map_lent c).now)) }
         ensures nothing { IfOk result (λ c. map_state c ≡ no_entry_yet (Some len)) }
         ensures good_name { OnOk result (IsTree (text variant.now)) }
+        ensures memory { WantsMemoryOnlyIf W.takes_memory result }
     {
         self.push_variant_of(variant, 5, len)?;
         Ok(CollectMap {
@@ -110,13 +112,12 @@ impl<W: Write> Serializer<W> {
     /// Writes the entries in key order, behind the head if that is not out yet.
     fn push_map(&mut self, mut state: Gathered) -> WriteResult<(), W>
         ensures written { (given : List Pair) → AreSpellingsOf given state.entries
-            → Writes (map_rest state.announced given)
+            → Writes (map_rest (is_some state.announced) given)
             (W.written self.old) (W.written self.new) result }
         ensures well_formed { (given : List Pair) → AreSpellingsOf given state.entries
             → OnOk result (IfSome (entries_tree given) IsTree) }
         ensures message { (given : List Pair) → AreSpellingsOf given state.entries
-            → IfErr result (OnMessage (λ m. (m ≡ codes "Map keys must be unique")
-            × RepeatsKey given × (self.new ≡ self.old))) }
+            → IfErr result (OnMessage (λ m. RefusesKeys given m × (self.new ≡ self.old))) }
         ensures memory { WantsMemoryOnlyIf W.takes_memory result }
     {
         if state.put_in_order() {
@@ -128,7 +129,7 @@ impl<W: Write> Serializer<W> {
 
     /// Writes the head of a map, if it is not out yet.
     fn push_head_if_due(&mut self, announced: Option<usize>, count: usize) -> WriteResult<(), W>
-        ensures written { Writes (head_rest announced count)
+        ensures written { Writes (head_rest (is_some announced) count)
             (W.written self.old) (W.written self.new) result }
         ensures memory { WantsMemoryOnlyIf W.takes_memory result }
     {
@@ -140,7 +141,8 @@ impl<W: Write> Serializer<W> {
 
     /// Writes the entries as they stand, behind the head if that is not out yet.
     fn push_entries(&mut self, state: &Gathered) -> WriteResult<(), W>
-        ensures written { Writes (head_rest state.now.announced (length state.now.entries)
+        ensures written { Writes
+            (head_rest (is_some state.now.announced) (length state.now.entries)
             ++? Some (entries_bytes state.now.entries))
             (W.written self.old) (W.written self.new) result }
         ensures memory { WantsMemoryOnlyIf W.takes_memory result }
@@ -231,14 +233,14 @@ impl<W: Write> CollectMap<'_, W> {
     pub fn end(self) -> WriteResult<(), W>
         requires { IsTrue (is_complete (map_state self)) }
         ensures written { (given : List Pair) → AreSpellingsOf given (map_state self.entry).entries
-            → Writes (map_rest (map_state self.entry).announced given)
+            → Writes (map_rest (is_some (map_state self.entry).announced) given)
             (W.written (map_lent self.entry).now) (W.written self.exit.0.now) result }
         ensures well_formed { (given : List Pair)
             → AreSpellingsOf given (map_state self.entry).entries
             → OnOk result (IfSome (entries_tree given) IsTree) }
         ensures message { (given : List Pair) → AreSpellingsOf given (map_state self.entry).entries
-            → IfErr result (OnMessage (λ m. (m ≡ codes "Map keys must be unique")
-            × RepeatsKey given × (self.exit.0.now ≡ (map_lent self.entry).now))) }
+            → IfErr result (OnMessage (λ m. RefusesKeys given m
+            × (self.exit.0.now ≡ (map_lent self.entry).now))) }
         ensures memory { WantsMemoryOnlyIf W.takes_memory result }
     {
         let Self {

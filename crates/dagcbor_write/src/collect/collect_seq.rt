@@ -1,6 +1,6 @@
 //! The collector of a list whose number of items may come last.
 
-ghost use Rattle.std.specs.Prelude.{◌≡◌, IfOk, IsOk, OnOk, IfSome, IsSome, Some};
+ghost use Rattle.std.specs.Prelude.{◌≡◌, IfOk, IsOk, OnOk, IfSome, IsSome, IsNone, IsOkAnd, Some};
 ghost use Rattle.std.specs.Borrow.{sem};
 ghost use Rattle.std.specs.Fmt.{◌++?◌};
 ghost use Rattle.dagcbor_heads.specs.Written.{Writes, WroteAll, WantsMemoryOnlyIf};
@@ -8,7 +8,7 @@ ghost use Rattle.ipld_tree.specs.Tree.{IsTree};
 ghost use Rattle.ipld_tree.specs.Spelled.{spelled_head};
 ghost use Rattle.dagcbor_write.specs.Lists.{announced_head, elements_left, IsFresh, HasRoom};
 ghost use Rattle.dagcbor_write.specs.Lists.{IsComplete, TakesElement, waiting_text};
-ghost use Rattle.dagcbor_write.specs.Lending.{list_lent, list_items, SameLoan, BeginsOrStops};
+ghost use Rattle.dagcbor_write.specs.Lending.{list_lent, list_state, SameLoan, BeginsOrStops};
 
 use crate::collect::buffer::Buffer;
 use crate::serialize::Serialize;
@@ -19,16 +19,16 @@ use std::alloc::Global;
 /// What an item that waits is refused with.
 const BAD_ELEMENT: &str = "List element cannot be serialized";
 
-/// The items that a list was given: how many are still to come, or those that wait for their
-/// number.
+/// What a list was given before its end: of items whose number was announced how many are still to
+/// come, else the items, which wait for their number.
 #[derive(Drop)]
-pub enum Items {
+pub enum ListState {
     Announced(usize),
     Waits(Buffer),
 }
 
 /// Takes the items of a list.
-pub struct CollectSeq<'a, W, I = Items> {
+pub struct CollectSeq<'a, W, I = ListState> {
     ser: &'a mut Serializer<W>,
     alloc: Global,
     items: I,
@@ -48,7 +48,7 @@ impl<W, I: Drop> Drop for CollectSeq<'_, W, I> {
 
 impl<W: Write> Serializer<W> {
     /// Begins a list. Where the number of its items is known, its head goes out at once. Else the
-    /// items wait in memory until the list ends.
+    /// items wait in memory until the list ends, and nothing can go wrong here.
     pub fn serialize_seq(
         &mut self,
         alloc: Global,
@@ -59,7 +59,9 @@ impl<W: Write> Serializer<W> {
         ensures same_reference { IfOk result (λ c. SameLoan self.entry (list_lent c)) }
         ensures head { IfOk result (λ c. WroteAll (announced_head len)
             (W.written self.old) (W.written (list_lent c).now)) }
-        ensures fresh { IfOk result (λ c. IsFresh len (list_items c)) }
+        ensures fresh { IfOk result (λ c. IsFresh len (list_state c)) }
+        ensures memory { WantsMemoryOnlyIf W.takes_memory result }
+        ensures unannounced { IsNone len → IsOkAnd result (λ c. (list_lent c).now ≡ self.old) }
     {
         let items = self.begin_items(alloc, len)?;
         Ok(CollectSeq {
@@ -69,17 +71,19 @@ impl<W: Write> Serializer<W> {
         })
     }
 
-    fn begin_items(&mut self, alloc: Global, len: Option<usize>) -> WriteResult<Items, W>
+    fn begin_items(&mut self, alloc: Global, len: Option<usize>) -> WriteResult<ListState, W>
         ensures head { Writes (announced_head len)
             (W.written self.old) (W.written self.new) result }
         ensures fresh { IfOk result (IsFresh len) }
+        ensures memory { WantsMemoryOnlyIf W.takes_memory result }
+        ensures unannounced { IsNone len → IsOk result × (self.new ≡ self.old) }
     {
         match len {
             Some(count) => {
                 self.push_head(4, count)?;
-                Ok(Items::Announced(count))
+                Ok(ListState::Announced(count))
             }
-            None => Ok(Items::Waits(Buffer::new(alloc))),
+            None => Ok(ListState::Waits(Buffer::new(alloc))),
         }
     }
 
@@ -97,41 +101,41 @@ impl<W: Write> Serializer<W> {
 impl<W: Write> CollectSeq<'_, W> {
     /// How many of the announced items are still to come. `None` where no number was announced.
     pub fn left(&self) -> Option<usize>
-        ensures { result ≡ elements_left (list_items self.now) }
+        ensures { result ≡ elements_left (list_state self.now) }
     {
         match &self.items {
-            Items::Announced(left) => Some(*left),
-            Items::Waits(_) => None,
+            ListState::Announced(left) => Some(*left),
+            ListState::Waits(_) => None,
         }
     }
 
     /// Takes the next item. One that waits and has no spelling is refused with
     /// `Msg("List element cannot be serialized")`.
     pub fn serialize_element<T: Serialize>(&mut self, value: &T) -> WriteResult<(), W>
-        requires { HasRoom (list_items self.old) }
+        requires { HasRoom (list_state self.old) }
         ensures same_reference { SameLoan (list_lent self.old) (list_lent self.new) }
-        ensures item { TakesElement (T.tree value.now) (list_items self.old)
+        ensures item { TakesElement (T.tree value.now) (list_state self.old)
             (W.written (list_lent self.old).now)
-            (list_items self.new) (W.written (list_lent self.new).now) result }
+            (list_state self.new) (W.written (list_lent self.new).now) result }
         ensures well_formed { OnOk result (IfSome (T.tree value.now) IsTree) }
     {
         match &mut self.items {
-            Items::Announced(left) => {
+            ListState::Announced(left) => {
                 *left -= 1;
                 value.serialize(self.alloc, self.ser)
             }
-            Items::Waits(buffer) => buffer.gather(self.alloc, value, BAD_ELEMENT),
+            ListState::Waits(buffer) => buffer.gather(self.alloc, value, BAD_ELEMENT),
         }
     }
 
     /// Ends the list: the items that waited go out behind their number. Where the number was
     /// announced nothing is left to write, and nothing can go wrong.
     pub fn end(self) -> WriteResult<(), W>
-        requires { IsComplete (list_items self) }
-        ensures written { Writes (waiting_text (list_items self.entry))
+        requires { IsComplete (list_state self) }
+        ensures written { Writes (waiting_text (list_state self.entry))
             (W.written (list_lent self.entry).now) (W.written self.exit.0.now) result }
         ensures memory { WantsMemoryOnlyIf W.takes_memory result }
-        ensures announced { IsSome (elements_left (list_items self.entry)) → IsOk result
+        ensures announced { IsSome (elements_left (list_state self.entry)) → IsOk result
             × (self.exit.0.now ≡ (list_lent self.entry).now) }
     {
         let Self {
@@ -140,8 +144,8 @@ impl<W: Write> CollectSeq<'_, W> {
             items,
         } = self;
         match items {
-            Items::Announced(_) => Ok(()),
-            Items::Waits(buffer) => ser.push_waiting(&buffer),
+            ListState::Announced(_) => Ok(()),
+            ListState::Waits(buffer) => ser.push_waiting(&buffer),
         }
     }
 }

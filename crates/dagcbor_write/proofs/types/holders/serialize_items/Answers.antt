@@ -11,7 +11,7 @@ returns-in_err-list-clause-written g c =
 pub loop-item-init : goal.loop-item-init
 loop-item-init g c =
     let w = begin_items g.T.Serialize.tree c.args.items.now (length c.args.items.now) (g.W.Write.written c.args.ser.now) refl in
-    record { same_reference = search rules; left = search rules; written = next_part w _ c.in_ok-list.ensures.head; well_formed = tt }
+    record { same_reference = search rules; left = search rules; written = next_part w _ c.in_ok-list.ensures.begins.head; well_formed = tt }
 
 pub loop-item-preserved : goal.loop-item-preserved
 loop-item-preserved g c =

@@ -1,4 +1,4 @@
-use Rattle.std.proofs.Common.{rules, None, ap, sym}
+use Rattle.std.proofs.Common.{rules, false, ap, sym}
 use Rattle.dagcbor_write.proofs.Fields.{begin_map, next_pair, exit_pair, end_map, all_given, left_as}
 use Rattle.dagcbor_write.proofs.types.maps.write_entries.Goals as goal
 
@@ -24,7 +24,7 @@ loop-key-preserved g c =
 
 pub returns-in_err-serialize_entry-clause-written : goal.returns-in_err-serialize_entry-clause-written
 returns-in_err-serialize_entry-clause-written g c rest shows =
-    exit_pair None (left_as (shows _ _ _ c.in-Some.ensures.steps) (c.loop-key.invariant.given rest shows)) _ _ _ _ c.in_err-serialize_entry.ensures.entry.joins c.from_residual.ensures.1 (search rules)
+    exit_pair false (left_as (shows _ _ _ c.in-Some.ensures.steps) (c.loop-key.invariant.given rest shows)) _ _ _ _ c.in_err-serialize_entry.ensures.entry.joins c.from_residual.ensures.1 (search rules)
 
 pub returns : goal.returns
 returns g c =

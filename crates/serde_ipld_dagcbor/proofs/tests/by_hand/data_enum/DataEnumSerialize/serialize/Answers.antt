@@ -12,18 +12,18 @@ returns-in_err-parts-in-B-clause-written g c = rw c.in-B.is (exit_part (begin_tu
 
 pub returns-in_err-serialize_field-in-B-clause-written : goal.returns-in_err-serialize_field-in-B-clause-written
 returns-in_err-serialize_field-in-B-clause-written g c =
-    let w = next_part (begin_tuple_variant (codes "B") (parts c.in-B.flag c.in-B.n) (g.W.Write.written c.args.ser.now)) _ c.in_ok-parts-in-B.ensures.head in
+    let w = next_part (begin_tuple_variant (codes "B") (parts c.in-B.flag c.in-B.n) (g.W.Write.written c.args.ser.now)) _ c.in_ok-parts-in-B.ensures.begins.head in
     rw c.in-B.is (Writes_at _ _ _ _ _ (search rules) (exit_part w _ _ _ c.from_residual-in_err-serialize_field-in-B.ensures.1 c.in_err-serialize_field-in-B.ensures.item))
 
 pub returns-in_err-serialize_field-in-B-2-clause-written : goal.returns-in_err-serialize_field-in-B-2-clause-written
 returns-in_err-serialize_field-in-B-2-clause-written g c =
-    let w = next_part (begin_tuple_variant (codes "B") (parts c.in-B.flag c.in-B.n) (g.W.Write.written c.args.ser.now)) _ c.in_ok-parts-in-B.ensures.head in
+    let w = next_part (begin_tuple_variant (codes "B") (parts c.in-B.flag c.in-B.n) (g.W.Write.written c.args.ser.now)) _ c.in_ok-parts-in-B.ensures.begins.head in
     let w = next_part w _ c.in_ok-serialize_field-in-B.ensures.item in
     rw c.in-B.is (Writes_at _ _ _ _ _ (search rules) (exit_part w _ _ _ c.from_residual-in_err-serialize_field-in-B-2.ensures.1 c.in_err-serialize_field-in-B-2.ensures.item))
 
 pub returns-in_ok-serialize_field-in-B-2-clause-written : goal.returns-in_ok-serialize_field-in-B-2-clause-written
 returns-in_ok-serialize_field-in-B-2-clause-written g c =
-    let w = next_part (begin_tuple_variant (codes "B") (parts c.in-B.flag c.in-B.n) (g.W.Write.written c.args.ser.now)) _ c.in_ok-parts-in-B.ensures.head in
+    let w = next_part (begin_tuple_variant (codes "B") (parts c.in-B.flag c.in-B.n) (g.W.Write.written c.args.ser.now)) _ c.in_ok-parts-in-B.ensures.begins.head in
     let w = next_part w _ c.in_ok-serialize_field-in-B.ensures.item in
     let w = next_part w _ c.in_ok-serialize_field-in-B-2.ensures.item in
     rw c.in-B.is (Writes_at _ _ _ _ _ (search rules) (Writes_ok _ _ _ _ c.end.ensures.ok (all_written w)))

@@ -16,10 +16,10 @@ pub returns-in_err-fields-clause-written : goal.returns-in_err-fields-clause-wri
 returns-in_err-fields-clause-written g c = exit_part (begin_struct (fields c.args.self.now) 2 _ refl) _ _ _ c.from_residual.ensures.1 (rw c.in_err-fields.was at c.serialize_struct.follows.holds-at-none)
 
 pub returns-in_err-serialize_field-clause-written : goal.returns-in_err-serialize_field-clause-written
-returns-in_err-serialize_field-clause-written g c = exit_field 2 (fields c.args.self.now) (begin_struct (fields c.args.self.now) 2 _ refl) c.in_ok-fields.ensures.head 0 (None, None) (lit< tt) _ _ _ c.in_err-serialize_field.ensures.entry.joins c.from_residual-in_err-serialize_field.ensures.1 (search rules)
+returns-in_err-serialize_field-clause-written g c = exit_field (fields c.args.self.now) (begin_struct (fields c.args.self.now) 2 _ refl) c.in_ok-fields.ensures.head 0 (None, None) (lit< tt) _ _ _ c.in_err-serialize_field.ensures.entry.joins c.from_residual-in_err-serialize_field.ensures.1 (search rules)
 
 pub returns-in_err-serialize_field-2-clause-written : goal.returns-in_err-serialize_field-2-clause-written
-returns-in_err-serialize_field-2-clause-written g c = exit_field 2 (fields c.args.self.now) (begin_struct (fields c.args.self.now) 2 _ refl) c.in_ok-fields.ensures.head 1 (None, None) (lit< tt) _ _ _ c.in_err-serialize_field-2.ensures.entry.joins c.from_residual-in_err-serialize_field-2.ensures.1 (search rules)
+returns-in_err-serialize_field-2-clause-written g c = exit_field (fields c.args.self.now) (begin_struct (fields c.args.self.now) 2 _ refl) c.in_ok-fields.ensures.head 1 (None, None) (lit< tt) _ _ _ c.in_err-serialize_field-2.ensures.entry.joins c.from_residual-in_err-serialize_field-2.ensures.1 (search rules)
 
 pub returns-clause-written : goal.returns-clause-written
 returns-clause-written g c =

@@ -9,7 +9,7 @@ use Rattle.dagcbor_heads.specs.declared.error.DecodeError.TheVariants.{Read, Req
 use Rattle.ipld_tree.specs.Tree.{Tree}
 use Rattle.dagcbor_read.specs.Calls.{Progress, Call}
 use Rattle.dagcbor_items.specs.Reads.{HasFront, MayLack}
-use Rattle.dagcbor_read.specs.Streams.{Streaming, SomeLeft, AreSome, ReadsNext, as_answer, is_last, IsNextValue, AreNextValues, values_before, AreStreamItems, GivesUp, NoneGivesUp, EndsAtError, stream_item, AreUpTo, IsOver, Gives, MayBorrow, StreamsAreExact}
+use Rattle.dagcbor_read.specs.Streams.{Streaming, SomeLeft, AreSome, ReadsNext, as_answer, is_last, IsNextValue, AreNextValues, values_before, AreStreamItems, GivesUp, NoneGivesUp, EndsAtError, stream_item, AreUpTo, IsOver, Gives, StreamsAreExact}
 use Rattle.dagcbor_read.proofs.Progressing.{match_true, match_false, call_answered, call_told}
 use Rattle.dagcbor_items.proofs.Fronts.{shorter}
 use Rattle.dagcbor_read.proofs.Streaming.{goes_on, same_value, no_value_of_none, some_of_none}
@@ -21,12 +21,12 @@ use Rattle.dagcbor_items.specs.Shapes.{Shape}
 abbrev NoValue : {V : Type 0} → Shape Tree V → ℕ → List ℕ → Type 0
 NoValue {V} shape steps b = (0 < length b) × ((v : V) (rest : List ℕ) → IsNextValue shape steps b v rest → ⊥)
 
-module _ {T V : Type 0} (E : Type 0) (meaning : T → V) (shape : Shape Tree V) (may : Type 0) (steps : ℕ) (whole : Bool) where
+module _ {T V : Type 0} (E : Type 0) (meaning : T → V) (shape : Shape Tree V) (lends : Bool) (steps : ℕ) (whole : Bool) where
   -- values stand one behind the other, and at the end no byte, or no value, or one at which it gave up
   abbrev Came : List ℕ → List (Result T (DecodeError E)) → Type 0
   Came b [] = whole ≡ true → b ≡ []
   Came b (Ok v ∷ xs) = (rest : List ℕ) × IsNextValue shape steps b (meaning v) rest × Came rest xs
-  Came b (Err e ∷ xs) = (xs ≡ []) × (GivesUp may e ⊎ NoValue shape steps b)
+  Came b (Err e ∷ xs) = (xs ≡ []) × (GivesUp shape lends e ⊎ NoValue shape steps b)
 
   few : (b : List ℕ) (xs : List (Result T (DecodeError E))) → Came b xs → length xs ≤ length b + 1
   few b [] h = omega arith
@@ -38,7 +38,7 @@ module _ {T V : Type 0} (E : Type 0) (meaning : T → V) (shape : Shape Tree V) 
   in_a_row b (Ok v ∷ xs) h = let more = in_a_row h.0 xs h.2 in (more.0, (h.0, h.1, more.1))
   in_a_row b (Err e ∷ xs) h = (b, refl)
 
-  alike : (b : List ℕ) (xs : List (Result T (DecodeError E))) (items : List (Option V)) → Came b xs → AreStreamItems shape steps b items → AreUpTo meaning may whole xs items
+  alike : (b : List ℕ) (xs : List (Result T (DecodeError E))) (items : List (Option V)) → Came b xs → AreStreamItems shape steps b items → AreUpTo meaning shape lends whole xs items
   alike b [] [] h k = λ w. refl
   alike b [] (Some v ∷ items) h k = λ w. absurd (no_value_of_none shape steps b k.0 v (h w) k.1)
   alike b [] (None ∷ items) h k = λ w. absurd (some_of_none shape steps b (h w) k.1)
@@ -54,7 +54,7 @@ module _ {T V : Type 0} (E : Type 0) (meaning : T → V) (shape : Shape Tree V) 
       alone (Some w ∷ items) k n = absurd (n.1 w k.0 k.1)
       alone (None ∷ items) k n = ap (λ x. None ∷ x) k.0
 
-  all_of_it : (b : List ℕ) (xs : List (Result T (DecodeError E))) → whole ≡ true → NoneGivesUp may xs → Came b xs → AreStreamItems shape steps b (map (stream_item meaning) xs)
+  all_of_it : (b : List ℕ) (xs : List (Result T (DecodeError E))) → whole ≡ true → NoneGivesUp shape lends xs → Came b xs → AreStreamItems shape steps b (map (stream_item meaning) xs)
   all_of_it b [] w n h = h w
   all_of_it b (Ok v ∷ xs) w n h = (h.0, h.1, all_of_it h.0 xs w n h.2)
   all_of_it b (Err e ∷ xs) w n h = elim h.1 [
@@ -92,16 +92,16 @@ module _ {S T V : Type 0} (E : Type 0) (see : S → Streaming) (meaning : T → 
 
   -- why there was no value
   no_value : (b : List ℕ) (old new : Reading) (e : DecodeError E) → old.left ≡ Some b → Refuses (HasFront shape old) (MayLack shape.memory old × SomeLeft old) ((shape.wants_loan ≡ true) × SomeLeft old) AreSome old e new
-      → GivesUp (MayBorrow shape.wants_loan old.lends) e ⊎ NoValue shape old.steps b
+      → GivesUp shape old.lends e ⊎ NoValue shape old.steps b
   no_value b old new (Read x) l r = inl tt
-  no_value b old new OutOfMemory l r = inl tt
+  no_value b old new OutOfMemory l r = inl r.1.0
   no_value b old new (RequireBorrowed n) l r = inl (r.1.0, r.2)
   no_value b old new Failed l r = absurd r
   no_value b old new (DepthOverflow n) l r = inr (r.2 b l, λ v rest h. r.1 record { bytes = b; tree = h.0; rest = rest; left = l; front = h.1; accepted = ap is_some h.2; within = h.3 })
   no_value b old new _ l r = inr (r.2 b l, λ v rest h. r.1 record { bytes = b; tree = h.0; rest = rest; left = l; front = h.1; accepted = ap is_some h.2; within = h.3 })
 
   came : (b : List ℕ) (steps : ℕ) (lends whole : Bool) (s t : S) (xs : List (Result T (DecodeError E))) → Over b steps lends (see s) → Yields Step s xs t → (whole ≡ true → (u : S) × Step t None u)
-      → Came E meaning shape (MayBorrow shape.wants_loan lends) steps whole b xs
+      → Came E meaning shape lends steps whole b xs
   came b steps lends whole s t [] o h n = λ w.
       let last = n w in
       let k = told s last.0 None o.is_over.goes_on (subst (λ x. Step x None last.0) (sym h) last.1) in
@@ -121,7 +121,7 @@ module _ {S T V : Type 0} (E : Type 0) (see : S → Streaming) (meaning : T → 
       let k = told s h.0 (Some (Err e)) o.is_over.goes_on h.1 in
       let r = call_told (ReadsNext {E = E} meaning shape) (see s).source (see h.0).source (Err e) o.is_over.sound k.1 in
       let why = no_value b (see s).source.input (see h.0).source.input e o.is_over.left r.1 in
-      (nothing_more h.0 t xs k.0 h.2, subst (λ x. GivesUp (MayBorrow shape.wants_loan x) e ⊎ NoValue shape steps b) o.lending (subst (λ x. GivesUp (MayBorrow shape.wants_loan (see s).source.input.lends) e ⊎ NoValue shape x b) o.steps_left why))
+      (nothing_more h.0 t xs k.0 h.2, subst (λ x. GivesUp shape x e ⊎ NoValue shape steps b) o.lending (subst (λ x. GivesUp shape (see s).source.input.lends e ⊎ NoValue shape x b) o.steps_left why))
 
   -- what had failed gives `Failed`
   failed_item : (failed : Bool) (x : Result T (DecodeError E)) (P Q : Type 0) → failed ≡ true → MatchBool failed ((as_answer (Some x) ≡ Err Failed) × P) Q → x ≡ Err Failed
@@ -144,18 +144,18 @@ module _ {S T V : Type 0} (E : Type 0) (see : S → Streaming) (meaning : T → 
       ap (λ y. y ∷ xs) first ∙ ap (λ y. Err Failed ∷ y) none
 
   from : (s : S) (whole : Bool) (xs : List (Result T (DecodeError E))) → DrainsIf Step (whole ≡ true) s xs → (b : List ℕ) → IsOver b (see s)
-      → Came E meaning shape (MayBorrow shape.wants_loan (see s).source.input.lends) (see s).source.input.steps whole b xs
+      → Came E meaning shape (see s).source.input.lends (see s).source.input.steps whole b xs
   from s whole xs h b o = came b (see s).source.input.steps (see s).source.input.lends whole s h.0 xs record { is_over = o; steps_left = refl; lending = refl } h.1 h.2
 
   pub exact : StreamsAreExact E see meaning shape
   exact s whole xs h =
-      let may = MayBorrow shape.wants_loan (see s).source.input.lends in
+      let lends = (see s).source.input.lends in
       let steps = (see s).source.input.steps in
       record {
         one_error = ends s h.0 xs h.1;
-        bounded = λ b o. few E meaning shape may steps whole b xs (from s whole xs h b o);
-        values = λ b o. in_a_row E meaning shape may steps whole b xs (from s whole xs h b o);
-        same = λ b o items k. alike E meaning shape may steps whole b xs items (from s whole xs h b o) k;
-        exact = λ b o w n. all_of_it E meaning shape may steps whole b xs w n (from s whole xs h b o);
+        bounded = λ b o. few E meaning shape lends steps whole b xs (from s whole xs h b o);
+        values = λ b o. in_a_row E meaning shape lends steps whole b xs (from s whole xs h b o);
+        same = λ b o items k. alike E meaning shape lends steps whole b xs items (from s whole xs h b o) k;
+        exact = λ b o w n. all_of_it E meaning shape lends steps whole b xs w n (from s whole xs h b o);
         failed = λ d f w. after_failure s h.0 xs d f h.1 (h.2 w);
       }

@@ -104,22 +104,19 @@ items_left s = items_left_of s.done s.source.input.left
 
 -- ---- what comes of runs of `next`
 
--- an error that says nothing of the bytes: a fault, want of memory, or, where that may be, a wish
--- to borrow
-abbrev pub GivesUp : {E : Type 0} → Type 0 → DecodeError E → Type 0
-GivesUp borrows (Read e) = ⊤
-GivesUp borrows OutOfMemory = ⊤
-GivesUp borrows (RequireBorrowed name) = borrows
-GivesUp borrows _ = ⊥
+-- an error that says nothing of the bytes: a fault; want of memory, where the type may take some; or
+-- a wish for a loan, where the type wants one and none is given
+abbrev pub GivesUp : {V E : Type 0} → Shape Tree V → Bool → DecodeError E → Type 0
+GivesUp shape lends (Read e) = ⊤
+GivesUp shape lends OutOfMemory = shape.memory lends ≡ true
+GivesUp shape lends (RequireBorrowed name) = (shape.wants_loan ≡ true) × (lends ≡ false)
+GivesUp shape lends _ = ⊥
 
--- a type that borrows wants a loan of a reader that does not lend
-abbrev pub MayBorrow : Bool → Bool → Type 0
-MayBorrow borrows lends = (borrows ≡ true) × (lends ≡ false)
-
-abbrev pub NoneGivesUp : {T E : Type 0} → Type 0 → List (Result T (DecodeError E)) → Type 0
-NoneGivesUp borrows [] = ⊤
-NoneGivesUp borrows (Ok v ∷ xs) = NoneGivesUp borrows xs
-NoneGivesUp borrows (Err e ∷ xs) = (¬ GivesUp borrows e) × NoneGivesUp borrows xs
+abbrev pub NoneGivesUp : {T V E : Type 0} → Shape Tree V → Bool → List (Result T (DecodeError E))
+    → Type 0
+NoneGivesUp shape lends [] = ⊤
+NoneGivesUp shape lends (Ok v ∷ xs) = NoneGivesUp shape lends xs
+NoneGivesUp shape lends (Err e ∷ xs) = (¬ GivesUp shape lends e) × NoneGivesUp shape lends xs
 
 -- behind an error nothing comes
 abbrev pub EndsAtError : {T E : Type 0} → List (Result T (DecodeError E)) → Type 0
@@ -138,15 +135,15 @@ values_before meaning [] = []
 values_before meaning (Ok v ∷ xs) = meaning v ∷ values_before meaning xs
 values_before meaning (Err e ∷ xs) = []
 
--- What came is the stream's items, to the last where it is whole; or up to one in whose place an
--- error came that says nothing of the bytes.
-abbrev pub AreUpTo : {T V E : Type 0} → (T → V) → Type 0 → Bool → List (Result T (DecodeError E))
-    → List (Option V) → Type 0
-AreUpTo meaning borrows whole [] items = whole ≡ true → items ≡ []
-AreUpTo {T} {V} meaning borrows whole (Ok v ∷ xs) items = (more : List (Option V))
-    × (items ≡ Some (meaning v) ∷ more) × AreUpTo meaning borrows whole xs more
-AreUpTo meaning borrows whole (Err e ∷ xs) items = (xs ≡ [])
-    × (GivesUp borrows e ⊎ (items ≡ None ∷ []))
+-- What came, of an input that lends or of one that does not, is the stream's items, to the last
+-- where it is whole; or up to one in whose place an error came that says nothing of the bytes.
+abbrev pub AreUpTo : {T V E : Type 0} → (T → V) → Shape Tree V → (lends whole : Bool)
+    → List (Result T (DecodeError E)) → List (Option V) → Type 0
+AreUpTo meaning shape lends whole [] items = whole ≡ true → items ≡ []
+AreUpTo {T} {V} meaning shape lends whole (Ok v ∷ xs) items = (more : List (Option V))
+    × (items ≡ Some (meaning v) ∷ more) × AreUpTo meaning shape lends whole xs more
+AreUpTo meaning shape lends whole (Err e ∷ xs) items = (xs ≡ [])
+    × (GivesUp shape lends e ⊎ (items ≡ None ∷ []))
 
 -- a stream, not done, over known bytes, of what has not failed
 pub record IsOver (b : List ℕ) (s : Streaming) : Type 0 where
@@ -158,10 +155,6 @@ module _ {S T V : Type 0} (E : Type 0) (see : S → Streaming) (meaning : T → 
   -- one call of `next`
   abbrev pub Gives : S → Option (Result T (DecodeError E)) → S → Type 0
   Gives s item t = GivesNext meaning shape (see s) item (see t)
-
-  -- whether a stream from s may wish to borrow
-  abbrev pub MayWish : S → Type 0
-  MayWish s = MayBorrow shape.wants_loan (see s).source.input.lends
 
   -- what holds of the items that calls of `next` from s gave
   pub record IsStreamRun (s : S) (whole : Bool) (xs : List (Result T (DecodeError E))) : Type 0 where
@@ -175,9 +168,10 @@ module _ {S T V : Type 0} (E : Type 0) (see : S → Streaming) (meaning : T → 
     -- they are the stream of the type on the bytes, up to an error that says nothing of the bytes
     pub same : (b : List ℕ) → IsOver b (see s) → (items : List (Option V))
         → AreStreamItems shape (see s).source.input.steps b items
-        → AreUpTo meaning (MayWish s) whole xs items
+        → AreUpTo meaning shape (see s).source.input.lends whole xs items
     -- where no such error came, and all came, they make a stream
-    pub exact : (b : List ℕ) → IsOver b (see s) → whole ≡ true → NoneGivesUp (MayWish s) xs
+    pub exact : (b : List ℕ) → IsOver b (see s) → whole ≡ true
+        → NoneGivesUp shape (see s).source.input.lends xs
         → AreStreamItems shape (see s).source.input.steps b (map (stream_item meaning) xs)
     -- of what had failed comes `Failed` alone
     pub failed : (see s).done ≡ false → (see s).source.failed ≡ true → whole ≡ true

@@ -1,13 +1,13 @@
 -- DAG-CBOR as a codec.
 use Rattle.std.proofs.Common.{◌≡◌, ◌⊎◌, inl, inr, ℕ, List, sym, subst}
-use Rattle.std.specs.Prelude.{Option, None, Some, IfSome}
+use Rattle.std.specs.Prelude.{Bool, Option, None, Some, IfSome}
 use Rattle.dagcbor_heads.specs.declared.error.DecodeError.{DecodeError}
-use Rattle.dagcbor_heads.specs.declared.error.DecodeError.TheVariants.{Read, RequireBorrowed, OutOfMemory, Failed}
+use Rattle.dagcbor_heads.specs.declared.error.DecodeError.TheVariants.{Read, RequireBorrowed, OutOfMemory, TrailingData, Failed}
 use Rattle.ipld_tree.specs.Codecs.{AreRead}
 use Rattle.ipld_tree.specs.Tree.{Tree}
 use Rattle.ipld_tree.specs.Spelling.{IsSpelling}
-use Rattle.dagcbor_read.specs.Whole.{HoldsNoValue, IsReadExcuse, OfWhole}
-use Rattle.serde_ipld_dagcbor.specs.Codec.{IsReadAs, AreAlike}
+use Rattle.dagcbor_read.specs.Whole.{HoldsNoValue, IsReadExcuse, OfWhole, IsForBehind, LacksMemoryIf}
+use Rattle.serde_ipld_dagcbor.specs.Codec.{IsReadAs, AreAlike, OfSlice}
 use Rattle.dagcbor_read.specs.Shapes.{Shape}
 use Rattle.dagcbor_heads.specs.Reading.{default_steps}
 
@@ -23,13 +23,25 @@ module _ {V : Type 0} (shape : Shape Tree V) where
 
   -- a slice is refused for want of memory, or holds no value
   pub slice_not_decoded : {E F : Type 0} (b : List ℕ) (e : DecodeError E) (f : DecodeError F) → AreAlike e f → IsReadExcuse e ⊎ HoldsNoValue shape default_steps b → OfWhole e
-      → ((f ≡ OutOfMemory) ⊎ HoldsNoValue shape default_steps b) × OfWhole f
+      → ((f ≡ OutOfMemory) ⊎ HoldsNoValue shape default_steps b) × OfSlice f
   slice_not_decoded b (Read x) f h r w = absurd h
-  slice_not_decoded b OutOfMemory f h r w = (inl h, subst OfWhole (sym h) tt)
+  slice_not_decoded b OutOfMemory f h r w = (inl h, subst OfSlice (sym h) tt)
   slice_not_decoded b (RequireBorrowed name) f h r w = absurd w
   slice_not_decoded b Failed f h r w = absurd w
-  slice_not_decoded b _ f h r w = (inr (elim r [ inl k ↦ absurd k | inr k ↦ k ]), subst OfWhole (sym h) tt)
+  slice_not_decoded b _ f h r w = (inr (elim r [ inl k ↦ absurd k | inr k ↦ k ]), subst OfSlice (sym h) tt)
 
   -- which is an excuse, or the slice is read as no value
   pub slice_excused : {F : Type 0} (b : List ℕ) (f : DecodeError F) → (f ≡ OutOfMemory) ⊎ HoldsNoValue shape default_steps b → IsReadExcuse f ⊎ ((v : V) → ¬ AreRead IsSpelling (IsReadAs shape) b v)
   slice_excused b f r = elim r [ inl k ↦ inl (subst IsReadExcuse (sym k) tt) | inr k ↦ inr (unread (Some b) k) ]
+
+  -- where a value stands first and bytes follow, the same refusal is for what follows
+  pub alike_for_behind : {E F : Type 0} (b : List ℕ) (e : DecodeError E) (f : DecodeError F) → AreAlike e f → IsForBehind shape default_steps b e → IsForBehind shape default_steps b f
+  alike_for_behind b (Read x) f h k = absurd h
+  alike_for_behind b OutOfMemory f h k = λ v rest first. inl (subst IsReadExcuse (sym h) tt)
+  alike_for_behind b TrailingData f h k = λ v rest first. inr h
+  alike_for_behind b _ f h k = λ v rest first. elim (k v rest first) [ inl i ↦ absurd i | inr i ↦ absurd (cc i) ]
+
+-- the same refusal lacks memory only where the first may
+pub alike_in_memory : {E F : Type 0} (may : Bool) (e : DecodeError E) (f : DecodeError F) → AreAlike e f → LacksMemoryIf may e → LacksMemoryIf may f
+alike_in_memory may (Read x) f h k = absurd h
+alike_in_memory may _ f h k = subst (LacksMemoryIf may) (sym h) k

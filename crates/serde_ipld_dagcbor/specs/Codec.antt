@@ -13,6 +13,7 @@ use Rattle.ipld_tree.proofs.Fronts.{front_unique}
 use Rattle.dagcbor_items.proofs.SliceReads.{whole_front}
 use Rattle.dagcbor_write.specs.Answers.{HasNoSpelling, GrewByFront, IsWriteExcuse}
 use Rattle.dagcbor_read.specs.Whole.{HoldsNoValue, IsReadExcuse, OfWhole}
+use Rattle.std.specs.declared.io.Error.{Error}
 use Rattle.dagcbor_items.specs.Slices.{AreFirstLinks, LinksRefused}
 use Rattle.serde_ipld_dagcbor.specs.declared.error.CodecError.{CodecError}
 use Rattle.serde_ipld_dagcbor.specs.declared.error.CodecError.TheVariants.{Decode, Encode}
@@ -34,6 +35,11 @@ IsExcuse (DecodeIo e) = IsReadExcuse e
 IsExcuse (EncodeIo e) = IsWriteExcuse e
 
 -- ---- which error comes from which call, and what it says
+
+-- the error is a `DecodeIo`, and this holds of why
+abbrev pub IsDecodeIo : (DecodeError Error → Type 0) → CodecError → Type 0
+IsDecodeIo holds (DecodeIo e) = holds e
+IsDecodeIo holds _ = ⊥
 
 -- why a source's bytes, where they are known, are not read
 abbrev pub NotDecoded : {V : Type 0} → Shape Tree V → Option (List ℕ) → CodecError → Type 0
@@ -67,10 +73,15 @@ AreAlike unread.UnorderedKey f = f ≡ unread.UnorderedKey
 AreAlike unread.OutOfMemory f = f ≡ unread.OutOfMemory
 AreAlike unread.Failed f = f ≡ unread.Failed
 
+-- which refusals of a slice are answered: it has no source, which might fault
+abbrev pub OfSlice : {E : Type 0} → DecodeError E → Type 0
+OfSlice (unread.Read e) = ⊥
+OfSlice e = OfWhole e
+
 -- why a slice's bytes are not read: for want of memory, or they hold no value
 abbrev pub NotDecodedFromSlice : {V : Type 0} → Shape Tree V → List ℕ → CodecError → Type 0
 NotDecodedFromSlice shape b (DecodeIo e) = ((e ≡ unread.OutOfMemory) ⊎ HoldsNoValue shape default_steps b)
-    × OfWhole e
+    × OfSlice e
 NotDecodedFromSlice shape b _ = ⊥
 
 abbrev pub DecodeFromSliceRefused : {T V : Type 0} → Shape Tree V → List ℕ → Result T CodecError

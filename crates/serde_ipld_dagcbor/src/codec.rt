@@ -1,13 +1,15 @@
 //! DAG-CBOR as a codec.
 
-ghost use Rattle.std.specs.Prelude.{Some};
+ghost use Rattle.std.specs.Prelude.{Some, IfErr, IfSome, false};
+ghost use Rattle.dagcbor_heads.specs.Reading.{default_steps};
 ghost use Rattle.ipld_tree.specs.Codecs.{Decodes, Encodes, EncodesAsVec, FindsLinks};
 ghost use Rattle.ipld_tree.specs.Tree.{Tree};
 ghost use Rattle.ipld_tree.specs.Spelling.{IsSpelling};
 ghost use Rattle.dagcbor_items.specs.Slices.{AreFirstLinks};
+ghost use Rattle.dagcbor_read.specs.Whole.{IsForBehind, LacksMemoryIf};
 ghost use Rattle.serde_ipld_dagcbor.specs.Codec.{IsReadAs, IsExcuse, DecodeRefused, EncodeRefused};
 ghost use Rattle.serde_ipld_dagcbor.specs.Codec.{EncodeToVecRefused, LinksNotFound};
-ghost use Rattle.serde_ipld_dagcbor.specs.Codec.{DecodeFromSliceRefused, AreAlike};
+ghost use Rattle.serde_ipld_dagcbor.specs.Codec.{DecodeFromSliceRefused, IsDecodeIo, AreAlike};
 ghost use Rattle.serde_ipld_dagcbor.specs.Codec.{spellings_are_unique, trees_have_one_spelling};
 ghost use Rattle.serde_ipld_dagcbor.specs.Codec.{bytes_have_one_list};
 
@@ -92,6 +94,8 @@ impl<'de, T: DeserializeOwned<'de> + Serialize> Codec<'de, T> for DagCborCodec {
     fn decode<R: BufRead + Drop>(alloc: Global, reader: R) -> Result<T, CodecError>
         ensures answers { Decodes IsSpelling (IsReadAs T.shape) T.meaning IsExcuse (R.remaining reader) result }
         ensures exact { DecodeRefused T.shape (R.remaining reader) result }
+        ensures behind { IfErr result (IsDecodeIo (λ e. IfSome (R.remaining reader) (λ b. IsForBehind T.shape default_steps b e))) }
+        ensures memory { IfErr result (IsDecodeIo (LacksMemoryIf (T.shape.memory false))) }
     {
         match from_reader(alloc, reader) {
             Ok(value) => Ok(value),
@@ -102,6 +106,8 @@ impl<'de, T: DeserializeOwned<'de> + Serialize> Codec<'de, T> for DagCborCodec {
     fn decode_from_slice(alloc: Global, bytes: &[u8]) -> Result<T, CodecError>
         ensures answers { Decodes IsSpelling (IsReadAs T.shape) T.meaning IsExcuse (Some bytes.now) result }
         ensures exact { DecodeFromSliceRefused T.shape bytes.now result }
+        ensures behind { IfErr result (IsDecodeIo (IsForBehind T.shape default_steps bytes.now)) }
+        ensures memory { IfErr result (IsDecodeIo (LacksMemoryIf (T.shape.memory false))) }
     {
         match from_slice_owned(alloc, bytes) {
             Ok(back) => Ok(back),

@@ -1,7 +1,7 @@
 //! Values one behind the other.
 
 ghost use Rattle.std.specs.Prelude.{◌+◌, ◌≤◌, length, IfOk, List, Option, true};
-ghost use Rattle.dagcbor_read.specs.Streams.{AreStreamItems, AreUpTo, MayBorrow};
+ghost use Rattle.dagcbor_read.specs.Streams.{AreStreamItems, AreUpTo};
 
 use crate::tests::devices::own_devices::Pieces;
 use crate::tests::rows::links::joined;
@@ -125,7 +125,7 @@ fn items_of<'a, T: Deserialize<'a>>(
     bytes: &'a [u8],
 ) -> Result<Vec<Result<T, DecodeError<Infallible>>>, AllocError>
     ensures { IfOk result (λ v. (items : List (Option T.View)) → AreStreamItems T.shape 256 bytes.now items
-        → AreUpTo T.meaning (MayBorrow T.shape.wants_loan true) true v.items items) }
+        → AreUpTo T.meaning T.shape true true v.items items) }
 {
     laws::streams_exact::<T, SliceReader>();
     Deserializer::from_slice(bytes)

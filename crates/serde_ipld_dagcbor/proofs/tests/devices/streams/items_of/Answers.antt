@@ -1,6 +1,6 @@
 use Rattle.std.proofs.Common.{◌∙◌, ap, sym, subst}
 use Rattle.std.specs.Prelude.{IfOk, Result, Ok, Err, true}
-use Rattle.dagcbor_read.specs.Streams.{AreStreamItems, AreUpTo, MayBorrow}
+use Rattle.dagcbor_read.specs.Streams.{AreStreamItems, AreUpTo}
 use Rattle.serde_ipld_dagcbor.proofs.tests.devices.streams.items_of.Goals as goal
 
 if_ok : {A B : Type 0} (P Q : A → Type 0) (r : Result A B) → ((v : A) → P v → Q v) → IfOk r P → IfOk r Q
@@ -19,4 +19,4 @@ returns g c = if_ok _ _ c.collect.result (λ v h. λ items k.
       sound = ap (λ s. s.source.failed) stream ∙ ap (λ p. p.failed) start;
       left = ap (λ s. s.source.input.left) stream ∙ ap (λ p. p.input.left) start;
     } items (subst (λ n. AreStreamItems g.T.Shown.shape n c.args.bytes.now items) (sym steps) k) in
-    subst (λ xs. AreUpTo g.T.Shown.meaning (MayBorrow g.T.Shown.shape.wants_loan true) true xs items) (sym h.2.0) (subst (λ l. AreUpTo g.T.Shown.meaning (MayBorrow g.T.Shown.shape.wants_loan l) true h.0 items) lends came)) c.collect.ensures.ran
+    subst (λ xs. AreUpTo g.T.Shown.meaning g.T.Shown.shape true true xs items) (sym h.2.0) (subst (λ l. AreUpTo g.T.Shown.meaning g.T.Shown.shape l true h.0 items) lends came)) c.collect.ensures.ran

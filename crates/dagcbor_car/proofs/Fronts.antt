@@ -2,10 +2,10 @@
 use Rattle.std.proofs.Common.{◌≡◌, inl, inr, ℕ, ◌+◌, ◌^◌, ◌<◌, ◌≤◌, List, [], ◌∷◌, ◌++◌, take, drop, length, length-append, refl, sym, ap, ◌∙◌, arith, append-nil}
 use Rattle.std.proofs.lemmas.List.{length-take-le, take-append-drop}
 use Rattle.ipld_tree.specs.Cid.{varint, CidParts, cid_parts, AreCidParts, cid_bytes}
-use Rattle.ipld_tree.specs.CidFault.{HasCidFields, IsFault, IsVarintFault}
+use Rattle.ipld_tree.specs.CidFault.{HasVarints, IsFault, IsVarintFault}
 use Rattle.ipld_tree.specs.declared.cid_error.CidError.{CidError}
 use Rattle.ipld_tree.specs.declared.cid_error.CidError.TheVariants.{InvalidVersion, InvalidVarint, DigestTooLong, Truncated, TrailingBytes}
-use Rattle.ipld_tree.proofs.CidFaults.{no_field, one_field_more, varint_fault, fault_no_cid, one_fault}
+use Rattle.ipld_tree.proofs.CidFaults.{no_varint, one_varint_more, varint_fault, fault_no_cid, one_fault}
 use Rattle.dagcbor_car.specs.Splits.{SplitsCid, BeginsNoCid}
 use Rattle.dagcbor_car.proofs.Cars.{front_0, front_1}
 
@@ -15,14 +15,14 @@ Read b n rest = (n < 2 ^ 64) × (b ≡ varint n ++ rest)
 
 -- ---- version 1
 
-pub one_field : {s r : List ℕ} (j : ℕ) → Read s j r → HasCidFields (0x01 ∷ s) (j ∷ []) r
-one_field {s} {r} j h = one_field_more j r (no_field s) h
+pub one_field : {s r : List ℕ} (j : ℕ) → Read s j r → HasVarints (0x01 ∷ s) (j ∷ []) r
+one_field {s} {r} j h = one_varint_more j r (no_varint s) h
 
-pub two_fields : {s r t : List ℕ} (j k : ℕ) → Read s j r → Read r k t → HasCidFields (0x01 ∷ s) (j ∷ k ∷ []) t
-two_fields {s} {r} {t} j k h i = one_field_more k t (one_field j h) i
+pub two_fields : {s r t : List ℕ} (j k : ℕ) → Read s j r → Read r k t → HasVarints (0x01 ∷ s) (j ∷ k ∷ []) t
+two_fields {s} {r} {t} j k h i = one_varint_more k t (one_field j h) i
 
-pub three_fields : {s r t d : List ℕ} (j k n : ℕ) → Read s j r → Read r k t → Read t n d → HasCidFields (0x01 ∷ s) (j ∷ k ∷ n ∷ []) d
-three_fields {s} {r} {t} {d} j k n h i l = one_field_more n d (two_fields j k h i) l
+pub three_fields : {s r t d : List ℕ} (j k n : ℕ) → Read s j r → Read r k t → Read t n d → HasVarints (0x01 ∷ s) (j ∷ k ∷ n ∷ []) d
+three_fields {s} {r} {t} {d} j k n h i l = one_varint_more n d (two_fields j k h i) l
 
 -- the fields, a digest of that length, and the block
 pub front_of_fields : (s r t d digest block : List ℕ) (j k n : ℕ) → Read s j r → Read r k t → Read t n d → n ≤ 64 → length digest ≡ n → d ≡ digest ++ block → SplitsCid (0x01 ∷ s) (cid_parts 1 j k digest) block
@@ -51,7 +51,7 @@ no_front e s other fault = (λ c rest h. by c rest h.0 h.1, fault)
         other (one_fault e TrailingBytes (0x01 ∷ s) fault trailing)
 
 -- where a varint is to stand and none does
-pub no_varint_front : (e : CidError) (s fields rest : List ℕ) → HasCidFields (0x01 ∷ s) fields rest → length fields ≤ 2 → IsVarintFault e rest → BeginsNoCid e (0x01 ∷ s)
+pub no_varint_front : (e : CidError) (s fields rest : List ℕ) → HasVarints (0x01 ∷ s) fields rest → length fields ≤ 2 → IsVarintFault e rest → BeginsNoCid e (0x01 ∷ s)
 no_varint_front e s fields rest h few f = no_front e s (λ is. not_trailing e f is) (varint_fault e (0x01 ∷ s) fields rest h few f)
   where
     not_trailing : (e : CidError) → IsVarintFault e rest → e ≡ TrailingBytes → ⊥

@@ -2,7 +2,7 @@
 use Rattle.std.proofs.Common.{◌≡◌, ℕ, ◌<◌, List, sym, ap, ◌∙◌, arith, subst}
 use Rattle.std.specs.Prelude.{Some, Result, Ok, Err, MatchResult, IsErrAnd}
 use Rattle.dagcbor_heads.specs.Reading.{Reading, Stays}
-use Rattle.dagcbor_heads.specs.Causes.{ByteCause, HeadCause, IsCauseless, IsEndNamed, IsNamed}
+use Rattle.dagcbor_heads.specs.Causes.{ByteCause, HeadCause, IsFaultOrLack, IsEndNamed, IsPayloadNamed, IsNamed}
 use Rattle.dagcbor_heads.specs.Names.{Names}
 use Rattle.dagcbor_heads.specs.Refusals.{Refuses, NoStep}
 use Rattle.dagcbor_heads.specs.Inputs.{not_lending}
@@ -35,9 +35,10 @@ byte_in_head (Eof n expect) b h = rw h.1 h.0
 byte_in_head _ b h = absurd h
 
 -- refusals of a part among those of the whole
-pub causeless_named : {E : Type 0} (text : List ℕ) (e : DecodeError E) → IsCauseless e → IsEndNamed text e
-causeless_named text (Eof n x) h = absurd h
-causeless_named text _ h = h
+pub payload_named : {E : Type 0} (text : List ℕ) (e : DecodeError E) → IsFaultOrLack e → IsPayloadNamed text e
+payload_named text (Read x) h = tt
+payload_named text OutOfMemory h = tt
+payload_named text _ h = absurd h
 
 pub end_named : {E : Type 0} (text : List ℕ) (e : DecodeError E) → IsEndNamed text e → IsNamed text e
 end_named text (Unsupported n x) h = absurd h

@@ -1,5 +1,5 @@
 -- What stands whole at the front of a slice, and is taken at once.
-use Rattle.std.proofs.Common.{◌≡◌, ℕ, ◌+◌, ◌<◌, ◌≤◌, ◌^◌, List, ◌∷◌, ◌++◌, length, take, drop, sym, ap, ap₂, ◌∙◌, arith, length-append, append_assoc}
+use Rattle.std.proofs.Common.{◌≡◌, ℕ, ◌+◌, ◌/◌, ◌<◌, ◌≤◌, ◌^◌, List, ◌∷◌, ◌++◌, length, take, drop, sym, ap, ap₂, ◌∙◌, subst, arith, length-append, append_assoc}
 use Rattle.std.proofs.lemmas.List.{take-append-drop}
 use Rattle.std.specs.Prelude.{Some}
 use Rattle.dagcbor_heads.specs.Head.{head}
@@ -26,6 +26,10 @@ slice_head {old} {new} {b} {behind} {rest} {first} {major} {argument} l m s e h 
   starts = λ x k. (behind, same_left old l k ∙ e);
   takes = slice_takes l m s h.2;
 }
+
+-- a head is of the major type of its first byte
+pub head_of_first : (first major argument : ℕ) (behind rest : List ℕ) {b : List ℕ} {kind : ℕ} → b ≡ first ∷ behind → first / 32 ≡ kind → SplitsHead b major argument rest → SplitsHead b kind argument rest
+head_of_first first major argument behind rest {b} {kind} e is h = subst (λ m. SplitsHead b m argument rest) (sym (begins first behind major argument rest h.1 (sym e ∙ h.2)).major_is ∙ is) h
 
 -- each byte was looked at once
 pub slice_looked : {old new : Reading} {b rest : List ℕ} (taken : List ℕ) → old.left ≡ Some b → new.left ≡ Some rest → b ≡ taken ++ rest → new.looked + length rest ≡ old.looked + length b → LooksAtTaken 2 0 old new

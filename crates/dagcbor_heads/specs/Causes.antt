@@ -8,9 +8,8 @@ use Rattle.dagcbor_heads.specs.Names.{Names}
 use Rattle.dagcbor_heads.specs.declared.error.Len.TheVariants.{Small}
 use Rattle.dagcbor_heads.specs.declared.error.DecodeError.{DecodeError}
 use Rattle.dagcbor_heads.specs.declared.error.DecodeError.TheVariants.{Read, Eof, Unsupported}
-use Rattle.dagcbor_heads.specs.declared.error.DecodeError.TheVariants.{RequireBorrowed, DepthOverflow}
+use Rattle.dagcbor_heads.specs.declared.error.DecodeError.TheVariants.{DepthOverflow, OutOfMemory}
 use Rattle.dagcbor_heads.specs.declared.error.DecodeError.TheVariants.{IndefiniteSize, NonMinimal}
-use Rattle.dagcbor_heads.specs.declared.error.DecodeError.TheVariants.{OutOfMemory, Failed}
 
 -- how many bytes of argument stand behind a first byte with this additional information
 abbrev pub argument_width : ℕ → ℕ
@@ -58,20 +57,24 @@ abbrev pub PayloadCause : {E : Type 0} → ℕ → DecodeError E → List ℕ �
 PayloadCause n (Eof name expect) b = (expect ≡ len_of n) × (length b < n)
 PayloadCause n _ b = ⊥
 
--- a refusal that comes of no cause in the bytes; `Refuses` says where it may come
-abbrev pub IsCauseless : {E : Type 0} → DecodeError E → Type 0
-IsCauseless (Read e) = ⊤
-IsCauseless OutOfMemory = ⊤
-IsCauseless (RequireBorrowed name) = ⊤
-IsCauseless Failed = ⊤
-IsCauseless _ = ⊥
+-- a fault of the source, or want of memory
+abbrev pub IsFaultOrLack : {E : Type 0} → DecodeError E → Type 0
+IsFaultOrLack (Read e) = ⊤
+IsFaultOrLack OutOfMemory = ⊤
+IsFaultOrLack _ = ⊥
 
--- of missing bytes, under this name, or of no cause
+-- of missing bytes, under this name, or a fault of the source
 abbrev pub IsEndNamed : {E : Type 0} → List ℕ → DecodeError E → Type 0
 IsEndNamed text (Eof name expect) = Names name text
-IsEndNamed text e = IsCauseless e
+IsEndNamed text (Read e) = ⊤
+IsEndNamed text _ = ⊥
 
--- of a head, under this name where it has one, or of no cause
+-- the same of a payload that may be gathered in memory
+abbrev pub IsPayloadNamed : {E : Type 0} → List ℕ → DecodeError E → Type 0
+IsPayloadNamed text OutOfMemory = ⊤
+IsPayloadNamed text e = IsEndNamed text e
+
+-- of a head, under this name where it has one, or a fault of the source
 abbrev pub IsNamed : {E : Type 0} → List ℕ → DecodeError E → Type 0
 IsNamed text (Unsupported name found) = Names name text
 IsNamed text IndefiniteSize = ⊤

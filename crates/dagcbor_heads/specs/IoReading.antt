@@ -8,7 +8,9 @@ may_consume n None = true
 may_consume n (Some most) = nat_le n most
 
 -- the bytes of the source, where it tells them, they begin with those that are shown, and those may
--- be consumed
+-- be consumed. Where they do not, nothing is told: what the reader hands out are its copies, and
+-- these bytes would be no account of them. It is so only of a source that did not tell its bytes
+-- when they were copied.
 abbrev pub bytes_told : List ℕ → Option (List ℕ) → Option ℕ → Option (List ℕ)
 bytes_told shown None most = None
 bytes_told shown (Some b) most = if bytes_eq (take (length shown) b) shown && may_consume (length shown) most then Some b else None

@@ -1,5 +1,5 @@
 -- What a refusal says.
-use Rattle.std.specs.Prelude.{◌≡◌, ℕ, ◌<◌, List, false, Some, Result, MatchResult}
+use Rattle.std.specs.Prelude.{◌≡◌, ℕ, ◌<◌, List, false, Some, Result, MatchResult, ⊤}
 use Rattle.dagcbor_heads.specs.Reading.{Reading, SpentStep}
 use Rattle.dagcbor_heads.specs.Causes.{IsDepthNamed}
 use Rattle.dagcbor_heads.specs.declared.error.DecodeError.{DecodeError}
@@ -23,6 +23,21 @@ Refuses could lacks borrows stands old (DepthOverflow name) new = (new.faults �
     × ((b : List ℕ) → old.left ≡ Some b → stands (DepthOverflow name) b) × (new.steps ≡ 0)
 Refuses could lacks borrows stands old e new = (new.faults ≡ old.faults) × (¬ could)
     × ((b : List ℕ) → old.left ≡ Some b → stands e b)
+
+-- what a call refuses that takes no memory and wants no loan
+abbrev pub RefusesPlainly : {E : Type 0} → (could : Type 0) → (DecodeError E → List ℕ → Type 0)
+    → Reading → DecodeError E → Reading → Type 0
+RefusesPlainly could = Refuses could ⊥ ⊥
+
+-- the same of a call that may lack memory
+abbrev pub RefusesOrLacksMemory : {E : Type 0} → (could : Type 0)
+    → (DecodeError E → List ℕ → Type 0) → Reading → DecodeError E → Reading → Type 0
+RefusesOrLacksMemory could = Refuses could ⊤ ⊥
+
+-- the same of a call that may lack memory where the reader does not lend
+abbrev pub RefusesOrLacksMemoryUnlent : {E : Type 0} → (could : Type 0)
+    → (DecodeError E → List ℕ → Type 0) → Reading → DecodeError E → Reading → Type 0
+RefusesOrLacksMemoryUnlent could stands old = Refuses could (old.lends ≡ false) ⊥ stands old
 
 -- no step was left: the reader is as before, and the refusal is for the depth, under this name
 pub record NoStep {E : Type 0} (text : List ℕ) (old : Reading) (e : DecodeError E) (new : Reading)

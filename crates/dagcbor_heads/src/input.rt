@@ -1,10 +1,10 @@
 //! What values are read from: a slice, which lends its bytes, or another reader.
 
-ghost use Rattle.std.specs.Prelude.{◌≡◌, ◌<◌, ◌++◌, ◌^◌, true, length, IfOk, IfSome, MatchOption, Some, List, ℕ};
+ghost use Rattle.std.specs.Prelude.{◌≡◌, ◌<◌, ◌++◌, ◌^◌, true, length, IfSome, MatchOption};
 ghost use Rattle.dagcbor_heads.specs.Head.{head};
 ghost use Rattle.dagcbor_heads.specs.Fronts.{Takes};
 ghost use Rattle.dagcbor_heads.specs.Looking.{LooksAtTaken};
-ghost use Rattle.dagcbor_heads.specs.Reading.{IsShownOf, reference_bytes, is_long};
+ghost use Rattle.dagcbor_heads.specs.Reading.{reference_bytes, is_long};
 ghost use Rattle.dagcbor_heads.specs.Inputs.{input_reading};
 
 use crate::read::{Read, Reference, SliceReader};
@@ -30,18 +30,9 @@ impl<'de, R: Read> Input<'de, R> {
         }
     }
 
-    /// Shows a front of the bytes left, and takes nothing.
-    pub fn fill(&mut self, want: usize) -> Result<Reference<'de, '_>, R::Error>
-        ensures front { IfOk result (λ s. (b : List ℕ) → (input_reading R.reading self.old).left ≡ Some b →
-            IsShownOf b (reference_bytes s) want (input_reading R.reading self.old).lends) }
-        ensures lends { IfOk result (λ s. is_long s ≡ (input_reading R.reading self.old).lends) }
-    {
-        self.prepare(want)?;
-        Ok(self.shown())
-    }
-
     /// Takes the string of this major type at the front, with its head, and lends its bytes, where
-    /// the input is a slice that has all of them. Else nothing is taken.
+    /// the input is a slice that has all of them. Else nothing is taken, and nothing counted, as in
+    /// `take_string` of `SliceReader`.
     #[inline(always)]
     pub fn take_string(&mut self, kind: u8) -> Option<&'de [u8]>
         ensures taken { MatchOption result

@@ -10,9 +10,10 @@ ghost use Rattle.dagcbor_heads.specs.Reading.{Fails, Stays, Keeps};
 ghost use Rattle.dagcbor_heads.specs.Fronts.{FindsEnd, Gathers, HasByte, HasHead, HasPayload};
 ghost use Rattle.dagcbor_heads.specs.Fronts.{ShowsByte, Takes, TakesHead};
 ghost use Rattle.dagcbor_heads.specs.Causes.{ByteCause, ArgumentCause, HeadCause, PayloadCause};
-ghost use Rattle.dagcbor_heads.specs.Causes.{IsCauseless, IsEndNamed, IsNamed, argument_width};
-ghost use Rattle.dagcbor_heads.specs.Causes.{least_argument};
-ghost use Rattle.dagcbor_heads.specs.Refusals.{Refuses};
+ghost use Rattle.dagcbor_heads.specs.Causes.{IsFaultOrLack, IsEndNamed, IsPayloadNamed, IsNamed};
+ghost use Rattle.dagcbor_heads.specs.Causes.{argument_width, least_argument};
+ghost use Rattle.dagcbor_heads.specs.Refusals.{RefusesPlainly, RefusesOrLacksMemory};
+ghost use Rattle.dagcbor_heads.specs.Refusals.{RefusesOrLacksMemoryUnlent};
 ghost use Rattle.dagcbor_heads.specs.Inputs.{input_reading, OverInput};
 ghost use Rattle.dagcbor_heads.specs.Looking.{Looks, LooksOnce, LooksAtTaken, LooksAtMost};
 
@@ -87,8 +88,8 @@ pub fn is_at_end<R: Read>(reader: &mut R) -> Result<bool, R::Error>
 pub fn peek_one<R: Read>(name: &str, reader: &mut R) -> ReadResult<u8, R>
     ensures shown { MatchResult result
         (λ byte. ShowsByte (R.reading reader.old) byte (R.reading reader.new))
-        (λ e. Refuses (HasByte (R.reading reader.old)) ⊥ ⊥ ByteCause (R.reading reader.old) e (R.reading reader.new)) }
-    ensures named { IfErr result (λ e. IsEndNamed name.now e) }
+        (λ e. RefusesPlainly (HasByte (R.reading reader.old)) ByteCause (R.reading reader.old) e (R.reading reader.new)) }
+    ensures variant { IfErr result (λ e. IsEndNamed name.now e) }
     ensures looked { LooksOnce (R.reading reader.old) (R.reading reader.new) }
 {
     match look(reader) {
@@ -102,8 +103,8 @@ pub fn peek_one<R: Read>(name: &str, reader: &mut R) -> ReadResult<u8, R>
 pub fn pull_one<R: Read>(name: &str, reader: &mut R) -> ReadResult<u8, R>
     ensures taken { MatchResult result
         (λ byte. Takes (R.reading reader.old) (byte ∷ []) (R.reading reader.new))
-        (λ e. Refuses (HasByte (R.reading reader.old)) ⊥ ⊥ ByteCause (R.reading reader.old) e (R.reading reader.new)) }
-    ensures named { IfErr result (λ e. IsEndNamed name.now e) }
+        (λ e. RefusesPlainly (HasByte (R.reading reader.old)) ByteCause (R.reading reader.old) e (R.reading reader.new)) }
+    ensures variant { IfErr result (λ e. IsEndNamed name.now e) }
     ensures looked { Looks 2 (R.reading reader.old) result (R.reading reader.new) }
     ensures at_most { LooksAtMost 2 (R.reading reader.old) (R.reading reader.new) }
 {
@@ -148,8 +149,8 @@ fn pull_argument<R: Read>(name: &str, reader: &mut R, width: u16) -> ReadResult<
     requires { width ≤ 8 }
     ensures taken { MatchResult result
         (λ n. (n < 256 ^ width) × Takes (R.reading reader.old) (bytes_high_first width n) (R.reading reader.new))
-        (λ e. Refuses (HasPayload width (R.reading reader.old)) ⊥ ⊥ (ArgumentCause width) (R.reading reader.old) e (R.reading reader.new)) }
-    ensures named { IfErr result (λ e. IsEndNamed name.now e) }
+        (λ e. RefusesPlainly (HasPayload width (R.reading reader.old)) (ArgumentCause width) (R.reading reader.old) e (R.reading reader.new)) }
+    ensures variant { IfErr result (λ e. IsEndNamed name.now e) }
     ensures looked { Looks 2 (R.reading reader.old) result (R.reading reader.new) }
     ensures at_most { LooksAtMost (2 * width) (R.reading reader.old) (R.reading reader.new) }
 {
@@ -169,8 +170,8 @@ fn pull_argument<R: Read>(name: &str, reader: &mut R, width: u16) -> ReadResult<
 pub fn pull_head<R: Read>(name: &str, reader: &mut R) -> ReadResult<(u8, u64, u8), R>
     ensures taken { MatchResult result
         (λ h. TakesHead (R.reading reader.old) h.0 h.1 h.2 (R.reading reader.new))
-        (λ e. Refuses (HasHead (R.reading reader.old)) ⊥ ⊥ HeadCause (R.reading reader.old) e (R.reading reader.new)) }
-    ensures named { IfErr result (λ e. IsNamed name.now e) }
+        (λ e. RefusesPlainly (HasHead (R.reading reader.old)) HeadCause (R.reading reader.old) e (R.reading reader.new)) }
+    ensures variant { IfErr result (λ e. IsNamed name.now e) }
     ensures looked { Looks 2 (R.reading reader.old) result (R.reading reader.new) }
     ensures at_most { LooksAtMost 18 (R.reading reader.old) (R.reading reader.new) }
 {
@@ -201,8 +202,8 @@ pub fn pull_head<R: Read>(name: &str, reader: &mut R) -> ReadResult<(u8, u64, u8
 fn pull_head_argument_slowly<R: Read>(name: &str, reader: &mut R) -> ReadResult<u64, R>
     ensures taken { MatchResult result
         (λ n. (major first : ℕ) × TakesHead (R.reading reader.old) major n first (R.reading reader.new))
-        (λ e. Refuses (HasHead (R.reading reader.old)) ⊥ ⊥ HeadCause (R.reading reader.old) e (R.reading reader.new)) }
-    ensures named { IfErr result (λ e. IsNamed name.now e) }
+        (λ e. RefusesPlainly (HasHead (R.reading reader.old)) HeadCause (R.reading reader.old) e (R.reading reader.new)) }
+    ensures variant { IfErr result (λ e. IsNamed name.now e) }
     ensures looked { Looks 2 (R.reading reader.old) result (R.reading reader.new) }
 {
     let (_, argument, _) = pull_head(name, reader)?;
@@ -215,8 +216,8 @@ fn pull_head_argument_slowly<R: Read>(name: &str, reader: &mut R) -> ReadResult<
 pub fn pull_head_argument<R: Read>(name: &str, reader: &mut R) -> ReadResult<u64, R>
     ensures taken { MatchResult result
         (λ n. (major first : ℕ) × TakesHead (R.reading reader.old) major n first (R.reading reader.new))
-        (λ e. Refuses (HasHead (R.reading reader.old)) ⊥ ⊥ HeadCause (R.reading reader.old) e (R.reading reader.new)) }
-    ensures named { IfErr result (λ e. IsNamed name.now e) }
+        (λ e. RefusesPlainly (HasHead (R.reading reader.old)) HeadCause (R.reading reader.old) e (R.reading reader.new)) }
+    ensures variant { IfErr result (λ e. IsNamed name.now e) }
     ensures looked { Looks 2 (R.reading reader.old) result (R.reading reader.new) }
 {
     if let Some((_, argument, _)) = reader.take_head() {
@@ -240,8 +241,8 @@ fn append_front(payload: &mut Vec<u8>, bytes: &[u8], want: u64) -> Result<usize,
 fn gather_some<R: Read>(reader: &mut R, payload: &mut Vec<u8>, want: u64) -> ReadResult<usize, R>
     ensures gathered { MatchResult result
         (λ n. Gathers (R.reading reader.old) payload.old.items want n payload.new.items (R.reading reader.new))
-        (λ e. Refuses ⊤ ⊤ ⊥ (λ _ _. ⊥) (R.reading reader.old) e (R.reading reader.new)) }
-    ensures causeless { IfErr result IsCauseless }
+        (λ e. RefusesOrLacksMemory ⊤ (λ _ _. ⊥) (R.reading reader.old) e (R.reading reader.new)) }
+    ensures variant { IfErr result IsFaultOrLack }
     ensures looked { Looks 2 (R.reading reader.old) result (R.reading reader.new) }
     ensures at_most { MatchResult result
         (λ n. LooksAtMost (2 * n) (R.reading reader.old) (R.reading reader.new))
@@ -261,12 +262,12 @@ fn gather_some<R: Read>(reader: &mut R, payload: &mut Vec<u8>, want: u64) -> Rea
 }
 
 /// The next n bytes, gathered in a vector that grows as they come. They are taken.
-#[tactic(auto, using(crate::proofs::Refusing::causeless_named))]
+#[tactic(auto, using(crate::proofs::Refusing::payload_named))]
 fn gather<R: Read>(alloc: Global, name: &str, reader: &mut R, n: u64) -> ReadResult<Vec<u8>, R>
     ensures taken { MatchResult result
         (λ v. (length v.items ≡ n) × Takes (R.reading reader.old) v.items (R.reading reader.new))
-        (λ e. Refuses (HasPayload n (R.reading reader.old)) ⊤ ⊥ (PayloadCause n) (R.reading reader.old) e (R.reading reader.new)) }
-    ensures named { IfErr result (λ e. IsEndNamed name.now e) }
+        (λ e. RefusesOrLacksMemory (HasPayload n (R.reading reader.old)) (PayloadCause n) (R.reading reader.old) e (R.reading reader.new)) }
+    ensures variant { IfErr result (λ e. IsPayloadNamed name.now e) }
     ensures looked { Looks 2 (R.reading reader.old) result (R.reading reader.new) }
     ensures at_most { LooksAtMost (2 * n) (R.reading reader.old) (R.reading reader.new) }
 {
@@ -291,10 +292,10 @@ pub fn pull_payload<'de, R: Read>(
 ) -> ReadResult<CowSlice<'de, u8>, R>
     ensures taken { MatchResult result
         (λ c. (length (cow_slice_items c) ≡ n) × Takes (input_reading R.reading input.old) (cow_slice_items c) (input_reading R.reading input.new))
-        (λ e. Refuses (HasPayload n (input_reading R.reading input.old)) ((input_reading R.reading input.old).lends ≡ false) ⊥ (PayloadCause n)
+        (λ e. RefusesOrLacksMemoryUnlent (HasPayload n (input_reading R.reading input.old)) (PayloadCause n)
         (input_reading R.reading input.old) e (input_reading R.reading input.new)) }
     ensures lent { IfOk result (λ c. IsBorrowedSlice c ↔ ((input_reading R.reading input.old).lends ≡ true)) }
-    ensures named { IfErr result (λ e. IsEndNamed name.now e) }
+    ensures variant { IfErr result (λ e. IsPayloadNamed name.now e) }
     ensures looked { OverInput R.reading (Looks 2) input.old result input.new }
     ensures at_most { LooksAtMost (2 * n) (input_reading R.reading input.old) (input_reading R.reading input.new) }
 {
@@ -349,8 +350,8 @@ pub fn pull_short_payload<R: Read, const CAP: usize>(
     requires { n ≤ CAP }
     ensures taken { MatchResult result
         (λ v. (length v.items ≡ n) × Takes (R.reading reader.old) v.items (R.reading reader.new))
-        (λ e. Refuses (HasPayload n (R.reading reader.old)) ⊥ ⊥ (PayloadCause n) (R.reading reader.old) e (R.reading reader.new)) }
-    ensures named { IfErr result (λ e. IsEndNamed name.now e) }
+        (λ e. RefusesPlainly (HasPayload n (R.reading reader.old)) (PayloadCause n) (R.reading reader.old) e (R.reading reader.new)) }
+    ensures variant { IfErr result (λ e. IsEndNamed name.now e) }
     ensures looked { Looks 2 (R.reading reader.old) result (R.reading reader.new) }
     ensures at_most { LooksAtMost (2 * n) (R.reading reader.old) (R.reading reader.new) }
 {

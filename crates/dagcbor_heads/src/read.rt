@@ -1,8 +1,8 @@
 //! Readers: a list of bytes, however they come.
 
-ghost use Rattle.std.specs.Prelude.{◌≡◌, ◌+◌, ◌-◌, ◌<◌, ◌≤◌, [], true, length, IfOk, MatchOption};
+ghost use Rattle.std.specs.Prelude.{◌≡◌, ◌+◌, ◌-◌, ◌<◌, ◌≤◌, [], true, length, MatchOption};
 ghost use Rattle.std.specs.Prelude.{MatchResult, MatchBool, Some, List, ℕ, IfSome, ◌++◌, ◌^◌};
-ghost use Rattle.dagcbor_heads.specs.Reading.{Reading, IsShownOf, Shows, Fails, Advances};
+ghost use Rattle.dagcbor_heads.specs.Reading.{Reading, Shows, Fails, Advances};
 ghost use Rattle.dagcbor_heads.specs.Reading.{fresh_reading, default_steps, with_steps};
 ghost use Rattle.dagcbor_heads.specs.Head.{head};
 ghost use Rattle.dagcbor_heads.specs.Fronts.{Takes, TakesHead};
@@ -61,8 +61,8 @@ pub trait Read: Drop {
         ensures { reading self.new ≡ with_steps ((reading self.old).steps + 1) (reading self.old) };
 
     /// Takes the head at the front where all of it is at hand: its major type, its argument and its
-    /// first byte. Else nothing is taken, and nothing counted: what looks at a byte of a head that is
-    /// not at hand counts it twice.
+    /// first byte. Else nothing is taken, and nothing counted, though the bytes of a head may have
+    /// been looked at: what then goes on byte by byte looks at each once, and counts it twice.
     fn take_head(&mut self) -> Option<(u8, u64, u8)>
         ensures taken { MatchOption result
             (reading self.new ≡ reading self.old)
@@ -71,14 +71,6 @@ pub trait Read: Drop {
         ensures at_most { IfSome result (λ _. LooksAtMost 18 (reading self.old) (reading self.new)) }
     {
         None
-    }
-
-    /// Shows a front of the bytes left, and takes nothing.
-    final fn fill(&mut self, want: usize) -> Result<&[u8], Self::Error>
-        ensures { IfOk result (λ s. (b : List ℕ) → (reading self.old).left ≡ Some b → IsShownOf b s.now want (reading self.old).lends) }
-    {
-        self.prepare(want)?;
-        Ok(self.shown())
     }
 }
 
@@ -141,7 +133,8 @@ impl<'a> SliceReader<'a> {
     }
 
     /// Takes the string of this major type at the front, with its head, and lends its bytes, where
-    /// all of them are left. Else nothing is taken.
+    /// all of them are left. Else nothing is taken, and nothing counted: the bytes of a head of this
+    /// major type may have been looked at, as in `take_head`, and of any other its first byte alone.
     #[inline(always)]
     pub fn take_string(&mut self, kind: u8) -> Option<&'a [u8]>
         ensures taken { MatchOption result
@@ -150,10 +143,11 @@ impl<'a> SliceReader<'a> {
         ensures lends { self.old.lends ≡ true }
         ensures looked { IfSome result (λ _. LooksAtTaken 2 0 self.old self.new) }
     {
-        let (major, count, behind) = split_head(self.rest)?;
-        if major != kind {
+        let (first, _behind) = self.rest.split_first()?;
+        if *first / 32 != kind {
             return None;
         }
+        let (_major, count, behind) = split_head(self.rest)?;
         if (behind.len() as u64) < count {
             return None;
         }

@@ -23,7 +23,7 @@ use Rattle.ipld_tree.proofs.Unique.{major, integer_major}
 use Rattle.ipld_tree.proofs.Fronts.{front_unique}
 use Rattle.dagcbor_items.specs.Reads.{HasFront, TakesFront, Reads}
 use Rattle.dagcbor_items.specs.Shapes.{within, number_of, view_number, leaf}
-use Rattle.dagcbor_items.specs.LeafCauses.{BeginsNoLong, MajorCause, IsOutside, LongCause}
+use Rattle.dagcbor_items.specs.LeafCauses.{BeginsNoBig, MajorCause, IsOutside, BigCause}
 use Rattle.dagcbor_items.specs.Majors.{HasMajor, TakesMajor}
 use Rattle.dagcbor_items.proofs.Fronts.{front_byte}
 use Rattle.dagcbor_items.proofs.HeadMajors.{has_major, no_byte_begins}
@@ -96,17 +96,17 @@ outside E accepted stands name {old} {new} n kept none named h = (
 
 -- ---- numbers of any size
 
-no_byte_no_tag : {E : Type 0} (e : DecodeError E) (b : List ℕ) → ByteCause e b → BeginsNoLong b
+no_byte_no_tag : {E : Type 0} (e : DecodeError E) (b : List ℕ) → ByteCause e b → BeginsNoBig b
 no_byte_no_tag (Eof n expect) b h = λ found more is which. let e : [] ≡ found ∷ more = sym h.1 ∙ is in absurd (cc e)
 no_byte_no_tag _ b h = absurd h
 
-pub long_byte_refused : {E : Type 0} (name : List ℕ) (old new : Reading) (e : DecodeError E) → IsEndNamed name e → Refuses (HasByte old) ⊥ ⊥ ByteCause old e new
-    → Refuses (HasFront (leaf (view_number Some)) old) ⊥ ⊥ (LongCause name) old e new
-long_byte_refused name old new e named r = passed_on ByteCause (LongCause name) old old new e (stays old) front_byte (λ x. x) (λ x. x) (λ b l. (b, l, λ h. inl (inl (byte_in_head e b h, end_named name e named, no_byte_begins 0 1 e b h), no_byte_no_tag e b h))) r
+pub big_byte_refused : {E : Type 0} (name : List ℕ) (old new : Reading) (e : DecodeError E) → IsEndNamed name e → Refuses (HasByte old) ⊥ ⊥ ByteCause old e new
+    → Refuses (HasFront (leaf (view_number Some)) old) ⊥ ⊥ (BigCause name) old e new
+big_byte_refused name old new e named r = passed_on ByteCause (BigCause name) old old new e (stays old) front_byte (λ x. x) (λ x. x) (λ b l. (b, l, λ h. inl (inl (byte_in_head e b h, end_named name e named, no_byte_begins 0 1 e b h), no_byte_no_tag e b h))) r
 
 -- a tag is no number
 pub no_tag : (E : Type 0) (name : List ℕ) {old mid : Reading} {first : ℕ} (kept : Name) → Names kept name → ShowsByte old first mid → (first ≡ 0xc2) ⊎ (first ≡ 0xc3)
-    → Refuses {E = E} (HasFront (leaf (view_number Some)) old) ⊥ ⊥ (LongCause name) old (Unsupported kept first) mid
+    → Refuses {E = E} (HasFront (leaf (view_number Some)) old) ⊥ ⊥ (BigCause name) old (Unsupported kept first) mid
 no_tag E name {old} {mid} {first} kept named h which = (
   h.same.faults,
   λ i. let k = number_kind Some i in
@@ -121,13 +121,13 @@ no_tag E name {old} {mid} {first} kept named h which = (
 some_still : {old mid : Reading} {first : ℕ} → ShowsByte old first mid → HasFront (leaf (view_number Some)) old → HasFront (leaf (view_number Some)) mid
 some_still h i = record { bytes = i.bytes; tree = i.tree; rest = i.rest; left = h.kept i.bytes i.left; front = i.front; accepted = i.accepted; within = zero-le }
 
-pub long_read : {E : Type 0} (name : List ℕ) {old mid : Reading} {first : ℕ} (new : Reading) (r : Result ℤ (DecodeError E)) → ShowsByte old first mid → ((first ≡ 0xc2) ⊎ (first ≡ 0xc3) → ⊥) → Reads (λ n. n) (leaf (view_number Some)) ⊥ ⊥ (MajorCause name 0 1) mid r new
-    → Reads (λ n. n) (leaf (view_number Some)) ⊥ ⊥ (LongCause name) old r new
-long_read name {old} {mid} new (Ok n) h other a = record {
+pub big_read : {E : Type 0} (name : List ℕ) {old mid : Reading} {first : ℕ} (new : Reading) (r : Result ℤ (DecodeError E)) → ShowsByte old first mid → ((first ≡ 0xc2) ⊎ (first ≡ 0xc3) → ⊥) → Reads (λ n. n) (leaf (view_number Some)) ⊥ ⊥ (MajorCause name 0 1) mid r new
+    → Reads (λ n. n) (leaf (view_number Some)) ⊥ ⊥ (BigCause name) old r new
+big_read name {old} {mid} new (Ok n) h other a = record {
   taken = λ b l. (let k = a.taken b (h.kept b l) in (k.0, k.1, k.2, k.3, zero-le, k.5));
   same = stays_both h.same a.same;
 }
-long_read name {old} {mid} {first} new (Err e) h other r = passed_on (MajorCause name 0 1) (LongCause name) old mid new e h.same (some_still h) (λ x. x) (λ x. x)
+big_read name {old} {mid} {first} new (Err e) h other r = passed_on (MajorCause name 0 1) (BigCause name) old mid new e h.same (some_still h) (λ x. x) (λ x. x)
     (λ b l. (
       b,
       h.kept b l,

@@ -1,7 +1,10 @@
 -- Reading leaves.
-use Rattle.std.proofs.Common.{◌≡◌, inl, inr, ℕ, suc, ◌+◌, ◌*◌, ◌/◌, ◌%◌, ◌≤◌, [], ◌∷◌, ◌++◌, refl, sym, ap, ◌∙◌, arith}
+use Rattle.std.proofs.Common.{◌≡◌, inl, inr, ℕ, suc, ◌+◌, ◌*◌, ◌/◌, ◌%◌, ◌≤◌, [], ◌∷◌, ◌++◌, refl, sym, ap, ◌∙◌, subst, arith}
 use Rattle.dagcbor_heads.specs.Reading.{Reading}
 use Rattle.dagcbor_heads.specs.Fronts.{StartsWith, ShowsByte}
+use Rattle.std.specs.Prelude.{codes}
+use Rattle.dagcbor_heads.specs.Causes.{HeadCause}
+use Rattle.dagcbor_heads.specs.Names.{Names}
 use Rattle.dagcbor_heads.specs.Refusals.{Refuses}
 use Rattle.dagcbor_heads.specs.declared.name.Name.{Name}
 use Rattle.dagcbor_heads.specs.declared.error.DecodeError.TheVariants.{Unsupported, IndefiniteSize}
@@ -37,11 +40,11 @@ no_simple_value {V} {shape} {old} {first} starts major_7 other i =
     let same : first ≡ k.0 = cc in
     other (omega (arith, same, k.2)) (omega (arith, same, k.3))
 
-pub unsupported_refused : (E lacks : Type 0) (spent : ℕ) (old : Reading) (name : Name) (first : ℕ) → StartsWith old first → first / 32 ≡ 7 → ((0xf4 ≤ first) → (first ≤ 0xf6) → ⊥) → Refuses {E = E} (HasItem (suc spent) old) lacks ⊥ (CauseInside (old.steps + suc spent)) old (Unsupported name first) old
-unsupported_refused E lacks spent old name first starts major_7 other = (
+pub unsupported_refused : (E lacks : Type 0) (spent : ℕ) (old : Reading) (name : Name) (first : ℕ) → Names name (codes "any") → StartsWith old first → first / 32 ≡ 7 → ((0xf4 ≤ first) → (first ≤ 0xf6) → ⊥) → Refuses {E = E} (HasItem (suc spent) old) lacks ⊥ (CauseInside (old.steps + suc spent)) old (Unsupported name first) old
+unsupported_refused E lacks spent old name first named starts major_7 other = (
   refl,
   no_simple_value starts major_7 other,
-  λ b l. let s = starts b l in cause_here {E = E} _ (Unsupported name first) b (omega arith) (inr (inl (s.0, s.1, major_7, other))),
+  λ b l. let s = starts b l in cause_here {E = E} _ (Unsupported name first) b (omega arith) (inr (inl (inr (inr (inr (named, (s.0, s.1, major_7, other))))))),
 )
 
 -- an indefinite length, or a break
@@ -53,5 +56,5 @@ indefinite_refused E lacks spent {old} {new} {first} h e = (
       let is : first ∷ s.0 ≡ (32 * major i.tree + f.0) ∷ f.1 = sym s.1 ∙ f.3 in
       let same : first ≡ 32 * major i.tree + f.0 = cc in
       omega (arith, e, same, f.2),
-  λ b l. let s = h.starts b l in cause_here {E = E} _ IndefiniteSize b (omega arith) (inr (inl (first, s.0, s.1, e))),
+  λ b l. let s = h.starts b l in cause_here {E = E} _ IndefiniteSize b (omega arith) (inl (subst (HeadCause {E = E} IndefiniteSize) (sym s.1) e)),
 )

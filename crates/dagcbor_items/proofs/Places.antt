@@ -16,6 +16,10 @@ stands_here steps e b h = (0, steps, b, omega arith, refl, h)
 pub cause_here : {E : Type 0} (steps : ℕ) (e : DecodeError E) (b : List ℕ) → 0 < steps → HeadCause e b ⊎ ItemCause e b ⊎ (BeginsWith 6 b × LinkCause e b) → CauseInside steps e b
 cause_here {E} steps e b some h = stands_here {E = E} steps e b (inr (inl (some, h)))
 
+-- a refusal that an item alone does not have
+pub no_item : ⊥ ⊎ (⊥ ⊎ (⊥ ⊎ ⊥)) → ⊥
+no_item h = elim h [ inl x ↦ x | inr y ↦ elim y [ inl x ↦ x | inr z ↦ elim z [ inl x ↦ x | inr x ↦ x ] ] ]
+
 pub at_steps : {E : Type 0} (e : DecodeError E) (b : List ℕ) (s t : ℕ) → s ≡ t → CauseInside s e b → CauseInside t e b
 at_steps {E} e b s t is h = subst (λ n. CauseInside {E = E} n e b) is h
 

@@ -19,7 +19,7 @@ use Rattle.dagcbor_items.specs.Untyped.{HasItem, TakesItem}
 use Rattle.dagcbor_items.specs.Walks.{WalkLacks, GathersLinks}
 use Rattle.dagcbor_items.specs.Judging.{SplitsItem}
 use Rattle.dagcbor_items.specs.Slices.{IsBlock, SliceRefused, PullsEnd, AreFirstLinks, LinksRefused, ReadsFirstLinks}
-use Rattle.dagcbor_items.proofs.Places.{at_steps}
+use Rattle.dagcbor_items.proofs.Places.{at_steps, no_item}
 use Rattle.dagcbor_items.proofs.Steps.{more_lacks}
 
 -- ---- the whole slice
@@ -46,7 +46,7 @@ no_trailing : (E : Type 0) (b : List ℕ) → CauseInside {E = E} 256 TrailingDa
 no_trailing E b h = elim h.5 [
   | inl x ↦ x
   | inr y ↦ elim y [
-    | inl x ↦ elim x.1 [ inl v ↦ by h.2 v | inr z ↦ elim z [ inl v ↦ v | inr w ↦ by_link h.2 w.1 ] ]
+    | inl x ↦ elim x.1 [ inl v ↦ by h.2 v | inr z ↦ elim z [ inl v ↦ no_item v | inr w ↦ by_link h.2 w.1 ] ]
     | inr x ↦ by_key x.1.0 x.1.1 x.1.3
   ]
 ]

@@ -4,7 +4,7 @@ use Rattle.std.specs.Prelude.{◌⊎◌, Option, Some, is_some, String, string_b
 use Rattle.dagcbor_heads.specs.Reading.{Reading}
 use Rattle.dagcbor_heads.specs.Refusals.{Refuses}
 use Rattle.dagcbor_heads.specs.declared.error.DecodeError.{DecodeError}
-use Rattle.dagcbor_heads.specs.declared.error.DecodeError.TheVariants.{Eof, Mismatch, RequireUtf8}
+use Rattle.dagcbor_heads.specs.declared.error.DecodeError.TheVariants.{Mismatch}
 use Rattle.dagcbor_heads.proofs.Taking.{stays}
 use Rattle.dagcbor_heads.proofs.Refusing.{passed_on, as_refusal}
 use Rattle.ipld_tree.specs.Tree.{Tree, text, bytes, any_need}
@@ -14,11 +14,11 @@ use Rattle.ipld_tree.specs.declared.ipld.Ipld.{Bytes as Bytes', String as String
 use Rattle.ipld_tree.proofs.Trees.{tree_of_Bytes, tree_of_String}
 use Rattle.ipld_tree.proofs.Unique.{major}
 use Rattle.ipld_tree.proofs.Fronts.{is_bytes, is_text}
-use Rattle.dagcbor_items.specs.ItemCauses.{CauseInside}
+use Rattle.dagcbor_items.specs.ItemCauses.{ItemCause, CauseInside}
 use Rattle.dagcbor_items.specs.Untyped.{HasItem, TakesItem, StartsWithMajor}
 use Rattle.dagcbor_items.specs.Reads.{HasFront, TakesFront}
 use Rattle.dagcbor_items.specs.Shapes.{view_text, view_bytes, leaf}
-use Rattle.dagcbor_items.specs.LeafCauses.{IsOtherKind, IsCut, IsGarbled, StringCause, TextCause}
+use Rattle.dagcbor_items.specs.LeafCauses.{IsOtherKind, IsCut, StringCause, TextCause}
 use Rattle.dagcbor_items.proofs.Places.{cause_here}
 use Rattle.dagcbor_items.proofs.Fronts.{MajorAt, major_of_front, as_tree}
 use Rattle.dagcbor_items.proofs.StringReads.{shown_bytes, shown_text}
@@ -32,22 +32,17 @@ not_other name kind (Mismatch kept found) b m h =
     h.1.2 (omega (arith, same, m.3)) (omega (arith, same, m.3))
 not_other name kind _ b m h = absurd h
 
-cut_stands : {E : Type 0} (steps : ℕ) → 0 < steps → (name : List ℕ) (kind : ℕ) (e : DecodeError E) (b : List ℕ) → (kind ≡ 2) ⊎ (kind ≡ 3) → IsCut name kind e b → CauseInside steps e b
-cut_stands {E} steps some name kind (Eof kept expect) b which h = cause_here {E = E} steps (Eof kept expect) b some (inr (inl (kind, h.1.0, h.1.1, which, h.1.2, h.1.3, h.1.4, h.1.5)))
-cut_stands steps some name kind _ b which h = absurd h
+string_stands : {E : Type 0} (steps : ℕ) → 0 < steps → (name : List ℕ) (kind : ℕ) (e : DecodeError E) (b : List ℕ) → (IsCut name kind e b → ItemCause e b) → MajorAt b kind → StringCause name kind e b → CauseInside steps e b
+string_stands steps some name kind e b of_item m (inl (inl h)) = cause_here steps e b some (inl h.0)
+string_stands steps some name kind e b of_item m (inl (inr h)) = absurd (not_other name kind e b m h)
+string_stands steps some name kind e b of_item m (inr h) = cause_here steps e b some (inr (inl (of_item h)))
 
-garbled_stands : {E : Type 0} (steps : ℕ) → 0 < steps → (name : List ℕ) (e : DecodeError E) (b : List ℕ) → IsGarbled name e b → CauseInside steps e b
-garbled_stands {E} steps some name (RequireUtf8 kept) b h = cause_here {E = E} steps (RequireUtf8 kept) b some (inr (inl h.1))
-garbled_stands steps some name _ b h = absurd h
+bytes_stand : {E : Type 0} (steps : ℕ) → 0 < steps → (e : DecodeError E) (b : List ℕ) → MajorAt b 2 → StringCause (codes "bytes") 2 e b → CauseInside steps e b
+bytes_stand steps some e b m h = string_stands steps some (codes "bytes") 2 e b (λ c. inl c) m h
 
-string_stands : {E : Type 0} (steps : ℕ) → 0 < steps → (name : List ℕ) (kind : ℕ) (e : DecodeError E) (b : List ℕ) → (kind ≡ 2) ⊎ (kind ≡ 3) → MajorAt b kind → StringCause name kind e b → CauseInside steps e b
-string_stands steps some name kind e b which m (inl (inl h)) = cause_here steps e b some (inl h.0)
-string_stands steps some name kind e b which m (inl (inr h)) = absurd (not_other name kind e b m h)
-string_stands steps some name kind e b which m (inr h) = cut_stands steps some name kind e b which h
-
-text_stands : {E : Type 0} (steps : ℕ) → 0 < steps → (name : List ℕ) (e : DecodeError E) (b : List ℕ) → MajorAt b 3 → TextCause name e b → CauseInside steps e b
-text_stands steps some name e b m (inl h) = string_stands steps some name 3 e b (inr refl) m h
-text_stands steps some name e b m (inr h) = garbled_stands steps some name e b h
+text_stands : {E : Type 0} (steps : ℕ) → 0 < steps → (e : DecodeError E) (b : List ℕ) → MajorAt b 3 → TextCause (codes "string") e b → CauseInside steps e b
+text_stands steps some e b m (inl h) = string_stands steps some (codes "string") 3 e b (λ c. inr (inl c)) m h
+text_stands steps some e b m (inr h) = cause_here steps e b some (inr (inl (inr (inr (inl h)))))
 
 -- ---- strings of either kind
 
@@ -78,7 +73,7 @@ text_taken = string_taken view_text text shown_text (λ s. refl)
 
 pub text_refused : {E : Type 0} (lacks : Type 0) (old new : Reading) (e : DecodeError E) → StartsWithMajor old 3 → Refuses (HasFront (leaf view_text) old) lacks ⊥ (TextCause (codes "string")) old e new → Refuses (HasItem 1 old) lacks ⊥ (CauseInside (old.steps + 1)) old e new
 text_refused lacks old new e starts r =
-    passed_on (TextCause (codes "string")) (CauseInside (old.steps + 1)) old old new e (stays old) (text_front starts) (λ x. x) (λ x. x) (λ b l. (b, l, text_stands _ (omega arith) (codes "string") e b (starts b l))) r
+    passed_on (TextCause (codes "string")) (CauseInside (old.steps + 1)) old old new e (stays old) (text_front starts) (λ x. x) (λ x. x) (λ b l. (b, l, text_stands _ (omega arith) e b (starts b l))) r
 
 pub text_as_tree : {old new : Reading} (s : String Global) → TakesFront (leaf view_text) old (string_bytes s) new → TakesItem 1 old (tree_of (String' s)) new
 text_as_tree {old} {new} s h = as_tree (text (string_bytes s)) _ (tree_of_String s) (text_taken (string_bytes s) h)
@@ -96,7 +91,7 @@ bytes_as_tree {old} {new} v h = as_tree (bytes v.items) _ (tree_of_Bytes v) (byt
 
 pub bytes_refused : {E : Type 0} (lacks : Type 0) (old new : Reading) (e : DecodeError E) → StartsWithMajor old 2 → Refuses (HasFront (leaf view_bytes) old) lacks ⊥ (StringCause (codes "bytes") 2) old e new → Refuses (HasItem 1 old) lacks ⊥ (CauseInside (old.steps + 1)) old e new
 bytes_refused lacks old new e starts r =
-    passed_on (StringCause (codes "bytes") 2) (CauseInside (old.steps + 1)) old old new e (stays old) (bytes_front starts) (λ x. x) (λ x. x) (λ b l. (b, l, string_stands _ (omega arith) (codes "bytes") 2 e b (inl refl) (starts b l))) r
+    passed_on (StringCause (codes "bytes") 2) (CauseInside (old.steps + 1)) old old new e (stays old) (bytes_front starts) (λ x. x) (λ x. x) (λ b l. (b, l, bytes_stand _ (omega arith) e b (starts b l))) r
 
 -- ---- for the calls that read a string as an item
 

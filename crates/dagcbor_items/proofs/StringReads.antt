@@ -8,7 +8,7 @@ use Rattle.dagcbor_heads.specs.Head.{head}
 use Rattle.dagcbor_heads.specs.Names.{Names}
 use Rattle.dagcbor_heads.specs.Reading.{Reading, Stays}
 use Rattle.dagcbor_heads.specs.Fronts.{HasHead, HasPayload, ShowsByte, Takes}
-use Rattle.dagcbor_heads.specs.Causes.{HeadCause, PayloadCause, IsNamed, IsEndNamed}
+use Rattle.dagcbor_heads.specs.Causes.{HeadCause, PayloadCause, IsNamed, IsPayloadNamed}
 use Rattle.dagcbor_heads.specs.Refusals.{Refuses}
 use Rattle.dagcbor_heads.specs.declared.name.Name.{Name}
 use Rattle.dagcbor_heads.specs.declared.error.DecodeError.{DecodeError}
@@ -41,11 +41,11 @@ behind_kind {kind} {n} fits t h =
     let u = head_unique kind (length h.payload) kind n (h.payload ++ h.rest) k.0 h.fits fits k.1 in
     (u.1, k.2 ∙ ap Some (sym u.2))
 
-is_cut : {E : Type 0} (name : List ℕ) (kind n : ℕ) (e : DecodeError E) (b c : List ℕ) → n < 2 ^ 64 → b ≡ head kind n ++ c → IsEndNamed name e → PayloadCause n e c → IsCut name kind e b
+is_cut : {E : Type 0} (name : List ℕ) (kind n : ℕ) (e : DecodeError E) (b c : List ℕ) → n < 2 ^ 64 → b ≡ head kind n ++ c → IsPayloadNamed name e → PayloadCause n e c → IsCut name kind e b
 is_cut name kind n (Eof kept expect) b c fits e named h = (named, (n, c, fits, e, h.1, h.0))
 is_cut name kind n _ b c fits e named h = absurd h
 
-payload_refused : {E : Type 0} (lacks : Type 0) (name : List ℕ) (kind : ℕ) {n : ℕ} {old mid : Reading} (new : Reading) (e : DecodeError E) → n < 2 ^ 64 → Takes old (head kind n) mid → IsEndNamed name e
+payload_refused : {E : Type 0} (lacks : Type 0) (name : List ℕ) (kind : ℕ) {n : ℕ} {old mid : Reading} (new : Reading) (e : DecodeError E) → n < 2 ^ 64 → Takes old (head kind n) mid → IsPayloadNamed name e
     → (lacks' : Type 0) → (lacks → lacks') → Refuses (HasPayload n mid) lacks ⊥ (PayloadCause n) mid e new → Refuses (HasString kind old) lacks' ⊥ (StringCause name kind) old e new
 payload_refused lacks name kind {n} {old} {mid} new e fits t named lacks' want r = passed_on (PayloadCause n) (StringCause name kind) old mid new e t.same
     (λ h. let k = behind_kind fits t h in record { payload = h.payload; rest = h.rest; long = k.0; left = k.1 }) want (λ x. x)
@@ -58,7 +58,7 @@ string_taken {kind} {n} {old} {mid} {new} s fits t long p = record {
 }
 
 pub string_read : {E : Type 0} (name : List ℕ) (kind : ℕ) {m n : ℕ} {old mid : Reading} (new : Reading) (result : Result (CowSlice ℕ Global) (DecodeError E)) → TakesMajor kind kind old m n mid
-    → IfErr result (λ e. IsEndNamed name e)
+    → IfErr result (λ e. IsPayloadNamed name e)
     → MatchResult result (λ c. (length (cow_slice_items c) ≡ n) × Takes mid (cow_slice_items c) new) (λ e. Refuses (HasPayload n mid) (mid.lends ≡ false) ⊥ (PayloadCause n) mid e new)
     → ReadsString cow_slice_items name kind old result new
 string_read name kind new (Ok c) t named h = string_taken (cow_slice_items c) t.argument_fits (of_kind t) h.0 h.1

@@ -1,14 +1,14 @@
 -- The refusals of a part are among those of the whole.
 use Rattle.std.specs.Prelude.{List, ℕ}
-use Rattle.dagcbor_heads.specs.Causes.{IsDepthNamed, IsEndNamed, IsNamed}
+use Rattle.dagcbor_heads.specs.Causes.{IsDepthNamed, IsEndNamed, IsPayloadNamed, IsNamed}
 use Rattle.dagcbor_heads.specs.declared.error.DecodeError.{DecodeError}
-use Rattle.dagcbor_heads.specs.declared.error.DecodeError.TheVariants.{Msg, Eof, Mismatch, Unsupported, RequireUtf8, CastOverflow, DepthOverflow, IndefiniteSize, NonMinimal, UnorderedKey}
+use Rattle.dagcbor_heads.specs.declared.error.DecodeError.TheVariants.{Msg, Read, Eof, Mismatch, Unsupported, RequireUtf8, CastOverflow, DepthOverflow, IndefiniteSize, NonMinimal, UnorderedKey, OutOfMemory}
 use Rattle.dagcbor_items.specs.Variants.{OfByte, OfHead, OfNumber, OfText, OfChar, OfKey, OfLink, OfItem}
 
 pub end_byte : {E : Type 0} (text : List ℕ) (e : DecodeError E) → IsEndNamed text e → OfByte e
 end_byte text (Eof n x) h = tt
-end_byte text (Mismatch n x) h = tt
-end_byte text _ h = h
+end_byte text (Read x) h = tt
+end_byte text _ h = absurd h
 
 pub byte_kind : {E : Type 0} (e : DecodeError E) → OfByte e → OfHead e
 byte_kind (Unsupported n x) h = tt
@@ -19,13 +19,19 @@ byte_kind _ h = h
 pub end_kind : {E : Type 0} (text : List ℕ) (e : DecodeError E) → IsEndNamed text e → OfHead e
 end_kind text e h = byte_kind e (end_byte text e h)
 
+pub payload_kind : {E : Type 0} (text : List ℕ) (e : DecodeError E) → IsPayloadNamed text e → OfHead e
+payload_kind text (Eof n x) h = tt
+payload_kind text (Read x) h = tt
+payload_kind text OutOfMemory h = tt
+payload_kind text _ h = absurd h
+
 pub named_kind : {E : Type 0} (text : List ℕ) (e : DecodeError E) → IsNamed text e → OfHead e
 named_kind text (Eof n x) h = tt
-named_kind text (Mismatch n x) h = tt
 named_kind text (Unsupported n x) h = tt
 named_kind text IndefiniteSize h = tt
 named_kind text (NonMinimal n x) h = tt
-named_kind text _ h = h
+named_kind text (Read x) h = tt
+named_kind text _ h = absurd h
 
 pub kind_number : {E : Type 0} (e : DecodeError E) → OfHead e → OfNumber e
 kind_number (CastOverflow n) h = tt

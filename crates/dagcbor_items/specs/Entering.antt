@@ -3,7 +3,7 @@ use Rattle.std.specs.Prelude.{ℕ, ◌+◌, ◌-◌, ◌^◌, ◌<◌, ◌⊎◌
 use Rattle.dagcbor_heads.specs.Head.{head}
 use Rattle.dagcbor_heads.specs.Reading.{Reading, with_steps}
 use Rattle.dagcbor_heads.specs.Fronts.{Takes}
-use Rattle.dagcbor_heads.specs.Refusals.{Refuses}
+use Rattle.dagcbor_heads.specs.Refusals.{RefusesPlainly}
 use Rattle.dagcbor_heads.specs.declared.error.DecodeError.{DecodeError}
 use Rattle.dagcbor_items.specs.ItemCauses.{CauseInside}
 use Rattle.dagcbor_items.specs.Untyped.{HasItem, StartsWithMajor}
@@ -23,4 +23,4 @@ StartsWithParts r = StartsWithMajor r 4 ⊎ StartsWithMajor r 5
 abbrev pub ReadsCount : {E : Type 0} → Reading → Result ℕ (DecodeError E) → Reading → Type 0
 ReadsCount old result new = MatchResult result
     (λ count. (major : ℕ) × Enters major count old new)
-    (λ e. Refuses (HasItem 1 old) ⊥ ⊥ (CauseInside (old.steps + 1)) old e new)
+    (λ e. RefusesPlainly (HasItem 1 old) (CauseInside (old.steps + 1)) old e new)

@@ -6,7 +6,7 @@ use Rattle.std.specs.Cow.{cow_str_bytes}
 use Rattle.std.specs.declared.borrow.CowStr.{CowStr}
 use Rattle.std.specs.declared.alloc.Global.{Global}
 use Rattle.dagcbor_heads.specs.Reading.{Reading, Stays}
-use Rattle.dagcbor_heads.specs.Refusals.{Refuses}
+use Rattle.dagcbor_heads.specs.Refusals.{RefusesOrLacksMemory, RefusesOrLacksMemoryUnlent}
 use Rattle.dagcbor_heads.specs.declared.error.DecodeError.{DecodeError}
 use Rattle.ipld_tree.specs.Tree.{text, Entries, ordered_entries, entries_need, Precedes}
 use Rattle.ipld_tree.specs.Spelling.{entry_count, IsFront, AreEntryFronts}
@@ -32,7 +32,7 @@ abbrev pub ReadsKeyAs : {K E : Type 0} → (K → List ℕ) → Option (List ℕ
     → Result K (DecodeError E) → Reading → Type 0
 ReadsKeyAs meaning previous old result new = MatchResult result
     (λ k. Follows previous (meaning k) × TakesItem 1 old (text (meaning k)) new)
-    (λ e. Refuses (HasKey previous old) (old.lends ≡ false) ⊥ (KeyCause previous) old e new)
+    (λ e. RefusesOrLacksMemoryUnlent (HasKey previous old) (KeyCause previous) old e new)
 
 abbrev pub ReadsKey : {E : Type 0} → Option (List ℕ) → Reading
     → Result (CowStr Global) (DecodeError E) → Reading → Type 0
@@ -75,4 +75,4 @@ abbrev pub ReadsEntries : {E : Type 0} → ℕ → Reading
     → Result (BTreeMap (String Global) Ipld) (DecodeError E) → Reading → Type 0
 ReadsEntries count old result new = MatchResult result
     (λ m. (entry_count (ordered_entries (pairs_of m.entries)) ≡ count) × TakesEntries old (ordered_entries (pairs_of m.entries)) new)
-    (λ e. Refuses (HasEntries count old) ⊤ ⊥ (CauseInEntries count old.steps) old e new)
+    (λ e. RefusesOrLacksMemory (HasEntries count old) (CauseInEntries count old.steps) old e new)

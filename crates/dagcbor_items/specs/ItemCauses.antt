@@ -1,20 +1,17 @@
 -- The causes of refusals that an item of unknown kind can have, each where it stands.
-use Rattle.std.specs.Prelude.{◌≡◌, ℕ, ◌+◌, ◌*◌, ◌/◌, ◌%◌, ◌^◌, ◌<◌, ◌≤◌, ◌⊎◌, false, List, ◌∷◌}
-use Rattle.std.specs.Prelude.{◌++◌, length, Option, Some, IsUtf8, codes}
-use Rattle.dagcbor_heads.specs.Head.{head}
+use Rattle.std.specs.Prelude.{◌≡◌, ℕ, ◌+◌, ◌*◌, ◌/◌, ◌<◌, ◌≤◌, ◌⊎◌, false, List, ◌∷◌, Option, Some}
+use Rattle.std.specs.Prelude.{codes}
 use Rattle.dagcbor_heads.specs.Causes.{HeadCause}
-use Rattle.dagcbor_heads.specs.Lengths.{len_of}
+use Rattle.dagcbor_heads.specs.Names.{Names}
 use Rattle.dagcbor_heads.specs.declared.error.DecodeError.{DecodeError}
-use Rattle.dagcbor_heads.specs.declared.error.DecodeError.TheVariants.{Eof, Unsupported}
-use Rattle.dagcbor_heads.specs.declared.error.DecodeError.TheVariants.{RequireUtf8, DepthOverflow}
-use Rattle.dagcbor_heads.specs.declared.error.DecodeError.TheVariants.{IndefiniteSize}
+use Rattle.dagcbor_heads.specs.declared.error.DecodeError.TheVariants.{Unsupported, DepthOverflow}
 use Rattle.dagcbor_heads.specs.declared.error.DecodeError.TheVariants.{UnorderedKey}
 use Rattle.ipld_tree.specs.Key.{comes_before}
 use Rattle.ipld_tree.specs.Tree.{text, Items, Entries}
 use Rattle.ipld_tree.specs.Spelling.{item_count, entry_count, IsFront, AreFronts, AreEntryFronts}
 use Rattle.dagcbor_items.specs.FirstBytes.{BeginsWith}
 use Rattle.dagcbor_items.specs.Places.{Follows, last_key, NextKey, IsInside}
-use Rattle.dagcbor_items.specs.LeafCauses.{TextCause}
+use Rattle.dagcbor_items.specs.LeafCauses.{IsCut, IsGarbled, TextCause}
 use Rattle.dagcbor_items.specs.LinkCauses.{LinkCause}
 
 -- where a key is to stand no whole text stands, or one that does not follow the key before it
@@ -27,18 +24,17 @@ abbrev pub CauseAtKey : {E : Type 0} → DecodeError E → List ℕ → Type 0
 CauseAtKey e b = (before : Option (List ℕ)) × (c : List ℕ) × NextKey b before c
     × KeyCause before e c
 
--- why an item of any kind that would begin there is refused, where its head is not: a payload that
--- is cut, a simple value that is no false, true or null, a text that is not UTF-8, or an indefinite
--- length
+-- a simple value that is no false, true or null
+abbrev pub IsOtherSimple : {E : Type 0} → DecodeError E → List ℕ → Type 0
+IsOtherSimple (Unsupported kept found) b = Names kept (codes "any")
+    × ((more : List ℕ) × (b ≡ found ∷ more) × (found / 32 ≡ 7) × ((0xf4 ≤ found) → ¬ (found ≤ 0xf6)))
+IsOtherSimple _ b = ⊥
+
+-- why an item of any kind that would begin there is refused, where its head is not: a byte string or
+-- a text that is cut, a text that is not UTF-8, or another simple value
 abbrev pub ItemCause : {E : Type 0} → DecodeError E → List ℕ → Type 0
-ItemCause (Eof name expect) b = (major n : ℕ) × (rest : List ℕ) × ((major ≡ 2) ⊎ (major ≡ 3))
-    × (n < 2 ^ 64) × (b ≡ head major n ++ rest) × (length rest < n) × (expect ≡ len_of n)
-ItemCause (Unsupported name found) b = (more : List ℕ) × (b ≡ found ∷ more) × (found / 32 ≡ 7)
-    × ((0xf4 ≤ found) → ¬ (found ≤ 0xf6))
-ItemCause (RequireUtf8 name) b = (s rest : List ℕ) × (length s < 2 ^ 64)
-    × (b ≡ head 3 (length s) ++ (s ++ rest)) × (¬ IsUtf8 s)
-ItemCause IndefiniteSize b = (first : ℕ) × (more : List ℕ) × (b ≡ first ∷ more) × (first % 32 ≡ 31)
-ItemCause _ b = ⊥
+ItemCause e b = IsCut (codes "bytes") 2 e b ⊎ IsCut (codes "string") 3 e b
+    ⊎ IsGarbled (codes "string") e b ⊎ IsOtherSimple e b
 
 -- no step is left for the item that is to stand there, or one alone where a list or a map begins,
 -- which takes two

@@ -3,7 +3,7 @@ use Rattle.std.specs.Prelude.{◌≡◌, ℕ, ◌≤◌, true, false, List, leng
 use Rattle.std.specs.Prelude.{MatchResult, ⊤, Vec}
 use Rattle.std.specs.declared.alloc.Global.{Global}
 use Rattle.dagcbor_heads.specs.Reading.{Reading, Stays}
-use Rattle.dagcbor_heads.specs.Refusals.{Refuses}
+use Rattle.dagcbor_heads.specs.Refusals.{RefusesOrLacksMemory}
 use Rattle.dagcbor_heads.specs.declared.error.DecodeError.{DecodeError}
 use Rattle.ipld_tree.specs.Tree.{Tree, Items, items_of, items_need}
 use Rattle.ipld_tree.specs.Spelling.{item_count, AreFronts}
@@ -42,4 +42,4 @@ abbrev pub ReadsItems : {E : Type 0} → ℕ → Reading → Result (Vec Ipld Gl
     → Reading → Type 0
 ReadsItems count old result new = MatchResult result
     (λ v. (length v.items ≡ count) × TakesItems old (trees_of v.items) new)
-    (λ e. Refuses (HasItems count old) ⊤ ⊥ (CauseInItems count old.steps) old e new)
+    (λ e. RefusesOrLacksMemory (HasItems count old) (CauseInItems count old.steps) old e new)

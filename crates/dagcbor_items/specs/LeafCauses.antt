@@ -38,26 +38,26 @@ IsOutside name accepted _ b = ⊥
 abbrev pub NumberCause : {V E : Type 0} → List ℕ → (ℤ → Option V) → DecodeError E → List ℕ → Type 0
 NumberCause name accepted e b = MajorCause name 0 1 e b ⊎ IsOutside name accepted e b
 
--- a tag of a number that may be too long for a head
-abbrev pub IsLong : {E : Type 0} → List ℕ → DecodeError E → List ℕ → Type 0
-IsLong name (Unsupported kept found) b = Names kept name
+-- the tag of a bignum, which may have no head (RFC 8949, section 3.4.3)
+abbrev pub IsBig : {E : Type 0} → List ℕ → DecodeError E → List ℕ → Type 0
+IsBig name (Unsupported kept found) b = Names kept name
     × ((more : List ℕ) × (b ≡ found ∷ more) × ((found ≡ 0xc2) ⊎ (found ≡ 0xc3)))
-IsLong name _ b = ⊥
+IsBig name _ b = ⊥
 
 -- the bytes do not begin with such a tag
-abbrev pub BeginsNoLong : List ℕ → Type 0
-BeginsNoLong b = (found : ℕ) (more : List ℕ) → b ≡ found ∷ more
+abbrev pub BeginsNoBig : List ℕ → Type 0
+BeginsNoBig b = (found : ℕ) (more : List ℕ) → b ≡ found ∷ more
     → ¬ ((found ≡ 0xc2) ⊎ (found ≡ 0xc3))
 
 -- where a number of any size is to stand, no head of one stands, and no such tag; or such a tag
 -- does
-abbrev pub LongCause : {E : Type 0} → List ℕ → DecodeError E → List ℕ → Type 0
-LongCause name e b = (MajorCause name 0 1 e b × BeginsNoLong b) ⊎ IsLong name e b
+abbrev pub BigCause : {E : Type 0} → List ℕ → DecodeError E → List ℕ → Type 0
+BigCause name e b = (MajorCause name 0 1 e b × BeginsNoBig b) ⊎ IsBig name e b
 
 -- no number of any size stands there that the type accepts
-abbrev pub LongNumberCause : {V E : Type 0} → List ℕ → (ℤ → Option V) → DecodeError E → List ℕ
+abbrev pub BigNumberCause : {V E : Type 0} → List ℕ → (ℤ → Option V) → DecodeError E → List ℕ
     → Type 0
-LongNumberCause name accepted e b = LongCause name e b ⊎ IsOutside name accepted e b
+BigNumberCause name accepted e b = BigCause name e b ⊎ IsOutside name accepted e b
 
 -- a string of the major type whose payload is cut
 abbrev pub IsCut : {E : Type 0} → List ℕ → (kind : ℕ) → DecodeError E → List ℕ → Type 0

@@ -13,7 +13,7 @@ use Rattle.dagcbor_items.specs.Shapes.{view_null, view_bool, view_text, view_cha
 use Rattle.dagcbor_items.specs.Shapes.{ignored_item, leaf}
 use Rattle.dagcbor_items.specs.ItemCauses.{CauseInside}
 use Rattle.dagcbor_items.specs.LinkCauses.{IsOtherByte}
-use Rattle.dagcbor_items.specs.LeafCauses.{NumberCause, LongNumberCause, StringCause, TextCause}
+use Rattle.dagcbor_items.specs.LeafCauses.{NumberCause, BigNumberCause, StringCause, TextCause}
 use Rattle.dagcbor_items.specs.LeafCauses.{CharCause, BoolCause}
 
 -- A number is read exactly where one stands from 0 to the bound, exclusive.
@@ -28,10 +28,10 @@ ReadsSigned name bound = Reads (λ n. n) (leaf (view_signed bound)) ⊥ ⊥ (Num
 
 -- The same for a type in which each number of the format has room, but none that a tag announces.
 abbrev pub ReadsU128 : {E : Type 0} → Reading → Result ℕ (DecodeError E) → Reading → Type 0
-ReadsU128 = Reads (λ n. n) (leaf (view_unsigned (2 ^ 128))) ⊥ ⊥ (LongNumberCause (codes "u128") (natural_below (2 ^ 128)))
+ReadsU128 = Reads (λ n. n) (leaf (view_unsigned (2 ^ 128))) ⊥ ⊥ (BigNumberCause (codes "u128") (natural_below (2 ^ 128)))
 
 abbrev pub ReadsI128 : {E : Type 0} → Reading → Result ℤ (DecodeError E) → Reading → Type 0
-ReadsI128 = Reads (λ n. n) (leaf (view_signed (2 ^ 127))) ⊥ ⊥ (LongNumberCause (codes "i128") (within (2 ^ 127)))
+ReadsI128 = Reads (λ n. n) (leaf (view_signed (2 ^ 127))) ⊥ ⊥ (BigNumberCause (codes "i128") (within (2 ^ 127)))
 
 -- A text is read exactly where one stands, with no want of memory where the input lends.
 abbrev pub ReadsTextAs : {T E : Type 0} → (T → List ℕ) → List ℕ → Reading → Result T (DecodeError E)

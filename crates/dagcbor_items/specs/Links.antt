@@ -3,7 +3,7 @@ use Rattle.std.specs.Prelude.{◌≡◌, ℕ, ◌+◌, ◌^◌, ◌<◌, List, �
 use Rattle.std.specs.Prelude.{Result, MatchResult}
 use Rattle.dagcbor_heads.specs.Reading.{Reading}
 use Rattle.dagcbor_heads.specs.Fronts.{Takes}
-use Rattle.dagcbor_heads.specs.Refusals.{Refuses}
+use Rattle.dagcbor_heads.specs.Refusals.{RefusesPlainly}
 use Rattle.dagcbor_heads.specs.declared.error.DecodeError.{DecodeError}
 use Rattle.ipld_tree.specs.Cid.{CidParts, AreCidParts, IsCid, cid_bytes}
 use Rattle.ipld_tree.specs.Tree.{link}
@@ -34,7 +34,7 @@ pub record TakesCid (old : Reading) (cid : List ℕ) (new : Reading) : Type 0 wh
 abbrev pub ReadsCid : {E : Type 0} → Reading → Result CidParts (DecodeError E) → Reading → Type 0
 ReadsCid old result new = MatchResult result
     (λ c. TakesCid old (cid_bytes c) new)
-    (λ e. Refuses (HasCid old) ⊥ ⊥ LinkBytesCause old e new)
+    (λ e. RefusesPlainly (HasCid old) LinkBytesCause old e new)
 
 -- a link stands at the front
 pub record HasLink (r : Reading) : Type 0 where
@@ -48,7 +48,7 @@ pub record HasLink (r : Reading) : Type 0 where
 abbrev pub ReadsLink : {E : Type 0} → Reading → Result CidParts (DecodeError E) → Reading → Type 0
 ReadsLink old result new = MatchResult result
     (λ c. TakesItem 1 old (link (cid_bytes c)) new)
-    (λ e. Refuses (HasLink old) ⊥ ⊥ LinkCause old e new)
+    (λ e. RefusesPlainly (HasLink old) LinkCause old e new)
 
 -- a CID is found exactly in a zero and a CID
 abbrev pub IsZeroAndCid : List ℕ → Option CidParts → Type 0

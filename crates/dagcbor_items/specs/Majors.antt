@@ -4,7 +4,7 @@ use Rattle.std.specs.Prelude.{MatchResult}
 use Rattle.dagcbor_heads.specs.Head.{head}
 use Rattle.dagcbor_heads.specs.Reading.{Reading}
 use Rattle.dagcbor_heads.specs.Fronts.{Takes}
-use Rattle.dagcbor_heads.specs.Refusals.{Refuses}
+use Rattle.dagcbor_heads.specs.Refusals.{RefusesPlainly, RefusesOrLacksMemoryUnlent}
 use Rattle.dagcbor_heads.specs.declared.error.DecodeError.{DecodeError}
 use Rattle.dagcbor_items.specs.LeafCauses.{MajorCause, StringCause}
 
@@ -30,7 +30,7 @@ abbrev pub ReadsMajor : {E : Type 0} → List ℕ → (low high : ℕ) → Readi
     → Result (ℕ × ℕ) (DecodeError E) → Reading → Type 0
 ReadsMajor name low high old result new = MatchResult result
     (λ h. TakesMajor low high old h.0 h.1 new)
-    (λ e. Refuses (HasMajor low high old) ⊥ ⊥ (MajorCause name low high) old e new)
+    (λ e. RefusesPlainly (HasMajor low high old) (MajorCause name low high) old e new)
 
 -- ---- strings of bytes
 
@@ -52,4 +52,4 @@ abbrev pub ReadsString : {T E : Type 0} → (T → List ℕ) → List ℕ → (k
     → Result T (DecodeError E) → Reading → Type 0
 ReadsString meaning name kind old result new = MatchResult result
     (λ s. TakesString kind old (meaning s) new)
-    (λ e. Refuses (HasString kind old) (old.lends ≡ false) ⊥ (StringCause name kind) old e new)
+    (λ e. RefusesOrLacksMemoryUnlent (HasString kind old) (StringCause name kind) old e new)

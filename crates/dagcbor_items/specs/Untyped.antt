@@ -2,7 +2,7 @@
 use Rattle.std.specs.Prelude.{◌≡◌, ℕ, ◌+◌, ◌-◌, ◌/◌, ◌≤◌, false, List, [], ◌∷◌, Option, None, Some}
 use Rattle.std.specs.Prelude.{Result, MatchResult, ⊤}
 use Rattle.dagcbor_heads.specs.Reading.{Reading, Stays}
-use Rattle.dagcbor_heads.specs.Refusals.{Refuses}
+use Rattle.dagcbor_heads.specs.Refusals.{RefusesPlainly, RefusesOrLacksMemory, RefusesOrLacksMemoryUnlent}
 use Rattle.dagcbor_heads.specs.declared.error.DecodeError.{DecodeError}
 use Rattle.ipld_tree.specs.Tree.{Tree, list, mapping, IsTree, any_need}
 use Rattle.ipld_tree.specs.Spelling.{IsSpellable, spelling, IsFront}
@@ -36,13 +36,13 @@ pub record TakesItem (spent : ℕ) (old : Reading) (t : Tree) (new : Reading) : 
 abbrev pub ReadsItem : {E : Type 0} → ℕ → Reading → Result Ipld (DecodeError E) → Reading → Type 0
 ReadsItem spent old result new = MatchResult result
     (λ v. TakesItem spent old (tree_of v) new)
-    (λ e. Refuses (HasItem spent old) ⊤ ⊥ (CauseInside (old.steps + spent)) old e new)
+    (λ e. RefusesOrLacksMemory (HasItem spent old) (CauseInside (old.steps + spent)) old e new)
 
 -- A leaf that takes no memory is read exactly where one stands: a number, a link or a simple value.
 abbrev pub ReadsLeaf : {E : Type 0} → Reading → Result Ipld (DecodeError E) → Reading → Type 0
 ReadsLeaf old result new = MatchResult result
     (λ v. TakesItem 1 old (tree_of v) new)
-    (λ e. Refuses (HasItem 1 old) ⊥ ⊥ (CauseInside (old.steps + 1)) old e new)
+    (λ e. RefusesPlainly (HasItem 1 old) (CauseInside (old.steps + 1)) old e new)
 
 -- An item of unknown kind is skipped exactly where one is read, with no want of memory where the
 -- input lends.
@@ -50,7 +50,7 @@ abbrev pub SkipsItem : {E : Type 0} → ℕ → Reading → Result (Unit {0}) (D
     → Type 0
 SkipsItem spent old result new = MatchResult result
     (λ _. (t : Tree) × TakesItem spent old t new)
-    (λ e. Refuses (HasItem spent old) (old.lends ≡ false) ⊥ (CauseInside (old.steps + spent)) old e new)
+    (λ e. RefusesOrLacksMemoryUnlent (HasItem spent old) (CauseInside (old.steps + spent)) old e new)
 
 -- neither a list nor a map
 abbrev pub IsLeaf : Tree → Type 0

@@ -1,19 +1,28 @@
 -- Which refusals a call can answer, whether its bytes are known or not: those of its causes, and
 -- those of no cause.
 use Rattle.std.specs.Prelude.{⊤}
-use Rattle.dagcbor_heads.specs.Causes.{IsCauseless}
 use Rattle.dagcbor_heads.specs.declared.error.DecodeError.{DecodeError}
-use Rattle.dagcbor_heads.specs.declared.error.DecodeError.TheVariants.{Msg, Eof, Mismatch}
+use Rattle.dagcbor_heads.specs.declared.error.DecodeError.TheVariants.{Msg, Read, Eof, Mismatch}
 use Rattle.dagcbor_heads.specs.declared.error.DecodeError.TheVariants.{Unsupported, RequireUtf8}
 use Rattle.dagcbor_heads.specs.declared.error.DecodeError.TheVariants.{CastOverflow, DepthOverflow}
 use Rattle.dagcbor_heads.specs.declared.error.DecodeError.TheVariants.{IndefiniteSize, NonMinimal}
-use Rattle.dagcbor_heads.specs.declared.error.DecodeError.TheVariants.{UnorderedKey}
+use Rattle.dagcbor_heads.specs.declared.error.DecodeError.TheVariants.{UnorderedKey, OutOfMemory}
+use Rattle.dagcbor_heads.specs.declared.error.DecodeError.TheVariants.{RequireBorrowed, Failed}
+
+-- of no cause in the bytes: `Refuses` says where these may come. The last two come of reads of types
+-- alone.
+abbrev pub OfNoCause : {E : Type 0} → DecodeError E → Type 0
+OfNoCause (Read e) = ⊤
+OfNoCause OutOfMemory = ⊤
+OfNoCause (RequireBorrowed name) = ⊤
+OfNoCause Failed = ⊤
+OfNoCause _ = ⊥
 
 -- of one byte
 abbrev pub OfByte : {E : Type 0} → DecodeError E → Type 0
 OfByte (Eof name expect) = ⊤
 OfByte (Mismatch name found) = ⊤
-OfByte e = IsCauseless e
+OfByte e = OfNoCause e
 
 -- of a head of some major types, and of a byte string
 abbrev pub OfHead : {E : Type 0} → DecodeError E → Type 0

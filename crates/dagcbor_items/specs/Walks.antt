@@ -5,7 +5,7 @@ use Rattle.std.specs.Prelude.{◌≡◌, ◌⊎◌, ◌+◌, ℕ, Bool, true, fa
 use Rattle.std.specs.Prelude.{Result, MatchResult, Vec, ⊤}
 use Rattle.std.specs.declared.alloc.Global.{Global}
 use Rattle.dagcbor_heads.specs.Reading.{Reading}
-use Rattle.dagcbor_heads.specs.Refusals.{Refuses}
+use Rattle.dagcbor_heads.specs.Refusals.{Refuses, RefusesOrLacksMemory}
 use Rattle.dagcbor_heads.specs.declared.error.DecodeError.{DecodeError}
 use Rattle.ipld_tree.specs.Cid.{CidParts, cid_bytes}
 use Rattle.ipld_tree.specs.Tree.{Tree, items_of, Entries, links_of, items_links, entries_links}
@@ -57,4 +57,4 @@ abbrev pub GathersLinks : {E : Type 0} → ℕ → Reading → Result (Vec CidPa
     → Reading → Type 0
 GathersLinks spent old result new = MatchResult result
     (λ v. (t : Tree) × TakesItem spent old t new × (forms v.items ≡ links_of t))
-    (λ e. Refuses (HasItem spent old) ⊤ ⊥ (CauseInside (old.steps + spent)) old e new)
+    (λ e. RefusesOrLacksMemory (HasItem spent old) (CauseInside (old.steps + spent)) old e new)

@@ -2,7 +2,7 @@
 
 ghost use Rattle.std.specs.Prelude.{◌≡◌, codes, [], ◌∷◌, MatchResult, IfErr};
 ghost use Rattle.dagcbor_heads.specs.Fronts.{Takes};
-ghost use Rattle.dagcbor_heads.specs.Refusals.{Refuses};
+ghost use Rattle.dagcbor_heads.specs.Refusals.{RefusesPlainly};
 ghost use Rattle.dagcbor_heads.specs.Looking.{Looks, LooksBehind};
 ghost use Rattle.dagcbor_items.specs.LinkCauses.{IsOtherByte};
 ghost use Rattle.dagcbor_items.specs.Untyped.{ReadsLeaf, StartsWithMajor};
@@ -28,7 +28,7 @@ pub(crate) fn pull_wanted<R: Read>(
 ) -> ReadResult<(), R>
     ensures wanted { MatchResult result
         (λ _. Takes (R.reading reader.old) (wanted ∷ []) (R.reading reader.new))
-        (λ e. Refuses (HasWanted wanted (R.reading reader.old)) ⊥ ⊥ (IsOtherByte other.now wanted) (R.reading reader.old) e (R.reading reader.new)) }
+        (λ e. RefusesPlainly (HasWanted wanted (R.reading reader.old)) (IsOtherByte other.now wanted) (R.reading reader.old) e (R.reading reader.new)) }
     ensures looked { Looks 2 (R.reading reader.old) result (R.reading reader.new) }
     ensures variant { IfErr result OfByte }
 {

@@ -3,7 +3,7 @@
 ghost use Rattle.std.specs.Prelude.{◌<◌, ◌≤◌, ◌/◌, IfErr, MatchResult};
 ghost use Rattle.dagcbor_heads.specs.Fronts.{ShowsByte};
 ghost use Rattle.dagcbor_heads.specs.Looking.{Looks, LooksOnce};
-ghost use Rattle.dagcbor_heads.specs.Refusals.{Refuses};
+ghost use Rattle.dagcbor_heads.specs.Refusals.{RefusesPlainly};
 ghost use Rattle.dagcbor_items.specs.Majors.{HasMajor, ReadsMajor};
 ghost use Rattle.dagcbor_items.specs.LeafCauses.{MajorCause};
 ghost use Rattle.dagcbor_items.specs.Variants.{OfByte, OfHead};
@@ -20,7 +20,7 @@ pub(crate) fn peek_major<R: Read>(
 ) -> ReadResult<u8, R>
     ensures kind { MatchResult result
         (λ first. (low ≤ first / 32) × (first / 32 ≤ high) × ShowsByte (R.reading reader.old) first (R.reading reader.new))
-        (λ e. Refuses (HasMajor low high (R.reading reader.old)) ⊥ ⊥ (MajorCause name.now low high) (R.reading reader.old) e (R.reading reader.new)) }
+        (λ e. RefusesPlainly (HasMajor low high (R.reading reader.old)) (MajorCause name.now low high) (R.reading reader.old) e (R.reading reader.new)) }
     ensures looked { LooksOnce (R.reading reader.old) (R.reading reader.new) }
     ensures variant { IfErr result OfByte }
 {

@@ -3,7 +3,7 @@
 ghost use Rattle.std.specs.Prelude.{◌≡◌, ◌+◌, ◌≤◌, ◌^◌, Some, IfOk, pos, negsuc, ◌≤ℤ◌, IfErr};
 ghost use Rattle.dagcbor_items.specs.Reads.{Reads};
 ghost use Rattle.dagcbor_items.specs.Shapes.{number_of, natural_below, within, view_number, leaf};
-ghost use Rattle.dagcbor_items.specs.LeafCauses.{MajorCause, LongCause};
+ghost use Rattle.dagcbor_items.specs.LeafCauses.{MajorCause, BigCause};
 ghost use Rattle.dagcbor_items.specs.LeafReads.{ReadsUnsigned, ReadsSigned, ReadsU128, ReadsI128};
 ghost use Rattle.dagcbor_heads.specs.Looking.{Looks};
 ghost use Rattle.dagcbor_items.specs.Variants.{OfHead, OfNumber};
@@ -85,8 +85,8 @@ pub fn pull_signed<R: Read>(name: &str, reader: &mut R, greatest: u64) -> ReadRe
 
 /// A number of any size, which no tag announces.
 #[tactic(auto, using(crate::proofs::Variants::end_kind))]
-fn pull_long<R: Read>(name: &str, reader: &mut R) -> ReadResult<i128, R>
-    ensures number { Reads (λ n. n) (leaf (view_number Some)) ⊥ ⊥ (LongCause name.now) (R.reading reader.old) result (R.reading reader.new) }
+fn pull_big<R: Read>(name: &str, reader: &mut R) -> ReadResult<i128, R>
+    ensures number { Reads (λ n. n) (leaf (view_number Some)) ⊥ ⊥ (BigCause name.now) (R.reading reader.old) result (R.reading reader.new) }
     ensures looked { Looks 4 (R.reading reader.old) result (R.reading reader.new) }
     ensures variant { IfErr result OfHead }
 {
@@ -98,7 +98,7 @@ fn pull_long<R: Read>(name: &str, reader: &mut R) -> ReadResult<i128, R>
 }
 
 /// The number where it is not below 0.
-fn long_natural_of(number: i128) -> Option<u128>
+fn big_natural_of(number: i128) -> Option<u128>
     ensures { result ≡ natural_below (2 ^ 128) number }
 {
     u128::try_from(number).ok()
@@ -111,8 +111,8 @@ pub fn pull_u128<R: Read>(reader: &mut R) -> ReadResult<u128, R>
     ensures looked { Looks 4 (R.reading reader.old) result (R.reading reader.new) }
     ensures variant { IfErr result OfNumber }
 {
-    let number = pull_long("u128", reader)?;
-    match long_natural_of(number) {
+    let number = pull_big("u128", reader)?;
+    match big_natural_of(number) {
         Some(natural) => Ok(natural),
         None => Err(DecodeError::out_of_range("u128")),
     }
@@ -124,6 +124,6 @@ pub fn pull_i128<R: Read>(reader: &mut R) -> ReadResult<i128, R>
     ensures looked { Looks 4 (R.reading reader.old) result (R.reading reader.new) }
     ensures variant { IfErr result OfHead }
 {
-    let number = pull_long("i128", reader)?;
+    let number = pull_big("i128", reader)?;
     Ok(number)
 }

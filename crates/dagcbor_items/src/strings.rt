@@ -23,7 +23,7 @@ use std::alloc::Global;
 use std::borrow::{CowSlice, CowStr};
 
 /// The bytes of a string whose first byte has the major type, lent where the input lends.
-#[tactic(auto, using(crate::proofs::Variants::named_kind, crate::proofs::Variants::end_kind))]
+#[tactic(auto, using(crate::proofs::Variants::named_kind, crate::proofs::Variants::payload_kind))]
 fn pull_peeked_string<'de, R: Read>(
     alloc: Global,
     name: &str,

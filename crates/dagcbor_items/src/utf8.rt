@@ -7,8 +7,8 @@ use crate::judge::{SHORT, is_plain};
 use simdutf8::basic;
 use std::str::{from_utf8, from_utf8_unchecked};
 
-/// From how many bytes on a step of 64 pays.
-const LONG: usize = 64;
+/// How many bytes a step reads. It pays from so many on.
+const STEP: usize = 64;
 
 /// The bytes as a text.
 #[tactic(auto, using(crate::proofs::Judging::plain_text))]
@@ -18,7 +18,7 @@ pub(crate) fn as_text(bytes: &[u8]) -> Option<&str>
     if bytes.len() < SHORT && is_plain(bytes) {
         return Some(unsafe { from_utf8_unchecked(bytes) });
     }
-    if bytes.len() < LONG {
+    if bytes.len() < STEP {
         from_utf8(bytes).ok()
     } else {
         basic::from_utf8(bytes).ok()

@@ -3,7 +3,7 @@ use Rattle.std.proofs.Common.{◌≡◌, ◌⊎◌, inl, inr, ℕ, ◌^◌, ◌<
 use Rattle.std.proofs.lemmas.Bool.{cases_order}
 use Rattle.std.specs.List.{AllByRecursion, flat_map}
 use Rattle.ipld_tree.specs.Cid.{varint, CidParts, IsVersion1, cid_bytes, IsCid}
-use Rattle.ipld_tree.specs.CidFault.{IsCutVarint, IsNoVarint, IsVarintFault, HasCidFields, AtVarint, AtDigest, IsFault}
+use Rattle.ipld_tree.specs.CidFault.{IsCutVarint, IsNoVarint, IsVarintFault, HasVarints, AtVarint, AtDigest, IsFault}
 use Rattle.ipld_tree.specs.declared.cid_error.CidError.{CidError}
 use Rattle.ipld_tree.specs.declared.cid_error.CidError.TheVariants.{InvalidVersion, InvalidVarint, DigestTooLong, Truncated, TrailingBytes}
 use Rattle.ipld_tree.proofs.Cids.{varint_unique, form_0, form_1}
@@ -11,7 +11,7 @@ use Rattle.ipld_tree.proofs.Cids.{varint_unique, form_0, form_1}
 abbrev Fit : List ℕ → Type 0
 Fit = AllByRecursion (λ n. n < 2 ^ 64)
 
--- fields that stand before others are the first of them
+-- numbers that stand before others are the first of them
 record Begins (fs gs r s : List ℕ) : Type 0 where
   more : List ℕ
   are : gs ≡ fs ++ more
@@ -26,12 +26,12 @@ begins (m ∷ fs) (n ∷ gs) r s f g h e =
     let others = begins fs gs r s f.1 g.1 (omega arith) first.1 in
     record { more = others.more; are = λ i. sym first.0 i ∷ others.are i; fit = others.fit; is = others.is }
 
-fields_begin : (b fs gs r s : List ℕ) → HasCidFields b fs r → HasCidFields b gs s → length fs ≤ length gs → Begins fs gs r s
-fields_begin b fs gs r s h g few = let whole = sym h.is ∙ g.is in begins fs gs r s h.fit g.fit few (cc whole)
+varints_begin : (b fs gs r s : List ℕ) → HasVarints b fs r → HasVarints b gs s → length fs ≤ length gs → Begins fs gs r s
+varints_begin b fs gs r s h g few = let whole = sym h.is ∙ g.is in begins fs gs r s h.fit g.fit few (cc whole)
 
--- where fewer fields stand, a varint follows
-next_varint : (b fs gs r s : List ℕ) → HasCidFields b fs r → HasCidFields b gs s → length fs < length gs → (n : ℕ) × (z : List ℕ) × (n < 2 ^ 64) × (r ≡ varint n ++ z)
-next_varint b fs gs r s h g few = by (fields_begin b fs gs r s h g (omega arith))
+-- where fewer numbers stand, a varint follows
+next_varint : (b fs gs r s : List ℕ) → HasVarints b fs r → HasVarints b gs s → length fs < length gs → (n : ℕ) × (z : List ℕ) × (n < 2 ^ 64) × (r ≡ varint n ++ z)
+next_varint b fs gs r s h g few = by (varints_begin b fs gs r s h g (omega arith))
   where
     by : Begins fs gs r s → (n : ℕ) × (z : List ℕ) × (n < 2 ^ 64) × (r ≡ varint n ++ z)
     by w = first w.more w.are w.fit w.is
@@ -40,9 +40,9 @@ next_varint b fs gs r s h g few = by (fields_begin b fs gs r s h g (omega arith)
         first [] are fit is = absurd (omega (arith, ap length are, length-append fs []))
         first (n ∷ more) are fit is = (n, flat_map varint more ++ s, fit.0, is ∙ append_assoc (varint n) (flat_map varint more) s)
 
--- fields as many are the same
-same_fields : (b : List ℕ) (j k n l m o : ℕ) (r s : List ℕ) → HasCidFields b (j ∷ k ∷ n ∷ []) r → HasCidFields b (l ∷ m ∷ o ∷ []) s → (n ≡ o) × (r ≡ s)
-same_fields b j k n l m o r s h g = by (fields_begin b (j ∷ k ∷ n ∷ []) (l ∷ m ∷ o ∷ []) r s h g (omega arith))
+-- numbers as many are the same
+same_varints : (b : List ℕ) (j k n l m o : ℕ) (r s : List ℕ) → HasVarints b (j ∷ k ∷ n ∷ []) r → HasVarints b (l ∷ m ∷ o ∷ []) s → (n ≡ o) × (r ≡ s)
+same_varints b j k n l m o r s h g = by (varints_begin b (j ∷ k ∷ n ∷ []) (l ∷ m ∷ o ∷ []) r s h g (omega arith))
   where
     by : Begins (j ∷ k ∷ n ∷ []) (l ∷ m ∷ o ∷ []) r s → (n ≡ o) × (r ≡ s)
     by w = last w.more w.are w.is
@@ -53,13 +53,13 @@ same_fields b j k n l m o r s h g = by (fields_begin b (j ∷ k ∷ n ∷ []) (l
 
 -- ---- field by field
 
-pub no_field : (s : List ℕ) → HasCidFields (0x01 ∷ s) [] s
-no_field s = record { fit = tt; is = refl }
+pub no_varint : (s : List ℕ) → HasVarints (0x01 ∷ s) [] s
+no_varint s = record { fit = tt; is = refl }
 
-pub one_field_more : {b fields r : List ℕ} (n : ℕ) (z : List ℕ) → HasCidFields b fields r → (n < 2 ^ 64) × (r ≡ varint n ++ z) → HasCidFields b (fields ++ n ∷ []) z
-one_field_more {b} {fields} {r} n z h p = record {
-  fit = fit fields h.fit;
-  is = h.is ∙ ap (λ s. 0x01 ∷ (flat_map varint fields ++ s)) p.1 ∙ ap (λ s. 0x01 ∷ s) (sym (is fields));
+pub one_varint_more : {b numbers r : List ℕ} (n : ℕ) (z : List ℕ) → HasVarints b numbers r → (n < 2 ^ 64) × (r ≡ varint n ++ z) → HasVarints b (numbers ++ n ∷ []) z
+one_varint_more {b} {numbers} {r} n z h p = record {
+  fit = fit numbers h.fit;
+  is = h.is ∙ ap (λ s. 0x01 ∷ (flat_map varint numbers ++ s)) p.1 ∙ ap (λ s. 0x01 ∷ s) (sym (is numbers));
 }
   where
     fit : (fs : List ℕ) → Fit fs → Fit (fs ++ n ∷ [])
@@ -70,10 +70,10 @@ one_field_more {b} {fields} {r} n z h p = record {
     is [] = ap (λ v. v ++ z) (append-nil (varint n))
     is (m ∷ fs) = append_assoc (varint m) (flat_map varint (fs ++ n ∷ [])) z ∙ ap (λ s. varint m ++ s) (is fs) ∙ sym (append_assoc (varint m) (flat_map varint fs) (varint n ++ z))
 
--- ---- the fields of a CID of version 1
+-- ---- the varints of a CID of version 1
 
-pub cid_fields : (b : List ℕ) (c : CidParts) → IsVersion1 c → b ≡ cid_bytes c → HasCidFields b (c.codec ∷ c.hash_code ∷ length c.digest ∷ []) c.digest
-cid_fields b c h e = record {
+pub cid_varints : (b : List ℕ) (c : CidParts) → IsVersion1 c → b ≡ cid_bytes c → HasVarints b (c.codec ∷ c.hash_code ∷ length c.digest ∷ []) c.digest
+cid_varints b c h e = record {
   fit = (h.1, (h.2, (omega (arith, h.3), tt)));
   is = e ∙ form_1 c h.0 ∙ ap (λ s. 0x01 ∷ s) (sym (flat c.codec c.hash_code (length c.digest) c.digest));
 }
@@ -91,18 +91,18 @@ IsForm0 b = (digest : List ℕ) × (length digest ≡ 32) × (b ≡ 0x12 ∷ 0x2
 
 two_forms : (b : List ℕ) → IsCid b → IsForm0 b ⊎ AtDigest b IsWhole
 two_forms b (c, inl v, e) = inl (c.digest, v.3, e ∙ form_0 c v.0)
-two_forms b (c, inr v, e) = inr (c.codec, c.hash_code, length c.digest, c.digest, cid_fields b c v e, (v.3, refl))
+two_forms b (c, inr v, e) = inr (c.codec, c.hash_code, length c.digest, c.digest, cid_varints b c v e, (v.3, refl))
 
 -- ---- what can't stand in the same bytes
 
-not_form_0 : (b fields rest : List ℕ) → HasCidFields b fields rest → IsForm0 b → ⊥
-not_form_0 b fields rest h v = let clash = sym h.is ∙ v.2 in absurd (cc clash)
+not_form_0 : (b numbers rest : List ℕ) → HasVarints b numbers rest → IsForm0 b → ⊥
+not_form_0 b numbers rest h v = let clash = sym h.is ∙ v.2 in absurd (cc clash)
 
-not_other_version : (b fields rest : List ℕ) → HasCidFields b fields rest → IsFault InvalidVersion b → ⊥
-not_other_version b fields rest h f = let first = sym h.is ∙ f.2 in f.3 (cc first)
+not_other_version : (b numbers rest : List ℕ) → HasVarints b numbers rest → IsFault InvalidVersion b → ⊥
+not_other_version b numbers rest h f = let first = sym h.is ∙ f.2 in f.3 (cc first)
 
-not_empty : (b fields rest : List ℕ) → HasCidFields b fields rest → b ≡ [] → ⊥
-not_empty b fields rest h e = let clash = sym h.is ∙ e in absurd (cc clash)
+not_empty : (b numbers rest : List ℕ) → HasVarints b numbers rest → b ≡ [] → ⊥
+not_empty b numbers rest h e = let clash = sym h.is ∙ e in absurd (cc clash)
 
 -- P refutes a varint
 abbrev Refutes : (List ℕ → Type 0) → Type 0
@@ -113,7 +113,7 @@ varint_or_digest b P Q never h g = let n = next_varint b h.0 (g.0 ∷ g.1 ∷ g.
 
 one_digest : (b : List ℕ) (P Q : ℕ → List ℕ → Type 0) → ((n : ℕ) (r : List ℕ) → P n r → Q n r → ⊥) → AtDigest b P → AtDigest b Q → ⊥
 one_digest b P Q never h g =
-    let same = same_fields b h.0 h.1 h.2 g.0 g.1 g.2 h.3 g.3 h.4 g.4 in
+    let same = same_varints b h.0 h.1 h.2 g.0 g.1 g.2 h.3 g.3 h.4 g.4 in
     never g.2 g.3 (subst (λ n. P n g.3) same.0 (subst (λ r. P h.2 r) same.1 h.5)) g.5
 
 none_refutes : Refutes IsNoVarint
@@ -127,7 +127,7 @@ cut_refutes n r z fits e cut =
 
 none_or_cut : (b : List ℕ) → AtVarint b IsNoVarint → AtVarint b IsCutVarint → ⊥
 none_or_cut b h g = elim (cases_order (length h.0) (length g.0)) [
-  | inl e ↦ let w = fields_begin b h.0 g.0 h.1 g.1 h.2 g.2 (omega (arith, e)) in same (omega (arith, e)) w.more w.are w.is
+  | inl e ↦ let w = varints_begin b h.0 g.0 h.1 g.1 h.2 g.2 (omega (arith, e)) in same (omega (arith, e)) w.more w.are w.is
   | inr s ↦ elim s [
     | inl less ↦ let n = next_varint b h.0 g.0 h.1 g.1 h.2 g.2 less in none_refutes n.0 h.1 n.1 n.2 n.3 h.4
     | inr more ↦ let n = next_varint b g.0 h.0 g.1 h.1 g.2 h.2 more in cut_refutes n.0 g.1 n.1 n.2 n.3 g.4
@@ -164,12 +164,12 @@ digest_or_cut b P never h (inr (inr g)) = one_digest b P IsCutDigest never h g
 
 -- ---- the faults
 
-pub varint_fault : (e : CidError) (b fields rest : List ℕ) → HasCidFields b fields rest → length fields ≤ 2 → IsVarintFault e rest → IsFault e b
-varint_fault InvalidVarint b fields rest h few f = (fields, rest, h, few, f)
-varint_fault Truncated b fields rest h few f = inr (inl (fields, rest, h, few, f))
-varint_fault InvalidVersion b fields rest h few f = absurd f
-varint_fault DigestTooLong b fields rest h few f = absurd f
-varint_fault TrailingBytes b fields rest h few f = absurd f
+pub varint_fault : (e : CidError) (b numbers rest : List ℕ) → HasVarints b numbers rest → length numbers ≤ 2 → IsVarintFault e rest → IsFault e b
+varint_fault InvalidVarint b numbers rest h few f = (numbers, rest, h, few, f)
+varint_fault Truncated b numbers rest h few f = inr (inl (numbers, rest, h, few, f))
+varint_fault InvalidVersion b numbers rest h few f = absurd f
+varint_fault DigestTooLong b numbers rest h few f = absurd f
+varint_fault TrailingBytes b numbers rest h few f = absurd f
 
 -- no fault stands in a CID
 pub fault_no_cid : (e : CidError) (b : List ℕ) → IsFault e b → IsCid b → ⊥

@@ -23,19 +23,19 @@ IsVarintFault InvalidVarint b = IsNoVarint b
 IsVarintFault Truncated b = IsCutVarint b
 IsVarintFault _ b = ⊥
 
--- behind 01 stand the varints of the fields, and then the rest
-pub record HasCidFields (b fields rest : List ℕ) : Type 0 where
-  pub fit : AllByRecursion (λ n. n < 2 ^ 64) fields
-  pub is : b ≡ 0x01 ∷ (flat_map varint fields ++ rest)
+-- behind 01 stand the varints of these numbers, and then the rest
+pub record HasVarints (b numbers rest : List ℕ) : Type 0 where
+  pub fit : AllByRecursion (λ n. n < 2 ^ 64) numbers
+  pub is : b ≡ 0x01 ∷ (flat_map varint numbers ++ rest)
 
 -- P holds where the varint of the codec, the hash code or the length of the digest is to stand
 abbrev pub AtVarint : List ℕ → (List ℕ → Type 0) → Type 0
-AtVarint b P = (fields rest : List ℕ) × HasCidFields b fields rest × (length fields ≤ 2) × P rest
+AtVarint b P = (numbers rest : List ℕ) × HasVarints b numbers rest × (length numbers ≤ 2) × P rest
 
 -- P holds of the length of the digest and the bytes behind it
 abbrev pub AtDigest : List ℕ → (ℕ → List ℕ → Type 0) → Type 0
 AtDigest b P = (codec hash_code n : ℕ) × (rest : List ℕ)
-    × HasCidFields b (codec ∷ hash_code ∷ n ∷ []) rest × P n rest
+    × HasVarints b (codec ∷ hash_code ∷ n ∷ []) rest × P n rest
 
 -- the fault stands in the bytes
 abbrev pub IsFault : CidError → List ℕ → Type 0

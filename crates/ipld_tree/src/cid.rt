@@ -149,7 +149,7 @@ impl TryFrom<&[u8]> for Cid {
     fn try_from(bytes: &[u8]) -> Result<Cid, CidError> {
         match bytes {
             [] => Err(CidError::Truncated),
-            [0x01, fields @ ..] => read_version_1(fields),
+            [0x01, behind @ ..] => read_version_1(behind),
             [0x12, 0x20, digest @ ..] if digest.len() == 32 => {
                 Ok(from_parts(0, DAG_PB, SHA2_256, digest))
             }
@@ -175,10 +175,10 @@ fn from_parts(version: u64, codec: u64, hash_code: u64, digest: &[u8]) -> Cid
 }
 
 /// Reads what stands behind the first byte of version 1.
-fn read_version_1(fields: &[u8]) -> Result<Cid, CidError>
-    ensures { ReadsBinaryCid (0x01 ∷ fields.now) result }
+fn read_version_1(behind: &[u8]) -> Result<Cid, CidError>
+    ensures { ReadsBinaryCid (0x01 ∷ behind.now) result }
 {
-    let (codec, rest) = split_varint(fields)?;
+    let (codec, rest) = split_varint(behind)?;
     let (hash_code, rest) = split_varint(rest)?;
     let (length, digest) = split_varint(rest)?;
     if length > LONGEST_DIGEST as u64 {

@@ -45,17 +45,21 @@ fn heads_and_payloads_are_gathered(rt: HostRuntime) -> Result<(), Fail> {
 #[test]
 fn nothing_is_taken_early(rt: HostRuntime) -> Result<(), Fail> {
     let mut reader = IoReader::new(Source::new(b"abcd", 100, 0));
-    assert_eq!(rt; reader.fill(3)?, b"abc".as_slice());
+    reader.prepare(3)?;
+    assert_eq!(rt; reader.shown(), b"abc".as_slice());
     assert_eq!(rt; pull_one("any", &mut reader)?, b'a');
     assert_eq!(rt; peek_one("any", &mut reader)?, b'b');
-    assert_eq!(rt; reader.fill(0)?, b"".as_slice());
-    assert_eq!(rt; reader.fill(100)?, b"bcd".as_slice());
+    reader.prepare(0)?;
+    assert_eq!(rt; reader.shown(), b"".as_slice());
+    reader.prepare(100)?;
+    assert_eq!(rt; reader.shown(), b"bcd".as_slice());
     assert_eq!(rt; reader.into_inner().rest(), b"bcd".as_slice());
 
     let mut source = Source::new(b"abcd", 100, 0);
     let mut reader = IoRefReader::new(&mut source);
     assert_eq!(rt; pull_one("any", &mut reader)?, b'a');
-    assert_eq!(rt; reader.fill(2)?, b"bc".as_slice());
+    reader.prepare(2)?;
+    assert_eq!(rt; reader.shown(), b"bc".as_slice());
     assert_eq!(rt; reader.into_inner().rest(), b"bcd".as_slice());
     assert_eq!(rt; source.rest(), b"bcd".as_slice());
     Ok(())

@@ -2,14 +2,14 @@ use Rattle.std.proofs.Common.{[], ◌∷◌, inr, arith}
 use Rattle.std.proofs.lemmas.Result.{err_from_is_err_and}
 use Rattle.ipld_tree.specs.CidFault.{IsFault}
 use Rattle.ipld_tree.specs.declared.cid_error.CidError.TheVariants.{DigestTooLong, Truncated}
-use Rattle.ipld_tree.proofs.CidFaults.{no_field}
+use Rattle.ipld_tree.proofs.CidFaults.{no_varint}
 use Rattle.dagcbor_car.proofs.Fronts.{one_field, two_fields, three_fields, no_front, no_varint_front}
 use Rattle.dagcbor_car.proofs.section.split_version_1.Goals as goal
 
 pub returns-in_err-codec : goal.returns-in_err-codec
 returns-in_err-codec c =
     let p = err_from_is_err_and c.from_residual.result c.from_residual.ensures.1 in
-    rw (p.1, p.2) (no_varint_front c.in_err-codec.field-0.0 _ [] _ (no_field _) (omega arith) c.in_err-codec.ensures)
+    rw (p.1, p.2) (no_varint_front c.in_err-codec.field-0.0 _ [] _ (no_varint _) (omega arith) c.in_err-codec.ensures)
 
 pub returns-in_err-hash_code : goal.returns-in_err-hash_code
 returns-in_err-hash_code c =

@@ -5,7 +5,7 @@ use Rattle.dagcbor_items.proofs.majors.peek_major.Goals as goal
 use Rattle.dagcbor_items.proofs.majors.peek_major.Goals.{then-major-low-via-then-major-low, then-major-low-via-else-major-low+then-high-major}
 
 pub returns-in_err-first-clause-kind : goal.returns-in_err-first-clause-kind
-returns-in_err-first-clause-kind g c = as_refusal _ _ _ _ c.from_residual.ensures.1 (kind_byte_refused _ c.args.low c.args.high _ _ _ c.in_err-first.ensures.named c.in_err-first.ensures.shown)
+returns-in_err-first-clause-kind g c = as_refusal _ _ _ _ c.from_residual.ensures.1 (kind_byte_refused _ c.args.low c.args.high _ _ _ c.in_err-first.ensures.variant c.in_err-first.ensures.shown)
 
 pub returns-then-major-low-clause-kind : goal.returns-then-major-low-clause-kind
 returns-then-major-low-clause-kind g c =

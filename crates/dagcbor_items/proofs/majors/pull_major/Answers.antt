@@ -10,7 +10,7 @@ pub returns-in_err-argument-clause-kind : goal.returns-in_err-argument-clause-ki
 returns-in_err-argument-clause-kind g c =
     let first = c.in_ok-first.ensures.kind in
     as_refusal _ _ _ _ c.from_residual-in_err-argument.ensures.1
-    (kind_head_refused _ c.args.low c.args.high _ _ c.requires first.0 first.1 c.in_err-argument.ensures.named first.2 c.in_err-argument.ensures.taken)
+    (kind_head_refused _ c.args.low c.args.high _ _ c.requires first.0 first.1 c.in_err-argument.ensures.variant first.2 c.in_err-argument.ensures.taken)
 
 pub returns-clause-kind : goal.returns-clause-kind
 returns-clause-kind g c = let first = c.in_ok-first.ensures.kind in kind_taken first.2 first.0 first.1 c.in_ok-argument.ensures.taken.2

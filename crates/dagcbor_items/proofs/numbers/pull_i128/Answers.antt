@@ -5,13 +5,13 @@ use mir.Val.{SFits}
 use Rattle.std.specs.Prelude.{codes}
 use Rattle.dagcbor_heads.proofs.Refusing.{as_refusal}
 use Rattle.dagcbor_items.specs.Shapes.{within}
-use Rattle.dagcbor_items.specs.LeafCauses.{LongCause}
+use Rattle.dagcbor_items.specs.LeafCauses.{BigCause}
 use Rattle.dagcbor_items.proofs.HeadMajors.{as_value}
 use Rattle.dagcbor_items.proofs.Integers.{within_i128, number_narrowed, narrow_refused}
 use Rattle.dagcbor_items.proofs.numbers.pull_i128.Goals as goal
 
 pub returns-in_err-number-clause-number : goal.returns-in_err-number-clause-number
-returns-in_err-number-clause-number g c = as_refusal _ _ _ _ c.from_residual.ensures.1 (narrow_refused (within (2 ^ 127)) (LongCause (codes "i128")) _ _ _ _ c.in_err-number.ensures.number)
+returns-in_err-number-clause-number g c = as_refusal _ _ _ _ c.from_residual.ensures.1 (narrow_refused (within (2 ^ 127)) (BigCause (codes "i128")) _ _ _ _ c.in_err-number.ensures.number)
 
 pub returns-clause-number : goal.returns-clause-number
 returns-clause-number g c =

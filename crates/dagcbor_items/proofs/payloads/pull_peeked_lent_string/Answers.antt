@@ -10,7 +10,7 @@ use Rattle.dagcbor_items.proofs.payloads.pull_peeked_lent_string.Goals as goal
 
 pub returns-in_err-count-clause-string : goal.returns-in_err-count-clause-string
 returns-in_err-count-clause-string c =
-    as_refusal _ _ _ _ c.from_residual.ensures.1 (string_head_refused _ _ _ _ _ _ c.requires.few c.requires.starts c.in_err-count.ensures.named c.in_err-count.ensures.taken)
+    as_refusal _ _ _ _ c.from_residual.ensures.1 (string_head_refused _ _ _ _ _ _ c.requires.few c.requires.starts c.in_err-count.ensures.variant c.in_err-count.ensures.taken)
 
 pub returns-in-None-clause-string : goal.returns-in-None-clause-string
 returns-in-None-clause-string c =

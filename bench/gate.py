@@ -1,0 +1,93 @@
+#!/usr/bin/env python3
+"""Runs the gate, and says what each crate cost it: processor seconds of its proof, of its tests', of its must-fail edits.
+
+    bench/gate.py [WORDS]    runs `rt ci WORDS` (--anew proves all, whatever earlier runs kept), and prints a table behind what it prints
+
+Twice a second it looks at the processes below that run, so it misses up to half a second of each; the last line has the
+whole, as the system counts it. "seed" is the check of a crate that its edits begin with. Linux alone: it reads /proc.
+Nothing else should run on the machine."""
+
+import os
+import resource
+import subprocess
+import sys
+import time
+
+KINDS = ["proof", "tests", "seed", "edits", "other"]
+TICK = os.sysconf("SC_CLK_TCK")
+
+
+def processes():
+    """Each process: its parent, its start, and its processor seconds."""
+    for pid in filter(str.isdigit, os.listdir("/proc")):
+        try:
+            with open(f"/proc/{pid}/stat", encoding="utf-8", errors="replace") as file:
+                fields = file.read().rpartition(")")[2].split()
+        except OSError:
+            continue
+        yield int(pid), int(fields[1]), fields[19], (int(fields[11]) + int(fields[12])) / TICK
+
+
+def below(root):
+    """The processes below the root."""
+    found = list(processes())
+    children = {}
+    for it in found:
+        children.setdefault(it[1], []).append(it)
+    todo = [root]
+    while todo:
+        for it in children.get(todo.pop(), []):
+            todo.append(it[0])
+            yield it
+
+
+def what_of(pid):
+    """The crate that a process checks, and what for; none where it is no prover."""
+    try:
+        with open(f"/proc/{pid}/cmdline", "rb") as file:
+            words = file.read().decode(errors="replace").split("\0")
+        folder = os.readlink(f"/proc/{pid}/cwd")
+    except OSError:
+        return None
+    if "--crate-name" not in words:
+        return None
+    crate = words[words.index("--crate-name") + 1]
+    if "/rt-edit-" in folder:
+        kept = words[words.index("--incremental") + 1] if "--incremental" in words else ""
+        return crate, "seed" if kept.endswith("/seed") else "edits"
+    if "check" not in words[:2] and "build" not in words[:2]:
+        return crate, "other"
+    return crate, "tests" if "--test" in words else "proof"
+
+
+def watch(words):
+    """The status of the run, and the seconds of each process by what it did."""
+    seconds, names = {}, {}
+    run = subprocess.Popen(words)
+    while run.poll() is None:
+        for pid, _, start, spent in below(run.pid):
+            key = pid, start
+            if names.get(key) is None:
+                names[key] = what_of(pid)
+            seconds[key] = spent
+        time.sleep(0.5)
+    costs = {}
+    for key, spent in seconds.items():
+        crate, kind = names.get(key) or ("", "other")
+        costs.setdefault(crate, dict.fromkeys(KINDS, 0.0))[kind] += spent
+    return run.returncode, costs
+
+
+def main(words):
+    start = time.time()
+    status, costs = watch(["rt", "ci", *words])
+    spent = resource.getrusage(resource.RUSAGE_CHILDREN)
+    print("\n| Crate | " + " | ".join(KINDS) + " |\n|" + "---|" * (len(KINDS) + 1))
+    for crate, row in sorted(costs.items()):
+        print(f"| {crate or 'all else'} | " + " | ".join(f"{row[it]:.0f}" for it in KINDS) + " |")
+    whole = (spent.ru_utime + spent.ru_stime) / 60
+    print(f"{(time.time() - start) / 60:.1f} minutes, {whole:.0f} processor minutes")
+    return status
+
+
+sys.exit(main(sys.argv[1:]))

@@ -1,6 +1,6 @@
 -- Members of lists, and of sets of CIDs.
-use Rattle.std.proofs.Common.{◌≡◌, ◌⊎◌, inl, inr, ℕ, List, [], ◌∷◌, ◌++◌, map, Bool, true, false, ◌||◌, cond, Ordering, Less, Equal, Greater, refl, sym, ap, ◌∙◌, subst}
-use Rattle.std.specs.Prelude.{◌↔◌, Result, Ok, Err, OnOk, MatchResult}
+use Rattle.std.proofs.Common.{◌≡◌, ◌⊎◌, inl, inr, ℕ, List, [], ◌∷◌, ◌++◌, map, Bool, true, false, ◌||◌, cond, Ordering, Less, Equal, Greater, refl, sym, ap, ◌∙◌, subst, append-nil}
+use Rattle.std.specs.Prelude.{◌↔◌, Result, Ok, Err, OnOk, OnErr, MatchResult}
 use Rattle.std.specs.Ordering.{nat_cmp, ordering_then, ordering_reverse, is_eq}
 use Rattle.std.specs.Cmp.Lexicographic.{slice_cmp}
 use Rattle.std.specs.List.{list_any}
@@ -182,9 +182,15 @@ link_found c old new a links h = (valid, λ form. (there form, back form))
       | inr e ↦ among_forms form c (members new) ((a.1 c).1 (inr refl)) e
     ]
 
-pub link_taken : {X E : Type 0} (r : Result X E) (c : CidParts) (old new : CidSet) → OnOk r (AddsCid c old new) → MatchResult r (λ x. Finds HoldsLinks old (cid_bytes c ∷ []) new) (λ e. true ≡ true)
-link_taken (Ok x) c old new h = link_found c old new h
-link_taken (Err e) c old new h = refl
+-- a set whose members stay holds what it held
+link_kept : (old new : CidSet) → members new ≡ members old → Finds HoldsLinks old [] new
+link_kept old new same links h =
+    subst (λ qs. ((q : CidParts) → Among q qs → AreCidParts q) × ((form : List ℕ) → Among form (forms qs) ↔ Among form (links ++ []))) (sym same) (subst (HoldsLinks old) (sym (append-nil links)) h)
+
+pub link_taken : {X E : Type 0} (r : Result X E) (c : CidParts) (old new : CidSet) → OnOk r (AddsCid c old new) → OnErr r (members new ≡ members old)
+    → MatchResult r (λ x. Finds HoldsLinks old (cid_bytes c ∷ []) new) (λ e. (true ≡ true) × Finds HoldsLinks old [] new)
+link_taken (Ok x) c old new h k = link_found c old new h
+link_taken (Err e) c old new h k = (refl, link_kept old new k)
 
 -- the first item of a block is the whole of it
 pub whole_block : (b rest : List ℕ) (t : Tree) → HasBlock b → IsFront b t rest → IsBlock b t

@@ -1,6 +1,6 @@
 //! Sets of CIDs.
 
-ghost use Rattle.std.specs.Prelude.{◌≡◌, [], true, IfOk, OnOk, Some};
+ghost use Rattle.std.specs.Prelude.{◌≡◌, [], true, IfOk, OnOk, OnErr, Some};
 ghost use Rattle.std.specs.List.Sorted.{IsStrictlySortedBy};
 ghost use Rattle.ipld_tree.specs.Cid.{cid_cmp};
 ghost use Rattle.dagcbor_car.specs.Splits.{HasBlock};
@@ -27,7 +27,8 @@ impl CidSet {
     }
 
     pub(crate) fn add(&mut self, cid: Cid) -> Result<(), AllocError>
-        ensures { OnOk result (AddsCid cid self.old self.new) }
+        ensures added { OnOk result (AddsCid cid self.old self.new) }
+        ensures kept { OnErr result (members self.new ≡ members self.old) }
     {
         // What is known of a CID comes with its version.
         let _version = cid.version();
@@ -72,9 +73,7 @@ impl CidSet {
 }
 
 impl LinkSink for CidSet {
-    ghost holds = { HoldsLinks };
-
-    ghost takes_memory = { true };
+    ghost sink = { record { holds = HoldsLinks; takes_memory = true } };
 
     fn take(&mut self, cid: Cid) -> Result<(), AllocError> {
         self.add(cid)

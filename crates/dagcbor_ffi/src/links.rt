@@ -37,9 +37,7 @@ impl<'a> PackedLinks<'a> {
 }
 
 impl LinkSink for PackedLinks<'_> {
-    ghost holds = { HoldsPacked };
-
-    ghost takes_memory = { false };
+    ghost sink = { record { holds = HoldsPacked; takes_memory = false } };
 
     fn take(&mut self, cid: Cid) -> Result<(), AllocError> {
         let mut form = ArrayVec::new();

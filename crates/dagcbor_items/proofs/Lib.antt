@@ -3,6 +3,7 @@ pub mod Places
 pub mod Fronts
 pub mod Leaves
 pub mod Steps
+pub mod LinksIn
 pub mod Walking
 pub mod Judging
 pub mod Rows

@@ -1,6 +1,6 @@
 -- Reading links.
-use Rattle.std.proofs.Common.{◌≡◌, inl, inr, ℕ, ◌+◌, ◌*◌, ◌/◌, ◌^◌, ◌<◌, List, [], ◌∷◌, ◌++◌, length, refl, sym, ap, ◌∙◌, subst, arith, append_assoc}
-use Rattle.std.specs.Prelude.{Option, Some, None, Result, Ok, Err, codes}
+use Rattle.std.proofs.Common.{◌≡◌, inl, inr, ℕ, ◌+◌, ◌*◌, ◌/◌, ◌^◌, ◌<◌, List, [], ◌∷◌, ◌++◌, length, refl, sym, ap, ◌∙◌, subst, arith, append_assoc, true, zero-le}
+use Rattle.std.specs.Prelude.{Option, Some, None, is_some, Result, Ok, Err, codes}
 use Rattle.dagcbor_heads.specs.Head.{head}
 use Rattle.dagcbor_heads.specs.Names.{Names}
 use Rattle.dagcbor_heads.specs.Reading.{Reading}
@@ -19,13 +19,13 @@ use Rattle.ipld_tree.specs.Spelling.{bytes_spelling, IsFront}
 use Rattle.ipld_tree.proofs.Cids.{cid_length}
 use Rattle.ipld_tree.proofs.Unique.{split_at_length}
 use Rattle.ipld_tree.proofs.Fronts.{is_link}
-use Rattle.dagcbor_items.specs.Shapes.{Shape}
-use Rattle.dagcbor_items.specs.Reads.{HasFront}
+use Rattle.dagcbor_items.specs.Shapes.{Shape, view_link, leaf}
+use Rattle.dagcbor_items.specs.Reads.{HasFront, TakesFront}
 use Rattle.dagcbor_items.specs.FirstBytes.{BeginsAs}
 use Rattle.dagcbor_items.specs.LinkCauses.{IsOtherByte, LinkBytesCause, LinkCause}
 use Rattle.dagcbor_items.specs.ItemCauses.{CauseInside}
 use Rattle.dagcbor_items.specs.Untyped.{HasItem, TakesItem, StartsWithMajor}
-use Rattle.dagcbor_items.specs.Links.{HasWanted, HasCid, TakesCid, ReadsCid, HasLink, ReadsLink, IsZeroAndCid}
+use Rattle.dagcbor_items.specs.Links.{HasWanted, HasCid, TakesCid, ReadsCid, ReadsLink, IsZeroAndCid}
 use Rattle.dagcbor_items.proofs.Places.{cause_here}
 use Rattle.dagcbor_items.proofs.Fronts.{TakesHeadOf, major_of_front}
 
@@ -150,6 +150,23 @@ found_in s t o e h = subst (λ x. IsZeroAndCid x o) e h
 
 -- ---- the tag
 
+-- a link stands at the front
+record HasLink (r : Reading) : Type 0 where
+  bytes : List ℕ
+  cid : List ℕ
+  rest : List ℕ
+  left : r.left ≡ Some bytes
+  front : IsFront bytes (link cid) rest
+
+link_stands : {r : Reading} → HasFront (leaf view_link) r → HasLink r
+link_stands h =
+    let l = is_accepted h.tree h.accepted in
+    record { bytes = h.bytes; cid = l.0; rest = h.rest; left = h.left; front = subst (λ t. IsFront h.bytes t h.rest) l.1 h.front }
+  where
+    is_accepted : (t : Tree) → is_some (view_link t) ≡ true → (cid : List ℕ) × (t ≡ link cid)
+    is_accepted (link cid) a = (cid, refl)
+    is_accepted _ a = absurd (cc a)
+
 -- what stands behind the first byte of a link
 behind_first : {old mid : Reading} → Takes old (0xd8 ∷ []) mid → (i : HasLink old) → mid.left ≡ Some (0x2a ∷ (bytes_spelling (0x00 ∷ i.cid) ++ i.rest))
 behind_first h i =
@@ -158,21 +175,22 @@ behind_first h i =
     let same : 0x2a ∷ (bytes_spelling (0x00 ∷ i.cid) ++ i.rest) ≡ k.0 = cc is in
     k.2 ∙ ap Some (sym same)
 
-link_cid_refused : {E : Type 0} {old mid tagged : Reading} (new : Reading) (e : DecodeError E) → Takes old (0xd8 ∷ []) mid → Takes mid (0x2a ∷ []) tagged → Refuses (HasCid tagged) ⊥ ⊥ LinkBytesCause tagged e new → Refuses (HasLink old) ⊥ ⊥ LinkCause old e new
+link_cid_refused : {E : Type 0} {old mid tagged : Reading} (new : Reading) (e : DecodeError E) → Takes old (0xd8 ∷ []) mid → Takes mid (0x2a ∷ []) tagged → Refuses (HasCid tagged) ⊥ ⊥ LinkBytesCause tagged e new → Refuses (HasFront (leaf view_link) old) ⊥ ⊥ LinkCause old e new
 link_cid_refused {E} {old} {mid} {tagged} new e h p r = passed_on LinkBytesCause LinkCause old tagged new e (stays_both h.same p.same)
-    (λ i. let q = p.taken _ (behind_first h i) in
+    (λ f. let i = link_stands f in
+    let q = p.taken _ (behind_first h i) in
     let is : 0x2a ∷ (bytes_spelling (0x00 ∷ i.cid) ++ i.rest) ≡ 0x2a ∷ q.0 = q.1 in
     let same : bytes_spelling (0x00 ∷ i.cid) ++ i.rest ≡ q.0 = cc is in
     record { cid = i.cid; rest = i.rest; is_cid = i.front.well_formed; fits = i.front.spellable; left = q.2 ∙ ap Some (sym same) }) (λ x. x) (λ x. x)
     (λ b l. let k = h.taken b l in let q = p.taken k.0 k.2 in (q.0, q.2, λ s. inr (inr (q.0, k.1 ∙ ap (λ x. 0xd8 ∷ x) q.1, s)))) r
 
-link_taken : {old mid tagged new : Reading} (cid : List ℕ) → Takes old (0xd8 ∷ []) mid → Takes mid (0x2a ∷ []) tagged → TakesCid tagged cid new → TakesItem 1 old (link cid) new
+link_taken : {old mid tagged new : Reading} (cid : List ℕ) → Takes old (0xd8 ∷ []) mid → Takes mid (0x2a ∷ []) tagged → TakesCid tagged cid new → TakesFront (leaf view_link) old cid new
 link_taken {old} {mid} {tagged} {new} cid h p a = record {
   taken = λ b l.
       let k = h.taken b l in
       let q = p.taken k.0 k.2 in
       let w = a.takes.taken q.0 q.2 in
-      (w.0, record { well_formed = a.is_cid; spellable = a.fits; is = k.1 ∙ ap (λ x. 0xd8 ∷ x) (q.1 ∙ ap (λ x. 0x2a ∷ x) w.1) }, omega arith, w.2);
+      (link cid, w.0, record { well_formed = a.is_cid; spellable = a.fits; is = k.1 ∙ ap (λ x. 0xd8 ∷ x) (q.1 ∙ ap (λ x. 0x2a ∷ x) w.1) }, refl, zero-le, w.2);
   same = stays_both h.same (stays_both p.same a.takes.same);
 }
 
@@ -182,11 +200,21 @@ link_read (Err e) new h p r = link_cid_refused new e h p r
 
 -- ---- a link as an item of unknown kind
 
-item_link : {V : Type 0} {shape : Shape Tree V} {old : Reading} → StartsWithMajor old 6 → HasFront shape old → HasLink old
-item_link {V} {shape} {old} starts i =
-    let l = is_link i.tree (major_of_front i.bytes i.rest i.tree 6 (starts i.bytes i.left) i.front) in
-    record { bytes = i.bytes; cid = l.0; rest = i.rest; left = i.left; front = subst (λ t. IsFront i.bytes t i.rest) l.1 i.front }
+pub item_link : {old new : Reading} (cid : List ℕ) → TakesFront (leaf view_link) old cid new → TakesItem 1 old (link cid) new
+item_link cid h = record {
+  taken = λ b l. let k = h.taken b l in (k.1, subst (λ t. IsFront b t k.1) (shown k.0 k.3) k.2, omega arith, k.5);
+  same = h.same;
+}
+  where
+    shown : (t : Tree) → view_link t ≡ Some cid → t ≡ link cid
+    shown (link c) e = cc
+    shown _ e = absurd (cc e)
 
-pub link_refused : {E : Type 0} (old new : Reading) (e : DecodeError E) → StartsWithMajor old 6 → Refuses (HasLink old) ⊥ ⊥ LinkCause old e new → Refuses (HasItem 1 old) ⊥ ⊥ (CauseInside (old.steps + 1)) old e new
-link_refused old new e starts r = passed_on LinkCause (CauseInside (old.steps + 1)) old old new e (stays old) (item_link starts) (λ x. x) (λ x. x)
+link_front : {V : Type 0} {shape : Shape Tree V} {old : Reading} → StartsWithMajor old 6 → HasFront shape old → HasFront (leaf view_link) old
+link_front {V} {shape} {old} starts i =
+    let l = is_link i.tree (major_of_front i.bytes i.rest i.tree 6 (starts i.bytes i.left) i.front) in
+    record { bytes = i.bytes; tree = i.tree; rest = i.rest; left = i.left; front = i.front; accepted = ap (λ t. is_some (view_link t)) l.1; within = zero-le }
+
+pub link_refused : {E : Type 0} (old new : Reading) (e : DecodeError E) → StartsWithMajor old 6 → Refuses (HasFront (leaf view_link) old) ⊥ ⊥ LinkCause old e new → Refuses (HasItem 1 old) ⊥ ⊥ (CauseInside (old.steps + 1)) old e new
+link_refused old new e starts r = passed_on LinkCause (CauseInside (old.steps + 1)) old old new e (stays old) (link_front starts) (λ x. x) (λ x. x)
     (λ b l. (b, l, λ h. cause_here _ e b (omega arith) (inr (inr (starts b l, h))))) r

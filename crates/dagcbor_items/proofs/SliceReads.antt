@@ -1,5 +1,5 @@
 -- Slices that are read as one item, or whose first item is.
-use Rattle.std.proofs.Common.{◌≡◌, ◌≢◌, ◌++◌, append-nil, inl, inr, ℕ, ◌+◌, ◌<◌, Bool, true, false, List, [], ◌∷◌, length, refl, sym, ap, ◌∙◌, subst, arith}
+use Rattle.std.proofs.Common.{◌≡◌, ◌≢◌, ◌++◌, append-nil, inl, inr, ℕ, ◌+◌, ◌<◌, true, false, List, [], ◌∷◌, length, refl, sym, ap, ◌∙◌, subst, arith}
 use Rattle.std.specs.Prelude.{Option, Some, Result, Ok, Err, Vec, ⊤}
 use Rattle.std.specs.declared.alloc.Global.{Global}
 use Rattle.std.specs.declared.convert.Infallible.{Infallible}
@@ -16,9 +16,9 @@ use Rattle.ipld_tree.proofs.Fronts.{front_unique}
 use Rattle.dagcbor_items.specs.ItemCauses.{KeyCause, CauseInside}
 use Rattle.dagcbor_items.specs.LinkCauses.{LinkCause}
 use Rattle.dagcbor_items.specs.Untyped.{HasItem, TakesItem}
-use Rattle.dagcbor_items.specs.Walks.{WalkLacks, GathersLinks}
+use Rattle.dagcbor_items.specs.Walks.{Sink, WalkLacks, HandsLinks, RefusesWalk, GathersLinks}
 use Rattle.dagcbor_items.specs.Judging.{SplitsItem}
-use Rattle.dagcbor_items.specs.Slices.{IsBlock, SliceRefused, PullsEnd, AreFirstLinks, LinksRefused, ReadsFirstLinks}
+use Rattle.dagcbor_items.specs.Slices.{IsBlock, SliceRefused, PullsEnd, AreFirstLinks, LinksRefused, ReadsFirstLinks, RefusesFirst}
 use Rattle.dagcbor_items.proofs.Places.{at_steps, no_item}
 use Rattle.dagcbor_items.proofs.Steps.{more_lacks}
 
@@ -121,19 +121,20 @@ item_refused lacks Failed old new b l s r = r
 item_refused lacks (DepthOverflow n) old new b l s r = (λ links h. r.1 (first_item old b links l s h), at_steps {E = Infallible} (DepthOverflow n) b _ 256 (omega (arith, s)) (r.2 b l))
 item_refused lacks e old new b l s r = (λ links h. r.1 (first_item old b links l s h), at_steps {E = Infallible} e b _ 256 (omega (arith, s)) (r.2 b l))
 
-pub first_links_read : (b : List ℕ) (start new : Reading) (r : Result (Vec CidParts Global) (DecodeError Infallible)) → start.left ≡ Some b → start.steps ≡ 256 → GathersLinks 0 start r new → ReadsFirstLinks b r
+pub first_links_read : (b : List ℕ) (start new : Reading) (r : Result (Vec CidParts Global) (DecodeError Infallible)) → start.left ≡ Some b → start.steps ≡ 256 → GathersLinks start r new → ReadsFirstLinks b r
 first_links_read b start new (Ok v) l s h =
     let taken = h.1.taken b l in
     (h.0, taken.0, taken.1, omega (arith, taken.2, s), h.2)
 first_links_read b start new (Err e) l s h = item_refused ⊤ e start new b l s h
 
-pub walk_refused : (takes_memory : Bool) (b : List ℕ) (old new : Reading) (e : DecodeError Infallible) → old.left ≡ Some b → old.steps ≡ 256 → old.lends ≡ true
-    → Refuses (HasItem 0 old) (WalkLacks takes_memory old) ⊥ (CauseInside (old.steps + 0)) old e new → LinksRefused e b × (e ≡ OutOfMemory → takes_memory ≡ true)
-walk_refused takes_memory b old new e l s lends r = (
-  item_refused (WalkLacks takes_memory old) e old new b l s r,
-  λ same. wanting (subst (λ x. Refuses (HasItem 0 old) (WalkLacks takes_memory old) ⊥ (CauseInside (old.steps + 0)) old x new) same r).1,
-)
+pub walk_refused : {S : Type 0} (sink : Sink S) (b : List ℕ) (old new : Reading) (before after : S) (e : DecodeError Infallible) → old.left ≡ Some b → old.steps ≡ 256 → old.lends ≡ true
+    → RefusesWalk sink (HasItem 0 old) (CauseInside (old.steps + 0)) old before e new after → RefusesFirst sink b before e after
+walk_refused sink b old new before after e l s lends r = record {
+  refused = item_refused (WalkLacks sink.takes_memory old) e old new b l s r.refuses;
+  lacks = λ same. wanting (subst (λ x. Refuses (HasItem 0 old) (WalkLacks sink.takes_memory old) ⊥ (CauseInside (old.steps + 0)) old x new) same r.refuses).1;
+  handed = subst (λ left. HandsLinks sink left before after) l r.handed;
+}
   where
-    wanting : WalkLacks takes_memory old → takes_memory ≡ true
+    wanting : WalkLacks sink.takes_memory old → sink.takes_memory ≡ true
     wanting (inl x) = let differ = sym lends ∙ x in cc
     wanting (inr x) = x

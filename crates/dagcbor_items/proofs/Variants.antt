@@ -2,7 +2,7 @@
 use Rattle.std.specs.Prelude.{List, ℕ}
 use Rattle.dagcbor_heads.specs.Causes.{IsDepthNamed, IsEndNamed, IsPayloadNamed, IsNamed}
 use Rattle.dagcbor_heads.specs.declared.error.DecodeError.{DecodeError}
-use Rattle.dagcbor_heads.specs.declared.error.DecodeError.TheVariants.{Msg, Read, Eof, Mismatch, Unsupported, RequireUtf8, CastOverflow, DepthOverflow, IndefiniteSize, NonMinimal, UnorderedKey, OutOfMemory}
+use Rattle.dagcbor_heads.specs.declared.error.DecodeError.TheVariants.{Msg, Read, Eof, Unsupported, RequireUtf8, CastOverflow, DepthOverflow, IndefiniteSize, NonMinimal, UnorderedKey, OutOfMemory}
 use Rattle.dagcbor_items.specs.Variants.{OfByte, OfHead, OfNumber, OfText, OfChar, OfKey, OfLink, OfItem}
 
 pub end_byte : {E : Type 0} (text : List ℕ) (e : DecodeError E) → IsEndNamed text e → OfByte e

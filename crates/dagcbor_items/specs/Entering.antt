@@ -6,7 +6,7 @@ use Rattle.dagcbor_heads.specs.Fronts.{Takes}
 use Rattle.dagcbor_heads.specs.Refusals.{RefusesPlainly}
 use Rattle.dagcbor_heads.specs.declared.error.DecodeError.{DecodeError}
 use Rattle.dagcbor_items.specs.ItemCauses.{CauseInside}
-use Rattle.dagcbor_items.specs.Untyped.{HasItem, StartsWithMajor}
+use Rattle.dagcbor_items.specs.Untyped.{HasEnteredItem, StartsWithMajor}
 
 -- a step was spent, and the head of a list (4) or map (5) of so many parts was taken
 pub record Enters (major count : ℕ) (old new : Reading) : Type 0 where
@@ -23,4 +23,4 @@ StartsWithParts r = StartsWithMajor r 4 ⊎ StartsWithMajor r 5
 abbrev pub ReadsCount : {E : Type 0} → Reading → Result ℕ (DecodeError E) → Reading → Type 0
 ReadsCount old result new = MatchResult result
     (λ count. (major : ℕ) × Enters major count old new)
-    (λ e. RefusesPlainly (HasItem 1 old) (CauseInside (old.steps + 1)) old e new)
+    (λ e. RefusesPlainly (HasEnteredItem old) (CauseInside (old.steps + 1)) old e new)

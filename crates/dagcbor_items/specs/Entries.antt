@@ -14,8 +14,8 @@ use Rattle.ipld_tree.specs.Ipld.{pairs_of}
 use Rattle.ipld_tree.specs.declared.ipld.Ipld.{Ipld}
 use Rattle.dagcbor_items.specs.Places.{Follows}
 use Rattle.dagcbor_items.specs.ItemCauses.{KeyCause, CauseInEntries}
-use Rattle.dagcbor_items.specs.Shapes.{Shape, takes_some}
-use Rattle.dagcbor_items.specs.Untyped.{TakesItem}
+use Rattle.dagcbor_items.specs.Shapes.{Shape, takes_some, view_text, leaf}
+use Rattle.dagcbor_items.specs.Reads.{TakesFront}
 
 -- a key stands at the front that follows the one before it
 pub record HasKey (previous : Option (List ℕ)) (r : Reading) : Type 0 where
@@ -31,7 +31,7 @@ pub record HasKey (previous : Option (List ℕ)) (r : Reading) : Type 0 where
 abbrev pub ReadsKeyAs : {K E : Type 0} → (K → List ℕ) → Option (List ℕ) → Reading
     → Result K (DecodeError E) → Reading → Type 0
 ReadsKeyAs meaning previous old result new = MatchResult result
-    (λ k. Follows previous (meaning k) × TakesItem 1 old (text (meaning k)) new)
+    (λ k. Follows previous (meaning k) × TakesFront (leaf view_text) old (meaning k) new)
     (λ e. RefusesOrLacksMemoryUnlent (HasKey previous old) (KeyCause previous) old e new)
 
 abbrev pub ReadsKey : {E : Type 0} → Option (List ℕ) → Reading

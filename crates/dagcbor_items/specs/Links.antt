@@ -6,10 +6,10 @@ use Rattle.dagcbor_heads.specs.Fronts.{Takes}
 use Rattle.dagcbor_heads.specs.Refusals.{RefusesPlainly}
 use Rattle.dagcbor_heads.specs.declared.error.DecodeError.{DecodeError}
 use Rattle.ipld_tree.specs.Cid.{CidParts, AreCidParts, IsCid, cid_bytes}
-use Rattle.ipld_tree.specs.Tree.{link}
-use Rattle.ipld_tree.specs.Spelling.{bytes_spelling, IsFront}
+use Rattle.ipld_tree.specs.Spelling.{bytes_spelling}
 use Rattle.dagcbor_items.specs.LinkCauses.{LinkBytesCause, LinkCause}
-use Rattle.dagcbor_items.specs.Untyped.{TakesItem}
+use Rattle.dagcbor_items.specs.Reads.{Reads}
+use Rattle.dagcbor_items.specs.Shapes.{view_link, leaf}
 
 -- the wanted byte stands at the front
 pub record HasWanted (wanted : ℕ) (r : Reading) : Type 0 where
@@ -36,19 +36,9 @@ ReadsCid old result new = MatchResult result
     (λ c. TakesCid old (cid_bytes c) new)
     (λ e. RefusesPlainly (HasCid old) LinkBytesCause old e new)
 
--- a link stands at the front
-pub record HasLink (r : Reading) : Type 0 where
-  pub bytes : List ℕ
-  pub cid : List ℕ
-  pub rest : List ℕ
-  pub left : r.left ≡ Some bytes
-  pub front : IsFront bytes (link cid) rest
-
 -- A link is read exactly where one stands, with no want of memory.
 abbrev pub ReadsLink : {E : Type 0} → Reading → Result CidParts (DecodeError E) → Reading → Type 0
-ReadsLink old result new = MatchResult result
-    (λ c. TakesItem 1 old (link (cid_bytes c)) new)
-    (λ e. RefusesPlainly (HasLink old) LinkCause old e new)
+ReadsLink = Reads cid_bytes (leaf view_link) ⊥ ⊥ LinkCause
 
 -- a CID is found exactly in a zero and a CID
 abbrev pub IsZeroAndCid : List ℕ → Option CidParts → Type 0

@@ -1,6 +1,6 @@
 -- Reading a slice as one item of any kind: its tree, its kind or its links.
-use Rattle.std.specs.Prelude.{◌≡◌, ◌≢◌, ℕ, ◌<◌, ◌≤◌, Bool, true, List, length, Vec, ⊤}
-use Rattle.std.specs.Prelude.{Result, Ok, Err, MatchResult}
+use Rattle.std.specs.Prelude.{◌≡◌, ◌≢◌, ℕ, ◌<◌, ◌≤◌, true, List, length, Vec, ⊤}
+use Rattle.std.specs.Prelude.{Some, Result, Ok, Err, MatchResult}
 use Rattle.std.specs.declared.alloc.Global.{Global}
 use Rattle.std.specs.declared.convert.Infallible.{Infallible}
 use Rattle.dagcbor_heads.specs.Reading.{Reading, default_steps}
@@ -16,7 +16,7 @@ use Rattle.ipld_tree.specs.Ipld.{tree_of}
 use Rattle.ipld_tree.specs.declared.ipld.Ipld.{Ipld}
 use Rattle.dagcbor_items.specs.ItemCauses.{CauseInside}
 use Rattle.dagcbor_items.specs.TreeKinds.{kind_of}
-use Rattle.dagcbor_items.specs.Walks.{forms, Finds}
+use Rattle.dagcbor_items.specs.Walks.{Sink, forms, Finds, HandsLinks}
 use Rattle.dagcbor_items.specs.declared.kind.Kind.{Kind}
 
 -- ---- the whole slice
@@ -80,10 +80,19 @@ LinksRefused e b = ((links : List (List ℕ)) → ¬ AreFirstLinks b links)
 abbrev pub ReadsFirstLinks : List ℕ → Result (Vec CidParts Global) (DecodeError Infallible) → Type 0
 ReadsFirstLinks b result = MatchResult result (λ v. AreFirstLinks b (forms v.items)) (λ e. LinksRefused e b)
 
+-- a walk of the first item is refused, for want of memory only of the sink's, and what the sink was
+-- handed by then
+pub record RefusesFirst {S : Type 0} (sink : Sink S) (b : List ℕ) (before : S)
+    (e : DecodeError Infallible) (after : S) : Type 0 where
+  pub refused : LinksRefused e b
+  pub lacks : e ≡ OutOfMemory → sink.takes_memory ≡ true
+  pub handed : HandsLinks sink (Some b) before after
+
 -- The first item of a slice is gone through exactly where one stands that is read within
--- `default_steps`, and its links are handed to the sink, which alone may want memory.
-abbrev pub WalksFirst : {S : Type 0} → (S → List (List ℕ) → Type 0) → Bool → List ℕ → S
-    → Result Kind (DecodeError Infallible) → S → Type 0
-WalksFirst holds takes_memory b before result after = MatchResult result
-    (λ kind. (t : Tree) × (rest : List ℕ) × IsFront b t rest × (any_need t ≤ default_steps) × (kind ≡ kind_of t) × Finds holds before (links_of t) after)
-    (λ e. LinksRefused e b × (e ≡ OutOfMemory → takes_memory ≡ true))
+-- `default_steps`, and its links are handed to the sink.
+abbrev pub WalksFirst : {S : Type 0} → Sink S → List ℕ → S → Result Kind (DecodeError Infallible)
+    → S → Type 0
+WalksFirst sink b before result after = MatchResult result
+    (λ kind. (t : Tree) × (rest : List ℕ) × IsFront b t rest × (any_need t ≤ default_steps)
+    × (kind ≡ kind_of t) × Finds sink.holds before (links_of t) after)
+    (λ e. RefusesFirst sink b before e after)

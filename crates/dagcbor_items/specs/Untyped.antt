@@ -31,26 +31,47 @@ pub record TakesItem (spent : ℕ) (old : Reading) (t : Tree) (new : Reading) : 
       × (any_need t ≤ old.steps + spent) × (new.left ≡ Some rest)
   pub same : Stays old new
 
+-- the same of an item that was entered: one of its steps is spent
+abbrev pub HasEnteredItem : Reading → Type 0
+HasEnteredItem = HasItem 1
+
+abbrev pub TakesEnteredItem : Reading → Tree → Reading → Type 0
+TakesEnteredItem = TakesItem 1
+
 -- An item of unknown kind is read exactly where one stands within the steps, of which so many are
 -- already spent on it.
-abbrev pub ReadsItem : {E : Type 0} → ℕ → Reading → Result Ipld (DecodeError E) → Reading → Type 0
-ReadsItem spent old result new = MatchResult result
+abbrev pub ReadsItemSpent : {E : Type 0} → ℕ → Reading → Result Ipld (DecodeError E) → Reading
+    → Type 0
+ReadsItemSpent spent old result new = MatchResult result
     (λ v. TakesItem spent old (tree_of v) new)
     (λ e. RefusesOrLacksMemory (HasItem spent old) (CauseInside (old.steps + spent)) old e new)
+
+abbrev pub ReadsItem : {E : Type 0} → Reading → Result Ipld (DecodeError E) → Reading → Type 0
+ReadsItem = ReadsItemSpent 0
+
+abbrev pub ReadsEnteredItem : {E : Type 0} → Reading → Result Ipld (DecodeError E) → Reading → Type 0
+ReadsEnteredItem = ReadsItemSpent 1
 
 -- A leaf that takes no memory is read exactly where one stands: a number, a link or a simple value.
 abbrev pub ReadsLeaf : {E : Type 0} → Reading → Result Ipld (DecodeError E) → Reading → Type 0
 ReadsLeaf old result new = MatchResult result
-    (λ v. TakesItem 1 old (tree_of v) new)
-    (λ e. RefusesPlainly (HasItem 1 old) (CauseInside (old.steps + 1)) old e new)
+    (λ v. TakesEnteredItem old (tree_of v) new)
+    (λ e. RefusesPlainly (HasEnteredItem old) (CauseInside (old.steps + 1)) old e new)
 
 -- An item of unknown kind is skipped exactly where one is read, with no want of memory where the
 -- input lends.
-abbrev pub SkipsItem : {E : Type 0} → ℕ → Reading → Result (Unit {0}) (DecodeError E) → Reading
+abbrev pub SkipsItemSpent : {E : Type 0} → ℕ → Reading → Result (Unit {0}) (DecodeError E) → Reading
     → Type 0
-SkipsItem spent old result new = MatchResult result
+SkipsItemSpent spent old result new = MatchResult result
     (λ _. (t : Tree) × TakesItem spent old t new)
     (λ e. RefusesOrLacksMemoryUnlent (HasItem spent old) (CauseInside (old.steps + spent)) old e new)
+
+abbrev pub SkipsItem : {E : Type 0} → Reading → Result (Unit {0}) (DecodeError E) → Reading → Type 0
+SkipsItem = SkipsItemSpent 0
+
+abbrev pub SkipsEnteredItem : {E : Type 0} → Reading → Result (Unit {0}) (DecodeError E) → Reading
+    → Type 0
+SkipsEnteredItem = SkipsItemSpent 1
 
 -- neither a list nor a map
 abbrev pub IsLeaf : Tree → Type 0

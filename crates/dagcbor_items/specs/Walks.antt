@@ -1,19 +1,26 @@
--- What going through an item, its links handed to a sink, answers and refuses. A sink holds links,
--- or counts or writes them: of each state it says whether these may be the links that it was handed
--- so far.
-use Rattle.std.specs.Prelude.{◌≡◌, ◌⊎◌, ◌+◌, ℕ, Bool, true, false, List, ◌++◌, length, map}
-use Rattle.std.specs.Prelude.{Result, MatchResult, Vec, ⊤}
+-- What going through an item, its links handed to a sink, answers and refuses.
+use Rattle.std.specs.Prelude.{◌≡◌, ◌⊎◌, ◌+◌, ℕ, Bool, true, false, List, [], ◌∷◌, ◌++◌, length, map}
+use Rattle.std.specs.Prelude.{Option, Some, Result, MatchResult, Vec, ⊤}
 use Rattle.std.specs.declared.alloc.Global.{Global}
 use Rattle.dagcbor_heads.specs.Reading.{Reading}
 use Rattle.dagcbor_heads.specs.Refusals.{Refuses, RefusesOrLacksMemory}
 use Rattle.dagcbor_heads.specs.declared.error.DecodeError.{DecodeError}
 use Rattle.ipld_tree.specs.Cid.{CidParts, cid_bytes}
-use Rattle.ipld_tree.specs.Tree.{Tree, items_of, Entries, links_of, items_links, entries_links}
-use Rattle.ipld_tree.specs.Spelling.{entry_count}
+use Rattle.ipld_tree.specs.Tree.{Tree, link, items_of, Entries, links_of, items_links, entries_links}
+use Rattle.ipld_tree.specs.Spelling.{entry_count, IsFront}
 use Rattle.dagcbor_items.specs.ItemCauses.{CauseInside, CauseInItems, CauseInEntries}
 use Rattle.dagcbor_items.specs.Untyped.{HasItem, TakesItem}
 use Rattle.dagcbor_items.specs.Items.{HasItems, TakesItems}
 use Rattle.dagcbor_items.specs.Entries.{HasEntries, TakesEntries}
+
+-- ---- sinks
+
+-- A sink holds links, or counts or writes them.
+pub record Sink (S : Type 0) : Type 1 where
+  -- of a state: whether these may be the binary forms of the links that it was handed so far
+  pub holds : S → List (List ℕ) → Type 0
+  -- whether it may refuse a link, for want of memory
+  pub takes_memory : Bool
 
 -- the binary forms of CIDs, in their order
 abbrev pub forms : List CidParts → List (List ℕ)
@@ -24,37 +31,72 @@ abbrev pub Finds : {S : Type 0} → (S → List (List ℕ) → Type 0) → S →
 Finds holds before found after = (links : List (List ℕ)) → holds before links
     → holds after (links ++ found)
 
+-- ---- refusals
+
 -- where memory may be wanting: for a string that the input does not lend, or in the sink
 abbrev pub WalkLacks : Bool → Reading → Type 0
 WalkLacks takes_memory old = (old.lends ≡ false) ⊎ (takes_memory ≡ true)
 
+-- each of the links stands whole in the bytes, in their order
+abbrev pub AreLinksIn : List ℕ → List (List ℕ) → Type 0
+AreLinksIn b [] = ⊤
+AreLinksIn b (cid ∷ cids) = (before at rest : List ℕ) × (b ≡ before ++ at)
+    × IsFront at (link cid) rest × AreLinksIn rest cids
+
+-- the sink was handed some links, each of which stands whole in these bytes, where they are known, in
+-- their order
+pub record HandsLinks {S : Type 0} (sink : Sink S) (left : Option (List ℕ)) (before after : S)
+    : Type 0 where
+  pub found : List (List ℕ)
+  pub finds : Finds sink.holds before found after
+  pub stand : (b : List ℕ) → left ≡ Some b → AreLinksIn b found
+
+-- a walk is refused, and what the sink was handed by then
+pub record RefusesWalk {E S : Type 0} (sink : Sink S) (could : Type 0)
+    (stands : DecodeError E → List ℕ → Type 0) (old : Reading) (before : S) (e : DecodeError E)
+    (new : Reading) (after : S) : Type 0 where
+  pub refuses : Refuses could (WalkLacks sink.takes_memory old) ⊥ stands old e new
+  pub handed : HandsLinks sink old.left before after
+
+-- ---- walks
+
 -- An item of unknown kind is gone through exactly where one stands within the steps, of which so
 -- many are already spent on it, and its links are handed on in their order.
-abbrev pub WalksItem : {E S : Type 0} → (S → List (List ℕ) → Type 0) → Bool → ℕ → Reading → S
+abbrev pub WalksItemSpent : {E S : Type 0} → ℕ → Sink S → Reading → S
     → Result (Unit {0}) (DecodeError E) → Reading → S → Type 0
-WalksItem holds takes_memory spent old before result new after = MatchResult result
-    (λ _. (t : Tree) × TakesItem spent old t new × Finds holds before (links_of t) after)
-    (λ e. Refuses (HasItem spent old) (WalkLacks takes_memory old) ⊥ (CauseInside (old.steps + spent)) old e new)
+WalksItemSpent spent sink old before result new after = MatchResult result
+    (λ _. (t : Tree) × TakesItem spent old t new × Finds sink.holds before (links_of t) after)
+    (λ e. RefusesWalk sink (HasItem spent old) (CauseInside (old.steps + spent)) old before e new after)
+
+abbrev pub WalksItem : {E S : Type 0} → Sink S → Reading → S → Result (Unit {0}) (DecodeError E)
+    → Reading → S → Type 0
+WalksItem = WalksItemSpent 0
+
+-- one that was entered: a step is spent on it
+abbrev pub WalksEnteredItem : {E S : Type 0} → Sink S → Reading → S
+    → Result (Unit {0}) (DecodeError E) → Reading → S → Type 0
+WalksEnteredItem = WalksItemSpent 1
 
 -- Items are gone through exactly where so many stand within the steps.
-abbrev pub WalksItems : {E S : Type 0} → (S → List (List ℕ) → Type 0) → Bool → ℕ → Reading → S
+abbrev pub WalksItems : {E S : Type 0} → Sink S → ℕ → Reading → S
     → Result (Unit {0}) (DecodeError E) → Reading → S → Type 0
-WalksItems holds takes_memory count old before result new after = MatchResult result
-    (λ _. (ts : List Tree) × (length ts ≡ count) × TakesItems old ts new × Finds holds before (items_links (items_of ts)) after)
-    (λ e. Refuses (HasItems count old) (WalkLacks takes_memory old) ⊥ (CauseInItems count old.steps) old e new)
+WalksItems sink count old before result new after = MatchResult result
+    (λ _. (ts : List Tree) × (length ts ≡ count) × TakesItems old ts new
+    × Finds sink.holds before (items_links (items_of ts)) after)
+    (λ e. RefusesWalk sink (HasItems count old) (CauseInItems count old.steps) old before e new after)
 
 -- Entries are gone through exactly where so many stand within the steps, in the order of their
 -- keys.
-abbrev pub WalksEntries : {E S : Type 0} → (S → List (List ℕ) → Type 0) → Bool → ℕ → Reading → S
+abbrev pub WalksEntries : {E S : Type 0} → Sink S → ℕ → Reading → S
     → Result (Unit {0}) (DecodeError E) → Reading → S → Type 0
-WalksEntries holds takes_memory count old before result new after = MatchResult result
-    (λ _. (es : Entries) × (entry_count es ≡ count) × TakesEntries old es new × Finds holds before (entries_links es) after)
-    (λ e. Refuses (HasEntries count old) (WalkLacks takes_memory old) ⊥ (CauseInEntries count old.steps) old e new)
+WalksEntries sink count old before result new after = MatchResult result
+    (λ _. (es : Entries) × (entry_count es ≡ count) × TakesEntries old es new
+    × Finds sink.holds before (entries_links es) after)
+    (λ e. RefusesWalk sink (HasEntries count old) (CauseInEntries count old.steps) old before e new after)
 
--- The links of an item of unknown kind are read exactly where one stands within the steps, of which
--- so many are already spent on it.
-abbrev pub GathersLinks : {E : Type 0} → ℕ → Reading → Result (Vec CidParts Global) (DecodeError E)
+-- The links of an item of unknown kind are read exactly where one stands within the steps.
+abbrev pub GathersLinks : {E : Type 0} → Reading → Result (Vec CidParts Global) (DecodeError E)
     → Reading → Type 0
-GathersLinks spent old result new = MatchResult result
-    (λ v. (t : Tree) × TakesItem spent old t new × (forms v.items ≡ links_of t))
-    (λ e. RefusesOrLacksMemory (HasItem spent old) (CauseInside (old.steps + spent)) old e new)
+GathersLinks old result new = MatchResult result
+    (λ v. (t : Tree) × TakesItem 0 old t new × (forms v.items ≡ links_of t))
+    (λ e. RefusesOrLacksMemory (HasItem 0 old) (CauseInside (old.steps + 0)) old e new)

@@ -4,7 +4,7 @@ ghost use Rattle.std.specs.Prelude.{◌≡◌, IfErr};
 ghost use Rattle.dagcbor_heads.specs.Inputs.{input_reading, OverInput};
 ghost use Rattle.dagcbor_heads.specs.Fronts.{StartsWith};
 ghost use Rattle.dagcbor_heads.specs.Looking.{Looks, LooksBehind};
-ghost use Rattle.dagcbor_items.specs.Untyped.{ReadsItem, StartsWithMajor};
+ghost use Rattle.dagcbor_items.specs.Untyped.{ReadsItem, ReadsEnteredItem, StartsWithMajor};
 ghost use Rattle.dagcbor_items.specs.Items.{ReadsItems};
 ghost use Rattle.dagcbor_items.specs.Entries.{ReadsEntries};
 ghost use Rattle.dagcbor_items.specs.Variants.{OfItem};
@@ -22,7 +22,7 @@ use std::collections::BTreeMap;
 #[tactic(auto, using(crate::proofs::Variants::depth_item))]
 #[cycle(any)]
 pub fn read_any<R: Read>(alloc: Global, input: &mut Input<'_, R>) -> ReadResult<Ipld, R>
-    ensures item { OverInput R.reading (ReadsItem 0) input.old result input.new }
+    ensures item { OverInput R.reading ReadsItem input.old result input.new }
     ensures looked { OverInput R.reading (Looks 3) input.old result input.new }
     ensures variant { IfErr result OfItem }
 {
@@ -35,7 +35,7 @@ pub fn read_any<R: Read>(alloc: Global, input: &mut Input<'_, R>) -> ReadResult<
 #[tactic(auto, using(crate::proofs::Variants::end_item))]
 #[cycle(any)]
 fn read_item<R: Read>(alloc: Global, input: &mut Input<'_, R>) -> ReadResult<Ipld, R>
-    ensures item { OverInput R.reading (ReadsItem 1) input.old result input.new }
+    ensures item { OverInput R.reading ReadsEnteredItem input.old result input.new }
     ensures looked { OverInput R.reading (Looks 3) input.old result input.new }
     ensures variant { IfErr result OfItem }
 {
@@ -49,7 +49,7 @@ fn read_item<R: Read>(alloc: Global, input: &mut Input<'_, R>) -> ReadResult<Ipl
 #[cycle(any)]
 fn read_of_major<R: Read>(alloc: Global, input: &mut Input<'_, R>, first: u8) -> ReadResult<Ipld, R>
     requires { StartsWith (input_reading R.reading input.old) first }
-    ensures item { OverInput R.reading (ReadsItem 1) input.old result input.new }
+    ensures item { OverInput R.reading ReadsEnteredItem input.old result input.new }
     ensures looked { OverInput R.reading (LooksBehind 3 1) input.old result input.new }
     ensures variant { IfErr result OfItem }
 {
@@ -68,7 +68,7 @@ fn read_of_major<R: Read>(alloc: Global, input: &mut Input<'_, R>, first: u8) ->
 #[cycle(any)]
 fn read_list<R: Read>(alloc: Global, input: &mut Input<'_, R>) -> ReadResult<Ipld, R>
     requires { StartsWithMajor (input_reading R.reading input.old) 4 }
-    ensures item { OverInput R.reading (ReadsItem 1) input.old result input.new }
+    ensures item { OverInput R.reading ReadsEnteredItem input.old result input.new }
     ensures looked { OverInput R.reading (LooksBehind 3 1) input.old result input.new }
     ensures variant { IfErr result OfItem }
 {
@@ -118,7 +118,7 @@ fn take_first_room(items: &mut Vec<Ipld>, count: u64) -> Result<(), AllocError>
 #[cycle(any)]
 fn read_map<R: Read>(alloc: Global, input: &mut Input<'_, R>) -> ReadResult<Ipld, R>
     requires { StartsWithMajor (input_reading R.reading input.old) 5 }
-    ensures item { OverInput R.reading (ReadsItem 1) input.old result input.new }
+    ensures item { OverInput R.reading ReadsEnteredItem input.old result input.new }
     ensures looked { OverInput R.reading (LooksBehind 3 1) input.old result input.new }
     ensures variant { IfErr result OfItem }
 {

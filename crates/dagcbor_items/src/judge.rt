@@ -208,10 +208,12 @@ fn behind_leaf(major: u8, argument: u64, behind: &[u8]) -> Option<&[u8]>
     }
 }
 
-/// The bytes behind the item at the front, where one stands that takes no more than these steps.
+/// The bytes behind the item at the front, where one stands that takes no more than these steps. Each
+/// takes stack, so they are no more than those of a reader.
 #[cycle(judge)]
 #[inline(always)]
 pub fn behind_item(bytes: &[u8], steps: usize) -> Option<&[u8]>
+    requires { steps ≤ 1024 }
     ensures { GivesRest (λ rest. rest.now) (SplitsItem bytes.now steps) result }
 {
     let (major, argument, behind) = split_head(bytes)?;
@@ -239,6 +241,7 @@ pub fn behind_item(bytes: &[u8], steps: usize) -> Option<&[u8]>
 #[cycle(judge)]
 #[inline(never)]
 fn left_behind_items(bytes: &[u8], count: u64, steps: usize) -> Option<usize>
+    requires { steps ≤ 1024 }
     ensures { GivesLeft (SplitsItems bytes.now count steps) result }
 {
     let mut rest = bytes;
@@ -252,6 +255,7 @@ fn left_behind_items(bytes: &[u8], count: u64, steps: usize) -> Option<usize>
 #[cycle(judge)]
 #[inline(never)]
 fn left_behind_entries(bytes: &[u8], count: u64, steps: usize) -> Option<usize>
+    requires { steps ≤ 1024 }
     ensures { GivesLeft (SplitsEntries bytes.now count steps) result }
 {
     let mut previous = None;

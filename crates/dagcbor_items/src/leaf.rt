@@ -4,7 +4,7 @@ ghost use Rattle.std.specs.Prelude.{◌≡◌, ◌≤◌, ◌/◌, true, false, 
 ghost use Rattle.dagcbor_heads.specs.Inputs.{input_reading, OverInput};
 ghost use Rattle.dagcbor_heads.specs.Fronts.{StartsWith};
 ghost use Rattle.dagcbor_heads.specs.Looking.{LooksBehind};
-ghost use Rattle.dagcbor_items.specs.Untyped.{ReadsItem, ReadsLeaf, StartsWithMajor, IsSimple};
+ghost use Rattle.dagcbor_items.specs.Untyped.{ReadsEnteredItem, ReadsLeaf, StartsWithMajor, IsSimple};
 ghost use Rattle.dagcbor_items.specs.Variants.{OfItem};
 
 use crate::numbers::number_of;
@@ -29,7 +29,7 @@ pub(crate) fn read_integer<R: Read>(name: &str, reader: &mut R, first: u8) -> Re
 #[tactic(auto, using(crate::proofs::Variants::kind_item, crate::proofs::StringItems::bytes_items))]
 pub(crate) fn read_bytes<R: Read>(alloc: Global, input: &mut Input<'_, R>) -> ReadResult<Ipld, R>
     requires { StartsWithMajor (input_reading R.reading input.old) 2 }
-    ensures item { OverInput R.reading (ReadsItem 1) input.old result input.new }
+    ensures item { OverInput R.reading ReadsEnteredItem input.old result input.new }
     ensures looked { OverInput R.reading (LooksBehind 3 1) input.old result input.new }
     ensures variant { IfErr result OfItem }
 {
@@ -39,7 +39,7 @@ pub(crate) fn read_bytes<R: Read>(alloc: Global, input: &mut Input<'_, R>) -> Re
 #[tactic(auto, using(crate::proofs::Variants::text_item, crate::proofs::StringItems::text_items))]
 pub(crate) fn read_text<R: Read>(alloc: Global, input: &mut Input<'_, R>) -> ReadResult<Ipld, R>
     requires { StartsWithMajor (input_reading R.reading input.old) 3 }
-    ensures item { OverInput R.reading (ReadsItem 1) input.old result input.new }
+    ensures item { OverInput R.reading ReadsEnteredItem input.old result input.new }
     ensures looked { OverInput R.reading (LooksBehind 3 1) input.old result input.new }
     ensures variant { IfErr result OfItem }
 {

@@ -9,7 +9,7 @@ ghost use Rattle.dagcbor_items.specs.Places.{Follows};
 ghost use Rattle.dagcbor_items.specs.Entries.{ReadsKeyAs};
 ghost use Rattle.dagcbor_items.specs.LeafReads.{ReadsTextAs};
 ghost use Rattle.dagcbor_items.specs.Variants.{OfKey, OfHead, OfText};
-ghost use Rattle.dagcbor_items.specs.Untyped.{SkipsItem, StartsWithMajor};
+ghost use Rattle.dagcbor_items.specs.Untyped.{SkipsEnteredItem, StartsWithMajor};
 
 use crate::key::{comes_before, read_key};
 use crate::majors::peek_major;
@@ -43,14 +43,14 @@ pub trait PayloadReader: Read {
     /// Goes through a byte string, whose first byte was seen.
     fn skip_bytes(&mut self, alloc: Self::Alloc) -> ReadResult<(), Self>
         requires { StartsWithMajor (Self.reading self.old) 2 }
-        ensures item { SkipsItem 1 (Self.reading self.old) result (Self.reading self.new) }
+        ensures item { SkipsEnteredItem (Self.reading self.old) result (Self.reading self.new) }
         ensures looked { LooksBehind 3 1 (Self.reading self.old) result (Self.reading self.new) }
         ensures variant { IfErr result OfHead };
 
     /// Goes through a text, whose first byte was seen, and checks that it is UTF-8.
     fn skip_text(&mut self, alloc: Self::Alloc) -> ReadResult<(), Self>
         requires { StartsWithMajor (Self.reading self.old) 3 }
-        ensures item { SkipsItem 1 (Self.reading self.old) result (Self.reading self.new) }
+        ensures item { SkipsEnteredItem (Self.reading self.old) result (Self.reading self.new) }
         ensures looked { LooksBehind 3 1 (Self.reading self.old) result (Self.reading self.new) }
         ensures variant { IfErr result OfText };
 }

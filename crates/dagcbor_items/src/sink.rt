@@ -1,25 +1,22 @@
 //! What is done with the links of an item.
 
-ghost use Rattle.std.specs.Prelude.{◌≡◌, ℕ, Bool, List, [], ◌∷◌, ◌++◌, true, false, ⊤, MatchResult};
+ghost use Rattle.std.specs.Prelude.{◌≡◌, [], ◌∷◌, true, false, ⊤, MatchResult};
 ghost use Rattle.ipld_tree.specs.Cid.{cid_bytes};
-ghost use Rattle.dagcbor_items.specs.Walks.{forms, Finds};
+ghost use Rattle.dagcbor_items.specs.Walks.{Sink, forms, Finds};
 
 use ipld_tree::Cid;
 use std::alloc::AllocError;
 
 /// What is done with the links of an item, one after the other.
 pub trait LinkSink {
-    /// Whether these may be the binary forms of the links that it was handed so far.
-    ghost holds: { Self → List (List ℕ) → Type 0 };
+    /// What contracts see of the sink.
+    ghost sink: { Sink Self };
 
-    /// Whether it may refuse a link, for want of memory.
-    ghost takes_memory: { Bool };
-
-    /// Hands it the next link.
+    /// Hands it the next link. Where it refuses, it holds what it held.
     fn take(&mut self, cid: Cid) -> Result<(), AllocError>
         ensures { MatchResult result
-            (λ _. Finds holds self.old (cid_bytes cid ∷ []) self.new)
-            (λ _. takes_memory ≡ true) };
+            (λ _. Finds sink.holds self.old (cid_bytes cid ∷ []) self.new)
+            (λ _. (sink.takes_memory ≡ true) × Finds sink.holds self.old [] self.new) };
 }
 
 /// Keeps no link.
@@ -27,9 +24,7 @@ pub trait LinkSink {
 pub struct NoLinks;
 
 impl LinkSink for NoLinks {
-    ghost holds = { λ _ _. ⊤ };
-
-    ghost takes_memory = { false };
+    ghost sink = { record { holds = λ _ _. ⊤; takes_memory = false } };
 
     fn take(&mut self, _cid: Cid) -> Result<(), AllocError> {
         Ok(())
@@ -38,9 +33,7 @@ impl LinkSink for NoLinks {
 
 /// Appends each link.
 impl LinkSink for Vec<Cid> {
-    ghost holds = { λ v links. forms v.items ≡ links };
-
-    ghost takes_memory = { true };
+    ghost sink = { record { holds = λ v links. forms v.items ≡ links; takes_memory = true } };
 
     fn take(&mut self, cid: Cid) -> Result<(), AllocError> {
         match self.push(cid) {

@@ -79,7 +79,7 @@ pub fn links_from_slice(alloc: Global, bytes: &[u8]) -> Result<Vec<Cid>, DecodeE
 /// The kind of the first item of the bytes, whose links are handed on. What follows it is not
 /// looked at, and no memory is taken but by the sink.
 pub fn walk_slice<S: LinkSink>(bytes: &[u8], links: &mut S) -> Result<Kind, DecodeError<Infallible>>
-    ensures { WalksFirst S.holds S.takes_memory bytes.now links.old result links.new }
+    ensures { WalksFirst S.sink bytes.now links.old result links.new }
 {
     walk_any((), &mut SliceReader::new(bytes), links)?;
     Ok(kind_of_front(bytes))

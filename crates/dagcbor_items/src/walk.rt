@@ -4,9 +4,10 @@
 ghost use Rattle.std.specs.Prelude.{◌≡◌, ◌≢◌, ◌≤◌, ◌/◌, IfErr};
 ghost use Rattle.dagcbor_heads.specs.Fronts.{StartsWith};
 ghost use Rattle.dagcbor_heads.specs.Looking.{Looks, LooksBehind};
-ghost use Rattle.dagcbor_items.specs.Untyped.{SkipsItem, StartsWithMajor};
+ghost use Rattle.dagcbor_items.specs.Untyped.{SkipsItem, SkipsEnteredItem, StartsWithMajor};
 ghost use Rattle.dagcbor_items.specs.Variants.{OfItem};
-ghost use Rattle.dagcbor_items.specs.Walks.{WalksItem, WalksItems, WalksEntries, GathersLinks};
+ghost use Rattle.dagcbor_items.specs.Walks.{WalksItem, WalksEnteredItem, WalksItems, WalksEntries};
+ghost use Rattle.dagcbor_items.specs.Walks.{GathersLinks};
 ghost use Rattle.dagcbor_heads.specs.Inputs.{OverInput};
 
 use crate::enter::enter;
@@ -23,7 +24,7 @@ use std::alloc::Global;
 /// Skips an item of any kind, no deeper than the steps that are left. Over a slice it takes no
 /// memory.
 pub fn skip_any<R: Read>(alloc: Global, input: &mut Input<'_, R>) -> ReadResult<(), R>
-    ensures item { OverInput R.reading (SkipsItem 0) input.old result input.new }
+    ensures item { OverInput R.reading SkipsItem input.old result input.new }
     ensures looked { OverInput R.reading (Looks 3) input.old result input.new }
     ensures variant { IfErr result OfItem }
 {
@@ -32,7 +33,7 @@ pub fn skip_any<R: Read>(alloc: Global, input: &mut Input<'_, R>) -> ReadResult<
 
 /// The links of an item of any kind, left to right, repeats kept.
 pub fn gather_links<R: Read>(alloc: Global, input: &mut Input<'_, R>) -> ReadResult<Vec<Cid>, R>
-    ensures links { OverInput R.reading (GathersLinks 0) input.old result input.new }
+    ensures links { OverInput R.reading GathersLinks input.old result input.new }
     ensures looked { OverInput R.reading (Looks 3) input.old result input.new }
     ensures variant { IfErr result OfItem }
 {
@@ -50,7 +51,7 @@ pub fn walk_any<I: PayloadReader, S: LinkSink>(
     input: &mut I,
     links: &mut S,
 ) -> ReadResult<(), I>
-    ensures item { WalksItem S.holds S.takes_memory 0 (I.reading input.old) links.old result (I.reading input.new) links.new }
+    ensures item { WalksItem S.sink (I.reading input.old) links.old result (I.reading input.new) links.new }
     ensures looked { Looks 3 (I.reading input.old) result (I.reading input.new) }
     ensures variant { IfErr result OfItem }
 {
@@ -67,7 +68,7 @@ fn walk_item<I: PayloadReader, S: LinkSink>(
     input: &mut I,
     links: &mut S,
 ) -> ReadResult<(), I>
-    ensures item { WalksItem S.holds S.takes_memory 1 (I.reading input.old) links.old result (I.reading input.new) links.new }
+    ensures item { WalksEnteredItem S.sink (I.reading input.old) links.old result (I.reading input.new) links.new }
     ensures looked { Looks 3 (I.reading input.old) result (I.reading input.new) }
     ensures variant { IfErr result OfItem }
 {
@@ -86,7 +87,7 @@ fn walk_of_major<I: PayloadReader, S: LinkSink>(
     first: u8,
 ) -> ReadResult<(), I>
     requires { StartsWith (I.reading input.old) first }
-    ensures item { WalksItem S.holds S.takes_memory 1 (I.reading input.old) links.old result (I.reading input.new) links.new }
+    ensures item { WalksEnteredItem S.sink (I.reading input.old) links.old result (I.reading input.new) links.new }
     ensures looked { LooksBehind 3 1 (I.reading input.old) result (I.reading input.new) }
     ensures variant { IfErr result OfItem }
 {
@@ -101,7 +102,7 @@ fn walk_of_major<I: PayloadReader, S: LinkSink>(
 #[tactic(auto, using(crate::proofs::Variants::link_item))]
 fn walk_link<R: Read, S: LinkSink>(reader: &mut R, links: &mut S) -> ReadResult<(), R>
     requires { StartsWithMajor (R.reading reader.old) 6 }
-    ensures item { WalksItem S.holds S.takes_memory 1 (R.reading reader.old) links.old result (R.reading reader.new) links.new }
+    ensures item { WalksEnteredItem S.sink (R.reading reader.old) links.old result (R.reading reader.new) links.new }
     ensures looked { LooksBehind 3 1 (R.reading reader.old) result (R.reading reader.new) }
     ensures variant { IfErr result OfItem }
 {
@@ -119,7 +120,7 @@ fn skip_leaf<I: PayloadReader>(alloc: I::Alloc, input: &mut I, first: u8) -> Rea
     requires no_list { first / 32 ≢ 4 }
     requires no_map { first / 32 ≢ 5 }
     requires no_link { first / 32 ≢ 6 }
-    ensures item { SkipsItem 1 (I.reading input.old) result (I.reading input.new) }
+    ensures item { SkipsEnteredItem (I.reading input.old) result (I.reading input.new) }
     ensures looked { LooksBehind 3 1 (I.reading input.old) result (I.reading input.new) }
     ensures variant { IfErr result OfItem }
 {
@@ -136,7 +137,7 @@ fn skip_leaf<I: PayloadReader>(alloc: I::Alloc, input: &mut I, first: u8) -> Rea
 fn skip_integer<R: Read>(name: &str, reader: &mut R, first: u8) -> ReadResult<(), R>
     requires starts { StartsWith (R.reading reader.old) first }
     requires major { first / 32 ≤ 1 }
-    ensures item { SkipsItem 1 (R.reading reader.old) result (R.reading reader.new) }
+    ensures item { SkipsEnteredItem (R.reading reader.old) result (R.reading reader.new) }
     ensures looked { LooksBehind 3 1 (R.reading reader.old) result (R.reading reader.new) }
     ensures variant { IfErr result OfItem }
 {
@@ -148,7 +149,7 @@ fn skip_integer<R: Read>(name: &str, reader: &mut R, first: u8) -> ReadResult<()
 fn skip_simple<R: Read>(reader: &mut R, first: u8) -> ReadResult<(), R>
     requires starts { StartsWith (R.reading reader.old) first }
     requires major { first / 32 ≡ 7 }
-    ensures item { SkipsItem 1 (R.reading reader.old) result (R.reading reader.new) }
+    ensures item { SkipsEnteredItem (R.reading reader.old) result (R.reading reader.new) }
     ensures looked { LooksBehind 3 1 (R.reading reader.old) result (R.reading reader.new) }
     ensures variant { IfErr result OfItem }
 {
@@ -166,7 +167,7 @@ fn walk_list<I: PayloadReader, S: LinkSink>(
     links: &mut S,
 ) -> ReadResult<(), I>
     requires { StartsWithMajor (I.reading input.old) 4 }
-    ensures item { WalksItem S.holds S.takes_memory 1 (I.reading input.old) links.old result (I.reading input.new) links.new }
+    ensures item { WalksEnteredItem S.sink (I.reading input.old) links.old result (I.reading input.new) links.new }
     ensures looked { LooksBehind 3 1 (I.reading input.old) result (I.reading input.new) }
     ensures variant { IfErr result OfItem }
 {
@@ -183,7 +184,7 @@ fn walk_items<I: PayloadReader, S: LinkSink>(
     links: &mut S,
     count: u64,
 ) -> ReadResult<(), I>
-    ensures items { WalksItems S.holds S.takes_memory count (I.reading input.old) links.old result (I.reading input.new) links.new }
+    ensures items { WalksItems S.sink count (I.reading input.old) links.old result (I.reading input.new) links.new }
     ensures looked { Looks 3 (I.reading input.old) result (I.reading input.new) }
     ensures variant { IfErr result OfItem }
 {
@@ -200,7 +201,7 @@ fn walk_map<I: PayloadReader, S: LinkSink>(
     links: &mut S,
 ) -> ReadResult<(), I>
     requires { StartsWithMajor (I.reading input.old) 5 }
-    ensures item { WalksItem S.holds S.takes_memory 1 (I.reading input.old) links.old result (I.reading input.new) links.new }
+    ensures item { WalksEnteredItem S.sink (I.reading input.old) links.old result (I.reading input.new) links.new }
     ensures looked { LooksBehind 3 1 (I.reading input.old) result (I.reading input.new) }
     ensures variant { IfErr result OfItem }
 {
@@ -218,7 +219,7 @@ fn walk_entries<I: PayloadReader, S: LinkSink>(
     links: &mut S,
     count: u64,
 ) -> ReadResult<(), I>
-    ensures entries { WalksEntries S.holds S.takes_memory count (I.reading input.old) links.old result (I.reading input.new) links.new }
+    ensures entries { WalksEntries S.sink count (I.reading input.old) links.old result (I.reading input.new) links.new }
     ensures looked { Looks 3 (I.reading input.old) result (I.reading input.new) }
     ensures variant { IfErr result OfItem }
 {

@@ -15,6 +15,7 @@ use Rattle.dagcbor_items.specs.Reads.{HasFront, TakesFront, MayLack, Anything}
 use Rattle.dagcbor_read.proofs.Progressing.{call_answered, call_told}
 use Rattle.dagcbor_read.specs.Accessors.{AccessorState, ReadsElement, after_element, ReadsNextKey, after_key}
 use Rattle.dagcbor_items.specs.Shapes.{Shape}
+use Rattle.dagcbor_items.proofs.StringItems.{text_taken}
 
 -- ---- the next item of a list
 
@@ -55,7 +56,7 @@ pub record KeyRead (last : Option (List ℕ)) (left : ℕ) (old : Progress) (key
 pub key_read : (E : Type 0) (last : Option (List ℕ)) (left : ℕ) (old new : Progress) (o : Option (CowStr Global)) (k : CowStr Global) → o ≡ Some k → Call (ReadsNextKey {E = E} last left) old (Ok o) new → KeyRead last left old (cow_str_bytes k) new
 key_read E last left old new o k e h =
     let r = call_answered (ReadsNextKey last left) old new (Some k) (subst (λ x. Call (ReadsNextKey {E = E} last left) old (Ok x) new) e h) in
-    record { sound = r.1; some = r.2.0; follows = r.2.1; takes = r.2.2 }
+    record { sound = r.1; some = r.2.0; follows = r.2.1; takes = text_taken _ r.2.2 }
 
 pub no_key : (E : Type 0) (last : Option (List ℕ)) (left : ℕ) (old new : Progress) (o : Option (CowStr Global)) → o ≡ None → Call (ReadsNextKey {E = E} last left) old (Ok o) new → (new.failed ≡ false) × (left ≡ 0) × (new.input ≡ old.input)
 no_key E last left old new o e h =

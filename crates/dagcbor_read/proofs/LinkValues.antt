@@ -1,38 +1,23 @@
 -- Links as values of a type.
-use Rattle.std.proofs.Common.{◌≡◌, ℕ, List, true, false, refl, subst, zero-le}
-use Rattle.std.specs.Prelude.{is_some, is_err, Result, Ok, Err, MatchResult}
+use Rattle.std.proofs.Common.{◌≡◌, true, false}
+use Rattle.std.specs.Prelude.{is_err, Result, Ok, Err, MatchResult}
 use Rattle.dagcbor_heads.specs.Reading.{Reading}
 use Rattle.dagcbor_heads.specs.Refusals.{Refuses}
 use Rattle.dagcbor_heads.specs.declared.error.DecodeError.{DecodeError}
 use Rattle.dagcbor_heads.proofs.Taking.{stays}
 use Rattle.dagcbor_heads.proofs.Refusing.{passed_on}
 use Rattle.ipld_tree.specs.Cid.{CidParts, cid_bytes}
-use Rattle.ipld_tree.specs.Tree.{Tree, link}
-use Rattle.ipld_tree.specs.Spelling.{IsFront}
 use Rattle.dagcbor_items.specs.LinkCauses.{LinkCause}
-use Rattle.dagcbor_items.specs.Untyped.{TakesItem}
-use Rattle.dagcbor_items.specs.Links.{HasLink, ReadsLink}
+use Rattle.dagcbor_items.specs.Links.{ReadsLink}
 use Rattle.dagcbor_read.specs.Calls.{Progress, Call}
 use Rattle.dagcbor_items.specs.Reads.{HasFront, TakesFront, Reads, Anything}
 use Rattle.dagcbor_read.specs.Values.{ReadsValue}
 use Rattle.dagcbor_items.specs.Shapes.{view_link, leaf}
 use Rattle.dagcbor_read.proofs.Progressing.{call_told}
 
-is_link : (t : Tree) → is_some (view_link t) ≡ true → (cid : List ℕ) × (t ≡ link cid)
-is_link (link cid) a = (cid, refl)
-is_link _ a = absurd (cc a)
-
-link_stands : {r : Reading} → HasFront (leaf view_link) r → HasLink r
-link_stands h =
-    let l = is_link h.tree h.accepted in
-    record { bytes = h.bytes; cid = l.0; rest = h.rest; left = h.left; front = subst (λ t. IsFront h.bytes t h.rest) l.1 h.front }
-
-link_shown : {old new : Reading} (cid : List ℕ) → TakesItem 1 old (link cid) new → TakesFront (leaf view_link) old cid new
-link_shown cid h = record { taken = λ b l. let k = h.taken b l in (link cid, k.0, k.1, refl, zero-le, k.3); same = h.same }
-
 link_read : {E : Type 0} (old new : Reading) (r : Result CidParts (DecodeError E)) → ReadsLink old r new → Reads cid_bytes (leaf view_link) (false ≡ true) (false ≡ true) Anything old r new
-link_read old new (Ok c) h = link_shown (cid_bytes c) h
-link_read old new (Err e) h = passed_on LinkCause Anything old old new e (stays old) link_stands (λ x. absurd x) (λ x. absurd x) (λ b l. (b, l, λ s. tt)) h
+link_read old new (Ok c) h = h
+link_read old new (Err e) h = passed_on LinkCause Anything old old new e (stays old) (λ x. x) (λ x. absurd x) (λ x. absurd x) (λ b l. (b, l, λ s. tt)) h
 
 -- what a call did on what had not failed
 value_read : {E : Type 0} (old new : Progress) (r : Result CidParts (DecodeError E)) → (new.failed ≡ is_err r) × Reads cid_bytes (leaf view_link) (false ≡ true) (false ≡ true) Anything old.input r new.input

@@ -14,8 +14,7 @@ use Rattle.dagcbor_heads.specs.declared.name.Name.{Name}
 use Rattle.dagcbor_heads.specs.declared.error.DecodeError.{DecodeError}
 use Rattle.dagcbor_heads.specs.declared.error.DecodeError.TheVariants.{Mismatch, DepthOverflow}
 use Rattle.dagcbor_heads.specs.declared.error.DecodeError.TheVariants.{LengthMismatch}
-use Rattle.ipld_tree.specs.Tree.{Tree, text}
-use Rattle.dagcbor_items.specs.Untyped.{TakesItem}
+use Rattle.ipld_tree.specs.Tree.{Tree}
 use Rattle.dagcbor_items.specs.FirstBytes.{BeginsAs}
 use Rattle.dagcbor_items.specs.Places.{Follows}
 use Rattle.dagcbor_items.specs.ItemCauses.{KeyCause}
@@ -24,7 +23,7 @@ use Rattle.dagcbor_items.specs.Entries.{HasKey}
 use Rattle.dagcbor_items.specs.Variants.{OfHead}
 use Rattle.dagcbor_items.specs.Reads.{HasFront, TakesFront, NoStepIfDeep, MayLack, Anything}
 use Rattle.dagcbor_read.specs.declared.access.accessor.Accessor.{Accessor}
-use Rattle.dagcbor_items.specs.Shapes.{Shape}
+use Rattle.dagcbor_items.specs.Shapes.{Shape, view_text, leaf}
 
 -- a list or map that was begun
 pub record AccessorState : Type 0 where
@@ -118,7 +117,7 @@ abbrev pub ReadsNextKey : {E : Type 0} → Option (List ℕ) → ℕ → Reading
     → Result (Option (CowStr Global)) (DecodeError E) → Reading → Type 0
 ReadsNextKey last left old (Ok None) new = (left ≡ 0) × (new ≡ old)
 ReadsNextKey last left old (Ok (Some k)) new = (0 < left) × Follows last (cow_str_bytes k)
-    × TakesItem 1 old (text (cow_str_bytes k)) new
+    × TakesFront (leaf view_text) old (cow_str_bytes k) new
 ReadsNextKey last left old (Err e) new = (0 < left)
     × Refuses (HasKey last old) (old.lends ≡ false) ⊥ (KeyCause last) old e new
 
@@ -126,7 +125,7 @@ ReadsNextKey last left old (Err e) new = (0 < left)
 abbrev pub ReadsKeyAfter : {E : Type 0} → Option (List ℕ) → Reading
     → Result (CowStr Global × CowStr Global) (DecodeError E) → Reading → Type 0
 ReadsKeyAfter last old result new = MatchResult result
-    (λ p. (cow_str_bytes p.1 ≡ cow_str_bytes p.0) × Follows last (cow_str_bytes p.0) × TakesItem 1 old (text (cow_str_bytes p.0)) new)
+    (λ p. (cow_str_bytes p.1 ≡ cow_str_bytes p.0) × Follows last (cow_str_bytes p.0) × TakesFront (leaf view_text) old (cow_str_bytes p.0) new)
     (λ e. Refuses (HasKey last old) (old.lends ≡ false) ⊥ (KeyCause last) old e new)
 
 -- a key that was answered leaves one pair fewer, and its value is to be read

@@ -104,7 +104,7 @@ impl<'de, R: Read> Deserializer<'de, R> {
 
     /// Reads an item of any kind, no deeper than the steps that are left.
     pub fn deserialize_any(&mut self, alloc: Global) -> ReadResult<Ipld, R>
-        ensures item { Over R.reading (Call (ReadsItem 0)) self.old result self.new }
+        ensures item { Over R.reading (Call ReadsItem) self.old result self.new }
         ensures looked { LooksAtAny (progress R.reading self.old).input result (progress R.reading self.new).input }
         ensures variant { IfErr result OfItem }
     {
@@ -523,7 +523,7 @@ impl<'de, R: Read> Deserializer<'de, R> {
     /// Reads an item of any kind, with what `deserialize_any` refuses, and keeps its links alone:
     /// left to right, repeats kept.
     pub fn deserialize_links(&mut self, alloc: Global) -> ReadResult<Vec<Cid>, R>
-        ensures links { Over R.reading (Call (GathersLinks 0)) self.old result self.new }
+        ensures links { Over R.reading (Call GathersLinks) self.old result self.new }
         ensures looked { LooksAtAny (progress R.reading self.old).input result (progress R.reading self.new).input }
     {
         self.begin()?;

@@ -14,6 +14,7 @@ use Rattle.dagcbor_items.proofs.Maps as maps
 use Rattle.dagcbor_items.proofs.Entering.{enters}
 use Rattle.dagcbor_items.proofs.Pushes.{ordered_push, pushed_as}
 use Rattle.dagcbor_items.proofs.Keys.{follows_as}
+use Rattle.dagcbor_items.proofs.StringItems.{text_taken}
 use Rattle.dagcbor_items.proofs.any.+any.Goals as goal
 
 pub read_any-returns-in_err-spend_step-clause-item : goal.read_any-returns-in_err-spend_step-clause-item
@@ -102,7 +103,7 @@ read_entries-returns-in_err-key-clause-entries g t c =
 
 pub read_entries-returns-in_err-value-clause-entries : goal.read_entries-returns-in_err-value-clause-entries
 read_entries-returns-in_err-value-clause-entries g t c =
-    as_refusal _ _ _ _ c.from_residual-in_err-value.ensures.1 (maps.next_value_refused _ _ _ (omega arith) c.loop-index.invariant.read c.in_ok-key.ensures.key.0 c.in_ok-key.ensures.key.1 (λ x. x) c.in_err-value.ensures.item)
+    as_refusal _ _ _ _ c.from_residual-in_err-value.ensures.1 (maps.next_value_refused _ _ _ (omega arith) c.loop-index.invariant.read c.in_ok-key.ensures.key.0 (text_taken _ c.in_ok-key.ensures.key.1) (λ x. x) c.in_err-value.ensures.item)
 
 pub read_entries-loop-index-preserved : goal.read_entries-loop-index-preserved
 read_entries-loop-index-preserved g t c =
@@ -112,7 +113,7 @@ read_entries-loop-index-preserved g t c =
     let same = c.in-Ok.ensures.ok ∙ c.as_str.ensures.value in
     let pushed = ordered_push _ _ _ _ put c.insert.ensures.was_ordered c.insert.ensures.ordered (follows_as _ _ _ (sym same) behind) in
     record {
-      read = maps.one_entry_read _ _ _ _ (pushed_as _ _ _ _ _ same pushed) refl (omega arith) c.loop-index.invariant.read follows c.in_ok-key.ensures.key.1 c.in_ok-value.ensures.item;
+      read = maps.one_entry_read _ _ _ _ (pushed_as _ _ _ _ _ same pushed) refl (omega arith) c.loop-index.invariant.read follows (text_taken _ c.in_ok-key.ensures.key.1) c.in_ok-value.ensures.item;
       looked = looks_both (looks_both c.loop-index.invariant.looked c.in_ok-key.ensures.looked) c.in_ok-value.ensures.looked;
     }
 

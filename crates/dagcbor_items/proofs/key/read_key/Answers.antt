@@ -11,4 +11,4 @@ returns-then-not-follows-clause-key g c =
     unordered_refused g.row.R-Error.Denot _ _ (text_taken _ c.in_ok-key.ensures.text) (λ f. let yes = c.follows.ensures.1 f in let no_more = c.if-not-follows.true in absurd (cc (yes, no_more)))
 
 pub returns-clause-key : goal.returns-clause-key
-returns-clause-key g c = (c.follows.ensures.0 c.if-not-follows.false, text_taken _ c.in_ok-key.ensures.text)
+returns-clause-key g c = (c.follows.ensures.0 c.if-not-follows.false, c.in_ok-key.ensures.text)

@@ -6,7 +6,7 @@ use Rattle.dagcbor_items.proofs.slices.check_slowly.Goals as goal
 pub returns-in_err-walk_any : goal.returns-in_err-walk_any
 returns-in_err-walk_any c =
     let start = c.new-reader.ensures in
-    as_refusal _ _ _ _ c.from_residual.ensures.1 (checked_refused c.args.bytes.now c.new-reader.result _ _ (ap (λ r. r.left) start) (ap (λ r. r.steps) start) (ap (λ r. r.lends) start) c.in_err-walk_any.ensures.item)
+    as_refusal _ _ _ _ c.from_residual.ensures.1 (checked_refused c.args.bytes.now c.new-reader.result _ _ (ap (λ r. r.left) start) (ap (λ r. r.steps) start) (ap (λ r. r.lends) start) c.in_err-walk_any.ensures.item.refuses)
 
 pub returns-in_err-pull_end : goal.returns-in_err-pull_end
 returns-in_err-pull_end c =

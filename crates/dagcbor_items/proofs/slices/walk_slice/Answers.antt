@@ -7,7 +7,7 @@ use Rattle.dagcbor_items.proofs.slices.walk_slice.Goals as goal
 pub returns-in_err-walk_any : goal.returns-in_err-walk_any
 returns-in_err-walk_any g c =
     let start = c.new.ensures in
-    as_refusal _ _ _ _ c.from_residual.ensures.1 (walk_refused g.S.LinkSink.takes_memory c.args.bytes.now c.new.result _ _ (ap (λ r. r.left) start) (ap (λ r. r.steps) start) (ap (λ r. r.lends) start) c.in_err-walk_any.ensures.item)
+    as_refusal _ _ _ _ c.from_residual.ensures.1 (walk_refused g.S.LinkSink.sink c.args.bytes.now c.new.result _ _ _ _ (ap (λ r. r.left) start) (ap (λ r. r.steps) start) (ap (λ r. r.lends) start) c.in_err-walk_any.ensures.item)
 
 pub returns : goal.returns
 returns g c =

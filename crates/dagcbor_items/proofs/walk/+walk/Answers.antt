@@ -8,54 +8,55 @@ use Rattle.ipld_tree.specs.Tree.{no_entries}
 use Rattle.dagcbor_items.proofs.Fronts.{byte_refused}
 use Rattle.dagcbor_items.proofs.Leaves.{indefinite_refused}
 use Rattle.dagcbor_items.proofs.Steps.{no_step_left, stepped_taken, more_lacks}
-use Rattle.dagcbor_items.proofs.Walking.{lacks_before, step_refused, found_none, item_found, entry_found, leaf_walked, walked_from}
+use Rattle.dagcbor_items.proofs.Walking.{lacks_before, found_none, item_found, entry_found, none_handed, handed_inside, handed_in_items, handed_in_entries, handed_in_value, step_walk_refused, leaf_walked, walked_from}
+use Rattle.dagcbor_items.proofs.StringItems.{text_taken}
 use Rattle.dagcbor_items.proofs.Lists.{list_refused, list_taken, no_item_read, next_refused, one_item_read, all_items_read}
 use Rattle.dagcbor_items.proofs.Maps as maps
 use Rattle.dagcbor_items.proofs.Entering.{enters}
 use Rattle.dagcbor_items.proofs.walk.+walk.Goals as goal
 
 pub walk_any-returns-in_err-spend_step-clause-item : goal.walk_any-returns-in_err-spend_step-clause-item
-walk_any-returns-in_err-spend_step-clause-item g t c = as_refusal _ _ _ _ c.from_residual.ensures.1 (no_step_left _ _ c.in_err-spend_step.ensures)
+walk_any-returns-in_err-spend_step-clause-item g t c = as_refusal _ _ _ _ c.from_residual.ensures.1 record { refuses = no_step_left _ _ c.in_err-spend_step.ensures; handed = none_handed g.S.LinkSink.sink _ _ }
 
 pub walk_any-returns-in_err-walk_item-clause-item : goal.walk_any-returns-in_err-walk_item-clause-item
 walk_any-returns-in_err-walk_item-clause-item g t c =
-    as_refusal _ _ _ _ c.from_residual-in_err-walk_item.ensures.1 (step_refused g.S.LinkSink.takes_memory _ 0 _ c.in_ok-spend_step.ensures c.in_err-walk_item.ensures.item)
+    as_refusal _ _ _ _ c.from_residual-in_err-walk_item.ensures.1 (step_walk_refused g.S.LinkSink.sink _ _ _ 0 _ c.in_ok-spend_step.ensures c.in_err-walk_item.ensures.item)
 
 pub walk_any-returns-clause-item : goal.walk_any-returns-clause-item
 walk_any-returns-clause-item g t c = let k = c.in_ok-walk_item.ensures.item in (k.0, stepped_taken 0 c.in_ok-spend_step.ensures k.1 c.step_out.ensures, k.2)
 
 pub walk_item-returns-in_err-first-clause-item : goal.walk_item-returns-in_err-first-clause-item
 walk_item-returns-in_err-first-clause-item g t c =
-    as_refusal _ _ _ _ c.from_residual.ensures.1 (byte_refused (WalkLacks g.S.LinkSink.takes_memory (g.I.Read.reading c.args.input.now)) 0 _ _ _ c.in_err-first.ensures.shown)
+    as_refusal _ _ _ _ c.from_residual.ensures.1 record { refuses = byte_refused (WalkLacks g.S.LinkSink.sink.takes_memory (g.I.Read.reading c.args.input.now)) 0 _ _ _ c.in_err-first.ensures.shown; handed = none_handed g.S.LinkSink.sink _ _ }
 
 pub walk_item-returns-then-is_indefinite-clause-item : goal.walk_item-returns-then-is_indefinite-clause-item
 walk_item-returns-then-is_indefinite-clause-item g t c =
-    indefinite_refused g.row.I-Error.Denot (WalkLacks g.S.LinkSink.takes_memory (g.I.Read.reading c.args.input.now)) 0 c.in_ok-first.ensures.shown (c.is_indefinite.ensures.0 c.if-is_indefinite.true)
+    record { refuses = indefinite_refused g.row.I-Error.Denot (WalkLacks g.S.LinkSink.sink.takes_memory (g.I.Read.reading c.args.input.now)) 0 c.in_ok-first.ensures.shown (c.is_indefinite.ensures.0 c.if-is_indefinite.true); handed = none_handed g.S.LinkSink.sink _ _ }
 
 pub walk_item-returns-clause-item : goal.walk_item-returns-clause-item
-walk_item-returns-clause-item g t c = walked_from g.S.LinkSink.holds g.S.LinkSink.takes_memory c.args.links.now c.walk_of_major.new.links c.walk_of_major.result _ c.in_ok-first.ensures.shown c.walk_of_major.ensures.item
+walk_item-returns-clause-item g t c = walked_from g.S.LinkSink.sink c.args.links.now c.walk_of_major.new.links c.walk_of_major.result _ c.in_ok-first.ensures.shown c.walk_of_major.ensures.item
 
 pub walk_of_major-returns-in-6-clause-item : goal.walk_of_major-returns-in-6-clause-item
 walk_of_major-returns-in-6-clause-item g t c = c.walk_link.ensures.item
 
 pub walk_of_major-returns-in_default-clause-item : goal.walk_of_major-returns-in_default-clause-item
-walk_of_major-returns-in_default-clause-item g t c = leaf_walked g.S.LinkSink.holds g.S.LinkSink.takes_memory (g.I.Read.reading c.args.input.now) c.args.links.now c.skip_leaf.result _ c.requires (λ x. omega arith) (λ x. omega arith) (λ x. omega arith) c.skip_leaf.ensures.item
+walk_of_major-returns-in_default-clause-item g t c = leaf_walked g.S.LinkSink.sink (g.I.Read.reading c.args.input.now) c.args.links.now c.skip_leaf.result _ c.requires (λ x. omega arith) (λ x. omega arith) (λ x. omega arith) c.skip_leaf.ensures.item
 
 pub walk_list-returns-in_err-count-clause-item : goal.walk_list-returns-in_err-count-clause-item
-walk_list-returns-in_err-count-clause-item g t c = as_refusal _ _ _ _ c.from_residual.ensures.1 (more_lacks _ 1 _ _ _ (λ x. absurd x) c.in_err-count.ensures.count)
+walk_list-returns-in_err-count-clause-item g t c = as_refusal _ _ _ _ c.from_residual.ensures.1 record { refuses = more_lacks _ 1 _ _ _ (λ x. absurd x) c.in_err-count.ensures.count; handed = none_handed g.S.LinkSink.sink _ _ }
 
 pub walk_map-returns-in_err-count-clause-item : goal.walk_map-returns-in_err-count-clause-item
-walk_map-returns-in_err-count-clause-item g t c = as_refusal _ _ _ _ c.from_residual.ensures.1 (more_lacks _ 1 _ _ _ (λ x. absurd x) c.in_err-count.ensures.count)
+walk_map-returns-in_err-count-clause-item g t c = as_refusal _ _ _ _ c.from_residual.ensures.1 record { refuses = more_lacks _ 1 _ _ _ (λ x. absurd x) c.in_err-count.ensures.count; handed = none_handed g.S.LinkSink.sink _ _ }
 
 pub walk_list-returns-in_err-walk_items-clause-item : goal.walk_list-returns-in_err-walk_items-clause-item
 walk_list-returns-in_err-walk_items-clause-item g t c =
     let parts = enters 4 c.requires c.in_ok-count.ensures.count in
-    as_refusal _ _ _ _ c.from_residual-in_err-walk_items.ensures.1 (list_refused _ _ _ c.requires parts (lacks_before parts.takes.same) c.in_err-walk_items.ensures.items)
+    as_refusal _ _ _ _ c.from_residual-in_err-walk_items.ensures.1 record { refuses = list_refused _ _ _ c.requires parts (lacks_before parts.takes.same) c.in_err-walk_items.ensures.items.refuses; handed = handed_inside g.S.LinkSink.sink _ _ parts.takes c.in_err-walk_items.ensures.items.handed }
 
 pub walk_map-returns-in_err-walk_entries-clause-item : goal.walk_map-returns-in_err-walk_entries-clause-item
 walk_map-returns-in_err-walk_entries-clause-item g t c =
     let parts = enters 5 c.requires c.in_ok-count.ensures.count in
-    as_refusal _ _ _ _ c.from_residual-in_err-walk_entries.ensures.1 (maps.map_refused _ _ _ c.requires parts (lacks_before parts.takes.same) c.in_err-walk_entries.ensures.entries)
+    as_refusal _ _ _ _ c.from_residual-in_err-walk_entries.ensures.1 record { refuses = maps.map_refused _ _ _ c.requires parts (lacks_before parts.takes.same) c.in_err-walk_entries.ensures.entries.refuses; handed = handed_inside g.S.LinkSink.sink _ _ parts.takes c.in_err-walk_entries.ensures.entries.handed }
 
 pub walk_list-returns-clause-item : goal.walk_list-returns-clause-item
 walk_list-returns-clause-item g t c = let k = c.in_ok-walk_items.ensures.items in (_, list_taken k.0 (enters 4 c.requires c.in_ok-count.ensures.count) k.1 k.2 c.step_out.ensures, k.3)
@@ -82,7 +83,7 @@ pub walk_map-returns-clause-looked : goal.walk_map-returns-clause-looked
 walk_map-returns-clause-looked g t c = looks_stepped _ refl (looks_both c.in_ok-count.ensures.looked c.in_ok-walk_entries.ensures.looked) c.step_out.ensures
 
 pub walk_items-loop-index-init : goal.walk_items-loop-index-init
-walk_items-loop-index-init g t c = record { read = ([], no_item_read _ _ _ [] (omega arith) refl, found_none g.S.LinkSink.holds c.args.links.now); looked = nothing_looked _ }
+walk_items-loop-index-init g t c = record { read = ([], no_item_read _ _ _ [] (omega arith) refl, found_none g.S.LinkSink.sink c.args.links.now); looked = nothing_looked _ }
 
 pub walk_items-returns-in_err-walk_any-clause-looked : goal.walk_items-returns-in_err-walk_any-clause-looked
 walk_items-returns-in_err-walk_any-clause-looked g t c = as_refusal _ _ _ _ c.from_residual.ensures.1 (looks_then c.loop-index.invariant.looked c.in_err-walk_any.ensures.looked)
@@ -90,19 +91,19 @@ walk_items-returns-in_err-walk_any-clause-looked g t c = as_refusal _ _ _ _ c.fr
 pub walk_items-returns-in_err-walk_any-clause-items : goal.walk_items-returns-in_err-walk_any-clause-items
 walk_items-returns-in_err-walk_any-clause-items g t c =
     let s = c.loop-index.invariant.read in
-    as_refusal _ _ _ _ c.from_residual.ensures.1 (next_refused _ s.0 _ (omega arith) s.1 (lacks_before s.1.takes.same) c.in_err-walk_any.ensures.item)
+    as_refusal _ _ _ _ c.from_residual.ensures.1 record { refuses = next_refused _ s.0 _ (omega arith) s.1 (lacks_before s.1.takes.same) c.in_err-walk_any.ensures.item.refuses; handed = handed_in_items g.S.LinkSink.sink s.0 _ _ _ s.1.takes s.2 c.in_err-walk_any.ensures.item.handed }
 
 pub walk_items-loop-index-preserved : goal.walk_items-loop-index-preserved
 walk_items-loop-index-preserved g t c =
     let s = c.loop-index.invariant.read in
     let k = c.in_ok-walk_any.ensures.item in
-    record { read = (s.0 ++ k.0 ∷ [], one_item_read s.0 (s.0 ++ k.0 ∷ []) refl (omega arith) s.1 k.1, item_found g.S.LinkSink.holds s.0 k.0 c.args.links.now c.loop-index.links c.walk_any.new.links s.2 k.2); looked = looks_both c.loop-index.invariant.looked c.in_ok-walk_any.ensures.looked }
+    record { read = (s.0 ++ k.0 ∷ [], one_item_read s.0 (s.0 ++ k.0 ∷ []) refl (omega arith) s.1 k.1, item_found g.S.LinkSink.sink s.0 k.0 c.args.links.now c.loop-index.links c.walk_any.new.links s.2 k.2); looked = looks_both c.loop-index.invariant.looked c.in_ok-walk_any.ensures.looked }
 
 pub walk_items-returns-clause-items : goal.walk_items-returns-clause-items
 walk_items-returns-clause-items g t c = let s = c.loop-index.invariant.read in let k = all_items_read s.0 (omega arith) s.1 in (s.0, k.0, k.1, s.2)
 
 pub walk_entries-loop-index-init : goal.walk_entries-loop-index-init
-walk_entries-loop-index-init g t c = record { read = (no_entries, maps.no_entry_read _ _ _ no_entries _ (omega arith) refl refl, found_none g.S.LinkSink.holds c.args.links.now); looked = nothing_looked _ }
+walk_entries-loop-index-init g t c = record { read = (no_entries, maps.no_entry_read _ _ _ no_entries _ (omega arith) refl refl, found_none g.S.LinkSink.sink c.args.links.now); looked = nothing_looked _ }
 
 pub walk_entries-returns-in_err-key-clause-looked : goal.walk_entries-returns-in_err-key-clause-looked
 walk_entries-returns-in_err-key-clause-looked g t c = as_refusal _ _ _ _ c.from_residual.ensures.1 (looks_then c.loop-index.invariant.looked c.in_err-key.ensures.looked)
@@ -114,13 +115,13 @@ walk_entries-returns-in_err-walk_any-clause-looked g t c =
 pub walk_entries-returns-in_err-key-clause-entries : goal.walk_entries-returns-in_err-key-clause-entries
 walk_entries-returns-in_err-key-clause-entries g t c =
     let s = c.loop-index.invariant.read in
-    as_refusal _ _ _ _ c.from_residual.ensures.1 (maps.next_key_refused _ _ (omega arith) s.1 (λ l. inl (sym s.1.takes.same.lends ∙ l)) c.in_err-key.ensures.key)
+    as_refusal _ _ _ _ c.from_residual.ensures.1 record { refuses = maps.next_key_refused _ _ (omega arith) s.1 (λ l. inl (sym s.1.takes.same.lends ∙ l)) c.in_err-key.ensures.key; handed = handed_in_entries g.S.LinkSink.sink s.0 _ _ _ s.1.takes s.2 (none_handed g.S.LinkSink.sink _ _) }
 
 pub walk_entries-returns-in_err-walk_any-clause-entries : goal.walk_entries-returns-in_err-walk_any-clause-entries
 walk_entries-returns-in_err-walk_any-clause-entries g t c =
     let s = c.loop-index.invariant.read in
-    let key = c.in_ok-key.ensures.key.1 in
-    as_refusal _ _ _ _ c.from_residual-in_err-walk_any.ensures.1 (maps.next_value_refused _ _ _ (omega arith) s.1 c.in_ok-key.ensures.key.0 key (λ l. lacks_before s.1.takes.same (lacks_before key.same l)) c.in_err-walk_any.ensures.item)
+    let key = text_taken _ c.in_ok-key.ensures.key.1 in
+    as_refusal _ _ _ _ c.from_residual-in_err-walk_any.ensures.1 record { refuses = maps.next_value_refused _ _ _ (omega arith) s.1 c.in_ok-key.ensures.key.0 key (λ l. lacks_before s.1.takes.same (lacks_before key.same l)) c.in_err-walk_any.ensures.item.refuses; handed = handed_in_entries g.S.LinkSink.sink s.0 _ _ _ s.1.takes s.2 (handed_in_value g.S.LinkSink.sink _ _ _ key c.in_err-walk_any.ensures.item.handed) }
 
 pub walk_entries-loop-index-preserved : goal.walk_entries-loop-index-preserved
 walk_entries-loop-index-preserved g t c =
@@ -128,7 +129,7 @@ walk_entries-loop-index-preserved g t c =
     let key = c.in_ok-key.ensures.key in
     let value = c.in_ok-walk_any.ensures.item in
     record {
-      read = (_, maps.one_entry_read s.0 _ _ _ refl refl (omega arith) s.1 key.0 key.1 value.1, entry_found g.S.LinkSink.holds s.0 _ value.0 c.args.links.now c.loop-index.links c.walk_any.new.links s.2 value.2);
+      read = (_, maps.one_entry_read s.0 _ _ _ refl refl (omega arith) s.1 key.0 (text_taken _ key.1) value.1, entry_found g.S.LinkSink.sink s.0 _ value.0 c.args.links.now c.loop-index.links c.walk_any.new.links s.2 value.2);
       looked = looks_both (looks_both c.loop-index.invariant.looked c.in_ok-key.ensures.looked) c.in_ok-walk_any.ensures.looked;
     }
 

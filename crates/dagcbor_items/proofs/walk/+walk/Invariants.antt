@@ -24,7 +24,7 @@ decreases-walk_items g l = 5 * (g.I.Read.reading l.input.now).steps + 1
 
 abbrev pub invariant-walk_items-loop-index : goal.invariant-walk_items-loop-index
 invariant-walk_items-loop-index g l = record {
-  read : (ts : List Tree) × ReadSome l.count (l.count - l._index) (g.I.Read.reading l.fn.input) ts (g.I.Read.reading l.input) × Finds g.S.LinkSink.holds l.fn.links (items_links (items_of ts)) l.links;
+  read : (ts : List Tree) × ReadSome l.count (l.count - l._index) (g.I.Read.reading l.fn.input) ts (g.I.Read.reading l.input) × Finds g.S.LinkSink.sink.holds l.fn.links (items_links (items_of ts)) l.links;
   looked : LooksAtTaken 3 0 (g.I.Read.reading l.fn.input) (g.I.Read.reading l.input);
 }
 
@@ -36,6 +36,6 @@ decreases-walk_entries g l = 5 * (g.I.Read.reading l.input.now).steps + 1
 
 abbrev pub invariant-walk_entries-loop-index : goal.invariant-walk_entries-loop-index
 invariant-walk_entries-loop-index g l = record {
-  read : (es : Entries) × ReadEntries l.count (l.count - l._index) (g.I.Read.reading l.fn.input) es (option_map g.I.PayloadReader.key_bytes l.previous) (g.I.Read.reading l.input) × Finds g.S.LinkSink.holds l.fn.links (entries_links es) l.links;
+  read : (es : Entries) × ReadEntries l.count (l.count - l._index) (g.I.Read.reading l.fn.input) es (option_map g.I.PayloadReader.key_bytes l.previous) (g.I.Read.reading l.input) × Finds g.S.LinkSink.sink.holds l.fn.links (entries_links es) l.links;
   looked : LooksAtTaken 3 0 (g.I.Read.reading l.fn.input) (g.I.Read.reading l.input);
 }

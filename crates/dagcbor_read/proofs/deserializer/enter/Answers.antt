@@ -10,7 +10,7 @@ returns-in_err-spend_step-clause-head g c =
 
 pub returns-in_err-first-clause-head : goal.returns-in_err-first-clause-head
 returns-in_err-first-clause-head g c =
-    as_refusal _ _ _ _ c.from_residual-in_err-first.ensures.1 (no_byte_entered c.args.major c.args.name.now _ _ c.in_ok-spend_step.ensures c.in_err-first.ensures.named c.in_err-first.ensures.shown)
+    as_refusal _ _ _ _ c.from_residual-in_err-first.ensures.1 (no_byte_entered c.args.major c.args.name.now _ _ c.in_ok-spend_step.ensures c.in_err-first.ensures.variant c.in_err-first.ensures.shown)
 
 pub returns-then-first-major-clause-head : goal.returns-then-first-major-clause-head
 returns-then-first-major-clause-head g c =

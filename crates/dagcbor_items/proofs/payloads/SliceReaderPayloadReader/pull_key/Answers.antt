@@ -12,4 +12,4 @@ returns-then-not-lent_follows-clause-key c =
     unordered_refused Infallible _ _ (text_taken _ c.in_ok-key.ensures.text) (λ f. let yes = c.lent_follows.ensures.1 f in let no_more = c.if-not-lent_follows.true in absurd (cc (yes, no_more)))
 
 pub returns-clause-key : goal.returns-clause-key
-returns-clause-key c = (c.lent_follows.ensures.0 c.if-not-lent_follows.false, text_taken _ c.in_ok-key.ensures.text)
+returns-clause-key c = (c.lent_follows.ensures.0 c.if-not-lent_follows.false, c.in_ok-key.ensures.text)

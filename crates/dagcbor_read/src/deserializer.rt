@@ -525,6 +525,7 @@ impl<'de, R: Read> Deserializer<'de, R> {
     pub fn deserialize_links(&mut self, alloc: Global) -> ReadResult<Vec<Cid>, R>
         ensures links { Over R.reading (Call GathersLinks) self.old result self.new }
         ensures looked { LooksAtAny (progress R.reading self.old).input result (progress R.reading self.new).input }
+        ensures variant { IfErr result OfItem }
     {
         self.begin()?;
         let links = gather_links(alloc, &mut self.input)?;

@@ -1,7 +1,7 @@
 //! What the entries of a map make: the places of a struct, or a map.
 
 ghost use Rattle.std.specs.Prelude.{◌≡◌, ◌+◌, ◌≤◌, ℕ, List, [], Bool, Option, option_map, true};
-ghost use Rattle.std.specs.Prelude.{false, codes};
+ghost use Rattle.std.specs.Prelude.{false, codes, IfErr};
 ghost use Rattle.ipld_tree.specs.Tree.{Tree, any_need};
 ghost use Rattle.dagcbor_items.specs.Shapes.{ignored_item};
 ghost use Rattle.dagcbor_read.specs.Calls.{progress, StaysFailed, Over};
@@ -96,13 +96,14 @@ pub fn read_fields<'de, F: Fields<'de>, R: Read>(
     read_entries_left::<F, R>(alloc, &[], entries, de)
 }
 
-/// Reads the value of a field into its place.
+/// Reads the value of a field into its place, which a refusal leaves as it was.
 pub fn read_into<'de, T: Deserialize<'de>, R: Read>(
     alloc: Global,
     place: &mut Option<T>,
     de: &mut Deserializer<'de, R>,
 ) -> ReadResult<(), R>
     ensures value { Over R.reading (ReadsValue (λ _. option_map T.meaning place.new) (slot_of T.shape)) de.old result de.new }
+    ensures kept { IfErr result (λ _. place.new ≡ place.old) }
     ensures failed { Over R.reading StaysFailed de.old result de.new }
 {
     let value = T::deserialize(alloc, de)?;

@@ -1,7 +1,7 @@
 //! Structs, whose fields are read by their names.
 
 ghost use Rattle.std.specs.Prelude.{◌≡◌, ◌+◌, ℕ, List, Bool, Option, None, Some, option_map};
-ghost use Rattle.std.specs.Prelude.{MatchResult};
+ghost use Rattle.std.specs.Prelude.{MatchResult, codes};
 ghost use Rattle.std.specs.Option.{option_flatten};
 ghost use Rattle.dagcbor_heads.specs.declared.name.Name.{Name};
 ghost use Rattle.dagcbor_heads.specs.declared.error.DecodeError.TheVariants.{Msg};
@@ -10,7 +10,7 @@ ghost use Rattle.dagcbor_read.specs.Calls.{progress, StaysFailed, AreOut, Over};
 ghost use Rattle.dagcbor_read.specs.Values.{ReadsValue};
 ghost use Rattle.dagcbor_read.specs.Accessors.{HasHeadOf, BeginsItems};
 ghost use Rattle.dagcbor_read.specs.Parts.{RefusesToBegin};
-ghost use Rattle.dagcbor_read.specs.Enums.{enum_state, ReadsFieldsHeld};
+ghost use Rattle.dagcbor_read.specs.Enums.{enum_state, BeginsHeld, ReadsFieldsHeld};
 ghost use Rattle.dagcbor_read.specs.Collections.{FieldShape, value_of, struct_of};
 ghost use Rattle.dagcbor_read.specs.Structs.{texts, no_places, places, finish_required};
 ghost use Rattle.dagcbor_read.specs.Structs.{finish_optional};
@@ -196,6 +196,7 @@ pub fn read_struct_variant<'de, F: Fields<'de>, R: Read>(
 ) -> ReadResult<F, R>
     requires { AreOut (enum_state variant).steps (progress R.reading de.old) }
     ensures fields { Over R.reading (ReadsFieldsHeld F.meaning (struct_of (F.shape (texts names.now)) F.unread F.finish) (enum_state variant)) de.old result de.new }
+    ensures named { Over R.reading (RefusesToBegin (HasHeadOf 5) (BeginsHeld 5 (codes "map") (enum_state variant))) de.old result de.new }
     ensures failed { Over R.reading StaysFailed de.old result de.new }
 {
     let entries = variant.struct_variant(names, de)?;

@@ -25,8 +25,9 @@ use Rattle.serde_ipld_dagcbor.specs.GrammarLaws.{SpellingsAreUnique}
 use Rattle.dagcbor_blocks.specs.Names.{block_name}
 use Rattle.dagcbor_blocks.specs.Errors.{TellsOfDecoding}
 use Rattle.dagcbor_blocks.specs.Sound.{IsSound}
-use Rattle.dagcbor_blocks.specs.Blocks.{Held, block_at, HoldsAlso, HasTree, HasBlock, CheckRefused, Stores, KeepsBlock, Puts, IsHeld, GetRefused}
-use Rattle.dagcbor_blocks.proofs.Laws.{front_unique, whole_front, on_ok}
+use Rattle.dagcbor_blocks.specs.Blocks.{Held, block_at, HoldsAlso, HoldsOther, ExceedsSteps, Puts, IsHeld, GetRefused}
+use Rattle.dagcbor_blocks.specs.Steps.{HasTree, HasBlock, DepthRefused, Stores}
+use Rattle.dagcbor_blocks.proofs.Unique.{front_unique, whole_front, on_ok}
 use Rattle.dagcbor_blocks.specs.declared.error.BlockError.{BlockError}
 use Rattle.dagcbor_blocks.specs.declared.error.BlockError.TheVariants.{Encode, Decode, Collision, OutOfMemory}
 use Rattle.serde_ipld_dagcbor.specs.Reading.{default_steps}
@@ -87,22 +88,25 @@ pub still_sound : {X Y : Type 0} (r : Result X Y) (es fs : List BlockEntry) (k :
 still_sound (Ok x) es fs k v put same named has h = ∥∥₁_map h (λ s. subst (AllByRecursion IsSound) (sym put) (sound_inserted es k v s record { tree = has.0; is_block = has.1; named = named }))
 still_sound (Err y) es fs k v put same named has h = ∥∥₁_map h (λ s. subst (AllByRecursion IsSound) (sym same) s)
 
-pub now_held : {X Y : Type 0} (r : Result X Y) (m n : BTreeMap CidParts (Vec ℕ Global)) (name : CidParts) (v : Vec ℕ Global) → false ≡ is_err r → OnOk r (Updates cid_cmp m n name (Some v)) → HoldsAlso (shown m.entries) name v.items (shown n.entries)
-now_held r m n name v ok put q =
-    let u = (on_ok r _ ok put).0 q in
-    block_at_shown q n.entries ∙ ap (option_map items_of_vec) u ∙ by (is_at (cid_cmp name) q) ∙ ap (λ o. cond (is_at (cid_cmp name) q) (Some v.items) o) (sym (block_at_shown q m.entries))
+pub now_held : {X Y : Type 0} (r : Result X Y) (m n : BTreeMap CidParts (Vec ℕ Global)) (name : CidParts) (v : Vec ℕ Global) → name ≡ block_name v.items → false ≡ is_err r → OnOk r (Updates cid_cmp m n name (Some v)) → HoldsAlso (shown m.entries) name v.items (shown n.entries)
+now_held r m n name v named ok put = (
+  named,
+  λ q.
+      let u = (on_ok r _ ok put).0 q in
+      block_at_shown q n.entries ∙ ap (option_map items_of_vec) u ∙ by q (is_at (cid_cmp name) q) ∙ ap (λ o. cond (is_at (cid_cmp name) q) (Some v.items) o) (sym (block_at_shown q m.entries)),
+)
   where
-    by : (b : Bool) → option_map items_of_vec (cond b (Some v) (get cid_cmp m q)) ≡ cond b (Some v.items) (option_map items_of_vec (get cid_cmp m q))
-    by true = refl
-    by false = refl
+    by : (q : CidParts) (b : Bool) → option_map items_of_vec (cond b (Some v) (get cid_cmp m q)) ≡ cond b (Some v.items) (option_map items_of_vec (get cid_cmp m q))
+    by q true = refl
+    by q false = refl
 
 -- what is held already
-pub held_already : (name : CidParts) (blocks : Held) (b : List ℕ) → block_at name blocks ≡ Some b → HoldsAlso blocks name b blocks
-held_already name blocks b e q = by (is_at (cid_cmp name) q) refl
+pub held_already : (name : CidParts) (blocks : Held) (b : List ℕ) → name ≡ block_name b → block_at name blocks ≡ Some b → HoldsAlso blocks name b blocks
+held_already name blocks b named e = (named, λ q. by q (is_at (cid_cmp name) q) refl)
   where
-    by : (c : Bool) → is_at (cid_cmp name) q ≡ c → block_at q blocks ≡ cond c (Some b) (block_at q blocks)
-    by true h = ap (λ n. block_at n blocks) (sym (same_name name q h)) ∙ e
-    by false h = refl
+    by : (q : CidParts) (c : Bool) → is_at (cid_cmp name) q ≡ c → block_at q blocks ≡ cond c (Some b) (block_at q blocks)
+    by q true h = ap (λ n. block_at n blocks) (sym (same_name name q h)) ∙ e
+    by q false h = refl
 
 -- ---- checking
 
@@ -115,25 +119,15 @@ need_of b t h n = by_contradiction
     by_contradiction : 256 < any_need t
     by_contradiction = omega (arith, λ (le : any_need t ≤ 256). n (links_of t) (t, [], whole_front h, le, refl))
 
-pub not_checked : (b : List ℕ) (e : DecodeError Infallible) (told : BlockError) → LinksRefused e b → TellsOfDecoding e told → CheckRefused b told
+exceeds : (b : List ℕ) (e : DecodeError Infallible) → LinksRefused e b → (e ≡ unread.OutOfMemory → ⊥) → ((links : List (List ℕ)) → AreFirstLinks b links → ⊥) → (t : Tree) → IsSpelling b t → ExceedsSteps e t
+exceeds b e r other none t s = (need_of b t s none, other, subst (LinksRefused e) s.is r)
+
+pub not_checked : (b : List ℕ) (e : DecodeError Infallible) (told : BlockError) → LinksRefused e b → TellsOfDecoding e told → DepthRefused b told
 not_checked b (unread.Read e) told r h = absurd r
-not_checked b unread.OutOfMemory told r h = subst (CheckRefused b) (sym h) tt
+not_checked b unread.OutOfMemory told r h = subst (DepthRefused b) (sym h) tt
 not_checked b (unread.RequireBorrowed n) told r h = absurd r
 not_checked b unread.Failed told r h = absurd r
-not_checked b _ told r h = subst (CheckRefused b) (sym h) (tt, λ t s. need_of b t s r.0)
-
-pub block_kept : (b : List ℕ) (old new : Held) (r : Result CidParts BlockError) → HasBlock b → Stores b old r new → KeepsBlock b old r new
-block_kept b old new (Ok name) has h = (has, h.0, h.1)
-block_kept b old new (Err (Encode e)) has h = absurd h.1
-block_kept b old new (Err (Decode e)) has h = absurd h.1
-block_kept b old new (Err Collision) has h = h
-block_kept b old new (Err OutOfMemory) has h = h
-
-pub not_kept : (b : List ℕ) (blocks : Held) (e : BlockError) → CheckRefused b e → KeepsBlock b blocks (Err e) blocks
-not_kept b blocks (Encode e) h = absurd h
-not_kept b blocks (Decode e) h = (refl, h)
-not_kept b blocks Collision h = absurd h
-not_kept b blocks OutOfMemory h = (refl, tt)
+not_checked b _ told r h = subst (DepthRefused b) (sym h) (exceeds b _ r (λ same. cc) r.0)
 
 -- ---- putting
 
@@ -141,15 +135,15 @@ pub has_tree : (tree : Option Tree) (v : Vec ℕ Global) → AreSpellingOf tree 
 has_tree None v h = absurd h
 has_tree (Some t) v h = (t, h)
 
-pub put_done : SpellingsAreUnique → (tree : Option Tree) (v : Vec ℕ Global) (old new : Held) (r : Result CidParts BlockError) → AreSpellingOf tree v.items → KeepsBlock v.items old r new → Puts tree old r new
-put_done law None v old new r a h = absurd a
-put_done law (Some t) v old new (Ok name) a h =
-    let u = front_unique law v.items [] [] h.0.0 t (whole_front h.0.1.0) (whole_front a) in
-    (a.well_formed, a.spellable, subst (λ x. any_need x ≤ 256) u.0 h.0.1.1, h.1 ∙ ap block_name a.is, subst (λ b. HoldsAlso old name b new) a.is h.2)
-put_done law (Some t) v old new (Err (Encode e)) a h = absurd h.1
-put_done law (Some t) v old new (Err (Decode e)) a h = (h.0, (h.1.0, h.1.1 t a))
-put_done law (Some t) v old new (Err Collision) a h = (h.0, (h.1.0, ap (λ b. block_at (block_name b) old) (sym a.is) ∙ h.1.1, λ e. h.1.2 (e ∙ sym a.is)))
-put_done law (Some t) v old new (Err OutOfMemory) a h = (h.0, tt)
+pub put_done : SpellingsAreUnique → (tree : Option Tree) (v : Vec ℕ Global) (old new : Held) (r : Result CidParts BlockError) → AreSpellingOf tree v.items → HasBlock v.items → Stores v.items old r new → Puts tree old r new
+put_done law None v old new r a has h = absurd a
+put_done law (Some t) v old new (Ok name) a has h =
+    let u = front_unique law v.items [] [] has.0 t (whole_front has.1.0) (whole_front a) in
+    ((record { well_formed = a.well_formed; spellable = a.spellable; is = refl }, subst (λ x. any_need x ≤ 256) u.0 has.1.1), subst (λ b. HoldsAlso old name b new) a.is h)
+put_done law (Some t) v old new (Err (Encode e)) a has h = absurd h.1
+put_done law (Some t) v old new (Err (Decode e)) a has h = absurd h.1
+put_done law (Some t) v old new (Err Collision) a has h = (h.0, subst (λ b. HoldsOther b old) a.is h.1)
+put_done law (Some t) v old new (Err OutOfMemory) a has h = (h.0, tt)
 
 -- ---- getting
 

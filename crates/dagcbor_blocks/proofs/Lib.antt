@@ -1,4 +1,5 @@
-pub mod Laws
+pub mod Unique
 pub mod Keeping
 pub mod Missing
+pub mod Members
 pub mod Listing

@@ -1,5 +1,5 @@
 -- The links in held blocks that name no held block.
-use Rattle.std.proofs.Common.{◌≡◌, ◌⊎◌, inl, inr, ℕ, List, [], ◌∷◌, ◌++◌, map, Bool, true, false, cond, refl, sym, ap, ◌∙◌, subst, arith, append_assoc, append-nil}
+use Rattle.std.proofs.Common.{◌≡◌, ◌⊎◌, inl, inr, ℕ, List, [], ◌∷◌, ◌++◌, Bool, true, false, cond, refl, sym, ap, ◌∙◌, subst, arith, append_assoc, append-nil}
 use Rattle.std.specs.Prelude.{◌↔◌, Option, None, Some, Vec}
 use Rattle.std.specs.declared.alloc.Global.{Global}
 use Rattle.std.specs.declared.convert.Infallible.{Infallible}
@@ -24,12 +24,14 @@ use Rattle.serde_ipld_dagcbor.specs.GrammarLaws.{SpellingsAreUnique, CidEquality
 use Rattle.dagcbor_blocks.specs.Names.{block_name}
 use Rattle.dagcbor_blocks.specs.Errors.{TellsOfDecoding}
 use Rattle.dagcbor_blocks.specs.Sound.{IsSound}
-use Rattle.dagcbor_blocks.specs.Blocks.{Among, IsUnheld, IsLinked, NamesNone}
+use Rattle.dagcbor_blocks.specs.Blocks.{Among, IsLinked, NamesNone}
+use Rattle.dagcbor_blocks.specs.Steps.{IsUnheld}
 use Rattle.dagcbor_blocks.specs.declared.error.BlockError.{BlockError}
 use Rattle.dagcbor_blocks.specs.declared.error.BlockError.TheVariants.{OutOfMemory}
-use Rattle.dagcbor_blocks.proofs.Laws.{front_unique, cid_unique, whole_front}
+use Rattle.dagcbor_blocks.proofs.Unique.{front_unique, cid_unique, whole_front}
 use Rattle.dagcbor_blocks.proofs.Keeping.{BlockEntry, shown}
-use Rattle.dagcbor_blocks.proofs.Missing.{at_same, same_at, among_push, push_among, AddedSoFar}
+use Rattle.dagcbor_blocks.proofs.Members.{among_map, map_among, all_among, found_among}
+use Rattle.dagcbor_blocks.proofs.Missing.{same_at, among_push, push_among, AddedSoFar}
 
 -- ---- lists
 
@@ -41,21 +43,6 @@ among_append x (z ∷ zs) ys (inr h) = elim (among_append x zs ys h) [ inl m ↦
 among_mid : {X : Type 0} (xs : List X) (x : X) (ys : List X) → Among x (xs ++ x ∷ ys)
 among_mid [] x ys = inl refl
 among_mid (z ∷ zs) x ys = inr (among_mid zs x ys)
-
-among_map : {X Y : Type 0} (f : X → Y) (x : X) (xs : List X) → Among x xs → Among (f x) (map f xs)
-among_map f x (y ∷ ys) (inl e) = inl (ap f e)
-among_map f x (y ∷ ys) (inr h) = inr (among_map f x ys h)
-among_map f x [] h = absurd h
-
-map_among : {X Y : Type 0} (f : X → Y) (y : Y) (xs : List X) → Among y (map f xs) → (x : X) × Among x xs × (y ≡ f x)
-map_among f y [] h = absurd h
-map_among f y (x ∷ xs) (inl e) = (x, inl refl, e)
-map_among f y (x ∷ xs) (inr h) = let k = map_among f y xs h in (k.0, inr k.1, k.2)
-
-all_among : {X : Type 0} (P : X → Type 0) (xs : List X) (x : X) → AllByRecursion P xs → Among x xs → P x
-all_among P [] x h m = absurd m
-all_among P (y ∷ ys) x h (inl e) = subst P (sym e) h.0
-all_among P (y ∷ ys) x h (inr m) = all_among P ys x h.1 m
 
 -- ---- links are CIDs
 
@@ -173,14 +160,6 @@ name_is_cid : (b : List ℕ) → AreCidParts (block_name b)
 name_is_cid b = inr (refl, omega arith, omega arith, omega (arith, length-sha256 b))
 
 -- a look-up in the entries
-found_among : (q : CidParts) (es : List BlockEntry) (v : Vec ℕ Global) → lookup (is_at (cid_cmp q)) es ≡ Some v → Among (q, v) es
-found_among q [] v e = absurd (cc e)
-found_among q (x ∷ es) v e = by (is_at (cid_cmp q) x.0) refl e (λ l. found_among q es v l)
-  where
-    by : (b : Bool) → is_at (cid_cmp q) x.0 ≡ b → cond b (Some x.1) (lookup (is_at (cid_cmp q)) es) ≡ Some v → (lookup (is_at (cid_cmp q)) es ≡ Some v → Among (q, v) es) → Among (q, v) (x ∷ es)
-    by true t l f = let same : x.1 ≡ v = cc l in let key = at_same q x.0 t in inl (λ i. (key i, sym same i))
-    by false t l f = inr (f l)
-
 not_unheld : (q : CidParts) (v : Vec ℕ Global) (es : List BlockEntry) → Among (q, v) es → lookup (is_at (cid_cmp q)) es ≡ None → ⊥
 not_unheld q v [] m e = m
 not_unheld q v (x ∷ es) (inl same) e =

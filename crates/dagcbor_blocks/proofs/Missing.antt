@@ -11,7 +11,8 @@ use Rattle.std.proofs.Math.Seq.{take-suc, take-length}
 use Rattle.std.proofs.lemmas.Cmp.{nat_cmp_total, nat_list_cmp_total}
 use Rattle.serde_ipld_dagcbor.specs.Cid.{CidParts, AreCidParts, cid_cmp}
 use Rattle.serde_ipld_dagcbor.specs.CidHash.{same_cid, is_equal}
-use Rattle.dagcbor_blocks.specs.Blocks.{Among, IsUnheld, AddsOne}
+use Rattle.dagcbor_blocks.specs.Blocks.{Among}
+use Rattle.dagcbor_blocks.specs.Steps.{IsUnheld, AddsOne}
 
 -- ---- the order of CIDs
 
@@ -26,7 +27,7 @@ then_equal a b e f = ap (λ o. ordering_then o b) e ∙ f
 number_equal : (n : ℕ) → nat_cmp n n ≡ Equal
 number_equal n = self_equal (nat_cmp n n) (nat_cmp_total.antisymm n n)
 
-cid_equal : (q : CidParts) → cid_cmp q q ≡ Equal
+pub cid_equal : (q : CidParts) → cid_cmp q q ≡ Equal
 cid_equal q = then_equal _ _ (number_equal q.version) (then_equal _ _ (number_equal q.codec) (then_equal _ _ (number_equal q.hash_code) (self_equal (slice_cmp nat_cmp q.digest q.digest) (nat_list_cmp_total.antisymm q.digest q.digest))))
 
 pub at_same : (q k : CidParts) → is_at (cid_cmp q) k ≡ true → q ≡ k

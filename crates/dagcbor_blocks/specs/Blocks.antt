@@ -1,21 +1,20 @@
 -- What a store of blocks holds, and what its calls answer.
-use Rattle.std.specs.Prelude.{◌≡◌, ◌≢◌, ◌↔◌, ◌⊎◌, [], ◌∷◌, ℕ, ◌<◌, ◌≤◌, cond, List, map, Option}
-use Rattle.std.specs.Prelude.{None, Some, IfSome, IsSomeAnd, Result, MatchResult, IfOk, OnOk, Vec}
+use Rattle.std.specs.Prelude.{◌≡◌, ◌≢◌, ◌↔◌, ◌⊎◌, [], ◌∷◌, ℕ, ◌<◌, cond, List, map, Option}
+use Rattle.std.specs.Prelude.{None, Some, IfSome, IsSomeAnd, Result, MatchResult, Vec}
 use Rattle.std.specs.Prelude.{⊤}
-use Rattle.std.specs.List.{AllByRecursion}
 use Rattle.std.specs.List.Sorted.{IsStrictlySortedBy}
 use Rattle.std.specs.Map.{lookup}
-use Rattle.std.specs.BTreeMap.{BTreeMap, is_at, get}
-use Rattle.std.specs.BTreeSet.{BTreeSet}
+use Rattle.std.specs.BTreeMap.{is_at}
 use Rattle.std.specs.declared.alloc.Global.{Global}
 use Rattle.sha2.specs.Sha256.{sha256}
+use Rattle.std.specs.declared.convert.Infallible.{Infallible}
 use Rattle.serde_ipld_dagcbor.specs.DecodeError.{DecodeError}
 use Rattle.serde_ipld_dagcbor.specs.DecodeError.TheVariants as unread
-use Rattle.serde_ipld_dagcbor.specs.Cid.{CidParts, AreCidParts, cid_bytes, cid_cmp}
-use Rattle.serde_ipld_dagcbor.specs.Tree.{Tree, IsTree, any_need, links_of}
+use Rattle.serde_ipld_dagcbor.specs.Cid.{CidParts, cid_bytes, cid_cmp}
+use Rattle.serde_ipld_dagcbor.specs.Tree.{Tree, any_need, links_of}
 use Rattle.serde_ipld_dagcbor.specs.Spelling.{IsSpellable, spelling, IsSpelling}
 use Rattle.serde_ipld_dagcbor.specs.Shapes.{Shape}
-use Rattle.serde_ipld_dagcbor.specs.Slices.{IsBlock}
+use Rattle.serde_ipld_dagcbor.specs.Slices.{IsBlock, LinksRefused}
 use Rattle.serde_ipld_dagcbor.specs.Whole.{IsWhole}
 use Rattle.serde_ipld_dagcbor.specs.Walks.{forms}
 use Rattle.serde_ipld_dagcbor.specs.EncodeError.{EncodeError}
@@ -38,14 +37,15 @@ held_blocks s = map (λ e. (e.0, e.1.items)) s.blocks.entries
 abbrev pub block_at : CidParts → Held → Option (List ℕ)
 block_at name blocks = lookup (is_at (cid_cmp name)) blocks
 
--- under the name stand these bytes, and under each other name what stood there
-abbrev pub HoldsAlso : Held → CidParts → List ℕ → Held → Type 0
-HoldsAlso old name b new = (q : CidParts)
-    → block_at q new ≡ cond (is_at (cid_cmp name) q) (Some b) (block_at q old)
+-- x is one of the list
+abbrev pub Among : {X : Type 0} → X → List X → Type 0
+Among x [] = ⊥
+Among x (y ∷ ys) = (x ≡ y) ⊎ Among x ys
 
--- the bytes are a spelling
-abbrev pub HasTree : List ℕ → Type 0
-HasTree b = (t : Tree) × IsSpelling b t
+-- A block is found under a name exactly where the two are among the held.
+abbrev pub FindsMembers : Held → Type 0
+FindsMembers blocks = (name : CidParts) (b : List ℕ)
+    → (block_at name blocks ≡ Some b) ↔ Among (name, b) blocks
 
 -- ---- refusals
 
@@ -63,61 +63,37 @@ IsOfBytes (unread.RequireBorrowed name) = ⊥
 IsOfBytes unread.Failed = ⊥
 IsOfBytes _ = ⊤
 
--- ---- the calls
+-- the tree needs more than 256 steps, and the cause of this refusal stands in its spelling
+abbrev pub ExceedsSteps : DecodeError Infallible → Tree → Type 0
+ExceedsSteps e t = (default_steps < any_need t) × (e ≢ unread.OutOfMemory)
+    × LinksRefused e (spelling t)
 
--- the bytes are a spelling that is read within 256 steps
-abbrev pub HasBlock : List ℕ → Type 0
-HasBlock b = (t : Tree) × IsBlock b t
+-- other bytes are held under the name of these
+abbrev pub HoldsOther : List ℕ → Held → Type 0
+HoldsOther b blocks = (c : List ℕ) × (block_at (block_name b) blocks ≡ Some c) × (c ≢ b)
 
--- why a spelling is no block
-abbrev pub CheckRefused : List ℕ → BlockError → Type 0
-CheckRefused b (Encode e) = ⊥
-CheckRefused b (Decode e) = IsOfBytes e × ((t : Tree) → IsSpelling b t → default_steps < any_need t)
-CheckRefused b Collision = ⊥
-CheckRefused b OutOfMemory = ⊤
+-- ---- putting
 
-abbrev pub Checks : List ℕ → Result (Unit {0}) BlockError → Type 0
-Checks b result = MatchResult result (λ _. HasBlock b) (CheckRefused b)
-
--- why a block is not stored
-abbrev pub StoreRefused : List ℕ → Held → BlockError → Type 0
-StoreRefused b old (Encode e) = ⊥
-StoreRefused b old (Decode e) = ⊥
-StoreRefused b old Collision = (c : List ℕ) × (block_at (block_name b) old ≡ Some c) × (c ≢ b)
-StoreRefused b old OutOfMemory = ⊤
-
-abbrev pub Stores : List ℕ → Held → Result CidParts BlockError → Held → Type 0
-Stores b old result new = MatchResult result
-    (λ name. (name ≡ block_name b) × HoldsAlso old name b new)
-    (λ e. (new ≡ old) × StoreRefused b old e)
-
--- why a spelling is not kept
-abbrev pub KeepRefused : List ℕ → Held → BlockError → Type 0
-KeepRefused b old (Encode e) = ⊥
-KeepRefused b old (Decode e) = IsOfBytes e
-    × ((t : Tree) → IsSpelling b t → default_steps < any_need t)
-KeepRefused b old Collision = (c : List ℕ) × (block_at (block_name b) old ≡ Some c) × (c ≢ b)
-KeepRefused b old OutOfMemory = ⊤
-
--- A spelling is kept under its name, and is a block then. A refusal changes nothing.
-abbrev pub KeepsBlock : List ℕ → Held → Result CidParts BlockError → Held → Type 0
-KeepsBlock b old result new = MatchResult result
-    (λ name. HasBlock b × (name ≡ block_name b) × HoldsAlso old name b new)
-    (λ e. (new ≡ old) × KeepRefused b old e)
+-- under the name of the bytes stand these, and under each other name what stood there
+abbrev pub HoldsAlso : Held → CidParts → List ℕ → Held → Type 0
+HoldsAlso old name b new = (name ≡ block_name b)
+    × ((q : CidParts) → block_at q new ≡ cond (is_at (cid_cmp name) q) (Some b) (block_at q old))
 
 -- why a value is not kept: it has no tree, or its tree no spelling; its spelling's tree needs more
 -- than 256 steps; or other bytes are held under its name
 abbrev pub PutRefused : Option Tree → Held → BlockError → Type 0
 PutRefused tree old (Encode e) = IsOfValue e × IfSome tree (λ t. ¬ IsSpellable t)
-PutRefused tree old (Decode e) = IsOfBytes e × IsSomeAnd tree (λ t. default_steps < any_need t)
-PutRefused tree old Collision = IsSomeAnd tree (λ t. (c : List ℕ) × (block_at (block_name (spelling t)) old ≡ Some c) × (c ≢ spelling t))
+PutRefused tree old (Decode e) = IsSomeAnd tree (ExceedsSteps e)
+PutRefused tree old Collision = IsSomeAnd tree (λ t. HoldsOther (spelling t) old)
 PutRefused tree old OutOfMemory = ⊤
 
 -- The spelling of the value's tree is kept under its name. A refusal changes nothing.
 abbrev pub Puts : Option Tree → Held → Result CidParts BlockError → Held → Type 0
 Puts tree old result new = MatchResult result
-    (λ name. IsSomeAnd tree (λ t. IsTree t × IsSpellable t × (any_need t ≤ default_steps) × (name ≡ block_name (spelling t)) × HoldsAlso old name (spelling t) new))
+    (λ name. IsSomeAnd tree (λ t. IsBlock (spelling t) t × HoldsAlso old name (spelling t) new))
     (λ e. (new ≡ old) × PutRefused tree old e)
+
+-- ---- getting
 
 -- the bytes are held under the name, by which their SHA-256 is its digest
 abbrev pub IsHeld : CidParts → List ℕ → Held → Type 0
@@ -142,29 +118,6 @@ abbrev pub Gets : {T V : Type 0} → (T → V) → Shape Tree V → CidParts →
 Gets show shape name blocks result = MatchResult result (GetsSome show shape name blocks) (GetRefused shape name blocks)
 
 -- ---- links
-
--- x is one of the list
-abbrev pub Among : {X : Type 0} → X → List X → Type 0
-Among x [] = ⊥
-Among x (y ∷ ys) = (x ≡ y) ⊎ Among x ys
-
--- the map has no entry at the name
-abbrev pub IsUnheld : {X : Type 0} → BTreeMap CidParts X → CidParts → Type 0
-IsUnheld blocks name = get cid_cmp blocks name ≡ None
-
--- The link is put into the set where it names no entry of the map.
-abbrev pub AddsOne : {X E : Type 0} → BTreeMap CidParts X → CidParts → BTreeSet CidParts
-    → Result (Unit {0}) E → BTreeSet CidParts → Type 0
-AddsOne blocks link old result new = OnOk result (AreCidParts link × ((q : CidParts) → Among q new.keys ↔ (Among q old.keys ⊎ ((q ≡ link) × IsUnheld blocks q))))
-
--- The links that name no entry of the map are put into the set.
-abbrev pub AddsMissing : {X E : Type 0} → BTreeMap CidParts X → List CidParts → BTreeSet CidParts
-    → Result (Unit {0}) E → BTreeSet CidParts → Type 0
-AddsMissing blocks links old result new = OnOk result (AllByRecursion AreCidParts links × ((q : CidParts) → Among q new.keys ↔ (Among q old.keys ⊎ (Among q links × IsUnheld blocks q))))
-
--- The CIDs of a set are listed, each once, in their order.
-abbrev pub ListsSet : {E : Type 0} → List CidParts → Result (Vec CidParts Global) E → Type 0
-ListsSet keys result = IfOk result (λ v. IsStrictlySortedBy cid_cmp v.items × (v.items ≡ keys))
 
 -- the binary form is that of a link in a held block
 abbrev pub IsLinked : List ℕ → Held → Type 0

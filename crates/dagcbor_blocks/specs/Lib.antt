@@ -2,3 +2,4 @@ pub mod Names
 pub mod Errors
 pub mod Sound
 pub mod Blocks
+pub mod Steps

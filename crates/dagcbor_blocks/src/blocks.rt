@@ -1,9 +1,9 @@
 //! Keeping blocks, reading them, and finding links that lead nowhere.
 
 ghost use Rattle.std.specs.Prelude.{◌≡◌, []};
-ghost use Rattle.dagcbor_blocks.specs.Blocks.{held_blocks, HasTree, HasBlock, Checks, Stores};
-ghost use Rattle.dagcbor_blocks.specs.Blocks.{KeepsBlock, Puts, Gets, AddsOne, AddsMissing};
-ghost use Rattle.dagcbor_blocks.specs.Blocks.{ListsSet, ListsMissing};
+ghost use Rattle.dagcbor_blocks.specs.Blocks.{held_blocks, Puts, Gets, ListsMissing};
+ghost use Rattle.dagcbor_blocks.specs.Steps.{HasTree, HasBlock, ChecksDepth, Stores};
+ghost use Rattle.dagcbor_blocks.specs.Steps.{AddsOne, AddsMissing, ListsSet};
 
 use crate::error::BlockError;
 use crate::name::name_of_bytes;
@@ -12,10 +12,10 @@ use serde_ipld_dagcbor::{Cid, Deserialize, Serialize, from_slice, laws, links_fr
 use std::alloc::{AllocError, Global};
 use std::collections::{BTreeMap, BTreeSet};
 
-/// Whether the links of a spelling are read.
-fn check(alloc: Global, bytes: &[u8]) -> Result<(), BlockError>
+/// Whether a spelling is read within 256 steps: its links are.
+fn check_depth(alloc: Global, bytes: &[u8]) -> Result<(), BlockError>
     requires { HasTree bytes.now }
-    ensures { Checks bytes.now result }
+    ensures { ChecksDepth bytes.now result }
 {
     laws::spelling_unique();
     match links_from_slice(alloc, bytes) {
@@ -49,20 +49,12 @@ impl Blocks {
         ensures { Puts (T.tree value.now) (held_blocks self.old) result (held_blocks self.new) }
     {
         laws::spelling_unique();
-        match to_vec(self.alloc, value) {
-            Ok(bytes) => self.keep(bytes),
-            Err(error) => Err(BlockError::of_encoding(error)),
-        }
-    }
-
-    fn keep(&mut self, bytes: Vec<u8>) -> Result<Cid, BlockError>
-        requires { HasTree bytes.items }
-        ensures { KeepsBlock bytes.items (held_blocks self.old) result (held_blocks self.new) }
-    {
-        match check(self.alloc, &bytes) {
-            Ok(()) => self.store(bytes),
-            Err(error) => Err(error),
-        }
+        let bytes = match to_vec(self.alloc, value) {
+            Ok(bytes) => bytes,
+            Err(error) => return Err(BlockError::of_encoding(error)),
+        };
+        check_depth(self.alloc, &bytes)?;
+        self.store(bytes)
     }
 
     fn store(&mut self, bytes: Vec<u8>) -> Result<Cid, BlockError>

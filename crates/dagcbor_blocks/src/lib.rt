@@ -15,6 +15,7 @@
 
 mod blocks;
 mod error;
+pub mod laws;
 mod name;
 mod store;
 

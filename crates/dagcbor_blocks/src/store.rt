@@ -12,5 +12,6 @@ use std::collections::BTreeMap;
 pub struct Blocks {
     pub(crate) alloc: Global,
     pub(crate) blocks: BTreeMap<Cid, Vec<u8>>,
+    // Each is a spelling within 256 steps, under its name.
     ghost sound: { ∥ AllByRecursion IsSound blocks.entries ∥₁ },
 }

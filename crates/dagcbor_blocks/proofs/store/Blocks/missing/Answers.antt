@@ -1,7 +1,7 @@
 use Rattle.std.proofs.Common.{subst}
 use Rattle.serde_ipld_dagcbor.specs.Slices.{AreFirstLinks, LinksRefused}
 use Rattle.serde_ipld_dagcbor.specs.Walks.{forms}
-use Rattle.dagcbor_blocks.proofs.Laws.{on_ok}
+use Rattle.dagcbor_blocks.proofs.Unique.{on_ok}
 use Rattle.dagcbor_blocks.proofs.Missing.{AddedSoFar}
 use Rattle.dagcbor_blocks.proofs.Listing.{next_block_refused, so_far_next, all_listed}
 use Rattle.dagcbor_blocks.proofs.store.Blocks.missing.Goals as goal

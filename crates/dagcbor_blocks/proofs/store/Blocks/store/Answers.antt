@@ -9,7 +9,7 @@ pub returns-then-eq : goal.returns-then-eq
 returns-then-eq c =
     let found = block_found c.name_of_bytes-name.result c.args.self.now.blocks.entries c.in-Some.other.now (sym c.in-Some.ensures.value) in
     let same : c.in-Some.other.now.items ≡ c.args.bytes.items = search rules in
-    (c.name_of_bytes-name.ensures ∙ ap block_name c.deref.ensures.value, held_already c.name_of_bytes-name.result _ c.args.bytes.items (found ∙ ap Some same))
+    held_already c.name_of_bytes-name.result _ c.args.bytes.items (c.name_of_bytes-name.ensures ∙ ap block_name c.deref.ensures.value) (found ∙ ap Some same)
 
 pub returns-in-Some : goal.returns-in-Some
 returns-in-Some c =
@@ -24,7 +24,4 @@ invariant_of-self c = record {
 }
 
 pub returns : goal.returns
-returns c = (
-  c.name_of_bytes-name.ensures ∙ ap block_name c.deref.ensures.value,
-  now_held c.insert.result c.args.self.now.blocks c.insert.new.self c.name_of_bytes-name.result c.args.bytes c.if-is_err.ensures.value c.insert.ensures.updates,
-)
+returns c = now_held c.insert.result c.args.self.now.blocks c.insert.new.self c.name_of_bytes-name.result c.args.bytes (c.name_of_bytes-name.ensures ∙ ap block_name c.deref.ensures.value) c.if-is_err.ensures.value c.insert.ensures.updates

@@ -1,5 +1,5 @@
 use Rattle.dagcbor_blocks.proofs.Keeping.{check_holds, not_checked}
-use Rattle.dagcbor_blocks.proofs.blocks.check.Goals as goal
+use Rattle.dagcbor_blocks.proofs.blocks.check_depth.Goals as goal
 
 pub returns-in-Ok : goal.returns-in-Ok
 returns-in-Ok c = check_holds c.spelling_unique.ensures c.args.bytes.now _ c.requires c.in-Ok.ensures

@@ -1,6 +1,7 @@
 -- Rows of items, read one by one.
-use Rattle.std.proofs.Common.{◌≡◌, ℕ, ◌+◌, ◌-◌, ◌<◌, ◌≤◌, max, List, [], ◌∷◌, ◌++◌, true, false, ◌||◌, refl, sym, ap, ◌∙◌, subst, arith, append_assoc, append-nil}
-use Rattle.std.specs.Prelude.{Option, None, Some, is_some, option_map, option_and_then, Result, Ok, Err}
+use Rattle.std.proofs.Common.{◌≡◌, ℕ, ◌+◌, ◌-◌, ◌<◌, ◌≤◌, max, List, [], ◌∷◌, ◌++◌, true, false, Bool, ◌||◌, refl, sym, ap, ◌∙◌, subst, arith, append_assoc, append-nil}
+use Rattle.std.specs.Prelude.{Option, None, Some, is_some, option_map, option_and_then, Result, Ok, Err, is_ok, is_err, cond, IfSome, All}
+use Rattle.std.proofs.lemmas.List.Elements.{All-push}
 use Rattle.dagcbor_heads.specs.Head.{head}
 use Rattle.dagcbor_heads.specs.Reading.{Reading, Stays, with_steps}
 use Rattle.dagcbor_heads.specs.Refusals.{Refuses}
@@ -184,6 +185,14 @@ module _ {V : Type 0} (shape : Shape Tree V) where
       → Refuses (HasFront shape now.input) (MayLack shape.memory now.input) borrows Anything now.input e new → Refuses (HasRow (all_of shape) before.left old.input) (MayLack (all_of shape).memory old.input) borrows Anything old.input e new
   item_refused {E} {before} {now_left} {old} {now} borrows new e s some r =
       refusal_carried Anything Anything old.input now.input new e (same_reader s.same) (λ h. first_of some (s.has h)) (λ x. refl) (λ x. x) (λ b l g. tt) r
+
+-- an item that lies where the input has its values joins those that do
+pub lies_pushed : {A X Y : Type 0} (lies : Bool → A → Type 0) {old now : Reading} (r : Result X Y) (xs ys : List A) (o : Option A) (x : A) → Stays old now → o ≡ Some x → IfSome o (lies now.lends) → false ≡ is_err r → ys ≡ cond (is_ok r) (xs ++ x ∷ []) xs
+    → All (lies old.lends) xs → All (lies old.lends) ys
+lies_pushed lies {old} {now} (Ok v) xs ys o x same some l e is h =
+    let last : lies old.lends x = subst (λ b. lies b x) same.lends (subst (λ p. IfSome p (lies now.lends)) some l) in
+    subst (All (lies old.lends)) (sym is) (All-push (lies old.lends) xs x h last)
+lies_pushed lies (Err d) xs ys o x same some l e is h = absurd (cc e)
 
 -- ---- the whole list
 

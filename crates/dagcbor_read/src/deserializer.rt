@@ -1,7 +1,7 @@
 //! The reader's state between calls.
 
 ghost use Rattle.std.specs.Prelude.{◌≡◌, [], false, true, MatchResult, Some, IfErr, ◌+◌, ◌≤◌, ◌^◌};
-ghost use Rattle.std.specs.Prelude.{IfOk, codes, pos, negsuc, ◌≤ℤ◌, ◌↔◌, option_map};
+ghost use Rattle.std.specs.Prelude.{IfOk, IfSome, codes, pos, negsuc, ◌≤ℤ◌, ◌↔◌, option_map};
 ghost use Rattle.dagcbor_heads.specs.Reading.{fresh_reading, default_steps};
 ghost use Rattle.dagcbor_heads.specs.Inputs.{not_lending};
 ghost use Rattle.dagcbor_heads.specs.declared.error.DecodeError.TheVariants.{Failed};
@@ -28,8 +28,8 @@ use crate::access::enum_accessor::{EnumAccessor, spend_form};
 use crate::deserialize::Deserialize;
 use crate::stream::StreamDeserializer;
 use dagcbor_heads::{
-    DecodeError, Input, Name, Read, ReadResult, SliceReader, is_at_end, peek_one, pull_head_argument,
-    pull_one, spend_step,
+    DecodeError, Input, Name, Read, ReadResult, SliceReader, is_at_end, peek_one,
+    pull_head_argument, pull_one, spend_step,
 };
 use dagcbor_items::{
     gather_links, pull_bool, pull_char, pull_i128, pull_link, pull_null, pull_owned_bytes,
@@ -452,7 +452,8 @@ impl<'de, R: Read> Deserializer<'de, R> {
 
     /// Reads a value as its type does, and remembers a refusal of the type's own.
     pub(crate) fn read_part<T: Deserialize<'de>>(&mut self, alloc: Global) -> ReadResult<T, R>
-        ensures { Over R.reading (Call (ReadsPart T.meaning T.shape)) self.old result self.new }
+        ensures part { Over R.reading (Call (ReadsPart T.meaning T.shape)) self.old result self.new }
+        ensures lies { IfOk result (T.lies (progress R.reading self.old).input.lends) }
     {
         if self.failed {
             return Err(DecodeError::Failed);
@@ -472,7 +473,8 @@ impl<'de, R: Read> Deserializer<'de, R> {
         alloc: Global,
         _name: &str,
     ) -> ReadResult<T, R>
-        ensures { Over R.reading (Call (ReadsPart T.meaning T.shape)) self.old result self.new }
+        ensures part { Over R.reading (Call (ReadsPart T.meaning T.shape)) self.old result self.new }
+        ensures lies { IfOk result (T.lies (progress R.reading self.old).input.lends) }
     {
         self.read_part(alloc)
     }
@@ -482,7 +484,8 @@ impl<'de, R: Read> Deserializer<'de, R> {
         &mut self,
         alloc: Global,
     ) -> ReadResult<Option<T>, R>
-        ensures { Over R.reading (Call (ReadsOption T.meaning T.shape)) self.old result self.new }
+        ensures option { Over R.reading (Call (ReadsOption T.meaning T.shape)) self.old result self.new }
+        ensures lies { IfOk result (λ o. IfSome o (T.lies (progress R.reading self.old).input.lends)) }
     {
         if self.enter_option()? {
             return Ok(None);

@@ -100,6 +100,7 @@ impl<'de> Accessor<'de> {
         requires { (accessor_state self.old).is_map ≡ false }
         ensures after { accessor_state self.new ≡ after_element result (accessor_state self.old) }
         ensures element { Over R.reading (Call (ReadsElement T.meaning T.shape (accessor_state self.old).left)) de.old result de.new }
+        ensures lies { IfOk result (λ o. IfSome o (T.lies (progress R.reading de.old).input.lends)) }
     {
         de.check()?;
         if self.left == 0 {
@@ -143,6 +144,7 @@ impl<'de> Accessor<'de> {
         requires { (accessor_state self.old).owes_value ≡ true }
         ensures after { accessor_state self.new ≡ after_value result (accessor_state self.old) }
         ensures value { Over R.reading (Call (ReadsPart T.meaning T.shape)) de.old result de.new }
+        ensures lies { IfOk result (T.lies (progress R.reading de.old).input.lends) }
     {
         let value = de.read_part(alloc)?;
         self.owes_value = false;

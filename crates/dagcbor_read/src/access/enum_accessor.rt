@@ -106,7 +106,8 @@ impl EnumAccessor {
         de: &mut Deserializer<'de, R>,
     ) -> ReadResult<T, R>
         requires { AreOut (enum_state self).steps (progress R.reading de.old) }
-        ensures { Over R.reading (Call (ReadsHeld T.meaning T.shape (enum_state self))) de.old result de.new }
+        ensures part { Over R.reading (Call (ReadsHeld T.meaning T.shape (enum_state self))) de.old result de.new }
+        ensures lies { IfOk result (T.lies (progress R.reading de.old).input.lends) }
     {
         self.enter_map(de)?;
         let part = de.read_part(alloc)?;

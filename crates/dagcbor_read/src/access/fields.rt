@@ -1,7 +1,7 @@
 //! What the entries of a map make: the places of a struct, or a map.
 
 ghost use Rattle.std.specs.Prelude.{◌≡◌, ◌+◌, ◌≤◌, ℕ, List, [], Bool, Option, option_map, true};
-ghost use Rattle.std.specs.Prelude.{false, codes, IfErr};
+ghost use Rattle.std.specs.Prelude.{false, codes, IfOk, IfErr, IfSome};
 ghost use Rattle.ipld_tree.specs.Tree.{Tree, any_need};
 ghost use Rattle.dagcbor_items.specs.Shapes.{ignored_item};
 ghost use Rattle.dagcbor_read.specs.Calls.{progress, StaysFailed, Over};
@@ -105,6 +105,7 @@ pub fn read_into<'de, T: Deserialize<'de>, R: Read>(
     ensures value { Over R.reading (ReadsValue (λ _. option_map T.meaning place.new) (slot_of T.shape)) de.old result de.new }
     ensures kept { IfErr result (λ _. place.new ≡ place.old) }
     ensures failed { Over R.reading StaysFailed de.old result de.new }
+    ensures lies { IfOk result (λ _. IfSome place.new (T.lies (progress R.reading de.old).input.lends)) }
 {
     let value = T::deserialize(alloc, de)?;
     *place = Some(value);

@@ -1,7 +1,7 @@
 //! What the items of a list make: a vector, or the parts of a tuple.
 
 ghost use Rattle.std.specs.Prelude.{◌≡◌, ◌+◌, ◌≤◌, ℕ, Bool, List, Option, map, true, false, ◌||◌};
-ghost use Rattle.std.specs.Prelude.{⊤, MatchResult};
+ghost use Rattle.std.specs.Prelude.{⊤, MatchResult, IfOk, All};
 ghost use Rattle.dagcbor_heads.specs.Refusals.{Refuses};
 ghost use Rattle.ipld_tree.specs.Tree.{Items};
 ghost use Rattle.dagcbor_read.specs.Calls.{progress, StaysFailed, Over};
@@ -24,9 +24,11 @@ pub(crate) trait Row<'de>: Sized + Drop {
 
     ghost meaning: { Self → View };
 
-    /// What the items show. None where they are not accepted.
     /// What the items show.
     ghost shape: { Shape Items View };
+
+    /// Where the parts lie, of an input that lends or of one that does not.
+    ghost lies: { Bool → Self → Type 0 };
 
     /// Reads from the first item that is left on.
     fn read_row<R: Read>(
@@ -36,7 +38,8 @@ pub(crate) trait Row<'de>: Sized + Drop {
     ) -> ReadResult<Self, R>
         requires list { (accessor_state items.old).is_map ≡ false }
         requires sound { (progress R.reading de.old).failed ≡ false }
-        ensures { ReadsRow Self.meaning Self.shape (accessor_state items.old) (progress R.reading de.old) result (accessor_state items.new) (progress R.reading de.new) };
+        ensures row { ReadsRow Self.meaning Self.shape (accessor_state items.old) (progress R.reading de.old) result (accessor_state items.new) (progress R.reading de.new) }
+        ensures lies { IfOk result (Self.lies (progress R.reading de.old).input.lends) };
 }
 
 impl<'de, T: Deserialize<'de>> Row<'de> for Vec<T> {
@@ -45,6 +48,8 @@ impl<'de, T: Deserialize<'de>> Row<'de> for Vec<T> {
     ghost meaning = { λ v. map T.meaning v.items };
 
     ghost shape = { all_of T.shape };
+
+    ghost lies = { λ lends v. All (T.lies lends) v.items };
 
     fn read_row<R: Read>(
         alloc: Global,
@@ -68,6 +73,8 @@ impl<'de> Row<'de> for () {
 
     ghost shape = { no_more };
 
+    ghost lies = { λ lends u. ⊤ };
+
     fn read_row<R: Read>(
         _alloc: Global,
         _items: &mut Accessor<'de>,
@@ -83,6 +90,8 @@ impl<'de, T: Deserialize<'de>, L: Row<'de>> Row<'de> for (T, L) {
     ghost meaning = { λ p. (T.meaning p.0, L.meaning p.1) };
 
     ghost shape = { first_then T.shape L.shape };
+
+    ghost lies = { λ lends p. T.lies lends p.0 × L.lies lends p.1 };
 
     fn read_row<R: Read>(
         alloc: Global,
@@ -107,7 +116,8 @@ pub(crate) fn read_rest<'de, L: Row<'de>, R: Read>(
     requires in_turn { (accessor_state items).owes_value ≡ false }
     requires sound { (progress R.reading de.old).failed ≡ false }
     requires out { (progress R.reading de.old).input.steps + (accessor_state items).steps ≤ (progress R.reading de.old).input.budget }
-    ensures { Over R.reading (ReadsRest L.meaning L.shape (accessor_state items.entry)) de.old result de.new }
+    ensures rest { Over R.reading (ReadsRest L.meaning L.shape (accessor_state items.entry)) de.old result de.new }
+    ensures lies { IfOk result (L.lies (progress R.reading de.old).input.lends) }
 {
     let mut items = items;
     let row = L::read_row(alloc, &mut items, de)?;
@@ -123,6 +133,7 @@ pub(crate) fn read_tuple<'de, L: Row<'de>, R: Read>(
 ) -> ReadResult<L, R>
     ensures value { Over R.reading (ReadsValue L.meaning (list_of L.shape)) de.old result de.new }
     ensures failed { Over R.reading StaysFailed de.old result de.new }
+    ensures lies { IfOk result (L.lies (progress R.reading de.old).input.lends) }
 {
     let items = de.deserialize_tuple(len)?;
     read_rest(alloc, items, de)

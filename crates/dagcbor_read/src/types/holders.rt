@@ -1,6 +1,6 @@
 //! Types that hold one other.
 
-ghost use Rattle.std.specs.Prelude.{Option, option_map, box_value};
+ghost use Rattle.std.specs.Prelude.{Option, option_map, box_value, IfSome};
 ghost use Rattle.dagcbor_items.specs.Shapes.{option_of, boxed_of};
 
 use crate::deserialize::{Deserialize, DeserializeOwned};
@@ -18,6 +18,8 @@ impl<T: Shown> Shown for Option<T> {
 }
 
 impl<'de, T: Deserialize<'de>> Deserialize<'de> for Option<T> {
+    ghost lies = { λ lends o. IfSome o (T.lies lends) };
+
     fn deserialize<R: Read>(alloc: Global, de: &mut Deserializer<'de, R>) -> ReadResult<Self, R> {
         de.deserialize_option(alloc)
     }
@@ -36,6 +38,8 @@ impl<T: Shown> Shown for Box<T> {
 }
 
 impl<'de, T: Deserialize<'de>> Deserialize<'de> for Box<T> {
+    ghost lies = { λ lends b. T.lies lends (box_value b) };
+
     fn deserialize<R: Read>(alloc: Global, de: &mut Deserializer<'de, R>) -> ReadResult<Self, R> {
         let value = T::deserialize(alloc, de)?;
         match Box::new(alloc, value) {

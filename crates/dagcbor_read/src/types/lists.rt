@@ -1,6 +1,6 @@
 //! Vectors, and tuples of one to four.
 
-ghost use Rattle.std.specs.Prelude.{List, map, false, ◌||◌, refl};
+ghost use Rattle.std.specs.Prelude.{List, map, false, ◌||◌, refl, All, Bool};
 ghost use Rattle.dagcbor_read.specs.Collections.{list_of, all_of, no_more, first_then, neither};
 
 use crate::access::row::{read_rest, read_tuple};
@@ -19,6 +19,8 @@ impl<T: Shown> Shown for Vec<T> {
 }
 
 impl<'de, T: Deserialize<'de>> Deserialize<'de> for Vec<T> {
+    ghost lies = { λ lends v. All (T.lies lends) v.items };
+
     fn deserialize<R: Read>(alloc: Global, de: &mut Deserializer<'de, R>) -> ReadResult<Self, R> {
         let items = de.deserialize_seq()?;
         read_rest(alloc, items, de)
@@ -38,6 +40,8 @@ impl<A: Shown> Shown for (A,) {
 }
 
 impl<'de, A: Deserialize<'de>> Deserialize<'de> for (A,) {
+    ghost lies = { λ lends p. A.lies lends p.0 };
+
     fn deserialize<R: Read>(alloc: Global, de: &mut Deserializer<'de, R>) -> ReadResult<Self, R> {
         let (first, ()) = read_tuple(alloc, 1, de)?;
         Ok((first,))
@@ -57,6 +61,8 @@ impl<A: Shown, B: Shown> Shown for (A, B) {
 }
 
 impl<'de, A: Deserialize<'de>, B: Deserialize<'de>> Deserialize<'de> for (A, B) {
+    ghost lies = { λ lends p. A.lies lends p.0 × B.lies lends p.1 };
+
     fn deserialize<R: Read>(alloc: Global, de: &mut Deserializer<'de, R>) -> ReadResult<Self, R> {
         let (first, (second, ())) = read_tuple(alloc, 2, de)?;
         Ok((first, second))
@@ -77,6 +83,8 @@ impl<A: Shown, B: Shown, C: Shown> Shown for (A, B, C) {
 
 impl<'de, A: Deserialize<'de>, B: Deserialize<'de>, C: Deserialize<'de>> Deserialize<'de>
     for (A, B, C) {
+    ghost lies = { λ lends p. A.lies lends p.0 × B.lies lends p.1 × C.lies lends p.2 };
+
     fn deserialize<R: Read>(alloc: Global, de: &mut Deserializer<'de, R>) -> ReadResult<Self, R> {
         let (first, (second, (third, ()))) = read_tuple(alloc, 3, de)?;
         Ok((first, second, third))
@@ -107,6 +115,8 @@ impl<
     C: Deserialize<'de>,
     D: Deserialize<'de>,
 > Deserialize<'de> for (A, B, C, D) {
+    ghost lies = { λ lends p. A.lies lends p.0 × B.lies lends p.1 × C.lies lends p.2 × D.lies lends p.3 };
+
     fn deserialize<R: Read>(alloc: Global, de: &mut Deserializer<'de, R>) -> ReadResult<Self, R> {
         let (first, (second, (third, (fourth, ())))) = read_tuple(alloc, 4, de)?;
         Ok((first, second, third, fourth))

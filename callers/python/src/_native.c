@@ -8,16 +8,16 @@
 #define PY_SSIZE_T_CLEAN
 #include <Python.h>
 
+#define WRITER_REALLOC PyMem_Realloc
+#define WRITER_FREE PyMem_Free
 #include "cid_text.h"
 #include "dagcbor.h"
-#include <stdlib.h>
+#include "writer.h"
 
 enum {
-    MOST_LEVELS = 128,     /* of lists and maps in each other, in any block */
     FEW_TOKENS = 128,      /* have room on the stack */
     MANY_TOKENS = 1 << 20, /* from here on they are counted before room is taken */
-    FEW_LINK_BYTES = 1024,
-    FIRST_ROOM = 2048
+    FEW_LINK_BYTES = 1024
 };
 
 static const char *const KINDS[] = {"null",  "bool", "integer", "string",
@@ -257,46 +257,6 @@ static PyObject *loads_bytes(State *state, PyObject *block) {
 
 /* Tokens out of objects */
 
-/* Bytes one behind the other, the first of them on the stack. */
-typedef struct {
-    char *start;
-    size_t used, size;
-    _Alignas(max_align_t) char first[FIRST_ROOM];
-} Room;
-
-static void start_room(Room *room) {
-    room->start = room->first;
-    room->used = 0;
-    room->size = sizeof room->first;
-}
-
-static void free_room(Room *room) {
-    if (room->start != room->first) PyMem_Free(room->start);
-}
-
-/* Takes so many bytes more; NULL with an error raised where there is no memory. What was taken
- * before may move. */
-static void *take(Room *room, size_t count) {
-    if (count > room->size - room->used) {
-        bool is_first = room->start == room->first;
-        if (count > PY_SSIZE_T_MAX / 2 - room->used) return no_memory();
-        size_t size = 2 * (room->used + count);
-        char *start = PyMem_Realloc(is_first ? NULL : room->start, size);
-        if (!start) return no_memory();
-        if (is_first) memcpy(start, room->first, room->used);
-        room->start = start;
-        room->size = size;
-    }
-    room->used += count;
-    return room->start + room->used - count;
-}
-
-typedef struct {
-    PyObject *key, *value;
-    const char *text;
-    size_t length;
-} Entry;
-
 /* A step to a part: the key, or none and an index. */
 typedef struct {
     PyObject *key;
@@ -305,8 +265,8 @@ typedef struct {
 
 typedef struct {
     State *state;
-    Room tokens, payloads, entries;
-    size_t size; /* of the block */
+    Tape tape;
+    Room entries; /* of the maps that are being written */
     Step path[MOST_LEVELS];
     int level;
 } Writer;
@@ -331,31 +291,14 @@ static int refuse(Writer *writer, const char *kind, const char *said, PyObject *
     return -1;
 }
 
-static size_t head_size(uint64_t number) {
-    return number < 24            ? 1
-           : number < 1 << 8      ? 2
-           : number < 1 << 16     ? 3
-           : number <= UINT32_MAX ? 5
-                                  : 9;
-}
+static int raise_unless(bool has_memory) { return has_memory ? 0 : (PyErr_NoMemory(), -1); }
 
 static int add_token(Writer *writer, uint64_t kind, uint64_t number) {
-    dagcbor_token *token = take(&writer->tokens, sizeof *token);
-    if (!token) return -1;
-    *token = (dagcbor_token){kind, number, writer->payloads.used};
-    writer->size += kind == DAGCBOR_LINK   ? 3 + head_size(1 + number)
-                    : kind == DAGCBOR_BOOL ? 1
-                                           : head_size(number);
-    return 0;
+    return raise_unless(tape_add(&writer->tape, kind, number));
 }
 
 static int add_payload(Writer *writer, uint64_t kind, const void *bytes, size_t length) {
-    if (add_token(writer, kind, length) < 0) return -1;
-    void *room = take(&writer->payloads, length);
-    if (!room) return -1;
-    memcpy(room, bytes, length);
-    writer->size += length;
-    return 0;
+    return raise_unless(tape_put(&writer->tape, kind, bytes, length));
 }
 
 static int add_bytes(Writer *writer, uint64_t kind, PyObject *bytes) {
@@ -442,27 +385,13 @@ static int hold_entries(Writer *writer, PyObject *map, Py_ssize_t *held) {
         size_t length;
         if (!PyUnicode_Check(key)) return refuse(writer, "Mismatch", "a key that is no str", key);
         const char *text = utf8_of(writer, key, &length);
-        Entry *entry = text ? take(&writer->entries, sizeof *entry) : NULL;
-        if (!entry) return -1;
-        *entry = (Entry){Py_NewRef(key), Py_NewRef(value), text, length};
+        if (!text) return -1;
+        Entry *entry = room_take(&writer->entries, sizeof *entry);
+        if (!entry) return raise_unless(false);
+        *entry = (Entry){text, length, 0, Py_NewRef(key), Py_NewRef(value)};
         ++*held;
     }
     return 0;
-}
-
-/* The order of keys: the shorter first, then by their bytes. */
-static int compare_entries(const void *one, const void *other) {
-    const Entry *a = one, *b = other;
-    if (a->length != b->length) return a->length < b->length ? -1 : 1;
-    return memcmp(a->text, b->text, a->length);
-}
-
-static void sort_entries(Entry *entries, size_t count) {
-    for (size_t i = 1; i < count; i++) {
-        if (compare_entries(&entries[i - 1], &entries[i]) <= 0) continue;
-        qsort(entries, count, sizeof *entries, compare_entries);
-        return;
-    }
 }
 
 static int add_entries(Writer *writer, size_t start, Py_ssize_t count) {
@@ -485,8 +414,8 @@ static int add_map(Writer *writer, PyObject *map) {
     if (done == 0) done = add_entries(writer, start, held);
     for (Py_ssize_t i = 0; i < held; i++) {
         Entry entry = ((Entry *)(writer->entries.start + start))[i];
-        Py_DECREF(entry.key);
-        Py_DECREF(entry.value);
+        Py_DECREF((PyObject *)entry.key);
+        Py_DECREF((PyObject *)entry.value);
     }
     writer->entries.used = start;
     return done;
@@ -510,14 +439,11 @@ static int add_value(Writer *writer, PyObject *value) {
 
 /* The block of the tokens. */
 static PyObject *spell(Writer *writer) {
-    PyObject *block = PyBytes_FromStringAndSize(NULL, (Py_ssize_t)writer->size);
-    const dagcbor_token *tape = (const dagcbor_token *)writer->tokens.start;
-    size_t needed;
+    size_t size = writer->tape.size, needed;
+    PyObject *block = PyBytes_FromStringAndSize(NULL, (Py_ssize_t)size);
     if (!block) return NULL;
-    int32_t code = dagcbor_spell((const uint8_t *)writer->payloads.start, writer->payloads.used,
-                                 tape, writer->tokens.used / sizeof *tape,
-                                 (uint8_t *)PyBytes_AsString(block), writer->size, &needed);
-    if (code >= 0 && needed == writer->size) return block;
+    int32_t code = tape_spell(&writer->tape, (uint8_t *)PyBytes_AsString(block), &needed);
+    if (code >= 0 && needed == size) return block;
     Py_DECREF(block);
     if (code < 0) return refuse_code(writer->state, code, Py_None);
     return PyErr_SetString(PyExc_SystemError, "the size of a block was foretold wrong"), NULL;
@@ -526,15 +452,12 @@ static PyObject *spell(Writer *writer) {
 static PyObject *dumps(PyObject *module, PyObject *value) {
     Writer writer;
     writer.state = PyModule_GetState(module);
-    writer.size = 0;
     writer.level = 0;
-    start_room(&writer.tokens);
-    start_room(&writer.payloads);
-    start_room(&writer.entries);
+    tape_start(&writer.tape);
+    room_start(&writer.entries);
     PyObject *block = add_value(&writer, value) < 0 ? NULL : spell(&writer);
-    free_room(&writer.tokens);
-    free_room(&writer.payloads);
-    free_room(&writer.entries);
+    tape_free(&writer.tape);
+    room_free(&writer.entries);
     return block;
 }
 

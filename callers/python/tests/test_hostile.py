@@ -7,6 +7,7 @@ import subprocess
 import sys
 import threading
 import time
+import tracemalloc
 
 import pytest
 from dagcbor import CID, DagCborError, check, dumps, links, loads, name
@@ -167,25 +168,42 @@ def test_a_list_that_a_finalizer_empties():
 
 def test_nothing_is_kept():
     cid = name(b"")
-    value = {"a": [cid, 2**64 - 1, -(2**64), "é", b"x", bytearray(b"y"), None, True], "b": {"c": RECORD}}
+    key = "a key of its own" + str(os.getpid())
+    value = {"a": [cid, 2**64 - 1, -(2**64), "é", b"x", bytearray(b"y"), None, True], key: RECORD}
+    value["many"] = {str(i): "x" * i for i in range(200)}  # of which none fits the first rooms
     bad = [value, {"a": 1.5}]
 
     def round_trip():
         block = dumps(value)
         loads(block), loads(bytearray(block)), links(block), check(block), name(block), CID(str(cid)), CID(bytes(cid))
-        for call, given in (dumps, bad), (loads, block[:-1]), (loads, block + b"\0"), (CID, b"z"), (links, b"\xff"), (check, b""):
+        twice = {OddStr("a"): 1, OddStr("a"): 2}
+        for call, given in (dumps, bad), (dumps, twice), (loads, block[:-1]), (loads, block + b"\0"), (CID, b"z"), (links, b"\xff"), (check, b""):
             with pytest.raises(DagCborError):
                 call(given)
 
+    tracemalloc.start()
     for _ in range(3):
         round_trip()
-    counts = [sys.getrefcount(it) for it in (cid, value, None, CID)]
-    blocks = sys.getallocatedblocks()
-    for _ in range(200):
+    held = [cid, key, value, None, CID, RECORD]
+    counts = [sys.getrefcount(it) for it in held]
+    bytes_held, _ = tracemalloc.get_traced_memory()
+    for _ in range(100):
         round_trip()
-    assert sys.getallocatedblocks() < blocks + 100
-    after = [sys.getrefcount(it) for it in (cid, value, None, CID)]
+    more = tracemalloc.get_traced_memory()[0] - bytes_held
+    tracemalloc.stop()
+    assert more < 20_000
+    after = [sys.getrefcount(it) for it in held]
     assert all(abs(a - b) < 50 for a, b in zip(after, counts))
+
+
+def test_room_of_each_size():
+    for count in range(220):
+        # Each byte of this block is a token.
+        value = [[0] * 9 for _ in range(count // 10)] + [0] * (count % 10)
+        value = [value[:22], value[22:]]
+        assert loads(dumps(value)) == value
+        assert loads(dumps(["x" * count, count])) == ["x" * count, count]
+        assert links(dumps([name(b"")] * count)) == [name(b"")] * count
 
 
 def test_many_and_long():

@@ -56,14 +56,11 @@ static inline size_t cid_from_base32(const char *text, size_t length, uint8_t ou
     return bits < 5 && (held & ((1u << bits) - 1)) == 0 ? count : 0;
 }
 
-/* The bytes that the text tells, base58 or base32; their count, or 0 where it tells none. */
+/* The bytes that the text tells; their count, or 0 where it tells none. */
 static inline size_t cid_from_text(const char *text, size_t length, uint8_t out[CID_MOST]) {
     if (length == 46 && text[0] == 'Q') return cid_from_base58(text, length, out);
-    size_t count = length == 0      ? 0
-                   : text[0] == 'b' ? cid_from_base32(text + 1, length - 1, out)
-                   : text[0] == 'z' ? cid_from_base58(text + 1, length - 1, out)
-                                    : 0;
-    return count && out[0] == 1 ? count : 0; /* with a letter in front it is no CID of version 0 */
+    size_t count = length && text[0] == 'b' ? cid_from_base32(text + 1, length - 1, out) : 0;
+    return count && out[0] == 1 ? count : 0; /* with a letter in front it is none of version 0 */
 }
 
 /* The text of a CID, and its length. */

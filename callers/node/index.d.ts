@@ -1,10 +1,22 @@
-/** DAG-CBOR by a proved library. Whether bytes are a block is its judgement, for `decode` as for `encode`. */
+/**
+ * DAG-CBOR by a proved library. Whether bytes are a block is its judgement, for `decode` as for
+ * `encode`.
+ */
 
 /**
- * The data of a block. An integer beyond 2^53 is a bigint. A map is an object whose keys are all its own, `__proto__`
- * as any other.
+ * The data of a block. An integer beyond 2^53 is a bigint. A map is an object whose keys are all
+ * its own, `__proto__` as any other.
  */
-export type Data = null | boolean | number | bigint | string | Uint8Array | CID | Data[] | { [key: string]: Data };
+export type Data =
+  | null
+  | boolean
+  | number
+  | bigint
+  | string
+  | Uint8Array
+  | CID
+  | Data[]
+  | { [key: string]: Data };
 
 export type Kind = 'null' | 'bool' | 'integer' | 'string' | 'bytes' | 'list' | 'map' | 'link';
 
@@ -34,14 +46,15 @@ export class CID {
   toJSON(): { '/': string };
 }
 
-// Each Uint8Array is one over memory that is not shared; over a SharedArrayBuffer it is a TypeError.
+// Each Uint8Array is over memory that is not shared; over a SharedArrayBuffer it is a TypeError.
 
 /** The data of a block. */
 export function decode(block: Uint8Array): Data;
 
 /**
- * The one block of a value. Keys come in the order of blocks, whatever the object's. A float, undefined, a text with a
- * surrogate alone, and an object that is no Array, Uint8Array, CID or plain object are refused.
+ * The one block of a value. Keys come in the order of blocks, whatever the object's. A float,
+ * undefined, a text with a surrogate alone, and an object that is no Array, Uint8Array, CID or
+ * plain object are refused.
  */
 export function encode(value: Data): Uint8Array;
 

@@ -8,7 +8,10 @@ const REASONS = {
   [-1]: ['Msg', 'no CID'],
   [-3]: ['Eof', 'the bytes end too early'],
   [-4]: ['Mismatch', 'a key that is no text, or another tag than that of a link'],
-  [-5]: ['Unsupported', 'a float or another simple value, a link without a byte string, or a reserved width'],
+  [-5]: [
+    'Unsupported',
+    'a float or another simple value, a link without a byte string, or a reserved width',
+  ],
   [-8]: ['RequireUtf8', 'a text that is not UTF-8'],
   [-10]: ['CastOverflow', 'an integer that is not in -2^64 .. 2^64 - 1'],
   [-12]: ['DepthOverflow', 'lists and maps are in each other too deep'],
@@ -26,12 +29,15 @@ class DagCborError extends Error {
 }
 DagCborError.prototype.name = 'DagCborError';
 
-const refused = (code, said) => new DagCborError(REASONS[code]?.[0], said ?? REASONS[code]?.[1] ?? `refused: ${code}`);
+const refused = (code, said) => {
+  const [kind, reason] = REASONS[code] ?? [undefined, `refused: ${code}`];
+  return new DagCborError(kind, said ?? reason);
+};
 
 const BASE32 = 'abcdefghijklmnopqrstuvwxyz234567';
 const BASE58 = '123456789ABCDEFGHJKLMNPQRSTUVWXYZabcdefghijkmnopqrstuvwxyz';
 
-// The digits of a number of so many bits each, the highest first, with zeros behind the last one's bits.
+// Digits of five bits each, with zeros behind the last byte's bits.
 const toBase32 = (bytes) => {
   let [text, held, bits] = ['', 0, 0];
   for (const byte of bytes) {
@@ -59,17 +65,21 @@ const toBase58 = (bytes) => {
 };
 
 const fromBase58 = (text) => {
-  const number = [...text].reduce((so, digit) => so * 58n + BigInt(BASE58.indexOf(digit)), 0n).toString(16);
-  return Uint8Array.from(Buffer.from(number.length % 2 ? `0${number}` : number, 'hex'));
+  let number = 0n;
+  for (const digit of text) number = number * 58n + BigInt(BASE58.indexOf(digit));
+  const digits = number.toString(16);
+  return Uint8Array.from(Buffer.from(digits.length % 2 ? `0${digits}` : digits, 'hex'));
 };
 
 const toText = (bytes) => (bytes[0] === 0x12 ? toBase58(bytes) : `b${toBase32(bytes)}`);
 
-// What tells another text again than this one is none: so a digit that there is not, or bits left over.
+// What the text of base32 or base58 tells. What another text is told by is nothing: so one with a
+// digit that there is not, or with bits left over.
 const fromText = (text) => {
-  if (text.length > 200) return new Uint8Array();
-  const bytes = text[0] === 'b' ? fromBase32(text.slice(1)) : /^[1-9A-Za-z]+$/.test(text) ? fromBase58(text) : [];
-  return bytes.length && toText(bytes) === text ? bytes : new Uint8Array();
+  const nothing = new Uint8Array();
+  if (!/^[1-9A-Za-z]{1,200}$/.test(text)) return nothing;
+  const bytes = text[0] === 'b' ? fromBase32(text.slice(1)) : fromBase58(text);
+  return toText(bytes) === text ? bytes : nothing;
 };
 
 const MADE = Symbol('made'); // by the library
@@ -79,7 +89,8 @@ class CID {
   #bytes;
 
   static {
-    bytesOf = (value) => (typeof value === 'object' && value !== null && #bytes in value ? value.#bytes : undefined);
+    const isCid = (value) => typeof value === 'object' && value !== null && #bytes in value;
+    bytesOf = (value) => (isCid(value) ? value.#bytes : undefined);
   }
 
   constructor(value, made) {

@@ -1,5 +1,5 @@
 /* The library for Node, by Node-API: values out of the tokens of a block, and tokens out of values.
-   index.js has the classes, and hands three functions to `start`.
+   index.js has the classes, and hands five functions to `start`.
 
    No script runs while the library reads the bytes of a Uint8Array. Memory that another thread may
    write is refused. `decode` copies them first, since making values may run scripts. */
@@ -11,17 +11,22 @@
 
 enum {
     MANY_TOKENS = 1 << 20, /* from here on they are counted before room is taken */
-    FEW_ENTRIES = 16       /* of a map that are defined by one call */
+    FEW_UNITS = 64,        /* of a text, that have room on the stack */
+    MOST_AT_ONCE = 32      /* values that are added to a list or map by one call; an even number */
 };
 
 /* Where a call of Node-API fails, an exception is pending, or `raise` makes one. */
-#define TRY(call) \
-    if ((call) != napi_ok) return raise(env, "a call of Node-API failed")
+#define TRY(call)                                                              \
+    do {                                                                       \
+        if ((call) != napi_ok) return raise(env, "a call of Node-API failed"); \
+    } while (0)
 
 typedef struct {
-    napi_ref refused;  /* (code, what was said) => an error */
-    napi_ref make_cid; /* (bytes) => a CID */
-    napi_ref cid_of;   /* (value) => the bytes of a CID, or undefined */
+    napi_ref refused;     /* (code, what was said) => an error */
+    napi_ref make_cid;    /* (bytes) => a CID */
+    napi_ref cid_of;      /* (value) => the bytes of a CID, or undefined */
+    napi_ref add_items;   /* (list, or undefined for a new one, ..items) => the list */
+    napi_ref add_entries; /* (map, or undefined for a new one, ..keys and values) => the map */
 } State;
 
 static void *raise(napi_env env, const char *said) {
@@ -116,58 +121,51 @@ static napi_value new_cid(napi_env env, const uint8_t *bytes, size_t length) {
 /* Values out of tokens */
 
 typedef struct {
+    napi_env env;
+    const State *state;
     const char *block;
     const dagcbor_token *next;
 } Reader;
 
-static napi_value next_value(napi_env env, Reader *reader);
+static napi_value next_value(Reader *reader);
 
-static napi_value next_list(napi_env env, Reader *reader, size_t count) {
-    napi_value list;
-    napi_handle_scope scope;
-    TRY(napi_create_array_with_length(env, count, &list));
-    for (size_t i = 0; i < count; i++) {
-        TRY(napi_open_handle_scope(env, &scope));
-        napi_value item = next_value(env, reader);
+/* The next values, added to what holds those before them by one call: each call of Node-API takes
+ * its time. */
+static napi_value add_some(Reader *reader, napi_ref add, napi_value into, size_t count) {
+    napi_value given[1 + MOST_AT_ONCE];
+    given[0] = into;
+    for (size_t i = 1; i <= count; i++) {
+        if (!(given[i] = next_value(reader))) return NULL;
+    }
+    return ask(reader->env, add, 1 + count, given);
+}
+
+/* A list of so many values, or a map of so many keys and values. */
+static napi_value next_container(Reader *reader, napi_ref add, uint64_t left) {
+    napi_env env = reader->env;
+    napi_value into;
+    napi_escapable_handle_scope scope;
+    TRY(napi_get_undefined(env, &into));
+    do {
+        size_t count = left < MOST_AT_ONCE ? (size_t)left : MOST_AT_ONCE;
+        TRY(napi_open_escapable_handle_scope(env, &scope));
+        into = add_some(reader, add, into, count);
         napi_status status =
-            item ? napi_set_element(env, list, (uint32_t)i, item) : napi_pending_exception;
-        napi_close_handle_scope(env, scope);
+            into ? napi_escape_handle(env, scope, into, &into) : napi_pending_exception;
+        napi_close_escapable_handle_scope(env, scope);
         TRY(status);
-    }
-    return list;
-}
-
-/* Defines the next entries, as properties of the object's own. No setter is called, and `__proto__`
- * is a key as others. */
-static bool define_entries(napi_env env, Reader *reader, napi_value map, size_t count) {
-    napi_property_descriptor entries[FEW_ENTRIES] = {{0}};
-    for (size_t i = 0; i < count; i++) {
-        entries[i].attributes = napi_default_jsproperty;
-        if (!(entries[i].name = next_value(env, reader))) return false;
-        if (!(entries[i].value = next_value(env, reader))) return false;
-    }
-    return napi_define_properties(env, map, count, entries) == napi_ok;
-}
-
-static napi_value next_map(napi_env env, Reader *reader, size_t count) {
-    napi_value map;
-    napi_handle_scope scope;
-    TRY(napi_create_object(env, &map));
-    for (size_t done = 0; done < count; done += FEW_ENTRIES) {
-        TRY(napi_open_handle_scope(env, &scope));
-        bool is_done = define_entries(env, reader, map,
-                                      count - done < FEW_ENTRIES ? count - done : FEW_ENTRIES);
-        napi_close_handle_scope(env, scope);
-        if (!is_done) return raise(env, "an entry was not defined");
-    }
-    return map;
+        left -= count;
+    } while (left > 0);
+    return into;
 }
 
 /* n, or -1 - n: a number where it is a safe one, and else a BigInt. */
 static napi_value new_integer(napi_env env, uint64_t n, bool is_negative) {
     const uint64_t safe = ((uint64_t)1 << 53) - 1;
     napi_value value;
-    if (n < safe + !is_negative) {
+    if (n <= INT32_MAX) {
+        TRY(napi_create_int32(env, is_negative ? -1 - (int32_t)n : (int32_t)n, &value));
+    } else if (n < safe + !is_negative) {
         TRY(napi_create_int64(env, is_negative ? -1 - (int64_t)n : (int64_t)n, &value));
     } else if (n == UINT64_MAX && is_negative) {
         TRY(napi_create_bigint_words(env, 1, 2, (uint64_t[]){0, 1}, &value));
@@ -177,23 +175,34 @@ static napi_value new_integer(napi_env env, uint64_t n, bool is_negative) {
     return value;
 }
 
+static napi_value new_text(napi_env env, const char *text, size_t length) {
+    napi_value value;
+    TRY(napi_create_string_utf8(env, text, length, &value));
+    return value;
+}
+
+/* null, false or true */
+static napi_value new_simple(napi_env env, const dagcbor_token *token) {
+    napi_value value;
+    if (token->kind == DAGCBOR_NULL) TRY(napi_get_null(env, &value));
+    else TRY(napi_get_boolean(env, token->number == 1, &value));
+    return value;
+}
+
 /* Takes the value's tokens. They are those of a block: no more follow than there are, payloads are
    in it, and no list or map is in 128 others. */
-static napi_value next_value(napi_env env, Reader *reader) {
+static napi_value next_value(Reader *reader) {
     const dagcbor_token token = *reader->next++;
     const char *payload = reader->block + token.place;
-    napi_value value;
     switch (token.kind) {
-    case DAGCBOR_NULL: TRY(napi_get_null(env, &value)); return value;
-    case DAGCBOR_BOOL: TRY(napi_get_boolean(env, token.number == 1, &value)); return value;
-    case DAGCBOR_STRING:
-        TRY(napi_create_string_utf8(env, payload, token.number, &value));
-        return value;
-    case DAGCBOR_BYTES: return copied(env, (const uint8_t *)payload, token.number);
-    case DAGCBOR_LINK: return new_cid(env, (const uint8_t *)payload, token.number);
-    case DAGCBOR_LIST: return next_list(env, reader, token.number);
-    case DAGCBOR_MAP: return next_map(env, reader, token.number);
-    default: return new_integer(env, token.number, token.kind == DAGCBOR_NEGATIVE);
+    case DAGCBOR_INTEGER: return new_integer(reader->env, token.number, false);
+    case DAGCBOR_NEGATIVE: return new_integer(reader->env, token.number, true);
+    case DAGCBOR_STRING: return new_text(reader->env, payload, token.number);
+    case DAGCBOR_BYTES: return copied(reader->env, (const uint8_t *)payload, token.number);
+    case DAGCBOR_LINK: return new_cid(reader->env, (const uint8_t *)payload, token.number);
+    case DAGCBOR_LIST: return next_container(reader, reader->state->add_items, token.number);
+    case DAGCBOR_MAP: return next_container(reader, reader->state->add_entries, 2 * token.number);
+    default: return new_simple(reader->env, &token);
     }
 }
 
@@ -214,14 +223,15 @@ static dagcbor_token *tokens_of(const uint8_t *bytes, size_t length, size_t *cou
 static napi_value decode(napi_env env, napi_callback_info info) {
     size_t length, count;
     int32_t code;
-    const uint8_t *bytes = bytes_of(env, info, &length);
+    State *state = state_of(env);
+    const uint8_t *bytes = state ? bytes_of(env, info, &length) : NULL;
     if (!bytes) return NULL;
     uint8_t *block = malloc(length + 1);
     if (!block) return no_memory(env);
     memcpy(block, bytes, length);
     dagcbor_token *tape = tokens_of(block, length, &count, &code);
-    Reader reader = {(const char *)block, tape};
-    napi_value value = tape       ? next_value(env, &reader)
+    Reader reader = {env, state, (const char *)block, tape};
+    napi_value value = tape       ? next_value(&reader)
                        : code < 0 ? refuse(env, code, NULL)
                                   : no_memory(env);
     free(tape);
@@ -275,16 +285,26 @@ static char *put_utf8(const char16_t *units, size_t count, char *at) {
     return at;
 }
 
+/* The text's UTF-16, in few units' room where it is short, else in memory that the caller frees;
+ * NULL where there is none. */
+static char16_t *units_of(napi_env env, napi_value text, char16_t few[FEW_UNITS], size_t *count) {
+    if (napi_get_value_string_utf16(env, text, few, FEW_UNITS, count) != napi_ok)
+        return raise(env, "no text");
+    if (*count < FEW_UNITS - 1) return few;
+    TRY(napi_get_value_string_utf16(env, text, NULL, 0, count));
+    char16_t *units = malloc((*count + 1) * sizeof *units);
+    if (!units) return no_memory(env);
+    napi_get_value_string_utf16(env, text, units, *count + 1, count);
+    return units;
+}
+
 /* Puts the text's UTF-8 behind the payloads. */
 static bool put_text(Writer *writer, napi_value text, size_t *place, size_t *length) {
     Room *payloads = &writer->tape.payloads;
-    char16_t few[64], *units = few;
+    char16_t few[FEW_UNITS];
     size_t count, first = payloads->used;
-    if (napi_get_value_string_utf16(writer->env, text, NULL, 0, &count) != napi_ok)
-        return raise(writer->env, "no text");
-    if (count >= 64 && !(units = malloc((count + 1) * sizeof *units)))
-        return no_memory(writer->env);
-    napi_get_value_string_utf16(writer->env, text, units, count + 1, &count);
+    char16_t *units = units_of(writer->env, text, few, &count);
+    if (!units) return false;
     char *at = room_take(payloads, 3 * count), *end = at ? put_utf8(units, count, at) : NULL;
     if (units != few) free(units);
     if (!at) return no_memory(writer->env);
@@ -330,29 +350,49 @@ static bool add_bigint(Writer *writer, napi_value value) {
                                      : tape_add(&writer->tape, DAGCBOR_INTEGER, words[0]));
 }
 
-/* A part of a list or map, in a scope of its own. */
-static bool add_part(Writer *writer, napi_value of, napi_value key, uint32_t index) {
-    napi_handle_scope scope;
-    napi_value part;
-    if (napi_open_handle_scope(writer->env, &scope) != napi_ok)
-        return raise(writer->env, "no scope");
-    napi_status status = key ? napi_get_property(writer->env, of, key, &part)
-                             : napi_get_element(writer->env, of, index, &part);
-    bool is_done = status == napi_ok ? add_value(writer, part)
-                                     : raise(writer->env, "a part was not there") != NULL;
-    napi_close_handle_scope(writer->env, scope);
-    return is_done;
+/* The entry of a map that is being written. What follows may move it. */
+static Entry *entry_at(Writer *writer, size_t start, size_t index) {
+    return (Entry *)(writer->entries.start + start) + index;
+}
+
+/* Adds the parts from one on to before another: a list's items, or a map's sorted keys and values.
+ */
+static bool add_some_parts(Writer *writer, napi_value of, const size_t *entries, size_t first,
+                           size_t last) {
+    for (size_t i = first; i < last; i++) {
+        napi_value part;
+        Entry entry = entries ? *entry_at(writer, *entries, i) : (Entry){0};
+        if (entries && !unless_memory(writer, tape_add_at(&writer->tape, DAGCBOR_STRING,
+                                                          entry.length, entry.place)))
+            return false;
+        napi_status status = entries ? napi_get_property(writer->env, of, entry.key, &part)
+                                     : napi_get_element(writer->env, of, (uint32_t)i, &part);
+        if (status != napi_ok) return raise(writer->env, "a part was not there");
+        if (!add_value(writer, part)) return false;
+    }
+    return true;
+}
+
+/* Adds all parts, some in a scope: so values are let go of. */
+static bool add_parts(Writer *writer, napi_value of, const size_t *entries, size_t count) {
+    for (size_t i = 0; i < count; i += MOST_AT_ONCE) {
+        napi_handle_scope scope;
+        size_t last = count - i < MOST_AT_ONCE ? count : i + MOST_AT_ONCE;
+        if (napi_open_handle_scope(writer->env, &scope) != napi_ok)
+            return raise(writer->env, "no scope");
+        bool is_done = add_some_parts(writer, of, entries, i, last);
+        napi_close_handle_scope(writer->env, scope);
+        if (!is_done) return false;
+    }
+    return true;
 }
 
 static bool add_list(Writer *writer, napi_value list) {
     uint32_t count;
     if (napi_get_array_length(writer->env, list, &count) != napi_ok)
         return raise(writer->env, "no array");
-    if (!unless_memory(writer, tape_add(&writer->tape, DAGCBOR_LIST, count))) return false;
-    for (uint32_t i = 0; i < count; i++) {
-        if (!add_part(writer, list, NULL, i)) return false;
-    }
-    return true;
+    return unless_memory(writer, tape_add(&writer->tape, DAGCBOR_LIST, count)) &&
+           add_parts(writer, list, NULL, count);
 }
 
 /* Puts the keys' texts, and holds the entries, in the object's order. */
@@ -370,20 +410,11 @@ static bool hold_entries(Writer *writer, napi_value names, uint32_t count) {
     return true;
 }
 
-static bool add_entries(Writer *writer, napi_value map, size_t start, uint32_t count) {
-    Entry *entries = (Entry *)(writer->entries.start + start);
+static void sort_held(Writer *writer, size_t start, uint32_t count) {
+    Entry *entries = entry_at(writer, start, 0);
     for (uint32_t i = 0; i < count; i++)
         entries[i].text = writer->tape.payloads.start + entries[i].place;
     sort_entries(entries, count);
-    for (uint32_t i = 0; i < count; i++) {
-        Entry entry =
-            ((Entry *)(writer->entries.start + start))[i]; /* what follows may move them */
-        if (!unless_memory(writer,
-                           tape_add_at(&writer->tape, DAGCBOR_STRING, entry.length, entry.place)))
-            return false;
-        if (!add_part(writer, map, entry.key, 0)) return false;
-    }
-    return true;
 }
 
 static bool add_map(Writer *writer, napi_value map) {
@@ -396,7 +427,9 @@ static bool add_map(Writer *writer, napi_value map) {
         napi_get_array_length(writer->env, names, &count) != napi_ok)
         return raise(writer->env, "no keys");
     if (!unless_memory(writer, tape_add(&writer->tape, DAGCBOR_MAP, count))) return false;
-    bool is_done = hold_entries(writer, names, count) && add_entries(writer, map, start, count);
+    bool is_done = hold_entries(writer, names, count);
+    if (is_done) sort_held(writer, start, count);
+    is_done = is_done && add_parts(writer, map, &start, count);
     writer->entries.used = start;
     return is_done;
 }
@@ -425,16 +458,18 @@ static bool add_container(Writer *writer, napi_value value, bool is_list) {
 static bool add_object(Writer *writer, napi_value value) {
     napi_env env = writer->env;
     State *state = state_of(env);
-    bool is_list = false;
+    bool is_list = false, is_array = false;
     size_t length;
-    const uint8_t *bytes = bytes_in(env, value, &length);
-    if (bytes) return unless_memory(writer, tape_put(&writer->tape, DAGCBOR_BYTES, bytes, length));
-    napi_is_array(env, value, &is_list);
+    const uint8_t *bytes;
+    if (!state || napi_is_array(env, value, &is_list) != napi_ok ||
+        napi_is_typedarray(env, value, &is_array) != napi_ok)
+        return raise(env, "no object");
+    if (is_array && (bytes = bytes_in(env, value, &length)))
+        return unless_memory(writer, tape_put(&writer->tape, DAGCBOR_BYTES, bytes, length));
     if (is_list || is_plain(env, value)) return add_container(writer, value, is_list);
-    napi_value cid = state ? ask(env, state->cid_of, 1, &value) : NULL;
+    napi_value cid = ask(env, state->cid_of, 1, &value);
     if (!cid) return false;
-    bytes = bytes_in(env, cid, &length);
-    if (!bytes)
+    if (!(bytes = bytes_in(env, cid, &length)))
         return no(writer, DAGCBOR_UNSUPPORTED,
                   "an object that is no Array, Uint8Array, CID or plain object");
     return unless_memory(writer, tape_put(&writer->tape, DAGCBOR_LINK, bytes, length));
@@ -572,10 +607,10 @@ static void end(napi_env env, void *state, void *hint) {
     free(state);
 }
 
-/* Takes the three functions. */
+/* Takes the five functions. */
 static napi_value start(napi_env env, napi_callback_info info) {
-    size_t count = 3;
-    napi_value given[3];
+    size_t count = 5;
+    napi_value given[5];
     TRY(napi_get_cb_info(env, info, &count, given, NULL, NULL));
     State *state = calloc(1, sizeof *state);
     if (!state) return no_memory(env);
@@ -583,6 +618,8 @@ static napi_value start(napi_env env, napi_callback_info info) {
     TRY(napi_create_reference(env, given[0], 1, &state->refused));
     TRY(napi_create_reference(env, given[1], 1, &state->make_cid));
     TRY(napi_create_reference(env, given[2], 1, &state->cid_of));
+    TRY(napi_create_reference(env, given[3], 1, &state->add_items));
+    TRY(napi_create_reference(env, given[4], 1, &state->add_entries));
     return NULL;
 }
 

@@ -122,7 +122,28 @@ class CID {
   }
 }
 
-native.start(refused, (bytes) => new CID(bytes, MADE), bytesOf);
+
+// What the addon makes lists and maps by, some items or entries at once.
+const addItems = (list, ...items) => {
+  if (!list) return items;
+  list.push(...items);
+  return list;
+};
+
+// A key that an object has already, of its prototype, is defined: no setter is called.
+const addEntries = (map = {}, ...entries) => {
+  for (let i = 0; i < entries.length; i += 2) {
+    const [key, value] = [entries[i], entries[i + 1]];
+    if (!(key in map)) map[key] = value;
+    else {
+      const own = { value, configurable: true, enumerable: true, writable: true };
+      Object.defineProperty(map, key, own);
+    }
+  }
+  return map;
+};
+
+native.start(refused, (bytes) => new CID(bytes, MADE), bytesOf, addItems, addEntries);
 
 const { decode, encode, tape, links, name } = native;
 const check = (block) => KINDS[native.check(block)];

@@ -133,14 +133,15 @@ test('values that change', () => {
 });
 
 test('a block that goes away while it is read', () => {
-  const block = encode([new Uint8Array(1000).fill(7), 'a'.repeat(1000), 'b'.repeat(1000)]).slice();
-  Object.defineProperty(Array.prototype, '0', { set() { structuredClone(block.buffer, { transfer: [block.buffer] }); }, configurable: true });
+  const texts = Array.from({ length: 100 }, (_, i) => String(i).repeat(50));
+  const block = encode(texts).slice();
+  const set = () => structuredClone(block.buffer, { transfer: [block.buffer] });
+  Object.defineProperty(Array.prototype, '33', { set, configurable: true });
   try {
-    assert.strictEqual(decode(block)[2], 'b'.repeat(1000));
-  } catch (error) {
-    assert.ok(!(error instanceof DagCborError));
+    assert.strictEqual(decode(block)[99], texts[99]);
+    assert.strictEqual(block.length, 0);
   } finally {
-    delete Array.prototype[0];
+    delete Array.prototype[33];
   }
 });
 

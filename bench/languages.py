@@ -3,11 +3,11 @@
 
     bench/languages.py [RUNS] [page]
 
-Builds the packages as docs/OTHER_LANGUAGES.md says, makes its blocks with a fixed seed, runs ours and
-what it is compared with in turn, and prints tables of processor time, the least of so many runs (9
-where none is given). With `page` the tables are put into docs/SPEED.md too. Python's are compared with
-json and with the accelerator of Debian's python3-cbor2, and Node's with its JSON. What is not there is
-left out. Nothing here is a test."""
+Builds the packages as docs/OTHER_LANGUAGES.md says, makes its blocks with a fixed seed, runs ours
+and what it is compared with in turn, and prints tables of processor time, the least of so many runs
+(9 where none is given). With `page` the tables are put into docs/SPEED.md too. Python's are
+compared with json and with the accelerator of Debian's python3-cbor2, and Node's with its JSON.
+What is not there is left out. Nothing here is a test."""
 
 import os
 import random
@@ -43,11 +43,11 @@ def tell(line):
 def blocks():
     """Each block's name, and its bytes."""
     chance = random.Random(1)
-    numbers = b"".join(b"\x19" + chance.randrange(256, 65536).to_bytes(2, "big") for _ in range(65535))
+    numbers = [chance.randrange(256, 65536).to_bytes(2, "big") for _ in range(65535)]
     yield "`[1, 2, 3]`", b"\x83\x01\x02\x03"
     yield "the record, 66 bytes", RECORD
     yield "10,000 records", listed(10_000, RECORD)
-    yield "65,535 integers of 3 bytes", head(4, 65535) + numbers
+    yield "65,535 integers of 3 bytes", head(4, 65535) + b"".join(b"\x19" + it for it in numbers)
     yield "10,000 links", listed(10_000, LINK)
 
 
@@ -66,11 +66,11 @@ def in_c(folder, runs, paths):
 def in_python(folder, runs, paths):
     quiet = {"stdout": subprocess.DEVNULL, "cwd": folder, "check": True}
     pip = [PYTHON, "-m", "pip", "--quiet"]
-    offline = ["--no-index", "--no-deps"]
-    package = f"{ROOT}/callers/python"
+    offline, package = ["--no-index", "--no-deps"], f"{ROOT}/callers/python"
     subprocess.run([*pip, "wheel", *offline, "--no-build-isolation", package], **quiet)
     wheel = next(it for it in os.listdir(folder) if it.endswith(".whl"))
-    subprocess.run([*pip, "install", "--root-user-action=ignore", *offline, "--target", "site", wheel], **quiet)
+    target = ["--root-user-action=ignore", "--target", "site"]
+    subprocess.run([*pip, "install", *target, *offline, wheel], **quiet)
     env = {**os.environ, "PYTHONPATH": f"{folder}/site"}
     return printed([PYTHON, f"{HERE}/calls.py", str(runs), *paths], env=env)
 

@@ -1,6 +1,7 @@
-// Nanoseconds of each call for the block of each file, the least of RUNS: node calls.js ADDON RUNS FILE..
-// Prints decode and encode of ours, and JSON.parse and JSON.stringify of the same data (0 where JSON
-// has no such data), one line for each file.
+// Nanoseconds of each call for the block of each file, the least of RUNS:
+// node calls.js ADDON RUNS FILE..
+// Prints decode and encode of ours, and JSON.parse and JSON.stringify of the same data (0 where
+// JSON has no such data), one line for each file.
 'use strict';
 const { readFileSync } = require('fs');
 const [, , addon, runs, ...paths] = process.argv;

@@ -1,7 +1,7 @@
 """Nanoseconds of each call for the block of each file, the least of RUNS: calls.py RUNS FILE..
 
-Prints `loads` and `dumps` of ours, those of cbor2's accelerator (0 where it is not there), and those of
-json for the same data (0 where it has no such data), one line for each file."""
+Prints `loads` and `dumps` of ours, those of cbor2's accelerator (0 where it is not there), and
+those of json for the same data (0 where it has no such data), one line for each file."""
 
 import json
 import sys

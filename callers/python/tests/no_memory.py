@@ -1,4 +1,6 @@
-"""Lets each allocation of each call fail, and then all from each on. An answer is right, or there is no memory."""
+"""Lets each allocation of each call fail, and then all from each on.
+
+An answer is right, or there is no memory."""
 
 import sys
 
@@ -12,14 +14,20 @@ except ImportError:
     sys.exit(77)
 
 CIDS = [name(bytes([it])) for it in range(60)]
-VALUE = {"a" * i: [i, -i, 2**64 - 1 - i, -(2**64) + i, "é" * i, b"x" * i, None, True, CIDS[i], {"k": [i]}] for i in range(60)}
+VALUE = {
+    "a" * i: [i, -i, 2**64 - 1 - i, -(2**64) + i, "é" * i, b"x" * i, None, CIDS[i], {"k": [i]}]
+    for i in range(60)
+}
 BLOCK = dumps(VALUE)
 BAD = [VALUE, {"a": [2**64]}]
 TEXT = str(CIDS[0])
 CALLS = [
-    (dumps, VALUE, BLOCK), (loads, BLOCK, VALUE), (loads, bytearray(BLOCK), VALUE), (links, BLOCK, CIDS), (check, BLOCK, "map"),
-    (name, BLOCK, name(BLOCK)), (CID, TEXT, CIDS[0]), (CID, bytes(CIDS[0]), CIDS[0]), (str, CIDS[0], TEXT), (repr, CIDS[0], f"CID('{TEXT}')"),
-    (dumps, BAD, "CastOverflow"), (loads, BLOCK[:-1], "Eof"), (check, b"\x18\x17", "NonMinimal"), (dumps, [1.5], "Unsupported"), (CID, b"", "Msg"),
+    (dumps, VALUE, BLOCK), (loads, BLOCK, VALUE), (loads, bytearray(BLOCK), VALUE),
+    (links, BLOCK, CIDS), (check, BLOCK, "map"),
+    (name, BLOCK, name(BLOCK)), (CID, TEXT, CIDS[0]), (CID, bytes(CIDS[0]), CIDS[0]),
+    (str, CIDS[0], TEXT), (repr, CIDS[0], f"CID('{TEXT}')"),
+    (dumps, BAD, "CastOverflow"), (loads, BLOCK[:-1], "Eof"), (check, b"\x18\x17", "NonMinimal"),
+    (dumps, [1.5], "Unsupported"), (CID, b"", "Msg"),
 ]
 
 

@@ -51,13 +51,15 @@ def random_integer(rng):
 
 def random_text(rng):
     letters = rng.choice(("abcdefgh", "a\0é水𐅑\ud7ff\ue000\U0010ffff"))
-    return "".join(rng.choice(letters) for _ in range(rng.choice((0, 1, 2, 5, 23, 24, 40, 255, 256))))
+    count = rng.choice((0, 1, 2, 5, 23, 24, 40, 255, 256))
+    return "".join(rng.choice(letters) for _ in range(count))
 
 
 def random_cid(rng):
     if rng.random() < 0.2:
         return CID(b"\x12\x20" + rng.randbytes(32))
-    return CID(b"\x01" + rng.choice((b"\x71", b"\x55", b"\x80\x02")) + b"\x12" + bytes([n := rng.randrange(65)]) + rng.randbytes(n))
+    codec, length = rng.choice((b"\x71", b"\x55", b"\x80\x02")), rng.randrange(65)
+    return CID(b"\x01" + codec + b"\x12" + bytes([length]) + rng.randbytes(length))
 
 
 def random_value(rng, levels=5):

@@ -66,7 +66,8 @@ class Colour(str, enum.Enum):
 
 
 def test_subclasses_are_their_data():
-    assert dumps([OddInt(5), OddInt(-6), OddInt(2**64 - 1), OddInt(-(2**64))]) == dumps([5, -6, 2**64 - 1, -(2**64)])
+    integers = [5, -6, 2**64 - 1, -(2**64)]
+    assert dumps([OddInt(it) for it in integers]) == dumps(integers)
     assert dumps(OddStr("é")) == dumps("é") and dumps(Colour.RED) == dumps("red")
     assert dumps(OddDict(a=1)) == dumps({"a": 1}) and dumps(OddList([1, 2])) == dumps([1, 2])
     assert dumps(OddBytes(b"ab")) == dumps(b"ab") and loads(OddBytes(b"\xf6")) is None
@@ -176,8 +177,11 @@ def test_nothing_is_kept():
 
     def round_trip():
         block = dumps(value)
-        loads(block), loads(bytearray(block)), links(many), check(block), name(block), CID(str(cid)), CID(bytes(cid))
-        for call, given in (dumps, bad), (dumps, twice), (loads, block[:-1]), (loads, block + b"\0"), (CID, b"z"), (links, b"\xff"), (check, b""):
+        loads(block), loads(bytearray(block)), links(many), check(block), name(block)
+        CID(str(cid)), CID(bytes(cid))
+        refused = [(dumps, bad), (dumps, twice), (loads, block[:-1]), (loads, block + b"\0")]
+        refused += [(CID, b"z"), (links, b"\xff"), (check, b"")]
+        for call, given in refused:
             with pytest.raises(DagCborError):
                 call(given)
 
@@ -207,7 +211,8 @@ def test_room_of_each_size():
 
 
 def test_many_and_long():
-    for value in ([0] * 300_000, ["é" * 100] * 50_000, {str(i): i for i in range(100_000)}, b"x" * 3_000_000, "é" * 2_000_000):
+    values = [[0] * 300_000, ["é" * 100] * 50_000, {str(i): i for i in range(100_000)}]
+    for value in [*values, b"x" * 3_000_000, "é" * 2_000_000]:
         assert loads(dumps(value)) == value
     assert len(links(dumps([name(b"")] * 5000))) == 5000
 

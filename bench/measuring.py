@@ -1,5 +1,6 @@
 """Runs a program on given bytes, and says what it printed, its processor time, and how much heap was live at most."""
 
+import datetime
 import functools
 import os
 import subprocess
@@ -11,6 +12,23 @@ sys.dont_write_bytecode = True
 sys.path.insert(0, os.path.join(ROOT, "faults"))
 
 import building
+
+
+def machine():
+    """When and where this is."""
+    with open("/proc/cpuinfo", encoding="utf-8") as file:
+        speeds = [float(line.rpartition(":")[2]) for line in file if line.startswith("cpu MHz")]
+    clock = f", {speeds[0] / 1000:.1f} GHz" if speeds else ""
+    return f"{datetime.date.today()}, {os.cpu_count()} cores{clock}"
+
+
+def into_page(begin, lines, end):
+    """Puts the lines into docs/SPEED.md, in the place of those that stand there between the marks."""
+    path = f"{ROOT}/docs/SPEED.md"
+    with open(path, encoding="utf-8") as file:
+        before, _, rest = file.read().partition(begin)
+    with open(path, "w", encoding="utf-8") as file:
+        file.write(before + begin + "".join(lines) + "\n" + end + rest.partition(end)[2])
 
 
 @functools.cache

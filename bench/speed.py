@@ -8,7 +8,6 @@ least of so many runs (7 where none is given), and of the heap that a tree takes
 The peer is built where cargo and Debian's sources of serde_cbor and serde_derive are on the machine; else its columns are left out.
 Nothing here is a test."""
 
-import datetime
 import os
 import random
 import shutil
@@ -17,7 +16,7 @@ import sys
 import tempfile
 
 from blocks import listed
-from measuring import ROOT, built, called, heap_counter, processor_seconds
+from measuring import ROOT, built, called, heap_counter, into_page, machine, processor_seconds
 
 SOURCES = "/usr/share/cargo/registry"
 MANIFEST = """[package]
@@ -45,7 +44,6 @@ replace-with = "debian"
 directory = "{SOURCES}"
 """
 LINES = 20_000_000
-PAGE = f"{ROOT}/docs/SPEED.md"
 BEGIN, END = "<!-- made by bench/speed.py page -->\n", "<!-- so far -->\n"
 
 told = []
@@ -205,22 +203,6 @@ def heap(folder, scratch):
         tell(f"| `{item.hex(' ')}` | {' | '.join(factors)} |" if len(item) < 4 else f"| the record | {' | '.join(factors)} |")
 
 
-def machine():
-    """When and where this is."""
-    with open("/proc/cpuinfo", encoding="utf-8") as file:
-        speeds = [float(line.rpartition(":")[2]) for line in file if line.startswith("cpu MHz")]
-    clock = f", {speeds[0] / 1000:.1f} GHz" if speeds else ""
-    return f"{datetime.date.today()}, {os.cpu_count()} cores{clock}"
-
-
-def into_page():
-    """Puts what was told into the page, in the place of the tables that stand there."""
-    with open(PAGE, encoding="utf-8") as file:
-        before, _, rest = file.read().partition(BEGIN)
-    with open(PAGE, "w", encoding="utf-8") as file:
-        file.write(before + BEGIN + "".join(told) + "\n" + END + rest.partition(END)[2])
-
-
 def main(words):
     runs = next((int(word) for word in words if word.isdigit()), 7)
     folder = peer()
@@ -232,7 +214,7 @@ def main(words):
             lines(folder, runs, kind, scratch)
         heap(folder, scratch)
     if "page" in words:
-        into_page()
+        into_page(BEGIN, told, END)
 
 
 main(sys.argv[1:])

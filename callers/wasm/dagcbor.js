@@ -1,10 +1,14 @@
-// The WebAssembly module for JavaScript: const { check, tape, links, name } = await load(bytesOfTheModule).
+// The WebAssembly module for JavaScript:
+// const { check, tape, spell, links, name } = await load(bytesOfTheModule).
 // It imports nothing, and has a 64-bit memory: addresses and lengths are BigInts.
 const PAGE = 65536;
+const NO_ROOM = -21;
 
 exports.load = async (module) => {
   const { instance } = await WebAssembly.instantiate(module);
-  const { memory, __heap_base, dagcbor_check, dagcbor_tape, dagcbor_links, dagcbor_name } = instance.exports;
+  const { memory, __heap_base } = instance.exports;
+  const { dagcbor_check, dagcbor_tape, dagcbor_spell, dagcbor_links, dagcbor_name } =
+    instance.exports;
   const base = Number(__heap_base.value); // what stands from here on is the host's
   const grow = (pages) => {
     try {
@@ -33,26 +37,48 @@ exports.load = async (module) => {
     const needed = Number(new DataView(memory.buffer, base, 8).getBigUint64(0, true));
     return { code, needed, packed: view(out + room).slice(out, out + needed) };
   };
-  // Three BigInts for each token, behind the block, at a multiple of 8.
+  // Where tokens stand behind a block: at a multiple of 8.
+  const behind = (block) => Math.ceil((base + 64 + block.length) / 8) * 8 - base;
+  // Three BigInts for each token.
   const tapeOf = (block) => {
-    const out = Math.ceil((base + 64 + block.length) / 8) * 8 - base;
+    const out = behind(block);
     const end = out + 24 * block.length;
     const given = put(block, end - 64 - block.length);
     const code = dagcbor_tape(...given, BigInt(base + out), BigInt(block.length), BigInt(base));
     const needed = Number(new DataView(memory.buffer, base, 8).getBigUint64(0, true));
     return code < 0 ? code : new BigUint64Array(view(end).slice(out, out + 24 * needed).buffer);
   };
+  const spellInto = (block, tape, room) => {
+    const at = behind(block);
+    const out = at + 8 * tape.length;
+    const given = put(block, out + room - 64 - block.length);
+    new BigUint64Array(memory.buffer, base + at, tape.length).set(tape);
+    const tokens = [BigInt(base + at), BigInt(Math.floor(tape.length / 3))];
+    const code = dagcbor_spell(...given, ...tokens, BigInt(base + out), BigInt(room), BigInt(base));
+    const needed = Number(new DataView(memory.buffer, base, 8).getBigUint64(0, true));
+    return { code, needed, spelled: view(out + room).slice(out, out + needed) };
+  };
   return {
     check: (block) => dagcbor_check(...put(block, 1)),
     // The number of a refusal, or the tokens.
     tape: tapeOf,
+    // The number of a refusal, or the block that a BigUint64Array of tokens tells, with payloads
+    // out of the bytes.
+    spell: (bytes, tape) => {
+      const asked = spellInto(bytes, tape, 0);
+      if (asked.code !== NO_ROOM) return asked.code;
+      const { code, spelled } = spellInto(bytes, tape, asked.needed);
+      return code < 0 ? code : spelled;
+    },
     // The number of a refusal, or CIDs.
     links: (block) => {
       const { code, needed } = linksInto(block, 0);
       if (code < 0) return code;
       const { packed } = linksInto(block, needed);
       const found = [];
-      for (let at = 0; at < needed; at += 1 + packed[at]) found.push(packed.slice(at + 1, at + 1 + packed[at]));
+      for (let at = 0; at < needed; at += 1 + packed[at]) {
+        found.push(packed.slice(at + 1, at + 1 + packed[at]));
+      }
       return found;
     },
     name: (block) => {

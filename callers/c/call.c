@@ -1,4 +1,5 @@
-/* Calls each export for each row of the table: call TABLE. Prints the number of rows, or the row that is answered otherwise. */
+/* Calls each export for each row of the table: call TABLE. Prints the number of rows, or the row
+ * that is answered otherwise. */
 #include "dagcbor.h"
 #include <stdio.h>
 #include <stdlib.h>
@@ -6,7 +7,8 @@
 
 enum { MOST = 4096 };
 
-/* The bytes of hexadecimal text, and how many. A '-' is none, and a ',' joins links, each packed behind its length. */
+/* The bytes of hexadecimal text, and how many. A '-' is none, and a ',' joins links, each packed
+ * behind its length. */
 static size_t from_hex(const char *text, uint8_t *out, int packed) {
     size_t count = 0, start = 0;
     unsigned byte;
@@ -38,13 +40,16 @@ static size_t from_tape(const char *text, dagcbor_token *tape) {
 }
 
 /* The tokens of a block tell the block again. */
-static int is_spelled(const uint8_t *bytes, size_t length, int check, const dagcbor_token *tape, size_t count) {
+static int is_spelled(const uint8_t *bytes, size_t length, int check, const dagcbor_token *tape,
+                      size_t count) {
     static uint8_t out[MOST];
     size_t needed = 99;
     memset(out, 0xee, sizeof out);
-    if (dagcbor_spell(bytes, length, tape, count, out, length - 1, &needed) != DAGCBOR_NO_ROOM) return 0;
+    if (dagcbor_spell(bytes, length, tape, count, out, length - 1, &needed) != DAGCBOR_NO_ROOM)
+        return 0;
     if (needed != length || out[0] != 0xee) return 0;
-    if (dagcbor_spell(bytes, length, tape, count, out, MOST, &needed) != check || needed != length) return 0;
+    if (dagcbor_spell(bytes, length, tape, count, out, MOST, &needed) != check || needed != length)
+        return 0;
     return memcmp(out, bytes, length) == 0 && out[length] == 0xee;
 }
 
@@ -55,16 +60,21 @@ static int is_right_tape(const uint8_t *bytes, size_t length, int check, const c
     /* Asked with room for one too few it tells how many there are, and puts none. */
     if (dagcbor_tape(bytes, length, tape, count ? count - 1 : 0, &needed) != check) return 0;
     if (needed != count || count > length || tape[0].kind != 0xeeeeeeeeeeeeeeee) return 0;
-    if (dagcbor_tape(bytes, length, dagcbor_tape_into(NULL, 0), 0, &needed) != check || needed != count) return 0;
+    if (dagcbor_tape(bytes, length, dagcbor_tape_into(NULL, 0), 0, &needed) != check ||
+        needed != count)
+        return 0;
     if (dagcbor_tape(bytes, length, tape, count, &needed) != check || needed != count) return 0;
-    if (memcmp(tape, wanted, count * sizeof *tape) != 0 || tape[count].kind != 0xeeeeeeeeeeeeeeee) return 0;
+    if (memcmp(tape, wanted, count * sizeof *tape) != 0 || tape[count].kind != 0xeeeeeeeeeeeeeeee)
+        return 0;
     if (dagcbor_tape(bytes, length, tape, MOST, &needed) != check) return 0;
-    return memcmp(tape, wanted, count * sizeof *tape) == 0 && (check < 0 || is_spelled(bytes, length, check, tape, count));
+    return memcmp(tape, wanted, count * sizeof *tape) == 0 &&
+           (check < 0 || is_spelled(bytes, length, check, tape, count));
 }
 
 static int is_right(char *const field[6]) {
     static uint8_t block[MOST], links[MOST], wanted_name[MOST], out[MOST], name[36];
-    size_t length = from_hex(field[0], block, 0), packed = from_hex(field[3], links, 1), needed = 99;
+    size_t length = from_hex(field[0], block, 0), packed = from_hex(field[3], links, 1),
+           needed = 99;
     const uint8_t *bytes = dagcbor_from(length ? block : NULL, length);
     int check = atoi(field[1]), first = atoi(field[2]);
     from_hex(field[4], wanted_name, 0);
@@ -74,8 +84,11 @@ static int is_right(char *const field[6]) {
     if (dagcbor_links(bytes, length, out, packed ? packed - 1 : 0, &needed) != first) return 0;
     if (needed != packed || out[0] != 0xee) return 0;
     /* The usual way to ask how many are needed. */
-    if (dagcbor_links(bytes, length, dagcbor_into(NULL, 0), 0, &needed) != first || needed != packed) return 0;
-    if (dagcbor_links(bytes, length, out, sizeof out, &needed) != first || needed != packed) return 0;
+    if (dagcbor_links(bytes, length, dagcbor_into(NULL, 0), 0, &needed) != first ||
+        needed != packed)
+        return 0;
+    if (dagcbor_links(bytes, length, out, sizeof out, &needed) != first || needed != packed)
+        return 0;
     if (memcmp(out, links, packed) != 0 || out[packed] != 0xee) return 0;
     if (!is_right_tape(bytes, length, check, field[5])) return 0;
     dagcbor_name(bytes, length, name);

@@ -1,0 +1,117 @@
+#!/usr/bin/env python3
+"""Speed of the packages for Python and Node, and of the calls of the C ABI.
+
+    bench/languages.py [RUNS] [page]
+
+Builds the packages as docs/OTHER_LANGUAGES.md says, makes its blocks with a fixed seed, runs ours
+and what it is compared with in turn, and prints tables of processor time, the least of so many runs
+(9 where none is given). With `page` the tables are put into docs/SPEED.md too. Python's are
+compared with json and with the accelerator of Debian's python3-cbor2, and Node's with its JSON.
+What is not there is left out. Nothing here is a test."""
+
+import os
+import random
+import shutil
+import subprocess
+import sys
+import tempfile
+
+from blocks import head, listed
+from measuring import ROOT, into_page, machine
+
+import building
+
+HERE, CRATE = f"{ROOT}/bench/languages", f"{ROOT}/crates/dagcbor_ffi"
+BEGIN = "<!-- made by bench/languages.py page -->\n"
+END = "<!-- so far, of other languages -->\n"
+PYTHON = "/usr/bin/python3" if os.path.exists("/usr/bin/python3") else sys.executable
+RECORD = bytes.fromhex(
+    "a3646e616d656c477261636520486f707065726a70726f66657373696f6e72636f6d707574657220"
+    "736369656e746973746d796561725f6f665f6269727468190772"
+)
+LINK = bytes.fromhex("d82a58250001711220") + bytes(range(32))
+
+told = []
+
+
+def tell(line):
+    """Prints the line, and keeps it for the page."""
+    print(line, flush=True)
+    told.append(line + "\n")
+
+
+def blocks():
+    """Each block's name, and its bytes."""
+    chance = random.Random(1)
+    numbers = [chance.randrange(256, 65536).to_bytes(2, "big") for _ in range(65535)]
+    yield "`[1, 2, 3]`", b"\x83\x01\x02\x03"
+    yield "the record, 66 bytes", RECORD
+    yield "10,000 records", listed(10_000, RECORD)
+    yield "65,535 integers of 3 bytes", head(4, 65535) + b"".join(b"\x19" + it for it in numbers)
+    yield "10,000 links", listed(10_000, LINK)
+
+
+def printed(words, **how):
+    """The numbers of each line."""
+    ran = subprocess.run(words, stdout=subprocess.PIPE, text=True, check=True, **how)
+    return [[float(it) for it in line.split()] for line in ran.stdout.splitlines()]
+
+
+def in_c(folder, runs, paths):
+    words = [*building.c_compiler(), "-O2", f"-I{CRATE}/include", f"{HERE}/calls.c"]
+    subprocess.run([*words, f"{CRATE}/out/libdagcbor_ffi.a", "-o", f"{folder}/calls"], check=True)
+    return printed([f"{folder}/calls", str(runs), *paths])
+
+
+def in_python(folder, runs, paths):
+    quiet = {"stdout": subprocess.DEVNULL, "cwd": folder, "check": True}
+    pip = [PYTHON, "-m", "pip", "--quiet"]
+    offline, package = ["--no-index", "--no-deps"], f"{ROOT}/callers/python"
+    subprocess.run([*pip, "wheel", *offline, "--no-build-isolation", package], **quiet)
+    wheel = next(it for it in os.listdir(folder) if it.endswith(".whl"))
+    target = ["--root-user-action=ignore", "--target", "site"]
+    subprocess.run([*pip, "install", *target, *offline, wheel], **quiet)
+    env = {**os.environ, "PYTHONPATH": f"{folder}/site"}
+    return printed([PYTHON, f"{HERE}/calls.py", str(runs), *paths], env=env)
+
+
+def in_node(runs, paths):
+    subprocess.run(["node", f"{ROOT}/callers/node/build.js"], check=True)
+    return printed(["node", f"{HERE}/calls.js", f"{ROOT}/callers/node", str(runs), *paths])
+
+
+def table(title, columns, names, rows, pairs):
+    """The columns' numbers, and for each pair of columns the ratio of the first to the second."""
+    ratios = [f"{columns[one]} / {columns[other]}" for one, other in pairs]
+    tell(f"\n| {title} | {' | '.join(columns)} | {' | '.join(ratios)} |")
+    tell(f"|{'---|' * (1 + len(columns) + len(ratios))}")
+    for name, row in zip(names, rows):
+        cells = [f"{it:.3g}" if it < 1e4 else f"{it:.2e}" if it else "" for it in row]
+        cells = [it if it != "0" else "" for it in cells]
+        cells += [f"{row[one] / row[other]:.2f}" if row[other] else "" for one, other in pairs]
+        tell(f"| {name} | {' | '.join(cells)} |")
+
+
+def main(words):
+    runs = next((int(word) for word in words if word.isdigit()), 9)
+    subprocess.run(["rt", "lib"], cwd=CRATE, stdout=subprocess.DEVNULL, check=True)
+    tell(f"Measured {machine()}, nanoseconds of processor time, the least of {runs} runs.")
+    with tempfile.TemporaryDirectory(prefix="languages-") as folder:
+        names, paths = [], []
+        for name, block in blocks():
+            names.append(name)
+            paths.append(f"{folder}/{len(paths)}.block")
+            with open(paths[-1], "wb") as file:
+                file.write(block)
+        columns = ["check", "tape", "spell"]
+        table("C", columns, names, in_c(folder, runs, paths), [(1, 0), (2, 0)])
+        columns = ["loads", "dumps", "cbor2.loads", "cbor2.dumps", "json.loads", "json.dumps"]
+        table("Python", columns, names, in_python(folder, runs, paths), [(0, 2), (1, 3)])
+        if shutil.which("node"):
+            columns = ["decode", "encode", "JSON.parse", "JSON.stringify"]
+            table("Node", columns, names, in_node(runs, paths), [(0, 2), (1, 3)])
+    if "page" in words:
+        into_page(BEGIN, told, END)
+
+
+main(sys.argv[1:])

@@ -1,0 +1,42 @@
+// Builds the addon, out/dagcbor.node, with the proved library inside. The library is that of the
+// environment variable DAGCBOR_LIBRARY; else that of this repository, which is proved and built
+// first where it is not there and `rt` is.
+'use strict';
+const { execFileSync } = require('child_process');
+const { existsSync, mkdirSync, realpathSync } = require('fs');
+const { dirname, join } = require('path');
+
+const crate = join(__dirname, '../../crates/dagcbor_ffi');
+
+const library = () => {
+  const path = process.env.DAGCBOR_LIBRARY ?? join(crate, 'out/libdagcbor_ffi.a');
+  if (!existsSync(path) && !process.env.DAGCBOR_LIBRARY) {
+    try {
+      execFileSync('rt', ['lib'], { cwd: crate, stdio: ['ignore', 'ignore', 'inherit'] });
+    } catch (e) {
+      if (e.code !== 'ENOENT') throw e;
+    }
+  }
+  if (!existsSync(path)) throw new Error(`no ${path}: \`rt lib\` in crates/dagcbor_ffi makes it`);
+  return path;
+};
+
+// The headers of Node-API, which stand beside its program or where Debian has them.
+const headers = () => {
+  const beside = join(dirname(realpathSync(process.execPath)), '../include/node');
+  const places = [beside, '/usr/include/node'];
+  const found = places.find((it) => existsSync(join(it, 'node_api.h')));
+  if (!found) throw new Error(`there is no node_api.h in ${places.join(' or ')}`);
+  return found;
+};
+
+const [cc, ...words] = (process.env.CC || 'cc').split(' ');
+const flags = ['-std=c11', '-O2', '-Wall', '-Wextra', '-shared', '-fPIC'];
+const hidden = ['-fvisibility=hidden', '-Wl,--exclude-libs,ALL'];
+const more = (process.env.CFLAGS || '').split(' ').filter(Boolean);
+const folders = [headers(), join(crate, 'include'), join(__dirname, '../c')].map((it) => `-I${it}`);
+mkdirSync(join(__dirname, 'out'), { recursive: true });
+const made = join(__dirname, 'out/dagcbor.node');
+const files = [join(__dirname, 'addon.c'), library(), '-lm', '-o', made];
+const all = [...words, ...flags, ...hidden, ...more, ...folders, ...files];
+execFileSync(cc, all, { stdio: 'inherit' });

@@ -1,0 +1,591 @@
+/* The library for Python, by the limited API: objects out of the tokens of a block, and tokens out
+   of objects.
+
+   A call holds the interpreter's lock, and reads a `bytes`, which nobody writes: what is handed
+   over otherwise, and may be written by other threads and programs meanwhile, is copied into one
+   first. */
+#define Py_LIMITED_API 0x030B0000
+#define PY_SSIZE_T_CLEAN
+#include <Python.h>
+
+#define WRITER_REALLOC PyMem_Realloc
+#define WRITER_FREE PyMem_Free
+#include "cid_text.h"
+#include "dagcbor.h"
+#include "writer.h"
+
+enum {
+    FEW_TOKENS = 128,      /* have room on the stack */
+    MANY_TOKENS = 1 << 20, /* from here on they are counted before room is taken */
+    FEW_LINK_BYTES = 1024
+};
+
+static const char *const KINDS[] = {"null",  "bool", "integer", "string",
+                                    "bytes", "list", "map",     "link"};
+
+typedef struct {
+    PyTypeObject *cid;
+    PyObject *refused,
+        *error; /* dagcbor._errors: refused(code, block), DagCborError(message, kind, place) */
+} State;
+
+static void *no_memory(void) {
+    PyErr_NoMemory();
+    return NULL;
+}
+
+static const uint8_t *bytes_of(PyObject *bytes) { return (const uint8_t *)PyBytes_AsString(bytes); }
+
+static size_t length_of(PyObject *bytes) { return (size_t)PyBytes_Size(bytes); }
+
+/* A `bytes` with what the argument holds: itself, where it is one. */
+static PyObject *to_bytes(PyObject *given) {
+    Py_buffer view;
+    if (PyBytes_Check(given)) return Py_NewRef(given);
+    if (PyObject_GetBuffer(given, &view, PyBUF_SIMPLE) < 0) return NULL;
+    PyObject *bytes = PyBytes_FromStringAndSize(view.buf, view.len);
+    PyBuffer_Release(&view);
+    return bytes;
+}
+
+/* Raises the error of a number of the library. */
+static void *refuse_code(State *state, int32_t code, PyObject *block) {
+    PyObject *error = PyObject_CallFunction(state->refused, "iO", (int)code, block);
+    if (error) PyErr_SetObject(state->error, error);
+    Py_XDECREF(error);
+    return NULL;
+}
+
+/* CIDs */
+
+typedef struct {
+    PyObject_HEAD
+    PyObject *bytes;
+} Cid;
+
+static PyObject *new_cid(PyTypeObject *type, const uint8_t *bytes, size_t length) {
+    PyObject *held = PyBytes_FromStringAndSize((const char *)bytes, (Py_ssize_t)length);
+    Cid *cid = held ? PyObject_New(Cid, type) : NULL;
+    if (cid) cid->bytes = held;
+    else Py_XDECREF(held);
+    return (PyObject *)cid;
+}
+
+static void cid_dealloc(PyObject *self) {
+    PyTypeObject *type = Py_TYPE(self);
+    Py_DECREF(((Cid *)self)->bytes);
+    PyObject_Free(self);
+    Py_DECREF(type);
+}
+
+/* Whether the library takes the link of these bytes for a block. */
+static bool is_cid(const uint8_t *bytes, size_t length) {
+    dagcbor_token link = {DAGCBOR_LINK, length, 0};
+    uint8_t block[CID_MOST + 5];
+    size_t needed;
+    return dagcbor_spell(bytes, length, &link, 1, block, sizeof block, &needed) == DAGCBOR_LINK;
+}
+
+static PyObject *cid_new(PyTypeObject *type, PyObject *args, PyObject *named) {
+    PyObject *given, *bytes = NULL, *cid = NULL;
+    State *state = PyType_GetModuleState(type);
+    uint8_t out[CID_MOST];
+    Py_ssize_t length;
+    if (named && PyDict_Size(named))
+        return PyErr_SetString(PyExc_TypeError, "CID() takes no keyword"), NULL;
+    if (!state || !PyArg_ParseTuple(args, "O:CID", &given)) return NULL;
+    if (PyUnicode_Check(given)) {
+        const char *text = PyUnicode_AsUTF8AndSize(given, &length);
+        if (!text) return NULL;
+        size_t count = cid_from_text(text, (size_t)length, out);
+        bytes = PyBytes_FromStringAndSize((const char *)out, (Py_ssize_t)count);
+    } else {
+        bytes = to_bytes(given);
+    }
+    if (!bytes) return NULL;
+    if (is_cid(bytes_of(bytes), length_of(bytes)))
+        cid = new_cid(type, bytes_of(bytes), length_of(bytes));
+    else refuse_code(state, DAGCBOR_MSG, Py_None);
+    Py_DECREF(bytes);
+    return cid;
+}
+
+static PyObject *cid_str(PyObject *self) {
+    PyObject *bytes = ((Cid *)self)->bytes;
+    char text[CID_TEXT_MOST];
+    size_t length = cid_text(bytes_of(bytes), length_of(bytes), text);
+    return PyUnicode_FromStringAndSize(text, (Py_ssize_t)length);
+}
+
+static PyObject *cid_repr(PyObject *self) {
+    PyObject *text = cid_str(self), *repr = text ? PyUnicode_FromFormat("CID(%R)", text) : NULL;
+    Py_XDECREF(text);
+    return repr;
+}
+
+static PyObject *cid_bytes(PyObject *self, PyObject *unused) {
+    (void)unused;
+    return Py_NewRef(((Cid *)self)->bytes);
+}
+
+static PyObject *cid_reduce(PyObject *self, PyObject *unused) {
+    (void)unused;
+    return Py_BuildValue("O(O)", Py_TYPE(self), ((Cid *)self)->bytes);
+}
+
+static Py_hash_t cid_hash(PyObject *self) { return PyObject_Hash(((Cid *)self)->bytes); }
+
+static PyObject *cid_compare(PyObject *self, PyObject *other, int how) {
+    if (!Py_IS_TYPE(other, Py_TYPE(self))) return Py_NewRef(Py_NotImplemented);
+    return PyObject_RichCompare(((Cid *)self)->bytes, ((Cid *)other)->bytes, how);
+}
+
+static PyMethodDef cid_methods[] = {
+    {"__bytes__", cid_bytes, METH_NOARGS, "The binary form."},
+    {"__reduce__", cid_reduce, METH_NOARGS, NULL},
+    {NULL, NULL, 0, NULL},
+};
+
+static PyType_Slot cid_slots[] = {
+    {Py_tp_doc,
+     "CID(value): a CID, of its binary form, or of its text in base58 or base32.\n\n"
+     "bytes(cid) is its binary form, and str(cid) its text. CIDs compare as their bytes."},
+    {Py_tp_new, cid_new},
+    {Py_tp_dealloc, cid_dealloc},
+    {Py_tp_str, cid_str},
+    {Py_tp_repr, cid_repr},
+    {Py_tp_hash, cid_hash},
+    {Py_tp_richcompare, cid_compare},
+    {Py_tp_methods, cid_methods},
+    {0, NULL},
+};
+
+static PyType_Spec cid_spec = {
+    .name = "dagcbor.CID",
+    .basicsize = sizeof(Cid),
+    .flags = Py_TPFLAGS_DEFAULT | Py_TPFLAGS_IMMUTABLETYPE,
+    .slots = cid_slots,
+};
+
+/* Objects out of tokens */
+
+typedef struct {
+    const State *state;
+    const char *block;
+    const dagcbor_token *next;
+} Reader;
+
+static PyObject *next_value(Reader *reader);
+
+static PyObject *next_list(Reader *reader, Py_ssize_t count) {
+    PyObject *list = PyList_New(count);
+    for (Py_ssize_t i = 0; list && i < count; i++) {
+        PyObject *item = next_value(reader);
+        if (item) PyList_SetItem(list, i, item);
+        else Py_CLEAR(list);
+    }
+    return list;
+}
+
+static PyObject *next_map(Reader *reader, Py_ssize_t count) {
+    PyObject *map = PyDict_New();
+    for (; map && count > 0; count--) {
+        PyObject *key = next_value(reader), *value = key ? next_value(reader) : NULL;
+        if (!value || PyDict_SetItem(map, key, value) < 0) Py_CLEAR(map);
+        Py_XDECREF(key);
+        Py_XDECREF(value);
+    }
+    return map;
+}
+
+/* -1 - n */
+static PyObject *negative(uint64_t n) {
+    if (n <= INT64_MAX) return PyLong_FromLongLong(-1 - (int64_t)n);
+    PyObject *number = PyLong_FromUnsignedLongLong(n),
+             *inverse = number ? PyNumber_Invert(number) : NULL;
+    Py_XDECREF(number);
+    return inverse;
+}
+
+/* Takes the value's tokens. They are those of a block: no more follow than there are, payloads are
+   in it, and no list or map is in 128 others. */
+static PyObject *next_value(Reader *reader) {
+    const dagcbor_token token = *reader->next++;
+    const char *payload = reader->block + token.place;
+    Py_ssize_t count = (Py_ssize_t)token.number;
+    switch (token.kind) {
+    case DAGCBOR_BOOL: return PyBool_FromLong((long)token.number);
+    case DAGCBOR_INTEGER: return PyLong_FromUnsignedLongLong(token.number);
+    case DAGCBOR_NEGATIVE: return negative(token.number);
+    case DAGCBOR_STRING: return PyUnicode_FromStringAndSize(payload, count);
+    case DAGCBOR_BYTES: return PyBytes_FromStringAndSize(payload, count);
+    case DAGCBOR_LINK: return new_cid(reader->state->cid, (const uint8_t *)payload, token.number);
+    case DAGCBOR_LIST: return next_list(reader, count);
+    case DAGCBOR_MAP: return next_map(reader, count);
+    default: return Py_NewRef(Py_None);
+    }
+}
+
+/* Room for so many tokens, or NULL with an error raised. */
+static dagcbor_token *room_for(size_t tokens) {
+    if (tokens > PY_SSIZE_T_MAX / sizeof(dagcbor_token)) return no_memory();
+    dagcbor_token *room = PyMem_Malloc(tokens * sizeof *room);
+    return room ? room : no_memory();
+}
+
+static PyObject *loads_bytes(State *state, PyObject *block) {
+    dagcbor_token few[FEW_TOKENS], *tape = few;
+    const uint8_t *bytes = bytes_of(block);
+    size_t length = length_of(block), room = FEW_TOKENS, needed = length;
+    PyObject *value = NULL;
+    int32_t code = 0;
+    if (length > MANY_TOKENS) code = dagcbor_tape(bytes, length, few, 0, &needed);
+    if (code >= 0 && needed > room) {
+        room = needed;
+        if (!(tape = room_for(room))) return NULL;
+    }
+    if (code >= 0) code = dagcbor_tape(bytes, length, tape, room, &needed);
+    if (code >= 0) {
+        Reader reader = {state, (const char *)bytes, tape};
+        value = next_value(&reader);
+    } else {
+        refuse_code(state, code, block);
+    }
+    if (tape != few) PyMem_Free(tape);
+    return value;
+}
+
+/* Tokens out of objects */
+
+/* A step to a part: the key, or none and an index. */
+typedef struct {
+    PyObject *key;
+    Py_ssize_t index;
+} Step;
+
+typedef struct {
+    State *state;
+    Tape tape;
+    Room entries; /* of the maps that are being written */
+    Step path[MOST_LEVELS];
+    int level;
+} Writer;
+
+/* Raises the error of a value that has no block. */
+static int refuse(Writer *writer, const char *kind, const char *said, PyObject *value) {
+    PyObject *type = NULL, *message = NULL, *error = NULL, *place = PyTuple_New(writer->level);
+    for (int i = 0; place && i < writer->level; i++) {
+        Step step = writer->path[i];
+        PyObject *part = step.key ? Py_NewRef(step.key) : PyLong_FromSsize_t(step.index);
+        if (part) PyTuple_SetItem(place, i, part);
+        else Py_CLEAR(place);
+    }
+    if (place) type = PyType_GetName(Py_TYPE(value));
+    if (type) message = PyUnicode_FromFormat("%U: %s", type, said);
+    if (message) error = PyObject_CallFunction(writer->state->error, "OsO", message, kind, place);
+    if (error) PyErr_SetObject(writer->state->error, error);
+    Py_XDECREF(error);
+    Py_XDECREF(message);
+    Py_XDECREF(type);
+    Py_XDECREF(place);
+    return -1;
+}
+
+static int raise_unless(bool has_memory) { return has_memory ? 0 : (PyErr_NoMemory(), -1); }
+
+static int add_token(Writer *writer, uint64_t kind, uint64_t number) {
+    return raise_unless(tape_add(&writer->tape, kind, number));
+}
+
+static int add_payload(Writer *writer, uint64_t kind, const void *bytes, size_t length) {
+    return raise_unless(tape_put(&writer->tape, kind, bytes, length));
+}
+
+static int add_bytes(Writer *writer, uint64_t kind, PyObject *bytes) {
+    return add_payload(writer, kind, bytes_of(bytes), length_of(bytes));
+}
+
+static int add_buffer(Writer *writer, PyObject *given) {
+    PyObject *bytes = to_bytes(given);
+    int done = bytes ? add_bytes(writer, DAGCBOR_BYTES, bytes) : -1;
+    Py_XDECREF(bytes);
+    return done;
+}
+
+/* The text's UTF-8, which the object holds; NULL with an error raised where it has none. */
+static const char *utf8_of(Writer *writer, PyObject *text, size_t *length) {
+    Py_ssize_t count;
+    const char *bytes = PyUnicode_AsUTF8AndSize(text, &count);
+    if (bytes) return *length = (size_t)count, bytes;
+    if (PyErr_ExceptionMatches(PyExc_UnicodeError)) {
+        PyErr_Clear();
+        refuse(writer, "RequireUtf8", "a surrogate, which has no UTF-8", text);
+    }
+    return NULL;
+}
+
+static int add_text(Writer *writer, PyObject *text) {
+    size_t length;
+    const char *bytes = utf8_of(writer, text, &length);
+    return bytes ? add_payload(writer, DAGCBOR_STRING, bytes, length) : -1;
+}
+
+/* Adds an integer that is no int64_t. What a subclass makes of its methods is not asked. */
+static int add_long_integer(Writer *writer, PyObject *given, bool is_negative) {
+    unaryfunc invert = (unaryfunc)PyType_GetSlot(&PyLong_Type, Py_nb_invert);
+    PyObject *number = is_negative ? invert(given) : Py_NewRef(given);
+    if (!number) return -1;
+    unsigned long long n = PyLong_AsUnsignedLongLong(number);
+    Py_DECREF(number);
+    if (!PyErr_Occurred())
+        return add_token(writer, is_negative ? DAGCBOR_NEGATIVE : DAGCBOR_INTEGER, n);
+    if (!PyErr_ExceptionMatches(PyExc_OverflowError)) return -1;
+    PyErr_Clear();
+    return refuse(writer, "CastOverflow", "not in -2 ** 64 .. 2 ** 64 - 1", given);
+}
+
+static int add_integer(Writer *writer, PyObject *given) {
+    int beyond;
+    long long n = PyLong_AsLongLongAndOverflow(given, &beyond);
+    if (beyond) return add_long_integer(writer, given, beyond < 0);
+    if (n == -1 && PyErr_Occurred()) return -1;
+    return n < 0 ? add_token(writer, DAGCBOR_NEGATIVE, (uint64_t)(-1 - n))
+                 : add_token(writer, DAGCBOR_INTEGER, (uint64_t)n);
+}
+
+static int add_value(Writer *writer, PyObject *value);
+
+/* The part of a list or map, which it may lose meanwhile. */
+static int add_part(Writer *writer, Step step, PyObject *part) {
+    writer->path[writer->level++] = step;
+    Py_INCREF(part);
+    int done = add_value(writer, part);
+    Py_DECREF(part);
+    writer->level--;
+    return done;
+}
+
+static int add_list(Writer *writer, PyObject *list) {
+    Py_ssize_t count = PyList_Size(list);
+    if (writer->level == MOST_LEVELS) return refuse(writer, "DepthOverflow", "too deep", list);
+    if (add_token(writer, DAGCBOR_LIST, (uint64_t)count) < 0) return -1;
+    for (Py_ssize_t i = 0; i < count; i++) {
+        if (PyList_Size(list) != count)
+            return PyErr_SetString(PyExc_RuntimeError, "list changed size during dumps"), -1;
+        if (add_part(writer, (Step){NULL, i}, PyList_GetItem(list, i)) < 0) return -1;
+    }
+    return 0;
+}
+
+/* Holds the entries of a map, in its own order. Those held count also where an error is raised. */
+static int hold_entries(Writer *writer, PyObject *map, Py_ssize_t *held) {
+    PyObject *key, *value;
+    Py_ssize_t at = 0;
+    while (PyDict_Next(map, &at, &key, &value)) {
+        size_t length;
+        if (!PyUnicode_Check(key)) return refuse(writer, "Mismatch", "a key that is no str", key);
+        const char *text = utf8_of(writer, key, &length);
+        if (!text) return -1;
+        Entry *entry = room_take(&writer->entries, sizeof *entry);
+        if (!entry) return raise_unless(false);
+        *entry = (Entry){text, length, 0, Py_NewRef(key), Py_NewRef(value)};
+        ++*held;
+    }
+    return 0;
+}
+
+static int add_entries(Writer *writer, size_t start, Py_ssize_t count) {
+    sort_entries((Entry *)(writer->entries.start + start), (size_t)count);
+    if (add_token(writer, DAGCBOR_MAP, (uint64_t)count) < 0) return -1;
+    for (Py_ssize_t i = 0; i < count; i++) {
+        Entry entry =
+            ((Entry *)(writer->entries.start + start))[i]; /* what follows may move them */
+        if (add_payload(writer, DAGCBOR_STRING, entry.text, entry.length) < 0) return -1;
+        if (add_part(writer, (Step){entry.key, 0}, entry.value) < 0) return -1;
+    }
+    return 0;
+}
+
+static int add_map(Writer *writer, PyObject *map) {
+    size_t start = writer->entries.used;
+    Py_ssize_t held = 0;
+    if (writer->level == MOST_LEVELS) return refuse(writer, "DepthOverflow", "too deep", map);
+    int done = hold_entries(writer, map, &held);
+    if (done == 0) done = add_entries(writer, start, held);
+    for (Py_ssize_t i = 0; i < held; i++) {
+        Entry entry = ((Entry *)(writer->entries.start + start))[i];
+        Py_DECREF((PyObject *)entry.key);
+        Py_DECREF((PyObject *)entry.value);
+    }
+    writer->entries.used = start;
+    return done;
+}
+
+static int add_value(Writer *writer, PyObject *value) {
+    if (PyUnicode_Check(value)) return add_text(writer, value);
+    if (Py_IsTrue(value) || Py_IsFalse(value))
+        return add_token(writer, DAGCBOR_BOOL, Py_IsTrue(value));
+    if (PyLong_Check(value)) return add_integer(writer, value);
+    if (Py_IsNone(value)) return add_token(writer, DAGCBOR_NULL, 0);
+    if (PyDict_Check(value)) return add_map(writer, value);
+    if (PyList_Check(value)) return add_list(writer, value);
+    if (PyBytes_Check(value)) return add_bytes(writer, DAGCBOR_BYTES, value);
+    if (Py_IS_TYPE(value, writer->state->cid))
+        return add_bytes(writer, DAGCBOR_LINK, ((Cid *)value)->bytes);
+    if (PyByteArray_Check(value) || PyObject_TypeCheck(value, &PyMemoryView_Type))
+        return add_buffer(writer, value);
+    return refuse(writer, "Unsupported", "not of the types of data", value);
+}
+
+/* The block of the tokens. */
+static PyObject *spell(Writer *writer) {
+    size_t size = writer->tape.size, needed;
+    PyObject *block = PyBytes_FromStringAndSize(NULL, (Py_ssize_t)size);
+    if (!block) return NULL;
+    int32_t code = tape_spell(&writer->tape, (uint8_t *)PyBytes_AsString(block), &needed);
+    if (code >= 0 && needed == size) return block;
+    Py_DECREF(block);
+    if (code < 0) return refuse_code(writer->state, code, Py_None);
+    return PyErr_SetString(PyExc_SystemError, "the size of a block was foretold wrong"), NULL;
+}
+
+static PyObject *dumps(PyObject *module, PyObject *value) {
+    Writer writer;
+    writer.state = PyModule_GetState(module);
+    writer.level = 0;
+    tape_start(&writer.tape);
+    room_start(&writer.entries);
+    PyObject *block = add_value(&writer, value) < 0 ? NULL : spell(&writer);
+    tape_free(&writer.tape);
+    room_free(&writer.entries);
+    return block;
+}
+
+/* The other calls */
+
+static PyObject *loads(PyObject *module, PyObject *given) {
+    PyObject *block = to_bytes(given),
+             *value = block ? loads_bytes(PyModule_GetState(module), block) : NULL;
+    Py_XDECREF(block);
+    return value;
+}
+
+static PyObject *check(PyObject *module, PyObject *given) {
+    PyObject *block = to_bytes(given), *kind = NULL;
+    if (!block) return NULL;
+    int32_t code = dagcbor_check(bytes_of(block), length_of(block));
+    if (code < 0) refuse_code(PyModule_GetState(module), code, block);
+    else kind = PyUnicode_FromString(KINDS[code]);
+    Py_DECREF(block);
+    return kind;
+}
+
+/* The CIDs that are packed. */
+static PyObject *unpack(State *state, const uint8_t *packed, size_t length) {
+    PyObject *found = PyList_New(0);
+    for (size_t at = 0; found && at < length; at += 1 + packed[at]) {
+        PyObject *cid = new_cid(state->cid, packed + at + 1, packed[at]);
+        if (!cid || PyList_Append(found, cid) < 0) Py_CLEAR(found);
+        Py_XDECREF(cid);
+    }
+    return found;
+}
+
+static PyObject *links(PyObject *module, PyObject *given) {
+    State *state = PyModule_GetState(module);
+    uint8_t few[FEW_LINK_BYTES], *out = few;
+    size_t needed;
+    PyObject *block = to_bytes(given), *found = NULL;
+    if (!block) return NULL;
+    int32_t code = dagcbor_links(bytes_of(block), length_of(block), few, sizeof few, &needed);
+    if (code >= 0 && needed > sizeof few) {
+        out = PyMem_Malloc(needed);
+        if (out) code = dagcbor_links(bytes_of(block), length_of(block), out, needed, &needed);
+        else PyErr_NoMemory();
+    }
+    if (code < 0) refuse_code(state, code, block);
+    else if (out) found = unpack(state, out, needed);
+    if (out != few) PyMem_Free(out);
+    Py_DECREF(block);
+    return found;
+}
+
+static PyObject *name(PyObject *module, PyObject *given) {
+    State *state = PyModule_GetState(module);
+    uint8_t out[36];
+    PyObject *block = to_bytes(given);
+    if (!block) return NULL;
+    dagcbor_name(bytes_of(block), length_of(block), out);
+    Py_DECREF(block);
+    return new_cid(state->cid, out, sizeof out);
+}
+
+/* The module */
+
+static PyMethodDef methods[] = {
+    {"loads", loads, METH_O, "loads(block): the data of a block."},
+    {"dumps", dumps, METH_O,
+     "dumps(value): the one block of the data. Keys come in the order of blocks, whatever the "
+     "dict's."},
+    {"check", check, METH_O, "check(block): the kind of a block."},
+    {"links", links, METH_O,
+     "links(block): the links of the first item, in their order. What follows it is not looked "
+     "at."},
+    {"name", name, METH_O,
+     "name(block): the CID of any bytes as a block: version 1, DAG-CBOR, SHA-256."},
+    {NULL, NULL, 0, NULL},
+};
+
+/* The library's code is for these processors. */
+static bool has_processor(void) {
+#if defined(__x86_64__)
+    __builtin_cpu_init();
+    return __builtin_cpu_supports("sse4.2") && __builtin_cpu_supports("popcnt");
+#else
+    return true;
+#endif
+}
+
+static int start(PyObject *module) {
+    State *state = PyModule_GetState(module);
+    if (!has_processor())
+        return PyErr_SetString(PyExc_ImportError, "dagcbor wants an x86-64-v2 processor"), -1;
+    PyObject *errors = PyImport_ImportModule("dagcbor._errors");
+    if (!errors) return -1;
+    state->refused = PyObject_GetAttrString(errors, "refused");
+    state->error = PyObject_GetAttrString(errors, "DagCborError");
+    Py_DECREF(errors);
+    state->cid = (PyTypeObject *)PyType_FromModuleAndSpec(module, &cid_spec, NULL);
+    if (!state->refused || !state->error || !state->cid) return -1;
+    return PyModule_AddType(module, state->cid);
+}
+
+static int traverse(PyObject *module, visitproc visit, void *arg) {
+    State *state = PyModule_GetState(module);
+    Py_VISIT(state->cid);
+    Py_VISIT(state->refused);
+    Py_VISIT(state->error);
+    return 0;
+}
+
+static int clear(PyObject *module) {
+    State *state = PyModule_GetState(module);
+    Py_CLEAR(state->cid);
+    Py_CLEAR(state->refused);
+    Py_CLEAR(state->error);
+    return 0;
+}
+
+static PyModuleDef_Slot slots[] = {{Py_mod_exec, start}, {0, NULL}};
+
+static PyModuleDef definition = {
+    .m_base = PyModuleDef_HEAD_INIT,
+    .m_name = "dagcbor._native",
+    .m_size = sizeof(State),
+    .m_methods = methods,
+    .m_slots = slots,
+    .m_traverse = traverse,
+    .m_clear = clear,
+};
+
+PyMODINIT_FUNC PyInit__native(void) { return PyModuleDef_Init(&definition); }

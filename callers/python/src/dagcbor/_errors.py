@@ -1,0 +1,62 @@
+"""Why bytes are no block, and why data has none."""
+
+import bisect
+
+REASONS = {
+    -1: ("Msg", "no CID"),
+    -3: ("Eof", "the bytes end too early"),
+    -4: ("Mismatch", "a key that is no text, or another tag than that of a link"),
+    -5: (
+        "Unsupported",
+        "a float or another simple value, a link without a byte string, or a reserved width",
+    ),
+    -8: ("RequireUtf8", "a text that is not UTF-8"),
+    -12: ("DepthOverflow", "lists and maps are in each other too deep"),
+    -14: ("TrailingData", "bytes behind the item"),
+    -15: ("IndefiniteSize", "an indefinite length or a break"),
+    -16: ("NonMinimal", "a number or a length in more bytes than it needs"),
+    -17: ("UnorderedKey", "a key that does not come behind the one before it"),
+}
+
+
+class DagCborError(ValueError):
+    """Bytes that are no block, or data that has none.
+
+    `kind` names the reason, as the library does. `place` is None where it is not known. Of bytes it
+    is the offset of the first byte that no block has there, whatever follows: it is searched for
+    when it is asked for. Of data it is a tuple of the keys and indices that lead to what is refused.
+    """
+
+    def __init__(self, message, kind=None, place=None):
+        super().__init__(message)
+        self.kind = kind
+        self._place = place
+        self._block = None
+
+    @property
+    def place(self):
+        if self._place is None and self._block is not None:
+            self._place = place_in(self._block)
+        return self._place
+
+
+def refused(code, block=None):
+    """The error of a number of the library. The block is kept, for its place."""
+    kind, reason = REASONS.get(code, (None, f"refused: {code}"))
+    error = DagCborError(reason, kind)
+    error._block = block
+    return error
+
+
+def place_in(block):
+    """The length of the longest front of the block that is refused only for its end."""
+    from ._native import check
+
+    def is_enough(count):
+        try:
+            check(block[:count])
+        except DagCborError as refusal:
+            return refusal.kind != "Eof"
+        return False
+
+    return bisect.bisect_left(range(1, len(block) + 1), True, key=is_enough)

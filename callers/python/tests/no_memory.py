@@ -1,0 +1,57 @@
+"""Lets each allocation of each call fail, and then all from each on.
+
+An answer is right, or there is no memory."""
+
+import sys
+
+from dagcbor import CID, DagCborError, check, dumps, links, loads, name
+from plain import same
+
+try:
+    from _testcapi import remove_mem_hooks, set_nomemory
+except ImportError:
+    print("this Python lets no allocation fail: it has no _testcapi")
+    sys.exit(77)
+
+CIDS = [name(bytes([it])) for it in range(60)]
+VALUE = {
+    "a" * i: [i, -i, 2**64 - 1 - i, -(2**64) + i, "é" * i, b"x" * i, None, CIDS[i], {"k": [i]}]
+    for i in range(60)
+}
+BLOCK = dumps(VALUE)
+BAD = [VALUE, {"a": [2**64]}]
+TEXT = str(CIDS[0])
+CALLS = [
+    (dumps, VALUE, BLOCK), (loads, BLOCK, VALUE), (loads, bytearray(BLOCK), VALUE),
+    (links, BLOCK, CIDS), (check, BLOCK, "map"),
+    (name, BLOCK, name(BLOCK)), (CID, TEXT, CIDS[0]), (CID, bytes(CIDS[0]), CIDS[0]),
+    (str, CIDS[0], TEXT), (repr, CIDS[0], f"CID('{TEXT}')"),
+    (dumps, BAD, "CastOverflow"), (loads, BLOCK[:-1], "Eof"), (check, b"\x18\x17", "NonMinimal"),
+    (dumps, [1.5], "Unsupported"), (CID, b"", "Msg"),
+]
+
+
+def answer(call, given, first, last):
+    set_nomemory(first, last)
+    try:
+        return call(given)
+    except MemoryError:
+        return MemoryError
+    except DagCborError as refusal:
+        return refusal.kind
+    finally:
+        remove_mem_hooks()
+
+
+failed = 0
+for call, given, wanted in CALLS:
+    for ends in (1, 0):  # one allocation, or all from there on
+        # To the first that is not reached, and some behind it: those of big calls one in a few.
+        first, unreached = 0, 0
+        while unreached < 3:
+            found = answer(call, given, first, first + 1 if ends else 0)
+            assert found is MemoryError or same(found, wanted), (call, first, found)
+            failed += found is MemoryError
+            unreached = 0 if found is MemoryError else unreached + 1
+            first += 1
+print(f"{failed} failed for memory")

@@ -1,0 +1,141 @@
+"""What is refused, and how it is told."""
+
+import copy
+import pickle
+
+import pytest
+from dagcbor import CID, DagCborError, check, dumps, links, loads, name
+
+
+def refusal(call, *args):
+    with pytest.raises(DagCborError) as caught:
+        call(*args)
+    return caught.value
+
+
+@pytest.mark.parametrize("block, kind, place", [
+    ("1817", "NonMinimal", 1), ("", "Eof", 0), ("8201", "Eof", 2), ("8200f7", "Unsupported", 2),
+    ("f600", "TrailingData", 1),
+    ("830102030405", "TrailingData", 4), ("62c328", "RequireUtf8", 2),
+    ("a2616201616102", "UnorderedKey", 5), ("ff", "IndefiniteSize", 0),
+    ("82" + "fb3ff199999999999a" + "00", "Unsupported", 1),
+    ("81" * 128 + "80", "DepthOverflow", 127), ("d82a40", "Msg", 2),
+])
+def test_place_in_bytes(block, kind, place):
+    for given in (bytes.fromhex(block), bytearray.fromhex(block)):
+        error = refusal(loads, given)
+        assert isinstance(error, ValueError) and (error.kind, error.place) == (kind, place)
+        assert refusal(check, given).place == place
+    other = pickle.loads(pickle.dumps(error))
+    assert (str(other), other.kind, other.place) == (str(error), kind, place)
+
+
+@pytest.mark.parametrize("value, kind, place, said", [
+    (1.5, "Unsupported", (), "float"),
+    ([0, {"a": [None, float("nan")]}], "Unsupported", (1, "a", 1), "float"),
+    (2**64, "CastOverflow", (), "int"), (-(2**64) - 1, "CastOverflow", (), "int"),
+    ([10**400], "CastOverflow", (0,), "int"),
+    ({1: 2}, "Mismatch", (), "int"), ({"a": {b"b": 1}}, "Mismatch", ("a",), "bytes"),
+    ({None: 1}, "Mismatch", (), "NoneType"),
+    ("\ud800", "RequireUtf8", (), "str"), ({"\udfff": 1}, "RequireUtf8", (), "str"),
+    ([(1, 2)], "Unsupported", (0,), "tuple"),
+    ({"b": 1, "a": {1, 2}}, "Unsupported", ("a",), "set"), (object(), "Unsupported", (), "object"),
+    (CID, "Unsupported", (), "type"),
+])
+def test_place_in_data(value, kind, place, said):
+    error = refusal(dumps, value)
+    assert (error.kind, error.place) == (kind, place) and str(error).startswith(said + ": ")
+    assert pickle.loads(pickle.dumps(error)).place == place
+
+
+def nested(levels, inner):
+    for _ in range(levels):
+        inner = [inner] if levels % 2 else {"": inner}
+    return inner
+
+
+@pytest.mark.parametrize("inner", [[], {}, 1])
+def test_deep(inner):
+    for levels in (126, 127):
+        assert loads(dumps(nested(levels, inner))) == nested(levels, inner)
+    assert refusal(dumps, nested(128, inner)).kind == "DepthOverflow"
+    assert refusal(dumps, nested(100_000, 0)).kind == "DepthOverflow"
+
+
+def test_order_of_keys():
+    assert dumps({"b": 0, "a": 1, "": 2, "aa": 3}) == bytes.fromhex("a460026161016162006261 6103")
+    assert list(loads(dumps({"bb": 1, "c": 2}))) == ["c", "bb"]
+    rising = {chr(it): it for it in range(1, 301)}
+    assert dumps(dict(reversed(rising.items()))) == dumps(rising)
+
+
+def test_not_buffers():
+    for call in (loads, check, links, name):
+        for given in ("text", None, 1, [1], memoryview(b"abcd")[::2]):
+            with pytest.raises((TypeError, BufferError)):
+                call(given)
+    with pytest.raises(TypeError):
+        loads()
+    assert loads(memoryview(b"\x83\x01\x02\x03").cast("B", (2, 2))) == [1, 2, 3]
+
+
+def test_buffers_as_values():
+    buffers = [bytearray(b"ab"), memoryview(b"cd"), memoryview(bytearray())]
+    assert dumps(buffers) == bytes.fromhex("8342616242636440")
+
+
+def test_cid():
+    block = b"\xf6"
+    cid = name(block)
+    assert str(cid).startswith("bafyrei")
+    assert CID(str(cid)) == cid == CID(bytes(cid)) == CID(bytearray(bytes(cid)))
+    assert repr(cid) == f"CID('{cid}')"
+    assert hash(cid) == hash(CID(bytes(cid))) and {cid: 1}[CID(str(cid))] == 1
+    assert cid != bytes(cid) and cid != str(cid) and cid <= cid
+    assert sorted([cid, name(b"")]) == sorted([name(b""), cid])
+    with pytest.raises(TypeError):
+        cid < bytes(cid)
+    assert pickle.loads(pickle.dumps(cid)) == cid == copy.deepcopy([cid])[0]
+    with pytest.raises(AttributeError):
+        cid.other = 1
+    with pytest.raises(TypeError):
+        type("Sub", (CID,), {})
+    assert loads(dumps({"a": cid})) == {"a": cid}
+
+
+EMPTY = "e3b0c44298fc1c149afbf4c8996fb92427ae41e4649b934ca495991b7852b855"  # sha256sum of nothing
+
+# The multicodec and multibase tables tell these texts of the digest of nothing.
+TEXTS = [
+    ("QmdfTbBqBPQ7VNxZEYEj14VmRuZBkqFbiwReogJgS1zR1n", "1220" + EMPTY),
+    ("bafybeihdwdcefgh4dqkjv67uzcmw7ojee6xedzdetojuzjevtenxquvyku", "01701220" + EMPTY),
+]
+
+
+@pytest.mark.parametrize("text, binary", TEXTS)
+def test_cid_texts(text, binary):
+    cid = CID(text)
+    assert bytes(cid).hex() == binary and str(cid) == text
+
+
+@pytest.mark.parametrize("given", [
+    "", "b", "z", "Qm", "Q" * 46, "1" * 46, "b" + "a" * 60, "x00", "bafy!", "bafy\0",
+    "BAFYBEIHDWDCEFGH4DQKJV67UZCMW7OJEE6XEDZDETOJUZJEVTENXQUVYKU",
+    "zQmdfTbBqBPQ7VNxZEYEj14VmRuZBkqFbiwReogJgS1zR1n",
+    "bafybeihdwdcefgh4dqkjv67uzcmw7ojee6xedzdetojuzjevtenxquvykv",
+    "bafybeihdwdcefgh4dqkjv67uzcmw7ojee6xedzdetojuzjevtenxquvykua", "é" * 20, "z" * 5000,
+    "b" * 5000, b"", b"\x01", b"\0" * 36, b"\x01\x71\x12\x20", b"\x01" * 300,
+    b"\x12\x20" + b"\0" * 31, b"\x01\x71\x12\x41" + b"\0" * 65,
+])
+def test_no_cid(given):
+    assert refusal(CID, given).kind == "Msg"
+
+
+def test_no_cid_argument():
+    for args in [(), (1,), (None,), ("a", "b")]:
+        with pytest.raises(TypeError):
+            CID(*args)
+    with pytest.raises(TypeError):
+        CID(value=b"")
+    with pytest.raises(UnicodeError):
+        CID("\ud800")

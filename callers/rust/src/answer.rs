@@ -1,0 +1,112 @@
+use core::fmt;
+
+/// What an item is.
+#[derive(Clone, Copy, Debug, PartialEq, Eq, Hash)]
+pub enum Kind {
+    /// null
+    Null,
+    /// false or true
+    Bool,
+    /// an integer of -2^64 .. 2^64 - 1
+    Integer,
+    /// a text
+    String,
+    /// a byte string
+    Bytes,
+    /// a list
+    List,
+    /// a map
+    Map,
+    /// a link, which is a CID
+    Link,
+}
+
+/// Why bytes, or what a tape tells, are no block.
+#[derive(Clone, Copy, Debug, PartialEq, Eq, Hash)]
+#[non_exhaustive]
+pub enum Refusal {
+    /// a link holds no CID
+    Msg,
+    /// the bytes end too early
+    Eof,
+    /// a key that is no text, or another tag than that of a link
+    Mismatch,
+    /// a float or another simple value, a link without a byte string, or a reserved width
+    Unsupported,
+    /// a text that is not UTF-8
+    RequireUtf8,
+    /// lists and maps are in each other too deep
+    DepthOverflow,
+    /// bytes behind the item
+    TrailingData,
+    /// an indefinite length or a break
+    IndefiniteSize,
+    /// a number or a length in more bytes than it needs
+    NonMinimal,
+    /// a key that does not come behind the one before it
+    UnorderedKey,
+    /// a token with a kind or a number that is none, or a payload outside the bytes
+    NoToken,
+    /// the room that was lent is too small
+    NoRoom {
+        /// how many bytes, or tokens, need room
+        needed: usize,
+    },
+}
+
+impl Refusal {
+    const fn words(self) -> &'static str {
+        match self {
+            Refusal::Msg => "a link holds no CID",
+            Refusal::Eof => "the bytes end too early",
+            Refusal::Mismatch => "a key that is no text, or another tag than that of a link",
+            Refusal::Unsupported => {
+                "a float or another simple value, a link without a byte string, or a reserved width"
+            }
+            Refusal::RequireUtf8 => "a text that is not UTF-8",
+            Refusal::DepthOverflow => "lists and maps are in each other too deep",
+            Refusal::TrailingData => "bytes behind the item",
+            Refusal::IndefiniteSize => "an indefinite length or a break",
+            Refusal::NonMinimal => "a number or a length in more bytes than it needs",
+            Refusal::UnorderedKey => "a key that does not come behind the one before it",
+            Refusal::NoToken => "a token that is none",
+            Refusal::NoRoom { .. } => "no room",
+        }
+    }
+}
+
+impl fmt::Display for Refusal {
+    fn fmt(&self, f: &mut fmt::Formatter<'_>) -> fmt::Result {
+        f.write_str(self.words())
+    }
+}
+
+#[cfg(feature = "std")]
+impl std::error::Error for Refusal {}
+
+/// What a number of the library says, where the room that it asked for is this.
+pub(crate) fn answer_of(code: i32, needed: usize) -> Result<Kind, Refusal> {
+    Err(match code {
+        0 => return Ok(Kind::Null),
+        1 => return Ok(Kind::Bool),
+        2 => return Ok(Kind::Integer),
+        3 => return Ok(Kind::String),
+        4 => return Ok(Kind::Bytes),
+        5 => return Ok(Kind::List),
+        6 => return Ok(Kind::Map),
+        7 => return Ok(Kind::Link),
+        -1 => Refusal::Msg,
+        -3 => Refusal::Eof,
+        -4 => Refusal::Mismatch,
+        -5 => Refusal::Unsupported,
+        -8 => Refusal::RequireUtf8,
+        -12 => Refusal::DepthOverflow,
+        -14 => Refusal::TrailingData,
+        -15 => Refusal::IndefiniteSize,
+        -16 => Refusal::NonMinimal,
+        -17 => Refusal::UnorderedKey,
+        -20 => Refusal::NoToken,
+        -21 => Refusal::NoRoom { needed },
+        _ => unreachable!("the library answers no {code}"),
+    })
+}

@@ -1,0 +1,228 @@
+use crate::answer::answer_of;
+use crate::item::{Cids, Items, Token};
+use crate::{Kind, Refusal};
+#[cfg(feature = "alloc")]
+use {
+    crate::item::{self, Item},
+    alloc::{vec, vec::Vec},
+};
+
+extern "C" {
+    fn dagcbor_check(bytes: *const u8, length: usize) -> i32;
+    fn dagcbor_tape(
+        bytes: *const u8,
+        length: usize,
+        tape: *mut Token,
+        room: usize,
+        needed: *mut usize,
+    ) -> i32;
+    fn dagcbor_spell(
+        bytes: *const u8,
+        length: usize,
+        tape: *const Token,
+        count: usize,
+        out: *mut u8,
+        room: usize,
+        needed: *mut usize,
+    ) -> i32;
+    fn dagcbor_links(
+        bytes: *const u8,
+        length: usize,
+        out: *mut u8,
+        room: usize,
+        needed: *mut usize,
+    ) -> i32;
+    fn dagcbor_name(bytes: *const u8, length: usize, out: *mut [u8; 36]);
+}
+
+// What the calls below owe to the library, and slices have: a pointer is not null, also that of an
+// empty slice; it is aligned; so many elements stand there, of at most isize::MAX bytes; nobody
+// writes a shared slice, nobody else uses a unique one, and the two do not overlap.
+
+/// Tokens are fewer than this.
+const MOST_TOKENS: usize = 1 << 58;
+
+/// The kind of a block, exactly where the bytes are one.
+pub fn check(block: &[u8]) -> Result<Kind, Refusal> {
+    // SAFETY: see above.
+    let code = unsafe { dagcbor_check(block.as_ptr(), block.len()) };
+    answer_of(code, 0)
+}
+
+/// The block's name, a CID: version 1, DAG-CBOR, by the SHA-256 of the bytes. Any bytes have one.
+pub fn name(block: &[u8]) -> [u8; 36] {
+    let mut out = [0; 36];
+    // SAFETY: see above.
+    unsafe { dagcbor_name(block.as_ptr(), block.len(), &mut out) };
+    out
+}
+
+/// The items of a block, whose tokens are put into the room. Room for as many as the block has bytes
+/// is enough.
+pub fn tape_into<'a, 't>(block: &'a [u8], room: &'t mut [Token]) -> Result<Items<'a, 't>, Refusal> {
+    let needed = put_tape(block, room)?;
+    match room.get(..needed) {
+        Some(tokens) => Ok(Items::new(block, tokens)),
+        None => Err(Refusal::NoRoom { needed }),
+    }
+}
+
+/// How many tokens the block has. They stand in the room where it has place for all.
+fn put_tape(block: &[u8], room: &mut [Token]) -> Result<usize, Refusal> {
+    assert!(room.len() < MOST_TOKENS);
+    let mut needed = 0;
+    // SAFETY: see above.
+    let code = unsafe {
+        dagcbor_tape(
+            block.as_ptr(),
+            block.len(),
+            room.as_mut_ptr(),
+            room.len(),
+            &mut needed,
+        )
+    };
+    answer_of(code, needed).map(|_| needed)
+}
+
+/// The links of the first item, which are put into the room: each with a byte in front. What follows
+/// the item is not looked at.
+pub fn links_into<'a>(block: &[u8], room: &'a mut [u8]) -> Result<Cids<'a>, Refusal> {
+    let needed = put_links(block, room)?;
+    match room.get(..needed) {
+        Some(packed) => Ok(Cids(packed)),
+        None => Err(Refusal::NoRoom { needed }),
+    }
+}
+
+/// How many bytes the links take. They stand in the room where it has place for all.
+fn put_links(block: &[u8], room: &mut [u8]) -> Result<usize, Refusal> {
+    let mut needed = 0;
+    // SAFETY: see above.
+    let code = unsafe {
+        dagcbor_links(
+            block.as_ptr(),
+            block.len(),
+            room.as_mut_ptr(),
+            room.len(),
+            &mut needed,
+        )
+    };
+    answer_of(code, needed).map(|_| needed)
+}
+
+/// What the tokens tell, with their payloads out of the bytes, put into the room and judged: the
+/// block.
+pub fn spell_into<'a>(
+    bytes: &[u8],
+    tape: &[Token],
+    room: &'a mut [u8],
+) -> Result<&'a [u8], Refusal> {
+    assert!(tape.len() < MOST_TOKENS);
+    let mut needed = 0;
+    // SAFETY: see above.
+    let code = unsafe {
+        dagcbor_spell(
+            bytes.as_ptr(),
+            bytes.len(),
+            tape.as_ptr(),
+            tape.len(),
+            room.as_mut_ptr(),
+            room.len(),
+            &mut needed,
+        )
+    };
+    answer_of(code, needed).map(|_| &room[..needed])
+}
+
+/// A block's tokens.
+#[cfg(feature = "alloc")]
+#[derive(Clone, Debug)]
+pub struct Tape<'a> {
+    block: &'a [u8],
+    tokens: Vec<Token>,
+}
+
+#[cfg(feature = "alloc")]
+impl<'a> Tape<'a> {
+    /// The items, with what the block lends.
+    pub fn items(&self) -> Items<'a, '_> {
+        Items::new(self.block, &self.tokens)
+    }
+}
+
+/// The tokens of a block.
+#[cfg(feature = "alloc")]
+pub fn tape(block: &[u8]) -> Result<Tape<'_>, Refusal> {
+    let mut tokens = Vec::new();
+    let needed = put_tape(block, &mut tokens)?;
+    tokens.resize(needed, Token::default());
+    put_tape(block, &mut tokens)?;
+    Ok(Tape { block, tokens })
+}
+
+/// The links of an item.
+#[cfg(feature = "alloc")]
+#[derive(Clone, Debug)]
+pub struct Links(Vec<u8>);
+
+#[cfg(feature = "alloc")]
+impl Links {
+    /// Each link, repeats kept.
+    pub fn iter(&self) -> Cids<'_> {
+        Cids(&self.0)
+    }
+}
+
+#[cfg(feature = "alloc")]
+impl<'a> IntoIterator for &'a Links {
+    type Item = crate::Cid<'a>;
+    type IntoIter = Cids<'a>;
+
+    fn into_iter(self) -> Cids<'a> {
+        self.iter()
+    }
+}
+
+/// The links of the first item. What follows it is not looked at.
+#[cfg(feature = "alloc")]
+pub fn links(block: &[u8]) -> Result<Links, Refusal> {
+    let mut packed = Vec::new();
+    let needed = put_links(block, &mut packed)?;
+    packed.resize(needed, 0);
+    put_links(block, &mut packed)?;
+    Ok(Links(packed))
+}
+
+/// The block of the items. Keys of maps come in their order: the shorter first, then by their bytes.
+#[cfg(feature = "alloc")]
+pub fn spell(items: &[Item<'_>]) -> Result<Vec<u8>, Refusal> {
+    let (mut payloads, mut tokens) = (Vec::new(), Vec::with_capacity(items.len()));
+    for it in items {
+        let place = payloads.len() as u64;
+        let mut with = |payload: &[u8]| {
+            payloads.extend_from_slice(payload);
+            payload.len() as u64
+        };
+        let (kind, number) = match *it {
+            Item::Null => (item::NULL, 0),
+            Item::Bool(value) => (item::BOOL, u64::from(value)),
+            Item::Integer(n) => (item::INTEGER, n),
+            Item::Negative(n) => (item::NEGATIVE, n),
+            Item::Text(text) => (item::TEXT, with(text.as_bytes())),
+            Item::Bytes(bytes) => (item::BYTES, with(bytes)),
+            Item::List(count) => (item::LIST, count),
+            Item::Map(count) => (item::MAP, count),
+            Item::Link(cid) => (item::LINK, with(cid.as_bytes())),
+        };
+        tokens.push(Token {
+            kind,
+            number,
+            place,
+        });
+    }
+    // No head has more bytes than nine, and that of a link no more than six.
+    let mut block = vec![0; payloads.len() + 9 * tokens.len()];
+    let needed = spell_into(&payloads, &tokens, &mut block)?.len();
+    block.truncate(needed);
+    Ok(block)
+}

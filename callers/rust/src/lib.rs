@@ -1,0 +1,37 @@
+//! DAG-CBOR by a proved library.
+//!
+//! ```
+//! use dagcbor::{check, spell, tape, Item, Kind, Refusal};
+//!
+//! let block = b"\xa2\x64text\x62hi\x64year\x17";
+//! assert_eq!(check(block), Ok(Kind::Map));
+//! assert_eq!(check(b"\x18\x17"), Err(Refusal::NonMinimal));
+//!
+//! let items: Vec<Item> = tape(block)?.items().collect();
+//! assert_eq!(items[0], Item::Map(2));
+//! assert_eq!(items[1..3], [Item::Text("text"), Item::Text("hi")]);
+//! assert_eq!(items[3..], [Item::Text("year"), Item::Integer(23)]);
+//! assert_eq!(spell(&items)?, block);
+//! # Ok::<(), Refusal>(())
+//! ```
+//!
+//! Without the feature `alloc`, which `std` brings, there are the calls that take room:
+//! [`tape_into`], [`links_into`] and [`spell_into`].
+//!
+//! A thread needs 128 KB of stack for a call, and the processor is an x86-64-v2.
+
+#![cfg_attr(not(feature = "std"), no_std)]
+#![warn(missing_docs, unsafe_op_in_unsafe_fn)]
+
+#[cfg(feature = "alloc")]
+extern crate alloc;
+
+mod answer;
+mod calls;
+mod item;
+
+pub use answer::{Kind, Refusal};
+pub use calls::{check, links_into, name, spell_into, tape_into};
+#[cfg(feature = "alloc")]
+pub use calls::{links, spell, tape, Links, Tape};
+pub use item::{Cid, Cids, Item, Items, Token};

@@ -1,6 +1,6 @@
 -- What the program writes for its input.
 use Rattle.std.specs.Prelude.{◌≡◌, ◌≢◌, ◌⊎◌, ℕ, List, [], ◌∷◌, ◌++◌, codes, Option, None, Some}
-use Rattle.std.specs.Prelude.{MatchResult, Result, OnOk, IfErr}
+use Rattle.std.specs.Prelude.{MatchResult, Result, IfSome, OnOk, OnErr, IfErr}
 use Rattle.std.specs.Io.{StartsWith}
 use Rattle.std.specs.Io.KnownBytes.{Appends}
 use Rattle.std.specs.Str.Lines.{lines}
@@ -10,7 +10,7 @@ use Rattle.dagcbor_tool.specs.Pieces.{IsOfOneLine}
 use Rattle.dagcbor_tool.specs.declared.command.Command.{Command}
 use Rattle.dagcbor_tool.specs.declared.command.Command.TheVariants.{Check, Links}
 use Rattle.dagcbor_tool.specs.declared.line.ToolError.{ToolError}
-use Rattle.dagcbor_tool.specs.declared.line.ToolError.TheVariants.{OutOfMemory}
+use Rattle.dagcbor_tool.specs.declared.line.ToolError.TheVariants.{Output, OutOfMemory}
 use Rattle.ipld_tree.specs.Tree.{Tree}
 use Rattle.dagcbor_items.specs.TreeKinds.{kind_of}
 use Rattle.dagcbor_items.specs.declared.kind.Kind.{Kind}
@@ -93,14 +93,6 @@ abbrev pub IsSaidOf : {A : Type 0} → (A → List ℕ) → Command → Option A
 IsSaidOf bytes_of command None said = said ≡ codes "refused hex"
 IsSaidOf bytes_of command (Some block) said = IsSaid command (bytes_of block) said
 
--- The definitions below take what may be said of a line as a parameter.
-
--- one line of output for each line, in order
-abbrev pub AreAnswers : (List ℕ → List ℕ → Type 0) → List (List ℕ) → List ℕ → Type 0
-AreAnswers Said [] out = out ≡ []
-AreAnswers Said (line ∷ lines) out = (said more : List ℕ) × Said line said
-    × (out ≡ said ++ 10 ∷ more) × AreAnswers Said lines more
-
 -- what is said, and a line feed, was appended to these bytes
 abbrev pub AppendsLine : (List ℕ → Type 0) → List ℕ → List ℕ → Type 0
 AppendsLine IsSaid old new = (said : List ℕ) × IsSaid said × (new ≡ old ++ (said ++ 10 ∷ []))
@@ -117,56 +109,93 @@ abbrev pub BeginsWithLines : List ℕ → List (List ℕ) → List ℕ → Type 
 BeginsWithLines text asked left = (more : List ℕ)
     → lines (text ++ more) ≡ asked ++ lines (left ++ more)
 
--- one line of output for each of the first lines of the text was appended to these bytes
-abbrev pub AppendsAnswers : (List ℕ → List ℕ → Type 0) → List ℕ → List ℕ → List ℕ → List ℕ → Type 0
-AppendsAnswers Said text left old new = (asked : List (List ℕ)) × (said : List ℕ)
-    × BeginsWithLines text asked left × AreAnswers Said asked said × (new ≡ old ++ said)
+-- ---- the answers of many lines
 
--- what a call wrote is one line of output for each of these lines
-abbrev pub WritesAnswers : (List ℕ → List ℕ → Type 0) → Option (List ℕ) → Option (List ℕ)
-    → List (List ℕ) → Type 0
-WritesAnswers Said old new asked = (out : List ℕ) × AreAnswers Said asked out × Appends old new out
+-- `Said` is what may be said of a line. Each definition takes first what was asked, as lines or as
+-- bytes, then what is left of that, and last what the output held before and holds now.
+module _ (Said : List ℕ → List ℕ → Type 0) where
+  -- one line of output for each line, in order
+  abbrev pub AreAnswers : List (List ℕ) → List ℕ → Type 0
+  AreAnswers [] out = out ≡ []
+  AreAnswers (line ∷ lines) out = (said more : List ℕ) × Said line said × (out ≡ said ++ 10 ∷ more)
+      × AreAnswers lines more
 
--- what a call wrote is one line of output for each of the first lines of the input
-abbrev pub WritesWhole : (List ℕ → List ℕ → Type 0) → List ℕ → Option (List ℕ) → Option (List ℕ)
-    → Type 0
-WritesWhole Said input old new = (asked others : List (List ℕ)) × (lines input ≡ asked ++ others)
-    × WritesAnswers Said old new asked
+  -- one line of output for each of the first lines of the text was appended to these bytes
+  pub record AppendsAnswers (text left old new : List ℕ) : Type 0 where
+    pub done : List (List ℕ)
+    pub out : List ℕ
+    pub begins : BeginsWithLines text done left
+    pub answers : AreAnswers done out
+    pub appended : new ≡ old ++ out
 
--- a beginning of what is said of some of these lines, from the first
-abbrev pub IsBeginning : (List ℕ → List ℕ → Type 0) → List ℕ → List (List ℕ) → Type 0
-IsBeginning Said part lines = (asked others : List (List ℕ)) × (said back : List ℕ)
-    × (lines ≡ asked ++ others) × AreAnswers Said asked said × (said ≡ part ++ back)
+  -- what a call wrote is one line of output for each of the lines
+  pub record WritesAnswers (asked : List (List ℕ)) (old new : Option (List ℕ)) : Type 0 where
+    pub out : List ℕ
+    pub answers : AreAnswers asked out
+    pub appended : Appends old new out
 
--- what a call wrote is such a beginning
-abbrev pub WritesBeginning : (List ℕ → List ℕ → Type 0) → Option (List ℕ) → Option (List ℕ)
-    → List (List ℕ) → Type 0
-WritesBeginning Said old new lines = (part : List ℕ) × IsBeginning Said part lines
-    × Appends old new part
+  -- what a call wrote is one line of output for each of the first lines of the input
+  pub record WritesWhole (input : List ℕ) (old new : Option (List ℕ)) : Type 0 where
+    pub done : List (List ℕ)
+    pub others : List (List ℕ)
+    pub split : lines input ≡ done ++ others
+    pub wrote : WritesAnswers done old new
 
--- what was taken from the input so far are whole lines, and each was answered
-abbrev pub HasAnswered : (List ℕ → List ℕ → Type 0) → List ℕ → Option (List ℕ) → Option (List ℕ)
-    → Option (List ℕ) → Type 0
-HasAnswered Said input left old new = (done : List (List ℕ)) × (rest out : List ℕ)
-    × (left ≡ Some rest) × (lines input ≡ done ++ lines rest) × AreAnswers Said done out
-    × Appends old new out
+  -- a beginning of what is said of some of the lines, from the first
+  pub record IsBeginning (asked : List (List ℕ)) (part : List ℕ) : Type 0 where
+    pub done : List (List ℕ)
+    pub others : List (List ℕ)
+    pub split : asked ≡ done ++ others
+    pub out : List ℕ
+    pub back : List ℕ
+    pub answers : AreAnswers done out
+    pub cut : out ≡ part ++ back
 
--- of the next line some was taken from the input, or nothing, and at most a beginning of the
--- answers of the next lines was written
-abbrev pub BreaksOff : (List ℕ → List ℕ → Type 0) → List ℕ → Option (List ℕ) → Option (List ℕ)
-    → Option (List ℕ) → Type 0
-BreaksOff Said input left old new = (taken rest part : List ℕ) × (input ≡ taken ++ rest)
-    × (left ≡ Some rest) × IsOfOneLine taken × IsBeginning Said part (lines input)
-    × Appends old new part
+  -- what a call wrote is such a beginning
+  pub record WritesBeginning (asked : List (List ℕ)) (old new : Option (List ℕ)) : Type 0 where
+    pub part : List ℕ
+    pub begins : IsBeginning asked part
+    pub appended : Appends old new part
 
--- all of the input was taken, and each line was answered
-abbrev pub AnswersAll : (List ℕ → List ℕ → Type 0) → List ℕ → Option (List ℕ) → Option (List ℕ)
-    → Option (List ℕ) → Type 0
-AnswersAll Said input left old new = WritesAnswers Said old new (lines input) × (left ≡ Some [])
+  -- what was taken from the input so far are whole lines, and each was answered
+  pub record HasAnswered (input : List ℕ) (remaining old new : Option (List ℕ)) : Type 0 where
+    pub done : List (List ℕ)
+    pub left : List ℕ
+    pub split : lines input ≡ done ++ lines left
+    pub remains : remaining ≡ Some left
+    pub out : List ℕ
+    pub answers : AreAnswers done out
+    pub appended : Appends old new out
 
--- whole lines were taken from the input, and each was answered; then the run broke off, in the next
--- line or before it, and of the answers of the next lines at most a beginning was written
-abbrev pub AnswersSome : (List ℕ → List ℕ → Type 0) → List ℕ → Option (List ℕ) → Option (List ℕ)
-    → Option (List ℕ) → Type 0
-AnswersSome Said input left old new = (mid : List ℕ) × (now : Option (List ℕ))
-    × HasAnswered Said input (Some mid) old now × BreaksOff Said mid left now new
+  -- of the next line some was taken from the input, or nothing, and at most a beginning of the
+  -- answers of the next lines was written
+  pub record BreaksOff (input : List ℕ) (remaining old new : Option (List ℕ)) : Type 0 where
+    pub taken : List ℕ
+    pub left : List ℕ
+    pub split : input ≡ taken ++ left
+    pub remains : remaining ≡ Some left
+    pub of_one_line : IsOfOneLine taken
+    pub part : List ℕ
+    pub begins : IsBeginning (lines input) part
+    pub appended : Appends old new part
+
+  -- all of the input was taken, and each line was answered
+  pub record AnswersAll (input : List ℕ) (remaining old new : Option (List ℕ)) : Type 0 where
+    pub wrote : WritesAnswers (lines input) old new
+    pub at_end : remaining ≡ Some []
+
+  -- whole lines were taken from the input, and each was answered; then the run broke off, in the
+  -- next line or before it, and of the answers of the next lines at most a beginning was written
+  pub record AnswersSome (input : List ℕ) (remaining old new : Option (List ℕ)) : Type 0 where
+    pub behind : List ℕ
+    pub now : Option (List ℕ)
+    pub answered : HasAnswered input (Some behind) old now
+    pub broken : BreaksOff behind remaining now new
+
+-- A run of a command over the input, where the reader tells its bytes: each line was answered, or
+-- the run broke off; and unless it was the output that failed, whole lines were written.
+pub record RunsLines (command : Command) (before after old new : Option (List ℕ)) (r : Result Unit ToolError) : Type 0 where
+  pub answered : OnOk r (IfSome before (λ input. AnswersAll (IsAnswer command) input after old new))
+  pub broken : OnErr r (IfSome before (λ input. AnswersSome (IsAnswer command) input after old new))
+  pub whole : IfErr r (λ e. e ≢ Output
+      → IfSome before (λ input. WritesWhole (IsAnswer command) input old new))

@@ -7,7 +7,7 @@ ghost use Rattle.std.specs.Io.KnownBytes.{prepend_known, IsAtEnd};
 ghost use Rattle.std.specs.Str.Lines.{lines, strip_carriage_return};
 ghost use Rattle.dagcbor_tool.specs.Answers.{IsAnswer, AppendsLine, AppendsAnswers, HasAnswered};
 ghost use Rattle.dagcbor_tool.specs.Answers.{WritesAnswers, WritesBeginning, WritesWhole};
-ghost use Rattle.dagcbor_tool.specs.Answers.{BreaksOff, AnswersAll, AnswersSome};
+ghost use Rattle.dagcbor_tool.specs.Answers.{BreaksOff, RunsLines};
 
 use crate::answer::push_answer;
 use crate::command::Command;
@@ -122,9 +122,9 @@ fn answer_last<W: Write>(
     buffers: &mut Buffers,
 ) -> Result<(), ToolError>
     ensures answered { OnOk result (WritesAnswers (IsAnswer command)
-        (W.contents writer.old) (W.contents writer.new) (lines buffers.old.partial.items)) }
+        (lines buffers.old.partial.items) (W.contents writer.old) (W.contents writer.new)) }
     ensures broken { OnErr result (WritesBeginning (IsAnswer command)
-        (W.contents writer.old) (W.contents writer.new) (lines buffers.old.partial.items)) }
+        (lines buffers.old.partial.items) (W.contents writer.old) (W.contents writer.new)) }
     ensures whole { IfErr result (λ e. e ≢ ToolError.Output
         → WritesWhole (IsAnswer command) buffers.old.partial.items
         (W.contents writer.old) (W.contents writer.new)) }
@@ -151,15 +151,8 @@ pub fn run_lines<R: BufRead, W: Write>(
     reader: &mut R,
     writer: &mut W,
 ) -> Result<(), ToolError>
-    ensures answered { OnOk result (IfSome (R.remaining reader.old) (λ input.
-        AnswersAll (IsAnswer command) input (R.remaining reader.new)
-        (W.contents writer.old) (W.contents writer.new))) }
-    ensures broken { OnErr result (IfSome (R.remaining reader.old) (λ input.
-        AnswersSome (IsAnswer command) input (R.remaining reader.new)
-        (W.contents writer.old) (W.contents writer.new))) }
-    ensures whole { IfErr result (λ e. e ≢ ToolError.Output
-        → IfSome (R.remaining reader.old) (λ input.
-        WritesWhole (IsAnswer command) input (W.contents writer.old) (W.contents writer.new))) }
+    ensures { RunsLines command (R.remaining reader.old) (R.remaining reader.new)
+        (W.contents writer.old) (W.contents writer.new) result }
 {
     let mut buffers = Buffers {
         partial: Vec::new(alloc),
@@ -181,15 +174,8 @@ pub fn run_check<R: BufRead, W: Write>(
     reader: &mut R,
     writer: &mut W,
 ) -> Result<(), ToolError>
-    ensures answered { OnOk result (IfSome (R.remaining reader.old) (λ input.
-        AnswersAll (IsAnswer Command.Check) input (R.remaining reader.new)
-        (W.contents writer.old) (W.contents writer.new))) }
-    ensures broken { OnErr result (IfSome (R.remaining reader.old) (λ input.
-        AnswersSome (IsAnswer Command.Check) input (R.remaining reader.new)
-        (W.contents writer.old) (W.contents writer.new))) }
-    ensures whole { IfErr result (λ e. e ≢ ToolError.Output
-        → IfSome (R.remaining reader.old) (λ input. WritesWhole (IsAnswer Command.Check) input
-        (W.contents writer.old) (W.contents writer.new))) }
+    ensures { RunsLines Command.Check (R.remaining reader.old) (R.remaining reader.new)
+        (W.contents writer.old) (W.contents writer.new) result }
 {
     run_lines(alloc, Command::Check, reader, writer)
 }
@@ -200,15 +186,8 @@ pub fn run_links<R: BufRead, W: Write>(
     reader: &mut R,
     writer: &mut W,
 ) -> Result<(), ToolError>
-    ensures answered { OnOk result (IfSome (R.remaining reader.old) (λ input.
-        AnswersAll (IsAnswer Command.Links) input (R.remaining reader.new)
-        (W.contents writer.old) (W.contents writer.new))) }
-    ensures broken { OnErr result (IfSome (R.remaining reader.old) (λ input.
-        AnswersSome (IsAnswer Command.Links) input (R.remaining reader.new)
-        (W.contents writer.old) (W.contents writer.new))) }
-    ensures whole { IfErr result (λ e. e ≢ ToolError.Output
-        → IfSome (R.remaining reader.old) (λ input. WritesWhole (IsAnswer Command.Links) input
-        (W.contents writer.old) (W.contents writer.new))) }
+    ensures { RunsLines Command.Links (R.remaining reader.old) (R.remaining reader.new)
+        (W.contents writer.old) (W.contents writer.new) result }
 {
     run_lines(alloc, Command::Links, reader, writer)
 }

@@ -10,7 +10,7 @@ use Rattle.dagcbor_items.specs.Untyped.{TakesItem}
 use Rattle.dagcbor_items.specs.Places.{Follows}
 use Rattle.dagcbor_items.specs.ItemCauses.{KeyCause}
 use Rattle.dagcbor_items.specs.Entries.{HasKey}
-use Rattle.dagcbor_read.specs.Calls.{Progress, Call}
+use Rattle.dagcbor_read.specs.Deserializers.{DeState, Call}
 use Rattle.dagcbor_items.specs.Reads.{HasFront, TakesFront, MayLack, Anything}
 use Rattle.dagcbor_read.proofs.Progressing.{call_answered, call_told}
 use Rattle.dagcbor_read.specs.Accessors.{AccessorState, ReadsElement, after_element, ReadsNextKey, after_key}
@@ -20,22 +20,22 @@ use Rattle.dagcbor_items.proofs.StringItems.{text_taken}
 -- ---- the next item of a list
 
 module _ (E : Type 0) {T V : Type 0} (meaning : T → V) (shape : Shape Tree V) where
-  pub record ElementRead (left : ℕ) (old : Progress) (v : T) (new : Progress) : Type 0 where
+  pub record ElementRead (left : ℕ) (old : DeState) (v : T) (new : DeState) : Type 0 where
     pub sound : new.failed ≡ false
     pub some : 0 < left
     pub takes : TakesFront shape old.input (meaning v) new.input
 
-  pub element_read : (left : ℕ) (old new : Progress) (o : Option T) (v : T) → o ≡ Some v → Call (ReadsElement {E = E} meaning shape left) old (Ok o) new → ElementRead left old v new
+  pub element_read : (left : ℕ) (old new : DeState) (o : Option T) (v : T) → o ≡ Some v → Call (ReadsElement {E = E} meaning shape left) old (Ok o) new → ElementRead left old v new
   element_read left old new o v e h =
       let k = call_answered (ReadsElement meaning shape left) old new (Some v) (subst (λ x. Call (ReadsElement {E = E} meaning shape left) old (Ok x) new) e h) in
       record { sound = k.1; some = k.2.0; takes = k.2.1 }
 
-  pub no_element : (left : ℕ) (old new : Progress) (o : Option T) → o ≡ None → Call (ReadsElement {E = E} meaning shape left) old (Ok o) new → (new.failed ≡ false) × (left ≡ 0) × (new.input ≡ old.input)
+  pub no_element : (left : ℕ) (old new : DeState) (o : Option T) → o ≡ None → Call (ReadsElement {E = E} meaning shape left) old (Ok o) new → (new.failed ≡ false) × (left ≡ 0) × (new.input ≡ old.input)
   no_element left old new o e h =
       let k = call_answered (ReadsElement meaning shape left) old new None (subst (λ x. Call (ReadsElement {E = E} meaning shape left) old (Ok x) new) e h) in
       (k.1, k.2.0, k.2.1)
 
-  pub element_refused : (left : ℕ) (old new : Progress) (e : DecodeError E) → old.failed ≡ false → Call (ReadsElement {T = T} meaning shape left) old (Err e) new
+  pub element_refused : (left : ℕ) (old new : DeState) (e : DecodeError E) → old.failed ≡ false → Call (ReadsElement {T = T} meaning shape left) old (Err e) new
       → (0 < left) × Refuses (HasFront shape old.input) (MayLack shape.memory old.input) (shape.wants_loan ≡ true) Anything old.input e new.input
   element_refused left old new e f h = (call_told (ReadsElement meaning shape left) old new (Err e) f h).1
 
@@ -47,23 +47,23 @@ module _ (E : Type 0) {T V : Type 0} (meaning : T → V) (shape : Shape Tree V) 
 
 -- ---- the next key of a map
 
-pub record KeyRead (last : Option (List ℕ)) (left : ℕ) (old : Progress) (key : List ℕ) (new : Progress) : Type 0 where
+pub record KeyRead (last : Option (List ℕ)) (left : ℕ) (old : DeState) (key : List ℕ) (new : DeState) : Type 0 where
   pub sound : new.failed ≡ false
   pub some : 0 < left
   pub follows : Follows last key
   pub takes : TakesItem 1 old.input (text key) new.input
 
-pub key_read : (E : Type 0) (last : Option (List ℕ)) (left : ℕ) (old new : Progress) (o : Option (CowStr Global)) (k : CowStr Global) → o ≡ Some k → Call (ReadsNextKey {E = E} last left) old (Ok o) new → KeyRead last left old (cow_str_bytes k) new
+pub key_read : (E : Type 0) (last : Option (List ℕ)) (left : ℕ) (old new : DeState) (o : Option (CowStr Global)) (k : CowStr Global) → o ≡ Some k → Call (ReadsNextKey {E = E} last left) old (Ok o) new → KeyRead last left old (cow_str_bytes k) new
 key_read E last left old new o k e h =
     let r = call_answered (ReadsNextKey last left) old new (Some k) (subst (λ x. Call (ReadsNextKey {E = E} last left) old (Ok x) new) e h) in
     record { sound = r.1; some = r.2.0; follows = r.2.1; takes = text_taken _ r.2.2 }
 
-pub no_key : (E : Type 0) (last : Option (List ℕ)) (left : ℕ) (old new : Progress) (o : Option (CowStr Global)) → o ≡ None → Call (ReadsNextKey {E = E} last left) old (Ok o) new → (new.failed ≡ false) × (left ≡ 0) × (new.input ≡ old.input)
+pub no_key : (E : Type 0) (last : Option (List ℕ)) (left : ℕ) (old new : DeState) (o : Option (CowStr Global)) → o ≡ None → Call (ReadsNextKey {E = E} last left) old (Ok o) new → (new.failed ≡ false) × (left ≡ 0) × (new.input ≡ old.input)
 no_key E last left old new o e h =
     let r = call_answered (ReadsNextKey last left) old new None (subst (λ x. Call (ReadsNextKey {E = E} last left) old (Ok x) new) e h) in
     (r.1, r.2.0, r.2.1)
 
-pub key_refused : (E : Type 0) (last : Option (List ℕ)) (left : ℕ) (old new : Progress) (e : DecodeError E) → old.failed ≡ false → Call (ReadsNextKey last left) old (Err e) new
+pub key_refused : (E : Type 0) (last : Option (List ℕ)) (left : ℕ) (old new : DeState) (e : DecodeError E) → old.failed ≡ false → Call (ReadsNextKey last left) old (Err e) new
     → (0 < left) × Refuses (HasKey last old.input) (old.input.lends ≡ false) ⊥ (KeyCause last) old.input e new.input
 key_refused E last left old new e f h = (call_told (ReadsNextKey last left) old new (Err e) f h).1
 

@@ -13,7 +13,7 @@ use Rattle.dagcbor_items.specs.Untyped.{TakesItem}
 use Rattle.dagcbor_items.specs.Places.{Follows}
 use Rattle.dagcbor_items.specs.ItemCauses.{KeyCause}
 use Rattle.dagcbor_items.specs.Entries.{HasKey}
-use Rattle.dagcbor_read.specs.Calls.{Progress, Call}
+use Rattle.dagcbor_read.specs.Deserializers.{DeState, Call}
 use Rattle.dagcbor_items.specs.Reads.{HasFront, TakesFront, MayLack, Anything}
 use Rattle.dagcbor_read.specs.Values.{ReadsValue}
 use Rattle.dagcbor_items.specs.Entering.{Enters}
@@ -90,7 +90,7 @@ module _ {S : Type 0} (shape : FieldShape S) where
   -- ---- the loop
 
   -- some entries were read, which brought the state to s: those behind them bring it further
-  pub record FieldsSoFar (start : S) (before : AccessorState) (old : Progress) (now_left : AccessorState) (s : S) (now : Progress) : Type 0 where
+  pub record FieldsSoFar (start : S) (before : AccessorState) (old : DeState) (now_left : AccessorState) (s : S) (now : DeState) : Type 0 where
     pub sound : now.failed ≡ false
     pub is_map : now_left.is_map ≡ true
     pub in_turn : now_left.owes_value ≡ false
@@ -104,7 +104,7 @@ module _ {S : Type 0} (shape : FieldShape S) where
   pub as_count : {old new : Reading} {state s : S} {last : Option (List ℕ)} {count count' : ℕ} → count ≡ count' → TakesFields shape state last count old s new → TakesFields shape state last count' old s new
   as_count {old} {new} {state} {s} {last} e h = subst (λ n. TakesFields shape state last n old s new) e h
 
-  pub no_field_so_far : (start : S) (before : AccessorState) (old : Progress) → old.failed ≡ false → before.is_map ≡ true → before.owes_value ≡ false → FieldsSoFar start before old before start old
+  pub no_field_so_far : (start : S) (before : AccessorState) (old : DeState) → old.failed ≡ false → before.is_map ≡ true → before.owes_value ≡ false → FieldsSoFar start before old before start old
   no_field_so_far start before old f m o = record {
     sound = f;
     is_map = m;
@@ -116,13 +116,13 @@ module _ {S : Type 0} (shape : FieldShape S) where
     takes = λ count end new t. as_count (omega arith) t;
   }
 
-  pub key_not_read : {E : Type 0} {start s : S} {before now_left : AccessorState} {old now : Progress} (borrows : Type 0) (new : Reading) (e : DecodeError E) → FieldsSoFar start before old now_left s now → 0 < now_left.left
+  pub key_not_read : {E : Type 0} {start s : S} {before now_left : AccessorState} {old now : DeState} (borrows : Type 0) (new : Reading) (e : DecodeError E) → FieldsSoFar start before old now_left s now → 0 < now_left.left
       → Refuses (HasKey now_left.last now.input) (now.input.lends ≡ false) ⊥ (KeyCause now_left.last) now.input e new
       → Refuses (HasFields shape start before.last before.left old.input) (MayLack (fields_memory shape) old.input) borrows Anything old.input e new
   key_not_read {E} {start} {s} {before} {now_left} {old} {now} borrows new e i some r =
       refusal_carried (KeyCause now_left.last) Anything old.input now.input new e (same_reader i.same) (λ h. row_key some (i.has h)) (λ x. or_left (unless_lent old.input.lends) (shape.memory old.input.lends) (lacks_unlent i.same.lends x)) (λ x. absurd x) (λ b l g. tt) r
 
-  pub value_not_read : {E : Type 0} {start s : S} {before now_left : AccessorState} {old now mid : Progress} (L borrows : Type 0) (new : Reading) (e : DecodeError E) (key text' : List ℕ) → text' ≡ key → FieldsSoFar start before old now_left s now
+  pub value_not_read : {E : Type 0} {start s : S} {before now_left : AccessorState} {old now mid : DeState} (L borrows : Type 0) (new : Reading) (e : DecodeError E) (key text' : List ℕ) → text' ≡ key → FieldsSoFar start before old now_left s now
       → KeyRead now_left.last now_left.left now key mid → (L → MayLack (fields_memory shape) mid.input) → Refuses (HasFront (value_of shape s text') mid.input) L borrows Anything mid.input e new
       → Refuses (HasFields shape start before.last before.left old.input) (MayLack (fields_memory shape) old.input) borrows Anything old.input e new
   value_not_read {E} {start} {s} {before} {now_left} {old} {now} {mid} L borrows new e key text' is i k may r =
@@ -130,7 +130,7 @@ module _ {S : Type 0} (shape : FieldShape S) where
       refusal_carried Anything Anything old.input mid.input new e same
       (λ h. subst (λ x. HasFront (value_of shape s x) mid.input) (sym is) (fields_value key k.some k.takes (i.has h))) (λ x. lacks_before (fields_memory shape) same.lends (may x)) (λ x. x) (λ b l g. tt) r
 
-  pub one_more_field : {start s next : S} {before now_left with_key after : AccessorState} {old now mid new : Progress} (key text' : List ℕ) → text' ≡ key → FieldsSoFar start before old now_left s now → KeyRead now_left.last now_left.left now key mid
+  pub one_more_field : {start s next : S} {before now_left with_key after : AccessorState} {old now mid new : DeState} (key text' : List ℕ) → text' ≡ key → FieldsSoFar start before old now_left s now → KeyRead now_left.last now_left.left now key mid
       → with_key ≡ record now_left { left = now_left.left - 1; last = Some key; owes_value = true } → after ≡ record with_key { owes_value = false } → new.failed ≡ false
       → TakesFront (value_of shape s text') mid.input next new.input → FieldsSoFar start before old after next new
   one_more_field {start} {s} {next} {before} {now_left} {with_key} {after} {old} {now} {mid} {new} key text' text_is i k is is' f w' =
@@ -149,7 +149,7 @@ module _ {S : Type 0} (shape : FieldShape S) where
         takes = λ count end to t. as_count (omega (arith, less, k.some, i.fewer)) (i.takes (count + 1) end to (fields_taken key k.follows k.takes w (subst (λ l. TakesFields shape next l count new.input end to) last t)));
       }
 
-  pub all_fields_read : {start s : S} {before now_left after : AccessorState} {old now : Progress} (mid new : Progress) → FieldsSoFar start before old now_left s now → now_left.left ≡ 0 → after ≡ now_left → mid.input ≡ now.input → new.input ≡ with_steps (mid.input.steps + after.steps) mid.input
+  pub all_fields_read : {start s : S} {before now_left after : AccessorState} {old now : DeState} (mid new : DeState) → FieldsSoFar start before old now_left s now → now_left.left ≡ 0 → after ≡ now_left → mid.input ≡ now.input → new.input ≡ with_steps (mid.input.steps + after.steps) mid.input
       → (now : Reading) × TakesFields shape start before.last before.left old.input s now × (new.input ≡ with_steps (now.steps + before.steps) now)
   all_fields_read {start} {s} {before} {now_left} {after} {old} {now} mid new i none is same back =
       let end : TakesFields shape s now_left.last 0 now.input s mid.input = record {
@@ -189,7 +189,7 @@ module _ {S : Type 0} (shape : FieldShape S) where
     }
 
     -- all that is left is read of a map that was begun
-    pub entries_read : {T E : Type 0} (meaning : T → S) (old mid new : Progress) (name : List ℕ) (a : Accessor) (result : Result T (DecodeError E)) → Call (BeginsItems {E = E} 5 name 1) old (Ok a) mid
+    pub entries_read : {T E : Type 0} (meaning : T → S) (old mid new : DeState) (name : List ℕ) (a : Accessor) (result : Result T (DecodeError E)) → Call (BeginsItems {E = E} 5 name 1) old (Ok a) mid
         → ReadsEntriesLeft meaning shape start (accessor_state a) mid result new → ReadsValue meaning (fields_of shape start) old result new
     entries_read {T} {E} meaning old mid new name a (Ok v) h r f =
         let k = call_answered (BeginsItems 5 name 1) old mid a h in
@@ -203,7 +203,7 @@ module _ {S : Type 0} (shape : FieldShape S) where
         (λ x. subst (λ l. HasFields shape start l a.left mid.input) (sym none) (map_has_fields k.2.2 x)) (lacks_before (fields_memory shape) k.2.2.takes.same.lends) (λ x. x) (λ b l g. tt) r
 
     -- the same of a map that a variant holds
-    pub held_entries_read : {T E : Type 0} (meaning : T → S) (name : List ℕ) (e : EnumState) (old mid new : Progress) (a : Accessor) (result : Result T (DecodeError E)) → Call (BeginsHeld {E = E} 5 name e) old (Ok a) mid
+    pub held_entries_read : {T E : Type 0} (meaning : T → S) (name : List ℕ) (e : EnumState) (old mid new : DeState) (a : Accessor) (result : Result T (DecodeError E)) → Call (BeginsHeld {E = E} 5 name e) old (Ok a) mid
         → ReadsEntriesLeft meaning shape start (accessor_state a) mid result new → ReadsFieldsHeld meaning (fields_of shape start) e old result new
     held_entries_read {T} {E} meaning name e old mid new a result h r f = by e.in_map refl (call_answered (BeginsHeld 5 name e) old mid a h).2 result r
       where

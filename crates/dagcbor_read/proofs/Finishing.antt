@@ -12,7 +12,7 @@ use Rattle.ipld_tree.specs.Tree.{Tree}
 use Rattle.ipld_tree.proofs.Fronts.{front_unique}
 use Rattle.dagcbor_items.specs.Reads.{HasFront, TakesFront, MayLack, Anything}
 use Rattle.dagcbor_items.specs.Shapes.{Shape}
-use Rattle.dagcbor_read.specs.Calls.{Progress}
+use Rattle.dagcbor_read.specs.Deserializers.{DeState}
 use Rattle.dagcbor_read.specs.Enums.{EnumState, IsOtherForm, ReadsHeld, ReadsFieldsHeld}
 use Rattle.dagcbor_read.specs.Collections.{finishing}
 
@@ -76,7 +76,7 @@ module _ {S V : Type 0} (shape : Shape Tree S) (finish : S → Option V) where
   -- ---- the same of the fields that a variant holds
 
   -- what was read makes a value, or is refused
-  pub held_finishes : {E T U : Type 0} (state : T → S) (meaning : U → V) (e : EnumState) (old new : Progress) (s : T) (result : Result U (DecodeError E))
+  pub held_finishes : {E T U : Type 0} (state : T → S) (meaning : U → V) (e : EnumState) (old new : DeState) (s : T) (result : Result U (DecodeError E))
       → MatchResult result (λ v. finish (state s) ≡ Some (meaning v)) (λ x. (finish (state s) ≡ None) × ((kept : Name) × (x ≡ Msg kept)))
       → ReadsFieldsHeld {E = E} state shape e old (Ok s) new → ReadsFieldsHeld meaning (finishing finish shape) e old result new
   held_finishes state meaning e old new s (Ok v) is h fresh =
@@ -91,7 +91,7 @@ module _ {S V : Type 0} (shape : Shape Tree S) (finish : S → Option V) where
       (tt, subst (λ m. MatchBool m (refuses new.input x) (IsOtherForm e x × (new.input ≡ old.input))) (sym k.1.0) (subst (refuses new.input) (sym is.1.1) back))
 
   -- it was not read, which `?` hands on
-  pub held_handed_on : {E T U : Type 0} (state : T → S) (meaning : U → V) (e : EnumState) (old new : Progress) (result : Result U (DecodeError E)) (error : DecodeError E) → IsErrAnd result (λ y. y ≡ error)
+  pub held_handed_on : {E T U : Type 0} (state : T → S) (meaning : U → V) (e : EnumState) (old new : DeState) (result : Result U (DecodeError E)) (error : DecodeError E) → IsErrAnd result (λ y. y ≡ error)
       → ReadsFieldsHeld {E = E} state shape e old (Err error) new → ReadsFieldsHeld meaning (finishing finish shape) e old result new
   held_handed_on state meaning e old new (Ok v) error is h fresh = absurd is
   held_handed_on {E} {T} state meaning e old new (Err x) error is h fresh = (tt, by e.in_map (subst (λ y. ReadsHeld {T = T} {E = E} state shape e old.input (Err y) new.input) (sym is) (h fresh).1))

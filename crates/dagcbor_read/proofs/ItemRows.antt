@@ -10,7 +10,7 @@ use Rattle.dagcbor_heads.proofs.Taking.{stays, stays_both}
 use Rattle.ipld_tree.specs.Tree.{Tree, list, Items, no_items, item}
 use Rattle.ipld_tree.specs.Spelling.{item_count, IsFront, AreFronts}
 use Rattle.ipld_tree.proofs.Fronts.{list_closed, item_closed, items_after}
-use Rattle.dagcbor_read.specs.Calls.{Progress, Call}
+use Rattle.dagcbor_read.specs.Deserializers.{DeState, Call}
 use Rattle.dagcbor_items.specs.Reads.{HasFront, TakesFront, MayLack, Anything}
 use Rattle.dagcbor_read.specs.Values.{ReadsValue}
 use Rattle.dagcbor_items.specs.Entering.{Enters}
@@ -113,7 +113,7 @@ module _ {V W : Type 0} (shape : Shape Tree V) (others : Shape Items W) where
       (λ h. subst (λ n. HasRow others n mid) (sym (ap (λ (c : AccessorState). c.left) is))
       (row_others shape others (λ v w. (v, w)) (first_then shape others) (λ t ts. refl) (λ t ts. refl) some a h)) (λ x. or_right (shape.memory old.lends) (others.memory old.lends) (lacks_before others.memory a.same.lends x)) (or_right shape.wants_loan others.wants_loan) (λ b l g. tt) r
 
-  pub parts_taken : {before now_left after : AccessorState} {old mid : Reading} {new : Progress} {v : V} {w : W} → 0 < before.left → now_left ≡ record before { left = before.left - 1 } → TakesFront shape old v mid
+  pub parts_taken : {before now_left after : AccessorState} {old mid : Reading} {new : DeState} {v : V} {w : W} → 0 < before.left → now_left ≡ record before { left = before.left - 1 } → TakesFront shape old v mid
       → (new.failed ≡ false) × (after ≡ record now_left { left = after.left }) × (after.left ≤ now_left.left) × TakesRow others (now_left.left - after.left) mid w new.input × (HasRow others now_left.left mid → after.left ≡ 0)
       → (new.failed ≡ false) × (after ≡ record before { left = after.left }) × (after.left ≤ before.left) × TakesRow (first_then shape others) (before.left - after.left) old (v, w) new.input
       × (HasRow (first_then shape others) before.left old → after.left ≡ 0)
@@ -130,7 +130,7 @@ module _ {V W : Type 0} (shape : Shape Tree V) (others : Shape Items W) where
 
 module _ {V : Type 0} (shape : Shape Tree V) where
   -- some items were read, which show vs: those behind them show the others
-  pub record ReadSoFar (before : AccessorState) (old : Progress) (now_left : AccessorState) (vs : List V) (now : Progress) : Type 0 where
+  pub record ReadSoFar (before : AccessorState) (old : DeState) (now_left : AccessorState) (vs : List V) (now : DeState) : Type 0 where
     pub sound : now.failed ≡ false
     pub is : now_left ≡ record before { left = now_left.left }
     pub fewer : now_left.left ≤ before.left
@@ -139,7 +139,7 @@ module _ {V : Type 0} (shape : Shape Tree V) where
     pub takes : (count : ℕ) (ws : List V) (new : Reading) → TakesRow (all_of shape) count now.input ws new
         → TakesRow (all_of shape) (count + (before.left - now_left.left)) old.input (vs ++ ws) new
 
-  pub no_item_so_far : (before : AccessorState) (old : Progress) (vs : List V) → old.failed ≡ false → vs ≡ [] → ReadSoFar before old before vs old
+  pub no_item_so_far : (before : AccessorState) (old : DeState) (vs : List V) → old.failed ≡ false → vs ≡ [] → ReadSoFar before old before vs old
   no_item_so_far before old vs f e = subst (λ x. ReadSoFar before old before x old) (sym e) record {
     sound = f;
     is = refl;
@@ -152,7 +152,7 @@ module _ {V : Type 0} (shape : Shape Tree V) where
   first_of : {r : Reading} {count : ℕ} → 0 < count → HasRow (all_of shape) count r → HasFront shape r
   first_of = row_first shape (all_of shape) (λ v vs. v ∷ vs) (all_of shape) (λ t ts. refl) (λ t ts. refl)
 
-  pub one_more_item : {before now_left after : AccessorState} {old now new : Progress} {v : V} (vs ws : List V) → ReadSoFar before old now_left vs now → 0 < now_left.left → after ≡ record now_left { left = now_left.left - 1 } → new.failed ≡ false
+  pub one_more_item : {before now_left after : AccessorState} {old now new : DeState} {v : V} (vs ws : List V) → ReadSoFar before old now_left vs now → 0 < now_left.left → after ≡ record now_left { left = now_left.left - 1 } → new.failed ≡ false
       → TakesFront shape now.input v new.input → ws ≡ vs ++ v ∷ [] → ReadSoFar before old after ws new
   one_more_item {before} {now_left} {after} {old} {now} {new} {v} vs ws s some is f a e =
       let less : after.left ≡ now_left.left - 1 = ap (λ (c : AccessorState). c.left) is in
@@ -167,7 +167,7 @@ module _ {V : Type 0} (shape : Shape Tree V) where
             (s.takes (count + 1) (v ∷ xs) end (row_taken shape (all_of shape) (λ v vs. v ∷ vs) (all_of shape) (λ t ts. refl) (λ t ts. refl) a t));
       }
 
-  pub none_more : {before now_left after : AccessorState} {old now new : Progress} (vs : List V) → ReadSoFar before old now_left vs now → now_left.left ≡ 0 → after ≡ now_left → new.failed ≡ false → new.input ≡ now.input
+  pub none_more : {before now_left after : AccessorState} {old now new : DeState} (vs : List V) → ReadSoFar before old now_left vs now → now_left.left ≡ 0 → after ≡ now_left → new.failed ≡ false → new.input ≡ now.input
       → (new.failed ≡ false) × (after ≡ record before { left = after.left }) × (after.left ≤ before.left) × TakesRow (all_of shape) (before.left - after.left) old.input vs new.input
       × (HasRow (all_of shape) before.left old.input → after.left ≡ 0)
   none_more {before} {now_left} {after} {old} {now} {new} vs s none is f same =
@@ -181,7 +181,7 @@ module _ {V : Type 0} (shape : Shape Tree V) where
         λ h. as_left ∙ none,
       )
 
-  pub item_refused : {E : Type 0} {before now_left : AccessorState} {old now : Progress} {vs : List V} (borrows : Type 0) (new : Reading) (e : DecodeError E) → ReadSoFar before old now_left vs now → 0 < now_left.left
+  pub item_refused : {E : Type 0} {before now_left : AccessorState} {old now : DeState} {vs : List V} (borrows : Type 0) (new : Reading) (e : DecodeError E) → ReadSoFar before old now_left vs now → 0 < now_left.left
       → Refuses (HasFront shape now.input) (MayLack shape.memory now.input) borrows Anything now.input e new → Refuses (HasRow (all_of shape) before.left old.input) (MayLack (all_of shape).memory old.input) borrows Anything old.input e new
   item_refused {E} {before} {now_left} {old} {now} borrows new e s some r =
       refusal_carried Anything Anything old.input now.input new e (same_reader s.same) (λ h. first_of some (s.has h)) (λ x. refl) (λ x. x) (λ b l g. tt) r
@@ -220,7 +220,7 @@ module _ {V : Type 0} (shape : Shape Items V) where
   }
 
   -- all that is left is read of a list that was begun
-  pub rest_reads : {T E : Type 0} (meaning : T → V) (old mid new : Progress) (name : List ℕ) (a : Accessor) (result : Result T (DecodeError E)) → Call (BeginsItems {E = E} 4 name 1) old (Ok a) mid
+  pub rest_reads : {T E : Type 0} (meaning : T → V) (old mid new : DeState) (name : List ℕ) (a : Accessor) (result : Result T (DecodeError E)) → Call (BeginsItems {E = E} 4 name 1) old (Ok a) mid
       → ReadsRest meaning shape (accessor_state a) mid result new → ReadsValue meaning (list_of shape) old result new
   rest_reads {T} {E} meaning old mid new name a (Ok v) h r f =
       let k = call_answered (BeginsItems 4 name 1) old mid a h in

@@ -18,7 +18,7 @@ use Rattle.dagcbor_items.specs.LeafCauses.{TextCause}
 use Rattle.dagcbor_items.specs.Shapes.{view_text, leaf, unless_lent, Shape}
 use Rattle.dagcbor_read.specs.EnumViews.{view_enum, need_enum, HasVariant, TakesVariant, ReadsVariant, EnumShape, enum_of, part_of}
 use Rattle.dagcbor_read.specs.Collections.{need_fields, fields_of, fields_memory, struct_of, FieldShape}
-use Rattle.dagcbor_read.specs.Calls.{Progress, Call}
+use Rattle.dagcbor_read.specs.Deserializers.{DeState, Call}
 use Rattle.dagcbor_items.specs.Reads.{HasFront, TakesFront, MayLack, Anything}
 use Rattle.dagcbor_read.specs.Values.{ReadsValue}
 use Rattle.dagcbor_read.specs.Enums.{EnumState, enum_state, TakesForm, HasStepEnum, StepEnumCause, SpendsEnum, ReadsName, IsOtherForm, EndsUnit, ReadsHeld, ReadsFieldsHeld}
@@ -215,13 +215,13 @@ module _ {V : Type 0} (shape : EnumShape V) where
 
   -- ---- refusals
 
-  pub not_begun : {E : Type 0} (borrows : Type 0) (name : List ℕ) (old new : Progress) (r : DecodeError E) → old.failed ≡ false → Call (SpendsEnum name) old (Err r) new
+  pub not_begun : {E : Type 0} (borrows : Type 0) (name : List ℕ) (old new : DeState) (r : DecodeError E) → old.failed ≡ false → Call (SpendsEnum name) old (Err r) new
       → Refuses (HasFront (enum_of shape) old.input) (MayLack (enum_of shape).memory old.input) borrows Anything old.input r new.input
   not_begun {E} borrows name old new r f h = refusal_carried (StepEnumCause name) Anything old.input old.input new.input r (record { faults = refl; lends = refl }) can_begin (λ x. absurd x) (λ x. absurd x) (λ b l g. tt)
       (call_told (SpendsEnum name) old new (Err r) f h).1.0
 
   -- no variant's name stood there
-  pub not_named : {E : Type 0} (borrows : Type 0) (name : List ℕ) (old mid new : Progress) (a : EnumAccessor) (r : DecodeError E) → Call (SpendsEnum {E = E} name) old (Ok a) mid → Call ReadsName mid (Err r) new
+  pub not_named : {E : Type 0} (borrows : Type 0) (name : List ℕ) (old mid new : DeState) (a : EnumAccessor) (r : DecodeError E) → Call (SpendsEnum {E = E} name) old (Ok a) mid → Call ReadsName mid (Err r) new
       → Refuses (HasFront (enum_of shape) old.input) (MayLack (enum_of shape).memory old.input) borrows Anything old.input r new.input
   unfolding Spent
   not_named {E} borrows name old mid new a r h k =
@@ -298,7 +298,7 @@ module _ {V : Type 0} (shape : EnumShape V) where
 
 -- ---- calls
 
-pub variant_named : (E : Type 0) (name : List ℕ) (old mid now : Progress) (a : EnumAccessor) (v : CowStr Global × EnumAccessor) → Call (SpendsEnum {E = E} name) old (Ok a) mid → Call (ReadsName {E = E}) mid (Ok v) now → v.1 ≡ a
+pub variant_named : (E : Type 0) (name : List ℕ) (old mid now : DeState) (a : EnumAccessor) (v : CowStr Global × EnumAccessor) → Call (SpendsEnum {E = E} name) old (Ok a) mid → Call (ReadsName {E = E}) mid (Ok v) now → v.1 ≡ a
     → (now.failed ≡ false) × Named (enum_state v.1) (cow_str_bytes v.0) old.input now.input
 unfolding Spent
 variant_named E name old mid now a v h k e =
@@ -323,7 +323,7 @@ module _ {V : Type 0} (shape : EnumShape V) where
       by true is t = part_taken shape n is t.1 t.2
       by false is t = unit_taken shape n (is, t.1) t.0
 
-  pub enum_read : {T E : Type 0} (meaning : T → V) (name : List ℕ) (old mid now new : Progress) (a : EnumAccessor) (v : CowStr Global × EnumAccessor) (k : List ℕ) (result : Result T (DecodeError E))
+  pub enum_read : {T E : Type 0} (meaning : T → V) (name : List ℕ) (old mid now new : DeState) (a : EnumAccessor) (v : CowStr Global × EnumAccessor) (k : List ℕ) (result : Result T (DecodeError E))
       → Call (SpendsEnum {E = E} name) old (Ok a) mid → Call (ReadsName {E = E}) mid (Ok v) now → v.1 ≡ a → k ≡ cow_str_bytes v.0
       → ReadsVariant meaning shape k (enum_state v.1) now result new → ReadsValue meaning (enum_of shape) old result new
   enum_read {T} {E} meaning name old mid now new a v k (Ok w) h g same text_is r sound =
@@ -336,7 +336,7 @@ module _ {V : Type 0} (shape : EnumShape V) where
 
   -- ---- a variant that is its name alone
 
-  pub unit_read : (E : Type 0) (e : EnumState) (old new : Progress) {k : List ℕ} (name : List ℕ) {v : V} → k ≡ name → shape.unit name ≡ Some v → Call (EndsUnit {E = E} e) old (Ok tt) new
+  pub unit_read : (E : Type 0) (e : EnumState) (old new : DeState) {k : List ℕ} (name : List ℕ) {v : V} → k ≡ name → shape.unit name ≡ Some v → Call (EndsUnit {E = E} e) old (Ok tt) new
       → (new.failed ≡ false) × TakesVariant shape k e old.input v new.input
   unit_read E e old new {k} name {v} is shows h =
       let r = call_answered (EndsUnit e) old new tt h in
@@ -346,7 +346,7 @@ module _ {V : Type 0} (shape : EnumShape V) where
       )
 
   -- it is not begun as a map
-  pub unit_refused : {E : Type 0} (borrows : Type 0) (e : EnumState) (old new : Progress) {k : List ℕ} (name : List ℕ) (r : DecodeError E) → k ≡ name → ((t : Tree) → shape.part name t ≡ None) → old.failed ≡ false → Call (EndsUnit e) old (Err r) new
+  pub unit_refused : {E : Type 0} (borrows : Type 0) (e : EnumState) (old new : DeState) {k : List ℕ} (name : List ℕ) (r : DecodeError E) → k ≡ name → ((t : Tree) → shape.part name t ≡ None) → old.failed ≡ false → Call (EndsUnit e) old (Err r) new
       → Refuses (HasVariant shape k e old.input) (MayLack shape.memory old.input) borrows Anything old.input r new.input
   unit_refused {E} borrows e old new {k} name r is none f h =
       let g = (call_told (EndsUnit e) old new (Err r) f h).1 in
@@ -367,7 +367,7 @@ module _ {V : Type 0} (shape : EnumShape V) where
   -- ---- a variant that holds a value of another type
 
   module _ {W : Type 0} (f : W → V) (own : Shape Tree W) {T : Type 0} (E : Type 0) (meaning : T → W) where
-    pub fields_read : (e : EnumState) (old new : Progress) {k : List ℕ} (name : List ℕ) (w : T) → k ≡ name → ((t : Tree) → shape.part name t ≡ option_map f (own.view t)) → ((t : Tree) → shape.need name t ≡ own.need t)
+    pub fields_read : (e : EnumState) (old new : DeState) {k : List ℕ} (name : List ℕ) (w : T) → k ≡ name → ((t : Tree) → shape.part name t ≡ option_map f (own.view t)) → ((t : Tree) → shape.need name t ≡ own.need t)
         → old.failed ≡ false → ReadsFieldsHeld {E = E} meaning own e old (Ok w) new
         → (new.failed ≡ false) × TakesVariant shape k e old.input (f (meaning w)) new.input
     fields_read e old new {k} name w is same much sound h =
@@ -380,7 +380,7 @@ module _ {V : Type 0} (shape : EnumShape V) where
           subst (λ b. MatchBool b ((end : Reading) × TakesFront (part_of shape k) old.input (f (meaning w)) end × (new.input ≡ with_steps (end.steps + e.steps) end)) ((shape.unit k ≡ Some (f (meaning w))) × (new.input ≡ with_steps (old.input.steps + e.steps) old.input))) (sym r.1.0) there,
         )
 
-    pub fields_refused : (borrows : Type 0) (e : EnumState) (old new : Progress) {k : List ℕ} (name : List ℕ) (r : DecodeError E) → k ≡ name → shape.unit name ≡ None → ((t : Tree) → shape.part name t ≡ option_map f (own.view t)) → ((t : Tree) → shape.need name t ≡ own.need t)
+    pub fields_refused : (borrows : Type 0) (e : EnumState) (old new : DeState) {k : List ℕ} (name : List ℕ) (r : DecodeError E) → k ≡ name → shape.unit name ≡ None → ((t : Tree) → shape.part name t ≡ option_map f (own.view t)) → ((t : Tree) → shape.need name t ≡ own.need t)
         → (own.wants_loan ≡ true → borrows) → ((lends : Bool) → own.memory lends ≡ true → shape.memory lends ≡ true) → old.failed ≡ false → ReadsFieldsHeld meaning own e old (Err r) new
         → Refuses (HasVariant shape k e old.input) (MayLack shape.memory old.input) borrows Anything old.input r new.input
     fields_refused borrows e old new {k} name r is none same much w may sound h = by e.in_map (h sound).1
@@ -392,23 +392,23 @@ module _ {V : Type 0} (shape : EnumShape V) where
         by false g = other_form_refused (MayLack shape.memory old.input) borrows old.input new.input e r g.0 (ap (λ (x : Reading). x.faults) g.1) (λ i. none_some (ap shape.unit is ∙ none) i)
 
     -- by a call of the accessor
-    called : (e : EnumState) (old new : Progress) (r : Result T (DecodeError E)) → Call (ReadsHeld meaning own e) old r new → ReadsFieldsHeld meaning own e old r new
+    called : (e : EnumState) (old new : DeState) (r : Result T (DecodeError E)) → Call (ReadsHeld meaning own e) old r new → ReadsFieldsHeld meaning own e old r new
     called e old new (Ok w) h sound = let r = call_answered (ReadsHeld meaning own e) old new w h in (r.1, r.2)
     called e old new (Err x) h sound = (tt, (call_told (ReadsHeld meaning own e) old new (Err x) sound h).1)
 
-    pub held_read : (e : EnumState) (old new : Progress) {k : List ℕ} (name : List ℕ) (w : T) → k ≡ name → ((t : Tree) → shape.part name t ≡ option_map f (own.view t)) → ((t : Tree) → shape.need name t ≡ own.need t)
+    pub held_read : (e : EnumState) (old new : DeState) {k : List ℕ} (name : List ℕ) (w : T) → k ≡ name → ((t : Tree) → shape.part name t ≡ option_map f (own.view t)) → ((t : Tree) → shape.need name t ≡ own.need t)
         → old.failed ≡ false → Call (ReadsHeld {E = E} meaning own e) old (Ok w) new
         → (new.failed ≡ false) × TakesVariant shape k e old.input (f (meaning w)) new.input
     held_read e old new name w is same much sound h = fields_read e old new name w is same much sound (called e old new (Ok w) h)
 
-    pub held_refused : (borrows : Type 0) (e : EnumState) (old new : Progress) {k : List ℕ} (name : List ℕ) (r : DecodeError E) → k ≡ name → shape.unit name ≡ None → ((t : Tree) → shape.part name t ≡ option_map f (own.view t)) → ((t : Tree) → shape.need name t ≡ own.need t)
+    pub held_refused : (borrows : Type 0) (e : EnumState) (old new : DeState) {k : List ℕ} (name : List ℕ) (r : DecodeError E) → k ≡ name → shape.unit name ≡ None → ((t : Tree) → shape.part name t ≡ option_map f (own.view t)) → ((t : Tree) → shape.need name t ≡ own.need t)
         → (own.wants_loan ≡ true → borrows) → ((lends : Bool) → own.memory lends ≡ true → shape.memory lends ≡ true) → old.failed ≡ false → Call (ReadsHeld meaning own e) old (Err r) new
         → Refuses (HasVariant shape k e old.input) (MayLack shape.memory old.input) borrows Anything old.input r new.input
     held_refused borrows e old new name r is none same much w may sound h = fields_refused borrows e old new name r is none same much w may sound (called e old new (Err r) h)
 
 -- ---- the fields that a variant holds make a value, as a struct's do
 
-module _ {S W : Type 0} (fields : FieldShape S) (start : S) (finish : S → Option W) {T : Type 0} (E : Type 0) (meaning : T → S) (e : EnumState) (old new : Progress) where
+module _ {S W : Type 0} (fields : FieldShape S) (start : S) (finish : S → Option W) {T : Type 0} (E : Type 0) (meaning : T → S) (e : EnumState) (old new : DeState) where
   -- a field that must be there was not there
   pub held_unfinished : (s : T) (r : DecodeError E) (message : Name) → r ≡ Msg message → finish (meaning s) ≡ None → ReadsFieldsHeld {E = E} meaning (fields_of fields start) e old (Ok s) new
       → ReadsFieldsHeld {T = W} (λ w. w) (struct_of fields start finish) e old (Err r) new
@@ -424,7 +424,7 @@ module _ {S W : Type 0} (fields : FieldShape S) (start : S) (finish : S → Opti
 
 -- a field that must be there was not among those that the variant holds
 pub field_missing : {V W S T : Type 0} (shape : EnumShape V) (f : W → V) (fields : FieldShape S) (start : S) (finish : S → Option W) (E : Type 0) (meaning : T → S) (borrows : Type 0)
-    (e : EnumState) (old new : Progress) {k : List ℕ} (name : List ℕ) (s : T) (r : DecodeError E) (message : Name)
+    (e : EnumState) (old new : DeState) {k : List ℕ} (name : List ℕ) (s : T) (r : DecodeError E) (message : Name)
     → k ≡ name → shape.unit name ≡ None → ((t : Tree) → shape.part name t ≡ option_map f ((struct_of fields start finish).view t)) → ((t : Tree) → shape.need name t ≡ need_fields fields.need t)
     → (fields.wants_loan ≡ true → borrows) → ((lends : Bool) → fields_memory fields lends ≡ true → shape.memory lends ≡ true) → old.failed ≡ false
     → r ≡ Msg message → finish (meaning s) ≡ None → ReadsFieldsHeld {E = E} meaning (fields_of fields start) e old (Ok s) new

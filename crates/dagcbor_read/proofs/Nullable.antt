@@ -13,7 +13,7 @@ use Rattle.ipld_tree.specs.Spelling.{spelling, IsFront}
 use Rattle.dagcbor_items.specs.Reads.{HasFront, TakesFront, MayLack, Anything}
 use Rattle.dagcbor_read.proofs.Passing.{lacks_before}
 use Rattle.dagcbor_items.specs.Shapes.{view_option, need_option, Shape, option_of}
-use Rattle.dagcbor_read.specs.Parts.{CanEnter, EntersSome, OptionCause}
+use Rattle.dagcbor_read.specs.Options.{CanEnter, EntersSome, OptionCause}
 use Rattle.dagcbor_items.proofs.Fronts.{front_byte}
 
 -- the view and the need of another tree than null

@@ -7,9 +7,10 @@ use Rattle.dagcbor_heads.specs.Refusals.{Refuses}
 use Rattle.dagcbor_heads.specs.declared.error.DecodeError.{DecodeError}
 use Rattle.dagcbor_heads.specs.declared.error.DecodeError.TheVariants.{Read, RequireBorrowed, OutOfMemory, Failed, DepthOverflow}
 use Rattle.ipld_tree.specs.Tree.{Tree}
-use Rattle.dagcbor_read.specs.Calls.{Progress, Call}
+use Rattle.dagcbor_read.specs.Deserializers.{DeState, Call}
 use Rattle.dagcbor_items.specs.Reads.{HasFront, MayLack}
-use Rattle.dagcbor_read.specs.Streams.{Streaming, SomeLeft, AreSome, ReadsNext, as_answer, is_last, IsNextValue, AreNextValues, values_before, AreStreamItems, GivesUp, NoneGivesUp, EndsAtError, stream_item, AreUpTo, IsOver, Gives, StreamsAreExact}
+use Rattle.dagcbor_read.specs.Streams.{StreamState, SomeLeft, AreSome, ReadsNext, as_answer, is_last, AreNextValues, values_before, AreStreamItems, GivesUp, NoneGivesUp, EndsAtError, stream_item, AreUpTo, IsOver, Gives, StreamsAreExact}
+use Rattle.dagcbor_read.specs.Whole.{IsFirst, BeginsWithNoValue}
 use Rattle.dagcbor_read.proofs.Progressing.{match_true, match_false, call_answered, call_told}
 use Rattle.dagcbor_items.proofs.Fronts.{shorter}
 use Rattle.dagcbor_read.proofs.Streaming.{goes_on, same_value, no_value_of_none, some_of_none}
@@ -19,13 +20,13 @@ use Rattle.dagcbor_items.specs.Shapes.{Shape}
 
 -- bytes are left, and no value stands at their front
 abbrev NoValue : {V : Type 0} → Shape Tree V → ℕ → List ℕ → Type 0
-NoValue {V} shape steps b = (0 < length b) × ((v : V) (rest : List ℕ) → IsNextValue shape steps b v rest → ⊥)
+NoValue shape steps b = (0 < length b) × BeginsWithNoValue shape steps b
 
 module _ {T V : Type 0} (E : Type 0) (meaning : T → V) (shape : Shape Tree V) (lends : Bool) (steps : ℕ) (whole : Bool) where
   -- values stand one behind the other, and at the end no byte, or no value, or one at which it gave up
   abbrev Came : List ℕ → List (Result T (DecodeError E)) → Type 0
   Came b [] = whole ≡ true → b ≡ []
-  Came b (Ok v ∷ xs) = (rest : List ℕ) × IsNextValue shape steps b (meaning v) rest × Came rest xs
+  Came b (Ok v ∷ xs) = (rest : List ℕ) × IsFirst shape steps b (meaning v) rest × Came rest xs
   Came b (Err e ∷ xs) = (xs ≡ []) × (GivesUp shape lends e ⊎ NoValue shape steps b)
 
   few : (b : List ℕ) (xs : List (Result T (DecodeError E))) → Came b xs → length xs ≤ length b + 1
@@ -65,16 +66,16 @@ module _ {T V : Type 0} (E : Type 0) (meaning : T → V) (shape : Shape Tree V) 
 -- ---- what came, against the calls
 
 -- a stream over known bytes, with so many steps
-record Over (b : List ℕ) (steps : ℕ) (lends : Bool) (s : Streaming) : Type 0 where
+record Over (b : List ℕ) (steps : ℕ) (lends : Bool) (s : StreamState) : Type 0 where
   is_over : IsOver b s
   steps_left : s.source.input.steps ≡ steps
   lending : s.source.input.lends ≡ lends
 
-module _ {S T V : Type 0} (E : Type 0) (see : S → Streaming) (meaning : T → V) (shape : Shape Tree V) where
+module _ {S T V : Type 0} (E : Type 0) (see : S → StreamState) (meaning : T → V) (shape : Shape Tree V) where
   abbrev Step : S → Option (Result T (DecodeError E)) → S → Type 0
   Step = Gives E see meaning shape
 
-  abbrev Reads : Progress → Result (Option T) (DecodeError E) → Progress → Type 0
+  abbrev Reads : DeState → Result (Option T) (DecodeError E) → DeState → Type 0
   Reads = Call (ReadsNext {E = E} meaning shape)
 
   -- a call on what is not done

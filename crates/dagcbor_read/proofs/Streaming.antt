@@ -7,8 +7,9 @@ use Rattle.ipld_tree.specs.Tree.{Tree}
 use Rattle.ipld_tree.specs.Spelling.{IsFront}
 use Rattle.ipld_tree.proofs.Fronts.{front_nonempty, front_unique}
 use Rattle.dagcbor_items.proofs.Fronts.{shorter}
-use Rattle.dagcbor_read.specs.Calls.{Progress, Call}
-use Rattle.dagcbor_read.specs.Streams.{Streaming, ReadsNext, as_answer, GivesNext, items_left_of, items_left, IsNextValue, AreStreamItems}
+use Rattle.dagcbor_read.specs.Deserializers.{DeState, Call}
+use Rattle.dagcbor_read.specs.Streams.{StreamState, ReadsNext, as_answer, GivesNext, items_left_of, items_left, AreStreamItems}
+use Rattle.dagcbor_read.specs.Whole.{IsFirst}
 use Rattle.dagcbor_read.proofs.Progressing.{call_answered}
 use Rattle.dagcbor_items.specs.Shapes.{Shape}
 
@@ -28,7 +29,7 @@ done_is_finite : (done : Bool) (left : Option (List ℕ)) → done ≡ true → 
 done_is_finite true left e = tt
 done_is_finite false left e = absurd (cc e)
 
-at_none : (A : Type 0) (P : Type 0) (done : Bool) (old new : Streaming) (item : Option A) → IsFinite (items_left old) → MatchBool done ((item ≡ None) × (new ≡ old)) ((new.done ≡ true) × P) → IsFinite (items_left new)
+at_none : (A : Type 0) (P : Type 0) (done : Bool) (old new : StreamState) (item : Option A) → IsFinite (items_left old) → MatchBool done ((item ≡ None) × (new ≡ old)) ((new.done ≡ true) × P) → IsFinite (items_left new)
 at_none A P true old new item finite h = subst (λ s. IsFinite (items_left s)) (sym h.1) finite
 at_none A P false old new item finite h = done_is_finite new.done new.source.input.left h.0
 
@@ -38,20 +39,20 @@ goes_on A P Q true r h = let e = h.0 in absurd (cc e)
 goes_on A P Q false r h = (refl, h)
 
 module _ (E : Type 0) {T V : Type 0} (meaning : T → V) (shape : Shape Tree V) where
-  abbrev Reads : Progress → Result (Option T) (DecodeError E) → Progress → Type 0
+  abbrev Reads : DeState → Result (Option T) (DecodeError E) → DeState → Type 0
   Reads = Call (ReadsNext {E = E} meaning shape)
 
-  abbrev Gives : Streaming → Option (Result T (DecodeError E)) → Streaming → Type 0
+  abbrev Gives : StreamState → Option (Result T (DecodeError E)) → StreamState → Type 0
   Gives = GivesNext {E = E} meaning shape
 
   -- a value leaves fewer bytes, and known bytes stay known
-  value_left : (b : List ℕ) (old new : Progress) (v : T) → old.input.left ≡ Some b → Reads old (Ok (Some v)) new → (rest : List ℕ) × (new.input.left ≡ Some rest) × (length rest < length b)
+  value_left : (b : List ℕ) (old new : DeState) (v : T) → old.input.left ≡ Some b → Reads old (Ok (Some v)) new → (rest : List ℕ) × (new.input.left ≡ Some rest) × (length rest < length b)
   value_left b old new v l h =
       let a = call_answered (ReadsNext {E = E} meaning shape) old new (Some v) h in
       let taken = a.2.taken b l in
       (taken.1, taken.5, shorter b taken.1 taken.0 taken.2)
 
-  fewer : (done : Bool) (left : Option (List ℕ)) (old new : Progress) (done' : Bool) (item : Result T (DecodeError E)) → done ≡ false → old.input.left ≡ left → IsFinite (items_left_of done left)
+  fewer : (done : Bool) (left : Option (List ℕ)) (old new : DeState) (done' : Bool) (item : Result T (DecodeError E)) → done ≡ false → old.input.left ≡ left → IsFinite (items_left_of done left)
       → (done' ≡ is_err item) × Reads old (as_answer (Some item)) new → IsFewer (size (items_left_of done left)) done' new.input.left
   fewer true left old new done' item d l finite h = absurd (cc d)
   fewer false None old new done' item d l finite h = absurd finite
@@ -60,10 +61,10 @@ module _ (E : Type 0) {T V : Type 0} (meaning : T → V) (shape : Shape Tree V) 
       let k = value_left b old new v l h.1 in
       is_fewer (length b + 1) done' new.input.left k.0 h.0 k.1 (omega (arith, k.2))
 
-  after_item : (old new : Streaming) (r : Result T (DecodeError E)) → IsFinite (items_left old) → Gives old (Some r) new → IsFewer (size (items_left old)) new.done new.source.input.left
+  after_item : (old new : StreamState) (r : Result T (DecodeError E)) → IsFinite (items_left old) → Gives old (Some r) new → IsFewer (size (items_left old)) new.done new.source.input.left
   after_item old new r finite h = let k = goes_on (Result T (DecodeError E)) _ _ old.done r h in fewer old.done old.source.input.left old.source new.source new.done r k.0 refl finite k.1
 
-  pub progressing : {S : Type 0} (can : S → Type 0) → ((s : S) → can s) → (see : S → Streaming) (old new : S) (item : Option (Result T (DecodeError E))) → Gives (see old) item (see new) → MakesProgress can (λ s. items_left (see s)) old item new
+  pub progressing : {S : Type 0} (can : S → Type 0) → ((s : S) → can s) → (see : S → StreamState) (old new : S) (item : Option (Result T (DecodeError E))) → Gives (see old) item (see new) → MakesProgress can (λ s. items_left (see s)) old item new
   progressing can may see old new None h = record {
     on = λ finite. tt;
     keeps = tt;
@@ -79,12 +80,12 @@ module _ (E : Type 0) {T V : Type 0} (meaning : T → V) (shape : Shape Tree V) 
 
 module _ {V : Type 0} (shape : Shape Tree V) (steps : ℕ) where
   -- two fronts of the same bytes show the same value and leave the same rest
-  pub same_value : (b : List ℕ) (v w : V) (rest others : List ℕ) → IsNextValue shape steps b v rest → IsNextValue shape steps b w others → (Some v ≡ Some w) × (rest ≡ others)
+  pub same_value : (b : List ℕ) (v w : V) (rest others : List ℕ) → IsFirst shape steps b v rest → IsFirst shape steps b w others → (Some v ≡ Some w) × (rest ≡ others)
   same_value b v w rest others h k =
       let same = front_unique b rest others h.0 k.0 h.1 k.1 in
       (sym h.2 ∙ ap shape.view same.0 ∙ k.2, same.1)
 
-  pub no_value_of_none : (b rest : List ℕ) (v : V) → b ≡ [] → IsNextValue shape steps b v rest → ⊥
+  pub no_value_of_none : (b rest : List ℕ) (v : V) → b ≡ [] → IsFirst shape steps b v rest → ⊥
   no_value_of_none b rest v e h = front_nonempty rest h.0 (subst (λ x. IsFront x h.0 rest) e h.1)
 
   pub some_of_none : (b : List ℕ) → b ≡ [] → 0 < length b → ⊥

@@ -1,6 +1,7 @@
 -- Reading a whole input as a value.
 use Rattle.std.proofs.Common.{◌≡◌, ℕ, ◌<◌, ◌≤◌, ◌++◌, Option, Bool, true, false, List, [], length, inl, inr, refl, sym, ap, subst, ◌∙◌, arith, append-nil}
 use Rattle.std.specs.Prelude.{◌⊎◌, None, Some, IfSome, IfOk, IfErr, IsErrAnd, Result, Ok, Err, MatchResult, is_some}
+use Rattle.std.specs.declared.convert.Infallible.{Infallible}
 use Rattle.dagcbor_heads.specs.Reading.{Reading, Stays}
 use Rattle.dagcbor_heads.specs.Fronts.{ShowsByte}
 use Rattle.dagcbor_heads.specs.Refusals.{Refuses}
@@ -9,7 +10,7 @@ use Rattle.dagcbor_heads.specs.declared.error.DecodeError.TheVariants.{Read, Req
 use Rattle.ipld_tree.specs.Tree.{Tree}
 use Rattle.ipld_tree.specs.Spelling.{spelling, IsFront}
 use Rattle.ipld_tree.proofs.Fronts.{front_unique}
-use Rattle.dagcbor_read.specs.Calls.{Progress, Ends, TellsEnd}
+use Rattle.dagcbor_read.specs.Deserializers.{DeState, Ends, TellsEnd}
 use Rattle.dagcbor_items.proofs.SliceReads.{whole_front}
 use Rattle.dagcbor_read.proofs.Progressing.{match_false}
 use Rattle.dagcbor_items.specs.Reads.{HasFront, TakesFront, MayLack, Anything}
@@ -30,6 +31,12 @@ not_answered P (Err y) e h = tt
 follows : {T E : Type 0} (P Q : DecodeError E → Type 0) → ((e : DecodeError E) → P e → Q e) → (r : Result T (DecodeError E)) → IfErr r P → IfErr r Q
 follows P Q f (Ok v) h = tt
 follows P Q f (Err e) h = f e h
+
+-- a slice has no source, which might fault
+pub slice_excused : {P : Type 0} (e : DecodeError Infallible) → IsReadExcuse e ⊎ P → (e ≡ OutOfMemory) ⊎ P
+slice_excused (Read x) r = elim x [ ]
+slice_excused OutOfMemory r = inl refl
+slice_excused _ r = elim r [ inl k ↦ absurd k | inr k ↦ inr k ]
 
 -- what holds of the bytes, where they are known
 if_known : (left : Option (List ℕ)) (P : List ℕ → Type 0) → ((b : List ℕ) → left ≡ Some b → P b) → IfSome left P
@@ -57,7 +64,7 @@ module _ {V : Type 0} (shape : Shape Tree V) (steps : ℕ) where
   value_whole b v rest t f e n none = (t, record { well_formed = f.well_formed; spellable = f.spellable; is = f.is ∙ ap (λ x. spelling t ++ x) none ∙ append-nil (spelling t) }, e, n)
 
   -- a value was read, and then the end was found
-  pub value_answered : (E : Type 0) (left : Option (List ℕ)) (start : Reading) (mid end : Progress) (v : V) → start.left ≡ left → start.steps ≡ steps
+  pub value_answered : (E : Type 0) (left : Option (List ℕ)) (start : Reading) (mid end : DeState) (v : V) → start.left ≡ left → start.steps ≡ steps
       → (mid.failed ≡ false) × TakesFront shape start v mid.input → Ends {E = E} mid (Ok tt) end → IfSome left (λ b. IsWhole shape steps b v)
   value_answered E left start mid end v at s h k = if_known left (λ b. IsWhole shape steps b v) (λ b l.
       let taken = h.1.taken b (at ∙ l) in
@@ -78,7 +85,7 @@ module _ {V : Type 0} (shape : Shape Tree V) (steps : ℕ) where
   first_refused left old new _ at s o n r = (inr (if_known left _ (λ b l v rest h. r.1 (first_front old b v rest (at ∙ l) s h))), tt, tt)
 
   -- A value that borrows nothing was read; after an answer what the reader has left is what the source has.
-  module _ {T E : Type 0} (meaning : T → V) (left after : Option (List ℕ)) (start mid : Progress) (r : Result T (DecodeError E))
+  module _ {T E : Type 0} (meaning : T → V) (left after : Option (List ℕ)) (start mid : DeState) (r : Result T (DecodeError E))
       (sound : start.failed ≡ false) (at : start.input.left ≡ left) (s : start.input.steps ≡ steps) (o : shape.wants_loan ≡ false) (n : start.input.lends ≡ false) (h : ReadsValue meaning shape start r mid)
     where
       first_read : (Stays start.input mid.input → (b : List ℕ) → mid.input.left ≡ Some b → after ≡ Some b) → IfOk r (λ v. IfSome left (λ b. TakesFirst shape steps b (meaning v) after))
@@ -120,7 +127,7 @@ module _ {V : Type 0} (shape : Shape Tree V) (steps : ℕ) where
     value_told new v _ failed at a h = absurd h
 
     -- a value was read, and then no end was found
-    pub value_end_refused : (start : Reading) (mid end : Progress) (v : V) (e : DecodeError E) → start.left ≡ left
+    pub value_end_refused : (start : Reading) (mid end : DeState) (v : V) (e : DecodeError E) → start.left ≡ left
         → (mid.failed ≡ false) × TakesFront shape start v mid.input → Ends mid (Err e) end → NotWhole left lends e
     value_end_refused start mid end v e at h k = value_told end.input v e end.failed at h.1 (match_false mid.failed _ _ h.0 k)
 

@@ -14,7 +14,7 @@ use Rattle.ipld_tree.specs.Tree.{entry}
 use Rattle.dagcbor_items.specs.Items.{HasRow}
 use Rattle.dagcbor_items.specs.Entries.{AllFollow, HasEntryRow}
 use Rattle.ipld_tree.specs.Spelling.{item_count, entry_count, AreFronts, AreEntryFronts}
-use Rattle.dagcbor_read.specs.Calls.{Progress}
+use Rattle.dagcbor_read.specs.Deserializers.{DeState}
 use Rattle.dagcbor_items.specs.Reads.{MayLack, Anything}
 use Rattle.dagcbor_read.specs.Accessors.{AccessorState}
 use Rattle.dagcbor_items.specs.Shapes.{Shape, takes_none, takes_some, unless_lent}
@@ -92,8 +92,8 @@ pub record TakesRow {V : Type 0} (shape : Shape Items V) (count : ℕ) (old : Re
 
 -- Items of a list that was begun are read from the first that is left on. Where all that are left
 -- make a row, none is left then.
-abbrev pub ReadsRow : {T V E : Type 0} → (T → V) → Shape Items V → AccessorState → Progress
-    → Result T (DecodeError E) → AccessorState → Progress → Type 0
+abbrev pub ReadsRow : {T V E : Type 0} → (T → V) → Shape Items V → AccessorState → DeState
+    → Result T (DecodeError E) → AccessorState → DeState → Type 0
 ReadsRow meaning shape before old result after new = MatchResult result
     (λ v. (new.failed ≡ false) × (after ≡ record before { left = after.left }) × (after.left ≤ before.left)
     × TakesRow shape (before.left - after.left) old.input (meaning v) new.input
@@ -101,8 +101,8 @@ ReadsRow meaning shape before old result after new = MatchResult result
     (λ e. Refuses (HasRow shape before.left old.input) (MayLack shape.memory old.input) (shape.wants_loan ≡ true) Anything old.input e new.input)
 
 -- All that is left of a list that was begun is read, and it is ended: its steps are given back.
-abbrev pub ReadsRest : {T V E : Type 0} → (T → V) → Shape Items V → AccessorState → Progress
-    → Result T (DecodeError E) → Progress → Type 0
+abbrev pub ReadsRest : {T V E : Type 0} → (T → V) → Shape Items V → AccessorState → DeState
+    → Result T (DecodeError E) → DeState → Type 0
 ReadsRest meaning shape before old result new = MatchResult result
     (λ v. (new.failed ≡ false) × (now : Reading) × TakesRow shape before.left old.input (meaning v) now × (new.input ≡ with_steps (now.steps + before.steps) now))
     (λ e. Refuses (HasRow shape before.left old.input) (MayLack shape.memory old.input) (shape.wants_loan ≡ true) Anything old.input e new.input)
@@ -187,7 +187,7 @@ pub record TakesFields {S : Type 0} (shape : FieldShape S) (state : S) (last : O
 
 -- All that is left of a map that was begun is read, and it is ended: its steps are given back.
 abbrev pub ReadsEntriesLeft : {T S E : Type 0} → (T → S) → FieldShape S → S → AccessorState
-    → Progress → Result T (DecodeError E) → Progress → Type 0
+    → DeState → Result T (DecodeError E) → DeState → Type 0
 ReadsEntriesLeft meaning shape start before old result new = MatchResult result
     (λ v. (new.failed ≡ false) × (now : Reading) × TakesFields shape start before.last before.left old.input (meaning v) now × (new.input ≡ with_steps (now.steps + before.steps) now))
     (λ e. Refuses (HasFields shape start before.last before.left old.input) (MayLack (fields_memory shape) old.input) (shape.wants_loan ≡ true) Anything old.input e new.input)

@@ -5,7 +5,7 @@ use Rattle.dagcbor_heads.specs.Reading.{Reading, with_steps}
 use Rattle.dagcbor_heads.specs.Refusals.{Refuses}
 use Rattle.dagcbor_heads.specs.declared.error.DecodeError.{DecodeError}
 use Rattle.ipld_tree.specs.Tree.{Tree, text, mapping, no_entries, entry}
-use Rattle.dagcbor_read.specs.Calls.{Progress}
+use Rattle.dagcbor_read.specs.Deserializers.{DeState}
 use Rattle.dagcbor_items.specs.Reads.{HasFront, TakesFront, MayLack, Anything}
 use Rattle.dagcbor_read.specs.Enums.{EnumState}
 use Rattle.dagcbor_items.specs.Shapes.{Shape, unless_lent}
@@ -64,8 +64,8 @@ TakesVariant shape k e old v new = MatchBool e.in_map
 
 -- A variant is read exactly where it is its name alone or holds what the type accepts, as its name
 -- wants. After an answer nothing has failed.
-abbrev pub ReadsVariant : {T V E : Type 0} → (T → V) → EnumShape V → List ℕ → EnumState → Progress
-    → Result T (DecodeError E) → Progress → Type 0
+abbrev pub ReadsVariant : {T V E : Type 0} → (T → V) → EnumShape V → List ℕ → EnumState → DeState
+    → Result T (DecodeError E) → DeState → Type 0
 ReadsVariant meaning shape k e old result new = MatchResult result
     (λ v. (new.failed ≡ false) × TakesVariant shape k e old.input (meaning v) new.input)
     (λ r. Refuses (HasVariant shape k e old.input) (MayLack shape.memory old.input) (shape.wants_loan ≡ true) Anything old.input r new.input)

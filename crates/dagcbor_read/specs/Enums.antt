@@ -14,7 +14,7 @@ use Rattle.std.specs.declared.borrow.CowStr.{CowStr}
 use Rattle.std.specs.declared.alloc.Global.{Global}
 use Rattle.dagcbor_items.specs.Shapes.{view_text, leaf, Shape}
 use Rattle.dagcbor_items.specs.LeafCauses.{TextCause}
-use Rattle.dagcbor_read.specs.Calls.{Progress}
+use Rattle.dagcbor_read.specs.Deserializers.{DeState}
 use Rattle.dagcbor_items.specs.Variants.{OfByte}
 use Rattle.dagcbor_items.specs.Reads.{Reads, HasFront, MayLack, TakesFront, NoStepIfDeep, Anything}
 use Rattle.dagcbor_read.specs.Accessors.{BeginsItems}
@@ -130,6 +130,6 @@ ReadsHeld meaning shape e old result new = MatchResult result
 
 -- The same for the fields that a variant holds, where nothing had failed. After an answer nothing
 -- has failed.
-abbrev pub ReadsFieldsHeld : {T V E : Type 0} → (T → V) → Shape Tree V → EnumState → Progress
-    → Result T (DecodeError E) → Progress → Type 0
+abbrev pub ReadsFieldsHeld : {T V E : Type 0} → (T → V) → Shape Tree V → EnumState → DeState
+    → Result T (DecodeError E) → DeState → Type 0
 ReadsFieldsHeld meaning shape e old result new = old.failed ≡ false → IfOk result (λ v. new.failed ≡ false) × ReadsHeld meaning shape e old.input result new.input

@@ -1,3 +1,4 @@
+-- handed on from the crates below
 pub use Rattle.dagcbor_heads.specs.Reading
 pub use Rattle.dagcbor_heads.specs.Fronts
 pub use Rattle.dagcbor_heads.specs.Looking
@@ -11,21 +12,22 @@ pub use Rattle.dagcbor_items.specs.FirstBytes
 pub use Rattle.dagcbor_items.specs.Places
 pub use Rattle.dagcbor_items.specs.LinkCauses
 pub use Rattle.dagcbor_items.specs.ItemCauses
+pub use Rattle.dagcbor_items.specs.LeafCauses
+pub use Rattle.dagcbor_items.specs.Variants
 pub use Rattle.dagcbor_items.specs.Untyped
 pub use Rattle.dagcbor_items.specs.Looks
 pub use Rattle.dagcbor_items.specs.Items
 pub use Rattle.dagcbor_items.specs.Entries
 pub use Rattle.dagcbor_items.specs.Links
 pub use Rattle.dagcbor_items.specs.Walks
-pub mod Calls
-pub mod Values
-pub use Rattle.dagcbor_items.specs.Reads
-pub use Rattle.dagcbor_items.specs.Variants
 pub use Rattle.dagcbor_items.specs.Shapes
-pub use Rattle.dagcbor_items.specs.LeafCauses
+pub use Rattle.dagcbor_items.specs.Reads
 pub use Rattle.dagcbor_items.specs.Majors
 pub use Rattle.dagcbor_items.specs.LeafReads
-pub mod Parts
+-- of this crate, from below upwards
+pub mod Deserializers
+pub mod Values
+pub mod Options
 pub mod Accessors
 pub mod Collections
 pub mod Structs

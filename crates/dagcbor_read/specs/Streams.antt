@@ -10,33 +10,28 @@ use Rattle.dagcbor_heads.specs.declared.error.DecodeError.{DecodeError}
 use Rattle.dagcbor_heads.specs.declared.error.DecodeError.TheVariants.{Read, RequireBorrowed}
 use Rattle.dagcbor_heads.specs.declared.error.DecodeError.TheVariants.{OutOfMemory, Failed}
 use Rattle.ipld_tree.specs.Tree.{Tree}
-use Rattle.ipld_tree.specs.Spelling.{IsFront}
-use Rattle.dagcbor_read.specs.Calls.{Progress, progress, Call}
+use Rattle.dagcbor_read.specs.Deserializers.{DeState, de_state, Call}
 use Rattle.dagcbor_items.specs.Reads.{HasFront, TakesFront, MayLack}
 use Rattle.dagcbor_read.specs.declared.stream.StreamDeserializer.{StreamDeserializer}
 use Rattle.dagcbor_items.specs.Shapes.{Shape}
+use Rattle.dagcbor_read.specs.Whole.{IsFirst, BeginsWithNoValue}
 
 -- ---- the stream of a type on bytes
-
--- a tree stands at the front that shows v, its need within the steps
-abbrev pub IsNextValue : {V : Type 0} → Shape Tree V → ℕ → List ℕ → V → List ℕ → Type 0
-IsNextValue shape steps b v rest = (t : Tree) × IsFront b t rest × (shape.view t ≡ Some v)
-    × (shape.need t ≤ steps)
 
 -- The stream of a type on bytes, where `None` stands for a refusal: nothing for no bytes; a value
 -- that stands at the front, and then the stream of the rest; else one refusal, and the end.
 abbrev pub AreStreamItems : {V : Type 0} → Shape Tree V → ℕ → List ℕ → List (Option V) → Type 0
 AreStreamItems shape steps b [] = b ≡ []
-AreStreamItems shape steps b (Some v ∷ items) = (rest : List ℕ) × IsNextValue shape steps b v rest
+AreStreamItems shape steps b (Some v ∷ items) = (rest : List ℕ) × IsFirst shape steps b v rest
     × AreStreamItems shape steps rest items
-AreStreamItems {V} shape steps b (None ∷ items) = (items ≡ []) × (0 < length b)
-    × ((v : V) (rest : List ℕ) → ¬ IsNextValue shape steps b v rest)
+AreStreamItems shape steps b (None ∷ items) = (items ≡ []) × (0 < length b)
+    × BeginsWithNoValue shape steps b
 
 -- The values are those of trees that stand one behind the other at the front of the bytes, before
 -- the rest, each accepted within the steps.
 abbrev pub AreNextValues : {V : Type 0} → Shape Tree V → ℕ → List ℕ → List V → List ℕ → Type 0
 AreNextValues shape steps b [] rest = b ≡ rest
-AreNextValues shape steps b (v ∷ vs) rest = (mid : List ℕ) × IsNextValue shape steps b v mid
+AreNextValues shape steps b (v ∷ vs) rest = (mid : List ℕ) × IsFirst shape steps b v mid
     × AreNextValues shape steps mid vs rest
 
 -- Of given bytes there is one stream at most.
@@ -46,14 +41,14 @@ StreamsAreUnique {V} shape = (steps : ℕ) (b : List ℕ) (items others : List (
 
 -- ---- what contracts see of a stream
 
-pub record Streaming : Type 0 where
+pub record StreamState : Type 0 where
   -- what it reads from
-  pub source : Progress
+  pub source : DeState
   -- whether an error, or the end, was met
   pub done : Bool
 
-abbrev pub streaming : {R T : Type 0} → (R → Reading) → StreamDeserializer R T → Streaming
-streaming reading s = record { source = progress reading s.de; done = s.done }
+abbrev pub stream_state : {R T : Type 0} → (R → Reading) → StreamDeserializer R T → StreamState
+stream_state reading s = record { source = de_state reading s.de; done = s.done }
 
 -- ---- what one call does
 
@@ -86,8 +81,8 @@ is_last (Some r) = is_err r
 
 -- What `next` does: nothing comes of a stream that is done; else what reading the next value
 -- answers.
-abbrev pub GivesNext : {T V E : Type 0} → (T → V) → Shape Tree V → Streaming
-    → Option (Result T (DecodeError E)) → Streaming → Type 0
+abbrev pub GivesNext : {T V E : Type 0} → (T → V) → Shape Tree V → StreamState
+    → Option (Result T (DecodeError E)) → StreamState → Type 0
 GivesNext meaning shape old item new = MatchBool old.done
     ((item ≡ None) × (new ≡ old))
     ((new.done ≡ is_last item) × Call (ReadsNext meaning shape) old.source (as_answer item) new.source)
@@ -99,7 +94,7 @@ items_left_of true left = at_most 0
 items_left_of false None = endless
 items_left_of false (Some b) = at_most (length b + 1)
 
-abbrev pub items_left : Streaming → Count
+abbrev pub items_left : StreamState → Count
 items_left s = items_left_of s.done s.source.input.left
 
 -- ---- what comes of runs of `next`
@@ -146,12 +141,12 @@ AreUpTo meaning shape lends whole (Err e ∷ xs) items = (xs ≡ [])
     × (GivesUp shape lends e ⊎ (items ≡ None ∷ []))
 
 -- a stream, not done, over known bytes, of what has not failed
-pub record IsOver (b : List ℕ) (s : Streaming) : Type 0 where
+pub record IsOver (b : List ℕ) (s : StreamState) : Type 0 where
   pub goes_on : s.done ≡ false
   pub sound : s.source.failed ≡ false
   pub left : s.source.input.left ≡ Some b
 
-module _ {S T V : Type 0} (E : Type 0) (see : S → Streaming) (meaning : T → V) (shape : Shape Tree V) where
+module _ {S T V : Type 0} (E : Type 0) (see : S → StreamState) (meaning : T → V) (shape : Shape Tree V) where
   -- one call of `next`
   abbrev pub Gives : S → Option (Result T (DecodeError E)) → S → Type 0
   Gives s item t = GivesNext meaning shape (see s) item (see t)

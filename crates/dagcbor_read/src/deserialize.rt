@@ -1,7 +1,7 @@
 //! What can be read.
 
 ghost use Rattle.std.specs.Prelude.{◌≡◌, Bool, false, ⊤, IfOk};
-ghost use Rattle.dagcbor_read.specs.Calls.{progress, StaysFailed, Over};
+ghost use Rattle.dagcbor_read.specs.Deserializers.{de_state, StaysFailed, Over};
 ghost use Rattle.dagcbor_read.specs.Values.{ReadsValue};
 
 use crate::deserializer::Deserializer;
@@ -20,7 +20,7 @@ pub trait Deserialize<'de>: Shown + Sized + Drop {
     fn deserialize<R: Read>(alloc: Global, de: &mut Deserializer<'de, R>) -> ReadResult<Self, R>
         ensures value { Over R.reading (ReadsValue Self.meaning Self.shape) de.old result de.new }
         ensures failed { Over R.reading StaysFailed de.old result de.new }
-        ensures lies { IfOk result (Self.lies (progress R.reading de.old).input.lends) };
+        ensures lies { IfOk result (Self.lies (de_state R.reading de.old).input.lends) };
 }
 
 /// A value that wants no loan of the input, so that any reader will do.

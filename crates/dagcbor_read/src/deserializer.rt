@@ -6,7 +6,7 @@ ghost use Rattle.dagcbor_heads.specs.Reading.{fresh_reading, default_steps};
 ghost use Rattle.dagcbor_heads.specs.Inputs.{not_lending};
 ghost use Rattle.dagcbor_heads.specs.declared.error.DecodeError.TheVariants.{Failed};
 ghost use Rattle.dagcbor_items.specs.Looks.{LooksAtAny};
-ghost use Rattle.dagcbor_read.specs.Calls.{progress, Call, Ends, Over};
+ghost use Rattle.dagcbor_read.specs.Deserializers.{de_state, Call, Ends, Over};
 ghost use Rattle.dagcbor_items.specs.Untyped.{ReadsItem};
 ghost use Rattle.dagcbor_items.specs.Links.{ReadsLink};
 ghost use Rattle.dagcbor_items.specs.Variants.{OfItem, OfLink, OfHead, OfNumber, OfByte, OfChar};
@@ -18,10 +18,11 @@ ghost use Rattle.dagcbor_items.specs.LeafReads.{ReadsIgnored};
 ghost use Rattle.std.specs.Cow.{IsBorrowedSlice, IsBorrowedStr, cow_str_bytes};
 ghost use Rattle.ipld_tree.specs.Tree.{text};
 ghost use Rattle.dagcbor_read.specs.Accessors.{ReadsHead, BeginsItems, ReadsKeyAfter, OfBegin};
-ghost use Rattle.dagcbor_read.specs.Parts.{ReadsPart, ReadsOption, EntersOption};
+ghost use Rattle.dagcbor_read.specs.Values.{ReadsPart};
+ghost use Rattle.dagcbor_read.specs.Options.{ReadsOption, EntersOption};
 ghost use Rattle.dagcbor_read.specs.Enums.{SpendsEnum, OfForm};
 ghost use Rattle.dagcbor_items.specs.Walks.{GathersLinks};
-ghost use Rattle.dagcbor_read.specs.Streams.{streaming, ReadsNext};
+ghost use Rattle.dagcbor_read.specs.Streams.{stream_state, ReadsNext};
 
 use crate::access::accessor::{Accessor, copied};
 use crate::access::enum_accessor::{EnumAccessor, spend_form};
@@ -51,7 +52,7 @@ pub struct Deserializer<'de, R> {
 impl<'de> Deserializer<'de, SliceReader<'de>> {
     /// Reads from the slice, whose bytes are lent, with a budget of `DEFAULT_STEPS`.
     pub fn from_slice(bytes: &'de [u8]) -> Deserializer<'de, SliceReader<'de>>
-        ensures { progress (λ r. r) result ≡ record {
+        ensures { de_state (λ r. r) result ≡ record {
           input = fresh_reading (Some bytes.now) default_steps true [];
           failed = false;
         } }
@@ -61,7 +62,7 @@ impl<'de> Deserializer<'de, SliceReader<'de>> {
 
     /// Reads from what the reader of a slice has left, which is lent, with the steps that it has.
     pub fn from_slice_reader(reader: SliceReader<'de>) -> Deserializer<'de, SliceReader<'de>>
-        ensures { progress (λ r. r) result ≡ record { input = reader.entry; failed = false } }
+        ensures { de_state (λ r. r) result ≡ record { input = reader.entry; failed = false } }
     {
         Deserializer {
             input: Input::Slice(reader),
@@ -73,7 +74,7 @@ impl<'de> Deserializer<'de, SliceReader<'de>> {
 impl<'de, R: Read> Deserializer<'de, R> {
     /// Reads from the reader, whose bytes are not lent.
     pub fn from_reader(reader: R) -> Deserializer<'de, R>
-        ensures { progress R.reading result ≡ record { input = not_lending (R.reading reader); failed = false } }
+        ensures { de_state R.reading result ≡ record { input = not_lending (R.reading reader); failed = false } }
     {
         Deserializer {
             input: Input::Reader(reader),
@@ -91,9 +92,9 @@ impl<'de, R: Read> Deserializer<'de, R> {
     /// Until the call answers, it counts as refused.
     pub(crate) fn begin(&mut self) -> ReadResult<(), R>
         ensures { MatchResult result
-            (λ _. ((progress R.reading self.old).failed ≡ false)
-            × (progress R.reading self.new ≡ record { input = (progress R.reading self.old).input; failed = true }))
-            (λ e. ((progress R.reading self.old).failed ≡ true) × (e ≡ Failed) × (progress R.reading self.new ≡ progress R.reading self.old)) }
+            (λ _. ((de_state R.reading self.old).failed ≡ false)
+            × (de_state R.reading self.new ≡ record { input = (de_state R.reading self.old).input; failed = true }))
+            (λ e. ((de_state R.reading self.old).failed ≡ true) × (e ≡ Failed) × (de_state R.reading self.new ≡ de_state R.reading self.old)) }
     {
         if self.failed {
             return Err(DecodeError::Failed);
@@ -105,7 +106,7 @@ impl<'de, R: Read> Deserializer<'de, R> {
     /// Reads an item of any kind, no deeper than the steps that are left.
     pub fn deserialize_any(&mut self, alloc: Global) -> ReadResult<Ipld, R>
         ensures item { Over R.reading (Call ReadsItem) self.old result self.new }
-        ensures looked { LooksAtAny (progress R.reading self.old).input result (progress R.reading self.new).input }
+        ensures looked { LooksAtAny (de_state R.reading self.old).input result (de_state R.reading self.new).input }
         ensures variant { IfErr result OfItem }
     {
         self.begin()?;
@@ -282,7 +283,7 @@ impl<'de, R: Read> Deserializer<'de, R> {
     /// Reads a text, lent where the input lends.
     pub fn deserialize_str(&mut self, alloc: Global) -> ReadResult<CowStr<'de>, R>
         ensures text { Over R.reading (Call (ReadsStr (codes "string"))) self.old result self.new }
-        ensures lent { IfOk result (λ s. IsBorrowedStr s ↔ ((progress R.reading self.old).input.lends ≡ true)) }
+        ensures lent { IfOk result (λ s. IsBorrowedStr s ↔ ((de_state R.reading self.old).input.lends ≡ true)) }
         ensures variant { IfErr result OfText }
     {
         self.begin()?;
@@ -294,7 +295,7 @@ impl<'de, R: Read> Deserializer<'de, R> {
     /// As `deserialize_str`.
     pub fn deserialize_identifier(&mut self, alloc: Global) -> ReadResult<CowStr<'de>, R>
         ensures text { Over R.reading (Call (ReadsStr (codes "string"))) self.old result self.new }
-        ensures lent { IfOk result (λ s. IsBorrowedStr s ↔ ((progress R.reading self.old).input.lends ≡ true)) }
+        ensures lent { IfOk result (λ s. IsBorrowedStr s ↔ ((de_state R.reading self.old).input.lends ≡ true)) }
         ensures variant { IfErr result OfText }
     {
         self.deserialize_str(alloc)
@@ -303,7 +304,7 @@ impl<'de, R: Read> Deserializer<'de, R> {
     /// Reads a byte string, lent where the input lends.
     pub fn deserialize_bytes(&mut self, alloc: Global) -> ReadResult<CowSlice<'de, u8>, R>
         ensures bytes { Over R.reading (Call ReadsByteSlice) self.old result self.new }
-        ensures lent { IfOk result (λ c. IsBorrowedSlice c ↔ ((progress R.reading self.old).input.lends ≡ true)) }
+        ensures lent { IfOk result (λ c. IsBorrowedSlice c ↔ ((de_state R.reading self.old).input.lends ≡ true)) }
         ensures variant { IfErr result OfHead }
     {
         self.begin()?;
@@ -348,8 +349,8 @@ impl<'de, R: Read> Deserializer<'de, R> {
     /// Nothing was refused so far.
     pub(crate) fn check(&self) -> ReadResult<(), R>
         ensures { MatchResult result
-            (λ _. (progress R.reading self.now).failed ≡ false)
-            (λ e. ((progress R.reading self.now).failed ≡ true) × (e ≡ Failed)) }
+            (λ _. (de_state R.reading self.now).failed ≡ false)
+            (λ e. ((de_state R.reading self.now).failed ≡ true) × (e ≡ Failed)) }
     {
         if self.failed {
             return Err(DecodeError::Failed);
@@ -364,7 +365,7 @@ impl<'de, R: Read> Deserializer<'de, R> {
         last: &Option<CowStr<'de>>,
     ) -> ReadResult<(CowStr<'de>, CowStr<'de>), R>
         ensures key { Over R.reading (Call (ReadsKeyAfter (option_map cow_str_bytes last.now))) self.old result self.new }
-        ensures lent { IfOk result (λ p. IsBorrowedStr p.0 ↔ ((progress R.reading self.old).input.lends ≡ true)) }
+        ensures lent { IfOk result (λ p. IsBorrowedStr p.0 ↔ ((de_state R.reading self.old).input.lends ≡ true)) }
         ensures variant { IfErr result OfKey }
     {
         self.begin()?;
@@ -383,7 +384,7 @@ impl<'de, R: Read> Deserializer<'de, R> {
         major: u8,
         more: u8,
     ) -> ReadResult<Accessor<'de>, R>
-        ensures accessor_state { Over R.reading (Call (BeginsItems major name.now (more + 1))) self.old result self.new }
+        ensures begun { Over R.reading (Call (BeginsItems major name.now (more + 1))) self.old result self.new }
         ensures variant { IfErr result OfBegin }
     {
         self.begin()?;
@@ -395,7 +396,7 @@ impl<'de, R: Read> Deserializer<'de, R> {
 
     /// Begins a list. Takes no memory.
     pub fn deserialize_seq(&mut self) -> ReadResult<Accessor<'de>, R>
-        ensures accessor_state { Over R.reading (Call (BeginsItems 4 (codes "array") 1)) self.old result self.new }
+        ensures begun { Over R.reading (Call (BeginsItems 4 (codes "array") 1)) self.old result self.new }
         ensures variant { IfErr result OfBegin }
     {
         self.begin_items("array", 4, 0)
@@ -403,7 +404,7 @@ impl<'de, R: Read> Deserializer<'de, R> {
 
     /// Begins a list for a tuple, whose length is not looked at. Takes no memory.
     pub fn deserialize_tuple(&mut self, _len: usize) -> ReadResult<Accessor<'de>, R>
-        ensures accessor_state { Over R.reading (Call (BeginsItems 4 (codes "tuple") 1)) self.old result self.new }
+        ensures begun { Over R.reading (Call (BeginsItems 4 (codes "tuple") 1)) self.old result self.new }
         ensures variant { IfErr result OfBegin }
     {
         self.begin_items("tuple", 4, 0)
@@ -415,7 +416,7 @@ impl<'de, R: Read> Deserializer<'de, R> {
         name: &str,
         _len: usize,
     ) -> ReadResult<Accessor<'de>, R>
-        ensures accessor_state { Over R.reading (Call (BeginsItems 4 name.now 1)) self.old result self.new }
+        ensures begun { Over R.reading (Call (BeginsItems 4 name.now 1)) self.old result self.new }
         ensures variant { IfErr result OfBegin }
     {
         self.begin_items(name, 4, 0)
@@ -423,7 +424,7 @@ impl<'de, R: Read> Deserializer<'de, R> {
 
     /// Begins a map. Takes no memory.
     pub fn deserialize_map(&mut self) -> ReadResult<Accessor<'de>, R>
-        ensures accessor_state { Over R.reading (Call (BeginsItems 5 (codes "map") 1)) self.old result self.new }
+        ensures begun { Over R.reading (Call (BeginsItems 5 (codes "map") 1)) self.old result self.new }
         ensures variant { IfErr result OfBegin }
     {
         self.begin_items("map", 5, 0)
@@ -435,7 +436,7 @@ impl<'de, R: Read> Deserializer<'de, R> {
         name: &str,
         _fields: &[&str],
     ) -> ReadResult<Accessor<'de>, R>
-        ensures accessor_state { Over R.reading (Call (BeginsItems 5 name.now 1)) self.old result self.new }
+        ensures begun { Over R.reading (Call (BeginsItems 5 name.now 1)) self.old result self.new }
         ensures variant { IfErr result OfBegin }
     {
         self.begin_items(name, 5, 0)
@@ -453,7 +454,7 @@ impl<'de, R: Read> Deserializer<'de, R> {
     /// Reads a value as its type does, and remembers a refusal of the type's own.
     pub(crate) fn read_part<T: Deserialize<'de>>(&mut self, alloc: Global) -> ReadResult<T, R>
         ensures part { Over R.reading (Call (ReadsPart T.meaning T.shape)) self.old result self.new }
-        ensures lies { IfOk result (T.lies (progress R.reading self.old).input.lends) }
+        ensures lies { IfOk result (T.lies (de_state R.reading self.old).input.lends) }
     {
         if self.failed {
             return Err(DecodeError::Failed);
@@ -474,7 +475,7 @@ impl<'de, R: Read> Deserializer<'de, R> {
         _name: &str,
     ) -> ReadResult<T, R>
         ensures part { Over R.reading (Call (ReadsPart T.meaning T.shape)) self.old result self.new }
-        ensures lies { IfOk result (T.lies (progress R.reading self.old).input.lends) }
+        ensures lies { IfOk result (T.lies (de_state R.reading self.old).input.lends) }
     {
         self.read_part(alloc)
     }
@@ -485,7 +486,7 @@ impl<'de, R: Read> Deserializer<'de, R> {
         alloc: Global,
     ) -> ReadResult<Option<T>, R>
         ensures option { Over R.reading (Call (ReadsOption T.meaning T.shape)) self.old result self.new }
-        ensures lies { IfOk result (λ o. IfSome o (T.lies (progress R.reading self.old).input.lends)) }
+        ensures lies { IfOk result (λ o. IfSome o (T.lies (de_state R.reading self.old).input.lends)) }
     {
         if self.enter_option()? {
             return Ok(None);
@@ -514,7 +515,7 @@ impl<'de, R: Read> Deserializer<'de, R> {
     /// memory.
     pub fn deserialize_ignored_any(&mut self, alloc: Global) -> ReadResult<(), R>
         ensures item { Over R.reading (Call ReadsIgnored) self.old result self.new }
-        ensures looked { LooksAtAny (progress R.reading self.old).input result (progress R.reading self.new).input }
+        ensures looked { LooksAtAny (de_state R.reading self.old).input result (de_state R.reading self.new).input }
         ensures variant { IfErr result OfItem }
     {
         self.begin()?;
@@ -527,7 +528,7 @@ impl<'de, R: Read> Deserializer<'de, R> {
     /// left to right, repeats kept.
     pub fn deserialize_links(&mut self, alloc: Global) -> ReadResult<Vec<Cid>, R>
         ensures links { Over R.reading (Call GathersLinks) self.old result self.new }
-        ensures looked { LooksAtAny (progress R.reading self.old).input result (progress R.reading self.new).input }
+        ensures looked { LooksAtAny (de_state R.reading self.old).input result (de_state R.reading self.new).input }
         ensures variant { IfErr result OfItem }
     {
         self.begin()?;
@@ -538,7 +539,7 @@ impl<'de, R: Read> Deserializer<'de, R> {
 
     /// The values that are left in the input.
     pub fn into_iter<T: Deserialize<'de>>(self, alloc: Global) -> StreamDeserializer<'de, R, T>
-        ensures { streaming R.reading result ≡ record { source = progress R.reading self.entry; done = false } }
+        ensures { stream_state R.reading result ≡ record { source = de_state R.reading self.entry; done = false } }
     {
         StreamDeserializer::new(alloc, self)
     }

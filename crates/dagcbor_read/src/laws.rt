@@ -1,6 +1,6 @@
 //! Laws of streams, each the contract of a function that does nothing.
 
-ghost use Rattle.dagcbor_read.specs.Streams.{streaming, StreamsAreExact, StreamsAreUnique};
+ghost use Rattle.dagcbor_read.specs.Streams.{stream_state, StreamsAreExact, StreamsAreUnique};
 
 use crate::deserialize::Deserialize;
 use crate::shown::Shown;
@@ -8,7 +8,7 @@ use dagcbor_heads::Read;
 
 /// What comes of a stream over known bytes is the stream of the type on these bytes.
 pub fn streams_exact<'de, T: Deserialize<'de>, R: Read>()
-    ensures { StreamsAreExact R.Error (streaming {T = T} R.reading) T.meaning T.shape }
+    ensures { StreamsAreExact R.Error (stream_state {T = T} R.reading) T.meaning T.shape }
 {}
 
 /// Of given bytes there is one stream of a type.

@@ -1,8 +1,9 @@
 //! Reading one value that wants no loan from a slice.
 
-ghost use Rattle.std.specs.Prelude.{◌⊎◌, false, IfOk, IfErr};
+ghost use Rattle.std.specs.Prelude.{◌≡◌, ◌⊎◌, false, IfOk, IfErr};
 ghost use Rattle.dagcbor_heads.specs.Reading.{default_steps};
-ghost use Rattle.dagcbor_read.specs.Whole.{IsWhole, HoldsNoValue, IsReadExcuse, OfWhole};
+ghost use Rattle.dagcbor_heads.specs.declared.error.DecodeError.TheVariants.{OutOfMemory};
+ghost use Rattle.dagcbor_read.specs.Whole.{IsWhole, HoldsNoValue, OfWhole};
 ghost use Rattle.dagcbor_read.specs.Whole.{IsForBehind, LacksMemoryIf};
 
 use crate::deserialize::DeserializeOwned;
@@ -17,7 +18,7 @@ pub fn from_slice_owned<'de, T: DeserializeOwned<'de>>(
     bytes: &[u8],
 ) -> Result<T, DecodeError<Infallible>>
     ensures value { IfOk result (λ v. IsWhole T.shape default_steps bytes.now (T.meaning v)) }
-    ensures refused { IfErr result (λ e. IsReadExcuse e ⊎ HoldsNoValue T.shape default_steps bytes.now) }
+    ensures refused { IfErr result (λ e. (e ≡ OutOfMemory) ⊎ HoldsNoValue T.shape default_steps bytes.now) }
     ensures behind { IfErr result (IsForBehind T.shape default_steps bytes.now) }
     ensures never { IfErr result OfWhole }
     ensures memory { IfErr result (LacksMemoryIf (T.shape.memory false)) }

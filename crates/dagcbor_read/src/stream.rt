@@ -2,8 +2,8 @@
 
 ghost use Rattle.std.specs.Prelude.{◌≡◌, [], false};
 ghost use Rattle.dagcbor_heads.specs.Reading.{fresh_reading, default_steps};
-ghost use Rattle.dagcbor_read.specs.Calls.{progress};
-ghost use Rattle.dagcbor_read.specs.Streams.{streaming, items_left, GivesNext};
+ghost use Rattle.dagcbor_read.specs.Deserializers.{de_state};
+ghost use Rattle.dagcbor_read.specs.Streams.{stream_state, items_left, GivesNext};
 
 use crate::deserialize::{Deserialize, DeserializeOwned};
 use crate::deserializer::Deserializer;
@@ -25,7 +25,7 @@ pub struct StreamDeserializer<'de, R, T> {
 impl<'de, R: Read, T: Deserialize<'de>> StreamDeserializer<'de, R, T> {
     /// The values that are left in the input.
     pub fn new(alloc: Global, de: Deserializer<'de, R>) -> StreamDeserializer<'de, R, T>
-        ensures { streaming R.reading result ≡ record { source = progress R.reading de.entry; done = false } }
+        ensures { stream_state R.reading result ≡ record { source = de_state R.reading de.entry; done = false } }
     {
         StreamDeserializer {
             alloc,
@@ -40,10 +40,10 @@ impl<'de, R: Read, T: Deserialize<'de>> Iterator for StreamDeserializer<'de, R, 
     type Item = ReadResult<T, R>;
 
     // Nothing of a stream that is done; else what reading the next value answers.
-    ghost next_gives = { λ old item new. GivesNext T.meaning T.shape (streaming R.reading old) item (streaming R.reading new) };
+    ghost next_gives = { λ old item new. GivesNext T.meaning T.shape (stream_state R.reading old) item (stream_state R.reading new) };
 
     // Of n bytes at most n + 1 items, since a value takes a byte.
-    ghost remaining = { λ s. items_left (streaming R.reading s) };
+    ghost remaining = { λ s. items_left (stream_state R.reading s) };
 
     fn next(&mut self) -> Option<ReadResult<T, R>> {
         if self.done {
@@ -69,7 +69,7 @@ pub fn iter_from_reader<'de, T: DeserializeOwned<'de>, R: BufRead + Drop>(
     alloc: Global,
     source: R,
 ) -> StreamDeserializer<'de, IoReader<R>, T>
-    ensures { streaming (λ r. r) result ≡ record {
+    ensures { stream_state (λ r. r) result ≡ record {
       source = record {
         input = fresh_reading (R.remaining source) default_steps false [];
         failed = false;

@@ -3,7 +3,5 @@
 pub(crate) mod data;
 pub(crate) mod holders;
 pub(crate) mod leaves;
-pub(crate) mod lent;
 pub(crate) mod lists;
 pub(crate) mod maps;
-pub(crate) mod numbers;

@@ -8,7 +8,7 @@ use Rattle.ipld_tree.specs.Tree.{Tree}
 use Rattle.ipld_tree.specs.Spelling.{IsSpelling}
 use Rattle.dagcbor_read.specs.Whole.{HoldsNoValue, IsReadExcuse, OfWhole, IsForBehind, LacksMemoryIf}
 use Rattle.serde_ipld_dagcbor.specs.Codec.{IsReadAs, AreAlike, OfSlice}
-use Rattle.dagcbor_read.specs.Shapes.{Shape}
+use Rattle.dagcbor_items.specs.Shapes.{Shape}
 use Rattle.dagcbor_heads.specs.Reading.{default_steps}
 
 module _ {V : Type 0} (shape : Shape Tree V) where
@@ -22,13 +22,13 @@ module _ {V : Type 0} (shape : Shape Tree V) where
   not_decoded left e r = elim r [ inl k ↦ inl k | inr k ↦ inr (unread left k) ]
 
   -- a slice is refused for want of memory, or holds no value
-  pub slice_not_decoded : {E F : Type 0} (b : List ℕ) (e : DecodeError E) (f : DecodeError F) → AreAlike e f → IsReadExcuse e ⊎ HoldsNoValue shape default_steps b → OfWhole e
+  pub slice_not_decoded : {E F : Type 0} (b : List ℕ) (e : DecodeError E) (f : DecodeError F) → AreAlike e f → (e ≡ OutOfMemory) ⊎ HoldsNoValue shape default_steps b → OfWhole e
       → ((f ≡ OutOfMemory) ⊎ HoldsNoValue shape default_steps b) × OfSlice f
   slice_not_decoded b (Read x) f h r w = absurd h
   slice_not_decoded b OutOfMemory f h r w = (inl h, subst OfSlice (sym h) tt)
   slice_not_decoded b (RequireBorrowed name) f h r w = absurd w
   slice_not_decoded b Failed f h r w = absurd w
-  slice_not_decoded b _ f h r w = (inr (elim r [ inl k ↦ absurd k | inr k ↦ k ]), subst OfSlice (sym h) tt)
+  slice_not_decoded b _ f h r w = (inr (elim r [ inl k ↦ absurd (cc k) | inr k ↦ k ]), subst OfSlice (sym h) tt)
 
   -- which is an excuse, or the slice is read as no value
   pub slice_excused : {F : Type 0} (b : List ℕ) (f : DecodeError F) → (f ≡ OutOfMemory) ⊎ HoldsNoValue shape default_steps b → IsReadExcuse f ⊎ ((v : V) → ¬ AreRead IsSpelling (IsReadAs shape) b v)

@@ -8,10 +8,10 @@ use Rattle.dagcbor_heads.specs.declared.error.EncodeError.TheVariants as unwritt
 use Rattle.ipld_tree.specs.Tree.{Tree}
 use Rattle.ipld_tree.specs.Ipld.{tree_of}
 use Rattle.dagcbor_write.specs.Answers.{AreSpellingOf, HasNoSpelling}
-use Rattle.dagcbor_read.specs.Whole.{IsWhole, HoldsNoValue, IsReadExcuse, OfWhole}
+use Rattle.dagcbor_read.specs.Whole.{IsWhole, HoldsNoValue, OfWhole}
 use Rattle.serde_ipld_dagcbor.specs.Codec.{spellings_are_unique}
 use Rattle.serde_ipld_dagcbor.specs.RoundTrips.{TypedReadThenWritten, ReadThenWritten, IsReadBack, TypedWrittenThenRead, WrittenThenRead, IsWrittenBack}
-use Rattle.dagcbor_read.specs.Shapes.{Shape, any_tree}
+use Rattle.dagcbor_items.specs.Shapes.{Shape, any_tree}
 use Rattle.dagcbor_heads.specs.declared.error.EncodeError.{EncodeError}
 use Rattle.dagcbor_heads.specs.Reading.{default_steps}
 
@@ -28,12 +28,12 @@ module _ {T V : Type 0} (held : T → V) (shape : Shape Tree V) (tree : T → Op
       by (unwritten.Msg m) w = elim w [ inl k ↦ absurd (cc k) | inr k ↦ subst HasNoSpelling (own h.0 h.2) k h.1.spellable ]
       by (unwritten.Write x) w = elim x [ ]
 
-  no_refusal : (x : V) (b : List ℕ) (e : DecodeError Infallible) → IsWhole shape default_steps b x → (IsReadExcuse e ⊎ HoldsNoValue shape default_steps b) × OfWhole e → IsReadBack held x (Err e)
+  no_refusal : (x : V) (b : List ℕ) (e : DecodeError Infallible) → IsWhole shape default_steps b x → ((e ≡ OutOfMemory) ⊎ HoldsNoValue shape default_steps b) × OfWhole e → IsReadBack held x (Err e)
   no_refusal x b (Read e) h r = elim e [ ]
   no_refusal x b OutOfMemory h r = tt
   no_refusal x b (RequireBorrowed name) h r = r.1
   no_refusal x b Failed h r = r.1
-  no_refusal x b _ h r = elim r.0 [ inl k ↦ k | inr k ↦ k x h ]
+  no_refusal x b _ h r = elim r.0 [ inl k ↦ absurd (cc k) | inr k ↦ k x h ]
 
   pub typed_written_then_read : TypedWrittenThenRead held shape tree
   typed_written_then_read value t x v (Ok copy) is shows within w r =

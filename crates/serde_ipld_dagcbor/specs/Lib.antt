@@ -1,3 +1,4 @@
+-- handed on from the crates below
 pub use Rattle.dagcbor_heads.specs.Reading
 pub use Rattle.dagcbor_heads.specs.Inputs
 pub use Rattle.dagcbor_heads.specs.IoReading
@@ -7,6 +8,8 @@ pub use Rattle.dagcbor_heads.specs.Causes
 pub use Rattle.dagcbor_heads.specs.Refusals
 pub use Rattle.dagcbor_heads.specs.Names
 pub use Rattle.dagcbor_heads.specs.Written
+pub use Rattle.dagcbor_heads.specs.declared.error.DecodeError
+pub use Rattle.dagcbor_heads.specs.declared.error.EncodeError
 pub use Rattle.ipld_tree.specs.Cid
 pub use Rattle.ipld_tree.specs.CidFault
 pub use Rattle.ipld_tree.specs.CidHash
@@ -23,29 +26,31 @@ pub use Rattle.dagcbor_write.specs.Gathering
 pub use Rattle.dagcbor_write.specs.Lists
 pub use Rattle.dagcbor_write.specs.Maps
 pub use Rattle.dagcbor_write.specs.Laws
-pub use Rattle.dagcbor_read.specs.FirstBytes
-pub use Rattle.dagcbor_read.specs.Places
-pub use Rattle.dagcbor_read.specs.LinkCauses
-pub use Rattle.dagcbor_read.specs.ItemCauses
-pub use Rattle.dagcbor_read.specs.Untyped
-pub use Rattle.dagcbor_read.specs.Looks
-pub use Rattle.dagcbor_read.specs.Links
-pub use Rattle.dagcbor_read.specs.Walks
-pub use Rattle.dagcbor_read.specs.Calls
-pub use Rattle.dagcbor_read.specs.Reads
-pub use Rattle.dagcbor_read.specs.Shapes
-pub use Rattle.dagcbor_read.specs.Collections
-pub use Rattle.dagcbor_read.specs.Accessors
-pub use Rattle.dagcbor_read.specs.Structs
-pub use Rattle.dagcbor_read.specs.Enums
+pub use Rattle.dagcbor_items.specs.FirstBytes
+pub use Rattle.dagcbor_items.specs.Places
+pub use Rattle.dagcbor_items.specs.LinkCauses
+pub use Rattle.dagcbor_items.specs.ItemCauses
+pub use Rattle.dagcbor_items.specs.Untyped
+pub use Rattle.dagcbor_items.specs.Looks
+pub use Rattle.dagcbor_items.specs.Links
+pub use Rattle.dagcbor_items.specs.Walks
+pub use Rattle.dagcbor_items.specs.Shapes
+pub use Rattle.dagcbor_items.specs.Reads
 pub use Rattle.dagcbor_items.specs.TreeKinds
 pub use Rattle.dagcbor_items.specs.declared.kind.Kind
-pub use Rattle.dagcbor_read.specs.Whole
 pub use Rattle.dagcbor_items.specs.Slices
-pub use Rattle.dagcbor_read.specs.Streams
+pub use Rattle.dagcbor_read.specs.Deserializers
+pub use Rattle.dagcbor_read.specs.Values
+pub use Rattle.dagcbor_read.specs.Options
+pub use Rattle.dagcbor_read.specs.Accessors
+pub use Rattle.dagcbor_read.specs.Collections
+pub use Rattle.dagcbor_read.specs.Structs
+pub use Rattle.dagcbor_read.specs.Enums
 pub use Rattle.dagcbor_read.specs.EnumViews
-pub use Rattle.dagcbor_heads.specs.declared.error.DecodeError
-pub use Rattle.dagcbor_heads.specs.declared.error.EncodeError
+pub use Rattle.dagcbor_read.specs.Whole
+pub use Rattle.dagcbor_read.specs.Streams
+
+-- of this crate
 pub mod RoundTrips
 pub mod Codec
 pub mod tests

@@ -11,8 +11,8 @@ use Rattle.ipld_tree.specs.Tree.{Tree, any_need}
 use Rattle.ipld_tree.specs.Ipld.{tree_of}
 use Rattle.ipld_tree.specs.declared.ipld.Ipld.{Ipld}
 use Rattle.dagcbor_write.specs.Answers.{AreSpellingOf, HasNoSpelling}
-use Rattle.dagcbor_read.specs.Whole.{IsWhole, HoldsNoValue, IsReadExcuse, OfWhole}
-use Rattle.dagcbor_read.specs.Shapes.{Shape, any_tree}
+use Rattle.dagcbor_read.specs.Whole.{IsWhole, HoldsNoValue, OfWhole}
+use Rattle.dagcbor_items.specs.Shapes.{Shape, any_tree}
 use Rattle.dagcbor_heads.specs.Reading.{default_steps}
 
 -- what `to_vec` says of its answer
@@ -26,7 +26,7 @@ abbrev pub IsRead : {T V : Type 0} → (T → V) → Shape Tree V → List ℕ
     → Result T (DecodeError Infallible) → Type 0
 IsRead held shape b read = MatchResult read
     (λ v. IsWhole shape default_steps b (held v))
-    (λ e. (IsReadExcuse e ⊎ HoldsNoValue shape default_steps b) × OfWhole e)
+    (λ e. ((e ≡ unread.OutOfMemory) ⊎ HoldsNoValue shape default_steps b) × OfWhole e)
 
 -- the bytes were written, or memory was wanting
 abbrev pub IsWrittenBack : List ℕ → Result (Vec ℕ Global) (EncodeError Infallible) → Type 0

@@ -3,10 +3,10 @@
 ghost use Rattle.std.specs.Prelude.{◌≡◌, ◌↔◌, ◌+◌, ◌≤◌, ⊤, true, false, Some, IfOk, IfErr, IfSome};
 ghost use Rattle.std.specs.Cow.{cow_str_bytes, IsBorrowedStr};
 ghost use Rattle.dagcbor_heads.specs.Reading.{with_steps};
-ghost use Rattle.dagcbor_read.specs.Calls.{progress, Call, AreOut, Over};
+ghost use Rattle.dagcbor_read.specs.Deserializers.{de_state, Call, AreOut, Over};
 ghost use Rattle.dagcbor_items.specs.Reads.{Reads, Anything};
 ghost use Rattle.dagcbor_items.specs.Variants.{OfKey};
-ghost use Rattle.dagcbor_read.specs.Parts.{ReadsPart};
+ghost use Rattle.dagcbor_read.specs.Values.{ReadsPart};
 
 use crate::deserialize::Deserialize;
 use crate::deserializer::Deserializer;
@@ -100,7 +100,7 @@ impl<'de> Accessor<'de> {
         requires { (accessor_state self.old).is_map ≡ false }
         ensures after { accessor_state self.new ≡ after_element result (accessor_state self.old) }
         ensures element { Over R.reading (Call (ReadsElement T.meaning T.shape (accessor_state self.old).left)) de.old result de.new }
-        ensures lies { IfOk result (λ o. IfSome o (T.lies (progress R.reading de.old).input.lends)) }
+        ensures lies { IfOk result (λ o. IfSome o (T.lies (de_state R.reading de.old).input.lends)) }
     {
         de.check()?;
         if self.left == 0 {
@@ -121,7 +121,7 @@ impl<'de> Accessor<'de> {
         requires in_turn { (accessor_state self.old).owes_value ≡ false }
         ensures after { accessor_state self.new ≡ after_key result (accessor_state self.old) }
         ensures key { Over R.reading (Call (ReadsNextKey (accessor_state self.old).last (accessor_state self.old).left)) de.old result de.new }
-        ensures lent { IfOk result (λ o. IfSome o (λ k. IsBorrowedStr k ↔ ((progress R.reading de.old).input.lends ≡ true))) }
+        ensures lent { IfOk result (λ o. IfSome o (λ k. IsBorrowedStr k ↔ ((de_state R.reading de.old).input.lends ≡ true))) }
         ensures variant { IfErr result OfKey }
     {
         de.check()?;
@@ -144,7 +144,7 @@ impl<'de> Accessor<'de> {
         requires { (accessor_state self.old).owes_value ≡ true }
         ensures after { accessor_state self.new ≡ after_value result (accessor_state self.old) }
         ensures value { Over R.reading (Call (ReadsPart T.meaning T.shape)) de.old result de.new }
-        ensures lies { IfOk result (T.lies (progress R.reading de.old).input.lends) }
+        ensures lies { IfOk result (T.lies (de_state R.reading de.old).input.lends) }
     {
         let value = de.read_part(alloc)?;
         self.owes_value = false;
@@ -161,7 +161,7 @@ impl<'de> Accessor<'de> {
     /// Ends the list or map, and gives its steps back.
     pub fn end<R: Read>(self, de: &mut Deserializer<'de, R>) -> ReadResult<(), R>
         requires in_turn { (accessor_state self).owes_value ≡ false }
-        requires out { AreOut (accessor_state self).steps (progress R.reading de.old) }
+        requires out { AreOut (accessor_state self).steps (de_state R.reading de.old) }
         ensures { Over R.reading (Call (EndsItems (accessor_state self.entry))) de.old result de.new }
     {
         de.begin()?;

@@ -2,7 +2,7 @@
 
 ghost use Rattle.std.specs.Prelude.{◌≡◌, ◌↔◌, true, IfOk, IfErr, codes};
 ghost use Rattle.std.specs.Cow.{IsBorrowedStr};
-ghost use Rattle.dagcbor_read.specs.Calls.{progress, Call, AreOut, Over};
+ghost use Rattle.dagcbor_read.specs.Deserializers.{de_state, Call, AreOut, Over};
 ghost use Rattle.dagcbor_read.specs.Enums.{enum_state, BeginsEnum, SpendsEnum, ReadsName};
 ghost use Rattle.dagcbor_read.specs.Enums.{IsOtherForm, EntersMap, EndsUnit, ReadsHeld, BeginsHeld};
 ghost use Rattle.dagcbor_read.specs.Enums.{OfForm};
@@ -78,7 +78,7 @@ impl EnumAccessor {
     ) -> ReadResult<(CowStr<'de>, EnumAccessor), R>
         ensures same { IfOk result (λ v. v.1 ≡ self) }
         ensures text { Over R.reading (Call ReadsName) de.old result de.new }
-        ensures lent { IfOk result (λ v. IsBorrowedStr v.0 ↔ ((progress R.reading de.old).input.lends ≡ true)) }
+        ensures lent { IfOk result (λ v. IsBorrowedStr v.0 ↔ ((de_state R.reading de.old).input.lends ≡ true)) }
         ensures variant { IfErr result OfText }
     {
         let name = de.deserialize_identifier(alloc)?;
@@ -87,7 +87,7 @@ impl EnumAccessor {
 
     /// After a variant's name alone, nothing is read. Else `Mismatch` with the enum's first byte.
     pub fn unit_variant<'de, R: Read>(self, de: &mut Deserializer<'de, R>) -> ReadResult<(), R>
-        requires { AreOut (enum_state self).steps (progress R.reading de.old) }
+        requires { AreOut (enum_state self).steps (de_state R.reading de.old) }
         ensures { Over R.reading (Call (EndsUnit (enum_state self))) de.old result de.new }
     {
         de.begin()?;
@@ -105,9 +105,9 @@ impl EnumAccessor {
         alloc: Global,
         de: &mut Deserializer<'de, R>,
     ) -> ReadResult<T, R>
-        requires { AreOut (enum_state self).steps (progress R.reading de.old) }
+        requires { AreOut (enum_state self).steps (de_state R.reading de.old) }
         ensures part { Over R.reading (Call (ReadsHeld T.meaning T.shape (enum_state self))) de.old result de.new }
-        ensures lies { IfOk result (T.lies (progress R.reading de.old).input.lends) }
+        ensures lies { IfOk result (T.lies (de_state R.reading de.old).input.lends) }
     {
         self.enter_map(de)?;
         let part = de.read_part(alloc)?;
@@ -123,7 +123,7 @@ impl EnumAccessor {
         _len: usize,
         de: &mut Deserializer<'de, R>,
     ) -> ReadResult<Accessor<'de>, R>
-        ensures accessor_state { Over R.reading (Call (BeginsHeld 4 (codes "tuple") (enum_state self))) de.old result de.new }
+        ensures begun { Over R.reading (Call (BeginsHeld 4 (codes "tuple") (enum_state self))) de.old result de.new }
         ensures variant { IfErr result OfBegin }
     {
         self.enter_map(de)?;
@@ -138,7 +138,7 @@ impl EnumAccessor {
         _fields: &[&str],
         de: &mut Deserializer<'de, R>,
     ) -> ReadResult<Accessor<'de>, R>
-        ensures accessor_state { Over R.reading (Call (BeginsHeld 5 (codes "map") (enum_state self))) de.old result de.new }
+        ensures begun { Over R.reading (Call (BeginsHeld 5 (codes "map") (enum_state self))) de.old result de.new }
         ensures variant { IfErr result OfBegin }
     {
         self.enter_map(de)?;

@@ -4,10 +4,9 @@ ghost use Rattle.std.specs.Prelude.{◌≡◌, ◌+◌, ◌≤◌, ℕ, List, []
 ghost use Rattle.std.specs.Prelude.{false, codes, IfOk, IfErr, IfSome};
 ghost use Rattle.ipld_tree.specs.Tree.{Tree, any_need};
 ghost use Rattle.dagcbor_items.specs.Shapes.{ignored_item};
-ghost use Rattle.dagcbor_read.specs.Calls.{progress, StaysFailed, Over};
-ghost use Rattle.dagcbor_read.specs.Values.{ReadsValue};
+ghost use Rattle.dagcbor_read.specs.Deserializers.{de_state, StaysFailed, Over};
+ghost use Rattle.dagcbor_read.specs.Values.{ReadsValue, RefusesToBegin};
 ghost use Rattle.dagcbor_read.specs.Accessors.{accessor_state, HasHeadOf, BeginsItems};
-ghost use Rattle.dagcbor_read.specs.Parts.{RefusesToBegin};
 ghost use Rattle.dagcbor_read.specs.Collections.{FieldShape, fields_of, value_of, slot_of};
 ghost use Rattle.dagcbor_read.specs.Collections.{ReadsEntriesLeft};
 ghost use Rattle.dagcbor_read.specs.Structs.{texts};
@@ -69,8 +68,8 @@ pub(crate) fn read_entries_left<'de, F: Fields<'de>, R: Read>(
 ) -> ReadResult<F::Places, R>
     requires map { (accessor_state entries).is_map ≡ true }
     requires in_turn { (accessor_state entries).owes_value ≡ false }
-    requires sound { (progress R.reading de.old).failed ≡ false }
-    requires out { (progress R.reading de.old).input.steps + (accessor_state entries).steps ≤ (progress R.reading de.old).input.budget }
+    requires sound { (de_state R.reading de.old).failed ≡ false }
+    requires out { (de_state R.reading de.old).input.steps + (accessor_state entries).steps ≤ (de_state R.reading de.old).input.budget }
     ensures { Over R.reading (ReadsEntriesLeft F.state (F.shape (texts names.now)) F.unread (accessor_state entries.entry)) de.old result de.new }
 {
     let mut places = F::unread(alloc);
@@ -105,7 +104,7 @@ pub fn read_into<'de, T: Deserialize<'de>, R: Read>(
     ensures value { Over R.reading (ReadsValue (λ _. option_map T.meaning place.new) (slot_of T.shape)) de.old result de.new }
     ensures kept { IfErr result (λ _. place.new ≡ place.old) }
     ensures failed { Over R.reading StaysFailed de.old result de.new }
-    ensures lies { IfOk result (λ _. IfSome place.new (T.lies (progress R.reading de.old).input.lends)) }
+    ensures lies { IfOk result (λ _. IfSome place.new (T.lies (de_state R.reading de.old).input.lends)) }
 {
     let value = T::deserialize(alloc, de)?;
     *place = Some(value);

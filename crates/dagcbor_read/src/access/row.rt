@@ -4,7 +4,7 @@ ghost use Rattle.std.specs.Prelude.{◌≡◌, ◌+◌, ◌≤◌, ℕ, Bool, Li
 ghost use Rattle.std.specs.Prelude.{⊤, MatchResult, IfOk, All};
 ghost use Rattle.dagcbor_heads.specs.Refusals.{Refuses};
 ghost use Rattle.ipld_tree.specs.Tree.{Items};
-ghost use Rattle.dagcbor_read.specs.Calls.{progress, StaysFailed, Over};
+ghost use Rattle.dagcbor_read.specs.Deserializers.{de_state, StaysFailed, Over};
 ghost use Rattle.dagcbor_items.specs.Reads.{Anything};
 ghost use Rattle.dagcbor_read.specs.Values.{ReadsValue};
 ghost use Rattle.dagcbor_read.specs.Accessors.{accessor_state};
@@ -37,9 +37,9 @@ pub(crate) trait Row<'de>: Sized + Drop {
         de: &mut Deserializer<'de, R>,
     ) -> ReadResult<Self, R>
         requires list { (accessor_state items.old).is_map ≡ false }
-        requires sound { (progress R.reading de.old).failed ≡ false }
-        ensures row { ReadsRow Self.meaning Self.shape (accessor_state items.old) (progress R.reading de.old) result (accessor_state items.new) (progress R.reading de.new) }
-        ensures lies { IfOk result (Self.lies (progress R.reading de.old).input.lends) };
+        requires sound { (de_state R.reading de.old).failed ≡ false }
+        ensures row { ReadsRow Self.meaning Self.shape (accessor_state items.old) (de_state R.reading de.old) result (accessor_state items.new) (de_state R.reading de.new) }
+        ensures lies { IfOk result (Self.lies (de_state R.reading de.old).input.lends) };
 }
 
 impl<'de, T: Deserialize<'de>> Row<'de> for Vec<T> {
@@ -114,10 +114,10 @@ pub(crate) fn read_rest<'de, L: Row<'de>, R: Read>(
 ) -> ReadResult<L, R>
     requires list { (accessor_state items).is_map ≡ false }
     requires in_turn { (accessor_state items).owes_value ≡ false }
-    requires sound { (progress R.reading de.old).failed ≡ false }
-    requires out { (progress R.reading de.old).input.steps + (accessor_state items).steps ≤ (progress R.reading de.old).input.budget }
+    requires sound { (de_state R.reading de.old).failed ≡ false }
+    requires out { (de_state R.reading de.old).input.steps + (accessor_state items).steps ≤ (de_state R.reading de.old).input.budget }
     ensures rest { Over R.reading (ReadsRest L.meaning L.shape (accessor_state items.entry)) de.old result de.new }
-    ensures lies { IfOk result (L.lies (progress R.reading de.old).input.lends) }
+    ensures lies { IfOk result (L.lies (de_state R.reading de.old).input.lends) }
 {
     let mut items = items;
     let row = L::read_row(alloc, &mut items, de)?;
@@ -133,7 +133,7 @@ pub(crate) fn read_tuple<'de, L: Row<'de>, R: Read>(
 ) -> ReadResult<L, R>
     ensures value { Over R.reading (ReadsValue L.meaning (list_of L.shape)) de.old result de.new }
     ensures failed { Over R.reading StaysFailed de.old result de.new }
-    ensures lies { IfOk result (L.lies (progress R.reading de.old).input.lends) }
+    ensures lies { IfOk result (L.lies (de_state R.reading de.old).input.lends) }
 {
     let items = de.deserialize_tuple(len)?;
     read_rest(alloc, items, de)

@@ -6,10 +6,9 @@ ghost use Rattle.std.specs.Option.{option_flatten};
 ghost use Rattle.dagcbor_heads.specs.declared.name.Name.{Name};
 ghost use Rattle.dagcbor_heads.specs.declared.error.DecodeError.TheVariants.{Msg};
 ghost use Rattle.dagcbor_items.specs.Shapes.{option_of};
-ghost use Rattle.dagcbor_read.specs.Calls.{progress, StaysFailed, AreOut, Over};
-ghost use Rattle.dagcbor_read.specs.Values.{ReadsValue};
+ghost use Rattle.dagcbor_read.specs.Deserializers.{de_state, StaysFailed, AreOut, Over};
+ghost use Rattle.dagcbor_read.specs.Values.{ReadsValue, RefusesToBegin};
 ghost use Rattle.dagcbor_read.specs.Accessors.{HasHeadOf, BeginsItems};
-ghost use Rattle.dagcbor_read.specs.Parts.{RefusesToBegin};
 ghost use Rattle.dagcbor_read.specs.Enums.{enum_state, BeginsHeld, ReadsFieldsHeld};
 ghost use Rattle.dagcbor_read.specs.Collections.{FieldShape, value_of, struct_of};
 ghost use Rattle.dagcbor_read.specs.Structs.{texts, no_places, places, finish_required};
@@ -194,7 +193,7 @@ pub fn read_struct_variant<'de, F: Fields<'de>, R: Read>(
     names: &[&str],
     de: &mut Deserializer<'de, R>,
 ) -> ReadResult<F, R>
-    requires { AreOut (enum_state variant).steps (progress R.reading de.old) }
+    requires { AreOut (enum_state variant).steps (de_state R.reading de.old) }
     ensures fields { Over R.reading (ReadsFieldsHeld F.meaning (struct_of (F.shape (texts names.now)) F.unread F.finish) (enum_state variant)) de.old result de.new }
     ensures named { Over R.reading (RefusesToBegin (HasHeadOf 5) (BeginsHeld 5 (codes "map") (enum_state variant))) de.old result de.new }
     ensures failed { Over R.reading StaysFailed de.old result de.new }

@@ -2,10 +2,9 @@
 
 ghost use Rattle.std.specs.Prelude.{◌≡◌, ◌+◌, ◌≤◌, ℕ, Bool, List, Option, false};
 ghost use Rattle.ipld_tree.specs.Tree.{Tree};
-ghost use Rattle.dagcbor_read.specs.Calls.{progress, StaysFailed, AreOut, Over};
-ghost use Rattle.dagcbor_read.specs.Values.{ReadsValue};
+ghost use Rattle.dagcbor_read.specs.Deserializers.{de_state, StaysFailed, AreOut, Over};
+ghost use Rattle.dagcbor_read.specs.Values.{ReadsValue, RefusesToBegin};
 ghost use Rattle.dagcbor_read.specs.Enums.{enum_state, HasStepEnum, SpendsEnum, ReadsFieldsHeld};
-ghost use Rattle.dagcbor_read.specs.Parts.{RefusesToBegin};
 ghost use Rattle.dagcbor_read.specs.EnumViews.{EnumShape, enum_of, ReadsVariant};
 
 use crate::access::enum_accessor::EnumAccessor;
@@ -30,8 +29,8 @@ pub trait Variants<'de>: Sized + Drop {
         variant: EnumAccessor,
         de: &mut Deserializer<'de, R>,
     ) -> ReadResult<Self, R>
-        requires sound { (progress R.reading de.old).failed ≡ false }
-        requires out { (progress R.reading de.old).input.steps + (enum_state variant).steps ≤ (progress R.reading de.old).input.budget }
+        requires sound { (de_state R.reading de.old).failed ≡ false }
+        requires out { (de_state R.reading de.old).input.steps + (enum_state variant).steps ≤ (de_state R.reading de.old).input.budget }
         ensures { Over R.reading (ReadsVariant meaning Self.shape name.now (enum_state variant)) de.old result de.new };
 }
 
@@ -46,7 +45,7 @@ pub fn read_enum<'de, V: Variants<'de>, R: Read>(
     ensures named { Over R.reading (RefusesToBegin HasStepEnum (SpendsEnum name.now)) de.old result de.new }
     ensures failed { Over R.reading StaysFailed de.old result de.new }
 {
-    let accessor_state = de.deserialize_enum(name, variants)?;
-    let (variant_name, variant) = accessor_state.variant(alloc, de)?;
+    let form = de.deserialize_enum(name, variants)?;
+    let (variant_name, variant) = form.variant(alloc, de)?;
     V::read_variant(alloc, variant_name.as_str(), variant, de)
 }

@@ -1,16 +1,15 @@
-//! The types of items of any kind, and of links.
+//! The types of items of any kind.
 
-ghost use Rattle.std.specs.Prelude.{refl, ℕ, List};
-ghost use Rattle.ipld_tree.specs.Cid.{cid_bytes};
+ghost use Rattle.std.specs.Prelude.{refl};
 ghost use Rattle.ipld_tree.specs.Ipld.{tree_of};
 ghost use Rattle.ipld_tree.specs.Tree.{Tree};
-ghost use Rattle.dagcbor_items.specs.Shapes.{view_link, ignored_item, leaf, any_tree};
+ghost use Rattle.dagcbor_items.specs.Shapes.{ignored_item, any_tree};
 
 use crate::deserialize::{Deserialize, DeserializeOwned};
 use crate::deserializer::Deserializer;
 use crate::shown::Shown;
 use dagcbor_heads::{Read, ReadResult};
-use ipld_tree::{Cid, Ipld};
+use ipld_tree::Ipld;
 use std::alloc::Global;
 
 /// Accepts any item, and keeps nothing of it.
@@ -51,23 +50,5 @@ impl<'de> Deserialize<'de> for Ipld {
 }
 
 impl<'de> DeserializeOwned<'de> for Ipld {
-    ghost owned = { refl };
-}
-
-impl Shown for Cid {
-    ghost View = { List ℕ };
-
-    ghost meaning = { cid_bytes };
-
-    ghost shape = { leaf view_link };
-}
-
-impl<'de> Deserialize<'de> for Cid {
-    fn deserialize<R: Read>(_alloc: Global, de: &mut Deserializer<'de, R>) -> ReadResult<Self, R> {
-        de.deserialize_cid()
-    }
-}
-
-impl<'de> DeserializeOwned<'de> for Cid {
     ghost owned = { refl };
 }

@@ -1,8 +1,10 @@
-//! Types that hold one other.
+//! Types that hold values of another.
 
-ghost use Rattle.std.specs.Prelude.{Option, option_map, box_value, IfSome};
+ghost use Rattle.std.specs.Prelude.{Option, option_map, box_value, IfSome, List, map, All};
 ghost use Rattle.dagcbor_items.specs.Shapes.{option_of, boxed_of};
+ghost use Rattle.dagcbor_read.specs.Collections.{list_of, all_of};
 
+use crate::access::row::read_rest;
 use crate::deserialize::{Deserialize, DeserializeOwned};
 use crate::deserializer::Deserializer;
 use crate::shown::Shown;
@@ -50,5 +52,26 @@ impl<'de, T: Deserialize<'de>> Deserialize<'de> for Box<T> {
 }
 
 impl<'de, T: DeserializeOwned<'de>> DeserializeOwned<'de> for Box<T> {
+    ghost owned = { T.owned };
+}
+
+impl<T: Shown> Shown for Vec<T> {
+    ghost View = { List T.View };
+
+    ghost meaning = { λ v. map T.meaning v.items };
+
+    ghost shape = { list_of (all_of T.shape) };
+}
+
+impl<'de, T: Deserialize<'de>> Deserialize<'de> for Vec<T> {
+    ghost lies = { λ lends v. All (T.lies lends) v.items };
+
+    fn deserialize<R: Read>(alloc: Global, de: &mut Deserializer<'de, R>) -> ReadResult<Self, R> {
+        let items = de.deserialize_seq()?;
+        read_rest(alloc, items, de)
+    }
+}
+
+impl<'de, T: DeserializeOwned<'de>> DeserializeOwned<'de> for Vec<T> {
     ghost owned = { T.owned };
 }

@@ -1,15 +1,20 @@
-//! The types of other leaves.
+//! The types of leaves. Those of texts and bytes that have no memory of their own are lent by the
+//! input.
 
-ghost use Rattle.std.specs.Prelude.{refl, ℕ, List, Bool, false, string_bytes};
-ghost use Rattle.dagcbor_items.specs.Shapes.{view_null, view_bool, view_char, view_text};
-ghost use Rattle.dagcbor_items.specs.Shapes.{view_bytes, leaf, owned_leaf, cow_leaf};
+ghost use Rattle.std.specs.Prelude.{◌≡◌, ◌↔◌, refl, ◌^◌, ℕ, ℤ, List, Bool, false, true, string_bytes};
+ghost use Rattle.std.specs.Cow.{cow_str_bytes, IsBorrowedStr};
+ghost use Rattle.ipld_tree.specs.Cid.{cid_bytes};
+ghost use Rattle.dagcbor_items.specs.Shapes.{view_null, view_bool, view_unsigned, view_signed};
+ghost use Rattle.dagcbor_items.specs.Shapes.{view_char, view_text, view_bytes, view_link};
+ghost use Rattle.dagcbor_items.specs.Shapes.{leaf, owned_leaf, cow_leaf, lent_leaf};
 
 use crate::deserialize::{Deserialize, DeserializeOwned};
 use crate::deserializer::Deserializer;
 use crate::shown::Shown;
-use dagcbor_heads::{Read, ReadResult};
-use ipld_tree::Bytes;
+use dagcbor_heads::{DecodeError, Name, Read, ReadResult};
+use ipld_tree::{ByteSlice, Bytes, Cid};
 use std::alloc::Global;
+use std::borrow::{CowSlice, CowStr};
 
 impl Shown for () {
     ghost View = { Unit {0} };
@@ -47,6 +52,222 @@ impl<'de> DeserializeOwned<'de> for bool {
     ghost owned = { refl };
 }
 
+impl Shown for u8 {
+    ghost View = { ℕ };
+
+    ghost meaning = { λ n. n };
+
+    ghost shape = { leaf (view_unsigned (2 ^ 8)) };
+}
+
+impl<'de> Deserialize<'de> for u8 {
+    fn deserialize<R: Read>(_alloc: Global, de: &mut Deserializer<'de, R>) -> ReadResult<Self, R> {
+        de.deserialize_u8()
+    }
+}
+
+impl<'de> DeserializeOwned<'de> for u8 {
+    ghost owned = { refl };
+}
+
+impl Shown for u16 {
+    ghost View = { ℕ };
+
+    ghost meaning = { λ n. n };
+
+    ghost shape = { leaf (view_unsigned (2 ^ 16)) };
+}
+
+impl<'de> Deserialize<'de> for u16 {
+    fn deserialize<R: Read>(_alloc: Global, de: &mut Deserializer<'de, R>) -> ReadResult<Self, R> {
+        de.deserialize_u16()
+    }
+}
+
+impl<'de> DeserializeOwned<'de> for u16 {
+    ghost owned = { refl };
+}
+
+impl Shown for u32 {
+    ghost View = { ℕ };
+
+    ghost meaning = { λ n. n };
+
+    ghost shape = { leaf (view_unsigned (2 ^ 32)) };
+}
+
+impl<'de> Deserialize<'de> for u32 {
+    fn deserialize<R: Read>(_alloc: Global, de: &mut Deserializer<'de, R>) -> ReadResult<Self, R> {
+        de.deserialize_u32()
+    }
+}
+
+impl<'de> DeserializeOwned<'de> for u32 {
+    ghost owned = { refl };
+}
+
+impl Shown for u64 {
+    ghost View = { ℕ };
+
+    ghost meaning = { λ n. n };
+
+    ghost shape = { leaf (view_unsigned (2 ^ 64)) };
+}
+
+impl<'de> Deserialize<'de> for u64 {
+    fn deserialize<R: Read>(_alloc: Global, de: &mut Deserializer<'de, R>) -> ReadResult<Self, R> {
+        de.deserialize_u64()
+    }
+}
+
+impl<'de> DeserializeOwned<'de> for u64 {
+    ghost owned = { refl };
+}
+
+impl Shown for usize {
+    ghost View = { ℕ };
+
+    ghost meaning = { λ n. n };
+
+    ghost shape = { leaf (view_unsigned (2 ^ 64)) };
+}
+
+impl<'de> Deserialize<'de> for usize {
+    fn deserialize<R: Read>(_alloc: Global, de: &mut Deserializer<'de, R>) -> ReadResult<Self, R> {
+        Ok(de.deserialize_u64()? as usize)
+    }
+}
+
+impl<'de> DeserializeOwned<'de> for usize {
+    ghost owned = { refl };
+}
+
+impl Shown for i8 {
+    ghost View = { ℤ };
+
+    ghost meaning = { λ n. n };
+
+    ghost shape = { leaf (view_signed (2 ^ 7)) };
+}
+
+impl<'de> Deserialize<'de> for i8 {
+    fn deserialize<R: Read>(_alloc: Global, de: &mut Deserializer<'de, R>) -> ReadResult<Self, R> {
+        de.deserialize_i8()
+    }
+}
+
+impl<'de> DeserializeOwned<'de> for i8 {
+    ghost owned = { refl };
+}
+
+impl Shown for i16 {
+    ghost View = { ℤ };
+
+    ghost meaning = { λ n. n };
+
+    ghost shape = { leaf (view_signed (2 ^ 15)) };
+}
+
+impl<'de> Deserialize<'de> for i16 {
+    fn deserialize<R: Read>(_alloc: Global, de: &mut Deserializer<'de, R>) -> ReadResult<Self, R> {
+        de.deserialize_i16()
+    }
+}
+
+impl<'de> DeserializeOwned<'de> for i16 {
+    ghost owned = { refl };
+}
+
+impl Shown for i32 {
+    ghost View = { ℤ };
+
+    ghost meaning = { λ n. n };
+
+    ghost shape = { leaf (view_signed (2 ^ 31)) };
+}
+
+impl<'de> Deserialize<'de> for i32 {
+    fn deserialize<R: Read>(_alloc: Global, de: &mut Deserializer<'de, R>) -> ReadResult<Self, R> {
+        de.deserialize_i32()
+    }
+}
+
+impl<'de> DeserializeOwned<'de> for i32 {
+    ghost owned = { refl };
+}
+
+impl Shown for i64 {
+    ghost View = { ℤ };
+
+    ghost meaning = { λ n. n };
+
+    ghost shape = { leaf (view_signed (2 ^ 63)) };
+}
+
+impl<'de> Deserialize<'de> for i64 {
+    fn deserialize<R: Read>(_alloc: Global, de: &mut Deserializer<'de, R>) -> ReadResult<Self, R> {
+        de.deserialize_i64()
+    }
+}
+
+impl<'de> DeserializeOwned<'de> for i64 {
+    ghost owned = { refl };
+}
+
+impl Shown for isize {
+    ghost View = { ℤ };
+
+    ghost meaning = { λ n. n };
+
+    ghost shape = { leaf (view_signed (2 ^ 63)) };
+}
+
+impl<'de> Deserialize<'de> for isize {
+    fn deserialize<R: Read>(_alloc: Global, de: &mut Deserializer<'de, R>) -> ReadResult<Self, R> {
+        Ok(de.deserialize_i64()? as isize)
+    }
+}
+
+impl<'de> DeserializeOwned<'de> for isize {
+    ghost owned = { refl };
+}
+
+impl Shown for u128 {
+    ghost View = { ℕ };
+
+    ghost meaning = { λ n. n };
+
+    ghost shape = { leaf (view_unsigned (2 ^ 128)) };
+}
+
+impl<'de> Deserialize<'de> for u128 {
+    fn deserialize<R: Read>(_alloc: Global, de: &mut Deserializer<'de, R>) -> ReadResult<Self, R> {
+        de.deserialize_u128()
+    }
+}
+
+impl<'de> DeserializeOwned<'de> for u128 {
+    ghost owned = { refl };
+}
+
+impl Shown for i128 {
+    ghost View = { ℤ };
+
+    ghost meaning = { λ n. n };
+
+    ghost shape = { leaf (view_signed (2 ^ 127)) };
+}
+
+impl<'de> Deserialize<'de> for i128 {
+    fn deserialize<R: Read>(_alloc: Global, de: &mut Deserializer<'de, R>) -> ReadResult<Self, R> {
+        de.deserialize_i128()
+    }
+}
+
+impl<'de> DeserializeOwned<'de> for i128 {
+    ghost owned = { refl };
+}
+
 impl Shown for char {
     ghost View = { ℕ };
 
@@ -63,6 +284,42 @@ impl<'de> Deserialize<'de> for char {
 
 impl<'de> DeserializeOwned<'de> for char {
     ghost owned = { refl };
+}
+
+impl Shown for &str {
+    ghost View = { List ℕ };
+
+    ghost meaning = { λ s. s.now };
+
+    ghost shape = { lent_leaf view_text };
+}
+
+impl<'de> Deserialize<'de> for &'de str {
+    fn deserialize<R: Read>(alloc: Global, de: &mut Deserializer<'de, R>) -> ReadResult<Self, R> {
+        match de.deserialize_str(alloc)? {
+            CowStr::Borrowed(text) => Ok(text),
+            CowStr::Owned(_) => Err(DecodeError::RequireBorrowed {
+                name: Name::new("string"),
+            }),
+        }
+    }
+}
+
+/// Lent where the input lends, and so not `DeserializeOwned`.
+impl Shown for CowStr<'_> {
+    ghost View = { List ℕ };
+
+    ghost meaning = { cow_str_bytes };
+
+    ghost shape = { cow_leaf view_text };
+}
+
+impl<'de> Deserialize<'de> for CowStr<'de> {
+    ghost lies = { λ lends s. IsBorrowedStr s ↔ (lends ≡ true) };
+
+    fn deserialize<R: Read>(alloc: Global, de: &mut Deserializer<'de, R>) -> ReadResult<Self, R> {
+        de.deserialize_str(alloc)
+    }
 }
 
 impl Shown for String {
@@ -98,5 +355,42 @@ impl<'de> Deserialize<'de> for Bytes {
 }
 
 impl<'de> DeserializeOwned<'de> for Bytes {
+    ghost owned = { refl };
+}
+
+impl Shown for ByteSlice<'_> {
+    ghost View = { List ℕ };
+
+    ghost meaning = { λ s. s.0.now };
+
+    ghost shape = { lent_leaf view_bytes };
+}
+
+impl<'de> Deserialize<'de> for ByteSlice<'de> {
+    fn deserialize<R: Read>(alloc: Global, de: &mut Deserializer<'de, R>) -> ReadResult<Self, R> {
+        match de.deserialize_bytes(alloc)? {
+            CowSlice::Borrowed(bytes) => Ok(ByteSlice(bytes)),
+            CowSlice::Owned(_) => Err(DecodeError::RequireBorrowed {
+                name: Name::new("bytes"),
+            }),
+        }
+    }
+}
+
+impl Shown for Cid {
+    ghost View = { List ℕ };
+
+    ghost meaning = { cid_bytes };
+
+    ghost shape = { leaf view_link };
+}
+
+impl<'de> Deserialize<'de> for Cid {
+    fn deserialize<R: Read>(_alloc: Global, de: &mut Deserializer<'de, R>) -> ReadResult<Self, R> {
+        de.deserialize_cid()
+    }
+}
+
+impl<'de> DeserializeOwned<'de> for Cid {
     ghost owned = { refl };
 }

@@ -1,35 +1,14 @@
-//! Vectors, and tuples of one to four.
+//! Tuples of one to four.
 
-ghost use Rattle.std.specs.Prelude.{List, map, false, ◌||◌, refl, All, Bool};
-ghost use Rattle.dagcbor_read.specs.Collections.{list_of, all_of, no_more, first_then, neither};
+ghost use Rattle.std.specs.Prelude.{false, ◌||◌, refl, Bool};
+ghost use Rattle.dagcbor_read.specs.Collections.{list_of, no_more, first_then, neither};
 
-use crate::access::row::{read_rest, read_tuple};
+use crate::access::row::read_tuple;
 use crate::deserialize::{Deserialize, DeserializeOwned};
 use crate::deserializer::Deserializer;
 use crate::shown::Shown;
 use dagcbor_heads::{Read, ReadResult};
 use std::alloc::Global;
-
-impl<T: Shown> Shown for Vec<T> {
-    ghost View = { List T.View };
-
-    ghost meaning = { λ v. map T.meaning v.items };
-
-    ghost shape = { list_of (all_of T.shape) };
-}
-
-impl<'de, T: Deserialize<'de>> Deserialize<'de> for Vec<T> {
-    ghost lies = { λ lends v. All (T.lies lends) v.items };
-
-    fn deserialize<R: Read>(alloc: Global, de: &mut Deserializer<'de, R>) -> ReadResult<Self, R> {
-        let items = de.deserialize_seq()?;
-        read_rest(alloc, items, de)
-    }
-}
-
-impl<'de, T: DeserializeOwned<'de>> DeserializeOwned<'de> for Vec<T> {
-    ghost owned = { T.owned };
-}
 
 impl<A: Shown> Shown for (A,) {
     ghost View = { A.View × Unit {0} };

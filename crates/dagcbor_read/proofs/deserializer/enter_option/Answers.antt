@@ -1,5 +1,5 @@
 use Rattle.dagcbor_heads.proofs.Refusing.{as_refusal}
-use Rattle.dagcbor_read.specs.Parts.{OptionCause}
+use Rattle.dagcbor_read.specs.Options.{OptionCause}
 use Rattle.dagcbor_read.proofs.Entering.{no_step_told}
 use Rattle.dagcbor_read.proofs.Nullable.{wants_step}
 use Rattle.dagcbor_read.proofs.deserializer.enter_option.Goals as goal

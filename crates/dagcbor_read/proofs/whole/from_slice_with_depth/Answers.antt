@@ -1,6 +1,6 @@
 use Rattle.std.proofs.Common.{ap, sym, ◌∙◌}
 use Rattle.std.specs.Prelude.{Some, true}
-use Rattle.dagcbor_read.proofs.Wholes.{not_answered, on_refusal, value_refused, value_end_refused, value_answered}
+use Rattle.dagcbor_read.proofs.Wholes.{not_answered, on_refusal, slice_excused, value_refused, value_end_refused, value_answered}
 use Rattle.dagcbor_read.proofs.whole.from_slice_with_depth.Goals as goal
 
 -- no value was read
@@ -11,7 +11,7 @@ returns-in_err-value g c =
     let told = value_refused g.T.Shown.shape c.args.steps (Some c.args.bytes.now) true _ _ _ _ (ap (λ p. p.input.left) start ∙ ap (λ r. r.left) source) (ap (λ p. p.input.steps) start ∙ ap (λ r. r.steps) source) (ap (λ p. p.input.lends) start ∙ ap (λ r. r.lends) source)
     (λ b n. let differ = sym (ap (λ p. p.input.lends) start ∙ ap (λ r. r.lends) source) ∙ n in cc) (c.in_err-value.ensures.value (ap (λ p. p.failed) start)) in
     let handed = c.from_residual.ensures.1 in
-    record { value = not_answered _ _ _ handed; refused = on_refusal _ _ _ handed told.0; behind = on_refusal _ _ _ handed told.2; memory = on_refusal _ _ _ handed told.3; lies = not_answered _ _ _ handed; never = on_refusal _ _ _ handed told.1 }
+    record { value = not_answered _ _ _ handed; refused = on_refusal _ _ _ handed (slice_excused _ told.0); behind = on_refusal _ _ _ handed told.2; memory = on_refusal _ _ _ handed told.3; lies = not_answered _ _ _ handed; never = on_refusal _ _ _ handed told.1 }
 
 -- it was read, and then no end was found
 pub returns-in_err-end : goal.returns-in_err-end
@@ -21,7 +21,7 @@ returns-in_err-end g c =
     let told = value_end_refused g.T.Shown.shape c.args.steps (Some c.args.bytes.now) true _ _ _ (g.T.Shown.meaning c.in_ok-value.value) _ (ap (λ p. p.input.left) start ∙ ap (λ r. r.left) source)
     (c.in_ok-value.ensures.value (ap (λ p. p.failed) start)) c.in_err-end.ensures in
     let handed = c.from_residual-in_err-end.ensures.1 in
-    record { value = not_answered _ _ _ handed; refused = on_refusal _ _ _ handed told.0; behind = on_refusal _ _ _ handed told.2; memory = on_refusal _ _ _ handed told.3; lies = not_answered _ _ _ handed; never = on_refusal _ _ _ handed told.1 }
+    record { value = not_answered _ _ _ handed; refused = on_refusal _ _ _ handed (slice_excused _ told.0); behind = on_refusal _ _ _ handed told.2; memory = on_refusal _ _ _ handed told.3; lies = not_answered _ _ _ handed; never = on_refusal _ _ _ handed told.1 }
 
 pub returns-clause-value : goal.returns-clause-value
 returns-clause-value g c =

@@ -1,6 +1,6 @@
 //! A struct of one field, read by a loop over the keys of its map.
 
-ghost use Rattle.dagcbor_read.specs.Calls.{Over};
+ghost use Rattle.dagcbor_read.specs.Deserializers.{Over};
 ghost use Rattle.dagcbor_read.specs.Values.{ReadsValue};
 ghost use Rattle.serde_ipld_dagcbor.specs.tests.One.{one_shape};
 

@@ -1,16 +1,16 @@
 use Rattle.dagcbor_heads.proofs.Refusing.{as_refusal}
-use Rattle.dagcbor_read.specs.Calls.{progress}
+use Rattle.dagcbor_read.specs.Deserializers.{de_state}
 use Rattle.dagcbor_read.proofs.NamedVariants.{not_begun, not_named, enum_read}
 use Rattle.dagcbor_read.proofs.access.variants.read_enum.Goals as goal
 
-pub returns-in_err-accessor_state-clause-value : goal.returns-in_err-accessor_state-clause-value
-returns-in_err-accessor_state-clause-value g c = λ sound. as_refusal _ _ _ _ c.from_residual.ensures.1
-    (not_begun g.V.Variants.shape _ c.args.name.now (progress g.R.Read.reading c.args.de.now) (progress g.R.Read.reading c.deserialize_enum.new.self) _ sound c.in_err-accessor_state.ensures.form)
+pub returns-in_err-form-clause-value : goal.returns-in_err-form-clause-value
+returns-in_err-form-clause-value g c = λ sound. as_refusal _ _ _ _ c.from_residual.ensures.1
+    (not_begun g.V.Variants.shape _ c.args.name.now (de_state g.R.Read.reading c.args.de.now) (de_state g.R.Read.reading c.deserialize_enum.new.self) _ sound c.in_err-form.ensures.form)
 
 pub returns-in_err-variant_name-clause-value : goal.returns-in_err-variant_name-clause-value
 returns-in_err-variant_name-clause-value g c = λ sound. as_refusal _ _ _ _ c.from_residual-in_err-variant_name.ensures.1
-    (not_named g.V.Variants.shape _ c.args.name.now (progress g.R.Read.reading c.args.de.now) (progress g.R.Read.reading c.deserialize_enum.new.self) (progress g.R.Read.reading c.variant.new.de) _ _ c.in_ok-accessor_state.ensures.form c.in_err-variant_name.ensures.text)
+    (not_named g.V.Variants.shape _ c.args.name.now (de_state g.R.Read.reading c.args.de.now) (de_state g.R.Read.reading c.deserialize_enum.new.self) (de_state g.R.Read.reading c.variant.new.de) _ _ c.in_ok-form.ensures.form c.in_err-variant_name.ensures.text)
 
 pub returns-clause-value : goal.returns-clause-value
 returns-clause-value g c =
-    enum_read g.V.Variants.shape g.V.Variants.meaning c.args.name.now (progress g.R.Read.reading c.args.de.now) (progress g.R.Read.reading c.deserialize_enum.new.self) (progress g.R.Read.reading c.variant.new.de) (progress g.R.Read.reading c.read_variant.new.de) _ _ _ c.read_variant.result c.in_ok-accessor_state.ensures.form c.in_ok-variant_name.ensures.text c.in_ok-variant_name.ensures.same c.as_str.ensures.value c.read_variant.ensures
+    enum_read g.V.Variants.shape g.V.Variants.meaning c.args.name.now (de_state g.R.Read.reading c.args.de.now) (de_state g.R.Read.reading c.deserialize_enum.new.self) (de_state g.R.Read.reading c.variant.new.de) (de_state g.R.Read.reading c.read_variant.new.de) _ _ _ c.read_variant.result c.in_ok-form.ensures.form c.in_ok-variant_name.ensures.text c.in_ok-variant_name.ensures.same c.as_str.ensures.value c.read_variant.ensures

@@ -1,5 +1,6 @@
 use Rattle.std.proofs.Common.{inl, inr}
-use Rattle.dagcbor_read.specs.Parts.{ReadsPart, ReadsOption, EntersOption}
+use Rattle.dagcbor_read.specs.Values.{ReadsPart}
+use Rattle.dagcbor_read.specs.Options.{ReadsOption, EntersOption}
 use Rattle.dagcbor_read.proofs.Progressing.{match_true, match_false, call_answered, call_told, call_of, call_refused, call_passed_on}
 use Rattle.dagcbor_read.proofs.Nullable.{not_entered, null_entered, some_entered, some_refused}
 use Rattle.dagcbor_read.proofs.deserializer.Deserializer.deserialize_option.Goals as goal

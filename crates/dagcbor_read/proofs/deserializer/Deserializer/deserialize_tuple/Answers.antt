@@ -1,4 +1,4 @@
 use Rattle.dagcbor_read.proofs.deserializer.Deserializer.deserialize_tuple.Goals as goal
 
-pub returns-clause-accessor_state : goal.returns-clause-accessor_state
-returns-clause-accessor_state g c = c.begin_items.ensures.accessor_state
+pub returns-clause-begun : goal.returns-clause-begun
+returns-clause-begun g c = c.begin_items.ensures.begun

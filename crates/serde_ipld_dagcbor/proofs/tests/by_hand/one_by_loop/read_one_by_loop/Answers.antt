@@ -9,7 +9,7 @@ use Rattle.serde_ipld_dagcbor.proofs.tests.by_hand.one_by_loop.read_one_by_loop.
 use Rattle.serde_ipld_dagcbor.proofs.tests.by_hand.one_by_loop.read_one_by_loop.Goals.{in-a+in_ok-next_value-in-a, in_default-as_str+in_ok-next_value-in_default-as_str}
 
 pub loop-entries-init : goal.loop-entries-init
-loop-entries-init g c = map_begun one_fields.fields one_fields.unread _ _ _ (codes "map") _ c.in_ok-entries.ensures.accessor_state
+loop-entries-init g c = map_begun one_fields.fields one_fields.unread _ _ _ (codes "map") _ c.in_ok-entries.ensures.begun
 
 pub returns-in_err-key : goal.returns-in_err-key
 returns-in_err-key g c = handed_on _ _ _ _ _ _ _ _ c.from_residual-in_err-key.ensures.1 (λ _. map_key_refused _ _ _ _ _ _ _ c.loop-entries.invariant c.in_err-key.ensures.key)

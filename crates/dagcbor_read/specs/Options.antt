@@ -1,6 +1,6 @@
--- What reading a value of another type answers and refuses.
+-- What reading a value that may be null answers and refuses.
 use Rattle.std.specs.Prelude.{◌≡◌, ◌≢◌, ℕ, ◌+◌, ◌<◌, ◌⊎◌, Bool, true, List, [], ◌∷◌, Option, Some}
-use Rattle.std.specs.Prelude.{option_map, Result, Err, IfErr, MatchResult, MatchBool, codes, false}
+use Rattle.std.specs.Prelude.{option_map, Result, MatchResult, MatchBool, codes}
 use Rattle.dagcbor_heads.specs.Reading.{Reading, Keeps}
 use Rattle.dagcbor_heads.specs.Fronts.{Takes}
 use Rattle.dagcbor_heads.specs.Refusals.{Refuses}
@@ -10,13 +10,7 @@ use Rattle.dagcbor_heads.specs.declared.error.DecodeError.TheVariants.{Eof, Dept
 use Rattle.dagcbor_heads.specs.declared.error.Len.TheVariants.{Small}
 use Rattle.ipld_tree.specs.Tree.{Tree}
 use Rattle.dagcbor_items.specs.Shapes.{Shape, option_of}
-use Rattle.dagcbor_read.specs.Calls.{Progress}
-use Rattle.dagcbor_items.specs.Reads.{Reads, HasFront, MayLack, TakesFront, NoStepIfDeep, Anything}
-
--- A value is read as the law of its type says.
-abbrev pub ReadsPart : {T V E : Type 0} → (T → V) → Shape Tree V → Reading
-    → Result T (DecodeError E) → Reading → Type 0
-ReadsPart meaning shape old = Reads meaning shape (MayLack shape.memory old) (shape.wants_loan ≡ true) Anything old
+use Rattle.dagcbor_items.specs.Reads.{HasFront, MayLack, TakesFront, NoStepIfDeep, Anything}
 
 -- a null stands at the front, or another byte, and a step is left
 pub record CanEnter (r : Reading) : Type 0 where
@@ -66,10 +60,3 @@ ReadsOption meaning shape old result new = MatchResult result
     (λ o. TakesFront (option_of shape) old (option_map meaning o) new)
     (λ e. Refuses (HasFront (option_of shape) old) (MayLack shape.memory old) (shape.wants_loan ≡ true) Anything old e new
     × (RefusesToEnter old e new ⊎ RefusesPart shape old e new))
-
--- Where a value of several parts cannot be begun on bytes that are known, the refusal is that of
--- the call that begins it.
-abbrev pub RefusesToBegin : {T A E : Type 0} → (Reading → Type 0)
-    → (Reading → Result A (DecodeError E) → Reading → Type 0) → Progress → Result T (DecodeError E)
-    → Progress → Type 0
-RefusesToBegin could begins old result new = old.failed ≡ false → (b : List ℕ) → old.input.left ≡ Some b → (¬ could old.input) → IfErr result (λ e. begins old.input (Err e) new.input)

@@ -8,34 +8,35 @@ use Rattle.dagcbor_heads.specs.declared.error.DecodeError.{DecodeError}
 use Rattle.dagcbor_heads.specs.declared.error.DecodeError.TheVariants.{Read, TrailingData, Failed}
 use Rattle.dagcbor_read.specs.declared.deserializer.Deserializer.{Deserializer}
 
-pub record Progress : Type 0 where
+-- a Deserializer
+pub record DeState : Type 0 where
   -- what it reads from
   pub input : Reading
   -- whether a call was refused
   pub failed : Bool
 
-abbrev pub progress : {R : Type 0} → (R → Reading) → Deserializer R → Progress
-progress reading de = record { input = input_reading reading de.input; failed = de.failed }
+abbrev pub de_state : {R : Type 0} → (R → Reading) → Deserializer R → DeState
+de_state reading de = record { input = input_reading reading de.input; failed = de.failed }
 
--- What a call does to the progress of a Deserializer over a reader
-abbrev pub Over : {R A : Type 0} → (R → Reading) → (Progress → A → Progress → Type 0)
+-- What a call does to a Deserializer over a reader
+abbrev pub Over : {R A : Type 0} → (R → Reading) → (DeState → A → DeState → Type 0)
     → Deserializer R → A → Deserializer R → Type 0
-Over reading does old result new = does (progress reading old) result (progress reading new)
+Over reading does old result new = does (de_state reading old) result (de_state reading new)
 
 -- A call on a Deserializer that has failed answers `Failed`, and changes nothing. Any other reads,
 -- and has failed exactly where it is refused.
 abbrev pub Call : {T E : Type 0} → (Reading → Result T (DecodeError E) → Reading → Type 0)
-    → Progress → Result T (DecodeError E) → Progress → Type 0
+    → DeState → Result T (DecodeError E) → DeState → Type 0
 Call reads old result new = MatchBool old.failed
     ((result ≡ Err Failed) × (new ≡ old))
     ((new.failed ≡ is_err result) × reads old.input result new.input)
 
 -- What has failed answers `Failed`, and stays as it is.
-abbrev pub StaysFailed : {T E : Type 0} → Progress → Result T (DecodeError E) → Progress → Type 0
+abbrev pub StaysFailed : {T E : Type 0} → DeState → Result T (DecodeError E) → DeState → Type 0
 StaysFailed old result new = old.failed ≡ true → (result ≡ Err Failed) × (new ≡ old)
 
 -- Where nothing has failed, so many steps are out, which may be given back.
-abbrev pub AreOut : ℕ → Progress → Type 0
+abbrev pub AreOut : ℕ → DeState → Type 0
 AreOut steps de = de.failed ≡ false → de.input.steps + steps ≤ de.input.budget
 
 -- the end of the input was found; or bytes behind the item, which stay, and then nothing has
@@ -48,7 +49,7 @@ TellsEnd old (Err (Read e)) new failed = (failed ≡ true) × (old.faults < new.
 TellsEnd old (Err _) new failed = ⊥
 
 -- what `end` does, which answers `Failed` too after a refusal
-abbrev pub Ends : {E : Type 0} → Progress → Result (Unit {0}) (DecodeError E) → Progress → Type 0
+abbrev pub Ends : {E : Type 0} → DeState → Result (Unit {0}) (DecodeError E) → DeState → Type 0
 Ends old result new = MatchBool old.failed
     ((result ≡ Err Failed) × (new ≡ old))
     (TellsEnd old.input result new.input new.failed)

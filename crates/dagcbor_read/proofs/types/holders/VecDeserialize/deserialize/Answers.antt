@@ -1,0 +1,10 @@
+use Rattle.std.proofs.Common.{map}
+use Rattle.std.specs.Prelude.{codes}
+use Rattle.dagcbor_read.specs.Deserializers.{de_state}
+use Rattle.dagcbor_read.specs.Collections.{all_of}
+use Rattle.dagcbor_read.proofs.ItemRows.{rest_reads}
+use Rattle.dagcbor_read.proofs.types.holders.VecDeserialize.deserialize.Goals as goal
+
+pub returns-clause-value : goal.returns-clause-value
+returns-clause-value g c =
+    rest_reads (all_of g.T.Shown.shape) (λ v. map g.T.Shown.meaning v.items) (de_state g.R.Read.reading c.args.de.now) (de_state g.R.Read.reading c.deserialize_seq.new.self) (de_state g.R.Read.reading c.read_rest.new.de) (codes "array") c.in_ok-items.items c.read_rest.result c.in_ok-items.ensures.begun c.read_rest.ensures.rest

@@ -80,14 +80,17 @@ def in_node(runs, paths):
     return printed(["node", f"{HERE}/calls.js", f"{ROOT}/callers/node", str(runs), *paths])
 
 
+def in_digits(number):
+    return f"{number:.3g}" if number < 100 else f"{number:.0f}" if number < 1e5 else f"{number:.2e}"
+
+
 def table(title, columns, names, rows, pairs):
     """The columns' numbers, and for each pair of columns the ratio of the first to the second."""
     ratios = [f"{columns[one]} / {columns[other]}" for one, other in pairs]
     tell(f"\n| {title} | {' | '.join(columns)} | {' | '.join(ratios)} |")
     tell(f"|{'---|' * (1 + len(columns) + len(ratios))}")
     for name, row in zip(names, rows):
-        cells = [f"{it:.3g}" if it < 1e4 else f"{it:.2e}" if it else "" for it in row]
-        cells = [it if it != "0" else "" for it in cells]
+        cells = [in_digits(it) if it else "" for it in row]
         cells += [f"{row[one] / row[other]:.2f}" if row[other] else "" for one, other in pairs]
         tell(f"| {name} | {' | '.join(cells)} |")
 

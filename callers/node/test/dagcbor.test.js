@@ -166,7 +166,9 @@ test('values that change', () => {
 test('a block that goes away while it is read', () => {
   const texts = Array.from({ length: 100 }, (_, i) => String(i).repeat(50));
   const block = encode(texts).slice();
-  const set = () => structuredClone(block.buffer, { transfer: [block.buffer] });
+  const set = () => {
+    new Uint8Array(structuredClone(block.buffer, { transfer: [block.buffer] })).fill(0);
+  };
   Object.defineProperty(Array.prototype, '33', { set, configurable: true });
   try {
     assert.strictEqual(decode(block)[99], texts[99]);
@@ -223,6 +225,20 @@ test('CIDs', () => {
   for (const value of [undefined, null, 1, {}, []]) assert.throws(() => new CID(value), TypeError);
 });
 
+test('room of each size', () => {
+  for (let count = 0; count < 140; count++) {
+    for (const letter of ['a', 'é', '水', '𐅑']) {
+      const text = letter.repeat(count);
+      const value = { [text]: [text, text] };
+      assert.deepStrictEqual(decode(encode(value)), value);
+      assert.deepStrictEqual(decode(spelling(value)), value);
+    }
+    const list = Array(count).fill(count);
+    const map = Object.fromEntries(list.map((_, i) => [`k${i}`, [i]]));
+    assert.deepStrictEqual(decode(encode([list, map])), [list, map]);
+  }
+});
+
 test('each thread has its own', async () => {
   const script = `
     const { parentPort } = require('worker_threads');
@@ -251,7 +267,8 @@ test('nothing is kept', () => {
   const script = `
     const { CID, decode, encode, links, name, check } = require(process.argv[1]);
     const leaves = [name(Buffer.of()), 2n ** 64n - 1n, 'é'.repeat(3000), Buffer.alloc(3000)];
-    const value = { a: leaves, b: { c: [] } };
+    const many = Object.fromEntries(Array.from({ length: 100 }, (_, i) => ['k' + i, i]));
+    const value = { a: leaves, b: { c: [] }, many };
     const round = () => {
       const block = encode(value);
       decode(block), links(block), check(block);

@@ -17,16 +17,21 @@
 enum {
     FEW_TOKENS = 128,      /* have room on the stack */
     MANY_TOKENS = 1 << 20, /* from here on they are counted before room is taken */
-    FEW_LINK_BYTES = 1024
+    FEW_LINK_BYTES = 1024,
+    SHORT_BLOCK = 512, /* in bytes */
+    KNOWN_KEYS = 32,
+    KNOWN_LENGTH = 64
 };
 
 static const char *const KINDS[] = {"null",  "bool", "integer", "string",
                                     "bytes", "list", "map",     "link"};
 
+/* What the module holds. Of dagcbor._errors: refused(code, block), DagCborError(message, kind,
+ * place) */
 typedef struct {
     PyTypeObject *cid;
-    PyObject *refused,
-        *error; /* dagcbor._errors: refused(code, block), DagCborError(message, kind, place) */
+    PyObject *refused;
+    PyObject *error;
 } State;
 
 static void *no_memory(void) {
@@ -169,10 +174,18 @@ static PyType_Spec cid_spec = {
 
 /* Objects out of tokens */
 
+/* A key that was read, and where it stands in the block. */
+typedef struct {
+    const char *text;
+    size_t length;
+    PyObject *key;
+} Known;
+
 typedef struct {
     const State *state;
     const char *block;
     const dagcbor_token *next;
+    Known *known; /* lists of records have few keys, many times; NULL for a short block */
 } Reader;
 
 static PyObject *next_value(Reader *reader);
@@ -187,10 +200,28 @@ static PyObject *next_list(Reader *reader, Py_ssize_t count) {
     return list;
 }
 
+static PyObject *next_key(Reader *reader) {
+    const dagcbor_token *token = reader->next;
+    const char *text = reader->block + token->place;
+    size_t length = token->number;
+    if (!reader->known || length == 0 || length > KNOWN_LENGTH) return next_value(reader);
+    size_t mix = 7 * length + 31 * (uint8_t)text[0] + (uint8_t)text[length - 1];
+    Known *known = &reader->known[mix % KNOWN_KEYS];
+    if (known->key && known->length == length && memcmp(known->text, text, length) == 0) {
+        reader->next++;
+        return Py_NewRef(known->key);
+    }
+    PyObject *key = next_value(reader);
+    if (!key) return NULL;
+    Py_XDECREF(known->key);
+    *known = (Known){text, length, Py_NewRef(key)};
+    return key;
+}
+
 static PyObject *next_map(Reader *reader, Py_ssize_t count) {
     PyObject *map = PyDict_New();
     for (; map && count > 0; count--) {
-        PyObject *key = next_value(reader), *value = key ? next_value(reader) : NULL;
+        PyObject *key = next_key(reader), *value = key ? next_value(reader) : NULL;
         if (!value || PyDict_SetItem(map, key, value) < 0) Py_CLEAR(map);
         Py_XDECREF(key);
         Py_XDECREF(value);
@@ -226,6 +257,19 @@ static PyObject *next_value(Reader *reader) {
     }
 }
 
+/* The value of a block's tokens. */
+static PyObject *value_of(const State *state, const char *block, size_t length,
+                          const dagcbor_token *tape) {
+    Known known[KNOWN_KEYS];
+    Reader reader = {state, block, tape, NULL};
+    if (length < SHORT_BLOCK) return next_value(&reader);
+    memset(known, 0, sizeof known);
+    reader.known = known;
+    PyObject *value = next_value(&reader);
+    for (int i = 0; i < KNOWN_KEYS; i++) Py_XDECREF(known[i].key);
+    return value;
+}
+
 /* Room for so many tokens, or NULL with an error raised. */
 static dagcbor_token *room_for(size_t tokens) {
     if (tokens > PY_SSIZE_T_MAX / sizeof(dagcbor_token)) return no_memory();
@@ -246,8 +290,7 @@ static PyObject *loads_bytes(State *state, PyObject *block) {
     }
     if (code >= 0) code = dagcbor_tape(bytes, length, tape, room, &needed);
     if (code >= 0) {
-        Reader reader = {state, (const char *)bytes, tape};
-        value = next_value(&reader);
+        value = value_of(state, (const char *)bytes, length, tape);
     } else {
         refuse_code(state, code, block);
     }

@@ -1,6 +1,9 @@
-use Rattle.std.proofs.Common.{rules, inl, inr}
+use Rattle.std.proofs.Common.{rules, inl, inr, Some}
 use Rattle.dagcbor_heads.proofs.Refusing.{as_refusal}
+use Rattle.dagcbor_items.specs.Shapes.{view_number}
+use Rattle.dagcbor_items.specs.LeafCauses.{MajorCause}
 use Rattle.dagcbor_items.proofs.Integers.{long_byte_refused, no_tag, long_read}
+use Rattle.dagcbor_items.proofs.Looks.{peeked_value}
 use Rattle.dagcbor_items.proofs.numbers.pull_long.Goals as goal
 
 pub returns-in_err-first-clause-number : goal.returns-in_err-first-clause-number
@@ -13,3 +16,6 @@ returns-then-first-clause-number g c =
 
 pub returns-clause-number : goal.returns-clause-number
 returns-clause-number g c = long_read _ _ _ c.in_ok-first.ensures.shown (search rules) c.pull_number.ensures.number
+
+pub returns-clause-looked : goal.returns-clause-looked
+returns-clause-looked g c = peeked_value 3 (λ n. n) (view_number Some) (λ _. ⊥) (MajorCause c.args.name.now 0 1) _ _ c.in_ok-first.ensures.looked c.in_ok-first.ensures.shown c.pull_number.ensures.number c.pull_number.ensures.looked

@@ -53,4 +53,3 @@ pub use Rattle.dagcbor_read.specs.Streams
 -- of this crate
 pub mod RoundTrips
 pub mod Codec
-pub mod tests

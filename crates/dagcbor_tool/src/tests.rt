@@ -4,6 +4,7 @@ use super::*;
 use crate::line::ToolError;
 use crate::run::{run_check, run_links};
 use std::alloc::Global;
+use std::env::FillError;
 use std::io::{BufRead, Read, Write};
 use std::test::Fail;
 
@@ -115,9 +116,9 @@ fn answers_each_line(rt: HostRuntime) -> Result<(), Fail> {
 
 #[test]
 fn every_kind_has_its_name(rt: HostRuntime) -> Result<(), Fail> {
-    let lines = b"83010203\n1817\nzz\n\na10102\na0\nd82a4500015500\nd82a450001550000\n";
+    let lines = b"83010203\n1817\nzz\n\na10102\na0\nd82a4500015500\nd82a450001550000\nf600\n";
     let answers =
-        b"ok list\nrefused NonMinimal\nrefused hex\nrefused Eof\nrefused Mismatch\nok map\nrefused Eof\nok link\n";
+        b"ok list\nrefused NonMinimal\nrefused hex\nrefused Eof\nrefused Mismatch\nok map\nrefused Eof\nok link\nrefused TrailingData\n";
     let mut output = Vec::new(rt.alloc());
     run_check(rt.alloc(), &mut &lines[..], &mut output)?;
     assert_eq!(rt; output.as_slice(), answers.as_slice());
@@ -209,6 +210,44 @@ fn words_pick_the_command(rt: HostRuntime) -> Result<(), Fail> {
         assert_eq!(rt; output.as_slice(), written);
         assert_eq!(rt; errors.as_slice(), told);
     }
+    Ok(())
+}
+
+/// The arguments of a program of which none is text.
+#[derive(Drop)]
+struct NoText;
+
+impl Env for NoText {
+    fn arg(&self, i: usize, buf: &mut [u8]) -> Result<usize, FillError> {
+        match buf {
+            [first, ..] if i < 2 => {
+                *first = 0xff;
+                Ok(1)
+            }
+            _ => Err(FillError::NotPresent),
+        }
+    }
+
+    fn var(&self, _name: &str, _buf: &mut [u8]) -> Result<usize, FillError> {
+        Err(FillError::NotPresent)
+    }
+
+    fn var_at(&self, _i: usize, _buf: &mut [u8]) -> Result<usize, FillError> {
+        Err(FillError::NotPresent)
+    }
+}
+
+/// So `main` tells the usage line: it takes any refusal but want of memory for wrong words.
+#[test]
+fn an_argument_that_is_no_text_is_refused(rt: HostRuntime) -> Result<(), Fail> {
+    let refused = arguments(&(NoText, rt.alloc())).err().map(|e| e.kind());
+    assert_eq!(rt; refused, Some(ErrorKind::InvalidData));
+    let mut errors = Vec::new(rt.alloc());
+    assert_eq!(rt; give_up(&mut errors, USAGE, 2), 2);
+    assert_eq!(rt;
+        errors.as_slice(),
+        b"usage: dagcbor check|links\n".as_slice()
+    );
     Ok(())
 }
 

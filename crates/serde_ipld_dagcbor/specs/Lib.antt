@@ -48,4 +48,3 @@ pub use Rattle.dagcbor_heads.specs.declared.error.DecodeError
 pub use Rattle.dagcbor_heads.specs.declared.error.EncodeError
 pub mod RoundTrips
 pub mod Codec
-pub mod tests

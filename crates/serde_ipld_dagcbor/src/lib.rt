@@ -1,7 +1,7 @@
 //! DAG-CBOR, read and written with proofs: the names of the crate `serde_ipld_dagcbor`.
 //!
-//! docs/CALLING.md has recipes. This one is a test, in `src/tests/recipes.rt`; `agree` and
-//! `is_told` are the tests' own, and fail where the answer is another:
+//! docs/CALLING.md has recipes. This one is a test, in `crates/uses/src/tests/recipes.rt`; `agree`
+//! and `is_told` are the tests' own, and fail where the answer is another:
 //!
 //! ```rust
 //! let block = to_vec(alloc, &(-300i16, "a"))?;
@@ -40,6 +40,3 @@ pub use ipld_tree::{ByteSlice, Bytes, Cid, CidError, CidIter, Codec, Ipld, Links
 
 /// The code of DAG-CBOR among the codes of formats (the multicodec table).
 pub const DAG_CBOR_CODE: u64 = 0x71;
-
-#[cfg(test)]
-mod tests;

@@ -1,0 +1,9 @@
+//! Readers, sources, sinks and streams.
+
+mod depth;
+mod heads;
+mod hostile;
+mod io;
+mod states;
+mod streams;
+mod vectors;

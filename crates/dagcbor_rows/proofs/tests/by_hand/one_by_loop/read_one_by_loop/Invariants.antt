@@ -1,0 +1,12 @@
+use Rattle.std.specs.Prelude.{option_map}
+use Rattle.dagcbor_read.specs.Accessors.{accessor_state}
+use Rattle.dagcbor_read.specs.Calls.{progress}
+use Rattle.dagcbor_read.proofs.EntryLoops.{MapSoFar}
+use Rattle.dagcbor_rows.specs.One.{one_fields}
+use Rattle.dagcbor_rows.proofs.tests.by_hand.one_by_loop.read_one_by_loop.Given as goal
+
+abbrev pub invariant-loop-entries : goal.invariant-loop-entries
+invariant-loop-entries g l = MapSoFar one_fields.fields one_fields.unread (progress g.R.Read.reading l.fn.de) (accessor_state l.entries) (option_map (λ n. n) l.a, tt) (progress g.R.Read.reading l.de)
+
+abbrev pub decreases-loop-entries : goal.decreases-loop-entries
+decreases-loop-entries g l = l.entries.left

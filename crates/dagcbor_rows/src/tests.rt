@@ -1,0 +1,16 @@
+//! Tables of bytes and answers, each public call, and types by hand.
+
+mod accessors;
+mod all_links;
+mod by_hand;
+mod calls;
+mod codec;
+mod leaves;
+mod lent;
+mod links;
+mod maps;
+mod minimal;
+mod reads;
+mod refusals;
+mod trees;
+mod writes;

@@ -1,0 +1,149 @@
+//! A `Deserializer` after a refusal, and each call of its accessors.
+
+use dagcbor_testing::{agree, is_told};
+use serde_ipld_dagcbor::{DecodeError, Deserializer, EnumAccessor, SliceReader};
+use std::alloc::Global;
+use std::borrow::CowStr;
+use std::convert::Infallible;
+use std::test::Fail;
+
+#[test]
+fn a_refusal_of_a_typed_read_lasts(rt: HostRuntime) -> Result<(), Fail> {
+    let alloc = rt.alloc();
+    let mut de = Deserializer::from_slice(b"\x18\x17\x01");
+    let answers = (de.deserialize_u8(), de.deserialize_u8());
+    let told = r#"(Err(NonMinimal { name: "u8", found: 24 }), Err(Failed))"#;
+    is_told(alloc, &answers, told)?;
+    let mut de = Deserializer::from_slice(b"\x01\x02");
+    let answers = (de.deserialize_u8(), de.end(), de.deserialize_u8(), de.end());
+    is_told(alloc, &answers, "(Ok(1), Err(TrailingData), Ok(2), Ok(()))")
+}
+
+/// A list's hint, its first item, and what an end before the second is answered.
+fn begun_list(
+    alloc: Global,
+    de: &mut Deserializer<'_, SliceReader<'_>>,
+) -> Result<
+    (
+        Option<usize>,
+        Option<u8>,
+        Result<(), DecodeError<Infallible>>,
+    ),
+    DecodeError<Infallible>,
+> {
+    let mut items = de.deserialize_seq()?;
+    let hint = items.size_hint();
+    let first: Option<u8> = items.next_element(alloc, de)?;
+    Ok((hint, first, items.end(de)))
+}
+
+/// Whether a key is lent, and is the text.
+fn is_lent_key(key: &Option<CowStr<'_>>, wanted: &str) -> bool {
+    match key {
+        Some(CowStr::Borrowed(lent)) => *lent == wanted,
+        _ => false,
+    }
+}
+
+/// Whether a map's key is "a" and lent, whether it then owes a value, the value, and the end.
+fn one_entry(
+    alloc: Global,
+    de: &mut Deserializer<'_, SliceReader<'_>>,
+) -> Result<(bool, bool, u8), DecodeError<Infallible>> {
+    let mut entries = de.deserialize_map()?;
+    let key = entries.next_key(alloc, de)?;
+    let is_lent = is_lent_key(&key, "a");
+    let owes_value = entries.is_map() && entries.owes_value();
+    if !owes_value {
+        return Err(DecodeError::custom("no value is owed"));
+    }
+    let value: u8 = entries.next_value(alloc, de)?;
+    entries.end(de)?;
+    Ok((is_lent, owes_value, value))
+}
+
+#[test]
+fn items_and_entries_one_by_one(rt: HostRuntime) -> Result<(), Fail> {
+    let mut de = Deserializer::from_slice(b"\x82\x01\x02");
+    let items = begun_list(rt.alloc(), &mut de);
+    is_told(
+        rt.alloc(),
+        &(items, de.end()),
+        r#"(Ok((Some(2), Some(1), Err(LengthMismatch { name: "array", expect: 1, value: 2 }))), Err(Failed))"#,
+    )?;
+    let mut de = Deserializer::from_slice(b"\xa1\x61a\x01");
+    let entry = one_entry(rt.alloc(), &mut de);
+    is_told(
+        rt.alloc(),
+        &(entry, de.end()),
+        "(Ok((true, true, 1)), Ok(()))",
+    )
+}
+
+/// What is behind the name of a variant.
+enum Form {
+    Unit,
+    Tuple,
+    Struct,
+}
+
+/// Whether a variant's name is "A", and a part that is behind it.
+fn variant(
+    alloc: Global,
+    form: &Form,
+    de: &mut Deserializer<'_, SliceReader<'_>>,
+) -> Result<(bool, Option<u8>), DecodeError<Infallible>> {
+    let accessor_state = de.deserialize_enum("Enum", &["A", "B"])?;
+    let (name, variant) = accessor_state.variant(alloc, de)?;
+    let is_a = name.as_str() == "A";
+    match form {
+        Form::Unit => {
+            variant.unit_variant(de)?;
+            Ok((is_a, None))
+        }
+        Form::Tuple => {
+            let mut parts = variant.tuple_variant(1, de)?;
+            let part: Option<u8> = parts.next_element(alloc, de)?;
+            parts.end(de)?;
+            Ok((is_a, part))
+        }
+        Form::Struct => {
+            variant.struct_variant(&[], de)?.end(de)?;
+            Ok((is_a, None))
+        }
+    }
+}
+
+/// A form, a variant of it, and what it and the end behind it are told as.
+const FORMS: [(Form, &[u8], &str); 3] = [
+    (Form::Unit, b"\x61A", "(Ok((true, None)), Ok(()))"),
+    (
+        Form::Tuple,
+        b"\xa1\x61A\x81\x01",
+        "(Ok((true, Some(1))), Ok(()))",
+    ),
+    (Form::Struct, b"\xa1\x61A\xa0", "(Ok((true, None)), Ok(()))"),
+];
+
+#[test]
+fn variants(rt: HostRuntime) -> Result<(), Fail> {
+    for (form, bytes, told) in &FORMS {
+        let mut de = Deserializer::from_slice(bytes);
+        let read = variant(rt.alloc(), form, &mut de);
+        is_told(rt.alloc(), &(read, de.end()), told)?;
+    }
+    Ok(())
+}
+
+#[test]
+fn a_variant_that_holds_a_part_and_what_is_none(rt: HostRuntime) -> Result<(), Fail> {
+    let alloc = rt.alloc();
+    let mut de = Deserializer::from_slice(b"\xa1\x61B\x01");
+    let (name, variant) = EnumAccessor::enum_(&mut de)?.variant(alloc, &mut de)?;
+    agree(name.as_str(), "B")?;
+    let part: u8 = variant.newtype_variant(alloc, &mut de)?;
+    is_told(alloc, &(part, de.end()), "(1, Ok(()))")?;
+    let mut de = Deserializer::from_slice(b"\x01");
+    let refused = r#"Some(Mismatch { name: "enum", found: 1 })"#;
+    is_told(alloc, &de.deserialize_enum("Enum", &[]).err(), refused)
+}

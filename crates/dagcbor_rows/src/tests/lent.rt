@@ -1,0 +1,53 @@
+//! What a slice lends, and what is read of it without memory: callers of `from_slice` whose
+//! contracts rest on its own.
+
+ghost use Rattle.std.specs.Prelude.{false, IfOk, IfErr};
+ghost use Rattle.std.specs.Cow.{IsBorrowedStr};
+ghost use Rattle.serde_ipld_dagcbor.specs.Whole.{LacksMemoryIf};
+
+use dagcbor_testing::{Pieces, Source, agree, is_told, tells};
+use serde_ipld_dagcbor::{ByteSlice, DecodeError, Deserialize, Deserializer, IoReader, from_slice};
+use std::alloc::Global;
+use std::borrow::CowStr;
+use std::convert::Infallible;
+use std::test::Fail;
+
+/// A number, a truth value and a lent text. No memory is wanted.
+fn entry(alloc: Global, bytes: &[u8]) -> Result<(u64, bool, &str), DecodeError<Infallible>>
+    ensures { IfErr result (LacksMemoryIf false) }
+{
+    from_slice(alloc, bytes)
+}
+
+/// A text, which is lent.
+fn text(alloc: Global, bytes: &[u8]) -> Result<CowStr<'_>, DecodeError<Infallible>>
+    ensures { IfOk result IsBorrowedStr }
+{
+    from_slice(alloc, bytes)
+}
+
+#[test]
+fn a_slice_lends_its_texts(rt: HostRuntime) -> Result<(), Fail> {
+    let alloc = rt.alloc();
+    let block = b"\x83\x01\xf5\x61a";
+    is_told(alloc, &entry(alloc, block), r#"Ok((1, true, "a"))"#)?;
+    tells::<&str>(alloc, b"\x61a", r#"Ok("a")"#)?;
+    tells::<ByteSlice>(alloc, b"\x41a", "Ok(ByteSlice([97]))")?;
+    match text(alloc, b"\x61a")? {
+        CowStr::Borrowed(lent) => agree(lent, "a"),
+        CowStr::Owned(_) => Err(Fail::new("not lent")),
+    }
+}
+
+#[test]
+fn nothing_is_lent_by_a_reader(rt: HostRuntime) -> Result<(), Fail> {
+    let alloc = rt.alloc();
+    let refused = r#"Err(RequireBorrowed { name: "string" })"#;
+    for size in [1, 3, 64] {
+        let mut de = Deserializer::from_reader(Pieces::new(b"\x62\xc3\xa9\x61a", size));
+        is_told(alloc, &de.deserialize_string(alloc), r#"Ok("é")"#)?;
+        is_told(alloc, &<&str>::deserialize(alloc, &mut de), refused)?;
+    }
+    let mut de = Deserializer::from_reader(IoReader::new(Source::new(b"\x61a", 1)));
+    is_told(alloc, &<&str>::deserialize(alloc, &mut de), refused)
+}

@@ -1,0 +1,20 @@
+//! What tests of several crates share: what a call answers beside what is wanted, reads that must
+//! agree however the bytes come, devices, and links.
+#![tactic(auto)]
+
+mod alike;
+mod own_devices;
+mod pieces_of_blocks;
+mod reads;
+mod std_devices;
+mod told;
+
+pub use alike::{
+    beginnings_are_cut, each_is_refused, goes_both_ways, is_read_as, is_refused, is_written_again,
+    reads_alike,
+};
+pub use own_devices::{FaultyWriter, Pieces};
+pub use pieces_of_blocks::{LINK, THREE_LINKS, joined, nested};
+pub use reads::{answers, each_answers, each_tells, tells};
+pub use std_devices::{Sink, Source};
+pub use told::{agree, each_writes, is_told, is_unwritten, writes};

@@ -1,0 +1,65 @@
+//! What a typed read answers, however the bytes come.
+
+use crate::own_devices::Pieces;
+use crate::std_devices::Source;
+use crate::told::is_told;
+use serde_ipld_dagcbor::{Deserialize, Deserializer, IoReader, Read, ReadResult, from_slice};
+use std::alloc::Global;
+use std::fmt::Debug;
+use std::test::Fail;
+
+/// Fails where a read answers anything but this, as text.
+pub fn tells<'de, T: Deserialize<'de> + Debug>(
+    alloc: Global,
+    bytes: &'de [u8],
+    wanted: &str,
+) -> Result<(), Fail> {
+    is_told(alloc, &from_slice::<T>(alloc, bytes), wanted)
+}
+
+/// Fails where a read of a row's bytes answers anything but what is beside them, as text.
+pub fn each_tells<'de, T: Deserialize<'de> + Debug>(
+    alloc: Global,
+    rows: &[(&'de [u8], &str)],
+) -> Result<(), Fail> {
+    for (bytes, wanted) in rows {
+        tells::<T>(alloc, bytes, wanted)?;
+    }
+    Ok(())
+}
+
+/// The one value that a reader holds.
+fn whole<'de, T: Deserialize<'de> + Drop, R: Read + Drop>(
+    alloc: Global,
+    reader: R,
+) -> ReadResult<T, R> {
+    let mut de = Deserializer::from_reader(reader);
+    let value = T::deserialize(alloc, &mut de)?;
+    de.end()?;
+    Ok(value)
+}
+
+/// Fails where a read of the slice answers anything but this, as text, or one of a source of std or
+/// of a reader of a caller's own that shows one byte a fill.
+pub fn answers<'de, T: Deserialize<'de> + Debug + Drop>(
+    alloc: Global,
+    bytes: &'de [u8],
+    wanted: &str,
+) -> Result<(), Fail> {
+    tells::<T>(alloc, bytes, wanted)?;
+    let source = IoReader::new(Source::new(bytes, 1));
+    is_told(alloc, &whole::<T, _>(alloc, source), wanted)?;
+    is_told(alloc, &whole::<T, _>(alloc, Pieces::new(bytes, 1)), wanted)
+}
+
+/// Fails where a read of a row's bytes, however they come, answers anything but what is beside
+/// them, as text.
+pub fn each_answers<'de, T: Deserialize<'de> + Debug + Drop>(
+    alloc: Global,
+    rows: &[(&'de [u8], &str)],
+) -> Result<(), Fail> {
+    for (bytes, wanted) in rows {
+        answers::<T>(alloc, bytes, wanted)?;
+    }
+    Ok(())
+}

@@ -1,0 +1,6 @@
+-- What a tree shows to each type.
+pub mod Note
+pub mod Person
+pub mod OptionalPerson
+pub mod Mascot
+pub mod Color

@@ -1,0 +1,13 @@
+-- What a tree shows to a note.
+use Rattle.std.specs.Prelude.{ℕ, ◌^◌, List, codes}
+use Rattle.serde_ipld_dagcbor.specs.Tree.{Tree}
+use Rattle.serde_ipld_dagcbor.specs.Shapes.{view_text, view_unsigned, leaf, owned_leaf, Shape}
+use Rattle.serde_ipld_dagcbor.specs.Structs.{required_field, no_fields, struct_shape}
+
+-- the year and the text
+abbrev pub NoteView : Type 0
+NoteView = ℕ × (List ℕ × Unit {0})
+
+abbrev pub note_shape : Shape Tree NoteView
+note_shape = struct_shape (required_field (codes "year") (leaf (view_unsigned (2 ^ 16)))
+    (required_field (codes "text") (owned_leaf view_text) no_fields))

@@ -1,0 +1,72 @@
+//! A struct with a field that is left out where it is missing.
+
+ghost use Rattle.std.specs.Prelude.{Some, None, List, [], ◌∷◌, codes, pos, string_bytes};
+ghost use Rattle.std.specs.Prelude.{option_map};
+ghost use Rattle.serde_ipld_dagcbor.specs.Tree.{text, integer, entries_tree};
+ghost use Rattle.serde_ipld_dagcbor.specs.Trees.{option_tree, field};
+ghost use Rattle.uses.specs.OptionalPerson.{OptionalPersonView};
+ghost use Rattle.uses.specs.OptionalPerson.{optional_person_shape};
+
+use serde_ipld_dagcbor::{
+    Deserialize, Deserializer, Field, Read, ReadResult, Required, Serialize, Serializer, Shown,
+    Write, WriteResult, read_struct, write_struct,
+};
+use std::alloc::Global;
+
+/// A person whose year of birth is left out where it is not known.
+#[derive(Debug, Drop)]
+pub struct OptionalPerson {
+    pub name: String,
+    pub year_of_birth: Option<u16>,
+    pub profession: Option<String>,
+}
+
+impl Serialize for OptionalPerson {
+    ghost tree = { λ p. elim p.year_of_birth [
+      | None ↦ entries_tree (field (codes "name") (Some (text (string_bytes p.name)))
+          ∷ field (codes "profession") (option_tree (λ s. Some (text (string_bytes s))) p.profession) ∷ [])
+      | Some year ↦ entries_tree (field (codes "name") (Some (text (string_bytes p.name)))
+          ∷ field (codes "year_of_birth") (Some (integer (pos year)))
+          ∷ field (codes "profession") (option_tree (λ s. Some (text (string_bytes s))) p.profession) ∷ [])
+    ] };
+
+    fn serialize<W: Write>(&self, alloc: Global, ser: &mut Serializer<W>) -> WriteResult<(), W> {
+        let profession = Field("profession", &self.profession);
+        match &self.year_of_birth {
+            None => {
+                let fields = (Field("name", &self.name), (profession, ()));
+                write_struct(alloc, fields, ser)
+            }
+            Some(year) => {
+                let year = Field("year_of_birth", year);
+                let fields = (Field("name", &self.name), (year, (profession, ())));
+                write_struct(alloc, fields, ser)
+            }
+        }
+    }
+}
+
+impl Shown for OptionalPerson {
+    ghost View = { OptionalPersonView };
+
+    ghost meaning = { λ p. (string_bytes p.name, (option_map (λ n. n) p.year_of_birth, (option_map string_bytes p.profession, tt))) };
+
+    ghost shape = { optional_person_shape };
+}
+
+impl<'de> Deserialize<'de> for OptionalPerson {
+    fn deserialize<R: Read>(alloc: Global, de: &mut Deserializer<'de, R>) -> ReadResult<Self, R> {
+        let names = &["name", "year_of_birth", "profession"];
+        let (Required(name), (year_of_birth, (profession, ()))) = read_struct(
+            alloc,
+            "OptionalPerson",
+            names,
+            de,
+        )?;
+        Ok(OptionalPerson {
+            name,
+            year_of_birth,
+            profession,
+        })
+    }
+}

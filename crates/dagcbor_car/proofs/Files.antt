@@ -26,11 +26,11 @@ all_push : (ss : List Section) (s : Section) → AllByRecursion IsSection ss →
 all_push [] s h p = (p, tt)
 all_push (x ∷ ss) s h p = (h.0, all_push ss s h.1 p)
 
-sections_push : (told : List Told) (p : Told) → sections_of (told ++ p ∷ []) ≡ sections_of told ++ p.0 ∷ []
+pub sections_push : (told : List Told) (p : Told) → sections_of (told ++ p ∷ []) ≡ sections_of told ++ p.0 ∷ []
 sections_push [] p = refl
 sections_push (x ∷ told) p = ap (λ more. x.0 ∷ more) (sections_push told p)
 
-told_push : (told : List Told) (p : Told) → AreTold told → IsVerdict p.0 p.1 → AreTold (told ++ p ∷ [])
+pub told_push : (told : List Told) (p : Told) → AreTold told → IsVerdict p.0 p.1 → AreTold (told ++ p ∷ [])
 told_push [] p h v = (v, tt)
 told_push (x ∷ told) p h v = (h.0, told_push told p h.1 v)
 
@@ -54,7 +54,7 @@ behind_header holds b rest roots check old h after = record {
   after = after;
 }
 
-front_more : (b rest behind : List ℕ) (roots : List (List ℕ)) (ss : List Section) (s : Section) → IsCarFront b roots ss rest → SplitsSection rest s behind → IsCarFront b roots (ss ++ s ∷ []) behind
+pub front_more : (b rest behind : List ℕ) (roots : List (List ℕ)) (ss : List Section) (s : Section) → IsCarFront b roots ss rest → SplitsSection rest s behind → IsCarFront b roots (ss ++ s ∷ []) behind
 front_more b rest behind roots ss s h k = record {
   header = h.header;
   all = all_push ss s h.all k.0;
@@ -91,7 +91,7 @@ others_behind (s ∷ ss) (t ∷ ts) rest p q e =
     let first = section_unique s t (flat_map section_bytes ss ++ rest) (flat_map section_bytes ts) p.0 q.0 (sym (append_assoc (section_bytes s) (flat_map section_bytes ss) rest) ∙ e) in
     others_behind ss ts rest p.1 q.1 first.1
 
-no_car_behind : (b rest : List ℕ) (roots : List (List ℕ)) (ss : List Section) → IsCarFront b roots ss rest → 0 < length rest → BeginsNoSection rest → IsNoCar b
+pub no_car_behind : (b rest : List ℕ) (roots : List (List ℕ)) (ss : List Section) → IsCarFront b roots ss rest → 0 < length rest → BeginsNoSection rest → IsNoCar b
 no_car_behind b rest roots ss h some none others ts car =
     let same = header_unique roots others (flat_map section_bytes ss ++ rest) (flat_map section_bytes ts) h.header car.header (sym (append_assoc (header_bytes roots) (flat_map section_bytes ss) rest) ∙ sym h.is ∙ car.is) in
     let w = others_behind ss ts rest h.all car.all same.1 in
@@ -101,7 +101,7 @@ no_car_behind b rest roots ss h some none others ts car =
     first [] a e = omega (arith, some, ap length e)
     first (s ∷ more) a e = none s (flat_map section_bytes more) (a.0, e)
 
-no_car : (b : List ℕ) → ((roots : List (List ℕ)) (rest : List ℕ) → SplitsHeader b roots rest → ⊥) → IsNoCar b
+pub no_car : (b : List ℕ) → ((roots : List (List ℕ)) (rest : List ℕ) → SplitsHeader b roots rest → ⊥) → IsNoCar b
 no_car b none roots ss car = none roots (flat_map section_bytes ss) (car.header, car.is)
 
 -- ---- a file from an input

@@ -6,7 +6,7 @@ use Rattle.ipld_tree.proofs.Cids.{varint_unique}
 use Rattle.dagcbor_car.specs.Car.{counted, Section, section_body}
 use Rattle.dagcbor_car.specs.Splits.{SplitsCounted, CountFault, SplitsCid, BeginsNoCid, SplitsSection, BeginsNoSection, SectionFault}
 use Rattle.dagcbor_car.specs.declared.error.CarError.{CarError}
-use Rattle.dagcbor_car.specs.declared.error.CarError.TheVariants.{Truncated, InvalidLength, InvalidCid, NoBlock, OtherHeader, OutOfMemory}
+use Rattle.dagcbor_car.specs.declared.error.CarError.TheVariants.{Read, Truncated, InvalidLength, InvalidCid, NoBlock, OtherHeader, OutOfMemory}
 use Rattle.dagcbor_car.proofs.Cars.{counted_unique}
 
 -- ---- what is counted
@@ -15,7 +15,7 @@ begins : (b inner rest : List ℕ) → SplitsCounted b inner rest → b ≡ vari
 begins b inner rest h = h.1 ∙ append_assoc (varint (length inner)) inner rest
 
 -- where the fault stands, nothing stands behind its length
-pub no_counted : (e : CarError) (b inner rest : List ℕ) → CountFault e b → SplitsCounted b inner rest → ⊥
+pub no_counted : {E : Type 0} (e : CarError E) (b inner rest : List ℕ) → CountFault e b → SplitsCounted b inner rest → ⊥
 no_counted Truncated b inner rest (inl cut) h =
     let whole : varint (length inner) ++ ((inner ++ rest) ++ cut.1) ≡ varint cut.0 ++ [] =
     sym (append_assoc (varint (length inner)) (inner ++ rest) cut.1) ∙ ap (λ x. x ++ cut.1) (sym (begins b inner rest h)) ∙ cut.4 ∙ sym (append-nil (varint cut.0)) in
@@ -29,25 +29,27 @@ no_counted (InvalidCid f) b inner rest none h = none
 no_counted (NoBlock f) b inner rest none h = none
 no_counted OtherHeader b inner rest none h = none
 no_counted OutOfMemory b inner rest none h = none
+no_counted (Read f) b inner rest none h = none
 
 -- ---- a section
 
 section_counted : (b : List ℕ) (s : Section) (rest : List ℕ) → SplitsSection b s rest → SplitsCounted b (section_body s) rest
 section_counted b s rest h = (h.0.1, h.1)
 
-at_count : (e : CarError) (b : List ℕ) → CountFault e b → SectionFault e b
+at_count : {E : Type 0} (e : CarError E) (b : List ℕ) → CountFault e b → SectionFault e b
 at_count Truncated b h = h
 at_count InvalidLength b h = h
 at_count (InvalidCid f) b h = absurd h
 at_count (NoBlock f) b h = h
 at_count OtherHeader b h = h
 at_count OutOfMemory b h = h
+at_count (Read f) b h = h
 
-pub no_section_counted : (e : CarError) (b : List ℕ) → CountFault e b → BeginsNoSection b × SectionFault e b
+pub no_section_counted : {E : Type 0} (e : CarError E) (b : List ℕ) → CountFault e b → BeginsNoSection b × SectionFault e b
 no_section_counted e b f = (λ s rest h. no_counted e b (section_body s) rest f (section_counted b s rest h), at_count e b f)
 
-pub no_section_named : (f : CidError) (b body rest : List ℕ) → SplitsCounted b body rest → BeginsNoCid f body → BeginsNoSection b × SectionFault (InvalidCid f) b
-no_section_named f b body rest h none = (λ s more k. by s more k, (body, rest, h, none.1))
+pub no_section_named : (E : Type 0) (f : CidError) (b body rest : List ℕ) → SplitsCounted b body rest → BeginsNoCid f body → BeginsNoSection b × SectionFault {E = E} (InvalidCid f) b
+no_section_named E f b body rest h none = (λ s more k. by s more k, (body, rest, h, none.1))
   where
     by : (s : Section) (more : List ℕ) → SplitsSection b s more → ⊥
     by s more k =

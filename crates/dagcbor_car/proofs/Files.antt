@@ -1,12 +1,18 @@
 -- A whole file, gone through section by section.
 use Rattle.std.proofs.Common.{◌≡◌, inl, inr, ℕ, ◌<◌, List, [], ◌∷◌, ◌++◌, length, length-append, refl, sym, ap, ◌∙◌, subst, arith, append_assoc, append-nil}
+use Rattle.std.specs.Prelude.{⊤, Some, Result, Ok, Err, Vec, MatchResult, MatchBool, Bool, true, false}
 use Rattle.std.specs.List.{AllByRecursion, flat_map}
+use Rattle.std.specs.declared.alloc.Global.{Global}
+use Rattle.dagcbor_heads.specs.Reading.{Reading}
+use Rattle.dagcbor_heads.specs.Fronts.{FindsEnd}
+use Rattle.ipld_tree.specs.Cid.{CidParts}
 use Rattle.dagcbor_car.specs.Car.{header_bytes, Section, section_bytes, car_bytes, IsSection, IsCar}
-use Rattle.dagcbor_car.specs.Splits.{SplitsSection, BeginsNoSection, SectionFault, SplitsHeader, HeaderRefused}
+use Rattle.dagcbor_car.specs.Splits.{SplitsSection, BeginsNoSection, SplitsHeader}
+use Rattle.dagcbor_car.specs.Sources.{CarRefuses, RefusesHeader, RefusesSection, TakesHeader, TakesSectionBytes}
 use Rattle.dagcbor_car.specs.Verdicts.{IsVerdict, Told, sections_of, AreTold, TellsAll}
-use Rattle.dagcbor_car.specs.Checks.{IsAfter, TellsVerdict, StepRefused, IsCarFront, IsNoCar, CarFault, TellsFirst, CarRefused}
+use Rattle.dagcbor_car.specs.Checks.{IsAfter, ListsMissing, TellsVerdict, StepRefused, IsCarFront, IsNoCar, CarFault, TellsFront, CarRefused, ChecksInput}
 use Rattle.dagcbor_car.specs.declared.error.CarError.{CarError}
-use Rattle.dagcbor_car.specs.declared.error.CarError.TheVariants.{Truncated, InvalidLength, InvalidCid, NoBlock, OtherHeader, OutOfMemory}
+use Rattle.dagcbor_car.specs.declared.error.CarError.TheVariants.{Read, Truncated, InvalidLength, InvalidCid, NoBlock, OtherHeader, OutOfMemory}
 use Rattle.dagcbor_car.specs.declared.check.CarCheck.{CarCheck}
 use Rattle.dagcbor_car.proofs.Cars.{section_unique, section_some, header_unique}
 
@@ -20,11 +26,11 @@ all_push : (ss : List Section) (s : Section) → AllByRecursion IsSection ss →
 all_push [] s h p = (p, tt)
 all_push (x ∷ ss) s h p = (h.0, all_push ss s h.1 p)
 
-sections_push : (told : List Told) (p : Told) → sections_of (told ++ p ∷ []) ≡ sections_of told ++ p.0 ∷ []
+pub sections_push : (told : List Told) (p : Told) → sections_of (told ++ p ∷ []) ≡ sections_of told ++ p.0 ∷ []
 sections_push [] p = refl
 sections_push (x ∷ told) p = ap (λ more. x.0 ∷ more) (sections_push told p)
 
-told_push : (told : List Told) (p : Told) → AreTold told → IsVerdict p.0 p.1 → AreTold (told ++ p ∷ [])
+pub told_push : (told : List Told) (p : Told) → AreTold told → IsVerdict p.0 p.1 → AreTold (told ++ p ∷ [])
 told_push [] p h v = (v, tt)
 told_push (x ∷ told) p h v = (h.0, told_push told p h.1 v)
 
@@ -48,7 +54,7 @@ behind_header holds b rest roots check old h after = record {
   after = after;
 }
 
-front_more : (b rest behind : List ℕ) (roots : List (List ℕ)) (ss : List Section) (s : Section) → IsCarFront b roots ss rest → SplitsSection rest s behind → IsCarFront b roots (ss ++ s ∷ []) behind
+pub front_more : (b rest behind : List ℕ) (roots : List (List ℕ)) (ss : List Section) (s : Section) → IsCarFront b roots ss rest → SplitsSection rest s behind → IsCarFront b roots (ss ++ s ∷ []) behind
 front_more b rest behind roots ss s h k = record {
   header = h.header;
   all = all_push ss s h.all k.0;
@@ -70,9 +76,6 @@ behind_section holds b rest behind check next old mid new s h k t = record {
   after = subst (IsAfter next h.roots) (sym (sections_push h.told (s, t.0))) (t.2 h.roots (sections_of h.told) h.after);
 }
 
-pub shorter : (rest behind : List ℕ) (s : Section) → SplitsSection rest s behind → length behind < length rest
-shorter rest behind s k = omega (arith, ap length k.1, length-append (section_bytes s) behind, section_some s k.0)
-
 pub whole_car : (b rest : List ℕ) (roots : List (List ℕ)) (ss : List Section) → length rest ≡ 0 → IsCarFront b roots ss rest → IsCar b roots ss
 whole_car b [] roots ss none h = record { header = h.header; all = h.all; is = h.is ∙ append-nil (car_bytes roots ss) }
 whole_car b (x ∷ rest) roots ss none h = absurd (omega (arith, none))
@@ -88,7 +91,7 @@ others_behind (s ∷ ss) (t ∷ ts) rest p q e =
     let first = section_unique s t (flat_map section_bytes ss ++ rest) (flat_map section_bytes ts) p.0 q.0 (sym (append_assoc (section_bytes s) (flat_map section_bytes ss) rest) ∙ e) in
     others_behind ss ts rest p.1 q.1 first.1
 
-no_car_behind : (b rest : List ℕ) (roots : List (List ℕ)) (ss : List Section) → IsCarFront b roots ss rest → 0 < length rest → BeginsNoSection rest → IsNoCar b
+pub no_car_behind : (b rest : List ℕ) (roots : List (List ℕ)) (ss : List Section) → IsCarFront b roots ss rest → 0 < length rest → BeginsNoSection rest → IsNoCar b
 no_car_behind b rest roots ss h some none others ts car =
     let same = header_unique roots others (flat_map section_bytes ss ++ rest) (flat_map section_bytes ts) h.header car.header (sym (append_assoc (header_bytes roots) (flat_map section_bytes ss) rest) ∙ sym h.is ∙ car.is) in
     let w = others_behind ss ts rest h.all car.all same.1 in
@@ -98,37 +101,116 @@ no_car_behind b rest roots ss h some none others ts car =
     first [] a e = omega (arith, some, ap length e)
     first (s ∷ more) a e = none s (flat_map section_bytes more) (a.0, e)
 
-no_car : (b : List ℕ) → ((roots : List (List ℕ)) (rest : List ℕ) → SplitsHeader b roots rest → ⊥) → IsNoCar b
+pub no_car : (b : List ℕ) → ((roots : List (List ℕ)) (rest : List ℕ) → SplitsHeader b roots rest → ⊥) → IsNoCar b
 no_car b none roots ss car = none roots (flat_map section_bytes ss) (car.header, car.is)
 
-pub header_refused : {S : Type 0} (holds : S → List Told → Type 0) (e : CarError) (b : List ℕ) (old : S) → HeaderRefused e b → CarRefused holds e b old old
-header_refused holds Truncated b old h = (no_car b h.0, inl h.1, inl refl)
-header_refused holds InvalidLength b old h = (no_car b h.0, inl h.1, inl refl)
-header_refused holds (InvalidCid f) b old h = (no_car b h.0, inl h.1, inl refl)
-header_refused holds (NoBlock f) b old h = (no_car b h.0, inl h.1, inl refl)
-header_refused holds OtherHeader b old h = (no_car b h.0, inl h.1, inl refl)
-header_refused holds OutOfMemory b old h = tt
+-- ---- a file from an input
 
-pub step_refused : {S : Type 0} (e : CarError) (b : List ℕ) (before : S) → BeginsNoSection b × SectionFault e b → StepRefused e b before before
-step_refused Truncated b before h = (h.0, h.1, refl)
-step_refused InvalidLength b before h = (h.0, h.1, refl)
-step_refused (InvalidCid f) b before h = (h.0, h.1, refl)
-step_refused (NoBlock f) b before h = (h.0, h.1, refl)
-step_refused OtherHeader b before h = (h.0, h.1, refl)
-step_refused OutOfMemory b before h = tt
+-- the same of an input, of whose source nothing failed yet
+pub record SoFarOf {S : Type 0} (holds : S → List Told → Type 0) (old now : Reading) (check : CarCheck) (before after : S) : Type 0 where
+  pub known : (b : List ℕ) → old.left ≡ Some b → (rest : List ℕ) × (now.left ≡ Some rest) × SoFar holds b rest check before after
+  pub faults : now.faults ≡ old.faults
 
-section_refused : {S : Type 0} (holds : S → List Told → Type 0) (e : CarError) (b rest : List ℕ) (check : CarCheck) (old mid new : S) → SoFar holds b rest check old mid → 0 < length rest
-    → BeginsNoSection rest × SectionFault e rest × (new ≡ mid) → IsNoCar b × CarFault e b × TellsFirst holds b old new
-section_refused holds e b rest check old mid new h some f = (
-  no_car_behind b rest h.roots (sections_of h.told) h.front some f.0,
-  inr (h.roots, sections_of h.told, rest, h.front, some, f.1),
-  inr (h.roots, h.told, rest, h.front, h.right, subst (TellsAll holds old h.told) (sym f.2) h.tells),
+pub input_begun : {S : Type 0} (holds : S → List Told → Type 0) (roots : List (List ℕ)) (old now : Reading) (check : CarCheck) (before : S) → TakesHeader old roots now → IsAfter check roots [] → SoFarOf holds old now check before before
+input_begun holds roots old now check before h after = record {
+  known = λ b l. let w = h.1.taken b l in (w.0, w.2, behind_header holds b w.0 roots check before (h.0, w.1) after);
+  faults = h.1.same.faults;
+}
+
+pub section_more : {S : Type 0} (holds : S → List Told → Type 0) (old mid now : Reading) (check next : CarCheck) (before between after : S) (s : Section) → SoFarOf holds old mid check before between → TakesSectionBytes mid s now → TellsVerdict holds s check between next after → SoFarOf holds old now next before after
+section_more holds old mid now check next before between after s h k t = record {
+  known = λ b l.
+      let far = h.known b l in
+      let w = k.1.taken far.0 far.1 in
+      (w.0, w.2, behind_section holds b far.0 w.0 check next before between after s far.2 (k.0, w.1) t);
+  faults = k.1.same.faults ∙ h.faults;
+}
+
+-- a header that is refused
+header_fault : {S E : Type 0} (holds : S → List Told → Type 0) (e : CarError E) (b : List ℕ) (before : S) → RefusesHeader e b → IsNoCar b × CarFault holds e b before before
+header_fault holds e b before h = (no_car b h.0, inl (h, refl))
+
+header_refused : {S E : Type 0} (holds : S → List Told → Type 0) (old now : Reading) (e : CarError E) (b : List ℕ) (before : S) → CarRefuses RefusesHeader old e now → old.left ≡ Some b → CarRefused holds e b before before
+header_refused holds old now (Read f) b before r l = inl refl
+header_refused holds old now OutOfMemory b before r l = tt
+header_refused holds old now e b before r l = header_fault holds e b before (r.1 b l)
+
+-- ---- refusals of what is behind the header
+
+told_so_far : {S : Type 0} (holds : S → List Told → Type 0) (b rest : List ℕ) (check : CarCheck) (old mid new : S) → SoFar holds b rest check old mid → new ≡ mid → TellsFront holds b rest old new
+told_so_far holds b rest check old mid new h same = record {
+  roots = h.roots;
+  told = h.told;
+  front = h.front;
+  right = h.right;
+  tells = subst (TellsAll holds old h.told) (sym same) h.tells;
+}
+
+section_fault : {S E : Type 0} (holds : S → List Told → Type 0) (e : CarError E) (b rest : List ℕ) (check : CarCheck) (old mid new : S) → SoFar holds b rest check old mid → new ≡ mid → RefusesSection e rest → IsNoCar b × CarFault holds e b old new
+section_fault holds e b rest check old mid new h same f = (
+  no_car_behind b rest h.roots (sections_of h.told) h.front f.0 f.1,
+  inr (rest, f, told_so_far holds b rest check old mid new h same),
 )
 
-pub car_refused : {S : Type 0} (holds : S → List Told → Type 0) (e : CarError) (b rest : List ℕ) (check : CarCheck) (old mid new : S) → SoFar holds b rest check old mid → 0 < length rest → StepRefused e rest mid new → CarRefused holds e b old new
-car_refused holds Truncated b rest check old mid new h some f = section_refused holds Truncated b rest check old mid new h some f
-car_refused holds InvalidLength b rest check old mid new h some f = section_refused holds InvalidLength b rest check old mid new h some f
-car_refused holds (InvalidCid g) b rest check old mid new h some f = section_refused holds (InvalidCid g) b rest check old mid new h some f
-car_refused holds (NoBlock g) b rest check old mid new h some f = section_refused holds (NoBlock g) b rest check old mid new h some f
-car_refused holds OtherHeader b rest check old mid new h some f = section_refused holds OtherHeader b rest check old mid new h some f
-car_refused holds OutOfMemory b rest check old mid new h some f = tt
+section_refused : {S E : Type 0} (holds : S → List Told → Type 0) (mid now : Reading) (e : CarError E) (b rest : List ℕ) (check : CarCheck) (before between after : S) → SoFar holds b rest check before between → mid.left ≡ Some rest → StepRefused mid between e now after → CarRefused holds e b before after
+section_refused holds mid now (Read f) b rest check before between after h l r = inr (rest, told_so_far holds b rest check before between after h (r.1 (λ x. absurd (cc x))))
+section_refused holds mid now OutOfMemory b rest check before between after h l r = tt
+section_refused {E = E} holds mid now Truncated b rest check before between after h l r = section_fault {E = E} holds Truncated b rest check before between after h (r.1 (λ x. absurd (cc x))) (r.0.1 rest l)
+section_refused {E = E} holds mid now InvalidLength b rest check before between after h l r = section_fault {E = E} holds InvalidLength b rest check before between after h (r.1 (λ x. absurd (cc x))) (r.0.1 rest l)
+section_refused {E = E} holds mid now (InvalidCid g) b rest check before between after h l r = section_fault {E = E} holds (InvalidCid g) b rest check before between after h (r.1 (λ x. absurd (cc x))) (r.0.1 rest l)
+section_refused {E = E} holds mid now (NoBlock g) b rest check before between after h l r = section_fault {E = E} holds (NoBlock g) b rest check before between after h (r.1 (λ x. absurd (cc x))) (r.0.1 rest l)
+section_refused {E = E} holds mid now OtherHeader b rest check before between after h l r = section_fault {E = E} holds OtherHeader b rest check before between after h (r.1 (λ x. absurd (cc x))) (r.0.1 rest l)
+
+-- ---- what is answered of a whole file
+
+-- a fault is one of the source, whatever stands in the bytes
+only_fault : {E : Type 0} (stands : CarError E → List ℕ → Type 0) (old now : Reading) (e : CarError E) → CarRefuses stands old e now → CarRefuses (λ _ _. ⊤) old e now
+only_fault stands old now (Read f) r = r
+only_fault stands old now OutOfMemory r = r
+only_fault stands old now e r = (r.0, λ _ _. tt)
+
+fault_behind : {E : Type 0} (old mid now : Reading) (e : CarError E) → mid.faults ≡ old.faults → CarRefuses (λ _ _. ⊤) mid e now → CarRefuses (λ _ _. ⊤) old e now
+fault_behind old mid now (Read f) h r = omega (arith, h, r)
+fault_behind old mid now OutOfMemory h r = r ∙ h
+fault_behind old mid now e h r = (r.0 ∙ h, λ _ _. tt)
+
+-- the answer of a check, refused
+abbrev refused : {E : Type 0} → CarError E → Result (Vec CidParts Global) (CarError E)
+refused e = Err e
+
+pub no_header : {S E : Type 0} (holds : S → List Told → Type 0) (old now : Reading) (e : CarError E) (before : S) → CarRefuses RefusesHeader old e now → ChecksInput holds old before (refused e) now before
+no_header holds old now e before r = record {
+  known = λ b l. header_refused holds old now e b before r l;
+  all = tt;
+  faults = only_fault RefusesHeader old now e r;
+}
+
+pub no_section : {S E : Type 0} (holds : S → List Told → Type 0) (old mid now : Reading) (e : CarError E) (check : CarCheck) (before between after : S) → SoFarOf holds old mid check before between → StepRefused mid between e now after → ChecksInput holds old before (refused e) now after
+no_section holds old mid now e check before between after h r = record {
+  known = λ b l. let far = h.known b l in section_refused holds mid now e b far.0 check before between after far.2 far.1 r;
+  all = tt;
+  faults = fault_behind old mid now e h.faults (only_fault RefusesSection mid now e r.0);
+}
+
+pub no_memory : {S : Type 0} (E : Type 0) (holds : S → List Told → Type 0) (old now : Reading) (before after : S) → now.faults ≡ old.faults → ChecksInput {E = E} holds old before (refused OutOfMemory) now after
+no_memory E holds old now before after same = record { known = λ b l. tt; all = tt; faults = same }
+
+whole_input : {S : Type 0} (E : Type 0) (holds : S → List Told → Type 0) (old mid now : Reading) (check : CarCheck) (before after : S) (v : Vec CidParts Global) → SoFarOf holds old mid check before after → FindsEnd mid now
+    → ((roots : List (List ℕ)) (sections : List Section) → IsAfter check roots sections → ListsMissing roots sections v) → ChecksInput {E = E} holds old before (Ok v) now after
+whole_input E holds old mid now check before after v h end lists = record {
+  known = λ b l.
+      let far = h.known b l in
+      let so = far.2 in
+      let none = end.none_left far.0 far.1 in
+      (so.roots, so.told, whole_car b far.0 so.roots (sections_of so.told) (ap length none) so.front, so.right, so.tells, lists so.roots (sections_of so.told) so.after);
+  all = λ b l. let far = h.known b l in end.kept far.0 far.1 ∙ ap Some (end.none_left far.0 far.1);
+  faults = end.same.faults ∙ h.faults;
+}
+
+-- the check's answer at the end of the file
+pub input_ended : {S E : Type 0} (holds : S → List Told → Type 0) (old mid now : Reading) (check next : CarCheck) (before between after : S) (r : Result (Vec CidParts Global) (CarError E)) → SoFarOf holds old mid check before between
+    → FindsEnd mid now → next ≡ check → after ≡ between
+    → MatchResult r (λ v. (roots : List (List ℕ)) (sections : List Section) → IsAfter next roots sections → ListsMissing roots sections v) (λ e. e ≡ OutOfMemory) → ChecksInput holds old before r now after
+input_ended {S} {E} holds old mid now check next before between after (Ok v) h end same told lists =
+    whole_input E holds old mid now check before after v (subst (λ a. SoFarOf holds old mid check before a) (sym told) h) end (λ roots sections k. lists roots sections (subst (λ x. IsAfter x roots sections) (sym same) k))
+input_ended {S} {E} holds old mid now check next before between after (Err e) h end same told is = subst (λ x. ChecksInput {E = E} holds old before (refused x) now after) (sym is) (no_memory E holds old now before after (end.same.faults ∙ h.faults))

@@ -16,7 +16,7 @@ use Rattle.dagcbor_write.specs.Answers.{AreSpellingOf, HasNoSpelling}
 use Rattle.dagcbor_car.specs.Car.{counted, header_tree}
 use Rattle.dagcbor_car.specs.Splits.{SplitsCounted, CountFault, IsNoHeader, SplitsHeader, BeginsNoHeader, HeaderRefused}
 use Rattle.dagcbor_car.specs.declared.error.CarError.{CarError}
-use Rattle.dagcbor_car.specs.declared.error.CarError.TheVariants.{Truncated, InvalidLength, InvalidCid, NoBlock, OtherHeader, OutOfMemory}
+use Rattle.dagcbor_car.specs.declared.error.CarError.TheVariants.{Read, Truncated, InvalidLength, InvalidCid, NoBlock, OtherHeader, OutOfMemory}
 use Rattle.dagcbor_car.proofs.Cars.{counted_unique, links_of_header}
 use Rattle.dagcbor_car.proofs.Counts.{no_counted}
 
@@ -83,8 +83,8 @@ inner_of b inner rest more roots h k = record {
   is = (counted_unique inner (spelling (header_tree roots)) rest more h.0 k.0.fits (sym h.1 ∙ k.1)).0;
 }
 
-no_header_here : (e : CarError) (b inner rest : List ℕ) → SplitsCounted b inner rest → ((roots : List (List ℕ)) → IsSpelling inner (header_tree roots) → ⊥) → BeginsNoHeader b
-no_header_here e b inner rest h none roots more k = none roots (inner_of b inner rest more roots h k)
+no_header_here : (b inner rest : List ℕ) → SplitsCounted b inner rest → ((roots : List (List ℕ)) → IsSpelling inner (header_tree roots) → ⊥) → BeginsNoHeader b
+no_header_here b inner rest h none roots more k = none roots (inner_of b inner rest more roots h k)
 
 -- what is refused without want of memory is no block
 pub no_block : (e : DecodeError Infallible) (b : List ℕ) → SliceRefused e b → (e ≡ unread.OutOfMemory → ⊥) → (t : Tree) → IsBlock b t → ⊥
@@ -94,18 +94,20 @@ no_block (unread.RequireBorrowed name) b r n t h = r
 no_block unread.Failed b r n t h = r
 no_block e b r n t h = r.0 t h
 
-pub not_read : (e : CarError) (b inner rest : List ℕ) → SplitsCounted b inner rest → IsNoHeader e inner → HeaderRefused e b
-not_read (NoBlock e) b inner rest h r = (no_header_here (NoBlock e) b inner rest h (λ roots s. no_block e inner r.0 r.1 (header_tree roots) (header_block inner roots s)), (inner, rest, h, r.0, r.1))
-not_read OtherHeader b inner rest h r = (no_header_here OtherHeader b inner rest h r.1, (inner, rest, h, r.0))
+pub not_read : {E : Type 0} (e : CarError E) (b inner rest : List ℕ) → SplitsCounted b inner rest → IsNoHeader e inner → HeaderRefused e b
+not_read (NoBlock e) b inner rest h r = (no_header_here b inner rest h (λ roots s. no_block e inner r.0 r.1 (header_tree roots) (header_block inner roots s)), (inner, rest, h, r.0, r.1))
+not_read OtherHeader b inner rest h r = (no_header_here b inner rest h r.1, (inner, rest, h, r.0))
 not_read OutOfMemory b inner rest h r = tt
 not_read Truncated b inner rest h r = absurd r
 not_read InvalidLength b inner rest h r = absurd r
 not_read (InvalidCid f) b inner rest h r = absurd r
+not_read (Read f) b inner rest h r = absurd r
 
-pub not_counted : (e : CarError) (b : List ℕ) → CountFault e b → HeaderRefused e b
-not_counted Truncated b f = (λ roots rest h. no_counted Truncated b (spelling (header_tree roots)) rest f (h.0.fits, h.1), f)
-not_counted InvalidLength b f = (λ roots rest h. no_counted InvalidLength b (spelling (header_tree roots)) rest f (h.0.fits, h.1), f)
+pub not_counted : {E : Type 0} (e : CarError E) (b : List ℕ) → CountFault e b → HeaderRefused e b
+not_counted {E} Truncated b f = (λ roots rest h. no_counted {E = E} Truncated b (spelling (header_tree roots)) rest f (h.0.fits, h.1), f)
+not_counted {E} InvalidLength b f = (λ roots rest h. no_counted {E = E} InvalidLength b (spelling (header_tree roots)) rest f (h.0.fits, h.1), f)
 not_counted (InvalidCid g) b f = absurd f
 not_counted (NoBlock g) b f = absurd f
 not_counted OtherHeader b f = absurd f
 not_counted OutOfMemory b f = absurd f
+not_counted (Read g) b f = absurd f

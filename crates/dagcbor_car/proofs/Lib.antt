@@ -5,3 +5,4 @@ pub mod Headers
 pub mod Members
 pub mod Checking
 pub mod Files
+pub mod Pulling

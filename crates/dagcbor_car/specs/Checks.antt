@@ -1,21 +1,23 @@
 -- What is found of a whole file of blocks.
 use Rattle.std.specs.Prelude.{◌≡◌, ◌≢◌, ◌↔◌, ◌⊎◌, ℕ, ◌<◌, List, [], ◌∷◌, ◌++◌, length, ⊤, Vec}
-use Rattle.std.specs.Prelude.{Result, MatchResult}
+use Rattle.std.specs.Prelude.{Result, MatchResult, MatchBool, Bool, Some, OnOk}
 use Rattle.std.specs.List.{AllByRecursion}
 use Rattle.std.specs.List.Sorted.{IsStrictlySortedBy}
 use Rattle.std.specs.declared.alloc.Global.{Global}
+use Rattle.dagcbor_heads.specs.Reading.{Reading}
+use Rattle.dagcbor_heads.specs.Fronts.{FindsEnd}
 use Rattle.ipld_tree.specs.Cid.{CidParts, cid_bytes, cid_cmp}
 use Rattle.ipld_tree.specs.Tree.{Tree, links_of}
 use Rattle.dagcbor_items.specs.Slices.{IsBlock}
 use Rattle.dagcbor_items.specs.Walks.{forms}
 use Rattle.dagcbor_car.specs.Car.{Section, IsHeader, IsSection, car_bytes, IsCar}
-use Rattle.dagcbor_car.specs.Splits.{SplitsSection, BeginsNoSection, SectionFault, HeaderFault}
+use Rattle.dagcbor_car.specs.Sources.{CarRefuses, RefusesHeader, RefusesSection, TakesSectionBytes}
 use Rattle.dagcbor_car.specs.Verdicts.{IsVerified, IsDagCbor, IsVerdict}
 use Rattle.dagcbor_car.specs.Verdicts.{Told, sections_of, AreTold, TellsAll, Tells}
 use Rattle.dagcbor_car.specs.Sets.{Among, members, AreCids}
 use Rattle.dagcbor_car.specs.declared.verdict.Verdict.{Verdict}
 use Rattle.dagcbor_car.specs.declared.error.CarError.{CarError}
-use Rattle.dagcbor_car.specs.declared.error.CarError.TheVariants.{OutOfMemory}
+use Rattle.dagcbor_car.specs.declared.error.CarError.TheVariants.{Read, OutOfMemory}
 use Rattle.dagcbor_car.specs.declared.check.CarCheck.{CarCheck}
 
 -- ---- what leads nowhere
@@ -62,17 +64,19 @@ abbrev pub TellsVerdict : {S : Type 0} → (S → List Told → Type 0) → Sect
 TellsVerdict holds s old before new after = (v : Verdict) × IsVerdict s v × TakesSection s old new
     × Tells holds before (s, v) after
 
--- why a section is not taken; none is told then, want of memory aside
-abbrev pub StepRefused : {S : Type 0} → CarError → List ℕ → S → S → Type 0
-StepRefused OutOfMemory b before after = ⊤
-StepRefused e b before after = BeginsNoSection b × SectionFault e b × (after ≡ before)
+-- why no section is taken; none is told then, want of memory aside
+abbrev pub StepRefused : {S E : Type 0} → Reading → S → CarError E → Reading → S → Type 0
+StepRefused old before e new after = CarRefuses RefusesSection old e new
+    × (e ≢ OutOfMemory → after ≡ before)
 
--- The section at the front is taken, and the verdict on it told.
-abbrev pub Steps : {S R : Type 0} → (S → List Told → Type 0) → (R → List ℕ) → List ℕ → CarCheck → S
-    → Result R CarError → CarCheck → S → Type 0
-Steps holds bytes_of b old before result new after = MatchResult result
-    (λ r. (s : Section) × SplitsSection b s (bytes_of r) × TellsVerdict holds s old before new after)
-    (λ e. StepRefused e b before after)
+-- The section at the front is taken, and the verdict on it told; or the end is found.
+abbrev pub Steps : {S E : Type 0} → (S → List Told → Type 0) → Reading → CarCheck → S
+    → Result Bool (CarError E) → Reading → CarCheck → S → Type 0
+Steps holds old check before result new next after = MatchResult result
+    (λ more. MatchBool more
+        ((s : Section) × TakesSectionBytes old s new × TellsVerdict holds s check before next after)
+        (FindsEnd old new × (next ≡ check) × (after ≡ before)))
+    (λ e. StepRefused old before e new after)
 
 -- ---- the whole
 
@@ -86,27 +90,41 @@ pub record IsCarFront (b : List ℕ) (roots : List (List ℕ)) (sections : List 
 abbrev pub IsNoCar : List ℕ → Type 0
 IsNoCar b = (roots : List (List ℕ)) (sections : List Section) → ¬ IsCar b roots sections
 
--- why: the fault stands at the front, or behind the header and some sections
-abbrev pub CarFault : CarError → List ℕ → Type 0
-CarFault e b = HeaderFault e b
-    ⊎ ((roots : List (List ℕ)) × (sections : List Section) × (rest : List ℕ)
-    × IsCarFront b roots sections rest × (0 < length rest) × SectionFault e rest)
+-- the sections of a file up to the rest were told, and the verdicts on them
+pub record TellsFront {S : Type 0} (holds : S → List Told → Type 0) (b rest : List ℕ) (old new : S) : Type 0 where
+  pub roots : List (List ℕ)
+  pub told : List Told
+  pub front : IsCarFront b roots (sections_of told) rest
+  pub right : AreTold told
+  pub tells : TellsAll holds old told new
 
--- the first sections of the file were told, and the verdicts on them
+-- some of its first sections were told, and the verdicts on them, or none
 abbrev pub TellsFirst : {S : Type 0} → (S → List Told → Type 0) → List ℕ → S → S → Type 0
-TellsFirst holds b old new = (new ≡ old)
-    ⊎ ((roots : List (List ℕ)) × (told : List Told) × (rest : List ℕ)
-    × IsCarFront b roots (sections_of told) rest × AreTold told × TellsAll holds old told new)
+TellsFirst holds b old new = (new ≡ old) ⊎ ((rest : List ℕ) × TellsFront holds b rest old new)
+
+-- why bytes are no file, and what was told: no header stands first; or all sections up to a place
+-- were told where no section stands, though bytes do
+abbrev pub CarFault : {S E : Type 0} → (S → List Told → Type 0) → CarError E → List ℕ → S → S → Type 0
+CarFault holds e b old new = (RefusesHeader e b × (new ≡ old))
+    ⊎ ((rest : List ℕ) × RefusesSection e rest × TellsFront holds b rest old new)
 
 -- why a file is not gone through, and what was told
-abbrev pub CarRefused : {S : Type 0} → (S → List Told → Type 0) → CarError → List ℕ → S → S → Type 0
+abbrev pub CarRefused : {S E : Type 0} → (S → List Told → Type 0) → CarError E → List ℕ → S → S → Type 0
+CarRefused holds (Read e) b old new = TellsFirst holds b old new
 CarRefused holds OutOfMemory b old new = ⊤
-CarRefused holds e b old new = IsNoCar b × CarFault e b × TellsFirst holds b old new
+CarRefused holds e b old new = IsNoCar b × CarFault holds e b old new
 
--- A file is gone through exactly where the bytes are one, want of memory aside: its sections are
--- told, and the verdicts on them, and what leads nowhere is listed.
-abbrev pub ChecksCar : {S : Type 0} → (S → List Told → Type 0) → List ℕ → S
-    → Result (Vec CidParts Global) CarError → S → Type 0
+-- A file is gone through exactly where the bytes are one, faults and want of memory aside: its
+-- sections are told, and the verdicts on them, and what leads nowhere is listed.
+abbrev pub ChecksCar : {S E : Type 0} → (S → List Told → Type 0) → List ℕ → S
+    → Result (Vec CidParts Global) (CarError E) → S → Type 0
 ChecksCar holds b old result new = MatchResult result
     (λ v. (roots : List (List ℕ)) × (told : List Told) × IsCar b roots (sections_of told) × AreTold told × TellsAll holds old told new × ListsMissing roots (sections_of told) v)
     (λ e. CarRefused holds e b old new)
+
+-- The bytes that are left are gone through so, where the source tells them, and all are taken; and
+-- a fault is one of the source.
+pub record ChecksInput {S E : Type 0} (holds : S → List Told → Type 0) (old : Reading) (before : S) (result : Result (Vec CidParts Global) (CarError E)) (new : Reading) (after : S) : Type 0 where
+  pub known : (b : List ℕ) → old.left ≡ Some b → ChecksCar holds b before result after
+  pub all : OnOk result ((b : List ℕ) → old.left ≡ Some b → new.left ≡ Some [])
+  pub faults : MatchResult result (λ _. new.faults ≡ old.faults) (λ e. CarRefuses (λ _ _. ⊤) old e new)

@@ -29,7 +29,7 @@ IsCut b = IsCutVarint b
     ⊎ ((n : ℕ) × (rest : List ℕ) × (n < 2 ^ 64) × (length rest < n) × (b ≡ varint n ++ rest))
 
 -- why no bytes stand behind their length
-abbrev pub CountFault : CarError → List ℕ → Type 0
+abbrev pub CountFault : {E : Type 0} → CarError E → List ℕ → Type 0
 CountFault Truncated b = IsCut b
 CountFault InvalidLength b = IsNoVarint b
 CountFault _ b = ⊥
@@ -55,7 +55,7 @@ abbrev pub BeginsNoSection : List ℕ → Type 0
 BeginsNoSection b = (s : Section) (rest : List ℕ) → ¬ SplitsSection b s rest
 
 -- why no section stands first
-abbrev pub SectionFault : CarError → List ℕ → Type 0
+abbrev pub SectionFault : {E : Type 0} → CarError E → List ℕ → Type 0
 SectionFault (InvalidCid e) b = (body rest : List ℕ) × SplitsCounted b body rest × IsFault e body
 SectionFault e b = CountFault e b
 
@@ -74,24 +74,24 @@ abbrev pub HasBlock : List ℕ → Type 0
 HasBlock b = (t : Tree) × IsBlock b t
 
 -- why the bytes are no header, want of memory aside
-abbrev pub IsNoHeader : CarError → List ℕ → Type 0
+abbrev pub IsNoHeader : {E : Type 0} → CarError E → List ℕ → Type 0
 IsNoHeader (NoBlock e) b = SliceRefused e b × (e ≢ unread.OutOfMemory)
 IsNoHeader OtherHeader b = HasBlock b × ((roots : List (List ℕ)) → ¬ IsSpelling b (header_tree roots))
 IsNoHeader OutOfMemory b = ⊤
 IsNoHeader _ b = ⊥
 
 -- The bytes are read exactly where they are a header, want of memory aside.
-abbrev pub ReadsHeader : List ℕ → Result (Vec CidParts Global) CarError → Type 0
+abbrev pub ReadsHeader : {E : Type 0} → List ℕ → Result (Vec CidParts Global) (CarError E) → Type 0
 ReadsHeader b result = MatchResult result (λ v. IsSpelling b (header_tree (forms v.items))) (λ e. IsNoHeader e b)
 
 -- why no header stands first
-abbrev pub HeaderFault : CarError → List ℕ → Type 0
+abbrev pub HeaderFault : {E : Type 0} → CarError E → List ℕ → Type 0
 HeaderFault (NoBlock e) b = (inner rest : List ℕ) × SplitsCounted b inner rest × SliceRefused e inner
     × (e ≢ unread.OutOfMemory)
 HeaderFault OtherHeader b = (inner rest : List ℕ) × SplitsCounted b inner rest × HasBlock inner
 HeaderFault e b = CountFault e b
 
 -- why a header is not read
-abbrev pub HeaderRefused : CarError → List ℕ → Type 0
+abbrev pub HeaderRefused : {E : Type 0} → CarError E → List ℕ → Type 0
 HeaderRefused OutOfMemory b = ⊤
 HeaderRefused e b = BeginsNoHeader b × HeaderFault e b

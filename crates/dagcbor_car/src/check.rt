@@ -1,21 +1,25 @@
 //! A whole file: the verdicts on its sections, and what leads to no block of it.
 
-ghost use Rattle.std.specs.Prelude.{[], IfOk, OnOk, List, ℕ};
+ghost use Rattle.std.specs.Prelude.{◌≡◌, [], IfOk, OnOk, MatchResult, List, ℕ};
+ghost use Rattle.dagcbor_heads.specs.Inputs.{input_reading};
 ghost use Rattle.dagcbor_items.specs.Walks.{forms};
 ghost use Rattle.dagcbor_car.specs.Car.{Section as CarSection};
 ghost use Rattle.dagcbor_car.specs.Verdicts.{IsVerdict};
 ghost use Rattle.dagcbor_car.specs.Checks.{IsAfter, TakesSection, ListsMissing, TellsVerdict};
-ghost use Rattle.dagcbor_car.specs.Checks.{Steps, ChecksCar};
+ghost use Rattle.dagcbor_car.specs.Checks.{Steps, ChecksCar, ChecksInput};
+ghost use Rattle.dagcbor_car.specs.declared.error.CarError.TheVariants.{OutOfMemory};
 
 use crate::cid_set::CidSet;
 use crate::error::CarError;
-use crate::header::split_header;
-use crate::section::{Section, split_section};
+use crate::pull::{pull_header, pull_section};
+use crate::section::Section;
 use crate::sink::VerdictSink;
 use crate::verdict::{Verdict, verify};
+use dagcbor_heads::{Input, Read, SliceReader};
 use dagcbor_items::LinkSink;
 use ipld_tree::Cid;
 use std::alloc::{AllocError, Global};
+use std::convert::Infallible;
 
 /// What is known of a file behind some of its sections: which blocks it has, and where its roots
 /// and links lead.
@@ -84,36 +88,64 @@ pub fn check_car<S: VerdictSink>(
     alloc: Global,
     bytes: &[u8],
     verdicts: &mut S,
-) -> Result<Vec<Cid>, CarError>
+) -> Result<Vec<Cid>, CarError<Infallible>>
     ensures { ChecksCar S.holds bytes.now verdicts.old result verdicts.new }
 {
-    let (roots, mut rest) = split_header(alloc, bytes)?;
+    let mut input = Input::<SliceReader>::Slice(SliceReader::new(bytes));
+    check_input(alloc, &mut input, verdicts)
+}
+
+/// As `check_car`, of what a slice or a reader has left. At most one section is in memory.
+pub fn check_input<'de, R: Read, S: VerdictSink>(
+    alloc: Global,
+    input: &mut Input<'de, R>,
+    verdicts: &mut S,
+) -> Result<Vec<Cid>, CarError<R::Error>>
+    ensures { ChecksInput S.holds (input_reading R.reading input.old) verdicts.old result
+        (input_reading R.reading input.new) verdicts.new }
+{
+    let roots = pull_header(alloc, input)?;
     let Ok(mut check) = CarCheck::new(alloc, &roots) else {
         return Err(CarError::OutOfMemory);
     };
-    while !rest.is_empty() {
-        rest = step(&mut check, rest, verdicts)?;
+    for _ in 0..u64::MAX {
+        let more = step(alloc, &mut check, input, verdicts)?;
+        if !more {
+            return missing_of(alloc, check);
+        }
     }
+    Err(CarError::OutOfMemory)
+}
+
+/// The roots and the links that lead to no verified block.
+fn missing_of<E: Drop>(alloc: Global, check: CarCheck) -> Result<Vec<Cid>, CarError<E>>
+    ensures { MatchResult result
+        (λ v. (roots : List (List ℕ)) (sections : List CarSection)
+        → IsAfter check roots sections → ListsMissing roots sections v)
+        (λ e. e ≡ OutOfMemory) }
+{
     match check.missing(alloc) {
         Ok(missing) => Ok(missing),
         Err(_) => Err(CarError::OutOfMemory),
     }
 }
 
-/// Takes the section at the front, and answers what stands behind it.
-fn step<'a, S: VerdictSink>(
+/// Takes the next section, and answers whether there is one.
+fn step<'de, R: Read, S: VerdictSink>(
+    alloc: Global,
     check: &mut CarCheck,
-    bytes: &'a [u8],
+    input: &mut Input<'de, R>,
     verdicts: &mut S,
-) -> Result<&'a [u8], CarError>
-    ensures { Steps S.holds (λ r. r.now) bytes.now check.old verdicts.old result
-        check.new verdicts.new }
+) -> Result<bool, CarError<R::Error>>
+    ensures { Steps S.holds (input_reading R.reading input.old) check.old verdicts.old result
+        (input_reading R.reading input.new) check.new verdicts.new }
 {
-    match split_section(bytes) {
-        Ok((section, rest)) => match take_section(check, &section, verdicts) {
-            Ok(()) => Ok(rest),
+    match pull_section(alloc, input) {
+        Ok(Some(section)) => match take_section(check, &section.section(), verdicts) {
+            Ok(()) => Ok(true),
             Err(_) => Err(CarError::OutOfMemory),
         },
+        Ok(None) => Ok(false),
         Err(error) => Err(error),
     }
 }

@@ -5,9 +5,13 @@ use ipld_tree::CidError;
 use std::convert::Infallible;
 use thiserror::Error;
 
-/// Why bytes are no file of blocks, at the first place where they are none.
+/// Why bytes are no file of blocks, at the first place where they are none; or why they were not
+/// read. `E` is the reader's error.
 #[derive(Debug, Drop, Error)]
-pub enum CarError {
+pub enum CarError<E> {
+    /// The reader faulted.
+    #[error("the input failed")]
+    Read(E),
     /// The bytes end inside a length, or before as many follow.
     #[error("the file is cut short")]
     Truncated,

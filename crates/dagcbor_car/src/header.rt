@@ -18,6 +18,7 @@ use dagcbor_items::{check_slice, links_from_slice};
 use dagcbor_write::{Field, Serialize, Serializer, to_vec, write_struct};
 use ipld_tree::Cid;
 use std::alloc::Global;
+use std::convert::Infallible;
 
 /// The version of the file's format.
 const VERSION: u8 = 1;
@@ -43,7 +44,10 @@ impl Serialize for Header<'_> {
 }
 
 /// The roots of the header at the front, and the bytes behind it.
-pub fn split_header(alloc: Global, bytes: &[u8]) -> Result<(Vec<Cid>, &[u8]), CarError>
+pub fn split_header(
+    alloc: Global,
+    bytes: &[u8],
+) -> Result<(Vec<Cid>, &[u8]), CarError<Infallible>>
     ensures { MatchResult result
         (λ p. SplitsHeader bytes.now (forms p.0.items) p.1.now)
         (λ e. HeaderRefused e bytes.now) }
@@ -54,7 +58,7 @@ pub fn split_header(alloc: Global, bytes: &[u8]) -> Result<(Vec<Cid>, &[u8]), Ca
 }
 
 /// The roots of the header that the bytes are.
-fn read_header(alloc: Global, bytes: &[u8]) -> Result<Vec<Cid>, CarError>
+pub(crate) fn read_header<E: Drop>(alloc: Global, bytes: &[u8]) -> Result<Vec<Cid>, CarError<E>>
     ensures { ReadsHeader bytes.now result }
 {
     match check_slice(bytes) {
@@ -64,7 +68,7 @@ fn read_header(alloc: Global, bytes: &[u8]) -> Result<Vec<Cid>, CarError>
 }
 
 /// The roots of the header that the block is.
-fn read_block(alloc: Global, bytes: &[u8]) -> Result<Vec<Cid>, CarError>
+fn read_block<E: Drop>(alloc: Global, bytes: &[u8]) -> Result<Vec<Cid>, CarError<E>>
     requires { HasBlock bytes.now }
     ensures { ReadsHeader bytes.now result }
 {
@@ -81,7 +85,11 @@ fn read_block(alloc: Global, bytes: &[u8]) -> Result<Vec<Cid>, CarError>
 }
 
 /// Whether the bytes are the header of these roots.
-fn is_header_of(alloc: Global, roots: &[Cid], bytes: &[u8]) -> Result<bool, CarError>
+fn is_header_of<E: Drop>(
+    alloc: Global,
+    roots: &[Cid],
+    bytes: &[u8],
+) -> Result<bool, CarError<E>>
     ensures { MatchResult result
         (λ is_header. IsTrue is_header ↔ IsSpelling bytes.now (header_tree (forms roots.now)))
         (λ e. e ≡ OutOfMemory) }

@@ -1,12 +1,13 @@
 //! A section at the front of bytes: the name of a block, and the block.
 
-ghost use Rattle.std.specs.Prelude.{◌≡◌, ◌<◌, ◌∷◌, ◌++◌, length, MatchResult};
+ghost use Rattle.std.specs.Prelude.{◌≡◌, ◌<◌, ◌≤◌, ◌∷◌, ◌++◌, length, drop, MatchResult};
 ghost use Rattle.dagcbor_car.specs.declared.error.CarError.TheVariants.{Truncated};
 ghost use Rattle.dagcbor_car.specs.Splits.{SplitsCounted, CountFault, SplitsCid, BeginsNoCid};
 ghost use Rattle.dagcbor_car.specs.Splits.{SplitsSection, BeginsNoSection, SectionFault};
 
 use crate::error::CarError;
 use ipld_tree::{Cid, CidError, split_varint};
+use std::convert::Infallible;
 
 /// The greatest length of a digest.
 const LONGEST_DIGEST: u64 = 64;
@@ -19,7 +20,7 @@ pub struct Section<'a> {
 }
 
 /// The section at the front, and the bytes behind it.
-pub fn split_section(bytes: &[u8]) -> Result<(Section<'_>, &[u8]), CarError>
+pub fn split_section(bytes: &[u8]) -> Result<(Section<'_>, &[u8]), CarError<Infallible>>
     ensures { MatchResult result
         (λ p. SplitsSection bytes.now (p.0.cid, p.0.block.now) p.1.now)
         (λ e. BeginsNoSection bytes.now × SectionFault e bytes.now) }
@@ -32,7 +33,7 @@ pub fn split_section(bytes: &[u8]) -> Result<(Section<'_>, &[u8]), CarError>
 }
 
 /// The bytes behind the length at the front, and those behind them.
-pub(crate) fn split_counted(bytes: &[u8]) -> Result<(&[u8], &[u8]), CarError>
+pub(crate) fn split_counted(bytes: &[u8]) -> Result<(&[u8], &[u8]), CarError<Infallible>>
     ensures { MatchResult result
         (λ p. SplitsCounted bytes.now p.0.now p.1.now)
         (λ e. CountFault e bytes.now) }
@@ -45,7 +46,7 @@ pub(crate) fn split_counted(bytes: &[u8]) -> Result<(&[u8], &[u8]), CarError>
 }
 
 /// So many bytes, and those behind them.
-fn split_bytes(bytes: &[u8], count: u64) -> Result<(&[u8], &[u8]), CarError>
+fn split_bytes(bytes: &[u8], count: u64) -> Result<(&[u8], &[u8]), CarError<Infallible>>
     ensures { MatchResult result
         (λ p. (length p.0.now ≡ count) × (bytes.now ≡ p.0.now ++ p.1.now))
         (λ e. (e ≡ Truncated) × (length bytes.now < count)) }
@@ -53,6 +54,18 @@ fn split_bytes(bytes: &[u8], count: u64) -> Result<(&[u8], &[u8]), CarError>
     match bytes.split_at_checked(count as usize) {
         Some(parts) => Ok(parts),
         None => Err(CarError::Truncated),
+    }
+}
+
+/// The CID at the front, and how many bytes it has.
+pub(crate) fn measure_cid(bytes: &[u8]) -> Result<(Cid, usize), CidError>
+    ensures { MatchResult result
+        (λ p. (p.1 ≤ length bytes.now) × SplitsCid bytes.now p.0 (drop p.1 bytes.now))
+        (λ e. BeginsNoCid e bytes.now) }
+{
+    match split_cid(bytes) {
+        Ok((cid, rest)) => Ok((cid, bytes.len() - rest.len())),
+        Err(fault) => Err(fault),
     }
 }
 

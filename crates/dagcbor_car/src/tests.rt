@@ -1,6 +1,7 @@
 //! Rows, and each public call once. The expected bytes are made by another program.
 
 mod files;
+mod streams;
 
 use crate::{CarError, Verdict, split_header, split_section, verify};
 use dagcbor_heads::DecodeError;

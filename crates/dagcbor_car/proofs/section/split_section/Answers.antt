@@ -1,3 +1,4 @@
+use Rattle.std.specs.declared.convert.Infallible.{Infallible}
 use Rattle.std.proofs.lemmas.Result.{err_from_is_err_and}
 use Rattle.dagcbor_car.proofs.Counts.{no_section_counted, no_section_named}
 use Rattle.dagcbor_car.proofs.section.split_section.Goals as goal
@@ -8,4 +9,4 @@ returns-in_err-body c =
     rw (p.1, p.2) (no_section_counted c.in_err-body.field-0.0 c.args.bytes.now c.in_err-body.ensures)
 
 pub returns-in-Err : goal.returns-in-Err
-returns-in-Err c = no_section_named c.in-Err.fault c.args.bytes.now c.in_ok-body.body.now c.in_ok-body.rest.now c.in_ok-body.ensures c.in-Err.ensures
+returns-in-Err c = no_section_named Infallible c.in-Err.fault c.args.bytes.now c.in_ok-body.body.now c.in_ok-body.rest.now c.in_ok-body.ensures c.in-Err.ensures

@@ -1,0 +1,43 @@
+//! The program `dagcar`: judges files of blocks (CAR, version 1), and blocks.
+#![tactic(auto)]
+
+mod block;
+mod check;
+mod command;
+mod line;
+mod names;
+
+use command::{OUT_OF_MEMORY, USAGE, give_up, run_command};
+use std::io::{BufReader, ErrorKind};
+use std::process::ExitCode;
+use std::rt::Env;
+use std::{env, io};
+
+/// The arguments behind the program's name.
+fn arguments(rt: &(impl Env + AllocGlobal)) -> io::Result<Vec<String>> {
+    let mut words = Vec::new(rt.alloc());
+    for word in env::args(rt)?.skip(1) {
+        words.push(word)?;
+    }
+    Ok(words)
+}
+
+fn main(rt: HostRuntime) -> ExitCode {
+    let mut errors = rt.stderr().lock();
+    let status = match arguments(&rt) {
+        // A pipe is read a byte a call where no buffer stands before it.
+        Ok(words) => match BufReader::new(rt.alloc(), rt.reader()) {
+            Ok(mut input) => run_command(
+                rt.alloc(),
+                &words,
+                &mut input,
+                &mut rt.stdout().lock(),
+                &mut errors,
+            ),
+            Err(_) => give_up(&mut errors, OUT_OF_MEMORY, 1),
+        },
+        Err(e) if e.kind() == ErrorKind::OutOfMemory => give_up(&mut errors, OUT_OF_MEMORY, 1),
+        Err(_) => give_up(&mut errors, USAGE, 2),
+    };
+    ExitCode::from(status)
+}

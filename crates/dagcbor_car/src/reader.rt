@@ -1,0 +1,69 @@
+//! The sections of a file, one by one, from a slice or any reader.
+
+ghost use Rattle.std.specs.Prelude.{◌≡◌, [], Some, true};
+ghost use Rattle.dagcbor_heads.specs.Inputs.{input_reading, not_lending};
+ghost use Rattle.dagcbor_heads.specs.Reading.{fresh_reading, default_steps};
+ghost use Rattle.dagcbor_car.specs.Sources.{section_stream, GivesSection, Begins};
+
+use crate::error::CarError;
+use crate::pull::{pull_header, pull_section};
+use crate::read_section::ReadSection;
+use dagcbor_heads::{Input, Read, SliceReader};
+use ipld_tree::Cid;
+use std::alloc::Global;
+use std::convert::Infallible;
+
+/// The sections of a file, one by one: at most one is in memory, and none where a slice lends them.
+/// After an error, and after the end, nothing more comes.
+#[derive(Drop)]
+pub struct CarReader<'de, R> {
+    alloc: Global,
+    input: Input<'de, R>,
+    done: bool,
+}
+
+/// The roots of a file, and the sections behind its header; or why there are none.
+pub type Begun<'de, R> = Result<(Vec<Cid>, CarReader<'de, R>), CarError<<R as Read>::Error>>;
+
+impl<'de> CarReader<'de, SliceReader<'de>> {
+    /// Reads the header of the file that the bytes are.
+    pub fn from_slice(alloc: Global, bytes: &'de [u8]) -> Begun<'de, SliceReader<'de>>
+        ensures { Begins (λ r. r) (fresh_reading (Some bytes.now) default_steps true []) result }
+    {
+        CarReader::begin(alloc, Input::Slice(SliceReader::new(bytes)))
+    }
+}
+
+impl<'de, R: Read> CarReader<'de, R> {
+    /// Reads the header of the file that the reader has.
+    pub fn new(alloc: Global, reader: R) -> Begun<'de, R>
+        ensures { Begins R.reading (not_lending (R.reading reader)) result }
+    {
+        CarReader::begin(alloc, Input::Reader(reader))
+    }
+
+    fn begin(alloc: Global, mut input: Input<'de, R>) -> Begun<'de, R>
+        ensures { Begins R.reading (input_reading R.reading input.entry) result }
+    {
+        let roots = pull_header(alloc, &mut input)?;
+        let sections = CarReader {
+            alloc,
+            input,
+            done: false,
+        };
+        Ok((roots, sections))
+    }
+
+    /// The next section. None at the end of the file.
+    pub fn next(&mut self) -> Option<Result<ReadSection<'de>, CarError<R::Error>>>
+        ensures { GivesSection (section_stream R.reading self.old) result
+            (section_stream R.reading self.new) }
+    {
+        if self.done {
+            return None;
+        }
+        let item = pull_section(self.alloc, &mut self.input).transpose();
+        self.done = !matches!(item, Some(Ok(_)));
+        item
+    }
+}

@@ -1,9 +1,12 @@
 //! Readers, sources, sinks and streams.
 
 mod depth;
+mod failing;
 mod heads;
 mod hostile;
 mod io;
+mod readers;
 mod states;
 mod streams;
 mod vectors;
+mod writers;

@@ -1,6 +1,6 @@
 //! Heads of DAG-CBOR items, and the readers, writers and errors below them.
 //!
-//! A list of three items begins, and its first is 1 (`src/tests/writers.rt`):
+//! A list of three items begins, and its first is 1 (`src/tests/writers.rt` of `dagcbor_devices`):
 //!
 //! ```rust
 //! push_head(&mut writer, 4, 3)?;
@@ -43,6 +43,3 @@ pub use read::{Read, ReadResult, Reference, SliceReader};
 pub use steps::{DEFAULT_STEPS, spend_step};
 pub use tally::Tally;
 pub use write::{BufWriter, Write, WriteResult};
-
-#[cfg(test)]
-mod tests;

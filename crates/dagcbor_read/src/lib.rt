@@ -1,6 +1,6 @@
 //! Reading values from DAG-CBOR.
 //!
-//! The examples here are taken from `src/tests/recipes.rt` of `serde_ipld_dagcbor`; `agree` and
+//! The examples here are taken from `src/tests/recipes.rt` of `uses`; `agree` and
 //! `is_told` are the tests' own, and fail where the answer is another:
 //!
 //! ```rust
@@ -35,6 +35,3 @@ pub use source::{from_reader, from_reader_once};
 pub use stream::{StreamDeserializer, iter_from_reader};
 pub use types::data::IgnoredAny;
 pub use whole::{from_slice, from_slice_with_depth};
-
-#[cfg(test)]
-mod tests;

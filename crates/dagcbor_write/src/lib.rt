@@ -1,6 +1,6 @@
 //! Writing values as DAG-CBOR.
 //!
-//! The examples here are taken from `src/tests/recipes.rt` of `serde_ipld_dagcbor`; `agree` is the
+//! The examples here are taken from `src/tests/recipes.rt` of `uses`; `agree` is the
 //! tests' own, and fails where the answer is another:
 //!
 //! ```rust
@@ -24,6 +24,3 @@ pub use serialize::Serialize;
 pub use serializer::Serializer;
 pub use structs::{Field, FieldRow, write_struct, write_struct_variant};
 pub use whole::{to_vec, to_writer};
-
-#[cfg(test)]
-mod tests;

@@ -49,7 +49,6 @@ pub use Rattle.dagcbor_read.specs.Enums
 pub use Rattle.dagcbor_read.specs.EnumViews
 pub use Rattle.dagcbor_read.specs.Whole
 pub use Rattle.dagcbor_read.specs.Streams
-
 -- of this crate
 pub mod RoundTrips
 pub mod Codec

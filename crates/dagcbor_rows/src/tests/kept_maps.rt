@@ -1,7 +1,7 @@
 //! Maps that are kept in one buffer.
 
-use crate::Serializer;
 use dagcbor_heads::{BufWriter, EncodeError, Message};
+use dagcbor_write::Serializer;
 use std::alloc::{AllocError, Global};
 use std::convert::Infallible;
 use std::test::Fail;

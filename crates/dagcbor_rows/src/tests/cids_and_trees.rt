@@ -1,5 +1,7 @@
-use crate::{ByteSlice, Bytes, Cid, CidError, Ipld, laws};
+//! CIDs and trees: their parts, copies, equality and laws.
+
 use arrayvec::ArrayVec;
+use ipld_tree::{ByteSlice, Bytes, Cid, CidError, Ipld, laws};
 use std::alloc::{AllocError, Global};
 use std::collections::BTreeMap;
 

@@ -1,11 +1,11 @@
 //! Bytes, heads and payloads through buffered sources.
 
-use crate::tests::devices::Source;
-use crate::{
+use crate::tests::failing::Source;
+use arrayvec::ArrayVec;
+use dagcbor_heads::{
     DecodeError, Input, IoReader, IoRefReader, Len, Read, is_at_end, peek_one, pull_head, pull_one,
     pull_payload, pull_short_payload,
 };
-use arrayvec::ArrayVec;
 use std::borrow::CowSlice;
 use std::io::ErrorKind;
 use std::test::Fail;

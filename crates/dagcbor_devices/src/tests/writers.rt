@@ -1,7 +1,7 @@
 //! Heads onto devices.
 
-use crate::tests::devices::Sink;
-use crate::{EncodeError, IoRefWriter, IoWriter, Write, push_head};
+use crate::tests::failing::Sink;
+use dagcbor_heads::{EncodeError, IoRefWriter, IoWriter, Write, push_head};
 use std::io::ErrorKind;
 use std::test::Fail;
 

@@ -194,8 +194,7 @@ static PyObject *next_list(Reader *reader, Py_ssize_t count) {
     PyObject *list = PyList_New(count);
     for (Py_ssize_t i = 0; list && i < count; i++) {
         PyObject *item = next_value(reader);
-        if (item) PyList_SetItem(list, i, item);
-        else Py_CLEAR(list);
+        if (!item || PyList_SetItem(list, i, item) < 0) Py_CLEAR(list);
     }
     return list;
 }
@@ -289,11 +288,8 @@ static PyObject *loads_bytes(State *state, PyObject *block) {
         if (!(tape = room_for(room))) return NULL;
     }
     if (code >= 0) code = dagcbor_tape(bytes, length, tape, room, &needed);
-    if (code >= 0) {
-        value = value_of(state, (const char *)bytes, length, tape);
-    } else {
-        refuse_code(state, code, block);
-    }
+    if (code >= 0) value = value_of(state, (const char *)bytes, length, tape);
+    else refuse_code(state, code, block);
     if (tape != few) PyMem_Free(tape);
     return value;
 }

@@ -1,6 +1,5 @@
 """A writer of blocks in Python alone, written apart from the library, and random data for it."""
 
-import random
 import struct
 
 from dagcbor import CID

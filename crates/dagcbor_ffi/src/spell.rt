@@ -10,31 +10,8 @@ ghost use Rattle.dagcbor_ffi.specs.Answers.{IsCheckAnswer, IsSpellAnswer};
 use crate::code::code_of;
 use crate::links::PackedLinks;
 use crate::tape::Token;
+use dagcbor_heads::head_bytes;
 use dagcbor_items::check_slice;
-
-/// The bytes of the shortest head, and zeros behind them; and how many its bytes are.
-#[tactic(auto, unfolding(dagcbor_heads::specs::Head::head))]
-fn head_bytes(major: u8, argument: u64) -> ([u8; 9], usize)
-    requires { major ≤ 7 }
-    ensures count { result.1 ≤ 9 }
-    ensures bytes { take result.1 result.0 ≡ head major argument }
-{
-    let first = 32 * major;
-    if argument < 24 {
-        ([first + argument as u8, 0, 0, 0, 0, 0, 0, 0, 0], 1)
-    } else if argument < 1 << 8 {
-        ([first + 24, argument as u8, 0, 0, 0, 0, 0, 0, 0], 2)
-    } else if argument < 1 << 16 {
-        let [a, b] = (argument as u16).to_be_bytes();
-        ([first + 25, a, b, 0, 0, 0, 0, 0, 0], 3)
-    } else if argument < 1 << 32 {
-        let [a, b, c, d] = (argument as u32).to_be_bytes();
-        ([first + 26, a, b, c, d, 0, 0, 0, 0], 5)
-    } else {
-        let [a, b, c, d, e, f, g, h] = argument.to_be_bytes();
-        ([first + 27, a, b, c, d, e, f, g, h], 9)
-    }
-}
 
 fn put_head(packed: &mut PackedLinks<'_>, major: u8, argument: u64)
     requires { major ≤ 7 }

@@ -6,9 +6,10 @@ ghost use Rattle.dagcbor_heads.specs.Written.{Writes, WantsMemoryOnlyIf};
 
 use crate::write::{Write, WriteResult};
 
-/// The bytes of the shortest head, and zeros behind them; and how many its bytes are.
+/// The bytes of the shortest head (RFC 8949, section 3) at the front, zeros behind them, and how many
+/// its bytes are.
 #[tactic(auto, unfolding(crate::specs::Head::head))]
-fn head_bytes(major: u8, argument: u64) -> ([u8; 9], usize)
+pub fn head_bytes(major: u8, argument: u64) -> ([u8; 9], usize)
     requires { major ≤ 7 }
     ensures count { result.1 ≤ 9 }
     ensures bytes { take result.1 result.0 ≡ head major argument }

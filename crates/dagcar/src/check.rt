@@ -107,11 +107,7 @@ fn is_none(names: &[Cid]) -> bool
 }
 
 /// Writes the lines of these names. Whether there is none.
-fn say_list<W: Write>(
-    alloc: Global,
-    names: &[Cid],
-    output: &mut W,
-) -> Result<bool, ToolError>
+fn say_list<W: Write>(alloc: Global, names: &[Cid], output: &mut W) -> Result<bool, ToolError>
     ensures { SaysList names.now (W.contents output.old) result (W.contents output.new) }
 {
     let text = missing_text(alloc, names)?;
@@ -120,11 +116,7 @@ fn say_list<W: Write>(
 }
 
 /// Writes the roots and the links that lead nowhere. Whether there is none.
-fn say_missing<W: Write>(
-    alloc: Global,
-    check: CarCheck,
-    output: &mut W,
-) -> Result<bool, ToolError>
+fn say_missing<W: Write>(alloc: Global, check: CarCheck, output: &mut W) -> Result<bool, ToolError>
     ensures { SaysMissing check (W.contents output.old) result (W.contents output.new) }
 {
     match check.missing(alloc) {

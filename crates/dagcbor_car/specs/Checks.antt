@@ -74,8 +74,8 @@ abbrev pub Steps : {S E : Type 0} → (S → List Told → Type 0) → Reading �
     → Result Bool (CarError E) → Reading → CarCheck → S → Type 0
 Steps holds old check before result new next after = MatchResult result
     (λ more. MatchBool more
-        ((s : Section) × TakesSectionBytes old s new × TellsVerdict holds s check before next after)
-        (FindsEnd old new × (next ≡ check) × (after ≡ before)))
+    ((s : Section) × TakesSectionBytes old s new × TellsVerdict holds s check before next after)
+    (FindsEnd old new × (next ≡ check) × (after ≡ before)))
     (λ e. StepRefused old before e new after)
 
 -- ---- the whole

@@ -44,10 +44,7 @@ impl Serialize for Header<'_> {
 }
 
 /// The roots of the header at the front, and the bytes behind it.
-pub fn split_header(
-    alloc: Global,
-    bytes: &[u8],
-) -> Result<(Vec<Cid>, &[u8]), CarError<Infallible>>
+pub fn split_header(alloc: Global, bytes: &[u8]) -> Result<(Vec<Cid>, &[u8]), CarError<Infallible>>
     ensures { MatchResult result
         (λ p. SplitsHeader bytes.now (forms p.0.items) p.1.now)
         (λ e. HeaderRefused e bytes.now) }
@@ -85,11 +82,7 @@ fn read_block<E: Drop>(alloc: Global, bytes: &[u8]) -> Result<Vec<Cid>, CarError
 }
 
 /// Whether the bytes are the header of these roots.
-fn is_header_of<E: Drop>(
-    alloc: Global,
-    roots: &[Cid],
-    bytes: &[u8],
-) -> Result<bool, CarError<E>>
+fn is_header_of<E: Drop>(alloc: Global, roots: &[Cid], bytes: &[u8]) -> Result<bool, CarError<E>>
     ensures { MatchResult result
         (λ is_header. IsTrue is_header ↔ IsSpelling bytes.now (header_tree (forms roots.now)))
         (λ e. e ≡ OutOfMemory) }

@@ -72,7 +72,8 @@ fn great_lengths_reserve_nothing(rt: HostRuntime) -> Result<(), Fail> {
         b"\xff\xff\xff\xff\xff\xff\xff\xff\xff\x01".as_slice(),
     ] {
         let file = joined(alloc, &[EMPTY, length, b"\x01\x71\x00\x00"])?;
-        let Ok((_roots, mut sections)) = CarReader::new(alloc, IoReader::new(file.as_slice())) else {
+        let Ok((_roots, mut sections)) = CarReader::new(alloc, IoReader::new(file.as_slice()))
+        else {
             return Err(Fail::new("no header"));
         };
         assert!(rt; matches!(sections.next(), Some(Err(CarError::Truncated))));

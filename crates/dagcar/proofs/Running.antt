@@ -1,6 +1,6 @@
 -- What a run of a command says, where its input tells its bytes.
 use Rattle.std.proofs.Common.{◌≡◌, inl, inr, ℕ, List, [], refl, sym, ap, ◌∙◌, subst, get_or, arith, Bool}
-use Rattle.std.specs.Prelude.{Option, None, Some, Result, Ok, Err, IfSome, MatchResult}
+use Rattle.std.specs.Prelude.{Option, None, Some, Result, Ok, Err, IfSome}
 use Rattle.dagcar.specs.Answers.{SaysLine, SaysBlock}
 use Rattle.dagcar.specs.Commands.{IsCommand}
 use Rattle.dagcar.specs.declared.line.ToolError.{ToolError}

@@ -1,6 +1,6 @@
 -- What was said of a file so far, and how a run ends.
 use Rattle.std.proofs.Common.{◌≡◌, ◌⊎◌, inl, inr, ℕ, List, [], ◌∷◌, ◌++◌, Bool, true, false, ◌&&◌, refl, sym, ap, ◌∙◌, subst, append_assoc, append-nil}
-use Rattle.std.specs.Prelude.{◌↔◌, IsTrue, Option, Some, Result, Ok, Err, MatchResult, IsErrAnd, Vec, OnOk}
+use Rattle.std.specs.Prelude.{◌↔◌, IsTrue, Option, Some, Result, Ok, Err, MatchResult, IsErrAnd, Vec}
 use Rattle.std.specs.List.{flat_map}
 use Rattle.std.specs.Io.KnownBytes.{Appends}
 use Rattle.std.proofs.KnownBytes.{Appends-nil, Appends-trans}

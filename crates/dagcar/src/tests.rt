@@ -1,0 +1,217 @@
+//! The program's lines, words and faults. The expected lines are made by another program.
+
+use super::*;
+use std::alloc::Global;
+use std::io::{BufRead, Read, Write};
+use std::test::Fail;
+
+/// Shows so many bytes a fill, and fails in this way at one of its fills.
+#[derive(Drop)]
+struct Pieces<'a> {
+    bytes: &'a [u8],
+    size: usize,
+    fills: usize,
+    faulty: usize,
+    fault: ErrorKind,
+}
+
+impl<'a> Pieces<'a> {
+    fn new(bytes: &'a [u8], size: usize, faulty: usize, fault: ErrorKind) -> Pieces<'a> {
+        Pieces {
+            bytes,
+            size,
+            fills: 0,
+            faulty,
+            fault,
+        }
+    }
+}
+
+impl Read for Pieces<'_> {
+    fn read(&mut self, _buf: &mut [u8]) -> io::Result<usize> {
+        Ok(0)
+    }
+}
+
+impl BufRead for Pieces<'_> {
+    fn fill_buf(&mut self) -> io::Result<&[u8]> {
+        self.fills = self.fills.saturating_add(1);
+        if self.fills == self.faulty {
+            return Err(io::Error::from(self.fault));
+        }
+        let size = self.size.min(self.bytes.len());
+        Ok(&self.bytes[..size])
+    }
+
+    fn consume(&mut self, amount: usize) {
+        if amount <= self.bytes.len() {
+            self.bytes = &self.bytes[amount..];
+        }
+    }
+}
+
+/// Takes one byte a call. Where it is full, it takes none, or fails.
+#[derive(Drop)]
+struct Stingy {
+    held: Vec<u8>,
+    room: usize,
+    fault: Option<ErrorKind>,
+}
+
+impl Stingy {
+    fn new(alloc: Global, room: usize, fault: Option<ErrorKind>) -> Stingy {
+        Stingy {
+            held: Vec::new(alloc),
+            room,
+            fault,
+        }
+    }
+}
+
+impl Write for Stingy {
+    fn write(&mut self, buf: &[u8]) -> io::Result<usize> {
+        if self.held.len() >= self.room {
+            return match self.fault {
+                Some(fault) => Err(io::Error::from(fault)),
+                None => Ok(0),
+            };
+        }
+        match buf {
+            [] => Ok(0),
+            [first, ..] => {
+                self.held.push(*first)?;
+                Ok(1)
+            }
+        }
+    }
+
+    fn flush(&mut self) -> io::Result<()> {
+        Ok(())
+    }
+}
+
+/// A file whose root links to its second section; the third is of another codec.
+const GOOD: &[u8] =
+    b"\x3a\xa2\x65\x72\x6f\x6f\x74\x73\x81\xd8\x2a\x58\x25\x00\x01\x71\x12\x20\x5e\x8a\xd8\xa0\x65\xee\x39\xe8\xbf\xf2\xf8\xa7\xbb\xc3\x4b\x8a\xdf\xd0\x30\xea\x99\xf4\x7f\x5a\x44\x81\x04\x86\x8f\xfb\xca\x30\x67\x76\x65\x72\x73\x69\x6f\x6e\x01\x4e\x01\x71\x12\x20\x5e\x8a\xd8\xa0\x65\xee\x39\xe8\xbf\xf2\xf8\xa7\xbb\xc3\x4b\x8a\xdf\xd0\x30\xea\x99\xf4\x7f\x5a\x44\x81\x04\x86\x8f\xfb\xca\x30\x81\xd8\x2a\x58\x25\x00\x01\x71\x12\x20\x4a\xbc\x31\x13\x7c\xe7\x38\xd9\xac\xeb\x8a\x1d\x1d\x51\xf1\x5c\xad\x42\xc2\xb0\x8d\xcb\x7e\xd1\x79\xf7\x37\xa1\x94\xb3\x55\xe7\x28\x01\x71\x12\x20\x4a\xbc\x31\x13\x7c\xe7\x38\xd9\xac\xeb\x8a\x1d\x1d\x51\xf1\x5c\xad\x42\xc2\xb0\x8d\xcb\x7e\xd1\x79\xf7\x37\xa1\x94\xb3\x55\xe7\x83\x01\x02\x03\x27\x01\x55\x12\x20\x2c\x26\xb4\x6b\x68\xff\xc6\x8f\xf9\x9b\x45\x3c\x1d\x30\x41\x34\x13\x42\x2d\x70\x64\x83\xbf\xa0\xf9\x8a\x5e\x88\x62\x66\xe7\xae\x66\x6f\x6f";
+
+const GOOD_LINES: &[u8] =
+    b"017112205e8ad8a065ee39e8bff2f8a7bbc34b8adfd030ea99f47f5a448104868ffbca30 ok list\n017112204abc31137ce738d9aceb8a1d1d51f15cad42c2b08dcb7ed179f737a194b355e7 ok list\n015512202c26b46b68ffc68ff99b453c1d30413413422d706483bfa0f98a5e886266e7ae not read\n";
+
+/// The ends of the header and of the sections of `GOOD`, and how long the lines are there.
+const ENDS: [(usize, usize); 4] = [(59, 0), (138, 81), (179, 162), (219, 244)];
+
+/// A link twice that leads nowhere, keys out of order, other bytes, and another hash function.
+const MIXED: &[u8] =
+    b"\x3a\xa2\x65\x72\x6f\x6f\x74\x73\x81\xd8\x2a\x58\x25\x00\x01\x71\x12\x20\xbb\x75\xe7\xf6\x62\x9b\xa2\xc6\xd8\x24\xb2\xdf\x32\x88\x72\xdc\x5d\xcf\x03\x48\xe6\xb5\x0e\xed\x68\xe1\xc7\xa0\x0e\x5b\x0c\xe1\x67\x76\x65\x72\x73\x69\x6f\x6e\x01\xa0\x01\x01\x71\x12\x20\xbb\x75\xe7\xf6\x62\x9b\xa2\xc6\xd8\x24\xb2\xdf\x32\x88\x72\xdc\x5d\xcf\x03\x48\xe6\xb5\x0e\xed\x68\xe1\xc7\xa0\x0e\x5b\x0c\xe1\x83\xd8\x2a\x58\x25\x00\x01\x71\x12\x20\x4a\xbc\x31\x13\x7c\xe7\x38\xd9\xac\xeb\x8a\x1d\x1d\x51\xf1\x5c\xad\x42\xc2\xb0\x8d\xcb\x7e\xd1\x79\xf7\x37\xa1\x94\xb3\x55\xe7\xd8\x2a\x58\x25\x00\x01\x71\x12\x20\xc2\x79\x68\x8c\xf6\x7b\xfa\x45\x09\x0d\x10\xaf\x80\x85\xb0\x2b\x16\xe6\x63\xce\x8f\x4a\x64\x6d\xf8\xea\xa1\x8e\x6e\x4f\x04\x8b\xd8\x2a\x58\x25\x00\x01\x71\x12\x20\xc2\x79\x68\x8c\xf6\x7b\xfa\x45\x09\x0d\x10\xaf\x80\x85\xb0\x2b\x16\xe6\x63\xce\x8f\x4a\x64\x6d\xf8\xea\xa1\x8e\x6e\x4f\x04\x8b\x28\x01\x71\x12\x20\x4a\xbc\x31\x13\x7c\xe7\x38\xd9\xac\xeb\x8a\x1d\x1d\x51\xf1\x5c\xad\x42\xc2\xb0\x8d\xcb\x7e\xd1\x79\xf7\x37\xa1\x94\xb3\x55\xe7\x83\x01\x02\x03\x2b\x01\x71\x12\x20\x36\x84\xf1\x97\xac\x45\x14\xab\x69\xc1\x1b\x98\x76\x1f\x2c\x8c\x1b\xeb\xb5\x68\xf8\x97\xb4\xbe\xb5\x62\xe7\x4f\xa6\xfa\x17\x27\xa2\x61\x62\x01\x61\x61\x02\x27\x01\x55\x12\x20\x2c\x26\xb4\x6b\x68\xff\xc6\x8f\xf9\x9b\x45\x3c\x1d\x30\x41\x34\x13\x42\x2d\x70\x64\x83\xbf\xa0\xf9\x8a\x5e\x88\x62\x66\xe7\xae\x66\x6f\x70\x06\x01\x55\x13\x01\x78\x78";
+
+const MIXED_LINES: &[u8] =
+    b"01711220bb75e7f6629ba2c6d824b2df328872dc5dcf0348e6b50eed68e1c7a00e5b0ce1 ok list\n017112204abc31137ce738d9aceb8a1d1d51f15cad42c2b08dcb7ed179f737a194b355e7 ok list\n017112203684f197ac4514ab69c11b98761f2c8c1bebb568f897b4beb562e74fa6fa1727 refused UnorderedKey\n015512202c26b46b68ffc68ff99b453c1d30413413422d706483bfa0f98a5e886266e7ae other bytes\n0155130178 not verified\nmissing 01711220c279688cf67bfa45090d10af8085b02b16e663ce8f4a646df8eaa18e6e4f048b\n";
+
+/// The name of the list of 1, 2 and 3.
+const NUMBERS_LINE: &[u8] =
+    b"017112204abc31137ce738d9aceb8a1d1d51f15cad42c2b08dcb7ed179f737a194b355e7\n";
+
+fn run_words(
+    alloc: Global,
+    words: &[&str],
+    input: &mut impl BufRead,
+    output: &mut impl Write,
+    errors: &mut impl Write,
+) -> Result<u8, Fail> {
+    let mut args = Vec::new(alloc);
+    for word in words {
+        args.push(String::from_str(alloc, word)?)?;
+    }
+    Ok(run_command(alloc, &args, input, output, errors))
+}
+
+/// What a run of one word gives: its status, and what it wrote and told.
+fn run_word(alloc: Global, word: &str, bytes: &[u8]) -> Result<(u8, Vec<u8>, Vec<u8>), Fail> {
+    let mut input = bytes;
+    let (mut output, mut errors) = (Vec::new(alloc), Vec::new(alloc));
+    let status = run_words(alloc, &[word], &mut input, &mut output, &mut errors)?;
+    Ok((status, output, errors))
+}
+
+#[test]
+fn files_are_checked(rt: HostRuntime) -> Result<(), Fail> {
+    let alloc = rt.alloc();
+    for (file, status, lines) in [(GOOD, 0, GOOD_LINES), (MIXED, 1, MIXED_LINES)] {
+        let (ended, written, told) = run_word(alloc, "check", file)?;
+        assert_eq!(rt; written.as_slice(), lines);
+        assert_eq!(rt; ended, status);
+        assert!(rt; told.is_empty());
+    }
+    Ok(())
+}
+
+#[test]
+fn cut_files_are_told(rt: HostRuntime) -> Result<(), Fail> {
+    let alloc = rt.alloc();
+    for end in 0..GOOD.len() {
+        let (ended, written, _told) = run_word(alloc, "check", &GOOD[..end])?;
+        assert_eq!(rt; ended, 1, "{end}");
+        let is_whole = ENDS.iter().any(|e| e.0 == end);
+        assert_eq!(rt;
+            written.ends_with(b"refused Truncated\n".as_slice()),
+            !is_whole,
+            "{end}"
+        );
+    }
+    Ok(())
+}
+
+#[test]
+fn blocks_are_named_and_judged(rt: HostRuntime) -> Result<(), Fail> {
+    let alloc = rt.alloc();
+    let numbers = b"\x83\x01\x02\x03".as_slice();
+    let rows: [(&str, &[u8], u8, &[u8]); 4] = [
+        ("name", numbers, 0, NUMBERS_LINE),
+        ("one", numbers, 0, b"ok list\n"),
+        ("name", b"\x18\x17", 1, b"refused NonMinimal\n"),
+        ("one", b"", 1, b"refused Eof\n"),
+    ];
+    for (word, bytes, status, lines) in rows {
+        let (ended, written, _told) = run_word(alloc, word, bytes)?;
+        assert_eq!(rt; written.as_slice(), lines);
+        assert_eq!(rt; ended, status);
+    }
+    Ok(())
+}
+
+#[test]
+fn other_words_are_refused(rt: HostRuntime) -> Result<(), Fail> {
+    let alloc = rt.alloc();
+    let (ended, written, told) = run_word(alloc, "links", GOOD)?;
+    assert_eq!(rt; ended, 2);
+    assert!(rt; written.is_empty());
+    assert_eq!(rt;
+        told.as_slice(),
+        b"usage: dagcar check|name|one\n".as_slice()
+    );
+    Ok(())
+}
+
+#[test]
+fn faults_are_told(rt: HostRuntime) -> Result<(), Fail> {
+    let alloc = rt.alloc();
+    let mut errors = Vec::new(alloc);
+    // The bytes come one a fill. What stands before the fault is out in whole lines.
+    for fill in [2, 70, 160, 200] {
+        errors.clear();
+        let mut output = Vec::new(alloc);
+        let mut input = Pieces::new(GOOD, 1, fill, ErrorKind::Other);
+        let ended = run_words(alloc, &["check"], &mut input, &mut output, &mut errors)?;
+        assert_eq!(rt; ended, 2);
+        assert_eq!(rt; errors.as_slice(), b"dagcar: input failed\n".as_slice());
+        assert!(rt; GOOD_LINES.starts_with(output.as_slice()));
+        assert!(rt; output.is_empty() || output.ends_with(b"\n".as_slice()));
+    }
+    errors.clear();
+    let mut full = Stingy::new(alloc, 90, None);
+    let ended = run_words(alloc, &["check"], &mut &GOOD[..], &mut full, &mut errors)?;
+    assert_eq!(rt; ended, 2);
+    assert_eq!(rt; errors.as_slice(), b"dagcar: output failed\n".as_slice());
+    assert_eq!(rt; full.held.as_slice(), &GOOD_LINES[..90]);
+    Ok(())
+}

@@ -1,8 +1,9 @@
 //! The caller of docs/CALLING.md, word for word.
 
-ghost use Rattle.std.specs.Prelude.{◌⊎◌, IfOk, IfErr, List, ℕ};
+ghost use Rattle.std.specs.Prelude.{◌≡◌, ◌⊎◌, IfOk, IfErr, List, ℕ};
+ghost use Rattle.serde_ipld_dagcbor.specs.DecodeError.TheVariants.{OutOfMemory};
 ghost use Rattle.serde_ipld_dagcbor.specs.Reading.{default_steps};
-ghost use Rattle.serde_ipld_dagcbor.specs.Whole.{IsWhole, HoldsNoValue, IsReadExcuse};
+ghost use Rattle.serde_ipld_dagcbor.specs.Whole.{IsWhole, HoldsNoValue};
 ghost use Rattle.uses.specs.Note.{note_shape};
 
 use crate::note::Note;
@@ -14,7 +15,7 @@ use std::convert::Infallible;
 /// aside.
 pub fn year_of(alloc: Global, block: &[u8]) -> Result<u16, DecodeError<Infallible>>
     ensures value { IfOk result (λ year. (text : List ℕ) × IsWhole note_shape default_steps block.now (year, (text, tt))) }
-    ensures refused { IfErr result (λ e. IsReadExcuse e ⊎ HoldsNoValue note_shape default_steps block.now) }
+    ensures refused { IfErr result (λ e. (e ≡ OutOfMemory) ⊎ HoldsNoValue note_shape default_steps block.now) }
 {
     let note: Note = from_slice(alloc, block)?;
     Ok(note.year)

@@ -1,8 +1,9 @@
-use Rattle.std.proofs.Common.{sym, subst}
+use Rattle.std.proofs.Common.{◌≡◌, sym, subst}
 use Rattle.std.specs.Prelude.{◌⊎◌}
-use Rattle.serde_ipld_dagcbor.specs.Whole.{IsWhole, HoldsNoValue, IsReadExcuse, OfWhole}
+use Rattle.serde_ipld_dagcbor.specs.Whole.{IsWhole, HoldsNoValue, OfWhole}
 use Rattle.dagcbor_blocks.proofs.Keeping.{block_found, no_block_found, digest_of_found, not_got}
 use Rattle.serde_ipld_dagcbor.specs.Reading.{default_steps}
+use Rattle.serde_ipld_dagcbor.specs.DecodeError.TheVariants.{OutOfMemory}
 use Rattle.dagcbor_blocks.proofs.store.Blocks.get.Goals as goal
 
 pub returns-in-None : goal.returns-in-None
@@ -21,4 +22,4 @@ returns-in-Err g c =
     let found = sym c.in-Some.ensures.value in
     not_got g.T.Shown.shape c.args.name.now _ c.in-Some.block.now.items c.in-Err.error c.of_decoding.result
     (block_found c.args.name.now c.args.self.now.blocks.entries c.in-Some.block.now found, digest_of_found c.args.name.now c.args.self.now.blocks.entries c.in-Some.block.now found c.args.self.now.sound)
-    (subst (λ b. (IsReadExcuse c.in-Err.error ⊎ HoldsNoValue g.T.Shown.shape default_steps b) × OfWhole c.in-Err.error) c.deref.ensures.value (c.in-Err.ensures.refused, c.in-Err.ensures.never)) c.of_decoding.ensures
+    (subst (λ b. ((c.in-Err.error ≡ OutOfMemory) ⊎ HoldsNoValue g.T.Shown.shape default_steps b) × OfWhole c.in-Err.error) c.deref.ensures.value (c.in-Err.ensures.refused, c.in-Err.ensures.never)) c.of_decoding.ensures

@@ -14,9 +14,9 @@ parts p = (p.0, (p.1, tt))
 pub returns-in_err-n-in-Alpha : goal.returns-in_err-n-in-Alpha
 returns-in_err-n-in-Alpha g c = as_refusal _ _ _ _ c.from_residual-in_err-n-in-Alpha.ensures.1
     (held_refused color_variants (λ p. is_alpha p.0 p.1.0) two_numbers g.row.R-Error.Denot parts (false ≡ true) (enum_state c.args.variant) (de_state g.R.Read.reading c.args.de.now) (de_state g.R.Read.reading c.newtype_variant-in-Alpha.new.de) (codes "Alpha") _
-    c.in-Alpha.is refl (λ t. refl) (λ t. refl) (λ x. x) (λ lends x. x) c.requires.sound c.in_err-n-in-Alpha.ensures)
+    c.in-Alpha.is refl (λ t. refl) (λ t. refl) (λ x. x) (λ lends x. x) c.requires.sound c.in_err-n-in-Alpha.ensures.part)
 
 pub returns-in_err-newtype_variant-in-Other : goal.returns-in_err-newtype_variant-in-Other
 returns-in_err-newtype_variant-in-Other g c = as_refusal _ _ _ _ c.from_residual-in_err-newtype_variant-in-Other.ensures.1
     (held_refused color_variants is_other (leaf (view_unsigned (2 ^ 64))) g.row.R-Error.Denot (λ n. n) (false ≡ true) (enum_state c.args.variant) (de_state g.R.Read.reading c.args.de.now) (de_state g.R.Read.reading c.newtype_variant.new.de) (codes "Other") _
-    c.in-Other.is refl (λ t. refl) (λ t. refl) (λ x. x) (λ lends x. x) c.requires.sound c.in_err-newtype_variant-in-Other.ensures)
+    c.in-Other.is refl (λ t. refl) (λ t. refl) (λ x. x) (λ lends x. x) c.requires.sound c.in_err-newtype_variant-in-Other.ensures.part)

@@ -2,7 +2,7 @@
 //! its bytes come.
 
 use crate::tests::streams::is_split;
-use dagcbor_testing::{is_written_again, joined};
+use dagcbor_testing::is_written_again;
 use std::alloc::{AllocError, Global};
 use std::test::Fail;
 
@@ -58,6 +58,15 @@ const LONG: [(&[u8], usize); 3] = [
     (b"\x5a\x00\x01\x11\x70", 70_000),
 ];
 
+/// A byte string of this head and so many bytes.
+fn long_block(alloc: Global, head: &[u8], length: usize) -> Result<Vec<u8>, AllocError> {
+    let mut block = Vec::from_slice(alloc, head)?;
+    for _ in 0..length {
+        block.push(0xa5)?;
+    }
+    Ok(block)
+}
+
 /// All vectors, the long ones last.
 fn all(alloc: Global) -> Result<Vec<Vec<u8>>, AllocError> {
     let mut blocks = Vec::new(alloc);
@@ -65,8 +74,7 @@ fn all(alloc: Global) -> Result<Vec<Vec<u8>>, AllocError> {
         blocks.push(Vec::from_slice(alloc, vector)?)?;
     }
     for (head, length) in LONG {
-        let payload = vec![in alloc; 0xa5; length]?;
-        blocks.push(joined(alloc, &[head, &payload])?)?;
+        blocks.push(long_block(alloc, head, length)?)?;
     }
     Ok(blocks)
 }

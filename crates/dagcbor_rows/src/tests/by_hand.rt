@@ -9,6 +9,7 @@ mod one;
 mod one_by_loop;
 mod second;
 mod tagged;
+mod variant_fields;
 
 use dagcbor_testing::{LINK, agree, answers, is_told, joined, writes};
 use data_enum::DataEnum;

@@ -9,10 +9,10 @@ ghost use Rattle.dagcbor_rows.specs.declared.tests.by_hand.data_enum.DataEnum.Th
 ghost use Rattle.dagcbor_rows.specs.declared.tests.by_hand.data_enum.DataEnum.TheVariants.{B};
 ghost use Rattle.dagcbor_rows.specs.declared.tests.by_hand.data_enum.DataEnum.TheVariants.{C};
 
+use crate::tests::by_hand::variant_fields::read_variant_fields;
 use serde_ipld_dagcbor::{
     DecodeError, Deserialize, Deserializer, EnumAccessor, Field, Read, ReadResult, Required,
-    Serialize, Serializer, Shown, Variants, Write, WriteResult, read_enum, read_struct_variant,
-    write_struct_variant,
+    Serialize, Serializer, Shown, Variants, Write, WriteResult, read_enum, write_struct_variant,
 };
 use std::alloc::Global;
 
@@ -76,7 +76,7 @@ impl<'de> Variants<'de> for DataEnum {
                 Ok(DataEnum::B(flag, n))
             }
             "C" => {
-                let (Required(x), (Required(y), ())) = read_struct_variant(
+                let (Required(x), (Required(y), ())) = read_variant_fields(
                     alloc,
                     variant,
                     &["x", "y"],

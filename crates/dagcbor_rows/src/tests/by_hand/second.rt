@@ -8,9 +8,10 @@ ghost use Rattle.serde_ipld_dagcbor.specs.Trees.{field, variant_tree};
 ghost use Rattle.dagcbor_rows.specs.Second.{SecondView, second_variants, second_shape};
 ghost use Rattle.dagcbor_rows.specs.declared.tests.by_hand.second.Second.TheVariants.{Data};
 
+use crate::tests::by_hand::variant_fields::read_variant_fields;
 use serde_ipld_dagcbor::{
     DecodeError, Deserialize, Deserializer, EnumAccessor, Read, ReadResult, Required, Serialize,
-    Serializer, Shown, Variants, Write, WriteResult, read_enum, read_struct_variant,
+    Serializer, Shown, Variants, Write, WriteResult, read_enum,
 };
 use std::alloc::Global;
 
@@ -79,7 +80,7 @@ impl<'de> Variants<'de> for Second {
     ) -> ReadResult<Second, R> {
         match name {
             "Data" => {
-                let (Required(b), (Required(abc), (Required(a), ()))) = read_struct_variant(
+                let (Required(b), (Required(abc), (Required(a), ()))) = read_variant_fields(
                     alloc,
                     variant,
                     &["b", "abc", "a"],

@@ -1,18 +1,21 @@
 #!/usr/bin/env python3
 """Runs the gate, and says what each crate cost it: processor seconds of its proof, of its tests', of its must-fail edits.
 
-    bench/gate.py [WORDS]    runs `rt ci WORDS` (--anew proves all, whatever earlier runs kept), and prints a table behind what it prints
+    bench/gate.py [WORDS]    runs `rt ci WORDS` (--anew proves all, whatever earlier runs kept), and prints two tables behind what it
+                             prints: what each crate cost, with the minute at which each part of it ended, and the dearest edits
 
 Twice a second it looks at the processes below that run, so it misses up to half a second of each; the last line has the
 whole, as the system counts it. "seed" is the check of a crate that its edits begin with. Linux alone: it reads /proc.
 Nothing else should run on the machine."""
 
 import os
+import pathlib
 import resource
 import subprocess
 import sys
 import time
 
+ROOT = pathlib.Path(__file__).resolve().parent.parent
 KINDS = ["proof", "tests", "seed", "edits", "other"]
 TICK = os.sysconf("SC_CLK_TCK")
 
@@ -42,7 +45,7 @@ def below(root):
 
 
 def what_of(pid):
-    """The crate that a process checks, and what for; none where it is no prover."""
+    """The crate that a process checks, what for, and the number of the edit; none where it is no prover."""
     try:
         with open(f"/proc/{pid}/cmdline", "rb") as file:
             words = file.read().decode(errors="replace").split("\0")
@@ -54,15 +57,17 @@ def what_of(pid):
     crate = words[words.index("--crate-name") + 1]
     if "/rt-edit-" in folder:
         kept = words[words.index("--incremental") + 1] if "--incremental" in words else ""
-        return crate, "seed" if kept.endswith("/seed") else "edits"
+        number = kept.rpartition("/")[2]
+        return (crate, "seed", None) if number == "seed" else (crate, "edits", int(number) if number.isdigit() else None)
     if "check" not in words[:2] and "build" not in words[:2]:
-        return crate, "other"
-    return crate, "tests" if "--test" in words else "proof"
+        return crate, "other", None
+    return crate, "tests" if "--test" in words else "proof", None
 
 
 def watch(words):
-    """The status of the run, and the seconds of each process by what it did."""
-    seconds, names = {}, {}
+    """The status of the run; the seconds of each crate's parts, and when they ended; and those of each edit."""
+    seconds, names, ends = {}, {}, {}
+    began = time.time()
     run = subprocess.Popen(words)
     while run.poll() is None:
         for pid, _, start, spent in below(run.pid):
@@ -70,23 +75,37 @@ def watch(words):
             if names.get(key) is None:
                 names[key] = what_of(pid)
             seconds[key] = spent
+            if names[key]:
+                ends[names[key][:2]] = (time.time() - began) / 60
         time.sleep(0.5)
-    costs = {}
+    costs, edits = {}, {}
     for key, spent in seconds.items():
-        crate, kind = names.get(key) or ("", "other")
+        crate, kind, number = names.get(key) or ("", "other", None)
         costs.setdefault(crate, dict.fromkeys(KINDS, 0.0))[kind] += spent
-    return run.returncode, costs
+        if kind == "edits":
+            edits[crate, number] = edits.get((crate, number), 0.0) + spent
+    return run.returncode, costs, ends, edits
+
+
+def name_of_edit(crate, number):
+    files = sorted((ROOT / "crates" / crate / "must-fail").glob("*.edit"))
+    return files[number].stem if number is not None and number < len(files) else "tried from nothing"
 
 
 def main(words):
     start = time.time()
-    status, costs = watch(["rt", "ci", *words])
+    status, costs, ends, edits = watch(["rt", "ci", *words])
     spent = resource.getrusage(resource.RUSAGE_CHILDREN)
-    print("\n| Crate | " + " | ".join(KINDS) + " |\n|" + "---|" * (len(KINDS) + 1))
+    print("\nProcessor seconds, and behind an @ the minute at which that part ended.\n")
+    print("| Crate | " + " | ".join(KINDS) + " |\n|" + "---|" * (len(KINDS) + 1))
     for crate, row in sorted(costs.items()):
-        print(f"| {crate or 'all else'} | " + " | ".join(f"{row[it]:.0f}" for it in KINDS) + " |")
+        cells = [f"{row[it]:.0f}" + (f" @{ends[crate, it]:.0f}" if (crate, it) in ends else "") for it in KINDS]
+        print(f"| {crate or 'all else'} | " + " | ".join(cells) + " |")
+    print("\n| Edit | Processor seconds |\n|---|---|")
+    for (crate, number), cost in sorted(edits.items(), key=lambda it: -it[1])[:30]:
+        print(f"| {crate}/{name_of_edit(crate, number)} | {cost:.0f} |")
     whole = (spent.ru_utime + spent.ru_stime) / 60
-    print(f"{(time.time() - start) / 60:.1f} minutes, {whole:.0f} processor minutes")
+    print(f"\n{(time.time() - start) / 60:.1f} minutes, {whole:.0f} processor minutes")
     return status
 
 

@@ -32,14 +32,14 @@ def into_page(begin, lines, end):
 
 
 @functools.cache
-def built(crate):
-    """The program of the crate, which is proved and built first where its sources changed since."""
+def built(crate, status=0):
+    """The program of the crate, which is proved and built first where its sources changed since, and ends so on its `stdin`."""
     folder = f"{ROOT}/crates/{crate}"
     print(f"{crate}: proving and building, which takes some minutes where it is not built", file=sys.stderr)
     with open(f"{folder}/stdin", "rb") as given, open(f"{folder}/args", encoding="ascii") as args:
         words = ["rt", "run", "--", *args.read().split()]
         ran = subprocess.run(words, cwd=folder, stdin=given, capture_output=True)
-    if ran.returncode:
+    if ran.returncode != status:
         sys.exit(f"{crate}: not built\n{ran.stderr.decode(errors='replace')[-3000:]}")
     return f"{folder}/out/{crate}"
 

@@ -1,12 +1,14 @@
 #!/usr/bin/env python3
-"""Speed, beside a Rust program over serde_cbor: the library's calls on small blocks, the program on 20 MB of lines, and the heap.
+"""Speed, beside a Rust program over serde_cbor: the library's calls on small blocks, the program on 20 MB of lines, and the heap;
+and files of blocks, beside SHA-256 alone.
 
-    bench/speed.py [RUNS] [page]
+    bench/speed.py [RUNS] [cars] [page]
 
 Builds what is not built, makes its data with a fixed seed, runs ours and the peer in turn, and prints tables of processor time, the
-least of so many runs (7 where none is given), and of the heap that a tree takes. With `page` the tables are put into docs/SPEED.md too.
-The peer is built where cargo and Debian's sources of serde_cbor and serde_derive are on the machine; else its columns are left out.
-Nothing here is a test."""
+least of so many runs (7 where none is given), and of the heap that a tree takes. With `cars` it measures files of blocks alone. With
+`page` the tables are put into docs/SPEED.md too.
+The peer is built where cargo and Debian's sources of serde_cbor and serde_derive are on the machine, and the one in Go where Go and
+Debian's sources of fxamacker/cbor are; else their columns are left out. Nothing here is a test."""
 
 import os
 import random
@@ -15,10 +17,12 @@ import subprocess
 import sys
 import tempfile
 
+import cars
 from blocks import listed
 from measuring import ROOT, built, called, heap_counter, into_page, machine, processor_seconds
 
 SOURCES = "/usr/share/cargo/registry"
+GO_SOURCES = "/usr/share/gocode"
 MANIFEST = """[package]
 name = "peer"
 version = "0.1.0"
@@ -45,6 +49,7 @@ directory = "{SOURCES}"
 """
 LINES = 20_000_000
 BEGIN, END = "<!-- made by bench/speed.py page -->\n", "<!-- so far -->\n"
+CARS_BEGIN, CARS_END = "<!-- made by bench/speed.py cars page -->\n", "<!-- so far, of files of blocks -->\n"
 
 told = []
 
@@ -150,6 +155,38 @@ def calls(folder, runs):
         row(name, 1e9 / times, best[0] - best[1], best[2] - best[3] if folder else None)
 
 
+def go_peer(scratch):
+    """The program over fxamacker/cbor, or none where it can't be built."""
+    if not shutil.which("go") or not os.path.isdir(f"{GO_SOURCES}/src/github.com/fxamacker/cbor"):
+        print(f"the peer in Go is skipped: it wants go, and fxamacker/cbor in {GO_SOURCES}\n")
+        return None
+    env = {**os.environ, "GO111MODULE": "off", "GOPATH": GO_SOURCES, "GOCACHE": f"{scratch}/cache"}
+    program = f"{scratch}/calls"
+    ran = subprocess.run(["go", "build", "-o", program, f"{ROOT}/bench/peer/calls.go"], env=env)
+    return None if ran.returncode else program
+
+
+def go_calls(runs, scratch):
+    """The library's calls on the record, beside those of fxamacker/cbor."""
+    program = go_peer(scratch)
+    if program is None:
+        return
+    block, ours = record(random.Random(1)), built("dagcbor_bench")
+    rows = (
+        ("judging the record", "check_slice", "Valid", 400_000),
+        ("reading a tree", "from_slice::<Ipld>", "Unmarshal[any]", 100_000),
+        ("writing the tree", "to_vec::<Ipld>", "Marshal[any]", 100_000),
+        ("reading a struct", "from_slice::<Record>", "Unmarshal[Record]", 200_000),
+        ("writing the struct", "to_vec::<Record>", "Marshal[Record]", 200_000),
+    )
+    columns = ["Call", "ours, ns", "fxamacker/cbor, ns", "ours / fxamacker/cbor"]
+    tell(f"\n| {' | '.join(columns)} |\n|{'---|' * len(columns)}")
+    for name, mine, theirs, times in rows:
+        runner = lambda words, times: lambda: called(*words, times, block)[0]
+        best = least_of(runs, [runner(words, n) for words in ((ours, mine), (program, theirs)) for n in (times, 0)])
+        row(name, 1e9 / times, best[0] - best[1], best[2] - best[3])
+
+
 def program_seconds(words, file, piped, answers):
     """The processor seconds of a program over the file, which it reads itself or through a pipe."""
     with open(answers, "wb") as out, open(file, "rb") as source:
@@ -203,13 +240,31 @@ def heap(folder, scratch):
         tell(f"| `{item.hex(' ')}` | {' | '.join(factors)} |" if len(item) < 4 else f"| the record | {' | '.join(factors)} |")
 
 
+def of_cars(runs, words):
+    """Files of blocks, and a section of the page for them."""
+    told.clear()
+    tell(f"Measured {machine()}, the least of {runs} runs.")
+    with tempfile.TemporaryDirectory(prefix="speed-") as scratch:
+        cars.measure(tell, runs, scratch)
+    if "page" in words:
+        into_page(CARS_BEGIN, told, CARS_END)
+
+
 def main(words):
     runs = next((int(word) for word in words if word.isdigit()), 7)
+    if "cars" not in words:
+        of_blocks(runs, words)
+    of_cars(runs, words)
+
+
+def of_blocks(runs, words):
+    """Blocks, and a section of the page for them."""
     folder = peer()
     tell(f"Measured {machine()}, the least of {runs} runs.")
     calls(folder, runs)
-    head("Program, 20 MB of lines", "s", folder)
     with tempfile.TemporaryDirectory(prefix="speed-") as scratch:
+        go_calls(runs, scratch)
+        head("Program, 20 MB of lines", "s", folder)
         for kind in KINDS:
             lines(folder, runs, kind, scratch)
         heap(folder, scratch)

@@ -1,4 +1,4 @@
-"""The program `dagcbor`, proved and built, with each allocation refused in turn, and each read and write failing or short.
+"""A program, proved and built, with each allocation refused in turn, and each read and write failing or short.
 
 The answers wanted here are those of the format and of the grammar of refusals (docs/GRAMMAR.md); none is copied from a run."""
 
@@ -43,18 +43,23 @@ ROWS = [
 
 INPUT = "".join(row[0] + "\n" for row in ROWS).encode()
 WANTED = {
-    "check": "".join(row[1] + "\n" for row in ROWS).encode(),
-    "links": "".join((row[2] or row[1]) + "\n" for row in ROWS).encode(),
+    "check": (0, "".join(row[1] + "\n" for row in ROWS).encode()),
+    "links": (0, "".join((row[2] or row[1]) + "\n" for row in ROWS).encode()),
 }
 EIO, EINTR, EAGAIN, ENOSPC, EPIPE = 5, 4, 11, 28, 32
 
 
 class Sweep:
-    def __init__(self, program, library, folder, report):
+    """The runs of one program: `wanted` has the status and the output of each command over the bytes that are given, and
+    `fault_status` is the status where memory, the input or the output failed."""
+
+    def __init__(self, program, library, folder, report, given=INPUT, wanted=WANTED, fault_status=1):
         self.program, self.library, self.report = program, library, report
+        self.name = "dagcbor" if given is INPUT else "dagcar"
+        self.wanted, self.fault_status = wanted, fault_status
         self.counts, self.input = (os.path.join(folder, name) for name in ("counts", "input"))
         with open(self.input, "wb") as file:
-            file.write(INPUT)
+            file.write(given)
 
     def run(self, words, **faults):
         """Status, standard output and standard error; and how many allocations, reads and writes there were."""
@@ -69,42 +74,43 @@ class Sweep:
         return (ran.returncode, ran.stdout, ran.stderr), (allocations, reads, writes)
 
     def refused(self, command, fault, count, said, **more):
-        """Each place: status 1, the line on standard error, and of the output whole lines, no fewer for a later place."""
-        wanted, lines_before, wrong = WANTED[command], 0, []
+        """Each place: the status, the line on standard error, and of the output whole lines, no fewer for a later place."""
+        wanted, lines_before, wrong = self.wanted[command][1], 0, []
         for n in range(1, count + 1):
             (status, out, err), _ = self.run([command], **{fault: n}, **more)
             lines = out.count(b"\n")
-            is_right = status == 1 and err == said and wanted.startswith(out) and lines >= lines_before
+            is_right = status == self.fault_status and err == said and wanted.startswith(out) and lines >= lines_before
             # A failed write leaves at most a beginning of its line; nothing else leaves any.
             if not is_right or (fault != "FAIL_WRITE" and out and not out.endswith(b"\n")):
                 wrong.append((n, status, out[-60:], err))
             lines_before = lines
         how = "".join(f", {name}={value}" for name, value in more.items())
-        self.report(f"dagcbor {command}, {fault}{how}", count, wrong)
+        self.report(f"{self.name} {command}, {fault}{how}", count, wrong)
 
     def short(self, command, fault, count):
         """A read or a write that moves one byte changes nothing."""
         wrong = []
         for n in range(1, count + 1):
             answer, _ = self.run([command], **{fault: n})
-            if answer != (0, WANTED[command], b""):
+            if answer != (*self.wanted[command], b""):
                 wrong.append((n, answer[0], answer[1][-60:], answer[2]))
-        self.report(f"dagcbor {command}, {fault}", count, wrong)
+        self.report(f"{self.name} {command}, {fault}", count, wrong)
 
     def whole(self, command):
         answer, counts = self.run([command])
-        wrong = [] if answer == (0, WANTED[command], b"") else [answer]
-        self.report(f"dagcbor {command}, nothing refused", 1, wrong)
+        wrong = [] if answer == (*self.wanted[command], b"") else [answer]
+        self.report(f"{self.name} {command}, nothing refused", 1, wrong)
         answer, _ = self.run([command], SHORT_ALL=1)
-        wrong = [] if answer == (0, WANTED[command], b"") else [answer]
-        self.report(f"dagcbor {command}, one byte a read and a write", 1, wrong)
+        wrong = [] if answer == (*self.wanted[command], b"") else [answer]
+        self.report(f"{self.name} {command}, one byte a read and a write", 1, wrong)
         return counts
 
-    def sweep(self):
+    def sweep(self, usage, *words):
+        """Each command, with each place failing; and these words, which are no command."""
         memory, input_, output = (
-            f"dagcbor: {it}\n".encode() for it in ("out of memory", "input failed", "output failed")
+            f"{self.name}: {it}\n".encode() for it in ("out of memory", "input failed", "output failed")
         )
-        for command in ("check", "links"):
+        for command in self.wanted:
             allocations, reads, writes = self.whole(command)
             self.refused(command, "REFUSE_ALLOCATION", allocations, memory)
             self.refused(command, "REFUSE_FROM", allocations, memory)
@@ -114,8 +120,8 @@ class Sweep:
                 self.refused(command, "FAIL_WRITE", writes, output, ERRNO=error)
             self.short(command, "SHORT_READ", reads)
             self.short(command, "SHORT_WRITE", writes)
-        usage = (2, b"", b"usage: dagcbor check|links\n")
         # The last two are no text.
-        words = ([], ["check", "check"], ["list"], ["--help"], [b"\xff"], [b"check\xff"])
+        words = ([], ["check", "check"], ["--help"], *words, [b"\xff"], [b"check\xff"])
+        usage = (2, b"", f"usage: {self.name} {usage}\n".encode())
         wrong = [(it, found) for it in words for found in [self.run(it)[0]] if found != usage]
-        self.report("dagcbor, words that are no command", len(words), wrong)
+        self.report(f"{self.name}, words that are no command", len(words), wrong)

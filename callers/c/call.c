@@ -1,5 +1,5 @@
-/* Calls each export for each row of the table: call TABLE. Prints the number of rows, or the row
- * that is answered otherwise. */
+/* Calls each export for each row of its table: call TABLE SECTIONS. Prints the number of rows, or
+ * the row that is answered otherwise. */
 #include "dagcbor.h"
 #include <stdio.h>
 #include <stdlib.h>
@@ -71,7 +71,7 @@ static int is_right_tape(const uint8_t *bytes, size_t length, int check, const c
            (check < 0 || is_spelled(bytes, length, check, tape, count));
 }
 
-static int is_right(char *const field[6]) {
+static int is_right_block(char *const field[6]) {
     static uint8_t block[MOST], links[MOST], wanted_name[MOST], out[MOST], name[36];
     size_t length = from_hex(field[0], block, 0), packed = from_hex(field[3], links, 1),
            needed = 99;
@@ -95,19 +95,39 @@ static int is_right(char *const field[6]) {
     return memcmp(name, wanted_name, 36) == 0;
 }
 
-int main(int count, char **words) {
+/* Where no section begins the bytes, the places stay. */
+static int is_right_section(char *const field[3]) {
+    static uint8_t bytes[MOST];
+    size_t length = from_hex(field[0], bytes, 0), places[] = {99, 98, 97, 96};
+    size_t wanted[] = {99, 98, 97, 96};
+    const char *text = field[2];
+    if (*text != '-' && sscanf(text, "%zu:%zu:%zu", &wanted[0], &wanted[1], &wanted[2]) != 3)
+        return 0;
+    if (dagcbor_car_section(dagcbor_from(bytes, length), length, places) != atoi(field[1]))
+        return 0;
+    return memcmp(places, wanted, sizeof wanted) == 0;
+}
+
+/* The number of rows, each of so many words; or none where one is answered otherwise. */
+static int rows_of(const char *name, int words, int is_right(char *const *)) {
     static char line[4 * MOST];
-    FILE *table = count == 2 ? fopen(words[1], "r") : NULL;
+    FILE *table = fopen(name, "r");
     int rows = 0;
-    if (!table) return 2;
+    if (!table) return 0;
     while (fgets(line, sizeof line, table)) {
         char *field[6];
         if (line[0] == '#') continue;
         field[0] = strtok(line, " \n");
-        for (int i = 1; i < 6; i++) field[i] = strtok(NULL, " \n");
-        if (!is_right(field)) return printf("wrong: %s\n", field[0]), 1;
+        for (int i = 1; i < words; i++) field[i] = strtok(NULL, " \n");
+        if (!is_right(field)) return printf("wrong: %s\n", field[0]), 0;
         rows++;
     }
     fclose(table);
-    return printf("%d rows\n", rows), rows == 0;
+    return rows;
+}
+
+int main(int count, char **words) {
+    int blocks = count == 3 ? rows_of(words[1], 6, is_right_block) : 0;
+    int sections = count == 3 ? rows_of(words[2], 3, is_right_section) : 0;
+    return printf("%d blocks, %d sections\n", blocks, sections), !blocks || !sections;
 }

@@ -1,11 +1,9 @@
 -- What a run of a command says, where its input tells its bytes.
-use Rattle.std.proofs.Common.{◌≡◌, inl, inr, ℕ, List, [], refl, sym, ap, ◌∙◌, subst, get_or, arith, Bool}
-use Rattle.std.specs.Prelude.{Option, None, Some, Result, Ok, Err, IfSome}
-use Rattle.dagcar.specs.Answers.{SaysLine, SaysBlock}
-use Rattle.dagcar.specs.Commands.{IsCommand}
-use Rattle.dagcar.specs.declared.line.ToolError.{ToolError}
+use Rattle.std.proofs.Common.{◌≡◌, ℕ, List, [], ◌∷◌, refl, sym, ap, ◌∙◌, get_or}
+use Rattle.std.specs.Prelude.{Option, None, Some, IfSome, if◌then◌else◌, ◌==◌}
+use Rattle.dagcar.specs.Commands.{command_name, IsCommand}
 use Rattle.dagcar.specs.declared.command.Command.{Command}
-use Rattle.dagcar.specs.declared.command.Command.TheVariants.{Check, Name, One}
+use Rattle.dagcar.specs.declared.command.Command.TheVariants as commands
 
 pub if_known : {P : List ℕ → Type 0} (known : Option (List ℕ)) → ((b : List ℕ) → known ≡ Some b → P b) → IfSome known P
 if_known None h = tt
@@ -15,20 +13,19 @@ pub if_some : {P Q : List ℕ → Type 0} (known : Option (List ℕ)) → IfSome
 if_some None h f = tt
 if_some (Some b) h f = f b h
 
--- a line that is said of bytes goes out
-pub block_said : (IsSaid : List ℕ → Bool → List ℕ → Type 0) (b said : List ℕ) (well : Bool) (before after : Option (List ℕ)) (r : Result Bool ToolError) → IsSaid b well said → SaysLine said well before r after → SaysBlock IsSaid b before r after
-block_said IsSaid b said well before after (Ok answer) is k = (said, subst (λ w. IsSaid b w said) (sym k.0) is, k.1)
-block_said IsSaid b said well before after (Err e) is (inl none) = inl none
-block_said IsSaid b said well before after (Err e) is (inr k) = inr (k.0, k.1, (well, subst (IsSaid b well) (sym k.2) is), k.3, k.4)
+-- the command whose name begins with this letter
+abbrev by_letter : ℕ → Command
+by_letter letter = if letter == 99 then commands.Check else (if letter == 108 then commands.List else (if letter == 110 then commands.Name else commands.One))
+
+abbrev first_letter : List (List ℕ) → ℕ
+first_letter words = get_or (get_or words 0 []) 0 0
+
+by_name : (c : Command) → by_letter (first_letter (command_name c ∷ [])) ≡ c
+by_name commands.Check = refl
+by_name commands.List = refl
+by_name commands.Name = refl
+by_name commands.One = refl
 
 -- words name one command at most
 pub same_command : (words : List (List ℕ)) (c d : Command) → IsCommand words c → IsCommand words d → c ≡ d
-same_command words Check Check h k = refl
-same_command words Name Name h k = refl
-same_command words One One h k = refl
-same_command words Check Name h k = let first : 99 ≡ 110 = ap (λ (ws : List (List ℕ)). get_or (get_or ws 0 []) 0 0) (sym h ∙ k) in absurd (omega (arith, first))
-same_command words Check One h k = let first : 99 ≡ 111 = ap (λ (ws : List (List ℕ)). get_or (get_or ws 0 []) 0 0) (sym h ∙ k) in absurd (omega (arith, first))
-same_command words Name Check h k = let first : 110 ≡ 99 = ap (λ (ws : List (List ℕ)). get_or (get_or ws 0 []) 0 0) (sym h ∙ k) in absurd (omega (arith, first))
-same_command words Name One h k = let first : 110 ≡ 111 = ap (λ (ws : List (List ℕ)). get_or (get_or ws 0 []) 0 0) (sym h ∙ k) in absurd (omega (arith, first))
-same_command words One Check h k = let first : 111 ≡ 99 = ap (λ (ws : List (List ℕ)). get_or (get_or ws 0 []) 0 0) (sym h ∙ k) in absurd (omega (arith, first))
-same_command words One Name h k = let first : 111 ≡ 110 = ap (λ (ws : List (List ℕ)). get_or (get_or ws 0 []) 0 0) (sym h ∙ k) in absurd (omega (arith, first))
+same_command words c d h k = sym (by_name c) ∙ ap (λ ws. by_letter (first_letter ws)) (sym h ∙ k) ∙ by_name d

@@ -1,5 +1,6 @@
 pub mod Names
 pub mod Lines
+pub mod Speeches
 pub mod Commands
 pub mod Steps
 pub mod Answers

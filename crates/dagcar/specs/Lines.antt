@@ -1,16 +1,20 @@
 -- The lines that the program writes, and how a line goes out.
-use Rattle.std.specs.Prelude.{◌≡◌, ◌⊎◌, ℕ, List, [], ◌∷◌, ◌++◌, codes, Bool, true, false, Option, Result, OnOk}
+use Rattle.std.specs.Prelude.{◌≡◌, ◌⊎◌, ℕ, List, [], ◌∷◌, ◌++◌, length, codes, Bool, true, false, Option, Result, OnOk, MatchResult}
+use Rattle.std.specs.Fmt.{decimal}
 use Rattle.std.specs.Io.KnownBytes.{Appends}
 use Rattle.hex.specs.Hex.{encode_lower}
 use Rattle.ipld_tree.specs.Cid.{cid_bytes}
+use Rattle.dagcbor_car.specs.Car.{Section}
 use Rattle.dagcbor_car.specs.Verdicts.{Told}
 use Rattle.dagcbor_car.specs.declared.error.CarError.{CarError}
 use Rattle.dagcbor_car.specs.declared.verdict.Verdict.{Verdict}
 use Rattle.dagcbor_car.specs.declared.verdict.Verdict.TheVariants as verdicts
-use Rattle.dagcar.specs.Names.{kind_name, variant_name, fault_name}
+use Rattle.dagcbor_items.specs.PrintedNames.{kind_name, variant_name}
+use Rattle.dagcar.specs.Names.{fault_name}
 use Rattle.dagcar.specs.declared.line.ToolError.{ToolError}
 use Rattle.dagcar.specs.declared.line.ToolError.TheVariants.{Output}
 
+-- what is said, and a line feed
 abbrev pub line : List ℕ → List ℕ
 line said = said ++ 10 ∷ []
 
@@ -32,9 +36,21 @@ is_well _ = false
 abbrev pub told_line : Told → List ℕ
 told_line p = line (encode_lower (cid_bytes p.0.0) ++ (32 ∷ verdict_text p.1))
 
--- of a root or a link that leads nowhere, by its binary form
+-- of a section: its name in hexadecimal, and how many bytes its block has, in decimal
+abbrev pub listed_line : Section → List ℕ
+listed_line s = line (encode_lower (cid_bytes s.0) ++ (32 ∷ decimal (length s.1)))
+
+-- of a name behind a word, by its binary form
+abbrev pub named_line : List ℕ → List ℕ → List ℕ
+named_line word form = line (word ++ encode_lower form)
+
+-- of a root or a link that leads nowhere
 abbrev pub missing_line : List ℕ → List ℕ
-missing_line form = line (codes "missing " ++ encode_lower form)
+missing_line = named_line (codes "missing ")
+
+-- of a root
+abbrev pub root_line : List ℕ → List ℕ
+root_line = named_line (codes "root ")
 
 -- of a file that is refused
 abbrev pub refused_line : {E : Type 0} → CarError E → List ℕ
@@ -50,3 +66,18 @@ WritesFront old new r bytes = (front back : List ℕ) × (bytes ≡ front ++ bac
 abbrev pub BreaksLine : (List ℕ → Type 0) → Option (List ℕ) → Option (List ℕ) → ToolError → Type 0
 BreaksLine IsLine old new e = Appends old new []
     ⊎ ((front back : List ℕ) × IsLine (front ++ back) × (e ≡ Output) × Appends old new front)
+
+-- what is said went out, and whether it tells of nothing wrong is answered; or nothing more of it
+-- went out, or the device failed, and a front did
+abbrev pub Says : (Bool → List ℕ → Type 0) → Option (List ℕ) → Result Bool ToolError
+    → Option (List ℕ) → Type 0
+Says IsSaid old result new = MatchResult result
+    (λ well. (out : List ℕ) × IsSaid well out × Appends old new out)
+    (λ e. BreaksLine (λ out. (well : Bool) × IsSaid well out) old new e)
+
+-- the same of these lines
+abbrev pub SaysLines : List ℕ → Bool → Option (List ℕ) → Result Bool ToolError
+    → Option (List ℕ) → Type 0
+SaysLines said well old result new = MatchResult result
+    (λ answer. (answer ≡ well) × Appends old new said)
+    (λ e. BreaksLine (λ out. out ≡ said) old new e)

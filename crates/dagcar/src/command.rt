@@ -3,18 +3,21 @@
 ghost use Rattle.std.specs.Prelude.{◌≡◌, ◌≢◌, map, string_bytes, IfSome, MatchOption, Result, Bool};
 ghost use Rattle.dagcbor_heads.specs.Inputs.{input_reading, not_lending};
 ghost use Rattle.dagcar.specs.Answers.{RunsCommand, EndsSo};
+ghost use Rattle.dagcar.specs.Speeches.{SaysBytes};
 ghost use Rattle.dagcar.specs.declared.line.ToolError.{ToolError};
 ghost use Rattle.dagcar.specs.Commands.{command_name, IsCommand};
 
 use crate::block::{say_kind, say_name};
-use crate::check::check_file;
 use crate::line::{ToolError, write_all};
+use crate::list::Listing;
+use crate::walk::{Teller, say_file};
+use dagcbor_car::CarCheck;
 use dagcbor_heads::{Input, IoRefReader, Read};
 use std::alloc::Global;
 use std::io::{BufRead, Write};
 
 /// What is told of wrong words.
-pub const USAGE: &str = "usage: dagcar check|name|one\n";
+pub const USAGE: &str = "usage: dagcar check|list|name|one\n";
 
 /// What is told of want of memory.
 pub const OUT_OF_MEMORY: &str = "dagcar: out of memory\n";
@@ -24,6 +27,8 @@ pub const OUT_OF_MEMORY: &str = "dagcar: out of memory\n";
 pub enum Command {
     /// To judge a file of blocks.
     Check,
+    /// To list a file of blocks.
+    List,
     /// To name a block.
     Name,
     /// To judge a block.
@@ -37,6 +42,7 @@ fn command_named(name: &str) -> Option<Command>
 {
     match name {
         "check" => Some(Command::Check),
+        "list" => Some(Command::List),
         "name" => Some(Command::Name),
         "one" => Some(Command::One),
         _ => None,
@@ -83,17 +89,17 @@ fn input_over<'de, R: Read>(reader: R) -> Input<'de, R>
     Input::Reader(reader)
 }
 
-/// Says of the input what `check` asks, and answers whether nothing is wrong.
-fn say_file<R: BufRead, W: Write>(
+/// Says what the teller says of the file that the input is. Whether nothing is wrong.
+fn say_input<T: Teller, R: BufRead, W: Write>(
     alloc: Global,
     input: &mut R,
     output: &mut W,
 ) -> Result<bool, ToolError>
     ensures { IfSome (R.remaining input.old) (λ b.
-        RunsCommand Command.Check b (W.contents output.old) result (W.contents output.new)) }
+        SaysBytes T.speech b (W.contents output.old) result (W.contents output.new)) }
 {
     let mut source = input_over(IoRefReader::new(input));
-    let result = check_file(alloc, &mut source, output);
+    let result = say_file::<T, _, _>(alloc, &mut source, output);
     if let Some(lent) = source.into_reader() {
         let _source = lent.into_inner();
     }
@@ -111,7 +117,8 @@ pub fn run<R: BufRead, W: Write>(
         RunsCommand command b (W.contents output.old) result (W.contents output.new)) }
 {
     match command {
-        Command::Check => say_file(alloc, input, output),
+        Command::Check => say_input::<CarCheck, R, W>(alloc, input, output),
+        Command::List => say_input::<Listing, R, W>(alloc, input, output),
         Command::Name => say_name(alloc, input, output),
         Command::One => say_kind(alloc, input, output),
     }

@@ -1,15 +1,17 @@
 //! Bytes to any writer, and the lines that the program writes. A write that was interrupted is not
 //! made again.
 
-ghost use Rattle.std.specs.Prelude.{◌≡◌, ◌++◌, ◌∷◌, IfOk, IfErr, List, ℕ};
+ghost use Rattle.std.specs.Prelude.{◌≡◌, ◌++◌, codes, IfOk, IfErr, List, ℕ};
+ghost use Rattle.std.specs.List.{flat_map};
 ghost use Rattle.hex.specs.Hex.{encode_lower};
 ghost use Rattle.ipld_tree.specs.Cid.{cid_bytes};
+ghost use Rattle.dagcbor_items.specs.Walks.{forms};
 ghost use Rattle.dagcar.specs.declared.line.ToolError.TheVariants.{Output, OutOfMemory};
-ghost use Rattle.dagcar.specs.Lines.{line, verdict_text, is_well, told_line, missing_line};
-ghost use Rattle.dagcar.specs.Lines.{refused_line, WritesFront};
+ghost use Rattle.dagcar.specs.Lines.{line, listed_line, named_line};
+ghost use Rattle.dagcar.specs.Lines.{missing_line, root_line, refused_line, WritesFront, SaysLines};
 
-use crate::names::{fault_name, kind_name, variant_name};
-use dagcbor_car::{CarError, Verdict};
+use crate::names::fault_name;
+use dagcbor_car::CarError;
 use ipld_tree::Cid;
 use std::alloc::{AllocError, Global};
 use std::io::Write;
@@ -30,6 +32,9 @@ impl From<AllocError> for ToolError {
     }
 }
 
+/// Lines, and whether they tell of nothing wrong.
+pub type Said = (Vec<u8>, bool);
+
 /// Writes all of the bytes.
 pub fn write_all<W: Write>(writer: &mut W, bytes: &[u8]) -> Result<(), ToolError>
     ensures fault { IfErr result (λ e. e ≡ Output) }
@@ -45,6 +50,15 @@ pub fn write_all<W: Write>(writer: &mut W, bytes: &[u8]) -> Result<(), ToolError
     Ok(())
 }
 
+/// Writes the lines, and answers whether they tell of nothing wrong.
+pub fn say<W: Write>(said: Said, output: &mut W) -> Result<bool, ToolError>
+    ensures { SaysLines said.0.items said.1 (W.contents output.old) result (W.contents output.new) }
+{
+    let (lines, well) = said;
+    write_all(output, &lines)?;
+    Ok(well)
+}
+
 /// The texts, one behind the other, and a line feed.
 pub fn line_of(alloc: Global, first: &str, second: &str, third: &str) -> Result<Vec<u8>, AllocError>
     ensures { IfOk result (λ v. v.items ≡ line (first.now ++ (second.now ++ third.now))) }
@@ -57,47 +71,47 @@ pub fn line_of(alloc: Global, first: &str, second: &str, third: &str) -> Result<
     Ok(out)
 }
 
-/// A verdict in words: what is found, and the name of a kind or a refusal.
-fn verdict_words(verdict: &Verdict) -> (&'static str, &'static str)
-    ensures { result.0.now ++ result.1.now ≡ 32 ∷ verdict_text verdict.now }
-{
-    match verdict {
-        Verdict::Block(kind) => (" ok ", kind_name(*kind)),
-        Verdict::Refused(refusal) => (" refused ", variant_name(refusal)),
-        Verdict::OtherBytes => (" other bytes", ""),
-        Verdict::NotRead => (" not read", ""),
-        Verdict::Unverified => (" not verified", ""),
-    }
-}
-
-/// Whether a verdict tells of nothing wrong.
-pub fn is_well(verdict: &Verdict) -> bool
-    ensures { result ≡ is_well verdict.now }
-{
-    match verdict {
-        Verdict::Block(_) => true,
-        Verdict::Refused(_) => false,
-        Verdict::OtherBytes => false,
-        Verdict::NotRead => true,
-        Verdict::Unverified => false,
-    }
-}
-
-/// The line of a section.
-pub fn told_line(alloc: Global, cid: &Cid, verdict: &Verdict) -> Result<Vec<u8>, AllocError>
-    ensures { (block : List ℕ) → IfOk result (λ v. v.items ≡ told_line ((cid.now, block), verdict.now)) }
+/// The line of a section, with the length of the block.
+pub fn listed_line(alloc: Global, cid: &Cid, block: &[u8]) -> Result<Vec<u8>, AllocError>
+    ensures { IfOk result (λ v. v.items ≡ listed_line (cid.now, block.now)) }
 {
     let name = hex::encode(alloc, cid.to_bytes(alloc)?)?;
-    let (found, which) = verdict_words(verdict);
-    line_of(alloc, &name, found, which)
+    let length = format!(in alloc; "{}", block.len())?;
+    line_of(alloc, &name, " ", &length)
 }
 
-/// The line of a root or a link that leads nowhere.
-pub fn missing_line(alloc: Global, cid: &Cid) -> Result<Vec<u8>, AllocError>
-    ensures { IfOk result (λ v. v.items ≡ missing_line (cid_bytes cid.now)) }
+/// The line of a name behind a word.
+fn named_line(alloc: Global, word: &str, cid: &Cid) -> Result<Vec<u8>, AllocError>
+    ensures { IfOk result (λ v. v.items ≡ named_line word.now (cid_bytes cid.now)) }
 {
     let name = hex::encode(alloc, cid.to_bytes(alloc)?)?;
-    line_of(alloc, "missing ", &name, "")
+    line_of(alloc, word, &name, "")
+}
+
+/// The lines of names behind a word.
+fn named_lines(alloc: Global, word: &str, names: &[Cid]) -> Result<Vec<u8>, AllocError>
+    ensures { IfOk result (λ v. v.items ≡ flat_map (named_line word.now) (forms names.now)) }
+{
+    let mut lines = Vec::new(alloc);
+    for cid in names {
+        let line = named_line(alloc, word, cid)?;
+        lines.extend_from_slice(&line)?;
+    }
+    Ok(lines)
+}
+
+/// The lines of the roots and the links that lead nowhere.
+pub fn missing_lines(alloc: Global, missing: &[Cid]) -> Result<Vec<u8>, AllocError>
+    ensures { IfOk result (λ v. v.items ≡ flat_map missing_line (forms missing.now)) }
+{
+    named_lines(alloc, "missing ", missing)
+}
+
+/// The lines of the roots.
+pub fn root_lines(alloc: Global, roots: &[Cid]) -> Result<Vec<u8>, AllocError>
+    ensures { IfOk result (λ v. v.items ≡ flat_map root_line (forms roots.now)) }
+{
+    named_lines(alloc, "root ", roots)
 }
 
 /// The line of a file that is refused.

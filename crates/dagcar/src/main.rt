@@ -5,7 +5,9 @@ mod block;
 mod check;
 mod command;
 mod line;
+mod list;
 mod names;
+mod walk;
 
 use command::{OUT_OF_MEMORY, USAGE, give_up, run_command};
 use std::io::{BufReader, ErrorKind};
@@ -34,9 +36,9 @@ fn main(rt: HostRuntime) -> ExitCode {
                 &mut rt.stdout().lock(),
                 &mut errors,
             ),
-            Err(_) => give_up(&mut errors, OUT_OF_MEMORY, 1),
+            Err(_) => give_up(&mut errors, OUT_OF_MEMORY, 2),
         },
-        Err(e) if e.kind() == ErrorKind::OutOfMemory => give_up(&mut errors, OUT_OF_MEMORY, 1),
+        Err(e) if e.kind() == ErrorKind::OutOfMemory => give_up(&mut errors, OUT_OF_MEMORY, 2),
         Err(_) => give_up(&mut errors, USAGE, 2),
     };
     ExitCode::from(status)

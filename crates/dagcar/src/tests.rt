@@ -97,6 +97,14 @@ const GOOD: &[u8] =
 const GOOD_LINES: &[u8] =
     b"017112205e8ad8a065ee39e8bff2f8a7bbc34b8adfd030ea99f47f5a448104868ffbca30 ok list\n017112204abc31137ce738d9aceb8a1d1d51f15cad42c2b08dcb7ed179f737a194b355e7 ok list\n015512202c26b46b68ffc68ff99b453c1d30413413422d706483bfa0f98a5e886266e7ae not read\n";
 
+/// The lines of its root and of its sections.
+const GOOD_LISTED: [&[u8]; 4] = [
+    b"root 017112205e8ad8a065ee39e8bff2f8a7bbc34b8adfd030ea99f47f5a448104868ffbca30\n",
+    b"017112205e8ad8a065ee39e8bff2f8a7bbc34b8adfd030ea99f47f5a448104868ffbca30 42\n",
+    b"017112204abc31137ce738d9aceb8a1d1d51f15cad42c2b08dcb7ed179f737a194b355e7 4\n",
+    b"015512202c26b46b68ffc68ff99b453c1d30413413422d706483bfa0f98a5e886266e7ae 3\n",
+];
+
 /// The ends of the header and of the sections of `GOOD`. No link is open behind the second section.
 const ENDS: [usize; 4] = [59, 138, 179, 219];
 
@@ -106,6 +114,9 @@ const MIXED: &[u8] =
 
 const MIXED_LINES: &[u8] =
     b"01711220bb75e7f6629ba2c6d824b2df328872dc5dcf0348e6b50eed68e1c7a00e5b0ce1 ok list\n017112204abc31137ce738d9aceb8a1d1d51f15cad42c2b08dcb7ed179f737a194b355e7 ok list\n017112203684f197ac4514ab69c11b98761f2c8c1bebb568f897b4beb562e74fa6fa1727 refused UnorderedKey\n015512202c26b46b68ffc68ff99b453c1d30413413422d706483bfa0f98a5e886266e7ae other bytes\n0155130178 not verified\nmissing 01711220c279688cf67bfa45090d10af8085b02b16e663ce8f4a646df8eaa18e6e4f048b\n";
+
+const MIXED_LISTED: &[u8] =
+    b"root 01711220bb75e7f6629ba2c6d824b2df328872dc5dcf0348e6b50eed68e1c7a00e5b0ce1\n01711220bb75e7f6629ba2c6d824b2df328872dc5dcf0348e6b50eed68e1c7a00e5b0ce1 124\n017112204abc31137ce738d9aceb8a1d1d51f15cad42c2b08dcb7ed179f737a194b355e7 4\n017112203684f197ac4514ab69c11b98761f2c8c1bebb568f897b4beb562e74fa6fa1727 7\n015512202c26b46b68ffc68ff99b453c1d30413413422d706483bfa0f98a5e886266e7ae 3\n0155130178 1\n";
 
 /// The name of the list of 1, 2 and 3.
 const NUMBERS_LINE: &[u8] =
@@ -133,11 +144,29 @@ fn run_word(alloc: Global, word: &str, bytes: &[u8]) -> Result<(u8, Vec<u8>, Vec
     Ok((status, output, errors))
 }
 
+/// What `list` says of so many bytes of `GOOD`.
+fn good_listed(alloc: Global, end: usize) -> Result<Vec<u8>, Fail> {
+    let mut listed = Vec::new(alloc);
+    for (place, line) in ENDS.into_iter().zip(GOOD_LISTED) {
+        if place <= end {
+            listed.extend_from_slice(line)?;
+        }
+    }
+    if !ENDS.contains(&end) {
+        listed.extend_from_slice(b"refused Truncated\n".as_slice())?;
+    }
+    Ok(listed)
+}
+
 #[test]
-fn files_are_checked(rt: HostRuntime) -> Result<(), Fail> {
+fn files_are_checked_and_listed(rt: HostRuntime) -> Result<(), Fail> {
     let alloc = rt.alloc();
-    for (file, status, lines) in [(GOOD, 0, GOOD_LINES), (MIXED, 1, MIXED_LINES)] {
-        let (ended, written, told) = run_word(alloc, "check", file)?;
+    for (word, file, status, lines) in [
+        ("check", GOOD, 0, GOOD_LINES),
+        ("check", MIXED, 1, MIXED_LINES),
+        ("list", MIXED, 0, MIXED_LISTED),
+    ] {
+        let (ended, written, told) = run_word(alloc, word, file)?;
         assert_eq!(rt; written.as_slice(), lines);
         assert_eq!(rt; ended, status);
         assert!(rt; told.is_empty());
@@ -158,6 +187,17 @@ fn cut_files_are_told(rt: HostRuntime) -> Result<(), Fail> {
             !is_whole,
             "{end}"
         );
+    }
+    Ok(())
+}
+
+#[test]
+fn files_are_listed_up_to_the_cut(rt: HostRuntime) -> Result<(), Fail> {
+    let alloc = rt.alloc();
+    for end in 0..=GOOD.len() {
+        let (ended, written, _told) = run_word(alloc, "list", &GOOD[..end])?;
+        assert_eq!(rt; written.as_slice(), good_listed(alloc, end)?.as_slice());
+        assert_eq!(rt; ended, if ENDS.contains(&end) { 0 } else { 1 }, "{end}");
     }
     Ok(())
 }
@@ -188,7 +228,7 @@ fn other_words_are_refused(rt: HostRuntime) -> Result<(), Fail> {
     assert!(rt; written.is_empty());
     assert_eq!(rt;
         told.as_slice(),
-        b"usage: dagcar check|name|one\n".as_slice()
+        b"usage: dagcar check|list|name|one\n".as_slice()
     );
     Ok(())
 }
@@ -197,22 +237,28 @@ fn other_words_are_refused(rt: HostRuntime) -> Result<(), Fail> {
 fn faults_are_told(rt: HostRuntime) -> Result<(), Fail> {
     let alloc = rt.alloc();
     let mut errors = Vec::new(alloc);
-    // The bytes come one a fill. What stands before the fault is out in whole lines.
-    for fill in [2, 70, 160, 200] {
-        errors.clear();
-        let mut output = Vec::new(alloc);
-        let mut input = Pieces::new(GOOD, 1, fill, ErrorKind::Other);
-        let ended = run_words(alloc, &["check"], &mut input, &mut output, &mut errors)?;
-        assert_eq!(rt; ended, 2);
-        assert_eq!(rt; errors.as_slice(), b"dagcar: input failed\n".as_slice());
-        assert!(rt; GOOD_LINES.starts_with(output.as_slice()));
-        assert!(rt; output.is_empty() || output.ends_with(b"\n".as_slice()));
+    let listed = good_listed(alloc, GOOD.len())?;
+    for (word, lines) in [("check", GOOD_LINES), ("list", listed.as_slice())] {
+        // The bytes come one a fill. What stands before the fault is out in whole lines.
+        for fill in [2, 70, 160, 200] {
+            errors.clear();
+            let mut output = Vec::new(alloc);
+            let mut input = Pieces::new(GOOD, 1, fill, ErrorKind::Other);
+            let ended = run_words(alloc, &[word], &mut input, &mut output, &mut errors)?;
+            assert_eq!(rt; ended, 2);
+            assert_eq!(rt; errors.as_slice(), b"dagcar: input failed\n".as_slice());
+            assert!(rt; lines.starts_with(output.as_slice()));
+            assert!(rt; output.is_empty() || output.ends_with(b"\n".as_slice()));
+        }
+        for room in [30, 90] {
+            errors.clear();
+            let mut full = Stingy::new(alloc, room, None);
+            let ended = run_words(alloc, &[word], &mut &GOOD[..], &mut full, &mut errors)?;
+            assert_eq!(rt; ended, 2);
+            assert_eq!(rt; errors.as_slice(), b"dagcar: output failed\n".as_slice());
+            assert!(rt; lines.starts_with(full.held.as_slice()));
+            assert_eq!(rt; full.held.len(), room);
+        }
     }
-    errors.clear();
-    let mut full = Stingy::new(alloc, 90, None);
-    let ended = run_words(alloc, &["check"], &mut &GOOD[..], &mut full, &mut errors)?;
-    assert_eq!(rt; ended, 2);
-    assert_eq!(rt; errors.as_slice(), b"dagcar: output failed\n".as_slice());
-    assert_eq!(rt; full.held.as_slice(), &GOOD_LINES[..90]);
     Ok(())
 }

@@ -9,6 +9,7 @@ use Rattle.dagcbor_read.specs.Structs.{required_field, no_fields, struct_shape}
 abbrev pub RecordView : Type 0
 RecordView = List ℕ × (List ℕ × (ℕ × (List ℕ × Unit {0})))
 
+-- a link, a name, a number and some tags, each of which must be there
 abbrev pub record_shape : Shape Tree RecordView
 record_shape = struct_shape (required_field (codes "link") (leaf view_link)
     (required_field (codes "name") (owned_leaf view_text)

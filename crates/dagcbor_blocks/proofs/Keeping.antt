@@ -1,6 +1,6 @@
 -- Keeping blocks, and finding them again.
 use Rattle.std.proofs.Common.{◌≡◌, inl, inr, ℕ, ◌<◌, ◌≤◌, List, [], ◌∷◌, map, Bool, true, false, cond, Ordering, Less, Equal, Greater, refl, sym, ap, ◌∙◌, subst, arith}
-use Rattle.std.specs.Prelude.{◌⊎◌, Option, None, Some, option_map, Result, Ok, Err, OnOk, OnErr, is_err, Vec}
+use Rattle.std.specs.Prelude.{◌⊎◌, Option, None, Some, option_map, Result, Ok, Err, OnOk, OnErr, Vec}
 use Rattle.std.specs.declared.alloc.Global.{Global}
 use Rattle.std.specs.declared.convert.Infallible.{Infallible}
 use Rattle.std.specs.Ordering.{match_ordering}
@@ -22,12 +22,15 @@ use Rattle.serde_ipld_dagcbor.specs.Shapes.{Shape}
 use Rattle.serde_ipld_dagcbor.specs.Whole.{HoldsNoValue, OfWhole}
 use Rattle.serde_ipld_dagcbor.specs.Slices.{AreFirstLinks, LinksRefused}
 use Rattle.serde_ipld_dagcbor.specs.GrammarLaws.{SpellingsAreUnique}
-use Rattle.dagcbor_blocks.specs.Names.{block_name}
+use Rattle.dagcbor_car.specs.Names.{block_name}
 use Rattle.dagcbor_blocks.specs.Errors.{TellsOfDecoding}
 use Rattle.dagcbor_blocks.specs.Sound.{IsSound}
 use Rattle.dagcbor_blocks.specs.Blocks.{Held, block_at, HoldsAlso, HoldsOther, ExceedsSteps, Puts, IsHeld, GetRefused}
-use Rattle.dagcbor_blocks.specs.Steps.{HasTree, HasBlock, DepthRefused, Stores}
-use Rattle.dagcbor_blocks.proofs.Unique.{front_unique, whole_front, on_ok}
+use Rattle.dagcbor_car.specs.Sets.{Among}
+use Rattle.dagcbor_car.specs.Splits.{HasBlock}
+use Rattle.dagcbor_blocks.specs.Steps.{HasTree, DepthRefused, Stores}
+use Rattle.dagcbor_blocks.proofs.Unique.{front_unique, whole_front}
+use Rattle.dagcbor_blocks.proofs.Missing.{same_at}
 use Rattle.dagcbor_blocks.specs.declared.error.BlockError.{BlockError}
 use Rattle.dagcbor_blocks.specs.declared.error.BlockError.TheVariants.{Encode, Decode, Collision, OutOfMemory}
 use Rattle.serde_ipld_dagcbor.specs.Reading.{default_steps}
@@ -88,25 +91,44 @@ pub still_sound : {X Y : Type 0} (r : Result X Y) (es fs : List BlockEntry) (k :
 still_sound (Ok x) es fs k v put same named has h = ∥∥₁_map h (λ s. subst (AllByRecursion IsSound) (sym put) (sound_inserted es k v s record { tree = has.0; is_block = has.1; named = named }))
 still_sound (Err y) es fs k v put same named has h = ∥∥₁_map h (λ s. subst (AllByRecursion IsSound) (sym same) s)
 
-pub now_held : {X Y : Type 0} (r : Result X Y) (m n : BTreeMap CidParts (Vec ℕ Global)) (name : CidParts) (v : Vec ℕ Global) → name ≡ block_name v.items → false ≡ is_err r → OnOk r (Updates cid_cmp m n name (Some v)) → HoldsAlso (shown m.entries) name v.items (shown n.entries)
-now_held r m n name v named ok put = (
-  named,
-  λ q.
-      let u = (on_ok r _ ok put).0 q in
-      block_at_shown q n.entries ∙ ap (option_map items_of_vec) u ∙ by q (is_at (cid_cmp name) q) ∙ ap (λ o. cond (is_at (cid_cmp name) q) (Some v.items) o) (sym (block_at_shown q m.entries)),
-)
+-- what is held already
+pub held_already : (name : CidParts) (blocks : Held) (b : List ℕ) → block_at name blocks ≡ Some b → HoldsAlso blocks ((name, b) ∷ []) blocks
+held_already name blocks b e q c = (inr, back)
+  where
+    back : Among {X = CidParts × List ℕ} (q, c) ((name, b) ∷ []) ⊎ (block_at q blocks ≡ Some c) → block_at q blocks ≡ Some c
+    back (inl (inl same)) = ap (λ (p : CidParts × List ℕ). block_at p.0 blocks) same ∙ e ∙ ap (λ (p : CidParts × List ℕ). Some p.1) (sym same)
+    back (inl (inr m)) = absurd m
+    back (inr o) = o
+
+-- the bytes are found under the name, and under each other name what was found there
+abbrev PutsUnder : CidParts → List ℕ → Held → Held → Type 0
+PutsUnder name b old new = (q : CidParts) → block_at q new ≡ cond (is_at (cid_cmp name) q) (Some b) (block_at q old)
+
+held_since : (name : CidParts) (b : List ℕ) (old new : Held) → PutsUnder name b old new → block_at name old ≡ None → HoldsAlso old ((name, b) ∷ []) new
+held_since name b old new put free q c = (λ e. there (is_at (cid_cmp name) q) refl (sym (put q) ∙ e), λ m. put q ∙ back m)
+  where
+    there : (t : Bool) → is_at (cid_cmp name) q ≡ t → cond t (Some b) (block_at q old) ≡ Some c → Among {X = CidParts × List ℕ} (q, c) ((name, b) ∷ []) ⊎ (block_at q old ≡ Some c)
+    there true t e = let same : b ≡ c = cc e in inl (inl (λ i. (sym (same_name name q t) i, sym same i)))
+    there false t e = inr e
+
+    kept : (t : Bool) → is_at (cid_cmp name) q ≡ t → block_at q old ≡ Some c → cond t (Some b) (block_at q old) ≡ Some c
+    kept true t o = let clash : None ≡ Some c = sym free ∙ ap (λ n. block_at n old) (same_name name q t) ∙ o in absurd (cc clash)
+    kept false t o = o
+
+    back : Among {X = CidParts × List ℕ} (q, c) ((name, b) ∷ []) ⊎ (block_at q old ≡ Some c) → cond (is_at (cid_cmp name) q) (Some b) (block_at q old) ≡ Some c
+    back (inl (inl same)) = ap (λ t. cond t (Some b) (block_at q old)) (same_at name q (ap (λ (p : CidParts × List ℕ). p.0) (sym same))) ∙ ap (λ (p : CidParts × List ℕ). Some p.1) (sym same)
+    back (inl (inr m)) = absurd m
+    back (inr o) = kept (is_at (cid_cmp name) q) refl o
+
+pub now_held : (m n : BTreeMap CidParts (Vec ℕ Global)) (name : CidParts) (v : Vec ℕ Global) → get cid_cmp m name ≡ None → Updates cid_cmp m n name (Some v) → HoldsAlso (shown m.entries) ((name, v.items) ∷ []) (shown n.entries)
+now_held m n name v free put = held_since name v.items (shown m.entries) (shown n.entries) puts (no_block_found name m.entries free)
   where
     by : (q : CidParts) (b : Bool) → option_map items_of_vec (cond b (Some v) (get cid_cmp m q)) ≡ cond b (Some v.items) (option_map items_of_vec (get cid_cmp m q))
     by q true = refl
     by q false = refl
 
--- what is held already
-pub held_already : (name : CidParts) (blocks : Held) (b : List ℕ) → name ≡ block_name b → block_at name blocks ≡ Some b → HoldsAlso blocks name b blocks
-held_already name blocks b named e = (named, λ q. by q (is_at (cid_cmp name) q) refl)
-  where
-    by : (q : CidParts) (c : Bool) → is_at (cid_cmp name) q ≡ c → block_at q blocks ≡ cond c (Some b) (block_at q blocks)
-    by q true h = ap (λ n. block_at n blocks) (sym (same_name name q h)) ∙ e
-    by q false h = refl
+    puts : PutsUnder name v.items (shown m.entries) (shown n.entries)
+    puts q = block_at_shown q n.entries ∙ ap (option_map items_of_vec) (put.0 q) ∙ by q (is_at (cid_cmp name) q) ∙ ap (λ o. cond (is_at (cid_cmp name) q) (Some v.items) o) (sym (block_at_shown q m.entries))
 
 -- ---- checking
 
@@ -135,15 +157,18 @@ pub has_tree : (tree : Option Tree) (v : Vec ℕ Global) → AreSpellingOf tree 
 has_tree None v h = absurd h
 has_tree (Some t) v h = (t, h)
 
-pub put_done : SpellingsAreUnique → (tree : Option Tree) (v : Vec ℕ Global) (old new : Held) (r : Result CidParts BlockError) → AreSpellingOf tree v.items → HasBlock v.items → Stores v.items old r new → Puts tree old r new
-put_done law None v old new r a has h = absurd a
-put_done law (Some t) v old new (Ok name) a has h =
-    let u = front_unique law v.items [] [] has.0 t (whole_front has.1.0) (whole_front a) in
-    ((record { well_formed = a.well_formed; spellable = a.spellable; is = refl }, subst (λ x. any_need x ≤ 256) u.0 has.1.1), subst (λ b. HoldsAlso old name b new) a.is h)
-put_done law (Some t) v old new (Err (Encode e)) a has h = absurd h.1
-put_done law (Some t) v old new (Err (Decode e)) a has h = absurd h.1
-put_done law (Some t) v old new (Err Collision) a has h = (h.0, subst (λ b. HoldsOther b old) a.is h.1)
-put_done law (Some t) v old new (Err OutOfMemory) a has h = (h.0, tt)
+pub put_done : SpellingsAreUnique → (tree : Option Tree) (v : Vec ℕ Global) (name : CidParts) (old new : Held) (r : Result CidParts BlockError) → AreSpellingOf tree v.items → HasBlock v.items → name ≡ block_name v.items → Stores name v.items old r new → Puts tree old r new
+put_done law None v name old new r a has named h = absurd a
+put_done law (Some t) v name old new (Ok n) a has named h =
+    let u = front_unique law v.items [] [] has.0 t (whole_front has.1.0) (whole_front a) in (
+      (record { well_formed = a.well_formed; spellable = a.spellable; is = refl }, subst (λ x. any_need x ≤ 256) u.0 has.1.1),
+      h.0 ∙ named ∙ ap block_name a.is,
+      subst (λ b. HoldsAlso old ((n, b) ∷ []) new) a.is (subst (λ m. HoldsAlso old ((m, v.items) ∷ []) new) (sym h.0) h.1),
+    )
+put_done law (Some t) v name old new (Err (Encode e)) a has named h = absurd h.1
+put_done law (Some t) v name old new (Err (Decode e)) a has named h = absurd h.1
+put_done law (Some t) v name old new (Err Collision) a has named h = (h.0, subst (λ b. HoldsOther b old) a.is h.1)
+put_done law (Some t) v name old new (Err OutOfMemory) a has named h = (h.0, tt)
 
 -- ---- getting
 

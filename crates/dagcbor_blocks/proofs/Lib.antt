@@ -3,3 +3,6 @@ pub mod Keeping
 pub mod Missing
 pub mod Members
 pub mod Listing
+pub mod Reading
+pub mod ReadingBack
+pub mod Writing

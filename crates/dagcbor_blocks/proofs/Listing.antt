@@ -21,10 +21,11 @@ use Rattle.serde_ipld_dagcbor.specs.Slices.{IsBlock}
 use Rattle.serde_ipld_dagcbor.specs.Slices.{AreFirstLinks, LinksRefused}
 use Rattle.serde_ipld_dagcbor.specs.Walks.{forms}
 use Rattle.serde_ipld_dagcbor.specs.GrammarLaws.{SpellingsAreUnique, CidEqualityIsOfBytes}
-use Rattle.dagcbor_blocks.specs.Names.{block_name}
+use Rattle.dagcbor_car.specs.Names.{block_name}
 use Rattle.dagcbor_blocks.specs.Errors.{TellsOfDecoding}
 use Rattle.dagcbor_blocks.specs.Sound.{IsSound}
-use Rattle.dagcbor_blocks.specs.Blocks.{Among, IsLinked, NamesNone}
+use Rattle.dagcbor_car.specs.Sets.{Among}
+use Rattle.dagcbor_blocks.specs.Blocks.{IsLinked, NamesNone}
 use Rattle.dagcbor_blocks.specs.Steps.{IsUnheld}
 use Rattle.dagcbor_blocks.specs.declared.error.BlockError.{BlockError}
 use Rattle.dagcbor_blocks.specs.declared.error.BlockError.TheVariants.{OutOfMemory}

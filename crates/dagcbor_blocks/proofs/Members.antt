@@ -6,7 +6,8 @@ use Rattle.std.specs.List.Sorted.{IsStrictlySortedBy}
 use Rattle.std.specs.Map.{lookup, keys_of}
 use Rattle.std.specs.BTreeMap.{is_at}
 use Rattle.serde_ipld_dagcbor.specs.Cid.{CidParts, cid_cmp}
-use Rattle.dagcbor_blocks.specs.Blocks.{block_at, Among, FindsMembers}
+use Rattle.dagcbor_car.specs.Sets.{Among}
+use Rattle.dagcbor_blocks.specs.Blocks.{block_at, FindsMembers}
 use Rattle.dagcbor_blocks.proofs.Keeping.{BlockEntry, shown, block_found}
 use Rattle.dagcbor_blocks.proofs.Missing.{at_same, same_at, cid_equal}
 

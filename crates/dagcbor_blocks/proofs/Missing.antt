@@ -11,7 +11,7 @@ use Rattle.std.proofs.Math.Seq.{take-suc, take-length}
 use Rattle.std.proofs.lemmas.Cmp.{nat_cmp_total, nat_list_cmp_total}
 use Rattle.serde_ipld_dagcbor.specs.Cid.{CidParts, AreCidParts, cid_cmp}
 use Rattle.serde_ipld_dagcbor.specs.CidHash.{same_cid, is_equal}
-use Rattle.dagcbor_blocks.specs.Blocks.{Among}
+use Rattle.dagcbor_car.specs.Sets.{Among}
 use Rattle.dagcbor_blocks.specs.Steps.{IsUnheld, AddsOne}
 
 -- ---- the order of CIDs

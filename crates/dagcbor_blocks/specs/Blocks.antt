@@ -1,5 +1,5 @@
 -- What a store of blocks holds, and what its calls answer.
-use Rattle.std.specs.Prelude.{◌≡◌, ◌≢◌, ◌↔◌, ◌⊎◌, [], ◌∷◌, ℕ, ◌<◌, cond, List, map, Option}
+use Rattle.std.specs.Prelude.{◌≡◌, ◌≢◌, ◌↔◌, ◌⊎◌, [], ◌∷◌, ℕ, ◌<◌, List, map, Option}
 use Rattle.std.specs.Prelude.{None, Some, IfSome, IsSomeAnd, Result, MatchResult, Vec}
 use Rattle.std.specs.Prelude.{⊤}
 use Rattle.std.specs.List.Sorted.{IsStrictlySortedBy}
@@ -19,7 +19,8 @@ use Rattle.serde_ipld_dagcbor.specs.Whole.{IsWhole}
 use Rattle.serde_ipld_dagcbor.specs.Walks.{forms}
 use Rattle.serde_ipld_dagcbor.specs.EncodeError.{EncodeError}
 use Rattle.serde_ipld_dagcbor.specs.EncodeError.TheVariants as unwritten
-use Rattle.dagcbor_blocks.specs.Names.{block_name}
+use Rattle.dagcbor_car.specs.Names.{block_name}
+use Rattle.dagcbor_car.specs.Sets.{Among}
 use Rattle.dagcbor_blocks.specs.declared.error.BlockError.{BlockError}
 use Rattle.dagcbor_blocks.specs.declared.error.BlockError.TheVariants.{Encode, Decode, Collision}
 use Rattle.dagcbor_blocks.specs.declared.error.BlockError.TheVariants.{OutOfMemory}
@@ -30,17 +31,13 @@ use Rattle.serde_ipld_dagcbor.specs.Reading.{default_steps}
 abbrev pub Held : Type 0
 Held = List (CidParts × List ℕ)
 
+-- what the store holds: its map's entries
 abbrev pub held_blocks : Blocks → Held
 held_blocks s = map (λ e. (e.0, e.1.items)) s.blocks.entries
 
 -- the block under the name
 abbrev pub block_at : CidParts → Held → Option (List ℕ)
 block_at name blocks = lookup (is_at (cid_cmp name)) blocks
-
--- x is one of the list
-abbrev pub Among : {X : Type 0} → X → List X → Type 0
-Among x [] = ⊥
-Among x (y ∷ ys) = (x ≡ y) ⊎ Among x ys
 
 -- A block is found under a name exactly where the two are among the held.
 abbrev pub FindsMembers : Held → Type 0
@@ -74,10 +71,10 @@ HoldsOther b blocks = (c : List ℕ) × (block_at (block_name b) blocks ≡ Some
 
 -- ---- putting
 
--- under the name of the bytes stand these, and under each other name what stood there
-abbrev pub HoldsAlso : Held → CidParts → List ℕ → Held → Type 0
-HoldsAlso old name b new = (name ≡ block_name b)
-    × ((q : CidParts) → block_at q new ≡ cond (is_at (cid_cmp name) q) (Some b) (block_at q old))
+-- what is held is what was held, and these, each under its name
+abbrev pub HoldsAlso : Held → Held → Held → Type 0
+HoldsAlso old these new = (q : CidParts) (b : List ℕ)
+    → (block_at q new ≡ Some b) ↔ (Among (q, b) these ⊎ (block_at q old ≡ Some b))
 
 -- why a value is not kept: it has no tree, or its tree no spelling; its spelling's tree needs more
 -- than 256 steps; or other bytes are held under its name
@@ -90,7 +87,8 @@ PutRefused tree old OutOfMemory = ⊤
 -- The spelling of the value's tree is kept under its name. A refusal changes nothing.
 abbrev pub Puts : Option Tree → Held → Result CidParts BlockError → Held → Type 0
 Puts tree old result new = MatchResult result
-    (λ name. IsSomeAnd tree (λ t. IsBlock (spelling t) t × HoldsAlso old name (spelling t) new))
+    (λ name. IsSomeAnd tree (λ t. IsBlock (spelling t) t × (name ≡ block_name (spelling t))
+    × HoldsAlso old ((name, spelling t) ∷ []) new))
     (λ e. (new ≡ old) × PutRefused tree old e)
 
 -- ---- getting
@@ -99,6 +97,7 @@ Puts tree old result new = MatchResult result
 abbrev pub IsHeld : CidParts → List ℕ → Held → Type 0
 IsHeld name b blocks = (block_at name blocks ≡ Some b) × (name.digest ≡ sha256 b)
 
+-- why a held block is not read: the type does not accept it, or want of memory
 abbrev pub GetRefused : {V : Type 0} → Shape Tree V → CidParts → Held → BlockError → Type 0
 GetRefused shape name blocks (Encode e) = ⊥
 GetRefused {V} shape name blocks (Decode e) = IsOfBytes e
@@ -106,6 +105,7 @@ GetRefused {V} shape name blocks (Decode e) = IsOfBytes e
 GetRefused shape name blocks Collision = ⊥
 GetRefused shape name blocks OutOfMemory = (b : List ℕ) × IsHeld name b blocks
 
+-- none where no block has the name, else what the held block shows to the type
 abbrev pub GetsSome : {T V : Type 0} → (T → V) → Shape Tree V → CidParts → Held → Option T → Type 0
 GetsSome show shape name blocks None = block_at name blocks ≡ None
 GetsSome show shape name blocks (Some v) = (b : List ℕ) × IsHeld name b blocks

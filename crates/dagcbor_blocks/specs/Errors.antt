@@ -13,6 +13,7 @@ abbrev pub TellsOfDecoding : DecodeError Infallible → BlockError → Type 0
 TellsOfDecoding unread.OutOfMemory told = told ≡ OutOfMemory
 TellsOfDecoding error told = told ≡ Decode error
 
+-- want of memory is told as such, and another refusal of the value as its own
 abbrev pub TellsOfEncoding : EncodeError Infallible → BlockError → Type 0
 TellsOfEncoding unwritten.OutOfMemory told = told ≡ OutOfMemory
 TellsOfEncoding error told = told ≡ Encode error

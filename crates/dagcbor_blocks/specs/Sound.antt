@@ -4,7 +4,7 @@ use Rattle.std.specs.declared.alloc.Global.{Global}
 use Rattle.serde_ipld_dagcbor.specs.Cid.{CidParts}
 use Rattle.serde_ipld_dagcbor.specs.Tree.{Tree}
 use Rattle.serde_ipld_dagcbor.specs.Slices.{IsBlock}
-use Rattle.dagcbor_blocks.specs.Names.{block_name}
+use Rattle.dagcbor_car.specs.Names.{block_name}
 
 -- the bytes are the spelling of a tree that is read within 256 steps, and the name is theirs
 pub record IsSound (e : CidParts × Vec ℕ Global) : Type 0 where

@@ -1,5 +1,5 @@
 -- What the steps of a store's calls do.
-use Rattle.std.specs.Prelude.{◌≡◌, ◌⊎◌, ◌↔◌, ℕ, List, None, Result, MatchResult, IfOk, OnOk, Vec, ⊤}
+use Rattle.std.specs.Prelude.{◌≡◌, ◌⊎◌, ◌↔◌, ℕ, List, [], ◌∷◌, None, Result, MatchResult, IfOk, OnOk, Vec, ⊤}
 use Rattle.std.specs.List.{AllByRecursion}
 use Rattle.std.specs.List.Sorted.{IsStrictlySortedBy}
 use Rattle.std.specs.BTreeMap.{BTreeMap, get}
@@ -8,8 +8,9 @@ use Rattle.std.specs.declared.alloc.Global.{Global}
 use Rattle.serde_ipld_dagcbor.specs.Cid.{CidParts, AreCidParts, cid_cmp}
 use Rattle.serde_ipld_dagcbor.specs.Tree.{Tree}
 use Rattle.serde_ipld_dagcbor.specs.Spelling.{IsSpelling}
-use Rattle.serde_ipld_dagcbor.specs.Slices.{IsBlock}
-use Rattle.dagcbor_blocks.specs.Blocks.{Held, Among, ExceedsSteps, HoldsOther, HoldsAlso}
+use Rattle.dagcbor_car.specs.Sets.{Among}
+use Rattle.dagcbor_car.specs.Splits.{HasBlock}
+use Rattle.dagcbor_blocks.specs.Blocks.{Held, ExceedsSteps, HoldsOther, HoldsAlso}
 use Rattle.dagcbor_blocks.specs.declared.error.BlockError.{BlockError}
 use Rattle.dagcbor_blocks.specs.declared.error.BlockError.TheVariants.{Decode, Collision}
 use Rattle.dagcbor_blocks.specs.declared.error.BlockError.TheVariants.{OutOfMemory}
@@ -19,10 +20,6 @@ use Rattle.dagcbor_blocks.specs.declared.error.BlockError.TheVariants.{OutOfMemo
 -- the bytes are a spelling
 abbrev pub HasTree : List ℕ → Type 0
 HasTree b = (t : Tree) × IsSpelling b t
-
--- the bytes are a spelling that is read within 256 steps
-abbrev pub HasBlock : List ℕ → Type 0
-HasBlock b = (t : Tree) × IsBlock b t
 
 -- why a spelling is no block
 abbrev pub DepthRefused : List ℕ → BlockError → Type 0
@@ -40,9 +37,10 @@ StoreRefused b old Collision = HoldsOther b old
 StoreRefused b old OutOfMemory = ⊤
 StoreRefused b old _ = ⊥
 
--- A block is stored under its name. A refusal changes nothing.
-abbrev pub Stores : List ℕ → Held → Result CidParts BlockError → Held → Type 0
-Stores b old result new = MatchResult result (λ name. HoldsAlso old name b new)
+-- A block is stored under its name, which is answered. A refusal changes nothing.
+abbrev pub Stores : CidParts → List ℕ → Held → Result CidParts BlockError → Held → Type 0
+Stores name b old result new = MatchResult result
+    (λ n. (n ≡ name) × HoldsAlso old ((name, b) ∷ []) new)
     (λ e. (new ≡ old) × StoreRefused b old e)
 
 -- ---- listing

@@ -2,12 +2,14 @@
 
 ghost use Rattle.std.specs.Prelude.{◌≡◌, []};
 ghost use Rattle.dagcbor_blocks.specs.Blocks.{held_blocks, Puts, Gets, ListsMissing};
-ghost use Rattle.dagcbor_blocks.specs.Steps.{HasTree, HasBlock, ChecksDepth, Stores};
+ghost use Rattle.dagcbor_car.specs.Names.{block_name};
+ghost use Rattle.dagcbor_car.specs.Splits.{HasBlock};
+ghost use Rattle.dagcbor_blocks.specs.Steps.{HasTree, ChecksDepth, Stores};
 ghost use Rattle.dagcbor_blocks.specs.Steps.{AddsOne, AddsMissing, ListsSet};
 
 use crate::error::BlockError;
-use crate::name::name_of_bytes;
 use crate::store::Blocks;
+use dagcbor_car::name_of_block;
 use serde_ipld_dagcbor::{Cid, Deserialize, Serialize, from_slice, laws, links_from_slice, to_vec};
 use std::alloc::{AllocError, Global};
 use std::collections::{BTreeMap, BTreeSet};
@@ -54,24 +56,29 @@ impl Blocks {
             Err(error) => return Err(BlockError::of_encoding(error)),
         };
         check_depth(self.alloc, &bytes)?;
-        self.store(bytes)
+        let name = name_of_block(&bytes);
+        self.store(name, bytes)
     }
 
-    fn store(&mut self, bytes: Vec<u8>) -> Result<Cid, BlockError>
-        requires { HasBlock bytes.items }
-        ensures { Stores bytes.items (held_blocks self.old) result (held_blocks self.new) }
+    /// Keeps a block under its name.
+    pub(crate) fn store(&mut self, name: Cid, bytes: Vec<u8>) -> Result<Cid, BlockError>
+        requires block { HasBlock bytes.items }
+        requires named { name ≡ block_name bytes.items }
+        ensures { Stores name bytes.items (held_blocks self.old) result (held_blocks self.new) }
     {
-        let name = name_of_bytes(&bytes);
-        if let Some(other) = self.blocks.get(&name) {
-            if other.as_slice() == bytes.as_slice() {
-                return Ok(name);
+        match self.blocks.get(&name) {
+            Some(other) => {
+                if other.as_slice() == bytes.as_slice() {
+                    Ok(name)
+                } else {
+                    Err(BlockError::Collision)
+                }
             }
-            return Err(BlockError::Collision);
+            None => match self.blocks.insert(name, bytes) {
+                Ok(_none) => Ok(name),
+                Err(_) => Err(BlockError::OutOfMemory),
+            },
         }
-        if self.blocks.insert(name, bytes).is_err() {
-            return Err(BlockError::OutOfMemory);
-        }
-        Ok(name)
     }
 
     /// The block under the name, read as a value. None where no block is held under it.

@@ -1,8 +1,10 @@
-//! A law of the definitions, the contract of a function that does nothing.
+//! Laws of the definitions, each the contract of a function that does nothing.
 
 ghost use Rattle.dagcbor_blocks.specs.Blocks.{held_blocks, FindsMembers};
+ghost use Rattle.dagcbor_blocks.specs.Laws.{WrittenThenRead};
 
 use crate::store::Blocks;
+use dagcbor_car::laws::cars_are_unique;
 
 /// A block is found under a name exactly where the two are among the held blocks: what `put` and
 /// `get` say by look-ups and `missing` by members is said of the same blocks.
@@ -11,4 +13,14 @@ pub fn lookup_finds_members(blocks: &Blocks)
 {
     // No effect at run time. The proof reads from this call that no name repeats.
     let _ = blocks.blocks.iter();
+}
+
+/// What `write_car` writes of one store, `read_car` reads into an empty one, as the same blocks.
+pub fn written_then_read(blocks: &Blocks)
+    ensures { WrittenThenRead (held_blocks blocks.now) }
+{
+    // No effect at run time. The proof reads from these calls that no name repeats, and that bytes
+    // are one file.
+    let _ = blocks.blocks.iter();
+    cars_are_unique();
 }

@@ -14,11 +14,15 @@
 #![tactic(auto)]
 
 mod blocks;
+mod car_error;
 mod error;
 pub mod laws;
 mod name;
+mod read_car;
 mod store;
+mod write_car;
 
+pub use car_error::ReadCarError;
 pub use error::BlockError;
 pub use name::name_of;
 pub use store::Blocks;

@@ -1,5 +1,6 @@
 //! Rows, and each public call once.
 
+mod cars;
 mod pair;
 
 use crate::{BlockError, Blocks, name_of};

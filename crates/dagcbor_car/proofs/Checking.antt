@@ -1,6 +1,6 @@
 -- A file, section by section: which blocks it has, where its links lead, and what leads nowhere.
 use Rattle.std.proofs.Common.{◌≡◌, inl, inr, ℕ, ◌+◌, ◌<◌, List, [], ◌∷◌, ◌++◌, length, get_or, take, refl, sym, ap, ◌∙◌, subst, add-one}
-use Rattle.std.specs.Prelude.{◌↔◌, Result, Ok, Err, OnOk, IfOk, Vec}
+use Rattle.std.specs.Prelude.{◌↔◌, ◌⊎◌, Result, Ok, Err, OnOk, IfOk, Vec}
 use Rattle.std.specs.declared.alloc.Global.{Global}
 use Rattle.std.specs.declared.convert.Infallible.{Infallible}
 use Rattle.dagcbor_heads.specs.declared.error.DecodeError.{DecodeError}
@@ -16,14 +16,14 @@ use Rattle.dagcbor_items.specs.declared.kind.Kind.{Kind}
 use Rattle.dagcbor_items.proofs.SliceReads.{whole_front}
 use Rattle.dagcbor_car.specs.Car.{Section}
 use Rattle.dagcbor_car.specs.Verdicts.{IsVerified, IsDagCbor, IsVerdict}
-use Rattle.dagcbor_car.specs.Sets.{Among, members, AddsCid, AddsLinks, TakesAway, AreCids, HoldsLinks}
-use Rattle.dagcbor_car.specs.Checks.{IsHeld, IsLinked, NamesNone, ListsMissing, IsAfter, TakesSection}
+use Rattle.dagcbor_car.specs.Sets.{Among, members, AddsCid, RemovesCid, AddsOthers, AreCids, HoldsLinks}
+use Rattle.dagcbor_car.specs.Checks.{IsHeld, IsLinked, NamesNone, ListsMissing, IsAfter, TakesSection, HoldsName, FollowsLinks}
 use Rattle.dagcbor_car.specs.declared.verdict.Verdict.{Verdict}
 use Rattle.dagcbor_car.specs.declared.verdict.Verdict.TheVariants.{Block, Refused, OtherBytes, NotRead, Unverified}
 use Rattle.dagcbor_car.specs.declared.cid_set.CidSet.{CidSet}
 use Rattle.dagcbor_car.specs.declared.check.CarCheck.{CarCheck}
 use Rattle.dagcbor_car.proofs.Headers.{no_block}
-use Rattle.dagcbor_car.proofs.Members.{among_push, push_among, among_append, append_among, map_among, among_forms}
+use Rattle.dagcbor_car.proofs.Members.{among_push, push_among, among_append, append_among, map_among, among_forms, links_none}
 
 -- ---- the roots
 
@@ -36,18 +36,18 @@ next_root roots i root old new within is h found =
     let more : take i roots ++ root ∷ [] ≡ take (i + 1) roots = ap (λ y. take i roots ++ y ∷ []) is ∙ sym (take-suc roots i root within) ∙ ap (λ n. take n roots) (sym (add-one i)) in
     subst (HoldsLinks new) (sym (forms_push (take i roots) root) ∙ ap forms more) (found (forms (take i roots)) h)
 
-pub after_header : (roots : List CidParts) (i : ℕ) (held linked : CidSet) → i ≡ length roots → members held ≡ [] → HoldsLinks linked (forms (take i roots)) → IsAfter record { held = held; linked = linked } (forms roots) []
-after_header roots i held linked all none h = record {
+pub after_header : (alloc : Global) (roots : List CidParts) (i : ℕ) (held missing : CidSet) → i ≡ length roots → members held ≡ [] → HoldsLinks missing (forms (take i roots)) → IsAfter record { alloc = alloc; held = held; missing = missing } (forms roots) []
+after_header alloc roots i held missing all none h = record {
   held = λ c. (λ m. absurd (subst (Among c) none m), λ m. absurd m.1);
   names = λ q m. absurd (subst (Among q) none m);
-  links = λ form. (λ m. inl ((whole.1 form).0 m), λ l. by form l);
+  missing = λ form. (λ m. (inl ((whole.1 form).0 m), λ s k. absurd k), λ l. by form l.0);
   cids = h.0;
 }
   where
-    whole : HoldsLinks linked (forms roots)
-    whole = subst (HoldsLinks linked) (ap forms (ap (λ n. take n roots) all ∙ take-length roots)) h
+    whole : HoldsLinks missing (forms roots)
+    whole = subst (HoldsLinks missing) (ap forms (ap (λ n. take n roots) all ∙ take-length roots)) h
 
-    by : (form : List ℕ) → IsLinked form (forms roots) [] → Among form (forms (members linked))
+    by : (form : List ℕ) → IsLinked form (forms roots) [] → Among form (forms (members missing))
     by form (inl m) = (whole.1 form).1 m
     by form (inr l) = absurd l.2
 
@@ -77,58 +77,133 @@ held_more s sections old new v a h c = (there, back)
 names_more : (c : CidParts) (old new : CidSet) → AddsCid c old new → AreCids old → AreCids new
 names_more c old new a h q m = elim ((a.1 q).0 m) [ inl o ↦ h q o | inr e ↦ subst AreCidParts (sym e) a.0 ]
 
--- a verified block of DAG-CBOR
-pub block_taken : (s : Section) (old new : CarCheck) (t : Tree) → IsVerified s → IsDagCbor s.0 → IsBlock s.1 t → AddsCid s.0 old.held new.held → Finds HoldsLinks old.linked (links_of t) new.linked → TakesSection s old new
-block_taken s old new t v d block a found roots sections h = record {
-  held = held_more s sections old.held new.held v a h.held;
-  names = names_more s.0 old.held new.held a h.names;
-  links = λ form. (there form, back form);
-  cids = joined.0;
-}
+-- a link of the section's block, where that is verified and DAG-CBOR
+abbrev IsLinkOf : List ℕ → Section → Type 0
+IsLinkOf form s = (t : Tree) × IsVerified s × IsDagCbor s.0 × IsBlock s.1 t × Among form (links_of t)
+
+-- what is linked was linked before, or is by this section
+linked_by : (form : List ℕ) (roots : List (List ℕ)) (sections : List Section) (s : Section) → IsLinked form roots (sections ++ s ∷ []) → IsLinked form roots sections ⊎ IsLinkOf form s
+linked_by form roots sections s (inl m) = inl (inl m)
+linked_by form roots sections s (inr l) = elim (among_push l.0 sections s l.2) [
+  | inl m ↦ inl (inr (l.0, l.1, m, l.3, l.4, l.5, l.6))
+  | inr e ↦ inr (l.1, subst IsVerified e l.3, subst (λ (p : Section). IsDagCbor p.0) e l.4, subst (λ (p : Section). IsBlock p.1 l.1) e l.5, l.6)
+]
+
+-- what names none of the blocks named none of the first
+none_before : (form : List ℕ) (sections : List Section) (s : Section) → NamesNone form (sections ++ s ∷ []) → NamesNone form sections
+none_before form sections s none k m = none k (push_among k sections s (inl m))
+
+-- what names none of the first blocks, nor this one, names none
+none_more : (form : List ℕ) (sections : List Section) (s : Section) → NamesNone form sections → (IsVerified s → cid_bytes s.0 ≡ form → ⊥) → NamesNone form (sections ++ s ∷ [])
+none_more form sections s none other k m v e = elim (among_push k sections s m) [
+  | inl o ↦ none k o v e
+  | inr is ↦ other (subst IsVerified is v) (subst (λ (p : Section). cid_bytes p.0 ≡ form) is e)
+]
+
+-- the name of a verified block is missing no more
+name_out : (s : Section) (roots : List (List ℕ)) (sections : List Section) (old new : CidSet) → IsVerified s → AreCidParts s.0 → AreCids old → RemovesCid s.0 old new
+    → ((form : List ℕ) → Among form (forms (members old)) ↔ (IsLinked form roots sections × NamesNone form sections))
+    → (form : List ℕ) → Among form (forms (members new)) ↔ (IsLinked form roots sections × NamesNone form (sections ++ s ∷ []))
+name_out s roots sections old new v valid cids cut h form = (there, back)
   where
-    joined : HoldsLinks new.linked (forms (members old.linked) ++ links_of t)
-    joined = found (forms (members old.linked)) (h.cids, λ form. (λ m. m, λ m. m))
+    there : Among form (forms (members new)) → IsLinked form roots sections × NamesNone form (sections ++ s ∷ [])
+    there m =
+        let q = map_among cid_bytes form (members new) m in
+        let w = (cut q.0).0 q.1 in
+        let o = (h form).0 (among_forms form q.0 (members old) w.0 q.2) in
+        (o.0, none_more form sections s o.1 (λ _ e. w.1 (sym (cid_unique s.0 q.0 valid (cids q.0 w.0) (e ∙ q.2)))))
 
-    there : (form : List ℕ) → Among form (forms (members new.linked)) → IsLinked form roots (sections ++ s ∷ [])
-    there form m = elim (among_append form (forms (members old.linked)) (links_of t) ((joined.1 form).0 m)) [
-      | inl o ↦ linked_still form roots sections s ((h.links form).0 o)
-      | inr l ↦ inr (s, t, push_among s sections s (inr refl), v, d, block, l)
-    ]
+    back : IsLinked form roots sections × NamesNone form (sections ++ s ∷ []) → Among form (forms (members new))
+    back m =
+        let q = map_among cid_bytes form (members old) ((h form).1 (m.0, none_before form sections s m.1)) in
+        among_forms form q.0 (members new) ((cut q.0).1 (q.1, λ e. m.1 s (push_among s sections s (inr refl)) v (ap cid_bytes (sym e) ∙ sym q.2))) q.2
 
-    before : (form : List ℕ) → IsLinked form roots sections → Among form (forms (members new.linked))
-    before form l = (joined.1 form).1 (append_among form (forms (members old.linked)) (links_of t) (inl ((h.links form).1 l)))
+fewer_cids : (c : CidParts) (old new : CidSet) → RemovesCid c old new → AreCids old → AreCids new
+fewer_cids c old new cut h q m = h q ((cut q).0 m).0
+
+-- the links that are not held are missing too
+links_in : (s : Section) (t : Tree) (roots : List (List ℕ)) (sections : List Section) (held links old new : CidSet) → IsVerified s → IsDagCbor s.0 → IsBlock s.1 t → HoldsLinks links (links_of t) → AddsOthers (members links) (members held) old new
+    → AreCids held → ((c : CidParts) → Among c (members held) ↔ IsHeld c (sections ++ s ∷ []))
+    → ((form : List ℕ) → Among form (forms (members old)) ↔ (IsLinked form roots sections × NamesNone form (sections ++ s ∷ [])))
+    → (form : List ℕ) → Among form (forms (members new)) ↔ (IsLinked form roots (sections ++ s ∷ []) × NamesNone form (sections ++ s ∷ []))
+links_in s t roots sections held links old new v d block l joins names has h form = (there, back)
+  where
+    more : List Section
+    more = sections ++ s ∷ []
+
+    there : Among form (forms (members new)) → IsLinked form roots more × NamesNone form more
+    there m =
+        let q = map_among cid_bytes form (members new) m in
+        elim ((joins q.0).0 q.1) [
+          | inl o ↦ let k = (h form).0 (among_forms form q.0 (members old) o q.2) in (linked_still form roots sections s k.0, k.1)
+          | inr w ↦ (
+            inr (s, t, push_among s sections s (inr refl), v, d, block, (l.1 form).0 (among_forms form q.0 (members links) w.0 q.2)),
+            λ k n u e.
+                let found = (has k.0).1 (k.1, n, u) in
+                let same = cid_unique k.0 q.0 (names k.0 found) (l.0 q.0 w.0) (e ∙ q.2) in
+                w.1 (subst (λ c. Among c (members held)) same found),
+          )
+        ]
 
     same_tree : (u : Tree) → IsBlock s.1 u → u ≡ t
     same_tree u b = (front_unique s.1 [] [] u t (whole_front b.0) (whole_front block.0)).0
 
-    back : (form : List ℕ) → IsLinked form roots (sections ++ s ∷ []) → Among form (forms (members new.linked))
-    back form (inl m) = before form (inl m)
-    back form (inr l) = elim (among_push l.0 sections s l.2) [
-      | inl m ↦ before form (inr (l.0, l.1, m, l.3, l.4, l.5, l.6))
-      | inr e ↦
-          let u = same_tree l.1 (subst (λ (p : Section). IsBlock p.1 l.1) e l.5) in
-          (joined.1 form).1 (append_among form (forms (members old.linked)) (links_of t) (inr (subst (λ x. Among form (links_of x)) u l.6)))
+    joined : Among form (links_of t) → NamesNone form more → Among form (forms (members new))
+    joined m none =
+        let q = map_among cid_bytes form (members links) ((l.1 form).1 m) in
+        among_forms form q.0 (members new) ((joins q.0).1 (inr (q.1, λ found. let w = (has q.0).0 found in none (q.0, w.0) w.1 w.2 (sym q.2)))) q.2
+
+    stays : Among form (forms (members old)) → Among form (forms (members new))
+    stays m = let q = map_among cid_bytes form (members old) m in among_forms form q.0 (members new) ((joins q.0).1 (inl q.1)) q.2
+
+    back : IsLinked form roots more × NamesNone form more → Among form (forms (members new))
+    back m = elim (linked_by form roots sections s m.0) [
+      | inl o ↦ stays ((h form).1 (o, m.1))
+      | inr k ↦ joined (subst (λ u. Among form (links_of u)) (same_tree k.0 k.3) k.4) m.1
     ]
+
+more_cids : (links : List (List ℕ)) (held : List CidParts) (cids old new : CidSet) → HoldsLinks cids links → AddsOthers (members cids) held old new → AreCids old → AreCids new
+more_cids links held cids old new l joins h q m = elim ((joins q).0 m) [ inl o ↦ h q o | inr w ↦ l.0 q w.0 ]
+
+pub links_followed : {E : Type 0} (b : List ℕ) (old : CarCheck) (start links after : CidSet) (r : Result (Unit {0}) E) → members start ≡ [] → (t : Tree) × IsBlock b t × Finds HoldsLinks start (links_of t) links
+    → OnOk r (AddsOthers (members links) (members old.held) old.missing after) → OnOk r (FollowsLinks b old record { alloc = old.alloc; held = old.held; missing = after })
+links_followed b old start links after (Ok u) none found joins = (refl, (found.0, found.1, (links, found.2 [] (links_none start none), joins)))
+links_followed b old start links after (Err e) none found joins = tt
+
+-- a verified block of DAG-CBOR
+block_taken : (s : Section) (old mid new : CarCheck) → IsVerified s → IsDagCbor s.0 → HoldsName s.0 old mid → FollowsLinks s.1 mid new → TakesSection s old new
+block_taken s old mid new v d (a, cut) (same, (t, block, (links, l, joins))) roots sections h = record {
+  held = subst (λ k. (c : CidParts) → Among c (members k) ↔ IsHeld c (sections ++ s ∷ [])) (sym same) held;
+  names = subst AreCids (sym same) names;
+  missing = links_in s t roots sections mid.held links mid.missing new.missing v d block l joins names held (name_out s roots sections old.missing mid.missing v a.0 h.cids cut h.missing);
+  cids = more_cids (links_of t) (members mid.held) links mid.missing new.missing l joins (fewer_cids s.0 old.missing mid.missing cut h.cids);
+}
+  where
+    held : (c : CidParts) → Among c (members mid.held) ↔ IsHeld c (sections ++ s ∷ [])
+    held = held_more s sections old.held mid.held v a h.held
+
+    names : AreCids mid.held
+    names = names_more s.0 old.held mid.held a h.names
 
 -- where no link comes from the section, the links stay
-links_stay : (s : Section) (roots : List (List ℕ)) (sections : List Section) (linked : CidSet) → ((t : Tree) → IsVerified s → IsDagCbor s.0 → IsBlock s.1 t → ⊥)
-    → ((form : List ℕ) → Among form (forms (members linked)) ↔ IsLinked form roots sections) → (form : List ℕ) → Among form (forms (members linked)) ↔ IsLinked form roots (sections ++ s ∷ [])
-links_stay s roots sections linked none h form = (λ m. linked_still form roots sections s ((h form).0 m), back)
-  where
-    back : IsLinked form roots (sections ++ s ∷ []) → Among form (forms (members linked))
-    back (inl m) = (h form).1 (inl m)
-    back (inr l) = elim (among_push l.0 sections s l.2) [
-      | inl m ↦ (h form).1 (inr (l.0, l.1, m, l.3, l.4, l.5, l.6))
-      | inr e ↦ absurd (none l.1 (subst IsVerified e l.3) (subst (λ (p : Section). IsDagCbor p.0) e l.4) (subst (λ (p : Section). IsBlock p.1 l.1) e l.5))
-    ]
+links_stay : (s : Section) (roots : List (List ℕ)) (sections : List Section) (missing : CidSet) → ((t : Tree) → IsVerified s → IsDagCbor s.0 → IsBlock s.1 t → ⊥)
+    → ((form : List ℕ) → Among form (forms (members missing)) ↔ (IsLinked form roots sections × NamesNone form (sections ++ s ∷ [])))
+    → (form : List ℕ) → Among form (forms (members missing)) ↔ (IsLinked form roots (sections ++ s ∷ []) × NamesNone form (sections ++ s ∷ []))
+links_stay s roots sections missing none h form = (
+  λ m. let w = (h form).0 m in (linked_still form roots sections s w.0, w.1),
+  λ m. elim (linked_by form roots sections s m.0) [
+    | inl o ↦ (h form).1 (o, m.1)
+    | inr k ↦ absurd (none k.0 k.1 k.2 k.3)
+  ],
+)
 
 -- a verified block of which no links are read
-named_taken : (s : Section) (held new linked : CidSet) → IsVerified s → ((t : Tree) → IsVerified s → IsDagCbor s.0 → IsBlock s.1 t → ⊥) → AddsCid s.0 held new → TakesSection s record { held = held; linked = linked } record { held = new; linked = linked }
-named_taken s held new linked v none a roots sections h = record {
-  held = held_more s sections held new v a h.held;
-  names = names_more s.0 held new a h.names;
-  links = links_stay s roots sections linked none h.links;
-  cids = h.cids;
+named_taken : (s : Section) (old new : CarCheck) → IsVerified s → ((t : Tree) → IsVerified s → IsDagCbor s.0 → IsBlock s.1 t → ⊥) → HoldsName s.0 old new → TakesSection s old new
+named_taken s old new v none (a, cut) roots sections h = record {
+  held = held_more s sections old.held new.held v a h.held;
+  names = names_more s.0 old.held new.held a h.names;
+  missing = links_stay s roots sections new.missing none (name_out s roots sections old.missing new.missing v a.0 h.cids cut h.missing);
+  cids = fewer_cids s.0 old.missing new.missing cut h.cids;
 }
 
 -- a block that is not verified
@@ -142,29 +217,32 @@ unnamed_taken s k none roots sections h = record {
     ],
   );
   names = h.names;
-  links = links_stay s roots sections k.linked (λ t v d b. none v) h.links;
+  missing = links_stay s roots sections k.missing (λ t v d b. none v) (λ form. (
+    λ m. let w = (h.missing form).0 m in (w.0, none_more form sections s w.1 (λ v e. none v)),
+    λ m. (h.missing form).1 (m.0, none_before form sections s m.1),
+  ));
   cids = h.cids;
 }
 
 -- ---- by the verdict
 
-pub block_noted : {E : Type 0} (s : Section) (v : Verdict) (kind : Kind) (r : Result (Unit {0}) E) (k : CarCheck) (held linked : CidSet) → v ≡ Block kind → IsVerdict s v → AddsCid s.0 k.held held → AddsLinks s.1 k.linked r linked → OnOk r (TakesSection s k record { held = held; linked = linked })
-block_noted s v kind (Ok u) k held linked is verdict a l =
+pub block_noted : {E : Type 0} (s : Section) (v : Verdict) (kind : Kind) (r : Result (Unit {0}) E) (old mid new : CarCheck) → v ≡ Block kind → IsVerdict s v → HoldsName s.0 old mid → OnOk r (FollowsLinks s.1 mid new) → OnOk r (TakesSection s old new)
+block_noted s v kind (Ok u) old mid new is verdict a l =
     let w = subst (IsVerdict s) is verdict in
-    block_taken s k record { held = held; linked = linked } l.0 w.0 w.1 l.1 a l.2
-block_noted s v kind (Err e) k held linked is verdict a l = tt
+    block_taken s old mid new w.0 w.1 a l
+block_noted s v kind (Err e) old mid new is verdict a l = tt
 
-pub refused_noted : {E : Type 0} (s : Section) (v : Verdict) (x : DecodeError Infallible) (r : Result (Unit {0}) E) (k : CarCheck) (held : CidSet) → v ≡ Refused x → IsVerdict s v → OnOk r (AddsCid s.0 k.held held) → OnOk r (TakesSection s k record { held = held; linked = k.linked })
-refused_noted s v x (Ok u) k held is verdict a =
+pub refused_noted : {E : Type 0} (s : Section) (v : Verdict) (x : DecodeError Infallible) (r : Result (Unit {0}) E) (old new : CarCheck) → v ≡ Refused x → IsVerdict s v → OnOk r (HoldsName s.0 old new) → OnOk r (TakesSection s old new)
+refused_noted s v x (Ok u) old new is verdict a =
     let w = subst (IsVerdict s) is verdict in
-    named_taken s k.held held k.linked w.0 (λ t _ d b. no_block x s.1 w.2 w.3 t b) a
-refused_noted s v x (Err e) k held is verdict a = tt
+    named_taken s old new w.0 (λ t _ d b. no_block x s.1 w.2 w.3 t b) a
+refused_noted s v x (Err e) old new is verdict a = tt
 
-pub unread_noted : {E : Type 0} (s : Section) (v : Verdict) (r : Result (Unit {0}) E) (k : CarCheck) (held : CidSet) → v ≡ NotRead → IsVerdict s v → OnOk r (AddsCid s.0 k.held held) → OnOk r (TakesSection s k record { held = held; linked = k.linked })
-unread_noted s v (Ok u) k held is verdict a =
+pub unread_noted : {E : Type 0} (s : Section) (v : Verdict) (r : Result (Unit {0}) E) (old new : CarCheck) → v ≡ NotRead → IsVerdict s v → OnOk r (HoldsName s.0 old new) → OnOk r (TakesSection s old new)
+unread_noted s v (Ok u) old new is verdict a =
     let w = subst (IsVerdict s) is verdict in
-    named_taken s k.held held k.linked w.0 (λ t _ d b. w.1 d) a
-unread_noted s v (Err e) k held is verdict a = tt
+    named_taken s old new w.0 (λ t _ d b. w.1 d) a
+unread_noted s v (Err e) old new is verdict a = tt
 
 pub others_noted : (s : Section) (v : Verdict) (k : CarCheck) → v ≡ OtherBytes → IsVerdict s v → TakesSection s k k
 others_noted s v k is verdict =
@@ -178,26 +256,7 @@ unverified_noted s v k is verdict =
 
 -- ---- what leads nowhere
 
-missing_listed : (k : CarCheck) (left : CidSet) (roots : List (List ℕ)) (sections : List Section) → TakesAway k.linked k.held left → IsAfter k roots sections → (form : List ℕ) → Among form (forms (members left)) ↔ (IsLinked form roots sections × NamesNone form sections)
-missing_listed k left roots sections cut h form = (there, back)
-  where
-    there : Among form (forms (members left)) → IsLinked form roots sections × NamesNone form sections
-    there m =
-        let q = map_among cid_bytes form (members left) m in
-        let w = (cut q.0).0 q.1 in (
-          (h.links form).0 (among_forms form q.0 (members k.linked) w.0 q.2),
-          λ s n v e.
-              let held = (h.held s.0).1 (s.1, n, v) in
-              let same = cid_unique s.0 q.0 (h.names s.0 held) (h.cids q.0 w.0) (e ∙ q.2) in
-              w.1 (subst (λ c. Among c (members k.held)) same held),
-        )
-
-    back : IsLinked form roots sections × NamesNone form sections → Among form (forms (members left))
-    back m =
-        let q = map_among cid_bytes form (members k.linked) ((h.links form).1 m.0) in
-        among_forms form q.0 (members left) ((cut q.0).1 (q.1, λ held. let w = (h.held q.0).0 held in m.1 (q.0, w.0) w.1 w.2 (sym q.2))) q.2
-
-pub missing_told : {E : Type 0} (r : Result (Vec CidParts Global) E) (k : CarCheck) (left : CidSet) (roots : List (List ℕ)) (sections : List Section) → TakesAway k.linked k.held left
-    → IfOk r (λ v. IsStrictlySortedBy cid_cmp v.items) → IfOk r (λ v. v.items ≡ members left) → IsAfter k roots sections → IfOk r (ListsMissing roots sections)
-missing_told (Ok v) k left roots sections cut sorted all h = (sorted, subst (λ qs. (form : List ℕ) → Among form (forms qs) ↔ (IsLinked form roots sections × NamesNone form sections)) (sym all) (missing_listed k left roots sections cut h))
-missing_told (Err e) k left roots sections cut sorted all h = tt
+pub missing_told : {E : Type 0} (r : Result (Vec CidParts Global) E) (k : CarCheck) (roots : List (List ℕ)) (sections : List Section) → IfOk r (λ v. IsStrictlySortedBy cid_cmp v.items) → IfOk r (λ v. v.items ≡ members k.missing)
+    → IsAfter k roots sections → IfOk r (ListsMissing roots sections)
+missing_told (Ok v) k roots sections sorted all h = (sorted, subst (λ qs. (form : List ℕ) → Among form (forms qs) ↔ (IsLinked form roots sections × NamesNone form sections)) (sym all) h.missing)
+missing_told (Err e) k roots sections sorted all h = tt

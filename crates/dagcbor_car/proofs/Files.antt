@@ -1,6 +1,6 @@
 -- A whole file, gone through section by section.
-use Rattle.std.proofs.Common.{◌≡◌, inl, inr, ℕ, ◌<◌, List, [], ◌∷◌, ◌++◌, length, length-append, refl, sym, ap, ◌∙◌, subst, arith, append_assoc, append-nil}
-use Rattle.std.specs.Prelude.{⊤, Some, Result, Ok, Err, Vec, MatchResult, MatchBool, Bool, true, false}
+use Rattle.std.proofs.Common.{◌≡◌, inl, inr, ℕ, ◌<◌, List, [], ◌∷◌, ◌++◌, length, length-append, refl, sym, ap, ap₂, ◌∙◌, subst, arith, append_assoc, append-nil}
+use Rattle.std.specs.Prelude.{⊤, Some, Result, Ok, Err, Vec, MatchResult}
 use Rattle.std.specs.List.{AllByRecursion, flat_map}
 use Rattle.std.specs.declared.alloc.Global.{Global}
 use Rattle.dagcbor_heads.specs.Reading.{Reading}
@@ -83,13 +83,14 @@ whole_car b (x ∷ rest) roots ss none h = absurd (omega (arith, none))
 -- ---- what is no file
 
 -- behind the same sections stand others
-others_behind : (ss ts : List Section) (rest : List ℕ) → AllByRecursion IsSection ss → AllByRecursion IsSection ts → flat_map section_bytes ss ++ rest ≡ flat_map section_bytes ts
-    → (more : List Section) × AllByRecursion IsSection more × (rest ≡ flat_map section_bytes more)
-others_behind [] ts rest p q e = (ts, q, e)
+pub others_behind : (ss ts : List Section) (rest : List ℕ) → AllByRecursion IsSection ss → AllByRecursion IsSection ts → flat_map section_bytes ss ++ rest ≡ flat_map section_bytes ts
+    → (more : List Section) × AllByRecursion IsSection more × (rest ≡ flat_map section_bytes more) × (ts ≡ ss ++ more)
+others_behind [] ts rest p q e = (ts, q, e, refl)
 others_behind (s ∷ ss) [] rest p q e = absurd (omega (arith, ap length e, section_some s p.0, length-append (section_bytes s ++ flat_map section_bytes ss) rest, length-append (section_bytes s) (flat_map section_bytes ss)))
 others_behind (s ∷ ss) (t ∷ ts) rest p q e =
     let first = section_unique s t (flat_map section_bytes ss ++ rest) (flat_map section_bytes ts) p.0 q.0 (sym (append_assoc (section_bytes s) (flat_map section_bytes ss) rest) ∙ e) in
-    others_behind ss ts rest p.1 q.1 first.1
+    let w = others_behind ss ts rest p.1 q.1 first.1 in
+    (w.0, w.1, w.2, ap₂ (λ x xs. x ∷ xs) (sym first.0) w.3)
 
 pub no_car_behind : (b rest : List ℕ) (roots : List (List ℕ)) (ss : List Section) → IsCarFront b roots ss rest → 0 < length rest → BeginsNoSection rest → IsNoCar b
 no_car_behind b rest roots ss h some none others ts car =

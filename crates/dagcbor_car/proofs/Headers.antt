@@ -34,10 +34,10 @@ pub written_header : (cs : List CidParts) → written_tree cs ≡ Some (header_t
 written_header cs = ap (λ found. entries_tree (field (codes "roots") (option_map (λ ts. list (items_of ts)) found) ∷ field (codes "version") (Some (integer (pos 1))) ∷ [])) (all_links cs)
 
 -- what was written is the header of the roots
-abbrev IsWritten : List CidParts → List ℕ → Type 0
+abbrev pub IsWritten : List CidParts → List ℕ → Type 0
 IsWritten cs v = IsSpelling v (header_tree (forms cs))
 
-is_written : (cs : List CidParts) (v : List ℕ) → AreSpellingOf (written_tree cs) v → IsWritten cs v
+pub is_written : (cs : List CidParts) (v : List ℕ) → AreSpellingOf (written_tree cs) v → IsWritten cs v
 is_written cs v h = subst (λ o. AreSpellingOf o v) (written_header cs) h
 
 pub header_test : (cs : List CidParts) (v b : List ℕ) (test : Bool) → AreSpellingOf (written_tree cs) v → IsTrue test ↔ (v ≡ b) → IsTrue test ↔ IsSpelling b (header_tree (forms cs))

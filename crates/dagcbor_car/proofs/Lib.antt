@@ -6,3 +6,5 @@ pub mod Members
 pub mod Checking
 pub mod Files
 pub mod Pulling
+pub mod Pushing
+pub mod Running

@@ -16,7 +16,7 @@ use Rattle.dagcbor_items.specs.Walks.{forms, Finds}
 use Rattle.dagcbor_items.specs.Slices.{IsBlock}
 use Rattle.dagcbor_items.proofs.SliceReads.{whole_front}
 use Rattle.dagcbor_car.specs.Splits.{HasBlock}
-use Rattle.dagcbor_car.specs.Sets.{Among, members, AddsCid, HoldsLinks}
+use Rattle.dagcbor_car.specs.Sets.{Among, members, AddsCid, RemovesCid, AddsOthers, HoldsLinks}
 use Rattle.dagcbor_car.specs.declared.cid_set.CidSet.{CidSet}
 
 -- ---- lists
@@ -126,17 +126,10 @@ cid_added c old new valid put = (
     back q (inl m) = kept (is_at (cid_cmp c) q) (among_any q (members old) m)
     back q (inr u) = ap (λ b. cond b true (set.contains cid_cmp old.cids q)) (same_at c q (sym u))
 
--- ---- members taken away
+-- ---- one CID less
 
--- the members are the old ones without those that are gone
-abbrev pub AreWithout : CidSet → List CidParts → CidSet → Type 0
-AreWithout old gone new = (q : CidParts) → Among q (members new) ↔ (Among q (members old) × (Among q gone → ⊥))
-
-pub without_none : (s : CidSet) → AreWithout s [] s
-without_none s q = (λ m. (m, λ h. h), λ m. m.0)
-
-pub without_next : (c : CidParts) (gone : List CidParts) (old mid new : CidSet) → AreWithout old gone mid → Changes false c mid new → AreWithout old (gone ++ c ∷ []) new
-without_next c gone old mid new h cut q = (
+pub cid_removed : (c : CidParts) (old new : CidSet) → Changes false c old new → RemovesCid c old new
+cid_removed c old new cut q = (
   λ m. there (is_at (cid_cmp c) q) refl (sym (cut q) ∙ among_any q (members new) m),
   λ m. any_among q (members new) (cut q ∙ back (is_at (cid_cmp c) q) refl m),
 )
@@ -144,15 +137,58 @@ without_next c gone old mid new h cut q = (
     not_same : is_at (cid_cmp c) q ≡ false → q ≡ c → ⊥
     not_same f e = let clash : true ≡ false = sym (same_at c q (sym e)) ∙ f in absurd (cc clash)
 
-    there : (b : Bool) → is_at (cid_cmp c) q ≡ b → cond b false (set.contains cid_cmp mid.cids q) ≡ true → Among q (members old) × (Among q (gone ++ c ∷ []) → ⊥)
+    there : (b : Bool) → is_at (cid_cmp c) q ≡ b → cond b false (set.contains cid_cmp old.cids q) ≡ true → Among q (members old) × (q ≡ c → ⊥)
     there true t m = absurd (cc m)
-    there false t m =
-        let k = (h q).0 (any_among q (members mid) m) in
-        (k.0, λ g. elim (among_push q gone c g) [ inl o ↦ k.1 o | inr e ↦ not_same t e ])
+    there false t m = (any_among q (members old) m, not_same t)
 
-    back : (b : Bool) → is_at (cid_cmp c) q ≡ b → Among q (members old) × (Among q (gone ++ c ∷ []) → ⊥) → cond b false (set.contains cid_cmp mid.cids q) ≡ true
-    back true t m = absurd (m.1 (push_among q gone c (inr (sym (at_same c q t)))))
-    back false t m = among_any q (members mid) ((h q).1 (m.0, λ g. m.1 (push_among q gone c (inl g))))
+    back : (b : Bool) → is_at (cid_cmp c) q ≡ b → Among q (members old) × (q ≡ c → ⊥) → cond b false (set.contains cid_cmp old.cids q) ≡ true
+    back true t m = absurd (m.1 (sym (at_same c q t)))
+    back false t m = among_any q (members old) m.0
+
+-- ---- those that are not held
+
+pub others_none : (held : List CidParts) (s : CidSet) → AddsOthers [] held s s
+others_none held s q = (λ m. inl m, λ m. elim m [ inl o ↦ o | inr w ↦ absurd w.0 ])
+
+pub other_held : (c : CidParts) (held : List CidParts) (s : CidSet) → list_any (is_at (cid_cmp c)) held ≡ true → AddsOthers (c ∷ []) held s s
+other_held c held s found q = (λ m. inl m, back)
+  where
+    back : Among q (members s) ⊎ (Among q (c ∷ []) × (Among q held → ⊥)) → Among q (members s)
+    back (inl o) = o
+    back (inr (inl e, none)) = absurd (none (subst (λ x. Among x held) (sym e) (any_among c held found)))
+    back (inr (inr h, none)) = absurd h
+
+pub other_added : {X E : Type 0} (r : Result X E) (c : CidParts) (held : List CidParts) (old new : CidSet) → list_any (is_at (cid_cmp c)) held ≡ false → OnOk r (AddsCid c old new) → OnOk r (AddsOthers (c ∷ []) held old new)
+other_added (Err e) c held old new lacks a = tt
+other_added (Ok x) c held old new lacks a = λ q. (there q, back q)
+  where
+    not_held : (q : CidParts) → q ≡ c → Among q held → ⊥
+    not_held q e m = let clash : true ≡ false = sym (among_any c held (subst (λ x. Among x held) e m)) ∙ lacks in absurd (cc clash)
+
+    there : (q : CidParts) → Among q (members new) → Among q (members old) ⊎ (Among q (c ∷ []) × (Among q held → ⊥))
+    there q m = elim ((a.1 q).0 m) [ inl o ↦ inl o | inr e ↦ inr (inl e, not_held q e) ]
+
+    back : (q : CidParts) → Among q (members old) ⊎ (Among q (c ∷ []) × (Among q held → ⊥)) → Among q (members new)
+    back q (inl o) = (a.1 q).1 (inl o)
+    back q (inr (inl e, none)) = (a.1 q).1 (inr e)
+    back q (inr (inr h, none)) = absurd h
+
+pub others_next : (c : CidParts) (cids held : List CidParts) (old mid new : CidSet) → AddsOthers cids held old mid → AddsOthers (c ∷ []) held mid new → AddsOthers (cids ++ c ∷ []) held old new
+others_next c cids held old mid new first next q = (there, back)
+  where
+    there : Among q (members new) → Among q (members old) ⊎ (Among q (cids ++ c ∷ []) × (Among q held → ⊥))
+    there m = elim ((next q).0 m) [
+      | inl o ↦ elim ((first q).0 o) [ inl k ↦ inl k | inr w ↦ inr (append_among q cids (c ∷ []) (inl w.0), w.1) ]
+      | inr w ↦ inr (append_among q cids (c ∷ []) (inr w.0), w.1)
+    ]
+
+    by : Among q cids ⊎ Among q (c ∷ []) → (Among q held → ⊥) → Among q (members new)
+    by (inl m) none = (next q).1 (inl ((first q).1 (inr (m, none))))
+    by (inr m) none = (next q).1 (inr (m, none))
+
+    back : Among q (members old) ⊎ (Among q (cids ++ c ∷ []) × (Among q held → ⊥)) → Among q (members new)
+    back (inl o) = (next q).1 (inl ((first q).1 (inl o)))
+    back (inr w) = by (among_append q cids (c ∷ []) w.0) w.1
 
 -- ---- links
 

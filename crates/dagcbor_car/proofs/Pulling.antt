@@ -10,12 +10,11 @@ use Rattle.ipld_tree.specs.CidFault.{IsCutVarint, IsNoVarint, IsVarintFault}
 use Rattle.ipld_tree.specs.declared.cid_error.CidError.{CidError}
 use Rattle.ipld_tree.specs.declared.cid_error.CidError.TheVariants as cid
 use Rattle.ipld_tree.proofs.Cids.{varint_unique, varint_length}
-use Rattle.dagcbor_items.specs.Walks.{forms}
-use Rattle.dagcbor_car.specs.Car.{counted, header_tree, Section, IsSection}
+use Rattle.dagcbor_car.specs.Car.{counted, Section}
 use Rattle.dagcbor_car.specs.Splits.{CountFault, SplitsCid, BeginsNoCid, BeginsNoSection, SectionFault, IsNoHeader, ReadsHeader}
 use Rattle.dagcbor_car.specs.Sources.{CarRefuses, IsShort, RefusesHeader, RefusesSection, PullsHeader, TakesSectionBytes}
 use Rattle.dagcbor_car.specs.declared.error.CarError.{CarError}
-use Rattle.dagcbor_car.specs.declared.error.CarError.TheVariants.{Read, Truncated, InvalidLength, InvalidCid, NoBlock, OtherHeader, OutOfMemory}
+use Rattle.dagcbor_car.specs.declared.error.CarError.TheVariants.{Read, InvalidCid, OutOfMemory}
 use Rattle.dagcbor_car.proofs.Counts.{no_section_counted, no_section_named}
 use Rattle.dagcbor_car.proofs.Headers.{not_read, not_counted}
 

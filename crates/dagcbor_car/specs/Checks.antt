@@ -1,5 +1,5 @@
 -- What is found of a whole file of blocks.
-use Rattle.std.specs.Prelude.{◌≡◌, ◌≢◌, ◌↔◌, ◌⊎◌, ℕ, ◌<◌, List, [], ◌∷◌, ◌++◌, length, ⊤, Vec}
+use Rattle.std.specs.Prelude.{◌≡◌, ◌≢◌, ◌↔◌, ◌⊎◌, ℕ, List, [], ◌∷◌, ◌++◌, ⊤, Vec}
 use Rattle.std.specs.Prelude.{Result, MatchResult, MatchBool, Bool, Some, OnOk}
 use Rattle.std.specs.List.{AllByRecursion}
 use Rattle.std.specs.List.Sorted.{IsStrictlySortedBy}
@@ -14,10 +14,12 @@ use Rattle.dagcbor_car.specs.Car.{Section, IsHeader, IsSection, car_bytes, IsCar
 use Rattle.dagcbor_car.specs.Sources.{CarRefuses, RefusesHeader, RefusesSection, TakesSectionBytes}
 use Rattle.dagcbor_car.specs.Verdicts.{IsVerified, IsDagCbor, IsVerdict}
 use Rattle.dagcbor_car.specs.Verdicts.{Told, sections_of, AreTold, TellsAll, Tells}
-use Rattle.dagcbor_car.specs.Sets.{Among, members, AreCids}
+use Rattle.dagcbor_car.specs.Sets.{Among, members, AreCids, HoldsLinks}
+use Rattle.dagcbor_car.specs.Sets.{AddsCid, RemovesCid, AddsOthers}
 use Rattle.dagcbor_car.specs.declared.verdict.Verdict.{Verdict}
 use Rattle.dagcbor_car.specs.declared.error.CarError.{CarError}
 use Rattle.dagcbor_car.specs.declared.error.CarError.TheVariants.{Read, OutOfMemory}
+use Rattle.dagcbor_car.specs.declared.cid_set.CidSet.{CidSet}
 use Rattle.dagcbor_car.specs.declared.check.CarCheck.{CarCheck}
 
 -- ---- what leads nowhere
@@ -50,8 +52,18 @@ ListsMissing roots sections v = IsStrictlySortedBy cid_cmp v.items
 pub record IsAfter (check : CarCheck) (roots : List (List ℕ)) (sections : List Section) : Type 0 where
   pub held : (c : CidParts) → Among c (members check.held) ↔ IsHeld c sections
   pub names : AreCids check.held
-  pub links : (form : List ℕ) → Among form (forms (members check.linked)) ↔ IsLinked form roots sections
-  pub cids : AreCids check.linked
+  pub missing : (form : List ℕ) → Among form (forms (members check.missing)) ↔ (IsLinked form roots sections × NamesNone form sections)
+  pub cids : AreCids check.missing
+
+-- the name of a verified block joined those that are held, and is not missing
+abbrev pub HoldsName : CidParts → CarCheck → CarCheck → Type 0
+HoldsName c old new = AddsCid c old.held new.held × RemovesCid c old.missing new.missing
+
+-- the links of the block that are not held joined those that are missing
+abbrev pub FollowsLinks : List ℕ → CarCheck → CarCheck → Type 0
+FollowsLinks b old new = (new.held ≡ old.held) × ((t : Tree) × IsBlock b t
+    × ((links : CidSet) × HoldsLinks links (links_of t)
+    × AddsOthers (members links) (members old.held) old.missing new.missing))
 
 -- what is known behind a section, whatever stood before
 abbrev pub TakesSection : Section → CarCheck → CarCheck → Type 0

@@ -1,7 +1,10 @@
+pub mod Names
 pub mod Car
 pub mod Splits
 pub mod Sources
+pub mod Writers
 pub mod Verdicts
+pub mod Runs
 pub mod Laws
 pub mod Sets
 pub mod Checks

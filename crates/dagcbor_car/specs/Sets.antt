@@ -1,5 +1,5 @@
 -- Sets of CIDs.
-use Rattle.std.specs.Prelude.{◌≡◌, ◌↔◌, ◌⊎◌, ℕ, List, [], ◌∷◌, Result, OnOk}
+use Rattle.std.specs.Prelude.{◌≡◌, ◌≢◌, ◌↔◌, ◌⊎◌, ℕ, List, [], ◌∷◌, Result, OnOk}
 use Rattle.ipld_tree.specs.Cid.{CidParts, AreCidParts}
 use Rattle.ipld_tree.specs.Tree.{Tree, links_of}
 use Rattle.dagcbor_items.specs.Slices.{IsBlock}
@@ -20,10 +20,15 @@ abbrev pub AddsCid : CidParts → CidSet → CidSet → Type 0
 AddsCid c old new = AreCidParts c
     × ((q : CidParts) → Among q (members new) ↔ (Among q (members old) ⊎ (q ≡ c)))
 
--- the members are the old ones without those of the other set
-abbrev pub TakesAway : CidSet → CidSet → CidSet → Type 0
-TakesAway old others new = (q : CidParts)
-    → Among q (members new) ↔ (Among q (members old) × ¬ Among q (members others))
+-- the members are the old ones without this CID
+abbrev pub RemovesCid : CidParts → CidSet → CidSet → Type 0
+RemovesCid c old new = (q : CidParts)
+    → Among q (members new) ↔ (Among q (members old) × (q ≢ c))
+
+-- the members are the old ones and those of the list that are not held
+abbrev pub AddsOthers : List CidParts → List CidParts → CidSet → CidSet → Type 0
+AddsOthers cids held old new = (q : CidParts)
+    → Among q (members new) ↔ (Among q (members old) ⊎ (Among q cids × ¬ Among q held))
 
 -- the members are CIDs
 abbrev pub AreCids : CidSet → Type 0

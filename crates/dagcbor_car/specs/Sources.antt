@@ -70,12 +70,14 @@ PullsSection old result new = MatchResult result
 
 -- ---- the sections, one by one
 
+-- what contracts see of a `CarReader`
 pub record SectionStream : Type 0 where
   -- what they are read from
   pub source : Reading
   -- whether an error, or the end, was met
   pub done : Bool
 
+-- a `CarReader` over a reader whose reading is known
 abbrev pub section_stream : {R : Type 0} → (R → Reading) → CarReader R → SectionStream
 section_stream reading s = record { source = input_reading reading s.input; done = s.done }
 
@@ -85,6 +87,7 @@ as_pulled None = Ok None
 as_pulled (Some (Ok s)) = Ok (Some s)
 as_pulled (Some (Err e)) = Err e
 
+-- whether nothing comes behind what was given
 abbrev pub is_last : {S E : Type 0} → Option (Result S E) → Bool
 is_last None = true
 is_last (Some r) = is_err r
@@ -103,6 +106,7 @@ NotBegun old (Read e) = ⊤
 NotBegun old OutOfMemory = ⊤
 NotBegun old e = (b : List ℕ) → old.left ≡ Some b → RefusesHeader e b
 
+-- The header was taken, and the sections behind it are to come; or nothing was begun.
 abbrev pub Begins : {R E : Type 0} → (R → Reading) → Reading
     → Result (Vec CidParts Global × CarReader R) (CarError E) → Type 0
 Begins reading old result = MatchResult result

@@ -46,6 +46,7 @@ IsVerdict s Unverified = digest_by s.0.hash_code s.1 ≡ None
 abbrev pub Told : Type 0
 Told = Section × Verdict
 
+-- the sections of which verdicts were told
 abbrev pub sections_of : List Told → List Section
 sections_of told = map (λ p. p.0) told
 
@@ -57,5 +58,6 @@ AreTold told = AllByRecursion (λ p. IsVerdict p.0 p.1) told
 abbrev pub TellsAll : {S : Type 0} → (S → List Told → Type 0) → S → List Told → S → Type 0
 TellsAll holds old told new = (before : List Told) → holds old before → holds new (before ++ told)
 
+-- one section and its verdict stand behind what was told before
 abbrev pub Tells : {S : Type 0} → (S → List Told → Type 0) → S → Told → S → Type 0
 Tells holds old p new = TellsAll holds old (p ∷ []) new

@@ -5,6 +5,8 @@ ghost use Rattle.dagcbor_heads.specs.Inputs.{input_reading};
 ghost use Rattle.dagcbor_items.specs.Walks.{forms};
 ghost use Rattle.dagcbor_car.specs.Car.{Section as CarSection};
 ghost use Rattle.dagcbor_car.specs.Verdicts.{IsVerdict};
+ghost use Rattle.dagcbor_car.specs.Splits.{HasBlock};
+ghost use Rattle.dagcbor_car.specs.Checks.{HoldsName, FollowsLinks};
 ghost use Rattle.dagcbor_car.specs.Checks.{IsAfter, TakesSection, ListsMissing, TellsVerdict};
 ghost use Rattle.dagcbor_car.specs.Checks.{Steps, ChecksCar, ChecksInput};
 ghost use Rattle.dagcbor_car.specs.declared.error.CarError.TheVariants.{OutOfMemory};
@@ -21,12 +23,13 @@ use ipld_tree::Cid;
 use std::alloc::{AllocError, Global};
 use std::convert::Infallible;
 
-/// What is known of a file behind some of its sections: which blocks it has, and where its roots
-/// and links lead.
+/// What is known of a file behind some of its sections: which blocks it has, and which of its roots
+/// and links lead to none of them so far.
 #[derive(Drop)]
 pub struct CarCheck {
+    alloc: Global,
     held: CidSet,
-    linked: CidSet,
+    missing: CidSet,
 }
 
 impl CarCheck {
@@ -34,12 +37,16 @@ impl CarCheck {
     pub fn new(alloc: Global, roots: &[Cid]) -> Result<CarCheck, AllocError>
         ensures { IfOk result (λ check. IsAfter check (forms roots.now) []) }
     {
-        let mut linked = CidSet::new(alloc);
+        let mut missing = CidSet::new(alloc);
         for root in roots {
-            linked.take(*root)?;
+            missing.take(*root)?;
         }
         let held = CidSet::new(alloc);
-        Ok(CarCheck { held, linked })
+        Ok(CarCheck {
+            alloc,
+            held,
+            missing,
+        })
     }
 
     /// Takes the next section, and answers the verdict on it.
@@ -61,14 +68,32 @@ impl CarCheck {
     {
         match verdict {
             Verdict::Block(_) => {
-                self.held.add(section.cid)?;
-                self.linked.add_links(section.block)
+                self.hold(section.cid)?;
+                self.follow(section.block)
             }
-            Verdict::Refused(_) => self.held.add(section.cid),
-            Verdict::NotRead => self.held.add(section.cid),
+            Verdict::Refused(_) => self.hold(section.cid),
+            Verdict::NotRead => self.hold(section.cid),
             Verdict::OtherBytes => Ok(()),
             Verdict::Unverified => Ok(()),
         }
+    }
+
+    /// Notes the name of a verified block.
+    fn hold(&mut self, cid: Cid) -> Result<(), AllocError>
+        ensures { OnOk result (HoldsName cid self.old self.new) }
+    {
+        self.missing.remove(&cid);
+        self.held.add(cid)
+    }
+
+    /// Notes the links of a block that lead to no verified block so far.
+    fn follow(&mut self, block: &[u8]) -> Result<(), AllocError>
+        requires { HasBlock block.now }
+        ensures { OnOk result (FollowsLinks block.now self.old self.new) }
+    {
+        let mut links = CidSet::new(self.alloc);
+        links.add_links(block)?;
+        self.missing.add_others(links, &self.held)
     }
 
     /// The roots and the links that lead to no verified block, each once, in their order.
@@ -76,9 +101,7 @@ impl CarCheck {
         ensures { (roots : List (List ℕ)) (sections : List CarSection)
             → IsAfter self roots sections → IfOk result (ListsMissing roots sections) }
     {
-        let CarCheck { held, mut linked } = self;
-        linked.take_away(held);
-        linked.into_vec(alloc)
+        self.missing.into_vec(alloc)
     }
 }
 

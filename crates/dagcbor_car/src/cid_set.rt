@@ -1,10 +1,11 @@
 //! Sets of CIDs.
 
-ghost use Rattle.std.specs.Prelude.{◌≡◌, [], true, IfOk, OnOk, OnErr, Some};
+ghost use Rattle.std.specs.Prelude.{◌≡◌, [], ◌∷◌, true, IfOk, OnOk, OnErr, Some};
 ghost use Rattle.std.specs.List.Sorted.{IsStrictlySortedBy};
 ghost use Rattle.ipld_tree.specs.Cid.{cid_cmp};
 ghost use Rattle.dagcbor_car.specs.Splits.{HasBlock};
-ghost use Rattle.dagcbor_car.specs.Sets.{members, AddsCid, TakesAway, HoldsLinks, AddsLinks};
+ghost use Rattle.dagcbor_car.specs.Sets.{members, AddsCid, RemovesCid, AddsOthers};
+ghost use Rattle.dagcbor_car.specs.Sets.{HoldsLinks, AddsLinks};
 
 use dagcbor_items::{LinkSink, walk_slice};
 use ipld_tree::Cid;
@@ -50,13 +51,30 @@ impl CidSet {
         }
     }
 
-    /// Takes the members of the other set away.
-    pub(crate) fn take_away(&mut self, others: CidSet)
-        ensures { TakesAway self.old others self.new }
+    pub(crate) fn remove(&mut self, cid: &Cid)
+        ensures { RemovesCid cid.now self.old self.new }
     {
-        for cid in others.cids {
-            self.cids.remove(&cid);
+        self.cids.remove(cid);
+    }
+
+    /// Adds those that the other set does not have.
+    pub(crate) fn add_others(&mut self, cids: CidSet, held: &CidSet) -> Result<(), AllocError>
+        ensures { OnOk result (AddsOthers (members cids) (members held.now) self.old self.new) }
+    {
+        for cid in cids.cids {
+            self.add_other(cid, held)?;
         }
+        Ok(())
+    }
+
+    /// Adds the CID, if the other set does not have it.
+    fn add_other(&mut self, cid: Cid, held: &CidSet) -> Result<(), AllocError>
+        ensures { OnOk result (AddsOthers (cid ∷ []) (members held.now) self.old self.new) }
+    {
+        if held.cids.contains(&cid) {
+            return Ok(());
+        }
+        self.add(cid)
     }
 
     /// The members, in their order.

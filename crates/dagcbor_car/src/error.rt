@@ -1,4 +1,4 @@
-//! Why bytes are no file of blocks.
+//! Why bytes are no file of blocks, and why a file is not written.
 
 use dagcbor_heads::DecodeError;
 use ipld_tree::CidError;
@@ -30,4 +30,18 @@ pub enum CarError<E> {
     /// A growth was refused.
     #[error("out of memory")]
     OutOfMemory,
+}
+
+/// Why a header or a section was not written. `E` is the writer's error.
+#[derive(Debug, Drop, Error)]
+pub enum CarWriteError<E> {
+    /// The writer faulted.
+    #[error("the output failed")]
+    Write(E),
+    /// A growth was refused.
+    #[error("out of memory")]
+    OutOfMemory,
+    /// An earlier call was refused, so that the file may end inside a section. Nothing was sent.
+    #[error("an earlier section was not written")]
+    Failed,
 }

@@ -1,7 +1,7 @@
 //! The header at the front of bytes: the roots of a file.
 
 ghost use Rattle.std.specs.Prelude.{◌≡◌, ◌↔◌, [], ◌∷◌, map, codes, pos, Some, IsTrue};
-ghost use Rattle.std.specs.Prelude.{MatchResult};
+ghost use Rattle.std.specs.Prelude.{MatchResult, IfOk};
 ghost use Rattle.ipld_tree.specs.Cid.{cid_bytes};
 ghost use Rattle.ipld_tree.specs.Tree.{integer, link, list_tree, entries_tree};
 ghost use Rattle.ipld_tree.specs.Spelling.{IsSpelling};
@@ -17,7 +17,7 @@ use dagcbor_heads::{EncodeError, Write, WriteResult};
 use dagcbor_items::{check_slice, links_from_slice};
 use dagcbor_write::{Field, Serialize, Serializer, to_vec, write_struct};
 use ipld_tree::Cid;
-use std::alloc::Global;
+use std::alloc::{AllocError, Global};
 use std::convert::Infallible;
 
 /// The version of the file's format.
@@ -40,6 +40,17 @@ impl Serialize for Header<'_> {
             (Field("version", &VERSION), ()),
         );
         write_struct(alloc, fields, ser)
+    }
+}
+
+/// The header of these roots.
+pub(crate) fn spell_header(alloc: Global, roots: &[Cid]) -> Result<Vec<u8>, AllocError>
+    ensures { IfOk result (λ v. IsSpelling v.items (header_tree (forms roots.now))) }
+{
+    // Each list of CIDs has a spelling, which is refused for want of memory alone.
+    match to_vec(alloc, &Header { roots }) {
+        Ok(spelled) => Ok(spelled),
+        Err(_) => Err(AllocError),
     }
 }
 

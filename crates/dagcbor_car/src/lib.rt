@@ -6,22 +6,28 @@ mod cid_set;
 mod error;
 mod header;
 pub mod laws;
+mod name;
 mod pull;
+mod push;
 mod read_section;
 mod reader;
 mod section;
 mod sink;
 mod verdict;
+mod writer;
 
 pub use check::{CarCheck, check_car};
-pub use error::CarError;
+pub use error::{CarError, CarWriteError};
 pub use header::split_header;
+pub use name::{DAG_CBOR, SHA2_256, name_of_block};
 pub use pull::{pull_header, pull_section};
+pub use push::{push_header, push_section};
 pub use read_section::ReadSection;
 pub use reader::{Begun, CarReader};
 pub use section::{Section, split_section};
 pub use sink::VerdictSink;
 pub use verdict::{Verdict, verify};
+pub use writer::CarWriter;
 
 #[cfg(test)]
 mod tests;

@@ -23,7 +23,7 @@ use std::borrow::CowSlice;
 const NAME: &str = "file";
 
 /// The most groups of a varint.
-const MOST_GROUPS: usize = 10;
+pub(crate) const MOST_GROUPS: usize = 10;
 
 /// The refusal as one of a file.
 fn of_reader<E: Drop>(error: DecodeError<E>) -> CarError<E>
@@ -77,8 +77,10 @@ fn pull_bytes<'de, R: Read>(
 ) -> Result<CowSlice<'de, u8>, CarError<R::Error>>
     ensures { MatchResult result
         (λ c. (length (cow_slice_items c) ≡ n)
-        × Takes (input_reading R.reading input.old) (cow_slice_items c) (input_reading R.reading input.new))
-        (λ e. CarRefuses (IsShort n) (input_reading R.reading input.old) e (input_reading R.reading input.new)) }
+        × Takes (input_reading R.reading input.old) (cow_slice_items c)
+        (input_reading R.reading input.new))
+        (λ e. CarRefuses (IsShort n) (input_reading R.reading input.old) e
+        (input_reading R.reading input.new)) }
 {
     match pull_payload(alloc, NAME, input, n) {
         Ok(bytes) => Ok(bytes),
@@ -93,8 +95,10 @@ fn pull_counted<'de, R: Read>(
 ) -> Result<CowSlice<'de, u8>, CarError<R::Error>>
     ensures { MatchResult result
         (λ c. (length (cow_slice_items c) < 2 ^ 64)
-        × Takes (input_reading R.reading input.old) (counted (cow_slice_items c)) (input_reading R.reading input.new))
-        (λ e. CarRefuses CountFault (input_reading R.reading input.old) e (input_reading R.reading input.new)) }
+        × Takes (input_reading R.reading input.old) (counted (cow_slice_items c))
+        (input_reading R.reading input.new))
+        (λ e. CarRefuses CountFault (input_reading R.reading input.old) e
+        (input_reading R.reading input.new)) }
 {
     let count = pull_length(input)?;
     pull_bytes(alloc, input, count)
@@ -105,7 +109,8 @@ pub fn pull_header<'de, R: Read>(
     alloc: Global,
     input: &mut Input<'de, R>,
 ) -> Result<Vec<Cid>, CarError<R::Error>>
-    ensures { PullsHeader (input_reading R.reading input.old) result (input_reading R.reading input.new) }
+    ensures { PullsHeader (input_reading R.reading input.old) result
+        (input_reading R.reading input.new) }
 {
     let inner = pull_counted(alloc, input)?;
     read_header(alloc, &inner)
@@ -117,7 +122,8 @@ fn pull_first_section<'de, R: Read>(
     input: &mut Input<'de, R>,
 ) -> Result<ReadSection<'de>, CarError<R::Error>>
     ensures { MatchResult result
-        (λ s. TakesSectionBytes (input_reading R.reading input.old) s (input_reading R.reading input.new))
+        (λ s. TakesSectionBytes (input_reading R.reading input.old) s
+        (input_reading R.reading input.new))
         (λ e. CarRefuses (λ e b. BeginsNoSection b × SectionFault e b)
         (input_reading R.reading input.old) e (input_reading R.reading input.new)) }
 {
@@ -133,7 +139,8 @@ pub fn pull_section<'de, R: Read>(
     alloc: Global,
     input: &mut Input<'de, R>,
 ) -> Result<Option<ReadSection<'de>>, CarError<R::Error>>
-    ensures { PullsSection (input_reading R.reading input.old) result (input_reading R.reading input.new) }
+    ensures { PullsSection (input_reading R.reading input.old) result
+        (input_reading R.reading input.new) }
 {
     match is_at_end(input) {
         Ok(true) => Ok(None),

@@ -2,6 +2,7 @@
 
 mod files;
 mod streams;
+mod writing;
 
 use crate::{CarError, Verdict, split_header, split_section, verify};
 use dagcbor_heads::DecodeError;

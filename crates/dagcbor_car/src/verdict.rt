@@ -3,17 +3,12 @@
 ghost use Rattle.std.specs.Prelude.{◌≡◌, MatchOption};
 ghost use Rattle.dagcbor_car.specs.Verdicts.{digest_by, IsDigestTest, IsVerdict};
 
+use crate::name::{DAG_CBOR, SHA2_256};
 use dagcbor_heads::DecodeError;
 use dagcbor_items::{Kind, check_slice};
 use ipld_tree::Cid;
 use sha2::{Digest, Sha256};
 use std::convert::Infallible;
-
-/// The code of DAG-CBOR among the codes of formats (the multicodec table).
-const DAG_CBOR: u64 = 0x71;
-
-/// The code of SHA-256 among the codes of hash functions (the multicodec table).
-const SHA2_256: u64 = 0x12;
 
 /// The code of the digest that is the bytes themselves.
 const IDENTITY: u64 = 0x00;

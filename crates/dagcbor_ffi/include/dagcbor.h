@@ -1,4 +1,5 @@
-/* DAG-CBOR for C: whether bytes are a block, what it holds, how it is spelled, the links of an item, and a block's name.
+/* DAG-CBOR for C: whether bytes are a block, what it holds, how it is spelled, the links of an item, a block's name, and the
+   sections of a file of blocks (CAR, version 1).
 
    A block is the one spelling of a DAG-CBOR item that reading takes at most 256 steps of depth: one for a leaf, and
    two for each list or map around it. An item of more steps is refused here as too deep.
@@ -10,7 +11,7 @@
      there, and nobody writes them during the call, no other thread either; `length` is below 2^63.
    - `out` likewise, also where `room` is 0 (dagcbor_into), for `room` bytes that nobody else reads or writes
      during the call; `tape` for `room` tokens (dagcbor_tape_into), aligned as a uint64_t, and fewer than 2^58 of
-     them; `needed` for one number. None of these overlaps another.
+     them; `needed` for one number, `places` for three. None of these overlaps another.
    - The thread has 128 KB of stack left; the CPU is an x86-64-v2.
    Calls on different threads need no lock: nothing is shared between them. */
 #ifndef DAGCBOR_H
@@ -93,6 +94,23 @@ int32_t dagcbor_links(const uint8_t *bytes, size_t length, uint8_t *out, size_t 
 
 /* The block's name: the CID of version 1, of the codec DAG-CBOR, by the SHA-256 of the bytes. Any bytes have one. */
 void dagcbor_name(const uint8_t *bytes, size_t length, uint8_t out[36]);
+
+/* What is said of the block of a section, beside its kind and its refusals above; or why no section is there. */
+enum dagcbor_section {
+    DAGCBOR_NOT_READ = 9,          /* the block is the one that is named, of another codec than DAG-CBOR, and was not read */
+    DAGCBOR_OTHER_BYTES = -22,     /* the digest of the block is not that of its CID */
+    DAGCBOR_NOT_VERIFIED = -23,    /* the CID is by another hash function than SHA-256 and identity; the block was not read */
+    DAGCBOR_TRUNCATED = -24,       /* the bytes end inside the length, or before as many follow */
+    DAGCBOR_INVALID_LENGTH = -25,  /* the length is no varint in shortest form below 2^64 */
+    DAGCBOR_INVALID_CID = -26      /* behind the length stands no CID, or it goes on behind the section; -27 is never answered */
+};
+
+/* The section that begins the bytes, as one behind the header of a file of blocks. From 0 where nothing is wrong with its
+   block: the number of its kind, or DAGCBOR_NOT_READ. Below 0 that of the refusal of the block, which is the one that is
+   named, or one of those above. Where a section is there, `places` become where its CID begins, where its block begins,
+   which is where the CID ends, and where the section ends with its block: the next one begins there. Else they stay.
+   It is gone through once for its digest, and once by the judge: what is behind it is not looked at. */
+int32_t dagcbor_car_section(const uint8_t *bytes, size_t length, size_t places[3]);
 
 /* Pointers that each call takes, also where there are no bytes, or there is no room, and the pointer is NULL. So
    dagcbor_links(bytes, length, dagcbor_into(NULL, 0), 0, &needed) asks how long the links are. */

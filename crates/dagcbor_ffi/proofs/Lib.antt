@@ -3,3 +3,4 @@ pub mod Putting
 pub mod Tapes
 pub mod Telling
 pub mod Spelling
+pub mod Naming

@@ -50,5 +50,6 @@ IsSpellAnswerOf (Some s) old new needed code = (needed ≡ min (length s) (2 ^ 6
     × (HasRoom s old × (new ≡ s ++ drop (length s) old) × IsCheckAnswer s code
     ⊎ (¬ HasRoom s old) × (code ≡ negsuc 20) × (new ≡ old))
 
+-- what `dagcbor_spell` answers of a tape over these bytes
 abbrev pub IsSpellAnswer : List ℕ → List Token → List ℕ → List ℕ → ℕ → ℤ → Type 0
 IsSpellAnswer b tape old new needed code = IsSpellAnswerOf (tape_told b tape) old new needed code

@@ -4,6 +4,10 @@ use Rattle.dagcbor_heads.specs.declared.error.DecodeError.{DecodeError}
 use Rattle.dagcbor_heads.specs.declared.error.DecodeError.TheVariants as refusals
 use Rattle.dagcbor_items.specs.declared.kind.Kind.{Kind}
 use Rattle.dagcbor_items.specs.declared.kind.Kind.TheVariants as kinds
+use Rattle.dagcbor_car.specs.declared.error.CarError.{CarError}
+use Rattle.dagcbor_car.specs.declared.error.CarError.TheVariants as faults
+use Rattle.dagcbor_car.specs.declared.verdict.Verdict.{Verdict}
+use Rattle.dagcbor_car.specs.declared.verdict.Verdict.TheVariants as verdicts
 
 -- the number of a kind, from 0
 abbrev pub kind_code : Kind → ℤ
@@ -38,6 +42,22 @@ refusal_code refusals.UnorderedKey = negsuc 16
 refusal_code refusals.OutOfMemory = negsuc 17
 refusal_code refusals.Failed = negsuc 18
 
+-- the number of a kind, from 0, or of a refusal, below 0
 abbrev pub answer_code : {E : Type 0} → Result Kind (DecodeError E) → ℤ
 answer_code (Ok kind) = kind_code kind
 answer_code (Err e) = refusal_code e
+
+-- the number of a verdict on a block under a name: from 0 where nothing is wrong
+abbrev pub verdict_code : Verdict → ℤ
+verdict_code (verdicts.Block kind) = kind_code kind
+verdict_code verdicts.NotRead = pos 9
+verdict_code (verdicts.Refused e) = refusal_code e
+verdict_code verdicts.OtherBytes = negsuc 21
+verdict_code verdicts.Unverified = negsuc 22
+
+-- the number of a cause for which no section stands; the last is of those that are none of a section
+abbrev pub fault_code : {E : Type 0} → CarError E → ℤ
+fault_code faults.Truncated = negsuc 23
+fault_code faults.InvalidLength = negsuc 24
+fault_code (faults.InvalidCid e) = negsuc 25
+fault_code _ = negsuc 26

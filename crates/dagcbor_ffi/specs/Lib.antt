@@ -3,3 +3,4 @@ pub mod Packed
 pub mod Tapes
 pub mod Told
 pub mod Answers
+pub mod Sections

@@ -15,9 +15,11 @@ use Rattle.dagcbor_items.specs.TreeKinds.{kind_of}
 use Rattle.dagcbor_items.specs.Slices.{IsBlock, SliceRefused}
 use Rattle.dagcbor_ffi.specs.declared.tape.Token.{Token}
 
+-- a token of these parts
 abbrev pub token : ℕ → ℕ → ℕ → Token
 token kind number place = record { kind = kind; number = number; place = place }
 
+-- the number in the token of a boolean
 abbrev pub boolean_number : Bool → ℕ
 boolean_number false = 0
 boolean_number true = 1
@@ -26,9 +28,11 @@ boolean_number true = 1
 abbrev pub token_at : ℕ → List ℕ → ℕ → ℕ → Token
 token_at at bs kind number = token kind number (at + length bs)
 
+-- the token of a text whose item begins at this place
 abbrev pub text_token : ℕ → List ℕ → Token
 text_token at s = token_at at (head 3 (length s)) 3 (length s)
 
+-- the token of an integer whose item begins at this place
 abbrev pub integer_token : ℕ → ℤ → Token
 integer_token at (pos n) = token_at at (head 0 n) 2 n
 integer_token at (negsuc n) = token_at at (head 1 n) 8 n

@@ -17,6 +17,7 @@ payload_at b place n = if nat_lt (length b) (place + n) then None else Some (tak
 abbrev pub null_told : ℕ → Option (List ℕ)
 null_told n = if nat_eq n 0 then Some (0xf6 ∷ []) else None
 
+-- the bytes that the number of a boolean's token tells, if it is one
 abbrev pub boolean_told : ℕ → Option (List ℕ)
 boolean_told n = if nat_eq n 0 then Some (0xf4 ∷ []) else if nat_eq n 1 then Some (0xf5 ∷ []) else None
 
@@ -24,6 +25,7 @@ boolean_told n = if nat_eq n 0 then Some (0xf4 ∷ []) else if nat_eq n 1 then S
 abbrev pub string_told : ℕ → List ℕ → ℕ → ℕ → Option (List ℕ)
 string_told major b n place = option_map (λ s. head major n ++ s) (payload_at b place n)
 
+-- the bytes of a link whose CID has n bytes at this place
 abbrev pub link_told : List ℕ → ℕ → ℕ → Option (List ℕ)
 link_told b n place = option_map (λ s. 0xd8 ∷ 0x2a ∷ head 2 (suc n) ++ 0x00 ∷ s) (payload_at b place n)
 

@@ -16,7 +16,7 @@ pub(crate) fn code_of<E>(answer: &Result<Kind, DecodeError<E>>) -> i32
     }
 }
 
-fn kind_code(kind: Kind) -> i32
+pub(crate) fn kind_code(kind: Kind) -> i32
     ensures { result ≡ kind_code kind }
 {
     match kind {
@@ -31,7 +31,7 @@ fn kind_code(kind: Kind) -> i32
     }
 }
 
-fn refusal_code<E>(refusal: &DecodeError<E>) -> i32
+pub(crate) fn refusal_code<E>(refusal: &DecodeError<E>) -> i32
     ensures { result ≡ refusal_code refusal.now }
 {
     match refusal {

@@ -1,25 +1,29 @@
-//! DAG-CBOR for callers in other languages: the judge of blocks, the links of an item, and a
-//! block's name, by the C ABI.
+//! DAG-CBOR for callers in other languages: the judge of blocks, the links of an item, a block's
+//! name, and the sections of a file of blocks, by the C ABI.
 //!
 //! A slice crosses as a pointer and a length. `include/dagcbor.h` has what C declares, and
 //! `docs/OTHER_LANGUAGES.md` what a caller owes.
 #![tactic(auto)]
 
 ghost use Rattle.std.specs.Prelude.{◌≡◌};
-ghost use Rattle.sha2.specs.Sha256.{sha256};
-ghost use Rattle.ipld_tree.specs.Cid.{cid_bytes, cid_parts};
-ghost use Rattle.dagcbor_ffi.specs.Answers.{IsCheckAnswer, IsLinksAnswer, IsTapeAnswer, IsSpellAnswer};
+ghost use Rattle.ipld_tree.specs.Cid.{cid_bytes};
+ghost use Rattle.dagcbor_car.specs.Names.{block_name};
+ghost use Rattle.dagcbor_ffi.specs.Answers.{IsCheckAnswer, IsLinksAnswer, IsTapeAnswer};
+ghost use Rattle.dagcbor_ffi.specs.Answers.{IsSpellAnswer};
+ghost use Rattle.dagcbor_ffi.specs.Sections.{IsSectionAnswer};
 
 mod code;
 pub mod laws;
 mod links;
 mod name;
+mod section;
 mod spell;
 mod tape;
 
 use crate::code::code_of;
 use crate::links::put_links;
 use crate::name::name_of;
+use crate::section::judge_section;
 use crate::spell::spell;
 use crate::tape::{Token, put_tape};
 use dagcbor_items::check_slice;
@@ -72,9 +76,22 @@ pub extern "C" fn dagcbor_spell(
 /// the bytes.
 #[unsafe(no_mangle)]
 pub extern "C" fn dagcbor_name(bytes: &[u8], out: &mut [u8; 36])
-    ensures { out.new ≡ cid_bytes (cid_parts 1 0x71 0x12 (sha256 bytes.now)) }
+    ensures { out.new ≡ cid_bytes (block_name bytes.now) }
 {
     *out = name_of(bytes);
+}
+
+/// What is said of the block of the section that begins the bytes of a file of blocks: from 0 the
+/// number of its kind, or 9 where its CID is of another codec; below 0 that of the refusal, or -22
+/// where the CID is not the block's, or -23 where it is by a hash function that is not known here.
+/// `places` become those of the section: where its CID begins, where its block does, and where it
+/// ends. Where no section begins the bytes they stay: -24 where the bytes end too early, -25 where no
+/// length stands first, and -26 where no CID stands behind it.
+#[unsafe(no_mangle)]
+pub extern "C" fn dagcbor_car_section(bytes: &[u8], places: &mut [usize; 3]) -> i32
+    ensures { IsSectionAnswer bytes.now places.old places.new result }
+{
+    judge_section(bytes, places)
 }
 
 #[cfg(test)]

@@ -3,7 +3,8 @@
 ghost use Rattle.std.specs.Prelude.{◌≡◌, ◌≤◌, length, take, None, Some, MatchOption};
 ghost use Rattle.dagcbor_heads.specs.Head.{head};
 ghost use Rattle.dagcbor_ffi.specs.Packed.{PutsBytes};
-ghost use Rattle.dagcbor_ffi.specs.Told.{payload_at, null_told, boolean_told, string_told, link_told};
+ghost use Rattle.dagcbor_ffi.specs.Told.{payload_at, null_told, boolean_told, string_told};
+ghost use Rattle.dagcbor_ffi.specs.Told.{link_told};
 ghost use Rattle.dagcbor_ffi.specs.Told.{bytes_told, tape_told, PutsTold, CountsTold, FillsTold};
 ghost use Rattle.dagcbor_ffi.specs.Answers.{IsCheckAnswer, IsSpellAnswer};
 
@@ -23,7 +24,8 @@ fn put_head(packed: &mut PackedLinks<'_>, major: u8, argument: u64)
 
 /// So many bytes from a place on.
 fn payload_at(bytes: &[u8], place: u64, n: u64) -> Option<&[u8]>
-    ensures { MatchOption result (payload_at bytes.now place n ≡ None) (λ s. payload_at bytes.now place n ≡ Some s.now) }
+    ensures { MatchOption result (payload_at bytes.now place n ≡ None)
+        (λ s. payload_at bytes.now place n ≡ Some s.now) }
 {
     let whole = bytes.len() as u64;
     if place > whole || n > whole - place {
@@ -55,7 +57,8 @@ fn put_boolean(packed: &mut PackedLinks<'_>, number: u64) -> Option<()>
 
 fn put_string(packed: &mut PackedLinks<'_>, major: u8, bytes: &[u8], token: &Token) -> Option<()>
     requires { major ≤ 7 }
-    ensures { PutsTold (string_told major bytes.now token.now.number token.now.place) packed.old packed.new result }
+    ensures { PutsTold (string_told major bytes.now token.now.number token.now.place) packed.old
+        packed.new result }
 {
     let payload = payload_at(bytes, token.place, token.number)?;
     put_head(packed, major, token.number);
@@ -64,7 +67,8 @@ fn put_string(packed: &mut PackedLinks<'_>, major: u8, bytes: &[u8], token: &Tok
 }
 
 fn put_link(packed: &mut PackedLinks<'_>, bytes: &[u8], token: &Token) -> Option<()>
-    ensures { PutsTold (link_told bytes.now token.now.number token.now.place) packed.old packed.new result }
+    ensures { PutsTold (link_told bytes.now token.now.number token.now.place) packed.old packed.new
+        result }
 {
     let cid = payload_at(bytes, token.place, token.number)?;
     packed.put(&[0xd8, 0x2a]);
@@ -83,7 +87,8 @@ fn put_plain(packed: &mut PackedLinks<'_>, major: u8, number: u64) -> Option<()>
 }
 
 fn put_told(packed: &mut PackedLinks<'_>, bytes: &[u8], token: &Token) -> Option<()>
-    ensures { PutsTold (bytes_told bytes.now token.now.kind token.now.number token.now.place) packed.old packed.new result }
+    ensures { PutsTold (bytes_told bytes.now token.now.kind token.now.number token.now.place)
+        packed.old packed.new result }
 {
     match token.kind {
         0 => put_null(packed, token.number),

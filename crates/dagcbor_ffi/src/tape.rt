@@ -50,7 +50,8 @@ fn token_before(kind: u64, number: u64, whole: usize, behind: &[u8]) -> Token
 
 /// What is behind n bytes.
 fn behind_payload(bytes: &[u8], n: u64) -> Option<&[u8]>
-    ensures { MatchOption result (length bytes.now < n) (λ rest. (n ≤ length bytes.now) × (rest.now ≡ drop n bytes.now)) }
+    ensures { MatchOption result (length bytes.now < n)
+        (λ rest. (n ≤ length bytes.now) × (rest.now ≡ drop n bytes.now)) }
 {
     if (bytes.len() as u64) < n {
         return None;

@@ -199,3 +199,30 @@ fn a_block_has_its_name(rt: HostRuntime) -> Result<(), Fail> {
     assert_eq!(rt; &name, EMPTY_MAP);
     Ok(())
 }
+
+/// The section of the list of 1, 2 and 3, by its SHA-256, and a byte behind it.
+const SECTION: &[u8] =
+    b"\x28\x01\x71\x12\x20\x4a\xbc\x31\x13\x7c\xe7\x38\xd9\xac\xeb\x8a\x1d\x1d\x51\xf1\x5c\xad\x42\
+    \xc2\xb0\x8d\xcb\x7e\xd1\x79\xf7\x37\xa1\x94\xb3\x55\xe7\x83\x01\x02\x03\xff";
+
+#[test]
+fn a_section_is_judged_and_placed(rt: HostRuntime) -> Result<(), Fail> {
+    let rows: [(&[u8], i32, [usize; 3]); 10] = [
+        (SECTION, 5, [1, 37, 41]),
+        (b"\x06\x01\x71\x00\x01\x05\x05", 2, [1, 6, 7]),
+        (b"\x09\x01\x71\x00\x02\x18\x05\x18\x05", -24, [99; 3]),
+        (b"\x08\x01\x71\x00\x02\x18\x05\x18\x05", -16, [1, 7, 9]),
+        (b"\x04\x01\x55\x00\x00\x84", 9, [1, 5, 5]),
+        (b"\x06\x01\x71\x00\x01\x05\x06", -22, [1, 6, 7]),
+        (b"\x06\x01\x71\x13\x01\x05\x05", -23, [1, 6, 7]),
+        (b"", -24, [99; 3]),
+        (b"\x84\x00\x01\x71\x00\x00", -25, [99; 3]),
+        (b"\x04\x02\x71\x00\x00", -26, [99; 3]),
+    ];
+    for (bytes, code, wanted) in rows {
+        let mut places = [99; 3];
+        assert_eq!(rt; dagcbor_car_section(bytes, &mut places), code);
+        assert_eq!(rt; places, wanted);
+    }
+    Ok(())
+}

@@ -8,6 +8,7 @@ use Rattle.dagcbor_heads.specs.declared.input.Input.TheVariants.{Slice, Reader}
 abbrev pub not_lending : Reading → Reading
 not_lending r = record r { lends = false }
 
+-- the reading of an input: of the slice, or of the reader, which does not lend
 abbrev pub input_reading : {R : Type 0} → (R → Reading) → Input R → Reading
 input_reading reading (Slice reader) = reader
 input_reading reading (Reader reader) = not_lending (reading reader)

@@ -13,6 +13,7 @@ pub record StepsLeft : Type 0 where
   pub left : ℕ
   pub budget : ℕ
 
+-- what contracts see of a reader
 pub record Reading : Type 0 where
   -- the bytes left, where the source tells them
   pub left : Option (List ℕ)
@@ -108,6 +109,7 @@ abbrev pub reference_bytes : Reference → List ℕ
 reference_bytes (Long s) = s.now
 reference_bytes (Short s) = s.now
 
+-- whether the bytes outlive the reader
 abbrev pub is_long : Reference → Bool
 is_long (Long s) = true
 is_long (Short s) = false

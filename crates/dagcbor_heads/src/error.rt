@@ -199,7 +199,8 @@ impl<E> DecodeError<E> {
     #[cold]
     #[inline(never)]
     pub fn unsupported(name: &str, found: u8) -> DecodeError<E>
-        ensures { (kept : Name) × (result ≡ DecodeError.Unsupported kept found) × Names kept name.now }
+        ensures { (kept : Name) × (result ≡ DecodeError.Unsupported kept found)
+            × Names kept name.now }
     {
         DecodeError::Unsupported {
             name: Name::new(name),

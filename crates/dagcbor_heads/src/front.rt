@@ -9,7 +9,8 @@ use crate::pull::least_argument;
 
 #[inline(always)]
 fn split_one(bytes: &[u8]) -> Option<(u64, &[u8])>
-    ensures { MatchOption result (length bytes.now < 1) (λ p. SplitsNumber 1 bytes.now p.0 p.1.now) }
+    ensures { MatchOption result (length bytes.now < 1)
+        (λ p. SplitsNumber 1 bytes.now p.0 p.1.now) }
 {
     let (number, rest) = bytes.split_first()?;
     Some((u64::from(*number), rest))
@@ -25,7 +26,8 @@ fn high_first_two(bytes: [u8; 2]) -> u16
 
 #[inline(always)]
 fn split_two(bytes: &[u8]) -> Option<(u64, &[u8])>
-    ensures { MatchOption result (length bytes.now < 2) (λ p. SplitsNumber 2 bytes.now p.0 p.1.now) }
+    ensures { MatchOption result (length bytes.now < 2)
+        (λ p. SplitsNumber 2 bytes.now p.0 p.1.now) }
 {
     let (front, rest) = bytes.split_first_chunk::<2>()?;
     Some((u64::from(high_first_two(*front)), rest))
@@ -41,7 +43,8 @@ fn high_first_four(bytes: [u8; 4]) -> u32
 
 #[inline(always)]
 fn split_four(bytes: &[u8]) -> Option<(u64, &[u8])>
-    ensures { MatchOption result (length bytes.now < 4) (λ p. SplitsNumber 4 bytes.now p.0 p.1.now) }
+    ensures { MatchOption result (length bytes.now < 4)
+        (λ p. SplitsNumber 4 bytes.now p.0 p.1.now) }
 {
     let (front, rest) = bytes.split_first_chunk::<4>()?;
     Some((u64::from(high_first_four(*front)), rest))
@@ -57,7 +60,8 @@ fn high_first_eight(bytes: [u8; 8]) -> u64
 
 #[inline(always)]
 fn split_eight(bytes: &[u8]) -> Option<(u64, &[u8])>
-    ensures { MatchOption result (length bytes.now < 8) (λ p. SplitsNumber 8 bytes.now p.0 p.1.now) }
+    ensures { MatchOption result (length bytes.now < 8)
+        (λ p. SplitsNumber 8 bytes.now p.0 p.1.now) }
 {
     let (front, rest) = bytes.split_first_chunk::<8>()?;
     Some((high_first_eight(*front), rest))
@@ -82,7 +86,8 @@ fn split_argument(information: u8, bytes: &[u8]) -> Option<(u64, &[u8])>
 /// The head at the front: its major type, its argument, and the bytes behind it.
 #[inline(always)]
 pub fn split_head(bytes: &[u8]) -> Option<(u8, u64, &[u8])>
-    ensures { MatchOption result (¬ BeginsWithHead bytes.now) (λ h. SplitsHead bytes.now h.0 h.1 h.2.now) }
+    ensures { MatchOption result (¬ BeginsWithHead bytes.now)
+        (λ h. SplitsHead bytes.now h.0 h.1 h.2.now) }
 {
     let (front, behind) = bytes.split_first()?;
     let first = *front;

@@ -37,9 +37,13 @@ impl<'de, R: Read> Input<'de, R> {
     pub fn take_string(&mut self, kind: u8) -> Option<&'de [u8]>
         ensures taken { MatchOption result
             (self.new ≡ self.old)
-            (λ s. (kind < 8) × (length s.now < 2 ^ 64) × Takes (input_reading R.reading self.old) (head kind (length s.now) ++ s.now) (input_reading R.reading self.new)) }
+            (λ s. (kind < 8) × (length s.now < 2 ^ 64)
+            × Takes (input_reading R.reading self.old) (head kind (length s.now) ++ s.now)
+            (input_reading R.reading self.new)) }
         ensures lends { IfSome result (λ _. (input_reading R.reading self.old).lends ≡ true) }
-        ensures looked { IfSome result (λ _. LooksAtTaken 2 0 (input_reading R.reading self.old) (input_reading R.reading self.new)) }
+        ensures looked { IfSome result
+            (λ _. LooksAtTaken 2 0 (input_reading R.reading self.old)
+            (input_reading R.reading self.new)) }
     {
         match self {
             Input::Slice(reader) => reader.take_string(kind),
@@ -49,7 +53,8 @@ impl<'de, R: Read> Input<'de, R> {
 
     /// The reader, where it is no slice.
     pub fn into_reader(self) -> Option<R>
-        ensures { MatchOption result ((input_reading R.reading self.entry).lends ≡ true) (λ r. self.entry ≡ Reader r) }
+        ensures { MatchOption result ((input_reading R.reading self.entry).lends ≡ true)
+            (λ r. self.entry ≡ Reader r) }
     {
         match self {
             Input::Slice(reader) => {

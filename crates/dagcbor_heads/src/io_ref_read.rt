@@ -41,7 +41,8 @@ impl<'r, R: BufRead> Model for IoRefReader<'r, R> {
 impl<'r, R: BufRead> IoRefReader<'r, R> {
     /// A reader over the source, with a budget of `DEFAULT_STEPS`.
     pub fn new(source: &'r mut R) -> IoRefReader<'r, R>
-        ensures { result ≡ fresh_reading (R.remaining source.old) default_steps false (source.entry.ghost_name ∷ []) }
+        ensures { result ≡ fresh_reading (R.remaining source.old) default_steps false
+            (source.entry.ghost_name ∷ []) }
     {
         IoRefReader::with_depth(source, DEFAULT_STEPS)
     }
@@ -49,7 +50,8 @@ impl<'r, R: BufRead> IoRefReader<'r, R> {
     /// A reader over the source, with a budget of so many steps.
     pub fn with_depth(source: &'r mut R, steps: usize) -> IoRefReader<'r, R>
         requires { steps ≤ 1024 }
-        ensures { result ≡ fresh_reading (R.remaining source.old) steps false (source.entry.ghost_name ∷ []) }
+        ensures { result ≡ fresh_reading (R.remaining source.old) steps false
+            (source.entry.ghost_name ∷ []) }
     {
         IoRefReader {
             source,

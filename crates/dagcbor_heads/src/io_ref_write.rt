@@ -29,7 +29,11 @@ impl<'w, W: io::Write> Model for IoRefWriter<'w, W> {
 impl<'w, W: io::Write> IoRefWriter<'w, W> {
     /// A writer to a device that is lent, and has not faulted yet.
     pub fn new(device: &'w mut W) -> IoRefWriter<'w, W>
-        ensures { result ≡ record { bytes = W.contents device.old; faults = 0; through = device.entry.ghost_name ∷ [] } }
+        ensures { result ≡ record {
+          bytes = W.contents device.old;
+          faults = 0;
+          through = device.entry.ghost_name ∷ [];
+        } }
     {
         IoRefWriter {
             device,

@@ -67,7 +67,8 @@ pub(crate) fn push_all<W: io::Write>(
     faults: &mut Tally,
     bytes: &[u8],
 ) -> Result<(), EncodeError<io::Error>>
-    ensures written { Writes (Some bytes.now) (record { bytes = W.contents device.old; faults = faults.old.count; through = [] })
+    ensures written { Writes (Some bytes.now)
+        (record { bytes = W.contents device.old; faults = faults.old.count; through = [] })
         (record { bytes = W.contents device.new; faults = faults.new.count; through = [] }) result }
     ensures memory { WantsMemoryOnlyIf false result }
 {
@@ -87,7 +88,8 @@ pub(crate) fn push_all<W: io::Write>(
 /// Writes at least one of the bytes, and answers how many: that the device takes none is a fault.
 fn write_some<W: io::Write>(device: &mut W, bytes: &[u8]) -> io::Result<usize>
     ensures some { IfOk result (λ n. (0 < n) × (n ≤ length bytes.now)) }
-    ensures written { WriteAppends (W.contents device.old) (W.contents device.new) result bytes.now }
+    ensures written { WriteAppends (W.contents device.old)
+        (W.contents device.new) result bytes.now }
 {
     match device.write(bytes)? {
         0 => Err(io::Error::from(ErrorKind::WriteZero)),

@@ -38,7 +38,8 @@ fn look<R: Read>(reader: &mut R) -> Result<Option<u8>, R::Error>
     ensures found { MatchResult result
         (λ found. MatchOption found
         (FindsEnd (R.reading reader.old) (R.reading reader.new))
-        (λ byte. ShowsByte (R.reading reader.old) byte (R.reading reader.new) × (1 ≤ length (R.reading reader.new).shown)))
+        (λ byte. ShowsByte (R.reading reader.old) byte (R.reading reader.new)
+        × (1 ≤ length (R.reading reader.new).shown)))
         (λ _. Fails (R.reading reader.old) (R.reading reader.new)) }
 {
     reader.prepare(1)?;
@@ -88,7 +89,8 @@ pub fn is_at_end<R: Read>(reader: &mut R) -> Result<bool, R::Error>
 pub fn peek_one<R: Read>(name: &str, reader: &mut R) -> ReadResult<u8, R>
     ensures shown { MatchResult result
         (λ byte. ShowsByte (R.reading reader.old) byte (R.reading reader.new))
-        (λ e. RefusesPlainly (HasByte (R.reading reader.old)) ByteCause (R.reading reader.old) e (R.reading reader.new)) }
+        (λ e. RefusesPlainly (HasByte (R.reading reader.old)) ByteCause (R.reading reader.old) e
+        (R.reading reader.new)) }
     ensures variant { IfErr result (λ e. IsEndNamed name.now e) }
     ensures looked { LooksOnce (R.reading reader.old) (R.reading reader.new) }
 {
@@ -103,7 +105,8 @@ pub fn peek_one<R: Read>(name: &str, reader: &mut R) -> ReadResult<u8, R>
 pub fn pull_one<R: Read>(name: &str, reader: &mut R) -> ReadResult<u8, R>
     ensures taken { MatchResult result
         (λ byte. Takes (R.reading reader.old) (byte ∷ []) (R.reading reader.new))
-        (λ e. RefusesPlainly (HasByte (R.reading reader.old)) ByteCause (R.reading reader.old) e (R.reading reader.new)) }
+        (λ e. RefusesPlainly (HasByte (R.reading reader.old)) ByteCause (R.reading reader.old) e
+        (R.reading reader.new)) }
     ensures variant { IfErr result (λ e. IsEndNamed name.now e) }
     ensures looked { Looks 2 (R.reading reader.old) result (R.reading reader.new) }
     ensures at_most { LooksAtMost 2 (R.reading reader.old) (R.reading reader.new) }
@@ -148,8 +151,10 @@ pub(crate) fn least_argument(information: u8) -> u64
 fn pull_argument<R: Read>(name: &str, reader: &mut R, width: u16) -> ReadResult<u64, R>
     requires { width ≤ 8 }
     ensures taken { MatchResult result
-        (λ n. (n < 256 ^ width) × Takes (R.reading reader.old) (bytes_high_first width n) (R.reading reader.new))
-        (λ e. RefusesPlainly (HasPayload width (R.reading reader.old)) (ArgumentCause width) (R.reading reader.old) e (R.reading reader.new)) }
+        (λ n. (n < 256 ^ width)
+        × Takes (R.reading reader.old) (bytes_high_first width n) (R.reading reader.new))
+        (λ e. RefusesPlainly (HasPayload width (R.reading reader.old)) (ArgumentCause width)
+        (R.reading reader.old) e (R.reading reader.new)) }
     ensures variant { IfErr result (λ e. IsEndNamed name.now e) }
     ensures looked { Looks 2 (R.reading reader.old) result (R.reading reader.new) }
     ensures at_most { LooksAtMost (2 * width) (R.reading reader.old) (R.reading reader.new) }
@@ -170,7 +175,8 @@ fn pull_argument<R: Read>(name: &str, reader: &mut R, width: u16) -> ReadResult<
 pub fn pull_head<R: Read>(name: &str, reader: &mut R) -> ReadResult<(u8, u64, u8), R>
     ensures taken { MatchResult result
         (λ h. TakesHead (R.reading reader.old) h.0 h.1 h.2 (R.reading reader.new))
-        (λ e. RefusesPlainly (HasHead (R.reading reader.old)) HeadCause (R.reading reader.old) e (R.reading reader.new)) }
+        (λ e. RefusesPlainly (HasHead (R.reading reader.old)) HeadCause (R.reading reader.old) e
+        (R.reading reader.new)) }
     ensures variant { IfErr result (λ e. IsNamed name.now e) }
     ensures looked { Looks 2 (R.reading reader.old) result (R.reading reader.new) }
     ensures at_most { LooksAtMost 18 (R.reading reader.old) (R.reading reader.new) }
@@ -201,8 +207,10 @@ pub fn pull_head<R: Read>(name: &str, reader: &mut R) -> ReadResult<(u8, u64, u8
 #[inline(never)]
 fn pull_head_argument_slowly<R: Read>(name: &str, reader: &mut R) -> ReadResult<u64, R>
     ensures taken { MatchResult result
-        (λ n. (major first : ℕ) × TakesHead (R.reading reader.old) major n first (R.reading reader.new))
-        (λ e. RefusesPlainly (HasHead (R.reading reader.old)) HeadCause (R.reading reader.old) e (R.reading reader.new)) }
+        (λ n. (major first : ℕ)
+        × TakesHead (R.reading reader.old) major n first (R.reading reader.new))
+        (λ e. RefusesPlainly (HasHead (R.reading reader.old)) HeadCause (R.reading reader.old) e
+        (R.reading reader.new)) }
     ensures variant { IfErr result (λ e. IsNamed name.now e) }
     ensures looked { Looks 2 (R.reading reader.old) result (R.reading reader.new) }
 {
@@ -215,8 +223,10 @@ fn pull_head_argument_slowly<R: Read>(name: &str, reader: &mut R) -> ReadResult<
 #[inline(never)]
 pub fn pull_head_argument<R: Read>(name: &str, reader: &mut R) -> ReadResult<u64, R>
     ensures taken { MatchResult result
-        (λ n. (major first : ℕ) × TakesHead (R.reading reader.old) major n first (R.reading reader.new))
-        (λ e. RefusesPlainly (HasHead (R.reading reader.old)) HeadCause (R.reading reader.old) e (R.reading reader.new)) }
+        (λ n. (major first : ℕ)
+        × TakesHead (R.reading reader.old) major n first (R.reading reader.new))
+        (λ e. RefusesPlainly (HasHead (R.reading reader.old)) HeadCause (R.reading reader.old) e
+        (R.reading reader.new)) }
     ensures variant { IfErr result (λ e. IsNamed name.now e) }
     ensures looked { Looks 2 (R.reading reader.old) result (R.reading reader.new) }
 {
@@ -240,7 +250,8 @@ fn append_front(payload: &mut Vec<u8>, bytes: &[u8], want: u64) -> Result<usize,
 /// end.
 fn gather_some<R: Read>(reader: &mut R, payload: &mut Vec<u8>, want: u64) -> ReadResult<usize, R>
     ensures gathered { MatchResult result
-        (λ n. Gathers (R.reading reader.old) payload.old.items want n payload.new.items (R.reading reader.new))
+        (λ n. Gathers (R.reading reader.old) payload.old.items want n payload.new.items
+        (R.reading reader.new))
         (λ e. RefusesOrLacksMemory ⊤ (λ _ _. ⊥) (R.reading reader.old) e (R.reading reader.new)) }
     ensures variant { IfErr result IsFaultOrLack }
     ensures looked { Looks 2 (R.reading reader.old) result (R.reading reader.new) }
@@ -266,7 +277,8 @@ fn gather_some<R: Read>(reader: &mut R, payload: &mut Vec<u8>, want: u64) -> Rea
 fn gather<R: Read>(alloc: Global, name: &str, reader: &mut R, n: u64) -> ReadResult<Vec<u8>, R>
     ensures taken { MatchResult result
         (λ v. (length v.items ≡ n) × Takes (R.reading reader.old) v.items (R.reading reader.new))
-        (λ e. RefusesOrLacksMemory (HasPayload n (R.reading reader.old)) (PayloadCause n) (R.reading reader.old) e (R.reading reader.new)) }
+        (λ e. RefusesOrLacksMemory (HasPayload n (R.reading reader.old)) (PayloadCause n)
+        (R.reading reader.old) e (R.reading reader.new)) }
     ensures variant { IfErr result (λ e. IsPayloadNamed name.now e) }
     ensures looked { Looks 2 (R.reading reader.old) result (R.reading reader.new) }
     ensures at_most { LooksAtMost (2 * n) (R.reading reader.old) (R.reading reader.new) }
@@ -291,13 +303,18 @@ pub fn pull_payload<'de, R: Read>(
     n: u64,
 ) -> ReadResult<CowSlice<'de, u8>, R>
     ensures taken { MatchResult result
-        (λ c. (length (cow_slice_items c) ≡ n) × Takes (input_reading R.reading input.old) (cow_slice_items c) (input_reading R.reading input.new))
-        (λ e. RefusesOrLacksMemoryUnlent (HasPayload n (input_reading R.reading input.old)) (PayloadCause n)
+        (λ c. (length (cow_slice_items c) ≡ n)
+        × Takes (input_reading R.reading input.old) (cow_slice_items c)
+        (input_reading R.reading input.new))
+        (λ e. RefusesOrLacksMemoryUnlent (HasPayload n (input_reading R.reading input.old))
+        (PayloadCause n)
         (input_reading R.reading input.old) e (input_reading R.reading input.new)) }
-    ensures lent { IfOk result (λ c. IsBorrowedSlice c ↔ ((input_reading R.reading input.old).lends ≡ true)) }
+    ensures lent { IfOk result
+        (λ c. IsBorrowedSlice c ↔ ((input_reading R.reading input.old).lends ≡ true)) }
     ensures variant { IfErr result (λ e. IsPayloadNamed name.now e) }
     ensures looked { OverInput R.reading (Looks 2) input.old result input.new }
-    ensures at_most { LooksAtMost (2 * n) (input_reading R.reading input.old) (input_reading R.reading input.new) }
+    ensures at_most { LooksAtMost (2 * n) (input_reading R.reading input.old)
+        (input_reading R.reading input.new) }
 {
     match input {
         Input::Slice(reader) => match reader.lend(n) {
@@ -328,7 +345,8 @@ fn copy_some<R: Read, const CAP: usize>(
 ) -> Result<usize, R::Error>
     requires { length payload.old.items + want ≤ CAP }
     ensures gathered { MatchResult result
-        (λ n. Gathers (R.reading reader.old) payload.old.items want n payload.new.items (R.reading reader.new))
+        (λ n. Gathers (R.reading reader.old) payload.old.items want n payload.new.items
+        (R.reading reader.new))
         (λ _. Fails (R.reading reader.old) (R.reading reader.new)) }
     ensures looked { Looks 2 (R.reading reader.old) result (R.reading reader.new) }
     ensures at_most { MatchResult result
@@ -350,7 +368,8 @@ pub fn pull_short_payload<R: Read, const CAP: usize>(
     requires { n ≤ CAP }
     ensures taken { MatchResult result
         (λ v. (length v.items ≡ n) × Takes (R.reading reader.old) v.items (R.reading reader.new))
-        (λ e. RefusesPlainly (HasPayload n (R.reading reader.old)) (PayloadCause n) (R.reading reader.old) e (R.reading reader.new)) }
+        (λ e. RefusesPlainly (HasPayload n (R.reading reader.old)) (PayloadCause n)
+        (R.reading reader.old) e (R.reading reader.new)) }
     ensures variant { IfErr result (λ e. IsEndNamed name.now e) }
     ensures looked { Looks 2 (R.reading reader.old) result (R.reading reader.new) }
     ensures at_most { LooksAtMost (2 * n) (R.reading reader.old) (R.reading reader.new) }

@@ -37,7 +37,8 @@ pub fn head_bytes(major: u8, argument: u64) -> ([u8; 9], usize)
 #[tactic(auto, unfolding(crate::specs::Head::head))]
 pub fn push_head<W: Write>(writer: &mut W, major: u8, argument: u64) -> WriteResult<(), W>
     requires { major ≤ 7 }
-    ensures written { Writes (Some (head major argument)) (W.written writer.old) (W.written writer.new) result }
+    ensures written { Writes (Some (head major argument)) (W.written writer.old)
+        (W.written writer.new) result }
     ensures memory { WantsMemoryOnlyIf W.takes_memory result }
 {
     if argument <= 23 {

@@ -67,8 +67,10 @@ pub trait Read: Drop {
         ensures taken { MatchOption result
             (reading self.new ≡ reading self.old)
             (λ h. TakesHead (reading self.old) h.0 h.1 h.2 (reading self.new)) }
-        ensures looked { IfSome result (λ _. LooksAtTaken 2 0 (reading self.old) (reading self.new)) }
-        ensures at_most { IfSome result (λ _. LooksAtMost 18 (reading self.old) (reading self.new)) }
+        ensures looked { IfSome result
+            (λ _. LooksAtTaken 2 0 (reading self.old) (reading self.new)) }
+        ensures at_most { IfSome result
+            (λ _. LooksAtMost 18 (reading self.old) (reading self.new)) }
     {
         None
     }
@@ -139,7 +141,8 @@ impl<'a> SliceReader<'a> {
     pub fn take_string(&mut self, kind: u8) -> Option<&'a [u8]>
         ensures taken { MatchOption result
             (self.new ≡ self.old)
-            (λ s. (kind < 8) × (length s.now < 2 ^ 64) × Takes self.old (head kind (length s.now) ++ s.now) self.new) }
+            (λ s. (kind < 8) × (length s.now < 2 ^ 64)
+            × Takes self.old (head kind (length s.now) ++ s.now) self.new) }
         ensures lends { self.old.lends ≡ true }
         ensures looked { IfSome result (λ _. LooksAtTaken 2 0 self.old self.new) }
     {
@@ -163,7 +166,8 @@ impl<'a> SliceReader<'a> {
         ensures lends { self.old.lends ≡ true }
         ensures lent { MatchOption result
             ((self.new ≡ self.old) × ((b : List ℕ) → self.old.left ≡ Some b → length b < n))
-            (λ s. (length s.now ≡ n) × Takes self.old s.now self.new × (self.new.looked ≡ self.old.looked + n)) }
+            (λ s. (length s.now ≡ n) × Takes self.old s.now self.new
+            × (self.new.looked ≡ self.old.looked + n)) }
     {
         if (self.rest.len() as u64) < n {
             return None;

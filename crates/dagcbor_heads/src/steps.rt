@@ -43,7 +43,8 @@ impl Steps {
     /// Spends one, and answers false where none is left.
     pub(crate) fn spend(&mut self) -> bool
         ensures { MatchBool result
-            ((0 < self.old.left) × (self.new.left < self.new.budget) × (self.new ≡ record { left = self.old.left - 1; budget = self.old.budget }))
+            ((0 < self.old.left) × (self.new.left < self.new.budget)
+            × (self.new ≡ record { left = self.old.left - 1; budget = self.old.budget }))
             ((self.old.left ≡ 0) × (self.new ≡ self.old)) }
     {
         if self.left == 0 {

@@ -50,11 +50,16 @@ impl Window {
     /// wanted, and none only at the end, or where none is wanted. A fault is counted.
     pub(crate) fn look<R: BufRead>(&mut self, source: &mut R, want: usize) -> io::Result<()>
         ensures { MatchResult result
-            (λ _. Copies (R.remaining source.old) (R.remaining source.new) (R.consumable_len source.new) want self.new.shown
+            (λ _. Copies (R.remaining source.old) (R.remaining source.new)
+            (R.consumable_len source.new) want self.new.shown
             × (self.new.faults ≡ self.old.faults)
             × (self.new.looked ≡ self.old.looked + min want (length self.new.shown)))
             (λ _. IfSome (R.remaining source.old) (λ b. R.remaining source.new ≡ Some b)
-            × (self.new ≡ record { shown = []; faults = self.old.faults + 1; looked = self.old.looked })) }
+            × (self.new ≡ record {
+              shown = [];
+              faults = self.old.faults + 1;
+              looked = self.old.looked;
+            })) }
     {
         self.count = 0;
         match source.fill_buf() {
@@ -78,7 +83,11 @@ impl Window {
 
     /// Shows nothing any more: n bytes were taken.
     pub(crate) fn clear(&mut self, n: usize)
-        ensures { self.new ≡ record { shown = []; faults = self.old.faults; looked = self.old.looked + n } }
+        ensures { self.new ≡ record {
+          shown = [];
+          faults = self.old.faults;
+          looked = self.old.looked + n;
+        } }
     {
         self.count = 0;
         self.looked.add(n);

@@ -98,7 +98,8 @@ impl Write for BufWriter {
 
     /// Appends the bytes. Where memory runs out, nothing has changed.
     fn push(&mut self, bytes: &[u8]) -> Result<(), EncodeError<Infallible>>
-        ensures written { Writes (Some bytes.now) (record { bytes = Some self.old; faults = 0; through = [] })
+        ensures written { Writes (Some bytes.now)
+            (record { bytes = Some self.old; faults = 0; through = [] })
             (record { bytes = Some self.new; faults = 0; through = [] }) result }
         ensures memory { WantsMemoryOnlyIf true result }
         ensures unchanged { OnErr result (self.new ≡ self.old) }

@@ -12,7 +12,7 @@ use Rattle.dagcbor_heads.specs.declared.error.DecodeError.{DecodeError}
 use Rattle.dagcbor_heads.specs.declared.error.DecodeError.TheVariants.{Msg}
 use Rattle.ipld_tree.specs.Spelling.{IsFront}
 use Rattle.ipld_tree.proofs.Fronts.{front_unique}
-use Rattle.dagcbor_items.specs.Reads.{HasFront, TakesFront}
+use Rattle.dagcbor_items.specs.TypedReads.{HasFront, TakesFront}
 use Rattle.dagcbor_items.specs.Shapes.{only, view_text, view_char, leaf}
 use Rattle.dagcbor_items.proofs.StringReads.{shown_text}
 use Rattle.dagcbor_items.specs.LeafCauses.{CharCause}

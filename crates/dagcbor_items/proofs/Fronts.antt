@@ -17,7 +17,7 @@ use Rattle.ipld_tree.proofs.Fronts.{front_head, front_first, front_nonempty, maj
 use Rattle.dagcbor_items.specs.ItemCauses.{CauseInside}
 use Rattle.dagcbor_items.proofs.Places.{cause_here}
 use Rattle.dagcbor_items.specs.Shapes.{Shape}
-use Rattle.dagcbor_items.specs.Reads.{HasFront}
+use Rattle.dagcbor_items.specs.TypedReads.{HasFront}
 use Rattle.dagcbor_items.specs.Untyped.{HasItem, TakesItem, StartsWithMajor}
 
 -- ---- the major type at the front

@@ -16,7 +16,7 @@ use Rattle.dagcbor_heads.proofs.Refusing.{passed_on, byte_in_head, end_named}
 use Rattle.ipld_tree.specs.Tree.{Tree}
 use Rattle.ipld_tree.proofs.Unique.{major, argument, payload, argument_fits}
 use Rattle.ipld_tree.proofs.Fronts.{front_head}
-use Rattle.dagcbor_items.specs.Reads.{HasFront, TakesFront}
+use Rattle.dagcbor_items.specs.TypedReads.{HasFront, TakesFront}
 use Rattle.dagcbor_items.specs.FirstBytes.{BeginsFrom}
 use Rattle.dagcbor_items.specs.LeafCauses.{MajorCause}
 use Rattle.dagcbor_items.specs.Majors.{HasMajor, TakesMajor}

@@ -21,7 +21,7 @@ use Rattle.ipld_tree.specs.Tree.{Tree, integer}
 use Rattle.ipld_tree.specs.Spelling.{IsFront}
 use Rattle.ipld_tree.proofs.Unique.{major, integer_major}
 use Rattle.ipld_tree.proofs.Fronts.{front_unique}
-use Rattle.dagcbor_items.specs.Reads.{HasFront, TakesFront, Reads}
+use Rattle.dagcbor_items.specs.TypedReads.{HasFront, TakesFront, Reads}
 use Rattle.dagcbor_items.specs.Shapes.{within, number_of, view_number, leaf}
 use Rattle.dagcbor_items.specs.LeafCauses.{BeginsNoBig, MajorCause, IsOutside, BigCause}
 use Rattle.dagcbor_items.specs.Majors.{HasMajor, TakesMajor}

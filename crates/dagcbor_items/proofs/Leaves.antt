@@ -13,7 +13,7 @@ use Rattle.ipld_tree.specs.Spelling.{spelling}
 use Rattle.ipld_tree.proofs.Unique.{major}
 use Rattle.ipld_tree.proofs.Fronts.{front_first, is_simple}
 use Rattle.dagcbor_items.specs.Shapes.{Shape}
-use Rattle.dagcbor_items.specs.Reads.{HasFront}
+use Rattle.dagcbor_items.specs.TypedReads.{HasFront}
 use Rattle.dagcbor_items.specs.ItemCauses.{CauseInside}
 use Rattle.dagcbor_items.proofs.Places.{cause_here}
 use Rattle.dagcbor_items.specs.Untyped.{HasItem}

@@ -1,4 +1,4 @@
-pub mod Variants
+pub mod PartRefusals
 pub mod Places
 pub mod Fronts
 pub mod Leaves

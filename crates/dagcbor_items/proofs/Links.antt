@@ -20,7 +20,7 @@ use Rattle.ipld_tree.proofs.Cids.{cid_length}
 use Rattle.ipld_tree.proofs.Unique.{split_at_length}
 use Rattle.ipld_tree.proofs.Fronts.{is_link}
 use Rattle.dagcbor_items.specs.Shapes.{Shape, view_link, leaf}
-use Rattle.dagcbor_items.specs.Reads.{HasFront, TakesFront}
+use Rattle.dagcbor_items.specs.TypedReads.{HasFront, TakesFront}
 use Rattle.dagcbor_items.specs.FirstBytes.{BeginsAs}
 use Rattle.dagcbor_items.specs.LinkCauses.{IsOtherByte, LinkBytesCause, LinkCause}
 use Rattle.dagcbor_items.specs.ItemCauses.{CauseInside}

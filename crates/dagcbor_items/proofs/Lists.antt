@@ -14,7 +14,7 @@ use Rattle.ipld_tree.specs.declared.ipld.Ipld.{Ipld, List as List'}
 use Rattle.ipld_tree.proofs.Trees.{items_need_push, tree_of_List}
 use Rattle.ipld_tree.proofs.Fronts.{list_closed, item_opened, item_closed, items_after, is_list}
 use Rattle.dagcbor_items.specs.Shapes.{Shape}
-use Rattle.dagcbor_items.specs.Reads.{HasFront}
+use Rattle.dagcbor_items.specs.TypedReads.{HasFront}
 use Rattle.dagcbor_items.specs.ItemCauses.{CauseInside, CauseInItems}
 use Rattle.dagcbor_items.specs.Untyped.{any_item, HasItem, TakesItem, StartsWithMajor}
 use Rattle.dagcbor_items.specs.Entering.{Enters}

@@ -11,7 +11,7 @@ use Rattle.dagcbor_heads.proofs.Heads.{head_first}
 use Rattle.dagcbor_heads.proofs.Looking.{looks_both, looks_then}
 use Rattle.ipld_tree.specs.Tree.{Tree}
 use Rattle.dagcbor_items.specs.Untyped.{StartsWithMajor}
-use Rattle.dagcbor_items.specs.Reads.{Reads, TakesFront}
+use Rattle.dagcbor_items.specs.TypedReads.{Reads, TakesFront}
 use Rattle.dagcbor_items.specs.Shapes.{Shape, leaf}
 use Rattle.dagcbor_items.proofs.Fronts.{shorter}
 

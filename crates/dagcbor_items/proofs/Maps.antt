@@ -14,7 +14,7 @@ use Rattle.ipld_tree.specs.declared.ipld.Ipld.{Ipld, Map as Map'}
 use Rattle.ipld_tree.proofs.Trees.{tree_of_Map}
 use Rattle.ipld_tree.proofs.Fronts.{is_mapping}
 use Rattle.dagcbor_items.specs.Shapes.{Shape}
-use Rattle.dagcbor_items.specs.Reads.{HasFront}
+use Rattle.dagcbor_items.specs.TypedReads.{HasFront}
 use Rattle.dagcbor_items.specs.Places.{Follows, last_key}
 use Rattle.dagcbor_items.specs.ItemCauses.{KeyCause, CauseInside, CauseInEntries}
 use Rattle.dagcbor_items.specs.Untyped.{HasItem, TakesItem, StartsWithMajor}

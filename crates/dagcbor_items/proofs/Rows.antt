@@ -6,7 +6,7 @@ use Rattle.ipld_tree.specs.Tree.{Tree, text, list, mapping, Items, no_items, ite
 use Rattle.ipld_tree.specs.Spelling.{item_count, entry_count, items_spelling, entries_spelling, IsFront, AreFronts, AreEntryFronts}
 use Rattle.ipld_tree.proofs.Fronts.{list_opened, map_opened, item_opened, entry_opened, front_unique}
 use Rattle.dagcbor_items.specs.Shapes.{Shape}
-use Rattle.dagcbor_items.specs.Reads.{HasFront}
+use Rattle.dagcbor_items.specs.TypedReads.{HasFront}
 use Rattle.dagcbor_items.specs.Places.{Follows}
 use Rattle.dagcbor_items.specs.Untyped.{TakesItem}
 use Rattle.dagcbor_items.specs.Entering.{Enters}

@@ -12,7 +12,7 @@ use Rattle.dagcbor_heads.proofs.Refusing.{passed_on}
 use Rattle.ipld_tree.specs.Tree.{Tree, null, boolean, IsTree}
 use Rattle.ipld_tree.specs.Spelling.{IsSpellable, spelling, boolean_spelling}
 use Rattle.dagcbor_items.proofs.Fronts.{front_byte}
-use Rattle.dagcbor_items.specs.Reads.{HasFront, TakesFront}
+use Rattle.dagcbor_items.specs.TypedReads.{HasFront, TakesFront}
 use Rattle.dagcbor_items.specs.Shapes.{view_null, view_bool, leaf}
 use Rattle.dagcbor_items.specs.Links.{HasWanted}
 use Rattle.dagcbor_items.specs.LinkCauses.{IsOtherByte}

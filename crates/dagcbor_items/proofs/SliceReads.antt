@@ -1,6 +1,6 @@
 -- Slices that are read as one item, or whose first item is.
 use Rattle.std.proofs.Common.{◌≡◌, ◌≢◌, ◌++◌, append-nil, inl, inr, ℕ, ◌+◌, ◌<◌, true, false, List, [], ◌∷◌, length, refl, sym, ap, ◌∙◌, subst, arith}
-use Rattle.std.specs.Prelude.{Option, Some, Result, Ok, Err, Vec, ⊤}
+use Rattle.std.specs.Prelude.{Option, Some, Result, Ok, Err, MatchResult, IfOk, IfErr, Vec, ⊤}
 use Rattle.std.specs.declared.alloc.Global.{Global}
 use Rattle.std.specs.declared.convert.Infallible.{Infallible}
 use Rattle.dagcbor_heads.specs.Reading.{Reading}
@@ -12,15 +12,35 @@ use Rattle.dagcbor_heads.specs.declared.error.DecodeError.TheVariants.{Read, Req
 use Rattle.ipld_tree.specs.Cid.{CidParts}
 use Rattle.ipld_tree.specs.Tree.{Tree}
 use Rattle.ipld_tree.specs.Spelling.{spelling, IsFront, IsSpelling}
+use Rattle.ipld_tree.specs.Ipld.{tree_of}
+use Rattle.ipld_tree.specs.declared.ipld.Ipld.{Ipld}
 use Rattle.ipld_tree.proofs.Fronts.{front_unique}
 use Rattle.dagcbor_items.specs.ItemCauses.{KeyCause, CauseInside}
 use Rattle.dagcbor_items.specs.LinkCauses.{LinkCause}
 use Rattle.dagcbor_items.specs.Untyped.{HasItem, TakesItem}
-use Rattle.dagcbor_items.specs.Walks.{Sink, WalkLacks, HandsLinks, RefusesWalk, GathersLinks}
+use Rattle.dagcbor_items.specs.Walks.{Sink, forms, WalkLacks, HandsLinks, RefusesWalk, GathersLinks}
 use Rattle.dagcbor_items.specs.Judging.{SplitsItem}
-use Rattle.dagcbor_items.specs.Slices.{IsBlock, SliceRefused, PullsEnd, AreFirstLinks, LinksRefused, ReadsFirstLinks, RefusesFirst}
+use Rattle.dagcbor_items.specs.Slices.{IsBlock, SliceRefused, PullsEnd, AreFirstLinks, LinksRefused, RefusesFirst}
 use Rattle.dagcbor_items.proofs.Places.{at_steps, no_item}
 use Rattle.dagcbor_items.proofs.Steps.{more_lacks}
+
+-- ---- both sides of a call
+
+pub if_ok : {T E : Type 0} (P : T → Type 0) (Q : E → Type 0) (r : Result T E) → MatchResult r P Q → IfOk r P
+if_ok P Q (Ok v) h = h
+if_ok P Q (Err e) h = tt
+
+pub if_err : {T E : Type 0} (P : T → Type 0) (Q : E → Type 0) (r : Result T E) → MatchResult r P Q → IfErr r Q
+if_err P Q (Ok v) h = tt
+if_err P Q (Err e) h = h
+
+-- a slice is read exactly where it is a block
+abbrev pub ReadsSlice : List ℕ → Result Ipld (DecodeError Infallible) → Type 0
+ReadsSlice b result = MatchResult result (λ v. IsBlock b (tree_of v)) (λ e. SliceRefused e b)
+
+-- the links of the first item are read exactly where one stands
+abbrev pub ReadsFirstLinks : List ℕ → Result (Vec CidParts Global) (DecodeError Infallible) → Type 0
+ReadsFirstLinks b result = MatchResult result (λ v. AreFirstLinks b (forms v.items)) (λ e. LinksRefused e b)
 
 -- ---- the whole slice
 

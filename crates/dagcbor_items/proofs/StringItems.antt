@@ -16,7 +16,7 @@ use Rattle.ipld_tree.proofs.Unique.{major}
 use Rattle.ipld_tree.proofs.Fronts.{is_bytes, is_text}
 use Rattle.dagcbor_items.specs.ItemCauses.{ItemCause, CauseInside}
 use Rattle.dagcbor_items.specs.Untyped.{HasItem, TakesItem, StartsWithMajor}
-use Rattle.dagcbor_items.specs.Reads.{HasFront, TakesFront}
+use Rattle.dagcbor_items.specs.TypedReads.{HasFront, TakesFront}
 use Rattle.dagcbor_items.specs.Shapes.{view_text, view_bytes, leaf}
 use Rattle.dagcbor_items.specs.LeafCauses.{IsOtherKind, IsCut, StringCause, TextCause}
 use Rattle.dagcbor_items.proofs.Places.{cause_here}

@@ -19,7 +19,7 @@ use Rattle.dagcbor_heads.proofs.Refusing.{passed_on}
 use Rattle.ipld_tree.specs.Tree.{Tree, text, bytes}
 use Rattle.ipld_tree.specs.Spelling.{IsFront}
 use Rattle.ipld_tree.proofs.Unique.{split_at_length}
-use Rattle.dagcbor_items.specs.Reads.{HasFront, TakesFront, Reads}
+use Rattle.dagcbor_items.specs.TypedReads.{HasFront, TakesFront, Reads}
 use Rattle.dagcbor_items.specs.Shapes.{view_text, view_bytes, leaf}
 use Rattle.dagcbor_items.specs.FirstBytes.{BeginsFrom}
 use Rattle.dagcbor_items.specs.LeafCauses.{IsCut, MajorCause, StringCause, TextCause}

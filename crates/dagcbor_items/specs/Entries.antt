@@ -15,7 +15,7 @@ use Rattle.ipld_tree.specs.declared.ipld.Ipld.{Ipld}
 use Rattle.dagcbor_items.specs.Places.{Follows}
 use Rattle.dagcbor_items.specs.ItemCauses.{KeyCause, CauseInEntries}
 use Rattle.dagcbor_items.specs.Shapes.{Shape, takes_some, view_text, leaf}
-use Rattle.dagcbor_items.specs.Reads.{TakesFront}
+use Rattle.dagcbor_items.specs.TypedReads.{TakesFront}
 
 -- a key stands at the front that follows the one before it
 pub record HasKey (previous : Option (List ℕ)) (r : Reading) : Type 0 where
@@ -34,6 +34,7 @@ ReadsKeyAs meaning previous old result new = MatchResult result
     (λ k. Follows previous (meaning k) × TakesFront (leaf view_text) old (meaning k) new)
     (λ e. RefusesOrLacksMemoryUnlent (HasKey previous old) (KeyCause previous) old e new)
 
+-- a key is read as a text that is lent, or in memory of its own
 abbrev pub ReadsKey : {E : Type 0} → Option (List ℕ) → Reading
     → Result (CowStr Global) (DecodeError E) → Reading → Type 0
 ReadsKey = ReadsKeyAs cow_str_bytes

@@ -7,7 +7,7 @@ use Rattle.std.specs.declared.borrow.CowSlice.{CowSlice}
 use Rattle.std.specs.declared.alloc.Global.{Global}
 use Rattle.dagcbor_heads.specs.Reading.{Reading}
 use Rattle.dagcbor_heads.specs.declared.error.DecodeError.{DecodeError}
-use Rattle.dagcbor_items.specs.Reads.{Reads}
+use Rattle.dagcbor_items.specs.TypedReads.{Reads}
 use Rattle.dagcbor_items.specs.Shapes.{natural_below, within, view_unsigned, view_signed}
 use Rattle.dagcbor_items.specs.Shapes.{view_null, view_bool, view_text, view_char, view_bytes}
 use Rattle.dagcbor_items.specs.Shapes.{ignored_item, leaf}
@@ -30,6 +30,7 @@ ReadsSigned name bound = Reads (λ n. n) (leaf (view_signed bound)) ⊥ ⊥ (Num
 abbrev pub ReadsU128 : {E : Type 0} → Reading → Result ℕ (DecodeError E) → Reading → Type 0
 ReadsU128 = Reads (λ n. n) (leaf (view_unsigned (2 ^ 128))) ⊥ ⊥ (BigNumberCause (codes "u128") (natural_below (2 ^ 128)))
 
+-- an `i128`: from - 2 ^ 127 to 2 ^ 127 - 1
 abbrev pub ReadsI128 : {E : Type 0} → Reading → Result ℤ (DecodeError E) → Reading → Type 0
 ReadsI128 = Reads (λ n. n) (leaf (view_signed (2 ^ 127))) ⊥ ⊥ (BigNumberCause (codes "i128") (within (2 ^ 127)))
 
@@ -38,6 +39,7 @@ abbrev pub ReadsTextAs : {T E : Type 0} → (T → List ℕ) → List ℕ → Re
     → Reading → Type 0
 ReadsTextAs meaning name old = Reads meaning (leaf view_text) (old.lends ≡ false) ⊥ (TextCause name) old
 
+-- a text is read, lent or in memory of its own
 abbrev pub ReadsStr : {E : Type 0} → List ℕ → Reading → Result (CowStr Global) (DecodeError E)
     → Reading → Type 0
 ReadsStr = ReadsTextAs cow_str_bytes

@@ -20,11 +20,12 @@ pub mod Entries
 pub mod Links
 pub mod Walks
 pub mod Judging
-pub mod Reads
+pub mod TypedReads
 pub mod Shapes
 pub mod LeafCauses
 pub mod Majors
-pub mod Variants
+pub mod AnsweredVariants
 pub mod LeafReads
 pub mod TreeKinds
 pub mod Slices
+pub mod PrintedNames

@@ -8,7 +8,7 @@ use Rattle.dagcbor_heads.specs.declared.error.DecodeError.{DecodeError}
 use Rattle.ipld_tree.specs.Cid.{CidParts, AreCidParts, IsCid, cid_bytes}
 use Rattle.ipld_tree.specs.Spelling.{bytes_spelling}
 use Rattle.dagcbor_items.specs.LinkCauses.{LinkBytesCause, LinkCause}
-use Rattle.dagcbor_items.specs.Reads.{Reads}
+use Rattle.dagcbor_items.specs.TypedReads.{Reads}
 use Rattle.dagcbor_items.specs.Shapes.{view_link, leaf}
 
 -- the wanted byte stands at the front

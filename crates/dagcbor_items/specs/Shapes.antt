@@ -4,6 +4,7 @@ use Rattle.std.specs.Prelude.{Option, None, Some, option_map, if◌then◌else�
 use Rattle.std.specs.Str.{chars}
 use Rattle.ipld_tree.specs.Tree.{Tree, null, boolean, integer, text, bytes, link, any_need}
 
+-- what a type makes of the data that it is read from
 pub record Shape (Data V : Type 0) : Type 0 where
   -- the value that the data shows; none where the type does not accept it
   pub view : Data → Option V
@@ -16,9 +17,11 @@ pub record Shape (Data V : Type 0) : Type 0 where
 
 -- ---- memory
 
+-- never
 abbrev pub takes_none : Bool → Bool
 takes_none lends = false
 
+-- of any input
 abbrev pub takes_some : Bool → Bool
 takes_some lends = true
 
@@ -67,22 +70,27 @@ abbrev pub view_number : {V : Type 0} → (ℤ → Option V) → Tree → Option
 view_number accepted (integer n) = accepted n
 view_number accepted _ = None
 
+-- a natural number below the bound
 abbrev pub view_unsigned : ℕ → Tree → Option ℕ
 view_unsigned bound = view_number (natural_below bound)
 
+-- a number from - bound to bound - 1
 abbrev pub view_signed : ℕ → Tree → Option ℤ
 view_signed bound = view_number (within bound)
 
 -- ---- other leaves
 
+-- null alone
 abbrev pub view_null : Tree → Option (Unit {0})
 view_null null = Some tt
 view_null _ = None
 
+-- true or false
 abbrev pub view_bool : Tree → Option Bool
 view_bool (boolean b) = Some b
 view_bool _ = None
 
+-- the bytes of a text
 abbrev pub view_text : Tree → Option (List ℕ)
 view_text (text s) = Some s
 view_text _ = None
@@ -97,6 +105,7 @@ abbrev pub view_char : Tree → Option ℕ
 view_char (text s) = only (chars s)
 view_char _ = None
 
+-- the bytes of a byte string
 abbrev pub view_bytes : Tree → Option (List ℕ)
 view_bytes (bytes s) = Some s
 view_bytes _ = None
@@ -126,6 +135,7 @@ abbrev pub need_option : (Tree → ℕ) → Tree → ℕ
 need_option need null = 0
 need_option need t = 1 + need t
 
+-- null, or what another type reads, for one step more
 abbrev pub option_of : {V : Type 0} → Shape Tree V → Shape Tree (Option V)
 option_of shape = record {
   view = view_option shape.view;

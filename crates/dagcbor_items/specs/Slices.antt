@@ -1,7 +1,6 @@
 -- Reading a slice as one item of any kind: its tree, its kind or its links.
-use Rattle.std.specs.Prelude.{◌≡◌, ◌≢◌, ℕ, ◌<◌, ◌≤◌, true, List, length, Vec, ⊤}
+use Rattle.std.specs.Prelude.{◌≡◌, ◌≢◌, ℕ, ◌<◌, ◌≤◌, true, List, length, ⊤}
 use Rattle.std.specs.Prelude.{Some, Result, Ok, Err, MatchResult}
-use Rattle.std.specs.declared.alloc.Global.{Global}
 use Rattle.std.specs.declared.convert.Infallible.{Infallible}
 use Rattle.dagcbor_heads.specs.Reading.{Reading, default_steps}
 use Rattle.dagcbor_heads.specs.Fronts.{FindsEnd, ShowsByte}
@@ -9,14 +8,11 @@ use Rattle.dagcbor_heads.specs.declared.error.DecodeError.{DecodeError}
 use Rattle.dagcbor_heads.specs.declared.error.DecodeError.TheVariants.{Read, RequireBorrowed}
 use Rattle.dagcbor_heads.specs.declared.error.DecodeError.TheVariants.{OutOfMemory, Failed}
 use Rattle.dagcbor_heads.specs.declared.error.DecodeError.TheVariants.{TrailingData}
-use Rattle.ipld_tree.specs.Cid.{CidParts}
 use Rattle.ipld_tree.specs.Tree.{Tree, any_need, links_of}
 use Rattle.ipld_tree.specs.Spelling.{IsFront, IsSpelling}
-use Rattle.ipld_tree.specs.Ipld.{tree_of}
-use Rattle.ipld_tree.specs.declared.ipld.Ipld.{Ipld}
 use Rattle.dagcbor_items.specs.ItemCauses.{CauseInside}
 use Rattle.dagcbor_items.specs.TreeKinds.{kind_of}
-use Rattle.dagcbor_items.specs.Walks.{Sink, forms, Finds, HandsLinks}
+use Rattle.dagcbor_items.specs.Walks.{Sink, Finds, HandsLinks}
 use Rattle.dagcbor_items.specs.declared.kind.Kind.{Kind}
 
 -- ---- the whole slice
@@ -28,8 +24,8 @@ IsBlock b t = IsSpelling b t × (any_need t ≤ default_steps)
 -- the cause of a refusal of the whole: an item stands there with bytes behind it, or the item's own
 -- cause stands
 abbrev pub CauseInWhole : {E : Type 0} → DecodeError E → List ℕ → Type 0
-CauseInWhole TrailingData b = (t : Tree) × (rest : List ℕ) × IsFront b t rest × (any_need t ≤ default_steps)
-    × (0 < length rest)
+CauseInWhole TrailingData b = (t : Tree) × (rest : List ℕ) × IsFront b t rest
+    × (any_need t ≤ default_steps) × (0 < length rest)
 CauseInWhole e b = CauseInside default_steps e b
 
 -- why a slice is refused: for want of memory, or since it is no block; a slice does not fault
@@ -39,10 +35,6 @@ SliceRefused OutOfMemory b = ⊤
 SliceRefused (RequireBorrowed name) b = ⊥
 SliceRefused Failed b = ⊥
 SliceRefused e b = ((t : Tree) → ¬ IsBlock b t) × CauseInWhole e b
-
--- A slice is read exactly where it is a block.
-abbrev pub ReadsSlice : List ℕ → Result Ipld (DecodeError Infallible) → Type 0
-ReadsSlice b result = MatchResult result (λ v. IsBlock b (tree_of v)) (λ e. SliceRefused e b)
 
 -- A slice is found to be a block, and of which kind, exactly where it is one, with no want of
 -- memory.
@@ -74,11 +66,6 @@ LinksRefused (RequireBorrowed name) b = ⊥
 LinksRefused Failed b = ⊥
 LinksRefused e b = ((links : List (List ℕ)) → ¬ AreFirstLinks b links)
     × CauseInside default_steps e b
-
--- The links of the first item of a slice are read exactly where one stands that is read within
--- `default_steps`. What follows it is not looked at.
-abbrev pub ReadsFirstLinks : List ℕ → Result (Vec CidParts Global) (DecodeError Infallible) → Type 0
-ReadsFirstLinks b result = MatchResult result (λ v. AreFirstLinks b (forms v.items)) (λ e. LinksRefused e b)
 
 -- a walk of the first item is refused, for want of memory only of the sink's, and what the sink was
 -- handed by then

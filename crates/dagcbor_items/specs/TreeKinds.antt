@@ -5,6 +5,7 @@ use Rattle.ipld_tree.specs.Spelling.{IsFront}
 use Rattle.dagcbor_items.specs.declared.kind.Kind.{Kind}
 use Rattle.dagcbor_items.specs.declared.kind.Kind.TheVariants as kinds
 
+-- the kind of a tree
 abbrev pub kind_of : Tree → Kind
 kind_of null = kinds.Null
 kind_of (boolean b) = kinds.Bool

@@ -10,7 +10,7 @@ use Rattle.ipld_tree.specs.Ipld.{tree_of}
 use Rattle.ipld_tree.specs.declared.ipld.Ipld.{Ipld}
 use Rattle.dagcbor_items.specs.ItemCauses.{CauseInside}
 use Rattle.dagcbor_items.specs.Shapes.{Shape, takes_some}
-use Rattle.dagcbor_items.specs.Reads.{HasFront}
+use Rattle.dagcbor_items.specs.TypedReads.{HasFront}
 
 -- the first byte of those left, where they are known, has the major type
 abbrev pub StartsWithMajor : Reading → ℕ → Type 0
@@ -35,6 +35,7 @@ pub record TakesItem (spent : ℕ) (old : Reading) (t : Tree) (new : Reading) : 
 abbrev pub HasEnteredItem : Reading → Type 0
 HasEnteredItem = HasItem 1
 
+-- an item on which a step was spent before was taken
 abbrev pub TakesEnteredItem : Reading → Tree → Reading → Type 0
 TakesEnteredItem = TakesItem 1
 
@@ -46,9 +47,11 @@ ReadsItemSpent spent old result new = MatchResult result
     (λ v. TakesItem spent old (tree_of v) new)
     (λ e. RefusesOrLacksMemory (HasItem spent old) (CauseInside (old.steps + spent)) old e new)
 
+-- an item is read, on which no step was spent
 abbrev pub ReadsItem : {E : Type 0} → Reading → Result Ipld (DecodeError E) → Reading → Type 0
 ReadsItem = ReadsItemSpent 0
 
+-- an item is read, on which a step was spent before
 abbrev pub ReadsEnteredItem : {E : Type 0} → Reading → Result Ipld (DecodeError E) → Reading → Type 0
 ReadsEnteredItem = ReadsItemSpent 1
 
@@ -66,9 +69,11 @@ SkipsItemSpent spent old result new = MatchResult result
     (λ _. (t : Tree) × TakesItem spent old t new)
     (λ e. RefusesOrLacksMemoryUnlent (HasItem spent old) (CauseInside (old.steps + spent)) old e new)
 
+-- an item is skipped, on which no step was spent
 abbrev pub SkipsItem : {E : Type 0} → Reading → Result (Unit {0}) (DecodeError E) → Reading → Type 0
 SkipsItem = SkipsItemSpent 0
 
+-- an item is skipped, on which a step was spent before
 abbrev pub SkipsEnteredItem : {E : Type 0} → Reading → Result (Unit {0}) (DecodeError E) → Reading
     → Type 0
 SkipsEnteredItem = SkipsItemSpent 1

@@ -68,6 +68,7 @@ WalksItemSpent spent sink old before result new after = MatchResult result
     (λ _. (t : Tree) × TakesItem spent old t new × Finds sink.holds before (links_of t) after)
     (λ e. RefusesWalk sink (HasItem spent old) (CauseInside (old.steps + spent)) old before e new after)
 
+-- an item is gone through, on which no step was spent
 abbrev pub WalksItem : {E S : Type 0} → Sink S → Reading → S → Result (Unit {0}) (DecodeError E)
     → Reading → S → Type 0
 WalksItem = WalksItemSpent 0

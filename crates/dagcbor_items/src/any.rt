@@ -7,7 +7,7 @@ ghost use Rattle.dagcbor_heads.specs.Looking.{Looks, LooksBehind};
 ghost use Rattle.dagcbor_items.specs.Untyped.{ReadsItem, ReadsEnteredItem, StartsWithMajor};
 ghost use Rattle.dagcbor_items.specs.Items.{ReadsItems};
 ghost use Rattle.dagcbor_items.specs.Entries.{ReadsEntries};
-ghost use Rattle.dagcbor_items.specs.Variants.{OfItem};
+ghost use Rattle.dagcbor_items.specs.AnsweredVariants.{OfItem};
 
 use crate::enter::enter;
 use crate::key::read_key;
@@ -19,7 +19,7 @@ use std::alloc::{AllocError, Global};
 use std::collections::BTreeMap;
 
 /// Reads an item of any kind, no deeper than the steps that are left.
-#[tactic(auto, using(crate::proofs::Variants::depth_item))]
+#[tactic(auto, using(crate::proofs::PartRefusals::depth_item))]
 #[cycle(any)]
 pub fn read_any<R: Read>(alloc: Global, input: &mut Input<'_, R>) -> ReadResult<Ipld, R>
     ensures item { OverInput R.reading ReadsItem input.old result input.new }
@@ -32,7 +32,7 @@ pub fn read_any<R: Read>(alloc: Global, input: &mut Input<'_, R>) -> ReadResult<
     Ok(value)
 }
 
-#[tactic(auto, using(crate::proofs::Variants::end_item))]
+#[tactic(auto, using(crate::proofs::PartRefusals::end_item))]
 #[cycle(any)]
 fn read_item<R: Read>(alloc: Global, input: &mut Input<'_, R>) -> ReadResult<Ipld, R>
     ensures item { OverInput R.reading ReadsEnteredItem input.old result input.new }
@@ -128,7 +128,7 @@ fn read_map<R: Read>(alloc: Global, input: &mut Input<'_, R>) -> ReadResult<Ipld
     Ok(Ipld::Map(entries))
 }
 
-#[tactic(auto, using(crate::proofs::Variants::key_item))]
+#[tactic(auto, using(crate::proofs::PartRefusals::key_item))]
 #[cycle(any)]
 fn read_entries<R: Read>(
     alloc: Global,

@@ -3,12 +3,12 @@
 ghost use Rattle.std.specs.Prelude.{IfErr};
 ghost use Rattle.dagcbor_heads.specs.Looking.{LooksBehind};
 ghost use Rattle.dagcbor_items.specs.Entering.{StartsWithParts, ReadsCount};
-ghost use Rattle.dagcbor_items.specs.Variants.{OfItem};
+ghost use Rattle.dagcbor_items.specs.AnsweredVariants.{OfItem};
 
 use dagcbor_heads::{Read, ReadResult, pull_head_argument, spend_step};
 
 /// Spends a step, and takes the head of a list or map: how many items or entries it has.
-#[tactic(auto, using(crate::proofs::Variants::depth_item, crate::proofs::Variants::named_item))]
+#[tactic(auto, using(crate::proofs::PartRefusals::depth_item, crate::proofs::PartRefusals::named_item))]
 pub(crate) fn enter<R: Read>(name: &str, reader: &mut R) -> ReadResult<u64, R>
     requires { StartsWithParts (R.reading reader.old) }
     ensures count { ReadsCount (R.reading reader.old) result (R.reading reader.new) }

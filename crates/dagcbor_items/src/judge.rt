@@ -1,7 +1,8 @@
 //! Judging bytes that are all there: what is behind the item with which they begin. Nothing is
 //! built, no memory is taken, and a refusal has no cause.
 
-ghost use Rattle.std.specs.Prelude.{◌≡◌, ◌≢◌, ◌↔◌, ◌<◌, ◌≤◌, length, List, ℕ, IsTrue, IsUtf8, MatchOption};
+ghost use Rattle.std.specs.Prelude.{◌≡◌, ◌≢◌, ◌↔◌, ◌<◌, ◌≤◌, length, List, ℕ, IsTrue, IsUtf8};
+ghost use Rattle.std.specs.Prelude.{MatchOption};
 ghost use Rattle.std.specs.Prelude.{option_map};
 ghost use Rattle.std.specs.List.{list_all};
 ghost use Rattle.std.specs.Char.{is_ascii};
@@ -20,7 +21,8 @@ use simdutf8::is_utf8;
 /// The next n bytes, and the bytes behind them.
 #[inline(always)]
 fn split_payload(bytes: &[u8], n: u64) -> Option<(&[u8], &[u8])>
-    ensures { MatchOption result (length bytes.now < n) (λ p. SplitsPayload bytes.now n p.0.now p.1.now) }
+    ensures { MatchOption result (length bytes.now < n)
+        (λ p. SplitsPayload bytes.now n p.0.now p.1.now) }
 {
     if (bytes.len() as u64) < n {
         return None;
@@ -53,7 +55,8 @@ fn is_text(bytes: &[u8]) -> bool
 /// The bytes of a text of n bytes, and the bytes behind it.
 #[inline(always)]
 fn split_text(bytes: &[u8], n: u64) -> Option<(&[u8], &[u8])>
-    ensures { MatchOption result (¬ ((s : List ℕ) × (rest : List ℕ) × SplitsText bytes.now n s rest))
+    ensures { MatchOption result
+        (¬ ((s : List ℕ) × (rest : List ℕ) × SplitsText bytes.now n s rest))
         (λ p. SplitsText bytes.now n p.0.now p.1.now) }
 {
     let (payload, rest) = split_payload(bytes, n)?;
@@ -66,7 +69,8 @@ fn split_text(bytes: &[u8], n: u64) -> Option<(&[u8], &[u8])>
 /// The bytes of a key, and the bytes behind it.
 #[inline(always)]
 fn split_key(bytes: &[u8]) -> Option<(&[u8], &[u8])>
-    ensures { MatchOption result (¬ ((key : List ℕ) × (rest : List ℕ) × SplitsKey bytes.now key rest))
+    ensures { MatchOption result
+        (¬ ((key : List ℕ) × (rest : List ℕ) × SplitsKey bytes.now key rest))
         (λ p. SplitsKey bytes.now p.0.now p.1.now) }
 {
     let (major, count, behind) = split_head(bytes)?;
@@ -90,7 +94,8 @@ fn follows(previous: &Option<&[u8]>, key: &[u8]) -> bool
 /// Whether these are fields of one byte each, with a digest of so many bytes behind them.
 #[inline(always)]
 fn are_short_fields(codec: u8, hash_code: u8, count: u8, digest: &[u8]) -> bool
-    ensures { IsTrue result → (codec < 128) × (hash_code < 128) × (count ≤ 64) × (length digest.now ≡ count) }
+    ensures { IsTrue result → (codec < 128) × (hash_code < 128) × (count ≤ 64)
+        × (length digest.now ≡ count) }
 {
     if codec >= 128 || hash_code >= 128 || count > 64 {
         return false;
@@ -139,7 +144,8 @@ fn is_cid(bytes: &[u8]) -> bool
 /// The bytes behind a byte string of a zero and a CID.
 #[inline(always)]
 fn behind_cid(bytes: &[u8]) -> Option<&[u8]>
-    ensures { MatchOption result (¬ ((cid : List ℕ) × (rest : List ℕ) × SplitsCid bytes.now cid rest))
+    ensures { MatchOption result
+        (¬ ((cid : List ℕ) × (rest : List ℕ) × SplitsCid bytes.now cid rest))
         (λ rest. (cid : List ℕ) × SplitsCid bytes.now cid rest.now) }
 {
     let (major, count, behind) = split_head(bytes)?;
@@ -160,7 +166,8 @@ fn behind_cid(bytes: &[u8]) -> Option<&[u8]>
 /// The bytes behind what a tag of this number stands before, where that is the tag of links.
 #[inline(always)]
 fn behind_tag(number: u64, bytes: &[u8]) -> Option<&[u8]>
-    ensures { MatchOption result (number ≡ 42 → ¬ ((cid : List ℕ) × (rest : List ℕ) × SplitsCid bytes.now cid rest))
+    ensures { MatchOption result
+        (number ≡ 42 → ¬ ((cid : List ℕ) × (rest : List ℕ) × SplitsCid bytes.now cid rest))
         (λ rest. (cid : List ℕ) × (number ≡ 42) × SplitsCid bytes.now cid rest.now) }
 {
     if number != 42 {
@@ -172,7 +179,8 @@ fn behind_tag(number: u64, bytes: &[u8]) -> Option<&[u8]>
 /// The bytes behind a simple value, where it is one of data: false, true or null.
 #[inline(always)]
 fn behind_simple(value: u64, bytes: &[u8]) -> Option<&[u8]>
-    ensures { MatchOption result (20 ≤ value → ¬ (value ≤ 22)) (λ rest. (20 ≤ value) × (value ≤ 22) × (rest.now ≡ bytes.now)) }
+    ensures { MatchOption result (20 ≤ value → ¬ (value ≤ 22))
+        (λ rest. (20 ≤ value) × (value ≤ 22) × (rest.now ≡ bytes.now)) }
 {
     if value < 20 {
         return None;

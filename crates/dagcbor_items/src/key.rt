@@ -7,7 +7,7 @@ ghost use Rattle.dagcbor_heads.specs.Looking.{Looks};
 ghost use Rattle.ipld_tree.specs.Key.{comes_before};
 ghost use Rattle.dagcbor_items.specs.Places.{Follows};
 ghost use Rattle.dagcbor_items.specs.Entries.{ReadsKey};
-ghost use Rattle.dagcbor_items.specs.Variants.{OfKey};
+ghost use Rattle.dagcbor_items.specs.AnsweredVariants.{OfKey};
 
 use crate::strings::pull_str;
 use dagcbor_heads::{DecodeError, Input, Read, ReadResult};
@@ -30,7 +30,8 @@ pub(crate) fn comes_before(key: &[u8], other: &[u8]) -> bool
 
 /// Whether the key may stand behind the one before it.
 fn follows(previous: &Option<CowStr<'_>>, key: &CowStr<'_>) -> bool
-    ensures { IsTrue result ↔ Follows (option_map cow_str_bytes previous.now) (cow_str_bytes key.now) }
+    ensures { IsTrue result
+        ↔ Follows (option_map cow_str_bytes previous.now) (cow_str_bytes key.now) }
 {
     match previous {
         None => true,
@@ -39,15 +40,17 @@ fn follows(previous: &Option<CowStr<'_>>, key: &CowStr<'_>) -> bool
 }
 
 /// A key, lent where the input lends.
-#[tactic(auto, using(crate::proofs::Variants::text_key))]
+#[tactic(auto, using(crate::proofs::PartRefusals::text_key))]
 #[inline(always)]
 pub fn read_key<'de, R: Read>(
     alloc: Global,
     input: &mut Input<'de, R>,
     previous: &Option<CowStr<'de>>,
 ) -> ReadResult<CowStr<'de>, R>
-    ensures key { OverInput R.reading (ReadsKey (option_map cow_str_bytes previous.now)) input.old result input.new }
-    ensures lent { IfOk result (λ k. IsBorrowedStr k ↔ ((input_reading R.reading input.old).lends ≡ true)) }
+    ensures key { OverInput R.reading
+        (ReadsKey (option_map cow_str_bytes previous.now)) input.old result input.new }
+    ensures lent { IfOk result
+        (λ k. IsBorrowedStr k ↔ ((input_reading R.reading input.old).lends ≡ true)) }
     ensures looked { OverInput R.reading (Looks 3) input.old result input.new }
     ensures variant { IfErr result OfKey }
 {

@@ -4,8 +4,9 @@ ghost use Rattle.std.specs.Prelude.{◌≡◌, ◌≤◌, ◌/◌, true, false, 
 ghost use Rattle.dagcbor_heads.specs.Inputs.{input_reading, OverInput};
 ghost use Rattle.dagcbor_heads.specs.Fronts.{StartsWith};
 ghost use Rattle.dagcbor_heads.specs.Looking.{LooksBehind};
-ghost use Rattle.dagcbor_items.specs.Untyped.{ReadsEnteredItem, ReadsLeaf, StartsWithMajor, IsSimple};
-ghost use Rattle.dagcbor_items.specs.Variants.{OfItem};
+ghost use Rattle.dagcbor_items.specs.Untyped.{ReadsEnteredItem, ReadsLeaf, StartsWithMajor};
+ghost use Rattle.dagcbor_items.specs.Untyped.{IsSimple};
+ghost use Rattle.dagcbor_items.specs.AnsweredVariants.{OfItem};
 
 use crate::numbers::number_of;
 use crate::strings::{pull_peeked_owned_bytes, pull_peeked_owned_text};
@@ -14,7 +15,7 @@ use ipld_tree::Ipld;
 use std::alloc::Global;
 
 /// Reads an integer, whose first byte was seen.
-#[tactic(auto, using(crate::proofs::Variants::named_item))]
+#[tactic(auto, using(crate::proofs::PartRefusals::named_item))]
 pub(crate) fn read_integer<R: Read>(name: &str, reader: &mut R, first: u8) -> ReadResult<Ipld, R>
     requires starts { StartsWith (R.reading reader.old) first }
     requires major { first / 32 ≤ 1 }
@@ -26,7 +27,7 @@ pub(crate) fn read_integer<R: Read>(name: &str, reader: &mut R, first: u8) -> Re
     Ok(Ipld::Integer(number_of(first / 32, argument)))
 }
 
-#[tactic(auto, using(crate::proofs::Variants::kind_item, crate::proofs::StringItems::bytes_items))]
+#[tactic(auto, using(crate::proofs::PartRefusals::kind_item, crate::proofs::StringItems::bytes_items))]
 pub(crate) fn read_bytes<R: Read>(alloc: Global, input: &mut Input<'_, R>) -> ReadResult<Ipld, R>
     requires { StartsWithMajor (input_reading R.reading input.old) 2 }
     ensures item { OverInput R.reading ReadsEnteredItem input.old result input.new }
@@ -36,7 +37,7 @@ pub(crate) fn read_bytes<R: Read>(alloc: Global, input: &mut Input<'_, R>) -> Re
     Ok(Ipld::Bytes(pull_peeked_owned_bytes(alloc, input)?))
 }
 
-#[tactic(auto, using(crate::proofs::Variants::text_item, crate::proofs::StringItems::text_items))]
+#[tactic(auto, using(crate::proofs::PartRefusals::text_item, crate::proofs::StringItems::text_items))]
 pub(crate) fn read_text<R: Read>(alloc: Global, input: &mut Input<'_, R>) -> ReadResult<Ipld, R>
     requires { StartsWithMajor (input_reading R.reading input.old) 3 }
     ensures item { OverInput R.reading ReadsEnteredItem input.old result input.new }
@@ -57,7 +58,7 @@ fn simple_value(byte: u8) -> Option<Ipld>
     }
 }
 
-#[tactic(auto, using(crate::proofs::Variants::end_item))]
+#[tactic(auto, using(crate::proofs::PartRefusals::end_item))]
 pub(crate) fn read_simple<R: Read>(reader: &mut R, first: u8) -> ReadResult<Ipld, R>
     requires starts { StartsWith (R.reading reader.old) first }
     requires major { first / 32 ≡ 7 }

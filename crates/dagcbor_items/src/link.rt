@@ -7,7 +7,7 @@ ghost use Rattle.dagcbor_heads.specs.Looking.{Looks, LooksBehind};
 ghost use Rattle.dagcbor_items.specs.LinkCauses.{IsOtherByte};
 ghost use Rattle.dagcbor_items.specs.Untyped.{ReadsLeaf, StartsWithMajor};
 ghost use Rattle.dagcbor_items.specs.Links.{HasWanted, ReadsCid, ReadsLink, IsZeroAndCid};
-ghost use Rattle.dagcbor_items.specs.Variants.{OfByte, OfItem, OfLink};
+ghost use Rattle.dagcbor_items.specs.AnsweredVariants.{OfByte, OfItem, OfLink};
 
 use arrayvec::ArrayVec;
 use dagcbor_heads::{
@@ -19,7 +19,7 @@ use ipld_tree::{Cid, Ipld};
 const LONGEST_CID: usize = 87;
 
 /// Takes the wanted byte.
-#[tactic(auto, using(crate::proofs::Variants::end_byte))]
+#[tactic(auto, using(crate::proofs::PartRefusals::end_byte))]
 pub(crate) fn pull_wanted<R: Read>(
     name: &str,
     other: &str,
@@ -28,7 +28,8 @@ pub(crate) fn pull_wanted<R: Read>(
 ) -> ReadResult<(), R>
     ensures wanted { MatchResult result
         (λ _. Takes (R.reading reader.old) (wanted ∷ []) (R.reading reader.new))
-        (λ e. RefusesPlainly (HasWanted wanted (R.reading reader.old)) (IsOtherByte other.now wanted) (R.reading reader.old) e (R.reading reader.new)) }
+        (λ e. RefusesPlainly (HasWanted wanted (R.reading reader.old))
+        (IsOtherByte other.now wanted) (R.reading reader.old) e (R.reading reader.new)) }
     ensures looked { Looks 2 (R.reading reader.old) result (R.reading reader.new) }
     ensures variant { IfErr result OfByte }
 {
@@ -49,7 +50,7 @@ fn cid_behind_zero(payload: &[u8]) -> Option<Cid>
     }
 }
 
-#[tactic(auto, using(crate::proofs::Variants::named_link, crate::proofs::Variants::end_link))]
+#[tactic(auto, using(crate::proofs::PartRefusals::named_link, crate::proofs::PartRefusals::end_link))]
 fn pull_cid_string<R: Read>(reader: &mut R) -> ReadResult<Cid, R>
     requires { StartsWithMajor (R.reading reader.old) 2 }
     ensures cid { ReadsCid (R.reading reader.old) result (R.reading reader.new) }
@@ -68,7 +69,7 @@ fn pull_cid_string<R: Read>(reader: &mut R) -> ReadResult<Cid, R>
 }
 
 /// Reads what stands behind the tag.
-#[tactic(auto, using(crate::proofs::Variants::end_link))]
+#[tactic(auto, using(crate::proofs::PartRefusals::end_link))]
 fn pull_cid<R: Read>(reader: &mut R) -> ReadResult<Cid, R>
     ensures cid { ReadsCid (R.reading reader.old) result (R.reading reader.new) }
     ensures looked { Looks 3 (R.reading reader.old) result (R.reading reader.new) }
@@ -82,11 +83,12 @@ fn pull_cid<R: Read>(reader: &mut R) -> ReadResult<Cid, R>
 }
 
 /// Reads a link, and takes no memory.
-#[tactic(auto, using(crate::proofs::Variants::byte_link))]
+#[tactic(auto, using(crate::proofs::PartRefusals::byte_link))]
 pub fn pull_link<R: Read>(reader: &mut R) -> ReadResult<Cid, R>
     ensures link { ReadsLink (R.reading reader.old) result (R.reading reader.new) }
     ensures looked { Looks 3 (R.reading reader.old) result (R.reading reader.new) }
-    ensures peeked { StartsWithMajor (R.reading reader.old) 6 → LooksBehind 3 1 (R.reading reader.old) result (R.reading reader.new) }
+    ensures peeked { StartsWithMajor (R.reading reader.old) 6
+        → LooksBehind 3 1 (R.reading reader.old) result (R.reading reader.new) }
     ensures variant { IfErr result OfLink }
 {
     pull_wanted("tag head", "CBOR tag head", reader, 0xd8)?;
@@ -94,7 +96,7 @@ pub fn pull_link<R: Read>(reader: &mut R) -> ReadResult<Cid, R>
     pull_cid(reader)
 }
 
-#[tactic(auto, using(crate::proofs::Variants::link_item))]
+#[tactic(auto, using(crate::proofs::PartRefusals::link_item))]
 pub(crate) fn read_link<R: Read>(reader: &mut R) -> ReadResult<Ipld, R>
     requires { StartsWithMajor (R.reading reader.old) 6 }
     ensures leaf { ReadsLeaf (R.reading reader.old) result (R.reading reader.new) }

@@ -6,12 +6,12 @@ ghost use Rattle.dagcbor_heads.specs.Looking.{Looks, LooksOnce};
 ghost use Rattle.dagcbor_heads.specs.Refusals.{RefusesPlainly};
 ghost use Rattle.dagcbor_items.specs.Majors.{HasMajor, ReadsMajor};
 ghost use Rattle.dagcbor_items.specs.LeafCauses.{MajorCause};
-ghost use Rattle.dagcbor_items.specs.Variants.{OfByte, OfHead};
+ghost use Rattle.dagcbor_items.specs.AnsweredVariants.{OfByte, OfHead};
 
 use dagcbor_heads::{DecodeError, Read, ReadResult, peek_one, pull_head_argument};
 
 /// The next byte, which is left, where its major type lies from `low` to `high`.
-#[tactic(auto, using(crate::proofs::Variants::end_byte))]
+#[tactic(auto, using(crate::proofs::PartRefusals::end_byte))]
 pub(crate) fn peek_major<R: Read>(
     name: &str,
     reader: &mut R,
@@ -19,8 +19,10 @@ pub(crate) fn peek_major<R: Read>(
     high: u8,
 ) -> ReadResult<u8, R>
     ensures kind { MatchResult result
-        (λ first. (low ≤ first / 32) × (first / 32 ≤ high) × ShowsByte (R.reading reader.old) first (R.reading reader.new))
-        (λ e. RefusesPlainly (HasMajor low high (R.reading reader.old)) (MajorCause name.now low high) (R.reading reader.old) e (R.reading reader.new)) }
+        (λ first. (low ≤ first / 32) × (first / 32 ≤ high)
+        × ShowsByte (R.reading reader.old) first (R.reading reader.new))
+        (λ e. RefusesPlainly (HasMajor low high (R.reading reader.old))
+        (MajorCause name.now low high) (R.reading reader.old) e (R.reading reader.new)) }
     ensures looked { LooksOnce (R.reading reader.old) (R.reading reader.new) }
     ensures variant { IfErr result OfByte }
 {
@@ -34,7 +36,7 @@ pub(crate) fn peek_major<R: Read>(
 
 /// The major type and the argument of the next head, which is taken, where its major type lies from
 /// `low` to `high`.
-#[tactic(auto, using(crate::proofs::Variants::named_kind, crate::proofs::Variants::byte_kind))]
+#[tactic(auto, using(crate::proofs::PartRefusals::named_kind, crate::proofs::PartRefusals::byte_kind))]
 pub(crate) fn pull_major<R: Read>(
     name: &str,
     reader: &mut R,
@@ -42,7 +44,8 @@ pub(crate) fn pull_major<R: Read>(
     high: u8,
 ) -> ReadResult<(u8, u64), R>
     requires { high < 8 }
-    ensures kind { ReadsMajor name.now low high (R.reading reader.old) result (R.reading reader.new) }
+    ensures kind { ReadsMajor name.now low high (R.reading reader.old) result
+        (R.reading reader.new) }
     ensures looked { Looks 3 (R.reading reader.old) result (R.reading reader.new) }
     ensures variant { IfErr result OfHead }
 {

@@ -1,12 +1,12 @@
 //! Reading numbers.
 
 ghost use Rattle.std.specs.Prelude.{◌≡◌, ◌+◌, ◌≤◌, ◌^◌, Some, IfOk, pos, negsuc, ◌≤ℤ◌, IfErr};
-ghost use Rattle.dagcbor_items.specs.Reads.{Reads};
+ghost use Rattle.dagcbor_items.specs.TypedReads.{Reads};
 ghost use Rattle.dagcbor_items.specs.Shapes.{number_of, natural_below, within, view_number, leaf};
 ghost use Rattle.dagcbor_items.specs.LeafCauses.{MajorCause, BigCause};
 ghost use Rattle.dagcbor_items.specs.LeafReads.{ReadsUnsigned, ReadsSigned, ReadsU128, ReadsI128};
 ghost use Rattle.dagcbor_heads.specs.Looking.{Looks};
-ghost use Rattle.dagcbor_items.specs.Variants.{OfHead, OfNumber};
+ghost use Rattle.dagcbor_items.specs.AnsweredVariants.{OfHead, OfNumber};
 
 use crate::majors::pull_major;
 use dagcbor_heads::{DecodeError, Read, ReadResult, peek_one};
@@ -24,7 +24,9 @@ pub(crate) fn number_of(major: u8, argument: u64) -> i128
 
 /// A number of any size.
 fn pull_number<R: Read>(name: &str, reader: &mut R) -> ReadResult<i128, R>
-    ensures number { Reads (λ n. n) (leaf (view_number Some)) ⊥ ⊥ (MajorCause name.now 0 1) (R.reading reader.old) result (R.reading reader.new) }
+    ensures number { Reads
+        (λ n. n) (leaf (view_number Some)) ⊥ ⊥ (MajorCause name.now 0 1)
+        (R.reading reader.old) result (R.reading reader.new) }
     ensures looked { Looks 3 (R.reading reader.old) result (R.reading reader.new) }
     ensures variant { IfErr result OfHead }
 {
@@ -53,9 +55,10 @@ fn signed_of(number: i128, greatest: u64) -> Option<i128>
 }
 
 /// A number from 0 to `greatest`.
-#[tactic(auto, using(crate::proofs::Variants::kind_number))]
+#[tactic(auto, using(crate::proofs::PartRefusals::kind_number))]
 pub fn pull_unsigned<R: Read>(name: &str, reader: &mut R, greatest: u64) -> ReadResult<u64, R>
-    ensures number { ReadsUnsigned name.now (greatest + 1) (R.reading reader.old) result (R.reading reader.new) }
+    ensures number { ReadsUnsigned name.now (greatest + 1) (R.reading reader.old) result
+        (R.reading reader.new) }
     ensures most { IfOk result (λ n. n ≤ greatest) }
     ensures looked { Looks 3 (R.reading reader.old) result (R.reading reader.new) }
     ensures variant { IfErr result OfNumber }
@@ -68,9 +71,10 @@ pub fn pull_unsigned<R: Read>(name: &str, reader: &mut R, greatest: u64) -> Read
 }
 
 /// A number from -1 - `greatest` to `greatest`.
-#[tactic(auto, using(crate::proofs::Variants::kind_number))]
+#[tactic(auto, using(crate::proofs::PartRefusals::kind_number))]
 pub fn pull_signed<R: Read>(name: &str, reader: &mut R, greatest: u64) -> ReadResult<i128, R>
-    ensures number { ReadsSigned name.now (greatest + 1) (R.reading reader.old) result (R.reading reader.new) }
+    ensures number { ReadsSigned name.now (greatest + 1) (R.reading reader.old) result
+        (R.reading reader.new) }
     ensures least { IfOk result (λ n. negsuc greatest ≤ℤ n) }
     ensures most { IfOk result (λ n. n ≤ℤ pos greatest) }
     ensures looked { Looks 3 (R.reading reader.old) result (R.reading reader.new) }
@@ -84,9 +88,11 @@ pub fn pull_signed<R: Read>(name: &str, reader: &mut R, greatest: u64) -> ReadRe
 }
 
 /// A number of any size, which no tag announces.
-#[tactic(auto, using(crate::proofs::Variants::end_kind))]
+#[tactic(auto, using(crate::proofs::PartRefusals::end_kind))]
 fn pull_big<R: Read>(name: &str, reader: &mut R) -> ReadResult<i128, R>
-    ensures number { Reads (λ n. n) (leaf (view_number Some)) ⊥ ⊥ (BigCause name.now) (R.reading reader.old) result (R.reading reader.new) }
+    ensures number { Reads
+        (λ n. n) (leaf (view_number Some)) ⊥ ⊥ (BigCause name.now) (R.reading reader.old) result
+        (R.reading reader.new) }
     ensures looked { Looks 4 (R.reading reader.old) result (R.reading reader.new) }
     ensures variant { IfErr result OfHead }
 {
@@ -105,7 +111,7 @@ fn big_natural_of(number: i128) -> Option<u128>
 }
 
 /// A number from 0 on, of any size that has a spelling.
-#[tactic(auto, using(crate::proofs::Variants::kind_number))]
+#[tactic(auto, using(crate::proofs::PartRefusals::kind_number))]
 pub fn pull_u128<R: Read>(reader: &mut R) -> ReadResult<u128, R>
     ensures number { ReadsU128 (R.reading reader.old) result (R.reading reader.new) }
     ensures looked { Looks 4 (R.reading reader.old) result (R.reading reader.new) }

@@ -8,7 +8,7 @@ ghost use Rattle.dagcbor_items.specs.Majors.{ReadsString};
 ghost use Rattle.dagcbor_items.specs.Places.{Follows};
 ghost use Rattle.dagcbor_items.specs.Entries.{ReadsKeyAs};
 ghost use Rattle.dagcbor_items.specs.LeafReads.{ReadsTextAs};
-ghost use Rattle.dagcbor_items.specs.Variants.{OfKey, OfHead, OfText};
+ghost use Rattle.dagcbor_items.specs.AnsweredVariants.{OfKey, OfHead, OfText};
 ghost use Rattle.dagcbor_items.specs.Untyped.{SkipsEnteredItem, StartsWithMajor};
 
 use crate::key::{comes_before, read_key};
@@ -36,7 +36,8 @@ pub trait PayloadReader: Read {
         alloc: Self::Alloc,
         previous: &Option<Self::Key>,
     ) -> ReadResult<Self::Key, Self>
-        ensures key { ReadsKeyAs key_bytes (option_map key_bytes previous.now) (Self.reading self.old) result (Self.reading self.new) }
+        ensures key { ReadsKeyAs key_bytes (option_map key_bytes previous.now)
+            (Self.reading self.old) result (Self.reading self.new) }
         ensures looked { Looks 3 (Self.reading self.old) result (Self.reading self.new) }
         ensures variant { IfErr result OfKey };
 
@@ -85,7 +86,7 @@ impl<'de, R: Read> PayloadReader for Input<'de, R> {
 }
 
 /// The bytes of a string whose first byte has the major type.
-#[tactic(auto, using(crate::proofs::Variants::named_kind, crate::proofs::Variants::end_kind))]
+#[tactic(auto, using(crate::proofs::PartRefusals::named_kind, crate::proofs::PartRefusals::end_kind))]
 fn pull_peeked_lent_string<'de>(
     name: &str,
     reader: &mut SliceReader<'de>,
@@ -105,7 +106,7 @@ fn pull_peeked_lent_string<'de>(
 }
 
 /// A text whose first byte has its major type.
-#[tactic(auto, using(crate::proofs::Variants::kind_text))]
+#[tactic(auto, using(crate::proofs::PartRefusals::kind_text))]
 fn pull_peeked_lent_text<'de>(
     name: &str,
     reader: &mut SliceReader<'de>,
@@ -125,7 +126,7 @@ fn pull_peeked_lent_text<'de>(
 }
 
 /// The same byte by byte: a refusal names its cause.
-#[tactic(auto, using(crate::proofs::Variants::byte_text))]
+#[tactic(auto, using(crate::proofs::PartRefusals::byte_text))]
 #[cold]
 #[inline(never)]
 fn pull_lent_text_slowly<'de>(

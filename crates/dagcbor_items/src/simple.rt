@@ -3,7 +3,7 @@
 ghost use Rattle.std.specs.Prelude.{IfErr};
 ghost use Rattle.dagcbor_items.specs.LeafReads.{ReadsNull, ReadsBool};
 ghost use Rattle.dagcbor_heads.specs.Looking.{Looks};
-ghost use Rattle.dagcbor_items.specs.Variants.{OfByte};
+ghost use Rattle.dagcbor_items.specs.AnsweredVariants.{OfByte};
 
 use crate::link::pull_wanted;
 use dagcbor_heads::{DecodeError, Read, ReadResult, pull_one};
@@ -18,7 +18,7 @@ pub fn pull_null<R: Read>(reader: &mut R) -> ReadResult<(), R>
 }
 
 /// A boolean.
-#[tactic(auto, using(crate::proofs::Variants::end_byte))]
+#[tactic(auto, using(crate::proofs::PartRefusals::end_byte))]
 pub fn pull_bool<R: Read>(reader: &mut R) -> ReadResult<bool, R>
     ensures value { ReadsBool (R.reading reader.old) result (R.reading reader.new) }
     ensures looked { Looks 2 (R.reading reader.old) result (R.reading reader.new) }

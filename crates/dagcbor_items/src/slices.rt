@@ -1,10 +1,15 @@
 //! Reading a slice as one item of any kind: its tree, its kind or its links.
 
-ghost use Rattle.std.specs.Prelude.{◌≡◌, Some, [], true};
+ghost use Rattle.std.specs.Prelude.{◌≡◌, ◌≢◌, Some, [], true, IfOk, IfErr};
 ghost use Rattle.dagcbor_heads.specs.Reading.{default_steps, fresh_reading};
 ghost use Rattle.dagcbor_heads.specs.Inputs.{input_reading};
-ghost use Rattle.dagcbor_items.specs.Slices.{ReadsSlice, ChecksSlice, ReadsFirstLinks, WalksFirst};
-ghost use Rattle.dagcbor_items.specs.Slices.{PullsEnd};
+ghost use Rattle.dagcbor_heads.specs.declared.error.DecodeError.TheVariants.{OutOfMemory};
+ghost use Rattle.ipld_tree.specs.Tree.{Tree};
+ghost use Rattle.ipld_tree.specs.Ipld.{tree_of};
+ghost use Rattle.dagcbor_items.specs.TreeKinds.{kind_of};
+ghost use Rattle.dagcbor_items.specs.Walks.{forms};
+ghost use Rattle.dagcbor_items.specs.Slices.{IsBlock, SliceRefused, ChecksSlice, AreFirstLinks};
+ghost use Rattle.dagcbor_items.specs.Slices.{LinksRefused, WalksFirst, PullsEnd};
 
 use crate::any::read_any;
 use crate::judge::behind_item;
@@ -24,7 +29,8 @@ use std::convert::Infallible;
 /// is_told(alloc, &any_from_slice(alloc, b"\x81\x18\x17"), place)
 /// ```
 pub fn any_from_slice(alloc: Global, bytes: &[u8]) -> Result<Ipld, DecodeError<Infallible>>
-    ensures { ReadsSlice bytes.now result }
+    ensures value { IfOk result (λ v. IsBlock bytes.now (tree_of v)) }
+    ensures refused { IfErr result (λ e. SliceRefused e bytes.now) }
 {
     let mut input = lent(bytes);
     let value = read_any(alloc, &mut input)?;
@@ -40,7 +46,9 @@ pub fn any_from_slice(alloc: Global, bytes: &[u8]) -> Result<Ipld, DecodeError<I
 /// is_told(alloc, &check_slice(b"\x01\x02"), "Err(TrailingData)")?;
 /// ```
 pub fn check_slice(bytes: &[u8]) -> Result<Kind, DecodeError<Infallible>>
-    ensures { ChecksSlice bytes.now result }
+    ensures kind { IfOk result (λ kind. (t : Tree) × IsBlock bytes.now t × (kind ≡ kind_of t)) }
+    ensures refused { IfErr result (λ e. SliceRefused e bytes.now) }
+    ensures memory { IfErr result (λ e. e ≢ OutOfMemory) }
 {
     match behind_item(bytes, DEFAULT_STEPS) {
         Some([]) => Ok(kind_of_front(bytes)),
@@ -71,7 +79,8 @@ fn check_slowly(bytes: &[u8]) -> Result<Kind, DecodeError<Infallible>>
 /// agree(first.to_bytes(alloc)?.as_slice(), &link[5..])
 /// ```
 pub fn links_from_slice(alloc: Global, bytes: &[u8]) -> Result<Vec<Cid>, DecodeError<Infallible>>
-    ensures { ReadsFirstLinks bytes.now result }
+    ensures links { IfOk result (λ v. AreFirstLinks bytes.now (forms v.items)) }
+    ensures refused { IfErr result (λ e. LinksRefused e bytes.now) }
 {
     gather_links(alloc, &mut lent(bytes))
 }

@@ -14,7 +14,7 @@ ghost use Rattle.dagcbor_items.specs.Untyped.{StartsWithMajor};
 ghost use Rattle.dagcbor_items.specs.Shapes.{only};
 ghost use Rattle.dagcbor_items.specs.LeafReads.{ReadsStr, ReadsOwnedText, ReadsChar};
 ghost use Rattle.dagcbor_items.specs.LeafReads.{ReadsByteSlice, ReadsOwnedBytes};
-ghost use Rattle.dagcbor_items.specs.Variants.{OfChar, OfHead, OfText};
+ghost use Rattle.dagcbor_items.specs.AnsweredVariants.{OfChar, OfHead, OfText};
 
 use crate::majors::peek_major;
 use crate::utf8::as_text;
@@ -23,7 +23,7 @@ use std::alloc::Global;
 use std::borrow::{CowSlice, CowStr};
 
 /// The bytes of a string whose first byte has the major type, lent where the input lends.
-#[tactic(auto, using(crate::proofs::Variants::named_kind, crate::proofs::Variants::payload_kind))]
+#[tactic(auto, using(crate::proofs::PartRefusals::named_kind, crate::proofs::PartRefusals::payload_kind))]
 fn pull_peeked_string<'de, R: Read>(
     alloc: Global,
     name: &str,
@@ -32,8 +32,10 @@ fn pull_peeked_string<'de, R: Read>(
 ) -> ReadResult<CowSlice<'de, u8>, R>
     requires few { kind < 8 }
     requires starts { StartsWithMajor (input_reading R.reading input.old) kind }
-    ensures string { OverInput R.reading (ReadsString cow_slice_items name.now kind) input.old result input.new }
-    ensures lent { IfOk result (λ c. IsBorrowedSlice c ↔ ((input_reading R.reading input.old).lends ≡ true)) }
+    ensures string { OverInput R.reading
+        (ReadsString cow_slice_items name.now kind) input.old result input.new }
+    ensures lent { IfOk result
+        (λ c. IsBorrowedSlice c ↔ ((input_reading R.reading input.old).lends ≡ true)) }
     ensures looked { OverInput R.reading (Looks 2) input.old result input.new }
     ensures variant { IfErr result OfHead }
 {
@@ -69,7 +71,8 @@ pub(crate) fn pull_peeked_slice<'de, R: Read>(
 ) -> ReadResult<CowSlice<'de, u8>, R>
     requires { StartsWithMajor (input_reading R.reading input.old) 2 }
     ensures bytes { OverInput R.reading ReadsByteSlice input.old result input.new }
-    ensures lent { IfOk result (λ c. IsBorrowedSlice c ↔ ((input_reading R.reading input.old).lends ≡ true)) }
+    ensures lent { IfOk result
+        (λ c. IsBorrowedSlice c ↔ ((input_reading R.reading input.old).lends ≡ true)) }
     ensures looked { OverInput R.reading (Looks 2) input.old result input.new }
     ensures variant { IfErr result OfHead }
 {
@@ -77,13 +80,14 @@ pub(crate) fn pull_peeked_slice<'de, R: Read>(
 }
 
 /// A byte string, lent where the input lends.
-#[tactic(auto, using(crate::proofs::Variants::byte_kind))]
+#[tactic(auto, using(crate::proofs::PartRefusals::byte_kind))]
 pub fn pull_slice<'de, R: Read>(
     alloc: Global,
     input: &mut Input<'de, R>,
 ) -> ReadResult<CowSlice<'de, u8>, R>
     ensures bytes { OverInput R.reading ReadsByteSlice input.old result input.new }
-    ensures lent { IfOk result (λ c. IsBorrowedSlice c ↔ ((input_reading R.reading input.old).lends ≡ true)) }
+    ensures lent { IfOk result
+        (λ c. IsBorrowedSlice c ↔ ((input_reading R.reading input.old).lends ≡ true)) }
     ensures looked { OverInput R.reading (Looks 3) input.old result input.new }
     ensures variant { IfErr result OfHead }
 {
@@ -92,7 +96,7 @@ pub fn pull_slice<'de, R: Read>(
 }
 
 /// A text whose first byte has its major type, lent where the input lends.
-#[tactic(auto, using(crate::proofs::Variants::kind_text))]
+#[tactic(auto, using(crate::proofs::PartRefusals::kind_text))]
 pub(crate) fn pull_peeked_str<'de, R: Read>(
     alloc: Global,
     name: &str,
@@ -100,7 +104,8 @@ pub(crate) fn pull_peeked_str<'de, R: Read>(
 ) -> ReadResult<CowStr<'de>, R>
     requires { StartsWithMajor (input_reading R.reading input.old) 3 }
     ensures text { OverInput R.reading (ReadsStr name.now) input.old result input.new }
-    ensures lent { IfOk result (λ s. IsBorrowedStr s ↔ ((input_reading R.reading input.old).lends ≡ true)) }
+    ensures lent { IfOk result
+        (λ s. IsBorrowedStr s ↔ ((input_reading R.reading input.old).lends ≡ true)) }
     ensures looked { OverInput R.reading (Looks 2) input.old result input.new }
     ensures variant { IfErr result OfText }
 {
@@ -125,7 +130,7 @@ pub(crate) fn no_text<E>(name: &str) -> DecodeError<E>
 }
 
 /// The same byte by byte: a refusal names its cause.
-#[tactic(auto, using(crate::proofs::Variants::byte_text))]
+#[tactic(auto, using(crate::proofs::PartRefusals::byte_text))]
 #[cold]
 #[inline(never)]
 fn pull_str_slowly<'de, R: Read>(
@@ -134,7 +139,8 @@ fn pull_str_slowly<'de, R: Read>(
     input: &mut Input<'de, R>,
 ) -> ReadResult<CowStr<'de>, R>
     ensures text { OverInput R.reading (ReadsStr name.now) input.old result input.new }
-    ensures lent { IfOk result (λ s. IsBorrowedStr s ↔ ((input_reading R.reading input.old).lends ≡ true)) }
+    ensures lent { IfOk result
+        (λ s. IsBorrowedStr s ↔ ((input_reading R.reading input.old).lends ≡ true)) }
     ensures looked { OverInput R.reading (Looks 3) input.old result input.new }
     ensures variant { IfErr result OfText }
 {
@@ -150,7 +156,8 @@ pub fn pull_str<'de, R: Read>(
     input: &mut Input<'de, R>,
 ) -> ReadResult<CowStr<'de>, R>
     ensures text { OverInput R.reading (ReadsStr name.now) input.old result input.new }
-    ensures lent { IfOk result (λ s. IsBorrowedStr s ↔ ((input_reading R.reading input.old).lends ≡ true)) }
+    ensures lent { IfOk result
+        (λ s. IsBorrowedStr s ↔ ((input_reading R.reading input.old).lends ≡ true)) }
     ensures looked { OverInput R.reading (Looks 3) input.old result input.new }
     ensures variant { IfErr result OfText }
 {
@@ -180,7 +187,7 @@ pub(crate) fn pull_peeked_owned_text<R: Read>(
 }
 
 /// A text of its own, also where the input lends.
-#[tactic(auto, using(crate::proofs::Variants::byte_text))]
+#[tactic(auto, using(crate::proofs::PartRefusals::byte_text))]
 pub fn pull_owned_text<R: Read>(alloc: Global, input: &mut Input<'_, R>) -> ReadResult<String, R>
     ensures text { OverInput R.reading ReadsOwnedText input.old result input.new }
     ensures looked { OverInput R.reading (Looks 3) input.old result input.new }
@@ -209,7 +216,7 @@ pub(crate) fn pull_peeked_owned_bytes<R: Read>(
 }
 
 /// A byte string of its own, also where the input lends.
-#[tactic(auto, using(crate::proofs::Variants::byte_kind))]
+#[tactic(auto, using(crate::proofs::PartRefusals::byte_kind))]
 pub fn pull_owned_bytes<R: Read>(alloc: Global, input: &mut Input<'_, R>) -> ReadResult<Vec<u8>, R>
     ensures bytes { OverInput R.reading ReadsOwnedBytes input.old result input.new }
     ensures looked { OverInput R.reading (Looks 3) input.old result input.new }
@@ -232,7 +239,7 @@ fn only_char(text: &str) -> Option<char>
 }
 
 /// A text of one character.
-#[tactic(auto, using(crate::proofs::Variants::text_char))]
+#[tactic(auto, using(crate::proofs::PartRefusals::text_char))]
 pub fn pull_char<R: Read>(alloc: Global, input: &mut Input<'_, R>) -> ReadResult<char, R>
     ensures character { OverInput R.reading ReadsChar input.old result input.new }
     ensures looked { OverInput R.reading (Looks 3) input.old result input.new }

@@ -13,7 +13,8 @@ const STEP: usize = 64;
 /// The bytes as a text.
 #[tactic(auto, using(crate::proofs::Judging::plain_text))]
 pub(crate) fn as_text(bytes: &[u8]) -> Option<&str>
-    ensures { MatchOption result (¬ IsUtf8 bytes.now) (λ s. (s.now ≡ bytes.now) × IsUtf8 bytes.now) }
+    ensures { MatchOption result (¬ IsUtf8 bytes.now)
+        (λ s. (s.now ≡ bytes.now) × IsUtf8 bytes.now) }
 {
     if bytes.len() < SHORT && is_plain(bytes) {
         return Some(unsafe { from_utf8_unchecked(bytes) });

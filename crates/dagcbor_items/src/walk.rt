@@ -5,7 +5,7 @@ ghost use Rattle.std.specs.Prelude.{◌≡◌, ◌≢◌, ◌≤◌, ◌/◌, If
 ghost use Rattle.dagcbor_heads.specs.Fronts.{StartsWith};
 ghost use Rattle.dagcbor_heads.specs.Looking.{Looks, LooksBehind};
 ghost use Rattle.dagcbor_items.specs.Untyped.{SkipsItem, SkipsEnteredItem, StartsWithMajor};
-ghost use Rattle.dagcbor_items.specs.Variants.{OfItem};
+ghost use Rattle.dagcbor_items.specs.AnsweredVariants.{OfItem};
 ghost use Rattle.dagcbor_items.specs.Walks.{WalksItem, WalksEnteredItem, WalksItems, WalksEntries};
 ghost use Rattle.dagcbor_items.specs.Walks.{GathersLinks};
 ghost use Rattle.dagcbor_heads.specs.Inputs.{OverInput};
@@ -44,14 +44,15 @@ pub fn gather_links<R: Read>(alloc: Global, input: &mut Input<'_, R>) -> ReadRes
 
 /// Goes through an item of any kind, no deeper than the steps that are left, and hands its links
 /// on.
-#[tactic(auto, using(crate::proofs::Variants::depth_item))]
+#[tactic(auto, using(crate::proofs::PartRefusals::depth_item))]
 #[cycle(walk)]
 pub fn walk_any<I: PayloadReader, S: LinkSink>(
     alloc: I::Alloc,
     input: &mut I,
     links: &mut S,
 ) -> ReadResult<(), I>
-    ensures item { WalksItem S.sink (I.reading input.old) links.old result (I.reading input.new) links.new }
+    ensures item { WalksItem S.sink (I.reading input.old) links.old result
+        (I.reading input.new) links.new }
     ensures looked { Looks 3 (I.reading input.old) result (I.reading input.new) }
     ensures variant { IfErr result OfItem }
 {
@@ -61,14 +62,15 @@ pub fn walk_any<I: PayloadReader, S: LinkSink>(
     Ok(())
 }
 
-#[tactic(auto, using(crate::proofs::Variants::end_item))]
+#[tactic(auto, using(crate::proofs::PartRefusals::end_item))]
 #[cycle(walk)]
 fn walk_item<I: PayloadReader, S: LinkSink>(
     alloc: I::Alloc,
     input: &mut I,
     links: &mut S,
 ) -> ReadResult<(), I>
-    ensures item { WalksEnteredItem S.sink (I.reading input.old) links.old result (I.reading input.new) links.new }
+    ensures item { WalksEnteredItem S.sink (I.reading input.old) links.old result
+        (I.reading input.new) links.new }
     ensures looked { Looks 3 (I.reading input.old) result (I.reading input.new) }
     ensures variant { IfErr result OfItem }
 {
@@ -87,7 +89,8 @@ fn walk_of_major<I: PayloadReader, S: LinkSink>(
     first: u8,
 ) -> ReadResult<(), I>
     requires { StartsWith (I.reading input.old) first }
-    ensures item { WalksEnteredItem S.sink (I.reading input.old) links.old result (I.reading input.new) links.new }
+    ensures item { WalksEnteredItem S.sink (I.reading input.old) links.old result
+        (I.reading input.new) links.new }
     ensures looked { LooksBehind 3 1 (I.reading input.old) result (I.reading input.new) }
     ensures variant { IfErr result OfItem }
 {
@@ -99,10 +102,11 @@ fn walk_of_major<I: PayloadReader, S: LinkSink>(
     }
 }
 
-#[tactic(auto, using(crate::proofs::Variants::link_item))]
+#[tactic(auto, using(crate::proofs::PartRefusals::link_item))]
 fn walk_link<R: Read, S: LinkSink>(reader: &mut R, links: &mut S) -> ReadResult<(), R>
     requires { StartsWithMajor (R.reading reader.old) 6 }
-    ensures item { WalksEnteredItem S.sink (R.reading reader.old) links.old result (R.reading reader.new) links.new }
+    ensures item { WalksEnteredItem S.sink (R.reading reader.old) links.old result
+        (R.reading reader.new) links.new }
     ensures looked { LooksBehind 3 1 (R.reading reader.old) result (R.reading reader.new) }
     ensures variant { IfErr result OfItem }
 {
@@ -114,7 +118,7 @@ fn walk_link<R: Read, S: LinkSink>(reader: &mut R, links: &mut S) -> ReadResult<
 }
 
 /// Skips an item that is no list, map or link.
-#[tactic(auto, using(crate::proofs::Variants::kind_item, crate::proofs::Variants::text_item))]
+#[tactic(auto, using(crate::proofs::PartRefusals::kind_item, crate::proofs::PartRefusals::text_item))]
 fn skip_leaf<I: PayloadReader>(alloc: I::Alloc, input: &mut I, first: u8) -> ReadResult<(), I>
     requires starts { StartsWith (I.reading input.old) first }
     requires no_list { first / 32 ≢ 4 }
@@ -133,7 +137,7 @@ fn skip_leaf<I: PayloadReader>(alloc: I::Alloc, input: &mut I, first: u8) -> Rea
     }
 }
 
-#[tactic(auto, using(crate::proofs::Variants::named_item))]
+#[tactic(auto, using(crate::proofs::PartRefusals::named_item))]
 fn skip_integer<R: Read>(name: &str, reader: &mut R, first: u8) -> ReadResult<(), R>
     requires starts { StartsWith (R.reading reader.old) first }
     requires major { first / 32 ≤ 1 }
@@ -145,7 +149,7 @@ fn skip_integer<R: Read>(name: &str, reader: &mut R, first: u8) -> ReadResult<()
     Ok(())
 }
 
-#[tactic(auto, using(crate::proofs::Variants::end_item))]
+#[tactic(auto, using(crate::proofs::PartRefusals::end_item))]
 fn skip_simple<R: Read>(reader: &mut R, first: u8) -> ReadResult<(), R>
     requires starts { StartsWith (R.reading reader.old) first }
     requires major { first / 32 ≡ 7 }
@@ -167,7 +171,8 @@ fn walk_list<I: PayloadReader, S: LinkSink>(
     links: &mut S,
 ) -> ReadResult<(), I>
     requires { StartsWithMajor (I.reading input.old) 4 }
-    ensures item { WalksEnteredItem S.sink (I.reading input.old) links.old result (I.reading input.new) links.new }
+    ensures item { WalksEnteredItem S.sink (I.reading input.old) links.old result
+        (I.reading input.new) links.new }
     ensures looked { LooksBehind 3 1 (I.reading input.old) result (I.reading input.new) }
     ensures variant { IfErr result OfItem }
 {
@@ -184,7 +189,8 @@ fn walk_items<I: PayloadReader, S: LinkSink>(
     links: &mut S,
     count: u64,
 ) -> ReadResult<(), I>
-    ensures items { WalksItems S.sink count (I.reading input.old) links.old result (I.reading input.new) links.new }
+    ensures items { WalksItems S.sink count (I.reading input.old) links.old result
+        (I.reading input.new) links.new }
     ensures looked { Looks 3 (I.reading input.old) result (I.reading input.new) }
     ensures variant { IfErr result OfItem }
 {
@@ -201,7 +207,8 @@ fn walk_map<I: PayloadReader, S: LinkSink>(
     links: &mut S,
 ) -> ReadResult<(), I>
     requires { StartsWithMajor (I.reading input.old) 5 }
-    ensures item { WalksEnteredItem S.sink (I.reading input.old) links.old result (I.reading input.new) links.new }
+    ensures item { WalksEnteredItem S.sink (I.reading input.old) links.old result
+        (I.reading input.new) links.new }
     ensures looked { LooksBehind 3 1 (I.reading input.old) result (I.reading input.new) }
     ensures variant { IfErr result OfItem }
 {
@@ -211,7 +218,7 @@ fn walk_map<I: PayloadReader, S: LinkSink>(
     Ok(())
 }
 
-#[tactic(auto, using(crate::proofs::Variants::key_item))]
+#[tactic(auto, using(crate::proofs::PartRefusals::key_item))]
 #[cycle(walk)]
 fn walk_entries<I: PayloadReader, S: LinkSink>(
     alloc: I::Alloc,
@@ -219,7 +226,8 @@ fn walk_entries<I: PayloadReader, S: LinkSink>(
     links: &mut S,
     count: u64,
 ) -> ReadResult<(), I>
-    ensures entries { WalksEntries S.sink count (I.reading input.old) links.old result (I.reading input.new) links.new }
+    ensures entries { WalksEntries S.sink count (I.reading input.old) links.old result
+        (I.reading input.new) links.new }
     ensures looked { Looks 3 (I.reading input.old) result (I.reading input.new) }
     ensures variant { IfErr result OfItem }
 {

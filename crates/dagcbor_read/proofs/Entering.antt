@@ -11,10 +11,10 @@ use Rattle.dagcbor_heads.specs.declared.error.DecodeError.{DecodeError}
 use Rattle.dagcbor_heads.specs.declared.error.DecodeError.TheVariants.{Eof, Mismatch, DepthOverflow}
 use Rattle.dagcbor_heads.proofs.Heads.{head_first}
 use Rattle.dagcbor_heads.proofs.Refusing.{end_named, no_step_refused}
-use Rattle.dagcbor_items.specs.Variants.{OfByte, OfHead}
-use Rattle.dagcbor_items.proofs.Variants.{byte_kind, named_kind, end_kind}
+use Rattle.dagcbor_items.specs.AnsweredVariants.{OfByte, OfHead}
+use Rattle.dagcbor_items.proofs.PartRefusals.{byte_kind, named_kind, end_kind}
 use Rattle.dagcbor_read.specs.Enums.{EnumState, IsOtherForm, OfForm}
-use Rattle.dagcbor_items.specs.Reads.{NoStepIfDeep}
+use Rattle.dagcbor_items.specs.TypedReads.{NoStepIfDeep}
 use Rattle.dagcbor_read.specs.Accessors.{HasHeadOf, EnterCause, OfBegin}
 use Rattle.dagcbor_read.proofs.Passing.{SameReader, refusal_carried}
 

@@ -8,7 +8,7 @@ use Rattle.dagcbor_heads.specs.Refusals.{Refuses}
 use Rattle.dagcbor_heads.specs.declared.error.DecodeError.{DecodeError}
 use Rattle.ipld_tree.specs.Tree.{Tree, any_need}
 use Rattle.dagcbor_read.specs.Deserializers.{DeState, Call}
-use Rattle.dagcbor_items.specs.Reads.{HasFront, TakesFront, MayLack, Anything}
+use Rattle.dagcbor_items.specs.TypedReads.{HasFront, TakesFront, MayLack, Anything}
 use Rattle.dagcbor_items.specs.Shapes.{ignored_item, unless_lent, Shape}
 use Rattle.dagcbor_items.specs.Entering.{Enters}
 use Rattle.dagcbor_read.specs.Accessors.{AccessorState, accessor_state, BeginsItems, ReadsNextKey, after_key, with_value, EndsItems}

@@ -6,7 +6,7 @@ use Rattle.std.specs.Bool.{Decides}
 use Rattle.std.specs.Str.{bytes_eq}
 use Rattle.dagcbor_heads.specs.Reading.{Reading}
 use Rattle.ipld_tree.specs.Tree.{Tree}
-use Rattle.dagcbor_items.specs.Reads.{HasFront, TakesFront}
+use Rattle.dagcbor_items.specs.TypedReads.{HasFront, TakesFront}
 use Rattle.dagcbor_items.specs.Shapes.{Shape}
 
 -- a key that is not the name

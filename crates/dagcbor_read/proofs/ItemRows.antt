@@ -11,7 +11,7 @@ use Rattle.ipld_tree.specs.Tree.{Tree, list, Items, no_items, item}
 use Rattle.ipld_tree.specs.Spelling.{item_count, IsFront, AreFronts}
 use Rattle.ipld_tree.proofs.Fronts.{list_closed, item_closed, items_after}
 use Rattle.dagcbor_read.specs.Deserializers.{DeState, Call}
-use Rattle.dagcbor_items.specs.Reads.{HasFront, TakesFront, MayLack, Anything}
+use Rattle.dagcbor_items.specs.TypedReads.{HasFront, TakesFront, MayLack, Anything}
 use Rattle.dagcbor_read.specs.Values.{ReadsValue}
 use Rattle.dagcbor_items.specs.Entering.{Enters}
 use Rattle.dagcbor_read.specs.Accessors.{AccessorState, accessor_state, BeginsItems}

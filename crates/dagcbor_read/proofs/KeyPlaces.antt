@@ -10,7 +10,7 @@ use Rattle.ipld_tree.proofs.KeyOrder.{same_key}
 use Rattle.ipld_tree.proofs.Ordered.{key_cmp_total, key_cmp_same}
 use Rattle.dagcbor_heads.specs.Reading.{Reading}
 use Rattle.ipld_tree.specs.Tree.{Tree}
-use Rattle.dagcbor_items.specs.Reads.{TakesFront}
+use Rattle.dagcbor_items.specs.TypedReads.{TakesFront}
 use Rattle.dagcbor_read.specs.Collections.{in_key_order, text_pairs, value_of, values_of}
 use Rattle.dagcbor_items.specs.Shapes.{Shape}
 

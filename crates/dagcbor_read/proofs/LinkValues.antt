@@ -10,7 +10,7 @@ use Rattle.ipld_tree.specs.Cid.{CidParts, cid_bytes}
 use Rattle.dagcbor_items.specs.LinkCauses.{LinkCause}
 use Rattle.dagcbor_items.specs.Links.{ReadsLink}
 use Rattle.dagcbor_read.specs.Deserializers.{DeState, Call}
-use Rattle.dagcbor_items.specs.Reads.{HasFront, TakesFront, Reads, Anything}
+use Rattle.dagcbor_items.specs.TypedReads.{HasFront, TakesFront, Reads, Anything}
 use Rattle.dagcbor_read.specs.Values.{ReadsValue}
 use Rattle.dagcbor_items.specs.Shapes.{view_link, leaf}
 use Rattle.dagcbor_read.proofs.Progressing.{call_told}

@@ -19,7 +19,7 @@ use Rattle.dagcbor_items.specs.Shapes.{view_text, leaf, unless_lent, Shape}
 use Rattle.dagcbor_read.specs.EnumViews.{view_enum, need_enum, HasVariant, TakesVariant, ReadsVariant, EnumShape, enum_of, part_of}
 use Rattle.dagcbor_read.specs.Collections.{need_fields, fields_of, fields_memory, struct_of, FieldShape}
 use Rattle.dagcbor_read.specs.Deserializers.{DeState, Call}
-use Rattle.dagcbor_items.specs.Reads.{HasFront, TakesFront, MayLack, Anything}
+use Rattle.dagcbor_items.specs.TypedReads.{HasFront, TakesFront, MayLack, Anything}
 use Rattle.dagcbor_read.specs.Values.{ReadsValue}
 use Rattle.dagcbor_read.specs.Enums.{EnumState, enum_state, TakesForm, HasStepEnum, StepEnumCause, SpendsEnum, ReadsName, IsOtherForm, EndsUnit, ReadsHeld, ReadsFieldsHeld}
 use Rattle.dagcbor_read.specs.declared.access.enum_accessor.EnumAccessor.{EnumAccessor}

@@ -10,7 +10,7 @@ use Rattle.dagcbor_heads.proofs.Taking.{stays}
 use Rattle.dagcbor_heads.proofs.Refusing.{passed_on}
 use Rattle.ipld_tree.specs.Tree.{Tree, null}
 use Rattle.ipld_tree.specs.Spelling.{spelling, IsFront}
-use Rattle.dagcbor_items.specs.Reads.{HasFront, TakesFront, MayLack, Anything}
+use Rattle.dagcbor_items.specs.TypedReads.{HasFront, TakesFront, MayLack, Anything}
 use Rattle.dagcbor_read.proofs.Passing.{lacks_before}
 use Rattle.dagcbor_items.specs.Shapes.{view_option, need_option, Shape, option_of}
 use Rattle.dagcbor_read.specs.Options.{CanEnter, EntersSome, OptionCause}

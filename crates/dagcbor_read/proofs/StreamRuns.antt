@@ -8,7 +8,7 @@ use Rattle.dagcbor_heads.specs.declared.error.DecodeError.{DecodeError}
 use Rattle.dagcbor_heads.specs.declared.error.DecodeError.TheVariants.{Read, RequireBorrowed, OutOfMemory, Failed, DepthOverflow}
 use Rattle.ipld_tree.specs.Tree.{Tree}
 use Rattle.dagcbor_read.specs.Deserializers.{DeState, Call}
-use Rattle.dagcbor_items.specs.Reads.{HasFront, MayLack}
+use Rattle.dagcbor_items.specs.TypedReads.{HasFront, MayLack}
 use Rattle.dagcbor_read.specs.Streams.{StreamState, SomeLeft, AreSome, ReadsNext, as_answer, is_last, AreNextValues, values_before, AreStreamItems, GivesUp, NoneGivesUp, EndsAtError, stream_item, AreUpTo, IsOver, Gives, StreamsAreExact}
 use Rattle.dagcbor_read.specs.Whole.{IsFirst, BeginsWithNoValue}
 use Rattle.dagcbor_read.proofs.Progressing.{match_true, match_false, call_answered, call_told}

@@ -13,7 +13,7 @@ use Rattle.ipld_tree.proofs.Fronts.{front_unique}
 use Rattle.dagcbor_read.specs.Deserializers.{DeState, Ends, TellsEnd}
 use Rattle.dagcbor_items.proofs.SliceReads.{whole_front}
 use Rattle.dagcbor_read.proofs.Progressing.{match_false}
-use Rattle.dagcbor_items.specs.Reads.{HasFront, TakesFront, MayLack, Anything}
+use Rattle.dagcbor_items.specs.TypedReads.{HasFront, TakesFront, MayLack, Anything}
 use Rattle.dagcbor_read.specs.Values.{ReadsValue}
 use Rattle.dagcbor_read.specs.Whole.{IsWhole, HoldsNoValue, IsFirst, TakesFirst, BeginsWithNoValue, IsReadExcuse, OfWhole, IsForBehind, LacksMemoryIf}
 use Rattle.dagcbor_items.specs.Shapes.{Shape}

@@ -20,8 +20,8 @@ use Rattle.dagcbor_items.specs.Places.{Follows}
 use Rattle.dagcbor_items.specs.ItemCauses.{KeyCause}
 use Rattle.dagcbor_items.specs.Entering.{Enters}
 use Rattle.dagcbor_items.specs.Entries.{HasKey}
-use Rattle.dagcbor_items.specs.Variants.{OfHead}
-use Rattle.dagcbor_items.specs.Reads.{HasFront, TakesFront, NoStepIfDeep, MayLack, Anything}
+use Rattle.dagcbor_items.specs.AnsweredVariants.{OfHead}
+use Rattle.dagcbor_items.specs.TypedReads.{HasFront, TakesFront, NoStepIfDeep, MayLack, Anything}
 use Rattle.dagcbor_read.specs.declared.access.accessor.Accessor.{Accessor}
 use Rattle.dagcbor_items.specs.Shapes.{Shape, view_text, leaf}
 
@@ -41,6 +41,7 @@ pub record AccessorState : Type 0 where
   -- the steps that its end gives back
   pub steps : ℕ
 
+-- what contracts see of a list or map that was begun
 abbrev pub accessor_state : Accessor → AccessorState
 accessor_state a = record {
   name = a.name;
@@ -134,6 +135,7 @@ abbrev pub after_key : {E : Type 0} → Result (Option (CowStr Global)) (DecodeE
 after_key (Ok (Some k)) c = record c { left = c.left - 1; last = Some (cow_str_bytes k); owes_value = true }
 after_key _ c = c
 
+-- the same, where no value is owed
 abbrev pub with_value : AccessorState → AccessorState
 with_value c = record c { owes_value = false }
 

@@ -15,7 +15,7 @@ use Rattle.dagcbor_items.specs.Items.{HasRow}
 use Rattle.dagcbor_items.specs.Entries.{AllFollow, HasEntryRow}
 use Rattle.ipld_tree.specs.Spelling.{item_count, entry_count, AreFronts, AreEntryFronts}
 use Rattle.dagcbor_read.specs.Deserializers.{DeState}
-use Rattle.dagcbor_items.specs.Reads.{MayLack, Anything}
+use Rattle.dagcbor_items.specs.TypedReads.{MayLack, Anything}
 use Rattle.dagcbor_read.specs.Accessors.{AccessorState}
 use Rattle.dagcbor_items.specs.Shapes.{Shape, takes_none, takes_some, unless_lent}
 
@@ -31,6 +31,7 @@ abbrev pub need_list : (Items → ℕ) → Tree → ℕ
 need_list need (list ts) = 1 + need ts
 need_list need _ = 1
 
+-- a list, whose items are read as the row
 abbrev pub list_of : {V : Type 0} → Shape Items V → Shape Tree V
 list_of row = record {
   view = view_list row.view;
@@ -49,6 +50,7 @@ abbrev pub need_items : (Tree → ℕ) → Items → ℕ
 need_items need no_items = 0
 need_items need (item t ts) = max (need t) (need_items need ts)
 
+-- items that are all read as one type
 abbrev pub all_of : {V : Type 0} → Shape Tree V → Shape Items (List V)
 all_of shape = record {
   view = view_items shape.view;
@@ -62,6 +64,7 @@ abbrev pub view_none : Items → Option (Unit {0})
 view_none no_items = Some tt
 view_none (item t ts) = None
 
+-- no item
 abbrev pub no_more : Shape Items (Unit {0})
 no_more = record { view = view_none; need = λ ts. 0; wants_loan = false; memory = takes_none }
 
@@ -71,10 +74,12 @@ abbrev pub view_first : {V W : Type 0} → (Tree → Option V) → (Items → Op
 view_first view others no_items = None
 view_first view others (item t ts) = option_and_then (λ v. option_map (λ w. (v, w)) (others ts)) (view t)
 
+-- the greater of what the first item needs and what the others need
 abbrev pub need_first : (Tree → ℕ) → (Items → ℕ) → Items → ℕ
 need_first need others no_items = 0
 need_first need others (item t ts) = max (need t) (others ts)
 
+-- one item of a type, and others behind it
 abbrev pub first_then : {V W : Type 0} → Shape Tree V → Shape Items W → Shape Items (V × W)
 first_then shape others = record {
   view = view_first shape.view others.view;
@@ -129,6 +134,7 @@ abbrev pub view_entries : {S : Type 0} → (S → List ℕ → Tree → Option S
 view_entries take state no_entries = Some state
 view_entries take state (entry k t es) = option_and_then (λ next. view_entries take next es) (take state k t)
 
+-- what a map's entries make of the state at the start
 abbrev pub view_fields : {S : Type 0} → (S → List ℕ → Tree → Option S) → S → Tree → Option S
 view_fields take start (mapping es) = view_entries take start es
 view_fields take start _ = None
@@ -156,6 +162,7 @@ value_of shape s k = record {
 abbrev pub fields_memory : {S : Type 0} → FieldShape S → Bool → Bool
 fields_memory shape lends = unless_lent lends || shape.memory lends
 
+-- a map, whose entries are taken one by one
 abbrev pub fields_of : {S : Type 0} → FieldShape S → S → Shape Tree S
 fields_of shape start = record {
   view = view_fields shape.take start;
@@ -173,6 +180,7 @@ all_entries shape state = record {
   memory = fields_memory shape;
 }
 
+-- so many entries stand at the front, behind the last key, that the state takes
 abbrev pub HasFields : {S : Type 0} → FieldShape S → S → Option (List ℕ) → ℕ → Reading → Type 0
 HasFields shape state = HasEntryRow (all_entries shape state)
 
@@ -196,6 +204,7 @@ ReadsEntriesLeft meaning shape start before old result new = MatchResult result
 abbrev pub view_slot : {V : Type 0} → (Tree → Option V) → Tree → Option (Option V)
 view_slot view t = option_map Some (view t)
 
+-- a value that fills an empty place
 abbrev pub slot_of : {V : Type 0} → Shape Tree V → Shape Tree (Option V)
 slot_of shape = record {
   view = view_slot shape.view;
@@ -231,6 +240,7 @@ abbrev pub take_entry : {V : Type 0} → (Tree → Option V) → List (List ℕ 
     → Option (List (List ℕ × V))
 take_entry view pairs k t = option_map (λ v. insert_entry key_cmp pairs k v) (view t)
 
+-- the pairs of a map whose values are all of one type
 abbrev pub values_of : {V : Type 0} → Shape Tree V → FieldShape (List (List ℕ × V))
 values_of shape = record {
   take = take_entry shape.view;

@@ -15,6 +15,7 @@ pub record DeState : Type 0 where
   -- whether a call was refused
   pub failed : Bool
 
+-- what contracts see of a `Deserializer` over a reader
 abbrev pub de_state : {R : Type 0} → (R → Reading) → Deserializer R → DeState
 de_state reading de = record { input = input_reading reading de.input; failed = de.failed }
 

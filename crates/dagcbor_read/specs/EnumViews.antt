@@ -6,7 +6,7 @@ use Rattle.dagcbor_heads.specs.Refusals.{Refuses}
 use Rattle.dagcbor_heads.specs.declared.error.DecodeError.{DecodeError}
 use Rattle.ipld_tree.specs.Tree.{Tree, text, mapping, no_entries, entry}
 use Rattle.dagcbor_read.specs.Deserializers.{DeState}
-use Rattle.dagcbor_items.specs.Reads.{HasFront, TakesFront, MayLack, Anything}
+use Rattle.dagcbor_items.specs.TypedReads.{HasFront, TakesFront, MayLack, Anything}
 use Rattle.dagcbor_read.specs.Enums.{EnumState}
 use Rattle.dagcbor_items.specs.Shapes.{Shape, unless_lent}
 
@@ -36,6 +36,7 @@ pub record EnumShape (V : Type 0) : Type 0 where
   -- does not
   pub memory : Bool → Bool
 
+-- an enum: the text that names a variant, or a map of one entry from that name
 abbrev pub enum_of : {V : Type 0} → EnumShape V → Shape Tree V
 enum_of shape = record {
   view = view_enum shape.unit shape.part;

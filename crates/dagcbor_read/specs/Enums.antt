@@ -15,8 +15,8 @@ use Rattle.std.specs.declared.alloc.Global.{Global}
 use Rattle.dagcbor_items.specs.Shapes.{view_text, leaf, Shape}
 use Rattle.dagcbor_items.specs.LeafCauses.{TextCause}
 use Rattle.dagcbor_read.specs.Deserializers.{DeState}
-use Rattle.dagcbor_items.specs.Variants.{OfByte}
-use Rattle.dagcbor_items.specs.Reads.{Reads, HasFront, MayLack, TakesFront, NoStepIfDeep, Anything}
+use Rattle.dagcbor_items.specs.AnsweredVariants.{OfByte}
+use Rattle.dagcbor_items.specs.TypedReads.{Reads, HasFront, MayLack, TakesFront, NoStepIfDeep, Anything}
 use Rattle.dagcbor_read.specs.Accessors.{BeginsItems}
 use Rattle.dagcbor_read.specs.declared.access.accessor.Accessor.{Accessor}
 use Rattle.dagcbor_read.specs.declared.access.enum_accessor.EnumAccessor.{EnumAccessor}
@@ -31,6 +31,7 @@ pub record EnumState : Type 0 where
   -- the steps that its end gives back
   pub steps : ℕ
 
+-- what contracts see of an enum that was begun
 abbrev pub enum_state : EnumAccessor → EnumState
 enum_state a = record { first = a.first; in_map = a.in_map; steps = a.steps }
 

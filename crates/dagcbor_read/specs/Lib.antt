@@ -13,7 +13,7 @@ pub use Rattle.dagcbor_items.specs.Places
 pub use Rattle.dagcbor_items.specs.LinkCauses
 pub use Rattle.dagcbor_items.specs.ItemCauses
 pub use Rattle.dagcbor_items.specs.LeafCauses
-pub use Rattle.dagcbor_items.specs.Variants
+pub use Rattle.dagcbor_items.specs.AnsweredVariants
 pub use Rattle.dagcbor_items.specs.Untyped
 pub use Rattle.dagcbor_items.specs.Looks
 pub use Rattle.dagcbor_items.specs.Items
@@ -21,7 +21,7 @@ pub use Rattle.dagcbor_items.specs.Entries
 pub use Rattle.dagcbor_items.specs.Links
 pub use Rattle.dagcbor_items.specs.Walks
 pub use Rattle.dagcbor_items.specs.Shapes
-pub use Rattle.dagcbor_items.specs.Reads
+pub use Rattle.dagcbor_items.specs.TypedReads
 pub use Rattle.dagcbor_items.specs.Majors
 pub use Rattle.dagcbor_items.specs.LeafReads
 -- of this crate, from below upwards

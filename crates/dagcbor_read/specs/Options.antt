@@ -10,7 +10,7 @@ use Rattle.dagcbor_heads.specs.declared.error.DecodeError.TheVariants.{Eof, Dept
 use Rattle.dagcbor_heads.specs.declared.error.Len.TheVariants.{Small}
 use Rattle.ipld_tree.specs.Tree.{Tree}
 use Rattle.dagcbor_items.specs.Shapes.{Shape, option_of}
-use Rattle.dagcbor_items.specs.Reads.{HasFront, MayLack, TakesFront, NoStepIfDeep, Anything}
+use Rattle.dagcbor_items.specs.TypedReads.{HasFront, MayLack, TakesFront, NoStepIfDeep, Anything}
 
 -- a null stands at the front, or another byte, and a step is left
 pub record CanEnter (r : Reading) : Type 0 where

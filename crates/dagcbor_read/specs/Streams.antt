@@ -11,7 +11,7 @@ use Rattle.dagcbor_heads.specs.declared.error.DecodeError.TheVariants.{Read, Req
 use Rattle.dagcbor_heads.specs.declared.error.DecodeError.TheVariants.{OutOfMemory, Failed}
 use Rattle.ipld_tree.specs.Tree.{Tree}
 use Rattle.dagcbor_read.specs.Deserializers.{DeState, de_state, Call}
-use Rattle.dagcbor_items.specs.Reads.{HasFront, TakesFront, MayLack}
+use Rattle.dagcbor_items.specs.TypedReads.{HasFront, TakesFront, MayLack}
 use Rattle.dagcbor_read.specs.declared.stream.StreamDeserializer.{StreamDeserializer}
 use Rattle.dagcbor_items.specs.Shapes.{Shape}
 use Rattle.dagcbor_read.specs.Whole.{IsFirst, BeginsWithNoValue}
@@ -41,12 +41,14 @@ StreamsAreUnique {V} shape = (steps : ℕ) (b : List ℕ) (items others : List (
 
 -- ---- what contracts see of a stream
 
+-- what contracts see of a stream
 pub record StreamState : Type 0 where
   -- what it reads from
   pub source : DeState
   -- whether an error, or the end, was met
   pub done : Bool
 
+-- a stream over a reader whose reading is known
 abbrev pub stream_state : {R T : Type 0} → (R → Reading) → StreamDeserializer R T → StreamState
 stream_state reading s = record { source = de_state reading s.de; done = s.done }
 
@@ -66,7 +68,8 @@ abbrev pub ReadsNext : {T V E : Type 0} → (T → V) → Shape Tree V → Readi
     → Result (Option T) (DecodeError E) → Reading → Type 0
 ReadsNext meaning shape old result new = MatchResult result
     (λ next. MatchOption next (FindsEnd old new) (λ v. TakesFront shape old (meaning v) new))
-    (λ e. Refuses (HasFront shape old) (MayLack shape.memory old × SomeLeft old) ((shape.wants_loan ≡ true) × SomeLeft old) AreSome old e new)
+    (λ e. Refuses (HasFront shape old) (MayLack shape.memory old × SomeLeft old)
+    ((shape.wants_loan ≡ true) × SomeLeft old) AreSome old e new)
 
 -- what `next` gives is what reading answered, and the last but after a value
 abbrev pub as_answer : {T E : Type 0} → Option (Result T (DecodeError E))
@@ -75,6 +78,7 @@ as_answer None = Ok None
 as_answer (Some (Ok v)) = Ok (Some v)
 as_answer (Some (Err e)) = Err e
 
+-- whether nothing comes behind what was given
 abbrev pub is_last : {T E : Type 0} → Option (Result T (DecodeError E)) → Bool
 is_last None = true
 is_last (Some r) = is_err r
@@ -85,7 +89,8 @@ abbrev pub GivesNext : {T V E : Type 0} → (T → V) → Shape Tree V → Strea
     → Option (Result T (DecodeError E)) → StreamState → Type 0
 GivesNext meaning shape old item new = MatchBool old.done
     ((item ≡ None) × (new ≡ old))
-    ((new.done ≡ is_last item) × Call (ReadsNext meaning shape) old.source (as_answer item) new.source)
+    ((new.done ≡ is_last item)
+    × Call (ReadsNext meaning shape) old.source (as_answer item) new.source)
 
 -- Where n bytes are left, at most n + 1 items come; where the source does not tell its bytes,
 -- nothing is said.
@@ -94,6 +99,7 @@ items_left_of true left = at_most 0
 items_left_of false None = endless
 items_left_of false (Some b) = at_most (length b + 1)
 
+-- how many items may still come
 abbrev pub items_left : StreamState → Count
 items_left s = items_left_of s.done s.source.input.left
 
@@ -107,6 +113,7 @@ GivesUp shape lends OutOfMemory = shape.memory lends ≡ true
 GivesUp shape lends (RequireBorrowed name) = (shape.wants_loan ≡ true) × (lends ≡ false)
 GivesUp shape lends _ = ⊥
 
+-- no error is one that says nothing of the bytes
 abbrev pub NoneGivesUp : {T V E : Type 0} → Shape Tree V → Bool → List (Result T (DecodeError E))
     → Type 0
 NoneGivesUp shape lends [] = ⊤

@@ -52,9 +52,11 @@ pub record StructShape (S V : Type 0) : Type 0 where
   -- none where one is missing
   pub finish : S → Option V
 
+-- a struct, read from a map by its row of fields
 abbrev pub struct_shape : {S V : Type 0} → StructShape S V → Shape Tree V
 struct_shape s = struct_of s.fields s.unread s.finish
 
+-- a row of no fields
 abbrev pub no_fields : StructShape (Unit {0}) (Unit {0})
 no_fields = record { fields = no_places; unread = tt; finish = Some }
 

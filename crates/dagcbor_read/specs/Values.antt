@@ -4,7 +4,7 @@ use Rattle.dagcbor_heads.specs.Reading.{Reading}
 use Rattle.dagcbor_heads.specs.Refusals.{Refuses}
 use Rattle.dagcbor_heads.specs.declared.error.DecodeError.{DecodeError}
 use Rattle.ipld_tree.specs.Tree.{Tree}
-use Rattle.dagcbor_items.specs.Reads.{Reads, HasFront, TakesFront, MayLack, Anything}
+use Rattle.dagcbor_items.specs.TypedReads.{Reads, HasFront, TakesFront, MayLack, Anything}
 use Rattle.dagcbor_read.specs.Deserializers.{DeState}
 use Rattle.dagcbor_items.specs.Shapes.{Shape}
 

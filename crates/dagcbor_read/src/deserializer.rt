@@ -9,8 +9,9 @@ ghost use Rattle.dagcbor_items.specs.Looks.{LooksAtAny};
 ghost use Rattle.dagcbor_read.specs.Deserializers.{de_state, Call, Ends, Over};
 ghost use Rattle.dagcbor_items.specs.Untyped.{ReadsItem};
 ghost use Rattle.dagcbor_items.specs.Links.{ReadsLink};
-ghost use Rattle.dagcbor_items.specs.Variants.{OfItem, OfLink, OfHead, OfNumber, OfByte, OfChar};
-ghost use Rattle.dagcbor_items.specs.Variants.{OfText, OfKey};
+ghost use Rattle.dagcbor_items.specs.AnsweredVariants.{OfItem, OfLink, OfHead, OfNumber, OfByte};
+ghost use Rattle.dagcbor_items.specs.AnsweredVariants.{OfChar};
+ghost use Rattle.dagcbor_items.specs.AnsweredVariants.{OfText, OfKey};
 ghost use Rattle.dagcbor_items.specs.LeafReads.{ReadsUnsigned, ReadsSigned, ReadsU128, ReadsI128};
 ghost use Rattle.dagcbor_items.specs.LeafReads.{ReadsNull, ReadsBool, ReadsStr, ReadsOwnedText};
 ghost use Rattle.dagcbor_items.specs.LeafReads.{ReadsChar, ReadsByteSlice, ReadsOwnedBytes};
@@ -74,7 +75,8 @@ impl<'de> Deserializer<'de, SliceReader<'de>> {
 impl<'de, R: Read> Deserializer<'de, R> {
     /// Reads from the reader, whose bytes are not lent.
     pub fn from_reader(reader: R) -> Deserializer<'de, R>
-        ensures { de_state R.reading result ≡ record { input = not_lending (R.reading reader); failed = false } }
+        ensures { de_state R.reading
+            result ≡ record { input = not_lending (R.reading reader); failed = false } }
     {
         Deserializer {
             input: Input::Reader(reader),
@@ -93,8 +95,10 @@ impl<'de, R: Read> Deserializer<'de, R> {
     pub(crate) fn begin(&mut self) -> ReadResult<(), R>
         ensures { MatchResult result
             (λ _. ((de_state R.reading self.old).failed ≡ false)
-            × (de_state R.reading self.new ≡ record { input = (de_state R.reading self.old).input; failed = true }))
-            (λ e. ((de_state R.reading self.old).failed ≡ true) × (e ≡ Failed) × (de_state R.reading self.new ≡ de_state R.reading self.old)) }
+            × (de_state R.reading
+            self.new ≡ record { input = (de_state R.reading self.old).input; failed = true }))
+            (λ e. ((de_state R.reading self.old).failed ≡ true) × (e ≡ Failed)
+            × (de_state R.reading self.new ≡ de_state R.reading self.old)) }
     {
         if self.failed {
             return Err(DecodeError::Failed);
@@ -106,7 +110,8 @@ impl<'de, R: Read> Deserializer<'de, R> {
     /// Reads an item of any kind, no deeper than the steps that are left.
     pub fn deserialize_any(&mut self, alloc: Global) -> ReadResult<Ipld, R>
         ensures item { Over R.reading (Call ReadsItem) self.old result self.new }
-        ensures looked { LooksAtAny (de_state R.reading self.old).input result (de_state R.reading self.new).input }
+        ensures looked { LooksAtAny (de_state R.reading self.old).input result
+            (de_state R.reading self.new).input }
         ensures variant { IfErr result OfItem }
     {
         self.begin()?;
@@ -142,7 +147,8 @@ impl<'de, R: Read> Deserializer<'de, R> {
     }
 
     fn unsigned(&mut self, name: &str, greatest: u64) -> ReadResult<u64, R>
-        ensures number { Over R.reading (Call (ReadsUnsigned name.now (greatest + 1))) self.old result self.new }
+        ensures number { Over R.reading
+            (Call (ReadsUnsigned name.now (greatest + 1))) self.old result self.new }
         ensures most { IfOk result (λ n. n ≤ greatest) }
         ensures variant { IfErr result OfNumber }
     {
@@ -153,7 +159,8 @@ impl<'de, R: Read> Deserializer<'de, R> {
     }
 
     fn signed(&mut self, name: &str, greatest: u64) -> ReadResult<i128, R>
-        ensures number { Over R.reading (Call (ReadsSigned name.now (greatest + 1))) self.old result self.new }
+        ensures number { Over R.reading
+            (Call (ReadsSigned name.now (greatest + 1))) self.old result self.new }
         ensures least { IfOk result (λ n. negsuc greatest ≤ℤ n) }
         ensures most { IfOk result (λ n. n ≤ℤ pos greatest) }
         ensures variant { IfErr result OfNumber }
@@ -166,7 +173,8 @@ impl<'de, R: Read> Deserializer<'de, R> {
 
     /// Reads a number from 0 to 255.
     pub fn deserialize_u8(&mut self) -> ReadResult<u8, R>
-        ensures number { Over R.reading (Call (ReadsUnsigned (codes "u8") (2 ^ 8))) self.old result self.new }
+        ensures number { Over R.reading
+            (Call (ReadsUnsigned (codes "u8") (2 ^ 8))) self.old result self.new }
         ensures variant { IfErr result OfNumber }
     {
         Ok(self.unsigned("u8", 0xff)? as u8)
@@ -174,7 +182,8 @@ impl<'de, R: Read> Deserializer<'de, R> {
 
     /// Reads a number from 0 to 65,535.
     pub fn deserialize_u16(&mut self) -> ReadResult<u16, R>
-        ensures number { Over R.reading (Call (ReadsUnsigned (codes "u16") (2 ^ 16))) self.old result self.new }
+        ensures number { Over R.reading
+            (Call (ReadsUnsigned (codes "u16") (2 ^ 16))) self.old result self.new }
         ensures variant { IfErr result OfNumber }
     {
         Ok(self.unsigned("u16", 0xffff)? as u16)
@@ -182,7 +191,8 @@ impl<'de, R: Read> Deserializer<'de, R> {
 
     /// Reads a number from 0 to 2^32 - 1.
     pub fn deserialize_u32(&mut self) -> ReadResult<u32, R>
-        ensures number { Over R.reading (Call (ReadsUnsigned (codes "u32") (2 ^ 32))) self.old result self.new }
+        ensures number { Over R.reading
+            (Call (ReadsUnsigned (codes "u32") (2 ^ 32))) self.old result self.new }
         ensures variant { IfErr result OfNumber }
     {
         Ok(self.unsigned("u32", 0xffff_ffff)? as u32)
@@ -190,7 +200,8 @@ impl<'de, R: Read> Deserializer<'de, R> {
 
     /// Reads a number from 0 to 2^64 - 1.
     pub fn deserialize_u64(&mut self) -> ReadResult<u64, R>
-        ensures number { Over R.reading (Call (ReadsUnsigned (codes "u64") (2 ^ 64))) self.old result self.new }
+        ensures number { Over R.reading
+            (Call (ReadsUnsigned (codes "u64") (2 ^ 64))) self.old result self.new }
         ensures variant { IfErr result OfNumber }
     {
         self.unsigned("u64", u64::MAX)
@@ -198,7 +209,8 @@ impl<'de, R: Read> Deserializer<'de, R> {
 
     /// Reads a number from -128 to 127.
     pub fn deserialize_i8(&mut self) -> ReadResult<i8, R>
-        ensures number { Over R.reading (Call (ReadsSigned (codes "i8") (2 ^ 7))) self.old result self.new }
+        ensures number { Over R.reading
+            (Call (ReadsSigned (codes "i8") (2 ^ 7))) self.old result self.new }
         ensures variant { IfErr result OfNumber }
     {
         Ok(self.signed("i8", 0x7f)? as i8)
@@ -206,7 +218,8 @@ impl<'de, R: Read> Deserializer<'de, R> {
 
     /// Reads a number from -32,768 to 32,767.
     pub fn deserialize_i16(&mut self) -> ReadResult<i16, R>
-        ensures number { Over R.reading (Call (ReadsSigned (codes "i16") (2 ^ 15))) self.old result self.new }
+        ensures number { Over R.reading
+            (Call (ReadsSigned (codes "i16") (2 ^ 15))) self.old result self.new }
         ensures variant { IfErr result OfNumber }
     {
         Ok(self.signed("i16", 0x7fff)? as i16)
@@ -214,7 +227,8 @@ impl<'de, R: Read> Deserializer<'de, R> {
 
     /// Reads a number from -2^31 to 2^31 - 1.
     pub fn deserialize_i32(&mut self) -> ReadResult<i32, R>
-        ensures number { Over R.reading (Call (ReadsSigned (codes "i32") (2 ^ 31))) self.old result self.new }
+        ensures number { Over R.reading
+            (Call (ReadsSigned (codes "i32") (2 ^ 31))) self.old result self.new }
         ensures variant { IfErr result OfNumber }
     {
         Ok(self.signed("i32", 0x7fff_ffff)? as i32)
@@ -222,7 +236,8 @@ impl<'de, R: Read> Deserializer<'de, R> {
 
     /// Reads a number from -2^63 to 2^63 - 1.
     pub fn deserialize_i64(&mut self) -> ReadResult<i64, R>
-        ensures number { Over R.reading (Call (ReadsSigned (codes "i64") (2 ^ 63))) self.old result self.new }
+        ensures number { Over R.reading
+            (Call (ReadsSigned (codes "i64") (2 ^ 63))) self.old result self.new }
         ensures variant { IfErr result OfNumber }
     {
         Ok(self.signed("i64", 0x7fff_ffff_ffff_ffff)? as i64)
@@ -283,7 +298,8 @@ impl<'de, R: Read> Deserializer<'de, R> {
     /// Reads a text, lent where the input lends.
     pub fn deserialize_str(&mut self, alloc: Global) -> ReadResult<CowStr<'de>, R>
         ensures text { Over R.reading (Call (ReadsStr (codes "string"))) self.old result self.new }
-        ensures lent { IfOk result (λ s. IsBorrowedStr s ↔ ((de_state R.reading self.old).input.lends ≡ true)) }
+        ensures lent { IfOk result
+            (λ s. IsBorrowedStr s ↔ ((de_state R.reading self.old).input.lends ≡ true)) }
         ensures variant { IfErr result OfText }
     {
         self.begin()?;
@@ -295,7 +311,8 @@ impl<'de, R: Read> Deserializer<'de, R> {
     /// As `deserialize_str`.
     pub fn deserialize_identifier(&mut self, alloc: Global) -> ReadResult<CowStr<'de>, R>
         ensures text { Over R.reading (Call (ReadsStr (codes "string"))) self.old result self.new }
-        ensures lent { IfOk result (λ s. IsBorrowedStr s ↔ ((de_state R.reading self.old).input.lends ≡ true)) }
+        ensures lent { IfOk result
+            (λ s. IsBorrowedStr s ↔ ((de_state R.reading self.old).input.lends ≡ true)) }
         ensures variant { IfErr result OfText }
     {
         self.deserialize_str(alloc)
@@ -304,7 +321,8 @@ impl<'de, R: Read> Deserializer<'de, R> {
     /// Reads a byte string, lent where the input lends.
     pub fn deserialize_bytes(&mut self, alloc: Global) -> ReadResult<CowSlice<'de, u8>, R>
         ensures bytes { Over R.reading (Call ReadsByteSlice) self.old result self.new }
-        ensures lent { IfOk result (λ c. IsBorrowedSlice c ↔ ((de_state R.reading self.old).input.lends ≡ true)) }
+        ensures lent { IfOk result
+            (λ c. IsBorrowedSlice c ↔ ((de_state R.reading self.old).input.lends ≡ true)) }
         ensures variant { IfErr result OfHead }
     {
         self.begin()?;
@@ -364,8 +382,10 @@ impl<'de, R: Read> Deserializer<'de, R> {
         alloc: Global,
         last: &Option<CowStr<'de>>,
     ) -> ReadResult<(CowStr<'de>, CowStr<'de>), R>
-        ensures key { Over R.reading (Call (ReadsKeyAfter (option_map cow_str_bytes last.now))) self.old result self.new }
-        ensures lent { IfOk result (λ p. IsBorrowedStr p.0 ↔ ((de_state R.reading self.old).input.lends ≡ true)) }
+        ensures key { Over R.reading
+            (Call (ReadsKeyAfter (option_map cow_str_bytes last.now))) self.old result self.new }
+        ensures lent { IfOk result
+            (λ p. IsBorrowedStr p.0 ↔ ((de_state R.reading self.old).input.lends ≡ true)) }
         ensures variant { IfErr result OfKey }
     {
         self.begin()?;
@@ -384,7 +404,8 @@ impl<'de, R: Read> Deserializer<'de, R> {
         major: u8,
         more: u8,
     ) -> ReadResult<Accessor<'de>, R>
-        ensures begun { Over R.reading (Call (BeginsItems major name.now (more + 1))) self.old result self.new }
+        ensures begun { Over R.reading
+            (Call (BeginsItems major name.now (more + 1))) self.old result self.new }
         ensures variant { IfErr result OfBegin }
     {
         self.begin()?;
@@ -396,7 +417,8 @@ impl<'de, R: Read> Deserializer<'de, R> {
 
     /// Begins a list. Takes no memory.
     pub fn deserialize_seq(&mut self) -> ReadResult<Accessor<'de>, R>
-        ensures begun { Over R.reading (Call (BeginsItems 4 (codes "array") 1)) self.old result self.new }
+        ensures begun { Over R.reading
+            (Call (BeginsItems 4 (codes "array") 1)) self.old result self.new }
         ensures variant { IfErr result OfBegin }
     {
         self.begin_items("array", 4, 0)
@@ -404,7 +426,8 @@ impl<'de, R: Read> Deserializer<'de, R> {
 
     /// Begins a list for a tuple, whose length is not looked at. Takes no memory.
     pub fn deserialize_tuple(&mut self, _len: usize) -> ReadResult<Accessor<'de>, R>
-        ensures begun { Over R.reading (Call (BeginsItems 4 (codes "tuple") 1)) self.old result self.new }
+        ensures begun { Over R.reading
+            (Call (BeginsItems 4 (codes "tuple") 1)) self.old result self.new }
         ensures variant { IfErr result OfBegin }
     {
         self.begin_items("tuple", 4, 0)
@@ -424,7 +447,8 @@ impl<'de, R: Read> Deserializer<'de, R> {
 
     /// Begins a map. Takes no memory.
     pub fn deserialize_map(&mut self) -> ReadResult<Accessor<'de>, R>
-        ensures begun { Over R.reading (Call (BeginsItems 5 (codes "map") 1)) self.old result self.new }
+        ensures begun { Over R.reading
+            (Call (BeginsItems 5 (codes "map") 1)) self.old result self.new }
         ensures variant { IfErr result OfBegin }
     {
         self.begin_items("map", 5, 0)
@@ -453,7 +477,8 @@ impl<'de, R: Read> Deserializer<'de, R> {
 
     /// Reads a value as its type does, and remembers a refusal of the type's own.
     pub(crate) fn read_part<T: Deserialize<'de>>(&mut self, alloc: Global) -> ReadResult<T, R>
-        ensures part { Over R.reading (Call (ReadsPart T.meaning T.shape)) self.old result self.new }
+        ensures part { Over R.reading
+            (Call (ReadsPart T.meaning T.shape)) self.old result self.new }
         ensures lies { IfOk result (T.lies (de_state R.reading self.old).input.lends) }
     {
         if self.failed {
@@ -474,7 +499,8 @@ impl<'de, R: Read> Deserializer<'de, R> {
         alloc: Global,
         _name: &str,
     ) -> ReadResult<T, R>
-        ensures part { Over R.reading (Call (ReadsPart T.meaning T.shape)) self.old result self.new }
+        ensures part { Over R.reading
+            (Call (ReadsPart T.meaning T.shape)) self.old result self.new }
         ensures lies { IfOk result (T.lies (de_state R.reading self.old).input.lends) }
     {
         self.read_part(alloc)
@@ -485,8 +511,10 @@ impl<'de, R: Read> Deserializer<'de, R> {
         &mut self,
         alloc: Global,
     ) -> ReadResult<Option<T>, R>
-        ensures option { Over R.reading (Call (ReadsOption T.meaning T.shape)) self.old result self.new }
-        ensures lies { IfOk result (λ o. IfSome o (T.lies (de_state R.reading self.old).input.lends)) }
+        ensures option { Over R.reading
+            (Call (ReadsOption T.meaning T.shape)) self.old result self.new }
+        ensures lies { IfOk result
+            (λ o. IfSome o (T.lies (de_state R.reading self.old).input.lends)) }
     {
         if self.enter_option()? {
             return Ok(None);
@@ -515,7 +543,8 @@ impl<'de, R: Read> Deserializer<'de, R> {
     /// memory.
     pub fn deserialize_ignored_any(&mut self, alloc: Global) -> ReadResult<(), R>
         ensures item { Over R.reading (Call ReadsIgnored) self.old result self.new }
-        ensures looked { LooksAtAny (de_state R.reading self.old).input result (de_state R.reading self.new).input }
+        ensures looked { LooksAtAny (de_state R.reading self.old).input result
+            (de_state R.reading self.new).input }
         ensures variant { IfErr result OfItem }
     {
         self.begin()?;
@@ -528,7 +557,8 @@ impl<'de, R: Read> Deserializer<'de, R> {
     /// left to right, repeats kept.
     pub fn deserialize_links(&mut self, alloc: Global) -> ReadResult<Vec<Cid>, R>
         ensures links { Over R.reading (Call GathersLinks) self.old result self.new }
-        ensures looked { LooksAtAny (de_state R.reading self.old).input result (de_state R.reading self.new).input }
+        ensures looked { LooksAtAny (de_state R.reading self.old).input result
+            (de_state R.reading self.new).input }
         ensures variant { IfErr result OfItem }
     {
         self.begin()?;
@@ -539,7 +569,8 @@ impl<'de, R: Read> Deserializer<'de, R> {
 
     /// The values that are left in the input.
     pub fn into_iter<T: Deserialize<'de>>(self, alloc: Global) -> StreamDeserializer<'de, R, T>
-        ensures { stream_state R.reading result ≡ record { source = de_state R.reading self.entry; done = false } }
+        ensures { stream_state R.reading
+            result ≡ record { source = de_state R.reading self.entry; done = false } }
     {
         StreamDeserializer::new(alloc, self)
     }

@@ -18,7 +18,8 @@ pub fn from_slice_owned<'de, T: DeserializeOwned<'de>>(
     bytes: &[u8],
 ) -> Result<T, DecodeError<Infallible>>
     ensures value { IfOk result (λ v. IsWhole T.shape default_steps bytes.now (T.meaning v)) }
-    ensures refused { IfErr result (λ e. (e ≡ OutOfMemory) ⊎ HoldsNoValue T.shape default_steps bytes.now) }
+    ensures refused { IfErr result
+        (λ e. (e ≡ OutOfMemory) ⊎ HoldsNoValue T.shape default_steps bytes.now) }
     ensures behind { IfErr result (IsForBehind T.shape default_steps bytes.now) }
     ensures never { IfErr result OfWhole }
     ensures memory { IfErr result (LacksMemoryIf (T.shape.memory false)) }

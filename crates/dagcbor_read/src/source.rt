@@ -23,9 +23,12 @@ pub fn from_reader<'de, T: DeserializeOwned<'de>, R: BufRead + Drop>(
     alloc: Global,
     reader: R,
 ) -> Result<T, DecodeError<io::Error>>
-    ensures value { IfOk result (λ v. IfSome (R.remaining reader) (λ b. IsWhole T.shape default_steps b (T.meaning v))) }
-    ensures refused { IfErr result (λ e. IsReadExcuse e ⊎ IfSome (R.remaining reader) (HoldsNoValue T.shape default_steps)) }
-    ensures behind { IfErr result (λ e. IfSome (R.remaining reader) (λ b. IsForBehind T.shape default_steps b e)) }
+    ensures value { IfOk result
+        (λ v. IfSome (R.remaining reader) (λ b. IsWhole T.shape default_steps b (T.meaning v))) }
+    ensures refused { IfErr result
+        (λ e. IsReadExcuse e ⊎ IfSome (R.remaining reader) (HoldsNoValue T.shape default_steps)) }
+    ensures behind { IfErr result
+        (λ e. IfSome (R.remaining reader) (λ b. IsForBehind T.shape default_steps b e)) }
     ensures never { IfErr result OfWhole }
     ensures memory { IfErr result (LacksMemoryIf (T.shape.memory false)) }
 {
@@ -50,7 +53,9 @@ pub fn from_reader_once<'de, T: DeserializeOwned<'de>, R: BufRead>(
 ) -> Result<T, DecodeError<io::Error>>
     ensures value { IfOk result (λ v. IfSome (R.remaining reader.old)
         (λ b. TakesFirst T.shape default_steps b (T.meaning v) (R.remaining reader.new))) }
-    ensures refused { IfErr result (λ e. IsReadExcuse e ⊎ IfSome (R.remaining reader.old) (BeginsWithNoValue T.shape default_steps)) }
+    ensures refused { IfErr result
+        (λ e. IsReadExcuse e ⊎ IfSome (R.remaining reader.old)
+        (BeginsWithNoValue T.shape default_steps)) }
     ensures never { IfErr result OfWhole }
     ensures memory { IfErr result (LacksMemoryIf (T.shape.memory false)) }
 {

@@ -25,7 +25,8 @@ pub struct StreamDeserializer<'de, R, T> {
 impl<'de, R: Read, T: Deserialize<'de>> StreamDeserializer<'de, R, T> {
     /// The values that are left in the input.
     pub fn new(alloc: Global, de: Deserializer<'de, R>) -> StreamDeserializer<'de, R, T>
-        ensures { stream_state R.reading result ≡ record { source = de_state R.reading de.entry; done = false } }
+        ensures { stream_state R.reading
+            result ≡ record { source = de_state R.reading de.entry; done = false } }
     {
         StreamDeserializer {
             alloc,

@@ -8,6 +8,7 @@ use Rattle.serde_ipld_dagcbor.specs.Collections.{list_of, no_more, first_then}
 use Rattle.serde_ipld_dagcbor.specs.Structs.{required_field, no_fields, struct_shape}
 use Rattle.serde_ipld_dagcbor.specs.EnumViews.{EnumShape, enum_of}
 
+-- what the enum is read as
 pub data DataView : Type 0 where
   is_a : ℕ → DataView
   is_b : Bool → ℕ → DataView
@@ -26,6 +27,7 @@ b_shape = list_of (first_then (leaf view_bool) (first_then (leaf (view_unsigned 
 abbrev pub unit_data : List ℕ → Option DataView
 unit_data name = None
 
+-- what the tree behind a variant's name makes
 abbrev pub part_data : List ℕ → Tree → Option DataView
 part_data name t =
     if bytes_eq name (codes "A") then option_map is_a (view_unsigned (2 ^ 32) t)
@@ -33,14 +35,17 @@ part_data name t =
     else if bytes_eq name (codes "C") then option_map (λ p. is_c p.0 p.1.0) (c_shape.view t)
     else None
 
+-- the steps that reading that tree takes
 abbrev pub need_part_data : List ℕ → Tree → ℕ
 need_part_data name t =
     if bytes_eq name (codes "B") then b_shape.need t
     else if bytes_eq name (codes "C") then c_shape.need t
     else 0
 
+-- the variants of the enum
 abbrev pub data_variants : EnumShape DataView
 data_variants = record { unit = unit_data; part = part_data; need = need_part_data; wants_loan = false; memory = takes_some }
 
+-- what the enum reads
 abbrev pub data_shape : Shape Tree DataView
 data_shape = enum_of data_variants

@@ -6,6 +6,7 @@ use Rattle.serde_ipld_dagcbor.specs.Shapes.{view_unsigned, leaf, Shape}
 use Rattle.serde_ipld_dagcbor.specs.Structs.{required_field, no_fields, struct_shape}
 use Rattle.serde_ipld_dagcbor.specs.EnumViews.{EnumShape, enum_of}
 
+-- what the enum is read as
 abbrev pub SecondView : Type 0
 SecondView = ℕ × (ℕ × (ℕ × Unit {0}))
 
@@ -19,14 +20,18 @@ fields_shape = struct_shape (required_field (codes "b") (leaf (view_unsigned (2 
 abbrev pub unit_second : List ℕ → Option SecondView
 unit_second name = None
 
+-- what the tree behind a variant's name makes
 abbrev pub part_second : List ℕ → Tree → Option SecondView
 part_second name t = if bytes_eq name (codes "Data") then fields_shape.view t else None
 
+-- the steps that reading that tree takes
 abbrev pub need_part_second : List ℕ → Tree → ℕ
 need_part_second name t = fields_shape.need t
 
+-- the variants of the enum
 abbrev pub second_variants : EnumShape SecondView
 second_variants = record { unit = unit_second; part = part_second; need = need_part_second; wants_loan = false; memory = fields_shape.memory }
 
+-- what the enum reads
 abbrev pub second_shape : Shape Tree SecondView
 second_shape = enum_of second_variants

@@ -15,5 +15,6 @@ tagged_fields = struct_shape (required_field (codes "type") (owned_leaf view_tex
 abbrev pub finish_tagged : List ℕ × (List ℕ × Unit {0}) → Option (List ℕ)
 finish_tagged p = if bytes_eq p.0 (codes "MyCid") then Some p.1.0 else None
 
+-- what the struct reads
 abbrev pub tagged_shape : Shape Tree (List ℕ)
 tagged_shape = finishing finish_tagged tagged_fields

@@ -5,60 +5,18 @@ ghost use Rattle.std.specs.Prelude.{IfOk, IfErr, IsTrue, MatchResult, false};
 ghost use Rattle.std.specs.Io.{StartsWith};
 ghost use Rattle.hex.specs.Hex.{decode_of, encode_lower};
 ghost use Rattle.ipld_tree.specs.Cid.{cid_bytes};
-ghost use Rattle.dagcbor_tool.specs.Answers.{kind_name, variant_name, links_text, IsVerdict};
+ghost use Rattle.dagcbor_items.specs.PrintedNames.{variant_name};
+ghost use Rattle.dagcbor_tool.specs.Answers.{links_text, IsVerdict};
 ghost use Rattle.dagcbor_tool.specs.Answers.{IsLinkLine, IsSaid, IsSaidOf, IsAnswer, AppendsLine};
 ghost use Rattle.dagcbor_tool.specs.Answers.{PushesLine};
 
 use crate::command::Command;
 use crate::line::ToolError;
 use dagcbor_heads::DecodeError;
-use dagcbor_items::{Kind, check_slice, links_from_slice};
+use dagcbor_items::{check_slice, kind_name, links_from_slice, variant_name};
 use ipld_tree::Cid;
 use std::alloc::{AllocError, Global};
 use std::convert::Infallible;
-
-/// The name of the kind.
-fn kind_name(kind: Kind) -> &'static str
-    ensures { result.now ≡ kind_name kind }
-{
-    match kind {
-        Kind::Null => "null",
-        Kind::Bool => "bool",
-        Kind::Integer => "integer",
-        Kind::String => "string",
-        Kind::Bytes => "bytes",
-        Kind::List => "list",
-        Kind::Map => "map",
-        Kind::Link => "link",
-    }
-}
-
-/// The name of the refusal's variant.
-fn variant_name<E>(refusal: &DecodeError<E>) -> &'static str
-    ensures { result.now ≡ variant_name refusal.now }
-{
-    match refusal {
-        DecodeError::Msg(_) => "Msg",
-        DecodeError::Read(_) => "Read",
-        DecodeError::Eof { .. } => "Eof",
-        DecodeError::Mismatch { .. } => "Mismatch",
-        DecodeError::Unsupported { .. } => "Unsupported",
-        DecodeError::RequireLength { .. } => "RequireLength",
-        DecodeError::RequireBorrowed { .. } => "RequireBorrowed",
-        DecodeError::RequireUtf8 { .. } => "RequireUtf8",
-        DecodeError::LengthOverflow { .. } => "LengthOverflow",
-        DecodeError::CastOverflow { .. } => "CastOverflow",
-        DecodeError::ArithmeticOverflow { .. } => "ArithmeticOverflow",
-        DecodeError::DepthOverflow { .. } => "DepthOverflow",
-        DecodeError::LengthMismatch { .. } => "LengthMismatch",
-        DecodeError::TrailingData => "TrailingData",
-        DecodeError::IndefiniteSize => "IndefiniteSize",
-        DecodeError::NonMinimal { .. } => "NonMinimal",
-        DecodeError::UnorderedKey => "UnorderedKey",
-        DecodeError::OutOfMemory => "OutOfMemory",
-        DecodeError::Failed => "Failed",
-    }
-}
 
 /// Appends two words and a line feed.
 fn push_sentence(out: &mut Vec<u8>, word: &str, name: &str) -> Result<(), AllocError>
@@ -75,7 +33,8 @@ fn push_sentence(out: &mut Vec<u8>, word: &str, name: &str) -> Result<(), AllocE
 /// Appends what is said of a refusal. Want of memory is none, and ends the run.
 fn push_refusal(out: &mut Vec<u8>, refusal: &DecodeError<Infallible>) -> Result<(), ToolError>
     ensures { PushesLine (λ said. (refusal.now ≢ DecodeError.OutOfMemory)
-        × (said ≡ codes "refused " ++ variant_name refusal.now)) out.old.items out.new.items result }
+        × (said ≡ codes "refused " ++ variant_name refusal.now)) out.old.items out.new.items
+        result }
 {
     match refusal {
         DecodeError::OutOfMemory => Err(ToolError::OutOfMemory),
@@ -176,7 +135,8 @@ fn push_said_of(
     block: Option<&[u8]>,
     out: &mut Vec<u8>,
 ) -> Result<(), ToolError>
-    ensures { PushesLine (IsSaidOf (λ b. b.now) command block.entry) out.old.items out.new.items result }
+    ensures { PushesLine (IsSaidOf (λ b. b.now) command block.entry) out.old.items out.new.items
+        result }
 {
     match block {
         Some(block) => push_said(alloc, command, block, out),

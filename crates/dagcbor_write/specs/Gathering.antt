@@ -11,6 +11,7 @@ pub record Waiting : Type 0 where
   pub bytes : List ℕ
   pub count : ℕ
 
+-- the bytes grew by the text; never where there is none
 abbrev pub AppendsTo : List ℕ → List ℕ → Option (List ℕ) → Type 0
 AppendsTo old new None = ⊥
 AppendsTo old new (Some text) = new ≡ old ++ text

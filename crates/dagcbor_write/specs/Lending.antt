@@ -13,9 +13,11 @@ use Rattle.dagcbor_write.specs.Maps.{MapState}
 abbrev pub map_lent : {W G : Type 0} → CollectMap W G → MutBor W
 map_lent c = c.ser
 
+-- the serializer that a list's collector was lent
 abbrev pub list_lent : {W I : Type 0} → CollectSeq W I → MutBor W
 list_lent c = c.ser
 
+-- the serializer that a collector of announced length was lent
 abbrev pub bounded_lent : {W : Type 0} → BoundedCollect W → MutBor W
 bounded_lent c = c.ser
 
@@ -23,6 +25,7 @@ bounded_lent c = c.ser
 abbrev pub map_state : {W G : Type 0} → CollectMap W G → G
 map_state c = c.state
 
+-- the items of a list that is collected
 abbrev pub list_state : {W I : Type 0} → CollectSeq W I → I
 list_state c = c.items
 

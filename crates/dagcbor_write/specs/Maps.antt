@@ -22,6 +22,7 @@ pub record MapState : Type 0 where
   pub key : Option (List ℕ)
   pub announced : Option ℕ
 
+-- a map that was begun with this number announced, or with none
 abbrev pub no_entry_yet : Option ℕ → MapState
 no_entry_yet announced = record { entries = []; key = None; announced = announced }
 
@@ -54,6 +55,7 @@ RefusesKey key m = RefusedFor (codes "Map key cannot be serialized.") key m
 abbrev pub RefusesValue : Option Tree → List ℕ → Type 0
 RefusesValue value m = RefusedFor (codes "Struct value cannot be serialized.") value m
 
+-- the message is the key's or the value's
 abbrev pub RefusesEntry : Option Tree → Option Tree → List ℕ → Type 0
 RefusesEntry key value m = RefusesKey key m ⊎ RefusesValue value m
 

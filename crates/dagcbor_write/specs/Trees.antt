@@ -1,5 +1,5 @@
 -- The trees of values that hold others.
-use Rattle.std.specs.Prelude.{ℕ, List, Option, None, Some, option_map}
+use Rattle.std.specs.Prelude.{ℕ, List, ◌∷◌, Option, None, Some, option_map}
 use Rattle.std.specs.Fmt.{◌++?◌}
 use Rattle.ipld_tree.specs.Tree.{Tree, null, text, mapping, no_entries, entry}
 use Rattle.ipld_tree.specs.Spelled.{spelled, spelled_head}
@@ -16,6 +16,11 @@ option_tree tree (Some x) = tree x
 -- a field of a struct: its name is the key
 abbrev pub field : List ℕ → Option Tree → Pair
 field name value = (Some (text name), value)
+
+-- a field that is left out where it has no value, before others
+abbrev pub optional : {A : Type 0} → List ℕ → (A → Option Tree) → Option A → List Pair → List Pair
+optional name tree None others = others
+optional name tree (Some x) others = field name (tree x) ∷ others
 
 -- a variant that holds something: a map of one entry, from the variant's name to what it holds
 abbrev pub variant_tree : List ℕ → Option Tree → Option Tree

@@ -22,5 +22,5 @@ pub use collect::collect_map::CollectMap;
 pub use collect::collect_seq::CollectSeq;
 pub use serialize::Serialize;
 pub use serializer::Serializer;
-pub use structs::{Field, FieldRow, write_struct, write_struct_variant};
+pub use structs::{Field, FieldRow, Optional, write_struct, write_struct_variant};
 pub use whole::{to_vec, to_writer};

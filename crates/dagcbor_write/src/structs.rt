@@ -9,7 +9,7 @@ ghost use Rattle.ipld_tree.specs.Tree.{IsTree, entries_tree};
 ghost use Rattle.ipld_tree.specs.Spelled.{spelled_tree};
 ghost use Rattle.dagcbor_write.specs.Gathering.{AppendsTo, Collects};
 ghost use Rattle.dagcbor_write.specs.Rows.{spelled_pairs, ArePairs, KeysRise};
-ghost use Rattle.dagcbor_write.specs.Trees.{Pair, field, variant_tree, variant_head};
+ghost use Rattle.dagcbor_write.specs.Trees.{Pair, field, optional, variant_tree, variant_head};
 ghost use Rattle.dagcbor_write.specs.Maps.{JoinsPairs, StopsAtPair, LacksValue, RefusesAnyValue};
 ghost use Rattle.dagcbor_write.specs.Maps.{RefusesPairs};
 ghost use Rattle.dagcbor_write.specs.Lending.{map_state, WritesNothing};
@@ -31,9 +31,15 @@ const MOST_FIELDS: usize = 65_535;
 #[derive_where(Clone, Copy)]
 pub struct Field<'a, T>(pub &'static str, pub &'a T);
 
-/// The fields of a struct, one after another: `(Field("x", &self.x), (Field("y", &self.y), ()))`.
+/// A field that is left out of the map where its value is `None`; where it is `Some`, its part
+/// stands there.
+#[derive_where(Clone, Copy)]
+pub struct Optional<'a, T>(pub &'static str, pub &'a Option<T>);
+
+/// The fields of a struct, one after another: `(Field("x", &self.x), (Optional("y", &self.y),
+/// ()))`.
 pub trait FieldRow: Copy {
-    /// The names and the trees of the fields.
+    /// The names and the trees of the fields that stand in the map.
     ghost pairs: { Self → List Pair };
 
     /// Hands the fields over, one after another. Refused with `Msg("Struct value cannot be
@@ -113,6 +119,34 @@ impl<T: Serialize, L: FieldRow> FieldRow for (Field<'_, T>, L) {
     }
 }
 
+impl<T: Serialize, L: FieldRow> FieldRow for (Optional<'_, T>, L) {
+    ghost pairs = { λ row. optional row.0.0.now T.tree row.0.1.now (L.pairs row.1) };
+
+    fn push_fields<W: Write>(self, map: &mut CollectMap<'_, W>) -> WriteResult<(), W> {
+        let (Optional(name, value), rest) = self;
+        match value {
+            Some(value) => (Field(name, value), rest).push_fields(map),
+            None => rest.push_fields(map),
+        }
+    }
+
+    fn count_rising(self, last: &str, before: usize) -> Option<usize> {
+        let (Optional(name, value), rest) = self;
+        match value {
+            Some(value) => (Field(name, value), rest).count_rising(last, before),
+            None => rest.count_rising(last, before),
+        }
+    }
+
+    fn write_fields<W: Write>(self, alloc: Global, ser: &mut Serializer<W>) -> WriteResult<(), W> {
+        let (Optional(name, value), rest) = self;
+        match value {
+            Some(value) => (Field(name, value), rest).write_fields(alloc, ser),
+            None => rest.write_fields(alloc, ser),
+        }
+    }
+}
+
 /// Whether a key comes before another: the shorter first, and keys of one length by their bytes.
 fn comes_before(key: &[u8], other: &[u8]) -> bool
     ensures { result ≡ comes_before key.now other.now }
@@ -131,7 +165,8 @@ fn gather_fields<F: FieldRow, E>(
     bytes: &mut Vec<u8>,
     fields: F,
 ) -> Result<(), EncodeError<E>>
-    ensures { Collects (λ u. AppendsTo bytes.old.items bytes.new.items (spelled_pairs (F.pairs fields))
+    ensures { Collects (λ u. AppendsTo bytes.old.items bytes.new.items
+        (spelled_pairs (F.pairs fields))
         × ArePairs (F.pairs fields))
         (RefusesAnyValue (F.pairs fields)) result }
 {

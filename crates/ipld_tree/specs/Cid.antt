@@ -22,6 +22,7 @@ pub record CidParts : Type 0 where
   pub hash_code : ℕ
   pub digest : List ℕ
 
+-- the CID of these parts
 abbrev pub cid_parts : ℕ → ℕ → ℕ → List ℕ → CidParts
 cid_parts version codec hash_code digest =
     record { version = version; codec = codec; hash_code = hash_code; digest = digest }
@@ -30,13 +31,16 @@ cid_parts version codec hash_code digest =
 abbrev pub IsVersion0 : CidParts → Type 0
 IsVersion0 c = (c.version ≡ 0) × (c.codec ≡ 0x70) × (c.hash_code ≡ 0x12) × (length c.digest ≡ 32)
 
+-- version 1: codec and hash code below 2 ^ 64, a digest of at most 64 bytes
 abbrev pub IsVersion1 : CidParts → Type 0
 IsVersion1 c = (c.version ≡ 1) × (c.codec < 2 ^ 64) × (c.hash_code < 2 ^ 64)
     × (length c.digest ≤ 64)
 
+-- the parts are those of a CID of version 0 or 1
 abbrev pub AreCidParts : CidParts → Type 0
 AreCidParts c = IsVersion0 c ⊎ IsVersion1 c
 
+-- the binary form (CID specification)
 abbrev pub cid_bytes : CidParts → List ℕ
 cid_bytes c =
     if c.version == 0 then 0x12 ∷ 0x20 ∷ c.digest

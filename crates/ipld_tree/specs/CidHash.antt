@@ -7,6 +7,7 @@ use Rattle.std.specs.Ordering.{nat_cmp, ordering_then, eq_by_cmp, is_eq, is_lt, 
 use Rattle.std.specs.Hash as fed
 use Rattle.ipld_tree.specs.Cid.{CidParts, cid_cmp}
 
+-- what `hash` of `Cid` feeds to the hasher
 abbrev pub cid_hash_input : CidParts → fed.HashWrites
 cid_hash_input c =
     fed.u64 c.version ++ (fed.u64 c.codec ++ (fed.u64 c.hash_code ++ fed.slice fed.u8 c.digest))
@@ -32,6 +33,7 @@ same_cid c d e =
       digest = exact_bytes c.digest d.digest hash_code.1 i;
     }
 
+-- an ordering that tests as equal is `Equal`
 pub is_equal : (o : Ordering) → is_eq o ≡ true → o ≡ Equal
 is_equal Less x = absurd (true≢false (sym x))
 is_equal Equal x = refl

@@ -9,8 +9,10 @@ use Rattle.std.specs.Cmp.Lexicographic.{slice_cmp}
 abbrev pub bytes_cmp : List ℕ → List ℕ → Ordering
 bytes_cmp = slice_cmp nat_cmp
 
+-- the shorter key first, and of one length by their bytes
 abbrev pub key_cmp : List ℕ → List ℕ → Ordering
 key_cmp k l = ordering_then (nat_cmp (length k) (length l)) (bytes_cmp k l)
 
+-- whether a key stands before another in a map
 abbrev pub comes_before : List ℕ → List ℕ → Bool
 comes_before k l = is_lt (key_cmp k l)

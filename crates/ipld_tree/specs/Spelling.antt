@@ -7,10 +7,12 @@ use Rattle.ipld_tree.specs.Tree.{Tree, null, boolean, integer, text, bytes, list
 use Rattle.ipld_tree.specs.Tree.{Items, no_items, item, Entries, no_entries, entry, IsTree}
 use Rattle.ipld_tree.specs.Tree.{AreItems, AreEntries}
 
+-- how many items a list has
 abbrev pub item_count : Items → ℕ
 item_count no_items = 0
 item_count (item t ts) = suc (item_count ts)
 
+-- how many entries a map has
 abbrev pub entry_count : Entries → ℕ
 entry_count no_entries = 0
 entry_count (entry k t es) = suc (entry_count es)
@@ -40,17 +42,21 @@ abbrev mutual
   AreSpellableEntries no_entries = ⊤
   AreSpellableEntries (entry k t es) = (length k < 2 ^ 64) × IsSpellable t × AreSpellableEntries es
 
+-- simple value 20 or 21
 abbrev pub boolean_spelling : Bool → List ℕ
 boolean_spelling false = 0xf4 ∷ []
 boolean_spelling true = 0xf5 ∷ []
 
+-- major type 0, or 1 below zero
 abbrev pub integer_spelling : ℤ → List ℕ
 integer_spelling (pos n) = head 0 n
 integer_spelling (negsuc n) = head 1 n
 
+-- major type 2: the length, and the bytes
 abbrev pub bytes_spelling : List ℕ → List ℕ
 bytes_spelling s = head 2 (length s) ++ s
 
+-- major type 3: the length, and the bytes of the text
 abbrev pub text_spelling : List ℕ → List ℕ
 text_spelling s = head 3 (length s) ++ s
 

@@ -6,6 +6,7 @@ use Rattle.std.specs.Ordering.{is_eq}
 use Rattle.ipld_tree.specs.Key.{key_cmp, comes_before}
 use Rattle.ipld_tree.specs.Cid.{IsCid}
 
+-- the kinds of data: a link stands by the binary form of its CID
 mutual
   pub data Tree : Type 0 where
     null : Tree
@@ -53,6 +54,7 @@ abbrev mutual
 
 -- ---- trees of lists and maps
 
+-- the items of a list
 abbrev pub items_of : List Tree → Items
 items_of [] = no_items
 items_of (t ∷ ts) = item t (items_of ts)
@@ -78,6 +80,7 @@ abbrev pub has_key : List ℕ → List (List ℕ × Tree) → Bool
 has_key k [] = false
 has_key k (p ∷ ps) = is_eq (key_cmp k p.0) || has_key k ps
 
+-- whether a key is there twice
 abbrev pub repeats_key : List (List ℕ × Tree) → Bool
 repeats_key [] = false
 repeats_key (p ∷ ps) = has_key p.0 ps || repeats_key ps
@@ -106,6 +109,7 @@ key_of (list ts) = None
 key_of (mapping es) = None
 key_of (link cid) = None
 
+-- a key and its value, if the key is a text and both have trees
 abbrev pub pair_of : Option Tree × Option Tree → Option (List ℕ × Tree)
 pair_of p = option_and_then (λ k. option_map (λ t. (k, t)) p.1) (option_and_then key_of p.0)
 

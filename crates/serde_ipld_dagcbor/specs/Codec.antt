@@ -47,6 +47,7 @@ NotDecoded shape left (DecodeIo e) = (IsReadExcuse e ⊎ IfSome left (HoldsNoVal
     × OfWhole e
 NotDecoded shape left _ = ⊥
 
+-- why `decode` refused
 abbrev pub DecodeRefused : {T V : Type 0} → Shape Tree V → Option (List ℕ) → Result T CodecError
     → Type 0
 DecodeRefused shape left result = IfErr result (NotDecoded shape left)
@@ -84,6 +85,7 @@ NotDecodedFromSlice shape b (DecodeIo e) = ((e ≡ unread.OutOfMemory) ⊎ Holds
     × OfSlice e
 NotDecodedFromSlice shape b _ = ⊥
 
+-- why `decode_from_slice` refused
 abbrev pub DecodeFromSliceRefused : {T V : Type 0} → Shape Tree V → List ℕ → Result T CodecError
     → Type 0
 DecodeFromSliceRefused shape b result = IfErr result (NotDecodedFromSlice shape b)
@@ -94,6 +96,7 @@ NotEncoded tree old new (EncodeIo e) = (IsWriteExcuse e ⊎ HasNoSpelling tree)
     × GrewByFront tree old new
 NotEncoded tree old new _ = ⊥
 
+-- why `encode` refused
 abbrev pub EncodeRefused : Option Tree → Option (List ℕ) → Result (Unit {0}) CodecError
     → Option (List ℕ) → Type 0
 EncodeRefused tree old result new = IfErr result (NotEncoded tree old new)
@@ -103,6 +106,7 @@ abbrev pub NotEncodedAsVec : Option Tree → CodecError → Type 0
 NotEncodedAsVec tree (Encode e) = (e ≡ unwritten.OutOfMemory) ⊎ HasNoSpelling tree
 NotEncodedAsVec tree _ = ⊥
 
+-- why `encode_to_vec` refused
 abbrev pub EncodeToVecRefused : Option Tree → Result (Vec ℕ Global) CodecError → Type 0
 EncodeToVecRefused tree result = IfErr result (NotEncodedAsVec tree)
 
@@ -111,16 +115,20 @@ abbrev pub NoLinks : List ℕ → CodecError → Type 0
 NoLinks b (Decode e) = LinksRefused e b
 NoLinks b _ = ⊥
 
+-- why `links` refused
 abbrev pub LinksNotFound : List ℕ → Result CidIter CodecError → Type 0
 LinksNotFound b result = IfErr result (NoLinks b)
 
 -- ---- laws
 
+-- No two trees share a spelling.
 pub spellings_are_unique : EncodingsAreUnique IsSpelling
 spellings_are_unique b t u h k = (front_unique b [] [] t u (whole_front h) (whole_front k)).0
 
+-- A tree has one spelling at most.
 pub trees_have_one_spelling : DataHasOneEncoding IsSpelling
 trees_have_one_spelling b c t h k = h.is ∙ sym k.is
 
+-- Bytes begin with one list of links at most.
 pub bytes_have_one_list : BytesHaveOneList AreFirstLinks
 bytes_have_one_list b links others h k = h.4 ∙ ap links_of (front_unique b h.1 k.1 h.0 k.0 h.2 k.2).0 ∙ sym k.4

@@ -35,7 +35,7 @@ pub use Rattle.dagcbor_items.specs.Looks
 pub use Rattle.dagcbor_items.specs.Links
 pub use Rattle.dagcbor_items.specs.Walks
 pub use Rattle.dagcbor_items.specs.Shapes
-pub use Rattle.dagcbor_items.specs.Reads
+pub use Rattle.dagcbor_items.specs.TypedReads
 pub use Rattle.dagcbor_items.specs.TreeKinds
 pub use Rattle.dagcbor_items.specs.declared.kind.Kind
 pub use Rattle.dagcbor_items.specs.Slices

@@ -92,9 +92,12 @@ impl<'de, T: DeserializeOwned<'de> + Serialize> Codec<'de, T> for DagCborCodec {
     ghost canonical = { trees_have_one_spelling };
 
     fn decode<R: BufRead + Drop>(alloc: Global, reader: R) -> Result<T, CodecError>
-        ensures answers { Decodes IsSpelling (IsReadAs T.shape) T.meaning IsExcuse (R.remaining reader) result }
+        ensures answers { Decodes IsSpelling (IsReadAs T.shape) T.meaning IsExcuse
+            (R.remaining reader) result }
         ensures exact { DecodeRefused T.shape (R.remaining reader) result }
-        ensures behind { IfErr result (IsDecodeIo (λ e. IfSome (R.remaining reader) (λ b. IsForBehind T.shape default_steps b e))) }
+        ensures behind { IfErr result
+            (IsDecodeIo (λ e. IfSome (R.remaining reader)
+            (λ b. IsForBehind T.shape default_steps b e))) }
         ensures memory { IfErr result (IsDecodeIo (LacksMemoryIf (T.shape.memory false))) }
     {
         match from_reader(alloc, reader) {
@@ -104,7 +107,8 @@ impl<'de, T: DeserializeOwned<'de> + Serialize> Codec<'de, T> for DagCborCodec {
     }
 
     fn decode_from_slice(alloc: Global, bytes: &[u8]) -> Result<T, CodecError>
-        ensures answers { Decodes IsSpelling (IsReadAs T.shape) T.meaning IsExcuse (Some bytes.now) result }
+        ensures answers { Decodes IsSpelling (IsReadAs T.shape) T.meaning IsExcuse
+            (Some bytes.now) result }
         ensures exact { DecodeFromSliceRefused T.shape bytes.now result }
         ensures behind { IfErr result (IsDecodeIo (IsForBehind T.shape default_steps bytes.now)) }
         ensures memory { IfErr result (IsDecodeIo (LacksMemoryIf (T.shape.memory false))) }
@@ -116,8 +120,10 @@ impl<'de, T: DeserializeOwned<'de> + Serialize> Codec<'de, T> for DagCborCodec {
     }
 
     fn encode<W: Write>(alloc: Global, writer: &mut W, value: &T) -> Result<(), CodecError>
-        ensures answers { Encodes IsSpelling IsExcuse (T.tree value.now) (W.contents writer.old) result (W.contents writer.new) }
-        ensures exact { EncodeRefused (T.tree value.now) (W.contents writer.old) result (W.contents writer.new) }
+        ensures answers { Encodes IsSpelling IsExcuse (T.tree value.now)
+            (W.contents writer.old) result (W.contents writer.new) }
+        ensures exact { EncodeRefused (T.tree value.now) (W.contents writer.old) result
+            (W.contents writer.new) }
     {
         match to_writer(alloc, writer, value) {
             Ok(()) => Ok(()),

@@ -33,8 +33,8 @@ pub use dagcbor_read::{
     read_struct, read_struct_variant, skip_value,
 };
 pub use dagcbor_write::{
-    BoundedCollect, CollectMap, CollectSeq, Field, FieldRow, Serialize, Serializer, to_vec,
-    to_writer, write_struct, write_struct_variant,
+    BoundedCollect, CollectMap, CollectSeq, Field, FieldRow, Optional, Serialize, Serializer,
+    to_vec, to_writer, write_struct, write_struct_variant,
 };
 pub use ipld_tree::{ByteSlice, Bytes, Cid, CidError, CidIter, Codec, Ipld, Links};
 

@@ -4,3 +4,4 @@ pub mod Person
 pub mod OptionalPerson
 pub mod Mascot
 pub mod Color
+pub mod Album

@@ -14,8 +14,10 @@ use std::convert::Infallible;
 /// The year of the note that a block holds. Refused exactly where it holds none, want of memory
 /// aside.
 pub fn year_of(alloc: Global, block: &[u8]) -> Result<u16, DecodeError<Infallible>>
-    ensures value { IfOk result (λ year. (text : List ℕ) × IsWhole note_shape default_steps block.now (year, (text, tt))) }
-    ensures refused { IfErr result (λ e. (e ≡ OutOfMemory) ⊎ HoldsNoValue note_shape default_steps block.now) }
+    ensures value { IfOk result
+        (λ year. (text : List ℕ) × IsWhole note_shape default_steps block.now (year, (text, tt))) }
+    ensures refused { IfErr result
+        (λ e. (e ≡ OutOfMemory) ⊎ HoldsNoValue note_shape default_steps block.now) }
 {
     let note: Note = from_slice(alloc, block)?;
     Ok(note.year)

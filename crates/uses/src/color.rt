@@ -1,11 +1,10 @@
 //! An enum: unit variants, and variants that hold one or two parts.
 
-ghost use Rattle.std.specs.Prelude.{Some, [], ◌∷◌, codes, pos, false};
+ghost use Rattle.std.specs.Prelude.{Some, [], ◌∷◌, codes, pos};
 ghost use Rattle.serde_ipld_dagcbor.specs.Tree.{text, integer, list_tree};
 ghost use Rattle.serde_ipld_dagcbor.specs.Trees.{variant_tree};
-ghost use Rattle.uses.specs.Color.{ColorView, is_red, is_blue, is_yellow};
-ghost use Rattle.uses.specs.Color.{is_other, is_alpha, color_variants};
-ghost use Rattle.uses.specs.Color.{color_shape};
+ghost use Rattle.uses.specs.Color.{color_variants, color_shape};
+ghost use Rattle.uses.specs.declared.color.Color.{Color};
 ghost use Rattle.uses.specs.declared.color.Color.TheVariants.{Red};
 ghost use Rattle.uses.specs.declared.color.Color.TheVariants.{Blue};
 ghost use Rattle.uses.specs.declared.color.Color.TheVariants.{Yellow};
@@ -51,20 +50,21 @@ impl Serialize for Color {
 }
 
 impl Shown for Color {
-    ghost View = { ColorView };
+    ghost View = { Color };
 
-    ghost meaning = { λ color. elim color [ Red ↦ is_red | Blue ↦ is_blue | Yellow ↦ is_yellow | Other n ↦ is_other n | Alpha n a ↦ is_alpha n a ] };
+    ghost meaning = { λ color. color };
 
     ghost shape = { color_shape };
 }
 
 impl<'de> Variants<'de> for Color {
-    ghost View = { ColorView };
+    ghost View = { Color };
 
-    ghost meaning = { λ color. elim color [ Red ↦ is_red | Blue ↦ is_blue | Yellow ↦ is_yellow | Other n ↦ is_other n | Alpha n a ↦ is_alpha n a ] };
+    ghost meaning = { λ color. color };
 
     ghost shape = { color_variants };
 
+    #[tactic(auto, using(dagcbor_read::proofs::NamedVariants::held_refused))]
     fn read_variant<R: Read>(
         alloc: Global,
         name: &str,

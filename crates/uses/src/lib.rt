@@ -8,9 +8,11 @@
 //! | a struct with a field that is left out | `optional_person.rt` |
 //! | a struct that goes to devices | `mascot.rt` |
 //! | an enum | `color.rt` |
+//! | a struct that holds a list of structs and an enum | `album.rt` |
 //! | a function whose contract rests on that of `from_slice` | `caller.rt` |
 #![tactic(auto)]
 
+mod album;
 mod caller;
 mod color;
 mod mascot;
@@ -18,6 +20,7 @@ mod note;
 mod optional_person;
 mod person;
 
+pub use album::{Album, Format, Track};
 pub use caller::year_of;
 pub use color::Color;
 pub use mascot::Mascot;

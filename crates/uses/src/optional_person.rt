@@ -1,15 +1,14 @@
 //! A struct with a field that is left out where it is missing.
 
-ghost use Rattle.std.specs.Prelude.{Some, None, List, [], ◌∷◌, codes, pos, string_bytes};
-ghost use Rattle.std.specs.Prelude.{option_map};
+ghost use Rattle.std.specs.Prelude.{Some, [], ◌∷◌, codes, pos, string_bytes, option_map};
 ghost use Rattle.serde_ipld_dagcbor.specs.Tree.{text, integer, entries_tree};
-ghost use Rattle.serde_ipld_dagcbor.specs.Trees.{option_tree, field};
+ghost use Rattle.serde_ipld_dagcbor.specs.Trees.{option_tree, field, optional};
 ghost use Rattle.uses.specs.OptionalPerson.{OptionalPersonView};
 ghost use Rattle.uses.specs.OptionalPerson.{optional_person_shape};
 
 use serde_ipld_dagcbor::{
-    Deserialize, Deserializer, Field, Read, ReadResult, Required, Serialize, Serializer, Shown,
-    Write, WriteResult, read_struct, write_struct,
+    Deserialize, Deserializer, Field, Optional, Read, ReadResult, Required, Serialize, Serializer,
+    Shown, Write, WriteResult, read_struct, write_struct,
 };
 use std::alloc::Global;
 
@@ -22,27 +21,19 @@ pub struct OptionalPerson {
 }
 
 impl Serialize for OptionalPerson {
-    ghost tree = { λ p. elim p.year_of_birth [
-      | None ↦ entries_tree (field (codes "name") (Some (text (string_bytes p.name)))
-          ∷ field (codes "profession") (option_tree (λ s. Some (text (string_bytes s))) p.profession) ∷ [])
-      | Some year ↦ entries_tree (field (codes "name") (Some (text (string_bytes p.name)))
-          ∷ field (codes "year_of_birth") (Some (integer (pos year)))
-          ∷ field (codes "profession") (option_tree (λ s. Some (text (string_bytes s))) p.profession) ∷ [])
-    ] };
+    ghost tree = { λ p. entries_tree (field (codes "name") (Some (text (string_bytes p.name)))
+        ∷ optional (codes "year_of_birth") (λ year. Some (integer (pos year))) p.year_of_birth
+        (field (codes "profession") (option_tree (λ s. Some (text (string_bytes s))) p.profession) ∷ [])) };
 
     fn serialize<W: Write>(&self, alloc: Global, ser: &mut Serializer<W>) -> WriteResult<(), W> {
-        let profession = Field("profession", &self.profession);
-        match &self.year_of_birth {
-            None => {
-                let fields = (Field("name", &self.name), (profession, ()));
-                write_struct(alloc, fields, ser)
-            }
-            Some(year) => {
-                let year = Field("year_of_birth", year);
-                let fields = (Field("name", &self.name), (year, (profession, ())));
-                write_struct(alloc, fields, ser)
-            }
-        }
+        let fields = (
+            Field("name", &self.name),
+            (
+                Optional("year_of_birth", &self.year_of_birth),
+                (Field("profession", &self.profession), ()),
+            ),
+        );
+        write_struct(alloc, fields, ser)
     }
 }
 

@@ -1,5 +1,6 @@
 //! Each type both ways, and the recipes.
 
+mod album;
 mod note;
 mod recipes;
 mod types;

@@ -4,8 +4,8 @@ ghost use Rattle.std.specs.Prelude.{◌≡◌, ◌↔◌, ◌+◌, ◌≤◌, �
 ghost use Rattle.std.specs.Cow.{cow_str_bytes, IsBorrowedStr};
 ghost use Rattle.dagcbor_heads.specs.Reading.{with_steps};
 ghost use Rattle.dagcbor_read.specs.Deserializers.{de_state, Call, AreOut, Over};
-ghost use Rattle.dagcbor_items.specs.Reads.{Reads, Anything};
-ghost use Rattle.dagcbor_items.specs.Variants.{OfKey};
+ghost use Rattle.dagcbor_items.specs.TypedReads.{Reads, Anything};
+ghost use Rattle.dagcbor_items.specs.AnsweredVariants.{OfKey};
 ghost use Rattle.dagcbor_read.specs.Values.{ReadsPart};
 
 use crate::deserialize::Deserialize;
@@ -43,7 +43,8 @@ pub(crate) fn copied<'de>(alloc: Global, key: &CowStr<'de>) -> Result<CowStr<'de
 /// Gives so many steps back.
 pub(crate) fn give_back<R: Read>(reader: &mut R, steps: usize)
     requires { (R.reading reader.old).steps + steps ≤ (R.reading reader.old).budget }
-    ensures { R.reading reader.new ≡ with_steps ((R.reading reader.old).steps + steps) (R.reading reader.old) }
+    ensures { R.reading reader.new ≡ with_steps ((R.reading reader.old).steps + steps)
+        (R.reading reader.old) }
 {
     for _step in 0..steps {
         reader.step_out();
@@ -99,8 +100,11 @@ impl<'de> Accessor<'de> {
     ) -> ReadResult<Option<T>, R>
         requires { (accessor_state self.old).is_map ≡ false }
         ensures after { accessor_state self.new ≡ after_element result (accessor_state self.old) }
-        ensures element { Over R.reading (Call (ReadsElement T.meaning T.shape (accessor_state self.old).left)) de.old result de.new }
-        ensures lies { IfOk result (λ o. IfSome o (T.lies (de_state R.reading de.old).input.lends)) }
+        ensures element { Over R.reading
+            (Call (ReadsElement T.meaning T.shape (accessor_state self.old).left)) de.old result
+            de.new }
+        ensures lies { IfOk result
+            (λ o. IfSome o (T.lies (de_state R.reading de.old).input.lends)) }
     {
         de.check()?;
         if self.left == 0 {
@@ -120,8 +124,12 @@ impl<'de> Accessor<'de> {
         requires map { (accessor_state self.old).is_map ≡ true }
         requires in_turn { (accessor_state self.old).owes_value ≡ false }
         ensures after { accessor_state self.new ≡ after_key result (accessor_state self.old) }
-        ensures key { Over R.reading (Call (ReadsNextKey (accessor_state self.old).last (accessor_state self.old).left)) de.old result de.new }
-        ensures lent { IfOk result (λ o. IfSome o (λ k. IsBorrowedStr k ↔ ((de_state R.reading de.old).input.lends ≡ true))) }
+        ensures key { Over R.reading
+            (Call (ReadsNextKey (accessor_state self.old).last (accessor_state self.old).left))
+            de.old result de.new }
+        ensures lent { IfOk result
+            (λ o. IfSome o (λ k. IsBorrowedStr k
+            ↔ ((de_state R.reading de.old).input.lends ≡ true))) }
         ensures variant { IfErr result OfKey }
     {
         de.check()?;
@@ -162,7 +170,8 @@ impl<'de> Accessor<'de> {
     pub fn end<R: Read>(self, de: &mut Deserializer<'de, R>) -> ReadResult<(), R>
         requires in_turn { (accessor_state self).owes_value ≡ false }
         requires out { AreOut (accessor_state self).steps (de_state R.reading de.old) }
-        ensures { Over R.reading (Call (EndsItems (accessor_state self.entry))) de.old result de.new }
+        ensures { Over R.reading
+            (Call (EndsItems (accessor_state self.entry))) de.old result de.new }
     {
         de.begin()?;
         if self.left > 0 {

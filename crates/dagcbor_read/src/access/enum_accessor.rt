@@ -7,7 +7,7 @@ ghost use Rattle.dagcbor_read.specs.Enums.{enum_state, BeginsEnum, SpendsEnum, R
 ghost use Rattle.dagcbor_read.specs.Enums.{IsOtherForm, EntersMap, EndsUnit, ReadsHeld, BeginsHeld};
 ghost use Rattle.dagcbor_read.specs.Enums.{OfForm};
 ghost use Rattle.dagcbor_read.specs.Accessors.{OfBegin};
-ghost use Rattle.dagcbor_items.specs.Variants.{OfByte, OfText};
+ghost use Rattle.dagcbor_items.specs.AnsweredVariants.{OfByte, OfText};
 
 use crate::access::accessor::{Accessor, give_back};
 use crate::deserialize::Deserialize;
@@ -27,7 +27,7 @@ pub struct EnumAccessor {
 
 /// The form of the enum that begins here: the first byte of a text, which stays, or a1, which is
 /// taken.
-#[tactic(auto, using(dagcbor_items::proofs::Variants::end_byte))]
+#[tactic(auto, using(dagcbor_items::proofs::PartRefusals::end_byte))]
 fn pull_form<R: Read>(reader: &mut R) -> ReadResult<EnumAccessor, R>
     ensures form { BeginsEnum (R.reading reader.old) result (R.reading reader.new) }
     ensures variant { IfErr result OfByte }
@@ -78,7 +78,8 @@ impl EnumAccessor {
     ) -> ReadResult<(CowStr<'de>, EnumAccessor), R>
         ensures same { IfOk result (λ v. v.1 ≡ self) }
         ensures text { Over R.reading (Call ReadsName) de.old result de.new }
-        ensures lent { IfOk result (λ v. IsBorrowedStr v.0 ↔ ((de_state R.reading de.old).input.lends ≡ true)) }
+        ensures lent { IfOk result
+            (λ v. IsBorrowedStr v.0 ↔ ((de_state R.reading de.old).input.lends ≡ true)) }
         ensures variant { IfErr result OfText }
     {
         let name = de.deserialize_identifier(alloc)?;
@@ -106,7 +107,8 @@ impl EnumAccessor {
         de: &mut Deserializer<'de, R>,
     ) -> ReadResult<T, R>
         requires { AreOut (enum_state self).steps (de_state R.reading de.old) }
-        ensures part { Over R.reading (Call (ReadsHeld T.meaning T.shape (enum_state self))) de.old result de.new }
+        ensures part { Over R.reading
+            (Call (ReadsHeld T.meaning T.shape (enum_state self))) de.old result de.new }
         ensures lies { IfOk result (T.lies (de_state R.reading de.old).input.lends) }
     {
         self.enter_map(de)?;
@@ -123,7 +125,8 @@ impl EnumAccessor {
         _len: usize,
         de: &mut Deserializer<'de, R>,
     ) -> ReadResult<Accessor<'de>, R>
-        ensures begun { Over R.reading (Call (BeginsHeld 4 (codes "tuple") (enum_state self))) de.old result de.new }
+        ensures begun { Over R.reading
+            (Call (BeginsHeld 4 (codes "tuple") (enum_state self))) de.old result de.new }
         ensures variant { IfErr result OfBegin }
     {
         self.enter_map(de)?;
@@ -138,7 +141,8 @@ impl EnumAccessor {
         _fields: &[&str],
         de: &mut Deserializer<'de, R>,
     ) -> ReadResult<Accessor<'de>, R>
-        ensures begun { Over R.reading (Call (BeginsHeld 5 (codes "map") (enum_state self))) de.old result de.new }
+        ensures begun { Over R.reading
+            (Call (BeginsHeld 5 (codes "map") (enum_state self))) de.old result de.new }
         ensures variant { IfErr result OfBegin }
     {
         self.enter_map(de)?;
@@ -154,7 +158,8 @@ impl EnumAccessor {
     /// Goes on only where the enum is a map.
     #[tactic(auto, using(crate::proofs::Entering::other_byte))]
     fn enter_map<'de, R: Read>(&self, de: &mut Deserializer<'de, R>) -> ReadResult<(), R>
-        ensures form { Over R.reading (Call (EntersMap (enum_state self.now))) de.old result de.new }
+        ensures form { Over R.reading
+            (Call (EntersMap (enum_state self.now))) de.old result de.new }
         ensures variant { IfErr result OfByte }
     {
         de.begin()?;

@@ -52,7 +52,10 @@ pub trait Fields<'de>: Sized + Drop {
         key: &str,
         de: &mut Deserializer<'de, R>,
     ) -> ReadResult<(), R>
-        ensures { Over R.reading (ReadsValue (λ _. state places.new) (value_of (Self.shape (texts names.now)) (state places.old) key.now)) de.old result de.new };
+        ensures { Over R.reading
+            (ReadsValue (λ _. state places.new)
+            (value_of (Self.shape (texts names.now)) (state places.old) key.now)) de.old result
+            de.new };
 
     /// What the places make once all was read. None where a field is missing.
     fn finish(places: Self::Places) -> Option<Self>
@@ -69,8 +72,11 @@ pub(crate) fn read_entries_left<'de, F: Fields<'de>, R: Read>(
     requires map { (accessor_state entries).is_map ≡ true }
     requires in_turn { (accessor_state entries).owes_value ≡ false }
     requires sound { (de_state R.reading de.old).failed ≡ false }
-    requires out { (de_state R.reading de.old).input.steps + (accessor_state entries).steps ≤ (de_state R.reading de.old).input.budget }
-    ensures { Over R.reading (ReadsEntriesLeft F.state (F.shape (texts names.now)) F.unread (accessor_state entries.entry)) de.old result de.new }
+    requires out { (de_state R.reading de.old).input.steps + (accessor_state entries).steps ≤
+        (de_state R.reading de.old).input.budget }
+    ensures { Over R.reading
+        (ReadsEntriesLeft F.state (F.shape (texts names.now)) F.unread
+        (accessor_state entries.entry)) de.old result de.new }
 {
     let mut places = F::unread(alloc);
     let mut entries = entries;
@@ -87,8 +93,10 @@ pub fn read_fields<'de, F: Fields<'de>, R: Read>(
     alloc: Global,
     de: &mut Deserializer<'de, R>,
 ) -> ReadResult<F::Places, R>
-    ensures value { Over R.reading (ReadsValue F.state (fields_of (F.shape []) F.unread)) de.old result de.new }
-    ensures named { Over R.reading (RefusesToBegin (HasHeadOf 5) (BeginsItems 5 (codes "map") 1)) de.old result de.new }
+    ensures value { Over R.reading
+        (ReadsValue F.state (fields_of (F.shape []) F.unread)) de.old result de.new }
+    ensures named { Over R.reading
+        (RefusesToBegin (HasHeadOf 5) (BeginsItems 5 (codes "map") 1)) de.old result de.new }
     ensures failed { Over R.reading StaysFailed de.old result de.new }
 {
     let entries = de.deserialize_map()?;
@@ -101,10 +109,12 @@ pub fn read_into<'de, T: Deserialize<'de>, R: Read>(
     place: &mut Option<T>,
     de: &mut Deserializer<'de, R>,
 ) -> ReadResult<(), R>
-    ensures value { Over R.reading (ReadsValue (λ _. option_map T.meaning place.new) (slot_of T.shape)) de.old result de.new }
+    ensures value { Over R.reading
+        (ReadsValue (λ _. option_map T.meaning place.new) (slot_of T.shape)) de.old result de.new }
     ensures kept { IfErr result (λ _. place.new ≡ place.old) }
     ensures failed { Over R.reading StaysFailed de.old result de.new }
-    ensures lies { IfOk result (λ _. IfSome place.new (T.lies (de_state R.reading de.old).input.lends)) }
+    ensures lies { IfOk result
+        (λ _. IfSome place.new (T.lies (de_state R.reading de.old).input.lends)) }
 {
     let value = T::deserialize(alloc, de)?;
     *place = Some(value);

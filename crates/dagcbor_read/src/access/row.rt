@@ -5,7 +5,7 @@ ghost use Rattle.std.specs.Prelude.{⊤, MatchResult, IfOk, All};
 ghost use Rattle.dagcbor_heads.specs.Refusals.{Refuses};
 ghost use Rattle.ipld_tree.specs.Tree.{Items};
 ghost use Rattle.dagcbor_read.specs.Deserializers.{de_state, StaysFailed, Over};
-ghost use Rattle.dagcbor_items.specs.Reads.{Anything};
+ghost use Rattle.dagcbor_items.specs.TypedReads.{Anything};
 ghost use Rattle.dagcbor_read.specs.Values.{ReadsValue};
 ghost use Rattle.dagcbor_read.specs.Accessors.{accessor_state};
 ghost use Rattle.dagcbor_read.specs.Collections.{list_of, all_of, no_more, first_then, ReadsRow};
@@ -38,7 +38,9 @@ pub(crate) trait Row<'de>: Sized + Drop {
     ) -> ReadResult<Self, R>
         requires list { (accessor_state items.old).is_map ≡ false }
         requires sound { (de_state R.reading de.old).failed ≡ false }
-        ensures row { ReadsRow Self.meaning Self.shape (accessor_state items.old) (de_state R.reading de.old) result (accessor_state items.new) (de_state R.reading de.new) }
+        ensures row { ReadsRow Self.meaning Self.shape (accessor_state items.old)
+            (de_state R.reading de.old) result (accessor_state items.new)
+            (de_state R.reading de.new) }
         ensures lies { IfOk result (Self.lies (de_state R.reading de.old).input.lends) };
 }
 
@@ -115,8 +117,10 @@ pub(crate) fn read_rest<'de, L: Row<'de>, R: Read>(
     requires list { (accessor_state items).is_map ≡ false }
     requires in_turn { (accessor_state items).owes_value ≡ false }
     requires sound { (de_state R.reading de.old).failed ≡ false }
-    requires out { (de_state R.reading de.old).input.steps + (accessor_state items).steps ≤ (de_state R.reading de.old).input.budget }
-    ensures rest { Over R.reading (ReadsRest L.meaning L.shape (accessor_state items.entry)) de.old result de.new }
+    requires out { (de_state R.reading de.old).input.steps + (accessor_state items).steps ≤
+        (de_state R.reading de.old).input.budget }
+    ensures rest { Over R.reading
+        (ReadsRest L.meaning L.shape (accessor_state items.entry)) de.old result de.new }
     ensures lies { IfOk result (L.lies (de_state R.reading de.old).input.lends) }
 {
     let mut items = items;

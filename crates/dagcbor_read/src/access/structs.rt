@@ -68,7 +68,10 @@ fn read_place<'de, T: Deserialize<'de>, L: Fields<'de>, R: Read>(
     key: &str,
     de: &mut Deserializer<'de, R>,
 ) -> ReadResult<(), R>
-    ensures { Over R.reading (ReadsValue (λ _. (option_map T.meaning into.new.0, L.state into.new.1)) (value_of (places T.shape L.shape (texts names.now)) (option_map T.meaning into.old.0, L.state into.old.1) key.now)) de.old result de.new }
+    ensures { Over R.reading
+        (ReadsValue (λ _. (option_map T.meaning into.new.0, L.state into.new.1))
+        (value_of (places T.shape L.shape (texts names.now))
+        (option_map T.meaning into.old.0, L.state into.old.1) key.now)) de.old result de.new }
 {
     let Some((name, others)) = names.split_first() else {
         return L::read_field(&mut into.1, alloc, names, key, de);
@@ -177,8 +180,11 @@ pub fn read_struct<'de, F: Fields<'de>, R: Read>(
     names: &[&str],
     de: &mut Deserializer<'de, R>,
 ) -> ReadResult<F, R>
-    ensures value { Over R.reading (ReadsValue F.meaning (struct_of (F.shape (texts names.now)) F.unread F.finish)) de.old result de.new }
-    ensures named { Over R.reading (RefusesToBegin (HasHeadOf 5) (BeginsItems 5 name.now 1)) de.old result de.new }
+    ensures value { Over R.reading
+        (ReadsValue F.meaning (struct_of (F.shape (texts names.now)) F.unread F.finish)) de.old
+        result de.new }
+    ensures named { Over R.reading
+        (RefusesToBegin (HasHeadOf 5) (BeginsItems 5 name.now 1)) de.old result de.new }
     ensures failed { Over R.reading StaysFailed de.old result de.new }
 {
     let entries = de.deserialize_struct(name, names)?;
@@ -194,8 +200,12 @@ pub fn read_struct_variant<'de, F: Fields<'de>, R: Read>(
     de: &mut Deserializer<'de, R>,
 ) -> ReadResult<F, R>
     requires { AreOut (enum_state variant).steps (de_state R.reading de.old) }
-    ensures fields { Over R.reading (ReadsFieldsHeld F.meaning (struct_of (F.shape (texts names.now)) F.unread F.finish) (enum_state variant)) de.old result de.new }
-    ensures named { Over R.reading (RefusesToBegin (HasHeadOf 5) (BeginsHeld 5 (codes "map") (enum_state variant))) de.old result de.new }
+    ensures fields { Over R.reading
+        (ReadsFieldsHeld F.meaning (struct_of (F.shape (texts names.now)) F.unread F.finish)
+        (enum_state variant)) de.old result de.new }
+    ensures named { Over R.reading
+        (RefusesToBegin (HasHeadOf 5) (BeginsHeld 5 (codes "map") (enum_state variant))) de.old
+        result de.new }
     ensures failed { Over R.reading StaysFailed de.old result de.new }
 {
     let entries = variant.struct_variant(names, de)?;

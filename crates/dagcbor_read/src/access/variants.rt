@@ -30,8 +30,10 @@ pub trait Variants<'de>: Sized + Drop {
         de: &mut Deserializer<'de, R>,
     ) -> ReadResult<Self, R>
         requires sound { (de_state R.reading de.old).failed ≡ false }
-        requires out { (de_state R.reading de.old).input.steps + (enum_state variant).steps ≤ (de_state R.reading de.old).input.budget }
-        ensures { Over R.reading (ReadsVariant meaning Self.shape name.now (enum_state variant)) de.old result de.new };
+        requires out { (de_state R.reading de.old).input.steps + (enum_state variant).steps ≤
+            (de_state R.reading de.old).input.budget }
+        ensures { Over R.reading
+            (ReadsVariant meaning Self.shape name.now (enum_state variant)) de.old result de.new };
 }
 
 /// Reads an enum. The names of its variants are not looked at.
@@ -42,7 +44,8 @@ pub fn read_enum<'de, V: Variants<'de>, R: Read>(
     de: &mut Deserializer<'de, R>,
 ) -> ReadResult<V, R>
     ensures value { Over R.reading (ReadsValue V.meaning (enum_of V.shape)) de.old result de.new }
-    ensures named { Over R.reading (RefusesToBegin HasStepEnum (SpendsEnum name.now)) de.old result de.new }
+    ensures named { Over R.reading
+        (RefusesToBegin HasStepEnum (SpendsEnum name.now)) de.old result de.new }
     ensures failed { Over R.reading StaysFailed de.old result de.new }
 {
     let form = de.deserialize_enum(name, variants)?;

@@ -1,7 +1,8 @@
 //! The types of leaves. Those of texts and bytes that have no memory of their own are lent by the
 //! input.
 
-ghost use Rattle.std.specs.Prelude.{◌≡◌, ◌↔◌, refl, ◌^◌, ℕ, ℤ, List, Bool, false, true, string_bytes};
+ghost use Rattle.std.specs.Prelude.{◌≡◌, ◌↔◌, refl, ◌^◌, ℕ, ℤ, List, Bool, false, true};
+ghost use Rattle.std.specs.Prelude.{string_bytes};
 ghost use Rattle.std.specs.Cow.{cow_str_bytes, IsBorrowedStr};
 ghost use Rattle.ipld_tree.specs.Cid.{cid_bytes};
 ghost use Rattle.dagcbor_items.specs.Shapes.{view_null, view_bool, view_unsigned, view_signed};

@@ -62,7 +62,10 @@ fn fields_are_written_in_key_order(rt: HostRuntime) -> Result<(), Fail> {
         (66, 49, 43),
     )?;
     writes(alloc, &grace(alloc)?, GRACE)?;
-    writes(alloc, &ageless_grace(alloc)?, AGELESS_GRACE)?;
+    let mut optional_grace = ageless_grace(alloc)?;
+    writes(alloc, &optional_grace, AGELESS_GRACE)?;
+    optional_grace.year_of_birth = Some(1906);
+    writes(alloc, &optional_grace, GRACE)?;
     writes(alloc, &ferris(alloc)?, FERRIS)
 }
 

@@ -1,11 +1,11 @@
 //! An enum of unit variants, and a struct that holds one.
 
-ghost use Rattle.std.specs.Prelude.{Option, Some, [], ◌∷◌, codes};
-ghost use Rattle.serde_ipld_dagcbor.specs.Tree.{Tree, text, entries_tree};
+ghost use Rattle.std.specs.Prelude.{Some, [], ◌∷◌, codes};
+ghost use Rattle.serde_ipld_dagcbor.specs.Tree.{text, entries_tree};
 ghost use Rattle.serde_ipld_dagcbor.specs.Trees.{field};
-ghost use Rattle.dagcbor_rows.specs.Letter.{Letter, is_a, is_b, letter_variants};
-ghost use Rattle.dagcbor_rows.specs.Letter.{letter_shape};
+ghost use Rattle.dagcbor_rows.specs.Letter.{letter_variants, letter_shape};
 ghost use Rattle.dagcbor_rows.specs.EnumStruct.{enum_struct_shape};
+ghost use Rattle.dagcbor_rows.specs.declared.tests.by_hand.enum_struct.Enum.{Enum};
 ghost use Rattle.dagcbor_rows.specs.declared.tests.by_hand.enum_struct.Enum.TheVariants.{A};
 ghost use Rattle.dagcbor_rows.specs.declared.tests.by_hand.enum_struct.Enum.TheVariants.{B};
 
@@ -34,17 +34,17 @@ impl Serialize for Enum {
 }
 
 impl Shown for Enum {
-    ghost View = { Letter };
+    ghost View = { Enum };
 
-    ghost meaning = { λ e. elim e [ A ↦ is_a | B ↦ is_b ] };
+    ghost meaning = { λ e. e };
 
     ghost shape = { letter_shape };
 }
 
 impl<'de> Variants<'de> for Enum {
-    ghost View = { Letter };
+    ghost View = { Enum };
 
-    ghost meaning = { λ e. elim e [ A ↦ is_a | B ↦ is_b ] };
+    ghost meaning = { λ e. e };
 
     ghost shape = { letter_variants };
 
@@ -80,7 +80,7 @@ pub(crate) struct EnumStruct {
 }
 
 impl Serialize for EnumStruct {
-    ghost tree = { λ p. entries_tree (field (codes "e") (elim p.e [ A ↦ Some (text (codes "A")) | B ↦ Some (text (codes "B")) ]) ∷ []) };
+    ghost tree = { λ p. entries_tree (field (codes "e") (⟦<Enum as Serialize>⟧.tree p.e) ∷ []) };
 
     fn serialize<W: Write>(&self, alloc: Global, ser: &mut Serializer<W>) -> WriteResult<(), W> {
         write_struct(alloc, (Field("e", &self.e), ()), ser)
@@ -88,9 +88,9 @@ impl Serialize for EnumStruct {
 }
 
 impl Shown for EnumStruct {
-    ghost View = { Letter × Unit {0} };
+    ghost View = { Enum × Unit {0} };
 
-    ghost meaning = { λ s. (elim s.e [ A ↦ is_a | B ↦ is_b ], tt) };
+    ghost meaning = { λ s. (s.e, tt) };
 
     ghost shape = { enum_struct_shape };
 }

@@ -1,12 +1,12 @@
 use Rattle.std.proofs.Common.{◌++◌, ◌∷◌, [], ℕ, List, codes, refl, ap, ◌∙◌, inl, inr}
 use Rattle.dagcbor_items.specs.TreeKinds.{kind_of}
-use Rattle.dagcbor_tool.specs.Answers.{kind_name}
+use Rattle.dagcbor_items.specs.PrintedNames.{kind_name}
 use Rattle.dagcbor_tool.proofs.Refusals.{said_as}
 use Rattle.dagcbor_tool.proofs.answer.push_verdict.Goals as goal
 
 pub returns-in_ok-push_sentence-in-Ok : goal.returns-in_ok-push_sentence-in-Ok
 returns-in_ok-push_sentence-in-Ok c =
-    let found = c.in-Ok.ensures in
+    let found = c.in-Ok.ensures.kind in
     record {
       kept = c.in_ok-push_sentence-in-Ok.ensures.kept;
       written = (
@@ -19,4 +19,4 @@ returns-in_ok-push_sentence-in-Ok c =
     }
 
 pub returns-in-Err : goal.returns-in-Err
-returns-in-Err c = said_as (λ said h. inr (c.in-Err.refusal, h.0, c.in-Err.ensures.0, h.1)) c.push_refusal.ensures
+returns-in-Err c = said_as (λ said h. inr (c.in-Err.refusal, h.0, c.in-Err.ensures.refused, h.1)) c.push_refusal.ensures

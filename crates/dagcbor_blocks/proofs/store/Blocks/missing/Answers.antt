@@ -10,13 +10,13 @@ pub loop-block-preserved : goal.loop-block-preserved
 loop-block-preserved c =
     so_far_next c.spelling_unique.ensures c.cid_equality.ensures c.args.self.now.blocks c.loop-block.block-iterator c.next.new.self c.in-Some.block.now c.in-Ok.links.items c.loop-block.missing c.add_missing.new.missing c.args.self.now.sound
     c.in-Some.ensures.steps c.loop-block.invariant
-    (subst (λ b. AreFirstLinks b (forms c.in-Ok.links.items)) c.deref.ensures.value c.in-Ok.ensures)
+    (subst (λ b. AreFirstLinks b (forms c.in-Ok.links.items)) c.deref.ensures.value c.in-Ok.ensures.links)
     (subst (λ ls. AddedSoFar c.args.self.now.blocks ls c.loop-block.missing c.add_missing.new.missing) c.deref-in-loop-block.ensures.value (on_ok c.add_missing.result _ c.if-is_err.ensures.value c.add_missing.ensures))
 
 pub returns-in-Err : goal.returns-in-Err
 returns-in-Err c =
     next_block_refused c.args.self.now.blocks c.loop-block.block-iterator c.next.new.self c.in-Some.block.now c.loop-block.missing c.in-Err.error c.of_decoding.result c.args.self.now.sound c.in-Some.ensures.steps c.loop-block.invariant
-    (subst (λ b. LinksRefused c.in-Err.error b) c.deref.ensures.value c.in-Err.ensures) c.of_decoding.ensures
+    (subst (λ b. LinksRefused c.in-Err.error b) c.deref.ensures.value c.in-Err.ensures.refused) c.of_decoding.ensures
 
 pub returns-in-Ok-in_order : goal.returns-in-Ok-in_order
 returns-in-Ok-in_order c = (

@@ -1,11 +1,11 @@
-use Rattle.std.proofs.Common.{ℕ, ◌^◌, refl, false, ◌≡◌, true}
+use Rattle.std.proofs.Common.{ℕ, refl, false, ◌≡◌, true}
 use Rattle.std.specs.Prelude.{codes}
 use Rattle.dagcbor_heads.proofs.Refusing.{as_refusal}
 use Rattle.serde_ipld_dagcbor.specs.Deserializers.{de_state}
 use Rattle.serde_ipld_dagcbor.specs.Enums.{enum_state}
-use Rattle.serde_ipld_dagcbor.specs.Shapes.{leaf, view_unsigned}
 use Rattle.dagcbor_read.proofs.NamedVariants.{held_refused}
-use Rattle.uses.specs.Color.{is_other, is_alpha, color_variants, two_numbers}
+use Rattle.uses.specs.Color.{color_variants, two_numbers}
+use Rattle.uses.specs.declared.color.Color.TheVariants.{Alpha}
 use Rattle.uses.proofs.color.ColorVariants.read_variant.Goals as goal
 
 abbrev parts : ℕ × ℕ → ℕ × (ℕ × Unit {0})
@@ -13,10 +13,5 @@ parts p = (p.0, (p.1, tt))
 
 pub returns-in_err-n-in-Alpha : goal.returns-in_err-n-in-Alpha
 returns-in_err-n-in-Alpha g c = as_refusal _ _ _ _ c.from_residual-in_err-n-in-Alpha.ensures.1
-    (held_refused color_variants (λ p. is_alpha p.0 p.1.0) two_numbers g.row.R-Error.Denot parts (false ≡ true) (enum_state c.args.variant) (de_state g.R.Read.reading c.args.de.now) (de_state g.R.Read.reading c.newtype_variant-in-Alpha.new.de) (codes "Alpha") _
+    (held_refused color_variants (λ p. Alpha p.0 p.1.0) two_numbers g.row.R-Error.Denot parts (false ≡ true) (enum_state c.args.variant) (de_state g.R.Read.reading c.args.de.now) (de_state g.R.Read.reading c.newtype_variant-in-Alpha.new.de) (codes "Alpha") _
     c.in-Alpha.is refl (λ t. refl) (λ t. refl) (λ x. x) (λ lends x. x) c.requires.sound c.in_err-n-in-Alpha.ensures.part)
-
-pub returns-in_err-newtype_variant-in-Other : goal.returns-in_err-newtype_variant-in-Other
-returns-in_err-newtype_variant-in-Other g c = as_refusal _ _ _ _ c.from_residual-in_err-newtype_variant-in-Other.ensures.1
-    (held_refused color_variants is_other (leaf (view_unsigned (2 ^ 64))) g.row.R-Error.Denot (λ n. n) (false ≡ true) (enum_state c.args.variant) (de_state g.R.Read.reading c.args.de.now) (de_state g.R.Read.reading c.newtype_variant.new.de) (codes "Other") _
-    c.in-Other.is refl (λ t. refl) (λ t. refl) (λ x. x) (λ lends x. x) c.requires.sound c.in_err-newtype_variant-in-Other.ensures.part)

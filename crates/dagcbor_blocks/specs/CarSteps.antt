@@ -1,0 +1,26 @@
+-- What the steps of reading a file into a store do.
+use Rattle.std.specs.Prelude.{◌≡◌, [], ◌∷◌, Bool, Result, MatchResult, MatchBool}
+use Rattle.serde_ipld_dagcbor.specs.Reading.{Reading}
+use Rattle.serde_ipld_dagcbor.specs.Fronts.{FindsEnd}
+use Rattle.dagcbor_car.specs.Car.{Section}
+use Rattle.dagcbor_car.specs.Sources.{TakesSectionBytes}
+use Rattle.dagcbor_blocks.specs.Blocks.{Held, HoldsAlso}
+use Rattle.dagcbor_blocks.specs.Cars.{IsNamedBlock, SectionRefused, StopsAt}
+use Rattle.dagcbor_blocks.specs.declared.car_error.ReadCarError.{ReadCarError}
+
+-- The block of a section is kept under its name. A refusal changes nothing.
+abbrev pub KeepsSection : {E : Type 0} → Section → Held → Result (Unit {0}) (ReadCarError E) → Held
+    → Type 0
+KeepsSection s old result new = MatchResult result
+    (λ _. IsNamedBlock s × HoldsAlso old (s ∷ []) new)
+    (λ e. (new ≡ old) × SectionRefused s old e)
+
+-- The section at the front is taken, and its block is kept; or the end is found. A refusal keeps
+-- nothing.
+abbrev pub KeepsNext : {E : Type 0} → Reading → Held → Result Bool (ReadCarError E) → Reading → Held
+    → Type 0
+KeepsNext old before result new after = MatchResult result
+    (λ more. MatchBool more
+    ((s : Section) × TakesSectionBytes old s new × IsNamedBlock s × HoldsAlso before (s ∷ []) after)
+    (FindsEnd old new × (after ≡ before)))
+    (λ e. (after ≡ before) × StopsAt old before e new)

@@ -1,0 +1,106 @@
+-- What is read into a store from a file of blocks.
+use Rattle.std.specs.Prelude.{◌≡◌, ◌⊎◌, ℕ, List, [], ⊤, Some, Result, MatchResult, Vec}
+use Rattle.std.specs.List.{AllByRecursion}
+use Rattle.std.specs.declared.alloc.Global.{Global}
+use Rattle.serde_ipld_dagcbor.specs.Reading.{Reading}
+use Rattle.serde_ipld_dagcbor.specs.Fronts.{Takes}
+use Rattle.serde_ipld_dagcbor.specs.Cid.{CidParts}
+use Rattle.serde_ipld_dagcbor.specs.Walks.{forms}
+use Rattle.dagcbor_car.specs.Names.{block_name}
+use Rattle.dagcbor_car.specs.Car.{Section, IsHeader, IsSection, car_bytes, IsCar}
+use Rattle.dagcbor_car.specs.Splits.{HasBlock}
+use Rattle.dagcbor_car.specs.Sources.{CarRefuses, RefusesHeader, RefusesSection, TakesSectionBytes}
+use Rattle.dagcbor_car.specs.Verdicts.{IsVerdict}
+use Rattle.dagcbor_car.specs.declared.verdict.Verdict.TheVariants as verdict
+use Rattle.dagcbor_car.specs.declared.error.CarError.{CarError}
+use Rattle.dagcbor_car.specs.declared.error.CarError.TheVariants as car
+use Rattle.dagcbor_blocks.specs.Blocks.{Held, HoldsAlso, HoldsOther}
+use Rattle.dagcbor_blocks.specs.declared.car_error.ReadCarError.{ReadCarError}
+use Rattle.dagcbor_blocks.specs.declared.car_error.ReadCarError.TheVariants.{Car, OtherHash}
+use Rattle.dagcbor_blocks.specs.declared.car_error.ReadCarError.TheVariants.{OtherBytes, OtherCodec}
+use Rattle.dagcbor_blocks.specs.declared.car_error.ReadCarError.TheVariants.{NoBlock, Collision}
+use Rattle.dagcbor_blocks.specs.declared.car_error.ReadCarError.TheVariants.{OutOfMemory}
+
+-- ---- a section
+
+-- the bytes are a block of DAG-CBOR, and the name is theirs
+abbrev pub IsNamedBlock : Section → Type 0
+IsNamedBlock s = HasBlock s.1 × (s.0 ≡ block_name s.1)
+
+-- the name is by SHA-256 (multicodec table)
+abbrev pub IsBySha256 : CidParts → Type 0
+IsBySha256 c = c.hash_code ≡ 0x12
+
+-- why a section is no block under its name
+abbrev pub BlockRefused : {E : Type 0} → Section → ReadCarError E → Type 0
+BlockRefused s (OtherHash c) = (c ≡ s.0) × ¬ IsBySha256 c
+BlockRefused s (OtherBytes c) = (c ≡ s.0) × IsBySha256 c × IsVerdict s verdict.OtherBytes
+BlockRefused s (OtherCodec c) = (c ≡ s.0) × IsBySha256 c × IsVerdict s verdict.NotRead
+BlockRefused s (NoBlock c e) = (c ≡ s.0) × IsBySha256 c × IsVerdict s (verdict.Refused e)
+BlockRefused s _ = ⊥
+
+-- why the block of a section is not kept
+abbrev pub SectionRefused : {E : Type 0} → Section → Held → ReadCarError E → Type 0
+SectionRefused s held (Collision c) = (c ≡ s.0) × IsNamedBlock s × HoldsOther s.1 held
+SectionRefused s held OutOfMemory = ⊤
+SectionRefused s held e = BlockRefused s e
+
+-- ---- a refusal of the file
+
+-- want of memory is never inside another refusal
+abbrev pub TellsOfFile : {E : Type 0} → CarError E → ReadCarError E → Type 0
+TellsOfFile car.OutOfMemory told = told ≡ OutOfMemory
+TellsOfFile error told = told ≡ Car error
+
+-- the refusal is that of the file, which `CarRefuses` says of this cause
+abbrev pub FileRefused : {E : Type 0} → (CarError E → List ℕ → Type 0) → Reading → ReadCarError E
+    → Reading → Type 0
+FileRefused stands old told new = (e : CarError _) × TellsOfFile e told
+    × CarRefuses stands old e new
+
+-- ---- the file
+
+-- the header of these roots and these sections stood first, and were taken; the sections are blocks
+-- under their names, and what is held is what was held, and these
+pub record IsReadTo (roots : List (List ℕ)) (sections : List Section) (old : Reading)
+    (before : Held) (now : Reading) (after : Held) : Type 0 where
+  pub header : IsHeader roots
+  pub all : AllByRecursion IsSection sections
+  pub takes : Takes old (car_bytes roots sections) now
+  pub blocks : AllByRecursion IsNamedBlock sections
+  pub holds : HoldsAlso before sections after
+
+-- the bytes left, where they are known, are the file of these roots and sections, and all are taken
+abbrev pub TakesCar : Reading → List (List ℕ) → List Section → Reading → Type 0
+TakesCar old roots sections new = (b : List ℕ) → old.left ≡ Some b
+    → IsCar b roots sections × (new.left ≡ Some [])
+
+-- the whole file was taken, with these sections: all are blocks under their names, and what is held
+-- is what was held, and these
+pub record KeepsAll (roots : List (List ℕ)) (sections : List Section) (old : Reading)
+    (before : Held) (new : Reading) (after : Held) : Type 0 where
+  pub is_car : TakesCar old roots sections new
+  pub faults : new.faults ≡ old.faults
+  pub blocks : AllByRecursion IsNamedBlock sections
+  pub holds : HoldsAlso before sections after
+
+-- why no section more is kept: none stands there, though bytes do; or the next, which was taken, is
+-- refused
+abbrev pub StopsAt : {E : Type 0} → Reading → Held → ReadCarError E → Reading → Type 0
+StopsAt old held e new = FileRefused RefusesSection old e new
+    ⊎ ((s : Section) × TakesSectionBytes old s new × SectionRefused s held e)
+
+-- why a file is not read, and what is held: no header stands first; or else all sections up to a
+-- place were kept, and no more
+abbrev pub ReadRefused : {E : Type 0} → Reading → Held → ReadCarError E → Reading → Held → Type 0
+ReadRefused old before e new after = (FileRefused RefusesHeader old e new × (after ≡ before))
+    ⊎ ((roots : List (List ℕ)) × (sections : List Section) × (mid : Reading)
+    × IsReadTo roots sections old before mid after × StopsAt mid after e new)
+
+-- A file is read exactly where all of its sections are blocks under their names, faults, want of
+-- memory and collisions aside. What is held is what was held, and the sections taken.
+abbrev pub ReadsCar : {E : Type 0} → Reading → Held → Result (Vec CidParts Global) (ReadCarError E)
+    → Reading → Held → Type 0
+ReadsCar old before result new after = MatchResult result
+    (λ v. (sections : List Section) × KeepsAll (forms v.items) sections old before new after)
+    (λ e. ReadRefused old before e new after)

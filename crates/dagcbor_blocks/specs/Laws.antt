@@ -1,0 +1,27 @@
+-- Writing a store as a file and reading it undo each other.
+use Rattle.std.specs.Prelude.{◌≡◌, ℕ, List, [], ⊤, Some, Result, Ok, Err, Vec}
+use Rattle.std.specs.declared.alloc.Global.{Global}
+use Rattle.std.specs.declared.convert.Infallible.{Infallible}
+use Rattle.serde_ipld_dagcbor.specs.Reading.{Reading}
+use Rattle.serde_ipld_dagcbor.specs.Cid.{CidParts}
+use Rattle.serde_ipld_dagcbor.specs.Walks.{forms}
+use Rattle.dagcbor_car.specs.Car.{IsCar}
+use Rattle.dagcbor_blocks.specs.Blocks.{Held, block_at}
+use Rattle.dagcbor_blocks.specs.Cars.{ReadsCar}
+use Rattle.dagcbor_blocks.specs.declared.car_error.ReadCarError.{ReadCarError}
+use Rattle.dagcbor_blocks.specs.declared.car_error.ReadCarError.TheVariants.{OutOfMemory}
+
+-- these roots were read, and under each name stands what stood there; or memory was wanting
+abbrev pub IsReadBack : List (List ℕ) → Held
+    → Result (Vec CidParts Global) (ReadCarError Infallible) → Held → Type 0
+IsReadBack roots blocks (Ok v) after = (forms v.items ≡ roots)
+    × ((name : CidParts) → block_at name after ≡ block_at name blocks)
+IsReadBack roots blocks (Err OutOfMemory) after = ⊤
+IsReadBack roots blocks (Err _) after = ⊥
+
+-- What a store that holds these blocks writes is read into an empty store as the same blocks.
+abbrev pub WrittenThenRead : Held → Type 0
+WrittenThenRead blocks = (b : List ℕ) (roots : List (List ℕ)) (old new : Reading) (after : Held)
+    (result : Result (Vec CidParts Global) (ReadCarError Infallible))
+    → IsCar b roots blocks → old.left ≡ Some b → ReadsCar old [] result new after
+    → IsReadBack roots blocks result after

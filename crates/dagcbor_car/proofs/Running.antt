@@ -1,0 +1,114 @@
+-- What comes of runs of calls, against the bytes.
+use Rattle.std.proofs.Common.{◌≡◌, ◌⊎◌, inl, inr, ℕ, ◌<◌, Bool, true, false, List, [], ◌∷◌, length, length-append, refl, sym, ap, ◌∙◌, subst, arith}
+use Rattle.std.proofs.lemmas.Bool.{MatchBool-at_true, MatchBool-at_false}
+use Rattle.std.specs.Prelude.{None, Some, Result, Ok, Err, MatchBool}
+use Rattle.std.specs.List.{AllByRecursion, flat_map}
+use Rattle.dagcbor_heads.specs.Reading.{Reading}
+use Rattle.dagcbor_heads.specs.Written.{Written, WroteAll}
+use Rattle.dagcbor_heads.proofs.Writing.{WroteAll_then, Appends_nothing}
+use Rattle.dagcbor_items.specs.Walks.{forms}
+use Rattle.dagcbor_car.specs.Car.{Section, section_bytes, IsSection, header_bytes, IsCar}
+use Rattle.dagcbor_car.specs.Sources.{CarRefuses, RefusesSection, SectionStream, section_stream, NotBegun}
+use Rattle.dagcbor_car.specs.Writers.{WriterState, WritesSection}
+use Rattle.dagcbor_car.specs.Runs.{Item, GivesItems, AreNone, GivesUp, AreItemsOf, RunsAreExact, AreSections, CarsReadBack, WritesSections, CarsAreWritten}
+use Rattle.dagcbor_car.specs.declared.error.CarError.{CarError}
+use Rattle.dagcbor_car.specs.declared.error.CarError.TheVariants.{Read, OutOfMemory}
+use Rattle.dagcbor_car.specs.declared.error.CarWriteError.{CarWriteError}
+use Rattle.dagcbor_car.specs.declared.error.CarWriteError.TheVariants.{Failed}
+use Rattle.dagcbor_car.proofs.Cars.{section_unique, section_some, header_unique}
+
+-- ---- runs of `next`
+
+-- what follows from both
+either : (b : Bool) (P Q R : Type 0) → (P → R) → (Q → R) → MatchBool b P Q → R
+either true P Q R f g h = f h
+either false P Q R f g h = g h
+
+-- of a stream that is done nothing comes
+nothing_more : {E : Type 0} (s : SectionStream) (items : List (Item E)) → s.done ≡ true → GivesItems s items → AreNone items
+nothing_more s [] d h = tt
+nothing_more s (item ∷ items) d h =
+    let k = MatchBool-at_true _ _ d h.1 in
+    (k.0, nothing_more h.0 items (ap (λ t. t.done) k.1 ∙ d) h.2)
+
+-- why no section came
+why : {E : Type 0} (e : CarError E) (old new : Reading) (b : List ℕ) → old.left ≡ Some b → CarRefuses RefusesSection old e new → GivesUp e ⊎ RefusesSection e b
+why (Read f) old new b l r = inl tt
+why OutOfMemory old new b l r = inl tt
+why e old new b l r = inr (r.1 b l)
+
+pub exact : (E : Type 0) → RunsAreExact E
+exact E s b [] d l h = tt
+exact E s b (Some (Ok t) ∷ items) d l h =
+    let k = MatchBool-at_false _ _ d h.1 in
+    let w = k.1.1.taken b l in
+    (w.0, (k.1.0, w.1), exact E h.0 w.0 items k.0 w.2 h.2)
+exact E s b (Some (Err e) ∷ items) d l h =
+    let k = MatchBool-at_false _ _ d h.1 in
+    (why e s.source h.0.source b l k.1, nothing_more h.0 items k.0 h.2)
+exact E s b (None ∷ items) d l h =
+    let k = MatchBool-at_false _ _ d h.1 in
+    (k.1.none_left b l, nothing_more h.0 items k.0 h.2)
+
+-- ---- a file, read back
+
+-- the bytes of sections
+abbrev bytes_of : List Section → List ℕ
+bytes_of sections = flat_map section_bytes sections
+
+some_bytes : (s : Section) (sections : List Section) → IsSection s → 0 < length (bytes_of (s ∷ sections))
+some_bytes s sections h = omega (arith, section_some s h, length-append (section_bytes s) (bytes_of sections))
+
+-- where sections stand, no section is refused
+not_refused : {E : Type 0} (e : CarError E) (sections : List Section) → AllByRecursion IsSection sections → RefusesSection e (bytes_of sections) → ⊥
+not_refused e [] all r = omega (arith, r.0)
+not_refused e (s ∷ sections) all r = r.1 s (bytes_of sections) (all.0, refl)
+
+sections_given : {E : Type 0} (items : List (Item E)) (sections : List Section) → AllByRecursion IsSection sections → AreItemsOf (bytes_of sections) items → AreSections items sections
+sections_given [] sections all h = tt
+sections_given (Some (Ok t) ∷ items) [] all h = absurd (omega (arith, ap length h.1.1, section_some t h.1.0, length-append (section_bytes t) h.0))
+sections_given {E} (Some (Ok t) ∷ items) (s ∷ sections) all h =
+    let same = section_unique t s h.0 (bytes_of sections) h.1.0 all.0 (sym h.1.1) in
+    (sections, ap (λ x. x ∷ sections) (sym same.0), sections_given items sections all.1 (subst (λ b. AreItemsOf {E = E} b items) same.1 h.2))
+sections_given (Some (Err e) ∷ items) sections all h = (elim h.0 [ inl g ↦ g | inr r ↦ absurd (not_refused e sections all r) ], h.1)
+sections_given (None ∷ items) [] all h = (refl, h.1)
+sections_given (None ∷ items) (s ∷ sections) all h = absurd (omega (arith, ap length h.0, some_bytes s sections all.0))
+
+-- the header of a file is not refused
+gives_up : {E : Type 0} (e : CarError E) (old : Reading) (b : List ℕ) (roots : List (List ℕ)) (sections : List Section) → IsCar b roots sections → old.left ≡ Some b → NotBegun old e → GivesUp e
+gives_up (Read f) old b roots sections car l n = tt
+gives_up OutOfMemory old b roots sections car l n = tt
+gives_up e old b roots sections car l n = absurd ((n b l).0 roots (bytes_of sections) (car.header, car.is))
+
+pub read_back : {R : Type 0} (E : Type 0) (reading : R → Reading) → CarsReadBack E reading
+read_back {R} E reading b roots sections old (Err e) car l h = gives_up e old b roots sections car l h
+read_back {R} E reading b roots sections old (Ok p) car l h =
+    let w = h.0.1.taken b l in
+    let same = header_unique (forms p.0.items) roots w.0 (bytes_of sections) h.0.0 car.header (sym w.1 ∙ car.is) in
+    (same.0, λ items g. sections_given items sections car.all (exact E (section_stream reading p.1) (bytes_of sections) items h.1 (w.2 ∙ ap Some same.1) g))
+
+-- ---- runs of `write`
+
+-- a section that was written
+section_out : {W : Type 0} (E : Type 0) (written : W → Written) (takes_memory : Bool) (s : Section) (old new : WriterState W) → WritesSection {T = Unit {0}} {E = E} written takes_memory s old (Ok tt) new
+    → IsSection s × WroteAll (Some (section_bytes s)) (written old.writer) (written new.writer)
+section_out E written takes_memory s old new h = either old.failed _ _ _ (λ k. no_failure k.0) (λ k. (k.0, k.2.0)) h
+  where
+    no_failure : {X : Type 0} → ◌≡◌ {A = Result (Unit {0}) (CarWriteError E)} (Ok tt) (Err Failed) → X
+    no_failure e = absurd (cc e)
+
+sections_out : {W : Type 0} (E : Type 0) (written : W → Written) (takes_memory : Bool) (old new : WriterState W) (sections : List Section) → WritesSections E written takes_memory old sections new
+    → AllByRecursion IsSection sections × WroteAll (Some (bytes_of sections)) (written old.writer) (written new.writer)
+sections_out E written takes_memory old new [] h =
+    (tt, subst (λ t. WroteAll (Some []) (written old.writer) (written t.writer)) (sym h) (Appends_nothing (written old.writer).bytes, refl, refl))
+sections_out E written takes_memory old new (s ∷ sections) h =
+    let first = section_out E written takes_memory s old h.0 h.1 in
+    let more = sections_out E written takes_memory h.0 new sections h.2 in
+    ((first.0, more.0), WroteAll_then (Some (section_bytes s)) (Some (bytes_of sections)) (written old.writer) (written h.0.writer) (written new.writer) first.1 more.1)
+
+pub written_car : {W : Type 0} (E : Type 0) (written : W → Written) (takes_memory : Bool) → CarsAreWritten E written takes_memory
+written_car E written takes_memory old begun new roots sections h k =
+    let more = sections_out E written takes_memory begun new sections k in (
+      record { header = h.0; all = more.0; is = refl },
+      WroteAll_then (Some (header_bytes roots)) (Some (bytes_of sections)) (written old) (written begun.writer) (written new.writer) h.2 more.1,
+    )

@@ -1,0 +1,95 @@
+-- What comes of runs of calls: what `next` gives of a file, and what `write` makes of sections.
+use Rattle.std.specs.Prelude.{◌≡◌, ◌⊎◌, ℕ, Bool, false, List, [], ◌∷◌, ⊤, Option, None, Some}
+use Rattle.std.specs.Prelude.{Result, Ok, Err, MatchResult, Vec}
+use Rattle.std.specs.List.{AllByRecursion}
+use Rattle.std.specs.declared.alloc.Global.{Global}
+use Rattle.dagcbor_heads.specs.Reading.{Reading}
+use Rattle.dagcbor_heads.specs.Written.{Written, WroteAll}
+use Rattle.ipld_tree.specs.Cid.{CidParts}
+use Rattle.dagcbor_items.specs.Walks.{forms}
+use Rattle.dagcbor_car.specs.Car.{Section, car_bytes, IsCar}
+use Rattle.dagcbor_car.specs.Splits.{SplitsSection}
+use Rattle.dagcbor_car.specs.Sources.{RefusesSection, SectionStream, section_stream, GivesSection}
+use Rattle.dagcbor_car.specs.Sources.{Begins}
+use Rattle.dagcbor_car.specs.Writers.{WriterState, BeginsCar, WritesSection}
+use Rattle.dagcbor_car.specs.declared.error.CarError.{CarError}
+use Rattle.dagcbor_car.specs.declared.error.CarError.TheVariants.{Read, OutOfMemory}
+use Rattle.dagcbor_car.specs.declared.reader.CarReader.{CarReader}
+
+-- ---- what `next` gives
+
+-- what a call gives
+abbrev pub Item : Type 0 → Type 0
+Item E = Option (Result Section (CarError E))
+
+-- calls of `next`, one after another, gave these items
+abbrev pub GivesItems : {E : Type 0} → SectionStream → List (Item E) → Type 0
+GivesItems old [] = ⊤
+GivesItems old (item ∷ items) = (new : SectionStream) × GivesSection old item new
+    × GivesItems new items
+
+-- none of the calls gave anything
+abbrev pub AreNone : {E : Type 0} → List (Item E) → Type 0
+AreNone items = AllByRecursion (λ item. item ≡ None) items
+
+-- an error that says nothing of the bytes: a fault of the source, or want of memory
+abbrev pub GivesUp : {E : Type 0} → CarError E → Type 0
+GivesUp (Read e) = ⊤
+GivesUp OutOfMemory = ⊤
+GivesUp _ = ⊥
+
+-- The sections that stand one behind the other at the front of the bytes come one by one. Then
+-- comes the end, where no bytes are left, or one error: its cause stands there, and no section, or
+-- it says nothing of the bytes. Nothing comes behind that.
+abbrev pub AreItemsOf : {E : Type 0} → List ℕ → List (Item E) → Type 0
+AreItemsOf b [] = ⊤
+AreItemsOf b (Some (Ok s) ∷ items) = (rest : List ℕ) × SplitsSection b s rest
+    × AreItemsOf rest items
+AreItemsOf b (Some (Err e) ∷ items) = (GivesUp e ⊎ RefusesSection e b) × AreNone items
+AreItemsOf b (None ∷ items) = (b ≡ []) × AreNone items
+
+-- However often `next` is called, over known bytes, it gives the items of these bytes.
+abbrev pub RunsAreExact : Type 0 → Type 0
+RunsAreExact E = (s : SectionStream) (b : List ℕ) (items : List (Item E)) → s.done ≡ false
+    → s.source.left ≡ Some b → GivesItems s items → AreItemsOf b items
+
+-- ---- what is read of a file
+
+-- These sections come one by one, and then the end; or some of them, and then an error that says
+-- nothing of the bytes. Nothing comes behind that.
+abbrev pub AreSections : {E : Type 0} → List (Item E) → List Section → Type 0
+AreSections [] sections = ⊤
+AreSections (Some (Ok s) ∷ items) sections = (more : List Section) × (sections ≡ s ∷ more)
+    × AreSections items more
+AreSections (Some (Err e) ∷ items) sections = GivesUp e × AreNone items
+AreSections (None ∷ items) sections = (sections ≡ []) × AreNone items
+
+-- The file of these roots and sections is read as these roots and sections, faults and want of
+-- memory aside.
+abbrev pub CarsReadBack : {R : Type 0} → Type 0 → (R → Reading) → Type 0
+CarsReadBack {R} E reading = (b : List ℕ) (roots : List (List ℕ)) (sections : List Section)
+    (old : Reading) (result : Result (Vec CidParts Global × CarReader R) (CarError E))
+    → IsCar b roots sections → old.left ≡ Some b → Begins reading old result
+    → MatchResult result
+    (λ p. (forms p.0.items ≡ roots) × ((items : List (Item E))
+    → GivesItems (section_stream reading p.1) items → AreSections items sections))
+    GivesUp
+
+-- ---- what `write` makes
+
+-- these sections were written one after another, and none was refused
+abbrev pub WritesSections : {W : Type 0} → Type 0 → (W → Written) → Bool → WriterState W
+    → List Section → WriterState W → Type 0
+WritesSections E written takes_memory old [] new = new ≡ old
+WritesSections {W} E written takes_memory old (s ∷ sections) new = (mid : WriterState W)
+    × WritesSection {T = Unit {0}} {E = E} written takes_memory s old (Ok tt) mid
+    × WritesSections E written takes_memory mid sections new
+
+-- Behind the header and these sections the writer has the file of these roots and sections behind
+-- what it had.
+abbrev pub CarsAreWritten : {W : Type 0} → Type 0 → (W → Written) → Bool → Type 0
+CarsAreWritten {W} E written takes_memory = (old : W) (begun new : WriterState W)
+    (roots : List (List ℕ)) (sections : List Section) → BeginsCar {E = E} written old roots (Ok begun)
+    → WritesSections E written takes_memory begun sections new
+    → IsCar (car_bytes roots sections) roots sections
+    × WroteAll (Some (car_bytes roots sections)) (written old) (written new.writer)

@@ -1,0 +1,207 @@
+//! Files that are written, and read back.
+
+use super::files::{ENDS, LINKED, joined};
+use super::{EMPTY, NUMBERS};
+use crate::{CarReader, CarWriteError, CarWriter};
+use dagcbor_heads::{BufWriter, IoWriter, SliceReader};
+use ipld_tree::Cid;
+use std::alloc::Global;
+use std::io;
+use std::test::Fail;
+
+/// The name of "foo", of version 0.
+const FOO: &[u8] =
+    b"\x12\x20\x2c\x26\xb4\x6b\x68\xff\xc6\x8f\xf9\x9b\x45\x3c\x1d\x30\x41\x34\x13\x42\x2d\x70\x64\x83\xbf\xa0\xf9\x8a\x5e\x88\x62\x66\xe7\xae";
+
+/// The identity of the number 5.
+const FIVE: &[u8] = b"\x01\x71\x00\x01\x05";
+
+/// The name of no bytes, of the codec 0x55.
+const NOTHING: &[u8] =
+    b"\x01\x55\x12\x20\xe3\xb0\xc4\x42\x98\xfc\x1c\x14\x9a\xfb\xf4\xc8\x99\x6f\xb9\x24\x27\xae\x41\xe4\x64\x9b\x93\x4c\xa4\x95\x99\x1b\x78\x52\xb8\x55";
+
+/// The name of 200 letters, of the codec 0x55.
+const LETTERS: &[u8] =
+    b"\x01\x55\x12\x20\xc2\xa9\x08\xd9\x8f\x5d\xf9\x87\xad\xe4\x1b\x5f\xce\x21\x30\x67\xef\xbc\xc2\x1e\xf2\x24\x02\x12\xa4\x1e\x54\xb5\xe7\xc2\x8a\xe5";
+
+/// The file of the roots `NUMBERS` and `FOO`, with the sections of `FOO`, `FIVE` and `NOTHING`.
+const SHORT: &[u8] =
+    b"\x61\xa2\x65\x72\x6f\x6f\x74\x73\x82\xd8\x2a\x58\x25\x00\x01\x71\x12\x20\x4a\xbc\x31\x13\x7c\xe7\x38\xd9\xac\xeb\x8a\x1d\x1d\x51\xf1\x5c\xad\x42\xc2\xb0\x8d\xcb\x7e\xd1\x79\xf7\x37\xa1\x94\xb3\x55\xe7\xd8\x2a\x58\x23\x00\x12\x20\x2c\x26\xb4\x6b\x68\xff\xc6\x8f\xf9\x9b\x45\x3c\x1d\x30\x41\x34\x13\x42\x2d\x70\x64\x83\xbf\xa0\xf9\x8a\x5e\x88\x62\x66\xe7\xae\x67\x76\x65\x72\x73\x69\x6f\x6e\x01\x25\x12\x20\x2c\x26\xb4\x6b\x68\xff\xc6\x8f\xf9\x9b\x45\x3c\x1d\x30\x41\x34\x13\x42\x2d\x70\x64\x83\xbf\xa0\xf9\x8a\x5e\x88\x62\x66\xe7\xae\x66\x6f\x6f\x06\x01\x71\x00\x01\x05\x05\x24\x01\x55\x12\x20\xe3\xb0\xc4\x42\x98\xfc\x1c\x14\x9a\xfb\xf4\xc8\x99\x6f\xb9\x24\x27\xae\x41\xe4\x64\x9b\x93\x4c\xa4\x95\x99\x1b\x78\x52\xb8\x55";
+
+/// The names and the blocks of the sections of `SHORT`.
+const SHORT_SECTIONS: &[(&[u8], &[u8])] = &[(FOO, b"foo"), (FIVE, b"\x05"), (NOTHING, b"")];
+
+/// The letters.
+const BLOCK: &[u8] = &[b'a'; 200];
+
+/// The name of the letters, and these.
+const LONG_SECTIONS: &[(&[u8], &[u8])] = &[(LETTERS, BLOCK)];
+
+/// The file of the root `FIVE`, with the section of `LETTERS`, up to its block.
+const LONG: &[u8] =
+    b"\x1a\xa2\x65\x72\x6f\x6f\x74\x73\x81\xd8\x2a\x46\x00\x01\x71\x00\x01\x05\x67\x76\x65\x72\x73\x69\x6f\x6e\x01\xec\x01\x01\x55\x12\x20\xc2\xa9\x08\xd9\x8f\x5d\xf9\x87\xad\xe4\x1b\x5f\xce\x21\x30\x67\xef\xbc\xc2\x1e\xf2\x24\x02\x12\xa4\x1e\x54\xb5\xe7\xc2\x8a\xe5";
+
+/// The CIDs of these binary forms.
+fn cids_of(alloc: Global, names: &[&[u8]]) -> Result<Vec<Cid>, Fail> {
+    let mut cids = Vec::new(alloc);
+    for name in names {
+        cids.push(Cid::try_from(*name)?)?;
+    }
+    Ok(cids)
+}
+
+/// The file of these roots and sections, written into memory.
+fn written(alloc: Global, roots: &[Cid], sections: &[(&[u8], &[u8])]) -> Result<Vec<u8>, Fail> {
+    let mut writer = CarWriter::new(alloc, BufWriter::new(Vec::new(alloc)), roots)?;
+    for (name, block) in sections {
+        let cid = Cid::try_from(*name)?;
+        writer.write(&cid, block)?;
+    }
+    Ok(writer.into_writer().into_inner())
+}
+
+/// Whether the next section is this one.
+fn comes_next(
+    reader: &mut CarReader<'_, SliceReader<'_>>,
+    name: &[u8],
+    block: &[u8],
+) -> Result<bool, Fail> {
+    let cid = Cid::try_from(name)?;
+    match reader.next() {
+        Some(Ok(section)) => Ok(section.cid() == cid && section.block() == block),
+        _ => Ok(false),
+    }
+}
+
+/// Whether the file is read as these roots and sections.
+fn is_read_as(
+    alloc: Global,
+    file: &[u8],
+    roots: &[Cid],
+    sections: &[(&[u8], &[u8])],
+) -> Result<bool, Fail> {
+    let (read, mut reader) = CarReader::from_slice(alloc, file)?;
+    if read.as_slice() != roots {
+        return Ok(false);
+    }
+    for (name, block) in sections {
+        let comes = comes_next(&mut reader, name, block)?;
+        if !comes {
+            return Ok(false);
+        }
+    }
+    Ok(reader.next().is_none())
+}
+
+/// Whether the file of these roots and sections is written as these bytes, and is read back.
+fn goes_both_ways(
+    alloc: Global,
+    roots: &[&[u8]],
+    sections: &[(&[u8], &[u8])],
+    wanted: &[u8],
+) -> Result<bool, Fail> {
+    let roots = cids_of(alloc, roots)?;
+    let file = written(alloc, &roots, sections)?;
+    let is_read = is_read_as(alloc, &file, &roots, sections)?;
+    Ok(is_read && file.as_slice() == wanted)
+}
+
+#[test]
+fn files_are_written_and_read_back(rt: HostRuntime) -> Result<(), Fail> {
+    let alloc = rt.alloc();
+    assert!(rt; goes_both_ways(alloc, &[], &[], EMPTY)?);
+    assert!(rt; goes_both_ways(alloc, &[NUMBERS, FOO], SHORT_SECTIONS, SHORT)?);
+    let file = joined(alloc, &[LONG, BLOCK])?;
+    assert!(rt; goes_both_ways(alloc, &[FIVE], LONG_SECTIONS, &file)?);
+    Ok(())
+}
+
+/// A device that has room for so many bytes.
+#[derive(Drop)]
+struct Room {
+    held: Vec<u8>,
+    left: usize,
+}
+
+impl io::Write for Room {
+    fn write(&mut self, bytes: &[u8]) -> io::Result<usize> {
+        let count = bytes.len().min(self.left);
+        self.held.extend_from_slice(&bytes[..count])?;
+        self.left -= count;
+        Ok(count)
+    }
+
+    fn flush(&mut self) -> io::Result<()> {
+        Ok(())
+    }
+}
+
+/// What came of sections.
+#[derive(Drop)]
+struct Outcome {
+    written: u32,
+    refused: u32,
+    failed: u32,
+    /// What the device holds then.
+    held: Vec<u8>,
+}
+
+/// What comes of writing the file's sections to a device with room for so many bytes. None where
+/// the header is refused.
+fn outcome_of(alloc: Global, file: &[u8], left: usize) -> Result<Option<Outcome>, Fail> {
+    let (roots, mut sections) = CarReader::from_slice(alloc, file)?;
+    let held = Vec::new(alloc);
+    let Ok(mut writer) = CarWriter::new(alloc, IoWriter::new(Room { held, left }), &roots) else {
+        return Ok(None);
+    };
+    let (mut written, mut refused, mut failed) = (0u32, 0u32, 0u32);
+    for _ in 0..2 {
+        let Some(Ok(section)) = sections.next() else {
+            return Err(Fail::new("no section"));
+        };
+        let cid = section.cid();
+        match writer.write(&cid, section.block()) {
+            Ok(()) => written = written.saturating_add(1),
+            Err(CarWriteError::Write(_)) => refused = refused.saturating_add(1),
+            Err(CarWriteError::OutOfMemory) => return Err(Fail::new("memory")),
+            Err(CarWriteError::Failed) => failed = failed.saturating_add(1),
+        }
+    }
+    let Room { held, left: _ } = writer.into_writer().into_inner();
+    Ok(Some(Outcome {
+        written,
+        refused,
+        failed,
+        held,
+    }))
+}
+
+/// How many sections of `LINKED` are written, refused, and refused behind a refusal. None where the
+/// header is refused.
+fn wanted(left: usize) -> Option<(u32, u32, u32)> {
+    if left < ENDS[0] {
+        None
+    } else if left < ENDS[1] {
+        Some((0, 1, 1))
+    } else if left < LINKED.len() {
+        Some((1, 1, 0))
+    } else {
+        Some((2, 0, 0))
+    }
+}
+
+#[test]
+fn nothing_is_sent_behind_a_refusal(rt: HostRuntime) -> Result<(), Fail> {
+    let alloc = rt.alloc();
+    for left in 0..LINKED.len() + 1 {
+        match outcome_of(alloc, LINKED, left)? {
+            Some(outcome) => {
+                let counts = (outcome.written, outcome.refused, outcome.failed);
+                assert_eq!(rt; Some(counts), wanted(left));
+                assert_eq!(rt; outcome.held.as_slice(), &LINKED[..left]);
+            }
+            None => assert!(rt; wanted(left).is_none()),
+        }
+    }
+    Ok(())
+}

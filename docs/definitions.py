@@ -1,0 +1,192 @@
+#!/usr/bin/env python3
+"""The definitions that each sentence of the claim stands on, in the order in which to read them.
+
+    docs/definitions.py          prints the lists
+    docs/definitions.py page     puts them into docs/PROVED.md
+    docs/definitions.py check    fails where the page has others
+
+It begins at the contracts of the calls that a sentence names, and follows each name to its definition in specs/. Names of
+std and of Rust's own types are the toolchain's, and stand in no list."""
+
+import pathlib
+import re
+import sys
+
+ROOT = pathlib.Path(__file__).resolve().parent.parent
+PAGE = ROOT / "docs" / "PROVED.md"
+BEGIN, END = "<!-- made by docs/definitions.py page -->", "<!-- so far, of definitions -->"
+WORD = re.compile(r"[A-Za-z_][A-Za-z0-9_]*")
+START = re.compile(r"(?:abbrev |unfoldable )?(?:pub )?(?:record |data )?(?:mutual\b|module\b|[A-Za-z_]\w*(?: [:({]|$))")
+NAMES = re.compile(r"^\s*(?:abbrev |unfoldable )*(?:pub )(?:record |data |abbrev |unfoldable )*([A-Za-z_]\w*)")
+IMPORT = re.compile(r"^(?:ghost |pub )?use Rattle\.(\w+)\.specs\.(\w+)\.\{(.*)\};?$")
+
+# A sentence of the claim, and the calls or types whose contracts say it.
+SENTENCES = [
+    ("`to_vec` answers the one spelling of the value's tree", ["dagcbor_write/src/whole.rt fn to_vec"]),
+    ("`from_slice` reads exactly the spellings that the type accepts", ["dagcbor_read/src/whole.rt fn from_slice"]),
+    ("No two trees share a spelling, and none begins another's", ["ipld_tree/src/laws.rt fn spelling_unique"]),
+    ("The tree of each type that is written", ["dagcbor_write/src/types/*.rt ghost tree"]),
+    ("What a tree shows to each type, and the steps that reading it takes",
+     ["dagcbor_read/src/types/*.rt ghost shape", "dagcbor_read/src/types/*.rt ghost meaning"]),
+    ("Readers whose bytes are known answer as `from_slice`",
+     ["dagcbor_read/src/source.rt fn from_reader", "dagcbor_read/src/source.rt fn from_reader_once"]),
+    ("A stream gives the values one by one, and then at most one refusal", ["dagcbor_read/src/laws.rt fn streams_exact"]),
+    ("`to_writer` appends the same spelling to a device", ["dagcbor_write/src/whole.rt fn to_writer"]),
+    ("`check_slice` and `links_from_slice` judge a block",
+     ["dagcbor_items/src/slices.rt fn check_slice", "dagcbor_items/src/slices.rt fn links_from_slice"]),
+    ("`dagcbor` answers each line", ["dagcbor_tool/src/command.rt fn run_command"]),
+    ("`dagcar` judges a file of blocks", ["dagcar/src/command.rt fn run_command"]),
+    ("The store keeps blocks under their names",
+     [f"dagcbor_blocks/src/blocks.rt fn {name}" for name in ["put", "get", "missing"]]),
+    ("A file of blocks that is written is read back",
+     ["dagcbor_car/src/laws.rt fn cars_are_written", "dagcbor_car/src/laws.rt fn cars_read_back"]),
+    ("What one store writes as a file, an empty one reads as the same blocks",
+     ["dagcbor_blocks/src/read_car.rt fn read_car", "dagcbor_blocks/src/write_car.rt fn write_car",
+      "dagcbor_blocks/src/laws.rt fn written_then_read"]),
+]
+
+
+def imports_of(lines):
+    """Where each imported name of the repository's crates stands."""
+    found = {}
+    for line in lines:
+        match = IMPORT.match(line)
+        if match:
+            crate, file, names = match.groups()
+            for name in names.split(","):
+                words = name.split(" as ")
+                found[words[-1].strip()] = (crate, file, words[0].strip())
+    return found
+
+
+class Specs:
+    """A file of specs/: its definitions, and the names that it imports."""
+
+    def __init__(self, path):
+        self.path = path
+        lines = path.read_text(encoding="utf-8").split("\n")
+        self.imports = imports_of(lines)
+        self.chunks = {}
+        chunk, comment = [], []
+        for line in lines + [""]:
+            if line.startswith("--"):
+                self.close(chunk)
+                chunk, comment = [], [] if line.startswith("-- ----") else comment + [line]
+            elif line.startswith("use "):
+                self.close(chunk)
+                chunk, comment = [], []
+            elif line and not line[0].isspace() and START.match(line) and (NAMES.match(line) or "mutual" in line or "module" in line):
+                self.close(chunk)
+                chunk, comment = comment + [line], []
+            elif line.strip():
+                chunk.append(line)
+        self.close(chunk)
+
+    def close(self, chunk):
+        """Keeps a definition under each name that it has."""
+        code = [line for line in chunk if not line.lstrip().startswith("--")]
+        names = [match.group(1) for line in code if (match := NAMES.match(line))]
+        is_record = any("record " in line for line in code[:1])
+        for name in names[:1] if is_record else names:
+            self.chunks.setdefault(name, (names[0], chunk, code))
+
+
+FILES = {}
+
+
+def specs(crate, file):
+    key = crate, file
+    if key not in FILES:
+        path = ROOT / "crates" / crate / "specs" / f"{file}.antt"
+        FILES[key] = Specs(path) if path.is_file() else None
+    return FILES[key]
+
+
+def reach(words, imports, own, found):
+    """Adds the definitions that these words stand on, and then those that have these names."""
+    for word in words:
+        crate, file, name = imports.get(word) or ((*own, word) if own else (None, None, None))
+        at = specs(crate, file) if crate else None
+        while at is not None and name not in at.chunks and name in at.imports:
+            crate, file, name = at.imports[name]
+            at = specs(crate, file)
+        if at is None or name not in at.chunks:
+            continue
+        first, chunk, code = at.chunks[name]
+        key = (crate, file, first)
+        if key in found:
+            continue
+        found[key] = None
+        reach(WORD.findall("\n".join(code)), at.imports, (crate, file), found)
+        # Dependencies come first: the key moves behind them.
+        del found[key]
+        found[key] = len(chunk)
+
+
+def contract_words(call):
+    """The words of a call's clauses, or of a ghost member in these files, with the imports there."""
+    where, kind, name = call.split()
+    for path in sorted((ROOT / "crates").glob(where)):
+        text = path.read_text(encoding="utf-8")
+        imports = imports_of(text.split("\n"))
+        if kind == "fn":
+            start = re.search(rf"\bfn {name}\b", text).start()
+            body = re.search(r"^\s*\{", text[start:], re.M)
+            yield WORD.findall(text[start:start + body.start()]), imports, 0
+        else:
+            for match in re.finditer(rf"ghost {name} = \{{(.*?)\}};", text, re.S):
+                yield WORD.findall(match.group(1)), imports, match.group(0).count("\n") + 1
+
+
+def counted(number, word):
+    return f"{number} {word}" + ("" if number == 1 else "s")
+
+
+def rows(keys, found):
+    """A row for each run of definitions of one file."""
+    runs = []
+    for crate, file, name in keys:
+        place = f"`{file}.antt` of `{crate}`"
+        if not runs or runs[-1][0] != place:
+            runs.append([place, [], 0])
+        runs[-1][1].append(f"`{name}`")
+        runs[-1][2] += found[crate, file, name]
+    return [f"| {place} | {', '.join(names)} | {lines} |" for place, names, lines in runs]
+
+
+def tables():
+    """The page's part."""
+    found, out, total = {}, [], 0
+    for sentence, calls in SENTENCES:
+        before, ghosts = set(found), 0
+        for call in calls:
+            for words, imports, lines in contract_words(call):
+                ghosts += lines
+                reach(words, imports, None, found)
+        new = [key for key in found if key not in before]
+        lines = sum(found[key] for key in new)
+        total += lines + ghosts
+        said = f"{counted(len(new), 'definition')}, {counted(lines, 'line')}"
+        if ghosts:
+            said += f"; and {ghosts} ghost lines in `{calls[0].split()[0].rpartition('/')[0]}`"
+        table = ["| File | Definitions, in their order | Lines |", "|---|---|---|", *rows(new, found)]
+        out += [f"### {sentence}", "", f"{said}.", "", *table, ""]
+    out.append(f"In all {len(found)} definitions, {total} lines.")
+    return "\n".join(out)
+
+
+def main(words):
+    text = PAGE.read_text(encoding="utf-8")
+    made = f"{BEGIN}\n\n{tables()}\n\n{END}"
+    if words == ["page"]:
+        before, _, rest = text.partition(BEGIN)
+        PAGE.write_text(before + made + rest.partition(END)[2], encoding="utf-8")
+    elif words == ["check"]:
+        if made not in text:
+            sys.exit("docs/PROVED.md: the lists of definitions are not those of specs/: run docs/definitions.py page")
+    else:
+        print(tables())
+
+
+if __name__ == "__main__":
+    main(sys.argv[1:])

@@ -1,0 +1,87 @@
+#!/usr/bin/env python3
+"""The quotations of the pages: contracts and definitions as they stand in the sources.
+
+    docs/quotes.py page      puts each quotation into its page anew
+    docs/quotes.py check     fails where a page has another text, or a block of Rust that stands in no source
+
+A quotation follows a line `<!-- quotes FILE NAME.. -->`: of src/ the heads of these functions, with their contracts; of specs/
+these definitions, with their comments."""
+
+import pathlib
+import re
+import sys
+
+from definitions import ROOT, Specs
+
+PAGES = [ROOT / "README.md", *sorted((ROOT / "docs").glob("*.md"))]
+QUOTE = re.compile(r"(<!-- quotes (\S+)\s(.*?) -->\n\n```(\w+)\n)(.*?)(```\n)", re.S)
+BLOCK = re.compile(r"```rust\n(.*?)```", re.S)
+
+
+def dedented(lines):
+    """The lines without the room that all of them have in front."""
+    room = min((len(line) - len(line.lstrip()) for line in lines if line.strip()), default=0)
+    return [line[room:] for line in lines]
+
+
+def head_of(text, name):
+    """The head of a function, with its contract."""
+    lines = text.split("\n")
+    start = next(i for i, line in enumerate(lines) if re.search(rf"\bfn {name}\b", line))
+    end = next(i for i in range(start, len(lines)) if re.fullmatch(r"\s*\{(\})?", lines[i]))
+    return dedented(lines[start:end])
+
+
+def quotation(file, names):
+    path = ROOT / "crates" / file
+    if path.suffix == ".rt":
+        text = path.read_text(encoding="utf-8")
+        parts = [head_of(text, name) for name in names]
+    else:
+        chunks = Specs(path).chunks
+        parts = [chunks[name][1] for name in names]
+    return "\n\n".join("\n".join(part) for part in parts) + "\n"
+
+
+def quoted(text):
+    """The page's text with its quotations made anew."""
+    return QUOTE.sub(lambda m: m.group(1) + quotation(m.group(2), m.group(3).split()) + m.group(6), text)
+
+
+def sources():
+    """The lines of all sources, each without the room in front."""
+    for path in [*(ROOT / "crates").rglob("*"), *(ROOT / "callers").rglob("*")]:
+        if path.suffix in (".rt", ".antt", ".rs") and "/out/" not in str(path):
+            yield "\n" + "\n".join(line.strip() for line in path.read_text(encoding="utf-8").split("\n")) + "\n"
+
+
+def strangers(text, all_sources):
+    """The paragraphs of the page's Rust that stand in no source."""
+    for block in BLOCK.findall(text):
+        # A blank line, or one of two dots, stands between what is quoted.
+        for paragraph in re.split(r"\n(?:\s*\n|\s*\.\.\n)", block.strip("\n")):
+            lines = "\n" + "\n".join(line.strip() for line in paragraph.split("\n")) + "\n"
+            if not any(lines in source for source in all_sources):
+                yield paragraph
+
+
+def main(words):
+    all_sources = list(sources())
+    status = 0
+    for page in PAGES:
+        text = page.read_text(encoding="utf-8")
+        made = quoted(text)
+        if words == ["page"]:
+            page.write_text(made, encoding="utf-8")
+        elif made != text:
+            print(f"{page.name}: a quotation is not as its source: run docs/quotes.py page")
+            status = 1
+        # callers/run runs the examples of that page as they stand.
+        for paragraph in strangers(made, all_sources) if page.name != "OTHER_LANGUAGES.md" else []:
+            print(f"{page.name}: stands in no source:\n{paragraph}\n")
+            status = 1
+    return status
+
+
+if __name__ == "__main__":
+    sys.exit(main(sys.argv[1:]))

@@ -1,0 +1,199 @@
+"""The program `dagcar`, proved and built, over hostile files of blocks, and over a small one with each place failing in turn.
+
+What is wanted of a file is what `Judge` finds, which reads its framing and digests by itself; what its blocks are stands in
+`BLOCKS`, by hand. None is copied from a run."""
+
+import hashlib
+import resource
+import subprocess
+
+
+def varint(number):
+    groups = []
+    while number >= 128:
+        groups.append(number % 128 + 128)
+        number //= 128
+    return bytes([*groups, number])
+
+
+def cid(block, codec=0x71):
+    """The CID of version 1 by SHA-256."""
+    return b"\x01" + varint(codec) + b"\x12\x20" + hashlib.sha256(block).digest()
+
+
+def counted(body):
+    return varint(len(body)) + body
+
+
+def link(name):
+    return b"\xd8\x2a\x58" + bytes([len(name) + 1]) + b"\x00" + name
+
+
+def header(*roots):
+    """The header of so many roots, fewer than 24, of CIDs of 23 to 254 bytes."""
+    return b"\xa2\x65roots" + bytes([0x80 + len(roots)]) + b"".join(map(link, roots)) + b"\x67version\x01"
+
+
+def section(block, codec=0x71, name=None):
+    return counted((cid(block, codec) if name is None else name) + block)
+
+
+NUMBERS = b"\x83\x01\x02\x03"
+AWAY = cid(b"\x61a")  # names a block that no file here has
+ROOT = b"\xa2\x61a" + link(AWAY) + b"\x61b" + link(cid(NUMBERS))
+UNORDERED = b"\xa2\x61b\x01\x61a\x02"
+
+# What each block of DAG-CBOR is, and where its links lead.
+BLOCKS = {
+    NUMBERS: ("ok list", []),
+    ROOT: ("ok map", [AWAY, cid(NUMBERS)]),
+    UNORDERED: ("refused UnorderedKey", []),
+    b"\x05": ("ok integer", []),
+    b"": ("refused Eof", []),
+}
+# The roots of each header.
+HEADERS = {header(): [], header(cid(ROOT)): [cid(ROOT)], header(AWAY, cid(ROOT)): [AWAY, cid(ROOT)]}
+# Why other headers are none.
+NO_HEADERS = {b"": "NoBlock", header()[:-1] + b"\x02": "OtherHeader", header()[:-1]: "NoBlock", NUMBERS: "OtherHeader"}
+
+
+class Refusal(Exception):
+    """The variant of `CarError`."""
+
+
+class Judge:
+    """What is to be said of the bytes."""
+
+    def __init__(self, bytes_):
+        self.bytes, self.at = bytes_, 0
+        self.checked, self.listed, self.linked, self.held, self.is_well = [], [], set(), set(), True
+        self.refusal = []
+        try:
+            self.header()
+            while self.at < len(bytes_):
+                self.section()
+        except Refusal as refusal:
+            self.refusal = [f"refused {refusal}"]
+
+    @staticmethod
+    def number(bytes_, at):
+        """A varint in shortest form below 2^64, and the place behind it; a word where none stands."""
+        number = 0
+        for count, byte in enumerate(bytes_[at : at + 10]):
+            number += (byte & 127) << 7 * count
+            if byte < 128:
+                return (number, at + count + 1) if (byte or not count) and number < 1 << 64 else ("invalid", at)
+        return ("cut" if len(bytes_) - at < 10 else "invalid"), at
+
+    def counted(self):
+        count, at = self.number(self.bytes, self.at)
+        if count == "invalid":
+            raise Refusal("InvalidLength")
+        if count == "cut" or len(self.bytes) - at < count:
+            raise Refusal("Truncated")
+        self.at = at + count
+        return self.bytes[at : self.at]
+
+    def header(self):
+        block = self.counted()
+        if block in NO_HEADERS:
+            raise Refusal(NO_HEADERS[block])
+        self.linked.update(HEADERS[block])
+        self.listed += [f"root {root.hex()}" for root in HEADERS[block]]
+
+    def section(self):
+        body = self.counted()
+        codec, hash_code, digest, end = self.name(body)
+        found = self.verdict(codec, hash_code, digest, body[end:])
+        self.is_well = self.is_well and (found == "not read" or found.startswith("ok "))
+        self.checked.append(f"{body[:end].hex()} {found}")
+        self.listed.append(f"{body[:end].hex()} {len(body) - end}")
+        if found not in ("other bytes", "not verified"):
+            self.held.add(body[:end])
+        if found.startswith("ok "):
+            self.linked.update(BLOCKS[body[end:]][1])
+
+    def name(self, body):
+        if body[:2] == b"\x12\x20" and len(body) >= 34:
+            return 0x70, 0x12, body[2:34], 34
+        if body[:1] != b"\x01":
+            raise Refusal("InvalidCid")
+        at, numbers = 1, []
+        for _ in range(3):
+            number, at = self.number(body, at)
+            if number in ("cut", "invalid"):
+                raise Refusal("InvalidCid")
+            numbers.append(number)
+        if numbers[2] > 64 or len(body) - at < numbers[2]:
+            raise Refusal("InvalidCid")
+        return numbers[0], numbers[1], body[at : at + numbers[2]], at + numbers[2]
+
+    @staticmethod
+    def verdict(codec, hash_code, digest, block):
+        if hash_code not in (0x12, 0):
+            return "not verified"
+        if digest != (hashlib.sha256(block).digest() if hash_code else block):
+            return "other bytes"
+        return BLOCKS[block][0] if codec == 0x71 else "not read"
+
+    def wanted(self, command):
+        """The status and the output."""
+        if command == "list":
+            lines, status = self.listed + self.refusal, 1 if self.refusal else 0
+        else:
+            # The order of CIDs: these here are all of version 1, of one codec and by one hash function.
+            missing = [] if self.refusal else sorted(self.linked - self.held)
+            lines = self.checked + self.refusal + [f"missing {it.hex()}" for it in missing]
+            status = 0 if self.is_well and not missing and not self.refusal else 1
+        return status, "".join(it + "\n" for it in lines).encode()
+
+
+SMALL = counted(header(cid(ROOT))) + section(ROOT) + section(NUMBERS)
+RAW_NOTHING = section(b"", codec=0x55)
+LENGTHS = (1 << 63, (1 << 64) - 1, 1 << 64, 1 << 69, (1 << 63) - 1)
+TAILS = (b"", b"\x01", section(NUMBERS))
+
+
+def files():
+    """What each kind of file is, and the files."""
+    yield "each front of a small file", [SMALL[:end] for end in range(len(SMALL) + 1)]
+    long = [varint(it) + tail for it in LENGTHS for tail in TAILS]
+    yield "lengths of 2^63 and more", [front + it for front in (b"", counted(header()), SMALL) for it in long]
+    padded = [b"\x80\x00", b"\x84\x00" + NUMBERS, b"\xff" * 10 + b"\x01", b"\x80" * 9 + b"\x02", b"\x80" * 9]
+    yield "lengths that are none", [front + it for front in (b"", SMALL) for it in padded]
+    nothing = [RAW_NOTHING, section(b""), section(b"", name=b"\x01\x71\x00\x00"), section(b"", name=b"\x01\x55\x00\x00")]
+    yield "100,000 sections of no block", [counted(header()) + it * 100_000 for it in nothing]
+    yield "100,000 sections of no name", [counted(header()) + b"\x00" * 100_000, SMALL + b"\x00" * 100_000]
+    repeated = [section(ROOT), section(NUMBERS), section(UNORDERED), section(NUMBERS, name=AWAY)]
+    yield "sections that repeat", [counted(header(AWAY, cid(ROOT))) + it * 1000 + it for it in repeated] + [
+        counted(header(cid(ROOT))) + b"".join(repeated) * 300
+    ]
+    names = (b"\x02\x71\x12\x00", b"\x01\x71\x12\x41", b"\x01\xf1\x00\x12\x00", b"\x12\x20\x00", b"\x01\x71", b"\x01\x71\x12\x20")
+    yield "names that are none", [SMALL + section(NUMBERS, name=it) for it in names]
+    yield "headers that are none", [counted(it) + section(NUMBERS) for it in NO_HEADERS]
+    rows = [(b"\x05", b"\x01\x71\x00\x01\x05"), (b"\x05", b"\x01\x71\x13\x01\x05"), (b"\x05", b"\x01\x71\x00\x01\x06")]
+    yield "other hash functions", [counted(header()) + b"".join(section(block, name=name) for block, name in rows)]
+
+
+def limit():
+    """Room for the program, and for nothing that is taken from a length."""
+    resource.setrlimit(resource.RLIMIT_AS, (1 << 28, 1 << 28))
+
+
+def sweep_files(path, report):
+    """Each file is judged as it must be, with little room."""
+    for name, given in files():
+        wrong = []
+        for number, file in enumerate(given):
+            for command in ("check", "list"):
+                how = {"input": file, "capture_output": True, "preexec_fn": limit, "timeout": 60}
+                ran = subprocess.run([path, command], check=False, **how)
+                wanted = Judge(file).wanted(command)
+                if (ran.returncode, ran.stdout) != wanted or ran.stderr:
+                    wrong.append((command, number, ran.returncode, ran.stdout[-80:], ran.stderr))
+        report(f"dagcar, {name}", 2 * len(given), wrong)
+
+
+def wanted_of_small():
+    """What each command answers of the small file."""
+    return {command: Judge(SMALL).wanted(command) for command in ("check", "list")}

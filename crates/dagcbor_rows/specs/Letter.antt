@@ -4,15 +4,18 @@ use Rattle.std.specs.Str.{bytes_eq}
 use Rattle.serde_ipld_dagcbor.specs.Tree.{Tree}
 use Rattle.serde_ipld_dagcbor.specs.Shapes.{Shape, takes_none}
 use Rattle.serde_ipld_dagcbor.specs.EnumViews.{EnumShape, enum_of}
-use Rattle.dagcbor_rows.specs.declared.tests.by_hand.enum_struct.Enum.{Enum}
-use Rattle.dagcbor_rows.specs.declared.tests.by_hand.enum_struct.Enum.TheVariants.{A, B}
+
+-- The view of the enum, since a spec beside tests cannot name a type that the tests alone declare.
+pub data Letter : Type 0 where
+  is_a : Letter
+  is_b : Letter
 
 -- what a variant's name alone makes
-abbrev pub unit_letter : List ℕ → Option Enum
-unit_letter name = if bytes_eq name (codes "A") then Some A else if bytes_eq name (codes "B") then Some B else None
+abbrev pub unit_letter : List ℕ → Option Letter
+unit_letter name = if bytes_eq name (codes "A") then Some is_a else if bytes_eq name (codes "B") then Some is_b else None
 
 -- what the tree behind a variant's name makes
-abbrev pub part_letter : List ℕ → Tree → Option Enum
+abbrev pub part_letter : List ℕ → Tree → Option Letter
 part_letter name t = None
 
 -- the steps that reading that tree takes
@@ -20,9 +23,9 @@ abbrev pub need_part_letter : List ℕ → Tree → ℕ
 need_part_letter name t = 0
 
 -- the variants of the enum
-abbrev pub letter_variants : EnumShape Enum
+abbrev pub letter_variants : EnumShape Letter
 letter_variants = record { unit = unit_letter; part = part_letter; need = need_part_letter; wants_loan = false; memory = takes_none }
 
 -- what the enum reads
-abbrev pub letter_shape : Shape Tree Enum
+abbrev pub letter_shape : Shape Tree Letter
 letter_shape = enum_of letter_variants

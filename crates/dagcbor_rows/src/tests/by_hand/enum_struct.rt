@@ -3,9 +3,9 @@
 ghost use Rattle.std.specs.Prelude.{Some, [], ◌∷◌, codes};
 ghost use Rattle.serde_ipld_dagcbor.specs.Tree.{text, entries_tree};
 ghost use Rattle.serde_ipld_dagcbor.specs.Trees.{field};
-ghost use Rattle.dagcbor_rows.specs.Letter.{letter_variants, letter_shape};
+ghost use Rattle.dagcbor_rows.specs.Letter.{Letter, is_a, is_b, letter_variants};
+ghost use Rattle.dagcbor_rows.specs.Letter.{letter_shape};
 ghost use Rattle.dagcbor_rows.specs.EnumStruct.{enum_struct_shape};
-ghost use Rattle.dagcbor_rows.specs.declared.tests.by_hand.enum_struct.Enum.{Enum};
 ghost use Rattle.dagcbor_rows.specs.declared.tests.by_hand.enum_struct.Enum.TheVariants.{A};
 ghost use Rattle.dagcbor_rows.specs.declared.tests.by_hand.enum_struct.Enum.TheVariants.{B};
 
@@ -34,17 +34,17 @@ impl Serialize for Enum {
 }
 
 impl Shown for Enum {
-    ghost View = { Enum };
+    ghost View = { Letter };
 
-    ghost meaning = { λ e. e };
+    ghost meaning = { λ e. elim e [ A ↦ is_a | B ↦ is_b ] };
 
     ghost shape = { letter_shape };
 }
 
 impl<'de> Variants<'de> for Enum {
-    ghost View = { Enum };
+    ghost View = { Letter };
 
-    ghost meaning = { λ e. e };
+    ghost meaning = { λ e. elim e [ A ↦ is_a | B ↦ is_b ] };
 
     ghost shape = { letter_variants };
 
@@ -88,9 +88,9 @@ impl Serialize for EnumStruct {
 }
 
 impl Shown for EnumStruct {
-    ghost View = { Enum × Unit {0} };
+    ghost View = { Letter × Unit {0} };
 
-    ghost meaning = { λ s. (s.e, tt) };
+    ghost meaning = { λ s. (⟦<Enum as Shown>⟧.meaning s.e, tt) };
 
     ghost shape = { enum_struct_shape };
 }

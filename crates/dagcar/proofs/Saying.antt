@@ -19,12 +19,13 @@ use Rattle.dagcbor_car.specs.declared.check.CarCheck.{CarCheck}
 use Rattle.dagcbor_car.specs.declared.error.CarError.{CarError}
 use Rattle.dagcbor_car.specs.declared.error.CarError.TheVariants as faults
 use Rattle.dagcbor_car.proofs.Files.{front_more, whole_car, no_car, no_car_behind}
-use Rattle.dagcar.specs.Lines.{told_line, missing_line, refused_line, is_well, BreaksLine, WritesFront, Says, SaysLines}
+use Rattle.dagcar.specs.Lines.{told_line, missing_line, refused_line, is_well, BreaksLine, Says, SaysLines}
+use Rattle.dagcbor_cli.specs.Writing.{WritesFront}
 use Rattle.dagcar.specs.Answers.{IsVerdictLine, check_speech}
 use Rattle.dagcar.specs.Speeches.{Speech, IsSaidOfEach, IsSaidSoFar, IsSaidOfFile, IsSaidOfNone, IsSaidOf, AreFirstLines, AreLines, BreaksOff, SaysFile}
 use Rattle.dagcar.specs.Steps.{KnowsMore, IsOfBytes, SaysRefusal, SaysFound, IsNextLine, SaysEnd, SaysSection, TellsEnd}
-use Rattle.dagcar.specs.declared.line.ToolError.{ToolError}
-use Rattle.dagcar.specs.declared.line.ToolError.TheVariants.{Output}
+use Rattle.dagcbor_cli.specs.declared.fault.ToolError.{ToolError}
+use Rattle.dagcbor_cli.specs.declared.fault.ToolError.TheVariants.{Output}
 use Rattle.dagcar.specs.declared.walk.Found.TheVariants as found
 
 -- ---- how a line goes out

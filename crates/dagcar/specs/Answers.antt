@@ -24,7 +24,7 @@ use Rattle.dagcar.specs.Lines.{line, told_line, listed_line, missing_line, root_
 use Rattle.dagcar.specs.Speeches.{Speech, SaysBytes}
 use Rattle.dagcar.specs.declared.command.Command.{Command}
 use Rattle.dagcar.specs.declared.command.Command.TheVariants as commands
-use Rattle.dagcar.specs.declared.line.ToolError.{ToolError}
+use Rattle.dagcbor_cli.specs.declared.fault.ToolError.{ToolError}
 
 -- ---- a file
 

@@ -11,8 +11,8 @@ use Rattle.dagcbor_car.specs.declared.verdict.Verdict.{Verdict}
 use Rattle.dagcbor_car.specs.declared.verdict.Verdict.TheVariants as verdicts
 use Rattle.dagcbor_items.specs.PrintedNames.{kind_name, variant_name}
 use Rattle.dagcar.specs.Names.{fault_name}
-use Rattle.dagcar.specs.declared.line.ToolError.{ToolError}
-use Rattle.dagcar.specs.declared.line.ToolError.TheVariants.{Output}
+use Rattle.dagcbor_cli.specs.declared.fault.ToolError.{ToolError}
+use Rattle.dagcbor_cli.specs.declared.fault.ToolError.TheVariants.{Output}
 
 -- what is said, and a line feed
 abbrev pub line : List ℕ → List ℕ
@@ -55,12 +55,6 @@ root_line = named_line (codes "root ")
 -- of a file that is refused
 abbrev pub refused_line : {E : Type 0} → CarError E → List ℕ
 refused_line e = line (codes "refused " ++ fault_name e)
-
--- a front of the bytes was given to the writer, and all of them on `Ok`
-abbrev pub WritesFront : {A E : Type 0} → Option (List ℕ) → Option (List ℕ) → Result A E → List ℕ
-    → Type 0
-WritesFront old new r bytes = (front back : List ℕ) × (bytes ≡ front ++ back)
-    × Appends old new front × OnOk r (back ≡ [])
 
 -- nothing more went out; or the device failed, and of one of these lines a front did
 abbrev pub BreaksLine : (List ℕ → Type 0) → Option (List ℕ) → Option (List ℕ) → ToolError → Type 0

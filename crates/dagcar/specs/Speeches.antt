@@ -9,8 +9,8 @@ use Rattle.dagcbor_car.specs.Sources.{RefusesHeader, RefusesSection}
 use Rattle.dagcbor_car.specs.Checks.{IsCarFront, IsNoCar}
 use Rattle.dagcbor_car.specs.declared.error.CarError.{CarError}
 use Rattle.dagcar.specs.Lines.{refused_line}
-use Rattle.dagcar.specs.declared.line.ToolError.{ToolError}
-use Rattle.dagcar.specs.declared.line.ToolError.TheVariants.{Output}
+use Rattle.dagcbor_cli.specs.declared.fault.ToolError.{ToolError}
+use Rattle.dagcbor_cli.specs.declared.fault.ToolError.TheVariants.{Output}
 
 -- What a command says of a file; and whether that tells of nothing wrong.
 pub record Speech : Type 1 where

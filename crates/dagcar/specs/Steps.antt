@@ -12,7 +12,7 @@ use Rattle.dagcbor_car.specs.declared.error.CarError.{CarError}
 use Rattle.dagcbor_car.specs.declared.error.CarError.TheVariants as faults
 use Rattle.dagcar.specs.Lines.{refused_line, BreaksLine, Says}
 use Rattle.dagcar.specs.Speeches.{Speech, SaysFile}
-use Rattle.dagcar.specs.declared.line.ToolError.{ToolError}
+use Rattle.dagcbor_cli.specs.declared.fault.ToolError.{ToolError}
 use Rattle.dagcar.specs.declared.walk.Found.{Found}
 use Rattle.dagcar.specs.declared.walk.Found.TheVariants as found
 

@@ -7,8 +7,9 @@ ghost use Rattle.dagcbor_items.specs.PrintedNames.{variant_name};
 ghost use Rattle.dagcar.specs.Lines.{line, Says};
 ghost use Rattle.dagcar.specs.Answers.{IsJudged, IsNamed, SaidOf};
 
-use crate::line::{Said, ToolError, line_of, say};
+use crate::line::{Said, line_of, say};
 use dagcbor_car::name_of_block;
+use dagcbor_cli::ToolError;
 use dagcbor_heads::DecodeError;
 use dagcbor_items::{check_slice, kind_name, variant_name};
 use ipld_tree::Cid;

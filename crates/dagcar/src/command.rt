@@ -4,14 +4,14 @@ ghost use Rattle.std.specs.Prelude.{◌≡◌, ◌≢◌, map, string_bytes, IfS
 ghost use Rattle.dagcbor_heads.specs.Inputs.{input_reading, not_lending};
 ghost use Rattle.dagcar.specs.Answers.{RunsCommand, EndsSo};
 ghost use Rattle.dagcar.specs.Speeches.{SaysBytes};
-ghost use Rattle.dagcar.specs.declared.line.ToolError.{ToolError};
+ghost use Rattle.dagcbor_cli.specs.declared.fault.ToolError.{ToolError};
 ghost use Rattle.dagcar.specs.Commands.{command_name, IsCommand};
 
 use crate::block::{say_kind, say_name};
-use crate::line::{ToolError, write_all};
 use crate::list::Listing;
 use crate::walk::{Teller, say_file};
 use dagcbor_car::CarCheck;
+use dagcbor_cli::{ToolError, give_up};
 use dagcbor_heads::{Input, IoRefReader, Read};
 use std::alloc::Global;
 use std::io::{BufRead, Write};
@@ -58,14 +58,6 @@ fn command_of(args: &[String]) -> Option<Command>
         [word] => command_named(word.as_str()),
         _ => None,
     }
-}
-
-/// Tells a line on `errors`, and answers the status. A fault in telling it is not told.
-pub fn give_up<W: Write>(errors: &mut W, line: &str, status: u8) -> u8
-    ensures { result ≡ status }
-{
-    let _ = write_all(errors, line.as_bytes());
-    status
 }
 
 /// The status of a run that ended so. A fault is told on `errors`.

@@ -1,54 +1,22 @@
-//! Bytes to any writer, and the lines that the program writes. A write that was interrupted is not
-//! made again.
+//! The lines that the program writes.
 
-ghost use Rattle.std.specs.Prelude.{◌≡◌, ◌++◌, codes, IfOk, IfErr, List, ℕ};
+ghost use Rattle.std.specs.Prelude.{◌≡◌, ◌++◌, codes, IfOk, List, ℕ};
 ghost use Rattle.std.specs.List.{flat_map};
 ghost use Rattle.hex.specs.Hex.{encode_lower};
 ghost use Rattle.ipld_tree.specs.Cid.{cid_bytes};
 ghost use Rattle.dagcbor_items.specs.Walks.{forms};
-ghost use Rattle.dagcar.specs.declared.line.ToolError.TheVariants.{Output, OutOfMemory};
 ghost use Rattle.dagcar.specs.Lines.{line, listed_line, named_line};
-ghost use Rattle.dagcar.specs.Lines.{missing_line, root_line, refused_line, WritesFront, SaysLines};
+ghost use Rattle.dagcar.specs.Lines.{missing_line, root_line, refused_line, SaysLines};
 
 use crate::names::fault_name;
 use dagcbor_car::CarError;
+use dagcbor_cli::{ToolError, write_all};
 use ipld_tree::Cid;
 use std::alloc::{AllocError, Global};
 use std::io::Write;
 
-/// Why a run ended before its input did.
-#[derive(Debug, Drop)]
-pub enum ToolError {
-    Input,
-    Output,
-    OutOfMemory,
-}
-
-impl From<AllocError> for ToolError {
-    ghost from_gives = { λ _ e. e ≡ OutOfMemory };
-
-    fn from(_e: AllocError) -> ToolError {
-        ToolError::OutOfMemory
-    }
-}
-
 /// Lines, and whether they tell of nothing wrong.
 pub type Said = (Vec<u8>, bool);
-
-/// Writes all of the bytes.
-pub fn write_all<W: Write>(writer: &mut W, bytes: &[u8]) -> Result<(), ToolError>
-    ensures fault { IfErr result (λ e. e ≡ Output) }
-    ensures written { WritesFront (W.contents writer.old) (W.contents writer.new) result bytes.now }
-{
-    let mut rest = bytes;
-    while !rest.is_empty() {
-        match writer.write(rest) {
-            Ok(0) | Err(_) => return Err(ToolError::Output),
-            Ok(n) => rest = &rest[n..],
-        }
-    }
-    Ok(())
-}
 
 /// Writes the lines, and answers whether they tell of nothing wrong.
 pub fn say<W: Write>(said: Said, output: &mut W) -> Result<bool, ToolError>

@@ -9,20 +9,10 @@ mod list;
 mod names;
 mod walk;
 
-use command::{OUT_OF_MEMORY, USAGE, give_up, run_command};
+use command::{OUT_OF_MEMORY, USAGE, run_command};
+use dagcbor_cli::{arguments, give_up};
 use std::io::{BufReader, ErrorKind};
 use std::process::ExitCode;
-use std::rt::Env;
-use std::{env, io};
-
-/// The arguments behind the program's name.
-fn arguments(rt: &(impl Env + AllocGlobal)) -> io::Result<Vec<String>> {
-    let mut words = Vec::new(rt.alloc());
-    for word in env::args(rt)?.skip(1) {
-        words.push(word)?;
-    }
-    Ok(words)
-}
 
 fn main(rt: HostRuntime) -> ExitCode {
     let mut errors = rt.stderr().lock();

@@ -1,94 +1,10 @@
 //! The program's lines, words and faults. The expected lines are made by another program.
 
 use super::*;
+use dagcbor_cli::{Pieces, Stingy};
 use std::alloc::Global;
-use std::io::{BufRead, Read, Write};
+use std::io::{BufRead, Write};
 use std::test::Fail;
-
-/// Shows so many bytes a fill, and fails in this way at one of its fills.
-#[derive(Drop)]
-struct Pieces<'a> {
-    bytes: &'a [u8],
-    size: usize,
-    fills: usize,
-    faulty: usize,
-    fault: ErrorKind,
-}
-
-impl<'a> Pieces<'a> {
-    fn new(bytes: &'a [u8], size: usize, faulty: usize, fault: ErrorKind) -> Pieces<'a> {
-        Pieces {
-            bytes,
-            size,
-            fills: 0,
-            faulty,
-            fault,
-        }
-    }
-}
-
-impl Read for Pieces<'_> {
-    fn read(&mut self, _buf: &mut [u8]) -> io::Result<usize> {
-        Ok(0)
-    }
-}
-
-impl BufRead for Pieces<'_> {
-    fn fill_buf(&mut self) -> io::Result<&[u8]> {
-        self.fills = self.fills.saturating_add(1);
-        if self.fills == self.faulty {
-            return Err(io::Error::from(self.fault));
-        }
-        let size = self.size.min(self.bytes.len());
-        Ok(&self.bytes[..size])
-    }
-
-    fn consume(&mut self, amount: usize) {
-        if amount <= self.bytes.len() {
-            self.bytes = &self.bytes[amount..];
-        }
-    }
-}
-
-/// Takes one byte a call. Where it is full, it takes none, or fails.
-#[derive(Drop)]
-struct Stingy {
-    held: Vec<u8>,
-    room: usize,
-    fault: Option<ErrorKind>,
-}
-
-impl Stingy {
-    fn new(alloc: Global, room: usize, fault: Option<ErrorKind>) -> Stingy {
-        Stingy {
-            held: Vec::new(alloc),
-            room,
-            fault,
-        }
-    }
-}
-
-impl Write for Stingy {
-    fn write(&mut self, buf: &[u8]) -> io::Result<usize> {
-        if self.held.len() >= self.room {
-            return match self.fault {
-                Some(fault) => Err(io::Error::from(fault)),
-                None => Ok(0),
-            };
-        }
-        match buf {
-            [] => Ok(0),
-            [first, ..] => {
-                self.held.push(*first)?;
-                Ok(1)
-            }
-        }
-    }
-
-    fn flush(&mut self) -> io::Result<()> {
-        Ok(())
-    }
-}
 
 /// A file whose root links to its second section; the third is of another codec.
 const GOOD: &[u8] =
@@ -256,8 +172,8 @@ fn faults_are_told(rt: HostRuntime) -> Result<(), Fail> {
             let ended = run_words(alloc, &[word], &mut &GOOD[..], &mut full, &mut errors)?;
             assert_eq!(rt; ended, 2);
             assert_eq!(rt; errors.as_slice(), b"dagcar: output failed\n".as_slice());
-            assert!(rt; lines.starts_with(full.held.as_slice()));
-            assert_eq!(rt; full.held.len(), room);
+            assert!(rt; lines.starts_with(full.held()));
+            assert_eq!(rt; full.held().len(), room);
         }
     }
     Ok(())

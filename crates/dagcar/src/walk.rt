@@ -8,8 +8,9 @@ ghost use Rattle.dagcar.specs.Speeches.{Speech, SaysFile};
 ghost use Rattle.dagcar.specs.Steps.{KnowsMore, TellsEnd, SaysSection, SaysRefusal, SaysNext};
 ghost use Rattle.dagcar.specs.Steps.{SaysEnd, SaysSections, SaysHeader};
 
-use crate::line::{Said, ToolError, refused_line, say, write_all};
+use crate::line::{Said, refused_line, say};
 use dagcbor_car::{CarError, Section, pull_header, pull_section};
+use dagcbor_cli::{ToolError, write_all};
 use dagcbor_heads::{Input, Read};
 use ipld_tree::Cid;
 use std::alloc::{AllocError, Global};

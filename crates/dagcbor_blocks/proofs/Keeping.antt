@@ -30,7 +30,7 @@ use Rattle.dagcbor_car.specs.Sets.{Among}
 use Rattle.dagcbor_car.specs.Splits.{HasBlock}
 use Rattle.dagcbor_blocks.specs.Steps.{HasTree, DepthRefused, Stores}
 use Rattle.dagcbor_blocks.proofs.Unique.{front_unique, whole_front}
-use Rattle.dagcbor_blocks.proofs.Missing.{same_at}
+use Rattle.dagcbor_car.proofs.Members.{same_at}
 use Rattle.dagcbor_blocks.specs.declared.error.BlockError.{BlockError}
 use Rattle.dagcbor_blocks.specs.declared.error.BlockError.TheVariants.{Encode, Decode, Collision, OutOfMemory}
 use Rattle.serde_ipld_dagcbor.specs.Reading.{default_steps}

@@ -31,8 +31,9 @@ use Rattle.dagcbor_blocks.specs.declared.error.BlockError.{BlockError}
 use Rattle.dagcbor_blocks.specs.declared.error.BlockError.TheVariants.{OutOfMemory}
 use Rattle.dagcbor_blocks.proofs.Unique.{front_unique, cid_unique, whole_front}
 use Rattle.dagcbor_blocks.proofs.Keeping.{BlockEntry, shown}
-use Rattle.dagcbor_blocks.proofs.Members.{among_map, map_among, all_among, found_among}
-use Rattle.dagcbor_blocks.proofs.Missing.{same_at, among_push, push_among, AddedSoFar}
+use Rattle.dagcbor_blocks.proofs.Members.{all_among, found_among}
+use Rattle.dagcbor_car.proofs.Members.{among_map, map_among, among_push, push_among, same_at}
+use Rattle.dagcbor_blocks.proofs.Missing.{AddedSoFar}
 
 -- ---- lists
 

@@ -9,17 +9,7 @@ use Rattle.serde_ipld_dagcbor.specs.Cid.{CidParts, cid_cmp}
 use Rattle.dagcbor_car.specs.Sets.{Among}
 use Rattle.dagcbor_blocks.specs.Blocks.{block_at, FindsMembers}
 use Rattle.dagcbor_blocks.proofs.Keeping.{BlockEntry, shown, block_found}
-use Rattle.dagcbor_blocks.proofs.Missing.{at_same, same_at, cid_equal}
-
-pub among_map : {X Y : Type 0} (f : X → Y) (x : X) (xs : List X) → Among x xs → Among (f x) (map f xs)
-among_map f x (y ∷ ys) (inl e) = inl (ap f e)
-among_map f x (y ∷ ys) (inr h) = inr (among_map f x ys h)
-among_map f x [] h = absurd h
-
-pub map_among : {X Y : Type 0} (f : X → Y) (y : Y) (xs : List X) → Among y (map f xs) → (x : X) × Among x xs × (y ≡ f x)
-map_among f y [] h = absurd h
-map_among f y (x ∷ xs) (inl e) = (x, inl refl, e)
-map_among f y (x ∷ xs) (inr h) = let k = map_among f y xs h in (k.0, inr k.1, k.2)
+use Rattle.dagcbor_car.proofs.Members.{at_same, same_at, cid_equal, among_map, map_among}
 
 pub all_among : {X : Type 0} (P : X → Type 0) (xs : List X) (x : X) → AllByRecursion P xs → Among x xs → P x
 all_among P [] x h m = absurd m

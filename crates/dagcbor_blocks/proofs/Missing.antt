@@ -1,59 +1,15 @@
 -- Links that name no held block.
-use Rattle.std.proofs.Common.{◌≡◌, ◌⊎◌, inl, inr, ℕ, ◌+◌, ◌<◌, ◌≤◌, List, [], ◌∷◌, ◌++◌, length, get_or, take, Bool, true, false, ◌||◌, cond, Ordering, Less, Equal, Greater, refl, sym, ap, ◌∙◌, subst, arith, add-one}
+use Rattle.std.proofs.Common.{◌≡◌, ◌⊎◌, inl, inr, ℕ, ◌+◌, ◌<◌, ◌≤◌, List, [], ◌∷◌, ◌++◌, length, get_or, take, Bool, true, false, cond, refl, sym, ap, ◌∙◌, subst, arith, add-one}
 use Rattle.std.specs.Prelude.{◌↔◌, Option, None, Some, is_some, Ok}
-use Rattle.std.specs.Ordering.{nat_cmp, ordering_then, ordering_reverse, is_eq}
-use Rattle.std.specs.Cmp.Lexicographic.{slice_cmp}
-use Rattle.std.specs.List.{AllByRecursion, list_any}
+use Rattle.std.specs.List.{AllByRecursion}
 use Rattle.std.specs.BTreeMap.{BTreeMap, is_at, get}
 use Rattle.std.specs.BTreeSet as set
 use Rattle.std.specs.BTreeSet.{BTreeSet}
 use Rattle.std.proofs.Math.Seq.{take-suc, take-length}
-use Rattle.std.proofs.lemmas.Cmp.{nat_cmp_total, nat_list_cmp_total}
 use Rattle.serde_ipld_dagcbor.specs.Cid.{CidParts, AreCidParts, cid_cmp}
-use Rattle.serde_ipld_dagcbor.specs.CidHash.{same_cid, is_equal}
 use Rattle.dagcbor_car.specs.Sets.{Among}
+use Rattle.dagcbor_car.proofs.Members.{at_same, same_at, any_among, among_any, among_push, push_among}
 use Rattle.dagcbor_blocks.specs.Steps.{IsUnheld, AddsOne}
-
--- ---- the order of CIDs
-
-self_equal : (o : Ordering) → o ≡ ordering_reverse o → o ≡ Equal
-self_equal Less e = absurd (cc e)
-self_equal Equal e = refl
-self_equal Greater e = absurd (cc e)
-
-then_equal : (a b : Ordering) → a ≡ Equal → b ≡ Equal → ordering_then a b ≡ Equal
-then_equal a b e f = ap (λ o. ordering_then o b) e ∙ f
-
-number_equal : (n : ℕ) → nat_cmp n n ≡ Equal
-number_equal n = self_equal (nat_cmp n n) (nat_cmp_total.antisymm n n)
-
-pub cid_equal : (q : CidParts) → cid_cmp q q ≡ Equal
-cid_equal q = then_equal _ _ (number_equal q.version) (then_equal _ _ (number_equal q.codec) (then_equal _ _ (number_equal q.hash_code) (self_equal (slice_cmp nat_cmp q.digest q.digest) (nat_list_cmp_total.antisymm q.digest q.digest))))
-
-pub at_same : (q k : CidParts) → is_at (cid_cmp q) k ≡ true → q ≡ k
-at_same q k h = same_cid q k (is_equal (cid_cmp q k) h)
-
-pub same_at : (q k : CidParts) → q ≡ k → is_at (cid_cmp q) k ≡ true
-same_at q k e = ap is_eq (ap (cid_cmp q) (sym e) ∙ cid_equal q)
-
--- ---- sets
-
-pub any_among : (q : CidParts) (ks : List CidParts) → list_any (is_at (cid_cmp q)) ks ≡ true → Among q ks
-any_among q [] h = absurd (cc h)
-any_among q (k ∷ ks) h = by (is_at (cid_cmp q) k) refl h (λ m. any_among q ks m)
-  where
-    by : (b : Bool) → is_at (cid_cmp q) k ≡ b → (b || list_any (is_at (cid_cmp q)) ks) ≡ true → (list_any (is_at (cid_cmp q)) ks ≡ true → Among q ks) → Among q (k ∷ ks)
-    by true t m f = inl (at_same q k t)
-    by false t m f = inr (f m)
-
-pub among_any : (q : CidParts) (ks : List CidParts) → Among q ks → list_any (is_at (cid_cmp q)) ks ≡ true
-among_any q [] h = absurd h
-among_any q (k ∷ ks) (inl e) = ap (λ b. b || list_any (is_at (cid_cmp q)) ks) (same_at q k e)
-among_any q (k ∷ ks) (inr h) = by (is_at (cid_cmp q) k) (among_any q ks h)
-  where
-    by : (b : Bool) → list_any (is_at (cid_cmp q)) ks ≡ true → (b || list_any (is_at (cid_cmp q)) ks) ≡ true
-    by true m = refl
-    by false m = m
 
 -- ---- one link
 
@@ -99,19 +55,6 @@ put_link blocks link old new valid free put = (
     back q (inr u) = ap (λ b. cond b true (set.contains cid_cmp old q)) (same_at link q (sym u.0))
 
 -- ---- many links
-
-pub among_push : {X : Type 0} (x : X) (xs : List X) (y : X) → Among x (xs ++ y ∷ []) → Among x xs ⊎ (x ≡ y)
-among_push x [] y (inl e) = inr e
-among_push x [] y (inr h) = absurd h
-among_push x (z ∷ zs) y (inl e) = inl (inl e)
-among_push x (z ∷ zs) y (inr h) = elim (among_push x zs y h) [ inl m ↦ inl (inr m) | inr e ↦ inr e ]
-
-pub push_among : {X : Type 0} (x : X) (xs : List X) (y : X) → Among x xs ⊎ (x ≡ y) → Among x (xs ++ y ∷ [])
-push_among x [] y (inl h) = absurd h
-push_among x [] y (inr e) = inl e
-push_among x (z ∷ zs) y (inl (inl e)) = inl e
-push_among x (z ∷ zs) y (inl (inr h)) = inr (push_among x zs y (inl h))
-push_among x (z ∷ zs) y (inr e) = inr (push_among x zs y (inr e))
 
 all_push : (xs : List CidParts) (y : CidParts) → AllByRecursion AreCidParts xs → AreCidParts y → AllByRecursion AreCidParts (xs ++ y ∷ [])
 all_push [] y h p = (p, tt)

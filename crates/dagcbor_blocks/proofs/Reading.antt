@@ -10,7 +10,7 @@ use Rattle.dagcbor_car.specs.Sets.{Among}
 use Rattle.dagcbor_car.specs.Sources.{TakesHeader, TakesSectionBytes}
 use Rattle.dagcbor_blocks.specs.Blocks.{Held, block_at, HoldsAlso}
 use Rattle.dagcbor_blocks.specs.Cars.{IsNamedBlock, IsReadTo, TakesCar, KeepsAll}
-use Rattle.dagcbor_blocks.proofs.Missing.{among_push, push_among}
+use Rattle.dagcbor_car.proofs.Members.{among_push, push_among}
 
 -- ---- what is held
 

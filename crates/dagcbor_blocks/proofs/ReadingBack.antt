@@ -31,7 +31,8 @@ use Rattle.dagcbor_blocks.specs.Laws.{IsReadBack, WrittenThenRead}
 use Rattle.dagcbor_blocks.specs.declared.car_error.ReadCarError.{ReadCarError}
 use Rattle.dagcbor_blocks.specs.declared.car_error.ReadCarError.TheVariants.{Car, OtherHash, OtherBytes, OtherCodec, NoBlock, Collision, OutOfMemory}
 use Rattle.dagcbor_blocks.proofs.Keeping.{BlockEntry, shown}
-use Rattle.dagcbor_blocks.proofs.Members.{map_among, all_among, finds_members}
+use Rattle.dagcbor_car.proofs.Members.{map_among}
+use Rattle.dagcbor_blocks.proofs.Members.{all_among, finds_members}
 
 -- ---- the same blocks
 

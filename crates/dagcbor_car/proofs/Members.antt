@@ -73,16 +73,16 @@ then_equal a b e f = ap (λ o. ordering_then o b) e ∙ f
 number_equal : (n : ℕ) → nat_cmp n n ≡ Equal
 number_equal n = self_equal (nat_cmp n n) (nat_cmp_total.antisymm n n)
 
-cid_equal : (q : CidParts) → cid_cmp q q ≡ Equal
+pub cid_equal : (q : CidParts) → cid_cmp q q ≡ Equal
 cid_equal q = then_equal _ _ (number_equal q.version) (then_equal _ _ (number_equal q.codec) (then_equal _ _ (number_equal q.hash_code) (self_equal (slice_cmp nat_cmp q.digest q.digest) (nat_list_cmp_total.antisymm q.digest q.digest))))
 
-at_same : (q k : CidParts) → is_at (cid_cmp q) k ≡ true → q ≡ k
+pub at_same : (q k : CidParts) → is_at (cid_cmp q) k ≡ true → q ≡ k
 at_same q k h = same_cid q k (is_equal (cid_cmp q k) h)
 
-same_at : (q k : CidParts) → q ≡ k → is_at (cid_cmp q) k ≡ true
+pub same_at : (q k : CidParts) → q ≡ k → is_at (cid_cmp q) k ≡ true
 same_at q k e = ap is_eq (ap (cid_cmp q) (sym e) ∙ cid_equal q)
 
-any_among : (q : CidParts) (ks : List CidParts) → list_any (is_at (cid_cmp q)) ks ≡ true → Among q ks
+pub any_among : (q : CidParts) (ks : List CidParts) → list_any (is_at (cid_cmp q)) ks ≡ true → Among q ks
 any_among q [] h = absurd (cc h)
 any_among q (k ∷ ks) h = by (is_at (cid_cmp q) k) refl h (λ m. any_among q ks m)
   where
@@ -90,7 +90,7 @@ any_among q (k ∷ ks) h = by (is_at (cid_cmp q) k) refl h (λ m. any_among q ks
     by true t m f = inl (at_same q k t)
     by false t m f = inr (f m)
 
-among_any : (q : CidParts) (ks : List CidParts) → Among q ks → list_any (is_at (cid_cmp q)) ks ≡ true
+pub among_any : (q : CidParts) (ks : List CidParts) → Among q ks → list_any (is_at (cid_cmp q)) ks ≡ true
 among_any q [] h = absurd h
 among_any q (k ∷ ks) (inl e) = ap (λ b. b || list_any (is_at (cid_cmp q)) ks) (same_at q k e)
 among_any q (k ∷ ks) (inr h) = by (is_at (cid_cmp q) k) (among_any q ks h)

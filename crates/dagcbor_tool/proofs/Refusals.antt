@@ -1,7 +1,7 @@
 -- Why a refusal of a block is said.
 use Rattle.std.proofs.Common.{ℕ, List, Result, Ok, Err}
 use Rattle.std.specs.Prelude.{OnOk}
-use Rattle.dagcbor_tool.specs.declared.line.ToolError.{ToolError}
+use Rattle.dagcbor_cli.specs.declared.fault.ToolError.{ToolError}
 use Rattle.dagcbor_tool.specs.Answers.{AppendsLine, PushesLine}
 
 -- what is pushed may be said for another reason

@@ -9,8 +9,8 @@ use Rattle.hex.specs.Hex.{decode_of, encode_lower}
 use Rattle.dagcbor_tool.specs.Pieces.{IsOfOneLine}
 use Rattle.dagcbor_tool.specs.declared.command.Command.{Command}
 use Rattle.dagcbor_tool.specs.declared.command.Command.TheVariants.{Check, Links}
-use Rattle.dagcbor_tool.specs.declared.line.ToolError.{ToolError}
-use Rattle.dagcbor_tool.specs.declared.line.ToolError.TheVariants.{Output, OutOfMemory}
+use Rattle.dagcbor_cli.specs.declared.fault.ToolError.{ToolError}
+use Rattle.dagcbor_cli.specs.declared.fault.ToolError.TheVariants.{Output, OutOfMemory}
 use Rattle.ipld_tree.specs.Tree.{Tree}
 use Rattle.dagcbor_items.specs.TreeKinds.{kind_of}
 use Rattle.dagcbor_items.specs.PrintedNames.{kind_name, variant_name}

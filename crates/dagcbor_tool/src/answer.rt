@@ -11,7 +11,7 @@ ghost use Rattle.dagcbor_tool.specs.Answers.{IsLinkLine, IsSaid, IsSaidOf, IsAns
 ghost use Rattle.dagcbor_tool.specs.Answers.{PushesLine};
 
 use crate::command::Command;
-use crate::line::ToolError;
+use dagcbor_cli::ToolError;
 use dagcbor_heads::DecodeError;
 use dagcbor_items::{check_slice, kind_name, links_from_slice, variant_name};
 use ipld_tree::Cid;

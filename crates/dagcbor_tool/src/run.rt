@@ -11,7 +11,8 @@ ghost use Rattle.dagcbor_tool.specs.Answers.{BreaksOff, RunsLines};
 
 use crate::answer::push_answer;
 use crate::command::Command;
-use crate::line::{ToolError, line_feed, without_return, write_all};
+use crate::line::{line_feed, without_return};
+use dagcbor_cli::{ToolError, write_all};
 use std::alloc::Global;
 use std::io::{BufRead, Write};
 

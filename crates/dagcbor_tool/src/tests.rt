@@ -1,97 +1,12 @@
 //! The program's lines, words and faults.
 
 use super::*;
-use crate::line::ToolError;
 use crate::run::{run_check, run_links};
+use dagcbor_cli::{Pieces, Stingy, ToolError};
 use std::alloc::Global;
-use std::env::FillError;
-use std::io::{BufRead, Read, Write};
+use std::env::{Env, FillError};
+use std::io::{BufRead, Write};
 use std::test::Fail;
-
-/// Shows so many bytes a fill, and fails in this way at one of its fills.
-#[derive(Drop)]
-struct Pieces<'a> {
-    bytes: &'a [u8],
-    size: usize,
-    fills: usize,
-    faulty: usize,
-    fault: ErrorKind,
-}
-
-impl<'a> Pieces<'a> {
-    fn new(bytes: &'a [u8], size: usize, faulty: usize, fault: ErrorKind) -> Pieces<'a> {
-        Pieces {
-            bytes,
-            size,
-            fills: 0,
-            faulty,
-            fault,
-        }
-    }
-}
-
-impl Read for Pieces<'_> {
-    fn read(&mut self, _buf: &mut [u8]) -> io::Result<usize> {
-        Ok(0)
-    }
-}
-
-impl BufRead for Pieces<'_> {
-    fn fill_buf(&mut self) -> io::Result<&[u8]> {
-        self.fills = self.fills.saturating_add(1);
-        if self.fills == self.faulty {
-            return Err(io::Error::from(self.fault));
-        }
-        let size = self.size.min(self.bytes.len());
-        Ok(&self.bytes[..size])
-    }
-
-    fn consume(&mut self, amount: usize) {
-        if amount <= self.bytes.len() {
-            self.bytes = &self.bytes[amount..];
-        }
-    }
-}
-
-/// Takes one byte a call. Where it is full, it takes none, or fails.
-#[derive(Drop)]
-struct Stingy {
-    held: Vec<u8>,
-    room: usize,
-    fault: Option<ErrorKind>,
-}
-
-impl Stingy {
-    fn new(alloc: Global, room: usize, fault: Option<ErrorKind>) -> Stingy {
-        Stingy {
-            held: Vec::new(alloc),
-            room,
-            fault,
-        }
-    }
-}
-
-impl Write for Stingy {
-    fn write(&mut self, buf: &[u8]) -> io::Result<usize> {
-        if self.held.len() >= self.room {
-            return match self.fault {
-                Some(fault) => Err(io::Error::from(fault)),
-                None => Ok(0),
-            };
-        }
-        match buf {
-            [] => Ok(0),
-            [first, ..] => {
-                self.held.push(*first)?;
-                Ok(1)
-            }
-        }
-    }
-
-    fn flush(&mut self) -> io::Result<()> {
-        Ok(())
-    }
-}
 
 const LINES: &[u8] = b"1817\nzz\n\nF6\n63616263\r\nF5\n420102";
 
@@ -109,7 +24,7 @@ fn answers_each_line(rt: HostRuntime) -> Result<(), Fail> {
         let mut stingy = Stingy::new(alloc, 1000, None);
         let mut input = Pieces::new(LINES, size, 0, ErrorKind::Other);
         run_check(alloc, &mut input, &mut stingy)?;
-        assert_eq!(rt; stingy.held.as_slice(), ANSWERS, "{size}");
+        assert_eq!(rt; stingy.held(), ANSWERS, "{size}");
     }
     Ok(())
 }
@@ -169,8 +84,8 @@ fn a_writer_that_fails_ends_the_run(rt: HostRuntime) -> Result<(), Fail> {
             let mut stingy = Stingy::new(rt.alloc(), room, fault);
             let ended = run_check(rt.alloc(), &mut &LINES[..], &mut stingy);
             assert!(rt; matches!(ended, Err(ToolError::Output)), "{room}");
-            assert!(rt; ANSWERS.starts_with(stingy.held.as_slice()), "{room}");
-            assert_eq!(rt; stingy.held.len(), room);
+            assert!(rt; ANSWERS.starts_with(stingy.held()), "{room}");
+            assert_eq!(rt; stingy.held().len(), room);
         }
     }
     Ok(())
@@ -265,7 +180,7 @@ fn faults_are_told(rt: HostRuntime) -> Result<(), Fail> {
     let ended = run_words(alloc, &["check"], &mut &LINES[..], &mut full, &mut errors)?;
     assert_eq!(rt; ended, 1);
     assert_eq!(rt; errors.as_slice(), b"dagcbor: output failed\n".as_slice());
-    assert_eq!(rt; full.held.as_slice(), b"ref".as_slice());
+    assert_eq!(rt; full.held(), b"ref".as_slice());
     // A fault in telling it is not told.
     let mut deaf = Stingy::new(alloc, 0, Some(ErrorKind::Other));
     let mut output = Vec::new(alloc);

@@ -1,7 +1,7 @@
 use Rattle.std.proofs.Common.{Ok, Err, ◌∙◌}
 use Rattle.dagcbor_heads.specs.Inputs.{input_reading}
 use Rattle.dagcbor_items.specs.Walks.{forms}
-use Rattle.dagcar.specs.declared.line.ToolError.TheVariants.{OutOfMemory}
+use Rattle.dagcbor_cli.specs.declared.fault.ToolError.TheVariants.{OutOfMemory}
 use Rattle.dagcar.proofs.Saying.{header_said, not_begun}
 use Rattle.dagcar.proofs.walk.say_file.Goals as goal
 

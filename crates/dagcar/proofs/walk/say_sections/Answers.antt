@@ -1,6 +1,6 @@
 use Rattle.std.proofs.Common.{Ok, Err}
 use Rattle.dagcbor_heads.specs.Inputs.{input_reading}
-use Rattle.dagcar.specs.declared.line.ToolError.TheVariants.{OutOfMemory}
+use Rattle.dagcbor_cli.specs.declared.fault.ToolError.TheVariants.{OutOfMemory}
 use Rattle.dagcar.proofs.Saying.{said_begun, said_more, fault_said, end_said, broke_off, nothing_said}
 use Rattle.dagcar.proofs.walk.say_sections.Goals as goal
 

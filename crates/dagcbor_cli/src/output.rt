@@ -1,0 +1,31 @@
+//! Bytes to any writer. A write that was interrupted is not made again.
+
+ghost use Rattle.std.specs.Prelude.{◌≡◌, IfErr};
+ghost use Rattle.dagcbor_cli.specs.Writing.{WritesFront};
+ghost use Rattle.dagcbor_cli.specs.declared.fault.ToolError.TheVariants.{Output};
+
+use crate::fault::ToolError;
+use std::io::Write;
+
+/// Writes all of the bytes.
+pub fn write_all<W: Write>(writer: &mut W, bytes: &[u8]) -> Result<(), ToolError>
+    ensures fault { IfErr result (λ e. e ≡ Output) }
+    ensures written { WritesFront (W.contents writer.old) (W.contents writer.new) result bytes.now }
+{
+    let mut rest = bytes;
+    while !rest.is_empty() {
+        match writer.write(rest) {
+            Ok(0) | Err(_) => return Err(ToolError::Output),
+            Ok(n) => rest = &rest[n..],
+        }
+    }
+    Ok(())
+}
+
+/// Tells a line on `errors`, and answers the status. A fault in telling it is not told.
+pub fn give_up<W: Write>(errors: &mut W, line: &str, status: u8) -> u8
+    ensures { result ≡ status }
+{
+    let _ = write_all(errors, line.as_bytes());
+    status
+}

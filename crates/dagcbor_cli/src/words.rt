@@ -1,0 +1,13 @@
+//! The words of a call.
+
+use std::rt::Env;
+use std::{env, io};
+
+/// The arguments behind the program's name.
+pub fn arguments(rt: &(impl Env + AllocGlobal)) -> io::Result<Vec<String>> {
+    let mut words = Vec::new(rt.alloc());
+    for word in env::args(rt)?.skip(1) {
+        words.push(word)?;
+    }
+    Ok(words)
+}

@@ -1,5 +1,5 @@
 -- The spelling of a list, by its items.
-use Rattle.std.proofs.Common.{◌≡◌, ℕ, suc, ◌+◌, List, [], ◌∷◌, length, Option, None, Some, refl, sym, ap, ap₂, ◌∙◌, add-one, map, ◌<◌, get_or, drop, take, subst, ◌≤◌, ◌++◌, is_err, false}
+use Rattle.std.proofs.Common.{◌≡◌, ℕ, suc, ◌+◌, List, [], ◌∷◌, length, Option, None, Some, refl, sym, ap, ap₂, ◌∙◌, add-one, map, ◌<◌, get_or, drop, take, subst, ◌≤◌, ◌++◌}
 use Rattle.std.proofs.Math.Seq.{drop-cons}
 use Rattle.std.proofs.Math.ListN.{drop_of_length-le}
 use Rattle.std.proofs.lemmas.List.{length-map, take_more, take_all}
@@ -140,7 +140,3 @@ AreTrees_all {A} tree xs i h all =
 pub OnOk_of : {T E P : Type 0} (r : Result T E) → P → OnOk r P
 OnOk_of (Ok x) p = p
 OnOk_of (Err e) p = tt
-
-pub OnOk_taken : {T E P : Type 0} (r : Result T E) → false ≡ is_err r → OnOk r P → P
-OnOk_taken (Ok x) is p = p
-OnOk_taken (Err e) is p = cc

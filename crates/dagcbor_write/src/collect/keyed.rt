@@ -1,13 +1,13 @@
 //! The entries of a map that is at hand: its keys, spelled in one buffer, each with its value.
 
 ghost use Rattle.std.specs.Prelude.{◌≡◌, ◌<◌, ◌++◌, List, [], length, map, IfOk, OnOk};
-ghost use Rattle.std.specs.Prelude.{slice_index_or, codes, ℕ, IfSome};
+ghost use Rattle.std.specs.Prelude.{slice_index_or, codes, ℕ, Option, None};
 ghost use Rattle.std.specs.Fmt.{◌++?◌};
-ghost use Rattle.dagcbor_heads.specs.Written.{Writes};
-ghost use Rattle.ipld_tree.specs.Tree.{IsTree};
-ghost use Rattle.ipld_tree.specs.Spelled.{spelled_tree, spelled_head};
+ghost use Rattle.dagcbor_heads.specs.Written.{Written, Writes, Stops};
+ghost use Rattle.ipld_tree.specs.Spelled.{spelled_head};
+ghost use Rattle.dagcbor_write.specs.Answers.{IsMessage};
 ghost use Rattle.dagcbor_write.specs.Each.{AreTrees};
-ghost use Rattle.dagcbor_write.specs.Gathering.{Grows, RefusedFor, Collects};
+ghost use Rattle.dagcbor_write.specs.Gathering.{Grows, Refused, RefusedFor, Collects};
 ghost use Rattle.dagcbor_write.specs.Keyed.{JoinsKeyed, PutsKeysInOrder, spelled_keyed, value_trees};
 ghost use Rattle.dagcbor_write.specs.Maps.{RefusesKey};
 ghost use Rattle.dagcbor_write.specs.Order.{KeysDiffer};
@@ -18,6 +18,7 @@ use crate::serialize::Serialize;
 use crate::serializer::Serializer;
 use dagcbor_heads::{BufWriter, EncodeError, Write, WriteResult};
 use std::alloc::{AllocError, Global};
+use std::convert::Infallible;
 use std::marker::Model;
 
 /// A key, which stands in the buffer from `start` to `end`, and its value.
@@ -158,9 +159,9 @@ impl<V: Serialize> Keyed<'_, V> {
             if key.is_err() {
                 return key;
             }
-            let part = write_value(alloc, value, ser);
-            if part.is_err() {
-                return part;
+            match value.serialize(alloc, ser) {
+                Ok(()) => {}
+                Err(error) => return Err(refused_value(error)),
             }
         }
         Ok(())
@@ -177,28 +178,37 @@ fn spell_key<K: Serialize, E>(
         (RefusedFor (codes "Map key cannot be serialized.") (K.tree key.now)) result }
     ensures grown { (more : List ℕ) × (keys.new ≡ keys.old ++ more) }
 {
-    let Err(error) = key.serialize(alloc, keys) else {
-        return Ok(());
-    };
+    match key.serialize(alloc, keys) {
+        Ok(()) => Ok(()),
+        Err(error) => Err(refused_key(error)),
+    }
+}
+
+/// Why a map is refused whose key was refused so.
+#[cold]
+#[inline(never)]
+fn refused_key<E>(error: EncodeError<Infallible>) -> EncodeError<E>
+    ensures { (text : Option (List ℕ)) (old new : Written) → Stops text old new error
+        → Refused (λ m. (m ≡ codes "Map key cannot be serialized.") × (text ≡ None)) result }
+{
     match error {
-        EncodeError::Msg(_) => Err(EncodeError::custom(BAD_KEY)),
-        EncodeError::OutOfMemory => Err(EncodeError::OutOfMemory),
+        EncodeError::Msg(_) => EncodeError::custom(BAD_KEY),
+        EncodeError::OutOfMemory => EncodeError::OutOfMemory,
         EncodeError::Write(never) => match never {},
     }
 }
 
-/// Writes a value of a map. One that has no spelling is refused with a message of the map's.
-fn write_value<V: Serialize, W: Write>(
-    alloc: Global,
-    value: &V,
-    ser: &mut Serializer<W>,
-) -> WriteResult<(), W>
-    ensures written { Writes (spelled_tree (V.tree value.now))
-        (W.written ser.old) (W.written ser.new) result }
-    ensures well_formed { OnOk result (IfSome (V.tree value.now) IsTree) }
+/// Why a map is refused whose value was refused so.
+#[cold]
+#[inline(never)]
+fn refused_value<E>(error: EncodeError<E>) -> EncodeError<E>
+    ensures stops { (text : Option (List ℕ)) (old new : Written) → Stops text old new error
+        → Stops text old new result }
+    ensures message { IsMessage (codes "Struct value cannot be serialized.") result }
 {
-    match value.serialize(alloc, ser) {
-        Err(EncodeError::Msg(_)) => Err(EncodeError::custom(BAD_VALUE)),
-        answer => answer,
+    match error {
+        EncodeError::Msg(_) => EncodeError::custom(BAD_VALUE),
+        EncodeError::OutOfMemory => EncodeError::OutOfMemory,
+        EncodeError::Write(fault) => EncodeError::Write(fault),
     }
 }

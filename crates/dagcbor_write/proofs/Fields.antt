@@ -20,7 +20,8 @@ use Rattle.ipld_tree.proofs.Spelled.{spelled_is}
 use Rattle.ipld_tree.proofs.WellFormed.{entry_count_ordered}
 use Rattle.dagcbor_write.specs.Trees.{Pair}
 use Rattle.dagcbor_write.specs.Gathering.{Refused, Collects}
-use Rattle.dagcbor_write.specs.Maps.{Texts, spelled_key, IsSpellingOf, AreSpellingsOf, Joins, JoinsEntry, RefusesEntry, RefusesValue, entries_text, map_rest, JoinsPairs, StopsAtPair, LacksValue, RefusesAnyValue, ShowsPairs}
+use Rattle.dagcbor_write.specs.Maps.{Texts, spelled_key, IsSpellingOf, AreSpellingsOf, Joins, JoinsEntry, RefusesKey, RefusesEntry, RefusesValue, entries_text, map_rest, JoinsPairs, StopsAtPair, LacksValue, RefusesAnyValue, ShowsPairs}
+use Rattle.dagcbor_write.specs.Pairwise.{Pairwise}
 use Rattle.dagcbor_write.proofs.Keys.{key_none}
 use Rattle.dagcbor_write.proofs.Mapping.{pairwise_push}
 
@@ -117,14 +118,14 @@ begin_struct ps n s e = begin_writing _ _ s (spelled_map ps n e ∙ ap (λ x. sp
 
 -- ---- step by step
 
--- of the pairs of a map, all but these have been handed over
-pub record Given-but (whole left : List Pair) (held : List Texts) : Type 0 where
+-- of the pairs of a map, all but these have been handed over: each is held, as R says
+pub record Given-but {X : Type 0} (R : Pair → X → Type 0) (whole left : List Pair) (held : List X) : Type 0 where
   pub done : List Pair
   pub split : whole ≡ done ++ left
-  pub spells : AreSpellingsOf done held
+  pub holds : Pairwise R done held
 
-pub begin_map : (whole : List Pair) (held : List Texts) → held ≡ [] → Given-but whole whole held
-begin_map whole held e = let P : List Texts → Type 0 = λ x. AreSpellingsOf [] x in record { done = []; split = refl; spells = subst P (sym e) tt }
+pub begin_map : {X : Type 0} (R : Pair → X → Type 0) (whole : List Pair) (held : List X) → held ≡ [] → Given-but R whole whole held
+begin_map {X} R whole held e = let P : List X → Type 0 = λ x. Pairwise R [] x in record { done = []; split = refl; holds = subst P (sym e) tt }
 
 joined_spelling : (p : Pair) (k v : Option (List ℕ)) (old new : List Texts) → spelled_key p.0 ≡ k → spelled_tree p.1 ≡ v → Joins k v old new → IfSome p.0 IsTree → IfSome p.1 IsTree → (e : Texts) × IsSpellingOf p e × (new ≡ old ++ e ∷ [])
 joined_spelling p None v old new a b j g h = absurd j
@@ -132,28 +133,26 @@ joined_spelling p (Some k) None old new a b j g h = absurd j
 joined_spelling p (Some k) (Some v) old new a b j g h = ((k, v), record { key = a; value = b; good_key = g; good_value = h }, j)
 
 -- one more pair was taken
-pub next_pair : {whole left : List Pair} {p : Pair} {old : List Texts} → Given-but whole (p ∷ left) old → (new : List Texts) → JoinsEntry p.0 p.1 old new → Given-but whole left new
-next_pair {whole} {left} {p} {old} w new j =
-    let e = joined_spelling p _ _ old new refl refl j.0.0 j.1 j.0.1 in
-    let P : List Texts → Type 0 = λ x. AreSpellingsOf (w.done ++ p ∷ []) x in
-    record { done = w.done ++ p ∷ []; split = w.split ∙ sym (append_assoc w.done (p ∷ []) left); spells = subst P (sym e.2) (pairwise_push IsSpellingOf w.done old p e.0 w.spells e.1) }
+pub next_pair : {X : Type 0} {R : Pair → X → Type 0} {whole left : List Pair} {p : Pair} {old : List X} → Given-but R whole (p ∷ left) old → (new : List X) (x : X) → R p x → new ≡ old ++ x ∷ [] → Given-but R whole left new
+next_pair {X} {R} {whole} {left} {p} {old} w new x r e =
+    let P : List X → Type 0 = λ xs. Pairwise R (w.done ++ p ∷ []) xs in
+    record { done = w.done ++ p ∷ []; split = w.split ∙ sym (append_assoc w.done (p ∷ []) left); holds = subst P (sym e) (pairwise_push R w.done old p x w.holds r) }
 
 end_of : (xs : List Pair) → xs ++ [] ≡ xs
 end_of [] = refl
 end_of (x ∷ xs) = ap (λ ys. x ∷ ys) (end_of xs)
 
-pub all_given : {whole : List Pair} {held : List Texts} → Given-but whole [] held → AreSpellingsOf whole held
-all_given {whole} {held} w = let P : List Pair → Type 0 = λ ps. AreSpellingsOf ps held in subst P (sym (w.split ∙ end_of w.done)) w.spells
+pub all_given : {X : Type 0} {R : Pair → X → Type 0} {whole : List Pair} {held : List X} → Given-but R whole [] held → Pairwise R whole held
+all_given {X} {R} {whole} {held} w = let P : List Pair → Type 0 = λ ps. Pairwise R ps held in subst P (sym (w.split ∙ end_of w.done)) w.holds
 
 -- ---- refusals
 
 no_key : (key : Option Tree) → option_and_then key_of key ≡ None → spelled_key key ≡ None
 no_key key e = ap (option_and_then (λ k. spelled (text k))) e
 
-entry_cause : (p : Pair) (m : List ℕ) → RefusesEntry p.0 p.1 m → CannotBeWritten p
-entry_cause p m (inl (inl h)) = inl (key_none p.0 h.1)
-entry_cause p m (inl (inr h)) = inl (no_key p.0 h.1)
-entry_cause p m (inr h) = inr h.1
+key_cause : (p : Pair) (m : List ℕ) → RefusesKey p.0 m → CannotBeWritten p
+key_cause p m (inl h) = inl (key_none p.0 h.1)
+key_cause p m (inr h) = inl (no_key p.0 h.1)
 
 refusal_stops : {E : Type 0} (whole : Option (List ℕ)) (s t : Written) (Cause : List ℕ → Type 0) (e : EncodeError E) → ((m : List ℕ) → Cause m → whole ≡ None) → Refused Cause e → s ≡ t → Stops whole s t e
 refusal_stops {E} whole s t Cause (Msg m) f p same = let P : Written → Type 0 = λ u. Stops {E = E} whole s u (Msg m) in subst P same (f (message_bytes m) p, appends_nothing s.bytes, refl, refl)
@@ -174,11 +173,11 @@ exit_unsent : {T E : Type 0} (whole : Option (List ℕ)) (s t : Written) (Cause 
 exit_unsent whole s t Cause (Ok x) e f p is same = absurd is
 exit_unsent {T} {E} whole s t Cause (Err d) e f p is same = let P : EncodeError E → Type 0 = λ y. Stops whole s t y in subst P (sym is) (refusal_stops whole s t Cause e f p same)
 
--- the exit of a `?` at an entry
-pub exit_pair : {T E : Type 0} {whole left : List Pair} {p : Pair} {old : List Texts} (out : Bool) → Given-but whole (p ∷ left) old → (s t : Written) (r : Result T (EncodeError E)) (e : EncodeError E)
-    → Refused (RefusesEntry p.0 p.1) e → IsErrAnd r (λ d. d ≡ e) → s ≡ t → Writes (map_rest out whole) s t r
-exit_pair {T} {E} {whole} {left} {p} {old} out w s t r e refused is same =
-    exit_unsent (map_rest out whole) s t (RefusesEntry p.0 p.1) r e (λ m h. ap (map_rest out) w.split ∙ no_text out w.done left p (entry_cause p m h)) refused is same
+-- the exit of a `?` at a key
+pub exit_key : {T E X : Type 0} {R : Pair → X → Type 0} {whole left : List Pair} {p : Pair} {old : List X} → Given-but R whole (p ∷ left) old → (s t : Written) (r : Result T (EncodeError E)) (e : EncodeError E)
+    → Refused (RefusesKey p.0) e → IsErrAnd r (λ d. d ≡ e) → s ≡ t → Writes (spelled_tree (entries_tree whole)) s t r
+exit_key {T} {E} {X} {R} {whole} {left} {p} {old} w s t r e refused is same =
+    exit_unsent (map_rest false whole) s t (RefusesKey p.0) r e (λ m h. ap (map_rest false) w.split ∙ no_text false w.done left p (key_cause p m h)) refused is same
 
 -- ---- the end of a map
 
@@ -188,21 +187,21 @@ Writes_from {T} {E} whole s t u v r e f w =
     let P : Written → Type 0 = λ x. Writes whole x u r in let Q : Written → Type 0 = λ x. Writes whole s x r in subst Q f (subst P e w)
 
 -- the end of a map, of which nothing has gone out
-pub end_map : {T E : Type 0} {whole : List Pair} {held : List Texts} (announced : Option ℕ) → Given-but whole [] held → announced ≡ None → (s t u v : Written) (r : Result T (EncodeError E))
+pub end_map : {T E : Type 0} {whole : List Pair} {held : List Texts} (announced : Option ℕ) → Given-but IsSpellingOf whole [] held → announced ≡ None → (s t u v : Written) (r : Result T (EncodeError E))
     → ((given : List Pair) → AreSpellingsOf given held → Writes (map_rest (is_some announced) given) t u r) → t ≡ s → u ≡ v → Writes (spelled_tree (entries_tree whole)) s v r
 end_map {T} {E} {whole} {held} announced w none s t u v r told e f =
     let P : Option ℕ → Type 0 = λ a. Writes (map_rest (is_some a) whole) t u r in Writes_from (map_rest false whole) s t u v r e f (subst P none (told whole (all_given w)))
 
 -- the same behind a head that went out at the beginning
-pub end_struct : {T E : Type 0} {W h : Option (List ℕ)} (n : ℕ) {whole : List Pair} {held : List Texts} {start s : Written} (announced : Option ℕ) → Written-but W (h ∷ map_rest true whole ∷ []) start start → WroteAll h start s → Given-but whole [] held → announced ≡ Some n → (t u v : Written) (r : Result T (EncodeError E))
+pub end_struct : {T E : Type 0} {W h : Option (List ℕ)} (n : ℕ) {whole : List Pair} {held : List Texts} {start s : Written} (announced : Option ℕ) → Written-but W (h ∷ map_rest true whole ∷ []) start start → WroteAll h start s → Given-but IsSpellingOf whole [] held → announced ≡ Some n → (t u v : Written) (r : Result T (EncodeError E))
     → ((given : List Pair) → AreSpellingsOf given held → Writes (map_rest (is_some announced) given) t u r) → t ≡ s → u ≡ v → Writes W start v r
 end_struct {T} {E} {W} {h} n {whole} {held} {start} {s} announced begun out w is t u v r told e f =
     let P : Option ℕ → Type 0 = λ a. Writes (map_rest (is_some a) whole) t u r in last_part (next_part begun s out) v r (Writes_from (map_rest true whole) s t u v r e f (subst P is (told whole (all_given w))))
 
 -- ---- for a loop that goes over the pairs
 
-pub left_as : {whole left more : List Pair} {held : List Texts} → left ≡ more → Given-but whole left held → Given-but whole more held
-left_as {whole} {left} {more} {held} is w = let P : List Pair → Type 0 = λ ps. Given-but whole ps held in subst P is w
+pub left_as : {X : Type 0} {R : Pair → X → Type 0} {whole left more : List Pair} {held : List X} → left ≡ more → Given-but R whole left held → Given-but R whole more held
+left_as {X} {R} {whole} {left} {more} {held} is w = let P : List Pair → Type 0 = λ ps. Given-but R whole ps held in subst P is w
 
 -- the iterator of a map shows as the list that it has left
 pub list_shows : {A X : Type 0} (shows : A → X) (pair : X → Pair) → ShowsPairs (TakesFirst shows) (λ e. pair (shows e)) (map pair)
@@ -274,10 +273,10 @@ none_lacks ps es h l = by ps es l.0 h l.2 l.3 l.4
     by (p ∷ ps) (e ∷ es) (suc k) h below at n = by ps es k h.1 (omega (arith, below)) at n
 
 -- all were taken, one after another
-pub given_row : (whole : List Pair) (old new : List Texts) → old ≡ [] → JoinsPairs whole old new → Given-but whole [] new
+pub given_row : (whole : List Pair) (old new : List Texts) → old ≡ [] → JoinsPairs whole old new → Given-but IsSpellingOf whole [] new
 given_row whole old new e h =
     let P : List Texts → Type 0 = λ held. AreSpellingsOf whole held in
-    record { done = whole; split = sym (end_of whole); spells = subst P (sym (h.2 ∙ ap (λ xs. xs ++ h.0) e)) h.1 }
+    record { done = whole; split = sym (end_of whole); holds = subst P (sym (h.2 ∙ ap (λ xs. xs ++ h.0) e)) h.1 }
 
 -- the exit of a `?` at a row of pairs
 pub exit_row : {T E : Type 0} (whole : List Pair) (s t : Written) (r : Result T (EncodeError E)) (e : EncodeError E) → Refused (RefusesAnyValue whole) e → IsErrAnd r (λ d. d ≡ e) → s ≡ t → Writes (spelled_tree (entries_tree whole)) s t r

@@ -1,5 +1,5 @@
 -- A key is a text exactly where its spelling begins as one.
-use Rattle.std.proofs.Common.{◌≡◌, ℕ, ◌+◌, ◌*◌, ◌/◌, ◌<◌, List, [], ◌∷◌, ◌++◌, length, drop, ◌-◌, pos, negsuc, Option, None, Some, Bool, true, false, refl, sym, ap, ◌∙◌, arith}
+use Rattle.std.proofs.Common.{◌≡◌, ℕ, ◌+◌, ◌*◌, ◌/◌, ◌<◌, List, [], ◌∷◌, ◌++◌, length, drop, ◌-◌, pos, negsuc, Option, None, Some, Bool, true, false, refl, sym, ap, ◌∙◌, subst, arith}
 use Rattle.std.proofs.lemmas.List.{take_all, length-drop}
 use Rattle.std.specs.List.{slice_range}
 use Rattle.std.specs.Prelude.{IfSome, nat_eq, option_and_then}
@@ -57,3 +57,9 @@ module _ (o : Option Tree) (old new : List ℕ) (start : ℕ) (b : Bool) (at : s
 
   pub refused_key : b ≡ false → option_and_then key_of o ≡ None
   refused_key x = key_no_text o (drop start new) b stands g.1 begins x
+
+  -- the same of the range that ends with the bytes
+  pub held_range : (end : ℕ) → end ≡ length new → b ≡ true → HoldsKey o (Some (slice_range new start end))
+  held_range end e x =
+      let whole : slice_range new start end ≡ drop start new = ap (slice_range new start) e ∙ take_all (length new - start) (drop start new) (omega (arith, length-drop start new)) in
+      let P : List ℕ → Type 0 = λ k. HoldsKey o (Some k) in subst P (sym whole) (held_key x)

@@ -2,14 +2,14 @@
 use Rattle.std.proofs.Common.{◌≡◌, ◌≢◌, ℕ, zero, suc, ◌^◌, ◌<◌, List, [], ◌∷◌, ◌++◌, length, get_or, set, map, Option, None, Some, Bool, true, false, cond, Less, Equal, refl, sym, ap, ap₂, ◌∙◌, subst, arith, add-one, IsPermutation, is_eq}
 use Rattle.std.proofs.lemmas.List.Sorted.{IsPermutation-keeps, IsPermutation-refl, IsPermutation-trans, IsPermutation-swap, IsPermutation-map}
 use Rattle.std.proofs.lemmas.Map.Keys.{IsDistinct-IsPermutation}
-use Rattle.std.specs.Prelude.{IsUtf8, IfSome, IsSomeAnd, IsTrue, OnOk, Result, option_map, option_and_then}
+use Rattle.std.specs.Prelude.{IsUtf8, IfSome, IsSomeAnd, IsTrue, OnOk, Result, option_map, option_and_then, ⊤}
 use Rattle.std.specs.Fmt.{◌++?◌}
 use Rattle.std.specs.List.{swap, AllByRecursion, IsDistinct}
 use Rattle.std.specs.List.Sorted.{IsStrictlySortedBy}
 use Rattle.std.specs.Map.{keys_of}
 use Rattle.std.specs.Ordering.{is_lt}
 use Rattle.ipld_tree.specs.Key.{bytes_cmp, key_cmp}
-use Rattle.ipld_tree.specs.Tree.{Tree, text, mapping, Entries, IsTree, entries_of, ordered_entries, repeats_key, map_tree, all_some, pair_of, entries_tree}
+use Rattle.ipld_tree.specs.Tree.{Tree, text, mapping, Entries, entry, IsTree, key_of, entries_of, ordered_entries, repeats_key, map_tree, all_some, pair_of, entries_tree}
 use Rattle.ipld_tree.specs.Spelling.{text_spelling, entry_count}
 use Rattle.ipld_tree.specs.Spelled.{spelled, spelled_entries, spelled_tree, spelled_head}
 use Rattle.ipld_tree.proofs.KeyOrder.{key_order, same_key}
@@ -18,13 +18,14 @@ use Rattle.ipld_tree.proofs.Ordered.{key_cmp_total, key_cmp_same, after_not_befo
 use Rattle.ipld_tree.proofs.Spelled.{spelled_is}
 use Rattle.ipld_tree.proofs.WellFormed.{EachPair, IsGoodPair, are_entries}
 use Rattle.dagcbor_heads.specs.Written.{Written, Writes}
+use Rattle.dagcbor_heads.proofs.Writing.{append_None}
 use Rattle.dagcbor_heads.specs.declared.error.EncodeError.{EncodeError}
 use Rattle.dagcbor_write.specs.Pairwise.{Pairwise}
 use Rattle.dagcbor_write.proofs.Lists.{OnOk_of}
 use Rattle.dagcbor_write.specs.Trees.{Pair}
 use Rattle.dagcbor_write.specs.Gathering.{AppendsTo}
 use Rattle.dagcbor_write.specs.Rows.{spelled_pairs, ArePairs, KeysRise}
-use Rattle.dagcbor_write.specs.Maps.{Texts, spelled_key, IsSpellingOf, AreSpellingsOf, entries_text, map_rest, RepeatsKey}
+use Rattle.dagcbor_write.specs.Maps.{Texts, spelled_key, AreSpellingsOf, entries_text, map_rest, RepeatsKey}
 use Rattle.dagcbor_write.specs.Order.{head_rest, entries_bytes, goes_before, PutsInOrder}
 
 abbrev Named : Type 0
@@ -52,7 +53,7 @@ module _ {A B : Type 0} (R : A → B → Type 0) where
   pairwise_set (x ∷ xs) (y ∷ ys) zero a b r p = (r, p.1)
   pairwise_set (x ∷ xs) (y ∷ ys) (suc i) a b r p = (p.0, pairwise_set xs ys i a b r p.1)
 
-  pairwise_length : (xs : List A) (ys : List B) → Pairwise R xs ys → length xs ≡ length ys
+  pub pairwise_length : (xs : List A) (ys : List B) → Pairwise R xs ys → length xs ≡ length ys
   pairwise_length [] [] p = refl
   pairwise_length [] (y ∷ ys) p = absurd p
   pairwise_length (x ∷ xs) [] p = absurd p
@@ -107,22 +108,23 @@ pairs_named (p ∷ ps) (e ∷ es) h =
 fits : (k s : List ℕ) → spelled (text k) ≡ Some s → (length k < 2 ^ 64) × (s ≡ text_spelling k)
 fits k s e = (spelled_is (text k) s).0 e
 
-same_name : (p q : Named) (e f : Texts) → IsSpelledBy p e → IsSpelledBy q f → p.0 ≡ q.0 → e.0 ≡ f.0
-same_name p q e f h k same = (fits p.0 e.0 h.key).1 ∙ ap text_spelling same ∙ sym (fits q.0 f.0 k.key).1
+same_name : (k l s t : List ℕ) → spelled (text k) ≡ Some s → spelled (text l) ≡ Some t → k ≡ l → s ≡ t
+same_name k l s t h j same = (fits k s h).1 ∙ ap text_spelling same ∙ sym (fits l t j).1
 
-same_text : (p q : Named) (e f : Texts) → IsSpelledBy p e → IsSpelledBy q f → e.0 ≡ f.0 → p.0 ≡ q.0
-same_text p q e f h k same =
-    let a = fits p.0 e.0 h.key in
-    let b = fits q.0 f.0 k.key in
-    ap payload (spelling_unique (text p.0) (text q.0) [] [] a.0 b.0 (ap (λ x. x ++ []) (sym a.1 ∙ same ∙ b.1))).0
+same_text : (k l s t : List ℕ) → spelled (text k) ≡ Some s → spelled (text l) ≡ Some t → s ≡ t → k ≡ l
+same_text k l s t h j same =
+    let a = fits k s h in
+    let b = fits l t j in
+    ap payload (spelling_unique (text k) (text l) [] [] a.0 b.0 (ap (λ x. x ++ []) (sym a.1 ∙ same ∙ b.1))).0
 
-follows : (p q : Named) (e f : Texts) → IsSpelledBy p e → IsSpelledBy q f → goes_before f e ≡ false → (e.0 ≡ f.0 → ⊥) → key_cmp p.0 q.0 ≡ Less
-follows p q e f h k late differ =
-    let a = fits p.0 e.0 h.key in
-    let b = fits q.0 f.0 k.key in
-    let apart : q.0 ≢ p.0 = λ same. differ (sym (same_name q p f e k h same)) in
-    let as-keys : bytes_cmp (f.0 ++ f.1) (e.0 ++ e.1) ≡ key_cmp q.0 p.0 = ap₂ (λ x y. bytes_cmp (x ++ f.1) (y ++ e.1)) b.1 a.1 ∙ key_order q.0 p.0 f.1 e.1 b.0 a.0 apart in
-    after_not_before q.0 p.0 (sym (ap is_lt as-keys) ∙ late) (λ same. apart (same_key q.0 p.0 same))
+-- spelled keys that stand in the order of their bytes, whatever is behind them, and differ
+pub follows : (k l s t x y : List ℕ) → spelled (text k) ≡ Some s → spelled (text l) ≡ Some t → is_lt (bytes_cmp (t ++ y) (s ++ x)) ≡ false → (s ≡ t → ⊥) → key_cmp k l ≡ Less
+follows k l s t x y h j late differ =
+    let a = fits k s h in
+    let b = fits l t j in
+    let apart : l ≢ k = λ same. differ (sym (same_name l k t s j h same)) in
+    let as-keys : bytes_cmp (t ++ y) (s ++ x) ≡ key_cmp l k = ap₂ (λ u v. bytes_cmp (u ++ y) (v ++ x)) b.1 a.1 ∙ key_order l k y x b.0 a.0 apart in
+    after_not_before l k (sym (ap is_lt as-keys) ∙ late) (λ same. apart (same_key l k same))
 
 below_all : (p q : List ℕ) (ks : List (List ℕ)) → key_cmp p q ≡ Less → AllByRecursion (λ y. key_cmp q y ≡ Less) ks → AllByRecursion (λ y. key_cmp p y ≡ Less) ks
 below_all p q [] h r = tt
@@ -137,7 +139,7 @@ sorted_names (q ∷ []) (f ∷ []) w s n = (tt, tt)
 sorted_names (q ∷ []) (f ∷ g ∷ fs) w s n = absurd w.1
 sorted_names (q ∷ p ∷ qs) (f ∷ []) w s n = absurd w.1
 sorted_names (q ∷ p ∷ qs) (f ∷ g ∷ fs) w s n =
-    let first = follows q p f g w.0 w.1.0 (s 0 f (omega arith)) (n 0 f (omega arith)) in
+    let first = follows q.0 p.0 f.0 g.0 f.1 g.1 w.0.key w.1.0.key (s 0 f (omega arith)) (n 0 f (omega arith)) in
     let more = sorted_names (p ∷ qs) (g ∷ fs) w.1 (λ k d h. s (suc k) d (omega (arith, h))) (λ k d h. n (suc k) d (omega (arith, h))) in
     ((first, below_all q.0 p.0 (keys_of qs) first more.0), more)
 
@@ -165,7 +167,7 @@ good_pairs (q ∷ qs) (f ∷ fs) w = (w.0.good, good_pairs qs fs w.1)
 
 -- ---- the map of the pairs
 
-tree_of : (ps : List Pair) (qs : List Named) (es : Entries) (b : Bool) → all_some (map pair_of ps) ≡ Some qs → repeats_key qs ≡ b → ordered_entries qs ≡ es → entries_tree ps ≡ cond b None (Some (mapping es))
+pub tree_of : (ps : List Pair) (qs : List Named) (es : Entries) (b : Bool) → all_some (map pair_of ps) ≡ Some qs → repeats_key qs ≡ b → ordered_entries qs ≡ es → entries_tree ps ≡ cond b None (Some (mapping es))
 tree_of ps qs es b e r o = ap (λ x. option_and_then map_tree x) e ∙ ap₂ (λ c x. cond c None (Some (mapping x))) r o
 
 text_by : (out : Bool) (ps : List Pair) (qs : List Named) (fs : List Texts) → entries_tree ps ≡ Some (mapping (entries_of qs)) → Pairwise IsSpelledBy qs fs → map_rest out ps ≡ head_rest out (length fs) ++? Some (entries_bytes fs)
@@ -191,65 +193,125 @@ in_order out ps es fs h o =
 
 -- ---- a row of pairs whose keys rise
 
+-- each key stands behind the one before it, in key order
+abbrev pub Rises : List Pair → Type 0
+Rises [] = ⊤
+Rises (p ∷ ps) = IsSomeAnd (option_and_then key_of p.0) (λ k. KeysRise k ps)
+
+rises_behind : (last : List ℕ) (ps : List Pair) → KeysRise last ps → Rises ps
+rises_behind last [] r = tt
+rises_behind last (p ∷ ps) r = by (option_and_then key_of p.0) r
+  where
+    by : (o : Option (List ℕ)) → IsSomeAnd o (λ k. (key_cmp last k ≡ Less) × KeysRise k ps) → IsSomeAnd o (λ k. KeysRise k ps)
+    by None r = absurd r
+    by (Some k) r = r.1
+
+-- these are the names of the pairs, and their trees
+record IsRow (ps : List Pair) (names : List Named) : Type 0 where
+  pub sorted : IsSortedList names
+  pub text : spelled_entries (entries_of names) ≡ spelled_pairs ps
+  pub count : length names ≡ length ps
+  pub good : ArePairs ps → EachPair IsGoodPair names
+
+-- the same, where each value has a tree
+abbrev NamesRow : List Pair → Option (List Named) → Type 0
+NamesRow ps None = spelled_pairs ps ≡ None
+NamesRow ps (Some names) = IsRow ps names
+
+-- the same, behind a name
+abbrev NamesBehind : List ℕ → List Pair → Option (List Named) → Type 0
+NamesBehind last ps None = spelled_pairs ps ≡ None
+NamesBehind last ps (Some names) = AllByRecursion (λ y. key_cmp last y ≡ Less) (keys_of names) × IsRow ps names
+
+empty_row : IsRow [] []
+unfolding IsStrictlySortedBy spelled
+empty_row = record { sorted = tt; text = refl; count = refl; good = λ g. tt }
+
+module _ (k : List ℕ) (t : Tree) (ps : List Pair) where
+  abbrev first : Pair
+  first = (Some (text k), Some t)
+
+  entry_text : (es : Entries) → spelled_entries es ≡ spelled_pairs ps → spelled_entries (entry k t es) ≡ spelled_pairs (first ∷ ps)
+  unfolding spelled
+  entry_text es e = ap (λ x. spelled (text k) ++? (spelled t ++? x)) e
+
+  entry_no_text : spelled_pairs ps ≡ None → spelled_pairs (first ∷ ps) ≡ None
+  entry_no_text e = ap (λ x. spelled (text k) ++? (spelled t ++? x)) e ∙ ap (λ x. spelled (text k) ++? x) (append_None (spelled t)) ∙ append_None (spelled (text k))
+
+  more_row : (names : List Named) → NamesBehind k ps (Some names) → IsRow (first ∷ ps) ((k, t) ∷ names)
+  unfolding IsStrictlySortedBy
+  more_row names h = record { sorted = (h.0, h.1.sorted); text = entry_text (entries_of names) h.1.text; count = ap suc h.1.count; good = λ g. ((g.0, g.1), h.1.good g.2) }
+
+  row_with : (o : Option (List Named)) → NamesBehind k ps o → NamesRow (first ∷ ps) (option_map (λ more. (k, t) ∷ more) o)
+  row_with None h = entry_no_text h
+  row_with (Some names) h = more_row names h
+
+  behind_with : (last : List ℕ) → key_cmp last k ≡ Less → (o : Option (List Named)) → NamesBehind k ps o → NamesBehind last (first ∷ ps) (option_map (λ more. (k, t) ∷ more) o)
+  behind_with last r None h = entry_no_text h
+  behind_with last r (Some names) h = ((r, below_all last k (keys_of names) r h.0), more_row names h)
+
+names_behind : (last : List ℕ) (ps : List Pair) → KeysRise last ps → NamesBehind last ps (all_some (map pair_of ps))
+names_behind last [] r = (tt, empty_row)
+names_behind last ((None, v) ∷ ps) r = absurd r
+names_behind last ((Some (text k), None) ∷ ps) r = append_None (spelled (text k))
+names_behind last ((Some (text k), Some t) ∷ ps) r = behind_with k t ps last r.0 (all_some (map pair_of ps)) (names_behind k ps r.1)
+names_behind last ((Some _, v) ∷ ps) r = absurd r
+
+names_of : (ps : List Pair) → Rises ps → NamesRow ps (all_some (map pair_of ps))
+names_of [] r = empty_row
+names_of ((None, v) ∷ ps) r = absurd r
+names_of ((Some (text k), None) ∷ ps) r = append_None (spelled (text k))
+names_of ((Some (text k), Some t) ∷ ps) r = row_with k t ps (all_some (map pair_of ps)) (names_behind k ps r)
+names_of ((Some _, v) ∷ ps) r = absurd r
+
+mapping_text : (names : List Named) → spelled (mapping (entries_of names)) ≡ spelled_head 5 (length names) ++? spelled_entries (entries_of names)
+unfolding spelled
+mapping_text names = ap (λ n. spelled_head 5 n ++? spelled_entries (entries_of names)) (count_is names)
+
+-- the map of a row whose keys rise, also where a value has no text
+pub row_map : (ps : List Pair) (n : ℕ) → n ≡ length ps → Rises ps → (spelled_tree (entries_tree ps) ≡ spelled_head 5 n ++? spelled_pairs ps) × (ArePairs ps → IfSome (entries_tree ps) IsTree)
+row_map ps n count r = by (all_some (map pair_of ps)) refl (names_of ps r)
+  where
+    P : Option Tree → Type 0
+    P t = IfSome t IsTree
+
+    by : (o : Option (List Named)) → all_some (map pair_of ps) ≡ o → NamesRow ps o → (spelled_tree (entries_tree ps) ≡ spelled_head 5 n ++? spelled_pairs ps) × (ArePairs ps → IfSome (entries_tree ps) IsTree)
+    by None is h = (
+      ap (λ x. spelled_tree (option_and_then map_tree x)) is ∙ sym (ap (λ x. spelled_head 5 n ++? x) h ∙ append_None (spelled_head 5 n)),
+      λ g. subst P (sym (ap (option_and_then map_tree) is)) tt,
+    )
+    by (Some names) is h =
+        let sorted = ordered_by_sort names names (IsPermutation-refl names) h.sorted in
+        let none = test_from_distinct names sorted.0 in
+        let whole = tree_of ps names (entries_of names) false is none sorted.1 in
+        let as_ordered = tree_of ps names (ordered_entries names) false is none refl in (
+          ap spelled_tree whole ∙ mapping_text names ∙ ap₂ (λ k x. spelled_head 5 k ++? x) (h.count ∙ sym count) h.text,
+          λ g. subst P (sym as_ordered) (are_entries names sorted.0 (h.good g)),
+        )
+
 has_text : (o : Option (List ℕ)) (bs : List ℕ) → AppendsTo [] bs o → o ≡ Some bs
 has_text None bs h = absurd h
 has_text (Some t) bs h = ap Some (sym h)
 
-both : (a b : Option (List ℕ)) (bs : List ℕ) → a ++? b ≡ Some bs → (x : List ℕ) × (y : List ℕ) × (a ≡ Some x) × (b ≡ Some y) × (bs ≡ x ++ y)
-both None b bs e = cc
-both (Some x) None bs e = cc
-both (Some x) (Some y) bs e = (x, y, refl, refl, cc)
-
-texts_of : (ps : List Pair) (bs : List ℕ) → spelled_pairs ps ≡ Some bs → ArePairs ps → (es : List Texts) × AreSpellingsOf ps es × (bs ≡ entries_bytes es)
-texts_of [] bs e g = ([], tt, cc)
-texts_of (p ∷ ps) bs e g =
-    let first = both (spelled_key p.0) (spelled_tree p.1 ++? spelled_pairs ps) bs e in
-    let next = both (spelled_tree p.1) (spelled_pairs ps) first.1 first.3 in
-    let more = texts_of ps next.1 next.3 g.2 in
-    ((first.0, next.0) ∷ more.0, (record { key = first.2; value = next.2; good_key = g.0; good_value = g.1 }, more.1), first.4 ∙ ap (λ x. first.0 ++ x) (next.4 ∙ ap (λ x. next.0 ++ x) more.2))
-
--- the names of the pairs, which rise
-record AreNamed (last : List ℕ) (ps : List Pair) (es : List Texts) : Type 0 where
-  pub names : List Named
-  pub are : all_some (map pair_of ps) ≡ Some names
-  pub spelled_by : Pairwise IsSpelledBy names es
-  pub behind : AllByRecursion (λ y. key_cmp last y ≡ Less) (keys_of names)
-  pub sorted : IsSortedList names
-
-rising_named : (last : List ℕ) (ps : List Pair) (es : List Texts) → AreSpellingsOf ps es → KeysRise last ps → AreNamed last ps es
-unfolding IsStrictlySortedBy
-rising_named last [] [] h r = record { names = []; are = refl; spelled_by = tt; behind = tt; sorted = tt }
-rising_named last [] (e ∷ es) h r = absurd h
-rising_named last (p ∷ ps) [] h r = absurd h
-rising_named last ((None, v) ∷ ps) (e ∷ es) h r = absurd r
-rising_named last ((Some (text k), None) ∷ ps) (e ∷ es) h r = let differ : None ≡ Some e.1 = h.0.value in cc
-rising_named last ((Some (text k), Some t) ∷ ps) (e ∷ es) h r =
-    let more = rising_named k ps es h.1 r.1 in
-    record {
-      names = (k, t) ∷ more.names;
-      are = ap (option_map (λ qs. (k, t) ∷ qs)) more.are;
-      spelled_by = (record { key = h.0.key; value = h.0.value; good = (h.0.good_key, h.0.good_value) }, more.spelled_by);
-      behind = (r.0, below_all last k (keys_of more.names) r.0 more.behind);
-      sorted = (more.behind, more.sorted);
-    }
-rising_named last ((Some _, v) ∷ ps) (e ∷ es) h r = absurd r
-
 -- what is written of a row whose keys rise is the map of its pairs
 pub rising_map : (ps : List Pair) (n : ℕ) (bs : List ℕ) → n ≡ length ps → AppendsTo [] bs (spelled_pairs ps) → ArePairs ps → KeysRise [] ps → (spelled_tree (entries_tree ps) ≡ spelled_head 5 n ++? Some bs) × IfSome (entries_tree ps) IsTree
 rising_map ps n bs count h g r =
-    let texts = texts_of ps bs (has_text (spelled_pairs ps) bs h) g in
-    let named = rising_named [] ps texts.0 texts.1 r in
-    let sorted = ordered_by_sort named.names named.names (IsPermutation-refl named.names) named.sorted in
-    let none = test_from_distinct named.names sorted.0 in
-    let is = tree_of ps named.names (entries_of named.names) false named.are none sorted.1 in
-    let as_ordered = tree_of ps named.names (ordered_entries named.names) false named.are none refl in
-    let length_is : length texts.0 ≡ n = sym (count ∙ pairwise_length IsSpellingOf ps texts.0 texts.1) in
-    let P : Option Tree → Type 0 = λ t. IfSome t IsTree in (
-      text_by false ps named.names texts.0 is named.spelled_by ∙ ap₂ (λ k x. spelled_head 5 k ++? Some x) length_is (sym texts.2),
-      subst P (sym as_ordered) (are_entries named.names sorted.0 (good_pairs named.names texts.0 named.spelled_by)),
-    )
+    let row = row_map ps n count (rises_behind [] ps r) in
+    (row.0 ∙ ap (λ x. spelled_head 5 n ++? x) (has_text (spelled_pairs ps) bs h), row.1 g)
 
-clash : (qs : List Named) (fs : List Texts) (k : ℕ) → Pairwise IsSpelledBy qs fs → suc k < length fs → ((d : Texts) → (get_or fs k d).0 ≡ (get_or fs (suc k) d).0) → AreDistinct qs → ⊥
+-- ---- a key that is there twice
+
+-- the text begins with the spelling of the name
+abbrev pub BeginsWithName : {A : Type 0} → Named → List ℕ × A → Type 0
+BeginsWithName q f = spelled (text q.0) ≡ Some f.0
+
+with_name : (qs : List Named) (fs : List Texts) → Pairwise IsSpelledBy qs fs → Pairwise BeginsWithName qs fs
+with_name [] [] w = tt
+with_name [] (f ∷ fs) w = absurd w
+with_name (q ∷ qs) [] w = absurd w
+with_name (q ∷ qs) (f ∷ fs) w = (w.0.key, with_name qs fs w.1)
+
+pub clash : {A : Type 0} (qs : List Named) (fs : List (List ℕ × A)) (k : ℕ) → Pairwise BeginsWithName qs fs → suc k < length fs → ((d : List ℕ × A) → (get_or fs k d).0 ≡ (get_or fs (suc k) d).0) → AreDistinct qs → ⊥
 unfolding IsDistinct
 clash [] [] k w h e d = omega (arith, h)
 clash [] (f ∷ fs) k w h e d = absurd w
@@ -257,11 +319,11 @@ clash (q ∷ qs) [] k w h e d = absurd w
 clash (q ∷ qs) (f ∷ []) k w h e d = omega (arith, h)
 clash (q ∷ []) (f ∷ g ∷ fs) k w h e d = absurd w.1
 clash (q ∷ p ∷ qs) (f ∷ g ∷ fs) zero w h e d =
-    let same : key_cmp q.0 p.0 ≡ Equal = ap (key_cmp q.0) (sym (same_text q p f g w.0 w.1.0 (e f))) ∙ key_cmp_same q.0 in
+    let same : key_cmp q.0 p.0 ≡ Equal = ap (key_cmp q.0) (sym (same_text q.0 p.0 f.0 g.0 w.0 w.1.0 (e f))) ∙ key_cmp_same q.0 in
     let differ : true ≡ false = sym (ap is_eq same) ∙ d.0.0 in cc differ
 clash (q ∷ p ∷ qs) (f ∷ g ∷ fs) (suc k) w h e d = clash (p ∷ qs) (g ∷ fs) k w.1 (omega (arith, h)) e d.1
 
-repeats : (b : Bool) (qs : List Named) → repeats_key qs ≡ b → (AreDistinct qs → ⊥) → b ≡ true
+pub repeats : (b : Bool) (qs : List Named) → repeats_key qs ≡ b → (AreDistinct qs → ⊥) → b ≡ true
 repeats true qs e n = refl
 repeats false qs e n = absurd (n (distinct_from_test qs e))
 
@@ -274,7 +336,7 @@ pub no_order : (out : Bool) (ps : List Pair) (es fs : List Texts) → AreSpellin
 no_order out ps es fs h o =
     let given = pairs_named ps es h in
     let moved = beside IsSpelledBy given.0 es fs o.0 given.2 in
-    let apart : AreDistinct given.0 → ⊥ = λ d. clash moved.0 fs o.2.0 moved.2 (omega (arith, o.2.1)) (λ e. rw add-one at (o.2.2 e))
+    let apart : AreDistinct given.0 → ⊥ = λ d. clash moved.0 fs o.2.0 (with_name moved.0 fs moved.2) (omega (arith, o.2.1)) (λ e. rw add-one at (o.2.2 e))
     (IsDistinct-IsPermutation same_place same_place_flips (keys_of given.0) (keys_of moved.0) (IsPermutation-map (λ p. p.0) given.0 moved.0 moved.1) d) in
     let twice = repeats (repeats_key given.0) given.0 refl apart in
     let P : Option (List Named) → Type 0 = λ o. IsSomeAnd o (λ pairs_named. IsTrue (repeats_key pairs_named)) in

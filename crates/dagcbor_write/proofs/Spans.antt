@@ -14,10 +14,12 @@ use Rattle.ipld_tree.specs.Key.{bytes_cmp}
 use Rattle.ipld_tree.specs.Tree.{Tree}
 use Rattle.ipld_tree.specs.Spelled.{spelled_tree}
 use Rattle.dagcbor_write.specs.declared.collect.gathered.Span.{Span}
+use Rattle.dagcbor_write.specs.declared.collect.keyed.KeySpan.{KeySpan}
+use Rattle.dagcbor_write.specs.Keyed.{key_goes_before}
 use Rattle.dagcbor_write.specs.Gathering.{AppendsTo, Grows}
 use Rattle.dagcbor_write.specs.Maps.{Texts, Joins, JoinsValue}
 use Rattle.dagcbor_write.specs.Order.{goes_before}
-use Rattle.dagcbor_write.specs.Spans.{entry_at, IsWithin}
+use Rattle.dagcbor_write.specs.Spans.{entry_at, IsWithin, keyed_at, IsInside}
 
 -- keys that a test of their bytes finds equal are
 pub same_bytes : (xs ys : List ℕ) → bytes_eq xs ys ≡ true → xs ≡ ys
@@ -34,15 +36,18 @@ behind (Some t) old new h = ap Some (sym (drop-append_seam old t) ∙ ap (drop (
 range_stays : (bs more : List ℕ) (a b : ℕ) → a ≤ b → b ≤ length bs → slice_range (bs ++ more) a b ≡ slice_range bs a b
 range_stays bs more a b h k = ap (take (b - a)) (drop-append-le a bs more (omega arith)) ∙ take-append-le (b - a) (drop a bs) more (omega (arith, length-drop a bs))
 
-entries_stay : (bs more : List ℕ) (ss : List Span) → AllByRecursion (IsWithin (length bs)) ss → map (entry_at (bs ++ more)) ss ≡ map (entry_at bs) ss
-entries_stay bs more [] w = refl
-entries_stay bs more (s ∷ ss) w =
-    ap₂ (λ e es. e ∷ es) (ap₂ (λ k v. (k, v)) (range_stays bs more s.start s.key_end w.0.0 (omega (arith, w.0))) (range_stays bs more s.key_end s.end w.0.1 w.0.2)) (entries_stay bs more ss w.1)
+-- what stands within the bytes stays as it is where they grow
+all_stay : {S X : Type 0} (at : List ℕ → S → X) (Within : ℕ → S → Type 0) (bs more : List ℕ) → ((s : S) → Within (length bs) s → at (bs ++ more) s ≡ at bs s) → (ss : List S) → AllByRecursion (Within (length bs)) ss → map (at (bs ++ more)) ss ≡ map (at bs) ss
+all_stay at Within bs more stays [] w = refl
+all_stay at Within bs more stays (s ∷ ss) w = ap₂ (λ e es. e ∷ es) (stays s w.0) (all_stay at Within bs more stays ss w.1)
+
+entry_stays : (bs more : List ℕ) (s : Span) → IsWithin (length bs) s → entry_at (bs ++ more) s ≡ entry_at bs s
+entry_stays bs more s w = ap₂ (λ k v. (k, v)) (range_stays bs more s.start s.key_end w.0 (omega (arith, w))) (range_stays bs more s.key_end s.end w.1 w.2)
 
 -- bytes that are appended leave the entries as they are
 pub entries_kept : (o : Option (List ℕ)) (old new : List ℕ) (ss : List Span) → AppendsTo old new o → All (IsWithin (length old)) ss → map (entry_at new) ss ≡ map (entry_at old) ss
 entries_kept None old new ss h w = absurd h
-entries_kept (Some t) old new ss h w = ap (λ bs. map (entry_at bs) ss) h ∙ entries_stay old t ss (recursion_from_All (IsWithin (length old)) ss w)
+entries_kept (Some t) old new ss h w = ap (λ bs. map (entry_at bs) ss) h ∙ all_stay entry_at IsWithin old t (entry_stays old t) ss (recursion_from_All (IsWithin (length old)) ss w)
 
 last_entry : (old text : List ℕ) (s : Span) → s.start ≤ length old → s.key_end ≡ length old → s.end ≡ length (old ++ text) → entry_at (old ++ text) s ≡ (drop s.start old, text)
 last_entry old text s h k e =
@@ -103,3 +108,23 @@ spans_within n m ss s w grown more = All-push (IsWithin m) ss s (λ k d h. let a
 -- a key that waits begins within the bytes
 pub key_within : (key : Option ℕ) (start n : ℕ) → IfSome key (λ s. s ≤ n) → key ≡ Some start → start ≤ n
 key_within key start n w is = let P : Option ℕ → Type 0 = λ x. IfSome x (λ s. s ≤ n) in subst P is w
+
+-- ---- keys with their values
+
+module _ {V : Type 0} where
+  keyed_stays : (bs more : List ℕ) (s : KeySpan V) → IsInside (length bs) s → keyed_at (bs ++ more) s ≡ keyed_at bs s
+  keyed_stays bs more s w = ap (λ k. (k, s.value.now)) (range_stays bs more s.start s.end w.0 w.1)
+
+  -- keys that are appended leave the entries as they are, and a place in them joins these
+  pub keyed_joins : (o : Option (List ℕ)) (old new : List ℕ) (ss : List (KeySpan V)) (s : KeySpan V) → AppendsTo old new o → All (IsInside (length old)) ss → map (keyed_at new) (ss ++ s ∷ []) ≡ map (keyed_at old) ss ++ keyed_at new s ∷ []
+  keyed_joins None old new ss s h w = absurd h
+  keyed_joins (Some t) old new ss s h w =
+      let stay = ap (λ bs. map (keyed_at bs) ss) h ∙ all_stay keyed_at IsInside old t (keyed_stays old t) ss (recursion_from_All (IsInside (length old)) ss w) in
+      map_push (keyed_at new) ss s ∙ ap (λ es. es ++ keyed_at new s ∷ []) stay
+
+  -- places in the order of their bytes are entries in the order of their keys
+  pub keyed_sorted : (bs : List ℕ) (ss : List (KeySpan V)) → IsSortedBy (λ s t. is_lt (bytes_cmp (slice_range bs s.start s.end) (slice_range bs t.start t.end))) ss → IsSortedBy key_goes_before (map (keyed_at bs) ss)
+  keyed_sorted bs [] sorted k d low h = absurd (omega (arith, h))
+  keyed_sorted bs (s ∷ ss) sorted k d low h =
+      let inside : k + 1 < length (s ∷ ss) = omega (arith, h, length-map (s ∷ ss) (keyed_at bs)) in
+      ap₂ (λ x y. is_lt (bytes_cmp x.0 y.0)) (get_or-map (keyed_at bs) (s ∷ ss) (k + 1) s d inside) (get_or-map (keyed_at bs) (s ∷ ss) k s d (omega (arith, inside))) ∙ sorted k s low inside

@@ -10,10 +10,10 @@ use Rattle.dagcbor_write.specs.Pairwise.{Pairwise}
 use Rattle.dagcbor_write.specs.Trees.{Pair}
 use Rattle.dagcbor_write.proofs.Mapping.{beside}
 
-abbrev Named : Type 0
+abbrev pub Named : Type 0
 Named = List ℕ × Tree
 
-abbrev IsNamed : Named → Pair → Type 0
+abbrev pub IsNamed : Named → Pair → Type 0
 IsNamed n p = pair_of p ≡ Some n
 
 abbrev before : Option Named → Option (List Named) → Option (List Named)
@@ -25,7 +25,7 @@ names [] (n ∷ ns) w = absurd w
 names (p ∷ ps) [] w = absurd w
 names (p ∷ ps) (n ∷ ns) w = ap₂ before w.0 (names ps ns w.1)
 
-names_given : (ps : List Pair) → IfSome (all_some (map pair_of ps)) (λ ns. Pairwise IsNamed ns ps)
+pub names_given : (ps : List Pair) → IfSome (all_some (map pair_of ps)) (λ ns. Pairwise IsNamed ns ps)
 names_given [] = tt
 names_given (p ∷ ps) = by (pair_of p) refl (all_some (map pair_of ps)) (names_given ps)
   where

@@ -13,6 +13,7 @@ pub mod Gathering
 pub mod Lists
 pub mod Maps
 pub mod Order
+pub mod Keyed
 pub mod Rows
 pub mod Lending
 pub mod Bounded

@@ -8,11 +8,11 @@ use Rattle.ipld_tree.specs.Spelled.{spelled_head}
 use Rattle.dagcbor_write.specs.Maps.{Texts}
 
 -- each key differs from the one before it, or one does not
-abbrev pub KeysDiffer : List Texts → Bool → Type 0
-KeysDiffer es true = (k : ℕ) (d : Texts) → k + 1 < length es
+abbrev pub KeysDiffer : {A : Type 0} → List (List ℕ × A) → Bool → Type 0
+KeysDiffer {A} es true = (k : ℕ) (d : List ℕ × A) → k + 1 < length es
     → (slice_index_or es k d).0 ≢ (slice_index_or es (k + 1) d).0
-KeysDiffer es false = (k : ℕ) × (k + 1 < length es)
-    × ((d : Texts) → (slice_index_or es k d).0 ≡ (slice_index_or es (k + 1) d).0)
+KeysDiffer {A} es false = (k : ℕ) × (k + 1 < length es)
+    × ((d : List ℕ × A) → (slice_index_or es k d).0 ≡ (slice_index_or es (k + 1) d).0)
 
 -- whether an entry's bytes, key and value together, stand before another's
 abbrev pub goes_before : Texts → Texts → Bool

@@ -2,6 +2,7 @@
 use Rattle.std.specs.Prelude.{ℕ, ◌≤◌, List}
 use Rattle.std.specs.List.{slice_range}
 use Rattle.dagcbor_write.specs.declared.collect.gathered.Span.{Span}
+use Rattle.dagcbor_write.specs.declared.collect.keyed.KeySpan.{KeySpan}
 use Rattle.dagcbor_write.specs.Maps.{Texts}
 
 -- the key and the value that stand there
@@ -11,3 +12,11 @@ entry_at bytes s = (slice_range bytes s.start s.key_end, slice_range bytes s.key
 -- the places are in order, and the last lies within n bytes
 abbrev pub IsWithin : ℕ → Span → Type 0
 IsWithin n s = (s.start ≤ s.key_end) × (s.key_end ≤ s.end) × (s.end ≤ n)
+
+-- the key that stands there, and its value
+abbrev pub keyed_at : {V : Type 0} → List ℕ → KeySpan V → List ℕ × V
+keyed_at bytes s = (slice_range bytes s.start s.end, s.value.now)
+
+-- the place begins before it ends, within n bytes
+abbrev pub IsInside : {V : Type 0} → ℕ → KeySpan V → Type 0
+IsInside n s = (s.start ≤ s.end) × (s.end ≤ n)

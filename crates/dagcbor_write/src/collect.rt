@@ -5,3 +5,4 @@ pub(crate) mod buffer;
 pub(crate) mod collect_map;
 pub(crate) mod collect_seq;
 pub(crate) mod gathered;
+pub(crate) mod keyed;

@@ -52,6 +52,13 @@ impl<W> Serializer<W> {
         writer
     }
 
+    /// The writer, with what was written to it so far.
+    pub(crate) fn writer(&self) -> &W
+        ensures { result.now ≡ self.now }
+    {
+        &self.writer
+    }
+
     /// DAG-CBOR is a binary format.
     pub fn is_human_readable(&self) -> bool
         ensures { result ≡ false }

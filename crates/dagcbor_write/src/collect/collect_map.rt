@@ -24,7 +24,7 @@ use dagcbor_heads::{EncodeError, Write, WriteResult};
 use std::alloc::Global;
 
 /// What a map with two equal keys is refused with.
-const REPEATED_KEY: &str = "Map keys must be unique";
+pub(crate) const REPEATED_KEY: &str = "Map keys must be unique";
 
 /// Takes the entries of a map. They go out at its end, in key order.
 pub struct CollectMap<'a, W, G = Gathered> {

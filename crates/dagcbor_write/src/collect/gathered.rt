@@ -15,10 +15,10 @@ use std::alloc::Global;
 use std::marker::Model;
 
 /// What a key without a spelling is refused with.
-const BAD_KEY: &str = "Map key cannot be serialized.";
+pub(crate) const BAD_KEY: &str = "Map key cannot be serialized.";
 
 /// What a key that is no text is refused with.
-const NO_TEXT: &str = "Map keys must be strings";
+pub(crate) const NO_TEXT: &str = "Map keys must be strings";
 
 /// What a value without a spelling is refused with.
 pub(crate) const BAD_VALUE: &str = "Struct value cannot be serialized.";
@@ -202,7 +202,7 @@ impl Gathered {
 }
 
 /// The bytes of a range, as far as it lies within them.
-fn range(bytes: &[u8], start: usize, end: usize) -> &[u8]
+pub(crate) fn range(bytes: &[u8], start: usize, end: usize) -> &[u8]
     ensures { result.now ≡ slice_range bytes.now start end }
 {
     let end = end.min(bytes.len());
@@ -210,7 +210,7 @@ fn range(bytes: &[u8], start: usize, end: usize) -> &[u8]
 }
 
 /// Whether a spelling is that of a text.
-fn is_text(bytes: &[u8]) -> bool
+pub(crate) fn is_text(bytes: &[u8]) -> bool
     ensures { result ≡ begins_text bytes.now }
 {
     match bytes.first() {

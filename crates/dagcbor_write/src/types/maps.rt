@@ -8,21 +8,25 @@ ghost use Rattle.ipld_tree.specs.Spelled.{spelled_tree};
 ghost use Rattle.dagcbor_write.specs.Trees.{Pair};
 ghost use Rattle.dagcbor_write.specs.Maps.{ShowsPairs};
 
+use crate::collect::collect_map::REPEATED_KEY;
+use crate::collect::keyed::Keyed;
 use crate::serialize::Serialize;
 use crate::serializer::Serializer;
-use dagcbor_heads::{Write, WriteResult};
+use dagcbor_heads::{EncodeError, Write, WriteResult};
 use std::alloc::Global;
 use std::collections::{BTreeMap, HashMap};
 use std::hash::Hash;
 
-/// Appends the map of the entries that an iterator has left, in key order.
+/// Appends the map of the entries that an iterator has left, in key order. `count` is how many they
+/// are, for speed alone. Nothing goes out before each key is spelled; then each value goes straight
+/// to the writer.
 fn write_entries<
     'a,
     K: Serialize + 'a,
     V: Serialize + 'a,
     I: Iterator<Item = (&'a K, &'a V)> + Drop,
     W: Write,
->(alloc: Global, entries: I, ser: &mut Serializer<W>) -> WriteResult<(), W>
+>(alloc: Global, count: usize, entries: I, ser: &mut Serializer<W>) -> WriteResult<(), W>
     requires can { I.can_next entries }
     requires ends { IsFinite (I.remaining entries) }
     ensures written { (rest : I → List Pair)
@@ -33,18 +37,23 @@ fn write_entries<
         → ShowsPairs I.next_gives (λ e. (K.tree e.0.now, V.tree e.1.now)) rest
         → OnOk result (IfSome (entries_tree (rest entries)) IsTree) }
 {
-    let mut map = ser.serialize_map(alloc, None);
+    let Ok(mut keyed) = Keyed::with_room(alloc, count) else {
+        return Err(EncodeError::OutOfMemory);
+    };
     for (key, value) in entries {
-        map.serialize_entry(key, value)?;
+        keyed.take(alloc, key, value)?;
     }
-    map.end()
+    if !keyed.put_in_order() {
+        return Err(EncodeError::custom(REPEATED_KEY));
+    }
+    keyed.write(alloc, ser)
 }
 
 impl<K: Ord + Serialize, V: Serialize> Serialize for BTreeMap<K, V> {
     ghost tree = { λ m. entries_tree (map (λ e. (K.tree e.0, V.tree e.1)) m.entries) };
 
     fn serialize<W: Write>(&self, alloc: Global, ser: &mut Serializer<W>) -> WriteResult<(), W> {
-        write_entries(alloc, self.iter(), ser)
+        write_entries(alloc, self.len(), self.iter(), ser)
     }
 }
 
@@ -52,6 +61,6 @@ impl<K: Eq + Hash + Serialize, V: Serialize> Serialize for HashMap<K, V> {
     ghost tree = { λ m. entries_tree (map (λ e. (K.tree e.0, V.tree e.1)) m.entries) };
 
     fn serialize<W: Write>(&self, alloc: Global, ser: &mut Serializer<W>) -> WriteResult<(), W> {
-        write_entries(alloc, self.iter(), ser)
+        write_entries(alloc, self.len(), self.iter(), ser)
     }
 }

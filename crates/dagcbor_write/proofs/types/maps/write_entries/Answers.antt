@@ -1,5 +1,7 @@
-use Rattle.std.proofs.Common.{rules, false, ap, sym}
-use Rattle.dagcbor_write.proofs.Fields.{begin_map, next_pair, exit_pair, end_map, all_given, left_as}
+use Rattle.std.proofs.Common.{rules, ap, sym, refl}
+use Rattle.dagcbor_write.proofs.Fields.{begin_map, next_pair, exit_key, all_given, left_as}
+use Rattle.dagcbor_write.proofs.KeyOrder.{IsKeyedBy, keyed_pair, keyed_written, keyed_well_formed, keyed_none}
+use Rattle.dagcbor_write.proofs.Refusals.{stops_with}
 use Rattle.dagcbor_write.proofs.types.maps.write_entries.Goals as goal
 
 pub loop-key-init : goal.loop-key-init
@@ -7,9 +9,7 @@ loop-key-init g c =
     record {
       can_next = search rules;
       is_finite = search rules;
-      nothing_written = search rules;
-      key = search rules;
-      given = λ rest shows. left_as (ap rest (sym c.into_iter-key-iterator.ensures.into_iter_gives)) (begin_map (rest c.args.entries) _ (ap (λ state. state.entries) c.serialize_map-map.ensures.nothing));
+      given = λ rest shows. left_as (ap rest (sym c.into_iter-key-iterator.ensures.into_iter_gives)) (begin_map (IsKeyedBy g.V.Serialize.tree) (rest c.args.entries) _ c.in-Ok.ensures);
     }
 
 pub loop-key-preserved : goal.loop-key-preserved
@@ -17,18 +17,24 @@ loop-key-preserved g c =
     record {
       can_next = search rules;
       is_finite = search rules;
-      nothing_written = search rules;
-      key = search rules;
-      given = λ rest shows. next_pair (left_as (shows _ _ _ c.in-Some.ensures.steps) (c.loop-key.invariant.given rest shows)) _ c.in_ok-serialize_entry.ensures.entry.joins;
+      given = λ rest shows. next_pair (left_as (shows _ _ _ c.in-Some.ensures.steps) (c.loop-key.invariant.given rest shows)) _ _ (keyed_pair g.V.Serialize.tree _ _ _ _ c.in_ok-take.ensures) c.in_ok-take.ensures.2;
     }
 
-pub returns-in_err-serialize_entry-clause-written : goal.returns-in_err-serialize_entry-clause-written
-returns-in_err-serialize_entry-clause-written g c rest shows =
-    exit_pair false (left_as (shows _ _ _ c.in-Some.ensures.steps) (c.loop-key.invariant.given rest shows)) _ _ _ _ c.in_err-serialize_entry.ensures.entry.joins c.from_residual.ensures.1 (search rules)
+pub returns-in_err-take-clause-written : goal.returns-in_err-take-clause-written
+returns-in_err-take-clause-written g c rest shows =
+    exit_key (left_as (shows _ _ _ c.in-Some.ensures.steps) (c.loop-key.invariant.given rest shows)) _ _ _ _ c.in_err-take.ensures c.from_residual.ensures.1 refl
 
-pub returns : goal.returns
-returns g c =
-    record {
-      written = λ rest shows. end_map _ (left_as (shows _ _ _ c.in-None.ensures.steps).0 (c.loop-key.invariant.given rest shows)) (search rules) _ _ _ _ _ c.end.ensures.written (search rules) (search rules);
-      well_formed = λ rest shows. c.end.ensures.well_formed _ (all_given (left_as (shows _ _ _ c.in-None.ensures.steps).0 (c.loop-key.invariant.given rest shows)));
-    }
+pub returns-then-not-put_in_order-clause-written : goal.returns-then-not-put_in_order-clause-written
+returns-then-not-put_in_order-clause-written g c rest shows =
+    let given = all_given (left_as (shows _ _ _ c.in-None.ensures.steps).0 (c.loop-key.invariant.given rest shows)) in
+    stops_with c.custom.ensures _ _ (keyed_none g.V.Serialize.tree _ _ _ _ given c.put_in_order.ensures (search rules))
+
+pub returns-clause-written : goal.returns-clause-written
+returns-clause-written g c rest shows =
+    let given = all_given (left_as (shows _ _ _ c.in-None.ensures.steps).0 (c.loop-key.invariant.given rest shows)) in
+    keyed_written g.V.Serialize.tree _ _ _ _ given c.put_in_order.ensures _ _ _ (search rules) c.write.ensures.written
+
+pub returns-clause-well_formed : goal.returns-clause-well_formed
+returns-clause-well_formed g c rest shows =
+    let given = all_given (left_as (shows _ _ _ c.in-None.ensures.steps).0 (c.loop-key.invariant.given rest shows)) in
+    keyed_well_formed g.V.Serialize.tree _ _ _ _ given c.put_in_order.ensures _ (search rules) c.write.ensures.well_formed

@@ -1,4 +1,4 @@
-use Rattle.std.proofs.Common.{rules, ◌-◌, ◌+◌, ◌≡◌, arith, sym, ◌∙◌}
+use Rattle.std.proofs.Common.{◌-◌, ◌+◌, ◌≡◌, arith, sym, ◌∙◌}
 use Rattle.dagcbor_write.proofs.Spans.{same_bytes}
 use Rattle.dagcbor_write.proofs.collect.gathered.Gathered.keys_differ.Goals as goal
 
@@ -8,4 +8,4 @@ returns-then-eq c =
     (c.loop-i.i - 1, omega arith, λ d. rw at (sym (c.key.ensures d) ∙ same_bytes c.key.result.now c.key-in-loop-i.result.now (sym c.eq.ensures ∙ c.if-eq.true) ∙ c.key-in-loop-i.ensures d))
 
 pub returns : goal.returns
-returns c = search rules
+returns c = λ k d h. c.loop-i.invariant k d (omega (arith, h, c.loop-i-test.false, c.len-i-end.ensures))

@@ -13,3 +13,4 @@ pub mod Messages
 pub mod Enums
 pub mod IpldTrees
 pub mod Walks
+pub mod Places

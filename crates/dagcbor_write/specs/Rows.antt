@@ -1,10 +1,15 @@
--- A row of pairs: what it is spelled as, and whether its keys rise.
-use Rattle.std.specs.Prelude.{◌≡◌, ℕ, List, [], ◌∷◌, Option, Some, option_and_then, IfSome, IsSomeAnd, ⊤}
+-- A row of pairs: what it is spelled as, whether its keys rise, and in which order it is written.
+use Rattle.std.specs.Prelude.{◌≡◌, ℕ, suc, ◌<◌, Bool, true, ◌&&◌, List, [], ◌∷◌, ◌++◌, length, map}
+use Rattle.std.specs.Prelude.{slice_index_or, IsPermutation, Option, None, Some}
+use Rattle.std.specs.Prelude.{option_and_then, option_map, IfSome, IsSomeAnd, ⊤}
+use Rattle.std.specs.List.{All}
+use Rattle.std.specs.Borrow.{Bor}
 use Rattle.std.specs.Fmt.{◌++?◌}
 use Rattle.std.specs.declared.cmp.Ordering.TheVariants.{Less}
-use Rattle.ipld_tree.specs.Key.{key_cmp}
-use Rattle.ipld_tree.specs.Tree.{IsTree, key_of}
+use Rattle.ipld_tree.specs.Key.{key_cmp, comes_before}
+use Rattle.ipld_tree.specs.Tree.{IsTree, text, key_of}
 use Rattle.ipld_tree.specs.Spelled.{spelled_tree}
+use Rattle.dagcbor_write.specs.declared.structs.Place.{Place}
 use Rattle.dagcbor_write.specs.Trees.{Pair}
 use Rattle.dagcbor_write.specs.Maps.{spelled_key}
 
@@ -22,3 +27,52 @@ ArePairs (p ∷ ps) = IfSome p.0 IsTree × IfSome p.1 IsTree × ArePairs ps
 abbrev pub KeysRise : List ℕ → List Pair → Type 0
 KeysRise last [] = ⊤
 KeysRise last (p ∷ ps) = IsSomeAnd (option_and_then key_of p.0) (λ k. (key_cmp last k ≡ Less) × KeysRise k ps)
+
+-- ---- places
+
+-- the pair in this place, or one without a key where there is none
+abbrev pub pair_at : List Pair → ℕ → Pair
+pair_at ps i = slice_index_or ps i (None, None)
+
+-- the spellings of the key and of the value
+abbrev pub spelled_pair : Pair → Option (List ℕ)
+spelled_pair p = spelled_key p.0 ++? spelled_tree p.1
+
+-- the key and the value are well-formed
+abbrev pub IsPair : Pair → Type 0
+IsPair p = IfSome p.0 IsTree × IfSome p.1 IsTree
+
+-- these are the names of the pairs, and their places, of which the first is this
+abbrev pub ArePlaces : ℕ → List Pair → List Place → Type 0
+ArePlaces i [] [] = ⊤
+ArePlaces i [] (e ∷ es) = ⊥
+ArePlaces i (p ∷ ps) [] = ⊥
+ArePlaces i (p ∷ ps) (e ∷ es) = (p.0 ≡ Some (text e.name.now)) × (e.at ≡ i) × ArePlaces (suc i) ps es
+
+-- the names and places of the pairs joined the others
+abbrev pub ListsPlaces : List Pair → List Place → List Place → Type 0
+ListsPlaces ps old new = (more : List Place) × ArePlaces (length old) ps more × (new ≡ old ++ more)
+
+-- whether each name stands behind the one before it, and the first behind this one, in key order
+abbrev pub names_rise : List ℕ → List Place → Bool
+names_rise last [] = true
+names_rise last (e ∷ es) = comes_before last e.name.now && names_rise e.name.now es
+
+-- the pairs as they stand, or those in these places
+abbrev pub in_order : List Pair → Option (List Place) → List Pair
+in_order ps None = ps
+in_order ps (Some es) = map (λ e. pair_at ps e.at) es
+
+-- the places that are lent, where some are
+abbrev pub places_of : Option (Bor (List Place)) → Option (List Place)
+places_of order = option_map (λ places. places.now) order
+
+-- in each of the places stands a pair
+abbrev pub HasPlaces : List Pair → Option (List Place) → Type 0
+HasPlaces ps order = IfSome order (All (λ e. e.at < length ps))
+
+-- in this order stand all of the pairs, and their keys rise
+pub record IsKeyOrder (ps : List Pair) (order : Option (List Place)) : Type 0 where
+  pub places : HasPlaces ps order
+  pub all : IsPermutation ps (in_order ps order)
+  pub rise : KeysRise [] (in_order ps order)

@@ -1,14 +1,16 @@
 //! Structs that are written by a row of their fields.
 
-ghost use Rattle.std.specs.Prelude.{◌≡◌, ◌+◌, List, [], ◌∷◌, length, None, OnOk, IfErr, IfSome};
-ghost use Rattle.std.specs.Prelude.{MatchResult};
-ghost use Rattle.ipld_tree.specs.Key.{comes_before};
+ghost use Rattle.std.specs.Prelude.{◌≡◌, ◌+◌, ◌<◌, List, [], ◌∷◌, length, None, OnOk, IfErr, IfSome};
+ghost use Rattle.std.specs.Prelude.{MatchResult, IsTrue, Some};
+ghost use Rattle.ipld_tree.specs.Key.{comes_before, key_cmp};
 ghost use Rattle.dagcbor_write.specs.Answers.{OnMessage};
 ghost use Rattle.dagcbor_heads.specs.Written.{Writes, WroteAll};
 ghost use Rattle.ipld_tree.specs.Tree.{IsTree, entries_tree};
 ghost use Rattle.ipld_tree.specs.Spelled.{spelled_tree};
 ghost use Rattle.dagcbor_write.specs.Gathering.{AppendsTo, Collects};
-ghost use Rattle.dagcbor_write.specs.Rows.{spelled_pairs, ArePairs, KeysRise};
+ghost use Rattle.dagcbor_write.specs.Rows.{spelled_pairs, ArePairs, KeysRise, pair_at};
+ghost use Rattle.dagcbor_write.specs.Rows.{spelled_pair, IsPair, ListsPlaces, names_rise};
+ghost use Rattle.dagcbor_write.specs.Rows.{in_order, places_of, HasPlaces, IsKeyOrder};
 ghost use Rattle.dagcbor_write.specs.Trees.{Pair, field, optional, variant_tree, variant_head};
 ghost use Rattle.dagcbor_write.specs.Maps.{JoinsPairs, StopsAtPair, LacksValue, RefusesAnyValue};
 ghost use Rattle.dagcbor_write.specs.Maps.{RefusesPairs};
@@ -19,6 +21,7 @@ use crate::collect::collect_map::CollectMap;
 use crate::collect::gathered::BAD_VALUE;
 use crate::serialize::Serialize;
 use crate::serializer::Serializer;
+use arrayvec::ArrayVec;
 use dagcbor_heads::{BufWriter, EncodeError, Write, WriteResult};
 use std::alloc::Global;
 use std::cmp::Ordering;
@@ -35,6 +38,16 @@ pub struct Field<'a, T>(pub &'static str, pub &'a T);
 /// stands there.
 #[derive_where(Clone, Copy)]
 pub struct Optional<'a, T>(pub &'static str, pub &'a Option<T>);
+
+/// The name of a field that stands in the map, and its place among those that do.
+#[derive(Clone, Copy, Default)]
+pub struct Place {
+    pub name: &'static str,
+    pub at: usize,
+}
+
+/// As many places as are put in key order. Longer rows are sorted as maps are.
+pub type Places = ArrayVec<Place, 16>;
 
 /// The fields of a struct, one after another: `(Field("x", &self.x), (Optional("y", &self.y),
 /// ()))`.
@@ -65,6 +78,25 @@ pub trait FieldRow: Copy {
             (W.written ser.old) (W.written ser.new) result }
         ensures well_formed { OnOk result (ArePairs (pairs self)) }
         ensures message { IfErr result (OnMessage (λ _. LacksValue (pairs self))) };
+
+    /// Lists the names behind others, each with its place. False where there is no room for all.
+    fn list_places(self, places: &mut Places) -> bool
+        ensures { IsTrue result
+            → ListsPlaces (pairs self) places.old.items places.new.items };
+
+    /// Writes the name and the value of the field in this place. The row is gone through up to
+    /// there, so a row of n fields takes n² / 2 steps, where n is at most 16.
+    fn write_field<W: Write>(
+        &self,
+        place: usize,
+        alloc: Global,
+        ser: &mut Serializer<W>,
+    ) -> WriteResult<(), W>
+        requires { place < length (pairs self.now) }
+        ensures written { Writes (spelled_pair (pair_at (pairs self.now) place))
+            (W.written ser.old) (W.written ser.new) result }
+        ensures well_formed { OnOk result (IsPair (pair_at (pairs self.now) place)) }
+        ensures message { IfErr result (OnMessage (λ _. LacksValue (pairs self.now))) };
 }
 
 impl FieldRow for () {
@@ -80,6 +112,19 @@ impl FieldRow for () {
 
     fn write_fields<W: Write>(
         self,
+        _alloc: Global,
+        _ser: &mut Serializer<W>,
+    ) -> WriteResult<(), W> {
+        Ok(())
+    }
+
+    fn list_places(self, _places: &mut Places) -> bool {
+        true
+    }
+
+    fn write_field<W: Write>(
+        &self,
+        _place: usize,
         _alloc: Global,
         _ser: &mut Serializer<W>,
     ) -> WriteResult<(), W> {
@@ -117,6 +162,25 @@ impl<T: Serialize, L: FieldRow> FieldRow for (Field<'_, T>, L) {
         }
         others.write_fields(alloc, ser)
     }
+
+    fn list_places(self, places: &mut Places) -> bool {
+        let (Field(name, _), others) = self;
+        let at = places.len();
+        if places.try_push(Place { name, at }).is_err() {
+            return false;
+        }
+        others.list_places(places)
+    }
+
+    fn write_field<W: Write>(
+        &self,
+        place: usize,
+        alloc: Global,
+        ser: &mut Serializer<W>,
+    ) -> WriteResult<(), W> {
+        let (Field(name, value), others) = self;
+        write_field_of(name, *value, others, place, alloc, ser)
+    }
 }
 
 impl<T: Serialize, L: FieldRow> FieldRow for (Optional<'_, T>, L) {
@@ -145,36 +209,164 @@ impl<T: Serialize, L: FieldRow> FieldRow for (Optional<'_, T>, L) {
             None => rest.write_fields(alloc, ser),
         }
     }
-}
 
-/// Whether a key comes before another: the shorter first, and keys of one length by their bytes.
-fn comes_before(key: &[u8], other: &[u8]) -> bool
-    ensures { result ≡ comes_before key.now other.now }
-{
-    match key.len().cmp(&other.len()) {
-        Ordering::Less => true,
-        Ordering::Equal => key.cmp(other).is_lt(),
-        Ordering::Greater => false,
+    fn list_places(self, places: &mut Places) -> bool {
+        let (Optional(name, value), rest) = self;
+        match value {
+            Some(value) => (Field(name, value), rest).list_places(places),
+            None => rest.list_places(places),
+        }
+    }
+
+    fn write_field<W: Write>(
+        &self,
+        place: usize,
+        alloc: Global,
+        ser: &mut Serializer<W>,
+    ) -> WriteResult<(), W> {
+        let (Optional(name, value), rest) = self;
+        match *value {
+            Some(value) => write_field_of(name, value, rest, place, alloc, ser),
+            None => rest.write_field(place, alloc, ser),
+        }
     }
 }
 
-/// Writes the fields behind the bytes, one after another. Refused with `Msg("Struct value cannot be
-/// serialized.")` where one has no spelling.
+/// Writes the field in this place of a row that begins with this name and value.
+fn write_field_of<T: Serialize, L: FieldRow, W: Write>(
+    name: &str,
+    value: &T,
+    others: &L,
+    place: usize,
+    alloc: Global,
+    ser: &mut Serializer<W>,
+) -> WriteResult<(), W>
+    requires { place < length (field name.now (T.tree value.now) ∷ L.pairs others.now) }
+    ensures written { Writes (spelled_pair
+        (pair_at (field name.now (T.tree value.now) ∷ L.pairs others.now) place))
+        (W.written ser.old) (W.written ser.new) result }
+    ensures well_formed { OnOk result
+        (IsPair (pair_at (field name.now (T.tree value.now) ∷ L.pairs others.now) place)) }
+    ensures message { IfErr result (OnMessage
+        (λ _. LacksValue (field name.now (T.tree value.now) ∷ L.pairs others.now))) }
+{
+    if place > 0 {
+        return others.write_field(place - 1, alloc, ser);
+    }
+    let key = ser.serialize_str(name);
+    if key.is_err() {
+        return key;
+    }
+    value.serialize(alloc, ser)
+}
+
+/// The order of two keys: the shorter first, and keys of one length by their bytes.
+fn key_cmp(key: &[u8], other: &[u8]) -> Ordering
+    ensures { result ≡ key_cmp key.now other.now }
+{
+    match key.len().cmp(&other.len()) {
+        Ordering::Equal => key.cmp(other),
+        order => order,
+    }
+}
+
+/// Whether a key comes before another.
+fn comes_before(key: &[u8], other: &[u8]) -> bool
+    ensures { result ≡ comes_before key.now other.now }
+{
+    key_cmp(key, other).is_lt()
+}
+
+/// Whether each name stands behind the one before it, in key order, and the first is not empty.
+fn names_rise(places: &[Place]) -> bool
+    ensures { result ≡ names_rise [] places.now }
+{
+    let mut last = "".as_bytes();
+    for place in places {
+        let name = place.name.as_bytes();
+        if !comes_before(last, name) {
+            return false;
+        }
+        last = name;
+    }
+    true
+}
+
+/// Lists the places of the fields in key order. False where they are many, or a name is there
+/// twice.
+fn list_in_order<F: FieldRow>(fields: F, places: &mut Places) -> bool
+    requires { places.old.items ≡ [] }
+    ensures { IsTrue result → IsKeyOrder (F.pairs fields) (Some places.new.items) }
+{
+    if !fields.list_places(places) {
+        return false;
+    }
+    places.sort_unstable_by(|a, b| key_cmp(a.name.as_bytes(), b.name.as_bytes()));
+    names_rise(places.as_slice())
+}
+
+/// Writes the fields in these places, one after another.
+fn write_places<F: FieldRow, W: Write>(
+    alloc: Global,
+    fields: &F,
+    places: &[Place],
+    ser: &mut Serializer<W>,
+) -> WriteResult<(), W>
+    requires { HasPlaces (F.pairs fields.now) (Some places.now) }
+    ensures written { Writes (spelled_pairs (in_order (F.pairs fields.now) (Some places.now)))
+        (W.written ser.old) (W.written ser.new) result }
+    ensures well_formed { OnOk result (ArePairs (in_order (F.pairs fields.now) (Some places.now))) }
+    ensures message { IfErr result (OnMessage (λ _. LacksValue (F.pairs fields.now))) }
+{
+    for place in places {
+        let part = fields.write_field(place.at, alloc, ser);
+        if part.is_err() {
+            return part;
+        }
+    }
+    Ok(())
+}
+
+/// Writes the fields as they stand, or those in these places, one after another.
+fn write_row<F: FieldRow, W: Write>(
+    alloc: Global,
+    fields: F,
+    order: Option<&[Place]>,
+    ser: &mut Serializer<W>,
+) -> WriteResult<(), W>
+    requires { HasPlaces (F.pairs fields) (places_of order) }
+    ensures written { Writes
+        (spelled_pairs (in_order (F.pairs fields) (places_of order.entry)))
+        (W.written ser.old) (W.written ser.new) result }
+    ensures well_formed { OnOk result
+        (ArePairs (in_order (F.pairs fields) (places_of order.entry))) }
+    ensures message { IfErr result (OnMessage (λ _. LacksValue (F.pairs fields))) }
+{
+    match order {
+        Some(places) => write_places(alloc, &fields, places, ser),
+        None => fields.write_fields(alloc, ser),
+    }
+}
+
+/// Writes the fields behind the bytes, as they stand or those in these places, one after another.
+/// Refused with `Msg("Struct value cannot be serialized.")` where one has no spelling.
 fn gather_fields<F: FieldRow, E>(
     alloc: Global,
     bytes: &mut Vec<u8>,
     fields: F,
+    order: Option<&[Place]>,
 ) -> Result<(), EncodeError<E>>
+    requires { HasPlaces (F.pairs fields) (places_of order) }
     ensures { Collects (λ u. AppendsTo bytes.old.items bytes.new.items
-        (spelled_pairs (F.pairs fields))
-        × ArePairs (F.pairs fields))
+        (spelled_pairs (in_order (F.pairs fields) (places_of order.entry)))
+        × ArePairs (in_order (F.pairs fields) (places_of order.entry)))
         (RefusesAnyValue (F.pairs fields)) result }
 {
     if take_first_room(bytes).is_err() {
         return Err(EncodeError::OutOfMemory);
     }
     let mut ser = Serializer::new(BufWriter::new(mem::replace(bytes, Vec::new(alloc))));
-    let result = fields.write_fields(alloc, &mut ser);
+    let result = write_row(alloc, fields, order, &mut ser);
     *bytes = ser.into_inner().into_inner();
     let Err(error) = result else {
         return Ok(());
@@ -186,15 +378,17 @@ fn gather_fields<F: FieldRow, E>(
     }
 }
 
-/// Writes a struct of these fields, whose names rise.
+/// Writes a struct of these fields, whose names rise as they stand or in these places.
 fn write_rising<F: FieldRow, W: Write>(
     alloc: Global,
     fields: F,
+    order: Option<&[Place]>,
     count: usize,
     ser: &mut Serializer<W>,
 ) -> WriteResult<(), W>
-    requires count { count ≡ length (F.pairs fields) }
-    requires rising { KeysRise [] (F.pairs fields) }
+    requires count { count
+        ≡ length (in_order (F.pairs fields) (places_of order)) }
+    requires rising { IsKeyOrder (F.pairs fields) (places_of order) }
     ensures written { Writes (spelled_tree (entries_tree (F.pairs fields)))
         (W.written ser.old) (W.written ser.new) result }
     ensures well_formed { OnOk result (IfSome (entries_tree (F.pairs fields)) IsTree) }
@@ -202,7 +396,7 @@ fn write_rising<F: FieldRow, W: Write>(
         (OnMessage (λ m. RefusesAnyValue (F.pairs fields) m × (ser.new ≡ ser.old))) }
 {
     let mut bytes = Vec::new(alloc);
-    gather_fields(alloc, &mut bytes, fields)?;
+    gather_fields(alloc, &mut bytes, fields, order)?;
     let head = ser.push_head(5, count);
     if head.is_err() {
         return head;
@@ -227,6 +421,28 @@ fn write_any<F: FieldRow, W: Write>(
     map.end()
 }
 
+/// Writes a struct of these fields, whose names do not rise as they stand. A row that is not long
+/// is put in order by its places, one of many fields by the map.
+#[inline(never)]
+fn write_unordered<F: FieldRow, W: Write>(
+    alloc: Global,
+    fields: F,
+    ser: &mut Serializer<W>,
+) -> WriteResult<(), W>
+    ensures written { Writes (spelled_tree (entries_tree (F.pairs fields)))
+        (W.written ser.old) (W.written ser.new) result }
+    ensures well_formed { OnOk result (IfSome (entries_tree (F.pairs fields)) IsTree) }
+    ensures message { IfErr result
+        (OnMessage (λ m. RefusesPairs (F.pairs fields) m × (ser.new ≡ ser.old))) }
+{
+    let mut places = ArrayVec::new();
+    if list_in_order(fields, &mut places) {
+        write_rising(alloc, fields, Some(places.as_slice()), places.len(), ser)
+    } else {
+        write_any(alloc, fields, ser)
+    }
+}
+
 /// Writes a struct of these fields, as a map, in key order. Nothing goes out before each field has
 /// been spelled in memory. Where the row is in key order already, nothing is sorted. Refused with
 /// `Msg("Struct value cannot be serialized.")` where a value has no spelling, else with `Msg("Map
@@ -248,8 +464,8 @@ pub fn write_struct<F: FieldRow, W: Write>(
         (OnMessage (λ m. RefusesPairs (F.pairs fields) m × (ser.new ≡ ser.old))) }
 {
     match fields.count_rising("", 0) {
-        Some(count) => write_rising(alloc, fields, count, ser),
-        None => write_any(alloc, fields, ser),
+        Some(count) => write_rising(alloc, fields, None, count, ser),
+        None => write_unordered(alloc, fields, ser),
     }
 }
 

@@ -3,8 +3,8 @@ use Rattle.std.specs.Prelude.{option_map}
 use Rattle.dagcbor_items.proofs.Judging.{ItemsPassed, EntriesPassed}
 use Rattle.dagcbor_items.proofs.judge.+judge.Given as goal
 
-abbrev pub decreases-behind_item : goal.decreases-behind_item
-decreases-behind_item l = 3 * l.steps + 1
+abbrev pub decreases-judge_item : goal.decreases-judge_item
+decreases-judge_item l = 3 * l.steps + 1
 
 abbrev pub decreases-left_behind_items : goal.decreases-left_behind_items
 decreases-left_behind_items l = 3 * l.steps + 2

@@ -40,7 +40,7 @@ pub item_named : (b : List ℕ) (steps : ℕ) (old new : Reading) (e : DecodeErr
     → CauseInside steps e b
 item_named b steps old new e l s lends r =
     at_steps {E = Infallible} e b (old.steps + 0) steps (omega (arith, s))
-        (cause_named (HasItem 0 old) (WalkLacks false old) (CauseInside (old.steps + 0)) b old new e l enough r)
+    (cause_named (HasItem 0 old) (WalkLacks false old) (CauseInside (old.steps + 0)) b old new e l enough r)
   where
     enough : WalkLacks false old → ⊥
     enough (inl x) = let differ = sym lends ∙ x in cc

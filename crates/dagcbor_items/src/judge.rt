@@ -2,7 +2,7 @@
 //! built, and no memory is taken. Where the judge stops, the walk names the cause of the refusal,
 //! which goes up beside the results, so that these stay in registers.
 
-ghost use Rattle.std.specs.Prelude.{◌≡◌, ◌≢◌, ◌↔◌, ◌<◌, ◌≤◌, length, List, ℕ, IsTrue, IsUtf8};
+ghost use Rattle.std.specs.Prelude.{◌≡◌, ◌≢◌, ◌↔◌, ◌-◌, ◌<◌, ◌≤◌, length, List, ℕ, IsTrue, IsUtf8};
 ghost use Rattle.std.specs.Prelude.{MatchOption, option_map};
 ghost use Rattle.std.specs.Option.{IfNone};
 ghost use Rattle.std.specs.List.{list_all};
@@ -293,12 +293,12 @@ pub(crate) fn judge_item<'b>(
     if let Some((major, argument, behind)) = split_head(bytes) {
         if major == 4 {
             if steps >= 2 {
-                let left = left_behind_items(behind, argument, steps - 2, cause)?;
+                let left = left_behind_items(behind, argument, steps, cause)?;
                 return Some(&behind[behind.len() - left..]);
             }
         } else if major == 5 {
             if steps >= 2 {
-                let left = left_behind_entries(behind, argument, steps - 2, cause)?;
+                let left = left_behind_entries(behind, argument, steps, cause)?;
                 return Some(&behind[behind.len() - left..]);
             }
         } else if steps >= 1 {
@@ -311,7 +311,8 @@ pub(crate) fn judge_item<'b>(
     None
 }
 
-/// How many bytes are left behind so many items, or why these do not stand there.
+/// How many bytes are left behind so many items of a list that may take these steps, or why these
+/// do not stand there.
 #[cycle(judge)]
 #[inline(never)]
 fn left_behind_items(
@@ -320,18 +321,20 @@ fn left_behind_items(
     steps: usize,
     cause: &mut DecodeError<Infallible>,
 ) -> Option<usize>
-    requires { steps ≤ 1024 }
-    ensures left { GivesLeft (SplitsItems bytes.now count steps) result }
-    ensures cause { IfNone result (CauseInItems count steps cause.new bytes.now) }
+    requires some { 2 ≤ steps }
+    requires few { steps ≤ 1024 }
+    ensures left { GivesLeft (SplitsItems bytes.now count (steps - 2)) result }
+    ensures cause { IfNone result (CauseInItems count (steps - 2) cause.new bytes.now) }
 {
     let mut rest = bytes;
     for _index in 0..count {
-        rest = judge_item(rest, steps, cause)?;
+        rest = judge_item(rest, steps - 2, cause)?;
     }
     Some(rest.len())
 }
 
-/// How many bytes are left behind so many entries, or why these do not stand there.
+/// How many bytes are left behind so many entries of a map that may take these steps, or why these
+/// do not stand there.
 #[cycle(judge)]
 #[inline(never)]
 fn left_behind_entries(
@@ -340,9 +343,10 @@ fn left_behind_entries(
     steps: usize,
     cause: &mut DecodeError<Infallible>,
 ) -> Option<usize>
-    requires { steps ≤ 1024 }
-    ensures left { GivesLeft (SplitsEntries bytes.now count steps) result }
-    ensures cause { IfNone result (CauseInEntries count steps cause.new bytes.now) }
+    requires some { 2 ≤ steps }
+    requires few { steps ≤ 1024 }
+    ensures left { GivesLeft (SplitsEntries bytes.now count (steps - 2)) result }
+    ensures cause { IfNone result (CauseInEntries count (steps - 2) cause.new bytes.now) }
 {
     let mut previous = None;
     let mut rest = bytes;
@@ -351,7 +355,7 @@ fn left_behind_entries(
             name_key_cause(&previous, rest, cause);
             return None;
         };
-        rest = judge_item(behind, steps, cause)?;
+        rest = judge_item(behind, steps - 2, cause)?;
         previous = Some(key);
     }
     Some(rest.len())

@@ -18,7 +18,7 @@ use Rattle.ipld_tree.specs.Spelling.{items_spelling, entries_spelling, item_coun
 use Rattle.ipld_tree.proofs.Unique.{major, argument, payload, argument_fits}
 use Rattle.ipld_tree.proofs.Fronts.{by_head, front_head, front_unique, is_bytes, is_text, is_list, is_mapping, is_link, is_simple, major_le, list_opened, list_closed, item_opened, item_closed, items_after, map_opened, entry_opened, entry_closed, entries_after}
 use Rattle.dagcbor_items.proofs.Rows.{first_follows, all_follow}
-use Rattle.dagcbor_items.specs.Places.{Follows}
+use Rattle.dagcbor_items.specs.Places.{Follows, last_key}
 use Rattle.dagcbor_items.specs.Entries.{AllFollow}
 use Rattle.dagcbor_items.specs.Judging.{SplitsPayload, SplitsText, SplitsKey, SplitsCid, SplitsLeaf, SplitsItem, SplitsItems, SplitsEntries}
 use Rattle.dagcbor_items.proofs.Steps.{need_positive}
@@ -208,10 +208,14 @@ no_item_there b now count index steps more_left s none h = let q = s.left h.0 h.
     next no_items e f n = omega (arith, e, more_left)
     next {end} (item u us) e f n = none (_, (u, (item_opened now end u us f).0, omega (arith, n)))
 
-pub all_passed : (b now : List ℕ) (count index steps : ℕ) → index ≡ count → ItemsPassed b count index steps now → SplitsItems b count steps now
-all_passed b now count index steps e s =
+-- those that were passed alone
+pub items_so_far : (b now : List ℕ) (count index steps : ℕ) → ItemsPassed b count index steps now → SplitsItems b index steps now
+items_so_far b now count index steps s =
     let q = s.passed now no_items record { well_formed = tt; spellable = tt; is = refl } (omega arith) in
-    (q.0, omega (arith, q.1, e), q.2, q.3)
+    (q.0, omega (arith, q.1), q.2, q.3)
+
+pub all_passed : (b now : List ℕ) (count index steps : ℕ) → index ≡ count → ItemsPassed b count index steps now → SplitsItems b count steps now
+all_passed b now count index steps e s = let q = items_so_far b now count index steps s in (q.0, omega (arith, q.1, e), q.2, q.3)
 
 -- ---- maps
 
@@ -245,21 +249,33 @@ no_map_step n steps b c h few i = omega (arith, few, (map_inside n steps b c h i
 pub no_map : (n steps : ℕ) (b c : List ℕ) → SplitsHead b 5 n c → ¬ ((rest : List ℕ) × SplitsEntries c n (steps - 2) rest) → ¬ ((rest : List ℕ) × SplitsItem b steps rest)
 no_map n steps b c h none i = none (map_inside n steps b c h i).1
 
+-- the last key of entries behind this one
+last_after : Option (List ℕ) → Entries → Option (List ℕ)
+last_after previous no_entries = previous
+last_after previous (entry k t es) = last_after (Some k) es
+
+last_of_all : (es : Entries) → last_key es ≡ last_after None es
+unfolding last_key last_after
+last_of_all no_entries = refl
+last_of_all (entry k t no_entries) = refl
+last_of_all (entry k t (entry l u es)) = last_of_all (entry l u es)
+
 -- the entries that were passed, and those that are still to come where so many stand there
 pub record EntriesPassed (b : List ℕ) (count index steps : ℕ) (previous : Option (List ℕ)) (now : List ℕ) : Type 0 where
   passed : (end : List ℕ) (more : Entries) → AreEntryFronts now more end → entries_need more ≤ steps → AllFollow previous more
-      → (es : Entries) × (entry_count es ≡ index + entry_count more) × AreEntryFronts b es end × (entries_need es ≤ steps)
+      → (es : Entries) × (entry_count es ≡ index + entry_count more) × AreEntryFronts b es end × (entries_need es ≤ steps) × (last_key es ≡ last_after previous more)
   left : (end : List ℕ) → SplitsEntries b count steps end → (more : Entries) × (entry_count more + index ≡ count) × AreEntryFronts now more end × (entries_need more ≤ steps) × AllFollow previous more
 
 pub no_entry_passed : (b : List ℕ) (count steps : ℕ) → EntriesPassed b count 0 steps None b
-no_entry_passed b count steps = record { passed = λ end more f n a. (more, omega arith, f, n); left = λ end k. (k.0, omega (arith, k.1), k.2, k.3, tt) }
+no_entry_passed b count steps = record { passed = λ end more f n a. (more, omega arith, f, n, last_of_all more); left = λ end k. (k.0, omega (arith, k.1), k.2, k.3, tt) }
 
 pub one_entry_passed : (b now c rest key : List ℕ) (count index steps : ℕ) (previous : Option (List ℕ)) → index < count → EntriesPassed b count index steps previous now → SplitsKey now key c → Follows previous key → SplitsItem c steps rest
     → EntriesPassed b count (index + 1) steps (Some key) rest
+unfolding last_after
 one_entry_passed b now c rest key count index steps previous more_left s h follows k = record {
   passed = λ end more f n a.
       let q = s.passed end (entry key k.0 more) (entry_closed now c rest end key k.0 more h k.1 a f) (omega (arith, n, k.2)) (all_follow previous key k.0 more follows) in
-      (q.0, omega (arith, q.1), q.2, q.3);
+      (q.0, omega (arith, q.1), q.2, q.3, q.4);
   left = λ end i. let q = s.left end i in behind q.0 q.1 q.2 q.3;
 }
   where
@@ -282,17 +298,15 @@ next_entry b now count index steps previous more_left s h = let q = s.left h.0 h
         let p = entry_opened now end l u es f in
         (l, p.0, p.1, first_follows previous l u es a, (_, (u, p.2, omega (arith, n))))
 
-pub no_key_there : (b now : List ℕ) (count index steps : ℕ) (previous : Option (List ℕ)) → index < count → EntriesPassed b count index steps previous now → ¬ ((key : List ℕ) × (rest : List ℕ) × SplitsKey now key rest)
-    → ¬ ((rest : List ℕ) × SplitsEntries b count steps rest)
-no_key_there b now count index steps previous more_left s none h = let k = next_entry b now count index steps previous more_left s h in none (k.0, k.1, k.2)
+pub no_key_there : (b now : List ℕ) (count index steps : ℕ) (previous : Option (List ℕ)) → index < count → EntriesPassed b count index steps previous now
+    → ¬ ((key : List ℕ) × (rest : List ℕ) × SplitsKey now key rest × Follows previous key) → ¬ ((rest : List ℕ) × SplitsEntries b count steps rest)
+no_key_there b now count index steps previous more_left s none h = let k = next_entry b now count index steps previous more_left s h in none (k.0, k.1, k.2, k.3)
 
 same_key : (now key key' c c' : List ℕ) → SplitsKey now key c → SplitsKey now key' c' → (key' ≡ key) × (c' ≡ c)
 same_key now key key' c c' h i = let u = front_unique now c' c (text key') (text key) i h in let is : key' ≡ key = cc u.0 in (is, u.1)
 
-pub no_key_in_order : (b now key c : List ℕ) (count index steps : ℕ) (previous : Option (List ℕ)) → index < count → EntriesPassed b count index steps previous now → SplitsKey now key c → ¬ Follows previous key → ¬ ((rest : List ℕ) × SplitsEntries b count steps rest)
-no_key_in_order b now key c count index steps previous more_left s h none i =
-    let k = next_entry b now count index steps previous more_left s i in
-    none (subst (Follows previous) (same_key now key k.0 c k.1 h k.2).0 k.3)
+pub no_key_in_order : (now key c : List ℕ) (previous : Option (List ℕ)) → SplitsKey now key c → ¬ Follows previous key → ¬ ((k : List ℕ) × (rest : List ℕ) × SplitsKey now k rest × Follows previous k)
+no_key_in_order now key c previous h none k = none (subst (Follows previous) (same_key now key k.0 c k.1 h k.2).0 k.3)
 
 pub no_value : (b now key c : List ℕ) (count index steps : ℕ) (previous : Option (List ℕ)) → index < count → EntriesPassed b count index steps previous now → SplitsKey now key c → ¬ ((rest : List ℕ) × SplitsItem c steps rest)
     → ¬ ((rest : List ℕ) × SplitsEntries b count steps rest)
@@ -300,14 +314,20 @@ no_value b now key c count index steps previous more_left s h none i =
     let k = next_entry b now count index steps previous more_left s i in
     none (subst (λ x. (rest : List ℕ) × SplitsItem x steps rest) (same_key now key k.0 c k.1 h k.2).1 k.4)
 
-pub all_entries_passed : (b now : List ℕ) (count index steps : ℕ) (previous : Option (List ℕ)) → index ≡ count → EntriesPassed b count index steps previous now → SplitsEntries b count steps now
-all_entries_passed b now count index steps previous e s =
+-- those that were passed alone, and the last of their keys
+pub entries_so_far : (b now : List ℕ) (count index steps : ℕ) (previous : Option (List ℕ)) → EntriesPassed b count index steps previous now
+    → (es : Entries) × (entry_count es ≡ index) × AreEntryFronts b es now × (last_key es ≡ previous) × (entries_need es ≤ steps)
+unfolding last_after
+entries_so_far b now count index steps previous s =
     let q = s.passed now no_entries record { well_formed = tt; spellable = tt; is = refl } (omega arith) (ends previous) in
-    (q.0, omega (arith, q.1, e), q.2, q.3)
+    (q.0, omega (arith, q.1), q.2, q.4, q.3)
   where
     ends : (previous : Option (List ℕ)) → AllFollow previous no_entries
     ends None = tt
     ends (Some k) = tt
+
+pub all_entries_passed : (b now : List ℕ) (count index steps : ℕ) (previous : Option (List ℕ)) → index ≡ count → EntriesPassed b count index steps previous now → SplitsEntries b count steps now
+all_entries_passed b now count index steps previous e s = let q = entries_so_far b now count index steps previous s in (q.0, omega (arith, q.1, e), q.2, q.4)
 
 -- ---- texts by their bytes
 
@@ -338,12 +358,10 @@ pub simple_judged : {R : Type 0} (now : R → List ℕ) (n : ℕ) (b c : List �
 simple_judged now n b c None h none = λ k. no_simple n b c k.0 k.1.0 h none k.1.1
 simple_judged now n b c (Some x) h k = subst (SplitsLeaf b) (sym k.2) (simple_passed n b c k.0 k.1 h)
 
-pub leaf_judged : {R : Type 0} (now : R → List ℕ) (m n steps : ℕ) (b c : List ℕ) (r : Option R) → 1 ≤ steps → SplitsHead b m n c → ¬ (m ≡ 4) → ¬ (m ≡ 5)
-    → MatchOption r (¬ ((rest : List ℕ) × SplitsLeaf b rest)) (λ x. SplitsLeaf b (now x)) → MatchOption r (¬ ((rest : List ℕ) × SplitsItem b steps rest)) (λ x. SplitsItem b steps (now x))
-leaf_judged now m n steps b c None some h no_list no_map none = λ k.
+pub no_leaf : (m n steps : ℕ) (b c : List ℕ) → SplitsHead b m n c → ¬ (m ≡ 4) → ¬ (m ≡ 5) → ¬ ((rest : List ℕ) × SplitsLeaf b rest) → ¬ ((rest : List ℕ) × SplitsItem b steps rest)
+no_leaf m n steps b c h no_list no_map none k =
     let e = (head_opened m n b c k.0 k.1.0 h k.1.1).0 in
     none (k.0, (k.1.0, k.1.1, leaf_need k.1.0 (λ is. no_list (sym e ∙ is)) (λ is. no_map (sym e ∙ is))))
-leaf_judged now m n steps b c (Some x) some h no_list no_map k = (k.0, k.1, omega (arith, some, k.2))
 
 -- a byte string with another beginning, or no CID behind its zero
 pub no_cid_of : (m n : ℕ) (b c : List ℕ) → SplitsHead b m n c → ¬ (m ≡ 2) → ¬ ((cid : List ℕ) × (rest : List ℕ) × SplitsCid b cid rest)

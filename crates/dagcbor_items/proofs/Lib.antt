@@ -6,6 +6,7 @@ pub mod Steps
 pub mod LinksIn
 pub mod Walking
 pub mod Judging
+pub mod Stopping
 pub mod Rows
 pub mod Lists
 pub mod Pushes

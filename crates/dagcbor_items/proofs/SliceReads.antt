@@ -7,21 +7,23 @@ use Rattle.dagcbor_heads.specs.Reading.{Reading}
 use Rattle.dagcbor_heads.specs.Fronts.{FindsEnd, ShowsByte}
 use Rattle.dagcbor_heads.specs.Causes.{HeadCause}
 use Rattle.dagcbor_heads.specs.Refusals.{Refuses}
+use Rattle.dagcbor_heads.specs.declared.name.Name.{Name}
 use Rattle.dagcbor_heads.specs.declared.error.DecodeError.{DecodeError}
-use Rattle.dagcbor_heads.specs.declared.error.DecodeError.TheVariants.{Read, RequireBorrowed, OutOfMemory, Failed, TrailingData, DepthOverflow}
+use Rattle.dagcbor_heads.specs.declared.error.DecodeError.TheVariants.{Read, RequireBorrowed, OutOfMemory, Failed, TrailingData, DepthOverflow, UnorderedKey}
 use Rattle.ipld_tree.specs.Cid.{CidParts}
 use Rattle.ipld_tree.specs.Tree.{Tree}
 use Rattle.ipld_tree.specs.Spelling.{spelling, IsFront, IsSpelling}
 use Rattle.ipld_tree.specs.Ipld.{tree_of}
 use Rattle.ipld_tree.specs.declared.ipld.Ipld.{Ipld}
 use Rattle.ipld_tree.proofs.Fronts.{front_unique}
-use Rattle.dagcbor_items.specs.ItemCauses.{KeyCause, CauseInside}
-use Rattle.dagcbor_items.specs.LinkCauses.{LinkCause}
+use Rattle.dagcbor_items.specs.ItemCauses.{IsTooDeep, IsOtherSimple, ItemCause, KeyCause, CauseInside}
+use Rattle.dagcbor_items.specs.LinkCauses.{IsOtherByte, CidCause, LinkCause}
+use Rattle.dagcbor_items.specs.LeafCauses.{IsOtherKind, IsCut, IsGarbled}
 use Rattle.dagcbor_items.specs.Untyped.{HasItem, TakesItem}
 use Rattle.dagcbor_items.specs.Walks.{Sink, forms, WalkLacks, HandsLinks, RefusesWalk, GathersLinks}
 use Rattle.dagcbor_items.specs.Judging.{SplitsItem}
 use Rattle.dagcbor_items.specs.Slices.{IsBlock, SliceRefused, PullsEnd, AreFirstLinks, LinksRefused, RefusesFirst}
-use Rattle.dagcbor_items.proofs.Places.{at_steps, no_item}
+use Rattle.dagcbor_items.proofs.Places.{at_steps}
 use Rattle.dagcbor_items.proofs.Steps.{more_lacks}
 
 -- ---- both sides of a call
@@ -61,47 +63,72 @@ trailing b t byte l steps a h =
     let some : 0 < length k.0 = omega (arith, ap length s.1) in
     (no_block b k.0 t k.1 some, (t, k.0, k.1, omega (arith, k.2, steps), some))
 
--- the cause of trailing data stands in no item
-no_trailing : (E : Type 0) (b : List ℕ) → CauseInside {E = E} 256 TrailingData b → ⊥
-no_trailing E b h = elim h.5 [
-  | inl x ↦ x
+-- no cause in an item is of this refusal
+record IsCauseless {E : Type 0} (e : DecodeError E) : Type 0 where
+  deep : (left : ℕ) (b : List ℕ) → IsTooDeep left e b → ⊥
+  head : (b : List ℕ) → HeadCause e b → ⊥
+  kind : (name : List ℕ) (low high : ℕ) (b : List ℕ) → IsOtherKind name low high e b → ⊥
+  cut : (name : List ℕ) (kind : ℕ) (b : List ℕ) → IsCut name kind e b → ⊥
+  garbled : (name b : List ℕ) → IsGarbled name e b → ⊥
+  simple : (b : List ℕ) → IsOtherSimple e b → ⊥
+  byte : (other : List ℕ) (wanted : ℕ) (b : List ℕ) → IsOtherByte other wanted e b → ⊥
+  cid : (b : List ℕ) → CidCause e b → ⊥
+  key : e ≢ UnorderedKey
+
+no_cause : {E : Type 0} (e : DecodeError E) (b : List ℕ) → IsCauseless e → CauseInside 256 e b → ⊥
+no_cause {E} e b none h = elim h.5 [
+  | inl x ↦ none.deep h.1 h.2 x
   | inr y ↦ elim y [
-    | inl x ↦ elim x.1 [ inl v ↦ by h.2 v | inr z ↦ elim z [ inl v ↦ no_item v | inr w ↦ by_link h.2 w.1 ] ]
+    | inl x ↦ elim x.1 [ inl v ↦ none.head h.2 v | inr z ↦ elim z [ inl v ↦ by_item h.2 v | inr w ↦ by_link h.2 w.1 ] ]
     | inr x ↦ by_key x.1.0 x.1.1 x.1.3
   ]
 ]
   where
-    by : (c : List ℕ) → HeadCause {E = E} TrailingData c → ⊥
-    by c x = x
-
-    by_link : (c : List ℕ) → LinkCause {E = E} TrailingData c → ⊥
-    by_link c h = elim h [ inl x ↦ x | inr w ↦ elim w [ inl x ↦ x.2 | inr x ↦ elim x.2 [ inl v ↦ by x.0 v.0 | inr v ↦ v ] ] ]
-
-    by_key : (before : Option (List ℕ)) (c : List ℕ) → KeyCause {E = E} before TrailingData c → ⊥
-    by_key before c h = elim h [
-      | inl t ↦ elim t [ inl s ↦ elim s [ inl k ↦ elim k [ inl x ↦ by c x.0 | inr x ↦ x ] | inr x ↦ x ] | inr x ↦ x ]
-      | inr u ↦ absurd (cc u.0)
+    by_item : (c : List ℕ) → ItemCause {E = E} e c → ⊥
+    by_item c h = elim h [
+      | inl x ↦ none.cut _ _ c x
+      | inr y ↦ elim y [ inl x ↦ none.cut _ _ c x | inr z ↦ elim z [ inl x ↦ none.garbled _ c x | inr x ↦ none.simple c x ] ]
     ]
+
+    by_link : (c : List ℕ) → LinkCause {E = E} e c → ⊥
+    by_link c h = elim h [
+      | inl x ↦ none.byte _ _ c x
+      | inr w ↦ elim w [
+        | inl x ↦ none.byte _ _ x.0 x.2
+        | inr x ↦ elim x.2 [ inl v ↦ none.head x.0 v.0 | inr v ↦ none.cid x.0 v ]
+      ]
+    ]
+
+    by_key : (before : Option (List ℕ)) (c : List ℕ) → KeyCause {E = E} before e c → ⊥
+    by_key before c h = elim h [
+      | inl t ↦ elim t [
+        | inl s ↦ elim s [ inl k ↦ elim k [ inl x ↦ none.head c x.0 | inr x ↦ none.kind _ _ _ c x ] | inr x ↦ none.cut _ _ c x ]
+        | inr x ↦ none.garbled _ c x
+      ]
+      | inr u ↦ none.key u.0
+    ]
+
+-- trailing data, and what no cause in the bytes has
+no_trailing : (E : Type 0) → IsCauseless {E = E} TrailingData
+no_trailing E = record { deep = λ l b x. x; head = λ b x. x; kind = λ n l h b x. x; cut = λ n k b x. x; garbled = λ n b x. x; simple = λ b x. x; byte = λ o w b x. x; cid = λ b x. x; key = λ is. absurd (cc is) }
+
+no_lack : (E : Type 0) → IsCauseless {E = E} OutOfMemory
+no_lack E = record { deep = λ l b x. x; head = λ b x. x; kind = λ n l h b x. x; cut = λ n k b x. x; garbled = λ n b x. x; simple = λ b x. x; byte = λ o w b x. x; cid = λ b x. x; key = λ is. absurd (cc is) }
+
+no_loan : (E : Type 0) (n : Name) → IsCauseless {E = E} (RequireBorrowed n)
+no_loan E n = record { deep = λ l b x. x; head = λ b x. x; kind = λ n l h b x. x; cut = λ n k b x. x; garbled = λ n b x. x; simple = λ b x. x; byte = λ o w b x. x; cid = λ b x. x; key = λ is. absurd (cc is) }
+
+no_failure : (E : Type 0) → IsCauseless {E = E} Failed
+no_failure E = record { deep = λ l b x. x; head = λ b x. x; kind = λ n l h b x. x; cut = λ n k b x. x; garbled = λ n b x. x; simple = λ b x. x; byte = λ o w b x. x; cid = λ b x. x; key = λ is. absurd (cc is) }
 
 pub slice_refused : (e : DecodeError Infallible) (old new : Reading) (b : List ℕ) → old.left ≡ Some b → old.steps ≡ 256 → Refuses (HasItem 0 old) ⊤ ⊥ (CauseInside (old.steps + 0)) old e new → SliceRefused e b
 slice_refused (Read x) old new b l s r = elim x [ ]
 slice_refused OutOfMemory old new b l s r = tt
 slice_refused (RequireBorrowed n) old new b l s r = absurd r.1
 slice_refused Failed old new b l s r = r
-slice_refused TrailingData old new b l s r = absurd (no_trailing Infallible b (at_steps {E = Infallible} TrailingData b _ 256 (omega (arith, s)) (r.2 b l)))
+slice_refused TrailingData old new b l s r = absurd (no_cause {E = Infallible} TrailingData b (no_trailing Infallible) (at_steps {E = Infallible} TrailingData b _ 256 (omega (arith, s)) (r.2 b l)))
 slice_refused (DepthOverflow n) old new b l s r = (λ t h. r.1 (block_item old b t l s h), at_steps {E = Infallible} (DepthOverflow n) b _ 256 (omega (arith, s)) (r.2 b l))
 slice_refused e old new b l s r = (λ t h. r.1 (block_item old b t l s h), at_steps {E = Infallible} e b _ 256 (omega (arith, s)) (r.2 b l))
-
-pub checked_refused : (b : List ℕ) (start new : Reading) (e : DecodeError Infallible) → start.left ≡ Some b → start.steps ≡ 256 → start.lends ≡ true
-    → Refuses (HasItem 0 start) (WalkLacks false start) ⊥ (CauseInside (start.steps + 0)) start e new → SliceRefused e b × (e ≢ OutOfMemory)
-checked_refused b start new e l s lends r = (
-  slice_refused e start new b l s (more_lacks ⊤ 0 start new e (λ x. tt) r),
-  λ same. enough (subst (λ x. Refuses (HasItem 0 start) (WalkLacks false start) ⊥ (CauseInside (start.steps + 0)) start x new) same r).1,
-)
-  where
-    enough : WalkLacks false start → ⊥
-    enough (inl x) = let differ = sym lends ∙ x in cc
-    enough (inr x) = absurd (cc x)
 
 pub block_taken : (b : List ℕ) (start mid end : Reading) (t : Tree) → start.left ≡ Some b → start.steps ≡ 256 → TakesItem 0 start t mid → FindsEnd mid end → IsBlock b t
 block_taken b start mid end t l s a f =
@@ -127,6 +154,15 @@ judged_whole b rest none k = (record { well_formed = k.1.well_formed; spellable 
 pub judged_trailing : (b rest : List ℕ) → 0 < length rest → SplitsItem b 256 rest
     → SliceRefused TrailingData b × (◌≢◌ {A = DecodeError Infallible} TrailingData OutOfMemory)
 judged_trailing b rest some k = ((no_block b rest k.0 k.1 some, (k.0, rest, k.1, k.2, some)), λ same. absurd (cc same))
+
+-- no item stands there, and the cause does
+pub judged_refused : (e : DecodeError Infallible) (b : List ℕ) → ¬ ((rest : List ℕ) × SplitsItem b 256 rest) → CauseInside 256 e b → SliceRefused e b × (e ≢ OutOfMemory)
+judged_refused (Read x) b none h = elim x [ ]
+judged_refused OutOfMemory b none h = absurd (no_cause {E = Infallible} OutOfMemory b (no_lack Infallible) h)
+judged_refused (RequireBorrowed n) b none h = absurd (no_cause {E = Infallible} (RequireBorrowed n) b (no_loan Infallible n) h)
+judged_refused Failed b none h = absurd (no_cause {E = Infallible} Failed b (no_failure Infallible) h)
+judged_refused TrailingData b none h = absurd (no_cause {E = Infallible} TrailingData b (no_trailing Infallible) h)
+judged_refused e b none h = ((λ t k. none ([], (t, whole_front k.0, k.1)), h), λ same. absurd (cc same))
 
 -- ---- its first item
 

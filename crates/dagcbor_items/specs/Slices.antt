@@ -1,5 +1,5 @@
 -- Reading a slice as one item of any kind: its tree, its kind or its links.
-use Rattle.std.specs.Prelude.{◌≡◌, ◌≢◌, ℕ, ◌<◌, ◌≤◌, true, List, length, ⊤}
+use Rattle.std.specs.Prelude.{◌≡◌, ℕ, ◌<◌, ◌≤◌, true, List, length, ⊤}
 use Rattle.std.specs.Prelude.{Some, Result, Ok, Err, MatchResult}
 use Rattle.std.specs.declared.convert.Infallible.{Infallible}
 use Rattle.dagcbor_heads.specs.Reading.{Reading, default_steps}
@@ -35,13 +35,6 @@ SliceRefused OutOfMemory b = ⊤
 SliceRefused (RequireBorrowed name) b = ⊥
 SliceRefused Failed b = ⊥
 SliceRefused e b = ((t : Tree) → ¬ IsBlock b t) × CauseInWhole e b
-
--- A slice is found to be a block, and of which kind, exactly where it is one, with no want of
--- memory.
-abbrev pub ChecksSlice : List ℕ → Result Kind (DecodeError Infallible) → Type 0
-ChecksSlice b result = MatchResult result
-    (λ kind. (t : Tree) × IsBlock b t × (kind ≡ kind_of t))
-    (λ e. SliceRefused e b × (e ≢ OutOfMemory))
 
 -- the end of the input was found; or bytes are left, which stay; or the reader faulted
 abbrev pub PullsEnd : {E : Type 0} → Reading → Result (Unit {0}) (DecodeError E) → Reading → Type 0

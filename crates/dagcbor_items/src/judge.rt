@@ -1,9 +1,10 @@
 //! Judging bytes that are all there: what is behind the item with which they begin. Nothing is
-//! built, no memory is taken, and a refusal has no cause.
+//! built, and no memory is taken. Where the judge stops, the walk names the cause of the refusal,
+//! which goes up beside the results, so that these stay in registers.
 
-ghost use Rattle.std.specs.Prelude.{◌≡◌, ◌≢◌, ◌↔◌, ◌<◌, ◌≤◌, length, List, ℕ, IsTrue, IsUtf8};
-ghost use Rattle.std.specs.Prelude.{MatchOption};
-ghost use Rattle.std.specs.Prelude.{option_map};
+ghost use Rattle.std.specs.Prelude.{◌≡◌, ◌≢◌, ◌↔◌, ◌-◌, ◌<◌, ◌≤◌, length, List, ℕ, IsTrue, IsUtf8};
+ghost use Rattle.std.specs.Prelude.{MatchOption, option_map};
+ghost use Rattle.std.specs.Option.{IfNone};
 ghost use Rattle.std.specs.List.{list_all};
 ghost use Rattle.std.specs.Char.{is_ascii};
 ghost use Rattle.dagcbor_heads.specs.Splits.{SplitsHead};
@@ -12,11 +13,17 @@ ghost use Rattle.dagcbor_items.specs.Places.{Follows};
 ghost use Rattle.dagcbor_items.specs.Judging.{SplitsPayload, SplitsText, SplitsKey, SplitsCid};
 ghost use Rattle.dagcbor_items.specs.Judging.{SplitsLeaf, SplitsItem, SplitsItems, SplitsEntries};
 ghost use Rattle.dagcbor_items.specs.Judging.{GivesRest, GivesLeft};
+ghost use Rattle.dagcbor_items.specs.ItemCauses.{KeyCause, CauseInside, CauseInItems};
+ghost use Rattle.dagcbor_items.specs.ItemCauses.{CauseInEntries};
 
 use crate::key::comes_before;
-use dagcbor_heads::split_head;
+use crate::payloads::pull_lent_text;
+use crate::sink::NoLinks;
+use crate::walk::walk_any;
+use dagcbor_heads::{DecodeError, SliceReader, split_head};
 use ipld_tree::Cid;
 use simdutf8::is_utf8;
+use std::convert::Infallible;
 
 /// The next n bytes, and the bytes behind them.
 #[inline(always)]
@@ -216,64 +223,139 @@ fn behind_leaf(major: u8, argument: u64, behind: &[u8]) -> Option<&[u8]>
     }
 }
 
+/// The bytes of a key that may stand behind the one before it, and the bytes behind it.
+#[inline(always)]
+fn split_key_after<'b>(previous: &Option<&[u8]>, bytes: &'b [u8]) -> Option<(&'b [u8], &'b [u8])>
+    ensures { MatchOption result
+        (¬ ((key : List ℕ) × (rest : List ℕ) × SplitsKey bytes.now key rest
+        × Follows (option_map (λ s. s.now) previous.now) key))
+        (λ p. SplitsKey bytes.now p.0.now p.1.now
+        × Follows (option_map (λ s. s.now) previous.now) p.0.now) }
+{
+    let (key, behind) = split_key(bytes)?;
+    if !follows(previous, key) {
+        return None;
+    }
+    Some((key, behind))
+}
+
+/// Why no key stands there that may stand behind the one before it.
+#[cold]
+#[inline(never)]
+fn name_key_cause(previous: &Option<&[u8]>, bytes: &[u8], cause: &mut DecodeError<Infallible>)
+    requires { ¬ ((key : List ℕ) × (rest : List ℕ) × SplitsKey bytes.now key rest
+        × Follows (option_map (λ s. s.now) previous.now) key) }
+    ensures { KeyCause (option_map (λ s. s.now) previous.now) cause.new bytes.now }
+{
+    match pull_lent_text("map key", &mut SliceReader::new(bytes)) {
+        Ok(_) => *cause = DecodeError::UnorderedKey,
+        Err(refusal) => *cause = refusal,
+    }
+}
+
+/// Why no item stands there that takes no more than these steps.
+#[cold]
+#[inline(never)]
+fn name_item_cause(bytes: &[u8], steps: usize, cause: &mut DecodeError<Infallible>)
+    requires few { steps ≤ 1024 }
+    requires none { ¬ ((rest : List ℕ) × SplitsItem bytes.now steps rest) }
+    ensures { CauseInside steps cause.new bytes.now }
+{
+    let mut reader = SliceReader::with_depth(bytes, steps);
+    match walk_any((), &mut reader, &mut NoLinks) {
+        Ok(()) => unreachable!(),
+        Err(refusal) => *cause = refusal,
+    }
+}
+
 /// The bytes behind the item at the front, where one stands that takes no more than these steps. Each
 /// takes stack, so they are no more than those of a reader.
-#[cycle(judge)]
-#[inline(always)]
 pub fn behind_item(bytes: &[u8], steps: usize) -> Option<&[u8]>
     requires { steps ≤ 1024 }
     ensures { GivesRest (λ rest. rest.now) (SplitsItem bytes.now steps) result }
 {
-    let (major, argument, behind) = split_head(bytes)?;
-    if major == 4 {
-        if steps < 2 {
-            return None;
-        }
-        let left = left_behind_items(behind, argument, steps - 2)?;
-        return Some(&behind[behind.len() - left..]);
-    }
-    if major == 5 {
-        if steps < 2 {
-            return None;
-        }
-        let left = left_behind_entries(behind, argument, steps - 2)?;
-        return Some(&behind[behind.len() - left..]);
-    }
-    if steps < 1 {
-        return None;
-    }
-    behind_leaf(major, argument, behind)
+    judge_item(bytes, steps, &mut DecodeError::TrailingData)
 }
 
-/// How many bytes are left behind so many items.
+/// The bytes behind the item at the front, where one stands that takes no more than these steps,
+/// and else why not.
+#[cycle(judge)]
+#[inline(always)]
+pub(crate) fn judge_item<'b>(
+    bytes: &'b [u8],
+    steps: usize,
+    cause: &mut DecodeError<Infallible>,
+) -> Option<&'b [u8]>
+    requires { steps ≤ 1024 }
+    ensures rest { GivesRest (λ rest. rest.now) (SplitsItem bytes.now steps) result }
+    ensures cause { IfNone result (CauseInside steps cause.new bytes.now) }
+{
+    if let Some((major, argument, behind)) = split_head(bytes) {
+        if major == 4 {
+            if steps >= 2 {
+                let left = left_behind_items(behind, argument, steps, cause)?;
+                return Some(&behind[behind.len() - left..]);
+            }
+        } else if major == 5 {
+            if steps >= 2 {
+                let left = left_behind_entries(behind, argument, steps, cause)?;
+                return Some(&behind[behind.len() - left..]);
+            }
+        } else if steps >= 1 {
+            if let Some(rest) = behind_leaf(major, argument, behind) {
+                return Some(rest);
+            }
+        }
+    }
+    name_item_cause(bytes, steps, cause);
+    None
+}
+
+/// How many bytes are left behind so many items of a list that may take these steps, or why these
+/// do not stand there.
 #[cycle(judge)]
 #[inline(never)]
-fn left_behind_items(bytes: &[u8], count: u64, steps: usize) -> Option<usize>
-    requires { steps ≤ 1024 }
-    ensures { GivesLeft (SplitsItems bytes.now count steps) result }
+fn left_behind_items(
+    bytes: &[u8],
+    count: u64,
+    steps: usize,
+    cause: &mut DecodeError<Infallible>,
+) -> Option<usize>
+    requires some { 2 ≤ steps }
+    requires few { steps ≤ 1024 }
+    ensures left { GivesLeft (SplitsItems bytes.now count (steps - 2)) result }
+    ensures cause { IfNone result (CauseInItems count (steps - 2) cause.new bytes.now) }
 {
     let mut rest = bytes;
     for _index in 0..count {
-        rest = behind_item(rest, steps)?;
+        rest = judge_item(rest, steps - 2, cause)?;
     }
     Some(rest.len())
 }
 
-/// How many bytes are left behind so many entries.
+/// How many bytes are left behind so many entries of a map that may take these steps, or why these
+/// do not stand there.
 #[cycle(judge)]
 #[inline(never)]
-fn left_behind_entries(bytes: &[u8], count: u64, steps: usize) -> Option<usize>
-    requires { steps ≤ 1024 }
-    ensures { GivesLeft (SplitsEntries bytes.now count steps) result }
+fn left_behind_entries(
+    bytes: &[u8],
+    count: u64,
+    steps: usize,
+    cause: &mut DecodeError<Infallible>,
+) -> Option<usize>
+    requires some { 2 ≤ steps }
+    requires few { steps ≤ 1024 }
+    ensures left { GivesLeft (SplitsEntries bytes.now count (steps - 2)) result }
+    ensures cause { IfNone result (CauseInEntries count (steps - 2) cause.new bytes.now) }
 {
     let mut previous = None;
     let mut rest = bytes;
     for _index in 0..count {
-        let (key, behind) = split_key(rest)?;
-        if !follows(&previous, key) {
+        let Some((key, behind)) = split_key_after(&previous, rest) else {
+            name_key_cause(&previous, rest, cause);
             return None;
-        }
-        rest = behind_item(behind, steps)?;
+        };
+        rest = judge_item(behind, steps - 2, cause)?;
         previous = Some(key);
     }
     Some(rest.len())

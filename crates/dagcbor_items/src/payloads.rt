@@ -141,7 +141,8 @@ fn pull_lent_text_slowly<'de>(
     pull_peeked_lent_text(name, reader)
 }
 
-fn pull_lent_text<'de>(
+/// A text, lent.
+pub(crate) fn pull_lent_text<'de>(
     name: &str,
     reader: &mut SliceReader<'de>,
 ) -> Result<&'de str, DecodeError<Infallible>>

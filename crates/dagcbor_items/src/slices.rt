@@ -8,13 +8,13 @@ ghost use Rattle.ipld_tree.specs.Tree.{Tree};
 ghost use Rattle.ipld_tree.specs.Ipld.{tree_of};
 ghost use Rattle.dagcbor_items.specs.TreeKinds.{kind_of};
 ghost use Rattle.dagcbor_items.specs.Walks.{forms};
-ghost use Rattle.dagcbor_items.specs.Slices.{IsBlock, SliceRefused, ChecksSlice, AreFirstLinks};
+ghost use Rattle.dagcbor_items.specs.Slices.{IsBlock, SliceRefused, AreFirstLinks};
 ghost use Rattle.dagcbor_items.specs.Slices.{LinksRefused, WalksFirst, PullsEnd};
 
 use crate::any::read_any;
-use crate::judge::behind_item;
+use crate::judge::judge_item;
 use crate::kind::{Kind, kind_of_front};
-use crate::sink::{LinkSink, NoLinks};
+use crate::sink::LinkSink;
 use crate::walk::{gather_links, walk_any};
 use dagcbor_heads::{DEFAULT_STEPS, DecodeError, Input, Read, ReadResult, SliceReader, is_at_end};
 use ipld_tree::{Cid, Ipld};
@@ -50,23 +50,12 @@ pub fn check_slice(bytes: &[u8]) -> Result<Kind, DecodeError<Infallible>>
     ensures refused { IfErr result (λ e. SliceRefused e bytes.now) }
     ensures memory { IfErr result (λ e. e ≢ OutOfMemory) }
 {
-    match behind_item(bytes, DEFAULT_STEPS) {
+    let mut cause = DecodeError::TrailingData;
+    match judge_item(bytes, DEFAULT_STEPS, &mut cause) {
         Some([]) => Ok(kind_of_front(bytes)),
         Some(_) => Err(DecodeError::TrailingData),
-        None => check_slowly(bytes),
+        None => Err(cause),
     }
-}
-
-/// The same by the walk that names the cause of a refusal.
-#[cold]
-#[inline(never)]
-fn check_slowly(bytes: &[u8]) -> Result<Kind, DecodeError<Infallible>>
-    ensures { ChecksSlice bytes.now result }
-{
-    let mut reader = SliceReader::new(bytes);
-    walk_any((), &mut reader, &mut NoLinks)?;
-    pull_end(&mut reader)?;
-    Ok(kind_of_front(bytes))
 }
 
 /// The links of the first item of the bytes. What follows it is not looked at.

@@ -1,65 +1,89 @@
 use Rattle.std.proofs.Common.{arith, refl}
-use Rattle.dagcbor_items.proofs.Judging.{no_front, no_step, list_left, no_list_step, no_list, none_passed, one_passed, no_item_there, all_passed, map_left, no_map_step, no_map, no_entry_passed, one_entry_passed, no_key_there, no_key_in_order, no_value, all_entries_passed, leaf_judged}
+use Rattle.std.specs.Prelude.{List, ℕ}
+use Rattle.dagcbor_items.specs.Judging.{SplitsItem}
+use Rattle.dagcbor_items.proofs.Judging.{no_front, no_step, list_left, no_list_step, no_list, none_passed, one_passed, no_item_there, all_passed, map_left, no_map_step, no_map, no_entry_passed, one_entry_passed, no_key_there, no_value, all_entries_passed, no_leaf}
+use Rattle.dagcbor_items.proofs.Stopping.{list_stopped, map_stopped, item_stopped, key_stopped, value_stopped}
 use Rattle.dagcbor_items.proofs.judge.+judge.Goals as goal
+use Rattle.dagcbor_items.proofs.judge.+judge.Goals.{judge_item-in-Some+then-major-eq4+else-steps-ge2, judge_item-in-Some+else-major-eq4+then-major-eq5+else-steps-ge2-2, judge_item-in-Some+else-major-eq4+else-major-eq5+then-steps-ge1+in_default-behind_leaf, judge_item-in-Some+else-major-eq4+else-major-eq5+else-steps-ge1, judge_item-in_default}
 
-pub behind_item-returns-in_err-major : goal.behind_item-returns-in_err-major
-behind_item-returns-in_err-major t c = rw c.from_residual.ensures (λ k. no_front _ _ _ c.in_err-major.ensures k.1.1)
+pub judge_item-returns-in_err-left-clause-rest : goal.judge_item-returns-in_err-left-clause-rest
+judge_item-returns-in_err-left-clause-rest t c = rw c.from_residual.ensures (no_list _ _ _ c.in-Some.behind.now (rw c.if-major-eq4.true at c.in-Some.ensures) c.in_err-left.ensures.left)
 
-pub behind_item-returns-then-steps-lt2 : goal.behind_item-returns-then-steps-lt2
-behind_item-returns-then-steps-lt2 t c = no_list_step _ _ _ c.in_ok-major.behind.now (rw c.if-major-eq4.true at c.in_ok-major.ensures) c.if-steps-lt2.true
+pub judge_item-returns-in_err-left-clause-cause : goal.judge_item-returns-in_err-left-clause-cause
+judge_item-returns-in_err-left-clause-cause t c = rw c.from_residual.ensures (list_stopped _ _ _ _ c.in-Some.behind.now c.if-steps-ge2.true (rw c.if-major-eq4.true at c.in-Some.ensures) c.in_err-left.ensures.cause)
 
-pub behind_item-returns-in_err-left : goal.behind_item-returns-in_err-left
-behind_item-returns-in_err-left t c = rw c.from_residual-in_err-left.ensures (no_list _ _ _ c.in_ok-major.behind.now (rw c.if-major-eq4.true at c.in_ok-major.ensures) c.in_err-left.ensures)
+pub judge_item-returns-then-steps-ge2-clause-rest : goal.judge_item-returns-then-steps-ge2-clause-rest
+judge_item-returns-then-steps-ge2-clause-rest t c =
+    let k = c.in_ok-left.ensures.left in
+    list_left _ _ _ _ c.in-Some.behind.now k.0 k.1 c.if-steps-ge2.true (rw c.if-major-eq4.true at c.in-Some.ensures) k.2
 
-pub behind_item-returns-then-major-eq4 : goal.behind_item-returns-then-major-eq4
-behind_item-returns-then-major-eq4 t c =
-    let k = c.in_ok-left.ensures in
-    list_left _ _ _ _ c.in_ok-major.behind.now k.0 k.1 c.if-steps-lt2.false (rw c.if-major-eq4.true at c.in_ok-major.ensures) k.2
+pub judge_item-returns-in_err-left-2-clause-rest : goal.judge_item-returns-in_err-left-2-clause-rest
+judge_item-returns-in_err-left-2-clause-rest t c = rw c.from_residual-in_err-left-2.ensures (no_map _ _ _ c.in-Some.behind.now (rw c.if-major-eq5.true at c.in-Some.ensures) c.in_err-left-2.ensures.left)
 
-pub behind_item-returns-then-steps-lt2-2 : goal.behind_item-returns-then-steps-lt2-2
-behind_item-returns-then-steps-lt2-2 t c = no_map_step _ _ _ c.in_ok-major.behind.now (rw c.if-major-eq5.true at c.in_ok-major.ensures) c.if-steps-lt2-2.true
+pub judge_item-returns-in_err-left-2-clause-cause : goal.judge_item-returns-in_err-left-2-clause-cause
+judge_item-returns-in_err-left-2-clause-cause t c = rw c.from_residual-in_err-left-2.ensures (map_stopped _ _ _ _ c.in-Some.behind.now c.if-steps-ge2-2.true (rw c.if-major-eq5.true at c.in-Some.ensures) c.in_err-left-2.ensures.cause)
 
-pub behind_item-returns-in_err-left-2 : goal.behind_item-returns-in_err-left-2
-behind_item-returns-in_err-left-2 t c = rw c.from_residual-in_err-left-2.ensures (no_map _ _ _ c.in_ok-major.behind.now (rw c.if-major-eq5.true at c.in_ok-major.ensures) c.in_err-left-2.ensures)
+pub judge_item-returns-then-steps-ge2-2-clause-rest : goal.judge_item-returns-then-steps-ge2-2-clause-rest
+judge_item-returns-then-steps-ge2-2-clause-rest t c =
+    let k = c.in_ok-left-2.ensures.left in
+    map_left _ _ _ _ c.in-Some.behind.now k.0 k.1 c.if-steps-ge2-2.true (rw c.if-major-eq5.true at c.in-Some.ensures) k.2
 
-pub behind_item-returns-then-major-eq5 : goal.behind_item-returns-then-major-eq5
-behind_item-returns-then-major-eq5 t c =
-    let k = c.in_ok-left-2.ensures in
-    map_left _ _ _ _ c.in_ok-major.behind.now k.0 k.1 c.if-steps-lt2-2.false (rw c.if-major-eq5.true at c.in_ok-major.ensures) k.2
+pub judge_item-returns-in-Some-behind_leaf-clause-rest : goal.judge_item-returns-in-Some-behind_leaf-clause-rest
+judge_item-returns-in-Some-behind_leaf-clause-rest t c =
+    let k = c.in-Some-behind_leaf.ensures _ c.in-Some.ensures in
+    (k.0, k.1, omega (arith, k.2, c.if-steps-ge1.true))
 
-pub behind_item-returns-then-steps-lt1 : goal.behind_item-returns-then-steps-lt1
-behind_item-returns-then-steps-lt1 t c = no_step _ _ (omega (arith, c.if-steps-lt1.true))
+pub judge_item-name_item_cause-requires-clause-none : goal.judge_item-name_item_cause-requires-clause-none
+judge_item-name_item_cause-requires-clause-none t c = elim c.match-split_head.branch [
+  | judge_item-in-Some+then-major-eq4+else-steps-ge2 w ↦ no_list_step _ _ _ w.in-Some.behind.now (rw w.if-major-eq4.true at w.in-Some.ensures) (omega (arith, w.if-steps-ge2.false))
+  | judge_item-in-Some+else-major-eq4+then-major-eq5+else-steps-ge2-2 w ↦ no_map_step _ _ _ w.in-Some.behind.now (rw w.if-major-eq5.true at w.in-Some.ensures) (omega (arith, w.if-steps-ge2-2.false))
+  | judge_item-in-Some+else-major-eq4+else-major-eq5+then-steps-ge1+in_default-behind_leaf w ↦ no_leaf _ _ _ _ _ w.in-Some.ensures w.if-major-eq4.false w.if-major-eq5.false (w.in_default-behind_leaf.ensures _ w.in-Some.ensures)
+  | judge_item-in-Some+else-major-eq4+else-major-eq5+else-steps-ge1 w ↦ no_step _ _ (omega (arith, w.if-steps-ge1.false))
+  | judge_item-in_default w ↦ (λ k. no_front _ _ _ w.in_default.ensures k.1.1)
+]
 
-pub behind_item-returns : goal.behind_item-returns
-behind_item-returns t c = leaf_judged (λ x. x.now) _ _ _ _ _ c.behind_leaf.result (omega (arith, c.if-steps-lt1.false)) c.in_ok-major.ensures c.if-major-eq4.false c.if-major-eq5.false (c.behind_leaf.ensures _ c.in_ok-major.ensures)
+pub judge_item-returns-clause-rest : goal.judge_item-returns-clause-rest
+judge_item-returns-clause-rest t c = elim c.match-split_head.branch [
+  | judge_item-in-Some+then-major-eq4+else-steps-ge2 w ↦ no_list_step _ _ _ w.in-Some.behind.now (rw w.if-major-eq4.true at w.in-Some.ensures) (omega (arith, w.if-steps-ge2.false))
+  | judge_item-in-Some+else-major-eq4+then-major-eq5+else-steps-ge2-2 w ↦ no_map_step _ _ _ w.in-Some.behind.now (rw w.if-major-eq5.true at w.in-Some.ensures) (omega (arith, w.if-steps-ge2-2.false))
+  | judge_item-in-Some+else-major-eq4+else-major-eq5+then-steps-ge1+in_default-behind_leaf w ↦ no_leaf _ _ _ _ _ w.in-Some.ensures w.if-major-eq4.false w.if-major-eq5.false (w.in_default-behind_leaf.ensures _ w.in-Some.ensures)
+  | judge_item-in-Some+else-major-eq4+else-major-eq5+else-steps-ge1 w ↦ no_step _ _ (omega (arith, w.if-steps-ge1.false))
+  | judge_item-in_default w ↦ (λ k. no_front _ _ _ w.in_default.ensures k.1.1)
+]
 
 pub left_behind_entries-loop-index-init : goal.left_behind_entries-loop-index-init
 left_behind_entries-loop-index-init t c = no_entry_passed _ _ _
 
-pub left_behind_entries-returns-in_err-key : goal.left_behind_entries-returns-in_err-key
-left_behind_entries-returns-in_err-key t c = rw c.from_residual.ensures (no_key_there _ _ _ _ _ _ (omega arith) c.loop-index.invariant c.in_err-key.ensures)
+pub left_behind_entries-returns-in_default-clause-left : goal.left_behind_entries-returns-in_default-clause-left
+left_behind_entries-returns-in_default-clause-left t c = no_key_there _ _ _ _ _ _ (omega arith) c.loop-index.invariant c.in_default.ensures
 
-pub left_behind_entries-returns-then-not-follows : goal.left_behind_entries-returns-then-not-follows
-left_behind_entries-returns-then-not-follows t c = no_key_in_order _ _ _ _ _ _ _ _ (omega arith) c.loop-index.invariant c.in_ok-key.ensures (λ f. cc (c.follows.ensures.1 f, c.if-not-follows.true))
+pub left_behind_entries-returns-in_default-clause-cause : goal.left_behind_entries-returns-in_default-clause-cause
+left_behind_entries-returns-in_default-clause-cause t c = key_stopped _ _ _ _ _ _ _ (omega arith) c.loop-index.invariant c.name_key_cause.ensures
 
-pub left_behind_entries-returns-in_err-rest : goal.left_behind_entries-returns-in_err-rest
-left_behind_entries-returns-in_err-rest t c = rw c.from_residual-in_err-rest.ensures (no_value _ _ _ _ _ _ _ _ (omega arith) c.loop-index.invariant c.in_ok-key.ensures c.in_err-rest.ensures)
+pub left_behind_entries-returns-in_err-rest-clause-left : goal.left_behind_entries-returns-in_err-rest-clause-left
+left_behind_entries-returns-in_err-rest-clause-left t c = rw c.from_residual.ensures (no_value _ _ _ _ _ _ _ _ (omega arith) c.loop-index.invariant c.in-Some.ensures.0 c.in_err-rest.ensures.rest)
+
+pub left_behind_entries-returns-in_err-rest-clause-cause : goal.left_behind_entries-returns-in_err-rest-clause-cause
+left_behind_entries-returns-in_err-rest-clause-cause t c = rw c.from_residual.ensures (value_stopped _ _ _ _ _ _ _ _ _ (omega arith) c.loop-index.invariant c.in-Some.ensures.0 c.in-Some.ensures.1 c.in_err-rest.ensures.cause)
 
 pub left_behind_entries-loop-index-preserved : goal.left_behind_entries-loop-index-preserved
 left_behind_entries-loop-index-preserved t c =
-    one_entry_passed _ _ _ _ _ _ _ _ _ (omega arith) c.loop-index.invariant c.in_ok-key.ensures (c.follows.ensures.0 c.if-not-follows.false) c.in_ok-rest.ensures
+    one_entry_passed _ _ _ _ _ _ _ _ _ (omega arith) c.loop-index.invariant c.in-Some.ensures.0 c.in-Some.ensures.1 c.in_ok-rest.ensures.rest
 
-pub left_behind_entries-returns : goal.left_behind_entries-returns
-left_behind_entries-returns t c = (_, refl, all_entries_passed _ _ _ _ _ _ (omega arith) c.loop-index.invariant)
+pub left_behind_entries-returns-clause-left : goal.left_behind_entries-returns-clause-left
+left_behind_entries-returns-clause-left t c = (_, refl, all_entries_passed _ _ _ _ _ _ (omega arith) c.loop-index.invariant)
 
 pub left_behind_items-loop-index-init : goal.left_behind_items-loop-index-init
 left_behind_items-loop-index-init t c = none_passed _ _ _
 
-pub left_behind_items-returns-in_err-rest : goal.left_behind_items-returns-in_err-rest
-left_behind_items-returns-in_err-rest t c = rw c.from_residual.ensures (no_item_there _ _ _ _ _ (omega arith) c.loop-index.invariant c.in_err-rest.ensures)
+pub left_behind_items-returns-in_err-rest-clause-left : goal.left_behind_items-returns-in_err-rest-clause-left
+left_behind_items-returns-in_err-rest-clause-left t c = rw c.from_residual.ensures (no_item_there _ _ _ _ _ (omega arith) c.loop-index.invariant c.in_err-rest.ensures.rest)
+
+pub left_behind_items-returns-in_err-rest-clause-cause : goal.left_behind_items-returns-in_err-rest-clause-cause
+left_behind_items-returns-in_err-rest-clause-cause t c = rw c.from_residual.ensures (item_stopped _ _ _ _ _ _ (omega arith) c.loop-index.invariant c.in_err-rest.ensures.cause)
 
 pub left_behind_items-loop-index-preserved : goal.left_behind_items-loop-index-preserved
-left_behind_items-loop-index-preserved t c = one_passed _ _ _ _ _ _ (omega arith) c.loop-index.invariant c.in_ok-rest.ensures
+left_behind_items-loop-index-preserved t c = one_passed _ _ _ _ _ _ (omega arith) c.loop-index.invariant c.in_ok-rest.ensures.rest
 
-pub left_behind_items-returns : goal.left_behind_items-returns
-left_behind_items-returns t c = (_, refl, all_passed _ _ _ _ _ (omega arith) c.loop-index.invariant)
+pub left_behind_items-returns-clause-left : goal.left_behind_items-returns-clause-left
+left_behind_items-returns-clause-left t c = (_, refl, all_passed _ _ _ _ _ (omega arith) c.loop-index.invariant)

@@ -1,8 +1,8 @@
 -- Rows of pairs that are written in the order of their keys, by their places.
 use Rattle.std.proofs.Common.{◌≡◌, ℕ, zero, suc, ◌+◌, ◌<◌, ◌≤◌, List, [], ◌∷◌, ◌++◌, length, get_or}
-use Rattle.std.proofs.Common.{take, drop, map, Option, None, Some, Bool, true, false, Result, Ok, Err}
-use Rattle.std.proofs.Common.{Less, Equal, Greater, refl, sym, ap, ◌∙◌, subst, arith, add-one}
-use Rattle.std.proofs.Common.{append_assoc, IsPermutation, is_err}
+use Rattle.std.proofs.Common.{take, drop, map, Option, None, Some, Bool, true, false, Less, Equal}
+use Rattle.std.proofs.Common.{Greater, Result, Ok, Err, is_err, refl, sym, ap, ◌∙◌, subst, arith}
+use Rattle.std.proofs.Common.{add-one, append_assoc, IsPermutation}
 use Rattle.std.proofs.Math.Seq.{drop-cons, take-append_seam}
 use Rattle.std.proofs.Math.ListN.{drop_of_length-le}
 use Rattle.std.proofs.lemmas.List.Sorted.{IsPermutation-map, IsPermutation-refl, All-permutation}
@@ -19,8 +19,9 @@ use Rattle.ipld_tree.specs.Spelled.{spelled_tree, spelled_head}
 use Rattle.dagcbor_write.specs.declared.structs.Place.{Place}
 use Rattle.dagcbor_write.specs.Gathering.{AppendsTo}
 use Rattle.dagcbor_write.specs.Maps.{spelled_key}
-use Rattle.dagcbor_write.specs.Rows.{spelled_pairs, ArePairs, KeysRise, pair_at, spelled_pair, IsPair}
-use Rattle.dagcbor_write.specs.Rows.{ArePlaces, ListsPlaces, names_rise, in_order, IsKeyOrder}
+use Rattle.dagcbor_write.specs.Rows.{spelled_pairs, ArePairs, KeysRise, pair_at, spelled_pair}
+use Rattle.dagcbor_write.specs.Rows.{IsPair, ArePlaces, ListsPlaces, names_rise, in_order}
+use Rattle.dagcbor_write.specs.Rows.{IsKeyOrder}
 use Rattle.dagcbor_write.specs.Trees.{Pair}
 use Rattle.dagcbor_write.proofs.Mapping.{rising_map}
 use Rattle.dagcbor_write.proofs.Walks.{same_map}
@@ -209,7 +210,8 @@ as_they_stand ps rise = record { places = tt; all = IsPermutation-refl ps; rise 
 pub ordered_map : (ps : List Pair) (order : Option (List Place)) (n : ℕ) (bs : List ℕ)
     → n ≡ length (in_order ps order) → AppendsTo [] bs (spelled_pairs (in_order ps order))
     → ArePairs (in_order ps order) → IsKeyOrder ps order
-    → (spelled_tree (entries_tree ps) ≡ spelled_head 5 n ++? Some bs) × IfSome (entries_tree ps) IsTree
+    → (spelled_tree (entries_tree ps) ≡ spelled_head 5 n ++? Some bs)
+    × IfSome (entries_tree ps) IsTree
 ordered_map ps order n bs count h good is =
     let P : Option Tree → Type 0 = λ t.
     (spelled_tree t ≡ spelled_head 5 n ++? Some bs) × IfSome t IsTree in

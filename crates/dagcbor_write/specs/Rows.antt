@@ -26,7 +26,8 @@ ArePairs (p ∷ ps) = IfSome p.0 IsTree × IfSome p.1 IsTree × ArePairs ps
 -- each key stands behind the one before it, and the first behind this one, in key order
 abbrev pub KeysRise : List ℕ → List Pair → Type 0
 KeysRise last [] = ⊤
-KeysRise last (p ∷ ps) = IsSomeAnd (option_and_then key_of p.0) (λ k. (key_cmp last k ≡ Less) × KeysRise k ps)
+KeysRise last (p ∷ ps) = IsSomeAnd (option_and_then key_of p.0)
+    (λ k. (key_cmp last k ≡ Less) × KeysRise k ps)
 
 -- ---- places
 
@@ -47,7 +48,8 @@ abbrev pub ArePlaces : ℕ → List Pair → List Place → Type 0
 ArePlaces i [] [] = ⊤
 ArePlaces i [] (e ∷ es) = ⊥
 ArePlaces i (p ∷ ps) [] = ⊥
-ArePlaces i (p ∷ ps) (e ∷ es) = (p.0 ≡ Some (text e.name.now)) × (e.at ≡ i) × ArePlaces (suc i) ps es
+ArePlaces i (p ∷ ps) (e ∷ es) = (p.0 ≡ Some (text e.name.now)) × (e.at ≡ i)
+    × ArePlaces (suc i) ps es
 
 -- the names and places of the pairs joined the others
 abbrev pub ListsPlaces : List Pair → List Place → List Place → Type 0

@@ -1,7 +1,7 @@
 //! Structs that are written by a row of their fields.
 
-ghost use Rattle.std.specs.Prelude.{◌≡◌, ◌+◌, ◌<◌, List, [], ◌∷◌, length, None, OnOk, IfErr, IfSome};
-ghost use Rattle.std.specs.Prelude.{MatchResult, IsTrue, Some};
+ghost use Rattle.std.specs.Prelude.{◌≡◌, ◌+◌, ◌<◌, List, [], ◌∷◌, length, None, Some, OnOk};
+ghost use Rattle.std.specs.Prelude.{IfErr, IfSome, MatchResult, IsTrue};
 ghost use Rattle.ipld_tree.specs.Key.{comes_before, key_cmp};
 ghost use Rattle.dagcbor_write.specs.Answers.{OnMessage};
 ghost use Rattle.dagcbor_heads.specs.Written.{Writes, WroteAll};
@@ -46,7 +46,7 @@ pub struct Place {
     pub at: usize,
 }
 
-/// As many places as are put in key order. Longer rows are sorted as maps are.
+/// The places of a row that is put in key order. A row of more fields is written as maps are.
 pub type Places = ArrayVec<Place, 16>;
 
 /// The fields of a struct, one after another: `(Field("x", &self.x), (Optional("y", &self.y),
@@ -84,8 +84,8 @@ pub trait FieldRow: Copy {
         ensures { IsTrue result
             → ListsPlaces (pairs self) places.old.items places.new.items };
 
-    /// Writes the name and the value of the field in this place. The row is gone through up to
-    /// there, so a row of n fields takes n² / 2 steps, where n is at most 16.
+    /// Writes the name and the value of the field in this place. It is counted off, so n fields
+    /// take n² / 2 tests, where n is at most 16; in line, the place is looked up at once.
     fn write_field<W: Write>(
         &self,
         place: usize,
@@ -122,6 +122,7 @@ impl FieldRow for () {
         true
     }
 
+    #[inline(always)]
     fn write_field<W: Write>(
         &self,
         _place: usize,
@@ -172,6 +173,7 @@ impl<T: Serialize, L: FieldRow> FieldRow for (Field<'_, T>, L) {
         others.list_places(places)
     }
 
+    #[inline(always)]
     fn write_field<W: Write>(
         &self,
         place: usize,
@@ -218,6 +220,7 @@ impl<T: Serialize, L: FieldRow> FieldRow for (Optional<'_, T>, L) {
         }
     }
 
+    #[inline(always)]
     fn write_field<W: Write>(
         &self,
         place: usize,
@@ -233,6 +236,7 @@ impl<T: Serialize, L: FieldRow> FieldRow for (Optional<'_, T>, L) {
 }
 
 /// Writes the field in this place of a row that begins with this name and value.
+#[inline(always)]
 fn write_field_of<T: Serialize, L: FieldRow, W: Write>(
     name: &str,
     value: &T,
@@ -306,6 +310,7 @@ fn list_in_order<F: FieldRow>(fields: F, places: &mut Places) -> bool
 }
 
 /// Writes the fields in these places, one after another.
+#[inline(always)]
 fn write_places<F: FieldRow, W: Write>(
     alloc: Global,
     fields: &F,
@@ -328,6 +333,7 @@ fn write_places<F: FieldRow, W: Write>(
 }
 
 /// Writes the fields as they stand, or those in these places, one after another.
+#[inline(always)]
 fn write_row<F: FieldRow, W: Write>(
     alloc: Global,
     fields: F,
@@ -350,6 +356,7 @@ fn write_row<F: FieldRow, W: Write>(
 
 /// Writes the fields behind the bytes, as they stand or those in these places, one after another.
 /// Refused with `Msg("Struct value cannot be serialized.")` where one has no spelling.
+#[inline(always)]
 fn gather_fields<F: FieldRow, E>(
     alloc: Global,
     bytes: &mut Vec<u8>,
@@ -379,6 +386,7 @@ fn gather_fields<F: FieldRow, E>(
 }
 
 /// Writes a struct of these fields, whose names rise as they stand or in these places.
+#[inline(always)]
 fn write_rising<F: FieldRow, W: Write>(
     alloc: Global,
     fields: F,
@@ -405,6 +413,7 @@ fn write_rising<F: FieldRow, W: Write>(
 }
 
 /// Writes a struct of these fields, whatever the order of their names.
+#[inline(never)]
 fn write_any<F: FieldRow, W: Write>(
     alloc: Global,
     fields: F,
@@ -421,8 +430,8 @@ fn write_any<F: FieldRow, W: Write>(
     map.end()
 }
 
-/// Writes a struct of these fields, whose names do not rise as they stand. A row that is not long
-/// is put in order by its places, one of many fields by the map.
+/// Writes a struct of these fields, whose names do not rise as they stand: by their places, or as a
+/// map where there are many fields, or a name is there twice.
 #[inline(never)]
 fn write_unordered<F: FieldRow, W: Write>(
     alloc: Global,
@@ -444,9 +453,10 @@ fn write_unordered<F: FieldRow, W: Write>(
 }
 
 /// Writes a struct of these fields, as a map, in key order. Nothing goes out before each field has
-/// been spelled in memory. Where the row is in key order already, nothing is sorted. Refused with
-/// `Msg("Struct value cannot be serialized.")` where a value has no spelling, else with `Msg("Map
-/// keys must be unique")` where a name is there twice.
+/// been spelled in memory. Where the row is in key order already, nothing is sorted; else at most
+/// 16 fields are put in order by their places, which takes no memory. Refused with `Msg("Struct
+/// value cannot be serialized.")` where a value has no spelling, else with `Msg("Map keys must be
+/// unique")` where a name is there twice.
 ///
 /// ```rust
 /// let fields = (Field("year", &self.year), (Field("text", &self.text), ()));

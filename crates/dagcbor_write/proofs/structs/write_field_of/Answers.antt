@@ -1,4 +1,4 @@
-use Rattle.std.proofs.Common.{◌≡◌, ℕ, ◌∷◌, List, ap, arith}
+use Rattle.std.proofs.Common.{◌≡◌, ◌∷◌, List, ap, arith}
 use Rattle.dagcbor_heads.proofs.Writing.{next_taken, exit_refused, last_part}
 use Rattle.dagcbor_write.specs.Maps.{LacksValue}
 use Rattle.dagcbor_write.specs.Rows.{pair_at, spelled_pair}

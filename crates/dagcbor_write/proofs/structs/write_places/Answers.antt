@@ -1,4 +1,3 @@
-use Rattle.std.proofs.Common.{rules}
 use Rattle.dagcbor_heads.proofs.Writing.{next_taken, exit_refused, all_written}
 use Rattle.dagcbor_write.proofs.Places.{begin_places, at_place, no_place, good_place, all_good}
 use Rattle.dagcbor_write.proofs.Places.{ok_holds}

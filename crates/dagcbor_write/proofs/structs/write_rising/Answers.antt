@@ -11,23 +11,34 @@ use Rattle.dagcbor_write.proofs.Places.{ordered_map}
 use Rattle.dagcbor_write.proofs.structs.write_rising.Goals as goal
 
 pub returns-in_err-gather_fields-clause-written : goal.returns-in_err-gather_fields-clause-written
-returns-in_err-gather_fields-clause-written g c = exit_row _ _ _ _ _ c.in_err-gather_fields.ensures c.from_residual.ensures.1 refl
+returns-in_err-gather_fields-clause-written g c =
+    exit_row _ _ _ _ _ c.in_err-gather_fields.ensures c.from_residual.ensures.1 refl
 
 pub returns-then-is_err-clause-written : goal.returns-then-is_err-clause-written
 returns-then-is_err-clause-written g c =
     let pairs : List Pair = g.F.FieldRow.pairs c.args.fields in
-    let m = ordered_map pairs (places_of c.args.order) c.args.count c.gather_fields.new.bytes.items c.requires.count (rw c.new-bytes.ensures.items at c.in_ok-gather_fields.ensures.0) c.in_ok-gather_fields.ensures.1 c.requires.rising in
-    exit_refused (begin_two (spelled_tree (entries_tree pairs)) (spelled_head 5 c.args.count) (Some c.gather_fields.new.bytes.items) _ m.0) _ _ c.if-is_err.ensures.value c.push_head-head.ensures.written
+    let m = ordered_map pairs (places_of c.args.order) c.args.count c.gather_fields.new.bytes.items
+    c.requires.count (rw c.new-bytes.ensures.items at c.in_ok-gather_fields.ensures.0)
+    c.in_ok-gather_fields.ensures.1 c.requires.rising in
+    let w = begin_two (spelled_tree (entries_tree pairs)) (spelled_head 5 c.args.count)
+    (Some c.gather_fields.new.bytes.items) _ m.0 in
+    exit_refused w _ _ c.if-is_err.ensures.value c.push_head-head.ensures.written
 
 pub returns-clause-written : goal.returns-clause-written
 returns-clause-written g c =
     let pairs : List Pair = g.F.FieldRow.pairs c.args.fields in
-    let m = ordered_map pairs (places_of c.args.order) c.args.count c.gather_fields.new.bytes.items c.requires.count (rw c.new-bytes.ensures.items at c.in_ok-gather_fields.ensures.0) c.in_ok-gather_fields.ensures.1 c.requires.rising in
-    let w = begin_two (spelled_tree (entries_tree pairs)) (spelled_head 5 c.args.count) (Some c.gather_fields.new.bytes.items) _ m.0 in
-    last_part (next_taken w _ _ c.if-is_err.ensures.value c.push_head-head.ensures.written) _ _ (rw c.as_slice.ensures.value at c.push.ensures.written)
+    let m = ordered_map pairs (places_of c.args.order) c.args.count c.gather_fields.new.bytes.items
+    c.requires.count (rw c.new-bytes.ensures.items at c.in_ok-gather_fields.ensures.0)
+    c.in_ok-gather_fields.ensures.1 c.requires.rising in
+    let w = begin_two (spelled_tree (entries_tree pairs)) (spelled_head 5 c.args.count)
+    (Some c.gather_fields.new.bytes.items) _ m.0 in
+    last_part (next_taken w _ _ c.if-is_err.ensures.value c.push_head-head.ensures.written) _ _
+    (rw c.as_slice.ensures.value at c.push.ensures.written)
 
 pub returns-clause-well_formed : goal.returns-clause-well_formed
 returns-clause-well_formed g c =
     let pairs : List Pair = g.F.FieldRow.pairs c.args.fields in
-    let m = ordered_map pairs (places_of c.args.order) c.args.count c.gather_fields.new.bytes.items c.requires.count (rw c.new-bytes.ensures.items at c.in_ok-gather_fields.ensures.0) c.in_ok-gather_fields.ensures.1 c.requires.rising in
+    let m = ordered_map pairs (places_of c.args.order) c.args.count c.gather_fields.new.bytes.items
+    c.requires.count (rw c.new-bytes.ensures.items at c.in_ok-gather_fields.ensures.0)
+    c.in_ok-gather_fields.ensures.1 c.requires.rising in
     OnOk_of _ m.1

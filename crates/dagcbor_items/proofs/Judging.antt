@@ -182,40 +182,40 @@ pub no_list : (n steps : ℕ) (b c : List ℕ) → SplitsHead b 4 n c → ¬ ((r
 no_list n steps b c h none i = none (list_inside n steps b c h i).1
 
 -- the items that were passed, and those that are still to come where so many stand there
-pub record ItemsPassed (b : List ℕ) (count index steps : ℕ) (now : List ℕ) : Type 0 where
-  passed : (end : List ℕ) (more : Items) → AreFronts now more end → items_need more ≤ steps → (ts : Items) × (item_count ts ≡ index + item_count more) × AreFronts b ts end × (items_need ts ≤ steps)
-  left : (end : List ℕ) → SplitsItems b count steps end → (more : Items) × (item_count more + index ≡ count) × AreFronts now more end × (items_need more ≤ steps)
+pub record ItemsPassed (b : List ℕ) (count to_come steps : ℕ) (now : List ℕ) : Type 0 where
+  passed : (end : List ℕ) (more : Items) → AreFronts now more end → items_need more ≤ steps → (ts : Items) × (item_count ts + to_come ≡ count + item_count more) × AreFronts b ts end × (items_need ts ≤ steps)
+  left : (end : List ℕ) → SplitsItems b count steps end → (more : Items) × (item_count more ≡ to_come) × AreFronts now more end × (items_need more ≤ steps)
 
-pub none_passed : (b : List ℕ) (count steps : ℕ) → ItemsPassed b count 0 steps b
-none_passed b count steps = record { passed = λ end more f n. (more, omega arith, f, n); left = λ end k. (k.0, omega (arith, k.1), k.2, k.3) }
+pub none_passed : (b : List ℕ) (count steps : ℕ) → ItemsPassed b count count steps b
+none_passed b count steps = record { passed = λ end more f n. (more, omega arith, f, n); left = λ end k. k }
 
-pub one_passed : (b now rest : List ℕ) (count index steps : ℕ) → index < count → ItemsPassed b count index steps now → SplitsItem now steps rest → ItemsPassed b count (index + 1) steps rest
-one_passed b now rest count index steps more_left s k = record {
+pub one_passed : (b now rest : List ℕ) (count to_come steps : ℕ) → 0 < to_come → ItemsPassed b count to_come steps now → SplitsItem now steps rest → ItemsPassed b count (to_come - 1) steps rest
+one_passed b now rest count to_come steps some s k = record {
   passed = λ end more f n.
       let q = s.passed end (item k.0 more) (item_closed now rest end k.0 more k.1 f) (omega (arith, n, k.2)) in
-      (q.0, omega (arith, q.1), q.2, q.3);
+      (q.0, omega (arith, q.1, some), q.2, q.3);
   left = λ end h. let q = s.left end h in behind q.0 q.1 q.2 q.3;
 }
   where
-    behind : {end : List ℕ} (more : Items) → item_count more + index ≡ count → AreFronts now more end → items_need more ≤ steps → (us : Items) × (item_count us + (index + 1) ≡ count) × AreFronts rest us end × (items_need us ≤ steps)
-    behind no_items e f n = absurd (omega (arith, e, more_left))
+    behind : {end : List ℕ} (more : Items) → item_count more ≡ to_come → AreFronts now more end → items_need more ≤ steps → (us : Items) × (item_count us ≡ to_come - 1) × AreFronts rest us end × (items_need us ≤ steps)
+    behind no_items e f n = absurd (omega (arith, e, some))
     behind {end} (item u us) e f n = (us, omega (arith, e), (items_after now rest end k.0 u us k.1 f).1, omega (arith, n))
 
-pub no_item_there : (b now : List ℕ) (count index steps : ℕ) → index < count → ItemsPassed b count index steps now → ¬ ((rest : List ℕ) × SplitsItem now steps rest) → ¬ ((rest : List ℕ) × SplitsItems b count steps rest)
-no_item_there b now count index steps more_left s none h = let q = s.left h.0 h.1 in next q.0 q.1 q.2 q.3
+pub no_item_there : (b now : List ℕ) (count to_come steps : ℕ) → 0 < to_come → ItemsPassed b count to_come steps now → ¬ ((rest : List ℕ) × SplitsItem now steps rest) → ¬ ((rest : List ℕ) × SplitsItems b count steps rest)
+no_item_there b now count to_come steps some s none h = let q = s.left h.0 h.1 in next q.0 q.1 q.2 q.3
   where
-    next : {end : List ℕ} (more : Items) → item_count more + index ≡ count → AreFronts now more end → items_need more ≤ steps → ⊥
-    next no_items e f n = omega (arith, e, more_left)
+    next : {end : List ℕ} (more : Items) → item_count more ≡ to_come → AreFronts now more end → items_need more ≤ steps → ⊥
+    next no_items e f n = omega (arith, e, some)
     next {end} (item u us) e f n = none (_, (u, (item_opened now end u us f).0, omega (arith, n)))
 
 -- those that were passed alone
-pub items_so_far : (b now : List ℕ) (count index steps : ℕ) → ItemsPassed b count index steps now → SplitsItems b index steps now
-items_so_far b now count index steps s =
+pub items_so_far : (b now : List ℕ) (count to_come steps : ℕ) → ItemsPassed b count to_come steps now → (ts : Items) × (item_count ts + to_come ≡ count) × AreFronts b ts now × (items_need ts ≤ steps)
+items_so_far b now count to_come steps s =
     let q = s.passed now no_items record { well_formed = tt; spellable = tt; is = refl } (omega arith) in
     (q.0, omega (arith, q.1), q.2, q.3)
 
-pub all_passed : (b now : List ℕ) (count index steps : ℕ) → index ≡ count → ItemsPassed b count index steps now → SplitsItems b count steps now
-all_passed b now count index steps e s = let q = items_so_far b now count index steps s in (q.0, omega (arith, q.1, e), q.2, q.3)
+pub all_passed : (b now : List ℕ) (count to_come steps : ℕ) → to_come ≡ 0 → ItemsPassed b count to_come steps now → SplitsItems b count steps now
+all_passed b now count to_come steps e s = let q = items_so_far b now count to_come steps s in (q.0, omega (arith, q.1, e), q.2, q.3)
 
 -- ---- maps
 
@@ -261,46 +261,46 @@ last_of_all (entry k t no_entries) = refl
 last_of_all (entry k t (entry l u es)) = last_of_all (entry l u es)
 
 -- the entries that were passed, and those that are still to come where so many stand there
-pub record EntriesPassed (b : List ℕ) (count index steps : ℕ) (previous : Option (List ℕ)) (now : List ℕ) : Type 0 where
+pub record EntriesPassed (b : List ℕ) (count to_come steps : ℕ) (previous : Option (List ℕ)) (now : List ℕ) : Type 0 where
   passed : (end : List ℕ) (more : Entries) → AreEntryFronts now more end → entries_need more ≤ steps → AllFollow previous more
-      → (es : Entries) × (entry_count es ≡ index + entry_count more) × AreEntryFronts b es end × (entries_need es ≤ steps) × (last_key es ≡ last_after previous more)
-  left : (end : List ℕ) → SplitsEntries b count steps end → (more : Entries) × (entry_count more + index ≡ count) × AreEntryFronts now more end × (entries_need more ≤ steps) × AllFollow previous more
+      → (es : Entries) × (entry_count es + to_come ≡ count + entry_count more) × AreEntryFronts b es end × (entries_need es ≤ steps) × (last_key es ≡ last_after previous more)
+  left : (end : List ℕ) → SplitsEntries b count steps end → (more : Entries) × (entry_count more ≡ to_come) × AreEntryFronts now more end × (entries_need more ≤ steps) × AllFollow previous more
 
-pub no_entry_passed : (b : List ℕ) (count steps : ℕ) → EntriesPassed b count 0 steps None b
-no_entry_passed b count steps = record { passed = λ end more f n a. (more, omega arith, f, n, last_of_all more); left = λ end k. (k.0, omega (arith, k.1), k.2, k.3, tt) }
+pub no_entry_passed : (b : List ℕ) (count steps : ℕ) → EntriesPassed b count count steps None b
+no_entry_passed b count steps = record { passed = λ end more f n a. (more, omega arith, f, n, last_of_all more); left = λ end k. (k.0, k.1, k.2, k.3, tt) }
 
-pub one_entry_passed : (b now c rest key : List ℕ) (count index steps : ℕ) (previous : Option (List ℕ)) → index < count → EntriesPassed b count index steps previous now → SplitsKey now key c → Follows previous key → SplitsItem c steps rest
-    → EntriesPassed b count (index + 1) steps (Some key) rest
+pub one_entry_passed : (b now c rest key : List ℕ) (count to_come steps : ℕ) (previous : Option (List ℕ)) → 0 < to_come → EntriesPassed b count to_come steps previous now → SplitsKey now key c → Follows previous key → SplitsItem c steps rest
+    → EntriesPassed b count (to_come - 1) steps (Some key) rest
 unfolding last_after
-one_entry_passed b now c rest key count index steps previous more_left s h follows k = record {
+one_entry_passed b now c rest key count to_come steps previous some s h follows k = record {
   passed = λ end more f n a.
       let q = s.passed end (entry key k.0 more) (entry_closed now c rest end key k.0 more h k.1 a f) (omega (arith, n, k.2)) (all_follow previous key k.0 more follows) in
-      (q.0, omega (arith, q.1), q.2, q.3, q.4);
+      (q.0, omega (arith, q.1, some), q.2, q.3, q.4);
   left = λ end i. let q = s.left end i in behind q.0 q.1 q.2 q.3;
 }
   where
-    behind : {end : List ℕ} (more : Entries) → entry_count more + index ≡ count → AreEntryFronts now more end → entries_need more ≤ steps
-        → (es : Entries) × (entry_count es + (index + 1) ≡ count) × AreEntryFronts rest es end × (entries_need es ≤ steps) × AllFollow (Some key) es
-    behind no_entries e f n = absurd (omega (arith, e, more_left))
+    behind : {end : List ℕ} (more : Entries) → entry_count more ≡ to_come → AreEntryFronts now more end → entries_need more ≤ steps
+        → (es : Entries) × (entry_count es ≡ to_come - 1) × AreEntryFronts rest es end × (entries_need es ≤ steps) × AllFollow (Some key) es
+    behind no_entries e f n = absurd (omega (arith, e, some))
     behind {end} (entry l u es) e f n =
         let a = entries_after now c rest end key l k.0 u es h k.1 f in
         (es, omega (arith, e), a.3, omega (arith, n), subst (λ x. Precedes x es) a.0 a.2)
 
 -- the next entry, where so many stand
-next_entry : (b now : List ℕ) (count index steps : ℕ) (previous : Option (List ℕ)) → index < count → EntriesPassed b count index steps previous now → ((rest : List ℕ) × SplitsEntries b count steps rest)
+next_entry : (b now : List ℕ) (count to_come steps : ℕ) (previous : Option (List ℕ)) → 0 < to_come → EntriesPassed b count to_come steps previous now → ((rest : List ℕ) × SplitsEntries b count steps rest)
     → (key c : List ℕ) × SplitsKey now key c × Follows previous key × ((rest : List ℕ) × SplitsItem c steps rest)
-next_entry b now count index steps previous more_left s h = let q = s.left h.0 h.1 in next q.0 q.1 q.2 q.3 q.4
+next_entry b now count to_come steps previous some s h = let q = s.left h.0 h.1 in next q.0 q.1 q.2 q.3 q.4
   where
-    next : {end : List ℕ} (more : Entries) → entry_count more + index ≡ count → AreEntryFronts now more end → entries_need more ≤ steps → AllFollow previous more
+    next : {end : List ℕ} (more : Entries) → entry_count more ≡ to_come → AreEntryFronts now more end → entries_need more ≤ steps → AllFollow previous more
         → (key c : List ℕ) × SplitsKey now key c × Follows previous key × ((rest : List ℕ) × SplitsItem c steps rest)
-    next no_entries e f n a = absurd (omega (arith, e, more_left))
+    next no_entries e f n a = absurd (omega (arith, e, some))
     next {end} (entry l u es) e f n a =
         let p = entry_opened now end l u es f in
         (l, p.0, p.1, first_follows previous l u es a, (_, (u, p.2, omega (arith, n))))
 
-pub no_key_there : (b now : List ℕ) (count index steps : ℕ) (previous : Option (List ℕ)) → index < count → EntriesPassed b count index steps previous now
+pub no_key_there : (b now : List ℕ) (count to_come steps : ℕ) (previous : Option (List ℕ)) → 0 < to_come → EntriesPassed b count to_come steps previous now
     → ¬ ((key : List ℕ) × (rest : List ℕ) × SplitsKey now key rest × Follows previous key) → ¬ ((rest : List ℕ) × SplitsEntries b count steps rest)
-no_key_there b now count index steps previous more_left s none h = let k = next_entry b now count index steps previous more_left s h in none (k.0, k.1, k.2, k.3)
+no_key_there b now count to_come steps previous some s none h = let k = next_entry b now count to_come steps previous some s h in none (k.0, k.1, k.2, k.3)
 
 same_key : (now key key' c c' : List ℕ) → SplitsKey now key c → SplitsKey now key' c' → (key' ≡ key) × (c' ≡ c)
 same_key now key key' c c' h i = let u = front_unique now c' c (text key') (text key) i h in let is : key' ≡ key = cc u.0 in (is, u.1)
@@ -308,17 +308,17 @@ same_key now key key' c c' h i = let u = front_unique now c' c (text key') (text
 pub no_key_in_order : (now key c : List ℕ) (previous : Option (List ℕ)) → SplitsKey now key c → ¬ Follows previous key → ¬ ((k : List ℕ) × (rest : List ℕ) × SplitsKey now k rest × Follows previous k)
 no_key_in_order now key c previous h none k = none (subst (Follows previous) (same_key now key k.0 c k.1 h k.2).0 k.3)
 
-pub no_value : (b now key c : List ℕ) (count index steps : ℕ) (previous : Option (List ℕ)) → index < count → EntriesPassed b count index steps previous now → SplitsKey now key c → ¬ ((rest : List ℕ) × SplitsItem c steps rest)
+pub no_value : (b now key c : List ℕ) (count to_come steps : ℕ) (previous : Option (List ℕ)) → 0 < to_come → EntriesPassed b count to_come steps previous now → SplitsKey now key c → ¬ ((rest : List ℕ) × SplitsItem c steps rest)
     → ¬ ((rest : List ℕ) × SplitsEntries b count steps rest)
-no_value b now key c count index steps previous more_left s h none i =
-    let k = next_entry b now count index steps previous more_left s i in
+no_value b now key c count to_come steps previous some s h none i =
+    let k = next_entry b now count to_come steps previous some s i in
     none (subst (λ x. (rest : List ℕ) × SplitsItem x steps rest) (same_key now key k.0 c k.1 h k.2).1 k.4)
 
 -- those that were passed alone, and the last of their keys
-pub entries_so_far : (b now : List ℕ) (count index steps : ℕ) (previous : Option (List ℕ)) → EntriesPassed b count index steps previous now
-    → (es : Entries) × (entry_count es ≡ index) × AreEntryFronts b es now × (last_key es ≡ previous) × (entries_need es ≤ steps)
+pub entries_so_far : (b now : List ℕ) (count to_come steps : ℕ) (previous : Option (List ℕ)) → EntriesPassed b count to_come steps previous now
+    → (es : Entries) × (entry_count es + to_come ≡ count) × AreEntryFronts b es now × (last_key es ≡ previous) × (entries_need es ≤ steps)
 unfolding last_after
-entries_so_far b now count index steps previous s =
+entries_so_far b now count to_come steps previous s =
     let q = s.passed now no_entries record { well_formed = tt; spellable = tt; is = refl } (omega arith) (ends previous) in
     (q.0, omega (arith, q.1), q.2, q.4, q.3)
   where
@@ -326,8 +326,8 @@ entries_so_far b now count index steps previous s =
     ends None = tt
     ends (Some k) = tt
 
-pub all_entries_passed : (b now : List ℕ) (count index steps : ℕ) (previous : Option (List ℕ)) → index ≡ count → EntriesPassed b count index steps previous now → SplitsEntries b count steps now
-all_entries_passed b now count index steps previous e s = let q = entries_so_far b now count index steps previous s in (q.0, omega (arith, q.1, e), q.2, q.4)
+pub all_entries_passed : (b now : List ℕ) (count to_come steps : ℕ) (previous : Option (List ℕ)) → to_come ≡ 0 → EntriesPassed b count to_come steps previous now → SplitsEntries b count steps now
+all_entries_passed b now count to_come steps previous e s = let q = entries_so_far b now count to_come steps previous s in (q.0, omega (arith, q.1, e), q.2, q.4)
 
 -- ---- texts by their bytes
 

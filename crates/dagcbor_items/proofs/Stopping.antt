@@ -75,24 +75,24 @@ pub map_stopped : {E : Type 0} (n steps : ℕ) (e : DecodeError E) (b c : List �
 map_stopped {E} n steps e b c some h k =
     at_steps {E = E} e b (steps - 2 + 2) steps (omega (arith, some)) (in_map {E = E} n (steps - 2) e b c h.1 h.2 k)
 
-pub item_stopped : {E : Type 0} (e : DecodeError E) (b now : List ℕ) (count index steps : ℕ)
-    → index < count → ItemsPassed b count index steps now → CauseInside steps e now
+pub item_stopped : {E : Type 0} (e : DecodeError E) (b now : List ℕ) (count to_come steps : ℕ)
+    → 0 < to_come → ItemsPassed b count to_come steps now → CauseInside steps e now
     → CauseInItems count steps e b
-item_stopped e b now count index steps more s h =
-    let q = items_so_far b now count index steps s in
-    (q.0, now, q.2, omega (arith, q.1, more), h)
+item_stopped e b now count to_come steps some s h =
+    let q = items_so_far b now count to_come steps s in
+    (q.0, now, q.2, omega (arith, q.1, some), h)
 
-pub key_stopped : {E : Type 0} (e : DecodeError E) (b now : List ℕ) (count index steps : ℕ)
-    (previous : Option (List ℕ)) → index < count → EntriesPassed b count index steps previous now
+pub key_stopped : {E : Type 0} (e : DecodeError E) (b now : List ℕ) (count to_come steps : ℕ)
+    (previous : Option (List ℕ)) → 0 < to_come → EntriesPassed b count to_come steps previous now
     → KeyCause previous e now → CauseInEntries count steps e b
-key_stopped {E} e b now count index steps previous more s h =
-    let q = entries_so_far b now count index steps previous s in
-    (q.0, now, q.2, omega (arith, q.1, more), inl (subst (λ p. KeyCause {E = E} p e now) (sym q.3) h))
+key_stopped {E} e b now count to_come steps previous some s h =
+    let q = entries_so_far b now count to_come steps previous s in
+    (q.0, now, q.2, omega (arith, q.1, some), inl (subst (λ p. KeyCause {E = E} p e now) (sym q.3) h))
 
 pub value_stopped : {E : Type 0} (e : DecodeError E) (b now key c : List ℕ)
-    (count index steps : ℕ) (previous : Option (List ℕ)) → index < count
-    → EntriesPassed b count index steps previous now → SplitsKey now key c → Follows previous key
+    (count to_come steps : ℕ) (previous : Option (List ℕ)) → 0 < to_come
+    → EntriesPassed b count to_come steps previous now → SplitsKey now key c → Follows previous key
     → CauseInside steps e c → CauseInEntries count steps e b
-value_stopped e b now key c count index steps previous more s k f h =
-    let q = entries_so_far b now count index steps previous s in
-    (q.0, now, q.2, omega (arith, q.1, more), inr (key, c, k, subst (λ p. Follows p key) (sym q.3) f, h))
+value_stopped e b now key c count to_come steps previous some s k f h =
+    let q = entries_so_far b now count to_come steps previous s in
+    (q.0, now, q.2, omega (arith, q.1, some), inr (key, c, k, subst (λ p. Follows p key) (sym q.3) f, h))

@@ -327,8 +327,10 @@ fn left_behind_items(
     ensures cause { IfNone result (CauseInItems count (steps - 2) cause.new bytes.now) }
 {
     let mut rest = bytes;
-    for _index in 0..count {
+    let mut more = count;
+    while more > 0 {
         rest = judge_item(rest, steps - 2, cause)?;
+        more -= 1;
     }
     Some(rest.len())
 }
@@ -350,13 +352,15 @@ fn left_behind_entries(
 {
     let mut previous = None;
     let mut rest = bytes;
-    for _index in 0..count {
+    let mut more = count;
+    while more > 0 {
         let Some((key, behind)) = split_key_after(&previous, rest) else {
             name_key_cause(&previous, rest, cause);
             return None;
         };
         rest = judge_item(behind, steps - 2, cause)?;
         previous = Some(key);
+        more -= 1;
     }
     Some(rest.len())
 }

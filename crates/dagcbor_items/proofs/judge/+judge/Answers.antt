@@ -51,39 +51,39 @@ judge_item-returns-clause-rest t c = elim c.match-split_head.branch [
   | judge_item-in_default w ↦ (λ k. no_front _ _ _ w.in_default.ensures k.1.1)
 ]
 
-pub left_behind_entries-loop-index-init : goal.left_behind_entries-loop-index-init
-left_behind_entries-loop-index-init t c = no_entry_passed _ _ _
+pub left_behind_entries-loop-more-init : goal.left_behind_entries-loop-more-init
+left_behind_entries-loop-more-init t c = no_entry_passed _ _ _
 
 pub left_behind_entries-returns-in_default-clause-left : goal.left_behind_entries-returns-in_default-clause-left
-left_behind_entries-returns-in_default-clause-left t c = no_key_there _ _ _ _ _ _ (omega arith) c.loop-index.invariant c.in_default.ensures
+left_behind_entries-returns-in_default-clause-left t c = no_key_there _ _ _ _ _ _ (omega arith) c.loop-more.invariant c.in_default.ensures
 
 pub left_behind_entries-returns-in_default-clause-cause : goal.left_behind_entries-returns-in_default-clause-cause
-left_behind_entries-returns-in_default-clause-cause t c = key_stopped _ _ _ _ _ _ _ (omega arith) c.loop-index.invariant c.name_key_cause.ensures
+left_behind_entries-returns-in_default-clause-cause t c = key_stopped _ _ _ _ _ _ _ (omega arith) c.loop-more.invariant c.name_key_cause.ensures
 
 pub left_behind_entries-returns-in_err-rest-clause-left : goal.left_behind_entries-returns-in_err-rest-clause-left
-left_behind_entries-returns-in_err-rest-clause-left t c = rw c.from_residual.ensures (no_value _ _ _ _ _ _ _ _ (omega arith) c.loop-index.invariant c.in-Some.ensures.0 c.in_err-rest.ensures.rest)
+left_behind_entries-returns-in_err-rest-clause-left t c = rw c.from_residual.ensures (no_value _ _ _ _ _ _ _ _ (omega arith) c.loop-more.invariant c.in-Some.ensures.0 c.in_err-rest.ensures.rest)
 
 pub left_behind_entries-returns-in_err-rest-clause-cause : goal.left_behind_entries-returns-in_err-rest-clause-cause
-left_behind_entries-returns-in_err-rest-clause-cause t c = rw c.from_residual.ensures (value_stopped _ _ _ _ _ _ _ _ _ (omega arith) c.loop-index.invariant c.in-Some.ensures.0 c.in-Some.ensures.1 c.in_err-rest.ensures.cause)
+left_behind_entries-returns-in_err-rest-clause-cause t c = rw c.from_residual.ensures (value_stopped _ _ _ _ _ _ _ _ _ (omega arith) c.loop-more.invariant c.in-Some.ensures.0 c.in-Some.ensures.1 c.in_err-rest.ensures.cause)
 
-pub left_behind_entries-loop-index-preserved : goal.left_behind_entries-loop-index-preserved
-left_behind_entries-loop-index-preserved t c =
-    one_entry_passed _ _ _ _ _ _ _ _ _ (omega arith) c.loop-index.invariant c.in-Some.ensures.0 c.in-Some.ensures.1 c.in_ok-rest.ensures.rest
+pub left_behind_entries-loop-more-preserved : goal.left_behind_entries-loop-more-preserved
+left_behind_entries-loop-more-preserved t c =
+    one_entry_passed _ _ _ _ _ _ _ _ _ (omega arith) c.loop-more.invariant c.in-Some.ensures.0 c.in-Some.ensures.1 c.in_ok-rest.ensures.rest
 
 pub left_behind_entries-returns-clause-left : goal.left_behind_entries-returns-clause-left
-left_behind_entries-returns-clause-left t c = (_, refl, all_entries_passed _ _ _ _ _ _ (omega arith) c.loop-index.invariant)
+left_behind_entries-returns-clause-left t c = (_, refl, all_entries_passed _ _ _ _ _ _ (omega arith) c.loop-more.invariant)
 
-pub left_behind_items-loop-index-init : goal.left_behind_items-loop-index-init
-left_behind_items-loop-index-init t c = none_passed _ _ _
+pub left_behind_items-loop-more-init : goal.left_behind_items-loop-more-init
+left_behind_items-loop-more-init t c = none_passed _ _ _
 
 pub left_behind_items-returns-in_err-rest-clause-left : goal.left_behind_items-returns-in_err-rest-clause-left
-left_behind_items-returns-in_err-rest-clause-left t c = rw c.from_residual.ensures (no_item_there _ _ _ _ _ (omega arith) c.loop-index.invariant c.in_err-rest.ensures.rest)
+left_behind_items-returns-in_err-rest-clause-left t c = rw c.from_residual.ensures (no_item_there _ _ _ _ _ (omega arith) c.loop-more.invariant c.in_err-rest.ensures.rest)
 
 pub left_behind_items-returns-in_err-rest-clause-cause : goal.left_behind_items-returns-in_err-rest-clause-cause
-left_behind_items-returns-in_err-rest-clause-cause t c = rw c.from_residual.ensures (item_stopped _ _ _ _ _ _ (omega arith) c.loop-index.invariant c.in_err-rest.ensures.cause)
+left_behind_items-returns-in_err-rest-clause-cause t c = rw c.from_residual.ensures (item_stopped _ _ _ _ _ _ (omega arith) c.loop-more.invariant c.in_err-rest.ensures.cause)
 
-pub left_behind_items-loop-index-preserved : goal.left_behind_items-loop-index-preserved
-left_behind_items-loop-index-preserved t c = one_passed _ _ _ _ _ _ (omega arith) c.loop-index.invariant c.in_ok-rest.ensures.rest
+pub left_behind_items-loop-more-preserved : goal.left_behind_items-loop-more-preserved
+left_behind_items-loop-more-preserved t c = one_passed _ _ _ _ _ _ (omega arith) c.loop-more.invariant c.in_ok-rest.ensures.rest
 
 pub left_behind_items-returns-clause-left : goal.left_behind_items-returns-clause-left
-left_behind_items-returns-clause-left t c = (_, refl, all_passed _ _ _ _ _ (omega arith) c.loop-index.invariant)
+left_behind_items-returns-clause-left t c = (_, refl, all_passed _ _ _ _ _ (omega arith) c.loop-more.invariant)

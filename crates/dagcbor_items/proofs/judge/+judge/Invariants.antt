@@ -12,8 +12,14 @@ decreases-left_behind_items l = 3 * l.steps
 abbrev pub decreases-left_behind_entries : goal.decreases-left_behind_entries
 decreases-left_behind_entries l = 3 * l.steps
 
-abbrev pub invariant-left_behind_items-loop-index : goal.invariant-left_behind_items-loop-index
-invariant-left_behind_items-loop-index l = ItemsPassed l.bytes l.count l._index (l.steps - 2) l.rest
+abbrev pub decreases-left_behind_items-loop-more : goal.decreases-left_behind_items-loop-more
+decreases-left_behind_items-loop-more l = l.more
 
-abbrev pub invariant-left_behind_entries-loop-index : goal.invariant-left_behind_entries-loop-index
-invariant-left_behind_entries-loop-index l = EntriesPassed l.bytes l.count l._index (l.steps - 2) (option_map (λ s. s.now) l.previous) l.rest
+abbrev pub decreases-left_behind_entries-loop-more : goal.decreases-left_behind_entries-loop-more
+decreases-left_behind_entries-loop-more l = l.more
+
+abbrev pub invariant-left_behind_items-loop-more : goal.invariant-left_behind_items-loop-more
+invariant-left_behind_items-loop-more l = ItemsPassed l.bytes l.count l.more (l.steps - 2) l.rest
+
+abbrev pub invariant-left_behind_entries-loop-more : goal.invariant-left_behind_entries-loop-more
+invariant-left_behind_entries-loop-more l = EntriesPassed l.bytes l.count l.more (l.steps - 2) (option_map (λ s. s.now) l.previous) l.rest

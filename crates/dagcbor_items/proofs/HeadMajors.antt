@@ -3,8 +3,8 @@ use Rattle.std.proofs.Common.{◌≡◌, inl, inr, ℕ, ◌+◌, ◌*◌, ◌/�
 use Rattle.std.specs.Prelude.{Some}
 use Rattle.dagcbor_heads.specs.Head.{head}
 use Rattle.dagcbor_heads.specs.Names.{Names}
-use Rattle.dagcbor_heads.specs.Reading.{Reading}
-use Rattle.dagcbor_heads.specs.Fronts.{HasByte, HasHead, ShowsByte, TakesHead}
+use Rattle.dagcbor_heads.specs.Reading.{Reading, Stays}
+use Rattle.dagcbor_heads.specs.Fronts.{HasByte, HasHead, ShowsByte, StartsWith, TakesHead}
 use Rattle.dagcbor_heads.specs.Causes.{ByteCause, HeadCause, IsEndNamed, IsNamed}
 use Rattle.dagcbor_heads.specs.Refusals.{Refuses}
 use Rattle.dagcbor_heads.specs.declared.name.Name.{Name}
@@ -56,16 +56,20 @@ pub kind_byte_refused : {E : Type 0} (name : List ℕ) (low high : ℕ) (old new
     → Refuses (HasMajor low high old) ⊥ ⊥ (MajorCause name low high) old e new
 kind_byte_refused name low high old new e named r = passed_on ByteCause (MajorCause name low high) old old new e (stays old) kind_byte (λ x. x) (λ x. x) (λ b l. (b, l, λ h. inl (byte_in_head e b h, end_named name e named, no_byte_begins low high e b h))) r
 
-pub other_kind : (E : Type 0) (name : List ℕ) (low high : ℕ) {old mid : Reading} {first : ℕ} (kept : Name) → Names kept name → ShowsByte old first mid → (low ≤ first / 32 → first / 32 ≤ high → ⊥)
-    → Refuses {E = E} (HasMajor low high old) ⊥ ⊥ (MajorCause name low high) old (Mismatch kept first) mid
-other_kind E name low high {old} {mid} {first} kept named h other = (
-  h.same.faults,
+-- a first byte of another major type
+pub other_kind : (E : Type 0) (name : List ℕ) (low high : ℕ) {old new : Reading} {first : ℕ}
+    (kept : Name) → Names kept name → StartsWith old first → Stays old new
+    → (low ≤ first / 32 → first / 32 ≤ high → ⊥)
+    → Refuses {E = E} (HasMajor low high old) ⊥ ⊥ (MajorCause name low high) old
+    (Mismatch kept first) new
+other_kind E name low high {old} {new} {first} kept named starts same other = (
+  same.faults,
   λ k. let f = kind_first k in
-      let s = h.starts _ k.left in
+      let s = starts _ k.left in
       let is : first ∷ s.0 ≡ (32 * k.major + f.0) ∷ f.1 = sym s.1 ∙ f.3 in
-      let same : first ≡ 32 * k.major + f.0 = cc in
-      other (omega (arith, same, f.2, k.lowest)) (omega (arith, same, f.2, k.highest)),
-  λ b l. let s = h.starts b l in inr (named, (s.0, s.1, other)),
+      let equal : first ≡ 32 * k.major + f.0 = cc in
+      other (omega (arith, equal, f.2, k.lowest)) (omega (arith, equal, f.2, k.highest)),
+  λ b l. let s = starts b l in inr (named, (s.0, s.1, other)),
 )
 
 -- the head behind the byte that was shown

@@ -1,10 +1,10 @@
 -- Reading the keys of maps.
 use Rattle.std.proofs.Common.{◌≡◌, inl, inr, ℕ, List, refl, sym, subst, Bool, true, false, zero-le}
-use Rattle.std.specs.Prelude.{Option, Some, None, IsTrue, codes}
+use Rattle.std.specs.Prelude.{Option, Some, None, IsTrue, IsUtf8, codes}
 use Rattle.dagcbor_heads.specs.Reading.{Reading}
 use Rattle.dagcbor_heads.specs.Refusals.{Refuses}
 use Rattle.dagcbor_heads.specs.declared.error.DecodeError.{DecodeError}
-use Rattle.dagcbor_heads.specs.declared.error.DecodeError.TheVariants.{UnorderedKey}
+use Rattle.dagcbor_heads.specs.declared.error.DecodeError.TheVariants.{RequireUtf8, UnorderedKey}
 use Rattle.dagcbor_heads.proofs.Taking.{stays}
 use Rattle.dagcbor_heads.proofs.Refusing.{passed_on}
 use Rattle.ipld_tree.specs.Key.{comes_before}
@@ -14,10 +14,13 @@ use Rattle.ipld_tree.proofs.Fronts.{front_unique}
 use Rattle.dagcbor_items.specs.Untyped.{TakesItem}
 use Rattle.dagcbor_items.specs.Places.{Follows}
 use Rattle.dagcbor_items.specs.ItemCauses.{KeyCause}
-use Rattle.dagcbor_items.specs.Entries.{HasKey}
+use Rattle.dagcbor_items.specs.Entries.{HasKey, IsNoKey}
+use Rattle.dagcbor_items.specs.Majors.{TakesString}
 use Rattle.dagcbor_items.specs.TypedReads.{HasFront}
 use Rattle.dagcbor_items.specs.Shapes.{view_text, leaf}
 use Rattle.dagcbor_items.specs.LeafCauses.{TextCause}
+use Rattle.dagcbor_items.proofs.StringReads.{no_text_refused, text_string_taken}
+use Rattle.dagcbor_items.proofs.StringItems.{text_taken}
 
 is_false : (b : Bool) → (IsTrue b → ⊥) → b ≡ false
 is_false true no_more = absurd (no_more refl)
@@ -47,3 +50,15 @@ unordered_refused E previous {old} {new} key h not_after = (
 
 pub follows_as : (previous : Option (List ℕ)) (k l : List ℕ) → k ≡ l → Follows previous k → Follows previous l
 follows_as previous k l e f = subst (Follows previous) e f
+
+-- bytes of a text that are no key
+pub no_key_refused : {E : Type 0} (previous : Option (List ℕ)) {old new : Reading} (b : List ℕ)
+    (e : DecodeError E) → IsNoKey b e → TakesString 3 old b new
+    → (IsUtf8 b → Follows previous b → ⊥)
+    → Refuses {E = E} (HasKey previous old) (old.lends ≡ false) ⊥ (KeyCause previous) old e new
+no_key_refused {E} previous {old} {new} b (RequireUtf8 kept) h t other =
+    key_text_refused {E = E} previous old new (RequireUtf8 kept)
+    (no_text_refused E (codes "map key") b kept h.0 t h.1)
+no_key_refused {E} previous {old} {new} b UnorderedKey h t other =
+    unordered_refused E previous b (text_taken b (text_string_taken b b refl h t)) (other h)
+no_key_refused previous b _ h t other = absurd h

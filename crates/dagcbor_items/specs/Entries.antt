@@ -1,19 +1,23 @@
 -- What a read of a map's entries answers and refuses.
 use Rattle.std.specs.Prelude.{◌≡◌, ℕ, ◌≤◌, true, false, List, Option, None, Some, is_some, Result}
-use Rattle.std.specs.Prelude.{MatchResult, ⊤, String}
+use Rattle.std.specs.Prelude.{MatchResult, ⊤, String, IsUtf8, codes}
+use Rattle.std.specs.Borrow.{Bor}
 use Rattle.std.specs.BTreeMap.{BTreeMap}
 use Rattle.std.specs.Cow.{cow_str_bytes}
 use Rattle.std.specs.declared.borrow.CowStr.{CowStr}
 use Rattle.std.specs.declared.alloc.Global.{Global}
 use Rattle.dagcbor_heads.specs.Reading.{Reading, Stays}
 use Rattle.dagcbor_heads.specs.Refusals.{RefusesOrLacksMemory, RefusesOrLacksMemoryUnlent}
+use Rattle.dagcbor_heads.specs.Names.{Names}
 use Rattle.dagcbor_heads.specs.declared.error.DecodeError.{DecodeError}
+use Rattle.dagcbor_heads.specs.declared.error.DecodeError.TheVariants.{RequireUtf8, UnorderedKey}
 use Rattle.ipld_tree.specs.Tree.{text, Entries, ordered_entries, entries_need, Precedes}
 use Rattle.ipld_tree.specs.Spelling.{entry_count, IsFront, AreEntryFronts}
 use Rattle.ipld_tree.specs.Ipld.{pairs_of}
 use Rattle.ipld_tree.specs.declared.ipld.Ipld.{Ipld}
 use Rattle.dagcbor_items.specs.Places.{Follows}
 use Rattle.dagcbor_items.specs.ItemCauses.{KeyCause, CauseInEntries}
+use Rattle.dagcbor_items.specs.Majors.{TakesString}
 use Rattle.dagcbor_items.specs.Shapes.{Shape, takes_some, view_text, leaf}
 use Rattle.dagcbor_items.specs.TypedReads.{TakesFront}
 
@@ -38,6 +42,20 @@ ReadsKeyAs meaning previous old result new = MatchResult result
 abbrev pub ReadsKey : {E : Type 0} → Option (List ℕ) → Reading
     → Result (CowStr Global) (DecodeError E) → Reading → Type 0
 ReadsKey = ReadsKeyAs cow_str_bytes
+
+-- A whole text was taken: a key that follows the one before it, or the bytes of none.
+abbrev pub TakesKey : Option (List ℕ) → Reading → Result (Bor (List ℕ)) (Bor (List ℕ)) → Reading
+    → Type 0
+TakesKey previous old result new = MatchResult result
+    (λ k. Follows previous k.now × TakesFront (leaf view_text) old k.now new)
+    (λ b. TakesString 3 old b.now new × (IsUtf8 b.now → ¬ Follows previous b.now))
+
+-- what refuses the bytes of a text that is no key: they are not UTF-8, or do not follow the key
+-- before them
+abbrev pub IsNoKey : {E : Type 0} → List ℕ → DecodeError E → Type 0
+IsNoKey b (RequireUtf8 kept) = Names kept (codes "map key") × (¬ IsUtf8 b)
+IsNoKey b UnorderedKey = IsUtf8 b
+IsNoKey b _ = ⊥
 
 -- the first of the entries stands after this key
 abbrev pub AllFollow : Option (List ℕ) → Entries → Type 0

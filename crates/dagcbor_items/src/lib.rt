@@ -27,9 +27,10 @@ mod walk;
 
 pub use any::read_any;
 pub use judge::behind_item;
-pub use key::read_key;
+pub use key::{no_key, read_key, take_key};
 pub use kind::Kind;
 pub use link::pull_link;
+pub use majors::pull_major;
 pub use numbers::{pull_i128, pull_signed, pull_u128, pull_unsigned};
 pub use payloads::PayloadReader;
 pub use printed_names::{kind_name, variant_name};

@@ -8,7 +8,7 @@ ghost use Rattle.dagcbor_items.specs.Majors.{HasMajor, ReadsMajor};
 ghost use Rattle.dagcbor_items.specs.LeafCauses.{MajorCause};
 ghost use Rattle.dagcbor_items.specs.AnsweredVariants.{OfByte, OfHead};
 
-use dagcbor_heads::{DecodeError, Read, ReadResult, peek_one, pull_head_argument};
+use dagcbor_heads::{DecodeError, Read, ReadResult, peek_one, pull_head};
 
 /// The next byte, which is left, where its major type lies from `low` to `high`.
 #[tactic(auto, using(crate::proofs::PartRefusals::end_byte))]
@@ -34,10 +34,11 @@ pub(crate) fn peek_major<R: Read>(
     Ok(first)
 }
 
-/// The major type and the argument of the next head, which is taken, where its major type lies from
-/// `low` to `high`.
+/// The same byte by byte: a refusal names its cause.
 #[tactic(auto, using(crate::proofs::PartRefusals::named_kind, crate::proofs::PartRefusals::byte_kind))]
-pub(crate) fn pull_major<R: Read>(
+#[cold]
+#[inline(never)]
+fn pull_major_slowly<R: Read>(
     name: &str,
     reader: &mut R,
     low: u8,
@@ -50,6 +51,30 @@ pub(crate) fn pull_major<R: Read>(
     ensures variant { IfErr result OfHead }
 {
     let first = peek_major(name, reader, low, high)?;
-    let argument = pull_head_argument(name, reader)?;
+    let (_, argument, _) = pull_head(name, reader)?;
     Ok((first / 32, argument))
+}
+
+/// The major type and the argument of the next head, which is taken, where its major type lies from
+/// `low` to `high`. Where all of a head of another major type is at hand, it is taken too.
+#[inline(always)]
+pub fn pull_major<R: Read>(
+    name: &str,
+    reader: &mut R,
+    low: u8,
+    high: u8,
+) -> ReadResult<(u8, u64), R>
+    requires { high < 8 }
+    ensures kind { ReadsMajor name.now low high (R.reading reader.old) result
+        (R.reading reader.new) }
+    ensures looked { Looks 3 (R.reading reader.old) result (R.reading reader.new) }
+    ensures variant { IfErr result OfHead }
+{
+    if let Some((major, argument, first)) = reader.take_head() {
+        if major < low || high < major {
+            return Err(DecodeError::mismatch(name, first));
+        }
+        return Ok((major, argument));
+    }
+    pull_major_slowly(name, reader, low, high)
 }

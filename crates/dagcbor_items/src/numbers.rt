@@ -23,6 +23,7 @@ pub(crate) fn number_of(major: u8, argument: u64) -> i128
 }
 
 /// A number of any size.
+#[inline(always)]
 fn pull_number<R: Read>(name: &str, reader: &mut R) -> ReadResult<i128, R>
     ensures number { Reads
         (λ n. n) (leaf (view_number Some)) ⊥ ⊥ (MajorCause name.now 0 1)
@@ -56,6 +57,7 @@ fn signed_of(number: i128, greatest: u64) -> Option<i128>
 
 /// A number from 0 to `greatest`.
 #[tactic(auto, using(crate::proofs::PartRefusals::kind_number))]
+#[inline(always)]
 pub fn pull_unsigned<R: Read>(name: &str, reader: &mut R, greatest: u64) -> ReadResult<u64, R>
     ensures number { ReadsUnsigned name.now (greatest + 1) (R.reading reader.old) result
         (R.reading reader.new) }

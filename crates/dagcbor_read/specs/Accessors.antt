@@ -129,10 +129,14 @@ ReadsKeyAfter last old result new = MatchResult result
     (λ p. (cow_str_bytes p.1 ≡ cow_str_bytes p.0) × Follows last (cow_str_bytes p.0) × TakesFront (leaf view_text) old (cow_str_bytes p.0) new)
     (λ e. Refuses (HasKey last old) (old.lends ≡ false) ⊥ (KeyCause last) old e new)
 
--- a key that was answered leaves one pair fewer, and its value is to be read
+-- one pair fewer is left, whose key is this, and its value is to be read
+abbrev pub with_key : List ℕ → AccessorState → AccessorState
+with_key k c = record c { left = c.left - 1; last = Some k; owes_value = true }
+
+-- a key that was answered leaves one pair fewer
 abbrev pub after_key : {E : Type 0} → Result (Option (CowStr Global)) (DecodeError E)
     → AccessorState → AccessorState
-after_key (Ok (Some k)) c = record c { left = c.left - 1; last = Some (cow_str_bytes k); owes_value = true }
+after_key (Ok (Some k)) c = with_key (cow_str_bytes k) c
 after_key _ c = c
 
 -- the same, where no value is owed

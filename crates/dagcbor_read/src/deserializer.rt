@@ -1,12 +1,14 @@
 //! The reader's state between calls.
 
 ghost use Rattle.std.specs.Prelude.{◌≡◌, [], false, true, MatchResult, Some, IfErr, ◌+◌, ◌≤◌, ◌^◌};
+ghost use Rattle.std.specs.Prelude.{MatchOption, ◌<◌, is_err};
 ghost use Rattle.std.specs.Prelude.{IfOk, IfSome, codes, pos, negsuc, ◌≤ℤ◌, ◌↔◌, option_map};
 ghost use Rattle.dagcbor_heads.specs.Reading.{fresh_reading, default_steps};
 ghost use Rattle.dagcbor_heads.specs.Inputs.{not_lending};
 ghost use Rattle.dagcbor_heads.specs.declared.error.DecodeError.TheVariants.{Failed};
 ghost use Rattle.dagcbor_items.specs.Looks.{LooksAtAny};
 ghost use Rattle.dagcbor_read.specs.Deserializers.{de_state, Call, Ends, Over};
+ghost use Rattle.dagcbor_items.specs.Entries.{TakesKey};
 ghost use Rattle.dagcbor_items.specs.Untyped.{ReadsItem};
 ghost use Rattle.dagcbor_items.specs.Links.{ReadsLink};
 ghost use Rattle.dagcbor_items.specs.AnsweredVariants.{OfItem, OfLink, OfHead, OfNumber, OfByte};
@@ -30,13 +32,13 @@ use crate::access::enum_accessor::{EnumAccessor, spend_form};
 use crate::deserialize::Deserialize;
 use crate::stream::StreamDeserializer;
 use dagcbor_heads::{
-    DecodeError, Input, Name, Read, ReadResult, SliceReader, is_at_end, peek_one,
-    pull_head_argument, pull_one, spend_step,
+    DecodeError, Input, Name, Read, ReadResult, SliceReader, is_at_end, peek_one, pull_one,
+    spend_step,
 };
 use dagcbor_items::{
-    gather_links, pull_bool, pull_char, pull_i128, pull_link, pull_null, pull_owned_bytes,
-    pull_owned_text, pull_signed, pull_slice, pull_str, pull_u128, pull_unsigned, read_any,
-    read_key, skip_any,
+    gather_links, pull_bool, pull_char, pull_i128, pull_link, pull_major, pull_null,
+    pull_owned_bytes, pull_owned_text, pull_signed, pull_slice, pull_str, pull_u128, pull_unsigned,
+    read_any, read_key, skip_any, take_key,
 };
 use ipld_tree::{Cid, Ipld};
 use std::alloc::Global;
@@ -376,6 +378,30 @@ impl<'de, R: Read> Deserializer<'de, R> {
         Ok(())
     }
 
+    /// Takes the text at the front, where a slice has all of it and nothing was refused: the key,
+    /// lent, or the bytes that are none behind the one before it, which count as refused.
+    #[inline(always)]
+    pub(crate) fn take_key(
+        &mut self,
+        last: &Option<CowStr<'de>>,
+    ) -> Option<Result<&'de str, &'de [u8]>>
+        ensures key { MatchOption result
+            (self.new ≡ self.old)
+            (λ r. ((de_state R.reading self.old).failed ≡ false)
+            × ((de_state R.reading self.new).failed ≡ is_err r)
+            × TakesKey (option_map cow_str_bytes last.now) (de_state R.reading self.old).input r
+            (de_state R.reading self.new).input) }
+        ensures lends { IfSome result
+            (λ _. (de_state R.reading self.old).input.lends ≡ true) }
+    {
+        if self.failed {
+            return None;
+        }
+        let found = take_key(&mut self.input, last)?;
+        self.failed = found.is_err();
+        Some(found)
+    }
+
     /// A key behind the one before it, twice.
     pub(crate) fn read_key_after(
         &mut self,
@@ -404,6 +430,7 @@ impl<'de, R: Read> Deserializer<'de, R> {
         major: u8,
         more: u8,
     ) -> ReadResult<Accessor<'de>, R>
+        requires { major < 8 }
         ensures begun { Over R.reading
             (Call (BeginsItems major name.now (more + 1))) self.old result self.new }
         ensures variant { IfErr result OfBegin }
@@ -595,16 +622,14 @@ impl<'de, R: Read> Deserializer<'de, R> {
 
 /// Spends a step, and takes the head of a list or map.
 #[tactic(auto, using(crate::proofs::Entering::begins))]
+#[inline(always)]
 fn enter<R: Read>(name: &str, reader: &mut R, major: u8) -> ReadResult<u64, R>
+    requires { major < 8 }
     ensures head { ReadsHead major name.now (R.reading reader.old) result (R.reading reader.new) }
     ensures variant { IfErr result OfBegin }
 {
     spend_step(name, reader)?;
-    let first = peek_one(name, reader)?;
-    if first / 32 != major {
-        return Err(DecodeError::mismatch(name, first));
-    }
-    let count = pull_head_argument(name, reader)?;
+    let (_, count) = pull_major(name, reader, major, major)?;
     Ok(count)
 }
 

@@ -1,6 +1,6 @@
 //! The items of a list, or the entries of a map, one at a time.
 
-ghost use Rattle.std.specs.Prelude.{◌≡◌, ◌↔◌, ◌+◌, ◌≤◌, ⊤, true, false, Some, IfOk, IfErr, IfSome};
+ghost use Rattle.std.specs.Prelude.{◌≡◌, ◌↔◌, ◌+◌, ◌<◌, ◌≤◌, ⊤, true, false, Some, IfOk, IfErr, IfSome};
 ghost use Rattle.std.specs.Cow.{cow_str_bytes, IsBorrowedStr};
 ghost use Rattle.dagcbor_heads.specs.Reading.{with_steps};
 ghost use Rattle.dagcbor_read.specs.Deserializers.{de_state, Call, AreOut, Over};
@@ -11,6 +11,7 @@ ghost use Rattle.dagcbor_read.specs.Values.{ReadsPart};
 use crate::deserialize::Deserialize;
 use crate::deserializer::Deserializer;
 use dagcbor_heads::{DecodeError, Name, Read, ReadResult};
+use dagcbor_items::no_key;
 use std::alloc::{AllocError, Global};
 use std::borrow::CowStr;
 
@@ -53,7 +54,7 @@ pub(crate) fn give_back<R: Read>(reader: &mut R, steps: usize)
 
 impl<'de> Accessor<'de> {
     ghost use Rattle.dagcbor_read.specs.Accessors.{accessor_state, fresh, ReadsElement};
-    ghost use Rattle.dagcbor_read.specs.Accessors.{after_element, ReadsNextKey, after_key};
+    ghost use Rattle.dagcbor_read.specs.Accessors.{after_element, ReadsNextKey, after_key, with_key};
     ghost use Rattle.dagcbor_read.specs.Accessors.{after_value, with_value, EndsItems};
 
     /// Nothing of it is read so far.
@@ -132,14 +133,54 @@ impl<'de> Accessor<'de> {
             ↔ ((de_state R.reading de.old).input.lends ≡ true))) }
         ensures variant { IfErr result OfKey }
     {
-        de.check()?;
         if self.left == 0 {
+            de.check()?;
             return Ok(None);
         }
-        let (key, last) = de.read_key_after(alloc, &self.last)?;
-        self.last = Some(last);
+        if let Some(found) = de.take_key(&self.last) {
+            return match found {
+                Ok(key) => {
+                    self.note_key(CowStr::Borrowed(key));
+                    Ok(Some(CowStr::Borrowed(key)))
+                }
+                Err(bytes) => Err(no_key(bytes)),
+            };
+        }
+        self.next_key_slowly(alloc, de)
+    }
+
+    /// The key was read, and its value is to be read now.
+    #[inline(always)]
+    fn note_key(&mut self, key: CowStr<'de>)
+        requires { 0 < (accessor_state self.old).left }
+        ensures { accessor_state self.new ≡ with_key (cow_str_bytes key.entry)
+            (accessor_state self.old) }
+    {
+        self.last = Some(key);
         self.left -= 1;
         self.owes_value = true;
+    }
+
+    /// The next key, where no slice has it whole. It is kept beside the one that is handed up.
+    #[cold]
+    #[inline(never)]
+    fn next_key_slowly<R: Read>(
+        &mut self,
+        alloc: Global,
+        de: &mut Deserializer<'de, R>,
+    ) -> ReadResult<Option<CowStr<'de>>, R>
+        requires { 0 < (accessor_state self.old).left }
+        ensures after { accessor_state self.new ≡ after_key result (accessor_state self.old) }
+        ensures key { Over R.reading
+            (Call (ReadsNextKey (accessor_state self.old).last (accessor_state self.old).left))
+            de.old result de.new }
+        ensures lent { IfOk result
+            (λ o. IfSome o (λ k. IsBorrowedStr k
+            ↔ ((de_state R.reading de.old).input.lends ≡ true))) }
+        ensures variant { IfErr result OfKey }
+    {
+        let (key, last) = de.read_key_after(alloc, &self.last)?;
+        self.note_key(last);
         Ok(Some(key))
     }
 

@@ -10,7 +10,9 @@ returns-in_err-first-clause-kind g c = as_refusal _ _ _ _ c.from_residual.ensure
 pub returns-then-major-low-clause-kind : goal.returns-then-major-low-clause-kind
 returns-then-major-low-clause-kind g c =
     let told = c.mismatch.ensures in
-    rw told.1 (other_kind g.row.R-Error.Denot _ c.args.low c.args.high told.0 told.2 c.in_ok-first.ensures.shown
+    let shown = c.in_ok-first.ensures.shown in
+    rw told.1 (other_kind g.row.R-Error.Denot _ c.args.low c.args.high told.0 told.2
+    shown.starts shown.same
     (λ a b. elim c.then-major-low.branch [
       | then-major-low-via-then-major-low w ↦ omega (arith, a, w.if-major-low.true)
       | then-major-low-via-else-major-low+then-high-major w ↦ omega (arith, b, w.if-high-major.true)

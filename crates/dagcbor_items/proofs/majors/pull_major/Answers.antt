@@ -1,19 +1,17 @@
-use Rattle.dagcbor_heads.proofs.Refusing.{as_refusal}
-use Rattle.dagcbor_items.proofs.HeadMajors.{kind_head_refused, kind_taken}
-use Rattle.dagcbor_items.proofs.Looks.{peeked_taken, head_taken}
+use Rattle.std.proofs.Common.{arith}
+use Rattle.dagcbor_items.proofs.HeadMajors.{other_kind}
 use Rattle.dagcbor_items.proofs.majors.pull_major.Goals as goal
+use Rattle.dagcbor_items.proofs.majors.pull_major.Goals.{then-major-low-via-then-major-low, then-major-low-via-else-major-low+then-high-major}
 
-pub returns-in_err-first-clause-kind : goal.returns-in_err-first-clause-kind
-returns-in_err-first-clause-kind g c = as_refusal _ _ _ _ c.from_residual.ensures.1 c.in_err-first.ensures.kind
-
-pub returns-in_err-argument-clause-kind : goal.returns-in_err-argument-clause-kind
-returns-in_err-argument-clause-kind g c =
-    let first = c.in_ok-first.ensures.kind in
-    as_refusal _ _ _ _ c.from_residual-in_err-argument.ensures.1
-    (kind_head_refused _ c.args.low c.args.high _ _ c.requires first.0 first.1 c.in_err-argument.ensures.variant first.2 c.in_err-argument.ensures.taken)
-
-pub returns-clause-kind : goal.returns-clause-kind
-returns-clause-kind g c = let first = c.in_ok-first.ensures.kind in kind_taken first.2 first.0 first.1 c.in_ok-argument.ensures.taken.2
-
-pub returns-clause-looked : goal.returns-clause-looked
-returns-clause-looked g c = peeked_taken c.in_ok-first.ensures.looked c.in_ok-first.ensures.kind.2 (head_taken c.in_ok-argument.ensures.looked c.in_ok-argument.ensures.taken.2)
+pub returns-then-major-low-clause-kind : goal.returns-then-major-low-clause-kind
+returns-then-major-low-clause-kind g c =
+    let told = c.mismatch.ensures in
+    let head = c.in-Some.ensures.taken in
+    rw told.1 (other_kind g.row.R-Error.Denot _ c.args.low c.args.high told.0 told.2
+    head.starts head.takes.same
+    (λ a b. elim c.then-major-low.branch [
+      | then-major-low-via-then-major-low w ↦
+          omega (arith, a, w.if-major-low.true, head.major_of_first)
+      | then-major-low-via-else-major-low+then-high-major w ↦
+          omega (arith, b, w.if-high-major.true, head.major_of_first)
+    ]))

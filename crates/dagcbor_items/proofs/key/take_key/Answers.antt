@@ -1,0 +1,10 @@
+use Rattle.std.proofs.Common.{sym, subst}
+use Rattle.std.specs.Prelude.{IsUtf8}
+use Rattle.dagcbor_items.proofs.StringReads.{text_string_taken}
+use Rattle.dagcbor_items.proofs.key.take_key.Goals as goal
+
+pub returns-in-Some-clause-key : goal.returns-in-Some-clause-key
+returns-in-Some-clause-key g c =
+    let string = c.in_ok-payload.ensures.taken in
+    let key = c.in-Some.ensures in
+    (key.2, text_string_taken _ _ key.0 (subst IsUtf8 (sym key.0) key.1) record { fits = string.1; takes = string.2 })

@@ -1,6 +1,7 @@
 -- Reading the items of a list.
 use Rattle.std.proofs.Common.{◌≡◌, ℕ, suc, ◌+◌, ◌-◌, ◌<◌, ◌≤◌, List, [], ◌∷◌, ◌++◌, length, map, refl, sym, ap, ◌∙◌, subst, arith, length-append, Vec, Global, false, cond, is_ok, is_err}
-use Rattle.std.specs.Prelude.{Result, Ok, Err}
+use Rattle.std.specs.Prelude.{Result, Ok, Err, set}
+use Rattle.std.proofs.Math.Seq.{set-append_seam}
 use Rattle.dagcbor_heads.specs.Head.{head}
 use Rattle.dagcbor_heads.specs.Reading.{Reading, with_steps}
 use Rattle.dagcbor_heads.specs.Refusals.{Refuses}
@@ -133,6 +134,15 @@ map_push : {A B : Type 0} (f : A → B) (xs : List A) (x : A) → map f (xs ++ x
 map_push f [] x = refl
 map_push f (y ∷ xs) x = ap (λ l. f y ∷ l) (map_push f xs x)
 
-pub map_pushed : {A B X Y : Type 0} (f : A → B) (r : Result X Y) (xs ys : List A) (x : A) → false ≡ is_err r → ys ≡ cond (is_ok r) (xs ++ x ∷ []) xs → map f ys ≡ map f xs ++ f x ∷ []
-map_pushed f (Ok v) xs ys x e h = ap (map f) h ∙ map_push f xs x
-map_pushed f (Err d) xs ys x e h = absurd (cc)
+-- an item was pushed, and another one put into its place
+placed : {A : Type 0} (xs ys : List A) (blank x : A) (i : ℕ) → ys ≡ xs ++ blank ∷ []
+    → i ≡ length ys - 1 → set ys i x ≡ xs ++ x ∷ []
+placed xs ys blank x i h k =
+    let at : i ≡ length xs = omega (arith, k, ap length h, length-append xs (blank ∷ [])) in
+    ap (λ l. set l i x) h ∙ ap (λ j. set (xs ++ blank ∷ []) j x) at ∙ set-append_seam xs blank [] x
+
+pub map_placed : {A B X Y : Type 0} (f : A → B) (r : Result X Y) (xs ys : List A) (blank x : A)
+    (i : ℕ) → false ≡ is_err r → ys ≡ cond (is_ok r) (xs ++ blank ∷ []) xs → i ≡ length ys - 1
+    → map f (set ys i x) ≡ map f xs ++ f x ∷ []
+map_placed f (Ok v) xs ys blank x i e h k = ap (map f) (placed xs ys blank x i h k) ∙ map_push f xs x
+map_placed f (Err d) xs ys blank x i e h k = absurd (cc)

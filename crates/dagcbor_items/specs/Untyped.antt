@@ -55,6 +55,23 @@ ReadsItem = ReadsItemSpent 0
 abbrev pub ReadsEnteredItem : {E : Type 0} → Reading → Result Ipld (DecodeError E) → Reading → Type 0
 ReadsEnteredItem = ReadsItemSpent 1
 
+-- The same of a call that puts the item into a place: what stands there after the call.
+abbrev pub PutsItemSpent : {E : Type 0} → ℕ → Ipld → Reading → Result (Unit {0}) (DecodeError E)
+    → Reading → Type 0
+PutsItemSpent spent place old result new = MatchResult result
+    (λ _. TakesItem spent old (tree_of place) new)
+    (λ e. RefusesOrLacksMemory (HasItem spent old) (CauseInside (old.steps + spent)) old e new)
+
+-- an item is put into a place, on which no step was spent
+abbrev pub PutsItem : {E : Type 0} → Ipld → Reading → Result (Unit {0}) (DecodeError E) → Reading
+    → Type 0
+PutsItem = PutsItemSpent 0
+
+-- an item is put into a place, on which a step was spent before
+abbrev pub PutsEnteredItem : {E : Type 0} → Ipld → Reading → Result (Unit {0}) (DecodeError E)
+    → Reading → Type 0
+PutsEnteredItem = PutsItemSpent 1
+
 -- A leaf that takes no memory is read exactly where one stands: a number, a link or a simple value.
 abbrev pub ReadsLeaf : {E : Type 0} → Reading → Result Ipld (DecodeError E) → Reading → Type 0
 ReadsLeaf old result new = MatchResult result

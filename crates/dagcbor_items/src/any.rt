@@ -4,14 +4,15 @@ ghost use Rattle.std.specs.Prelude.{◌≡◌, IfErr};
 ghost use Rattle.dagcbor_heads.specs.Inputs.{input_reading, OverInput};
 ghost use Rattle.dagcbor_heads.specs.Fronts.{StartsWith};
 ghost use Rattle.dagcbor_heads.specs.Looking.{Looks, LooksBehind};
-ghost use Rattle.dagcbor_items.specs.Untyped.{ReadsItem, ReadsEnteredItem, StartsWithMajor};
+ghost use Rattle.dagcbor_items.specs.Untyped.{ReadsItem, ReadsEnteredItem, PutsItem};
+ghost use Rattle.dagcbor_items.specs.Untyped.{PutsEnteredItem, StartsWithMajor};
 ghost use Rattle.dagcbor_items.specs.Items.{ReadsItems};
 ghost use Rattle.dagcbor_items.specs.Entries.{ReadsEntries};
 ghost use Rattle.dagcbor_items.specs.AnsweredVariants.{OfItem};
 
 use crate::enter::enter;
 use crate::key::read_key;
-use crate::leaf::{read_bytes, read_integer, read_simple, read_text};
+use crate::leaf::{read_bytes, read_integer, read_simple, read_text, take_integer};
 use crate::link::read_link;
 use dagcbor_heads::{DecodeError, Input, Read, ReadResult, is_indefinite, peek_one, spend_step};
 use ipld_tree::Ipld;
@@ -19,23 +20,43 @@ use std::alloc::{AllocError, Global};
 use std::collections::BTreeMap;
 
 /// Reads an item of any kind, no deeper than the steps that are left.
-#[tactic(auto, using(crate::proofs::PartRefusals::depth_item))]
-#[cycle(any)]
 pub fn read_any<R: Read>(alloc: Global, input: &mut Input<'_, R>) -> ReadResult<Ipld, R>
     ensures item { OverInput R.reading ReadsItem input.old result input.new }
     ensures looked { OverInput R.reading (Looks 3) input.old result input.new }
     ensures variant { IfErr result OfItem }
 {
+    let mut item = Ipld::Null;
+    read_into(alloc, input, &mut item)?;
+    Ok(item)
+}
+
+/// Reads an item of any kind into the place. Only a refusal is handed up: a value is long.
+#[tactic(auto, using(crate::proofs::PartRefusals::depth_item))]
+#[cycle(any)]
+#[inline(never)]
+fn read_into<R: Read>(
+    alloc: Global,
+    input: &mut Input<'_, R>,
+    place: &mut Ipld,
+) -> ReadResult<(), R>
+    ensures item { OverInput R.reading (PutsItem place.new) input.old result input.new }
+    ensures looked { OverInput R.reading (Looks 3) input.old result input.new }
+    ensures variant { IfErr result OfItem }
+{
     spend_step("any", input)?;
-    let value = read_item(alloc, input)?;
+    read_item(alloc, input, place)?;
     input.step_out();
-    Ok(value)
+    Ok(())
 }
 
 #[tactic(auto, using(crate::proofs::PartRefusals::end_item))]
 #[cycle(any)]
-fn read_item<R: Read>(alloc: Global, input: &mut Input<'_, R>) -> ReadResult<Ipld, R>
-    ensures item { OverInput R.reading ReadsEnteredItem input.old result input.new }
+fn read_item<R: Read>(
+    alloc: Global,
+    input: &mut Input<'_, R>,
+    place: &mut Ipld,
+) -> ReadResult<(), R>
+    ensures item { OverInput R.reading (PutsEnteredItem place.new) input.old result input.new }
     ensures looked { OverInput R.reading (Looks 3) input.old result input.new }
     ensures variant { IfErr result OfItem }
 {
@@ -43,7 +64,28 @@ fn read_item<R: Read>(alloc: Global, input: &mut Input<'_, R>) -> ReadResult<Ipl
     if is_indefinite(first) {
         return Err(DecodeError::IndefiniteSize);
     }
-    read_of_major(alloc, input, first)
+    if let Some(number) = take_integer(input, first) {
+        *place = Ipld::Integer(number);
+        return Ok(());
+    }
+    read_of_major_into(alloc, input, first, place)
+}
+
+#[cycle(any)]
+#[inline(never)]
+fn read_of_major_into<R: Read>(
+    alloc: Global,
+    input: &mut Input<'_, R>,
+    first: u8,
+    place: &mut Ipld,
+) -> ReadResult<(), R>
+    requires { StartsWith (input_reading R.reading input.old) first }
+    ensures item { OverInput R.reading (PutsEnteredItem place.new) input.old result input.new }
+    ensures looked { OverInput R.reading (LooksBehind 3 1) input.old result input.new }
+    ensures variant { IfErr result OfItem }
+{
+    *place = read_of_major(alloc, input, first)?;
+    Ok(())
 }
 
 #[cycle(any)]
@@ -90,13 +132,14 @@ fn read_items<R: Read>(
 {
     let mut items = Vec::new(alloc);
     for _index in 0..count {
-        let item = read_any(alloc, input)?;
         if take_first_room(&mut items, count).is_err() {
             return Err(DecodeError::OutOfMemory);
         }
-        if items.push(item).is_err() {
+        if items.push(Ipld::Null).is_err() {
             return Err(DecodeError::OutOfMemory);
         }
+        let last = items.len() - 1;
+        read_into(alloc, input, &mut items[last])?;
     }
     Ok(items)
 }
@@ -143,7 +186,8 @@ fn read_entries<R: Read>(
     let mut previous = None;
     for _index in 0..count {
         let key = read_key(alloc, input, &previous)?;
-        let value = read_any(alloc, input)?;
+        let mut value = Ipld::Null;
+        read_into(alloc, input, &mut value)?;
         let Ok(name) = String::from_str(alloc, key.as_str()) else {
             return Err(DecodeError::OutOfMemory);
         };

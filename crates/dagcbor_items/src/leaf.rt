@@ -1,11 +1,12 @@
 //! Reading leaves other than links.
 
-ghost use Rattle.std.specs.Prelude.{◌≡◌, ◌≤◌, ◌/◌, true, false, IfErr};
+ghost use Rattle.std.specs.Prelude.{◌≡◌, ◌≤◌, ◌/◌, true, false, IfErr, IfSome, MatchOption};
 ghost use Rattle.dagcbor_heads.specs.Inputs.{input_reading, OverInput};
 ghost use Rattle.dagcbor_heads.specs.Fronts.{StartsWith};
-ghost use Rattle.dagcbor_heads.specs.Looking.{LooksBehind};
+ghost use Rattle.dagcbor_heads.specs.Looking.{LooksAtTaken, LooksBehind};
+ghost use Rattle.ipld_tree.specs.Tree.{integer};
 ghost use Rattle.dagcbor_items.specs.Untyped.{ReadsEnteredItem, ReadsLeaf, StartsWithMajor};
-ghost use Rattle.dagcbor_items.specs.Untyped.{IsSimple};
+ghost use Rattle.dagcbor_items.specs.Untyped.{IsSimple, TakesEnteredItem};
 ghost use Rattle.dagcbor_items.specs.AnsweredVariants.{OfItem};
 
 use crate::numbers::number_of;
@@ -13,6 +14,23 @@ use crate::strings::{pull_peeked_owned_bytes, pull_peeked_owned_text};
 use dagcbor_heads::{DecodeError, Input, Read, ReadResult, pull_head_argument, pull_one};
 use ipld_tree::Ipld;
 use std::alloc::Global;
+
+/// Takes the integer whose first byte was seen, where its head is at hand. Else nothing is taken.
+#[inline(always)]
+pub(crate) fn take_integer<R: Read>(reader: &mut R, first: u8) -> Option<i128>
+    requires { StartsWith (R.reading reader.old) first }
+    ensures taken { MatchOption result
+        (R.reading reader.new ≡ R.reading reader.old)
+        (λ n. TakesEnteredItem (R.reading reader.old) (integer n) (R.reading reader.new)) }
+    ensures looked { IfSome result
+        (λ _. LooksAtTaken 3 1 (R.reading reader.old) (R.reading reader.new)) }
+{
+    if first / 32 > 1 {
+        return None;
+    }
+    let (_, argument, _) = reader.take_head()?;
+    Some(number_of(first / 32, argument))
+}
 
 /// Reads an integer, whose first byte was seen.
 #[tactic(auto, using(crate::proofs::PartRefusals::named_item))]

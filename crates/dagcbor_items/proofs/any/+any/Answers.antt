@@ -9,7 +9,7 @@ use Rattle.ipld_tree.specs.Ipld.{tree_of, pairs_of}
 use Rattle.dagcbor_items.proofs.Fronts.{byte_refused}
 use Rattle.dagcbor_items.proofs.Leaves.{indefinite_refused}
 use Rattle.dagcbor_items.proofs.Steps.{no_step_left, stepped_refused, more_lacks}
-use Rattle.dagcbor_items.proofs.Lists.{list_refused, list_as_tree, next_refused, one_item_read, map_pushed}
+use Rattle.dagcbor_items.proofs.Lists.{list_refused, list_as_tree, next_refused, one_item_read, map_placed}
 use Rattle.dagcbor_items.proofs.Maps as maps
 use Rattle.dagcbor_items.proofs.Entering.{enters}
 use Rattle.dagcbor_items.proofs.Pushes.{ordered_push, pushed_as}
@@ -17,12 +17,12 @@ use Rattle.dagcbor_items.proofs.Keys.{follows_as}
 use Rattle.dagcbor_items.proofs.StringItems.{text_taken}
 use Rattle.dagcbor_items.proofs.any.+any.Goals as goal
 
-pub read_any-returns-in_err-spend_step-clause-item : goal.read_any-returns-in_err-spend_step-clause-item
-read_any-returns-in_err-spend_step-clause-item g t c = as_refusal _ _ _ _ c.from_residual.ensures.1 (no_step_left _ _ c.in_err-spend_step.ensures)
+pub read_into-returns-in_err-spend_step-clause-item : goal.read_into-returns-in_err-spend_step-clause-item
+read_into-returns-in_err-spend_step-clause-item g t c = as_refusal _ _ _ _ c.from_residual.ensures.1 (no_step_left _ _ c.in_err-spend_step.ensures)
 
-pub read_any-returns-in_err-value-clause-item : goal.read_any-returns-in_err-value-clause-item
-read_any-returns-in_err-value-clause-item g t c =
-    as_refusal _ _ _ _ c.from_residual-in_err-value.ensures.1 (stepped_refused _ 0 _ c.in_ok-spend_step.ensures (λ x. x) c.in_err-value.ensures.item)
+pub read_into-returns-in_err-read_item-clause-item : goal.read_into-returns-in_err-read_item-clause-item
+read_into-returns-in_err-read_item-clause-item g t c =
+    as_refusal _ _ _ _ c.from_residual-in_err-read_item.ensures.1 (stepped_refused _ 0 _ c.in_ok-spend_step.ensures (λ x. x) c.in_err-read_item.ensures.item)
 
 pub read_item-returns-in_err-first-clause-item : goal.read_item-returns-in_err-first-clause-item
 read_item-returns-in_err-first-clause-item g t c = as_refusal _ _ _ _ c.from_residual.ensures.1 (byte_refused ⊤ 0 _ _ _ c.in_err-first.ensures.shown)
@@ -68,21 +68,21 @@ read_list-returns-clause-looked g t c = looks_stepped _ refl (looks_both c.in_ok
 pub read_map-returns-clause-looked : goal.read_map-returns-clause-looked
 read_map-returns-clause-looked g t c = looks_stepped _ refl (looks_both c.in_ok-count.ensures.looked c.in_ok-entries.ensures.looked) c.step_out.ensures
 
-pub read_items-returns-in_err-item-clause-items : goal.read_items-returns-in_err-item-clause-items
-read_items-returns-in_err-item-clause-items g t c =
-    as_refusal _ _ _ _ c.from_residual.ensures.1 (next_refused _ _ _ (omega arith) c.loop-index.invariant.read (λ x. x) c.in_err-item.ensures.item)
+pub read_items-returns-in_err-read_into-clause-items : goal.read_items-returns-in_err-read_into-clause-items
+read_items-returns-in_err-read_into-clause-items g t c =
+    as_refusal _ _ _ _ c.from_residual.ensures.1 (next_refused _ _ _ (omega arith) c.loop-index.invariant.read (λ x. x) c.in_err-read_into.ensures.item)
 
 pub read_items-loop-index-preserved : goal.read_items-loop-index-preserved
 read_items-loop-index-preserved g t c = record {
-  read = one_item_read _ _ (map_pushed tree_of c.push.result _ _ _ c.if-is_err-2.ensures.value (rw c.take_first_room.ensures at c.push.ensures.items)) (omega arith) c.loop-index.invariant.read c.in_ok-item.ensures.item;
-  looked = looks_both c.loop-index.invariant.looked c.in_ok-item.ensures.looked;
+  read = one_item_read _ _ (map_placed tree_of c.push.result _ _ _ _ _ c.if-is_err-2.ensures.value (rw c.take_first_room.ensures at c.push.ensures.items) (omega (arith, c.len-last.ensures))) (omega arith) c.loop-index.invariant.read c.in_ok-read_into.ensures.item;
+  looked = looks_both c.loop-index.invariant.looked c.in_ok-read_into.ensures.looked;
 }
 
 pub read_items-loop-index-init : goal.read_items-loop-index-init
 read_items-loop-index-init g t c = record { read = search rules; looked = nothing_looked _ }
 
-pub read_items-returns-in_err-item-clause-looked : goal.read_items-returns-in_err-item-clause-looked
-read_items-returns-in_err-item-clause-looked g t c = as_refusal _ _ _ _ c.from_residual.ensures.1 (looks_then c.loop-index.invariant.looked c.in_err-item.ensures.looked)
+pub read_items-returns-in_err-read_into-clause-looked : goal.read_items-returns-in_err-read_into-clause-looked
+read_items-returns-in_err-read_into-clause-looked g t c = as_refusal _ _ _ _ c.from_residual.ensures.1 (looks_then c.loop-index.invariant.looked c.in_err-read_into.ensures.looked)
 
 pub read_entries-loop-index-init : goal.read_entries-loop-index-init
 read_entries-loop-index-init g t c = record {
@@ -93,17 +93,17 @@ read_entries-loop-index-init g t c = record {
 pub read_entries-returns-in_err-key-clause-looked : goal.read_entries-returns-in_err-key-clause-looked
 read_entries-returns-in_err-key-clause-looked g t c = as_refusal _ _ _ _ c.from_residual.ensures.1 (looks_then c.loop-index.invariant.looked c.in_err-key.ensures.looked)
 
-pub read_entries-returns-in_err-value-clause-looked : goal.read_entries-returns-in_err-value-clause-looked
-read_entries-returns-in_err-value-clause-looked g t c =
-    as_refusal _ _ _ _ c.from_residual-in_err-value.ensures.1 (looks_then (looks_both c.loop-index.invariant.looked c.in_ok-key.ensures.looked) c.in_err-value.ensures.looked)
+pub read_entries-returns-in_err-read_into-clause-looked : goal.read_entries-returns-in_err-read_into-clause-looked
+read_entries-returns-in_err-read_into-clause-looked g t c =
+    as_refusal _ _ _ _ c.from_residual-in_err-read_into.ensures.1 (looks_then (looks_both c.loop-index.invariant.looked c.in_ok-key.ensures.looked) c.in_err-read_into.ensures.looked)
 
 pub read_entries-returns-in_err-key-clause-entries : goal.read_entries-returns-in_err-key-clause-entries
 read_entries-returns-in_err-key-clause-entries g t c =
     as_refusal _ _ _ _ c.from_residual.ensures.1 (maps.next_key_refused _ _ (omega arith) c.loop-index.invariant.read (λ _. tt) c.in_err-key.ensures.key)
 
-pub read_entries-returns-in_err-value-clause-entries : goal.read_entries-returns-in_err-value-clause-entries
-read_entries-returns-in_err-value-clause-entries g t c =
-    as_refusal _ _ _ _ c.from_residual-in_err-value.ensures.1 (maps.next_value_refused _ _ _ (omega arith) c.loop-index.invariant.read c.in_ok-key.ensures.key.0 (text_taken _ c.in_ok-key.ensures.key.1) (λ x. x) c.in_err-value.ensures.item)
+pub read_entries-returns-in_err-read_into-clause-entries : goal.read_entries-returns-in_err-read_into-clause-entries
+read_entries-returns-in_err-read_into-clause-entries g t c =
+    as_refusal _ _ _ _ c.from_residual-in_err-read_into.ensures.1 (maps.next_value_refused _ _ _ (omega arith) c.loop-index.invariant.read c.in_ok-key.ensures.key.0 (text_taken _ c.in_ok-key.ensures.key.1) (λ x. x) c.in_err-read_into.ensures.item)
 
 pub read_entries-loop-index-preserved : goal.read_entries-loop-index-preserved
 read_entries-loop-index-preserved g t c =
@@ -113,18 +113,18 @@ read_entries-loop-index-preserved g t c =
     let same = c.in-Ok.ensures.ok ∙ c.as_str.ensures.value in
     let pushed = ordered_push _ _ _ _ put c.insert.ensures.was_ordered c.insert.ensures.ordered (follows_as _ _ _ (sym same) behind) in
     record {
-      read = maps.one_entry_read _ _ _ _ (pushed_as _ _ _ _ _ same pushed) refl (omega arith) c.loop-index.invariant.read follows (text_taken _ c.in_ok-key.ensures.key.1) c.in_ok-value.ensures.item;
-      looked = looks_both (looks_both c.loop-index.invariant.looked c.in_ok-key.ensures.looked) c.in_ok-value.ensures.looked;
+      read = maps.one_entry_read _ _ _ _ (pushed_as _ _ _ _ _ same pushed) refl (omega arith) c.loop-index.invariant.read follows (text_taken _ c.in_ok-key.ensures.key.1) c.in_ok-read_into.ensures.item;
+      looked = looks_both (looks_both c.loop-index.invariant.looked c.in_ok-key.ensures.looked) c.in_ok-read_into.ensures.looked;
     }
 
-pub read_any-returns-in_err-spend_step-clause-looked : goal.read_any-returns-in_err-spend_step-clause-looked
-read_any-returns-in_err-spend_step-clause-looked g t c = as_refusal _ _ _ _ c.from_residual.ensures.1 (same_looked (ap (λ (r : Reading). r.looked) c.in_err-spend_step.ensures.same))
+pub read_into-returns-in_err-spend_step-clause-looked : goal.read_into-returns-in_err-spend_step-clause-looked
+read_into-returns-in_err-spend_step-clause-looked g t c = as_refusal _ _ _ _ c.from_residual.ensures.1 (same_looked (ap (λ (r : Reading). r.looked) c.in_err-spend_step.ensures.same))
 
-pub read_any-returns-in_err-value-clause-looked : goal.read_any-returns-in_err-value-clause-looked
-read_any-returns-in_err-value-clause-looked g t c = as_refusal _ _ _ _ c.from_residual-in_err-value.ensures.1 (stepped_left _ c.in_ok-spend_step.ensures.is c.in_err-value.ensures.looked)
+pub read_into-returns-in_err-read_item-clause-looked : goal.read_into-returns-in_err-read_item-clause-looked
+read_into-returns-in_err-read_item-clause-looked g t c = as_refusal _ _ _ _ c.from_residual-in_err-read_item.ensures.1 (stepped_left _ c.in_ok-spend_step.ensures.is c.in_err-read_item.ensures.looked)
 
-pub read_any-returns-clause-looked : goal.read_any-returns-clause-looked
-read_any-returns-clause-looked g t c = looks_stepped _ c.in_ok-spend_step.ensures.is c.in_ok-value.ensures.looked c.step_out.ensures
+pub read_into-returns-clause-looked : goal.read_into-returns-clause-looked
+read_into-returns-clause-looked g t c = looks_stepped _ c.in_ok-spend_step.ensures.is c.in_ok-read_item.ensures.looked c.step_out.ensures
 
 pub read_item-returns-in_err-first-clause-looked : goal.read_item-returns-in_err-first-clause-looked
 read_item-returns-in_err-first-clause-looked g t c = as_refusal _ _ _ _ c.from_residual.ensures.1 (once_left_more 3 (omega arith) c.in_err-first.ensures.looked)
@@ -133,4 +133,4 @@ pub read_item-returns-then-is_indefinite-clause-looked : goal.read_item-returns-
 read_item-returns-then-is_indefinite-clause-looked g t c = once_left_more 3 (omega arith) c.in_ok-first.ensures.looked
 
 pub read_item-returns-clause-looked : goal.read_item-returns-clause-looked
-read_item-returns-clause-looked g t c = looks_behind_peek 3 _ _ c.in_ok-first.ensures.looked c.in_ok-first.ensures.shown c.read_of_major.ensures.looked
+read_item-returns-clause-looked g t c = looks_behind_peek 3 _ _ c.in_ok-first.ensures.looked c.in_ok-first.ensures.shown (rw c.in_default.ensures.taken at c.read_of_major_into.ensures.looked)

@@ -139,6 +139,7 @@ def calls(folder, runs):
         ("reading a struct of the record", "from_slice::<Record>", "Record", good, 200_000),
         ("refusing it as a struct", "from_slice::<Record>", "Record", wrong, 200_000),
         ("writing the struct", "to_vec::<Record>", "Record", good, 200_000),
+        ("writing it, its row in no key order", "to_vec::<Declared>", "Record", good, 200_000),
     )
     ours = built("dagcbor_bench")
     head("Call", "ns", folder)

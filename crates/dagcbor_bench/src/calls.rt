@@ -5,6 +5,7 @@ ghost use Rattle.serde_ipld_dagcbor.specs.Tree.{Tree};
 ghost use Rattle.serde_ipld_dagcbor.specs.Slices.{IsBlock};
 
 use crate::bag::Bag;
+use crate::declared::Declared;
 use crate::record::Record;
 use serde_ipld_dagcbor::{
     Bytes, Deserialize, DeserializeOwned, IgnoredAny, Ipld, Serialize, check_slice, from_reader,
@@ -115,6 +116,7 @@ pub fn successes(alloc: Global, name: &str, block: &[u8], times: u64) -> Option<
         "iter_from_reader::<String>" => repeated(times, || is_texts(alloc, block)),
         "to_vec::<Ipld>" => writes_again::<Ipld>(alloc, block, times),
         "to_vec::<Record>" => writes_again::<Record>(alloc, block, times),
+        "to_vec::<Declared>" => writes_again::<Declared>(alloc, block, times),
         "to_vec::<Vec<u64>>" => writes_again::<Vec<u64>>(alloc, block, times),
         "to_vec::<Bag<u64>>" => writes_bag(alloc, block, times),
         "to_vec::<BTreeMap>" => writes_again::<BTreeMap<String, u8>>(alloc, block, times),

@@ -4,6 +4,7 @@
 
 mod bag;
 mod calls;
+mod declared;
 mod record;
 
 use calls::successes;

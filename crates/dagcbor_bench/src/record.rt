@@ -14,10 +14,10 @@ use std::alloc::Global;
 
 #[derive(Drop)]
 pub struct Record {
-    link: Cid,
-    name: String,
-    seq: u32,
-    tags: Vec<u16>,
+    pub link: Cid,
+    pub name: String,
+    pub seq: u32,
+    pub tags: Vec<u16>,
 }
 
 impl Serialize for Record {

@@ -20,7 +20,7 @@ use Rattle.ipld_tree.proofs.Fronts.{by_head, front_head, front_unique, is_bytes,
 use Rattle.dagcbor_items.proofs.Rows.{first_follows, all_follow}
 use Rattle.dagcbor_items.specs.Places.{Follows, last_key}
 use Rattle.dagcbor_items.specs.Entries.{AllFollow}
-use Rattle.dagcbor_items.specs.Judging.{SplitsPayload, SplitsText, SplitsKey, SplitsCid, SplitsLeaf, SplitsItem, SplitsItems, SplitsEntries}
+use Rattle.dagcbor_items.specs.Judging.{SplitsPayload, SplitsText, SplitsKey, SplitsKeyAfter, SplitsCid, SplitsLeaf, SplitsItem, SplitsItems, SplitsEntries}
 use Rattle.dagcbor_items.proofs.Steps.{need_positive}
 
 -- ---- heads
@@ -299,14 +299,14 @@ next_entry b now count to_come steps previous some s h = let q = s.left h.0 h.1 
         (l, p.0, p.1, first_follows previous l u es a, (_, (u, p.2, omega (arith, n))))
 
 pub no_key_there : (b now : List ℕ) (count to_come steps : ℕ) (previous : Option (List ℕ)) → 0 < to_come → EntriesPassed b count to_come steps previous now
-    → ¬ ((key : List ℕ) × (rest : List ℕ) × SplitsKey now key rest × Follows previous key) → ¬ ((rest : List ℕ) × SplitsEntries b count steps rest)
-no_key_there b now count to_come steps previous some s none h = let k = next_entry b now count to_come steps previous some s h in none (k.0, k.1, k.2, k.3)
+    → ¬ ((key : List ℕ) × (rest : List ℕ) × SplitsKeyAfter previous now key rest) → ¬ ((rest : List ℕ) × SplitsEntries b count steps rest)
+no_key_there b now count to_come steps previous some s none h = let k = next_entry b now count to_come steps previous some s h in none (k.0, k.1, (k.2, k.3))
 
 same_key : (now key key' c c' : List ℕ) → SplitsKey now key c → SplitsKey now key' c' → (key' ≡ key) × (c' ≡ c)
 same_key now key key' c c' h i = let u = front_unique now c' c (text key') (text key) i h in let is : key' ≡ key = cc u.0 in (is, u.1)
 
-pub no_key_in_order : (now key c : List ℕ) (previous : Option (List ℕ)) → SplitsKey now key c → ¬ Follows previous key → ¬ ((k : List ℕ) × (rest : List ℕ) × SplitsKey now k rest × Follows previous k)
-no_key_in_order now key c previous h none k = none (subst (Follows previous) (same_key now key k.0 c k.1 h k.2).0 k.3)
+pub no_key_in_order : (now key c : List ℕ) (previous : Option (List ℕ)) → SplitsKey now key c → ¬ Follows previous key → ¬ ((k : List ℕ) × (rest : List ℕ) × SplitsKeyAfter previous now k rest)
+no_key_in_order now key c previous h none k = none (subst (Follows previous) (same_key now key k.0 c k.1 h k.2.0).0 k.2.1)
 
 pub no_value : (b now key c : List ℕ) (count to_come steps : ℕ) (previous : Option (List ℕ)) → 0 < to_come → EntriesPassed b count to_come steps previous now → SplitsKey now key c → ¬ ((rest : List ℕ) × SplitsItem c steps rest)
     → ¬ ((rest : List ℕ) × SplitsEntries b count steps rest)

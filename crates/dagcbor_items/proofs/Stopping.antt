@@ -10,7 +10,7 @@ use Rattle.dagcbor_heads.specs.declared.error.DecodeError.TheVariants.{Read, Req
 use Rattle.ipld_tree.specs.Tree.{text}
 use Rattle.dagcbor_items.specs.Places.{Follows}
 use Rattle.dagcbor_items.specs.ItemCauses.{KeyCause, CauseInside, CauseInItems, CauseInEntries}
-use Rattle.dagcbor_items.specs.Judging.{SplitsKey}
+use Rattle.dagcbor_items.specs.Judging.{SplitsKey, SplitsKeyAfter}
 use Rattle.dagcbor_items.specs.LeafCauses.{TextCause}
 use Rattle.dagcbor_items.specs.Shapes.{view_text, leaf}
 use Rattle.dagcbor_items.specs.TypedReads.{HasFront}
@@ -57,11 +57,11 @@ key_named previous b old new e l lends r =
 -- a key stands there, but none that may
 pub unordered_named : (E : Type 0) (previous : Option (List ℕ)) (b key : List ℕ) {old new : Reading}
     → old.left ≡ Some b → TakesItem 1 old (text key) new
-    → ¬ ((k rest : List ℕ) × SplitsKey b k rest × Follows previous k)
+    → ¬ ((k rest : List ℕ) × SplitsKeyAfter previous b k rest)
     → KeyCause {E = E} previous UnorderedKey b
 unordered_named E previous b key l h none =
     let q = h.taken b l in
-    (unordered_refused E previous key h (λ f. none (key, q.0, q.1, f))).2 b l
+    (unordered_refused E previous key h (λ f. none (key, q.0, (q.1, f)))).2 b l
 
 -- ---- where it stands
 

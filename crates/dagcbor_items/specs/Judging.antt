@@ -4,6 +4,7 @@ use Rattle.ipld_tree.specs.Cid.{IsCid}
 use Rattle.ipld_tree.specs.Tree.{Tree, text, bytes, Items, Entries}
 use Rattle.ipld_tree.specs.Tree.{any_need, items_need, entries_need}
 use Rattle.ipld_tree.specs.Spelling.{item_count, entry_count, IsFront, AreFronts, AreEntryFronts}
+use Rattle.dagcbor_items.specs.Places.{Follows}
 
 -- n bytes of payload
 abbrev pub SplitsPayload : List ℕ → ℕ → List ℕ → List ℕ → Type 0
@@ -16,6 +17,10 @@ SplitsText b n s rest = IsUtf8 s × SplitsPayload b n s rest
 -- a key
 abbrev pub SplitsKey : List ℕ → List ℕ → List ℕ → Type 0
 SplitsKey b key rest = IsFront b (text key) rest
+
+-- a key that may stand behind the one before it
+abbrev pub SplitsKeyAfter : Option (List ℕ) → List ℕ → List ℕ → List ℕ → Type 0
+SplitsKeyAfter previous b key rest = SplitsKey b key rest × Follows previous key
 
 -- the byte string of a zero and a CID
 abbrev pub SplitsCid : List ℕ → List ℕ → List ℕ → Type 0

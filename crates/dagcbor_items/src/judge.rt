@@ -1,6 +1,6 @@
 //! Judging bytes that are all there: what is behind the item with which they begin. Nothing is
-//! built, and no memory is taken. Where the judge stops, the walk names the cause of the refusal,
-//! which goes up beside the results, so that these stay in registers.
+//! built, and no memory is taken. Where the judge stops, the walk names the cause, which is put
+//! beside the results, so that these stay in registers.
 
 ghost use Rattle.std.specs.Prelude.{◌≡◌, ◌≢◌, ◌↔◌, ◌-◌, ◌<◌, ◌≤◌, length, List, ℕ, IsTrue, IsUtf8};
 ghost use Rattle.std.specs.Prelude.{MatchOption, option_map};
@@ -10,9 +10,9 @@ ghost use Rattle.std.specs.Char.{is_ascii};
 ghost use Rattle.dagcbor_heads.specs.Splits.{SplitsHead};
 ghost use Rattle.ipld_tree.specs.Cid.{IsCid};
 ghost use Rattle.dagcbor_items.specs.Places.{Follows};
-ghost use Rattle.dagcbor_items.specs.Judging.{SplitsPayload, SplitsText, SplitsKey, SplitsCid};
-ghost use Rattle.dagcbor_items.specs.Judging.{SplitsLeaf, SplitsItem, SplitsItems, SplitsEntries};
-ghost use Rattle.dagcbor_items.specs.Judging.{GivesRest, GivesLeft};
+ghost use Rattle.dagcbor_items.specs.Judging.{SplitsPayload, SplitsText, SplitsKey, SplitsKeyAfter};
+ghost use Rattle.dagcbor_items.specs.Judging.{SplitsCid, SplitsLeaf, SplitsItem, SplitsItems};
+ghost use Rattle.dagcbor_items.specs.Judging.{SplitsEntries, GivesRest, GivesLeft};
 ghost use Rattle.dagcbor_items.specs.ItemCauses.{KeyCause, CauseInside, CauseInItems};
 ghost use Rattle.dagcbor_items.specs.ItemCauses.{CauseInEntries};
 
@@ -227,10 +227,10 @@ fn behind_leaf(major: u8, argument: u64, behind: &[u8]) -> Option<&[u8]>
 #[inline(always)]
 fn split_key_after<'b>(previous: &Option<&[u8]>, bytes: &'b [u8]) -> Option<(&'b [u8], &'b [u8])>
     ensures { MatchOption result
-        (¬ ((key : List ℕ) × (rest : List ℕ) × SplitsKey bytes.now key rest
-        × Follows (option_map (λ s. s.now) previous.now) key))
-        (λ p. SplitsKey bytes.now p.0.now p.1.now
-        × Follows (option_map (λ s. s.now) previous.now) p.0.now) }
+        (¬ ((key : List ℕ) × (rest : List ℕ)
+        × SplitsKeyAfter (option_map (λ s. s.now) previous.now) bytes.now key rest))
+        (λ p. SplitsKeyAfter (option_map (λ s. s.now) previous.now)
+        bytes.now p.0.now p.1.now) }
 {
     let (key, behind) = split_key(bytes)?;
     if !follows(previous, key) {
@@ -243,8 +243,8 @@ fn split_key_after<'b>(previous: &Option<&[u8]>, bytes: &'b [u8]) -> Option<(&'b
 #[cold]
 #[inline(never)]
 fn name_key_cause(previous: &Option<&[u8]>, bytes: &[u8], cause: &mut DecodeError<Infallible>)
-    requires { ¬ ((key : List ℕ) × (rest : List ℕ) × SplitsKey bytes.now key rest
-        × Follows (option_map (λ s. s.now) previous.now) key) }
+    requires { ¬ ((key : List ℕ) × (rest : List ℕ)
+        × SplitsKeyAfter (option_map (λ s. s.now) previous.now) bytes.now key rest) }
     ensures { KeyCause (option_map (λ s. s.now) previous.now) cause.new bytes.now }
 {
     match pull_lent_text("map key", &mut SliceReader::new(bytes)) {

@@ -1,13 +1,16 @@
 -- What an untyped read answers and refuses.
 use Rattle.std.specs.Prelude.{◌≡◌, ℕ, ◌+◌, ◌-◌, ◌/◌, ◌≤◌, false, List, [], ◌∷◌, Option, None, Some}
-use Rattle.std.specs.Prelude.{Result, MatchResult, ⊤}
+use Rattle.std.specs.Prelude.{Result, MatchResult, ⊤, Vec, String}
+use Rattle.std.specs.BTreeMap.{BTreeMap}
+use Rattle.std.specs.declared.alloc.Global.{Global}
 use Rattle.dagcbor_heads.specs.Reading.{Reading, Stays}
 use Rattle.dagcbor_heads.specs.Refusals.{RefusesPlainly, RefusesOrLacksMemory, RefusesOrLacksMemoryUnlent}
 use Rattle.dagcbor_heads.specs.declared.error.DecodeError.{DecodeError}
 use Rattle.ipld_tree.specs.Tree.{Tree, list, mapping, IsTree, any_need}
 use Rattle.ipld_tree.specs.Spelling.{IsSpellable, spelling, IsFront}
 use Rattle.ipld_tree.specs.Ipld.{tree_of}
-use Rattle.ipld_tree.specs.declared.ipld.Ipld.{Ipld}
+use Rattle.ipld_tree.specs.declared.ipld.Ipld.{Ipld, String as String', List as List'}
+use Rattle.ipld_tree.specs.declared.ipld.Ipld.{Map as Map'}
 use Rattle.dagcbor_items.specs.ItemCauses.{CauseInside}
 use Rattle.dagcbor_items.specs.Shapes.{Shape, takes_some}
 use Rattle.dagcbor_items.specs.TypedReads.{HasFront}
@@ -39,13 +42,18 @@ HasEnteredItem = HasItem 1
 abbrev pub TakesEnteredItem : Reading → Tree → Reading → Type 0
 TakesEnteredItem = TakesItem 1
 
--- An item of unknown kind is read exactly where one stands within the steps, of which so many are
--- already spent on it.
+-- An item of unknown kind is read, as a value that means a tree, exactly where one stands within the
+-- steps, of which so many are already spent on it.
+abbrev pub ReadsItemAs : {T E : Type 0} → (T → Tree) → ℕ → Reading → Result T (DecodeError E)
+    → Reading → Type 0
+ReadsItemAs meaning spent old result new = MatchResult result
+    (λ v. TakesItem spent old (meaning v) new)
+    (λ e. RefusesOrLacksMemory (HasItem spent old) (CauseInside (old.steps + spent)) old e new)
+
+-- the same as a tree
 abbrev pub ReadsItemSpent : {E : Type 0} → ℕ → Reading → Result Ipld (DecodeError E) → Reading
     → Type 0
-ReadsItemSpent spent old result new = MatchResult result
-    (λ v. TakesItem spent old (tree_of v) new)
-    (λ e. RefusesOrLacksMemory (HasItem spent old) (CauseInside (old.steps + spent)) old e new)
+ReadsItemSpent = ReadsItemAs tree_of
 
 -- an item is read, on which no step was spent
 abbrev pub ReadsItem : {E : Type 0} → Reading → Result Ipld (DecodeError E) → Reading → Type 0
@@ -55,22 +63,28 @@ ReadsItem = ReadsItemSpent 0
 abbrev pub ReadsEnteredItem : {E : Type 0} → Reading → Result Ipld (DecodeError E) → Reading → Type 0
 ReadsEnteredItem = ReadsItemSpent 1
 
--- The same of a call that puts the item into a place: what stands there after the call.
-abbrev pub PutsItemSpent : {E : Type 0} → ℕ → Ipld → Reading → Result (Unit {0}) (DecodeError E)
-    → Reading → Type 0
-PutsItemSpent spent place old result new = MatchResult result
-    (λ _. TakesItem spent old (tree_of place) new)
-    (λ e. RefusesOrLacksMemory (HasItem spent old) (CauseInside (old.steps + spent)) old e new)
-
--- an item is put into a place, on which no step was spent
+-- an item is read into a place, by what stands there after the call, on which no step was spent
 abbrev pub PutsItem : {E : Type 0} → Ipld → Reading → Result (Unit {0}) (DecodeError E) → Reading
     → Type 0
-PutsItem = PutsItemSpent 0
+PutsItem place = ReadsItemAs (λ _. tree_of place) 0
 
--- an item is put into a place, on which a step was spent before
+-- the same, on which a step was spent before
 abbrev pub PutsEnteredItem : {E : Type 0} → Ipld → Reading → Result (Unit {0}) (DecodeError E)
     → Reading → Type 0
-PutsEnteredItem = PutsItemSpent 1
+PutsEnteredItem place = ReadsItemAs (λ _. tree_of place) 1
+
+-- the value of an item that was entered is read: a text, the items of a list, the entries of a map
+abbrev pub ReadsText : {E : Type 0} → Reading → Result (String Global) (DecodeError E) → Reading
+    → Type 0
+ReadsText = ReadsItemAs (λ s. tree_of (String' s)) 1
+
+abbrev pub ReadsList : {E : Type 0} → Reading → Result (Vec Ipld Global) (DecodeError E) → Reading
+    → Type 0
+ReadsList = ReadsItemAs (λ v. tree_of (List' v)) 1
+
+abbrev pub ReadsMap : {E : Type 0} → Reading → Result (BTreeMap (String Global) Ipld) (DecodeError E)
+    → Reading → Type 0
+ReadsMap = ReadsItemAs (λ m. tree_of (Map' m)) 1
 
 -- A leaf that takes no memory is read exactly where one stands: a number, a link or a simple value.
 abbrev pub ReadsLeaf : {E : Type 0} → Reading → Result Ipld (DecodeError E) → Reading → Type 0

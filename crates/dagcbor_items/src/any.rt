@@ -4,16 +4,15 @@ ghost use Rattle.std.specs.Prelude.{◌≡◌, IfErr};
 ghost use Rattle.dagcbor_heads.specs.Inputs.{input_reading, OverInput};
 ghost use Rattle.dagcbor_heads.specs.Fronts.{StartsWith};
 ghost use Rattle.dagcbor_heads.specs.Looking.{Looks, LooksBehind};
-ghost use Rattle.dagcbor_items.specs.Untyped.{ReadsItem, ReadsEnteredItem, PutsItem};
-ghost use Rattle.dagcbor_items.specs.Untyped.{PutsEnteredItem, StartsWithMajor};
+ghost use Rattle.dagcbor_items.specs.Untyped.{ReadsItem, PutsItem, PutsEnteredItem};
+ghost use Rattle.dagcbor_items.specs.Untyped.{ReadsList, ReadsMap, StartsWithMajor};
 ghost use Rattle.dagcbor_items.specs.Items.{ReadsItems};
 ghost use Rattle.dagcbor_items.specs.Entries.{ReadsEntries};
 ghost use Rattle.dagcbor_items.specs.AnsweredVariants.{OfItem};
 
 use crate::enter::enter;
 use crate::key::read_key;
-use crate::leaf::{read_bytes, read_integer, read_simple, read_text, take_integer};
-use crate::link::read_link;
+use crate::leaf::{read_leaf, read_text, take_integer};
 use dagcbor_heads::{DecodeError, Input, Read, ReadResult, is_indefinite, peek_one, spend_step};
 use ipld_tree::Ipld;
 use std::alloc::{AllocError, Global};
@@ -68,12 +67,12 @@ fn read_item<R: Read>(
         *place = Ipld::Integer(number);
         return Ok(());
     }
-    read_of_major_into(alloc, input, first, place)
+    put_of_major(alloc, input, first, place)
 }
 
 #[cycle(any)]
 #[inline(never)]
-fn read_of_major_into<R: Read>(
+fn put_of_major<R: Read>(
     alloc: Global,
     input: &mut Input<'_, R>,
     first: u8,
@@ -84,40 +83,37 @@ fn read_of_major_into<R: Read>(
     ensures looked { OverInput R.reading (LooksBehind 3 1) input.old result input.new }
     ensures variant { IfErr result OfItem }
 {
-    *place = read_of_major(alloc, input, first)?;
-    Ok(())
-}
-
-#[cycle(any)]
-fn read_of_major<R: Read>(alloc: Global, input: &mut Input<'_, R>, first: u8) -> ReadResult<Ipld, R>
-    requires { StartsWith (input_reading R.reading input.old) first }
-    ensures item { OverInput R.reading ReadsEnteredItem input.old result input.new }
-    ensures looked { OverInput R.reading (LooksBehind 3 1) input.old result input.new }
-    ensures variant { IfErr result OfItem }
-{
     match first / 32 {
-        0 => read_integer("u64", input, first),
-        1 => read_integer("any", input, first),
-        2 => read_bytes(alloc, input),
-        3 => read_text(alloc, input),
-        4 => read_list(alloc, input),
-        5 => read_map(alloc, input),
-        6 => read_link(input),
-        _ => read_simple(input, first),
+        3 => {
+            *place = Ipld::String(read_text(alloc, input)?);
+            Ok(())
+        }
+        4 => {
+            *place = Ipld::List(read_list(alloc, input)?);
+            Ok(())
+        }
+        5 => {
+            *place = Ipld::Map(read_map(alloc, input)?);
+            Ok(())
+        }
+        _ => {
+            *place = read_leaf(alloc, input, first)?;
+            Ok(())
+        }
     }
 }
 
 #[cycle(any)]
-fn read_list<R: Read>(alloc: Global, input: &mut Input<'_, R>) -> ReadResult<Ipld, R>
+fn read_list<R: Read>(alloc: Global, input: &mut Input<'_, R>) -> ReadResult<Vec<Ipld>, R>
     requires { StartsWithMajor (input_reading R.reading input.old) 4 }
-    ensures item { OverInput R.reading ReadsEnteredItem input.old result input.new }
+    ensures item { OverInput R.reading ReadsList input.old result input.new }
     ensures looked { OverInput R.reading (LooksBehind 3 1) input.old result input.new }
     ensures variant { IfErr result OfItem }
 {
     let count = enter("array", input)?;
     let items = read_items(alloc, input, count)?;
     input.step_out();
-    Ok(Ipld::List(items))
+    Ok(items)
 }
 
 #[cycle(any)]
@@ -159,16 +155,19 @@ fn take_first_room(items: &mut Vec<Ipld>, count: u64) -> Result<(), AllocError>
 }
 
 #[cycle(any)]
-fn read_map<R: Read>(alloc: Global, input: &mut Input<'_, R>) -> ReadResult<Ipld, R>
+fn read_map<R: Read>(
+    alloc: Global,
+    input: &mut Input<'_, R>,
+) -> ReadResult<BTreeMap<String, Ipld>, R>
     requires { StartsWithMajor (input_reading R.reading input.old) 5 }
-    ensures item { OverInput R.reading ReadsEnteredItem input.old result input.new }
+    ensures item { OverInput R.reading ReadsMap input.old result input.new }
     ensures looked { OverInput R.reading (LooksBehind 3 1) input.old result input.new }
     ensures variant { IfErr result OfItem }
 {
     let count = enter("map", input)?;
     let entries = read_entries(alloc, input, count)?;
     input.step_out();
-    Ok(Ipld::Map(entries))
+    Ok(entries)
 }
 
 #[tactic(auto, using(crate::proofs::PartRefusals::key_item))]

@@ -5,12 +5,14 @@ ghost use Rattle.dagcbor_heads.specs.Inputs.{input_reading, OverInput};
 ghost use Rattle.dagcbor_heads.specs.Fronts.{StartsWith};
 ghost use Rattle.dagcbor_heads.specs.Looking.{LooksAtTaken, LooksBehind};
 ghost use Rattle.ipld_tree.specs.Tree.{integer};
-ghost use Rattle.dagcbor_items.specs.Untyped.{ReadsEnteredItem, ReadsLeaf, StartsWithMajor};
-ghost use Rattle.dagcbor_items.specs.Untyped.{IsSimple, TakesEnteredItem};
+ghost use Rattle.dagcbor_items.specs.Untyped.{ReadsEnteredItem, ReadsText, ReadsLeaf};
+ghost use Rattle.dagcbor_items.specs.Untyped.{IsSimple, StartsWithMajor, TakesEnteredItem};
 ghost use Rattle.dagcbor_items.specs.AnsweredVariants.{OfItem};
 
+use crate::link::read_link;
 use crate::numbers::number_of;
-use crate::strings::{pull_peeked_owned_bytes, pull_peeked_owned_text};
+use crate::strings::{no_text, pull_peeked_owned_bytes, pull_peeked_owned_text};
+use crate::utf8::as_text;
 use dagcbor_heads::{DecodeError, Input, Read, ReadResult, pull_head_argument, pull_one};
 use ipld_tree::Ipld;
 use std::alloc::Global;
@@ -34,7 +36,7 @@ pub(crate) fn take_integer<R: Read>(reader: &mut R, first: u8) -> Option<i128>
 
 /// Reads an integer, whose first byte was seen.
 #[tactic(auto, using(crate::proofs::PartRefusals::named_item))]
-pub(crate) fn read_integer<R: Read>(name: &str, reader: &mut R, first: u8) -> ReadResult<Ipld, R>
+fn read_integer<R: Read>(name: &str, reader: &mut R, first: u8) -> ReadResult<Ipld, R>
     requires starts { StartsWith (R.reading reader.old) first }
     requires major { first / 32 ≤ 1 }
     ensures leaf { ReadsLeaf (R.reading reader.old) result (R.reading reader.new) }
@@ -46,7 +48,7 @@ pub(crate) fn read_integer<R: Read>(name: &str, reader: &mut R, first: u8) -> Re
 }
 
 #[tactic(auto, using(crate::proofs::PartRefusals::kind_item, crate::proofs::StringItems::bytes_items))]
-pub(crate) fn read_bytes<R: Read>(alloc: Global, input: &mut Input<'_, R>) -> ReadResult<Ipld, R>
+fn read_bytes<R: Read>(alloc: Global, input: &mut Input<'_, R>) -> ReadResult<Ipld, R>
     requires { StartsWithMajor (input_reading R.reading input.old) 2 }
     ensures item { OverInput R.reading ReadsEnteredItem input.old result input.new }
     ensures looked { OverInput R.reading (LooksBehind 3 1) input.old result input.new }
@@ -55,14 +57,25 @@ pub(crate) fn read_bytes<R: Read>(alloc: Global, input: &mut Input<'_, R>) -> Re
     Ok(Ipld::Bytes(pull_peeked_owned_bytes(alloc, input)?))
 }
 
+/// Reads a text, whose first byte was seen.
 #[tactic(auto, using(crate::proofs::PartRefusals::text_item, crate::proofs::StringItems::text_items))]
-pub(crate) fn read_text<R: Read>(alloc: Global, input: &mut Input<'_, R>) -> ReadResult<Ipld, R>
+pub(crate) fn read_text<R: Read>(alloc: Global, input: &mut Input<'_, R>) -> ReadResult<String, R>
     requires { StartsWithMajor (input_reading R.reading input.old) 3 }
-    ensures item { OverInput R.reading ReadsEnteredItem input.old result input.new }
+    ensures item { OverInput R.reading ReadsText input.old result input.new }
     ensures looked { OverInput R.reading (LooksBehind 3 1) input.old result input.new }
     ensures variant { IfErr result OfItem }
 {
-    Ok(Ipld::String(pull_peeked_owned_text(alloc, input)?))
+    if let Some(payload) = input.take_string(3) {
+        return match as_text(payload) {
+            Some(text) => match String::from_str(alloc, text) {
+                Ok(text) => Ok(text),
+                Err(_) => Err(DecodeError::OutOfMemory),
+            },
+            None => Err(no_text("string")),
+        };
+    }
+    let text = pull_peeked_owned_text(alloc, input)?;
+    Ok(text)
 }
 
 fn simple_value(byte: u8) -> Option<Ipld>
@@ -77,7 +90,7 @@ fn simple_value(byte: u8) -> Option<Ipld>
 }
 
 #[tactic(auto, using(crate::proofs::PartRefusals::end_item))]
-pub(crate) fn read_simple<R: Read>(reader: &mut R, first: u8) -> ReadResult<Ipld, R>
+fn read_simple<R: Read>(reader: &mut R, first: u8) -> ReadResult<Ipld, R>
     requires starts { StartsWith (R.reading reader.old) first }
     requires major { first / 32 ≡ 7 }
     ensures leaf { ReadsLeaf (R.reading reader.old) result (R.reading reader.new) }
@@ -90,5 +103,26 @@ pub(crate) fn read_simple<R: Read>(reader: &mut R, first: u8) -> ReadResult<Ipld
             Ok(value)
         }
         None => Err(DecodeError::unsupported("any", first)),
+    }
+}
+
+/// Reads an integer, a byte string, a link or a simple value, whose first byte was seen.
+pub(crate) fn read_leaf<R: Read>(
+    alloc: Global,
+    input: &mut Input<'_, R>,
+    first: u8,
+) -> ReadResult<Ipld, R>
+    requires starts { StartsWith (input_reading R.reading input.old) first }
+    requires leaf { 3 ≤ first / 32 → 6 ≤ first / 32 }
+    ensures item { OverInput R.reading ReadsEnteredItem input.old result input.new }
+    ensures looked { OverInput R.reading (LooksBehind 3 1) input.old result input.new }
+    ensures variant { IfErr result OfItem }
+{
+    match first / 32 {
+        0 => read_integer("u64", input, first),
+        1 => read_integer("any", input, first),
+        2 => read_bytes(alloc, input),
+        6 => read_link(input),
+        _ => read_simple(input, first),
     }
 }

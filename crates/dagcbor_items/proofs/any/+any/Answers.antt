@@ -133,4 +133,4 @@ pub read_item-returns-then-is_indefinite-clause-looked : goal.read_item-returns-
 read_item-returns-then-is_indefinite-clause-looked g t c = once_left_more 3 (omega arith) c.in_ok-first.ensures.looked
 
 pub read_item-returns-clause-looked : goal.read_item-returns-clause-looked
-read_item-returns-clause-looked g t c = looks_behind_peek 3 _ _ c.in_ok-first.ensures.looked c.in_ok-first.ensures.shown (rw c.in_default.ensures.taken at c.read_of_major_into.ensures.looked)
+read_item-returns-clause-looked g t c = looks_behind_peek 3 _ _ c.in_ok-first.ensures.looked c.in_ok-first.ensures.shown (rw c.in_default.ensures.taken at c.put_of_major.ensures.looked)

@@ -10,22 +10,19 @@ use Rattle.dagcbor_items.proofs.Maps.{ReadEntries}
 use Rattle.dagcbor_items.proofs.any.+any.Given as goal
 
 abbrev pub decreases-read_into : goal.decreases-read_into
-decreases-read_into g l = 6 * (input_reading g.R.Read.reading l.input.now).steps
+decreases-read_into g l = 5 * (input_reading g.R.Read.reading l.input.now).steps
 
 abbrev pub decreases-read_item : goal.decreases-read_item
-decreases-read_item g l = 6 * (input_reading g.R.Read.reading l.input.now).steps + 5
+decreases-read_item g l = 5 * (input_reading g.R.Read.reading l.input.now).steps + 4
 
-abbrev pub decreases-read_of_major_into : goal.decreases-read_of_major_into
-decreases-read_of_major_into g l = 6 * (input_reading g.R.Read.reading l.input.now).steps + 4
-
-abbrev pub decreases-read_of_major : goal.decreases-read_of_major
-decreases-read_of_major g l = 6 * (input_reading g.R.Read.reading l.input.now).steps + 3
+abbrev pub decreases-put_of_major : goal.decreases-put_of_major
+decreases-put_of_major g l = 5 * (input_reading g.R.Read.reading l.input.now).steps + 3
 
 abbrev pub decreases-read_list : goal.decreases-read_list
-decreases-read_list g l = 6 * (input_reading g.R.Read.reading l.input.now).steps + 2
+decreases-read_list g l = 5 * (input_reading g.R.Read.reading l.input.now).steps + 2
 
 abbrev pub decreases-read_items : goal.decreases-read_items
-decreases-read_items g l = 6 * (input_reading g.R.Read.reading l.input.now).steps + 1
+decreases-read_items g l = 5 * (input_reading g.R.Read.reading l.input.now).steps + 1
 
 abbrev pub invariant-read_items-loop-index : goal.invariant-read_items-loop-index
 invariant-read_items-loop-index g l = record {
@@ -34,10 +31,10 @@ invariant-read_items-loop-index g l = record {
 }
 
 abbrev pub decreases-read_map : goal.decreases-read_map
-decreases-read_map g l = 6 * (input_reading g.R.Read.reading l.input.now).steps + 2
+decreases-read_map g l = 5 * (input_reading g.R.Read.reading l.input.now).steps + 2
 
 abbrev pub decreases-read_entries : goal.decreases-read_entries
-decreases-read_entries g l = 6 * (input_reading g.R.Read.reading l.input.now).steps + 1
+decreases-read_entries g l = 5 * (input_reading g.R.Read.reading l.input.now).steps + 1
 
 abbrev pub invariant-read_entries-loop-index : goal.invariant-read_entries-loop-index
 invariant-read_entries-loop-index g l = record {

@@ -1,9 +1,7 @@
 -- Beginning a list or a map.
-use Rattle.std.proofs.Common.{◌≡◌, ℕ, ◌+◌, ◌-◌, ◌/◌, ◌<◌, List, ◌∷◌, inl, inr, sym, ap, ◌∙◌, subst, arith}
+use Rattle.std.proofs.Common.{◌≡◌, ℕ, ◌/◌, ◌<◌, List, ◌∷◌, inl, inr, sym, ap, ◌∙◌, arith}
 use Rattle.std.specs.Prelude.{Some}
-use Rattle.dagcbor_heads.specs.Head.{head}
-use Rattle.dagcbor_heads.specs.Reading.{Reading, SpentStep, Stays, with_steps}
-use Rattle.dagcbor_heads.specs.Fronts.{Takes}
+use Rattle.dagcbor_heads.specs.Reading.{Reading, SpentStep, Stays}
 use Rattle.dagcbor_heads.specs.Causes.{IsDepthNamed}
 use Rattle.dagcbor_heads.specs.Names.{Names}
 use Rattle.dagcbor_heads.specs.Refusals.{Refuses, NoStep}
@@ -12,9 +10,8 @@ use Rattle.dagcbor_heads.specs.declared.error.DecodeError.{DecodeError}
 use Rattle.dagcbor_heads.specs.declared.error.DecodeError.TheVariants.{Mismatch, DepthOverflow}
 use Rattle.dagcbor_heads.proofs.Refusing.{no_step_refused}
 use Rattle.dagcbor_items.specs.AnsweredVariants.{OfByte, OfHead}
-use Rattle.dagcbor_items.specs.Majors.{HasMajor, TakesMajor}
+use Rattle.dagcbor_items.specs.Majors.{HasMajor}
 use Rattle.dagcbor_items.specs.LeafCauses.{MajorCause}
-use Rattle.dagcbor_items.specs.Entering.{Enters}
 use Rattle.dagcbor_items.proofs.PartRefusals.{byte_kind}
 use Rattle.dagcbor_read.specs.Enums.{EnumState, IsOtherForm, OfForm}
 use Rattle.dagcbor_items.specs.TypedReads.{NoStepIfDeep}
@@ -59,7 +56,8 @@ major_entered {E} {old} {stepped} major name new e s of r = (
       left = left_stepped s ∙ h.left;
     }
 
-    cause : (e : DecodeError E) (b : List ℕ) → MajorCause name major major e b → EnterCause major name e b
+    cause : (e : DecodeError E) (b : List ℕ) → MajorCause name major major e b
+        → EnterCause major name e b
     cause (Mismatch n found) b (inl h) = absurd h.1
     cause (Mismatch n found) b (inr h) =
         (h.0, (h.1.0, h.1.1, λ same. h.1.2 (omega (arith, same)) (omega (arith, same))))
@@ -72,19 +70,6 @@ major_entered {E} {old} {stepped} major name new e s of r = (
     shallow : (e : DecodeError E) → OfHead e → NoStepIfDeep old e
     shallow (DepthOverflow n) of = absurd of
     shallow _ of = tt
-
--- the head of the major type was taken, for a step
-pub enters_major : {major m count : ℕ} {old stepped new : Reading} → SpentStep old stepped
-    → TakesMajor major major stepped m count new → Enters major count old new
-enters_major {major} {m} {count} {old} {stepped} {new} s t =
-    let same : m ≡ major = omega (arith, t.lowest, t.highest) in
-    let takes = subst (λ r. Takes r (head m count) new) s.is t.takes in
-    record {
-      fits = t.argument_fits;
-      step = s.some;
-      is_out = omega (arith, s.is_out, t.takes.same.steps, t.takes.same.budget);
-      takes = subst (λ x. Takes (with_steps (old.steps - 1) old) (head x count) new) same takes;
-    }
 
 -- ---- refusals of a part among those of the whole
 

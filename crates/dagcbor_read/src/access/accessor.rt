@@ -138,13 +138,13 @@ impl<'de> Accessor<'de> {
             return Ok(None);
         }
         if let Some(found) = de.take_key(&self.last) {
-            return match found {
+            match found {
                 Ok(key) => {
                     self.note_key(CowStr::Borrowed(key));
-                    Ok(Some(CowStr::Borrowed(key)))
+                    return Ok(Some(CowStr::Borrowed(key)));
                 }
-                Err(bytes) => Err(no_key(bytes)),
-            };
+                Err(bytes) => return Err(no_key(bytes)),
+            }
         }
         self.next_key_slowly(alloc, de)
     }

@@ -10,8 +10,9 @@ returns-in_err-key-clause-key g c = as_refusal _ _ _ _ c.from_residual.ensures.1
 pub returns-then-not-follows-clause-key : goal.returns-then-not-follows-clause-key
 returns-then-not-follows-clause-key g c =
     let other = c.if-not-follows.true in
+    let same = sym c.as_str.ensures.value in
     unordered_refused g.row.R-Error.Denot _ _ (text_taken _ c.in_ok-key.ensures.text)
-    (λ f. let yes = c.follows.ensures.1 (follows_as _ _ _ (sym c.as_str.ensures.value) f) in absurd (cc (yes, other)))
+    (λ f. let yes = c.follows.ensures.1 (follows_as _ _ _ same f) in absurd (cc (yes, other)))
 
 pub returns-clause-key : goal.returns-clause-key
 returns-clause-key g c =

@@ -10,4 +10,7 @@ returns-in_err-spend_step-clause-head g c =
 
 pub returns-in_err-count-clause-head : goal.returns-in_err-count-clause-head
 returns-in_err-count-clause-head g c =
-    as_refusal _ _ _ _ c.from_residual-in_err-count.ensures.1 (major_entered c.args.major c.args.name.now _ _ c.in_ok-spend_step.ensures c.in_err-count.ensures.variant c.in_err-count.ensures.kind)
+    let refused = c.in_err-count.ensures in
+    as_refusal _ _ _ _ c.from_residual-in_err-count.ensures.1
+    (major_entered c.args.major c.args.name.now _ _ c.in_ok-spend_step.ensures
+    refused.variant refused.kind)

@@ -14,4 +14,4 @@ pub mod Enums
 pub mod IpldTrees
 pub mod Walks
 pub mod KeyOrder
-pub mod Places
+pub mod PlaceOrder

@@ -9,7 +9,7 @@ use Rattle.std.specs.declared.cmp.Ordering.TheVariants.{Less}
 use Rattle.ipld_tree.specs.Key.{key_cmp, comes_before}
 use Rattle.ipld_tree.specs.Tree.{IsTree, text, key_of}
 use Rattle.ipld_tree.specs.Spelled.{spelled_tree}
-use Rattle.dagcbor_write.specs.declared.structs.Place.{Place}
+use Rattle.dagcbor_write.specs.declared.places.Place.{Place}
 use Rattle.dagcbor_write.specs.Trees.{Pair}
 use Rattle.dagcbor_write.specs.Maps.{spelled_key}
 

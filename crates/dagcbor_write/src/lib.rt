@@ -11,6 +11,8 @@
 
 mod collect;
 pub mod laws;
+mod places;
+mod row;
 mod serialize;
 mod serializer;
 mod structs;
@@ -20,7 +22,9 @@ mod whole;
 pub use collect::bounded::BoundedCollect;
 pub use collect::collect_map::CollectMap;
 pub use collect::collect_seq::CollectSeq;
+pub use places::{Place, Places};
+pub use row::{Field, FieldRow, Optional};
 pub use serialize::Serialize;
 pub use serializer::Serializer;
-pub use structs::{Field, FieldRow, Optional, write_struct, write_struct_variant};
+pub use structs::{write_struct, write_struct_variant};
 pub use whole::{to_vec, to_writer};

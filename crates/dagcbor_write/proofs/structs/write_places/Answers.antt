@@ -1,6 +1,6 @@
 use Rattle.dagcbor_heads.proofs.Writing.{next_taken, exit_refused, all_written}
-use Rattle.dagcbor_write.proofs.Places.{begin_places, at_place, no_place, good_place, all_good}
-use Rattle.dagcbor_write.proofs.Places.{ok_holds}
+use Rattle.dagcbor_write.proofs.PlaceOrder.{begin_places, at_place, no_place, good_place, all_good}
+use Rattle.dagcbor_write.proofs.PlaceOrder.{ok_holds}
 use Rattle.dagcbor_write.proofs.structs.write_places.Goals as goal
 
 pub loop-place-init : goal.loop-place-init

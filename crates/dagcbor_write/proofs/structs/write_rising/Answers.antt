@@ -7,7 +7,7 @@ use Rattle.dagcbor_write.specs.Trees.{Pair}
 use Rattle.dagcbor_write.proofs.Fields.{exit_row}
 use Rattle.dagcbor_write.proofs.Lists.{OnOk_of}
 use Rattle.dagcbor_write.proofs.Parts.{begin_two}
-use Rattle.dagcbor_write.proofs.Places.{ordered_map}
+use Rattle.dagcbor_write.proofs.PlaceOrder.{ordered_map}
 use Rattle.dagcbor_write.proofs.structs.write_rising.Goals as goal
 
 pub returns-in_err-gather_fields-clause-written : goal.returns-in_err-gather_fields-clause-written

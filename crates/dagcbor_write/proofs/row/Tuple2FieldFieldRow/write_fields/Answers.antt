@@ -5,7 +5,7 @@ use Rattle.dagcbor_write.specs.Trees.{field}
 use Rattle.dagcbor_write.proofs.Fields.{other_lacks}
 use Rattle.dagcbor_write.proofs.Messages.{name_spelled, message_of, message_tells}
 use Rattle.dagcbor_write.proofs.Parts.{begin_two, part_opened}
-use Rattle.dagcbor_write.proofs.structs.Tuple2FieldFieldRow.write_fields.Goals as goal
+use Rattle.dagcbor_write.proofs.row.Tuple2FieldFieldRow.write_fields.Goals as goal
 
 pub returns-then-is_err-clause-written : goal.returns-then-is_err-clause-written
 returns-then-is_err-clause-written g c = exit_refused (begin_two _ _ _ _ refl) _ _ c.if-is_err.ensures.value c.serialize_str-key.ensures.written

@@ -6,7 +6,7 @@ use Rattle.dagcbor_write.specs.Trees.{Pair, field}
 use Rattle.dagcbor_write.proofs.Fields.{other_lacks}
 use Rattle.dagcbor_write.proofs.Messages.{name_spelled, message_of, message_tells}
 use Rattle.dagcbor_write.proofs.Parts.{begin_two}
-use Rattle.dagcbor_write.proofs.structs.write_field_of.Goals as goal
+use Rattle.dagcbor_write.proofs.row.write_field_of.Goals as goal
 
 pub returns-then-place-gt0-clause-message : goal.returns-then-place-gt0-clause-message
 returns-then-place-gt0-clause-message g c =

@@ -1,6 +1,6 @@
 use Rattle.std.proofs.Common.{rules, sym, ◌∙◌}
-use Rattle.dagcbor_write.proofs.Places.{sorted_order}
-use Rattle.dagcbor_write.proofs.structs.list_in_order.Goals as goal
+use Rattle.dagcbor_write.proofs.PlaceOrder.{sorted_order}
+use Rattle.dagcbor_write.proofs.places.list_in_order.Goals as goal
 
 pub returns : goal.returns
 returns g c t =

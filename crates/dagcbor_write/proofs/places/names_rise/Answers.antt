@@ -1,8 +1,8 @@
 use Rattle.std.proofs.Common.{◌+◌, drop, sym, ap, ◌∙◌}
 use Rattle.ipld_tree.specs.Key.{comes_before}
 use Rattle.dagcbor_write.specs.Rows.{names_rise}
-use Rattle.dagcbor_write.proofs.Places.{name_rises, name_stops, no_name}
-use Rattle.dagcbor_write.proofs.structs.names_rise.Goals as goal
+use Rattle.dagcbor_write.proofs.PlaceOrder.{name_rises, name_stops, no_name}
+use Rattle.dagcbor_write.proofs.places.names_rise.Goals as goal
 
 pub loop-place-init : goal.loop-place-init
 loop-place-init c =

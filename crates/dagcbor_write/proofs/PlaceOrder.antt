@@ -16,7 +16,7 @@ use Rattle.dagcbor_heads.proofs.Writing.{Written-but, begin_writing, join_parts,
 use Rattle.ipld_tree.specs.Key.{key_cmp, comes_before}
 use Rattle.ipld_tree.specs.Tree.{Tree, text, key_of, IsTree, entries_tree}
 use Rattle.ipld_tree.specs.Spelled.{spelled_tree, spelled_head}
-use Rattle.dagcbor_write.specs.declared.structs.Place.{Place}
+use Rattle.dagcbor_write.specs.declared.places.Place.{Place}
 use Rattle.dagcbor_write.specs.Gathering.{AppendsTo}
 use Rattle.dagcbor_write.specs.Maps.{spelled_key}
 use Rattle.dagcbor_write.specs.Rows.{spelled_pairs, ArePairs, KeysRise, pair_at, spelled_pair}

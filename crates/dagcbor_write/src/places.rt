@@ -1,0 +1,64 @@
+//! The places of a struct's fields, put in the order of their names.
+
+ghost use Rattle.std.specs.Prelude.{◌≡◌, [], Some, IsTrue};
+ghost use Rattle.ipld_tree.specs.Key.{comes_before, key_cmp};
+ghost use Rattle.dagcbor_write.specs.Rows.{names_rise, IsKeyOrder};
+
+use crate::row::FieldRow;
+use arrayvec::ArrayVec;
+use std::cmp::Ordering;
+
+/// The name of a field that stands in the map, and its place among those that do.
+#[derive(Clone, Copy, Default)]
+pub struct Place {
+    pub name: &'static str,
+    pub at: usize,
+}
+
+/// The places of a row that is put in key order. A row of more fields is written as maps are.
+pub type Places = ArrayVec<Place, 16>;
+
+/// The order of two keys: the shorter first, and keys of one length by their bytes.
+fn key_cmp(key: &[u8], other: &[u8]) -> Ordering
+    ensures { result ≡ key_cmp key.now other.now }
+{
+    match key.len().cmp(&other.len()) {
+        Ordering::Equal => key.cmp(other),
+        order => order,
+    }
+}
+
+/// Whether a key comes before another.
+pub(crate) fn comes_before(key: &[u8], other: &[u8]) -> bool
+    ensures { result ≡ comes_before key.now other.now }
+{
+    key_cmp(key, other).is_lt()
+}
+
+/// Whether each name stands behind the one before it, in key order, and the first is not empty.
+fn names_rise(places: &[Place]) -> bool
+    ensures { result ≡ names_rise [] places.now }
+{
+    let mut last = "".as_bytes();
+    for place in places {
+        let name = place.name.as_bytes();
+        if !comes_before(last, name) {
+            return false;
+        }
+        last = name;
+    }
+    true
+}
+
+/// Lists the places of the fields in key order. False where they are many, or a name is there
+/// twice.
+pub(crate) fn list_in_order<F: FieldRow>(fields: F, places: &mut Places) -> bool
+    requires { places.old.items ≡ [] }
+    ensures { IsTrue result → IsKeyOrder (F.pairs fields) (Some places.new.items) }
+{
+    if !fields.list_places(places) {
+        return false;
+    }
+    places.sort_unstable_by(|a, b| key_cmp(a.name.as_bytes(), b.name.as_bytes()));
+    names_rise(places.as_slice())
+}

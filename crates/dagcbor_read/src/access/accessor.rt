@@ -1,6 +1,7 @@
 //! The items of a list, or the entries of a map, one at a time.
 
-ghost use Rattle.std.specs.Prelude.{◌≡◌, ◌↔◌, ◌+◌, ◌<◌, ◌≤◌, ⊤, true, false, Some, IfOk, IfErr, IfSome};
+ghost use Rattle.std.specs.Prelude.{◌≡◌, ◌↔◌, ◌+◌, ◌<◌, ◌≤◌, ⊤, true, false, Some, IfOk, IfErr};
+ghost use Rattle.std.specs.Prelude.{IfSome};
 ghost use Rattle.std.specs.Cow.{cow_str_bytes, IsBorrowedStr};
 ghost use Rattle.dagcbor_heads.specs.Reading.{with_steps};
 ghost use Rattle.dagcbor_read.specs.Deserializers.{de_state, Call, AreOut, Over};
@@ -54,7 +55,8 @@ pub(crate) fn give_back<R: Read>(reader: &mut R, steps: usize)
 
 impl<'de> Accessor<'de> {
     ghost use Rattle.dagcbor_read.specs.Accessors.{accessor_state, fresh, ReadsElement};
-    ghost use Rattle.dagcbor_read.specs.Accessors.{after_element, ReadsNextKey, after_key, with_key};
+    ghost use Rattle.dagcbor_read.specs.Accessors.{after_element, ReadsNextKey, after_key};
+    ghost use Rattle.dagcbor_read.specs.Accessors.{with_key};
     ghost use Rattle.dagcbor_read.specs.Accessors.{after_value, with_value, EndsItems};
 
     /// Nothing of it is read so far.

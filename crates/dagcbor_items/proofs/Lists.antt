@@ -134,6 +134,10 @@ map_push : {A B : Type 0} (f : A → B) (xs : List A) (x : A) → map f (xs ++ x
 map_push f [] x = refl
 map_push f (y ∷ xs) x = ap (λ l. f y ∷ l) (map_push f xs x)
 
+pub map_pushed : {A B X Y : Type 0} (f : A → B) (r : Result X Y) (xs ys : List A) (x : A) → false ≡ is_err r → ys ≡ cond (is_ok r) (xs ++ x ∷ []) xs → map f ys ≡ map f xs ++ f x ∷ []
+map_pushed f (Ok v) xs ys x e h = ap (map f) h ∙ map_push f xs x
+map_pushed f (Err d) xs ys x e h = absurd (cc)
+
 -- an item was pushed, and another one put into its place
 placed : {A : Type 0} (xs ys : List A) (blank x : A) (i : ℕ) → ys ≡ xs ++ blank ∷ []
     → i ≡ length ys - 1 → set ys i x ≡ xs ++ x ∷ []

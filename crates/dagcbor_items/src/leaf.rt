@@ -13,7 +13,7 @@ use crate::link::read_link;
 use crate::numbers::number_of;
 use crate::strings::{no_text, pull_peeked_owned_bytes, pull_peeked_owned_text};
 use crate::utf8::as_text;
-use dagcbor_heads::{DecodeError, Input, Read, ReadResult, pull_head_argument, pull_one};
+use dagcbor_heads::{DecodeError, Input, Read, ReadResult, pull_head, pull_one};
 use ipld_tree::Ipld;
 use std::alloc::Global;
 
@@ -34,7 +34,7 @@ pub(crate) fn take_integer<R: Read>(reader: &mut R, first: u8) -> Option<i128>
     Some(number_of(first / 32, argument))
 }
 
-/// Reads an integer, whose first byte was seen.
+/// Reads an integer, whose first byte was seen, and whose head is not at hand as a whole.
 #[tactic(auto, using(crate::proofs::PartRefusals::named_item))]
 fn read_integer<R: Read>(name: &str, reader: &mut R, first: u8) -> ReadResult<Ipld, R>
     requires starts { StartsWith (R.reading reader.old) first }
@@ -43,7 +43,7 @@ fn read_integer<R: Read>(name: &str, reader: &mut R, first: u8) -> ReadResult<Ip
     ensures looked { LooksBehind 3 1 (R.reading reader.old) result (R.reading reader.new) }
     ensures variant { IfErr result OfItem }
 {
-    let argument = pull_head_argument(name, reader)?;
+    let (_, argument, _) = pull_head(name, reader)?;
     Ok(Ipld::Integer(number_of(first / 32, argument)))
 }
 

@@ -7,4 +7,4 @@ pub returns-in_err-argument-clause-leaf : goal.returns-in_err-argument-clause-le
 returns-in_err-argument-clause-leaf g c = as_refusal _ _ _ _ c.from_residual.ensures.1 (head_refused ⊥ 0 _ _ _ c.in_err-argument.ensures.taken)
 
 pub returns-clause-looked : goal.returns-clause-looked
-returns-clause-looked g c = head_taken c.in_ok-argument.ensures.looked c.in_ok-argument.ensures.taken.2
+returns-clause-looked g c = head_taken c.in_ok-argument.ensures.looked c.in_ok-argument.ensures.taken

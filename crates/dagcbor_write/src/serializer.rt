@@ -1,6 +1,6 @@
 //! The serializer, and what it writes by itself: leaves.
 
-ghost use Rattle.std.specs.Prelude.{length, ◌<◌, ◌≡◌, ◌≤◌, Some, OnOk, IfErr, codes, false, pos, IfSome};
+ghost use Rattle.std.specs.Prelude.{◌≡◌, ◌≤◌, Some, OnOk, IfErr, codes, false, pos, IfSome};
 ghost use Rattle.std.specs.Char.{encode_utf8};
 ghost use Rattle.dagcbor_heads.specs.Written.{Writes, WantsMemoryOnlyIf};
 ghost use Rattle.ipld_tree.specs.Cid.{cid_bytes};
@@ -23,9 +23,6 @@ const INTEGER_RANGE: &str = "Integer must be within [-u64::MAX-1, u64::MAX] rang
 
 /// What an unsigned integer without a spelling is refused with.
 const UNSIGNED_RANGE: &str = "Unsigned integer must be within [0, u64::MAX] range";
-
-/// Fewer bytes than this have a head of one byte.
-const SHORT: usize = 24;
 
 /// Writes values to a writer. Contracts see the writer.
 #[derive(Drop)]
@@ -373,34 +370,11 @@ fn push_counted<W: Write>(writer: &mut W, major: u8, payload: &[u8]) -> WriteRes
         (W.written writer.old) (W.written writer.new) result }
     ensures memory { WantsMemoryOnlyIf W.takes_memory result }
 {
-    if payload.len() < SHORT {
-        return push_short(writer, major, payload);
-    }
     let head = push_head(writer, major, payload.len() as u64);
     if head.is_err() {
         return head;
     }
     let pushed = writer.push(payload);
-    if pushed.is_ok() {
-        return Ok(());
-    }
-    pushed
-}
-
-/// The same of few bytes, whose head is one byte: in one push.
-#[tactic(auto, unfolding(dagcbor_heads::specs::Head::head))]
-fn push_short<W: Write>(writer: &mut W, major: u8, payload: &[u8]) -> WriteResult<(), W>
-    requires major { major ≤ 7 }
-    requires short { length payload.now < 24 }
-    ensures written { Writes (spelled_bytes major payload.now)
-        (W.written writer.old) (W.written writer.new) result }
-    ensures memory { WantsMemoryOnlyIf W.takes_memory result }
-{
-    let mut text = [0; SHORT];
-    text[0] = 32 * major + payload.len() as u8;
-    let end = payload.len() + 1;
-    text[1..end].copy_from_slice(payload);
-    let pushed = writer.push(&text[..end]);
     if pushed.is_ok() {
         return Ok(());
     }

@@ -11,10 +11,11 @@ ghost use Rattle.dagcbor_write.specs.Maps.{JoinsPairs, StopsAtPair, LacksValue};
 ghost use Rattle.dagcbor_write.specs.Lending.{map_state, WritesNothing};
 
 use crate::collect::collect_map::CollectMap;
+use crate::collect::gathered::BAD_VALUE;
 use crate::places::{Place, Places, comes_before};
 use crate::serialize::Serialize;
 use crate::serializer::Serializer;
-use dagcbor_heads::{Write, WriteResult};
+use dagcbor_heads::{EncodeError, Write, WriteResult};
 use std::alloc::Global;
 
 /// As many fields are counted at most.
@@ -64,19 +65,20 @@ pub trait FieldRow: Copy {
         ensures { IsTrue result
             → ListsPlaces (pairs self) places.old.items places.new.items };
 
-    /// Writes the name and the value of the field in this place. It is counted off, so n fields
-    /// take n² / 2 tests, where n is at most 16; in line, the place is looked up at once.
+    /// Writes the name and the value of the field in this place, and refuses where there is none. It
+    /// is counted off, so n fields take n² / 2 tests, where n is at most 16; in line, the place is
+    /// looked up at once.
     fn write_field<W: Write>(
         &self,
         place: usize,
         alloc: Global,
         ser: &mut Serializer<W>,
     ) -> WriteResult<(), W>
-        requires { place < length (pairs self.now) }
         ensures written { Writes (spelled_pair (pair_at (pairs self.now) place))
             (W.written ser.old) (W.written ser.new) result }
         ensures well_formed { OnOk result (IsPair (pair_at (pairs self.now) place)) }
-        ensures message { IfErr result (OnMessage (λ _. LacksValue (pairs self.now))) };
+        ensures message { place < length (pairs self.now)
+            → IfErr result (OnMessage (λ _. LacksValue (pairs self.now))) };
 }
 
 impl FieldRow for () {
@@ -109,7 +111,7 @@ impl FieldRow for () {
         _alloc: Global,
         _ser: &mut Serializer<W>,
     ) -> WriteResult<(), W> {
-        Ok(())
+        Err(EncodeError::custom(BAD_VALUE))
     }
 }
 
@@ -225,13 +227,13 @@ fn write_field_of<T: Serialize, L: FieldRow, W: Write>(
     alloc: Global,
     ser: &mut Serializer<W>,
 ) -> WriteResult<(), W>
-    requires { place < length (field name.now (T.tree value.now) ∷ L.pairs others.now) }
     ensures written { Writes (spelled_pair
         (pair_at (field name.now (T.tree value.now) ∷ L.pairs others.now) place))
         (W.written ser.old) (W.written ser.new) result }
     ensures well_formed { OnOk result
         (IsPair (pair_at (field name.now (T.tree value.now) ∷ L.pairs others.now) place)) }
-    ensures message { IfErr result (OnMessage
+    ensures message { place < length (field name.now (T.tree value.now) ∷ L.pairs others.now)
+        → IfErr result (OnMessage
         (λ _. LacksValue (field name.now (T.tree value.now) ∷ L.pairs others.now))) }
 {
     if place > 0 {

@@ -9,11 +9,12 @@ use Rattle.dagcbor_write.proofs.Parts.{begin_two}
 use Rattle.dagcbor_write.proofs.row.write_field_of.Goals as goal
 
 pub returns-then-place-gt0-clause-message : goal.returns-then-place-gt0-clause-message
-returns-then-place-gt0-clause-message g c =
+returns-then-place-gt0-clause-message g c within =
     let first = field c.args.name.now (g.T.Serialize.tree c.args.value.now) in
     let others = g.L.FieldRow.pairs c.args.others.now in
     message_tells (λ _. LacksValue others) (λ _. LacksValue (first ∷ others)) c.write_field.result
-    (λ m. other_lacks first others) c.write_field.ensures.message
+    (λ m. other_lacks first others)
+    (c.write_field.ensures.message (omega (arith, within, c.if-place-gt0.true)))
 
 pub returns-then-is_err-clause-written : goal.returns-then-is_err-clause-written
 returns-then-is_err-clause-written g c =
@@ -24,7 +25,7 @@ returns-then-is_err-clause-written g c =
     c.if-is_err.ensures.value c.serialize_str-key.ensures.written
 
 pub returns-then-is_err-clause-message : goal.returns-then-is_err-clause-message
-returns-then-is_err-clause-message g c =
+returns-then-is_err-clause-message g c within =
     message_of _ _ _ _ c.serialize_str-key.result
     (λ n. absurd (name_spelled c.args.name.now (omega arith) n)) c.serialize_str-key.ensures.written
 

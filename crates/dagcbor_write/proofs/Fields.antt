@@ -142,6 +142,16 @@ end_of : (xs : List Pair) → xs ++ [] ≡ xs
 end_of [] = refl
 end_of (x ∷ xs) = ap (λ ys. x ∷ ys) (end_of xs)
 
+-- no entry of a map that is collected has been handed over
+pub begin_entries : (whole : List Pair) (held : List Texts) → held ≡ [] → Given-but IsSpellingOf whole whole held
+begin_entries = begin_map IsSpellingOf
+
+-- one more entry of it was handed over
+pub next_entry : {whole left : List Pair} {p : Pair} {old : List Texts} → Given-but IsSpellingOf whole (p ∷ left) old → (new : List Texts) → JoinsEntry p.0 p.1 old new → Given-but IsSpellingOf whole left new
+next_entry {whole} {left} {p} {old} w new j =
+    let e = joined_spelling p _ _ old new refl refl j.0.0 j.1 j.0.1 in
+    next_pair w new e.0 e.1 e.2
+
 pub all_given : {X : Type 0} {R : Pair → X → Type 0} {whole : List Pair} {held : List X} → Given-but R whole [] held → Pairwise R whole held
 all_given {X} {R} {whole} {held} w = let P : List Pair → Type 0 = λ ps. Pairwise R ps held in subst P (sym (w.split ∙ end_of w.done)) w.holds
 

@@ -2,7 +2,7 @@ use Rattle.std.proofs.Common.{rules, ℕ, List, ap, [], ◌∷◌, Some, None, p
 use Rattle.dagcbor_heads.proofs.Writing.{exit_part}
 use Rattle.ipld_tree.specs.Tree.{integer}
 use Rattle.dagcbor_write.specs.Trees.{Pair, field}
-use Rattle.dagcbor_write.proofs.Fields.{begin_map, next_pair, exit_field, end_struct}
+use Rattle.dagcbor_write.proofs.Fields.{begin_entries, next_entry, exit_field, end_struct}
 use Rattle.dagcbor_write.proofs.Enums.{begin_struct_variant}
 use Rattle.dagcbor_rows.proofs.tests.by_hand.second.serialize_data.Goals as goal
 
@@ -23,8 +23,8 @@ returns-in_err-serialize_field-3-clause-written g c = (exit_field (fields c.args
 
 pub returns-clause-written : goal.returns-clause-written
 returns-clause-written g c =
-    let given = begin_map (fields c.args.b c.args.abc c.args.a) _ (ap (λ state. state.entries) c.in_ok-fields.ensures.nothing) in
-    let given = next_pair given _ c.in_ok-serialize_field.ensures.entry.joins in
-    let given = next_pair given _ c.in_ok-serialize_field-2.ensures.entry.joins in
-    let given = next_pair given _ c.in_ok-serialize_field-3.ensures.entry.joins in
+    let given = begin_entries (fields c.args.b c.args.abc c.args.a) _ (ap (λ state. state.entries) c.in_ok-fields.ensures.nothing) in
+    let given = next_entry given _ c.in_ok-serialize_field.ensures.entry.joins in
+    let given = next_entry given _ c.in_ok-serialize_field-2.ensures.entry.joins in
+    let given = next_entry given _ c.in_ok-serialize_field-3.ensures.entry.joins in
     (end_struct 3 _ (begin_struct_variant (codes "Data") (fields c.args.b c.args.abc c.args.a) 3 _ refl) c.in_ok-fields.ensures.head given (search rules) _ _ _ _ c.end.ensures.written (search rules) (search rules))

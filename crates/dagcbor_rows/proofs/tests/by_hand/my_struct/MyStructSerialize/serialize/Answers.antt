@@ -3,7 +3,7 @@ use Rattle.dagcbor_heads.proofs.Writing.{exit_part}
 use Rattle.ipld_tree.specs.Tree.{boolean, link}
 use Rattle.ipld_tree.specs.Cid.{cid_bytes}
 use Rattle.dagcbor_write.specs.Trees.{Pair, field}
-use Rattle.dagcbor_write.proofs.Fields.{begin_struct, begin_map, next_pair, exit_field, end_struct}
+use Rattle.dagcbor_write.proofs.Fields.{begin_struct, begin_entries, next_entry, exit_field, end_struct}
 use Rattle.dagcbor_rows.specs.declared.tests.by_hand.my_struct.MyStruct.{MyStruct}
 use Rattle.dagcbor_rows.proofs.tests.by_hand.my_struct.MyStructSerialize.serialize.Goals as goal
 
@@ -23,7 +23,7 @@ returns-in_err-serialize_field-2-clause-written g c = exit_field (fields c.args.
 
 pub returns-clause-written : goal.returns-clause-written
 returns-clause-written g c =
-    let given = begin_map (fields c.args.self.now) _ (ap (λ state. state.entries) c.in_ok-fields.ensures.nothing) in
-    let given = next_pair given _ c.in_ok-serialize_field.ensures.entry.joins in
-    let given = next_pair given _ c.in_ok-serialize_field-2.ensures.entry.joins in
+    let given = begin_entries (fields c.args.self.now) _ (ap (λ state. state.entries) c.in_ok-fields.ensures.nothing) in
+    let given = next_entry given _ c.in_ok-serialize_field.ensures.entry.joins in
+    let given = next_entry given _ c.in_ok-serialize_field-2.ensures.entry.joins in
     end_struct 2 _ (begin_struct (fields c.args.self.now) 2 _ refl) c.in_ok-fields.ensures.head given (search rules) _ _ _ _ c.end.ensures.written (search rules) (search rules)

@@ -1,5 +1,5 @@
 -- Reading numbers.
-use Rattle.std.proofs.Common.{◌≡◌, inl, inr, ℕ, zero, suc, ◌+◌, ◌*◌, ◌^◌, ◌<◌, ◌≤◌, ℤ, pos, negsuc, List, [], ◌∷◌, ◌++◌, true, refl, sym, ap, ◌∙◌, subst, arith, zero-le}
+use Rattle.std.proofs.Common.{◌≡◌, inl, inr, ℕ, zero, suc, ◌+◌, ◌*◌, ◌/◌, ◌^◌, ◌<◌, ◌≤◌, ℤ, pos, negsuc, List, [], ◌∷◌, ◌++◌, true, refl, sym, ap, ◌∙◌, subst, arith, zero-le}
 use Rattle.std.specs.Prelude.{◌⊎◌, Some, None, Option, is_some, Result, Ok, Err}
 use Rattle.std.proofs.lemmas.Int.{ints, to_z-of_z}
 use Rattle.std.proofs.lemmas.Bool.Decides.{nat_tests}
@@ -7,13 +7,14 @@ use mir.Syntax.{w128}
 use mir.Val.{SFits, to_z, of_z}
 use Rattle.dagcbor_heads.specs.Head.{head}
 use Rattle.dagcbor_heads.specs.Names.{Names}
-use Rattle.dagcbor_heads.specs.Reading.{Reading}
-use Rattle.dagcbor_heads.specs.Fronts.{HasByte, ShowsByte}
+use Rattle.dagcbor_heads.specs.Reading.{Reading, Stays}
+use Rattle.dagcbor_heads.specs.Fronts.{HasByte, ShowsByte, StartsWith, TakesHead}
 use Rattle.dagcbor_heads.specs.Causes.{ByteCause, IsEndNamed}
 use Rattle.dagcbor_heads.specs.Refusals.{Refuses}
 use Rattle.dagcbor_heads.specs.declared.name.Name.{Name}
 use Rattle.dagcbor_heads.specs.declared.error.DecodeError.{DecodeError}
-use Rattle.dagcbor_heads.specs.declared.error.DecodeError.TheVariants.{Eof, CastOverflow, Unsupported}
+use Rattle.dagcbor_heads.specs.declared.error.DecodeError.TheVariants.{Eof, CastOverflow, Mismatch}
+use Rattle.dagcbor_heads.specs.declared.error.DecodeError.TheVariants.{Unsupported}
 use Rattle.dagcbor_heads.proofs.Heads.{head_first}
 use Rattle.dagcbor_heads.proofs.Taking.{stays, stays_both}
 use Rattle.dagcbor_heads.proofs.Refusing.{passed_on, byte_in_head, end_named}
@@ -22,11 +23,11 @@ use Rattle.ipld_tree.specs.Spelling.{IsFront}
 use Rattle.ipld_tree.proofs.Unique.{major, integer_major}
 use Rattle.ipld_tree.proofs.Fronts.{front_unique}
 use Rattle.dagcbor_items.specs.TypedReads.{HasFront, TakesFront, Reads}
-use Rattle.dagcbor_items.specs.Shapes.{within, number_of, view_number, leaf}
+use Rattle.dagcbor_items.specs.Shapes.{within, natural_below, number_of, view_number, leaf}
 use Rattle.dagcbor_items.specs.LeafCauses.{BeginsNoBig, MajorCause, IsOutside, BigCause}
 use Rattle.dagcbor_items.specs.Majors.{HasMajor, TakesMajor}
 use Rattle.dagcbor_items.proofs.Fronts.{front_byte}
-use Rattle.dagcbor_items.proofs.HeadMajors.{has_major, no_byte_begins}
+use Rattle.dagcbor_items.proofs.HeadMajors.{has_major, no_byte_begins, other_kind}
 
 -- only a number shows one
 is_number : {V : Type 0} (accepted : ℤ → Option V) (t : Tree) → is_some (view_number accepted t) ≡ true → (n : ℤ) × (t ≡ integer n)
@@ -93,6 +94,37 @@ outside E accepted stands name {old} {new} n kept none named h = (
       absurd (cc (shown, none)),
   λ b l. let k = h.taken b l in inr (named, (n, k.1, subst (λ t. IsFront b t k.1) (all_numbers k.0 n k.3) k.2, none)),
 )
+
+-- ---- natural numbers, by their head
+
+natural_is : (bound kind n : ℕ) → kind ≤ 0 → n < bound → natural_below bound (number_of kind n) ≡ Some n
+natural_is bound zero n none few = grind (arith, ints, nat_tests)
+natural_is bound (suc k) n none few = absurd (omega (arith, none))
+
+natural_is_not : (bound kind n : ℕ) → (0 < kind) ⊎ (bound ≤ n) → natural_below bound (number_of kind n) ≡ None
+natural_is_not bound zero n (inl some) = absurd (omega (arith, some))
+natural_is_not bound zero n (inr most) = grind (arith, ints, nat_tests)
+natural_is_not bound (suc k) n other = refl
+
+-- the head of a number
+pub number_head : {old new : Reading} {kind n first : ℕ} → TakesHead old kind n first new → kind ≤ 1 → TakesMajor 0 1 old kind n new
+number_head h few = record { lowest = zero-le; highest = few; argument_fits = h.argument_fits; takes = h.takes }
+
+pub natural_taken : {old new : Reading} {kind n : ℕ} (bound : ℕ) → TakesMajor 0 1 old kind n new → kind ≤ 0 → n < bound → TakesFront (leaf (view_number (natural_below bound))) old n new
+natural_taken {old} {new} {kind} {n} bound h none few = number_narrowed (natural_below bound) _ _ (natural_is bound kind n none few) (number_taken h)
+
+pub no_natural : (E : Type 0) (name : List ℕ) {old new : Reading} {kind n : ℕ} (bound : ℕ) (kept : Name) → Names kept name → TakesMajor 0 1 old kind n new → (0 < kind) ⊎ (bound ≤ n)
+    → Refuses {E = E} (HasFront (leaf (view_number (natural_below bound))) old) ⊥ ⊥ (Narrowed (natural_below bound) (MajorCause name 0 1) name) old (CastOverflow kept) new
+no_natural E name {old} {new} {kind} {n} bound kept named h other = outside E (natural_below bound) (MajorCause name 0 1) name _ kept (natural_is_not bound kind n other) named (number_taken h)
+
+pub natural_refused : {E : Type 0} (name : List ℕ) (bound : ℕ) (old new : Reading) (e : DecodeError E) → Refuses (HasMajor 0 1 old) ⊥ ⊥ (MajorCause name 0 1) old e new
+    → Refuses (HasFront (leaf (view_number (natural_below bound))) old) ⊥ ⊥ (Narrowed (natural_below bound) (MajorCause name 0 1) name) old e new
+natural_refused name bound old new e r = narrow_refused (natural_below bound) (MajorCause name 0 1) name old new e (number_refused name old new e r)
+
+-- another item stands there
+pub other_item : (E : Type 0) (name : List ℕ) {old new : Reading} {first : ℕ} (bound : ℕ) (kept : Name) → Names kept name → StartsWith old first → Stays old new → 1 < first / 32
+    → Refuses {E = E} (HasFront (leaf (view_number (natural_below bound))) old) ⊥ ⊥ (Narrowed (natural_below bound) (MajorCause name 0 1) name) old (Mismatch kept first) new
+other_item E name {old} {new} {first} bound kept named starts same other = natural_refused {E = E} name bound old new (Mismatch kept first) (other_kind E name 0 1 kept named starts same (λ a b. omega (arith, b, other)))
 
 -- ---- numbers of any size
 

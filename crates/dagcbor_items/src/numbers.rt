@@ -8,7 +8,7 @@ ghost use Rattle.dagcbor_items.specs.LeafReads.{ReadsUnsigned, ReadsSigned, Read
 ghost use Rattle.dagcbor_heads.specs.Looking.{Looks};
 ghost use Rattle.dagcbor_items.specs.AnsweredVariants.{OfHead, OfNumber};
 
-use crate::majors::pull_major;
+use crate::majors::{pull_major, pull_major_slowly};
 use dagcbor_heads::{DecodeError, Read, ReadResult, peek_one};
 
 /// The number of a head of major type 0 or 1.
@@ -35,16 +35,6 @@ fn pull_number<R: Read>(name: &str, reader: &mut R) -> ReadResult<i128, R>
     Ok(number_of(major, argument))
 }
 
-/// The number as a type has it that reaches from 0 to `greatest`.
-fn natural_of(number: i128, greatest: u64) -> Option<u64>
-    ensures { result ≡ natural_below (greatest + 1) number }
-{
-    match u64::try_from(number) {
-        Ok(natural) if natural <= greatest => Some(natural),
-        _ => None,
-    }
-}
-
 /// The number as a type has it that reaches from -1 - `greatest` to `greatest`.
 fn signed_of(number: i128, greatest: u64) -> Option<i128>
     ensures { result ≡ within (greatest + 1) number }
@@ -55,8 +45,25 @@ fn signed_of(number: i128, greatest: u64) -> Option<i128>
     Some(number)
 }
 
-/// A number from 0 to `greatest`.
+/// The same byte by byte: a refusal names its cause.
 #[tactic(auto, using(crate::proofs::PartRefusals::kind_number))]
+#[cold]
+#[inline(never)]
+fn pull_unsigned_slowly<R: Read>(name: &str, reader: &mut R, greatest: u64) -> ReadResult<u64, R>
+    ensures number { ReadsUnsigned name.now (greatest + 1) (R.reading reader.old) result
+        (R.reading reader.new) }
+    ensures most { IfOk result (λ n. n ≤ greatest) }
+    ensures looked { Looks 3 (R.reading reader.old) result (R.reading reader.new) }
+    ensures variant { IfErr result OfNumber }
+{
+    let (major, argument) = pull_major_slowly(name, reader, 0, 1)?;
+    if major > 0 || argument > greatest {
+        return Err(DecodeError::out_of_range(name));
+    }
+    Ok(argument)
+}
+
+/// A number from 0 to `greatest`.
 #[inline(always)]
 pub fn pull_unsigned<R: Read>(name: &str, reader: &mut R, greatest: u64) -> ReadResult<u64, R>
     ensures number { ReadsUnsigned name.now (greatest + 1) (R.reading reader.old) result
@@ -65,11 +72,16 @@ pub fn pull_unsigned<R: Read>(name: &str, reader: &mut R, greatest: u64) -> Read
     ensures looked { Looks 3 (R.reading reader.old) result (R.reading reader.new) }
     ensures variant { IfErr result OfNumber }
 {
-    let number = pull_number(name, reader)?;
-    match natural_of(number, greatest) {
-        Some(natural) => Ok(natural),
-        None => Err(DecodeError::out_of_range(name)),
+    if let Some((major, argument, first)) = reader.take_head() {
+        if major > 1 {
+            return Err(DecodeError::mismatch(name, first));
+        }
+        if major > 0 || argument > greatest {
+            return Err(DecodeError::out_of_range(name));
+        }
+        return Ok(argument);
     }
+    pull_unsigned_slowly(name, reader, greatest)
 }
 
 /// A number from -1 - `greatest` to `greatest`.

@@ -1,22 +1,28 @@
-use Rattle.std.proofs.Common.{◌+◌, rules}
-use mir.Syntax.{w128}
-use mir.Val.{SFits}
-use Rattle.dagcbor_heads.proofs.Refusing.{as_refusal}
-use Rattle.dagcbor_items.specs.LeafCauses.{MajorCause}
-use Rattle.dagcbor_items.specs.Shapes.{natural_below}
-use Rattle.dagcbor_items.proofs.Integers.{number_handed, number_narrowed, narrow_refused, outside}
+use Rattle.std.proofs.Common.{◌+◌, arith, inl, inr}
+use Rattle.dagcbor_items.proofs.Integers.{natural_taken, no_natural, number_head, other_item}
 use Rattle.dagcbor_items.proofs.numbers.pull_unsigned.Goals as goal
+use Rattle.dagcbor_items.proofs.numbers.pull_unsigned.Goals.{then-major-gt0-via-then-major-gt0, then-major-gt0-via-else-major-gt0+then-argument-greatest}
 
-pub returns-in_err-number-clause-number : goal.returns-in_err-number-clause-number
-returns-in_err-number-clause-number g c = as_refusal _ _ _ _ c.from_residual.ensures.1 (narrow_refused (natural_below (c.args.greatest + 1)) (MajorCause c.args.name.now 0 1) _ _ _ _ c.in_err-number.ensures.number)
+pub returns-then-major-gt1-clause-number : goal.returns-then-major-gt1-clause-number
+returns-then-major-gt1-clause-number g c =
+    let told = c.mismatch.ensures in
+    let head = c.in-Some.ensures.taken in
+    rw told.1 (other_item g.row.R-Error.Denot c.args.name.now (c.args.greatest + 1) told.0 told.2
+    head.starts head.takes.same (omega (arith, c.if-major-gt1.true, head.major_of_first)))
+
+pub returns-then-major-gt0-clause-number : goal.returns-then-major-gt0-clause-number
+returns-then-major-gt0-clause-number g c =
+    let told = c.out_of_range.ensures in
+    rw told.1 (no_natural g.row.R-Error.Denot c.args.name.now (c.args.greatest + 1) told.0
+    told.2 (number_head c.in-Some.ensures.taken (omega (arith, c.if-major-gt1.false)))
+    (elim c.then-major-gt0.branch [
+      | then-major-gt0-via-then-major-gt0 w ↦ inl w.if-major-gt0.true
+      | then-major-gt0-via-else-major-gt0+then-argument-greatest w ↦
+          inr (omega (arith, w.if-argument-greatest.true))
+    ]))
 
 pub returns-in-Some-clause-number : goal.returns-in-Some-clause-number
 returns-in-Some-clause-number g c =
-    let fits : SFits w128 c.in_ok-number.number = search rules in
-    number_narrowed (natural_below (c.args.greatest + 1)) _ _ (number_handed (natural_below (c.args.greatest + 1)) c.in_ok-number.number _ fits c.in-Some.ensures) c.in_ok-number.ensures.number
-
-pub returns-in-None-clause-number : goal.returns-in-None-clause-number
-returns-in-None-clause-number g c =
-    let fits : SFits w128 c.in_ok-number.number = search rules in
-    let told = c.out_of_range.ensures in
-    rw told.1 (outside g.row.R-Error.Denot (natural_below (c.args.greatest + 1)) (MajorCause c.args.name.now 0 1) _ _ told.0 (number_handed (natural_below (c.args.greatest + 1)) c.in_ok-number.number _ fits c.in-None.ensures) told.2 c.in_ok-number.ensures.number)
+    natural_taken (c.args.greatest + 1)
+    (number_head c.in-Some.ensures.taken (omega (arith, c.if-major-gt1.false)))
+    c.if-major-gt0.false (omega (arith, c.if-argument-greatest.false))

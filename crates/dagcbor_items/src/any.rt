@@ -32,7 +32,7 @@ pub fn read_any<R: Read>(alloc: Global, input: &mut Input<'_, R>) -> ReadResult<
 /// Reads an item of any kind into the place. Only a refusal is handed up: a value is long.
 #[tactic(auto, using(crate::proofs::PartRefusals::depth_item))]
 #[cycle(any)]
-#[inline(never)]
+#[inline(always)]
 fn read_into<R: Read>(
     alloc: Global,
     input: &mut Input<'_, R>,
@@ -50,6 +50,7 @@ fn read_into<R: Read>(
 
 #[tactic(auto, using(crate::proofs::PartRefusals::end_item))]
 #[cycle(any)]
+#[inline(always)]
 fn read_item<R: Read>(
     alloc: Global,
     input: &mut Input<'_, R>,

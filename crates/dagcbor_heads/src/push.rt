@@ -1,8 +1,8 @@
 //! Appends heads.
 
-ghost use Rattle.std.specs.Prelude.{◌≡◌, ◌≤◌, take, Some};
+ghost use Rattle.std.specs.Prelude.{◌≡◌, ◌≤◌, ◌++◌, take, Some};
 ghost use Rattle.dagcbor_heads.specs.Head.{head};
-ghost use Rattle.dagcbor_heads.specs.Written.{Writes, WantsMemoryOnlyIf};
+ghost use Rattle.dagcbor_heads.specs.Written.{Writes, WantsMemoryOnlyIf, WritesAtOnce};
 
 use crate::write::{Write, WriteResult};
 
@@ -31,27 +31,66 @@ pub fn head_bytes(major: u8, argument: u64) -> ([u8; 9], usize)
     }
 }
 
-/// Appends the shortest head of a major type and an argument.
-///
-/// Where all is well the answer is made anew, so that none of the room of a refusal is copied up.
+/// Appends the shortest head where the writer has room for it; else appends nothing, and answers
+/// false. How many bytes a head has is known at each place, so that they are stored one by one, and
+/// no copy is called.
 #[tactic(auto, unfolding(crate::specs::Head::head))]
+pub fn push_head_at_once<W: Write>(writer: &mut W, major: u8, argument: u64) -> bool
+    requires { major ≤ 7 }
+    ensures { WritesAtOnce (Some (head major argument)) (W.written writer.old)
+        (W.written writer.new) result }
+{
+    let first = 32 * major;
+    if argument <= 23 {
+        writer.push_at_once(&[first + argument as u8], &[])
+    } else if argument < 1 << 8 {
+        writer.push_at_once(&[first + 24, argument as u8], &[])
+    } else if argument < 1 << 16 {
+        let [a, b] = (argument as u16).to_be_bytes();
+        writer.push_at_once(&[first + 25, a, b], &[])
+    } else if argument < 1 << 32 {
+        let [a, b, c, d] = (argument as u32).to_be_bytes();
+        writer.push_at_once(&[first + 26, a, b, c, d], &[])
+    } else {
+        let [a, b, c, d, e, f, g, h] = argument.to_be_bytes();
+        writer.push_at_once(&[first + 27, a, b, c, d, e, f, g, h], &[])
+    }
+}
+
+/// Appends the shortest head and the bytes behind it, where the head is one byte and the writer has
+/// room for all; else appends nothing, and answers false.
+#[tactic(auto, unfolding(crate::specs::Head::head))]
+pub fn push_headed_at_once<W: Write>(writer: &mut W, major: u8, argument: u64, bytes: &[u8]) -> bool
+    requires { major ≤ 7 }
+    ensures { WritesAtOnce (Some (head major argument ++ bytes.now)) (W.written writer.old)
+        (W.written writer.new) result }
+{
+    argument <= 23 && writer.push_at_once(&[32 * major + argument as u8], bytes)
+}
+
+/// Appends the shortest head of a major type and an argument.
 pub fn push_head<W: Write>(writer: &mut W, major: u8, argument: u64) -> WriteResult<(), W>
     requires { major ≤ 7 }
     ensures written { Writes (Some (head major argument)) (W.written writer.old)
         (W.written writer.new) result }
     ensures memory { WantsMemoryOnlyIf W.takes_memory result }
 {
-    if argument <= 23 {
-        let pushed = writer.push(&[32 * major + argument as u8]);
-        if pushed.is_ok() {
-            return Ok(());
-        }
-        return pushed;
-    }
-    let (bytes, count) = head_bytes(major, argument);
-    let pushed = writer.push(&bytes[..count]);
-    if pushed.is_ok() {
+    if push_head_at_once(writer, major, argument) {
         return Ok(());
     }
-    pushed
+    push_head_bytes(writer, major, argument)
+}
+
+/// Pushes the shortest head. Apart, so that a head that finds room has no part in what a push
+/// answers.
+#[cold]
+#[inline(never)]
+fn push_head_bytes<W: Write>(writer: &mut W, major: u8, argument: u64) -> WriteResult<(), W>
+    requires { major ≤ 7 }
+    ensures written { Writes (Some (head major argument)) (W.written writer.old)
+        (W.written writer.new) result }
+    ensures memory { WantsMemoryOnlyIf W.takes_memory result }
+{
+    let (bytes, count) = head_bytes(major, argument);
+    writer.push(&bytes[..count])
 }

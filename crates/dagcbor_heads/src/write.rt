@@ -1,8 +1,8 @@
 //! Writers: what bytes are appended to.
 
-ghost use Rattle.std.specs.Prelude.{◌≡◌, ◌∷◌, [], Some, OnErr, Bool, true, Err};
+ghost use Rattle.std.specs.Prelude.{◌≡◌, ◌∷◌, ◌++◌, [], Some, OnErr, Bool, true, Err};
 ghost use Rattle.dagcbor_heads.specs.declared.error.EncodeError.TheVariants.{OutOfMemory};
-ghost use Rattle.dagcbor_heads.specs.Written.{Written, Writes, WantsMemoryOnlyIf};
+ghost use Rattle.dagcbor_heads.specs.Written.{Written, Writes, WantsMemoryOnlyIf, WritesAtOnce};
 
 use crate::error::EncodeError;
 use std::convert::Infallible;
@@ -26,6 +26,17 @@ pub trait Write {
     fn push(&mut self, bytes: &[u8]) -> WriteResult<(), Self>
         ensures written { Writes (Some bytes.now) (written self.old) (written self.new) result }
         ensures memory { WantsMemoryOnlyIf takes_memory result };
+
+    /// Appends both, one behind the other, where the writer has room for them; else appends nothing,
+    /// and answers false. It takes no memory and asks no device, so that nothing can fail, and the
+    /// answer stays in a register. Who is answered false pushes. A writer that has no room of its own
+    /// leaves this out.
+    fn push_at_once(&mut self, _front: &[u8], _rest: &[u8]) -> bool
+        ensures { WritesAtOnce (Some (_front.now ++ _rest.now)) (written self.old)
+            (written self.new) result }
+    {
+        false
+    }
 }
 
 impl<W: Write> Write for &mut W {
@@ -41,6 +52,10 @@ impl<W: Write> Write for &mut W {
 
     fn push(&mut self, bytes: &[u8]) -> WriteResult<(), W> {
         W::push(*self, bytes)
+    }
+
+    fn push_at_once(&mut self, front: &[u8], rest: &[u8]) -> bool {
+        W::push_at_once(*self, front, rest)
     }
 }
 
@@ -108,6 +123,15 @@ impl Write for BufWriter {
             return Ok(());
         }
         out_of_memory()
+    }
+
+    #[inline(always)]
+    fn push_at_once(&mut self, front: &[u8], rest: &[u8]) -> bool {
+        let room = self.bytes.capacity() - self.bytes.len();
+        if room < front.len() || room - front.len() < rest.len() {
+            return false;
+        }
+        self.bytes.extend_from_slice(front).is_ok() && self.bytes.extend_from_slice(rest).is_ok()
     }
 }
 

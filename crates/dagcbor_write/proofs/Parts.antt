@@ -1,8 +1,9 @@
 -- A text that is written in parts.
-use Rattle.std.proofs.Common.{◌≡◌, ℕ, ◌+◌, ◌^◌, ◌<◌, List, [], ◌∷◌, length, Option, Some, sym, ap, ◌∙◌, arith}
+use Rattle.std.proofs.Common.{◌≡◌, ℕ, ◌+◌, ◌^◌, ◌<◌, ◌≤◌, List, [], ◌∷◌, length, Option, Some, sym, ap, ◌∙◌, arith}
 use Rattle.std.specs.Fmt.{◌++?◌}
 use Rattle.dagcbor_heads.specs.Head.{head}
 use Rattle.dagcbor_heads.specs.Written.{Written, WroteAll}
+use Rattle.dagcbor_heads.proofs.Heads.{head_one}
 use Rattle.dagcbor_heads.proofs.Writing.{Written-but, begin_writing, all_written, append_Some}
 use Rattle.ipld_tree.specs.Tree.{link}
 use Rattle.ipld_tree.specs.Spelled.{spelled, spelled_head, spelled_bytes}
@@ -33,3 +34,11 @@ begin_link cid n s e h =
     let long : length (0x00 ∷ cid) ≡ n = omega (arith, e) in
     begin_writing _ _ s (ap (λ o. Some (0xd8 ∷ 0x2a ∷ []) ++? (o ++? Some (0x00 ∷ cid))) (ap (λ k. spelled_head 2 k) long ∙ head_is_spelled 2 n h)
     ∙ ap (λ x. Some (0xd8 ∷ 0x2a ∷ []) ++? (Some (head 2 n) ++? (Some (0x00 ∷ []) ++? x))) (sym (append_Some (Some cid))))
+
+-- the bytes of a link whose CID is of 23 bytes or more, and of fewer than 255
+pub link_bytes : (cid : List ℕ) (n : ℕ) → n ≡ length cid + 1 → 24 ≤ n → n < 2 ^ 8 → spelled (link cid) ≡ Some (0xd8 ∷ 0x2a ∷ 0x58 ∷ n ∷ 0x00 ∷ cid)
+unfolding spelled
+link_bytes cid n e a b =
+    let long : length (0x00 ∷ cid) ≡ n = omega (arith, e) in
+    let two : spelled_head 2 n ≡ Some (0x58 ∷ n ∷ []) = head_is_spelled 2 n (omega (arith, b)) ∙ ap Some (head_one 2 n a b) in
+    ap (λ o. Some (0xd8 ∷ 0x2a ∷ []) ++? (o ++? Some (0x00 ∷ cid))) (ap (λ k. spelled_head 2 k) long ∙ two)

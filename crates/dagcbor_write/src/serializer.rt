@@ -2,7 +2,7 @@
 
 ghost use Rattle.std.specs.Prelude.{◌≡◌, ◌≤◌, Some, OnOk, IfErr, codes, false, pos, IfSome};
 ghost use Rattle.std.specs.Char.{encode_utf8};
-ghost use Rattle.dagcbor_heads.specs.Written.{Writes, WantsMemoryOnlyIf};
+ghost use Rattle.dagcbor_heads.specs.Written.{Writes, WritesAtOnce, WantsMemoryOnlyIf};
 ghost use Rattle.ipld_tree.specs.Cid.{cid_bytes};
 ghost use Rattle.ipld_tree.specs.Tree.{null, boolean, integer, text, bytes, link, IsTree};
 ghost use Rattle.ipld_tree.specs.Spelling.{IsSpellable};
@@ -13,7 +13,7 @@ ghost use Rattle.dagcbor_write.specs.Trees.{variant_tree, variant_head};
 
 use crate::serialize::Serialize;
 use arrayvec::ArrayVec;
-use dagcbor_heads::{EncodeError, Write, WriteResult, push_head};
+use dagcbor_heads::{EncodeError, Write, WriteResult, push_head, push_headed_at_once};
 use ipld_tree::Cid;
 use std::alloc::Global;
 use std::marker::Model;
@@ -204,6 +204,9 @@ impl<W: Write> Serializer<W> {
             (W.written self.old) (W.written self.new) result }
         ensures memory { WantsMemoryOnlyIf W.takes_memory result }
     {
+        if counted_at_once(&mut self.writer, 3, v.as_bytes()) {
+            return Ok(());
+        }
         push_counted(&mut self.writer, 3, v.as_bytes())
     }
 
@@ -214,6 +217,9 @@ impl<W: Write> Serializer<W> {
             (W.written self.old) (W.written self.new) result }
         ensures memory { WantsMemoryOnlyIf W.takes_memory result }
     {
+        if counted_at_once(&mut self.writer, 2, v) {
+            return Ok(());
+        }
         push_counted(&mut self.writer, 2, v)
     }
 
@@ -253,6 +259,9 @@ impl<W: Write> Serializer<W> {
     {
         let mut bytes = ArrayVec::new();
         cid.write_bytes(&mut bytes);
+        if link_at_once(&mut self.writer, &bytes) {
+            return Ok(());
+        }
         push_link(&mut self.writer, &bytes)
     }
 
@@ -271,11 +280,10 @@ impl<W: Write> Serializer<W> {
         ensures written { Writes (Some bytes.now) (W.written self.old) (W.written self.new) result }
         ensures memory { WantsMemoryOnlyIf W.takes_memory result }
     {
-        let pushed = self.writer.push(bytes);
-        if pushed.is_ok() {
+        if self.writer.push_at_once(bytes, &[]) {
             return Ok(());
         }
-        pushed
+        push_spelled(&mut self.writer, bytes)
     }
 
     /// The part itself.
@@ -363,7 +371,29 @@ impl<W: Write> Serializer<W> {
     }
 }
 
+/// Pushes the bytes. Apart, so that bytes that find room have no part in what a push answers.
+#[cold]
+#[inline(never)]
+fn push_spelled<W: Write>(writer: &mut W, bytes: &[u8]) -> WriteResult<(), W>
+    ensures written { Writes (Some bytes.now)
+        (W.written writer.old) (W.written writer.new) result }
+    ensures memory { WantsMemoryOnlyIf W.takes_memory result }
+{
+    writer.push(bytes)
+}
+
+/// Appends a head of the number of bytes, and the bytes, where they are few and the writer has room
+/// for them; else appends nothing, and answers false.
+fn counted_at_once<W: Write>(writer: &mut W, major: u8, payload: &[u8]) -> bool
+    requires { major ≤ 7 }
+    ensures written { WritesAtOnce (spelled_bytes major payload.now)
+        (W.written writer.old) (W.written writer.new) result }
+{
+    push_headed_at_once(writer, major, payload.len() as u64, payload)
+}
+
 /// Appends a head of the number of bytes, and the bytes.
+#[inline(never)]
 fn push_counted<W: Write>(writer: &mut W, major: u8, payload: &[u8]) -> WriteResult<(), W>
     requires { major ≤ 7 }
     ensures written { Writes (spelled_bytes major payload.now)
@@ -381,7 +411,19 @@ fn push_counted<W: Write>(writer: &mut W, major: u8, payload: &[u8]) -> WriteRes
     pushed
 }
 
+/// Appends the link to a CID of this binary form, where that is of 23 bytes or more and the writer
+/// has room for it; else appends nothing, and answers false.
+fn link_at_once<W: Write>(writer: &mut W, cid: &ArrayVec<u8, 86>) -> bool
+    ensures written { WritesAtOnce (spelled (link cid.now.items))
+        (W.written writer.old) (W.written writer.new) result }
+    ensures spellable { IsSpellable (link cid.now.items) }
+{
+    let count = cid.len() as u8 + 1;
+    count >= 24 && writer.push_at_once(&[0xd8, 0x2a, 0x58, count, 0x00], cid.as_slice())
+}
+
 /// Appends the link to a CID of this binary form.
+#[inline(never)]
 fn push_link<W: Write>(writer: &mut W, cid: &ArrayVec<u8, 86>) -> WriteResult<(), W>
     ensures written { Writes (spelled (link cid.now.items))
         (W.written writer.old) (W.written writer.new) result }

@@ -1,5 +1,5 @@
 -- Slices that are read as one item, or whose first item is.
-use Rattle.std.proofs.Common.{◌≡◌, ◌≢◌, ◌++◌, append-nil, inl, inr, ℕ, ◌+◌, ◌<◌, true, false, List, [], ◌∷◌, length, refl, sym, ap, ◌∙◌, subst, arith}
+use Rattle.std.proofs.Common.{◌≡◌, ◌≢◌, ◌++◌, append-nil, inl, inr, ℕ, ◌+◌, ◌<◌, true, List, [], ◌∷◌, length, refl, sym, ap, ◌∙◌, subst, arith}
 use Rattle.std.specs.Prelude.{Option, Some, Result, Ok, Err, MatchResult, IfOk, IfErr, Vec, ⊤}
 use Rattle.std.specs.declared.alloc.Global.{Global}
 use Rattle.std.specs.declared.convert.Infallible.{Infallible}
@@ -24,7 +24,6 @@ use Rattle.dagcbor_items.specs.Walks.{Sink, forms, WalkLacks, HandsLinks, Refuse
 use Rattle.dagcbor_items.specs.Judging.{SplitsItem}
 use Rattle.dagcbor_items.specs.Slices.{IsBlock, SliceRefused, PullsEnd, AreFirstLinks, LinksRefused, RefusesFirst}
 use Rattle.dagcbor_items.proofs.Places.{at_steps}
-use Rattle.dagcbor_items.proofs.Steps.{more_lacks}
 
 -- ---- both sides of a call
 

@@ -1,6 +1,5 @@
 -- Beginning a list or a map.
-use Rattle.std.proofs.Common.{◌≡◌, ℕ, ◌/◌, ◌<◌, List, ◌∷◌, inl, inr, sym, ap, ◌∙◌, arith}
-use Rattle.std.specs.Prelude.{Some}
+use Rattle.std.proofs.Common.{◌≡◌, ℕ, ◌<◌, List, inl, inr, sym, ap, ◌∙◌, arith}
 use Rattle.dagcbor_heads.specs.Reading.{Reading, SpentStep, Stays}
 use Rattle.dagcbor_heads.specs.Causes.{IsDepthNamed}
 use Rattle.dagcbor_heads.specs.Names.{Names}

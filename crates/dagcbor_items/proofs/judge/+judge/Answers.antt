@@ -1,6 +1,4 @@
 use Rattle.std.proofs.Common.{arith, refl}
-use Rattle.std.specs.Prelude.{List, ℕ}
-use Rattle.dagcbor_items.specs.Judging.{SplitsItem}
 use Rattle.dagcbor_items.proofs.Judging.{no_front, no_step, list_left, no_list_step, no_list, none_passed, one_passed, no_item_there, all_passed, map_left, no_map_step, no_map, no_entry_passed, one_entry_passed, no_key_there, no_value, all_entries_passed, no_leaf}
 use Rattle.dagcbor_items.proofs.Stopping.{list_stopped, map_stopped, item_stopped, key_stopped, value_stopped}
 use Rattle.dagcbor_items.proofs.judge.+judge.Goals as goal

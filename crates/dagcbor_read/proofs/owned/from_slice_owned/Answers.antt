@@ -1,7 +1,7 @@
 use Rattle.std.proofs.Common.{rules, ap, sym, ◌∙◌, ◌≡◌, false}
 use Rattle.std.specs.Prelude.{Some}
 use Rattle.dagcbor_heads.specs.Reading.{default_steps}
-use Rattle.dagcbor_read.proofs.Wholes.{not_answered, on_refusal, slice_excused, value_refused, value_end_refused}
+use Rattle.dagcbor_read.proofs.Wholes.{not_answered, on_refusal, slice_excused, value_refused, value_end_refused, value_answered}
 use Rattle.dagcbor_read.proofs.owned.from_slice_owned.Goals as goal
 
 -- no value was read
@@ -24,3 +24,9 @@ returns-in_err-end g c =
     (c.in_ok-value.ensures.value (ap (λ p. p.failed) start)) c.in_err-end.ensures in
     let handed = c.from_residual-in_err-end.ensures.1 in
     record { value = not_answered _ _ _ handed; refused = on_refusal _ _ _ handed (slice_excused _ told.0); behind = on_refusal _ _ _ handed told.2; memory = on_refusal _ _ _ handed told.3; never = on_refusal _ _ _ handed told.1 }
+
+pub returns-clause-value : goal.returns-clause-value
+returns-clause-value g c =
+    let start = c.from_reader-de.ensures in
+    let source = c.new.ensures in
+    value_answered g.T.Shown.shape _ _ (Some c.args.bytes.now) _ _ _ (g.T.Shown.meaning c.in_ok-value.value) (ap (λ p. p.input.left) start ∙ ap (λ r. r.left) source) (ap (λ p. p.input.steps) start ∙ ap (λ r. r.steps) source) (c.in_ok-value.ensures.value (ap (λ p. p.failed) start)) c.in_ok-end.ensures

@@ -1,6 +1,6 @@
 //! DAG-CBOR blocks under their names.
 //!
-//! Two blocks, and the first again (`src/tests.rt`):
+//! Two blocks, and the first again (`src/tests/store.rt` of `crates/dagcbor_files`):
 //!
 //! ```rust
 //! let mut blocks = Blocks::new(alloc);
@@ -26,6 +26,3 @@ pub use car_error::ReadCarError;
 pub use error::BlockError;
 pub use name::name_of;
 pub use store::Blocks;
-
-#[cfg(test)]
-mod tests;

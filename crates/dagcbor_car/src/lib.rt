@@ -28,6 +28,3 @@ pub use section::{Section, split_section};
 pub use sink::VerdictSink;
 pub use verdict::{Verdict, verify};
 pub use writer::CarWriter;
-
-#[cfg(test)]
-mod tests;

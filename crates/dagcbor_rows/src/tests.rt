@@ -6,7 +6,6 @@ mod by_hand;
 mod calls;
 mod cids_and_trees;
 mod codec;
-mod kept_maps;
 mod leaves;
 mod lent;
 mod links;

@@ -3,92 +3,133 @@
 use crate::tests::failing::Source;
 use arrayvec::ArrayVec;
 use dagcbor_heads::{
-    DecodeError, Input, IoReader, IoRefReader, Len, Read, is_at_end, peek_one, pull_head, pull_one,
+    DecodeError, Input, IoReader, IoRefReader, Read, is_at_end, peek_one, pull_head, pull_one,
     pull_payload, pull_short_payload,
 };
+use dagcbor_testing::{agree, is_told};
+use std::alloc::Global;
 use std::borrow::CowSlice;
+use std::io;
 use std::io::ErrorKind;
 use std::test::Fail;
 
+/// A source, as an input.
+type Gathering<'a> = Input<'a, IoReader<Source<'a>>>;
+
+/// Fails where another head comes.
+fn takes_head(input: &mut Gathering<'_>, name: &str, wanted: (u8, u64, u8)) -> Result<(), Fail> {
+    agree(pull_head(name, input)?, wanted)
+}
+
+/// Fails where other bytes than "abc" come, or are lent, or other bytes than "de" behind them.
+fn takes_payloads(alloc: Global, input: &mut Gathering<'_>) -> Result<(), Fail> {
+    let payload = pull_payload(alloc, "string", input, 3)?;
+    agree(payload.as_slice(), b"abc".as_slice())?;
+    agree(matches!(payload, CowSlice::Owned(_)), true)?;
+    let short: ArrayVec<u8, 4> = pull_short_payload("bytes", input, 2)?;
+    agree(short.as_slice(), b"de".as_slice())
+}
+
+/// Fails where a byte is left.
+fn is_taken(alloc: Global, mut input: Gathering<'_>) -> Result<(), Fail> {
+    agree(is_at_end(&mut input)?, true)?;
+    let end = r#"Err(Eof { name: "any", expect: Small(1) })"#;
+    is_told(alloc, &peek_one("any", &mut input), end)?;
+    match input.into_reader() {
+        Some(reader) => agree(reader.into_inner().rest(), b"".as_slice()),
+        None => Err(Fail::new("no reader")),
+    }
+}
+
+/// Fails where a source that shows so many bytes a fill gives other heads and payloads, or more.
+fn are_gathered(alloc: Global, bytes: &[u8], size: usize) -> Result<(), Fail> {
+    let mut input: Gathering<'_> = Input::Reader(IoReader::new(Source::new(bytes, size, 0)));
+    takes_head(&mut input, "u64", (0, 4_294_967_296, 0x1b))?;
+    takes_head(&mut input, "string", (3, 3, 0x63))?;
+    takes_payloads(alloc, &mut input)?;
+    is_taken(alloc, input)
+}
+
 #[test]
 fn heads_and_payloads_are_gathered(rt: HostRuntime) -> Result<(), Fail> {
-    let bytes = b"\x1b\x00\x00\x00\x01\x00\x00\x00\x00\x63abcde";
     for size in [1, 3, 4, 100] {
-        let source = Source::new(bytes, size, 0);
-        let mut input: Input<IoReader<Source>> = Input::Reader(IoReader::new(source));
-        assert_eq!(rt; pull_head("u64", &mut input)?, (0, 4_294_967_296, 0x1b));
-        assert_eq!(rt; pull_head("string", &mut input)?, (3, 3, 0x63));
-        let payload = pull_payload(rt.alloc(), "string", &mut input, 3)?;
-        assert!(rt; matches!(payload, CowSlice::Owned(_)));
-        assert_eq!(rt; payload.as_slice(), b"abc".as_slice());
-        let short: ArrayVec<u8, 4> = pull_short_payload("bytes", &mut input, 2)?;
-        assert_eq!(rt; short.as_slice(), b"de".as_slice());
-        assert!(rt; is_at_end(&mut input)?);
-        let end = peek_one("any", &mut input);
-        assert!(rt;
-            matches!(
-                end,
-                Err(DecodeError::Eof {
-                    expect: Len::Small(1),
-                    ..
-                })
-            )
-        );
-        let back = input
-            .into_reader()
-            .map(|reader| reader.into_inner().rest().len());
-        assert_eq!(rt; back, Some(0));
+        let bytes = b"\x1b\x00\x00\x00\x01\x00\x00\x00\x00\x63abcde";
+        are_gathered(rt.alloc(), bytes, size)?;
     }
     Ok(())
 }
 
-#[test]
-fn nothing_is_taken_early(rt: HostRuntime) -> Result<(), Fail> {
-    let mut reader = IoReader::new(Source::new(b"abcd", 100, 0));
-    reader.prepare(3)?;
-    assert_eq!(rt; reader.shown(), b"abc".as_slice());
-    assert_eq!(rt; pull_one("any", &mut reader)?, b'a');
-    assert_eq!(rt; peek_one("any", &mut reader)?, b'b');
-    reader.prepare(0)?;
-    assert_eq!(rt; reader.shown(), b"".as_slice());
-    reader.prepare(100)?;
-    assert_eq!(rt; reader.shown(), b"bcd".as_slice());
-    assert_eq!(rt; reader.into_inner().rest(), b"bcd".as_slice());
+/// Fails where a reader that is asked for so many bytes shows others.
+fn shows<R: Read>(reader: &mut R, want: usize, wanted: &[u8]) -> Result<(), Fail> {
+    match reader.prepare(want) {
+        Ok(()) => agree(reader.shown(), wanted),
+        Err(_) => Err(Fail::new("a fault")),
+    }
+}
 
+/// Fails where another byte is looked at.
+fn looks<R: Read>(reader: &mut R, wanted: u8) -> Result<(), Fail> {
+    match peek_one("any", reader) {
+        Ok(byte) => agree(byte, wanted),
+        Err(_) => Err(Fail::new("no byte")),
+    }
+}
+
+/// Fails where another byte is taken.
+fn takes<R: Read>(reader: &mut R, wanted: u8) -> Result<(), Fail> {
+    match pull_one("any", reader) {
+        Ok(byte) => agree(byte, wanted),
+        Err(_) => Err(Fail::new("no byte")),
+    }
+}
+
+#[test]
+fn nothing_is_taken_early(_rt: HostRuntime) -> Result<(), Fail> {
+    let mut reader = IoReader::new(Source::new(b"abcd", 100, 0));
+    shows(&mut reader, 3, b"abc")?;
+    takes(&mut reader, b'a')?;
+    looks(&mut reader, b'b')?;
+    shows(&mut reader, 0, b"")?;
+    shows(&mut reader, 100, b"bcd")?;
+    agree(reader.into_inner().rest(), b"bcd".as_slice())
+}
+
+#[test]
+fn nothing_is_taken_early_of_a_lent_source(_rt: HostRuntime) -> Result<(), Fail> {
     let mut source = Source::new(b"abcd", 100, 0);
     let mut reader = IoRefReader::new(&mut source);
-    assert_eq!(rt; pull_one("any", &mut reader)?, b'a');
-    reader.prepare(2)?;
-    assert_eq!(rt; reader.shown(), b"bc".as_slice());
-    assert_eq!(rt; reader.into_inner().rest(), b"bcd".as_slice());
-    assert_eq!(rt; source.rest(), b"bcd".as_slice());
-    Ok(())
+    takes(&mut reader, b'a')?;
+    shows(&mut reader, 2, b"bc")?;
+    agree(reader.into_inner().rest(), b"bcd".as_slice())?;
+    agree(source.rest(), b"bcd".as_slice())
 }
 
-#[test]
-fn an_interrupted_fill_is_a_fault(rt: HostRuntime) -> Result<(), Fail> {
-    let mut reader = IoReader::new(Source::new(b"ab", 100, 2));
-    assert_eq!(rt; pull_one("any", &mut reader)?, b'a');
-    match pull_one("any", &mut reader) {
-        Err(DecodeError::Read(fault)) => assert_eq!(rt; fault.kind(), ErrorKind::Interrupted),
-        _ => assert!(rt; false),
+/// The kind of the fault that is answered.
+fn fault_of(answer: Result<u8, DecodeError<io::Error>>) -> Option<ErrorKind> {
+    match answer {
+        Err(DecodeError::Read(fault)) => Some(fault.kind()),
+        _ => None,
     }
-    assert_eq!(rt; pull_one("any", &mut reader)?, b'b');
-    assert_eq!(rt; reader.into_inner().fills(), 3);
-    Ok(())
 }
 
 #[test]
-fn an_interrupted_fill_of_a_lent_source_is_a_fault(rt: HostRuntime) -> Result<(), Fail> {
+fn an_interrupted_fill_is_a_fault(_rt: HostRuntime) -> Result<(), Fail> {
+    let mut reader = IoReader::new(Source::new(b"ab", 100, 2));
+    takes(&mut reader, b'a')?;
+    let fault = fault_of(pull_one("any", &mut reader));
+    agree(fault, Some(ErrorKind::Interrupted))?;
+    takes(&mut reader, b'b')?;
+    agree(reader.into_inner().fills(), 3)
+}
+
+#[test]
+fn an_interrupted_fill_of_a_lent_source_is_a_fault(_rt: HostRuntime) -> Result<(), Fail> {
     let mut source = Source::new(b"ab", 100, 2);
     let mut reader = IoRefReader::new(&mut source);
-    assert_eq!(rt; pull_one("any", &mut reader)?, b'a');
-    match pull_one("any", &mut reader) {
-        Err(DecodeError::Read(fault)) => assert_eq!(rt; fault.kind(), ErrorKind::Interrupted),
-        _ => assert!(rt; false),
-    }
-    assert_eq!(rt; reader.into_inner().fills(), 2);
-    Ok(())
+    takes(&mut reader, b'a')?;
+    let fault = fault_of(pull_one("any", &mut reader));
+    agree(fault, Some(ErrorKind::Interrupted))?;
+    agree(reader.into_inner().fills(), 2)
 }
 
 #[test]
@@ -99,24 +140,24 @@ fn a_long_payload_is_whole(rt: HostRuntime) -> Result<(), Fail> {
     }
     let mut input: Input<IoReader<&[u8]>> = Input::Reader(IoReader::new(bytes.as_slice()));
     let payload = pull_payload(rt.alloc(), "bytes", &mut input, 10_000)?;
-    assert_eq!(rt; payload.as_slice(), bytes.as_slice());
-    Ok(())
+    agree(payload.as_slice(), bytes.as_slice())
+}
+
+/// Fails where a reader has other steps than 256, or one that was given back is not among them.
+fn has_256_steps<R: Read>(reader: &mut R) -> Result<(), Fail> {
+    if !reader.step_in() {
+        return Err(Fail::new("no step"));
+    }
+    reader.step_out();
+    for _ in 0..256u64 {
+        agree(reader.step_in(), true)?;
+    }
+    agree(reader.step_in(), false)
 }
 
 #[test]
-fn steps_are_spent_and_given_back(rt: HostRuntime) -> Result<(), Fail> {
+fn steps_are_spent_and_given_back(_rt: HostRuntime) -> Result<(), Fail> {
     let mut source = Source::new(b"", 1, 0);
-    let mut reader = IoRefReader::new(&mut source);
-    let mut other = IoReader::new(Source::new(b"", 1, 0));
-    assert!(rt; reader.step_in());
-    reader.step_out();
-    assert!(rt; other.step_in());
-    other.step_out();
-    for _ in 0..256u64 {
-        assert!(rt; reader.step_in());
-        assert!(rt; other.step_in());
-    }
-    assert!(rt; !reader.step_in());
-    assert!(rt; !other.step_in());
-    Ok(())
+    has_256_steps(&mut IoRefReader::new(&mut source))?;
+    has_256_steps(&mut IoReader::new(Source::new(b"", 1, 0)))
 }

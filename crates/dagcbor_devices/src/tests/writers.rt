@@ -2,63 +2,76 @@
 
 use crate::tests::failing::Sink;
 use dagcbor_heads::{EncodeError, IoRefWriter, IoWriter, Write, push_head};
+use dagcbor_testing::agree;
+use std::alloc::Global;
+use std::io;
 use std::io::ErrorKind;
 use std::test::Fail;
 
+/// Fails where the sink holds other bytes, or was called another number of times.
+fn is_held(sink: &Sink, held: &[u8], calls: u64) -> Result<(), Fail> {
+    agree((sink.held(), sink.calls()), (held, calls))
+}
+
+/// Fails where a head of nine bytes goes out otherwise, to a sink that takes so many bytes a call.
+fn goes_out(alloc: Global, size: usize, calls: u64) -> Result<(), Fail> {
+    let mut writer = IoWriter::new(Sink::new(alloc, size, 0));
+    push_head(&mut writer, 0, 4_294_967_296)?;
+    writer.push(b"")?;
+    let head = b"\x1b\x00\x00\x00\x01\x00\x00\x00\x00";
+    is_held(&writer.into_inner(), head, calls)
+}
+
 #[test]
 fn a_piece_goes_out_in_parts(rt: HostRuntime) -> Result<(), Fail> {
-    for size in [1, 2, 100] {
-        let mut writer = IoWriter::new(Sink::new(rt.alloc(), size, 0));
-        push_head(&mut writer, 0, 4_294_967_296)?;
-        writer.push(b"")?;
-        let sink = writer.into_inner();
-        assert_eq!(rt;
-            sink.held(),
-            b"\x1b\x00\x00\x00\x01\x00\x00\x00\x00".as_slice()
-        );
-        assert_eq!(rt; sink.calls(), 9u64.div_ceil(size as u64));
+    for (size, calls) in [(1, 9), (2, 5), (100, 1)] {
+        goes_out(rt.alloc(), size, calls)?;
     }
+    Ok(())
+}
 
+#[test]
+fn pieces_go_out_one_behind_the_other(rt: HostRuntime) -> Result<(), Fail> {
     let mut held = Vec::new(rt.alloc());
     let mut writer = IoRefWriter::new(&mut held);
     push_head(&mut writer, 4, 3)?;
     push_head(&mut writer, 0, 1)?;
     drop(writer);
-    assert_eq!(rt; held.as_slice(), b"\x83\x01".as_slice());
-    Ok(())
+    agree(held.as_slice(), b"\x83\x01".as_slice())
+}
+
+/// The kind of the fault that is answered.
+fn fault_of(answer: Result<(), EncodeError<io::Error>>) -> Option<ErrorKind> {
+    match answer {
+        Err(EncodeError::Write(fault)) => Some(fault.kind()),
+        _ => None,
+    }
 }
 
 #[test]
 fn an_interrupted_write_is_a_fault(rt: HostRuntime) -> Result<(), Fail> {
     let mut writer = IoWriter::new(Sink::new(rt.alloc(), 1, 3));
-    match writer.push(b"abcd") {
-        Err(EncodeError::Write(fault)) => assert_eq!(rt; fault.kind(), ErrorKind::Interrupted),
-        _ => assert!(rt; false),
-    }
+    let fault = fault_of(writer.push(b"abcd"));
+    agree(fault, Some(ErrorKind::Interrupted))?;
     writer.push(b"e")?;
-    let sink = writer.into_inner();
-    assert_eq!(rt; sink.held(), b"abe".as_slice());
-    assert_eq!(rt; sink.calls(), 4);
+    is_held(&writer.into_inner(), b"abe", 4)
+}
 
+#[test]
+fn an_interrupted_write_to_a_lent_sink_is_a_fault(rt: HostRuntime) -> Result<(), Fail> {
     let mut sink = Sink::new(rt.alloc(), 1, 3);
     let mut writer = IoRefWriter::new(&mut sink);
-    match writer.push(b"abcd") {
-        Err(EncodeError::Write(fault)) => assert_eq!(rt; fault.kind(), ErrorKind::Interrupted),
-        _ => assert!(rt; false),
-    }
-    assert_eq!(rt; writer.into_inner().held(), b"ab".as_slice());
-    assert_eq!(rt; sink.calls(), 3);
-    Ok(())
+    let fault = fault_of(writer.push(b"abcd"));
+    agree(fault, Some(ErrorKind::Interrupted))?;
+    is_held(writer.into_inner(), b"ab", 3)?;
+    is_held(&sink, b"ab", 3)
 }
 
 #[test]
 fn no_byte_taken_is_a_fault(rt: HostRuntime) -> Result<(), Fail> {
     let mut writer = IoWriter::new(Sink::new(rt.alloc(), 0, 0));
     writer.push(b"")?;
-    match writer.push(b"a") {
-        Err(EncodeError::Write(fault)) => assert_eq!(rt; fault.kind(), ErrorKind::WriteZero),
-        _ => assert!(rt; false),
-    }
-    assert_eq!(rt; writer.into_inner().calls(), 1);
-    Ok(())
+    let fault = fault_of(writer.push(b"a"));
+    agree(fault, Some(ErrorKind::WriteZero))?;
+    agree(writer.into_inner().calls(), 1)
 }

@@ -1,6 +1,6 @@
 //! Each call of a `Serializer` and of its collectors.
 
-use crate::tests::maps::{Ended, is_ended};
+use crate::tests::maps::{Ended, LARGE, is_ended};
 use dagcbor_testing::agree;
 use serde_ipld_dagcbor::{BufWriter, EncodeError, Field, Serializer, write_struct};
 use std::alloc::Global;
@@ -179,9 +179,6 @@ fn each_call_appends(rt: HostRuntime) -> Result<(), Fail> {
     }
     Ok(())
 }
-
-/// Without a spelling.
-const LARGE: u128 = 18_446_744_073_709_551_616;
 
 fn a_large_element(alloc: Global) -> Result<Ended, EncodeError<Infallible>> {
     let mut ser = Serializer::new(BufWriter::new(Vec::new(alloc)));

@@ -1,16 +1,15 @@
 //! CIDs and trees: their parts, copies, equality and laws.
 
 use arrayvec::ArrayVec;
+use dagcbor_testing::{agree, is_told};
 use ipld_tree::{ByteSlice, Bytes, Cid, CidError, Ipld, laws};
 use std::alloc::{AllocError, Global};
 use std::collections::BTreeMap;
+use std::test::Fail;
 
 /// The link's CID of the SHA-256 of "foo".
-const FOO: [u8; 36] = [
-    0x01, 0x55, 0x12, 0x20, 0x2c, 0x26, 0xb4, 0x6b, 0x68, 0xff, 0xc6, 0x8f, 0xf9, 0x9b, 0x45, 0x3c,
-    0x1d, 0x30, 0x41, 0x34, 0x13, 0x42, 0x2d, 0x70, 0x64, 0x83, 0xbf, 0xa0, 0xf9, 0x8a, 0x5e, 0x88,
-    0x62, 0x66, 0xe7, 0xae,
-];
+const FOO: &[u8] =
+    b"\x01\x55\x12\x20\x2c\x26\xb4\x6b\x68\xff\xc6\x8f\xf9\x9b\x45\x3c\x1d\x30\x41\x34\x13\x42\x2d\x70\x64\x83\xbf\xa0\xf9\x8a\x5e\x88\x62\x66\xe7\xae";
 
 fn lists(alloc: Global, depth: usize) -> Result<Ipld, AllocError> {
     let mut tree = Ipld::List(Vec::new(alloc));
@@ -22,130 +21,168 @@ fn lists(alloc: Global, depth: usize) -> Result<Ipld, AllocError> {
     Ok(tree)
 }
 
+/// A leaf of each kind that holds something, and null.
+fn leaves(alloc: Global, cid: Cid) -> Result<Vec<Ipld>, AllocError> {
+    let text = Ipld::String("foobar".to_owned(alloc)?);
+    let bytes = Ipld::Bytes(b"foobar".to_vec(alloc)?);
+    Ok(vec![in alloc;
+        Ipld::Null,
+        Ipld::Bool(true),
+        Ipld::Integer(-300),
+        text,
+        bytes,
+        Ipld::Link(cid),
+    ]?)
+}
+
 fn every_kind(alloc: Global, cid: Cid) -> Result<Ipld, AllocError> {
-    let mut items = Vec::new(alloc);
-    items.push(Ipld::Null)?;
-    items.push(Ipld::Bool(true))?;
-    items.push(Ipld::Integer(-300))?;
-    items.push(Ipld::String("foobar".to_owned(alloc)?))?;
-    items.push(Ipld::Bytes(b"foobar".to_vec(alloc)?))?;
-    items.push(Ipld::Link(cid))?;
     let mut entries = BTreeMap::new(alloc);
-    drop(entries.insert("list".to_owned(alloc)?, Ipld::List(items))?);
+    drop(entries.insert("list".to_owned(alloc)?, Ipld::List(leaves(alloc, cid)?))?);
     drop(entries.insert("no".to_owned(alloc)?, Ipld::Bool(false))?);
     Ok(Ipld::Map(entries))
 }
 
 #[test]
-fn needs_of_lists(rt: HostRuntime) -> Result<(), AllocError> {
-    let tree = lists(rt.alloc(), 128)?;
-    assert_eq!(rt; tree.depth_need(), 256);
-    assert_eq!(rt; Ipld::Null.depth_need(), 1);
-    Ok(())
+fn needs_of_lists(rt: HostRuntime) -> Result<(), Fail> {
+    agree(lists(rt.alloc(), 128)?.depth_need(), 256)?;
+    agree(Ipld::Null.depth_need(), 1)
+}
+
+/// Whether a copy of the tree is equal to it, whether it is not to another, and its need.
+fn copied(alloc: Global, tree: &Ipld, other: &Ipld) -> Result<(bool, bool, u64), AllocError> {
+    let copy = tree.try_clone(alloc)?;
+    Ok((copy == *tree, copy != *other, copy.depth_need()))
 }
 
 #[test]
-fn copies_are_equal(rt: HostRuntime) -> Result<(), AllocError> {
+fn copies_are_equal(rt: HostRuntime) -> Result<(), Fail> {
     let alloc = rt.alloc();
     let tree = every_kind(alloc, Cid::new_v0([7; 32]))?;
-    let copy = tree.try_clone(alloc)?;
-    assert!(rt; copy == tree);
-    assert!(rt; copy != every_kind(alloc, Cid::new_v0([8; 32]))?);
-    assert!(rt; Ipld::String("a".to_owned(alloc)?) != Ipld::Bytes(b"a".to_vec(alloc)?));
-    assert_eq!(rt; copy.depth_need(), 5);
+    let other = every_kind(alloc, Cid::new_v0([8; 32]))?;
+    agree(copied(alloc, &tree, &other)?, (true, true, 5))
+}
+
+#[test]
+fn a_text_is_no_byte_string(rt: HostRuntime) -> Result<(), Fail> {
+    let text = Ipld::String("a".to_owned(rt.alloc())?);
+    let bytes = Ipld::Bytes(b"a".to_vec(rt.alloc())?);
+    agree(text != bytes, true)
+}
+
+/// A CID of version 0.
+const NODE: &[u8] =
+    b"\x12\x20\x11\x11\x11\x11\x11\x11\x11\x11\x11\x11\x11\x11\x11\x11\x11\x11\x11\x11\x11\x11\x11\x11\x11\x11\x11\x11\x11\x11\x11\x11\x11\x11";
+
+/// Bytes that are no CID, and why.
+const NO_CIDS: &[(&[u8], &str)] = &[
+    (b"", "Err(Truncated)"),
+    (b"\x02", "Err(InvalidVersion)"),
+    (b"\x01\x80\x00\x12\x00", "Err(InvalidVarint)"),
+    (b"\x01\x55\x12\x41", "Err(DigestTooLong)"),
+    (b"\x01\x55\x12\x02\x63", "Err(Truncated)"),
+    (b"\x01\x55\x00\x00\x00", "Err(TrailingBytes)"),
+];
+
+/// Fails where the bytes are a CID, or none for another reason.
+fn is_no_cid(alloc: Global, bytes: &[u8], told: &str) -> Result<(), Fail> {
+    is_told(alloc, &Cid::try_from(bytes), told)
+}
+
+#[test]
+fn refuses_bytes_that_are_no_cid(rt: HostRuntime) -> Result<(), Fail> {
+    for (bytes, told) in NO_CIDS {
+        is_no_cid(rt.alloc(), bytes, told)?;
+    }
+    is_no_cid(rt.alloc(), &NODE[..33], "Err(InvalidVersion)")
+}
+
+#[test]
+fn digests_of_32_bytes_and_of_none(_rt: HostRuntime) -> Result<(), Fail> {
+    agree(Cid::try_from(NODE)?, Cid::new_v0([0x11; 32]))?;
+    let bytes = b"\x01\x55\x00\x00".as_slice();
+    agree(Cid::try_from(bytes)?, Cid::new_v1(0x55, 0, &[])?)
+}
+
+/// A codec of ten groups, of which this is the last, and no digest.
+fn tenth_is(last: u8) -> [u8; 13] {
+    [
+        1, 0xff, 0xff, 0xff, 0xff, 0xff, 0xff, 0xff, 0xff, 0xff, last, 0, 0,
+    ]
+}
+
+#[test]
+fn reads_varints_of_many_groups(rt: HostRuntime) -> Result<(), Fail> {
+    let greatest = Cid::try_from(tenth_is(0x01).as_slice())?;
+    agree(greatest, Cid::new_v1(u64::MAX, 0, &[])?)?;
+    for last in [0x00, 0x02, 0x81, 0xff] {
+        is_no_cid(rt.alloc(), &tenth_is(last), "Err(InvalidVarint)")?;
+    }
     Ok(())
 }
 
-#[test]
-fn refuses_bytes_that_are_no_cid(rt: HostRuntime) {
-    let mut node = [0x11; 34];
-    node[0] = 0x12;
-    node[1] = 0x20;
-    let rows: [(&[u8], CidError); 7] = [
-        (&[], CidError::Truncated),
-        (&[0x02], CidError::InvalidVersion),
-        (&[0x01, 0x80, 0x00, 0x12, 0x00], CidError::InvalidVarint),
-        (&[0x01, 0x55, 0x12, 0x41], CidError::DigestTooLong),
-        (&[0x01, 0x55, 0x12, 0x02, 0x63], CidError::Truncated),
-        (&[0x01, 0x55, 0x00, 0x00, 0x00], CidError::TrailingBytes),
-        (&node[..33], CidError::InvalidVersion),
-    ];
-    for (bytes, fault) in rows {
-        assert!(rt; Cid::try_from(bytes) == Err(fault), "{bytes:?}");
-    }
-    assert!(rt; Cid::try_from(&node[..]) == Ok(Cid::new_v0([0x11; 32])));
-    assert!(rt; Cid::try_from(&[0x01, 0x55, 0x00, 0x00][..]) == Cid::new_v1(0x55, 0, &[]));
+/// Fails where the bytes have other parts: the version, the codec and the hash function, and the
+/// digest; or where their CID is written otherwise.
+fn has_parts(
+    alloc: Global,
+    bytes: &[u8],
+    parts: (u64, u64, u64),
+    digest: &[u8],
+) -> Result<(), Fail> {
+    let cid = Cid::try_from(bytes)?;
+    agree((cid.version(), cid.codec(), cid.hash_code()), parts)?;
+    agree(cid.digest(), digest)?;
+    agree(cid.to_bytes(alloc)?.as_slice(), bytes)
 }
 
 #[test]
-fn reads_varints_of_many_groups(rt: HostRuntime) {
-    let tenth_is = |last: u8| [
-        1, 0xff, 0xff, 0xff, 0xff, 0xff, 0xff, 0xff, 0xff, 0xff, last, 0, 0,
-    ];
-    assert!(rt; Cid::try_from(&tenth_is(0x01)[..]) == Cid::new_v1(u64::MAX, 0, &[]));
-    for last in [0x00, 0x02, 0x81, 0xff] {
-        let refused = Cid::try_from(&tenth_is(last)[..]);
-        assert!(rt; refused == Err(CidError::InvalidVarint), "{last}");
-    }
+fn parts_of_a_cid(rt: HostRuntime) -> Result<(), Fail> {
+    has_parts(rt.alloc(), FOO, (1, 0x55, 0x12), &FOO[4..])?;
+    // Fields of two bytes.
+    let bytes = b"\x01\xce\x01\x9b\x01\x02\x63\xc8";
+    has_parts(rt.alloc(), bytes, (1, 206, 155), b"\x63\xc8")
 }
 
 #[test]
-fn binary_form_of_a_link(rt: HostRuntime) -> Result<(), AllocError> {
-    let cid = Cid::try_from(&FOO[..]).expect(&rt, "a CID");
-    assert_eq!(rt; cid.version(), 1);
-    assert_eq!(rt; cid.codec(), 0x55);
-    assert_eq!(rt; cid.hash_code(), 0x12);
-    assert!(rt; cid.digest() == &FOO[4..]);
-    assert!(rt; cid.to_bytes(rt.alloc())?.as_slice() == &FOO[..]);
+fn a_cid_is_appended(_rt: HostRuntime) -> Result<(), Fail> {
+    let cid = Cid::try_from(FOO)?;
     let mut out = ArrayVec::new();
     out.push(0xff);
     cid.write_bytes(&mut out);
-    assert!(rt; out.as_slice() == &FOO[..]);
-    Ok(())
+    agree(out.as_slice(), FOO)
 }
 
 #[test]
-fn fields_of_two_bytes(rt: HostRuntime) -> Result<(), AllocError> {
-    let bytes = [0x01, 0xce, 0x01, 0x9b, 0x01, 0x02, 0x63, 0xc8];
-    let cid = Cid::try_from(&bytes[..]).expect(&rt, "a CID");
-    assert_eq!(rt; cid.codec(), 206);
-    assert_eq!(rt; cid.hash_code(), 155);
-    assert!(rt; cid.digest() == &[0x63, 0xc8][..]);
-    assert!(rt; cid.to_bytes(rt.alloc())?.as_slice() == &bytes[..]);
-    Ok(())
-}
-
-#[test]
-fn digests_have_at_most_64_bytes(rt: HostRuntime) -> Result<(), AllocError> {
-    assert!(rt; Cid::new_v1(0x55, 0x12, &[0; 65]) == Err(CidError::DigestTooLong));
-    let cid = Cid::new_v1(0x55, 0x12, &[0; 64]).expect(&rt, "a CID");
-    assert_eq!(rt; cid.to_bytes(rt.alloc())?.len(), 68);
-    Ok(())
-}
-
-#[test]
-fn cids_are_in_order(rt: HostRuntime) {
-    let zeros = Cid::new_v0([0; 32]);
-    let ones = Cid::new_v0([1; 32]);
-    let raw = Cid::try_from(&FOO[..]).expect(&rt, "a CID");
-    assert!(rt; zeros < ones && ones < raw);
-    assert!(rt; zeros == zeros);
-}
-
-#[test]
-fn byte_strings_are_in_order(rt: HostRuntime) -> Result<(), AllocError> {
+fn digests_have_at_most_64_bytes(rt: HostRuntime) -> Result<(), Fail> {
     let alloc = rt.alloc();
-    assert!(rt; ByteSlice(b"abc") < ByteSlice(b"b"));
-    assert!(rt; ByteSlice(b"abc") == ByteSlice(b"abc"));
-    assert!(rt; Bytes(b"abc".to_vec(alloc)?) < Bytes(b"b".to_vec(alloc)?));
-    Ok(())
+    let refused = Cid::new_v1(0x55, 0x12, &[0; 65]);
+    is_told(alloc, &refused, "Err(DigestTooLong)")?;
+    let cid = Cid::new_v1(0x55, 0x12, &[0; 64])?;
+    agree(cid.to_bytes(alloc)?.len(), 68)
 }
 
 #[test]
-fn errors_have_texts(rt: HostRuntime) -> Result<(), AllocError> {
+fn cids_are_in_order(_rt: HostRuntime) -> Result<(), Fail> {
+    let (zeros, ones) = (Cid::new_v0([0; 32]), Cid::new_v0([1; 32]));
+    let raw = Cid::try_from(FOO)?;
+    agree(
+        (zeros < ones, ones < raw, zeros == zeros),
+        (true, true, true),
+    )
+}
+
+#[test]
+fn byte_strings_are_in_order(rt: HostRuntime) -> Result<(), Fail> {
+    let (abc, b) = (ByteSlice(b"abc"), ByteSlice(b"b"));
+    agree((abc < b, abc == ByteSlice(b"abc")), (true, true))?;
+    let abc = Bytes(b"abc".to_vec(rt.alloc())?);
+    let b = Bytes(b"b".to_vec(rt.alloc())?);
+    agree(abc < b, true)
+}
+
+#[test]
+fn errors_have_texts(rt: HostRuntime) -> Result<(), Fail> {
     let text = format!(in rt.alloc(); "{}", CidError::Truncated)?;
-    assert!(rt; text.as_str() == "the CID is cut short");
-    Ok(())
+    agree(text.as_str(), "the CID is cut short")
 }
 
 #[test]

@@ -1,9 +1,10 @@
 //! Files that are written, and read back.
 
-use super::files::{ENDS, LINKED, joined};
-use super::{EMPTY, NUMBERS};
-use crate::{CarReader, CarWriteError, CarWriter};
+use crate::tests::files::{ENDS, LINKED, cids_of};
+use crate::tests::sections::{EMPTY, NUMBERS};
+use dagcbor_car::{CarReader, CarWriteError, CarWriter};
 use dagcbor_heads::{BufWriter, IoWriter, SliceReader};
+use dagcbor_testing::{agree, joined};
 use ipld_tree::Cid;
 use std::alloc::Global;
 use std::io;
@@ -40,15 +41,6 @@ const LONG_SECTIONS: &[(&[u8], &[u8])] = &[(LETTERS, BLOCK)];
 /// The file of the root `FIVE`, with the section of `LETTERS`, up to its block.
 const LONG: &[u8] =
     b"\x1a\xa2\x65\x72\x6f\x6f\x74\x73\x81\xd8\x2a\x46\x00\x01\x71\x00\x01\x05\x67\x76\x65\x72\x73\x69\x6f\x6e\x01\xec\x01\x01\x55\x12\x20\xc2\xa9\x08\xd9\x8f\x5d\xf9\x87\xad\xe4\x1b\x5f\xce\x21\x30\x67\xef\xbc\xc2\x1e\xf2\x24\x02\x12\xa4\x1e\x54\xb5\xe7\xc2\x8a\xe5";
-
-/// The CIDs of these binary forms.
-fn cids_of(alloc: Global, names: &[&[u8]]) -> Result<Vec<Cid>, Fail> {
-    let mut cids = Vec::new(alloc);
-    for name in names {
-        cids.push(Cid::try_from(*name)?)?;
-    }
-    Ok(cids)
-}
 
 /// The file of these roots and sections, written into memory.
 fn written(alloc: Global, roots: &[Cid], sections: &[(&[u8], &[u8])]) -> Result<Vec<u8>, Fail> {
@@ -93,27 +85,26 @@ fn is_read_as(
     Ok(reader.next().is_none())
 }
 
-/// Whether the file of these roots and sections is written as these bytes, and is read back.
+/// Fails where the file of these roots and sections is written as other bytes, or not read back.
 fn goes_both_ways(
     alloc: Global,
     roots: &[&[u8]],
     sections: &[(&[u8], &[u8])],
     wanted: &[u8],
-) -> Result<bool, Fail> {
+) -> Result<(), Fail> {
     let roots = cids_of(alloc, roots)?;
     let file = written(alloc, &roots, sections)?;
-    let is_read = is_read_as(alloc, &file, &roots, sections)?;
-    Ok(is_read && file.as_slice() == wanted)
+    agree(file.as_slice(), wanted)?;
+    agree(is_read_as(alloc, &file, &roots, sections)?, true)
 }
 
 #[test]
 fn files_are_written_and_read_back(rt: HostRuntime) -> Result<(), Fail> {
     let alloc = rt.alloc();
-    assert!(rt; goes_both_ways(alloc, &[], &[], EMPTY)?);
-    assert!(rt; goes_both_ways(alloc, &[NUMBERS, FOO], SHORT_SECTIONS, SHORT)?);
+    goes_both_ways(alloc, &[], &[], EMPTY)?;
+    goes_both_ways(alloc, &[NUMBERS, FOO], SHORT_SECTIONS, SHORT)?;
     let file = joined(alloc, &[LONG, BLOCK])?;
-    assert!(rt; goes_both_ways(alloc, &[FIVE], LONG_SECTIONS, &file)?);
-    Ok(())
+    goes_both_ways(alloc, &[FIVE], LONG_SECTIONS, &file)
 }
 
 /// A device that has room for so many bytes.
@@ -190,18 +181,24 @@ fn wanted(left: usize) -> Option<(u32, u32, u32)> {
     }
 }
 
+/// Fails where a device with room for a beginning of `LINKED` then holds other bytes, or anything
+/// else comes of its sections.
+fn is_sent(alloc: Global, beginning: &[u8]) -> Result<(), Fail> {
+    let wanted = wanted(beginning.len());
+    match outcome_of(alloc, LINKED, beginning.len())? {
+        Some(outcome) => {
+            let counts = (outcome.written, outcome.refused, outcome.failed);
+            agree(Some(counts), wanted)?;
+            agree(outcome.held.as_slice(), beginning)
+        }
+        None => agree(wanted, None),
+    }
+}
+
 #[test]
 fn nothing_is_sent_behind_a_refusal(rt: HostRuntime) -> Result<(), Fail> {
-    let alloc = rt.alloc();
     for left in 0..LINKED.len() + 1 {
-        match outcome_of(alloc, LINKED, left)? {
-            Some(outcome) => {
-                let counts = (outcome.written, outcome.refused, outcome.failed);
-                assert_eq!(rt; Some(counts), wanted(left));
-                assert_eq!(rt; outcome.held.as_slice(), &LINKED[..left]);
-            }
-            None => assert!(rt; wanted(left).is_none()),
-        }
+        is_sent(rt.alloc(), &LINKED[..left])?;
     }
     Ok(())
 }

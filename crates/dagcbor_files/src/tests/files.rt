@@ -2,8 +2,9 @@
 
 ghost use Rattle.std.specs.Prelude.{⊤};
 
-use super::{EMPTY, HEADER, NUMBERS, SECTION, UNORDERED};
-use crate::{CarError, Section, Verdict, VerdictSink, check_car};
+use crate::tests::sections::{CHANGED, EMPTY, HEADER, NUMBERS, SECTION, UNORDERED};
+use dagcbor_car::{CarError, Section, Verdict, VerdictSink, check_car};
+use dagcbor_testing::{agree, is_told, joined};
 use ipld_tree::Cid;
 use std::alloc::{AllocError, Global};
 use std::convert::Infallible;
@@ -11,11 +12,11 @@ use std::test::Fail;
 
 /// The header of the root `PARENT`, its section, and that of `NUMBERS`. The block of `PARENT` is the
 /// list of a link to `NUMBERS`, one to `FOO`, and again one to `NUMBERS`.
-pub const LINKED: &[u8] =
+pub(crate) const LINKED: &[u8] =
     b"\x3a\xa2\x65\x72\x6f\x6f\x74\x73\x81\xd8\x2a\x58\x25\x00\x01\x71\x12\x20\x4e\xd9\x06\x5c\x0d\xac\x82\xb6\x65\xdf\x8f\xd5\xa1\x81\xff\xf5\xf4\x1b\x01\x96\x2b\x8e\x9b\x4f\x25\xb9\x22\x28\x39\x8c\xd0\x97\x67\x76\x65\x72\x73\x69\x6f\x6e\x01\xa0\x01\x01\x71\x12\x20\x4e\xd9\x06\x5c\x0d\xac\x82\xb6\x65\xdf\x8f\xd5\xa1\x81\xff\xf5\xf4\x1b\x01\x96\x2b\x8e\x9b\x4f\x25\xb9\x22\x28\x39\x8c\xd0\x97\x83\xd8\x2a\x58\x25\x00\x01\x71\x12\x20\x4a\xbc\x31\x13\x7c\xe7\x38\xd9\xac\xeb\x8a\x1d\x1d\x51\xf1\x5c\xad\x42\xc2\xb0\x8d\xcb\x7e\xd1\x79\xf7\x37\xa1\x94\xb3\x55\xe7\xd8\x2a\x58\x25\x00\x01\x55\x12\x20\x2c\x26\xb4\x6b\x68\xff\xc6\x8f\xf9\x9b\x45\x3c\x1d\x30\x41\x34\x13\x42\x2d\x70\x64\x83\xbf\xa0\xf9\x8a\x5e\x88\x62\x66\xe7\xae\xd8\x2a\x58\x25\x00\x01\x71\x12\x20\x4a\xbc\x31\x13\x7c\xe7\x38\xd9\xac\xeb\x8a\x1d\x1d\x51\xf1\x5c\xad\x42\xc2\xb0\x8d\xcb\x7e\xd1\x79\xf7\x37\xa1\x94\xb3\x55\xe7\x28\x01\x71\x12\x20\x4a\xbc\x31\x13\x7c\xe7\x38\xd9\xac\xeb\x8a\x1d\x1d\x51\xf1\x5c\xad\x42\xc2\xb0\x8d\xcb\x7e\xd1\x79\xf7\x37\xa1\x94\xb3\x55\xe7\x83\x01\x02\x03";
 
 /// The ends of the header and of the first section of `LINKED`.
-pub const ENDS: [usize; 2] = [59, 221];
+pub(crate) const ENDS: [usize; 2] = [59, 221];
 
 /// The root of `LINKED`.
 const PARENT: &[u8] =
@@ -59,102 +60,90 @@ fn told(alloc: Global, file: &[u8]) -> Result<(Vec<u8>, Vec<Cid>), CarError<Infa
     Ok((letters, missing))
 }
 
-/// The parts, one behind the other.
-pub fn joined(alloc: Global, parts: &[&[u8]]) -> Result<Vec<u8>, AllocError> {
-    let mut file = Vec::new(alloc);
-    for part in parts {
-        file.extend_from_slice(part)?;
+/// The CIDs of these binary forms.
+pub(crate) fn cids_of(alloc: Global, names: &[&[u8]]) -> Result<Vec<Cid>, Fail> {
+    let mut cids = Vec::new(alloc);
+    for name in names {
+        cids.push(Cid::try_from(*name)?)?;
     }
-    Ok(file)
+    Ok(cids)
 }
 
-#[test]
-fn files_are_gone_through(rt: HostRuntime) -> Result<(), Fail> {
-    let alloc = rt.alloc();
-    let (numbers, foo) = (Cid::try_from(NUMBERS)?, Cid::try_from(FOO)?);
-
-    let (letters, missing) = told(alloc, EMPTY)?;
-    assert!(rt; letters.is_empty());
-    assert!(rt; missing.is_empty());
-
-    let (letters, missing) = told(alloc, HEADER)?;
-    assert!(rt; letters.is_empty());
-    assert_eq!(rt; missing.as_slice(), [numbers].as_slice());
-
-    let (letters, missing) = told(alloc, &joined(alloc, &[HEADER, SECTION])?)?;
-    assert_eq!(rt; letters.as_slice(), b"B".as_slice());
-    assert!(rt; missing.is_empty());
-
-    let (letters, missing) = told(alloc, LINKED)?;
-    assert_eq!(rt; letters.as_slice(), b"BB".as_slice());
-    assert_eq!(rt; missing.as_slice(), [foo].as_slice());
-    Ok(())
+/// Fails where the letters are others, or what leads nowhere is.
+fn tells(alloc: Global, file: &[u8], letters: &[u8], missing: &[&[u8]]) -> Result<(), Fail> {
+    let (told_letters, told_missing) = told(alloc, file)?;
+    agree(told_letters.as_slice(), letters)?;
+    let missing = cids_of(alloc, missing)?;
+    agree(told_missing.as_slice(), missing.as_slice())
 }
 
-#[test]
-fn other_blocks_are_told(rt: HostRuntime) -> Result<(), Fail> {
-    let alloc = rt.alloc();
-    let numbers = Cid::try_from(NUMBERS)?;
-
-    // The last byte of a block is another.
-    let mut file = joined(alloc, &[HEADER, SECTION])?;
-    file.pop();
-    file.push(0x04)?;
-    let (letters, missing) = told(alloc, &file)?;
-    assert_eq!(rt; letters.as_slice(), b"O".as_slice());
-    assert_eq!(rt; missing.as_slice(), [numbers].as_slice());
-
-    // Keys out of order, under the digest of these bytes.
-    let (letters, missing) = told(alloc, &joined(alloc, &[HEADER, UNORDERED, SECTION])?)?;
-    assert_eq!(rt; letters.as_slice(), b"RB".as_slice());
-    assert!(rt; missing.is_empty());
-
+/// The parts of files, the letters of their sections, and what leads nowhere.
+const FILES: &[(&[&[u8]], &[u8], &[&[u8]])] = &[
+    (&[EMPTY], b"", &[]),
+    (&[HEADER], b"", &[NUMBERS]),
+    (&[HEADER, SECTION], b"B", &[]),
+    (&[LINKED], b"BB", &[FOO]),
+    (&[HEADER, CHANGED], b"O", &[NUMBERS]),
+    (&[HEADER, UNORDERED, SECTION], b"RB", &[]),
     // An identity whose block links to a name by another hash function, and such a block.
-    let file = joined(
-        alloc,
+    (
         &[
             EMPTY,
             b"\x18\x01\x71\x00\x0a\xd8\x2a\x47\x00\x01\x55\x13\x02\x05\x06\xd8\x2a\x47\x00\x01\x55\x13\x02\x05\x06",
             b"\x08\x01\x55\x13\x02\x05\x06\x78\x79",
         ],
-    )?;
-    let (letters, missing) = told(alloc, &file)?;
-    assert_eq!(rt; letters.as_slice(), b"BU".as_slice());
-    let other = Cid::try_from(b"\x01\x55\x13\x02\x05\x06".as_slice())?;
-    assert_eq!(rt; missing.as_slice(), [other].as_slice());
-    Ok(())
-}
+        b"BU",
+        &[b"\x01\x55\x13\x02\x05\x06"],
+    ),
+];
 
 #[test]
-fn cut_files_are_refused(rt: HostRuntime) -> Result<(), Fail> {
+fn files_are_gone_through(rt: HostRuntime) -> Result<(), Fail> {
     let alloc = rt.alloc();
-    let (parent, numbers, foo) = (
-        Cid::try_from(PARENT)?,
-        Cid::try_from(NUMBERS)?,
-        Cid::try_from(FOO)?,
-    );
-    for end in 0..LINKED.len() {
-        let result = told(alloc, &LINKED[..end]);
-        if end == ENDS[0] {
-            assert_eq!(rt; result?.1.as_slice(), [parent].as_slice());
-        } else if end == ENDS[1] {
-            assert_eq!(rt; result?.1.as_slice(), [foo, numbers].as_slice());
-        } else {
-            assert!(rt; matches!(result, Err(CarError::Truncated)));
-        }
+    for (parts, letters, missing) in FILES {
+        tells(alloc, &joined(alloc, parts)?, letters, missing)?;
     }
     Ok(())
 }
 
+/// Fails where the file is not refused so.
+fn is_refused(alloc: Global, file: &[u8], refusal: &str) -> Result<(), Fail> {
+    is_told(alloc, &told(alloc, file).err(), refusal)
+}
+
+/// Fails where a beginning of `LINKED` is told otherwise.
+fn is_beginning(alloc: Global, file: &[u8]) -> Result<(), Fail> {
+    if file.len() == ENDS[0] {
+        tells(alloc, file, b"", &[PARENT])
+    } else if file.len() == ENDS[1] {
+        tells(alloc, file, b"B", &[FOO, NUMBERS])
+    } else {
+        is_refused(alloc, file, "Some(Truncated)")
+    }
+}
+
+#[test]
+fn cut_files_are_refused(rt: HostRuntime) -> Result<(), Fail> {
+    for end in 0..LINKED.len() {
+        is_beginning(rt.alloc(), &LINKED[..end])?;
+    }
+    Ok(())
+}
+
+/// The parts of what is no file, and why.
+const NO_FILES: &[(&[&[u8]], &str)] = &[
+    // A section of no bytes; a length in two bytes where one is enough; another header.
+    (&[HEADER, b"\x00", SECTION], "Some(InvalidCid(Truncated))"),
+    (&[HEADER, b"\xa8\x00", SECTION], "Some(InvalidLength)"),
+    (&[SECTION], "Some(NoBlock(TrailingData))"),
+    (&[b"\x01\xa0"], "Some(OtherHeader)"),
+];
+
 #[test]
 fn other_files_are_refused(rt: HostRuntime) -> Result<(), Fail> {
     let alloc = rt.alloc();
-    // A section of no bytes; a length in two bytes where one is enough; another header.
-    let file = joined(alloc, &[HEADER, b"\x00", SECTION])?;
-    assert!(rt; matches!(told(alloc, &file), Err(CarError::InvalidCid(_))));
-    let file = joined(alloc, &[HEADER, b"\xa8\x00", SECTION])?;
-    assert!(rt; matches!(told(alloc, &file), Err(CarError::InvalidLength)));
-    assert!(rt; matches!(told(alloc, SECTION), Err(CarError::NoBlock(_))));
-    assert!(rt; matches!(told(alloc, b"\x01\xa0"), Err(CarError::OtherHeader)));
+    for (parts, refusal) in NO_FILES {
+        is_refused(alloc, &joined(alloc, parts)?, refusal)?;
+    }
     Ok(())
 }

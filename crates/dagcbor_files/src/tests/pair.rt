@@ -4,7 +4,8 @@ ghost use Rattle.std.specs.Prelude.{Some, [], ◌∷◌, codes, pos};
 ghost use Rattle.serde_ipld_dagcbor.specs.Tree.{integer, entries_tree};
 ghost use Rattle.serde_ipld_dagcbor.specs.Trees.{field};
 
-use crate::name_of;
+use dagcbor_blocks::name_of;
+use dagcbor_testing::agree;
 use serde_ipld_dagcbor::{Field, Serialize, Serializer, Write, WriteResult, write_struct};
 use std::alloc::Global;
 use std::collections::HashMap;
@@ -31,9 +32,5 @@ fn a_struct_and_a_map_have_one_name(rt: HostRuntime) -> Result<(), Fail> {
     let mut map = HashMap::new(alloc);
     drop(map.insert("b", 2u8)?);
     drop(map.insert("a", 1u8)?);
-    assert_eq!(rt;
-        name_of(alloc, &Pair { a: 1, b: 2 })?,
-        name_of(alloc, &map)?
-    );
-    Ok(())
+    agree(name_of(alloc, &Pair { a: 1, b: 2 })?, name_of(alloc, &map)?)
 }

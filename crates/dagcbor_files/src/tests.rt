@@ -1,0 +1,9 @@
+//! Files of blocks, and the store that keeps them.
+
+mod cars;
+mod files;
+mod pair;
+mod sections;
+mod store;
+mod streams;
+mod writing;

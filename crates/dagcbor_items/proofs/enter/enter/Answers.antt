@@ -5,7 +5,6 @@ use Rattle.dagcbor_items.proofs.Looks.{head_taken, stepped_left, looks_stepped}
 use Rattle.dagcbor_items.proofs.Fronts.{head_refused}
 use Rattle.dagcbor_items.proofs.Steps.{stepped_refused}
 use Rattle.dagcbor_items.proofs.Entering.{no_step_inside, enters_parts, parts_left, parts_unread}
-use Rattle.dagcbor_items.proofs.PartRefusals.{depth_item, named_item}
 use Rattle.dagcbor_items.proofs.enter.enter.Goals as goal
 
 pub returns-in_err-spend_step-clause-count : goal.returns-in_err-spend_step-clause-count
@@ -27,9 +26,3 @@ returns-in_err-count-clause-looked g c =
 
 pub returns-clause-looked : goal.returns-clause-looked
 returns-clause-looked g c = looks_stepped _ c.in_ok-spend_step.ensures.is (head_taken c.in_ok-count.ensures.looked c.in_ok-count.ensures.taken.2) refl
-
-pub returns-in_err-spend_step-clause-variant : goal.returns-in_err-spend_step-clause-variant
-returns-in_err-spend_step-clause-variant g c = as_refusal _ _ _ _ c.from_residual.ensures.1 (depth_item _ _ c.in_err-spend_step.ensures.named)
-
-pub returns-in_err-count-clause-variant : goal.returns-in_err-count-clause-variant
-returns-in_err-count-clause-variant g c = as_refusal _ _ _ _ c.from_residual-in_err-count.ensures.1 (named_item _ _ c.in_err-count.ensures.variant)

@@ -2,8 +2,6 @@ use Rattle.std.proofs.Common.{sym}
 use Rattle.dagcbor_heads.proofs.Refusing.{as_refusal}
 use Rattle.dagcbor_items.proofs.StringItems.{text_taken}
 use Rattle.dagcbor_items.proofs.Keys.{key_text_refused, unordered_refused, follows_as}
-use Rattle.dagcbor_items.proofs.PartRefusals.{text_key}
-use Rattle.dagcbor_heads.proofs.Looking.{taken_left}
 use Rattle.dagcbor_items.proofs.key.read_key.Goals as goal
 
 pub returns-in_err-key-clause-key : goal.returns-in_err-key-clause-key
@@ -20,21 +18,3 @@ pub returns-clause-key : goal.returns-clause-key
 returns-clause-key g c =
     let follows = c.follows.ensures.0 c.if-not-follows.false in
     (follows_as _ _ _ c.as_str.ensures.value follows, c.in_ok-key.ensures.text)
-
-pub returns-in_err-key-clause-lent : goal.returns-in_err-key-clause-lent
-returns-in_err-key-clause-lent g c = as_refusal _ _ _ _ c.from_residual.ensures.1 tt
-
-pub returns-in_err-key-clause-looked : goal.returns-in_err-key-clause-looked
-returns-in_err-key-clause-looked g c = as_refusal _ _ _ _ c.from_residual.ensures.1 c.in_err-key.ensures.looked
-
-pub returns-in_err-key-clause-variant : goal.returns-in_err-key-clause-variant
-returns-in_err-key-clause-variant g c = as_refusal _ _ _ _ c.from_residual.ensures.1 (text_key _ c.in_err-key.ensures.variant)
-
-pub returns-then-not-follows-clause-looked : goal.returns-then-not-follows-clause-looked
-returns-then-not-follows-clause-looked g c = taken_left c.in_ok-key.ensures.looked
-
-pub returns-clause-looked : goal.returns-clause-looked
-returns-clause-looked g c = c.in_ok-key.ensures.looked
-
-pub returns-clause-lent : goal.returns-clause-lent
-returns-clause-lent g c = c.in_ok-key.ensures.lent

@@ -1,7 +1,6 @@
 use Rattle.dagcbor_heads.proofs.Refusing.{as_refusal}
 use Rattle.dagcbor_items.proofs.Fronts.{head_refused}
 use Rattle.dagcbor_items.proofs.Looks.{head_taken}
-use Rattle.dagcbor_items.proofs.PartRefusals.{named_item}
 use Rattle.dagcbor_items.proofs.leaf.read_integer.Goals as goal
 
 pub returns-in_err-argument-clause-leaf : goal.returns-in_err-argument-clause-leaf
@@ -9,6 +8,3 @@ returns-in_err-argument-clause-leaf g c = as_refusal _ _ _ _ c.from_residual.ens
 
 pub returns-clause-looked : goal.returns-clause-looked
 returns-clause-looked g c = head_taken c.in_ok-argument.ensures.looked c.in_ok-argument.ensures.taken
-
-pub returns-in_err-argument-clause-variant : goal.returns-in_err-argument-clause-variant
-returns-in_err-argument-clause-variant g c = as_refusal _ _ _ _ c.from_residual.ensures.1 (named_item _ _ c.in_err-argument.ensures.variant)

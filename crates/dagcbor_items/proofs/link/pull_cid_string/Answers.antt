@@ -2,8 +2,7 @@ use Rattle.std.specs.Prelude.{None, Some}
 use Rattle.dagcbor_heads.proofs.Refusing.{as_refusal}
 use Rattle.dagcbor_items.proofs.Fronts.{head_of}
 use Rattle.dagcbor_items.proofs.Links.{cid_head_refused, link_too_long, cid_payload_refused, cid_taken, no_cid, found_in}
-use Rattle.dagcbor_heads.proofs.Looking.{looks_both, looks_then, taken_left}
-use Rattle.dagcbor_items.proofs.PartRefusals.{named_link, end_link}
+use Rattle.dagcbor_heads.proofs.Looking.{looks_both}
 use Rattle.dagcbor_items.proofs.link.pull_cid_string.Goals as goal
 
 pub returns-in_err-count-clause-cid : goal.returns-in_err-count-clause-cid
@@ -28,21 +27,3 @@ returns-in-None-clause-cid g c =
 
 pub returns-in-Some-clause-looked : goal.returns-in-Some-clause-looked
 returns-in-Some-clause-looked g c = looks_both c.in_ok-count.ensures.looked c.in_ok-payload.ensures.looked
-
-pub returns-in_err-count-clause-variant : goal.returns-in_err-count-clause-variant
-returns-in_err-count-clause-variant g c = as_refusal _ _ _ _ c.from_residual.ensures.1 (named_link _ _ c.in_err-count.ensures.variant)
-
-pub returns-in_err-count-clause-looked : goal.returns-in_err-count-clause-looked
-returns-in_err-count-clause-looked g c = as_refusal _ _ _ _ c.from_residual.ensures.1 c.in_err-count.ensures.looked
-
-pub returns-in_err-payload-clause-variant : goal.returns-in_err-payload-clause-variant
-returns-in_err-payload-clause-variant g c = as_refusal _ _ _ _ c.from_residual-in_err-payload.ensures.1 (end_link _ _ c.in_err-payload.ensures.variant)
-
-pub returns-in_err-payload-clause-looked : goal.returns-in_err-payload-clause-looked
-returns-in_err-payload-clause-looked g c = as_refusal _ _ _ _ c.from_residual-in_err-payload.ensures.1 (looks_then c.in_ok-count.ensures.looked c.in_err-payload.ensures.looked)
-
-pub returns-then-count-clause-looked : goal.returns-then-count-clause-looked
-returns-then-count-clause-looked g c = taken_left c.in_ok-count.ensures.looked
-
-pub returns-in-None-clause-looked : goal.returns-in-None-clause-looked
-returns-in-None-clause-looked g c = taken_left (looks_both c.in_ok-count.ensures.looked c.in_ok-payload.ensures.looked)

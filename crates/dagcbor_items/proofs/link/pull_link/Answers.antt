@@ -3,7 +3,6 @@ use Rattle.std.proofs.Common.{arith}
 use Rattle.dagcbor_heads.proofs.Refusing.{as_refusal}
 use Rattle.dagcbor_heads.proofs.Looking.{looks_both, looks_then}
 use Rattle.dagcbor_items.proofs.Looks.{looks_behind, taken_more, major_left, one_byte_taken}
-use Rattle.dagcbor_items.proofs.PartRefusals.{byte_link}
 use Rattle.dagcbor_items.proofs.link.pull_link.Goals as goal
 
 pub returns-clause-link : goal.returns-clause-link
@@ -25,12 +24,3 @@ pub returns-clause-peeked : goal.returns-clause-peeked
 returns-clause-peeked g c =
     let tag = taken_more 2 (omega arith) c.in_ok-pull_wanted-2.ensures.looked in
     λ starts. looks_behind _ _ (looks_both (one_byte_taken c.in_ok-pull_wanted.ensures.looked c.in_ok-pull_wanted.ensures.wanted) tag) c.pull_cid.ensures.looked
-
-pub returns-in_err-pull_wanted-clause-variant : goal.returns-in_err-pull_wanted-clause-variant
-returns-in_err-pull_wanted-clause-variant g c = as_refusal _ _ _ _ c.from_residual.ensures.1 (byte_link _ c.in_err-pull_wanted.ensures.variant)
-
-pub returns-in_err-pull_wanted-2-clause-variant : goal.returns-in_err-pull_wanted-2-clause-variant
-returns-in_err-pull_wanted-2-clause-variant g c = as_refusal _ _ _ _ c.from_residual-in_err-pull_wanted-2.ensures.1 (byte_link _ c.in_err-pull_wanted-2.ensures.variant)
-
-pub returns-clause-variant : goal.returns-clause-variant
-returns-clause-variant g c = c.pull_cid.ensures.variant

@@ -1,6 +1,5 @@
 use Rattle.dagcbor_heads.proofs.Refusing.{as_refusal}
 use Rattle.dagcbor_items.proofs.Links.{link_refused}
-use Rattle.dagcbor_items.proofs.PartRefusals.{link_item}
 use Rattle.dagcbor_items.proofs.link.read_link.Goals as goal
 
 pub returns-in_err-pull_link-clause-leaf : goal.returns-in_err-pull_link-clause-leaf
@@ -11,6 +10,3 @@ returns-in_err-pull_link-clause-looked g c = as_refusal _ _ _ _ c.from_residual.
 
 pub returns-clause-looked : goal.returns-clause-looked
 returns-clause-looked g c = c.in_ok-pull_link.ensures.peeked c.requires
-
-pub returns-in_err-pull_link-clause-variant : goal.returns-in_err-pull_link-clause-variant
-returns-in_err-pull_link-clause-variant g c = as_refusal _ _ _ _ c.from_residual.ensures.1 (link_item _ c.in_err-pull_link.ensures.variant)

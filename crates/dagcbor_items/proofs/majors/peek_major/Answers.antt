@@ -2,7 +2,6 @@ use Rattle.std.proofs.Common.{arith}
 use Rattle.dagcbor_heads.proofs.Refusing.{as_refusal}
 use Rattle.dagcbor_items.proofs.HeadMajors.{kind_byte_refused, other_kind}
 use Rattle.dagcbor_items.proofs.majors.peek_major.Goals as goal
-use Rattle.dagcbor_items.proofs.PartRefusals.{end_byte}
 use Rattle.dagcbor_items.proofs.majors.peek_major.Goals.{then-major-low-via-then-major-low, then-major-low-via-else-major-low+then-high-major}
 
 pub returns-in_err-first-clause-kind : goal.returns-in_err-first-clause-kind
@@ -18,15 +17,3 @@ returns-then-major-low-clause-kind g c =
       | then-major-low-via-then-major-low w ↦ omega (arith, a, w.if-major-low.true)
       | then-major-low-via-else-major-low+then-high-major w ↦ omega (arith, b, w.if-high-major.true)
     ]))
-
-pub returns-in_err-first-clause-variant : goal.returns-in_err-first-clause-variant
-returns-in_err-first-clause-variant g c = as_refusal _ _ _ _ c.from_residual.ensures.1 (end_byte _ _ c.in_err-first.ensures.variant)
-
-pub returns-in_err-first-clause-looked : goal.returns-in_err-first-clause-looked
-returns-in_err-first-clause-looked g c = c.in_err-first.ensures.looked
-
-pub returns-then-major-low-clause-looked : goal.returns-then-major-low-clause-looked
-returns-then-major-low-clause-looked g c = c.in_ok-first.ensures.looked
-
-pub returns-clause-looked : goal.returns-clause-looked
-returns-clause-looked g c = c.in_ok-first.ensures.looked

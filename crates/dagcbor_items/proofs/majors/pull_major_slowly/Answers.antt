@@ -1,8 +1,6 @@
 use Rattle.dagcbor_heads.proofs.Refusing.{as_refusal}
 use Rattle.dagcbor_items.proofs.HeadMajors.{kind_head_refused, kind_taken}
-use Rattle.dagcbor_items.proofs.Looks.{peeked_taken, head_taken, once_left_more}
-use Rattle.dagcbor_items.proofs.PartRefusals.{byte_kind, named_kind}
-use Rattle.std.proofs.Common.{arith}
+use Rattle.dagcbor_items.proofs.Looks.{peeked_taken, head_taken}
 use Rattle.dagcbor_items.proofs.majors.pull_major_slowly.Goals as goal
 
 pub returns-in_err-first-clause-kind : goal.returns-in_err-first-clause-kind
@@ -19,12 +17,3 @@ returns-clause-kind g c = let first = c.in_ok-first.ensures.kind in kind_taken f
 
 pub returns-clause-looked : goal.returns-clause-looked
 returns-clause-looked g c = peeked_taken c.in_ok-first.ensures.looked c.in_ok-first.ensures.kind.2 (head_taken c.in_ok-argument.ensures.looked c.in_ok-argument.ensures.taken)
-
-pub returns-in_err-first-clause-variant : goal.returns-in_err-first-clause-variant
-returns-in_err-first-clause-variant g c = as_refusal _ _ _ _ c.from_residual.ensures.1 (byte_kind _ c.in_err-first.ensures.variant)
-
-pub returns-in_err-first-clause-looked : goal.returns-in_err-first-clause-looked
-returns-in_err-first-clause-looked g c = as_refusal _ _ _ _ c.from_residual.ensures.1 (once_left_more 3 (omega arith) c.in_err-first.ensures.looked)
-
-pub returns-in_err-argument-clause-variant : goal.returns-in_err-argument-clause-variant
-returns-in_err-argument-clause-variant g c = as_refusal _ _ _ _ c.from_residual-in_err-argument.ensures.1 (named_kind _ _ c.in_err-argument.ensures.variant)

@@ -1,10 +1,9 @@
-use Rattle.std.proofs.Common.{rules, inl, inr, Some, arith}
+use Rattle.std.proofs.Common.{rules, inl, inr, Some}
 use Rattle.dagcbor_heads.proofs.Refusing.{as_refusal}
 use Rattle.dagcbor_items.specs.Shapes.{view_number}
 use Rattle.dagcbor_items.specs.LeafCauses.{MajorCause}
 use Rattle.dagcbor_items.proofs.Integers.{big_byte_refused, no_tag, big_read}
-use Rattle.dagcbor_items.proofs.Looks.{peeked_value, once_left_more}
-use Rattle.dagcbor_items.proofs.PartRefusals.{end_kind}
+use Rattle.dagcbor_items.proofs.Looks.{peeked_value}
 use Rattle.dagcbor_items.proofs.numbers.pull_big.Goals as goal
 
 pub returns-in_err-first-clause-number : goal.returns-in_err-first-clause-number
@@ -20,15 +19,3 @@ returns-clause-number g c = big_read _ _ _ c.in_ok-first.ensures.shown (search r
 
 pub returns-clause-looked : goal.returns-clause-looked
 returns-clause-looked g c = peeked_value 3 (λ n. n) (view_number Some) (λ _. ⊥) (MajorCause c.args.name.now 0 1) _ _ c.in_ok-first.ensures.looked c.in_ok-first.ensures.shown c.pull_number.ensures.number c.pull_number.ensures.looked
-
-pub returns-in_err-first-clause-looked : goal.returns-in_err-first-clause-looked
-returns-in_err-first-clause-looked g c = as_refusal _ _ _ _ c.from_residual.ensures.1 (once_left_more 4 (omega arith) c.in_err-first.ensures.looked)
-
-pub returns-in_err-first-clause-variant : goal.returns-in_err-first-clause-variant
-returns-in_err-first-clause-variant g c = as_refusal _ _ _ _ c.from_residual.ensures.1 (end_kind _ _ c.in_err-first.ensures.variant)
-
-pub returns-then-first-clause-looked : goal.returns-then-first-clause-looked
-returns-then-first-clause-looked g c = once_left_more 4 (omega arith) c.in_ok-first.ensures.looked
-
-pub returns-clause-variant : goal.returns-clause-variant
-returns-clause-variant g c = c.pull_number.ensures.variant

@@ -17,12 +17,3 @@ pub returns-clause-number : goal.returns-clause-number
 returns-clause-number g c =
     let fits : SFits w128 c.in_ok-number.number = search rules in
     as_value _ _ (to_z-of_z w128 c.in_ok-number.number fits) (number_narrowed (within (2 ^ 127)) _ _ (within_i128 c.in_ok-number.number fits) c.in_ok-number.ensures.number)
-
-pub returns-in_err-number-clause-looked : goal.returns-in_err-number-clause-looked
-returns-in_err-number-clause-looked g c = as_refusal _ _ _ _ c.from_residual.ensures.1 c.in_err-number.ensures.looked
-
-pub returns-in_err-number-clause-variant : goal.returns-in_err-number-clause-variant
-returns-in_err-number-clause-variant g c = as_refusal _ _ _ _ c.from_residual.ensures.1 c.in_err-number.ensures.variant
-
-pub returns-clause-looked : goal.returns-clause-looked
-returns-clause-looked g c = c.in_ok-number.ensures.looked

@@ -14,12 +14,3 @@ pub returns-clause-number : goal.returns-clause-number
 returns-clause-number g c =
     let fits : SFits w128 c.number_of.result = search rules in
     as_value _ _ (to_z-of_z w128 c.number_of.result fits ∙ c.number_of.ensures) (number_taken c.in_ok-major.ensures.kind)
-
-pub returns-in_err-major-clause-looked : goal.returns-in_err-major-clause-looked
-returns-in_err-major-clause-looked g c = as_refusal _ _ _ _ c.from_residual.ensures.1 c.in_err-major.ensures.looked
-
-pub returns-in_err-major-clause-variant : goal.returns-in_err-major-clause-variant
-returns-in_err-major-clause-variant g c = as_refusal _ _ _ _ c.from_residual.ensures.1 c.in_err-major.ensures.variant
-
-pub returns-clause-looked : goal.returns-clause-looked
-returns-clause-looked g c = c.in_ok-major.ensures.looked

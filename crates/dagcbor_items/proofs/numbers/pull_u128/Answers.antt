@@ -6,8 +6,6 @@ use Rattle.dagcbor_heads.proofs.Refusing.{as_refusal}
 use Rattle.dagcbor_items.specs.Shapes.{natural_below}
 use Rattle.dagcbor_items.specs.LeafCauses.{BigCause}
 use Rattle.dagcbor_items.proofs.Integers.{number_handed, number_narrowed, narrow_refused, outside}
-use Rattle.dagcbor_items.proofs.PartRefusals.{kind_number}
-use Rattle.dagcbor_heads.proofs.Looking.{taken_left}
 use Rattle.dagcbor_items.proofs.numbers.pull_u128.Goals as goal
 
 pub returns-in_err-number-clause-number : goal.returns-in_err-number-clause-number
@@ -23,15 +21,3 @@ returns-in-None-clause-number g c =
     let fits : SFits w128 c.in_ok-number.number = search rules in
     let told = c.out_of_range.ensures in
     rw told.1 (outside g.row.R-Error.Denot (natural_below (2 ^ 128)) (BigCause (codes "u128")) _ _ told.0 (number_handed (natural_below (2 ^ 128)) c.in_ok-number.number _ fits c.in-None.ensures) told.2 c.in_ok-number.ensures.number)
-
-pub returns-in_err-number-clause-looked : goal.returns-in_err-number-clause-looked
-returns-in_err-number-clause-looked g c = as_refusal _ _ _ _ c.from_residual.ensures.1 c.in_err-number.ensures.looked
-
-pub returns-in_err-number-clause-variant : goal.returns-in_err-number-clause-variant
-returns-in_err-number-clause-variant g c = as_refusal _ _ _ _ c.from_residual.ensures.1 (kind_number _ c.in_err-number.ensures.variant)
-
-pub returns-in-Some-clause-looked : goal.returns-in-Some-clause-looked
-returns-in-Some-clause-looked g c = c.in_ok-number.ensures.looked
-
-pub returns-in-None-clause-looked : goal.returns-in-None-clause-looked
-returns-in-None-clause-looked g c = taken_left c.in_ok-number.ensures.looked

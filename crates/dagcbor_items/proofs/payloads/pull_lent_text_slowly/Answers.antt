@@ -1,10 +1,9 @@
-use Rattle.std.proofs.Common.{sym, ◌∙◌, arith}
+use Rattle.std.proofs.Common.{sym, ◌∙◌}
 use Rattle.std.specs.Prelude.{◌≡◌, false}
 use Rattle.dagcbor_heads.proofs.Refusing.{as_refusal}
 use Rattle.dagcbor_items.specs.LeafCauses.{TextCause}
 use Rattle.dagcbor_items.proofs.StringReads.{text_string_refused, string_kind_refused, peeked_read}
-use Rattle.dagcbor_items.proofs.Looks.{peeked_value, once_left_more}
-use Rattle.dagcbor_items.proofs.PartRefusals.{byte_text}
+use Rattle.dagcbor_items.proofs.Looks.{peeked_value}
 use Rattle.dagcbor_items.proofs.payloads.pull_lent_text_slowly.Goals as goal
 
 pub returns-in_err-peek_major-clause-text : goal.returns-in_err-peek_major-clause-text
@@ -17,12 +16,3 @@ pub returns-clause-looked : goal.returns-clause-looked
 returns-clause-looked c =
     let peeked = c.in_ok-peek_major.ensures in
     peeked_value 2 _ _ (λ r. r.lends ≡ false) (TextCause c.args.name.now) _ _ peeked.looked peeked.kind.2 c.pull_peeked_lent_text.ensures.text c.pull_peeked_lent_text.ensures.looked
-
-pub returns-in_err-peek_major-clause-variant : goal.returns-in_err-peek_major-clause-variant
-returns-in_err-peek_major-clause-variant c = as_refusal _ _ _ _ c.from_residual.ensures.1 (byte_text _ c.in_err-peek_major.ensures.variant)
-
-pub returns-in_err-peek_major-clause-looked : goal.returns-in_err-peek_major-clause-looked
-returns-in_err-peek_major-clause-looked c = as_refusal _ _ _ _ c.from_residual.ensures.1 (once_left_more 3 (omega arith) c.in_err-peek_major.ensures.looked)
-
-pub returns-clause-variant : goal.returns-clause-variant
-returns-clause-variant c = c.pull_peeked_lent_text.ensures.variant

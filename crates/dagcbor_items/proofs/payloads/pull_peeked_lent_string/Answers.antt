@@ -6,7 +6,6 @@ use Rattle.dagcbor_heads.specs.declared.error.DecodeError.TheVariants.{Eof}
 use Rattle.dagcbor_heads.proofs.Looking.{looks_both, lent_looked}
 use Rattle.dagcbor_items.proofs.StringReads.{string_read, string_head_refused}
 use Rattle.dagcbor_items.proofs.HeadMajors.{head_kind}
-use Rattle.dagcbor_items.proofs.PartRefusals.{named_kind}
 use Rattle.dagcbor_items.proofs.payloads.pull_peeked_lent_string.Goals as goal
 
 pub returns-in_err-count-clause-string : goal.returns-in_err-count-clause-string
@@ -25,9 +24,3 @@ returns-in-None-clause-string c =
 
 pub returns-in-Some-clause-looked : goal.returns-in-Some-clause-looked
 returns-in-Some-clause-looked c = let lent = c.in-Some.ensures.lent in looks_both c.in_ok-count.ensures.looked (lent_looked lent.0 lent.1 lent.2)
-
-pub returns-in_err-count-clause-variant : goal.returns-in_err-count-clause-variant
-returns-in_err-count-clause-variant c = as_refusal _ _ _ _ c.from_residual.ensures.1 (named_kind _ _ c.in_err-count.ensures.variant)
-
-pub returns-in_err-count-clause-looked : goal.returns-in_err-count-clause-looked
-returns-in_err-count-clause-looked c = as_refusal _ _ _ _ c.from_residual.ensures.1 c.in_err-count.ensures.looked

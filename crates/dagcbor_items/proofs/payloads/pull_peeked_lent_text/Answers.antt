@@ -3,8 +3,6 @@ use Rattle.std.specs.Prelude.{IsUtf8}
 use Rattle.std.specs.declared.convert.Infallible.{Infallible}
 use Rattle.dagcbor_heads.proofs.Refusing.{as_refusal}
 use Rattle.dagcbor_items.proofs.StringReads.{text_string_refused, text_string_taken, no_text_refused}
-use Rattle.dagcbor_items.proofs.PartRefusals.{kind_text}
-use Rattle.dagcbor_heads.proofs.Looking.{taken_left}
 use Rattle.dagcbor_items.proofs.payloads.pull_peeked_lent_text.Goals as goal
 
 pub returns-in_err-payload-clause-text : goal.returns-in_err-payload-clause-text
@@ -16,15 +14,3 @@ returns-in-Some-clause-text c =
 
 pub returns-in-None-clause-text : goal.returns-in-None-clause-text
 returns-in-None-clause-text c = no_text_refused Infallible _ _ c.new.result c.new.ensures c.in_ok-payload.ensures.string c.in-None.ensures
-
-pub returns-in_err-payload-clause-variant : goal.returns-in_err-payload-clause-variant
-returns-in_err-payload-clause-variant c = as_refusal _ _ _ _ c.from_residual.ensures.1 (kind_text _ c.in_err-payload.ensures.variant)
-
-pub returns-in_err-payload-clause-looked : goal.returns-in_err-payload-clause-looked
-returns-in_err-payload-clause-looked c = as_refusal _ _ _ _ c.from_residual.ensures.1 c.in_err-payload.ensures.looked
-
-pub returns-in-Some-clause-looked : goal.returns-in-Some-clause-looked
-returns-in-Some-clause-looked c = c.in_ok-payload.ensures.looked
-
-pub returns-in-None-clause-looked : goal.returns-in-None-clause-looked
-returns-in-None-clause-looked c = taken_left c.in_ok-payload.ensures.looked

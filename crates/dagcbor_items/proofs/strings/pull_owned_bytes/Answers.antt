@@ -2,9 +2,7 @@ use Rattle.std.specs.Prelude.{⊤, codes}
 use Rattle.dagcbor_heads.proofs.Refusing.{as_refusal}
 use Rattle.dagcbor_items.specs.LeafCauses.{StringCause}
 use Rattle.dagcbor_items.proofs.StringReads.{bytes_string_refused, string_kind_refused, peeked_read}
-use Rattle.dagcbor_items.proofs.Looks.{peeked_value, once_left_more}
-use Rattle.std.proofs.Common.{arith}
-use Rattle.dagcbor_items.proofs.PartRefusals.{byte_kind}
+use Rattle.dagcbor_items.proofs.Looks.{peeked_value}
 use Rattle.dagcbor_items.proofs.strings.pull_owned_bytes.Goals as goal
 
 pub returns-in_err-peek_major-clause-bytes : goal.returns-in_err-peek_major-clause-bytes
@@ -17,12 +15,3 @@ pub returns-clause-looked : goal.returns-clause-looked
 returns-clause-looked g c =
     let peeked = c.in_ok-peek_major.ensures in
     peeked_value 2 _ _ (λ r. ⊤) (StringCause (codes "bytes") 2) _ _ peeked.looked peeked.kind.2 c.pull_peeked_owned_bytes.ensures.bytes c.pull_peeked_owned_bytes.ensures.looked
-
-pub returns-in_err-peek_major-clause-looked : goal.returns-in_err-peek_major-clause-looked
-returns-in_err-peek_major-clause-looked g c = as_refusal _ _ _ _ c.from_residual.ensures.1 (once_left_more 3 (omega arith) c.in_err-peek_major.ensures.looked)
-
-pub returns-in_err-peek_major-clause-variant : goal.returns-in_err-peek_major-clause-variant
-returns-in_err-peek_major-clause-variant g c = as_refusal _ _ _ _ c.from_residual.ensures.1 (byte_kind _ c.in_err-peek_major.ensures.variant)
-
-pub returns-clause-variant : goal.returns-clause-variant
-returns-clause-variant g c = c.pull_peeked_owned_bytes.ensures.variant

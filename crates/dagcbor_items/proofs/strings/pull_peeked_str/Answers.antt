@@ -1,7 +1,5 @@
 use Rattle.dagcbor_heads.proofs.Refusing.{as_refusal}
 use Rattle.dagcbor_items.proofs.StringReads.{text_string_refused, text_string_taken, no_text_refused}
-use Rattle.dagcbor_items.proofs.PartRefusals.{kind_text}
-use Rattle.dagcbor_heads.proofs.Looking.{taken_left}
 use Rattle.dagcbor_items.proofs.strings.pull_peeked_str.Goals as goal
 
 pub returns-in_err-payload-clause-text : goal.returns-in_err-payload-clause-text
@@ -12,18 +10,3 @@ returns-in-Some-clause-text g c = text_string_taken _ _ c.in-Some.ensures.text.0
 
 pub returns-in-None-clause-text : goal.returns-in-None-clause-text
 returns-in-None-clause-text g c = no_text_refused g.row.R-Error.Denot _ _ c.new.result c.new.ensures c.in_ok-payload.ensures.string c.in-None.ensures.text
-
-pub returns-in_err-payload-clause-lent : goal.returns-in_err-payload-clause-lent
-returns-in_err-payload-clause-lent g c = as_refusal _ _ _ _ c.from_residual.ensures.1 tt
-
-pub returns-in_err-payload-clause-looked : goal.returns-in_err-payload-clause-looked
-returns-in_err-payload-clause-looked g c = as_refusal _ _ _ _ c.from_residual.ensures.1 c.in_err-payload.ensures.looked
-
-pub returns-in_err-payload-clause-variant : goal.returns-in_err-payload-clause-variant
-returns-in_err-payload-clause-variant g c = as_refusal _ _ _ _ c.from_residual.ensures.1 (kind_text _ c.in_err-payload.ensures.variant)
-
-pub returns-in-Some-clause-looked : goal.returns-in-Some-clause-looked
-returns-in-Some-clause-looked g c = c.in_ok-payload.ensures.looked
-
-pub returns-in-None-clause-looked : goal.returns-in-None-clause-looked
-returns-in-None-clause-looked g c = taken_left c.in_ok-payload.ensures.looked

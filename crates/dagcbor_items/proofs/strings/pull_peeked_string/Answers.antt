@@ -2,8 +2,6 @@ use Rattle.dagcbor_heads.proofs.Refusing.{as_refusal}
 use Rattle.dagcbor_items.proofs.HeadMajors.{head_kind}
 use Rattle.dagcbor_items.proofs.StringReads.{string_read, string_head_refused}
 use Rattle.dagcbor_items.proofs.Looks.{looks_behind}
-use Rattle.dagcbor_items.proofs.PartRefusals.{named_kind, payload_kind}
-use Rattle.std.proofs.lemmas.Result.{IfErr-weaker}
 use Rattle.dagcbor_items.proofs.strings.pull_peeked_string.Goals as goal
 
 pub returns-in_err-count-clause-string : goal.returns-in_err-count-clause-string
@@ -15,15 +13,3 @@ returns-clause-string g c = string_read _ c.args.kind _ _ (head_kind c.requires.
 
 pub returns-clause-looked : goal.returns-clause-looked
 returns-clause-looked g c = looks_behind _ _ c.in_ok-count.ensures.looked c.pull_payload.ensures.looked
-
-pub returns-in_err-count-clause-lent : goal.returns-in_err-count-clause-lent
-returns-in_err-count-clause-lent g c = as_refusal _ _ _ _ c.from_residual.ensures.1 tt
-
-pub returns-in_err-count-clause-looked : goal.returns-in_err-count-clause-looked
-returns-in_err-count-clause-looked g c = as_refusal _ _ _ _ c.from_residual.ensures.1 c.in_err-count.ensures.looked
-
-pub returns-in_err-count-clause-variant : goal.returns-in_err-count-clause-variant
-returns-in_err-count-clause-variant g c = as_refusal _ _ _ _ c.from_residual.ensures.1 (named_kind _ _ c.in_err-count.ensures.variant)
-
-pub returns-clause-variant : goal.returns-clause-variant
-returns-clause-variant g c = IfErr-weaker _ _ _ (payload_kind _) c.pull_payload.ensures.variant

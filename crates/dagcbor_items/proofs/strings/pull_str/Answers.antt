@@ -1,8 +1,6 @@
-use Rattle.std.proofs.Common.{sym, subst, arith}
+use Rattle.std.proofs.Common.{sym, subst}
 use Rattle.std.specs.Prelude.{IsUtf8}
 use Rattle.dagcbor_items.proofs.StringReads.{text_string_taken, no_text_refused}
-use Rattle.dagcbor_items.proofs.Looks.{taken_more}
-use Rattle.dagcbor_heads.proofs.Looking.{taken_left}
 use Rattle.dagcbor_items.proofs.strings.pull_str.Goals as goal
 
 pub returns-in-Some-as_text-clause-text : goal.returns-in-Some-as_text-clause-text
@@ -16,21 +14,3 @@ returns-in-None-clause-text g c =
     let string = c.in-Some.ensures.taken in
     let told = c.no_text.ensures in
     rw told.1 (no_text_refused g.row.R-Error.Denot _ _ told.0 told.2 record { fits = string.1; takes = string.2 } c.in-None.ensures)
-
-pub returns-clause-text : goal.returns-clause-text
-returns-clause-text g c = rw c.in_default.ensures.taken at c.pull_str_slowly.ensures.text
-
-pub returns-clause-lent : goal.returns-clause-lent
-returns-clause-lent g c = rw c.in_default.ensures.taken at c.pull_str_slowly.ensures.lent
-
-pub returns-clause-looked : goal.returns-clause-looked
-returns-clause-looked g c = rw c.in_default.ensures.taken at c.pull_str_slowly.ensures.looked
-
-pub returns-clause-variant : goal.returns-clause-variant
-returns-clause-variant g c = c.pull_str_slowly.ensures.variant
-
-pub returns-in-Some-as_text-clause-looked : goal.returns-in-Some-as_text-clause-looked
-returns-in-Some-as_text-clause-looked g c = taken_more 2 (omega arith) c.in-Some.ensures.looked
-
-pub returns-in-None-clause-looked : goal.returns-in-None-clause-looked
-returns-in-None-clause-looked g c = taken_left (taken_more 2 (omega arith) c.in-Some.ensures.looked)

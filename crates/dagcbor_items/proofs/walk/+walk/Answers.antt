@@ -13,7 +13,6 @@ use Rattle.dagcbor_items.proofs.StringItems.{text_taken}
 use Rattle.dagcbor_items.proofs.Lists.{list_refused, list_taken, no_item_read, next_refused, one_item_read, all_items_read}
 use Rattle.dagcbor_items.proofs.Maps as maps
 use Rattle.dagcbor_items.proofs.Entering.{enters}
-use Rattle.dagcbor_items.proofs.PartRefusals.{depth_item, end_item, key_item}
 use Rattle.dagcbor_items.proofs.walk.+walk.Goals as goal
 
 pub walk_any-returns-in_err-spend_step-clause-item : goal.walk_any-returns-in_err-spend_step-clause-item
@@ -154,36 +153,3 @@ walk_item-returns-then-is_indefinite-clause-looked g t c = once_left_more 3 (ome
 
 pub walk_item-returns-clause-looked : goal.walk_item-returns-clause-looked
 walk_item-returns-clause-looked g t c = looks_behind_peek 3 _ _ c.in_ok-first.ensures.looked c.in_ok-first.ensures.shown c.walk_of_major.ensures.looked
-
-pub walk_any-returns-in_err-spend_step-clause-variant : goal.walk_any-returns-in_err-spend_step-clause-variant
-walk_any-returns-in_err-spend_step-clause-variant g t c = as_refusal _ _ _ _ c.from_residual.ensures.1 (depth_item _ _ c.in_err-spend_step.ensures.named)
-
-pub walk_any-returns-in_err-walk_item-clause-variant : goal.walk_any-returns-in_err-walk_item-clause-variant
-walk_any-returns-in_err-walk_item-clause-variant g t c = as_refusal _ _ _ _ c.from_residual-in_err-walk_item.ensures.1 c.in_err-walk_item.ensures.variant
-
-pub walk_item-returns-in_err-first-clause-variant : goal.walk_item-returns-in_err-first-clause-variant
-walk_item-returns-in_err-first-clause-variant g t c = as_refusal _ _ _ _ c.from_residual.ensures.1 (end_item _ _ c.in_err-first.ensures.variant)
-
-pub walk_item-returns-clause-variant : goal.walk_item-returns-clause-variant
-walk_item-returns-clause-variant g t c = c.walk_of_major.ensures.variant
-
-pub walk_list-returns-in_err-count-clause-variant : goal.walk_list-returns-in_err-count-clause-variant
-walk_list-returns-in_err-count-clause-variant g t c = as_refusal _ _ _ _ c.from_residual.ensures.1 c.in_err-count.ensures.variant
-
-pub walk_list-returns-in_err-walk_items-clause-variant : goal.walk_list-returns-in_err-walk_items-clause-variant
-walk_list-returns-in_err-walk_items-clause-variant g t c = as_refusal _ _ _ _ c.from_residual-in_err-walk_items.ensures.1 c.in_err-walk_items.ensures.variant
-
-pub walk_map-returns-in_err-count-clause-variant : goal.walk_map-returns-in_err-count-clause-variant
-walk_map-returns-in_err-count-clause-variant g t c = as_refusal _ _ _ _ c.from_residual.ensures.1 c.in_err-count.ensures.variant
-
-pub walk_map-returns-in_err-walk_entries-clause-variant : goal.walk_map-returns-in_err-walk_entries-clause-variant
-walk_map-returns-in_err-walk_entries-clause-variant g t c = as_refusal _ _ _ _ c.from_residual-in_err-walk_entries.ensures.1 c.in_err-walk_entries.ensures.variant
-
-pub walk_items-returns-in_err-walk_any-clause-variant : goal.walk_items-returns-in_err-walk_any-clause-variant
-walk_items-returns-in_err-walk_any-clause-variant g t c = as_refusal _ _ _ _ c.from_residual.ensures.1 c.in_err-walk_any.ensures.variant
-
-pub walk_entries-returns-in_err-key-clause-variant : goal.walk_entries-returns-in_err-key-clause-variant
-walk_entries-returns-in_err-key-clause-variant g t c = as_refusal _ _ _ _ c.from_residual.ensures.1 (key_item _ c.in_err-key.ensures.variant)
-
-pub walk_entries-returns-in_err-walk_any-clause-variant : goal.walk_entries-returns-in_err-walk_any-clause-variant
-walk_entries-returns-in_err-walk_any-clause-variant g t c = as_refusal _ _ _ _ c.from_residual-in_err-walk_any.ensures.1 c.in_err-walk_any.ensures.variant

@@ -3,7 +3,6 @@ use Rattle.dagcbor_heads.proofs.Refusing.{as_refusal}
 use Rattle.dagcbor_items.proofs.Fronts.{head_refused}
 use Rattle.dagcbor_items.proofs.Looks.{head_taken}
 use Rattle.dagcbor_items.proofs.Walking.{integer_taken}
-use Rattle.dagcbor_items.proofs.PartRefusals.{named_item}
 use Rattle.dagcbor_items.proofs.walk.skip_integer.Goals as goal
 
 pub returns-in_err-pull_head_argument-clause-item : goal.returns-in_err-pull_head_argument-clause-item
@@ -14,6 +13,3 @@ returns-clause-item g c = integer_taken c.requires.starts c.requires.major c.in_
 
 pub returns-clause-looked : goal.returns-clause-looked
 returns-clause-looked g c = head_taken c.in_ok-pull_head_argument.ensures.looked c.in_ok-pull_head_argument.ensures.taken.2
-
-pub returns-in_err-pull_head_argument-clause-variant : goal.returns-in_err-pull_head_argument-clause-variant
-returns-in_err-pull_head_argument-clause-variant g c = as_refusal _ _ _ _ c.from_residual.ensures.1 (named_item _ _ c.in_err-pull_head_argument.ensures.variant)

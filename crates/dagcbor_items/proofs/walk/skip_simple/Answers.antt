@@ -3,8 +3,6 @@ use Rattle.std.proofs.Common.{arith}
 use Rattle.dagcbor_items.proofs.Leaves.{unsupported_refused}
 use Rattle.dagcbor_items.proofs.Walking.{simple_taken}
 use Rattle.dagcbor_items.proofs.walk.skip_simple.Goals as goal
-use Rattle.dagcbor_heads.proofs.Refusing.{as_refusal}
-use Rattle.dagcbor_items.proofs.PartRefusals.{end_item}
 use Rattle.dagcbor_items.proofs.walk.skip_simple.Goals.{then-first-lt244-via-then-first-lt244, then-first-lt244-via-else-first-lt244+then-first-gt246}
 
 pub returns-then-first-lt244-clause-item : goal.returns-then-first-lt244-clause-item
@@ -18,6 +16,3 @@ returns-then-first-lt244-clause-item g c =
 
 pub returns-clause-item : goal.returns-clause-item
 returns-clause-item g c = simple_taken c.args.first _ c.requires.starts (omega (arith, c.if-first-lt244.false)) (omega (arith, c.if-first-gt246.false)) c.in_ok-pull_one.ensures.taken
-
-pub returns-in_err-pull_one-clause-variant : goal.returns-in_err-pull_one-clause-variant
-returns-in_err-pull_one-clause-variant g c = as_refusal _ _ _ _ c.from_residual.ensures.1 (end_item _ _ c.in_err-pull_one.ensures.variant)

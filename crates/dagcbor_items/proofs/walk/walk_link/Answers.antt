@@ -7,7 +7,6 @@ use Rattle.dagcbor_items.proofs.Links.{item_link, link_refused}
 use Rattle.dagcbor_items.specs.Walks.{WalkLacks}
 use Rattle.dagcbor_items.proofs.Steps.{more_lacks}
 use Rattle.dagcbor_items.proofs.Walking.{none_handed}
-use Rattle.dagcbor_items.proofs.PartRefusals.{link_item}
 use Rattle.dagcbor_items.proofs.walk.walk_link.Goals as goal
 
 pub returns-in_err-cid-clause-item : goal.returns-in_err-cid-clause-item
@@ -31,6 +30,3 @@ returns-in-Ok-clause-looked g c = c.in_ok-cid.ensures.peeked c.requires
 
 pub returns-in-Err-clause-looked : goal.returns-in-Err-clause-looked
 returns-in-Err-clause-looked g c = taken_left (c.in_ok-cid.ensures.peeked c.requires)
-
-pub returns-in_err-cid-clause-variant : goal.returns-in_err-cid-clause-variant
-returns-in_err-cid-clause-variant g c = as_refusal _ _ _ _ c.from_residual.ensures.1 (link_item _ c.in_err-cid.ensures.variant)

@@ -3,7 +3,7 @@
 use crate::tests::sections::NUMBERS;
 use dagcbor_blocks::{Blocks, name_of};
 use dagcbor_testing::{LINK, agree, is_told};
-use serde_ipld_dagcbor::{Cid, Deserialize, Ipld, from_slice};
+use serde_ipld_dagcbor::{Cid, Deserialize, Ipld, Serialize, from_slice};
 use std::alloc::{AllocError, Global};
 use std::fmt::Debug;
 use std::test::Fail;
@@ -29,9 +29,14 @@ pub(crate) fn lacks(blocks: &Blocks, missing: &[Cid]) -> Result<(), Fail> {
     agree(blocks.missing()?.as_slice(), missing)
 }
 
+/// Puts the value, and answers its name.
+fn put<T: Serialize>(blocks: &mut Blocks, value: &T) -> Result<Cid, Fail> {
+    Ok(blocks.put(value)?)
+}
+
 /// Fails where the numbers get another name, or anything leads nowhere then but this.
 fn keeps_numbers(alloc: Global, blocks: &mut Blocks, name: Cid, foo: Cid) -> Result<(), Fail> {
-    agree(blocks.put(&numbers(alloc)?)?, name)?;
+    agree(put(blocks, &numbers(alloc)?)?, name)?;
     lacks(blocks, &[foo])
 }
 
@@ -47,7 +52,7 @@ fn blocks_are_kept(rt: HostRuntime) -> Result<(), Fail> {
     let foo: Cid = from_slice(alloc, LINK)?;
     let mut blocks = Blocks::new(alloc);
     lacks(&blocks, &[])?;
-    let top = blocks.put(&parent(alloc, name, foo)?)?;
+    let top = put(&mut blocks, &parent(alloc, name, foo)?)?;
     lacks(&blocks, &[foo, name])?;
     for _ in 0..2 {
         keeps_numbers(alloc, &mut blocks, name, foo)?;
@@ -83,7 +88,7 @@ fn blocks_are_read(rt: HostRuntime) -> Result<(), Fail> {
 fn other_types_are_refused(rt: HostRuntime) -> Result<(), Fail> {
     let alloc = rt.alloc();
     let mut blocks = Blocks::new(alloc);
-    let name = blocks.put(&numbers(alloc)?)?;
+    let name = put(&mut blocks, &numbers(alloc)?)?;
     let refused = r#"Err(Decode(Mismatch { name: "string", found: 131 }))"#;
     gives::<String>(alloc, &blocks, &name, refused)?;
     gives::<Ipld>(alloc, &blocks, &from_slice(alloc, LINK)?, "Ok(None)")
@@ -121,7 +126,7 @@ fn refuses_number(alloc: Global, blocks: &mut Blocks) -> Result<(), Fail> {
 fn refusals_change_nothing(rt: HostRuntime) -> Result<(), Fail> {
     let alloc = rt.alloc();
     let mut blocks = Blocks::new(alloc);
-    let name = blocks.put(&numbers(alloc)?)?;
+    let name = put(&mut blocks, &numbers(alloc)?)?;
     refuses_depth(alloc, &mut blocks)?;
     refuses_number(alloc, &mut blocks)?;
     gives::<Vec<u8>>(alloc, &blocks, &name, "Ok(Some([1, 2, 3]))")

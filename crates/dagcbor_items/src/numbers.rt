@@ -45,7 +45,7 @@ fn signed_of(number: i128, greatest: u64) -> Option<i128>
     Some(number)
 }
 
-/// The same byte by byte: a refusal names its cause.
+/// A number from 0 to `greatest`, byte by byte: a refusal names its cause.
 #[tactic(auto, using(crate::proofs::PartRefusals::kind_number))]
 #[cold]
 #[inline(never)]

@@ -3,6 +3,7 @@
 What is wanted of a file is what `Judge` finds, which reads its framing and digests by itself; what its blocks are stands in
 `BLOCKS`, by hand. None is copied from a run."""
 
+import base64
 import hashlib
 import resource
 import subprocess
@@ -19,6 +20,17 @@ def varint(number):
 def cid(block, codec=0x71):
     """The CID of version 1 by SHA-256."""
     return b"\x01" + varint(codec) + b"\x12\x20" + hashlib.sha256(block).digest()
+
+
+def text_of(name):
+    """A CID as the program prints it: base32, and of version 0 base58btc."""
+    if name[:1] != b"\x12":
+        return "b" + base64.b32encode(name).decode().rstrip("=").lower()
+    number, text = int.from_bytes(name, "big"), ""
+    while number:
+        number, digit = divmod(number, 58)
+        text = "123456789ABCDEFGHJKLMNPQRSTUVWXYZabcdefghijkmnopqrstuvwxyz"[digit] + text
+    return text
 
 
 def counted(body):
@@ -99,15 +111,15 @@ class Judge:
         if block in NO_HEADERS:
             raise Refusal(NO_HEADERS[block])
         self.linked.update(HEADERS[block])
-        self.listed += [f"root {root.hex()}" for root in HEADERS[block]]
+        self.listed += [f"root {text_of(root)}" for root in HEADERS[block]]
 
     def section(self):
         body = self.counted()
         codec, hash_code, digest, end = self.name(body)
         found = self.verdict(codec, hash_code, digest, body[end:])
         self.is_well = self.is_well and (found == "not read" or found.startswith("ok "))
-        self.checked.append(f"{body[:end].hex()} {found}")
-        self.listed.append(f"{body[:end].hex()} {len(body) - end}")
+        self.checked.append(f"{text_of(body[:end])} {found}")
+        self.listed.append(f"{text_of(body[:end])} {len(body) - end}")
         if found not in ("other bytes", "not verified"):
             self.held.add(body[:end])
         if found.startswith("ok "):
@@ -130,7 +142,7 @@ class Judge:
 
     @staticmethod
     def verdict(codec, hash_code, digest, block):
-        if hash_code not in (0x12, 0):
+        if hash_code not in (0x12, 0) or (hash_code and len(digest) != 32):
             return "not verified"
         if digest != (hashlib.sha256(block).digest() if hash_code else block):
             return "other bytes"
@@ -143,7 +155,7 @@ class Judge:
         else:
             # The order of CIDs: these here are all of version 1, of one codec and by one hash function.
             missing = [] if self.refusal else sorted(self.linked - self.held)
-            lines = self.checked + self.refusal + [f"missing {it.hex()}" for it in missing]
+            lines = self.checked + self.refusal + [f"missing {text_of(it)}" for it in missing]
             status = 0 if self.is_well and not missing and not self.refusal else 1
         return status, "".join(it + "\n" for it in lines).encode()
 
@@ -171,7 +183,7 @@ def files():
     names = (b"\x02\x71\x12\x00", b"\x01\x71\x12\x41", b"\x01\xf1\x00\x12\x00", b"\x12\x20\x00", b"\x01\x71", b"\x01\x71\x12\x20")
     yield "names that are none", [SMALL + section(NUMBERS, name=it) for it in names]
     yield "headers that are none", [counted(it) + section(NUMBERS) for it in NO_HEADERS]
-    rows = [(b"\x05", b"\x01\x71\x00\x01\x05"), (b"\x05", b"\x01\x71\x13\x01\x05"), (b"\x05", b"\x01\x71\x00\x01\x06")]
+    rows = [(b"\x05", b"\x01\x71\x00\x01\x05"), (b"\x05", b"\x01\x71\x13\x01\x05"), (b"\x05", b"\x01\x71\x00\x01\x06"), (b"\x05", b"\x01\x71\x12\x01\x05")]
     yield "other hash functions", [counted(header()) + b"".join(section(block, name=name) for block, name in rows)]
 
 

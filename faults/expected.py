@@ -258,6 +258,9 @@ RUNS |= {
     "name_of": Plain(f"Ok({0x71})"),
 }
 
+# The check of a file: after a refused `take` it takes and lists nothing.
+RUNS["take of a check"] = Plain("(true, true, Ok(1))", "(false, false, Err(AllocError))")
+
 for count in (0, 1, 4, 8, 11, 16, 32):
     RUNS[f"put into {count}"] = Plain("(true, None, false)", STORED)
 

@@ -1,5 +1,5 @@
-/* Calls each export for each row of its table: call TABLE SECTIONS. Prints the number of rows, or
- * the row that is answered otherwise. */
+/* Calls each export for each row of its table: call TABLE SECTIONS TEXTS. Prints the number of
+ * rows, or the row that is answered otherwise. */
 #include "dagcbor.h"
 #include <stdio.h>
 #include <stdlib.h>
@@ -108,6 +108,37 @@ static int is_right_section(char *const field[3]) {
     return memcmp(places, wanted, sizeof wanted) == 0;
 }
 
+/* A call that puts bytes into room, in which all that it needs stands, or nothing changes. */
+typedef int32_t Putter(const uint8_t *, size_t, uint8_t *, size_t, size_t *);
+
+static int puts_right(Putter *put, const uint8_t *bytes, size_t length, int code,
+                      const uint8_t *wanted, size_t count) {
+    static uint8_t out[MOST];
+    size_t needed = 99;
+    memset(out, 0xee, sizeof out);
+    /* Asked with one byte too few it tells how many are needed, and puts none. */
+    if (put(bytes, length, out, count ? count - 1 : 0, &needed) != (count ? DAGCBOR_NO_ROOM : code))
+        return 0;
+    if (needed != count || out[0] != 0xee) return 0;
+    if (put(bytes, length, dagcbor_into(NULL, 0), 0, &needed) != (count ? DAGCBOR_NO_ROOM : code))
+        return 0;
+    if (needed != count || put(bytes, length, out, count, &needed) != code || needed != count)
+        return 0;
+    return memcmp(out, wanted, count) == 0 && out[count] == 0xee;
+}
+
+/* A text is read as its CID, which is written, and so is no front of it. */
+static int is_right_text(char *const field[4]) {
+    static uint8_t cid[MOST];
+    size_t length = strcmp(field[0], "-") ? strlen(field[0]) : 0, count = from_hex(field[2], cid, 0);
+    const uint8_t *text = dagcbor_from((const uint8_t *)field[0], length);
+    const uint8_t *written = (const uint8_t *)field[3];
+    if (!puts_right(dagcbor_cid_from_text, text, length, atoi(field[1]), cid, count)) return 0;
+    if (count == 0) return 1;
+    return puts_right(dagcbor_cid_text, cid, count, 0, written, strlen(field[3])) &&
+           puts_right(dagcbor_cid_text, cid, count - 1, DAGCBOR_INVALID_CID, written, 0);
+}
+
 /* The number of rows, each of so many words; or none where one is answered otherwise. */
 static int rows_of(const char *name, int words, int is_right(char *const *)) {
     static char line[4 * MOST];
@@ -127,7 +158,9 @@ static int rows_of(const char *name, int words, int is_right(char *const *)) {
 }
 
 int main(int count, char **words) {
-    int blocks = count == 3 ? rows_of(words[1], 6, is_right_block) : 0;
-    int sections = count == 3 ? rows_of(words[2], 3, is_right_section) : 0;
-    return printf("%d blocks, %d sections\n", blocks, sections), !blocks || !sections;
+    int blocks = count == 4 ? rows_of(words[1], 6, is_right_block) : 0;
+    int sections = count == 4 ? rows_of(words[2], 3, is_right_section) : 0;
+    int texts = count == 4 ? rows_of(words[3], 4, is_right_text) : 0;
+    printf("%d blocks, %d sections, %d texts\n", blocks, sections, texts);
+    return !blocks || !sections || !texts;
 }

@@ -588,18 +588,29 @@ static napi_value name(napi_env env, napi_callback_info info) {
     return new_cid(env, out, sizeof out);
 }
 
-/* Whether the library takes the link of these bytes for a block. */
-static napi_value is_cid(napi_env env, napi_callback_info info) {
+/* The text of a CID. */
+static napi_value cid_text(napi_env env, napi_callback_info info) {
     size_t length, needed;
-    uint8_t block[128];
+    uint8_t text[DAGCBOR_CID_TEXT_MOST];
     const uint8_t *bytes = bytes_of(env, info, &length);
     napi_value answer;
     if (!bytes) return NULL;
-    dagcbor_token link = {DAGCBOR_LINK, length, 0};
-    TRY(napi_get_boolean(
-        env, dagcbor_spell(bytes, length, &link, 1, block, sizeof block, &needed) == DAGCBOR_LINK,
-        &answer));
+    int32_t code = dagcbor_cid_text(bytes, length, text, sizeof text, &needed);
+    if (code < 0) return refuse(env, code, NULL);
+    TRY(napi_create_string_latin1(env, (const char *)text, needed, &answer));
     return answer;
+}
+
+/* The binary form of the CID of a text. */
+static napi_value cid_from_text(napi_env env, napi_callback_info info) {
+    size_t length, needed;
+    char text[256]; /* the front of a longer one is too long likewise */
+    uint8_t cid[DAGCBOR_CID_MOST];
+    napi_value given = argument(env, info);
+    if (!given) return NULL;
+    TRY(napi_get_value_string_utf8(env, given, text, sizeof text, &length));
+    int32_t code = dagcbor_cid_from_text((const uint8_t *)text, length, cid, sizeof cid, &needed);
+    return code < 0 ? refuse(env, code, NULL) : copied(env, cid, needed);
 }
 
 static void end(napi_env env, void *state, void *hint) {
@@ -638,7 +649,8 @@ NAPI_MODULE_INIT() {
         const char *name;
         napi_callback call;
     } all[] = {{"start", start}, {"decode", decode}, {"encode", encode}, {"check", check},
-               {"tape", tape},   {"links", links},   {"name", name},     {"is_cid", is_cid}};
+               {"tape", tape},   {"links", links},   {"name", name},     {"cid_text", cid_text},
+               {"cid_from_text", cid_from_text}};
     if (!has_processor()) return raise(env, "dagcbor wants an x86-64-v2 processor");
     for (size_t i = 0; i < sizeof all / sizeof *all; i++) {
         napi_value call;

@@ -20,7 +20,7 @@ export type Data =
 
 export type Kind = 'null' | 'bool' | 'integer' | 'string' | 'bytes' | 'list' | 'map' | 'link';
 
-/** Bytes that are no block, or a value that has none. */
+/** Bytes that are no block, a value that has none, or what is no CID. */
 export class DagCborError extends Error {
   readonly kind:
     | 'Msg'
@@ -33,15 +33,24 @@ export class DagCborError extends Error {
     | 'TrailingData'
     | 'IndefiniteSize'
     | 'NonMinimal'
-    | 'UnorderedKey';
+    | 'UnorderedKey'
+    | 'InvalidCid'
+    | 'UnknownBase'
+    | 'TooLong'
+    | 'InvalidCharacter'
+    | 'InvalidLength'
+    | 'TrailingBits'
+    | 'LeadingZero'
+    | 'InvalidVersion';
 }
 
 export class CID {
-  /** Of the binary form, or of the text in base58 (version 0) or base32 (version 1). */
+  /** Of the binary form, or of the text: Qm.. of version 0, and of version 1 behind b, B, z or f. */
   constructor(value: Uint8Array | string);
   /** A copy of the binary form. */
   get bytes(): Uint8Array;
   equals(other: unknown): boolean;
+  /** The text: Qm.. of version 0, and base32 behind b of version 1. */
   toString(): string;
   toJSON(): { '/': string };
 }

@@ -19,6 +19,14 @@ const REASONS = {
   [-15]: ['IndefiniteSize', 'an indefinite length or a break'],
   [-16]: ['NonMinimal', 'a number or a length in more bytes than it needs'],
   [-17]: ['UnorderedKey', 'a key that does not come behind the one before it'],
+  [-26]: ['InvalidCid', 'the bytes are no CID'],
+  [-28]: ['UnknownBase', 'the first character of the text names no base that is read here'],
+  [-29]: ['TooLong', 'the text is longer than that of any CID'],
+  [-30]: ['InvalidCharacter', 'a character is not in the alphabet of the base'],
+  [-31]: ['InvalidLength', 'the last character begins a byte and does not end it'],
+  [-32]: ['TrailingBits', 'bits that are not zero stand behind the last byte'],
+  [-33]: ['LeadingZero', 'the text begins with a zero byte, as no CID does'],
+  [-34]: ['InvalidVersion', 'version 0 has no prefix, and version 1 has one'],
 };
 
 class DagCborError extends Error {
@@ -34,54 +42,6 @@ const refused = (code, said) => {
   return new DagCborError(kind, said ?? reason);
 };
 
-const BASE32 = 'abcdefghijklmnopqrstuvwxyz234567';
-const BASE58 = '123456789ABCDEFGHJKLMNPQRSTUVWXYZabcdefghijkmnopqrstuvwxyz';
-
-// Digits of five bits each, with zeros behind the last byte's bits.
-const toBase32 = (bytes) => {
-  let [text, held, bits] = ['', 0, 0];
-  for (const byte of bytes) {
-    held = ((held << 8) | byte) & 0xfff;
-    for (bits += 8; bits >= 5; bits -= 5) text += BASE32[(held >> (bits - 5)) & 31];
-  }
-  return bits ? text + BASE32[(held << (5 - bits)) & 31] : text;
-};
-
-const fromBase32 = (text) => {
-  let [held, bits] = [0, 0];
-  const bytes = [];
-  for (const digit of text) {
-    held = ((held << 5) | BASE32.indexOf(digit)) & 0xfff;
-    bits += 5;
-    if (bits >= 8) bytes.push((held >> (bits -= 8)) & 0xff);
-  }
-  return Uint8Array.from(bytes);
-};
-
-const toBase58 = (bytes) => {
-  let [text, number] = ['', BigInt(`0x${Buffer.from(bytes).toString('hex')}`)];
-  for (; number; number /= 58n) text = BASE58[number % 58n] + text;
-  return text;
-};
-
-const fromBase58 = (text) => {
-  let number = 0n;
-  for (const digit of text) number = number * 58n + BigInt(BASE58.indexOf(digit));
-  const digits = number.toString(16);
-  return Uint8Array.from(Buffer.from(digits.length % 2 ? `0${digits}` : digits, 'hex'));
-};
-
-const toText = (bytes) => (bytes[0] === 0x12 ? toBase58(bytes) : `b${toBase32(bytes)}`);
-
-// What the text of base32 or base58 tells. What another text is told by is nothing: so one with a
-// digit that there is not, or with bits left over.
-const fromText = (text) => {
-  const nothing = new Uint8Array();
-  if (!/^[1-9A-Za-z]{1,200}$/.test(text)) return nothing;
-  const bytes = text[0] === 'b' ? fromBase32(text.slice(1)) : fromBase58(text);
-  return toText(bytes) === text ? bytes : nothing;
-};
-
 const MADE = Symbol('made'); // by the library
 let bytesOf; // a CID's; of anything else undefined
 
@@ -94,9 +54,12 @@ class CID {
   }
 
   constructor(value, made) {
-    const bytes = typeof value === 'string' ? fromText(value) : value;
-    if (made !== MADE && !native.is_cid(bytes)) throw refused(-1);
-    this.#bytes = made === MADE ? bytes : Uint8Array.from(bytes);
+    if (made === MADE) this.#bytes = value;
+    else if (typeof value === 'string') this.#bytes = native.cid_from_text(value);
+    else {
+      native.cid_text(value); // which refuses what is no CID
+      this.#bytes = Uint8Array.from(value);
+    }
     Object.freeze(this);
   }
 
@@ -110,7 +73,7 @@ class CID {
   }
 
   toString() {
-    return toText(this.#bytes);
+    return native.cid_text(this.#bytes);
   }
 
   toJSON() {

@@ -34,7 +34,7 @@ made = tempfile.TemporaryDirectory(prefix="dagcbor-")  # it is there until this 
 native = Extension(
     "dagcbor._native",
     sources=["src/_native.c"],
-    include_dirs=[include, "src", os.path.join(CALLERS, "c")],
+    include_dirs=[include, os.path.join(CALLERS, "c")],
     extra_objects=[archive],
     extra_compile_args=["-std=c11", "-Wall", "-Wextra", "-fvisibility=hidden"],
     extra_link_args=["-Wl,--exclude-libs,ALL"],

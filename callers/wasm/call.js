@@ -1,5 +1,5 @@
-// node --experimental-wasm-memory64 call.js dagcbor_ffi.wasm TABLE (later versions want no flag)
-// Holds the module against each row of the table.
+// node --experimental-wasm-memory64 call.js dagcbor_ffi.wasm TABLE TEXTS (later versions want no
+// flag). Holds the module against each row of the tables.
 'use strict';
 const { readFileSync } = require('fs');
 
@@ -21,13 +21,24 @@ const isRight = ({ check, tape, spell, links, name }, row) => {
   return hex(spell(block, words)) === hex(block);
 };
 
+const isRightText = ({ cidText, cidFromText }, [text, code, cid, written]) => {
+  const read = cidFromText(text === '-' ? '' : text);
+  if (Number(code) < 0) return String(read) === code;
+  return hex(read) === cid && cidText(read) === written && cidText(read.subarray(1)) === -26;
+};
+
+const rowsOf = (table) => {
+  const lines = readFileSync(table, 'ascii').split('\n');
+  return lines.filter((it) => it && !it.startsWith('#')).map((it) => it.split(' '));
+};
+
 const main = async () => {
   const module = await require('./dagcbor.js').load(readFileSync(process.argv[2]));
-  const lines = readFileSync(process.argv[3], 'ascii').split('\n');
-  const rows = lines.filter((it) => it && !it.startsWith('#')).map((it) => it.split(' '));
-  const wrong = rows.find((it) => !isRight(module, it));
-  console.log(wrong ? `wrong: ${wrong[0]}` : `${rows.length} rows`);
-  process.exitCode = wrong || !rows.length ? 1 : 0;
+  const [blocks, texts] = process.argv.slice(3).map(rowsOf);
+  const wrong =
+    blocks.find((it) => !isRight(module, it)) ?? texts.find((it) => !isRightText(module, it));
+  console.log(wrong ? `wrong: ${wrong[0]}` : `${blocks.length} blocks, ${texts.length} texts`);
+  process.exitCode = wrong || !blocks.length || !texts.length ? 1 : 0;
 };
 
 main();

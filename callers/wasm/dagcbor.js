@@ -1,14 +1,17 @@
 // The WebAssembly module for JavaScript:
-// const { check, tape, spell, links, name } = await load(bytesOfTheModule).
+// const { check, tape, spell, links, name, cidText, cidFromText } = await load(bytesOfTheModule).
 // It imports nothing, and has a 64-bit memory: addresses and lengths are BigInts.
 const PAGE = 65536;
 const NO_ROOM = -21;
+const CID_MOST = 86;
+const CID_TEXT_MOST = 139;
 
 exports.load = async (module) => {
   const { instance } = await WebAssembly.instantiate(module);
   const { memory, __heap_base } = instance.exports;
   const { dagcbor_check, dagcbor_tape, dagcbor_spell, dagcbor_links, dagcbor_name } =
     instance.exports;
+  const { dagcbor_cid_text, dagcbor_cid_from_text } = instance.exports;
   const base = Number(__heap_base.value); // what stands from here on is the host's
   const grow = (pages) => {
     try {
@@ -30,10 +33,11 @@ exports.load = async (module) => {
     all.set(block, 64);
     return [BigInt(base + 64), BigInt(block.length)];
   };
-  const linksInto = (block, room) => {
-    const given = put(block, room);
-    const out = 64 + block.length;
-    const code = dagcbor_links(...given, BigInt(base + out), BigInt(room), BigInt(base));
+  // What a call of the bytes puts into so much room.
+  const into = (call, bytes, room) => {
+    const given = put(bytes, room);
+    const out = 64 + bytes.length;
+    const code = call(...given, BigInt(base + out), BigInt(room), BigInt(base));
     const needed = Number(new DataView(memory.buffer, base, 8).getBigUint64(0, true));
     return { code, needed, packed: view(out + room).slice(out, out + needed) };
   };
@@ -72,9 +76,9 @@ exports.load = async (module) => {
     },
     // The number of a refusal, or CIDs.
     links: (block) => {
-      const { code, needed } = linksInto(block, 0);
+      const { code, needed } = into(dagcbor_links, block, 0);
       if (code < 0) return code;
-      const { packed } = linksInto(block, needed);
+      const { packed } = into(dagcbor_links, block, needed);
       const found = [];
       for (let at = 0; at < needed; at += 1 + packed[at]) {
         found.push(packed.slice(at + 1, at + 1 + packed[at]));
@@ -84,6 +88,16 @@ exports.load = async (module) => {
     name: (block) => {
       dagcbor_name(...put(block, 1), BigInt(base));
       return view(36).slice();
+    },
+    // The number of a refusal, or the text of a CID.
+    cidText: (bytes) => {
+      const { code, packed } = into(dagcbor_cid_text, bytes, CID_TEXT_MOST);
+      return code < 0 ? code : String.fromCharCode(...packed);
+    },
+    // The number of a refusal, or the CID of a text.
+    cidFromText: (text) => {
+      const { code, packed } = into(dagcbor_cid_from_text, new TextEncoder().encode(text), CID_MOST);
+      return code < 0 ? code : packed;
     },
   };
 };

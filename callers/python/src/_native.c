@@ -10,7 +10,6 @@
 
 #define WRITER_REALLOC PyMem_Realloc
 #define WRITER_FREE PyMem_Free
-#include "cid_text.h"
 #include "dagcbor.h"
 #include "writer.h"
 
@@ -83,43 +82,47 @@ static void cid_dealloc(PyObject *self) {
     Py_DECREF(type);
 }
 
-/* Whether the library takes the link of these bytes for a block. */
-static bool is_cid(const uint8_t *bytes, size_t length) {
-    dagcbor_token link = {DAGCBOR_LINK, length, 0};
-    uint8_t block[CID_MOST + 5];
+static PyObject *cid_from_text(PyTypeObject *type, State *state, PyObject *given) {
+    uint8_t cid[DAGCBOR_CID_MOST];
     size_t needed;
-    return dagcbor_spell(bytes, length, &link, 1, block, sizeof block, &needed) == DAGCBOR_LINK;
+    Py_ssize_t length;
+    const char *text = PyUnicode_AsUTF8AndSize(given, &length);
+    if (!text) return NULL;
+    int32_t code =
+        dagcbor_cid_from_text((const uint8_t *)text, (size_t)length, cid, sizeof cid, &needed);
+    return code < 0 ? refuse_code(state, code, Py_None) : new_cid(type, cid, needed);
 }
 
-static PyObject *cid_new(PyTypeObject *type, PyObject *args, PyObject *named) {
-    PyObject *given, *bytes = NULL, *cid = NULL;
-    State *state = PyType_GetModuleState(type);
-    uint8_t out[CID_MOST];
-    Py_ssize_t length;
-    if (named && PyDict_Size(named))
-        return PyErr_SetString(PyExc_TypeError, "CID() takes no keyword"), NULL;
-    if (!state || !PyArg_ParseTuple(args, "O:CID", &given)) return NULL;
-    if (PyUnicode_Check(given)) {
-        const char *text = PyUnicode_AsUTF8AndSize(given, &length);
-        if (!text) return NULL;
-        size_t count = cid_from_text(text, (size_t)length, out);
-        bytes = PyBytes_FromStringAndSize((const char *)out, (Py_ssize_t)count);
-    } else {
-        bytes = to_bytes(given);
-    }
+/* Its text is not wanted, but whether it has one. */
+static PyObject *cid_from_bytes(PyTypeObject *type, State *state, PyObject *given) {
+    uint8_t text[DAGCBOR_CID_TEXT_MOST];
+    size_t needed;
+    PyObject *cid = NULL, *bytes = to_bytes(given);
     if (!bytes) return NULL;
-    if (is_cid(bytes_of(bytes), length_of(bytes)))
-        cid = new_cid(type, bytes_of(bytes), length_of(bytes));
-    else refuse_code(state, DAGCBOR_MSG, Py_None);
+    int32_t code =
+        dagcbor_cid_text(bytes_of(bytes), length_of(bytes), text, sizeof text, &needed);
+    if (code < 0) refuse_code(state, code, Py_None);
+    else cid = new_cid(type, bytes_of(bytes), length_of(bytes));
     Py_DECREF(bytes);
     return cid;
 }
 
+static PyObject *cid_new(PyTypeObject *type, PyObject *args, PyObject *named) {
+    PyObject *given;
+    State *state = PyType_GetModuleState(type);
+    if (named && PyDict_Size(named))
+        return PyErr_SetString(PyExc_TypeError, "CID() takes no keyword"), NULL;
+    if (!state || !PyArg_ParseTuple(args, "O:CID", &given)) return NULL;
+    return PyUnicode_Check(given) ? cid_from_text(type, state, given)
+                                  : cid_from_bytes(type, state, given);
+}
+
 static PyObject *cid_str(PyObject *self) {
     PyObject *bytes = ((Cid *)self)->bytes;
-    char text[CID_TEXT_MOST];
-    size_t length = cid_text(bytes_of(bytes), length_of(bytes), text);
-    return PyUnicode_FromStringAndSize(text, (Py_ssize_t)length);
+    uint8_t text[DAGCBOR_CID_TEXT_MOST];
+    size_t length;
+    dagcbor_cid_text(bytes_of(bytes), length_of(bytes), text, sizeof text, &length);
+    return PyUnicode_FromStringAndSize((const char *)text, (Py_ssize_t)length);
 }
 
 static PyObject *cid_repr(PyObject *self) {
@@ -153,7 +156,8 @@ static PyMethodDef cid_methods[] = {
 
 static PyType_Slot cid_slots[] = {
     {Py_tp_doc,
-     "CID(value): a CID, of its binary form, or of its text in base58 or base32.\n\n"
+     "CID(value): a CID, of its binary form, or of its text: Qm.. of version 0, and of version 1\n"
+     "behind b, B, z or f.\n\n"
      "bytes(cid) is its binary form, and str(cid) its text. CIDs compare as their bytes."},
     {Py_tp_new, cid_new},
     {Py_tp_dealloc, cid_dealloc},

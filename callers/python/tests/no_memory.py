@@ -27,7 +27,7 @@ CALLS = [
     (name, BLOCK, name(BLOCK)), (CID, TEXT, CIDS[0]), (CID, bytes(CIDS[0]), CIDS[0]),
     (str, CIDS[0], TEXT), (repr, CIDS[0], f"CID('{TEXT}')"),
     (dumps, BAD, "CastOverflow"), (loads, BLOCK[:-1], "Eof"), (check, b"\x18\x17", "NonMinimal"),
-    (dumps, [1.5], "Unsupported"), (CID, b"", "Msg"),
+    (dumps, [1.5], "Unsupported"), (CID, b"", "InvalidCid"),
 ]
 
 

@@ -1,6 +1,7 @@
 """What is refused, and how it is told."""
 
 import copy
+import os
 import pickle
 
 import pytest
@@ -103,32 +104,36 @@ def test_cid():
     assert loads(dumps({"a": cid})) == {"a": cid}
 
 
-EMPTY = "e3b0c44298fc1c149afbf4c8996fb92427ae41e4649b934ca495991b7852b855"  # sha256sum of nothing
-
-# The multicodec and multibase tables tell these texts of the digest of nothing.
-TEXTS = [
-    ("QmdfTbBqBPQ7VNxZEYEj14VmRuZBkqFbiwReogJgS1zR1n", "1220" + EMPTY),
-    ("bafybeihdwdcefgh4dqkjv67uzcmw7ojee6xedzdetojuzjevtenxquvyku", "01701220" + EMPTY),
-]
+TEXT_REFUSALS = {
+    -26: "InvalidCid", -28: "UnknownBase", -29: "TooLong", -30: "InvalidCharacter",
+    -31: "InvalidLength", -32: "TrailingBits", -33: "LeadingZero", -34: "InvalidVersion",
+}
 
 
-@pytest.mark.parametrize("text, binary", TEXTS)
-def test_cid_texts(text, binary):
-    cid = CID(text)
-    assert bytes(cid).hex() == binary and str(cid) == text
+def rows_of_texts():
+    table = os.path.join(os.path.dirname(os.path.abspath(__file__)), "..", "..", "texts.txt")
+    with open(table, encoding="ascii") as lines:
+        return [line.split() for line in lines if not line.startswith("#")]
 
 
-@pytest.mark.parametrize("given", [
-    "", "b", "z", "Qm", "Q" * 46, "1" * 46, "b" + "a" * 60, "x00", "bafy!", "bafy\0",
-    "BAFYBEIHDWDCEFGH4DQKJV67UZCMW7OJEE6XEDZDETOJUZJEVTENXQUVYKU",
-    "zQmdfTbBqBPQ7VNxZEYEj14VmRuZBkqFbiwReogJgS1zR1n",
-    "bafybeihdwdcefgh4dqkjv67uzcmw7ojee6xedzdetojuzjevtenxquvykv",
-    "bafybeihdwdcefgh4dqkjv67uzcmw7ojee6xedzdetojuzjevtenxquvykua", "é" * 20, "z" * 5000,
-    "b" * 5000, b"", b"\x01", b"\0" * 36, b"\x01\x71\x12\x20", b"\x01" * 300,
-    b"\x12\x20" + b"\0" * 31, b"\x01\x71\x12\x41" + b"\0" * 65,
+@pytest.mark.parametrize("given, code, binary, text", rows_of_texts())
+def test_cid_texts(given, code, binary, text):
+    if int(code) < 0:
+        assert refusal(CID, given.strip("-")).kind == TEXT_REFUSALS[int(code)]
+        return
+    cid = CID(given)
+    assert bytes(cid).hex() == binary and str(cid) == text and CID(text) == cid
+
+
+@pytest.mark.parametrize("given, kind", [
+    ("bafy\0", "InvalidCharacter"), ("é" * 20, "UnknownBase"), ("z" * 5000, "TooLong"),
+    ("b" + "é" * 200, "TooLong"), ("bé", "InvalidCharacter"),
+    (b"", "InvalidCid"), (b"\x01", "InvalidCid"), (b"\0" * 36, "InvalidCid"),
+    (b"\x01\x71\x12\x20", "InvalidCid"), (b"\x01" * 300, "InvalidCid"),
+    (b"\x12\x20" + b"\0" * 31, "InvalidCid"), (b"\x01\x71\x12\x41" + b"\0" * 65, "InvalidCid"),
 ])
-def test_no_cid(given):
-    assert refusal(CID, given).kind == "Msg"
+def test_no_cid(given, kind):
+    assert refusal(CID, given).kind == kind
 
 
 def test_no_cid_argument():

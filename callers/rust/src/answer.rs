@@ -21,7 +21,7 @@ pub enum Kind {
     Link,
 }
 
-/// Why bytes, or what a tape tells, are no block.
+/// Why bytes, or what a tape tells, are no block, or why bytes or a text are no CID.
 #[derive(Clone, Copy, Debug, PartialEq, Eq, Hash)]
 #[non_exhaustive]
 pub enum Refusal {
@@ -45,6 +45,22 @@ pub enum Refusal {
     NonMinimal,
     /// a key that does not come behind the one before it
     UnorderedKey,
+    /// the bytes, or those that a text tells, are no CID
+    InvalidCid,
+    /// the first character of a text names no base that is read here
+    UnknownBase,
+    /// a text is longer than that of any CID
+    TooLong,
+    /// a character is not in the alphabet of the base
+    InvalidCharacter,
+    /// the last character of a text begins a byte and does not end it
+    InvalidLength,
+    /// bits that are not zero stand behind the last byte of a text
+    TrailingBits,
+    /// a text begins with a zero byte, as no CID does
+    LeadingZero,
+    /// a text of version 0 with a prefix, or of version 1 without one
+    InvalidVersion,
     /// a token with a kind or a number that is none, or a payload outside the bytes
     NoToken,
     /// the room that was lent is too small
@@ -69,6 +85,14 @@ impl Refusal {
             Refusal::IndefiniteSize => "an indefinite length or a break",
             Refusal::NonMinimal => "a number or a length in more bytes than it needs",
             Refusal::UnorderedKey => "a key that does not come behind the one before it",
+            Refusal::InvalidCid => "the bytes are no CID",
+            Refusal::UnknownBase => "the first character names no base that is read here",
+            Refusal::TooLong => "the text is longer than that of any CID",
+            Refusal::InvalidCharacter => "a character is not in the alphabet of the base",
+            Refusal::InvalidLength => "the last character begins a byte and does not end it",
+            Refusal::TrailingBits => "bits that are not zero stand behind the last byte",
+            Refusal::LeadingZero => "the text begins with a zero byte, as no CID does",
+            Refusal::InvalidVersion => "version 0 has no prefix, and version 1 has one",
             Refusal::NoToken => "a token that is none",
             Refusal::NoRoom { .. } => "no room",
         }
@@ -107,6 +131,14 @@ pub(crate) fn answer_of(code: i32, needed: usize) -> Result<Kind, Refusal> {
         -17 => Refusal::UnorderedKey,
         -20 => Refusal::NoToken,
         -21 => Refusal::NoRoom { needed },
+        -26 => Refusal::InvalidCid,
+        -28 => Refusal::UnknownBase,
+        -29 => Refusal::TooLong,
+        -30 => Refusal::InvalidCharacter,
+        -31 => Refusal::InvalidLength,
+        -32 => Refusal::TrailingBits,
+        -33 => Refusal::LeadingZero,
+        -34 => Refusal::InvalidVersion,
         _ => unreachable!("the library answers no {code}"),
     })
 }

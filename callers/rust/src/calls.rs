@@ -33,11 +33,31 @@ extern "C" {
         needed: *mut usize,
     ) -> i32;
     fn dagcbor_name(bytes: *const u8, length: usize, out: *mut [u8; 36]);
+    fn dagcbor_cid_text(
+        bytes: *const u8,
+        length: usize,
+        out: *mut u8,
+        room: usize,
+        needed: *mut usize,
+    ) -> i32;
+    fn dagcbor_cid_from_text(
+        text: *const u8,
+        length: usize,
+        out: *mut u8,
+        room: usize,
+        needed: *mut usize,
+    ) -> i32;
 }
 
 // What the calls below owe to the library, and slices have: a pointer is not null, also that of an
 // empty slice; it is aligned; so many elements stand there, of at most isize::MAX bytes; nobody
 // writes a shared slice, nobody else uses a unique one, and the two do not overlap.
+
+/// The greatest length of the binary form of a CID.
+pub const MOST_OF_CID: usize = 86;
+
+/// The greatest length of the text of a CID, as it is written.
+pub(crate) const MOST_OF_TEXT: usize = 139;
 
 /// Tokens are fewer than this.
 const MOST_TOKENS: usize = 1 << 58;
@@ -55,6 +75,39 @@ pub fn name(block: &[u8]) -> [u8; 36] {
     // SAFETY: see above.
     unsafe { dagcbor_name(block.as_ptr(), block.len(), &mut out) };
     out
+}
+
+/// How many characters the text of the CID has that the bytes are. They stand in the room, where all
+/// texts have place.
+pub(crate) fn put_cid_text(bytes: &[u8], room: &mut [u8; MOST_OF_TEXT]) -> Result<usize, Refusal> {
+    let mut needed = 0;
+    // SAFETY: see above.
+    let code = unsafe {
+        dagcbor_cid_text(
+            bytes.as_ptr(),
+            bytes.len(),
+            room.as_mut_ptr(),
+            room.len(),
+            &mut needed,
+        )
+    };
+    answer_of(code, needed).map(|_| needed)
+}
+
+/// How many bytes the CID of the text has. They stand in the room, where all CIDs have place.
+pub(crate) fn put_cid_of_text(text: &str, room: &mut [u8; MOST_OF_CID]) -> Result<usize, Refusal> {
+    let mut needed = 0;
+    // SAFETY: see above.
+    let code = unsafe {
+        dagcbor_cid_from_text(
+            text.as_ptr(),
+            text.len(),
+            room.as_mut_ptr(),
+            room.len(),
+            &mut needed,
+        )
+    };
+    answer_of(code, needed).map(|_| needed)
 }
 
 /// The items of a block, whose tokens are put into the room. Room for as many as the block has bytes

@@ -1,3 +1,5 @@
+use crate::calls::{put_cid_of_text, put_cid_text, MOST_OF_CID, MOST_OF_TEXT};
+use crate::Refusal;
 use core::{fmt, slice};
 
 /// A head of a block as the library tells it: `include/dagcbor.h` says what the numbers are.
@@ -27,22 +29,31 @@ pub(crate) const NEGATIVE: u64 = 8;
 pub struct Cid<'a>(pub(crate) &'a [u8]);
 
 impl<'a> Cid<'a> {
-    /// The bytes as a CID, where the library takes their link for a block.
+    /// The bytes as a CID, where they are one.
     pub fn new(bytes: &'a [u8]) -> Option<Self> {
-        let token = Token {
-            kind: LINK,
-            number: bytes.len() as u64,
-            place: 0,
-        };
-        let mut block = [0; 128]; // that of a CID has at most 91 bytes
-        crate::spell_into(bytes, &[token], &mut block)
-            .ok()
-            .map(|_| Cid(bytes))
+        put_cid_text(bytes, &mut [0; MOST_OF_TEXT]).ok()?;
+        Some(Cid(bytes))
+    }
+
+    /// The CID of a text, whose bytes are put into the room: `Qm..` of version 0, and of version 1
+    /// behind `b`, `B`, `z` or `f`.
+    pub fn from_text_into(text: &str, room: &'a mut [u8; MOST_OF_CID]) -> Result<Self, Refusal> {
+        let count = put_cid_of_text(text, room)?;
+        Ok(Cid(&room[..count]))
     }
 
     /// The bytes.
     pub fn as_bytes(self) -> &'a [u8] {
         self.0
+    }
+}
+
+/// The text: `Qm..` of version 0, and base32 behind `b` of version 1.
+impl fmt::Display for Cid<'_> {
+    fn fmt(&self, f: &mut fmt::Formatter<'_>) -> fmt::Result {
+        let mut room = [0; MOST_OF_TEXT];
+        let count = put_cid_text(self.0, &mut room).map_err(|_| fmt::Error)?;
+        f.pad(core::str::from_utf8(&room[..count]).map_err(|_| fmt::Error)?)
     }
 }
 

@@ -31,7 +31,7 @@ mod calls;
 mod item;
 
 pub use answer::{Kind, Refusal};
-pub use calls::{check, links_into, name, spell_into, tape_into};
+pub use calls::{check, links_into, name, spell_into, tape_into, MOST_OF_CID};
 #[cfg(feature = "alloc")]
 pub use calls::{links, spell, tape, Links, Tape};
 pub use item::{Cid, Cids, Item, Items, Token};

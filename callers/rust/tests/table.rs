@@ -1,6 +1,6 @@
 //! The answers over the table of all callers, and over random blocks.
 
-use dagcbor::{check, links, name, spell, tape, Cid, Item, Kind, Refusal, Token};
+use dagcbor::{check, links, name, spell, tape, Cid, Item, Kind, Refusal, Token, MOST_OF_CID};
 use std::time::{Duration, Instant, SystemTime};
 
 const KINDS: [Kind; 8] = [
@@ -26,6 +26,14 @@ fn answer_of(code: &str) -> Result<Kind, Refusal> {
         -15 => Err(Refusal::IndefiniteSize),
         -16 => Err(Refusal::NonMinimal),
         -17 => Err(Refusal::UnorderedKey),
+        -26 => Err(Refusal::InvalidCid),
+        -28 => Err(Refusal::UnknownBase),
+        -29 => Err(Refusal::TooLong),
+        -30 => Err(Refusal::InvalidCharacter),
+        -31 => Err(Refusal::InvalidLength),
+        -32 => Err(Refusal::TrailingBits),
+        -33 => Err(Refusal::LeadingZero),
+        -34 => Err(Refusal::InvalidVersion),
         kind => Ok(KINDS[kind as usize]),
     }
 }
@@ -77,16 +85,40 @@ fn hold_row(row: &[&str]) {
     assert_eq!(name(&block)[..], from_hex(row[4]));
 }
 
-/// On several threads at once, which needs no lock.
-#[test]
-fn the_table_holds() {
-    let table = include_str!("../../table.txt");
+fn rows_of(table: &str) -> Vec<Vec<&str>> {
     let rows: Vec<Vec<&str>> = table
         .lines()
         .filter(|it| !it.starts_with('#'))
         .map(|it| it.split(' ').collect())
         .collect();
     assert!(rows.len() > 30);
+    rows
+}
+
+#[test]
+fn texts_of_cids_hold() {
+    for row in rows_of(include_str!("../../texts.txt")) {
+        let mut room = [0xee; MOST_OF_CID];
+        let text = if row[0] == "-" { "" } else { row[0] };
+        match answer_of(row[1]) {
+            Err(refusal) => {
+                assert_eq!(Cid::from_text_into(text, &mut room), Err(refusal));
+                assert_eq!(room, [0xee; MOST_OF_CID]);
+            }
+            Ok(_) => {
+                let cid = Cid::from_text_into(text, &mut room).unwrap();
+                assert_eq!(cid.as_bytes(), from_hex(row[2]));
+                assert_eq!(cid.to_string(), row[3]);
+                assert_eq!(Cid::new(&cid.as_bytes()[1..]), None);
+            }
+        }
+    }
+}
+
+/// On several threads at once, which needs no lock.
+#[test]
+fn the_table_holds() {
+    let rows = rows_of(include_str!("../../table.txt"));
     std::thread::scope(|scope| {
         for _ in 0..4 {
             scope.spawn(|| rows.iter().for_each(|it| hold_row(it)));

@@ -1,15 +1,7 @@
 //! The program `dagcar`: judges files of blocks (CAR, version 1), and blocks.
 #![tactic(auto)]
 
-mod block;
-mod check;
-mod command;
-mod line;
-mod list;
-mod names;
-mod walk;
-
-use command::{OUT_OF_MEMORY, USAGE, run_command};
+use dagcar_lines::{OUT_OF_MEMORY, USAGE, run_command};
 use dagcbor_cli::{arguments, give_up};
 use std::io::{BufReader, ErrorKind};
 use std::process::ExitCode;
@@ -33,6 +25,3 @@ fn main(rt: HostRuntime) -> ExitCode {
     };
     ExitCode::from(status)
 }
-
-#[cfg(test)]
-mod tests;

@@ -1,6 +1,6 @@
 //! A list whose number of items comes last, so that they wait for it.
 
-ghost use Rattle.std.specs.Prelude.{map};
+ghost use Rattle.std.specs.Prelude.{map, true};
 ghost use Rattle.ipld_tree.specs.Tree.{list_tree};
 
 use serde_ipld_dagcbor::{Serialize, Serializer, Write, WriteResult};
@@ -13,6 +13,8 @@ pub struct Bag<T> {
 
 impl<T: Serialize> Serialize for Bag<T> {
     ghost tree = { λ bag. list_tree (map T.tree bag.items.items) };
+
+    ghost takes_memory = { true };
 
     fn serialize<W: Write>(&self, alloc: Global, ser: &mut Serializer<W>) -> WriteResult<(), W> {
         let mut list = ser.serialize_seq(alloc, None)?;

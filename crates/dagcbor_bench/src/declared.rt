@@ -1,6 +1,6 @@
 //! The record once more, whose row of fields stands in another order than its keys.
 
-ghost use Rattle.std.specs.Prelude.{Some, [], ◌∷◌, codes, pos, string_bytes, map};
+ghost use Rattle.std.specs.Prelude.{Some, [], ◌∷◌, codes, pos, string_bytes, map, true};
 ghost use Rattle.ipld_tree.specs.Cid.{cid_bytes};
 ghost use Rattle.ipld_tree.specs.Tree.{text, integer, link, list_tree, entries_tree};
 ghost use Rattle.dagcbor_write.specs.Trees.{field};
@@ -25,6 +25,8 @@ impl Serialize for Declared {
         ∷ field (codes "seq") (Some (integer (pos d.record.seq)))
         ∷ field (codes "tags") (list_tree (map (λ tag. Some (integer (pos tag))) d.record.tags.items))
         ∷ []) };
+
+    ghost takes_memory = { true };
 
     fn serialize<W: Write>(&self, alloc: Global, ser: &mut Serializer<W>) -> WriteResult<(), W> {
         let record = &self.record;

@@ -1,6 +1,6 @@
 //! A record of four fields, written and read by hand.
 
-ghost use Rattle.std.specs.Prelude.{Some, [], ◌∷◌, codes, pos, string_bytes, map, refl};
+ghost use Rattle.std.specs.Prelude.{Some, [], ◌∷◌, codes, pos, string_bytes, map, refl, true};
 ghost use Rattle.ipld_tree.specs.Cid.{cid_bytes};
 ghost use Rattle.ipld_tree.specs.Tree.{text, integer, link, list_tree, entries_tree};
 ghost use Rattle.dagcbor_write.specs.Trees.{field};
@@ -25,6 +25,8 @@ impl Serialize for Record {
         ∷ field (codes "link") (Some (link (cid_bytes r.link)))
         ∷ field (codes "name") (Some (text (string_bytes r.name)))
         ∷ field (codes "tags") (list_tree (map (λ tag. Some (integer (pos tag))) r.tags.items)) ∷ []) };
+
+    ghost takes_memory = { true };
 
     fn serialize<W: Write>(&self, alloc: Global, ser: &mut Serializer<W>) -> WriteResult<(), W> {
         let fields = (

@@ -19,7 +19,7 @@ use Rattle.serde_ipld_dagcbor.specs.Tree.{Tree, any_need, links_of}
 use Rattle.serde_ipld_dagcbor.specs.Spelling.{IsSpelling}
 use Rattle.serde_ipld_dagcbor.specs.Answers.{AreSpellingOf}
 use Rattle.serde_ipld_dagcbor.specs.Shapes.{Shape}
-use Rattle.serde_ipld_dagcbor.specs.Whole.{HoldsNoValue, OfWhole}
+use Rattle.serde_ipld_dagcbor.specs.Whole.{HoldsNoValue, OfWhole, LacksMemoryIf}
 use Rattle.serde_ipld_dagcbor.specs.Slices.{AreFirstLinks, LinksRefused}
 use Rattle.serde_ipld_dagcbor.specs.GrammarLaws.{SpellingsAreUnique}
 use Rattle.dagcbor_car.specs.Names.{block_name}
@@ -173,9 +173,9 @@ put_done law (Some t) v name old new (Err OutOfMemory) a has named h = (h.0, tt)
 -- ---- getting
 
 module _ {V : Type 0} (shape : Shape Tree V) where
-  pub not_got : (name : CidParts) (blocks : Held) (b : List ℕ) (e : DecodeError Infallible) (told : BlockError) → IsHeld name b blocks → ((e ≡ unread.OutOfMemory) ⊎ HoldsNoValue shape default_steps b) × OfWhole e → TellsOfDecoding e told → GetRefused shape name blocks told
+  pub not_got : (name : CidParts) (blocks : Held) (b : List ℕ) (e : DecodeError Infallible) (told : BlockError) → IsHeld name b blocks → ((e ≡ unread.OutOfMemory) ⊎ HoldsNoValue shape default_steps b) × OfWhole e × LacksMemoryIf (shape.memory true) e → TellsOfDecoding e told → GetRefused shape name blocks told
   not_got name blocks b (unread.Read e) told at r h = elim e [ ]
-  not_got name blocks b unread.OutOfMemory told at r h = subst (GetRefused shape name blocks) (sym h) (b, at)
+  not_got name blocks b unread.OutOfMemory told at r h = subst (GetRefused shape name blocks) (sym h) ((b, at), r.2)
   not_got name blocks b (unread.RequireBorrowed n) told at r h = absurd r.1
   not_got name blocks b unread.Failed told at r h = absurd r.1
   not_got name blocks b _ told at r h = elim r.0 [ inl k ↦ absurd (cc k) | inr k ↦ subst (GetRefused shape name blocks) (sym h) (tt, (b, at, k)) ]

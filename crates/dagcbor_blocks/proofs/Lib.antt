@@ -6,3 +6,4 @@ pub mod Listing
 pub mod Reading
 pub mod ReadingBack
 pub mod Writing
+pub mod Nothing

@@ -32,6 +32,9 @@ use Rattle.dagcbor_blocks.specs.declared.error.BlockError.TheVariants.{OutOfMemo
 use Rattle.dagcbor_blocks.proofs.Unique.{front_unique, cid_unique, whole_front}
 use Rattle.dagcbor_blocks.proofs.Keeping.{BlockEntry, shown}
 use Rattle.dagcbor_blocks.proofs.Members.{all_among, found_among}
+use Rattle.dagcbor_car.specs.Names.{IsInline}
+use Rattle.dagcbor_car.specs.Within.{IsReached, ListsReached, AreFirstNames}
+use Rattle.dagcbor_car.proofs.Within.{reached_cid, not_inline}
 use Rattle.dagcbor_car.proofs.Members.{among_map, map_among, among_push, push_among, same_at}
 use Rattle.dagcbor_blocks.proofs.Missing.{AddedSoFar}
 
@@ -46,33 +49,11 @@ among_mid : {X : Type 0} (xs : List X) (x : X) (ys : List X) → Among x (xs ++ 
 among_mid [] x ys = inl refl
 among_mid (z ∷ zs) x ys = inr (among_mid zs x ys)
 
--- ---- links are CIDs
-
-mutual
-  links_are_cids : (t : Tree) (form : List ℕ) → IsTree t → Among form (links_of t) → IsCid form
-  links_are_cids null form p h = absurd h
-  links_are_cids (boolean b) form p h = absurd h
-  links_are_cids (integer n) form p h = absurd h
-  links_are_cids (text s) form p h = absurd h
-  links_are_cids (bytes s) form p h = absurd h
-  links_are_cids (list ts) form p h = items_are_cids ts form p h
-  links_are_cids (mapping es) form p h = entries_are_cids es form p h
-  links_are_cids (link cid) form p (inl e) = subst IsCid (sym e) p
-  links_are_cids (link cid) form p (inr h) = absurd h
-
-  items_are_cids : (ts : Items) (form : List ℕ) → AreItems ts → Among form (items_links ts) → IsCid form
-  items_are_cids no_items form p h = absurd h
-  items_are_cids (item t ts) form p h = elim (among_append form (links_of t) (items_links ts) h) [ inl m ↦ links_are_cids t form p.0 m | inr m ↦ items_are_cids ts form p.1 m ]
-
-  entries_are_cids : (es : Entries) (form : List ℕ) → AreEntries es → Among form (entries_links es) → IsCid form
-  entries_are_cids no_entries form p h = absurd h
-  entries_are_cids (entry k t es) form p h = elim (among_append form (links_of t) (entries_links es) h) [ inl m ↦ links_are_cids t form p.1 m | inr m ↦ entries_are_cids es form p.3 m ]
-
 -- ---- a block and its links
 
 -- the binary form is that of a link in one of these blocks
 abbrev pub Linked : List (Vec ℕ Global) → List ℕ → Type 0
-Linked vs form = (v : Vec ℕ Global) × (t : Tree) × Among v vs × IsSpelling v.items t × Among form (links_of t)
+Linked vs form = (v : Vec ℕ Global) × (t : Tree) × Among v vs × IsSpelling v.items t × IsReached form (links_of t)
 
 whole_spelling : (b rest : List ℕ) (t : Tree) → IsFront b t rest → rest ≡ [] → IsSpelling b t
 whole_spelling b rest t f none = record { well_formed = f.well_formed; spellable = f.spellable; is = f.is ∙ ap (λ r. spelling t ++ r) none ∙ append-nil (spelling t) }
@@ -85,7 +66,7 @@ held_block es v m s =
     (sound.tree, subst (λ (w : Vec ℕ Global). IsBlock w.items sound.tree) (sym e.2) sound.is_block)
 
 -- the first item of a held block is the whole of it
-links_of_block : SpellingsAreUnique → (es : List BlockEntry) (v : Vec ℕ Global) (links : List (List ℕ)) → ∥ AllByRecursion IsSound es ∥₁ → Among v (values_of es) → AreFirstLinks v.items links → (t : Tree) × IsSpelling v.items t × (links ≡ links_of t)
+links_of_block : SpellingsAreUnique → (es : List BlockEntry) (v : Vec ℕ Global) (names : List CidParts) → ∥ AllByRecursion IsSound es ∥₁ → Among v (values_of es) → AreFirstNames v.items names → (t : Tree) × IsSpelling v.items t × ListsReached names (links_of t)
 links_of_block law es v links h m first = (first.0, whole_spelling v.items first.1 first.0 first.2 none, first.4)
   where
     none : first.1 ≡ []
@@ -106,33 +87,27 @@ for_memory es v _ told h m r t = absurd (no_links es v h m r.0)
 
 -- the set has what is to be listed of these blocks
 abbrev pub MissingOf : {X : Type 0} → BTreeMap CidParts X → List (Vec ℕ Global) → BTreeSet CidParts → Type 0
-MissingOf blocks vs s = (q : CidParts) → (Among q s.keys → AreCidParts q × Linked vs (cid_bytes q) × IsUnheld blocks q) × (AreCidParts q → Linked vs (cid_bytes q) → IsUnheld blocks q → Among q s.keys)
+MissingOf blocks vs s = (q : CidParts) → (Among q s.keys → AreCidParts q × (IsInline q → ⊥) × Linked vs (cid_bytes q) × IsUnheld blocks q) × (AreCidParts q → (IsInline q → ⊥) → Linked vs (cid_bytes q) → IsUnheld blocks q → Among q s.keys)
 
 missing_push : {X : Type 0} → SpellingsAreUnique → CidEqualityIsOfBytes → (blocks : BTreeMap CidParts X) (vs : List (Vec ℕ Global)) (v : Vec ℕ Global) (t : Tree) (links : List CidParts) (old new : BTreeSet CidParts)
-    → IsSpelling v.items t → forms links ≡ links_of t → MissingOf blocks vs old → AddedSoFar blocks links old new → MissingOf blocks (vs ++ v ∷ []) new
+    → IsSpelling v.items t → ListsReached links (links_of t) → MissingOf blocks vs old → AddedSoFar blocks links old new → MissingOf blocks (vs ++ v ∷ []) new
 missing_push law cids blocks vs v t links old new spelled found h added q = (there, back)
   where
-    there : Among q new.keys → AreCidParts q × Linked (vs ++ v ∷ []) (cid_bytes q) × IsUnheld blocks q
+    there : Among q new.keys → AreCidParts q × (IsInline q → ⊥) × Linked (vs ++ v ∷ []) (cid_bytes q) × IsUnheld blocks q
     there m = elim ((added.1 q).0 m) [
-      | inl o ↦ let k = (h q).0 o in (k.0, (k.1.0, k.1.1, push_among k.1.0 vs v (inl k.1.2), k.1.3, k.1.4), k.2)
-      | inr u ↦ (
-        all_among AreCidParts links q added.0 u.0,
-        (v, t, push_among v vs v (inr refl), spelled, subst (Among (cid_bytes q)) found (among_map cid_bytes q links u.0)),
-        u.1,
-      )
+      | inl o ↦ let k = (h q).0 o in (k.0, k.1, (k.2.0, k.2.1, push_among k.2.0 vs v (inl k.2.2), k.2.3, k.2.4), k.3)
+      | inr u ↦ let k = (found q).0 u.0 in (k.0, k.1, (v, t, push_among v vs v (inr refl), spelled, k.2), u.1)
     ]
 
-    in_links : AreCidParts q → (u : Tree) → IsSpelling v.items u → Among (cid_bytes q) (links_of u) → Among q links
-    in_links p u s m =
+    in_links : AreCidParts q → (IsInline q → ⊥) → (u : Tree) → IsSpelling v.items u → IsReached (cid_bytes q) (links_of u) → Among q links
+    in_links p other u s r =
         let same = front_unique law v.items [] [] u t (whole_front s) (whole_front spelled) in
-        let k = map_among cid_bytes (cid_bytes q) links (subst (Among (cid_bytes q)) (ap links_of same.0 ∙ sym found) m) in
-        let eq = cid_unique cids q k.0 p (all_among AreCidParts links k.0 added.0 k.1) k.2 in
-        subst (λ x. Among x links) (sym eq) k.1
+        (found q).1 (p, other, subst (λ ls. IsReached (cid_bytes q) ls) (ap links_of same.0) r)
 
-    back : AreCidParts q → Linked (vs ++ v ∷ []) (cid_bytes q) → IsUnheld blocks q → Among q new.keys
-    back p l free = elim (among_push l.0 vs v l.2) [
-      | inl m ↦ (added.1 q).1 (inl ((h q).1 p (l.0, l.1, m, l.3, l.4) free))
-      | inr e ↦ (added.1 q).1 (inr (in_links p l.1 (subst (λ (w : Vec ℕ Global). IsSpelling w.items l.1) e l.3) l.4, free))
+    back : AreCidParts q → (IsInline q → ⊥) → Linked (vs ++ v ∷ []) (cid_bytes q) → IsUnheld blocks q → Among q new.keys
+    back p other l free = elim (among_push l.0 vs v l.2) [
+      | inl m ↦ (added.1 q).1 (inl ((h q).1 p other (l.0, l.1, m, l.3, l.4) free))
+      | inr e ↦ (added.1 q).1 (inr (in_links p other l.1 (subst (λ (w : Vec ℕ Global). IsSpelling w.items l.1) e l.3) l.4, free))
     ]
 
 -- the blocks so far, and those to come
@@ -150,10 +125,10 @@ pub next_block_refused : (blocks : BTreeMap CidParts (Vec ℕ Global)) (before r
 next_block_refused blocks before rest v s e told sound is h = for_memory blocks.entries v e told sound (next_held is h)
 
 pub so_far_next : SpellingsAreUnique → CidEqualityIsOfBytes → (blocks : BTreeMap CidParts (Vec ℕ Global)) (before rest : List (Vec ℕ Global)) (v : Vec ℕ Global) (links : List CidParts) (old new : BTreeSet CidParts)
-    → ∥ AllByRecursion IsSound blocks.entries ∥₁ → before ≡ v ∷ rest → SoFar blocks before old → AreFirstLinks v.items (forms links) → AddedSoFar blocks links old new → SoFar blocks rest new
+    → ∥ AllByRecursion IsSound blocks.entries ∥₁ → before ≡ v ∷ rest → SoFar blocks before old → AreFirstNames v.items links → AddedSoFar blocks links old new → SoFar blocks rest new
 so_far_next law cids blocks before rest v links old new sound is h first added =
     let all : values_of blocks.entries ≡ h.seen ++ v ∷ rest = h.all ∙ ap (λ l. h.seen ++ l) is in
-    let b = links_of_block law blocks.entries v (forms links) sound (next_held is h) first in
+    let b = links_of_block law blocks.entries v links sound (next_held is h) first in
     record { seen = h.seen ++ v ∷ []; all = all ∙ sym (append_assoc h.seen (v ∷ []) rest); listed = missing_push law cids blocks h.seen v b.0 links old new b.1 b.2 h.listed added }
 
 -- ---- the whole
@@ -185,7 +160,7 @@ module _ (cids : CidEqualityIsOfBytes) (blocks : BTreeMap CidParts (Vec ℕ Glob
       let e = map_among (λ (e : BlockEntry). (e.0, e.1.items)) l.0 blocks.entries l.2 in
       (e.0.1, l.1, among_map (λ (e : BlockEntry). e.1) e.0 blocks.entries e.1, subst (λ b. IsSpelling b l.1) (ap (λ (p : CidParts × List ℕ). p.1) e.2) l.3, l.4)
 
-  unnamed : (q : CidParts) → AreCidParts q → IsUnheld blocks q → NamesNone (cid_bytes q) (shown blocks.entries)
+  unnamed : (q : CidParts) → AreCidParts q → IsUnheld blocks q → (e : CidParts × List ℕ) → Among e (shown blocks.entries) → cid_bytes e.0 ≡ cid_bytes q → ⊥
   unnamed q p free e m same =
       let k = map_among (λ (e : BlockEntry). (e.0, e.1.items)) e blocks.entries m in
       not_there sound (λ s.
@@ -199,7 +174,7 @@ module _ (cids : CidEqualityIsOfBytes) (blocks : BTreeMap CidParts (Vec ℕ Glob
     where
       by : (o : Option (Vec ℕ Global)) → get cid_cmp blocks q ≡ o → get cid_cmp blocks q ≡ None
       by None e = e
-      by (Some v) e = absurd (n (q, v.items) (among_map (λ (e : BlockEntry). (e.0, e.1.items)) (q, v) blocks.entries (found_among q blocks.entries v e)) refl)
+      by (Some v) e = absurd (n.1 (q, v.items) (among_map (λ (e : BlockEntry). (e.0, e.1.items)) (q, v) blocks.entries (found_among q blocks.entries v e)) refl)
 
   pub all_listed : (s : BTreeSet CidParts) (rest : List (Vec ℕ Global)) (items : List CidParts) → rest ≡ [] → SoFar blocks rest s → items ≡ s.keys
       → (form : List ℕ) → Among form (forms items) ↔ (IsLinked form (shown blocks.entries) × NamesNone form (shown blocks.entries))
@@ -208,12 +183,12 @@ module _ (cids : CidEqualityIsOfBytes) (blocks : BTreeMap CidParts (Vec ℕ Glob
         let k = map_among cid_bytes form items m in
         let w = (h.listed k.0).0 (subst (Among k.0) is k.1) in
         subst (λ f. IsLinked f (shown blocks.entries) × NamesNone f (shown blocks.entries)) (sym k.2)
-        (linked_in (cid_bytes k.0) (subst (λ vs. Linked vs (cid_bytes k.0)) seen w.1), unnamed k.0 w.0 w.2),
+        (linked_in (cid_bytes k.0) (subst (λ vs. Linked vs (cid_bytes k.0)) seen w.2), (not_inline (cid_bytes k.0) k.0 w.0 w.1 refl, unnamed k.0 w.0 w.3)),
     λ m.
-        let c = links_are_cids m.0.1 form m.0.3.well_formed m.0.4 in
+        let c = reached_cid m.0.1 form m.0.3.well_formed m.0.4 in
         let l = subst (λ f. Linked h.seen f) c.2 (subst (λ vs. Linked vs form) (sym seen) (in_linked form m.0)) in
         let n = subst (λ f. NamesNone f (shown blocks.entries)) c.2 m.1 in
-        let found = (h.listed c.0).1 c.1 l (names_unheld c.0 n) in
+        let found = (h.listed c.0).1 c.1 (λ i. n.0 (c.0, c.1, refl, i)) l (names_unheld c.0 n) in
         subst (λ f. Among f (forms items)) (sym c.2) (among_map cid_bytes c.0 items (subst (Among c.0) (sym is) found)),
   )
     where

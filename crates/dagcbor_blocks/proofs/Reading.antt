@@ -1,15 +1,18 @@
 -- A file that is read into a store, section by section.
 use Rattle.std.proofs.Common.{◌≡◌, ◌⊎◌, inl, inr, ℕ, List, [], ◌∷◌, ◌++◌, sym, ap, ◌∙◌, subst, append_assoc, append-nil}
-use Rattle.std.specs.Prelude.{Some}
+use Rattle.std.specs.Prelude.{Some, Err}
 use Rattle.std.specs.List.{AllByRecursion, flat_map}
-use Rattle.dagcbor_heads.proofs.Taking.{takes_both}
+use Rattle.dagcbor_heads.proofs.Taking.{stays_both, takes_both}
 use Rattle.serde_ipld_dagcbor.specs.Reading.{Reading}
 use Rattle.serde_ipld_dagcbor.specs.Fronts.{FindsEnd, Takes}
 use Rattle.dagcbor_car.specs.Car.{header_bytes, Section, section_bytes, car_bytes, IsSection}
 use Rattle.dagcbor_car.specs.Sets.{Among}
-use Rattle.dagcbor_car.specs.Sources.{TakesHeader, TakesSectionBytes}
+use Rattle.dagcbor_car.specs.Sources.{CarRefuses, LacksMemoryIf, TakesHeader, TakesSectionBytes}
+use Rattle.dagcbor_car.specs.declared.error.CarError.{CarError}
+use Rattle.dagcbor_car.specs.declared.error.CarError.TheVariants.{OutOfMemory}
+use Rattle.dagcbor_blocks.specs.declared.car_error.ReadCarError.{ReadCarError}
 use Rattle.dagcbor_blocks.specs.Blocks.{Held, block_at, HoldsAlso}
-use Rattle.dagcbor_blocks.specs.Cars.{IsNamedBlock, IsReadTo, TakesCar, KeepsAll}
+use Rattle.dagcbor_blocks.specs.Cars.{IsNamedBlock, TellsOfFile, FileRefused, IsReadTo, TakesCar, KeepsAll, StopsAt, ReadRefused}
 use Rattle.dagcbor_car.proofs.Members.{among_push, push_among}
 
 -- ---- what is held
@@ -70,7 +73,7 @@ read_more roots ss s old mid now before held after h k named also = record {
 pub read_whole : (roots : List (List ℕ)) (ss : List Section) (old mid new : Reading) (before held after : Held) → IsReadTo roots ss old before mid held → FindsEnd mid new → after ≡ held → KeepsAll roots ss old before new after
 read_whole roots ss old mid new before held after h end same = record {
   is_car = taken;
-  faults = end.same.faults ∙ h.takes.same.faults;
+  same = stays_both h.takes.same end.same;
   blocks = h.blocks;
   holds = subst (λ blocks. HoldsAlso before ss blocks) (sym same) h.holds;
 }
@@ -82,3 +85,15 @@ read_whole roots ss old mid new before held after h end same = record {
           record { header = h.header; all = h.all; is = w.1 ∙ ap (λ r. car_bytes roots ss ++ r) none ∙ append-nil (car_bytes roots ss) },
           end.kept w.0 w.2 ∙ ap Some none,
         )
+
+-- ---- refusals
+
+lacks_alike : {E : Type 0} (T P : Type 0) (e : CarError E) → LacksMemoryIf {T = T} P (Err e) → LacksMemoryIf {T = Unit {0}} P (Err e)
+lacks_alike T P OutOfMemory l = l
+lacks_alike T P e l = tt
+
+pub file_refused : {E : Type 0} (T : Type 0) (stands : CarError E → List ℕ → Type 0) (lacks : Type 0) (e : CarError E) (told : ReadCarError E) (old new : Reading) → TellsOfFile e told → CarRefuses stands old e new → LacksMemoryIf {T = T} lacks (Err e) → FileRefused stands lacks old told new
+file_refused T stands lacks e told old new tells refused memory = (e, tells, refused, lacks_alike T lacks e memory)
+
+pub stopped : {E : Type 0} (roots : List (List ℕ)) (ss : List Section) (old mid new : Reading) (before held after : Held) (e : ReadCarError E) → IsReadTo roots ss old before mid held → (after ≡ held) × StopsAt mid held e new → ReadRefused old before e new after
+stopped roots ss old mid new before held after e h k = inr (roots, ss, mid, subst (λ (x : Held). IsReadTo roots ss old before mid x) (sym k.0) h, inl (subst (λ (x : Held). StopsAt mid x e new) (sym k.0) k.1))

@@ -13,13 +13,13 @@ use Rattle.serde_ipld_dagcbor.specs.DecodeError.TheVariants as unread
 use Rattle.serde_ipld_dagcbor.specs.Slices.{SliceRefused}
 use Rattle.serde_ipld_dagcbor.specs.Cid.{CidParts, cid_cmp}
 use Rattle.serde_ipld_dagcbor.specs.Walks.{forms}
-use Rattle.dagcbor_car.specs.Names.{block_name}
+use Rattle.sha2.proofs.Facts256.{length-sha256}
+use Rattle.dagcbor_car.specs.Names.{IsBySha256, block_name}
 use Rattle.dagcbor_car.specs.Car.{Section, header_bytes, section_bytes, IsSection, IsCar}
 use Rattle.dagcbor_car.specs.Splits.{HasBlock}
 use Rattle.dagcbor_car.specs.Laws.{CarsAreUnique}
 use Rattle.dagcbor_car.specs.Sets.{Among}
 use Rattle.dagcbor_car.specs.Sources.{CarRefuses, RefusesHeader, RefusesSection}
-use Rattle.dagcbor_car.specs.Verdicts.{digest_by}
 use Rattle.dagcbor_car.specs.declared.error.CarError.{CarError}
 use Rattle.dagcbor_car.specs.declared.error.CarError.TheVariants as car
 use Rattle.dagcbor_car.proofs.Cars.{section_unique, section_some, header_unique}
@@ -87,11 +87,8 @@ module _ (roots : List (List ℕ)) (blocks ss after : Held) (s : Section) (finds
   -- a section that is held is not refused
   not_refused : IsNamedBlock s → (e : ReadCarError Infallible) → SectionRefused s after e → (e ≡ OutOfMemory → ⊥) → ⊥
   not_refused named (Car e) r n = r
-  not_refused named (OtherHash c) r n = r.1 (ap (λ (x : CidParts). x.hash_code) (r.0 ∙ named.1))
-  not_refused named (OtherBytes c) r n =
-      let own : digest_by s.0.hash_code s.1 ≡ Some s.0.digest = ap (λ (x : CidParts). digest_by x.hash_code s.1) named.1 ∙ ap (λ (x : CidParts). Some x.digest) (sym named.1) in
-      let same : Some r.2.0 ≡ Some s.0.digest = sym r.2.1 ∙ own in
-      r.2.2 (cc same)
+  not_refused named (OtherHash c) r n = r.1 (subst IsBySha256 (sym (r.0 ∙ named.1)) (refl, length-sha256 s.1))
+  not_refused named (OtherBytes c) r n = r.2.1 (inl (subst IsBySha256 (sym named.1) (refl, length-sha256 s.1), ap (λ (x : CidParts). x.digest) named.1))
   not_refused named (OtherCodec c) r n = r.2.1 (ap (λ (x : CidParts). x.codec) named.1)
   not_refused named (NoBlock c e) r n = no_slice_refused e s.1 named.0 r.2.2 r.2.3
   not_refused named (Collision c) r n = no_other blocks ss after s finds m within h named r.2
@@ -133,12 +130,12 @@ module _ (es : List BlockEntry) (finds : FindsMembers (shown es)) (sound : ∥ A
 
   refused_for_memory : (e : ReadCarError Infallible) → ReadRefused old [] e new after → IsReadBack roots (shown es) (Err e) after
   refused_for_memory e (inl h) = told_for_memory RefusesHeader old new b roots (shown es) after l (λ c r. r.0 roots (flat_map section_bytes (shown es)) (file.header, file.is)) h.0.0 e h.0.1 h.0.2
-  refused_for_memory e (inr h) =
-      let to = h.3 in
+  refused_for_memory e (inr (others, ss, mid, to, inr many)) = subst (λ (x : ReadCarError Infallible). IsReadBack roots (shown es) (Err x) after) (sym many.1.0) tt
+  refused_for_memory e (inr (others, ss, mid, to, inl stops)) =
       let w = to.takes.taken b l in
-      let same = header_unique h.0 roots (flat_map section_bytes h.1 ++ w.0) (flat_map section_bytes (shown es)) to.header file.header (sym (append_assoc (header_bytes h.0) (flat_map section_bytes h.1) w.0) ∙ sym w.1 ∙ file.is) in
-      let o = others_behind h.1 (shown es) w.0 to.all file.all same.1 in
-      stops_for_memory h.0 h.1 o.0 h.2 w.0 e to.holds o.1 o.2 o.3 w.2 h.4
+      let same = header_unique others roots (flat_map section_bytes ss ++ w.0) (flat_map section_bytes (shown es)) to.header file.header (sym (append_assoc (header_bytes others) (flat_map section_bytes ss) w.0) ∙ sym w.1 ∙ file.is) in
+      let o = others_behind ss (shown es) w.0 to.all file.all same.1 in
+      stops_for_memory others ss o.0 mid w.0 e to.holds o.1 o.2 o.3 w.2 stops
 
 pub reads_back : CarsAreUnique → (es : List BlockEntry) → IsStrictlySortedBy cid_cmp (keys_of es) → ∥ AllByRecursion IsSound es ∥₁ → WrittenThenRead (shown es)
 reads_back law es sorted sound b roots old new after (Ok v) file l h =

@@ -1,10 +1,12 @@
 -- A store that is written as a file, section by section.
-use Rattle.std.proofs.Common.{◌≡◌, ℕ, List, [], ◌∷◌, ◌++◌, Some, Result, refl, sym, ap, ◌∙◌, subst, append_assoc, append-nil}
+use Rattle.std.proofs.Common.{◌≡◌, ℕ, List, [], ◌∷◌, ◌++◌, Bool, true, false, Some, Result, Ok, Err, refl, sym, ap, ◌∙◌, subst, append_assoc, append-nil}
 use Rattle.std.specs.List.{AllByRecursion, flat_map}
 use Rattle.std.specs.Result.{IsErrAnd}
 use Rattle.dagcbor_heads.proofs.Writing.{WroteAll_then, Stops-then, Writes_exit}
-use Rattle.serde_ipld_dagcbor.specs.Written.{Written, WroteAll, Stops, Writes}
+use Rattle.serde_ipld_dagcbor.specs.Written.{Written, WroteAll, Stops, Writes, WantsMemoryOnlyIf}
 use Rattle.serde_ipld_dagcbor.specs.EncodeError.{EncodeError}
+use Rattle.serde_ipld_dagcbor.specs.EncodeError.TheVariants.{OutOfMemory}
+use Rattle.dagcbor_car.specs.Writers.{UnsentWithoutMemory}
 use Rattle.dagcbor_car.specs.Car.{header_bytes, section_bytes, car_bytes, IsHeader, IsSection, IsCar}
 use Rattle.dagcbor_blocks.proofs.Keeping.{BlockEntry, shown}
 
@@ -77,3 +79,22 @@ section_stopped roots entries before rest s old mid now r e is h same stops =
     let front = Stops-then (Some (car_bytes roots (shown h.seen))) (Some (section_bytes (s.0, s.1.items))) old mid now e h.wrote stops in
     let exit = Writes_exit (Some (car_bytes roots (shown h.seen) ++ section_bytes (s.0, s.1.items))) (Some (flat_map section_bytes (shown rest))) old now r e same front in
     subst (λ b. Writes (Some b) old now r) (joined roots h.seen s rest ∙ ap (λ es. car_bytes roots (shown es)) (sym (h.all ∙ ap (λ l. h.seen ++ l) is))) exit
+
+-- ---- want of memory, at the exit of a `?`
+
+pub header_unsent : {T E : Type 0} (U : Type 0) (takes_memory : Bool) (old new : Written) (r : Result T (EncodeError E)) (e : EncodeError E) → IsErrAnd r (λ d. d ≡ e) → UnsentWithoutMemory {T = U} takes_memory old (Err e) new → UnsentWithoutMemory takes_memory old r new
+header_unsent U takes_memory old new (Ok x) e same h = absurd same
+header_unsent {T} {E} U takes_memory old new (Err y) e same h = by y (subst (λ z. UnsentWithoutMemory {T = U} {E = E} takes_memory old (Err z) new) (sym same) h)
+  where
+    by : (z : EncodeError E) → UnsentWithoutMemory {T = U} {E = E} takes_memory old (Err z) new → UnsentWithoutMemory {T = T} {E = E} takes_memory old (Err z) new
+    by OutOfMemory k = k
+    by z k = tt
+
+pub section_unsent : {T E : Type 0} (U : Type 0) (takes_memory : Bool) (old new : Written) (r : Result T (EncodeError E)) (e : EncodeError E) → IsErrAnd r (λ d. d ≡ e) → WantsMemoryOnlyIf {T = U} takes_memory (Err e) → UnsentWithoutMemory takes_memory old r new
+section_unsent U takes_memory old new (Ok x) e same h = absurd same
+section_unsent {T} {E} U takes_memory old new (Err y) e same h = by y takes_memory (subst (λ z. WantsMemoryOnlyIf {T = U} {E = E} takes_memory (Err z)) (sym same) h)
+  where
+    by : (z : EncodeError E) (may : Bool) → WantsMemoryOnlyIf {T = U} {E = E} may (Err z) → UnsentWithoutMemory {T = T} {E = E} may old (Err z) new
+    by OutOfMemory true k = λ none. absurd (cc none)
+    by OutOfMemory false k = absurd (cc k)
+    by z may k = tt

@@ -1,7 +1,7 @@
 -- What a store of blocks holds, and what its calls answer.
 use Rattle.std.specs.Prelude.{◌≡◌, ◌≢◌, ◌↔◌, ◌⊎◌, [], ◌∷◌, ℕ, ◌<◌, List, map, Option}
 use Rattle.std.specs.Prelude.{None, Some, IfSome, IsSomeAnd, Result, MatchResult, Vec}
-use Rattle.std.specs.Prelude.{⊤}
+use Rattle.std.specs.Prelude.{⊤, true}
 use Rattle.std.specs.List.Sorted.{IsStrictlySortedBy}
 use Rattle.std.specs.Map.{lookup}
 use Rattle.std.specs.BTreeMap.{is_at}
@@ -21,6 +21,7 @@ use Rattle.serde_ipld_dagcbor.specs.EncodeError.{EncodeError}
 use Rattle.serde_ipld_dagcbor.specs.EncodeError.TheVariants as unwritten
 use Rattle.dagcbor_car.specs.Names.{block_name}
 use Rattle.dagcbor_car.specs.Sets.{Among}
+use Rattle.dagcbor_car.specs.Within.{IsInlineForm, IsReached}
 use Rattle.dagcbor_blocks.specs.declared.error.BlockError.{BlockError}
 use Rattle.dagcbor_blocks.specs.declared.error.BlockError.TheVariants.{Encode, Decode, Collision}
 use Rattle.dagcbor_blocks.specs.declared.error.BlockError.TheVariants.{OutOfMemory}
@@ -97,13 +98,15 @@ Puts tree old result new = MatchResult result
 abbrev pub IsHeld : CidParts → List ℕ → Held → Type 0
 IsHeld name b blocks = (block_at name blocks ≡ Some b) × (name.digest ≡ sha256 b)
 
--- why a held block is not read: the type does not accept it, or want of memory
+-- why a held block is not read: the type does not accept it, or want of memory, which reading the
+-- type may take
 abbrev pub GetRefused : {V : Type 0} → Shape Tree V → CidParts → Held → BlockError → Type 0
 GetRefused shape name blocks (Encode e) = ⊥
 GetRefused {V} shape name blocks (Decode e) = IsOfBytes e
     × ((b : List ℕ) × IsHeld name b blocks × ((v : V) → ¬ IsWhole shape default_steps b v))
 GetRefused shape name blocks Collision = ⊥
-GetRefused shape name blocks OutOfMemory = (b : List ℕ) × IsHeld name b blocks
+GetRefused shape name blocks OutOfMemory = ((b : List ℕ) × IsHeld name b blocks)
+    × (shape.memory true ≡ true)
 
 -- none where no block has the name, else what the held block shows to the type
 abbrev pub GetsSome : {T V : Type 0} → (T → V) → Shape Tree V → CidParts → Held → Option T → Type 0
@@ -119,14 +122,15 @@ Gets show shape name blocks result = MatchResult result (GetsSome show shape nam
 
 -- ---- links
 
--- the binary form is that of a link in a held block
+-- the binary form is that of a link in a held block, or of one within such a link
 abbrev pub IsLinked : List ℕ → Held → Type 0
 IsLinked form blocks = (e : CidParts × List ℕ) × (t : Tree) × Among e blocks × IsSpelling e.1 t
-    × Among form (links_of t)
+    × IsReached form (links_of t)
 
--- it names no held block
+-- it names no held block, nor holds one itself
 abbrev pub NamesNone : List ℕ → Held → Type 0
-NamesNone form blocks = (e : CidParts × List ℕ) → Among e blocks → cid_bytes e.0 ≢ form
+NamesNone form blocks = ¬ IsInlineForm form
+    × ((e : CidParts × List ℕ) → Among e blocks → cid_bytes e.0 ≢ form)
 
 -- The links in held blocks that name no held block are listed, each once, in their order.
 abbrev pub ListsMissing : Held → Result (Vec CidParts Global) BlockError → Type 0

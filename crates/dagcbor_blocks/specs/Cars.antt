@@ -1,15 +1,17 @@
 -- What is read into a store from a file of blocks.
-use Rattle.std.specs.Prelude.{◌≡◌, ◌⊎◌, ℕ, List, [], ⊤, Some, Result, MatchResult, Vec}
+use Rattle.std.specs.Prelude.{◌≡◌, ◌⊎◌, ℕ, ◌-◌, ◌^◌, List, [], length, Some}
+use Rattle.std.specs.Prelude.{Result, Err, MatchResult, Vec}
 use Rattle.std.specs.List.{AllByRecursion}
 use Rattle.std.specs.declared.alloc.Global.{Global}
-use Rattle.serde_ipld_dagcbor.specs.Reading.{Reading}
+use Rattle.serde_ipld_dagcbor.specs.Reading.{Reading, Stays}
 use Rattle.serde_ipld_dagcbor.specs.Fronts.{Takes}
 use Rattle.serde_ipld_dagcbor.specs.Cid.{CidParts}
 use Rattle.serde_ipld_dagcbor.specs.Walks.{forms}
-use Rattle.dagcbor_car.specs.Names.{block_name}
+use Rattle.dagcbor_car.specs.Names.{IsBySha256, block_name}
 use Rattle.dagcbor_car.specs.Car.{Section, IsHeader, IsSection, car_bytes, IsCar}
 use Rattle.dagcbor_car.specs.Splits.{HasBlock}
 use Rattle.dagcbor_car.specs.Sources.{CarRefuses, RefusesHeader, RefusesSection, TakesSectionBytes}
+use Rattle.dagcbor_car.specs.Sources.{LacksMemoryIf, HeaderLacks, SectionLacks}
 use Rattle.dagcbor_car.specs.Verdicts.{IsVerdict}
 use Rattle.dagcbor_car.specs.declared.verdict.Verdict.TheVariants as verdict
 use Rattle.dagcbor_car.specs.declared.error.CarError.{CarError}
@@ -27,10 +29,6 @@ use Rattle.dagcbor_blocks.specs.declared.car_error.ReadCarError.TheVariants.{Out
 abbrev pub IsNamedBlock : Section → Type 0
 IsNamedBlock s = HasBlock s.1 × (s.0 ≡ block_name s.1)
 
--- the name is by SHA-256 (multicodec table)
-abbrev pub IsBySha256 : CidParts → Type 0
-IsBySha256 c = c.hash_code ≡ 0x12
-
 -- why a section is no block under its name
 abbrev pub BlockRefused : {E : Type 0} → Section → ReadCarError E → Type 0
 BlockRefused s (OtherHash c) = (c ≡ s.0) × ¬ IsBySha256 c
@@ -39,10 +37,10 @@ BlockRefused s (OtherCodec c) = (c ≡ s.0) × IsBySha256 c × IsVerdict s verdi
 BlockRefused s (NoBlock c e) = (c ≡ s.0) × IsBySha256 c × IsVerdict s (verdict.Refused e)
 BlockRefused s _ = ⊥
 
--- why the block of a section is not kept
+-- why the block of a section is not kept: memory is wanted only for a block under its name
 abbrev pub SectionRefused : {E : Type 0} → Section → Held → ReadCarError E → Type 0
 SectionRefused s held (Collision c) = (c ≡ s.0) × IsNamedBlock s × HoldsOther s.1 held
-SectionRefused s held OutOfMemory = ⊤
+SectionRefused s held OutOfMemory = IsNamedBlock s
 SectionRefused s held e = BlockRefused s e
 
 -- ---- a refusal of the file
@@ -52,11 +50,12 @@ abbrev pub TellsOfFile : {E : Type 0} → CarError E → ReadCarError E → Type
 TellsOfFile car.OutOfMemory told = told ≡ OutOfMemory
 TellsOfFile error told = told ≡ Car error
 
--- the refusal is that of the file, which `CarRefuses` says of this cause
-abbrev pub FileRefused : {E : Type 0} → (CarError E → List ℕ → Type 0) → Reading → ReadCarError E
-    → Reading → Type 0
-FileRefused stands old told new = (e : CarError _) × TellsOfFile e told
-    × CarRefuses stands old e new
+-- the refusal is that of the file, which `CarRefuses` says of this cause; memory is wanted only
+-- where that lacks it
+abbrev pub FileRefused : {E : Type 0} → (CarError E → List ℕ → Type 0) → Type 0 → Reading
+    → ReadCarError E → Reading → Type 0
+FileRefused stands lacks old told new = (e : CarError _) × TellsOfFile e told
+    × CarRefuses stands old e new × LacksMemoryIf {T = Unit {0}} lacks (Err e)
 
 -- ---- the file
 
@@ -80,22 +79,27 @@ TakesCar old roots sections new = (b : List ℕ) → old.left ≡ Some b
 pub record KeepsAll (roots : List (List ℕ)) (sections : List Section) (old : Reading)
     (before : Held) (new : Reading) (after : Held) : Type 0 where
   pub is_car : TakesCar old roots sections new
-  pub faults : new.faults ≡ old.faults
+  pub same : Stays old new
   pub blocks : AllByRecursion IsNamedBlock sections
   pub holds : HoldsAlso before sections after
 
 -- why no section more is kept: none stands there, though bytes do; or the next, which was taken, is
 -- refused
 abbrev pub StopsAt : {E : Type 0} → Reading → Held → ReadCarError E → Reading → Type 0
-StopsAt old held e new = FileRefused RefusesSection old e new
+StopsAt old held e new = FileRefused RefusesSection (SectionLacks old) old e new
     ⊎ ((s : Section) × TakesSectionBytes old s new × SectionRefused s held e)
+
+-- the call gives up behind so many sections
+abbrev pub AreTooMany : {E : Type 0} → List Section → ReadCarError E → Type 0
+AreTooMany sections e = (e ≡ OutOfMemory) × (length sections ≡ 2 ^ 64 - 1)
 
 -- why a file is not read, and what is held: no header stands first; or else all sections up to a
 -- place were kept, and no more
 abbrev pub ReadRefused : {E : Type 0} → Reading → Held → ReadCarError E → Reading → Held → Type 0
-ReadRefused old before e new after = (FileRefused RefusesHeader old e new × (after ≡ before))
+ReadRefused old before e new after = (FileRefused RefusesHeader (HeaderLacks old) old e new × (after ≡ before))
     ⊎ ((roots : List (List ℕ)) × (sections : List Section) × (mid : Reading)
-    × IsReadTo roots sections old before mid after × StopsAt mid after e new)
+    × IsReadTo roots sections old before mid after
+    × (StopsAt mid after e new ⊎ ((new ≡ mid) × AreTooMany sections e)))
 
 -- A file is read exactly where all of its sections are blocks under their names, faults, want of
 -- memory and collisions aside. What is held is what was held, and the sections taken.

@@ -1,6 +1,6 @@
 //! Keeping blocks, reading them, and finding links that lead nowhere.
 
-ghost use Rattle.std.specs.Prelude.{◌≡◌, []};
+ghost use Rattle.std.specs.Prelude.{◌≡◌, ◌≢◌, [], true, IfOk, IfSome, OnErr};
 ghost use Rattle.dagcbor_blocks.specs.Blocks.{held_blocks, Puts, Gets, ListsMissing};
 ghost use Rattle.dagcbor_car.specs.Names.{block_name};
 ghost use Rattle.dagcbor_car.specs.Splits.{HasBlock};
@@ -9,7 +9,7 @@ ghost use Rattle.dagcbor_blocks.specs.Steps.{AddsOne, AddsMissing, ListsSet};
 
 use crate::error::BlockError;
 use crate::store::Blocks;
-use dagcbor_car::name_of_block;
+use dagcbor_car::{name_of_block, names_from_slice};
 use serde_ipld_dagcbor::{Cid, Deserialize, Serialize, from_slice, laws, links_from_slice, to_vec};
 use std::alloc::{AllocError, Global};
 use std::collections::{BTreeMap, BTreeSet};
@@ -83,7 +83,8 @@ impl Blocks {
 
     /// The block under the name, read as a value. None where no block is held under it.
     pub fn get<'a, T: Deserialize<'a>>(&'a self, name: &Cid) -> Result<Option<T>, BlockError>
-        ensures { Gets T.meaning T.shape name.now (held_blocks self.now) result }
+        ensures gets { Gets T.meaning T.shape name.now (held_blocks self.now) result }
+        ensures lies { IfOk result (λ found. IfSome found (T.lies true)) }
     {
         match self.blocks.get(name) {
             None => Ok(None),
@@ -94,16 +95,28 @@ impl Blocks {
         }
     }
 
-    /// The links in held blocks that name no held block, each once, in their order.
+    /// The links in held blocks that name no held block, each once, in their order. A name by the
+    /// identity holds its block itself: it is not listed, and the links in that block are followed.
     pub fn missing(&self) -> Result<Vec<Cid>, BlockError>
+        ensures lists { ListsMissing (held_blocks self.now) result }
+        ensures memory { OnErr result (held_blocks self.now ≢ []) }
+    {
+        if self.blocks.is_empty() {
+            return Ok(Vec::new(self.alloc));
+        }
+        self.missing_of_some()
+    }
+
+    /// The same, whatever it holds.
+    fn missing_of_some(&self) -> Result<Vec<Cid>, BlockError>
         ensures { ListsMissing (held_blocks self.now) result }
     {
         laws::spelling_unique();
         laws::cid_equality();
         let mut missing = BTreeSet::new(self.alloc);
         for block in self.blocks.values() {
-            let links = match links_from_slice(self.alloc, block) {
-                Ok(links) => links,
+            let links = match names_from_slice(self.alloc, block) {
+                Ok(names) => names,
                 Err(error) => return Err(BlockError::of_decoding(error)),
             };
             if self.add_missing(&links, &mut missing).is_err() {

@@ -14,7 +14,7 @@ pub enum ReadCarError<E> {
     /// The bytes are no file, or were not read. Never want of memory.
     #[error("{0}")]
     Car(CarError<E>),
-    /// The name is by another hash function than SHA-256.
+    /// The name is by another hash function than SHA-256, or by one of another length than 32 bytes.
     #[error("a block is named by another hash function than SHA-256")]
     OtherHash(Cid),
     /// The SHA-256 of the block is not the one in its name.

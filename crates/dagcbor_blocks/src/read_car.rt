@@ -53,7 +53,7 @@ impl Blocks {
             Ok(roots) => roots,
             Err(error) => return Err(ReadCarError::of_file(error)),
         };
-        for _ in 0..u64::MAX {
+        for _count in 0..u64::MAX {
             let more = self.keep_next(input)?;
             if !more {
                 return Ok(roots);

@@ -4,6 +4,7 @@ ghost use Rattle.std.specs.Prelude.{Some, OnOk};
 ghost use Rattle.serde_ipld_dagcbor.specs.Written.{Writes};
 ghost use Rattle.serde_ipld_dagcbor.specs.Walks.{forms};
 ghost use Rattle.dagcbor_car.specs.Car.{car_bytes, IsCar};
+ghost use Rattle.dagcbor_car.specs.Writers.{UnsentWithoutMemory};
 ghost use Rattle.dagcbor_blocks.specs.Blocks.{held_blocks};
 
 use crate::store::Blocks;
@@ -19,6 +20,8 @@ impl Blocks {
             (W.written writer.old) (W.written writer.new) result }
         ensures is_car { OnOk result (IsCar (car_bytes (forms roots.now) (held_blocks self.now))
             (forms roots.now) (held_blocks self.now)) }
+        ensures unsent { UnsentWithoutMemory W.takes_memory (W.written writer.old) result
+            (W.written writer.new) }
     {
         push_header(self.alloc, writer, roots)?;
         for (name, block) in self.blocks.iter() {

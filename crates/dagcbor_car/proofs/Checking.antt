@@ -1,6 +1,6 @@
 -- A file, section by section: which blocks it has, where its links lead, and what leads nowhere.
 use Rattle.std.proofs.Common.{◌≡◌, inl, inr, ℕ, ◌+◌, ◌<◌, List, [], ◌∷◌, ◌++◌, length, get_or, take, refl, sym, ap, ◌∙◌, subst, add-one}
-use Rattle.std.specs.Prelude.{◌↔◌, ◌⊎◌, Result, Ok, Err, OnOk, IfOk, Vec}
+use Rattle.std.specs.Prelude.{◌↔◌, ◌⊎◌, Result, Ok, Err, OnOk, IfOk, Vec, false}
 use Rattle.std.specs.declared.alloc.Global.{Global}
 use Rattle.std.specs.declared.convert.Infallible.{Infallible}
 use Rattle.dagcbor_heads.specs.declared.error.DecodeError.{DecodeError}
@@ -10,53 +10,58 @@ use Rattle.ipld_tree.specs.Cid.{CidParts, AreCidParts, cid_bytes, cid_cmp}
 use Rattle.ipld_tree.specs.Tree.{Tree, links_of}
 use Rattle.ipld_tree.proofs.Cids.{cid_unique}
 use Rattle.ipld_tree.proofs.Fronts.{front_unique}
-use Rattle.dagcbor_items.specs.Walks.{forms, Finds}
+use Rattle.std.specs.List.{AllByRecursion}
+use Rattle.dagcbor_items.specs.Walks.{forms}
 use Rattle.dagcbor_items.specs.Slices.{IsBlock}
 use Rattle.dagcbor_items.specs.declared.kind.Kind.{Kind}
 use Rattle.dagcbor_items.proofs.SliceReads.{whole_front}
 use Rattle.dagcbor_car.specs.Car.{Section}
 use Rattle.dagcbor_car.specs.Verdicts.{IsVerified, IsDagCbor, IsVerdict}
-use Rattle.dagcbor_car.specs.Sets.{Among, members, AddsCid, RemovesCid, AddsOthers, AreCids, HoldsLinks}
+use Rattle.dagcbor_car.specs.Sets.{Among, members, AddsCid, RemovesCid, AddsOthers, AreCids}
+use Rattle.dagcbor_car.specs.Within.{IsWithin, IsReached, HoldsReached, AddsReached, AddsAll}
+use Rattle.dagcbor_car.proofs.Within.{reached_only, reached_of_cids, reached_cid, not_inline}
 use Rattle.dagcbor_car.specs.Checks.{IsHeld, IsLinked, NamesNone, ListsMissing, IsAfter, TakesSection, HoldsName, FollowsLinks}
 use Rattle.dagcbor_car.specs.declared.verdict.Verdict.{Verdict}
 use Rattle.dagcbor_car.specs.declared.verdict.Verdict.TheVariants.{Block, Refused, OtherBytes, NotRead, Unverified}
 use Rattle.dagcbor_car.specs.declared.cid_set.CidSet.{CidSet}
 use Rattle.dagcbor_car.specs.declared.check.CarCheck.{CarCheck}
 use Rattle.dagcbor_car.proofs.Headers.{no_block}
-use Rattle.dagcbor_car.proofs.Members.{among_push, push_among, among_append, append_among, map_among, among_forms, links_none}
+use Rattle.dagcbor_car.proofs.Testing.{verified_testable}
+use Rattle.dagcbor_car.proofs.Members.{among_push, push_among, map_among, among_forms}
 
 -- ---- the roots
 
-forms_push : (cs : List CidParts) (c : CidParts) → forms (cs ++ c ∷ []) ≡ forms cs ++ cid_bytes c ∷ []
-forms_push [] c = refl
-forms_push (x ∷ cs) c = ap (λ more. cid_bytes x ∷ more) (forms_push cs c)
-
-pub next_root : (roots : List CidParts) (i : ℕ) (root : CidParts) (old new : CidSet) → i < length roots → root ≡ get_or roots i root → HoldsLinks old (forms (take i roots)) → Finds HoldsLinks old (cid_bytes root ∷ []) new → HoldsLinks new (forms (take (i + 1) roots))
-next_root roots i root old new within is h found =
-    let more : take i roots ++ root ∷ [] ≡ take (i + 1) roots = ap (λ y. take i roots ++ y ∷ []) is ∙ sym (take-suc roots i root within) ∙ ap (λ n. take n roots) (sym (add-one i)) in
-    subst (HoldsLinks new) (sym (forms_push (take i roots) root) ∙ ap forms more) (found (forms (take i roots)) h)
-
-pub after_header : (alloc : Global) (roots : List CidParts) (i : ℕ) (held missing : CidSet) → i ≡ length roots → members held ≡ [] → HoldsLinks missing (forms (take i roots)) → IsAfter record { alloc = alloc; held = held; missing = missing } (forms roots) []
-after_header alloc roots i held missing all none h = record {
+pub after_header : (alloc : Global) (roots : List CidParts) (held start missing : CidSet) → members held ≡ [] → members start ≡ [] → AddsAll roots start missing → IsAfter record { alloc = alloc; held = held; missing = missing; failed = false } (forms roots) []
+after_header alloc roots held start missing none empty h = record {
   held = λ c. (λ m. absurd (subst (Among c) none m), λ m. absurd m.1);
   names = λ q m. absurd (subst (Among q) none m);
-  missing = λ form. (λ m. (inl ((whole.1 form).0 m), λ s k. absurd k), λ l. by form l.0);
-  cids = h.0;
+  missing = λ form. (there form, λ l. back form l.0 l.1);
+  cids = λ q m. ((whole q).0 m).0;
 }
   where
-    whole : HoldsLinks missing (forms roots)
-    whole = subst (HoldsLinks missing) (ap forms (ap (λ n. take n roots) all ∙ take-length roots)) h
+    whole : HoldsReached missing (forms roots)
+    whole = reached_only start missing (forms roots) empty h.1
 
-    by : (form : List ℕ) → IsLinked form (forms roots) [] → Among form (forms (members missing))
-    by form (inl m) = (whole.1 form).1 m
-    by form (inr l) = absurd l.2
+    there : (form : List ℕ) → Among form (forms (members missing)) → IsLinked form (forms roots) [] × NamesNone form []
+    there form m =
+        let q = map_among cid_bytes form (members missing) m in
+        let w = (whole q.0).0 q.1 in (
+          (w.2.0, w.2.1, inl w.2.2, subst (IsWithin w.2.1 w.2.0) (sym q.2) w.2.3),
+          (not_inline form q.0 w.0 w.1 q.2, λ s k. absurd k),
+        )
+
+    back : (form : List ℕ) → IsLinked form (forms roots) [] → NamesNone form [] → Among form (forms (members missing))
+    back form (link, n, inl m, w) free =
+        let c = reached_of_cids roots form h.0 (link, n, m, w) in
+        among_forms form c.0 (members missing) ((whole c.0).1 (c.1, (λ i. free.0 (c.0, c.1, c.2, i)), (link, n, m, subst (IsWithin n link) c.2 w))) c.2
+    back form (link, n, inr l, w) free = absurd l.2
 
 -- ---- a section
 
 -- what was linked is linked still
 linked_still : (form : List ℕ) (roots : List (List ℕ)) (sections : List Section) (s : Section) → IsLinked form roots sections → IsLinked form roots (sections ++ s ∷ [])
-linked_still form roots sections s (inl m) = inl m
-linked_still form roots sections s (inr l) = inr (l.0, l.1, push_among l.0 sections s (inl l.2), l.3, l.4, l.5, l.6)
+linked_still form roots sections s (link, n, inl m, w) = (link, n, inl m, w)
+linked_still form roots sections s (link, n, inr l, w) = (link, n, inr (l.0, l.1, push_among l.0 sections s (inl l.2), l.3, l.4, l.5, l.6), w)
 
 -- a name joined those of the verified blocks
 held_more : (s : Section) (sections : List Section) (old new : CidSet) → IsVerified s → AddsCid s.0 old new → ((c : CidParts) → Among c (members old) ↔ IsHeld c sections) → (c : CidParts) → Among c (members new) ↔ IsHeld c (sections ++ s ∷ [])
@@ -77,28 +82,31 @@ held_more s sections old new v a h c = (there, back)
 names_more : (c : CidParts) (old new : CidSet) → AddsCid c old new → AreCids old → AreCids new
 names_more c old new a h q m = elim ((a.1 q).0 m) [ inl o ↦ h q o | inr e ↦ subst AreCidParts (sym e) a.0 ]
 
--- a link of the section's block, where that is verified and DAG-CBOR
+-- reached from a link of the section's block, where that is verified and DAG-CBOR
 abbrev IsLinkOf : List ℕ → Section → Type 0
-IsLinkOf form s = (t : Tree) × IsVerified s × IsDagCbor s.0 × IsBlock s.1 t × Among form (links_of t)
+IsLinkOf form s = (t : Tree) × IsVerified s × IsDagCbor s.0 × IsBlock s.1 t × IsReached form (links_of t)
 
 -- what is linked was linked before, or is by this section
 linked_by : (form : List ℕ) (roots : List (List ℕ)) (sections : List Section) (s : Section) → IsLinked form roots (sections ++ s ∷ []) → IsLinked form roots sections ⊎ IsLinkOf form s
-linked_by form roots sections s (inl m) = inl (inl m)
-linked_by form roots sections s (inr l) = elim (among_push l.0 sections s l.2) [
-  | inl m ↦ inl (inr (l.0, l.1, m, l.3, l.4, l.5, l.6))
-  | inr e ↦ inr (l.1, subst IsVerified e l.3, subst (λ (p : Section). IsDagCbor p.0) e l.4, subst (λ (p : Section). IsBlock p.1 l.1) e l.5, l.6)
+linked_by form roots sections s (link, n, inl m, w) = inl (link, n, inl m, w)
+linked_by form roots sections s (link, n, inr l, w) = elim (among_push l.0 sections s l.2) [
+  | inl m ↦ inl (link, n, inr (l.0, l.1, m, l.3, l.4, l.5, l.6), w)
+  | inr e ↦ inr (l.1, subst IsVerified e l.3, subst (λ (p : Section). IsDagCbor p.0) e l.4, subst (λ (p : Section). IsBlock p.1 l.1) e l.5, (link, n, l.6, w))
 ]
 
 -- what names none of the blocks named none of the first
 none_before : (form : List ℕ) (sections : List Section) (s : Section) → NamesNone form (sections ++ s ∷ []) → NamesNone form sections
-none_before form sections s none k m = none k (push_among k sections s (inl m))
+none_before form sections s none = (none.0, λ k m. none.1 k (push_among k sections s (inl m)))
 
 -- what names none of the first blocks, nor this one, names none
 none_more : (form : List ℕ) (sections : List Section) (s : Section) → NamesNone form sections → (IsVerified s → cid_bytes s.0 ≡ form → ⊥) → NamesNone form (sections ++ s ∷ [])
-none_more form sections s none other k m v e = elim (among_push k sections s m) [
-  | inl o ↦ none k o v e
-  | inr is ↦ other (subst IsVerified is v) (subst (λ (p : Section). cid_bytes p.0 ≡ form) is e)
-]
+none_more form sections s none other = (
+  none.0,
+  λ k m v e. elim (among_push k sections s m) [
+    | inl o ↦ none.1 k o v e
+    | inr is ↦ other (subst IsVerified is v) (subst (λ (p : Section). cid_bytes p.0 ≡ form) is e)
+  ],
+)
 
 -- the name of a verified block is missing no more
 name_out : (s : Section) (roots : List (List ℕ)) (sections : List Section) (old new : CidSet) → IsVerified s → AreCidParts s.0 → AreCids old → RemovesCid s.0 old new
@@ -116,13 +124,13 @@ name_out s roots sections old new v valid cids cut h form = (there, back)
     back : IsLinked form roots sections × NamesNone form (sections ++ s ∷ []) → Among form (forms (members new))
     back m =
         let q = map_among cid_bytes form (members old) ((h form).1 (m.0, none_before form sections s m.1)) in
-        among_forms form q.0 (members new) ((cut q.0).1 (q.1, λ e. m.1 s (push_among s sections s (inr refl)) v (ap cid_bytes (sym e) ∙ sym q.2))) q.2
+        among_forms form q.0 (members new) ((cut q.0).1 (q.1, λ e. m.1.1 s (push_among s sections s (inr refl)) v (ap cid_bytes (sym e) ∙ sym q.2))) q.2
 
 fewer_cids : (c : CidParts) (old new : CidSet) → RemovesCid c old new → AreCids old → AreCids new
 fewer_cids c old new cut h q m = h q ((cut q).0 m).0
 
 -- the links that are not held are missing too
-links_in : (s : Section) (t : Tree) (roots : List (List ℕ)) (sections : List Section) (held links old new : CidSet) → IsVerified s → IsDagCbor s.0 → IsBlock s.1 t → HoldsLinks links (links_of t) → AddsOthers (members links) (members held) old new
+links_in : (s : Section) (t : Tree) (roots : List (List ℕ)) (sections : List Section) (held links old new : CidSet) → IsVerified s → IsDagCbor s.0 → IsBlock s.1 t → HoldsReached links (links_of t) → AddsOthers (members links) (members held) old new
     → AreCids held → ((c : CidParts) → Among c (members held) ↔ IsHeld c (sections ++ s ∷ []))
     → ((form : List ℕ) → Among form (forms (members old)) ↔ (IsLinked form roots sections × NamesNone form (sections ++ s ∷ [])))
     → (form : List ℕ) → Among form (forms (members new)) ↔ (IsLinked form roots (sections ++ s ∷ []) × NamesNone form (sections ++ s ∷ []))
@@ -136,22 +144,26 @@ links_in s t roots sections held links old new v d block l joins names has h for
         let q = map_among cid_bytes form (members new) m in
         elim ((joins q.0).0 q.1) [
           | inl o ↦ let k = (h form).0 (among_forms form q.0 (members old) o q.2) in (linked_still form roots sections s k.0, k.1)
-          | inr w ↦ (
-            inr (s, t, push_among s sections s (inr refl), v, d, block, (l.1 form).0 (among_forms form q.0 (members links) w.0 q.2)),
-            λ k n u e.
-                let found = (has k.0).1 (k.1, n, u) in
-                let same = cid_unique k.0 q.0 (names k.0 found) (l.0 q.0 w.0) (e ∙ q.2) in
-                w.1 (subst (λ c. Among c (members held)) same found),
+          | inr w ↦ let r = (l q.0).0 w.0 in (
+            (r.2.0, r.2.1, inr (s, t, push_among s sections s (inr refl), v, d, block, r.2.2), subst (IsWithin r.2.1 r.2.0) (sym q.2) r.2.3),
+            (
+              not_inline form q.0 r.0 r.1 q.2,
+              λ k n u e.
+                  let found = (has k.0).1 (k.1, n, u) in
+                  let same = cid_unique k.0 q.0 (names k.0 found) r.0 (e ∙ q.2) in
+                  w.1 (subst (λ c. Among c (members held)) same found),
+            ),
           )
         ]
 
     same_tree : (u : Tree) → IsBlock s.1 u → u ≡ t
     same_tree u b = (front_unique s.1 [] [] u t (whole_front b.0) (whole_front block.0)).0
 
-    joined : Among form (links_of t) → NamesNone form more → Among form (forms (members new))
-    joined m none =
-        let q = map_among cid_bytes form (members links) ((l.1 form).1 m) in
-        among_forms form q.0 (members new) ((joins q.0).1 (inr (q.1, λ found. let w = (has q.0).0 found in none (q.0, w.0) w.1 w.2 (sym q.2)))) q.2
+    joined : IsReached form (links_of t) → NamesNone form more → Among form (forms (members new))
+    joined r none =
+        let q = reached_cid t form block.0.well_formed r in
+        let in_links = (l q.0).1 (q.1, (λ i. none.0 (q.0, q.1, q.2, i)), (r.0, r.1, r.2, subst (IsWithin r.1 r.0) q.2 r.3)) in
+        among_forms form q.0 (members new) ((joins q.0).1 (inr (in_links, λ found. let w = (has q.0).0 found in none.1 (q.0, w.0) w.1 w.2 (sym q.2)))) q.2
 
     stays : Among form (forms (members old)) → Among form (forms (members new))
     stays m = let q = map_among cid_bytes form (members old) m in among_forms form q.0 (members new) ((joins q.0).1 (inl q.1)) q.2
@@ -159,15 +171,15 @@ links_in s t roots sections held links old new v d block l joins names has h for
     back : IsLinked form roots more × NamesNone form more → Among form (forms (members new))
     back m = elim (linked_by form roots sections s m.0) [
       | inl o ↦ stays ((h form).1 (o, m.1))
-      | inr k ↦ joined (subst (λ u. Among form (links_of u)) (same_tree k.0 k.3) k.4) m.1
+      | inr k ↦ joined (subst (λ u. IsReached form (links_of u)) (same_tree k.0 k.3) k.4) m.1
     ]
 
-more_cids : (links : List (List ℕ)) (held : List CidParts) (cids old new : CidSet) → HoldsLinks cids links → AddsOthers (members cids) held old new → AreCids old → AreCids new
-more_cids links held cids old new l joins h q m = elim ((joins q).0 m) [ inl o ↦ h q o | inr w ↦ l.0 q w.0 ]
+more_cids : (links : List (List ℕ)) (held : List CidParts) (cids old new : CidSet) → HoldsReached cids links → AddsOthers (members cids) held old new → AreCids old → AreCids new
+more_cids links held cids old new l joins h q m = elim ((joins q).0 m) [ inl o ↦ h q o | inr w ↦ ((l q).0 w.0).0 ]
 
-pub links_followed : {E : Type 0} (b : List ℕ) (old : CarCheck) (start links after : CidSet) (r : Result (Unit {0}) E) → members start ≡ [] → (t : Tree) × IsBlock b t × Finds HoldsLinks start (links_of t) links
-    → OnOk r (AddsOthers (members links) (members old.held) old.missing after) → OnOk r (FollowsLinks b old record { alloc = old.alloc; held = old.held; missing = after })
-links_followed b old start links after (Ok u) none found joins = (refl, (found.0, found.1, (links, found.2 [] (links_none start none), joins)))
+pub links_followed : {E : Type 0} (b : List ℕ) (old : CarCheck) (start links after : CidSet) (r : Result (Unit {0}) E) → members start ≡ [] → (t : Tree) × IsBlock b t × AddsReached (links_of t) start links
+    → OnOk r (AddsOthers (members links) (members old.held) old.missing after) → OnOk r (FollowsLinks b old record { alloc = old.alloc; held = old.held; missing = after; failed = old.failed })
+links_followed b old start links after (Ok u) none found joins = (refl, (found.0, found.1, (links, reached_only start links (links_of found.0) none found.2, joins)))
 links_followed b old start links after (Err e) none found joins = tt
 
 -- a verified block of DAG-CBOR
@@ -224,6 +236,18 @@ unnamed_taken s k none roots sections h = record {
   cids = h.cids;
 }
 
+-- what is known is of the two sets alone
+known_same : (k j : CarCheck) (roots : List (List ℕ)) (sections : List Section) → j.held ≡ k.held → j.missing ≡ k.missing → IsAfter k roots sections → IsAfter j roots sections
+known_same k j roots sections held missing h = record {
+  held = subst (λ x. (c : CidParts) → Among c (members x) ↔ IsHeld c sections) (sym held) h.held;
+  names = subst AreCids (sym held) h.names;
+  missing = subst (λ x. (form : List ℕ) → Among form (forms (members x)) ↔ (IsLinked form roots sections × NamesNone form sections)) (sym missing) h.missing;
+  cids = subst AreCids (sym missing) h.cids;
+}
+
+pub taken_same : (s : Section) (old before behind new : CarCheck) → before.held ≡ old.held → before.missing ≡ old.missing → new.held ≡ behind.held → new.missing ≡ behind.missing → TakesSection s before behind → TakesSection s old new
+taken_same s old before behind new a b c d h roots sections k = known_same behind new roots (sections ++ s ∷ []) c d (h roots sections (known_same old before roots sections a b k))
+
 -- ---- by the verdict
 
 pub block_noted : {E : Type 0} (s : Section) (v : Verdict) (kind : Kind) (r : Result (Unit {0}) E) (old mid new : CarCheck) → v ≡ Block kind → IsVerdict s v → HoldsName s.0 old mid → OnOk r (FollowsLinks s.1 mid new) → OnOk r (TakesSection s old new)
@@ -247,12 +271,12 @@ unread_noted s v (Err e) old new is verdict a = tt
 pub others_noted : (s : Section) (v : Verdict) (k : CarCheck) → v ≡ OtherBytes → IsVerdict s v → TakesSection s k k
 others_noted s v k is verdict =
     let w = subst (IsVerdict s) is verdict in
-    unnamed_taken s k (λ named. let same = sym w.1 ∙ named in w.2 (cc same))
+    unnamed_taken s k w.1
 
 pub unverified_noted : (s : Section) (v : Verdict) (k : CarCheck) → v ≡ Unverified → IsVerdict s v → TakesSection s k k
 unverified_noted s v k is verdict =
     let w = subst (IsVerdict s) is verdict in
-    unnamed_taken s k (λ named. let clash = sym w ∙ named in absurd (cc clash))
+    unnamed_taken s k (λ named. w (verified_testable s named))
 
 -- ---- what leads nowhere
 

@@ -3,18 +3,22 @@ use Rattle.std.proofs.Common.{◌≡◌, inl, inr, ℕ, ◌<◌, List, [], ◌�
 use Rattle.std.specs.Prelude.{⊤, Some, Result, Ok, Err, Vec, MatchResult}
 use Rattle.std.specs.List.{AllByRecursion, flat_map}
 use Rattle.std.specs.declared.alloc.Global.{Global}
-use Rattle.dagcbor_heads.specs.Reading.{Reading}
+use Rattle.dagcbor_heads.specs.Reading.{Reading, Stays}
+use Rattle.dagcbor_heads.proofs.Taking.{stays_both}
 use Rattle.dagcbor_heads.specs.Fronts.{FindsEnd}
 use Rattle.ipld_tree.specs.Cid.{CidParts}
-use Rattle.dagcbor_car.specs.Car.{header_bytes, Section, section_bytes, car_bytes, IsSection, IsCar}
+use Rattle.ipld_tree.specs.Spelling.{spelling, IsSpelling}
+use Rattle.dagcbor_car.specs.Car.{header_tree, header_bytes, Section, section_bytes, car_bytes, IsSection, IsCar}
 use Rattle.dagcbor_car.specs.Splits.{SplitsSection, BeginsNoSection, SplitsHeader}
-use Rattle.dagcbor_car.specs.Sources.{CarRefuses, RefusesHeader, RefusesSection, TakesHeader, TakesSectionBytes}
-use Rattle.dagcbor_car.specs.Verdicts.{IsVerdict, Told, sections_of, AreTold, TellsAll}
-use Rattle.dagcbor_car.specs.Checks.{IsAfter, ListsMissing, TellsVerdict, StepRefused, IsCarFront, IsNoCar, CarFault, TellsFront, CarRefused, ChecksInput}
+use Rattle.dagcbor_car.specs.Sources.{CarRefuses, LacksMemoryIf, HeaderLacks, RefusesHeader, RefusesSection, TakesHeader, TakesSectionBytes}
+use Rattle.dagcbor_car.specs.Verdicts.{IsVerdict, Told, sections_of, AreTold, TellsAll, Tells}
+use Rattle.dagcbor_car.specs.Checks.{IsAfter, ListsMissing, TakesSection, TellsVerdict, TellsNone, StepRefused, IsCarFront, IsNoCar, CarFault, TellsFront, CarRefused, ChecksInput}
 use Rattle.dagcbor_car.specs.declared.error.CarError.{CarError}
 use Rattle.dagcbor_car.specs.declared.error.CarError.TheVariants.{Read, Truncated, InvalidLength, InvalidCid, NoBlock, OtherHeader, OutOfMemory}
+use Rattle.dagcbor_car.specs.declared.verdict.Verdict.{Verdict}
 use Rattle.dagcbor_car.specs.declared.check.CarCheck.{CarCheck}
 use Rattle.dagcbor_car.proofs.Cars.{section_unique, section_some, header_unique}
+use Rattle.dagcbor_car.proofs.Headers.{header_block}
 
 -- ---- one section more
 
@@ -33,6 +37,21 @@ sections_push (x ∷ told) p = ap (λ more. x.0 ∷ more) (sections_push told p)
 pub told_push : (told : List Told) (p : Told) → AreTold told → IsVerdict p.0 p.1 → AreTold (told ++ p ∷ [])
 told_push [] p h v = (v, tt)
 told_push (x ∷ told) p h v = (h.0, told_push told p h.1 v)
+
+-- ---- nothing told
+
+pub tells_none : {S : Type 0} (holds : S → List Told → Type 0) (s : S) → TellsAll holds s [] s
+tells_none holds s before h = subst (holds s) (sym (append-nil before)) h
+
+pub none_told : {S E : Type 0} (holds : S → List Told → Type 0) (e : CarError E) (s : S) → TellsNone holds e s s
+none_told holds OutOfMemory s = tells_none holds s
+none_told holds e s = refl
+
+-- the verdict is told, or the sink refuses it
+pub section_told : {E : Type 0} {S : Type 0} (holds : S → List Told → Type 0) (P : Type 0) (s : Section) (v : Verdict) (r : Result (Unit {0}) E) (check next : CarCheck) (before after : S) → IsVerdict s v → TakesSection s check next
+    → MatchResult r (λ _. Tells holds before (s, v) after) (λ _. P × TellsAll holds before [] after) → MatchResult r (λ _. TellsVerdict holds s check before next after) (λ _. TellsAll holds before [] after)
+section_told holds P s v (Ok u) check next before after is takes t = (v, is, takes, t)
+section_told holds P s v (Err e) check next before after is takes t = t.1
 
 -- ---- how far a file was gone through
 
@@ -105,17 +124,33 @@ no_car_behind b rest roots ss h some none others ts car =
 pub no_car : (b : List ℕ) → ((roots : List (List ℕ)) (rest : List ℕ) → SplitsHeader b roots rest → ⊥) → IsNoCar b
 no_car b none roots ss car = none roots (flat_map section_bytes ss) (car.header, car.is)
 
+-- ---- want of memory
+
+-- memory is wanted behind a header, which is a block
+behind_lacks : (roots : List (List ℕ)) (old now : Reading) → TakesHeader old roots now → HeaderLacks old
+behind_lacks roots old now h lends b l =
+    let w = h.1.taken b l in
+    let s : IsSpelling (spelling (header_tree roots)) (header_tree roots) = record { well_formed = h.0.well_formed; spellable = h.0.spellable; is = refl } in
+    (spelling (header_tree roots), w.0, (h.0.fits, w.1), (header_tree roots, header_block (spelling (header_tree roots)) roots s))
+
+lacks_if : {T E : Type 0} (P : Type 0) (r : Result T (CarError E)) → P → LacksMemoryIf P r
+lacks_if P (Ok v) p = tt
+lacks_if P (Err OutOfMemory) p = p
+lacks_if P (Err e) p = tt
+
 -- ---- a file from an input
 
 -- the same of an input, of whose source nothing failed yet
 pub record SoFarOf {S : Type 0} (holds : S → List Told → Type 0) (old now : Reading) (check : CarCheck) (before after : S) : Type 0 where
   pub known : (b : List ℕ) → old.left ≡ Some b → (rest : List ℕ) × (now.left ≡ Some rest) × SoFar holds b rest check before after
-  pub faults : now.faults ≡ old.faults
+  pub same : Stays old now
+  pub lacks : HeaderLacks old
 
 pub input_begun : {S : Type 0} (holds : S → List Told → Type 0) (roots : List (List ℕ)) (old now : Reading) (check : CarCheck) (before : S) → TakesHeader old roots now → IsAfter check roots [] → SoFarOf holds old now check before before
 input_begun holds roots old now check before h after = record {
   known = λ b l. let w = h.1.taken b l in (w.0, w.2, behind_header holds b w.0 roots check before (h.0, w.1) after);
-  faults = h.1.same.faults;
+  same = h.1.same;
+  lacks = behind_lacks roots old now h;
 }
 
 pub section_more : {S : Type 0} (holds : S → List Told → Type 0) (old mid now : Reading) (check next : CarCheck) (before between after : S) (s : Section) → SoFarOf holds old mid check before between → TakesSectionBytes mid s now → TellsVerdict holds s check between next after → SoFarOf holds old now next before after
@@ -124,7 +159,8 @@ section_more holds old mid now check next before between after s h k t = record 
       let far = h.known b l in
       let w = k.1.taken far.0 far.1 in
       (w.0, w.2, behind_section holds b far.0 w.0 check next before between after s far.2 (k.0, w.1) t);
-  faults = k.1.same.faults ∙ h.faults;
+  same = stays_both h.same k.1.same;
+  lacks = h.lacks;
 }
 
 -- a header that is refused
@@ -133,7 +169,7 @@ header_fault holds e b before h = (no_car b h.0, inl (h, refl))
 
 header_refused : {S E : Type 0} (holds : S → List Told → Type 0) (old now : Reading) (e : CarError E) (b : List ℕ) (before : S) → CarRefuses RefusesHeader old e now → old.left ≡ Some b → CarRefused holds e b before before
 header_refused holds old now (Read f) b before r l = inl refl
-header_refused holds old now OutOfMemory b before r l = tt
+header_refused holds old now OutOfMemory b before r l = inl (tells_none holds before)
 header_refused holds old now e b before r l = header_fault holds e b before (r.1 b l)
 
 -- ---- refusals of what is behind the header
@@ -147,20 +183,30 @@ told_so_far holds b rest check old mid new h same = record {
   tells = subst (TellsAll holds old h.told) (sym same) h.tells;
 }
 
+-- the sink refused one more
+told_further : {S : Type 0} (holds : S → List Told → Type 0) (b rest : List ℕ) (check : CarCheck) (old mid new : S) → SoFar holds b rest check old mid → TellsAll holds mid [] new → TellsFront holds b rest old new
+told_further holds b rest check old mid new h none = record {
+  roots = h.roots;
+  told = h.told;
+  front = h.front;
+  right = h.right;
+  tells = λ before k. subst (holds new) (append-nil (before ++ h.told)) (none (before ++ h.told) (h.tells before k));
+}
+
 section_fault : {S E : Type 0} (holds : S → List Told → Type 0) (e : CarError E) (b rest : List ℕ) (check : CarCheck) (old mid new : S) → SoFar holds b rest check old mid → new ≡ mid → RefusesSection e rest → IsNoCar b × CarFault holds e b old new
 section_fault holds e b rest check old mid new h same f = (
   no_car_behind b rest h.roots (sections_of h.told) h.front f.0 f.1,
   inr (rest, f, told_so_far holds b rest check old mid new h same),
 )
 
-section_refused : {S E : Type 0} (holds : S → List Told → Type 0) (mid now : Reading) (e : CarError E) (b rest : List ℕ) (check : CarCheck) (before between after : S) → SoFar holds b rest check before between → mid.left ≡ Some rest → StepRefused mid between e now after → CarRefused holds e b before after
-section_refused holds mid now (Read f) b rest check before between after h l r = inr (rest, told_so_far holds b rest check before between after h (r.1 (λ x. absurd (cc x))))
-section_refused holds mid now OutOfMemory b rest check before between after h l r = tt
-section_refused {E = E} holds mid now Truncated b rest check before between after h l r = section_fault {E = E} holds Truncated b rest check before between after h (r.1 (λ x. absurd (cc x))) (r.0.1 rest l)
-section_refused {E = E} holds mid now InvalidLength b rest check before between after h l r = section_fault {E = E} holds InvalidLength b rest check before between after h (r.1 (λ x. absurd (cc x))) (r.0.1 rest l)
-section_refused {E = E} holds mid now (InvalidCid g) b rest check before between after h l r = section_fault {E = E} holds (InvalidCid g) b rest check before between after h (r.1 (λ x. absurd (cc x))) (r.0.1 rest l)
-section_refused {E = E} holds mid now (NoBlock g) b rest check before between after h l r = section_fault {E = E} holds (NoBlock g) b rest check before between after h (r.1 (λ x. absurd (cc x))) (r.0.1 rest l)
-section_refused {E = E} holds mid now OtherHeader b rest check before between after h l r = section_fault {E = E} holds OtherHeader b rest check before between after h (r.1 (λ x. absurd (cc x))) (r.0.1 rest l)
+section_refused : {S E : Type 0} (holds : S → List Told → Type 0) (mid now : Reading) (e : CarError E) (b rest : List ℕ) (check : CarCheck) (before between after : S) → SoFar holds b rest check before between → mid.left ≡ Some rest → StepRefused holds mid between e now after → CarRefused holds e b before after
+section_refused holds mid now (Read f) b rest check before between after h l r = inr (rest, told_so_far holds b rest check before between after h r.1)
+section_refused holds mid now OutOfMemory b rest check before between after h l r = inr (rest, told_further holds b rest check before between after h r.1)
+section_refused {E = E} holds mid now Truncated b rest check before between after h l r = section_fault {E = E} holds Truncated b rest check before between after h r.1 (r.0.1 rest l)
+section_refused {E = E} holds mid now InvalidLength b rest check before between after h l r = section_fault {E = E} holds InvalidLength b rest check before between after h r.1 (r.0.1 rest l)
+section_refused {E = E} holds mid now (InvalidCid g) b rest check before between after h l r = section_fault {E = E} holds (InvalidCid g) b rest check before between after h r.1 (r.0.1 rest l)
+section_refused {E = E} holds mid now (NoBlock g) b rest check before between after h l r = section_fault {E = E} holds (NoBlock g) b rest check before between after h r.1 (r.0.1 rest l)
+section_refused {E = E} holds mid now OtherHeader b rest check before between after h l r = section_fault {E = E} holds OtherHeader b rest check before between after h r.1 (r.0.1 rest l)
 
 -- ---- what is answered of a whole file
 
@@ -179,22 +225,34 @@ fault_behind old mid now e h r = (r.0 ∙ h, λ _ _. tt)
 abbrev refused : {E : Type 0} → CarError E → Result (Vec CidParts Global) (CarError E)
 refused e = Err e
 
-pub no_header : {S E : Type 0} (holds : S → List Told → Type 0) (old now : Reading) (e : CarError E) (before : S) → CarRefuses RefusesHeader old e now → ChecksInput holds old before (refused e) now before
-no_header holds old now e before r = record {
+pub no_header : {S E : Type 0} (holds : S → List Told → Type 0) (old now : Reading) (e : CarError E) (before : S) → CarRefuses RefusesHeader old e now → LacksMemoryIf (HeaderLacks old) (refused e) → ChecksInput holds old before (refused e) now before
+no_header holds old now e before r lacks = record {
   known = λ b l. header_refused holds old now e b before r l;
   all = tt;
   faults = only_fault RefusesHeader old now e r;
+  memory = lacks;
 }
 
-pub no_section : {S E : Type 0} (holds : S → List Told → Type 0) (old mid now : Reading) (e : CarError E) (check : CarCheck) (before between after : S) → SoFarOf holds old mid check before between → StepRefused mid between e now after → ChecksInput holds old before (refused e) now after
+pub no_section : {S E : Type 0} (holds : S → List Told → Type 0) (old mid now : Reading) (e : CarError E) (check : CarCheck) (before between after : S) → SoFarOf holds old mid check before between → StepRefused holds mid between e now after → ChecksInput holds old before (refused e) now after
 no_section holds old mid now e check before between after h r = record {
   known = λ b l. let far = h.known b l in section_refused holds mid now e b far.0 check before between after far.2 far.1 r;
   all = tt;
-  faults = fault_behind old mid now e h.faults (only_fault RefusesSection mid now e r.0);
+  faults = fault_behind old mid now e h.same.faults (only_fault RefusesSection mid now e r.0);
+  memory = lacks_if (HeaderLacks old) (refused e) h.lacks;
 }
 
-pub no_memory : {S : Type 0} (E : Type 0) (holds : S → List Told → Type 0) (old now : Reading) (before after : S) → now.faults ≡ old.faults → ChecksInput {E = E} holds old before (refused OutOfMemory) now after
-no_memory E holds old now before after same = record { known = λ b l. tt; all = tt; faults = same }
+-- want of memory before the first section
+pub no_check : {S : Type 0} (E : Type 0) (holds : S → List Told → Type 0) (roots : List (List ℕ)) (old now : Reading) (before : S) → TakesHeader old roots now → ChecksInput {E = E} holds old before (refused OutOfMemory) now before
+no_check E holds roots old now before h = record { known = λ b l. inl (tells_none holds before); all = tt; faults = h.1.same.faults; memory = behind_lacks roots old now h }
+
+-- want of memory behind some sections
+pub no_memory : {S : Type 0} (E : Type 0) (holds : S → List Told → Type 0) (old mid now : Reading) (check : CarCheck) (before after : S) → SoFarOf holds old mid check before after → now.faults ≡ mid.faults → ChecksInput {E = E} holds old before (refused OutOfMemory) now after
+no_memory E holds old mid now check before after h same = record {
+  known = λ b l. let far = h.known b l in inr (far.0, told_so_far holds b far.0 check before after after far.2 refl);
+  all = tt;
+  faults = same ∙ h.same.faults;
+  memory = h.lacks;
+}
 
 whole_input : {S : Type 0} (E : Type 0) (holds : S → List Told → Type 0) (old mid now : Reading) (check : CarCheck) (before after : S) (v : Vec CidParts Global) → SoFarOf holds old mid check before after → FindsEnd mid now
     → ((roots : List (List ℕ)) (sections : List Section) → IsAfter check roots sections → ListsMissing roots sections v) → ChecksInput {E = E} holds old before (Ok v) now after
@@ -205,7 +263,8 @@ whole_input E holds old mid now check before after v h end lists = record {
       let none = end.none_left far.0 far.1 in
       (so.roots, so.told, whole_car b far.0 so.roots (sections_of so.told) (ap length none) so.front, so.right, so.tells, lists so.roots (sections_of so.told) so.after);
   all = λ b l. let far = h.known b l in end.kept far.0 far.1 ∙ ap Some (end.none_left far.0 far.1);
-  faults = end.same.faults ∙ h.faults;
+  faults = stays_both h.same end.same;
+  memory = tt;
 }
 
 -- the check's answer at the end of the file
@@ -214,4 +273,4 @@ pub input_ended : {S E : Type 0} (holds : S → List Told → Type 0) (old mid n
     → MatchResult r (λ v. (roots : List (List ℕ)) (sections : List Section) → IsAfter next roots sections → ListsMissing roots sections v) (λ e. e ≡ OutOfMemory) → ChecksInput holds old before r now after
 input_ended {S} {E} holds old mid now check next before between after (Ok v) h end same told lists =
     whole_input E holds old mid now check before after v (subst (λ a. SoFarOf holds old mid check before a) (sym told) h) end (λ roots sections k. lists roots sections (subst (λ x. IsAfter x roots sections) (sym same) k))
-input_ended {S} {E} holds old mid now check next before between after (Err e) h end same told is = subst (λ x. ChecksInput {E = E} holds old before (refused x) now after) (sym is) (no_memory E holds old now before after (end.same.faults ∙ h.faults))
+input_ended {S} {E} holds old mid now check next before between after (Err e) h end same told is = subst (λ x. ChecksInput {E = E} holds old before (refused x) now after) (sym is) (no_memory E holds old mid now check before after (subst (λ a. SoFarOf holds old mid check before a) (sym told) h) end.same.faults)

@@ -97,7 +97,7 @@ no_block e b r n t h = r.0 t h
 pub not_read : {E : Type 0} (e : CarError E) (b inner rest : List ℕ) → SplitsCounted b inner rest → IsNoHeader e inner → HeaderRefused e b
 not_read (NoBlock e) b inner rest h r = (no_header_here b inner rest h (λ roots s. no_block e inner r.0 r.1 (header_tree roots) (header_block inner roots s)), (inner, rest, h, r.0, r.1))
 not_read OtherHeader b inner rest h r = (no_header_here b inner rest h r.1, (inner, rest, h, r.0))
-not_read OutOfMemory b inner rest h r = tt
+not_read OutOfMemory b inner rest h r = (inner, rest, h, r)
 not_read Truncated b inner rest h r = absurd r
 not_read InvalidLength b inner rest h r = absurd r
 not_read (InvalidCid f) b inner rest h r = absurd r

@@ -2,7 +2,9 @@ pub mod Cars
 pub mod Fronts
 pub mod Counts
 pub mod Headers
+pub mod Testing
 pub mod Members
+pub mod Within
 pub mod Checking
 pub mod Files
 pub mod Pulling

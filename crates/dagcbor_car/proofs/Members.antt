@@ -12,11 +12,11 @@ use Rattle.ipld_tree.specs.CidHash.{same_cid, is_equal}
 use Rattle.ipld_tree.specs.Tree.{Tree}
 use Rattle.ipld_tree.specs.Spelling.{IsFront}
 use Rattle.ipld_tree.proofs.Fronts.{front_unique}
-use Rattle.dagcbor_items.specs.Walks.{forms, Finds}
+use Rattle.dagcbor_items.specs.Walks.{forms}
 use Rattle.dagcbor_items.specs.Slices.{IsBlock}
 use Rattle.dagcbor_items.proofs.SliceReads.{whole_front}
 use Rattle.dagcbor_car.specs.Splits.{HasBlock}
-use Rattle.dagcbor_car.specs.Sets.{Among, members, AddsCid, RemovesCid, AddsOthers, HoldsLinks}
+use Rattle.dagcbor_car.specs.Sets.{Among, members, AddsCid, RemovesCid, AddsOthers}
 use Rattle.dagcbor_car.specs.declared.cid_set.CidSet.{CidSet}
 
 -- ---- lists
@@ -190,43 +190,7 @@ others_next c cids held old mid new first next q = (there, back)
     back (inl o) = (next q).1 (inl ((first q).1 (inl o)))
     back (inr w) = by (among_append q cids (c ∷ []) w.0) w.1
 
--- ---- links
-
-pub links_none : (s : CidSet) → members s ≡ [] → HoldsLinks s []
-links_none s none = (
-  λ q m. absurd (subst (Among q) none m),
-  λ form. (λ m. absurd (subst (λ qs. Among form (forms qs)) none m), λ m. absurd m),
-)
-
-link_found : (c : CidParts) (old new : CidSet) → AddsCid c old new → Finds HoldsLinks old (cid_bytes c ∷ []) new
-link_found c old new a links h = (valid, λ form. (there form, back form))
-  where
-    valid : (q : CidParts) → Among q (members new) → AreCidParts q
-    valid q m = elim ((a.1 q).0 m) [ inl o ↦ h.0 q o | inr e ↦ subst AreCidParts (sym e) a.0 ]
-
-    there : (form : List ℕ) → Among form (forms (members new)) → Among form (links ++ cid_bytes c ∷ [])
-    there form m =
-        let k = map_among cid_bytes form (members new) m in
-        push_among form links (cid_bytes c) (elim ((a.1 k.0).0 k.1) [
-          | inl o ↦ inl ((h.1 form).0 (among_forms form k.0 (members old) o k.2))
-          | inr e ↦ inr (k.2 ∙ ap cid_bytes e)
-        ])
-
-    back : (form : List ℕ) → Among form (links ++ cid_bytes c ∷ []) → Among form (forms (members new))
-    back form m = elim (among_push form links (cid_bytes c) m) [
-      | inl l ↦ let k = map_among cid_bytes form (members old) ((h.1 form).1 l) in among_forms form k.0 (members new) ((a.1 k.0).1 (inl k.1)) k.2
-      | inr e ↦ among_forms form c (members new) ((a.1 c).1 (inr refl)) e
-    ]
-
--- a set whose members stay holds what it held
-link_kept : (old new : CidSet) → members new ≡ members old → Finds HoldsLinks old [] new
-link_kept old new same links h =
-    subst (λ qs. ((q : CidParts) → Among q qs → AreCidParts q) × ((form : List ℕ) → Among form (forms qs) ↔ Among form (links ++ []))) (sym same) (subst (HoldsLinks old) (sym (append-nil links)) h)
-
-pub link_taken : {X E : Type 0} (r : Result X E) (c : CidParts) (old new : CidSet) → OnOk r (AddsCid c old new) → OnErr r (members new ≡ members old)
-    → MatchResult r (λ x. Finds HoldsLinks old (cid_bytes c ∷ []) new) (λ e. (true ≡ true) × Finds HoldsLinks old [] new)
-link_taken (Ok x) c old new h k = link_found c old new h
-link_taken (Err e) c old new h k = (refl, link_kept old new k)
+-- ---- a block
 
 -- the first item of a block is the whole of it
 pub whole_block : (b rest : List ℕ) (t : Tree) → HasBlock b → IsFront b t rest → IsBlock b t

@@ -1,20 +1,22 @@
 -- What is taken of a file from a reader.
-use Rattle.std.proofs.Common.{◌≡◌, inl, inr, ℕ, ◌+◌, ◌<◌, ◌≤◌, ◌^◌, List, [], ◌∷◌, ◌++◌, length, length-append, refl, sym, ap, ◌∙◌, subst, arith, append_assoc, append-nil}
-use Rattle.std.specs.Prelude.{Some, Result, Ok, Err, MatchResult, IsErrAnd, Vec}
+use Rattle.std.proofs.Common.{◌≡◌, inl, inr, ℕ, ◌+◌, ◌*◌, ◌<◌, ◌≤◌, ◌^◌, true, false, List, [], ◌∷◌, ◌++◌, length, length-append, refl, sym, ap, ◌∙◌, subst, arith, append_assoc, append-nil}
+use Rattle.std.specs.Prelude.{Some, Result, Ok, Err, MatchResult, IfOk, IsErrAnd, Vec}
 use Rattle.std.specs.declared.alloc.Global.{Global}
 use Rattle.dagcbor_heads.specs.Reading.{Reading}
 use Rattle.dagcbor_heads.specs.Fronts.{ShowsByte, Takes}
+use Rattle.dagcbor_heads.specs.Looking.{LooksAtMost, LooksAtTaken, LooksAtLeft, LooksOnce}
 use Rattle.dagcbor_heads.proofs.Taking.{stays_both, nothing_taken, takes_both}
+use Rattle.dagcbor_heads.proofs.Looking.{nothing_looked, looks_both, taken_left}
 use Rattle.ipld_tree.specs.Cid.{varint, CidParts}
 use Rattle.ipld_tree.specs.CidFault.{IsCutVarint, IsNoVarint, IsVarintFault}
 use Rattle.ipld_tree.specs.declared.cid_error.CidError.{CidError}
 use Rattle.ipld_tree.specs.declared.cid_error.CidError.TheVariants as cid
 use Rattle.ipld_tree.proofs.Cids.{varint_unique, varint_length}
-use Rattle.dagcbor_car.specs.Car.{counted, Section}
+use Rattle.dagcbor_car.specs.Car.{counted, Section, section_bytes}
 use Rattle.dagcbor_car.specs.Splits.{CountFault, SplitsCid, BeginsNoCid, BeginsNoSection, SectionFault, IsNoHeader, ReadsHeader}
-use Rattle.dagcbor_car.specs.Sources.{CarRefuses, IsShort, RefusesHeader, RefusesSection, PullsHeader, TakesSectionBytes}
+use Rattle.dagcbor_car.specs.Sources.{CarRefuses, LacksMemoryIf, HeaderLacks, IsShort, RefusesHeader, RefusesSection, PullsHeader, LooksAtHeader, TakesSectionBytes}
 use Rattle.dagcbor_car.specs.declared.error.CarError.{CarError}
-use Rattle.dagcbor_car.specs.declared.error.CarError.TheVariants.{Read, InvalidCid, OutOfMemory}
+use Rattle.dagcbor_car.specs.declared.error.CarError.TheVariants.{Read, Truncated, InvalidLength, InvalidCid, NoBlock, OtherHeader, OutOfMemory}
 use Rattle.dagcbor_car.proofs.Counts.{no_section_counted, no_section_named}
 use Rattle.dagcbor_car.proofs.Headers.{not_read, not_counted}
 
@@ -38,6 +40,8 @@ pub record IsInVarint (groups : List ℕ) (n : ℕ) (old now : Reading) : Type 0
   pub counted : length groups ≡ n
   pub takes : Takes old groups now
   pub cut : IsCutVarint groups
+  pub looked : LooksAtTaken 2 0 old now
+  pub most : LooksAtMost (2 * n) old now
 
 zero_below : 0 < 2 ^ 64
 zero_below = omega arith
@@ -47,7 +51,7 @@ unfolding varint
 zero_form = refl
 
 pub no_group : (groups : List ℕ) (r : Reading) → groups ≡ [] → IsInVarint groups 0 r r
-no_group groups r none = subst (λ b. IsInVarint b 0 r r) (sym none) record { counted = refl; takes = nothing_taken r; cut = (0, varint 0, zero_below, omega (arith, ap length zero_form), refl) }
+no_group groups r none = subst (λ b. IsInVarint b 0 r r) (sym none) record { counted = refl; takes = nothing_taken r; cut = (0, varint 0, zero_below, omega (arith, ap length zero_form), refl); looked = nothing_looked r; most = omega arith }
 
 -- the bytes end there
 pub cut_there : {E : Type 0} (e : CarError E) (groups rest : List ℕ) → IsCutVarint groups → IsShort 1 e rest → CountFault e (groups ++ rest)
@@ -92,12 +96,20 @@ no_length {old} {mid} {new} {groups} {more} {n} {byte} h t f fault other is =
       λ b l m x y fits e. let w = both.taken b l in none m (w.0 ++ x) y fits (sym (append_assoc (groups ++ byte ∷ []) w.0 x) ∙ ap (λ z. z ++ x) (sym w.1) ∙ e),
     )
 
-pub group_more : {old mid new : Reading} {groups more : List ℕ} {n byte : ℕ} → IsInVarint groups n old mid → Takes mid (byte ∷ []) new → more ≡ groups ++ byte ∷ [] → IsCutVarint more → IsInVarint more (n + 1) old new
-group_more {old} {mid} {new} {groups} {more} {n} {byte} h t is cut = record {
+pub group_more : {old mid new : Reading} {groups more : List ℕ} {n byte : ℕ} → IsInVarint groups n old mid → Takes mid (byte ∷ []) new → LooksAtTaken 2 0 mid new → LooksAtMost 2 mid new → more ≡ groups ++ byte ∷ [] → IsCutVarint more → IsInVarint more (n + 1) old new
+group_more {old} {mid} {new} {groups} {more} {n} {byte} h t looked most is cut = record {
   counted = omega (arith, ap length is, length-append groups (byte ∷ []), h.counted);
   takes = subst (λ b. Takes old b new) (sym is) (takes_both h.takes t);
   cut = cut;
+  looked = looks_both h.looked looked;
+  most = omega (arith, h.most, most);
 }
+
+-- what was looked at of a varint that ended
+pub length_most : {old mid : Reading} {groups : List ℕ} {n : ℕ} (new : Reading) (byte number : ℕ) (rest : List ℕ) → IsInVarint groups n old mid → LooksAtMost 2 mid new → number < 2 ^ 64 → groups ++ byte ∷ [] ≡ varint number ++ rest → LooksAtMost (2 * length (varint number)) old new
+length_most {old} {mid} {groups} {n} new byte number rest h most fits e =
+    let end : groups ++ byte ∷ [] ≡ varint number = e ∙ ap (λ r. varint number ++ r) (ends_there groups byte number rest h.cut fits e) ∙ append-nil (varint number) in
+    omega (arith, h.most, most, h.counted, ap length end, length-append groups (byte ∷ []))
 
 -- more groups than a varint has
 pub no_more_groups : {old now : Reading} {groups : List ℕ} {n : ℕ} → IsInVarint groups n old now → 10 ≤ n → ⊥
@@ -112,6 +124,60 @@ pub counted_pulled : {C E : Type 0} (bytes : C → List ℕ) (r : Result C (CarE
     → MatchResult r (λ c. (length (bytes c) < 2 ^ 64) × Takes old (counted (bytes c)) new) (λ e. CarRefuses CountFault old e new)
 counted_pulled bytes (Ok c) n old mid new fits t h = (omega (arith, h.0, fits), subst (λ m. Takes old (varint m ++ bytes c) new) (sym h.0) (takes_both t h.1))
 counted_pulled bytes (Err e) n old mid new fits t h = refused_behind (IsShort n) CountFault (varint n) old mid new e t (λ rest s. subst (λ x. CountFault x (varint n ++ rest)) (sym s.0) (inr (n, rest, fits, s.1, refl))) h
+
+-- what was looked at of a length and what it counts
+pub counted_most : (bytes : List ℕ) (n : ℕ) (old mid new : Reading) → length bytes ≡ n → LooksAtMost (2 * length (varint n)) old mid → LooksAtMost (2 * n) mid new → LooksAtMost (2 * length (counted bytes)) old new
+counted_most bytes n old mid new is first most =
+    let sized : varint n ≡ varint (length bytes) = ap varint (sym is) in
+    omega (arith, is, first, most, ap length sized, length-append (varint (length bytes)) bytes)
+
+pub counted_sized : {C E : Type 0} (bytes : C → List ℕ) (r : Result C (CarError E)) (n : ℕ) (old mid new : Reading) → LooksAtMost (2 * length (varint n)) old mid
+    → MatchResult r (λ c. (length (bytes c) ≡ n) × Takes mid (bytes c) new) (λ e. CarRefuses (IsShort n) mid e new) → LooksAtMost (2 * n) mid new → IfOk r (λ c. LooksAtMost (2 * length (counted (bytes c))) old new)
+counted_sized bytes (Ok c) n old mid new first h most = counted_most (bytes c) n old mid new h.0 first most
+counted_sized bytes (Err e) n old mid new first h most = tt
+
+-- ---- want of memory
+
+pub lacks_more : {U E : Type 0} (T : Type 0) (P Q : Type 0) (r : Result U (CarError E)) (e : CarError E) → IsErrAnd r (λ y. y ≡ e) → (P → Q) → LacksMemoryIf {T = T} P (Err e) → LacksMemoryIf Q r
+lacks_more T P Q (Ok v) e h f l = absurd h
+lacks_more {U} {E} T P Q (Err y) e h f l = by e l h
+  where
+    by : (x : CarError E) → LacksMemoryIf {T = T} {E = E} P (Err x) → y ≡ x → LacksMemoryIf {T = U} {E = E} Q (Err y)
+    by OutOfMemory l is = subst (λ x. LacksMemoryIf {T = U} {E = E} Q (Err x)) (sym is) (f l)
+    by (Read g) l is = subst (λ x. LacksMemoryIf {T = U} {E = E} Q (Err x)) (sym is) tt
+    by Truncated l is = subst (λ x. LacksMemoryIf {T = U} {E = E} Q (Err x)) (sym is) tt
+    by InvalidLength l is = subst (λ x. LacksMemoryIf {T = U} {E = E} Q (Err x)) (sym is) tt
+    by (InvalidCid g) l is = subst (λ x. LacksMemoryIf {T = U} {E = E} Q (Err x)) (sym is) tt
+    by (NoBlock g) l is = subst (λ x. LacksMemoryIf {T = U} {E = E} Q (Err x)) (sym is) tt
+    by OtherHeader l is = subst (λ x. LacksMemoryIf {T = U} {E = E} Q (Err x)) (sym is) tt
+
+-- a header's block stands whole
+pub header_lacks : {E : Type 0} (r : Result (Vec CidParts Global) (CarError E)) (inner : List ℕ) (old new : Reading) → length inner < 2 ^ 64 → Takes old (counted inner) new → ReadsHeader inner r → LacksMemoryIf (HeaderLacks old) r
+header_lacks (Ok v) inner old new h t s = tt
+header_lacks (Err OutOfMemory) inner old new h t has = λ lends b l. let w = t.taken b l in (inner, w.0, (h, w.1), has)
+header_lacks (Err e) inner old new h t s = tt
+
+-- a source that does not lend may want memory
+pub unlent_lacks : (old : Reading) → old.lends ≡ false → HeaderLacks old
+unlent_lacks old unlent lent b l = let clash : true ≡ false = sym lent ∙ unlent in absurd (cc clash)
+
+-- ---- what was looked at
+
+-- a header that was looked at
+pub header_looked : {E : Type 0} (r : Result (Vec CidParts Global) (CarError E)) (inner : List ℕ) (old new : Reading) → LooksAtMost (2 * length (counted inner)) old new → LooksAtTaken 2 0 old new → ReadsHeader inner r → LooksAtHeader old r new
+header_looked (Ok v) inner old new most looked s = subst (λ x. LooksAtMost (2 * length (counted x)) old new) s.is most
+header_looked (Err e) inner old new most looked s = taken_left looked
+
+-- a section that was looked at
+pub section_most : (s : Section) (body : List ℕ) (old new : Reading) → SplitsCid body s.0 s.1 → LooksAtMost (2 * length (counted body)) old new → LooksAtMost (2 * length (section_bytes s)) old new
+section_most s body old new c most = subst (λ x. LooksAtMost (2 * length (counted x)) old new) c.1 most
+
+-- a byte was looked at first, and stayed
+pub first_left : {old mid new : Reading} {byte : ℕ} → LooksOnce old mid → ShowsByte old byte mid → LooksAtLeft 2 0 mid new → LooksAtLeft 3 0 old new
+first_left {old} {mid} {new} {byte} once shown left = record {
+  grows = omega (arith, once.grows, left.grows);
+  most = λ b l. let w = shown.starts b l in omega (arith, once.one, left.most b (shown.kept b l), ap length w.1);
+}
 
 -- ---- the header
 

@@ -8,9 +8,9 @@ use Rattle.dagcbor_heads.specs.Written.{Written, WroteAll}
 use Rattle.dagcbor_heads.proofs.Writing.{WroteAll_then, Appends_nothing}
 use Rattle.dagcbor_items.specs.Walks.{forms}
 use Rattle.dagcbor_car.specs.Car.{Section, section_bytes, IsSection, header_bytes, IsCar}
-use Rattle.dagcbor_car.specs.Sources.{CarRefuses, RefusesSection, SectionStream, section_stream, NotBegun}
+use Rattle.dagcbor_car.specs.Sources.{RefusesSection, SectionStream, section_stream, GivesNext, NotBegun}
 use Rattle.dagcbor_car.specs.Writers.{WriterState, WritesSection}
-use Rattle.dagcbor_car.specs.Runs.{Item, GivesItems, AreNone, GivesUp, AreItemsOf, RunsAreExact, AreSections, CarsReadBack, WritesSections, CarsAreWritten}
+use Rattle.dagcbor_car.specs.Runs.{Item, GivesItems, AreNone, GivesUp, AreItemsOf, RunsAreExact, AreSections, DoesNotBegin, CarsReadBack, WritesSections, CarsAreWritten}
 use Rattle.dagcbor_car.specs.declared.error.CarError.{CarError}
 use Rattle.dagcbor_car.specs.declared.error.CarError.TheVariants.{Read, OutOfMemory}
 use Rattle.dagcbor_car.specs.declared.error.CarWriteError.{CarWriteError}
@@ -32,23 +32,24 @@ nothing_more s (item ∷ items) d h =
     (k.0, nothing_more h.0 items (ap (λ t. t.done) k.1 ∙ d) h.2)
 
 -- why no section came
-why : {E : Type 0} (e : CarError E) (old new : Reading) (b : List ℕ) → old.left ≡ Some b → CarRefuses RefusesSection old e new → GivesUp e ⊎ RefusesSection e b
-why (Read f) old new b l r = inl tt
-why OutOfMemory old new b l r = inl tt
-why e old new b l r = inr (r.1 b l)
+why : {E : Type 0} (e : CarError E) (old new : Reading) (b : List ℕ) → old.left ≡ Some b → GivesNext old (Err e) new → GivesUp old.lends b e ⊎ RefusesSection e b
+why (Read f) old new b l n = inl tt
+why OutOfMemory old new b l n = inl (n.memory.0, λ none. n.memory.1 (l ∙ ap Some none))
+why e old new b l n = inr (n.taken.1 b l)
 
 pub exact : (E : Type 0) → RunsAreExact E
 exact E s b [] d l h = tt
 exact E s b (Some (Ok t) ∷ items) d l h =
     let k = MatchBool-at_false _ _ d h.1 in
-    let w = k.1.1.taken b l in
-    (w.0, (k.1.0, w.1), exact E h.0 w.0 items k.0 w.2 h.2)
+    let t = k.1.taken in
+    let w = t.1.taken b l in
+    (w.0, (t.0, w.1), subst (λ x. AreItemsOf {E = E} x w.0 items) t.1.same.lends (exact E h.0 w.0 items k.0 w.2 h.2))
 exact E s b (Some (Err e) ∷ items) d l h =
     let k = MatchBool-at_false _ _ d h.1 in
     (why e s.source h.0.source b l k.1, nothing_more h.0 items k.0 h.2)
 exact E s b (None ∷ items) d l h =
     let k = MatchBool-at_false _ _ d h.1 in
-    (k.1.none_left b l, nothing_more h.0 items k.0 h.2)
+    (k.1.taken.none_left b l, nothing_more h.0 items k.0 h.2)
 
 -- ---- a file, read back
 
@@ -64,18 +65,18 @@ not_refused : {E : Type 0} (e : CarError E) (sections : List Section) → AllByR
 not_refused e [] all r = omega (arith, r.0)
 not_refused e (s ∷ sections) all r = r.1 s (bytes_of sections) (all.0, refl)
 
-sections_given : {E : Type 0} (items : List (Item E)) (sections : List Section) → AllByRecursion IsSection sections → AreItemsOf (bytes_of sections) items → AreSections items sections
-sections_given [] sections all h = tt
-sections_given (Some (Ok t) ∷ items) [] all h = absurd (omega (arith, ap length h.1.1, section_some t h.1.0, length-append (section_bytes t) h.0))
-sections_given {E} (Some (Ok t) ∷ items) (s ∷ sections) all h =
+sections_given : {E : Type 0} (lends : Bool) (items : List (Item E)) (sections : List Section) → AllByRecursion IsSection sections → AreItemsOf lends (bytes_of sections) items → AreSections lends items sections
+sections_given lends [] sections all h = tt
+sections_given lends (Some (Ok t) ∷ items) [] all h = absurd (omega (arith, ap length h.1.1, section_some t h.1.0, length-append (section_bytes t) h.0))
+sections_given {E} lends (Some (Ok t) ∷ items) (s ∷ sections) all h =
     let same = section_unique t s h.0 (bytes_of sections) h.1.0 all.0 (sym h.1.1) in
-    (sections, ap (λ x. x ∷ sections) (sym same.0), sections_given items sections all.1 (subst (λ b. AreItemsOf {E = E} b items) same.1 h.2))
-sections_given (Some (Err e) ∷ items) sections all h = (elim h.0 [ inl g ↦ g | inr r ↦ absurd (not_refused e sections all r) ], h.1)
-sections_given (None ∷ items) [] all h = (refl, h.1)
-sections_given (None ∷ items) (s ∷ sections) all h = absurd (omega (arith, ap length h.0, some_bytes s sections all.0))
+    (sections, ap (λ x. x ∷ sections) (sym same.0), sections_given lends items sections all.1 (subst (λ b. AreItemsOf {E = E} lends b items) same.1 h.2))
+sections_given lends (Some (Err e) ∷ items) sections all h = (elim h.0 [ inl g ↦ g | inr r ↦ absurd (not_refused e sections all r) ], h.1)
+sections_given lends (None ∷ items) [] all h = (refl, h.1)
+sections_given lends (None ∷ items) (s ∷ sections) all h = absurd (omega (arith, ap length h.0, some_bytes s sections all.0))
 
 -- the header of a file is not refused
-gives_up : {E : Type 0} (e : CarError E) (old : Reading) (b : List ℕ) (roots : List (List ℕ)) (sections : List Section) → IsCar b roots sections → old.left ≡ Some b → NotBegun old e → GivesUp e
+gives_up : {E : Type 0} (e : CarError E) (old : Reading) (b : List ℕ) (roots : List (List ℕ)) (sections : List Section) → IsCar b roots sections → old.left ≡ Some b → NotBegun old e → DoesNotBegin e
 gives_up (Read f) old b roots sections car l n = tt
 gives_up OutOfMemory old b roots sections car l n = tt
 gives_up e old b roots sections car l n = absurd ((n b l).0 roots (bytes_of sections) (car.header, car.is))
@@ -85,7 +86,8 @@ read_back {R} E reading b roots sections old (Err e) car l h = gives_up e old b 
 read_back {R} E reading b roots sections old (Ok p) car l h =
     let w = h.0.1.taken b l in
     let same = header_unique (forms p.0.items) roots w.0 (bytes_of sections) h.0.0 car.header (sym w.1 ∙ car.is) in
-    (same.0, λ items g. sections_given items sections car.all (exact E (section_stream reading p.1) (bytes_of sections) items h.1 (w.2 ∙ ap Some same.1) g))
+    let from : Reading = (section_stream reading p.1).source in
+    (same.0, λ items g. subst (λ x. AreSections {E = E} x items sections) h.0.1.same.lends (sections_given from.lends items sections car.all (exact E (section_stream reading p.1) (bytes_of sections) items h.1 (w.2 ∙ ap Some same.1) g)))
 
 -- ---- runs of `write`
 

@@ -4,7 +4,7 @@ use Rattle.std.specs.Prelude.{Result, MatchResult, MatchBool, Bool, Some, OnOk}
 use Rattle.std.specs.List.{AllByRecursion}
 use Rattle.std.specs.List.Sorted.{IsStrictlySortedBy}
 use Rattle.std.specs.declared.alloc.Global.{Global}
-use Rattle.dagcbor_heads.specs.Reading.{Reading}
+use Rattle.dagcbor_heads.specs.Reading.{Reading, Stays}
 use Rattle.dagcbor_heads.specs.Fronts.{FindsEnd}
 use Rattle.ipld_tree.specs.Cid.{CidParts, cid_bytes, cid_cmp}
 use Rattle.ipld_tree.specs.Tree.{Tree, links_of}
@@ -12,10 +12,12 @@ use Rattle.dagcbor_items.specs.Slices.{IsBlock}
 use Rattle.dagcbor_items.specs.Walks.{forms}
 use Rattle.dagcbor_car.specs.Car.{Section, IsHeader, IsSection, car_bytes, IsCar}
 use Rattle.dagcbor_car.specs.Sources.{CarRefuses, RefusesHeader, RefusesSection, TakesSectionBytes}
+use Rattle.dagcbor_car.specs.Sources.{LacksMemoryIf, HeaderLacks}
 use Rattle.dagcbor_car.specs.Verdicts.{IsVerified, IsDagCbor, IsVerdict}
 use Rattle.dagcbor_car.specs.Verdicts.{Told, sections_of, AreTold, TellsAll, Tells}
-use Rattle.dagcbor_car.specs.Sets.{Among, members, AreCids, HoldsLinks}
+use Rattle.dagcbor_car.specs.Sets.{Among, members, AreCids}
 use Rattle.dagcbor_car.specs.Sets.{AddsCid, RemovesCid, AddsOthers}
+use Rattle.dagcbor_car.specs.Within.{IsInlineForm, IsWithin, HoldsReached}
 use Rattle.dagcbor_car.specs.declared.verdict.Verdict.{Verdict}
 use Rattle.dagcbor_car.specs.declared.error.CarError.{CarError}
 use Rattle.dagcbor_car.specs.declared.error.CarError.TheVariants.{Read, OutOfMemory}
@@ -34,12 +36,18 @@ IsLinkIn form sections = (s : Section) × (t : Tree) × Among s sections × IsVe
     × IsBlock s.1 t × Among form (links_of t)
 
 -- the binary form is that of a root, or of a link in a verified block of DAG-CBOR
-abbrev pub IsLinked : List ℕ → List (List ℕ) → List Section → Type 0
-IsLinked form roots sections = Among form roots ⊎ IsLinkIn form sections
+abbrev pub IsPlainlyLinked : List ℕ → List (List ℕ) → List Section → Type 0
+IsPlainlyLinked form roots sections = Among form roots ⊎ IsLinkIn form sections
 
--- it names no verified block
+-- it is that of such a root or link, or of a link within one
+abbrev pub IsLinked : List ℕ → List (List ℕ) → List Section → Type 0
+IsLinked form roots sections = (link : List ℕ) × (n : ℕ) × IsPlainlyLinked link roots sections
+    × IsWithin n link form
+
+-- it names no verified block, nor holds one itself
 abbrev pub NamesNone : List ℕ → List Section → Type 0
-NamesNone form sections = (s : Section) → Among s sections → IsVerified s → cid_bytes s.0 ≢ form
+NamesNone form sections = ¬ IsInlineForm form
+    × ((s : Section) → Among s sections → IsVerified s → cid_bytes s.0 ≢ form)
 
 -- The roots and the links that name no verified block are listed, each once, in their order.
 abbrev pub ListsMissing : List (List ℕ) → List Section → Vec CidParts Global → Type 0
@@ -59,10 +67,11 @@ pub record IsAfter (check : CarCheck) (roots : List (List ℕ)) (sections : List
 abbrev pub HoldsName : CidParts → CarCheck → CarCheck → Type 0
 HoldsName c old new = AddsCid c old.held new.held × RemovesCid c old.missing new.missing
 
--- the links of the block that are not held joined those that are missing
+-- the names that are reached from the links of the block and are not held joined those that are
+-- missing
 abbrev pub FollowsLinks : List ℕ → CarCheck → CarCheck → Type 0
 FollowsLinks b old new = (new.held ≡ old.held) × ((t : Tree) × IsBlock b t
-    × ((links : CidSet) × HoldsLinks links (links_of t)
+    × ((links : CidSet) × HoldsReached links (links_of t)
     × AddsOthers (members links) (members old.held) old.missing new.missing))
 
 -- what is known behind a section, whatever stood before
@@ -76,10 +85,16 @@ abbrev pub TellsVerdict : {S : Type 0} → (S → List Told → Type 0) → Sect
 TellsVerdict holds s old before new after = (v : Verdict) × IsVerdict s v × TakesSection s old new
     × Tells holds before (s, v) after
 
--- why no section is taken; none is told then, want of memory aside
-abbrev pub StepRefused : {S E : Type 0} → Reading → S → CarError E → Reading → S → Type 0
-StepRefused old before e new after = CarRefuses RefusesSection old e new
-    × (e ≢ OutOfMemory → after ≡ before)
+-- no verdict is told: the sink is as it was, or refused one for want of memory
+abbrev pub TellsNone : {S E : Type 0} → (S → List Told → Type 0) → CarError E → S → S → Type 0
+TellsNone holds OutOfMemory before after = TellsAll holds before [] after
+TellsNone holds e before after = after ≡ before
+
+-- why no section is taken; no verdict is told then
+abbrev pub StepRefused : {S E : Type 0} → (S → List Told → Type 0) → Reading → S → CarError E
+    → Reading → S → Type 0
+StepRefused holds old before e new after = CarRefuses RefusesSection old e new
+    × TellsNone holds e before after
 
 -- The section at the front is taken, and the verdict on it told; or the end is found.
 abbrev pub Steps : {S E : Type 0} → (S → List Told → Type 0) → Reading → CarCheck → S
@@ -88,7 +103,7 @@ Steps holds old check before result new next after = MatchResult result
     (λ more. MatchBool more
     ((s : Section) × TakesSectionBytes old s new × TellsVerdict holds s check before next after)
     (FindsEnd old new × (next ≡ check) × (after ≡ before)))
-    (λ e. StepRefused old before e new after)
+    (λ e. StepRefused holds old before e new after)
 
 -- ---- the whole
 
@@ -110,9 +125,12 @@ pub record TellsFront {S : Type 0} (holds : S → List Told → Type 0) (b rest 
   pub right : AreTold told
   pub tells : TellsAll holds old told new
 
--- some of its first sections were told, and the verdicts on them, or none
-abbrev pub TellsFirst : {S : Type 0} → (S → List Told → Type 0) → List ℕ → S → S → Type 0
-TellsFirst holds b old new = (new ≡ old) ⊎ ((rest : List ℕ) × TellsFront holds b rest old new)
+-- no verdict was told; or the file's header and some of its first sections stand there, and the
+-- verdicts on these were told
+abbrev pub TellsFirst : {S E : Type 0} → (S → List Told → Type 0) → CarError E → List ℕ → S → S
+    → Type 0
+TellsFirst holds e b old new = TellsNone holds e old new
+    ⊎ ((rest : List ℕ) × TellsFront holds b rest old new)
 
 -- why bytes are no file, and what was told: no header stands first; or all sections up to a place
 -- were told where no section stands, though bytes do
@@ -122,8 +140,8 @@ CarFault holds e b old new = (RefusesHeader e b × (new ≡ old))
 
 -- why a file is not gone through, and what was told
 abbrev pub CarRefused : {S E : Type 0} → (S → List Told → Type 0) → CarError E → List ℕ → S → S → Type 0
-CarRefused holds (Read e) b old new = TellsFirst holds b old new
-CarRefused holds OutOfMemory b old new = ⊤
+CarRefused {S} {E} holds (Read e) b old new = TellsFirst {E = E} holds (Read e) b old new
+CarRefused {S} {E} holds OutOfMemory b old new = TellsFirst {E = E} holds OutOfMemory b old new
 CarRefused holds e b old new = IsNoCar b × CarFault holds e b old new
 
 -- A file is gone through exactly where the bytes are one, faults and want of memory aside: its
@@ -134,9 +152,11 @@ ChecksCar holds b old result new = MatchResult result
     (λ v. (roots : List (List ℕ)) × (told : List Told) × IsCar b roots (sections_of told) × AreTold told × TellsAll holds old told new × ListsMissing roots (sections_of told) v)
     (λ e. CarRefused holds e b old new)
 
--- The bytes that are left are gone through so, where the source tells them, and all are taken; and
--- a fault is one of the source.
+-- The bytes that are left are gone through so, where the source tells them, and all are taken, and
+-- the reader and its steps are as before; a fault is one of the source; and over a slice memory is
+-- wanted only behind a header's block.
 pub record ChecksInput {S E : Type 0} (holds : S → List Told → Type 0) (old : Reading) (before : S) (result : Result (Vec CidParts Global) (CarError E)) (new : Reading) (after : S) : Type 0 where
   pub known : (b : List ℕ) → old.left ≡ Some b → ChecksCar holds b before result after
   pub all : OnOk result ((b : List ℕ) → old.left ≡ Some b → new.left ≡ Some [])
-  pub faults : MatchResult result (λ _. new.faults ≡ old.faults) (λ e. CarRefuses (λ _ _. ⊤) old e new)
+  pub faults : MatchResult result (λ _. Stays old new) (λ e. CarRefuses (λ _ _. ⊤) old e new)
+  pub memory : LacksMemoryIf (HeaderLacks old) result

@@ -7,4 +7,5 @@ pub mod Verdicts
 pub mod Runs
 pub mod Laws
 pub mod Sets
+pub mod Within
 pub mod Checks

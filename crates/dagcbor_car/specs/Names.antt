@@ -1,7 +1,15 @@
 -- Names of blocks (CID specification, multicodec table).
-use Rattle.std.specs.Prelude.{ℕ, List}
+use Rattle.std.specs.Prelude.{◌≡◌, ℕ, List, length}
 use Rattle.sha2.specs.Sha256.{sha256}
 use Rattle.ipld_tree.specs.Cid.{CidParts, cid_parts}
+
+-- the name is by SHA-256, and its digest has the 32 bytes of one (multicodec table)
+abbrev pub IsBySha256 : CidParts → Type 0
+IsBySha256 c = (c.hash_code ≡ 0x12) × (length c.digest ≡ 32)
+
+-- the name is by the identity: its digest is the block itself (multicodec table)
+abbrev pub IsInline : CidParts → Type 0
+IsInline c = c.hash_code ≡ 0
 
 -- the name of a block: a CID of version 1, of the codec DAG-CBOR, by its SHA-256
 abbrev pub block_name : List ℕ → CidParts

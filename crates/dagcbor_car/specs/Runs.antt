@@ -1,13 +1,13 @@
 -- What comes of runs of calls: what `next` gives of a file, and what `write` makes of sections.
-use Rattle.std.specs.Prelude.{◌≡◌, ◌⊎◌, ℕ, Bool, false, List, [], ◌∷◌, ⊤, Option, None, Some}
+use Rattle.std.specs.Prelude.{◌≡◌, ◌≢◌, ◌⊎◌, ℕ, Bool, false, List, [], ◌∷◌, ⊤, Option, None, Some}
 use Rattle.std.specs.Prelude.{Result, Ok, Err, MatchResult, Vec}
-use Rattle.std.specs.List.{AllByRecursion}
+use Rattle.std.specs.List.{AllByRecursion, flat_map}
 use Rattle.std.specs.declared.alloc.Global.{Global}
 use Rattle.dagcbor_heads.specs.Reading.{Reading}
 use Rattle.dagcbor_heads.specs.Written.{Written, WroteAll}
 use Rattle.ipld_tree.specs.Cid.{CidParts}
 use Rattle.dagcbor_items.specs.Walks.{forms}
-use Rattle.dagcbor_car.specs.Car.{Section, car_bytes, IsCar}
+use Rattle.dagcbor_car.specs.Car.{Section, section_bytes, car_bytes, IsCar}
 use Rattle.dagcbor_car.specs.Splits.{SplitsSection}
 use Rattle.dagcbor_car.specs.Sources.{RefusesSection, SectionStream, section_stream, GivesSection}
 use Rattle.dagcbor_car.specs.Sources.{Begins}
@@ -32,37 +32,45 @@ GivesItems old (item ∷ items) = (new : SectionStream) × GivesSection old item
 abbrev pub AreNone : {E : Type 0} → List (Item E) → Type 0
 AreNone items = AllByRecursion (λ item. item ≡ None) items
 
--- an error that says nothing of the bytes: a fault of the source, or want of memory
-abbrev pub GivesUp : {E : Type 0} → CarError E → Type 0
-GivesUp (Read e) = ⊤
-GivesUp OutOfMemory = ⊤
-GivesUp _ = ⊥
+-- an error that says nothing of the bytes: a fault of the source; or want of memory, which does not
+-- come of a source that lends, nor where no bytes are left
+abbrev pub GivesUp : {E : Type 0} → Bool → List ℕ → CarError E → Type 0
+GivesUp lends b (Read e) = ⊤
+GivesUp lends b OutOfMemory = (lends ≡ false) × (b ≢ [])
+GivesUp lends b _ = ⊥
 
 -- The sections that stand one behind the other at the front of the bytes come one by one. Then
 -- comes the end, where no bytes are left, or one error: its cause stands there, and no section, or
 -- it says nothing of the bytes. Nothing comes behind that.
-abbrev pub AreItemsOf : {E : Type 0} → List ℕ → List (Item E) → Type 0
-AreItemsOf b [] = ⊤
-AreItemsOf b (Some (Ok s) ∷ items) = (rest : List ℕ) × SplitsSection b s rest
-    × AreItemsOf rest items
-AreItemsOf b (Some (Err e) ∷ items) = (GivesUp e ⊎ RefusesSection e b) × AreNone items
-AreItemsOf b (None ∷ items) = (b ≡ []) × AreNone items
+abbrev pub AreItemsOf : {E : Type 0} → Bool → List ℕ → List (Item E) → Type 0
+AreItemsOf lends b [] = ⊤
+AreItemsOf lends b (Some (Ok s) ∷ items) = (rest : List ℕ) × SplitsSection b s rest
+    × AreItemsOf lends rest items
+AreItemsOf lends b (Some (Err e) ∷ items) = (GivesUp lends b e ⊎ RefusesSection e b) × AreNone items
+AreItemsOf lends b (None ∷ items) = (b ≡ []) × AreNone items
 
 -- However often `next` is called, over known bytes, it gives the items of these bytes.
 abbrev pub RunsAreExact : Type 0 → Type 0
 RunsAreExact E = (s : SectionStream) (b : List ℕ) (items : List (Item E)) → s.done ≡ false
-    → s.source.left ≡ Some b → GivesItems s items → AreItemsOf b items
+    → s.source.left ≡ Some b → GivesItems s items → AreItemsOf s.source.lends b items
 
 -- ---- what is read of a file
 
 -- These sections come one by one, and then the end; or some of them, and then an error that says
 -- nothing of the bytes. Nothing comes behind that.
-abbrev pub AreSections : {E : Type 0} → List (Item E) → List Section → Type 0
-AreSections [] sections = ⊤
-AreSections (Some (Ok s) ∷ items) sections = (more : List Section) × (sections ≡ s ∷ more)
-    × AreSections items more
-AreSections (Some (Err e) ∷ items) sections = GivesUp e × AreNone items
-AreSections (None ∷ items) sections = (sections ≡ []) × AreNone items
+abbrev pub AreSections : {E : Type 0} → Bool → List (Item E) → List Section → Type 0
+AreSections lends [] sections = ⊤
+AreSections lends (Some (Ok s) ∷ items) sections = (more : List Section) × (sections ≡ s ∷ more)
+    × AreSections lends items more
+AreSections lends (Some (Err e) ∷ items) sections =
+    GivesUp lends (flat_map section_bytes sections) e × AreNone items
+AreSections lends (None ∷ items) sections = (sections ≡ []) × AreNone items
+
+-- an error of the header that says nothing of the bytes: a fault of the source, or want of memory
+abbrev pub DoesNotBegin : {E : Type 0} → CarError E → Type 0
+DoesNotBegin (Read e) = ⊤
+DoesNotBegin OutOfMemory = ⊤
+DoesNotBegin _ = ⊥
 
 -- The file of these roots and sections is read as these roots and sections, faults and want of
 -- memory aside.
@@ -72,8 +80,8 @@ CarsReadBack {R} E reading = (b : List ℕ) (roots : List (List ℕ)) (sections 
     → IsCar b roots sections → old.left ≡ Some b → Begins reading old result
     → MatchResult result
     (λ p. (forms p.0.items ≡ roots) × ((items : List (Item E))
-    → GivesItems (section_stream reading p.1) items → AreSections items sections))
-    GivesUp
+    → GivesItems (section_stream reading p.1) items → AreSections old.lends items sections))
+    DoesNotBegin
 
 -- ---- what `write` makes
 

@@ -1,9 +1,6 @@
 -- Sets of CIDs.
-use Rattle.std.specs.Prelude.{◌≡◌, ◌≢◌, ◌↔◌, ◌⊎◌, ℕ, List, [], ◌∷◌, Result, OnOk}
+use Rattle.std.specs.Prelude.{◌≡◌, ◌≢◌, ◌↔◌, ◌⊎◌, List, [], ◌∷◌}
 use Rattle.ipld_tree.specs.Cid.{CidParts, AreCidParts}
-use Rattle.ipld_tree.specs.Tree.{Tree, links_of}
-use Rattle.dagcbor_items.specs.Slices.{IsBlock}
-use Rattle.dagcbor_items.specs.Walks.{forms, Finds}
 use Rattle.dagcbor_car.specs.declared.cid_set.CidSet.{CidSet}
 
 -- x is one of the list
@@ -33,13 +30,3 @@ AddsOthers cids held old new = (q : CidParts)
 -- the members are CIDs
 abbrev pub AreCids : CidSet → Type 0
 AreCids s = (q : CidParts) → Among q (members s) → AreCidParts q
-
--- the members are CIDs, and their binary forms are the links
-abbrev pub HoldsLinks : CidSet → List (List ℕ) → Type 0
-HoldsLinks s links = AreCids s
-    × ((form : List ℕ) → Among form (forms (members s)) ↔ Among form links)
-
--- The links of a block joined those before.
-abbrev pub AddsLinks : {E : Type 0} → List ℕ → CidSet → Result (Unit {0}) E → CidSet → Type 0
-AddsLinks b old result new = OnOk result
-    ((t : Tree) × IsBlock b t × Finds HoldsLinks old (links_of t) new)

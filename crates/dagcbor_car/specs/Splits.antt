@@ -1,5 +1,5 @@
 -- What stands at the front of the bytes of a file, and why it does not.
-use Rattle.std.specs.Prelude.{◌≡◌, ◌≢◌, ◌⊎◌, ℕ, ◌^◌, ◌<◌, List, ◌++◌, length, ⊤}
+use Rattle.std.specs.Prelude.{◌≡◌, ◌≢◌, ◌⊎◌, ℕ, ◌^◌, ◌<◌, List, ◌++◌, length}
 use Rattle.std.specs.Prelude.{Result, MatchResult, Vec}
 use Rattle.std.specs.declared.alloc.Global.{Global}
 use Rattle.dagcbor_heads.specs.declared.error.DecodeError.TheVariants as unread
@@ -73,11 +73,15 @@ BeginsNoHeader b = (roots : List (List ℕ)) (rest : List ℕ) → ¬ SplitsHead
 abbrev pub HasBlock : List ℕ → Type 0
 HasBlock b = (t : Tree) × IsBlock b t
 
--- why the bytes are no header, want of memory aside
+-- a block stands behind its length
+abbrev pub CountsBlock : List ℕ → Type 0
+CountsBlock b = (inner rest : List ℕ) × SplitsCounted b inner rest × HasBlock inner
+
+-- why the bytes are no header; or memory is wanted, for a block
 abbrev pub IsNoHeader : {E : Type 0} → CarError E → List ℕ → Type 0
 IsNoHeader (NoBlock e) b = SliceRefused e b × (e ≢ unread.OutOfMemory)
 IsNoHeader OtherHeader b = HasBlock b × ((roots : List (List ℕ)) → ¬ IsSpelling b (header_tree roots))
-IsNoHeader OutOfMemory b = ⊤
+IsNoHeader OutOfMemory b = HasBlock b
 IsNoHeader _ b = ⊥
 
 -- The bytes are read exactly where they are a header, want of memory aside.
@@ -88,10 +92,10 @@ ReadsHeader b result = MatchResult result (λ v. IsSpelling b (header_tree (form
 abbrev pub HeaderFault : {E : Type 0} → CarError E → List ℕ → Type 0
 HeaderFault (NoBlock e) b = (inner rest : List ℕ) × SplitsCounted b inner rest × SliceRefused e inner
     × (e ≢ unread.OutOfMemory)
-HeaderFault OtherHeader b = (inner rest : List ℕ) × SplitsCounted b inner rest × HasBlock inner
+HeaderFault OtherHeader b = CountsBlock b
 HeaderFault e b = CountFault e b
 
--- why a header is not read
+-- why a header is not read: memory is wanted only where a block stands behind its length
 abbrev pub HeaderRefused : {E : Type 0} → CarError E → List ℕ → Type 0
-HeaderRefused OutOfMemory b = ⊤
+HeaderRefused OutOfMemory b = CountsBlock b
 HeaderRefused e b = BeginsNoHeader b × HeaderFault e b

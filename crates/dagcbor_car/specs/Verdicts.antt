@@ -1,6 +1,5 @@
 -- What is said of a block under a name.
-use Rattle.std.specs.Prelude.{◌≡◌, ◌≢◌, ◌↔◌, ℕ, Bool, IsTrue, List, Option, None, Some}
-use Rattle.std.specs.Prelude.{if◌then◌else◌, ◌==◌, [], ◌∷◌, ◌++◌, map}
+use Rattle.std.specs.Prelude.{◌≡◌, ◌≢◌, ◌⊎◌, List, [], ◌∷◌, ◌++◌, map}
 use Rattle.std.specs.List.{AllByRecursion}
 use Rattle.sha2.specs.Sha256.{sha256}
 use Rattle.dagcbor_heads.specs.declared.error.DecodeError.TheVariants as unread
@@ -8,25 +7,19 @@ use Rattle.ipld_tree.specs.Cid.{CidParts}
 use Rattle.ipld_tree.specs.Tree.{Tree}
 use Rattle.dagcbor_items.specs.Slices.{IsBlock, SliceRefused}
 use Rattle.dagcbor_items.specs.TreeKinds.{kind_of}
+use Rattle.dagcbor_car.specs.Names.{IsBySha256, IsInline}
 use Rattle.dagcbor_car.specs.Car.{Section}
 use Rattle.dagcbor_car.specs.declared.verdict.Verdict.{Verdict}
 use Rattle.dagcbor_car.specs.declared.verdict.Verdict.TheVariants.{Block, Refused, OtherBytes}
 use Rattle.dagcbor_car.specs.declared.verdict.Verdict.TheVariants.{NotRead, Unverified}
 
--- the digest of the bytes by the hash function of this code: SHA-256, or the bytes themselves
--- (multicodec table)
-abbrev pub digest_by : ℕ → List ℕ → Option (List ℕ)
-digest_by hash_code b =
-    if hash_code == 0x12 then Some (sha256 b) else (if hash_code == 0 then Some b else None)
-
--- the bytes are those that the name names
+-- the bytes are those that the name names: their SHA-256 is its digest, or they are its digest
 abbrev pub IsVerified : Section → Type 0
-IsVerified s = digest_by s.0.hash_code s.1 ≡ Some s.0.digest
+IsVerified s = (IsBySha256 s.0 × (s.0.digest ≡ sha256 s.1)) ⊎ (IsInline s.0 × (s.0.digest ≡ s.1))
 
--- whether the digest of the bytes, which has one here, is that of the name
-abbrev pub IsDigestTest : Section → Bool → Type 0
-IsDigestTest s test = (d : List ℕ) × (digest_by s.0.hash_code s.1 ≡ Some d)
-    × (IsTrue test ↔ (d ≡ s.0.digest))
+-- of the name it can be told which bytes it names
+abbrev pub IsTestable : CidParts → Type 0
+IsTestable c = IsBySha256 c ⊎ IsInline c
 
 -- the name says that the bytes are DAG-CBOR (multicodec table)
 abbrev pub IsDagCbor : CidParts → Type 0
@@ -38,9 +31,9 @@ IsVerdict s (Block kind) = IsVerified s × IsDagCbor s.0
     × ((t : Tree) × IsBlock s.1 t × (kind ≡ kind_of t))
 IsVerdict s (Refused e) = IsVerified s × IsDagCbor s.0 × SliceRefused e s.1
     × (e ≢ unread.OutOfMemory)
-IsVerdict s OtherBytes = (d : List ℕ) × (digest_by s.0.hash_code s.1 ≡ Some d) × (d ≢ s.0.digest)
+IsVerdict s OtherBytes = IsTestable s.0 × ¬ IsVerified s
 IsVerdict s NotRead = IsVerified s × ¬ IsDagCbor s.0
-IsVerdict s Unverified = digest_by s.0.hash_code s.1 ≡ None
+IsVerdict s Unverified = ¬ IsTestable s.0
 
 -- a section, and what is said of its block
 abbrev pub Told : Type 0

@@ -1,5 +1,5 @@
 -- What is written of a file, section by section.
-use Rattle.std.specs.Prelude.{◌≡◌, List, ℕ, Bool, false, Option, None, Some, Result, Ok, Err}
+use Rattle.std.specs.Prelude.{◌≡◌, List, ℕ, Bool, false, Option, None, Some, Result, Ok, Err, ⊤}
 use Rattle.std.specs.Prelude.{is_err, option_map, MatchBool, MatchResult, IsSomeAnd}
 use Rattle.dagcbor_heads.specs.Written.{Written, WroteAll, Stops, Writes, WantsMemoryOnlyIf}
 use Rattle.dagcbor_heads.specs.declared.error.EncodeError.{EncodeError}
@@ -7,6 +7,12 @@ use Rattle.dagcbor_heads.specs.declared.error.EncodeError.TheVariants as unsent
 use Rattle.dagcbor_car.specs.Car.{Section, section_bytes, IsSection, header_bytes, IsHeader}
 use Rattle.dagcbor_car.specs.declared.error.CarWriteError.{CarWriteError}
 use Rattle.dagcbor_car.specs.declared.error.CarWriteError.TheVariants.{Write, OutOfMemory, Failed}
+
+-- where the writer takes no memory, want of memory comes before anything is sent
+abbrev pub UnsentWithoutMemory : {T E : Type 0} → Bool → Written → Result T (EncodeError E) → Written → Type 0
+UnsentWithoutMemory takes_memory old (Err unsent.OutOfMemory) new = takes_memory ≡ false → new ≡ old
+UnsentWithoutMemory takes_memory old (Err e) new = ⊤
+UnsentWithoutMemory takes_memory old (Ok x) new = ⊤
 
 -- what contracts see of a file that is being written
 pub record WriterState (W : Type 0) : Type 0 where

@@ -1,11 +1,13 @@
 //! A whole file: the verdicts on its sections, and what leads to no block of it.
 
-ghost use Rattle.std.specs.Prelude.{◌≡◌, [], IfOk, OnOk, MatchResult, List, ℕ};
+ghost use Rattle.std.specs.Prelude.{◌≡◌, ◌⊎◌, [], IfOk, OnOk, OnErr, MatchResult, List, ℕ};
+ghost use Rattle.std.specs.Prelude.{true, false, is_err};
 ghost use Rattle.dagcbor_heads.specs.Inputs.{input_reading};
 ghost use Rattle.dagcbor_items.specs.Walks.{forms};
 ghost use Rattle.dagcbor_car.specs.Car.{Section as CarSection};
-ghost use Rattle.dagcbor_car.specs.Verdicts.{IsVerdict};
-ghost use Rattle.dagcbor_car.specs.Splits.{HasBlock};
+ghost use Rattle.dagcbor_car.specs.Verdicts.{IsVerified, IsVerdict, TellsAll};
+ghost use Rattle.dagcbor_car.specs.Splits.{HasBlock, CountsBlock};
+ghost use Rattle.dagcbor_car.specs.Sources.{LacksMemoryIf};
 ghost use Rattle.dagcbor_car.specs.Checks.{HoldsName, FollowsLinks};
 ghost use Rattle.dagcbor_car.specs.Checks.{IsAfter, TakesSection, ListsMissing, TellsVerdict};
 ghost use Rattle.dagcbor_car.specs.Checks.{Steps, ChecksCar, ChecksInput};
@@ -18,34 +20,37 @@ use crate::section::Section;
 use crate::sink::VerdictSink;
 use crate::verdict::{Verdict, verify};
 use dagcbor_heads::{Input, Read, SliceReader};
-use dagcbor_items::LinkSink;
 use ipld_tree::Cid;
 use std::alloc::{AllocError, Global};
 use std::convert::Infallible;
 
 /// What is known of a file behind some of its sections: which blocks it has, and which of its roots
-/// and links lead to none of them so far.
+/// and links lead to none of them so far. A name by the identity holds its block itself: it is never
+/// missing, and the links in that block are followed, however deep such names stand in one another.
+/// Each digest is shorter than the block that it stands in, so this ends. After a refusal of `take`
+/// nothing is known, and `take` and `missing` are refused.
 #[derive(Drop)]
 pub struct CarCheck {
     alloc: Global,
     held: CidSet,
     missing: CidSet,
+    failed: bool,
 }
 
 impl CarCheck {
     /// Behind the header, with these roots.
     pub fn new(alloc: Global, roots: &[Cid]) -> Result<CarCheck, AllocError>
-        ensures { IfOk result (λ check. IsAfter check (forms roots.now) []) }
+        ensures after { IfOk result (λ check. IsAfter check (forms roots.now) []) }
+        ensures sound { IfOk result (λ check. check.failed ≡ false) }
     {
         let mut missing = CidSet::new(alloc);
-        for root in roots {
-            missing.take(*root)?;
-        }
+        missing.add_all(alloc, roots)?;
         let held = CidSet::new(alloc);
         Ok(CarCheck {
             alloc,
             held,
             missing,
+            failed: false,
         })
     }
 
@@ -54,17 +59,28 @@ impl CarCheck {
         ensures verdict { IfOk result (IsVerdict (section.now.cid, section.now.block.now)) }
         ensures after { OnOk result
             (TakesSection (section.now.cid, section.now.block.now) self.old self.new) }
+        ensures memory { OnErr result ((self.old.failed ≡ true)
+            ⊎ IsVerified (section.now.cid, section.now.block.now)) }
+        ensures stops { self.new.failed ≡ is_err result }
+        ensures stopped { self.old.failed ≡ true → (is_err result ≡ true) × (self.new ≡ self.old) }
     {
+        if self.failed {
+            return Err(AllocError);
+        }
         let verdict = verify(&section.cid, section.block);
+        self.failed = true;
         self.note(section, &verdict)?;
+        self.failed = false;
         Ok(verdict)
     }
 
     /// Notes what the verdict on the section says.
     fn note(&mut self, section: &Section<'_>, verdict: &Verdict) -> Result<(), AllocError>
         requires { IsVerdict (section.now.cid, section.now.block.now) verdict.now }
-        ensures { OnOk result
+        ensures after { OnOk result
             (TakesSection (section.now.cid, section.now.block.now) self.old self.new) }
+        ensures memory { OnErr result (IsVerified (section.now.cid, section.now.block.now)) }
+        ensures same { self.new.failed ≡ self.old.failed }
     {
         match verdict {
             Verdict::Block(_) => {
@@ -80,27 +96,33 @@ impl CarCheck {
 
     /// Notes the name of a verified block.
     fn hold(&mut self, cid: Cid) -> Result<(), AllocError>
-        ensures { OnOk result (HoldsName cid self.old self.new) }
+        ensures held { OnOk result (HoldsName cid self.old self.new) }
+        ensures same { self.new.failed ≡ self.old.failed }
     {
         self.missing.remove(&cid);
         self.held.add(cid)
     }
 
-    /// Notes the links of a block that lead to no verified block so far.
+    /// Notes the links of a block, and those within them, that lead to no verified block so far.
     fn follow(&mut self, block: &[u8]) -> Result<(), AllocError>
         requires { HasBlock block.now }
-        ensures { OnOk result (FollowsLinks block.now self.old self.new) }
+        ensures followed { OnOk result (FollowsLinks block.now self.old self.new) }
+        ensures same { self.new.failed ≡ self.old.failed }
     {
         let mut links = CidSet::new(self.alloc);
-        links.add_links(block)?;
+        links.add_links(self.alloc, block)?;
         self.missing.add_others(links, &self.held)
     }
 
     /// The roots and the links that lead to no verified block, each once, in their order.
     pub fn missing(self, alloc: Global) -> Result<Vec<Cid>, AllocError>
-        ensures { (roots : List (List ℕ)) (sections : List CarSection)
+        ensures lists { (roots : List (List ℕ)) (sections : List CarSection)
             → IsAfter self roots sections → IfOk result (ListsMissing roots sections) }
+        ensures stopped { self.failed ≡ true → is_err result ≡ true }
     {
+        if self.failed {
+            return Err(AllocError);
+        }
         self.missing.into_vec(alloc)
     }
 }
@@ -112,7 +134,8 @@ pub fn check_car<S: VerdictSink>(
     bytes: &[u8],
     verdicts: &mut S,
 ) -> Result<Vec<Cid>, CarError<Infallible>>
-    ensures { ChecksCar S.holds bytes.now verdicts.old result verdicts.new }
+    ensures checked { ChecksCar S.holds bytes.now verdicts.old result verdicts.new }
+    ensures memory { LacksMemoryIf (CountsBlock bytes.now) result }
 {
     let mut input = Input::<SliceReader>::Slice(SliceReader::new(bytes));
     check_input(alloc, &mut input, verdicts)
@@ -179,9 +202,13 @@ fn take_section<S: VerdictSink>(
     section: &Section<'_>,
     verdicts: &mut S,
 ) -> Result<(), AllocError>
-    ensures { OnOk result (TellsVerdict S.holds (section.now.cid, section.now.block.now)
-        check.old verdicts.old check.new verdicts.new) }
+    ensures { MatchResult result
+        (λ _. TellsVerdict S.holds (section.now.cid, section.now.block.now)
+        check.old verdicts.old check.new verdicts.new)
+        (λ _. TellsAll S.holds verdicts.old [] verdicts.new) }
 {
-    let verdict = check.take(section)?;
-    verdicts.take(section, &verdict)
+    match check.take(section) {
+        Ok(verdict) => verdicts.take(section, &verdict),
+        Err(_) => Err(AllocError),
+    }
 }

@@ -1,13 +1,14 @@
 //! Sets of CIDs.
 
-ghost use Rattle.std.specs.Prelude.{◌≡◌, [], ◌∷◌, true, IfOk, OnOk, OnErr, Some};
+ghost use Rattle.std.specs.Prelude.{◌≡◌, [], ◌∷◌, IfOk, OnOk, Some};
 ghost use Rattle.std.specs.List.Sorted.{IsStrictlySortedBy};
 ghost use Rattle.ipld_tree.specs.Cid.{cid_cmp};
 ghost use Rattle.dagcbor_car.specs.Splits.{HasBlock};
 ghost use Rattle.dagcbor_car.specs.Sets.{members, AddsCid, RemovesCid, AddsOthers};
-ghost use Rattle.dagcbor_car.specs.Sets.{HoldsLinks, AddsLinks};
+ghost use Rattle.dagcbor_car.specs.Within.{AddsAll, AddsLinks};
 
-use dagcbor_items::{LinkSink, walk_slice};
+use crate::name::{DAG_CBOR, IDENTITY};
+use dagcbor_items::{check_slice, links_from_slice};
 use ipld_tree::Cid;
 use std::alloc::{AllocError, Global};
 use std::collections::BTreeSet;
@@ -28,8 +29,7 @@ impl CidSet {
     }
 
     pub(crate) fn add(&mut self, cid: Cid) -> Result<(), AllocError>
-        ensures added { OnOk result (AddsCid cid self.old self.new) }
-        ensures kept { OnErr result (members self.new ≡ members self.old) }
+        ensures { OnOk result (AddsCid cid self.old self.new) }
     {
         // What is known of a CID comes with its version.
         let _version = cid.version();
@@ -39,15 +39,46 @@ impl CidSet {
         }
     }
 
-    /// Adds the links of a block.
-    pub(crate) fn add_links(&mut self, block: &[u8]) -> Result<(), AllocError>
+    /// Adds the links of a block, and those within them.
+    #[cycle(links)]
+    pub(crate) fn add_links(&mut self, alloc: Global, block: &[u8]) -> Result<(), AllocError>
         requires { HasBlock block.now }
         ensures { AddsLinks block.now self.old result self.new }
     {
         // The links of a block are refused for want of memory alone.
-        match walk_slice(block, self) {
-            Ok(_kind) => Ok(()),
-            Err(_) => Err(AllocError),
+        let Ok(links) = links_from_slice(alloc, block) else {
+            return Err(AllocError);
+        };
+        self.add_all(alloc, &links)
+    }
+
+    /// Adds the links, and those within them.
+    #[cycle(links)]
+    pub(crate) fn add_all(&mut self, alloc: Global, links: &[Cid]) -> Result<(), AllocError>
+        ensures { OnOk result (AddsAll links.now self.old self.new) }
+    {
+        for link in links {
+            self.add_link(alloc, link)?;
+        }
+        Ok(())
+    }
+
+    /// Adds the link; or those within it, where its name holds a block itself.
+    #[cycle(links)]
+    fn add_link(&mut self, alloc: Global, link: &Cid) -> Result<(), AllocError>
+        ensures { OnOk result (AddsAll (link.now ∷ []) self.old self.new) }
+    {
+        // What is known of a CID comes with its version.
+        let _version = link.version();
+        if link.hash_code() != IDENTITY {
+            return self.add(*link);
+        }
+        if link.codec() != DAG_CBOR {
+            return Ok(());
+        }
+        match check_slice(link.digest()) {
+            Ok(_kind) => self.add_links(alloc, link.digest()),
+            Err(_) => Ok(()),
         }
     }
 
@@ -87,13 +118,5 @@ impl CidSet {
             list.push(cid)?;
         }
         Ok(list)
-    }
-}
-
-impl LinkSink for CidSet {
-    ghost sink = { record { holds = HoldsLinks; takes_memory = true } };
-
-    fn take(&mut self, cid: Cid) -> Result<(), AllocError> {
-        self.add(cid)
     }
 }

@@ -1,6 +1,6 @@
 //! The header at the front of bytes: the roots of a file.
 
-ghost use Rattle.std.specs.Prelude.{◌≡◌, ◌↔◌, [], ◌∷◌, map, codes, pos, Some, IsTrue};
+ghost use Rattle.std.specs.Prelude.{◌≡◌, ◌↔◌, [], ◌∷◌, map, codes, pos, Some, IsTrue, true};
 ghost use Rattle.std.specs.Prelude.{MatchResult, IfOk};
 ghost use Rattle.ipld_tree.specs.Cid.{cid_bytes};
 ghost use Rattle.ipld_tree.specs.Tree.{integer, link, list_tree, entries_tree};
@@ -33,6 +33,8 @@ impl Serialize for Header<'_> {
     ghost tree = { λ h. entries_tree
         (field (codes "roots") (list_tree (map (λ c. Some (link (cid_bytes c))) h.roots.now))
         ∷ field (codes "version") (Some (integer (pos 1))) ∷ []) };
+
+    ghost takes_memory = { true };
 
     fn serialize<W: Write>(&self, alloc: Global, ser: &mut Serializer<W>) -> WriteResult<(), W> {
         let fields = (

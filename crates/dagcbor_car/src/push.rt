@@ -6,6 +6,7 @@ ghost use Rattle.ipld_tree.specs.Cid.{varint};
 ghost use Rattle.dagcbor_items.specs.Walks.{forms};
 ghost use Rattle.dagcbor_car.specs.Car.{counted, header_bytes, IsHeader};
 ghost use Rattle.dagcbor_car.specs.Car.{section_bytes, IsSection};
+ghost use Rattle.dagcbor_car.specs.Writers.{UnsentWithoutMemory};
 
 use crate::header::spell_header;
 use crate::pull::MOST_GROUPS;
@@ -20,6 +21,8 @@ pub fn push_header<W: Write>(alloc: Global, writer: &mut W, roots: &[Cid]) -> Wr
     ensures written { Writes (Some (header_bytes (forms roots.now)))
         (W.written writer.old) (W.written writer.new) result }
     ensures header { OnOk result (IsHeader (forms roots.now)) }
+    ensures unsent { UnsentWithoutMemory W.takes_memory (W.written writer.old) result
+        (W.written writer.new) }
 {
     let Ok(spelled) = spell_header(alloc, roots) else {
         return Err(EncodeError::OutOfMemory);
@@ -29,8 +32,9 @@ pub fn push_header<W: Write>(alloc: Global, writer: &mut W, roots: &[Cid]) -> Wr
 
 /// Appends the bytes behind their length.
 fn push_counted<W: Write>(writer: &mut W, bytes: &[u8]) -> WriteResult<(), W>
-    ensures { Writes (Some (counted bytes.now))
+    ensures written { Writes (Some (counted bytes.now))
         (W.written writer.old) (W.written writer.new) result }
+    ensures memory { WantsMemoryOnlyIf W.takes_memory result }
 {
     push_length(writer, bytes.len())?;
     writer.push(bytes)

@@ -1,7 +1,7 @@
 //! What is done with the verdicts on the sections of a file.
 
-ghost use Rattle.std.specs.Prelude.{List, OnOk};
-ghost use Rattle.dagcbor_car.specs.Verdicts.{Told, Tells};
+ghost use Rattle.std.specs.Prelude.{◌≡◌, [], Bool, true, List, MatchResult};
+ghost use Rattle.dagcbor_car.specs.Verdicts.{Told, Tells, TellsAll};
 
 use crate::section::Section;
 use crate::verdict::Verdict;
@@ -12,8 +12,14 @@ pub trait VerdictSink {
     /// Whether these may be the sections that it was handed so far, and the verdicts on them.
     ghost holds: { Self → List Told → Type 0 };
 
-    /// Hands it the next section, and the verdict on it.
+    /// Whether it may refuse a section, for want of memory.
+    ghost takes_memory: { Bool };
+
+    /// Hands it the next section, and the verdict on it. Where it refuses, it was told what it was
+    /// told.
     fn take(&mut self, section: &Section<'_>, verdict: &Verdict) -> Result<(), AllocError>
-        ensures { OnOk result (Tells holds self.old
-            ((section.now.cid, section.now.block.now), verdict.now) self.new) };
+        ensures { MatchResult result
+            (λ _. Tells holds self.old ((section.now.cid, section.now.block.now), verdict.now)
+            self.new)
+            (λ _. (takes_memory ≡ true) × TellsAll holds self.old [] self.new) };
 }

@@ -1,17 +1,18 @@
 //! What is said of a block under a name.
 
-ghost use Rattle.std.specs.Prelude.{◌≡◌, MatchOption};
-ghost use Rattle.dagcbor_car.specs.Verdicts.{digest_by, IsDigestTest, IsVerdict};
+ghost use Rattle.std.specs.Prelude.{◌≡◌, ◌≢◌, ◌↔◌, length, IsTrue, MatchOption};
+ghost use Rattle.sha2.specs.Sha256.{sha256};
+ghost use Rattle.dagcbor_car.specs.Verdicts.{IsVerified, IsTestable, IsVerdict};
 
-use crate::name::{DAG_CBOR, SHA2_256};
+use crate::name::{DAG_CBOR, IDENTITY, SHA2_256};
 use dagcbor_heads::DecodeError;
 use dagcbor_items::{Kind, check_slice};
 use ipld_tree::Cid;
 use sha2::{Digest, Sha256};
 use std::convert::Infallible;
 
-/// The code of the digest that is the bytes themselves.
-const IDENTITY: u64 = 0x00;
+/// The length of a SHA-256.
+const SHA2_256_LENGTH: usize = 32;
 
 /// What is said of a block under a name.
 #[derive(Debug, Drop)]
@@ -24,7 +25,8 @@ pub enum Verdict {
     OtherBytes,
     /// The block is the one that is named. It is of another codec, and was not read.
     NotRead,
-    /// The name is by another hash function than SHA-256 and identity. The block was not read.
+    /// The name is by another hash function than SHA-256 and the identity, or by a SHA-256 of
+    /// another length than 32 bytes. The block was not read.
     Unverified,
 }
 
@@ -48,15 +50,25 @@ pub fn verify(cid: &Cid, block: &[u8]) -> Verdict
     }
 }
 
-/// Whether the digest in the CID is that of the block. None for a hash function that is not known
-/// here.
+/// Whether the digest in the CID is that of the block. None where that can't be told here.
 fn names(cid: &Cid, block: &[u8]) -> Option<bool>
-    ensures { MatchOption result (digest_by cid.now.hash_code block.now ≡ None)
-        (λ is_named. IsDigestTest (cid.now, block.now) is_named) }
+    ensures { MatchOption result (¬ IsTestable cid.now)
+        (λ is_named. IsTestable cid.now × (IsTrue is_named ↔ IsVerified (cid.now, block.now))) }
 {
     match cid.hash_code() {
-        SHA2_256 => Some(Sha256::digest(block).as_slice() == cid.digest()),
-        IDENTITY => Some(block == cid.digest()),
+        SHA2_256 => is_sha256(cid.digest(), block),
+        IDENTITY => Some(cid.digest() == block),
         _ => None,
     }
+}
+
+/// Whether the digest is the SHA-256 of the block. None for one of another length.
+fn is_sha256(digest: &[u8], block: &[u8]) -> Option<bool>
+    ensures { MatchOption result (length digest.now ≢ 32)
+        (λ same. (length digest.now ≡ 32) × (IsTrue same ↔ (digest.now ≡ sha256 block.now))) }
+{
+    if digest.len() != SHA2_256_LENGTH {
+        return None;
+    }
+    Some(digest == Sha256::digest(block).as_slice())
 }

@@ -1,5 +1,5 @@
-/* DAG-CBOR for C: whether bytes are a block, what it holds, how it is spelled, the links of an item, a block's name, and the
-   sections of a file of blocks (CAR, version 1).
+/* DAG-CBOR for C: whether bytes are a block, what it holds, how it is spelled, the links of an item, a block's name, the
+   sections of a file of blocks (CAR, version 1), and the text of CIDs.
 
    A block is the one spelling of a DAG-CBOR item that reading takes at most 256 steps of depth: one for a leaf, and
    two for each list or map around it. An item of more steps is refused here as too deep.
@@ -67,7 +67,7 @@ enum dagcbor_refusal {
     DAGCBOR_NON_MINIMAL = -16,     /* a number or a length in more bytes than it needs */
     DAGCBOR_UNORDERED_KEY = -17,   /* a key that does not come behind the one before it */
     DAGCBOR_NO_TOKEN = -20,        /* of dagcbor_spell: a kind or a number that is none, or a payload outside the bytes */
-    DAGCBOR_NO_ROOM = -21          /* of dagcbor_spell: what the tape tells has no room */
+    DAGCBOR_NO_ROOM = -21          /* of dagcbor_spell: what the tape tells has no room; of a CID and its text likewise */
 };
 
 /* The kind, from 0, exactly where the bytes are a block; else, below 0, a refusal whose cause stands in them. */
@@ -111,6 +111,33 @@ enum dagcbor_section {
    which is where the CID ends, and where the section ends with its block: the next one begins there. Else they stay.
    It is gone through once for its digest, and once by the judge: what is behind it is not looked at. */
 int32_t dagcbor_car_section(const uint8_t *bytes, size_t length, size_t places[3]);
+
+/* The greatest length of a CID in its binary form, and of the text that is written. */
+enum { DAGCBOR_CID_MOST = 86, DAGCBOR_CID_TEXT_MOST = 139 };
+
+/* Why a text is that of no CID, beside DAGCBOR_INVALID_CID: it tells bytes that are none. */
+enum dagcbor_text_fault {
+    DAGCBOR_UNKNOWN_BASE = -28,        /* the first character is none of b, B, f, z and Q, or there is none */
+    DAGCBOR_TOO_LONG = -29,            /* more than 172 characters stand behind the prefix: no CID has so many */
+    DAGCBOR_INVALID_CHARACTER = -30,   /* a character is none of the base's */
+    DAGCBOR_INVALID_TEXT_LENGTH = -31, /* the last character begins a byte and does not end it */
+    DAGCBOR_TRAILING_BITS = -32,       /* bits that are not zero stand behind the last byte */
+    DAGCBOR_LEADING_ZERO = -33,        /* a 1 stands first in base58btc, which is a zero byte: no CID begins with one */
+    DAGCBOR_INVALID_VERSION = -34      /* version 0 behind a prefix, or version 1 behind none */
+};
+
+/* The text of the CID that the bytes are: base32 behind b, and of version 0 base58btc (Qm..). It is ASCII, and no zero
+   stands behind it. 0 exactly where the bytes are a CID, else DAGCBOR_INVALID_CID. *needed becomes the length of the text,
+   at most DAGCBOR_CID_TEXT_MOST. Where that is at most `room` the text is put at the front of `out`, and else the answer is
+   DAGCBOR_NO_ROOM and `out` stays as it was. After another refusal *needed is 0 and `out` as it was. */
+int32_t dagcbor_cid_text(const uint8_t *bytes, size_t length, uint8_t *out, size_t room, size_t *needed);
+
+/* The binary form of the CID that the text is one of: of version 0 base58btc (Qm..), of version 1 base32 behind b or B,
+   base58btc behind z, or base16 with small letters behind f. 0 exactly where it is one; else, below 0, the one fault that
+   stands in it: that it is too long, or the first from the left. *needed becomes the length of the binary form, at most
+   DAGCBOR_CID_MOST. Where that is at most `room` it is put at the front of `out`, and else the answer is DAGCBOR_NO_ROOM and
+   `out` stays as it was. After another refusal *needed is 0 and `out` as it was. */
+int32_t dagcbor_cid_from_text(const uint8_t *text, size_t length, uint8_t *out, size_t room, size_t *needed);
 
 /* Pointers that each call takes, also where there are no bytes, or there is no room, and the pointer is NULL. So
    dagcbor_links(bytes, length, dagcbor_into(NULL, 0), 0, &needed) asks how long the links are. */

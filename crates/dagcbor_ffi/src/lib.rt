@@ -1,5 +1,5 @@
 //! DAG-CBOR for callers in other languages: the judge of blocks, the links of an item, a block's
-//! name, and the sections of a file of blocks, by the C ABI.
+//! name, the sections of a file of blocks, and the text of CIDs, by the C ABI.
 //!
 //! A slice crosses as a pointer and a length. `include/dagcbor.h` has what C declares, and
 //! `docs/OTHER_LANGUAGES.md` what a caller owes.
@@ -8,24 +8,15 @@
 ghost use Rattle.std.specs.Prelude.{◌≡◌};
 ghost use Rattle.ipld_tree.specs.Cid.{cid_bytes};
 ghost use Rattle.dagcbor_car.specs.Names.{block_name};
-ghost use Rattle.dagcbor_ffi.specs.Answers.{IsCheckAnswer, IsLinksAnswer, IsTapeAnswer};
-ghost use Rattle.dagcbor_ffi.specs.Answers.{IsSpellAnswer};
-ghost use Rattle.dagcbor_ffi.specs.Sections.{IsSectionAnswer};
+ghost use Rattle.dagcbor_calls.specs.Answers.{IsCheckAnswer, IsLinksAnswer, IsTapeAnswer};
+ghost use Rattle.dagcbor_calls.specs.Answers.{IsSpellAnswer};
+ghost use Rattle.dagcbor_calls.specs.Sections.{IsSectionAnswer};
+ghost use Rattle.dagcbor_calls.specs.CidTexts.{IsCidTextAnswer, IsCidFromTextAnswer};
 
-mod code;
-pub mod laws;
-mod links;
-mod name;
-mod section;
-mod spell;
-mod tape;
-
-use crate::code::code_of;
-use crate::links::put_links;
-use crate::name::name_of;
-use crate::section::judge_section;
-use crate::spell::spell;
-use crate::tape::{Token, put_tape};
+use dagcbor_calls::{
+    Token, code_of, judge_section, name_of, put_cid_of_text, put_cid_text, put_links, put_tape,
+    spell_tape,
+};
 use dagcbor_items::check_slice;
 
 /// The number of the kind of a block, from 0; below 0 that of the refusal.
@@ -69,7 +60,7 @@ pub extern "C" fn dagcbor_spell(
 ) -> i32
     ensures { IsSpellAnswer bytes.now tape.now out.old out.new needed.new result }
 {
-    spell(bytes, tape, out, needed)
+    spell_tape(bytes, tape, out, needed)
 }
 
 /// Puts the block's name into `out`: the CID of version 1, of the codec DAG-CBOR, by the SHA-256 of
@@ -94,5 +85,25 @@ pub extern "C" fn dagcbor_car_section(bytes: &[u8], places: &mut [usize; 3]) -> 
     judge_section(bytes, places)
 }
 
-#[cfg(test)]
-mod tests;
+/// Puts the text of the CID that the bytes are at the front of `out`, where there is room for it:
+/// base32 behind `b`, and of version 0 base58btc, in ASCII, at most 139 bytes. 0 is answered then,
+/// and `needed` becomes its length. -21 is answered where there is no room, and -26 where the bytes
+/// are no CID, and then nothing is needed; after both `out` stays.
+#[unsafe(no_mangle)]
+pub extern "C" fn dagcbor_cid_text(bytes: &[u8], out: &mut [u8], needed: &mut usize) -> i32
+    ensures { IsCidTextAnswer bytes.now out.old out.new needed.new result }
+{
+    put_cid_text(bytes, out, needed)
+}
+
+/// Puts the binary form of the CID that the text is one of at the front of `out`, where there is
+/// room for it, at most 86 bytes. 0 is answered then, and `needed` becomes its length. -21 is
+/// answered where there is no room. Where the text is that of no CID the number of its fault is
+/// answered: that it is too long, or the first from the left; and nothing is needed. After both
+/// `out` stays.
+#[unsafe(no_mangle)]
+pub extern "C" fn dagcbor_cid_from_text(text: &[u8], out: &mut [u8], needed: &mut usize) -> i32
+    ensures { IsCidFromTextAnswer text.now out.old out.new needed.new result }
+{
+    put_cid_of_text(text, out, needed)
+}

@@ -61,6 +61,19 @@ pub record Stays (old new : Reading) : Type 0 where
   pub faults : new.faults ≡ old.faults
   pub through : new.through ≡ old.through
 
+-- the steps, the loan and the references are as before, however much was taken, shown or looked at,
+-- and however often the source faulted
+pub record KeepsSteps (old new : Reading) : Type 0 where
+  pub steps : new.steps ≡ old.steps
+  pub budget : new.budget ≡ old.budget
+  pub lends : new.lends ≡ old.lends
+  pub through : new.through ≡ old.through
+
+-- the same, and no byte was taken
+pub record TakesNothing (old new : Reading) : Type 0 where
+  pub kept : Keeps old new
+  pub same : KeepsSteps old new
+
 -- what is shown of the bytes left: a beginning, which is empty only at their end or where no byte
 -- is wanted; one that is lent has all that was wanted, as far as there is so much
 pub record IsShownOf (b shown : List ℕ) (want : ℕ) (lends : Bool) : Type 0 where

@@ -1,6 +1,7 @@
 //! What values are read from: a slice, which lends its bytes, or another reader.
 
-ghost use Rattle.std.specs.Prelude.{◌≡◌, ◌<◌, ◌++◌, ◌^◌, true, length, IfSome, MatchOption};
+ghost use Rattle.std.specs.Prelude.{◌≡◌, ◌↔◌, ◌<◌, ◌+◌, ◌++◌, ◌^◌, true, length, IfSome, MatchOption};
+ghost use Rattle.std.specs.Prelude.{IsTrue, IsSome, Some, List, ℕ, []};
 ghost use Rattle.dagcbor_heads.specs.Head.{head};
 ghost use Rattle.dagcbor_heads.specs.Fronts.{Takes};
 ghost use Rattle.dagcbor_heads.specs.Looking.{LooksAtTaken};
@@ -30,6 +31,39 @@ impl<'de, R: Read> Input<'de, R> {
         }
     }
 
+    /// The bytes that are left, where the input is a slice. Nothing is taken, and nothing counted:
+    /// who looks at them takes by `lend` those that it knows then.
+    #[inline(always)]
+    pub fn rest(&self) -> Option<&'de [u8]>
+        ensures bytes { IfSome result
+            (λ s. (input_reading R.reading self.now).left ≡ Some s.now) }
+        ensures lends { IsTrue (input_reading R.reading self.now).lends ↔ IsSome result }
+    {
+        match self {
+            Input::Slice(reader) => Some(reader.rest()),
+            Input::Reader(_) => None,
+        }
+    }
+
+    /// Takes the next n bytes and lends them, where the input is a slice that has so many. Else
+    /// nothing is taken.
+    #[inline(always)]
+    pub fn lend(&mut self, n: u64) -> Option<&'de [u8]>
+        ensures lent { MatchOption result
+            ((self.new ≡ self.old) × ((input_reading R.reading self.old).lends ≡ true →
+            (b : List ℕ) → (input_reading R.reading self.old).left ≡ Some b → length b < n))
+            (λ s. (length s.now ≡ n)
+            × Takes (input_reading R.reading self.old) s.now (input_reading R.reading self.new)
+            × ((input_reading R.reading self.new).looked
+            ≡ (input_reading R.reading self.old).looked + n)) }
+        ensures shown { IfSome result (λ _. (input_reading R.reading self.new).shown ≡ []) }
+    {
+        match self {
+            Input::Slice(reader) => reader.lend(n),
+            Input::Reader(_) => None,
+        }
+    }
+
     /// Takes the string of this major type at the front, with its head, and lends its bytes, where
     /// the input is a slice that has all of them. Else nothing is taken, and nothing counted, as in
     /// `take_string` of `SliceReader`.
@@ -41,6 +75,7 @@ impl<'de, R: Read> Input<'de, R> {
             × Takes (input_reading R.reading self.old) (head kind (length s.now) ++ s.now)
             (input_reading R.reading self.new)) }
         ensures lends { IfSome result (λ _. (input_reading R.reading self.old).lends ≡ true) }
+        ensures shown { IfSome result (λ _. (input_reading R.reading self.new).shown ≡ []) }
         ensures looked { IfSome result
             (λ _. LooksAtTaken 2 0 (input_reading R.reading self.old)
             (input_reading R.reading self.new)) }

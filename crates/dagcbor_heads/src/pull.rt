@@ -1,12 +1,12 @@
 //! Takes bytes, heads and payloads off any reader.
 
 ghost use Rattle.std.specs.Prelude.{◌≡◌, ◌↔◌, ◌<◌, ◌≤◌, ◌+◌, ◌*◌, ◌%◌, ◌^◌, [], ◌∷◌, ◌++◌, ⊤, Some};
-ghost use Rattle.std.specs.Prelude.{true, false, min, length, take, IfOk, IfErr, IfSome, IsTrue};
+ghost use Rattle.std.specs.Prelude.{true, false, min, length, take, IfOk, IfErr, IfSome, IsTrue, IsOk};
 ghost use Rattle.std.specs.Prelude.{MatchOption, MatchResult, MatchBool, List, ℕ};
 ghost use Rattle.std.specs.Cow.{cow_slice_items, IsBorrowedSlice};
 ghost use Rattle.std.specs.Int.{bytes_high_first};
 ghost use Rattle.dagcbor_heads.specs.Head.{head};
-ghost use Rattle.dagcbor_heads.specs.Reading.{Fails, Stays, Keeps};
+ghost use Rattle.dagcbor_heads.specs.Reading.{Fails, Stays, Keeps, KeepsSteps, TakesNothing};
 ghost use Rattle.dagcbor_heads.specs.Fronts.{FindsEnd, Gathers, HasByte, HasHead, HasPayload};
 ghost use Rattle.dagcbor_heads.specs.Fronts.{ShowsByte, Takes, TakesHead};
 ghost use Rattle.dagcbor_heads.specs.Causes.{ByteCause, ArgumentCause, HeadCause, PayloadCause};
@@ -91,6 +91,8 @@ pub fn peek_one<R: Read>(name: &str, reader: &mut R) -> ReadResult<u8, R>
         (λ byte. ShowsByte (R.reading reader.old) byte (R.reading reader.new))
         (λ e. RefusesPlainly (HasByte (R.reading reader.old)) ByteCause (R.reading reader.old) e
         (R.reading reader.new)) }
+    ensures nothing { IfErr result
+        (λ _. TakesNothing (R.reading reader.old) (R.reading reader.new)) }
     ensures variant { IfErr result (λ e. IsEndNamed name.now e) }
     ensures looked { LooksOnce (R.reading reader.old) (R.reading reader.new) }
 {
@@ -107,6 +109,8 @@ pub fn pull_one<R: Read>(name: &str, reader: &mut R) -> ReadResult<u8, R>
         (λ byte. Takes (R.reading reader.old) (byte ∷ []) (R.reading reader.new))
         (λ e. RefusesPlainly (HasByte (R.reading reader.old)) ByteCause (R.reading reader.old) e
         (R.reading reader.new)) }
+    ensures nothing { IfErr result
+        (λ _. TakesNothing (R.reading reader.old) (R.reading reader.new)) }
     ensures variant { IfErr result (λ e. IsEndNamed name.now e) }
     ensures looked { Looks 2 (R.reading reader.old) result (R.reading reader.new) }
     ensures at_most { LooksAtMost 2 (R.reading reader.old) (R.reading reader.new) }
@@ -155,6 +159,7 @@ fn pull_argument<R: Read>(name: &str, reader: &mut R, width: u16) -> ReadResult<
         × Takes (R.reading reader.old) (bytes_high_first width n) (R.reading reader.new))
         (λ e. RefusesPlainly (HasPayload width (R.reading reader.old)) (ArgumentCause width)
         (R.reading reader.old) e (R.reading reader.new)) }
+    ensures stays { IfErr result (λ _. KeepsSteps (R.reading reader.old) (R.reading reader.new)) }
     ensures variant { IfErr result (λ e. IsEndNamed name.now e) }
     ensures looked { Looks 2 (R.reading reader.old) result (R.reading reader.new) }
     ensures at_most { LooksAtMost (2 * width) (R.reading reader.old) (R.reading reader.new) }
@@ -177,6 +182,7 @@ pub fn pull_head<R: Read>(name: &str, reader: &mut R) -> ReadResult<(u8, u64, u8
         (λ h. TakesHead (R.reading reader.old) h.0 h.1 h.2 (R.reading reader.new))
         (λ e. RefusesPlainly (HasHead (R.reading reader.old)) HeadCause (R.reading reader.old) e
         (R.reading reader.new)) }
+    ensures stays { IfErr result (λ _. KeepsSteps (R.reading reader.old) (R.reading reader.new)) }
     ensures variant { IfErr result (λ e. IsNamed name.now e) }
     ensures looked { Looks 2 (R.reading reader.old) result (R.reading reader.new) }
     ensures at_most { LooksAtMost 18 (R.reading reader.old) (R.reading reader.new) }
@@ -211,6 +217,7 @@ fn pull_head_argument_slowly<R: Read>(name: &str, reader: &mut R) -> ReadResult<
         × TakesHead (R.reading reader.old) major n first (R.reading reader.new))
         (λ e. RefusesPlainly (HasHead (R.reading reader.old)) HeadCause (R.reading reader.old) e
         (R.reading reader.new)) }
+    ensures stays { IfErr result (λ _. KeepsSteps (R.reading reader.old) (R.reading reader.new)) }
     ensures variant { IfErr result (λ e. IsNamed name.now e) }
     ensures looked { Looks 2 (R.reading reader.old) result (R.reading reader.new) }
 {
@@ -227,6 +234,7 @@ pub fn pull_head_argument<R: Read>(name: &str, reader: &mut R) -> ReadResult<u64
         × TakesHead (R.reading reader.old) major n first (R.reading reader.new))
         (λ e. RefusesPlainly (HasHead (R.reading reader.old)) HeadCause (R.reading reader.old) e
         (R.reading reader.new)) }
+    ensures stays { IfErr result (λ _. KeepsSteps (R.reading reader.old) (R.reading reader.new)) }
     ensures variant { IfErr result (λ e. IsNamed name.now e) }
     ensures looked { Looks 2 (R.reading reader.old) result (R.reading reader.new) }
 {
@@ -253,6 +261,7 @@ fn gather_some<R: Read>(reader: &mut R, payload: &mut Vec<u8>, want: u64) -> Rea
         (λ n. Gathers (R.reading reader.old) payload.old.items want n payload.new.items
         (R.reading reader.new))
         (λ e. RefusesOrLacksMemory ⊤ (λ _ _. ⊥) (R.reading reader.old) e (R.reading reader.new)) }
+    ensures stays { IfErr result (λ _. KeepsSteps (R.reading reader.old) (R.reading reader.new)) }
     ensures variant { IfErr result IsFaultOrLack }
     ensures looked { Looks 2 (R.reading reader.old) result (R.reading reader.new) }
     ensures at_most { MatchResult result
@@ -275,10 +284,12 @@ fn gather_some<R: Read>(reader: &mut R, payload: &mut Vec<u8>, want: u64) -> Rea
 /// The next n bytes, gathered in a vector that grows as they come. They are taken.
 #[tactic(auto, using(crate::proofs::Refusing::payload_named))]
 fn gather<R: Read>(alloc: Global, name: &str, reader: &mut R, n: u64) -> ReadResult<Vec<u8>, R>
+    ensures empty { n ≡ 0 → IsOk result }
     ensures taken { MatchResult result
         (λ v. (length v.items ≡ n) × Takes (R.reading reader.old) v.items (R.reading reader.new))
         (λ e. RefusesOrLacksMemory (HasPayload n (R.reading reader.old)) (PayloadCause n)
         (R.reading reader.old) e (R.reading reader.new)) }
+    ensures stays { IfErr result (λ _. KeepsSteps (R.reading reader.old) (R.reading reader.new)) }
     ensures variant { IfErr result (λ e. IsPayloadNamed name.now e) }
     ensures looked { Looks 2 (R.reading reader.old) result (R.reading reader.new) }
     ensures at_most { LooksAtMost (2 * n) (R.reading reader.old) (R.reading reader.new) }
@@ -311,6 +322,9 @@ pub fn pull_payload<'de, R: Read>(
         (input_reading R.reading input.old) e (input_reading R.reading input.new)) }
     ensures lent { IfOk result
         (λ c. IsBorrowedSlice c ↔ ((input_reading R.reading input.old).lends ≡ true)) }
+    ensures empty { n ≡ 0 → IsOk result }
+    ensures stays { IfErr result (λ _. KeepsSteps (input_reading R.reading input.old)
+        (input_reading R.reading input.new)) }
     ensures variant { IfErr result (λ e. IsPayloadNamed name.now e) }
     ensures looked { OverInput R.reading (Looks 2) input.old result input.new }
     ensures at_most { LooksAtMost (2 * n) (input_reading R.reading input.old)
@@ -366,10 +380,12 @@ pub fn pull_short_payload<R: Read, const CAP: usize>(
     n: u64,
 ) -> ReadResult<ArrayVec<u8, CAP>, R>
     requires { n ≤ CAP }
+    ensures empty { n ≡ 0 → IsOk result }
     ensures taken { MatchResult result
         (λ v. (length v.items ≡ n) × Takes (R.reading reader.old) v.items (R.reading reader.new))
         (λ e. RefusesPlainly (HasPayload n (R.reading reader.old)) (PayloadCause n)
         (R.reading reader.old) e (R.reading reader.new)) }
+    ensures stays { IfErr result (λ _. KeepsSteps (R.reading reader.old) (R.reading reader.new)) }
     ensures variant { IfErr result (λ e. IsEndNamed name.now e) }
     ensures looked { Looks 2 (R.reading reader.old) result (R.reading reader.new) }
     ensures at_most { LooksAtMost (2 * n) (R.reading reader.old) (R.reading reader.new) }

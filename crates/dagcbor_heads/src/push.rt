@@ -1,6 +1,6 @@
 //! Appends heads.
 
-ghost use Rattle.std.specs.Prelude.{◌≡◌, ◌≤◌, ◌++◌, take, Some};
+ghost use Rattle.std.specs.Prelude.{◌≡◌, ◌≤◌, ◌-◌, ◌++◌, take, drop, replicate, Some};
 ghost use Rattle.dagcbor_heads.specs.Head.{head};
 ghost use Rattle.dagcbor_heads.specs.Written.{Writes, WantsMemoryOnlyIf, WritesAtOnce};
 
@@ -13,6 +13,7 @@ pub fn head_bytes(major: u8, argument: u64) -> ([u8; 9], usize)
     requires { major ≤ 7 }
     ensures count { result.1 ≤ 9 }
     ensures bytes { take result.1 result.0 ≡ head major argument }
+    ensures zeros { drop result.1 result.0 ≡ replicate (9 - result.1) 0 }
 {
     let first = 32 * major;
     if argument < 24 {

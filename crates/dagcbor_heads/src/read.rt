@@ -1,7 +1,7 @@
 //! Readers: a list of bytes, however they come.
 
 ghost use Rattle.std.specs.Prelude.{◌≡◌, ◌+◌, ◌-◌, ◌<◌, ◌≤◌, [], true, length, MatchOption};
-ghost use Rattle.std.specs.Prelude.{MatchResult, MatchBool, Some, List, ℕ, IfSome, ◌++◌, ◌^◌};
+ghost use Rattle.std.specs.Prelude.{MatchResult, MatchBool, Some, IsSome, List, ℕ, IfSome, ◌++◌, ◌^◌};
 ghost use Rattle.dagcbor_heads.specs.Reading.{Reading, Shows, Fails, Advances};
 ghost use Rattle.dagcbor_heads.specs.Reading.{fresh_reading, default_steps, with_steps};
 ghost use Rattle.dagcbor_heads.specs.Head.{head};
@@ -67,6 +67,7 @@ pub trait Read: Drop {
         ensures taken { MatchOption result
             (reading self.new ≡ reading self.old)
             (λ h. TakesHead (reading self.old) h.0 h.1 h.2 (reading self.new)) }
+        ensures shown { IfSome result (λ _. (reading self.new).shown ≡ []) }
         ensures looked { IfSome result
             (λ _. LooksAtTaken 2 0 (reading self.old) (reading self.new)) }
         ensures at_most { IfSome result
@@ -134,6 +135,15 @@ impl<'a> SliceReader<'a> {
         &self.rest[..self.shown]
     }
 
+    /// The bytes that are left, for as long as the slice. Nothing is taken, and nothing counted.
+    #[inline(always)]
+    pub(crate) fn rest(&self) -> &'a [u8]
+        ensures bytes { self.now.left ≡ Some result.now }
+        ensures lends { self.now.lends ≡ true }
+    {
+        self.rest
+    }
+
     /// Takes the string of this major type at the front, with its head, and lends its bytes, where
     /// all of them are left. Else nothing is taken, and nothing counted: the bytes of a head of this
     /// major type may have been looked at, as in `take_head`, and of any other its first byte alone.
@@ -144,6 +154,7 @@ impl<'a> SliceReader<'a> {
             (λ s. (kind < 8) × (length s.now < 2 ^ 64)
             × Takes self.old (head kind (length s.now) ++ s.now) self.new) }
         ensures lends { self.old.lends ≡ true }
+        ensures shown { IfSome result (λ _. self.new.shown ≡ []) }
         ensures looked { IfSome result (λ _. LooksAtTaken 2 0 self.old self.new) }
     {
         let (first, _behind) = self.rest.split_first()?;
@@ -168,6 +179,8 @@ impl<'a> SliceReader<'a> {
             ((self.new ≡ self.old) × ((b : List ℕ) → self.old.left ≡ Some b → length b < n))
             (λ s. (length s.now ≡ n) × Takes self.old s.now self.new
             × (self.new.looked ≡ self.old.looked + n)) }
+        ensures shown { IfSome result (λ _. self.new.shown ≡ []) }
+        ensures empty { n ≡ 0 → IsSome result }
     {
         if (self.rest.len() as u64) < n {
             return None;

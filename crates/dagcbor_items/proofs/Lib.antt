@@ -24,3 +24,5 @@ pub mod Examples
 pub mod Looks
 pub mod KindBytes
 pub mod SliceReads
+pub mod Lent
+pub mod Names

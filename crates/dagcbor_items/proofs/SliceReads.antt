@@ -1,5 +1,5 @@
 -- Slices that are read as one item, or whose first item is.
-use Rattle.std.proofs.Common.{◌≡◌, ◌≢◌, ◌++◌, append-nil, inl, inr, ℕ, ◌+◌, ◌<◌, true, List, [], ◌∷◌, length, refl, sym, ap, ◌∙◌, subst, arith}
+use Rattle.std.proofs.Common.{◌≡◌, ◌≢◌, ◌++◌, append-nil, inl, inr, ℕ, ◌+◌, ◌<◌, Bool, true, List, [], ◌∷◌, length, refl, sym, ap, ◌∙◌, subst, arith}
 use Rattle.std.specs.Prelude.{Option, Some, Result, Ok, Err, MatchResult, IfOk, IfErr, Vec, ⊤}
 use Rattle.std.specs.declared.alloc.Global.{Global}
 use Rattle.std.specs.declared.convert.Infallible.{Infallible}
@@ -20,7 +20,7 @@ use Rattle.dagcbor_items.specs.ItemCauses.{IsTooDeep, IsOtherSimple, ItemCause, 
 use Rattle.dagcbor_items.specs.LinkCauses.{IsOtherByte, CidCause, LinkCause}
 use Rattle.dagcbor_items.specs.LeafCauses.{IsOtherKind, IsCut, IsGarbled}
 use Rattle.dagcbor_items.specs.Untyped.{HasItem, TakesItem}
-use Rattle.dagcbor_items.specs.Walks.{Sink, forms, WalkLacks, HandsLinks, RefusesWalk, GathersLinks}
+use Rattle.dagcbor_items.specs.Walks.{Sink, forms, WalkLacks, HasLinkIn, HandsLinks, RefusesWalk, GathersLinks}
 use Rattle.dagcbor_items.specs.Judging.{SplitsItem}
 use Rattle.dagcbor_items.specs.Slices.{IsBlock, SliceRefused, PullsEnd, AreFirstLinks, LinksRefused, RefusesFirst}
 use Rattle.dagcbor_items.proofs.Places.{at_steps}
@@ -168,28 +168,29 @@ judged_refused e b none h = ((λ t k. none ([], (t, whole_front k.0, k.1)), h), 
 first_item : (r : Reading) (b : List ℕ) (links : List (List ℕ)) → r.left ≡ Some b → r.steps ≡ 256 → AreFirstLinks b links → HasItem 0 r
 first_item r b links l s h = record { bytes = b; tree = h.0; rest = h.1; left = l; front = h.2; accepted = refl; within = omega (arith, h.3, s) }
 
-item_refused : (lacks : Type 0) (e : DecodeError Infallible) (old new : Reading) (b : List ℕ) → old.left ≡ Some b → old.steps ≡ 256 → Refuses (HasItem 0 old) lacks ⊥ (CauseInside (old.steps + 0)) old e new → LinksRefused e b
-item_refused lacks (Read x) old new b l s r = elim x [ ]
-item_refused lacks OutOfMemory old new b l s r = tt
-item_refused lacks (RequireBorrowed n) old new b l s r = absurd r.1
-item_refused lacks Failed old new b l s r = r
-item_refused lacks (DepthOverflow n) old new b l s r = (λ links h. r.1 (first_item old b links l s h), at_steps {E = Infallible} (DepthOverflow n) b _ 256 (omega (arith, s)) (r.2 b l))
-item_refused lacks e old new b l s r = (λ links h. r.1 (first_item old b links l s h), at_steps {E = Infallible} e b _ 256 (omega (arith, s)) (r.2 b l))
+-- memory is wanting in a walk over what lends only in the sink, for some link
+wanting : (takes_memory : Bool) (old : Reading) (b : List ℕ) → old.left ≡ Some b → old.lends ≡ true → WalkLacks takes_memory old → (takes_memory ≡ true) × HasLinkIn b
+wanting takes_memory old b l lends (inl x) = absurd (let differ = sym lends ∙ x in cc)
+wanting takes_memory old b l lends (inr x) = (x.0, x.1 b l)
 
-pub first_links_read : (b : List ℕ) (start new : Reading) (r : Result (Vec CidParts Global) (DecodeError Infallible)) → start.left ≡ Some b → start.steps ≡ 256 → GathersLinks start r new → ReadsFirstLinks b r
-first_links_read b start new (Ok v) l s h =
+item_refused : (takes_memory : Bool) (e : DecodeError Infallible) (old new : Reading) (b : List ℕ) → old.left ≡ Some b → old.steps ≡ 256 → old.lends ≡ true → Refuses (HasItem 0 old) (WalkLacks takes_memory old) ⊥ (CauseInside (old.steps + 0)) old e new → LinksRefused e b
+item_refused takes_memory (Read x) old new b l s lends r = elim x [ ]
+item_refused takes_memory OutOfMemory old new b l s lends r = (wanting takes_memory old b l lends r.1).1
+item_refused takes_memory (RequireBorrowed n) old new b l s lends r = absurd r.1
+item_refused takes_memory Failed old new b l s lends r = r
+item_refused takes_memory (DepthOverflow n) old new b l s lends r = (λ links h. r.1 (first_item old b links l s h), at_steps {E = Infallible} (DepthOverflow n) b _ 256 (omega (arith, s)) (r.2 b l))
+item_refused takes_memory e old new b l s lends r = (λ links h. r.1 (first_item old b links l s h), at_steps {E = Infallible} e b _ 256 (omega (arith, s)) (r.2 b l))
+
+pub first_links_read : (b : List ℕ) (start new : Reading) (r : Result (Vec CidParts Global) (DecodeError Infallible)) → start.left ≡ Some b → start.steps ≡ 256 → start.lends ≡ true → GathersLinks start r new → ReadsFirstLinks b r
+first_links_read b start new (Ok v) l s lends h =
     let taken = h.1.taken b l in
     (h.0, taken.0, taken.1, omega (arith, taken.2, s), h.2)
-first_links_read b start new (Err e) l s h = item_refused ⊤ e start new b l s h
+first_links_read b start new (Err e) l s lends h = item_refused true e start new b l s lends h
 
 pub walk_refused : {S : Type 0} (sink : Sink S) (b : List ℕ) (old new : Reading) (before after : S) (e : DecodeError Infallible) → old.left ≡ Some b → old.steps ≡ 256 → old.lends ≡ true
     → RefusesWalk sink (HasItem 0 old) (CauseInside (old.steps + 0)) old before e new after → RefusesFirst sink b before e after
 walk_refused sink b old new before after e l s lends r = record {
-  refused = item_refused (WalkLacks sink.takes_memory old) e old new b l s r.refuses;
-  lacks = λ same. wanting (subst (λ x. Refuses (HasItem 0 old) (WalkLacks sink.takes_memory old) ⊥ (CauseInside (old.steps + 0)) old x new) same r.refuses).1;
+  refused = item_refused sink.takes_memory e old new b l s lends r.refuses;
+  lacks = λ same. (wanting sink.takes_memory old b l lends (subst (λ x. Refuses (HasItem 0 old) (WalkLacks sink.takes_memory old) ⊥ (CauseInside (old.steps + 0)) old x new) same r.refuses).1).0;
   handed = subst (λ left. HandsLinks sink left before after) l r.handed;
 }
-  where
-    wanting : WalkLacks sink.takes_memory old → sink.takes_memory ≡ true
-    wanting (inl x) = let differ = sym lends ∙ x in cc
-    wanting (inr x) = x

@@ -44,7 +44,7 @@ item_named b steps old new e l s lends r =
   where
     enough : WalkLacks false old → ⊥
     enough (inl x) = let differ = sym lends ∙ x in cc
-    enough (inr x) = absurd (cc x)
+    enough (inr x) = absurd (cc x.0)
 
 -- no key is read
 pub key_named : (previous : Option (List ℕ)) (b : List ℕ) (old new : Reading)

@@ -8,7 +8,7 @@ use Rattle.dagcbor_heads.specs.declared.error.DecodeError.{DecodeError}
 use Rattle.dagcbor_heads.proofs.Taking.{stays_both}
 use Rattle.dagcbor_heads.proofs.Refusing.{passed_on}
 use Rattle.ipld_tree.specs.Tree.{Tree, null, boolean, integer, text, list, mapping, link, items_of, Entries, no_entries, entry, links_of, items_links, entries_links}
-use Rattle.ipld_tree.specs.Spelling.{text_spelling}
+use Rattle.ipld_tree.specs.Spelling.{text_spelling, items_spelling, entries_spelling}
 use Rattle.ipld_tree.proofs.Unique.{major}
 use Rattle.dagcbor_items.specs.ItemCauses.{CauseInside}
 use Rattle.dagcbor_items.specs.Untyped.{HasItem, TakesItem, SkipsEnteredItem}
@@ -23,12 +23,30 @@ use Rattle.dagcbor_items.proofs.Places.{at_steps}
 use Rattle.dagcbor_items.proofs.Pushes.{entry_push}
 use Rattle.dagcbor_items.proofs.Steps.{stepped_refused, more_lacks}
 
+-- ---- the bytes behind what was taken
+
+-- known bytes are some bytes, and behind them those that are left now
+abbrev pub LeavesRest : Option (List ℕ) → Option (List ℕ) → Type 0
+LeavesRest left rest = (b : List ℕ) → left ≡ Some b → (x c : List ℕ) × (b ≡ x ++ c) × (rest ≡ Some c)
+
+pub rest_of_bytes : {old mid : Reading} {bytes : List ℕ} → Takes old bytes mid → LeavesRest old.left mid.left
+rest_of_bytes {old} {mid} {bytes} t b l = let k = t.taken b l in (bytes, k.0, k.1, k.2)
+
+pub rest_of_items : {old mid : Reading} (ts : List Tree) → TakesItems old ts mid → LeavesRest old.left mid.left
+rest_of_items ts t b l = let k = t.taken b l in (items_spelling (items_of ts), k.0, k.1.is, k.3)
+
+pub rest_of_entries : {old mid : Reading} (es : Entries) → TakesEntries old es mid → LeavesRest old.left mid.left
+rest_of_entries es t b l = let k = t.taken b l in (entries_spelling es, k.0, k.1.is, k.3)
+
+pub rest_of_key : {old mid : Reading} (key : List ℕ) → TakesItem 1 old (text key) mid → LeavesRest old.left mid.left
+rest_of_key key t b l = let k = t.taken b l in (text_spelling key, k.0, k.1.is, k.3)
+
 -- ---- want of memory
 
--- a reader that does not lend behind some reading did not lend before it
-pub lacks_before : {takes_memory : Bool} {old mid : Reading} → Stays old mid → WalkLacks takes_memory mid → WalkLacks takes_memory old
-lacks_before h (inl l) = inl (sym h.lends ∙ l)
-lacks_before h (inr m) = inr m
+-- what may be wanting behind what was taken might have been before
+pub lacks_before : {takes_memory : Bool} {old mid : Reading} → Stays old mid → LeavesRest old.left mid.left → WalkLacks takes_memory mid → WalkLacks takes_memory old
+lacks_before h behind (inl l) = inl (sym h.lends ∙ l)
+lacks_before h behind (inr m) = inr (m.0, λ b l. let k = behind b l in let link = m.1 k.1 k.3 in (link.0, links_behind k.0 b k.1 (link.0 ∷ []) k.2 link.1))
 
 pub step_refused : {E : Type 0} (takes_memory : Bool) {old stepped : Reading} (new : Reading) (spent : ℕ) (e : DecodeError E) → SpentStep old stepped → Refuses (HasItem (spent + 1) stepped) (WalkLacks takes_memory stepped) ⊥ (CauseInside (stepped.steps + (spent + 1))) stepped e new
     → Refuses (HasItem spent old) (WalkLacks takes_memory old) ⊥ (CauseInside (old.steps + spent)) old e new
@@ -36,7 +54,7 @@ step_refused {E} takes_memory {old} {stepped} new spent e s r = stepped_refused 
   where
     lacks : WalkLacks takes_memory stepped → WalkLacks takes_memory old
     lacks (inl l) = inl (ap (λ (r : Reading). r.lends) (sym s.is) ∙ l)
-    lacks (inr m) = inr m
+    lacks (inr m) = inr (m.0, λ b l. m.1 b (ap (λ (r : Reading). r.left) s.is ∙ l))
 
 -- ---- what a sink was handed
 
@@ -81,12 +99,11 @@ module _ {S : Type 0} (sink : Sink S) where
   }
 
   -- behind bytes that were taken
-  pub handed_behind : {left rest : Option (List ℕ)} (before after : S) → ((b : List ℕ) → left ≡ Some b → (x c : List ℕ) × (b ≡ x ++ c) × (rest ≡ Some c))
-      → HandsLinks sink rest before after → HandsLinks sink left before after
+  pub handed_behind : {left rest : Option (List ℕ)} (before after : S) → LeavesRest left rest → HandsLinks sink rest before after → HandsLinks sink left before after
   handed_behind before after behind h = handed_more [] before before after (found_none before) (λ b l. let k = behind b l in (k.1, k.3, λ ls. links_behind k.0 b k.1 ls k.2)) h
 
   pub handed_inside : {old mid : Reading} {bytes : List ℕ} (before after : S) → Takes old bytes mid → HandsLinks sink mid.left before after → HandsLinks sink old.left before after
-  handed_inside {old} {mid} {bytes} before after t h = handed_behind before after (λ b l. let k = t.taken b l in (bytes, k.0, k.1, k.2)) h
+  handed_inside before after t h = handed_behind before after (rest_of_bytes t) h
 
   -- behind whole items, and behind whole entries
   pub handed_in_items : {old mid : Reading} (ts : List Tree) (before now after : S) → TakesItems old ts mid → Finds sink.holds before (items_links (items_of ts)) now → HandsLinks sink mid.left now after → HandsLinks sink old.left before after
@@ -97,7 +114,7 @@ module _ {S : Type 0} (sink : Sink S) where
 
   -- behind a key
   pub handed_in_value : {old mid : Reading} (key : List ℕ) (before after : S) → TakesItem 1 old (text key) mid → HandsLinks sink mid.left before after → HandsLinks sink old.left before after
-  handed_in_value key before after t h = handed_behind before after (λ b l. let k = t.taken b l in (text_spelling key, k.0, k.1.is, k.3)) h
+  handed_in_value key before after t h = handed_behind before after (rest_of_key key t) h
 
   -- behind a step
   pub step_walk_refused : {E : Type 0} {old stepped : Reading} (before after : S) (new : Reading) (spent : ℕ) (e : DecodeError E) → SpentStep old stepped
@@ -135,11 +152,14 @@ module _ {S : Type 0} (sink : Sink S) where
   walked_from {E} {old} {peeked} before after (Ok u) new s h =
       (h.0, record { taken = λ b l. (let k = h.1.taken b (s.kept b l) in (k.0, k.1, omega (arith, k.2, s.same.steps), k.3)); same = stays_both s.same h.1.same }, h.2)
   walked_from {E} {old} {peeked} before after (Err e) new s h = record {
-    refuses = passed_on (CauseInside (peeked.steps + 1)) (CauseInside (old.steps + 1)) old peeked new e s.same shown_item (lacks_before s.same) (λ x. x)
+    refuses = passed_on (CauseInside (peeked.steps + 1)) (CauseInside (old.steps + 1)) old peeked new e s.same shown_item (lacks_before s.same rest_shown) (λ x. x)
         (λ b l. (b, s.kept b l, λ x. at_steps {E = E} e b _ _ (omega (arith, s.same.steps)) x)) h.refuses;
-    handed = handed_behind before after (λ b l. ([], b, refl, s.kept b l)) h.handed;
+    handed = handed_behind before after rest_shown h.handed;
   }
     where
+      rest_shown : LeavesRest old.left peeked.left
+      rest_shown b l = ([], b, refl, s.kept b l)
+
       shown_item : HasItem 1 old → HasItem 1 peeked
       shown_item i = record { bytes = i.bytes; tree = i.tree; rest = i.rest; left = s.kept i.bytes i.left; front = i.front; accepted = refl; within = omega (arith, i.within, s.same.steps) }
 

@@ -1,5 +1,5 @@
 -- What a read of a map's entries answers and refuses.
-use Rattle.std.specs.Prelude.{◌≡◌, ℕ, ◌≤◌, true, false, List, Option, None, Some, is_some, Result}
+use Rattle.std.specs.Prelude.{◌≡◌, ℕ, ◌++◌, ◌<◌, ◌≤◌, length, true, false, List, Option, None, Some, is_some, Result}
 use Rattle.std.specs.Prelude.{MatchResult, ⊤, String, IsUtf8, codes}
 use Rattle.std.specs.Borrow.{Bor}
 use Rattle.std.specs.BTreeMap.{BTreeMap}
@@ -12,7 +12,7 @@ use Rattle.dagcbor_heads.specs.Names.{Names}
 use Rattle.dagcbor_heads.specs.declared.error.DecodeError.{DecodeError}
 use Rattle.dagcbor_heads.specs.declared.error.DecodeError.TheVariants.{RequireUtf8, UnorderedKey}
 use Rattle.ipld_tree.specs.Tree.{text, Entries, ordered_entries, entries_need, Precedes}
-use Rattle.ipld_tree.specs.Spelling.{entry_count, IsFront, AreEntryFronts}
+use Rattle.ipld_tree.specs.Spelling.{entry_count, text_spelling, IsFront, AreEntryFronts}
 use Rattle.ipld_tree.specs.Ipld.{pairs_of}
 use Rattle.ipld_tree.specs.declared.ipld.Ipld.{Ipld}
 use Rattle.dagcbor_items.specs.Places.{Follows}
@@ -49,6 +49,14 @@ abbrev pub TakesKey : Option (List ℕ) → Reading → Result (Bor (List ℕ)) 
 TakesKey previous old result new = MatchResult result
     (λ k. Follows previous k.now × TakesFront (leaf view_text) old k.now new)
     (λ b. TakesString 3 old b.now new × (IsUtf8 b.now → ¬ Follows previous b.now))
+
+-- a slice begins with this name, whose head has one byte, and it follows the key before it
+pub record HasName (previous : Option (List ℕ)) (name : List ℕ) (r : Reading) : Type 0 where
+  pub rest : List ℕ
+  pub lends : r.lends ≡ true
+  pub short : length name < 24
+  pub left : r.left ≡ Some (text_spelling name ++ rest)
+  pub follows : Follows previous name
 
 -- what refuses the bytes of a text that is no key: they are not UTF-8, or do not follow the key
 -- before them

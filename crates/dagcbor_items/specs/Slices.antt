@@ -12,7 +12,7 @@ use Rattle.ipld_tree.specs.Tree.{Tree, any_need, links_of}
 use Rattle.ipld_tree.specs.Spelling.{IsFront, IsSpelling}
 use Rattle.dagcbor_items.specs.ItemCauses.{CauseInside}
 use Rattle.dagcbor_items.specs.TreeKinds.{kind_of}
-use Rattle.dagcbor_items.specs.Walks.{Sink, Finds, HandsLinks}
+use Rattle.dagcbor_items.specs.Walks.{Sink, Finds, HandsLinks, HasLinkIn}
 use Rattle.dagcbor_items.specs.declared.kind.Kind.{Kind}
 
 -- ---- the whole slice
@@ -50,11 +50,11 @@ abbrev pub AreFirstLinks : List ℕ → List (List ℕ) → Type 0
 AreFirstLinks b links = (t : Tree) × (rest : List ℕ) × IsFront b t rest
     × (any_need t ≤ default_steps) × (links ≡ links_of t)
 
--- why no links are read: for want of memory, or since no item stands first that is read within
--- `default_steps`; a slice does not fault
+-- why no links are read: for want of memory, where some link stands in the bytes, or since no item
+-- stands first that is read within `default_steps`; a slice does not fault
 abbrev pub LinksRefused : DecodeError Infallible → List ℕ → Type 0
 LinksRefused (Read e) b = ⊥
-LinksRefused OutOfMemory b = ⊤
+LinksRefused OutOfMemory b = HasLinkIn b
 LinksRefused (RequireBorrowed name) b = ⊥
 LinksRefused Failed b = ⊥
 LinksRefused e b = ((links : List (List ℕ)) → ¬ AreFirstLinks b links)

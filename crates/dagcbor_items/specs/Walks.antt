@@ -3,7 +3,7 @@ use Rattle.std.specs.Prelude.{◌≡◌, ◌⊎◌, ◌+◌, ℕ, Bool, true, fa
 use Rattle.std.specs.Prelude.{Option, Some, Result, MatchResult, Vec, ⊤}
 use Rattle.std.specs.declared.alloc.Global.{Global}
 use Rattle.dagcbor_heads.specs.Reading.{Reading}
-use Rattle.dagcbor_heads.specs.Refusals.{Refuses, RefusesOrLacksMemory}
+use Rattle.dagcbor_heads.specs.Refusals.{Refuses}
 use Rattle.dagcbor_heads.specs.declared.error.DecodeError.{DecodeError}
 use Rattle.ipld_tree.specs.Cid.{CidParts, cid_bytes}
 use Rattle.ipld_tree.specs.Tree.{Tree, link, items_of, Entries, links_of, items_links, entries_links}
@@ -33,15 +33,21 @@ Finds holds before found after = (links : List (List ℕ)) → holds before link
 
 -- ---- refusals
 
--- where memory may be wanting: for a string that the input does not lend, or in the sink
-abbrev pub WalkLacks : Bool → Reading → Type 0
-WalkLacks takes_memory old = (old.lends ≡ false) ⊎ (takes_memory ≡ true)
-
 -- each of the links stands whole in the bytes, in their order
 abbrev pub AreLinksIn : List ℕ → List (List ℕ) → Type 0
 AreLinksIn b [] = ⊤
 AreLinksIn b (cid ∷ cids) = (before at rest : List ℕ) × (b ≡ before ++ at)
     × IsFront at (link cid) rest × AreLinksIn rest cids
+
+-- some link stands whole in the bytes
+abbrev pub HasLinkIn : List ℕ → Type 0
+HasLinkIn b = (cid : List ℕ) × AreLinksIn b (cid ∷ [])
+
+-- where memory may be wanting: for a string that the input does not lend, or in the sink, for a link
+-- that stands in the bytes left, where they are known
+abbrev pub WalkLacks : Bool → Reading → Type 0
+WalkLacks takes_memory old = (old.lends ≡ false) ⊎ ((takes_memory ≡ true)
+    × ((b : List ℕ) → old.left ≡ Some b → HasLinkIn b))
 
 -- the sink was handed some links, each of which stands whole in these bytes, where they are known, in
 -- their order
@@ -95,9 +101,10 @@ WalksEntries sink count old before result new after = MatchResult result
     × Finds sink.holds before (entries_links es) after)
     (λ e. RefusesWalk sink (HasEntries count old) (CauseInEntries count old.steps) old before e new after)
 
--- The links of an item of unknown kind are read exactly where one stands within the steps.
+-- The links of an item of unknown kind are read exactly where one stands within the steps. Memory
+-- may be wanting as in a walk whose sink takes some.
 abbrev pub GathersLinks : {E : Type 0} → Reading → Result (Vec CidParts Global) (DecodeError E)
     → Reading → Type 0
 GathersLinks old result new = MatchResult result
     (λ v. (t : Tree) × TakesItem 0 old t new × (forms v.items ≡ links_of t))
-    (λ e. RefusesOrLacksMemory (HasItem 0 old) (CauseInside (old.steps + 0)) old e new)
+    (λ e. Refuses (HasItem 0 old) (WalkLacks true old) ⊥ (CauseInside (old.steps + 0)) old e new)

@@ -27,7 +27,7 @@ use std::convert::Infallible;
 
 /// The next n bytes, and the bytes behind them.
 #[inline(always)]
-fn split_payload(bytes: &[u8], n: u64) -> Option<(&[u8], &[u8])>
+pub(crate) fn split_payload(bytes: &[u8], n: u64) -> Option<(&[u8], &[u8])>
     ensures { MatchOption result (length bytes.now < n)
         (λ p. SplitsPayload bytes.now n p.0.now p.1.now) }
 {

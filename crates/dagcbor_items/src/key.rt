@@ -1,13 +1,16 @@
 //! Reading the keys of maps: texts, each behind the one before it.
 
 ghost use Rattle.std.specs.Prelude.{◌≡◌, ◌↔◌, true, false, IfOk, IsTrue, option_map, IfErr, IsUtf8};
-ghost use Rattle.std.specs.Prelude.{IfSome, MatchOption};
+ghost use Rattle.std.specs.Prelude.{IfSome, MatchOption, ◌++◌, ◌<◌, List, ℕ, length};
 ghost use Rattle.std.specs.Cow.{cow_str_bytes, IsBorrowedStr};
 ghost use Rattle.dagcbor_heads.specs.Inputs.{input_reading, OverInput};
-ghost use Rattle.dagcbor_heads.specs.Looking.{Looks};
+ghost use Rattle.dagcbor_heads.specs.Looking.{Looks, LooksAtTaken};
 ghost use Rattle.ipld_tree.specs.Key.{comes_before};
 ghost use Rattle.dagcbor_items.specs.Places.{Follows};
-ghost use Rattle.dagcbor_items.specs.Entries.{ReadsKey, TakesKey, IsNoKey};
+ghost use Rattle.ipld_tree.specs.Spelling.{text_spelling};
+ghost use Rattle.dagcbor_items.specs.Entries.{ReadsKey, TakesKey, IsNoKey, HasName};
+ghost use Rattle.dagcbor_items.specs.Shapes.{view_text, leaf};
+ghost use Rattle.dagcbor_items.specs.TypedReads.{TakesFront};
 ghost use Rattle.dagcbor_items.specs.AnsweredVariants.{OfKey};
 
 use crate::strings::{no_text, pull_str};
@@ -15,7 +18,7 @@ use crate::utf8::as_text;
 use dagcbor_heads::{DecodeError, Input, Read, ReadResult};
 use std::alloc::Global;
 use std::borrow::CowStr;
-use std::cmp::Ordering;
+use std::str::from_utf8_unchecked;
 
 /// Whether a key comes before another: the shorter first, and keys of one length by their bytes,
 /// which are looked at then alone.
@@ -23,11 +26,15 @@ use std::cmp::Ordering;
 pub(crate) fn comes_before(key: &[u8], other: &[u8]) -> bool
     ensures { result ≡ comes_before key.now other.now }
 {
-    match key.len().cmp(&other.len()) {
-        Ordering::Less => true,
-        Ordering::Equal => key.cmp(other).is_lt(),
-        Ordering::Greater => false,
+    if key.len() != other.len() {
+        return key.len() < other.len();
     }
+    if let (Some(first), Some(second)) = (key.first(), other.first()) {
+        if *first != *second {
+            return *first < *second;
+        }
+    }
+    key.cmp(other).is_lt()
 }
 
 /// Whether the key may stand behind the one before it.
@@ -67,12 +74,68 @@ pub fn take_key<'de, R: Read>(
         (λ r. OverInput R.reading
         (TakesKey (option_map cow_str_bytes previous.now)) input.old r input.new) }
     ensures lends { IfSome result (λ _. (input_reading R.reading input.old).lends ≡ true) }
+    ensures looked { IfSome result
+        (λ _. LooksAtTaken 2 0 (input_reading R.reading input.old)
+        (input_reading R.reading input.new)) }
 {
     let payload = input.take_string(3)?;
     match key_of(payload, previous) {
         Some(key) => Some(Ok(key)),
         None => Some(Err(payload)),
     }
+}
+
+/// The text at the front, whose head has one byte, and the bytes behind it, where it is this name.
+#[inline(always)]
+fn split_name<'b>(front: &'b [u8], name: &str) -> Option<(&'b str, &'b [u8])>
+    ensures { MatchOption result
+        (length name.now < 24 →
+        ¬ ((rest : List ℕ) × (front.now ≡ text_spelling name.now ++ rest)))
+        (λ p. (length name.now < 24) × (p.0.now ≡ name.now)
+        × (front.now ≡ text_spelling name.now ++ p.1.now)) }
+{
+    let wanted = name.as_bytes();
+    if wanted.len() > 23 {
+        return None;
+    }
+    let (first, behind) = front.split_first()?;
+    if usize::from(*first) != 0x60 + wanted.len() {
+        return None;
+    }
+    let (text, rest) = behind.split_at_checked(wanted.len())?;
+    if text != wanted {
+        return None;
+    }
+    Some((unsafe { from_utf8_unchecked(text) }, rest))
+}
+
+/// Takes this name, exactly where the input is a slice that begins with it, its head has one byte,
+/// and it may stand behind the key before it. Else nothing is taken.
+#[inline(always)]
+pub fn take_name<'de, R: Read>(
+    input: &mut Input<'de, R>,
+    previous: &Option<CowStr<'de>>,
+    name: &str,
+) -> Option<&'de str>
+    ensures taken { MatchOption result
+        ((input.new ≡ input.old) × (¬ HasName (option_map cow_str_bytes previous.now) name.now
+        (input_reading R.reading input.old)))
+        (λ key. (key.now ≡ name.now)
+        × HasName (option_map cow_str_bytes previous.now) name.now
+        (input_reading R.reading input.old)
+        × TakesFront (leaf view_text) (input_reading R.reading input.old) name.now
+        (input_reading R.reading input.new)) }
+    ensures looked { IfSome result
+        (λ _. LooksAtTaken 2 0 (input_reading R.reading input.old)
+        (input_reading R.reading input.new)) }
+{
+    let front = input.rest()?;
+    let (key, _behind) = split_name(front, name)?;
+    if !follows(previous, name) {
+        return None;
+    }
+    let _taken = input.lend(1 + name.len() as u64)?;
+    Some(key)
 }
 
 /// What refuses a text's bytes that are no key.

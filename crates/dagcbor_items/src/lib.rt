@@ -27,9 +27,9 @@ mod walk;
 
 pub use any::read_any;
 pub use judge::behind_item;
-pub use key::{no_key, read_key, take_key};
+pub use key::{no_key, read_key, take_key, take_name};
 pub use kind::Kind;
-pub use link::pull_link;
+pub use link::{pull_link, take_link};
 pub use majors::pull_major;
 pub use numbers::{pull_i128, pull_signed, pull_u128, pull_unsigned};
 pub use payloads::PayloadReader;

@@ -1,17 +1,25 @@
 //! Reading links: tag 42, and in it a byte string of a zero and a CID.
 
-ghost use Rattle.std.specs.Prelude.{◌≡◌, codes, [], ◌∷◌, MatchResult, IfErr};
+ghost use Rattle.std.specs.Prelude.{◌≡◌, ℕ, List, codes, [], ◌∷◌, MatchResult, MatchOption, IfErr, IfSome};
 ghost use Rattle.dagcbor_heads.specs.Fronts.{Takes};
 ghost use Rattle.dagcbor_heads.specs.Refusals.{RefusesPlainly};
-ghost use Rattle.dagcbor_heads.specs.Looking.{Looks, LooksBehind};
+ghost use Rattle.dagcbor_heads.specs.Looking.{Looks, LooksBehind, LooksAtTaken};
+ghost use Rattle.dagcbor_heads.specs.Inputs.{input_reading};
+ghost use Rattle.ipld_tree.specs.Cid.{cid_bytes};
+ghost use Rattle.ipld_tree.specs.Tree.{bytes};
+ghost use Rattle.ipld_tree.specs.Spelling.{IsFront};
+ghost use Rattle.dagcbor_items.specs.Shapes.{view_link, leaf};
+ghost use Rattle.dagcbor_items.specs.TypedReads.{TakesFront};
 ghost use Rattle.dagcbor_items.specs.LinkCauses.{IsOtherByte};
 ghost use Rattle.dagcbor_items.specs.Untyped.{ReadsLeaf, StartsWithMajor};
 ghost use Rattle.dagcbor_items.specs.Links.{HasWanted, ReadsCid, ReadsLink, IsZeroAndCid};
 ghost use Rattle.dagcbor_items.specs.AnsweredVariants.{OfByte, OfItem, OfLink};
 
+use crate::judge::split_payload;
 use arrayvec::ArrayVec;
 use dagcbor_heads::{
-    DecodeError, Read, ReadResult, peek_one, pull_head_argument, pull_one, pull_short_payload,
+    DecodeError, Input, Read, ReadResult, peek_one, pull_head_argument, pull_one,
+    pull_short_payload, split_head,
 };
 use ipld_tree::{Cid, Ipld};
 
@@ -48,6 +56,40 @@ fn cid_behind_zero(payload: &[u8]) -> Option<Cid>
         [0, cid @ ..] => Cid::try_from(cid).ok(),
         _ => None,
     }
+}
+
+/// The byte string behind the tag of links at the front, and the bytes behind it.
+#[inline(always)]
+fn split_tagged(front: &[u8]) -> Option<(&[u8], &[u8])>
+    ensures { IfSome result (λ p. (tagged : List ℕ) × (front.now ≡ 0xd8 ∷ 0x2a ∷ tagged)
+        × IsFront tagged (bytes p.0.now) p.1.now) }
+{
+    let [0xd8, 0x2a, tagged @ ..] = front else {
+        return None;
+    };
+    let (major, count, behind) = split_head(tagged)?;
+    if major != 2 {
+        return None;
+    }
+    split_payload(behind, count)
+}
+
+/// Takes the link at the front, where the input is a slice that has all of it. It may take nothing.
+#[inline(always)]
+pub fn take_link<R: Read>(input: &mut Input<'_, R>) -> Option<Cid>
+    ensures taken { MatchOption result
+        (input.new ≡ input.old)
+        (λ c. TakesFront (leaf view_link) (input_reading R.reading input.old) (cid_bytes c)
+        (input_reading R.reading input.new)) }
+    ensures looked { IfSome result
+        (λ _. LooksAtTaken 2 0 (input_reading R.reading input.old)
+        (input_reading R.reading input.new)) }
+{
+    let front = input.rest()?;
+    let (payload, behind) = split_tagged(front)?;
+    let cid = cid_behind_zero(payload)?;
+    let _link = input.lend((front.len() - behind.len()) as u64)?;
+    Some(cid)
 }
 
 #[tactic(auto, using(crate::proofs::PartRefusals::named_link, crate::proofs::PartRefusals::end_link))]

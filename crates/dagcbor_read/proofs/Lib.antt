@@ -15,3 +15,4 @@ pub mod NamedVariants
 pub mod FieldPlaces
 pub mod Finishing
 pub mod EntryLoops
+pub mod NamedRows

@@ -1,6 +1,6 @@
 -- What comes of runs of `next`, against the stream of the type on the bytes.
 use Rattle.std.proofs.Common.{◌≡◌, ◌⊎◌, inl, inr, ℕ, ◌+◌, ◌<◌, ◌≤◌, Bool, true, false, List, [], ◌∷◌, length, map, refl, sym, ap, subst, ◌∙◌, arith}
-use Rattle.std.specs.Prelude.{Option, None, Some, Result, Ok, Err, is_some, is_err, MatchBool}
+use Rattle.std.specs.Prelude.{Option, None, Some, Result, Ok, Err, is_some, is_err, MatchBool, ⊤}
 use Rattle.std.specs.Iterator.{Yields, DrainsIf}
 use Rattle.dagcbor_heads.specs.Reading.{Reading}
 use Rattle.dagcbor_heads.specs.Refusals.{Refuses}
@@ -9,7 +9,7 @@ use Rattle.dagcbor_heads.specs.declared.error.DecodeError.TheVariants.{Read, Req
 use Rattle.ipld_tree.specs.Tree.{Tree}
 use Rattle.dagcbor_read.specs.Deserializers.{DeState, Call}
 use Rattle.dagcbor_items.specs.TypedReads.{HasFront, MayLack}
-use Rattle.dagcbor_read.specs.Streams.{StreamState, SomeLeft, AreSome, ReadsNext, as_answer, is_last, AreNextValues, values_before, AreStreamItems, GivesUp, NoneGivesUp, EndsAtError, stream_item, AreUpTo, IsOver, Gives, StreamsAreExact}
+use Rattle.dagcbor_read.specs.Streams.{StreamState, SomeLeft, AreSome, ReadsNext, as_answer, is_last, AreNextValues, values_before, AreStreamItems, GivesUp, GivesUpAt, NoneGivesUp, EndsAtError, stream_item, AreUpTo, IsOver, Gives, StreamsAreExact}
 use Rattle.dagcbor_read.specs.Whole.{IsFirst, BeginsWithNoValue}
 use Rattle.dagcbor_read.proofs.Progressing.{match_true, match_false, call_answered, call_told}
 use Rattle.dagcbor_items.proofs.Fronts.{shorter}
@@ -22,12 +22,25 @@ use Rattle.dagcbor_items.specs.Shapes.{Shape}
 abbrev NoValue : {V : Type 0} → Shape Tree V → ℕ → List ℕ → Type 0
 NoValue shape steps b = (0 < length b) × BeginsWithNoValue shape steps b
 
+-- it gave up, and but for a fault bytes were left
+abbrev GaveUp : {V : Type 0} (E : Type 0) → Shape Tree V → Bool → List ℕ → DecodeError E → Type 0
+GaveUp E shape lends b (Read x) = ⊤
+GaveUp E shape lends b e = GivesUp shape lends e × (0 < length b)
+
+gave_up : {V E : Type 0} (shape : Shape Tree V) (lends : Bool) (b : List ℕ) (e : DecodeError E) → GaveUp E shape lends b e → GivesUp shape lends e
+gave_up shape lends b (Read x) g = tt
+gave_up shape lends b _ g = g.0
+
+gave_up_at : {V E : Type 0} (shape : Shape Tree V) (lends : Bool) (steps : ℕ) (b : List ℕ) (items : List (Option V)) (e : DecodeError E) → AreStreamItems shape steps b items → GaveUp E shape lends b e → GivesUpAt shape lends items e
+gave_up_at shape lends steps b items (Read x) k g = tt
+gave_up_at shape lends steps b items _ k g = (g.0, λ none. some_of_none shape steps b (subst (λ x. AreStreamItems shape steps b x) none k) g.1)
+
 module _ {T V : Type 0} (E : Type 0) (meaning : T → V) (shape : Shape Tree V) (lends : Bool) (steps : ℕ) (whole : Bool) where
   -- values stand one behind the other, and at the end no byte, or no value, or one at which it gave up
   abbrev Came : List ℕ → List (Result T (DecodeError E)) → Type 0
   Came b [] = whole ≡ true → b ≡ []
   Came b (Ok v ∷ xs) = (rest : List ℕ) × IsFirst shape steps b (meaning v) rest × Came rest xs
-  Came b (Err e ∷ xs) = (xs ≡ []) × (GivesUp shape lends e ⊎ NoValue shape steps b)
+  Came b (Err e ∷ xs) = (xs ≡ []) × (GaveUp E shape lends b e ⊎ NoValue shape steps b)
 
   few : (b : List ℕ) (xs : List (Result T (DecodeError E))) → Came b xs → length xs ≤ length b + 1
   few b [] h = omega arith
@@ -48,7 +61,7 @@ module _ {T V : Type 0} (E : Type 0) (meaning : T → V) (shape : Shape Tree V) 
       let same = same_value shape steps b (meaning v) w h.0 k.0 h.1 k.1 in
       (items, ap (λ x. x ∷ items) (sym same.0), alike h.0 xs items h.2 (subst (λ x. AreStreamItems shape steps x items) (sym same.1) k.2))
   alike b (Ok v ∷ xs) (None ∷ items) h k = absurd (k.2 (meaning v) h.0 h.1)
-  alike b (Err e ∷ xs) items h k = (h.0, elim h.1 [ inl g ↦ inl g | inr n ↦ inr (alone items k n) ])
+  alike b (Err e ∷ xs) items h k = (h.0, elim h.1 [ inl g ↦ inl (gave_up_at shape lends steps b items e k g) | inr n ↦ inr (alone items k n) ])
     where
       alone : (items : List (Option V)) → AreStreamItems shape steps b items → NoValue shape steps b → items ≡ None ∷ []
       alone [] k n = absurd (some_of_none shape steps b k n.0)
@@ -59,7 +72,7 @@ module _ {T V : Type 0} (E : Type 0) (meaning : T → V) (shape : Shape Tree V) 
   all_of_it b [] w n h = h w
   all_of_it b (Ok v ∷ xs) w n h = (h.0, h.1, all_of_it h.0 xs w n h.2)
   all_of_it b (Err e ∷ xs) w n h = elim h.1 [
-    | inl g ↦ absurd (n.0 g)
+    | inl g ↦ absurd (n.0 (gave_up shape lends b e g))
     | inr k ↦ (ap (map (stream_item meaning)) h.0, k.0, k.1)
   ]
 
@@ -71,32 +84,32 @@ record Over (b : List ℕ) (steps : ℕ) (lends : Bool) (s : StreamState) : Type
   steps_left : s.source.input.steps ≡ steps
   lending : s.source.input.lends ≡ lends
 
-module _ {S T V : Type 0} (E : Type 0) (see : S → StreamState) (meaning : T → V) (shape : Shape Tree V) where
+module _ {S T V : Type 0} (E : Type 0) (see : S → StreamState) (meaning : T → V) (shape : Shape Tree V) (lies : Bool → T → Type 0) where
   abbrev Step : S → Option (Result T (DecodeError E)) → S → Type 0
-  Step = Gives E see meaning shape
+  Step = Gives E see meaning shape lies
 
   abbrev Reads : DeState → Result (Option T) (DecodeError E) → DeState → Type 0
   Reads = Call (ReadsNext {E = E} meaning shape)
 
   -- a call on what is not done
   told : (s u : S) (item : Option (Result T (DecodeError E))) → (see s).done ≡ false → Step s item u → ((see u).done ≡ is_last item) × Reads (see s).source (as_answer item) (see u).source
-  told s u item sound h = match_false (see s).done _ _ sound h
+  told s u item sound h = match_false (see s).done _ _ sound h.0
 
   nothing_more : (s t : S) (xs : List (Result T (DecodeError E))) → (see s).done ≡ true → Yields Step s xs t → xs ≡ []
   nothing_more s t [] d h = refl
-  nothing_more s t (x ∷ xs) d h = let k = match_true (see s).done _ _ d h.1 in let e = k.0 in absurd (cc e)
+  nothing_more s t (x ∷ xs) d h = let k = match_true (see s).done _ _ d h.1.0 in let e = k.0 in absurd (cc e)
 
   ends : (s t : S) (xs : List (Result T (DecodeError E))) → Yields Step s xs t → EndsAtError xs
   ends s t [] h = tt
   ends s t (Ok v ∷ xs) h = ends h.0 t xs h.2
-  ends s t (Err e ∷ xs) h = let k = goes_on (Result T (DecodeError E)) _ _ (see s).done (Err e) h.1 in nothing_more h.0 t xs k.1.0 h.2
+  ends s t (Err e ∷ xs) h = let k = goes_on (Result T (DecodeError E)) _ _ (see s).done (Err e) h.1.0 in nothing_more h.0 t xs k.1.0 h.2
 
   -- why there was no value
   no_value : (b : List ℕ) (old new : Reading) (e : DecodeError E) → old.left ≡ Some b → Refuses (HasFront shape old) (MayLack shape.memory old × SomeLeft old) ((shape.wants_loan ≡ true) × SomeLeft old) AreSome old e new
-      → GivesUp shape old.lends e ⊎ NoValue shape old.steps b
+      → GaveUp E shape old.lends b e ⊎ NoValue shape old.steps b
   no_value b old new (Read x) l r = inl tt
-  no_value b old new OutOfMemory l r = inl r.1.0
-  no_value b old new (RequireBorrowed n) l r = inl (r.1.0, r.2)
+  no_value b old new OutOfMemory l r = inl (r.1.0, r.1.1 b l)
+  no_value b old new (RequireBorrowed n) l r = inl ((r.1.0, r.2), r.1.1 b l)
   no_value b old new Failed l r = absurd r
   no_value b old new (DepthOverflow n) l r = inr (r.2 b l, λ v rest h. r.1 record { bytes = b; tree = h.0; rest = rest; left = l; front = h.1; accepted = ap is_some h.2; within = h.3 })
   no_value b old new _ l r = inr (r.2 b l, λ v rest h. r.1 record { bytes = b; tree = h.0; rest = rest; left = l; front = h.1; accepted = ap is_some h.2; within = h.3 })
@@ -122,7 +135,7 @@ module _ {S T V : Type 0} (E : Type 0) (see : S → StreamState) (meaning : T �
       let k = told s h.0 (Some (Err e)) o.is_over.goes_on h.1 in
       let r = call_told (ReadsNext {E = E} meaning shape) (see s).source (see h.0).source (Err e) o.is_over.sound k.1 in
       let why = no_value b (see s).source.input (see h.0).source.input e o.is_over.left r.1 in
-      (nothing_more h.0 t xs k.0 h.2, subst (λ x. GivesUp shape x e ⊎ NoValue shape steps b) o.lending (subst (λ x. GivesUp shape (see s).source.input.lends e ⊎ NoValue shape x b) o.steps_left why))
+      (nothing_more h.0 t xs k.0 h.2, subst (λ x. GaveUp E shape x b e ⊎ NoValue shape steps b) o.lending (subst (λ x. GaveUp E shape (see s).source.input.lends b e ⊎ NoValue shape x b) o.steps_left why))
 
   -- what had failed gives `Failed`
   failed_item : (failed : Bool) (x : Result T (DecodeError E)) (P Q : Type 0) → failed ≡ true → MatchBool failed ((as_answer (Some x) ≡ Err Failed) × P) Q → x ≡ Err Failed
@@ -148,7 +161,7 @@ module _ {S T V : Type 0} (E : Type 0) (see : S → StreamState) (meaning : T �
       → Came E meaning shape (see s).source.input.lends (see s).source.input.steps whole b xs
   from s whole xs h b o = came b (see s).source.input.steps (see s).source.input.lends whole s h.0 xs record { is_over = o; steps_left = refl; lending = refl } h.1 h.2
 
-  pub exact : StreamsAreExact E see meaning shape
+  pub exact : StreamsAreExact E see meaning shape lies
   exact s whole xs h =
       let lends = (see s).source.input.lends in
       let steps = (see s).source.input.steps in

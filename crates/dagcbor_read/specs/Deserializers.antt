@@ -1,11 +1,13 @@
 -- What contracts see of a Deserializer, and what its calls do to it.
-use Rattle.std.specs.Prelude.{◌≡◌, ℕ, ◌+◌, ◌<◌, ◌≤◌, Bool, true, false, Result, Ok, Err, is_err}
-use Rattle.std.specs.Prelude.{MatchBool}
+use Rattle.std.specs.Prelude.{◌≡◌, ◌⊎◌, ℕ, ◌+◌, ◌<◌, ◌≤◌, Bool, true, false, Result, Ok, Err}
+use Rattle.std.specs.Prelude.{is_err, MatchBool, MatchResult, IfErr, ⊤}
 use Rattle.dagcbor_heads.specs.Reading.{Reading}
 use Rattle.dagcbor_heads.specs.Fronts.{FindsEnd, ShowsByte}
+use Rattle.dagcbor_heads.specs.Looking.{LooksOnce, LooksAtTaken, LooksAtLeft}
 use Rattle.dagcbor_heads.specs.Inputs.{input_reading}
 use Rattle.dagcbor_heads.specs.declared.error.DecodeError.{DecodeError}
 use Rattle.dagcbor_heads.specs.declared.error.DecodeError.TheVariants.{Read, TrailingData, Failed}
+use Rattle.dagcbor_heads.specs.declared.error.DecodeError.TheVariants.{Msg}
 use Rattle.dagcbor_read.specs.declared.deserializer.Deserializer.{Deserializer}
 
 -- a Deserializer
@@ -36,9 +38,28 @@ Call reads old result new = MatchBool old.failed
 abbrev pub StaysFailed : {T E : Type 0} → DeState → Result T (DecodeError E) → DeState → Type 0
 StaysFailed old result new = old.failed ≡ true → (result ≡ Err Failed) × (new ≡ old)
 
+-- a message, by which a type refuses what was read
+abbrev pub IsMessage : {E : Type 0} → DecodeError E → Type 0
+IsMessage (Msg message) = ⊤
+IsMessage _ = ⊥
+
+-- A refusal has failed, but for a message.
+abbrev pub StopsBy : {E : Type 0} → DecodeError E → DeState → Type 0
+StopsBy e new = (new.failed ≡ true) ⊎ IsMessage e
+
+-- What reads a value has failed where it is refused, but for a message.
+abbrev pub Stops : {T E : Type 0} → DeState → Result T (DecodeError E) → DeState → Type 0
+Stops old result new = IfErr result (λ e. StopsBy e new)
+
 -- Where nothing has failed, so many steps are out, which may be given back.
 abbrev pub AreOut : ℕ → DeState → Type 0
-AreOut steps de = de.failed ≡ false → de.input.steps + steps ≤ de.input.budget
+AreOut steps de = de.failed ≡ false → 0 < steps → de.input.steps + steps ≤ de.input.budget
+
+-- The first byte was taken, with at most three looks at it; or it stays, with one.
+abbrev pub LooksAtFirst : {T E : Type 0} → (T → Bool) → Reading → Result T E → Reading → Type 0
+LooksAtFirst is_taken old result new = MatchResult result
+    (λ v. MatchBool (is_taken v) (LooksAtTaken 3 0 old new) (LooksOnce old new))
+    (λ _. LooksAtLeft 3 0 old new)
 
 -- the end of the input was found; or bytes behind the item, which stay, and then nothing has
 -- failed; or the reader faulted

@@ -30,6 +30,7 @@ pub mod Values
 pub mod Options
 pub mod Accessors
 pub mod Collections
+pub mod Named
 pub mod Structs
 pub mod Enums
 pub mod EnumViews

@@ -1,7 +1,7 @@
 -- Streams: values one behind the other.
-use Rattle.std.specs.Prelude.{◌≡◌, ℕ, ◌+◌, ◌<◌, ◌≤◌, ◌⊎◌, Bool, true, false, List, [], ◌∷◌, length}
-use Rattle.std.specs.Prelude.{map, Option, None, Some, Result, Ok, Err, is_err, MatchBool}
-use Rattle.std.specs.Prelude.{MatchOption, MatchResult, ⊤}
+use Rattle.std.specs.Prelude.{◌≡◌, ◌≢◌, ℕ, ◌+◌, ◌<◌, ◌≤◌, ◌⊎◌, Bool, true, false, List, [], ◌∷◌}
+use Rattle.std.specs.Prelude.{length, map, Option, None, Some, Result, Ok, Err, is_err, MatchBool}
+use Rattle.std.specs.Prelude.{MatchOption, MatchResult, IfSome, IfOk, ⊤}
 use Rattle.std.specs.Iterator.{Count, at_most, endless, DrainsIf}
 use Rattle.dagcbor_heads.specs.Reading.{Reading}
 use Rattle.dagcbor_heads.specs.Fronts.{FindsEnd}
@@ -92,6 +92,11 @@ GivesNext meaning shape old item new = MatchBool old.done
     ((new.done ≡ is_last item)
     × Call (ReadsNext meaning shape) old.source (as_answer item) new.source)
 
+-- A value that is given lies where its type says, of an input that lends or of one that does not.
+abbrev pub LiesNext : {T E : Type 0} → (Bool → T → Type 0) → StreamState
+    → Option (Result T (DecodeError E)) → Type 0
+LiesNext lies old item = IfSome item (λ r. IfOk r (lies old.source.input.lends))
+
 -- Where n bytes are left, at most n + 1 items come; where the source does not tell its bytes,
 -- nothing is said.
 abbrev pub items_left_of : Bool → Option (List ℕ) → Count
@@ -112,6 +117,12 @@ GivesUp shape lends (Read e) = ⊤
 GivesUp shape lends OutOfMemory = shape.memory lends ≡ true
 GivesUp shape lends (RequireBorrowed name) = (shape.wants_loan ≡ true) × (lends ≡ false)
 GivesUp shape lends _ = ⊥
+
+-- the same in the place of the first of these items: but for a fault there is one
+abbrev pub GivesUpAt : {V E : Type 0} → Shape Tree V → Bool → List (Option V) → DecodeError E
+    → Type 0
+GivesUpAt shape lends items (Read e) = ⊤
+GivesUpAt shape lends items e = GivesUp shape lends e × (items ≢ [])
 
 -- no error is one that says nothing of the bytes
 abbrev pub NoneGivesUp : {T V E : Type 0} → Shape Tree V → Bool → List (Result T (DecodeError E))
@@ -145,7 +156,7 @@ AreUpTo meaning shape lends whole [] items = whole ≡ true → items ≡ []
 AreUpTo {T} {V} meaning shape lends whole (Ok v ∷ xs) items = (more : List (Option V))
     × (items ≡ Some (meaning v) ∷ more) × AreUpTo meaning shape lends whole xs more
 AreUpTo meaning shape lends whole (Err e ∷ xs) items = (xs ≡ [])
-    × (GivesUp shape lends e ⊎ (items ≡ None ∷ []))
+    × (GivesUpAt shape lends items e ⊎ (items ≡ None ∷ []))
 
 -- a stream, not done, over known bytes, of what has not failed
 pub record IsOver (b : List ℕ) (s : StreamState) : Type 0 where
@@ -153,10 +164,10 @@ pub record IsOver (b : List ℕ) (s : StreamState) : Type 0 where
   pub sound : s.source.failed ≡ false
   pub left : s.source.input.left ≡ Some b
 
-module _ {S T V : Type 0} (E : Type 0) (see : S → StreamState) (meaning : T → V) (shape : Shape Tree V) where
+module _ {S T V : Type 0} (E : Type 0) (see : S → StreamState) (meaning : T → V) (shape : Shape Tree V) (lies : Bool → T → Type 0) where
   -- one call of `next`
   abbrev pub Gives : S → Option (Result T (DecodeError E)) → S → Type 0
-  Gives s item t = GivesNext meaning shape (see s) item (see t)
+  Gives s item t = GivesNext meaning shape (see s) item (see t) × LiesNext lies (see s) item
 
   -- what holds of the items that calls of `next` from s gave
   pub record IsStreamRun (s : S) (whole : Bool) (xs : List (Result T (DecodeError E))) : Type 0 where

@@ -25,4 +25,4 @@ ReadsPart meaning shape old = Reads meaning shape (MayLack shape.memory old) (sh
 abbrev pub RefusesToBegin : {T A E : Type 0} → (Reading → Type 0)
     → (Reading → Result A (DecodeError E) → Reading → Type 0) → DeState → Result T (DecodeError E)
     → DeState → Type 0
-RefusesToBegin could begins old result new = old.failed ≡ false → (b : List ℕ) → old.input.left ≡ Some b → (¬ could old.input) → IfErr result (λ e. begins old.input (Err e) new.input)
+RefusesToBegin could begins old result new = old.failed ≡ false → (b : List ℕ) → old.input.left ≡ Some b → (¬ could old.input) → IfErr result (λ e. (new.failed ≡ true) × begins old.input (Err e) new.input)

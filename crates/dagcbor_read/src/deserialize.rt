@@ -1,7 +1,7 @@
 //! What can be read.
 
 ghost use Rattle.std.specs.Prelude.{◌≡◌, Bool, false, ⊤, IfOk};
-ghost use Rattle.dagcbor_read.specs.Deserializers.{de_state, StaysFailed, Over};
+ghost use Rattle.dagcbor_read.specs.Deserializers.{de_state, StaysFailed, Stops, Over};
 ghost use Rattle.dagcbor_read.specs.Values.{ReadsValue};
 
 use crate::deserializer::Deserializer;
@@ -16,10 +16,12 @@ pub trait Deserialize<'de>: Shown + Sized + Drop {
     ghost lies: { Bool → Self → Type 0 } = { λ lends v. ⊤ };
 
     /// Reads a value: exactly where a tree stands that the type accepts, within the steps that are
-    /// left.
+    /// left. Another refusal than a message goes through `Deserializer::refuse`, where no call has
+    /// made it.
     fn deserialize<R: Read>(alloc: Global, de: &mut Deserializer<'de, R>) -> ReadResult<Self, R>
         ensures value { Over R.reading (ReadsValue Self.meaning Self.shape) de.old result de.new }
         ensures failed { Over R.reading StaysFailed de.old result de.new }
+        ensures stops { Over R.reading Stops de.old result de.new }
         ensures lies { IfOk result (Self.lies (de_state R.reading de.old).input.lends) };
 }
 

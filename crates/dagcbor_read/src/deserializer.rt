@@ -1,14 +1,20 @@
 //! The reader's state between calls.
 
 ghost use Rattle.std.specs.Prelude.{◌≡◌, [], false, true, MatchResult, Some, IfErr, ◌+◌, ◌≤◌, ◌^◌};
-ghost use Rattle.std.specs.Prelude.{MatchOption, ◌<◌, is_err};
+ghost use Rattle.std.specs.Prelude.{MatchOption, ◌<◌, is_err, IfNone};
 ghost use Rattle.std.specs.Prelude.{IfOk, IfSome, codes, pos, negsuc, ◌≤ℤ◌, ◌↔◌, option_map};
 ghost use Rattle.dagcbor_heads.specs.Reading.{fresh_reading, default_steps};
 ghost use Rattle.dagcbor_heads.specs.Inputs.{not_lending};
 ghost use Rattle.dagcbor_heads.specs.declared.error.DecodeError.TheVariants.{Failed};
+ghost use Rattle.dagcbor_heads.specs.Looking.{Looks, LooksOnce, LooksAtTaken};
 ghost use Rattle.dagcbor_items.specs.Looks.{LooksAtAny};
 ghost use Rattle.dagcbor_read.specs.Deserializers.{de_state, Call, Ends, Over};
-ghost use Rattle.dagcbor_items.specs.Entries.{TakesKey};
+ghost use Rattle.dagcbor_read.specs.Deserializers.{LooksAtFirst};
+ghost use Rattle.dagcbor_items.specs.Entries.{TakesKey, HasName};
+ghost use Rattle.dagcbor_read.specs.Named.{TakesName};
+ghost use Rattle.ipld_tree.specs.Cid.{cid_bytes};
+ghost use Rattle.dagcbor_items.specs.Shapes.{view_link, leaf};
+ghost use Rattle.dagcbor_items.specs.TypedReads.{TakesFront};
 ghost use Rattle.dagcbor_items.specs.Untyped.{ReadsItem};
 ghost use Rattle.dagcbor_items.specs.Links.{ReadsLink};
 ghost use Rattle.dagcbor_items.specs.AnsweredVariants.{OfItem, OfLink, OfHead, OfNumber, OfByte};
@@ -23,7 +29,7 @@ ghost use Rattle.ipld_tree.specs.Tree.{text};
 ghost use Rattle.dagcbor_read.specs.Accessors.{ReadsHead, BeginsItems, ReadsKeyAfter, OfBegin};
 ghost use Rattle.dagcbor_read.specs.Values.{ReadsPart};
 ghost use Rattle.dagcbor_read.specs.Options.{ReadsOption, EntersOption};
-ghost use Rattle.dagcbor_read.specs.Enums.{SpendsEnum, OfForm};
+ghost use Rattle.dagcbor_read.specs.Enums.{enum_state, SpendsEnum, OfForm};
 ghost use Rattle.dagcbor_items.specs.Walks.{GathersLinks};
 ghost use Rattle.dagcbor_read.specs.Streams.{stream_state, ReadsNext};
 
@@ -38,7 +44,7 @@ use dagcbor_heads::{
 use dagcbor_items::{
     gather_links, pull_bool, pull_char, pull_i128, pull_link, pull_major, pull_null,
     pull_owned_bytes, pull_owned_text, pull_signed, pull_slice, pull_str, pull_u128, pull_unsigned,
-    read_any, read_key, skip_any, take_key,
+    read_any, read_key, skip_any, take_key, take_link, take_name,
 };
 use ipld_tree::{Cid, Ipld};
 use std::alloc::Global;
@@ -109,6 +115,18 @@ impl<'de, R: Read> Deserializer<'de, R> {
         Ok(())
     }
 
+    /// The refusal of a value that no call here refused. From now on it counts as refused.
+    #[cold]
+    #[inline(never)]
+    pub fn refuse(&mut self, error: DecodeError<R::Error>) -> DecodeError<R::Error>
+        ensures same { result ≡ error }
+        ensures failed { de_state R.reading
+            self.new ≡ record { input = (de_state R.reading self.old).input; failed = true } }
+    {
+        self.failed = true;
+        error
+    }
+
     /// Reads an item of any kind, no deeper than the steps that are left.
     pub fn deserialize_any(&mut self, alloc: Global) -> ReadResult<Ipld, R>
         ensures item { Over R.reading (Call ReadsItem) self.old result self.new }
@@ -126,6 +144,42 @@ impl<'de, R: Read> Deserializer<'de, R> {
     pub fn deserialize_cid(&mut self) -> ReadResult<Cid, R>
         ensures link { Over R.reading (Call ReadsLink) self.old result self.new }
         ensures variant { IfErr result OfLink }
+        ensures looked { Looks 3 (de_state R.reading self.old).input result
+            (de_state R.reading self.new).input }
+    {
+        if let Some(cid) = self.take_cid() {
+            return Ok(cid);
+        }
+        self.deserialize_cid_slowly()
+    }
+
+    /// Takes the link at the front, where nothing was refused and a slice has all of it.
+    #[inline(always)]
+    fn take_cid(&mut self) -> Option<Cid>
+        ensures taken { MatchOption result
+            (self.new ≡ self.old)
+            (λ c. ((de_state R.reading self.old).failed ≡ false)
+            × ((de_state R.reading self.new).failed ≡ false)
+            × TakesFront (leaf view_link) (de_state R.reading self.old).input (cid_bytes c)
+            (de_state R.reading self.new).input) }
+        ensures looked { IfSome result
+            (λ _. LooksAtTaken 2 0 (de_state R.reading self.old).input
+            (de_state R.reading self.new).input) }
+    {
+        if self.failed {
+            return None;
+        }
+        take_link(&mut self.input)
+    }
+
+    /// As `deserialize_cid`, where no slice has the link whole.
+    #[cold]
+    #[inline(never)]
+    fn deserialize_cid_slowly(&mut self) -> ReadResult<Cid, R>
+        ensures link { Over R.reading (Call ReadsLink) self.old result self.new }
+        ensures variant { IfErr result OfLink }
+        ensures looked { Looks 3 (de_state R.reading self.old).input result
+            (de_state R.reading self.new).input }
     {
         self.begin()?;
         let cid = pull_link(&mut self.input)?;
@@ -136,7 +190,9 @@ impl<'de, R: Read> Deserializer<'de, R> {
     /// Whether the input ends here: `TrailingData` where a byte is left, which stays, and reading
     /// may go on.
     pub fn end(&mut self) -> ReadResult<(), R>
-        ensures { Over R.reading Ends self.old result self.new }
+        ensures end { Over R.reading Ends self.old result self.new }
+        ensures looked { LooksOnce (de_state R.reading self.old).input
+            (de_state R.reading self.new).input }
     {
         self.begin()?;
         let at_end = is_at_end(&mut self.input)?;
@@ -148,11 +204,14 @@ impl<'de, R: Read> Deserializer<'de, R> {
         }
     }
 
+    #[inline(always)]
     fn unsigned(&mut self, name: &str, greatest: u64) -> ReadResult<u64, R>
         ensures number { Over R.reading
             (Call (ReadsUnsigned name.now (greatest + 1))) self.old result self.new }
         ensures most { IfOk result (λ n. n ≤ greatest) }
         ensures variant { IfErr result OfNumber }
+        ensures looked { Looks 3 (de_state R.reading self.old).input result
+            (de_state R.reading self.new).input }
     {
         self.begin()?;
         let number = pull_unsigned(name, &mut self.input, greatest)?;
@@ -166,6 +225,8 @@ impl<'de, R: Read> Deserializer<'de, R> {
         ensures least { IfOk result (λ n. negsuc greatest ≤ℤ n) }
         ensures most { IfOk result (λ n. n ≤ℤ pos greatest) }
         ensures variant { IfErr result OfNumber }
+        ensures looked { Looks 3 (de_state R.reading self.old).input result
+            (de_state R.reading self.new).input }
     {
         self.begin()?;
         let number = pull_signed(name, &mut self.input, greatest)?;
@@ -178,6 +239,8 @@ impl<'de, R: Read> Deserializer<'de, R> {
         ensures number { Over R.reading
             (Call (ReadsUnsigned (codes "u8") (2 ^ 8))) self.old result self.new }
         ensures variant { IfErr result OfNumber }
+        ensures looked { Looks 3 (de_state R.reading self.old).input result
+            (de_state R.reading self.new).input }
     {
         Ok(self.unsigned("u8", 0xff)? as u8)
     }
@@ -187,6 +250,8 @@ impl<'de, R: Read> Deserializer<'de, R> {
         ensures number { Over R.reading
             (Call (ReadsUnsigned (codes "u16") (2 ^ 16))) self.old result self.new }
         ensures variant { IfErr result OfNumber }
+        ensures looked { Looks 3 (de_state R.reading self.old).input result
+            (de_state R.reading self.new).input }
     {
         Ok(self.unsigned("u16", 0xffff)? as u16)
     }
@@ -196,6 +261,8 @@ impl<'de, R: Read> Deserializer<'de, R> {
         ensures number { Over R.reading
             (Call (ReadsUnsigned (codes "u32") (2 ^ 32))) self.old result self.new }
         ensures variant { IfErr result OfNumber }
+        ensures looked { Looks 3 (de_state R.reading self.old).input result
+            (de_state R.reading self.new).input }
     {
         Ok(self.unsigned("u32", 0xffff_ffff)? as u32)
     }
@@ -205,6 +272,8 @@ impl<'de, R: Read> Deserializer<'de, R> {
         ensures number { Over R.reading
             (Call (ReadsUnsigned (codes "u64") (2 ^ 64))) self.old result self.new }
         ensures variant { IfErr result OfNumber }
+        ensures looked { Looks 3 (de_state R.reading self.old).input result
+            (de_state R.reading self.new).input }
     {
         self.unsigned("u64", u64::MAX)
     }
@@ -214,6 +283,8 @@ impl<'de, R: Read> Deserializer<'de, R> {
         ensures number { Over R.reading
             (Call (ReadsSigned (codes "i8") (2 ^ 7))) self.old result self.new }
         ensures variant { IfErr result OfNumber }
+        ensures looked { Looks 3 (de_state R.reading self.old).input result
+            (de_state R.reading self.new).input }
     {
         Ok(self.signed("i8", 0x7f)? as i8)
     }
@@ -223,6 +294,8 @@ impl<'de, R: Read> Deserializer<'de, R> {
         ensures number { Over R.reading
             (Call (ReadsSigned (codes "i16") (2 ^ 15))) self.old result self.new }
         ensures variant { IfErr result OfNumber }
+        ensures looked { Looks 3 (de_state R.reading self.old).input result
+            (de_state R.reading self.new).input }
     {
         Ok(self.signed("i16", 0x7fff)? as i16)
     }
@@ -232,6 +305,8 @@ impl<'de, R: Read> Deserializer<'de, R> {
         ensures number { Over R.reading
             (Call (ReadsSigned (codes "i32") (2 ^ 31))) self.old result self.new }
         ensures variant { IfErr result OfNumber }
+        ensures looked { Looks 3 (de_state R.reading self.old).input result
+            (de_state R.reading self.new).input }
     {
         Ok(self.signed("i32", 0x7fff_ffff)? as i32)
     }
@@ -241,6 +316,8 @@ impl<'de, R: Read> Deserializer<'de, R> {
         ensures number { Over R.reading
             (Call (ReadsSigned (codes "i64") (2 ^ 63))) self.old result self.new }
         ensures variant { IfErr result OfNumber }
+        ensures looked { Looks 3 (de_state R.reading self.old).input result
+            (de_state R.reading self.new).input }
     {
         Ok(self.signed("i64", 0x7fff_ffff_ffff_ffff)? as i64)
     }
@@ -249,6 +326,8 @@ impl<'de, R: Read> Deserializer<'de, R> {
     pub fn deserialize_u128(&mut self) -> ReadResult<u128, R>
         ensures number { Over R.reading (Call ReadsU128) self.old result self.new }
         ensures variant { IfErr result OfNumber }
+        ensures looked { Looks 4 (de_state R.reading self.old).input result
+            (de_state R.reading self.new).input }
     {
         self.begin()?;
         let number = pull_u128(&mut self.input)?;
@@ -260,6 +339,8 @@ impl<'de, R: Read> Deserializer<'de, R> {
     pub fn deserialize_i128(&mut self) -> ReadResult<i128, R>
         ensures number { Over R.reading (Call ReadsI128) self.old result self.new }
         ensures variant { IfErr result OfHead }
+        ensures looked { Looks 4 (de_state R.reading self.old).input result
+            (de_state R.reading self.new).input }
     {
         self.begin()?;
         let number = pull_i128(&mut self.input)?;
@@ -271,6 +352,8 @@ impl<'de, R: Read> Deserializer<'de, R> {
     pub fn deserialize_unit(&mut self) -> ReadResult<(), R>
         ensures null { Over R.reading (Call ReadsNull) self.old result self.new }
         ensures variant { IfErr result OfByte }
+        ensures looked { Looks 2 (de_state R.reading self.old).input result
+            (de_state R.reading self.new).input }
     {
         self.begin()?;
         pull_null(&mut self.input)?;
@@ -282,6 +365,8 @@ impl<'de, R: Read> Deserializer<'de, R> {
     pub fn deserialize_unit_struct(&mut self, _name: &str) -> ReadResult<(), R>
         ensures null { Over R.reading (Call ReadsNull) self.old result self.new }
         ensures variant { IfErr result OfByte }
+        ensures looked { Looks 2 (de_state R.reading self.old).input result
+            (de_state R.reading self.new).input }
     {
         self.deserialize_unit()
     }
@@ -290,6 +375,8 @@ impl<'de, R: Read> Deserializer<'de, R> {
     pub fn deserialize_bool(&mut self) -> ReadResult<bool, R>
         ensures value { Over R.reading (Call ReadsBool) self.old result self.new }
         ensures variant { IfErr result OfByte }
+        ensures looked { Looks 2 (de_state R.reading self.old).input result
+            (de_state R.reading self.new).input }
     {
         self.begin()?;
         let value = pull_bool(&mut self.input)?;
@@ -303,6 +390,8 @@ impl<'de, R: Read> Deserializer<'de, R> {
         ensures lent { IfOk result
             (λ s. IsBorrowedStr s ↔ ((de_state R.reading self.old).input.lends ≡ true)) }
         ensures variant { IfErr result OfText }
+        ensures looked { Looks 3 (de_state R.reading self.old).input result
+            (de_state R.reading self.new).input }
     {
         self.begin()?;
         let text = pull_str(alloc, "string", &mut self.input)?;
@@ -316,6 +405,8 @@ impl<'de, R: Read> Deserializer<'de, R> {
         ensures lent { IfOk result
             (λ s. IsBorrowedStr s ↔ ((de_state R.reading self.old).input.lends ≡ true)) }
         ensures variant { IfErr result OfText }
+        ensures looked { Looks 3 (de_state R.reading self.old).input result
+            (de_state R.reading self.new).input }
     {
         self.deserialize_str(alloc)
     }
@@ -326,6 +417,8 @@ impl<'de, R: Read> Deserializer<'de, R> {
         ensures lent { IfOk result
             (λ c. IsBorrowedSlice c ↔ ((de_state R.reading self.old).input.lends ≡ true)) }
         ensures variant { IfErr result OfHead }
+        ensures looked { Looks 3 (de_state R.reading self.old).input result
+            (de_state R.reading self.new).input }
     {
         self.begin()?;
         let bytes = pull_slice(alloc, &mut self.input)?;
@@ -337,6 +430,8 @@ impl<'de, R: Read> Deserializer<'de, R> {
     pub fn deserialize_string(&mut self, alloc: Global) -> ReadResult<String, R>
         ensures text { Over R.reading (Call ReadsOwnedText) self.old result self.new }
         ensures variant { IfErr result OfText }
+        ensures looked { Looks 3 (de_state R.reading self.old).input result
+            (de_state R.reading self.new).input }
     {
         self.begin()?;
         let text = pull_owned_text(alloc, &mut self.input)?;
@@ -348,6 +443,8 @@ impl<'de, R: Read> Deserializer<'de, R> {
     pub fn deserialize_byte_buf(&mut self, alloc: Global) -> ReadResult<Vec<u8>, R>
         ensures bytes { Over R.reading (Call ReadsOwnedBytes) self.old result self.new }
         ensures variant { IfErr result OfHead }
+        ensures looked { Looks 3 (de_state R.reading self.old).input result
+            (de_state R.reading self.new).input }
     {
         self.begin()?;
         let bytes = pull_owned_bytes(alloc, &mut self.input)?;
@@ -359,6 +456,8 @@ impl<'de, R: Read> Deserializer<'de, R> {
     pub fn deserialize_char(&mut self, alloc: Global) -> ReadResult<char, R>
         ensures character { Over R.reading (Call ReadsChar) self.old result self.new }
         ensures variant { IfErr result OfChar }
+        ensures looked { Looks 3 (de_state R.reading self.old).input result
+            (de_state R.reading self.new).input }
     {
         self.begin()?;
         let c = pull_char(alloc, &mut self.input)?;
@@ -393,6 +492,9 @@ impl<'de, R: Read> Deserializer<'de, R> {
             (de_state R.reading self.new).input) }
         ensures lends { IfSome result
             (λ _. (de_state R.reading self.old).input.lends ≡ true) }
+        ensures looked { IfSome result
+            (λ _. LooksAtTaken 2 0 (de_state R.reading self.old).input
+            (de_state R.reading self.new).input) }
     {
         if self.failed {
             return None;
@@ -400,6 +502,21 @@ impl<'de, R: Read> Deserializer<'de, R> {
         let found = take_key(&mut self.input, last)?;
         self.failed = found.is_err();
         Some(found)
+    }
+
+    /// Takes this name, where a slice begins with it and it may stand behind the key before it: the
+    /// name, lent.
+    #[inline(always)]
+    pub(crate) fn take_name(&mut self, last: &Option<CowStr<'de>>, name: &str) -> Option<&'de str>
+        requires { (de_state R.reading self.old).failed ≡ false }
+        ensures { MatchOption result
+            ((self.new ≡ self.old) × (¬ HasName (option_map cow_str_bytes last.now) name.now
+            (de_state R.reading self.old).input))
+            (λ key. (key.now ≡ name.now)
+            × TakesName (option_map cow_str_bytes last.now) name.now (de_state R.reading self.old)
+            (de_state R.reading self.new)) }
+    {
+        take_name(&mut self.input, last, name)
     }
 
     /// A key behind the one before it, twice.
@@ -413,6 +530,8 @@ impl<'de, R: Read> Deserializer<'de, R> {
         ensures lent { IfOk result
             (λ p. IsBorrowedStr p.0 ↔ ((de_state R.reading self.old).input.lends ≡ true)) }
         ensures variant { IfErr result OfKey }
+        ensures looked { Looks 3 (de_state R.reading self.old).input result
+            (de_state R.reading self.new).input }
     {
         self.begin()?;
         let key = read_key(alloc, &mut self.input, last)?;
@@ -424,6 +543,7 @@ impl<'de, R: Read> Deserializer<'de, R> {
     }
 
     /// Begins a list (4) or map (5), whose end gives so many more steps back than its own.
+    #[inline(always)]
     pub(crate) fn begin_items(
         &mut self,
         name: &str,
@@ -434,6 +554,8 @@ impl<'de, R: Read> Deserializer<'de, R> {
         ensures begun { Over R.reading
             (Call (BeginsItems major name.now (more + 1))) self.old result self.new }
         ensures variant { IfErr result OfBegin }
+        ensures looked { Looks 3 (de_state R.reading self.old).input result
+            (de_state R.reading self.new).input }
     {
         self.begin()?;
         let count = enter(name, &mut self.input, major)?;
@@ -447,6 +569,8 @@ impl<'de, R: Read> Deserializer<'de, R> {
         ensures begun { Over R.reading
             (Call (BeginsItems 4 (codes "array") 1)) self.old result self.new }
         ensures variant { IfErr result OfBegin }
+        ensures looked { Looks 3 (de_state R.reading self.old).input result
+            (de_state R.reading self.new).input }
     {
         self.begin_items("array", 4, 0)
     }
@@ -456,6 +580,8 @@ impl<'de, R: Read> Deserializer<'de, R> {
         ensures begun { Over R.reading
             (Call (BeginsItems 4 (codes "tuple") 1)) self.old result self.new }
         ensures variant { IfErr result OfBegin }
+        ensures looked { Looks 3 (de_state R.reading self.old).input result
+            (de_state R.reading self.new).input }
     {
         self.begin_items("tuple", 4, 0)
     }
@@ -468,6 +594,8 @@ impl<'de, R: Read> Deserializer<'de, R> {
     ) -> ReadResult<Accessor<'de>, R>
         ensures begun { Over R.reading (Call (BeginsItems 4 name.now 1)) self.old result self.new }
         ensures variant { IfErr result OfBegin }
+        ensures looked { Looks 3 (de_state R.reading self.old).input result
+            (de_state R.reading self.new).input }
     {
         self.begin_items(name, 4, 0)
     }
@@ -477,6 +605,8 @@ impl<'de, R: Read> Deserializer<'de, R> {
         ensures begun { Over R.reading
             (Call (BeginsItems 5 (codes "map") 1)) self.old result self.new }
         ensures variant { IfErr result OfBegin }
+        ensures looked { Looks 3 (de_state R.reading self.old).input result
+            (de_state R.reading self.new).input }
     {
         self.begin_items("map", 5, 0)
     }
@@ -489,12 +619,16 @@ impl<'de, R: Read> Deserializer<'de, R> {
     ) -> ReadResult<Accessor<'de>, R>
         ensures begun { Over R.reading (Call (BeginsItems 5 name.now 1)) self.old result self.new }
         ensures variant { IfErr result OfBegin }
+        ensures looked { Looks 3 (de_state R.reading self.old).input result
+            (de_state R.reading self.new).input }
     {
         self.begin_items(name, 5, 0)
     }
 
     fn enter_option(&mut self) -> ReadResult<bool, R>
-        ensures { Over R.reading (Call EntersOption) self.old result self.new }
+        ensures entered { Over R.reading (Call EntersOption) self.old result self.new }
+        ensures looked { LooksAtFirst (λ is_null. is_null) (de_state R.reading self.old).input
+            result (de_state R.reading self.new).input }
     {
         self.begin()?;
         let is_null = enter_option(&mut self.input)?;
@@ -533,7 +667,7 @@ impl<'de, R: Read> Deserializer<'de, R> {
         self.read_part(alloc)
     }
 
-    /// A null is `None`. Another value takes a step.
+    /// A null is `None`. Another value takes a step, and is looked at as often as its type looks.
     pub fn deserialize_option<T: Deserialize<'de>>(
         &mut self,
         alloc: Global,
@@ -542,6 +676,9 @@ impl<'de, R: Read> Deserializer<'de, R> {
             (Call (ReadsOption T.meaning T.shape)) self.old result self.new }
         ensures lies { IfOk result
             (λ o. IfSome o (T.lies (de_state R.reading self.old).input.lends)) }
+        ensures looked { IfOk result
+            (λ o. IfNone o (LooksAtTaken 3 0 (de_state R.reading self.old).input
+            (de_state R.reading self.new).input)) }
     {
         if self.enter_option()? {
             return Ok(None);
@@ -559,6 +696,8 @@ impl<'de, R: Read> Deserializer<'de, R> {
     ) -> ReadResult<EnumAccessor, R>
         ensures form { Over R.reading (Call (SpendsEnum name.now)) self.old result self.new }
         ensures variant { IfErr result OfForm }
+        ensures looked { LooksAtFirst (λ a. (enum_state a).in_map)
+            (de_state R.reading self.old).input result (de_state R.reading self.new).input }
     {
         self.begin()?;
         let form = spend_form(name, &mut self.input)?;
@@ -607,7 +746,10 @@ impl<'de, R: Read> Deserializer<'de, R> {
         &mut self,
         alloc: Global,
     ) -> ReadResult<Option<T>, R>
-        ensures { Over R.reading (Call (ReadsNext T.meaning T.shape)) self.old result self.new }
+        ensures value { Over R.reading
+            (Call (ReadsNext T.meaning T.shape)) self.old result self.new }
+        ensures lies { IfOk result
+            (λ o. IfSome o (T.lies (de_state R.reading self.old).input.lends)) }
     {
         self.begin()?;
         if is_at_end(&mut self.input)? {
@@ -626,6 +768,7 @@ impl<'de, R: Read> Deserializer<'de, R> {
 fn enter<R: Read>(name: &str, reader: &mut R, major: u8) -> ReadResult<u64, R>
     requires { major < 8 }
     ensures head { ReadsHead major name.now (R.reading reader.old) result (R.reading reader.new) }
+    ensures looked { Looks 3 (R.reading reader.old) result (R.reading reader.new) }
     ensures variant { IfErr result OfBegin }
 {
     spend_step(name, reader)?;
@@ -635,7 +778,9 @@ fn enter<R: Read>(name: &str, reader: &mut R, major: u8) -> ReadResult<u64, R>
 
 /// Whether a null stood there, which is taken. Else a step is spent.
 fn enter_option<R: Read>(reader: &mut R) -> ReadResult<bool, R>
-    ensures { EntersOption (R.reading reader.old) result (R.reading reader.new) }
+    ensures entered { EntersOption (R.reading reader.old) result (R.reading reader.new) }
+    ensures looked { LooksAtFirst (λ is_null. is_null) (R.reading reader.old) result
+        (R.reading reader.new) }
 {
     let first = peek_one("option", reader)?;
     if first == 0xf6 {

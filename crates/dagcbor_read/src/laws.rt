@@ -8,7 +8,7 @@ use dagcbor_heads::Read;
 
 /// What comes of a stream over known bytes is the stream of the type on these bytes.
 pub fn streams_exact<'de, T: Deserialize<'de>, R: Read>()
-    ensures { StreamsAreExact R.Error (stream_state {T = T} R.reading) T.meaning T.shape }
+    ensures { StreamsAreExact R.Error (stream_state {T = T} R.reading) T.meaning T.shape T.lies }
 {}
 
 /// Of given bytes there is one stream of a type.

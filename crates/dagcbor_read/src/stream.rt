@@ -3,7 +3,7 @@
 ghost use Rattle.std.specs.Prelude.{◌≡◌, [], false};
 ghost use Rattle.dagcbor_heads.specs.Reading.{fresh_reading, default_steps};
 ghost use Rattle.dagcbor_read.specs.Deserializers.{de_state};
-ghost use Rattle.dagcbor_read.specs.Streams.{stream_state, items_left, GivesNext};
+ghost use Rattle.dagcbor_read.specs.Streams.{stream_state, items_left, GivesNext, LiesNext};
 
 use crate::deserialize::{Deserialize, DeserializeOwned};
 use crate::deserializer::Deserializer;
@@ -41,7 +41,8 @@ impl<'de, R: Read, T: Deserialize<'de>> Iterator for StreamDeserializer<'de, R, 
     type Item = ReadResult<T, R>;
 
     // Nothing of a stream that is done; else what reading the next value answers.
-    ghost next_gives = { λ old item new. GivesNext T.meaning T.shape (stream_state R.reading old) item (stream_state R.reading new) };
+    ghost next_gives = { λ old item new. GivesNext T.meaning T.shape (stream_state R.reading old) item (stream_state R.reading new)
+        × LiesNext T.lies (stream_state R.reading old) item };
 
     // Of n bytes at most n + 1 items, since a value takes a byte.
     ghost remaining = { λ s. items_left (stream_state R.reading s) };

@@ -1,21 +1,8 @@
 //! The program `dagcbor`: tests lines of hexadecimal text against DAG-CBOR, or lists their links.
-//!
-//! Each line is answered by one (`src/tests.rt`):
-//!
-//! ```rust
-//! const LINES: &[u8] = b"1817\nzz\n\nF6\n63616263\r\nF5\n420102";
-//! run_check(alloc, &mut &LINES[..], &mut output)?;
-//! assert_eq!(rt; output.as_slice(), ANSWERS);
-//! ```
 #![tactic(auto)]
 
-mod answer;
-mod command;
-mod line;
-mod run;
-
-use command::{OUT_OF_MEMORY, USAGE, run_command};
 use dagcbor_cli::{arguments, give_up};
+use dagcbor_lines::{OUT_OF_MEMORY, USAGE, run_command};
 use std::io::{BufReader, ErrorKind};
 use std::process::ExitCode;
 
@@ -38,6 +25,3 @@ fn main(rt: HostRuntime) -> ExitCode {
     };
     ExitCode::from(status)
 }
-
-#[cfg(test)]
-mod tests;

@@ -14,4 +14,5 @@ pub mod Enums
 pub mod IpldTrees
 pub mod Walks
 pub mod KeyOrder
+pub mod MapMessages
 pub mod PlaceOrder

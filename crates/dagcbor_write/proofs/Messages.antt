@@ -6,7 +6,7 @@ use Rattle.std.specs.Result.{IsErrAnd}
 use Rattle.dagcbor_heads.specs.declared.error.EncodeError.{EncodeError}
 use Rattle.dagcbor_heads.specs.declared.error.EncodeError.TheVariants.{Msg, Write, OutOfMemory}
 use Rattle.dagcbor_heads.specs.Written.{Written, WroteAll, Writes, Stops}
-use Rattle.ipld_tree.specs.Tree.{text}
+use Rattle.ipld_tree.specs.Tree.{Tree, text}
 use Rattle.ipld_tree.specs.Spelling.{text_spelling}
 use Rattle.ipld_tree.specs.Spelled.{spelled, spelled_head}
 use Rattle.ipld_tree.proofs.Spelled.{spelled_is}
@@ -25,7 +25,7 @@ variant_spelled name h e =
 
 module _ {T E : Type 0} where
   -- the exit of a `?`
-  exit_message : (P : List ℕ → Type 0) (r : Result T (EncodeError E)) (e : EncodeError E) → IsErrAnd r (λ d. d ≡ e) → OnMessage P e → IfErr r (OnMessage P)
+  pub exit_message : (P : List ℕ → Type 0) (r : Result T (EncodeError E)) (e : EncodeError E) → IsErrAnd r (λ d. d ≡ e) → OnMessage P e → IfErr r (OnMessage P)
   exit_message P (Ok x) e is h = absurd is
   exit_message P (Err d) e is h = let Q : EncodeError E → Type 0 = λ y. OnMessage P y in subst Q (sym is) h
 
@@ -35,6 +35,13 @@ module _ {T E : Type 0} where
   message_of P whole s t (Err (Msg m)) cause h = cause h.0
   message_of P whole s t (Err (Write e)) cause h = tt
   message_of P whole s t (Err OutOfMemory) cause h = tt
+
+  -- a part that answers no message makes none of the whole
+  pub none_as : (P : List ℕ → Type 0) (r : Result T (EncodeError E)) → IfErr r (OnMessage (λ _. ⊥)) → IfErr r (OnMessage P)
+  none_as P (Ok x) h = tt
+  none_as P (Err (Msg m)) h = absurd h
+  none_as P (Err (Write e)) h = tt
+  none_as P (Err OutOfMemory) h = tt
 
   -- what holds of a message tells more of it
   pub message_tells : (P Q : List ℕ → Type 0) (r : Result T (EncodeError E)) → ((m : List ℕ) → P m → Q m) → IfErr r (OnMessage P) → IfErr r (OnMessage Q)

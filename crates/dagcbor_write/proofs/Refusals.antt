@@ -1,10 +1,10 @@
--- Refusals with a message of our own.
-use Rattle.std.proofs.Common.{◌≡◌, ℕ, ◌≤◌, List, length, Option, None, refl, sym, subst}
+-- Refusals with a message of our own, and those of calls that may take memory.
+use Rattle.std.proofs.Common.{◌≡◌, ℕ, ◌≤◌, List, length, Option, None, Result, Ok, Err, true, refl, sym, subst}
 use Rattle.dagcbor_heads.specs.Messages.{Says, message_bytes}
-use Rattle.dagcbor_heads.specs.Written.{Written, Stops}
+use Rattle.dagcbor_heads.specs.Written.{Written, Stops, WantsMemoryOnlyIf}
 use Rattle.dagcbor_heads.proofs.Writing.{appends_nothing}
 use Rattle.dagcbor_heads.specs.declared.error.EncodeError.{EncodeError}
-use Rattle.dagcbor_heads.specs.declared.error.EncodeError.TheVariants.{Msg}
+use Rattle.dagcbor_heads.specs.declared.error.EncodeError.TheVariants.{Msg, Write, OutOfMemory}
 use Rattle.dagcbor_heads.specs.declared.name.Message.{Message}
 use Rattle.dagcbor_write.specs.Answers.{OnMessage}
 use Rattle.dagcbor_write.specs.Gathering.{Refused}
@@ -20,3 +20,10 @@ module _ {E : Type 0} {e : EncodeError E} {text : List ℕ} (made : (kept : Mess
   -- before anything was written
   pub stops_with : (whole : Option (List ℕ)) (s : Written) → whole ≡ None → Stops whole s s e
   stops_with whole s none = subst (λ x. Stops whole s s x) (sym made.1) (none, appends_nothing s.bytes, refl, refl)
+
+-- want of memory may be answered where some may be taken
+pub may_want : {T E : Type 0} (r : Result T (EncodeError E)) → WantsMemoryOnlyIf true r
+may_want (Ok x) = tt
+may_want (Err (Msg m)) = tt
+may_want (Err (Write e)) = tt
+may_want (Err OutOfMemory) = cc

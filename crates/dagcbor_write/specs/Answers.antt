@@ -32,6 +32,12 @@ IsWriteExcuse (Msg m) = ⊥
 IsWriteExcuse (Write e) = ⊤
 IsWriteExcuse OutOfMemory = ⊤
 
+-- a message
+abbrev pub IsMsg : {E : Type 0} → EncodeError E → Type 0
+IsMsg (Msg m) = ⊤
+IsMsg (Write e) = ⊥
+IsMsg OutOfMemory = ⊥
+
 -- what holds of the text of a message, where one is answered
 abbrev pub OnMessage : {E : Type 0} → (List ℕ → Type 0) → EncodeError E → Type 0
 OnMessage P (Msg m) = P (message_bytes m)

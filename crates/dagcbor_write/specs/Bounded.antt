@@ -17,8 +17,9 @@ pub record BeginsList {W E : Type 0} (written : W → Written) (takes_memory : B
   pub memory : WantsMemoryOnlyIf takes_memory r
 
 -- The next item went out, or was refused. Either way one less is still to come.
-pub record WritesItem {W E : Type 0} (written : W → Written) (tree : Option Tree) (old new : BoundedCollect W) (r : Result (Unit {0}) (EncodeError E)) : Type 0 where
+pub record WritesItem {W E : Type 0} (written : W → Written) (may : Bool) (tree : Option Tree) (old new : BoundedCollect W) (r : Result (Unit {0}) (EncodeError E)) : Type 0 where
   pub same_reference : SameLoan (bounded_lent old) (bounded_lent new)
   pub left : bounded_left new + 1 ≡ bounded_left old
   pub item : Writes (spelled_tree tree) (written (bounded_lent old).now) (written (bounded_lent new).now) r
   pub well_formed : OnOk r (IfSome tree IsTree)
+  pub memory : WantsMemoryOnlyIf may r

@@ -1,5 +1,7 @@
 -- Entries of a map whose keys alone are spelled: each key's spelling, and the value.
 use Rattle.std.specs.Prelude.{◌≡◌, ℕ, Bool, List, [], ◌∷◌, ◌++◌, map, Option, Some, IsPermutation}
+use Rattle.std.specs.Prelude.{is_none, codes, IsTrue}
+use Rattle.std.specs.List.{list_any}
 use Rattle.std.specs.Fmt.{◌++?◌}
 use Rattle.std.specs.List.Sorted.{IsSortedBy}
 use Rattle.std.specs.Ordering.{is_lt}
@@ -32,3 +34,12 @@ value_trees tree = map (λ e. tree e.1)
 abbrev pub spelled_keyed : {A : Type 0} → (A → Option Tree) → List (List ℕ × A) → Option (List ℕ)
 spelled_keyed tree [] = Some []
 spelled_keyed tree (e ∷ es) = Some e.0 ++? (spelled_tree (tree e.1) ++? spelled_keyed tree es)
+
+-- whether the value of an entry has no spelling
+abbrev pub lacks_value : {A : Type 0} → (A → Option Tree) → List ℕ × A → Bool
+lacks_value tree e = is_none (spelled_tree (tree e.1))
+
+-- the cause of the message of entries that are written: a value has no spelling
+abbrev pub RefusesKeyedValue : {A : Type 0} → (A → Option Tree) → List (List ℕ × A) → List ℕ → Type 0
+RefusesKeyedValue tree es m = (m ≡ codes "Struct value cannot be serialized.")
+    × IsTrue (list_any (lacks_value tree) es)

@@ -4,7 +4,7 @@ use Rattle.std.specs.Prelude.{List, [], ◌∷◌, ◌++◌, length, map, Option
 use Rattle.std.specs.Prelude.{option_and_then, IfSome, IsSomeAnd, Any, codes, Result, OnErr}
 use Rattle.dagcbor_heads.specs.declared.error.EncodeError.{EncodeError}
 use Rattle.std.specs.Iterator.{YieldsFirstBy}
-use Rattle.ipld_tree.specs.Tree.{Tree, text, mapping, IsTree, key_of, all_some, pair_of}
+use Rattle.ipld_tree.specs.Tree.{Tree, null, text, mapping, IsTree, key_of, all_some, pair_of}
 use Rattle.ipld_tree.specs.Tree.{repeats_key, entries_tree}
 use Rattle.ipld_tree.specs.Spelled.{spelled, spelled_entries, spelled_tree}
 use Rattle.dagcbor_write.specs.Pairwise.{Pairwise}
@@ -146,3 +146,19 @@ RefusesKeys ps m = (m ≡ codes "Map keys must be unique") × RepeatsKey ps
 -- the causes of a struct's message: a value's, or where all have spellings that of the keys
 abbrev pub RefusesPairs : List Pair → List ℕ → Type 0
 RefusesPairs ps m = RefusesAnyValue ps m ⊎ (RefusesKeys ps m × ¬ LacksValue ps)
+
+-- ---- a map that is at hand
+
+-- the pairs with null for each value: what is said of these is said of their keys alone
+abbrev pub keys_alone : List Pair → List Pair
+keys_alone = map (λ p. (p.0, Some null))
+
+-- the cause of a message of one of the keys
+abbrev pub RefusesAnyKey : List Pair → List ℕ → Type 0
+RefusesAnyKey ps m = Any (λ p. RefusesKey p.0 m) ps
+
+-- the causes of a map's message: one of its keys, or a key that is there twice, before anything went
+-- out; or a value
+abbrev pub RefusesMap : {A : Type 0} → A → A → List Pair → List ℕ → Type 0
+RefusesMap old new ps m = ((RefusesAnyKey ps m ⊎ RefusesKeys (keys_alone ps) m) × (new ≡ old))
+    ⊎ RefusesAnyValue ps m

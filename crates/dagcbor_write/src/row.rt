@@ -1,8 +1,8 @@
 //! The fields of a struct that is written, one after another.
 
 ghost use Rattle.std.specs.Prelude.{◌≡◌, ◌+◌, ◌<◌, List, [], ◌∷◌, length, None, OnOk, IfErr};
-ghost use Rattle.std.specs.Prelude.{IfSome, MatchResult, IsTrue};
-ghost use Rattle.dagcbor_write.specs.Answers.{OnMessage};
+ghost use Rattle.std.specs.Prelude.{IfSome, MatchResult, IsTrue, IsOk, ◌≤◌};
+ghost use Rattle.dagcbor_write.specs.Answers.{OnMessage, IsMsg};
 ghost use Rattle.dagcbor_heads.specs.Written.{Writes};
 ghost use Rattle.dagcbor_write.specs.Rows.{spelled_pairs, ArePairs, KeysRise, pair_at};
 ghost use Rattle.dagcbor_write.specs.Rows.{spelled_pair, IsPair, ListsPlaces};
@@ -58,7 +58,8 @@ pub trait FieldRow: Copy {
         ensures written { Writes (spelled_pairs (pairs self))
             (W.written ser.old) (W.written ser.new) result }
         ensures well_formed { OnOk result (ArePairs (pairs self)) }
-        ensures message { IfErr result (OnMessage (λ _. LacksValue (pairs self))) };
+        ensures message { IfErr result (OnMessage (λ _. LacksValue (pairs self))) }
+        ensures empty { pairs self ≡ [] → IsOk result };
 
     /// Lists the names behind others, each with its place. False where there is no room for all.
     fn list_places(self, places: &mut Places) -> bool
@@ -78,7 +79,9 @@ pub trait FieldRow: Copy {
             (W.written ser.old) (W.written ser.new) result }
         ensures well_formed { OnOk result (IsPair (pair_at (pairs self.now) place)) }
         ensures message { place < length (pairs self.now)
-            → IfErr result (OnMessage (λ _. LacksValue (pairs self.now))) };
+            → IfErr result (OnMessage (λ _. LacksValue (pairs self.now))) }
+        ensures none { length (pairs self.now) ≤ place
+            → IfErr result IsMsg × (ser.new ≡ ser.old) };
 }
 
 impl FieldRow for () {
@@ -235,6 +238,8 @@ fn write_field_of<T: Serialize, L: FieldRow, W: Write>(
     ensures message { place < length (field name.now (T.tree value.now) ∷ L.pairs others.now)
         → IfErr result (OnMessage
         (λ _. LacksValue (field name.now (T.tree value.now) ∷ L.pairs others.now))) }
+    ensures none { length (field name.now (T.tree value.now) ∷ L.pairs others.now) ≤ place
+        → IfErr result IsMsg × (ser.new ≡ ser.old) }
 {
     if place > 0 {
         return others.write_field(place - 1, alloc, ser);

@@ -1,7 +1,7 @@
 //! What can be written.
 
-ghost use Rattle.std.specs.Prelude.{Option, OnOk, IfSome};
-ghost use Rattle.dagcbor_heads.specs.Written.{Writes};
+ghost use Rattle.std.specs.Prelude.{Option, OnOk, IfSome, Bool, true, ◌||◌};
+ghost use Rattle.dagcbor_heads.specs.Written.{Writes, WantsMemoryOnlyIf};
 ghost use Rattle.ipld_tree.specs.Tree.{Tree, IsTree};
 ghost use Rattle.ipld_tree.specs.Spelled.{spelled_tree};
 
@@ -14,10 +14,14 @@ pub trait Serialize {
     /// The value's tree. None where it has none, as a map whose key is a number.
     ghost tree: { Self → Option Tree };
 
+    /// Whether writing a value may take memory, where the writer takes none.
+    ghost takes_memory: { Bool } = { true };
+
     /// Appends the spelling of the value's tree. Refused with `Msg` only where there is none. After
     /// a refusal of a value with a spelling a beginning of it may have gone out.
     fn serialize<W: Write>(&self, alloc: Global, ser: &mut Serializer<W>) -> WriteResult<(), W>
         ensures written { Writes (spelled_tree (tree self.now))
             (W.written ser.old) (W.written ser.new) result }
-        ensures well_formed { OnOk result (IfSome (tree self.now) IsTree) };
+        ensures well_formed { OnOk result (IfSome (tree self.now) IsTree) }
+        ensures memory { WantsMemoryOnlyIf (takes_memory || W.takes_memory) result };
 }

@@ -1,13 +1,13 @@
 //! The serializer, and what it writes by itself: leaves.
 
-ghost use Rattle.std.specs.Prelude.{◌≡◌, ◌≤◌, Some, OnOk, IfErr, codes, false, pos, IfSome};
+ghost use Rattle.std.specs.Prelude.{◌≡◌, ◌≤◌, Some, OnOk, IfErr, codes, false, pos, IfSome, ◌||◌};
 ghost use Rattle.std.specs.Char.{encode_utf8};
 ghost use Rattle.dagcbor_heads.specs.Written.{Writes, WritesAtOnce, WantsMemoryOnlyIf};
 ghost use Rattle.ipld_tree.specs.Cid.{cid_bytes};
 ghost use Rattle.ipld_tree.specs.Tree.{null, boolean, integer, text, bytes, link, IsTree};
 ghost use Rattle.ipld_tree.specs.Spelling.{IsSpellable};
 ghost use Rattle.ipld_tree.specs.Spelled.{spelled, spelled_head, spelled_bytes, spelled_tree};
-ghost use Rattle.dagcbor_write.specs.Answers.{IsMessage};
+ghost use Rattle.dagcbor_write.specs.Answers.{OnMessage};
 ghost use Rattle.std.specs.Fmt.{◌++?◌};
 ghost use Rattle.dagcbor_write.specs.Trees.{variant_tree, variant_head};
 
@@ -123,8 +123,9 @@ impl<W: Write> Serializer<W> {
         ensures written { Writes (spelled (integer v))
             (W.written self.old) (W.written self.new) result }
         ensures memory { WantsMemoryOnlyIf W.takes_memory result }
-        ensures message { IfErr result
-            (IsMessage (codes "Integer must be within [-u64::MAX-1, u64::MAX] range")) }
+        ensures message { IfErr result (OnMessage
+            (λ m. (m ≡ codes "Integer must be within [-u64::MAX-1, u64::MAX] range")
+            × (self.new ≡ self.old))) }
     {
         let (major, magnitude) = if v < 0 { (1, -1 - v) } else { (0, v) };
         match u64::try_from(magnitude) {
@@ -177,8 +178,9 @@ impl<W: Write> Serializer<W> {
         ensures written { Writes (spelled (integer (pos v)))
             (W.written self.old) (W.written self.new) result }
         ensures memory { WantsMemoryOnlyIf W.takes_memory result }
-        ensures message { IfErr result
-            (IsMessage (codes "Unsigned integer must be within [0, u64::MAX] range")) }
+        ensures message { IfErr result (OnMessage
+            (λ m. (m ≡ codes "Unsigned integer must be within [0, u64::MAX] range")
+            × (self.new ≡ self.old))) }
     {
         match u64::try_from(v) {
             Ok(argument) => push_head(&mut self.writer, 0, argument),
@@ -271,6 +273,7 @@ impl<W: Write> Serializer<W> {
         ensures written { Writes (spelled_head major count)
             (W.written self.old) (W.written self.new) result }
         ensures memory { WantsMemoryOnlyIf W.takes_memory result }
+        ensures silent { IfErr result (OnMessage (λ _. ⊥)) }
     {
         push_head(&mut self.writer, major, count as u64)
     }
@@ -279,6 +282,7 @@ impl<W: Write> Serializer<W> {
     pub(crate) fn push(&mut self, bytes: &[u8]) -> WriteResult<(), W>
         ensures written { Writes (Some bytes.now) (W.written self.old) (W.written self.new) result }
         ensures memory { WantsMemoryOnlyIf W.takes_memory result }
+        ensures silent { IfErr result (OnMessage (λ _. ⊥)) }
     {
         if self.writer.push_at_once(bytes, &[]) {
             return Ok(());
@@ -291,6 +295,7 @@ impl<W: Write> Serializer<W> {
         ensures written { Writes (spelled_tree (T.tree value.now))
             (W.written self.old) (W.written self.new) result }
         ensures well_formed { OnOk result (IfSome (T.tree value.now) IsTree) }
+        ensures memory { WantsMemoryOnlyIf (T.takes_memory || W.takes_memory) result }
     {
         value.serialize(alloc, self)
     }
@@ -305,6 +310,7 @@ impl<W: Write> Serializer<W> {
         ensures written { Writes (spelled_tree (T.tree value.now))
             (W.written self.old) (W.written self.new) result }
         ensures well_formed { OnOk result (IfSome (T.tree value.now) IsTree) }
+        ensures memory { WantsMemoryOnlyIf (T.takes_memory || W.takes_memory) result }
     {
         self.serialize_some(alloc, value)
     }
@@ -337,6 +343,7 @@ impl<W: Write> Serializer<W> {
             (W.written self.old) (W.written self.new) result }
         ensures well_formed { OnOk result
             (IfSome (variant_tree variant.now (T.tree value.now)) IsTree) }
+        ensures memory { WantsMemoryOnlyIf (T.takes_memory || W.takes_memory) result }
     {
         self.push_variant(variant)?;
         Serialize::serialize(value, alloc, self)

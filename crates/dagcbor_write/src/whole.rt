@@ -1,6 +1,7 @@
 //! Writing one value.
 
-ghost use Rattle.std.specs.Prelude.{◌≡◌, ◌⊎◌, IfOk, IfErr};
+ghost use Rattle.std.specs.Prelude.{◌≡◌, ◌⊎◌, IfOk, IfErr, false, ◌||◌};
+ghost use Rattle.dagcbor_heads.specs.Written.{WantsMemoryOnlyIf};
 ghost use Rattle.dagcbor_heads.specs.declared.error.EncodeError.TheVariants.{OutOfMemory};
 ghost use Rattle.dagcbor_write.specs.Answers.{HasNoSpelling, AreSpellingOf, GrewBySpelling};
 ghost use Rattle.dagcbor_write.specs.Answers.{GrewByFront, IsWriteExcuse};
@@ -52,6 +53,7 @@ pub fn to_writer<W: io::Write, T: Serialize>(
     ensures refused { IfErr result (λ e. IsWriteExcuse e ⊎ HasNoSpelling (T.tree value.now)) }
     ensures sent { IfErr result
         (λ _. GrewByFront (T.tree value.now) (W.contents writer.old) (W.contents writer.new)) }
+    ensures memory { WantsMemoryOnlyIf (T.takes_memory || false) result }
 {
     let mut ser = Serializer::new(IoRefWriter::new(writer));
     let result = value.serialize(alloc, &mut ser);

@@ -4,7 +4,7 @@ use Rattle.std.specs.Prelude.{◌≡◌, ◌⊎◌, ℕ, List, map, Option, IfSo
 use Rattle.std.specs.Prelude.{MatchResult, Vec}
 use Rattle.std.specs.Io.KnownBytes.{Appends}
 use Rattle.std.specs.declared.alloc.Global.{Global}
-use Rattle.dagcbor_heads.specs.Written.{AppendsFront}
+use Rattle.dagcbor_heads.specs.Written.{AppendsSome, AppendsFront}
 use Rattle.ipld_tree.specs.Cid.{cid_bytes}
 use Rattle.ipld_tree.specs.CidIters.{cids_left}
 use Rattle.ipld_tree.specs.declared.cid_iter.CidIter.{CidIter}
@@ -26,13 +26,14 @@ abbrev pub HasNoEncoding : {D : Type 0} → (List ℕ → D → Type 0) → Opti
 HasNoEncoding is_encoding datum = IfSome datum (λ d. (b : List ℕ) → ¬ is_encoding b d)
 
 -- Known bytes of the device grew by an encoding of the value's data. Only a value that has none is
--- refused without an excuse; else a beginning of each encoding went out.
+-- refused without an excuse; else a beginning of each encoding went out. What the device held stays
+-- behind each refusal.
 abbrev pub Encodes : {D E : Type 0} → (List ℕ → D → Type 0) → (E → Type 0) → Option D
     → Option (List ℕ) → Result (Unit {0}) E → Option (List ℕ) → Type 0
 Encodes is_encoding is_excuse datum old result new = MatchResult result
     (λ _. IsSomeAnd datum (λ d. (b : List ℕ) × is_encoding b d × Appends old new b))
-    (λ e. HasNoEncoding is_encoding datum
-    ⊎ (is_excuse e × IfSome datum (λ d. (b : List ℕ) → is_encoding b d → AppendsFront old new b)))
+    (λ e. AppendsSome old new × (HasNoEncoding is_encoding datum
+    ⊎ (is_excuse e × IfSome datum (λ d. (b : List ℕ) → is_encoding b d → AppendsFront old new b))))
 
 -- An encoding of the value's data is answered. Only a value that has none is refused without an
 -- excuse.

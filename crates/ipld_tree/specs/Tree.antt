@@ -117,6 +117,17 @@ pair_of p = option_and_then (λ k. option_map (λ t. (k, t)) p.1) (option_and_th
 abbrev pub entries_tree : List (Option Tree × Option Tree) → Option Tree
 entries_tree ps = option_and_then map_tree (all_some (map pair_of ps))
 
+-- the kinds that hold no bytes and no parts of their own: a value of these takes no memory
+abbrev pub IsBare : Tree → Type 0
+IsBare null = ⊤
+IsBare (boolean b) = ⊤
+IsBare (integer n) = ⊤
+IsBare (text s) = ⊥
+IsBare (bytes s) = ⊥
+IsBare (list ts) = ⊥
+IsBare (mapping es) = ⊥
+IsBare (link cid) = ⊤
+
 -- ---- depth and links
 
 -- The steps that an untyped read takes: 1 for a leaf, 2 and the greatest need inside for a list or

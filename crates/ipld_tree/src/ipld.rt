@@ -1,10 +1,10 @@
 //! A tree as a value.
 
-ghost use Rattle.std.specs.Prelude.{◌≡◌, ◌-◌, ◌^◌, min, ◌↔◌, map, string_cmp, IsTrue, IfOk};
+ghost use Rattle.std.specs.Prelude.{◌≡◌, ◌-◌, ◌^◌, min, ◌↔◌, map, string_cmp, IsTrue, IfOk, IsOk};
 ghost use Rattle.std.specs.List.Sorted.{IsStrictlySortedBy};
 ghost use Rattle.std.specs.Map.{keys_of};
 ghost use Rattle.ipld_tree.specs.Cid.{cid_bytes};
-ghost use Rattle.ipld_tree.specs.Tree.{any_need, items_need, items_of};
+ghost use Rattle.ipld_tree.specs.Tree.{any_need, items_need, items_of, IsBare};
 ghost use Rattle.ipld_tree.specs.Ipld.{tree_of, trees_of, pairs_of};
 
 use crate::cid::Cid;
@@ -40,7 +40,8 @@ impl Ipld {
     /// An equal value. An `Err` leaves this one as it was.
     #[cycle(try_clone)]
     pub fn try_clone(&self, alloc: Global) -> Result<Ipld, AllocError>
-        ensures { IfOk result (λ copy. tree_of copy ≡ tree_of self.now) }
+        ensures same { IfOk result (λ copy. tree_of copy ≡ tree_of self.now) }
+        ensures bare { IsBare (tree_of self.now) → IsOk result }
     {
         match self {
             Ipld::Null => Ok(Ipld::Null),

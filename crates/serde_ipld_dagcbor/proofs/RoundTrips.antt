@@ -20,12 +20,12 @@ some_same a b e = cc e
 
 module _ {T V : Type 0} (held : T → V) (shape : Shape Tree V) (tree : T → Option Tree) where
   pub typed_read_then_written : TypedReadThenWritten held shape tree
-  typed_read_then_written b value (Ok v) own h w = let a = subst (λ o. AreSpellingOf o v.items) (own h.0 h.2) w in a.is ∙ sym h.1.is
+  typed_read_then_written b value (Ok v) own h w = let a = subst (λ o. AreSpellingOf o v.items) (own h.0 h.1 h.2) w in a.is ∙ sym h.1.is
   typed_read_then_written b value (Err e) own h w = by e w
     where
       by : (e : EncodeError Infallible) → (e ≡ unwritten.OutOfMemory) ⊎ HasNoSpelling (tree value) → IsWrittenBack b (Err e)
       by unwritten.OutOfMemory w = tt
-      by (unwritten.Msg m) w = elim w [ inl k ↦ absurd (cc k) | inr k ↦ subst HasNoSpelling (own h.0 h.2) k h.1.spellable ]
+      by (unwritten.Msg m) w = elim w [ inl k ↦ absurd (cc k) | inr k ↦ subst HasNoSpelling (own h.0 h.1 h.2) k h.1.spellable ]
       by (unwritten.Write x) w = elim x [ ]
 
   no_refusal : (x : V) (b : List ℕ) (e : DecodeError Infallible) → IsWhole shape default_steps b x → ((e ≡ OutOfMemory) ⊎ HoldsNoValue shape default_steps b) × OfWhole e → IsReadBack held x (Err e)
@@ -42,7 +42,7 @@ module _ {T V : Type 0} (held : T → V) (shape : Shape Tree V) (tree : T → Op
   typed_written_then_read value t x v (Err e) is shows within w r = no_refusal x v.items e (t, subst (λ o. AreSpellingOf o v.items) is w, shows, within) r
 
 pub read_then_written : ReadThenWritten
-read_then_written b value written h w = typed_read_then_written tree_of any_tree (λ v. Some (tree_of v)) b value written (λ t e. sym e) h w
+read_then_written b value written h w = typed_read_then_written tree_of any_tree (λ v. Some (tree_of v)) b value written (λ t s e. sym e) h w
 
 pub written_then_read : WrittenThenRead
 written_then_read value v read w within r = typed_written_then_read tree_of any_tree (λ v. Some (tree_of v)) value (tree_of value) (tree_of value) v read refl refl within w r

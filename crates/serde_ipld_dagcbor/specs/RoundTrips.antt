@@ -8,6 +8,7 @@ use Rattle.dagcbor_heads.specs.declared.error.DecodeError.TheVariants as unread
 use Rattle.dagcbor_heads.specs.declared.error.EncodeError.{EncodeError}
 use Rattle.dagcbor_heads.specs.declared.error.EncodeError.TheVariants as unwritten
 use Rattle.ipld_tree.specs.Tree.{Tree, any_need}
+use Rattle.ipld_tree.specs.Spelling.{IsSpelling}
 use Rattle.ipld_tree.specs.Ipld.{tree_of}
 use Rattle.ipld_tree.specs.declared.ipld.Ipld.{Ipld}
 use Rattle.dagcbor_write.specs.Answers.{AreSpellingOf, HasNoSpelling}
@@ -39,7 +40,7 @@ IsWrittenBack b (Err _) = ⊥
 abbrev pub TypedReadThenWritten : {T V : Type 0} → (T → V) → Shape Tree V → (T → Option Tree)
     → Type 0
 TypedReadThenWritten {T} held shape tree = (b : List ℕ) (value : T) (written : Result (Vec ℕ Global) (EncodeError Infallible))
-    → ((t : Tree) → shape.view t ≡ Some (held value) → tree value ≡ Some t)
+    → ((t : Tree) → IsSpelling b t → shape.view t ≡ Some (held value) → tree value ≡ Some t)
     → IsWhole shape default_steps b (held value) → IsWritten (tree value) written
     → IsWrittenBack b written
 

@@ -1,7 +1,7 @@
 //! A struct that holds a list of structs and an enum, with a field that is left out where it is
 //! `None`.
 
-ghost use Rattle.std.specs.Prelude.{Some, [], ◌∷◌, codes, pos, string_bytes};
+ghost use Rattle.std.specs.Prelude.{Some, [], ◌∷◌, codes, pos, string_bytes, false, true};
 ghost use Rattle.serde_ipld_dagcbor.specs.Tree.{text, integer, entries_tree};
 ghost use Rattle.serde_ipld_dagcbor.specs.Trees.{field, optional};
 ghost use Rattle.uses.specs.Album.{TrackView, AlbumView};
@@ -48,6 +48,8 @@ impl Serialize for Format {
       | Disc ↦ Some (text (codes "Disc"))
     ] };
 
+    ghost takes_memory = { false };
+
     fn serialize<W: Write>(&self, _alloc: Global, ser: &mut Serializer<W>) -> WriteResult<(), W> {
         match self {
             Format::Vinyl => ser.serialize_unit_variant("Format", 0, "Vinyl"),
@@ -62,6 +64,8 @@ impl Serialize for Track {
         (optional (codes "note") (λ s. Some (text (string_bytes s))) t.note
         (field (codes "title") (Some (text (string_bytes t.title)))
         ∷ field (codes "seconds") (Some (integer (pos t.seconds))) ∷ [])) };
+
+    ghost takes_memory = { true };
 
     fn serialize<W: Write>(&self, alloc: Global, ser: &mut Serializer<W>) -> WriteResult<(), W> {
         let fields = (
@@ -81,6 +85,8 @@ impl Serialize for Album {
         (field (codes "title") (Some (text (string_bytes a.title)))
         ∷ field (codes "format") (⟦<Format as Serialize>⟧.tree a.format)
         ∷ field (codes "tracks") (⟦<Vec<Track> as Serialize>⟧.tree a.tracks) ∷ [])) };
+
+    ghost takes_memory = { true };
 
     fn serialize<W: Write>(&self, alloc: Global, ser: &mut Serializer<W>) -> WriteResult<(), W> {
         let fields = (

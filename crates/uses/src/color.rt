@@ -1,6 +1,6 @@
 //! An enum: unit variants, and variants that hold one or two parts.
 
-ghost use Rattle.std.specs.Prelude.{Some, [], ◌∷◌, codes, pos};
+ghost use Rattle.std.specs.Prelude.{Some, [], ◌∷◌, codes, pos, true};
 ghost use Rattle.serde_ipld_dagcbor.specs.Tree.{text, integer, list_tree};
 ghost use Rattle.serde_ipld_dagcbor.specs.Trees.{variant_tree};
 ghost use Rattle.uses.specs.Color.{color_variants, color_shape};
@@ -35,6 +35,8 @@ impl Serialize for Color {
       | Other n ↦ variant_tree (codes "Other") (Some (integer (pos n)))
       | Alpha n a ↦ variant_tree (codes "Alpha") (list_tree (Some (integer (pos n)) ∷ Some (integer (pos a)) ∷ []))
     ] };
+
+    ghost takes_memory = { true };
 
     fn serialize<W: Write>(&self, alloc: Global, ser: &mut Serializer<W>) -> WriteResult<(), W> {
         match self {

@@ -1,6 +1,6 @@
 //! A struct that goes to devices and comes from them.
 
-ghost use Rattle.std.specs.Prelude.{Some, [], ◌∷◌, codes, pos, string_bytes, refl};
+ghost use Rattle.std.specs.Prelude.{Some, [], ◌∷◌, codes, pos, string_bytes, refl, true};
 ghost use Rattle.serde_ipld_dagcbor.specs.Tree.{text, integer, entries_tree};
 ghost use Rattle.serde_ipld_dagcbor.specs.Trees.{field};
 ghost use Rattle.uses.specs.Mascot.{MascotView, mascot_shape};
@@ -23,6 +23,8 @@ impl Serialize for Mascot {
     ghost tree = { λ p. entries_tree (field (codes "name") (Some (text (string_bytes p.name)))
         ∷ field (codes "species") (Some (text (string_bytes p.species)))
         ∷ field (codes "year_of_birth") (Some (integer (pos p.year_of_birth))) ∷ []) };
+
+    ghost takes_memory = { true };
 
     fn serialize<W: Write>(&self, alloc: Global, ser: &mut Serializer<W>) -> WriteResult<(), W> {
         let fields = (

@@ -1,6 +1,6 @@
 //! The struct of the first example of the README, word for word.
 
-ghost use Rattle.std.specs.Prelude.{Some, [], ◌∷◌, codes, pos, string_bytes};
+ghost use Rattle.std.specs.Prelude.{Some, [], ◌∷◌, codes, pos, string_bytes, true};
 ghost use Rattle.serde_ipld_dagcbor.specs.Tree.{text, integer, entries_tree};
 ghost use Rattle.serde_ipld_dagcbor.specs.Trees.{field};
 ghost use Rattle.uses.specs.Note.{NoteView, note_shape};
@@ -21,6 +21,8 @@ pub struct Note {
 impl Serialize for Note {
     ghost tree = { λ n. entries_tree (field (codes "year") (Some (integer (pos n.year)))
         ∷ field (codes "text") (Some (text (string_bytes n.text))) ∷ []) };
+
+    ghost takes_memory = { true };
 
     fn serialize<W: Write>(&self, alloc: Global, ser: &mut Serializer<W>) -> WriteResult<(), W> {
         let fields = (Field("year", &self.year), (Field("text", &self.text), ()));

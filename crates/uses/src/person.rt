@@ -1,6 +1,6 @@
 //! A struct with a field that may be absent.
 
-ghost use Rattle.std.specs.Prelude.{Some, [], ◌∷◌, codes, pos, string_bytes, option_map};
+ghost use Rattle.std.specs.Prelude.{Some, [], ◌∷◌, codes, pos, string_bytes, option_map, true};
 ghost use Rattle.serde_ipld_dagcbor.specs.Tree.{text, integer, entries_tree};
 ghost use Rattle.serde_ipld_dagcbor.specs.Trees.{option_tree, field};
 ghost use Rattle.uses.specs.Person.{PersonView, person_shape};
@@ -23,6 +23,8 @@ impl Serialize for Person {
     ghost tree = { λ p. entries_tree (field (codes "name") (Some (text (string_bytes p.name)))
         ∷ field (codes "year_of_birth") (Some (integer (pos p.year_of_birth)))
         ∷ field (codes "profession") (option_tree (λ s. Some (text (string_bytes s))) p.profession) ∷ []) };
+
+    ghost takes_memory = { true };
 
     fn serialize<W: Write>(&self, alloc: Global, ser: &mut Serializer<W>) -> WriteResult<(), W> {
         let fields = (

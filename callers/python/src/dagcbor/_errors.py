@@ -1,4 +1,4 @@
-"""Why bytes are no block, and why data has none."""
+"""Why bytes are no block, why data has none, and why a text is that of no CID."""
 
 import bisect
 
@@ -16,11 +16,19 @@ REASONS = {
     -15: ("IndefiniteSize", "an indefinite length or a break"),
     -16: ("NonMinimal", "a number or a length in more bytes than it needs"),
     -17: ("UnorderedKey", "a key that does not come behind the one before it"),
+    -26: ("InvalidCid", "the bytes are no CID"),
+    -28: ("UnknownBase", "the first character of the text names no base that is read here"),
+    -29: ("TooLong", "the text is longer than that of any CID"),
+    -30: ("InvalidCharacter", "a character is not in the alphabet of the base"),
+    -31: ("InvalidLength", "the last character begins a byte and does not end it"),
+    -32: ("TrailingBits", "bits that are not zero stand behind the last byte"),
+    -33: ("LeadingZero", "the text begins with a zero byte, as no CID does"),
+    -34: ("InvalidVersion", "version 0 has no prefix, and version 1 has one"),
 }
 
 
 class DagCborError(ValueError):
-    """Bytes that are no block, or data that has none.
+    """Bytes that are no block, data that has none, or what is no CID.
 
     `kind` names the reason, as the library does. `place` is None where it is not known. Of bytes it
     is the offset of the first byte that no block has there, whatever follows: it is searched for

@@ -1,6 +1,6 @@
 //! Whole files.
 
-ghost use Rattle.std.specs.Prelude.{⊤};
+ghost use Rattle.std.specs.Prelude.{⊤, true};
 
 use crate::tests::sections::{CHANGED, EMPTY, HEADER, NUMBERS, SECTION, UNORDERED};
 use dagcbor_car::{CarError, Section, Verdict, VerdictSink, check_car};
@@ -26,14 +26,32 @@ const PARENT: &[u8] =
 const FOO: &[u8] =
     b"\x01\x55\x12\x20\x2c\x26\xb4\x6b\x68\xff\xc6\x8f\xf9\x9b\x45\x3c\x1d\x30\x41\x34\x13\x42\x2d\x70\x64\x83\xbf\xa0\xf9\x8a\x5e\x88\x62\x66\xe7\xae";
 
+/// A name by another hash function.
+const OTHER: &[u8] = b"\x01\x55\x13\x02\x05\x06";
+
+/// The section of "foo", of the codec 0x55, with a digest of twenty bytes.
+const FOO_CUT: &[u8] =
+    b"\x1b\x01\x55\x12\x14\x2c\x26\xb4\x6b\x68\xff\xc6\x8f\xf9\x9b\x45\x3c\x1d\x30\x41\x34\x13\x42\x2d\x70\x66\x6f\x6f";
+
+/// The header of a root by the identity, whose block is a link to `OTHER`.
+const INLINE_ROOT: &[u8] =
+    b"\x23\xa2\x65\x72\x6f\x6f\x74\x73\x81\xd8\x2a\x4f\x00\x01\x71\x00\x0a\xd8\x2a\x47\x00\x01\x55\x13\x02\x05\x06\x67\x76\x65\x72\x73\x69\x6f\x6e\x01";
+
+/// The section of a block by the identity. It is a link by the identity, whose block is another
+/// one, whose block is a link to `OTHER`.
+const INLINE_TWICE: &[u8] =
+    b"\x38\x01\x71\x00\x1a\xd8\x2a\x57\x00\x01\x71\x00\x12\xd8\x2a\x4f\x00\x01\x71\x00\x0a\xd8\x2a\x47\x00\x01\x55\x13\x02\x05\x06\xd8\x2a\x57\x00\x01\x71\x00\x12\xd8\x2a\x4f\x00\x01\x71\x00\x0a\xd8\x2a\x47\x00\x01\x55\x13\x02\x05\x06";
+
 /// A letter for each verdict.
 #[derive(Drop)]
-struct Letters {
-    letters: Vec<u8>,
+pub(crate) struct Letters {
+    pub(crate) letters: Vec<u8>,
 }
 
 impl VerdictSink for Letters {
     ghost holds = { λ _ _. ⊤ };
+
+    ghost takes_memory = { true };
 
     fn take(&mut self, _section: &Section<'_>, verdict: &Verdict) -> Result<(), AllocError> {
         let letter = match verdict {
@@ -93,8 +111,23 @@ const FILES: &[(&[&[u8]], &[u8], &[&[u8]])] = &[
             b"\x08\x01\x55\x13\x02\x05\x06\x78\x79",
         ],
         b"BU",
-        &[b"\x01\x55\x13\x02\x05\x06"],
+        &[OTHER],
     ),
+    // The first twenty bytes of a SHA-256.
+    (&[EMPTY, FOO_CUT], b"U", &[]),
+    // A root by the identity, whose block links to that name.
+    (&[INLINE_ROOT], b"", &[OTHER]),
+    // A link to a name by the identity, of a block of another codec.
+    (
+        &[
+            EMPTY,
+            b"\x16\x01\x71\x00\x09\xd8\x2a\x46\x00\x01\x55\x00\x01\x78\xd8\x2a\x46\x00\x01\x55\x00\x01\x78",
+        ],
+        b"B",
+        &[],
+    ),
+    // A link to a name by the identity, in whose block one stands whose block links to that name.
+    (&[EMPTY, INLINE_TWICE], b"B", &[OTHER]),
 ];
 
 #[test]

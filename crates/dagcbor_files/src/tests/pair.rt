@@ -1,6 +1,6 @@
 //! A struct written by hand, which has the name of a map of the same entries.
 
-ghost use Rattle.std.specs.Prelude.{Some, [], ◌∷◌, codes, pos};
+ghost use Rattle.std.specs.Prelude.{Some, [], ◌∷◌, codes, pos, true};
 ghost use Rattle.serde_ipld_dagcbor.specs.Tree.{integer, entries_tree};
 ghost use Rattle.serde_ipld_dagcbor.specs.Trees.{field};
 
@@ -19,6 +19,8 @@ struct Pair {
 impl Serialize for Pair {
     ghost tree = { λ p. entries_tree (field (codes "a") (Some (integer (pos p.a)))
         ∷ field (codes "b") (Some (integer (pos p.b))) ∷ []) };
+
+    ghost takes_memory = { true };
 
     fn serialize<W: Write>(&self, alloc: Global, ser: &mut Serializer<W>) -> WriteResult<(), W> {
         let fields = (Field("a", &self.a), (Field("b", &self.b), ()));

@@ -1,10 +1,12 @@
 //! The items of a list, or the entries of a map, one at a time.
 
 ghost use Rattle.std.specs.Prelude.{◌≡◌, ◌↔◌, ◌+◌, ◌<◌, ◌≤◌, ⊤, true, false, Some, IfOk, IfErr};
-ghost use Rattle.std.specs.Prelude.{IfSome};
+ghost use Rattle.std.specs.Prelude.{IfSome, MatchBool};
 ghost use Rattle.std.specs.Cow.{cow_str_bytes, IsBorrowedStr};
 ghost use Rattle.dagcbor_heads.specs.Reading.{with_steps};
+ghost use Rattle.dagcbor_heads.specs.Looking.{Looks};
 ghost use Rattle.dagcbor_read.specs.Deserializers.{de_state, Call, AreOut, Over};
+ghost use Rattle.dagcbor_items.specs.Entries.{HasName};
 ghost use Rattle.dagcbor_items.specs.TypedReads.{Reads, Anything};
 ghost use Rattle.dagcbor_items.specs.AnsweredVariants.{OfKey};
 ghost use Rattle.dagcbor_read.specs.Values.{ReadsPart};
@@ -44,7 +46,7 @@ pub(crate) fn copied<'de>(alloc: Global, key: &CowStr<'de>) -> Result<CowStr<'de
 
 /// Gives so many steps back.
 pub(crate) fn give_back<R: Read>(reader: &mut R, steps: usize)
-    requires { (R.reading reader.old).steps + steps ≤ (R.reading reader.old).budget }
+    requires { 0 < steps → (R.reading reader.old).steps + steps ≤ (R.reading reader.old).budget }
     ensures { R.reading reader.new ≡ with_steps ((R.reading reader.old).steps + steps)
         (R.reading reader.old) }
 {
@@ -58,6 +60,7 @@ impl<'de> Accessor<'de> {
     ghost use Rattle.dagcbor_read.specs.Accessors.{after_element, ReadsNextKey, after_key};
     ghost use Rattle.dagcbor_read.specs.Accessors.{with_key};
     ghost use Rattle.dagcbor_read.specs.Accessors.{after_value, with_value, EndsItems};
+    ghost use Rattle.dagcbor_read.specs.Named.{TakesName};
 
     /// Nothing of it is read so far.
     pub(crate) fn new(name: Name, is_map: bool, announced: usize, steps: usize) -> Accessor<'de>
@@ -93,6 +96,14 @@ impl<'de> Accessor<'de> {
         ensures { result ≡ Some (accessor_state self.now).left }
     {
         Some(self.left)
+    }
+
+    /// How many items are left, as `size_hint` says it.
+    #[inline(always)]
+    pub(crate) fn left(&self) -> usize
+        ensures { result ≡ (accessor_state self.now).left }
+    {
+        self.left
     }
 
     /// The next item of a list, where one is left.
@@ -134,6 +145,8 @@ impl<'de> Accessor<'de> {
             (λ o. IfSome o (λ k. IsBorrowedStr k
             ↔ ((de_state R.reading de.old).input.lends ≡ true))) }
         ensures variant { IfErr result OfKey }
+        ensures looked { Looks 3 (de_state R.reading de.old).input result
+            (de_state R.reading de.new).input }
     {
         if self.left == 0 {
             de.check()?;
@@ -149,6 +162,28 @@ impl<'de> Accessor<'de> {
             }
         }
         self.next_key_slowly(alloc, de)
+    }
+
+    /// Takes the next key, where it is this name and a slice has it whole.
+    #[inline(always)]
+    pub(crate) fn take_name<R: Read>(&mut self, name: &str, de: &mut Deserializer<'de, R>) -> bool
+        requires some { 0 < (accessor_state self.old).left }
+        requires sound { (de_state R.reading de.old).failed ≡ false }
+        ensures { MatchBool result
+            ((accessor_state self.new ≡ with_key name.now (accessor_state self.old))
+            × TakesName (accessor_state self.old).last name.now (de_state R.reading de.old)
+            (de_state R.reading de.new))
+            ((accessor_state self.new ≡ accessor_state self.old) × (de.new ≡ de.old)
+            × (¬ HasName (accessor_state self.old).last name.now
+            (de_state R.reading de.old).input)) }
+    {
+        match de.take_name(&self.last, name) {
+            Some(key) => {
+                self.note_key(CowStr::Borrowed(key));
+                true
+            }
+            None => false,
+        }
     }
 
     /// The key was read, and its value is to be read now.
@@ -180,6 +215,8 @@ impl<'de> Accessor<'de> {
             (λ o. IfSome o (λ k. IsBorrowedStr k
             ↔ ((de_state R.reading de.old).input.lends ≡ true))) }
         ensures variant { IfErr result OfKey }
+        ensures looked { Looks 3 (de_state R.reading de.old).input result
+            (de_state R.reading de.new).input }
     {
         let (key, last) = de.read_key_after(alloc, &self.last)?;
         self.note_key(last);

@@ -2,7 +2,8 @@
 
 ghost use Rattle.std.specs.Prelude.{◌≡◌, ◌↔◌, true, IfOk, IfErr, codes};
 ghost use Rattle.std.specs.Cow.{IsBorrowedStr};
-ghost use Rattle.dagcbor_read.specs.Deserializers.{de_state, Call, AreOut, Over};
+ghost use Rattle.dagcbor_heads.specs.Looking.{Looks};
+ghost use Rattle.dagcbor_read.specs.Deserializers.{de_state, Call, AreOut, Over, LooksAtFirst};
 ghost use Rattle.dagcbor_read.specs.Enums.{enum_state, BeginsEnum, SpendsEnum, ReadsName};
 ghost use Rattle.dagcbor_read.specs.Enums.{IsOtherForm, EntersMap, EndsUnit, ReadsHeld, BeginsHeld};
 ghost use Rattle.dagcbor_read.specs.Enums.{OfForm};
@@ -31,6 +32,8 @@ pub struct EnumAccessor {
 fn pull_form<R: Read>(reader: &mut R) -> ReadResult<EnumAccessor, R>
     ensures form { BeginsEnum (R.reading reader.old) result (R.reading reader.new) }
     ensures variant { IfErr result OfByte }
+    ensures looked { LooksAtFirst (λ a. (enum_state a).in_map) (R.reading reader.old) result
+        (R.reading reader.new) }
 {
     let first = peek_one("enum", reader)?;
     let in_map = first == 0xa1;
@@ -51,6 +54,8 @@ fn pull_form<R: Read>(reader: &mut R) -> ReadResult<EnumAccessor, R>
 pub(crate) fn spend_form<R: Read>(name: &str, reader: &mut R) -> ReadResult<EnumAccessor, R>
     ensures form { SpendsEnum name.now (R.reading reader.old) result (R.reading reader.new) }
     ensures variant { IfErr result OfForm }
+    ensures looked { LooksAtFirst (λ a. (enum_state a).in_map) (R.reading reader.old) result
+        (R.reading reader.new) }
 {
     spend_step(name, reader)?;
     let mut form = pull_form(reader)?;
@@ -63,6 +68,8 @@ impl EnumAccessor {
     pub fn enum_<'de, R: Read>(de: &mut Deserializer<'de, R>) -> ReadResult<EnumAccessor, R>
         ensures form { Over R.reading (Call BeginsEnum) de.old result de.new }
         ensures variant { IfErr result OfByte }
+        ensures looked { LooksAtFirst (λ a. (enum_state a).in_map)
+            (de_state R.reading de.old).input result (de_state R.reading de.new).input }
     {
         de.begin()?;
         let form = pull_form(&mut de.input)?;
@@ -81,6 +88,8 @@ impl EnumAccessor {
         ensures lent { IfOk result
             (λ v. IsBorrowedStr v.0 ↔ ((de_state R.reading de.old).input.lends ≡ true)) }
         ensures variant { IfErr result OfText }
+        ensures looked { Looks 3 (de_state R.reading de.old).input result
+            (de_state R.reading de.new).input }
     {
         let name = de.deserialize_identifier(alloc)?;
         Ok((name, self))
@@ -128,6 +137,8 @@ impl EnumAccessor {
         ensures begun { Over R.reading
             (Call (BeginsHeld 4 (codes "tuple") (enum_state self))) de.old result de.new }
         ensures variant { IfErr result OfBegin }
+        ensures looked { Looks 3 (de_state R.reading de.old).input result
+            (de_state R.reading de.new).input }
     {
         self.enter_map(de)?;
         de.begin_items("tuple", 4, self.steps)
@@ -144,6 +155,8 @@ impl EnumAccessor {
         ensures begun { Over R.reading
             (Call (BeginsHeld 5 (codes "map") (enum_state self))) de.old result de.new }
         ensures variant { IfErr result OfBegin }
+        ensures looked { Looks 3 (de_state R.reading de.old).input result
+            (de_state R.reading de.new).input }
     {
         self.enter_map(de)?;
         de.begin_items("map", 5, self.steps)

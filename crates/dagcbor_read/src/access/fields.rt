@@ -1,20 +1,23 @@
 //! What the entries of a map make: the places of a struct, or a map.
 
-ghost use Rattle.std.specs.Prelude.{◌≡◌, ◌+◌, ◌≤◌, ℕ, List, [], Bool, Option, option_map, true};
-ghost use Rattle.std.specs.Prelude.{false, codes, IfOk, IfErr, IfSome};
+ghost use Rattle.std.specs.Prelude.{◌≡◌, ◌+◌, ◌<◌, ◌≤◌, ℕ, List, [], Bool, Option, option_map, true};
+ghost use Rattle.std.specs.Prelude.{false, codes, IfOk, IfErr, IfSome, None};
 ghost use Rattle.ipld_tree.specs.Tree.{Tree, any_need};
 ghost use Rattle.dagcbor_items.specs.Shapes.{ignored_item};
-ghost use Rattle.dagcbor_read.specs.Deserializers.{de_state, StaysFailed, Over};
+ghost use Rattle.dagcbor_items.specs.Looks.{LooksAtAny};
+ghost use Rattle.dagcbor_read.specs.Deserializers.{de_state, StaysFailed, Stops, StopsBy};
+ghost use Rattle.dagcbor_read.specs.Deserializers.{Over};
 ghost use Rattle.dagcbor_read.specs.Values.{ReadsValue, RefusesToBegin};
 ghost use Rattle.dagcbor_read.specs.Accessors.{accessor_state, HasHeadOf, BeginsItems};
 ghost use Rattle.dagcbor_read.specs.Collections.{FieldShape, fields_of, value_of, slot_of};
 ghost use Rattle.dagcbor_read.specs.Collections.{ReadsEntriesLeft};
+ghost use Rattle.dagcbor_read.specs.Named.{ReadsNamed, ReadsByKey};
 ghost use Rattle.dagcbor_read.specs.Structs.{texts};
 
 use crate::access::accessor::Accessor;
 use crate::deserialize::Deserialize;
 use crate::deserializer::Deserializer;
-use dagcbor_heads::{Read, ReadResult};
+use dagcbor_heads::{DecodeError, Read, ReadResult};
 use std::alloc::Global;
 
 /// What the entries of a map make: the fields of a struct, or a map of the caller's.
@@ -44,7 +47,7 @@ pub trait Fields<'de>: Sized + Drop {
     fn unread(alloc: Global) -> Self::Places
         ensures { state result ≡ unread };
 
-    /// Reads the value of the key, or skips it.
+    /// Reads the value of the key, or skips it. A refusal leaves the places as they were.
     fn read_field<R: Read>(
         places: &mut Self::Places,
         alloc: Global,
@@ -52,14 +55,62 @@ pub trait Fields<'de>: Sized + Drop {
         key: &str,
         de: &mut Deserializer<'de, R>,
     ) -> ReadResult<(), R>
-        ensures { Over R.reading
+        requires { (de_state R.reading de.old).failed ≡ false }
+        ensures value { Over R.reading
             (ReadsValue (λ _. state places.new)
             (value_of (Self.shape (texts names.now)) (state places.old) key.now)) de.old result
-            de.new };
+            de.new }
+        ensures kept { IfErr result (λ _. state places.new ≡ state places.old) }
+        ensures stops { Over R.reading Stops de.old result de.new };
+
+    /// Reads the next entry and its value, where its key is one of the names and a slice has it
+    /// whole. Why the value was refused goes into `refusal`, which is none. It may read nothing.
+    fn read_named<R: Read>(
+        places: &mut Self::Places,
+        alloc: Global,
+        names: &[&str],
+        entries: &mut Accessor<'de>,
+        de: &mut Deserializer<'de, R>,
+        refusal: &mut Option<DecodeError<R::Error>>,
+    ) -> bool
+        requires some { 0 < (accessor_state entries.old).left }
+        requires sound { (de_state R.reading de.old).failed ≡ false }
+        requires none { refusal.old ≡ None }
+        ensures entry { ReadsNamed (Self.shape (texts names.now)) (state places.old)
+            (accessor_state entries.old) (de_state R.reading de.old) result refusal.new
+            (state places.new) (accessor_state entries.new) (de_state R.reading de.new) }
+        ensures stops { IfSome refusal.new (λ e. StopsBy e (de_state R.reading de.new)) };
 
     /// What the places make once all was read. None where a field is missing.
     fn finish(places: Self::Places) -> Option<Self>
         ensures { option_map meaning result ≡ finish (state places) };
+}
+
+/// Reads the next entry, whatever its key, and its value.
+#[cold]
+#[inline(never)]
+fn read_by_key<'de, F: Fields<'de>, R: Read>(
+    places: &mut F::Places,
+    alloc: Global,
+    names: &[&str],
+    entries: &mut Accessor<'de>,
+    de: &mut Deserializer<'de, R>,
+) -> ReadResult<(), R>
+    requires map { (accessor_state entries.old).is_map ≡ true }
+    requires in_turn { (accessor_state entries.old).owes_value ≡ false }
+    requires some { 0 < (accessor_state entries.old).left }
+    requires sound { (de_state R.reading de.old).failed ≡ false }
+    ensures entry { ReadsByKey (F.shape (texts names.now)) (F.state places.old)
+        (accessor_state entries.old) (de_state R.reading de.old) result (F.state places.new)
+        (accessor_state entries.new) (de_state R.reading de.new) }
+    ensures stops { Over R.reading Stops de.old result de.new }
+{
+    let Some(key) = entries.next_key(alloc, de)? else {
+        return Ok(());
+    };
+    F::read_field(places, alloc, names, key.as_str(), de)?;
+    entries.note_value();
+    Ok(())
 }
 
 /// Reads all that is left of a map, and ends it.
@@ -74,15 +125,22 @@ pub(crate) fn read_entries_left<'de, F: Fields<'de>, R: Read>(
     requires sound { (de_state R.reading de.old).failed ≡ false }
     requires out { (de_state R.reading de.old).input.steps + (accessor_state entries).steps ≤
         (de_state R.reading de.old).input.budget }
-    ensures { Over R.reading
+    ensures entries { Over R.reading
         (ReadsEntriesLeft F.state (F.shape (texts names.now)) F.unread
         (accessor_state entries.entry)) de.old result de.new }
+    ensures stops { Over R.reading Stops de.old result de.new }
 {
     let mut places = F::unread(alloc);
     let mut entries = entries;
-    while let Some(key) = entries.next_key(alloc, de)? {
-        F::read_field(&mut places, alloc, names, key.as_str(), de)?;
-        entries.note_value();
+    while entries.left() > 0 {
+        let mut refusal = None;
+        if F::read_named(&mut places, alloc, names, &mut entries, de, &mut refusal) {
+            continue;
+        }
+        if let Some(e) = refusal {
+            return Err(e);
+        }
+        read_by_key::<F, R>(&mut places, alloc, names, &mut entries, de)?;
     }
     entries.end(de)?;
     Ok(places)
@@ -98,6 +156,7 @@ pub fn read_fields<'de, F: Fields<'de>, R: Read>(
     ensures named { Over R.reading
         (RefusesToBegin (HasHeadOf 5) (BeginsItems 5 (codes "map") 1)) de.old result de.new }
     ensures failed { Over R.reading StaysFailed de.old result de.new }
+    ensures stops { Over R.reading Stops de.old result de.new }
 {
     let entries = de.deserialize_map()?;
     read_entries_left::<F, R>(alloc, &[], entries, de)
@@ -113,6 +172,7 @@ pub fn read_into<'de, T: Deserialize<'de>, R: Read>(
         (ReadsValue (λ _. option_map T.meaning place.new) (slot_of T.shape)) de.old result de.new }
     ensures kept { IfErr result (λ _. place.new ≡ place.old) }
     ensures failed { Over R.reading StaysFailed de.old result de.new }
+    ensures stops { Over R.reading Stops de.old result de.new }
     ensures lies { IfOk result
         (λ _. IfSome place.new (T.lies (de_state R.reading de.old).input.lends)) }
 {
@@ -125,6 +185,9 @@ pub fn read_into<'de, T: Deserialize<'de>, R: Read>(
 pub fn skip_value<'de, R: Read>(alloc: Global, de: &mut Deserializer<'de, R>) -> ReadResult<(), R>
     ensures value { Over R.reading (ReadsValue (λ _. tt) ignored_item) de.old result de.new }
     ensures failed { Over R.reading StaysFailed de.old result de.new }
+    ensures stops { IfErr result (λ _. (de_state R.reading de.new).failed ≡ true) }
+    ensures looked { LooksAtAny (de_state R.reading de.old).input result
+        (de_state R.reading de.new).input }
 {
     de.deserialize_ignored_any(alloc)
 }

@@ -4,7 +4,7 @@ ghost use Rattle.std.specs.Prelude.{◌≡◌, ◌+◌, ◌≤◌, ℕ, Bool, Li
 ghost use Rattle.std.specs.Prelude.{⊤, MatchResult, IfOk, All};
 ghost use Rattle.dagcbor_heads.specs.Refusals.{Refuses};
 ghost use Rattle.ipld_tree.specs.Tree.{Items};
-ghost use Rattle.dagcbor_read.specs.Deserializers.{de_state, StaysFailed, Over};
+ghost use Rattle.dagcbor_read.specs.Deserializers.{de_state, StaysFailed, Stops, Over};
 ghost use Rattle.dagcbor_items.specs.TypedReads.{Anything};
 ghost use Rattle.dagcbor_read.specs.Values.{ReadsValue};
 ghost use Rattle.dagcbor_read.specs.Accessors.{accessor_state};
@@ -41,7 +41,8 @@ pub(crate) trait Row<'de>: Sized + Drop {
         ensures row { ReadsRow Self.meaning Self.shape (accessor_state items.old)
             (de_state R.reading de.old) result (accessor_state items.new)
             (de_state R.reading de.new) }
-        ensures lies { IfOk result (Self.lies (de_state R.reading de.old).input.lends) };
+        ensures lies { IfOk result (Self.lies (de_state R.reading de.old).input.lends) }
+        ensures stops { Over R.reading Stops de.old result de.new };
 }
 
 impl<'de, T: Deserialize<'de>> Row<'de> for Vec<T> {
@@ -61,7 +62,7 @@ impl<'de, T: Deserialize<'de>> Row<'de> for Vec<T> {
         let mut all = Vec::new(alloc);
         while let Some(item) = items.next_element(alloc, de)? {
             if all.push(item).is_err() {
-                return Err(DecodeError::OutOfMemory);
+                return Err(de.refuse(DecodeError::OutOfMemory));
             }
         }
         Ok(all)
@@ -122,6 +123,7 @@ pub(crate) fn read_rest<'de, L: Row<'de>, R: Read>(
     ensures rest { Over R.reading
         (ReadsRest L.meaning L.shape (accessor_state items.entry)) de.old result de.new }
     ensures lies { IfOk result (L.lies (de_state R.reading de.old).input.lends) }
+    ensures stops { Over R.reading Stops de.old result de.new }
 {
     let mut items = items;
     let row = L::read_row(alloc, &mut items, de)?;
@@ -138,6 +140,7 @@ pub(crate) fn read_tuple<'de, L: Row<'de>, R: Read>(
     ensures value { Over R.reading (ReadsValue L.meaning (list_of L.shape)) de.old result de.new }
     ensures failed { Over R.reading StaysFailed de.old result de.new }
     ensures lies { IfOk result (L.lies (de_state R.reading de.old).input.lends) }
+    ensures stops { Over R.reading Stops de.old result de.new }
 {
     let items = de.deserialize_tuple(len)?;
     read_rest(alloc, items, de)

@@ -1,19 +1,23 @@
 //! Structs, whose fields are read by their names.
 
-ghost use Rattle.std.specs.Prelude.{◌≡◌, ◌+◌, ℕ, List, Bool, Option, None, Some, option_map};
-ghost use Rattle.std.specs.Prelude.{MatchResult, codes};
+ghost use Rattle.std.specs.Prelude.{◌≡◌, ◌+◌, ◌<◌, false, ℕ, List, Bool, Option, None, Some, option_map};
+ghost use Rattle.std.specs.Prelude.{MatchResult, codes, IfErr, IfSome};
 ghost use Rattle.std.specs.Option.{option_flatten};
 ghost use Rattle.dagcbor_heads.specs.declared.name.Name.{Name};
 ghost use Rattle.dagcbor_heads.specs.declared.error.DecodeError.TheVariants.{Msg};
 ghost use Rattle.dagcbor_items.specs.Shapes.{option_of};
-ghost use Rattle.dagcbor_read.specs.Deserializers.{de_state, StaysFailed, AreOut, Over};
+ghost use Rattle.dagcbor_read.specs.Deserializers.{de_state, StaysFailed, Stops, StopsBy};
+ghost use Rattle.dagcbor_read.specs.Deserializers.{AreOut, Over};
 ghost use Rattle.dagcbor_read.specs.Values.{ReadsValue, RefusesToBegin};
 ghost use Rattle.dagcbor_read.specs.Accessors.{HasHeadOf, BeginsItems};
 ghost use Rattle.dagcbor_read.specs.Enums.{enum_state, BeginsHeld, ReadsFieldsHeld};
 ghost use Rattle.dagcbor_read.specs.Collections.{FieldShape, value_of, struct_of};
 ghost use Rattle.dagcbor_read.specs.Structs.{texts, no_places, places, finish_required};
 ghost use Rattle.dagcbor_read.specs.Structs.{finish_optional};
+ghost use Rattle.dagcbor_read.specs.Accessors.{accessor_state};
+ghost use Rattle.dagcbor_read.specs.Named.{ReadsNamed, ReadsNamedValue};
 
+use crate::access::accessor::Accessor;
 use crate::access::enum_accessor::EnumAccessor;
 use crate::access::fields::{Fields, read_entries_left, read_into, skip_value};
 use crate::deserialize::Deserialize;
@@ -55,6 +59,17 @@ impl<'de> Fields<'de> for () {
         skip_value(alloc, de)
     }
 
+    fn read_named<R: Read>(
+        _places: &mut (),
+        _alloc: Global,
+        _names: &[&str],
+        _entries: &mut Accessor<'de>,
+        _de: &mut Deserializer<'de, R>,
+        _refusal: &mut Option<DecodeError<R::Error>>,
+    ) -> bool {
+        false
+    }
+
     fn finish(_places: ()) -> Option<()> {
         Some(())
     }
@@ -68,10 +83,16 @@ fn read_place<'de, T: Deserialize<'de>, L: Fields<'de>, R: Read>(
     key: &str,
     de: &mut Deserializer<'de, R>,
 ) -> ReadResult<(), R>
-    ensures { Over R.reading
+    requires { (de_state R.reading de.old).failed ≡ false }
+    ensures value { Over R.reading
         (ReadsValue (λ _. (option_map T.meaning into.new.0, L.state into.new.1))
         (value_of (places T.shape L.shape (texts names.now))
         (option_map T.meaning into.old.0, L.state into.old.1) key.now)) de.old result de.new }
+    ensures kept { IfErr result
+        (λ _. ◌≡◌ {A = Option T.View × L.State}
+        (option_map T.meaning into.new.0, L.state into.new.1)
+        (option_map T.meaning into.old.0, L.state into.old.1)) }
+    ensures stops { Over R.reading Stops de.old result de.new }
 {
     let Some((name, others)) = names.split_first() else {
         return L::read_field(&mut into.1, alloc, names, key, de);
@@ -80,6 +101,64 @@ fn read_place<'de, T: Deserialize<'de>, L: Fields<'de>, R: Read>(
         return read_into(alloc, &mut into.0, de);
     }
     L::read_field(&mut into.1, alloc, others, key, de)
+}
+
+/// Reads the value of a name that was taken into its place, or puts its refusal into `refusal`.
+#[inline(always)]
+fn read_named_value<'de, T: Deserialize<'de>, R: Read>(
+    place: &mut Option<T>,
+    alloc: Global,
+    entries: &mut Accessor<'de>,
+    de: &mut Deserializer<'de, R>,
+    refusal: &mut Option<DecodeError<R::Error>>,
+) -> bool
+    requires sound { (de_state R.reading de.old).failed ≡ false }
+    requires none { refusal.old ≡ None }
+    ensures value { ReadsNamedValue T.shape (accessor_state entries.old)
+        (de_state R.reading de.old) result refusal.new (option_map T.meaning place.new)
+        (accessor_state entries.new) (de_state R.reading de.new) }
+    ensures stops { IfSome refusal.new (λ e. StopsBy e (de_state R.reading de.new)) }
+{
+    match T::deserialize(alloc, de) {
+        Ok(value) => {
+            *place = Some(value);
+            entries.note_value();
+            true
+        }
+        Err(e) => {
+            *refusal = Some(e);
+            false
+        }
+    }
+}
+
+/// The value of the first name goes to the first place, any other to the others.
+#[inline(always)]
+fn read_named_place<'de, T: Deserialize<'de>, L: Fields<'de>, R: Read>(
+    into: &mut (Option<T>, L::Places),
+    alloc: Global,
+    names: &[&str],
+    entries: &mut Accessor<'de>,
+    de: &mut Deserializer<'de, R>,
+    refusal: &mut Option<DecodeError<R::Error>>,
+) -> bool
+    requires some { 0 < (accessor_state entries.old).left }
+    requires sound { (de_state R.reading de.old).failed ≡ false }
+    requires none { refusal.old ≡ None }
+    ensures entry { ReadsNamed (places T.shape L.shape (texts names.now))
+        (option_map T.meaning into.old.0, L.state into.old.1) (accessor_state entries.old)
+        (de_state R.reading de.old) result refusal.new
+        (option_map T.meaning into.new.0, L.state into.new.1) (accessor_state entries.new)
+        (de_state R.reading de.new) }
+    ensures stops { IfSome refusal.new (λ e. StopsBy e (de_state R.reading de.new)) }
+{
+    let Some((name, others)) = names.split_first() else {
+        return false;
+    };
+    if entries.take_name(name, de) {
+        return read_named_value(&mut into.0, alloc, entries, de, refusal);
+    }
+    L::read_named(&mut into.1, alloc, others, entries, de, refusal)
 }
 
 /// A field that must be there, before others.
@@ -112,6 +191,18 @@ impl<'de, T: Deserialize<'de>, L: Fields<'de>> Fields<'de> for (Required<T>, L) 
         de: &mut Deserializer<'de, R>,
     ) -> ReadResult<(), R> {
         read_place::<T, L, R>(places, alloc, names, key, de)
+    }
+
+    #[inline(always)]
+    fn read_named<R: Read>(
+        places: &mut (Option<T>, L::Places),
+        alloc: Global,
+        names: &[&str],
+        entries: &mut Accessor<'de>,
+        de: &mut Deserializer<'de, R>,
+        refusal: &mut Option<DecodeError<R::Error>>,
+    ) -> bool {
+        read_named_place::<T, L, R>(places, alloc, names, entries, de, refusal)
     }
 
     fn finish(places: (Option<T>, L::Places)) -> Option<(Required<T>, L)> {
@@ -154,6 +245,18 @@ impl<'de, T: Deserialize<'de>, L: Fields<'de>> Fields<'de> for (Option<T>, L) {
         read_place::<Option<T>, L, R>(places, alloc, names, key, de)
     }
 
+    #[inline(always)]
+    fn read_named<R: Read>(
+        places: &mut (Option<Option<T>>, L::Places),
+        alloc: Global,
+        names: &[&str],
+        entries: &mut Accessor<'de>,
+        de: &mut Deserializer<'de, R>,
+        refusal: &mut Option<DecodeError<R::Error>>,
+    ) -> bool {
+        read_named_place::<Option<T>, L, R>(places, alloc, names, entries, de, refusal)
+    }
+
     fn finish(places: (Option<Option<T>>, L::Places)) -> Option<(Option<T>, L)> {
         let (value, others) = places;
         let others = L::finish(others)?;
@@ -186,6 +289,7 @@ pub fn read_struct<'de, F: Fields<'de>, R: Read>(
     ensures named { Over R.reading
         (RefusesToBegin (HasHeadOf 5) (BeginsItems 5 name.now 1)) de.old result de.new }
     ensures failed { Over R.reading StaysFailed de.old result de.new }
+    ensures stops { Over R.reading Stops de.old result de.new }
 {
     let entries = de.deserialize_struct(name, names)?;
     let places = read_entries_left::<F, R>(alloc, names, entries, de)?;
@@ -207,6 +311,7 @@ pub fn read_struct_variant<'de, F: Fields<'de>, R: Read>(
         (RefusesToBegin (HasHeadOf 5) (BeginsHeld 5 (codes "map") (enum_state variant))) de.old
         result de.new }
     ensures failed { Over R.reading StaysFailed de.old result de.new }
+    ensures stops { Over R.reading Stops de.old result de.new }
 {
     let entries = variant.struct_variant(names, de)?;
     let places = read_entries_left::<F, R>(alloc, names, entries, de)?;

@@ -2,7 +2,7 @@
 
 ghost use Rattle.std.specs.Prelude.{◌≡◌, ◌+◌, ◌≤◌, ℕ, Bool, List, Option, false};
 ghost use Rattle.ipld_tree.specs.Tree.{Tree};
-ghost use Rattle.dagcbor_read.specs.Deserializers.{de_state, StaysFailed, AreOut, Over};
+ghost use Rattle.dagcbor_read.specs.Deserializers.{de_state, StaysFailed, Stops, AreOut, Over};
 ghost use Rattle.dagcbor_read.specs.Values.{ReadsValue, RefusesToBegin};
 ghost use Rattle.dagcbor_read.specs.Enums.{enum_state, HasStepEnum, SpendsEnum, ReadsFieldsHeld};
 ghost use Rattle.dagcbor_read.specs.EnumViews.{EnumShape, enum_of, ReadsVariant};
@@ -32,8 +32,9 @@ pub trait Variants<'de>: Sized + Drop {
         requires sound { (de_state R.reading de.old).failed ≡ false }
         requires out { (de_state R.reading de.old).input.steps + (enum_state variant).steps ≤
             (de_state R.reading de.old).input.budget }
-        ensures { Over R.reading
-            (ReadsVariant meaning Self.shape name.now (enum_state variant)) de.old result de.new };
+        ensures variant { Over R.reading
+            (ReadsVariant meaning Self.shape name.now (enum_state variant)) de.old result de.new }
+        ensures stops { Over R.reading Stops de.old result de.new };
 }
 
 /// Reads an enum. The names of its variants are not looked at.
@@ -47,6 +48,7 @@ pub fn read_enum<'de, V: Variants<'de>, R: Read>(
     ensures named { Over R.reading
         (RefusesToBegin HasStepEnum (SpendsEnum name.now)) de.old result de.new }
     ensures failed { Over R.reading StaysFailed de.old result de.new }
+    ensures stops { Over R.reading Stops de.old result de.new }
 {
     let form = de.deserialize_enum(name, variants)?;
     let (variant_name, variant) = form.variant(alloc, de)?;

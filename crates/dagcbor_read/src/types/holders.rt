@@ -46,7 +46,7 @@ impl<'de, T: Deserialize<'de>> Deserialize<'de> for Box<T> {
         let value = T::deserialize(alloc, de)?;
         match Box::new(alloc, value) {
             Ok(boxed) => Ok(boxed),
-            Err(_) => Err(DecodeError::OutOfMemory),
+            Err(_) => Err(de.refuse(DecodeError::OutOfMemory)),
         }
     }
 }

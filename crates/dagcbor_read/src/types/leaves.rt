@@ -299,9 +299,9 @@ impl<'de> Deserialize<'de> for &'de str {
     fn deserialize<R: Read>(alloc: Global, de: &mut Deserializer<'de, R>) -> ReadResult<Self, R> {
         match de.deserialize_str(alloc)? {
             CowStr::Borrowed(text) => Ok(text),
-            CowStr::Owned(_) => Err(DecodeError::RequireBorrowed {
+            CowStr::Owned(_) => Err(de.refuse(DecodeError::RequireBorrowed {
                 name: Name::new("string"),
-            }),
+            })),
         }
     }
 }
@@ -371,9 +371,9 @@ impl<'de> Deserialize<'de> for ByteSlice<'de> {
     fn deserialize<R: Read>(alloc: Global, de: &mut Deserializer<'de, R>) -> ReadResult<Self, R> {
         match de.deserialize_bytes(alloc)? {
             CowSlice::Borrowed(bytes) => Ok(ByteSlice(bytes)),
-            CowSlice::Owned(_) => Err(DecodeError::RequireBorrowed {
+            CowSlice::Owned(_) => Err(de.refuse(DecodeError::RequireBorrowed {
                 name: Name::new("bytes"),
-            }),
+            })),
         }
     }
 }

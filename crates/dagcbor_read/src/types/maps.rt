@@ -3,6 +3,7 @@
 ghost use Rattle.std.specs.Prelude.{ℕ, List, [], Some};
 ghost use Rattle.dagcbor_read.specs.Collections.{map_of, values_of, in_key_order, text_pairs};
 
+use crate::access::accessor::Accessor;
 use crate::access::fields::{Fields, read_fields};
 use crate::deserialize::{Deserialize, DeserializeOwned};
 use crate::deserializer::Deserializer;
@@ -50,12 +51,23 @@ impl<'de, V: Deserialize<'de>> Fields<'de> for BTreeMap<String, V> {
     ) -> ReadResult<(), R> {
         let value = V::deserialize(alloc, de)?;
         let Ok(name) = String::from_str(alloc, key) else {
-            return Err(DecodeError::OutOfMemory);
+            return Err(de.refuse(DecodeError::OutOfMemory));
         };
         match places.insert(name, value) {
             Ok(_) => Ok(()),
-            Err(_) => Err(DecodeError::OutOfMemory),
+            Err(_) => Err(de.refuse(DecodeError::OutOfMemory)),
         }
+    }
+
+    fn read_named<R: Read>(
+        _places: &mut BTreeMap<String, V>,
+        _alloc: Global,
+        _names: &[&str],
+        _entries: &mut Accessor<'de>,
+        _de: &mut Deserializer<'de, R>,
+        _refusal: &mut Option<DecodeError<R::Error>>,
+    ) -> bool {
+        false
     }
 
     fn finish(places: BTreeMap<String, V>) -> Option<BTreeMap<String, V>> {
@@ -112,12 +124,23 @@ impl<'de, V: Deserialize<'de>> Fields<'de> for HashMap<String, V> {
     ) -> ReadResult<(), R> {
         let value = V::deserialize(alloc, de)?;
         let Ok(name) = String::from_str(alloc, key) else {
-            return Err(DecodeError::OutOfMemory);
+            return Err(de.refuse(DecodeError::OutOfMemory));
         };
         match places.insert(name, value) {
             Ok(_) => Ok(()),
-            Err(_) => Err(DecodeError::OutOfMemory),
+            Err(_) => Err(de.refuse(DecodeError::OutOfMemory)),
         }
+    }
+
+    fn read_named<R: Read>(
+        _places: &mut HashMap<String, V>,
+        _alloc: Global,
+        _names: &[&str],
+        _entries: &mut Accessor<'de>,
+        _de: &mut Deserializer<'de, R>,
+        _refusal: &mut Option<DecodeError<R::Error>>,
+    ) -> bool {
+        false
     }
 
     fn finish(places: HashMap<String, V>) -> Option<HashMap<String, V>> {

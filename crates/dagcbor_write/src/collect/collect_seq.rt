@@ -1,6 +1,6 @@
 //! The collector of a list whose number of items may come last.
 
-ghost use Rattle.std.specs.Prelude.{◌≡◌, IfOk, IsOk, OnOk, IfSome, IsSome, IsNone, IsOkAnd, Some};
+ghost use Rattle.std.specs.Prelude.{◌≡◌, IfOk, IsOk, OnOk, IfSome, IsSome, IsNone, IsOkAnd, Some, ◌||◌};
 ghost use Rattle.std.specs.Borrow.{sem};
 ghost use Rattle.std.specs.Fmt.{◌++?◌};
 ghost use Rattle.dagcbor_heads.specs.Written.{Writes, WroteAll, WantsMemoryOnlyIf};
@@ -118,6 +118,8 @@ impl<W: Write> CollectSeq<'_, W> {
             (W.written (list_lent self.old).now)
             (list_state self.new) (W.written (list_lent self.new).now) result }
         ensures well_formed { OnOk result (IfSome (T.tree value.now) IsTree) }
+        ensures memory { IsSome (elements_left (list_state self.old))
+            → WantsMemoryOnlyIf (T.takes_memory || W.takes_memory) result }
     {
         match &mut self.items {
             ListState::Announced(left) => {

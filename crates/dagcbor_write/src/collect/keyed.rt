@@ -1,14 +1,15 @@
 //! The entries of a map that is at hand: its keys, spelled in one buffer, each with its value.
 
-ghost use Rattle.std.specs.Prelude.{◌≡◌, ◌<◌, ◌++◌, List, [], length, map, IfOk, OnOk};
+ghost use Rattle.std.specs.Prelude.{◌≡◌, ◌<◌, ◌++◌, List, [], length, map, IfOk, OnOk, IfErr};
 ghost use Rattle.std.specs.Prelude.{slice_index_or, codes, ℕ, Option, None};
 ghost use Rattle.std.specs.Fmt.{◌++?◌};
 ghost use Rattle.dagcbor_heads.specs.Written.{Written, Writes, Stops};
 ghost use Rattle.ipld_tree.specs.Spelled.{spelled_head};
-ghost use Rattle.dagcbor_write.specs.Answers.{IsMessage};
+ghost use Rattle.dagcbor_write.specs.Answers.{IsMessage, OnMessage};
 ghost use Rattle.dagcbor_write.specs.Each.{AreTrees};
 ghost use Rattle.dagcbor_write.specs.Gathering.{Grows, Refused, RefusedFor, Collects};
 ghost use Rattle.dagcbor_write.specs.Keyed.{JoinsKeyed, PutsKeysInOrder, spelled_keyed, value_trees};
+ghost use Rattle.dagcbor_write.specs.Keyed.{RefusesKeyedValue};
 ghost use Rattle.dagcbor_write.specs.Maps.{RefusesKey};
 ghost use Rattle.dagcbor_write.specs.Order.{KeysDiffer};
 
@@ -139,6 +140,7 @@ impl<'a, V> Keyed<'a, V> {
 
 impl<V: Serialize> Keyed<'_, V> {
     /// Writes the entries as they stand, behind their number.
+    #[tactic(auto, using(crate::proofs::Messages::none_as))]
     pub(crate) fn write<W: Write>(
         &self,
         alloc: Global,
@@ -148,6 +150,7 @@ impl<V: Serialize> Keyed<'_, V> {
             (spelled_head 5 (length self.now) ++? spelled_keyed V.tree self.now)
             (W.written ser.old) (W.written ser.new) result }
         ensures well_formed { OnOk result (AreTrees (value_trees V.tree self.now)) }
+        ensures message { IfErr result (OnMessage (RefusesKeyedValue V.tree self.now)) }
     {
         let head = ser.push_head(5, self.len());
         if head.is_err() {

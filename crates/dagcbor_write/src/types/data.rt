@@ -1,6 +1,6 @@
 //! Data of any kind.
 
-ghost use Rattle.std.specs.Prelude.{Some};
+ghost use Rattle.std.specs.Prelude.{Some, true};
 ghost use Rattle.ipld_tree.specs.Ipld.{tree_of};
 
 use crate::serialize::Serialize;
@@ -11,6 +11,8 @@ use std::alloc::Global;
 
 impl Serialize for Ipld {
     ghost tree = { λ v. Some (tree_of v) };
+
+    ghost takes_memory = { true };
 
     fn serialize<W: Write>(&self, alloc: Global, ser: &mut Serializer<W>) -> WriteResult<(), W> {
         match self {

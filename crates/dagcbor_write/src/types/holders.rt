@@ -1,7 +1,7 @@
 //! Values that hold others.
 
-ghost use Rattle.std.specs.Prelude.{map, OnOk, IfSome};
-ghost use Rattle.dagcbor_heads.specs.Written.{Writes};
+ghost use Rattle.std.specs.Prelude.{map, OnOk, IfSome, ◌||◌};
+ghost use Rattle.dagcbor_heads.specs.Written.{Writes, WantsMemoryOnlyIf};
 ghost use Rattle.ipld_tree.specs.Spelled.{spelled_tree};
 ghost use Rattle.ipld_tree.specs.Tree.{IsTree, list_tree};
 ghost use Rattle.dagcbor_write.specs.Trees.{option_tree};
@@ -14,6 +14,8 @@ use std::alloc::Global;
 impl<T: Serialize> Serialize for &T {
     ghost tree = { λ v. T.tree v.now };
 
+    ghost takes_memory = { T.takes_memory };
+
     fn serialize<W: Write>(&self, alloc: Global, ser: &mut Serializer<W>) -> WriteResult<(), W> {
         Serialize::serialize(*self, alloc, ser)
     }
@@ -22,6 +24,8 @@ impl<T: Serialize> Serialize for &T {
 impl<T: Serialize> Serialize for Box<T> {
     ghost tree = { λ v. T.tree v.value };
 
+    ghost takes_memory = { T.takes_memory };
+
     fn serialize<W: Write>(&self, alloc: Global, ser: &mut Serializer<W>) -> WriteResult<(), W> {
         Serialize::serialize(&**self, alloc, ser)
     }
@@ -29,6 +33,8 @@ impl<T: Serialize> Serialize for Box<T> {
 
 impl<T: Serialize> Serialize for Option<T> {
     ghost tree = { option_tree T.tree };
+
+    ghost takes_memory = { T.takes_memory };
 
     fn serialize<W: Write>(&self, alloc: Global, ser: &mut Serializer<W>) -> WriteResult<(), W> {
         match self {
@@ -41,6 +47,8 @@ impl<T: Serialize> Serialize for Option<T> {
 impl<T: Serialize> Serialize for Vec<T> {
     ghost tree = { λ v. list_tree (map T.tree v.items) };
 
+    ghost takes_memory = { T.takes_memory };
+
     fn serialize<W: Write>(&self, alloc: Global, ser: &mut Serializer<W>) -> WriteResult<(), W> {
         serialize_items(alloc, self.as_slice(), ser)
     }
@@ -48,6 +56,8 @@ impl<T: Serialize> Serialize for Vec<T> {
 
 impl<T: Serialize> Serialize for &[T] {
     ghost tree = { λ v. list_tree (map T.tree v.now) };
+
+    ghost takes_memory = { T.takes_memory };
 
     fn serialize<W: Write>(&self, alloc: Global, ser: &mut Serializer<W>) -> WriteResult<(), W> {
         serialize_items(alloc, *self, ser)
@@ -63,6 +73,7 @@ fn serialize_items<T: Serialize, W: Write>(
     ensures written { Writes (spelled_tree (list_tree (map T.tree items.now)))
         (W.written ser.old) (W.written ser.new) result }
     ensures well_formed { OnOk result (IfSome (list_tree (map T.tree items.now)) IsTree) }
+    ensures memory { WantsMemoryOnlyIf (T.takes_memory || W.takes_memory) result }
 {
     let mut list = ser.serialize_tuple(alloc, items.len())?;
     for item in items {

@@ -1,6 +1,6 @@
 //! Values that are one item.
 
-ghost use Rattle.std.specs.Prelude.{Some, pos, string_bytes};
+ghost use Rattle.std.specs.Prelude.{Some, pos, string_bytes, false};
 ghost use Rattle.std.specs.Char.{encode_utf8};
 ghost use Rattle.ipld_tree.specs.Cid.{cid_bytes};
 ghost use Rattle.ipld_tree.specs.Tree.{null, boolean, integer, text, bytes, link};
@@ -14,6 +14,8 @@ use std::alloc::Global;
 impl Serialize for () {
     ghost tree = { λ v. Some null };
 
+    ghost takes_memory = { false };
+
     fn serialize<W: Write>(&self, _alloc: Global, ser: &mut Serializer<W>) -> WriteResult<(), W> {
         ser.serialize_unit()
     }
@@ -21,6 +23,8 @@ impl Serialize for () {
 
 impl Serialize for bool {
     ghost tree = { λ v. Some (boolean v) };
+
+    ghost takes_memory = { false };
 
     fn serialize<W: Write>(&self, _alloc: Global, ser: &mut Serializer<W>) -> WriteResult<(), W> {
         ser.serialize_bool(*self)
@@ -30,6 +34,8 @@ impl Serialize for bool {
 impl Serialize for i8 {
     ghost tree = { λ v. Some (integer v) };
 
+    ghost takes_memory = { false };
+
     fn serialize<W: Write>(&self, _alloc: Global, ser: &mut Serializer<W>) -> WriteResult<(), W> {
         ser.serialize_i8(*self)
     }
@@ -37,6 +43,8 @@ impl Serialize for i8 {
 
 impl Serialize for i16 {
     ghost tree = { λ v. Some (integer v) };
+
+    ghost takes_memory = { false };
 
     fn serialize<W: Write>(&self, _alloc: Global, ser: &mut Serializer<W>) -> WriteResult<(), W> {
         ser.serialize_i16(*self)
@@ -46,6 +54,8 @@ impl Serialize for i16 {
 impl Serialize for i32 {
     ghost tree = { λ v. Some (integer v) };
 
+    ghost takes_memory = { false };
+
     fn serialize<W: Write>(&self, _alloc: Global, ser: &mut Serializer<W>) -> WriteResult<(), W> {
         ser.serialize_i32(*self)
     }
@@ -53,6 +63,8 @@ impl Serialize for i32 {
 
 impl Serialize for i64 {
     ghost tree = { λ v. Some (integer v) };
+
+    ghost takes_memory = { false };
 
     fn serialize<W: Write>(&self, _alloc: Global, ser: &mut Serializer<W>) -> WriteResult<(), W> {
         ser.serialize_i64(*self)
@@ -62,6 +74,8 @@ impl Serialize for i64 {
 impl Serialize for i128 {
     ghost tree = { λ v. Some (integer v) };
 
+    ghost takes_memory = { false };
+
     fn serialize<W: Write>(&self, _alloc: Global, ser: &mut Serializer<W>) -> WriteResult<(), W> {
         ser.serialize_i128(*self)
     }
@@ -69,6 +83,8 @@ impl Serialize for i128 {
 
 impl Serialize for isize {
     ghost tree = { λ v. Some (integer v) };
+
+    ghost takes_memory = { false };
 
     fn serialize<W: Write>(&self, _alloc: Global, ser: &mut Serializer<W>) -> WriteResult<(), W> {
         ser.serialize_i64(*self as i64)
@@ -78,6 +94,8 @@ impl Serialize for isize {
 impl Serialize for u8 {
     ghost tree = { λ v. Some (integer (pos v)) };
 
+    ghost takes_memory = { false };
+
     fn serialize<W: Write>(&self, _alloc: Global, ser: &mut Serializer<W>) -> WriteResult<(), W> {
         ser.serialize_u8(*self)
     }
@@ -85,6 +103,8 @@ impl Serialize for u8 {
 
 impl Serialize for u16 {
     ghost tree = { λ v. Some (integer (pos v)) };
+
+    ghost takes_memory = { false };
 
     fn serialize<W: Write>(&self, _alloc: Global, ser: &mut Serializer<W>) -> WriteResult<(), W> {
         ser.serialize_u16(*self)
@@ -94,6 +114,8 @@ impl Serialize for u16 {
 impl Serialize for u32 {
     ghost tree = { λ v. Some (integer (pos v)) };
 
+    ghost takes_memory = { false };
+
     fn serialize<W: Write>(&self, _alloc: Global, ser: &mut Serializer<W>) -> WriteResult<(), W> {
         ser.serialize_u32(*self)
     }
@@ -101,6 +123,8 @@ impl Serialize for u32 {
 
 impl Serialize for u64 {
     ghost tree = { λ v. Some (integer (pos v)) };
+
+    ghost takes_memory = { false };
 
     fn serialize<W: Write>(&self, _alloc: Global, ser: &mut Serializer<W>) -> WriteResult<(), W> {
         ser.serialize_u64(*self)
@@ -110,6 +134,8 @@ impl Serialize for u64 {
 impl Serialize for u128 {
     ghost tree = { λ v. Some (integer (pos v)) };
 
+    ghost takes_memory = { false };
+
     fn serialize<W: Write>(&self, _alloc: Global, ser: &mut Serializer<W>) -> WriteResult<(), W> {
         ser.serialize_u128(*self)
     }
@@ -117,6 +143,8 @@ impl Serialize for u128 {
 
 impl Serialize for usize {
     ghost tree = { λ v. Some (integer (pos v)) };
+
+    ghost takes_memory = { false };
 
     fn serialize<W: Write>(&self, _alloc: Global, ser: &mut Serializer<W>) -> WriteResult<(), W> {
         ser.serialize_u64(*self as u64)
@@ -126,6 +154,8 @@ impl Serialize for usize {
 impl Serialize for char {
     ghost tree = { λ v. Some (text (encode_utf8 v)) };
 
+    ghost takes_memory = { false };
+
     fn serialize<W: Write>(&self, _alloc: Global, ser: &mut Serializer<W>) -> WriteResult<(), W> {
         ser.serialize_char(*self)
     }
@@ -133,6 +163,8 @@ impl Serialize for char {
 
 impl Serialize for &str {
     ghost tree = { λ v. Some (text v.now) };
+
+    ghost takes_memory = { false };
 
     fn serialize<W: Write>(&self, _alloc: Global, ser: &mut Serializer<W>) -> WriteResult<(), W> {
         ser.serialize_str(*self)
@@ -142,6 +174,8 @@ impl Serialize for &str {
 impl Serialize for String {
     ghost tree = { λ v. Some (text (string_bytes v)) };
 
+    ghost takes_memory = { false };
+
     fn serialize<W: Write>(&self, _alloc: Global, ser: &mut Serializer<W>) -> WriteResult<(), W> {
         ser.serialize_str(self.as_str())
     }
@@ -149,6 +183,8 @@ impl Serialize for String {
 
 impl Serialize for Bytes {
     ghost tree = { λ v. Some (bytes v.0.items) };
+
+    ghost takes_memory = { false };
 
     fn serialize<W: Write>(&self, _alloc: Global, ser: &mut Serializer<W>) -> WriteResult<(), W> {
         ser.serialize_bytes(self.0.as_slice())
@@ -158,6 +194,8 @@ impl Serialize for Bytes {
 impl Serialize for ByteSlice<'_> {
     ghost tree = { λ v. Some (bytes v.0.now) };
 
+    ghost takes_memory = { false };
+
     fn serialize<W: Write>(&self, _alloc: Global, ser: &mut Serializer<W>) -> WriteResult<(), W> {
         ser.serialize_bytes(self.0)
     }
@@ -165,6 +203,8 @@ impl Serialize for ByteSlice<'_> {
 
 impl Serialize for Cid {
     ghost tree = { λ c. Some (link (cid_bytes c)) };
+
+    ghost takes_memory = { false };
 
     fn serialize<W: Write>(&self, _alloc: Global, ser: &mut Serializer<W>) -> WriteResult<(), W> {
         ser.serialize_cid(self)

@@ -1,7 +1,7 @@
 //! Tuples of one to four.
 
-ghost use Rattle.std.specs.Prelude.{◌≡◌, ◌∷◌, [], List, Option, OnOk, IfSome, length};
-ghost use Rattle.dagcbor_heads.specs.Written.{Writes};
+ghost use Rattle.std.specs.Prelude.{◌≡◌, ◌∷◌, [], List, Option, OnOk, IfSome, length, Bool, false, ◌||◌};
+ghost use Rattle.dagcbor_heads.specs.Written.{Writes, WantsMemoryOnlyIf};
 ghost use Rattle.ipld_tree.specs.Spelled.{spelled_tree};
 ghost use Rattle.ipld_tree.specs.Tree.{Tree, IsTree, list_tree};
 ghost use Rattle.dagcbor_write.specs.Each.{spelled_each, AreTrees, in_turn};
@@ -16,15 +16,20 @@ trait Part: Copy {
     /// The part's tree, in a list of one. An empty list where there is no part.
     ghost trees: { Self → List (Option Tree) };
 
+    ghost takes_memory: { Bool };
+
     /// Appends the part's spelling.
     fn serialize_part<W: Write>(self, alloc: Global, ser: &mut Serializer<W>) -> WriteResult<(), W>
         ensures written { Writes (spelled_each (trees self))
             (W.written ser.old) (W.written ser.new) result }
-        ensures well_formed { OnOk result (AreTrees (trees self)) };
+        ensures well_formed { OnOk result (AreTrees (trees self)) }
+        ensures memory { WantsMemoryOnlyIf (takes_memory || W.takes_memory) result };
 }
 
 impl Part for () {
     ghost trees = { λ u. [] };
+
+    ghost takes_memory = { false };
 
     fn serialize_part<W: Write>(
         self,
@@ -37,6 +42,8 @@ impl Part for () {
 
 impl<T: Serialize> Part for &T {
     ghost trees = { λ part. T.tree part.now ∷ [] };
+
+    ghost takes_memory = { T.takes_memory };
 
     fn serialize_part<W: Write>(
         self,
@@ -61,6 +68,8 @@ fn serialize_parts<A: Part, B: Part, C: Part, D: Part, W: Write>(
         (W.written ser.old) (W.written ser.new) result }
     ensures well_formed { OnOk result (IfSome (list_tree
         (in_turn (A.trees parts.0) (B.trees parts.1) (C.trees parts.2) (D.trees parts.3))) IsTree) }
+    ensures memory { WantsMemoryOnlyIf ((A.takes_memory || (B.takes_memory
+        || (C.takes_memory || D.takes_memory))) || W.takes_memory) result }
 {
     ser.push_head(4, len)?;
     parts.0.serialize_part(alloc, ser)?;
@@ -72,6 +81,8 @@ fn serialize_parts<A: Part, B: Part, C: Part, D: Part, W: Write>(
 impl<A: Serialize> Serialize for (A,) {
     ghost tree = { λ p. list_tree (A.tree p.0 ∷ []) };
 
+    ghost takes_memory = { A.takes_memory };
+
     fn serialize<W: Write>(&self, alloc: Global, ser: &mut Serializer<W>) -> WriteResult<(), W> {
         serialize_parts(alloc, ser, 1, (&self.0, (), (), ()))
     }
@@ -79,6 +90,8 @@ impl<A: Serialize> Serialize for (A,) {
 
 impl<A: Serialize, B: Serialize> Serialize for (A, B) {
     ghost tree = { λ p. list_tree (A.tree p.0 ∷ B.tree p.1 ∷ []) };
+
+    ghost takes_memory = { A.takes_memory || B.takes_memory };
 
     fn serialize<W: Write>(&self, alloc: Global, ser: &mut Serializer<W>) -> WriteResult<(), W> {
         serialize_parts(alloc, ser, 2, (&self.0, &self.1, (), ()))
@@ -88,6 +101,8 @@ impl<A: Serialize, B: Serialize> Serialize for (A, B) {
 impl<A: Serialize, B: Serialize, C: Serialize> Serialize for (A, B, C) {
     ghost tree = { λ p. list_tree (A.tree p.0 ∷ B.tree p.1 ∷ C.tree p.2 ∷ []) };
 
+    ghost takes_memory = { A.takes_memory || (B.takes_memory || C.takes_memory) };
+
     fn serialize<W: Write>(&self, alloc: Global, ser: &mut Serializer<W>) -> WriteResult<(), W> {
         serialize_parts(alloc, ser, 3, (&self.0, &self.1, &self.2, ()))
     }
@@ -95,6 +110,8 @@ impl<A: Serialize, B: Serialize, C: Serialize> Serialize for (A, B, C) {
 
 impl<A: Serialize, B: Serialize, C: Serialize, D: Serialize> Serialize for (A, B, C, D) {
     ghost tree = { λ p. list_tree (A.tree p.0 ∷ B.tree p.1 ∷ C.tree p.2 ∷ D.tree p.3 ∷ []) };
+
+    ghost takes_memory = { A.takes_memory || (B.takes_memory || (C.takes_memory || D.takes_memory)) };
 
     fn serialize<W: Write>(&self, alloc: Global, ser: &mut Serializer<W>) -> WriteResult<(), W> {
         serialize_parts(alloc, ser, 4, (&self.0, &self.1, &self.2, &self.3))

@@ -1,12 +1,13 @@
 //! Maps, sorted and hashed.
 
-ghost use Rattle.std.specs.Prelude.{List, OnOk, IfSome, map};
+ghost use Rattle.std.specs.Prelude.{List, OnOk, IfSome, IfErr, map, true, ◌||◌};
 ghost use Rattle.std.specs.Iterator.{IsFinite};
-ghost use Rattle.dagcbor_heads.specs.Written.{Writes};
+ghost use Rattle.dagcbor_heads.specs.Written.{Writes, WantsMemoryOnlyIf};
 ghost use Rattle.ipld_tree.specs.Tree.{IsTree, entries_tree};
 ghost use Rattle.ipld_tree.specs.Spelled.{spelled_tree};
 ghost use Rattle.dagcbor_write.specs.Trees.{Pair};
-ghost use Rattle.dagcbor_write.specs.Maps.{ShowsPairs};
+ghost use Rattle.dagcbor_write.specs.Maps.{ShowsPairs, RefusesMap};
+ghost use Rattle.dagcbor_write.specs.Answers.{OnMessage};
 
 use crate::collect::collect_map::REPEATED_KEY;
 use crate::collect::keyed::Keyed;
@@ -36,6 +37,9 @@ fn write_entries<
     ensures well_formed { (rest : I → List Pair)
         → ShowsPairs I.next_gives (λ e. (K.tree e.0.now, V.tree e.1.now)) rest
         → OnOk result (IfSome (entries_tree (rest entries)) IsTree) }
+    ensures message { (rest : I → List Pair)
+        → ShowsPairs I.next_gives (λ e. (K.tree e.0.now, V.tree e.1.now)) rest
+        → IfErr result (OnMessage (RefusesMap ser.old ser.new (rest entries))) }
 {
     let Ok(mut keyed) = Keyed::with_room(alloc, count) else {
         return Err(EncodeError::OutOfMemory);
@@ -52,7 +56,20 @@ fn write_entries<
 impl<K: Ord + Serialize, V: Serialize> Serialize for BTreeMap<K, V> {
     ghost tree = { λ m. entries_tree (map (λ e. (K.tree e.0, V.tree e.1)) m.entries) };
 
-    fn serialize<W: Write>(&self, alloc: Global, ser: &mut Serializer<W>) -> WriteResult<(), W> {
+    ghost takes_memory = { true };
+
+    /// Its message is that of what has no spelling: a key, a key that is there twice, or a value. Where
+    /// it is of the keys, nothing went out.
+    fn serialize<W: Write>(&self, alloc: Global, ser: &mut Serializer<W>) -> WriteResult<(), W>
+        ensures written { Writes (spelled_tree (entries_tree
+            (map (λ e. (K.tree e.0, V.tree e.1)) self.now.entries)))
+            (W.written ser.old) (W.written ser.new) result }
+        ensures well_formed { OnOk result (IfSome (entries_tree
+            (map (λ e. (K.tree e.0, V.tree e.1)) self.now.entries)) IsTree) }
+        ensures memory { WantsMemoryOnlyIf (true || W.takes_memory) result }
+        ensures message { IfErr result (OnMessage (RefusesMap ser.old ser.new
+            (map (λ e. (K.tree e.0, V.tree e.1)) self.now.entries))) }
+    {
         write_entries(alloc, self.len(), self.iter(), ser)
     }
 }
@@ -60,7 +77,20 @@ impl<K: Ord + Serialize, V: Serialize> Serialize for BTreeMap<K, V> {
 impl<K: Eq + Hash + Serialize, V: Serialize> Serialize for HashMap<K, V> {
     ghost tree = { λ m. entries_tree (map (λ e. (K.tree e.0, V.tree e.1)) m.entries) };
 
-    fn serialize<W: Write>(&self, alloc: Global, ser: &mut Serializer<W>) -> WriteResult<(), W> {
+    ghost takes_memory = { true };
+
+    /// Its message is that of what has no spelling: a key, a key that is there twice, or a value. Where
+    /// it is of the keys, nothing went out.
+    fn serialize<W: Write>(&self, alloc: Global, ser: &mut Serializer<W>) -> WriteResult<(), W>
+        ensures written { Writes (spelled_tree (entries_tree
+            (map (λ e. (K.tree e.0, V.tree e.1)) self.now.entries)))
+            (W.written ser.old) (W.written ser.new) result }
+        ensures well_formed { OnOk result (IfSome (entries_tree
+            (map (λ e. (K.tree e.0, V.tree e.1)) self.now.entries)) IsTree) }
+        ensures memory { WantsMemoryOnlyIf (true || W.takes_memory) result }
+        ensures message { IfErr result (OnMessage (RefusesMap ser.old ser.new
+            (map (λ e. (K.tree e.0, V.tree e.1)) self.now.entries))) }
+    {
         write_entries(alloc, self.len(), self.iter(), ser)
     }
 }

@@ -1,9 +1,20 @@
+use Rattle.dagcbor_heads.specs.Inputs.{input_reading}
 use Rattle.std.specs.Cow.{cow_slice_items}
-use Rattle.dagcbor_car.proofs.Pulling.{handed_on, counted_pulled}
+use Rattle.dagcbor_items.proofs.Looks.{looks_behind}
+use Rattle.dagcbor_car.proofs.Pulling.{handed_on, counted_pulled, counted_sized}
 use Rattle.dagcbor_car.proofs.pull.pull_counted.Goals as goal
 
-pub returns-in_err-count : goal.returns-in_err-count
-returns-in_err-count g c = handed_on _ _ _ _ c.from_residual.ensures.1 c.in_err-count.ensures
+pub returns-in_err-count-clause-taken : goal.returns-in_err-count-clause-taken
+returns-in_err-count-clause-taken g c = handed_on _ _ _ _ c.from_residual.ensures.1 c.in_err-count.ensures.taken
 
-pub returns : goal.returns
-returns g c = counted_pulled cow_slice_items c.pull_bytes.result c.in_ok-count.count _ _ _ c.in_ok-count.ensures.0 c.in_ok-count.ensures.1 c.pull_bytes.ensures
+pub returns-clause-taken : goal.returns-clause-taken
+returns-clause-taken g c = counted_pulled cow_slice_items c.pull_bytes.result c.in_ok-count.count _ _ _ c.in_ok-count.ensures.taken.0 c.in_ok-count.ensures.taken.1 c.pull_bytes.ensures.taken
+
+pub returns-in_err-count-clause-looked : goal.returns-in_err-count-clause-looked
+returns-in_err-count-clause-looked g c = handed_on _ _ _ _ c.from_residual.ensures.1 c.in_err-count.ensures.looked
+
+pub returns-clause-looked : goal.returns-clause-looked
+returns-clause-looked g c = looks_behind _ c.pull_bytes.result c.in_ok-count.ensures.looked c.pull_bytes.ensures.looked
+
+pub returns-clause-at_most : goal.returns-clause-at_most
+returns-clause-at_most g c = counted_sized cow_slice_items c.pull_bytes.result c.in_ok-count.count (input_reading g.R.Read.reading c.args.input.now) (input_reading g.R.Read.reading c.pull_length.new.reader) (input_reading g.R.Read.reading c.pull_bytes.new.input) c.in_ok-count.ensures.at_most c.pull_bytes.ensures.taken c.pull_bytes.ensures.at_most

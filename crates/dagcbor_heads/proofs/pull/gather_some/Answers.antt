@@ -10,6 +10,7 @@ returns-in-Ok-append_front g c =
     (c.in-Ok-append_front.ensures.grows ∙ ap (λ s. c.args.payload.now.items ++ take c.in-Ok-append_front.count s) c.shown.ensures) c.advance.ensures in
     record {
       gathered = behind;
+      stays = tt;
       variant = tt;
       looked = gathered_looked c.in-Ok.ensures count c.advance.ensures behind;
       at_most = gathered_most c.in-Ok.ensures count c.advance.ensures;

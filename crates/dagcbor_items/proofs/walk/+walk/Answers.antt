@@ -8,7 +8,7 @@ use Rattle.ipld_tree.specs.Tree.{no_entries}
 use Rattle.dagcbor_items.proofs.Fronts.{byte_refused}
 use Rattle.dagcbor_items.proofs.Leaves.{indefinite_refused}
 use Rattle.dagcbor_items.proofs.Steps.{no_step_left, stepped_taken, more_lacks}
-use Rattle.dagcbor_items.proofs.Walking.{lacks_before, found_none, item_found, entry_found, none_handed, handed_inside, handed_in_items, handed_in_entries, handed_in_value, step_walk_refused, leaf_walked, walked_from}
+use Rattle.dagcbor_items.proofs.Walking.{lacks_before, rest_of_bytes, rest_of_items, rest_of_entries, rest_of_key, found_none, item_found, entry_found, none_handed, handed_inside, handed_in_items, handed_in_entries, handed_in_value, step_walk_refused, leaf_walked, walked_from}
 use Rattle.dagcbor_items.proofs.StringItems.{text_taken}
 use Rattle.dagcbor_items.proofs.Lists.{list_refused, list_taken, no_item_read, next_refused, one_item_read, all_items_read}
 use Rattle.dagcbor_items.proofs.Maps as maps
@@ -51,12 +51,12 @@ walk_map-returns-in_err-count-clause-item g t c = as_refusal _ _ _ _ c.from_resi
 pub walk_list-returns-in_err-walk_items-clause-item : goal.walk_list-returns-in_err-walk_items-clause-item
 walk_list-returns-in_err-walk_items-clause-item g t c =
     let parts = enters 4 c.requires c.in_ok-count.ensures.count in
-    as_refusal _ _ _ _ c.from_residual-in_err-walk_items.ensures.1 record { refuses = list_refused _ _ _ c.requires parts (lacks_before parts.takes.same) c.in_err-walk_items.ensures.items.refuses; handed = handed_inside g.S.LinkSink.sink _ _ parts.takes c.in_err-walk_items.ensures.items.handed }
+    as_refusal _ _ _ _ c.from_residual-in_err-walk_items.ensures.1 record { refuses = list_refused _ _ _ c.requires parts (lacks_before parts.takes.same (rest_of_bytes parts.takes)) c.in_err-walk_items.ensures.items.refuses; handed = handed_inside g.S.LinkSink.sink _ _ parts.takes c.in_err-walk_items.ensures.items.handed }
 
 pub walk_map-returns-in_err-walk_entries-clause-item : goal.walk_map-returns-in_err-walk_entries-clause-item
 walk_map-returns-in_err-walk_entries-clause-item g t c =
     let parts = enters 5 c.requires c.in_ok-count.ensures.count in
-    as_refusal _ _ _ _ c.from_residual-in_err-walk_entries.ensures.1 record { refuses = maps.map_refused _ _ _ c.requires parts (lacks_before parts.takes.same) c.in_err-walk_entries.ensures.entries.refuses; handed = handed_inside g.S.LinkSink.sink _ _ parts.takes c.in_err-walk_entries.ensures.entries.handed }
+    as_refusal _ _ _ _ c.from_residual-in_err-walk_entries.ensures.1 record { refuses = maps.map_refused _ _ _ c.requires parts (lacks_before parts.takes.same (rest_of_bytes parts.takes)) c.in_err-walk_entries.ensures.entries.refuses; handed = handed_inside g.S.LinkSink.sink _ _ parts.takes c.in_err-walk_entries.ensures.entries.handed }
 
 pub walk_list-returns-clause-item : goal.walk_list-returns-clause-item
 walk_list-returns-clause-item g t c = let k = c.in_ok-walk_items.ensures.items in (_, list_taken k.0 (enters 4 c.requires c.in_ok-count.ensures.count) k.1 k.2 c.step_out.ensures, k.3)
@@ -91,7 +91,7 @@ walk_items-returns-in_err-walk_any-clause-looked g t c = as_refusal _ _ _ _ c.fr
 pub walk_items-returns-in_err-walk_any-clause-items : goal.walk_items-returns-in_err-walk_any-clause-items
 walk_items-returns-in_err-walk_any-clause-items g t c =
     let s = c.loop-index.invariant.read in
-    as_refusal _ _ _ _ c.from_residual.ensures.1 record { refuses = next_refused _ s.0 _ (omega arith) s.1 (lacks_before s.1.takes.same) c.in_err-walk_any.ensures.item.refuses; handed = handed_in_items g.S.LinkSink.sink s.0 _ _ _ s.1.takes s.2 c.in_err-walk_any.ensures.item.handed }
+    as_refusal _ _ _ _ c.from_residual.ensures.1 record { refuses = next_refused _ s.0 _ (omega arith) s.1 (lacks_before s.1.takes.same (rest_of_items s.0 s.1.takes)) c.in_err-walk_any.ensures.item.refuses; handed = handed_in_items g.S.LinkSink.sink s.0 _ _ _ s.1.takes s.2 c.in_err-walk_any.ensures.item.handed }
 
 pub walk_items-loop-index-preserved : goal.walk_items-loop-index-preserved
 walk_items-loop-index-preserved g t c =
@@ -121,7 +121,7 @@ pub walk_entries-returns-in_err-walk_any-clause-entries : goal.walk_entries-retu
 walk_entries-returns-in_err-walk_any-clause-entries g t c =
     let s = c.loop-index.invariant.read in
     let key = text_taken _ c.in_ok-key.ensures.key.1 in
-    as_refusal _ _ _ _ c.from_residual-in_err-walk_any.ensures.1 record { refuses = maps.next_value_refused _ _ _ (omega arith) s.1 c.in_ok-key.ensures.key.0 key (λ l. lacks_before s.1.takes.same (lacks_before key.same l)) c.in_err-walk_any.ensures.item.refuses; handed = handed_in_entries g.S.LinkSink.sink s.0 _ _ _ s.1.takes s.2 (handed_in_value g.S.LinkSink.sink _ _ _ key c.in_err-walk_any.ensures.item.handed) }
+    as_refusal _ _ _ _ c.from_residual-in_err-walk_any.ensures.1 record { refuses = maps.next_value_refused _ _ _ (omega arith) s.1 c.in_ok-key.ensures.key.0 key (λ l. lacks_before s.1.takes.same (rest_of_entries s.0 s.1.takes) (lacks_before key.same (rest_of_key _ key) l)) c.in_err-walk_any.ensures.item.refuses; handed = handed_in_entries g.S.LinkSink.sink s.0 _ _ _ s.1.takes s.2 (handed_in_value g.S.LinkSink.sink _ _ _ key c.in_err-walk_any.ensures.item.handed) }
 
 pub walk_entries-loop-index-preserved : goal.walk_entries-loop-index-preserved
 walk_entries-loop-index-preserved g t c =

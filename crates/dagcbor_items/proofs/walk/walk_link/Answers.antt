@@ -1,6 +1,6 @@
 use Rattle.dagcbor_heads.proofs.Refusing.{as_refusal}
 use Rattle.dagcbor_heads.proofs.Looking.{taken_left}
-use Rattle.std.proofs.Common.{inr, []}
+use Rattle.std.proofs.Common.{inr, [], refl}
 use Rattle.ipld_tree.specs.Cid.{cid_bytes}
 use Rattle.ipld_tree.specs.Tree.{link}
 use Rattle.dagcbor_items.proofs.Links.{item_link, link_refused}
@@ -18,7 +18,7 @@ returns-in-Ok-clause-item g c = (link (cid_bytes c.in_ok-cid.cid), item_link _ c
 
 pub returns-in-Err-clause-item : goal.returns-in-Err-clause-item
 returns-in-Err-clause-item g c = record {
-  refuses = (c.in_ok-cid.ensures.link.same.faults, inr c.in-Err.ensures.0);
+  refuses = (c.in_ok-cid.ensures.link.same.faults, inr (c.in-Err.ensures.0, λ b l. (let k = (item_link _ c.in_ok-cid.ensures.link).taken b l in (cid_bytes c.in_ok-cid.cid, ([], b, k.0, refl, k.1, tt)))));
   handed = record { found = []; finds = c.in-Err.ensures.1; stand = λ b l. tt };
 }
 

@@ -21,7 +21,7 @@ returns-in_err-end g c =
     let start = c.from_reader-de.ensures in
     let source = c.new.ensures in
     let told = value_end_refused g.T.Shown.shape default_steps (Some c.args.bytes.now) false _ _ _ (g.T.Shown.meaning c.in_ok-value.value) _ (ap (λ p. p.input.left) start ∙ ap (λ r. r.left) source)
-    (c.in_ok-value.ensures.value (ap (λ p. p.failed) start)) c.in_err-end.ensures in
+    (c.in_ok-value.ensures.value (ap (λ p. p.failed) start)) c.in_err-end.ensures.end in
     let handed = c.from_residual-in_err-end.ensures.1 in
     record { value = not_answered _ _ _ handed; refused = on_refusal _ _ _ handed (slice_excused _ told.0); behind = on_refusal _ _ _ handed told.2; memory = on_refusal _ _ _ handed told.3; never = on_refusal _ _ _ handed told.1 }
 
@@ -29,4 +29,4 @@ pub returns-clause-value : goal.returns-clause-value
 returns-clause-value g c =
     let start = c.from_reader-de.ensures in
     let source = c.new.ensures in
-    value_answered g.T.Shown.shape _ _ (Some c.args.bytes.now) _ _ _ (g.T.Shown.meaning c.in_ok-value.value) (ap (λ p. p.input.left) start ∙ ap (λ r. r.left) source) (ap (λ p. p.input.steps) start ∙ ap (λ r. r.steps) source) (c.in_ok-value.ensures.value (ap (λ p. p.failed) start)) c.in_ok-end.ensures
+    value_answered g.T.Shown.shape _ _ (Some c.args.bytes.now) _ _ _ (g.T.Shown.meaning c.in_ok-value.value) (ap (λ p. p.input.left) start ∙ ap (λ r. r.left) source) (ap (λ p. p.input.steps) start ∙ ap (λ r. r.steps) source) (c.in_ok-value.ensures.value (ap (λ p. p.failed) start)) c.in_ok-end.ensures.end

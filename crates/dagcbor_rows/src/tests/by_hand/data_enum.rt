@@ -1,6 +1,6 @@
 //! An enum with a variant of each form that holds something.
 
-ghost use Rattle.std.specs.Prelude.{Some, [], ◌∷◌, codes, pos, string_bytes};
+ghost use Rattle.std.specs.Prelude.{Some, [], ◌∷◌, codes, pos, string_bytes, true};
 ghost use Rattle.serde_ipld_dagcbor.specs.Tree.{boolean, integer, text, list_tree, entries_tree};
 ghost use Rattle.serde_ipld_dagcbor.specs.Trees.{field, variant_tree};
 ghost use Rattle.dagcbor_rows.specs.DataEnum.{DataView, is_a, is_b, is_c};
@@ -30,6 +30,8 @@ impl Serialize for DataEnum {
       | C x y ↦ variant_tree (codes "C") (entries_tree (field (codes "x") (Some (integer (pos x)))
           ∷ field (codes "y") (Some (text (string_bytes y))) ∷ []))
     ] };
+
+    ghost takes_memory = { true };
 
     fn serialize<W: Write>(&self, alloc: Global, ser: &mut Serializer<W>) -> WriteResult<(), W> {
         match self {

@@ -1,6 +1,6 @@
 //! An enum of unit variants, and a struct that holds one.
 
-ghost use Rattle.std.specs.Prelude.{Some, [], ◌∷◌, codes};
+ghost use Rattle.std.specs.Prelude.{Some, [], ◌∷◌, codes, false, true};
 ghost use Rattle.serde_ipld_dagcbor.specs.Tree.{text, entries_tree};
 ghost use Rattle.serde_ipld_dagcbor.specs.Trees.{field};
 ghost use Rattle.dagcbor_rows.specs.Letter.{Letter, is_a, is_b, letter_variants};
@@ -24,6 +24,8 @@ pub(crate) enum Enum {
 
 impl Serialize for Enum {
     ghost tree = { λ e. elim e [ A ↦ Some (text (codes "A")) | B ↦ Some (text (codes "B")) ] };
+
+    ghost takes_memory = { false };
 
     fn serialize<W: Write>(&self, _alloc: Global, ser: &mut Serializer<W>) -> WriteResult<(), W> {
         match self {
@@ -81,6 +83,8 @@ pub(crate) struct EnumStruct {
 
 impl Serialize for EnumStruct {
     ghost tree = { λ p. entries_tree (field (codes "e") (⟦<Enum as Serialize>⟧.tree p.e) ∷ []) };
+
+    ghost takes_memory = { true };
 
     fn serialize<W: Write>(&self, alloc: Global, ser: &mut Serializer<W>) -> WriteResult<(), W> {
         write_struct(alloc, (Field("e", &self.e), ()), ser)

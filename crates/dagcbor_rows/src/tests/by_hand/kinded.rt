@@ -22,6 +22,8 @@ pub(crate) enum Kinded {
 impl Serialize for Kinded {
     ghost tree = { λ k. elim k [ kinded.Bytes b ↦ Some (bytes b.0.items) | kinded.Link c ↦ Some (link (cid_bytes c)) ] };
 
+    ghost takes_memory = { false };
+
     fn serialize<W: Write>(&self, alloc: Global, ser: &mut Serializer<W>) -> WriteResult<(), W> {
         match self {
             Kinded::Bytes(bytes) => bytes.serialize(alloc, ser),

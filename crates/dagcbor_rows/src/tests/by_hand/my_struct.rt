@@ -1,6 +1,6 @@
 //! A struct with a link.
 
-ghost use Rattle.std.specs.Prelude.{Some, [], ◌∷◌, codes};
+ghost use Rattle.std.specs.Prelude.{Some, [], ◌∷◌, codes, true};
 ghost use Rattle.serde_ipld_dagcbor.specs.Cid.{cid_bytes};
 ghost use Rattle.serde_ipld_dagcbor.specs.Tree.{boolean, link, entries_tree};
 ghost use Rattle.serde_ipld_dagcbor.specs.Trees.{field};
@@ -22,6 +22,8 @@ pub(crate) struct MyStruct {
 impl Serialize for MyStruct {
     ghost tree = { λ p. entries_tree (field (codes "cid") (Some (link (cid_bytes p.cid)))
         ∷ field (codes "data") (Some (boolean p.data)) ∷ []) };
+
+    ghost takes_memory = { true };
 
     fn serialize<W: Write>(&self, alloc: Global, ser: &mut Serializer<W>) -> WriteResult<(), W> {
         let mut fields = ser.serialize_struct(alloc, "MyStruct", 2)?;

@@ -20,6 +20,8 @@ pub(crate) struct Newtype(pub(crate) u8);
 impl Serialize for Newtype {
     ghost tree = { λ n. Some (integer (pos n.0)) };
 
+    ghost takes_memory = { false };
+
     fn serialize<W: Write>(&self, alloc: Global, ser: &mut Serializer<W>) -> WriteResult<(), W> {
         ser.serialize_newtype_struct(alloc, "Newtype", &self.0)
     }
@@ -46,6 +48,8 @@ pub(crate) enum Externally {
 
 impl Serialize for Externally {
     ghost tree = { λ e. elim e [ externally.Cid c ↦ variant_tree (codes "Cid") (Some (link (cid_bytes c))) ] };
+
+    ghost takes_memory = { false };
 
     fn serialize<W: Write>(&self, alloc: Global, ser: &mut Serializer<W>) -> WriteResult<(), W> {
         match self {

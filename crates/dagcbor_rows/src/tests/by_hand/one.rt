@@ -1,6 +1,6 @@
 //! A struct of one field.
 
-ghost use Rattle.std.specs.Prelude.{ℕ, Some, [], ◌∷◌, codes, pos};
+ghost use Rattle.std.specs.Prelude.{ℕ, Some, [], ◌∷◌, codes, pos, true};
 ghost use Rattle.serde_ipld_dagcbor.specs.Tree.{integer, entries_tree};
 ghost use Rattle.serde_ipld_dagcbor.specs.Trees.{field};
 ghost use Rattle.dagcbor_rows.specs.One.{one_shape};
@@ -18,6 +18,8 @@ pub(crate) struct One {
 
 impl Serialize for One {
     ghost tree = { λ p. entries_tree (field (codes "a") (Some (integer (pos p.a))) ∷ []) };
+
+    ghost takes_memory = { true };
 
     fn serialize<W: Write>(&self, alloc: Global, ser: &mut Serializer<W>) -> WriteResult<(), W> {
         write_struct(alloc, (Field("a", &self.a), ()), ser)

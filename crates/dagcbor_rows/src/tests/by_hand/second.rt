@@ -1,6 +1,6 @@
 //! An enum whose variant is a struct.
 
-ghost use Rattle.std.specs.Prelude.{Some, [], ◌∷◌, OnOk, IfSome, codes, pos};
+ghost use Rattle.std.specs.Prelude.{Some, [], ◌∷◌, OnOk, IfSome, codes, pos, true};
 ghost use Rattle.serde_ipld_dagcbor.specs.Written.{Writes};
 ghost use Rattle.serde_ipld_dagcbor.specs.Tree.{IsTree, integer, entries_tree};
 ghost use Rattle.serde_ipld_dagcbor.specs.Spelled.{spelled_tree};
@@ -26,6 +26,8 @@ impl Serialize for Second {
           ∷ field (codes "abc") (Some (integer (pos abc)))
           ∷ field (codes "a") (Some (integer (pos a))) ∷ []))
     ] };
+
+    ghost takes_memory = { true };
 
     fn serialize<W: Write>(&self, alloc: Global, ser: &mut Serializer<W>) -> WriteResult<(), W> {
         match self {

@@ -1,5 +1,6 @@
 use Rattle.std.proofs.Common.{rules}
 use Rattle.dagcbor_heads.proofs.Writing.{Writes_at, exit_part, next_part, last_part}
+use Rattle.dagcbor_write.proofs.Refusals.{may_want}
 use Rattle.dagcbor_write.proofs.Lists.{AreTrees_next, AreTrees_all, OnOk_of}
 use Rattle.dagcbor_write.proofs.Waiting.{Holds_none, Holds_room, Holds_complete, Holds_next, Holds_all, Holds_refused, none_among, begin_later}
 use Rattle.dagcbor_bench.proofs.bag.BagSerialize.serialize.Goals as goal
@@ -31,4 +32,4 @@ pub returns : goal.returns
 returns g c =
     let w = next_part (begin_later _ _) _ c.loop-item.invariant.nothing in
     let all = rw c.deref-item-items.ensures.value at (Holds_all g.T.Serialize.tree _ _ _ c.loop-item-test.false c.loop-item.invariant.holds) in
-    record { written = Writes_at _ _ _ _ _ (search rules) (last_part w _ _ (rw all at c.end.ensures.written)); well_formed = OnOk_of _ (rw c.deref-item-items.ensures.value at (AreTrees_all g.T.Serialize.tree _ _ c.loop-item-test.false c.loop-item.invariant.well_formed)) }
+    record { written = Writes_at _ _ _ _ _ (search rules) (last_part w _ _ (rw all at c.end.ensures.written)); well_formed = OnOk_of _ (rw c.deref-item-items.ensures.value at (AreTrees_all g.T.Serialize.tree _ _ c.loop-item-test.false c.loop-item.invariant.well_formed)); memory = may_want _ }

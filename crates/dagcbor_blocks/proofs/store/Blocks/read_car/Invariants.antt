@@ -1,4 +1,4 @@
-use Rattle.std.specs.Prelude.{List}
+use Rattle.std.specs.Prelude.{◌≡◌, List, length}
 use Rattle.serde_ipld_dagcbor.specs.Inputs.{input_reading}
 use Rattle.serde_ipld_dagcbor.specs.Walks.{forms}
 use Rattle.dagcbor_car.specs.Car.{Section}
@@ -6,5 +6,5 @@ use Rattle.dagcbor_blocks.specs.Blocks.{held_blocks}
 use Rattle.dagcbor_blocks.specs.Cars.{IsReadTo}
 use Rattle.dagcbor_blocks.proofs.store.Blocks.read_car.Given as goal
 
-abbrev pub invariant-loop : goal.invariant-loop
-invariant-loop g l = (ss : List Section) × IsReadTo (forms l.roots.items) ss (input_reading g.R.Read.reading l.fn.input) (held_blocks l.fn.self) (input_reading g.R.Read.reading l.input) (held_blocks l.self)
+abbrev pub invariant-loop-count : goal.invariant-loop-count
+invariant-loop-count g l = (ss : List Section) × (length ss ≡ l._count) × IsReadTo (forms l.roots.items) ss (input_reading g.R.Read.reading l.fn.input) (held_blocks l.fn.self) (input_reading g.R.Read.reading l.input) (held_blocks l.self)

@@ -7,4 +7,4 @@ pub returns-then-contains : goal.returns-then-contains
 returns-then-contains c = other_held c.args.cid (members c.args.held.now) c.args.self.now (sym c.contains.ensures ∙ c.if-contains.true)
 
 pub returns : goal.returns
-returns c = other_added c.add.result c.args.cid (members c.args.held.now) c.args.self.now c.add.new.self (sym c.contains.ensures ∙ c.if-contains.false) c.add.ensures.added
+returns c = other_added c.add.result c.args.cid (members c.args.held.now) c.args.self.now c.add.new.self (sym c.contains.ensures ∙ c.if-contains.false) c.add.ensures

@@ -1,47 +1,37 @@
-use Rattle.std.proofs.Common.{◌≡◌, true}
+use Rattle.std.proofs.Common.{refl, arith, ap}
 use Rattle.dagcbor_heads.proofs.Refusing.{as_refusal}
-use Rattle.dagcbor_read.specs.Accessors.{accessor_state, EndsItems}
+use Rattle.dagcbor_read.specs.Accessors.{AccessorState, accessor_state, EndsItems}
 use Rattle.dagcbor_read.specs.Deserializers.{de_state}
 use Rattle.dagcbor_read.specs.Structs.{texts}
 use Rattle.dagcbor_read.proofs.Progressing.{call_answered}
-use Rattle.dagcbor_read.proofs.Answered.{key_read, no_key, key_refused, after_some_key, after_no_key}
-use Rattle.dagcbor_read.proofs.EntryRows.{key_not_read, value_not_read, one_more_field, all_fields_read}
-use Rattle.dagcbor_read.proofs.Passing.{or_right}
+use Rattle.dagcbor_read.proofs.EntryRows.{all_fields_read}
+use Rattle.dagcbor_read.proofs.NamedRows.{field_so_far, named_value_refused, nothing_named, others_refused}
 use Rattle.dagcbor_read.proofs.access.fields.read_entries_left.Goals as goal
 
-pub returns-in_err-key : goal.returns-in_err-key
-returns-in_err-key g c =
-    let i = c.loop-entries.invariant in
-    let k = key_refused g.row.R-Error.Denot _ _ _ (de_state g.R.Read.reading c.next_key.new.de) _ i.sound c.in_err-key.ensures.key in
-    as_refusal _ _ _ _ c.from_residual.ensures.1 (key_not_read (g.F.Fields.shape (texts c.args.names.now)) ((g.F.Fields.shape (texts c.args.names.now)).wants_loan ≡ true) _ _ i k.0 k.1)
+pub loop-alloc-preserved-then-read_named : goal.loop-alloc-preserved-then-read_named
+loop-alloc-preserved-then-read_named g c =
+    field_so_far (g.F.Fields.shape (texts c.args.names.now)) c.loop-alloc.invariant (omega (arith, c.left.ensures, c.loop-alloc-test.true)) c.if-read_named.ensures.entry
 
-pub returns-in_err-read_field : goal.returns-in_err-read_field
-returns-in_err-read_field g c =
-    let i = c.loop-entries.invariant in
-    let k = key_read g.row.R-Error.Denot _ _ (de_state g.R.Read.reading c.loop-entries.de) (de_state g.R.Read.reading c.next_key.new.de) _ _ c.in-Some.is c.in_ok-key.ensures.key in
-    as_refusal _ _ _ _ c.from_residual-in_err-read_field.ensures.1 (value_not_read (g.F.Fields.shape (texts c.args.names.now)) ((g.F.Fields.shape (texts c.args.names.now)).memory (de_state g.R.Read.reading c.next_key.new.de).input.lends ≡ true) ((g.F.Fields.shape (texts c.args.names.now)).wants_loan ≡ true) _ _ _ _ c.as_str.ensures.value i k (or_right _ _) (c.in_err-read_field.ensures k.sound))
+pub returns-in-Some-clause-entries : goal.returns-in-Some-clause-entries
+returns-in-Some-clause-entries g c =
+    named_value_refused (g.F.Fields.shape (texts c.args.names.now)) (accessor_state c.read_named.new.entries) (g.F.Fields.state c.read_named.new.places) (de_state g.R.Read.reading c.read_named.new.de) c.read_named.new.refusal c.in-Some.e c.in-Some.is c.loop-alloc.invariant (omega (arith, c.left.ensures, c.loop-alloc-test.true)) c.if-read_named.ensures.entry
 
-pub loop-entries-preserved-in_ok-read_field : goal.loop-entries-preserved-in_ok-read_field
-loop-entries-preserved-in_ok-read_field g c =
-    let i = c.loop-entries.invariant in
-    let k = key_read g.row.R-Error.Denot _ _ (de_state g.R.Read.reading c.loop-entries.de) (de_state g.R.Read.reading c.next_key.new.de) _ _ c.in-Some.is c.in_ok-key.ensures.key in
-    let after = after_some_key g.row.R-Error.Denot _ _ (accessor_state c.loop-entries.entries) _ c.in-Some.is c.in_ok-key.ensures.after in
-    let v = c.in_ok-read_field.ensures k.sound in
-    one_more_field (g.F.Fields.shape (texts c.args.names.now)) _ _ c.as_str.ensures.value i k after c.note_value.ensures v.0 v.1
+pub loop-alloc-preserved : goal.loop-alloc-preserved
+loop-alloc-preserved g c =
+    let shape = g.F.Fields.shape (texts c.args.names.now) in
+    let i = nothing_named shape c.read_named.new.refusal c.in_default.is c.loop-alloc.invariant c.if-read_named.ensures.entry in
+    field_so_far shape i.0 (omega (arith, c.left.ensures, c.loop-alloc-test.true, ap (λ (a : AccessorState). a.left) i.1)) c.in_ok-read_by_key.ensures.entry
 
-pub loop-entries-preserved : goal.loop-entries-preserved
-loop-entries-preserved g c =
-    let i = c.loop-entries.invariant in
-    let k = key_read g.row.R-Error.Denot _ _ (de_state g.R.Read.reading c.loop-entries.de) (de_state g.R.Read.reading c.next_key.new.de) _ _ c.in-Some.is c.in_ok-key.ensures.key in
-    let after = after_some_key g.row.R-Error.Denot _ _ (accessor_state c.loop-entries.entries) _ c.in-Some.is c.in_ok-key.ensures.after in
-    let v = c.in_ok-read_field.ensures k.sound in
-    one_more_field (g.F.Fields.shape (texts c.args.names.now)) _ _ c.as_str.ensures.value i k after c.note_value.ensures v.0 v.1
+pub returns-in_err-read_by_key-clause-entries : goal.returns-in_err-read_by_key-clause-entries
+returns-in_err-read_by_key-clause-entries g c =
+    let shape = g.F.Fields.shape (texts c.args.names.now) in
+    let i = nothing_named shape c.read_named.new.refusal c.in_default.is c.loop-alloc.invariant c.if-read_named.ensures.entry in
+    as_refusal _ _ _ _ c.from_residual.ensures.1 (others_refused shape (de_state g.R.Read.reading c.read_by_key.new.de) _ i.0 c.in_err-read_by_key.ensures.entry)
 
-pub returns : goal.returns
-returns g c =
-    let i = c.loop-entries.invariant in
-    let k = no_key g.row.R-Error.Denot _ _ (de_state g.R.Read.reading c.loop-entries.de) (de_state g.R.Read.reading c.next_key.new.de) _ c.in_default.is c.in_ok-key.ensures.key in
-    let after = after_no_key g.row.R-Error.Denot _ (accessor_state c.loop-entries.entries) _ c.in_default.is c.in_ok-key.ensures.after in
-    let e = call_answered (EndsItems (accessor_state c.next_key.new.self)) (de_state g.R.Read.reading c.next_key.new.de) (de_state g.R.Read.reading c.end.new.de) _ c.in_ok-end.ensures in
-    let a = all_fields_read (g.F.Fields.shape (texts c.args.names.now)) (de_state g.R.Read.reading c.next_key.new.de) (de_state g.R.Read.reading c.end.new.de) i k.1 after k.2 e.2.1 in
+pub returns-clause-entries : goal.returns-clause-entries
+returns-clause-entries g c =
+    let i = c.loop-alloc.invariant in
+    let now = de_state g.R.Read.reading c.loop-alloc.de in
+    let e = call_answered (EndsItems (accessor_state c.loop-alloc.entries)) now (de_state g.R.Read.reading c.end.new.de) _ c.in_ok-end.ensures in
+    let a = all_fields_read (g.F.Fields.shape (texts c.args.names.now)) now (de_state g.R.Read.reading c.end.new.de) i (omega (arith, c.left.ensures, c.loop-alloc-test.false)) refl refl e.2.1 in
     (e.1, a.0, a.1, a.2)

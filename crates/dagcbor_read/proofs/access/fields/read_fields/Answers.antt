@@ -5,4 +5,4 @@ use Rattle.dagcbor_read.proofs.access.fields.read_fields.Goals as goal
 
 pub returns-clause-value : goal.returns-clause-value
 returns-clause-value g c =
-    entries_read (g.F.Fields.shape []) g.F.Fields.unread g.F.Fields.state (de_state g.R.Read.reading c.args.de.now) (de_state g.R.Read.reading c.deserialize_map.new.self) (de_state g.R.Read.reading c.read_entries_left.new.de) (codes "map") c.in_ok-entries.entries c.read_entries_left.result c.in_ok-entries.ensures.begun c.read_entries_left.ensures
+    entries_read (g.F.Fields.shape []) g.F.Fields.unread g.F.Fields.state (de_state g.R.Read.reading c.args.de.now) (de_state g.R.Read.reading c.deserialize_map.new.self) (de_state g.R.Read.reading c.read_entries_left.new.de) (codes "map") c.in_ok-entries.entries c.read_entries_left.result c.in_ok-entries.ensures.begun c.read_entries_left.ensures.entries

@@ -10,11 +10,11 @@ use Rattle.dagcbor_read.proofs.access.structs.read_struct_variant.Goals as goal
 pub returns-in_err-places-clause-fields : goal.returns-in_err-places-clause-fields
 returns-in_err-places-clause-fields g c =
     let shape = g.F.Fields.shape (texts c.args.names.now) in
-    let read = held_entries_read shape g.F.Fields.unread g.F.Fields.state (codes "map") (enum_state c.args.variant) (de_state g.R.Read.reading c.args.de.now) (de_state g.R.Read.reading c.struct_variant.new.de) (de_state g.R.Read.reading c.read_entries_left.new.de) c.in_ok-entries.entries (Err c.in_err-places.field-0.0) c.in_ok-entries.ensures.begun c.in_err-places.ensures in
+    let read = held_entries_read shape g.F.Fields.unread g.F.Fields.state (codes "map") (enum_state c.args.variant) (de_state g.R.Read.reading c.args.de.now) (de_state g.R.Read.reading c.struct_variant.new.de) (de_state g.R.Read.reading c.read_entries_left.new.de) c.in_ok-entries.entries (Err c.in_err-places.field-0.0) c.in_ok-entries.ensures.begun c.in_err-places.ensures.entries in
     held_handed_on (fields_of shape g.F.Fields.unread) g.F.Fields.finish g.F.Fields.state g.F.Fields.meaning (enum_state c.args.variant) (de_state g.R.Read.reading c.args.de.now) (de_state g.R.Read.reading c.read_entries_left.new.de) c.from_residual-in_err-places.result c.in_err-places.field-0.0 c.from_residual-in_err-places.ensures.1 read
 
 pub returns-clause-fields : goal.returns-clause-fields
 returns-clause-fields g c =
     let shape = g.F.Fields.shape (texts c.args.names.now) in
-    let read = held_entries_read shape g.F.Fields.unread g.F.Fields.state (codes "map") (enum_state c.args.variant) (de_state g.R.Read.reading c.args.de.now) (de_state g.R.Read.reading c.struct_variant.new.de) (de_state g.R.Read.reading c.read_entries_left.new.de) c.in_ok-entries.entries (Ok c.in_ok-places.places) c.in_ok-entries.ensures.begun c.in_ok-places.ensures in
+    let read = held_entries_read shape g.F.Fields.unread g.F.Fields.state (codes "map") (enum_state c.args.variant) (de_state g.R.Read.reading c.args.de.now) (de_state g.R.Read.reading c.struct_variant.new.de) (de_state g.R.Read.reading c.read_entries_left.new.de) c.in_ok-entries.entries (Ok c.in_ok-places.places) c.in_ok-entries.ensures.begun c.in_ok-places.ensures.entries in
     held_finishes (fields_of shape g.F.Fields.unread) g.F.Fields.finish g.F.Fields.state g.F.Fields.meaning (enum_state c.args.variant) (de_state g.R.Read.reading c.args.de.now) (de_state g.R.Read.reading c.read_entries_left.new.de) c.in_ok-places.places c.finished.result c.finished.ensures read

@@ -13,4 +13,4 @@ returns-in_err-variant_name-clause-value g c = λ sound. as_refusal _ _ _ _ c.fr
 
 pub returns-clause-value : goal.returns-clause-value
 returns-clause-value g c =
-    enum_read g.V.Variants.shape g.V.Variants.meaning c.args.name.now (de_state g.R.Read.reading c.args.de.now) (de_state g.R.Read.reading c.deserialize_enum.new.self) (de_state g.R.Read.reading c.variant.new.de) (de_state g.R.Read.reading c.read_variant.new.de) _ _ _ c.read_variant.result c.in_ok-form.ensures.form c.in_ok-variant_name.ensures.text c.in_ok-variant_name.ensures.same c.as_str.ensures.value c.read_variant.ensures
+    enum_read g.V.Variants.shape g.V.Variants.meaning c.args.name.now (de_state g.R.Read.reading c.args.de.now) (de_state g.R.Read.reading c.deserialize_enum.new.self) (de_state g.R.Read.reading c.variant.new.de) (de_state g.R.Read.reading c.read_variant.new.de) _ _ _ c.read_variant.result c.in_ok-form.ensures.form c.in_ok-variant_name.ensures.text c.in_ok-variant_name.ensures.same c.as_str.ensures.value c.read_variant.ensures.variant

@@ -1,7 +1,12 @@
 use Rattle.std.proofs.Common.{rules, ap, sym, refl}
 use Rattle.dagcbor_write.proofs.Fields.{begin_map, next_pair, exit_key, all_given, left_as}
 use Rattle.dagcbor_write.proofs.KeyOrder.{IsKeyedBy, keyed_pair, keyed_written, keyed_well_formed, keyed_none}
-use Rattle.dagcbor_write.proofs.Refusals.{stops_with}
+use Rattle.dagcbor_write.proofs.Refusals.{stops_with, on_message_with}
+use Rattle.dagcbor_write.proofs.Messages.{message_tells}
+use Rattle.dagcbor_write.proofs.MapMessages.{key_message, keyed_twice, keyed_lacks}
+use Rattle.dagcbor_write.specs.Keyed.{RefusesKeyedValue}
+use Rattle.dagcbor_write.specs.Maps.{RefusesMap}
+use Rattle.std.proofs.Common.{inl, inr, arith}
 use Rattle.dagcbor_write.proofs.types.maps.write_entries.Goals as goal
 
 pub loop-key-init : goal.loop-key-init
@@ -38,3 +43,19 @@ pub returns-clause-well_formed : goal.returns-clause-well_formed
 returns-clause-well_formed g c rest shows =
     let given = all_given (left_as (shows _ _ _ c.in-None.ensures.steps).0 (c.loop-key.invariant.given rest shows)) in
     keyed_well_formed g.V.Serialize.tree _ _ _ _ given c.put_in_order.ensures _ (search rules) c.write.ensures.well_formed
+
+pub returns-in_err-take-clause-message : goal.returns-in_err-take-clause-message
+returns-in_err-take-clause-message g c rest shows =
+    key_message (left_as (shows _ _ _ c.in-Some.ensures.steps) (c.loop-key.invariant.given rest shows)) _ _ c.in_err-take.ensures c.from_residual.ensures.1 refl
+
+pub returns-then-not-put_in_order-clause-message : goal.returns-then-not-put_in_order-clause-message
+returns-then-not-put_in_order-clause-message g c rest shows =
+    let given = all_given (left_as (shows _ _ _ c.in-None.ensures.steps).0 (c.loop-key.invariant.given rest shows)) in
+    let twice = keyed_twice g.V.Serialize.tree _ _ _ _ given c.put_in_order.ensures (search rules) in
+    on_message_with c.custom.ensures (omega arith) (RefusesMap c.args.ser.now c.args.ser.now (rest c.args.entries)) (inl (inr (refl, twice), refl))
+
+pub returns-clause-message : goal.returns-clause-message
+returns-clause-message g c rest shows =
+    let given = all_given (left_as (shows _ _ _ c.in-None.ensures.steps).0 (c.loop-key.invariant.given rest shows)) in
+    let lacks = keyed_lacks g.V.Serialize.tree _ _ _ _ given c.put_in_order.ensures in
+    message_tells (RefusesKeyedValue g.V.Serialize.tree c.put_in_order.new.self) (RefusesMap c.args.ser.now c.write.new.ser (rest c.args.entries)) _ (λ m h. inr (h.0, lacks h.1)) c.write.ensures.message

@@ -5,8 +5,8 @@ use Rattle.dagcbor_read.specs.Collections.{in_key_order, text_pairs}
 use Rattle.dagcbor_read.proofs.KeyPlaces.{put_sorted, value_put}
 use Rattle.dagcbor_read.proofs.types.maps.BTreeMapStringFields.read_field.Goals as goal
 
-pub returns-in-Ok-insert : goal.returns-in-Ok-insert
-returns-in-Ok-insert g c = λ f.
+pub returns-in-Ok-insert-clause-value : goal.returns-in-Ok-insert-clause-value
+returns-in-Ok-insert-clause-value g c = λ f.
     let k = c.in_ok-value.ensures.value f in
     let pairs = in_key_order (text_pairs g.V.Shown.meaning c.args.places.now.entries) in
     let placed = ap (λ es. in_key_order (text_pairs g.V.Shown.meaning es)) c.in-Ok-insert.ensures.entries ∙ put_sorted g.V.Shown.meaning c.args.places.now.entries c.in-Ok.name c.in_ok-value.value

@@ -6,8 +6,8 @@ use Rattle.dagcbor_read.proofs.HashedPlaces.{put_hashed}
 use Rattle.dagcbor_read.proofs.KeyPlaces.{value_put}
 use Rattle.dagcbor_read.proofs.types.maps.HashMapStringFields.read_field.Goals as goal
 
-pub returns-in-Ok-insert : goal.returns-in-Ok-insert
-returns-in-Ok-insert g c = λ f.
+pub returns-in-Ok-insert-clause-value : goal.returns-in-Ok-insert-clause-value
+returns-in-Ok-insert-clause-value g c = λ f.
     let k = c.in_ok-value.ensures.value f in
     let pairs = in_key_order (text_pairs g.V.Shown.meaning c.args.places.now.entries) in
     let put = c.in-Ok-insert.ensures in

@@ -3,6 +3,7 @@ use Rattle.dagcbor_heads.proofs.Writing.{next_part, next_taken, exit_part, exit_
 use Rattle.ipld_tree.specs.Spelled.{spelled_tree}
 use Rattle.dagcbor_write.proofs.Parts.{begin_two, part_opened}
 use Rattle.dagcbor_write.proofs.KeyOrder.{at_keyed, values_next}
+use Rattle.dagcbor_write.proofs.MapMessages.{value_message}
 use Rattle.dagcbor_write.proofs.collect.keyed.Keyed.write.Goals as goal
 
 pub returns-then-is_err-clause-written : goal.returns-then-is_err-clause-written
@@ -41,3 +42,12 @@ loop-i-preserved g c =
       well_formed = values_next g.V.Serialize.tree c.args.self.now _ _ _ inside c.key.ensures
           c.value-value.ensures c.loop-i.invariant.well_formed c.in-Ok.ensures.well_formed;
     }
+
+pub returns-in-Err-clause-message : goal.returns-in-Err-clause-message
+returns-in-Err-clause-message g c =
+    let inside = rw c.len-i-end.ensures at c.loop-i-test.true in
+    let old = g.W.Write.written c.push-key.new.self in
+    let new = g.W.Write.written c.serialize.new.ser in
+    let text = spelled_tree (g.V.Serialize.tree c.value-value.result.now) in
+    value_message g.V.Serialize.tree _ _ _ inside c.value-value.ensures old new _ c.refused_value.ensures.message
+    (c.refused_value.ensures.stops text old new c.in-Err.ensures.written)

@@ -1,0 +1,194 @@
+// A file of blocks: its roots, its sections, and what is missing.
+
+import { cidText } from './cid.js';
+import { button, make, withAttributes } from './dom.js';
+import { counted, grouping, sizeOf } from './text.js';
+import { GROUPS, Sections, Table } from './sections.js';
+import { faultOf } from './verdicts.js';
+
+const MISSING_AT_ONCE = 100;
+const MOST_ROOTS = 20;
+
+let walks = 0;
+
+export class CarView {
+  constructor(asker, file, header, { open }) {
+    Object.assign(this, { asker, file, header, open });
+    this.sections = new Sections();
+    this.group = 'all';
+    walks += 1;
+    this.number = walks;
+    this.element = make('article.car', this.summary(), this.rootList(), this.filters(), this.table(), this.missingList());
+    this.tell(header.end);
+    this.walk();
+  }
+
+  canFollow(cid) {
+    return this.sections.find(cid) !== undefined;
+  }
+
+  // What is said of the file as a whole.
+
+  summary() {
+    this.banner = make('div.banner.is-note');
+    this.title = withAttributes(make('h2'), { 'aria-live': 'polite' });
+    this.said = make('p');
+    this.bar = withAttributes(make('progress'), { max: 1, 'aria-label': 'Read of the file' });
+    this.stop = button('Stop', () => this.end(), '.quiet');
+    this.progress = make('div.progress', this.bar, this.stop);
+    this.banner.append(this.title, this.said, this.progress);
+    return this.banner;
+  }
+
+  tell(at) {
+    const { counts } = this.sections;
+    this.bar.value = this.file.size ? at / this.file.size : 1;
+    if (!this.done) {
+      this.title.textContent = 'Reading the file of blocks';
+      this.said.textContent = `${counted(counts.all, 'section')}, ${sizeOf(at)} of ${sizeOf(this.file.size)}`;
+    }
+    for (const [name, , , chip] of this.chips) {
+      chip.lastChild.textContent = grouping(counts[name]);
+      chip.hidden = name !== 'all' && !counts[name];
+    }
+  }
+
+  conclude() {
+    const { fault, missing, links } = this.done;
+    const { counts } = this.sections;
+    const wrong = counts.refused + counts.bytes + counts.unknown;
+    const isWell = !fault && !wrong && !missing.length;
+    this.banner.classList.replace('is-note', isWell ? 'is-good' : 'is-bad');
+    this.progress.remove();
+    const all = `${counted(counts.all, 'section')} in ${sizeOf(this.file.size)}, with ${counted(links, 'link')}.`;
+    if (isWell) {
+      this.title.textContent = 'A file of blocks, and all is well';
+      this.said.textContent = `${all} Each block is the one that its CID names, and each link and root leads to one.`;
+      return;
+    }
+    const parts = [];
+    if (counts.refused) parts.push(`${grouping(counts.refused)} refused`);
+    if (counts.bytes) parts.push(`${grouping(counts.bytes)} with other bytes than their CID names`);
+    if (counts.unknown) parts.push(`${grouping(counts.unknown)} not verified`);
+    if (missing.length) parts.push(`${counted(missing.length, 'CID')} missing`);
+    this.title.textContent = fault ? 'A file of blocks, and it breaks off' : 'A file of blocks, and not all is well';
+    this.said.textContent = `${all} ${parts.length ? `${parts.join(', ')}.` : ''}`;
+    if (fault) {
+      const { name, asks } = faultOf(fault.code);
+      this.banner.append(make('p', make('code.name', name), ` At byte ${grouping(fault.at)}, where a section is to begin. ${asks} What is missing is not known.`));
+    }
+  }
+
+  rootList() {
+    const { roots } = this.header;
+    const list = make('ul.roots');
+    for (const root of roots.slice(0, MOST_ROOTS)) {
+      list.append(make('li', button(cidText(root), () => this.open(root), '.cid')));
+    }
+    if (roots.length > MOST_ROOTS) list.append(make('li', `and ${grouping(roots.length - MOST_ROOTS)} more`));
+    if (!roots.length) list.append(make('li.hint', 'none'));
+    return make('section', make('h3', roots.length === 1 ? 'Root' : 'Roots'), list);
+  }
+
+  // Which sections are shown.
+
+  filters() {
+    this.chips = GROUPS.map(([name, title, has]) => {
+      const chip = button('', () => {
+        this.group = name;
+        this.filter();
+      }, `.chip.is-${name}`);
+      chip.append(make('span', title), ' ', make('b'));
+      chip.setAttribute('aria-pressed', name === 'all');
+      return [name, title, has, chip];
+    });
+    this.search = withAttributes(make('input'), { type: 'search', placeholder: 'Part of a CID', 'aria-label': 'Show sections whose CID has this in it', spellcheck: false });
+    this.search.addEventListener('input', () => {
+      clearTimeout(this.later);
+      this.later = setTimeout(() => this.filter(), 200);
+    });
+    return make('div.filters', ...this.chips.map((it) => it[3]), this.search);
+  }
+
+  filter() {
+    for (const [name, , , chip] of this.chips) chip.setAttribute('aria-pressed', name === this.group);
+    const part = this.search.value.trim();
+    this.grid.choose(this.group === 'all' && !part ? null : this.sections.chosen(this.group, part));
+    this.none.hidden = this.grid.length > 0;
+  }
+
+  table() {
+    const host = make('div.sections');
+    this.grid = new Table(host, this.sections, { open: (i) => this.open(this.sections.cids[i], i) });
+    this.none = make('p.hint', 'No section is like this.');
+    this.none.hidden = true;
+    return make('section', host, this.none);
+  }
+
+  missingList() {
+    this.missing = make('section.missing');
+    this.missing.hidden = true;
+    return this.missing;
+  }
+
+  showMissing() {
+    const { missing } = this.done;
+    this.missing.hidden = !missing.length;
+    if (!missing.length) return;
+    const list = make('ul.links');
+    const more = button('', () => add(), '.quiet');
+    let shown = 0;
+    const add = () => {
+      for (const cid of missing.slice(shown, shown + MISSING_AT_ONCE)) list.append(make('li', make('code.cid', cidText(cid))));
+      shown = Math.min(shown + MISSING_AT_ONCE, missing.length);
+      more.hidden = shown === missing.length;
+      more.textContent = `Show more of ${grouping(missing.length)}`;
+    };
+    add();
+    const names = new Set(missing.map(cidText));
+    for (const it of this.element.querySelectorAll('.roots li')) {
+      if (names.has(it.textContent)) it.append(make('span.is-bad', 'missing'));
+    }
+    this.missing.append(make('h3', `Missing ${grouping(missing.length)}`), make('p.hint', 'Roots and links that lead to no verified block of this file.'), list, more);
+  }
+
+  // Reading.
+
+  async walk() {
+    const told = ({ batch, at }) => {
+      this.sections.add(batch);
+      this.tell(at);
+      if (this.group === 'all' && !this.search.value) this.grid.lay();
+    };
+    try {
+      const done = await this.asker.ask('walk', { file: this.file, header: this.header, walk: this.number }, told);
+      if (this.isEnded) return;
+      this.done = done;
+      this.filter();
+      this.conclude();
+      this.showMissing();
+      this.element.dataset.done = 'yes';
+    } catch (error) {
+      this.title.textContent = 'The file could not be read';
+      this.said.textContent = error.message;
+      this.progress.remove();
+    }
+  }
+
+  // What is not shown forgets where it was scrolled to.
+  leave() {
+    this.scrolled = this.grid.box.scrollTop;
+  }
+
+  afterShown() {
+    this.grid.box.scrollTop = this.scrolled ?? 0;
+  }
+
+  end() {
+    if (this.done || this.isEnded) return;
+    this.isEnded = true;
+    this.asker.ask('stop', { walk: this.number });
+    this.title.textContent = 'Stopped';
+    this.progress.remove();
+  }
+}

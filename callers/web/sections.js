@@ -1,0 +1,161 @@
+// The sections of a file of blocks: what is told of them, batch by batch, and the table of them.
+
+import { cidKey, cidParts, cidText } from './cid.js';
+import { grouping, sizeOf } from './text.js';
+import { make, withAttributes } from './dom.js';
+import { Rows } from './rows.js';
+import { sectionOf } from './verdicts.js';
+
+const SECTION_HEIGHT = 32;
+
+export const GROUPS = [
+  ['all', 'All', () => true],
+  ['ok', 'Blocks', (code) => code >= 0 && code < 9],
+  ['refused', 'Refused', (code) => code < 0 && code >= -17],
+  ['bytes', 'Other bytes', (code) => code === -22],
+  ['unknown', 'Not verified', (code) => code === -23],
+  ['codec', 'Other codec', (code) => code === 9],
+];
+
+export const groupOf = (code) => GROUPS.slice(1).find(([, , has]) => has(code))?.[0] ?? 'refused';
+
+export class Sections {
+  constructor() {
+    this.count = 0;
+    this.starts = [];
+    this.blocks = [];
+    this.ends = [];
+    this.codes = [];
+    this.cids = [];
+    this.byName = new Map(); // of each CID the first section whose block is the one that is named
+    this.counts = Object.fromEntries(GROUPS.map(([name]) => [name, 0]));
+  }
+
+  add({ places, codes, lengths, cids }) {
+    let at = 0;
+    for (let i = 0; i < codes.length; i += 1) {
+      const cid = cids.subarray(at, at + lengths[i]);
+      at += lengths[i];
+      this.starts.push(places[3 * i]);
+      this.blocks.push(places[3 * i + 1]);
+      this.ends.push(places[3 * i + 2]);
+      this.codes.push(codes[i]);
+      this.cids.push(cid);
+      const name = cidKey(cid);
+      const known = this.byName.get(name);
+      if (known === undefined || (this.codes[known] < -17 && codes[i] >= -17)) {
+        this.byName.set(name, this.count);
+      }
+      this.counts.all += 1;
+      this.counts[groupOf(codes[i])] += 1;
+      this.count += 1;
+    }
+  }
+
+  find(cid) {
+    return this.byName.get(cidKey(cid));
+  }
+
+  size(i) {
+    return this.ends[i] - this.blocks[i];
+  }
+
+  // Those of a group whose CID has this in its text.
+  chosen(group, part) {
+    const [, , has] = GROUPS.find(([name]) => name === group);
+    const found = [];
+    for (let i = 0; i < this.count; i += 1) {
+      if (has(this.codes[i]) && (!part || cidText(this.cids[i]).includes(part))) found.push(i);
+    }
+    return found;
+  }
+}
+
+const COLUMNS = ['#', 'Verdict', 'CID', 'Size', 'Offset'];
+
+export class Table {
+  constructor(host, sections, { open }) {
+    Object.assign(this, { host, sections, open, chosen: null, picked: 0 });
+    const titles = COLUMNS.map((it) => withAttributes(make('span', it), { role: 'columnheader' }));
+    this.head = withAttributes(make('div.section.is-head', ...titles), { role: 'row', 'aria-rowindex': 1 });
+    const box = make('div.sections-box');
+    host.append(this.head, box);
+    this.box = box;
+    withAttributes(host, { role: 'grid', tabindex: 0, 'aria-label': 'Sections. Enter opens the block.' });
+    box.setAttribute('role', 'rowgroup');
+    this.rows = new Rows(box, SECTION_HEIGHT, (row) => this.draw(row));
+    box.addEventListener('click', (event) => {
+      const row = event.target.closest('[data-row]');
+      if (!row) return;
+      this.pick(Number(row.dataset.row));
+      this.open(this.at(this.picked));
+    });
+    host.addEventListener('keydown', (event) => this.key(event));
+  }
+
+  get length() {
+    return this.chosen ? this.chosen.length : this.sections.count;
+  }
+
+  at(row) {
+    return this.chosen ? this.chosen[row] : row;
+  }
+
+  // None stands for all.
+  choose(chosen) {
+    this.chosen = chosen;
+    this.picked = 0;
+    this.box.scrollTop = 0;
+    this.lay();
+  }
+
+  lay() {
+    this.host.setAttribute('aria-rowcount', this.length + 1);
+    this.rows.setCount(this.length);
+    this.tellActive();
+  }
+
+  draw(row) {
+    const i = this.at(row);
+    const { sections } = this;
+    const code = sections.codes[i];
+    const { word } = sectionOf(code);
+    const verdict = make(`span.verdict.is-${groupOf(code)}`, make('span.dot'), word === 'other codec' ? cidParts(sections.cids[i]).codec : word);
+    const cells = [
+      make('span.row-number', grouping(i + 1)), verdict, make('span.cid', cidText(sections.cids[i])),
+      make('span.size', sizeOf(sections.size(i))), make('span.place', grouping(sections.starts[i])),
+    ];
+    for (const it of cells) it.setAttribute('role', 'gridcell');
+    const element = make('div.section', ...cells);
+    element.classList.toggle('is-picked', row === this.picked);
+    return withAttributes(element, {
+      role: 'row', id: `section-${row}`, 'data-row': row, 'aria-rowindex': row + 2,
+      'aria-selected': row === this.picked,
+    });
+  }
+
+  pick(row) {
+    this.picked = row;
+    this.rows.reveal(row);
+    this.rows.redraw(true);
+    this.tellActive();
+  }
+
+  tellActive() {
+    if (this.length) this.host.setAttribute('aria-activedescendant', `section-${this.picked}`);
+    else this.host.removeAttribute('aria-activedescendant');
+  }
+
+  key(event) {
+    if (event.ctrlKey || event.metaKey || event.altKey || !this.length) return;
+    const last = this.length - 1;
+    const moves = {
+      ArrowDown: this.picked + 1, ArrowUp: this.picked - 1, Home: 0, End: last,
+      PageDown: this.picked + this.rows.seen, PageUp: this.picked - this.rows.seen,
+    };
+    if (event.key in moves) this.pick(Math.max(0, Math.min(last, moves[event.key])));
+    else if (event.key === 'Enter' || event.key === ' ') this.open(this.at(this.picked));
+    else return;
+    event.preventDefault();
+  }
+}

@@ -1,0 +1,6 @@
+//! The types of album.ipldsch, by ./dagcbor-types.
+#![tactic(auto)]
+
+mod album;
+
+pub use album::{Album, Format, Track};

@@ -1,0 +1,82 @@
+//! Bytes as groups of bits, and back (RFC 4648).
+
+ghost use Rattle.std.specs.Prelude.{◌≡◌, ◌+◌, ◌≤◌, ◌++◌, length};
+ghost use Rattle.arrayvec.specs.ArrayVec.{array_vec_len};
+ghost use Rattle.cid_text.specs.Alphabets.{IsBase};
+ghost use Rattle.cid_text.specs.Rfc4648.{group_count, text_in_groups};
+ghost use Rattle.cid_text.specs.Reads.{ReadsGroups};
+
+use crate::error::CidTextError;
+use crate::symbols::place_of;
+use arrayvec::ArrayVec;
+
+/// The greatest number of characters of a CID that is written, with the prefix.
+pub const LONGEST_WRITTEN: usize = 139;
+
+/// The room for what is read of at most 172 characters.
+pub const READ_ROOM: usize = 346;
+
+/// Appends the bytes in groups of so many bits, each as the symbol at its place.
+pub fn push_groups(
+    width: u32,
+    symbols: &[u8],
+    bytes: &[u8],
+    out: &mut ArrayVec<u8, LONGEST_WRITTEN>,
+)
+    requires base { IsBase width symbols.now }
+    requires room { array_vec_len out.old + group_count width (length bytes.now) ≤ 139 }
+    ensures { out.new.items ≡ out.old.items ++ text_in_groups width symbols.now bytes.now }
+{
+    // The bits that fill no group yet.
+    let mut rest = 0;
+    let mut held = 0;
+    for &byte in bytes {
+        rest = rest * 256 + u32::from(byte);
+        held += 8;
+        while held >= width {
+            held -= width;
+            let unit = 2u32.pow(held);
+            out.push(symbols[(rest / unit) as usize]);
+            rest %= unit;
+        }
+    }
+    if held > 0 {
+        out.push(symbols[(rest * 2u32.pow(width - held)) as usize]);
+    }
+}
+
+/// The bytes that the text is of.
+pub fn read_groups(
+    width: u32,
+    symbols: &[u8],
+    text: &[u8],
+) -> Result<ArrayVec<u8, READ_ROOM>, CidTextError>
+    requires base { IsBase width symbols.now }
+    requires room { length text.now ≤ 172 }
+    ensures { ReadsGroups width symbols.now text.now result }
+{
+    let mut bytes = ArrayVec::new();
+    // The bits that fill no byte yet.
+    let mut rest = 0;
+    let mut held = 0;
+    for &symbol in text {
+        let Some(place) = place_of(symbols, symbol) else {
+            return Err(CidTextError::InvalidCharacter);
+        };
+        rest = rest * 2u32.pow(width) + u32::from(place);
+        held += width;
+        if held >= 8 {
+            held -= 8;
+            let unit = 2u32.pow(held);
+            bytes.push((rest / unit) as u8);
+            rest %= unit;
+        }
+    }
+    if held >= width {
+        return Err(CidTextError::InvalidLength);
+    }
+    if rest != 0 {
+        return Err(CidTextError::TrailingBits);
+    }
+    Ok(bytes)
+}

@@ -1,0 +1,70 @@
+//! The CID of a text.
+
+ghost use Rattle.cid_text.specs.Texts.{ReadsIn, ReadsCidIn, ReadsCidText, IsOfVersion};
+
+use crate::base::Base;
+use crate::base58::read_58;
+use crate::error::CidTextError;
+use crate::groups::{READ_ROOM, read_groups};
+use crate::symbols::split_character;
+use arrayvec::ArrayVec;
+use ipld_tree::Cid;
+
+/// The greatest number of characters of a CID, without a prefix.
+const LONGEST_READ: usize = 172;
+
+/// The bytes of which this is the text in the base.
+fn read_in(base: Base, text: &[u8]) -> Result<ArrayVec<u8, READ_ROOM>, CidTextError>
+    ensures { ReadsIn base text.now result }
+{
+    if text.len() > LONGEST_READ {
+        return Err(CidTextError::TooLong);
+    }
+    match base {
+        Base::Lower16 => read_groups(4, b"0123456789abcdef", text),
+        Base::Lower32 => read_groups(5, b"abcdefghijklmnopqrstuvwxyz234567", text),
+        Base::Upper32 => read_groups(5, b"ABCDEFGHIJKLMNOPQRSTUVWXYZ234567", text),
+        Base::Bitcoin58 => read_58(text),
+    }
+}
+
+/// The CID of whose bytes this is the text in the base.
+fn cid_in(base: Base, text: &[u8]) -> Result<Cid, CidTextError>
+    ensures { ReadsCidIn base text.now result }
+{
+    match read_in(base, text) {
+        Ok(bytes) => match Cid::try_from(bytes.as_slice()) {
+            Ok(cid) => Ok(cid),
+            Err(fault) => Err(CidTextError::InvalidCid(fault)),
+        },
+        Err(error) => Err(error),
+    }
+}
+
+/// The CID, where it is of this version.
+fn of_version(version: u64, read: Result<Cid, CidTextError>) -> Result<Cid, CidTextError>
+    ensures { IsOfVersion version read result }
+{
+    match read {
+        Ok(cid) if cid.version() == version => Ok(cid),
+        Ok(_) => Err(CidTextError::InvalidVersion),
+        Err(error) => Err(error),
+    }
+}
+
+/// The CID of the text: of version 0 in base58btc, and of version 1 behind the prefix of its base.
+pub fn cid_from_text(text: &[u8]) -> Result<Cid, CidTextError>
+    ensures { ReadsCidText text.now result }
+{
+    let Some((first, rest)) = split_character(text) else {
+        return Err(CidTextError::UnknownBase);
+    };
+    match first {
+        b'f' => of_version(1, cid_in(Base::Lower16, rest)),
+        b'b' => of_version(1, cid_in(Base::Lower32, rest)),
+        b'B' => of_version(1, cid_in(Base::Upper32, rest)),
+        b'z' => of_version(1, cid_in(Base::Bitcoin58, rest)),
+        b'Q' => of_version(0, cid_in(Base::Bitcoin58, text)),
+        _ => Err(CidTextError::UnknownBase),
+    }
+}

@@ -1,0 +1,38 @@
+//! A CID as text.
+
+ghost use Rattle.std.specs.Prelude.{◌≡◌};
+ghost use Rattle.cid_text.specs.Alphabets.{AreBytes};
+ghost use Rattle.cid_text.specs.Texts.{cid_text, IsTextOf};
+
+use crate::base58::push_58;
+use crate::groups::{LONGEST_WRITTEN, push_groups};
+use arrayvec::ArrayVec;
+use ipld_tree::Cid;
+
+/// The characters of a CID, all of them ASCII.
+pub type CidText = ArrayVec<u8, LONGEST_WRITTEN>;
+
+/// Any bytes are below 256: for the proof alone.
+fn are_bytes(bytes: &[u8])
+    ensures { AreBytes bytes.now }
+{
+    let _bytes = bytes;
+}
+
+/// The text of the CID: base32 with small letters behind `b`, and of version 0 base58btc.
+pub fn cid_text(cid: &Cid) -> CidText
+    ensures text { result.items ≡ cid_text cid.now }
+    ensures told { IsTextOf result.items cid.now }
+{
+    let mut bytes = ArrayVec::new();
+    cid.write_bytes(&mut bytes);
+    are_bytes(&bytes);
+    let mut text = ArrayVec::new();
+    if cid.version() == 0 {
+        push_58(&bytes, &mut text);
+    } else {
+        text.push(b'b');
+        push_groups(5, b"abcdefghijklmnopqrstuvwxyz234567", &bytes, &mut text);
+    }
+    text
+}

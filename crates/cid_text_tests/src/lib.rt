@@ -1,0 +1,5 @@
+//! Tests of `cid_text`.
+#![tactic(auto)]
+
+#[cfg(test)]
+mod tests;

@@ -1,0 +1,105 @@
+-- Data as DAG-JSON, in one line without spaces (DAG-JSON specification, over RFC 8259).
+use Rattle.std.specs.Prelude.{◌≡◌, ℕ, ◌/◌, ◌%◌, ◌==◌, nat_lt, Bool, true, false, List, [], ◌∷◌, ◌++◌, codes, map}
+use Rattle.std.specs.Prelude.{slice_index, if◌then◌else◌, Result, OnOk}
+use Rattle.std.specs.List.{flat_map}
+use Rattle.std.specs.Fmt.{signed_decimal}
+use Rattle.std.specs.Ordering.{is_lt}
+use Rattle.base64.specs.GeneralPurpose.{encode_of}
+use Rattle.base64.specs.Engines.{standard_no_pad}
+use Rattle.ipld_tree.specs.Key.{bytes_cmp}
+use Rattle.ipld_tree.specs.Tree.{Tree, null, boolean, integer, text, bytes, list, mapping, link}
+use Rattle.ipld_tree.specs.Tree.{Items, no_items, item, Entries, no_entries, entry}
+use Rattle.cid_text.specs.Texts.{text_of_form}
+
+-- ---- texts
+
+-- a digit of base 16
+abbrev pub digit_16 : ℕ → ℕ
+digit_16 n = slice_index (codes "0123456789abcdef") n
+
+-- A byte of a text (RFC 8259, section 7): behind a backslash (92) stand a quote, a backslash, and b, t,
+-- n, f or r for what they name; of other control characters u00 and two digits of base 16.
+abbrev pub escaped : ℕ → List ℕ
+escaped b =
+    if b == 34 then 92 ∷ 34 ∷ []
+    else (if b == 92 then 92 ∷ 92 ∷ []
+    else (if b == 8 then 92 ∷ 98 ∷ []
+    else (if b == 9 then 92 ∷ 116 ∷ []
+    else (if b == 10 then 92 ∷ 110 ∷ []
+    else (if b == 12 then 92 ∷ 102 ∷ []
+    else (if b == 13 then 92 ∷ 114 ∷ []
+    else (if nat_lt b 32 then 92 ∷ 117 ∷ 48 ∷ 48 ∷ digit_16 (b / 16) ∷ digit_16 (b % 16) ∷ []
+    else b ∷ [])))))))
+
+-- a text, between quotes
+abbrev pub json_text : List ℕ → List ℕ
+json_text s = 34 ∷ (flat_map escaped s ++ 34 ∷ [])
+
+-- ---- lists and maps
+
+-- the texts, a comma between
+abbrev pub joined : List (List ℕ) → List ℕ
+joined [] = []
+joined (t ∷ ts) = t ++ flat_map (λ u. 44 ∷ u) ts
+
+-- a key, and the text of its value
+abbrev pub Member : Type 0
+Member = List ℕ × List ℕ
+
+-- put into its place by the bytes of the keys
+abbrev pub put : Member → List Member → List Member
+put p [] = p ∷ []
+put p (q ∷ qs) = if is_lt (bytes_cmp p.0 q.0) then p ∷ q ∷ qs else q ∷ put p qs
+
+-- in the order of the bytes of the keys, as DAG-JSON has it: not that of DAG-CBOR, in which shorter
+-- keys stand first
+abbrev pub by_bytes : List Member → List Member
+by_bytes [] = []
+by_bytes (p ∷ ps) = put p (by_bytes ps)
+
+-- a key, a colon, and the value
+abbrev pub member_text : Member → List ℕ
+member_text p = json_text p.0 ++ (58 ∷ p.1)
+
+abbrev pub list_text : List (List ℕ) → List ℕ
+list_text ts = 91 ∷ (joined ts ++ 93 ∷ [])
+
+abbrev pub map_text : List Member → List ℕ
+map_text ps = 123 ∷ (joined (map member_text ps) ++ 125 ∷ [])
+
+-- ---- data
+
+abbrev pub boolean_text : Bool → List ℕ
+boolean_text false = codes "false"
+boolean_text true = codes "true"
+
+-- bytes in base64 (RFC 4648, section 4) without padding
+abbrev pub bytes_text : List ℕ → List ℕ
+bytes_text b = codes "{\"/\":{\"bytes\":\"" ++ (encode_of standard_no_pad b ++ codes "\"}}")
+
+-- a link by the text of its CID
+abbrev pub link_text : List ℕ → List ℕ
+link_text cid = codes "{\"/\":\"" ++ (text_of_form cid ++ codes "\"}")
+
+unfoldable mutual
+  pub dag_json : Tree → List ℕ
+  dag_json null = codes "null"
+  dag_json (boolean b) = boolean_text b
+  dag_json (integer n) = signed_decimal n
+  dag_json (text s) = json_text s
+  dag_json (bytes b) = bytes_text b
+  dag_json (list ts) = list_text (item_texts ts)
+  dag_json (mapping es) = map_text (by_bytes (entry_texts es))
+  dag_json (link cid) = link_text cid
+
+  pub item_texts : Items → List (List ℕ)
+  item_texts no_items = []
+  item_texts (item t ts) = dag_json t ∷ item_texts ts
+
+  pub entry_texts : Entries → List Member
+  entry_texts no_entries = []
+  entry_texts (entry k t es) = (k, dag_json t) ∷ entry_texts es
+
+-- the text was appended, where the call succeeds
+abbrev pub Pushes : {A E : Type 0} → List ℕ → List ℕ → Result A E → List ℕ → Type 0
+Pushes said old result new = OnOk result (new ≡ old ++ said)

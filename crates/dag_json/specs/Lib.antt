@@ -1,0 +1,2 @@
+pub use Rattle.ipld_tree.specs.Tree
+pub mod DagJson

@@ -1,5 +1,0 @@
-use Rattle.dagcar.proofs.Saying.{missing_is_said}
-use Rattle.dagcar.proofs.check.missing_said.Goals as goal
-
-pub returns-in-Ok : goal.returns-in-Ok
-returns-in-Ok c = missing_is_said c.args.check c.in-Ok.missing _ c.names_said.result c.deref.ensures.value c.in-Ok.ensures c.names_said.ensures.lines c.names_said.ensures.well

@@ -1,0 +1,102 @@
+-- What is said of a file of blocks, whatever is said of its roots, of a section and at its end.
+use Rattle.std.specs.Prelude.{◌≡◌, ◌⊎◌, ℕ, List, [], ◌∷◌, ◌++◌, Bool, true, false, ◌&&◌}
+use Rattle.std.specs.Prelude.{Option, Some, Result, MatchResult}
+use Rattle.std.specs.Io.KnownBytes.{Appends}
+use Rattle.std.specs.declared.convert.Infallible.{Infallible}
+use Rattle.dagcbor_heads.specs.Reading.{Reading}
+use Rattle.dagcbor_car.specs.Car.{Section, IsCar}
+use Rattle.dagcbor_car.specs.Sources.{RefusesHeader, RefusesSection}
+use Rattle.dagcbor_car.specs.Checks.{IsCarFront, IsNoCar}
+use Rattle.dagcbor_car.specs.declared.error.CarError.{CarError}
+use Rattle.dagcar_lines.specs.Lines.{refused_line}
+use Rattle.dagcbor_cli.specs.declared.fault.ToolError.{ToolError}
+use Rattle.dagcbor_cli.specs.declared.fault.ToolError.TheVariants.{Output}
+
+-- What a command says of a file; and whether that tells of nothing wrong.
+pub record Speech : Type 1 where
+  -- of the roots, by their binary forms
+  pub of_roots : List (List ℕ) → List ℕ
+  -- of a section
+  pub of_section : Section → Bool → List ℕ → Type 0
+  -- at the end of a file of these roots and sections
+  pub of_end : List (List ℕ) → List Section → Bool → List ℕ → Type 0
+
+-- what is said of each of the sections, and whether all of it tells of nothing wrong
+abbrev pub IsSaidOfEach : Speech → List Section → Bool → List ℕ → Type 0
+IsSaidOfEach speech [] well out = (well ≡ true) × (out ≡ [])
+IsSaidOfEach speech (s ∷ sections) well out = (first others : Bool) × (line lines : List ℕ)
+    × speech.of_section s first line × IsSaidOfEach speech sections others lines
+    × (well ≡ (first && others)) × (out ≡ line ++ lines)
+
+-- what is said of the roots and of the first sections
+abbrev pub IsSaidSoFar : Speech → List (List ℕ) → List Section → Bool → List ℕ → Type 0
+IsSaidSoFar speech roots sections well out = (lines : List ℕ)
+    × IsSaidOfEach speech sections well lines × (out ≡ speech.of_roots roots ++ lines)
+
+-- what is said of a file: of the roots, of each section, and at the end
+pub record IsSaidOfFile (speech : Speech) (b : List ℕ) (well : Bool) (out : List ℕ) : Type 0 where
+  pub roots : List (List ℕ)
+  pub sections : List Section
+  pub file : IsCar b roots sections
+  pub all_well : Bool
+  pub said : List ℕ
+  pub far : IsSaidSoFar speech roots sections all_well said
+  pub end_well : Bool
+  pub last : List ℕ
+  pub ending : speech.of_end roots sections end_well last
+  pub lines : out ≡ said ++ last
+  pub wellness : well ≡ (end_well && all_well)
+
+-- no header stands first, and nothing was said; or the roots and all sections up to a place were
+-- told where no section stands, though bytes do
+abbrev pub StandsBehind : Speech → CarError Infallible → List ℕ → List ℕ → Type 0
+StandsBehind speech e b said = (RefusesHeader e b × (said ≡ []))
+    ⊎ ((roots : List (List ℕ)) × (sections : List Section) × (rest : List ℕ) × (well : Bool)
+    × IsCarFront b roots sections rest × IsSaidSoFar speech roots sections well said
+    × RefusesSection e rest)
+
+-- what is said of bytes that are no file: what stands in front of the fault, and a line for it
+pub record IsSaidOfNone (speech : Speech) (b : List ℕ) (out : List ℕ) : Type 0 where
+  pub error : CarError Infallible
+  pub said : List ℕ
+  pub none : IsNoCar b
+  pub stands : StandsBehind speech error b said
+  pub lines : out ≡ said ++ refused_line error
+
+-- What is said of bytes, and whether nothing is wrong.
+abbrev pub IsSaidOf : Speech → List ℕ → Bool → List ℕ → Type 0
+IsSaidOf speech b well out = IsSaidOfFile speech b well out
+    ⊎ ((well ≡ false) × IsSaidOfNone speech b out)
+
+-- what is said of the roots and of the first sections of a file, or nothing
+abbrev pub AreFirstLines : Speech → List ℕ → List ℕ → Type 0
+AreFirstLines speech b out = (out ≡ [])
+    ⊎ ((roots : List (List ℕ)) × (sections : List Section) × (rest : List ℕ) × (well : Bool)
+    × IsCarFront b roots sections rest × IsSaidSoFar speech roots sections well out)
+
+-- these lines are the first, or all that is said
+abbrev pub AreLines : Speech → List ℕ → List ℕ → Type 0
+AreLines speech b out = AreFirstLines speech b out ⊎ ((well : Bool) × IsSaidOf speech b well out)
+
+-- What went out where a run broke off: the first lines; and then a front of what is said next,
+-- which is empty but where the device failed.
+pub record BreaksOff (speech : Speech) (b : List ℕ) (old new : Option (List ℕ)) (e : ToolError) : Type 0 where
+  pub whole : List ℕ
+  pub front : List ℕ
+  pub first : AreFirstLines speech b whole
+  pub out : Appends old new (whole ++ front)
+  pub next : (front ≡ [])
+      ⊎ ((e ≡ Output) × ((back : List ℕ) × AreLines speech b (whole ++ (front ++ back))))
+
+-- All is said of the bytes, or the run broke off.
+abbrev pub SaysBytes : Speech → List ℕ → Option (List ℕ) → Result Bool ToolError
+    → Option (List ℕ) → Type 0
+SaysBytes speech b old result new = MatchResult result
+    (λ well. (out : List ℕ) × IsSaidOf speech b well out × Appends old new out)
+    (λ e. BreaksOff speech b old new e)
+
+-- the same of the bytes that are left, where the source tells them
+abbrev pub SaysFile : Speech → Reading → Option (List ℕ) → Result Bool ToolError
+    → Option (List ℕ) → Type 0
+SaysFile speech source old result new = (b : List ℕ) → source.left ≡ Some b
+    → SaysBytes speech b old result new

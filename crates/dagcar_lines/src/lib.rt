@@ -1,0 +1,13 @@
+//! The lines of the program `dagcar`: files of blocks (CAR, version 1) are judged or listed, and
+//! blocks are named, judged and shown.
+#![tactic(auto)]
+
+mod block;
+mod check;
+mod command;
+mod line;
+mod list;
+mod names;
+mod walk;
+
+pub use command::{Command, OUT_OF_MEMORY, USAGE, run_command};

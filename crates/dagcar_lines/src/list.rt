@@ -1,0 +1,34 @@
+//! `list`: the roots, and then each section, with the length of its block.
+
+ghost use Rattle.std.specs.Prelude.{⊤};
+ghost use Rattle.dagcar_lines.specs.Answers.{list_speech};
+
+use crate::line::{Said, listed_line, root_lines};
+use crate::walk::Teller;
+use dagcbor_car::Section;
+use ipld_tree::Cid;
+use std::alloc::{AllocError, Global};
+
+/// What is kept of a file that is listed, which is nothing.
+#[derive(Clone, Copy)]
+pub struct Listing;
+
+impl Teller for Listing {
+    ghost speech = { list_speech };
+
+    ghost knows = { λ listing roots sections. ⊤ };
+
+    fn begin(alloc: Global, roots: &[Cid]) -> Result<(Listing, Vec<u8>), AllocError> {
+        let lines = root_lines(alloc, roots)?;
+        Ok((Listing, lines))
+    }
+
+    fn tell(&mut self, alloc: Global, section: &Section<'_>) -> Result<Said, AllocError> {
+        let line = listed_line(alloc, &section.cid, section.block)?;
+        Ok((line, true))
+    }
+
+    fn end(self, alloc: Global) -> Result<Said, AllocError> {
+        Ok((Vec::new(alloc), true))
+    }
+}

@@ -1,0 +1,15 @@
+use Rattle.std.proofs.Common.{◌≡◌, ◌+◌, ◌≤◌, length}
+use Rattle.ipld_tree.specs.Tree.{Tree}
+use Rattle.ipld_tree.specs.Spelling.{IsSpelling}
+use Rattle.dagcbor_calls.proofs.Tapes.{Told}
+use Rattle.dagcbor_calls.proofs.tape.put_tokens.Given as goal
+
+abbrev pub invariant-loop-token : goal.invariant-loop-token
+invariant-loop-token l = record {
+  fits : l.count + length l.rest ≤ length l.bytes;
+  same_length : length l.tape ≡ length l.initial.tape;
+  told : (t : Tree) → IsSpelling l.bytes t → Told (length l.bytes) t l.rest l.initial.tape l.tape l.count;
+}
+
+abbrev pub decreases-loop-token : goal.decreases-loop-token
+decreases-loop-token l = length l.rest

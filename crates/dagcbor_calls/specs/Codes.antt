@@ -1,0 +1,77 @@
+-- The numbers that callers in other languages are told.
+use Rattle.std.specs.Prelude.{ℤ, pos, negsuc, Result, Ok, Err}
+use Rattle.dagcbor_heads.specs.declared.error.DecodeError.{DecodeError}
+use Rattle.dagcbor_heads.specs.declared.error.DecodeError.TheVariants as refusals
+use Rattle.dagcbor_items.specs.declared.kind.Kind.{Kind}
+use Rattle.dagcbor_items.specs.declared.kind.Kind.TheVariants as kinds
+use Rattle.cid_text.specs.declared.error.CidTextError.{CidTextError}
+use Rattle.cid_text.specs.declared.error.CidTextError.TheVariants as texts
+use Rattle.dagcbor_car.specs.declared.error.CarError.{CarError}
+use Rattle.dagcbor_car.specs.declared.error.CarError.TheVariants as faults
+use Rattle.dagcbor_car.specs.declared.verdict.Verdict.{Verdict}
+use Rattle.dagcbor_car.specs.declared.verdict.Verdict.TheVariants as verdicts
+
+-- the number of a kind, from 0
+abbrev pub kind_code : Kind → ℤ
+kind_code kinds.Null = pos 0
+kind_code kinds.Bool = pos 1
+kind_code kinds.Integer = pos 2
+kind_code kinds.String = pos 3
+kind_code kinds.Bytes = pos 4
+kind_code kinds.List = pos 5
+kind_code kinds.Map = pos 6
+kind_code kinds.Link = pos 7
+
+-- the number of a refusal's variant, below 0; `negsuc n` is - 1 - n
+abbrev pub refusal_code : {E : Type 0} → DecodeError E → ℤ
+refusal_code (refusals.Msg message) = negsuc 0
+refusal_code (refusals.Read e) = negsuc 1
+refusal_code (refusals.Eof name expect) = negsuc 2
+refusal_code (refusals.Mismatch name found) = negsuc 3
+refusal_code (refusals.Unsupported name found) = negsuc 4
+refusal_code (refusals.RequireLength name found) = negsuc 5
+refusal_code (refusals.RequireBorrowed name) = negsuc 6
+refusal_code (refusals.RequireUtf8 name) = negsuc 7
+refusal_code (refusals.LengthOverflow name found) = negsuc 8
+refusal_code (refusals.CastOverflow name) = negsuc 9
+refusal_code (refusals.ArithmeticOverflow name ty) = negsuc 10
+refusal_code (refusals.DepthOverflow name) = negsuc 11
+refusal_code (refusals.LengthMismatch name expect value) = negsuc 12
+refusal_code refusals.TrailingData = negsuc 13
+refusal_code refusals.IndefiniteSize = negsuc 14
+refusal_code (refusals.NonMinimal name found) = negsuc 15
+refusal_code refusals.UnorderedKey = negsuc 16
+refusal_code refusals.OutOfMemory = negsuc 17
+refusal_code refusals.Failed = negsuc 18
+
+-- the number of a kind, from 0, or of a refusal, below 0
+abbrev pub answer_code : {E : Type 0} → Result Kind (DecodeError E) → ℤ
+answer_code (Ok kind) = kind_code kind
+answer_code (Err e) = refusal_code e
+
+-- the number of a verdict on a block under a name: from 0 where nothing is wrong
+abbrev pub verdict_code : Verdict → ℤ
+verdict_code (verdicts.Block kind) = kind_code kind
+verdict_code verdicts.NotRead = pos 9
+verdict_code (verdicts.Refused e) = refusal_code e
+verdict_code verdicts.OtherBytes = negsuc 21
+verdict_code verdicts.Unverified = negsuc 22
+
+-- the number of a cause for which no section stands; the last is of those that are none of a section
+abbrev pub fault_code : {E : Type 0} → CarError E → ℤ
+fault_code faults.Truncated = negsuc 23
+fault_code faults.InvalidLength = negsuc 24
+fault_code (faults.InvalidCid e) = negsuc 25
+fault_code _ = negsuc 26
+
+-- the number of a fault in the text of a CID; bytes that are no CID have the one that they have in
+-- a section
+abbrev pub text_fault_code : CidTextError → ℤ
+text_fault_code (texts.InvalidCid e) = negsuc 25
+text_fault_code texts.UnknownBase = negsuc 27
+text_fault_code texts.TooLong = negsuc 28
+text_fault_code texts.InvalidCharacter = negsuc 29
+text_fault_code texts.InvalidLength = negsuc 30
+text_fault_code texts.TrailingBits = negsuc 31
+text_fault_code texts.LeadingZero = negsuc 32
+text_fault_code texts.InvalidVersion = negsuc 33

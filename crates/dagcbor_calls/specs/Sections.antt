@@ -1,0 +1,26 @@
+-- What callers in other languages are answered of a section.
+use Rattle.std.specs.Prelude.{◌≡◌, ◌⊎◌, ℕ, ◌+◌, ℤ, List, [], ◌∷◌, length}
+use Rattle.std.specs.declared.convert.Infallible.{Infallible}
+use Rattle.ipld_tree.specs.Cid.{varint, cid_bytes}
+use Rattle.dagcbor_car.specs.Car.{Section, section_body, section_bytes}
+use Rattle.dagcbor_car.specs.Splits.{SplitsSection, BeginsNoSection, SectionFault}
+use Rattle.dagcbor_car.specs.Verdicts.{IsVerdict}
+use Rattle.dagcbor_car.specs.declared.error.CarError.{CarError}
+use Rattle.dagcbor_car.specs.declared.verdict.Verdict.{Verdict}
+use Rattle.dagcbor_calls.specs.Codes.{verdict_code, fault_code}
+
+-- where the CID of a section begins, behind the length; where it ends and the block begins; and
+-- where the block ends and the section
+abbrev pub places_of : Section → List ℕ
+places_of s = length (varint (length (section_body s)))
+    ∷ (length (varint (length (section_body s))) + length (cid_bytes s.0))
+    ∷ length (section_bytes s) ∷ []
+
+-- the number of the verdict on the block of the section that begins the bytes, and its places; or
+-- the number of a cause for which none does, and then nothing changed
+abbrev pub IsSectionAnswer : List ℕ → List ℕ → List ℕ → ℤ → Type 0
+IsSectionAnswer b old new code =
+    ((s : Section) × (rest : List ℕ) × (v : Verdict) × SplitsSection b s rest × IsVerdict s v
+    × (code ≡ verdict_code v) × (new ≡ places_of s))
+    ⊎ ((e : CarError Infallible) × BeginsNoSection b × SectionFault e b × (code ≡ fault_code e)
+    × (new ≡ old))

@@ -1,0 +1,74 @@
+-- What a tape tells: its heads and their payloads, one behind the other.
+use Rattle.std.specs.Prelude.{◌≡◌, ℕ, suc, ◌+◌, ◌-◌, ◌^◌, ◌<◌, ◌≤◌, min, List, [], ◌∷◌, ◌++◌, length, take, drop, Option, Some, None}
+use Rattle.std.specs.Prelude.{if◌then◌else◌, nat_eq, nat_lt, option_map, option_and_then, MatchOption}
+use Rattle.dagcbor_heads.specs.Head.{head}
+use Rattle.ipld_tree.specs.Tree.{Tree}
+use Rattle.ipld_tree.specs.Spelling.{spelling}
+use Rattle.dagcbor_calls.specs.Packed.{HasPut}
+use Rattle.dagcbor_calls.specs.Tapes.{tape_of}
+use Rattle.dagcbor_calls.specs.declared.links.PackedLinks.{PackedLinks}
+use Rattle.dagcbor_calls.specs.declared.tape.Token.{Token}
+
+-- so many bytes from a place on, where they are there
+abbrev pub payload_at : List ℕ → ℕ → ℕ → Option (List ℕ)
+payload_at b place n = if nat_lt (length b) (place + n) then None else Some (take n (drop place b))
+
+-- the byte of a simple value, and none where it is told by another number than these
+abbrev pub null_told : ℕ → Option (List ℕ)
+null_told n = if nat_eq n 0 then Some (0xf6 ∷ []) else None
+
+-- the bytes that the number of a boolean's token tells, if it is one
+abbrev pub boolean_told : ℕ → Option (List ℕ)
+boolean_told n = if nat_eq n 0 then Some (0xf4 ∷ []) else if nat_eq n 1 then Some (0xf5 ∷ []) else None
+
+-- a string of the major type, and a link: their head, and the payload behind it
+abbrev pub string_told : ℕ → List ℕ → ℕ → ℕ → Option (List ℕ)
+string_told major b n place = option_map (λ s. head major n ++ s) (payload_at b place n)
+
+-- the bytes of a link whose CID has n bytes at this place
+abbrev pub link_told : List ℕ → ℕ → ℕ → Option (List ℕ)
+link_told b n place = option_map (λ s. 0xd8 ∷ 0x2a ∷ head 2 (suc n) ++ 0x00 ∷ s) (payload_at b place n)
+
+-- the bytes of a token by its kind, its number and its place, and none where it is no token
+abbrev pub bytes_told : List ℕ → ℕ → ℕ → ℕ → Option (List ℕ)
+bytes_told b kind n place =
+    if nat_eq kind 0 then null_told n
+    else if nat_eq kind 1 then boolean_told n
+    else if nat_eq kind 2 then Some (head 0 n)
+    else if nat_eq kind 3 then string_told 3 b n place
+    else if nat_eq kind 4 then string_told 2 b n place
+    else if nat_eq kind 5 then Some (head 4 n)
+    else if nat_eq kind 6 then Some (head 5 n)
+    else if nat_eq kind 7 then link_told b n place
+    else if nat_eq kind 8 then Some (head 1 n)
+    else None
+
+-- the bytes of a tape over the bytes that its places speak of
+abbrev pub tape_told : List ℕ → List Token → Option (List ℕ)
+tape_told b [] = Some []
+tape_told b (first ∷ more) = option_and_then (λ s. option_map (λ r. s ++ r) (tape_told b more)) (bytes_told b first.kind first.number first.place)
+
+-- the tape of a block tells the block
+abbrev pub TapeTellsBlock : Type 0
+TapeTellsBlock = (t : Tree) → tape_told (spelling t) (tape_of t) ≡ Some (spelling t)
+
+-- these bytes were put behind those that were put before
+abbrev pub Puts : List ℕ → PackedLinks → PackedLinks → Type 0
+Puts s old new = (name : ℕ) (before done : List ℕ) → HasPut name before done old → HasPut name before (done ++ s) new
+
+-- what is told was put, where something is
+abbrev pub PutsTold : Option (List ℕ) → PackedLinks → PackedLinks → Option (Unit {0}) → Type 0
+PutsTold told old new result = MatchOption result (told ≡ None) (λ _. (s : List ℕ) × (told ≡ Some s) × Puts s old new)
+
+-- the memory has room for the bytes, of which there are fewer than 2^64 - 1
+abbrev pub HasRoom : List ℕ → List ℕ → Type 0
+HasRoom s old = (length s ≤ length old) × (length s < 2 ^ 64 - 1)
+
+-- how many bytes the tape tells, as far as that is counted
+abbrev pub CountsTold : List ℕ → List Token → Option ℕ → Type 0
+CountsTold b tape result = MatchOption result (tape_told b tape ≡ None)
+    (λ n. (s : List ℕ) × (tape_told b tape ≡ Some s) × (n ≡ min (length s) (2 ^ 64 - 1)))
+
+-- what the tape tells was put at the front of the memory, where there is room for it
+abbrev pub FillsTold : List ℕ → List Token → List ℕ → List ℕ → Type 0
+FillsTold b tape old new = (s : List ℕ) → tape_told b tape ≡ Some s → length s ≤ length old → new ≡ s ++ drop (length s) old

@@ -1,0 +1,64 @@
+//! The text of a CID, and the CID of a text, put into memory of the caller.
+
+ghost use Rattle.std.specs.Prelude.{◌≡◌};
+ghost use Rattle.dagcbor_calls.specs.Codes.{text_fault_code};
+ghost use Rattle.dagcbor_calls.specs.CidTexts.{IsPut, IsCidTextAnswer, IsCidFromTextAnswer};
+
+use crate::code::{NO_CID, NO_ROOM};
+use arrayvec::ArrayVec;
+use cid_text::{CidTextError, cid_from_text, cid_text};
+use ipld_tree::Cid;
+
+/// The number of the fault in a text.
+fn text_fault_code(fault: &CidTextError) -> i32
+    ensures { result ≡ text_fault_code fault.now }
+{
+    match fault {
+        CidTextError::InvalidCid(_) => NO_CID,
+        CidTextError::UnknownBase => -28,
+        CidTextError::TooLong => -29,
+        CidTextError::InvalidCharacter => -30,
+        CidTextError::InvalidLength => -31,
+        CidTextError::TrailingBits => -32,
+        CidTextError::LeadingZero => -33,
+        CidTextError::InvalidVersion => -34,
+    }
+}
+
+/// Puts the bytes at the front of `out`, where there is room for them.
+fn put_front(bytes: &[u8], out: &mut [u8], needed: &mut usize) -> i32
+    ensures { IsPut bytes.now out.old out.new needed.new result }
+{
+    *needed = bytes.len();
+    if out.len() < bytes.len() {
+        return NO_ROOM;
+    }
+    out[..bytes.len()].copy_from_slice(bytes);
+    0
+}
+
+/// Puts the text of the CID that the bytes are.
+pub fn put_cid_text(bytes: &[u8], out: &mut [u8], needed: &mut usize) -> i32
+    ensures { IsCidTextAnswer bytes.now out.old out.new needed.new result }
+{
+    *needed = 0;
+    match Cid::try_from(bytes) {
+        Ok(cid) => put_front(&cid_text(&cid), out, needed),
+        Err(_) => NO_CID,
+    }
+}
+
+/// Puts the binary form of the CID that the text is one of.
+pub fn put_cid_of_text(text: &[u8], out: &mut [u8], needed: &mut usize) -> i32
+    ensures { IsCidFromTextAnswer text.now out.old out.new needed.new result }
+{
+    *needed = 0;
+    match cid_from_text(text) {
+        Ok(cid) => {
+            let mut form = ArrayVec::new();
+            cid.write_bytes(&mut form);
+            put_front(&form, out, needed)
+        }
+        Err(fault) => text_fault_code(&fault),
+    }
+}

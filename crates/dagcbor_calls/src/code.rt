@@ -1,0 +1,64 @@
+//! Numbers for what callers in other languages are told.
+
+ghost use Rattle.std.specs.Prelude.{◌≡◌};
+ghost use Rattle.dagcbor_calls.specs.Codes.{kind_code, refusal_code, answer_code};
+
+use dagcbor_heads::DecodeError;
+use dagcbor_items::Kind;
+
+/// What is answered where there is no room.
+pub(crate) const NO_ROOM: i32 = -21;
+
+/// What is answered where bytes are no CID.
+pub(crate) const NO_CID: i32 = -26;
+
+/// The number of an answer.
+pub fn code_of<E>(answer: &Result<Kind, DecodeError<E>>) -> i32
+    ensures { result ≡ answer_code answer.now }
+{
+    match answer {
+        Ok(kind) => kind_code(*kind),
+        Err(refusal) => refusal_code(refusal),
+    }
+}
+
+pub(crate) fn kind_code(kind: Kind) -> i32
+    ensures { result ≡ kind_code kind }
+{
+    match kind {
+        Kind::Null => 0,
+        Kind::Bool => 1,
+        Kind::Integer => 2,
+        Kind::String => 3,
+        Kind::Bytes => 4,
+        Kind::List => 5,
+        Kind::Map => 6,
+        Kind::Link => 7,
+    }
+}
+
+pub(crate) fn refusal_code<E>(refusal: &DecodeError<E>) -> i32
+    ensures { result ≡ refusal_code refusal.now }
+{
+    match refusal {
+        DecodeError::Msg(_) => -1,
+        DecodeError::Read(_) => -2,
+        DecodeError::Eof { .. } => -3,
+        DecodeError::Mismatch { .. } => -4,
+        DecodeError::Unsupported { .. } => -5,
+        DecodeError::RequireLength { .. } => -6,
+        DecodeError::RequireBorrowed { .. } => -7,
+        DecodeError::RequireUtf8 { .. } => -8,
+        DecodeError::LengthOverflow { .. } => -9,
+        DecodeError::CastOverflow { .. } => -10,
+        DecodeError::ArithmeticOverflow { .. } => -11,
+        DecodeError::DepthOverflow { .. } => -12,
+        DecodeError::LengthMismatch { .. } => -13,
+        DecodeError::TrailingData => -14,
+        DecodeError::IndefiniteSize => -15,
+        DecodeError::NonMinimal { .. } => -16,
+        DecodeError::UnorderedKey => -17,
+        DecodeError::OutOfMemory => -18,
+        DecodeError::Failed => -19,
+    }
+}

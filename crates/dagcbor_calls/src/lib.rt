@@ -1,0 +1,20 @@
+//! What the C library does behind its calls: answers as numbers, links and tokens in a caller's own
+//! room. No memory is taken.
+#![tactic(auto)]
+
+mod cid;
+mod code;
+pub mod laws;
+mod links;
+mod name;
+mod section;
+mod spell;
+mod tape;
+
+pub use cid::{put_cid_of_text, put_cid_text};
+pub use code::code_of;
+pub use links::put_links;
+pub use name::name_of;
+pub use section::judge_section;
+pub use spell::spell_tape;
+pub use tape::{Token, put_tape};

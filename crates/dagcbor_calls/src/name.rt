@@ -1,0 +1,20 @@
+//! The name of a block.
+
+ghost use Rattle.std.specs.Prelude.{◌≡◌};
+ghost use Rattle.ipld_tree.specs.Cid.{cid_bytes};
+ghost use Rattle.dagcbor_car.specs.Names.{block_name};
+
+use arrayvec::ArrayVec;
+use dagcbor_car::name_of_block;
+
+/// The binary form of the block's name.
+#[tactic(auto, using(crate::proofs::Naming::name_length))]
+pub fn name_of(bytes: &[u8]) -> [u8; 36]
+    ensures { result ≡ cid_bytes (block_name bytes.now) }
+{
+    let mut form = ArrayVec::new();
+    name_of_block(bytes).write_bytes(&mut form);
+    let mut name = [0; 36];
+    name.copy_from_slice(&form);
+    name
+}

@@ -1,0 +1,71 @@
+//! The section at the front of a file's bytes: what is said of its block, and where its parts
+//! stand.
+
+ghost use Rattle.std.specs.Prelude.{◌≡◌, length};
+ghost use Rattle.ipld_tree.specs.Cid.{cid_bytes};
+ghost use Rattle.dagcbor_car.specs.Splits.{SplitsSection};
+ghost use Rattle.dagcbor_calls.specs.Codes.{verdict_code, fault_code};
+ghost use Rattle.dagcbor_calls.specs.Sections.{places_of, IsSectionAnswer};
+
+use crate::code::{NO_CID, kind_code, refusal_code};
+use arrayvec::ArrayVec;
+use dagcbor_car::{CarError, Section, Verdict, split_section, verify};
+use ipld_tree::Cid;
+
+/// The number of a verdict.
+fn verdict_code(verdict: &Verdict) -> i32
+    ensures { result ≡ verdict_code verdict.now }
+{
+    match verdict {
+        Verdict::Block(kind) => kind_code(*kind),
+        Verdict::NotRead => 9,
+        Verdict::Refused(refusal) => refusal_code(refusal),
+        Verdict::OtherBytes => -22,
+        Verdict::Unverified => -23,
+    }
+}
+
+/// The number of the cause for which no section stands.
+fn fault_code<E>(fault: &CarError<E>) -> i32
+    ensures { result ≡ fault_code fault.now }
+{
+    match fault {
+        CarError::Truncated => -24,
+        CarError::InvalidLength => -25,
+        CarError::InvalidCid(_) => NO_CID,
+        _ => -27,
+    }
+}
+
+/// How many bytes the CID has.
+fn cid_length(cid: &Cid) -> usize
+    ensures { result ≡ length (cid_bytes cid.now) }
+{
+    let mut form = ArrayVec::new();
+    cid.write_bytes(&mut form);
+    form.len()
+}
+
+/// Where the parts of the section stand that begins the bytes, and behind which the rest follows.
+fn places_of(bytes: &[u8], section: &Section<'_>, rest: &[u8]) -> [usize; 3]
+    requires { SplitsSection bytes.now (section.now.cid, section.now.block.now) rest.now }
+    ensures { result ≡ places_of (section.now.cid, section.now.block.now) }
+{
+    let end = bytes.len() - rest.len();
+    let block = end - section.block.len();
+    [block - cid_length(&section.cid), block, end]
+}
+
+/// What is said of the block of the section at the front, whose places are put, or why none stands
+/// there.
+pub fn judge_section(bytes: &[u8], places: &mut [usize; 3]) -> i32
+    ensures { IsSectionAnswer bytes.now places.old places.new result }
+{
+    match split_section(bytes) {
+        Ok((section, rest)) => {
+            *places = places_of(bytes, &section, rest);
+            verdict_code(&verify(&section.cid, section.block))
+        }
+        Err(fault) => fault_code(&fault),
+    }
+}

@@ -1,0 +1,159 @@
+//! A block as a row of tokens: its heads, from which a caller builds values of its own.
+
+ghost use Rattle.std.specs.Prelude.{◌≡◌, ◌-◌, ◌<◌, ◌≤◌, length, drop, slice_set, MatchOption};
+ghost use Rattle.dagcbor_calls.specs.Tapes.{token, SplitsTokenIfThere, SplitsLinkIfThere};
+ghost use Rattle.dagcbor_calls.specs.Tapes.{PutsTokens, PutsTape};
+
+use dagcbor_heads::{DecodeError, split_head};
+use dagcbor_items::{Kind, check_slice};
+use std::convert::Infallible;
+
+/// A head of a block: its kind, its number, and the place behind it.
+#[repr(C)]
+#[derive(Clone, Copy, Debug, PartialEq, Eq)]
+pub struct Token {
+    pub kind: u64,
+    pub number: u64,
+    pub place: u64,
+}
+
+/// The kinds of tokens: those of data, and integers below 0.
+const NULL: u64 = 0;
+
+const BOOL: u64 = 1;
+
+const INTEGER: u64 = 2;
+
+const STRING: u64 = 3;
+
+const BYTES: u64 = 4;
+
+const LIST: u64 = 5;
+
+const MAP: u64 = 6;
+
+const LINK: u64 = 7;
+
+const NEGATIVE: u64 = 8;
+
+/// A token whose place is that of what is behind it, in so many bytes.
+fn token_before(kind: u64, number: u64, whole: usize, behind: &[u8]) -> Token
+    requires { length behind.now ≤ whole }
+    ensures { result ≡ token kind number (whole - length behind.now) }
+{
+    Token {
+        kind,
+        number,
+        place: (whole - behind.len()) as u64,
+    }
+}
+
+/// What is behind n bytes.
+fn behind_payload(bytes: &[u8], n: u64) -> Option<&[u8]>
+    ensures { MatchOption result (length bytes.now < n)
+        (λ rest. (n ≤ length bytes.now) × (rest.now ≡ drop n bytes.now)) }
+{
+    if (bytes.len() as u64) < n {
+        return None;
+    }
+    Some(&bytes[n as usize..])
+}
+
+/// The token of a simple value: null, or false or true.
+fn simple_token(value: u64, whole: usize, behind: &[u8]) -> Token
+    requires { length behind.now ≤ whole }
+    ensures off { value ≡ 20 → result ≡ token 1 0 (whole - length behind.now) }
+    ensures on { value ≡ 21 → result ≡ token 1 1 (whole - length behind.now) }
+    ensures nil { value ≡ 22 → result ≡ token 0 0 (whole - length behind.now) }
+{
+    match value {
+        20 => token_before(BOOL, 0, whole, behind),
+        21 => token_before(BOOL, 1, whole, behind),
+        _ => token_before(NULL, 0, whole, behind),
+    }
+}
+
+/// The token of a link, whose tag was split off, and what is behind its CID.
+fn split_link(bytes: &[u8], whole: usize) -> Option<(Token, &[u8])>
+    requires { length bytes.now ≤ whole }
+    ensures { SplitsLinkIfThere (λ p. p.0) (λ p. p.1.now) whole bytes.now result }
+{
+    let (_major, count, payload) = split_head(bytes)?;
+    let (_zero, cid) = payload.split_first()?;
+    if count < 1 {
+        return None;
+    }
+    let rest = behind_payload(cid, count - 1)?;
+    Some((token_before(LINK, count - 1, whole, cid), rest))
+}
+
+/// The token of the head at the front, and what is behind it and its payload.
+fn split_token(bytes: &[u8], whole: usize) -> Option<(Token, &[u8])>
+    requires { length bytes.now ≤ whole }
+    ensures { SplitsTokenIfThere (λ p. p.0) (λ p. p.1.now) whole bytes.now result }
+{
+    let (major, argument, behind) = split_head(bytes)?;
+    match major {
+        0 => Some((token_before(INTEGER, argument, whole, behind), behind)),
+        1 => Some((token_before(NEGATIVE, argument, whole, behind), behind)),
+        2 => {
+            let rest = behind_payload(behind, argument)?;
+            Some((token_before(BYTES, argument, whole, behind), rest))
+        }
+        3 => {
+            let rest = behind_payload(behind, argument)?;
+            Some((token_before(STRING, argument, whole, behind), rest))
+        }
+        4 => Some((token_before(LIST, argument, whole, behind), behind)),
+        5 => Some((token_before(MAP, argument, whole, behind), behind)),
+        6 => split_link(behind, whole),
+        _ => Some((simple_token(argument, whole, behind), behind)),
+    }
+}
+
+/// Puts the token at the place, where there is room for it.
+fn put_token(tape: &mut [Token], at: usize, token: Token)
+    ensures { at < length tape.old → tape.new ≡ slice_set tape.old at token }
+{
+    if at < tape.len() {
+        tape[at] = token;
+    }
+}
+
+/// Puts the tokens of a block at the front of the tape, where there is room for them all: how many
+/// there are.
+fn put_tokens(bytes: &[u8], tape: &mut [Token]) -> usize
+    ensures few { result ≤ length bytes.now }
+    ensures tokens { PutsTokens bytes.now tape.old tape.new result }
+{
+    let mut count = 0;
+    let mut rest = bytes;
+    while let Some((token, behind)) = split_token(rest, bytes.len()) {
+        put_token(tape, count, token);
+        count += 1;
+        rest = behind;
+    }
+    count
+}
+
+/// The kind of a block, whose tokens are counted, and put at the front of the tape where there is
+/// room for them all.
+pub fn put_tape(
+    bytes: &[u8],
+    tape: &mut [Token],
+    needed: &mut usize,
+) -> Result<Kind, DecodeError<Infallible>>
+    ensures { PutsTape bytes.now tape.old tape.new needed.new result }
+{
+    *needed = 0;
+    let kind = check_slice(bytes)?;
+    // A tape with a place for each byte has room, and wants no count before.
+    if tape.len() < bytes.len() {
+        *needed = put_tokens(bytes, &mut []);
+        if *needed > tape.len() {
+            return Ok(kind);
+        }
+    }
+    *needed = put_tokens(bytes, tape);
+    Ok(kind)
+}

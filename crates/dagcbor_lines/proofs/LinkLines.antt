@@ -1,0 +1,60 @@
+-- Links in a line.
+use Rattle.std.proofs.Common.{◌≡◌, ◌++◌, ◌∷◌, [], ◌<◌, ◌≤◌, ◌+◌, ℕ, List, length, map, sym, ap, ◌∙◌, get_or, take, append_assoc}
+use Rattle.std.specs.Prelude.{Result, OnOk, IsErr, Ok, Err}
+use Rattle.std.proofs.Math.Seq.{take-suc, take-append_seam, take-length}
+use Rattle.std.proofs.Math.Numerals.{add-one}
+use Rattle.std.proofs.lemmas.List.{map-append, append-nil, take_all}
+use Rattle.hex.specs.Hex.{encode_lower}
+use Rattle.ipld_tree.specs.Cid.{CidParts, cid_bytes}
+use Rattle.dagcbor_lines.specs.Answers.{behind_spaces}
+
+behind_next : (forms : List (List ℕ)) (form : List ℕ) → behind_spaces (forms ++ form ∷ []) ≡ behind_spaces forms ++ 32 ∷ encode_lower form
+behind_next [] form = append-nil (32 ∷ encode_lower form)
+behind_next (first ∷ forms) form =
+    ap (λ (s : List ℕ). (32 ∷ encode_lower first) ++ s) (behind_next forms form)
+    ∙ sym (append_assoc (32 ∷ encode_lower first) (behind_spaces forms) (32 ∷ encode_lower form))
+
+-- one more link stands behind those before it
+pub link_behind : (links : List CidParts) (i : ℕ) (link : CidParts) (first old spaced new : List ℕ) → i < length links → link ≡ get_or links i link
+    → old ≡ first ++ behind_spaces (map cid_bytes (take i links)) → spaced ≡ old ++ 32 ∷ [] → new ≡ spaced ++ encode_lower (cid_bytes link)
+    → new ≡ first ++ behind_spaces (map cid_bytes (take (i + 1) links))
+link_behind links i link first old spaced new within is so_far space digits =
+    let form = cid_bytes link in
+    let done = map cid_bytes (take i links) in
+    let more : take (i + 1) links ≡ take i links ++ link ∷ [] =
+    ap (λ n. take n links) (add-one i) ∙ take-suc links i link within ∙ ap (λ y. take i links ++ y ∷ []) (sym is) in
+    let forms : map cid_bytes (take (i + 1) links) ≡ done ++ form ∷ [] = ap (λ ls. map cid_bytes ls) more ∙ map-append cid_bytes (take i links) (link ∷ []) in
+    digits ∙ ap (λ (s : List ℕ). s ++ encode_lower form) (space ∙ ap (λ (s : List ℕ). s ++ 32 ∷ []) so_far)
+    ∙ append_assoc (first ++ behind_spaces done) (32 ∷ []) (encode_lower form)
+    ∙ append_assoc first (behind_spaces done) (32 ∷ encode_lower form)
+    ∙ ap (λ (s : List ℕ). first ++ s) (sym (ap behind_spaces forms ∙ behind_next done form))
+
+-- a front is kept
+pub kept_front : (before behind : List ℕ) {now : List ℕ} → now ≡ before ++ behind → take (length before) now ≡ before
+kept_front before behind is = ap (take (length before)) is ∙ take-append_seam before behind
+
+-- what stood before the links stands there still
+pub kept_before : (before first behind : List ℕ) {now : List ℕ} → now ≡ (before ++ first) ++ behind → take (length before) now ≡ before
+kept_before before first behind is =
+    kept_front before (first ++ behind) (is ∙ append_assoc before first behind)
+
+pub all_kept : (before : List ℕ) {now : List ℕ} → now ≡ before → take (length before) now ≡ before
+all_kept before is = ap (take (length before)) is ∙ take-length before
+
+pub kept_before_space : (before first behind : List ℕ) {old spaced now : List ℕ} → old ≡ (before ++ first) ++ behind → spaced ≡ old ++ 32 ∷ [] → now ≡ spaced → take (length before) now ≡ before
+kept_before_space before first behind so_far space same =
+    kept_before before first (behind ++ 32 ∷ []) (same ∙ space ∙ ap (λ (s : List ℕ). s ++ 32 ∷ []) so_far ∙ append_assoc (before ++ first) behind (32 ∷ []))
+
+-- behind the last link the line ends
+pub links_ended : (links : List CidParts) (i : ℕ) (before first old new : List ℕ) → length links ≤ i → old ≡ (before ++ first) ++ behind_spaces (map cid_bytes (take i links)) → new ≡ old ++ 10 ∷ []
+    → new ≡ before ++ ((first ++ behind_spaces (map cid_bytes links)) ++ 10 ∷ [])
+links_ended links i before first old new none so_far ended =
+    let all : take i links ≡ links = take_all i links none in
+    let behind = behind_spaces (map cid_bytes links) in
+    ended ∙ ap (λ (s : List ℕ). s ++ 10 ∷ []) (so_far ∙ ap (λ ls. (before ++ first) ++ behind_spaces (map cid_bytes ls)) all ∙ append_assoc before first behind)
+    ∙ append_assoc before (first ++ behind) (10 ∷ [])
+
+-- after a refusal nothing is said of what an answer would be
+pub no_answer : {T E : Type 0} (r : Result T E) (P : Type 0) → IsErr r → OnOk r P
+no_answer (Ok x) P e = absurd (cc e)
+no_answer (Err x) P e = tt

@@ -1,0 +1,22 @@
+-- The command that words name, and how its run ended.
+use Rattle.std.proofs.Common.{◌≡◌, ℕ, List, [], refl, sym, ap, ◌∙◌, get_or, arith, Result, Ok, Err}
+use Rattle.std.specs.Prelude.{MatchResult, OnOk, OnErr}
+use Rattle.dagcbor_lines.specs.declared.command.Command.{Command}
+use Rattle.dagcbor_lines.specs.declared.command.Command.TheVariants.{Check, Links}
+use Rattle.dagcbor_lines.specs.Commands.{IsCommand}
+
+-- words name one command at most
+pub same_command : (words : List (List ℕ)) (c d : Command) → IsCommand words c → IsCommand words d → c ≡ d
+same_command words Check Check h k = refl
+same_command words Links Links h k = refl
+same_command words Check Links h k = let first : 99 ≡ 108 = ap (λ (ws : List (List ℕ)). get_or (get_or ws 0 []) 0 0) (sym h ∙ k) in absurd (omega (arith, first))
+same_command words Links Check h k = let first : 108 ≡ 99 = ap (λ (ws : List (List ℕ)). get_or (get_or ws 0 []) 0 0) (sym h ∙ k) in absurd (omega (arith, first))
+
+-- a run with status 0 ended well, and one with status 1 did not
+pub ended_well : {T E Q : Type 0} (X : Type 0) (r : Result T E) (status : ℕ) → MatchResult r (λ _. (status ≡ 0) × X) (λ _. status ≡ 1) → status ≡ 0 → OnOk r Q → Q
+ended_well X (Ok v) status h e q = q
+ended_well X (Err x) status h e q = absurd (omega (arith, h, e))
+
+pub ended_badly : {T E Q : Type 0} (X : Type 0) (r : Result T E) (status : ℕ) → MatchResult r (λ _. (status ≡ 0) × X) (λ _. status ≡ 1) → status ≡ 1 → OnErr r Q → Q
+ended_badly X (Ok v) status h e q = absurd (omega (arith, h.0, e))
+ended_badly X (Err x) status h e q = q

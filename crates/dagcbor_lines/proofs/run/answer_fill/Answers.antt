@@ -1,0 +1,42 @@
+use Rattle.std.proofs.Common.{◌++◌, refl}
+use Rattle.std.proofs.lemmas.Result.{err_from_is_err_and}
+use Rattle.dagcbor_lines.specs.Answers.{IsAnswer}
+use Rattle.dagcbor_lines.proofs.Answering.{answers_are, consumed_shown, fill_answered, fill_broken, fill_failed, fill_written, none_answered}
+use Rattle.dagcbor_lines.proofs.run.answer_fill.Goals as goal
+
+pub returns-in_default-clause-broken : goal.returns-in_default-clause-broken
+returns-in_default-clause-broken g c = fill_failed _ _ _ _ _ c.args.buffers.now.one_line c.fill_buf.follows.holds-at-none.0
+
+pub returns-then-taken-eq0-clause-answered : goal.returns-then-taken-eq0-clause-answered
+returns-then-taken-eq0-clause-answered g c = none_answered _ _ _ _ _ c.fill_buf.follows.holds-at-none.0
+
+pub returns-in_err-write_all-clause-broken : goal.returns-in_err-write_all-clause-broken
+returns-in_err-write_all-clause-broken g c =
+    let text = c.args.buffers.now.partial.items ++ c.in-Ok.shown.now in
+    let some = c.answer_shown-answered.ensures.some in
+    let a = answers_are (IsAnswer c.args.command) text some.0 _ _ _ c.clear.ensures.items c.deref.ensures.value some.1 in
+    let w = c.in_err-write_all.ensures.written in
+    let p = err_from_is_err_and c.from_residual.result c.from_residual.ensures.1 in
+    rw p.1 (fill_broken _ _ _ _ _ _ c.in-Ok.shown.now some.0 _ w.0 w.1 c.args.buffers.now.one_line c.fill_buf.follows.holds-at-none.0 c.in-Ok.ensures.front a w.2 w.3)
+
+pub returns-in_err-answered : goal.returns-in_err-answered
+returns-in_err-answered g c =
+    let text = c.args.buffers.now.partial.items ++ c.in-Ok.shown.now in
+    let some = c.answer_shown-answered.ensures.some in
+    let a = answers_are (IsAnswer c.args.command) text some.0 _ _ _ c.clear.ensures.items c.deref.ensures.value some.1 in
+    let w = c.in_ok-write_all.ensures.written in
+    let p = err_from_is_err_and c.from_residual-in_err-answered.result c.from_residual-in_err-answered.ensures.1 in
+    rw p.1 (record {
+      answered = tt;
+      end = λ e. absurd (cc e);
+      broken = fill_broken _ _ _ _ _ _ c.in-Ok.shown.now some.0 _ w.0 w.1 c.args.buffers.now.one_line c.fill_buf.follows.holds-at-none.0 c.in-Ok.ensures.front a w.2 w.3;
+      whole = λ _. fill_written _ _ _ _ _ c.in-Ok.shown.now some.0 _ w.0 w.1 c.in-Ok.ensures.front a w.2 w.3 w.4;
+    })
+
+pub returns-clause-answered : goal.returns-clause-answered
+returns-clause-answered g c =
+    let text = c.args.buffers.now.partial.items ++ c.in-Ok.shown.now in
+    let a = answers_are (IsAnswer c.args.command) text c.answer_shown-answered.new.buffers.partial.items _ _ _ c.clear.ensures.items c.deref.ensures.value c.in_ok-answered.ensures.answered in
+    let w = c.in_ok-write_all.ensures.written in
+    let all = consumed_shown _ _ _ _ _ c.in-Ok.shown _ c.in-Ok.is c.in-Ok.ensures.front c.fill_buf.follows.holds-at-none c.consume.ensures.bytes refl in
+    fill_answered _ _ _ _ _ _ c.in-Ok.shown.now _ _ w.0 w.1 all a w.2 w.3 w.4

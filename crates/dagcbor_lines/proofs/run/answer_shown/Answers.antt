@@ -1,0 +1,27 @@
+use Rattle.std.proofs.Common.{arith, ◌++◌, ◌∷◌, ◌-◌, ◌+◌, ℕ, List, [], length, take, drop, length-drop, length-take, refl, sym, subst}
+use Rattle.std.specs.Str.Lines.{strip_carriage_return}
+use Rattle.dagcbor_lines.specs.Answers.{IsAnswer, AppendsAnswers, BeginsWithLines}
+use Rattle.dagcbor_lines.proofs.Answering.{appends_next}
+use Rattle.dagcbor_lines.proofs.Lines.{begins_line}
+use Rattle.dagcbor_lines.proofs.run.answer_shown.Goals as goal
+
+pub returns-in_err-answer_line-clause-some : goal.returns-in_err-answer_line-clause-some
+returns-in_err-answer_line-clause-some c =
+    let left = c.loop-at.buffers.partial.items ++ c.loop-at.rest.now in
+    let text = c.args.buffers.now.partial.items ++ c.args.shown.now in
+    (left, subst (λ (s : List ℕ). AppendsAnswers (IsAnswer c.args.command) text left c.args.buffers.now.out.items s) (sym c.in_err-answer_line.ensures.same) c.loop-at.invariant.answered)
+
+pub loop-at-preserved : goal.loop-at-preserved
+loop-at-preserved c =
+    let partial = c.loop-at.buffers.partial.items in
+    let rest = c.loop-at.rest.now in
+    let at = c.in-Some.at in
+    let behind = take (length rest - (at + 1)) (drop (at + 1) rest) in
+    let line = strip_carriage_return (partial ++ take at rest) in
+    let found = c.in-Some.ensures in
+    let next = subst (λ (s : List ℕ). BeginsWithLines (partial ++ rest) (line ∷ []) (s ++ behind)) (sym c.in_ok-answer_line.ensures.emptied)
+    (begins_line partial rest behind at c.loop-at.buffers.one_line found.2 found.0 found.1 refl) in
+    record {
+      shorter = omega (arith, c.loop-at.invariant.shorter, length-take (length rest - (at + 1)) (drop (at + 1) rest), length-drop (at + 1) rest);
+      answered = appends_next (IsAnswer c.args.command) (c.args.buffers.now.partial.items ++ c.args.shown.now) (partial ++ rest) (c.answer_line.new.buffers.partial.items ++ behind) line _ _ _ c.loop-at.invariant.answered next c.in_ok-answer_line.ensures.written;
+    }

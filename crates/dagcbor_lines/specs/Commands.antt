@@ -1,0 +1,13 @@
+-- The program's words.
+use Rattle.std.specs.Prelude.{◌≡◌, ℕ, List, [], ◌∷◌, codes}
+use Rattle.dagcbor_lines.specs.declared.command.Command.{Command}
+use Rattle.dagcbor_lines.specs.declared.command.Command.TheVariants.{Check, Links}
+
+-- the word that names the command
+abbrev pub command_name : Command → List ℕ
+command_name Check = codes "check"
+command_name Links = codes "links"
+
+-- the one word that names the command
+abbrev pub IsCommand : List (List ℕ) → Command → Type 0
+IsCommand words command = words ≡ command_name command ∷ []

@@ -1,0 +1,90 @@
+//! The program's words, and what it answers to them.
+
+ghost use Rattle.std.specs.Prelude.{◌≡◌, ◌≢◌, ◌⊎◌, map, string_bytes, IfSome, MatchOption};
+ghost use Rattle.std.specs.Prelude.{MatchResult};
+ghost use Rattle.dagcbor_lines.specs.Answers.{IsAnswer, AnswersAll, AnswersSome};
+ghost use Rattle.dagcbor_lines.specs.Commands.{command_name, IsCommand};
+
+use crate::run::run_lines;
+use dagcbor_cli::{ToolError, give_up};
+use std::alloc::Global;
+use std::io::{BufRead, Write};
+
+/// What is told of wrong words.
+pub const USAGE: &str = "usage: dagcbor check|links\n";
+
+/// What is told of want of memory.
+pub const OUT_OF_MEMORY: &str = "dagcbor: out of memory\n";
+
+/// What the program can be told to do with each line.
+#[derive(Clone, Copy, Debug, PartialEq, Eq)]
+pub enum Command {
+    /// To say whether it is the spelling of a value, and of which kind.
+    Check,
+    /// To list the links of the value that stands first in it.
+    Links,
+}
+
+/// The command of this name.
+fn command_named(name: &str) -> Option<Command>
+    ensures { MatchOption result ((c : Command) → name.now ≢ command_name c)
+        (λ c. name.now ≡ command_name c) }
+{
+    match name {
+        "check" => Some(Command::Check),
+        "links" => Some(Command::Links),
+        _ => None,
+    }
+}
+
+/// The one command that the words are.
+fn command_of(args: &[String]) -> Option<Command>
+    ensures { MatchOption result ((c : Command) → ¬ IsCommand (map string_bytes args.now) c)
+        (λ c. IsCommand (map string_bytes args.now) c) }
+{
+    match args {
+        [word] => command_named(word.as_str()),
+        _ => None,
+    }
+}
+
+/// The status of a run that ended so. A fault is told on `errors`.
+fn status_of<V: Write>(ended: Result<(), ToolError>, errors: &mut V) -> u8
+    ensures { MatchResult ended (λ _. (result ≡ 0) × (errors.new ≡ errors.old)) (λ _. result ≡ 1) }
+{
+    match ended {
+        Ok(()) => 0,
+        Err(ToolError::Input) => give_up(errors, "dagcbor: input failed\n", 1),
+        Err(ToolError::Output) => give_up(errors, "dagcbor: output failed\n", 1),
+        Err(ToolError::OutOfMemory) => give_up(errors, OUT_OF_MEMORY, 1),
+    }
+}
+
+/// Does what the words say, and answers the exit status.
+pub fn run_command<R: BufRead, W: Write, V: Write>(
+    alloc: Global,
+    args: &[String],
+    input: &mut R,
+    output: &mut W,
+    errors: &mut V,
+) -> u8
+    ensures usage { ((c : Command) → ¬ IsCommand (map string_bytes args.now) c)
+        → (result ≡ 2) × (input.new ≡ input.old) × (output.new ≡ output.old) }
+    ensures command { (c : Command) → IsCommand (map string_bytes args.now) c
+        → (result ≡ 0) ⊎ (result ≡ 1) }
+    ensures answered { (c : Command) → IsCommand (map string_bytes args.now) c → result ≡ 0
+        → IfSome (R.remaining input.old) (λ bytes.
+        AnswersAll (IsAnswer c) bytes (R.remaining input.new)
+        (W.contents output.old) (W.contents output.new)) }
+    ensures quiet { result ≡ 0 → errors.new ≡ errors.old }
+    ensures broken { (c : Command) → IsCommand (map string_bytes args.now) c → result ≡ 1
+        → IfSome (R.remaining input.old) (λ bytes.
+        AnswersSome (IsAnswer c) bytes (R.remaining input.new)
+        (W.contents output.old) (W.contents output.new)) }
+{
+    let Some(command) = command_of(args) else {
+        return give_up(errors, USAGE, 2);
+    };
+    let ended = run_lines(alloc, command, input, output);
+    status_of(ended, errors)
+}

@@ -1,0 +1,19 @@
+//! The lines of the program `dagcbor`: lines of hexadecimal text are tested against DAG-CBOR, or
+//! their links are listed.
+//!
+//! Each line is answered by one (`program_tests`):
+//!
+//! ```rust
+//! const LINES: &[u8] = b"1817\nzz\n\nF6\n63616263\r\nF5\n420102";
+//! run_check(alloc, &mut &LINES[..], &mut output)?;
+//! assert_eq!(rt; output.as_slice(), ANSWERS);
+//! ```
+#![tactic(auto)]
+
+mod answer;
+mod command;
+mod line;
+mod run;
+
+pub use command::{Command, OUT_OF_MEMORY, USAGE, run_command};
+pub use run::{run_check, run_links};

@@ -1,0 +1,194 @@
+//! A run of a command: each line of the input is answered by a line of the output, the lines of a
+//! fill in one piece.
+
+ghost use Rattle.std.specs.Prelude.{◌≡◌, ◌≢◌, ◌++◌, [], ℕ, List, All, IfSome, IfErr, false};
+ghost use Rattle.std.specs.Prelude.{OnOk, OnErr};
+ghost use Rattle.std.specs.Io.KnownBytes.{prepend_known, IsAtEnd};
+ghost use Rattle.std.specs.Str.Lines.{lines, strip_carriage_return};
+ghost use Rattle.dagcbor_lines.specs.Answers.{IsAnswer, AppendsLine, AppendsAnswers, HasAnswered};
+ghost use Rattle.dagcbor_lines.specs.Answers.{WritesAnswers, WritesBeginning, WritesWhole};
+ghost use Rattle.dagcbor_lines.specs.Answers.{BreaksOff, RunsLines};
+
+use crate::answer::push_answer;
+use crate::command::Command;
+use crate::line::{line_feed, without_return};
+use dagcbor_cli::{ToolError, write_all};
+use std::alloc::Global;
+use std::io::{BufRead, Write};
+
+/// What is kept from one fill to the next.
+#[derive(Drop)]
+struct Buffers {
+    /// What stands behind the last line feed.
+    partial: Vec<u8>,
+    /// Room for the bytes of a line's block.
+    block: Vec<u8>,
+    /// The answers that are not written yet.
+    out: Vec<u8>,
+    ghost one_line: { All (λ b. b ≢ 10) partial.items },
+}
+
+/// Answers the line that ends with these bytes, in front of which what is held stands.
+fn answer_line(
+    alloc: Global,
+    command: Command,
+    end: &[u8],
+    buffers: &mut Buffers,
+) -> Result<(), ToolError>
+    requires { All (λ b. b ≢ 10) end.now }
+    ensures written { OnOk result (AppendsLine
+        (IsAnswer command (strip_carriage_return (buffers.old.partial.items ++ end.now)))
+        buffers.old.out.items buffers.new.out.items) }
+    ensures emptied { OnOk result (buffers.new.partial.items ≡ []) }
+    ensures same { OnErr result (buffers.new.out.items ≡ buffers.old.out.items) }
+    ensures memory { IfErr result (λ e. e ≡ ToolError.OutOfMemory) }
+{
+    if buffers.partial.is_empty() {
+        let line = without_return(end);
+        return push_answer(alloc, command, line, &mut buffers.block, &mut buffers.out);
+    }
+    buffers.partial.extend_from_slice(end)?;
+    let line = without_return(&buffers.partial);
+    push_answer(alloc, command, line, &mut buffers.block, &mut buffers.out)?;
+    buffers.partial.clear();
+    Ok(())
+}
+
+/// Answers each line that ends in what is shown, and holds what stands behind the last of them.
+fn answer_shown(
+    alloc: Global,
+    command: Command,
+    shown: &[u8],
+    buffers: &mut Buffers,
+) -> Result<(), ToolError>
+    ensures answered { OnOk result (AppendsAnswers (IsAnswer command)
+        (buffers.old.partial.items ++ shown.now) buffers.new.partial.items
+        buffers.old.out.items buffers.new.out.items) }
+    ensures some { (left : List ℕ) × AppendsAnswers (IsAnswer command)
+        (buffers.old.partial.items ++ shown.now) left buffers.old.out.items buffers.new.out.items }
+    ensures memory { IfErr result (λ e. e ≡ ToolError.OutOfMemory) }
+{
+    let mut rest = shown;
+    while let Some(at) = line_feed(rest) {
+        answer_line(alloc, command, &rest[..at], buffers)?;
+        rest = &rest[at + 1..];
+    }
+    buffers.partial.extend_from_slice(rest)?;
+    Ok(())
+}
+
+/// Answers the lines that end in the next fill, and answers whether it showed any byte.
+fn answer_fill<R: BufRead, W: Write>(
+    alloc: Global,
+    command: Command,
+    reader: &mut R,
+    writer: &mut W,
+    buffers: &mut Buffers,
+) -> Result<bool, ToolError>
+    ensures answered { OnOk result
+        (IfSome (prepend_known buffers.old.partial.items (R.remaining reader.old)) (λ input.
+        HasAnswered (IsAnswer command) input
+        (prepend_known buffers.new.partial.items (R.remaining reader.new))
+        (W.contents writer.old) (W.contents writer.new))) }
+    ensures end { result ≡ Ok false
+        → IfSome (R.remaining reader.old) (λ _. IsAtEnd (R.remaining reader.new)) }
+    ensures broken { OnErr result
+        (IfSome (prepend_known buffers.old.partial.items (R.remaining reader.old)) (λ input.
+        BreaksOff (IsAnswer command) input (R.remaining reader.new)
+        (W.contents writer.old) (W.contents writer.new))) }
+    ensures whole { IfErr result (λ e. e ≢ ToolError.Output
+        → IfSome (prepend_known buffers.old.partial.items (R.remaining reader.old)) (λ input.
+        WritesWhole (IsAnswer command) input (W.contents writer.old) (W.contents writer.new))) }
+{
+    let Ok(shown) = reader.fill_buf() else {
+        return Err(ToolError::Input);
+    };
+    let taken = shown.len();
+    if taken == 0 {
+        return Ok(false);
+    }
+    buffers.out.clear();
+    let answered = answer_shown(alloc, command, shown, buffers);
+    write_all(writer, &buffers.out)?;
+    answered?;
+    reader.consume(taken);
+    Ok(true)
+}
+
+/// Answers the line that is held at the end of the input, if one is.
+fn answer_last<W: Write>(
+    alloc: Global,
+    command: Command,
+    writer: &mut W,
+    buffers: &mut Buffers,
+) -> Result<(), ToolError>
+    ensures answered { OnOk result (WritesAnswers (IsAnswer command)
+        (lines buffers.old.partial.items) (W.contents writer.old) (W.contents writer.new)) }
+    ensures broken { OnErr result (WritesBeginning (IsAnswer command)
+        (lines buffers.old.partial.items) (W.contents writer.old) (W.contents writer.new)) }
+    ensures whole { IfErr result (λ e. e ≢ ToolError.Output
+        → WritesWhole (IsAnswer command) buffers.old.partial.items
+        (W.contents writer.old) (W.contents writer.new)) }
+{
+    if buffers.partial.is_empty() {
+        return Ok(());
+    }
+    buffers.out.clear();
+    push_answer(
+        alloc,
+        command,
+        &buffers.partial,
+        &mut buffers.block,
+        &mut buffers.out,
+    )?;
+    write_all(writer, &buffers.out)
+}
+
+/// Answers each line of the input by a line of the output, as the command says. What a fill ends is
+/// answered before the next is waited for.
+pub fn run_lines<R: BufRead, W: Write>(
+    alloc: Global,
+    command: Command,
+    reader: &mut R,
+    writer: &mut W,
+) -> Result<(), ToolError>
+    ensures { RunsLines command (R.remaining reader.old) (R.remaining reader.new)
+        (W.contents writer.old) (W.contents writer.new) result }
+{
+    let mut buffers = Buffers {
+        partial: Vec::new(alloc),
+        block: Vec::new(alloc),
+        out: Vec::new(alloc),
+    };
+    for _ in 0..u64::MAX {
+        let more = answer_fill(alloc, command, reader, writer, &mut buffers)?;
+        if !more {
+            return answer_last(alloc, command, writer, &mut buffers);
+        }
+    }
+    Err(ToolError::Input)
+}
+
+/// For each line, whether it is the spelling of a value, and of which kind.
+pub fn run_check<R: BufRead, W: Write>(
+    alloc: Global,
+    reader: &mut R,
+    writer: &mut W,
+) -> Result<(), ToolError>
+    ensures { RunsLines Command.Check (R.remaining reader.old) (R.remaining reader.new)
+        (W.contents writer.old) (W.contents writer.new) result }
+{
+    run_lines(alloc, Command::Check, reader, writer)
+}
+
+/// For each line, the links of the value that stands first in it.
+pub fn run_links<R: BufRead, W: Write>(
+    alloc: Global,
+    reader: &mut R,
+    writer: &mut W,
+) -> Result<(), ToolError>
+    ensures { RunsLines Command.Links (R.remaining reader.old) (R.remaining reader.new)
+        (W.contents writer.old) (W.contents writer.new) result }
+{
+    run_lines(alloc, Command::Links, reader, writer)
+}

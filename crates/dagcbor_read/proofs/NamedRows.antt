@@ -1,0 +1,128 @@
+-- Entries whose keys are names of a row.
+use Rattle.std.proofs.Common.{◌≡◌, ℕ, ◌<◌, List, Bool, true, false, refl, sym, ap, ◌∙◌, subst}
+use Rattle.std.proofs.lemmas.Slice.Eq.{bytes_eq-Decides}
+use Rattle.std.specs.Prelude.{Option, None, Some, option_map, if◌then◌else◌}
+use Rattle.std.specs.Str.{bytes_eq}
+use Rattle.dagcbor_heads.specs.Refusals.{Refuses}
+use Rattle.dagcbor_heads.specs.declared.error.DecodeError.{DecodeError}
+use Rattle.ipld_tree.specs.Tree.{Tree}
+use Rattle.dagcbor_items.specs.Entries.{HasName}
+use Rattle.dagcbor_items.specs.Shapes.{Shape, unless_lent}
+use Rattle.dagcbor_items.specs.TypedReads.{MayLack, Anything}
+use Rattle.dagcbor_items.proofs.StringItems.{text_taken}
+use Rattle.dagcbor_read.specs.Accessors.{AccessorState, with_key, with_value}
+use Rattle.dagcbor_read.specs.Collections.{FieldShape, value_of, HasFields, fields_memory}
+use Rattle.dagcbor_read.specs.Deserializers.{DeState}
+use Rattle.dagcbor_read.specs.Named.{TakesName, TakesField, ReadsNamed, ReadsNamedValue}
+use Rattle.dagcbor_read.specs.Structs.{place}
+use Rattle.dagcbor_read.proofs.EntryRows.{FieldsSoFar, one_more_field, value_not_read}
+use Rattle.dagcbor_read.proofs.ItemRows.{same_reader}
+use Rattle.dagcbor_read.proofs.FieldPlaces.{other_name, takes_as, front_as}
+use Rattle.dagcbor_read.proofs.Passing.{refusal_carried, or_left, or_right, lacks_before}
+
+module _ {V S : Type 0} (name : List ℕ) (shape : Shape Tree V) (others : FieldShape S) (o : Option V) (state : S) where
+  -- ---- the first place
+
+  own_view : (t : Tree) → (place name shape others).take (o, state) name t ≡ option_map (λ v. (Some v, state)) (shape.view t)
+  own_view t = ap (λ (b : Bool). if b then option_map (λ v. (Some v, state)) (shape.view t) else option_map (λ x. (o, x)) (others.take state name t)) ((bytes_eq-Decides name name).1 refl)
+
+  own_need : (t : Tree) → (place name shape others).need name t ≡ shape.need t
+  own_need t = ap (λ (b : Bool). if b then shape.need t else others.need name t) ((bytes_eq-Decides name name).1 refl)
+
+  pub first_named : {E : Type 0} (before with_name after : AccessorState) (old mid new : DeState) (taken : Bool) (refusal : Option (DecodeError E)) (p : Option V)
+      → with_name ≡ with_key name before → TakesName before.last name old mid → ReadsNamedValue shape with_name mid taken refusal p after new
+      → ReadsNamed (place name shape others) (o, state) before old taken refusal (p, state) after new
+  first_named before with_name after old mid new true refusal (Some v) is h r = record {
+    key = name;
+    mid = mid;
+    is = h.0;
+    follows = h.0.follows;
+    read = h.1;
+    takes = text_taken _ h.2;
+    counted = r.0 ∙ ap with_value is;
+    sound = r.1;
+    value = takes_as (λ v. (Some v, state)) shape (value_of (place name shape others) (o, state) name) own_view own_need r.2;
+  }
+  first_named before with_name after old mid new true refusal None is h r = absurd r
+  first_named before with_name after old mid new false (Some e) p is h r = record {
+    key = name;
+    mid = mid;
+    is = h.0;
+    follows = h.0.follows;
+    read = h.1;
+    takes = text_taken _ h.2;
+    refused = refusal_carried Anything Anything mid.input mid.input new.input e record { faults = refl; lends = refl }
+        (λ front. front_as (λ v. (Some v, state)) shape (value_of (place name shape others) (o, state) name) own_view own_need front) (or_left _ _) (or_left _ _) (λ b l g. tt) r;
+  }
+  first_named before with_name after old mid new false None p is h r = absurd r
+
+  -- ---- the others
+
+  other_view : (k : List ℕ) → bytes_eq k name ≡ false → (t : Tree) → (place name shape others).take (o, state) k t ≡ option_map (λ x. (o, x)) (others.take state k t)
+  other_view k e t = ap (λ (b : Bool). if b then option_map (λ v. (Some v, state)) (shape.view t) else option_map (λ x. (o, x)) (others.take state k t)) e
+
+  other_need : (k : List ℕ) → bytes_eq k name ≡ false → (t : Tree) → (place name shape others).need k t ≡ others.need k t
+  other_need k e t = ap (λ (b : Bool). if b then shape.need t else others.need k t) e
+
+  pub other_named : {E : Type 0} (before after : AccessorState) (old new : DeState) (taken : Bool) (refusal : Option (DecodeError E)) (s : S)
+      → ¬ HasName before.last name old.input → ReadsNamed others state before old taken refusal s after new
+      → ReadsNamed (place name shape others) (o, state) before old taken refusal (o, s) after new
+  other_named before after old new true refusal s none h =
+      let e = other_name (λ is. none (subst (λ k. HasName before.last k old.input) is h.is)) in
+      record {
+        key = h.key;
+        mid = h.mid;
+        is = h.is;
+        follows = h.follows;
+        read = h.read;
+        takes = h.takes;
+        counted = h.counted;
+        sound = h.sound;
+        value = takes_as (λ x. (o, x)) (value_of others state h.key) (value_of (place name shape others) (o, state) h.key) (other_view h.key e) (other_need h.key e) h.value;
+      }
+  other_named before after old new false (Some r) s none h =
+      let e = other_name (λ is. none (subst (λ k. HasName before.last k old.input) is h.is)) in
+      record {
+        key = h.key;
+        mid = h.mid;
+        is = h.is;
+        follows = h.follows;
+        read = h.read;
+        takes = h.takes;
+        refused = refusal_carried Anything Anything h.mid.input h.mid.input new.input r record { faults = refl; lends = refl }
+            (λ front. front_as (λ x. (o, x)) (value_of others state h.key) (value_of (place name shape others) (o, state) h.key) (other_view h.key e) (other_need h.key e) front) (or_right _ _) (or_right _ _) (λ b l g. tt) h.refused;
+      }
+  other_named before after old new false None s none h = (ap (λ x. (o, x)) h.0, h.1, h.2)
+
+  -- where a call between them changed nothing
+  pub other_named_again : {E : Type 0} (before before' after : AccessorState) (old old' new : DeState) (taken : Bool) (refusal : Option (DecodeError E)) (s : S)
+      → before' ≡ before → old' ≡ old → ¬ HasName before.last name old.input → ReadsNamed others state before' old' taken refusal s after new
+      → ReadsNamed (place name shape others) (o, state) before old taken refusal (o, s) after new
+  other_named_again {E} before before' after old old' new taken refusal s b n none h = other_named before after old new taken refusal s none
+      (subst (λ x. ReadsNamed others state before x taken refusal s after new) n (subst (λ x. ReadsNamed others state x old' taken refusal s after new) b h))
+
+-- ---- entries so far
+
+module _ {S : Type 0} (shape : FieldShape S) {start s : S} {before now_left : AccessorState} {old now : DeState} where
+  pub field_so_far : {known : List ℕ → Type 0} {next : S} {after : AccessorState} {new : DeState} → FieldsSoFar shape start before old now_left s now → 0 < now_left.left
+      → TakesField known shape s now_left now next after new → FieldsSoFar shape start before old after next new
+  field_so_far {known} {next} {after} {new} i some t =
+      one_more_field shape t.key t.key refl i record { sound = t.read; some = some; follows = t.follows; takes = t.takes } refl t.counted t.sound t.value
+
+  pub named_value_refused : {E : Type 0} (after : AccessorState) (s' : S) (new : DeState) (refusal : Option (DecodeError E)) (e : DecodeError E) → refusal ≡ Some e → FieldsSoFar shape start before old now_left s now → 0 < now_left.left
+      → ReadsNamed shape s now_left now false refusal s' after new
+      → Refuses (HasFields shape start before.last before.left old.input) (MayLack (fields_memory shape) old.input) (shape.wants_loan ≡ true) Anything old.input e new.input
+  named_value_refused {E} after s' new refusal e is i some h =
+      let r = subst (λ x. ReadsNamed shape s now_left now false x s' after new) is h in
+      value_not_read shape (MayLack shape.memory r.mid.input) (shape.wants_loan ≡ true) new.input e r.key r.key refl i record { sound = r.read; some = some; follows = r.follows; takes = r.takes } (or_right (unless_lent r.mid.input.lends) (shape.memory r.mid.input.lends)) r.refused
+
+  pub nothing_named : {E : Type 0} {after : AccessorState} {s' : S} {new : DeState} (refusal : Option (DecodeError E)) → refusal ≡ None → FieldsSoFar shape start before old now_left s now
+      → ReadsNamed shape s now_left now false refusal s' after new → FieldsSoFar shape start before old after s' new × (after ≡ now_left)
+  nothing_named {E} {after} {s'} {new} refusal is i h =
+      let k = subst (λ x. ReadsNamed shape s now_left now false x s' after new) is h in
+      (subst (λ x. FieldsSoFar shape start before old x s' new) (sym k.1) (subst (λ x. FieldsSoFar shape start before old now_left x new) (sym k.0) (subst (λ x. FieldsSoFar shape start before old now_left s x) (sym k.2) i)), k.1)
+
+  pub others_refused : {E : Type 0} (new : DeState) (e : DecodeError E) → FieldsSoFar shape start before old now_left s now
+      → Refuses (HasFields shape s now_left.last now_left.left now.input) (MayLack (fields_memory shape) now.input) (shape.wants_loan ≡ true) Anything now.input e new.input
+      → Refuses (HasFields shape start before.last before.left old.input) (MayLack (fields_memory shape) old.input) (shape.wants_loan ≡ true) Anything old.input e new.input
+  others_refused {E} new e i r = refusal_carried Anything Anything old.input now.input new.input e (same_reader i.same) i.has (lacks_before (fields_memory shape) i.same.lends) (λ x. x) (λ b l g. tt) r

@@ -1,0 +1,40 @@
+//! An enum whose variants are told by numbers.
+
+ghost use Rattle.std.specs.Prelude.{◌≡◌, ℕ, Option, option_map};
+ghost use Rattle.serde_ipld_dagcbor.specs.Deserializers.{StaysFailed, Stops, Over};
+ghost use Rattle.serde_ipld_dagcbor.specs.Values.{ReadsValue};
+ghost use Rattle.dagcbor_schema.specs.ToldValues.{told_by_number};
+
+use serde_ipld_dagcbor::{DecodeError, Deserialize, Deserializer, Read, ReadResult};
+use std::alloc::Global;
+
+/// A value that a number tells.
+pub trait Numbered: Sized + Drop {
+    ghost View: { Type 0 };
+
+    ghost meaning: { Self → View };
+
+    /// What a number tells. None where it tells nothing.
+    ghost told: { ℕ → Option View };
+
+    fn of_number(number: u64) -> Option<Self>
+        ensures { option_map meaning result ≡ told number };
+}
+
+/// Reads the number that tells the value. One that tells nothing is refused with `Msg("unknown
+/// variant")`.
+pub fn read_numbered<'de, T: Numbered, R: Read>(
+    alloc: Global,
+    de: &mut Deserializer<'de, R>,
+) -> ReadResult<T, R>
+    ensures value { Over R.reading (ReadsValue T.meaning (told_by_number T.told)) de.old result
+        de.new }
+    ensures failed { Over R.reading StaysFailed de.old result de.new }
+    ensures stops { Over R.reading Stops de.old result de.new }
+{
+    let number = u64::deserialize(alloc, de)?;
+    match T::of_number(number) {
+        Some(value) => Ok(value),
+        None => Err(DecodeError::custom("unknown variant")),
+    }
+}

@@ -1,0 +1,9 @@
+pub mod Spans
+pub mod AtStages
+pub mod Levels
+pub mod Leaves
+pub mod Closing
+pub mod Logs
+pub mod Props
+pub mod LinkNames
+pub mod Walks

@@ -1,0 +1,19 @@
+-- What whole values are written as, and why bytes are refused.
+use Rattle.std.specs.Prelude.{◌≢◌, List, ℕ, IsSomeAnd}
+use Rattle.serde.specs.Event.{Log}
+use Rattle.ipld_tree.specs.Tree.{Tree}
+use Rattle.ipld_tree.specs.Spelling.{IsSpelling}
+use Rattle.dagcbor_heads.specs.declared.error.DecodeError.TheVariants.{OutOfMemory}
+use Rattle.dagcbor_items.specs.Slices.{IsBlock, SliceRefused}
+use Rattle.dagcbor_serde.specs.Building.{events_tree}
+use Rattle.dagcbor_serde.specs.declared.error.Error.{Error}
+use Rattle.dagcbor_serde.specs.declared.error.Error.TheVariants.{NoBlock, Misfit}
+
+-- the bytes are the spelling of the tree of the events
+abbrev pub IsBlockOf : Log → List ℕ → Type 0
+IsBlockOf log b = IsSomeAnd log (λ es. IsSomeAnd (events_tree es) (λ t. IsSpelling b t))
+
+-- the bytes are no block, for this cause; or they are one, and the type does not accept it
+abbrev pub IsRefused : Error → List ℕ → Type 0
+IsRefused (NoBlock e) b = SliceRefused e b × (e ≢ OutOfMemory)
+IsRefused (Misfit m) b = (t : Tree) × IsBlock b t

@@ -1,0 +1,6 @@
+pub mod Blocks
+pub mod Building
+pub mod Holds
+pub mod Links
+pub mod Logged
+pub mod Noted

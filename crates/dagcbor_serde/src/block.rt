@@ -1,0 +1,482 @@
+//! A block as a `Format` of serde's: its heads, one by one. The block was judged before, so that
+//! nothing is looked at twice but what is read.
+
+use crate::error::Misfit;
+use crate::link::LINK;
+use dagcbor_heads::{Name as Kept, split_head};
+use serde::{Format, Kind, Name, find};
+use std::alloc::Global;
+use std::str::from_utf8;
+
+/// What of a link is read, where one is.
+#[derive(Clone, Copy, Drop, PartialEq, Eq)]
+pub(crate) enum LinkStage {
+    /// No link is being read.
+    Nowhere,
+    /// Its map was begun.
+    Begun,
+    /// Its bytes come next.
+    Named,
+    /// Its bytes were read.
+    Read,
+}
+
+/// A place in a block.
+#[derive(Drop)]
+pub(crate) struct Block<'r> {
+    /// What is not read yet.
+    rest: &'r [u8],
+    /// How many items or entries of the innermost list or map are not read yet.
+    left: u64,
+    /// The same of those around it.
+    around: Vec<u64>,
+    link: LinkStage,
+}
+
+#[derive(Clone, Copy, Drop)]
+pub(crate) struct Mark<'r> {
+    rest: &'r [u8],
+    left: u64,
+    depth: usize,
+    link: LinkStage,
+}
+
+fn mismatch(rest: &[u8]) -> Misfit {
+    match rest.first() {
+        Some(first) => Misfit::Mismatch(*first),
+        None => Misfit::Unread,
+    }
+}
+
+/// Whether this is the name of a link, for which no map is asked but that of a link.
+#[inline(always)]
+fn is_link_name(names: &[Name<'_>]) -> bool {
+    match names {
+        [name] => name.case == LINK.case && name.name == LINK.name,
+        _ => false,
+    }
+}
+
+/// What is behind one item.
+fn behind_one(bytes: &[u8]) -> Option<&[u8]> {
+    let mut rest = bytes;
+    let mut wanted = 1u64;
+    for _ in 0..bytes.len() {
+        let (major, argument, behind) = split_head(rest)?;
+        wanted = wanted.checked_sub(1)?;
+        rest = match major {
+            2 | 3 => behind.get(usize::try_from(argument).ok()?..)?,
+            _ => behind,
+        };
+        wanted = match major {
+            4 => wanted.checked_add(argument)?,
+            5 => wanted.checked_add(argument)?.checked_add(argument)?,
+            6 => wanted.checked_add(1)?,
+            _ => wanted,
+        };
+        if wanted == 0 {
+            return Some(rest);
+        }
+    }
+    None
+}
+
+impl<'r> Block<'r> {
+    pub(crate) fn new(alloc: Global, bytes: &'r [u8]) -> Block<'r> {
+        Block {
+            rest: bytes,
+            left: 0,
+            around: Vec::new(alloc),
+            link: LinkStage::Nowhere,
+        }
+    }
+
+    /// All was read.
+    pub(crate) fn end(&self) -> Result<(), Misfit> {
+        if self.rest.is_empty() {
+            Ok(())
+        } else {
+            Err(Misfit::Unread)
+        }
+    }
+
+    /// The argument of the head at the front, where it has this major type.
+    #[inline(always)]
+    fn take_argument(&mut self, major: u8) -> Result<u64, Misfit> {
+        match split_head(self.rest) {
+            Some((found, argument, behind)) if found == major && self.is_outside() => {
+                self.rest = behind;
+                Ok(argument)
+            }
+            _ => Err(mismatch(self.rest)),
+        }
+    }
+
+    /// Whether no part of a link is due.
+    #[inline(always)]
+    fn is_outside(&self) -> bool {
+        matches!(self.link, LinkStage::Nowhere)
+    }
+
+    #[inline(always)]
+    fn take_payload(&mut self, n: u64) -> Result<&'r [u8], Misfit> {
+        let rest = self.rest;
+        if n > rest.len() as u64 {
+            return Err(Misfit::Unread);
+        }
+        let (payload, behind) = rest.split_at(n as usize);
+        self.rest = behind;
+        Ok(payload)
+    }
+
+    #[inline(always)]
+    fn take_text(&mut self) -> Result<&'r str, Misfit> {
+        let n = self.take_argument(3)?;
+        match from_utf8(self.take_payload(n)?) {
+            Ok(text) => Ok(text),
+            Err(_) => Err(Misfit::Invalid),
+        }
+    }
+
+    fn take_bytes(&mut self) -> Result<&'r [u8], Misfit> {
+        match self.link {
+            LinkStage::Nowhere => {
+                let n = self.take_argument(2)?;
+                self.take_payload(n)
+            }
+            LinkStage::Named => self.take_cid(),
+            _ => Err(mismatch(self.rest)),
+        }
+    }
+
+    /// The binary form behind the tag and the zero byte.
+    fn take_cid(&mut self) -> Result<&'r [u8], Misfit> {
+        let Some((6, _, payload)) = split_head(self.rest) else {
+            return Err(mismatch(self.rest));
+        };
+        self.rest = payload;
+        self.link = LinkStage::Nowhere;
+        let n = self.take_argument(2)?;
+        let cid = self.take_payload(n)?;
+        self.link = LinkStage::Read;
+        match cid.split_first() {
+            Some((_, cid)) => Ok(cid),
+            None => Err(Misfit::Invalid),
+        }
+    }
+
+    /// An integer.
+    #[inline(always)]
+    fn take_integer(&mut self) -> Result<i128, Misfit> {
+        match split_head(self.rest) {
+            Some((0, argument, behind)) if self.is_outside() => {
+                self.rest = behind;
+                Ok(argument as i128)
+            }
+            Some((1, argument, behind)) if self.is_outside() => {
+                self.rest = behind;
+                Ok(-1 - argument as i128)
+            }
+            _ => Err(mismatch(self.rest)),
+        }
+    }
+
+    /// Goes into a list or map of so many items or entries.
+    #[inline(always)]
+    fn enter(&mut self, count: u64) -> Result<(), Misfit> {
+        match self.around.push(self.left) {
+            Ok(()) => {}
+            Err(_) => return Err(Misfit::OutOfMemory),
+        }
+        self.left = count;
+        Ok(())
+    }
+
+    /// Whether an item or entry comes; at the end it goes out of the list or map.
+    #[inline(always)]
+    fn comes(&mut self) -> bool {
+        if self.left > 0 {
+            self.left -= 1;
+            return true;
+        }
+        self.left = self.around.pop().unwrap_or(0);
+        false
+    }
+
+    /// The index of the key among the names.
+    #[inline(always)]
+    fn take_key(&mut self, names: &[Name<'_>]) -> Result<usize, Misfit> {
+        Ok(find(names, self.take_text()?))
+    }
+
+    /// The name of a link, and its end.
+    #[cold]
+    #[inline(never)]
+    fn next_link_key(&mut self, names: &[Name<'_>]) -> Result<Option<usize>, Misfit> {
+        match self.link {
+            LinkStage::Begun if is_link_name(names) => {
+                self.link = LinkStage::Named;
+                Ok(Some(0))
+            }
+            LinkStage::Read => {
+                self.link = LinkStage::Nowhere;
+                Ok(None)
+            }
+            _ => Err(mismatch(self.rest)),
+        }
+    }
+}
+
+impl<'r> Format for Block<'r> {
+    type Error = Misfit;
+
+    type Mark = Mark<'r>;
+
+    #[inline(always)]
+    fn bool(&mut self, _input: &[u8]) -> Result<bool, Misfit> {
+        match self.rest {
+            [0xf4, behind @ ..] if self.is_outside() => {
+                self.rest = behind;
+                Ok(false)
+            }
+            [0xf5, behind @ ..] if self.is_outside() => {
+                self.rest = behind;
+                Ok(true)
+            }
+            _ => Err(mismatch(self.rest)),
+        }
+    }
+
+    #[inline(always)]
+    fn i64(&mut self, _input: &[u8]) -> Result<i64, Misfit> {
+        match i64::try_from(self.take_integer()?) {
+            Ok(v) => Ok(v),
+            Err(_) => Err(Misfit::OutOfRange),
+        }
+    }
+
+    #[inline(always)]
+    fn u64(&mut self, _input: &[u8]) -> Result<u64, Misfit> {
+        match u64::try_from(self.take_integer()?) {
+            Ok(v) => Ok(v),
+            Err(_) => Err(Misfit::OutOfRange),
+        }
+    }
+
+    fn i128(&mut self, _input: &[u8]) -> Result<i128, Misfit> {
+        self.take_integer()
+    }
+
+    fn u128(&mut self, _input: &[u8]) -> Result<u128, Misfit> {
+        match u128::try_from(self.take_integer()?) {
+            Ok(v) => Ok(v),
+            Err(_) => Err(Misfit::OutOfRange),
+        }
+    }
+
+    fn f32(&mut self, _input: &[u8]) -> Result<f32, Misfit> {
+        Err(Misfit::Float)
+    }
+
+    fn f64(&mut self, _input: &[u8]) -> Result<f64, Misfit> {
+        Err(Misfit::Float)
+    }
+
+    fn char(&mut self, _input: &[u8]) -> Result<char, Misfit> {
+        match self.take_text()?.parse::<char>() {
+            Ok(c) => Ok(c),
+            Err(_) => Err(Misfit::Invalid),
+        }
+    }
+
+    fn plain_str(&mut self, input: &[u8]) -> Result<(usize, usize), Misfit> {
+        let text = self.take_text()?;
+        let end = input.len().saturating_sub(self.rest.len());
+        Ok((end.saturating_sub(text.len()), end))
+    }
+
+    fn plain_bytes(&mut self, input: &[u8]) -> Result<(usize, usize), Misfit> {
+        let bytes = self.take_bytes()?;
+        let end = input.len().saturating_sub(self.rest.len());
+        Ok((end.saturating_sub(bytes.len()), end))
+    }
+
+    #[inline(always)]
+    fn string(&mut self, alloc: Global, _input: &[u8]) -> Result<String, Misfit> {
+        match String::from_str(alloc, self.take_text()?) {
+            Ok(text) => Ok(text),
+            Err(_) => Err(Misfit::OutOfMemory),
+        }
+    }
+
+    fn byte_buf(&mut self, alloc: Global, _input: &[u8]) -> Result<Vec<u8>, Misfit> {
+        match Vec::from_slice(alloc, self.take_bytes()?) {
+            Ok(bytes) => Ok(bytes),
+            Err(_) => Err(Misfit::OutOfMemory),
+        }
+    }
+
+    fn peek(&mut self, _input: &[u8]) -> Result<Kind, Misfit> {
+        if let LinkStage::Named = self.link {
+            return Ok(Kind::Bytes);
+        }
+        let Some(first) = self.rest.first() else {
+            return Err(Misfit::Unread);
+        };
+        match *first {
+            0x00..=0x1f => Ok(Kind::Unsigned),
+            0x20..=0x3f => Ok(Kind::Signed),
+            0x40..=0x5f => Ok(Kind::Bytes),
+            0x60..=0x7f => Ok(Kind::Str),
+            0x80..=0x9f => Ok(Kind::Seq),
+            0xa0..=0xdf => Ok(Kind::Map),
+            0xf4 | 0xf5 => Ok(Kind::Bool),
+            _ => Ok(Kind::Unit),
+        }
+    }
+
+    #[inline(always)]
+    fn take_unit(&mut self, _input: &[u8]) -> Result<bool, Misfit> {
+        match self.rest {
+            [0xf6, behind @ ..] if self.is_outside() => {
+                self.rest = behind;
+                Ok(true)
+            }
+            _ => Ok(false),
+        }
+    }
+
+    #[inline(always)]
+    fn take_none(&mut self, input: &[u8]) -> Result<bool, Misfit> {
+        self.take_unit(input)
+    }
+
+    #[inline(always)]
+    fn begin_seq(&mut self, _input: &[u8]) -> Result<(), Misfit> {
+        let count = self.take_argument(4)?;
+        self.enter(count)
+    }
+
+    #[inline(always)]
+    fn next_item(&mut self, _input: &[u8]) -> Result<bool, Misfit> {
+        Ok(self.comes())
+    }
+
+    fn begin_map(&mut self, _input: &[u8]) -> Result<(), Misfit> {
+        if let (Some(0xd8), LinkStage::Nowhere) = (self.rest.first(), self.link) {
+            self.link = LinkStage::Begun;
+            return Ok(());
+        }
+        let count = self.take_argument(5)?;
+        self.enter(count)
+    }
+
+    #[inline(always)]
+    fn begin_struct(&mut self, _input: &[u8]) -> Result<bool, Misfit> {
+        if !self.is_outside() {
+            return Err(mismatch(self.rest));
+        }
+        match split_head(self.rest) {
+            Some((5, count, behind)) => {
+                self.rest = behind;
+                self.enter(count)?;
+                Ok(false)
+            }
+            Some((4, count, behind)) => {
+                self.rest = behind;
+                self.enter(count)?;
+                Ok(true)
+            }
+            _ => Err(mismatch(self.rest)),
+        }
+    }
+
+    #[inline(always)]
+    fn next_key(&mut self, _input: &[u8], names: &[Name<'_>]) -> Result<Option<usize>, Misfit> {
+        if !self.is_outside() || is_link_name(names) {
+            return self.next_link_key(names);
+        }
+        if !self.comes() {
+            return Ok(None);
+        }
+        Ok(Some(self.take_key(names)?))
+    }
+
+    fn variant(&mut self, _input: &[u8], names: &[Name<'_>]) -> Result<usize, Misfit> {
+        Ok(find(names, self.take_text()?))
+    }
+
+    fn next_entry(&mut self, _input: &[u8]) -> Result<bool, Misfit> {
+        if !self.is_outside() {
+            return Err(mismatch(self.rest));
+        }
+        Ok(self.comes())
+    }
+
+    fn skip(&mut self, _input: &[u8]) -> Result<(), Misfit> {
+        if !self.is_outside() {
+            return Err(mismatch(self.rest));
+        }
+        match behind_one(self.rest) {
+            Some(behind) => {
+                self.rest = behind;
+                Ok(())
+            }
+            None => Err(Misfit::Unread),
+        }
+    }
+
+    fn mark(&mut self) -> Mark<'r> {
+        Mark {
+            rest: self.rest,
+            left: self.left,
+            depth: self.around.len(),
+            link: self.link,
+        }
+    }
+
+    fn rewind(&mut self, mark: Mark<'r>) {
+        self.rest = mark.rest;
+        self.left = mark.left;
+        self.link = mark.link;
+        self.around.truncate(mark.depth);
+    }
+
+    fn release(&mut self, _mark: Mark<'r>) {}
+
+    fn is_fatal(&self, error: &Misfit) -> bool {
+        matches!(error, Misfit::OutOfMemory)
+    }
+
+    fn missing(&self, name: &str) -> Misfit {
+        Misfit::MissingField(Kept::new(name))
+    }
+
+    fn duplicate(&self, name: &str) -> Misfit {
+        Misfit::DuplicateField(Kept::new(name))
+    }
+
+    fn unknown_key(&self) -> Misfit {
+        Misfit::UnknownField
+    }
+
+    fn unknown_variant(&self) -> Misfit {
+        Misfit::UnknownVariant
+    }
+
+    fn wrong_len(&self) -> Misfit {
+        Misfit::WrongLength
+    }
+
+    fn invalid(&self) -> Misfit {
+        Misfit::Invalid
+    }
+
+    fn no_memory(&self) -> Misfit {
+        Misfit::OutOfMemory
+    }
+
+    fn custom(&self, message: &str) -> Misfit {
+        Misfit::Custom(Kept::new(message))
+    }
+}

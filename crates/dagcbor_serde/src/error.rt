@@ -1,0 +1,95 @@
+//! Why a value was not written or not read.
+
+use dagcbor_heads::{DecodeError, Name};
+use std::convert::Infallible;
+use std::error::Error as StdError;
+use std::fmt;
+use std::fmt::{Debug, Display, Formatter};
+
+/// Why a value was not written.
+#[derive(Clone, Copy, Debug, Drop, PartialEq, Eq)]
+pub enum WriteError {
+    /// A growth was refused.
+    OutOfMemory,
+    /// A float was sent.
+    Float,
+    /// An integer below -2^64, or of 2^64 or more, was sent.
+    OutOfRange,
+    /// The key of a map is no text.
+    KeyIsNoText,
+    /// Two entries of a map have the same key.
+    RepeatedKey,
+    /// The bytes of a link are no CID.
+    NoCid,
+    /// A flattened value is neither a map nor null.
+    FlattensNoMap,
+    /// The calls are those of no value, as an entry without a key.
+    Misplaced,
+    /// A type refused, with a message of its own.
+    Custom(Name),
+}
+
+/// The text of `Debug`.
+impl Display for WriteError {
+    fn fmt<W: fmt::Write>(&self, f: &mut Formatter<W>) -> fmt::Result {
+        Debug::fmt(self, f)
+    }
+}
+
+impl StdError for WriteError {}
+
+/// Why a type did not accept a block.
+#[derive(Clone, Copy, Debug, Drop, PartialEq, Eq)]
+pub enum Misfit {
+    /// A growth was refused.
+    OutOfMemory,
+    /// An item of another kind is wanted than that which begins with this byte.
+    Mismatch(u8),
+    /// A number is outside the wanted type.
+    OutOfRange,
+    /// A float is wanted, and there are none.
+    Float,
+    /// The field that has this name is missing.
+    MissingField(Name),
+    /// The field that has this name comes twice.
+    DuplicateField(Name),
+    /// No field has this key.
+    UnknownField,
+    /// No variant has this name.
+    UnknownVariant,
+    /// A tuple has another number of items.
+    WrongLength,
+    /// No value of the type is this one.
+    Invalid,
+    /// The type left items unread.
+    Unread,
+    /// A type refused, with a message of its own.
+    Custom(Name),
+}
+
+/// The text of `Debug`.
+impl Display for Misfit {
+    fn fmt<W: fmt::Write>(&self, f: &mut Formatter<W>) -> fmt::Result {
+        Debug::fmt(self, f)
+    }
+}
+
+impl StdError for Misfit {}
+
+/// Why a value was not read.
+#[derive(Debug, Drop)]
+pub enum Error {
+    /// The bytes are no block.
+    NoBlock(DecodeError<Infallible>),
+    /// The type does not accept the block.
+    Misfit(Misfit),
+}
+
+/// The text of `Debug`.
+impl Display for Error {
+    fn fmt<W: fmt::Write>(&self, f: &mut Formatter<W>) -> fmt::Result {
+        Debug::fmt(self, f)
+    }
+}
+
+impl StdError for Error {}

@@ -1,0 +1,13 @@
+//! Laws of the events of links. Each function does nothing: its contract is the law.
+
+ghost use Rattle.dagcbor_serde.specs.Links.{LinksAreLinks, FieldsAreNoLinks};
+
+/// The events of a link make that link.
+pub fn links_are_links()
+    ensures { LinksAreLinks }
+{}
+
+/// A field of another name, or in another case, makes none: a derive sends `/` as it is.
+pub fn fields_are_no_links()
+    ensures { FieldsAreNoLinks }
+{}

@@ -1,0 +1,30 @@
+//! DAG-CBOR as a format of serde's: a type derives `Serialize` and `Deserialize`, and nothing else is
+//! written of it.
+//!
+//! ```rust
+//! #[derive(Debug, Drop, PartialEq, Serialize, Deserialize)]
+//! struct Note {
+//!     year: u16,
+//!     text: String,
+//! }
+//!
+//! let block = to_vec(alloc, &note)?;
+//! let again: Note = from_slice(alloc, &block)?;
+//! ```
+#![tactic(auto)]
+
+mod block;
+mod byte_buf;
+mod error;
+mod frame;
+pub mod laws;
+mod link;
+mod log;
+mod sink;
+mod whole;
+mod writer;
+
+pub use byte_buf::ByteBuf;
+pub use error::{Error, Misfit, WriteError};
+pub use link::Link;
+pub use whole::{from_slice, from_slice_owned, to_vec};

@@ -1,0 +1,92 @@
+//! Whole values.
+
+ghost use Rattle.std.specs.Prelude.{◌≡◌, [], Some, IfOk, IfErr, OnOk};
+ghost use Rattle.serde.specs.Event.{Log};
+ghost use Rattle.dagcbor_items.specs.Slices.{IsBlock};
+ghost use Rattle.ipld_tree.specs.Tree.{Tree};
+ghost use Rattle.dagcbor_serde.specs.Blocks.{IsBlockOf, IsRefused};
+
+use crate::block::Block;
+use crate::error::{Error, Misfit, WriteError};
+use crate::writer::Writer;
+use dagcbor_items::check_slice;
+use serde::{Deserialize, DeserializeOwned, Deserializer, Serialize};
+use std::alloc::Global;
+
+/// The one spelling of the tree of the value's events.
+pub fn to_vec<T: Serialize>(alloc: Global, value: &T) -> Result<Vec<u8>, WriteError>
+    ensures { IfOk result
+        (λ v. (log : Log) × T.writes value.now (Some []) log × IsBlockOf log v.items) }
+{
+    let Ok(out) = Vec::with_capacity(alloc, 128) else {
+        return Err(WriteError::OutOfMemory);
+    };
+    let mut writer = Writer::new(alloc, out);
+    value.serialize(&mut writer)?;
+    writer.into_bytes()
+}
+
+/// Reads a value of the type from a block.
+pub fn from_slice<'de, T: Deserialize<'de>>(alloc: Global, bytes: &'de [u8]) -> Result<T, Error>
+    ensures block { OnOk result ((t : Tree) × IsBlock bytes.now t) }
+    ensures refused { IfErr result (λ e. IsRefused e bytes.now) }
+{
+    judge(bytes)?;
+    match read(alloc, bytes) {
+        Ok(value) => Ok(value),
+        Err(misfit) => Err(Error::Misfit(misfit)),
+    }
+}
+
+/// As `from_slice`, of a type that borrows nothing.
+pub fn from_slice_owned<T: DeserializeOwned>(alloc: Global, bytes: &[u8]) -> Result<T, Error>
+    ensures block { OnOk result ((t : Tree) × IsBlock bytes.now t) }
+    ensures refused { IfErr result (λ e. IsRefused e bytes.now) }
+{
+    judge(bytes)?;
+    match read_owned(alloc, bytes) {
+        Ok(value) => Ok(value),
+        Err(misfit) => Err(Error::Misfit(misfit)),
+    }
+}
+
+/// Refuses bytes that are no block.
+fn judge(bytes: &[u8]) -> Result<(), Error>
+    ensures block { OnOk result ((t : Tree) × IsBlock bytes.now t) }
+    ensures refused { IfErr result (λ e. IsRefused e bytes.now) }
+{
+    match check_slice(bytes) {
+        Ok(_) => Ok(()),
+        Err(error) => Err(Error::NoBlock(error)),
+    }
+}
+
+fn read<'de, T: Deserialize<'de>>(alloc: Global, bytes: &'de [u8]) -> Result<T, Misfit> {
+    let mut block = Block::new(alloc, bytes);
+    let value = read_one(alloc, bytes, &mut block)?;
+    block.end()?;
+    Ok(value)
+}
+
+fn read_one<'de, T: Deserialize<'de>>(
+    alloc: Global,
+    bytes: &'de [u8],
+    block: &mut Block<'_>,
+) -> Result<T, Misfit> {
+    T::deserialize(alloc, &mut Deserializer::new(bytes, block))
+}
+
+fn read_owned<T: DeserializeOwned>(alloc: Global, bytes: &[u8]) -> Result<T, Misfit> {
+    let mut block = Block::new(alloc, bytes);
+    let value = read_one_owned(alloc, bytes, &mut block)?;
+    block.end()?;
+    Ok(value)
+}
+
+fn read_one_owned<T: DeserializeOwned>(
+    alloc: Global,
+    bytes: &[u8],
+    block: &mut Block<'_>,
+) -> Result<T, Misfit> {
+    T::deserialize_owned(alloc, &mut Deserializer::new(bytes, block))
+}

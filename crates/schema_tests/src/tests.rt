@@ -1,0 +1,3 @@
+mod album;
+mod blocks;
+mod written_again;

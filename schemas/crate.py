@@ -1,0 +1,122 @@
+"""The files of a crate that is made of schemas."""
+
+import pathlib
+import re
+
+from schemas.law import Schema, path_name
+from schemas.layout import filled
+from schemas.parsing import SchemaError, parse
+from schemas.rattle import Module
+
+MADE = "by ./dagcbor-types"
+STANDS_ON = "serde_ipld_dagcbor dagcbor_schema dagcbor_read"
+
+
+class CrateError(Exception):
+    """The crate can't be made."""
+
+
+def module_of(path, crate):
+    if path.suffix != ".ipldsch" or not re.fullmatch(r"[a-z][a-z0-9]*(_[a-z0-9]+)*", path.stem):
+        raise CrateError(f"{path}: a schema's file has a name as a module's, and ends in .ipldsch")
+    if path.stem in ("lib", "main", "tests"):
+        raise CrateError(f"{path}: no module is named {path.stem}")
+    try:
+        text = path.read_text(encoding="utf-8")
+    except (OSError, UnicodeDecodeError) as error:
+        raise CrateError(f"{path}: {error}") from error
+    try:
+        return Module(Schema(parse(text)), crate.name, path.stem)
+    except SchemaError as error:
+        raise CrateError(f"{path}:{error.place.line}:{error.place.column}: {error.message}") from error
+
+
+def files_of(schemas, crate):
+    """The path of each file, and its text."""
+    crate = crate.resolve()
+    if not re.fullmatch(r"[a-z][a-z0-9_]*", crate.name):
+        raise CrateError(f"{crate.name}: a crate's name is lowercase letters, digits and _")
+    modules = sorted((module_of(path, crate) for path in schemas), key=lambda module: module.name)
+    seen = {}
+    for module in modules:
+        for one in module.definitions:
+            if one.name in seen:
+                raise CrateError(f"`{one.name}` is a type of {seen[one.name]} and of {module.name}")
+            seen[one.name] = module.name
+    made = {}
+    for module in modules:
+        source = f"{module.name}.ipldsch"
+        made[crate / "src" / f"{module.name}.rt"] = module.source(source)
+        made[crate / "specs" / f"{module.path}.antt"] = module.specs(source)
+        for place, text in module.answers(source).items():
+            made[crate / "proofs" / place / "Answers.antt"] = text
+    made[crate / "src" / "lib.rt"] = lib_of(modules)
+    made[crate / "specs" / "Lib.antt"] = specs_of(modules)
+    return crate, made
+
+
+def lib_of(modules):
+    names = ", ".join(f"{module.name}.ipldsch" for module in modules)
+    rows = [f"//! The types of {names}, {MADE}.", "#![tactic(auto)]", ""]
+    rows += [f"mod {module.name};" for module in modules] + [""]
+    for module in modules:
+        rows += filled(f"pub use {module.name}::", sorted(one.name for one in module.definitions), ";")
+    return "\n".join(rows) + "\n"
+
+
+def specs_of(modules):
+    rows = [f"-- What a tree shows to each type, {MADE}."]
+    return "\n".join(rows + [f"pub mod {path_name(module.name)}" for module in modules]) + "\n"
+
+
+def line_of(crate):
+    return f"{crate.name}: {STANDS_ON}"
+
+
+def left_over(crate, files):
+    """Files that were made of what is no longer in the schemas."""
+    for folder in ("src", "specs", "proofs"):
+        for path in sorted((crate / folder).rglob("*")):
+            if path.suffix in (".rt", ".antt") and path not in files and MADE in path.read_text(encoding="utf-8").split("\n", 1)[0]:
+                yield path
+
+
+def write(made, check):
+    """Writes the files, and answers a line for each that was another."""
+    crate, files = made
+    told = []
+    for path in left_over(crate, files):
+        told.append(f"{'left over' if check else 'removed'}: {shown(path)}")
+        if not check:
+            path.unlink()
+    for path, text in files.items():
+        found = path.read_text(encoding="utf-8") if path.exists() else None
+        if found == text:
+            continue
+        if found is not None and MADE not in found.split("\n", 1)[0]:
+            raise CrateError(f"{shown(path)} was not made by this tool: move it away first")
+        told.append(f"{'another' if check else 'written'}: {shown(path)}")
+        if not check:
+            path.parent.mkdir(parents=True, exist_ok=True)
+            path.write_text(text, encoding="utf-8")
+    return told + listed(crate, check)
+
+
+def listed(crate, check):
+    """Adds the crate's line to crates.txt, where it has none."""
+    table = crate.parent.parent / "crates.txt"
+    if not table.exists():
+        return []
+    text = table.read_text(encoding="utf-8")
+    if re.search(rf"^{crate.name}( [^:\n]*)?:", text, re.MULTILINE):
+        return []
+    if not check:
+        table.write_text(text.rstrip("\n") + f"\n{line_of(crate)}\n", encoding="utf-8")
+    return [f"{'wanting' if check else 'added'} in crates.txt: {line_of(crate)}"]
+
+
+def shown(path):
+    try:
+        return path.relative_to(pathlib.Path.cwd())
+    except ValueError:
+        return path

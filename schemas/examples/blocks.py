@@ -1,0 +1,137 @@
+#!/usr/bin/env python3
+"""The blocks of the tests of the types that these schemas make, as Rattle: spelled here by the rules alone, with nothing of the
+tool or of the library.
+
+    schemas/examples/blocks.py album > crates/schema_tests/src/tests/blocks.rt"""
+
+import sys
+
+
+class Link(bytes):
+    """A CID in its binary form."""
+
+
+def head(major, n):
+    for size, extra in ((1, 24), (2, 25), (4, 26), (8, 27)):
+        if n < 24:
+            return bytes([major * 32 + n])
+        if n < 256**size:
+            return bytes([major * 32 + extra]) + n.to_bytes(size, "big")
+    raise ValueError(n)
+
+
+def counted(major, payload):
+    return head(major, len(payload)) + payload
+
+
+def spelled(value):
+    """The pieces of an item: each text by itself, so that it stays readable."""
+    if value is None:
+        return [b"\xf6"]
+    if isinstance(value, bool):
+        return [b"\xf5" if value else b"\xf4"]
+    if isinstance(value, int):
+        return [head(0, value) if value >= 0 else head(1, -1 - value)]
+    if isinstance(value, Link):
+        return [b"\xd8\x2a" + counted(2, b"\0" + value)]
+    if isinstance(value, bytes):
+        return [counted(2, value)]
+    if isinstance(value, str):
+        return [head(3, len(value.encode())), value]
+    if isinstance(value, list):
+        return [head(4, len(value)), *(piece for item in value for piece in spelled(item))]
+    keys = sorted(value, key=lambda key: (len(key.encode()), key.encode()))
+    return [head(5, len(value)), *(piece for key in keys for piece in spelled(key) + spelled(value[key]))]
+
+
+CID = Link(bytes.fromhex("01711220") + bytes(range(32)))
+
+BLUE = {
+    "year": 1971,
+    "title": "Blue",
+    "format": "Vinyl",
+    "tracks": [{"note": "take 2", "title": "Carey", "seconds": 182}, {"title": "River", "seconds": 244}],
+}
+DEMO = {"title": "Demo", "format": "Tape", "tracks": []}
+COMMIT = {"did": "did:plc:a", "version": 3, "data": CID, "rev": "3l", "prev": None, "sig": b"\x01\x02"}
+POST = {"$type": "app.bsky.feed.post", "text": "hi", "createdAt": "2024-01-01T00:00:00Z"}
+REF = {"uri": "at://a", "cid": "bafy"}
+FIGURES = {
+    "totals": {"b": 1, "aa": 2},
+    "grids": {"g": [[[1], []]]},
+    "route": [[1, -(2**63)], None],
+    "notes": {"n": None, "m": ["x"]},
+}
+LEDGER = {
+    "open": True,
+    "currency": "EUR",
+    "level": 200,
+    "payments": [
+        {"cash": 2**64 - 1},
+        {"card": {"number": "12", "until": None}},
+        {"card": {"number": "", "until": [-1, 2]}},
+        {"voucher": 0},
+        {"elsewhere": CID},
+    ],
+    "figures": FIGURES,
+    "extra": -(2**64),
+    "rest": {"any": [None, True]},
+}
+
+BLOCKS = {
+    "album": {
+        "BLUE": BLUE,
+        "DEMO": DEMO,
+        "DEMO_NULL_YEAR": {**DEMO, "year": None},
+        "DEMO_WIDE_YEAR": {**DEMO, "year": 2**16},
+        "DEMO_TEXT_YEAR": {**DEMO, "year": "1971"},
+        "DEMO_LABEL": {**DEMO, "label": "x"},
+        "DEMO_NO_TITLE": {"format": "Tape", "tracks": []},
+        "DEMO_WAX": {**DEMO, "format": "Wax"},
+        "DEMO_FORMAT_MAP": {**DEMO, "format": {"Tape": None}},
+        "DEMO_LIST": [DEMO],
+    },
+    "atproto": {
+        "COMMIT": COMMIT,
+        "COMMIT_NEXT": {**COMMIT, "prev": CID},
+        "COMMIT_NO_PREV": {key: value for key, value in COMMIT.items() if key != "prev"},
+        "COMMIT_TEXT_DATA": {**COMMIT, "data": "bafy"},
+        "COMMIT_LATER": {**COMMIT, "version": 256},
+        "COMMIT_MORE": {**COMMIT, "extra": 1},
+        "POST": POST,
+        "POST_MORE": {**POST, "via": {"x": [1]}},
+        "REPLY": {**POST, "langs": ["en", "de"], "reply": {"root": REF, "parent": REF}},
+        "REPLY_NULL": {**POST, "reply": None},
+        "REPLY_MORE": {**POST, "reply": {"root": REF, "parent": {**REF, "x": 1}}},
+    },
+    "ledger": {
+        "LEDGER": LEDGER,
+        "LEDGER_PLAIN": {key: value for key, value in LEDGER.items() if key != "extra"},
+        "LEDGER_NULL": {**LEDGER, "extra": None},
+        "LEDGER_LIST": {**LEDGER, "extra": []},
+        "LEDGER_LEVEL": {**LEDGER, "level": 2},
+        "LEDGER_LEVEL_BELOW": {**LEDGER, "level": -1},
+        "LEDGER_TWO": {**LEDGER, "payments": [{"cash": 1, "card": 2}]},
+        "LEDGER_BARE": {**LEDGER, "payments": ["cash"]},
+        "LEDGER_CHEQUE": {**LEDGER, "payments": [{"cheque": 1}]},
+        "LEDGER_LONG_POINT": {**LEDGER, "figures": {**FIGURES, "route": [[1, 2, 3]]}},
+        "LEDGER_SHORT_POINT": {**LEDGER, "figures": {**FIGURES, "route": [[1]]}},
+        "LEDGER_MAP_POINT": {**LEDGER, "figures": {**FIGURES, "route": [{"x": 1, "y": 2}]}},
+    },
+}
+
+
+def literal(pieces):
+    return "".join(piece if isinstance(piece, str) else "".join(f"\\x{byte:02x}" for byte in piece) for piece in pieces)
+
+
+def main():
+    print("//! Blocks, spelled by schemas/examples/blocks.py.")
+    blocks = {name: value for schema in sys.argv[1:] for name, value in BLOCKS[schema].items()}
+    for name, value in blocks.items():
+        head, text = f"pub(crate) const {name}: &[u8] =", f'b"{literal(spelled(value))}";'
+        print(f"\n{head} {text}" if len(head + text) < 100 else f"\n{head}\n    {text}")
+
+
+if __name__ == "__main__":
+    main()

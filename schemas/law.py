@@ -1,0 +1,254 @@
+"""What a schema must keep so that types can be made of it: names, keys, and no type that holds itself."""
+
+import re
+
+from schemas.parsing import DEFAULT_WIDTH, Alias, Enum, Int, Leaf, Link, ListOf, MapOf, Named, Nullable, SchemaError, Struct, Union
+
+MOST_PARTS = 4  # of a tuple
+KINDS = {"bool": ("Bool",), "int": ("Int",), "string": ("String",), "bytes": ("Bytes",), "link": ("Link",)}
+
+# What a link may lead to, beside the types of the schema.
+DATA_MODEL = ("Any", "Bool", "Bytes", "Float", "Int", "Link", "List", "Map", "String")
+
+# Names that the made code uses, or Rust or the data model has.
+TAKEN = set(
+    """Any Bool Bytes Float Int Link List Map Null String Unit
+    Box Clone Copy Debug Default Drop Eq Err From Hash Into Iterator Model Never None Ok Option Ord PartialEq PartialOrd Result Self
+    Send Some Sync Vec BTreeMap Cid Ipld Global Closed DecodeError Deserialize DeserializeOwned Deserializer EnumAccessor Field
+    Kinded Numbered Omissible Optional Read ReadResult Required Serialize Serializer Shown Variants Write WriteResult
+    EnumShape Lib Prim Shape Syntax TheOwn TheVariants Tree Type""".split()
+)
+TAKEN_VARIANTS = {"Below", "Self", "Denot"}
+RESERVED = set(
+    """as async await break const continue crate deriving dyn else enum ensures extern false fn for ghost if impl in let loop match
+    mod move mut pub ref requires result return row self static struct super trait true try type unsafe use where while yield alloc
+    de ser names""".split()
+)
+
+
+def snake(name):
+    """createdAt and CreatedAt as created_at."""
+    apart = re.sub(r"(?<=[a-z0-9])(?=[A-Z])|(?<=[A-Z])(?=[A-Z][a-z])", "_", name)
+    return apart.lower()
+
+
+def field_name(name):
+    word = snake(name)
+    return word + "_" if word in RESERVED else word
+
+
+def path_name(module):
+    return "".join(part.capitalize() for part in module.split("_"))
+
+
+class Schema:
+    """Definitions that keep the law."""
+
+    def __init__(self, definitions):
+        self.definitions = definitions
+        self.by_name = {}
+        for definition in definitions:
+            self.check_name(definition)
+        for definition in definitions:
+            self.check(definition)
+        self.refuse_recursion()
+
+    # -- names
+
+    def check_name(self, definition):
+        name, place = definition.name, definition.place
+        if not re.fullmatch(r"[A-Z][A-Za-z0-9]{0,39}", name):
+            raise SchemaError(place, f"a type's name is a capital and up to 39 letters and digits, and not `{name}`")
+        if name in TAKEN:
+            raise SchemaError(place, f"`{name}` is a name of the data model, of Rust or of the library: choose another")
+        for other in self.by_name.values():
+            if snake(other.name) == snake(name):
+                raise SchemaError(place, f"`{name}` and `{other.name}` (line {other.place.line}) are one name in lower case")
+            if name in (other.name + "View",) or other.name == name + "View":
+                raise SchemaError(place, f"`{name}` and `{other.name}`: what the one is read as has the other's name")
+        self.by_name[name] = definition
+
+    def resolve(self, kind):
+        """The type with its aliases replaced by what they stand for, and a nullable Any by Any, which has null already."""
+        if isinstance(kind, Named):
+            definition = self.by_name[kind.name]
+            return self.resolve(definition.of) if isinstance(definition, Alias) else kind
+        if isinstance(kind, Nullable):
+            part = self.resolve(kind.part)
+            return part if isinstance(part, (Leaf, Nullable)) and self.has_null(part) else Nullable(part, kind.place)
+        if isinstance(kind, ListOf):
+            return ListOf(self.resolve(kind.item), kind.place)
+        if isinstance(kind, MapOf):
+            return MapOf(self.resolve(kind.value), kind.place)
+        return kind
+
+    @staticmethod
+    def has_null(kind):
+        return isinstance(kind, Nullable) or (isinstance(kind, Leaf) and kind.kind == "Any")
+
+    # -- each definition
+
+    def check(self, definition):
+        if isinstance(definition, Alias):
+            self.check_known(definition.of)
+        elif isinstance(definition, Struct):
+            self.check_struct(definition)
+        elif isinstance(definition, Enum):
+            self.check_enum(definition)
+        else:
+            self.check_union(definition)
+
+    def check_known(self, kind):
+        if isinstance(kind, Named):
+            if kind.name not in self.by_name:
+                raise SchemaError(kind.place, f"unknown type `{kind.name}`")
+        if isinstance(kind, Link) and kind.to not in self.by_name and kind.to not in DATA_MODEL:
+            raise SchemaError(kind.place, f"unknown type `{kind.to}`")
+        for part in parts(kind):
+            self.check_known(part)
+
+    def check_struct(self, struct):
+        names, keys = {}, {}
+        for field in struct.fields:
+            self.check_known(field.type)
+            once(names, field_name(field.name), field.place, "two fields have the name")
+            check_key(field.key, field.place)
+            once(keys, field.key, field.place, "two fields have the key")
+            if len(snake(field.name)) > 40:
+                raise SchemaError(field.place, f"a field's name has at most 40 letters here: `{field.name}`")
+        if struct.representation == "tuple":
+            self.check_tuple(struct)
+
+    @staticmethod
+    def check_tuple(struct):
+        count = len(struct.fields)
+        if not 1 <= count <= MOST_PARTS:
+            raise SchemaError(struct.place, f"a tuple has one to {MOST_PARTS} fields here, and `{struct.name}` has {count}")
+        for field in struct.fields:
+            if field.optional:
+                raise SchemaError(field.place, f"a field of a tuple is not optional: `{field.name}`")
+            if field.key != field.name:
+                raise SchemaError(field.place, f"a field of a tuple has no name in the data: `{field.name}`")
+        if struct.open:
+            raise SchemaError(struct.place, f"a tuple has no other keys to skip: `{struct.name}`")
+
+    @staticmethod
+    def check_enum(enum):
+        names, data = {}, {}
+        if not enum.members:
+            raise SchemaError(enum.place, f"`{enum.name}` has no members")
+        for member in enum.members:
+            check_variant(member.name, member.place)
+            once(names, member.name.lower(), member.place, "two members have the name")
+            once(data, member.data, member.place, "two members have the representation")
+            if enum.representation == "string":
+                check_key(member.data, member.place)
+
+    def check_union(self, union):
+        names, data = {}, {}
+        if not union.cases:
+            raise SchemaError(union.place, f"`{union.name}` has no members")
+        for case in union.cases:
+            self.check_known(case.type)
+            check_variant(case.name, case.place)
+            once(names, case.name.lower(), case.place, "two members have the name")
+            once(data, case.data, case.place, "two members have the key" if union.representation == "keyed" else "two members have the kind")
+            if union.representation == "keyed":
+                check_key(case.data, case.place)
+            else:
+                self.check_kind(case)
+
+    def check_kind(self, case):
+        if case.data not in KINDS:
+            raise SchemaError(
+                case.place,
+                f"the kind {case.data} is not supported: the members of a kinded union are {', '.join(KINDS)}, which are told by their first byte",
+            )
+        kind = self.resolve(case.type)
+        name = kind.kind if isinstance(kind, Leaf) else type(kind).__name__
+        if name not in KINDS[case.data]:
+            raise SchemaError(case.place, f"`{case.name}` is no {case.data}")
+        if isinstance(kind, Int) and kind.width not in (DEFAULT_WIDTH, "i128"):
+            raise SchemaError(case.place, "an int of a kinded union is any of the data model's: it is kept as i128")
+
+    # -- recursion
+
+    def refuse_recursion(self):
+        done = set()
+        for definition in self.definitions:
+            self.walk(definition, [], done)
+
+    def walk(self, definition, path, done):
+        names = [step.name for step in path]
+        if definition.name in names:
+            around = names[names.index(definition.name) :] + [definition.name]
+            raise SchemaError(
+                definition.place,
+                f"`{definition.name}` holds itself ({' -> '.join(around)}): a type's view is made of those of its parts."
+                " A link, as `&Any`, may lead to it",
+            )
+        if definition.name in done:
+            return
+        for kind in held_by(definition):
+            for name in named_in(kind):
+                self.walk(self.by_name[name.name], path + [definition], done)
+        done.add(definition.name)
+
+    def in_order(self):
+        """The definitions, each behind those that it holds."""
+        found = []
+
+        def visit(definition):
+            if definition in found:
+                return
+            for kind in held_by(definition):
+                for name in named_in(kind):
+                    visit(self.by_name[name.name])
+            found.append(definition)
+
+        for definition in self.definitions:
+            visit(definition)
+        return found
+
+
+def parts(kind):
+    if isinstance(kind, ListOf):
+        return [kind.item]
+    if isinstance(kind, MapOf):
+        return [kind.value]
+    if isinstance(kind, Nullable):
+        return [kind.part]
+    return []
+
+
+def named_in(kind):
+    """The names in a type. A link's target is none: it is another block."""
+    if isinstance(kind, Named):
+        return [kind]
+    return [name for part in parts(kind) for name in named_in(part)]
+
+
+def held_by(definition):
+    if isinstance(definition, Alias):
+        return [definition.of]
+    if isinstance(definition, Struct):
+        return [field.type for field in definition.fields]
+    if isinstance(definition, Union):
+        return [case.type for case in definition.cases]
+    return []
+
+
+def once(seen, word, place, what):
+    if word in seen:
+        raise SchemaError(place, f"{what} `{word}`: this and line {seen[word].line}")
+    seen[word] = place
+
+
+def check_key(key, place):
+    if not re.fullmatch(r"[ -~]{0,40}", key) or '"' in key or "\\" in key:
+        raise SchemaError(place, f"names in the data are up to 40 printable characters of ASCII here, without \" and \\: {key!r}")
+
+
+def check_variant(name, place):
+    if not re.fullmatch(r"[A-Z][A-Za-z0-9]{0,39}", name) or name in TAKEN_VARIANTS:
+        raise SchemaError(place, f"a member's name is a capital and up to 39 letters and digits, and not `{name}`")

@@ -1,0 +1,99 @@
+"""The layout of `rt fmt`, of the forms that are made here."""
+
+from dataclasses import dataclass
+
+WIDTH = 100  # of a line
+INSIDE = 60  # of what stands between brackets on one line
+INSIDE_STRUCT = 18  # the same of a struct's fields
+SHORT = 10  # of an item of a list, where several stand in a line
+
+
+@dataclass
+class Group:
+    """What stands between brackets: a call, a list, a tuple, a struct."""
+
+    head: str
+    items: list
+    close: str
+    most: int = INSIDE
+
+    def flat(self):
+        inside = ", ".join(flat(item) for item in self.items)
+        space = " " if self.head.endswith("{") and inside else ""
+        return f"{self.head}{space}{inside}{space}{self.close}"
+
+    def fits(self, indent, behind):
+        inside = ", ".join(flat(item) for item in self.items)
+        return len(inside) <= self.most and indent + len(self.flat()) + len(behind) <= WIDTH
+
+
+def flat(node):
+    return node if isinstance(node, str) else node.flat()
+
+
+def lines(node, indent, behind=""):
+    """The lines of a node: in one where it fits, else each item on a line of its own."""
+    margin = " " * indent
+    if isinstance(node, str) or node.fits(indent, behind):
+        return [margin + flat(node) + behind]
+    made = [margin + node.head]
+    if node.head.endswith(("[", "(")) and node.most and all(len(flat(item)) <= SHORT for item in node.items):
+        return made + filled_items(node.items, indent + 4) + [margin + node.close + behind]
+    for item in node.items:
+        made += lines(item, indent + 4, ",")
+    return made + [margin + node.close + behind]
+
+
+def arm(pattern, call, indent):
+    """An arm of a `match`."""
+    whole = Group(f"{pattern} => {call.head}", call.items, call.close)
+    if whole.fits(indent, ",") or indent + len(whole.head) <= WIDTH:
+        return lines(whole, indent, ",")
+    return [" " * indent + f"{pattern} =>"] + lines(call, indent + 4, ",")
+
+
+def taken_apart(names, close, value, indent):
+    """A `let` that takes a tuple apart."""
+    head = f"let ({', '.join(names)}{close} ="
+    margin = " " * indent
+    if len(f"{margin}{head} {value};") <= WIDTH:
+        return [f"{margin}{head} {value};"]
+    if len(margin + head) <= WIDTH:
+        return [margin + head, f"{margin}    {value};"]
+    return lines(Group("let (", names, close, 0), indent, f" = {value};")
+
+
+def filled_items(items, indent):
+    """Short items of a list, as many in each line as fit."""
+    made, line = [], " " * (indent - 1)
+    for item in items:
+        if len(line) + len(flat(item)) + 2 > WIDTH:
+            made.append(line)
+            line = " " * (indent - 1)
+        line += f" {flat(item)},"
+    return made + [line]
+
+
+def filled(head, words, close):
+    """A `use` of these words: in one line, or as many in each line as fit."""
+    one = f"{head}{{{', '.join(words)}}}{close}" if len(words) > 1 else f"{head}{words[0]}{close}"
+    if len(one) <= WIDTH:
+        return [one]
+    made, line = [head + "{"], "   "
+    for word in words:
+        if len(line) + len(word) + 2 >= WIDTH:
+            made.append(line)
+            line = "   "
+        line += f" {word},"
+    return made + [line, "}" + close]
+
+
+def split(head, words, close):
+    """The same of `ghost use` and of imports in specs, which have no second line: several, where one is too long."""
+    made, some = [], []
+    for word in words:
+        if some and len(f"{head}{{{', '.join(some + [word])}}}{close}") > WIDTH:
+            made.append(f"{head}{{{', '.join(some)}}}{close}")
+            some = []
+        some.append(word)
+    return made + [f"{head}{{{', '.join(some)}}}{close}"]

@@ -1,0 +1,477 @@
+"""The DSL of IPLD Schemas (https://ipld.io/docs/schemas/), read into definitions: a scanner and a plain recursive descent.
+
+Two notes may stand in a comment behind what they speak of, since the DSL has no words for them: `# as u32` behind a field or a
+named type says in which integers of Rattle its Ints are kept, and `# open` behind `type X struct {` that other keys of the map
+are skipped. Comments above a type or a field go into the code as its text."""
+
+import re
+from dataclasses import dataclass, field
+
+WIDTHS = ("u8", "u16", "u32", "u64", "i8", "i16", "i32", "i64", "i128")
+DEFAULT_WIDTH = "i64"
+NAME = re.compile(r"[A-Za-z_][A-Za-z0-9_]*")
+MARKS = "{}[]()|&:=,"
+
+
+class SchemaError(Exception):
+    """A schema is refused, at a line and a column."""
+
+    def __init__(self, place, message):
+        super().__init__(message)
+        self.place = place
+        self.message = message
+
+
+@dataclass(frozen=True)
+class Place:
+    line: int
+    column: int
+
+
+@dataclass(frozen=True)
+class Token:
+    kind: str  # name, text, mark, end
+    word: str
+    place: Place
+
+
+# ---- types of values
+
+
+@dataclass(frozen=True)
+class Int:
+    width: str
+    place: Place
+
+
+@dataclass(frozen=True)
+class Leaf:
+    kind: str  # String, Bytes, Bool, Any
+    place: Place
+
+
+@dataclass(frozen=True)
+class Link:
+    to: str
+    place: Place
+
+
+@dataclass(frozen=True)
+class Named:
+    name: str
+    place: Place
+
+
+@dataclass(frozen=True)
+class ListOf:
+    item: object
+    place: Place
+
+
+@dataclass(frozen=True)
+class MapOf:
+    value: object
+    place: Place
+
+
+@dataclass(frozen=True)
+class Nullable:
+    part: object
+    place: Place
+
+
+# ---- definitions
+
+
+@dataclass
+class Alias:
+    name: str
+    of: object
+    place: Place
+    text: list = field(default_factory=list)
+
+
+@dataclass
+class Field:
+    name: str
+    type: object
+    optional: bool
+    key: str
+    place: Place
+    text: list
+
+
+@dataclass
+class Struct:
+    name: str
+    fields: list
+    representation: str  # map, tuple
+    open: bool
+    place: Place
+    text: list = field(default_factory=list)
+
+
+@dataclass
+class Member:
+    """Of an enum: its name, and what stands for it in the data."""
+
+    name: str
+    data: object
+    place: Place
+
+
+@dataclass
+class Enum:
+    name: str
+    members: list
+    representation: str  # string, int
+    place: Place
+    text: list = field(default_factory=list)
+
+
+@dataclass
+class Case:
+    """Of a union: what it holds, and its key or its kind."""
+
+    name: str
+    type: object
+    data: str
+    place: Place
+
+
+@dataclass
+class Union:
+    name: str
+    cases: list
+    representation: str  # keyed, kinded
+    place: Place
+    text: list = field(default_factory=list)
+
+
+# ---- the scanner
+
+
+class Scanner:
+    """The tokens of a schema. Comments are kept by their lines."""
+
+    def __init__(self, text):
+        self.tokens = []
+        self.comments = {}  # of each line: the comment's text, and whether it stands alone
+        number, line = 1, ""
+        for number, line in enumerate(text.split("\n"), 1):
+            self.scan_line(number, line)
+        self.tokens.append(Token("end", "the end of the file", Place(number, len(line) + 1)))
+
+    def scan_line(self, number, line):
+        at = 0
+        while at < len(line):
+            place = Place(number, at + 1)
+            char = line[at]
+            if char in " \t\r":
+                at += 1
+            elif char == "#":
+                self.comments[number] = (line[at + 1 :].strip(), not line[:at].strip(), place)
+                return
+            elif char == '"':
+                word, at = scan_text(line, at, place)
+                self.tokens.append(Token("text", word, place))
+            elif char in MARKS:
+                self.tokens.append(Token("mark", char, place))
+                at += 1
+            else:
+                found = NAME.match(line, at)
+                if not found:
+                    raise SchemaError(place, f"no word begins with {char!r}")
+                self.tokens.append(Token("name", found.group(), place))
+                at = found.end()
+
+
+def scan_text(line, at, place):
+    """The text between quotation marks that begins here, and where the line goes on behind it."""
+    word, at = "", at + 1
+    while at < len(line) and line[at] != '"':
+        if line[at] == "\\":
+            at += 1
+            if at == len(line) or line[at] not in '"\\':
+                raise SchemaError(Place(place.line, at), 'behind \\ stands one of " and \\')
+        word += line[at]
+        at += 1
+    if at == len(line):
+        raise SchemaError(place, "this text has no end on its line")
+    return word, at + 1
+
+
+# ---- the parser
+
+
+class Parser:
+    def __init__(self, text):
+        scanner = Scanner(text)
+        self.tokens, self.comments = scanner.tokens, scanner.comments
+        self.at = 0
+        self.noted = set()  # the lines whose notes were taken
+
+    # -- tokens
+
+    def peek(self):
+        return self.tokens[self.at]
+
+    def take(self):
+        token = self.tokens[self.at]
+        self.at = min(self.at + 1, len(self.tokens) - 1)
+        return token
+
+    def is_next(self, *words):
+        token = self.peek()
+        return token.kind in ("name", "mark") and token.word in words
+
+    def take_if(self, word):
+        if self.is_next(word):
+            return self.take()
+        return None
+
+    def expect(self, word):
+        token = self.take()
+        if token.kind == "text" or token.word != word:
+            raise SchemaError(token.place, f"`{word}` is wanted here, and not {told(token)}")
+        return token
+
+    def expect_name(self, what):
+        token = self.take()
+        if token.kind != "name":
+            raise SchemaError(token.place, f"{what} is wanted here, and not {told(token)}")
+        return token
+
+    def expect_text(self, what):
+        token = self.take()
+        if token.kind != "text":
+            raise SchemaError(token.place, f'{what} is wanted here, as "a", and not {told(token)}')
+        return token
+
+    # -- comments
+
+    def text_above(self, line):
+        """The comments that stand alone on the lines right above."""
+        above = []
+        while line - 1 in self.comments and self.comments[line - 1][1]:
+            line -= 1
+            above.insert(0, self.comments[line][0])
+        return above
+
+    def note(self, line):
+        """The comment behind what stands on the line, and where it begins."""
+        text, alone, place = self.comments.get(line, ("", True, None))
+        return ("", None) if alone else (text, place)
+
+    def width_on(self, line, default=DEFAULT_WIDTH):
+        text, place = self.note(line)
+        found = re.fullmatch(r"as ([ui][0-9]+)", text)
+        if not found:
+            return default
+        if found.group(1) not in WIDTHS:
+            raise SchemaError(place, f"no integers are kept as {found.group(1)}: one of {', '.join(WIDTHS)}")
+        self.noted.add(line)
+        return found.group(1)
+
+    # -- definitions
+
+    def schema(self):
+        definitions = []
+        while self.peek().kind != "end":
+            token = self.peek()
+            if self.is_next("advanced"):
+                raise SchemaError(token.place, "advanced data layouts are not supported")
+            self.expect("type")
+            definitions.append(self.definition(token.place.line))
+        self.refuse_idle_notes()
+        return definitions
+
+    def refuse_idle_notes(self):
+        for line, (text, alone, place) in self.comments.items():
+            if not alone and line not in self.noted and re.fullmatch(r"as [ui][0-9]+|open", text):
+                raise SchemaError(place, f"`# {text}` speaks of nothing on this line")
+
+    def definition(self, line):
+        name = self.expect_name("the name of a type")
+        text = self.text_above(line)
+        if self.take_if("struct"):
+            made = self.struct(name)
+        elif self.take_if("enum"):
+            made = self.enum(name)
+        elif self.take_if("union"):
+            made = self.union(name)
+        else:
+            self.take_if("=")
+            made = Alias(name.word, self.value_type(lower=True), name.place)
+            self.other_representation(name.word)
+        made.text = text
+        return made
+
+    def other_representation(self, name):
+        """A list or map has one representation here, a scalar none."""
+        if self.is_next("representation"):
+            self.take()
+            token = self.expect_name("a representation")
+            if token.word not in ("list", "map"):
+                raise SchemaError(token.place, f"the representation {token.word} of `{name}` is not supported")
+
+    def value_type(self, lower=False):
+        token = self.take()
+        place = token.place
+        if token.kind == "mark" and token.word == "&":
+            return Link(self.expect_name("the type that is linked to").word, place)
+        if token.kind == "mark" and token.word == "[":
+            item = self.maybe_null()
+            self.expect("]")
+            return ListOf(item, place)
+        if token.kind == "mark" and token.word == "{":
+            key = self.expect_name("the type of the keys")
+            self.expect(":")
+            value = self.maybe_null()
+            self.expect("}")
+            if key.word != "String":
+                raise SchemaError(key.place, f"keys are String here, and not {key.word}")
+            return MapOf(value, place)
+        if token.kind != "name":
+            raise SchemaError(place, f"a type is wanted here, and not {told(token)}")
+        return self.scalar(token, lower)
+
+    def scalar(self, token, lower):
+        word = token.word
+        if lower and word in ("int", "string", "bytes", "bool", "float", "any", "link", "unit"):
+            word = word.capitalize()
+        if word == "Int":
+            return Int(self.width_on(token.place.line), token.place)
+        if word in ("String", "Bytes", "Bool", "Any"):
+            return Leaf(word, token.place)
+        if word == "Link":
+            return Link("Any", token.place)
+        if word == "Float":
+            raise SchemaError(token.place, "floats are left out of this library, as of the data that it reads")
+        if word in ("optional", "nullable"):
+            raise SchemaError(token.place, "a field is `optional`, `nullable`, or `optional nullable`, before its type")
+        if word in ("Null", "Unit"):
+            raise SchemaError(token.place, f"{token.word} is not supported: a value that may be null is `nullable`")
+        return Named(word, token.place)
+
+    def maybe_null(self):
+        token = self.take_if("nullable")
+        part = self.value_type()
+        return Nullable(part, token.place) if token else part
+
+    # -- structs
+
+    def struct(self, name):
+        brace = self.expect("{")
+        is_open = self.note(brace.place.line)[0] == "open"
+        if is_open:
+            self.noted.add(brace.place.line)
+        fields = []
+        while not self.is_next("}"):
+            fields.append(self.field())
+        self.expect("}")
+        representation = "map"
+        if self.take_if("representation"):
+            token = self.expect_name("a representation")
+            representation = token.word
+            if representation not in ("map", "tuple"):
+                raise SchemaError(
+                    token.place, f"the representation {representation} of `{name.word}` is not supported: map or tuple"
+                )
+            if self.is_next("{"):
+                raise SchemaError(self.peek().place, 'a field is renamed by `(rename "a")` behind its type')
+        return Struct(name.word, fields, representation, is_open, name.place)
+
+    def field(self):
+        name = self.expect_name("the name of a field")
+        optional = bool(self.take_if("optional"))
+        kind = self.maybe_null()
+        key = name.word
+        if self.take_if("("):
+            word = self.expect_name("`rename`")
+            if word.word != "rename":
+                raise SchemaError(word.place, f"`{word.word}` is not supported: `rename` alone is")
+            key = self.expect_text("the name in the data").word
+            self.expect(")")
+        return Field(name.word, kind, optional, key, name.place, self.text_above(name.place.line))
+
+    # -- enums
+
+    def enum(self, name):
+        self.expect("{")
+        rows = []
+        while not self.is_next("}"):
+            self.expect("|")
+            token = self.expect_name("the name of a member")
+            data = None
+            if self.take_if("("):
+                data = self.expect_text("what stands for the member")
+                self.expect(")")
+            rows.append((token, data))
+        self.expect("}")
+        representation = "string"
+        if self.take_if("representation"):
+            token = self.expect_name("a representation")
+            representation = token.word
+            if representation not in ("string", "int"):
+                raise SchemaError(
+                    token.place, f"the representation {representation} of `{name.word}` is not supported: string or int"
+                )
+        members = [Member(token.word, self.member_data(representation, token, data), token.place) for token, data in rows]
+        return Enum(name.word, members, representation, name.place)
+
+    @staticmethod
+    def member_data(representation, token, data):
+        if representation == "string":
+            return data.word if data else token.word
+        if data is None:
+            raise SchemaError(token.place, f'the number of `{token.word}` is wanted, as `| {token.word} ("1")`')
+        if not re.fullmatch(r"0|[1-9][0-9]*", data.word) or int(data.word) >= 2**64:
+            raise SchemaError(data.place, f'"{data.word}" is not supported: a number from 0 to 2^64 - 1')
+        return int(data.word)
+
+    # -- unions
+
+    def union(self, name):
+        self.expect("{")
+        rows = []
+        while not self.is_next("}"):
+            self.expect("|")
+            place = self.peek().place
+            held = self.value_type()
+            rows.append((held, self.take(), place))
+        self.expect("}")
+        token = self.peek()
+        if not self.take_if("representation"):
+            raise SchemaError(token.place, f"the representation of the union `{name.word}` is wanted: keyed or kinded")
+        token = self.expect_name("a representation")
+        if token.word not in ("keyed", "kinded"):
+            raise SchemaError(token.place, f"the representation {token.word} of `{name.word}` is not supported: keyed or kinded")
+        cases = []
+        for held, data, place in rows:
+            if data.kind != ("text" if token.word == "keyed" else "name"):
+                wanted = 'a key, as "a",' if token.word == "keyed" else "a kind"
+                raise SchemaError(data.place, f"{wanted} is wanted here, and not {told(data)}")
+            cases.append(Case(case_name(held), held, data.word, place))
+        return Union(name.word, cases, token.word, name.place)
+
+
+def case_name(held):
+    """The name of a union's variant: that of the type that it holds."""
+    if isinstance(held, Named):
+        return held.name
+    if isinstance(held, Leaf):
+        return held.kind
+    if isinstance(held, Int):
+        return "Int"
+    if isinstance(held, Link):
+        return "Link"
+    raise SchemaError(held.place, "a union holds types that have names: name this one by `type`")
+
+
+def told(token):
+    return {"text": f'the text "{token.word}"', "end": token.word}.get(token.kind, f"`{token.word}`")
+
+
+def parse(text):
+    return Parser(text).schema()

@@ -1,0 +1,726 @@
+"""The files of Rattle that are made of a schema: the types with their impls, and what a tree shows to each."""
+
+from schemas.law import field_name, path_name, snake
+from schemas.layout import INSIDE_STRUCT, Group, arm, filled, lines, split, taken_apart
+from schemas.parsing import Alias, Enum, Int, Leaf, Link, ListOf, MapOf, Named, Nullable, Struct
+
+LEAVES = {
+    # its type, what it is read as, its shape, its tree and its meaning
+    "String": ("String", "List ℕ", "owned_leaf view_text", "Some (text (string_bytes {}))", "string_bytes {}"),
+    "Bytes": ("Bytes", "List ℕ", "owned_leaf view_bytes", "Some (bytes {}.0.items)", "{}.0.items"),
+    "Bool": ("bool", "Bool", "leaf view_bool", "Some (boolean {})", "{}"),
+    "Link": ("Cid", "List ℕ", "leaf view_link", "Some (link (cid_bytes {}))", "cid_bytes {}"),
+}
+
+# Where each word of the specs stands.
+LIBRARY = "Rattle.serde_ipld_dagcbor.specs."
+WORDS = {
+    "Rattle.std.specs.Prelude": "ℕ ℤ ◌^◌ Bool List [] ◌∷◌ Option Some None option_map if◌then◌else◌ codes pos string_bytes nat_eq false refl",
+    "Rattle.std.specs.Str": "bytes_eq",
+    LIBRARY + "Cid": "cid_bytes",
+    LIBRARY + "Tree": "Tree text bytes boolean integer link list_tree entries_tree",
+    LIBRARY + "Trees": "field optional variant_tree",
+    LIBRARY + "Shapes": "Shape leaf owned_leaf option_of any_tree view_text view_bytes view_bool view_link view_unsigned view_signed takes_none takes_some",
+    LIBRARY + "Collections": "list_of all_of map_of first_then no_more",
+    LIBRARY + "Structs": "required_field no_fields struct_shape",
+    LIBRARY + "EnumViews": "EnumShape enum_of",
+    "Rattle.dagcbor_schema.specs.SchemaFields": "omissible_field no_other_fields",
+    "Rattle.dagcbor_schema.specs.ToldValues": "told_by_number told_by_tree",
+}
+LETTERS = {"ℕ": "ℕ", "ℤ": "ℤ", "^": "◌^◌", "[]": "[]", "∷": "◌∷◌", "if": "if◌then◌else◌"}
+PUNCTUATION = str.maketrans({char: " " for char in "();,={}⟦⟧<>|[].λ:"})
+
+
+def wrapped(text):
+    """In parentheses, where it is more than a word."""
+    return f"({text})" if " " in text else text
+
+
+class Module:
+    """What is made of one schema, as a module of a crate."""
+
+    def __init__(self, schema, crate, name):
+        self.schema, self.crate, self.name = schema, crate, name
+        self.path = path_name(name)
+        self.definitions = schema.in_order()
+        self.types = [one for one in self.definitions if not isinstance(one, Alias)]
+
+    # ---- a type of a value: in code, in ghost lines, in specs
+
+    def code(self, kind, aliases=False):
+        """In code. With aliases it is a type as the schema has it, and else a resolved one."""
+        if isinstance(kind, Int):
+            return kind.width
+        if isinstance(kind, Link):
+            return LEAVES["Link"][0]
+        if isinstance(kind, Leaf):
+            return "Ipld" if kind.kind == "Any" else LEAVES[kind.kind][0]
+        if isinstance(kind, ListOf):
+            return f"Vec<{self.code(kind.item, aliases)}>"
+        if isinstance(kind, MapOf):
+            return f"BTreeMap<String, {self.code(kind.value, aliases)}>"
+        if isinstance(kind, Named):
+            return kind.name
+        part = self.code(kind.part, aliases)
+        has_null = aliases and not isinstance(self.schema.resolve(kind), Nullable)
+        return part if has_null else f"Option<{part}>"
+
+    def leaf(self, kind):
+        """The row of LEAVES, of a type that has one."""
+        if isinstance(kind, Link):
+            return LEAVES["Link"]
+        if isinstance(kind, Leaf):
+            return LEAVES.get(kind.kind)
+        if isinstance(kind, Int):
+            bits = int(kind.width[1:])
+            if kind.width[0] == "u":
+                return (kind.width, "ℕ", f"leaf (view_unsigned (2 ^ {bits}))", "Some (integer (pos {}))", "{}")
+            return (kind.width, "ℤ", f"leaf (view_signed (2 ^ {bits - 1}))", "Some (integer {})", "{}")
+        return None
+
+    def view(self, kind):
+        """What it is read as."""
+        leaf = self.leaf(kind)
+        if leaf:
+            return leaf[1]
+        if isinstance(kind, Leaf):
+            return "Tree"
+        if isinstance(kind, ListOf):
+            return f"List {wrapped(self.view(kind.item))}"
+        if isinstance(kind, MapOf):
+            return f"List (List ℕ × {wrapped(self.view(kind.value))})"
+        if isinstance(kind, Nullable):
+            return f"Option {wrapped(self.view(kind.part))}"
+        return view_name(self.schema.by_name[kind.name])
+
+    def shape(self, kind):
+        """What a tree shows to it."""
+        leaf = self.leaf(kind)
+        if leaf:
+            return leaf[2]
+        if isinstance(kind, Leaf):
+            return "any_tree"
+        if isinstance(kind, ListOf):
+            return f"list_of (all_of {wrapped(self.shape(kind.item))})"
+        if isinstance(kind, MapOf):
+            return f"map_of {wrapped(self.shape(kind.value))}"
+        if isinstance(kind, Nullable):
+            return f"option_of {wrapped(self.shape(kind.part))}"
+        return f"{snake(kind.name)}_shape"
+
+    def tree(self, kind, value):
+        """The tree of a value."""
+        leaf = self.leaf(kind)
+        return leaf[3].format(value) if leaf else f"⟦<{self.code(kind)} as Serialize>⟧.tree {value}"
+
+    def tree_of(self, kind):
+        """The same, as a function."""
+        leaf = self.leaf(kind)
+        return f"(λ x. {leaf[3].format('x')})" if leaf else f"⟦<{self.code(kind)} as Serialize>⟧.tree"
+
+    def meaning(self, kind, value):
+        """What a value means."""
+        leaf = self.leaf(kind)
+        if leaf:
+            return leaf[4].format(value)
+        if isinstance(kind, Named) and shows_itself(self.schema.by_name[kind.name]):
+            return value
+        return f"⟦<{self.code(kind)} as Shown>⟧.meaning {value}"
+
+    # ---- imports
+
+    def imports(self, text, ghost):
+        """The lines that import the words of the text: in code as `ghost use`, in specs as `use`."""
+        head, close = ("ghost use ", ";") if ghost else ("use ", "")
+        words = set(text.translate(PUNCTUATION).split())
+        words |= {name for sign, name in LETTERS.items() if sign in text.translate(PUNCTUATION).split()}
+        if "∷ []" in text:
+            words.add("[]")
+        made = []
+        for home, there in WORDS.items():
+            used = [word for word in there.split() if word in words]
+            if used:
+                made += split(f"{head}{home}.", used, close)
+        return made
+
+    def spec_words(self, one):
+        """What the specs say of a type."""
+        name = snake(one.name)
+        if isinstance(one, Enum):
+            return [f"{name}_variants", f"{name}_shape"] if one.representation == "string" else [f"{name}_of_number", f"{name}_shape"]
+        if isinstance(one, Struct):
+            return [view_name(one), f"{name}_shape"]
+        made = [view_name(one), *(case_word(one, case) for case in one.cases)]
+        return made + ([f"{name}_variants", f"{name}_shape"] if one.representation == "keyed" else [f"{name}_of_tree", f"{name}_shape"])
+
+    def variants_import(self, one, ghost):
+        head, close = ("ghost use ", ";") if ghost else ("use ", "")
+        path = f"Rattle.{self.crate}.specs.declared.{self.name}.{one.name}"
+        made = [f"{head}{path}.TheVariants as {alias(one)}{close}"]
+        if shows_itself(one):
+            made.insert(0, f"{head}{path}.{{{one.name}}}{close}")
+        return made
+
+    # ---- the specs
+
+    def specs(self, source):
+        body = []
+        for one in self.types:
+            body += [""] + self.spec(one)
+        text = "\n".join(line.split("--")[0] for line in body)
+        head = [f"-- What a tree shows to the types of {source}, by ./dagcbor-types."]
+        head += self.imports(text, ghost=False)
+        for one in self.types:
+            if shows_itself(one):
+                head += self.variants_import(one, ghost=False)
+        return "\n".join(head + body) + "\n"
+
+    def spec(self, one):
+        if isinstance(one, Enum):
+            return self.enum_spec(one)
+        return self.struct_spec(one) if isinstance(one, Struct) else self.union_spec(one)
+
+    def struct_spec(self, struct):
+        name, view = snake(struct.name), view_name(struct)
+        kinds = [(field, self.schema.resolve(field.type)) for field in struct.fields]
+        shown = [f"Option {wrapped(self.view(kind))}" if field.optional else self.view(kind) for field, kind in kinds]
+        if struct.representation == "tuple":
+            rows = [f"first_then {wrapped(self.shape(kind))} (" for field, kind in kinds]
+            end, whole = "no_more", "list_of ("
+            said = "a list of " + listed([field.key for field, _ in kinds])
+        else:
+            rows = [
+                f'{"omissible" if field.optional else "required"}_field (codes "{field.key}") {wrapped(self.shape(kind))} ('
+                for field, kind in kinds
+            ]
+            end, whole = "no_fields" if struct.open else "no_other_fields", "struct_shape ("
+            said = "a map of " + listed([field.key for field, _ in kinds])
+        return [
+            f"-- {struct.name}: {said}",
+            f"abbrev pub {view} : Type 0",
+            *view_rows(view, shown),
+            "",
+            f"abbrev pub {name}_shape : Shape Tree {view}",
+            f"{name}_shape = {whole}",
+            *(f"    {row}" for row in rows[:-1]),
+            *([f"    {rows[-1][:-2]} {end}{')' * len(rows)}"] if rows else [f"    {end})"]),
+        ]
+
+    def takes_memory(self, kind):
+        """Whether reading it may take memory, as far as the specs say."""
+        if isinstance(kind, Named):
+            one = self.schema.by_name[kind.name]
+            return not (isinstance(one, Enum) and one.representation == "int")
+        return not (isinstance(kind, (Int, Link)) or (isinstance(kind, Leaf) and kind.kind == "Bool"))
+
+    def enum_spec(self, enum):
+        name = snake(enum.name)
+        rows = []
+        for place, member in enumerate(enum.members):
+            test = f'bytes_eq name (codes "{member.data}")' if enum.representation == "string" else f"nat_eq n {member.data}"
+            rows.append(f"    {'else ' if place else ''}if {test} then Some {alias(enum)}.{member.name}")
+        if enum.representation == "int":
+            return [
+                f"-- {enum.name}: a number",
+                f"abbrev pub {name}_of_number : ℕ → Option {enum.name}",
+                f"{name}_of_number n =",
+                *rows,
+                "    else None",
+                "",
+                f"abbrev pub {name}_shape : Shape Tree {enum.name}",
+                f"{name}_shape = told_by_number {name}_of_number",
+            ]
+        return [
+            f"-- {enum.name}: a name",
+            f"abbrev pub {name}_unit : List ℕ → Option {enum.name}",
+            f"{name}_unit name =",
+            *rows,
+            "    else None",
+            "",
+            *self.variants_spec(enum, enum.name, "λ name t. None", "λ name t. 0", False),
+        ]
+
+    def variants_spec(self, one, view, part, need, memory):
+        name = snake(one.name)
+        return [
+            f"abbrev pub {name}_variants : EnumShape {view}",
+            f"{name}_variants = record {{",
+            f"  unit = {name + '_unit' if isinstance(one, Enum) else 'λ name. None'};",
+            f"  part = {part};",
+            f"  need = {need};",
+            "  wants_loan = false;",
+            f"  memory = {'takes_some' if memory else 'takes_none'};",
+            "}",
+            "",
+            f"abbrev pub {name}_shape : Shape Tree {view}",
+            f"{name}_shape = enum_of {name}_variants",
+        ]
+
+    def union_spec(self, union):
+        name, view = snake(union.name), view_name(union)
+        kinds = [(case, self.case_kind(union, case)) for case in union.cases]
+        data = [
+            f"pub data {view} : Type 0 where",
+            *(f"  {case_word(union, case)} : {wrapped(self.view(kind)) if ' × ' in self.view(kind) else self.view(kind)} → {view}" for case, kind in kinds),
+            "",
+        ]
+        if union.representation == "kinded":
+            return [
+                f"-- {union.name}: told by its kind",
+                *data,
+                f"abbrev pub {name}_of_tree : Tree → Option {view}",
+                *(f"{name}_of_tree ({TREES[case.data]} x) = Some ({case_word(union, case)} x)" for case, _ in kinds),
+                f"{name}_of_tree _ = None",
+                "",
+                f"abbrev pub {name}_shape : Shape Tree {view}",
+                f"{name}_shape = told_by_tree {name}_of_tree",
+            ]
+        parts, needs = [], []
+        for place, (case, kind) in enumerate(kinds):
+            test = f'{"else " if place else ""}if bytes_eq name (codes "{case.data}") then'
+            shape = f"{wrapped(self.shape(kind))}"
+            parts.append(f"    {test} option_map {case_word(union, case)} ({shape}.view t)")
+            needs.append(f"    {test} {shape}.need t")
+        return [
+            f"-- {union.name}: a map of one entry, from a name",
+            *data,
+            f"abbrev pub {name}_part : List ℕ → Tree → Option {view}",
+            f"{name}_part name t =",
+            *parts,
+            "    else None",
+            "",
+            f"abbrev pub {name}_need : List ℕ → Tree → ℕ",
+            f"{name}_need name t =",
+            *needs,
+            "    else 0",
+            "",
+            *self.variants_spec(union, view, f"{name}_part", f"{name}_need", any(self.takes_memory(kind) for _, kind in kinds)),
+        ]
+
+    def case_kind(self, union, case):
+        kind = self.schema.resolve(case.type)
+        if union.representation == "kinded" and isinstance(kind, Int):
+            return Int("i128", kind.place)
+        return kind
+
+    # ---- the code
+
+    def source(self, source):
+        body = []
+        for one in self.definitions:
+            body += [""] + self.declared(one)
+        for one in self.types:
+            body += self.impls(one)
+        ghost = "\n".join(line for line in self.ghost_lines(body))
+        head = [f"//! The types of {source}, by ./dagcbor-types. Change that file, and run it again.", ""]
+        head += self.imports(ghost, ghost=True)
+        for one in self.types:
+            head += split(f"ghost use Rattle.{self.crate}.specs.{self.path}.", self.spec_words(one), ";")
+            if not isinstance(one, Struct):
+                head += self.variants_import(one, ghost=True)
+        head += [""] + self.code_imports("\n".join(body))
+        return "\n".join(head + body) + "\n"
+
+    @staticmethod
+    def ghost_lines(body):
+        """The lines of ghost members, which may be several each."""
+        inside = False
+        for line in body:
+            inside = inside or line.startswith("    ghost ")
+            if inside:
+                yield line.replace("ghost View =", "").replace("ghost", "")
+            inside = inside and not line.endswith("};")
+
+    @staticmethod
+    def code_imports(text):
+        words = set("".join(char if char.isalnum() or char == "_" else " " for char in text).split())
+        made = []
+        schema = [word for word in ("Closed", "Kinded", "Numbered", "Omissible", "read_kinded", "read_numbered") if word in words]
+        if schema:
+            made += filled("use dagcbor_schema::", schema, ";")
+        library = """Bytes Cid DecodeError Deserialize DeserializeOwned Deserializer EnumAccessor Field Ipld Optional Read ReadResult
+            Required Serialize Serializer Shown Variants Write WriteResult read_enum read_struct write_struct""".split()
+        made += filled("use serde_ipld_dagcbor::", [word for word in library if word in words], ";")
+        made.append("use std::alloc::Global;")
+        if "BTreeMap" in words:
+            made.append("use std::collections::BTreeMap;")
+        return made
+
+    def declared(self, one):
+        text = documented(one.text, 0)
+        if isinstance(one, Alias):
+            return text + [f"pub type {one.name} = {self.code(one.of, aliases=True)};"]
+        if isinstance(one, Struct):
+            rows = []
+            for field in one.fields:
+                kind = self.code(field.type, aliases=True)
+                rows += documented(field.text, 4)
+                rows.append(f"    pub {field_name(field.name)}: {f'Option<{kind}>' if field.optional else kind},")
+            body = [f"pub struct {one.name} {{", *rows, "}"] if rows else [f"pub struct {one.name} {{}}"]
+            return text + ["#[derive(Debug, Drop)]", *body]
+        if isinstance(one, Enum):
+            rows = [f"    {member.name}," for member in one.members]
+            return text + ["#[derive(Clone, Copy, Debug, PartialEq, Eq)]", f"pub enum {one.name} {{", *rows, "}"]
+        rows = []
+        for case in one.cases:
+            kind = "i128" if one.representation == "kinded" and isinstance(self.schema.resolve(case.type), Int) else self.code(case.type, aliases=True)
+            rows.append(f"    {case.name}({kind}),")
+        return text + ["#[derive(Debug, Drop)]", f"pub enum {one.name} {{", *rows, "}"]
+
+    def impls(self, one):
+        if isinstance(one, Struct):
+            made = self.tuple_impls(one) if one.representation == "tuple" else self.struct_impls(one)
+        elif isinstance(one, Enum):
+            made = self.enum_impls(one) if one.representation == "string" else self.number_impls(one)
+        else:
+            made = self.keyed_impls(one) if one.representation == "keyed" else self.kinded_impls(one)
+        return made + [
+            "",
+            f"impl<'de> DeserializeOwned<'de> for {one.name} {{",
+            "    ghost owned = { refl };",
+            "}",
+        ]
+
+    # -- structs
+
+    def struct_impls(self, struct):
+        kinds = [(field, self.schema.resolve(field.type)) for field in struct.fields]
+        sorted_kinds = sorted(kinds, key=lambda row: (len(row[0].key), row[0].key))
+        tree = []
+        for field, kind in sorted_kinds:
+            value = f"v.{field_name(field.name)}"
+            if field.optional:
+                tree.append(f'optional (codes "{field.key}") {self.tree_of(kind)} {value} (')
+            else:
+                tree.append(f'field (codes "{field.key}") ({self.tree(kind, value)}) ∷')
+        write = ["        let row = ();"]
+        for field, _ in reversed(sorted_kinds):
+            form = "Optional" if field.optional else "Field"
+            part = Group(f"{form}(", [f'"{field.key}"', f"&self.{field_name(field.name)}"], ")")
+            write += lines(Group("let row = (", [part, "row"], ")"), 8, ";")
+        write.append("        write_struct(alloc, row, ser)")
+        names = Group("let names = &[", [f'"{field.key}"' for field, _ in kinds], "]")
+        end = "()" if struct.open else "Closed"
+        read = lines(names, 8, ";")
+        read += lines(Group("let row = read_struct(", ["alloc", f'"{struct.name}"', "names", "de"], ")?"), 8, ";")
+        for place, (field, _) in enumerate(kinds):
+            name = field_name(field.name)
+            rest = "row" if place < len(kinds) - 1 else end
+            read.append(f"        let {f'Omissible({name}, {rest})' if field.optional else f'(Required({name}), {rest})'} = row;")
+        if not kinds:
+            read.append(f"        let {end} = row;")
+        read += lines(self.literal(struct), 8)
+        return [
+            *self.serialize_impl(struct, ghost_rows("λ v. entries_tree (", tree, "[]"), write),
+            *self.shown_impl(struct, self.row_meaning(kinds)),
+            *self.deserialize_impl(struct, read),
+        ]
+
+    def row_meaning(self, kinds):
+        rows = []
+        for field, kind in kinds:
+            value = f"v.{field_name(field.name)}"
+            if field.optional:
+                rows.append(self.meaning(Nullable(kind, kind.place), value))
+            else:
+                rows.append(self.meaning(kind, value))
+        return pairs_of(rows)
+
+    @staticmethod
+    def literal(struct):
+        names = [field_name(field.name) for field in struct.fields]
+        return Group(f"Ok({struct.name} {{", names, "})", INSIDE_STRUCT) if names else f"Ok({struct.name} {{}})"
+
+    def tuple_impls(self, struct):
+        kinds = [(field, self.schema.resolve(field.type)) for field in struct.fields]
+        names = [field_name(field.name) for field, _ in kinds]
+        tree = [f"{self.tree(kind, 'v.' + name)} ∷" for name, (_, kind) in zip(names, kinds)]
+        comma = "," if len(names) == 1 else ""
+        parts = Group("let parts = (", [f"&self.{name}" for name in names], f"{comma})")
+        write = lines(parts, 8, ";") + ["        parts.serialize(alloc, ser)"]
+        read = ["        let parts = Deserialize::deserialize(alloc, de)?;"]
+        read += taken_apart(names, f"{comma})", "parts", 8)
+        read += lines(self.literal(struct), 8)
+        return [
+            *self.serialize_impl(struct, ghost_rows("λ v. list_tree (", tree, "[]"), write),
+            *self.shown_impl(struct, self.row_meaning(kinds)),
+            *self.deserialize_impl(struct, read),
+        ]
+
+    # -- enums
+
+    def enum_impls(self, enum):
+        name = enum.name
+        tree = [f'{alias(enum)}.{member.name} ↦ Some (text (codes "{member.data}"))' for member in enum.members]
+        write = ["        match self {"]
+        read = ["        match name {"]
+        for place, member in enumerate(enum.members):
+            call = Group("ser.serialize_unit_variant(", [f'"{name}"', str(place), f'"{member.data}"'], ")")
+            write += arm(f"{name}::{member.name}", call, 12)
+            read += [
+                f'            "{member.data}" => {{',
+                "                variant.unit_variant(de)?;",
+                f"                Ok({name}::{member.name})",
+                "            }",
+            ]
+        write.append("        }")
+        read += ['            _ => Err(DecodeError::custom("unknown variant")),', "        }"]
+        return [
+            *self.serialize_impl(enum, cases_of(tree), write, alloc=False),
+            *self.shown_impl(enum, ["λ v. v"]),
+            *self.variants_impl(enum, ["λ v. v"], read, alloc=False),
+            *self.read_enum_impl(enum, [member.data for member in enum.members]),
+        ]
+
+    def number_impls(self, enum):
+        name = enum.name
+        tree = [f"{alias(enum)}.{member.name} ↦ Some (integer (pos {member.data}))" for member in enum.members]
+        write = ["        match self {"]
+        for member in enum.members:
+            write += arm(f"{name}::{member.name}", Group("ser.serialize_u64(", [str(member.data)], ")"), 12)
+        write.append("        }")
+        of = ["        match number {"]
+        of += [f"            {member.data} => Some({name}::{member.name})," for member in enum.members]
+        of += ["            _ => None,", "        }"]
+        return [
+            *self.serialize_impl(enum, cases_of(tree), write, alloc=False),
+            *self.shown_impl(enum, ["λ v. v"]),
+            *self.told_impl(enum, "Numbered", "of_number(number: u64)", ["λ v. v"], f"{snake(name)}_of_number", of),
+            *self.deserialize_impl(enum, ["        read_numbered(alloc, de)"]),
+        ]
+
+    # -- unions
+
+    def keyed_impls(self, union):
+        name = union.name
+        tree, meaning, write, read = [], [], ["        match self {"], ["        match name {"]
+        for place, case in enumerate(union.cases):
+            kind = self.case_kind(union, case)
+            tree.append(f'{alias(union)}.{case.name} x ↦ variant_tree (codes "{case.data}") ({self.tree(kind, "x")})')
+            meaning.append(f"{alias(union)}.{case.name} x ↦ {case_word(union, case)} {wrapped(self.meaning(kind, 'x'))}")
+            parts = ["alloc", f'"{name}"', str(place), f'"{case.data}"', "x"]
+            write += arm(f"{name}::{case.name}(x)", Group("ser.serialize_newtype_variant(", parts, ")"), 12)
+            read += [
+                f'            "{case.data}" => {{',
+                "                let x = variant.newtype_variant(alloc, de)?;",
+                f"                Ok({name}::{case.name}(x))",
+                "            }",
+            ]
+        write.append("        }")
+        read += ['            _ => Err(DecodeError::custom("unknown variant")),', "        }"]
+        return [
+            *self.serialize_impl(union, cases_of(tree), write),
+            *self.shown_impl(union, cases_of(meaning)),
+            *self.variants_impl(union, cases_of(meaning), read),
+            *self.read_enum_impl(union, [case.data for case in union.cases]),
+        ]
+
+    def kinded_impls(self, union):
+        name = union.name
+        tree, meaning, write, of = [], [], ["        match self {"], ["        match value {"]
+        for case in union.cases:
+            kind = self.case_kind(union, case)
+            held = {"bool": "Bool", "int": "Integer", "string": "String", "bytes": "Bytes", "link": "Link"}[case.data]
+            tree.append(f"{alias(union)}.{case.name} x ↦ {self.tree(kind, 'x')}")
+            meaning.append(f"{alias(union)}.{case.name} x ↦ {case_word(union, case)} {wrapped(self.meaning(kind, 'x'))}")
+            write += arm(f"{name}::{case.name}(x)", Group("x.serialize(", ["alloc", "ser"], ")"), 12)
+            of.append(f"            Ipld::{held}(x) => Some({name}::{case.name}({'Bytes(x)' if held == 'Bytes' else 'x'})),")
+        write.append("        }")
+        named = {case.data for case in union.cases}
+        others = [("null", "Null"), ("bool", "Bool(_)"), ("int", "Integer(_)"), ("string", "String(_)"), ("bytes", "Bytes(_)")]
+        others += [("list", "List(_)"), ("map", "Map(_)"), ("link", "Link(_)")]
+        of += [f"            Ipld::{form} => None," for kind, form in others if kind not in named]
+        of.append("        }")
+        return [
+            *self.serialize_impl(union, cases_of(tree), write),
+            *self.shown_impl(union, cases_of(meaning)),
+            *self.told_impl(union, "Kinded", "of_data(value: Ipld)", cases_of(meaning), f"{snake(name)}_of_tree", of),
+            *self.deserialize_impl(union, ["        read_kinded(alloc, de)"]),
+        ]
+
+    # ---- proofs
+
+    def answers(self, source):
+        """The answers that the search does not find, of each function by the folder of its proof: a union's arm that writes a
+        link, where the search takes the CID apart."""
+        made = {}
+        for one in self.types:
+            links = [case.name for case in getattr(one, "cases", []) if isinstance(self.schema.resolve(case.type), Link)]
+            if links and one.representation == "keyed" and len(one.cases) > 1:
+                place = f"{self.name}.{one.name}Serialize.serialize"
+                rows = [
+                    f"-- The arms of {one.name} that hold links, of {source}, by ./dagcbor-types.",
+                    f"use Rattle.{self.crate}.proofs.{place}.Goals as goal",
+                ]
+                for name in links:
+                    goal = f"returns-in-{name}-clause-written"
+                    rows += ["", f"pub {goal} : goal.{goal}"]
+                    rows.append(f"{goal} g c = rw c.in-{name}.is c.serialize_newtype_variant-in-{name}.ensures.written")
+                made[place.replace(".", "/")] = "\n".join(rows) + "\n"
+        return made
+
+    # -- the forms of an impl
+
+    @staticmethod
+    def serialize_impl(one, tree, body, alloc=True):
+        words = "alloc" if alloc else "_alloc"
+        return [
+            "",
+            f"impl Serialize for {one.name} {{",
+            *ghost("tree", tree),
+            "",
+            f"    fn serialize<W: Write>(&self, {words}: Global, ser: &mut Serializer<W>) -> WriteResult<(), W> {{",
+            *body,
+            "    }",
+            "}",
+        ]
+
+    @staticmethod
+    def shown_impl(one, meaning):
+        return [
+            "",
+            f"impl Shown for {one.name} {{",
+            f"    ghost View = {{ {view_name(one)} }};",
+            "",
+            *ghost("meaning", meaning),
+            "",
+            f"    ghost shape = {{ {snake(one.name)}_shape }};",
+            "}",
+        ]
+
+    @staticmethod
+    def deserialize_impl(one, body):
+        return [
+            "",
+            f"impl<'de> Deserialize<'de> for {one.name} {{",
+            "    fn deserialize<R: Read>(alloc: Global, de: &mut Deserializer<'de, R>) -> ReadResult<Self, R> {",
+            *body,
+            "    }",
+            "}",
+        ]
+
+    @staticmethod
+    def variants_impl(one, meaning, body, alloc=True):
+        tactic = ["    #[tactic(auto, using(dagcbor_read::proofs::NamedVariants::held_refused))]"] if alloc else []
+        return [
+            "",
+            f"impl<'de> Variants<'de> for {one.name} {{",
+            f"    ghost View = {{ {view_name(one)} }};",
+            "",
+            *ghost("meaning", meaning),
+            "",
+            f"    ghost shape = {{ {snake(one.name)}_variants }};",
+            "",
+            *tactic,
+            "    fn read_variant<R: Read>(",
+            f"        {'alloc' if alloc else '_alloc'}: Global,",
+            "        name: &str,",
+            "        variant: EnumAccessor,",
+            "        de: &mut Deserializer<'de, R>,",
+            f"    ) -> ReadResult<{one.name}, R> {{",
+            *body,
+            "    }",
+            "}",
+        ]
+
+    def read_enum_impl(self, one, names):
+        names = Group("let names = &[", [f'"{name}"' for name in names], "]")
+        call = Group("read_enum(", ["alloc", f'"{one.name}"', "names", "de"], ")")
+        return self.deserialize_impl(one, lines(names, 8, ";") + lines(call, 8))
+
+    @staticmethod
+    def told_impl(one, trait, head, meaning, told, body):
+        return [
+            "",
+            f"impl {trait} for {one.name} {{",
+            f"    ghost View = {{ {view_name(one)} }};",
+            "",
+            *ghost("meaning", meaning),
+            "",
+            f"    ghost told = {{ {told} }};",
+            "",
+            f"    fn {head} -> Option<{one.name}> {{",
+            *body,
+            "    }",
+            "}",
+        ]
+
+
+TREES = {"bool": "boolean", "int": "integer", "string": "text", "bytes": "bytes", "link": "link"}
+
+
+def shows_itself(one):
+    return isinstance(one, Enum)
+
+
+def view_name(one):
+    return one.name if shows_itself(one) else f"{one.name}View"
+
+
+def alias(one):
+    """The name of an enum's variants in ghost lines and specs."""
+    return f"in_{snake(one.name)}"
+
+
+def case_word(union, case):
+    return f"{snake(union.name)}_is_{snake(case.name)}"
+
+
+def ghost(name, rows):
+    if len(rows) == 1:
+        return [f"    ghost {name} = {{ {rows[0]} }};"]
+    return [f"    ghost {name} = {{ {rows[0]}", *rows[1:-1], f"{rows[-1]} }};"]
+
+
+def ghost_rows(head, rows, end):
+    """A row of parts, of which some open a parenthesis that is closed at the end."""
+    if not rows:
+        return [f"{head}{end})"]
+    last = rows[-1].removesuffix(" (")
+    opened = 1 + sum(row.endswith("(") for row in rows[:-1])
+    return [head, *(f"        {row}" for row in rows[:-1]), f"        {last} {end}{')' * opened}"]
+
+
+def pairs_of(rows):
+    """What the parts of a row mean, in pairs."""
+    flat = "".join(f"({row}, " for row in rows) + "tt" + ")" * len(rows)
+    if len(flat) <= 74:
+        return [f"λ v. {flat}"]
+    made, indent = ["λ v. ("], 6
+    for place, row in enumerate(rows):
+        margin = " " * indent
+        rest = "".join(f"({other}, " for other in rows[place + 1 :]) + "tt" + ")" * len(rows[place + 1 :])
+        made.append(f"{margin}{row},")
+        if place == len(rows) - 1 or len(margin + rest) + 1 <= 100:
+            made.append(f"{margin}{rest},")
+            break
+        made.append(f"{margin}(")
+        indent += 2
+    while indent > 6:
+        indent -= 2
+        made.append(" " * indent + "),")
+    return [*made, "    )"]
+
+
+def cases_of(rows):
+    return ["λ v. elim v [", *(f"      | {row}" for row in rows), "    ]"]
+
+
+def view_rows(view, shown):
+    one = f"{view} = {''.join(row + ' × (' for row in shown)}"
+    if not shown:
+        return [f"{view} = Unit {{0}}"]
+    whole = one[:-1] + "Unit {0}" + ")" * (len(shown) - 1)
+    if len(whole) <= 100:
+        return [whole]
+    return [f"{view} =", *(f"    {row} × (" for row in shown[:-1]), f"    {shown[-1]} × Unit {{0}}{')' * (len(shown) - 1)}"]
+
+
+def documented(text, indent):
+    return [(" " * indent + f"/// {line}").rstrip() for line in text]
+
+
+def listed(words):
+    if len(words) < 2:
+        return "".join(words) or "nothing"
+    return ", ".join(words[:-1]) + " and " + words[-1]

@@ -2,7 +2,7 @@
 """Runs the gate, and says what each crate cost it: processor seconds of its proof, of its tests', of its must-fail edits.
 
     bench/gate.py [WORDS]    runs `rt ci WORDS` (--anew proves all, whatever earlier runs kept), and prints two tables behind what it
-                             prints: what each crate cost, with the minute at which each part of it ended, and the dearest edits
+                             prints: what each crate cost, with the minute at which the last part of it ended, and the dearest edits
 
 Twice a second it looks at the processes below that run, so it misses up to half a second of each; the last line has the
 whole, as the system counts it. "seed" is the check of a crate that its edits begin with. Linux alone: it reads /proc.
@@ -92,15 +92,26 @@ def name_of_edit(crate, number):
     return files[number].stem if number is not None and number < len(files) else "tried from nothing"
 
 
+def table(costs, ends):
+    """A row for each crate, as docs/DESIGN.md has it: the seconds of each part, how many edits, and the minute of its end."""
+    yield "| Crate | Proof | Tests | Seed | Edits | How many | Other | End |"
+    yield "|---|---|---|---|---|---|---|---|"
+    for crate, row in sorted(costs.items()):
+        proof, tests, seed, edits, other = (f"{row[it]:.0f}" if row[it] >= 0.5 else "" for it in KINDS)
+        many = len(list((ROOT / "crates" / crate / "must-fail").glob("*.edit"))) if crate else ""
+        end = max((minute for (name, _), minute in ends.items() if name == crate), default=None)
+        cells = [f"`{crate}`" if crate else "all else", proof, tests, seed, edits, many, other, "" if end is None else f"{end:.0f}"]
+        yield "| " + " | ".join(map(str, cells)) + " |"
+    sums = (sum(row[it] for row in costs.values()) / 60 for it in KINDS)
+    yield "\n" + ", ".join(f"{kind} {minutes:.0f}" for kind, minutes in zip(KINDS, sums)) + " processor minutes"
+
+
 def main(words):
     start = time.time()
     status, costs, ends, edits = watch(["rt", "ci", *words])
     spent = resource.getrusage(resource.RUSAGE_CHILDREN)
-    print("\nProcessor seconds, and behind an @ the minute at which that part ended.\n")
-    print("| Crate | " + " | ".join(KINDS) + " |\n|" + "---|" * (len(KINDS) + 1))
-    for crate, row in sorted(costs.items()):
-        cells = [f"{row[it]:.0f}" + (f" @{ends[crate, it]:.0f}" if (crate, it) in ends else "") for it in KINDS]
-        print(f"| {crate or 'all else'} | " + " | ".join(cells) + " |")
+    print("\nProcessor seconds, and the minute at which the last part of the crate ended.\n")
+    print(*table(costs, ends), sep="\n")
     print("\n| Edit | Processor seconds |\n|---|---|")
     for (crate, number), cost in sorted(edits.items(), key=lambda it: -it[1])[:30]:
         print(f"| {crate}/{name_of_edit(crate, number)} | {cost:.0f} |")

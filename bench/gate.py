@@ -1,7 +1,7 @@
 #!/usr/bin/env python3
 """Runs the gate, and says what each crate cost it: processor seconds of its proof, of its tests', of its must-fail edits.
 
-    bench/gate.py [WORDS]    runs `rt ci WORDS` (--anew proves all, whatever earlier runs kept), and prints two tables behind what it
+    bench/gate.py    runs `rt ci`, and prints two tables behind what it
                              prints: what each crate cost, with the minute at which the last part of it ended, and the dearest edits
 
 Twice a second it looks at the processes below that run, so it misses up to half a second of each; the last line has the

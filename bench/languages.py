@@ -63,7 +63,8 @@ def in_c(folder, runs, paths):
     return printed([f"{folder}/calls", str(runs), *paths])
 
 
-def in_python(folder, runs, paths):
+def python_package(folder):
+    """Builds the package, and answers the environment in which it is there."""
     quiet = {"stdout": subprocess.DEVNULL, "cwd": folder, "check": True}
     pip = [PYTHON, "-m", "pip", "--quiet"]
     offline, package = ["--no-index", "--no-deps"], f"{ROOT}/callers/python"
@@ -71,7 +72,11 @@ def in_python(folder, runs, paths):
     wheel = next(it for it in os.listdir(folder) if it.endswith(".whl"))
     target = ["--root-user-action=ignore", "--target", "site"]
     subprocess.run([*pip, "install", *target, *offline, wheel], **quiet)
-    env = {**os.environ, "PYTHONPATH": f"{folder}/site"}
+    return {**os.environ, "PYTHONPATH": f"{folder}/site"}
+
+
+def in_python(folder, runs, paths):
+    env = python_package(folder)
     return printed([PYTHON, f"{HERE}/calls.py", str(runs), *paths], env=env)
 
 
@@ -117,4 +122,5 @@ def main(words):
         into_page(BEGIN, told, END)
 
 
-main(sys.argv[1:])
+if __name__ == "__main__":
+    main(sys.argv[1:])

@@ -22,6 +22,11 @@ def machine():
     return f"{datetime.date.today()}, {os.cpu_count()} cores{clock}"
 
 
+def load():
+    """What the machine did in the minute before."""
+    return f"load {os.getloadavg()[0]:.1f} in the minute before"
+
+
 def into_page(begin, lines, end):
     """Puts the lines into docs/SPEED.md, in the place of those that stand there between the marks."""
     path = f"{ROOT}/docs/SPEED.md"

@@ -1,4 +1,4 @@
-"""The files of a crate that is made of schemas."""
+"""The files that are made of schemas: of a crate, or of another language in a folder."""
 
 import pathlib
 import re
@@ -6,8 +6,11 @@ import re
 from schemas.law import Schema, path_name
 from schemas.layout import filled
 from schemas.parsing import SchemaError, parse
+from schemas.python import Python
 from schemas.rattle import Module
+from schemas.typescript import TypeScript
 
+LANGUAGES = {"python": Python, "typescript": TypeScript}
 MADE = "by ./dagcbor-types"
 STANDS_ON = "serde_ipld_dagcbor dagcbor_schema dagcbor_read"
 
@@ -16,27 +19,49 @@ class CrateError(Exception):
     """The crate can't be made."""
 
 
-def module_of(path, crate):
+def made_of(path, make):
+    """What is made of a schema and of the name of its module."""
     if path.suffix != ".ipldsch" or not re.fullmatch(r"[a-z][a-z0-9]*(_[a-z0-9]+)*", path.stem):
         raise CrateError(f"{path}: a schema's file has a name as a module's, and ends in .ipldsch")
-    if path.stem in ("lib", "main", "tests"):
-        raise CrateError(f"{path}: no module is named {path.stem}")
     try:
         text = path.read_text(encoding="utf-8")
     except (OSError, UnicodeDecodeError) as error:
         raise CrateError(f"{path}: {error}") from error
     try:
-        return Module(Schema(parse(text)), crate.name, path.stem)
+        return make(Schema(parse(text)), path.stem)
     except SchemaError as error:
         raise CrateError(f"{path}:{error.place.line}:{error.place.column}: {error.message}") from error
 
 
-def files_of(schemas, crate):
-    """The path of each file, and its text."""
+def refuse_names(schemas, names):
+    for path in schemas:
+        if path.stem in names:
+            raise CrateError(f"{path}: no module is named {path.stem}")
+
+
+def files_of(schemas, folder, language=None):
+    """The folder; and the path of each file, and its text: of Rattle, or of another language."""
+    if language is None:
+        return files_of_crate(schemas, folder)
+    folder, maker = folder.resolve(), LANGUAGES[language]
+    refuse_names(schemas, maker.closed_modules)
+
+    def text_of(schema, name):
+        return maker(schema).text(f"{name}.ipldsch")
+
+    return folder, {folder / f"{path.stem}{maker.suffix}": made_of(path, text_of) for path in schemas}
+
+
+def files_of_crate(schemas, crate):
     crate = crate.resolve()
     if not re.fullmatch(r"[a-z][a-z0-9_]*", crate.name):
         raise CrateError(f"{crate.name}: a crate's name is lowercase letters, digits and _")
-    modules = sorted((module_of(path, crate) for path in schemas), key=lambda module: module.name)
+    refuse_names(schemas, ("lib", "main", "tests"))
+
+    def module_of(schema, name):
+        return Module(schema, crate.name, name)
+
+    modules = sorted((made_of(path, module_of) for path in schemas), key=lambda module: module.name)
     seen = {}
     for module in modules:
         for one in module.definitions:
@@ -73,19 +98,27 @@ def line_of(crate):
     return f"{crate.name}: {STANDS_ON}"
 
 
-def left_over(crate, files):
+def left_over(folder, files, language):
     """Files that were made of what is no longer in the schemas."""
-    for folder in ("src", "specs", "proofs"):
-        for path in sorted((crate / folder).rglob("*")):
-            if path.suffix in (".rt", ".antt") and path not in files and MADE in path.read_text(encoding="utf-8").split("\n", 1)[0]:
-                yield path
+    if language is None:
+        found = [path for name in ("src", "specs", "proofs") for path in (folder / name).rglob("*")]
+        suffixes = (".rt", ".antt")
+    else:
+        found, suffixes = folder.glob("*"), (LANGUAGES[language].suffix,)
+    for path in sorted(found):
+        if path.suffix in suffixes and path not in files and is_made(path.read_text(encoding="utf-8")):
+            yield path
 
 
-def write(made, check):
+def is_made(text):
+    return MADE in text.split("\n", 1)[0]
+
+
+def write(made, check, language=None):
     """Writes the files, and answers a line for each that was another."""
-    crate, files = made
+    folder, files = made
     told = []
-    for path in left_over(crate, files):
+    for path in left_over(folder, files, language):
         told.append(f"{'left over' if check else 'removed'}: {shown(path)}")
         if not check:
             path.unlink()
@@ -93,13 +126,13 @@ def write(made, check):
         found = path.read_text(encoding="utf-8") if path.exists() else None
         if found == text:
             continue
-        if found is not None and MADE not in found.split("\n", 1)[0]:
+        if found is not None and not is_made(found):
             raise CrateError(f"{shown(path)} was not made by this tool: move it away first")
         told.append(f"{'another' if check else 'written'}: {shown(path)}")
         if not check:
             path.parent.mkdir(parents=True, exist_ok=True)
             path.write_text(text, encoding="utf-8")
-    return told + listed(crate, check)
+    return told + listed(folder, check) if language is None else told
 
 
 def listed(crate, check):

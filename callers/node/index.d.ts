@@ -20,28 +20,35 @@ export type Data =
 
 export type Kind = 'null' | 'bool' | 'integer' | 'string' | 'bytes' | 'list' | 'map' | 'link';
 
+/** Why something is refused. */
+export type Refusal =
+  | 'Msg'
+  | 'Eof'
+  | 'Mismatch'
+  | 'LengthMismatch'
+  | 'Unsupported'
+  | 'RequireUtf8'
+  | 'CastOverflow'
+  | 'DepthOverflow'
+  | 'TrailingData'
+  | 'IndefiniteSize'
+  | 'NonMinimal'
+  | 'UnorderedKey'
+  | 'InvalidCid'
+  | 'UnknownBase'
+  | 'TooLong'
+  | 'InvalidCharacter'
+  | 'InvalidLength'
+  | 'TrailingBits'
+  | 'LeadingZero'
+  | 'InvalidVersion';
+
 /** Bytes that are no block, a value that has none, or what is no CID. */
 export class DagCborError extends Error {
-  readonly kind:
-    | 'Msg'
-    | 'Eof'
-    | 'Mismatch'
-    | 'Unsupported'
-    | 'RequireUtf8'
-    | 'CastOverflow'
-    | 'DepthOverflow'
-    | 'TrailingData'
-    | 'IndefiniteSize'
-    | 'NonMinimal'
-    | 'UnorderedKey'
-    | 'InvalidCid'
-    | 'UnknownBase'
-    | 'TooLong'
-    | 'InvalidCharacter'
-    | 'InvalidLength'
-    | 'TrailingBits'
-    | 'LeadingZero'
-    | 'InvalidVersion';
+  constructor(kind: Refusal, message: string, place?: readonly (string | number)[]);
+  readonly kind: Refusal;
+  /** Of a type that is made of a schema: the keys and indices that lead to what it refuses. */
+  readonly place: readonly (string | number)[] | undefined;
 }
 
 export class CID {

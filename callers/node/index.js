@@ -30,9 +30,10 @@ const REASONS = {
 };
 
 class DagCborError extends Error {
-  constructor(kind, message) {
+  constructor(kind, message, place) {
     super(message);
     this.kind = kind;
+    this.place = place;
   }
 }
 DagCborError.prototype.name = 'DagCborError';

@@ -1,6 +1,8 @@
 // The page's side of the worker. The page is one file, with the module and the worker inside, or a
 // folder of files.
 
+import { readBy } from './cid.js';
+import { Library } from './library.js';
 import { fromBase64 } from './text.js';
 
 const moduleBytes = async () => {
@@ -28,7 +30,15 @@ export class Asker {
     this.worker = started();
     this.worker.onmessage = ({ data }) => this.hear(data);
     this.worker.onerror = (event) => this.give(new Error(event.message || 'the worker ended'));
-    this.ready = moduleBytes().then((module) => this.send('start', { module }));
+    this.ready = moduleBytes().then((module) => this.start(module));
+  }
+
+  // The worker has the library, and this side has it too, for the texts of CIDs.
+  async start(module) {
+    const [library] = await Promise.all([
+      WebAssembly.compile(module).then(Library.of), this.send('start', { module }),
+    ]);
+    readBy(library);
   }
 
   hear({ number, answer, progress, error }) {

@@ -4,6 +4,8 @@
 
 const PAGE = 65536;
 const FRONT = 64;
+const CID_MOST = 86;
+const CID_TEXT_MOST = 139;
 
 export const EOF = -3;
 export const NO_ROOM = -21;
@@ -124,6 +126,25 @@ export class Library {
   name() {
     this.calls.dagcbor_name(this.address(0), BigInt(this.length), BigInt(this.base));
     return new Uint8Array(this.memory.buffer, this.base, 36).slice();
+  }
+
+  // What the call about these bytes puts into so much room, or the number of the refusal.
+  answer(call, bytes, room) {
+    this.put(bytes, room);
+    const out = bytes.length;
+    const code = call(
+      this.address(0), BigInt(out), this.address(out), BigInt(room), BigInt(this.base));
+    return code < 0 ? code : this.bytesAt(out, this.number).slice();
+  }
+
+  cidText(bytes) {
+    const text = this.answer(this.calls.dagcbor_cid_text, bytes, CID_TEXT_MOST);
+    return typeof text === 'number' ? text : String.fromCharCode(...text);
+  }
+
+  cidFromText(text) {
+    return this.answer(
+      this.calls.dagcbor_cid_from_text, new TextEncoder().encode(text), CID_MOST);
   }
 
   // What is said of the section at `from`, and where its CID begins, its block does, and it ends.

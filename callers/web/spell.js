@@ -3,6 +3,7 @@
 import { NULL, BOOL, INTEGER, TEXT, BYTES, LIST, MAP, LINK, NEGATIVE } from './library.js';
 import { cidFrom } from './cid.js';
 import { fromBase64 } from './text.js';
+import { textFaultOf } from './verdicts.js';
 
 const encoder = new TextEncoder();
 const SPACE = /[ \t\r\n]*/y;
@@ -159,7 +160,7 @@ class Reader {
     const decoder = new TextDecoder();
     if (value.kind === TEXT) {
       const bytes = cidFrom(decoder.decode(value.bytes));
-      if (!bytes) this.fail('no CID in base32 or base58');
+      if (typeof bytes === 'number') this.fail(`no text of a CID: ${textFaultOf(bytes)}`);
       return { kind: LINK, bytes };
     }
     const [held] = value.kind === MAP ? value.entries : [];

@@ -38,6 +38,17 @@ const FAULTS = new Map([
   [-100, ['too long', 'A section of more than 1 GiB is not read by this page.']],
 ]);
 
+const TEXT_FAULTS = new Map([
+  [-26, 'what it tells is no CID'],
+  [-28, 'it begins with none of b, B, z, f and Q'],
+  [-29, 'it is longer than that of any CID'],
+  [-30, 'a character is not in the alphabet of its base'],
+  [-31, 'its last character begins a byte and does not end it'],
+  [-32, 'bits that are not zero stand behind its last byte'],
+  [-33, 'it begins with a zero byte'],
+  [-34, 'version 0 has no prefix, and version 1 has one'],
+]);
+
 export const isWell = (code) => code >= 0;
 
 // Of a block: a name, a headline and what the standard asks.
@@ -59,3 +70,6 @@ export const faultOf = (code) => {
   const [name, asks] = FAULTS.get(code) ?? [`fault ${code}`, ''];
   return { name, asks };
 };
+
+// Of a text that is none of a CID.
+export const textFaultOf = (code) => TEXT_FAULTS.get(code) ?? `refused ${code}`;

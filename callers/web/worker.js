@@ -1,6 +1,7 @@
 // The thread that judges. Each message has a number, and so has its answer; those of a walk come in
 // batches before it.
 
+import { readBy } from './cid.js';
 import { Library } from './library.js';
 import { judge } from './judge.js';
 import { headerOf, innerOf, walk } from './car.js';
@@ -16,6 +17,7 @@ const calls = {
     const compiled = await WebAssembly.compile(module);
     blocks = await Library.of(compiled);
     files = await Library.of(compiled);
+    readBy(await Library.of(compiled));
     return {};
   },
 

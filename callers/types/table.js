@@ -1,0 +1,30 @@
+// The types that are made of schemas, in TypeScript, over the lines of schemas/examples/verdicts.py,
+// which are given on the input. The argument is the folder of what the compiler made.
+'use strict';
+const assert = require('node:assert');
+const { readFileSync } = require('node:fs');
+const { join, resolve } = require('node:path');
+
+const folder = resolve(process.argv[2]);
+const { DagCborError } = require(join(folder, '../node_modules/dagcbor'));
+
+// What the block is written again as, or the kind of the error and the path that it names.
+const answer = (made, block) => {
+  try {
+    return Buffer.from(made.encode(made.decode(block))).toString('hex');
+  } catch (error) {
+    if (!(error instanceof DagCborError)) throw error;
+    const path = error.place.join('/') || '-';
+    assert.ok(error.message.startsWith(path === '-' ? '' : `${path}: `));
+    return `${error.kind} ${path}`;
+  }
+};
+
+const lines = readFileSync(0, 'ascii').trim().split('\n');
+for (const line of lines) {
+  const [schema, name, block, ...wanted] = line.split(' ');
+  const made = require(join(folder, schema))[name];
+  assert.strictEqual(answer(made, Buffer.from(block, 'hex')), wanted.join(' '), line);
+}
+assert.ok(lines.length > 50);
+console.log(`${lines.length} blocks`);

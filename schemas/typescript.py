@@ -1,0 +1,392 @@
+"""The file of TypeScript that is made of a schema: types over the package `dagcbor`, each with an object of its name that has
+`decode` and `encode`."""
+
+from schemas.language import WIDTH, Language, bounds, camel, named_blocks
+from schemas.parsing import WIDTHS, Alias, Enum, Int, Leaf, Link, ListOf, MapOf, Named, SchemaError, Struct, Union
+
+SCALARS = {"String": "string", "Bytes": "Uint8Array", "Bool": "boolean", "Any": "Data"}
+NARROW = ("u8", "u16", "u32", "i8", "i16", "i32")  # the widths that are kept as a number, and not as a bigint
+
+# Names that every object has: as those of a field they would be there where it is left out.
+RESERVED = set("constructor hasOwnProperty isPrototypeOf propertyIsEnumerable toLocaleString toString valueOf".split())
+
+PACKAGE = ("CID", "DagCborError", "decode", "encode")
+
+FRONT = """
+type Place = readonly (string | number)[];
+
+type Entries = { readonly [key: string]: unknown };
+
+type Conversion<T> = (value: unknown, at: Place) => T;
+"""
+
+# Functions that the types and their functions use, in their order.
+BACK = """
+function entriesOf(value: unknown, at: Place): Entries {
+  if (kindOf(value) !== 'map') throw other('map', value, at);
+  return value as Entries;
+}
+
+/** The entries of a map that has no other keys. */
+function fieldsOf(value: unknown, at: Place, ...keys: string[]): Entries {
+  const entries = entriesOf(value, at);
+  const unknown = Object.keys(entries).find((key) => !keys.includes(key));
+  if (unknown !== undefined) throw refused('Msg', [...at, unknown], 'unknown field');
+  return entries;
+}
+
+function has(entries: Entries, key: string): boolean {
+  return Object.prototype.hasOwnProperty.call(entries, key);
+}
+
+function field<T>(entries: Entries, key: string, at: Place, read: Conversion<T>): T {
+  if (!has(entries, key)) throw refused('Msg', [...at, key], 'missing field');
+  return read(entries[key], [...at, key]);
+}
+
+/** The items of a list that has so many. */
+function itemsOf(value: unknown, at: Place, count: number): unknown[] {
+  if (!Array.isArray(value)) throw other('list', value, at);
+  if (value.length === count) return value;
+  throw refused('LengthMismatch', at, `a list of ${count} is wanted, and not of ${value.length}`);
+}
+
+/** The key and the value of a map of one entry. */
+function entryOf(value: unknown, at: Place): [string, unknown] {
+  const entries = Object.entries(entriesOf(value, at));
+  if (entries.length === 1 && entries[0]) return entries[0];
+  throw refused('Mismatch', at, `a map of one entry is wanted, and not of ${entries.length}`);
+}
+
+/** An object of a type, whose parts are not looked at. */
+function object<T>(value: unknown, at: Place): T {
+  return entriesOf(value, at) as unknown as T;
+}
+
+function listOf<T>(item: Conversion<T>): Conversion<T[]> {
+  return (value, at) => {
+    if (!Array.isArray(value)) throw other('list', value, at);
+    return Array.from(value, (one, place) => item(one, [...at, place]));
+  };
+}
+
+function mapOf<T>(part: Conversion<T>): Conversion<{ [key: string]: T }> {
+  return (value, at) => {
+    const entries = Object.entries(entriesOf(value, at));
+    return Object.fromEntries(entries.map(([key, one]) => [key, part(one, [...at, key])]));
+  };
+}
+
+function nullable<T>(part: Conversion<T>): Conversion<T | null> {
+  return (value, at) => (value === null ? null : part(value, at));
+}
+
+/** What is not looked at here: `encode` refuses what has no block. */
+function anything(value: unknown, _at: Place): Data {
+  return value as Data;
+}
+
+function bool(value: unknown, at: Place): boolean {
+  if (typeof value !== 'boolean') throw other('bool', value, at);
+  return value;
+}
+
+function text(value: unknown, at: Place): string {
+  if (typeof value !== 'string') throw other('string', value, at);
+  return value;
+}
+
+function bytes(value: unknown, at: Place): Uint8Array {
+  if (!(value instanceof Uint8Array)) throw other('bytes', value, at);
+  return value;
+}
+
+function link(value: unknown, at: Place): CID {
+  if (!(value instanceof CID)) throw other('link', value, at);
+  return value;
+}
+
+function integer(least: bigint, most: bigint): Conversion<bigint> {
+  return (value, at) => {
+    if (kindOf(value) !== 'int') throw other('int', value, at);
+    const number = BigInt(value as number | bigint);
+    if (number >= least && number <= most) return number;
+    throw refused('CastOverflow', at, `an int from ${least} to ${most} is wanted`);
+  };
+}
+
+function narrow(least: number, most: number): Conversion<number> {
+  const convert = integer(BigInt(least), BigInt(most));
+  return (value, at) => Number(convert(value, at));
+}
+
+/** The kind of a value, in the data model's words. */
+function kindOf(value: unknown): string {
+  if (value === null) return 'null';
+  if (Array.isArray(value)) return 'list';
+  if (value instanceof Uint8Array) return 'bytes';
+  if (value instanceof CID) return 'link';
+  if (typeof value === 'bigint' || Number.isInteger(value)) return 'int';
+  if (Object.prototype.toString.call(value) === '[object Object]') return 'map';
+  return typeof value === 'boolean' ? 'bool' : typeof value;
+}
+
+function other(wanted: string, value: unknown, at: Place): DagCborError {
+  return refused('Mismatch', at, `${wanted} is wanted, and not ${kindOf(value)}`);
+}
+
+function refused(kind: DagCborError['kind'], at: Place, why: string): DagCborError {
+  return new DagCborError(kind, at.length ? `${at.join('/')}: ${why}` : why, at);
+}
+"""
+
+
+class TypeScript(Language):
+    called = "TypeScript"
+    suffix = ".ts"
+    step = 2
+    kinds = ("bool", "int", "string", "bytes", "link")
+    taken = frozenset("Array CID Conversion DagCborError Data Entries Number Object BigInt Place Uint8Array".split())
+    closed_modules = frozenset({"dagcbor"})
+    front = named_blocks(FRONT, 1)
+    back = named_blocks(BACK, 1)
+
+    # ---- names
+
+    def field_name(self, field):
+        return field.name + "_" if field.name in RESERVED else field.name
+
+    def check_field(self, field):
+        for name in (field.name, field.key):
+            if name == "__proto__":
+                raise SchemaError(field.place, "no field is named __proto__ in TypeScript, where it is another thing")
+
+    def helper(self, word):
+        return camel(word)
+
+    def function(self, way, name):
+        one = self.schema.by_name[name]
+        return f"{'check' if is_kinded(one) else way}{name}"
+
+    # ---- the file
+
+    def head(self, source, words):
+        rows = [f"// The types of {source}, by ./dagcbor-types. Change that file, and run it again.", ""]
+        if "Data" in words:
+            rows.append("import type { Data } from 'dagcbor';")
+        return [*rows, f"import {{ {', '.join(name for name in PACKAGE if name in words)} }} from 'dagcbor';"]
+
+    def annotation(self, kind):
+        """The type as it is written, with the schema's names."""
+        if isinstance(kind, Int):
+            return "number" if kind.width in NARROW else "bigint"
+        if isinstance(kind, Link):
+            return "CID"
+        if isinstance(kind, Leaf):
+            return SCALARS[kind.kind]
+        if isinstance(kind, ListOf):
+            item = self.annotation(kind.item)
+            return f"({item})[]" if " " in item else f"{item}[]"
+        if isinstance(kind, MapOf):
+            return f"{{ [key: string]: {self.annotation(kind.value)} }}"
+        if isinstance(kind, Named):
+            return kind.name
+        part = self.annotation(kind.part)
+        return part if self.has_null(kind.part) else f"{part} | null"
+
+    # ---- declared types
+
+    def declared(self, one):
+        if isinstance(one, Struct):
+            return [self.declared_struct(one), self.companion(one)]
+        if isinstance(one, Enum):
+            kinds = [quoted(member.name) for member in one.members]
+        elif isinstance(one, Alias):
+            kinds = [self.annotation(one.of)]
+        elif is_kinded(one):
+            kinds = [self.annotation(self.case_kind(case)) for case in one.cases]
+        else:
+            kinds = [f"{{ kind: {quoted(case.name)}; value: {self.annotation(case.type)} }}" for case in one.cases]
+        return [[*said(one.text, 0), *alternatives(f"export type {one.name} =", kinds)], self.companion(one)]
+
+    def declared_struct(self, struct):
+        rows = []
+        for field in struct.fields:
+            mark = "?" if field.optional else ""
+            rows += [*said(field.text, 2), f"  {self.field_name(field)}{mark}: {self.annotation(field.type)};"]
+        head = f"export interface {struct.name} {{"
+        return [*said(struct.text, 0), *([head, *rows, "}"] if rows else [head + "}"])]
+
+    def companion(self, one):
+        """The object of the type's name."""
+        read, write = (self.conversion(Named(one.name, one.place), way) for way in ("read", "write"))
+        return [
+            f"export const {one.name} = {{",
+            *self.arrow(f"decode: (block: Uint8Array): {one.name} =>", f"{read}(decode(block), [])"),
+            *self.arrow(f"encode: (value: {one.name}): Uint8Array =>", f"encode({write}(value, []))"),
+            "};",
+        ]
+
+    @staticmethod
+    def arrow(head, body):
+        one = f"  {head} {body},"
+        return [one] if len(one) <= WIDTH else [f"  {head}", f"    {body},"]
+
+    # ---- functions
+
+    def both(self, one, read, write):
+        """The two functions, of their bodies."""
+        reads, writes = (self.function(way, one.name) for way in ("read", "write"))
+        return [
+            [f"function {reads}(value: unknown, at: Place): {one.name} {{", *read, "}"],
+            [f"function {writes}(value: unknown, at: Place): Data {{", *write, "}"],
+        ]
+
+    # -- structs
+
+    def struct_map(self, struct):
+        return self.both(struct, self.read_map(struct), self.written_map(struct))
+
+    def read_map(self, struct):
+        entries = "const entries = " if struct.fields else ""
+        keys = ["value", "at", *(quoted(field.key) for field in struct.fields)]
+        head = [f"  {entries}entriesOf(value, at);"] if struct.open else self.call(2, f"{entries}fieldsOf(", keys, ");")
+        parts, optional = [], []
+        for field in struct.fields:
+            name, key = self.field_name(field), quoted(field.key)
+            given = ["entries", key, "at", self.conversion(field.type, "read")]
+            if field.optional:
+                optional += self.when(f"has(entries, {key})", self.call(2, f"held.{name} = field(", given, ");"))
+            else:
+                parts += self.call(4, f"{name}: field(", given, "),")
+        return head + constructed(struct.name, parts, optional)
+
+    def written_map(self, struct):
+        if not struct.fields:
+            return ["  entriesOf(value, at);", "  return {};"]
+        parts, optional = [], []
+        for field in struct.fields:
+            held, key = f"held.{self.field_name(field)}", quoted(field.key)
+            write, given = self.conversion(field.type, "write"), [held, f"[...at, {key}]"]
+            if field.optional:
+                optional += self.when(f"{held} !== undefined", self.call(2, f"entries[{key}] = {write}(", given, ");"))
+            else:
+                parts += self.call(4, f"{property_name(field.key)}: {write}(", given, "),")
+        rows = [f"  const held = object<{struct.name}>(value, at);"]
+        return rows + constructed("{ [key: string]: Data }", parts, optional, "entries")
+
+    @staticmethod
+    def when(test, rows):
+        """A statement under a condition."""
+        one = f"  if ({test}) {rows[0].strip()}"
+        if len(rows) == 1 and len(one) <= WIDTH:
+            return [one]
+        return [f"  if ({test}) {{", *(f"  {row}" for row in rows), "  }"]
+
+    def struct_tuple(self, struct):
+        read, write = [], []
+        for place, field in enumerate(struct.fields):
+            name, step = self.field_name(field), f"[...at, {place}]"
+            read += self.call(4, f"{name}: {self.conversion(field.type, 'read')}(", [f"items[{place}]", step], "),")
+            write.append(f"{self.conversion(field.type, 'write')}(held.{name}, {step})")
+        return self.both(
+            struct,
+            [f"  const items = itemsOf(value, at, {len(struct.fields)});", *constructed(struct.name, read, [])],
+            [f"  const held = object<{struct.name}>(value, at);", *self.call(2, "return [", write, "];")],
+        )
+
+    # -- enums
+
+    def enum_string(self, enum):
+        return self.enum(enum, "text(value, at)", quoted)
+
+    def enum_int(self, enum):
+        return self.enum(enum, "u64(value, at)", lambda data: f"{data}n")
+
+    def enum(self, enum, data, literal):
+        read, write = [f"  switch ({data}) {{"], ["  switch (value) {"]
+        for member in enum.members:
+            read += [f"    case {literal(member.data)}:", f"      return {quoted(member.name)};"]
+            write += [f"    case {quoted(member.name)}:", f"      return {literal(member.data)};"]
+        return self.both(enum, [*read, *otherwise("at", "unknown variant")], [*write, *otherwise("at", "unknown variant")])
+
+    # -- unions
+
+    def union_keyed(self, union):
+        read = ["  const [key, part] = entryOf(value, at);", "  switch (key) {"]
+        write = [f"  const held = object<{union.name}>(value, at);", "  switch (held.kind) {"]
+        for case in union.cases:
+            call = f"{self.conversion(case.type, 'read')}(part, [...at, key])"
+            read += [f"    case {quoted(case.data)}:", f"      return {{ kind: {quoted(case.name)}, value: {call} }};"]
+            call = f"{self.conversion(case.type, 'write')}(held.value, [...at, {quoted(case.data)}])"
+            write += [f"    case {quoted(case.name)}:", f"      return {{ {property_name(case.data)}: {call} }};"]
+        read += otherwise("[...at, key]", "unknown variant")
+        return self.both(union, read, [*write, *otherwise("at", "unknown variant")])
+
+    @staticmethod
+    def case_kind(case):
+        """What a member of a kinded union holds: each int of the data, whatever its type."""
+        return Int("i128", case.place) if case.data == "int" else case.type
+
+    def union_kinded(self, union):
+        """One function, since each value stands for itself."""
+        rows = ["  switch (kindOf(value)) {"]
+        for case in union.cases:
+            call = f"{self.conversion(self.case_kind(case), 'read')}(value, at)"
+            rows += [f"    case {quoted(case.data)}:", f"      return {call};"]
+        head = f"function {self.function('read', union.name)}(value: unknown, at: Place): {union.name} {{"
+        return [[head, *rows, *otherwise("at", "unknown kind"), "}"]]
+
+
+
+def spelled(number):
+    """A bound of integers that are kept as a bigint."""
+    if number < 0:
+        return f"-(2n ** {(-number).bit_length() - 1}n)"
+    return f"2n ** {number.bit_length()}n - 1n" if number else "0n"
+
+
+for width in WIDTHS:
+    least, most = bounds(width)
+    call = f"narrow({least}, {most})" if width in NARROW else f"integer({spelled(least)}, {spelled(most)})"
+    TypeScript.back[width] = [f"const {width} = {call};"]
+
+
+def is_kinded(one):
+    return isinstance(one, Union) and one.representation == "kinded"
+
+
+def quoted(text):
+    return "'" + text.replace("'", "\\'") + "'"
+
+
+def property_name(key):
+    """A key in an object that is spelled out."""
+    return key if key.isidentifier() else quoted(key)
+
+
+def otherwise(at, why):
+    """The end of a switch."""
+    return ["    default:", f"      throw refused('Msg', {at}, {quoted(why)});", "  }"]
+
+
+def alternatives(head, kinds):
+    line = f"{head} {' | '.join(kinds)};"
+    if len(line) <= WIDTH:
+        return [line]
+    return [head, *(f"  | {kind}" for kind in kinds[:-1]), f"  | {kinds[-1]};"]
+
+
+def said(text, indent):
+    margin, lines = " " * indent, [line.replace("*/", "* /") for line in text]
+    if len(lines) < 2:
+        return [f"{margin}/** {line} */" for line in lines]
+    return [f"{margin}/**", *(f"{margin} * {line}".rstrip() for line in lines), f"{margin} */"]
+
+
+def constructed(kind, parts, optional, name="held"):
+    """An object of these parts, and of those that may be left out."""
+    if not optional:
+        return ["  return {", *parts, "  };"] if parts else ["  return {};"]
+    start = [f"  const {name}: {kind} = {{", *parts, "  };"] if parts else [f"  const {name}: {kind} = {{}};"]
+    return [*start, *optional, f"  return {name};"]

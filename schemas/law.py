@@ -2,7 +2,23 @@
 
 import re
 
-from schemas.parsing import DEFAULT_WIDTH, Alias, Enum, Int, Leaf, Link, ListOf, MapOf, Named, Nullable, SchemaError, Struct, Union
+from schemas.parsing import (
+    DEFAULT_WIDTH,
+    Alias,
+    Enum,
+    Field,
+    Int,
+    Leaf,
+    Link,
+    ListOf,
+    MapOf,
+    Named,
+    Nullable,
+    SchemaError,
+    Struct,
+    Union,
+    Unit,
+)
 
 MOST_PARTS = 4  # of a tuple
 KINDS = {"bool": ("Bool",), "int": ("Int",), "string": ("String",), "bytes": ("Bytes",), "link": ("Link",)}
@@ -45,10 +61,12 @@ class Schema:
     """Definitions that keep the law."""
 
     def __init__(self, definitions):
-        self.definitions = definitions
         self.by_name = {}
         for definition in definitions:
             self.check_name(definition)
+        self.definitions = [self.plain(definition) for definition in definitions]
+        self.by_name = {definition.name: definition for definition in self.definitions}
+        definitions = self.definitions
         for definition in definitions:
             self.check(definition)
         self.refuse_recursion()
@@ -86,6 +104,27 @@ class Schema:
     def has_null(kind):
         return isinstance(kind, Nullable) or (isinstance(kind, Leaf) and kind.kind == "Any")
 
+    # -- what is another form of a struct
+
+    def plain(self, definition):
+        """A map whose keys are an enum's texts, and the unit that is an empty map, are structs."""
+        if isinstance(definition, Unit) and definition.representation == "emptymap":
+            return Struct(definition.name, [], "map", False, definition.place, definition.text)
+        of = definition.of if isinstance(definition, Alias) else None
+        if not isinstance(of, MapOf) or of.key is None:
+            return definition
+        fields = [Field(member.name, of.value, True, member.data, member.place, []) for member in self.keys_of(of).members]
+        return Struct(definition.name, fields, "map", False, definition.place, definition.text, of_enum=of.key.name)
+
+    def keys_of(self, kind):
+        """The enum whose texts are the keys of a map."""
+        enum = self.by_name.get(kind.key.name)
+        if enum is None:
+            raise SchemaError(kind.key.place, f"unknown type `{kind.key.name}`")
+        if not isinstance(enum, Enum) or enum.representation != "string":
+            raise SchemaError(kind.key.place, f"keys are String, or of an enum of texts, and not `{kind.key.name}`")
+        return enum
+
     # -- each definition
 
     def check(self, definition):
@@ -95,13 +134,18 @@ class Schema:
             self.check_struct(definition)
         elif isinstance(definition, Enum):
             self.check_enum(definition)
-        else:
+        elif isinstance(definition, Union):
             self.check_union(definition)
+        else:
+            refuse_later(definition, "unit")
 
     def check_known(self, kind):
         if isinstance(kind, Named):
             if kind.name not in self.by_name:
                 raise SchemaError(kind.place, f"unknown type `{kind.name}`")
+        if isinstance(kind, MapOf) and kind.key is not None:
+            self.keys_of(kind)
+            raise SchemaError(kind.key.place, f"a map whose keys are an enum's has a name of its own: `type X {{{kind.key.name}:..}}`")
         if isinstance(kind, Link) and kind.to not in self.by_name and kind.to not in DATA_MODEL:
             raise SchemaError(kind.place, f"unknown type `{kind.to}`")
         for part in parts(kind):
@@ -109,7 +153,11 @@ class Schema:
 
     def check_struct(self, struct):
         names, keys = {}, {}
+        if struct.representation not in ("map", "tuple"):
+            refuse_later(struct, struct.representation)
         for field in struct.fields:
+            if field.implicit is not None:
+                raise SchemaError(field.implicit.place, "`implicit` is not supported yet")
             self.check_known(field.type)
             once(names, field_name(field.name), field.place, "two fields have the name")
             check_key(field.key, field.place)
@@ -146,6 +194,8 @@ class Schema:
 
     def check_union(self, union):
         names, data = {}, {}
+        if union.representation not in ("keyed", "kinded"):
+            refuse_later(union, union.representation)
         if not union.cases:
             raise SchemaError(union.place, f"`{union.name}` has no members")
         for case in union.cases:
@@ -236,6 +286,10 @@ def held_by(definition):
     if isinstance(definition, Union):
         return [case.type for case in definition.cases]
     return []
+
+
+def refuse_later(definition, what):
+    raise SchemaError(definition.place, f"{what} is not supported yet: `{definition.name}`")
 
 
 def once(seen, word, place, what):

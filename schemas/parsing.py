@@ -9,7 +9,18 @@ from dataclasses import dataclass, field
 
 WIDTHS = ("u8", "u16", "u32", "u64", "i8", "i16", "i32", "i64", "i128")
 DEFAULT_WIDTH = "i64"
+STRUCTS = {"map": (), "tuple": (), "listpairs": (), "stringjoin": ("join",)}
+ENUMS = {"string": (), "int": ()}
+UNIONS = {
+    "keyed": (),
+    "kinded": (),
+    "stringprefix": (),
+    "inline": ("discriminantKey",),
+    "envelope": ("discriminantKey", "contentKey"),
+}
+UNITS = {"null": (), "true": (), "false": (), "emptymap": ()}
 NAME = re.compile(r"[A-Za-z_][A-Za-z0-9_]*")
+NUMBER = re.compile(r"-?[0-9]+")
 MARKS = "{}[]()|&:=,"
 
 
@@ -30,7 +41,7 @@ class Place:
 
 @dataclass(frozen=True)
 class Token:
-    kind: str  # name, text, mark, end
+    kind: str  # name, text, number, mark, end
     word: str
     place: Place
 
@@ -72,6 +83,7 @@ class ListOf:
 class MapOf:
     value: object
     place: Place
+    key: object = None  # None, where keys are String; else the Named enum whose texts they are
 
 
 @dataclass(frozen=True)
@@ -99,14 +111,35 @@ class Field:
     key: str
     place: Place
     text: list
+    implicit: object = None  # None, or the Literal that is meant where the field is left out
+
+
+@dataclass(frozen=True)
+class Literal:
+    """A scalar in a schema."""
+
+    value: object  # bool, int, str
+    place: Place
 
 
 @dataclass
 class Struct:
     name: str
     fields: list
-    representation: str  # map, tuple
+    representation: str  # map, tuple, listpairs, stringjoin
     open: bool
+    place: Place
+    text: list = field(default_factory=list)
+    join: str = ""  # of stringjoin: what stands between the fields
+    of_enum: str = ""  # where it is a map whose keys are an enum's texts: that enum
+
+
+@dataclass
+class Unit:
+    """A type of one value."""
+
+    name: str
+    representation: str  # null, true, false, emptymap
     place: Place
     text: list = field(default_factory=list)
 
@@ -143,9 +176,11 @@ class Case:
 class Union:
     name: str
     cases: list
-    representation: str  # keyed, kinded
+    representation: str  # keyed, kinded, stringprefix, inline, envelope
     place: Place
     text: list = field(default_factory=list)
+    discriminant: str = ""  # of inline and envelope: the key whose text tells the member
+    content: str = ""  # of envelope: the key of what the member holds
 
 
 # ---- the scanner
@@ -178,6 +213,10 @@ class Scanner:
             elif char in MARKS:
                 self.tokens.append(Token("mark", char, place))
                 at += 1
+            elif NUMBER.match(line, at):
+                found = NUMBER.match(line, at)
+                self.tokens.append(Token("number", found.group(), place))
+                at = found.end()
             else:
                 found = NAME.match(line, at)
                 if not found:
@@ -300,6 +339,8 @@ class Parser:
             made = self.enum(name)
         elif self.take_if("union"):
             made = self.union(name)
+        elif self.take_if("unit"):
+            made = Unit(name.word, self.representation_of(UNITS, name, "null")[0], name.place)
         else:
             self.take_if("=")
             made = Alias(name.word, self.value_type(lower=True), name.place)
@@ -329,16 +370,14 @@ class Parser:
             self.expect(":")
             value = self.maybe_null()
             self.expect("}")
-            if key.word != "String":
-                raise SchemaError(key.place, f"keys are String here, and not {key.word}")
-            return MapOf(value, place)
+            return MapOf(value, place, None if key.word == "String" else Named(key.word, key.place))
         if token.kind != "name":
             raise SchemaError(place, f"a type is wanted here, and not {told(token)}")
         return self.scalar(token, lower)
 
     def scalar(self, token, lower):
         word = token.word
-        if lower and word in ("int", "string", "bytes", "bool", "float", "any", "link", "unit"):
+        if lower and word in ("int", "string", "bytes", "bool", "float", "any", "link"):
             word = word.capitalize()
         if word == "Int":
             return Int(self.width_on(token.place.line), token.place)
@@ -370,30 +409,61 @@ class Parser:
         while not self.is_next("}"):
             fields.append(self.field())
         self.expect("}")
-        representation = "map"
-        if self.take_if("representation"):
-            token = self.expect_name("a representation")
-            representation = token.word
-            if representation not in ("map", "tuple"):
-                raise SchemaError(
-                    token.place, f"the representation {representation} of `{name.word}` is not supported: map or tuple"
-                )
-            if self.is_next("{"):
-                raise SchemaError(self.peek().place, 'a field is renamed by `(rename "a")` behind its type')
-        return Struct(name.word, fields, representation, is_open, name.place)
+        representation, options = self.representation_of(STRUCTS, name, "map")
+        return Struct(name.word, fields, representation, is_open, name.place, join=options.get("join", ""))
+
+    def representation_of(self, known, name, default=None):
+        """The representation, and its options by their names."""
+        token = self.peek()
+        if not self.take_if("representation"):
+            if default is None:
+                raise SchemaError(token.place, f"the representation of the union `{name.word}` is wanted: {', '.join(known)}")
+            return default, {}
+        token = self.expect_name("a representation")
+        if token.word not in known:
+            raise SchemaError(token.place, f"the representation {token.word} of `{name.word}` is not supported: {', '.join(known)} are")
+        return token.word, self.options(token, known[token.word])
+
+    def options(self, representation, wanted):
+        """The texts behind a representation, as `{ discriminantKey "tag" }`."""
+        found = {}
+        brace = self.take_if("{")
+        while brace and not self.take_if("}"):
+            token = self.expect_name("an option")
+            if token.word not in wanted:
+                raise SchemaError(token.place, f"`{token.word}` is no option of {representation.word} here"
+                                  + (': a field is renamed by `(rename "a")` behind its type' if token.word == "fields" else ""))
+            found[token.word] = self.expect_text(f"the text of {token.word}").word
+        for word in wanted:
+            if word not in found:
+                raise SchemaError(representation.place, f'{representation.word} wants `{{ {word} "a" }}` behind it')
+        return found
 
     def field(self):
         name = self.expect_name("the name of a field")
         optional = bool(self.take_if("optional"))
         kind = self.maybe_null()
-        key = name.word
+        key, implicit = name.word, None
         if self.take_if("("):
-            word = self.expect_name("`rename`")
-            if word.word != "rename":
-                raise SchemaError(word.place, f"`{word.word}` is not supported: `rename` alone is")
-            key = self.expect_text("the name in the data").word
-            self.expect(")")
-        return Field(name.word, kind, optional, key, name.place, self.text_above(name.place.line))
+            while not self.take_if(")"):
+                word = self.expect_name("`rename` or `implicit`")
+                if word.word == "rename":
+                    key = self.expect_text("the name in the data").word
+                elif word.word == "implicit":
+                    implicit = self.literal()
+                else:
+                    raise SchemaError(word.place, f"`{word.word}` is not supported: `rename` and `implicit` are")
+        return Field(name.word, kind, optional, key, name.place, self.text_above(name.place.line), implicit)
+
+    def literal(self):
+        token = self.take()
+        if token.kind == "number":
+            return Literal(int(token.word), token.place)
+        if token.kind == "name" and token.word in ("true", "false"):
+            return Literal(token.word == "true", token.place)
+        if token.kind == "text":
+            return Literal(token.word, token.place)
+        raise SchemaError(token.place, f"a text, a number, `true` or `false` is wanted here, and not {told(token)}")
 
     # -- enums
 
@@ -409,14 +479,7 @@ class Parser:
                 self.expect(")")
             rows.append((token, data))
         self.expect("}")
-        representation = "string"
-        if self.take_if("representation"):
-            token = self.expect_name("a representation")
-            representation = token.word
-            if representation not in ("string", "int"):
-                raise SchemaError(
-                    token.place, f"the representation {representation} of `{name.word}` is not supported: string or int"
-                )
+        representation, _ = self.representation_of(ENUMS, name, "string")
         members = [Member(token.word, self.member_data(representation, token, data), token.place) for token, data in rows]
         return Enum(name.word, members, representation, name.place)
 
@@ -441,19 +504,21 @@ class Parser:
             held = self.value_type()
             rows.append((held, self.take(), place))
         self.expect("}")
-        token = self.peek()
-        if not self.take_if("representation"):
-            raise SchemaError(token.place, f"the representation of the union `{name.word}` is wanted: keyed or kinded")
-        token = self.expect_name("a representation")
-        if token.word not in ("keyed", "kinded"):
-            raise SchemaError(token.place, f"the representation {token.word} of `{name.word}` is not supported: keyed or kinded")
+        representation, options = self.representation_of(UNIONS, name)
         cases = []
         for held, data, place in rows:
-            if data.kind != ("text" if token.word == "keyed" else "name"):
-                wanted = 'a key, as "a",' if token.word == "keyed" else "a kind"
+            if data.kind != ("name" if representation == "kinded" else "text"):
+                wanted = {"kinded": "a kind", "stringprefix": 'a prefix, as "a:",'}.get(representation, 'a key, as "a",')
                 raise SchemaError(data.place, f"{wanted} is wanted here, and not {told(data)}")
             cases.append(Case(case_name(held), held, data.word, place))
-        return Union(name.word, cases, token.word, name.place)
+        return Union(
+            name.word,
+            cases,
+            representation,
+            name.place,
+            discriminant=options.get("discriminantKey", ""),
+            content=options.get("contentKey", ""),
+        )
 
 
 def case_name(held):

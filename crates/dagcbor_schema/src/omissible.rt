@@ -9,6 +9,7 @@ ghost use Rattle.dagcbor_schema.specs.SchemaFields.{finish_omissible};
 
 use serde_ipld_dagcbor::{
     Accessor, DecodeError, Deserialize, Deserializer, Fields, Read, ReadResult, read_into,
+    read_named_place,
 };
 use std::alloc::Global;
 
@@ -76,15 +77,16 @@ impl<'de, T: Deserialize<'de>, L: Fields<'de>> Fields<'de> for Omissible<T, L> {
         read_place::<T, L, R>(places, alloc, names, key, de)
     }
 
+    #[inline(always)]
     fn read_named<R: Read>(
-        _places: &mut (Option<T>, L::Places),
-        _alloc: Global,
-        _names: &[&str],
-        _entries: &mut Accessor<'de>,
-        _de: &mut Deserializer<'de, R>,
-        _refusal: &mut Option<DecodeError<R::Error>>,
+        places: &mut (Option<T>, L::Places),
+        alloc: Global,
+        names: &[&str],
+        entries: &mut Accessor<'de>,
+        de: &mut Deserializer<'de, R>,
+        refusal: &mut Option<DecodeError<R::Error>>,
     ) -> bool {
-        false
+        read_named_place::<T, L, R>(places, alloc, names, entries, de, refusal)
     }
 
     fn finish(places: (Option<T>, L::Places)) -> Option<Omissible<T, L>> {

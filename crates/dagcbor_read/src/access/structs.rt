@@ -132,9 +132,10 @@ fn read_named_value<'de, T: Deserialize<'de>, R: Read>(
     }
 }
 
-/// The value of the first name goes to the first place, any other to the others.
+/// The value of the first name goes to the first place, any other to the others: the `read_named`
+/// of a row that begins with a field of its own.
 #[inline(always)]
-fn read_named_place<'de, T: Deserialize<'de>, L: Fields<'de>, R: Read>(
+pub fn read_named_place<'de, T: Deserialize<'de>, L: Fields<'de>, R: Read>(
     into: &mut (Option<T>, L::Places),
     alloc: Global,
     names: &[&str],

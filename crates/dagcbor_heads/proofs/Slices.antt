@@ -1,5 +1,5 @@
 -- What stands whole at the front of a slice, and is taken at once.
-use Rattle.std.proofs.Common.{◌≡◌, ℕ, ◌+◌, ◌/◌, ◌<◌, ◌≤◌, ◌^◌, List, ◌∷◌, ◌++◌, length, take, drop, sym, ap, ap₂, ◌∙◌, subst, arith, length-append, append_assoc}
+use Rattle.std.proofs.Common.{◌≡◌, ℕ, ◌+◌, ◌/◌, ◌<◌, ◌≤◌, ◌^◌, List, [], ◌∷◌, ◌++◌, length, take, drop, sym, ap, ap₂, ◌∙◌, subst, arith, length-append, append_assoc}
 use Rattle.std.proofs.lemmas.List.{take-append-drop}
 use Rattle.std.specs.Prelude.{Some}
 use Rattle.dagcbor_heads.specs.Head.{head}
@@ -32,12 +32,13 @@ pub head_of_first : (first major argument : ℕ) (behind rest : List ℕ) {b : L
 head_of_first first major argument behind rest {b} {kind} e is h = subst (λ m. SplitsHead b m argument rest) (sym (begins first behind major argument rest h.1 (sym e ∙ h.2)).major_is ∙ is) h
 
 -- each byte was looked at once
-pub slice_looked : {old new : Reading} {b rest : List ℕ} (taken : List ℕ) → old.left ≡ Some b → new.left ≡ Some rest → b ≡ taken ++ rest → new.looked + length rest ≡ old.looked + length b → LooksAtTaken 2 0 old new
-slice_looked {old} {new} {b} {rest} taken l m e counted =
+pub slice_looked : {old new : Reading} {b rest : List ℕ} (taken : List ℕ) → old.left ≡ Some b → new.left ≡ Some rest → b ≡ taken ++ rest → new.looked + length rest ≡ old.looked + length b → new.shown ≡ [] → LooksAtTaken 2 0 old new
+slice_looked {old} {new} {b} {rest} taken l m e counted none =
     let long = ap length e in
     record {
       grows = omega (arith, long, counted, length-append taken rest);
       most = λ x k. (rest, length taken, m, omega (arith, ap length (same_left old l k), long, length-append taken rest), omega (arith, long, counted, length-append taken rest));
+      none_shown = none;
     }
 
 row_short : {i w n : ℕ} → Row i w n → w ≤ 8

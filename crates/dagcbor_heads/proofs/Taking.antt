@@ -4,7 +4,7 @@ use Rattle.std.proofs.lemmas.List.{take-append-drop, take-append-le, length-take
 use Rattle.std.specs.List.{slice_get}
 use Rattle.dagcbor_heads.specs.Reading.{Reading, Stays, Shows, Advances}
 use Rattle.dagcbor_heads.specs.Fronts.{FindsEnd, ShowsByte, Takes, Gathers}
-use Rattle.dagcbor_heads.specs.Looking.{LooksAtTaken}
+use Rattle.dagcbor_heads.specs.Looking.{LooksAtSome}
 
 -- ---- the same reader
 
@@ -84,5 +84,5 @@ fill_gathers {old} {mid} {new} {want} {n} h is behind a = record {
 pub record GatheredSome (n left : ℕ) (old : Reading) (payload : List ℕ) (now : Reading) : Type 0 where
   pub counted : length payload + left ≡ n
   pub takes : Takes old payload now
-  pub looked : LooksAtTaken 2 0 old now
+  pub looked : LooksAtSome 2 old now
   pub at_most : now.looked + 2 * left ≤ old.looked + 2 * n

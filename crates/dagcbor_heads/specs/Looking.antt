@@ -1,5 +1,5 @@
 -- How many bytes a call looked at. The count never falls.
-use Rattle.std.specs.Prelude.{◌≡◌, ℕ, ◌+◌, ◌*◌, ◌≤◌, List, length, Some, Result, MatchResult}
+use Rattle.std.specs.Prelude.{◌≡◌, ℕ, ◌+◌, ◌*◌, ◌≤◌, List, [], length, Some, Result, MatchResult}
 use Rattle.dagcbor_heads.specs.Reading.{Reading}
 
 -- at most n looks, whether or not the bytes left are known
@@ -13,12 +13,22 @@ pub record LooksOnce (old new : Reading) : Type 0 where
   pub left : (b : List ℕ) → old.left ≡ Some b → new.looked ≤ old.looked + length b
 
 -- n bytes were taken, and at most so many times n looked at, counted with those that were looked at
--- before the call
+-- before the call. None is shown then: no byte behind those that were taken was asked for, whether
+-- or not the bytes left are known.
 pub record LooksAtTaken (times before : ℕ) (old new : Reading) : Type 0 where
   pub grows : old.looked ≤ new.looked
   pub most : (b : List ℕ) → old.left ≡ Some b
       → (rest : List ℕ) × (n : ℕ) × (new.left ≡ Some rest) × (length b ≡ n + length rest)
       × (before + new.looked ≤ old.looked + times * n)
+  pub none_shown : new.shown ≡ []
+
+-- the same where n may be 0: where none was shown before, none is shown then
+pub record LooksAtSome (times : ℕ) (old new : Reading) : Type 0 where
+  pub grows : old.looked ≤ new.looked
+  pub most : (b : List ℕ) → old.left ≡ Some b
+      → (rest : List ℕ) × (n : ℕ) × (new.left ≡ Some rest) × (length b ≡ n + length rest)
+      × (new.looked ≤ old.looked + times * n)
+  pub none_shown : old.shown ≡ [] → new.shown ≡ []
 
 -- at most so many times as many as were left, counted with those that were looked at before the
 -- call
@@ -35,3 +45,7 @@ LooksBehind times before old result new = MatchResult result (λ _. LooksAtTaken
 -- left.
 abbrev pub Looks : {T E : Type 0} → (times : ℕ) → Reading → Result T E → Reading → Type 0
 Looks times = LooksBehind times 0
+
+-- the same where an answer may have taken no byte
+abbrev pub LooksSome : {T E : Type 0} → (times : ℕ) → Reading → Result T E → Reading → Type 0
+LooksSome times old result new = MatchResult result (λ _. LooksAtSome times old new) (λ _. LooksAtLeft times 0 old new)

@@ -15,7 +15,7 @@ ghost use Rattle.dagcbor_heads.specs.Causes.{argument_width, least_argument};
 ghost use Rattle.dagcbor_heads.specs.Refusals.{RefusesPlainly, RefusesOrLacksMemory};
 ghost use Rattle.dagcbor_heads.specs.Refusals.{RefusesOrLacksMemoryUnlent};
 ghost use Rattle.dagcbor_heads.specs.Inputs.{input_reading, OverInput};
-ghost use Rattle.dagcbor_heads.specs.Looking.{Looks, LooksOnce, LooksAtTaken, LooksAtMost};
+ghost use Rattle.dagcbor_heads.specs.Looking.{Looks, LooksSome, LooksOnce, LooksAtTaken, LooksAtMost};
 
 use crate::error::{DecodeError, Len};
 use crate::input::Input;
@@ -161,7 +161,7 @@ fn pull_argument<R: Read>(name: &str, reader: &mut R, width: u16) -> ReadResult<
         (R.reading reader.old) e (R.reading reader.new)) }
     ensures stays { IfErr result (λ _. KeepsSteps (R.reading reader.old) (R.reading reader.new)) }
     ensures variant { IfErr result (λ e. IsEndNamed name.now e) }
-    ensures looked { Looks 2 (R.reading reader.old) result (R.reading reader.new) }
+    ensures looked { LooksSome 2 (R.reading reader.old) result (R.reading reader.new) }
     ensures at_most { LooksAtMost (2 * width) (R.reading reader.old) (R.reading reader.new) }
 {
     let mut argument = 0u64;
@@ -257,13 +257,14 @@ fn append_front(payload: &mut Vec<u8>, bytes: &[u8], want: u64) -> Result<usize,
 /// Moves some of the next bytes to the end of the payload, and answers how many: none only at the
 /// end.
 fn gather_some<R: Read>(reader: &mut R, payload: &mut Vec<u8>, want: u64) -> ReadResult<usize, R>
+    requires { 0 < want }
     ensures gathered { MatchResult result
         (λ n. Gathers (R.reading reader.old) payload.old.items want n payload.new.items
         (R.reading reader.new))
         (λ e. RefusesOrLacksMemory ⊤ (λ _ _. ⊥) (R.reading reader.old) e (R.reading reader.new)) }
     ensures stays { IfErr result (λ _. KeepsSteps (R.reading reader.old) (R.reading reader.new)) }
     ensures variant { IfErr result IsFaultOrLack }
-    ensures looked { Looks 2 (R.reading reader.old) result (R.reading reader.new) }
+    ensures looked { LooksSome 2 (R.reading reader.old) result (R.reading reader.new) }
     ensures at_most { MatchResult result
         (λ n. LooksAtMost (2 * n) (R.reading reader.old) (R.reading reader.new))
         (λ _. LooksAtMost want (R.reading reader.old) (R.reading reader.new)) }
@@ -273,6 +274,7 @@ fn gather_some<R: Read>(reader: &mut R, payload: &mut Vec<u8>, want: u64) -> Rea
         Err(fault) => return Err(DecodeError::Read(fault)),
     }
     match append_front(payload, reader.shown(), want) {
+        Ok(0) => Ok(0),
         Ok(count) => {
             reader.advance(count);
             Ok(count)
@@ -291,7 +293,7 @@ fn gather<R: Read>(alloc: Global, name: &str, reader: &mut R, n: u64) -> ReadRes
         (R.reading reader.old) e (R.reading reader.new)) }
     ensures stays { IfErr result (λ _. KeepsSteps (R.reading reader.old) (R.reading reader.new)) }
     ensures variant { IfErr result (λ e. IsPayloadNamed name.now e) }
-    ensures looked { Looks 2 (R.reading reader.old) result (R.reading reader.new) }
+    ensures looked { LooksSome 2 (R.reading reader.old) result (R.reading reader.new) }
     ensures at_most { LooksAtMost (2 * n) (R.reading reader.old) (R.reading reader.new) }
 {
     let mut payload = Vec::new(alloc);
@@ -326,7 +328,7 @@ pub fn pull_payload<'de, R: Read>(
     ensures stays { IfErr result (λ _. KeepsSteps (input_reading R.reading input.old)
         (input_reading R.reading input.new)) }
     ensures variant { IfErr result (λ e. IsPayloadNamed name.now e) }
-    ensures looked { OverInput R.reading (Looks 2) input.old result input.new }
+    ensures looked { OverInput R.reading (LooksSome 2) input.old result input.new }
     ensures at_most { LooksAtMost (2 * n) (input_reading R.reading input.old)
         (input_reading R.reading input.new) }
 {
@@ -357,20 +359,25 @@ fn copy_some<R: Read, const CAP: usize>(
     payload: &mut ArrayVec<u8, CAP>,
     want: u64,
 ) -> Result<usize, R::Error>
-    requires { length payload.old.items + want ≤ CAP }
+    requires some { 0 < want }
+    requires room { length payload.old.items + want ≤ CAP }
     ensures gathered { MatchResult result
         (λ n. Gathers (R.reading reader.old) payload.old.items want n payload.new.items
         (R.reading reader.new))
         (λ _. Fails (R.reading reader.old) (R.reading reader.new)) }
-    ensures looked { Looks 2 (R.reading reader.old) result (R.reading reader.new) }
+    ensures looked { LooksSome 2 (R.reading reader.old) result (R.reading reader.new) }
     ensures at_most { MatchResult result
         (λ n. LooksAtMost (2 * n) (R.reading reader.old) (R.reading reader.new))
         (λ _. LooksAtMost 0 (R.reading reader.old) (R.reading reader.new)) }
 {
     reader.prepare(want as usize)?;
-    let count = copy_front(payload, reader.shown(), want);
-    reader.advance(count);
-    Ok(count)
+    match copy_front(payload, reader.shown(), want) {
+        0 => Ok(0),
+        count => {
+            reader.advance(count);
+            Ok(count)
+        }
+    }
 }
 
 /// The next n bytes, at most `CAP`, which are taken, with no memory.
@@ -387,7 +394,7 @@ pub fn pull_short_payload<R: Read, const CAP: usize>(
         (R.reading reader.old) e (R.reading reader.new)) }
     ensures stays { IfErr result (λ _. KeepsSteps (R.reading reader.old) (R.reading reader.new)) }
     ensures variant { IfErr result (λ e. IsEndNamed name.now e) }
-    ensures looked { Looks 2 (R.reading reader.old) result (R.reading reader.new) }
+    ensures looked { LooksSome 2 (R.reading reader.old) result (R.reading reader.new) }
     ensures at_most { LooksAtMost (2 * n) (R.reading reader.old) (R.reading reader.new) }
 {
     let mut payload = ArrayVec::new();

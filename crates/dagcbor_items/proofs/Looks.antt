@@ -6,9 +6,9 @@ use Rattle.dagcbor_heads.specs.Head.{head}
 use Rattle.dagcbor_heads.specs.Reading.{Reading, with_steps}
 use Rattle.dagcbor_heads.specs.Fronts.{ShowsByte, Takes, TakesHead}
 use Rattle.dagcbor_heads.specs.declared.error.DecodeError.{DecodeError}
-use Rattle.dagcbor_heads.specs.Looking.{Looks, LooksBehind, LooksOnce, LooksAtTaken, LooksAtLeft}
+use Rattle.dagcbor_heads.specs.Looking.{Looks, LooksSome, LooksBehind, LooksOnce, LooksAtTaken, LooksAtLeft}
 use Rattle.dagcbor_heads.proofs.Heads.{head_first}
-use Rattle.dagcbor_heads.proofs.Looking.{looks_both, looks_then}
+use Rattle.dagcbor_heads.proofs.Looking.{looks_both, looks_more, looks_then}
 use Rattle.ipld_tree.specs.Tree.{Tree}
 use Rattle.dagcbor_items.specs.Untyped.{StartsWithMajor}
 use Rattle.dagcbor_items.specs.TypedReads.{Reads, TakesFront}
@@ -21,12 +21,17 @@ pub taken_more : {times before : ℕ} {old new : Reading} (less : ℕ) → less 
 taken_more {times} {before} {old} {new} less few h = record {
   grows = h.grows;
   most = λ b l. let p = h.most b l in (p.0, p.1, p.2, p.3, omega (arith, p.4, mul-le-mul_right p.1 few));
+  none_shown = h.none_shown;
 }
 
 -- what a call looks at behind another one
 pub looks_behind : {T E : Type 0} {times before : ℕ} {old mid : Reading} (new : Reading) (r : Result T E) → LooksAtTaken times before old mid → Looks times mid r new → LooksBehind times before old r new
 looks_behind new (Ok v) h k = looks_both h k
 looks_behind new (Err e) h k = looks_then h k
+
+pub looks_behind_some : {T E : Type 0} {times before : ℕ} {old mid : Reading} (new : Reading) (r : Result T E) → LooksAtTaken times before old mid → LooksSome times mid r new → LooksBehind times before old r new
+looks_behind_some new (Ok v) h k = looks_more h k
+looks_behind_some new (Err e) h k = looks_then h k
 
 -- ---- where a byte stands, one more look was free
 
@@ -39,6 +44,7 @@ taken_first {times} {old} {new} h some = record {
       let q = some b l in
       let same : p.0 ≡ q.0 = cc (p.2, q.1) in
       (p.0, p.1, p.2, p.3, omega (arith, p.3, p.4, q.2, ap length same));
+  none_shown = h.none_shown;
 }
 
 left_first : {times : ℕ} {old new : Reading} → LooksAtLeft times 0 old new → ((b : List ℕ) → old.left ≡ Some b → 1 ≤ length b) → LooksAtLeft (times + 1) 1 old new
@@ -69,6 +75,7 @@ pub peeked_taken : {times byte : ℕ} {old mid new : Reading} → LooksOnce old 
 peeked_taken {times} {byte} {old} {mid} {new} o s h = record {
   grows = omega (arith, o.grows, h.grows);
   most = λ b l. let p = h.most b (s.kept b l) in (p.0, p.1, p.2, p.3, omega (arith, o.one, p.4));
+  none_shown = h.none_shown;
 }
 
 pub peeked_left : {times byte : ℕ} {old mid new : Reading} → LooksOnce old mid → ShowsByte old byte mid → LooksAtLeft times 1 mid new → LooksAtLeft times 0 old new
@@ -96,6 +103,7 @@ looks_stepped {times} {before} {k} {old} {stepped} {now} {new} j into h out = re
   most = λ b l.
       let p = h.most b (ap (λ (r : Reading). r.left) into ∙ l) in
       (p.0, p.1, ap (λ (r : Reading). r.left) out ∙ p.2, p.3, omega (arith, p.4, ap (λ (r : Reading). r.looked) into, ap (λ (r : Reading). r.looked) out));
+  none_shown = ap (λ (r : Reading). r.shown) out ∙ h.none_shown;
 }
 
 pub stepped_left : {times before : ℕ} {old stepped new : Reading} (j : ℕ) → stepped ≡ with_steps j old → LooksAtLeft times before stepped new → LooksAtLeft times before old new

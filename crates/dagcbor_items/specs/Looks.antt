@@ -1,17 +1,18 @@
 -- How many bytes an untyped read looks at.
-use Rattle.std.specs.Prelude.{◌≡◌, ℕ, ◌+◌, ◌*◌, ◌≤◌, List, length, Some, Result, MatchResult}
+use Rattle.std.specs.Prelude.{◌≡◌, ℕ, ◌+◌, ◌*◌, ◌≤◌, List, [], length, Some, Result, MatchResult}
 use Rattle.dagcbor_heads.specs.Reading.{Reading}
 use Rattle.dagcbor_heads.specs.Looking.{LooksAtLeft}
 use Rattle.ipld_tree.specs.Tree.{Tree}
 use Rattle.ipld_tree.specs.Spelling.{IsFront, spelling}
 
 -- a tree stood at the front, and was taken, and at most three times as many bytes were looked at as
--- its spelling has
+-- its spelling has; none is shown then: no byte behind it was asked for
 pub record LooksAtItem (old new : Reading) : Type 0 where
   pub grows : old.looked ≤ new.looked
   pub most : (b : List ℕ) → old.left ≡ Some b
       → (t : Tree) × (rest : List ℕ) × IsFront b t rest × (new.left ≡ Some rest)
       × (new.looked ≤ old.looked + 3 * length (spelling t))
+  pub none_shown : new.shown ≡ []
 
 -- An item is read with at most three looks for each byte of its spelling, and refused with at most
 -- three for each byte that was left.

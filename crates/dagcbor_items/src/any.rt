@@ -3,7 +3,7 @@
 ghost use Rattle.std.specs.Prelude.{◌≡◌, IfErr};
 ghost use Rattle.dagcbor_heads.specs.Inputs.{input_reading, OverInput};
 ghost use Rattle.dagcbor_heads.specs.Fronts.{StartsWith};
-ghost use Rattle.dagcbor_heads.specs.Looking.{Looks, LooksBehind};
+ghost use Rattle.dagcbor_heads.specs.Looking.{Looks, LooksSome, LooksBehind};
 ghost use Rattle.dagcbor_items.specs.Untyped.{ReadsItem, PutsItem, PutsEnteredItem};
 ghost use Rattle.dagcbor_items.specs.Untyped.{ReadsList, ReadsMap, StartsWithMajor};
 ghost use Rattle.dagcbor_items.specs.Items.{ReadsItems};
@@ -124,7 +124,7 @@ fn read_items<R: Read>(
     count: u64,
 ) -> ReadResult<Vec<Ipld>, R>
     ensures items { OverInput R.reading (ReadsItems count) input.old result input.new }
-    ensures looked { OverInput R.reading (Looks 3) input.old result input.new }
+    ensures looked { OverInput R.reading (LooksSome 3) input.old result input.new }
     ensures variant { IfErr result OfItem }
 {
     let mut items = Vec::new(alloc);
@@ -179,7 +179,7 @@ fn read_entries<R: Read>(
     count: u64,
 ) -> ReadResult<BTreeMap<String, Ipld>, R>
     ensures entries { OverInput R.reading (ReadsEntries count) input.old result input.new }
-    ensures looked { OverInput R.reading (Looks 3) input.old result input.new }
+    ensures looked { OverInput R.reading (LooksSome 3) input.old result input.new }
     ensures variant { IfErr result OfItem }
 {
     let mut entries = BTreeMap::new(alloc);

@@ -3,7 +3,7 @@
 
 ghost use Rattle.std.specs.Prelude.{◌≡◌, ◌≢◌, ◌≤◌, ◌/◌, IfErr};
 ghost use Rattle.dagcbor_heads.specs.Fronts.{StartsWith};
-ghost use Rattle.dagcbor_heads.specs.Looking.{Looks, LooksBehind};
+ghost use Rattle.dagcbor_heads.specs.Looking.{Looks, LooksSome, LooksBehind};
 ghost use Rattle.dagcbor_items.specs.Untyped.{SkipsItem, SkipsEnteredItem, StartsWithMajor};
 ghost use Rattle.dagcbor_items.specs.AnsweredVariants.{OfItem};
 ghost use Rattle.dagcbor_items.specs.Walks.{WalksItem, WalksEnteredItem, WalksItems, WalksEntries};
@@ -191,7 +191,7 @@ fn walk_items<I: PayloadReader, S: LinkSink>(
 ) -> ReadResult<(), I>
     ensures items { WalksItems S.sink count (I.reading input.old) links.old result
         (I.reading input.new) links.new }
-    ensures looked { Looks 3 (I.reading input.old) result (I.reading input.new) }
+    ensures looked { LooksSome 3 (I.reading input.old) result (I.reading input.new) }
     ensures variant { IfErr result OfItem }
 {
     for _index in 0..count {
@@ -228,7 +228,7 @@ fn walk_entries<I: PayloadReader, S: LinkSink>(
 ) -> ReadResult<(), I>
     ensures entries { WalksEntries S.sink count (I.reading input.old) links.old result
         (I.reading input.new) links.new }
-    ensures looked { Looks 3 (I.reading input.old) result (I.reading input.new) }
+    ensures looked { LooksSome 3 (I.reading input.old) result (I.reading input.new) }
     ensures variant { IfErr result OfItem }
 {
     let mut previous = None;

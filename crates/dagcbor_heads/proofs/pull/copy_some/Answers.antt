@@ -3,11 +3,11 @@ use Rattle.dagcbor_heads.proofs.Taking.{fill_gathers}
 use Rattle.dagcbor_heads.proofs.Looking.{gathered_looked, gathered_most}
 use Rattle.dagcbor_heads.proofs.pull.copy_some.Goals as goal
 
-pub returns : goal.returns
-returns g c =
-    let count = c.copy_front-count.ensures.count ∙ ap (λ s. min c.args.want (length s)) c.shown.ensures in
+pub returns-in_default : goal.returns-in_default
+returns-in_default g c =
+    let count = c.copy_front.ensures.count ∙ ap (λ s. min c.args.want (length s)) c.shown.ensures in
     let behind = fill_gathers c.in_ok-prepare.ensures count
-    (c.copy_front-count.ensures.grows ∙ ap (λ s. c.args.payload.now.items ++ take c.copy_front-count.result s) c.shown.ensures) c.advance.ensures in
+    (c.copy_front.ensures.grows ∙ ap (λ s. c.args.payload.now.items ++ take c.copy_front.result s) c.shown.ensures) c.advance.ensures in
     record {
       gathered = behind;
       looked = gathered_looked c.in_ok-prepare.ensures count c.advance.ensures behind;

@@ -1,6 +1,6 @@
 use Rattle.std.proofs.Common.{arith}
 use Rattle.dagcbor_heads.proofs.Arguments.{cut, one_byte_read, no_byte_read}
-use Rattle.dagcbor_heads.proofs.Looking.{looks_both, looks_then, once_left, nothing_looked}
+use Rattle.dagcbor_heads.proofs.Looking.{some_both, some_then, some_taken, once_left, nothing_looked}
 use Rattle.dagcbor_heads.proofs.pull.pull_argument.Goals as goal
 
 pub loop-i-init : goal.loop-i-init
@@ -12,14 +12,14 @@ returns-in-Ok-None-clause-taken g c =
     rw told.1 (cut g.row.R-Error.Denot told.0 c.loop-i-test.true c.loop-i.invariant.read (rw c.in-Ok-None.field-0-is at c.in-Ok-None.ensures.taken))
 
 pub returns-in-Ok-None-clause-looked : goal.returns-in-Ok-None-clause-looked
-returns-in-Ok-None-clause-looked g c = looks_then c.loop-i.invariant.looked (once_left (rw c.in-Ok-None.field-0-is at c.in-Ok-None.ensures.looked))
+returns-in-Ok-None-clause-looked g c = some_then c.loop-i.invariant.looked (once_left (rw c.in-Ok-None.field-0-is at c.in-Ok-None.ensures.looked))
 
 pub returns-in-Err-clause-looked : goal.returns-in-Err-clause-looked
-returns-in-Err-clause-looked g c = looks_then c.loop-i.invariant.looked (once_left c.in-Err.ensures.looked)
+returns-in-Err-clause-looked g c = some_then c.loop-i.invariant.looked (once_left c.in-Err.ensures.looked)
 
 pub loop-i-preserved : goal.loop-i-preserved
 loop-i-preserved g c = record {
   read = rw c.from.ensures (one_byte_read (rw c.in-Ok-Some.field-0-is at c.in-Ok-Some.ensures.is_byte) c.loop-i.invariant.read (rw c.in-Ok-Some.field-0-is at c.in-Ok-Some.ensures.taken));
-  looked = looks_both c.loop-i.invariant.looked (rw c.in-Ok-Some.field-0-is at c.in-Ok-Some.ensures.looked);
+  looked = some_both c.loop-i.invariant.looked (some_taken (rw c.in-Ok-Some.field-0-is at c.in-Ok-Some.ensures.looked));
   at_most = omega (arith, c.loop-i.invariant.at_most, c.in-Ok-Some.ensures.at_most);
 }

@@ -2,7 +2,7 @@ use Rattle.std.proofs.Common.{refl, arith, sym}
 use Rattle.dagcbor_heads.specs.declared.error.DecodeError.TheVariants.{Unsupported, IndefiniteSize}
 use Rattle.dagcbor_heads.proofs.HeadFaults.{first_refused, reserved_refused, argument_refused, too_long, small_found, wide_found}
 use Rattle.dagcbor_heads.proofs.Refusing.{as_refusal}
-use Rattle.dagcbor_heads.proofs.Looking.{looks_both}
+use Rattle.dagcbor_heads.proofs.Looking.{looks_more}
 use Rattle.dagcbor_heads.proofs.pull.pull_head.Goals as goal
 
 pub returns-in_err-first-clause-taken : goal.returns-in_err-first-clause-taken
@@ -37,4 +37,4 @@ returns-clause-taken g c =
     c.in_ok-first.ensures.taken c.in_ok-argument.ensures.taken.1
 
 pub returns-clause-looked : goal.returns-clause-looked
-returns-clause-looked g c = looks_both c.in_ok-first.ensures.looked c.in_ok-argument.ensures.looked
+returns-clause-looked g c = looks_more c.in_ok-first.ensures.looked c.in_ok-argument.ensures.looked

@@ -1,7 +1,7 @@
 use Rattle.std.proofs.Common.{arith, ap, refl, length-append}
 use Rattle.dagcbor_heads.specs.Causes.{PayloadCause}
 use Rattle.dagcbor_heads.proofs.Refusing.{as_refusal, unlent_refused}
-use Rattle.dagcbor_heads.proofs.Looking.{lent_looked}
+use Rattle.dagcbor_heads.proofs.Looking.{lent_looked, some_taken}
 use Rattle.dagcbor_heads.proofs.pull.pull_payload.Goals as goal
 
 pub returns-in_err-gather-in-Reader-clause-taken :
@@ -23,4 +23,4 @@ returns-in-None-clause-taken g c =
     )
 
 pub returns-in-Some-clause-looked : goal.returns-in-Some-clause-looked
-returns-in-Some-clause-looked g c = let lent = c.in-Some.ensures.lent in rw c.in-Slice.is (lent_looked lent.0 lent.1 lent.2)
+returns-in-Some-clause-looked g c = let lent = c.in-Some.ensures.lent in rw c.in-Slice.is (some_taken (lent_looked lent.0 lent.1 lent.2 c.in-Some.ensures.shown))

@@ -2,7 +2,7 @@ use Rattle.std.proofs.Common.{refl, sym, ap, arith, rules, ◌∙◌}
 use Rattle.std.specs.Prelude.{⊤}
 use Rattle.dagcbor_heads.proofs.Refusing.{as_refusal}
 use Rattle.dagcbor_heads.specs.Reading.{Reading}
-use Rattle.dagcbor_heads.proofs.Looking.{looks_both, looks_then, nothing_looked, same_looked}
+use Rattle.dagcbor_heads.proofs.Looking.{looks_more, looks_then, some_both, some_then, some_taken, nothing_looked, same_looked}
 use Rattle.dagcbor_items.proofs.Looks.{once_left_more, looks_behind_peek, stepped_left, looks_stepped}
 use Rattle.ipld_tree.specs.Tree.{ordered_entries}
 use Rattle.ipld_tree.specs.Ipld.{tree_of, pairs_of}
@@ -63,10 +63,10 @@ pub read_map-returns-in_err-entries-clause-looked : goal.read_map-returns-in_err
 read_map-returns-in_err-entries-clause-looked g t c = as_refusal _ _ _ _ c.from_residual-in_err-entries.ensures.1 (looks_then c.in_ok-count.ensures.looked c.in_err-entries.ensures.looked)
 
 pub read_list-returns-clause-looked : goal.read_list-returns-clause-looked
-read_list-returns-clause-looked g t c = looks_stepped _ refl (looks_both c.in_ok-count.ensures.looked c.in_ok-items.ensures.looked) c.step_out.ensures
+read_list-returns-clause-looked g t c = looks_stepped _ refl (looks_more c.in_ok-count.ensures.looked c.in_ok-items.ensures.looked) c.step_out.ensures
 
 pub read_map-returns-clause-looked : goal.read_map-returns-clause-looked
-read_map-returns-clause-looked g t c = looks_stepped _ refl (looks_both c.in_ok-count.ensures.looked c.in_ok-entries.ensures.looked) c.step_out.ensures
+read_map-returns-clause-looked g t c = looks_stepped _ refl (looks_more c.in_ok-count.ensures.looked c.in_ok-entries.ensures.looked) c.step_out.ensures
 
 pub read_items-returns-in_err-read_into-clause-items : goal.read_items-returns-in_err-read_into-clause-items
 read_items-returns-in_err-read_into-clause-items g t c =
@@ -75,14 +75,14 @@ read_items-returns-in_err-read_into-clause-items g t c =
 pub read_items-loop-index-preserved : goal.read_items-loop-index-preserved
 read_items-loop-index-preserved g t c = record {
   read = one_item_read _ _ (map_placed tree_of c.push.result _ _ _ _ _ c.if-is_err-2.ensures.value (rw c.take_first_room.ensures at c.push.ensures.items) (omega (arith, c.len-last.ensures))) (omega arith) c.loop-index.invariant.read c.in_ok-read_into.ensures.item;
-  looked = looks_both c.loop-index.invariant.looked c.in_ok-read_into.ensures.looked;
+  looked = some_both c.loop-index.invariant.looked (some_taken c.in_ok-read_into.ensures.looked);
 }
 
 pub read_items-loop-index-init : goal.read_items-loop-index-init
 read_items-loop-index-init g t c = record { read = search rules; looked = nothing_looked _ }
 
 pub read_items-returns-in_err-read_into-clause-looked : goal.read_items-returns-in_err-read_into-clause-looked
-read_items-returns-in_err-read_into-clause-looked g t c = as_refusal _ _ _ _ c.from_residual.ensures.1 (looks_then c.loop-index.invariant.looked c.in_err-read_into.ensures.looked)
+read_items-returns-in_err-read_into-clause-looked g t c = as_refusal _ _ _ _ c.from_residual.ensures.1 (some_then c.loop-index.invariant.looked c.in_err-read_into.ensures.looked)
 
 pub read_entries-loop-index-init : goal.read_entries-loop-index-init
 read_entries-loop-index-init g t c = record {
@@ -91,11 +91,11 @@ read_entries-loop-index-init g t c = record {
 }
 
 pub read_entries-returns-in_err-key-clause-looked : goal.read_entries-returns-in_err-key-clause-looked
-read_entries-returns-in_err-key-clause-looked g t c = as_refusal _ _ _ _ c.from_residual.ensures.1 (looks_then c.loop-index.invariant.looked c.in_err-key.ensures.looked)
+read_entries-returns-in_err-key-clause-looked g t c = as_refusal _ _ _ _ c.from_residual.ensures.1 (some_then c.loop-index.invariant.looked c.in_err-key.ensures.looked)
 
 pub read_entries-returns-in_err-read_into-clause-looked : goal.read_entries-returns-in_err-read_into-clause-looked
 read_entries-returns-in_err-read_into-clause-looked g t c =
-    as_refusal _ _ _ _ c.from_residual-in_err-read_into.ensures.1 (looks_then (looks_both c.loop-index.invariant.looked c.in_ok-key.ensures.looked) c.in_err-read_into.ensures.looked)
+    as_refusal _ _ _ _ c.from_residual-in_err-read_into.ensures.1 (some_then (some_both c.loop-index.invariant.looked (some_taken c.in_ok-key.ensures.looked)) c.in_err-read_into.ensures.looked)
 
 pub read_entries-returns-in_err-key-clause-entries : goal.read_entries-returns-in_err-key-clause-entries
 read_entries-returns-in_err-key-clause-entries g t c =
@@ -114,7 +114,7 @@ read_entries-loop-index-preserved g t c =
     let pushed = ordered_push _ _ _ _ put c.insert.ensures.was_ordered c.insert.ensures.ordered (follows_as _ _ _ (sym same) behind) in
     record {
       read = maps.one_entry_read _ _ _ _ (pushed_as _ _ _ _ _ same pushed) refl (omega arith) c.loop-index.invariant.read follows (text_taken _ c.in_ok-key.ensures.key.1) c.in_ok-read_into.ensures.item;
-      looked = looks_both (looks_both c.loop-index.invariant.looked c.in_ok-key.ensures.looked) c.in_ok-read_into.ensures.looked;
+      looked = some_both (some_both c.loop-index.invariant.looked (some_taken c.in_ok-key.ensures.looked)) (some_taken c.in_ok-read_into.ensures.looked);
     }
 
 pub read_into-returns-in_err-spend_step-clause-looked : goal.read_into-returns-in_err-spend_step-clause-looked

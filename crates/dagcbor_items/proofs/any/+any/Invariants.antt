@@ -2,7 +2,7 @@ use Rattle.std.proofs.Common.{◌+◌, ◌-◌, ◌*◌}
 use Rattle.std.specs.Prelude.{option_map}
 use Rattle.std.specs.Cow.{cow_str_bytes}
 use Rattle.dagcbor_heads.specs.Inputs.{input_reading}
-use Rattle.dagcbor_heads.specs.Looking.{LooksAtTaken}
+use Rattle.dagcbor_heads.specs.Looking.{LooksAtSome}
 use Rattle.ipld_tree.specs.Tree.{ordered_entries}
 use Rattle.ipld_tree.specs.Ipld.{trees_of, pairs_of}
 use Rattle.dagcbor_items.proofs.Lists.{ReadSome}
@@ -27,7 +27,7 @@ decreases-read_items g l = 5 * (input_reading g.R.Read.reading l.input.now).step
 abbrev pub invariant-read_items-loop-index : goal.invariant-read_items-loop-index
 invariant-read_items-loop-index g l = record {
   read : ReadSome l.count (l.count - l._index) (input_reading g.R.Read.reading l.fn.input) (trees_of l.items.items) (input_reading g.R.Read.reading l.input);
-  looked : LooksAtTaken 3 0 (input_reading g.R.Read.reading l.fn.input) (input_reading g.R.Read.reading l.input);
+  looked : LooksAtSome 3 (input_reading g.R.Read.reading l.fn.input) (input_reading g.R.Read.reading l.input);
 }
 
 abbrev pub decreases-read_map : goal.decreases-read_map
@@ -39,5 +39,5 @@ decreases-read_entries g l = 5 * (input_reading g.R.Read.reading l.input.now).st
 abbrev pub invariant-read_entries-loop-index : goal.invariant-read_entries-loop-index
 invariant-read_entries-loop-index g l = record {
   read : ReadEntries l.count (l.count - l._index) (input_reading g.R.Read.reading l.fn.input) (ordered_entries (pairs_of l.entries.entries)) (option_map cow_str_bytes l.previous) (input_reading g.R.Read.reading l.input);
-  looked : LooksAtTaken 3 0 (input_reading g.R.Read.reading l.fn.input) (input_reading g.R.Read.reading l.input);
+  looked : LooksAtSome 3 (input_reading g.R.Read.reading l.fn.input) (input_reading g.R.Read.reading l.input);
 }

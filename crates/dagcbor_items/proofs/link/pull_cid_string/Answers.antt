@@ -2,7 +2,7 @@ use Rattle.std.specs.Prelude.{None, Some}
 use Rattle.dagcbor_heads.proofs.Refusing.{as_refusal}
 use Rattle.dagcbor_items.proofs.Fronts.{head_of}
 use Rattle.dagcbor_items.proofs.Links.{cid_head_refused, link_too_long, cid_payload_refused, cid_taken, no_cid, found_in}
-use Rattle.dagcbor_heads.proofs.Looking.{looks_both}
+use Rattle.dagcbor_heads.proofs.Looking.{looks_more}
 use Rattle.dagcbor_items.proofs.link.pull_cid_string.Goals as goal
 
 pub returns-in_err-count-clause-cid : goal.returns-in_err-count-clause-cid
@@ -26,4 +26,4 @@ returns-in-None-clause-cid g c =
     no_cid _ _ c.custom-in-None.ensures (head_of 2 c.requires c.in_ok-count.ensures.taken.2) took.0 took.1 (found_in _ _ None c.deref.ensures.0 c.in-None.ensures)
 
 pub returns-in-Some-clause-looked : goal.returns-in-Some-clause-looked
-returns-in-Some-clause-looked g c = looks_both c.in_ok-count.ensures.looked c.in_ok-payload.ensures.looked
+returns-in-Some-clause-looked g c = looks_more c.in_ok-count.ensures.looked c.in_ok-payload.ensures.looked

@@ -15,4 +15,4 @@ returns-clause-taken g c =
 pub returns-clause-looked : goal.returns-clause-looked
 returns-clause-looked g c =
     let lent = c.in_ok-_link.ensures.lent in
-    lent_looked lent.0 lent.1 lent.2
+    lent_looked lent.0 lent.1 lent.2 c.in_ok-_link.ensures.shown

@@ -23,4 +23,4 @@ returns-in-None-clause-string c =
     ))
 
 pub returns-in-Some-clause-looked : goal.returns-in-Some-clause-looked
-returns-in-Some-clause-looked c = let lent = c.in-Some.ensures.lent in looks_both c.in_ok-count.ensures.looked (lent_looked lent.0 lent.1 lent.2)
+returns-in-Some-clause-looked c = let lent = c.in-Some.ensures.lent in looks_both c.in_ok-count.ensures.looked (lent_looked lent.0 lent.1 lent.2 c.in-Some.ensures.shown)

@@ -1,7 +1,7 @@
 use Rattle.dagcbor_heads.proofs.Refusing.{as_refusal}
 use Rattle.dagcbor_items.proofs.HeadMajors.{head_kind}
 use Rattle.dagcbor_items.proofs.StringReads.{string_read, string_head_refused}
-use Rattle.dagcbor_items.proofs.Looks.{looks_behind}
+use Rattle.dagcbor_items.proofs.Looks.{looks_behind_some}
 use Rattle.dagcbor_items.proofs.strings.pull_peeked_string.Goals as goal
 
 pub returns-in_err-count-clause-string : goal.returns-in_err-count-clause-string
@@ -12,4 +12,4 @@ pub returns-clause-string : goal.returns-clause-string
 returns-clause-string g c = string_read _ c.args.kind _ _ (head_kind c.requires.starts c.in_ok-count.ensures.taken) c.pull_payload.ensures.variant c.pull_payload.ensures.taken
 
 pub returns-clause-looked : goal.returns-clause-looked
-returns-clause-looked g c = looks_behind _ _ c.in_ok-count.ensures.looked c.pull_payload.ensures.looked
+returns-clause-looked g c = looks_behind_some _ _ c.in_ok-count.ensures.looked c.pull_payload.ensures.looked

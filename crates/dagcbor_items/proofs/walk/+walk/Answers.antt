@@ -2,7 +2,7 @@ use Rattle.std.proofs.Common.{inl, refl, sym, ◌∙◌, ap, [], ◌∷◌, ◌+
 use Rattle.dagcbor_items.specs.Walks.{WalkLacks}
 use Rattle.dagcbor_heads.proofs.Refusing.{as_refusal}
 use Rattle.dagcbor_heads.specs.Reading.{Reading}
-use Rattle.dagcbor_heads.proofs.Looking.{looks_both, looks_then, nothing_looked, same_looked}
+use Rattle.dagcbor_heads.proofs.Looking.{looks_more, looks_then, some_both, some_then, some_taken, nothing_looked, same_looked}
 use Rattle.dagcbor_items.proofs.Looks.{once_left_more, looks_behind_peek, stepped_left, looks_stepped}
 use Rattle.ipld_tree.specs.Tree.{no_entries}
 use Rattle.dagcbor_items.proofs.Fronts.{byte_refused}
@@ -77,16 +77,16 @@ pub walk_map-returns-in_err-walk_entries-clause-looked : goal.walk_map-returns-i
 walk_map-returns-in_err-walk_entries-clause-looked g t c = as_refusal _ _ _ _ c.from_residual-in_err-walk_entries.ensures.1 (looks_then c.in_ok-count.ensures.looked c.in_err-walk_entries.ensures.looked)
 
 pub walk_list-returns-clause-looked : goal.walk_list-returns-clause-looked
-walk_list-returns-clause-looked g t c = looks_stepped _ refl (looks_both c.in_ok-count.ensures.looked c.in_ok-walk_items.ensures.looked) c.step_out.ensures
+walk_list-returns-clause-looked g t c = looks_stepped _ refl (looks_more c.in_ok-count.ensures.looked c.in_ok-walk_items.ensures.looked) c.step_out.ensures
 
 pub walk_map-returns-clause-looked : goal.walk_map-returns-clause-looked
-walk_map-returns-clause-looked g t c = looks_stepped _ refl (looks_both c.in_ok-count.ensures.looked c.in_ok-walk_entries.ensures.looked) c.step_out.ensures
+walk_map-returns-clause-looked g t c = looks_stepped _ refl (looks_more c.in_ok-count.ensures.looked c.in_ok-walk_entries.ensures.looked) c.step_out.ensures
 
 pub walk_items-loop-index-init : goal.walk_items-loop-index-init
 walk_items-loop-index-init g t c = record { read = ([], no_item_read _ _ _ [] (omega arith) refl, found_none g.S.LinkSink.sink c.args.links.now); looked = nothing_looked _ }
 
 pub walk_items-returns-in_err-walk_any-clause-looked : goal.walk_items-returns-in_err-walk_any-clause-looked
-walk_items-returns-in_err-walk_any-clause-looked g t c = as_refusal _ _ _ _ c.from_residual.ensures.1 (looks_then c.loop-index.invariant.looked c.in_err-walk_any.ensures.looked)
+walk_items-returns-in_err-walk_any-clause-looked g t c = as_refusal _ _ _ _ c.from_residual.ensures.1 (some_then c.loop-index.invariant.looked c.in_err-walk_any.ensures.looked)
 
 pub walk_items-returns-in_err-walk_any-clause-items : goal.walk_items-returns-in_err-walk_any-clause-items
 walk_items-returns-in_err-walk_any-clause-items g t c =
@@ -97,7 +97,7 @@ pub walk_items-loop-index-preserved : goal.walk_items-loop-index-preserved
 walk_items-loop-index-preserved g t c =
     let s = c.loop-index.invariant.read in
     let k = c.in_ok-walk_any.ensures.item in
-    record { read = (s.0 ++ k.0 ∷ [], one_item_read s.0 (s.0 ++ k.0 ∷ []) refl (omega arith) s.1 k.1, item_found g.S.LinkSink.sink s.0 k.0 c.args.links.now c.loop-index.links c.walk_any.new.links s.2 k.2); looked = looks_both c.loop-index.invariant.looked c.in_ok-walk_any.ensures.looked }
+    record { read = (s.0 ++ k.0 ∷ [], one_item_read s.0 (s.0 ++ k.0 ∷ []) refl (omega arith) s.1 k.1, item_found g.S.LinkSink.sink s.0 k.0 c.args.links.now c.loop-index.links c.walk_any.new.links s.2 k.2); looked = some_both c.loop-index.invariant.looked (some_taken c.in_ok-walk_any.ensures.looked) }
 
 pub walk_items-returns-clause-items : goal.walk_items-returns-clause-items
 walk_items-returns-clause-items g t c = let s = c.loop-index.invariant.read in let k = all_items_read s.0 (omega arith) s.1 in (s.0, k.0, k.1, s.2)
@@ -106,11 +106,11 @@ pub walk_entries-loop-index-init : goal.walk_entries-loop-index-init
 walk_entries-loop-index-init g t c = record { read = (no_entries, maps.no_entry_read _ _ _ no_entries _ (omega arith) refl refl, found_none g.S.LinkSink.sink c.args.links.now); looked = nothing_looked _ }
 
 pub walk_entries-returns-in_err-key-clause-looked : goal.walk_entries-returns-in_err-key-clause-looked
-walk_entries-returns-in_err-key-clause-looked g t c = as_refusal _ _ _ _ c.from_residual.ensures.1 (looks_then c.loop-index.invariant.looked c.in_err-key.ensures.looked)
+walk_entries-returns-in_err-key-clause-looked g t c = as_refusal _ _ _ _ c.from_residual.ensures.1 (some_then c.loop-index.invariant.looked c.in_err-key.ensures.looked)
 
 pub walk_entries-returns-in_err-walk_any-clause-looked : goal.walk_entries-returns-in_err-walk_any-clause-looked
 walk_entries-returns-in_err-walk_any-clause-looked g t c =
-    as_refusal _ _ _ _ c.from_residual-in_err-walk_any.ensures.1 (looks_then (looks_both c.loop-index.invariant.looked c.in_ok-key.ensures.looked) c.in_err-walk_any.ensures.looked)
+    as_refusal _ _ _ _ c.from_residual-in_err-walk_any.ensures.1 (some_then (some_both c.loop-index.invariant.looked (some_taken c.in_ok-key.ensures.looked)) c.in_err-walk_any.ensures.looked)
 
 pub walk_entries-returns-in_err-key-clause-entries : goal.walk_entries-returns-in_err-key-clause-entries
 walk_entries-returns-in_err-key-clause-entries g t c =
@@ -130,7 +130,7 @@ walk_entries-loop-index-preserved g t c =
     let value = c.in_ok-walk_any.ensures.item in
     record {
       read = (_, maps.one_entry_read s.0 _ _ _ refl refl (omega arith) s.1 key.0 (text_taken _ key.1) value.1, entry_found g.S.LinkSink.sink s.0 _ value.0 c.args.links.now c.loop-index.links c.walk_any.new.links s.2 value.2);
-      looked = looks_both (looks_both c.loop-index.invariant.looked c.in_ok-key.ensures.looked) c.in_ok-walk_any.ensures.looked;
+      looked = some_both (some_both c.loop-index.invariant.looked (some_taken c.in_ok-key.ensures.looked)) (some_taken c.in_ok-walk_any.ensures.looked);
     }
 
 pub walk_entries-returns-clause-entries : goal.walk_entries-returns-clause-entries

@@ -1,6 +1,6 @@
 use Rattle.std.proofs.Common.{◌+◌, ◌-◌, ◌*◌, List}
 use Rattle.std.specs.Prelude.{option_map}
-use Rattle.dagcbor_heads.specs.Looking.{LooksAtTaken}
+use Rattle.dagcbor_heads.specs.Looking.{LooksAtSome}
 use Rattle.ipld_tree.specs.Tree.{Tree, Entries, items_of, items_links, entries_links}
 use Rattle.dagcbor_items.specs.Walks.{Finds}
 use Rattle.dagcbor_items.proofs.Lists.{ReadSome}
@@ -25,7 +25,7 @@ decreases-walk_items g l = 5 * (g.I.Read.reading l.input.now).steps + 1
 abbrev pub invariant-walk_items-loop-index : goal.invariant-walk_items-loop-index
 invariant-walk_items-loop-index g l = record {
   read : (ts : List Tree) × ReadSome l.count (l.count - l._index) (g.I.Read.reading l.fn.input) ts (g.I.Read.reading l.input) × Finds g.S.LinkSink.sink.holds l.fn.links (items_links (items_of ts)) l.links;
-  looked : LooksAtTaken 3 0 (g.I.Read.reading l.fn.input) (g.I.Read.reading l.input);
+  looked : LooksAtSome 3 (g.I.Read.reading l.fn.input) (g.I.Read.reading l.input);
 }
 
 abbrev pub decreases-walk_map : goal.decreases-walk_map
@@ -37,5 +37,5 @@ decreases-walk_entries g l = 5 * (g.I.Read.reading l.input.now).steps + 1
 abbrev pub invariant-walk_entries-loop-index : goal.invariant-walk_entries-loop-index
 invariant-walk_entries-loop-index g l = record {
   read : (es : Entries) × ReadEntries l.count (l.count - l._index) (g.I.Read.reading l.fn.input) es (option_map g.I.PayloadReader.key_bytes l.previous) (g.I.Read.reading l.input) × Finds g.S.LinkSink.sink.holds l.fn.links (entries_links es) l.links;
-  looked : LooksAtTaken 3 0 (g.I.Read.reading l.fn.input) (g.I.Read.reading l.input);
+  looked : LooksAtSome 3 (g.I.Read.reading l.fn.input) (g.I.Read.reading l.input);
 }

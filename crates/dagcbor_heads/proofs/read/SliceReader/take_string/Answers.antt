@@ -16,4 +16,4 @@ returns-clause-looked c =
     let front = head c.in_ok-_major._major c.in_ok-_major.count in
     let taken = front ++ c.split_at.result.0.now in
     let whole = slice_payload front c.in_ok-_major.behind.now c.in_ok-_major.count c.in_ok-_major.ensures.2 c.split_at.ensures.front c.split_at.ensures.back in
-    slice_looked taken (search rules) refl whole (omega (arith, c.add.ensures, ap length whole, length-append taken c.split_at.result.1.now, ap (λ r. r.looked) c.self.view_is))
+    slice_looked taken (search rules) refl whole (omega (arith, c.add.ensures, ap length whole, length-append taken c.split_at.result.1.now, ap (λ r. r.looked) c.self.view_is)) refl

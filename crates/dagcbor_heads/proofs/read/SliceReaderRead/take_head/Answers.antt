@@ -10,7 +10,7 @@ pub returns-clause-looked : goal.returns-clause-looked
 returns-clause-looked c =
     let h = c.in_ok-major.ensures in
     let front = head c.in_ok-major.major c.in_ok-major.argument in
-    slice_looked front (search rules) refl h.2 (omega (arith, c.add.ensures, ap length h.2, length-append front c.in_ok-major.rest.now, ap (λ r. r.looked) c.self.view_is))
+    slice_looked front (search rules) refl h.2 (omega (arith, c.add.ensures, ap length h.2, length-append front c.in_ok-major.rest.now, ap (λ r. r.looked) c.self.view_is)) refl
 
 pub returns-clause-at_most : goal.returns-clause-at_most
 returns-clause-at_most c =

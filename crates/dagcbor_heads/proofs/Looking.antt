@@ -1,5 +1,5 @@
 -- How many bytes were looked at.
-use Rattle.std.proofs.Common.{◌≡◌, ℕ, ◌+◌, ◌*◌, ◌≤◌, min, List, [], ◌∷◌, ◌++◌, length, ap, arith, length-append}
+use Rattle.std.proofs.Common.{◌≡◌, ℕ, ◌<◌, ◌+◌, ◌*◌, ◌≤◌, min, List, [], ◌∷◌, ◌++◌, length, ap, arith, length-append}
 use Rattle.std.proofs.Math.Nat.{mul-le-mul_left}
 use Rattle.std.specs.Prelude.{Some}
 use Rattle.dagcbor_heads.specs.Reading.{Reading, Shows, Fails, Advances}
@@ -31,16 +31,16 @@ pub byte_looked : {old mid new : Reading} {byte : ℕ} → LooksOnce old mid →
 byte_looked {old} {mid} {new} o a t = record {
   grows = omega (arith, o.grows, a.looked);
   most = λ b l. let k = t.taken b l in (k.0, 1, k.2, omega (arith, ap length k.1), omega (arith, o.one, a.looked));
-  none_shown = a.none_shown;
+  none_shown = a.none_shown (omega arith);
 }
 
-pub gathered_looked : {old mid new : Reading} {want n : ℕ} {before after : List ℕ} → Shows old want mid → n ≡ min want (length mid.shown) → Advances mid n new → Gathers old before want n after new → LooksAtSome 2 old new
-gathered_looked {old} {mid} {new} {want} {n} h is a g = record {
+pub gathered_looked : {old mid new : Reading} {want n : ℕ} {before after : List ℕ} → Shows old want mid → n ≡ min want (length mid.shown) → 0 < n → Advances mid n new → Gathers old before want n after new → LooksAtSome 2 old new
+gathered_looked {old} {mid} {new} {want} {n} h is some a g = record {
   grows = omega (arith, h.looked, a.looked);
   most = λ b l.
       let k = g.takes.taken b l in
       (k.0, n, k.2, omega (arith, ap length k.1, length-append g.bytes k.0, g.counted), omega (arith, h.looked, is, a.looked));
-  none_shown = λ e. a.none_shown;
+  none_shown = λ e. a.none_shown some;
 }
 
 pub gathered_most : {old mid new : Reading} {want n : ℕ} → Shows old want mid → n ≡ min want (length mid.shown) → Advances mid n new → LooksAtMost (2 * n) old new

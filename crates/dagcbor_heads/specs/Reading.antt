@@ -100,10 +100,11 @@ pub record Fails (old new : Reading) : Type 0 where
   pub faults : new.faults ≡ old.faults + 1
   pub through : new.through ≡ old.through
 
--- n of the bytes shown were taken, and none counts as shown any more
+-- n of the bytes shown were taken, and none counts as shown any more; of what is shown where n is 0
+-- nothing is said
 pub record Advances (old : Reading) (n : ℕ) (new : Reading) : Type 0 where
   pub dropped : Drops old n new
-  pub none_shown : new.shown ≡ []
+  pub none_shown : 0 < n → new.shown ≡ []
   pub looked : new.looked ≡ old.looked + n
   pub same : Stays old new
 

@@ -43,10 +43,9 @@ pub trait Read: Drop {
     fn shown(&self) -> &[u8]
         ensures { result.now ≡ (reading self.now).shown };
 
-    /// Takes n of the bytes shown, and one at least. Nothing counts as shown then.
+    /// Takes n of the bytes shown. Nothing counts as shown then; where n is 0 no contract says so.
     fn advance(&mut self, n: usize)
-        requires some { 0 < n }
-        requires shown { n ≤ length (reading self.old).shown }
+        requires { n ≤ length (reading self.old).shown }
         ensures { Advances (reading self.old) n (reading self.new) };
 
     /// Spends a step, and answers false where none is left.

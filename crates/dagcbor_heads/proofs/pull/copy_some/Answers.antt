@@ -1,4 +1,4 @@
-use Rattle.std.proofs.Common.{ap, ◌∙◌, ◌++◌, take, length, min}
+use Rattle.std.proofs.Common.{ap, ◌∙◌, ◌++◌, take, length, min, arith}
 use Rattle.dagcbor_heads.proofs.Taking.{fill_gathers}
 use Rattle.dagcbor_heads.proofs.Looking.{gathered_looked, gathered_most}
 use Rattle.dagcbor_heads.proofs.pull.copy_some.Goals as goal
@@ -10,6 +10,6 @@ returns-in_default g c =
     (c.copy_front.ensures.grows ∙ ap (λ s. c.args.payload.now.items ++ take c.copy_front.result s) c.shown.ensures) c.advance.ensures in
     record {
       gathered = behind;
-      looked = gathered_looked c.in_ok-prepare.ensures count c.advance.ensures behind;
+      looked = gathered_looked c.in_ok-prepare.ensures count (omega arith) c.advance.ensures behind;
       at_most = gathered_most c.in_ok-prepare.ensures count c.advance.ensures;
     }

@@ -1,4 +1,4 @@
-use Rattle.std.proofs.Common.{ap, ◌∙◌, ◌++◌, take, length, min}
+use Rattle.std.proofs.Common.{ap, ◌∙◌, ◌++◌, take, length, min, arith}
 use Rattle.dagcbor_heads.proofs.Taking.{fill_gathers}
 use Rattle.dagcbor_heads.proofs.Looking.{gathered_looked, gathered_most}
 use Rattle.dagcbor_heads.proofs.pull.gather_some.Goals as goal
@@ -12,6 +12,6 @@ returns-in-Ok-append_front g c =
       gathered = behind;
       stays = tt;
       variant = tt;
-      looked = gathered_looked c.in-Ok.ensures count c.advance.ensures behind;
+      looked = gathered_looked c.in-Ok.ensures count (omega arith) c.advance.ensures behind;
       at_most = gathered_most c.in-Ok.ensures count c.advance.ensures;
     }

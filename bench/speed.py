@@ -1,12 +1,12 @@
 #!/usr/bin/env python3
 """Speed, beside a Rust program over serde_cbor: the library's calls on small blocks, the program on 20 MB of lines, and the heap;
-and files of blocks, beside SHA-256 alone.
+files of blocks, beside SHA-256 alone; and a block as DAG-JSON, beside Python.
 
-    bench/speed.py [RUNS] [cars] [page]
+    bench/speed.py [RUNS] [cars] [shown] [page]
 
 Builds what is not built, makes its data with a fixed seed, runs ours and the peer in turn, and prints tables of processor time, the
-least of so many runs (7 where none is given), and of the heap that a tree takes. With `cars` it measures files of blocks alone. With
-`page` the tables are put into docs/SPEED.md too.
+least of so many runs (7 where none is given), and of the heap that a tree takes. With `cars` it measures files of blocks alone, with
+`shown` DAG-JSON. With `page` the tables are put into docs/SPEED.md too.
 The peer is built where cargo and Debian's sources of serde_cbor and serde_derive are on the machine, and the one in Go where Go and
 Debian's sources of fxamacker/cbor are; else their columns are left out. Nothing here is a test."""
 
@@ -18,6 +18,7 @@ import sys
 import tempfile
 
 import cars
+import shown
 from blocks import listed
 from measuring import ROOT, built, called, heap_counter, into_page, machine, processor_seconds
 
@@ -49,6 +50,7 @@ directory = "{SOURCES}"
 """
 LINES = 20_000_000
 BEGIN, END = "<!-- made by bench/speed.py page -->\n", "<!-- so far -->\n"
+SHOWN_BEGIN, SHOWN_END = "<!-- made by bench/speed.py shown page -->\n", "<!-- so far, of DAG-JSON -->\n"
 CARS_BEGIN, CARS_END = "<!-- made by bench/speed.py cars page -->\n", "<!-- so far, of files of blocks -->\n"
 
 told = []
@@ -241,21 +243,25 @@ def heap(folder, scratch):
         tell(f"| `{item.hex(' ')}` | {' | '.join(factors)} |" if len(item) < 4 else f"| the record | {' | '.join(factors)} |")
 
 
-def of_cars(runs, words):
-    """Files of blocks, and a section of the page for them."""
+def part(measure, marks, runs, words):
+    """What is measured in a folder of its own, and its section of the page."""
     told.clear()
     tell(f"Measured {machine()}, the least of {runs} runs.")
     with tempfile.TemporaryDirectory(prefix="speed-") as scratch:
-        cars.measure(tell, runs, scratch)
+        measure(tell, runs, scratch)
     if "page" in words:
-        into_page(CARS_BEGIN, told, CARS_END)
+        into_page(marks[0], told, marks[1])
 
 
 def main(words):
     runs = next((int(word) for word in words if word.isdigit()), 7)
-    if "cars" not in words:
+    alone = {"cars", "shown"}.intersection(words)
+    if not alone:
         of_blocks(runs, words)
-    of_cars(runs, words)
+    if not alone or "cars" in alone:
+        part(cars.measure, (CARS_BEGIN, CARS_END), runs, words)
+    if not alone or "shown" in alone:
+        part(shown.measure, (SHOWN_BEGIN, SHOWN_END), runs, words)
 
 
 def of_blocks(runs, words):

@@ -145,8 +145,8 @@ impl<'de> Accessor<'de> {
             (λ o. IfSome o (λ k. IsBorrowedStr k
             ↔ ((de_state R.reading de.old).input.lends ≡ true))) }
         ensures variant { IfErr result OfKey }
-        ensures looked { Looks 3 (de_state R.reading de.old).input result
-            (de_state R.reading de.new).input }
+        ensures looked { 0 < (accessor_state self.old).left
+            → Looks 3 (de_state R.reading de.old).input result (de_state R.reading de.new).input }
     {
         if self.left == 0 {
             de.check()?;

@@ -20,7 +20,7 @@ from schemas.parsing import (
     Unit,
 )
 
-MOST_PARTS = 4  # of a tuple
+MOST_FIELDS = 14  # of a struct
 KINDS = {"bool": ("Bool",), "int": ("Int",), "string": ("String",), "bytes": ("Bytes",), "link": ("Link",)}
 
 # What a link may lead to, beside the types of the schema.
@@ -32,13 +32,13 @@ TAKEN = set(
     Box Clone Copy Debug Default Drop Eq Err From Hash Into Iterator Model Never None Ok Option Ord PartialEq PartialOrd Result Self
     Send Some Sync Vec BTreeMap Cid Ipld Global Closed DecodeError Deserialize DeserializeOwned Deserializer EnumAccessor Field
     Kinded Numbered Omissible Optional Read ReadResult Required Serialize Serializer Shown Variants Write WriteResult
-    EnumShape Lib Prim Shape Syntax TheOwn TheVariants Tree Type""".split()
+    EnumShape Lib Made Numbered OptionalPart Part Parts PartRow Prim R Shape Syntax TheOwn TheVariants Tree Type W""".split()
 )
 TAKEN_VARIANTS = {"Below", "Self", "Denot"}
 RESERVED = set(
     """as async await break const continue crate deriving dyn else enum ensures extern false fn for ghost if impl in let loop match
     mod move mut pub ref requires result return row self static struct super trait true try type unsafe use where while yield alloc
-    de ser names""".split()
+    de ser names ground assumption""".split()
 )
 
 
@@ -159,6 +159,8 @@ class Schema:
             if field.implicit is not None:
                 raise SchemaError(field.implicit.place, "`implicit` is not supported yet")
             self.check_known(field.type)
+            if not re.fullmatch(r"[A-Za-z][A-Za-z0-9_]*", field.name):
+                raise SchemaError(field.place, f'a field\'s name begins with a letter here: `x T (rename "{field.name}")`')
             once(names, field_name(field.name), field.place, "two fields have the name")
             check_key(field.key, field.place)
             once(keys, field.key, field.place, "two fields have the key")
@@ -169,12 +171,11 @@ class Schema:
 
     @staticmethod
     def check_tuple(struct):
-        count = len(struct.fields)
-        if not 1 <= count <= MOST_PARTS:
-            raise SchemaError(struct.place, f"a tuple has one to {MOST_PARTS} fields here, and `{struct.name}` has {count}")
+        absent = None
         for field in struct.fields:
-            if field.optional:
-                raise SchemaError(field.place, f"a field of a tuple is not optional: `{field.name}`")
+            if absent and not field.optional:
+                raise SchemaError(field.place, f"behind `{absent.name}`, which is optional, each field of a tuple is: `{field.name}`")
+            absent = field if field.optional else None
             if field.key != field.name:
                 raise SchemaError(field.place, f"a field of a tuple has no name in the data: `{field.name}`")
         if struct.open:

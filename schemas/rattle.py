@@ -1,7 +1,9 @@
 """The files of Rattle that are made of a schema: the types with their impls, and what a tree shows to each."""
 
-from schemas.law import field_name, path_name, snake
-from schemas.layout import INSIDE_STRUCT, Group, arm, filled, lines, split, taken_apart
+import re
+
+from schemas.law import field_name, held_by, parts, path_name, snake
+from schemas.layout import INSIDE_STRUCT, WIDTH, Group, arm, filled, lines, split, typed
 from schemas.parsing import Alias, Enum, Int, Leaf, Link, ListOf, MapOf, Named, Nullable, Struct
 
 LEAVES = {
@@ -15,7 +17,7 @@ LEAVES = {
 # Where each word of the specs stands.
 LIBRARY = "Rattle.serde_ipld_dagcbor.specs."
 WORDS = {
-    "Rattle.std.specs.Prelude": "ℕ ℤ ◌^◌ Bool List [] ◌∷◌ Option Some None option_map if◌then◌else◌ codes pos string_bytes nat_eq false refl",
+    "Rattle.std.specs.Prelude": "ℕ ℤ ◌^◌ Bool List [] ◌∷◌ Option Some None option_map if◌then◌else◌ codes pos string_bytes nat_eq true false refl",
     "Rattle.std.specs.Str": "bytes_eq",
     LIBRARY + "Cid": "cid_bytes",
     LIBRARY + "Tree": "Tree text bytes boolean integer link list_tree entries_tree",
@@ -26,7 +28,10 @@ WORDS = {
     LIBRARY + "EnumViews": "EnumShape enum_of",
     "Rattle.dagcbor_schema.specs.SchemaFields": "omissible_field no_other_fields",
     "Rattle.dagcbor_schema.specs.ToldValues": "told_by_number told_by_tree",
+    "Rattle.dagcbor_schema.specs.Parts": "optional_part optional_then",
 }
+SCHEMA_WORDS = """Closed Kinded Made Numbered Omissible OptionalPart Part read_kinded read_made read_numbered read_parts
+    write_parts""".split()
 LETTERS = {"ℕ": "ℕ", "ℤ": "ℤ", "^": "◌^◌", "[]": "[]", "∷": "◌∷◌", "if": "if◌then◌else◌"}
 PUNCTUATION = str.maketrans({char: " " for char in "();,={}⟦⟧<>|[].λ:"})
 
@@ -132,8 +137,9 @@ class Module:
     def imports(self, text, ghost):
         """The lines that import the words of the text: in code as `ghost use`, in specs as `use`."""
         head, close = ("ghost use ", ";") if ghost else ("use ", "")
+        text = re.sub(r'"[^"]*"', "", text)
         words = set(text.translate(PUNCTUATION).split())
-        words |= {name for sign, name in LETTERS.items() if sign in text.translate(PUNCTUATION).split()}
+        words |= {name for sign, name in LETTERS.items() if sign in words}
         if "∷ []" in text:
             words.add("[]")
         made = []
@@ -167,7 +173,7 @@ class Module:
         body = []
         for one in self.types:
             body += [""] + self.spec(one)
-        text = "\n".join(line.split("--")[0] for line in body)
+        text = "\n".join(line for line in body if not line.startswith("--"))
         head = [f"-- What a tree shows to the types of {source}, by ./dagcbor-types."]
         head += self.imports(text, ghost=False)
         for one in self.types:
@@ -185,16 +191,16 @@ class Module:
         kinds = [(field, self.schema.resolve(field.type)) for field in struct.fields]
         shown = [f"Option {wrapped(self.view(kind))}" if field.optional else self.view(kind) for field, kind in kinds]
         if struct.representation == "tuple":
-            rows = [f"first_then {wrapped(self.shape(kind))} (" for field, kind in kinds]
+            rows = [f"{'optional' if field.optional else 'first'}_then {wrapped(self.shape(kind))} (" for field, kind in kinds]
             end, whole = "no_more", "list_of ("
-            said = "a list of " + listed([field.key for field, _ in kinds])
+            said = "a list of " + listed([field.name for field, _ in kinds])
         else:
             rows = [
                 f'{"omissible" if field.optional else "required"}_field (codes "{field.key}") {wrapped(self.shape(kind))} ('
                 for field, kind in kinds
             ]
             end, whole = "no_fields" if struct.open else "no_other_fields", "struct_shape ("
-            said = "a map of " + listed([field.key for field, _ in kinds])
+            said = "a map of " + listed([field.name for field, _ in kinds])
         return [
             f"-- {struct.name}: {said}",
             f"abbrev pub {view} : Type 0",
@@ -206,7 +212,18 @@ class Module:
             *([f"    {rows[-1][:-2]} {end}{')' * len(rows)}"] if rows else [f"    {end})"]),
         ]
 
-    def takes_memory(self, kind):
+    def writing_takes_memory(self, kind):
+        """Whether writing it may take memory, where the writer takes none."""
+        if isinstance(kind, Leaf):
+            return kind.kind == "Any"
+        if isinstance(kind, Named):
+            one = self.schema.by_name[kind.name]
+            if isinstance(one, Alias):
+                return self.writing_takes_memory(one.of)
+            return isinstance(one, Struct) and one.representation == "map" or any(map(self.writing_takes_memory, held_by(one)))
+        return isinstance(kind, MapOf) or any(map(self.writing_takes_memory, parts(kind)))
+
+    def reading_takes_memory(self, kind):
         """Whether reading it may take memory, as far as the specs say."""
         if isinstance(kind, Named):
             one = self.schema.by_name[kind.name]
@@ -294,7 +311,7 @@ class Module:
             *needs,
             "    else 0",
             "",
-            *self.variants_spec(union, view, f"{name}_part", f"{name}_need", any(self.takes_memory(kind) for _, kind in kinds)),
+            *self.variants_spec(union, view, f"{name}_part", f"{name}_need", any(self.reading_takes_memory(kind) for _, kind in kinds)),
         ]
 
     def case_kind(self, union, case):
@@ -333,9 +350,10 @@ class Module:
 
     @staticmethod
     def code_imports(text):
+        text = re.sub(r'"[^"]*"', "", "\n".join(line for line in text.split("\n") if "///" not in line))
         words = set("".join(char if char.isalnum() or char == "_" else " " for char in text).split())
         made = []
-        schema = [word for word in ("Closed", "Kinded", "Numbered", "Omissible", "read_kinded", "read_numbered") if word in words]
+        schema = [word for word in SCHEMA_WORDS if word in words]
         if schema:
             made += filled("use dagcbor_schema::", schema, ";")
         library = """Bytes Cid DecodeError Deserialize DeserializeOwned Deserializer EnumAccessor Field Ipld Optional Read ReadResult
@@ -349,13 +367,15 @@ class Module:
     def declared(self, one):
         text = documented(one.text, 0)
         if isinstance(one, Alias):
-            return text + [f"pub type {one.name} = {self.code(one.of, aliases=True)};"]
+            kind = self.code(one.of, aliases=True)
+            whole = f"pub type {one.name} = {kind};"
+            return text + ([whole] if len(whole) <= WIDTH else [f"pub type {one.name} =", *typed("", kind, 4, ";")])
         if isinstance(one, Struct):
             rows = []
             for field in one.fields:
                 kind = self.code(field.type, aliases=True)
                 rows += documented(field.text, 4)
-                rows.append(f"    pub {field_name(field.name)}: {f'Option<{kind}>' if field.optional else kind},")
+                rows += typed(f"pub {field_name(field.name)}: ", f"Option<{kind}>" if field.optional else kind, 4, ",")
             body = [f"pub struct {one.name} {{", *rows, "}"] if rows else [f"pub struct {one.name} {{}}"]
             return text + ["#[derive(Debug, Drop)]", *body]
         if isinstance(one, Enum):
@@ -403,12 +423,7 @@ class Module:
         end = "()" if struct.open else "Closed"
         read = lines(names, 8, ";")
         read += lines(Group("let row = read_struct(", ["alloc", f'"{struct.name}"', "names", "de"], ")?"), 8, ";")
-        for place, (field, _) in enumerate(kinds):
-            name = field_name(field.name)
-            rest = "row" if place < len(kinds) - 1 else end
-            read.append(f"        let {f'Omissible({name}, {rest})' if field.optional else f'(Required({name}), {rest})'} = row;")
-        if not kinds:
-            read.append(f"        let {end} = row;")
+        read += self.row_apart(kinds, end)
         read += lines(self.literal(struct), 8)
         return [
             *self.serialize_impl(struct, ghost_rows("λ v. entries_tree (", tree, "[]"), write),
@@ -433,19 +448,33 @@ class Module:
 
     def tuple_impls(self, struct):
         kinds = [(field, self.schema.resolve(field.type)) for field in struct.fields]
-        names = [field_name(field.name) for field, _ in kinds]
-        tree = [f"{self.tree(kind, 'v.' + name)} ∷" for name, (_, kind) in zip(names, kinds)]
-        comma = "," if len(names) == 1 else ""
-        parts = Group("let parts = (", [f"&self.{name}" for name in names], f"{comma})")
-        write = lines(parts, 8, ";") + ["        parts.serialize(alloc, ser)"]
-        read = ["        let parts = Deserialize::deserialize(alloc, de)?;"]
-        read += taken_apart(names, f"{comma})", "parts", 8)
+        tree = []
+        for field, kind in kinds:
+            value = f"v.{field_name(field.name)}"
+            tree.append(f"optional_part {self.tree_of(kind)} {value} (" if field.optional else f"{self.tree(kind, value)} ∷")
+        write = ["        let row = ();"]
+        for field, _ in reversed(kinds):
+            part = Group("OptionalPart(" if field.optional else "Part(", [f"&self.{field_name(field.name)}"], ")")
+            write += lines(Group("let row = (", [part, "row"], ")"), 8, ";")
+        write.append(f"        write_parts(alloc, {len(kinds)}, row, ser)")
+        read = [f"        let row = read_parts(alloc, {len(kinds)}, de)?;"]
+        read += self.row_apart(kinds, "()")
         read += lines(self.literal(struct), 8)
         return [
             *self.serialize_impl(struct, ghost_rows("λ v. list_tree (", tree, "[]"), write),
             *self.shown_impl(struct, self.row_meaning(kinds)),
             *self.deserialize_impl(struct, read),
         ]
+
+    @staticmethod
+    def row_apart(kinds, end):
+        """The lines that take a row apart into its fields."""
+        made = []
+        for place, (field, _) in enumerate(kinds):
+            name = field_name(field.name)
+            rest = "row" if place < len(kinds) - 1 else end
+            made.append(f"        let {f'Omissible({name}, {rest})' if field.optional else f'(Required({name}), {rest})'} = row;")
+        return made or [f"        let {end} = row;"]
 
     # -- enums
 
@@ -480,7 +509,8 @@ class Module:
             write += arm(f"{name}::{member.name}", Group("ser.serialize_u64(", [str(member.data)], ")"), 12)
         write.append("        }")
         of = ["        match number {"]
-        of += [f"            {member.data} => Some({name}::{member.name})," for member in enum.members]
+        for member in enum.members:
+            of += arm(str(member.data), Group("Some(", [f"{name}::{member.name}"], ")", WIDTH), 12)
         of += ["            _ => None,", "        }"]
         return [
             *self.serialize_impl(enum, cases_of(tree), write, alloc=False),
@@ -524,7 +554,8 @@ class Module:
             tree.append(f"{alias(union)}.{case.name} x ↦ {self.tree(kind, 'x')}")
             meaning.append(f"{alias(union)}.{case.name} x ↦ {case_word(union, case)} {wrapped(self.meaning(kind, 'x'))}")
             write += arm(f"{name}::{case.name}(x)", Group("x.serialize(", ["alloc", "ser"], ")"), 12)
-            of.append(f"            Ipld::{held}(x) => Some({name}::{case.name}({'Bytes(x)' if held == 'Bytes' else 'x'})),")
+            inner = "Bytes(x)" if held == "Bytes" else "x"
+            of += arm(f"Ipld::{held}(x)", Group("Some(", [Group(f"{name}::{case.name}(", [inner], ")")], ")", WIDTH), 12)
         write.append("        }")
         named = {case.data for case in union.cases}
         others = [("null", "Null"), ("bool", "Bool(_)"), ("int", "Integer(_)"), ("string", "String(_)"), ("bytes", "Bytes(_)")]
@@ -561,13 +592,15 @@ class Module:
 
     # -- the forms of an impl
 
-    @staticmethod
-    def serialize_impl(one, tree, body, alloc=True):
+    def serialize_impl(self, one, tree, body, alloc=True):
         words = "alloc" if alloc else "_alloc"
+        takes = self.writing_takes_memory(Named(one.name, one.place))
         return [
             "",
             f"impl Serialize for {one.name} {{",
             *ghost("tree", tree),
+            "",
+            f"    ghost takes_memory = {{ {'true' if takes else 'false'} }};",
             "",
             f"    fn serialize<W: Write>(&self, {words}: Global, ser: &mut Serializer<W>) -> WriteResult<(), W> {{",
             *body,

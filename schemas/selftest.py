@@ -1,10 +1,21 @@
 #!/usr/bin/env python3
 """What `dagcbor-types` refuses, by line and column, and what it reads of the DSL.
 
-    python3 -m schemas.selftest     at the top of the repository; ends in a line `N passed, M failed`"""
+    python3 -m schemas.selftest                   at the top of the repository; ends in a line `N passed, M failed`
+    python3 -m schemas.selftest prove 30 [FIRST]  makes 30 schemas at random, from seed FIRST on, and has `rt` prove what the tool
+                                                  makes of each, and lay it out, in a copy: a line for each. It takes an hour or two
+    python3 -m schemas.selftest draw 7            prints the schema of a seed"""
 
+import pathlib
+import re
+import shutil
+import subprocess
 import sys
+import tempfile
+import time
 
+from schemas.crate import STANDS_ON, files_of, write
+from schemas.drawing import drawn
 from schemas.law import Schema
 from schemas.parsing import SchemaError, parse
 from schemas.rattle import Module
@@ -46,8 +57,9 @@ REFUSED = [
     ("type A struct {\n  x Int (implicit \"0\")\n}", "2:19: `implicit` is not supported yet"),
     ("type A struct {\n  x Int (rename \"\\u00e9\")\n}", "2:18: behind \\"),
     ("type A struct {\n  x Int (rename \"é\")\n}", "2:3: names in the data are up to 40 printable characters"),
-    ("type A struct {\n  a Int\n  b Int\n  c Int\n  d Int\n  e Int\n} representation tuple", "1:6: a tuple has one to 4 fields here, and `A` has 5"),
-    ("type A struct {\n  a optional Int\n} representation tuple", "2:3: a field of a tuple is not optional"),
+    ("type A struct {\n  a optional Int\n  b Int\n} representation tuple", "3:3: behind `a`, which is optional, each field of a tuple is: `b`"),
+    ("type A struct {\n  _a Int\n}", "2:3: a field's name begins with a letter"),
+    ("type R int", "1:6: `R` is a name of"),
     ("type A struct {\n  a nullable optional Int\n}", "2:14: a field is `optional`, `nullable`, or"),
     ("type A {Int:String}", "1:9: unknown type `Int`"),
     ("type A struct {\n  x Int # as u7\n}", "2:9: no integers are kept as u7"),
@@ -87,7 +99,86 @@ def refusal(text):
     return "none"
 
 
+# ---- schemas at random
+
+ROOT = pathlib.Path(__file__).resolve().parent.parent
+
+
+def below(names, table):
+    """These crates, and all below them, by the lines of crates.txt."""
+    found = []
+    for name in names:
+        line = re.search(rf"^{name}(?: [^:\n]*)?:(.*)$", table, re.MULTILINE)
+        if line:
+            found += [other for other in [*below(line[1].split(), table), name] if other not in found]
+    return list(dict.fromkeys(found))
+
+
+def copied(folder):
+    """The crates that made types stand on, with what was kept of their proofs."""
+    table = (ROOT / "crates.txt").read_text(encoding="utf-8")
+    names = below(STANDS_ON.split(), table)
+    (folder / "crates").mkdir()
+    for name in names:
+        subprocess.run(["cp", "-a", ROOT / "crates" / name, folder / "crates" / name], check=True)
+    shutil.copy(ROOT / "HANDLES", folder / "HANDLES")
+    rows = [row for row in table.split("\n") if row.split(":")[0].split(" ")[0] in names]
+    return "\n".join(rows) + "\n"
+
+
+def ran(*command, folder):
+    result = subprocess.run(command, cwd=folder, stdin=subprocess.DEVNULL, capture_output=True, text=True)
+    return result.returncode, result.stdout + result.stderr
+
+
+def judged(seed, folder, table):
+    """What becomes of the schema of a seed: a line, and the log where it fails."""
+    name = f"drawn_{seed}"
+    source, crate = folder / f"{name}.ipldsch", folder / "crates" / name
+    source.write_text(drawn(seed), encoding="utf-8")
+    (folder / "crates.txt").write_text(table, encoding="utf-8")
+    write(files_of([source], crate), check=False)
+    made = {path: path.read_text(encoding="utf-8") for path in crate.rglob("*") if path.is_file()}
+    start = time.monotonic()
+    status, log = ran("rt", "check", "--jobs", "2", folder=crate)
+    took = f"{time.monotonic() - start:.0f} s"
+    functions = re.search(r"logic=proved functions=(\d+)", log)
+    if status or not functions:
+        return f"not proved, {took}", log
+    status, log = ran("rt", "fmt", folder=crate)
+    others = [path.name for path, text in made.items() if path.read_text(encoding="utf-8") != text]
+    shutil.rmtree(crate)
+    if status or others:
+        return f"proved, and laid out by rt fmt as another: {' '.join(others)}", log
+    return f"proved, {functions[1]} functions, {took}", None
+
+
+def prove(count, first):
+    passed = failed = 0
+    with tempfile.TemporaryDirectory() as name:
+        folder = pathlib.Path(name)
+        table = copied(folder)
+        for seed in range(first, first + count):
+            line, log = judged(seed, folder, table)
+            passed, failed = (passed + 1, failed) if log is None else (passed, failed + 1)
+            print(f"seed {seed}: {line}", flush=True)
+            if log is not None:
+                print("\n".join(row for row in log.split("\n") if re.search(r"not proved|no proof|error", row))[:4000], flush=True)
+    print(f"{passed} passed, {failed} failed")
+    sys.exit(1 if failed else 0)
+
+
 def main():
+    words = sys.argv[1:]
+    if words[:1] == ["draw"]:
+        print(drawn(int(words[1])), end="")
+    elif words[:1] == ["prove"]:
+        prove(int(words[1]), int(words[2]) if len(words) > 2 else 0)
+    else:
+        refuse_and_make()
+
+
+def refuse_and_make():
     passed = failed = 0
     for text, wanted in REFUSED:
         found = refusal(text)

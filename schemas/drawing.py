@@ -132,11 +132,27 @@ class Drawing:
         return [f"type {name} {{{self.random.choice(enums)}:{kind}}}{note}"]
 
     def nothing(self, name):
-        return [f"type {name} unit representation emptymap"]
+        return [f"type {name} unit representation {self.random.choice(('null', 'true', 'false', 'emptymap'))}"]
+
+    def inline(self, name):
+        """A union of structs that are drawn for it: no key is that which tells them."""
+        members, keys = [], set()
+        is_open, tag = self.random.choice(("", " # open")), self.text(keys)
+        for _ in range(self.random.choice((1, 2, 3))):
+            member, rows, names = self.type_name(), [], set()
+            for _ in range(min(self.random.choice((0, 1, 2, 3)), self.left)):
+                self.left -= 1
+                kind, note = self.value()
+                word = self.word(string.ascii_letters, string.ascii_letters + string.digits + "_", names, field_name)
+                rows.append(f'  {word} {self.random.choice(("", "optional "))}{kind} (rename "{self.text(keys)}"){note}')
+            self.lines.append([f"type {member} struct {{{is_open}", *rows, "}"])
+            members.append(f'  | {member} "{self.text(set())[:39]}{len(members)}"')
+        return [f"type {name} union {{", *members, "} representation inline {", f'  discriminantKey "{tag}"', "}"]
 
     def schema(self):
         forms = [self.struct] * 5 + [self.tuple] * 2 + [self.enum] * 2 + [self.keyed] * 2
         forms += [self.numbers, self.kinded, self.alias, self.counts, self.nothing]
+        forms += [self.inline] * 2
         self.lines = []
         while self.left > 0 and len(self.lines) < 6:
             name = self.type_name()

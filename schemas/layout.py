@@ -81,19 +81,24 @@ def filled(head, words, close):
 def typed(head, kind, indent, close):
     """A type behind what names it: where the line is too long, its parameters stand on lines of their own."""
     margin = " " * indent
-    if len(margin + head + kind + close) <= WIDTH or "<" not in kind:
+    fits = len(margin + head + kind + close) <= WIDTH and not (kind.startswith("(") and len(kind) - 2 > INSIDE)
+    if fits or "<" not in kind:
         return [margin + head + kind + close]
-    name, inside = kind[:-1].split("<", 1)
-    made = [f"{margin}{head}{name}<"]
+    if kind.startswith("("):
+        name, inside, end = "(", kind[1:-1], ")"
+    else:
+        name, inside = kind[:-1].split("<", 1)
+        name, end = name + "<", ">"
+    made = [f"{margin}{head}{name}"]
     for part in split_parameters(inside):
         made += typed("", part, indent + 4, ",")
-    return made + [f"{margin}>{close}"]
+    return made + [f"{margin}{end}{close}"]
 
 
 def split_parameters(inside):
     found, depth = [""], 0
     for char in inside:
-        depth += {"<": 1, ">": -1}.get(char, 0)
+        depth += {"<": 1, "(": 1, ">": -1, ")": -1}.get(char, 0)
         if char == "," and depth == 0:
             found.append("")
         else:

@@ -4,7 +4,7 @@ import re
 
 from schemas.law import field_name, held_by, parts, path_name, snake
 from schemas.layout import INSIDE_STRUCT, WIDTH, Group, arm, filled, lines, split, typed
-from schemas.parsing import Alias, Enum, Int, Leaf, Link, ListOf, MapOf, Named, Nullable, Struct
+from schemas.parsing import Alias, Enum, Int, Leaf, Link, ListOf, MapOf, Named, Nullable, Struct, Union, Unit
 
 LEAVES = {
     # its type, what it is read as, its shape, its tree and its meaning
@@ -20,15 +20,16 @@ WORDS = {
     "Rattle.std.specs.Prelude": "ℕ ℤ ◌^◌ Bool List [] ◌∷◌ Option Some None option_map if◌then◌else◌ codes pos string_bytes nat_eq true false refl",
     "Rattle.std.specs.Str": "bytes_eq",
     LIBRARY + "Cid": "cid_bytes",
-    LIBRARY + "Tree": "Tree text bytes boolean integer link list_tree entries_tree",
+    LIBRARY + "Tree": "Tree null text bytes boolean integer link list_tree entries_tree",
     LIBRARY + "Trees": "field optional variant_tree",
-    LIBRARY + "Shapes": "Shape leaf owned_leaf option_of any_tree view_text view_bytes view_bool view_link view_unsigned view_signed takes_none takes_some",
-    LIBRARY + "Collections": "list_of all_of map_of first_then no_more",
+    LIBRARY + "Shapes": "Shape leaf owned_leaf option_of any_tree view_null view_text view_bytes view_bool view_link view_unsigned view_signed takes_none takes_some",
+    LIBRARY + "Collections": "finishing list_of all_of map_of first_then no_more",
     LIBRARY + "Structs": "required_field no_fields struct_shape",
     LIBRARY + "EnumViews": "EnumShape enum_of",
     "Rattle.dagcbor_schema.specs.SchemaFields": "omissible_field no_other_fields",
     "Rattle.dagcbor_schema.specs.ToldValues": "told_by_number told_by_tree",
     "Rattle.dagcbor_schema.specs.Parts": "optional_part optional_then",
+    "Rattle.dagcbor_schema.specs.Members": "there absent",
 }
 SCHEMA_WORDS = """Closed Kinded Made Numbered Omissible OptionalPart Part read_kinded read_made read_numbered read_parts
     write_parts""".split()
@@ -154,9 +155,12 @@ class Module:
         name = snake(one.name)
         if isinstance(one, Enum):
             return [f"{name}_variants", f"{name}_shape"] if one.representation == "string" else [f"{name}_of_number", f"{name}_shape"]
-        if isinstance(one, Struct):
-            return [view_name(one), f"{name}_shape"]
+        if isinstance(one, (Struct, Unit)):
+            words = [f"{name}_of_bool"] if isinstance(one, Unit) and one.representation != "null" else []
+            return [view_name(one), *words, f"{name}_shape"]
         made = [view_name(one), *(case_word(one, case) for case in one.cases)]
+        if one.representation == "inline":
+            return made + [f"{name}_row", f"{name}_row_shape", f"{name}_of_row", f"{name}_shape"]
         return made + ([f"{name}_variants", f"{name}_shape"] if one.representation == "keyed" else [f"{name}_of_tree", f"{name}_shape"])
 
     def variants_import(self, one, ghost):
@@ -184,6 +188,8 @@ class Module:
     def spec(self, one):
         if isinstance(one, Enum):
             return self.enum_spec(one)
+        if isinstance(one, Unit):
+            return self.unit_spec(one)
         return self.struct_spec(one) if isinstance(one, Struct) else self.union_spec(one)
 
     def struct_spec(self, struct):
@@ -292,6 +298,8 @@ class Module:
                 f"abbrev pub {name}_shape : Shape Tree {view}",
                 f"{name}_shape = told_by_tree {name}_of_tree",
             ]
+        if union.representation == "inline":
+            return [f"-- {union.name}: a map, told by one of its fields", *data, *self.inline_spec(union)]
         parts, needs = [], []
         for place, (case, kind) in enumerate(kinds):
             test = f'{"else " if place else ""}if bytes_eq name (codes "{case.data}") then'
@@ -314,6 +322,78 @@ class Module:
             *self.variants_spec(union, view, f"{name}_part", f"{name}_need", any(self.reading_takes_memory(kind) for _, kind in kinds)),
         ]
 
+    def unit_spec(self, unit):
+        name, view = snake(unit.name), view_name(unit)
+        head = [f"-- {unit.name}: {unit.representation} alone", f"abbrev pub {view} : Type 0", f"{view} = Unit {{0}}", ""]
+        if unit.representation == "null":
+            return [*head, f"abbrev pub {name}_shape : Shape Tree {view}", f"{name}_shape = leaf view_null"]
+        rows = ["Some tt", "None"] if unit.representation == "true" else ["None", "Some tt"]
+        return [
+            *head,
+            f"abbrev pub {name}_of_bool : Bool → Option {view}",
+            f"{name}_of_bool b = if b then {rows[0]} else {rows[1]}",
+            "",
+            f"abbrev pub {name}_shape : Shape Tree {view}",
+            f"{name}_shape = finishing {name}_of_bool (leaf view_bool)",
+        ]
+
+    def inline_row(self, union):
+        """Of each place in the row of an inline union: the field, its resolved type, its name in code and what shows it in specs."""
+        used, made = set(), []
+        for place, field in enumerate(self.schema.row_of(union)):
+            name = field_name(field.name)
+            while name in used or name in ("tag", "row", "parts"):
+                name += "_"
+            used.add(name)
+            made.append((field, self.schema.resolve(field.type), name, f"row.1{'.1' * place}.0"))
+        return made
+
+    def inline_member(self, case):
+        return self.schema.by_name[self.schema.resolve(case.type).name]
+
+    def inline_spec(self, union):
+        name, view = snake(union.name), view_name(union)
+        row = self.inline_row(union)
+        is_open = self.inline_member(union.cases[0]).open
+        shown = ["List ℕ", *(f"Option {wrapped(self.view(kind))}" for _, kind, _, _ in row)]
+        rows = [f'omissible_field (codes "{field.key}") {wrapped(self.shape(kind))} (' for field, kind, _, _ in row]
+        rows.insert(0, f'required_field (codes "{union.discriminant}") (owned_leaf view_text) (')
+        made = []
+        for case in union.cases:
+            fields = {field.key: field for field in self.inline_member(case).fields}
+            test = f'{"else " if made else ""}if bytes_eq row.0 (codes "{case.data}") then'
+            made.append(f"    {test}")
+            words, close = [], 0
+            for field, _, local, path in row:
+                if field.key in fields and not fields[field.key].optional:
+                    words.append(f"    there {path} (λ {local}.")
+                    close += 1
+                elif field.key not in fields and not is_open:
+                    words.append(f"    absent {path} (")
+                    close += 1
+            shown_by_key = {field.key: (local, path) for field, _, local, path in row}
+            parts = [shown_by_key[key][1 if field.optional else 0] for key, field in fields.items()]
+            pairs = "".join(f"({part}, " for part in parts) + "tt" + ")" * len(parts)
+            made += words + [f"    Some ({case_word(union, case)} {pairs}){')' * close}"]
+        end = "no_fields" if is_open else "no_other_fields"
+        return [
+            f"abbrev pub {name}_row : Type 0",
+            *view_rows(f"{name}_row", shown),
+            "",
+            f"abbrev pub {name}_row_shape : Shape Tree {name}_row",
+            f"{name}_row_shape = struct_shape (",
+            *(f"    {one}" for one in rows[:-1]),
+            f"    {rows[-1][:-2]} {end}{')' * len(rows)}",
+            "",
+            f"abbrev pub {name}_of_row : {name}_row → Option {view}",
+            f"{name}_of_row row =",
+            *made,
+            "    else None",
+            "",
+            f"abbrev pub {name}_shape : Shape Tree {view}",
+            f"{name}_shape = finishing {name}_of_row {name}_row_shape",
+        ]
+
     def case_kind(self, union, case):
         kind = self.schema.resolve(case.type)
         if union.representation == "kinded" and isinstance(kind, Int):
@@ -333,7 +413,7 @@ class Module:
         head += self.imports(ghost, ghost=True)
         for one in self.types:
             head += split(f"ghost use Rattle.{self.crate}.specs.{self.path}.", self.spec_words(one), ";")
-            if not isinstance(one, Struct):
+            if isinstance(one, (Enum, Union)):
                 head += self.variants_import(one, ghost=True)
         head += [""] + self.code_imports("\n".join(body))
         return "\n".join(head + body) + "\n"
@@ -381,6 +461,8 @@ class Module:
         if isinstance(one, Enum):
             rows = [f"    {member.name}," for member in one.members]
             return text + ["#[derive(Clone, Copy, Debug, PartialEq, Eq)]", f"pub enum {one.name} {{", *rows, "}"]
+        if isinstance(one, Unit):
+            return text + ["#[derive(Clone, Copy, Debug, PartialEq, Eq)]", f"pub struct {one.name};"]
         rows = []
         for case in one.cases:
             kind = "i128" if one.representation == "kinded" and isinstance(self.schema.resolve(case.type), Int) else self.code(case.type, aliases=True)
@@ -392,6 +474,10 @@ class Module:
             made = self.tuple_impls(one) if one.representation == "tuple" else self.struct_impls(one)
         elif isinstance(one, Enum):
             made = self.enum_impls(one) if one.representation == "string" else self.number_impls(one)
+        elif isinstance(one, Unit):
+            made = self.unit_impls(one)
+        elif one.representation == "inline":
+            made = self.inline_impls(one)
         else:
             made = self.keyed_impls(one) if one.representation == "keyed" else self.kinded_impls(one)
         return made + [
@@ -519,7 +605,114 @@ class Module:
             *self.deserialize_impl(enum, ["        read_numbered(alloc, de)"]),
         ]
 
+    # -- units
+
+    def unit_impls(self, unit):
+        name, word = unit.name, unit.representation
+        tree = "λ v. Some null" if word == "null" else f"λ v. Some (boolean {word})"
+        call = "ser.serialize_unit()" if word == "null" else f"ser.serialize_bool({word})"
+        made = [*self.serialize_impl(unit, [tree], [f"        {call}"], alloc=False), *self.shown_impl(unit, ["λ v. tt"])]
+        if word == "null":
+            read = ["        let () = Deserialize::deserialize(alloc, de)?;", f"        Ok({name})"]
+            return made + self.deserialize_impl(unit, read)
+        of = [f"        if parts {{ {f'Some({name})' if word == 'true' else 'None'} }} else {{ {'None' if word == 'true' else f'Some({name})'} }}"]
+        if len(of[0]) > 58:
+            of = ["        if parts {", f"            {f'Some({name})' if word == 'true' else 'None'}", "        } else {",
+                  f"            {'None' if word == 'true' else f'Some({name})'}", "        }"]
+        return [
+            *made,
+            *self.made_impl(unit, "bool", ["Bool", ["λ b. b"], "leaf view_bool"], ["λ v. tt"], f"{snake(name)}_of_bool",
+                            ["        bool::deserialize(alloc, de)"], of),
+            *self.deserialize_impl(unit, ["        read_made(alloc, de)"]),
+        ]
+
     # -- unions
+
+    def inline_impls(self, union):
+        name = union.name
+        row = self.inline_row(union)
+        is_open = self.inline_member(union.cases[0]).open
+        end = "()" if is_open else "Closed"
+        tree, meaning, write, of = [], [], ["        match self {"], ["        let (Required(tag), row) = parts;"]
+        for place, (_, _, local, _) in enumerate(row):
+            of.append(f"        let Omissible({local}, {'row' if place < len(row) - 1 else end}) = row;")
+        if not row:
+            of[0] = f"        let (Required(tag), {end}) = parts;"
+        of.append("        match tag.as_str() {")
+        for case in union.cases:
+            struct = self.inline_member(case)
+            tree += self.inline_tree(union, case, struct)
+            meaning.append(f"{alias(union)}.{case.name} x ↦ {case_word(union, case)} ({self.meaning(Named(struct.name, case.place), 'x')})")
+            write += [f"            {name}::{case.name}(x) => {{", *self.inline_written(union, case, struct), "            }"]
+            of += self.inline_made(union, case, struct, row, is_open)
+        write.append("        }")
+        of += ["            _ => None,", "        }"]
+        names = Group("let names = &[", [f'"{union.discriminant}"', *(f'"{field.key}"' for field, _, _, _ in row)], "]")
+        read = lines(names, 8, ";") + lines(Group("read_struct(", ["alloc", f'"{name}"', "names", "de"], ")"), 8)
+        kind = "Closed" if not is_open else "()"
+        for _, held, _, _ in reversed(row):
+            kind = f"Omissible<{self.code(held)}, {kind}>"
+        shown = pairs_of(["string_bytes v.0.0", *(self.inline_shown(row, place) for place in range(len(row)))])
+        return [
+            *self.serialize_impl(union, cases_of(tree), write),
+            *self.shown_impl(union, cases_of(meaning)),
+            *self.made_impl(union, f"(Required<String>, {kind})", [f"{snake(name)}_row", shown, f"{snake(name)}_row_shape"],
+                            cases_of(meaning), f"{snake(name)}_of_row", read, of),
+            *self.deserialize_impl(union, ["        read_made(alloc, de)"]),
+        ]
+
+    def inline_shown(self, row, place):
+        """What the field at this place of a row that was read means."""
+        kind = row[place][1]
+        return self.meaning(Nullable(kind, kind.place), "v.1" + ".1" * place + ".0")
+
+    def inline_tree(self, union, case, struct):
+        rows = []
+        for field, kind in self.inline_order(union, struct):
+            if field is None:
+                rows.append(f'field (codes "{union.discriminant}") (Some (text (codes "{case.data}"))) ∷')
+                continue
+            value = f"x.{field_name(field.name)}"
+            if field.optional:
+                rows.append(f'optional (codes "{field.key}") {self.tree_of(kind)} {value} (')
+            else:
+                rows.append(f'field (codes "{field.key}") ({self.tree(kind, value)}) ∷')
+        opened = 1 + sum(row.endswith("(") for row in rows)
+        rows[-1] = rows[-1].removesuffix(" (") + f" []{')' * (opened - rows[-1].endswith('('))}"
+        return ["\n          ".join([f"{alias(union)}.{case.name} x ↦ entries_tree (", *rows])]
+
+    def inline_order(self, union, struct):
+        """The fields in the order of their keys, and None for what tells the member."""
+        kinds = [(field, self.schema.resolve(field.type)) for field in struct.fields] + [(None, None)]
+        key = lambda row: row[0].key if row[0] else union.discriminant
+        return sorted(kinds, key=lambda row: (len(key(row)), key(row)))
+
+    def inline_written(self, union, case, struct):
+        made = [f'                let tag = "{case.data}";', "                let row = ();"]
+        for field, _ in reversed(self.inline_order(union, struct)):
+            if field is None:
+                part = Group("Field(", [f'"{union.discriminant}"', "&tag"], ")")
+            else:
+                part = Group("Optional(" if field.optional else "Field(", [f'"{field.key}"', f"&x.{field_name(field.name)}"], ")")
+            made += lines(Group("let row = (", [part, "row"], ")"), 16, ";")
+        return made + ["                write_struct(alloc, row, ser)"]
+
+    def inline_made(self, union, case, struct, row, is_open):
+        fields = {field.key: field for field in struct.fields}
+        made = [f'            "{case.data}" => {{']
+        for field, _, local, _ in row:
+            if field.key in fields and not fields[field.key].optional:
+                made.append(f"                let {local} = {local}?;")
+            elif field.key not in fields and not is_open:
+                made += [f"                if {local}.is_some() {{", "                    return None;", "                }"]
+        locals_by_key = {field.key: local for field, _, local, _ in row}
+        words = []
+        for field in struct.fields:
+            word, local = field_name(field.name), locals_by_key[field.key]
+            words.append(word if word == local else f"{word}: {local}")
+        literal = Group(f"{struct.name} {{", words, "}", INSIDE_STRUCT) if words else f"{struct.name} {{}}"
+        made += lines(Group("let x = " + literal.head, words, "}", INSIDE_STRUCT), 16, ";") if words else [f"                let x = {literal};"]
+        return made + [*lines(Group("Some(", [Group(f"{union.name}::{case.name}(", ["x"], ")")], ")", WIDTH), 16), "            }"]
 
     def keyed_impls(self, union):
         name = union.name
@@ -660,6 +853,40 @@ class Module:
         names = Group("let names = &[", [f'"{name}"' for name in names], "]")
         call = Group("read_enum(", ["alloc", f'"{one.name}"', "names", "de"], ")")
         return self.deserialize_impl(one, lines(names, 8, ";") + lines(call, 8))
+
+    @staticmethod
+    def made_impl(one, kind, seen, meaning, made, read, of):
+        """A value that is made of parts: their type, what they show, and the bodies that read them and make the value."""
+        view, parts_meaning, shape = seen
+        return [
+            "",
+            f"impl<'de> Made<'de> for {one.name} {{",
+            *typed("type Parts = ", kind, 4, ";"),
+            "",
+            f"    ghost PartsView = {{ {view} }};",
+            "",
+            *ghost("parts_meaning", parts_meaning),
+            "",
+            f"    ghost parts_shape = {{ {shape} }};",
+            "",
+            f"    ghost View = {{ {view_name(one)} }};",
+            "",
+            *ghost("meaning", meaning),
+            "",
+            f"    ghost made = {{ {made} }};",
+            "",
+            "    fn read_parts<R: Read>(",
+            "        alloc: Global,",
+            "        de: &mut Deserializer<'de, R>,",
+            "    ) -> ReadResult<Self::Parts, R> {",
+            *read,
+            "    }",
+            "",
+            f"    fn of_parts(parts: Self::Parts) -> Option<{one.name}> {{",
+            *of,
+            "    }",
+            "}",
+        ]
 
     @staticmethod
     def told_impl(one, trait, head, meaning, told, body):

@@ -4,7 +4,9 @@
     python3 -m schemas.selftest                   at the top of the repository; ends in a line `N passed, M failed`
     python3 -m schemas.selftest prove 30 [FIRST]  makes 30 schemas at random, from seed FIRST on, and has `rt` prove what the tool
                                                   makes of each, and lay it out, in a copy: a line for each. It takes an hour or two
-    python3 -m schemas.selftest draw 7            prints the schema of a seed"""
+    python3 -m schemas.selftest draw 7            prints the schema of a seed
+    python3 -m schemas.selftest wrong             writes specs of a schema that was edited beside the code of the schema as it was,
+                                                  edit by edit, and has `rt` refuse each: a line for each, some ten minutes"""
 
 import pathlib
 import re
@@ -69,7 +71,7 @@ REFUSED = [
     ("type foo int", "1:6: a type's name is a capital"),
     ("type Foo int\ntype FOO int", "2:6: `FOO` and `Foo` (line 1) are one name in lower case"),
     ("type Foo int\ntype FooView int", "2:6: `FooView` and `Foo`"),
-    ("type A unit representation null", "1:6: unit is not supported yet: `A`"),
+    ("type A unit representation null", "none"),
     ("advanced ROT13", "1:1: advanced data layouts are not supported"),
     ("type A struct {\n  x Int", "2:8: the name of a field is wanted here, and not the end of the file"),
     ("type A \"a\"", "1:8: a type is wanted here, and not the text \"a\""),
@@ -153,6 +155,62 @@ def judged(seed, folder, table):
     return f"proved, {functions[1]} functions, {took}", None
 
 
+# A schema, and edits of it: what is edited, a line of it, and what stands there in its place.
+EDITED = """type Format enum {
+  | Vinyl
+  | Tape ("tape")
+}
+
+type Length int # as u16
+
+type Side union {
+  | Length "minutes"
+  | Format "format"
+} representation keyed
+
+type Track struct {
+  title String
+  note optional String
+  side Side
+  seconds Length
+}
+"""
+EDITS = [
+    ("a field renamed", "  title String", '  title String (rename "name")'),
+    ("an optional field made required", "  note optional String", "  note nullable String"),
+    ("a bound", "type Length int # as u16", "type Length int # as u32"),
+    ("an enum's text", '  | Tape ("tape")', '  | Tape ("Tape")'),
+    ("a member's key", '  | Length "minutes"', '  | Length "seconds"'),
+    ("other keys skipped", "type Track struct {", "type Track struct { # open"),
+]
+
+
+def wrong():
+    """The code is the schema's as it was, and the specs are those of the edited one."""
+    passed = failed = 0
+    with tempfile.TemporaryDirectory() as name:
+        folder = pathlib.Path(name)
+        table = copied(folder)
+        (folder / "crates.txt").write_text(table, encoding="utf-8")
+        source, crate = folder / "edited.ipldsch", folder / "crates" / "edited_types"
+        source.write_text(EDITED, encoding="utf-8")
+        made = files_of([source], crate)
+        write(made, check=False)
+        right = {path: text for path, text in made[1].items() if path.parent.name == "specs"}
+        for what, old, new in [("nothing", "", ""), *EDITS]:
+            source.write_text(EDITED.replace(old, new, 1), encoding="utf-8")
+            for path, text in files_of([source], crate)[1].items():
+                if path in right:
+                    path.write_text(text, encoding="utf-8")
+            status, log = ran("rt", "check", "--jobs", "2", folder=crate)
+            refused = sorted(set(re.findall(r"fn edited_types::(\S+): no(?:t proved| proof)", log)))
+            holds = not status and not refused if what == "nothing" else bool(status and refused)
+            passed, failed = (passed + 1, failed) if holds else (passed, failed + 1)
+            print(f"{what}: {'not ' * (what != 'nothing')}proved {', '.join(refused)}".rstrip() if holds else f"{what}: WRONG\n{log[-3000:]}", flush=True)
+    print(f"{passed} passed, {failed} failed")
+    sys.exit(1 if failed else 0)
+
+
 def prove(count, first):
     passed = failed = 0
     with tempfile.TemporaryDirectory() as name:
@@ -174,6 +232,8 @@ def main():
         print(drawn(int(words[1])), end="")
     elif words[:1] == ["prove"]:
         prove(int(words[1]), int(words[2]) if len(words) > 2 else 0)
+    elif words[:1] == ["wrong"]:
+        wrong()
     else:
         refuse_and_make()
 

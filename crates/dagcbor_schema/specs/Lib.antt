@@ -3,3 +3,4 @@
 pub mod SchemaFields
 pub mod ToldValues
 pub mod Parts
+pub mod Members

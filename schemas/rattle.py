@@ -430,7 +430,7 @@ class Module:
 
     @staticmethod
     def code_imports(text):
-        text = re.sub(r'"[^"]*"', "", "\n".join(line for line in text.split("\n") if "///" not in line))
+        text = re.sub(r'"[^"]*"', "", "\n".join(line for line in text.split("\n") if "///" not in line)).replace("fn read_parts", "")
         words = set("".join(char if char.isalnum() or char == "_" else " " for char in text).split())
         made = []
         schema = [word for word in SCHEMA_WORDS if word in words]

@@ -22,6 +22,10 @@ some_other : {A B : Type 0} (f : A → B) (o : Option A) → is_some (option_map
 some_other f None e = absurd (cc e)
 some_other f (Some a) e = refl
 
+-- the others, where the part is absent
+abbrev alone : {V W : Type 0} → W → Option V × W
+alone w = (None, w)
+
 module _ {V W : Type 0} (shape : Shape Tree V) (others : Shape Items W) where
   -- the part itself was refused
   pub optional_refused : {E : Type 0} {count : ℕ} (old new : Reading) (e : DecodeError E) → 0 < count → Refuses (HasFront shape old) (MayLack shape.memory old) (shape.wants_loan ≡ true) Anything old e new
@@ -57,7 +61,7 @@ module _ {V W : Type 0} (shape : Shape Tree V) (others : Shape Items W) where
   others_alone {r} h = by h.items h.counted h.fronts h.accepted h.within
     where
       by : (ts : Items) → item_count ts ≡ 0 → AreFronts h.bytes ts h.rest → is_some ((optional_then shape others).view ts) ≡ true → (optional_then shape others).need ts ≤ r.steps → HasRow others 0 r
-      by no_items e f ok w = record { bytes = h.bytes; items = no_items; rest = h.rest; left = h.left; counted = e; fronts = f; accepted = some_other (λ (w : W). (None {A = V}, w)) (others.view no_items) ok; within = w }
+      by no_items e f ok w = record { bytes = h.bytes; items = no_items; rest = h.rest; left = h.left; counted = e; fronts = f; accepted = some_other (alone {V = V} {W = W}) (others.view no_items) ok; within = w }
       by (item t ts) e f ok w = absurd (cc e)
 
   alone_taken : {old new : Reading} {w : W} → TakesRow others 0 old w new → TakesRow (optional_then shape others) 0 old (None, w) new
@@ -70,7 +74,7 @@ module _ {V W : Type 0} (shape : Shape Tree V) (others : Shape Items W) where
     where
       by : {b : List ℕ} (ts : Items) (rest : List ℕ) → item_count ts ≡ 0 → AreFronts b ts rest → others.view ts ≡ Some w → others.need ts ≤ old.steps → new.left ≡ Some rest
           → (us : Items) × (behind : List ℕ) × (item_count us ≡ 0) × AreFronts b us behind × ((optional_then shape others).view us ≡ Some (None, w)) × ((optional_then shape others).need us ≤ old.steps) × (new.left ≡ Some behind)
-      by no_items rest e f is n l = (no_items, rest, e, f, ap (option_map (λ (w : W). (None {A = V}, w))) is, n, l)
+      by no_items rest e f is n l = (no_items, rest, e, f, ap (option_map (alone {V = V} {W = W})) is, n, l)
       by (item t ts) rest e f is n l = absurd (cc e)
 
   -- the others were refused

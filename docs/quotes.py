@@ -5,7 +5,7 @@
     docs/quotes.py check     fails where a page has another text, or a block of Rust that stands in no source
 
 A quotation follows a line `<!-- quotes FILE NAME.. -->`: of src/ the heads of these functions, with their contracts; of specs/
-these definitions, with their comments."""
+these definitions, with their comments; of a schema in schemas/examples these types, with their comments."""
 
 import pathlib
 import re
@@ -33,6 +33,9 @@ def head_of(text, name):
 
 
 def quotation(file, names):
+    if file.endswith(".ipldsch"):
+        types = (ROOT / "schemas" / "examples" / file).read_text(encoding="utf-8").strip().split("\n\n")
+        return "\n\n".join(one for name in names for one in types if re.search(rf"^type {name}\b", one, re.M)) + "\n"
     path = ROOT / "crates" / file
     if path.suffix == ".rt":
         text = path.read_text(encoding="utf-8")

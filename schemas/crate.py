@@ -4,7 +4,7 @@ import pathlib
 import re
 
 from schemas.law import Schema, path_name
-from schemas.layout import filled
+from schemas.layout import filled, in_order
 from schemas.parsing import SchemaError, parse
 from schemas.python import Python
 from schemas.rattle import Module
@@ -85,7 +85,7 @@ def lib_of(modules):
     rows = [f"//! The types of {names}, {MADE}.", "#![tactic(auto)]", ""]
     rows += [f"mod {module.name};" for module in modules] + [""]
     for module in modules:
-        rows += filled(f"pub use {module.name}::", sorted(one.name for one in module.definitions), ";")
+        rows += filled(f"pub use {module.name}::", in_order(one.name for one in module.definitions), ";")
     return "\n".join(rows) + "\n"
 
 

@@ -20,7 +20,7 @@ from schemas.parsing import (
     Unit,
 )
 
-MOST_PARTS = 4  # of a tuple
+MOST_FIELDS = 14  # of a struct
 KINDS = {"bool": ("Bool",), "int": ("Int",), "string": ("String",), "bytes": ("Bytes",), "link": ("Link",)}
 
 # What a link may lead to, beside the types of the schema.
@@ -32,13 +32,13 @@ TAKEN = set(
     Box Clone Copy Debug Default Drop Eq Err From Hash Into Iterator Model Never None Ok Option Ord PartialEq PartialOrd Result Self
     Send Some Sync Vec BTreeMap Cid Ipld Global Closed DecodeError Deserialize DeserializeOwned Deserializer EnumAccessor Field
     Kinded Numbered Omissible Optional Read ReadResult Required Serialize Serializer Shown Variants Write WriteResult
-    EnumShape Lib Prim Shape Syntax TheOwn TheVariants Tree Type""".split()
+    EnumShape Lib Made Numbered OptionalPart Part Parts PartRow Prim R Shape Syntax TheOwn TheVariants Tree Type W""".split()
 )
 TAKEN_VARIANTS = {"Below", "Self", "Denot"}
 RESERVED = set(
     """as async await break const continue crate deriving dyn else enum ensures extern false fn for ghost if impl in let loop match
     mod move mut pub ref requires result return row self static struct super trait true try type unsafe use where while yield alloc
-    de ser names""".split()
+    de ser names ground assumption""".split()
 )
 
 
@@ -136,8 +136,6 @@ class Schema:
             self.check_enum(definition)
         elif isinstance(definition, Union):
             self.check_union(definition)
-        else:
-            refuse_later(definition, "unit")
 
     def check_known(self, kind):
         if isinstance(kind, Named):
@@ -159,22 +157,28 @@ class Schema:
             if field.implicit is not None:
                 raise SchemaError(field.implicit.place, "`implicit` is not supported yet")
             self.check_known(field.type)
+            if not re.fullmatch(r"[A-Za-z][A-Za-z0-9_]*", field.name):
+                raise SchemaError(field.place, f'a field\'s name begins with a letter here: `x T (rename "{field.name}")`')
             once(names, field_name(field.name), field.place, "two fields have the name")
             check_key(field.key, field.place)
             once(keys, field.key, field.place, "two fields have the key")
             if len(snake(field.name)) > 40:
                 raise SchemaError(field.place, f"a field's name has at most 40 letters here: `{field.name}`")
+        if len(struct.fields) > MOST_FIELDS:
+            raise SchemaError(
+                struct.fields[MOST_FIELDS].place,
+                f"a struct has at most {MOST_FIELDS} fields here, which the prover can take at once: move some of `{struct.name}` into a struct of their own",
+            )
         if struct.representation == "tuple":
             self.check_tuple(struct)
 
     @staticmethod
     def check_tuple(struct):
-        count = len(struct.fields)
-        if not 1 <= count <= MOST_PARTS:
-            raise SchemaError(struct.place, f"a tuple has one to {MOST_PARTS} fields here, and `{struct.name}` has {count}")
+        absent = None
         for field in struct.fields:
-            if field.optional:
-                raise SchemaError(field.place, f"a field of a tuple is not optional: `{field.name}`")
+            if absent and not field.optional:
+                raise SchemaError(field.place, f"behind `{absent.name}`, which is optional, each field of a tuple is: `{field.name}`")
+            absent = field if field.optional else None
             if field.key != field.name:
                 raise SchemaError(field.place, f"a field of a tuple has no name in the data: `{field.name}`")
         if struct.open:
@@ -194,7 +198,7 @@ class Schema:
 
     def check_union(self, union):
         names, data = {}, {}
-        if union.representation not in ("keyed", "kinded"):
+        if union.representation not in ("keyed", "kinded", "inline"):
             refuse_later(union, union.representation)
         if not union.cases:
             raise SchemaError(union.place, f"`{union.name}` has no members")
@@ -202,11 +206,47 @@ class Schema:
             self.check_known(case.type)
             check_variant(case.name, case.place)
             once(names, case.name.lower(), case.place, "two members have the name")
-            once(data, case.data, case.place, "two members have the key" if union.representation == "keyed" else "two members have the kind")
-            if union.representation == "keyed":
-                check_key(case.data, case.place)
-            else:
+            once(data, case.data, case.place, "two members have the kind" if union.representation == "kinded" else "two members have the key")
+            if union.representation == "kinded":
                 self.check_kind(case)
+            else:
+                check_key(case.data, case.place)
+        if union.representation == "inline":
+            self.check_inline(union)
+
+    def check_inline(self, union):
+        """The members are maps of one row: of all their fields, which may be absent, behind the field that tells the member."""
+        check_key(union.discriminant, union.place)
+        seen, first = {}, None
+        for case in union.cases:
+            kind = self.resolve(case.type)
+            struct = self.by_name.get(kind.name) if isinstance(kind, Named) else None
+            if not isinstance(struct, Struct) or struct.representation != "map":
+                raise SchemaError(case.place, f"a member of an inline union is a struct that is a map: `{case.name}`")
+            first = first or struct
+            if struct.open != first.open:
+                raise SchemaError(case.place, f"the members of an inline union are all open or none: `{first.name}` and `{struct.name}`")
+            for field in struct.fields:
+                other = seen.setdefault(field.key, field)
+                if field.key == union.discriminant:
+                    raise SchemaError(case.place, f"`{struct.name}` has a field `{field.key}`, which tells the members of `{union.name}`")
+                if unplaced(self.resolve(field.type)) != unplaced(self.resolve(other.type)):
+                    raise SchemaError(
+                        case.place,
+                        f"the key `{field.key}` is of two types in the members of `{union.name}`: lines {other.place.line} and {field.place.line}",
+                    )
+        if len(seen) >= MOST_FIELDS:
+            raise SchemaError(
+                union.place, f"the members of an inline union have at most {MOST_FIELDS - 1} fields in all, and those of `{union.name}` {len(seen)}"
+            )
+
+    def row_of(self, union):
+        """The fields of an inline union's members, each key once, with whether all members that have it are open."""
+        seen = {}
+        for case in union.cases:
+            for field in self.by_name[self.resolve(case.type).name].fields:
+                seen.setdefault(field.key, field)
+        return list(seen.values())
 
     def check_kind(self, case):
         if case.data not in KINDS:
@@ -286,6 +326,12 @@ def held_by(definition):
     if isinstance(definition, Union):
         return [case.type for case in definition.cases]
     return []
+
+
+def unplaced(kind):
+    """The type, wherever it stands."""
+    words = [type(kind).__name__] + [getattr(kind, name, None) for name in ("name", "kind", "width")]
+    return (*words, *map(unplaced, parts(kind)))
 
 
 def refuse_later(definition, what):

@@ -1,5 +1,6 @@
 """The layout of `rt fmt`, of the forms that are made here."""
 
+import re
 from dataclasses import dataclass
 
 WIDTH = 100  # of a line
@@ -46,21 +47,10 @@ def lines(node, indent, behind=""):
 
 def arm(pattern, call, indent):
     """An arm of a `match`."""
-    whole = Group(f"{pattern} => {call.head}", call.items, call.close)
+    whole = Group(f"{pattern} => {call.head}", call.items, call.close, call.most)
     if whole.fits(indent, ",") or indent + len(whole.head) <= WIDTH:
         return lines(whole, indent, ",")
     return [" " * indent + f"{pattern} =>"] + lines(call, indent + 4, ",")
-
-
-def taken_apart(names, close, value, indent):
-    """A `let` that takes a tuple apart."""
-    head = f"let ({', '.join(names)}{close} ="
-    margin = " " * indent
-    if len(f"{margin}{head} {value};") <= WIDTH:
-        return [f"{margin}{head} {value};"]
-    if len(margin + head) <= WIDTH:
-        return [margin + head, f"{margin}    {value};"]
-    return lines(Group("let (", names, close, 0), indent, f" = {value};")
 
 
 def filled_items(items, indent):
@@ -77,15 +67,48 @@ def filled_items(items, indent):
 def filled(head, words, close):
     """A `use` of these words: in one line, or as many in each line as fit."""
     one = f"{head}{{{', '.join(words)}}}{close}" if len(words) > 1 else f"{head}{words[0]}{close}"
-    if len(one) <= WIDTH:
+    if len(one) <= WIDTH - 2 or len(words) == 1:
         return [one]
     made, line = [head + "{"], "   "
     for word in words:
-        if len(line) + len(word) + 2 >= WIDTH:
+        if len(line) + len(word) + 2 > WIDTH - (word is not words[-1]):
             made.append(line)
             line = "   "
         line += f" {word},"
     return made + [line, "}" + close]
+
+
+def typed(head, kind, indent, close):
+    """A type behind what names it: where the line is too long, its parameters stand on lines of their own."""
+    margin = " " * indent
+    fits = len(margin + head + kind + close) <= WIDTH and not (kind.startswith("(") and len(kind) - 2 > INSIDE)
+    if fits or "<" not in kind:
+        return [margin + head + kind + close]
+    if kind.startswith("("):
+        name, inside, end = "(", kind[1:-1], ")"
+    else:
+        name, inside = kind[:-1].split("<", 1)
+        name, end = name + "<", ">"
+    made = [f"{margin}{head}{name}"]
+    for part in split_parameters(inside):
+        made += typed("", part, indent + 4, ",")
+    return made + [f"{margin}{end}{close}"]
+
+
+def split_parameters(inside):
+    found, depth = [""], 0
+    for char in inside:
+        depth += {"<": 1, "(": 1, ">": -1, ")": -1}.get(char, 0)
+        if char == "," and depth == 0:
+            found.append("")
+        else:
+            found[-1] += char
+    return [part.strip() for part in found]
+
+
+def in_order(words):
+    """Numbers in names by their size: T9 before T18."""
+    return sorted(words, key=lambda word: [(part.isdigit(), int(part) if part.isdigit() else part) for part in re.findall(r"[0-9]+|[^0-9]+", word)])
 
 
 def split(head, words, close):

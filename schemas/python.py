@@ -182,10 +182,6 @@ class Python(Language):
         word = snake(field.name)
         return word + "_" if word in RESERVED or keyword.iskeyword(word) else word
 
-    def check_field(self, field):
-        if field.name.startswith("__"):
-            raise SchemaError(field.place, f"a field's name does not begin with two _ in Python: `{field.name}`")
-
     def helper(self, word):
         return f"_{word}"
 

@@ -1,8 +1,10 @@
 """The files of Rattle that are made of a schema: the types with their impls, and what a tree shows to each."""
 
-from schemas.law import field_name, path_name, snake
-from schemas.layout import INSIDE_STRUCT, Group, arm, filled, lines, split, taken_apart
-from schemas.parsing import Alias, Enum, Int, Leaf, Link, ListOf, MapOf, Named, Nullable, Struct
+import re
+
+from schemas.law import field_name, held_by, parts, path_name, snake
+from schemas.layout import INSIDE_STRUCT, WIDTH, Group, arm, filled, lines, split, typed
+from schemas.parsing import Alias, Enum, Int, Leaf, Link, ListOf, MapOf, Named, Nullable, Struct, Union, Unit
 
 LEAVES = {
     # its type, what it is read as, its shape, its tree and its meaning
@@ -15,18 +17,22 @@ LEAVES = {
 # Where each word of the specs stands.
 LIBRARY = "Rattle.serde_ipld_dagcbor.specs."
 WORDS = {
-    "Rattle.std.specs.Prelude": "ℕ ℤ ◌^◌ Bool List [] ◌∷◌ Option Some None option_map if◌then◌else◌ codes pos string_bytes nat_eq false refl",
+    "Rattle.std.specs.Prelude": "ℕ ℤ ◌^◌ Bool List [] ◌∷◌ Option Some None option_map if◌then◌else◌ codes pos string_bytes nat_eq true false refl",
     "Rattle.std.specs.Str": "bytes_eq",
     LIBRARY + "Cid": "cid_bytes",
-    LIBRARY + "Tree": "Tree text bytes boolean integer link list_tree entries_tree",
+    LIBRARY + "Tree": "Tree null text bytes boolean integer link list_tree entries_tree",
     LIBRARY + "Trees": "field optional variant_tree",
-    LIBRARY + "Shapes": "Shape leaf owned_leaf option_of any_tree view_text view_bytes view_bool view_link view_unsigned view_signed takes_none takes_some",
-    LIBRARY + "Collections": "list_of all_of map_of first_then no_more",
+    LIBRARY + "Shapes": "Shape leaf owned_leaf option_of any_tree view_null view_text view_bytes view_bool view_link view_unsigned view_signed takes_none takes_some",
+    LIBRARY + "Collections": "finishing list_of all_of map_of first_then no_more",
     LIBRARY + "Structs": "required_field no_fields struct_shape",
     LIBRARY + "EnumViews": "EnumShape enum_of",
     "Rattle.dagcbor_schema.specs.SchemaFields": "omissible_field no_other_fields",
     "Rattle.dagcbor_schema.specs.ToldValues": "told_by_number told_by_tree",
+    "Rattle.dagcbor_schema.specs.Parts": "optional_part optional_then",
+    "Rattle.dagcbor_schema.specs.Members": "there absent",
 }
+SCHEMA_WORDS = """Closed Kinded Made Numbered Omissible OptionalPart Part read_kinded read_made read_numbered read_parts
+    write_parts""".split()
 LETTERS = {"ℕ": "ℕ", "ℤ": "ℤ", "^": "◌^◌", "[]": "[]", "∷": "◌∷◌", "if": "if◌then◌else◌"}
 PUNCTUATION = str.maketrans({char: " " for char in "();,={}⟦⟧<>|[].λ:"})
 
@@ -132,8 +138,9 @@ class Module:
     def imports(self, text, ghost):
         """The lines that import the words of the text: in code as `ghost use`, in specs as `use`."""
         head, close = ("ghost use ", ";") if ghost else ("use ", "")
+        text = re.sub(r'"[^"]*"', "", text)
         words = set(text.translate(PUNCTUATION).split())
-        words |= {name for sign, name in LETTERS.items() if sign in text.translate(PUNCTUATION).split()}
+        words |= {name for sign, name in LETTERS.items() if sign in words}
         if "∷ []" in text:
             words.add("[]")
         made = []
@@ -148,9 +155,12 @@ class Module:
         name = snake(one.name)
         if isinstance(one, Enum):
             return [f"{name}_variants", f"{name}_shape"] if one.representation == "string" else [f"{name}_of_number", f"{name}_shape"]
-        if isinstance(one, Struct):
-            return [view_name(one), f"{name}_shape"]
+        if isinstance(one, (Struct, Unit)):
+            words = [f"{name}_of_bool"] if isinstance(one, Unit) and one.representation != "null" else []
+            return [view_name(one), *words, f"{name}_shape"]
         made = [view_name(one), *(case_word(one, case) for case in one.cases)]
+        if one.representation == "inline":
+            return made + [f"{name}_row", f"{name}_row_shape", f"{name}_of_row", f"{name}_shape"]
         return made + ([f"{name}_variants", f"{name}_shape"] if one.representation == "keyed" else [f"{name}_of_tree", f"{name}_shape"])
 
     def variants_import(self, one, ghost):
@@ -167,7 +177,7 @@ class Module:
         body = []
         for one in self.types:
             body += [""] + self.spec(one)
-        text = "\n".join(line.split("--")[0] for line in body)
+        text = "\n".join(line for line in body if not line.startswith("--"))
         head = [f"-- What a tree shows to the types of {source}, by ./dagcbor-types."]
         head += self.imports(text, ghost=False)
         for one in self.types:
@@ -178,6 +188,8 @@ class Module:
     def spec(self, one):
         if isinstance(one, Enum):
             return self.enum_spec(one)
+        if isinstance(one, Unit):
+            return self.unit_spec(one)
         return self.struct_spec(one) if isinstance(one, Struct) else self.union_spec(one)
 
     def struct_spec(self, struct):
@@ -185,16 +197,16 @@ class Module:
         kinds = [(field, self.schema.resolve(field.type)) for field in struct.fields]
         shown = [f"Option {wrapped(self.view(kind))}" if field.optional else self.view(kind) for field, kind in kinds]
         if struct.representation == "tuple":
-            rows = [f"first_then {wrapped(self.shape(kind))} (" for field, kind in kinds]
+            rows = [f"{'optional' if field.optional else 'first'}_then {wrapped(self.shape(kind))} (" for field, kind in kinds]
             end, whole = "no_more", "list_of ("
-            said = "a list of " + listed([field.key for field, _ in kinds])
+            said = "a list of " + listed([field.name for field, _ in kinds])
         else:
             rows = [
                 f'{"omissible" if field.optional else "required"}_field (codes "{field.key}") {wrapped(self.shape(kind))} ('
                 for field, kind in kinds
             ]
             end, whole = "no_fields" if struct.open else "no_other_fields", "struct_shape ("
-            said = "a map of " + listed([field.key for field, _ in kinds])
+            said = "a map of " + listed([field.name for field, _ in kinds])
         return [
             f"-- {struct.name}: {said}",
             f"abbrev pub {view} : Type 0",
@@ -206,7 +218,18 @@ class Module:
             *([f"    {rows[-1][:-2]} {end}{')' * len(rows)}"] if rows else [f"    {end})"]),
         ]
 
-    def takes_memory(self, kind):
+    def writing_takes_memory(self, kind):
+        """Whether writing it may take memory, where the writer takes none."""
+        if isinstance(kind, Leaf):
+            return kind.kind == "Any"
+        if isinstance(kind, Named):
+            one = self.schema.by_name[kind.name]
+            if isinstance(one, Alias):
+                return self.writing_takes_memory(one.of)
+            return isinstance(one, Struct) and one.representation == "map" or any(map(self.writing_takes_memory, held_by(one)))
+        return isinstance(kind, MapOf) or any(map(self.writing_takes_memory, parts(kind)))
+
+    def reading_takes_memory(self, kind):
         """Whether reading it may take memory, as far as the specs say."""
         if isinstance(kind, Named):
             one = self.schema.by_name[kind.name]
@@ -275,6 +298,8 @@ class Module:
                 f"abbrev pub {name}_shape : Shape Tree {view}",
                 f"{name}_shape = told_by_tree {name}_of_tree",
             ]
+        if union.representation == "inline":
+            return [f"-- {union.name}: a map, told by one of its fields", *data, *self.inline_spec(union)]
         parts, needs = [], []
         for place, (case, kind) in enumerate(kinds):
             test = f'{"else " if place else ""}if bytes_eq name (codes "{case.data}") then'
@@ -294,7 +319,79 @@ class Module:
             *needs,
             "    else 0",
             "",
-            *self.variants_spec(union, view, f"{name}_part", f"{name}_need", any(self.takes_memory(kind) for _, kind in kinds)),
+            *self.variants_spec(union, view, f"{name}_part", f"{name}_need", any(self.reading_takes_memory(kind) for _, kind in kinds)),
+        ]
+
+    def unit_spec(self, unit):
+        name, view = snake(unit.name), view_name(unit)
+        head = [f"-- {unit.name}: {unit.representation} alone", f"abbrev pub {view} : Type 0", f"{view} = Unit {{0}}", ""]
+        if unit.representation == "null":
+            return [*head, f"abbrev pub {name}_shape : Shape Tree {view}", f"{name}_shape = leaf view_null"]
+        rows = ["Some tt", "None"] if unit.representation == "true" else ["None", "Some tt"]
+        return [
+            *head,
+            f"abbrev pub {name}_of_bool : Bool → Option {view}",
+            f"{name}_of_bool b = if b then {rows[0]} else {rows[1]}",
+            "",
+            f"abbrev pub {name}_shape : Shape Tree {view}",
+            f"{name}_shape = finishing {name}_of_bool (leaf view_bool)",
+        ]
+
+    def inline_row(self, union):
+        """Of each place in the row of an inline union: the field, its resolved type, its name in code and what shows it in specs."""
+        used, made = set(), []
+        for place, field in enumerate(self.schema.row_of(union)):
+            name = field_name(field.name)
+            while name in used or name in ("tag", "row", "parts"):
+                name += "_"
+            used.add(name)
+            made.append((field, self.schema.resolve(field.type), name, f"row.1{'.1' * place}.0"))
+        return made
+
+    def inline_member(self, case):
+        return self.schema.by_name[self.schema.resolve(case.type).name]
+
+    def inline_spec(self, union):
+        name, view = snake(union.name), view_name(union)
+        row = self.inline_row(union)
+        is_open = self.inline_member(union.cases[0]).open
+        shown = ["List ℕ", *(f"Option {wrapped(self.view(kind))}" for _, kind, _, _ in row)]
+        rows = [f'omissible_field (codes "{field.key}") {wrapped(self.shape(kind))} (' for field, kind, _, _ in row]
+        rows.insert(0, f'required_field (codes "{union.discriminant}") (owned_leaf view_text) (')
+        made = []
+        for case in union.cases:
+            fields = {field.key: field for field in self.inline_member(case).fields}
+            test = f'{"else " if made else ""}if bytes_eq row.0 (codes "{case.data}") then'
+            made.append(f"    {test}")
+            words, close = [], 0
+            for field, _, local, path in row:
+                if field.key in fields and not fields[field.key].optional:
+                    words.append(f"    there {path} (λ {local}.")
+                    close += 1
+                elif field.key not in fields and not is_open:
+                    words.append(f"    absent {path} (")
+                    close += 1
+            shown_by_key = {field.key: (local, path) for field, _, local, path in row}
+            parts = [shown_by_key[key][1 if field.optional else 0] for key, field in fields.items()]
+            pairs = "".join(f"({part}, " for part in parts) + "tt" + ")" * len(parts)
+            made += words + [f"    Some ({case_word(union, case)} {pairs}){')' * close}"]
+        end = "no_fields" if is_open else "no_other_fields"
+        return [
+            f"abbrev pub {name}_row : Type 0",
+            *view_rows(f"{name}_row", shown),
+            "",
+            f"abbrev pub {name}_row_shape : Shape Tree {name}_row",
+            f"{name}_row_shape = struct_shape (",
+            *(f"    {one}" for one in rows[:-1]),
+            f"    {rows[-1][:-2]} {end}{')' * len(rows)}",
+            "",
+            f"abbrev pub {name}_of_row : {name}_row → Option {view}",
+            f"{name}_of_row row =",
+            *made,
+            "    else None",
+            "",
+            f"abbrev pub {name}_shape : Shape Tree {view}",
+            f"{name}_shape = finishing {name}_of_row {name}_row_shape",
         ]
 
     def case_kind(self, union, case):
@@ -316,7 +413,7 @@ class Module:
         head += self.imports(ghost, ghost=True)
         for one in self.types:
             head += split(f"ghost use Rattle.{self.crate}.specs.{self.path}.", self.spec_words(one), ";")
-            if not isinstance(one, Struct):
+            if isinstance(one, (Enum, Union)):
                 head += self.variants_import(one, ghost=True)
         head += [""] + self.code_imports("\n".join(body))
         return "\n".join(head + body) + "\n"
@@ -333,9 +430,10 @@ class Module:
 
     @staticmethod
     def code_imports(text):
+        text = re.sub(r'"[^"]*"', "", "\n".join(line for line in text.split("\n") if "///" not in line)).replace("fn read_parts", "")
         words = set("".join(char if char.isalnum() or char == "_" else " " for char in text).split())
         made = []
-        schema = [word for word in ("Closed", "Kinded", "Numbered", "Omissible", "read_kinded", "read_numbered") if word in words]
+        schema = [word for word in SCHEMA_WORDS if word in words]
         if schema:
             made += filled("use dagcbor_schema::", schema, ";")
         library = """Bytes Cid DecodeError Deserialize DeserializeOwned Deserializer EnumAccessor Field Ipld Optional Read ReadResult
@@ -349,18 +447,22 @@ class Module:
     def declared(self, one):
         text = documented(one.text, 0)
         if isinstance(one, Alias):
-            return text + [f"pub type {one.name} = {self.code(one.of, aliases=True)};"]
+            kind = self.code(one.of, aliases=True)
+            whole = f"pub type {one.name} = {kind};"
+            return text + ([whole] if len(whole) <= WIDTH else [f"pub type {one.name} =", *typed("", kind, 4, ";")])
         if isinstance(one, Struct):
             rows = []
             for field in one.fields:
                 kind = self.code(field.type, aliases=True)
                 rows += documented(field.text, 4)
-                rows.append(f"    pub {field_name(field.name)}: {f'Option<{kind}>' if field.optional else kind},")
+                rows += typed(f"pub {field_name(field.name)}: ", f"Option<{kind}>" if field.optional else kind, 4, ",")
             body = [f"pub struct {one.name} {{", *rows, "}"] if rows else [f"pub struct {one.name} {{}}"]
             return text + ["#[derive(Debug, Drop)]", *body]
         if isinstance(one, Enum):
             rows = [f"    {member.name}," for member in one.members]
             return text + ["#[derive(Clone, Copy, Debug, PartialEq, Eq)]", f"pub enum {one.name} {{", *rows, "}"]
+        if isinstance(one, Unit):
+            return text + ["#[derive(Clone, Copy, Debug, PartialEq, Eq)]", f"pub struct {one.name};"]
         rows = []
         for case in one.cases:
             kind = "i128" if one.representation == "kinded" and isinstance(self.schema.resolve(case.type), Int) else self.code(case.type, aliases=True)
@@ -372,6 +474,10 @@ class Module:
             made = self.tuple_impls(one) if one.representation == "tuple" else self.struct_impls(one)
         elif isinstance(one, Enum):
             made = self.enum_impls(one) if one.representation == "string" else self.number_impls(one)
+        elif isinstance(one, Unit):
+            made = self.unit_impls(one)
+        elif one.representation == "inline":
+            made = self.inline_impls(one)
         else:
             made = self.keyed_impls(one) if one.representation == "keyed" else self.kinded_impls(one)
         return made + [
@@ -403,12 +509,7 @@ class Module:
         end = "()" if struct.open else "Closed"
         read = lines(names, 8, ";")
         read += lines(Group("let row = read_struct(", ["alloc", f'"{struct.name}"', "names", "de"], ")?"), 8, ";")
-        for place, (field, _) in enumerate(kinds):
-            name = field_name(field.name)
-            rest = "row" if place < len(kinds) - 1 else end
-            read.append(f"        let {f'Omissible({name}, {rest})' if field.optional else f'(Required({name}), {rest})'} = row;")
-        if not kinds:
-            read.append(f"        let {end} = row;")
+        read += self.row_apart(kinds, end)
         read += lines(self.literal(struct), 8)
         return [
             *self.serialize_impl(struct, ghost_rows("λ v. entries_tree (", tree, "[]"), write),
@@ -433,19 +534,33 @@ class Module:
 
     def tuple_impls(self, struct):
         kinds = [(field, self.schema.resolve(field.type)) for field in struct.fields]
-        names = [field_name(field.name) for field, _ in kinds]
-        tree = [f"{self.tree(kind, 'v.' + name)} ∷" for name, (_, kind) in zip(names, kinds)]
-        comma = "," if len(names) == 1 else ""
-        parts = Group("let parts = (", [f"&self.{name}" for name in names], f"{comma})")
-        write = lines(parts, 8, ";") + ["        parts.serialize(alloc, ser)"]
-        read = ["        let parts = Deserialize::deserialize(alloc, de)?;"]
-        read += taken_apart(names, f"{comma})", "parts", 8)
+        tree = []
+        for field, kind in kinds:
+            value = f"v.{field_name(field.name)}"
+            tree.append(f"optional_part {self.tree_of(kind)} {value} (" if field.optional else f"{self.tree(kind, value)} ∷")
+        write = ["        let row = ();"]
+        for field, _ in reversed(kinds):
+            part = Group("OptionalPart(" if field.optional else "Part(", [f"&self.{field_name(field.name)}"], ")")
+            write += lines(Group("let row = (", [part, "row"], ")"), 8, ";")
+        write.append(f"        write_parts(alloc, {len(kinds)}, row, ser)")
+        read = [f"        let row = read_parts(alloc, {len(kinds)}, de)?;"]
+        read += self.row_apart(kinds, "()")
         read += lines(self.literal(struct), 8)
         return [
             *self.serialize_impl(struct, ghost_rows("λ v. list_tree (", tree, "[]"), write),
             *self.shown_impl(struct, self.row_meaning(kinds)),
             *self.deserialize_impl(struct, read),
         ]
+
+    @staticmethod
+    def row_apart(kinds, end):
+        """The lines that take a row apart into its fields."""
+        made = []
+        for place, (field, _) in enumerate(kinds):
+            name = field_name(field.name)
+            rest = "row" if place < len(kinds) - 1 else end
+            made.append(f"        let {f'Omissible({name}, {rest})' if field.optional else f'(Required({name}), {rest})'} = row;")
+        return made or [f"        let {end} = row;"]
 
     # -- enums
 
@@ -480,7 +595,8 @@ class Module:
             write += arm(f"{name}::{member.name}", Group("ser.serialize_u64(", [str(member.data)], ")"), 12)
         write.append("        }")
         of = ["        match number {"]
-        of += [f"            {member.data} => Some({name}::{member.name})," for member in enum.members]
+        for member in enum.members:
+            of += arm(str(member.data), Group("Some(", [f"{name}::{member.name}"], ")", WIDTH), 12)
         of += ["            _ => None,", "        }"]
         return [
             *self.serialize_impl(enum, cases_of(tree), write, alloc=False),
@@ -489,7 +605,114 @@ class Module:
             *self.deserialize_impl(enum, ["        read_numbered(alloc, de)"]),
         ]
 
+    # -- units
+
+    def unit_impls(self, unit):
+        name, word = unit.name, unit.representation
+        tree = "λ v. Some null" if word == "null" else f"λ v. Some (boolean {word})"
+        call = "ser.serialize_unit()" if word == "null" else f"ser.serialize_bool({word})"
+        made = [*self.serialize_impl(unit, [tree], [f"        {call}"], alloc=False), *self.shown_impl(unit, ["λ v. tt"])]
+        if word == "null":
+            read = ["        let () = Deserialize::deserialize(alloc, de)?;", f"        Ok({name})"]
+            return made + self.deserialize_impl(unit, read)
+        of = [f"        if parts {{ {f'Some({name})' if word == 'true' else 'None'} }} else {{ {'None' if word == 'true' else f'Some({name})'} }}"]
+        if len(of[0]) > 58:
+            of = ["        if parts {", f"            {f'Some({name})' if word == 'true' else 'None'}", "        } else {",
+                  f"            {'None' if word == 'true' else f'Some({name})'}", "        }"]
+        return [
+            *made,
+            *self.made_impl(unit, "bool", ["Bool", ["λ b. b"], "leaf view_bool"], ["λ v. tt"], f"{snake(name)}_of_bool",
+                            ["        bool::deserialize(alloc, de)"], of),
+            *self.deserialize_impl(unit, ["        read_made(alloc, de)"]),
+        ]
+
     # -- unions
+
+    def inline_impls(self, union):
+        name = union.name
+        row = self.inline_row(union)
+        is_open = self.inline_member(union.cases[0]).open
+        end = "()" if is_open else "Closed"
+        tree, meaning, write, of = [], [], ["        match self {"], ["        let (Required(tag), row) = parts;"]
+        for place, (_, _, local, _) in enumerate(row):
+            of.append(f"        let Omissible({local}, {'row' if place < len(row) - 1 else end}) = row;")
+        if not row:
+            of[0] = f"        let (Required(tag), {end}) = parts;"
+        of.append("        match tag.as_str() {")
+        for case in union.cases:
+            struct = self.inline_member(case)
+            tree += self.inline_tree(union, case, struct)
+            meaning.append(f"{alias(union)}.{case.name} x ↦ {case_word(union, case)} ({self.meaning(Named(struct.name, case.place), 'x')})")
+            write += [f"            {name}::{case.name}(x) => {{", *self.inline_written(union, case, struct), "            }"]
+            of += self.inline_made(union, case, struct, row, is_open)
+        write.append("        }")
+        of += ["            _ => None,", "        }"]
+        names = Group("let names = &[", [f'"{union.discriminant}"', *(f'"{field.key}"' for field, _, _, _ in row)], "]")
+        read = lines(names, 8, ";") + lines(Group("read_struct(", ["alloc", f'"{name}"', "names", "de"], ")"), 8)
+        kind = "Closed" if not is_open else "()"
+        for _, held, _, _ in reversed(row):
+            kind = f"Omissible<{self.code(held)}, {kind}>"
+        shown = pairs_of(["string_bytes v.0.0", *(self.inline_shown(row, place) for place in range(len(row)))])
+        return [
+            *self.serialize_impl(union, cases_of(tree), write),
+            *self.shown_impl(union, cases_of(meaning)),
+            *self.made_impl(union, f"(Required<String>, {kind})", [f"{snake(name)}_row", shown, f"{snake(name)}_row_shape"],
+                            cases_of(meaning), f"{snake(name)}_of_row", read, of),
+            *self.deserialize_impl(union, ["        read_made(alloc, de)"]),
+        ]
+
+    def inline_shown(self, row, place):
+        """What the field at this place of a row that was read means."""
+        kind = row[place][1]
+        return self.meaning(Nullable(kind, kind.place), "v.1" + ".1" * place + ".0")
+
+    def inline_tree(self, union, case, struct):
+        rows = []
+        for field, kind in self.inline_order(union, struct):
+            if field is None:
+                rows.append(f'field (codes "{union.discriminant}") (Some (text (codes "{case.data}"))) ∷')
+                continue
+            value = f"x.{field_name(field.name)}"
+            if field.optional:
+                rows.append(f'optional (codes "{field.key}") {self.tree_of(kind)} {value} (')
+            else:
+                rows.append(f'field (codes "{field.key}") ({self.tree(kind, value)}) ∷')
+        opened = 1 + sum(row.endswith("(") for row in rows)
+        rows[-1] = rows[-1].removesuffix(" (") + f" []{')' * (opened - rows[-1].endswith('('))}"
+        return ["\n          ".join([f"{alias(union)}.{case.name} x ↦ entries_tree (", *rows])]
+
+    def inline_order(self, union, struct):
+        """The fields in the order of their keys, and None for what tells the member."""
+        kinds = [(field, self.schema.resolve(field.type)) for field in struct.fields] + [(None, None)]
+        key = lambda row: row[0].key if row[0] else union.discriminant
+        return sorted(kinds, key=lambda row: (len(key(row)), key(row)))
+
+    def inline_written(self, union, case, struct):
+        made = [f'                let tag = "{case.data}";', "                let row = ();"]
+        for field, _ in reversed(self.inline_order(union, struct)):
+            if field is None:
+                part = Group("Field(", [f'"{union.discriminant}"', "&tag"], ")")
+            else:
+                part = Group("Optional(" if field.optional else "Field(", [f'"{field.key}"', f"&x.{field_name(field.name)}"], ")")
+            made += lines(Group("let row = (", [part, "row"], ")"), 16, ";")
+        return made + ["                write_struct(alloc, row, ser)"]
+
+    def inline_made(self, union, case, struct, row, is_open):
+        fields = {field.key: field for field in struct.fields}
+        made = [f'            "{case.data}" => {{']
+        for field, _, local, _ in row:
+            if field.key in fields and not fields[field.key].optional:
+                made.append(f"                let {local} = {local}?;")
+            elif field.key not in fields and not is_open:
+                made += [f"                if {local}.is_some() {{", "                    return None;", "                }"]
+        locals_by_key = {field.key: local for field, _, local, _ in row}
+        words = []
+        for field in struct.fields:
+            word, local = field_name(field.name), locals_by_key[field.key]
+            words.append(word if word == local else f"{word}: {local}")
+        literal = Group(f"{struct.name} {{", words, "}", INSIDE_STRUCT) if words else f"{struct.name} {{}}"
+        made += lines(Group("let x = " + literal.head, words, "}", INSIDE_STRUCT), 16, ";") if words else [f"                let x = {literal};"]
+        return made + [*lines(Group("Some(", [Group(f"{union.name}::{case.name}(", ["x"], ")")], ")", WIDTH), 16), "            }"]
 
     def keyed_impls(self, union):
         name = union.name
@@ -524,7 +747,8 @@ class Module:
             tree.append(f"{alias(union)}.{case.name} x ↦ {self.tree(kind, 'x')}")
             meaning.append(f"{alias(union)}.{case.name} x ↦ {case_word(union, case)} {wrapped(self.meaning(kind, 'x'))}")
             write += arm(f"{name}::{case.name}(x)", Group("x.serialize(", ["alloc", "ser"], ")"), 12)
-            of.append(f"            Ipld::{held}(x) => Some({name}::{case.name}({'Bytes(x)' if held == 'Bytes' else 'x'})),")
+            inner = "Bytes(x)" if held == "Bytes" else "x"
+            of += arm(f"Ipld::{held}(x)", Group("Some(", [Group(f"{name}::{case.name}(", [inner], ")")], ")", WIDTH), 12)
         write.append("        }")
         named = {case.data for case in union.cases}
         others = [("null", "Null"), ("bool", "Bool(_)"), ("int", "Integer(_)"), ("string", "String(_)"), ("bytes", "Bytes(_)")]
@@ -561,13 +785,15 @@ class Module:
 
     # -- the forms of an impl
 
-    @staticmethod
-    def serialize_impl(one, tree, body, alloc=True):
+    def serialize_impl(self, one, tree, body, alloc=True):
         words = "alloc" if alloc else "_alloc"
+        takes = self.writing_takes_memory(Named(one.name, one.place))
         return [
             "",
             f"impl Serialize for {one.name} {{",
             *ghost("tree", tree),
+            "",
+            f"    ghost takes_memory = {{ {'true' if takes else 'false'} }};",
             "",
             f"    fn serialize<W: Write>(&self, {words}: Global, ser: &mut Serializer<W>) -> WriteResult<(), W> {{",
             *body,
@@ -627,6 +853,40 @@ class Module:
         names = Group("let names = &[", [f'"{name}"' for name in names], "]")
         call = Group("read_enum(", ["alloc", f'"{one.name}"', "names", "de"], ")")
         return self.deserialize_impl(one, lines(names, 8, ";") + lines(call, 8))
+
+    @staticmethod
+    def made_impl(one, kind, seen, meaning, made, read, of):
+        """A value that is made of parts: their type, what they show, and the bodies that read them and make the value."""
+        view, parts_meaning, shape = seen
+        return [
+            "",
+            f"impl<'de> Made<'de> for {one.name} {{",
+            *typed("type Parts = ", kind, 4, ";"),
+            "",
+            f"    ghost PartsView = {{ {view} }};",
+            "",
+            *ghost("parts_meaning", parts_meaning),
+            "",
+            f"    ghost parts_shape = {{ {shape} }};",
+            "",
+            f"    ghost View = {{ {view_name(one)} }};",
+            "",
+            *ghost("meaning", meaning),
+            "",
+            f"    ghost made = {{ {made} }};",
+            "",
+            "    fn read_parts<R: Read>(",
+            "        alloc: Global,",
+            "        de: &mut Deserializer<'de, R>,",
+            "    ) -> ReadResult<Self::Parts, R> {",
+            *read,
+            "    }",
+            "",
+            f"    fn of_parts(parts: Self::Parts) -> Option<{one.name}> {{",
+            *of,
+            "    }",
+            "}",
+        ]
 
     @staticmethod
     def told_impl(one, trait, head, meaning, told, body):

@@ -1,12 +1,24 @@
 #!/usr/bin/env python3
 """What `dagcbor-types` refuses, by line and column, and what it reads of the DSL.
 
-    python3 -m schemas.selftest     at the top of the repository; ends in a line `N passed, M failed`"""
+    python3 -m schemas.selftest                   at the top of the repository; ends in a line `N passed, M failed`
+    python3 -m schemas.selftest prove 30 [FIRST]  makes 30 schemas at random, from seed FIRST on, and has `rt` prove what the tool
+                                                  makes of each, and lay it out, in a copy: a line for each. It takes an hour or two
+    python3 -m schemas.selftest draw 7            prints the schema of a seed
+    python3 -m schemas.selftest wrong             writes specs of a schema that was edited beside the code of the schema as it was,
+                                                  edit by edit, and has `rt` refuse each: a line for each, some ten minutes"""
 
+import pathlib
+import re
+import shutil
+import subprocess
 import sys
+import tempfile
+import time
 from dataclasses import dataclass
 
-from schemas.crate import LANGUAGES
+from schemas.crate import LANGUAGES, STANDS_ON, files_of, write
+from schemas.drawing import drawn
 from schemas.language import KNOWN
 from schemas.law import Schema
 from schemas.parsing import Field, SchemaError, parse
@@ -49,8 +61,9 @@ REFUSED = [
     ("type A struct {\n  x Int (implicit \"0\")\n}", "2:19: `implicit` is not supported yet"),
     ("type A struct {\n  x Int (rename \"\\u00e9\")\n}", "2:18: behind \\"),
     ("type A struct {\n  x Int (rename \"é\")\n}", "2:3: names in the data are up to 40 printable characters"),
-    ("type A struct {\n  a Int\n  b Int\n  c Int\n  d Int\n  e Int\n} representation tuple", "1:6: a tuple has one to 4 fields here, and `A` has 5"),
-    ("type A struct {\n  a optional Int\n} representation tuple", "2:3: a field of a tuple is not optional"),
+    ("type A struct {\n  a optional Int\n  b Int\n} representation tuple", "3:3: behind `a`, which is optional, each field of a tuple is: `b`"),
+    ("type A struct {\n  _a Int\n}", "2:3: a field's name begins with a letter"),
+    ("type R int", "1:6: `R` is a name of"),
     ("type A struct {\n  a nullable optional Int\n}", "2:14: a field is `optional`, `nullable`, or"),
     ("type A {Int:String}", "1:9: unknown type `Int`"),
     ("type A struct {\n  x Int # as u7\n}", "2:9: no integers are kept as u7"),
@@ -60,7 +73,7 @@ REFUSED = [
     ("type foo int", "1:6: a type's name is a capital"),
     ("type Foo int\ntype FOO int", "2:6: `FOO` and `Foo` (line 1) are one name in lower case"),
     ("type Foo int\ntype FooView int", "2:6: `FooView` and `Foo`"),
-    ("type A unit representation null", "1:6: unit is not supported yet: `A`"),
+    ("type A unit representation null", "none"),
     ("advanced ROT13", "1:1: advanced data layouts are not supported"),
     ("type A struct {\n  x Int", "2:8: the name of a field is wanted here, and not the end of the file"),
     ("type A \"a\"", "1:8: a type is wanted here, and not the text \"a\""),
@@ -109,7 +122,6 @@ MADE_IN = [
 REFUSED_IN = [
     ("python", "type CID struct {}", "1:6: `CID` is a name that the made Python uses"),
     ("python", "type AInt int\ntype A union {\n  | Int \"i\"\n} representation keyed", "2:6: two types have the name `AInt`: this and line 1"),
-    ("python", "type A struct {\n  __x Int\n}", "2:3: a field's name does not begin with two _"),
     ("typescript", "type Data struct {}", "1:6: `Data` is a name that the made TypeScript uses"),
     ("typescript", "type A struct {\n  x Int (rename \"__proto__\")\n}", "2:3: no field is named __proto__"),
     ("typescript", "type A struct {\n  toString Int\n  toString_ Int\n}", "3:3: two fields have the name `toString_`"),
@@ -181,13 +193,150 @@ def failures():
         yield more_is_told(make)
 
 
-def main():
+def refuse_and_make():
     found = list(failures())
     told = [one for one in found if one]
     for one in told:
         print(one)
     print(f"{len(found) - len(told)} passed, {len(told)} failed")
     sys.exit(1 if told else 0)
+
+
+# ---- schemas at random
+
+ROOT = pathlib.Path(__file__).resolve().parent.parent
+
+
+def below(names, table):
+    """These crates, and all below them, by the lines of crates.txt."""
+    found = []
+    for name in names:
+        line = re.search(rf"^{name}(?: [^:\n]*)?:(.*)$", table, re.MULTILINE)
+        if line:
+            found += [other for other in [*below(line[1].split(), table), name] if other not in found]
+    return list(dict.fromkeys(found))
+
+
+def copied(folder):
+    """The crates that made types stand on, with what was kept of their proofs."""
+    table = (ROOT / "crates.txt").read_text(encoding="utf-8")
+    names = below(STANDS_ON.split(), table)
+    (folder / "crates").mkdir()
+    for name in names:
+        subprocess.run(["cp", "-a", ROOT / "crates" / name, folder / "crates" / name], check=True)
+    shutil.copy(ROOT / "HANDLES", folder / "HANDLES")
+    rows = [row for row in table.split("\n") if row.split(":")[0].split(" ")[0] in names]
+    return "\n".join(rows) + "\n"
+
+
+def ran(*command, folder):
+    result = subprocess.run(command, cwd=folder, stdin=subprocess.DEVNULL, capture_output=True, text=True)
+    return result.returncode, result.stdout + result.stderr
+
+
+def judged(seed, folder, table):
+    """What becomes of the schema of a seed: a line, and the log where it fails."""
+    name = f"drawn_{seed}"
+    source, crate = folder / f"{name}.ipldsch", folder / "crates" / name
+    source.write_text(drawn(seed), encoding="utf-8")
+    (folder / "crates.txt").write_text(table, encoding="utf-8")
+    write(files_of([source], crate), check=False)
+    made = {path: path.read_text(encoding="utf-8") for path in crate.rglob("*") if path.is_file()}
+    start = time.monotonic()
+    status, log = ran("rt", "check", "--jobs", "2", folder=crate)
+    took = f"{time.monotonic() - start:.0f} s"
+    functions = re.search(r"logic=proved functions=(\d+)", log)
+    if status or not functions:
+        return f"not proved, {took}", log
+    status, log = ran("rt", "fmt", folder=crate)
+    others = [path.name for path, text in made.items() if path.read_text(encoding="utf-8") != text]
+    shutil.rmtree(crate)
+    if status or others:
+        return f"proved, and laid out by rt fmt as another: {' '.join(others)}", log
+    return f"proved, {functions[1]} functions, {took}", None
+
+
+# A schema, and edits of it: what is edited, a line of it, and what stands there in its place.
+EDITED = """type Format enum {
+  | Vinyl
+  | Tape ("tape")
+}
+
+type Length int # as u16
+
+type Side union {
+  | Length "minutes"
+  | Format "format"
+} representation keyed
+
+type Track struct {
+  title String
+  note optional String
+  side Side
+  seconds Length
+}
+"""
+EDITS = [
+    ("a field renamed", "  title String", '  title String (rename "name")'),
+    ("an optional field made required", "  note optional String", "  note nullable String"),
+    ("a bound", "type Length int # as u16", "type Length int # as u32"),
+    ("an enum's text", '  | Tape ("tape")', '  | Tape ("Tape")'),
+    ("a member's key", '  | Length "minutes"', '  | Length "seconds"'),
+    ("other keys skipped", "type Track struct {", "type Track struct { # open"),
+]
+
+
+def wrong():
+    """The code is the schema's as it was, and the specs are those of the edited one."""
+    passed = failed = 0
+    with tempfile.TemporaryDirectory() as name:
+        folder = pathlib.Path(name)
+        table = copied(folder)
+        (folder / "crates.txt").write_text(table, encoding="utf-8")
+        source, crate = folder / "edited.ipldsch", folder / "crates" / "edited_types"
+        source.write_text(EDITED, encoding="utf-8")
+        made = files_of([source], crate)
+        write(made, check=False)
+        right = {path: text for path, text in made[1].items() if path.parent.name == "specs"}
+        for what, old, new in [("nothing", "", ""), *EDITS]:
+            source.write_text(EDITED.replace(old, new, 1), encoding="utf-8")
+            for path, text in files_of([source], crate)[1].items():
+                if path in right:
+                    path.write_text(text, encoding="utf-8")
+            status, log = ran("rt", "check", "--jobs", "2", folder=crate)
+            refused = sorted(set(re.findall(r"fn edited_types::(\S+): no(?:t proved| proof)", log)))
+            holds = not status and not refused if what == "nothing" else bool(status and refused)
+            passed, failed = (passed + 1, failed) if holds else (passed, failed + 1)
+            print(f"{what}: {'not ' * (what != 'nothing')}proved {', '.join(refused)}".rstrip() if holds else f"{what}: WRONG\n{log[-3000:]}", flush=True)
+    print(f"{passed} passed, {failed} failed")
+    sys.exit(1 if failed else 0)
+
+
+def prove(count, first):
+    passed = failed = 0
+    with tempfile.TemporaryDirectory() as name:
+        folder = pathlib.Path(name)
+        table = copied(folder)
+        for seed in range(first, first + count):
+            line, log = judged(seed, folder, table)
+            passed, failed = (passed + 1, failed) if log is None else (passed, failed + 1)
+            print(f"seed {seed}: {line}", flush=True)
+            if log is not None:
+                print("\n".join(row for row in log.split("\n") if re.search(r"not proved|no proof|error", row))[:4000], flush=True)
+    print(f"{passed} passed, {failed} failed")
+    sys.exit(1 if failed else 0)
+
+
+def main():
+    words = sys.argv[1:]
+    if words[:1] == ["draw"]:
+        print(drawn(int(words[1])), end="")
+    elif words[:1] == ["prove"]:
+        prove(int(words[1]), int(words[2]) if len(words) > 2 else 0)
+    elif words[:1] == ["wrong"]:
+        wrong()
+    else:
+        refuse_and_make()
 
 
 if __name__ == "__main__":

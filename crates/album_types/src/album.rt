@@ -1,6 +1,7 @@
 //! The types of album.ipldsch, by ./dagcbor-types. Change that file, and run it again.
 
-ghost use Rattle.std.specs.Prelude.{[], ◌∷◌, Option, Some, codes, pos, string_bytes, refl};
+ghost use Rattle.std.specs.Prelude.{[], ◌∷◌, Option, Some, codes, pos, string_bytes, true, false};
+ghost use Rattle.std.specs.Prelude.{refl};
 ghost use Rattle.serde_ipld_dagcbor.specs.Tree.{text, integer, entries_tree};
 ghost use Rattle.serde_ipld_dagcbor.specs.Trees.{field, optional};
 ghost use Rattle.album_types.specs.Album.{format_variants, format_shape};
@@ -48,6 +49,8 @@ impl Serialize for Format {
       | in_format.Tape ↦ Some (text (codes "Tape"))
       | in_format.Disc ↦ Some (text (codes "Disc"))
     ] };
+
+    ghost takes_memory = { false };
 
     fn serialize<W: Write>(&self, _alloc: Global, ser: &mut Serializer<W>) -> WriteResult<(), W> {
         match self {
@@ -114,6 +117,8 @@ impl Serialize for Track {
         field (codes "title") (Some (text (string_bytes v.title))) ∷
         field (codes "seconds") (Some (integer (pos v.seconds))) ∷ [])) };
 
+    ghost takes_memory = { true };
+
     fn serialize<W: Write>(&self, alloc: Global, ser: &mut Serializer<W>) -> WriteResult<(), W> {
         let row = ();
         let row = (Field("seconds", &self.seconds), row);
@@ -159,6 +164,8 @@ impl Serialize for Album {
         field (codes "title") (Some (text (string_bytes v.title))) ∷
         field (codes "format") (⟦<Format as Serialize>⟧.tree v.format) ∷
         field (codes "tracks") (⟦<Vec<Track> as Serialize>⟧.tree v.tracks) ∷ [])) };
+
+    ghost takes_memory = { true };
 
     fn serialize<W: Write>(&self, alloc: Global, ser: &mut Serializer<W>) -> WriteResult<(), W> {
         let row = ();

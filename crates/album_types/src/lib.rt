@@ -1,6 +1,8 @@
-//! The types of album.ipldsch, by ./dagcbor-types.
+//! The types of album.ipldsch, note.ipldsch, by ./dagcbor-types.
 #![tactic(auto)]
 
 mod album;
+mod note;
 
 pub use album::{Album, Format, Track};
+pub use note::Note;

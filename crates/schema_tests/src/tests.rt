@@ -1,3 +1,4 @@
 mod album;
 mod blocks;
+mod note;
 mod written_again;

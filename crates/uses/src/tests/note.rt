@@ -1,4 +1,4 @@
-//! The rest of the first example of the README, word for word.
+//! The note by hand of docs/TYPES.md: the test of the README, word for word.
 
 use crate::Note;
 use dagcbor_testing::{agree, is_told};

@@ -1,0 +1,23 @@
+use Rattle.dagcbor_heads.proofs.Refusing.{as_refusal}
+use Rattle.dagcbor_read.specs.Accessors.{accessor_state}
+use Rattle.dagcbor_read.specs.Deserializers.{de_state}
+use Rattle.dagcbor_read.proofs.Answered.{element_read, element_refused, no_element, after_some, after_none}
+use Rattle.dagcbor_schema.proofs.PartItems.{optional_refused, behind_refused, behind_taken, absent_refused, absent_taken}
+use Rattle.dagcbor_schema.proofs.parts.OmissibleParts.read_each.Goals as goal
+
+pub returns-in_err-first-clause-row : goal.returns-in_err-first-clause-row
+returns-in_err-first-clause-row g c =
+    let k = element_refused g.row.R-Error.Denot g.T.Shown.meaning g.T.Shown.shape _ _ (de_state g.R.Read.reading c.next_element.new.de) _ c.requires.sound c.in_err-first.ensures.element in
+    as_refusal _ _ _ _ c.from_residual.ensures.1 (optional_refused g.T.Shown.shape g.L.Parts.shape _ _ _ k.0 k.1)
+
+pub returns-in_err-others-clause-row : goal.returns-in_err-others-clause-row
+returns-in_err-others-clause-row g c =
+    let k = element_read g.row.R-Error.Denot g.T.Shown.meaning g.T.Shown.shape _ (de_state g.R.Read.reading c.args.de.now) (de_state g.R.Read.reading c.next_element.new.de) _ _ c.in-Some.is c.in_ok-first.ensures.element in
+    let after = after_some g.row.R-Error.Denot g.T.Shown.meaning g.T.Shown.shape _ _ (accessor_state c.args.items.now) _ c.in-Some.is c.in_ok-first.ensures.after in
+    as_refusal _ _ _ _ c.from_residual-in_err-others.ensures.1 (behind_refused g.T.Shown.shape g.L.Parts.shape _ _ k.some after k.takes c.in_err-others.ensures.row)
+
+pub returns-clause-row : goal.returns-clause-row
+returns-clause-row g c =
+    let k = element_read g.row.R-Error.Denot g.T.Shown.meaning g.T.Shown.shape _ (de_state g.R.Read.reading c.args.de.now) (de_state g.R.Read.reading c.next_element.new.de) _ _ c.in-Some.is c.in_ok-first.ensures.element in
+    let after = after_some g.row.R-Error.Denot g.T.Shown.meaning g.T.Shown.shape _ _ (accessor_state c.args.items.now) _ c.in-Some.is c.in_ok-first.ensures.after in
+    behind_taken g.T.Shown.shape g.L.Parts.shape k.some after k.takes c.in_ok-others.ensures.row

@@ -1,0 +1,57 @@
+//! A value that is made of what was read in another form.
+
+ghost use Rattle.std.specs.Prelude.{◌≡◌, Option, option_map};
+ghost use Rattle.serde_ipld_dagcbor.specs.Tree.{Tree};
+ghost use Rattle.serde_ipld_dagcbor.specs.Shapes.{Shape};
+ghost use Rattle.serde_ipld_dagcbor.specs.Collections.{finishing};
+ghost use Rattle.serde_ipld_dagcbor.specs.Deserializers.{StaysFailed, Stops, Over};
+ghost use Rattle.serde_ipld_dagcbor.specs.Values.{ReadsValue};
+
+use serde_ipld_dagcbor::{DecodeError, Deserializer, Read, ReadResult};
+use std::alloc::Global;
+
+/// A value that is made of parts, which are read first.
+pub trait Made<'de>: Sized + Drop {
+    type Parts: Drop;
+
+    ghost PartsView: { Type 0 };
+
+    ghost parts_meaning: { Self.Parts → PartsView };
+
+    ghost parts_shape: { Shape Tree PartsView };
+
+    ghost View: { Type 0 };
+
+    ghost meaning: { Self → View };
+
+    /// What the parts make. None where they make nothing.
+    ghost made: { PartsView → Option View };
+
+    fn read_parts<R: Read>(alloc: Global, de: &mut Deserializer<'de, R>)
+        -> ReadResult<Self::Parts, R>
+        ensures value { Over R.reading (ReadsValue parts_meaning parts_shape) de.old result
+            de.new }
+        ensures failed { Over R.reading StaysFailed de.old result de.new }
+        ensures stops { Over R.reading Stops de.old result de.new };
+
+    fn of_parts(parts: Self::Parts) -> Option<Self>
+        ensures { option_map meaning result ≡ made (parts_meaning parts) };
+}
+
+/// Reads the parts that make the value. Such as make nothing are refused with `Msg("no such
+/// value")`.
+pub fn read_made<'de, T: Made<'de>, R: Read>(
+    alloc: Global,
+    de: &mut Deserializer<'de, R>,
+) -> ReadResult<T, R>
+    ensures value { Over R.reading (ReadsValue T.meaning (finishing T.made T.parts_shape)) de.old
+        result de.new }
+    ensures failed { Over R.reading StaysFailed de.old result de.new }
+    ensures stops { Over R.reading Stops de.old result de.new }
+{
+    let parts = T::read_parts(alloc, de)?;
+    match T::of_parts(parts) {
+        Some(value) => Ok(value),
+        None => Err(DecodeError::custom("no such value")),
+    }
+}

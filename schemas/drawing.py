@@ -1,0 +1,176 @@
+"""Schemas drawn at random, which keep the law: every kind of type, names of 1 to 40 letters, up to 14 fields, types within
+types, in every order. A seed draws the same schema always."""
+
+import random
+import string
+
+from schemas.law import RESERVED, TAKEN, Schema, field_name, snake
+from schemas.parsing import WIDTHS, SchemaError, parse
+
+LENGTHS = (1, 2, 3, 5, 8, 13, 21, 40)
+SCALARS = ("Int", "String", "Bytes", "Bool", "&Any", "Any")
+KINDED = {"bool": "Bool", "int": "Int", "string": "String", "bytes": "Bytes", "link": "&Any"}
+MOST_FIELDS = 14
+MOST_IN_ALL = 18  # fields, members and cases of a schema: so that its proof takes a minute or two
+
+
+class Drawing:
+    def __init__(self, seed):
+        self.random = random.Random(seed)
+        self.names, self.made, self.left = set(), [], MOST_IN_ALL
+
+    # -- words
+
+    def word(self, first, others, taken, form):
+        while True:
+            length = self.random.choice(LENGTHS)
+            word = self.random.choice(first) + "".join(self.random.choice(others) for _ in range(length - 1))
+            if len(form(word)) <= 40 and form(word) not in taken and word not in TAKEN and word not in RESERVED:
+                taken.add(form(word))
+                return word
+
+    def type_name(self):
+        while True:
+            word = self.word(string.ascii_uppercase, string.ascii_letters + string.digits, set(), snake)
+            if snake(word) not in self.names and not word.endswith("View"):
+                self.names.add(snake(word))
+                return word
+
+    def variant(self, taken):
+        return self.word(string.ascii_uppercase, string.ascii_letters + string.digits, taken, str.lower)
+
+    def text(self, taken):
+        """What stands in the data: any printable text that the law allows."""
+        letters = [char for char in string.printable[:95] if char not in '"\\']
+        while True:
+            word = "".join(self.random.choice(letters) for _ in range(self.random.choice((0, *LENGTHS))))
+            if word not in taken:
+                taken.add(word)
+                return word
+
+    def some(self, most):
+        """How many parts: each takes of what is left."""
+        count = max(1, min(self.random.choice((1, 2, 2, 3, 3, 4, 5, most)), most, self.left))
+        self.left -= count
+        return count
+
+    # -- types of values
+
+    def value(self, depth=0):
+        """A type of a value, and the note that may stand behind it."""
+        draw = self.random.random()
+        if self.made and draw < 0.3:
+            return self.random.choice(self.made), ""
+        if depth < 3 and draw < 0.45:
+            part, note = self.value(depth + 1)
+            null = "nullable " if self.random.random() < 0.3 else ""
+            return (f"[{null}{part}]" if self.random.random() < 0.6 else f"{{String:{null}{part}}}"), note
+        scalar = self.random.choice(SCALARS)
+        note = f" # as {self.random.choice(WIDTHS)}" if scalar == "Int" and self.random.random() < 0.6 else ""
+        return scalar, note
+
+    # -- definitions
+
+    def struct(self, name):
+        names, keys, rows = set(), set(), []
+        for _ in range(self.some(MOST_FIELDS)):
+            kind, note = self.value()
+            word = self.word(string.ascii_letters, string.ascii_letters + string.digits + "_", names, field_name)
+            key = self.text(keys) if self.random.random() < 0.4 or word in keys else word
+            keys.add(key)
+            before = self.random.choice(("", "", "optional ", "nullable ", "optional nullable "))
+            behind = f' (rename "{key}")' if key != word else ""
+            rows.append(f"  {word} {before}{kind}{behind}{note}")
+        is_open = " # open" if self.random.random() < 0.3 else ""
+        return [f"type {name} struct {{{is_open}", *rows, "}"]
+
+    def tuple(self, name):
+        names, rows = set(), []
+        count = self.some(MOST_FIELDS)
+        there = self.random.choice((count, count, self.random.randint(0, count)))
+        for place in range(count):
+            kind, note = self.value()
+            word = self.word(string.ascii_letters, string.ascii_letters + string.digits + "_", names, field_name)
+            rows.append(f"  {word} {'optional ' if place >= there else ''}{self.random.choice(('', 'nullable '))}{kind}{note}")
+        return [f"type {name} struct {{", *rows, "} representation tuple"]
+
+    def enum(self, name):
+        variants, texts = set(), set()
+        rows = [f'  | {self.variant(variants)} ("{self.text(texts)}")' for _ in range(self.some(6))]
+        return [f"type {name} enum {{", *rows, "}"]
+
+    def numbers(self, name):
+        variants, rows = set(), []
+        for number in self.random.sample([0, 1, 2, 23, 24, 255, 256, 2**32, 2**63, 2**64 - 1], self.some(6)):
+            rows.append(f'  | {self.variant(variants)} ("{number}")')
+        return [f"type {name} enum {{", *rows, "} representation int"]
+
+    def keyed(self, name):
+        held = ["Int", "String", "Bytes", "Bool", "&Any", "Any"] + self.made * 3
+        chosen, names, keys = [], set(), set()
+        for _ in range(self.some(5)):
+            kind = self.random.choice(held)
+            if kind.lower().replace("&any", "link") not in names:
+                names.add(kind.lower().replace("&any", "link"))
+                chosen.append(f'  | {kind} "{self.text(keys)}"')
+        return [f"type {name} union {{", *chosen, "} representation keyed"]
+
+    def kinded(self, name):
+        kinds = self.random.sample(sorted(KINDED), self.some(5))
+        return [f"type {name} union {{", *(f"  | {KINDED[kind]} {kind}" for kind in kinds), "} representation kinded"]
+
+    def alias(self, name):
+        kind, note = self.value()
+        return [f"type {name} {kind}{note}"]
+
+    def counts(self, name):
+        """A map with an enum's keys."""
+        enums = [lines[0].split()[1] for lines in self.lines if lines[0].split()[2] == "enum" and lines[-1] == "}"]
+        if not enums:
+            return self.enum(name)
+        kind, note = self.value()
+        return [f"type {name} {{{self.random.choice(enums)}:{kind}}}{note}"]
+
+    def nothing(self, name):
+        return [f"type {name} unit representation {self.random.choice(('null', 'true', 'false', 'emptymap'))}"]
+
+    def inline(self, name):
+        """A union of structs that are drawn for it: no key is that which tells them."""
+        members, keys = [], set()
+        is_open, tag = self.random.choice(("", " # open")), self.text(keys)
+        for _ in range(self.random.choice((1, 2, 3))):
+            member, rows, names = self.type_name(), [], set()
+            for _ in range(min(self.random.choice((0, 1, 2, 3)), self.left)):
+                self.left -= 1
+                kind, note = self.value()
+                word = self.word(string.ascii_letters, string.ascii_letters + string.digits + "_", names, field_name)
+                rows.append(f'  {word} {self.random.choice(("", "optional "))}{kind} (rename "{self.text(keys)}"){note}')
+            self.lines.append([f"type {member} struct {{{is_open}", *rows, "}"])
+            members.append(f'  | {member} "{self.text(set())[:39]}{len(members)}"')
+        return [f"type {name} union {{", *members, "} representation inline {", f'  discriminantKey "{tag}"', "}"]
+
+    def schema(self):
+        forms = [self.struct] * 5 + [self.tuple] * 2 + [self.enum] * 2 + [self.keyed] * 2
+        forms += [self.numbers, self.kinded, self.alias, self.counts, self.nothing]
+        forms += [self.inline] * 2
+        self.lines = []
+        while self.left > 0 and len(self.lines) < 6:
+            name = self.type_name()
+            self.lines.append(self.random.choice(forms)(name))
+            self.made.append(name)
+        self.random.shuffle(self.lines)
+        return "\n\n".join("\n".join(lines) for lines in self.lines) + "\n"
+
+
+def drawn(seed):
+    """The schema of a seed. A draw that passes a limit is drawn again."""
+    for attempt in range(1000):
+        text = Drawing(f"{seed}.{attempt}").schema()
+        try:
+            Schema(parse(text))
+        except SchemaError as error:
+            if "at most" not in error.message:
+                raise
+            continue
+        return text
+    raise ValueError(seed)

@@ -1,5 +1,5 @@
 //! Uses of `serde_ipld_dagcbor`, as a caller writes them: types of one's own, and a caller that is
-//! proved. The tests have the recipes of docs/CALLING.md.
+//! proved. Their tests stand in `uses_tests`.
 //!
 //! | Use | File |
 //! |---|---|
@@ -27,6 +27,3 @@ pub use mascot::Mascot;
 pub use note::Note;
 pub use optional_person::OptionalPerson;
 pub use person::Person;
-
-#[cfg(test)]
-mod tests;

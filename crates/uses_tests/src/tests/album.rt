@@ -1,9 +1,9 @@
 //! An album, written and read. The rows are spelled by a script that knows the rules alone.
 
-use crate::{Album, Format, Track};
 use dagcbor_testing::{each_answers, writes};
 use std::alloc::{AllocError, Global};
 use std::test::Fail;
+use uses::{Album, Format, Track};
 
 fn track(
     alloc: Global,

@@ -1,9 +1,9 @@
 //! The note by hand of docs/TYPES.md: the test of the README, word for word.
 
-use crate::Note;
 use dagcbor_testing::{agree, is_told};
 use serde_ipld_dagcbor::{from_slice, to_vec};
 use std::test::Fail;
+use uses::Note;
 
 const BLOCK: &[u8] = b"\xa2\x64text\x62hi\x64year\x17";
 

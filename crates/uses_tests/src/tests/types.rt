@@ -1,6 +1,5 @@
 //! Each type, written and read, and the caller.
 
-use crate::{Color, Mascot, OptionalPerson, Person, year_of};
 use dagcbor_testing::{Sink, Source, agree, answers, each_answers, each_writes, is_told, writes};
 use serde_ipld_dagcbor::{from_reader, to_writer};
 use std::alloc::{AllocError, Global};
@@ -8,6 +7,7 @@ use std::fs;
 use std::fs::File;
 use std::io::{BufReader, BufWriter, Write};
 use std::test::Fail;
+use uses::{Color, Mascot, OptionalPerson, Person, year_of};
 
 #[test]
 fn the_year_of_a_note_is_read(rt: HostRuntime) -> Result<(), Fail> {

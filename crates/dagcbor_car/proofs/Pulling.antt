@@ -4,9 +4,9 @@ use Rattle.std.specs.Prelude.{Some, Result, Ok, Err, MatchResult, IfOk, IsErrAnd
 use Rattle.std.specs.declared.alloc.Global.{Global}
 use Rattle.dagcbor_heads.specs.Reading.{Reading}
 use Rattle.dagcbor_heads.specs.Fronts.{ShowsByte, Takes}
-use Rattle.dagcbor_heads.specs.Looking.{LooksAtMost, LooksAtTaken, LooksAtLeft, LooksOnce}
+use Rattle.dagcbor_heads.specs.Looking.{LooksAtMost, LooksAtTaken, LooksAtSome, LooksAtLeft, LooksOnce}
 use Rattle.dagcbor_heads.proofs.Taking.{stays_both, nothing_taken, takes_both}
-use Rattle.dagcbor_heads.proofs.Looking.{nothing_looked, looks_both, taken_left}
+use Rattle.dagcbor_heads.proofs.Looking.{nothing_looked, some_both, some_taken, taken_left}
 use Rattle.ipld_tree.specs.Cid.{varint, CidParts}
 use Rattle.ipld_tree.specs.CidFault.{IsCutVarint, IsNoVarint, IsVarintFault}
 use Rattle.ipld_tree.specs.declared.cid_error.CidError.{CidError}
@@ -40,7 +40,7 @@ pub record IsInVarint (groups : List ℕ) (n : ℕ) (old now : Reading) : Type 0
   pub counted : length groups ≡ n
   pub takes : Takes old groups now
   pub cut : IsCutVarint groups
-  pub looked : LooksAtTaken 2 0 old now
+  pub looked : LooksAtSome 2 old now
   pub most : LooksAtMost (2 * n) old now
 
 zero_below : 0 < 2 ^ 64
@@ -101,9 +101,13 @@ group_more {old} {mid} {new} {groups} {more} {n} {byte} h t looked most is cut =
   counted = omega (arith, ap length is, length-append groups (byte ∷ []), h.counted);
   takes = subst (λ b. Takes old b new) (sym is) (takes_both h.takes t);
   cut = cut;
-  looked = looks_both h.looked looked;
+  looked = some_both h.looked (some_taken looked);
   most = omega (arith, h.most, most);
 }
+
+-- a byte was taken behind some, perhaps none
+pub last_looked : {old mid new : Reading} → LooksAtSome 2 old mid → LooksAtTaken 2 0 mid new → LooksAtTaken 2 0 old new
+last_looked {old} {mid} {new} h k = let both = some_both h (some_taken k) in record { grows = both.grows; most = λ b l. let p = both.most b l in (p.0, p.1, p.2, p.3, omega (arith, p.4)); none_shown = k.none_shown }
 
 -- what was looked at of a varint that ended
 pub length_most : {old mid : Reading} {groups : List ℕ} {n : ℕ} (new : Reading) (byte number : ℕ) (rest : List ℕ) → IsInVarint groups n old mid → LooksAtMost 2 mid new → number < 2 ^ 64 → groups ++ byte ∷ [] ≡ varint number ++ rest → LooksAtMost (2 * length (varint number)) old new
@@ -165,7 +169,7 @@ unlent_lacks old unlent lent b l = let clash : true ≡ false = sym lent ∙ unl
 
 -- a header that was looked at
 pub header_looked : {E : Type 0} (r : Result (Vec CidParts Global) (CarError E)) (inner : List ℕ) (old new : Reading) → LooksAtMost (2 * length (counted inner)) old new → LooksAtTaken 2 0 old new → ReadsHeader inner r → LooksAtHeader old r new
-header_looked (Ok v) inner old new most looked s = subst (λ x. LooksAtMost (2 * length (counted x)) old new) s.is most
+header_looked (Ok v) inner old new most looked s = (subst (λ x. LooksAtMost (2 * length (counted x)) old new) s.is most, looked.none_shown)
 header_looked (Err e) inner old new most looked s = taken_left looked
 
 -- a section that was looked at

@@ -74,11 +74,12 @@ PullsHeader old result new = MatchResult result
     (λ v. TakesHeader old (forms v.items) new)
     (λ e. CarRefuses RefusesHeader old e new)
 
--- how often bytes are looked at: each of the header's twice, and none behind it
+-- how often bytes are looked at: each of the header's twice, and none behind it, of which none is
+-- shown
 abbrev pub LooksAtHeader : {E : Type 0} → Reading → Result (Vec CidParts Global) (CarError E)
     → Reading → Type 0
 LooksAtHeader old result new = MatchResult result
-    (λ v. LooksAtMost (2 * length (header_bytes (forms v.items))) old new)
+    (λ v. LooksAtMost (2 * length (header_bytes (forms v.items))) old new × (new.shown ≡ []))
     (λ _. LooksAtLeft 2 0 old new)
 
 -- this section stood first, and was taken
@@ -93,12 +94,12 @@ PullsSection old result new = MatchResult result
     (λ e. CarRefuses RefusesSection old e new)
 
 -- how often bytes are looked at: each of the section's twice, the first once more, and none behind
--- it
+-- it, of which none is shown
 abbrev pub LooksAtSection : {E : Type 0} → Reading → Result (Option Section) (CarError E) → Reading
     → Type 0
 LooksAtSection old result new = MatchResult result
     (λ next. MatchOption next (LooksOnce old new)
-    (λ s. LooksAtMost (2 * length (section_bytes s) + 1) old new))
+    (λ s. LooksAtMost (2 * length (section_bytes s) + 1) old new × (new.shown ≡ [])))
     (λ _. LooksAtLeft 3 0 old new)
 
 -- ---- the sections, one by one
@@ -151,5 +152,6 @@ abbrev pub Begins : {R E : Type 0} → (R → Reading) → Reading
 Begins reading old result = MatchResult result
     (λ p. TakesHeader old (forms p.0.items) (section_stream reading p.1).source × (p.1.done ≡ false)
     × LooksAtMost (2 * length (header_bytes (forms p.0.items))) old
-    (section_stream reading p.1).source)
+    (section_stream reading p.1).source
+    × ((section_stream reading p.1).source.shown ≡ []))
     (λ e. NotBegun old e)

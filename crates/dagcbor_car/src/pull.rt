@@ -5,7 +5,7 @@ ghost use Rattle.std.specs.Prelude.{MatchResult, IfOk};
 ghost use Rattle.std.specs.Cow.{cow_slice_items};
 ghost use Rattle.dagcbor_heads.specs.Fronts.{Takes};
 ghost use Rattle.dagcbor_heads.specs.Inputs.{input_reading, OverInput};
-ghost use Rattle.dagcbor_heads.specs.Looking.{Looks, LooksAtMost};
+ghost use Rattle.dagcbor_heads.specs.Looking.{Looks, LooksSome, LooksAtMost};
 ghost use Rattle.ipld_tree.specs.Cid.{varint};
 ghost use Rattle.dagcbor_car.specs.Car.{counted, section_bytes};
 ghost use Rattle.dagcbor_car.specs.Splits.{CountFault, BeginsNoSection, SectionFault};
@@ -93,7 +93,7 @@ fn pull_bytes<'de, R: Read>(
         (λ e. CarRefuses (IsShort n) (input_reading R.reading input.old) e
         (input_reading R.reading input.new)) }
     ensures memory { LacksMemoryIf ((input_reading R.reading input.old).lends ≡ false) result }
-    ensures looked { OverInput R.reading (Looks 2) input.old result input.new }
+    ensures looked { OverInput R.reading (LooksSome 2) input.old result input.new }
     ensures at_most { LooksAtMost (2 * n) (input_reading R.reading input.old)
         (input_reading R.reading input.new) }
 {

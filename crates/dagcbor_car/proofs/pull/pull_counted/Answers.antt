@@ -1,6 +1,6 @@
 use Rattle.dagcbor_heads.specs.Inputs.{input_reading}
 use Rattle.std.specs.Cow.{cow_slice_items}
-use Rattle.dagcbor_items.proofs.Looks.{looks_behind}
+use Rattle.dagcbor_items.proofs.Looks.{looks_behind_some}
 use Rattle.dagcbor_car.proofs.Pulling.{handed_on, counted_pulled, counted_sized}
 use Rattle.dagcbor_car.proofs.pull.pull_counted.Goals as goal
 
@@ -14,7 +14,7 @@ pub returns-in_err-count-clause-looked : goal.returns-in_err-count-clause-looked
 returns-in_err-count-clause-looked g c = handed_on _ _ _ _ c.from_residual.ensures.1 c.in_err-count.ensures.looked
 
 pub returns-clause-looked : goal.returns-clause-looked
-returns-clause-looked g c = looks_behind _ c.pull_bytes.result c.in_ok-count.ensures.looked c.pull_bytes.ensures.looked
+returns-clause-looked g c = looks_behind_some _ c.pull_bytes.result c.in_ok-count.ensures.looked c.pull_bytes.ensures.looked
 
 pub returns-clause-at_most : goal.returns-clause-at_most
 returns-clause-at_most g c = counted_sized cow_slice_items c.pull_bytes.result c.in_ok-count.count (input_reading g.R.Read.reading c.args.input.now) (input_reading g.R.Read.reading c.pull_length.new.reader) (input_reading g.R.Read.reading c.pull_bytes.new.input) c.in_ok-count.ensures.at_most c.pull_bytes.ensures.taken c.pull_bytes.ensures.at_most

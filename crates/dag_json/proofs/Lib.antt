@@ -1,2 +1,5 @@
 pub mod Orders
 pub mod Listing
+pub mod Slots
+pub mod Members
+pub mod Numbers

@@ -3,3 +3,4 @@ pub mod Listing
 pub mod Slots
 pub mod Members
 pub mod Numbers
+pub mod Reservations

@@ -10,9 +10,11 @@ mod number;
 mod parse;
 mod place;
 mod read;
+mod reserved;
 mod text;
 mod tree;
 
 pub use error::{DagJsonError, Refusal};
 pub use parse::data_from_json;
+pub use reserved::has_reserved_key;
 pub use tree::dag_json;

@@ -4,3 +4,8 @@ pub mod Slots
 pub mod Members
 pub mod Numbers
 pub mod Reservations
+pub mod Telling
+pub mod Plain
+pub mod Integers
+pub mod Printing
+pub mod ReadBack

@@ -26,7 +26,7 @@ all_digits [] h = tt
 all_digits (c ∷ cs) h = let k = both _ _ h in (digit_below c k.0, all_digits cs k.1)
 
 -- behind a digit no sign is dropped
-no_sign : (c : ℕ) (cs : List ℕ) → is_ascii_digit c ≡ true → without_leading_sign (c ∷ cs) ≡ c ∷ cs
+pub no_sign : (c : ℕ) (cs : List ℕ) → is_ascii_digit c ≡ true → without_leading_sign (c ∷ cs) ≡ c ∷ cs
 no_sign c cs h =
     let k = digit_bounds c h in
     ap (λ b. cond b cs (drop (cond (c == 43) 1 0) (c ∷ cs))) (ne_eqb c 45 (λ e. omega (arith, k.0)))

@@ -1,5 +1,5 @@
 -- What data a text of DAG-JSON is, or why it is none (DAG-JSON specification, over RFC 8259).
-use Rattle.std.specs.Prelude.{◌≡◌, ◌⊎◌, ℕ, suc, zero, ℤ, pos, negsuc, ◌^◌, ◌==◌, nat_lt, nat_le, Bool, true, false, ◌&&◌, ◌||◌}
+use Rattle.std.specs.Prelude.{◌≡◌, ◌⊎◌, ℕ, suc, zero, ℤ, pos, negsuc, ◌^◌, ◌==◌, ◌≤◌, ⊤, nat_lt, nat_le, Bool, true, false, ◌&&◌, ◌||◌}
 use Rattle.std.specs.Prelude.{List, [], ◌∷◌, codes, IsUtf8, if◌then◌else◌, Option, Some, None, Result, Ok, Err, MatchResult}
 use Rattle.std.specs.Bool.{MatchBool}
 use Rattle.std.specs.Char.{is_ascii_digit}
@@ -14,7 +14,11 @@ use Rattle.base64.specs.Engines.{standard_no_pad}
 use Rattle.base64.specs.declared.decode.DecodeError.{DecodeError}
 use Rattle.ipld_tree.specs.Cid.{CidParts, cid_bytes}
 use Rattle.ipld_tree.specs.Tree.{Tree, null, boolean, integer, text, bytes, list, mapping, link}
-use Rattle.ipld_tree.specs.Tree.{items_of, ordered_entries, has_key, any_need}
+use Rattle.ipld_tree.specs.Tree.{Items, no_items, item, Entries, no_entries, entry}
+use Rattle.ipld_tree.specs.Tree.{IsTree, items_of, ordered_entries, has_key, any_need}
+use Rattle.ipld_tree.specs.Spelling.{IsSpellable}
+use Rattle.cid_text.specs.Alphabets.{AreBytes}
+use Rattle.dag_json.specs.DagJson.{dag_json, has_reserved_key}
 use Rattle.cid_text.specs.Texts.{IsTextOf, IsTextFault}
 use Rattle.cid_text.specs.declared.error.CidTextError.{CidTextError}
 use Rattle.dag_json.specs.declared.error.DagJsonError.{DagJsonError}
@@ -165,3 +169,39 @@ ReadsTokens ts r = MatchResult (document_of ts) (λ j. ReadsWhole j r) (λ e. r 
 -- what is read of a text
 abbrev pub ReadsText : List ℕ → Read Tree → Type 0
 ReadsText s r = (¬ IsUtf8 s × (r ≡ Err NoText)) ⊎ (IsUtf8 s × ReadsTokens (tokens s) r)
+
+-- a text is read in one way: as one tree, or refused for one cause
+abbrev pub TextsTellData : Type 0
+TextsTellData = (s : List ℕ) (r q : Read Tree) → ReadsText s r → ReadsText s q → r ≡ q
+
+-- bytes, and those of links, are numbers below 256
+abbrev mutual
+  pub HasBytes : Tree → Type 0
+  HasBytes null = ⊤
+  HasBytes (boolean b) = ⊤
+  HasBytes (integer n) = ⊤
+  HasBytes (text s) = ⊤
+  HasBytes (bytes b) = AreBytes b
+  HasBytes (list ts) = ItemsHaveBytes ts
+  HasBytes (mapping es) = EntriesHaveBytes es
+  HasBytes (link cid) = AreBytes cid
+
+  pub ItemsHaveBytes : Items → Type 0
+  ItemsHaveBytes no_items = ⊤
+  ItemsHaveBytes (item t ts) = HasBytes t × ItemsHaveBytes ts
+
+  pub EntriesHaveBytes : Entries → Type 0
+  EntriesHaveBytes no_entries = ⊤
+  EntriesHaveBytes (entry k t es) = HasBytes t × EntriesHaveBytes es
+
+-- a block's tree, within the steps of a read, without a map that has the key `/`
+pub record IsTellable (t : Tree) : Type 0 where
+  pub well_formed : IsTree t
+  pub spellable : IsSpellable t
+  pub are_bytes : HasBytes t
+  pub within : any_need t ≤ 256
+  pub unreserved : has_reserved_key t ≡ false
+
+-- what is written of such a tree is read back as that tree
+abbrev pub TextsAreReadBack : Type 0
+TextsAreReadBack = (t : Tree) → IsTellable t → ReadsText (dag_json t) (Ok t)

@@ -5,6 +5,7 @@
 #![tactic(auto)]
 
 mod error;
+pub mod laws;
 mod leaves;
 mod number;
 mod parse;

@@ -1,6 +1,6 @@
 //! Data from a text of JSON.
 
-ghost use Rattle.std.specs.Prelude.{◌≡◌, ◌≢◌, ◌≤◌, Ok, Err, IfOk, IfErr, MatchResult, IsUtf8, is_some, if◌then◌else◌};
+ghost use Rattle.std.specs.Prelude.{◌≡◌, ◌≢◌, ◌≤◌, Ok, Err, IfOk, IfErr, MatchResult, IsUtf8, if◌then◌else◌};
 ghost use Rattle.json.specs.Lex.{tokens};
 ghost use Rattle.json.specs.Value.{value_view};
 ghost use Rattle.ipld_tree.specs.Ipld.{tree_of};
@@ -40,26 +40,25 @@ fn out_of_memory() -> Refusal
     }
 }
 
-/// Where the list or map begins that stands in 129 others, if one does.
-fn too_deep(alloc: Global, text: &str) -> Result<Option<usize>, AllocError>
-    ensures { IfOk result (λ found. is_some found ≡ opens_past most_levels (tokens text.now)) }
+/// Whether more than 129 lists and maps stand open at once.
+fn is_too_deep(alloc: Global, text: &str) -> Result<bool, AllocError>
+    ensures { IfOk result (λ b. b ≡ opens_past most_levels (tokens text.now)) }
 {
     let mut scratch = Scratch::new(alloc);
     let mut reader = Reader::new(text, &mut scratch)?;
     let mut levels = MOST_LEVELS;
     loop {
-        let offset = reader.offset();
         match reader.next() {
-            None => return Ok(None),
+            None => return Ok(false),
             Some(Token::BeginObject | Token::BeginArray) => {
                 if levels == 0 {
-                    return Ok(Some(offset));
+                    return Ok(true);
                 }
                 levels -= 1;
             }
             Some(Token::EndObject | Token::EndArray) => {
                 if levels == MOST_LEVELS {
-                    return Ok(None);
+                    return Ok(false);
                 }
                 levels += 1;
             }
@@ -74,9 +73,9 @@ fn no_document(alloc: Global, text: &str, stopped: usize) -> Refusal
         → result.cause ≡ (if opens_past most_levels (tokens text.now) then DagJsonError.TooDeep
         else DagJsonError.NoJson) }
 {
-    match too_deep(alloc, text) {
-        Ok(Some(offset)) => refusal(DagJsonError::TooDeep, Ok(offset)),
-        Ok(None) => refusal(DagJsonError::NoJson, Ok(stopped)),
+    match is_too_deep(alloc, text) {
+        Ok(true) => refusal(DagJsonError::TooDeep, offset_inside(alloc, text)),
+        Ok(false) => refusal(DagJsonError::NoJson, Ok(stopped)),
         Err(_) => out_of_memory(),
     }
 }

@@ -1,4 +1,4 @@
-use Rattle.std.proofs.Common.{◌≡◌, ◌∙◌, ap, sym, ◌||◌, Bool, string_bytes}
+use Rattle.std.proofs.Common.{◌∙◌, ap, sym, ◌||◌, Bool}
 use Rattle.ipld_tree.specs.Ipld.{tree_of}
 use Rattle.dag_json.proofs.Reservations.{pairs_reserved, entry_reserved, ordered_reserved, next_reserved}
 use Rattle.dag_json.proofs.reserved.+reserved.Goals as goal

@@ -1,2 +1,11 @@
 pub mod Orders
 pub mod Listing
+pub mod Slots
+pub mod Members
+pub mod Numbers
+pub mod Reservations
+pub mod Telling
+pub mod Plain
+pub mod Integers
+pub mod Printing
+pub mod ReadBack

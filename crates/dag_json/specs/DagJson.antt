@@ -1,7 +1,8 @@
 -- Data as DAG-JSON, in one line without spaces (DAG-JSON specification, over RFC 8259).
-use Rattle.std.specs.Prelude.{◌≡◌, ℕ, ◌/◌, ◌%◌, ◌==◌, nat_lt, Bool, true, false, List, [], ◌∷◌, ◌++◌, codes, map}
+use Rattle.std.specs.Prelude.{◌≡◌, ℕ, ◌/◌, ◌%◌, ◌==◌, ◌||◌, nat_lt, Bool, true, false, List, [], ◌∷◌, ◌++◌, codes, map}
 use Rattle.std.specs.Prelude.{slice_index, if◌then◌else◌, Result, OnOk}
 use Rattle.std.specs.List.{flat_map}
+use Rattle.std.specs.Str.{bytes_eq}
 use Rattle.std.specs.Fmt.{signed_decimal}
 use Rattle.std.specs.Ordering.{is_lt}
 use Rattle.base64.specs.GeneralPurpose.{encode_of}
@@ -99,6 +100,30 @@ unfoldable mutual
   pub entry_texts : Entries → List Member
   entry_texts no_entries = []
   entry_texts (entry k t es) = (k, dag_json t) ∷ entry_texts es
+
+-- ---- what looks like a link or like bytes
+
+-- whether a map in the tree has the key `/`
+abbrev mutual
+  pub has_reserved_key : Tree → Bool
+  has_reserved_key null = false
+  has_reserved_key (boolean b) = false
+  has_reserved_key (integer n) = false
+  has_reserved_key (text s) = false
+  has_reserved_key (bytes b) = false
+  has_reserved_key (list ts) = items_reserved ts
+  has_reserved_key (mapping es) = entries_reserved es
+  has_reserved_key (link cid) = false
+
+  pub items_reserved : Items → Bool
+  items_reserved no_items = false
+  items_reserved (item t ts) = has_reserved_key t || items_reserved ts
+
+  pub entries_reserved : Entries → Bool
+  entries_reserved no_entries = false
+  entries_reserved (entry k t es) = bytes_eq k (codes "/") || (has_reserved_key t || entries_reserved es)
+
+-- ---- what the calls do
 
 -- the text was appended, where the call succeeds
 abbrev pub Pushes : {A E : Type 0} → List ℕ → List ℕ → Result A E → List ℕ → Type 0

@@ -1,2 +1,3 @@
 pub use Rattle.ipld_tree.specs.Tree
 pub mod DagJson
+pub mod Reading

@@ -15,7 +15,7 @@ if_some (Some b) h f = f b h
 
 -- the command whose name begins with this letter
 abbrev by_letter : ℕ → Command
-by_letter letter = if letter == 99 then commands.Check else (if letter == 108 then commands.List else (if letter == 110 then commands.Name else (if letter == 111 then commands.One else commands.Show)))
+by_letter letter = if letter == 99 then commands.Check else (if letter == 108 then commands.List else (if letter == 110 then commands.Name else (if letter == 111 then commands.One else (if letter == 115 then commands.Show else commands.Make))))
 
 abbrev first_letter : List (List ℕ) → ℕ
 first_letter words = get_or (get_or words 0 []) 0 0
@@ -26,6 +26,7 @@ by_name commands.List = refl
 by_name commands.Name = refl
 by_name commands.One = refl
 by_name commands.Show = refl
+by_name commands.Make = refl
 
 -- words name one command at most
 pub same_command : (words : List (List ℕ)) (c d : Command) → IsCommand words c → IsCommand words d → c ≡ d

@@ -1,6 +1,6 @@
 -- What the program answers of bytes.
 use Rattle.std.specs.Prelude.{◌≡◌, ◌≢◌, ◌⊎◌, ◌↔◌, ℕ, codes, List, [], ◌++◌, Vec}
-use Rattle.std.specs.Prelude.{Bool, true, false, IsTrue}
+use Rattle.std.specs.Prelude.{Bool, true, false, IsTrue, ⊤}
 use Rattle.std.specs.Prelude.{Result, Ok, Err, Option, IfOk, IsErr, if◌then◌else◌}
 use Rattle.std.specs.List.{flat_map}
 use Rattle.std.specs.declared.alloc.Global.{Global}
@@ -8,9 +8,12 @@ use Rattle.std.specs.declared.convert.Infallible.{Infallible}
 use Rattle.dagcbor_heads.specs.declared.error.DecodeError.{DecodeError}
 use Rattle.dagcbor_heads.specs.declared.error.DecodeError.TheVariants as unread
 use Rattle.ipld_tree.specs.Tree.{Tree}
+use Rattle.ipld_tree.specs.Spelling.{IsSpelling}
 use Rattle.ipld_tree.specs.Cid.{CidParts}
 use Rattle.cid_text.specs.Texts.{cid_text}
-use Rattle.dag_json.specs.DagJson.{dag_json}
+use Rattle.dag_json.specs.DagJson.{dag_json, has_reserved_key}
+use Rattle.dag_json.specs.Reading.{ReadsText}
+use Rattle.dag_json.specs.declared.error.DagJsonError.{DagJsonError}
 use Rattle.dagcbor_items.specs.Walks.{forms}
 use Rattle.dagcbor_items.specs.Slices.{IsBlock, SliceRefused}
 use Rattle.dagcbor_items.specs.TreeKinds.{kind_of}
@@ -21,7 +24,8 @@ use Rattle.dagcbor_car.specs.Verdicts.{IsVerdict}
 use Rattle.dagcbor_car.specs.Checks.{ListsMissing}
 use Rattle.dagcbor_car.specs.declared.verdict.Verdict.{Verdict}
 use Rattle.dagcbor_items.specs.PrintedNames.{kind_name, variant_name}
-use Rattle.dagcar_lines.specs.Lines.{line, told_line, listed_line, missing_line, root_line, is_well, Says}
+use Rattle.dagcar_lines.specs.Lines.{line, told_line, listed_line, missing_line, root_line, is_well}
+use Rattle.dagcar_lines.specs.Lines.{cause_line, reserved_line, Says, SaysBoth}
 use Rattle.dagcar_lines.specs.Speeches.{Speech, SaysBytes}
 use Rattle.dagcar_lines.specs.declared.command.Command.{Command}
 use Rattle.dagcar_lines.specs.declared.command.Command.TheVariants as commands
@@ -69,10 +73,20 @@ abbrev pub IsJudged : List ℕ → Bool → List ℕ → Type 0
 IsJudged b well out = ((t : Tree) × IsBlock b t × (well ≡ true) × (out ≡ line (codes "ok " ++ kind_name (kind_of t))))
     ⊎ IsSaidOfNoBlock b well out
 
--- what `show` says of bytes: the data of the block as DAG-JSON, or why they are none
-abbrev pub IsShown : List ℕ → Bool → List ℕ → Type 0
-IsShown b well out = ((t : Tree) × IsBlock b t × (well ≡ true) × (out ≡ line (dag_json t)))
-    ⊎ IsSaidOfNoBlock b well out
+-- what `show` says of bytes: the data of the block as DAG-JSON, or why they are none; and what it
+-- tells: a line where a map in the data has the key `/`
+abbrev pub IsShown : List ℕ → Bool → List ℕ → List ℕ → Type 0
+IsShown b well out told = ((t : Tree) × IsBlock b t × (well ≡ true) × (out ≡ line (dag_json t))
+    × (told ≡ (if has_reserved_key t then reserved_line else [])))
+    ⊎ (IsSaidOfNoBlock b well out × (told ≡ []))
+
+-- what `make` gives of a text: the block of the data that it is; or nothing, and a line that tells
+-- why it is none. At which byte is not said here.
+abbrev pub IsMade : List ℕ → Bool → List ℕ → List ℕ → Type 0
+IsMade b well out told = ((t : Tree) × ReadsText b (Ok t) × IsSpelling out t × (well ≡ true)
+    × (told ≡ []))
+    ⊎ ((e : DagJsonError) × (offset : ℕ) × ReadsText b (Err e) × (well ≡ false) × (out ≡ [])
+    × (told ≡ cause_line e offset))
 
 -- what `name` says of bytes: the CID of the block, of DAG-CBOR and by SHA-256 (multicodec table), or
 -- why they are none
@@ -93,11 +107,18 @@ abbrev pub EndsSo : Result Bool ToolError → ℕ → Type 0
 EndsSo (Ok well) status = status ≡ (if well then 0 else 1)
 EndsSo (Err e) status = status ≡ 2
 
--- a run of a command on these bytes
-abbrev pub RunsCommand : Command → List ℕ → Option (List ℕ) → Result Bool ToolError
-    → Option (List ℕ) → Type 0
-RunsCommand commands.Check b = SaysBytes check_speech b
-RunsCommand commands.List b = SaysBytes list_speech b
-RunsCommand commands.Name b = Says (IsNamed b)
-RunsCommand commands.One b = Says (IsJudged b)
-RunsCommand commands.Show b = Says (IsShown b)
+-- a run of a command on these bytes, by what the output and the errors hold
+abbrev pub RunsCommand : Command → List ℕ → Option (List ℕ) → Option (List ℕ)
+    → Result Bool ToolError → Option (List ℕ) → Option (List ℕ) → Type 0
+RunsCommand commands.Check b old heard ended new after = SaysBytes check_speech b old ended new
+RunsCommand commands.List b old heard ended new after = SaysBytes list_speech b old ended new
+RunsCommand commands.Name b old heard ended new after = Says (IsNamed b) old ended new
+RunsCommand commands.One b old heard ended new after = Says (IsJudged b) old ended new
+RunsCommand commands.Show b old heard ended new after = SaysBoth (IsShown b) old heard ended new after
+RunsCommand commands.Make b old heard ended new after = SaysBoth (IsMade b) old heard ended new after
+
+-- the commands that tell of nothing but of faults
+abbrev pub IsQuiet : Command → Type 0
+IsQuiet commands.Show = ⊥
+IsQuiet commands.Make = ⊥
+IsQuiet _ = ⊤

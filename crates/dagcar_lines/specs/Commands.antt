@@ -10,6 +10,7 @@ command_name commands.List = codes "list"
 command_name commands.Name = codes "name"
 command_name commands.One = codes "one"
 command_name commands.Show = codes "show"
+command_name commands.Make = codes "make"
 
 -- the one word that names the command
 abbrev pub IsCommand : List (List ℕ) → Command → Type 0

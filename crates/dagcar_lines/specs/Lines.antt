@@ -1,5 +1,5 @@
 -- The lines that the program writes, and how a line goes out.
-use Rattle.std.specs.Prelude.{◌≡◌, ◌⊎◌, ℕ, List, [], ◌∷◌, ◌++◌, length, codes, Bool, true, false, Option, Result, OnOk, MatchResult}
+use Rattle.std.specs.Prelude.{◌≡◌, ◌⊎◌, ℕ, List, [], ◌∷◌, ◌++◌, length, codes, Bool, true, false, Option, Result, MatchResult}
 use Rattle.std.specs.Fmt.{decimal}
 use Rattle.std.specs.Io.KnownBytes.{Appends}
 use Rattle.cid_text.specs.Texts.{text_of_form, cid_text}
@@ -9,7 +9,8 @@ use Rattle.dagcbor_car.specs.declared.error.CarError.{CarError}
 use Rattle.dagcbor_car.specs.declared.verdict.Verdict.{Verdict}
 use Rattle.dagcbor_car.specs.declared.verdict.Verdict.TheVariants as verdicts
 use Rattle.dagcbor_items.specs.PrintedNames.{kind_name, variant_name}
-use Rattle.dagcar_lines.specs.Names.{fault_name}
+use Rattle.dagcar_lines.specs.Names.{cause_name, fault_name}
+use Rattle.dag_json.specs.declared.error.DagJsonError.{DagJsonError}
 use Rattle.dagcbor_cli.specs.declared.fault.ToolError.{ToolError}
 use Rattle.dagcbor_cli.specs.declared.fault.ToolError.TheVariants.{Output}
 
@@ -55,6 +56,14 @@ root_line = named_line (codes "root ")
 abbrev pub refused_line : {E : Type 0} → CarError E → List ℕ
 refused_line e = line (codes "refused " ++ fault_name e)
 
+-- of a text that is refused, at this byte
+abbrev pub cause_line : DagJsonError → ℕ → List ℕ
+cause_line e offset = line (codes "refused " ++ (cause_name e ++ (32 ∷ decimal offset)))
+
+-- of data with a map that has the key `/`
+abbrev pub reserved_line : List ℕ
+reserved_line = line (codes "dagcar: a map with the key / looks like a link or like bytes")
+
 -- nothing more went out; or the device failed, and of one of these lines a front did
 abbrev pub BreaksLine : (List ℕ → Type 0) → Option (List ℕ) → Option (List ℕ) → ToolError → Type 0
 BreaksLine IsLine old new e = Appends old new []
@@ -74,3 +83,14 @@ abbrev pub SaysLines : List ℕ → Bool → Option (List ℕ) → Result Bool T
 SaysLines said well old result new = MatchResult result
     (λ answer. (answer ≡ well) × Appends old new said)
     (λ e. BreaksLine (λ out. out ≡ said) old new e)
+
+-- what is said went out on the output, what is told on the errors, and whether nothing is wrong is
+-- answered; or nothing went out; or a device failed, and fronts of both did
+abbrev pub SaysBoth : (Bool → List ℕ → List ℕ → Type 0) → Option (List ℕ) → Option (List ℕ)
+    → Result Bool ToolError → Option (List ℕ) → Option (List ℕ) → Type 0
+SaysBoth IsSaid old heard result new after = MatchResult result
+    (λ well. (said told : List ℕ) × IsSaid well said told × Appends old new said
+    × Appends heard after told)
+    (λ e. (Appends old new [] × Appends heard after [])
+    ⊎ ((well : Bool) × (said more told others : List ℕ) × IsSaid well (said ++ more) (told ++ others)
+    × (e ≡ Output) × Appends old new said × Appends heard after told))

@@ -1,16 +1,16 @@
 //! One block: its kind, its name, or its data.
 
-ghost use Rattle.std.specs.Prelude.{◌≡◌, ◌++◌, codes, true, false, IfOk, IfSome};
+ghost use Rattle.std.specs.Prelude.{◌≡◌, ◌++◌, [], codes, true, false, IfOk, IfSome, if◌then◌else◌};
 ghost use Rattle.cid_text.specs.Texts.{cid_text};
 ghost use Rattle.dagcbor_items.specs.PrintedNames.{variant_name};
-ghost use Rattle.dagcar_lines.specs.Lines.{line, Says};
+ghost use Rattle.dagcar_lines.specs.Lines.{line, reserved_line, Says, SaysBoth};
 ghost use Rattle.ipld_tree.specs.Ipld.{tree_of};
-ghost use Rattle.dag_json.specs.DagJson.{dag_json};
+ghost use Rattle.dag_json.specs.DagJson.{dag_json, has_reserved_key};
 ghost use Rattle.dagcar_lines.specs.Answers.{IsJudged, IsNamed, IsShown, SaidOf};
 
-use crate::line::{Said, line_of, say};
+use crate::line::{Said, line_of, say, say_both};
 use cid_text::cid_text;
-use dag_json::dag_json;
+use dag_json::{dag_json, has_reserved_key};
 use dagcbor_car::name_of_block;
 use dagcbor_cli::ToolError;
 use dagcbor_heads::DecodeError;
@@ -21,7 +21,7 @@ use std::convert::Infallible;
 use std::io::{BufRead, ErrorKind, Write};
 
 /// All bytes of the input.
-fn read_all<R: BufRead>(alloc: Global, input: &mut R) -> Result<Vec<u8>, ToolError>
+pub fn read_all<R: BufRead>(alloc: Global, input: &mut R) -> Result<Vec<u8>, ToolError>
     ensures { IfSome (R.remaining input.old) (λ b. IfOk result (λ v. v.items ≡ b)) }
 {
     let mut bytes = Vec::new(alloc);
@@ -94,19 +94,33 @@ fn data_line(alloc: Global, value: &Ipld) -> Result<Vec<u8>, AllocError>
     line_of(alloc, &text, b"", b"")
 }
 
-/// The data of the block, or why the bytes are none.
-fn shown(alloc: Global, block: &[u8]) -> Result<Said, ToolError>
-    ensures { IfOk result (λ p. IsShown block.now p.1 p.0.items) }
+/// What is told of data in which a map has the key `/`.
+const RESERVED_LINE: &[u8] = b"dagcar: a map with the key / looks like a link or like bytes\n";
+
+/// What is told of the data.
+fn told_of(value: &Ipld) -> &'static [u8]
+    ensures { result.now ≡ (if has_reserved_key (tree_of value.now) then reserved_line else []) }
+{
+    if has_reserved_key(value) {
+        RESERVED_LINE
+    } else {
+        b""
+    }
+}
+
+/// The data of the block, or why the bytes are none; and what is told of it.
+fn shown(alloc: Global, block: &[u8]) -> Result<(Said, &'static [u8]), ToolError>
+    ensures { IfOk result (λ p. IsShown block.now p.0.1 p.0.0.items p.1.now) }
 {
     match any_from_slice(alloc, block) {
         Ok(data) => match data_line(alloc, &data) {
-            Ok(line) => Ok((line, true)),
+            Ok(line) => Ok(((line, true), told_of(&data))),
             Err(_) => Err(ToolError::OutOfMemory),
         },
         Err(refusal) => match refusal {
             DecodeError::OutOfMemory => Err(ToolError::OutOfMemory),
             other => match no_block_line(alloc, &other) {
-                Ok(line) => Ok((line, false)),
+                Ok(line) => Ok(((line, false), b"")),
                 Err(_) => Err(ToolError::OutOfMemory),
             },
         },
@@ -150,17 +164,19 @@ pub fn say_kind<R: BufRead, W: Write>(
 }
 
 /// Writes the data of the block that the input is, or why it is none. Whether it is one.
-pub fn say_data<R: BufRead, W: Write>(
+pub fn say_data<R: BufRead, W: Write, V: Write>(
     alloc: Global,
     input: &mut R,
     output: &mut W,
+    errors: &mut V,
 ) -> Result<bool, ToolError>
     ensures { IfSome (R.remaining input.old) (λ b.
-        Says (IsShown b) (W.contents output.old) result (W.contents output.new)) }
+        SaysBoth (IsShown b) (W.contents output.old) (V.contents errors.old) result
+        (W.contents output.new) (V.contents errors.new)) }
 {
     match read_all(alloc, input) {
         Ok(block) => match shown(alloc, &block) {
-            Ok(said) => say(said, output),
+            Ok((said, told)) => say_both(said, told, output, errors),
             Err(fault) => Err(fault),
         },
         Err(fault) => Err(fault),

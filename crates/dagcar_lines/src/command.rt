@@ -1,14 +1,15 @@
 //! The program's words, and what it answers to them.
 
-ghost use Rattle.std.specs.Prelude.{◌≡◌, ◌≢◌, map, string_bytes, IfSome, MatchOption, Result, Bool};
+ghost use Rattle.std.specs.Prelude.{◌≡◌, ◌≢◌, map, string_bytes, IfSome, MatchOption, Result, Bool, Option, List, ℕ};
 ghost use Rattle.dagcbor_heads.specs.Inputs.{input_reading, not_lending};
-ghost use Rattle.dagcar_lines.specs.Answers.{RunsCommand, EndsSo};
+ghost use Rattle.dagcar_lines.specs.Answers.{RunsCommand, EndsSo, IsQuiet};
 ghost use Rattle.dagcar_lines.specs.Speeches.{SaysBytes};
 ghost use Rattle.dagcbor_cli.specs.declared.fault.ToolError.{ToolError};
 ghost use Rattle.dagcar_lines.specs.Commands.{command_name, IsCommand};
 
 use crate::block::{say_data, say_kind, say_name};
 use crate::list::Listing;
+use crate::make::make_block;
 use crate::walk::{Teller, say_file};
 use dagcbor_car::CarCheck;
 use dagcbor_cli::{ToolError, give_up};
@@ -17,7 +18,7 @@ use std::alloc::Global;
 use std::io::{BufRead, Write};
 
 /// What is told of wrong words.
-pub const USAGE: &str = "usage: dagcar check|list|name|one|show\n";
+pub const USAGE: &str = "usage: dagcar check|list|name|one|show|make\n";
 
 /// What is told of want of memory.
 pub const OUT_OF_MEMORY: &str = "dagcar: out of memory\n";
@@ -35,6 +36,8 @@ pub enum Command {
     One,
     /// To show what is in a block.
     Show,
+    /// To make a block of DAG-JSON.
+    Make,
 }
 
 /// The command of this name.
@@ -48,6 +51,7 @@ fn command_named(name: &str) -> Option<Command>
         "name" => Some(Command::Name),
         "one" => Some(Command::One),
         "show" => Some(Command::Show),
+        "make" => Some(Command::Make),
         _ => None,
     }
 }
@@ -102,21 +106,25 @@ fn say_input<T: Teller, R: BufRead, W: Write>(
 }
 
 /// Says of the input what the command asks, and answers whether nothing is wrong.
-pub fn run<R: BufRead, W: Write>(
+pub fn run<R: BufRead, W: Write, V: Write>(
     alloc: Global,
     command: Command,
     input: &mut R,
     output: &mut W,
+    errors: &mut V,
 ) -> Result<bool, ToolError>
-    ensures { IfSome (R.remaining input.old) (λ b.
-        RunsCommand command b (W.contents output.old) result (W.contents output.new)) }
+    ensures runs { IfSome (R.remaining input.old) (λ b.
+        RunsCommand command b (W.contents output.old) (V.contents errors.old) result
+        (W.contents output.new) (V.contents errors.new)) }
+    ensures quiet { IsQuiet command → errors.new ≡ errors.old }
 {
     match command {
         Command::Check => say_input::<CarCheck, R, W>(alloc, input, output),
         Command::List => say_input::<Listing, R, W>(alloc, input, output),
         Command::Name => say_name(alloc, input, output),
         Command::One => say_kind(alloc, input, output),
-        Command::Show => say_data(alloc, input, output),
+        Command::Show => say_data(alloc, input, output, errors),
+        Command::Make => make_block(alloc, input, output, errors),
     }
 }
 
@@ -131,13 +139,16 @@ pub fn run_command<R: BufRead, W: Write, V: Write>(
     ensures usage { ((c : Command) → ¬ IsCommand (map string_bytes args.now) c)
         → (result ≡ 2) × (input.new ≡ input.old) × (output.new ≡ output.old) }
     ensures answered { (c : Command) → IsCommand (map string_bytes args.now) c
-        → IfSome (R.remaining input.old) (λ b. (ended : Result Bool ToolError) × EndsSo ended result
-        × RunsCommand c b (W.contents output.old) ended (W.contents output.new)) }
-    ensures quiet { result ≢ 2 → errors.new ≡ errors.old }
+        → IfSome (R.remaining input.old) (λ b. (ended : Result Bool ToolError)
+        × (after : Option (List ℕ)) × EndsSo ended result × RunsCommand c b (W.contents output.old)
+        (V.contents errors.old) ended (W.contents output.new) after
+        × (result ≢ 2 → V.contents errors.new ≡ after)) }
+    ensures quiet { (c : Command) → IsCommand (map string_bytes args.now) c → IsQuiet c
+        → result ≢ 2 → errors.new ≡ errors.old }
 {
     let Some(command) = command_of(args) else {
         return give_up(errors, USAGE, 2);
     };
-    let ended = run(alloc, command, input, output);
+    let ended = run(alloc, command, input, output, errors);
     status_of(ended, errors)
 }

@@ -1,5 +1,5 @@
 //! The lines of the program `dagcar`: files of blocks (CAR, version 1) are judged or listed, and
-//! blocks are named, judged and shown.
+//! blocks are named, judged, shown and made.
 #![tactic(auto)]
 
 mod block;
@@ -7,6 +7,7 @@ mod check;
 mod command;
 mod line;
 mod list;
+mod make;
 mod names;
 mod walk;
 

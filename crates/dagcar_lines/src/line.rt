@@ -5,10 +5,12 @@ ghost use Rattle.std.specs.List.{flat_map};
 ghost use Rattle.ipld_tree.specs.Cid.{cid_bytes};
 ghost use Rattle.dagcbor_items.specs.Walks.{forms};
 ghost use Rattle.dagcar_lines.specs.Lines.{line, listed_line, named_line};
-ghost use Rattle.dagcar_lines.specs.Lines.{missing_line, root_line, refused_line, SaysLines};
+ghost use Rattle.dagcar_lines.specs.Lines.{missing_line, root_line, refused_line, SaysLines, SaysBoth};
+ghost use Rattle.dagcar_lines.specs.Lines.{cause_line};
 
-use crate::names::fault_name;
+use crate::names::{cause_name, fault_name};
 use cid_text::cid_text;
+use dag_json::Refusal;
 use dagcbor_car::CarError;
 use dagcbor_cli::{ToolError, write_all};
 use ipld_tree::Cid;
@@ -25,6 +27,36 @@ pub fn say<W: Write>(said: Said, output: &mut W) -> Result<bool, ToolError>
     let (lines, well) = said;
     write_all(output, &lines)?;
     Ok(well)
+}
+
+/// Writes the lines to the output and what is told to the errors, and answers whether nothing is wrong.
+pub fn say_both<W: Write, V: Write>(
+    said: Said,
+    told: &[u8],
+    output: &mut W,
+    errors: &mut V,
+) -> Result<bool, ToolError>
+    ensures { SaysBoth (λ well lines text. (well ≡ said.1) × (lines ≡ said.0.items)
+        × (text ≡ told.now)) (W.contents output.old) (V.contents errors.old) result
+        (W.contents output.new) (V.contents errors.new) }
+{
+    let (lines, well) = said;
+    write_all(output, &lines)?;
+    write_all(errors, told)?;
+    Ok(well)
+}
+
+/// The line of a text that is refused.
+pub fn cause_line(alloc: Global, refusal: &Refusal) -> Result<Vec<u8>, AllocError>
+    ensures { IfOk result (λ v. v.items ≡ cause_line refusal.now.cause refusal.now.offset) }
+{
+    let place = format!(in alloc; " {}", refusal.offset)?;
+    line_of(
+        alloc,
+        b"refused ",
+        cause_name(&refusal.cause).as_bytes(),
+        place.as_bytes(),
+    )
 }
 
 /// The texts, one behind the other, and a line feed.

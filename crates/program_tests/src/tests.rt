@@ -1,3 +1,4 @@
 mod calls;
 mod dagcar;
 mod dagcbor;
+mod make;

@@ -38,13 +38,13 @@ const MIXED_LISTED: &[u8] =
 const NUMBERS_LINE: &[u8] = b"bafyreickxqyrg7hhhdm2z24kduovd4k4vvbmfmenzn7nc6pxg6qzjm2v44\n";
 
 /// Data of each kind. Its keys are in another order here than in DAG-JSON.
-const DATA: &[u8] =
+pub const DATA: &[u8] =
     b"\xa3\x61\x62\x85\xf5\xf6\x3b\xff\xff\xff\xff\xff\xff\xff\xff\x1b\xff\xff\xff\xff\xff\xff\xff\xff\x68\x61\x22\x5c\x0a\x01\x7f\xc3\xa9\x61\x63\xd8\x2a\x58\x25\x00\x01\x71\x12\x20\x4a\xbc\x31\x13\x7c\xe7\x38\xd9\xac\xeb\x8a\x1d\x1d\x51\xf1\x5c\xad\x42\xc2\xb0\x8d\xcb\x7e\xd1\x79\xf7\x37\xa1\x94\xb3\x55\xe7\x62\x61\x61\xa2\x60\x44\x01\x02\x03\x04\x61\x6b\xd8\x2a\x58\x23\x00\x12\x20\x5e\x8a\xd8\xa0\x65\xee\x39\xe8\xbf\xf2\xf8\xa7\xbb\xc3\x4b\x8a\xdf\xd0\x30\xea\x99\xf4\x7f\x5a\x44\x81\x04\x86\x8f\xfb\xca\x30";
 
-const DATA_LINE: &[u8] =
+pub const DATA_LINE: &[u8] =
     b"{\"aa\":{\"\":{\"/\":{\"bytes\":\"AQIDBA\"}},\"k\":{\"/\":\"QmUhhq4PAFturoCmeccqMaYxb8yWcRATkVt5nTdmsWj4Es\"}},\"b\":[true,null,-18446744073709551616,18446744073709551615,\"a\\\"\\\\\\n\\u0001\x7f\xc3\xa9\"],\"c\":{\"/\":\"bafyreickxqyrg7hhhdm2z24kduovd4k4vvbmfmenzn7nc6pxg6qzjm2v44\"}}\n";
 
-fn run_words(
+pub fn run_words(
     alloc: Global,
     words: &[&str],
     input: &mut impl BufRead,
@@ -59,7 +59,7 @@ fn run_words(
 }
 
 /// What a run of one word gives: its status, and what it wrote and told.
-fn run_word(alloc: Global, word: &str, bytes: &[u8]) -> Result<(u8, Vec<u8>, Vec<u8>), Fail> {
+pub fn run_word(alloc: Global, word: &str, bytes: &[u8]) -> Result<(u8, Vec<u8>, Vec<u8>), Fail> {
     let mut input = bytes;
     let (mut output, mut errors) = (Vec::new(alloc), Vec::new(alloc));
     let status = run_words(alloc, &[word], &mut input, &mut output, &mut errors)?;
@@ -159,7 +159,7 @@ fn other_words_are_refused(rt: HostRuntime) -> Result<(), Fail> {
     assert!(rt; written.is_empty());
     assert_eq!(rt;
         told.as_slice(),
-        b"usage: dagcar check|list|name|one|show\n".as_slice()
+        b"usage: dagcar check|list|name|one|show|make\n".as_slice()
     );
     Ok(())
 }

@@ -1,0 +1,149 @@
+//! Data from a text of JSON.
+
+ghost use Rattle.std.specs.Prelude.{◌≡◌, ◌≢◌, ◌≤◌, Ok, Err, IfOk, IfErr, MatchResult, IsUtf8, if◌then◌else◌};
+ghost use Rattle.json.specs.Lex.{tokens};
+ghost use Rattle.json.specs.Value.{value_view};
+ghost use Rattle.ipld_tree.specs.Ipld.{tree_of};
+ghost use Rattle.dag_json.specs.Reading.{document_of, most_levels, opens_past, ReadsWhole};
+ghost use Rattle.dag_json.specs.Reading.{ReadsTokens, ReadsText};
+
+use crate::error::{DagJsonError, Refusal};
+use crate::place::{offset_behind, offset_inside};
+use crate::read::data_of;
+use ipld_tree::Ipld;
+use json::{Error, Reader, Scratch, Token, Value};
+use simdutf8::compat::from_utf8;
+use std::alloc::{AllocError, Global};
+
+/// How deep JSON nests at most: 127 lists around bytes.
+const MOST_LEVELS: usize = 129;
+
+/// The steps of an untyped read.
+const MOST_STEPS: u64 = 256;
+
+/// A refusal at this byte, or want of memory where the place was not found.
+fn refusal(cause: DagJsonError, offset: Result<usize, AllocError>) -> Refusal
+    ensures { result.cause ≢ DagJsonError.OutOfMemory → result.cause ≡ cause }
+{
+    match offset {
+        Ok(offset) => Refusal { cause, offset },
+        Err(_) => out_of_memory(),
+    }
+}
+
+fn out_of_memory() -> Refusal
+    ensures { result.cause ≡ DagJsonError.OutOfMemory }
+{
+    Refusal {
+        cause: DagJsonError::OutOfMemory,
+        offset: 0,
+    }
+}
+
+/// Whether more than 129 lists and maps stand open at once.
+fn is_too_deep(alloc: Global, text: &str) -> Result<bool, AllocError>
+    ensures { IfOk result (λ b. b ≡ opens_past most_levels (tokens text.now)) }
+{
+    let mut scratch = Scratch::new(alloc);
+    let mut reader = Reader::new(text, &mut scratch)?;
+    let mut levels = MOST_LEVELS;
+    loop {
+        match reader.next() {
+            None => return Ok(false),
+            Some(Token::BeginObject | Token::BeginArray) => {
+                if levels == 0 {
+                    return Ok(true);
+                }
+                levels -= 1;
+            }
+            Some(Token::EndObject | Token::EndArray) => {
+                if levels == MOST_LEVELS {
+                    return Ok(false);
+                }
+                levels += 1;
+            }
+            Some(_) => {}
+        }
+    }
+}
+
+/// Why the text is no value of JSON within the levels. The reader stopped at this byte.
+fn no_document(alloc: Global, text: &str, stopped: usize) -> Refusal
+    ensures { result.cause ≢ DagJsonError.OutOfMemory
+        → result.cause ≡ (if opens_past most_levels (tokens text.now) then DagJsonError.TooDeep
+        else DagJsonError.NoJson) }
+{
+    match is_too_deep(alloc, text) {
+        Ok(true) => refusal(DagJsonError::TooDeep, offset_inside(alloc, text)),
+        Ok(false) => refusal(DagJsonError::NoJson, Ok(stopped)),
+        Err(_) => out_of_memory(),
+    }
+}
+
+/// The one value that the text is.
+fn document<'a>(
+    alloc: Global,
+    text: &'a str,
+    scratch: &'a mut Scratch,
+) -> Result<Value<'a>, Refusal>
+    ensures value { IfOk result (λ v. document_of (tokens text.now) ≡ Ok (value_view v)) }
+    ensures refused { IfErr result (λ e. e.cause ≢ DagJsonError.OutOfMemory
+        → document_of (tokens text.now) ≡ Err e.cause) }
+{
+    let Ok(mut reader) = Reader::new(text, scratch) else {
+        return Err(out_of_memory());
+    };
+    match Value::read(alloc, &mut reader, MOST_LEVELS) {
+        Ok(value) => {
+            let offset = reader.offset();
+            match reader.next() {
+                Some(_) => Err(refusal(DagJsonError::TrailingData, Ok(offset))),
+                None => Ok(value),
+            }
+        }
+        Err(Error::OutOfMemory) => Err(out_of_memory()),
+        Err(_) => Err(no_document(alloc, text, reader.offset())),
+    }
+}
+
+/// The data that the value is.
+fn whole_data(alloc: Global, text: &str, value: &Value<'_>) -> Result<Ipld, Refusal>
+    ensures data { IfOk result
+        (λ v. ReadsWhole (value_view value.now) (Ok (tree_of v))) }
+    ensures refused { IfErr result (λ e. e.cause ≢ DagJsonError.OutOfMemory
+        → ReadsWhole (value_view value.now) (Err e.cause)) }
+{
+    let mut place = 0;
+    match data_of(alloc, value, &mut place) {
+        Ok(data) if data.depth_need() <= MOST_STEPS => Ok(data),
+        Ok(_) => Err(refusal(DagJsonError::TooDeep, offset_inside(alloc, text))),
+        Err(cause) => Err(refusal(cause, offset_behind(alloc, text, place))),
+    }
+}
+
+/// The data that the text is.
+fn data_from_text(alloc: Global, text: &str) -> Result<Ipld, Refusal>
+    ensures data { IfOk result (λ v. ReadsTokens (tokens text.now) (Ok (tree_of v))) }
+    ensures refused { IfErr result (λ e. e.cause ≢ DagJsonError.OutOfMemory
+        → ReadsTokens (tokens text.now) (Err e.cause)) }
+{
+    let mut scratch = Scratch::new(alloc);
+    let value = document(alloc, text, &mut scratch)?;
+    whole_data(alloc, text, &value)
+}
+
+/// The data that the text is, in DAG-JSON. What no contract says is the byte at which a refusal
+/// stands, but for one that is no UTF-8.
+pub fn data_from_json(alloc: Global, text: &[u8]) -> Result<Ipld, Refusal>
+    ensures data { IfOk result (λ v. ReadsText text.now (Ok (tree_of v))) }
+    ensures refused { IfErr result (λ e. e.cause ≢ DagJsonError.OutOfMemory
+        → ReadsText text.now (Err e.cause)) }
+{
+    match from_utf8(text) {
+        Ok(text) => data_from_text(alloc, text),
+        Err(fault) => Err(Refusal {
+            cause: DagJsonError::NoText,
+            offset: fault.valid_up_to(),
+        }),
+    }
+}

@@ -7,3 +7,4 @@ pub mod Logs
 pub mod Props
 pub mod LinkNames
 pub mod Walks
+pub mod Making

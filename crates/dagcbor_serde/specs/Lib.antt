@@ -3,4 +3,5 @@ pub mod Building
 pub mod Holds
 pub mod Links
 pub mod Logged
+pub mod Making
 pub mod Noted

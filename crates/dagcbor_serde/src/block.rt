@@ -371,24 +371,12 @@ impl<'r> Format for Block<'r> {
         self.enter(count)
     }
 
+    /// A list of the fields is no struct.
     #[inline(always)]
     fn begin_struct(&mut self, _input: &[u8]) -> Result<bool, Misfit> {
-        if !self.is_outside() {
-            return Err(mismatch(self.rest));
-        }
-        match split_head(self.rest) {
-            Some((5, count, behind)) => {
-                self.rest = behind;
-                self.enter(count)?;
-                Ok(false)
-            }
-            Some((4, count, behind)) => {
-                self.rest = behind;
-                self.enter(count)?;
-                Ok(true)
-            }
-            _ => Err(mismatch(self.rest)),
-        }
+        let count = self.take_argument(5)?;
+        self.enter(count)?;
+        Ok(false)
     }
 
     #[inline(always)]

@@ -13,6 +13,10 @@
 //! ```
 #![tactic(auto)]
 
+mod any;
+pub mod as_any;
+pub mod as_bytes;
+pub mod as_link;
 mod block;
 mod byte_buf;
 mod error;
@@ -24,6 +28,7 @@ mod sink;
 mod whole;
 mod writer;
 
+pub use any::Any;
 pub use byte_buf::ByteBuf;
 pub use error::{Error, Misfit, WriteError};
 pub use link::Link;

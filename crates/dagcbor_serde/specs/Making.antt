@@ -1,0 +1,31 @@
+-- Events that make a tree, wherever it is put.
+use Rattle.std.specs.Prelude.{◌≡◌, ℕ, List, [], ◌++◌, Bool, true, false, IsTrue, Some, None, ⊤}
+use Rattle.serde.specs.Event.{Event, Log}
+use Rattle.ipld_tree.specs.Tree.{Tree}
+use Rattle.ipld_tree.specs.Spelling.{IsSpelling}
+use Rattle.dagcbor_serde.specs.Building.{Level, whole, in_list, in_map, in_link, for_map, State, put, on_top, steps}
+use Rattle.dagcbor_serde.specs.Blocks.{IsBlockOf}
+
+-- an item is an item here: not the CID of a link, nor a map whose entries another one takes
+abbrev pub takes_items : Level → Bool
+takes_items (in_map ps for_map n) = false
+takes_items (in_link o) = false
+takes_items _ = true
+
+-- after the events stands what stands after the tree was put
+abbrev pub Makes : List Event → Tree → Type 0
+Makes es t = (s : State) → IsTrue (takes_items s.top) → steps es s ≡ on_top (put t) s
+
+-- where the events so far are known, they grow by these
+abbrev pub GrowsBy : List Event → Log → Log → Type 0
+GrowsBy es None new = ⊤
+GrowsBy es (Some before) new = new ≡ Some (before ++ es)
+
+-- events are sent that make the tree
+abbrev pub WritesTree : Tree → Log → Log → Type 0
+WritesTree t old new = (es : List Event) × GrowsBy es old new × Makes es t
+
+-- What is sent as a tree has the spelling of that tree.
+abbrev pub TreesAreWritten : Type 0
+TreesAreWritten = (t : Tree) (log : Log) (b : List ℕ) → WritesTree t (Some []) log → IsBlockOf log b
+    → IsSpelling b t

@@ -2,6 +2,7 @@
 //! encoder apart.
 
 mod data;
+mod devices;
 mod forms;
 
 use crate::{Command, Either, Inner, Node, Outer, Parcel, Record, Shape, Slash, SlashEnum};

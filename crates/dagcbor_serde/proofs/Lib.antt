@@ -8,3 +8,5 @@ pub mod Props
 pub mod LinkNames
 pub mod Walks
 pub mod Making
+pub mod SourceReads
+pub mod Streaming

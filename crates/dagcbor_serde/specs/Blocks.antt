@@ -1,5 +1,6 @@
 -- What whole values are written as, and why bytes are refused.
 use Rattle.std.specs.Prelude.{◌≢◌, List, ℕ, IsSomeAnd}
+use Rattle.std.specs.declared.convert.Infallible.{Infallible}
 use Rattle.serde.specs.Event.{Log}
 use Rattle.ipld_tree.specs.Tree.{Tree}
 use Rattle.ipld_tree.specs.Spelling.{IsSpelling}
@@ -14,6 +15,6 @@ abbrev pub IsBlockOf : Log → List ℕ → Type 0
 IsBlockOf log b = IsSomeAnd log (λ es. IsSomeAnd (events_tree es) (λ t. IsSpelling b t))
 
 -- the bytes are no block, for this cause; or they are one, and the type does not accept it
-abbrev pub IsRefused : Error → List ℕ → Type 0
+abbrev pub IsRefused : Error Infallible → List ℕ → Type 0
 IsRefused (NoBlock e) b = SliceRefused e b × (e ≢ OutOfMemory)
 IsRefused (Misfit m) b = (t : Tree) × IsBlock b t

@@ -1,7 +1,6 @@
 //! Why a value was not written or not read.
 
-use dagcbor_heads::{DecodeError, Name};
-use std::convert::Infallible;
+use dagcbor_heads::{DecodeError, EncodeError, Name};
 use std::error::Error as StdError;
 use std::fmt;
 use std::fmt::{Debug, Display, Formatter};
@@ -76,20 +75,38 @@ impl Display for Misfit {
 
 impl StdError for Misfit {}
 
-/// Why a value was not read.
+/// Why a value was not read. `E` is the source's error.
 #[derive(Debug, Drop)]
-pub enum Error {
-    /// The bytes are no block.
-    NoBlock(DecodeError<Infallible>),
+pub enum Error<E> {
+    /// No block was read: the bytes are none, or the source faulted.
+    NoBlock(DecodeError<E>),
     /// The type does not accept the block.
     Misfit(Misfit),
 }
 
 /// The text of `Debug`.
-impl Display for Error {
+impl<E: Debug> Display for Error<E> {
     fn fmt<W: fmt::Write>(&self, f: &mut Formatter<W>) -> fmt::Result {
         Debug::fmt(self, f)
     }
 }
 
-impl StdError for Error {}
+impl<E: StdError> StdError for Error<E> {}
+
+/// Why a value was not written to a device. `E` is the device's error.
+#[derive(Debug, Drop)]
+pub enum DeviceError<E> {
+    /// The value was refused, and nothing was written.
+    Value(WriteError),
+    /// The device refused the bytes, and has a beginning of them.
+    Device(EncodeError<E>),
+}
+
+/// The text of `Debug`.
+impl<E: Debug> Display for DeviceError<E> {
+    fn fmt<W: fmt::Write>(&self, f: &mut Formatter<W>) -> fmt::Result {
+        Debug::fmt(self, f)
+    }
+}
+
+impl<E: StdError> StdError for DeviceError<E> {}

@@ -12,6 +12,7 @@ use crate::writer::Writer;
 use dagcbor_items::check_slice;
 use serde::{Deserialize, DeserializeOwned, Deserializer, Serialize};
 use std::alloc::Global;
+use std::convert::Infallible;
 
 /// The one spelling of the tree of the value's events.
 pub fn to_vec<T: Serialize>(alloc: Global, value: &T) -> Result<Vec<u8>, WriteError>
@@ -27,7 +28,10 @@ pub fn to_vec<T: Serialize>(alloc: Global, value: &T) -> Result<Vec<u8>, WriteEr
 }
 
 /// Reads a value of the type from a block.
-pub fn from_slice<'de, T: Deserialize<'de>>(alloc: Global, bytes: &'de [u8]) -> Result<T, Error>
+pub fn from_slice<'de, T: Deserialize<'de>>(
+    alloc: Global,
+    bytes: &'de [u8],
+) -> Result<T, Error<Infallible>>
     ensures block { OnOk result ((t : Tree) × IsBlock bytes.now t) }
     ensures refused { IfErr result (λ e. IsRefused e bytes.now) }
 {
@@ -39,7 +43,10 @@ pub fn from_slice<'de, T: Deserialize<'de>>(alloc: Global, bytes: &'de [u8]) -> 
 }
 
 /// As `from_slice`, of a type that borrows nothing.
-pub fn from_slice_owned<T: DeserializeOwned>(alloc: Global, bytes: &[u8]) -> Result<T, Error>
+pub fn from_slice_owned<T: DeserializeOwned>(
+    alloc: Global,
+    bytes: &[u8],
+) -> Result<T, Error<Infallible>>
     ensures block { OnOk result ((t : Tree) × IsBlock bytes.now t) }
     ensures refused { IfErr result (λ e. IsRefused e bytes.now) }
 {
@@ -51,7 +58,7 @@ pub fn from_slice_owned<T: DeserializeOwned>(alloc: Global, bytes: &[u8]) -> Res
 }
 
 /// Refuses bytes that are no block.
-fn judge(bytes: &[u8]) -> Result<(), Error>
+fn judge(bytes: &[u8]) -> Result<(), Error<Infallible>>
     ensures block { OnOk result ((t : Tree) × IsBlock bytes.now t) }
     ensures refused { IfErr result (λ e. IsRefused e bytes.now) }
 {
@@ -76,7 +83,7 @@ fn read_one<'de, T: Deserialize<'de>>(
     T::deserialize(alloc, &mut Deserializer::new(bytes, block))
 }
 
-fn read_owned<T: DeserializeOwned>(alloc: Global, bytes: &[u8]) -> Result<T, Misfit> {
+pub(crate) fn read_owned<T: DeserializeOwned>(alloc: Global, bytes: &[u8]) -> Result<T, Misfit> {
     let mut block = Block::new(alloc, bytes);
     let value = read_one_owned(alloc, bytes, &mut block)?;
     block.end()?;

@@ -1,5 +1,5 @@
 -- What is read of a source, and why it is refused.
-use Rattle.std.specs.Prelude.{◌≡◌, ℕ, ◌+◌, ◌≤◌, List, Option, Some, Result, MatchResult, Vec, ⊤}
+use Rattle.std.specs.Prelude.{◌≡◌, ℕ, ◌+◌, ◌≤◌, List, length, Option, Some, Result, MatchResult, Vec, ⊤}
 use Rattle.std.specs.declared.alloc.Global.{Global}
 use Rattle.dagcbor_heads.specs.Reading.{Reading, default_steps}
 use Rattle.dagcbor_heads.specs.Refusals.{RefusesOrLacksMemory}
@@ -43,7 +43,7 @@ SourceRefused e b = ((t : Tree) → ¬ IsBlock b t) × CauseInWhole e b
 -- no block was read, for this cause; or the bytes are one, and the type does not accept it
 abbrev pub IsSourceMisfit : {E : Type 0} → Error E → List ℕ → Type 0
 IsSourceMisfit (NoBlock e) b = SourceRefused e b
-IsSourceMisfit (Misfit m) b = HoldsBlock b
+IsSourceMisfit (Misfit m at) b = HoldsBlock b × (at ≤ length b)
 
 -- ---- its first block
 
@@ -68,9 +68,4 @@ FirstRefused e b = ((t : Tree) (rest : List ℕ) → IsFront b t rest → ¬ (an
 -- the same; or a block was taken, and the type does not accept it
 abbrev pub IsFirstMisfit : {E : Type 0} → Error E → List ℕ → Option (List ℕ) → Type 0
 IsFirstMisfit (NoBlock e) b left = FirstRefused e b
-IsFirstMisfit (Misfit m) b left = TakesSomeBlock b left
-
--- the type does not accept a block
-abbrev pub IsMisfit : {E : Type 0} → Error E → Type 0
-IsMisfit (NoBlock e) = ⊥
-IsMisfit (Misfit m) = ⊤
+IsFirstMisfit (Misfit m at) b left = (v : List ℕ) × TakesBlock b v left × (at ≤ length v)

@@ -27,7 +27,7 @@ stream_state reading s = record { reading = input_reading reading s.input; done 
 abbrev pub ReadsNext : {T E : Type 0} → Reading → Option (Result T (Error E)) → Reading → Type 0
 ReadsNext old None new = FindsEnd old new
 ReadsNext old (Some (Ok v)) new = (t : Tree) × TakesItem 0 old t new
-ReadsNext old (Some (Err (Misfit m))) new = (t : Tree) × TakesItem 0 old t new
+ReadsNext old (Some (Err (Misfit m at))) new = (t : Tree) × TakesItem 0 old t new
 ReadsNext old (Some (Err (NoBlock e))) new =
     RefusesOrLacksMemory (HasItem 0 old) (CauseInside (old.steps + 0)) old e new
 

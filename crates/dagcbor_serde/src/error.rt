@@ -80,8 +80,9 @@ impl StdError for Misfit {}
 pub enum Error<E> {
     /// No block was read: the bytes are none, or the source faulted.
     NoBlock(DecodeError<E>),
-    /// The type does not accept the block.
-    Misfit(Misfit),
+    /// The type does not accept the block, for this cause. The reader stood at this place in it: at
+    /// the item that it did not take, or behind what it took before it refused.
+    Misfit { cause: Misfit, at: usize },
 }
 
 /// The text of `Debug`.

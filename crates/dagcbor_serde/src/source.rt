@@ -6,10 +6,10 @@ ghost use Rattle.dagcbor_heads.specs.Inputs.{OverInput};
 ghost use Rattle.dagcbor_items.specs.AnsweredVariants.{OfItem};
 ghost use Rattle.dagcbor_serde.specs.Sources.{PullsBlock, IsBlockWith, SourceRefused};
 ghost use Rattle.dagcbor_serde.specs.Sources.{TakesBlock, FirstRefused, IsSourceMisfit};
-ghost use Rattle.dagcbor_serde.specs.Sources.{IsFirstMisfit, HoldsBlock, TakesSomeBlock, IsMisfit};
+ghost use Rattle.dagcbor_serde.specs.Sources.{IsFirstMisfit, HoldsBlock, TakesSomeBlock};
 
 use crate::error::Error;
-use crate::whole::read_owned;
+use crate::whole::fit;
 use dagcbor_heads::{DecodeError, Input, IoReader, IoRefReader, Read, ReadResult, is_at_end};
 use dagcbor_items::read_any;
 use dagcbor_write::to_vec as spelling_of;
@@ -96,15 +96,5 @@ pub fn from_reader_once<T: DeserializeOwned, R: BufRead>(
     match block_from_reader_once(alloc, reader) {
         Ok(block) => fit(alloc, &block),
         Err(error) => Err(Error::NoBlock(error)),
-    }
-}
-
-/// Reads a value of the type from a block.
-pub(crate) fn fit<T: DeserializeOwned, E>(alloc: Global, block: &[u8]) -> Result<T, Error<E>>
-    ensures { IfErr result IsMisfit }
-{
-    match read_owned(alloc, block) {
-        Ok(value) => Ok(value),
-        Err(misfit) => Err(Error::Misfit(misfit)),
     }
 }

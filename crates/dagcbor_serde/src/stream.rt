@@ -6,7 +6,8 @@ ghost use Rattle.dagcbor_heads.specs.Inputs.{OverInput};
 ghost use Rattle.dagcbor_serde.specs.Streams.{stream_state, items_left, ReadsNext, GivesNext};
 
 use crate::error::Error;
-use crate::source::{fit, pull_block};
+use crate::source::pull_block;
+use crate::whole::fit;
 use dagcbor_heads::{DecodeError, Input, IoReader, Read, is_at_end};
 use serde::DeserializeOwned;
 use std::alloc::Global;

@@ -4,7 +4,7 @@ ghost use Rattle.std.specs.Prelude.{◌≡◌, [], Some, IfOk, IfErr, OnOk};
 ghost use Rattle.serde.specs.Event.{Log};
 ghost use Rattle.dagcbor_items.specs.Slices.{IsBlock};
 ghost use Rattle.ipld_tree.specs.Tree.{Tree};
-ghost use Rattle.dagcbor_serde.specs.Blocks.{IsBlockOf, IsRefused};
+ghost use Rattle.dagcbor_serde.specs.Blocks.{IsBlockOf, IsRefused, IsMisfitIn};
 
 use crate::block::Block;
 use crate::error::{Error, Misfit, WriteError};
@@ -36,9 +36,13 @@ pub fn from_slice<'de, T: Deserialize<'de>>(
     ensures refused { IfErr result (λ e. IsRefused e bytes.now) }
 {
     judge(bytes)?;
-    match read(alloc, bytes) {
+    let mut block = Block::new(alloc, bytes);
+    match read_whole(alloc, bytes, &mut block) {
         Ok(value) => Ok(value),
-        Err(misfit) => Err(Error::Misfit(misfit)),
+        Err(cause) => {
+            let at = block.place_in(bytes);
+            Err(Error::Misfit { cause, at })
+        }
     }
 }
 
@@ -51,9 +55,20 @@ pub fn from_slice_owned<T: DeserializeOwned>(
     ensures refused { IfErr result (λ e. IsRefused e bytes.now) }
 {
     judge(bytes)?;
-    match read_owned(alloc, bytes) {
+    fit(alloc, bytes)
+}
+
+/// Reads a value of the type from bytes that are a block.
+pub(crate) fn fit<T: DeserializeOwned, E>(alloc: Global, bytes: &[u8]) -> Result<T, Error<E>>
+    ensures { IfErr result (IsMisfitIn bytes.now) }
+{
+    let mut block = Block::new(alloc, bytes);
+    match read_whole_owned(alloc, bytes, &mut block) {
         Ok(value) => Ok(value),
-        Err(misfit) => Err(Error::Misfit(misfit)),
+        Err(cause) => {
+            let at = block.place_in(bytes);
+            Err(Error::Misfit { cause, at })
+        }
     }
 }
 
@@ -68,9 +83,12 @@ fn judge(bytes: &[u8]) -> Result<(), Error<Infallible>>
     }
 }
 
-fn read<'de, T: Deserialize<'de>>(alloc: Global, bytes: &'de [u8]) -> Result<T, Misfit> {
-    let mut block = Block::new(alloc, bytes);
-    let value = read_one(alloc, bytes, &mut block)?;
+fn read_whole<'de, T: Deserialize<'de>>(
+    alloc: Global,
+    bytes: &'de [u8],
+    block: &mut Block<'_>,
+) -> Result<T, Misfit> {
+    let value = read_one(alloc, bytes, block)?;
     block.end()?;
     Ok(value)
 }
@@ -83,9 +101,12 @@ fn read_one<'de, T: Deserialize<'de>>(
     T::deserialize(alloc, &mut Deserializer::new(bytes, block))
 }
 
-pub(crate) fn read_owned<T: DeserializeOwned>(alloc: Global, bytes: &[u8]) -> Result<T, Misfit> {
-    let mut block = Block::new(alloc, bytes);
-    let value = read_one_owned(alloc, bytes, &mut block)?;
+fn read_whole_owned<T: DeserializeOwned>(
+    alloc: Global,
+    bytes: &[u8],
+    block: &mut Block<'_>,
+) -> Result<T, Misfit> {
+    let value = read_one_owned(alloc, bytes, block)?;
     block.end()?;
     Ok(value)
 }

@@ -124,10 +124,10 @@ fn values_of_json_go_both_ways(rt: HostRuntime) -> Result<(), Fail> {
     )?;
     goes_both_ways(alloc, &value, VALUE)?;
     let rows: [(&[u8], &str); 2] = [
-        (b"\x41\x01", "Err(Misfit(Invalid))"),
+        (b"\x41\x01", "Err(Misfit { cause: Invalid, at: 0 })"),
         (
             b"\xd8\x2a\x45\x00\x01\x55\x00\x00",
-            "Err(Misfit(Mismatch(216)))",
+            "Err(Misfit { cause: Mismatch(216), at: 0 })",
         ),
     ];
     for (bytes, told) in rows {

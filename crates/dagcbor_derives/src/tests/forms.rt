@@ -60,7 +60,7 @@ fn texts_and_units_have_one_form(rt: HostRuntime) -> Result<(), Fail> {
     is_told(
         alloc,
         &from_slice_owned::<char>(alloc, b"\x62ab"),
-        "Err(Misfit(Invalid))",
+        "Err(Misfit { cause: Invalid, at: 3 })",
     )?;
     goes_both_ways(alloc, &(), b"\xf6")?;
     goes_both_ways(alloc, &Unit, b"\xf6")?;
@@ -84,9 +84,9 @@ fn structs_without_names_are_lists(rt: HostRuntime) -> Result<(), Fail> {
         b"\x82\x01\x20",
     )?;
     let few = from_slice_owned::<Point>(alloc, b"\x81\x01");
-    is_told(alloc, &few, "Err(Misfit(WrongLength))")?;
+    is_told(alloc, &few, "Err(Misfit { cause: WrongLength, at: 2 })")?;
     let many = from_slice_owned::<Point>(alloc, b"\x83\x01\x02\x03");
-    is_told(alloc, &many, "Err(Misfit(WrongLength))")
+    is_told(alloc, &many, "Err(Misfit { cause: WrongLength, at: 3 })")
 }
 
 /// A struct with names is no list.
@@ -95,7 +95,11 @@ fn structs_with_names_are_maps(rt: HostRuntime) -> Result<(), Fail> {
     let alloc = rt.alloc();
     goes_both_ways(alloc, &Plain { b: 1 }, b"\xa1\x61b\x01")?;
     let listed = from_slice_owned::<Plain>(alloc, b"\x81\x01");
-    is_told(alloc, &listed, "Err(Misfit(Mismatch(129)))")
+    is_told(
+        alloc,
+        &listed,
+        "Err(Misfit { cause: Mismatch(129), at: 0 })",
+    )
 }
 
 #[test]
@@ -118,7 +122,11 @@ fn fields_have_other_names(rt: HostRuntime) -> Result<(), Fail> {
     };
     is_read(alloc, RENAMED_SHORT, &short)?;
     let unknown = from_slice_owned::<Renamed>(alloc, b"\xa1\x65SIXTH\x01");
-    is_told(alloc, &unknown, "Err(Misfit(UnknownField))")
+    is_told(
+        alloc,
+        &unknown,
+        "Err(Misfit { cause: UnknownField, at: 7 })",
+    )
 }
 
 #[test]
@@ -160,11 +168,20 @@ fn variants_are_told_apart(rt: HostRuntime) -> Result<(), Fail> {
 fn variants_that_are_none_are_refused(rt: HostRuntime) -> Result<(), Fail> {
     let alloc = rt.alloc();
     let rows: [(&[u8], &str); 5] = [
-        (b"\x65Arrow", "Err(Misfit(UnknownVariant))"),
-        (b"\xa1\x65Arrow\x01", "Err(Misfit(UnknownVariant))"),
-        (b"\x66Circle", "Err(Misfit(Invalid))"),
-        (b"\xa2\x63Dot\xf6\x66Circle\x01", "Err(Misfit(Invalid))"),
-        (b"\x81\x63Dot", "Err(Misfit(Mismatch(129)))"),
+        (b"\x65Arrow", "Err(Misfit { cause: UnknownVariant, at: 6 })"),
+        (
+            b"\xa1\x65Arrow\x01",
+            "Err(Misfit { cause: UnknownVariant, at: 7 })",
+        ),
+        (b"\x66Circle", "Err(Misfit { cause: Invalid, at: 7 })"),
+        (
+            b"\xa2\x63Dot\xf6\x66Circle\x01",
+            "Err(Misfit { cause: Invalid, at: 13 })",
+        ),
+        (
+            b"\x81\x63Dot",
+            "Err(Misfit { cause: Mismatch(129), at: 0 })",
+        ),
     ];
     for (bytes, told) in rows {
         is_told(alloc, &from_slice_owned::<Shape>(alloc, bytes), told)?;
@@ -180,7 +197,7 @@ fn types_go_through_others(rt: HostRuntime) -> Result<(), Fail> {
     is_told(
         alloc,
         &from_slice_owned::<Even>(alloc, b"\x05"),
-        r#"Err(Misfit(Custom("odd")))"#,
+        r#"Err(Misfit { cause: Custom("odd"), at: 1 })"#,
     )
 }
 

@@ -1,5 +1,6 @@
 //! One type for each form that a derive knows, as docs/DERIVES.md lists them.
 
+use dagcbor_serde::{ByteBuf, Link};
 use serde::{Deserialize, Serialize};
 use std::collections::BTreeMap;
 
@@ -126,6 +127,22 @@ pub struct Flat {
     #[serde(flatten)]
     pub more: Plain,
 }
+
+/// A link among the fields of a variant, and bytes that are none.
+#[derive(Debug, Drop, PartialEq, Serialize, Deserialize)]
+#[serde(tag = "type")]
+pub enum Pinned {
+    Cid { cid: Link },
+}
+
+#[derive(Debug, Drop, PartialEq, Serialize, Deserialize)]
+#[serde(untagged)]
+pub enum BytesAlone {
+    Some(Octets),
+}
+
+#[derive(Debug, Drop, PartialEq, Serialize, Deserialize)]
+pub struct Octets(pub ByteBuf);
 
 /// What std has.
 #[derive(Debug, Drop, PartialEq, Serialize, Deserialize)]

@@ -1,5 +1,5 @@
 -- Which events make a tree: of leaves, of lists, of maps and of links.
-use Rattle.std.proofs.Common.{◌≡◌, ℕ, ℤ, List, [], ◌∷◌, ◌++◌, map, Option, Some, None, Bool, true, false, IsTrue, refl, sym, ap, ◌∙◌, subst, append_assoc, append-nil, codes, rules, string_bytes, string_cmp, String, Global, Vec, BTreeMap}
+use Rattle.std.proofs.Common.{◌≡◌, ℕ, ℤ, List, [], ◌∷◌, ◌++◌, map, Option, Some, None, Bool, true, false, IsTrue, refl, sym, ap, ◌∙◌, subst, append_assoc, append-nil, codes, rules, pos, string_bytes, string_cmp, String, Global, Vec, BTreeMap}
 use Rattle.std.specs.Prelude.{option_map, option_and_then, IsSomeAnd, Result, OnOk}
 use Rattle.std.specs.List.Sorted.{IsStrictlySortedBy}
 use Rattle.std.specs.Map.{keys_of}
@@ -18,7 +18,7 @@ use Rattle.dagcbor_write.specs.Trees.{Pair}
 use Rattle.dagcbor_serde.specs.Blocks.{IsBlockOf}
 use Rattle.dagcbor_serde.specs.Building.{Level, whole, in_list, in_map, in_link, Wait, rests, for_key, for_value, for_map, State, state, start, put, put_unit, put_bytes, on_top, begin, begin_map, close, close_map, list_of, step, steps, finished, events_tree}
 use Rattle.dagcbor_serde.specs.Links.{WritesLink, link_events}
-use Rattle.dagcbor_serde.specs.Making.{takes_items, Makes, GrowsBy, WritesTree, TreesAreWritten}
+use Rattle.dagcbor_serde.specs.Making.{takes_items, Makes, GrowsBy, WritesTree, TreesAreWritten, LeavesAreWritten, ListsAreWritten}
 
 -- ---- logs
 
@@ -223,3 +223,23 @@ of_kind r sent t u a b is f h = on_ok_weaker r (λ s. subst (λ x. WritesTree x 
 -- the tree of a map
 pub map_made : (m : BTreeMap (String Global) Ipld) → IsStrictlySortedBy string_cmp (keys_of m.entries) → entries_tree (map (λ e. (Some (text (string_bytes e.0)), Some (tree_of e.1))) m.entries) ≡ Some (mapping (ordered_entries (pairs_of m.entries)))
 map_made m sorted = map_kind (Map' m) m refl sorted ∙ ap Some (tree_of_Map m)
+
+-- ---- what std's types send
+
+pub leaves_written : LeavesAreWritten
+leaves_written a b = (
+  sends_null a b,
+  (λ v. sends_boolean v a b),
+  (λ n. sends (event.unsigned n) (integer (pos n)) a b (λ s h. refl)),
+  (λ n. sends_integer n a b),
+  (λ v. sends_text v a b),
+  (λ v. sends_bytes v a b),
+  (λ cid. sends_link cid a b),
+)
+
+each_as : {A : Type 0} (writes : A → Log → Log → Type 0) (view : A → Tree) → ((x : A) (a b : Log) → writes x a b → WritesTree (view x) a b) → (xs : List A) (a b : Log) → WritesEach writes xs a b → WritesEach (λ x. WritesTree (view x)) xs a b
+each_as writes view is [] a b h = h
+each_as writes view is (x ∷ xs) a b h = (h.0, is x a h.0 h.1, each_as writes view is xs h.0 b h.2)
+
+pub lists_written : {A : Type 0} (writes : A → Log → Log → Type 0) → ListsAreWritten writes
+lists_written writes view xs old new is h = sends_list view xs old new (h.0, h.1, h.2, each_as writes view is xs h.0 h.1 h.3, h.4)

@@ -62,6 +62,8 @@ pub enum Misfit {
     Invalid,
     /// The type left items unread.
     Unread,
+    /// The value is written as other bytes: it does not hold all that the block says.
+    Lossy,
     /// A type refused, with a message of its own.
     Custom(Name),
 }

@@ -38,4 +38,4 @@ pub use error::{DeviceError, Error, Misfit, WriteError};
 pub use link::Link;
 pub use source::{block_from_reader, block_from_reader_once, from_reader, from_reader_once};
 pub use stream::{Stream, iter_from_reader};
-pub use whole::{from_slice, from_slice_owned, to_vec};
+pub use whole::{from_slice, from_slice_lossless, from_slice_owned, to_vec};

@@ -1,6 +1,6 @@
 //! Whole values.
 
-ghost use Rattle.std.specs.Prelude.{◌≡◌, [], Some, IfOk, IfErr, OnOk};
+ghost use Rattle.std.specs.Prelude.{◌≡◌, ◌≤◌, ℕ, List, [], Some, length, IfOk, IfErr, OnOk};
 ghost use Rattle.serde.specs.Event.{Log};
 ghost use Rattle.dagcbor_items.specs.Slices.{IsBlock};
 ghost use Rattle.ipld_tree.specs.Tree.{Tree};
@@ -56,6 +56,54 @@ pub fn from_slice_owned<T: DeserializeOwned>(
 {
     judge(bytes)?;
     fit(alloc, bytes)
+}
+
+/// As `from_slice_owned`, of a value that holds all that the block says: it is written as these
+/// bytes again.
+pub fn from_slice_lossless<T: Serialize + DeserializeOwned>(
+    alloc: Global,
+    bytes: &[u8],
+) -> Result<T, Error<Infallible>>
+    ensures value { IfOk result
+        (λ v. (log : Log) × T.writes v (Some []) log × IsBlockOf log bytes.now) }
+    ensures refused { IfErr result (λ e. IsRefused e bytes.now) }
+{
+    let value: T = from_slice_owned(alloc, bytes)?;
+    let again = match to_vec(alloc, &value) {
+        Ok(again) => again,
+        Err(error) => {
+            let cause = unwritten(error);
+            return Err(Error::Misfit { cause, at: 0 });
+        }
+    };
+    if again.as_slice() != bytes {
+        let at = first_difference(bytes, &again);
+        return Err(Error::Misfit {
+            cause: Misfit::Lossy,
+            at,
+        });
+    }
+    Ok(value)
+}
+
+/// Why a value that was read is not written again.
+fn unwritten(error: WriteError) -> Misfit {
+    match error {
+        WriteError::OutOfMemory => Misfit::OutOfMemory,
+        _ => Misfit::Lossy,
+    }
+}
+
+/// The place of the first byte that the others have not.
+fn first_difference(bytes: &[u8], others: &[u8]) -> usize
+    ensures { result ≤ length bytes.now }
+{
+    for at in 0..bytes.len() {
+        if others.get(at) != Some(&bytes[at]) {
+            return at;
+        }
+    }
+    bytes.len()
 }
 
 /// Reads a value of the type from bytes that are a block.

@@ -1,5 +1,5 @@
 -- Which events make a tree: of leaves, of lists, of maps and of links.
-use Rattle.std.proofs.Common.{◌≡◌, ℕ, ℤ, List, [], ◌∷◌, ◌++◌, map, Option, Some, None, Bool, true, false, IsTrue, refl, sym, ap, ◌∙◌, subst, append_assoc, append-nil, codes, rules, pos, string_bytes, string_cmp, String, Global, Vec, BTreeMap}
+use Rattle.std.proofs.Common.{◌≡◌, ℕ, ℤ, List, [], ◌∷◌, ◌++◌, map, Option, Some, None, Bool, IsTrue, refl, sym, ap, ◌∙◌, subst, append_assoc, append-nil, codes, rules, pos, string_bytes, string_cmp, String, Global, Vec, BTreeMap}
 use Rattle.std.specs.Prelude.{option_map, option_and_then, IsSomeAnd, Result, OnOk}
 use Rattle.std.specs.List.Sorted.{IsStrictlySortedBy}
 use Rattle.std.specs.Map.{keys_of}
@@ -15,8 +15,7 @@ use Rattle.ipld_tree.proofs.Trees.{tree_of_String, tree_of_Map}
 use Rattle.dagcbor_write.proofs.IpldTrees.{map_kind}
 use Rattle.ipld_tree.specs.Spelling.{IsSpelling}
 use Rattle.dagcbor_write.specs.Trees.{Pair}
-use Rattle.dagcbor_serde.specs.Blocks.{IsBlockOf}
-use Rattle.dagcbor_serde.specs.Building.{Level, whole, in_list, in_map, in_link, Wait, rests, for_key, for_value, for_map, State, state, start, put, put_unit, put_bytes, on_top, begin, begin_map, close, close_map, list_of, step, steps, finished, events_tree}
+use Rattle.dagcbor_serde.specs.Building.{Level, whole, in_list, in_map, in_link, rests, for_key, for_value, for_map, State, state, start, put, put_unit, put_bytes, on_top, begin_map, close, step, steps, finished, events_tree}
 use Rattle.dagcbor_serde.specs.Links.{WritesLink, link_events}
 use Rattle.dagcbor_serde.specs.Making.{takes_items, Makes, GrowsBy, WritesTree, TreesAreWritten, LeavesAreWritten, ListsAreWritten}
 

@@ -1,7 +1,6 @@
 -- Streams end, and their items are those behind a look at the front.
-use Rattle.std.proofs.Common.{◌≡◌, ℕ, ◌+◌, ◌<◌, Bool, true, false, List, length, refl, sym, ap, subst, ◌∙◌, arith}
-use Rattle.std.specs.Prelude.{Option, None, Some, Result, Ok, Err, is_err, MatchBool, MatchResult, Vec}
-use Rattle.std.specs.declared.alloc.Global.{Global}
+use Rattle.std.proofs.Common.{◌≡◌, ℕ, ◌+◌, ◌<◌, Bool, true, false, List, length, refl, sym, subst, ◌∙◌, arith}
+use Rattle.std.specs.Prelude.{Option, None, Some, Result, Ok, Err, is_err, MatchBool}
 use Rattle.std.specs.Iterator.{MakesProgress, IsFinite, size}
 use Rattle.dagcbor_heads.specs.Reading.{Reading, Stays}
 use Rattle.dagcbor_heads.specs.Fronts.{ShowsByte}
@@ -14,7 +13,6 @@ use Rattle.dagcbor_items.specs.Untyped.{TakesItem, HasItem}
 use Rattle.dagcbor_items.proofs.Fronts.{shorter}
 use Rattle.dagcbor_items.proofs.Places.{at_steps}
 use Rattle.dagcbor_serde.specs.declared.error.Error.{Error}
-use Rattle.dagcbor_serde.specs.declared.error.Error.TheVariants.{NoBlock, Misfit}
 use Rattle.dagcbor_serde.specs.Streams.{StreamState, ReadsNext, GivesNext, items_left_of, items_left}
 
 -- ---- behind a look

@@ -3,7 +3,7 @@ use Rattle.std.specs.Prelude.{◌≡◌, ℕ, Bool, IsTrue, List, Option, Some, 
 use Rattle.std.specs.Io.KnownBytes.{Appends}
 use Rattle.serde.specs.Event.{Log}
 use Rattle.dagcbor_heads.specs.Written.{Written, WroteAll, Stops, AppendsFront}
-use Rattle.dagcbor_heads.specs.declared.error.EncodeError.TheVariants.{Msg, Write, OutOfMemory}
+use Rattle.dagcbor_heads.specs.declared.error.EncodeError.TheVariants.{Write, OutOfMemory}
 use Rattle.dagcbor_serde.specs.Blocks.{IsBlockOf}
 use Rattle.dagcbor_serde.specs.declared.error.DeviceError.{DeviceError}
 use Rattle.dagcbor_serde.specs.declared.error.DeviceError.TheVariants.{Value, Device}

@@ -1,11 +1,12 @@
 -- Events that make a tree, wherever it is put.
-use Rattle.std.specs.Prelude.{◌≡◌, ℕ, ℤ, pos, map, List, [], ◌++◌, Bool, true, false, IsTrue, Some, None, ⊤}
+use Rattle.std.specs.Prelude.{◌≡◌, ℕ, ℤ, pos, map, List, [], ◌++◌, Bool, true, false, IsTrue, Some}
+use Rattle.std.specs.Prelude.{None, ⊤}
 use Rattle.serde.specs.Event.{Event, Log, Logs, WritesSeq, nothing, boolean, unsigned, signed}
 use Rattle.serde.specs.Event.{text, octets}
 use Rattle.ipld_tree.specs.Tree as tree
 use Rattle.ipld_tree.specs.Tree.{Tree, null, list, items_of}
 use Rattle.ipld_tree.specs.Spelling.{IsSpelling}
-use Rattle.dagcbor_serde.specs.Building.{Level, whole, in_list, in_map, in_link, for_map, State, put, on_top, steps}
+use Rattle.dagcbor_serde.specs.Building.{Level, in_map, in_link, for_map, State, put, on_top, steps}
 use Rattle.dagcbor_serde.specs.Blocks.{IsBlockOf}
 use Rattle.dagcbor_serde.specs.Links.{WritesLink}
 

@@ -80,13 +80,14 @@ fn devices_take_blocks(rt: HostRuntime) -> Result<(), Fail> {
     let alloc = rt.alloc();
     let mut device = vec![in alloc; 9u8]?;
     to_writer(alloc, &mut device, &record(alloc)?)?;
-    agree(&device[..1], b"\x09".as_slice())?;
-    agree(&device[1..], RECORD)?;
+    agree(device.strip_prefix(b"\x09"), Some(RECORD))?;
     let mut writer = BufWriter::new(Vec::new(alloc));
     push_value(alloc, &mut writer, &record(alloc)?)?;
     push_value(alloc, &mut writer, &7u8)?;
-    agree(&writer.buffer()[..RECORD.len()], RECORD)?;
-    agree(&writer.buffer()[RECORD.len()..], b"\x07".as_slice())
+    agree(
+        writer.buffer().strip_prefix(RECORD),
+        Some(b"\x07".as_slice()),
+    )
 }
 
 /// A device that is full has a beginning, and of a value that is refused nothing.
@@ -227,8 +228,8 @@ fn streams_end_at_a_fault(rt: HostRuntime) -> Result<(), Fail> {
         let mut faults = 0usize;
         for item in iter_from_reader::<u8, _>(alloc, source) {
             match item {
-                Ok(_) => values += 1,
-                Err(Error::NoBlock(DecodeError::Read(_))) => faults += 1,
+                Ok(_) => values = values.saturating_add(1),
+                Err(Error::NoBlock(DecodeError::Read(_))) => faults = faults.saturating_add(1),
                 Err(other) => return Err(Fail::new(format_args!("{other:?}"))),
             }
         }

@@ -1,10 +1,9 @@
-use Rattle.std.proofs.Common.{◌≡◌, length, Some, subst, sym, arith, rules, string_bytes}
+use Rattle.std.proofs.Common.{◌≡◌, length, Some, subst, arith, rules, string_bytes}
 use Rattle.std.proofs.lemmas.Grind.{common_steps}
 use Rattle.std.specs.Prelude.{OnOk}
 use Rattle.std.proofs.lemmas.Result.{on_ok_weaker}
 use Rattle.serde.specs.Event.{Logs, map_begins, text, octets, signed, WritesEntry}
 use Rattle.serde.proofs.Events.{WritesEach-more, WritesSeq-ends, WritesUpTo-more, WritesUpTo-all}
-use Rattle.ipld_tree.specs.Cid.{cid_bytes}
 use Rattle.ipld_tree.specs.Ipld.{tree_of}
 use Rattle.dagcbor_serde.specs.Making.{WritesTree}
 use Rattle.dagcbor_serde.proofs.Making.{sends_null, sends_boolean, sends_integer, sends_text, sends_bytes, sends_link, sends_list, sends_map, null_kind, bool_kind, integer_kind, text_kind, bytes_kind, link_kind, of_kind, map_made}

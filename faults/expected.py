@@ -280,3 +280,17 @@ WITHOUT_MEMORY = {
 }
 for name, answer in WITHOUT_MEMORY.items():
     RUNS[f"no memory: {name}"] = Plain(answer, "memory was asked for")
+
+# Derived types.
+DERIVED = "a4616183016174a0626262" + "d82a450001550000" + "6363636382636f6e656374776f6464646464a26178f662797907"
+KEPT = (
+    'Kept { dddd: {"x": None, "yy": Some(7)}, ccc: ["one", "two"], '
+    f'bb: Link({cid(1, 85, 0, "")}), a: Any(List([Integer(1), String("t"), Map({{}})])) }}'
+)
+RUNS |= {
+    "to_vec derived": Plain(f"Ok({listed(DERIVED)})"),
+    "failing write of derived": Held("Ok(())", DERIVED, WRITE, each_byte=True),
+    "failing derived": Plain(f"Ok({KEPT})", READ),
+}
+for name in ("from_slice", "from_slice_lossless", "from_reader"):
+    RUNS[f"{name} derived"] = Plain(f"Ok({KEPT})")

@@ -2,7 +2,11 @@
 //! each is written as, what is read of it, and what is refused.
 #![tactic(auto)]
 
+mod data;
+pub mod forms;
+
 use dagcbor_serde::{ByteBuf, Link};
+pub use data::{Envelope, Shared};
 use serde::{Deserialize, Serialize};
 use std::collections::BTreeMap;
 

@@ -7,3 +7,6 @@ pub mod Logs
 pub mod Props
 pub mod LinkNames
 pub mod Walks
+pub mod Making
+pub mod SourceReads
+pub mod Streaming

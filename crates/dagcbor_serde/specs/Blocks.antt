@@ -1,5 +1,6 @@
 -- What whole values are written as, and why bytes are refused.
-use Rattle.std.specs.Prelude.{◌≢◌, List, ℕ, IsSomeAnd}
+use Rattle.std.specs.Prelude.{◌≢◌, ◌≤◌, List, length, ℕ, IsSomeAnd}
+use Rattle.std.specs.declared.convert.Infallible.{Infallible}
 use Rattle.serde.specs.Event.{Log}
 use Rattle.ipld_tree.specs.Tree.{Tree}
 use Rattle.ipld_tree.specs.Spelling.{IsSpelling}
@@ -13,7 +14,13 @@ use Rattle.dagcbor_serde.specs.declared.error.Error.TheVariants.{NoBlock, Misfit
 abbrev pub IsBlockOf : Log → List ℕ → Type 0
 IsBlockOf log b = IsSomeAnd log (λ es. IsSomeAnd (events_tree es) (λ t. IsSpelling b t))
 
--- the bytes are no block, for this cause; or they are one, and the type does not accept it
-abbrev pub IsRefused : Error → List ℕ → Type 0
+-- the bytes are no block, for this cause; or they are one, and the type does not accept it, as was
+-- found at this place in them
+abbrev pub IsRefused : Error Infallible → List ℕ → Type 0
 IsRefused (NoBlock e) b = SliceRefused e b × (e ≢ OutOfMemory)
-IsRefused (Misfit m) b = (t : Tree) × IsBlock b t
+IsRefused (Misfit m at) b = ((t : Tree) × IsBlock b t) × (at ≤ length b)
+
+-- the type does not accept the block, as was found at a place in it
+abbrev pub IsMisfitIn : {E : Type 0} → List ℕ → Error E → Type 0
+IsMisfitIn b (NoBlock e) = ⊥
+IsMisfitIn b (Misfit m at) = at ≤ length b

@@ -1,6 +1,10 @@
 pub mod Blocks
 pub mod Building
+pub mod Devices
 pub mod Holds
 pub mod Links
 pub mod Logged
+pub mod Making
 pub mod Noted
+pub mod Sources
+pub mod Streams

@@ -1,6 +1,8 @@
 //! A block as a `Format` of serde's: its heads, one by one. The block was judged before, so that
 //! nothing is looked at twice but what is read.
 
+ghost use Rattle.std.specs.Prelude.{◌≤◌, length};
+
 use crate::error::Misfit;
 use crate::link::LINK;
 use dagcbor_heads::{Name as Kept, split_head};
@@ -100,6 +102,13 @@ impl<'r> Block<'r> {
         }
     }
 
+    /// The place of what is not read yet in the bytes.
+    pub(crate) fn place_in(&self, bytes: &[u8]) -> usize
+        ensures { result ≤ length bytes.now }
+    {
+        bytes.len().saturating_sub(self.rest.len())
+    }
+
     /// The argument of the head at the front, where it has this major type.
     #[inline(always)]
     fn take_argument(&mut self, major: u8) -> Result<u64, Misfit> {
@@ -165,17 +174,13 @@ impl<'r> Block<'r> {
         }
     }
 
-    /// An integer.
+    /// The integer at the front, and what is behind it.
     #[inline(always)]
-    fn take_integer(&mut self) -> Result<i128, Misfit> {
+    fn integer(&self) -> Result<(i128, &'r [u8]), Misfit> {
         match split_head(self.rest) {
-            Some((0, argument, behind)) if self.is_outside() => {
-                self.rest = behind;
-                Ok(argument as i128)
-            }
+            Some((0, argument, behind)) if self.is_outside() => Ok((argument as i128, behind)),
             Some((1, argument, behind)) if self.is_outside() => {
-                self.rest = behind;
-                Ok(-1 - argument as i128)
+                Ok((-1 - argument as i128, behind))
             }
             _ => Err(mismatch(self.rest)),
         }
@@ -249,29 +254,37 @@ impl<'r> Format for Block<'r> {
 
     #[inline(always)]
     fn i64(&mut self, _input: &[u8]) -> Result<i64, Misfit> {
-        match i64::try_from(self.take_integer()?) {
-            Ok(v) => Ok(v),
-            Err(_) => Err(Misfit::OutOfRange),
-        }
+        let (found, behind) = self.integer()?;
+        let Ok(v) = i64::try_from(found) else {
+            return Err(Misfit::OutOfRange);
+        };
+        self.rest = behind;
+        Ok(v)
     }
 
     #[inline(always)]
     fn u64(&mut self, _input: &[u8]) -> Result<u64, Misfit> {
-        match u64::try_from(self.take_integer()?) {
-            Ok(v) => Ok(v),
-            Err(_) => Err(Misfit::OutOfRange),
-        }
+        let (found, behind) = self.integer()?;
+        let Ok(v) = u64::try_from(found) else {
+            return Err(Misfit::OutOfRange);
+        };
+        self.rest = behind;
+        Ok(v)
     }
 
     fn i128(&mut self, _input: &[u8]) -> Result<i128, Misfit> {
-        self.take_integer()
+        let (v, behind) = self.integer()?;
+        self.rest = behind;
+        Ok(v)
     }
 
     fn u128(&mut self, _input: &[u8]) -> Result<u128, Misfit> {
-        match u128::try_from(self.take_integer()?) {
-            Ok(v) => Ok(v),
-            Err(_) => Err(Misfit::OutOfRange),
-        }
+        let (found, behind) = self.integer()?;
+        let Ok(v) = u128::try_from(found) else {
+            return Err(Misfit::OutOfRange);
+        };
+        self.rest = behind;
+        Ok(v)
     }
 
     fn f32(&mut self, _input: &[u8]) -> Result<f32, Misfit> {
@@ -371,24 +384,12 @@ impl<'r> Format for Block<'r> {
         self.enter(count)
     }
 
+    /// A list of the fields is no struct.
     #[inline(always)]
     fn begin_struct(&mut self, _input: &[u8]) -> Result<bool, Misfit> {
-        if !self.is_outside() {
-            return Err(mismatch(self.rest));
-        }
-        match split_head(self.rest) {
-            Some((5, count, behind)) => {
-                self.rest = behind;
-                self.enter(count)?;
-                Ok(false)
-            }
-            Some((4, count, behind)) => {
-                self.rest = behind;
-                self.enter(count)?;
-                Ok(true)
-            }
-            _ => Err(mismatch(self.rest)),
-        }
+        let count = self.take_argument(5)?;
+        self.enter(count)?;
+        Ok(false)
     }
 
     #[inline(always)]

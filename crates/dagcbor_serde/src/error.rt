@@ -1,7 +1,6 @@
 //! Why a value was not written or not read.
 
-use dagcbor_heads::{DecodeError, Name};
-use std::convert::Infallible;
+use dagcbor_heads::{DecodeError, EncodeError, Name};
 use std::error::Error as StdError;
 use std::fmt;
 use std::fmt::{Debug, Display, Formatter};
@@ -63,6 +62,8 @@ pub enum Misfit {
     Invalid,
     /// The type left items unread.
     Unread,
+    /// The value is written as other bytes: it does not hold all that the block says.
+    Lossy,
     /// A type refused, with a message of its own.
     Custom(Name),
 }
@@ -76,20 +77,39 @@ impl Display for Misfit {
 
 impl StdError for Misfit {}
 
-/// Why a value was not read.
+/// Why a value was not read. `E` is the source's error.
 #[derive(Debug, Drop)]
-pub enum Error {
-    /// The bytes are no block.
-    NoBlock(DecodeError<Infallible>),
-    /// The type does not accept the block.
-    Misfit(Misfit),
+pub enum Error<E> {
+    /// No block was read: the bytes are none, or the source faulted.
+    NoBlock(DecodeError<E>),
+    /// The type does not accept the block, for this cause. The reader stood at this place in it: at
+    /// the item that it did not take, or behind what it took before it refused.
+    Misfit { cause: Misfit, at: usize },
 }
 
 /// The text of `Debug`.
-impl Display for Error {
+impl<E: Debug> Display for Error<E> {
     fn fmt<W: fmt::Write>(&self, f: &mut Formatter<W>) -> fmt::Result {
         Debug::fmt(self, f)
     }
 }
 
-impl StdError for Error {}
+impl<E: StdError> StdError for Error<E> {}
+
+/// Why a value was not written to a device. `E` is the device's error.
+#[derive(Debug, Drop)]
+pub enum DeviceError<E> {
+    /// The value was refused, and nothing was written.
+    Value(WriteError),
+    /// The device refused the bytes, and has a beginning of them.
+    Device(EncodeError<E>),
+}
+
+/// The text of `Debug`.
+impl<E: Debug> Display for DeviceError<E> {
+    fn fmt<W: fmt::Write>(&self, f: &mut Formatter<W>) -> fmt::Result {
+        Debug::fmt(self, f)
+    }
+}
+
+impl<E: StdError> StdError for DeviceError<E> {}

@@ -1,6 +1,9 @@
 //! Laws of the events of links. Each function does nothing: its contract is the law.
 
 ghost use Rattle.dagcbor_serde.specs.Links.{LinksAreLinks, FieldsAreNoLinks};
+ghost use Rattle.dagcbor_serde.specs.Making.{TreesAreWritten, LeavesAreWritten, ListsAreWritten};
+
+use serde::Described;
 
 /// The events of a link make that link.
 pub fn links_are_links()
@@ -10,4 +13,19 @@ pub fn links_are_links()
 /// A field of another name, or in another case, makes none: a derive sends `/` as it is.
 pub fn fields_are_no_links()
     ensures { FieldsAreNoLinks }
+{}
+
+/// What is sent as a tree, as `Any` is, has that tree's spelling.
+pub fn trees_are_written()
+    ensures { TreesAreWritten }
+{}
+
+/// A number, a bool, a text, bytes, a link and `()` are sent as the leaves that they are.
+pub fn leaves_are_written()
+    ensures { LeavesAreWritten }
+{}
+
+/// A list whose items are sent as trees is sent as the list of these.
+pub fn lists_are_written<T: Described>()
+    ensures { ListsAreWritten T.writes }
 {}

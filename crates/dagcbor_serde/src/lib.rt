@@ -13,18 +13,29 @@
 //! ```
 #![tactic(auto)]
 
+mod any;
+pub mod as_any;
+pub mod as_bytes;
+pub mod as_link;
 mod block;
 mod byte_buf;
+mod device;
 mod error;
 mod frame;
 pub mod laws;
 mod link;
 mod log;
 mod sink;
+mod source;
+mod stream;
 mod whole;
 mod writer;
 
+pub use any::Any;
 pub use byte_buf::ByteBuf;
-pub use error::{Error, Misfit, WriteError};
+pub use device::{push_value, to_writer};
+pub use error::{DeviceError, Error, Misfit, WriteError};
 pub use link::Link;
-pub use whole::{from_slice, from_slice_owned, to_vec};
+pub use source::{block_from_reader, block_from_reader_once, from_reader, from_reader_once};
+pub use stream::{Stream, iter_from_reader};
+pub use whole::{from_slice, from_slice_lossless, from_slice_owned, to_vec};

@@ -1,10 +1,11 @@
 //! Links in derived types.
 
+ghost use Rattle.std.specs.Prelude.{◌≡◌};
 ghost use Rattle.ipld_tree.specs.Cid.{cid_bytes};
 ghost use Rattle.dagcbor_serde.specs.Links.{WritesLink};
 
+use crate::as_link;
 use crate::sink::{LINK_CASE, LINK_NAME};
-use arrayvec::ArrayVec;
 use ipld_tree::Cid;
 use serde::{
     Described, Deserialize, DeserializeOwned, Deserializer, Format, Name, NameKind, Serialize,
@@ -26,37 +27,29 @@ pub(crate) const LINK: Name<'static> = Name {
     skipped: false,
 };
 
+impl From<Cid> for Link {
+    ghost from_gives = { λ cid link. link ≡ record { 0 = cid } };
+
+    fn from(cid: Cid) -> Link {
+        Link(cid)
+    }
+}
+
+impl From<Link> for Cid {
+    ghost from_gives = { λ link cid. cid ≡ link.0 };
+
+    fn from(link: Link) -> Cid {
+        link.0
+    }
+}
+
 impl Described for Link {
     ghost writes = { λ l. WritesLink (cid_bytes l.0) };
 }
 
 impl Serialize for Link {
     fn serialize<S: Serializer>(&self, out: &mut S) -> Result<(), S::Error> {
-        let mut cid = ArrayVec::new();
-        self.0.write_bytes(&mut cid);
-        out.begin_map(Some(1))?;
-        out.key_cased(LINK_NAME, LINK_CASE)?;
-        out.bytes(&cid)?;
-        out.end_map()
-    }
-}
-
-/// Reads the binary form at the only entry.
-fn read_link<F: Format>(
-    alloc: Global,
-    from: &mut Deserializer<'_, '_, F>,
-) -> Result<Link, F::Error> {
-    from.begin_map()?;
-    let Some(0) = from.next_key(&[LINK])? else {
-        return Err(from.missing(LINK_NAME));
-    };
-    let bytes = from.byte_buf(alloc)?;
-    let Ok(cid) = Cid::try_from(bytes.as_slice()) else {
-        return Err(from.invalid());
-    };
-    match from.next_key(&[LINK])? {
-        None => Ok(Link(cid)),
-        Some(_) => Err(from.unknown_key()),
+        as_link::serialize(&self.0, out)
     }
 }
 
@@ -65,7 +58,7 @@ impl<'de> Deserialize<'de> for Link {
         alloc: Global,
         from: &mut Deserializer<'de, '_, F>,
     ) -> Result<Link, F::Error> {
-        read_link(alloc, from)
+        Ok(Link(as_link::deserialize(alloc, from)?))
     }
 }
 
@@ -74,6 +67,6 @@ impl DeserializeOwned for Link {
         alloc: Global,
         from: &mut Deserializer<'_, '_, F>,
     ) -> Result<Link, F::Error> {
-        read_link(alloc, from)
+        Ok(Link(as_link::deserialize(alloc, from)?))
     }
 }

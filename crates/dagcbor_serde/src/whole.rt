@@ -1,10 +1,10 @@
 //! Whole values.
 
-ghost use Rattle.std.specs.Prelude.{◌≡◌, [], Some, IfOk, IfErr, OnOk};
+ghost use Rattle.std.specs.Prelude.{◌≡◌, ◌≤◌, ℕ, List, [], Some, length, IfOk, IfErr, OnOk};
 ghost use Rattle.serde.specs.Event.{Log};
 ghost use Rattle.dagcbor_items.specs.Slices.{IsBlock};
 ghost use Rattle.ipld_tree.specs.Tree.{Tree};
-ghost use Rattle.dagcbor_serde.specs.Blocks.{IsBlockOf, IsRefused};
+ghost use Rattle.dagcbor_serde.specs.Blocks.{IsBlockOf, IsRefused, IsMisfitIn};
 
 use crate::block::Block;
 use crate::error::{Error, Misfit, WriteError};
@@ -12,6 +12,7 @@ use crate::writer::Writer;
 use dagcbor_items::check_slice;
 use serde::{Deserialize, DeserializeOwned, Deserializer, Serialize};
 use std::alloc::Global;
+use std::convert::Infallible;
 
 /// The one spelling of the tree of the value's events.
 pub fn to_vec<T: Serialize>(alloc: Global, value: &T) -> Result<Vec<u8>, WriteError>
@@ -27,31 +28,100 @@ pub fn to_vec<T: Serialize>(alloc: Global, value: &T) -> Result<Vec<u8>, WriteEr
 }
 
 /// Reads a value of the type from a block.
-pub fn from_slice<'de, T: Deserialize<'de>>(alloc: Global, bytes: &'de [u8]) -> Result<T, Error>
+pub fn from_slice<'de, T: Deserialize<'de>>(
+    alloc: Global,
+    bytes: &'de [u8],
+) -> Result<T, Error<Infallible>>
     ensures block { OnOk result ((t : Tree) × IsBlock bytes.now t) }
     ensures refused { IfErr result (λ e. IsRefused e bytes.now) }
 {
     judge(bytes)?;
-    match read(alloc, bytes) {
+    let mut block = Block::new(alloc, bytes);
+    match read_whole(alloc, bytes, &mut block) {
         Ok(value) => Ok(value),
-        Err(misfit) => Err(Error::Misfit(misfit)),
+        Err(cause) => {
+            let at = block.place_in(bytes);
+            Err(Error::Misfit { cause, at })
+        }
     }
 }
 
 /// As `from_slice`, of a type that borrows nothing.
-pub fn from_slice_owned<T: DeserializeOwned>(alloc: Global, bytes: &[u8]) -> Result<T, Error>
+pub fn from_slice_owned<T: DeserializeOwned>(
+    alloc: Global,
+    bytes: &[u8],
+) -> Result<T, Error<Infallible>>
     ensures block { OnOk result ((t : Tree) × IsBlock bytes.now t) }
     ensures refused { IfErr result (λ e. IsRefused e bytes.now) }
 {
     judge(bytes)?;
-    match read_owned(alloc, bytes) {
+    fit(alloc, bytes)
+}
+
+/// As `from_slice_owned`, of a value that holds all that the block says: it is written as these
+/// bytes again.
+pub fn from_slice_lossless<T: Serialize + DeserializeOwned>(
+    alloc: Global,
+    bytes: &[u8],
+) -> Result<T, Error<Infallible>>
+    ensures value { IfOk result
+        (λ v. (log : Log) × T.writes v (Some []) log × IsBlockOf log bytes.now) }
+    ensures refused { IfErr result (λ e. IsRefused e bytes.now) }
+{
+    let value: T = from_slice_owned(alloc, bytes)?;
+    let again = match to_vec(alloc, &value) {
+        Ok(again) => again,
+        Err(error) => {
+            let cause = unwritten(error);
+            return Err(Error::Misfit { cause, at: 0 });
+        }
+    };
+    if again.as_slice() != bytes {
+        let at = first_difference(bytes, &again);
+        return Err(Error::Misfit {
+            cause: Misfit::Lossy,
+            at,
+        });
+    }
+    Ok(value)
+}
+
+/// Why a value that was read is not written again.
+fn unwritten(error: WriteError) -> Misfit {
+    match error {
+        WriteError::OutOfMemory => Misfit::OutOfMemory,
+        _ => Misfit::Lossy,
+    }
+}
+
+/// The place of the first byte that the others have not.
+fn first_difference(bytes: &[u8], others: &[u8]) -> usize
+    ensures { result ≤ length bytes.now }
+{
+    for at in 0..bytes.len() {
+        if others.get(at) != Some(&bytes[at]) {
+            return at;
+        }
+    }
+    bytes.len()
+}
+
+/// Reads a value of the type from bytes that are a block.
+pub(crate) fn fit<T: DeserializeOwned, E>(alloc: Global, bytes: &[u8]) -> Result<T, Error<E>>
+    ensures { IfErr result (IsMisfitIn bytes.now) }
+{
+    let mut block = Block::new(alloc, bytes);
+    match read_whole_owned(alloc, bytes, &mut block) {
         Ok(value) => Ok(value),
-        Err(misfit) => Err(Error::Misfit(misfit)),
+        Err(cause) => {
+            let at = block.place_in(bytes);
+            Err(Error::Misfit { cause, at })
+        }
     }
 }
 
 /// Refuses bytes that are no block.
-fn judge(bytes: &[u8]) -> Result<(), Error>
+fn judge(bytes: &[u8]) -> Result<(), Error<Infallible>>
     ensures block { OnOk result ((t : Tree) × IsBlock bytes.now t) }
     ensures refused { IfErr result (λ e. IsRefused e bytes.now) }
 {
@@ -61,9 +131,12 @@ fn judge(bytes: &[u8]) -> Result<(), Error>
     }
 }
 
-fn read<'de, T: Deserialize<'de>>(alloc: Global, bytes: &'de [u8]) -> Result<T, Misfit> {
-    let mut block = Block::new(alloc, bytes);
-    let value = read_one(alloc, bytes, &mut block)?;
+fn read_whole<'de, T: Deserialize<'de>>(
+    alloc: Global,
+    bytes: &'de [u8],
+    block: &mut Block<'_>,
+) -> Result<T, Misfit> {
+    let value = read_one(alloc, bytes, block)?;
     block.end()?;
     Ok(value)
 }
@@ -76,9 +149,12 @@ fn read_one<'de, T: Deserialize<'de>>(
     T::deserialize(alloc, &mut Deserializer::new(bytes, block))
 }
 
-fn read_owned<T: DeserializeOwned>(alloc: Global, bytes: &[u8]) -> Result<T, Misfit> {
-    let mut block = Block::new(alloc, bytes);
-    let value = read_one_owned(alloc, bytes, &mut block)?;
+fn read_whole_owned<T: DeserializeOwned>(
+    alloc: Global,
+    bytes: &[u8],
+    block: &mut Block<'_>,
+) -> Result<T, Misfit> {
+    let value = read_one_owned(alloc, bytes, block)?;
     block.end()?;
     Ok(value)
 }

@@ -1,0 +1,156 @@
+//! One type for each form that a derive knows, as docs/DERIVES.md lists them.
+
+use dagcbor_serde::{ByteBuf, Link};
+use serde::{Deserialize, Serialize};
+use std::collections::BTreeMap;
+
+#[derive(Debug, Drop, PartialEq, Serialize, Deserialize)]
+pub struct Unit;
+
+#[derive(Debug, Drop, PartialEq, Serialize, Deserialize)]
+pub struct Metres(pub u16);
+
+#[derive(Debug, Drop, PartialEq, Serialize, Deserialize)]
+pub struct Point(pub i8, pub i8);
+
+#[derive(Debug, Drop, PartialEq, Serialize, Deserialize)]
+#[serde(transparent)]
+pub struct Wrapper {
+    pub inner: Point,
+}
+
+/// Fields under other names, left out, or made.
+#[derive(Debug, Drop, PartialEq, Serialize, Deserialize)]
+#[serde(rename_all = "SCREAMING-KEBAB-CASE", deny_unknown_fields)]
+pub struct Renamed {
+    pub first_name: u8,
+    #[serde(rename = "other")]
+    pub second: u8,
+    #[serde(alias = "old")]
+    pub third: u8,
+    #[serde(default)]
+    pub fourth: u8,
+    #[serde(default = "seven")]
+    pub fifth: u8,
+    #[serde(skip)]
+    pub sixth: u8,
+    #[serde(skip_serializing_if = "Option::is_none")]
+    pub seventh: Option<u8>,
+}
+
+fn seven() -> u8 {
+    7
+}
+
+#[derive(Debug, Drop, PartialEq, Eq, PartialOrd, Ord, Serialize, Deserialize)]
+pub enum Side {
+    Left,
+    Right,
+}
+
+/// Told by a field beside the data.
+#[derive(Debug, Drop, PartialEq, Serialize, Deserialize)]
+#[serde(tag = "t", content = "c")]
+pub enum Adjacent {
+    Unit,
+    One(u8),
+    Two(u8, u8),
+    Named { a: u8 },
+}
+
+/// Told by a field among the data, with a newtype of a struct.
+#[derive(Debug, Drop, PartialEq, Serialize, Deserialize)]
+#[serde(tag = "type")]
+pub enum Tagged {
+    Empty,
+    Named { a: u8 },
+    Whole(Plain),
+    #[serde(other)]
+    Unknown,
+}
+
+#[derive(Debug, Drop, PartialEq, Serialize, Deserialize)]
+pub struct Plain {
+    pub b: u8,
+}
+
+/// Fields of variants under other names.
+#[derive(Debug, Drop, PartialEq, Serialize, Deserialize)]
+#[serde(rename_all = "snake_case", rename_all_fields = "camelCase")]
+pub enum Cased {
+    TurnLeft { by_degrees: u16 },
+    GoOn,
+}
+
+/// Written and read through another type.
+#[derive(Clone, Copy, Debug, Drop, PartialEq, Serialize, Deserialize)]
+#[serde(from = "u8", into = "u8")]
+pub struct Level {
+    pub height: u8,
+}
+
+impl From<u8> for Level {
+    fn from(height: u8) -> Level {
+        Level { height }
+    }
+}
+
+impl From<Level> for u8 {
+    fn from(level: Level) -> u8 {
+        level.height
+    }
+}
+
+/// Even numbers alone.
+#[derive(Debug, Drop, PartialEq, Serialize, Deserialize)]
+#[serde(try_from = "u8", transparent)]
+pub struct Even(pub u8);
+
+impl TryFrom<u8> for Even {
+    type Error = &'static str;
+
+    fn try_from(number: u8) -> Result<Even, &'static str> {
+        if number % 2 == 0 {
+            Ok(Even(number))
+        } else {
+            Err("odd")
+        }
+    }
+}
+
+/// Maps that share one map.
+#[derive(Debug, Drop, PartialEq, Serialize, Deserialize)]
+pub struct Flat {
+    #[serde(flatten)]
+    pub tagged: Tagged,
+    pub z: u8,
+    #[serde(flatten)]
+    pub more: Plain,
+}
+
+/// A link among the fields of a variant, and bytes that are none.
+#[derive(Debug, Drop, PartialEq, Serialize, Deserialize)]
+#[serde(tag = "type")]
+pub enum Pinned {
+    Cid { cid: Link },
+}
+
+#[derive(Debug, Drop, PartialEq, Serialize, Deserialize)]
+#[serde(untagged)]
+pub enum BytesAlone {
+    Some(Octets),
+}
+
+#[derive(Debug, Drop, PartialEq, Serialize, Deserialize)]
+pub struct Octets(pub ByteBuf);
+
+/// What std has.
+#[derive(Debug, Drop, PartialEq, Serialize, Deserialize)]
+pub struct Holders {
+    pub pair: (u8, bool),
+    pub three: [u8; 3],
+    pub boxed: Box<u8>,
+    pub sides: BTreeMap<Side, u8>,
+    pub letters: BTreeMap<char, u8>,
+    pub maybe: Option<Option<u8>>,
+}

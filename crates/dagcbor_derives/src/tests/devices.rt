@@ -1,0 +1,239 @@
+//! Values to devices and from sources.
+
+use super::{RECORD, agree, is_told, link, text};
+use crate::{Either, Record};
+use dagcbor_heads::{BufWriter, DecodeError, EncodeError};
+use dagcbor_serde::{
+    DeviceError, Error, WriteError, block_from_reader, block_from_reader_once, from_reader,
+    from_reader_once, iter_from_reader, push_value, to_writer,
+};
+use std::alloc::Global;
+use std::io;
+use std::io::{BufRead, ErrorKind};
+use std::test::Fail;
+
+/// Shows one byte a fill, and faults once where so many bytes are left.
+#[derive(Drop)]
+struct Source<'a> {
+    rest: &'a [u8],
+    fault: Option<usize>,
+}
+
+impl io::Read for Source<'_> {
+    fn read(&mut self, buf: &mut [u8]) -> io::Result<usize> {
+        let count = self.rest.len().min(buf.len());
+        buf[..count].copy_from_slice(&self.rest[..count]);
+        self.rest = &self.rest[count..];
+        Ok(count)
+    }
+}
+
+impl BufRead for Source<'_> {
+    fn fill_buf(&mut self) -> io::Result<&[u8]> {
+        if self.fault == Some(self.rest.len()) {
+            self.fault = None;
+            return Err(io::Error::from(ErrorKind::ConnectionReset));
+        }
+        let count = self.rest.len().min(1);
+        Ok(&self.rest[..count])
+    }
+
+    fn consume(&mut self, amount: usize) {
+        let count = self.rest.len().min(amount);
+        self.rest = &self.rest[count..];
+    }
+}
+
+/// Takes three bytes a call, and no more than so many.
+#[derive(Drop)]
+struct Sink {
+    held: Vec<u8>,
+    room: usize,
+}
+
+impl io::Write for Sink {
+    fn write(&mut self, buf: &[u8]) -> io::Result<usize> {
+        let count = buf
+            .len()
+            .min(3)
+            .min(self.room - self.room.min(self.held.len()));
+        self.held.extend_from_slice(&buf[..count])?;
+        Ok(count)
+    }
+
+    fn flush(&mut self) -> io::Result<()> {
+        Ok(())
+    }
+}
+
+fn record(alloc: Global) -> Result<Record, Fail> {
+    Ok(Record {
+        link: link()?,
+        name: text(alloc, "hi")?,
+        seq: 42,
+        tags: vec![in alloc; 1, 256]?,
+    })
+}
+
+#[test]
+fn devices_take_blocks(rt: HostRuntime) -> Result<(), Fail> {
+    let alloc = rt.alloc();
+    let mut device = vec![in alloc; 9u8]?;
+    to_writer(alloc, &mut device, &record(alloc)?)?;
+    agree(device.strip_prefix(b"\x09"), Some(RECORD))?;
+    let mut writer = BufWriter::new(Vec::new(alloc));
+    push_value(alloc, &mut writer, &record(alloc)?)?;
+    push_value(alloc, &mut writer, &7u8)?;
+    agree(
+        writer.buffer().strip_prefix(RECORD),
+        Some(b"\x07".as_slice()),
+    )
+}
+
+/// A device that is full has a beginning, and of a value that is refused nothing.
+#[test]
+fn devices_have_a_beginning(rt: HostRuntime) -> Result<(), Fail> {
+    let alloc = rt.alloc();
+    for room in 0..RECORD.len() {
+        let mut sink = Sink {
+            held: Vec::new(alloc),
+            room,
+        };
+        match to_writer(alloc, &mut sink, &record(alloc)?) {
+            Err(DeviceError::Device(EncodeError::Write(fault))) => {
+                agree(fault.kind(), ErrorKind::WriteZero)?;
+            }
+            other => return Err(Fail::new(format_args!("{other:?}"))),
+        }
+        agree(sink.held.as_slice(), &RECORD[..room])?;
+    }
+    let mut device = vec![in alloc; 9u8]?;
+    match to_writer(alloc, &mut device, &(1u8, 1.5f64)) {
+        Err(DeviceError::Value(WriteError::Float)) => {}
+        other => return Err(Fail::new(format_args!("{other:?}"))),
+    }
+    agree(device.as_slice(), b"\x09".as_slice())
+}
+
+#[test]
+fn sources_are_read(rt: HostRuntime) -> Result<(), Fail> {
+    let alloc = rt.alloc();
+    let source = Source {
+        rest: RECORD,
+        fault: None,
+    };
+    agree(&from_reader::<Record, _>(alloc, source)?, &record(alloc)?)?;
+    agree(block_from_reader(alloc, RECORD)?.as_slice(), RECORD)?;
+    let mut three = b"\x07\xd8\x2a\x45\x00\x01\x55\x00\x00\x61t".as_slice();
+    agree(
+        &from_reader_once::<Either, _>(alloc, &mut three)?,
+        &Either::Number(7),
+    )?;
+    agree(
+        &from_reader_once::<Either, _>(alloc, &mut three)?,
+        &Either::Pinned(link()?),
+    )?;
+    agree(
+        block_from_reader_once(alloc, &mut three)?.as_slice(),
+        b"\x61t".as_slice(),
+    )?;
+    agree(three, b"".as_slice())
+}
+
+#[test]
+fn sources_are_refused(rt: HostRuntime) -> Result<(), Fail> {
+    let alloc = rt.alloc();
+    for left in 0..RECORD.len() + 1 {
+        let source = Source {
+            rest: RECORD,
+            fault: Some(left),
+        };
+        match from_reader::<Record, _>(alloc, source) {
+            Err(Error::NoBlock(DecodeError::Read(fault))) => {
+                agree(fault.kind(), ErrorKind::ConnectionReset)?;
+            }
+            other => return Err(Fail::new(format_args!("{other:?}"))),
+        }
+    }
+    is_told(
+        alloc,
+        &from_reader::<u8, _>(alloc, b"\x01\x02".as_slice()),
+        "Err(NoBlock(TrailingData))",
+    )?;
+    // An announced length takes no memory.
+    let announced = from_reader::<u8, _>(
+        alloc,
+        b"\x5b\x7f\xff\xff\xff\xff\xff\xff\xff\x00".as_slice(),
+    );
+    is_told(
+        alloc,
+        &announced,
+        r#"Err(NoBlock(Eof { name: "bytes", expect: Big }))"#,
+    )
+}
+
+/// Where the type does not accept a block, the source has what follows it.
+#[test]
+fn a_source_stands_behind_what_was_refused(rt: HostRuntime) -> Result<(), Fail> {
+    let alloc = rt.alloc();
+    let mut two = b"\x61t\x07".as_slice();
+    let refused = from_reader_once::<u8, _>(alloc, &mut two);
+    is_told(
+        alloc,
+        &refused,
+        "Err(Misfit { cause: Mismatch(97), at: 0 })",
+    )?;
+    agree(from_reader_once::<u8, _>(alloc, &mut two)?, 7)
+}
+
+#[test]
+fn streams_end_at_an_error(rt: HostRuntime) -> Result<(), Fail> {
+    let alloc = rt.alloc();
+    let rows: [(&[u8], &str); 5] = [
+        (b"", "[]"),
+        (b"\x01\x18\x18", "[Ok(1), Ok(24)]"),
+        (
+            b"\x01\x61a\x02",
+            "[Ok(1), Err(Misfit { cause: Mismatch(97), at: 0 })]",
+        ),
+        (
+            b"\x01\x18\x17\x02",
+            r#"[Ok(1), Err(NoBlock(NonMinimal { name: "u64", found: 24 }))]"#,
+        ),
+        (
+            b"\x01\x18",
+            r#"[Ok(1), Err(NoBlock(Eof { name: "u64", expect: Small(1) }))]"#,
+        ),
+    ];
+    for (bytes, told) in rows {
+        let mut items = Vec::new(alloc);
+        for item in iter_from_reader::<u8, _>(alloc, bytes) {
+            items.push(item)?;
+        }
+        is_told(alloc, &items, told)?;
+    }
+    Ok(())
+}
+
+/// A fault ends a stream, wherever it comes.
+#[test]
+fn streams_end_at_a_fault(rt: HostRuntime) -> Result<(), Fail> {
+    let alloc = rt.alloc();
+    for left in 0..3 {
+        let source = Source {
+            rest: b"\x01\x02",
+            fault: Some(left),
+        };
+        let mut values = 0usize;
+        let mut faults = 0usize;
+        for item in iter_from_reader::<u8, _>(alloc, source) {
+            match item {
+                Ok(_) => values = values.saturating_add(1),
+                Err(Error::NoBlock(DecodeError::Read(_))) => faults = faults.saturating_add(1),
+                Err(other) => return Err(Fail::new(format_args!("{other:?}"))),
+            }
+        }
+        agree((values, faults), (2 - left, 1))?;
+    }
+    Ok(())
+}

@@ -1,0 +1,303 @@
+//! The forms of a derive, with the bytes that serde_ipld_dagcbor 0.7.0 writes of them in Rust, where
+//! docs/DERIVES.md says no other. An encoder apart made them.
+
+use super::{agree, goes_both_ways, is_read, is_told, link};
+use crate::Shape;
+use crate::forms::{
+    Adjacent, BytesAlone, Cased, Even, Flat, Holders, Level, Metres, Octets, Pinned, Plain, Point,
+    Renamed, Side, Tagged, Unit, Wrapper,
+};
+use dagcbor_serde::{ByteBuf, from_slice_lossless, from_slice_owned, to_vec};
+use std::alloc::Global;
+use std::collections::{BTreeMap, BTreeSet};
+use std::test::Fail;
+
+const RENAMED: &[u8] =
+    b"\xa5\x65\x46\x49\x46\x54\x48\x05\x65\x54\x48\x49\x52\x44\x03\x65\x6f\x74\x68\x65\x72\x02\x66\x46\x4f\x55\x52\x54\x48\x04\x6a\x46\x49\x52\x53\x54\x2d\x4e\x41\x4d\x45\x01";
+
+const RENAMED_SHORT: &[u8] =
+    b"\xa3\x63\x6f\x6c\x64\x03\x65\x6f\x74\x68\x65\x72\x02\x6a\x46\x49\x52\x53\x54\x2d\x4e\x41\x4d\x45\x01";
+
+const HOLDERS: &[u8] =
+    b"\xa6\x64\x70\x61\x69\x72\x82\x01\xf5\x65\x62\x6f\x78\x65\x64\x04\x65\x6d\x61\x79\x62\x65\xf6\x65\x73\x69\x64\x65\x73\xa2\x64\x4c\x65\x66\x74\x01\x65\x52\x69\x67\x68\x74\x02\x65\x74\x68\x72\x65\x65\x83\x01\x02\x03\x67\x6c\x65\x74\x74\x65\x72\x73\xa2\x61\x61\x02\x62\xc3\xa9\x01";
+
+#[test]
+fn numbers_have_one_form(rt: HostRuntime) -> Result<(), Fail> {
+    let alloc = rt.alloc();
+    goes_both_ways(alloc, &false, b"\xf4")?;
+    goes_both_ways(alloc, &true, b"\xf5")?;
+    goes_both_ways(alloc, &-256isize, b"\x38\xff")?;
+    goes_both_ways(alloc, &-257isize, b"\x39\x01\x00")?;
+    goes_both_ways(alloc, &255usize, b"\x18\xff")?;
+    goes_both_ways(alloc, &23i8, b"\x17")?;
+    goes_both_ways(alloc, &24i8, b"\x18\x18")?;
+    goes_both_ways(alloc, &i8::MIN, b"\x38\x7f")?;
+    goes_both_ways(alloc, &98745874u32, b"\x1a\x05\xe2\xbe\x12")?;
+    goes_both_ways(alloc, &u64::MAX, b"\x1b\xff\xff\xff\xff\xff\xff\xff\xff")?;
+    goes_both_ways(alloc, &i64::MIN, b"\x3b\x7f\xff\xff\xff\xff\xff\xff\xff")?;
+    goes_both_ways(
+        alloc,
+        &(u64::MAX as u128),
+        b"\x1b\xff\xff\xff\xff\xff\xff\xff\xff",
+    )?;
+    goes_both_ways(
+        alloc,
+        &(u64::MAX as i128),
+        b"\x1b\xff\xff\xff\xff\xff\xff\xff\xff",
+    )?;
+    goes_both_ways(
+        alloc,
+        &-(1i128 << 64),
+        b"\x3b\xff\xff\xff\xff\xff\xff\xff\xff",
+    )
+}
+
+#[test]
+fn texts_and_units_have_one_form(rt: HostRuntime) -> Result<(), Fail> {
+    let alloc = rt.alloc();
+    goes_both_ways(alloc, &'\0', b"\x61\x00")?;
+    goes_both_ways(alloc, &'\u{e9}', b"\x62\xc3\xa9")?;
+    is_told(
+        alloc,
+        &from_slice_owned::<char>(alloc, b"\x62ab"),
+        "Err(Misfit { cause: Invalid, at: 3 })",
+    )?;
+    goes_both_ways(alloc, &(), b"\xf6")?;
+    goes_both_ways(alloc, &Unit, b"\xf6")?;
+    goes_both_ways(alloc, &None::<u8>, b"\xf6")?;
+    goes_both_ways(alloc, &Some(5u8), b"\x05")?;
+    // As in Rust, the outer `Option` takes the null.
+    is_told(alloc, &to_vec(alloc, &Some(None::<u8>)), "Ok([246])")?;
+    goes_both_ways(alloc, &None::<Option<u8>>, b"\xf6")
+}
+
+#[test]
+fn structs_without_names_are_lists(rt: HostRuntime) -> Result<(), Fail> {
+    let alloc = rt.alloc();
+    goes_both_ways(alloc, &Metres(7), b"\x07")?;
+    goes_both_ways(alloc, &Point(1, -1), b"\x82\x01\x20")?;
+    goes_both_ways(
+        alloc,
+        &Wrapper {
+            inner: Point(1, -1),
+        },
+        b"\x82\x01\x20",
+    )?;
+    let few = from_slice_owned::<Point>(alloc, b"\x81\x01");
+    is_told(alloc, &few, "Err(Misfit { cause: WrongLength, at: 2 })")?;
+    let many = from_slice_owned::<Point>(alloc, b"\x83\x01\x02\x03");
+    is_told(alloc, &many, "Err(Misfit { cause: WrongLength, at: 3 })")
+}
+
+/// A struct with names is no list.
+#[test]
+fn structs_with_names_are_maps(rt: HostRuntime) -> Result<(), Fail> {
+    let alloc = rt.alloc();
+    goes_both_ways(alloc, &Plain { b: 1 }, b"\xa1\x61b\x01")?;
+    let listed = from_slice_owned::<Plain>(alloc, b"\x81\x01");
+    is_told(
+        alloc,
+        &listed,
+        "Err(Misfit { cause: Mismatch(129), at: 0 })",
+    )
+}
+
+#[test]
+fn fields_have_other_names(rt: HostRuntime) -> Result<(), Fail> {
+    let alloc = rt.alloc();
+    let renamed = Renamed {
+        first_name: 1,
+        second: 2,
+        third: 3,
+        fourth: 4,
+        fifth: 5,
+        sixth: 0,
+        seventh: None,
+    };
+    goes_both_ways(alloc, &renamed, RENAMED)?;
+    let short = Renamed {
+        fourth: 0,
+        fifth: 7,
+        ..renamed
+    };
+    is_read(alloc, RENAMED_SHORT, &short)?;
+    let unknown = from_slice_owned::<Renamed>(alloc, b"\xa1\x65SIXTH\x01");
+    is_told(
+        alloc,
+        &unknown,
+        "Err(Misfit { cause: UnknownField, at: 7 })",
+    )
+}
+
+#[test]
+fn variants_are_told_apart(rt: HostRuntime) -> Result<(), Fail> {
+    let alloc = rt.alloc();
+    goes_both_ways(alloc, &Adjacent::Unit, b"\xa1\x61t\x64Unit")?;
+    goes_both_ways(alloc, &Adjacent::One(1), b"\xa2\x61c\x01\x61t\x63One")?;
+    goes_both_ways(
+        alloc,
+        &Adjacent::Two(1, 2),
+        b"\xa2\x61c\x82\x01\x02\x61t\x63Two",
+    )?;
+    goes_both_ways(
+        alloc,
+        &Adjacent::Named { a: 1 },
+        b"\xa2\x61c\xa1\x61a\x01\x61t\x65Named",
+    )?;
+    goes_both_ways(alloc, &Tagged::Empty, b"\xa1\x64type\x65Empty")?;
+    goes_both_ways(
+        alloc,
+        &Tagged::Named { a: 1 },
+        b"\xa2\x61a\x01\x64type\x65Named",
+    )?;
+    goes_both_ways(
+        alloc,
+        &Tagged::Whole(Plain { b: 2 }),
+        b"\xa2\x61b\x02\x64type\x65Whole",
+    )?;
+    is_read(alloc, b"\xa2\x61q\x01\x64type\x61x", &Tagged::Unknown)?;
+    goes_both_ways(
+        alloc,
+        &Cased::TurnLeft { by_degrees: 90 },
+        b"\xa1\x69turn_left\xa1\x69byDegrees\x18\x5a",
+    )?;
+    goes_both_ways(alloc, &Cased::GoOn, b"\x65go_on")
+}
+
+/// A link stays one among buffered fields, and no bytes take it.
+#[test]
+fn links_are_told_from_bytes(rt: HostRuntime) -> Result<(), Fail> {
+    let alloc = rt.alloc();
+    goes_both_ways(
+        alloc,
+        &Pinned::Cid { cid: link()? },
+        b"\xa2\x63cid\xd8\x2a\x45\x00\x01\x55\x00\x00\x64type\x63Cid",
+    )?;
+    let octets = ByteBuf(vec![in alloc; 1u8]?);
+    goes_both_ways(alloc, &BytesAlone::Some(Octets(octets)), b"\x41\x01")?;
+    let read = from_slice_owned::<BytesAlone>(alloc, b"\xd8\x2a\x45\x00\x01\x55\x00\x00");
+    agree(read.is_err(), true)
+}
+
+/// What a value says of the block, it says all of.
+#[test]
+fn lossless_values_hold_all(rt: HostRuntime) -> Result<(), Fail> {
+    let alloc = rt.alloc();
+    let read: Plain = from_slice_lossless(alloc, b"\xa1\x61b\x01")?;
+    agree(&read, &Plain { b: 1 })?;
+    let rows: [(&[u8], &str); 3] = [
+        (
+            b"\xa2\x61b\x01\x61c\x02",
+            "Err(Misfit { cause: Lossy, at: 0 })",
+        ),
+        (
+            b"\xa1\x61a\x01",
+            r#"Err(Misfit { cause: MissingField("b"), at: 4 })"#,
+        ),
+        (
+            b"\xa1\x61b",
+            r#"Err(NoBlock(Eof { name: "any", expect: Small(1) }))"#,
+        ),
+    ];
+    for (bytes, told) in rows {
+        is_told(alloc, &from_slice_lossless::<Plain>(alloc, bytes), told)?;
+    }
+    is_told(
+        alloc,
+        &from_slice_lossless::<Shape>(alloc, b"\xa1\x63Dot\xf6"),
+        "Err(Misfit { cause: Lossy, at: 0 })",
+    )?;
+    let pair = from_slice_lossless::<(u8, Shape)>(alloc, b"\x82\x01\xa1\x63Dot\xf6");
+    is_told(alloc, &pair, "Err(Misfit { cause: Lossy, at: 2 })")
+}
+
+#[test]
+fn variants_that_are_none_are_refused(rt: HostRuntime) -> Result<(), Fail> {
+    let alloc = rt.alloc();
+    let rows: [(&[u8], &str); 5] = [
+        (b"\x65Arrow", "Err(Misfit { cause: UnknownVariant, at: 6 })"),
+        (
+            b"\xa1\x65Arrow\x01",
+            "Err(Misfit { cause: UnknownVariant, at: 7 })",
+        ),
+        (b"\x66Circle", "Err(Misfit { cause: Invalid, at: 7 })"),
+        (
+            b"\xa2\x63Dot\xf6\x66Circle\x01",
+            "Err(Misfit { cause: Invalid, at: 13 })",
+        ),
+        (
+            b"\x81\x63Dot",
+            "Err(Misfit { cause: Mismatch(129), at: 0 })",
+        ),
+    ];
+    for (bytes, told) in rows {
+        is_told(alloc, &from_slice_owned::<Shape>(alloc, bytes), told)?;
+    }
+    is_told(
+        alloc,
+        &from_slice_owned::<Shape>(alloc, b"\x66Circle\x07"),
+        "Err(NoBlock(TrailingData))",
+    )?;
+    is_read(alloc, b"\xa1\x63Dot\xf6", &Shape::Dot)
+}
+
+#[test]
+fn types_go_through_others(rt: HostRuntime) -> Result<(), Fail> {
+    let alloc = rt.alloc();
+    goes_both_ways(alloc, &Level { height: 3 }, b"\x03")?;
+    goes_both_ways(alloc, &Even(4), b"\x04")?;
+    is_told(
+        alloc,
+        &from_slice_owned::<Even>(alloc, b"\x05"),
+        r#"Err(Misfit { cause: Custom("odd"), at: 1 })"#,
+    )
+}
+
+#[test]
+fn flattened_maps_are_put_in_order(rt: HostRuntime) -> Result<(), Fail> {
+    let alloc = rt.alloc();
+    let full = Flat {
+        tagged: Tagged::Named { a: 1 },
+        z: 3,
+        more: Plain { b: 2 },
+    };
+    goes_both_ways(
+        alloc,
+        &full,
+        b"\xa4\x61a\x01\x61b\x02\x61z\x03\x64type\x65Named",
+    )?;
+    let empty = Flat {
+        tagged: Tagged::Empty,
+        z: 3,
+        more: Plain { b: 4 },
+    };
+    goes_both_ways(alloc, &empty, b"\xa3\x61b\x04\x61z\x03\x64type\x65Empty")
+}
+
+fn sides(alloc: Global) -> Result<BTreeMap<Side, u8>, Fail> {
+    let mut sides = BTreeMap::new(alloc);
+    sides.insert(Side::Right, 2)?;
+    sides.insert(Side::Left, 1)?;
+    Ok(sides)
+}
+
+#[test]
+fn holders_are_lists_and_maps(rt: HostRuntime) -> Result<(), Fail> {
+    let alloc = rt.alloc();
+    let mut letters = BTreeMap::new(alloc);
+    letters.insert('\u{e9}', 1)?;
+    letters.insert('a', 2)?;
+    let holders = Holders {
+        pair: (1, true),
+        three: [1, 2, 3],
+        boxed: Box::new(alloc, 4)?,
+        sides: sides(alloc)?,
+        letters,
+        maybe: None,
+    };
+    goes_both_ways(alloc, &holders, HOLDERS)?;
+    let mut set = BTreeSet::new(alloc);
+    set.insert(3u8)?;
+    set.insert(1)?;
+    goes_both_ways(alloc, &set, b"\x82\x01\x03")
+}

@@ -1,0 +1,72 @@
+-- What is read of a source, and why it is refused.
+use Rattle.std.specs.Prelude.{◌≡◌, ℕ, ◌+◌, ◌≤◌, List, length, Option, Some, Result, MatchResult}
+use Rattle.std.specs.Prelude.{Vec, ⊤}
+use Rattle.std.specs.declared.alloc.Global.{Global}
+use Rattle.dagcbor_heads.specs.Reading.{Reading, default_steps}
+use Rattle.dagcbor_heads.specs.Refusals.{RefusesOrLacksMemory}
+use Rattle.dagcbor_heads.specs.declared.error.DecodeError.{DecodeError}
+use Rattle.dagcbor_heads.specs.declared.error.DecodeError.TheVariants.{Read, RequireBorrowed}
+use Rattle.dagcbor_heads.specs.declared.error.DecodeError.TheVariants.{OutOfMemory, Failed}
+use Rattle.ipld_tree.specs.Tree.{Tree, any_need}
+use Rattle.ipld_tree.specs.Spelling.{IsFront, IsSpelling}
+use Rattle.dagcbor_items.specs.ItemCauses.{CauseInside}
+use Rattle.dagcbor_items.specs.Slices.{IsBlock, CauseInWhole}
+use Rattle.dagcbor_items.specs.Untyped.{TakesItem, HasItem}
+use Rattle.dagcbor_serde.specs.declared.error.Error.{Error}
+use Rattle.dagcbor_serde.specs.declared.error.Error.TheVariants.{NoBlock, Misfit}
+
+-- An item is taken and its spelling answered exactly where one stands, within the steps.
+abbrev pub PullsBlock : {E : Type 0} → Reading → Result (Vec ℕ Global) (DecodeError E) → Reading
+    → Type 0
+PullsBlock old result new = MatchResult result
+    (λ v. (t : Tree) × TakesItem 0 old t new × IsSpelling v.items t)
+    (λ e. RefusesOrLacksMemory (HasItem 0 old) (CauseInside (old.steps + 0)) old e new)
+
+-- ---- the whole source
+
+-- the bytes are a block
+abbrev pub HoldsBlock : List ℕ → Type 0
+HoldsBlock b = (t : Tree) × IsBlock b t
+
+-- the bytes are a block, and these are they
+abbrev pub IsBlockWith : List ℕ → List ℕ → Type 0
+IsBlockWith b v = (v ≡ b) × HoldsBlock b
+
+-- why a source is refused: for a fault of its own, for want of memory, or since its bytes are no
+-- block
+abbrev pub SourceRefused : {E : Type 0} → DecodeError E → List ℕ → Type 0
+SourceRefused (Read e) b = ⊤
+SourceRefused OutOfMemory b = ⊤
+SourceRefused (RequireBorrowed name) b = ⊥
+SourceRefused Failed b = ⊥
+SourceRefused e b = ((t : Tree) → ¬ IsBlock b t) × CauseInWhole e b
+
+-- no block was read, for this cause; or the bytes are one, and the type does not accept it
+abbrev pub IsSourceMisfit : {E : Type 0} → Error E → List ℕ → Type 0
+IsSourceMisfit (NoBlock e) b = SourceRefused e b
+IsSourceMisfit (Misfit m at) b = HoldsBlock b × (at ≤ length b)
+
+-- ---- its first block
+
+-- the bytes v of a block stand first, and exactly what follows them is left
+abbrev pub TakesBlock : List ℕ → List ℕ → Option (List ℕ) → Type 0
+TakesBlock b v left = (t : Tree) × (rest : List ℕ) × IsFront b t rest × IsBlock v t
+    × (left ≡ Some rest)
+
+-- some block stands first, and exactly what follows it is left
+abbrev pub TakesSomeBlock : List ℕ → Option (List ℕ) → Type 0
+TakesSomeBlock b left = (v : List ℕ) × TakesBlock b v left
+
+-- why no first block is read
+abbrev pub FirstRefused : {E : Type 0} → DecodeError E → List ℕ → Type 0
+FirstRefused (Read e) b = ⊤
+FirstRefused OutOfMemory b = ⊤
+FirstRefused (RequireBorrowed name) b = ⊥
+FirstRefused Failed b = ⊥
+FirstRefused e b = ((t : Tree) (rest : List ℕ) → IsFront b t rest → ¬ (any_need t ≤ default_steps))
+    × CauseInside default_steps e b
+
+-- the same; or a block was taken, and the type does not accept it
+abbrev pub IsFirstMisfit : {E : Type 0} → Error E → List ℕ → Option (List ℕ) → Type 0
+IsFirstMisfit (NoBlock e) b left = FirstRefused e b
+IsFirstMisfit (Misfit m at) b left = (v : List ℕ) × TakesBlock b v left × (at ≤ length v)

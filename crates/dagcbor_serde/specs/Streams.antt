@@ -1,0 +1,56 @@
+-- Streams: values one behind the other.
+use Rattle.std.specs.Prelude.{◌≡◌, ℕ, ◌+◌, Bool, true, false, List, length, Option, None, Some}
+use Rattle.std.specs.Prelude.{Result, Ok, Err, is_err, MatchBool}
+use Rattle.std.specs.Iterator.{Count, at_most, endless}
+use Rattle.dagcbor_heads.specs.Reading.{Reading}
+use Rattle.dagcbor_heads.specs.Fronts.{FindsEnd}
+use Rattle.dagcbor_heads.specs.Inputs.{input_reading}
+use Rattle.dagcbor_heads.specs.Refusals.{RefusesOrLacksMemory}
+use Rattle.ipld_tree.specs.Tree.{Tree}
+use Rattle.dagcbor_items.specs.ItemCauses.{CauseInside}
+use Rattle.dagcbor_items.specs.Untyped.{TakesItem, HasItem}
+use Rattle.dagcbor_serde.specs.declared.error.Error.{Error}
+use Rattle.dagcbor_serde.specs.declared.error.Error.TheVariants.{NoBlock, Misfit}
+use Rattle.dagcbor_serde.specs.declared.stream.Stream.{Stream}
+
+-- what contracts see of a stream: what it reads from, and whether an error, or the end, was met
+pub record StreamState : Type 0 where
+  pub reading : Reading
+  pub done : Bool
+
+-- a stream over a reader whose reading is known
+abbrev pub stream_state : {R T : Type 0} → (R → Reading) → Stream R T → StreamState
+stream_state reading s = record { reading = input_reading reading s.input; done = s.done }
+
+-- The end is found; or a block is taken, and its value given, or the type does not accept it; or no
+-- block is read. A fault may come before it is known whether bytes are left.
+abbrev pub ReadsNext : {T E : Type 0} → Reading → Option (Result T (Error E)) → Reading → Type 0
+ReadsNext old None new = FindsEnd old new
+ReadsNext old (Some (Ok v)) new = (t : Tree) × TakesItem 0 old t new
+ReadsNext old (Some (Err (Misfit m at))) new = (t : Tree) × TakesItem 0 old t new
+ReadsNext old (Some (Err (NoBlock e))) new =
+    RefusesOrLacksMemory (HasItem 0 old) (CauseInside (old.steps + 0)) old e new
+
+-- whether nothing comes behind what was given
+abbrev pub is_last : {T E : Type 0} → Option (Result T (Error E)) → Bool
+is_last None = true
+is_last (Some r) = is_err r
+
+-- What `next` does: nothing comes of a stream that is done; else what reading the next value
+-- answers.
+abbrev pub GivesNext : {T E : Type 0} → StreamState → Option (Result T (Error E)) → StreamState
+    → Type 0
+GivesNext old item new = MatchBool old.done
+    ((item ≡ None) × (new ≡ old))
+    ((new.done ≡ is_last item) × ReadsNext old.reading item new.reading)
+
+-- Where n bytes are left, at most n + 1 items come; where the source does not tell its bytes,
+-- nothing is said.
+abbrev pub items_left_of : Bool → Option (List ℕ) → Count
+items_left_of true left = at_most 0
+items_left_of false None = endless
+items_left_of false (Some b) = at_most (length b + 1)
+
+-- how many items may still come
+abbrev pub items_left : StreamState → Count
+items_left s = items_left_of s.done s.reading.left

@@ -1,0 +1,168 @@
+//! An `Ipld` as a field: `#[serde(with = "dagcbor_serde::as_any")]`.
+
+ghost use Rattle.std.specs.Prelude.{OnOk};
+ghost use Rattle.ipld_tree.specs.Tree.{list, mapping, ordered_entries, items_of};
+ghost use Rattle.ipld_tree.specs.Ipld.{tree_of, trees_of, pairs_of};
+ghost use Rattle.dagcbor_serde.specs.Making.{WritesTree};
+
+use crate::as_link;
+use ipld_tree::{Cid, Ipld};
+use serde::{Deserializer, Format, Kind, Serializer};
+use std::alloc::Global;
+use std::collections::BTreeMap;
+
+/// How many lists and maps may be in each other in what is read: a block has no more.
+const MAX_DEPTH: usize = 128;
+
+/// Writes the data: its events make its tree.
+#[cycle(send)]
+pub fn serialize<S: Serializer>(value: &Ipld, out: &mut S) -> Result<(), S::Error>
+    ensures { OnOk result (WritesTree (tree_of value.now) (S.written out.old) (S.written out.new)) }
+{
+    match value {
+        Ipld::Null => out.unit(),
+        Ipld::Bool(b) => out.bool(*b),
+        Ipld::Integer(n) => out.i128(*n),
+        Ipld::String(text) => out.str(text.as_str()),
+        Ipld::Bytes(bytes) => out.bytes(bytes.as_slice()),
+        Ipld::List(items) => send_items(items, out),
+        Ipld::Map(entries) => send_entries(entries, out),
+        Ipld::Link(cid) => as_link::serialize(cid, out),
+    }
+}
+
+#[cycle(send)]
+fn send_items<S: Serializer>(items: &Vec<Ipld>, out: &mut S) -> Result<(), S::Error>
+    ensures { OnOk result (WritesTree (list (items_of (trees_of items.now.items)))
+        (S.written out.old) (S.written out.new)) }
+{
+    out.begin_seq(Some(items.len()))?;
+    for item in items {
+        serialize(item, out)?;
+    }
+    out.end_seq()
+}
+
+#[cycle(send)]
+fn send_entries<S: Serializer>(
+    entries: &BTreeMap<String, Ipld>,
+    out: &mut S,
+) -> Result<(), S::Error>
+    ensures { OnOk result (WritesTree (mapping (ordered_entries (pairs_of entries.now.entries)))
+        (S.written out.old) (S.written out.new)) }
+{
+    out.begin_map(Some(entries.len()))?;
+    for (key, value) in entries.iter() {
+        out.begin_key()?;
+        out.str(key.as_str())?;
+        out.end_key()?;
+        serialize(value, out)?;
+    }
+    out.end_map()
+}
+
+/// Reads data of any kind. What a link is to this format is read as one.
+pub fn deserialize<F: Format>(
+    alloc: Global,
+    from: &mut Deserializer<'_, '_, F>,
+) -> Result<Ipld, F::Error> {
+    fetch(alloc, from, MAX_DEPTH)
+}
+
+#[cycle(fetch)]
+fn fetch<F: Format>(
+    alloc: Global,
+    from: &mut Deserializer<'_, '_, F>,
+    depth: usize,
+) -> Result<Ipld, F::Error> {
+    match from.peek()? {
+        Kind::Unit => {
+            from.take_unit()?;
+            Ok(Ipld::Null)
+        }
+        Kind::Bool => Ok(Ipld::Bool(from.bool()?)),
+        Kind::Unsigned | Kind::Signed => Ok(Ipld::Integer(from.i128()?)),
+        Kind::Str => Ok(Ipld::String(from.string(alloc)?)),
+        Kind::Bytes => Ok(Ipld::Bytes(from.byte_buf(alloc)?)),
+        Kind::Map => fetch_map_or_link(alloc, from, depth),
+        Kind::Seq if depth > 0 => Ok(Ipld::List(fetch_items(alloc, from, depth - 1)?)),
+        Kind::Seq | Kind::Float => Err(from.invalid()),
+    }
+}
+
+#[cycle(fetch)]
+fn fetch_map_or_link<F: Format>(
+    alloc: Global,
+    from: &mut Deserializer<'_, '_, F>,
+    depth: usize,
+) -> Result<Ipld, F::Error> {
+    if let Some(cid) = fetch_link(alloc, from)? {
+        return Ok(Ipld::Link(cid));
+    }
+    if depth == 0 {
+        return Err(from.invalid());
+    }
+    Ok(Ipld::Map(fetch_entries(alloc, from, depth - 1)?))
+}
+
+/// The link, where one comes: else the place stays.
+fn fetch_link<F: Format>(
+    alloc: Global,
+    from: &mut Deserializer<'_, '_, F>,
+) -> Result<Option<Cid>, F::Error> {
+    let mark = from.mark();
+    match as_link::deserialize(alloc, from) {
+        Ok(cid) => {
+            from.release(mark);
+            return Ok(Some(cid));
+        }
+        Err(error) => {
+            if from.is_fatal(&error) {
+                return Err(error);
+            }
+        }
+    }
+    from.rewind(mark);
+    from.release(mark);
+    Ok(None)
+}
+
+#[cycle(fetch)]
+fn fetch_items<F: Format>(
+    alloc: Global,
+    from: &mut Deserializer<'_, '_, F>,
+    depth: usize,
+) -> Result<Vec<Ipld>, F::Error> {
+    from.begin_seq()?;
+    let mut items = Vec::new(alloc);
+    for _ in 0..u64::MAX {
+        if !from.next_item()? {
+            break;
+        }
+        if items.push(fetch(alloc, from, depth)?).is_err() {
+            return Err(from.no_memory());
+        }
+    }
+    Ok(items)
+}
+
+#[cycle(fetch)]
+fn fetch_entries<F: Format>(
+    alloc: Global,
+    from: &mut Deserializer<'_, '_, F>,
+    depth: usize,
+) -> Result<BTreeMap<String, Ipld>, F::Error> {
+    from.begin_map()?;
+    let mut entries = BTreeMap::new(alloc);
+    for _ in 0..u64::MAX {
+        if !from.next_entry()? {
+            break;
+        }
+        let key = from.string(alloc)?;
+        let value = fetch(alloc, from, depth)?;
+        if entries.insert(key, value).is_err() {
+            return Err(from.no_memory());
+        }
+    }
+    Ok(entries)
+}

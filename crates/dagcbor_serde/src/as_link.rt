@@ -1,0 +1,43 @@
+//! A `Cid` as a field: `#[serde(with = "dagcbor_serde::as_link")]`.
+
+ghost use Rattle.std.specs.Prelude.{OnOk};
+ghost use Rattle.ipld_tree.specs.Cid.{cid_bytes};
+ghost use Rattle.dagcbor_serde.specs.Links.{WritesLink};
+
+use crate::link::LINK;
+use crate::sink::{LINK_CASE, LINK_NAME};
+use arrayvec::ArrayVec;
+use ipld_tree::Cid;
+use serde::{Deserializer, Format, Serializer};
+use std::alloc::Global;
+
+/// Writes the CID as a link.
+pub fn serialize<S: Serializer>(cid: &Cid, out: &mut S) -> Result<(), S::Error>
+    ensures { OnOk result (WritesLink (cid_bytes cid.now) (S.written out.old) (S.written out.new)) }
+{
+    let mut bytes = ArrayVec::new();
+    cid.write_bytes(&mut bytes);
+    out.begin_map(Some(1))?;
+    out.key_cased(LINK_NAME, LINK_CASE)?;
+    out.bytes(&bytes)?;
+    out.end_map()
+}
+
+/// Reads a link: the binary form at the only entry.
+pub fn deserialize<F: Format>(
+    alloc: Global,
+    from: &mut Deserializer<'_, '_, F>,
+) -> Result<Cid, F::Error> {
+    from.begin_map()?;
+    let Some(0) = from.next_key(&[LINK])? else {
+        return Err(from.missing(LINK_NAME));
+    };
+    let bytes = from.byte_buf(alloc)?;
+    let Ok(cid) = Cid::try_from(bytes.as_slice()) else {
+        return Err(from.invalid());
+    };
+    match from.next_key(&[LINK])? {
+        None => Ok(cid),
+        Some(_) => Err(from.unknown_key()),
+    }
+}

@@ -21,7 +21,7 @@ from schemas.parsing import (
 )
 
 MOST_FIELDS = 14  # of a struct
-MOST_STEPS = 20  # of a struct: one for a field, and one for each list, map and nullable of its type
+MOST_STEPS = 16  # of a struct: one for a field, and one for each list, map, nullable and optional of its type
 KINDS = {"bool": ("Bool",), "int": ("Int",), "string": ("String",), "bytes": ("Bytes",), "link": ("Link",)}
 
 # What a link may lead to, beside the types of the schema.

@@ -11,7 +11,8 @@ LENGTHS = (1, 2, 3, 5, 8, 13, 21, 40)
 SCALARS = ("Int", "String", "Bytes", "Bool", "&Any", "Any")
 KINDED = {"bool": "Bool", "int": "Int", "string": "String", "bytes": "Bytes", "link": "&Any"}
 MOST_FIELDS = 14
-MOST_IN_ALL = 18  # fields, members and cases of a schema: so that its proof takes a minute or two
+MOST_IN_ALL = 15  # fields, members and cases of a schema
+MOST_TYPES = 3  # so that its proof takes a minute or two of a processor
 
 
 class Drawing:
@@ -154,7 +155,7 @@ class Drawing:
         forms += [self.numbers, self.kinded, self.alias, self.counts, self.nothing]
         forms += [self.inline] * 2
         self.lines = []
-        while self.left > 0 and len(self.lines) < 6:
+        while self.left > 0 and len(self.lines) < MOST_TYPES:
             name = self.type_name()
             self.lines.append(self.random.choice(forms)(name))
             self.made.append(name)

@@ -69,6 +69,10 @@ class Language:
                 self.refuse(node.place, f"`{said.name}` of `{getattr(node, 'name', kind.__name__)}`")
         if isinstance(node, (Struct, Enum, Union)) and not hasattr(self, maker_name(node)):
             self.refuse(node.place, f"the representation {node.representation} of `{node.name}`")
+        if isinstance(node, Struct) and node.representation == "tuple":
+            for field in node.fields:
+                if field.optional:
+                    self.refuse(field.place, f"`{field.name}`, a part of a tuple that may be absent,")
         if isinstance(node, Union) and node.representation == "kinded":
             for case in node.cases:
                 if case.data not in self.kinds:

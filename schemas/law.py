@@ -21,6 +21,7 @@ from schemas.parsing import (
 )
 
 MOST_FIELDS = 14  # of a struct
+MOST_STEPS = 16  # of a struct: one for a field, and one for each list, map, nullable and optional of its type
 KINDS = {"bool": ("Bool",), "int": ("Int",), "string": ("String",), "bytes": ("Bytes",), "link": ("Link",)}
 
 # What a link may lead to, beside the types of the schema.
@@ -169,8 +170,21 @@ class Schema:
                 struct.fields[MOST_FIELDS].place,
                 f"a struct has at most {MOST_FIELDS} fields here, which the prover can take at once: move some of `{struct.name}` into a struct of their own",
             )
+        self.check_size(struct)
         if struct.representation == "tuple":
             self.check_tuple(struct)
+
+    def check_size(self, struct):
+        """The prover takes so many steps for one statement: a struct whose fields' types are large passes them."""
+        steps = 0
+        for field in struct.fields:
+            steps += depth(self.resolve(field.type)) + field.optional
+            if steps > MOST_STEPS:
+                raise SchemaError(
+                    field.place,
+                    f"the fields of `{struct.name}` are at most {MOST_STEPS} here, where each list, map, `nullable` and `optional` of theirs counts"
+                    " as one: move some into a struct of their own",
+                )
 
     @staticmethod
     def check_tuple(struct):
@@ -299,6 +313,10 @@ class Schema:
         for definition in self.definitions:
             visit(definition)
         return found
+
+
+def depth(kind):
+    return 1 + sum(map(depth, parts(kind)))
 
 
 def parts(kind):

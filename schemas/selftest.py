@@ -122,6 +122,8 @@ MADE_IN = [
 REFUSED_IN = [
     ("python", "type CID struct {}", "1:6: `CID` is a name that the made Python uses"),
     ("python", "type AInt int\ntype A union {\n  | Int \"i\"\n} representation keyed", "2:6: two types have the name `AInt`: this and line 1"),
+    ("python", "type A struct {\n  x Int\n  y optional Int\n} representation tuple", "3:3: `y`, a part of a tuple that may be absent, is not made in Python yet"),
+    ("typescript", "type A struct {\n  y optional Int\n} representation tuple", "2:3: `y`, a part of a tuple that may be absent, is not made in TypeScript yet"),
     ("typescript", "type Data struct {}", "1:6: `Data` is a name that the made TypeScript uses"),
     ("typescript", "type A struct {\n  x Int (rename \"__proto__\")\n}", "2:3: no field is named __proto__"),
     ("typescript", "type A struct {\n  toString Int\n  toString_ Int\n}", "3:3: two fields have the name `toString_`"),

@@ -56,6 +56,13 @@ DEMO = {"title": "Demo", "format": "Tape", "tracks": []}
 COMMIT = {"did": "did:plc:a", "version": 3, "data": CID, "rev": "3l", "prev": None, "sig": b"\x01\x02"}
 POST = {"$type": "app.bsky.feed.post", "text": "hi", "createdAt": "2024-01-01T00:00:00Z"}
 REF = {"uri": "at://a", "cid": "bafy"}
+NODE = {"l": None, "e": [{"p": 0, "k": b"app.bsky.feed.post/3l", "v": CID, "t": None}, {"p": 20, "k": b"m", "v": CID, "t": CID}]}
+BLOB = {"$type": "blob", "ref": CID, "mimeType": "image/png", "size": 7}
+IMAGES = {"$type": "app.bsky.embed.images", "images": [{"alt": "a cat", "image": BLOB}]}
+PROFILE = {"$type": "app.bsky.actor.profile", "displayName": "a", "avatar": BLOB}
+FOLLOW = {"$type": "app.bsky.graph.follow", "subject": "did:plc:b", "createdAt": "2024-01-01T00:00:00Z"}
+POINT = [1, None, 255, {"Vinyl": 1, "tape": -2}, ["a"], "n", 3]
+UNITS = {"yes": True, "no": False, "nothing": None, "empty": {}}
 FIGURES = {
     "totals": {"b": 1, "aa": 2},
     "grids": {"g": [[[1], []]]},
@@ -102,7 +109,40 @@ BLOCKS = {
         "POST_MORE": {**POST, "via": {"x": [1]}},
         "REPLY": {**POST, "langs": ["en", "de"], "reply": {"root": REF, "parent": REF}},
         "REPLY_NULL": {**POST, "reply": None},
-        "REPLY_MORE": {**POST, "reply": {"root": REF, "parent": {**REF, "x": 1}}},
+        "REPLY_TEXT": {**POST, "reply": {"root": REF, "parent": {**REF, "cid": 1}}},
+        "COMMIT_UNSIGNED": {key: value for key, value in COMMIT.items() if key != "sig"},
+        "NODE": NODE,
+        "NODE_NO_LEFT": {"e": []},
+        "PROFILE": PROFILE,
+        "FOLLOW": FOLLOW,
+        "POST_IMAGES": {**POST, "embed": IMAGES},
+        "POST_LINK": {**POST, "embed": {"$type": "app.bsky.embed.external", "external": {"uri": "u", "title": "t", "description": "d"}}},
+        "POST_RECORD": {**POST, "embed": {"$type": "app.bsky.embed.record", "record": REF}},
+        "POST_VIDEO": {**POST, "embed": {"$type": "app.bsky.embed.video", "video": BLOB}},
+        "POST_UNTOLD": {**POST, "embed": {"record": REF}},
+        "POST_OTHER": {**POST, "embed": {"$type": "app.bsky.embed.record", "images": []}},
+    },
+    "forms": {
+        "POINT": POINT,
+        "POINT_NULL": [*POINT[:6], None],
+        "POINT_NAMED": POINT[:6],
+        "POINT_SHORT": POINT[:5],
+        "POINT_TOO_SHORT": POINT[:4],
+        "POINT_TOO_LONG": [*POINT, 0],
+        "POINT_OTHER_KEY": [*POINT[:3], {"Disc": 1}, []],
+        "EMBED_IMAGES": {"$type": "images", "images": [POINT[:5]], "note": "n"},
+        "EMBED_BARE": {"$type": "images", "images": []},
+        "EMBED_EXTERNAL": {"$type": "external", "uri": "u", "note": "n"},
+        "EMBED_NO_NOTE": {"$type": "external", "uri": "u"},
+        "EMBED_BOTH": {"$type": "external", "uri": "u", "note": "n", "images": []},
+        "EMBED_MORE": {"$type": "external", "uri": "u", "note": "n", "x": 1},
+        "EMBED_UNKNOWN": {"$type": "video", "note": "n"},
+        "EMBED_UNTOLD": {"uri": "u", "note": "n"},
+        "UNITS": UNITS,
+        "UNITS_NO_NO": {key: value for key, value in UNITS.items() if key != "no"},
+        "UNITS_NO_YES": {**UNITS, "yes": False},
+        "UNITS_NOTHING": {**UNITS, "nothing": 0},
+        "UNITS_FULL": {**UNITS, "empty": {"x": 1}},
     },
     "ledger": {
         "LEDGER": LEDGER,

@@ -27,8 +27,10 @@ pub trait Made<'de>: Sized + Drop {
     /// What the parts make. None where they make nothing.
     ghost made: { PartsView → Option View };
 
-    fn read_parts<R: Read>(alloc: Global, de: &mut Deserializer<'de, R>)
-        -> ReadResult<Self::Parts, R>
+    fn read_parts<R: Read>(
+        alloc: Global,
+        de: &mut Deserializer<'de, R>,
+    ) -> ReadResult<Self::Parts, R>
         ensures value { Over R.reading (ReadsValue parts_meaning parts_shape) de.old result
             de.new }
         ensures failed { Over R.reading StaysFailed de.old result de.new }

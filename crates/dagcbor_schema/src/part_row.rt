@@ -105,7 +105,11 @@ impl<T: Serialize, L: PartRow> PartRow for (OptionalPart<'_, T>, L) {
     fn count(self, limit: usize) -> usize {
         let (OptionalPart(part), others) = self;
         let count = others.count(limit - 1);
-        if part.is_none() && count == 0 { 0 } else { count + 1 }
+        if part.is_none() && count == 0 {
+            0
+        } else {
+            count + 1
+        }
     }
 
     fn write_each<W: Write>(self, alloc: Global, ser: &mut Serializer<W>) -> WriteResult<(), W> {

@@ -206,6 +206,49 @@ def sweep_files(path, report):
         report(f"dagcar, {name}", 2 * len(given), wrong)
 
 
+# A block, and its text as `show` writes it and `make` reads it.
+NUMBERS_IN_A_MAP = b"\xa2\x61a\x83\x01\x02\x03\x62bb\x44\x01\x02\x03\x04"
+TEXT = b'{"a":[1,2,3],"bb":{"/":{"bytes":"AQIDBA"}}}'
+BLOCKS_AND_TEXTS = {
+    "show": (NUMBERS_IN_A_MAP, (0, TEXT + b"\n")),
+    "make": (TEXT, (0, NUMBERS_IN_A_MAP)),
+}
+MANY = 100_000
+
+
+def texts():
+    """What each kind of text is, and the texts with the cause that is named, or none where a block is made."""
+    yield "each front of a text", [(TEXT[:end], b"NoJson") for end in range(len(TEXT))] + [(TEXT, None)]
+    deep = [b"[" * MANY, b'{"a":' * MANY, b"[" * MANY + b"]" * MANY, b'[{"a":' * MANY]
+    yield "texts that nest", [(it, b"TooDeep") for it in deep]
+    closing = [b"]" * MANY, b"}" * MANY, b"[" + b"}" * MANY, b"," * MANY, b":" * MANY, b'"' + b"\\" * (MANY + 1), b" " * MANY]
+    yield "texts of one sign", [(it, b"NoJson") for it in closing]
+    yield "long numbers", [(b"9" * MANY, b"OutOfRange"), (b"-" + b"9" * MANY, b"OutOfRange"), (b"1." + b"0" * MANY, b"Float")]
+    keys = b",".join(b'"%d":0' % it for it in range(MANY // 10))
+    yield "many keys", [(b"{" + keys + b"}", None), (b"{" + keys + b',"0":1}', b"RepeatedKey")]
+    yield "long texts", [(b'"' + b"\\u0041" * MANY + b'"', None), (b'"' + b"a" * MANY + b"\xff", b"NoText"), (b'"' + b"\\ud800" * MANY + b'"', b"NoJson")]
+    yield "long texts of links and bytes", [
+        (b'{"/":"b' + b"a" * MANY + b'"}', b"NoCid"),
+        (b'{"/":{"bytes":"' + b"A" * (4 * MANY) + b'"}}', None),
+        (b'{"/":{"bytes":"' + b"A" * (4 * MANY + 1) + b'"}}', b"NoBase64"),
+    ]
+
+
+def sweep_texts(path, report):
+    """Each text is made a block, or refused for its cause, with little room."""
+    for name, given in texts():
+        wrong = []
+        for number, (text, cause) in enumerate(given):
+            how = {"input": text, "capture_output": True, "preexec_fn": limit, "timeout": 60}
+            ran = subprocess.run([path, "make"], check=False, **how)
+            made = ran.returncode == 0 and ran.stdout and not ran.stderr
+            words = ran.stderr.split()
+            refused = ran.returncode == 1 and not ran.stdout and words[:1] == [b"refused"] and words[1:2] == [cause]
+            if not (made if cause is None else refused):
+                wrong.append((number, ran.returncode, ran.stdout[:80], ran.stderr))
+        report(f"dagcar make, {name}", len(given), wrong)
+
+
 def wanted_of_small():
     """What each command answers of the small file."""
     return {command: Judge(SMALL).wanted(command) for command in ("check", "list")}

@@ -105,6 +105,21 @@ class Sweep:
         self.report(f"{self.name} {command}, one byte a read and a write", 1, wrong)
         return counts
 
+    def sweep_one(self, command):
+        """A command that reads all of its input before it answers, with each place failing. A call that is interrupted is read
+        again."""
+        memory, input_, output = (
+            f"{self.name}: {it}\n".encode() for it in ("out of memory", "input failed", "output failed")
+        )
+        allocations, reads, writes = self.whole(command)
+        self.refused(command, "REFUSE_ALLOCATION", allocations, memory)
+        self.refused(command, "REFUSE_FROM", allocations, memory)
+        self.refused(command, "FAIL_READ", reads, input_, ERRNO=EIO)
+        for error in (EIO, ENOSPC, EPIPE, 0):
+            self.refused(command, "FAIL_WRITE", writes, output, ERRNO=error)
+        self.short(command, "SHORT_READ", reads)
+        self.short(command, "SHORT_WRITE", writes)
+
     def sweep(self, usage, *words):
         """Each command, with each place failing; and these words, which are no command."""
         memory, input_, output = (

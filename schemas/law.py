@@ -182,8 +182,8 @@ class Schema:
             if steps > MOST_STEPS:
                 raise SchemaError(
                     field.place,
-                    f"the fields of `{struct.name}` are at most {MOST_STEPS} here, where each list, map, `nullable` and `optional` of theirs counts"
-                    " as one: move some into a struct of their own",
+                    f"`{struct.name}` is more than the prover takes at once: {MOST_STEPS} steps, one for each field and for each list, map, `nullable`"
+                    " and `optional` of its type. Move some fields into a struct of their own",
                 )
 
     @staticmethod

@@ -108,10 +108,28 @@ fn told_of(value: &Ipld) -> &'static [u8]
     }
 }
 
-/// The data of the block, or why the bytes are none; and what is told of it.
+/// What is said of bytes that are no block, of which nothing is told.
+fn refused(
+    alloc: Global,
+    refusal: &DecodeError<Infallible>,
+) -> Result<(Said, &'static [u8]), ToolError>
+    ensures { IfOk result (λ p. (p.0.1 ≡ false) × (p.1.now ≡ [])
+        × (p.0.0.items ≡ line (codes "refused " ++ variant_name refusal.now))) }
+{
+    match no_block_line(alloc, refusal) {
+        Ok(line) => Ok(((line, false), b"")),
+        Err(_) => Err(ToolError::OutOfMemory),
+    }
+}
+
+/// The data of the block, or why the bytes are none; and what is told of it. The bytes are judged
+/// first: for a tree of what is no block no memory is taken.
 fn shown(alloc: Global, block: &[u8]) -> Result<(Said, &'static [u8]), ToolError>
     ensures { IfOk result (λ p. IsShown block.now p.0.1 p.0.0.items p.1.now) }
 {
+    if let Err(refusal) = check_slice(block) {
+        return refused(alloc, &refusal);
+    }
     match any_from_slice(alloc, block) {
         Ok(data) => match data_line(alloc, &data) {
             Ok(line) => Ok(((line, true), told_of(&data))),
@@ -119,10 +137,7 @@ fn shown(alloc: Global, block: &[u8]) -> Result<(Said, &'static [u8]), ToolError
         },
         Err(refusal) => match refusal {
             DecodeError::OutOfMemory => Err(ToolError::OutOfMemory),
-            other => match no_block_line(alloc, &other) {
-                Ok(line) => Ok(((line, false), b"")),
-                Err(_) => Err(ToolError::OutOfMemory),
-            },
+            other => refused(alloc, &other),
         },
     }
 }

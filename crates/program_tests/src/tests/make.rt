@@ -7,10 +7,7 @@ use std::test::Fail;
 
 /// Texts, and the blocks of their data.
 const MADE: [(&[u8], &[u8]); 15] = [
-    (
-        b"[1,2,3]",
-        b"\x83\x01\x02\x03",
-    ),
+    (b"[1,2,3]", b"\x83\x01\x02\x03"),
     (
         b" { \"b\" : [ true , null ] ,\r\n\t\"a\" : -0 } ",
         b"\xa2\x61\x61\x00\x61\x62\x82\xf5\xf6",
@@ -27,22 +24,10 @@ const MADE: [(&[u8], &[u8]); 15] = [
         b"18446744073709551615",
         b"\x1b\xff\xff\xff\xff\xff\xff\xff\xff",
     ),
-    (
-        b"{\"aa\":1,\"b\":2}",
-        b"\xa2\x61\x62\x02\x62\x61\x61\x01",
-    ),
-    (
-        b"{}",
-        b"\xa0",
-    ),
-    (
-        b"[]",
-        b"\x80",
-    ),
-    (
-        b"\"\"",
-        b"\x60",
-    ),
+    (b"{\"aa\":1,\"b\":2}", b"\xa2\x61\x62\x02\x62\x61\x61\x01"),
+    (b"{}", b"\xa0"),
+    (b"[]", b"\x80"),
+    (b"\"\"", b"\x60"),
     (
         b"{\"/\":\"bafyreiaaaebagbafaydqqcikbmga2dqpcaireeyuculbogazdinryhi6d4\"}",
         b"\xd8\x2a\x58\x25\x00\x01\x71\x12\x20\x00\x01\x02\x03\x04\x05\x06\x07\x08\x09\x0a\x0b\x0c\x0d\x0e\x0f\x10\x11\x12\x13\x14\x15\x16\x17\x18\x19\x1a\x1b\x1c\x1d\x1e\x1f",
@@ -55,14 +40,8 @@ const MADE: [(&[u8], &[u8]); 15] = [
         b"{\"/\":\"QmNLfbof5rLekrACjeuLk9JmGZD2HDBHCU4z16iYKmx5SE\"}",
         b"\xd8\x2a\x58\x23\x00\x12\x20\x00\x01\x02\x03\x04\x05\x06\x07\x08\x09\x0a\x0b\x0c\x0d\x0e\x0f\x10\x11\x12\x13\x14\x15\x16\x17\x18\x19\x1a\x1b\x1c\x1d\x1e\x1f",
     ),
-    (
-        b"{ \"/\" : { \"bytes\" : \"AQI\" } }",
-        b"\x42\x01\x02",
-    ),
-    (
-        b"{\"/\":{\"bytes\":\"\"}}",
-        b"\x40",
-    ),
+    (b"{ \"/\" : { \"bytes\" : \"AQI\" } }", b"\x42\x01\x02"),
+    (b"{\"/\":{\"bytes\":\"\"}}", b"\x40"),
     (
         b"{\"bytes\":\"AQI\"}",
         b"\xa1\x65\x62\x79\x74\x65\x73\x63\x41\x51\x49",
@@ -87,15 +66,24 @@ const REFUSED: [(&[u8], &str); 31] = [
     (b"-1e400", "refused Float 0\n"),
     (b"18446744073709551616", "refused OutOfRange 0\n"),
     (b"[-18446744073709551617]", "refused OutOfRange 1\n"),
-    (b"100000000000000000000000000000000000000000000000000", "refused OutOfRange 0\n"),
+    (
+        b"100000000000000000000000000000000000000000000000000",
+        "refused OutOfRange 0\n",
+    ),
     (b"{\"a\":1,\"a\":2}", "refused RepeatedKey 7\n"),
-    (b"{\"a\":{\"b\":[]}, \"\\u0061\":2}", "refused RepeatedKey 15\n"),
+    (
+        b"{\"a\":{\"b\":[]}, \"\\u0061\":2}",
+        "refused RepeatedKey 15\n",
+    ),
     (b"{\"/\":1}", "refused ReservedKey 0\n"),
     (b"{\"/\":\"x\",\"a\":1}", "refused ReservedKey 0\n"),
     (b"[{\"a\":{\"/\":{}}}]", "refused ReservedKey 6\n"),
     (b"{\"/\":{\"bytes\":1}}", "refused ReservedKey 0\n"),
     (b"{\"/\":{\"Bytes\":\"AQ\"}}", "refused ReservedKey 0\n"),
-    (b"{\"/\":{\"bytes\":\"AQ\",\"a\":1}}", "refused ReservedKey 0\n"),
+    (
+        b"{\"/\":{\"bytes\":\"AQ\",\"a\":1}}",
+        "refused ReservedKey 0\n",
+    ),
     (b"{\"a\":1,\"/\":null}", "refused ReservedKey 0\n"),
     (b"{\"/\":\"bafy\"}", "refused NoCid 5\n"),
     (b"[{\"/\":\"\"}]", "refused NoCid 6\n"),
@@ -195,13 +183,25 @@ fn faults_of_making_are_told(rt: HostRuntime) -> Result<(), Fail> {
     let alloc = rt.alloc();
     let (mut output, mut errors) = (Vec::new(alloc), Vec::new(alloc));
     let mut full = Stingy::new(alloc, 30, None);
-    let ended = run_words(alloc, &["make"], &mut &DATA_LINE[..], &mut full, &mut errors)?;
+    let ended = run_words(
+        alloc,
+        &["make"],
+        &mut &DATA_LINE[..],
+        &mut full,
+        &mut errors,
+    )?;
     assert_eq!(rt; ended, 2);
     assert!(rt; DATA.starts_with(full.held()));
     assert_eq!(rt; errors.as_slice(), b"dagcar: output failed\n".as_slice());
     // What cannot be told is a fault too.
     let mut deaf = Stingy::new(alloc, 3, None);
-    let ended = run_words(alloc, &["make"], &mut b"1.5".as_slice(), &mut output, &mut deaf)?;
+    let ended = run_words(
+        alloc,
+        &["make"],
+        &mut b"1.5".as_slice(),
+        &mut output,
+        &mut deaf,
+    )?;
     assert_eq!(rt; ended, 2);
     assert!(rt; output.is_empty());
     Ok(())

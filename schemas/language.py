@@ -7,7 +7,7 @@ import dataclasses
 import re
 
 from schemas.law import once, parts
-from schemas.parsing import Alias, Case, Enum, Field, Int, Leaf, Link, ListOf, MapOf, Member, Named, Nullable, SchemaError, Struct, Union
+from schemas.parsing import Alias, Case, Enum, Field, Int, Leaf, Link, ListOf, MapOf, Member, Named, Nullable, SchemaError, Struct, Union, Unit
 
 WIDTH = 100  # of a line
 COMMENTS = ("#", '"""', "//", "/*", "*")
@@ -25,11 +25,12 @@ KNOWN = {
     Nullable: ("part",),
     Alias: ("name", "of", "text"),
     Field: ("name", "type", "optional", "key", "text"),
-    Struct: ("name", "fields", "representation", "open", "text"),
+    Struct: ("name", "fields", "representation", "open", "text", "of_enum"),
+    Unit: ("name", "representation", "text"),
     Member: ("name", "data"),
     Enum: ("name", "members", "representation", "text"),
     Case: ("name", "type", "data"),
-    Union: ("name", "cases", "representation", "text"),
+    Union: ("name", "cases", "representation", "text", "discriminant"),
 }
 
 LEAVES = {"String": "text", "Bytes": "bytes", "Bool": "bool", "Any": "anything"}
@@ -67,12 +68,8 @@ class Language:
         for said in dataclasses.fields(node):
             if said.name not in KNOWN[kind] and said.name != "place" and getattr(node, said.name):
                 self.refuse(node.place, f"`{said.name}` of `{getattr(node, 'name', kind.__name__)}`")
-        if isinstance(node, (Struct, Enum, Union)) and not hasattr(self, maker_name(node)):
+        if isinstance(node, (Struct, Enum, Union, Unit)) and not hasattr(self, maker_name(node)):
             self.refuse(node.place, f"the representation {node.representation} of `{node.name}`")
-        if isinstance(node, Struct) and node.representation == "tuple":
-            for field in node.fields:
-                if field.optional:
-                    self.refuse(field.place, f"`{field.name}`, a part of a tuple that may be absent,")
         if isinstance(node, Union) and node.representation == "kinded":
             for case in node.cases:
                 if case.data not in self.kinds:
@@ -167,6 +164,22 @@ class Language:
             return self.function(way, kind.name)
         word = {ListOf: "list_of", MapOf: "map_of", Nullable: "nullable"}[type(kind)]
         return f"{self.helper(word)}({self.conversion(parts(kind)[0], way)})"
+
+    def apart(self, struct):
+        """The fields of a tuple by their places: those that are there, and those that may be left out at the end."""
+        placed = list(enumerate(struct.fields))
+        return [row for row in placed if not row[1].optional], [row for row in placed if row[1].optional]
+
+    def count(self, struct):
+        """How many items a tuple has: the number, or the least and the greatest."""
+        least, most = len(self.apart(struct)[0]), len(struct.fields)
+        return str(most) if least == most else f"{least}, {most}"
+
+    def others(self, union, case):
+        """The fields of the other members of an inline union, which are looked at even where they are skipped."""
+        struct = self.schema.by_name[self.schema.resolve(case.type).name]
+        own = {field.key for field in struct.fields}
+        return [field for field in self.schema.row_of(union) if struct.open and field.key not in own]
 
     def has_null(self, kind):
         """Whether null is a value of the type, so that it can't stand for what is left out."""

@@ -4,12 +4,14 @@ import keyword
 
 from schemas.law import snake
 from schemas.language import WIDTH, Language, bounds, named_blocks
-from schemas.parsing import WIDTHS, Alias, Enum, Int, Leaf, Link, ListOf, MapOf, Named, Nullable, SchemaError, Struct, Union
+from schemas.parsing import WIDTHS, Alias, Enum, Int, Leaf, Link, ListOf, MapOf, Named, Nullable, Struct, Union, Unit
 
 SCALARS = {"String": "str", "Bytes": "bytes", "Bool": "bool", "Any": "Any"}
 
 # Names of fields that would stand for a type in the annotations behind them, or for a method or what makes one.
 RESERVED = {"bool", "bytes", "dict", "from_block", "int", "list", "staticmethod", "str", "to_block"}
+
+DATACLASS = ["@dataclass(kw_only=True, slots=True)"]
 
 # What a made file may import, in its order.
 IMPORTS = (
@@ -34,6 +36,9 @@ _T = TypeVar("_T")
 _E = TypeVar("_E", bound=Enum)
 
 
+_Key = TypeVar("_Key", str, int)
+
+
 _Conversion: TypeAlias = Callable[[Any, _Place], _T]
 
 
@@ -54,27 +59,39 @@ def _fields(value: Any, at: _Place, *keys: str) -> dict[str, Any]:
     return entries
 
 
-def _field(entries: dict[str, Any], key: str, at: _Place, read: _Conversion[_T]) -> _T:
+def _field(entries: dict[_Key, Any], key: _Key, at: _Place, read: _Conversion[_T]) -> _T:
     if key not in entries:
         raise _refused("Msg", (*at, key), "missing field")
     return read(entries[key], (*at, key))
 
 
-def _optional(entries: dict[str, Any], key: str, at: _Place, read: _Conversion[_T]) -> _T | None:
+def _optional(
+    entries: dict[_Key, Any], key: _Key, at: _Place, read: _Conversion[_T]
+) -> _T | None:
     return read(entries[key], (*at, key)) if key in entries else None
 
 
-def _omissible(entries: dict[str, Any], key: str, at: _Place, read: _Conversion[_T]) -> _T | Absent:
+def _omissible(
+    entries: dict[_Key, Any], key: _Key, at: _Place, read: _Conversion[_T]
+) -> _T | Absent:
     return read(entries[key], (*at, key)) if key in entries else Absent.ABSENT
 
 
-def _items(value: Any, at: _Place, count: int) -> list[Any]:
+def _items(value: Any, at: _Place, least: int, most: int | None = None) -> list[Any]:
     """The items of a list that has so many."""
     items = _is(list, value, at)
-    if len(items) != count:
-        why = f"a list of {count} is wanted, and not of {len(items)}"
+    if not least <= len(items) <= (most or least):
+        wanted = f"{least} to {most}" if most else str(least)
+        why = f"a list of {wanted} is wanted, and not of {len(items)}"
         raise _refused("LengthMismatch", at, why)
     return items
+
+
+def _put(items: list[Any], place: int, at: _Place, item: Any) -> None:
+    """Adds an item at its place, before which none is left out."""
+    if len(items) != place:
+        raise _refused("Msg", (*at, len(items)), "missing field")
+    items.append(item)
 
 
 def _entry(value: Any, at: _Place) -> tuple[str, Any]:
@@ -83,6 +100,20 @@ def _entry(value: Any, at: _Place) -> tuple[str, Any]:
     if len(entries) != 1:
         raise _refused("Mismatch", at, f"a dict of one entry is wanted, and not of {len(entries)}")
     return next(iter(entries.items()))
+
+
+def _told(value: Any, at: _Place, key: str) -> tuple[str, dict[str, Any]]:
+    """What stands under the key, which tells the member of a union, and the other entries."""
+    entries = dict(_is(dict, value, at))
+    tag = _field(entries, key, at, _text)
+    del entries[key]
+    return tag, entries
+
+
+def _unit(one: bool | None, value: Any, at: _Place) -> None:
+    """Refuses what is not the one value of a unit."""
+    if _is(type(one), value, at) is not one:
+        raise _refused("Msg", at, "no such value")
 
 
 def _member(kind: type[_E], data: str | int, at: _Place) -> _E:
@@ -175,8 +206,8 @@ class Python(Language):
     # ---- names
 
     def type_names(self, one):
-        is_keyed = isinstance(one, Union) and one.representation == "keyed"
-        return [one.name, *(case_class(one, case) for case in one.cases)] if is_keyed else [one.name]
+        has_cases = isinstance(one, Union) and not is_kinded(one)
+        return [one.name, *(case_class(one, case) for case in one.cases)] if has_cases else [one.name]
 
     def field_name(self, field):
         word = snake(field.name)
@@ -221,8 +252,10 @@ class Python(Language):
     def declared(self, one):
         if isinstance(one, Struct):
             return [self.declared_struct(one)]
+        if isinstance(one, Unit):
+            return [[*DATACLASS, f"class {one.name}:", *docstring(one.text), *methods(one)]]
         if isinstance(one, Enum):
-            rows = [f"    {member_name(member)} = {literal(member.data)}" for member in one.members]
+            rows = [f"    {member_name(one, member)} = {literal(member.data)}" for member in one.members]
             return [[f"class {one.name}(Enum):", *docstring(one.text), *rows, "", *methods(one)]]
         if isinstance(one, Alias):
             return [alias(one, [self.annotation(one.of)])]
@@ -232,12 +265,14 @@ class Python(Language):
         return [*classes, alias(one, [case_class(one, case) for case in one.cases])]
 
     def declared_case(self, union, case):
-        said = f'    """The entry {literal(case.data)} of {union.name}."""'
+        said = f"The entry {literal(case.data)} of {union.name}."
+        if union.representation == "inline":
+            said = f"{union.name}, where {literal(union.discriminant)} is {literal(case.data)}."
         head = ["@dataclass(slots=True)", f"class {case_class(union, case)}:"]
-        return [*head, said, "", f"    value: {self.annotation(case.type)}"]
+        return [*head, f'    """{said}"""', "", f"    value: {self.annotation(case.type)}"]
 
     def declared_struct(self, struct):
-        rows = ["@dataclass(kw_only=True, slots=True)", f"class {struct.name}:", *docstring(struct.text)]
+        rows = [*DATACLASS, f"class {struct.name}:", *docstring(struct.text)]
         for field in struct.fields:
             kind = self.annotation(field.type)
             if field.optional:
@@ -277,12 +312,16 @@ class Python(Language):
         entries = "entries = " if struct.fields else ""
         keys = ["value", "at", *(literal(field.key) for field in struct.fields)]
         read = [f"    {entries}_is(dict, value, at)"] if struct.open else self.call(4, f"{entries}_fields(", keys, ")")
+        return read + constructed(struct, self.read_entries((field.key, field) for field in struct.fields))
+
+    def read_entries(self, fields):
+        """The rows that read fields from the entries, each of its key."""
         rows = []
-        for field in struct.fields:
+        for key, field in fields:
             how = "_field" if not field.optional else "_omissible" if self.has_null(field.type) else "_optional"
-            given = ["entries", literal(field.key), "at", self.conversion(field.type, "read")]
+            given = ["entries", literal(key), "at", self.conversion(field.type, "read")]
             rows += self.call(8, f"{self.field_name(field)}={how}(", given, "),")
-        return read + constructed(struct, rows)
+        return rows
 
     def written_map(self, struct):
         if not struct.fields:
@@ -291,23 +330,43 @@ class Python(Language):
         for field in struct.fields:
             held, key, indent = f"held.{self.field_name(field)}", literal(field.key), 4
             if field.optional:
-                rows.append(f"    if {held} is not {'Absent.ABSENT' if self.has_null(field.type) else 'None'}:")
+                rows.append(self.if_there(field))
                 indent = 8
             write = self.conversion(field.type, "write")
             rows += self.call(indent, f"entries[{key}] = {write}(", [held, f"(*at, {key})"], ")")
         return [*rows, "    return entries"]
 
+    def if_there(self, field):
+        return f"    if held.{self.field_name(field)} is not {'Absent.ABSENT' if self.has_null(field.type) else 'None'}:"
+
     def struct_tuple(self, struct):
-        read, write = [], []
-        for place, field in enumerate(struct.fields):
-            name, step = self.field_name(field), f"(*at, {place})"
-            read += self.call(8, f"{name}={self.conversion(field.type, 'read')}(", [f"items[{place}]", step], "),")
-            write.append(f"{self.conversion(field.type, 'write')}(held.{name}, {step})")
-        return self.both(
-            struct,
-            [f"    items = _items(value, at, {len(struct.fields)})", *constructed(struct, read)],
-            [f"    held = _is({struct.name}, value, at)", *self.call(4, "return [", write, "]")],
-        )
+        return self.both(struct, self.read_tuple(struct), self.written_tuple(struct))
+
+    def read_tuple(self, struct):
+        there, absent = self.apart(struct)
+        items = f"_items(value, at, {self.count(struct)})"
+        if absent:
+            return [f"    entries = dict(enumerate({items}))", *constructed(struct, self.read_entries(there + absent))]
+        rows = []
+        for place, field in there:
+            given = [f"items[{place}]", f"(*at, {place})"]
+            rows += self.call(8, f"{self.field_name(field)}={self.conversion(field.type, 'read')}(", given, "),")
+        return [f"    items = {items}", *constructed(struct, rows)]
+
+    def written_tuple(self, struct):
+        there, absent = self.apart(struct)
+        items = [self.written_item(place, field) for place, field in there]
+        rows = [f"    held = _is({struct.name}, value, at)"]
+        if not absent:
+            return rows + self.call(4, "return [", items, "]")
+        rows += self.call(4, "items: list[Any] = [", items, "]")
+        for place, field in absent:
+            given = ["items", str(place), "at", self.written_item(place, field)]
+            rows += [self.if_there(field), *self.call(8, "_put(", given, ")")]
+        return [*rows, "    return items"]
+
+    def written_item(self, place, field):
+        return f"{self.conversion(field.type, 'write')}(held.{self.field_name(field)}, (*at, {place}))"
 
     # -- enums
 
@@ -321,6 +380,21 @@ class Python(Language):
         read = [f"    return _member({enum.name}, {data}(value, at), at)"]
         return self.both(enum, read, [f"    return _is({enum.name}, value, at).value"])
 
+    # -- units
+
+    def unit_null(self, unit):
+        return self.unit(unit, "None")
+
+    def unit_true(self, unit):
+        return self.unit(unit, "True")
+
+    def unit_false(self, unit):
+        return self.unit(unit, "False")
+
+    def unit(self, unit, one):
+        read = [f"    _unit({one}, value, at)", f"    return {unit.name}()"]
+        return self.both(unit, read, [f"    _is({unit.name}, value, at)", f"    return {one}"])
+
     # -- unions
 
     def union_keyed(self, union):
@@ -332,6 +406,23 @@ class Python(Language):
             call = f"{self.conversion(case.type, 'write')}(value.value, (*at, {key}))"
             write += [f"        case {kind}():", f"            return {{{key}: {call}}}"]
         read.append('    raise _refused("Msg", (*at, key), "unknown variant")')
+        write.append(f'    raise _other("{union.name}", value, at)')
+        return self.both(union, read, write)
+
+    def union_inline(self, union):
+        """The member's map, with the entry that tells the member."""
+        key = literal(union.discriminant)
+        read, write = [f"    tag, entries = _told(value, at, {key})", "    match tag:"], ["    match value:"]
+        for case in union.cases:
+            tag, kind = literal(case.data), case_class(union, case)
+            read.append(f"        case {tag}:")
+            for field in self.others(union, case):
+                given = ["entries", literal(field.key), "at", self.conversion(field.type, "read")]
+                read += self.call(12, "_optional(", given, ")")
+            read.append(f"            return {kind}({self.conversion(case.type, 'read')}(entries, at))")
+            call = f"{self.conversion(case.type, 'write')}(value.value, at)"
+            write += [f"        case {kind}():", *self.call(12, "return {", [f"{key}: {tag}", f"**{call}"], "}")]
+        read.append(f'    raise _refused("Msg", (*at, {key}), "unknown variant")')
         write.append(f'    raise _other("{union.name}", value, at)')
         return self.both(union, read, write)
 
@@ -364,8 +455,9 @@ def case_class(union, case):
     return union.name + case.name
 
 
-def member_name(member):
-    return member.name + "_" if keyword.iskeyword(member.name) else member.name
+def member_name(enum, member):
+    """Its name, or that and a _, where it would stand for the class in the annotations behind it."""
+    return member.name + "_" if keyword.iskeyword(member.name) or member.name == enum.name else member.name
 
 
 def literal(data):

@@ -103,6 +103,23 @@ MADE = [
 ]
 
 
+INLINE = """type A union {
+  | B "b"
+  | C "c"
+} representation inline {
+  discriminantKey "t"
+}
+type B struct { # open
+  x Int
+}
+type C struct { # open
+  y String
+}"""
+KEYS = """type A {Format:String}
+type Format enum {
+  | Vinyl
+}"""
+
 # A language, a schema, and a line that stands in what is made of it.
 MADE_IN = [
     ("python", "type A struct {\n  createdAt optional nullable [Int] # as u8\n}", "    created_at: list[int] | None | Absent = Absent.ABSENT"),
@@ -115,7 +132,14 @@ MADE_IN = [
     ("python", "type B int # as i8\ntype A struct {\n  x B\n}", "_i8 = _integer(-(2**7), 2**7 - 1)"),
     ("python", "# A \"B\" \\\ntype A struct {\n  x Int\n}", '    """A \\"B\\" \\\\"""'),
     ("python", "type A enum {\n  | None\n}", '    None_ = "None"'),
+    ("python", "type A enum {\n  | A\n}", '    A_ = "A"'),
     ("python", "type A union {\n  | Int \"i\"\n} representation keyed", "A: TypeAlias = AInt"),
+    ("python", "type A struct {\n  x Int\n  y optional Int\n} representation tuple", "        _put(items, 1, at, _i64(held.y, (*at, 1)))"),
+    ("python", "type A struct {\n  y optional nullable Int\n} representation tuple", "        y=_omissible(entries, 0, at, _nullable(_i64)),"),
+    ("python", INLINE, '            return {"t": "b", **_write_b(value.value, at)}'),
+    ("python", INLINE, '            _optional(entries, "y", at, _text)'),
+    ("python", KEYS, "    vinyl: str | None = None"),
+    ("python", "type A unit representation true", "    _unit(True, value, at)"),
     ("typescript", "type A struct {\n  createdAt optional nullable [Int] # as u8\n}", "  createdAt?: number[] | null;"),
     ("typescript", "type A struct {\n  constructor Int\n}", "  constructor_: bigint;"),
     ("typescript", "type A struct {\n  x [nullable Int] (rename \"$x-y\")\n}", "    '$x-y': listOf(nullable(i64))(held.x, [...at, '$x-y']),"),
@@ -124,14 +148,19 @@ MADE_IN = [
     ("typescript", "# A /* B */\ntype A struct {\n  x Int\n}", "/** A /* B * / */"),
     ("typescript", "type A enum {\n  | B (\"18446744073709551615\")\n} representation int", "    case 18446744073709551615n:"),
     ("typescript", "type A union {\n  | Int \"i\"\n} representation keyed", "export type A = { kind: 'Int'; value: bigint };"),
+    ("typescript", "type A union {\n  | Int \"__proto__\"\n} representation keyed", "      return { ['__proto__']: i64(held.value, [...at, '__proto__']) };"),
+    ("typescript", "type A struct {\n  y optional Int\n} representation tuple", "  if (items.length > 0) held.y = i64(items[0], [...at, 0]);"),
+    ("typescript", "type A struct {\n  x Int\n  y optional Int\n} representation tuple", "  if (held.y !== undefined) put(items, 1, at, i64(held.y, [...at, 1]));"),
+    ("typescript", INLINE, "      return tagged('t', 'b', writeB(held.value, at));"),
+    ("typescript", INLINE, "      if (has(entries, 'y')) field(entries, 'y', at, text);"),
+    ("typescript", KEYS, "  Vinyl?: string;"),
+    ("typescript", "type A unit", "export type A = null;"),
 ]
 
 # A language, a schema that is one of Rattle, and how the language refuses it.
 REFUSED_IN = [
     ("python", "type CID struct {}", "1:6: `CID` is a name that the made Python uses"),
     ("python", "type AInt int\ntype A union {\n  | Int \"i\"\n} representation keyed", "2:6: two types have the name `AInt`: this and line 1"),
-    ("python", "type A struct {\n  x Int\n  y optional Int\n} representation tuple", "3:3: `y`, a part of a tuple that may be absent, is not made in Python yet"),
-    ("typescript", "type A struct {\n  y optional Int\n} representation tuple", "2:3: `y`, a part of a tuple that may be absent, is not made in TypeScript yet"),
     ("typescript", "type Data struct {}", "1:6: `Data` is a name that the made TypeScript uses"),
     ("typescript", "type A struct {\n  x Int (rename \"__proto__\")\n}", "2:3: no field is named __proto__"),
     ("typescript", "type A struct {\n  toString Int\n  toString_ Int\n}", "3:3: two fields have the name `toString_`"),

@@ -2,7 +2,7 @@
 `decode` and `encode`."""
 
 from schemas.language import WIDTH, Language, bounds, camel, named_blocks
-from schemas.parsing import WIDTHS, Alias, Enum, Int, Leaf, Link, ListOf, MapOf, Named, SchemaError, Struct, Union
+from schemas.parsing import WIDTHS, Alias, Enum, Int, Leaf, Link, ListOf, MapOf, Named, SchemaError, Struct, Union, Unit
 
 SCALARS = {"String": "string", "Bytes": "Uint8Array", "Bool": "boolean", "Any": "Data"}
 NARROW = ("u8", "u16", "u32", "i8", "i16", "i32")  # the widths that are kept as a number, and not as a bigint
@@ -45,10 +45,36 @@ function field<T>(entries: Entries, key: string, at: Place, read: Conversion<T>)
 }
 
 /** The items of a list that has so many. */
-function itemsOf(value: unknown, at: Place, count: number): unknown[] {
+function itemsOf(value: unknown, at: Place, least: number, most: number = least): unknown[] {
   if (!Array.isArray(value)) throw other('list', value, at);
-  if (value.length === count) return value;
-  throw refused('LengthMismatch', at, `a list of ${count} is wanted, and not of ${value.length}`);
+  if (value.length >= least && value.length <= most) return value;
+  const wanted = least === most ? least : `${least} to ${most}`;
+  throw refused('LengthMismatch', at, `a list of ${wanted} is wanted, and not of ${value.length}`);
+}
+
+/** Adds an item at its place, before which none is left out. */
+function put(items: Data[], place: number, at: Place, item: Data): void {
+  if (items.length !== place) throw refused('Msg', [...at, items.length], 'missing field');
+  items.push(item);
+}
+
+/** What stands under the key, which tells the member of a union, and the other entries. */
+function toldBy(key: string, value: unknown, at: Place): [string, Entries] {
+  const entries = entriesOf(value, at);
+  const tag = field(entries, key, at, text);
+  return [tag, Object.fromEntries(Object.entries(entries).filter(([name]) => name !== key))];
+}
+
+/** The entries of a member, with the one that tells it. */
+function tagged(key: string, tag: string, entries: Data): Data {
+  return { ...(entries as { [key: string]: Data }), [key]: tag };
+}
+
+/** The one value of a unit. */
+function unit<T extends boolean | null>(one: T, value: unknown, at: Place): T {
+  if (value === one) return one;
+  if (kindOf(value) !== kindOf(one)) throw other(kindOf(one), value, at);
+  throw refused('Msg', at, 'no such value');
 }
 
 /** The key and the value of a map of one entry. */
@@ -166,7 +192,7 @@ class TypeScript(Language):
 
     def function(self, way, name):
         one = self.schema.by_name[name]
-        return f"{'check' if is_kinded(one) else way}{name}"
+        return f"{'check' if is_kinded(one) or isinstance(one, Unit) else way}{name}"
 
     # ---- the file
 
@@ -203,6 +229,8 @@ class TypeScript(Language):
             kinds = [quoted(member.name) for member in one.members]
         elif isinstance(one, Alias):
             kinds = [self.annotation(one.of)]
+        elif isinstance(one, Unit):
+            kinds = [one.representation]
         elif is_kinded(one):
             kinds = [self.annotation(self.case_kind(case)) for case in one.cases]
         else:
@@ -276,24 +304,41 @@ class TypeScript(Language):
         return rows + constructed("{ [key: string]: Data }", parts, optional, "entries")
 
     @staticmethod
-    def when(test, rows):
+    def when(test, rows, indent=2):
         """A statement under a condition."""
-        one = f"  if ({test}) {rows[0].strip()}"
+        margin = " " * indent
+        one = f"{margin}if ({test}) {rows[0].strip()}"
         if len(rows) == 1 and len(one) <= WIDTH:
             return [one]
-        return [f"  if ({test}) {{", *(f"  {row}" for row in rows), "  }"]
+        return [f"{margin}if ({test}) {{", *(f"  {row}" for row in rows), f"{margin}}}"]
 
     def struct_tuple(self, struct):
-        read, write = [], []
-        for place, field in enumerate(struct.fields):
-            name, step = self.field_name(field), f"[...at, {place}]"
-            read += self.call(4, f"{name}: {self.conversion(field.type, 'read')}(", [f"items[{place}]", step], "),")
-            write.append(f"{self.conversion(field.type, 'write')}(held.{name}, {step})")
-        return self.both(
-            struct,
-            [f"  const items = itemsOf(value, at, {len(struct.fields)});", *constructed(struct.name, read, [])],
-            [f"  const held = object<{struct.name}>(value, at);", *self.call(2, "return [", write, "];")],
-        )
+        return self.both(struct, self.read_tuple(struct), self.written_tuple(struct))
+
+    def read_tuple(self, struct):
+        there, absent = self.apart(struct)
+        parts, optional = [], []
+        for place, field in there:
+            parts += self.call(4, f"{self.field_name(field)}: {self.conversion(field.type, 'read')}(", item_at(place), "),")
+        for place, field in absent:
+            head = f"held.{self.field_name(field)} = {self.conversion(field.type, 'read')}("
+            optional += self.when(f"items.length > {place}", self.call(2, head, item_at(place), ");"))
+        return [f"  const items = itemsOf(value, at, {self.count(struct)});", *constructed(struct.name, parts, optional)]
+
+    def written_tuple(self, struct):
+        there, absent = self.apart(struct)
+        items = [self.written_item(place, field) for place, field in there]
+        rows = [f"  const held = object<{struct.name}>(value, at);"]
+        if not absent:
+            return rows + self.call(2, "return [", items, "];")
+        rows += self.call(2, "const items: Data[] = [", items, "];")
+        for place, field in absent:
+            put = self.call(2, "put(", ["items", str(place), "at", self.written_item(place, field)], ");")
+            rows += self.when(f"held.{self.field_name(field)} !== undefined", put)
+        return [*rows, "  return items;"]
+
+    def written_item(self, place, field):
+        return f"{self.conversion(field.type, 'write')}(held.{self.field_name(field)}, [...at, {place}])"
 
     # -- enums
 
@@ -310,6 +355,22 @@ class TypeScript(Language):
             write += [f"    case {quoted(member.name)}:", f"      return {literal(member.data)};"]
         return self.both(enum, [*read, *otherwise("at", "unknown variant")], [*write, *otherwise("at", "unknown variant")])
 
+    # -- units
+
+    def unit_null(self, unit):
+        return self.unit(unit)
+
+    def unit_true(self, unit):
+        return self.unit(unit)
+
+    def unit_false(self, unit):
+        return self.unit(unit)
+
+    def unit(self, unit):
+        """One function, since the value stands for itself."""
+        head = f"function {self.function('read', unit.name)}(value: unknown, at: Place): {unit.name} {{"
+        return [[head, f"  return unit({unit.representation}, value, at);", "}"]]
+
     # -- unions
 
     def union_keyed(self, union):
@@ -321,6 +382,23 @@ class TypeScript(Language):
             call = f"{self.conversion(case.type, 'write')}(held.value, [...at, {quoted(case.data)}])"
             write += [f"    case {quoted(case.name)}:", f"      return {{ {property_name(case.data)}: {call} }};"]
         read += otherwise("[...at, key]", "unknown variant")
+        return self.both(union, read, [*write, *otherwise("at", "unknown variant")])
+
+    def union_inline(self, union):
+        """The member's map, with the entry that tells the member."""
+        key = quoted(union.discriminant)
+        read = [f"  const [tag, entries] = toldBy({key}, value, at);", "  switch (tag) {"]
+        write = [f"  const held = object<{union.name}>(value, at);", "  switch (held.kind) {"]
+        for case in union.cases:
+            tag, kind = quoted(case.data), quoted(case.name)
+            read.append(f"    case {tag}:")
+            for field in self.others(union, case):
+                given = ["entries", quoted(field.key), "at", self.conversion(field.type, "read")]
+                read += self.when(f"has(entries, {quoted(field.key)})", self.call(6, "field(", given, ");"), 6)
+            read.append(f"      return {{ kind: {kind}, value: {self.conversion(case.type, 'read')}(entries, at) }};")
+            given = [key, tag, f"{self.conversion(case.type, 'write')}(held.value, at)"]
+            write += [f"    case {kind}:", *self.call(6, "return tagged(", given, ");")]
+        read += otherwise(f"[...at, {key}]", "unknown variant")
         return self.both(union, read, [*write, *otherwise("at", "unknown variant")])
 
     @staticmethod
@@ -336,7 +414,6 @@ class TypeScript(Language):
             rows += [f"    case {quoted(case.data)}:", f"      return {call};"]
         head = f"function {self.function('read', union.name)}(value: unknown, at: Place): {union.name} {{"
         return [[head, *rows, *otherwise("at", "unknown kind"), "}"]]
-
 
 
 def spelled(number):
@@ -360,8 +437,15 @@ def quoted(text):
     return "'" + text.replace("'", "\\'") + "'"
 
 
+def item_at(place):
+    """The item at a place of a list, and its path."""
+    return [f"items[{place}]", f"[...at, {place}]"]
+
+
 def property_name(key):
     """A key in an object that is spelled out."""
+    if key == "__proto__":
+        return f"[{quoted(key)}]"
     return key if key.isidentifier() else quoted(key)
 
 

@@ -27,4 +27,20 @@ for (const line of lines) {
   assert.strictEqual(answer(made, Buffer.from(block, 'hex')), wanted.join(' '), line);
 }
 assert.ok(lines.length > 50);
+
+// No item stands behind one that is left out, and what is no member is not written.
+const { Embed, Point, Units } = require(join(folder, 'forms'));
+const gap = { x: 0n, y: null, z: 0, counts: {}, tags: [], t: 1 };
+const refusals = [
+  [() => Point.encode(gap), 'Msg', [5]],
+  [() => Embed.encode({ images: [] }), 'Msg', []],
+  [() => Embed.encode({ kind: 'Images', value: { images: [gap] } }), 'Msg', ['images', 0, 5]],
+  [() => Units.encode({ yes: false, nothing: null, empty: {} }), 'Msg', ['yes']],
+];
+for (const [write, kind, place] of refusals) {
+  assert.throws(write, (error) => {
+    assert.deepStrictEqual([error.kind, error.place], [kind, place]);
+    return error instanceof DagCborError;
+  });
+}
 console.log(`${lines.length} blocks`);

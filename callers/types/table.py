@@ -6,12 +6,20 @@ import sys
 from dagcbor import DagCborError
 
 
-def answer(made, block):
+def ways(module, name):
+    """What reads a block and what writes it: of the class, or of the type's name where it has none."""
+    made = getattr(module, name)
+    if hasattr(made, "from_block"):
+        return made.from_block, made.to_block
+    return tuple(getattr(module, f"{name.lower()}_{way}_block") for way in ("from", "to"))
+
+
+def answer(read, write, block):
     """What the block is written again as, or the kind of the error and the path that it names."""
     try:
-        value = made.from_block(block)
-        assert made.from_block(bytearray(block)) == value
-        return value.to_block().hex()
+        value = read(block)
+        assert read(bytearray(block)) == value
+        return write(value).hex()
     except DagCborError as error:
         path = "/".join(map(str, error.place)) or "-"
         assert str(error).startswith("" if path == "-" else f"{path}: "), error
@@ -21,8 +29,22 @@ def answer(made, block):
 count = 0
 for line in sys.stdin:
     schema, name, block, wanted = line.strip().split(" ", 3)
-    found = answer(getattr(importlib.import_module(schema), name), bytes.fromhex(block))
+    found = answer(*ways(importlib.import_module(schema), name), bytes.fromhex(block))
     assert found == wanted, f"{schema} {name} {block}: {found} in place of {wanted}"
     count += 1
 assert count > 50
+
+# No item stands behind one that is left out, and what is no member is not written.
+forms = importlib.import_module("forms")
+gap = forms.Point(x=0, y=None, z=0, counts=forms.Counts(), tags=[], t=1)
+for value, write, kind, place in [
+    (gap, forms.Point.to_block, "Msg", (5,)),
+    (forms.Images(images=[]), forms.embed_to_block, "Mismatch", ()),
+    (forms.EmbedImages(forms.Images(images=[gap])), forms.embed_to_block, "Msg", ("images", 0, 5)),
+    (forms.Units(yes=True, nothing=None, empty={}), forms.Units.to_block, "Mismatch", ("yes",)),
+]:
+    try:
+        raise AssertionError(write(value))
+    except DagCborError as error:
+        assert (error.kind, error.place) == (kind, place), error
 print(f"{count} blocks")

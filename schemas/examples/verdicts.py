@@ -1,14 +1,16 @@
 #!/usr/bin/env python3
 """What the types of these schemas answer to the blocks of blocks.py, and to some more, for tests in other languages:
 
-    schemas/examples/verdicts.py album atproto ledger
+    schemas/examples/verdicts.py album atproto ledger forms
 
 A line is a schema, a type, a block in hexadecimal, and what it is written again as; or in place of that the kind of the error and the
 path that it names, as `Mismatch tracks/1/seconds`, or `Mismatch -` for the whole."""
 
 import sys
 
-from blocks import BLOCKS, CID, DEMO, FIGURES, LEDGER, spelled
+from blocks import BLOCKS, CID, DEMO, FIGURES, IMAGES, LEDGER, POINT, POST, REF, UNITS, spelled
+
+RECORD = {"$type": "app.bsky.embed.record", "record": REF}
 
 MORE = {
     "album": {
@@ -22,6 +24,52 @@ MORE = {
     "atproto": {
         "COMMIT_TEXT_SIG": {"did": "", "version": 0, "data": CID, "rev": "", "prev": CID, "sig": "ab"},
         "COMMIT_LINK_DID": {"did": CID, "version": 0, "data": CID, "rev": "", "prev": CID, "sig": b""},
+        "POST_RECORD_MORE": {**POST, "embed": {**RECORD, "images": [], "x": 1}},
+        "POST_OTHER_TYPE": {**POST, "embed": {**RECORD, "images": [1]}},
+        "POST_OTHER_NULL": {**POST, "embed": {**RECORD, "external": None}},
+        "POST_TAG": {**POST, "embed": {**RECORD, "$type": 1}},
+        "POST_BARE": {**POST, "embed": {"$type": "app.bsky.embed.record"}},
+        "POST_IMAGE": {**POST, "embed": {**IMAGES, "images": [{"alt": ""}]}},
+        "POST_LIST": {**POST, "embed": [RECORD]},
+        "POST_NULL": {**POST, "embed": None},
+        "NODE_DEEP": {"l": CID, "e": [{"p": 2**32, "k": b"", "v": CID, "t": None}]},
+    },
+    "forms": {
+        "POINT_NULL_NAME": [*POINT[:5], None],
+        "POINT_NULL_Z": [1, 2, None, {}, []],
+        "POINT_NO_COUNTS": [1, 2, 3, {}, []],
+        "POINT_LATE": [*POINT[:6], 256],
+        "POINT_EMPTY": [],
+        "POINT_MAP": {"x": 1},
+        "COUNTS": {"Vinyl": 2**63 - 1, "tape": 0},
+        "COUNTS_ONE": {"tape": 1},
+        "COUNTS_NONE": {},
+        "COUNTS_NAME": {"Vinyl": 1, "Tape": 1},
+        "COUNTS_NULL": {"tape": None},
+        "COUNTS_WIDE": {"tape": 2**63},
+        "COUNTS_LIST": ["tape"],
+        "EMBED_TAG": {"$type": None, "uri": "u", "note": "n"},
+        "EMBED_EMPTY": {},
+        "EMBED_LIST": ["external", "u", "n"],
+        "EMBED_KEYED": {"external": {"uri": "u", "note": "n"}},
+        "EMBED_NAME": {"$type": "External", "uri": "u", "note": "n"},
+        "EMBED_NULL_NOTE": {"$type": "images", "images": [], "note": None},
+        "EMBED_NOTE": {"$type": "images", "images": [], "note": ""},
+        "EMBED_POINT": {"$type": "images", "images": [POINT, POINT[:4]]},
+        "YES": True,
+        "YES_FALSE": False,
+        "YES_NULL": None,
+        "NO": False,
+        "NO_TRUE": True,
+        "NO_ZERO": 0,
+        "NOTHING": None,
+        "NOTHING_FALSE": False,
+        "NOTHING_EMPTY": {},
+        "EMPTY": {},
+        "EMPTY_LIST": [],
+        "EMPTY_NULL": None,
+        "UNITS_NULL_NO": {**UNITS, "no": None},
+        "UNITS_NO_NOTHING": {key: value for key, value in UNITS.items() if key != "nothing"},
     },
     "ledger": {
         **{f"LEDGER_EXTRA_{place}": {**LEDGER, "extra": it} for place, it in enumerate([True, 0, 2**64 - 1, "a", b"\x01", CID])},
@@ -60,7 +108,56 @@ REFUSED = {
     "COMMIT_TEXT_SIG": "Mismatch sig",
     "COMMIT_LINK_DID": "Mismatch did",
     "REPLY_NULL": "Mismatch reply",
-    "REPLY_MORE": "Msg reply/parent/x",
+    "REPLY_TEXT": "Mismatch reply/parent/cid",
+    "NODE_NO_LEFT": "Msg l",
+    "NODE_DEEP": "CastOverflow e/0/p",
+    "POST_VIDEO": "Msg embed/$type",
+    "POST_UNTOLD": "Msg embed/$type",
+    "POST_OTHER": "Msg embed/record",
+    "POST_OTHER_TYPE": "Mismatch embed/images/0",
+    "POST_OTHER_NULL": "Mismatch embed/external",
+    "POST_TAG": "Mismatch embed/$type",
+    "POST_BARE": "Msg embed/record",
+    "POST_IMAGE": "Msg embed/images/0/image",
+    "POST_LIST": "Mismatch embed",
+    "POST_NULL": "Mismatch embed",
+    "POINT_TOO_SHORT": "LengthMismatch -",
+    "POINT_TOO_LONG": "LengthMismatch -",
+    "POINT_EMPTY": "LengthMismatch -",
+    "POINT_OTHER_KEY": "Msg 3/Disc",
+    "POINT_NULL_NAME": "Mismatch 5",
+    "POINT_NULL_Z": "Mismatch 2",
+    "POINT_LATE": "CastOverflow 6",
+    "POINT_MAP": "Mismatch -",
+    "COUNTS_NAME": "Msg Tape",
+    "COUNTS_NULL": "Mismatch tape",
+    "COUNTS_WIDE": "CastOverflow tape",
+    "COUNTS_LIST": "Mismatch -",
+    "EMBED_NO_NOTE": "Msg note",
+    "EMBED_BOTH": "Msg images",
+    "EMBED_MORE": "Msg x",
+    "EMBED_UNKNOWN": "Msg $type",
+    "EMBED_UNTOLD": "Msg $type",
+    "EMBED_TAG": "Mismatch $type",
+    "EMBED_EMPTY": "Msg $type",
+    "EMBED_LIST": "Mismatch -",
+    "EMBED_KEYED": "Msg $type",
+    "EMBED_NAME": "Msg $type",
+    "EMBED_NULL_NOTE": "Mismatch note",
+    "EMBED_POINT": "LengthMismatch images/1",
+    "YES_FALSE": "Msg -",
+    "YES_NULL": "Mismatch -",
+    "NO_TRUE": "Msg -",
+    "NO_ZERO": "Mismatch -",
+    "NOTHING_FALSE": "Mismatch -",
+    "NOTHING_EMPTY": "Mismatch -",
+    "EMPTY_LIST": "Mismatch -",
+    "EMPTY_NULL": "Mismatch -",
+    "UNITS_NO_YES": "Msg yes",
+    "UNITS_NOTHING": "Mismatch nothing",
+    "UNITS_FULL": "Msg empty/x",
+    "UNITS_NULL_NO": "Mismatch no",
+    "UNITS_NO_NOTHING": "Msg nothing",
     "LEDGER_LIST": "Msg extra",
     "LEDGER_LEVEL": "Msg level",
     "LEDGER_LEVEL_BELOW": "CastOverflow level",
@@ -82,12 +179,16 @@ REFUSED = {
 }
 
 # Blocks with keys that are skipped, by what is left of them.
-SKIPPED = {"POST_MORE": "POST"}
+SKIPPED = {"POST_MORE": "POST", "POST_RECORD_MORE": "POST_RECORD"}
+
+# The types of a schema that has no type of its name, by the names of their blocks.
+OTHERS = {"COMMIT_UNSIGNED": "UnsignedCommit", "REPLY": "Post"}
 
 
 def type_of(schema, name):
-    if schema == "atproto":
-        return "Commit" if name.startswith("COMMIT") else "Post"
+    first = name.split("_")[0]
+    if schema in ("atproto", "forms"):
+        return OTHERS.get(name) or OTHERS.get(first) or first.capitalize()
     return schema.capitalize()
 
 

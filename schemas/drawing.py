@@ -170,7 +170,7 @@ def drawn(seed):
         try:
             Schema(parse(text))
         except SchemaError as error:
-            if "at most" not in error.message:
+            if "at most" not in error.message and "at once" not in error.message:
                 raise
             continue
         return text

@@ -366,12 +366,12 @@ class Module:
             words, close = [], 0
             for field, _, local, path in row:
                 if field.key in fields and not fields[field.key].optional:
-                    words.append(f"    there {path} (λ {local}.")
+                    words.append(f"    there {path} (λ {local}'.")
                     close += 1
                 elif field.key not in fields and not is_open:
                     words.append(f"    absent {path} (")
                     close += 1
-            shown_by_key = {field.key: (local, path) for field, _, local, path in row}
+            shown_by_key = {field.key: (local + "'", path) for field, _, local, path in row}  # the sign keeps it from being antt's own word
             parts = [shown_by_key[key][1 if field.optional else 0] for key, field in fields.items()]
             pairs = "".join(f"({part}, " for part in parts) + "tt" + ")" * len(parts)
             made += words + [f"    Some ({case_word(union, case)} {pairs}){')' * close}"]

@@ -5,7 +5,7 @@ mod data;
 mod devices;
 mod forms;
 
-use crate::{Command, Either, Inner, Node, Outer, Parcel, Record, Shape, Slash, SlashEnum};
+use crate::types::{Command, Either, Inner, Node, Outer, Parcel, Record, Shape, Slash, SlashEnum};
 use dagcbor_serde::{ByteBuf, Link, from_slice, from_slice_owned, to_vec};
 use ipld_tree::Cid;
 use serde::{DeserializeOwned, Serialize};
@@ -249,9 +249,9 @@ fn what_has_no_spelling_is_refused(rt: HostRuntime) -> Result<(), Fail> {
     let mut numbered = BTreeMap::new(alloc);
     numbered.insert(1u8, 2u8)?;
     is_told(alloc, &to_vec(alloc, &numbered), "Err(KeyIsNoText)")?;
-    let twice = crate::Twice {
+    let twice = crate::types::Twice {
         a: 1,
-        rest: crate::Again { a: 2 },
+        rest: crate::types::Again { a: 2 },
     };
     is_told(alloc, &to_vec(alloc, &twice), "Err(RepeatedKey)")
 }

@@ -1,7 +1,7 @@
 //! Any data in fields, and the data of another format.
 
 use super::{CID, agree, goes_both_ways, is_told, link, text};
-use crate::{Envelope, Inner, Shared};
+use crate::types::{Envelope, Inner, Shared};
 use dagcbor_serde::{Any, Link, from_slice_owned, to_vec};
 use ipld_tree::{Cid, Ipld};
 use serde_json::Value;

@@ -1,7 +1,7 @@
 //! Values to devices and from sources.
 
 use super::{RECORD, agree, is_told, link, text};
-use crate::{Either, Record};
+use crate::types::{Either, Record};
 use dagcbor_heads::{BufWriter, DecodeError, EncodeError};
 use dagcbor_serde::{
     DeviceError, Error, WriteError, block_from_reader, block_from_reader_once, from_reader,

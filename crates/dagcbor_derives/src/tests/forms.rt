@@ -2,8 +2,8 @@
 //! docs/DERIVES.md says no other. An encoder apart made them.
 
 use super::{agree, goes_both_ways, is_read, is_told, link};
-use crate::Shape;
-use crate::forms::{
+use crate::types::Shape;
+use crate::types::forms::{
     Adjacent, BytesAlone, Cased, Even, Flat, Holders, Level, Metres, Octets, Pinned, Plain, Point,
     Renamed, Side, Tagged, Unit, Wrapper,
 };

@@ -1,6 +1,6 @@
 //! Any data in the fields of a type, and links, data and bytes under their own types.
 
-use crate::Inner;
+use crate::types::Inner;
 use dagcbor_serde::{Any, Link};
 use ipld_tree::{Cid, Ipld};
 use serde::{Deserialize, Serialize};

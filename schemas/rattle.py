@@ -765,20 +765,22 @@ class Module:
     # ---- proofs
 
     def answers(self, source):
-        """The answers that the search does not find, of each function by the folder of its proof: the arms that write a union
-        one of whose members is a link, where the search takes the CID apart."""
+        """The answers that the search does not find, of each function by the folder of its proof: the arms that write a keyed
+        union one of whose members is a link, where the search takes the CID apart, and those of an inline union."""
         made = {}
         for one in self.types:
             cases = getattr(one, "cases", [])
-            if len(cases) > 1 and one.representation == "keyed" and any(isinstance(self.schema.resolve(case.type), Link) for case in cases):
+            links = any(isinstance(self.schema.resolve(case.type), Link) for case in cases)
+            if len(cases) > 1 and (one.representation == "inline" or (one.representation == "keyed" and links)):
                 place = f"{self.name}.{one.name}Serialize.serialize"
                 rows = [
-                    f"-- The arms of {one.name}, which may hold a link, of {source}, by ./dagcbor-types.",
+                    f"-- The arms that write {one.name}, of {source}, by ./dagcbor-types.",
                     f"use Rattle.{self.crate}.proofs.{place}.Goals as goal",
                 ]
                 for case in cases:
                     goal = f"returns-in-{case.name}-clause-written"
-                    call = "serialize_newtype_variant" + (f"-in-{case.name}" if case is not cases[0] else "")
+                    call = "write_struct" if one.representation == "inline" else "serialize_newtype_variant"
+                    call += f"-in-{case.name}" if case is not cases[0] else ""
                     rows += ["", f"pub {goal} : goal.{goal}"]
                     rows.append(f"{goal} g c = rw c.in-{case.name}.is c.{call}.ensures.written")
                 made[place.replace(".", "/")] = "\n".join(rows) + "\n"

@@ -21,7 +21,8 @@ def link_of(number):
 
 
 def text(word):
-    return bytes([0x60 + len(word)]) + word.encode()
+    letters = word.encode()
+    return bytes([0x60 + len(letters)]) + letters
 
 
 def integer(number):

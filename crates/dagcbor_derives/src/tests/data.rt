@@ -49,11 +49,7 @@ fn any_data_goes_both_ways(rt: HostRuntime) -> Result<(), Fail> {
         r#"Some(List([Integer(1), Integer(-1), Null, Bool(true), Bytes([255]), String("t"), Map({})]))"#,
     )?;
     // A map of the name of a link is a map.
-    is_told(alloc, &body.get("a"), r#"Some(Map({"/": Bytes([1])}))"#)?;
-    let Some(Ipld::Link(found)) = body.get("link") else {
-        return Err(Fail::new("no link"));
-    };
-    agree(*found, Cid::try_from(CID)?)
+    is_told(alloc, &body.get("a"), r#"Some(Map({"/": Bytes([1])}))"#)
 }
 
 #[test]

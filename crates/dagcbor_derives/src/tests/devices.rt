@@ -2,10 +2,10 @@
 
 use super::{RECORD, agree, is_told, link, text};
 use crate::types::{Either, Record};
-use dagcbor_heads::{BufWriter, DecodeError, EncodeError};
+use dagcbor_heads::{DecodeError, EncodeError};
 use dagcbor_serde::{
     DeviceError, Error, WriteError, block_from_reader, block_from_reader_once, from_reader,
-    from_reader_once, iter_from_reader, push_value, to_writer,
+    from_reader_once, to_writer,
 };
 use std::alloc::Global;
 use std::io;
@@ -73,21 +73,6 @@ fn record(alloc: Global) -> Result<Record, Fail> {
         seq: 42,
         tags: vec![in alloc; 1, 256]?,
     })
-}
-
-#[test]
-fn devices_take_blocks(rt: HostRuntime) -> Result<(), Fail> {
-    let alloc = rt.alloc();
-    let mut device = vec![in alloc; 9u8]?;
-    to_writer(alloc, &mut device, &record(alloc)?)?;
-    agree(device.strip_prefix(b"\x09"), Some(RECORD))?;
-    let mut writer = BufWriter::new(Vec::new(alloc));
-    push_value(alloc, &mut writer, &record(alloc)?)?;
-    push_value(alloc, &mut writer, &7u8)?;
-    agree(
-        writer.buffer().strip_prefix(RECORD),
-        Some(b"\x07".as_slice()),
-    )
 }
 
 /// A device that is full has a beginning, and of a value that is refused nothing.
@@ -170,70 +155,4 @@ fn sources_are_refused(rt: HostRuntime) -> Result<(), Fail> {
         &announced,
         r#"Err(NoBlock(Eof { name: "bytes", expect: Big }))"#,
     )
-}
-
-/// Where the type does not accept a block, the source has what follows it.
-#[test]
-fn a_source_stands_behind_what_was_refused(rt: HostRuntime) -> Result<(), Fail> {
-    let alloc = rt.alloc();
-    let mut two = b"\x61t\x07".as_slice();
-    let refused = from_reader_once::<u8, _>(alloc, &mut two);
-    is_told(
-        alloc,
-        &refused,
-        "Err(Misfit { cause: Mismatch(97), at: 0 })",
-    )?;
-    agree(from_reader_once::<u8, _>(alloc, &mut two)?, 7)
-}
-
-#[test]
-fn streams_end_at_an_error(rt: HostRuntime) -> Result<(), Fail> {
-    let alloc = rt.alloc();
-    let rows: [(&[u8], &str); 5] = [
-        (b"", "[]"),
-        (b"\x01\x18\x18", "[Ok(1), Ok(24)]"),
-        (
-            b"\x01\x61a\x02",
-            "[Ok(1), Err(Misfit { cause: Mismatch(97), at: 0 })]",
-        ),
-        (
-            b"\x01\x18\x17\x02",
-            r#"[Ok(1), Err(NoBlock(NonMinimal { name: "u64", found: 24 }))]"#,
-        ),
-        (
-            b"\x01\x18",
-            r#"[Ok(1), Err(NoBlock(Eof { name: "u64", expect: Small(1) }))]"#,
-        ),
-    ];
-    for (bytes, told) in rows {
-        let mut items = Vec::new(alloc);
-        for item in iter_from_reader::<u8, _>(alloc, bytes) {
-            items.push(item)?;
-        }
-        is_told(alloc, &items, told)?;
-    }
-    Ok(())
-}
-
-/// A fault ends a stream, wherever it comes.
-#[test]
-fn streams_end_at_a_fault(rt: HostRuntime) -> Result<(), Fail> {
-    let alloc = rt.alloc();
-    for left in 0..3 {
-        let source = Source {
-            rest: b"\x01\x02",
-            fault: Some(left),
-        };
-        let mut values = 0usize;
-        let mut faults = 0usize;
-        for item in iter_from_reader::<u8, _>(alloc, source) {
-            match item {
-                Ok(_) => values = values.saturating_add(1),
-                Err(Error::NoBlock(DecodeError::Read(_))) => faults = faults.saturating_add(1),
-                Err(other) => return Err(Fail::new(format_args!("{other:?}"))),
-            }
-        }
-        agree((values, faults), (2 - left, 1))?;
-    }
-    Ok(())
 }

@@ -7,7 +7,7 @@ use crate::types::forms::{
     Adjacent, BytesAlone, Cased, Even, Flat, Holders, Level, Metres, Octets, Pinned, Plain, Point,
     Renamed, Side, Tagged, Unit, Wrapper,
 };
-use dagcbor_serde::{ByteBuf, from_slice_lossless, from_slice_owned, to_vec};
+use dagcbor_serde::{ByteBuf, from_slice_owned, to_vec};
 use std::alloc::Global;
 use std::collections::{BTreeMap, BTreeSet};
 use std::test::Fail;
@@ -177,38 +177,6 @@ fn links_are_told_from_bytes(rt: HostRuntime) -> Result<(), Fail> {
     goes_both_ways(alloc, &BytesAlone::Some(Octets(octets)), b"\x41\x01")?;
     let read = from_slice_owned::<BytesAlone>(alloc, b"\xd8\x2a\x45\x00\x01\x55\x00\x00");
     agree(read.is_err(), true)
-}
-
-/// What a value says of the block, it says all of.
-#[test]
-fn lossless_values_hold_all(rt: HostRuntime) -> Result<(), Fail> {
-    let alloc = rt.alloc();
-    let read: Plain = from_slice_lossless(alloc, b"\xa1\x61b\x01")?;
-    agree(&read, &Plain { b: 1 })?;
-    let rows: [(&[u8], &str); 3] = [
-        (
-            b"\xa2\x61b\x01\x61c\x02",
-            "Err(Misfit { cause: Lossy, at: 0 })",
-        ),
-        (
-            b"\xa1\x61a\x01",
-            r#"Err(Misfit { cause: MissingField("b"), at: 4 })"#,
-        ),
-        (
-            b"\xa1\x61b",
-            r#"Err(NoBlock(Eof { name: "any", expect: Small(1) }))"#,
-        ),
-    ];
-    for (bytes, told) in rows {
-        is_told(alloc, &from_slice_lossless::<Plain>(alloc, bytes), told)?;
-    }
-    is_told(
-        alloc,
-        &from_slice_lossless::<Shape>(alloc, b"\xa1\x63Dot\xf6"),
-        "Err(Misfit { cause: Lossy, at: 0 })",
-    )?;
-    let pair = from_slice_lossless::<(u8, Shape)>(alloc, b"\x82\x01\xa1\x63Dot\xf6");
-    is_told(alloc, &pair, "Err(Misfit { cause: Lossy, at: 2 })")
 }
 
 #[test]

@@ -36,20 +36,7 @@ fn any_data_goes_both_ways(rt: HostRuntime) -> Result<(), Fail> {
     };
     goes_both_ways(alloc, &plain, PLAIN)?;
     let read: Envelope = from_slice_owned(alloc, ENVELOPE)?;
-    goes_both_ways(alloc, &read, ENVELOPE)?;
-    agree(read.next, Some(link()?))?;
-    agree(read.cid, Cid::try_from(CID)?)?;
-    agree(read.raw.as_slice(), b"\x09\x08".as_slice())?;
-    let Any(Ipld::Map(body)) = read.body else {
-        return Err(Fail::new("no map"));
-    };
-    is_told(
-        alloc,
-        &body.get("zz"),
-        r#"Some(List([Integer(1), Integer(-1), Null, Bool(true), Bytes([255]), String("t"), Map({})]))"#,
-    )?;
-    // A map of the name of a link is a map.
-    is_told(alloc, &body.get("a"), r#"Some(Map({"/": Bytes([1])}))"#)
+    goes_both_ways(alloc, &read, ENVELOPE)
 }
 
 #[test]

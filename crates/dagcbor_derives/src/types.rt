@@ -9,7 +9,7 @@ use serde::{Deserialize, Serialize};
 use std::collections::BTreeMap;
 
 /// A record with a link in its middle.
-#[derive(Debug, Drop, PartialEq, Serialize, Deserialize)]
+#[derive(Drop, Serialize, Deserialize)]
 pub struct Record {
     pub link: Link,
     pub name: String,
@@ -18,7 +18,7 @@ pub struct Record {
 }
 
 /// What else a struct may hold.
-#[derive(Debug, Drop, PartialEq, Serialize, Deserialize)]
+#[derive(Drop, Serialize, Deserialize)]
 #[serde(rename_all = "camelCase")]
 pub struct Parcel {
     pub is_open: bool,
@@ -33,7 +33,7 @@ pub struct Parcel {
 }
 
 /// Each kind of variant.
-#[derive(Debug, Drop, PartialEq, Serialize, Deserialize)]
+#[derive(Drop, Serialize, Deserialize)]
 pub enum Shape {
     Dot,
     Circle(u32),
@@ -43,7 +43,7 @@ pub enum Shape {
 }
 
 /// A struct whose other fields stand in the same map.
-#[derive(Debug, Drop, PartialEq, Serialize, Deserialize)]
+#[derive(Drop, Serialize, Deserialize)]
 pub struct Outer {
     pub zeta: u8,
     #[serde(flatten)]
@@ -51,28 +51,28 @@ pub struct Outer {
     pub a: u8,
 }
 
-#[derive(Debug, Drop, PartialEq, Serialize, Deserialize)]
+#[derive(Drop, Serialize, Deserialize)]
 pub struct Inner {
     pub middle: u8,
     pub b: Option<u8>,
 }
 
 /// Names that a link must not be taken for.
-#[derive(Debug, Drop, PartialEq, Serialize, Deserialize)]
+#[derive(Drop, Serialize, Deserialize)]
 pub struct Slash {
     #[serde(rename = "/")]
     pub bytes: ByteBuf,
 }
 
 /// A variant of that name.
-#[derive(Debug, Drop, PartialEq, Serialize, Deserialize)]
+#[derive(Drop, Serialize, Deserialize)]
 pub enum SlashEnum {
     #[serde(rename = "/")]
     Bytes(ByteBuf),
 }
 
 /// A tree of any depth.
-#[derive(Debug, Drop, PartialEq, Serialize, Deserialize)]
+#[derive(Drop, Serialize, Deserialize)]
 #[serde(recursive)]
 pub struct Node {
     pub n: u8,
@@ -81,14 +81,14 @@ pub struct Node {
 }
 
 /// Variants told by a tag, and by nothing.
-#[derive(Debug, Drop, PartialEq, Serialize, Deserialize)]
+#[derive(Drop, Serialize, Deserialize)]
 #[serde(tag = "kind", rename_all = "snake_case")]
 pub enum Command {
     Stop,
     MoveTo { x: i32, y: i32 },
 }
 
-#[derive(Debug, Drop, PartialEq, Serialize, Deserialize)]
+#[derive(Drop, Serialize, Deserialize)]
 #[serde(untagged)]
 pub enum Either {
     Number(u64),
@@ -98,14 +98,14 @@ pub enum Either {
 }
 
 /// Two fields of one name share a map.
-#[derive(Debug, Drop, PartialEq, Serialize, Deserialize)]
+#[derive(Drop, Serialize, Deserialize)]
 pub struct Twice {
     pub a: u8,
     #[serde(flatten)]
     pub rest: Again,
 }
 
-#[derive(Debug, Drop, PartialEq, Serialize, Deserialize)]
+#[derive(Drop, Serialize, Deserialize)]
 pub struct Again {
     pub a: u8,
 }

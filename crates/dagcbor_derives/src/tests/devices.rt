@@ -1,11 +1,11 @@
 //! Values to devices and from sources.
 
 use super::{RECORD, agree, is_told, link, text};
-use crate::types::{Either, Record};
+use crate::types::Record;
 use dagcbor_heads::{DecodeError, EncodeError};
 use dagcbor_serde::{
-    DeviceError, Error, WriteError, block_from_reader, block_from_reader_once, from_reader,
-    from_reader_once, to_writer,
+    DeviceError, Error, Link, WriteError, block_from_reader, block_from_reader_once, from_reader,
+    from_reader_once, to_vec, to_writer,
 };
 use std::alloc::Global;
 use std::io;
@@ -107,17 +107,12 @@ fn sources_are_read(rt: HostRuntime) -> Result<(), Fail> {
         rest: RECORD,
         fault: None,
     };
-    agree(&from_reader::<Record, _>(alloc, source)?, &record(alloc)?)?;
+    let read: Record = from_reader(alloc, source)?;
+    agree(to_vec(alloc, &read)?.as_slice(), RECORD)?;
     agree(block_from_reader(alloc, RECORD)?.as_slice(), RECORD)?;
     let mut three = b"\x07\xd8\x2a\x45\x00\x01\x55\x00\x00\x61t".as_slice();
-    agree(
-        &from_reader_once::<Either, _>(alloc, &mut three)?,
-        &Either::Number(7),
-    )?;
-    agree(
-        &from_reader_once::<Either, _>(alloc, &mut three)?,
-        &Either::Pinned(link()?),
-    )?;
+    agree(from_reader_once::<u8, _>(alloc, &mut three)?, 7)?;
+    agree(from_reader_once::<Link, _>(alloc, &mut three)?, link()?)?;
     agree(
         block_from_reader_once(alloc, &mut three)?.as_slice(),
         b"\x61t".as_slice(),
@@ -137,7 +132,7 @@ fn sources_are_refused(rt: HostRuntime) -> Result<(), Fail> {
             Err(Error::NoBlock(DecodeError::Read(fault))) => {
                 agree(fault.kind(), ErrorKind::ConnectionReset)?;
             }
-            other => return Err(Fail::new(format_args!("{other:?}"))),
+            _ => return Err(Fail::new("no fault of the source")),
         }
     }
     is_told(

@@ -7,7 +7,7 @@ use serde::{Deserialize, Serialize};
 use std::collections::BTreeMap;
 
 /// Any data in each place that a field has for it.
-#[derive(Debug, Drop, PartialEq, Serialize, Deserialize)]
+#[derive(Drop, Serialize, Deserialize)]
 pub struct Envelope {
     pub body: Any,
     pub next: Option<Link>,
@@ -23,7 +23,7 @@ pub struct Envelope {
 }
 
 /// Any data beside fields that share its map.
-#[derive(Debug, Drop, PartialEq, Serialize, Deserialize)]
+#[derive(Drop, Serialize, Deserialize)]
 pub struct Shared {
     pub body: Any,
     #[serde(flatten)]

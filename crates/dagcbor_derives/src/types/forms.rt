@@ -4,23 +4,23 @@ use dagcbor_serde::{ByteBuf, Link};
 use serde::{Deserialize, Serialize};
 use std::collections::BTreeMap;
 
-#[derive(Debug, Drop, PartialEq, Serialize, Deserialize)]
+#[derive(Drop, Serialize, Deserialize)]
 pub struct Unit;
 
-#[derive(Debug, Drop, PartialEq, Serialize, Deserialize)]
+#[derive(Drop, Serialize, Deserialize)]
 pub struct Metres(pub u16);
 
-#[derive(Debug, Drop, PartialEq, Serialize, Deserialize)]
+#[derive(Drop, Serialize, Deserialize)]
 pub struct Point(pub i8, pub i8);
 
-#[derive(Debug, Drop, PartialEq, Serialize, Deserialize)]
+#[derive(Drop, Serialize, Deserialize)]
 #[serde(transparent)]
 pub struct Wrapper {
     pub inner: Point,
 }
 
 /// Fields under other names, left out, or made.
-#[derive(Debug, Drop, PartialEq, Serialize, Deserialize)]
+#[derive(Drop, Serialize, Deserialize)]
 #[serde(rename_all = "SCREAMING-KEBAB-CASE", deny_unknown_fields)]
 pub struct Renamed {
     pub first_name: u8,
@@ -42,14 +42,14 @@ fn seven() -> u8 {
     7
 }
 
-#[derive(Debug, Drop, PartialEq, Eq, PartialOrd, Ord, Serialize, Deserialize)]
+#[derive(Drop, PartialEq, Eq, PartialOrd, Ord, Serialize, Deserialize)]
 pub enum Side {
     Left,
     Right,
 }
 
 /// Told by a field beside the data.
-#[derive(Debug, Drop, PartialEq, Serialize, Deserialize)]
+#[derive(Drop, Serialize, Deserialize)]
 #[serde(tag = "t", content = "c")]
 pub enum Adjacent {
     Unit,
@@ -59,7 +59,7 @@ pub enum Adjacent {
 }
 
 /// Told by a field among the data, with a newtype of a struct.
-#[derive(Debug, Drop, PartialEq, Serialize, Deserialize)]
+#[derive(Drop, Serialize, Deserialize)]
 #[serde(tag = "type")]
 pub enum Tagged {
     Empty,
@@ -69,13 +69,13 @@ pub enum Tagged {
     Unknown,
 }
 
-#[derive(Debug, Drop, PartialEq, Serialize, Deserialize)]
+#[derive(Drop, Serialize, Deserialize)]
 pub struct Plain {
     pub b: u8,
 }
 
 /// Fields of variants under other names.
-#[derive(Debug, Drop, PartialEq, Serialize, Deserialize)]
+#[derive(Drop, Serialize, Deserialize)]
 #[serde(rename_all = "snake_case", rename_all_fields = "camelCase")]
 pub enum Cased {
     TurnLeft { by_degrees: u16 },
@@ -83,7 +83,7 @@ pub enum Cased {
 }
 
 /// Written and read through another type.
-#[derive(Clone, Copy, Debug, Drop, PartialEq, Serialize, Deserialize)]
+#[derive(Clone, Copy, Drop, Serialize, Deserialize)]
 #[serde(from = "u8", into = "u8")]
 pub struct Level {
     pub height: u8,
@@ -102,7 +102,7 @@ impl From<Level> for u8 {
 }
 
 /// Even numbers alone.
-#[derive(Debug, Drop, PartialEq, Serialize, Deserialize)]
+#[derive(Drop, Serialize, Deserialize)]
 #[serde(try_from = "u8", transparent)]
 pub struct Even(pub u8);
 
@@ -119,7 +119,7 @@ impl TryFrom<u8> for Even {
 }
 
 /// Maps that share one map.
-#[derive(Debug, Drop, PartialEq, Serialize, Deserialize)]
+#[derive(Drop, Serialize, Deserialize)]
 pub struct Flat {
     #[serde(flatten)]
     pub tagged: Tagged,
@@ -129,23 +129,23 @@ pub struct Flat {
 }
 
 /// A link among the fields of a variant, and bytes that are none.
-#[derive(Debug, Drop, PartialEq, Serialize, Deserialize)]
+#[derive(Drop, Serialize, Deserialize)]
 #[serde(tag = "type")]
 pub enum Pinned {
     Cid { cid: Link },
 }
 
-#[derive(Debug, Drop, PartialEq, Serialize, Deserialize)]
+#[derive(Drop, Serialize, Deserialize)]
 #[serde(untagged)]
 pub enum BytesAlone {
     Some(Octets),
 }
 
-#[derive(Debug, Drop, PartialEq, Serialize, Deserialize)]
+#[derive(Drop, Serialize, Deserialize)]
 pub struct Octets(pub ByteBuf);
 
 /// What std has.
-#[derive(Debug, Drop, PartialEq, Serialize, Deserialize)]
+#[derive(Drop, Serialize, Deserialize)]
 pub struct Holders {
     pub pair: (u8, bool),
     pub three: [u8; 3],

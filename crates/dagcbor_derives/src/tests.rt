@@ -4,6 +4,7 @@
 mod data;
 mod devices;
 mod forms;
+mod note;
 
 use crate::types::{Command, Either, Inner, Node, Outer, Parcel, Record, Shape, Slash, SlashEnum};
 use dagcbor_serde::{ByteBuf, Link, from_slice, from_slice_owned, to_vec};

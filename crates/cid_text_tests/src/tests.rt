@@ -6,7 +6,7 @@ use ipld_tree::{Cid, CidError};
 use std::test::Fail;
 
 /// A text, the binary form of its CID, and how that is written.
-const ROWS: [(&[u8], &[u8], &[u8]); 12] = [
+const ROWS: &[(&[u8], &[u8], &[u8])] = &[
     (
         b"QmUNLLsPACCz1vLxQVkXqqLX5R1X345qqfHbsf67hvA3Nn",
         b"\x12\x20\x59\x94\x84\x39\x06\x5f\x29\x61\x9e\xf4\x12\x80\xcb\xb9\x32\xbe\x52\xc5\x6d\x99\xc5\x96\x6b\x65\xe0\x11\x12\x39\xf0\x98\xbb\xef",
@@ -65,7 +65,7 @@ const ROWS: [(&[u8], &[u8], &[u8]); 12] = [
     ),
 ];
 
-const REFUSED: [(&[u8], CidTextError); 21] = [
+const REFUSED: &[(&[u8], CidTextError)] = &[
     (b"", CidTextError::UnknownBase),
     (b"mAXASIA", CidTextError::UnknownBase),
     (b"0", CidTextError::UnknownBase),
@@ -115,9 +115,9 @@ fn texts_are_read_and_written(rt: HostRuntime) -> Result<(), Fail> {
     let alloc = rt.alloc();
     for (text, form, written) in ROWS {
         let cid = cid_from_text(text)?;
-        assert_eq!(rt; cid.to_bytes(alloc)?.as_slice(), form);
-        assert_eq!(rt; cid, Cid::try_from(form)?);
-        assert_eq!(rt; cid_text(&cid).as_slice(), written);
+        assert_eq!(rt; cid.to_bytes(alloc)?.as_slice(), *form);
+        assert_eq!(rt; cid, Cid::try_from(*form)?);
+        assert_eq!(rt; cid_text(&cid).as_slice(), *written);
     }
     Ok(())
 }
@@ -125,7 +125,7 @@ fn texts_are_read_and_written(rt: HostRuntime) -> Result<(), Fail> {
 #[test]
 fn other_texts_are_refused(rt: HostRuntime) -> Result<(), Fail> {
     for (text, error) in REFUSED {
-        assert_eq!(rt; cid_from_text(text), Err(error));
+        assert_eq!(rt; cid_from_text(text), Err(*error));
     }
     Ok(())
 }

@@ -263,7 +263,7 @@ fn what_has_no_spelling_is_refused(rt: HostRuntime) -> Result<(), Fail> {
 #[test]
 fn what_no_type_accepts_is_refused(rt: HostRuntime) -> Result<(), Fail> {
     let alloc = rt.alloc();
-    let rows: [(&[u8], &str); 8] = [
+    let rows: &[(&[u8], &str)] = &[
         (
             b"\x18\x17",
             r#"NoBlock(NonMinimal { name: "u64", found: 24 })"#,

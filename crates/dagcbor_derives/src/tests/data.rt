@@ -76,13 +76,14 @@ fn any_data_goes_through_json(rt: HostRuntime) -> Result<(), Fail> {
     let bytes =
         b"\xa2\x61\x61\xd8\x2a\x45\x00\x01\x55\x00\x00\x61\x62\x86\x01\x21\xf6\xf5\x61\x74\xa0";
     agree(to_vec(alloc, &read)?.as_slice(), bytes.as_slice())?;
-    for told in [
+    let rows: &[&str] = &[
         r#"{"/":"x"}"#,
         r#"{"/":[1,85,0]}"#,
         r#"{"/":[1,85,0,0],"a":1}"#,
-    ] {
+    ];
+    for told in rows {
         let read: Any = serde_json::from_str(alloc, told)?;
-        agree(serde_json::to_string(alloc, &read)?.as_str(), told)?;
+        agree(serde_json::to_string(alloc, &read)?.as_str(), *told)?;
     }
     let float = serde_json::from_str::<Any>(alloc, "1.5");
     agree(float.is_err(), true)
@@ -97,7 +98,7 @@ fn values_of_json_go_both_ways(rt: HostRuntime) -> Result<(), Fail> {
         r#"{"b":[1,-2,null,true,"t",{}],"aa":{"":[]}}"#,
     )?;
     goes_both_ways(alloc, &value, VALUE)?;
-    let rows: [(&[u8], &str); 2] = [
+    let rows: &[(&[u8], &str)] = &[
         (b"\x41\x01", "Misfit { cause: Invalid, at: 0 }"),
         (
             b"\xd8\x2a\x45\x00\x01\x55\x00\x00",

@@ -176,7 +176,7 @@ fn links_are_told_from_bytes(rt: HostRuntime) -> Result<(), Fail> {
 #[test]
 fn variants_that_are_none_are_refused(rt: HostRuntime) -> Result<(), Fail> {
     let alloc = rt.alloc();
-    let rows: [(&[u8], &str); 5] = [
+    let rows: &[(&[u8], &str)] = &[
         (b"\x65Arrow", "Misfit { cause: UnknownVariant, at: 6 }"),
         (
             b"\xa1\x65Arrow\x01",

@@ -31,7 +31,7 @@ fn tells_within<'de, T: Deserialize<'de> + Debug>(
 const TOO_DEEP: &str = r#"Err(DepthOverflow { name: "any" })"#;
 
 /// Items, whether they are read within one step or within none, and what an untyped read answers.
-const WITHIN: [(&[u8], bool, &str); 4] = [
+const WITHIN: &[(&[u8], bool, &str)] = &[
     (b"\x01", false, TOO_DEEP),
     (b"", false, TOO_DEEP),
     (b"\xf6", true, "Ok(Null)"),
@@ -42,7 +42,7 @@ const WITHIN: [(&[u8], bool, &str); 4] = [
 fn no_step_and_one(rt: HostRuntime) -> Result<(), Fail> {
     let alloc = rt.alloc();
     for (bytes, one_step, wanted) in WITHIN {
-        tells_within::<Ipld>(alloc, bytes, one_step, wanted)?;
+        tells_within::<Ipld>(alloc, bytes, *one_step, wanted)?;
     }
     tells_within::<u8>(alloc, b"\x01", false, "Ok(1)")?;
     tells_within::<Vec<u8>>(alloc, b"\x80", true, "Ok([])")?;

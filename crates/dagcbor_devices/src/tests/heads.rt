@@ -33,7 +33,7 @@ fn goes_both_ways(alloc: Global, major: u8, argument: u64, head: &[u8]) -> Resul
 }
 
 /// Major types, arguments and heads.
-const HEADS: [(u8, u64, &[u8]); 6] = [
+const HEADS: &[(u8, u64, &[u8])] = &[
     (0, 23, b"\x17"),
     (1, 299, b"\x39\x01\x2b"),
     (4, 3, b"\x83"),
@@ -45,7 +45,7 @@ const HEADS: [(u8, u64, &[u8]); 6] = [
 #[test]
 fn heads_both_ways(rt: HostRuntime) -> Result<(), Fail> {
     for (major, argument, head) in HEADS {
-        goes_both_ways(rt.alloc(), major.min(7), argument, head)?;
+        goes_both_ways(rt.alloc(), (*major).min(7), *argument, head)?;
     }
     Ok(())
 }

@@ -4,7 +4,7 @@ use dagcbor_testing::beginnings_are_cut;
 use std::test::Fail;
 
 /// Spellings whose beginnings no other test reads.
-const SPELLINGS: [&[u8]; 9] = [
+const SPELLINGS: &[&[u8]] = &[
     b"\x61\x00",
     b"\x64\xf0\x9f\x92\x94",
     b"\xa1\x65Other\x18\x2a",

@@ -19,7 +19,7 @@ fn twice(alloc: Global, bytes: &[u8]) -> Result<String, AllocError> {
 }
 
 /// What two items and the ends behind them are told as.
-const TWICE: [(&[u8], &str); 2] = [
+const TWICE: &[(&[u8], &str)] = &[
     (
         b"\x18\x17\x01",
         r#"(Err(NonMinimal { name: "u64", found: 24 }), Err(Failed)) (Err(Failed), Err(Failed))"#,
@@ -33,7 +33,7 @@ const TWICE: [(&[u8], &str); 2] = [
 #[test]
 fn a_refusal_lasts_and_trailing_data_changes_nothing(rt: HostRuntime) -> Result<(), Fail> {
     for (bytes, told) in TWICE {
-        agree(twice(rt.alloc(), bytes)?.as_str(), told)?;
+        agree(twice(rt.alloc(), bytes)?.as_str(), *told)?;
     }
     Ok(())
 }

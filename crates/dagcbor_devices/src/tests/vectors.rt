@@ -7,7 +7,7 @@ use std::alloc::{AllocError, Global};
 use std::test::Fail;
 
 /// Each is the spelling of a tree.
-const VECTORS: [&[u8]; 26] = [
+const VECTORS: &[&[u8]] = &[
     b"\x66\x66\x6f\x6f\x62\x61\x72",
     b"\x46\x66\x6f\x6f\x62\x61\x72",
     b"\x3b\xa5\xf7\x02\xb3\xa5\xf7\x02\xb3",
@@ -52,7 +52,7 @@ const VECTORS: [&[u8]; 26] = [
 ];
 
 /// Heads of long byte strings, and how many bytes follow.
-const LONG: [(&[u8], usize); 3] = [
+const LONG: &[(&[u8], usize)] = &[
     (b"\x59\x01\x00", 256),
     (b"\x5a\x00\x01\x00\x00", 65_536),
     (b"\x5a\x00\x01\x11\x70", 70_000),
@@ -74,7 +74,7 @@ fn all(alloc: Global) -> Result<Vec<Vec<u8>>, AllocError> {
         blocks.push(Vec::from_slice(alloc, vector)?)?;
     }
     for (head, length) in LONG {
-        blocks.push(long_block(alloc, head, length)?)?;
+        blocks.push(long_block(alloc, head, *length)?)?;
     }
     Ok(blocks)
 }

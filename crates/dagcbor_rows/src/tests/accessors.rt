@@ -115,7 +115,7 @@ fn variant(
 }
 
 /// A form, a variant of it, and what it and the end behind it are told as.
-const FORMS: [(Form, &[u8], &str); 3] = [
+const FORMS: &[(Form, &[u8], &str)] = &[
     (Form::Unit, b"\x61A", "(Ok((true, None)), Ok(()))"),
     (
         Form::Tuple,
@@ -127,7 +127,7 @@ const FORMS: [(Form, &[u8], &str); 3] = [
 
 #[test]
 fn variants(rt: HostRuntime) -> Result<(), Fail> {
-    for (form, bytes, told) in &FORMS {
+    for (form, bytes, told) in FORMS {
         let mut de = Deserializer::from_slice(bytes);
         let read = variant(rt.alloc(), form, &mut de);
         is_told(rt.alloc(), &(read, de.end()), told)?;

@@ -22,7 +22,7 @@ fn are_found(alloc: Global, block: &[u8], count: usize, wanted: &[u8]) -> Result
 }
 
 /// What is found in bytes: of the first item alone.
-const FOUND: [(&[u8], &str); 3] = [
+const FOUND: &[(&[u8], &str)] = &[
     (b"\x80", "Ok([])"),
     (b"\xf6\x00", "Ok([])"),
     (b"\x81", r#"Err(Eof { name: "any", expect: Small(1) })"#),

@@ -49,7 +49,7 @@ pub(crate) fn is_ended(
 
 /// The number of entries, where it is announced; the entries; what the map is answered; and what is
 /// written.
-const MAPS: [(Option<usize>, &[(&str, u8)], &str, &[u8]); 8] = [
+const MAPS: &[(Option<usize>, &[(&str, u8)], &str, &[u8])] = &[
     (
         None,
         &[("b", 1), ("a", 2)],
@@ -71,7 +71,7 @@ const REPEATED: &str = r#"Err(Msg("Map keys must be unique"))"#;
 fn keys_are_unique_in_any_order(rt: HostRuntime) -> Result<(), Fail> {
     let alloc = rt.alloc();
     for (len, entries, told, spelling) in MAPS {
-        is_ended(alloc, map_of_entries(alloc, len, entries), told, spelling)?;
+        is_ended(alloc, map_of_entries(alloc, *len, entries), told, spelling)?;
     }
     Ok(())
 }

@@ -5,7 +5,7 @@ use std::alloc::{AllocError, Global};
 use std::test::Fail;
 
 /// Widths, and the greatest and the least argument for which each is too wide.
-const TOO_WIDE: [(u8, &[u8]); 8] = [
+const TOO_WIDE: &[(u8, &[u8])] = &[
     (0x18, b"\x17"),
     (0x18, b"\x00"),
     (0x19, b"\x00\xff"),
@@ -32,7 +32,7 @@ fn refusal(alloc: Global, name: &str, first: u8) -> Result<String, AllocError> {
 /// Fails where a head of this major type, behind these bytes, is not refused in each width that is
 /// too wide.
 fn is_minimal(alloc: Global, before: &[u8], major: u8, name: &str) -> Result<(), Fail> {
-    for (width, argument) in &TOO_WIDE {
+    for (width, argument) in TOO_WIDE {
         let first = major | *width;
         let bytes = head(alloc, before, first, argument)?;
         is_refused(alloc, &bytes, &refusal(alloc, name, first)?)?;
@@ -41,7 +41,7 @@ fn is_minimal(alloc: Global, before: &[u8], major: u8, name: &str) -> Result<(),
 }
 
 /// What stands before a head, its major type, and the name under which it is refused.
-const MAJORS: [(&[u8], u8, &str); 7] = [
+const MAJORS: &[(&[u8], u8, &str)] = &[
     (b"", 0x00, "u64"),
     (b"", 0x20, "any"),
     (b"", 0x40, "bytes"),
@@ -54,7 +54,7 @@ const MAJORS: [(&[u8], u8, &str); 7] = [
 #[test]
 fn heads_are_shortest(rt: HostRuntime) -> Result<(), Fail> {
     for (before, major, name) in MAJORS {
-        is_minimal(rt.alloc(), before, major, name)?;
+        is_minimal(rt.alloc(), before, *major, name)?;
     }
     Ok(())
 }

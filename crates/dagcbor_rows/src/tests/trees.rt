@@ -53,14 +53,14 @@ fn trees_are_read_and_written(rt: HostRuntime) -> Result<(), Fail> {
 }
 
 /// Three languages, and what is said of them.
-pub(crate) const LANGUAGES: [(&str, [&str; 3]); 3] = [
-    ("python", ["powerful", "friendly", "open"]),
-    ("js", ["lightweight", "interpreted", "object-oriented"]),
-    ("rust", ["safe", "concurrent", "fast"]),
+pub(crate) const LANGUAGES: &[(&str, &[&str])] = &[
+    ("python", &["powerful", "friendly", "open"]),
+    ("js", &["lightweight", "interpreted", "object-oriented"]),
+    ("rust", &["safe", "concurrent", "fast"]),
 ];
 
 /// A list of texts.
-fn texts(alloc: Global, words: [&str; 3]) -> Result<Ipld, AllocError> {
+fn texts(alloc: Global, words: &[&str]) -> Result<Ipld, AllocError> {
     let mut items = Vec::new(alloc);
     for word in words {
         items.push(Ipld::String(String::from_str(alloc, word)?))?;
@@ -99,7 +99,7 @@ fn trees_go_both_ways(rt: HostRuntime) -> Result<(), Fail> {
 }
 
 /// Pieces, what follows 127 of them, and the kind of the whole.
-const WITHIN: [(&[u8], &[u8], &str); 3] = [
+const WITHIN: &[(&[u8], &[u8], &str)] = &[
     (b"\x81", b"\x80", "Ok(List)"),
     (b"\x81", b"\x00", "Ok(List)"),
     (b"\xa1\x60", b"\xa0", "Ok(Map)"),
@@ -118,7 +118,7 @@ fn what_is_within_the_steps_is_read(rt: HostRuntime) -> Result<(), Fail> {
 }
 
 /// Pieces, and what follows 128 of them.
-const BEYOND: [(&[u8], &[u8]); 4] = [
+const BEYOND: &[(&[u8], &[u8])] = &[
     (b"\x81", b"\x80"),
     (b"\x81", b"\x00"),
     (b"\x81", b""),

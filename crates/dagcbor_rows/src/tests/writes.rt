@@ -169,7 +169,7 @@ fn hashed(alloc: Global, keys: [&str; 2]) -> Result<HashMap<String, u8>, AllocEr
 }
 
 /// A list of texts.
-fn texts(alloc: Global, words: [&str; 3]) -> Result<Vec<String>, AllocError> {
+fn texts(alloc: Global, words: &[&str]) -> Result<Vec<String>, AllocError> {
     let mut list = Vec::new(alloc);
     for word in words {
         list.push(text(alloc, word)?)?;

@@ -22,7 +22,7 @@ fn tape_of(bytes: &[u8], tape: &mut [Token], needed: &mut usize) -> i32 {
 
 #[test]
 fn each_kind_has_its_number(rt: HostRuntime) -> Result<(), Fail> {
-    let rows: [(&[u8], i32); 9] = [
+    let rows: &[(&[u8], i32)] = &[
         (b"\xf6", 0),
         (b"\xf5", 1),
         (b"\x18\x18", 2),
@@ -34,14 +34,14 @@ fn each_kind_has_its_number(rt: HostRuntime) -> Result<(), Fail> {
         (b"\xd8\x2a\x45\x00\x01\x55\x00\x00", 7),
     ];
     for (block, code) in rows {
-        assert_eq!(rt; check(block), code);
+        assert_eq!(rt; check(block), *code);
     }
     Ok(())
 }
 
 #[test]
 fn each_refusal_has_its_number(rt: HostRuntime) -> Result<(), Fail> {
-    let rows: [(&[u8], i32); 9] = [
+    let rows: &[(&[u8], i32)] = &[
         (b"\xd8\x2a\x40", -1),
         (b"", -3),
         (b"\xa1\x01\x02", -4),
@@ -53,7 +53,7 @@ fn each_refusal_has_its_number(rt: HostRuntime) -> Result<(), Fail> {
         (b"\xa2\x61b\x01\x61a\x02", -17),
     ];
     for (block, code) in rows {
-        assert_eq!(rt; check(block), code);
+        assert_eq!(rt; check(block), *code);
     }
     Ok(())
 }
@@ -222,7 +222,7 @@ const SECTION: &[u8] =
 
 #[test]
 fn a_section_is_judged_and_placed(rt: HostRuntime) -> Result<(), Fail> {
-    let rows: [(&[u8], i32, [usize; 3]); 10] = [
+    let rows: &[(&[u8], i32, [usize; 3])] = &[
         (SECTION, 5, [1, 37, 41]),
         (b"\x06\x01\x71\x00\x01\x05\x05", 2, [1, 6, 7]),
         (b"\x09\x01\x71\x00\x02\x18\x05\x18\x05", -24, [99; 3]),
@@ -236,8 +236,8 @@ fn a_section_is_judged_and_placed(rt: HostRuntime) -> Result<(), Fail> {
     ];
     for (bytes, code, wanted) in rows {
         let mut places = [99; 3];
-        assert_eq!(rt; judge_section(bytes, &mut places), code);
-        assert_eq!(rt; places, wanted);
+        assert_eq!(rt; judge_section(bytes, &mut places), *code);
+        assert_eq!(rt; places, *wanted);
     }
     Ok(())
 }
@@ -284,7 +284,7 @@ fn a_text_has_its_cid(rt: HostRuntime) -> Result<(), Fail> {
 /// Where two stand, the first from the left is told, and that a text is too long before all.
 #[test]
 fn each_fault_of_a_text_has_its_number(rt: HostRuntime) -> Result<(), Fail> {
-    let rows: [(&[u8], i32); 11] = [
+    let rows: &[(&[u8], i32)] = &[
         (b"", -28),
         (b"F01", -28),
         (&[b'b'; 174], -29),
@@ -300,7 +300,7 @@ fn each_fault_of_a_text_has_its_number(rt: HostRuntime) -> Result<(), Fail> {
     for (text, code) in rows {
         let mut room = [0xee; 86];
         let mut needed = 99;
-        assert_eq!(rt; put_cid_of_text(text, &mut room, &mut needed), code);
+        assert_eq!(rt; put_cid_of_text(text, &mut room, &mut needed), *code);
         assert_eq!(rt; needed, 0);
         assert_eq!(rt; room, [0xee; 86]);
     }

@@ -14,7 +14,7 @@ const GOOD_LINES: &[u8] =
     b"bafyreic6rlmkazpohhul74xyu654gs4k37idb2uz6r7vurebasdi766kga ok list\nbafyreickxqyrg7hhhdm2z24kduovd4k4vvbmfmenzn7nc6pxg6qzjm2v44 ok list\nbafkreibme22gw2h7y2h7tg2fhqotaqjucnbc24deqo72b6mkl2egezxhvy not read\n";
 
 /// The lines of its root and of its sections.
-const GOOD_LISTED: [&[u8]; 4] = [
+const GOOD_LISTED: &[&[u8]] = &[
     b"root bafyreic6rlmkazpohhul74xyu654gs4k37idb2uz6r7vurebasdi766kga\n",
     b"bafyreic6rlmkazpohhul74xyu654gs4k37idb2uz6r7vurebasdi766kga 42\n",
     b"bafyreickxqyrg7hhhdm2z24kduovd4k4vvbmfmenzn7nc6pxg6qzjm2v44 4\n",
@@ -22,7 +22,7 @@ const GOOD_LISTED: [&[u8]; 4] = [
 ];
 
 /// The ends of the header and of the sections of `GOOD`. No link is open behind the second section.
-const ENDS: [usize; 4] = [59, 138, 179, 219];
+const ENDS: &[usize] = &[59, 138, 179, 219];
 
 /// A link twice that leads nowhere, keys out of order, other bytes, and another hash function.
 const MIXED: &[u8] =
@@ -69,8 +69,8 @@ pub fn run_word(alloc: Global, word: &str, bytes: &[u8]) -> Result<(u8, Vec<u8>,
 /// What `list` says of so many bytes of `GOOD`.
 fn good_listed(alloc: Global, end: usize) -> Result<Vec<u8>, Fail> {
     let mut listed = Vec::new(alloc);
-    for (place, line) in ENDS.into_iter().zip(GOOD_LISTED) {
-        if place <= end {
+    for (place, line) in ENDS.iter().zip(GOOD_LISTED) {
+        if *place <= end {
             listed.extend_from_slice(line)?;
         }
     }
@@ -83,14 +83,15 @@ fn good_listed(alloc: Global, end: usize) -> Result<Vec<u8>, Fail> {
 #[test]
 fn files_are_checked_and_listed(rt: HostRuntime) -> Result<(), Fail> {
     let alloc = rt.alloc();
-    for (word, file, status, lines) in [
+    let rows: &[(&str, &[u8], u8, &[u8])] = &[
         ("check", GOOD, 0, GOOD_LINES),
         ("check", MIXED, 1, MIXED_LINES),
         ("list", MIXED, 0, MIXED_LISTED),
-    ] {
+    ];
+    for (word, file, status, lines) in rows {
         let (ended, written, told) = run_word(alloc, word, file)?;
-        assert_eq!(rt; written.as_slice(), lines);
-        assert_eq!(rt; ended, status);
+        assert_eq!(rt; written.as_slice(), *lines);
+        assert_eq!(rt; ended, *status);
         assert!(rt; told.is_empty());
     }
     Ok(())
@@ -128,7 +129,7 @@ fn files_are_listed_up_to_the_cut(rt: HostRuntime) -> Result<(), Fail> {
 fn blocks_are_named_judged_and_shown(rt: HostRuntime) -> Result<(), Fail> {
     let alloc = rt.alloc();
     let numbers = b"\x83\x01\x02\x03".as_slice();
-    let rows: [(&str, &[u8], u8, &[u8]); 8] = [
+    let rows: &[(&str, &[u8], u8, &[u8])] = &[
         ("name", numbers, 0, NUMBERS_LINE),
         ("one", numbers, 0, b"ok list\n"),
         ("show", numbers, 0, b"[1,2,3]\n"),
@@ -145,8 +146,8 @@ fn blocks_are_named_judged_and_shown(rt: HostRuntime) -> Result<(), Fail> {
     ];
     for (word, bytes, status, lines) in rows {
         let (ended, written, _told) = run_word(alloc, word, bytes)?;
-        assert_eq!(rt; written.as_slice(), lines);
-        assert_eq!(rt; ended, status);
+        assert_eq!(rt; written.as_slice(), *lines);
+        assert_eq!(rt; ended, *status);
     }
     Ok(())
 }

@@ -55,7 +55,7 @@ fn a_reader_that_fails_ends_the_run(rt: HostRuntime) -> Result<(), Fail> {
     // An interrupted call is not made again.
     for fault in [ErrorKind::Other, ErrorKind::Interrupted] {
         // What an earlier fill ends is out, and no part of a line that none has ended.
-        let rows = [
+        let rows: &[(usize, usize, usize)] = &[
             (1, 1, 0),
             (1, 5, 0),
             (1, 6, 19),
@@ -66,11 +66,11 @@ fn a_reader_that_fails_ends_the_run(rt: HostRuntime) -> Result<(), Fail> {
         ];
         for (size, fill, written) in rows {
             let mut output = Vec::new(rt.alloc());
-            let mut input = Pieces::new(LINES, size, fill, fault);
+            let mut input = Pieces::new(LINES, *size, *fill, fault);
             let ended = run_check(rt.alloc(), &mut input, &mut output);
             assert!(rt; matches!(ended, Err(ToolError::Input)), "{size}, {fill}");
             assert!(rt; ANSWERS.starts_with(output.as_slice()), "{size}, {fill}");
-            assert_eq!(rt; output.len(), written, "{size}, {fill}");
+            assert_eq!(rt; output.len(), *written, "{size}, {fill}");
         }
     }
     Ok(())
@@ -107,7 +107,7 @@ fn run_words(
 #[test]
 fn words_pick_the_command(rt: HostRuntime) -> Result<(), Fail> {
     let alloc = rt.alloc();
-    let rows: [(&[&str], u8, &[u8], &[u8]); 6] = [
+    let rows: &[(&[&str], u8, &[u8], &[u8])] = &[
         (&["check"], 0, b"ok integer\n", b""),
         (&["links"], 0, b"none\n", b""),
         (&[], 2, b"", b"usage: dagcbor check|links\n"),
@@ -120,9 +120,9 @@ fn words_pick_the_command(rt: HostRuntime) -> Result<(), Fail> {
         let mut output = Vec::new(alloc);
         let mut errors = Vec::new(alloc);
         let ended = run_words(alloc, words, &mut input, &mut output, &mut errors)?;
-        assert_eq!(rt; ended, status);
-        assert_eq!(rt; output.as_slice(), written);
-        assert_eq!(rt; errors.as_slice(), told);
+        assert_eq!(rt; ended, *status);
+        assert_eq!(rt; output.as_slice(), *written);
+        assert_eq!(rt; errors.as_slice(), *told);
     }
     Ok(())
 }

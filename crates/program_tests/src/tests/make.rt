@@ -6,7 +6,7 @@ use std::alloc::Global;
 use std::test::Fail;
 
 /// Texts, and the blocks of their data.
-const MADE: [(&[u8], &[u8]); 15] = [
+const MADE: &[(&[u8], &[u8])] = &[
     (b"[1,2,3]", b"\x83\x01\x02\x03"),
     (
         b" { \"b\" : [ true , null ] ,\r\n\t\"a\" : -0 } ",
@@ -49,7 +49,7 @@ const MADE: [(&[u8], &[u8]); 15] = [
 ];
 
 /// Texts that are none, and what is told of them.
-const REFUSED: [(&[u8], &str); 31] = [
+const REFUSED: &[(&[u8], &str)] = &[
     (b"\"\xff\"", "refused NoText 1\n"),
     (b"", "refused NoJson 0\n"),
     (b"[1,]", "refused NoJson 3\n"),
@@ -97,7 +97,7 @@ fn texts_are_made_blocks(rt: HostRuntime) -> Result<(), Fail> {
     let alloc = rt.alloc();
     for (text, block) in MADE {
         let (ended, written, told) = run_word(alloc, "make", text)?;
-        assert_eq!(rt; written.as_slice(), block);
+        assert_eq!(rt; written.as_slice(), *block);
         assert_eq!(rt; ended, 0);
         assert!(rt; told.is_empty());
     }
@@ -136,23 +136,24 @@ fn lists_around(alloc: Global, count: usize, inner: &[u8]) -> Result<Vec<u8>, Fa
 fn lists_nest_so_deep(rt: HostRuntime) -> Result<(), Fail> {
     let alloc = rt.alloc();
     let bytes = b"{\"/\":{\"bytes\":\"AQ\"}}".as_slice();
-    for (count, inner, ended, line) in [
-        (128, b"".as_slice(), 0, "".as_bytes()),
-        (127, b"1".as_slice(), 0, b""),
-        (127, b"{}".as_slice(), 0, b""),
+    let rows: &[(usize, &[u8], u8, &[u8])] = &[
+        (128, b"", 0, b""),
+        (127, b"1", 0, b""),
+        (127, b"{}", 0, b""),
         (127, bytes, 0, b""),
-        (128, b"1".as_slice(), 1, b"refused TooDeep 128\n"),
-        (128, b"{}".as_slice(), 1, b"refused TooDeep 128\n"),
+        (128, b"1", 1, b"refused TooDeep 128\n"),
+        (128, b"{}", 1, b"refused TooDeep 128\n"),
         (128, bytes, 1, b"refused TooDeep 128\n"),
-        (129, b"".as_slice(), 1, b"refused TooDeep 128\n"),
-        (130, b"".as_slice(), 1, b"refused TooDeep 128\n"),
-        (200, b"".as_slice(), 1, b"refused TooDeep 128\n"),
-    ] {
-        let text = lists_around(alloc, count, inner)?;
+        (129, b"", 1, b"refused TooDeep 128\n"),
+        (130, b"", 1, b"refused TooDeep 128\n"),
+        (200, b"", 1, b"refused TooDeep 128\n"),
+    ];
+    for (count, inner, ended, line) in rows {
+        let text = lists_around(alloc, *count, inner)?;
         let (status, written, told) = run_word(alloc, "make", &text)?;
-        assert_eq!(rt; told.as_slice(), line);
-        assert_eq!(rt; status, ended);
-        assert_eq!(rt; written.is_empty(), ended == 1);
+        assert_eq!(rt; told.as_slice(), *line);
+        assert_eq!(rt; status, *ended);
+        assert_eq!(rt; written.is_empty(), *ended == 1);
     }
     Ok(())
 }
@@ -160,13 +161,14 @@ fn lists_nest_so_deep(rt: HostRuntime) -> Result<(), Fail> {
 #[test]
 fn data_that_looks_like_a_link_is_told(rt: HostRuntime) -> Result<(), Fail> {
     let alloc = rt.alloc();
-    for (block, line) in [
-        (b"\xa1\x61/\x01".as_slice(), b"{\"/\":1}\n".as_slice()),
+    let rows: &[(&[u8], &[u8])] = &[
+        (b"\xa1\x61/\x01", b"{\"/\":1}\n"),
         (b"\x81\xa2\x61/\xf6\x61a\xa0", b"[{\"/\":null,\"a\":{}}]\n"),
         (b"\xa1\x61a\xa1\x61/\x61x", b"{\"a\":{\"/\":\"x\"}}\n"),
-    ] {
+    ];
+    for (block, line) in rows {
         let (ended, written, told) = run_word(alloc, "show", block)?;
-        assert_eq!(rt; written.as_slice(), line);
+        assert_eq!(rt; written.as_slice(), *line);
         assert_eq!(rt; ended, 0);
         assert_eq!(rt;
             told.as_slice(),

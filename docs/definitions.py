@@ -2,7 +2,7 @@
 """The definitions that each sentence of the claim stands on, in the order in which to read them.
 
     docs/definitions.py          prints the lists
-    docs/definitions.py page     puts them into docs/PROVED.md
+    docs/definitions.py page     puts how many they are, and their files, into docs/PROVED.md
     docs/definitions.py check    fails where the page has others
 
 It begins at the contracts of the calls that a sentence names, and follows each name to its definition in specs/. Names of
@@ -138,10 +138,6 @@ def contract_words(call):
                 yield WORD.findall(match.group(1)), imports, match.group(0).count("\n") + 1
 
 
-def counted(number, word):
-    return f"{number} {word}" + ("" if number == 1 else "s")
-
-
 def rows(keys, found):
     """A row for each run of definitions of one file."""
     runs = []
@@ -154,9 +150,9 @@ def rows(keys, found):
     return [f"| {place} | {', '.join(names)} | {lines} |" for place, names, lines in runs]
 
 
-def tables():
-    """The page's part."""
-    found, out, total = {}, [], 0
+def lists():
+    """Of each sentence its new definitions, how many lines they have, and how many ghost lines stand beside code, and where."""
+    found = {}
     for sentence, calls in SENTENCES:
         before, ghosts = set(found), 0
         for call in calls:
@@ -164,20 +160,40 @@ def tables():
                 ghosts += lines
                 reach(words, imports, None, found)
         new = [key for key in found if key not in before]
-        lines = sum(found[key] for key in new)
-        total += lines + ghosts
-        said = f"{counted(len(new), 'definition')}, {counted(lines, 'line')}"
-        if ghosts:
-            said += f"; and {ghosts} ghost lines in `{calls[0].split()[0].rpartition('/')[0]}`"
+        beside = f"{ghosts} ghost lines in `{calls[0].split()[0].rpartition('/')[0]}`" if ghosts else ""
+        yield sentence, new, found, beside
+
+
+def printed():
+    """The lists, whole."""
+    for sentence, new, found, beside in lists():
         table = ["| File | Definitions, in their order | Lines |", "|---|---|---|", *rows(new, found)]
-        out += [f"### {sentence}", "", f"{said}.", "", *table, ""]
-    out.append(f"In all {len(found)} definitions, {total} lines.")
-    return "\n".join(out)
+        yield from [f"### {sentence}", "", *table, "", *([beside, ""] if beside else [])]
+
+
+def files_of(keys):
+    """The files of the definitions, by crate, each where its first definition comes."""
+    crates = {}
+    for crate, file, _ in keys:
+        crates.setdefault(crate, {})[file] = None
+    return "; ".join(f"`{crate}`: {', '.join(files)}" for crate, files in crates.items())
+
+
+def page():
+    """The page's part."""
+    out = ["| Sentence | Definitions | Lines | In `specs/` of |", "|---|---|---|---|"]
+    total, count = 0, 0
+    for sentence, new, found, beside in lists():
+        lines = sum(found[key] for key in new)
+        ghosts = int(beside.split()[0]) if beside else 0
+        total, count = total + lines + ghosts, count + len(new)
+        out.append(f"| {sentence} | {len(new)} | {lines} | {files_of(new)}{f'; and {beside}' if beside else ''} |")
+    return "\n".join([*out, "", f"In all {count} definitions, {total} lines."])
 
 
 def main(words):
     text = PAGE.read_text(encoding="utf-8")
-    made = f"{BEGIN}\n\n{tables()}\n\n{END}"
+    made = f"{BEGIN}\n\n{page()}\n\n{END}"
     if words == ["page"]:
         before, _, rest = text.partition(BEGIN)
         PAGE.write_text(before + made + rest.partition(END)[2], encoding="utf-8")
@@ -185,7 +201,7 @@ def main(words):
         if made not in text:
             sys.exit("docs/PROVED.md: the lists of definitions are not those of specs/: run docs/definitions.py page")
     else:
-        print(tables())
+        print(*printed(), sep="\n")
 
 
 if __name__ == "__main__":

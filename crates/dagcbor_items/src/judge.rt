@@ -9,6 +9,8 @@ ghost use Rattle.std.specs.List.{list_all};
 ghost use Rattle.std.specs.Char.{is_ascii};
 ghost use Rattle.dagcbor_heads.specs.Splits.{SplitsHead};
 ghost use Rattle.ipld_tree.specs.Cid.{IsCid};
+ghost use Rattle.ipld_tree.specs.Tree.{link};
+ghost use Rattle.ipld_tree.specs.Spelling.{IsFront};
 ghost use Rattle.dagcbor_items.specs.Places.{Follows};
 ghost use Rattle.dagcbor_items.specs.Judging.{SplitsPayload, SplitsText, SplitsKey, SplitsKeyAfter};
 ghost use Rattle.dagcbor_items.specs.Judging.{SplitsCid, SplitsLeaf, SplitsItem, SplitsItems};
@@ -184,6 +186,19 @@ fn behind_tag(number: u64, bytes: &[u8]) -> Option<&[u8]>
         return None;
     }
     behind_cid(bytes)
+}
+
+/// The bytes behind the link at the front, where one stands.
+pub fn behind_link(bytes: &[u8]) -> Option<&[u8]>
+    ensures { MatchOption result
+        (¬ ((cid : List ℕ) × (rest : List ℕ) × IsFront bytes.now (link cid) rest))
+        (λ rest. (cid : List ℕ) × IsFront bytes.now (link cid) rest.now) }
+{
+    let (major, number, behind) = split_head(bytes)?;
+    if major != 6 {
+        return None;
+    }
+    behind_tag(number, behind)
 }
 
 /// The bytes behind a simple value, where it is one of data: false, true or null.

@@ -83,7 +83,7 @@ export class Bytes {
       element.classList.add(isKey[token] ? 'k-key' : KIND_CLASS[kind[token]]);
       if (at < place[token]) element.classList.add('is-head');
     }
-    if (isHex) withAttributes(element, { id: `byte-${at}`, role: 'option', 'aria-selected': at === this.cursor });
+    if (isHex) withAttributes(element, { id: `byte-${at}`, role: 'option', 'aria-selected': at === this.cursor, 'aria-label': `${text}, byte ${at}` });
     this.dress(element, at);
     return element;
   }

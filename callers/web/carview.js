@@ -16,10 +16,11 @@ export class CarView {
     Object.assign(this, { asker, file, header, open });
     this.sections = new Sections();
     this.group = 'all';
+    this.filtered = 0;
     walks += 1;
     this.number = walks;
     this.element = make('article.car', this.summary(), this.rootList(), this.filters(), this.table(), this.missingList());
-    this.tell(header.end);
+    this.tell(header.behind);
     this.walk();
   }
 
@@ -31,12 +32,13 @@ export class CarView {
 
   summary() {
     this.banner = make('div.banner.is-note');
-    this.title = withAttributes(make('h2'), { 'aria-live': 'polite' });
+    this.title = make('span');
     this.said = make('p');
     this.bar = withAttributes(make('progress'), { max: 1, 'aria-label': 'Read of the file' });
     this.stop = button('Stop', () => this.end(), '.quiet');
     this.progress = make('div.progress', this.bar, this.stop);
-    this.banner.append(this.title, this.said, this.progress);
+    this.mark = withAttributes(make('span.mark', '…'), { 'aria-hidden': true });
+    this.banner.append(withAttributes(make('h2', this.mark, this.title), { 'aria-live': 'polite' }), this.said, this.progress);
     return this.banner;
   }
 
@@ -59,6 +61,7 @@ export class CarView {
     const wrong = counts.refused + counts.bytes + counts.unknown;
     const isWell = !fault && !wrong && !missing.length;
     this.banner.classList.replace('is-note', isWell ? 'is-good' : 'is-bad');
+    this.mark.textContent = isWell ? '✓' : '✕';
     this.progress.remove();
     const all = `${counted(counts.all, 'section')} in ${sizeOf(this.file.size)}, with ${counted(links, 'link')}.`;
     if (isWell) {
@@ -107,14 +110,21 @@ export class CarView {
       clearTimeout(this.later);
       this.later = setTimeout(() => this.filter(), 200);
     });
-    return make('div.filters', ...this.chips.map((it) => it[3]), this.search);
+    this.shown = withAttributes(make('span.hint'), { role: 'status' });
+    return make('div.filters', ...this.chips.map((it) => it[3]), this.shown, this.search);
   }
 
-  filter() {
+  async filter() {
     for (const [name, , , chip] of this.chips) chip.setAttribute('aria-pressed', name === this.group);
+    this.filtered += 1;
+    const mine = this.filtered;
     const part = this.search.value.trim();
-    this.grid.choose(this.group === 'all' && !part ? null : this.sections.chosen(this.group, part));
+    const isAll = this.group === 'all' && !part;
+    const chosen = isAll ? null : await this.sections.chosen(this.group, part, () => mine === this.filtered);
+    if (mine !== this.filtered) return;
+    this.grid.choose(chosen);
     this.none.hidden = this.grid.length > 0;
+    this.shown.textContent = isAll ? '' : `${counted(this.grid.length, 'section')} shown`;
   }
 
   table() {

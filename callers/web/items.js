@@ -1,6 +1,6 @@
 // The items of a block in words and short text.
 
-import { NULL, BOOL, INTEGER, TEXT, BYTES, LIST, MAP, LINK, NEGATIVE } from './library.js';
+import { NULL, BOOL, INTEGER, TEXT, BYTES, LIST, MAP, LINK, NEGATIVE } from './kinds.js';
 import { FAULT, payloadOf } from './shape.js';
 import { cidText } from './cid.js';
 import { counted, fromUtf8, quoted, toHex } from './text.js';
@@ -95,6 +95,16 @@ export class Items {
       case LINK: return cidText(this.payload(i));
       default: return 'refused here';
     }
+  }
+
+  // In one line that is read out: its key or index, its kind, and what it is.
+  told(i) {
+    const key = this.keyOf(i);
+    const isHeld = this.shape.parent[i] >= 0 && !this.shape.isKey[i];
+    const label = key >= 0 ? `${this.shortText(key)}: ` : isHeld ? `${this.shape.order[i]}: ` : '';
+    if (this.isHolder(i)) return `${label}${this.kindName(i)} of ${this.announced(i)}`;
+    const isPlain = [NULL, BOOL, FAULT].includes(this.kind(i));
+    return `${label}${isPlain ? '' : `${this.kindName(i)} `}${this.short(i)}`;
   }
 
   shortText(i) {

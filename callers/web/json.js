@@ -1,6 +1,6 @@
 // DAG-JSON of a block, from its tokens. Keys come in the block's order, integers whole.
 
-import { NULL, BOOL, INTEGER, TEXT, BYTES, LIST, MAP, LINK, NEGATIVE } from './library.js';
+import { NULL, BOOL, INTEGER, TEXT, BYTES, LIST, MAP, LINK, NEGATIVE } from './kinds.js';
 import { cidText } from './cid.js';
 import { fromUtf8, jsonText, toBase64 } from './text.js';
 

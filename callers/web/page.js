@@ -1,10 +1,11 @@
 // The page: what is given, what is shown, and the way back.
 
 import { Asker } from './asking.js';
-import { BlockView, spelled } from './blockview.js';
+import { BlockView } from './blockview.js';
 import { CarView } from './carview.js';
 import { cidText } from './cid.js';
 import { button, make } from './dom.js';
+import { spelled } from './editor.js';
 import { EXAMPLES } from './examples.js';
 import { fromText, sizeOf } from './text.js';
 
@@ -16,6 +17,8 @@ const views = []; // from the first that was opened to the one that is shown
 
 // What is shown.
 
+const TITLE = document.title;
+
 const short = (text) => (text.length > 24 ? `${text.slice(0, 10)}…${text.slice(-6)}` : text);
 
 const show = () => {
@@ -24,9 +27,9 @@ const show = () => {
   at('result').replaceChildren(...(view ? [view.element] : []));
   at('crumbs').replaceChildren(...views.map(crumb));
   at('crumbs').hidden = !views.length;
+  document.title = view ? `${view.title} – ${TITLE}` : TITLE;
   view?.afterShown?.();
-  const title = view?.element.querySelector('h2');
-  if (!title) return;
+  const title = view?.element.querySelector('h2') ?? at('begin');
   title.tabIndex = -1; // so that it is read out, and the keyboard goes on from here
   title.focus({ preventScroll: true });
 };
@@ -77,6 +80,8 @@ const say = (text) => {
 
 // What is given.
 
+const NO_HEADER = 'By its name this is a file of blocks (CAR), but it does not begin with the header of one: it was judged as one block.';
+
 const blockView = async (file, title, more = {}) => {
   if (file.size > MOST_BLOCK) throw new Error(`${sizeOf(file.size)} are too many for one block here: at most ${sizeOf(MOST_BLOCK)}.`);
   const judged = await asker.ask('judge', { file });
@@ -125,7 +130,8 @@ const openFile = async (file, title) => {
       begin({ title: inner ? `inside ${title}` : title, element: car.element, car, afterShown: () => car.afterShown(), leave: () => car.leave() });
       return;
     }
-    const view = await blockView(file, title);
+    const note = /\.car$/i.test(title) ? NO_HEADER : undefined;
+    const view = await blockView(file, title, { note });
     if (mine === opened) begin(view);
   } catch (error) {
     say(`${title}: ${error.message}`);
@@ -142,7 +148,7 @@ const openText = async (text) => {
   }
   if (/^[{["]/.test(trimmed)) {
     try {
-      const bytes = await spelled(asker, trimmed);
+      const { bytes } = await spelled(asker, trimmed);
       await openFile(new Blob([bytes]), 'from DAG-JSON');
     } catch (error) {
       say(`DAG-JSON. ${error.message}`);
@@ -169,11 +175,7 @@ const start = () => {
     if (file) openFile(file, file.name);
     chooser.value = '';
   });
-  at('again').addEventListener('click', () => {
-    document.body.classList.remove('is-showing');
-    window.scrollTo(0, 0);
-    area.focus();
-  });
+  at('again').addEventListener('click', () => goTo(0));
   document.addEventListener('dragover', (event) => {
     event.preventDefault();
     drop.classList.add('is-over');
@@ -188,11 +190,10 @@ const start = () => {
     if (file) openFile(file, file.name);
     else if (event.dataTransfer.getData('text')) openText(event.dataTransfer.getData('text'));
   });
-  for (const [title, text] of EXAMPLES) {
-    at('examples').append(make('li', button(title, () => {
-      area.value = text;
-      openText(text);
-    }, '.chip')));
+  for (const [title, what, text, name] of EXAMPLES) {
+    const card = button('', () => openFile(new Blob([fromText(text).bytes]), name), '.card');
+    card.append(make('b', title), make('span', what));
+    at('examples').append(make('li', card));
   }
   window.history.replaceState({ depth: 0 }, '');
   asker.ready.then(

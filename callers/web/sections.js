@@ -7,6 +7,7 @@ import { Rows } from './rows.js';
 import { sectionOf } from './verdicts.js';
 
 const SECTION_HEIGHT = 32;
+const AT_ONCE = 5_000;
 
 export const GROUPS = [
   ['all', 'All', () => true],
@@ -60,16 +61,26 @@ export class Sections {
     return this.ends[i] - this.blocks[i];
   }
 
-  // Those of a group whose CID has this in its text.
-  chosen(group, part) {
+  // Those of a group whose CID has this in its text. It lets the page answer in between, and is null
+  // where it is no longer wanted.
+  async chosen(group, part, isWanted) {
     const [, , has] = GROUPS.find(([name]) => name === group);
     const found = [];
     for (let i = 0; i < this.count; i += 1) {
       if (has(this.codes[i]) && (!part || cidText(this.cids[i]).includes(part))) found.push(i);
+      if (i % AT_ONCE < AT_ONCE - 1) continue;
+      await new Promise((go) => { setTimeout(go); });
+      if (!isWanted()) return null;
     }
     return found;
   }
 }
+
+const CID_END = 8;
+
+// Its end is always shown, since those of one kind begin alike.
+const cidCell = (text) => make('span.cid', make('span.cid-front', text.slice(0, -CID_END)),
+  make('span.cid-end', text.slice(-CID_END)));
 
 const COLUMNS = ['#', 'Verdict', 'CID', 'Size', 'Offset'];
 
@@ -122,7 +133,7 @@ export class Table {
     const { word } = sectionOf(code);
     const verdict = make(`span.verdict.is-${groupOf(code)}`, make('span.dot'), word === 'other codec' ? cidParts(sections.cids[i]).codec : word);
     const cells = [
-      make('span.row-number', grouping(i + 1)), verdict, make('span.cid', cidText(sections.cids[i])),
+      make('span.row-number', grouping(i + 1)), verdict, cidCell(cidText(sections.cids[i])),
       make('span.size', sizeOf(sections.size(i))), make('span.place', grouping(sections.starts[i])),
     ];
     for (const it of cells) it.setAttribute('role', 'gridcell');

@@ -1,6 +1,6 @@
 // DAG-JSON as tokens, which the library spells and judges. Keys are put in the order of blocks.
 
-import { NULL, BOOL, INTEGER, TEXT, BYTES, LIST, MAP, LINK, NEGATIVE } from './library.js';
+import { NULL, BOOL, INTEGER, TEXT, BYTES, LIST, MAP, LINK, NEGATIVE } from './kinds.js';
 import { cidFrom } from './cid.js';
 import { fromBase64 } from './text.js';
 import { textFaultOf } from './verdicts.js';

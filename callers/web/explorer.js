@@ -1,0 +1,145 @@
+// A block's tree and bytes beside each other, of which either marks the other, and the picked item.
+
+import { BYTES, INTEGER, LINK, NEGATIVE, TEXT } from './kinds.js';
+import { FAULT, payloadOf, tokenAt } from './shape.js';
+import { counted, grouping, quoted, toBase64, toHex } from './text.js';
+import { button, copier, download, make, withAttributes } from './dom.js';
+import { Bytes } from './bytes.js';
+import { linkLine } from './links.js';
+import { Tree } from './tree.js';
+import { refusalOf } from './verdicts.js';
+
+const MOST_SHOWN = 4_000; // characters of a text or byte string that is picked
+
+export class Explorer {
+  // `block` has the bytes, and its items where it has a tree; `why` says why it has none.
+  constructor(block, { why, fault, name, follow, canFollow }) {
+    Object.assign(this, { block, fault, follow, canFollow });
+    this.shape = block.items?.shape ?? null;
+    this.picked = fault && this.shape ? this.shape.count - 1 : -1;
+    const bytes = this.bytesPane(name);
+    this.element = this.shape
+      ? make('div.panes', this.treePane(), bytes, this.detailsPane())
+      : make('div', make('p.hint', why), bytes);
+  }
+
+  treePane() {
+    const host = make('div.tree');
+    this.tree = new Tree(host, {
+      point: (token) => this.point(token),
+      pick: (token) => this.pick(token, 'tree'),
+      follow: this.follow,
+      canFollow: this.canFollow,
+    });
+    const title = make('h3', this.fault ? 'Tree, to the fault' : 'Tree');
+    const tools = make('div.tools', title, button('Unfold all', () => this.tree.openAll(), '.quiet'),
+      button('Fold all', () => this.tree.foldAll(), '.quiet'));
+    return make('section.pane', tools, host);
+  }
+
+  bytesPane(name) {
+    const { bytes } = this.block;
+    const host = make('div.bytes');
+    this.bytesView = new Bytes(host, {
+      point: (place) => this.point(place < 0 || !this.shape ? -1 : tokenAt(this.shape, place)),
+      pick: (place) => {
+        if (this.shape) this.pick(tokenAt(this.shape, place), 'bytes');
+      },
+    });
+    const tools = make('div.tools', make('h3', 'Bytes'),
+      copier('Copy the bytes in hexadecimal', () => toHex(bytes), 'Copy hex'),
+      withAttributes(button('Download', () => download(bytes, name), '.quiet'), { 'aria-label': 'Download the bytes' }));
+    return make('section.pane', tools, host);
+  }
+
+  detailsPane() {
+    this.details = withAttributes(make('div.details'), {
+      role: 'region', 'aria-live': 'polite', 'aria-label': 'The picked item',
+    });
+    this.details.append(make('p.hint', 'Point at an item or a byte to see the one in the other; pick it to see it whole. Arrow keys move.'));
+    return this.details;
+  }
+
+  // The page shows it: now sizes are known.
+  afterShown() {
+    if (!this.isShown) {
+      this.isShown = true;
+      this.bytesView.show(this.block.bytes, this.shape, this.fault);
+      this.tree?.show(this.block.items);
+    }
+    if (this.tree && this.picked >= 0) this.pick(this.picked, 'tree');
+  }
+
+  // The bytes of a token, with its key, and of all that it holds.
+  ranges(token) {
+    const { start, end } = this.shape;
+    const key = this.block.items.keyOf(token);
+    const first = key >= 0 ? key : token;
+    return { own: [start[first], start[token + 1]], around: [start[first], start[end[token]]] };
+  }
+
+  point(token) {
+    if (token === this.pointed) return;
+    this.pointed = token;
+    this.tree?.setPointed(token < 0 ? -1 : this.block.items.valueOf(token));
+    const shown = token < 0 ? this.picked : token;
+    if (shown < 0) this.bytesView.mark(null, null);
+    else this.bytesView.mark(...Object.values(this.ranges(shown)));
+  }
+
+  pick(token, by) {
+    if (token < 0) return;
+    this.picked = token;
+    this.tree.setPicked(this.block.items.valueOf(token));
+    const { own, around } = this.ranges(token);
+    this.bytesView.mark(own, around, by === 'tree');
+    this.tell(token);
+  }
+
+  tell(token) {
+    const { items } = this.block;
+    const kind = this.shape.kind[token];
+    const parts = [make('h3', items.kindName(token), ' ', make('bdi.path', items.path(token)))];
+    if (kind === FAULT) {
+      const { name, asks } = refusalOf(this.fault.code);
+      parts.push(make('p', make('code.name', name), ' ', asks));
+    } else parts.push(this.spread(token), ...this.value(token, kind));
+    this.details.replaceChildren(...parts);
+  }
+
+  // Where it stands, and of what it is made.
+  spread(token) {
+    const { start, end, place } = this.shape;
+    const { items, bytes } = this.block;
+    const from = start[token];
+    const head = toHex(bytes.subarray(from, place[token])).replace(/..(?=.)/g, '$& ');
+    const behind = payloadOf(this.shape, token);
+    const holds = items.isHolder(token) ? `, and ${items.announced(token)}` : behind ? `, and ${counted(behind, 'byte')}` : '';
+    const whole = counted(start[end[token]] - from, 'byte');
+    return make('p.hint', `${whole} from byte ${grouping(from)} (0x${from.toString(16)}) on: the head `, make('code', head), `${holds}.`);
+  }
+
+  value(token, kind) {
+    const { items } = this.block;
+    if (kind === TEXT) {
+      const text = items.text(token);
+      return [make('pre.whole', make('bdi', quoted(text, MOST_SHOWN))), copier('Copy the text', () => text, 'Copy text')];
+    }
+    if (kind === BYTES) return [octets(items.payload(token))];
+    if (kind === INTEGER || kind === NEGATIVE) {
+      const number = items.number(token);
+      const hex = `${number < 0n ? '-' : ''}0x${(number < 0n ? -number : number).toString(16)}`;
+      return [make('p', make('code.big', String(number)), ' ', make('span.hint', hex), ' ', copier('Copy the integer', () => String(number)))];
+    }
+    return kind === LINK ? [linkLine(items.payload(token), this)] : [];
+  }
+}
+
+// A byte string, in hexadecimal and in base64.
+const octets = (all) => {
+  const cut = all.subarray(0, MOST_SHOWN);
+  const dots = cut.length < all.length ? '…' : '';
+  const row = (title, spell, said) => make('div', make('dt', title),
+    make('dd', make('code', spell(cut) + dots), copier(said, () => spell(all))));
+  return make('dl.facts', row('Hex', toHex, 'Copy the bytes in hexadecimal'), row('Base64', toBase64, 'Copy the bytes in base64'));
+};

@@ -27,7 +27,9 @@ export class BlockView {
     this.items = this.shape && !this.isOtherCodec ? new Items(this.bytes, this.shape) : null;
     const tabs = new Tabs('Views of the block', this.parts());
     this.tabs = tabs;
-    this.element = make('article.block', note ? make('p.hint', note) : null, this.verdict(), this.facts(), tabs.bar, ...tabs.panels);
+    const told = note ? make('p.hint', note) : null;
+    const { bar, panels } = tabs;
+    this.element = make('article.block', told, this.verdict(), this.facts(), bar, ...panels);
   }
 
   get isBlock() {
@@ -38,9 +40,10 @@ export class BlockView {
 
   verdict() {
     if (this.isOtherCodec) {
-      const { codec } = cidParts(this.section.cid);
-      const how = this.section.code === OTHER_BYTES ? 'bad' : 'note';
-      return banner(how, how === 'bad' ? 'Not the block that is named' : `A block of another codec: ${codec}`, sectionOf(this.section.code).asks);
+      const { code, cid } = this.section;
+      const { asks } = sectionOf(code);
+      if (code === OTHER_BYTES) return banner('bad', 'Not the block that is named', asks);
+      return banner('note', `A block of another codec: ${cidParts(cid).codec}`, asks);
     }
     const other = this.isOther ? sectionOf(this.section.code).asks : '';
     if (this.isBlock) return this.verdictOfBlock(other);
@@ -65,10 +68,16 @@ export class BlockView {
 
   where() {
     const { place, bytes, fault } = this;
-    const parts = place === bytes.length
-      ? [`Read to the end, byte ${grouping(place)}; more is wanted there.`]
-      : [`At byte ${grouping(place)} (0x${place.toString(16)}), `, make('code.byte.is-fault', hexByte(bytes[place])), ': no block has it there, whatever follows.'];
-    if (fault.start < place) parts.push(` What is refused begins at byte ${grouping(fault.start)}.`);
+    const parts = [];
+    if (place === bytes.length) {
+      parts.push(`Read to the end, byte ${grouping(place)}; more is wanted there.`);
+    } else {
+      const byte = make('code.byte.is-fault', hexByte(bytes[place]));
+      parts.push(`At byte ${grouping(place)} (0x${place.toString(16)}), `, byte);
+      parts.push(': no block has it there, whatever follows.');
+    }
+    const { start } = fault;
+    if (start < place) parts.push(` What is refused begins at byte ${grouping(start)}.`);
     if (this.shape.count > 1) parts.push(' What stands before is shown below, to the fault.');
     return parts;
   }
@@ -85,12 +94,18 @@ export class BlockView {
 
   facts() {
     const list = make('dl.facts');
-    const put = (title, ...held) => list.append(make('div', make('dt', title), make('dd', ...held)));
-    const cid = (bytes) => [make('code.cid', cidText(bytes)), copier('Copy the CID', () => cidText(bytes))];
-    if (this.section) put('CID in the file', ...cid(this.section.cid));
-    const isSame = this.section && cidText(this.section.cid) === cidText(this.name);
-    if (!isSame && !this.isOtherCodec) put(this.section ? 'CID of these bytes' : 'CID', ...cid(this.name));
-    const { version, codec, hash } = cidParts(this.section?.cid ?? this.name);
+    const put = (title, ...held) => {
+      list.append(make('div', make('dt', title), make('dd', ...held)));
+    };
+    const cid = (bytes) => {
+      const text = cidText(bytes);
+      return [make('code.cid', text), copier('Copy the CID', () => text)];
+    };
+    const { section, name } = this;
+    if (section) put('CID in the file', ...cid(section.cid));
+    const isSame = section && cidText(section.cid) === cidText(name);
+    if (!isSame && !this.isOtherCodec) put(section ? 'CID of these bytes' : 'CID', ...cid(name));
+    const { version, codec, hash } = cidParts(section?.cid ?? name);
     put('The CID’s parts', `version ${version}, ${codec}, ${hash}`);
     put('Size', counted(this.bytes.length, 'byte'));
     return list;
@@ -103,9 +118,10 @@ export class BlockView {
     if (!this.isBlock || !this.items) return parts;
     const links = linksOf(this.shape);
     const { asker, items, canFollow, follow } = this;
+    const ways = { canFollow, follow, reach: (token) => this.reach(token) };
     return [
       ...parts,
-      [`Links ${grouping(links.length)}`, () => linkList(items, links, { canFollow, follow, reach: (token) => this.reach(token) })],
+      [`Links ${grouping(links.length)}`, () => linkList(items, links, ways)],
       ['DAG-JSON', () => jsonView(asker, this)],
       ['Edit', () => new Editor(asker, this, { open: this.edited }).element],
     ];
@@ -113,8 +129,10 @@ export class BlockView {
 
   explored() {
     const { canFollow, follow, fault } = this;
-    const why = this.isOtherCodec ? 'Only DAG-CBOR has a tree here.' : `${counted(this.count, 'item')}: too many for a tree here.`;
-    const name = `${cidText(this.section?.cid ?? this.name)}.${this.isOtherCodec ? 'bin' : 'dagcbor'}`;
+    const why = this.isOtherCodec ? 'Only DAG-CBOR has a tree here.'
+      : `${counted(this.count, 'item')}: too many for a tree here.`;
+    const suffix = this.isOtherCodec ? 'bin' : 'dagcbor';
+    const name = `${cidText(this.section?.cid ?? this.name)}.${suffix}`;
     this.explorer = new Explorer(this, { why, fault, name, follow, canFollow });
     return this.explorer.element;
   }

@@ -14,6 +14,13 @@ export const TOO_LONG = -100; // a section that this page does not read
 const read = async (file, from, length) =>
   new Uint8Array(await file.slice(from, from + length).arrayBuffer());
 
+// What is read ahead may not be waited for, and then nobody is told that it failed.
+const ahead = (file, from, length) => {
+  const coming = read(file, from, length);
+  coming.catch(() => {});
+  return coming;
+};
+
 // The roots, and where the first section begins: of the header that begins the file, or null.
 export const headerOf = async (library, file) => {
   for (let length = FIRST_HEADER; ; length *= 4) {
@@ -41,7 +48,7 @@ export const walk = async (library, file, header, { told, isStopped }) => {
   const names = new Names(header.roots);
   let [at, length] = [header.behind, WINDOW];
   const ended = (fault) => ({ fault, missing: fault ? [] : names.missing(), links: names.links });
-  let coming = read(file, at, length);
+  let coming = ahead(file, at, length);
   while (at < file.size && !isStopped()) {
     const bytes = await coming;
     const isLast = at + bytes.length >= file.size;
@@ -49,7 +56,7 @@ export const walk = async (library, file, header, { told, isStopped }) => {
     const behind = places[places.length - 1] ?? 0;
     const isCut = cause === CUT && !isLast;
     if (isCut) length = behind ? Math.min(length, MOST_KEPT) : 2 * length;
-    coming = read(file, at + behind, length); // meanwhile
+    coming = ahead(file, at + behind, length);
     told(batchOf(library, names, bytes, at, codes, places), at + behind);
     at += behind;
     if (cause && !isCut) return ended({ code: cause, at });
@@ -95,7 +102,8 @@ class Names {
   }
 
   take(library, code, cid, block) {
-    if (code === OTHER_BYTES || code === NOT_VERIFIED) return; // not the block that is named, or not known to be
+    // Not the block that is named, or not known to be.
+    if (code === OTHER_BYTES || code === NOT_VERIFIED) return;
     const key = cidKey(cid);
     this.held.add(key);
     this.wanted.delete(key);

@@ -6,6 +6,7 @@ import { counted, grouping, sizeOf } from './text.js';
 import { GROUPS, Sections, Table } from './sections.js';
 import { faultOf } from './verdicts.js';
 
+const ALL_WELL = 'Each block is the one that its CID names, and each link and root leads to one.';
 const MISSING_AT_ONCE = 100;
 const MOST_ROOTS = 20;
 
@@ -19,7 +20,8 @@ export class CarView {
     this.filtered = 0;
     walks += 1;
     this.number = walks;
-    this.element = make('article.car', this.summary(), this.rootList(), this.filters(), this.table(), this.missingList());
+    const parts = [this.summary(), this.rootList(), this.filters(), this.table()];
+    this.element = make('article.car', ...parts, this.missingList());
     this.tell(header.behind);
     this.walk();
   }
@@ -38,7 +40,8 @@ export class CarView {
     this.stop = button('Stop', () => this.end(), '.quiet');
     this.progress = make('div.progress', this.bar, this.stop);
     this.mark = withAttributes(make('span.mark', '…'), { 'aria-hidden': true });
-    this.banner.append(withAttributes(make('h2', this.mark, this.title), { 'aria-live': 'polite' }), this.said, this.progress);
+    const title = withAttributes(make('h2', this.mark, this.title), { 'aria-live': 'polite' });
+    this.banner.append(title, this.said, this.progress);
     return this.banner;
   }
 
@@ -47,7 +50,8 @@ export class CarView {
     this.bar.value = this.file.size ? at / this.file.size : 1;
     if (!this.done) {
       this.title.textContent = 'Reading the file of blocks';
-      this.said.textContent = `${counted(counts.all, 'section')}, ${sizeOf(at)} of ${sizeOf(this.file.size)}`;
+      const read = `${sizeOf(at)} of ${sizeOf(this.file.size)}`;
+      this.said.textContent = `${counted(counts.all, 'section')}, ${read}`;
     }
     for (const [name, , , chip] of this.chips) {
       chip.lastChild.textContent = grouping(counts[name]);
@@ -63,10 +67,11 @@ export class CarView {
     this.banner.classList.replace('is-note', isWell ? 'is-good' : 'is-bad');
     this.mark.textContent = isWell ? '✓' : '✕';
     this.progress.remove();
-    const all = `${counted(counts.all, 'section')} in ${sizeOf(this.file.size)}, with ${counted(links, 'link')}.`;
+    const size = `${counted(counts.all, 'section')} in ${sizeOf(this.file.size)}`;
+    const all = `${size}, with ${counted(links, 'link')}.`;
     if (isWell) {
       this.title.textContent = 'A file of blocks, and all is well';
-      this.said.textContent = `${all} Each block is the one that its CID names, and each link and root leads to one.`;
+      this.said.textContent = `${all} ${ALL_WELL}`;
       return;
     }
     const parts = [];
@@ -74,11 +79,13 @@ export class CarView {
     if (counts.bytes) parts.push(`${grouping(counts.bytes)} with other bytes than their CID names`);
     if (counts.unknown) parts.push(`${grouping(counts.unknown)} not verified`);
     if (missing.length) parts.push(`${counted(missing.length, 'CID')} missing`);
-    this.title.textContent = fault ? 'A file of blocks, and it breaks off' : 'A file of blocks, and not all is well';
+    this.title.textContent = `A file of blocks, and ${fault ? 'it breaks off' : 'not all is well'}`;
     this.said.textContent = `${all} ${parts.length ? `${parts.join(', ')}.` : ''}`;
     if (fault) {
       const { name, asks } = faultOf(fault.code);
-      this.banner.append(make('p', make('code.name', name), ` At byte ${grouping(fault.at)}, where a section is to begin. ${asks} What is missing is not known.`));
+      const where = ` At byte ${grouping(fault.at)}, where a section is to begin.`;
+      const text = `${where} ${asks} What is missing is not known.`;
+      this.banner.append(make('p', make('code.name', name), text));
     }
   }
 
@@ -88,7 +95,8 @@ export class CarView {
     for (const root of roots.slice(0, MOST_ROOTS)) {
       list.append(make('li', button(cidText(root), () => this.open(root), '.cid')));
     }
-    if (roots.length > MOST_ROOTS) list.append(make('li', `and ${grouping(roots.length - MOST_ROOTS)} more`));
+    const more = roots.length - MOST_ROOTS;
+    if (more > 0) list.append(make('li', `and ${grouping(more)} more`));
     if (!roots.length) list.append(make('li.hint', 'none'));
     return make('section', make('h3', roots.length === 1 ? 'Root' : 'Roots'), list);
   }
@@ -105,7 +113,10 @@ export class CarView {
       chip.setAttribute('aria-pressed', name === 'all');
       return [name, title, has, chip];
     });
-    this.search = withAttributes(make('input'), { type: 'search', placeholder: 'Part of a CID', 'aria-label': 'Show sections whose CID has this in it', spellcheck: false });
+    this.search = withAttributes(make('input'), {
+      type: 'search', placeholder: 'Part of a CID', spellcheck: false,
+      'aria-label': 'Show sections whose CID has this in it',
+    });
     this.search.addEventListener('input', () => {
       clearTimeout(this.later);
       this.later = setTimeout(() => this.filter(), 200);
@@ -115,13 +126,16 @@ export class CarView {
   }
 
   async filter() {
-    for (const [name, , , chip] of this.chips) chip.setAttribute('aria-pressed', name === this.group);
+    for (const [name, , , chip] of this.chips) {
+      chip.setAttribute('aria-pressed', name === this.group);
+    }
     this.filtered += 1;
     const mine = this.filtered;
     const part = this.search.value.trim();
     const isAll = this.group === 'all' && !part;
-    const chosen = isAll ? null : await this.sections.chosen(this.group, part, () => mine === this.filtered);
-    if (mine !== this.filtered) return;
+    const isWanted = () => mine === this.filtered;
+    const chosen = isAll ? null : await this.sections.chosen(this.group, part, isWanted);
+    if (!isWanted()) return;
     this.grid.choose(chosen);
     this.none.hidden = this.grid.length > 0;
     this.shown.textContent = isAll ? '' : `${counted(this.grid.length, 'section')} shown`;
@@ -129,7 +143,8 @@ export class CarView {
 
   table() {
     const host = make('div.sections');
-    this.grid = new Table(host, this.sections, { open: (i) => this.open(this.sections.cids[i], i) });
+    const { sections } = this;
+    this.grid = new Table(host, sections, { open: (i) => this.open(sections.cids[i], i) });
     this.none = make('p.hint', 'No section is like this.');
     this.none.hidden = true;
     return make('section', host, this.none);
@@ -149,7 +164,9 @@ export class CarView {
     const more = button('', () => add(), '.quiet');
     let shown = 0;
     const add = () => {
-      for (const cid of missing.slice(shown, shown + MISSING_AT_ONCE)) list.append(make('li', make('code.cid', cidText(cid))));
+      for (const cid of missing.slice(shown, shown + MISSING_AT_ONCE)) {
+        list.append(make('li', make('code.cid', cidText(cid))));
+      }
       shown = Math.min(shown + MISSING_AT_ONCE, missing.length);
       more.hidden = shown === missing.length;
       more.textContent = `Show more of ${grouping(missing.length)}`;
@@ -159,7 +176,9 @@ export class CarView {
     for (const it of this.element.querySelectorAll('.roots li')) {
       if (names.has(it.textContent)) it.append(make('span.is-bad', 'missing'));
     }
-    this.missing.append(make('h3', `Missing ${grouping(missing.length)}`), make('p.hint', 'Roots and links that lead to no verified block of this file.'), list, more);
+    const title = make('h3', `Missing ${grouping(missing.length)}`);
+    const hint = make('p.hint', 'Roots and links that lead to no verified block of this file.');
+    this.missing.append(title, hint, list, more);
   }
 
   // Reading.
@@ -171,7 +190,8 @@ export class CarView {
       if (this.group === 'all' && !this.search.value) this.grid.lay();
     };
     try {
-      const done = await this.asker.ask('walk', { file: this.file, header: this.header, walk: this.number }, told);
+      const { file, header, number } = this;
+      const done = await this.asker.ask('walk', { file, header, walk: number }, told);
       if (this.isEnded) return;
       this.done = done;
       this.filter();

@@ -13,7 +13,8 @@ export const cidFrom = (text) => reader.cidFromText(text);
 // of these hash functions. Another one is shown as such: no number is read here.
 const CODECS = [
   ['0155', 'raw bytes'], ['0170', 'DAG-PB'], ['0171', 'DAG-CBOR'], ['01a902', 'DAG-JSON'],
-  ['0151', 'CBOR'], ['018004', 'JSON'], ['0172', 'libp2p key'], ['0178', 'Git'], ['018501', 'DAG-JOSE'],
+  ['0151', 'CBOR'], ['018004', 'JSON'], ['0172', 'libp2p key'], ['0178', 'Git'],
+  ['018501', 'DAG-JOSE'],
 ];
 const HASHES = [
   ['00', 'identity'], ['11', 'SHA-1'], ['12', 'SHA-256'], ['13', 'SHA-512'],

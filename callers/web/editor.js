@@ -10,6 +10,9 @@ const MOST_EDITED = 200_000; // characters
 const MOST_HEX = 512; // bytes
 const PAUSE = 120; // milliseconds without a key
 
+const HOW = 'Type DAG-JSON: keys are put in order, and the library spells and judges it.';
+const TOO_LONG_TO_EDIT = 'This block is too long to be edited: type another one.';
+
 // The block of DAG-JSON, its name and its kind.
 export const spelled = async (asker, text) => {
   const told = await asker.ask('spell', { text });
@@ -25,7 +28,8 @@ export class Editor {
   constructor(asker, block, { open }) {
     Object.assign(this, { asker, open, made: null, asked: 0 });
     this.area = withAttributes(make('textarea.json'), {
-      spellcheck: false, 'aria-label': 'DAG-JSON of the block', 'aria-describedby': 'spelled', rows: 14,
+      spellcheck: false, rows: 14,
+      'aria-label': 'DAG-JSON of the block', 'aria-describedby': 'spelled',
     });
     this.said = withAttributes(make('p'), { role: 'status', id: 'spelled' });
     this.facts = make('div.spelled');
@@ -36,7 +40,8 @@ export class Editor {
     ];
     this.tools[0].setAttribute('aria-label', 'Download the block');
     const bar = make('div.tools', make('h3', 'DAG-JSON to a block'), ...this.tools);
-    this.element = make('section.pane.editor', bar, this.area, make('div.made', this.said, this.facts));
+    const made = make('div.made', this.said, this.facts);
+    this.element = make('section.pane.editor', bar, this.area, made);
     this.area.addEventListener('input', () => {
       clearTimeout(this.later);
       this.later = setTimeout(() => this.spell(), PAUSE);
@@ -46,7 +51,7 @@ export class Editor {
       if (isWhole) {
         this.area.value = text;
         this.spell();
-      } else this.area.placeholder = 'This block is too long to be edited here. What is typed here is another one.';
+      } else this.area.placeholder = TOO_LONG_TO_EDIT;
     });
   }
 
@@ -68,15 +73,16 @@ export class Editor {
     this.area.setAttribute('aria-invalid', Boolean(error));
     for (const it of this.tools) it.disabled = !made;
     if (!made) {
-      this.said.textContent = error ? error.message : 'Type DAG-JSON: keys are put in order, and the library spells and judges it.';
+      this.said.textContent = error?.message ?? HOW;
       this.facts.replaceChildren();
       return;
     }
     const { bytes, name, code } = made;
     this.said.textContent = `A block: ${KINDS[code]}, ${counted(bytes.length, 'byte')}`;
+    const cid = cidText(name);
     const hex = toHex(bytes.subarray(0, MOST_HEX)).replace(/..(?=.)/g, '$& ');
     this.facts.replaceChildren(
-      make('p.link-line', make('code.cid', cidText(name)), copier('Copy the CID', () => cidText(name))),
+      make('p.link-line', make('code.cid', cid), copier('Copy the CID', () => cid)),
       make('pre.whole', bytes.length > MOST_HEX ? `${hex} …` : hex),
       copier('Copy the bytes in hexadecimal', () => toHex(bytes), 'Copy hex'));
   }

@@ -2,7 +2,7 @@
 
 import { BYTES, INTEGER, LINK, NEGATIVE, TEXT } from './kinds.js';
 import { FAULT, payloadOf, tokenAt } from './shape.js';
-import { counted, grouping, quoted, toBase64, toHex } from './text.js';
+import { counted, grouping, toBase64, toHex } from './text.js';
 import { button, copier, download, make, withAttributes } from './dom.js';
 import { Bytes } from './bytes.js';
 import { linkLine } from './links.js';
@@ -10,6 +10,8 @@ import { Tree } from './tree.js';
 import { refusalOf } from './verdicts.js';
 
 const MOST_SHOWN = 4_000; // characters of a text or byte string that is picked
+const MOST_COPIED = 4 << 20; // bytes, in hexadecimal
+const HOW_TO_POINT = 'Point at an item or a byte to see the one in the other; pick it to see it whole. Arrow keys move.';
 
 export class Explorer {
   // `block` has the bytes, and its items where it has a tree; `why` says why it has none.
@@ -32,9 +34,9 @@ export class Explorer {
       canFollow: this.canFollow,
     });
     const title = make('h3', this.fault ? 'Tree, to the fault' : 'Tree');
-    const tools = make('div.tools', title, button('Unfold all', () => this.tree.openAll(), '.quiet'),
-      button('Fold all', () => this.tree.foldAll(), '.quiet'));
-    return make('section.pane', tools, host);
+    const unfold = button('Unfold all', () => this.tree.openAll(), '.quiet');
+    const fold = button('Fold all', () => this.tree.foldAll(), '.quiet');
+    return make('section.pane', make('div.tools', title, unfold, fold), host);
   }
 
   bytesPane(name) {
@@ -46,9 +48,10 @@ export class Explorer {
         if (this.shape) this.pick(tokenAt(this.shape, place), 'bytes');
       },
     });
-    const tools = make('div.tools', make('h3', 'Bytes'),
-      copier('Copy the bytes in hexadecimal', () => toHex(bytes), 'Copy hex'),
-      withAttributes(button('Download', () => download(bytes, name), '.quiet'), { 'aria-label': 'Download the bytes' }));
+    const copy = copier('Copy the bytes in hexadecimal', () => toHex(bytes), 'Copy hex');
+    const save = button('Download', () => download(bytes, name), '.quiet');
+    save.setAttribute('aria-label', 'Download the bytes');
+    const tools = make('div.tools', make('h3', 'Bytes'), bytes.length > MOST_COPIED ? null : copy, save);
     return make('section.pane', tools, host);
   }
 
@@ -56,7 +59,7 @@ export class Explorer {
     this.details = withAttributes(make('div.details'), {
       role: 'region', 'aria-live': 'polite', 'aria-label': 'The picked item',
     });
-    this.details.append(make('p.hint', 'Point at an item or a byte to see the one in the other; pick it to see it whole. Arrow keys move.'));
+    this.details.append(make('p.hint', HOW_TO_POINT));
     return this.details;
   }
 
@@ -114,22 +117,24 @@ export class Explorer {
     const from = start[token];
     const head = toHex(bytes.subarray(from, place[token])).replace(/..(?=.)/g, '$& ');
     const behind = payloadOf(this.shape, token);
-    const holds = items.isHolder(token) ? `, and ${items.announced(token)}` : behind ? `, and ${counted(behind, 'byte')}` : '';
+    const held = items.isHolder(token) ? items.announced(token) : behind ? counted(behind, 'byte') : '';
     const whole = counted(start[end[token]] - from, 'byte');
-    return make('p.hint', `${whole} from byte ${grouping(from)} (0x${from.toString(16)}) on: the head `, make('code', head), `${holds}.`);
+    const where = `${whole} from byte ${grouping(from)} (0x${from.toString(16)}) on: the head `;
+    return make('p.hint', where, make('code', head), held ? `, and ${held}.` : '.');
   }
 
   value(token, kind) {
     const { items } = this.block;
     if (kind === TEXT) {
-      const text = items.text(token);
-      return [make('pre.whole', make('bdi', quoted(text, MOST_SHOWN))), copier('Copy the text', () => text, 'Copy text')];
+      const shown = make('bdi', items.shortText(token, MOST_SHOWN));
+      return [make('pre.whole', shown), copier('Copy the text', () => items.text(token), 'Copy text')];
     }
     if (kind === BYTES) return [octets(items.payload(token))];
     if (kind === INTEGER || kind === NEGATIVE) {
       const number = items.number(token);
       const hex = `${number < 0n ? '-' : ''}0x${(number < 0n ? -number : number).toString(16)}`;
-      return [make('p', make('code.big', String(number)), ' ', make('span.hint', hex), ' ', copier('Copy the integer', () => String(number)))];
+      const copy = copier('Copy the integer', () => String(number));
+      return [make('p', make('code.big', String(number)), ' ', make('span.hint', hex), ' ', copy)];
     }
     return kind === LINK ? [linkLine(items.payload(token), this)] : [];
   }
@@ -141,5 +146,6 @@ const octets = (all) => {
   const dots = cut.length < all.length ? '…' : '';
   const row = (title, spell, said) => make('div', make('dt', title),
     make('dd', make('code', spell(cut) + dots), copier(said, () => spell(all))));
-  return make('dl.facts', row('Hex', toHex, 'Copy the bytes in hexadecimal'), row('Base64', toBase64, 'Copy the bytes in base64'));
+  return make('dl.facts', row('Hex', toHex, 'Copy the bytes in hexadecimal'),
+    row('Base64', toBase64, 'Copy the bytes in base64'));
 };

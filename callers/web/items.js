@@ -107,11 +107,11 @@ export class Items {
     return `${label}${isPlain ? '' : `${this.kindName(i)} `}${this.short(i)}`;
   }
 
-  shortText(i) {
+  shortText(i, most = MOST_TEXT) {
     const all = this.payload(i);
     // Four bytes a character at most, and a cut one is not shown.
-    return all.length <= MOST_TEXT ? quoted(fromUtf8(all))
-      : quoted(fromUtf8(all.subarray(0, 4 * MOST_TEXT)), MOST_TEXT);
+    return all.length <= most ? quoted(fromUtf8(all))
+      : quoted(fromUtf8(all.subarray(0, 4 * most)), most);
   }
 
   shortBytes(i) {
@@ -126,8 +126,10 @@ export class Items {
     for (let at = i; this.shape.parent[at] >= 0; at = this.shape.parent[at]) {
       const key = this.shape.isKey[at] ? at : this.keyOf(at);
       if (key >= 0) parts.unshift(`[${this.shortText(key)}]`);
-      else if (this.kind(this.shape.parent[at]) === LIST) parts.unshift(`[${this.shape.order[at]}]`);
-      else parts.unshift('[key]');
+      else {
+        const isInList = this.kind(this.shape.parent[at]) === LIST;
+        parts.unshift(isInList ? `[${this.shape.order[at]}]` : '[key]');
+      }
     }
     return parts.join('') || 'the whole block';
   }

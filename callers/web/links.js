@@ -10,9 +10,12 @@ const LINKS_AT_ONCE = 200;
 // A CID, what it says, and the way to its block where that is in the file.
 export const linkLine = (cid, { canFollow, follow }) => {
   const { version, codec, hash } = cidParts(cid);
-  const line = make('p.link-line', make('code.cid', cidText(cid)), ' ',
-    make('span.hint', `version ${version}, ${codec}, ${hash}`), ' ', copier('Copy the CID', () => cidText(cid)));
-  if (canFollow(cid)) line.append(' ', button('Open its block', () => follow(cid.slice()), '.quiet'));
+  const text = cidText(cid);
+  const parts = make('span.hint', `version ${version}, ${codec}, ${hash}`);
+  const copy = copier('Copy the CID', () => text);
+  const line = make('p.link-line', make('code.cid', text), ' ', parts, ' ', copy);
+  const open = () => follow(cid.slice());
+  if (canFollow(cid)) line.append(' ', button('Open its block', open, '.quiet'));
   return line;
 };
 

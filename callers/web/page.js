@@ -10,6 +10,7 @@ import { EXAMPLES } from './examples.js';
 import { fromText, sizeOf } from './text.js';
 
 const MOST_BLOCK = 256 << 20;
+const WANTED = 'The page wants a browser with WebAssembly of 64-bit memory.';
 
 const at = (id) => document.getElementById(id);
 const asker = new Asker();
@@ -80,10 +81,14 @@ const say = (text) => {
 
 // What is given.
 
-const NO_HEADER = 'By its name this is a file of blocks (CAR), but it does not begin with the header of one: it was judged as one block.';
+const NO_HEADER = 'By its name this is a file of blocks (CAR), but it does not begin with the header of one:'
+  + ' it was judged as one block.';
 
 const blockView = async (file, title, more = {}) => {
-  if (file.size > MOST_BLOCK) throw new Error(`${sizeOf(file.size)} are too many for one block here: at most ${sizeOf(MOST_BLOCK)}.`);
+  if (file.size > MOST_BLOCK) {
+    const most = `at most ${sizeOf(MOST_BLOCK)}`;
+    throw new Error(`${sizeOf(file.size)} are too many for one block here: ${most}.`);
+  }
   const judged = await asker.ask('judge', { file });
   const car = [...views].reverse().find((it) => it.car)?.car;
   const view = new BlockView(asker, judged, {
@@ -126,8 +131,12 @@ const openFile = async (file, title) => {
     if (mine !== opened) return;
     if (header) {
       const whole = inner ? file.slice(inner.from, inner.end) : file;
-      const car = new CarView(asker, whole, header, { open: (cid, number) => openIn(car, cid, number) });
-      begin({ title: inner ? `inside ${title}` : title, element: car.element, car, afterShown: () => car.afterShown(), leave: () => car.leave() });
+      const open = (cid, number) => openIn(car, cid, number);
+      const car = new CarView(asker, whole, header, { open });
+      begin({
+        title: inner ? `inside ${title}` : title, element: car.element, car,
+        afterShown: () => car.afterShown(), leave: () => car.leave(),
+      });
       return;
     }
     const note = /\.car$/i.test(title) ? NO_HEADER : undefined;
@@ -198,7 +207,7 @@ const start = () => {
   window.history.replaceState({ depth: 0 }, '');
   asker.ready.then(
     () => { document.body.dataset.ready = 'yes'; },
-    (error) => say(`The library did not load: ${error.message}. The page wants a browser with WebAssembly of 64-bit memory: Chromium 133, Firefox 134, or later.`),
+    (error) => say(`The library did not load: ${error.message}. ${WANTED}`),
   );
 };
 

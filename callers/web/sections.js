@@ -1,5 +1,6 @@
 // The sections of a file of blocks: what is told of them, batch by batch, and the table of them.
 
+import { NOT_VERIFIED, OTHER_BYTES, OTHER_CODEC } from './kinds.js';
 import { cidKey, cidParts, cidText } from './cid.js';
 import { grouping, sizeOf } from './text.js';
 import { make, withAttributes } from './dom.js';
@@ -11,11 +12,11 @@ const AT_ONCE = 5_000;
 
 export const GROUPS = [
   ['all', 'All', () => true],
-  ['ok', 'Blocks', (code) => code >= 0 && code < 9],
-  ['refused', 'Refused', (code) => code < 0 && code >= -17],
-  ['bytes', 'Other bytes', (code) => code === -22],
-  ['unknown', 'Not verified', (code) => code === -23],
-  ['codec', 'Other codec', (code) => code === 9],
+  ['ok', 'Blocks', (code) => code >= 0 && code < OTHER_CODEC],
+  ['refused', 'Refused', (code) => code < 0 && code > OTHER_BYTES],
+  ['bytes', 'Other bytes', (code) => code === OTHER_BYTES],
+  ['unknown', 'Not verified', (code) => code === NOT_VERIFIED],
+  ['codec', 'Other codec', (code) => code === OTHER_CODEC],
 ];
 
 export const groupOf = (code) => GROUPS.slice(1).find(([, , has]) => has(code))?.[0] ?? 'refused';
@@ -44,7 +45,7 @@ export class Sections {
       this.cids.push(cid);
       const name = cidKey(cid);
       const known = this.byName.get(name);
-      if (known === undefined || (this.codes[known] < -17 && codes[i] >= -17)) {
+      if (known === undefined || (this.codes[known] <= OTHER_BYTES && codes[i] > OTHER_BYTES)) {
         this.byName.set(name, this.count);
       }
       this.counts.all += 1;
@@ -131,7 +132,8 @@ export class Table {
     const { sections } = this;
     const code = sections.codes[i];
     const { word } = sectionOf(code);
-    const verdict = make(`span.verdict.is-${groupOf(code)}`, make('span.dot'), word === 'other codec' ? cidParts(sections.cids[i]).codec : word);
+    const told = code === OTHER_CODEC ? cidParts(sections.cids[i]).codec : word;
+    const verdict = make(`span.verdict.is-${groupOf(code)}`, make('span.dot'), told);
     const cells = [
       make('span.row-number', grouping(i + 1)), verdict, cidCell(cidText(sections.cids[i])),
       make('span.size', sizeOf(sections.size(i))), make('span.place', grouping(sections.starts[i])),

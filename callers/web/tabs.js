@@ -35,7 +35,8 @@ export class Tabs {
 
   key(event, n) {
     const last = this.panels.length - 1;
-    const moves = { ArrowRight: n === last ? 0 : n + 1, ArrowLeft: n ? n - 1 : last, Home: 0, End: last };
+    const [after, before] = [n === last ? 0 : n + 1, n ? n - 1 : last];
+    const moves = { ArrowRight: after, ArrowLeft: before, Home: 0, End: last };
     if (!(event.key in moves)) return;
     event.preventDefault();
     this.choose(moves[event.key]);

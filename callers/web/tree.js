@@ -8,6 +8,7 @@ import { Rows } from './rows.js';
 
 const ITEM_HEIGHT = 26;
 const OPEN_AT_FIRST = 120; // rows
+const LONG_TEXT = 300; // bytes
 const DEEP = 16; // levels: deeper ones are told by their number
 
 export class Tree {
@@ -109,8 +110,9 @@ export class Tree {
   }
 
   level(token) {
+    const { parent } = this.items.shape;
     let level = 1;
-    for (let at = this.items.shape.parent[token]; at >= 0; at = this.items.shape.parent[at]) level += 1;
+    for (let at = parent[token]; at >= 0; at = parent[at]) level += 1;
     return level;
   }
 
@@ -131,7 +133,8 @@ export class Tree {
     const pad = make('span.pad', level > DEEP ? String(level) : '');
     pad.setAttribute('aria-hidden', 'true');
     pad.style.setProperty('--level', Math.min(level, DEEP) - 1);
-    const twist = make('span.twist', this.isFoldable(token) ? (this.open[token] ? '▾' : '▸') : '');
+    const sign = this.open[token] ? '▾' : '▸';
+    const twist = make('span.twist', this.isFoldable(token) ? sign : '');
     twist.setAttribute('aria-hidden', 'true');
     element.append(pad, twist, ...this.label(token), this.value(token), ...this.notes(token));
     element.classList.toggle('is-pointed', token === this.pointed);
@@ -164,11 +167,9 @@ export class Tree {
       const isShort = BigInt(taken) < items.shape.number[token];
       return isShort ? [make('span.note', `${taken} before the fault`)] : [];
     }
-    if (name === 'byte string') return [make('span.note', counted(payloadOf(items.shape, token), 'byte'))];
-    if (name === 'text' && payloadOf(items.shape, token) > 300) {
-      return [make('span.note', counted(payloadOf(items.shape, token), 'byte'))];
-    }
-    return [];
+    const length = payloadOf(items.shape, token);
+    const isTold = name === 'byte string' || (name === 'text' && length > LONG_TEXT);
+    return isTold ? [make('span.note', counted(length, 'byte'))] : [];
   }
 
   click(event, row) {
@@ -239,6 +240,7 @@ export class Tree {
     if (event.ctrlKey || event.metaKey || event.altKey || !this.visible.length) return;
     const token = this.picked < 0 ? 0 : this.picked;
     const row = this.rowOf(token);
+    const { parent } = this.items.shape;
     const last = this.visible.length - 1;
     const moves = {
       ArrowDown: row + 1, ArrowUp: row - 1, Home: 0, End: last,
@@ -250,9 +252,10 @@ export class Tree {
       else if (this.isFoldable(token)) this.choose(row + 1);
     } else if (event.key === 'ArrowLeft') {
       if (this.isFoldable(token) && this.open[token]) this.toggle(token);
-      else if (this.items.shape.parent[token] >= 0) this.choose(this.rowOf(this.items.shape.parent[token]));
+      else if (parent[token] >= 0) this.choose(this.rowOf(parent[token]));
     } else if (event.key === 'Enter' || event.key === ' ') {
-      if (this.items.kind(token) === LINK && this.canFollow(this.items.payload(token))) this.follow(this.items.payload(token));
+      const cid = this.items.payload(token);
+      if (this.items.kind(token) === LINK && this.canFollow(cid)) this.follow(cid);
       else this.toggle(token);
     } else return;
     event.preventDefault();

@@ -43,6 +43,7 @@ class Page:
     def __init__(self, driver, url, folder):
         self.driver, self.folder = driver, folder
         driver.get(url)
+        self.cdp("Emulation.setFocusEmulationEnabled", enabled=True)
         self.wait("document.body.dataset.ready === 'yes'")
 
     def js(self, script, *given):
@@ -119,8 +120,8 @@ class Page:
         self.cdp("Emulation.clearDeviceMetricsOverride")
         self.cdp("Emulation.setEmulatedMedia", features=[])
 
-    def picture(self, path, **clip):
-        taken = self.cdp("Page.captureScreenshot", format="png", **clip)
+    def picture(self, path, **how):
+        taken = self.cdp("Page.captureScreenshot", **how)
         with open(path, "wb") as file:
             file.write(base64.b64decode(taken["data"]))
 

@@ -6,6 +6,7 @@ const PAGE = 65536;
 const FRONT = 64;
 const NO_ROOM = -21;
 const TRUNCATED = -24;
+const NOT_READ = 9;
 const CID_MOST = 86;
 const CID_TEXT_MOST = 139;
 
@@ -48,8 +49,7 @@ class Room {
   }
 
   copy(at, length) {
-    const from = this.base + FRONT + at;
-    return new Uint8Array(this.memory.buffer.slice(from, from + length));
+    return new Uint8Array(this.memory.buffer, this.base + FRONT + at, length).slice();
   }
 }
 
@@ -150,12 +150,8 @@ const naming = (calls, room) => {
 };
 
 const walking = (calls, room) => {
-  // What is said of the section that begins so far behind the front, and where its CID and its
-  // block begin and where it ends, counted from there.
-  const section = (at, length) => {
-    const code = calls.dagcbor_car_section(room.address(at), BigInt(length), room.front);
-    return code <= TRUNCATED ? [code] : [code, room.number(), room.number(1), room.number(2)];
-  };
+  const section = (at, length) =>
+    calls.dagcbor_car_section(room.address(at), BigInt(length), room.front);
   return {
     // Of a file of blocks: the number of a refusal, or the roots, and where the first section begins.
     carHeader: (bytes) => {
@@ -170,23 +166,37 @@ const walking = (calls, room) => {
     // The number of a refusal, or what is said of the section that begins the bytes.
     carSection: (bytes) => {
       room.put(bytes);
-      const [code, cid, block, end] = section(0, bytes.length);
-      return code <= TRUNCATED ? code : { code, cid, block, end };
+      const code = section(0, bytes.length);
+      if (code <= TRUNCATED) return code;
+      return { code, cid: room.number(), block: room.number(1), end: room.number(2) };
     },
-    // The sections at the front of the bytes, one behind the other: what is said of each, three
-    // places of each, and the number of what is refused behind them, which is 0 at the end.
+    // The sections at the front of the bytes, one behind the other: what is said of each; three
+    // places of each; the links of those that are blocks of DAG-CBOR, a byte of length before each;
+    // and the number of what is refused behind them, which is 0 at the end.
     carSections: (bytes) => {
-      room.put(bytes);
-      const told = { codes: [], places: [], cause: 0 };
-      let at = 0;
+      const out = bytes.length;
+      room.put(bytes, out + 1); // packed they are shorter than the blocks
+      const numbers = new DataView(room.memory.buffer, room.base);
+      const number = (n) => Number(numbers.getBigUint64(8 * n, true));
+      const [codes, places] = [[], []];
+      let [at, packed, cause] = [0, 0, 0];
       while (at < bytes.length) {
-        const [code, cid, block, end] = section(at, bytes.length - at);
-        if (code <= TRUNCATED) return { ...told, cause: code };
-        told.codes.push(code);
-        told.places.push(at + cid, at + block, at + end);
-        at += end;
+        const code = section(at, bytes.length - at);
+        if (code <= TRUNCATED) {
+          cause = code;
+          break;
+        }
+        const [cid, block, end] = [at + number(0), at + number(1), at + number(2)];
+        codes.push(code);
+        places.push(cid, block, end);
+        if (code >= 0 && code !== NOT_READ) {
+          calls.dagcbor_links(room.address(block), BigInt(end - block), room.address(out + packed),
+            BigInt(out - packed), room.front);
+          packed += number(0);
+        }
+        at = end;
       }
-      return told;
+      return { codes, places, links: room.copy(out, packed), cause };
     },
   };
 };

@@ -2,7 +2,7 @@
 // memory than its longest section needs.
 
 import { CUT, NOT_VERIFIED, OTHER_BYTES, OTHER_CODEC } from './kinds.js';
-import { cidKey } from './cid.js';
+import { cidKey, cidOfKey } from './cid.js';
 
 const WINDOW = 2 << 20;
 const MOST_KEPT = 8 << 20; // a window that was made longer for a section stays so up to here
@@ -52,12 +52,15 @@ export const walk = async (library, file, header, { told, isStopped }) => {
   while (at < file.size && !isStopped()) {
     const bytes = await coming;
     const isLast = at + bytes.length >= file.size;
-    const { codes, places, cause } = library.carSections(bytes);
+    const sections = library.carSections(bytes);
+    const { cause, places } = sections;
     const behind = places[places.length - 1] ?? 0;
     const isCut = cause === CUT && !isLast;
     if (isCut) length = behind ? Math.min(length, MOST_KEPT) : 2 * length;
     coming = ahead(file, at + behind, length);
-    told(batchOf(library, names, bytes, at, codes, places), at + behind);
+    const batch = batchOf(bytes, at, sections);
+    names.take(batch, sections.links);
+    told(batch, at + behind);
     at += behind;
     if (cause && !isCut) return ended({ code: cause, at });
     if (length > MOST) return ended({ code: TOO_LONG, at });
@@ -65,58 +68,57 @@ export const walk = async (library, file, header, { told, isStopped }) => {
   return ended(null);
 };
 
-// What is told of the sections of a window that begins at `from`; their names are noted.
-const batchOf = (library, names, bytes, from, codes, places) => {
+// What is told of the sections of a window that begins at `from`: of each where it begins, where its
+// block does and where it ends; what is said of it; its CID.
+const batchOf = (bytes, from, { codes, places }) => {
   const count = codes.length;
-  const cids = [];
-  const lengths = new Uint16Array(count);
-  for (let i = 0; i < count; i += 1) {
-    const [cid, block, end] = places.slice(3 * i, 3 * i + 3);
-    lengths[i] = block - cid;
-    cids.push(bytes.subarray(cid, block));
-    names.take(library, codes[i], cids[i], bytes.subarray(block, end));
-  }
-  const starts = (i) => from + (i ? places[3 * i - 1] : 0);
-  return {
-    places: Float64Array.from(places, (it, n) => (n % 3 ? from + it : starts(n / 3))),
-    codes: Int8Array.from(codes), lengths, cids: joined(cids),
+  const told = {
+    places: new Float64Array(3 * count), codes: Int8Array.from(codes),
+    lengths: new Uint16Array(count), cids: new Uint8Array(bytes.length),
   };
-};
-
-const joined = (parts) => {
-  const all = new Uint8Array(parts.reduce((sum, it) => sum + it.length, 0));
-  let at = 0;
-  for (const it of parts) {
-    all.set(it, at);
-    at += it.length;
+  let [start, at] = [0, 0];
+  for (let i = 0; i < count; i += 1) {
+    const [cid, block, end] = [places[3 * i], places[3 * i + 1], places[3 * i + 2]];
+    told.places[3 * i] = from + start;
+    told.places[3 * i + 1] = from + block;
+    told.places[3 * i + 2] = from + end;
+    told.lengths[i] = block - cid;
+    told.cids.set(bytes.subarray(cid, block), at);
+    at += block - cid;
+    start = end;
   }
-  return all;
+  told.cids = told.cids.slice(0, at);
+  return told;
 };
 
 // The names of verified blocks, and the roots and links that lead to none so far.
 class Names {
   constructor(roots) {
     this.held = new Set();
-    this.wanted = new Map(roots.map((it) => [cidKey(it), it]));
+    this.wanted = new Set(roots.map(cidKey));
     this.links = 0;
   }
 
-  take(library, code, cid, block) {
-    // Not the block that is named, or not known to be.
-    if (code === OTHER_BYTES || code === NOT_VERIFIED) return;
-    const key = cidKey(cid);
-    this.held.add(key);
-    this.wanted.delete(key);
-    if (code < 0 || code === OTHER_CODEC) return;
-    const links = library.links(block);
-    this.links += links.length;
-    for (const link of links) {
-      const other = cidKey(link);
-      if (!this.held.has(other) && !this.wanted.has(other)) this.wanted.set(other, link);
+  // The links are those of all the sections, a byte of length before each.
+  take({ codes, lengths, cids }, links) {
+    const keys = cidKey(cids);
+    let at = 0;
+    for (let i = 0; i < codes.length; i += 1) {
+      const key = keys.slice(at, at + lengths[i]);
+      at += lengths[i];
+      if (codes[i] === OTHER_BYTES || codes[i] === NOT_VERIFIED) continue;
+      this.held.add(key);
+      this.wanted.delete(key);
+    }
+    const linked = cidKey(links);
+    for (let to = 0; to < links.length; to += 1 + links[to]) {
+      const key = linked.slice(to + 1, to + 1 + links[to]);
+      this.links += 1;
+      if (!this.held.has(key)) this.wanted.add(key);
     }
   }
 
   missing() {
-    return [...this.wanted.values()];
+    return [...this.wanted].map(cidOfKey);
   }
 }

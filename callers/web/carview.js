@@ -185,6 +185,7 @@ export class CarView {
 
   async walk() {
     const told = ({ batch, at }) => {
+      if (this.isEnded) return; // what comes behind Stop is not shown
       this.sections.add(batch);
       this.tell(at);
       if (this.group === 'all' && !this.search.value) this.grid.lay();

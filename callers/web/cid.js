@@ -21,8 +21,14 @@ const HASHES = [
   ['16', 'SHA3-256'], ['1b', 'Keccak-256'], ['1e', 'BLAKE3'], ['a0e402', 'BLAKE2b-256'],
 ];
 
-// A key for maps and sets.
-export const cidKey = (bytes) => String.fromCharCode(...bytes);
+// A key for maps and sets: a character for each byte, and no two bytes have one. Of CIDs one behind
+// the other, their keys are the slices.
+const keys = new TextDecoder('latin1');
+const EACH = keys.decode(Uint8Array.from({ length: 256 }, (_, it) => it));
+
+export const cidKey = (bytes) => keys.decode(bytes);
+
+export const cidOfKey = (key) => Uint8Array.from(key, (it) => EACH.indexOf(it));
 
 const hexOf = (bytes) => Array.from(bytes, (it) => it.toString(16).padStart(2, '0')).join('');
 

@@ -56,11 +56,11 @@ export class Explorer {
   }
 
   detailsPane() {
-    this.details = withAttributes(make('div.details'), {
-      role: 'region', 'aria-live': 'polite', 'aria-label': 'The picked item',
-    });
-    this.details.append(make('p.hint', HOW_TO_POINT));
-    return this.details;
+    // What it is, is read out; the whole of it may be long.
+    this.what = withAttributes(make('div', make('p.hint', HOW_TO_POINT)), { 'aria-live': 'polite' });
+    this.whole = make('div');
+    const details = make('div.details', this.what, this.whole);
+    return withAttributes(details, { role: 'region', 'aria-label': 'The picked item' });
   }
 
   // The page shows it: now sizes are known.
@@ -102,12 +102,15 @@ export class Explorer {
   tell(token) {
     const { items } = this.block;
     const kind = this.shape.kind[token];
-    const parts = [make('h3', items.kindName(token), ' ', make('bdi.path', items.path(token)))];
+    const title = make('h3', items.kindName(token), ' ', make('bdi.path', items.path(token)));
     if (kind === FAULT) {
       const { name, asks } = refusalOf(this.fault.code);
-      parts.push(make('p', make('code.name', name), ' ', asks));
-    } else parts.push(this.spread(token), ...this.value(token, kind));
-    this.details.replaceChildren(...parts);
+      this.what.replaceChildren(title, make('p', make('code.name', name), ' ', asks));
+      this.whole.replaceChildren();
+    } else {
+      this.what.replaceChildren(title, this.spread(token));
+      this.whole.replaceChildren(...this.value(token, kind));
+    }
   }
 
   // Where it stands, and of what it is made.

@@ -18,6 +18,7 @@ const KIND_NAME = {
 };
 
 const MOST_TEXT = 300;
+const MOST_KEY = 60; // in a path
 const MOST_BYTES = 48;
 
 // A block, and its items by their tokens.
@@ -125,7 +126,7 @@ export class Items {
     const parts = [];
     for (let at = i; this.shape.parent[at] >= 0; at = this.shape.parent[at]) {
       const key = this.shape.isKey[at] ? at : this.keyOf(at);
-      if (key >= 0) parts.unshift(`[${this.shortText(key)}]`);
+      if (key >= 0) parts.unshift(`[${this.shortText(key, MOST_KEY)}]`);
       else {
         const isInList = this.kind(this.shape.parent[at]) === LIST;
         parts.unshift(isInList ? `[${this.shape.order[at]}]` : '[key]');

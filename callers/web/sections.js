@@ -34,16 +34,17 @@ export class Sections {
   }
 
   add({ places, codes, lengths, cids }) {
+    const keys = cidKey(cids);
     let at = 0;
     for (let i = 0; i < codes.length; i += 1) {
       const cid = cids.subarray(at, at + lengths[i]);
+      const name = keys.slice(at, at + lengths[i]);
       at += lengths[i];
       this.starts.push(places[3 * i]);
       this.blocks.push(places[3 * i + 1]);
       this.ends.push(places[3 * i + 2]);
       this.codes.push(codes[i]);
       this.cids.push(cid);
-      const name = cidKey(cid);
       const known = this.byName.get(name);
       if (known === undefined || (this.codes[known] <= OTHER_BYTES && codes[i] > OTHER_BYTES)) {
         this.byName.set(name, this.count);
@@ -124,6 +125,8 @@ export class Table {
   lay() {
     this.host.setAttribute('aria-rowcount', this.length + 1);
     this.rows.setCount(this.length);
+    const { offsetWidth, clientWidth } = this.box; // what a bar to scroll by takes
+    this.head.style.setProperty('--gutter', `${offsetWidth - clientWidth}px`);
     this.tellActive();
   }
 

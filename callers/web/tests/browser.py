@@ -14,6 +14,10 @@ from selenium.webdriver.common.keys import Keys
 SAID = "document.querySelector('#result .banner') || !document.getElementById('said').hidden"
 WIDTHS = (320, 768, 1440)
 SCHEMES = ("light", "dark")
+# From here on `longest` is for how many milliseconds the page did not answer.
+QUIET = """window.longest = 0; let last = performance.now();
+const tick = () => { const now = performance.now(); window.longest = Math.max(window.longest, now - last); last = now; setTimeout(tick); };
+tick();"""
 
 
 def started():
@@ -113,7 +117,8 @@ class Page:
 
     def look(self, width, height=900, scheme="light"):
         self.cdp("Emulation.setDeviceMetricsOverride", width=width, height=height, deviceScaleFactor=1, mobile=False)
-        self.cdp("Emulation.setEmulatedMedia", features=[{"name": "prefers-color-scheme", "value": scheme}])
+        wanted = {"prefers-color-scheme": scheme, "prefers-reduced-motion": "reduce"}
+        self.cdp("Emulation.setEmulatedMedia", features=[{"name": it, "value": value} for it, value in wanted.items()])
         time.sleep(0.15)
 
     def unlook(self):
@@ -130,4 +135,4 @@ def same(found, wanted, of=""):
     assert found == wanted, f"{of}: {found!r}, and not {wanted!r}"
 
 
-__all__ = ["Keys", "By", "Page", "SCHEMES", "WIDTHS", "same", "served", "started"]
+__all__ = ["Keys", "By", "Page", "QUIET", "SCHEMES", "WIDTHS", "same", "served", "started"]

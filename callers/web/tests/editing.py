@@ -4,7 +4,7 @@ import glob
 import os
 import time
 
-from blocks import cid_text, entries, named, rows, text
+from making import cid_text, entries, named, rows, text
 from browser import By, Keys, same
 
 TYPE = """const it = document.querySelector('textarea.json'); it.value = arguments[0];

@@ -2,9 +2,8 @@
 
 import os
 
-from blocks import cid_text, entries, head, header, items, link, named, section, second, text, varint
-from browser import By, Keys, same
-from hostile import QUIET
+from making import cid_text, entries, head, header, items, link, named, section, second, text, varint
+from browser import QUIET, By, Keys, same
 
 COUNT = 100_000
 SECTIONS = ".section:not(.is-head)"

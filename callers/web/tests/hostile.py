@@ -1,14 +1,11 @@
 """Blocks that are made to do harm."""
 
-from blocks import entries, head, octets, text
-from browser import same
+from making import entries, head, octets, text
+from browser import QUIET, same
 
 MARKUP = '<img src=x onerror="window.hit=1">'
 SCRIPT = "<script>window.hit=1</script>"
 KEYS = ["__proto__", "constructor", "toString", "hasOwnProperty", MARKUP, SCRIPT]
-QUIET = """window.longest = 0; let last = performance.now();
-const tick = () => { const now = performance.now(); window.longest = Math.max(window.longest, now - last); last = now; setTimeout(tick); };
-tick();"""  # how long the page did not answer
 
 
 def every_tab(page):

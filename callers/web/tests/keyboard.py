@@ -10,10 +10,11 @@ return style.outlineStyle !== 'none' || (held && getComputedStyle(held).outlineS
 def walk(page, most=60):
     """Where Tab goes, from the focus on, until it has been round; each stop shows that it has the focus."""
     stops = []
+    page.js("window.stops = [document.body]")
     for _ in range(most):
         page.press(Keys.TAB)
         name, role, label = page.js(NOW)
-        if name == "body":
+        if page.js("return window.stops.includes(document.activeElement) || (window.stops.push(document.activeElement), false)"):
             break
         assert page.js(FOCUS), (name, role, label)
         stops.append(label)

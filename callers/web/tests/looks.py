@@ -1,6 +1,6 @@
 """How the page looks: contrast, and no part cut or beyond the edge, at three widths, light and dark."""
 
-from blocks import entries, header, items, link, named, octets, section, text
+from making import entries, header, items, link, named, octets, section, text
 from browser import SCHEMES, WIDTHS, Keys
 
 # WCAG 2.2, 1.4.3 and 1.4.11: each text that is seen against what is painted behind it, the edges of
@@ -59,6 +59,8 @@ for (const it of document.querySelectorAll('body, body *')) {
     else if (['auto', 'scroll'].includes(style.overflowX)) say('scrolls sideways', it);
     else say('cut', it);
   }
+  const first = it.firstElementChild;
+  if (['auto', 'scroll'].includes(style.overflowY) && it.scrollTop === 0 && first && first.getBoundingClientRect().top < box.top - 1) say('begins above', it);
   if (!isLine && ['hidden', 'clip'].includes(style.overflowY) && it.scrollHeight > it.clientHeight + 2 && !hasDots) say('cut below', it);
   const scroller = it.parentElement?.closest('.tree, .bytes, .sections-box, .json, .details');
   if (!scroller && box.width && box.right > page.clientWidth + 1) say('right of the page', it);

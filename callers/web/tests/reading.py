@@ -1,6 +1,6 @@
 """What a screen reader is told: Chromium's tree of roles and names."""
 
-from blocks import entries, header, items, link, named, section, text
+from making import entries, header, items, link, named, section, text
 from browser import same
 
 
@@ -62,8 +62,8 @@ def block(page):
     same(names(nodes, "tabpanel"), ["Tree and bytes"])
     same(names(nodes, "option")[:2], ["a2, byte 0", "64, byte 1"])
     same(names(nodes, "region"), ["The picked item"])
-    live = [(name, it.get("live")) for role, name, it in nodes if it.get("live") not in (None, "off")]
-    assert ("The picked item", "polite") in live, live
+    assert page.text(".details [aria-live=polite]").startswith("map the whole block"), page.text(".details")
+    assert "polite" in [it.get("live") for _, _, it in nodes]
     page.tab("Edit")
     page.wait("document.querySelector('.spelled .cid')")
     nodes = seen(page)

@@ -2,7 +2,7 @@
 
 import json
 
-from blocks import cid_text, entries, head, items, link, named, rows, text
+from making import cid_text, entries, head, items, link, named, rows, text
 from browser import By, Keys, same
 
 NAMES = {

@@ -79,6 +79,23 @@ const say = (text) => {
   at('said').hidden = !text;
 };
 
+// That something is being judged, where that takes long enough to be seen.
+const LONG = 300; // milliseconds
+
+const busyWith = async (title, act) => {
+  const later = setTimeout(() => { at('busy').textContent = `Judging ${title} …`; }, LONG);
+  document.body.classList.add('is-busy');
+  try {
+    await act();
+  } catch (error) {
+    say(`${title}: ${error.message}`);
+  } finally {
+    clearTimeout(later);
+    at('busy').textContent = '';
+    document.body.classList.remove('is-busy');
+  }
+};
+
 // What is given.
 
 const NO_HEADER = 'By its name this is a file of blocks (CAR), but it does not begin with the header of one:'
@@ -112,11 +129,8 @@ const openIn = async (car, cid, number = car.sections.find(cid)) => {
   const { sections } = car;
   const file = car.file.slice(sections.blocks[number], sections.ends[number]);
   const section = { cid: sections.cids[number], code: sections.codes[number] };
-  try {
-    push(await blockView(file, cidText(section.cid), { car, section }));
-  } catch (error) {
-    say(error.message);
-  }
+  const title = cidText(section.cid);
+  await busyWith(title, async () => push(await blockView(file, title, { car, section })));
 };
 
 let opened = 0;
@@ -125,8 +139,7 @@ const openFile = async (file, title) => {
   opened += 1;
   const mine = opened;
   say('');
-  document.body.classList.add('is-busy');
-  try {
+  await busyWith(title, async () => {
     const { header, inner } = await asker.ask('look', { file });
     if (mine !== opened) return;
     if (header) {
@@ -142,11 +155,7 @@ const openFile = async (file, title) => {
     const note = /\.car$/i.test(title) ? NO_HEADER : undefined;
     const view = await blockView(file, title, { note });
     if (mine === opened) begin(view);
-  } catch (error) {
-    say(`${title}: ${error.message}`);
-  } finally {
-    document.body.classList.remove('is-busy');
-  }
+  });
 };
 
 const openText = async (text) => {

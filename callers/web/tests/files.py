@@ -17,16 +17,16 @@ def shown_verdicts(page):
 
 def damaged(page):
     """A section with each verdict, what is missing, and the way by links there and back."""
-    gone = named(b"\xf6")
-    node = entries(to=items(link(named(LEAF)), link(gone)), raw=link(named(RAW, 0x55)))
+    gone, spoiled = named(b"\xf6"), named(text("good"))
+    node = entries(to=items(link(named(LEAF)), link(gone), link(spoiled)), raw=link(named(RAW, 0x55)))
     sections = [
         section(named(node), node), section(named(LEAF), LEAF), section(named(RAW, 0x55), RAW),
-        section(named(b"\x18\x17"), b"\x18\x17"), section(named(LEAF), b"\x64lead"),
+        section(named(b"\x18\x17"), b"\x18\x17"), section(spoiled, text("evil")),
         section(bytes([1, 0x71, 0x13, 1, 5]), b"\x05"), section(named(RAW, 0x55), b"raw bites"),
     ]  # fmt: skip
     page.give_car(header(named(node)) + b"".join(sections))
     same(shown_verdicts(page), ["map", "text", "raw bytes", "NonMinimal", "other bytes", "not verified", "other bytes"])
-    same(page.texts(".missing .cid"), [cid_text(gone)])
+    same(page.texts(".missing .cid"), [cid_text(gone), cid_text(spoiled)])
     same(page.texts(".roots .cid"), [cid_text(named(node))])
     page.js("document.querySelector('.chip.is-refused').click()")
     same(shown_verdicts(page), ["NonMinimal"])
@@ -34,7 +34,7 @@ def damaged(page):
     # Root, then its link, and back.
     page.js("document.querySelector('.roots button').click()")
     page.wait("document.querySelector('#crumbs').children.length === 2 && document.querySelector('.item')")
-    same(page.texts(".item .value.is-open"), [cid_text(named(LEAF)), cid_text(named(RAW, 0x55))])
+    same(page.texts(".item .value.is-open"), [cid_text(it) for it in (named(LEAF), spoiled, named(RAW, 0x55))])
     page.js("document.querySelector('.item .value.is-open').click()")
     page.wait("document.querySelector('#crumbs').children.length === 3")
     same(page.text(".item .value"), '"leaf"')

@@ -5,7 +5,6 @@ import { CUT, NOT_VERIFIED, OTHER_BYTES, OTHER_CODEC } from './kinds.js';
 import { cidKey, cidOfKey } from './cid.js';
 
 const WINDOW = 2 << 20;
-const MOST_KEPT = 8 << 20; // a window that was made longer for a section stays so up to here
 const FIRST_HEADER = 64 << 10;
 const MOST_HEADER = 16 << 20;
 const MOST = 1 << 30;
@@ -44,28 +43,41 @@ export const innerOf = async (file) => {
 };
 
 // Hands out sections in batches, and answers what is missing, and why it stopped before the end.
+// While a window is judged the bytes behind it are read.
 export const walk = async (library, file, header, { told, isStopped }) => {
   const names = new Names(header.roots);
-  let [at, length] = [header.behind, WINDOW];
   const ended = (fault) => ({ fault, missing: fault ? [] : names.missing(), links: names.links });
-  let coming = ahead(file, at, length);
+  let [at, next, bytes] = [header.behind, header.behind, new Uint8Array()];
+  const coming = (length) => {
+    const more = ahead(file, next, length);
+    next += length;
+    return more;
+  };
+  let more = coming(WINDOW);
   while (at < file.size && !isStopped()) {
-    const bytes = await coming;
-    const isLast = at + bytes.length >= file.size;
+    const cut = bytes.length; // of a section that is longer
+    bytes = joined(bytes, await more);
+    const isLast = next >= file.size;
+    more = isLast ? null : coming(Math.max(WINDOW, 2 * cut));
     const sections = library.carSections(bytes);
-    const { cause, places } = sections;
-    const behind = places[places.length - 1] ?? 0;
-    const isCut = cause === CUT && !isLast;
-    if (isCut) length = behind ? Math.min(length, MOST_KEPT) : 2 * length;
-    coming = ahead(file, at + behind, length);
+    const behind = sections.places[sections.places.length - 1] ?? 0;
     const batch = batchOf(bytes, at, sections);
     names.take(batch, sections.links);
-    told(batch, at + behind);
     at += behind;
-    if (cause && !isCut) return ended({ code: cause, at });
-    if (length > MOST) return ended({ code: TOO_LONG, at });
+    told(batch, at);
+    bytes = bytes.subarray(behind);
+    const isCut = sections.cause === CUT && !isLast;
+    if (sections.cause && !isCut) return ended({ code: sections.cause, at });
+    if (bytes.length > MOST) return ended({ code: TOO_LONG, at });
   }
   return ended(null);
+};
+
+const joined = (front, rest) => {
+  const all = new Uint8Array(front.length + rest.length);
+  all.set(front);
+  all.set(rest, front.length);
+  return all;
 };
 
 // What is told of the sections of a window that begins at `from`: of each where it begins, where its

@@ -8,6 +8,7 @@ import { faultOf } from './verdicts.js';
 
 const ALL_WELL = 'Each block is the one that its CID names, and each link and root leads to one.';
 const MISSING_AT_ONCE = 100;
+const BETWEEN_LOOKS = 120; // milliseconds between two looks at what was read
 const MOST_ROOTS = 20;
 
 let walks = 0;
@@ -22,7 +23,8 @@ export class CarView {
     this.number = walks;
     const parts = [this.summary(), this.rootList(), this.filters(), this.table()];
     this.element = make('article.car', ...parts, this.missingList());
-    this.tell(header.behind);
+    this.readTo = header.behind;
+    this.tell(this.readTo);
     this.walk();
   }
 
@@ -187,14 +189,16 @@ export class CarView {
     const told = ({ batch, at }) => {
       if (this.isEnded) return; // what comes behind Stop is not shown
       this.sections.add(batch);
-      this.tell(at);
-      if (this.group === 'all' && !this.search.value) this.grid.lay();
+      this.readTo = at;
+      this.planned ??= setTimeout(() => this.refresh(), BETWEEN_LOOKS);
     };
     try {
       const { file, header, number } = this;
       const done = await this.asker.ask('walk', { file, header, walk: number }, told);
       if (this.isEnded) return;
+      clearTimeout(this.planned);
       this.done = done;
+      this.tell(this.readTo);
       this.filter();
       this.conclude();
       this.showMissing();
@@ -204,6 +208,14 @@ export class CarView {
       this.said.textContent = error.message;
       this.progress.remove();
     }
+  }
+
+  // What was read so far is shown.
+  refresh() {
+    clearTimeout(this.planned);
+    this.planned = null;
+    this.tell(this.readTo);
+    if (this.group === 'all' && !this.search.value) this.grid.lay();
   }
 
   // What is not shown forgets where it was scrolled to.
@@ -217,6 +229,7 @@ export class CarView {
 
   end() {
     if (this.done || this.isEnded) return;
+    this.refresh();
     this.isEnded = true;
     this.asker.ask('stop', { walk: this.number });
     this.title.textContent = 'Stopped';

@@ -1,6 +1,7 @@
 """Files of blocks: sections with each kind of damage, and the way through them."""
 
 import os
+import time
 
 from making import cid_text, entries, head, header, items, link, named, section, second, text, varint
 from browser import QUIET, By, Keys, same
@@ -147,7 +148,9 @@ def stopped(page):
     page.wait("document.querySelector('.section[data-row]')")
     page.driver.find_element(By.CSS_SELECTOR, ".progress button").send_keys(Keys.ENTER)
     page.wait("document.querySelector('.banner h2').textContent.endsWith('Stopped')")
-    read = page.js("return document.querySelector('.banner p').textContent")
+    read = page.text(".banner p")
+    time.sleep(0.5)  # what the worker had sent by then
+    same((page.text(".banner h2")[-7:], page.text(".banner p")), ("Stopped", read))
     page.js("document.querySelector('.section[data-row]').click()")
     page.wait("document.querySelector('.block .banner')")
     assert page.text(".banner h2").endswith("A block: bytes")

@@ -163,12 +163,14 @@ const walking = (calls, room) => {
       if (code < 0) return code;
       return { roots: unpacked(room.copy(out, room.number())), behind: room.number(1) };
     },
-    // The number of a refusal, or what is said of the section that begins the bytes.
+    // What is said of the section that begins the bytes, and where its CID and its block begin and
+    // where it ends, or null where none begins them.
     carSection: (bytes) => {
       room.put(bytes);
       const code = section(0, bytes.length);
-      if (code <= TRUNCATED) return code;
-      return { code, cid: room.number(), block: room.number(1), end: room.number(2) };
+      if (code <= TRUNCATED) return { code, places: null };
+      const [cid, block, end] = [0, 1, 2].map((n) => room.number(n));
+      return { code, places: { cid, block, end } };
     },
     // The sections at the front of the bytes, one behind the other: what is said of each; three
     // places of each; the links of those that are blocks of DAG-CBOR, a byte of length before each;

@@ -1,14 +1,13 @@
 // A file of blocks (CAR, version 1), gone through by a window over the file: never more of it is in
 // memory than its longest section needs.
 
-import { CUT, NOT_VERIFIED, OTHER_BYTES, OTHER_CODEC } from './kinds.js';
+import { CUT, NOT_VERIFIED, OTHER_BYTES, TOO_LONG } from './kinds.js';
 import { cidKey, cidOfKey } from './cid.js';
 
 const WINDOW = 2 << 20;
 const FIRST_HEADER = 64 << 10;
 const MOST_HEADER = 16 << 20;
 const MOST = 1 << 30;
-export const TOO_LONG = -100; // a section that this page does not read
 
 const read = async (file, from, length) =>
   new Uint8Array(await file.slice(from, from + length).arrayBuffer());

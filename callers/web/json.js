@@ -4,7 +4,7 @@ import { NULL, BOOL, INTEGER, TEXT, BYTES, LIST, MAP, LINK, NEGATIVE } from './k
 import { cidText } from './cid.js';
 import { fromUtf8, jsonText, toBase64 } from './text.js';
 
-export const valueText = (bytes, shape, i) => {
+const valueText = (bytes, shape, i) => {
   const [number, place] = [shape.number[i], shape.place[i]];
   const payload = () => bytes.subarray(place, place + Number(number));
   switch (shape.kind[i]) {

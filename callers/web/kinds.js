@@ -17,3 +17,6 @@ export const NOT_VERIFIED = -23;
 
 // The bytes end too early for a section or a header.
 export const CUT = -24;
+
+// Of this page alone: a section that it does not read.
+export const TOO_LONG = -100;

@@ -19,7 +19,7 @@ export const GROUPS = [
   ['codec', 'Other codec', (code) => code === OTHER_CODEC],
 ];
 
-export const groupOf = (code) => GROUPS.slice(1).find(([, , has]) => has(code))?.[0] ?? 'refused';
+const groupOf = (code) => GROUPS.slice(1).find(([, , has]) => has(code))?.[0] ?? 'refused';
 
 export class Sections {
   constructor() {

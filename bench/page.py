@@ -1,11 +1,12 @@
 #!/usr/bin/python3
 """Speed of the page in the browser on a file of blocks, beside `dagcar check`.
 
-    bench/page.py [RUNS] [MODULE.wasm] [page]
+    bench/page.py [RUNS] [MODULE.wasm] [PROGRAM] [page]
 
 Makes a file of 104 MB as bench/cars.py does, gives it to callers/web in Chromium and to `dagcar
 check` in turn, and prints a table, the least of so many runs (5 where none is given). Without the
-module callers/web/build proves and builds it. With `page` the table is put into docs/SPEED.md too.
+module callers/web/build proves and builds it, and without the path of a `dagcar` that is. With
+`page` the table is put into docs/SPEED.md too.
 It wants chromium, chromium-driver and python3-selenium of Debian. Nothing here is a test."""
 
 import os
@@ -90,7 +91,8 @@ def in_program(program, path):
 def main(words):
     runs = next((int(it) for it in words if it.isdigit()), 5)
     module = [os.path.abspath(it) for it in words if it.endswith(".wasm")]
-    program = built("dagcar", 1)
+    programs = [it for it in words if it.endswith("/dagcar")]
+    program = programs[0] if programs else built("dagcar", 1)
     with tempfile.TemporaryDirectory(prefix="page-") as scratch:
         subprocess.run([f"{ROOT}/callers/web/build", f"{scratch}/page", *module], check=True)
         path = f"{scratch}/records.car"

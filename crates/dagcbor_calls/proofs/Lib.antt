@@ -4,3 +4,5 @@ pub mod Tapes
 pub mod Telling
 pub mod Spelling
 pub mod Naming
+pub mod Standing
+pub mod HeaderRoots

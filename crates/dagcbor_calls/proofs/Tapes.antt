@@ -10,6 +10,7 @@ use Rattle.ipld_tree.specs.Spelling.{item_count, entry_count, AreSpellableItems,
 use Rattle.ipld_tree.proofs.Unique.{major, argument, payload}
 use Rattle.ipld_tree.proofs.Fronts.{by_head, item_opened, is_bytes, is_text, is_list, is_mapping, is_link, is_simple}
 use Rattle.dagcbor_calls.specs.Tapes.{token, token_at, text_token, tokens_of, items_tokens, entries_tokens, tape_of, SplitsToken, SplitsTokenIfThere, BeginsWithZeroAnd, SplitsLinkIfThere}
+use Rattle.dagcbor_calls.specs.Standing.{IsSimpleToken, StandsTaggedIfThere}
 use Rattle.dagcbor_calls.specs.declared.tape.Token.{Token}
 
 -- ---- a map's entries are a row of items: each key, as a text, and its value
@@ -219,6 +220,19 @@ simple_tokens whole n b c first fits h off on nil t ts f =
     one_byte (inr (inl e)) = sized 21 e refl
     one_byte (inr (inr e)) = sized 22 e refl
 
+pub simple_token_is : (whole n : ℕ) (b c : List ℕ) (first : Token) → length b ≤ whole → SplitsHead b 7 n c → IsSimpleToken n (whole - length c) first → SplitsToken whole b first c
+simple_token_is whole n b c first fits h (inl k) = simple_tokens whole n b c first fits h (λ e. k.1) (λ e. absurd (omega (arith, e, k.0))) (λ e. absurd (omega (arith, e, k.0)))
+simple_token_is whole n b c first fits h (inr (inl k)) = simple_tokens whole n b c first fits h (λ e. absurd (omega (arith, e, k.0))) (λ e. k.1) (λ e. absurd (omega (arith, e, k.0)))
+simple_token_is whole n b c first fits h (inr (inr k)) = simple_tokens whole n b c first fits h (λ e. absurd (omega (arith, e, k.0))) (λ e. absurd (omega (arith, e, k.0))) (λ e. k.1)
+
+pub no_simple_token : (n : ℕ) (b c : List ℕ) (t : Tree) (ts : Items) → SplitsHead b 7 n c → (20 ≤ n → ¬ (n ≤ 22)) → ¬ AreFronts b (item t ts) []
+no_simple_token n b c t ts h none f =
+    let k = head_there 7 n b c t ts h f in
+    elim (is_simple t k.0) [
+      | inl s ↦ none (omega (arith, k.1, s.1)) (omega (arith, k.1, s.1))
+      | inr r ↦ elim r [ inl s ↦ none (omega (arith, k.1, s.1)) (omega (arith, k.1, s.1)) | inr s ↦ none (omega (arith, k.1, s.1)) (omega (arith, k.1, s.1)) ]
+    ]
+
 -- ---- links
 
 -- what a head says of the byte string of a zero and a CID
@@ -230,6 +244,14 @@ no_zero m n b c cid more h none f = omega (arith, none, ap length (string_there 
 
 pub no_length : (m n : ℕ) (b c cid more : List ℕ) → SplitsHead b m n c → n < 1 → ¬ BeginsWithZeroAnd b cid more
 no_length m n b c cid more h none f = omega (arith, none, (string_there m n b c cid more h f).0)
+
+pub no_other_string : (m n : ℕ) (b c cid more : List ℕ) → SplitsHead b m n c → ¬ (m ≡ 2) → ¬ BeginsWithZeroAnd b cid more
+no_other_string m n b c cid more h other f = other (sym (by_head m n b c more (bytes (0x00 ∷ cid)) h.1 f h.2).0)
+
+pub no_other_byte : (m n byte : ℕ) (b c d cid more : List ℕ) → SplitsHead b m n c → c ≡ byte ∷ d → ¬ (byte ≡ 0) → ¬ BeginsWithZeroAnd b cid more
+no_other_byte m n byte b c d cid more h e other f =
+    let both : byte ∷ d ≡ 0x00 ∷ (cid ++ more) = sym e ∙ (string_there m n b c cid more h f).1 in
+    other (cc both)
 
 pub no_cid_payload : (m n byte : ℕ) (b c d cid more : List ℕ) → SplitsHead b m n c → c ≡ byte ∷ d → length d < n - 1 → ¬ BeginsWithZeroAnd b cid more
 no_cid_payload m n byte b c d cid more h e few f =
@@ -271,6 +293,16 @@ link_tokens first rest whole n b c (Some p) fits h k = (omega (arith, k.0, behin
         let place : whole - length b + length (0xd8 ∷ 0x2a ∷ front ++ 0x00 ∷ []) ≡ whole - length (cid ++ items_spelling ts) = omega (arith, size, fits, length-append front (0x00 ∷ [])) in
         leaf_token whole b (rest p) (first p) t (link cid) ts fits f l.1 (ap (λ x. token 7 (length cid) x ∷ []) place ∙ ap (λ x. x ∷ []) (sym q.0)) q.1
 
+pub no_other_link : (whole n : ℕ) (b c : List ℕ) (t : Tree) (ts : Items) → SplitsHead b 6 n c → AreFronts b (item t ts) [] → n ≡ 42
+no_other_link whole n b c t ts h f =
+    let k = head_there 6 n b c t ts h f in
+    sym k.1 ∙ ap argument (is_link t k.0).1
+
+-- a tag of another number has no token
+pub tagged_tokens : {P : Type 0} (first : P → Token) (rest : P → List ℕ) (whole n : ℕ) (b c : List ℕ) (r : Option P) → length b ≤ whole → SplitsHead b 6 n c → (n ≡ 42 → SplitsLinkIfThere first rest whole c r) → StandsTaggedIfThere first rest n whole c r → SplitsTokenIfThere first rest whole b r
+tagged_tokens first rest whole n b c None fits h tagged none = λ t ts f. link_tokens first rest whole n b c None fits h (tagged (no_other_link whole n b c t ts h f)) t ts f
+tagged_tokens first rest whole n b c (Some p) fits h tagged k = link_tokens first rest whole n b c (Some p) fits h (tagged k.0)
+
 -- ---- the tape
 
 -- what was told of a block, and what is still to come
@@ -293,7 +325,7 @@ none_told b t old s = record {
 }
 
 -- a token behind those at the front of a tape
-put_more : (done old : List Token) (first : Token) → length done < length old → set (done ++ drop (length done) old) (length done) first ≡ (done ++ first ∷ []) ++ drop (length done + 1) old
+pub put_more : (done old : List Token) (first : Token) → length done < length old → set (done ++ drop (length done) old) (length done) first ≡ (done ++ first ∷ []) ++ drop (length done + 1) old
 put_more done old first room =
     let d = token 0 0 0 in
     ap (λ x. set (done ++ x) (length done) first) (drop-cons old (length done) d room)

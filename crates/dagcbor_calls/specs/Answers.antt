@@ -1,5 +1,5 @@
 -- What callers in other languages are answered.
-use Rattle.std.specs.Prelude.{◌≡◌, ◌≢◌, ◌⊎◌, ℕ, ◌-◌, ◌^◌, ◌≤◌, min, ℤ, negsuc, List, ◌++◌, length, drop}
+use Rattle.std.specs.Prelude.{◌≡◌, ◌≢◌, ◌⊎◌, ℕ, ◌-◌, ◌^◌, ◌≤◌, min, ℤ, negsuc, List, ◌++◌, length, take, drop}
 use Rattle.std.specs.Prelude.{Option, None, Some}
 use Rattle.std.specs.declared.convert.Infallible.{Infallible}
 use Rattle.dagcbor_heads.specs.Reading.{default_steps}
@@ -10,10 +10,12 @@ use Rattle.ipld_tree.specs.Spelling.{IsFront}
 use Rattle.dagcbor_items.specs.TreeKinds.{kind_of}
 use Rattle.dagcbor_items.specs.Slices.{IsBlock, SliceRefused}
 use Rattle.dagcbor_items.specs.Slices.{LinksRefused}
+use Rattle.dagcbor_items.specs.Stops.{StandsAt}
 use Rattle.dagcbor_calls.specs.Codes.{kind_code, refusal_code}
 use Rattle.dagcbor_calls.specs.Packed.{packed_links, with_front}
 use Rattle.dagcbor_calls.specs.Tapes.{tape_of, with_tokens}
 use Rattle.dagcbor_calls.specs.Told.{tape_told, HasRoom}
+use Rattle.dagcbor_calls.specs.Standing.{AreTokens}
 use Rattle.dagcbor_calls.specs.declared.tape.Token.{Token}
 
 -- the number of the kind where the bytes are a block; else that of a refusal whose cause stands,
@@ -40,6 +42,16 @@ abbrev pub IsTapeAnswer : List ℕ → List Token → List Token → ℕ → ℤ
 IsTapeAnswer b old new needed code =
     ((t : Tree) × IsBlock b t × (code ≡ kind_code (kind_of t)) × (needed ≡ length (tape_of t)) × (needed ≤ length b) × (new ≡ with_tokens (tape_of t) old))
     ⊎ ((e : DecodeError Infallible) × SliceRefused e b × (e ≢ OutOfMemory) × (code ≡ refusal_code e) × (needed ≡ 0) × (new ≡ old))
+
+-- the number of the kind where the bytes are a block, and their tokens as in a tape, and their end is
+-- the place; or the number of a refusal, never want of memory, and its place, and how many tokens
+-- stand whole before it, which stand at the front of the tape where there is room for them all, and
+-- else nothing changed there
+abbrev pub IsTokensAnswer : List ℕ → List Token → List Token → ℕ → ℕ → ℤ → Type 0
+IsTokensAnswer b old new needed place code =
+    ((t : Tree) × IsBlock b t × (code ≡ kind_code (kind_of t)) × (needed ≡ length (tape_of t)) × (needed ≤ length b) × (new ≡ with_tokens (tape_of t) old) × (place ≡ length b))
+    ⊎ ((e : DecodeError Infallible) × SliceRefused e b × (e ≢ OutOfMemory) × (code ≡ refusal_code e) × StandsAt e b place
+    × ((tokens : List Token) × AreTokens (take place b) tokens × (needed ≡ length tokens) × (new ≡ with_tokens tokens old)))
 
 -- where a token tells nothing, -20, and nothing is needed, and nothing changed; else how many bytes
 -- the tape tells, and where there is room for them, they stand at the front of the memory, and the

@@ -2,6 +2,8 @@ pub mod Codes
 pub mod Packed
 pub mod Tapes
 pub mod Told
+pub mod Standing
 pub mod Answers
 pub mod Sections
+pub mod Headers
 pub mod CidTexts

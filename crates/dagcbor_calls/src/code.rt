@@ -1,8 +1,9 @@
 //! Numbers for what callers in other languages are told.
 
 ghost use Rattle.std.specs.Prelude.{◌≡◌};
-ghost use Rattle.dagcbor_calls.specs.Codes.{kind_code, refusal_code, answer_code};
+ghost use Rattle.dagcbor_calls.specs.Codes.{kind_code, refusal_code, answer_code, fault_code};
 
+use dagcbor_car::CarError;
 use dagcbor_heads::DecodeError;
 use dagcbor_items::Kind;
 
@@ -60,5 +61,17 @@ pub(crate) fn refusal_code<E>(refusal: &DecodeError<E>) -> i32
         DecodeError::UnorderedKey => -17,
         DecodeError::OutOfMemory => -18,
         DecodeError::Failed => -19,
+    }
+}
+
+/// The number of the cause for which no section stands.
+pub(crate) fn fault_code<E>(fault: &CarError<E>) -> i32
+    ensures { result ≡ fault_code fault.now }
+{
+    match fault {
+        CarError::Truncated => -24,
+        CarError::InvalidLength => -25,
+        CarError::InvalidCid(_) => NO_CID,
+        _ => -27,
     }
 }

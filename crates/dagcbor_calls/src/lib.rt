@@ -4,6 +4,7 @@
 
 mod cid;
 mod code;
+mod header;
 pub mod laws;
 mod links;
 mod name;
@@ -13,8 +14,9 @@ mod tape;
 
 pub use cid::{put_cid_of_text, put_cid_text};
 pub use code::code_of;
+pub use header::put_header;
 pub use links::put_links;
 pub use name::name_of;
 pub use section::judge_section;
 pub use spell::spell_tape;
-pub use tape::{Token, put_tape};
+pub use tape::{Token, put_front_tape, put_tape};

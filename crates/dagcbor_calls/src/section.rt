@@ -4,12 +4,12 @@
 ghost use Rattle.std.specs.Prelude.{◌≡◌, length};
 ghost use Rattle.ipld_tree.specs.Cid.{cid_bytes};
 ghost use Rattle.dagcbor_car.specs.Splits.{SplitsSection};
-ghost use Rattle.dagcbor_calls.specs.Codes.{verdict_code, fault_code};
+ghost use Rattle.dagcbor_calls.specs.Codes.{verdict_code};
 ghost use Rattle.dagcbor_calls.specs.Sections.{places_of, IsSectionAnswer};
 
-use crate::code::{NO_CID, kind_code, refusal_code};
+use crate::code::{fault_code, kind_code, refusal_code};
 use arrayvec::ArrayVec;
-use dagcbor_car::{CarError, Section, Verdict, split_section, verify};
+use dagcbor_car::{Section, Verdict, split_section, verify};
 use ipld_tree::Cid;
 
 /// The number of a verdict.
@@ -22,18 +22,6 @@ fn verdict_code(verdict: &Verdict) -> i32
         Verdict::Refused(refusal) => refusal_code(refusal),
         Verdict::OtherBytes => -22,
         Verdict::Unverified => -23,
-    }
-}
-
-/// The number of the cause for which no section stands.
-fn fault_code<E>(fault: &CarError<E>) -> i32
-    ensures { result ≡ fault_code fault.now }
-{
-    match fault {
-        CarError::Truncated => -24,
-        CarError::InvalidLength => -25,
-        CarError::InvalidCid(_) => NO_CID,
-        _ => -27,
     }
 }
 

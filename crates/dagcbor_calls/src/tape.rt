@@ -1,11 +1,17 @@
 //! A block as a row of tokens: its heads, from which a caller builds values of its own.
 
-ghost use Rattle.std.specs.Prelude.{◌≡◌, ◌-◌, ◌<◌, ◌≤◌, length, drop, slice_set, MatchOption};
+ghost use Rattle.std.specs.Prelude.{◌≡◌, ◌-◌, ◌<◌, ◌≤◌, List, length, drop, slice_set, MatchOption};
+ghost use Rattle.ipld_tree.specs.Tree.{Tree};
+ghost use Rattle.ipld_tree.specs.Spelling.{IsSpelling};
 ghost use Rattle.dagcbor_calls.specs.Tapes.{token, SplitsTokenIfThere, SplitsLinkIfThere};
-ghost use Rattle.dagcbor_calls.specs.Tapes.{PutsTokens, PutsTape};
+ghost use Rattle.dagcbor_calls.specs.Tapes.{PutsTokens, PutsTape, tape_of, with_tokens};
+ghost use Rattle.dagcbor_calls.specs.Standing.{IsSimpleToken, StandsLinkIfThere};
+ghost use Rattle.dagcbor_calls.specs.Standing.{StandsTaggedIfThere, StandsTokenIfThere, AreTokens};
+ghost use Rattle.dagcbor_calls.specs.Standing.{PutsStanding, PutsFrontTape};
+ghost use Rattle.dagcbor_calls.specs.declared.tape.Token.{Token};
 
 use dagcbor_heads::{DecodeError, split_head};
-use dagcbor_items::{Kind, check_slice};
+use dagcbor_items::{Kind, check_slice, judge_slice};
 use std::convert::Infallible;
 
 /// A head of a block: its kind, its number, and the place behind it.
@@ -59,27 +65,34 @@ fn behind_payload(bytes: &[u8], n: u64) -> Option<&[u8]>
     Some(&bytes[n as usize..])
 }
 
-/// The token of a simple value: null, or false or true.
-fn simple_token(value: u64, whole: usize, behind: &[u8]) -> Token
+/// The token of a simple value: false, true or null.
+fn simple_token(value: u64, whole: usize, behind: &[u8]) -> Option<Token>
     requires { length behind.now ≤ whole }
-    ensures off { value ≡ 20 → result ≡ token 1 0 (whole - length behind.now) }
-    ensures on { value ≡ 21 → result ≡ token 1 1 (whole - length behind.now) }
-    ensures nil { value ≡ 22 → result ≡ token 0 0 (whole - length behind.now) }
+    ensures { MatchOption result (20 ≤ value → ¬ (value ≤ 22))
+        (λ t. IsSimpleToken value (whole - length behind.now) t) }
 {
     match value {
-        20 => token_before(BOOL, 0, whole, behind),
-        21 => token_before(BOOL, 1, whole, behind),
-        _ => token_before(NULL, 0, whole, behind),
+        20 => Some(token_before(BOOL, 0, whole, behind)),
+        21 => Some(token_before(BOOL, 1, whole, behind)),
+        22 => Some(token_before(NULL, 0, whole, behind)),
+        _ => None,
     }
 }
 
 /// The token of a link, whose tag was split off, and what is behind its CID.
 fn split_link(bytes: &[u8], whole: usize) -> Option<(Token, &[u8])>
     requires { length bytes.now ≤ whole }
-    ensures { SplitsLinkIfThere (λ p. p.0) (λ p. p.1.now) whole bytes.now result }
+    ensures tokens { SplitsLinkIfThere (λ p. p.0) (λ p. p.1.now) whole bytes.now result }
+    ensures stands { StandsLinkIfThere (λ p. p.0) (λ p. p.1.now) whole bytes.now result }
 {
-    let (_major, count, payload) = split_head(bytes)?;
-    let (_zero, cid) = payload.split_first()?;
+    let (major, count, payload) = split_head(bytes)?;
+    if major != 2 {
+        return None;
+    }
+    let (zero, cid) = payload.split_first()?;
+    if *zero != 0 {
+        return None;
+    }
     if count < 1 {
         return None;
     }
@@ -87,10 +100,24 @@ fn split_link(bytes: &[u8], whole: usize) -> Option<(Token, &[u8])>
     Some((token_before(LINK, count - 1, whole, cid), rest))
 }
 
+/// The same of a tag of this number.
+fn split_tagged(number: u64, bytes: &[u8], whole: usize) -> Option<(Token, &[u8])>
+    requires { length bytes.now ≤ whole }
+    ensures tokens { number ≡ 42
+        → SplitsLinkIfThere (λ p. p.0) (λ p. p.1.now) whole bytes.now result }
+    ensures stands { StandsTaggedIfThere (λ p. p.0) (λ p. p.1.now) number whole bytes.now result }
+{
+    if number != 42 {
+        return None;
+    }
+    split_link(bytes, whole)
+}
+
 /// The token of the head at the front, and what is behind it and its payload.
 fn split_token(bytes: &[u8], whole: usize) -> Option<(Token, &[u8])>
     requires { length bytes.now ≤ whole }
-    ensures { SplitsTokenIfThere (λ p. p.0) (λ p. p.1.now) whole bytes.now result }
+    ensures tokens { SplitsTokenIfThere (λ p. p.0) (λ p. p.1.now) whole bytes.now result }
+    ensures stands { StandsTokenIfThere (λ p. p.0) (λ p. p.1.now) whole bytes.now result }
 {
     let (major, argument, behind) = split_head(bytes)?;
     match major {
@@ -106,8 +133,11 @@ fn split_token(bytes: &[u8], whole: usize) -> Option<(Token, &[u8])>
         }
         4 => Some((token_before(LIST, argument, whole, behind), behind)),
         5 => Some((token_before(MAP, argument, whole, behind), behind)),
-        6 => split_link(behind, whole),
-        _ => Some((simple_token(argument, whole, behind), behind)),
+        6 => split_tagged(argument, behind, whole),
+        _ => {
+            let token = simple_token(argument, whole, behind)?;
+            Some((token, behind))
+        }
     }
 }
 
@@ -120,11 +150,12 @@ fn put_token(tape: &mut [Token], at: usize, token: Token)
     }
 }
 
-/// Puts the tokens of a block at the front of the tape, where there is room for them all: how many
-/// there are.
+/// Puts the tokens that stand one behind the other from the front, as those of a block do, at the
+/// front of the tape, where there is room for them all: how many there are.
 fn put_tokens(bytes: &[u8], tape: &mut [Token]) -> usize
     ensures few { result ≤ length bytes.now }
     ensures tokens { PutsTokens bytes.now tape.old tape.new result }
+    ensures stands { PutsStanding bytes.now tape.old tape.new result }
 {
     let mut count = 0;
     let mut rest = bytes;
@@ -134,6 +165,24 @@ fn put_tokens(bytes: &[u8], tape: &mut [Token]) -> usize
         rest = behind;
     }
     count
+}
+
+/// The same where there is room for them all; else the tape stays.
+fn put_whole(bytes: &[u8], tape: &mut [Token]) -> usize
+    ensures few { result ≤ length bytes.now }
+    ensures tokens { (t : Tree) → IsSpelling bytes.now t → (result ≡ length (tape_of t))
+        × (tape.new ≡ with_tokens (tape_of t) tape.old) }
+    ensures stands { (tokens : List Token) × AreTokens bytes.now tokens
+        × (result ≡ length tokens) × (tape.new ≡ with_tokens tokens tape.old) }
+{
+    // A tape with a place for each byte has room, and wants no count before.
+    if tape.len() < bytes.len() {
+        let needed = put_tokens(bytes, &mut []);
+        if needed > tape.len() {
+            return needed;
+        }
+    }
+    put_tokens(bytes, tape)
 }
 
 /// The kind of a block, whose tokens are counted, and put at the front of the tape where there is
@@ -147,13 +196,29 @@ pub fn put_tape(
 {
     *needed = 0;
     let kind = check_slice(bytes)?;
-    // A tape with a place for each byte has room, and wants no count before.
-    if tape.len() < bytes.len() {
-        *needed = put_tokens(bytes, &mut []);
-        if *needed > tape.len() {
-            return Ok(kind);
+    *needed = put_whole(bytes, tape);
+    Ok(kind)
+}
+
+/// The same of any bytes: of such as are refused, the tokens before the place of the fault.
+pub fn put_front_tape(
+    bytes: &[u8],
+    tape: &mut [Token],
+    needed: &mut usize,
+    place: &mut usize,
+) -> Result<Kind, DecodeError<Infallible>>
+    ensures { PutsFrontTape bytes.now tape.old tape.new needed.new place.new result }
+{
+    match judge_slice(bytes) {
+        Ok(kind) => {
+            *place = bytes.len();
+            *needed = put_whole(bytes, tape);
+            Ok(kind)
+        }
+        Err(refused) => {
+            *place = refused.place;
+            *needed = put_whole(&bytes[..refused.place], tape);
+            Err(refused.cause)
         }
     }
-    *needed = put_tokens(bytes, tape);
-    Ok(kind)
 }

@@ -1,16 +1,14 @@
 -- A file, section by section: which blocks it has, where its links lead, and what leads nowhere.
-use Rattle.std.proofs.Common.{◌≡◌, inl, inr, ℕ, ◌+◌, ◌<◌, List, [], ◌∷◌, ◌++◌, length, get_or, take, refl, sym, ap, ◌∙◌, subst, add-one}
+use Rattle.std.proofs.Common.{◌≡◌, inl, inr, ℕ, List, [], ◌∷◌, ◌++◌, refl, sym, ap, ◌∙◌, subst}
 use Rattle.std.specs.Prelude.{◌↔◌, ◌⊎◌, Result, Ok, Err, OnOk, IfOk, Vec, false}
 use Rattle.std.specs.declared.alloc.Global.{Global}
 use Rattle.std.specs.declared.convert.Infallible.{Infallible}
 use Rattle.dagcbor_heads.specs.declared.error.DecodeError.{DecodeError}
 use Rattle.std.specs.List.Sorted.{IsStrictlySortedBy}
-use Rattle.std.proofs.Math.Seq.{take-suc, take-length}
 use Rattle.ipld_tree.specs.Cid.{CidParts, AreCidParts, cid_bytes, cid_cmp}
 use Rattle.ipld_tree.specs.Tree.{Tree, links_of}
 use Rattle.ipld_tree.proofs.Cids.{cid_unique}
 use Rattle.ipld_tree.proofs.Fronts.{front_unique}
-use Rattle.std.specs.List.{AllByRecursion}
 use Rattle.dagcbor_items.specs.Walks.{forms}
 use Rattle.dagcbor_items.specs.Slices.{IsBlock}
 use Rattle.dagcbor_items.specs.declared.kind.Kind.{Kind}

@@ -10,3 +10,4 @@ pub mod Files
 pub mod Pulling
 pub mod Pushing
 pub mod Running
+pub mod HeaderShape

@@ -1,12 +1,12 @@
 -- Links within links.
-use Rattle.std.proofs.Common.{◌≡◌, ◌⊎◌, inl, inr, ℕ, ◌+◌, ◌*◌, ◌<◌, ◌≤◌, max, zero, suc, Bool, true, false, List, [], ◌∷◌, ◌++◌, length, length-append, get_or, take, map, refl, sym, ap, ◌∙◌, subst, arith, add-one}
+use Rattle.std.proofs.Common.{◌≡◌, ◌⊎◌, inl, inr, ℕ, ◌+◌, ◌<◌, ◌≤◌, max, zero, suc, Bool, true, false, List, [], ◌∷◌, ◌++◌, length, length-append, get_or, take, refl, sym, ap, ◌∙◌, subst, arith, add-one}
 use Rattle.std.specs.Prelude.{◌≢◌, ◌↔◌, Result, Ok, Err, is_err, OnOk, if◌then◌else◌, ◌==◌}
 use Rattle.std.specs.List.{AllByRecursion}
 use Rattle.std.proofs.Math.Seq.{take-suc, take-length}
 use Rattle.dagcbor_heads.specs.Head.{head}
 use Rattle.ipld_tree.specs.Cid.{varint, CidParts, AreCidParts, IsCid, cid_bytes}
 use Rattle.ipld_tree.specs.Tree.{Tree, null, boolean, integer, text, bytes, list, mapping, link, Items, no_items, item, Entries, no_entries, entry, IsTree, AreItems, AreEntries, links_of, items_links, entries_links}
-use Rattle.ipld_tree.specs.Spelling.{item_count, entry_count, spelling, text_spelling, items_spelling, entries_spelling, IsFront}
+use Rattle.ipld_tree.specs.Spelling.{item_count, entry_count, spelling, text_spelling, items_spelling, entries_spelling}
 use Rattle.ipld_tree.proofs.Cids.{cid_unique}
 use Rattle.ipld_tree.proofs.Fronts.{front_unique}
 use Rattle.dagcbor_items.specs.Walks.{forms, AreLinksIn, HasLinkIn}
@@ -17,7 +17,7 @@ use Rattle.dagcbor_car.specs.Names.{IsInline}
 use Rattle.dagcbor_car.specs.Verdicts.{IsDagCbor}
 use Rattle.dagcbor_car.specs.Splits.{HasBlock}
 use Rattle.dagcbor_car.specs.Sets.{Among, members, AddsCid}
-use Rattle.dagcbor_car.specs.Within.{IsInlineForm, HoldsBlock, IsWithin, IsReached, IsReachedName, HoldsReached, AddsReached, AddsAll, AreFirstNames, AddsLinks}
+use Rattle.dagcbor_car.specs.Within.{IsInlineForm, IsWithin, IsReached, IsReachedName, HoldsReached, AddsReached, AddsAll, AreFirstNames, AddsLinks}
 use Rattle.dagcbor_car.specs.declared.cid_set.CidSet.{CidSet}
 use Rattle.dagcbor_car.proofs.Members.{among_append, append_among, among_map, whole_block}
 

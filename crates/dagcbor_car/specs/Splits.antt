@@ -1,13 +1,13 @@
 -- What stands at the front of the bytes of a file, and why it does not.
-use Rattle.std.specs.Prelude.{◌≡◌, ◌≢◌, ◌⊎◌, ℕ, ◌^◌, ◌<◌, List, ◌++◌, length}
+use Rattle.std.specs.Prelude.{◌≡◌, ◌≢◌, ◌⊎◌, ℕ, ◌^◌, ◌<◌, List, ◌++◌, length, map}
 use Rattle.std.specs.Prelude.{Result, MatchResult, Vec}
 use Rattle.std.specs.declared.alloc.Global.{Global}
 use Rattle.dagcbor_heads.specs.declared.error.DecodeError.TheVariants as unread
 use Rattle.ipld_tree.specs.Cid.{varint, CidParts, AreCidParts, cid_bytes}
 use Rattle.ipld_tree.specs.CidFault.{IsCutVarint, IsNoVarint, IsFault}
 use Rattle.ipld_tree.specs.declared.cid_error.CidError.{CidError}
-use Rattle.ipld_tree.specs.Tree.{Tree}
-use Rattle.ipld_tree.specs.Spelling.{IsSpelling}
+use Rattle.ipld_tree.specs.Tree.{Tree, link, items_of}
+use Rattle.ipld_tree.specs.Spelling.{IsSpelling, AreFronts}
 use Rattle.dagcbor_items.specs.Slices.{IsBlock, SliceRefused}
 use Rattle.dagcbor_items.specs.Walks.{forms}
 use Rattle.dagcbor_car.specs.Car.{counted, Section, section_bytes, IsSection}
@@ -72,6 +72,10 @@ BeginsNoHeader b = (roots : List (List ℕ)) (rest : List ℕ) → ¬ SplitsHead
 -- the bytes are a block of DAG-CBOR
 abbrev pub HasBlock : List ℕ → Type 0
 HasBlock b = (t : Tree) × IsBlock b t
+
+-- the bytes begin with so many links, and the rest follows
+abbrev pub AreLinkFronts : List ℕ → ℕ → List (List ℕ) → List ℕ → Type 0
+AreLinkFronts b count roots rest = (length roots ≡ count) × AreFronts b (items_of (map link roots)) rest
 
 -- a block stands behind its length
 abbrev pub CountsBlock : List ℕ → Type 0

@@ -1,20 +1,21 @@
 //! The header at the front of bytes: the roots of a file.
 
 ghost use Rattle.std.specs.Prelude.{◌≡◌, ◌↔◌, [], ◌∷◌, map, codes, pos, Some, IsTrue, true};
-ghost use Rattle.std.specs.Prelude.{MatchResult, IfOk};
+ghost use Rattle.std.specs.Prelude.{◌≢◌, ℕ, List, MatchResult, MatchOption, IfOk, IfErr};
 ghost use Rattle.ipld_tree.specs.Cid.{cid_bytes};
-ghost use Rattle.ipld_tree.specs.Tree.{integer, link, list_tree, entries_tree};
-ghost use Rattle.ipld_tree.specs.Spelling.{IsSpelling};
+ghost use Rattle.ipld_tree.specs.Tree.{integer, list, link, items_of, list_tree, entries_tree};
+ghost use Rattle.ipld_tree.specs.Spelling.{IsSpelling, IsFront};
 ghost use Rattle.dagcbor_items.specs.Walks.{forms};
 ghost use Rattle.dagcbor_write.specs.Trees.{field};
 ghost use Rattle.dagcbor_car.specs.Car.{header_tree};
 ghost use Rattle.dagcbor_car.specs.Splits.{SplitsHeader, HeaderRefused, HasBlock, ReadsHeader};
+ghost use Rattle.dagcbor_car.specs.Splits.{IsNoHeader, AreLinkFronts};
 ghost use Rattle.dagcbor_car.specs.declared.error.CarError.TheVariants.{OutOfMemory};
 
 use crate::error::CarError;
 use crate::section::split_counted;
-use dagcbor_heads::{EncodeError, Write, WriteResult};
-use dagcbor_items::{check_slice, links_from_slice};
+use dagcbor_heads::{EncodeError, Write, WriteResult, split_head};
+use dagcbor_items::{behind_link, check_slice, links_from_slice};
 use dagcbor_write::{Field, Serialize, Serializer, to_vec, write_struct};
 use ipld_tree::Cid;
 use std::alloc::{AllocError, Global};
@@ -65,6 +66,87 @@ pub fn split_header(alloc: Global, bytes: &[u8]) -> Result<(Vec<Cid>, &[u8]), Ca
     let (inner, rest) = split_counted(bytes)?;
     let roots = read_header(alloc, inner)?;
     Ok((roots, rest))
+}
+
+/// The block of the header at the front, and the bytes behind it. No memory is taken: the roots are
+/// the links of that block.
+pub fn judge_header(bytes: &[u8]) -> Result<(&[u8], &[u8]), CarError<Infallible>>
+    ensures header { MatchResult result
+        (λ p. (roots : List (List ℕ)) × IsSpelling p.0.now (header_tree roots)
+        × SplitsHeader bytes.now roots p.1.now)
+        (λ e. HeaderRefused e bytes.now) }
+    ensures memory { IfErr result (λ e. e ≢ OutOfMemory) }
+{
+    let (inner, rest) = split_counted(bytes)?;
+    judge_block(inner)?;
+    Ok((inner, rest))
+}
+
+/// Whether the bytes are a header, or why not.
+fn judge_block(bytes: &[u8]) -> Result<(), CarError<Infallible>>
+    ensures header { MatchResult result
+        (λ _. (roots : List (List ℕ)) × IsSpelling bytes.now (header_tree roots))
+        (λ e. IsNoHeader e bytes.now) }
+    ensures memory { IfErr result (λ e. e ≢ OutOfMemory) }
+{
+    match check_slice(bytes) {
+        Ok(_kind) => {
+            if is_header(bytes) {
+                Ok(())
+            } else {
+                Err(CarError::OtherHeader)
+            }
+        }
+        Err(error) => Err(CarError::NoBlock(error)),
+    }
+}
+
+/// Whether the bytes are the header of some roots.
+fn is_header(bytes: &[u8]) -> bool
+    ensures { IsTrue result ↔ ((roots : List (List ℕ)) × IsSpelling bytes.now (header_tree roots)) }
+{
+    let Some((front, list)) = bytes.split_at_checked(7) else {
+        return false;
+    };
+    let before = [0xa2, 0x65, 0x72, 0x6f, 0x6f, 0x74, 0x73];
+    if front != before.as_slice() {
+        return false;
+    }
+    let Some(version) = behind_link_list(list) else {
+        return false;
+    };
+    let wanted = [0x67, 0x76, 0x65, 0x72, 0x73, 0x69, 0x6f, 0x6e, 0x01];
+    version == wanted.as_slice()
+}
+
+/// The bytes behind the list of links at the front.
+fn behind_link_list(bytes: &[u8]) -> Option<&[u8]>
+    ensures { MatchOption result
+        (¬ ((roots : List (List ℕ)) × (rest : List ℕ)
+        × IsFront bytes.now (list (items_of (map link roots))) rest))
+        (λ rest. (roots : List (List ℕ))
+        × IsFront bytes.now (list (items_of (map link roots))) rest.now) }
+{
+    let (major, count, behind) = split_head(bytes)?;
+    if major != 4 {
+        return None;
+    }
+    behind_links(behind, count)
+}
+
+/// The bytes behind so many links.
+fn behind_links(bytes: &[u8], count: u64) -> Option<&[u8]>
+    ensures { MatchOption result
+        (¬ ((roots : List (List ℕ)) × (rest : List ℕ) × AreLinkFronts bytes.now count roots rest))
+        (λ rest. (roots : List (List ℕ)) × AreLinkFronts bytes.now count roots rest.now) }
+{
+    let mut rest = bytes;
+    let mut more = count;
+    while more > 0 {
+        rest = behind_link(rest)?;
+        more -= 1;
+    }
+    Some(rest)
 }
 
 /// The roots of the header that the bytes are.

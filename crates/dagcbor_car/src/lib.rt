@@ -19,7 +19,7 @@ mod writer;
 
 pub use check::{CarCheck, check_car, check_input};
 pub use error::{CarError, CarWriteError};
-pub use header::split_header;
+pub use header::{judge_header, split_header};
 pub use name::{DAG_CBOR, IDENTITY, SHA2_256, name_of_block};
 pub use names::names_from_slice;
 pub use pull::{pull_header, pull_section};

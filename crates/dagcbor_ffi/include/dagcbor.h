@@ -1,5 +1,5 @@
-/* DAG-CBOR for C: whether bytes are a block, what it holds, how it is spelled, the links of an item, a block's name, the
-   sections of a file of blocks (CAR, version 1), and the text of CIDs.
+/* DAG-CBOR for C: whether bytes are a block, what it holds, where they are none, how it is spelled, the links of an item,
+   a block's name, the header and the sections of a file of blocks (CAR, version 1), and the text of CIDs.
 
    A block is the one spelling of a DAG-CBOR item that reading takes at most 256 steps of depth: one for a leaf, and
    two for each list or map around it. An item of more steps is refused here as too deep.
@@ -11,7 +11,7 @@
      there, and nobody writes them during the call, no other thread either; `length` is below 2^63.
    - `out` likewise, also where `room` is 0 (dagcbor_into), for `room` bytes that nobody else reads or writes
      during the call; `tape` for `room` tokens (dagcbor_tape_into), aligned as a uint64_t, and fewer than 2^58 of
-     them; `needed` for one number, `places` for three. None of these overlaps another.
+     them; `needed`, `place` and `behind` for one number each, `places` for three. None of these overlaps another.
    - The thread has 128 KB of stack left; the CPU is an x86-64-v2.
    Calls on different threads need no lock: nothing is shared between them. */
 #ifndef DAGCBOR_H
@@ -78,6 +78,15 @@ int32_t dagcbor_check(const uint8_t *bytes, size_t length);
    *needed is 0 and `tape` as it was. With `room` as `length` one call is enough. */
 int32_t dagcbor_tape(const uint8_t *bytes, size_t length, dagcbor_token *tape, size_t room, size_t *needed);
 
+/* As dagcbor_tape of a block, and *place becomes `length`. Of other bytes the answer is the refusal of dagcbor_check, and
+   *place becomes its place, from 0 to `length`: so many bytes might be followed by others, or are a block, and with the
+   one that stands there the refusal comes. DAGCBOR_EOF comes behind all bytes, DAGCBOR_TRAILING_DATA behind the item, and
+   DAGCBOR_DEPTH_OVERFLOW at the last byte before an item for which no step is left. *needed becomes the number of tokens
+   that stand whole before that place, each a head with its payload: at most *place. Where that is at most `room` they are
+   put at the front of `tape`, and else `tape` stays as it was. */
+int32_t dagcbor_tokens(const uint8_t *bytes, size_t length, dagcbor_token *tape, size_t room, size_t *needed,
+                       size_t *place);
+
 /* The other way: what the `count` tokens tell, each its head and its payload out of `bytes`, one behind the other.
    *needed becomes its length. Where that is at most `room` it is put at the front of `out`, and the answer is that of
    dagcbor_check on it: a kind exactly where it is a block (else the front of `out` holds no block). Without room
@@ -102,8 +111,16 @@ enum dagcbor_section {
     DAGCBOR_NOT_VERIFIED = -23,    /* the CID is by another hash function than SHA-256 and identity; the block was not read */
     DAGCBOR_TRUNCATED = -24,       /* the bytes end inside the length, or before as many follow */
     DAGCBOR_INVALID_LENGTH = -25,  /* the length is no varint in shortest form below 2^64 */
-    DAGCBOR_INVALID_CID = -26      /* behind the length stands no CID, or it goes on behind the section; -27 is never answered */
+    DAGCBOR_INVALID_CID = -26      /* behind the length stands no CID, or it goes on behind the section; not of dagcbor_car_header */
+    DAGCBOR_OTHER_HEADER = -27     /* of dagcbor_car_header alone: a block that is not the map of roots and of version 1 */
 };
+
+/* The header that begins the bytes of a file of blocks, of version 1. 0 exactly where one does: *behind becomes where the
+   first section begins, and *needed the length of its roots, packed as dagcbor_links packs links; where that is at most
+   `room` they are put at the front of `out`, and else `out` stays as it was. Else, below 0, DAGCBOR_TRUNCATED,
+   DAGCBOR_INVALID_LENGTH, the refusal of the bytes behind the length where they are no block, or DAGCBOR_OTHER_HEADER.
+   Then *needed is 0, and `out` and *behind are as they were. */
+int32_t dagcbor_car_header(const uint8_t *bytes, size_t length, uint8_t *out, size_t room, size_t *needed, size_t *behind);
 
 /* The section that begins the bytes, as one behind the header of a file of blocks. From 0 where nothing is wrong with its
    block: the number of its kind, or DAGCBOR_NOT_READ. Below 0 that of the refusal of the block, which is the one that is

@@ -1,5 +1,5 @@
 //! DAG-CBOR for callers in other languages: the judge of blocks, the links of an item, a block's
-//! name, the sections of a file of blocks, and the text of CIDs, by the C ABI.
+//! name, the header and the sections of a file of blocks, and the text of CIDs, by the C ABI.
 //!
 //! A slice crosses as a pointer and a length. `include/dagcbor.h` has what C declares, and
 //! `docs/OTHER_LANGUAGES.md` what a caller owes.
@@ -9,13 +9,14 @@ ghost use Rattle.std.specs.Prelude.{◌≡◌};
 ghost use Rattle.ipld_tree.specs.Cid.{cid_bytes};
 ghost use Rattle.dagcbor_car.specs.Names.{block_name};
 ghost use Rattle.dagcbor_calls.specs.Answers.{IsCheckAnswer, IsLinksAnswer, IsTapeAnswer};
-ghost use Rattle.dagcbor_calls.specs.Answers.{IsSpellAnswer};
+ghost use Rattle.dagcbor_calls.specs.Answers.{IsSpellAnswer, IsTokensAnswer};
+ghost use Rattle.dagcbor_calls.specs.Headers.{IsHeaderAnswer};
 ghost use Rattle.dagcbor_calls.specs.Sections.{IsSectionAnswer};
 ghost use Rattle.dagcbor_calls.specs.CidTexts.{IsCidTextAnswer, IsCidFromTextAnswer};
 
 use dagcbor_calls::{
-    Token, code_of, judge_section, name_of, put_cid_of_text, put_cid_text, put_links, put_tape,
-    spell_tape,
+    Token, code_of, judge_section, name_of, put_cid_of_text, put_cid_text, put_front_tape,
+    put_header, put_links, put_tape, spell_tape,
 };
 use dagcbor_items::check_slice;
 
@@ -46,6 +47,23 @@ pub extern "C" fn dagcbor_tape(bytes: &[u8], tape: &mut [Token], needed: &mut us
     ensures { IsTapeAnswer bytes.now tape.old tape.new needed.new result }
 {
     code_of(&put_tape(bytes, tape, needed))
+}
+
+/// The answer of `dagcbor_check`. Of a block, what `dagcbor_tape` does, and `place` becomes the number of
+/// its bytes. Of refused bytes `place` becomes that of the fault: so many bytes might go on as an item,
+/// or are one, and with the next one the refusal stands. `needed` becomes the number of tokens that
+/// stand whole before it; where `tape` has room for them all they are put at its front, and else it
+/// stays.
+#[unsafe(no_mangle)]
+pub extern "C" fn dagcbor_tokens(
+    bytes: &[u8],
+    tape: &mut [Token],
+    needed: &mut usize,
+    place: &mut usize,
+) -> i32
+    ensures { IsTokensAnswer bytes.now tape.old tape.new needed.new place.new result }
+{
+    code_of(&put_front_tape(bytes, tape, needed, place))
 }
 
 /// Puts the bytes that a tape tells at the front of `out`, where there is room for them, and judges
@@ -83,6 +101,24 @@ pub extern "C" fn dagcbor_car_section(bytes: &[u8], places: &mut [usize; 3]) -> 
     ensures { IsSectionAnswer bytes.now places.old places.new result }
 {
     judge_section(bytes, places)
+}
+
+/// The header that begins the bytes of a file of blocks, of version 1. 0 where one does: `behind`
+/// becomes where the first section begins, and `needed` the length of its roots, packed as
+/// `dagcbor_links` packs links; where `out` has room for them all they are put at its front, and else it
+/// stays. Below 0 the number of the cause: -24 and -25 as of a section, that of the refusal where no
+/// block stands behind the length, and -27 where it is another one than that of roots and of version
+/// 1. Then `needed` becomes 0, and the rest stays.
+#[unsafe(no_mangle)]
+pub extern "C" fn dagcbor_car_header(
+    bytes: &[u8],
+    out: &mut [u8],
+    needed: &mut usize,
+    behind: &mut usize,
+) -> i32
+    ensures { IsHeaderAnswer bytes.now out.old out.new needed.new behind.old behind.new result }
+{
+    put_header(bytes, out, needed, behind)
 }
 
 /// Puts the text of the CID that the bytes are at the front of `out`, where there is room for it:

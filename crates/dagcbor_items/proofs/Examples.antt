@@ -75,7 +75,7 @@ too_deep_is_long E n b h =
     at left c e s = elim s [
       | inl x ↦ elim x [ inl none ↦ omega (arith, e, none) | inr one ↦ omega (arith, e, one.0) ]
       | inr y ↦ elim y [
-        | inl x ↦ elim x.1 [ inl v ↦ absurd v | inr z ↦ elim z [ inl v ↦ absurd (no_item v) | inr w ↦ absurd (no_link E n c w.1) ] ]
+        | inl x ↦ elim x.1 [ inl v ↦ absurd v.0 | inr z ↦ elim z [ inl v ↦ absurd (no_item v) | inr w ↦ absurd (no_link E n c w.1) ] ]
         | inr x ↦ absurd (no_key E n x.1.0 x.1.1 x.1.3)
       ]
     ]
@@ -111,7 +111,7 @@ pub no_key_in_a_list : (E : Type 0) (steps : ℕ) (b : List ℕ) → HasNone 5 b
 no_key_in_a_list E steps b none h = elim h.5 [
   | inl x ↦ x
   | inr y ↦ elim y [
-    | inl x ↦ elim x.1 [ inl v ↦ no_head h.2 v | inr z ↦ elim z [ inl v ↦ no_item v | inr w ↦ no_link_key h.2 w.1 ] ]
+    | inl x ↦ elim x.1 [ inl v ↦ no_head h.2 v.0 | inr z ↦ elim z [ inl v ↦ no_item v | inr w ↦ no_link_key h.2 w.1 ] ]
     | inr x ↦ no_map E h.2 x.1 (none_inside 5 h.0 b h.2 h.4 none)
   ]
 ]
@@ -131,7 +131,7 @@ pub no_bad_key : (E : Type 0) (steps found : ℕ) (n : Name) (b : List ℕ) → 
 no_bad_key E steps found n b maps tags h = elim h.5 [
   | inl x ↦ x
   | inr y ↦ elim y [
-    | inl x ↦ elim x.1 [ inl v ↦ no_head h.2 v | inr z ↦ elim z [ inl v ↦ no_item v | inr w ↦ first_is 6 w.0.0 w.0.1 h.2 w.0.2 (none_inside 6 h.0 b h.2 h.4 tags) w.0.3 ] ]
+    | inl x ↦ elim x.1 [ inl v ↦ no_head h.2 v.0 | inr z ↦ elim z [ inl v ↦ no_item v | inr w ↦ first_is 6 w.0.0 w.0.1 h.2 w.0.2 (none_inside 6 h.0 b h.2 h.4 tags) w.0.3 ] ]
     | inr x ↦ at_key h.2 x.1.0 x.1.1 x.1.2 (none_inside 5 h.0 b h.2 h.4 maps)
   ]
 ]

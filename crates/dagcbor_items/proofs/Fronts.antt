@@ -1,5 +1,5 @@
 -- What the bytes at the front say of the tree that stands there.
-use Rattle.std.proofs.Common.{◌≡◌, inl, ℕ, suc, ◌+◌, ◌*◌, ◌/◌, ◌^◌, ◌<◌, List, ◌∷◌, ◌++◌, sym, ap, ◌∙◌, subst, arith, [], length, refl, length-append}
+use Rattle.std.proofs.Common.{◌≡◌, inl, ℕ, suc, ◌+◌, ◌*◌, ◌/◌, ◌^◌, ◌<◌, ◌≤◌, List, ◌∷◌, ◌++◌, sym, ap, ◌∙◌, subst, arith, [], length, refl, length-append}
 use Rattle.std.specs.Prelude.{Some}
 use Rattle.dagcbor_heads.specs.Head.{head}
 use Rattle.dagcbor_heads.specs.Reading.{Reading, Stays}
@@ -7,6 +7,7 @@ use Rattle.dagcbor_heads.specs.Fronts.{HasByte, HasHead, StartsWith, TakesHead}
 use Rattle.dagcbor_heads.specs.Causes.{ByteCause, HeadCause}
 use Rattle.dagcbor_heads.specs.Refusals.{Refuses}
 use Rattle.dagcbor_heads.specs.declared.error.DecodeError.{DecodeError}
+use Rattle.dagcbor_heads.specs.declared.error.DecodeError.TheVariants.{Eof}
 use Rattle.dagcbor_heads.proofs.Heads.{head_first}
 use Rattle.dagcbor_heads.proofs.Taking.{stays}
 use Rattle.dagcbor_heads.proofs.Refusing.{passed_on, byte_in_head}
@@ -14,6 +15,7 @@ use Rattle.ipld_tree.specs.Tree.{Tree}
 use Rattle.ipld_tree.specs.Spelling.{IsFront, spelling}
 use Rattle.ipld_tree.proofs.Unique.{major, argument, payload, argument_fits}
 use Rattle.ipld_tree.proofs.Fronts.{front_head, front_first, front_nonempty, major_le}
+use Rattle.dagcbor_items.specs.FirstBytes.{BeginsFrom}
 use Rattle.dagcbor_items.specs.ItemCauses.{CauseInside}
 use Rattle.dagcbor_items.proofs.Places.{cause_here}
 use Rattle.dagcbor_items.specs.Shapes.{Shape}
@@ -62,12 +64,29 @@ front_head_stands h = record {
 pub front_byte : {V : Type 0} {shape : Shape Tree V} {r : Reading} → HasFront shape r → HasByte r
 front_byte h = let f = front_first h.bytes h.rest h.tree h.front in record { byte = 32 * major h.tree + f.0; rest = f.1; left = h.left ∙ ap Some f.3 }
 
-pub head_refused : {E : Type 0} (lacks : Type 0) (spent : ℕ) (old new : Reading) (e : DecodeError E) → Refuses (HasHead old) ⊥ ⊥ HeadCause old e new → Refuses (HasItem (suc spent) old) lacks ⊥ (CauseInside (old.steps + suc spent)) old e new
-head_refused lacks spent old new e r = passed_on HeadCause (CauseInside (old.steps + suc spent)) old old new e (stays old) front_head_stands (λ x. absurd x) (λ x. x) (λ b l. (b, l, λ h. cause_here _ e b (omega arith) (inl h))) r
+pub head_refused : {E : Type 0} (lacks : Type 0) (spent : ℕ) (old new : Reading) (e : DecodeError E) → ((b : List ℕ) → old.left ≡ Some b → BeginsFrom 0 5 b) → Refuses (HasHead old) ⊥ ⊥ HeadCause old e new → Refuses (HasItem (suc spent) old) lacks ⊥ (CauseInside (old.steps + suc spent)) old e new
+head_refused lacks spent old new e begins r = passed_on HeadCause (CauseInside (old.steps + suc spent)) old old new e (stays old) front_head_stands (λ x. absurd x) (λ x. x) (λ b l. (b, l, λ h. cause_here _ e b (omega arith) (inl (h, inl (begins b l))))) r
 
 pub byte_refused : {E : Type 0} (lacks : Type 0) (spent : ℕ) (old new : Reading) (e : DecodeError E) → Refuses (HasByte old) ⊥ ⊥ ByteCause old e new → Refuses (HasItem (suc spent) old) lacks ⊥ (CauseInside (old.steps + suc spent)) old e new
 byte_refused lacks spent old new e r =
-    passed_on ByteCause (CauseInside (old.steps + suc spent)) old old new e (stays old) front_byte (λ x. absurd x) (λ x. x) (λ b l. (b, l, λ h. cause_here _ e b (omega arith) (inl (byte_in_head e b h)))) r
+    passed_on ByteCause (CauseInside (old.steps + suc spent)) old old new e (stays old) front_byte (λ x. absurd x) (λ x. x) (λ b l. (b, l, λ h. cause_here _ e b (omega arith) (inl (byte_in_head e b h, inl (none e b h))))) r
+  where
+    none : {E : Type 0} (e : DecodeError E) (b : List ℕ) → ByteCause e b → BeginsFrom 0 5 b
+    none (Eof n expect) b h = λ first more is. absurd (cc (is, h.1))
+    none _ b h = absurd h
+
+-- the first byte is of a major type up to 5
+pub begins_major : (r : Reading) (m : ℕ) → m ≤ 5 → StartsWithMajor r m → (b : List ℕ) → r.left ≡ Some b → BeginsFrom 0 5 b
+begins_major r m few starts b l first more is =
+    let s = starts b l in
+    let same : first ≡ s.0 = cc (is, s.2) in
+    (omega arith, omega (arith, few, same, s.3))
+
+pub begins_number : (r : Reading) (first : ℕ) → StartsWith r first → first / 32 ≤ 1 → (b : List ℕ) → r.left ≡ Some b → BeginsFrom 0 5 b
+begins_number r first starts few b l found more is =
+    let s = starts b l in
+    let same : found ≡ first = cc (is, s.1) in
+    (omega arith, omega (arith, few, same))
 
 -- ---- a head of a known major type
 

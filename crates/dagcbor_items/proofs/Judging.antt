@@ -353,6 +353,15 @@ pub link_judged : {R : Type 0} (now : R → List ℕ) (n : ℕ) (b c : List ℕ)
 link_judged now n b c None h none = λ k. no_link n b c k.0 k.1.0 h (λ cid e s. none e (cid, k.0, s)) k.1.1
 link_judged now n b c (Some x) h k = (link k.0, link_passed b c k.0 (now x) (subst (λ m. SplitsHead b 6 m c) k.1 h) k.2, refl)
 
+pub no_link_head : (m n : ℕ) (b c : List ℕ) → SplitsHead b m n c → ¬ (m ≡ 6) → ¬ ((cid : List ℕ) × (rest : List ℕ) × IsFront b (link cid) rest)
+no_link_head m n b c h other k = other (link_opened m n b c k.0 k.1 h k.2).0
+
+pub link_found : {R : Type 0} (now : R → List ℕ) (n : ℕ) (b c : List ℕ) (r : Option R) → SplitsHead b 6 n c
+    → MatchOption r (n ≡ 42 → ¬ ((cid : List ℕ) × (rest : List ℕ) × SplitsCid c cid rest)) (λ x. (cid : List ℕ) × (n ≡ 42) × SplitsCid c cid (now x))
+    → MatchOption r (¬ ((cid : List ℕ) × (rest : List ℕ) × IsFront b (link cid) rest)) (λ x. (cid : List ℕ) × IsFront b (link cid) (now x))
+link_found now n b c None h none = λ k. let o = link_opened 6 n b c k.0 k.1 h k.2 in none o.1 (k.0, k.1, o.2)
+link_found now n b c (Some x) h k = (k.0, link_passed b c k.0 (now x) (subst (λ m. SplitsHead b 6 m c) k.1 h) k.2)
+
 pub simple_judged : {R : Type 0} (now : R → List ℕ) (n : ℕ) (b c : List ℕ) (r : Option R) → SplitsHead b 7 n c → MatchOption r (20 ≤ n → ¬ (n ≤ 22)) (λ x. (20 ≤ n) × (n ≤ 22) × (now x ≡ c))
     → MatchOption r (¬ ((rest : List ℕ) × SplitsLeaf b rest)) (λ x. SplitsLeaf b (now x))
 simple_judged now n b c None h none = λ k. no_simple n b c k.0 k.1.0 h none k.1.1

@@ -26,3 +26,5 @@ pub mod KindBytes
 pub mod SliceReads
 pub mod Lent
 pub mod Names
+pub mod Ends
+pub mod StopPlaces

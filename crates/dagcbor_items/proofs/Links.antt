@@ -1,5 +1,5 @@
 -- Reading links.
-use Rattle.std.proofs.Common.{◌≡◌, inl, inr, ℕ, ◌+◌, ◌*◌, ◌/◌, ◌^◌, ◌<◌, List, [], ◌∷◌, ◌++◌, length, refl, sym, ap, ◌∙◌, subst, arith, append_assoc, true, zero-le}
+use Rattle.std.proofs.Common.{◌≡◌, inl, inr, ℕ, ◌+◌, ◌*◌, ◌/◌, ◌^◌, ◌<◌, ◌≤◌, List, [], ◌∷◌, ◌++◌, length, refl, sym, ap, ◌∙◌, subst, arith, append_assoc, true, zero-le}
 use Rattle.std.specs.Prelude.{Option, Some, None, is_some, Result, Ok, Err, codes}
 use Rattle.dagcbor_heads.specs.Head.{head}
 use Rattle.dagcbor_heads.specs.Names.{Names}
@@ -111,14 +111,14 @@ link_too_long {E} {old} {mid} {n} e is h more = subst (λ x. Refuses {E = E} (Ha
   λ b l. let k = h.taken b l in inr (is.2, (n, k.0, h.fits, k.1, inl more)),
 )
 
-cut_stands : {E : Type 0} (e : DecodeError E) (b c : List ℕ) (n : ℕ) → n < 2 ^ 64 → b ≡ head 2 n ++ c → PayloadCause n e c → LinkBytesCause e b
-cut_stands (Eof name expect) b c n fits e h = inr (n, c, fits, e, h.1, h.0)
-cut_stands _ b c n fits e h = absurd h
+cut_stands : {E : Type 0} (e : DecodeError E) (b c : List ℕ) (n : ℕ) → n < 2 ^ 64 → n ≤ 87 → b ≡ head 2 n ++ c → PayloadCause n e c → LinkBytesCause e b
+cut_stands (Eof name expect) b c n fits most e h = inr (n, c, fits, e, h.1, h.0, most)
+cut_stands _ b c n fits most e h = absurd h
 
-pub cid_payload_refused : {E : Type 0} {old mid : Reading} {n : ℕ} (new : Reading) (e : DecodeError E) → TakesHeadOf old 2 n mid → Refuses (HasPayload n mid) ⊥ ⊥ (PayloadCause n) mid e new → Refuses (HasCid old) ⊥ ⊥ LinkBytesCause old e new
-cid_payload_refused {E} {old} {mid} {n} new e h r = passed_on (PayloadCause n) LinkBytesCause old mid new e h.same
+pub cid_payload_refused : {E : Type 0} {old mid : Reading} {n : ℕ} (new : Reading) (e : DecodeError E) → TakesHeadOf old 2 n mid → n ≤ 87 → Refuses (HasPayload n mid) ⊥ ⊥ (PayloadCause n) mid e new → Refuses (HasCid old) ⊥ ⊥ LinkBytesCause old e new
+cid_payload_refused {E} {old} {mid} {n} new e h most r = passed_on (PayloadCause n) LinkBytesCause old mid new e h.same
     (λ i. let k = behind_head h i in record { payload = 0x00 ∷ k.cid; rest = k.rest; long = k.long; left = k.left }) (λ x. x) (λ x. x)
-    (λ b l. let k = h.taken b l in (k.0, k.2, cut_stands e b k.0 n h.fits k.1)) r
+    (λ b l. let k = h.taken b l in (k.0, k.2, cut_stands e b k.0 n h.fits most k.1)) r
 
 pub no_cid : {E : Type 0} {old mid new : Reading} {n : ℕ} (e : DecodeError E) (s : List ℕ) → IsInvalidCid e → TakesHeadOf old 2 n mid → length s ≡ n → Takes mid s new → IsZeroAndCid s None → Refuses (HasCid old) ⊥ ⊥ LinkBytesCause old e new
 no_cid {E} {old} {mid} {new} {n} e s is h long p other = subst (λ x. Refuses {E = E} (HasCid old) ⊥ ⊥ LinkBytesCause old x new) (sym is.1) (

@@ -2,18 +2,15 @@
 use Rattle.std.proofs.Common.{◌≡◌, inl, inr, ℕ, suc, ◌+◌, ◌^◌, ◌<◌, List, ◌++◌, refl, subst, arith}
 use Rattle.std.specs.Prelude.{◌⊎◌}
 use Rattle.dagcbor_heads.specs.Head.{head}
-use Rattle.dagcbor_heads.specs.Causes.{HeadCause}
 use Rattle.dagcbor_heads.specs.declared.error.DecodeError.{DecodeError}
-use Rattle.dagcbor_items.specs.FirstBytes.{BeginsWith}
 use Rattle.dagcbor_items.specs.Places.{last_key, NextKey, NextPart}
-use Rattle.dagcbor_items.specs.LinkCauses.{LinkCause}
-use Rattle.dagcbor_items.specs.ItemCauses.{ItemCause, CauseAt, CauseInside, CauseInItems, CauseInEntries}
+use Rattle.dagcbor_items.specs.ItemCauses.{LeafCause, CauseAt, CauseInside, CauseInItems, CauseInEntries}
 
 pub stands_here : {E : Type 0} (steps : ℕ) (e : DecodeError E) (b : List ℕ) → CauseAt steps e b → CauseInside steps e b
 stands_here steps e b h = (0, steps, b, omega arith, refl, h)
 
 -- a cause other than the steps'
-pub cause_here : {E : Type 0} (steps : ℕ) (e : DecodeError E) (b : List ℕ) → 0 < steps → HeadCause e b ⊎ ItemCause e b ⊎ (BeginsWith 6 b × LinkCause e b) → CauseInside steps e b
+pub cause_here : {E : Type 0} (steps : ℕ) (e : DecodeError E) (b : List ℕ) → 0 < steps → LeafCause e b → CauseInside steps e b
 cause_here {E} steps e b some h = stands_here {E = E} steps e b (inr (inl (some, h)))
 
 -- a refusal that an item alone does not have

@@ -78,7 +78,7 @@ no_cause : {E : Type 0} (e : DecodeError E) (b : List ℕ) → IsCauseless e →
 no_cause {E} e b none h = elim h.5 [
   | inl x ↦ none.deep h.1 h.2 x
   | inr y ↦ elim y [
-    | inl x ↦ elim x.1 [ inl v ↦ none.head h.2 v | inr z ↦ elim z [ inl v ↦ by_item h.2 v | inr w ↦ by_link h.2 w.1 ] ]
+    | inl x ↦ elim x.1 [ inl v ↦ none.head h.2 v.0 | inr z ↦ elim z [ inl v ↦ by_item h.2 v | inr w ↦ by_link h.2 w.1 ] ]
     | inr x ↦ by_key x.1.0 x.1.1 x.1.3
   ]
 ]
@@ -110,6 +110,9 @@ no_cause {E} e b none h = elim h.5 [
 -- trailing data, and what no cause in the bytes has
 no_trailing : (E : Type 0) → IsCauseless {E = E} TrailingData
 no_trailing E = record { deep = λ l b x. x; head = λ b x. x; kind = λ n l h b x. x; cut = λ n k b x. x; garbled = λ n b x. x; simple = λ b x. x; byte = λ o w b x. x; cid = λ b x. x; key = λ is. absurd (cc is) }
+
+pub no_trailing_cause : (b : List ℕ) → CauseInside {E = Infallible} 256 TrailingData b → ⊥
+no_trailing_cause b h = no_cause {E = Infallible} TrailingData b (no_trailing Infallible) h
 
 no_lack : (E : Type 0) → IsCauseless {E = E} OutOfMemory
 no_lack E = record { deep = λ l b x. x; head = λ b x. x; kind = λ n l h b x. x; cut = λ n k b x. x; garbled = λ n b x. x; simple = λ b x. x; byte = λ o w b x. x; cid = λ b x. x; key = λ is. absurd (cc is) }

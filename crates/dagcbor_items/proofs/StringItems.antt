@@ -1,5 +1,5 @@
 -- Texts and byte strings as items of unknown kind.
-use Rattle.std.proofs.Common.{◌≡◌, inl, inr, ℕ, ◌+◌, ◌<◌, List, ◌∷◌, refl, sym, ap, ◌∙◌, subst, arith, Vec, Global}
+use Rattle.std.proofs.Common.{◌≡◌, inl, inr, ℕ, ◌+◌, ◌<◌, List, ◌∷◌, refl, sym, ap, ◌∙◌, subst, arith, Vec, Global, ◌≤◌}
 use Rattle.std.specs.Prelude.{Option, Some, is_some, String, string_bytes, codes}
 use Rattle.dagcbor_heads.specs.Reading.{Reading}
 use Rattle.dagcbor_heads.specs.Refusals.{Refuses}
@@ -32,16 +32,17 @@ not_other name kind (Mismatch kept found) b m h =
     h.1.2 (omega (arith, same, m.3)) (omega (arith, same, m.3))
 not_other name kind _ b m h = absurd h
 
-string_stands : {E : Type 0} (steps : ℕ) → 0 < steps → (name : List ℕ) (kind : ℕ) (e : DecodeError E) (b : List ℕ) → (IsCut name kind e b → ItemCause e b) → MajorAt b kind → StringCause name kind e b → CauseInside steps e b
-string_stands steps some name kind e b of_item m (inl (inl h)) = cause_here steps e b some (inl h.0)
-string_stands steps some name kind e b of_item m (inl (inr h)) = absurd (not_other name kind e b m h)
-string_stands steps some name kind e b of_item m (inr h) = cause_here steps e b some (inr (inl (of_item h)))
+string_stands : {E : Type 0} (steps : ℕ) → 0 < steps → (name : List ℕ) (kind : ℕ) → kind ≤ 5 → (e : DecodeError E) (b : List ℕ) → (IsCut name kind e b → ItemCause e b) → MajorAt b kind → StringCause name kind e b → CauseInside steps e b
+string_stands steps some name kind few e b of_item m (inl (inl h)) =
+    cause_here steps e b some (inl (h.0, inl (λ first more is. (omega arith, omega (arith, few, (h.2 first more is).1)))))
+string_stands steps some name kind few e b of_item m (inl (inr h)) = absurd (not_other name kind e b m h)
+string_stands steps some name kind few e b of_item m (inr h) = cause_here steps e b some (inr (inl (of_item h)))
 
 bytes_stand : {E : Type 0} (steps : ℕ) → 0 < steps → (e : DecodeError E) (b : List ℕ) → MajorAt b 2 → StringCause (codes "bytes") 2 e b → CauseInside steps e b
-bytes_stand steps some e b m h = string_stands steps some (codes "bytes") 2 e b (λ c. inl c) m h
+bytes_stand steps some e b m h = string_stands steps some (codes "bytes") 2 (omega arith) e b (λ c. inl c) m h
 
 text_stands : {E : Type 0} (steps : ℕ) → 0 < steps → (e : DecodeError E) (b : List ℕ) → MajorAt b 3 → TextCause (codes "string") e b → CauseInside steps e b
-text_stands steps some e b m (inl h) = string_stands steps some (codes "string") 3 e b (λ c. inr (inl c)) m h
+text_stands steps some e b m (inl h) = string_stands steps some (codes "string") 3 (omega arith) e b (λ c. inr (inl c)) m h
 text_stands steps some e b m (inr h) = cause_here steps e b some (inr (inl (inr (inr (inl h)))))
 
 -- ---- strings of either kind

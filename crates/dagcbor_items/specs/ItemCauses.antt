@@ -5,11 +5,11 @@ use Rattle.dagcbor_heads.specs.Causes.{HeadCause}
 use Rattle.dagcbor_heads.specs.Names.{Names}
 use Rattle.dagcbor_heads.specs.declared.error.DecodeError.{DecodeError}
 use Rattle.dagcbor_heads.specs.declared.error.DecodeError.TheVariants.{Unsupported, DepthOverflow}
-use Rattle.dagcbor_heads.specs.declared.error.DecodeError.TheVariants.{UnorderedKey}
+use Rattle.dagcbor_heads.specs.declared.error.DecodeError.TheVariants.{UnorderedKey, IndefiniteSize}
 use Rattle.ipld_tree.specs.Key.{comes_before}
 use Rattle.ipld_tree.specs.Tree.{text, Items, Entries}
 use Rattle.ipld_tree.specs.Spelling.{item_count, entry_count, IsFront, AreFronts, AreEntryFronts}
-use Rattle.dagcbor_items.specs.FirstBytes.{BeginsWith}
+use Rattle.dagcbor_items.specs.FirstBytes.{BeginsWith, BeginsFrom}
 use Rattle.dagcbor_items.specs.Places.{Follows, last_key, NextKey, IsInside}
 use Rattle.dagcbor_items.specs.LeafCauses.{IsCut, IsGarbled, TextCause}
 use Rattle.dagcbor_items.specs.LinkCauses.{LinkCause}
@@ -43,11 +43,21 @@ IsTooDeep left (DepthOverflow name) b = (left ≡ 0)
     ⊎ ((left ≡ 1) × (BeginsWith 4 b ⊎ BeginsWith 5 b))
 IsTooDeep left _ b = ⊥
 
--- the cause stands where an item is to stand for which so many steps are left: the steps', its
--- head's, its own, a link's, or that of a key of the map that begins there
+-- the cause of a head: what begins as a tag or a simple value is refused for its first byte, but for
+-- an indefinite length
+abbrev pub ItemHeadCause : {E : Type 0} → DecodeError E → List ℕ → Type 0
+ItemHeadCause e b = HeadCause e b × (BeginsFrom 0 5 b ⊎ (e ≡ IndefiniteSize))
+
+-- an item that holds no others stands there no more than a head does: its head's cause, its own, or a
+-- link's
+abbrev pub LeafCause : {E : Type 0} → DecodeError E → List ℕ → Type 0
+LeafCause e b = ItemHeadCause e b ⊎ ItemCause e b ⊎ (BeginsWith 6 b × LinkCause e b)
+
+-- the cause stands where an item is to stand for which so many steps are left: the steps', that of a
+-- leaf or of a head, or that of a key of the map that begins there
 abbrev pub CauseAt : {E : Type 0} → ℕ → DecodeError E → List ℕ → Type 0
 CauseAt left e b = IsTooDeep left e b
-    ⊎ ((0 < left) × (HeadCause e b ⊎ ItemCause e b ⊎ (BeginsWith 6 b × LinkCause e b)))
+    ⊎ ((0 < left) × LeafCause e b)
     ⊎ ((1 < left) × CauseAtKey e b)
 
 -- the cause stands at a place in the item that begins here, for which so many steps are left: each

@@ -29,3 +29,4 @@ pub mod LeafReads
 pub mod TreeKinds
 pub mod Slices
 pub mod PrintedNames
+pub mod Stops

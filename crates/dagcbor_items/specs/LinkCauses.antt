@@ -1,6 +1,6 @@
 -- The causes of refusals that a link can have: at its place, or behind the d8 or d8 2a that begins
 -- there.
-use Rattle.std.specs.Prelude.{◌≡◌, ◌≢◌, ℕ, ◌/◌, ◌^◌, ◌<◌, ◌⊎◌, List, [], ◌∷◌, ◌++◌, length, codes}
+use Rattle.std.specs.Prelude.{◌≡◌, ◌≢◌, ℕ, ◌/◌, ◌^◌, ◌<◌, ◌≤◌, ◌⊎◌, List, [], ◌∷◌, ◌++◌, length, codes}
 use Rattle.dagcbor_heads.specs.Head.{head}
 use Rattle.dagcbor_heads.specs.Causes.{HeadCause}
 use Rattle.dagcbor_heads.specs.Lengths.{len_of}
@@ -20,10 +20,10 @@ IsOtherByte other wanted (Mismatch name found) b = Names name other
 IsOtherByte other wanted _ b = ⊥
 
 -- a byte string that is cut, a byte that begins none, or a byte string that is no zero and a CID:
--- the greatest has 87 bytes
+-- the greatest has 87 bytes, and one that is longer is refused for its head
 abbrev pub CidCause : {E : Type 0} → DecodeError E → List ℕ → Type 0
 CidCause (Eof name expect) b = (n : ℕ) × (rest : List ℕ) × (n < 2 ^ 64) × (b ≡ head 2 n ++ rest)
-    × (length rest < n) × (expect ≡ len_of n)
+    × (length rest < n) × (expect ≡ len_of n) × (n ≤ 87)
 CidCause (Unsupported name found) b = (more : List ℕ) × (b ≡ found ∷ more) × (found / 32 ≢ 2)
 CidCause (Msg message) b = Names message (codes "Invalid CID")
     × ((n : ℕ) × (rest : List ℕ) × (n < 2 ^ 64) × (b ≡ head 2 n ++ rest)

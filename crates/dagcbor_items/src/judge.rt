@@ -1,6 +1,6 @@
 //! Judging bytes that are all there: what is behind the item with which they begin. Nothing is
 //! built, and no memory is taken. Where the judge stops, the walk names the cause, which is put
-//! beside the results, so that these stay in registers.
+//! beside the results with its place, so that these stay in registers.
 
 ghost use Rattle.std.specs.Prelude.{◌≡◌, ◌≢◌, ◌↔◌, ◌-◌, ◌<◌, ◌≤◌, length, List, ℕ, IsTrue, IsUtf8};
 ghost use Rattle.std.specs.Prelude.{MatchOption, option_map};
@@ -9,16 +9,21 @@ ghost use Rattle.std.specs.List.{list_all};
 ghost use Rattle.std.specs.Char.{is_ascii};
 ghost use Rattle.dagcbor_heads.specs.Splits.{SplitsHead};
 ghost use Rattle.ipld_tree.specs.Cid.{IsCid};
+ghost use Rattle.ipld_tree.specs.Tree.{link};
+ghost use Rattle.ipld_tree.specs.Spelling.{IsFront};
 ghost use Rattle.dagcbor_items.specs.Places.{Follows};
 ghost use Rattle.dagcbor_items.specs.Judging.{SplitsPayload, SplitsText, SplitsKey, SplitsKeyAfter};
 ghost use Rattle.dagcbor_items.specs.Judging.{SplitsCid, SplitsLeaf, SplitsItem, SplitsItems};
 ghost use Rattle.dagcbor_items.specs.Judging.{SplitsEntries, GivesRest, GivesLeft};
 ghost use Rattle.dagcbor_items.specs.ItemCauses.{KeyCause, CauseInside, CauseInItems};
 ghost use Rattle.dagcbor_items.specs.ItemCauses.{CauseInEntries};
+ghost use Rattle.dagcbor_items.specs.Stops.{HoldsNoParts, StopsInKey, StopsInItem, StopsInItems};
+ghost use Rattle.dagcbor_items.specs.Stops.{StopsInEntries};
 
 use crate::key::comes_before;
 use crate::payloads::pull_lent_text;
 use crate::sink::NoLinks;
+use crate::stop::{Stop, behind_refused_item, behind_refused_key};
 use crate::walk::walk_any;
 use dagcbor_heads::{DecodeError, SliceReader, split_head};
 use ipld_tree::Cid;
@@ -183,6 +188,19 @@ fn behind_tag(number: u64, bytes: &[u8]) -> Option<&[u8]>
     behind_cid(bytes)
 }
 
+/// The bytes behind the link at the front, where one stands.
+pub fn behind_link(bytes: &[u8]) -> Option<&[u8]>
+    ensures { MatchOption result
+        (¬ ((cid : List ℕ) × (rest : List ℕ) × IsFront bytes.now (link cid) rest))
+        (λ rest. (cid : List ℕ) × IsFront bytes.now (link cid) rest.now) }
+{
+    let (major, number, behind) = split_head(bytes)?;
+    if major != 6 {
+        return None;
+    }
+    behind_tag(number, behind)
+}
+
 /// The bytes behind a simple value, where it is one of data: false, true or null.
 #[inline(always)]
 fn behind_simple(value: u64, bytes: &[u8]) -> Option<&[u8]>
@@ -240,32 +258,59 @@ fn split_key_after<'b>(previous: &Option<&[u8]>, bytes: &'b [u8]) -> Option<(&'b
 }
 
 /// Why no key stands there that may stand behind the one before it.
-#[cold]
-#[inline(never)]
-fn name_key_cause(previous: &Option<&[u8]>, bytes: &[u8], cause: &mut DecodeError<Infallible>)
+fn name_key_cause(previous: &Option<&[u8]>, bytes: &[u8]) -> DecodeError<Infallible>
     requires { ¬ ((key : List ℕ) × (rest : List ℕ)
         × SplitsKeyAfter (option_map (λ s. s.now) previous.now) bytes.now key rest) }
-    ensures { KeyCause (option_map (λ s. s.now) previous.now) cause.new bytes.now }
+    ensures { KeyCause (option_map (λ s. s.now) previous.now) result bytes.now }
 {
     match pull_lent_text("map key", &mut SliceReader::new(bytes)) {
-        Ok(_) => *cause = DecodeError::UnorderedKey,
-        Err(refusal) => *cause = refusal,
+        Ok(_) => DecodeError::UnorderedKey,
+        Err(refusal) => refusal,
     }
 }
 
-/// Why no item stands there that takes no more than these steps.
+/// Stops where no key stands that may stand behind the one before it.
 #[cold]
 #[inline(never)]
-fn name_item_cause(bytes: &[u8], steps: usize, cause: &mut DecodeError<Infallible>)
+fn stop_at_key(previous: &Option<&[u8]>, bytes: &[u8], stop: &mut Stop)
+    requires { ¬ ((key : List ℕ) × (rest : List ℕ)
+        × SplitsKeyAfter (option_map (λ s. s.now) previous.now) bytes.now key rest) }
+    ensures cause { KeyCause (option_map (λ s. s.now) previous.now) stop.new.cause bytes.now }
+    ensures place { StopsInKey (option_map (λ s. s.now) previous.now)
+        stop.new.cause stop.new.behind bytes.now }
+{
+    let cause = name_key_cause(previous, bytes);
+    let behind = behind_refused_key(&cause, bytes);
+    *stop = Stop { cause, behind };
+}
+
+/// Why no item stands there that takes no more than these steps.
+fn name_item_cause(bytes: &[u8], steps: usize) -> DecodeError<Infallible>
     requires few { steps ≤ 1024 }
     requires none { ¬ ((rest : List ℕ) × SplitsItem bytes.now steps rest) }
-    ensures { CauseInside steps cause.new bytes.now }
+    ensures { CauseInside steps result bytes.now }
 {
     let mut reader = SliceReader::with_depth(bytes, steps);
     match walk_any((), &mut reader, &mut NoLinks) {
         Ok(()) => unreachable!(),
-        Err(refusal) => *cause = refusal,
+        Err(refusal) => refusal,
     }
+}
+
+/// Stops where no item stands that takes no more than these steps, and no list or map with steps
+/// for its parts.
+#[cold]
+#[inline(never)]
+fn stop_at_item(bytes: &[u8], steps: usize, stop: &mut Stop)
+    requires few { steps ≤ 1024 }
+    requires none { ¬ ((rest : List ℕ) × SplitsItem bytes.now steps rest) }
+    requires alone { HoldsNoParts steps bytes.now }
+    ensures cause { CauseInside steps stop.new.cause bytes.now }
+    ensures place { StopsInItem steps stop.new.cause stop.new.behind bytes.now }
+{
+    let cause = name_item_cause(bytes, steps);
+    let behind = behind_refused_item(&cause, bytes, steps);
+    *stop = Stop { cause, behind };
 }
 
 /// The bytes behind the item at the front, where one stands that takes no more than these steps. Each
@@ -274,31 +319,28 @@ pub fn behind_item(bytes: &[u8], steps: usize) -> Option<&[u8]>
     requires { steps ≤ 1024 }
     ensures { GivesRest (λ rest. rest.now) (SplitsItem bytes.now steps) result }
 {
-    judge_item(bytes, steps, &mut DecodeError::TrailingData)
+    judge_item(bytes, steps, &mut Stop::new())
 }
 
 /// The bytes behind the item at the front, where one stands that takes no more than these steps,
-/// and else why not.
+/// and else why not, and where.
 #[cycle(judge)]
 #[inline(always)]
-pub(crate) fn judge_item<'b>(
-    bytes: &'b [u8],
-    steps: usize,
-    cause: &mut DecodeError<Infallible>,
-) -> Option<&'b [u8]>
+pub(crate) fn judge_item<'b>(bytes: &'b [u8], steps: usize, stop: &mut Stop) -> Option<&'b [u8]>
     requires { steps ≤ 1024 }
     ensures rest { GivesRest (λ rest. rest.now) (SplitsItem bytes.now steps) result }
-    ensures cause { IfNone result (CauseInside steps cause.new bytes.now) }
+    ensures cause { IfNone result (CauseInside steps stop.new.cause bytes.now) }
+    ensures place { IfNone result (StopsInItem steps stop.new.cause stop.new.behind bytes.now) }
 {
     if let Some((major, argument, behind)) = split_head(bytes) {
         if major == 4 {
             if steps >= 2 {
-                let left = left_behind_items(behind, argument, steps, cause)?;
+                let left = left_behind_items(behind, argument, steps, stop)?;
                 return Some(&behind[behind.len() - left..]);
             }
         } else if major == 5 {
             if steps >= 2 {
-                let left = left_behind_entries(behind, argument, steps, cause)?;
+                let left = left_behind_entries(behind, argument, steps, stop)?;
                 return Some(&behind[behind.len() - left..]);
             }
         } else if steps >= 1 {
@@ -307,7 +349,7 @@ pub(crate) fn judge_item<'b>(
             }
         }
     }
-    name_item_cause(bytes, steps, cause);
+    stop_at_item(bytes, steps, stop);
     None
 }
 
@@ -315,21 +357,18 @@ pub(crate) fn judge_item<'b>(
 /// do not stand there.
 #[cycle(judge)]
 #[inline(never)]
-fn left_behind_items(
-    bytes: &[u8],
-    count: u64,
-    steps: usize,
-    cause: &mut DecodeError<Infallible>,
-) -> Option<usize>
+fn left_behind_items(bytes: &[u8], count: u64, steps: usize, stop: &mut Stop) -> Option<usize>
     requires some { 2 ≤ steps }
     requires few { steps ≤ 1024 }
     ensures left { GivesLeft (SplitsItems bytes.now count (steps - 2)) result }
-    ensures cause { IfNone result (CauseInItems count (steps - 2) cause.new bytes.now) }
+    ensures cause { IfNone result (CauseInItems count (steps - 2) stop.new.cause bytes.now) }
+    ensures place { IfNone result
+        (StopsInItems count (steps - 2) stop.new.cause stop.new.behind bytes.now) }
 {
     let mut rest = bytes;
     let mut more = count;
     while more > 0 {
-        rest = judge_item(rest, steps - 2, cause)?;
+        rest = judge_item(rest, steps - 2, stop)?;
         more -= 1;
     }
     Some(rest.len())
@@ -339,26 +378,23 @@ fn left_behind_items(
 /// do not stand there.
 #[cycle(judge)]
 #[inline(never)]
-fn left_behind_entries(
-    bytes: &[u8],
-    count: u64,
-    steps: usize,
-    cause: &mut DecodeError<Infallible>,
-) -> Option<usize>
+fn left_behind_entries(bytes: &[u8], count: u64, steps: usize, stop: &mut Stop) -> Option<usize>
     requires some { 2 ≤ steps }
     requires few { steps ≤ 1024 }
     ensures left { GivesLeft (SplitsEntries bytes.now count (steps - 2)) result }
-    ensures cause { IfNone result (CauseInEntries count (steps - 2) cause.new bytes.now) }
+    ensures cause { IfNone result (CauseInEntries count (steps - 2) stop.new.cause bytes.now) }
+    ensures place { IfNone result
+        (StopsInEntries count (steps - 2) stop.new.cause stop.new.behind bytes.now) }
 {
     let mut previous = None;
     let mut rest = bytes;
     let mut more = count;
     while more > 0 {
         let Some((key, behind)) = split_key_after(&previous, rest) else {
-            name_key_cause(&previous, rest, cause);
+            stop_at_key(&previous, rest, stop);
             return None;
         };
-        rest = judge_item(behind, steps - 2, cause)?;
+        rest = judge_item(behind, steps - 2, stop)?;
         previous = Some(key);
         more -= 1;
     }

@@ -24,7 +24,7 @@ use dagcbor_heads::{
 use ipld_tree::{Cid, Ipld};
 
 /// The greatest length of a CID with its zero.
-const LONGEST_CID: usize = 87;
+pub(crate) const LONGEST_CID: usize = 87;
 
 /// Takes the wanted byte.
 #[tactic(auto, using(crate::proofs::PartRefusals::end_byte))]

@@ -10,16 +10,26 @@ ghost use Rattle.dagcbor_items.specs.TreeKinds.{kind_of};
 ghost use Rattle.dagcbor_items.specs.Walks.{forms};
 ghost use Rattle.dagcbor_items.specs.Slices.{IsBlock, SliceRefused, AreFirstLinks};
 ghost use Rattle.dagcbor_items.specs.Slices.{LinksRefused, WalksFirst, PullsEnd};
+ghost use Rattle.dagcbor_items.specs.Stops.{StandsAt, StopsInItem};
 
 use crate::any::read_any;
 use crate::judge::judge_item;
 use crate::kind::{Kind, kind_of_front};
 use crate::sink::LinkSink;
+use crate::stop::{Stop, is_end};
 use crate::walk::{gather_links, walk_any};
 use dagcbor_heads::{DEFAULT_STEPS, DecodeError, Input, Read, ReadResult, SliceReader, is_at_end};
 use ipld_tree::{Cid, Ipld};
 use std::alloc::Global;
 use std::convert::Infallible;
+
+/// Why bytes are no block, and where: behind so many bytes an item might go on, and no item goes on
+/// with the next one.
+#[derive(Debug, Drop)]
+pub struct Refused {
+    pub cause: DecodeError<Infallible>,
+    pub place: usize,
+}
 
 /// The data whose spelling the bytes are, as `from_slice` answers it. Its contract also names the
 /// cause of a refusal.
@@ -50,11 +60,49 @@ pub fn check_slice(bytes: &[u8]) -> Result<Kind, DecodeError<Infallible>>
     ensures refused { IfErr result (λ e. SliceRefused e bytes.now) }
     ensures memory { IfErr result (λ e. e ≢ OutOfMemory) }
 {
-    let mut cause = DecodeError::TrailingData;
-    match judge_item(bytes, DEFAULT_STEPS, &mut cause) {
+    match judge_slice(bytes) {
+        Ok(kind) => Ok(kind),
+        Err(refused) => Err(refused.cause),
+    }
+}
+
+/// The kind of a block, as `check_slice` answers it, or why and where the bytes are none.
+///
+/// ```rust
+/// let Err(refused) = judge_slice(b"\x82\x01\x18\x17") else {
+///     return Err(Fail::new("a block"));
+/// };
+/// agree(refused.place, 3)
+/// ```
+#[inline]
+pub fn judge_slice(bytes: &[u8]) -> Result<Kind, Refused>
+    ensures kind { IfOk result (λ kind. (t : Tree) × IsBlock bytes.now t × (kind ≡ kind_of t)) }
+    ensures refused { IfErr result (λ r. SliceRefused r.cause bytes.now) }
+    ensures memory { IfErr result (λ r. r.cause ≢ OutOfMemory) }
+    ensures place { IfErr result (λ r. StandsAt r.cause bytes.now r.place) }
+{
+    let mut stop = Stop::new();
+    match judge_item(bytes, DEFAULT_STEPS, &mut stop) {
         Some([]) => Ok(kind_of_front(bytes)),
-        Some(_) => Err(DecodeError::TrailingData),
-        None => Err(cause),
+        Some(rest) => Err(Refused {
+            cause: DecodeError::TrailingData,
+            place: bytes.len() - rest.len(),
+        }),
+        None => Err(refused_at(bytes, stop)),
+    }
+}
+
+/// The refusal of bytes in which the judge stops.
+fn refused_at(bytes: &[u8], stop: Stop) -> Refused
+    requires { StopsInItem default_steps stop.cause stop.behind bytes.now }
+    ensures cause { result.cause ≡ stop.cause }
+    ensures place { StandsAt result.cause bytes.now result.place }
+{
+    let seen = bytes.len() - stop.behind;
+    let place = if is_end(&stop.cause) { seen } else { seen - 1 };
+    Refused {
+        cause: stop.cause,
+        place,
     }
 }
 

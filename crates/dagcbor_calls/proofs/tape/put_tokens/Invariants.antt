@@ -2,12 +2,14 @@ use Rattle.std.proofs.Common.{◌≡◌, ◌+◌, ◌≤◌, length}
 use Rattle.ipld_tree.specs.Tree.{Tree}
 use Rattle.ipld_tree.specs.Spelling.{IsSpelling}
 use Rattle.dagcbor_calls.proofs.Tapes.{Told}
+use Rattle.dagcbor_calls.proofs.Standing.{Stood}
 use Rattle.dagcbor_calls.proofs.tape.put_tokens.Given as goal
 
 abbrev pub invariant-loop-token : goal.invariant-loop-token
 invariant-loop-token l = record {
   fits : l.count + length l.rest ≤ length l.bytes;
   same_length : length l.tape ≡ length l.initial.tape;
+  stood : Stood (length l.bytes) l.bytes l.rest l.initial.tape l.tape l.count;
   told : (t : Tree) → IsSpelling l.bytes t → Told (length l.bytes) t l.rest l.initial.tape l.tape l.count;
 }
 

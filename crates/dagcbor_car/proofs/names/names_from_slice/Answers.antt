@@ -1,6 +1,5 @@
 use Rattle.std.proofs.Common.{length, ◌==◌, ◌∙◌, ap}
-use Rattle.dagcbor_car.specs.Within.{AddsAll}
-use Rattle.dagcbor_car.proofs.Within.{first_names, no_names, some_link}
+use Rattle.dagcbor_car.proofs.Within.{first_names, some_link}
 use Rattle.dagcbor_car.proofs.names.names_from_slice.Goals as goal
 
 pub returns-in-Ok-clause-names : goal.returns-in-Ok-clause-names

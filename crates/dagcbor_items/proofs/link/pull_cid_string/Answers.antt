@@ -1,3 +1,4 @@
+use Rattle.std.proofs.Common.{arith}
 use Rattle.std.specs.Prelude.{None, Some}
 use Rattle.dagcbor_heads.proofs.Refusing.{as_refusal}
 use Rattle.dagcbor_items.proofs.Fronts.{head_of}
@@ -13,7 +14,7 @@ returns-then-count-clause-cid g c = link_too_long _ c.custom.ensures (head_of 2 
 
 pub returns-in_err-payload-clause-cid : goal.returns-in_err-payload-clause-cid
 returns-in_err-payload-clause-cid g c =
-    as_refusal _ _ _ _ c.from_residual-in_err-payload.ensures.1 (cid_payload_refused _ _ (head_of 2 c.requires c.in_ok-count.ensures.taken.2) c.in_err-payload.ensures.taken)
+    as_refusal _ _ _ _ c.from_residual-in_err-payload.ensures.1 (cid_payload_refused _ _ (head_of 2 c.requires c.in_ok-count.ensures.taken.2) (omega (arith, c.if-count.false)) c.in_err-payload.ensures.taken)
 
 pub returns-in-Some-clause-cid : goal.returns-in-Some-clause-cid
 returns-in-Some-clause-cid g c =

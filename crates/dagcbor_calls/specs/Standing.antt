@@ -1,0 +1,99 @@
+-- The tokens that stand in bytes, one behind the other from the front, whether these are a block or
+-- not.
+use Rattle.std.specs.Prelude.{◌≡◌, ◌≢◌, ◌⊎◌, ℕ, suc, ◌-◌, ◌^◌, ◌<◌, ◌≤◌, List, [], ◌∷◌, ◌++◌}
+use Rattle.std.specs.Prelude.{length, take, drop, Option, Result, MatchResult, MatchOption}
+use Rattle.std.specs.declared.convert.Infallible.{Infallible}
+use Rattle.dagcbor_heads.specs.Head.{head}
+use Rattle.dagcbor_heads.specs.declared.error.DecodeError.{DecodeError}
+use Rattle.dagcbor_heads.specs.declared.error.DecodeError.TheVariants.{OutOfMemory}
+use Rattle.ipld_tree.specs.Tree.{Tree}
+use Rattle.dagcbor_items.specs.declared.kind.Kind.{Kind}
+use Rattle.dagcbor_items.specs.TreeKinds.{kind_of}
+use Rattle.dagcbor_items.specs.Slices.{IsBlock, SliceRefused}
+use Rattle.dagcbor_items.specs.Stops.{StandsAt}
+use Rattle.dagcbor_calls.specs.Tapes.{token, tape_of, with_tokens}
+use Rattle.dagcbor_calls.specs.declared.tape.Token.{Token}
+
+-- a token of this kind and number has this head, and so many bytes of payload behind it
+pub data IsHeadOf (kind number : ℕ) (front : List ℕ) (size : ℕ) : Type 0 where
+  null : kind ≡ 0 → number ≡ 0 → front ≡ 0xf6 ∷ [] → size ≡ 0 → IsHeadOf kind number front size
+  no : kind ≡ 1 → number ≡ 0 → front ≡ 0xf4 ∷ [] → size ≡ 0 → IsHeadOf kind number front size
+  yes : kind ≡ 1 → number ≡ 1 → front ≡ 0xf5 ∷ [] → size ≡ 0 → IsHeadOf kind number front size
+  natural : kind ≡ 2 → front ≡ head 0 number → size ≡ 0 → IsHeadOf kind number front size
+  negative : kind ≡ 8 → front ≡ head 1 number → size ≡ 0 → IsHeadOf kind number front size
+  text : kind ≡ 3 → front ≡ head 3 number → size ≡ number → IsHeadOf kind number front size
+  bytes : kind ≡ 4 → front ≡ head 2 number → size ≡ number → IsHeadOf kind number front size
+  list : kind ≡ 5 → front ≡ head 4 number → size ≡ 0 → IsHeadOf kind number front size
+  mapping : kind ≡ 6 → front ≡ head 5 number → size ≡ 0 → IsHeadOf kind number front size
+  link : kind ≡ 7 → suc number < 2 ^ 64 → front ≡ 0xd8 ∷ 0x2a ∷ head 2 (suc number) ++ 0x00 ∷ []
+      → size ≡ number → IsHeadOf kind number front size
+
+-- The token stands whole at the front of what is left of so many bytes: its head, and then its
+-- payload, which is at the token's place; the rest follows.
+pub record StandsToken (whole : ℕ) (b : List ℕ) (t : Token) (rest : List ℕ) : Type 0 where
+  pub front : List ℕ
+  pub payload : List ℕ
+  pub fits : t.number < 2 ^ 64
+  pub head_is : IsHeadOf t.kind t.number front (length payload)
+  pub is : b ≡ front ++ (payload ++ rest)
+  pub place_is : t.place ≡ whole - length (payload ++ rest)
+
+-- one behind the other from the front, as many as there are: behind them none stands whole
+abbrev pub AreTokensOf : (whole : ℕ) → List ℕ → List Token → Type 0
+AreTokensOf whole b [] = (t : Token) (rest : List ℕ) → ¬ StandsToken whole b t rest
+AreTokensOf whole b (t ∷ ts) = (rest : List ℕ) × StandsToken whole b t rest × AreTokensOf whole rest ts
+
+-- the tokens that stand in the bytes
+abbrev pub AreTokens : List ℕ → List Token → Type 0
+AreTokens b tokens = AreTokensOf (length b) b tokens
+
+-- The tokens of any bytes are counted, and put at the front of the tape where there is room for them
+-- all: of a block its own, and its end is the place; of other bytes those before the place of the
+-- refusal, which is never want of memory.
+abbrev pub PutsFrontTape : List ℕ → List Token → List Token → ℕ → ℕ
+    → Result Kind (DecodeError Infallible) → Type 0
+PutsFrontTape b old new needed place result = MatchResult result
+    (λ kind. (t : Tree) × IsBlock b t × (kind ≡ kind_of t) × (needed ≡ length (tape_of t)) × (needed ≤ length b) × (new ≡ with_tokens (tape_of t) old) × (place ≡ length b))
+    (λ e. SliceRefused e b × (e ≢ OutOfMemory) × StandsAt e b place × ((tokens : List Token) × AreTokens (take place b) tokens × (needed ≡ length tokens) × (new ≡ with_tokens tokens old)))
+
+-- ---- parts
+
+-- the token of a simple value of this number
+abbrev pub IsSimpleToken : ℕ → ℕ → Token → Type 0
+IsSimpleToken value place t = ((value ≡ 20) × (t ≡ token 1 0 place))
+    ⊎ ((value ≡ 21) × (t ≡ token 1 1 place)) ⊎ ((value ≡ 22) × (t ≡ token 0 0 place))
+
+-- a token or none
+abbrev pub StandsTokenIfThere : {P : Type 0} → (P → Token) → (P → List ℕ) → ℕ → List ℕ → Option P
+    → Type 0
+StandsTokenIfThere first rest whole b result = MatchOption result
+    ((t : Token) (more : List ℕ) → ¬ StandsToken whole b t more)
+    (λ p. StandsToken whole b (first p) (rest p))
+
+-- a byte string of a zero and n bytes stands there
+pub record HasLinkBytes (b : List ℕ) (n : ℕ) (cid rest : List ℕ) : Type 0 where
+  pub fits : suc n < 2 ^ 64
+  pub long : length cid ≡ n
+  pub is : b ≡ (head 2 (suc n) ++ 0x00 ∷ []) ++ (cid ++ rest)
+
+-- the token of a link, behind its tag, or none
+abbrev pub StandsLinkIfThere : {P : Type 0} → (P → Token) → (P → List ℕ) → ℕ → List ℕ → Option P
+    → Type 0
+StandsLinkIfThere first rest whole b result = MatchOption result
+    ((n : ℕ) (cid more : List ℕ) → ¬ HasLinkBytes b n cid more)
+    (λ p. (n : ℕ) × (cid : List ℕ) × HasLinkBytes b n cid (rest p)
+    × (first p ≡ token 7 n (whole - length (cid ++ rest p))))
+
+-- the same behind a tag of this number
+abbrev pub StandsTaggedIfThere : {P : Type 0} → (P → Token) → (P → List ℕ) → ℕ → ℕ → List ℕ
+    → Option P → Type 0
+StandsTaggedIfThere first rest number whole b result = MatchOption result
+    (number ≡ 42 → (n : ℕ) (cid more : List ℕ) → ¬ HasLinkBytes b n cid more)
+    (λ p. (number ≡ 42) × ((n : ℕ) × (cid : List ℕ) × HasLinkBytes b n cid (rest p)
+    × (first p ≡ token 7 n (whole - length (cid ++ rest p)))))
+
+-- the tokens that stand in the bytes are counted, and put at the front of the tape, where there is
+-- room for them all
+abbrev pub PutsStanding : List ℕ → List Token → List Token → ℕ → Type 0
+PutsStanding b old new count = (tokens : List Token) × AreTokens b tokens × (count ≡ length tokens)
+    × (length tokens ≤ length old → new ≡ tokens ++ drop (length tokens) old)

@@ -1,145 +1,212 @@
-// The WebAssembly module for JavaScript:
-// const { check, tape, tokens, spell, links, name, carHeader, carSection, cidText, cidFromText } =
-//   await load(bytesOfTheModule).
+// The WebAssembly module for JavaScript, in Node and in a browser:
+// const { check, tape, tokens, spell, links, name, cidText, cidFromText, carHeader, carSection,
+// carSections } = await load(module), which is the module's bytes, or a WebAssembly.Module.
 // It imports nothing, and has a 64-bit memory: addresses and lengths are BigInts.
 const PAGE = 65536;
+const FRONT = 64;
 const NO_ROOM = -21;
+const TRUNCATED = -24;
+const NOT_READ = 9;
 const CID_MOST = 86;
 const CID_TEXT_MOST = 139;
 
-exports.load = async (module) => {
-  const { instance } = await WebAssembly.instantiate(module);
-  const { memory, __heap_base } = instance.exports;
-  const { dagcbor_check, dagcbor_tokens, dagcbor_spell, dagcbor_links, dagcbor_name } =
-    instance.exports;
-  const { dagcbor_car_header, dagcbor_car_section } = instance.exports;
-  const { dagcbor_cid_text, dagcbor_cid_from_text } = instance.exports;
-  const base = Number(__heap_base.value); // what stands from here on is the host's
-  const grow = (pages) => {
+// The module's memory behind its own: 64 bytes for numbers or a name, then the bytes that a call is
+// about, then room for what it answers.
+class Room {
+  constructor({ memory, __heap_base }) {
+    this.memory = memory;
+    this.base = Number(__heap_base.value);
+    this.front = BigInt(this.base);
+  }
+
+  reserve(length) {
+    const more = this.base + FRONT + length - this.memory.buffer.byteLength;
+    if (more <= 0) return;
+    const pages = Math.ceil(more / PAGE);
     try {
-      memory.grow(BigInt(pages));
+      this.memory.grow(BigInt(pages));
     } catch (e) {
       if (!(e instanceof TypeError)) throw e;
-      memory.grow(pages); // as V8 of Node 20 wants it
+      this.memory.grow(pages); // as V8 of Node 20 wants it
     }
-  };
-  // Room for so many bytes from the base on.
-  const view = (length) => {
-    const more = base + length - memory.buffer.byteLength;
-    if (more > 0) grow(Math.ceil(more / PAGE));
-    return new Uint8Array(memory.buffer, base, length);
-  };
-  // From the base on: 64 bytes for a name or for numbers, the block, and then what is packed.
-  const put = (block, room) => {
-    const all = view(64 + block.length + room);
-    all.set(block, 64);
-    return [BigInt(base + 64), BigInt(block.length)];
-  };
-  // The numbers that a call put at the base.
-  const numbers = (count) => {
-    const words = new DataView(memory.buffer, base, 8 * count);
-    return Array.from({ length: count }, (_, at) => Number(words.getBigUint64(8 * at, true)));
-  };
-  // What a call of the bytes puts into so much room.
-  const into = (call, bytes, room, ...more) => {
-    const given = put(bytes, room);
-    const out = 64 + bytes.length;
-    const code = call(...given, BigInt(base + out), BigInt(room), BigInt(base), ...more);
-    const [needed] = numbers(1);
-    return { code, needed, packed: view(out + room).slice(out, out + needed) };
-  };
-  const unpack = (packed) => {
-    const found = [];
-    for (let at = 0; at < packed.length; at += 1 + packed[at]) {
-      found.push(packed.slice(at + 1, at + 1 + packed[at]));
-    }
-    return found;
-  };
-  // Where tokens stand behind a block: at a multiple of 8.
-  const behind = (block) => Math.ceil((base + 64 + block.length) / 8) * 8 - base;
-  // The tokens in so much room, three BigInts for each, how many there are, and the place.
-  const tokensIn = (block, room) => {
-    const out = behind(block);
-    const end = out + 24 * room;
-    const given = put(block, end - 64 - block.length);
-    const [neededAt, placeAt] = [BigInt(base), BigInt(base + 8)];
-    const code = dagcbor_tokens(...given, BigInt(base + out), BigInt(room), neededAt, placeAt);
-    const [needed, place] = numbers(2);
-    const there = needed > room ? 0 : needed;
-    const tape = new BigUint64Array(view(end).slice(out, out + 24 * there).buffer);
-    return { code, needed, place, tape };
-  };
-  // They are counted first: a token takes more room than the bytes that it stands for.
-  const tokensOf = (block) => {
-    const asked = tokensIn(block, 0);
-    return asked.needed === 0 ? asked : tokensIn(block, asked.needed);
-  };
-  const spellInto = (block, tape, room) => {
-    const at = behind(block);
+  }
+
+  // The address of what stands so far behind the front.
+  address(at) {
+    return BigInt(this.base + FRONT + at);
+  }
+
+  // The address and the length of the bytes, which are put there, with room for more behind them.
+  put(bytes, room = 1) {
+    this.reserve(bytes.length + room);
+    new Uint8Array(this.memory.buffer).set(bytes, this.base + FRONT);
+    return [this.address(0), BigInt(bytes.length)];
+  }
+
+  // The number that a call put to the front, as the first or a later one.
+  number(n = 0) {
+    return Number(new DataView(this.memory.buffer, this.base).getBigUint64(8 * n, true));
+  }
+
+  copy(at, length) {
+    return new Uint8Array(this.memory.buffer, this.base + FRONT + at, length).slice();
+  }
+}
+
+// Where tokens stand behind so many bytes: at a multiple of 8.
+const behind = (length) => Math.ceil(length / 8) * 8;
+
+// CIDs, each behind a byte of length.
+const unpacked = (packed) => {
+  const found = [];
+  for (let at = 0; at < packed.length; at += 1 + packed[at]) {
+    found.push(packed.subarray(at + 1, at + 1 + packed[at]));
+  }
+  return found;
+};
+
+const judging = (calls, room) => ({
+  check: (block) => calls.dagcbor_check(...room.put(block)),
+  name: (block) => {
+    calls.dagcbor_name(...room.put(block), room.front);
+    return room.copy(-FRONT, 36);
+  },
+  // The number of a refusal, or the tokens: three BigInts each.
+  tape: (block) => {
+    const out = behind(block.length);
+    const given = room.put(block);
+    const ask = (count) =>
+      calls.dagcbor_tape(...given, room.address(out), BigInt(count), room.front);
+    const code = ask(0);
+    if (code < 0) return code;
+    const count = room.number();
+    room.reserve(out + 24 * count);
+    ask(count);
+    return new BigUint64Array(room.copy(out, 24 * count).buffer);
+  },
+  // Of any bytes: the number of the kind or of the refusal; the place of the refusal, which is the
+  // length where there is none; how many tokens stand before it, and the tokens, or null where they
+  // are more than `most`.
+  tokens: (bytes, most = Infinity) => {
+    const out = behind(bytes.length);
+    const given = room.put(bytes);
+    const place = room.front + 8n;
+    const ask = (count) =>
+      calls.dagcbor_tokens(...given, room.address(out), BigInt(count), room.front, place);
+    const told = { code: ask(0), place: room.number(1), count: room.number(), tape: null };
+    if (told.count > most) return told;
+    room.reserve(out + 24 * told.count);
+    ask(told.count);
+    told.tape = new BigUint64Array(room.copy(out, 24 * told.count).buffer);
+    return told;
+  },
+  // The number of a refusal, or CIDs: packed they are shorter than the block.
+  links: (block) => {
+    const out = block.length;
+    const given = room.put(block, out + 1);
+    const code = calls.dagcbor_links(...given, room.address(out), BigInt(out), room.front);
+    return code < 0 ? code : unpacked(room.copy(out, room.number()));
+  },
+});
+
+const spelling = (calls, room) => ({
+  // The number of a refusal, or the block that a BigUint64Array of tokens tells, with payloads
+  // out of the bytes.
+  spell: (bytes, tape) => {
+    const at = behind(bytes.length);
     const out = at + 8 * tape.length;
-    const given = put(block, out + room - 64 - block.length);
-    new BigUint64Array(memory.buffer, base + at, tape.length).set(tape);
-    const tokens = [BigInt(base + at), BigInt(Math.floor(tape.length / 3))];
-    const code = dagcbor_spell(...given, ...tokens, BigInt(base + out), BigInt(room), BigInt(base));
-    const [needed] = numbers(1);
-    return { code, needed, spelled: view(out + room).slice(out, out + needed) };
+    const given = room.put(bytes, out + 1 - bytes.length);
+    new BigUint64Array(room.memory.buffer, room.base + FRONT + at, tape.length).set(tape);
+    const tokens = [room.address(at), BigInt(Math.floor(tape.length / 3))];
+    const ask = (length) => calls.dagcbor_spell(
+      ...given, ...tokens, room.address(out), BigInt(length), room.front);
+    const asked = ask(0);
+    if (asked !== NO_ROOM) return asked;
+    const needed = room.number();
+    room.reserve(out + needed);
+    const code = ask(needed);
+    return code < 0 ? code : room.copy(out, needed);
+  },
+});
+
+const naming = (calls, room) => {
+  // The number of a refusal, or what the call puts into so much room.
+  const answer = (call, bytes, most) => {
+    const given = room.put(bytes, most);
+    const out = bytes.length;
+    const code = call(...given, room.address(out), BigInt(most), room.front);
+    return code < 0 ? code : room.copy(out, room.number());
   };
   return {
-    check: (block) => dagcbor_check(...put(block, 1)),
-    // The number of a refusal, or the tokens.
-    tape: (block) => {
-      const { code, tape } = tokensOf(block);
-      return code < 0 ? code : tape;
-    },
-    // The number of the kind or of a refusal, the place of that (of a block its end), and the tokens
-    // before it.
-    tokens: (block) => {
-      const { code, place, tape } = tokensOf(block);
-      return { code, place, tape };
-    },
-    // The number of a refusal, or the block that a BigUint64Array of tokens tells, with payloads
-    // out of the bytes.
-    spell: (bytes, tape) => {
-      const asked = spellInto(bytes, tape, 0);
-      if (asked.code !== NO_ROOM) return asked.code;
-      const { code, spelled } = spellInto(bytes, tape, asked.needed);
-      return code < 0 ? code : spelled;
-    },
-    // The number of a refusal, or CIDs.
-    links: (block) => {
-      const { code, needed } = into(dagcbor_links, block, 0);
-      if (code < 0) return code;
-      return unpack(into(dagcbor_links, block, needed).packed);
-    },
-    name: (block) => {
-      dagcbor_name(...put(block, 1), BigInt(base));
-      return view(36).slice();
-    },
-    // The number of a cause, or the CIDs of the roots and where the first section begins.
-    carHeader: (bytes) => {
-      const behindAt = BigInt(base + 8);
-      const { code, needed } = into(dagcbor_car_header, bytes, 0, behindAt);
-      if (code < 0) return code;
-      const { packed } = into(dagcbor_car_header, bytes, needed, behindAt);
-      return { roots: unpack(packed), behind: numbers(2)[1] };
-    },
-    // The number of the verdict on the block of the section at the front, and its places, or none.
-    carSection: (bytes) => {
-      const given = put(bytes, 1);
-      view(24).fill(0);
-      const code = dagcbor_car_section(...given, BigInt(base));
-      const [cid, block, end] = numbers(3);
-      return { code, places: end === 0 ? null : { cid, block, end } };
-    },
     // The number of a refusal, or the text of a CID.
     cidText: (bytes) => {
-      const { code, packed } = into(dagcbor_cid_text, bytes, CID_TEXT_MOST);
-      return code < 0 ? code : String.fromCharCode(...packed);
+      const text = answer(calls.dagcbor_cid_text, bytes, CID_TEXT_MOST);
+      return typeof text === 'number' ? text : String.fromCharCode(...text);
     },
     // The number of a refusal, or the CID of a text.
-    cidFromText: (text) => {
-      const { code, packed } = into(dagcbor_cid_from_text, new TextEncoder().encode(text), CID_MOST);
-      return code < 0 ? code : packed;
+    cidFromText: (text) =>
+      answer(calls.dagcbor_cid_from_text, new TextEncoder().encode(text), CID_MOST),
+  };
+};
+
+const walking = (calls, room) => {
+  const section = (at, length) =>
+    calls.dagcbor_car_section(room.address(at), BigInt(length), room.front);
+  return {
+    // Of a file of blocks: the number of a refusal, or the roots, and where the first section begins.
+    carHeader: (bytes) => {
+      const out = bytes.length;
+      const given = room.put(bytes, out + 1); // packed they are shorter than the header
+      const place = room.front + 8n;
+      const code = calls.dagcbor_car_header(
+        ...given, room.address(out), BigInt(out), room.front, place);
+      if (code < 0) return code;
+      return { roots: unpacked(room.copy(out, room.number())), behind: room.number(1) };
+    },
+    // What is said of the section that begins the bytes, and where its CID and its block begin and
+    // where it ends, or null where none begins them.
+    carSection: (bytes) => {
+      room.put(bytes);
+      const code = section(0, bytes.length);
+      if (code <= TRUNCATED) return { code, places: null };
+      const [cid, block, end] = [0, 1, 2].map((n) => room.number(n));
+      return { code, places: { cid, block, end } };
+    },
+    // The sections at the front of the bytes, one behind the other: what is said of each; three
+    // places of each; the links of those that are blocks of DAG-CBOR, a byte of length before each;
+    // and the number of what is refused behind them, which is 0 at the end.
+    carSections: (bytes) => {
+      const out = bytes.length;
+      room.put(bytes, out + 1); // packed they are shorter than the blocks
+      const numbers = new DataView(room.memory.buffer, room.base);
+      const number = (n) => Number(numbers.getBigUint64(8 * n, true));
+      const [codes, places] = [[], []];
+      let [at, packed, cause] = [0, 0, 0];
+      while (at < bytes.length) {
+        const code = section(at, bytes.length - at);
+        if (code <= TRUNCATED) {
+          cause = code;
+          break;
+        }
+        const [cid, block, end] = [at + number(0), at + number(1), at + number(2)];
+        codes.push(code);
+        places.push(cid, block, end);
+        if (code >= 0 && code !== NOT_READ) {
+          calls.dagcbor_links(room.address(block), BigInt(end - block), room.address(out + packed),
+            BigInt(out - packed), room.front);
+          packed += number(0);
+        }
+        at = end;
+      }
+      return { codes, places, links: room.copy(out, packed), cause };
     },
   };
+};
+
+exports.load = async (module) => {
+  const made = await WebAssembly.instantiate(module);
+  const calls = (made.instance ?? made).exports;
+  const room = new Room(calls);
+  const parts = [judging, spelling, naming, walking];
+  return Object.assign({}, ...parts.map((it) => it(calls, room)));
 };

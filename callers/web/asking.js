@@ -1,8 +1,8 @@
 // The page's side of the worker. The page is one file, with the module and the worker inside, or a
 // folder of files.
 
+import { load } from './dagcbor.js';
 import { readBy } from './cid.js';
-import { Library } from './library.js';
 import { fromBase64 } from './text.js';
 
 const moduleBytes = async () => {
@@ -35,9 +35,7 @@ export class Asker {
 
   // The worker has the library, and this side has it too, for the texts of CIDs.
   async start(module) {
-    const [library] = await Promise.all([
-      WebAssembly.compile(module).then(Library.of), this.send('start', { module }),
-    ]);
+    const [library] = await Promise.all([load(module), this.send('start', { module })]);
     readBy(library);
   }
 
@@ -47,7 +45,7 @@ export class Asker {
     if (progress) asked.told?.(progress);
     else {
       this.waiting.delete(number);
-      if (error !== undefined) asked.reject(new Error(error));
+      if (error !== undefined) asked.reject(Object.assign(new Error(error.message), error));
       else asked.resolve(answer);
     }
   }

@@ -16,7 +16,8 @@ export class Bytes {
     this.rows = new Rows(host, BYTES_HEIGHT, (row) => this.draw(row));
     this.cursor = -1;
     withAttributes(host, {
-      role: 'listbox', tabindex: 0, 'aria-label': 'Bytes of the block. Arrow keys move from byte to byte.',
+      role: 'listbox', tabindex: 0,
+      'aria-label': 'Bytes of the block. Arrow keys move from byte to byte.',
     });
     const placeOf = (event) => {
       const cell = event.target.closest('[data-at]');
@@ -66,8 +67,10 @@ export class Bytes {
       hex.append(this.cell(at, token, hexByte(this.bytes[at]), true));
       text.append(this.cell(at, token, printable(this.bytes[at]), false));
     }
-    if (this.fault && this.fault.place === to && to === this.bytes.length && to < from + this.columns) {
-      hex.append(withAttributes(make('span.byte.is-fault.is-end', 'end'), { 'aria-label': 'the end' }));
+    const isEnd = to === this.bytes.length && to < from + this.columns;
+    if (this.fault?.place === to && isEnd) {
+      const end = make('span.byte.is-fault.is-end', 'end');
+      hex.append(withAttributes(end, { 'aria-label': 'the end' }));
     }
     const offset = make('span.offset', from.toString(16).padStart(4, '0'));
     const element = make('div.bytes-row', offset, hex, text);
@@ -83,20 +86,26 @@ export class Bytes {
       element.classList.add(isKey[token] ? 'k-key' : KIND_CLASS[kind[token]]);
       if (at < place[token]) element.classList.add('is-head');
     }
-    if (isHex) withAttributes(element, { id: `byte-${at}`, role: 'option', 'aria-selected': at === this.cursor });
+    if (isHex) {
+      withAttributes(element, {
+        id: `byte-${at}`, role: 'option', 'aria-selected': at === this.cursor,
+        'aria-label': `${text}, byte ${at}`,
+      });
+    }
     this.dress(element, at);
     return element;
   }
 
   dress(element, at) {
     const { own, around } = this.marks;
+    const { place = -1, start = -1 } = this.fault ?? {};
     const isIn = (range) => Boolean(range) && at >= range[0] && at < range[1];
     const { classList } = element;
     classList.toggle('is-own', isIn(own));
     classList.toggle('is-around', isIn(around) && !isIn(own));
     classList.toggle('is-cursor', at === this.cursor);
-    classList.toggle('is-fault', Boolean(this.fault) && at === this.fault.place);
-    classList.toggle('is-faulty', Boolean(this.fault) && at >= this.fault.start && at < this.fault.place);
+    classList.toggle('is-fault', at === place);
+    classList.toggle('is-faulty', at >= start && at < place);
   }
 
   // Marks a token's own bytes, and those of all that it holds.
@@ -121,7 +130,8 @@ export class Bytes {
     const last = this.bytes.length - 1;
     const page = this.rows.seen * this.columns;
     const moves = {
-      ArrowRight: at + 1, ArrowLeft: at - 1, ArrowDown: at + this.columns, ArrowUp: at - this.columns,
+      ArrowRight: at + 1, ArrowLeft: at - 1,
+      ArrowDown: at + this.columns, ArrowUp: at - this.columns,
       Home: 0, End: last, PageDown: at + page, PageUp: at - page,
     };
     if (!(event.key in moves)) return;

@@ -6,7 +6,9 @@ import { counted, grouping, sizeOf } from './text.js';
 import { GROUPS, Sections, Table } from './sections.js';
 import { faultOf } from './verdicts.js';
 
+const ALL_WELL = 'Each block is the one that its CID names, and each link and root leads to one.';
 const MISSING_AT_ONCE = 100;
+const BETWEEN_LOOKS = 120; // milliseconds between two looks at what was read
 const MOST_ROOTS = 20;
 
 let walks = 0;
@@ -16,10 +18,13 @@ export class CarView {
     Object.assign(this, { asker, file, header, open });
     this.sections = new Sections();
     this.group = 'all';
+    this.filtered = 0;
     walks += 1;
     this.number = walks;
-    this.element = make('article.car', this.summary(), this.rootList(), this.filters(), this.table(), this.missingList());
-    this.tell(header.end);
+    const parts = [this.summary(), this.rootList(), this.filters(), this.table()];
+    this.element = make('article.car', ...parts, this.missingList());
+    this.readTo = header.behind;
+    this.tell(this.readTo);
     this.walk();
   }
 
@@ -31,12 +36,14 @@ export class CarView {
 
   summary() {
     this.banner = make('div.banner.is-note');
-    this.title = withAttributes(make('h2'), { 'aria-live': 'polite' });
+    this.title = make('span');
     this.said = make('p');
     this.bar = withAttributes(make('progress'), { max: 1, 'aria-label': 'Read of the file' });
     this.stop = button('Stop', () => this.end(), '.quiet');
     this.progress = make('div.progress', this.bar, this.stop);
-    this.banner.append(this.title, this.said, this.progress);
+    this.mark = withAttributes(make('span.mark', '…'), { 'aria-hidden': true });
+    const title = withAttributes(make('h2', this.mark, this.title), { 'aria-live': 'polite' });
+    this.banner.append(title, this.said, this.progress);
     return this.banner;
   }
 
@@ -45,7 +52,8 @@ export class CarView {
     this.bar.value = this.file.size ? at / this.file.size : 1;
     if (!this.done) {
       this.title.textContent = 'Reading the file of blocks';
-      this.said.textContent = `${counted(counts.all, 'section')}, ${sizeOf(at)} of ${sizeOf(this.file.size)}`;
+      const read = `${sizeOf(at)} of ${sizeOf(this.file.size)}`;
+      this.said.textContent = `${counted(counts.all, 'section')}, ${read}`;
     }
     for (const [name, , , chip] of this.chips) {
       chip.lastChild.textContent = grouping(counts[name]);
@@ -59,11 +67,13 @@ export class CarView {
     const wrong = counts.refused + counts.bytes + counts.unknown;
     const isWell = !fault && !wrong && !missing.length;
     this.banner.classList.replace('is-note', isWell ? 'is-good' : 'is-bad');
+    this.mark.textContent = isWell ? '✓' : '✕';
     this.progress.remove();
-    const all = `${counted(counts.all, 'section')} in ${sizeOf(this.file.size)}, with ${counted(links, 'link')}.`;
+    const size = `${counted(counts.all, 'section')} in ${sizeOf(this.file.size)}`;
+    const all = `${size}, with ${counted(links, 'link')}.`;
     if (isWell) {
       this.title.textContent = 'A file of blocks, and all is well';
-      this.said.textContent = `${all} Each block is the one that its CID names, and each link and root leads to one.`;
+      this.said.textContent = `${all} ${ALL_WELL}`;
       return;
     }
     const parts = [];
@@ -71,11 +81,13 @@ export class CarView {
     if (counts.bytes) parts.push(`${grouping(counts.bytes)} with other bytes than their CID names`);
     if (counts.unknown) parts.push(`${grouping(counts.unknown)} not verified`);
     if (missing.length) parts.push(`${counted(missing.length, 'CID')} missing`);
-    this.title.textContent = fault ? 'A file of blocks, and it breaks off' : 'A file of blocks, and not all is well';
+    this.title.textContent = `A file of blocks, and ${fault ? 'it breaks off' : 'not all is well'}`;
     this.said.textContent = `${all} ${parts.length ? `${parts.join(', ')}.` : ''}`;
     if (fault) {
       const { name, asks } = faultOf(fault.code);
-      this.banner.append(make('p', make('code.name', name), ` At byte ${grouping(fault.at)}, where a section is to begin. ${asks} What is missing is not known.`));
+      const where = ` At byte ${grouping(fault.at)}, where a section is to begin.`;
+      const text = `${where} ${asks} What is missing is not known.`;
+      this.banner.append(make('p', make('code.name', name), text));
     }
   }
 
@@ -85,7 +97,8 @@ export class CarView {
     for (const root of roots.slice(0, MOST_ROOTS)) {
       list.append(make('li', button(cidText(root), () => this.open(root), '.cid')));
     }
-    if (roots.length > MOST_ROOTS) list.append(make('li', `and ${grouping(roots.length - MOST_ROOTS)} more`));
+    const more = roots.length - MOST_ROOTS;
+    if (more > 0) list.append(make('li', `and ${grouping(more)} more`));
     if (!roots.length) list.append(make('li.hint', 'none'));
     return make('section', make('h3', roots.length === 1 ? 'Root' : 'Roots'), list);
   }
@@ -102,24 +115,38 @@ export class CarView {
       chip.setAttribute('aria-pressed', name === 'all');
       return [name, title, has, chip];
     });
-    this.search = withAttributes(make('input'), { type: 'search', placeholder: 'Part of a CID', 'aria-label': 'Show sections whose CID has this in it', spellcheck: false });
+    this.search = withAttributes(make('input'), {
+      type: 'search', placeholder: 'Part of a CID', spellcheck: false,
+      'aria-label': 'Show sections whose CID has this in it',
+    });
     this.search.addEventListener('input', () => {
       clearTimeout(this.later);
       this.later = setTimeout(() => this.filter(), 200);
     });
-    return make('div.filters', ...this.chips.map((it) => it[3]), this.search);
+    this.shown = withAttributes(make('span.hint'), { role: 'status' });
+    return make('div.filters', ...this.chips.map((it) => it[3]), this.shown, this.search);
   }
 
-  filter() {
-    for (const [name, , , chip] of this.chips) chip.setAttribute('aria-pressed', name === this.group);
+  async filter() {
+    for (const [name, , , chip] of this.chips) {
+      chip.setAttribute('aria-pressed', name === this.group);
+    }
+    this.filtered += 1;
+    const mine = this.filtered;
     const part = this.search.value.trim();
-    this.grid.choose(this.group === 'all' && !part ? null : this.sections.chosen(this.group, part));
+    const isAll = this.group === 'all' && !part;
+    const isWanted = () => mine === this.filtered;
+    const chosen = isAll ? null : await this.sections.chosen(this.group, part, isWanted);
+    if (!isWanted()) return;
+    this.grid.choose(chosen);
     this.none.hidden = this.grid.length > 0;
+    this.shown.textContent = isAll ? '' : `${counted(this.grid.length, 'section')} shown`;
   }
 
   table() {
     const host = make('div.sections');
-    this.grid = new Table(host, this.sections, { open: (i) => this.open(this.sections.cids[i], i) });
+    const { sections } = this;
+    this.grid = new Table(host, sections, { open: (i) => this.open(sections.cids[i], i) });
     this.none = make('p.hint', 'No section is like this.');
     this.none.hidden = true;
     return make('section', host, this.none);
@@ -139,7 +166,9 @@ export class CarView {
     const more = button('', () => add(), '.quiet');
     let shown = 0;
     const add = () => {
-      for (const cid of missing.slice(shown, shown + MISSING_AT_ONCE)) list.append(make('li', make('code.cid', cidText(cid))));
+      for (const cid of missing.slice(shown, shown + MISSING_AT_ONCE)) {
+        list.append(make('li', make('code.cid', cidText(cid))));
+      }
       shown = Math.min(shown + MISSING_AT_ONCE, missing.length);
       more.hidden = shown === missing.length;
       more.textContent = `Show more of ${grouping(missing.length)}`;
@@ -149,21 +178,27 @@ export class CarView {
     for (const it of this.element.querySelectorAll('.roots li')) {
       if (names.has(it.textContent)) it.append(make('span.is-bad', 'missing'));
     }
-    this.missing.append(make('h3', `Missing ${grouping(missing.length)}`), make('p.hint', 'Roots and links that lead to no verified block of this file.'), list, more);
+    const title = make('h3', `Missing ${grouping(missing.length)}`);
+    const hint = make('p.hint', 'Roots and links that lead to no verified block of this file.');
+    this.missing.append(title, hint, list, more);
   }
 
   // Reading.
 
   async walk() {
     const told = ({ batch, at }) => {
+      if (this.isEnded) return; // what comes behind Stop is not shown
       this.sections.add(batch);
-      this.tell(at);
-      if (this.group === 'all' && !this.search.value) this.grid.lay();
+      this.readTo = at;
+      this.planned ??= setTimeout(() => this.refresh(), BETWEEN_LOOKS);
     };
     try {
-      const done = await this.asker.ask('walk', { file: this.file, header: this.header, walk: this.number }, told);
+      const { file, header, number } = this;
+      const done = await this.asker.ask('walk', { file, header, walk: number }, told);
       if (this.isEnded) return;
+      clearTimeout(this.planned);
       this.done = done;
+      this.tell(this.readTo);
       this.filter();
       this.conclude();
       this.showMissing();
@@ -173,6 +208,14 @@ export class CarView {
       this.said.textContent = error.message;
       this.progress.remove();
     }
+  }
+
+  // What was read so far is shown.
+  refresh() {
+    clearTimeout(this.planned);
+    this.planned = null;
+    this.tell(this.readTo);
+    if (this.group === 'all' && !this.search.value) this.grid.lay();
   }
 
   // What is not shown forgets where it was scrolled to.
@@ -186,6 +229,7 @@ export class CarView {
 
   end() {
     if (this.done || this.isEnded) return;
+    this.refresh();
     this.isEnded = true;
     this.asker.ask('stop', { walk: this.number });
     this.title.textContent = 'Stopped';

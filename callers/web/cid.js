@@ -1,42 +1,45 @@
-// CIDs: their text, by the library, and the parts that they name.
+// CIDs: their text, by the library, and what they say of their block.
 
 let reader; // the library, which is asked for texts alone
 
-export const readBy = (library) => { reader = library; };
+export const readBy = (it) => { reader = it; };
 
 export const cidText = (bytes) => reader.cidText(bytes);
 
 // The CID of a text, or the number of the refusal.
 export const cidFrom = (text) => reader.cidFromText(text);
 
-const CODECS = new Map([
-  [0x55, 'raw bytes'], [0x70, 'DAG-PB'], [0x71, 'DAG-CBOR'], [0x129, 'DAG-JSON'],
-  [0x51, 'CBOR'], [0x200, 'JSON'], [0x72, 'libp2p key'], [0x78, 'Git'], [0x85, 'DAG-JOSE'],
-]);
-const HASHES = new Map([
-  [0x00, 'identity'], [0x11, 'SHA-1'], [0x12, 'SHA-256'], [0x13, 'SHA-512'],
-  [0x16, 'SHA3-256'], [0x1b, 'Keccak-256'], [0x1e, 'BLAKE3'], [0xb220, 'BLAKE2b-256'],
-]);
+// How a CID begins, in hexadecimal: with 1, as the version, and one of these codecs; behind it one
+// of these hash functions. Another one is shown as such: no number is read here.
+const CODECS = [
+  ['0155', 'raw bytes'], ['0170', 'DAG-PB'], ['0171', 'DAG-CBOR'], ['01a902', 'DAG-JSON'],
+  ['0151', 'CBOR'], ['018004', 'JSON'], ['0172', 'libp2p key'], ['0178', 'Git'],
+  ['018501', 'DAG-JOSE'],
+];
+const HASHES = [
+  ['00', 'identity'], ['11', 'SHA-1'], ['12', 'SHA-256'], ['13', 'SHA-512'],
+  ['16', 'SHA3-256'], ['1b', 'Keccak-256'], ['1e', 'BLAKE3'], ['a0e402', 'BLAKE2b-256'],
+];
 
-// A key for maps and sets.
-export const cidKey = (bytes) => String.fromCharCode(...bytes);
+// A key for maps and sets: a character for each byte, and no two bytes have one. Of CIDs one behind
+// the other, their keys are the slices.
+const keys = new TextDecoder('latin1');
+const EACH = keys.decode(Uint8Array.from({ length: 256 }, (_, it) => it));
 
-const varint = (bytes, at) => {
-  let [number, factor] = [0, 1];
-  for (let i = at; i < bytes.length; i += 1) {
-    number += (bytes[i] & 0x7f) * factor;
-    factor *= 128;
-    if (bytes[i] < 0x80) return [number, i + 1];
-  }
-  return [number, bytes.length];
-};
+export const cidKey = (bytes) => keys.decode(bytes);
 
-const named = (names, code) => names.get(code) ?? `code 0x${code.toString(16)}`;
+export const cidOfKey = (key) => Uint8Array.from(key, (it) => EACH.indexOf(it));
 
-// What a CID says of its block.
+const hexOf = (bytes) => Array.from(bytes, (it) => it.toString(16).padStart(2, '0')).join('');
+
+// The codec and the hash function in words.
 export const cidParts = (bytes) => {
-  if (bytes[0] === 0x12) return { version: 0, code: 0x70, codec: 'DAG-PB', hash: 'SHA-256' };
-  const [code, behind] = varint(bytes, 1);
-  const [hash] = varint(bytes, behind);
-  return { version: 1, code, codec: named(CODECS, code), hash: named(HASHES, hash) };
+  const front = hexOf(bytes.subarray(0, 12));
+  if (front.startsWith('1220')) return { version: 0, codec: 'DAG-PB', hash: 'SHA-256' };
+  const begins = ([prefix]) => front.startsWith(prefix);
+  const [prefix, codec] = CODECS.find(begins) ?? ['', 'another codec'];
+  if (!prefix) return { version: 1, codec, hash: 'a hash function behind it' };
+  const rest = front.slice(prefix.length);
+  const [, hash] = HASHES.find(([it]) => rest.startsWith(it)) ?? ['', 'another hash function'];
+  return { version: 1, codec, hash };
 };

@@ -1,6 +1,6 @@
 // The items of a block in words and short text.
 
-import { NULL, BOOL, INTEGER, TEXT, BYTES, LIST, MAP, LINK, NEGATIVE } from './library.js';
+import { NULL, BOOL, INTEGER, TEXT, BYTES, LIST, MAP, LINK, NEGATIVE } from './kinds.js';
 import { FAULT, payloadOf } from './shape.js';
 import { cidText } from './cid.js';
 import { counted, fromUtf8, quoted, toHex } from './text.js';
@@ -18,6 +18,7 @@ const KIND_NAME = {
 };
 
 const MOST_TEXT = 300;
+const MOST_KEY = 60; // in a path
 const MOST_BYTES = 48;
 
 // A block, and its items by their tokens.
@@ -97,11 +98,21 @@ export class Items {
     }
   }
 
-  shortText(i) {
+  // In one line that is read out: its key or index, its kind, and what it is.
+  told(i) {
+    const key = this.keyOf(i);
+    const isHeld = this.shape.parent[i] >= 0 && !this.shape.isKey[i];
+    const label = key >= 0 ? `${this.shortText(key)}: ` : isHeld ? `${this.shape.order[i]}: ` : '';
+    if (this.isHolder(i)) return `${label}${this.kindName(i)} of ${this.announced(i)}`;
+    const isPlain = [NULL, BOOL, FAULT].includes(this.kind(i));
+    return `${label}${isPlain ? '' : `${this.kindName(i)} `}${this.short(i)}`;
+  }
+
+  shortText(i, most = MOST_TEXT) {
     const all = this.payload(i);
     // Four bytes a character at most, and a cut one is not shown.
-    return all.length <= MOST_TEXT ? quoted(fromUtf8(all))
-      : quoted(fromUtf8(all.subarray(0, 4 * MOST_TEXT)), MOST_TEXT);
+    return all.length <= most ? quoted(fromUtf8(all))
+      : quoted(fromUtf8(all.subarray(0, 4 * most)), most);
   }
 
   shortBytes(i) {
@@ -115,9 +126,11 @@ export class Items {
     const parts = [];
     for (let at = i; this.shape.parent[at] >= 0; at = this.shape.parent[at]) {
       const key = this.shape.isKey[at] ? at : this.keyOf(at);
-      if (key >= 0) parts.unshift(`[${this.shortText(key)}]`);
-      else if (this.kind(this.shape.parent[at]) === LIST) parts.unshift(`[${this.shape.order[at]}]`);
-      else parts.unshift('[key]');
+      if (key >= 0) parts.unshift(`[${this.shortText(key, MOST_KEY)}]`);
+      else {
+        const isInList = this.kind(this.shape.parent[at]) === LIST;
+        parts.unshift(isInList ? `[${this.shape.order[at]}]` : '[key]');
+      }
     }
     return parts.join('') || 'the whole block';
   }

@@ -1,10 +1,10 @@
 // DAG-JSON of a block, from its tokens. Keys come in the block's order, integers whole.
 
-import { NULL, BOOL, INTEGER, TEXT, BYTES, LIST, MAP, LINK, NEGATIVE } from './library.js';
+import { NULL, BOOL, INTEGER, TEXT, BYTES, LIST, MAP, LINK, NEGATIVE } from './kinds.js';
 import { cidText } from './cid.js';
 import { fromUtf8, jsonText, toBase64 } from './text.js';
 
-export const valueText = (bytes, shape, i) => {
+const valueText = (bytes, shape, i) => {
   const [number, place] = [shape.number[i], shape.place[i]];
   const payload = () => bytes.subarray(place, place + Number(number));
   switch (shape.kind[i]) {

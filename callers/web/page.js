@@ -1,20 +1,24 @@
 // The page: what is given, what is shown, and the way back.
 
 import { Asker } from './asking.js';
-import { BlockView, spelled } from './blockview.js';
+import { BlockView } from './blockview.js';
 import { CarView } from './carview.js';
 import { cidText } from './cid.js';
 import { button, make } from './dom.js';
+import { spelled } from './editor.js';
 import { EXAMPLES } from './examples.js';
 import { fromText, sizeOf } from './text.js';
 
 const MOST_BLOCK = 256 << 20;
+const WANTED = 'The page wants a browser with WebAssembly of 64-bit memory.';
 
 const at = (id) => document.getElementById(id);
 const asker = new Asker();
 const views = []; // from the first that was opened to the one that is shown
 
 // What is shown.
+
+const TITLE = document.title;
 
 const short = (text) => (text.length > 24 ? `${text.slice(0, 10)}…${text.slice(-6)}` : text);
 
@@ -24,9 +28,9 @@ const show = () => {
   at('result').replaceChildren(...(view ? [view.element] : []));
   at('crumbs').replaceChildren(...views.map(crumb));
   at('crumbs').hidden = !views.length;
+  document.title = view ? `${view.title} – ${TITLE}` : TITLE;
   view?.afterShown?.();
-  const title = view?.element.querySelector('h2');
-  if (!title) return;
+  const title = view?.element.querySelector('h2') ?? at('begin');
   title.tabIndex = -1; // so that it is read out, and the keyboard goes on from here
   title.focus({ preventScroll: true });
 };
@@ -75,10 +79,33 @@ const say = (text) => {
   at('said').hidden = !text;
 };
 
+// That something is being judged, where that takes long enough to be seen.
+const LONG = 300; // milliseconds
+
+const busyWith = async (title, act) => {
+  const later = setTimeout(() => { at('busy').textContent = `Judging ${title} …`; }, LONG);
+  document.body.classList.add('is-busy');
+  try {
+    await act();
+  } catch (error) {
+    say(`${title}: ${error.message}`);
+  } finally {
+    clearTimeout(later);
+    at('busy').textContent = '';
+    document.body.classList.remove('is-busy');
+  }
+};
+
 // What is given.
 
+const NO_HEADER = 'By its name this is a file of blocks (CAR), but it does not begin with the header of one:'
+  + ' it was judged as one block.';
+
 const blockView = async (file, title, more = {}) => {
-  if (file.size > MOST_BLOCK) throw new Error(`${sizeOf(file.size)} are too many for one block here: at most ${sizeOf(MOST_BLOCK)}.`);
+  if (file.size > MOST_BLOCK) {
+    const most = `at most ${sizeOf(MOST_BLOCK)}`;
+    throw new Error(`${sizeOf(file.size)} are too many for one block here: ${most}.`);
+  }
   const judged = await asker.ask('judge', { file });
   const car = [...views].reverse().find((it) => it.car)?.car;
   const view = new BlockView(asker, judged, {
@@ -102,11 +129,8 @@ const openIn = async (car, cid, number = car.sections.find(cid)) => {
   const { sections } = car;
   const file = car.file.slice(sections.blocks[number], sections.ends[number]);
   const section = { cid: sections.cids[number], code: sections.codes[number] };
-  try {
-    push(await blockView(file, cidText(section.cid), { car, section }));
-  } catch (error) {
-    say(error.message);
-  }
+  const title = cidText(section.cid);
+  await busyWith(title, async () => push(await blockView(file, title, { car, section })));
 };
 
 let opened = 0;
@@ -115,23 +139,23 @@ const openFile = async (file, title) => {
   opened += 1;
   const mine = opened;
   say('');
-  document.body.classList.add('is-busy');
-  try {
+  await busyWith(title, async () => {
     const { header, inner } = await asker.ask('look', { file });
     if (mine !== opened) return;
     if (header) {
       const whole = inner ? file.slice(inner.from, inner.end) : file;
-      const car = new CarView(asker, whole, header, { open: (cid, number) => openIn(car, cid, number) });
-      begin({ title: inner ? `inside ${title}` : title, element: car.element, car, afterShown: () => car.afterShown(), leave: () => car.leave() });
+      const open = (cid, number) => openIn(car, cid, number);
+      const car = new CarView(asker, whole, header, { open });
+      begin({
+        title: inner ? `inside ${title}` : title, element: car.element, car,
+        afterShown: () => car.afterShown(), leave: () => car.leave(),
+      });
       return;
     }
-    const view = await blockView(file, title);
+    const note = /\.car$/i.test(title) ? NO_HEADER : undefined;
+    const view = await blockView(file, title, { note });
     if (mine === opened) begin(view);
-  } catch (error) {
-    say(`${title}: ${error.message}`);
-  } finally {
-    document.body.classList.remove('is-busy');
-  }
+  });
 };
 
 const openText = async (text) => {
@@ -142,7 +166,7 @@ const openText = async (text) => {
   }
   if (/^[{["]/.test(trimmed)) {
     try {
-      const bytes = await spelled(asker, trimmed);
+      const { bytes } = await spelled(asker, trimmed);
       await openFile(new Blob([bytes]), 'from DAG-JSON');
     } catch (error) {
       say(`DAG-JSON. ${error.message}`);
@@ -169,11 +193,7 @@ const start = () => {
     if (file) openFile(file, file.name);
     chooser.value = '';
   });
-  at('again').addEventListener('click', () => {
-    document.body.classList.remove('is-showing');
-    window.scrollTo(0, 0);
-    area.focus();
-  });
+  at('again').addEventListener('click', () => goTo(0));
   document.addEventListener('dragover', (event) => {
     event.preventDefault();
     drop.classList.add('is-over');
@@ -188,16 +208,15 @@ const start = () => {
     if (file) openFile(file, file.name);
     else if (event.dataTransfer.getData('text')) openText(event.dataTransfer.getData('text'));
   });
-  for (const [title, text] of EXAMPLES) {
-    at('examples').append(make('li', button(title, () => {
-      area.value = text;
-      openText(text);
-    }, '.chip')));
+  for (const [title, what, text, name] of EXAMPLES) {
+    const card = button('', () => openFile(new Blob([fromText(text).bytes]), name), '.card');
+    card.append(make('b', title), make('span', what));
+    at('examples').append(make('li', card));
   }
   window.history.replaceState({ depth: 0 }, '');
   asker.ready.then(
     () => { document.body.dataset.ready = 'yes'; },
-    (error) => say(`The library did not load: ${error.message}. The page wants a browser with WebAssembly of 64-bit memory: Chromium 133, Firefox 134, or later.`),
+    (error) => say(`The library did not load: ${error.message}. ${WANTED}`),
   );
 };
 

@@ -1,5 +1,6 @@
 // The sections of a file of blocks: what is told of them, batch by batch, and the table of them.
 
+import { NOT_VERIFIED, OTHER_BYTES, OTHER_CODEC } from './kinds.js';
 import { cidKey, cidParts, cidText } from './cid.js';
 import { grouping, sizeOf } from './text.js';
 import { make, withAttributes } from './dom.js';
@@ -7,17 +8,18 @@ import { Rows } from './rows.js';
 import { sectionOf } from './verdicts.js';
 
 const SECTION_HEIGHT = 32;
+const AT_ONCE = 5_000;
 
 export const GROUPS = [
   ['all', 'All', () => true],
-  ['ok', 'Blocks', (code) => code >= 0 && code < 9],
-  ['refused', 'Refused', (code) => code < 0 && code >= -17],
-  ['bytes', 'Other bytes', (code) => code === -22],
-  ['unknown', 'Not verified', (code) => code === -23],
-  ['codec', 'Other codec', (code) => code === 9],
+  ['ok', 'Blocks', (code) => code >= 0 && code < OTHER_CODEC],
+  ['refused', 'Refused', (code) => code < 0 && code > OTHER_BYTES],
+  ['bytes', 'Other bytes', (code) => code === OTHER_BYTES],
+  ['unknown', 'Not verified', (code) => code === NOT_VERIFIED],
+  ['codec', 'Other codec', (code) => code === OTHER_CODEC],
 ];
 
-export const groupOf = (code) => GROUPS.slice(1).find(([, , has]) => has(code))?.[0] ?? 'refused';
+const groupOf = (code) => GROUPS.slice(1).find(([, , has]) => has(code))?.[0] ?? 'refused';
 
 export class Sections {
   constructor() {
@@ -32,18 +34,19 @@ export class Sections {
   }
 
   add({ places, codes, lengths, cids }) {
+    const keys = cidKey(cids);
     let at = 0;
     for (let i = 0; i < codes.length; i += 1) {
       const cid = cids.subarray(at, at + lengths[i]);
+      const name = keys.slice(at, at + lengths[i]);
       at += lengths[i];
       this.starts.push(places[3 * i]);
       this.blocks.push(places[3 * i + 1]);
       this.ends.push(places[3 * i + 2]);
       this.codes.push(codes[i]);
       this.cids.push(cid);
-      const name = cidKey(cid);
       const known = this.byName.get(name);
-      if (known === undefined || (this.codes[known] < -17 && codes[i] >= -17)) {
+      if (known === undefined || (this.codes[known] <= OTHER_BYTES && codes[i] > OTHER_BYTES)) {
         this.byName.set(name, this.count);
       }
       this.counts.all += 1;
@@ -60,16 +63,26 @@ export class Sections {
     return this.ends[i] - this.blocks[i];
   }
 
-  // Those of a group whose CID has this in its text.
-  chosen(group, part) {
+  // Those of a group whose CID has this in its text. It lets the page answer in between, and is null
+  // where it is no longer wanted.
+  async chosen(group, part, isWanted) {
     const [, , has] = GROUPS.find(([name]) => name === group);
     const found = [];
     for (let i = 0; i < this.count; i += 1) {
       if (has(this.codes[i]) && (!part || cidText(this.cids[i]).includes(part))) found.push(i);
+      if (i % AT_ONCE < AT_ONCE - 1) continue;
+      await new Promise((go) => { setTimeout(go); });
+      if (!isWanted()) return null;
     }
     return found;
   }
 }
+
+const CID_END = 8;
+
+// Its end is always shown, since those of one kind begin alike.
+const cidCell = (text) => make('span.cid', make('span.cid-front', text.slice(0, -CID_END)),
+  make('span.cid-end', text.slice(-CID_END)));
 
 const COLUMNS = ['#', 'Verdict', 'CID', 'Size', 'Offset'];
 
@@ -112,6 +125,8 @@ export class Table {
   lay() {
     this.host.setAttribute('aria-rowcount', this.length + 1);
     this.rows.setCount(this.length);
+    const { offsetWidth, clientWidth } = this.box; // what a bar to scroll by takes
+    this.head.style.setProperty('--gutter', `${offsetWidth - clientWidth}px`);
     this.tellActive();
   }
 
@@ -120,9 +135,10 @@ export class Table {
     const { sections } = this;
     const code = sections.codes[i];
     const { word } = sectionOf(code);
-    const verdict = make(`span.verdict.is-${groupOf(code)}`, make('span.dot'), word === 'other codec' ? cidParts(sections.cids[i]).codec : word);
+    const told = code === OTHER_CODEC ? cidParts(sections.cids[i]).codec : word;
+    const verdict = make(`span.verdict.is-${groupOf(code)}`, make('span.dot'), told);
     const cells = [
-      make('span.row-number', grouping(i + 1)), verdict, make('span.cid', cidText(sections.cids[i])),
+      make('span.row-number', grouping(i + 1)), verdict, cidCell(cidText(sections.cids[i])),
       make('span.size', sizeOf(sections.size(i))), make('span.place', grouping(sections.starts[i])),
     ];
     for (const it of cells) it.setAttribute('role', 'gridcell');

@@ -1,14 +1,13 @@
 // A block's tokens, and what follows from their order: where each begins, which list or map holds
 // it, and where its part of the tape ends. Nothing here reads a byte of the block.
 
-import { TEXT, BYTES, LIST, MAP, LINK } from './library.js';
+import { TEXT, BYTES, LIST, MAP, LINK } from './kinds.js';
 
 export const FAULT = 255; // stands where the reading of a refused block stopped
 
-// The tokens before `limit`; what the lists and maps among them announce may be more than is there.
-export const shapeOf = (tape, limit = Infinity) => {
+// What the lists and maps among the tokens announce may be more than is there.
+export const shapeOf = (tape) => {
   const all = tape.length / 3;
-  let count = 0;
   let next = 0;
   const whole = all + 1; // one more for a fault
   const shape = {
@@ -22,7 +21,7 @@ export const shapeOf = (tape, limit = Infinity) => {
     isKey: new Uint8Array(whole),
   };
   const open = []; // of each list and map that is open: its token, what is left, what was taken
-  for (let i = 0; i < all && next < limit; i += 1, count += 1) {
+  for (let i = 0; i < all; i += 1) {
     const kind = Number(tape[3 * i]);
     const number = tape[3 * i + 1];
     const place = Number(tape[3 * i + 2]);
@@ -37,10 +36,10 @@ export const shapeOf = (tape, limit = Infinity) => {
     else close(shape, open, i + 1);
     shape.end[i] = i + 1;
   }
-  shape.start[count] = next;
-  shape.count = count;
+  shape.start[all] = next;
+  shape.count = all;
   shape.open = open;
-  for (const it of open) shape.end[it.token] = count;
+  for (const it of open) shape.end[it.token] = all;
   return shape;
 };
 
@@ -59,8 +58,9 @@ const close = (shape, open, end) => {
   while (open.length && !open[open.length - 1].left) shape.end[open.pop().token] = end;
 };
 
-// A last token where the reading stopped: from `start` on, at the byte `place`.
-export const addFault = (shape, start, place) => {
+// A last token where the reading stopped, at the byte `place`: it begins behind the last one that
+// stands whole.
+export const addFault = (shape, place) => {
   const i = shape.count;
   if (shape.open.length) {
     enter(shape, shape.open, i);
@@ -68,7 +68,6 @@ export const addFault = (shape, start, place) => {
   }
   shape.isKey[i] = 0;
   shape.kind[i] = FAULT;
-  shape.start[i] = start;
   shape.place[i] = place;
   shape.start[i + 1] = place + 1;
   shape.end[i] = i + 1;

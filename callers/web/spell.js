@@ -1,6 +1,6 @@
 // DAG-JSON as tokens, which the library spells and judges. Keys are put in the order of blocks.
 
-import { NULL, BOOL, INTEGER, TEXT, BYTES, LIST, MAP, LINK, NEGATIVE } from './library.js';
+import { NULL, BOOL, INTEGER, TEXT, BYTES, LIST, MAP, LINK, NEGATIVE } from './kinds.js';
 import { cidFrom } from './cid.js';
 import { fromBase64 } from './text.js';
 import { textFaultOf } from './verdicts.js';
@@ -113,7 +113,8 @@ class Reader {
       this.fail('floats have no place in these blocks: an integer is wanted');
     }
     const number = BigInt(digits);
-    if (number >= 1n << 64n || number < -(1n << 64n)) this.fail('an integer goes from -2^64 to 2^64 - 1');
+    const most = 1n << 64n;
+    if (number >= most || number < -most) this.fail('an integer goes from -2^64 to 2^64 - 1');
     return number < 0n ? { kind: NEGATIVE, number: -1n - number } : { kind: INTEGER, number };
   }
 
@@ -163,10 +164,10 @@ class Reader {
       if (typeof bytes === 'number') this.fail(`no text of a CID: ${textFaultOf(bytes)}`);
       return { kind: LINK, bytes };
     }
-    const [held] = value.kind === MAP ? value.entries : [];
-    if (value.kind === MAP && value.entries.length === 1 && decoder.decode(held.key) === 'bytes' && held.value.kind === TEXT) {
-      const text = decoder.decode(held.value.bytes);
-      const bytes = fromBase64(text);
+    const [held, more] = value.kind === MAP ? value.entries : [];
+    const isBytes = held && !more && decoder.decode(held.key) === 'bytes';
+    if (isBytes && held.value.kind === TEXT) {
+      const bytes = fromBase64(decoder.decode(held.value.bytes));
       if (!bytes) this.fail('no base64');
       return { kind: BYTES, bytes };
     }

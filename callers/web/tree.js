@@ -1,6 +1,6 @@
 // The items of a block as a tree, folded and unfolded.
 
-import { LINK, MAP } from './library.js';
+import { LINK, MAP } from './kinds.js';
 import { FAULT, payloadOf } from './shape.js';
 import { counted } from './text.js';
 import { make, withAttributes } from './dom.js';
@@ -8,6 +8,8 @@ import { Rows } from './rows.js';
 
 const ITEM_HEIGHT = 26;
 const OPEN_AT_FIRST = 120; // rows
+const LONG_TEXT = 300; // bytes
+const DEEP = 16; // levels: deeper ones are told by their number
 
 export class Tree {
   // `point` and `pick` are told of tokens, -1 for none; `follow` of a link's.
@@ -37,7 +39,7 @@ export class Tree {
 
   show(items) {
     this.items = items;
-    this.open = new Set();
+    this.open = new Uint8Array(items.shape.count); // 1 where it is unfolded
     this.picked = -1;
     this.pointed = -1;
     this.openSome();
@@ -56,14 +58,14 @@ export class Tree {
         const held = this.items.taken(token);
         if (token && rows + held > OPEN_AT_FIRST) continue;
         rows += held;
-        this.open.add(token);
+        this.open[token] = 1;
         if (held <= OPEN_AT_FIRST) inner.push(...this.held(token));
       }
       level = inner;
     }
     const last = shape.count - 1;
     if (shape.kind[last] !== FAULT) return;
-    for (let at = shape.parent[last]; at >= 0; at = shape.parent[at]) this.open.add(at);
+    for (let at = shape.parent[last]; at >= 0; at = shape.parent[at]) this.open[at] = 1;
   }
 
   isFoldable(token) {
@@ -90,7 +92,7 @@ export class Tree {
         continue;
       }
       visible.push(i);
-      i = this.open.has(i) ? i + 1 : shape.end[i];
+      i = this.open[i] ? i + 1 : shape.end[i];
     }
     this.visible = visible;
     this.rows.setCount(visible.length);
@@ -108,8 +110,9 @@ export class Tree {
   }
 
   level(token) {
+    const { parent } = this.items.shape;
     let level = 1;
-    for (let at = this.items.shape.parent[token]; at >= 0; at = this.items.shape.parent[at]) level += 1;
+    for (let at = parent[token]; at >= 0; at = parent[at]) level += 1;
     return level;
   }
 
@@ -122,14 +125,16 @@ export class Tree {
     const element = make(`div.item.${items.kindClass(token)}`);
     withAttributes(element, {
       role: 'treeitem', id: `item-${token}`, 'data-row': row, 'aria-level': level,
-      'aria-selected': token === this.picked,
-      'aria-expanded': this.isFoldable(token) ? this.open.has(token) : undefined,
+      'aria-selected': token === this.picked, 'aria-label': items.told(token),
+      'aria-expanded': this.isFoldable(token) ? this.open[token] === 1 : undefined,
       'aria-posinset': holder < 0 ? 1 : shape.order[token] + 1,
       'aria-setsize': holder < 0 ? 1 : items.taken(holder),
     });
-    const pad = make('span.pad');
-    pad.style.width = `${Math.min(level - 1, 40) * 18}px`;
-    const twist = make('span.twist', this.isFoldable(token) ? (this.open.has(token) ? '▾' : '▸') : '');
+    const pad = make('span.pad', level > DEEP ? String(level) : '');
+    pad.setAttribute('aria-hidden', 'true');
+    pad.style.setProperty('--level', Math.min(level, DEEP) - 1);
+    const sign = this.open[token] ? '▾' : '▸';
+    const twist = make('span.twist', this.isFoldable(token) ? sign : '');
     twist.setAttribute('aria-hidden', 'true');
     element.append(pad, twist, ...this.label(token), this.value(token), ...this.notes(token));
     element.classList.toggle('is-pointed', token === this.pointed);
@@ -162,11 +167,9 @@ export class Tree {
       const isShort = BigInt(taken) < items.shape.number[token];
       return isShort ? [make('span.note', `${taken} before the fault`)] : [];
     }
-    if (name === 'byte string') return [make('span.note', counted(payloadOf(items.shape, token), 'byte'))];
-    if (name === 'text' && payloadOf(items.shape, token) > 300) {
-      return [make('span.note', counted(payloadOf(items.shape, token), 'byte'))];
-    }
-    return [];
+    const length = payloadOf(items.shape, token);
+    const isTold = name === 'byte string' || (name === 'text' && length > LONG_TEXT);
+    return isTold ? [make('span.note', counted(length, 'byte'))] : [];
   }
 
   click(event, row) {
@@ -190,8 +193,8 @@ export class Tree {
       const { parent } = this.items.shape;
       let isFolded = false;
       for (let at = parent[token]; at >= 0; at = parent[at]) {
-        if (!this.open.has(at)) {
-          this.open.add(at);
+        if (!this.open[at]) {
+          this.open[at] = 1;
           isFolded = true;
         }
       }
@@ -218,19 +221,18 @@ export class Tree {
 
   toggle(token) {
     if (!this.isFoldable(token)) return;
-    if (this.open.has(token)) this.open.delete(token);
-    else this.open.add(token);
+    this.open[token] = 1 - this.open[token];
     this.lay();
   }
 
   openAll() {
     const { shape } = this.items;
-    for (let i = 0; i < shape.count; i += 1) if (this.isFoldable(i)) this.open.add(i);
+    for (let i = 0; i < shape.count; i += 1) if (this.isFoldable(i)) this.open[i] = 1;
     this.lay();
   }
 
   foldAll() {
-    this.open = new Set([0]);
+    this.open.fill(0).fill(1, 0, 1);
     this.lay();
   }
 
@@ -238,6 +240,7 @@ export class Tree {
     if (event.ctrlKey || event.metaKey || event.altKey || !this.visible.length) return;
     const token = this.picked < 0 ? 0 : this.picked;
     const row = this.rowOf(token);
+    const { parent } = this.items.shape;
     const last = this.visible.length - 1;
     const moves = {
       ArrowDown: row + 1, ArrowUp: row - 1, Home: 0, End: last,
@@ -245,13 +248,14 @@ export class Tree {
     };
     if (event.key in moves) this.choose(Math.max(0, Math.min(last, moves[event.key])));
     else if (event.key === 'ArrowRight') {
-      if (this.isFoldable(token) && !this.open.has(token)) this.toggle(token);
+      if (this.isFoldable(token) && !this.open[token]) this.toggle(token);
       else if (this.isFoldable(token)) this.choose(row + 1);
     } else if (event.key === 'ArrowLeft') {
-      if (this.isFoldable(token) && this.open.has(token)) this.toggle(token);
-      else if (this.items.shape.parent[token] >= 0) this.choose(this.rowOf(this.items.shape.parent[token]));
+      if (this.isFoldable(token) && this.open[token]) this.toggle(token);
+      else if (parent[token] >= 0) this.choose(this.rowOf(parent[token]));
     } else if (event.key === 'Enter' || event.key === ' ') {
-      if (this.items.kind(token) === LINK && this.canFollow(this.items.payload(token))) this.follow(this.items.payload(token));
+      const cid = this.items.payload(token);
+      if (this.items.kind(token) === LINK && this.canFollow(cid)) this.follow(cid);
       else this.toggle(token);
     } else return;
     event.preventDefault();

@@ -1,5 +1,7 @@
 // What the library's numbers say, in words: docs/GRAMMAR.md has each cause.
 
+import { TOO_LONG } from './kinds.js';
+
 export const KINDS = ['null', 'boolean', 'integer', 'text', 'bytes', 'list', 'map', 'link'];
 
 const REFUSALS = new Map([
@@ -35,7 +37,7 @@ const FAULTS = new Map([
   [-24, ['Truncated', 'The file ends inside the length of a section, or before as many bytes follow as it says.']],
   [-25, ['InvalidLength', 'Where a section is to begin stands no length: a varint in shortest form, below 2⁶⁴.']],
   [-26, ['InvalidCid', 'Behind the length of a section stands no CID, or it goes on behind the section.']],
-  [-100, ['too long', 'A section of more than 1 GiB is not read by this page.']],
+  [TOO_LONG, ['too long', 'A section of more than 1 GiB is not read by this page.']],
 ]);
 
 const TEXT_FAULTS = new Map([
@@ -48,8 +50,6 @@ const TEXT_FAULTS = new Map([
   [-33, 'it begins with a zero byte'],
   [-34, 'version 0 has no prefix, and version 1 has one'],
 ]);
-
-export const isWell = (code) => code >= 0;
 
 // Of a block: a name, a headline and what the standard asks.
 export const refusalOf = (code) => {

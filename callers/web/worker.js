@@ -1,23 +1,20 @@
 // The thread that judges. Each message has a number, and so has its answer; those of a walk come in
 // batches before it.
 
+import { load } from './dagcbor.js';
 import { readBy } from './cid.js';
-import { Library } from './library.js';
 import { judge } from './judge.js';
 import { headerOf, innerOf, walk } from './car.js';
 import { writeJson } from './json.js';
 import { tokensOf } from './spell.js';
 
-let blocks; // the library for one block
-let files; // and for a walk through a file, which may go on meanwhile
+let library;
 const stopped = new Set(); // walks by their numbers
 
 const calls = {
   async start({ module }) {
-    const compiled = await WebAssembly.compile(module);
-    blocks = await Library.of(compiled);
-    files = await Library.of(compiled);
-    readBy(await Library.of(compiled));
+    library = await load(module);
+    readBy(library);
     return {};
   },
 
@@ -25,30 +22,33 @@ const calls = {
   async look({ file }) {
     const inner = await innerOf(file);
     const whole = inner ? file.slice(inner.from, inner.end) : file;
-    return { header: await headerOf(blocks, whole), inner };
+    return { header: await headerOf(library, whole), inner };
   },
 
   async judge({ file }) {
     const bytes = new Uint8Array(await file.arrayBuffer());
-    return { bytes, ...judge(blocks, bytes) };
+    return { bytes, ...judge(library, bytes) };
   },
 
   async json({ file, indent, most }) {
     const bytes = new Uint8Array(await file.arrayBuffer());
-    const { shape, code } = judge(blocks, bytes);
+    const { shape, code } = judge(library, bytes);
     if (!shape || code < 0) return { text: '', isWhole: false };
     return writeJson(bytes, shape, indent, most);
   },
 
+  // The block of DAG-JSON, its name and its kind; or the number of the refusal.
   async spell({ text }) {
     const { payload, tokens } = tokensOf(text);
-    return blocks.spell(payload, tokens);
+    const bytes = library.spell(payload, tokens);
+    if (typeof bytes === 'number') return { code: bytes };
+    return { code: library.check(bytes), bytes, name: library.name(bytes) };
   },
 
-  // Walks may go on beside each other: between two reads of a file each has the library alone.
+  // Walks may go on beside each other: no call of the library keeps anything for the next.
   async walk({ file, header, walk: mine }, post) {
-    const told = (batch, at) => post({ batch: batch.packed(), at });
-    return walk(files, file, header, { told, isStopped: () => stopped.has(mine) });
+    const told = (batch, at) => post({ batch, at });
+    return walk(library, file, header, { told, isStopped: () => stopped.has(mine) });
   },
 
   async stop({ walk: which }) {
@@ -57,12 +57,20 @@ const calls = {
   },
 };
 
+// The memory of an answer's own arrays, which is handed over and not copied.
+const handed = (answer) => {
+  const arrays = [answer, answer.shape, answer.batch].flatMap((it) => Object.values(it ?? {}));
+  return [...new Set(arrays.filter((it) => ArrayBuffer.isView(it)).map((it) => it.buffer))];
+};
+
 self.onmessage = async ({ data }) => {
   const { number, call, ...given } = data;
+  const post = (progress) => self.postMessage({ number, progress }, handed(progress));
   try {
-    const answer = await calls[call](given, (progress) => self.postMessage({ number, progress }));
-    self.postMessage({ number, answer });
+    const answer = await calls[call](given, post);
+    self.postMessage({ number, answer }, handed(answer));
   } catch (error) {
-    self.postMessage({ number, error: String(error?.message ?? error) });
+    const { line, column } = error;
+    self.postMessage({ number, error: { message: String(error?.message ?? error), line, column } });
   }
 };

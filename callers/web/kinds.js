@@ -1,0 +1,22 @@
+// Numbers of the library: the kinds of tokens, and of what is refused those that the page asks for.
+
+export const NULL = 0;
+export const BOOL = 1;
+export const INTEGER = 2;
+export const TEXT = 3;
+export const BYTES = 4;
+export const LIST = 5;
+export const MAP = 6;
+export const LINK = 7;
+export const NEGATIVE = 8;
+
+// What is said of a section's block.
+export const OTHER_CODEC = 9;
+export const OTHER_BYTES = -22;
+export const NOT_VERIFIED = -23;
+
+// The bytes end too early for a section or a header.
+export const CUT = -24;
+
+// Of this page alone: a section that it does not read.
+export const TOO_LONG = -100;

@@ -1,4 +1,4 @@
-/* Calls each export for each row of its table: call TABLE SECTIONS TEXTS. Prints the number of
+/* Calls each export for each row of its table: call TABLE SECTIONS TEXTS HEADERS. Prints the number of
  * rows, or the row that is answered otherwise. */
 #include "dagcbor.h"
 #include <stdio.h>
@@ -71,7 +71,24 @@ static int is_right_tape(const uint8_t *bytes, size_t length, int check, const c
            (check < 0 || is_spelled(bytes, length, check, tape, count));
 }
 
-static int is_right_block(char *const field[6]) {
+/* Of a block the tokens are those of its tape. Of refused bytes they stand before the place. */
+static int are_right_tokens(const uint8_t *bytes, size_t length, int check, char *const field[8]) {
+    static dagcbor_token wanted[MOST], tape[MOST];
+    size_t count = from_tape(field[check < 0 ? 7 : 5], wanted), needed = 99, place = 99;
+    size_t wanted_place = check < 0 ? strtoull(field[6], NULL, 10) : length;
+    memset(tape, 0xee, sizeof tape);
+    /* Asked with room for one too few it tells how many there are, and puts none. */
+    if (dagcbor_tokens(bytes, length, tape, count ? count - 1 : 0, &needed, &place) != check)
+        return 0;
+    if (needed != count || place != wanted_place || tape[0].kind != 0xeeeeeeeeeeeeeeee) return 0;
+    needed = place = 99;
+    if (dagcbor_tokens(bytes, length, tape, count, &needed, &place) != check) return 0;
+    if (needed != count || place != wanted_place) return 0;
+    return memcmp(tape, wanted, count * sizeof *tape) == 0 &&
+           tape[count].kind == 0xeeeeeeeeeeeeeeee;
+}
+
+static int is_right_block(char *const field[8]) {
     static uint8_t block[MOST], links[MOST], wanted_name[MOST], out[MOST], name[36];
     size_t length = from_hex(field[0], block, 0), packed = from_hex(field[3], links, 1),
            needed = 99;
@@ -91,6 +108,7 @@ static int is_right_block(char *const field[6]) {
         return 0;
     if (memcmp(out, links, packed) != 0 || out[packed] != 0xee) return 0;
     if (!is_right_tape(bytes, length, check, field[5])) return 0;
+    if (!are_right_tokens(bytes, length, check, field)) return 0;
     dagcbor_name(bytes, length, name);
     return memcmp(name, wanted_name, 36) == 0;
 }
@@ -106,6 +124,27 @@ static int is_right_section(char *const field[3]) {
     if (dagcbor_car_section(dagcbor_from(bytes, length), length, places) != atoi(field[1]))
         return 0;
     return memcmp(places, wanted, sizeof wanted) == 0;
+}
+
+/* Where no header begins the bytes, the room stays, and where it ends. */
+static int is_right_header(char *const field[4]) {
+    static uint8_t header[MOST], roots[MOST], out[MOST];
+    size_t length = from_hex(field[0], header, 0), count = from_hex(field[2], roots, 1);
+    size_t needed = 99, behind = 99, wanted = 99;
+    const uint8_t *bytes = dagcbor_from(header, length);
+    int code = atoi(field[1]);
+    if (code == 0) wanted = strtoull(field[3], NULL, 10);
+    memset(out, 0xee, sizeof out);
+    if (dagcbor_car_header(bytes, length, dagcbor_into(NULL, 0), 0, &needed, &behind) != code)
+        return 0;
+    if (needed != count || behind != wanted) return 0;
+    if (dagcbor_car_header(bytes, length, out, count ? count - 1 : 0, &needed, &behind) != code)
+        return 0;
+    if (needed != count || behind != wanted || out[0] != 0xee) return 0;
+    behind = 99;
+    if (dagcbor_car_header(bytes, length, out, count, &needed, &behind) != code) return 0;
+    if (needed != count || behind != wanted) return 0;
+    return memcmp(out, roots, count) == 0 && out[count] == 0xee;
 }
 
 /* A call that puts bytes into room, in which all that it needs stands, or nothing changes. */
@@ -146,7 +185,7 @@ static int rows_of(const char *name, int words, int is_right(char *const *)) {
     int rows = 0;
     if (!table) return 0;
     while (fgets(line, sizeof line, table)) {
-        char *field[6];
+        char *field[8];
         if (line[0] == '#') continue;
         field[0] = strtok(line, " \n");
         for (int i = 1; i < words; i++) field[i] = strtok(NULL, " \n");
@@ -158,9 +197,10 @@ static int rows_of(const char *name, int words, int is_right(char *const *)) {
 }
 
 int main(int count, char **words) {
-    int blocks = count == 4 ? rows_of(words[1], 6, is_right_block) : 0;
-    int sections = count == 4 ? rows_of(words[2], 3, is_right_section) : 0;
-    int texts = count == 4 ? rows_of(words[3], 4, is_right_text) : 0;
-    printf("%d blocks, %d sections, %d texts\n", blocks, sections, texts);
-    return !blocks || !sections || !texts;
+    int blocks = count == 5 ? rows_of(words[1], 8, is_right_block) : 0;
+    int sections = count == 5 ? rows_of(words[2], 3, is_right_section) : 0;
+    int texts = count == 5 ? rows_of(words[3], 4, is_right_text) : 0;
+    int headers = count == 5 ? rows_of(words[4], 4, is_right_header) : 0;
+    printf("%d blocks, %d sections, %d texts, %d headers\n", blocks, sections, texts, headers);
+    return !blocks || !sections || !texts || !headers;
 }

@@ -22,7 +22,7 @@ enum {
     } while (0)
 
 typedef struct {
-    napi_ref refused;     /* (code, what was said) => an error */
+    napi_ref refused;     /* (code, what was said, the place) => an error */
     napi_ref make_cid;    /* (bytes) => a CID */
     napi_ref cid_of;      /* (value) => the bytes of a CID, or undefined */
     napi_ref add_items;   /* (list, or undefined for a new one, ..items) => the list */
@@ -53,16 +53,30 @@ static State *state_of(napi_env env) {
     return state ? state : raise(env, "start was not called");
 }
 
-/* Throws the error of a number of the library, or of those that `encode` has beside them. */
-static void *refuse(napi_env env, int32_t code, const char *said) {
+/* Throws the error of a number of the library, or of those that `encode` has beside them. The place
+ * may be NULL. */
+static void *refuse_at(napi_env env, int32_t code, const char *said, const size_t *place) {
     State *state = state_of(env);
-    napi_value given[2], error;
+    napi_value given[3], error;
     if (!state) return NULL;
     TRY(napi_create_int32(env, code, &given[0]));
     TRY(said ? napi_create_string_utf8(env, said, NAPI_AUTO_LENGTH, &given[1])
              : napi_get_undefined(env, &given[1]));
-    if ((error = ask(env, state->refused, 2, given))) napi_throw(env, error);
+    TRY(place ? napi_create_int64(env, (int64_t)*place, &given[2])
+              : napi_get_undefined(env, &given[2]));
+    if ((error = ask(env, state->refused, 3, given))) napi_throw(env, error);
     return NULL;
+}
+
+static void *refuse(napi_env env, int32_t code, const char *said) {
+    return refuse_at(env, code, said, NULL);
+}
+
+/* Throws the error of a block, in which the place is found. */
+static void *refuse_block(napi_env env, int32_t code, const uint8_t *bytes, size_t length) {
+    size_t needed, place;
+    dagcbor_tokens(bytes, length, dagcbor_tape_into(NULL, 0), 0, &needed, &place);
+    return refuse_at(env, code, NULL, &place);
 }
 
 /* The bytes of a Uint8Array over memory that is not shared; else NULL. An empty one may have no
@@ -232,7 +246,7 @@ static napi_value decode(napi_env env, napi_callback_info info) {
     dagcbor_token *tape = tokens_of(block, length, &count, &code);
     Reader reader = {env, state, (const char *)block, tape};
     napi_value value = tape       ? next_value(&reader)
-                       : code < 0 ? refuse(env, code, NULL)
+                       : code < 0 ? refuse_block(env, code, block, length)
                                   : no_memory(env);
     free(tape);
     free(block);
@@ -529,7 +543,7 @@ static napi_value check(napi_env env, napi_callback_info info) {
     napi_value answer;
     if (!bytes) return NULL;
     int32_t code = dagcbor_check(bytes, length);
-    if (code < 0) return refuse(env, code, NULL);
+    if (code < 0) return refuse_block(env, code, bytes, length);
     TRY(napi_create_int32(env, code, &answer));
     return answer;
 }
@@ -543,7 +557,7 @@ static napi_value tape(napi_env env, napi_callback_info info) {
     napi_value buffer, answer;
     if (!bytes) return NULL;
     dagcbor_token *tokens = tokens_of(bytes, length, &count, &code);
-    if (!tokens) return code < 0 ? refuse(env, code, NULL) : no_memory(env);
+    if (!tokens) return code < 0 ? refuse_block(env, code, bytes, length) : no_memory(env);
     napi_status status = napi_create_arraybuffer(env, count * sizeof *tokens, &words, &buffer);
     if (status == napi_ok) memcpy(words, tokens, count * sizeof *tokens);
     free(tokens);
@@ -570,7 +584,7 @@ static napi_value links(napi_env env, napi_callback_info info) {
     const uint8_t *bytes = bytes_of(env, info, &length);
     if (!bytes) return NULL;
     int32_t code = dagcbor_links(bytes, length, dagcbor_into(NULL, 0), 0, &needed);
-    if (code < 0) return refuse(env, code, NULL);
+    if (code < 0) return refuse_block(env, code, bytes, length);
     uint8_t *packed = malloc(needed + 1);
     if (!packed) return no_memory(env);
     dagcbor_links(bytes, length, packed, needed, &needed);

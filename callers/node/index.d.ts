@@ -45,10 +45,14 @@ export type Refusal =
 
 /** Bytes that are no block, a value that has none, or what is no CID. */
 export class DagCborError extends Error {
-  constructor(kind: Refusal, message: string, place?: readonly (string | number)[]);
+  constructor(kind: Refusal, message: string, place?: number | readonly (string | number)[]);
   readonly kind: Refusal;
-  /** Of a type that is made of a schema: the keys and indices that lead to what it refuses. */
-  readonly place: readonly (string | number)[] | undefined;
+  /**
+   * Of bytes that are no block: the offset of the byte with which the refusal comes, or how many
+   * there are, where they end too early. Of a type that is made of a schema: the keys and indices
+   * that lead to what it refuses.
+   */
+  readonly place: number | readonly (string | number)[] | undefined;
 }
 
 export class CID {

@@ -38,9 +38,9 @@ class DagCborError extends Error {
 }
 DagCborError.prototype.name = 'DagCborError';
 
-const refused = (code, said) => {
+const refused = (code, said, place) => {
   const [kind, reason] = REASONS[code] ?? [undefined, `refused: ${code}`];
-  return new DagCborError(kind, said ?? reason);
+  return new DagCborError(kind, said ?? reason, place);
 };
 
 const MADE = Symbol('made'); // by the library

@@ -1,4 +1,4 @@
-// node --experimental-wasm-memory64 call.js dagcbor_ffi.wasm TABLE TEXTS (later versions want no
+// node --experimental-wasm-memory64 call.js dagcbor_ffi.wasm TABLE TEXTS HEADERS (later versions want no
 // flag). Holds the module against each row of the tables.
 'use strict';
 const { readFileSync } = require('fs');
@@ -7,18 +7,37 @@ const hex = (bytes) => Buffer.from(bytes).toString('hex');
 const told = (answer) =>
   typeof answer === 'number' ? String(answer) : answer.map(hex).join(',') || '-';
 
-const isRight = ({ check, tape, spell, links, name }, row) => {
-  const [text, kind, first, cids, named, tokens] = row;
+// kind:number:place of each token, a comma between
+const toldOf = (words) => String(words).replace(/(\d+),(\d+),(\d+)/g, '$1:$2:$3') || '-';
+
+const isRight = ({ check, tape, tokens, spell, links, name }, row) => {
+  const [text, kind, first, cids, named, wanted, place, before] = row;
   const block = Buffer.from(text === '-' ? '' : text, 'hex');
   const words = tape(block);
   if (String(check(block)) !== kind || hex(name(block)) !== named) return false;
   if (told(links(block)) !== (Number(first) < 0 ? first : cids)) return false;
-  if (Number(kind) < 0) return String(words) === kind;
+  const front = tokens(block);
+  if (String(front.code) !== kind) return false;
+  if (Number(kind) < 0) {
+    if (String(front.place) !== place || toldOf(front.tape) !== before) return false;
+    return String(words) === kind;
+  }
+  if (front.place !== block.length || toldOf(front.tape) !== wanted) return false;
   // Its tokens tell the block again. Without the last it ends too early, and none has the kind 9.
-  if (String(words) !== tokens.replaceAll(':', ',')) return false;
+  if (toldOf(words) !== wanted) return false;
   if (spell(block, words.subarray(0, -3)) !== -3) return false;
   if (spell(block, BigUint64Array.of(9n, 0n, 0n)) !== -20) return false;
   return hex(spell(block, words)) === hex(block);
+};
+
+const isRightHeader = ({ carHeader, carSection }, [text, code, roots, behind]) => {
+  const bytes = Buffer.from(text === '-' ? '' : text, 'hex');
+  const read = carHeader(bytes);
+  if (Number(code) < 0) return String(read) === code;
+  if (told(read.roots) !== roots || String(read.behind) !== behind) return false;
+  // Behind a header that is the file, no section begins; the header is none, but for its length.
+  const { code: cut, places } = carSection(bytes.subarray(read.behind, read.behind + 1));
+  return cut < 0 && places === null && carSection(bytes).code === -26;
 };
 
 const isRightText = ({ cidText, cidFromText }, [text, code, cid, written]) => {
@@ -34,11 +53,12 @@ const rowsOf = (table) => {
 
 const main = async () => {
   const module = await require('./dagcbor.js').load(readFileSync(process.argv[2]));
-  const [blocks, texts] = process.argv.slice(3).map(rowsOf);
-  const wrong =
-    blocks.find((it) => !isRight(module, it)) ?? texts.find((it) => !isRightText(module, it));
-  console.log(wrong ? `wrong: ${wrong[0]}` : `${blocks.length} blocks, ${texts.length} texts`);
-  process.exitCode = wrong || !blocks.length || !texts.length ? 1 : 0;
+  const tables = process.argv.slice(3).map(rowsOf);
+  const holds = [isRight, isRightText, isRightHeader];
+  const wrong = tables.flatMap((rows, i) => rows.filter((it) => !holds[i](module, it)))[0];
+  const counts = tables.map((rows) => rows.length);
+  console.log(wrong ? `wrong: ${wrong[0]}` : `${counts.join(', ')} rows`);
+  process.exitCode = wrong || counts.length !== 3 || counts.includes(0) ? 1 : 0;
 };
 
 main();

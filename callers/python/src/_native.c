@@ -25,7 +25,7 @@ enum {
 static const char *const KINDS[] = {"null",  "bool", "integer", "string",
                                     "bytes", "list", "map",     "link"};
 
-/* What the module holds. Of dagcbor._errors: refused(code, block), DagCborError(message, kind,
+/* What the module holds. Of dagcbor._errors: refused(code, place), DagCborError(message, kind,
  * place) */
 typedef struct {
     PyTypeObject *cid;
@@ -52,12 +52,28 @@ static PyObject *to_bytes(PyObject *given) {
     return bytes;
 }
 
-/* Raises the error of a number of the library. */
-static void *refuse_code(State *state, int32_t code, PyObject *block) {
-    PyObject *error = PyObject_CallFunction(state->refused, "iO", (int)code, block);
+/* Raises the error of a number of the library, and of a place or None. */
+static void *refuse_code(State *state, int32_t code, PyObject *place) {
+    PyObject *error = PyObject_CallFunction(state->refused, "iO", (int)code, place);
     if (error) PyErr_SetObject(state->error, error);
     Py_XDECREF(error);
     return NULL;
+}
+
+/* The same of bytes that are refused there. */
+static void *refuse_at(State *state, int32_t code, size_t place) {
+    PyObject *at = PyLong_FromSize_t(place);
+    if (at) refuse_code(state, code, at);
+    Py_XDECREF(at);
+    return NULL;
+}
+
+/* The same of a block, in which the place is found. */
+static void *refuse_block(State *state, int32_t code, PyObject *block) {
+    size_t needed, place;
+    dagcbor_tokens(bytes_of(block), length_of(block), dagcbor_tape_into(NULL, 0), 0, &needed,
+                   &place);
+    return refuse_at(state, code, place);
 }
 
 /* CIDs */
@@ -283,17 +299,17 @@ static dagcbor_token *room_for(size_t tokens) {
 static PyObject *loads_bytes(State *state, PyObject *block) {
     dagcbor_token few[FEW_TOKENS], *tape = few;
     const uint8_t *bytes = bytes_of(block);
-    size_t length = length_of(block), room = FEW_TOKENS, needed = length;
+    size_t length = length_of(block), room = FEW_TOKENS, needed = length, place = 0;
     PyObject *value = NULL;
     int32_t code = 0;
-    if (length > MANY_TOKENS) code = dagcbor_tape(bytes, length, few, 0, &needed);
+    if (length > MANY_TOKENS) code = dagcbor_tokens(bytes, length, few, 0, &needed, &place);
     if (code >= 0 && needed > room) {
         room = needed;
         if (!(tape = room_for(room))) return NULL;
     }
-    if (code >= 0) code = dagcbor_tape(bytes, length, tape, room, &needed);
+    if (code >= 0) code = dagcbor_tokens(bytes, length, tape, room, &needed, &place);
     if (code >= 0) value = value_of(state, (const char *)bytes, length, tape);
-    else refuse_code(state, code, block);
+    else refuse_at(state, code, place);
     if (tape != few) PyMem_Free(tape);
     return value;
 }
@@ -517,7 +533,7 @@ static PyObject *check(PyObject *module, PyObject *given) {
     PyObject *block = to_bytes(given), *kind = NULL;
     if (!block) return NULL;
     int32_t code = dagcbor_check(bytes_of(block), length_of(block));
-    if (code < 0) refuse_code(PyModule_GetState(module), code, block);
+    if (code < 0) refuse_block(PyModule_GetState(module), code, block);
     else kind = PyUnicode_FromString(KINDS[code]);
     Py_DECREF(block);
     return kind;
@@ -546,7 +562,7 @@ static PyObject *links(PyObject *module, PyObject *given) {
         if (out) code = dagcbor_links(bytes_of(block), length_of(block), out, needed, &needed);
         else PyErr_NoMemory();
     }
-    if (code < 0) refuse_code(state, code, block);
+    if (code < 0) refuse_block(state, code, block);
     else if (out) found = unpack(state, out, needed);
     if (out != few) PyMem_Free(out);
     Py_DECREF(block);

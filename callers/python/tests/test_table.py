@@ -65,13 +65,26 @@ def told(call, block):
         return refusal.kind
 
 
+def place_told(call, block):
+    with pytest.raises(DagCborError) as caught:
+        call(block)
+    return caught.value.place
+
+
+def place_by_fronts(block):
+    """The length of the shortest front that is refused for more than its end, less one."""
+    answers = (told(check, block[: at + 1]) for at in range(len(block)))
+    places = (at for at, answer in enumerate(answers) if answer not in ("Eof", *KINDS))
+    return next(places, len(block))
+
+
 def kind_of(code):
     return KINDS[int(code)] if int(code) >= 0 else REFUSALS[int(code)]
 
 
 @pytest.mark.parametrize("row", rows(), ids=lambda row: row[0][:32])
 def test_table(row):
-    block, kind, first, cids, named, _ = row
+    block, kind, first, cids, named, _, place, _ = row
     block = bytes.fromhex(block.strip("-"))
     for given in (block, bytearray(block), memoryview(block), memoryview(b"\0" + block)[1:]):
         assert told(check, given) == kind_of(kind)
@@ -80,6 +93,7 @@ def test_table(row):
         assert bytes(name(given)).hex() == named
         if int(kind) < 0:
             assert told(loads, given) == kind_of(kind)
+            assert place_told(loads, given) == place_told(check, given) == int(place)
         else:
             assert spelling(loads(given)) == block == dumps(loads(given))
 
@@ -110,6 +124,7 @@ def test_random_round():
             assert spelling(answer[0]) == bad == dumps(answer[0]) and check(bad), seed
         else:
             assert told(check, bad) == answer, seed
+            assert len(bad) > 1000 or place_told(loads, bad) == place_by_fronts(bad), seed
             refused += 1
         tried += 1
     assert tried > 100 and refused > 50

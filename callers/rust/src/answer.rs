@@ -108,6 +108,41 @@ impl fmt::Display for Refusal {
 #[cfg(feature = "std")]
 impl std::error::Error for Refusal {}
 
+/// Why bytes are no block, and where.
+#[derive(Clone, Copy, Debug, PartialEq, Eq, Hash)]
+pub struct Refused {
+    /// why
+    pub refusal: Refusal,
+    /// The offset of the byte with which the refusal comes, or how many there are, where they end
+    /// too early.
+    pub place: usize,
+}
+
+impl Refusal {
+    /// The refusal at a place.
+    pub const fn at(self, place: usize) -> Refused {
+        Refused {
+            refusal: self,
+            place,
+        }
+    }
+}
+
+impl fmt::Display for Refused {
+    fn fmt(&self, f: &mut fmt::Formatter<'_>) -> fmt::Result {
+        write!(f, "{}, at {}", self.refusal, self.place)
+    }
+}
+
+#[cfg(feature = "std")]
+impl std::error::Error for Refused {}
+
+impl From<Refused> for Refusal {
+    fn from(refused: Refused) -> Refusal {
+        refused.refusal
+    }
+}
+
 /// What a number of the library says, where the room that it asked for is this.
 pub(crate) fn answer_of(code: i32, needed: usize) -> Result<Kind, Refusal> {
     Err(match code {

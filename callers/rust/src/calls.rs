@@ -1,6 +1,6 @@
 use crate::answer::answer_of;
 use crate::item::{Cids, Items, Token};
-use crate::{Kind, Refusal};
+use crate::{Kind, Refusal, Refused};
 #[cfg(feature = "alloc")]
 use {
     crate::item::{self, Item},
@@ -15,6 +15,14 @@ extern "C" {
         tape: *mut Token,
         room: usize,
         needed: *mut usize,
+    ) -> i32;
+    fn dagcbor_tokens(
+        bytes: *const u8,
+        length: usize,
+        tape: *mut Token,
+        room: usize,
+        needed: *mut usize,
+        place: *mut usize,
     ) -> i32;
     fn dagcbor_spell(
         bytes: *const u8,
@@ -63,10 +71,28 @@ pub(crate) const MOST_OF_TEXT: usize = 139;
 const MOST_TOKENS: usize = 1 << 58;
 
 /// The kind of a block, exactly where the bytes are one.
-pub fn check(block: &[u8]) -> Result<Kind, Refusal> {
+pub fn check(block: &[u8]) -> Result<Kind, Refused> {
     // SAFETY: see above.
     let code = unsafe { dagcbor_check(block.as_ptr(), block.len()) };
-    answer_of(code, 0)
+    answer_of(code, 0).map_err(|refusal| refusal.at(place_in(block)))
+}
+
+/// Where bytes are refused.
+#[cold]
+fn place_in(block: &[u8]) -> usize {
+    let (mut needed, mut place, mut none) = (0, 0, [Token::default(); 0]);
+    // SAFETY: see above.
+    unsafe {
+        dagcbor_tokens(
+            block.as_ptr(),
+            block.len(),
+            none.as_mut_ptr(),
+            none.len(),
+            &mut needed,
+            &mut place,
+        )
+    };
+    place
 }
 
 /// The block's name, a CID: version 1, DAG-CBOR, by the SHA-256 of the bytes. Any bytes have one.
@@ -205,11 +231,12 @@ impl<'a> Tape<'a> {
 
 /// The tokens of a block.
 #[cfg(feature = "alloc")]
-pub fn tape(block: &[u8]) -> Result<Tape<'_>, Refusal> {
+pub fn tape(block: &[u8]) -> Result<Tape<'_>, Refused> {
+    let at_place = |refusal: Refusal| refusal.at(place_in(block));
     let mut tokens = Vec::new();
-    let needed = put_tape(block, &mut tokens)?;
+    let needed = put_tape(block, &mut tokens).map_err(at_place)?;
     tokens.resize(needed, Token::default());
-    put_tape(block, &mut tokens)?;
+    put_tape(block, &mut tokens).map_err(at_place)?;
     Ok(Tape { block, tokens })
 }
 

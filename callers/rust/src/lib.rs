@@ -5,7 +5,7 @@
 //!
 //! let block = b"\xa2\x64text\x62hi\x64year\x17";
 //! assert_eq!(check(block), Ok(Kind::Map));
-//! assert_eq!(check(b"\x18\x17"), Err(Refusal::NonMinimal));
+//! assert_eq!(check(b"\x18\x17"), Err(Refusal::NonMinimal.at(1)));
 //!
 //! let items: Vec<Item> = tape(block)?.items().collect();
 //! assert_eq!(items[0], Item::Map(2));
@@ -30,7 +30,7 @@ mod answer;
 mod calls;
 mod item;
 
-pub use answer::{Kind, Refusal};
+pub use answer::{Kind, Refusal, Refused};
 pub use calls::{check, links_into, name, spell_into, tape_into, MOST_OF_CID};
 #[cfg(feature = "alloc")]
 pub use calls::{links, spell, tape, Links, Tape};

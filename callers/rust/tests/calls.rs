@@ -6,7 +6,7 @@ const BLOCK: &[u8] = b"\x82\xd8\x2a\x45\0\x01\x55\0\0\x61a";
 
 #[test]
 fn nothing_is_no_block() {
-    assert_eq!(check(&[]), Err(Refusal::Eof));
+    assert_eq!(check(&[]), Err(Refusal::Eof.at(0)));
     assert_eq!(tape_into(&[], &mut []).unwrap_err(), Refusal::Eof);
     assert_eq!(links_into(&[], &mut []).unwrap_err(), Refusal::Eof);
     assert_eq!(spell_into(&[], &[], &mut []).unwrap_err(), Refusal::Eof);

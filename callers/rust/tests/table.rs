@@ -62,9 +62,10 @@ fn parts<T>(text: &str, read: impl Fn(&str) -> T) -> Vec<T> {
 
 fn hold_row(row: &[&str]) {
     let block = from_hex(row[0]);
-    assert_eq!(check(&block), answer_of(row[1]));
+    let place = row[6].parse().unwrap_or(0);
+    assert_eq!(check(&block), answer_of(row[1]).map_err(|it| it.at(place)));
     match answer_of(row[1]) {
-        Err(refusal) => assert_eq!(tape(&block).unwrap_err(), refusal),
+        Err(refusal) => assert_eq!(tape(&block).unwrap_err(), refusal.at(place)),
         Ok(_) => {
             let tape = tape(&block).unwrap();
             assert_eq!(tape.items().tokens(), parts(row[5], from_words));

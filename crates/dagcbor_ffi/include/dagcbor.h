@@ -111,7 +111,7 @@ enum dagcbor_section {
     DAGCBOR_NOT_VERIFIED = -23,    /* the CID is by another hash function than SHA-256 and identity; the block was not read */
     DAGCBOR_TRUNCATED = -24,       /* the bytes end inside the length, or before as many follow */
     DAGCBOR_INVALID_LENGTH = -25,  /* the length is no varint in shortest form below 2^64 */
-    DAGCBOR_INVALID_CID = -26      /* behind the length stands no CID, or it goes on behind the section; not of dagcbor_car_header */
+    DAGCBOR_INVALID_CID = -26,     /* behind the length stands no CID, or it goes on behind the section; not of dagcbor_car_header */
     DAGCBOR_OTHER_HEADER = -27     /* of dagcbor_car_header alone: a block that is not the map of roots and of version 1 */
 };
 

@@ -1,7 +1,5 @@
 """Why bytes are no block, why data has none, and why a text is that of no CID."""
 
-import bisect
-
 REASONS = {
     -1: ("Msg", "no CID"),
     -3: ("Eof", "the bytes end too early"),
@@ -31,40 +29,17 @@ class DagCborError(ValueError):
     """Bytes that are no block, data that has none, or what is no CID.
 
     `kind` names the reason, as the library does. `place` is None where it is not known. Of bytes it
-    is the offset of the first byte that no block has there, whatever follows: it is searched for
-    when it is asked for. Of data it is a tuple of the keys and indices that lead to what is refused.
+    is the offset of the byte with which the refusal comes, or how many there are, where they end too
+    early. Of data it is a tuple of the keys and indices that lead to what is refused.
     """
 
     def __init__(self, message, kind=None, place=None):
         super().__init__(message)
         self.kind = kind
-        self._place = place
-        self._block = None
-
-    @property
-    def place(self):
-        if self._place is None and self._block is not None:
-            self._place = place_in(self._block)
-        return self._place
+        self.place = place
 
 
-def refused(code, block=None):
-    """The error of a number of the library. The block is kept, for its place."""
+def refused(code, place=None):
+    """The error of a number of the library, at a place in a block."""
     kind, reason = REASONS.get(code, (None, f"refused: {code}"))
-    error = DagCborError(reason, kind)
-    error._block = block
-    return error
-
-
-def place_in(block):
-    """The length of the longest front of the block that is refused only for its end."""
-    from ._native import check
-
-    def is_enough(count):
-        try:
-            check(block[:count])
-        except DagCborError as refusal:
-            return refusal.kind != "Eof"
-        return False
-
-    return bisect.bisect_left(range(1, len(block) + 1), True, key=is_enough)
+    return DagCborError(reason, kind, place)

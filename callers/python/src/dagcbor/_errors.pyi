@@ -1,7 +1,9 @@
 class DagCborError(ValueError):
     kind: str | None
+    place: int | tuple[str | int, ...] | None
     def __init__(
-        self, message: str, kind: str | None = None, place: tuple[str | int, ...] | None = None
+        self,
+        message: str,
+        kind: str | None = None,
+        place: int | tuple[str | int, ...] | None = None,
     ) -> None: ...
-    @property
-    def place(self) -> int | tuple[str | int, ...] | None: ...

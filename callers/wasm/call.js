@@ -1,5 +1,5 @@
-// node --experimental-wasm-memory64 call.js dagcbor_ffi.wasm TABLE TEXTS HEADERS (later versions want no
-// flag). Holds the module against each row of the tables.
+// node --experimental-wasm-memory64 call.js dagcbor_ffi.wasm TABLE TEXTS HEADERS SECTIONS (later
+// versions want no flag). Holds the module against each row of the tables.
 'use strict';
 const { readFileSync } = require('fs');
 
@@ -40,6 +40,20 @@ const isRightHeader = ({ carHeader, carSection }, [text, code, roots, behind]) =
   return cut < 0 && places === null && carSection(bytes).code === -26;
 };
 
+const isRightSection = ({ carSection, carSections }, [text, code, wanted]) => {
+  const bytes = Buffer.from(text === '-' ? '' : text, 'hex');
+  const { code: found, places } = carSection(bytes);
+  const of = places && [places.cid, places.block, places.end];
+  if (String(found) !== code || (of?.join(':') ?? '-') !== wanted) return false;
+  // The same twice, one behind the other, and then the rest, which begins none here.
+  const [one, rest] = places ? [bytes.subarray(0, places.end), bytes.subarray(places.end)] : [bytes];
+  const all = carSections(places ? Buffer.concat([one, one, rest]) : bytes);
+  if (!places) return all.codes.length === 0 && all.cause === (bytes.length ? found : 0);
+  const twice = [...of, ...of.map((it) => it + places.end)];
+  return String(all.codes) === `${code},${code}` && String(all.places) === String(twice)
+    && (all.cause < 0) === (rest.length > 0);
+};
+
 const isRightText = ({ cidText, cidFromText }, [text, code, cid, written]) => {
   const read = cidFromText(text === '-' ? '' : text);
   if (Number(code) < 0) return String(read) === code;
@@ -54,11 +68,11 @@ const rowsOf = (table) => {
 const main = async () => {
   const module = await require('./dagcbor.js').load(readFileSync(process.argv[2]));
   const tables = process.argv.slice(3).map(rowsOf);
-  const holds = [isRight, isRightText, isRightHeader];
+  const holds = [isRight, isRightText, isRightHeader, isRightSection];
   const wrong = tables.flatMap((rows, i) => rows.filter((it) => !holds[i](module, it)))[0];
   const counts = tables.map((rows) => rows.length);
   console.log(wrong ? `wrong: ${wrong[0]}` : `${counts.join(', ')} rows`);
-  process.exitCode = wrong || counts.length !== 3 || counts.includes(0) ? 1 : 0;
+  process.exitCode = wrong || counts.length !== holds.length || counts.includes(0) ? 1 : 0;
 };
 
 main();

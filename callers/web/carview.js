@@ -1,7 +1,7 @@
 // A file of blocks: its roots, its sections, and what is missing.
 
-import { cidText } from './cid.js';
-import { button, make, withAttributes } from './dom.js';
+import { cidKey, cidText } from './cid.js';
+import { button, growing, make, withAttributes } from './dom.js';
 import { counted, grouping, sizeOf } from './text.js';
 import { GROUPS, Sections, Table } from './sections.js';
 import { faultOf } from './verdicts.js';
@@ -9,7 +9,7 @@ import { faultOf } from './verdicts.js';
 const ALL_WELL = 'Each block is the one that its CID names, and each link and root leads to one.';
 const MISSING_AT_ONCE = 100;
 const BETWEEN_LOOKS = 120; // milliseconds between two looks at what was read
-const MOST_ROOTS = 20;
+const ROOTS_AT_ONCE = 20;
 
 let walks = 0;
 
@@ -94,13 +94,15 @@ export class CarView {
   rootList() {
     const { roots } = this.header;
     const list = make('ul.roots');
-    for (const root of roots.slice(0, MOST_ROOTS)) {
-      list.append(make('li', button(cidText(root), () => this.open(root), '.cid')));
-    }
-    const more = roots.length - MOST_ROOTS;
-    if (more > 0) list.append(make('li', `and ${grouping(more)} more`));
     if (!roots.length) list.append(make('li.hint', 'none'));
-    return make('section', make('h3', roots.length === 1 ? 'Root' : 'Roots'), list);
+    const title = make('h3', roots.length === 1 ? 'Root' : 'Roots');
+    return make('section', title, growing(list, roots, ROOTS_AT_ONCE, (it) => this.root(it)));
+  }
+
+  root(cid) {
+    const item = make('li', button(cidText(cid), () => this.open(cid), '.cid'));
+    if (this.lost?.has(cidKey(cid))) item.append(make('span.is-bad', 'missing'));
+    return item;
   }
 
   // Which sections are shown.
@@ -162,25 +164,15 @@ export class CarView {
     const { missing } = this.done;
     this.missing.hidden = !missing.length;
     if (!missing.length) return;
-    const list = make('ul.links');
-    const more = button('', () => add(), '.quiet');
-    let shown = 0;
-    const add = () => {
-      for (const cid of missing.slice(shown, shown + MISSING_AT_ONCE)) {
-        list.append(make('li', make('code.cid', cidText(cid))));
-      }
-      shown = Math.min(shown + MISSING_AT_ONCE, missing.length);
-      more.hidden = shown === missing.length;
-      more.textContent = `Show more of ${grouping(missing.length)}`;
-    };
-    add();
-    const names = new Set(missing.map(cidText));
-    for (const it of this.element.querySelectorAll('.roots li')) {
-      if (names.has(it.textContent)) it.append(make('span.is-bad', 'missing'));
-    }
+    this.lost = new Set(missing.map(cidKey));
+    this.header.roots.slice(0, ROOTS_AT_ONCE).forEach((cid, i) => {
+      const item = this.element.querySelectorAll('.roots li')[i];
+      if (this.lost.has(cidKey(cid))) item.append(make('span.is-bad', 'missing'));
+    });
     const title = make('h3', `Missing ${grouping(missing.length)}`);
     const hint = make('p.hint', 'Roots and links that lead to no verified block of this file.');
-    this.missing.append(title, hint, list, more);
+    const made = (cid) => make('li', make('code.cid', cidText(cid)));
+    this.missing.append(title, hint, growing(make('ul.links'), missing, MISSING_AT_ONCE, made));
   }
 
   // Reading.

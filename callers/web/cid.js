@@ -24,11 +24,12 @@ const HASHES = [
 // A key for maps and sets: a character for each byte, and no two bytes have one. Of CIDs one behind
 // the other, their keys are the slices.
 const keys = new TextDecoder('latin1');
-const EACH = keys.decode(Uint8Array.from({ length: 256 }, (_, it) => it));
+const EACH = Uint8Array.from({ length: 256 }, (_, it) => it);
+const BYTES_OF = new Map(Array.from(keys.decode(EACH), (it, byte) => [it, byte]));
 
 export const cidKey = (bytes) => keys.decode(bytes);
 
-export const cidOfKey = (key) => Uint8Array.from(key, (it) => EACH.indexOf(it));
+export const cidOfKey = (key) => Uint8Array.from(key, (it) => BYTES_OF.get(it));
 
 const hexOf = (bytes) => Array.from(bytes, (it) => it.toString(16).padStart(2, '0')).join('');
 

@@ -1,5 +1,7 @@
 // Elements. Text is only ever put in as text.
 
+import { grouping } from './text.js';
+
 // make('p.note', 'text', child, ..): a name with classes, and what it holds.
 export const make = (what, ...held) => {
   const [name, ...classes] = what.split('.');
@@ -21,6 +23,20 @@ export const button = (text, act, classes = '') => {
   element.type = 'button';
   element.addEventListener('click', act);
   return element;
+};
+
+// The list, of which so many are shown at once, with a button for more; `made` makes each.
+export const growing = (list, all, atOnce, made) => {
+  const more = button('', () => add(), '.quiet.more');
+  let shown = 0;
+  const add = () => {
+    for (const it of all.slice(shown, shown + atOnce)) list.append(made(it));
+    shown = Math.min(shown + atOnce, all.length);
+    more.hidden = shown === all.length;
+    more.textContent = `Show more of ${grouping(all.length)}`;
+  };
+  add();
+  return make('div', list, more);
 };
 
 // A button that copies what it is asked for, and says so.

@@ -2,8 +2,7 @@
 
 import { LINK } from './kinds.js';
 import { cidParts, cidText } from './cid.js';
-import { grouping } from './text.js';
-import { button, copier, make } from './dom.js';
+import { button, copier, growing, make } from './dom.js';
 
 const LINKS_AT_ONCE = 200;
 
@@ -28,18 +27,8 @@ export const linksOf = ({ count, kind }) => {
 // `reach` is told of the token of a link whose path is pressed.
 export const linkList = (items, links, { reach, ...ways }) => {
   if (!links.length) return make('p.hint', 'It links to no other block.');
-  const list = make('ol.links');
-  const more = button('', () => add(), '.quiet');
-  let shown = 0;
-  const add = () => {
-    for (const token of links.slice(shown, shown + LINKS_AT_ONCE)) {
-      const path = button(items.path(token), () => reach(token), '.path');
-      list.append(make('li', path, linkLine(items.payload(token), ways)));
-    }
-    shown = Math.min(shown + LINKS_AT_ONCE, links.length);
-    more.hidden = shown === links.length;
-    more.textContent = `Show more of ${grouping(links.length)}`;
-  };
-  add();
-  return make('div', list, more);
+  return growing(make('ol.links'), links, LINKS_AT_ONCE, (token) => {
+    const path = button(items.path(token), () => reach(token), '.path');
+    return make('li', path, linkLine(items.payload(token), ways));
+  });
 };

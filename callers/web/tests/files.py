@@ -3,7 +3,7 @@
 import os
 import time
 
-from making import cid_text, entries, head, header, items, link, named, section, second, text, varint
+from making import cid_text, entries, head, header, items, link, named, rows, section, second, text, varint
 from browser import QUIET, By, Keys, same
 
 COUNT = 100_000
@@ -82,6 +82,19 @@ def broken_off(page):
     return f"{len(tails)} ways, and {len(worse)} headers"
 
 
+def headers(page):
+    """Each row of the table of headers begins a file of blocks, with its roots, or is told to be none."""
+    for given, code, roots, _ in rows("headers"):
+        page.give_bytes(bytes.fromhex(given.replace("-", "")), "blocks.car")
+        if int(code) < 0:
+            assert "does not begin with the header" in page.text(".block > .hint"), given
+        else:
+            page.wait(DONE)
+            page.js("const more = document.querySelector('.car .more:not([hidden])'); more?.click()")
+            same(page.count(".roots button"), 0 if roots == "-" else len(roots.split(",")), given[:80])
+    return f"{len(rows('headers'))} rows"
+
+
 def forms(page):
     """A file of version 2 around one of version 1, one without sections, one with a root twice."""
     first = header(named(LEAF)) + section(named(LEAF), LEAF)
@@ -157,4 +170,4 @@ def stopped(page):
     return read
 
 
-TESTS = [damaged, broken_off, forms, many, stopped]
+TESTS = [damaged, broken_off, headers, forms, many, stopped]

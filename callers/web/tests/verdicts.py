@@ -10,20 +10,11 @@ NAMES = {
     -14: "TrailingData", -15: "IndefiniteSize", -16: "NonMinimal", -17: "UnorderedKey",
 }  # fmt: skip
 KINDS = ["null", "boolean", "integer", "text", "bytes", "list", "map", "link"]
-# Where each refused row of the table stops, by hand: the first byte that no block has there; and how
-# many items stand whole before it.
-PLACES = {
-    "1817": (1, 0), "-": (0, 0), "62c328ff": (2, 0), "a2616201616102": (5, 3), "a10102": (1, 1),
-    "d82a40": (2, 0), "9bffffffffffffffff": (9, 1), "5bffffffffffffffff": (9, 0),
-    "81" * 128 + "80": (127, 127), "f600": (1, 1), "ff": (0, 0), "f7": (0, 0),
-    "82d82a450001550000a16161d82a46000171120107ff": (21, 5), "82d82a450001550000": (9, 2),
-    "a2626262d82a4500015500006161d82a450001550000": (13, 3),
-}  # fmt: skip
 
 
 def table(page):
     """Each row of the table: the verdict, the place, the name, the count of items, the bytes."""
-    for hexed, kind, _, _, name, tokens, *_ in rows("table"):
+    for hexed, kind, _, _, name, tokens, place, before in rows("table"):
         block = bytes.fromhex(hexed.replace("-", ""))
         page.give_bytes(block)
         title = page.text(".banner h2")
@@ -37,12 +28,11 @@ def table(page):
         else:
             same(page.text(".banner code.name"), NAMES[int(kind)], hexed)
             assert len(page.text(".banner p")) > 40, hexed  # the sentence
-            place, before = PLACES[hexed]
             found = page.js("return document.querySelector('.bytes .byte.is-fault:not(.is-end)')?.dataset.at ?? null")
-            same(found, None if place == len(block) else str(place), hexed)
+            same(found, None if int(place) == len(block) else place, hexed)
             assert page.count(".where") and page.count(".item.k-fault"), hexed
-            last = page.js("return document.querySelector('.item.k-fault').id")
-            same(last, f"item-{before}", hexed)
+            whole = 0 if before == "-" else len(before.split(","))
+            same(page.js("return document.querySelector('.item.k-fault').id"), f"item-{whole}", hexed)
         shown = "".join(page.texts(".hex .byte:not(.is-end)"))
         assert hexed.replace("-", "").startswith(shown[: len(hexed)]), hexed
     return f"{len(rows('table'))} rows"

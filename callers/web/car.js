@@ -46,7 +46,10 @@ export const innerOf = async (file) => {
 // While a window is judged the bytes behind it are read.
 export const walk = async (library, file, header, { told, isStopped }) => {
   const names = new Names(header.roots);
-  const ended = (fault) => ({ fault, missing: fault ? [] : names.missing(library), links: names.links });
+  const ended = (fault) => {
+    const missing = fault ? [] : names.missing(library);
+    return { fault, missing, links: names.links };
+  };
   let [at, next, bytes] = [header.behind, header.behind, new Uint8Array()];
   const coming = (length) => {
     const more = ahead(file, next, length);

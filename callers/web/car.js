@@ -2,12 +2,13 @@
 // memory than its longest section needs.
 
 import { CUT, NOT_VERIFIED, OTHER_BYTES, TOO_LONG } from './kinds.js';
-import { cidKey, cidOfKey } from './cid.js';
+import { IDENTITY, cidKey, cidOfKey, cidParts } from './cid.js';
 
 const WINDOW = 2 << 20;
 const FIRST_HEADER = 64 << 10;
 const MOST_HEADER = 16 << 20;
 const MOST = 1 << 30;
+const HELD = 4; // behind 01 71 00 and a byte of length, in a CID that holds a block of DAG-CBOR
 
 const read = async (file, from, length) =>
   new Uint8Array(await file.slice(from, from + length).arrayBuffer());
@@ -45,7 +46,10 @@ export const innerOf = async (file) => {
 // While a window is judged the bytes behind it are read.
 export const walk = async (library, file, header, { told, isStopped }) => {
   const names = new Names(header.roots);
-  const ended = (fault) => ({ fault, missing: fault ? [] : names.missing(), links: names.links });
+  const ended = (fault) => {
+    const missing = fault ? [] : names.missing(library);
+    return { fault, missing, links: names.links };
+  };
   let [at, next, bytes] = [header.behind, header.behind, new Uint8Array()];
   const coming = (length) => {
     const more = ahead(file, next, length);
@@ -129,7 +133,21 @@ class Names {
     }
   }
 
-  missing() {
-    return [...this.wanted].map(cidOfKey);
+  // A CID by the identity holds its block: the links of that one are followed. What is added to a
+  // set meanwhile comes later.
+  missing(library) {
+    const lost = [];
+    for (const key of this.wanted) {
+      const cid = cidOfKey(key);
+      const { codec, hash } = cidParts(cid);
+      if (hash !== IDENTITY) lost.push(cid);
+      else if (codec === 'DAG-CBOR') this.follow(library.links(cid.subarray(HELD)));
+    }
+    return lost;
+  }
+
+  follow(links) {
+    if (typeof links === 'number') return;
+    for (const it of links.map(cidKey)) if (!this.held.has(it)) this.wanted.add(it);
   }
 }

@@ -165,9 +165,9 @@ export class CarView {
     this.missing.hidden = !missing.length;
     if (!missing.length) return;
     this.lost = new Set(missing.map(cidKey));
-    this.header.roots.slice(0, ROOTS_AT_ONCE).forEach((cid, i) => {
-      const item = this.element.querySelectorAll('.roots li')[i];
-      if (this.lost.has(cidKey(cid))) item.append(make('span.is-bad', 'missing'));
+    this.element.querySelectorAll('.roots li').forEach((it, i) => {
+      const root = this.header.roots[i];
+      if (root && this.lost.has(cidKey(root))) it.append(make('span.is-bad', 'missing'));
     });
     const title = make('h3', `Missing ${grouping(missing.length)}`);
     const hint = make('p.hint', 'Roots and links that lead to no verified block of this file.');

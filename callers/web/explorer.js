@@ -11,7 +11,8 @@ import { refusalOf } from './verdicts.js';
 
 const MOST_SHOWN = 4_000; // characters of a text or byte string that is picked
 const MOST_COPIED = 4 << 20; // bytes, in hexadecimal
-const HOW_TO_POINT = 'Point at an item or a byte to see the one in the other; pick it to see it whole. Arrow keys move.';
+const HOW_TO_POINT = 'Point at an item or a byte to see the one in the other; pick it to see it whole.'
+  + ' Arrow keys move.';
 
 export class Explorer {
   // `block` has the bytes, and its items where it has a tree; `why` says why it has none.

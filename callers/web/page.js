@@ -98,8 +98,8 @@ const busyWith = async (title, act) => {
 
 // What is given.
 
-const NO_HEADER = 'By its name this is a file of blocks (CAR), but it does not begin with the header of one:'
-  + ' it was judged as one block.';
+const NO_HEADER = 'By its name this is a file of blocks (CAR), but it does not begin with the header'
+  + ' of one: it was judged as one block.';
 
 const blockView = async (file, title, more = {}) => {
   if (file.size > MOST_BLOCK) {

@@ -90,11 +90,14 @@ export class Table {
   constructor(host, sections, { open }) {
     Object.assign(this, { host, sections, open, chosen: null, picked: 0 });
     const titles = COLUMNS.map((it) => withAttributes(make('span', it), { role: 'columnheader' }));
-    this.head = withAttributes(make('div.section.is-head', ...titles), { role: 'row', 'aria-rowindex': 1 });
+    const head = make('div.section.is-head', ...titles);
+    this.head = withAttributes(head, { role: 'row', 'aria-rowindex': 1 });
     const box = make('div.sections-box');
     host.append(this.head, box);
     this.box = box;
-    withAttributes(host, { role: 'grid', tabindex: 0, 'aria-label': 'Sections. Enter opens the block.' });
+    withAttributes(host, {
+      role: 'grid', tabindex: 0, 'aria-label': 'Sections. Enter opens the block.',
+    });
     box.setAttribute('role', 'rowgroup');
     this.rows = new Rows(box, SECTION_HEIGHT, (row) => this.draw(row));
     box.addEventListener('click', (event) => {

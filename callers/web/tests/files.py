@@ -111,6 +111,20 @@ def forms(page):
     return "four"
 
 
+def held_in_names(page):
+    """A CID by the identity holds its block, and is not missing; what that one links to may be."""
+    gone = named(b"\xf6")
+    inner = link(gone)
+    holds = [bytes([1, 0x71, 0, len(it)]) + it for it in (b"\xf6", inner)]
+    node = items(*map(link, holds))
+    page.give_car(header(named(node)) + section(named(node), node))
+    same(page.texts(".missing .cid"), [cid_text(gone)])
+    node = items(link(holds[0]), link(bytes([1, 0x55, 0, 2]) + b"hi"))
+    page.give_car(header(named(node)) + section(named(node), node))
+    assert "all is well" in page.text(".banner h2"), page.text(".banner")
+    return "blocks in names"
+
+
 def made_large(path):
     """100,000 sections: their names, and their blocks."""
     blocks = [items(head(0, it), text("block " * 20)) for it in range(COUNT - 1)]
@@ -170,4 +184,4 @@ def stopped(page):
     return read
 
 
-TESTS = [damaged, broken_off, headers, forms, many, stopped]
+TESTS = [damaged, broken_off, headers, forms, held_in_names, many, stopped]

@@ -2,8 +2,8 @@
 //! languages.
 
 use dagcbor_calls::{
-    Token, code_of, judge_section, name_of, put_cid_of_text, put_cid_text, put_links, put_tape,
-    spell_tape,
+    Token, code_of, judge_section, name_of, put_cid_of_text, put_cid_text, put_front_tape,
+    put_links, put_tape, spell_tape,
 };
 use dagcbor_items::check_slice;
 use std::test::Fail;
@@ -129,6 +129,27 @@ fn a_tape_has_each_head(rt: HostRuntime) -> Result<(), Fail> {
     ];
     for (token, words) in tape.iter().zip(rows) {
         assert!(rt; is_token(token, words));
+    }
+    Ok(())
+}
+
+/// The tokens of a front are those before the place of the refusal: a list of two, and a one.
+#[test]
+fn a_refusal_has_a_place_and_tokens_before(rt: HostRuntime) -> Result<(), Fail> {
+    let mut tape = [Token {
+        kind: 99,
+        number: 99,
+        place: 99,
+    }; 3];
+    let mut needed = 99;
+    let mut place = 99;
+    let answer = put_front_tape(b"\x82\x01\x18\x17", &mut tape, &mut needed, &mut place);
+    assert_eq!(rt; code_of(&answer), -16);
+    assert_eq!(rt; needed, 2);
+    assert_eq!(rt; place, 3);
+    let rows: &[[u64; 3]] = &[[5, 2, 1], [2, 1, 2], [99, 99, 99]];
+    for (token, words) in tape.iter().zip(rows) {
+        assert!(rt; is_token(token, *words));
     }
     Ok(())
 }

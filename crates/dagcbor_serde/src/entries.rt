@@ -1,10 +1,11 @@
 //! The entries of a map, which stand in one buffer, and their order.
 
-ghost use Rattle.std.specs.Prelude.{◌≡◌, ◌<◌, ◌++◌, length, map, IsTrue, OnOk, slice_index_or};
+ghost use Rattle.std.specs.Prelude.{◌≡◌, ◌<◌, ◌++◌, length, map, IsTrue, OnOk, IfErr, slice_index_or};
 ghost use Rattle.std.specs.List.{All, slice_range, flat_map};
 ghost use Rattle.dagcbor_write.specs.Maps.{Texts};
 ghost use Rattle.dagcbor_write.specs.Order.{KeysDiffer, PutsInOrder};
 ghost use Rattle.dagcbor_serde.specs.Holds.{IsWithin, entry_at, whole_at, AreInOrder};
+ghost use Rattle.dagcbor_serde.specs.Refusing.{LacksMemory};
 
 use crate::error::Refusal;
 use crate::frame::{Span, push};
@@ -83,8 +84,9 @@ pub(crate) fn put_in_order(bytes: &[u8], spans: &mut [Span]) -> bool
 
 /// Appends the entries.
 pub(crate) fn push_entries(out: &mut Vec<u8>, bytes: &[u8], spans: &[Span]) -> Result<(), Refusal>
-    ensures { OnOk result (out.new.items
+    ensures appended { OnOk result (out.new.items
         ≡ out.old.items ++ flat_map (whole_at bytes.now) spans.now) }
+    ensures refused { IfErr result LacksMemory }
 {
     for i in 0..spans.len() {
         push(out, whole_of(bytes, spans, i))?;

@@ -1,7 +1,8 @@
 //! What is open: the whole, a list, a map or a link, as places in the bytes of all.
 
-ghost use Rattle.std.specs.Prelude.{◌≡◌, ◌≤◌, ◌<◌, ◌+◌, ◌++◌, ◌∷◌, length, take, drop, OnOk, MatchBool};
+ghost use Rattle.std.specs.Prelude.{IfErr, ◌≡◌, ◌≢◌, ◌≤◌, ◌<◌, ◌+◌, ◌++◌, ◌∷◌, length, take, drop, OnOk, MatchBool};
 ghost use Rattle.dagcbor_heads.specs.Head.{head};
+ghost use Rattle.dagcbor_serde.specs.Refusing.{LacksMemory, LacksMemoryOrPlace, ItemRefused};
 
 use crate::error::Refusal;
 use dagcbor_heads::head_bytes;
@@ -78,7 +79,8 @@ impl Frame {
 
 /// Appends the bytes.
 pub(crate) fn push(out: &mut Vec<u8>, bytes: &[u8]) -> Result<(), Refusal>
-    ensures { OnOk result (out.new.items ≡ out.old.items ++ bytes.now) }
+    ensures appended { OnOk result (out.new.items ≡ out.old.items ++ bytes.now) }
+    ensures refused { IfErr result LacksMemory }
 {
     match out.extend_from_slice(bytes) {
         Ok(()) => Ok(()),
@@ -90,7 +92,8 @@ pub(crate) fn push(out: &mut Vec<u8>, bytes: &[u8]) -> Result<(), Refusal>
 #[inline(never)]
 fn push_head(out: &mut Vec<u8>, major: u8, argument: u64) -> Result<(), Refusal>
     requires { major ≤ 7 }
-    ensures { OnOk result (out.new.items ≡ out.old.items ++ head major argument) }
+    ensures appended { OnOk result (out.new.items ≡ out.old.items ++ head major argument) }
+    ensures refused { IfErr result LacksMemory }
 {
     let (bytes, count) = head_bytes(major, argument);
     push(out, &bytes[..count])
@@ -138,7 +141,8 @@ fn push_head_at_once(out: &mut Vec<u8>, major: u8, argument: u64) -> bool
 #[inline(always)]
 pub(crate) fn append_head(out: &mut Vec<u8>, major: u8, argument: u64) -> Result<(), Refusal>
     requires { major ≤ 7 }
-    ensures { OnOk result (out.new.items ≡ out.old.items ++ head major argument) }
+    ensures appended { OnOk result (out.new.items ≡ out.old.items ++ head major argument) }
+    ensures refused { IfErr result LacksMemory }
 {
     if push_head_at_once(out, major, argument) {
         return Ok(());
@@ -156,7 +160,8 @@ pub(crate) fn append(
     payload: &[u8],
 ) -> Result<(), Refusal>
     requires { major ≤ 7 }
-    ensures { OnOk result (out.new.items ≡ out.old.items ++ (head major argument ++ payload.now)) }
+    ensures appended { OnOk result (out.new.items ≡ out.old.items ++ (head major argument ++ payload.now)) }
+    ensures refused { IfErr result LacksMemory }
 {
     if argument < 24 && push_at_once(out, &[32 * major + argument as u8], payload) {
         return Ok(());
@@ -167,7 +172,8 @@ pub(crate) fn append(
 #[inline(never)]
 fn append_slowly(out: &mut Vec<u8>, major: u8, argument: u64, payload: &[u8]) -> Result<(), Refusal>
     requires { major ≤ 7 }
-    ensures { OnOk result (out.new.items ≡ out.old.items ++ (head major argument ++ payload.now)) }
+    ensures appended { OnOk result (out.new.items ≡ out.old.items ++ (head major argument ++ payload.now)) }
+    ensures refused { IfErr result LacksMemory }
 {
     push_head(out, major, argument)?;
     push(out, payload)
@@ -177,8 +183,9 @@ fn append_slowly(out: &mut Vec<u8>, major: u8, argument: u64, payload: &[u8]) ->
 #[tactic(auto, unfolding(dagcbor_heads::specs::Head::head))]
 #[inline(always)]
 pub(crate) fn append_link(out: &mut Vec<u8>, cid: &[u8]) -> Result<(), Refusal>
-    ensures { OnOk result (out.new.items
+    ensures appended { OnOk result (out.new.items
         ≡ out.old.items ++ (head 6 42 ++ (head 2 (length cid.now + 1) ++ 0x00 ∷ cid.now))) }
+    ensures refused { IfErr result LacksMemory }
 {
     let count = cid.len();
     if count >= 23
@@ -193,8 +200,9 @@ pub(crate) fn append_link(out: &mut Vec<u8>, cid: &[u8]) -> Result<(), Refusal>
 #[tactic(auto, unfolding(dagcbor_heads::specs::Head::head))]
 #[inline(never)]
 fn append_link_slowly(out: &mut Vec<u8>, cid: &[u8]) -> Result<(), Refusal>
-    ensures { OnOk result (out.new.items
+    ensures appended { OnOk result (out.new.items
         ≡ out.old.items ++ (head 6 42 ++ (head 2 (length cid.now + 1) ++ 0x00 ∷ cid.now))) }
+    ensures refused { IfErr result LacksMemory }
 {
     let Some(length) = (cid.len() as u64).checked_add(1) else {
         return Err(Refusal::OutOfMemory);
@@ -216,8 +224,9 @@ pub(crate) fn set_head(
     count: usize,
 ) -> Result<(), Refusal>
     requires { major ≤ 7 }
-    ensures { OnOk result (out.new.items
+    ensures replaced { OnOk result (out.new.items
         ≡ take place out.old.items ++ (head major count ++ drop (place + 1) out.old.items)) }
+    ensures refused { IfErr result LacksMemoryOrPlace }
 {
     if count < 24 && place < out.len() {
         out[place] = 32 * major + count as u8;
@@ -236,8 +245,9 @@ fn insert_head(
     count: usize,
 ) -> Result<(), Refusal>
     requires { major ≤ 7 }
-    ensures { OnOk result (out.new.items
+    ensures replaced { OnOk result (out.new.items
         ≡ take place out.old.items ++ (head major count ++ drop (place + 1) out.old.items)) }
+    ensures refused { IfErr result LacksMemoryOrPlace }
 {
     if place >= out.len() {
         return Err(Refusal::Misplaced);
@@ -251,7 +261,8 @@ fn insert_head(
 
 /// Puts other bytes behind the byte at this place.
 pub(crate) fn replace_behind(out: &mut Vec<u8>, place: usize, bytes: &[u8]) -> Result<(), Refusal>
-    ensures { OnOk result (out.new.items ≡ take (place + 1) out.old.items ++ bytes.now) }
+    ensures replaced { OnOk result (out.new.items ≡ take (place + 1) out.old.items ++ bytes.now) }
+    ensures refused { IfErr result LacksMemoryOrPlace }
 {
     if place >= out.len() {
         return Err(Refusal::Misplaced);
@@ -263,7 +274,10 @@ pub(crate) fn replace_behind(out: &mut Vec<u8>, place: usize, bytes: &[u8]) -> R
 /// Why an item may not come.
 #[cold]
 #[inline(never)]
-pub(crate) fn misplaced(stage: Stage) -> Refusal {
+pub(crate) fn misplaced(stage: Stage) -> Refusal
+    requires { (stage ≢ Stage.List) × (stage ≢ Stage.WantsValue) × (stage ≢ Stage.Vacant) }
+    ensures { ItemRefused stage result }
+{
     match stage {
         Stage::WantsKey => Refusal::KeyIsNoText,
         Stage::WantsMap => Refusal::FlattensNoMap,

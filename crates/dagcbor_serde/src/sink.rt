@@ -1,6 +1,6 @@
 //! The bytes of a value, event by event.
 
-ghost use Rattle.std.specs.Prelude.{◌≡◌, ◌≤◌, ◌+◌, ◌++◌, [], ◌∷◌, List, length, take, drop, OnOk, IfOk};
+ghost use Rattle.std.specs.Prelude.{◌≡◌, ◌≤◌, ◌+◌, ◌^◌, ◌++◌, [], ◌∷◌, List, length, take, drop, OnOk, IfOk, IfErr};
 ghost use Rattle.std.specs.Prelude.{encode_utf8, pos};
 ghost use Rattle.serde.specs.Spelling.{spelled as spelled_name};
 ghost use Rattle.serde.specs.declared.name.NameKind.TheVariants.{Variant};
@@ -11,6 +11,7 @@ ghost use Rattle.dagcbor_serde.specs.Building.{put_unit, put_bytes, as_link, beg
 ghost use Rattle.dagcbor_serde.specs.Building.{begin, begin_map, in_list, close, list_of, close_map};
 ghost use Rattle.dagcbor_serde.specs.Holds.{IsGood, HoldsAll, StepsBy, MovesTop, Puts, Lands, named};
 ghost use Rattle.dagcbor_serde.specs.Holds.{Begins, PutsEach};
+ghost use Rattle.dagcbor_serde.specs.Refusing.{LacksMemory, CidRefused, BytesRefused, ItemRefused, TextRefused, NumberRefused, OnlyAt};
 
 use crate::entries::{are_in_order, push_entries, put_in_order};
 use crate::error::Refusal;
@@ -97,7 +98,8 @@ impl Sink {
     /// Puts an item of a head alone.
     fn put_head(&mut self, major: u8, argument: u64) -> Result<(), Refusal>
         requires { major ≤ 7 }
-        ensures { OnOk result (Puts (head major argument) self.old self.new) }
+        ensures put { OnOk result (Puts (head major argument) self.old self.new) }
+        ensures refused { IfErr result (ItemRefused self.old.top.stage) }
     {
         let from = self.bytes.len();
         append_head(&mut self.bytes, major, argument)?;
@@ -107,7 +109,8 @@ impl Sink {
     /// Puts an item of a head and what is behind it.
     fn put(&mut self, major: u8, argument: u64, payload: &[u8]) -> Result<(), Refusal>
         requires { major ≤ 7 }
-        ensures { OnOk result (Puts (head major argument ++ payload.now) self.old self.new) }
+        ensures put { OnOk result (Puts (head major argument ++ payload.now) self.old self.new) }
+        ensures refused { IfErr result (ItemRefused self.old.top.stage) }
     {
         let from = self.bytes.len();
         append(&mut self.bytes, major, argument, payload)?;
@@ -120,6 +123,7 @@ impl Sink {
         ensures same { (self.new.bytes ≡ self.old.bytes) × (self.new.below ≡ self.old.below) }
         ensures landed { OnOk result (Lands self.old.top.stage from (length self.old.bytes.items)
             self.old.top self.old.spans.items self.new.top self.new.spans.items) }
+        ensures refused { IfErr result (ItemRefused self.old.top.stage) }
     {
         match self.top.stage {
             Stage::List => self.land_item(),
@@ -138,6 +142,7 @@ impl Sink {
             × (self.new.spans ≡ self.old.spans) }
         ensures counted { OnOk result
             (self.new.top ≡ record self.old.top { count = self.old.top.count + 1 }) }
+        ensures refused { IfErr result (LacksMemory) }
     {
         match self.top.count.checked_add(1) {
             Some(count) => {
@@ -158,6 +163,7 @@ impl Sink {
               key_end = from;
               end = length self.old.bytes.items;
             }) ∷ []) }
+        ensures refused { IfErr result (LacksMemory) }
     {
         self.top.stage = Stage::Rests;
         let span = Span {
@@ -182,6 +188,7 @@ impl Sink {
             ≡ self.old.bytes.items ++ (head 3 (length v.now) ++ v.now)) }
         ensures text { IsTree (text v.now) }
         ensures rest { (self.new.spans ≡ self.old.spans) × (self.new.below ≡ self.old.below) }
+        ensures refused { IfErr result (LacksMemory) }
     {
         let key = self.bytes.len();
         append(&mut self.bytes, 3, v.len() as u64, v.as_bytes())?;
@@ -195,20 +202,23 @@ impl Sink {
 impl Sink {
     #[tactic(auto, using(crate::proofs::Opening::puts_good, crate::proofs::Leaves::good_true, crate::proofs::Leaves::good_false))]
     pub(crate) fn bool(&mut self, v: bool) -> Result<(), Refusal>
-        ensures { OnOk result (MovesTop (put (boolean v)) self.old self.new) }
+        ensures moved { OnOk result (MovesTop (put (boolean v)) self.old self.new) }
+        ensures refused { IfErr result (ItemRefused self.old.top.stage) }
     {
         self.put_head(7, if v { 21 } else { 20 })
     }
 
     pub(crate) fn unsigned(&mut self, v: u64) -> Result<(), Refusal>
-        ensures { OnOk result (MovesTop (put (integer (pos v))) self.old self.new) }
+        ensures moved { OnOk result (MovesTop (put (integer (pos v))) self.old self.new) }
+        ensures refused { IfErr result (ItemRefused self.old.top.stage) }
     {
         self.put_head(0, v)
     }
 
     #[tactic(auto, using(crate::proofs::Opening::puts_good, crate::proofs::Leaves::good_unsigned, crate::proofs::Leaves::good_negative))]
     pub(crate) fn signed(&mut self, v: i64) -> Result<(), Refusal>
-        ensures { OnOk result (MovesTop (put (integer v)) self.old self.new) }
+        ensures moved { OnOk result (MovesTop (put (integer v)) self.old self.new) }
+        ensures refused { IfErr result (ItemRefused self.old.top.stage) }
     {
         let (major, argument) = if v < 0 { (1, -1 - v) } else { (0, v) };
         self.put_head(major, argument as u64)
@@ -216,7 +226,8 @@ impl Sink {
 
     #[tactic(auto, using(crate::proofs::Opening::puts_good, crate::proofs::Leaves::good_unsigned))]
     pub(crate) fn unsigned_wide(&mut self, v: u128) -> Result<(), Refusal>
-        ensures { OnOk result (MovesTop (put (integer (pos v))) self.old self.new) }
+        ensures moved { OnOk result (MovesTop (put (integer (pos v))) self.old self.new) }
+        ensures refused { IfErr result (NumberRefused (2 ^ 64 ≤ v) self.old.top.stage) }
     {
         match u64::try_from(v) {
             Ok(argument) => self.put_head(0, argument),
@@ -237,7 +248,8 @@ impl Sink {
 
     /// Puts a text, which may be a key.
     pub(crate) fn text(&mut self, v: &str) -> Result<(), Refusal>
-        ensures { OnOk result (MovesTop (put (text v.now)) self.old self.new) }
+        ensures moved { OnOk result (MovesTop (put (text v.now)) self.old self.new) }
+        ensures refused { IfErr result (TextRefused self.old.top.stage) }
     {
         match self.top.stage {
             Stage::WantsKey => self.wait(v),
@@ -248,7 +260,8 @@ impl Sink {
     /// Puts the name of a field or a variant.
     #[inline(always)]
     fn key(&mut self, v: &str) -> Result<(), Refusal>
-        ensures { OnOk result (MovesTop (put_key v.now) self.old self.new) }
+        ensures moved { OnOk result (MovesTop (put_key v.now) self.old self.new) }
+        ensures refused { IfErr result (OnlyAt Stage.Rests self.old.top.stage) }
     {
         match self.top.stage {
             Stage::Rests => self.wait(v),
@@ -258,7 +271,8 @@ impl Sink {
 
     /// Puts a byte string, or the CID of a link.
     pub(crate) fn bytes(&mut self, v: &[u8]) -> Result<(), Refusal>
-        ensures { OnOk result (MovesTop (put_bytes v.now) self.old self.new) }
+        ensures moved { OnOk result (MovesTop (put_bytes v.now) self.old self.new) }
+        ensures refused { IfErr result (BytesRefused v.now self.old.top.stage) }
     {
         match self.top.stage {
             Stage::Link => self.cid(v),
@@ -269,7 +283,8 @@ impl Sink {
     /// Puts the CID of a link.
     fn cid(&mut self, v: &[u8]) -> Result<(), Refusal>
         requires { self.old.top.stage ≡ Stage.Link }
-        ensures { OnOk result (MovesTop (put_bytes v.now) self.old self.new) }
+        ensures moved { OnOk result (MovesTop (put_bytes v.now) self.old self.new) }
+        ensures refused { IfErr result (CidRefused v.now) }
     {
         if Cid::try_from(v).is_err() {
             return Err(Refusal::NoCid);
@@ -281,7 +296,8 @@ impl Sink {
 
     /// Puts null, or flattens nothing.
     pub(crate) fn unit(&mut self) -> Result<(), Refusal>
-        ensures { OnOk result (MovesTop put_unit self.old self.new) }
+        ensures moved { OnOk result (MovesTop put_unit self.old self.new) }
+        ensures refused { IfErr result (ItemRefused self.old.top.stage) }
     {
         match self.top.stage {
             Stage::WantsMap => {
@@ -307,7 +323,8 @@ impl Sink {
     }
 
     pub(crate) fn begin_key(&mut self) -> Result<(), Refusal>
-        ensures { OnOk result (MovesTop begin_key self.old self.new) }
+        ensures moved { OnOk result (MovesTop begin_key self.old self.new) }
+        ensures refused { IfErr result (OnlyAt Stage.Rests self.old.top.stage) }
     {
         match self.top.stage {
             Stage::Rests => {
@@ -319,7 +336,8 @@ impl Sink {
     }
 
     pub(crate) fn end_key(&mut self) -> Result<(), Refusal>
-        ensures { OnOk result (MovesTop end_key self.old self.new) }
+        ensures moved { OnOk result (MovesTop end_key self.old self.new) }
+        ensures refused { IfErr result (OnlyAt Stage.WantsValue self.old.top.stage) }
     {
         match self.top.stage {
             Stage::WantsValue => Ok(()),
@@ -328,7 +346,8 @@ impl Sink {
     }
 
     pub(crate) fn flatten(&mut self) -> Result<(), Refusal>
-        ensures { OnOk result (MovesTop flatten self.old self.new) }
+        ensures moved { OnOk result (MovesTop flatten self.old self.new) }
+        ensures refused { IfErr result (OnlyAt Stage.Rests self.old.top.stage) }
     {
         match self.top.stage {
             Stage::Rests => {
@@ -343,7 +362,8 @@ impl Sink {
 // The same, by a name or a text that is made here.
 impl Sink {
     pub(crate) fn char(&mut self, v: char) -> Result<(), Refusal>
-        ensures { OnOk result (MovesTop (put (text (encode_utf8 v))) self.old self.new) }
+        ensures moved { OnOk result (MovesTop (put (text (encode_utf8 v))) self.old self.new) }
+        ensures refused { IfErr result (TextRefused self.old.top.stage) }
     {
         let mut room = [0; 4];
         self.text(v.encode_utf8(&mut room))

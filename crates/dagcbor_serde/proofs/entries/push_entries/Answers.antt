@@ -10,7 +10,7 @@ loop-i-init c = refl
 pub loop-i-preserved : goal.loop-i-preserved
 loop-i-preserved c =
     let none : Span = record { start = 0; key_end = 0; end = 0 } in
-    pushed_on (whole_at c.args.bytes.now) c.args.spans.now c.loop-i.i none c.loop-i.out.items c.push.new.out.items _ (search rules) c.loop-i.invariant (c.in_ok-push.ensures ∙ ap (λ v. c.loop-i.out.items ++ v) (c.whole_of.ensures none))
+    pushed_on (whole_at c.args.bytes.now) c.args.spans.now c.loop-i.i none c.loop-i.out.items c.push.new.out.items _ (search rules) c.loop-i.invariant (c.in_ok-push.ensures.appended ∙ ap (λ v. c.loop-i.out.items ++ v) (c.whole_of.ensures none))
 
-pub returns : goal.returns
-returns c = all_pushed (whole_at c.args.bytes.now) c.args.spans.now c.loop-i.i _ _ (search rules) c.loop-i.invariant
+pub returns-clause-appended : goal.returns-clause-appended
+returns-clause-appended c = all_pushed (whole_at c.args.bytes.now) c.args.spans.now c.loop-i.i _ _ (search rules) c.loop-i.invariant

@@ -1,115 +1,195 @@
 -- What begins, ends and is finished.
-use Rattle.std.proofs.Common.{◌≡◌, ℕ, zero, suc, ◌+◌, ◌<◌, ◌≤◌, ◌^◌, List, [], ◌∷◌, ◌++◌, length, map, drop, get_or, Option, None, Some, true, false, refl, sym, ap, ap₂, ◌∙◌, subst, arith, append-nil, append_assoc, add-one}
-use Rattle.std.proofs.Math.Seq.{drop-cons}
+use Rattle.std.proofs.Common.{◌≡◌, ℕ, zero, suc, ◌+◌, ◌-◌, ◌<◌, ◌≤◌, ◌^◌, List, [], ◌∷◌, ◌++◌, length, map, take, drop, get_or, Option, None, Some, Bool, true, false, refl, sym, ap, ap₂, ◌∙◌, subst, arith, length-append, append-nil, append_assoc, add-one}
+use Rattle.std.proofs.Math.Seq.{drop-cons, take-append_seam, take-length, drop-length, drop-append_seam}
 use Rattle.std.proofs.Math.ListN.{drop_of_length-le}
-use Rattle.std.proofs.lemmas.List.{reverse-append, length-map}
-use Rattle.std.proofs.lemmas.List.Elements.{recursion_from_All}
-use Rattle.std.specs.Prelude.{IfSome, reverse, Result, Ok, Err, OnOk, option_map}
-use Rattle.std.specs.List.{All, AllByRecursion, flat_map}
+use Rattle.std.proofs.lemmas.List.{reverse-append, length-map, take-append-drop, take-append-le, take_all, length-take-le, length-drop, drop_at}
+use Rattle.std.specs.Prelude.{IfSome, reverse, option_map}
+use Rattle.std.specs.List.{All, flat_map}
+use Rattle.std.proofs.lemmas.List.Sorted.{IsPermutation-refl}
 use Rattle.std.specs.Fmt.{◌++?◌}
 use Rattle.dagcbor_heads.specs.Head.{head}
 use Rattle.ipld_tree.specs.Tree.{Tree, list, link, IsTree, items_of, entries_tree}
 use Rattle.ipld_tree.specs.Spelling.{item_count}
 use Rattle.ipld_tree.specs.Spelled.{spelled, spelled_items, spelled_tree, spelled_head}
-use Rattle.dagcbor_write.specs.Pairwise.{Pairwise}
 use Rattle.dagcbor_write.specs.Trees.{Pair}
+use Rattle.dagcbor_write.specs.Maps.{Texts}
 use Rattle.dagcbor_write.specs.Order.{PutsInOrder, entries_bytes}
 use Rattle.dagcbor_write.proofs.Mapping.{in_order}
 use Rattle.dagcbor_write.proofs.Spelling.{head_is_spelled}
 use Rattle.dagcbor_serde.specs.Building.{Level, whole, in_list, in_map, in_link, rests, for_key, for_value, for_map, State, state, begin, begin_map, close, list_of, close_map, finished, only_item}
-use Rattle.dagcbor_serde.specs.Holds.{IsGood, Holds, HoldsEntries, HoldsAll, Moves, Puts, StepsBy, MovesTop, IsFresh, entry_at, whole_at, IsWithin}
+use Rattle.dagcbor_serde.specs.Holds.{IsGood, Holds, HoldsEntries, PutsEntries, PutsEach, AreInOrder, IsWithin, entry_at, whole_at, Opens, HoldsAll, Part, part, StepsBy, Lands, Begins}
 use Rattle.dagcbor_serde.specs.declared.frame.Frame.{Frame}
 use Rattle.dagcbor_serde.specs.declared.frame.Span.{Span}
 use Rattle.dagcbor_serde.specs.declared.frame.Stage.TheVariants as stage
 use Rattle.dagcbor_serde.specs.declared.sink.Sink.{Sink}
 use Rattle.dagcbor_serde.proofs.AtStages.{at_full, at_list, at_rests, at_map, at_linked}
-use Rattle.dagcbor_serde.proofs.Leaves.{good_link}
-use Rattle.dagcbor_serde.proofs.Spans.{one_range}
+use Rattle.dagcbor_serde.proofs.Opening.{landed}
+use Rattle.dagcbor_serde.proofs.Spans.{entries_are}
 
 -- ---- a run of entries
 
-pub pushed_on : (f : Span → List ℕ) (ss : List Span) (i : ℕ) (s : Span) (x y w : List ℕ) → i < length ss → s ≡ get_or ss i s → x ++ flat_map f (drop i ss) ≡ w → y ≡ x ++ f s → y ++ flat_map f (drop (i + 1) ss) ≡ w
-pushed_on f ss i s x y w h is e g =
-    let begins : drop i ss ≡ get_or ss i s ∷ drop (i + 1) ss = rw add-one (drop-cons ss i s h) in
-    let there : drop i ss ≡ s ∷ drop (i + 1) ss = begins ∙ ap (λ k. k ∷ drop (i + 1) ss) (sym is) in
-    ap (λ k. k ++ flat_map f (drop (i + 1) ss)) g ∙ append_assoc x (f s) (flat_map f (drop (i + 1) ss)) ∙ ap (λ k. x ++ flat_map f k) (sym there) ∙ e
+pub pushed_on : (f : Span → List ℕ) (ss : List Span) (i : ℕ) (d : Span) (x y w : List ℕ) → i < length ss → x ++ flat_map f (drop i ss) ≡ w → y ≡ x ++ f (get_or ss i d) → y ++ flat_map f (drop (i + 1) ss) ≡ w
+pushed_on f ss i d x y w h e g =
+    let begins : drop i ss ≡ get_or ss i d ∷ drop (i + 1) ss = rw add-one (drop-cons ss i d h) in
+    ap (λ k. k ++ flat_map f (drop (i + 1) ss)) g ∙ append_assoc x (f (get_or ss i d)) (flat_map f (drop (i + 1) ss)) ∙ ap (λ k. x ++ flat_map f k) (sym begins) ∙ e
 
 pub all_pushed : (f : Span → List ℕ) (ss : List Span) (i : ℕ) (x w : List ℕ) → length ss ≤ i → x ++ flat_map f (drop i ss) ≡ w → x ≡ w
 all_pushed f ss i x w h e = sym (append-nil x) ∙ ap (λ k. x ++ flat_map f k) (sym (drop_of_length-le ss h)) ∙ e
 
-entries_are : (b : List ℕ) (ss : List Span) → AllByRecursion (IsWithin (length b)) ss → flat_map (whole_at b) ss ≡ entries_bytes (map (entry_at b) ss)
-entries_are b [] w = refl
-entries_are b (s ∷ ss) w = ap₂ (λ x y. x ++ y) (sym (one_range b s w.0.0 w.0.1)) (entries_are b ss w.1) ∙ append_assoc (entry_at b s).0 (entry_at b s).1 (entries_bytes (map (entry_at b) ss))
+-- entries that stand in order stay as they are
+pub kept_order : (place : ℕ) (b : List ℕ) (ss : List Span) → (All (IsWithin (length b)) ss → AreInOrder (map (entry_at b) ss)) → PutsEach place b ss b (length ss)
+kept_order place b ss order ps h =
+    let o = order h.1 in
+    let es = map (entry_at b) ss in
+    (es, (IsPermutation-refl es, o.0, o.1), sym (take-append-drop (place + 1) b) ∙ ap (λ x. take (place + 1) b ++ x) (sym h.2 ∙ entries_are b ss h.1), sym (length-map ss (entry_at b)))
+
+-- others are put in order
+pub sorted_order : (place : ℕ) (b c : List ℕ) (ss sorted : List Span) → (All (IsWithin (length b)) ss → PutsInOrder (map (entry_at b) ss) (map (entry_at b) sorted) true) → (All (IsWithin (length b)) ss → All (IsWithin (length b)) sorted) → length sorted ≡ length ss → c ≡ take (place + 1) b ++ flat_map (whole_at b) sorted → PutsEach place b ss c (length ss)
+sorted_order place b c ss sorted order within count is ps h =
+    (map (entry_at b) sorted, order h.1, is ∙ ap (λ x. take (place + 1) b ++ x) (entries_are b sorted (within h.1)), sym count ∙ sym (length-map sorted (entry_at b)))
+
+-- what stands from a place on, as a slice of all
+pub rest_from : (n : ℕ) (xs ys : List Span) → xs ≡ ys → take (length xs - n) (drop n xs) ≡ drop n ys
+rest_from n xs ys is = take_all (length xs - n) (drop n xs) (omega (arith, length-drop n xs)) ∙ ap (drop n) is
+
+-- the same of what a call was handed
+pub kept_by : (place : ℕ) (b x : List ℕ) (ss given : List Span) → x ≡ b → given ≡ ss → (All (IsWithin (length x)) given → AreInOrder (map (entry_at x) given)) → PutsEach place b ss b (length ss)
+kept_by place b x ss given is same order =
+    let P : List ℕ → List Span → Type 0 = λ y ts. All (IsWithin (length y)) ts → AreInOrder (map (entry_at y) ts) in
+    kept_order place b ss (subst (P b) same (subst (λ y. P y given) is order))
+
+pub sorted_by : (place : ℕ) (b c x : List ℕ) (ss given sorted : List Span) (r : Bool) → x ≡ b → given ≡ ss → r ≡ true → (All (IsWithin (length x)) given → PutsInOrder (map (entry_at x) given) (map (entry_at x) sorted) r) → (All (IsWithin (length x)) given → All (IsWithin (length x)) sorted) → length sorted ≡ length given → c ≡ take (place + 1) b ++ flat_map (whole_at b) sorted → PutsEach place b ss c (length ss)
+sorted_by place b c x ss given sorted r is same differ order within count out =
+    let P : List ℕ → List Span → Bool → Type 0 = λ y ts k. All (IsWithin (length y)) ts → PutsInOrder (map (entry_at y) ts) (map (entry_at y) sorted) k in
+    let Q : List ℕ → List Span → Type 0 = λ y ts. All (IsWithin (length y)) ts → All (IsWithin (length y)) sorted in
+    sorted_order place b c ss sorted (subst (P b ss) differ (subst (λ ts. P b ts r) same (subst (λ y. P y given r) is order))) (subst (Q b) same (subst (λ y. Q y given) is within)) (count ∙ ap length same) out
 
 -- ---- beginnings
 
-push_held : (ls : List Level) (l : Level) (below : List Frame) (f : Frame) → Holds l f → Pairwise Holds ls (reverse below) → Pairwise Holds (l ∷ ls) (reverse (below ++ f ∷ []))
-push_held ls l below f h p = let P : List Frame → Type 0 = λ fs. Pairwise Holds (l ∷ ls) fs in subst P (sym (reverse-append below (f ∷ []))) (h, p)
+module _ (old new : Sink) where
+  -- what was open stays as it was
+  around : (f : Frame) → f.place ≡ length old.bytes.items → f.first ≡ length old.spans.items → new.bytes.items ≡ old.bytes.items ++ 0x00 ∷ [] → new.spans.items ≡ old.spans.items → new.below.items ≡ old.below.items ++ old.top ∷ [] → (ls : List Level) → Opens ls (old.top ∷ reverse old.below.items) old.bytes.items old.spans.items
+      → Opens ls (reverse new.below.items) (take f.place new.bytes.items) (take f.first new.spans.items)
+  around f place first bytes spans below ls h =
+      let P : List Frame → Type 0 = λ fs. Opens ls fs (take f.place new.bytes.items) (take f.first new.spans.items) in
+      let Q : List ℕ → Type 0 = λ x. Opens ls (old.top ∷ reverse old.below.items) x (take f.first new.spans.items) in
+      let R : List Span → Type 0 = λ x. Opens ls (old.top ∷ reverse old.below.items) old.bytes.items x in
+      let before : take f.place new.bytes.items ≡ old.bytes.items = ap₂ (λ n x. take n x) place bytes ∙ take-append_seam old.bytes.items (0x00 ∷ []) in
+      let listed : take f.first new.spans.items ≡ old.spans.items = ap₂ (λ n x. take n x) first spans ∙ take-length old.spans.items in
+      let order : reverse new.below.items ≡ old.top ∷ reverse old.below.items = ap (λ fs. reverse fs) below ∙ reverse-append old.below.items (old.top ∷ []) in
+      subst P (sym order) (subst Q (sym before) (subst R (sym listed) h))
 
-pub list_begun : (old new : Sink) → IsFresh stage.List new.top → new.below.items ≡ old.below.items ++ old.top ∷ [] → StepsBy (begin (in_list [])) old new
-unfolding spelled
-list_begun old new f b s h =
-    let P : List Frame → Type 0 = λ fs. Pairwise Holds (s.top ∷ s.around) (reverse fs) in
-    (state (in_list []) (s.top ∷ s.around), refl, ((f.0, f.3, ap Some (sym f.1), tt), subst P (sym b) (push_held s.around s.top old.below.items old.top h.0 h.1)))
+  begun : (b : Begins new.top.stage old new) (l : Level) → Holds l (part new.top new.bytes.items []) → (ls : List Level) → Opens ls (old.top ∷ reverse old.below.items) old.bytes.items old.spans.items
+      → Opens (l ∷ ls) (new.top ∷ reverse new.below.items) new.bytes.items new.spans.items
+  begun b l held ls h =
+      let place : new.top.place ≡ length old.bytes.items = ap (λ (f : Frame). f.place) b.top in
+      let first : new.top.first ≡ length old.spans.items = ap (λ (f : Frame). f.first) b.top in
+      let P : List Span → Type 0 = λ x. Holds l (part new.top new.bytes.items x) in
+      let none : drop new.top.first new.spans.items ≡ [] = ap₂ (λ n x. drop n x) first b.spans ∙ drop-length old.spans.items in
+      (subst P (sym none) held, omega (arith, place, ap length b.bytes, length-append old.bytes.items (0x00 ∷ [])), omega (arith, first, ap length b.spans), around new.top place first b.bytes b.spans b.below ls h)
 
--- no entry
-fresh_map : (f : Frame) → IsFresh stage.Rests f → Holds (in_map [] rests 0) f
-fresh_map f i =
-    let P : List Span → Type 0 = λ ss. HoldsEntries [] f.bytes.items ss in
-    (subst P (sym i.2) (tt, λ k d h. absurd (omega (arith, h))), i.0, i.4)
+  -- nothing stands behind the byte of a head
+  nothing : (f : Frame) → f.place ≡ length old.bytes.items → new.bytes.items ≡ old.bytes.items ++ 0x00 ∷ [] → drop (f.place + 1) new.bytes.items ≡ []
+  nothing f place bytes = drop_of_length-le new.bytes.items (omega (arith, place, ap length bytes, length-append old.bytes.items (0x00 ∷ [])))
 
-pub map_begun : (old new : Sink) → (old.top.stage ≡ stage.WantsMap → ⊥) → IsFresh stage.Rests new.top → new.below.items ≡ old.below.items ++ old.top ∷ [] → StepsBy (λ s. begin_map s.top s.around) old new
-map_begun old new n f b s h = by s.top s.around h.0 h.1
-  where
-    P : List Level → List Frame → Type 0
-    P ls fs = Pairwise Holds ls (reverse fs)
+  inside : (f : Frame) → f.place ≡ length old.bytes.items → new.bytes.items ≡ old.bytes.items ++ 0x00 ∷ [] → f.place < length new.bytes.items
+  inside f place bytes = omega (arith, place, ap length bytes, length-append old.bytes.items (0x00 ∷ []))
 
-    held : (l : Level) (ls : List Level) → Holds l old.top → P ls old.below.items → HoldsAll (state (in_map [] rests 0) (l ∷ ls)) new
-    held l ls h p = (fresh_map new.top f, subst (P (l ∷ ls)) (sym b) (push_held ls l old.below.items old.top h p))
+  pub list_begun : Begins stage.List old new → StepsBy (begin (in_list [])) old new
+  unfolding spelled
+  list_begun b s h =
+      let at : new.top.stage ≡ stage.List = ap (λ (f : Frame). f.stage) b.top in
+      let place : new.top.place ≡ length old.bytes.items = ap (λ (f : Frame). f.place) b.top in
+      let held : Holds (in_list []) (part new.top new.bytes.items []) = (at, ap (λ (f : Frame). f.count) b.top, ap Some (sym (nothing new.top place b.bytes)), tt, inside new.top place b.bytes, refl) in
+      (state (in_list []) (s.top ∷ s.around), refl, begun (subst (λ k. Begins k old new) (sym at) b) (in_list []) held (s.top ∷ s.around) h)
 
-    by : (l : Level) (ls : List Level) → Holds l old.top → P ls old.below.items → (t : State) × (begin_map l ls ≡ Some t) × HoldsAll t new
-    by (whole o) ls h p = (_, refl, held (whole o) ls h p)
-    by (in_list ts) ls h p = (_, refl, held (in_list ts) ls h p)
-    by (in_map ps rests k) ls h p = (_, refl, held (in_map ps rests k) ls h p)
-    by (in_map ps for_key k) ls h p = (_, refl, held (in_map ps for_key k) ls h p)
-    by (in_map ps (for_value v) k) ls h p = (_, refl, held (in_map ps (for_value v) k) ls h p)
-    by (in_map ps for_map k) ls h p = absurd (n h.1)
-    by (in_link o) ls h p = (_, refl, held (in_link o) ls h p)
+  pub map_begun : (old.top.stage ≡ stage.WantsMap → ⊥) → Begins stage.Rests old new → StepsBy (λ s. begin_map s.top s.around) old new
+  map_begun n b s h = by s.top s.around h
+    where
+      at : new.top.stage ≡ stage.Rests
+      at = ap (λ (f : Frame). f.stage) b.top
 
--- the innermost map alone changes: it gives its entries to the one around it, or no longer
-same_entries : (old new : Frame) (ps : List Pair) → new.bytes ≡ old.bytes → new.spans ≡ old.spans → HoldsEntries ps old.bytes.items old.spans.items → HoldsEntries ps new.bytes.items new.spans.items
-same_entries old new ps b s h =
-    let P : List ℕ → Type 0 = λ x. HoldsEntries ps x new.spans.items in
-    let Q : List Span → Type 0 = λ ss. HoldsEntries ps old.bytes.items ss in
-    subst P (sym (ap (λ v. v.items) b)) (subst Q (sym (ap (λ v. v.items) s)) h)
+      place : new.top.place ≡ length old.bytes.items
+      place = ap (λ (f : Frame). f.place) b.top
 
-pub flat_begun : (old new : Sink) → old.top.stage ≡ stage.WantsMap → new.top.stage ≡ stage.Rests → new.top.bytes ≡ old.top.bytes → new.top.spans ≡ old.top.spans → new.top.flat ≡ old.top.flat + 1 → new.below ≡ old.below → StepsBy (λ s. begin_map s.top s.around) old new
-flat_begun old new at rest b ss flat below s h =
-    at_map old.top (λ l. (t : State) × (begin_map l s.around ≡ Some t) × HoldsAll t new) at (λ ps n held.
-    let P : List Frame → Type 0 = λ fs. Pairwise Holds s.around (reverse fs) in
-    (state (in_map ps rests (suc n)) s.around, refl, ((same_entries old.top new.top ps b ss held.0, rest, flat ∙ ap (λ k. k + 1) held.2 ∙ omega arith), subst P (sym (ap (λ v. v.items) below)) h.1))) s.top h.0
+      entries : HoldsEntries [] new.top.place new.bytes.items []
+      entries = (tt, λ k d i. absurd (omega (arith, i)), sym (nothing new.top place b.bytes), inside new.top place b.bytes)
 
-pub flat_ended : (old new : Sink) (k : ℕ) → old.top.stage ≡ stage.Rests → new.top.stage ≡ old.top.stage → new.top.bytes ≡ old.top.bytes → new.top.spans ≡ old.top.spans → old.top.flat ≡ new.top.flat + 1 → new.below ≡ old.below → StepsBy (λ s. close_map s.top s.around) old new
-flat_ended old new k at rest b ss flat below s h =
-    at_rests old.top (λ l. (t : State) × (close_map l s.around ≡ Some t) × HoldsAll t new) at (λ ps n held. by ps n held.0 (sym held.2 ∙ flat)) s.top h.0
-  where
-    by : (ps : List Pair) (n : ℕ) → HoldsEntries ps old.top.bytes.items old.top.spans.items → n ≡ new.top.flat + 1 → (t : State) × (close_map (in_map ps rests n) s.around ≡ Some t) × HoldsAll t new
-    by ps zero e m = absurd (omega (arith, m))
-    by ps (suc n) e m =
-        let P : List Frame → Type 0 = λ fs. Pairwise Holds s.around (reverse fs) in
-        (state (in_map ps rests n) s.around, refl, ((same_entries old.top new.top ps b ss e, rest ∙ at, omega (arith, m)), subst P (sym (ap (λ v. v.items) below)) h.1))
+      held : Holds (in_map [] rests 0) (part new.top new.bytes.items [])
+      held = ((at, entries), ap (λ (f : Frame). f.flat) b.top)
+
+      all : (l : Level) (ls : List Level) → Opens (l ∷ ls) (old.top ∷ reverse old.below.items) old.bytes.items old.spans.items → HoldsAll (state (in_map [] rests 0) (l ∷ ls)) new
+      all l ls p = begun (subst (λ k. Begins k old new) (sym at) b) (in_map [] rests 0) held (l ∷ ls) p
+
+      by : (l : Level) (ls : List Level) → Opens (l ∷ ls) (old.top ∷ reverse old.below.items) old.bytes.items old.spans.items → (t : State) × (begin_map l ls ≡ Some t) × HoldsAll t new
+      by (whole o) ls p = (_, refl, all (whole o) ls p)
+      by (in_list ts) ls p = (_, refl, all (in_list ts) ls p)
+      by (in_map ps rests k) ls p = (_, refl, all (in_map ps rests k) ls p)
+      by (in_map ps for_key k) ls p = (_, refl, all (in_map ps for_key k) ls p)
+      by (in_map ps (for_value v) k) ls p = (_, refl, all (in_map ps (for_value v) k) ls p)
+      by (in_map ps for_map k) ls p = absurd (n p.0.0.0)
+      by (in_link o) ls p = (_, refl, all (in_link o) ls p)
+
+  -- the innermost map alone changes: it gives its entries to the one around it, or no longer
+  pub flat_begun : old.top.stage ≡ stage.WantsMap → (flat : ℕ) → flat ≡ old.top.flat + 1 → new ≡ record old { top = record old.top { stage = stage.Rests; flat = flat } } → StepsBy (λ s. begin_map s.top s.around) old new
+  flat_begun at flat more is s h =
+      let P : Sink → Type 0 = λ k. (t : State) × (begin_map s.top s.around ≡ Some t) × HoldsAll t k in
+      subst P (sym is) (at_map (part old.top old.bytes.items (drop old.top.first old.spans.items)) (λ l. (t : State) × (begin_map l s.around ≡ Some t) × HoldsAll t (record old { top = record old.top { stage = stage.Rests; flat = flat } })) at (λ ps n held.
+      (state (in_map ps rests (suc n)) s.around, refl, (((refl, held.0.1), omega (arith, more, held.1)), h.1, h.2, h.3))) s.top h.0)
+
+  pub flat_ended : old.top.stage ≡ stage.Rests → (flat : ℕ) → old.top.flat ≡ flat + 1 → new ≡ record old { top = record old.top { flat = flat } } → StepsBy (λ s. close_map s.top s.around) old new
+  flat_ended at flat less is s h =
+      let P : Sink → Type 0 = λ k. (t : State) × (close_map s.top s.around ≡ Some t) × HoldsAll t k in
+      subst P (sym is) (at_rests (part old.top old.bytes.items (drop old.top.first old.spans.items)) (λ l. (t : State) × (close_map l s.around ≡ Some t) × HoldsAll t (record old { top = record old.top { flat = flat } })) at (λ ps n held. by ps n held.0 (sym held.1 ∙ less)) s.top h.0)
+    where
+      by : (ps : List Pair) (n : ℕ) → (old.top.stage ≡ stage.Rests) × HoldsEntries ps old.top.place old.bytes.items (drop old.top.first old.spans.items) → n ≡ flat + 1 → (t : State) × (close_map (in_map ps rests n) s.around ≡ Some t) × HoldsAll t (record old { top = record old.top { flat = flat } })
+      by ps zero e m = absurd (omega (arith, m))
+      by ps (suc n) e m = (state (in_map ps rests n) s.around, refl, ((e, omega (arith, m)), h.1, h.2, h.3))
 
 -- ---- ends
 
--- the tree of what was innermost is an item of what is around it
-closed : (t : Tree) (b : List ℕ) (ls : List Level) (around : Frame) (new : Sink) → IsGood t b → Puts b around new.top → Pairwise Holds ls (reverse (new.below.items ++ around ∷ [])) → (s : State) × (close (Some t) ls ≡ Some s) × HoldsAll s new
-closed t b ls around new good puts p = by ls (subst (λ fs. Pairwise Holds ls fs) (reverse-append new.below.items (around ∷ [])) p)
+-- What was innermost is left, and its item came to what is around it: first its bytes, behind those
+-- that stood before it.
+pub record Left (old new : Sink) (item : List ℕ) : Type 0 where
+  pub around : Frame
+  pub below : List Frame
+  pub left : old.below.items ≡ below ++ around ∷ []
+  pub kept : new.below.items ≡ below
+  pub spans : List Span
+  pub listed : spans ≡ take old.top.first old.spans.items
+  pub bytes : new.bytes.items ≡ take old.top.place old.bytes.items ++ item
+  pub lands : Lands around.stage old.top.place (length new.bytes.items) around spans new.top new.spans.items
+
+-- its tree is an item of what is around it
+closed : (t : Tree) (item : List ℕ) (old new : Sink) (ls : List Level) → IsGood t item → Left old new item → old.top.place ≤ length old.bytes.items → Opens ls (reverse old.below.items) (take old.top.place old.bytes.items) (take old.top.first old.spans.items) → (s : State) × (close (Some t) ls ≡ Some s) × HoldsAll s new
+closed t item old new ls good l inside h = by ls (subst P order h)
   where
-    by : (ls : List Level) → Pairwise Holds ls (around ∷ reverse new.below.items) → (s : State) × (close (Some t) ls ≡ Some s) × HoldsAll s new
+    b : List ℕ
+    b = take old.top.place old.bytes.items
+
+    P : List Frame → Type 0
+    P fs = Opens ls fs b (take old.top.first old.spans.items)
+
+    order : reverse old.below.items ≡ l.around ∷ reverse l.below
+    order = ap (λ fs. reverse fs) l.left ∙ reverse-append l.below (l.around ∷ [])
+
+    L : ℕ → ℕ → List Span → Type 0
+    L from to ss = Lands l.around.stage from to l.around ss new.top new.spans.items
+
+    lands : L (length b) (length (b ++ item)) (take old.top.first old.spans.items)
+    lands = subst (λ n. L n (length (b ++ item)) (take old.top.first old.spans.items)) (sym (length-take-le old.top.place old.bytes.items inside)) (subst (λ n. L old.top.place n (take old.top.first old.spans.items)) (ap length l.bytes) (subst (L old.top.place (length new.bytes.items)) l.listed l.lands))
+
+    by : (ls : List Level) → Opens ls (l.around ∷ reverse l.below) b (take old.top.first old.spans.items) → (s : State) × (close (Some t) ls ≡ Some s) × HoldsAll s new
     by [] q = absurd q
-    by (l ∷ ls) q =
-        let m = puts t good l q.0 in
-        (state m.0 ls, ap (option_map (λ k. state k ls)) m.1, (m.2, q.1))
+    by (k ∷ ls) q =
+        let m = landed t l.around new.top b item (take old.top.first old.spans.items) new.spans.items good lands k ls (reverse l.below) q in
+        let Q : List ℕ → Type 0 = λ x. Opens (m.0 ∷ ls) (new.top ∷ reverse l.below) x new.spans.items in
+        let R : List Frame → Type 0 = λ fs. Opens (m.0 ∷ ls) (new.top ∷ reverse fs) new.bytes.items new.spans.items in
+        (state m.0 ls, ap (option_map (λ j. state j ls)) m.1, subst R (sym l.kept) (subst Q (sym l.bytes) m.2))
+
+-- nothing is listed behind what is around
+pub all_listed : (n : ℕ) (ss : List Span) → drop n ss ≡ [] → ss ≡ take n ss
+all_listed n ss e = sym (take-append-drop n ss) ∙ ap (λ x. take n ss ++ x) e ∙ append-nil (take n ss)
 
 count_items : (ts : List Tree) → item_count (items_of ts) ≡ length ts
 count_items [] = refl
@@ -120,98 +200,100 @@ unfolding spelled
 good_list ts n b count fits e good =
     (ap₂ (λ (x y : Option (List ℕ)). x ++? y) (ap (spelled_head 4) (count_items ts ∙ sym count) ∙ head_is_spelled 4 n fits) e, good)
 
--- The call left what was innermost, put it into what is around it, and kept nothing else.
-pub record Left (old mid new : Sink) (f put_into : Frame) (h b : List ℕ) : Type 0 where
-  pub left : (f ≡ old.top) × (old.below.items ≡ mid.below.items ++ mid.top ∷ [])
-  pub puts : Puts (h ++ b) mid.top put_into
-  pub kept : (new.top ≡ put_into) × (new.below ≡ mid.below)
+-- what a list holds has no entries
+pub list_lists : (s : State) (sink : Sink) → sink.top.stage ≡ stage.List → HoldsAll s sink → drop sink.top.first sink.spans.items ≡ []
+list_lists s sink at h = at_list (part sink.top sink.bytes.items (drop sink.top.first sink.spans.items)) (λ l. drop sink.top.first sink.spans.items ≡ []) at (λ ts held. held.5) s.top h.0
 
-module _ (old mid new : Sink) (f p : Frame) (h b : List ℕ) (l : Left old mid new f p h b) where
-  pub puts_of : (c : List ℕ) → b ≡ c → Puts (h ++ c) mid.top new.top
-  puts_of c e =
-      let P : Frame → Type 0 = λ k. Puts (h ++ c) mid.top k in
-      let Q : List ℕ → Type 0 = λ k. Puts (h ++ k) mid.top p in
-      subst P (sym l.kept.0) (subst Q e l.puts)
+pub link_lists : (s : State) (sink : Sink) → sink.top.stage ≡ stage.Linked → HoldsAll s sink → drop sink.top.first sink.spans.items ≡ []
+link_lists s sink at h = at_linked (part sink.top sink.bytes.items (drop sink.top.first sink.spans.items)) (λ l. drop sink.top.first sink.spans.items ≡ []) at (λ cid held. held.2) s.top h.0
 
-  pub around_of : (ls : List Level) → Pairwise Holds ls (reverse old.below.items) → Pairwise Holds ls (reverse (new.below.items ++ mid.top ∷ []))
-  around_of ls q =
-      let P : List Frame → Type 0 = λ fs. Pairwise Holds ls (reverse fs) in
-      subst P (l.left.1 ∙ ap (λ v. v.items ++ mid.top ∷ []) (sym l.kept.1)) q
+pub list_ended : (old new : Sink) → old.top.stage ≡ stage.List → old.top.count < 2 ^ 64 → (drop old.top.first old.spans.items ≡ [] → Left old new (head 4 old.top.count ++ drop (old.top.place + 1) old.bytes.items)) → StepsBy (λ s. close (list_of s.top) s.around) old new
+list_ended old new at fits l s h =
+    at_list (part old.top old.bytes.items (drop old.top.first old.spans.items)) (λ k. (t : State) × (close (list_of k) s.around ≡ Some t) × HoldsAll t new) at (λ ts held.
+    closed (list (items_of ts)) _ old new s.around (good_list ts old.top.count (drop (old.top.place + 1) old.bytes.items) held.1 fits held.2 held.3) (l held.5) h.1 h.3) s.top h.0
 
-pub list_ended : (old mid new : Sink) (f p : Frame) (b : List ℕ) → old.top.stage ≡ stage.List → f.count < 2 ^ 64 → b ≡ f.bytes.items → Left old mid new f p (head 4 f.count) b → StepsBy (λ s. close (list_of s.top) s.around) old new
-list_ended old mid new f p b at fits is l s h =
-    at_list old.top (λ k. (t : State) × (close (list_of k) s.around ≡ Some t) × HoldsAll t new) at (λ ts held.
-    closed (list (items_of ts)) _ s.around mid.top new (good_list ts f.count old.top.bytes.items (ap (λ k. k.count) l.left.0 ∙ held.1) fits held.2 held.3) (puts_of old mid new f p (head 4 f.count) b l old.top.bytes.items (is ∙ ap (λ k. k.bytes.items) l.left.0)) (around_of old mid new f p (head 4 f.count) b l s.around h.1)) s.top h.0
-
-pub link_ended : (old mid new : Sink) (f p : Frame) (b : List ℕ) → old.top.stage ≡ stage.Linked → b ≡ f.bytes.items → Left old mid new f p (head 6 42) b → StepsBy (λ s. close_map s.top s.around) old new
-link_ended old mid new f p b at is l s h =
-    at_linked old.top (λ k. (t : State) × (close_map k s.around ≡ Some t) × HoldsAll t new) at (λ cid held.
-    closed (link cid) _ s.around mid.top new (good_link cid old.top.bytes.items held.1 held.2) (puts_of old mid new f p (head 6 42) b l old.top.bytes.items (is ∙ ap (λ k. k.bytes.items) l.left.0)) (around_of old mid new f p (head 6 42) b l s.around h.1)) s.top h.0
+pub link_ended : (old new : Sink) → old.top.stage ≡ stage.Linked → (drop old.top.first old.spans.items ≡ [] → Left old new (drop old.top.place old.bytes.items)) → StepsBy (λ s. close_map s.top s.around) old new
+link_ended old new at l s h =
+    at_linked (part old.top old.bytes.items (drop old.top.first old.spans.items)) (λ k. (t : State) × (close_map k s.around ≡ Some t) × HoldsAll t new) at (λ cid held.
+    closed (link cid) _ old new s.around held.1 (l held.2) h.1 h.3) s.top h.0
 
 -- a map has a tree where its entries stand in order
-good_map : (ps : List Pair) (b : List ℕ) (ss sorted : List Span) (n : ℕ) → HoldsEntries ps b ss → PutsInOrder (map (entry_at b) ss) (map (entry_at b) sorted) true → All (IsWithin (length b)) sorted → n ≡ length (map (entry_at b) sorted) → n < 2 ^ 64
-    → (t : Tree) × (entries_tree ps ≡ Some t) × IsGood t (head 5 n ++ flat_map (whole_at b) sorted)
-good_map ps b ss sorted n h order within count fits =
-    let is = in_order false ps (map (entry_at b) ss) (map (entry_at b) sorted) h.0 order in
-    let text : spelled_tree (entries_tree ps) ≡ Some (head 5 n ++ flat_map (whole_at b) sorted) =
-    is.text ∙ ap₂ (λ (x y : Option (List ℕ)). x ++? y) (ap (spelled_head 5) (sym count) ∙ head_is_spelled 5 n fits) (ap Some (sym (entries_are b sorted (recursion_from_All (IsWithin (length b)) sorted within)))) in
+good_map : (ps : List Pair) (place : ℕ) (b c : List ℕ) (ss : List Span) (n : ℕ) → HoldsEntries ps place b ss → (p : PutsEntries place b ss c n) → n < 2 ^ 64 → (t : Tree) × (entries_tree ps ≡ Some t) × IsGood t (head 5 n ++ entries_bytes p.0)
+good_map ps place b c ss n h p fits =
+    let is = in_order false ps _ p.0 h.0 p.1 in
+    let text : spelled_tree (entries_tree ps) ≡ Some (head 5 n ++ entries_bytes p.0) =
+    is.text ∙ ap (λ (x : Option (List ℕ)). x ++? Some (entries_bytes p.0)) (ap (spelled_head 5) (sym p.3) ∙ head_is_spelled 5 n fits) in
     by (entries_tree ps) refl text is.good
   where
-    by : (o : Option Tree) → entries_tree ps ≡ o → spelled_tree o ≡ Some (head 5 n ++ flat_map (whole_at b) sorted) → IfSome o IsTree → (t : Tree) × (entries_tree ps ≡ Some t) × IsGood t (head 5 n ++ flat_map (whole_at b) sorted)
+    by : (o : Option Tree) → entries_tree ps ≡ o → spelled_tree o ≡ Some (head 5 n ++ entries_bytes p.0) → IfSome o IsTree → (t : Tree) × (entries_tree ps ≡ Some t) × IsGood t (head 5 n ++ entries_bytes p.0)
     by None e f g = cc
     by (Some t) e f g = (t, e, (f, g))
 
-pub map_ended : (old mid new : Sink) (f p : Frame) (b c : List ℕ) (sorted : List Span) (n : ℕ) → old.top.stage ≡ stage.Rests → old.top.flat ≡ 0 → c ≡ f.bytes.items → b ≡ flat_map (whole_at c) sorted
-    → (All (IsWithin (length c)) f.spans.items → PutsInOrder (map (entry_at c) f.spans.items) (map (entry_at c) sorted) true)
-    → (All (IsWithin (length c)) f.spans.items → All (IsWithin (length c)) sorted)
-    → n ≡ length sorted → n < 2 ^ 64 → Left old mid new f p (head 5 n) b → StepsBy (λ s. close_map s.top s.around) old new
-map_ended old mid new f p b c sorted n at flat same is order within count fits l s h =
-    at_rests old.top (λ k. (t : State) × (close_map k s.around ≡ Some t) × HoldsAll t new) at (λ ps k held. by ps k held.0 (sym held.2 ∙ flat)) s.top h.0
-  where
-    entries : (ps : List Pair) → HoldsEntries ps old.top.bytes.items old.top.spans.items → HoldsEntries ps c f.spans.items
-    entries ps e =
-        let P : List ℕ → Type 0 = λ x. HoldsEntries ps x f.spans.items in
-        let Q : Frame → Type 0 = λ k. HoldsEntries ps k.bytes.items k.spans.items in
-        subst P (sym same) (subst Q (sym l.left.0) e)
+-- the entries stand behind the byte of the head, and what is before it is as it was
+pub entries_stand : (place : ℕ) (b c : List ℕ) (ss : List Span) (n : ℕ) → place < length b → (p : PutsEntries place b ss c n) → (take place c ≡ take place b) × (drop (place + 1) c ≡ entries_bytes p.0)
+entries_stand place b c ss n h p =
+    let short : place ≤ length (take (place + 1) b) = omega (arith, h, length-take-le (place + 1) b (omega (arith, h))) in
+    let same : take place (take (place + 1) b) ≡ take place b = sym (take-append-le place (take (place + 1) b) (drop (place + 1) b) short) ∙ ap (take place) (take-append-drop (place + 1) b) in
+    (ap (take place) p.2 ∙ take-append-le place (take (place + 1) b) (entries_bytes p.0) short ∙ same, ap (drop (place + 1)) p.2 ∙ drop_at (take (place + 1) b) (entries_bytes p.0) (place + 1) (length-take-le (place + 1) b (omega (arith, h))))
 
-    by : (ps : List Pair) (k : ℕ) → HoldsEntries ps old.top.bytes.items old.top.spans.items → k ≡ 0 → (t : State) × (close_map (in_map ps rests k) s.around ≡ Some t) × HoldsAll t new
+pub map_ended : (old new : Sink) (c : List ℕ) (n : ℕ) → old.top.stage ≡ stage.Rests → old.top.flat ≡ 0 → n < 2 ^ 64
+    → PutsEach old.top.place old.bytes.items (drop old.top.first old.spans.items) c n
+    → ((item : List ℕ) → take old.top.place c ++ (head 5 n ++ drop (old.top.place + 1) c) ≡ take old.top.place old.bytes.items ++ item → Left old new item)
+    → StepsBy (λ s. close_map s.top s.around) old new
+map_ended old new c n at flat fits puts l s h =
+    at_rests (part old.top old.bytes.items (drop old.top.first old.spans.items)) (λ k. (t : State) × (close_map k s.around ≡ Some t) × HoldsAll t new) at (λ ps k held. by ps k held.0.1 (sym held.1 ∙ flat)) s.top h.0
+  where
+    by : (ps : List Pair) (k : ℕ) → HoldsEntries ps old.top.place old.bytes.items (drop old.top.first old.spans.items) → k ≡ 0 → (t : State) × (close_map (in_map ps rests k) s.around ≡ Some t) × HoldsAll t new
     by ps (suc k) e m = absurd (omega (arith, m))
     by ps zero e m =
-        let there = entries ps e in
-        let tree = good_map ps c f.spans.items sorted n there (order there.1) (within there.1) (count ∙ sym (length-map sorted (entry_at c))) fits in
-        let done = closed tree.0 _ s.around mid.top new tree.2 (puts_of old mid new f p (head 5 n) b l (flat_map (whole_at c) sorted) is) (around_of old mid new f p (head 5 n) b l s.around h.1) in
+        let p = puts ps e in
+        let tree = good_map ps old.top.place old.bytes.items c (drop old.top.first old.spans.items) n e p fits in
+        let stand = entries_stand old.top.place old.bytes.items c (drop old.top.first old.spans.items) n e.3 p in
+        let is = ap₂ (λ x y. x ++ (head 5 n ++ y)) stand.0 stand.1 in
+        let done = closed tree.0 _ old new s.around tree.2 (l (head 5 n ++ entries_bytes p.0) is) h.1 h.3 in
         (done.0, ap (λ o. close o s.around) tree.1 ∙ done.1, done.2)
 
 -- ---- the whole
 
-pub all_finished : (s : State) (sink : Sink) → sink.top.stage ≡ stage.Full → sink.below.items ≡ [] → HoldsAll s sink → (t : Tree) × (finished s ≡ Some t) × IsGood t sink.top.bytes.items
+pub all_finished : (s : State) (sink : Sink) → sink.top.stage ≡ stage.Full → sink.below.items ≡ [] → HoldsAll s sink → (t : Tree) × (finished s ≡ Some t) × IsGood t sink.bytes.items
 all_finished s sink at none h =
-    at_full sink.top (λ l. (t : Tree) × (only_item l s.around ≡ Some t) × IsGood t sink.top.bytes.items) at (λ u held. by u s.around held.1 (subst (λ fs. Pairwise Holds s.around (reverse fs)) none h.1)) s.top h.0
+    at_full (part sink.top sink.bytes.items (drop sink.top.first sink.spans.items)) (λ l. (t : Tree) × (only_item l s.around ≡ Some t) × IsGood t sink.bytes.items) at (λ u held. by u s.around held.1 (subst P none h.3)) s.top h.0
   where
-    by : (u : Tree) (ls : List Level) → IsGood u sink.top.bytes.items → Pairwise Holds ls [] → (t : Tree) × (only_item (whole (Some u)) ls ≡ Some t) × IsGood t sink.top.bytes.items
+    P : List Frame → Type 0
+    P fs = Opens s.around (reverse fs) (take sink.top.place sink.bytes.items) (take sink.top.first sink.spans.items)
+
+    by : (u : Tree) (ls : List Level) → IsGood u sink.bytes.items → Opens ls [] (take sink.top.place sink.bytes.items) (take sink.top.first sink.spans.items) → (t : Tree) × (only_item (whole (Some u)) ls ≡ Some t) × IsGood t sink.bytes.items
     by u [] g p = (u, refl, g)
     by u (l ∷ ls) g p = absurd p
 
--- ---- where a call succeeds
+-- ---- what is left, by the steps of a call
 
-module _ {T E : Type 0} (r : Result T E) (old new : Sink) where
-  pub list_opens : OnOk r (IsFresh stage.List new.top) → OnOk r (new.below.items ≡ old.below.items ++ old.top ∷ []) → OnOk r (StepsBy (begin (in_list [])) old new)
-  list_opens f b = by r f b
-    where
-      by : (r : Result T E) → OnOk r (IsFresh stage.List new.top) → OnOk r (new.below.items ≡ old.below.items ++ old.top ∷ []) → OnOk r (StepsBy (begin (in_list [])) old new)
-      by (Ok u) f b = list_begun old new f b
-      by (Err e) f b = tt
+module _ (old new : Sink) (f around : Frame) (below : List Frame) (spans : List Span) (out : List ℕ) (is : f ≡ old.top) (left : old.below.items ≡ below ++ around ∷ []) (all : new.bytes.items ≡ out) (kept : new.below.items ≡ below) (lands : Lands around.stage f.place (length out) around spans new.top new.spans.items) where
+  leaves : (item : List ℕ) → spans ≡ take old.top.first old.spans.items → out ≡ take old.top.place old.bytes.items ++ item → Left old new item
+  leaves item listed bytes =
+      let P : ℕ → ℕ → Type 0 = λ from to. Lands around.stage from to around spans new.top new.spans.items in
+      record {
+        around = around;
+        below = below;
+        left = left;
+        kept = kept;
+        spans = spans;
+        listed = listed;
+        bytes = all ∙ bytes;
+        lands = subst (λ (g : Frame). P g.place (length new.bytes.items)) is (subst (λ x. P f.place (length x)) (sym all) lands);
+      }
 
-  pub map_opens : (old.top.stage ≡ stage.WantsMap → ⊥) → OnOk r (IsFresh stage.Rests new.top) → OnOk r (new.below.items ≡ old.below.items ++ old.top ∷ []) → OnOk r (StepsBy (λ s. begin_map s.top s.around) old new)
-  map_opens n f b = by r f b
-    where
-      by : (r : Result T E) → OnOk r (IsFresh stage.Rests new.top) → OnOk r (new.below.items ≡ old.below.items ++ old.top ∷ []) → OnOk r (StepsBy (λ s. begin_map s.top s.around) old new)
-      by (Ok u) f b = map_begun old new n f b
-      by (Err e) f b = tt
+  pub list_closes : (b : List ℕ) → spans ≡ old.spans.items → b ≡ old.bytes.items → old.top.stage ≡ stage.List → f.count < 2 ^ 64 → out ≡ take f.place b ++ (head 4 f.count ++ drop (f.place + 1) b) → StepsBy (λ s. close (list_of s.top) s.around) old new
+  list_closes b listed same at fits set = list_ended old new at (subst (λ (g : Frame). g.count < 2 ^ 64) is fits) (λ none. leaves (head 4 old.top.count ++ drop (old.top.place + 1) old.bytes.items) (listed ∙ all_listed old.top.first old.spans.items none)
+      (set ∙ ap₂ (λ (g : Frame) x. take g.place x ++ (head 4 g.count ++ drop (g.place + 1) x)) is same))
 
-  pub top_moves : (next : Level → Option Level) → OnOk r (Moves next old.top new.top) → new.below.items ≡ old.below.items → OnOk r (MovesTop next old new)
-  top_moves next m b = by r m
-    where
-      by : (r : Result T E) → OnOk r (Moves next old.top new.top) → OnOk r (MovesTop next old new)
-      by (Ok u) m = (m, b)
-      by (Err e) m = tt
+  pub link_closes : spans ≡ old.spans.items → out ≡ old.bytes.items → old.top.stage ≡ stage.Linked → StepsBy (λ s. close_map s.top s.around) old new
+  link_closes listed same at = link_ended old new at (λ none. leaves (drop old.top.place old.bytes.items) (listed ∙ all_listed old.top.first old.spans.items none) (same ∙ sym (take-append-drop old.top.place old.bytes.items)))
+
+  pub map_closes : (b c : List ℕ) (ss : List Span) (n : ℕ) → b ≡ old.bytes.items → ss ≡ old.spans.items → old.top.stage ≡ stage.Rests → old.top.flat ≡ 0 → n < 2 ^ 64 → spans ≡ take f.first ss
+      → PutsEach f.place b (drop f.first ss) c n
+      → out ≡ take f.place c ++ (head 5 n ++ drop (f.place + 1) c) → StepsBy (λ s. close_map s.top s.around) old new
+  map_closes b c ss n bytes listed at flat fits rest puts set =
+      let P : Frame → List ℕ → List Span → Type 0 = λ g x ys. PutsEach g.place x (drop g.first ys) c n in
+      map_ended old new c n at flat fits (subst (λ g. P g old.bytes.items old.spans.items) is (subst (λ x. P f x old.spans.items) bytes (subst (P f b) listed puts)))
+      (λ item e. leaves item (rest ∙ ap₂ (λ (g : Frame) x. take g.first x) is listed) (set ∙ ap (λ (g : Frame). take g.place c ++ (head 5 n ++ drop (g.place + 1) c)) is ∙ e))

@@ -2,6 +2,7 @@ pub mod Spans
 pub mod AtStages
 pub mod Levels
 pub mod Leaves
+pub mod Opening
 pub mod Closing
 pub mod Logs
 pub mod Props

@@ -1,19 +1,16 @@
 -- What follows one more event.
 use Rattle.std.proofs.Common.{◌≡◌, ℕ, List, [], ◌∷◌, ◌++◌, Option, Some, None, Bool, true, false, sym, ap, ◌∙◌, subst, Vec, Global}
 use mathlib.Core.Logic.{∥∥₁_map, ∥∥₁_elim}
-use Rattle.std.specs.Prelude.{option_map, option_and_then, IsSomeAnd, Result, Ok, Err, IfOk}
+use Rattle.std.specs.Prelude.{option_and_then, IsSomeAnd, Result, Ok, Err, IfOk}
 use Rattle.serde.specs.Event.{Event, Log}
 use Rattle.ipld_tree.specs.Tree.{Tree}
 use Rattle.ipld_tree.specs.Spelling.{IsSpelling}
 use Rattle.ipld_tree.proofs.Spelled.{spelled_is}
 use Rattle.dagcbor_serde.specs.Blocks.{IsBlockOf}
-use Rattle.dagcbor_serde.specs.Building.{Level, State, state, start, step, steps, on_top, finished, events_tree}
-use Rattle.dagcbor_serde.specs.Holds.{IsGood, Holds, HoldsAll, MovesTop, StepsBy, Follows, FollowsUnless, IsGoodLog}
+use Rattle.dagcbor_serde.specs.Building.{State, start, step, steps, finished, events_tree}
+use Rattle.dagcbor_serde.specs.Holds.{IsGood, HoldsAll, StepsBy, Follows, FollowsUnless, IsGoodLog}
 use Rattle.dagcbor_serde.specs.Logged.{then}
-use Rattle.std.specs.Prelude.{reverse}
 use Rattle.dagcbor_serde.proofs.Props.{log_prop}
-use Rattle.dagcbor_write.specs.Pairwise.{Pairwise}
-use Rattle.dagcbor_serde.specs.declared.frame.Frame.{Frame}
 use Rattle.dagcbor_serde.specs.declared.sink.Sink.{Sink}
 
 behind : (f g : State → Option State) (o : Option State) (t u : State) → ((m : State) → f m ≡ Some t → g m ≡ Some u) → option_and_then f o ≡ Some t → option_and_then g o ≡ Some u
@@ -33,16 +30,6 @@ follows_step (Some es) e old new m h =
     let next = m h.0 h.2 in
     (next.0, steps_push es e start h.0 next.0 h.1 next.1, next.2)
 
--- a step of the innermost alone
-pub top_step : (next : Level → Option Level) (old new : Sink) → MovesTop next old new → StepsBy (on_top next) old new
-top_step next old new m s h =
-    let l = m.0 s.top h.0 in
-    let P : Sink → Type 0 = λ k. HoldsAll (state l.0 s.around) k in
-    (state l.0 s.around, ap (option_map (λ k. state k s.around)) l.1, (l.2, subst (λ fs. around s fs) (sym m.1) h.1))
-  where
-    around : State → List Frame → Type 0
-    around s fs = Pairwise Holds s.around (reverse fs)
-
 -- what was sent is finished
 pub finished_log : (log : Log) (sink : Sink) (b : List ℕ) → ((s : State) → HoldsAll s sink → (t : Tree) × (finished s ≡ Some t) × IsGood t b) → Follows log sink → IsGoodLog log b
 finished_log None sink b f h = absurd h
@@ -55,10 +42,6 @@ finished_log (Some es) sink b f h =
 pub follows_more : (failed : Bool) (log : Log) (e : Event) (old new : Sink) (more : Log) → ∥ FollowsUnless failed log old ∥₁ → StepsBy (step e) old new → more ≡ then log e → ∥ FollowsUnless failed more new ∥₁
 follows_more true log e old new more h m is = h
 follows_more false log e old new more h m is = subst (λ k. ∥ Follows k new ∥₁) (sym is) (∥∥₁_map h (follows_step log e old new m))
-
--- the same of the innermost alone
-pub top_follows : (failed : Bool) (log : Log) (e : Event) (next : Level → Option Level) (old new : Sink) (more : Log) → ((s : State) → step e s ≡ on_top next s) → ∥ FollowsUnless failed log old ∥₁ → MovesTop next old new → more ≡ then log e → ∥ FollowsUnless failed more new ∥₁
-top_follows failed log e next old new more by h m is = follows_more failed log e old new more h (λ s k. let t = top_step next old new m s k in (t.0, by s ∙ t.1, t.2)) is
 
 -- what is known at the end
 pub known_log : (failed : Bool) (log : Log) (sink : Sink) (b : List ℕ) → failed ≡ false → ∥ FollowsUnless failed log sink ∥₁ → ((s : State) → HoldsAll s sink → (t : Tree) × (finished s ≡ Some t) × IsGood t b) → IsGoodLog log b

@@ -1,16 +1,16 @@
 -- Entries that stand in one buffer.
-use Rattle.std.proofs.Common.{◌≡◌, ℕ, zero, suc, ◌+◌, ◌-◌, ◌<◌, ◌≤◌, List, [], ◌∷◌, ◌++◌, length, map, get_or, take, drop, refl, sym, ap, ap₂, ◌∙◌, subst, arith, length-append}
+use Rattle.std.proofs.Common.{◌≡◌, ℕ, zero, suc, ◌+◌, ◌-◌, ◌<◌, ◌≤◌, List, [], ◌∷◌, ◌++◌, length, map, get_or, take, drop, refl, sym, ap, ap₂, ◌∙◌, subst, arith, length-append, append_assoc}
 use Rattle.std.proofs.lemmas.List.{take-append-le, drop-append-le, take_all, drop-drop, length-drop, get_or-map, get_or_default, length-map, map_push}
 use Rattle.std.proofs.lemmas.List.Elements.{All-get_or, All-push, recursion_from_All}
 use Rattle.std.proofs.Math.Seq.{drop-append_seam}
-use Rattle.std.specs.List.{All, AllByRecursion, slice_range}
+use Rattle.std.specs.List.{All, AllByRecursion, slice_range, flat_map}
 use Rattle.std.specs.List.Sorted.{IsSortedBy}
 use Rattle.std.specs.Ordering.{is_lt}
 use Rattle.ipld_tree.specs.Key.{bytes_cmp}
 use Rattle.dagcbor_write.specs.Maps.{Texts}
-use Rattle.dagcbor_write.specs.Order.{goes_before}
+use Rattle.dagcbor_write.specs.Order.{goes_before, entries_bytes}
 use Rattle.dagcbor_serde.specs.declared.frame.Span.{Span}
-use Rattle.dagcbor_serde.specs.Holds.{entry_at, IsWithin}
+use Rattle.dagcbor_serde.specs.Holds.{entry_at, whole_at, IsWithin}
 
 range_stays : (bs more : List ℕ) (a b : ℕ) → a ≤ b → b ≤ length bs → slice_range (bs ++ more) a b ≡ slice_range bs a b
 range_stays bs more a b h k = ap (take (b - a)) (drop-append-le a bs more (omega arith)) ∙ take-append-le (b - a) (drop a bs) more (omega (arith, length-drop a bs))
@@ -22,6 +22,13 @@ all_stay bs more (s ∷ ss) w = ap₂ (λ e es. e ∷ es) (ap₂ (λ k v. (k, v)
 -- bytes that are appended leave the entries as they are
 pub entries_stay : (bs more : List ℕ) (ss : List Span) → All (IsWithin (length bs)) ss → map (entry_at (bs ++ more)) ss ≡ map (entry_at bs) ss
 entries_stay bs more ss w = all_stay bs more ss (recursion_from_All (IsWithin (length bs)) ss w)
+
+all_wholes : (bs more : List ℕ) (ss : List Span) → AllByRecursion (IsWithin (length bs)) ss → flat_map (whole_at (bs ++ more)) ss ≡ flat_map (whole_at bs) ss
+all_wholes bs more [] w = refl
+all_wholes bs more (s ∷ ss) w = ap₂ (λ e es. e ++ es) (range_stays bs more s.start s.end (omega (arith, w.0)) w.0.2) (all_wholes bs more ss w.1)
+
+pub wholes_stay : (bs more : List ℕ) (ss : List Span) → All (IsWithin (length bs)) ss → flat_map (whole_at (bs ++ more)) ss ≡ flat_map (whole_at bs) ss
+wholes_stay bs more ss w = all_wholes bs more ss (recursion_from_All (IsWithin (length bs)) ss w)
 
 -- places stay within bytes that grow
 pub within_stays : (bs more : List ℕ) (ss : List Span) → All (IsWithin (length bs)) ss → All (IsWithin (length (bs ++ more))) ss
@@ -75,3 +82,11 @@ entries_sorted n bs ss w sorted k d low h =
     let first = entry_is n bs ss k s d (omega (arith, inside)) (get_or_default ss k none s (omega (arith, inside))) w in
     let next = entry_is n bs ss (k + 1) t d inside (get_or_default ss (k + 1) none t inside) w in
     ap₂ (λ x y. is_lt (bytes_cmp x y)) (sym next) (sym first) ∙ sorted k none low inside
+
+entries_bytes_are : (b : List ℕ) (ss : List Span) → AllByRecursion (IsWithin (length b)) ss → flat_map (whole_at b) ss ≡ entries_bytes (map (entry_at b) ss)
+entries_bytes_are b [] w = refl
+entries_bytes_are b (s ∷ ss) w = ap₂ (λ x y. x ++ y) (sym (one_range b s w.0.0 w.0.1)) (entries_bytes_are b ss w.1) ∙ append_assoc (entry_at b s).0 (entry_at b s).1 (entries_bytes (map (entry_at b) ss))
+
+-- what stands there, one behind the other, are the entries
+pub entries_are : (b : List ℕ) (ss : List Span) → All (IsWithin (length b)) ss → flat_map (whole_at b) ss ≡ entries_bytes (map (entry_at b) ss)
+entries_are b ss w = entries_bytes_are b ss (recursion_from_All (IsWithin (length b)) ss w)

@@ -1,16 +1,18 @@
 -- What the writer holds for what is open; for private clauses.
-use Rattle.std.specs.Prelude.{◌≡◌, ℕ, ◌≤◌, List, [], ◌∷◌, length, map, drop, Option, Some, None}
-use Rattle.std.specs.Prelude.{reverse, slice_range, Bool, true, false, IsSomeAnd, ⊤}
-use Rattle.std.specs.List.{All}
+use Rattle.std.specs.Prelude.{◌≡◌, ℕ, zero, ◌+◌, ◌≤◌, ◌<◌, List, [], ◌∷◌, ◌++◌, length, map, take}
+use Rattle.std.specs.Prelude.{drop, Option, Some, None, reverse, slice_range, Bool, true, false}
+use Rattle.std.specs.Prelude.{IsSomeAnd, ⊤}
+use Rattle.std.specs.List.{All, flat_map}
+use Rattle.std.specs.List.Sorted.{IsSortedBy}
 use Rattle.serde.specs.Event.{Log}
-use Rattle.ipld_tree.specs.Tree.{Tree, text, bytes, IsTree, AreItems, items_of}
+use Rattle.ipld_tree.specs.Tree.{Tree, text, link, IsTree, AreItems, items_of}
 use Rattle.ipld_tree.specs.Spelled.{spelled, spelled_items}
-use Rattle.ipld_tree.specs.Cid.{IsCid}
-use Rattle.dagcbor_write.specs.Pairwise.{Pairwise}
 use Rattle.dagcbor_write.specs.Trees.{Pair}
 use Rattle.dagcbor_write.specs.Maps.{Texts, AreSpellingsOf}
+use Rattle.dagcbor_write.specs.Order.{PutsInOrder, KeysDiffer, goes_before, entries_bytes}
 use Rattle.dagcbor_serde.specs.Building.{Wait, rests, for_key, for_value, for_map, Level, whole, in_list}
-use Rattle.dagcbor_serde.specs.Building.{in_map, in_link, State, put, put_key, steps, start, events_tree}
+use Rattle.dagcbor_serde.specs.Building.{in_map, in_link, State, put, put_key, on_top, steps, start}
+use Rattle.dagcbor_serde.specs.Building.{events_tree}
 use Rattle.dagcbor_serde.specs.declared.frame.Frame.{Frame}
 use Rattle.dagcbor_serde.specs.declared.frame.Span.{Span}
 use Rattle.dagcbor_serde.specs.declared.frame.Stage.{Stage}
@@ -20,6 +22,8 @@ use Rattle.dagcbor_serde.specs.declared.sink.Sink.{Sink}
 -- the bytes are the spelling of a well-formed tree
 abbrev pub IsGood : Tree → List ℕ → Type 0
 IsGood t b = (spelled t ≡ Some b) × IsTree t
+
+-- ---- entries
 
 -- the key and the value that stand there
 abbrev pub entry_at : List ℕ → Span → Texts
@@ -33,37 +37,69 @@ whole_at b s = slice_range b s.start s.end
 abbrev pub IsWithin : ℕ → Span → Type 0
 IsWithin n s = (s.start ≤ s.key_end) × (s.key_end ≤ s.end) × (s.end ≤ n)
 
-abbrev pub HoldsEntries : List Pair → List ℕ → List Span → Type 0
-HoldsEntries ps b spans = AreSpellingsOf ps (map (entry_at b) spans) × All (IsWithin (length b)) spans
+-- the entries stand in the order of their bytes, and no key is that of the one before it
+abbrev pub AreInOrder : List Texts → Type 0
+AreInOrder es = IsSortedBy goes_before es × KeysDiffer es true
 
-abbrev pub HoldsWait : Wait → Frame → Type 0
-HoldsWait rests f = f.stage ≡ stage.Rests
-HoldsWait for_key f = f.stage ≡ stage.WantsKey
-HoldsWait for_map f = f.stage ≡ stage.WantsMap
-HoldsWait (for_value k) f = (f.stage ≡ stage.WantsValue) × (f.key ≤ length f.bytes.items)
-    × IsGood (text k) (drop f.key f.bytes.items)
+-- the entries are all that stands behind the byte at the place
+abbrev pub HoldsEntries : List Pair → ℕ → List ℕ → List Span → Type 0
+HoldsEntries ps place b ss = AreSpellingsOf ps (map (entry_at b) ss) × All (IsWithin (length b)) ss
+    × (flat_map (whole_at b) ss ≡ drop (place + 1) b) × (place < length b)
 
-abbrev pub Holds : Level → Frame → Type 0
-Holds (whole None) f = (f.stage ≡ stage.Vacant) × (f.bytes.items ≡ [])
-Holds (whole (Some t)) f = (f.stage ≡ stage.Full) × IsGood t f.bytes.items
-Holds (in_list ts) f = (f.stage ≡ stage.List) × (f.count ≡ length ts)
-    × (spelled_items (items_of ts) ≡ Some f.bytes.items) × AreItems (items_of ts)
-Holds (in_map ps w n) f = HoldsEntries ps f.bytes.items f.spans.items × HoldsWait w f × (f.flat ≡ n)
-Holds (in_link None) f = (f.stage ≡ stage.Link) × (f.bytes.items ≡ [])
-Holds (in_link (Some cid)) f = (f.stage ≡ stage.Linked) × IsGood (bytes (0x00 ∷ cid)) f.bytes.items
-    × IsCid cid
+-- these entries were put in order, and are all that stands behind the byte at the place now
+abbrev pub PutsEntries : ℕ → List ℕ → List Span → List ℕ → ℕ → Type 0
+PutsEntries place old ss new n = (es : List Texts) × PutsInOrder (map (entry_at old) ss) es true
+    × (new ≡ take (place + 1) old ++ entries_bytes es) × (n ≡ length es)
 
--- where a level is held, its successor is
-abbrev pub Moves : (Level → Option Level) → Frame → Frame → Type 0
-Moves next old new = (l : Level) → Holds l old → (m : Level) × (next l ≡ Some m) × Holds m new
+abbrev pub PutsEach : ℕ → List ℕ → List Span → List ℕ → ℕ → Type 0
+PutsEach place old ss new n = (ps : List Pair) → HoldsEntries ps place old ss
+    → PutsEntries place old ss new n
 
--- an item of this spelling is put
-abbrev pub Puts : List ℕ → Frame → Frame → Type 0
-Puts b old new = (t : Tree) → IsGood t b → Moves (put t) old new
+-- ---- what is open
 
--- what is open is held
+-- what is open, with the bytes up to its end, and its entries
+pub record Part : Type 0 where
+  pub frame : Frame
+  pub bytes : List ℕ
+  pub spans : List Span
+
+abbrev pub part : Frame → List ℕ → List Span → Part
+part f b ss = record { frame = f; bytes = b; spans = ss }
+
+abbrev pub HoldsWait : Wait → List Pair → Part → Type 0
+HoldsWait rests ps p = (p.frame.stage ≡ stage.Rests) × HoldsEntries ps p.frame.place p.bytes p.spans
+HoldsWait for_key ps p = (p.frame.stage ≡ stage.WantsKey)
+    × HoldsEntries ps p.frame.place p.bytes p.spans
+HoldsWait for_map ps p = (p.frame.stage ≡ stage.WantsMap)
+    × HoldsEntries ps p.frame.place p.bytes p.spans
+HoldsWait (for_value k) ps p = (p.frame.stage ≡ stage.WantsValue)
+    × HoldsEntries ps p.frame.place (take p.frame.key p.bytes) p.spans
+    × IsGood (text k) (drop p.frame.key p.bytes) × (p.frame.key ≤ length p.bytes)
+
+abbrev pub Holds : Level → Part → Type 0
+Holds (whole None) p = (p.frame.stage ≡ stage.Vacant) × (p.bytes ≡ [])
+Holds (whole (Some t)) p = (p.frame.stage ≡ stage.Full) × IsGood t p.bytes
+Holds (in_list ts) p = (p.frame.stage ≡ stage.List) × (p.frame.count ≡ length ts)
+    × (spelled_items (items_of ts) ≡ Some (drop (p.frame.place + 1) p.bytes))
+    × AreItems (items_of ts) × (p.frame.place < length p.bytes) × (p.spans ≡ [])
+Holds (in_map ps w n) p = HoldsWait w ps p × (p.frame.flat ≡ n)
+Holds (in_link None) p = (p.frame.stage ≡ stage.Link) × (length p.bytes ≡ p.frame.place)
+    × (p.spans ≡ [])
+Holds (in_link (Some cid)) p = (p.frame.stage ≡ stage.Linked)
+    × IsGood (link cid) (drop p.frame.place p.bytes) × (p.spans ≡ [])
+
+-- what is open is held, from the inside out: each has the bytes and the entries behind those of
+-- what is around it
+abbrev pub Opens : List Level → List Frame → List ℕ → List Span → Type 0
+Opens [] [] b ss = ⊤
+Opens [] (f ∷ fs) b ss = ⊥
+Opens (l ∷ ls) [] b ss = ⊥
+Opens (l ∷ ls) (f ∷ fs) b ss = Holds l (part f b (drop f.first ss)) × (f.place ≤ length b)
+    × (f.first ≤ length ss) × Opens ls fs (take f.place b) (take f.first ss)
+
 abbrev pub HoldsAll : State → Sink → Type 0
-HoldsAll s sink = Holds s.top sink.top × Pairwise Holds s.around (reverse sink.below.items)
+HoldsAll s sink = Opens (s.top ∷ s.around) (sink.top ∷ reverse sink.below.items) sink.bytes.items
+    sink.spans.items
 
 -- where a state is held, its successor is
 abbrev pub StepsBy : (State → Option State) → Sink → Sink → Type 0
@@ -71,17 +107,38 @@ StepsBy next old new = (s : State) → HoldsAll s old → (t : State) × (next s
 
 -- the innermost alone moves
 abbrev pub MovesTop : (Level → Option Level) → Sink → Sink → Type 0
-MovesTop next old new = Moves next old.top new.top × (new.below.items ≡ old.below.items)
+MovesTop next old new = StepsBy (on_top next) old new
+
+-- an item of this spelling is put
+abbrev pub Puts : List ℕ → Sink → Sink → Type 0
+Puts b old new = (t : Tree) → IsGood t b → MovesTop (put t) old new
+
+-- an item came, whose bytes stand between these places
+abbrev pub Lands : Stage → ℕ → ℕ → Frame → List Span → Frame → List Span → Type 0
+Lands stage.Vacant from to f ss g ts = (g ≡ record f { stage = stage.Full }) × (ts ≡ ss)
+Lands stage.List from to f ss g ts = (g ≡ record f { count = f.count + 1 }) × (ts ≡ ss)
+Lands stage.WantsValue from to f ss g ts = (g ≡ record f { stage = stage.Rests })
+    × (ts ≡ ss ++ (record { start = f.key; key_end = from; end = to }) ∷ [])
+Lands _ from to f ss g ts = ⊥
 
 -- a name as a key, or as a text
 abbrev pub named : Bool → List ℕ → Level → Option Level
 named true k = put_key k
 named false k = put (text k)
 
--- a frame that holds nothing
-abbrev pub IsFresh : Stage → Frame → Type 0
-IsFresh stage f = (f.stage ≡ stage) × (f.bytes.items ≡ []) × (f.spans.items ≡ []) × (f.count ≡ 0)
-    × (f.flat ≡ 0)
+-- a list or a map was begun behind all bytes and all entries
+pub record Begins (s : Stage) (old new : Sink) : Type 0 where
+  pub top : new.top ≡ record {
+    stage = s;
+    place = length old.bytes.items;
+    first = length old.spans.items;
+    count = 0;
+    key = 0;
+    flat = 0;
+  }
+  pub bytes : new.bytes.items ≡ old.bytes.items ++ 0x00 ∷ []
+  pub spans : new.spans.items ≡ old.spans.items
+  pub below : new.below.items ≡ old.below.items ++ old.top ∷ []
 
 -- what was sent makes a state that is held
 abbrev pub Follows : Log → Sink → Type 0

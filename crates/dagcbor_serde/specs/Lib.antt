@@ -6,5 +6,6 @@ pub mod Links
 pub mod Logged
 pub mod Making
 pub mod Noted
+pub mod Refusing
 pub mod Sources
 pub mod Streams

@@ -32,12 +32,26 @@ pub fn deserialize<F: Format>(
     let Some(0) = from.next_key(&[LINK])? else {
         return Err(from.missing(LINK_NAME));
     };
-    let bytes = from.byte_buf(alloc)?;
-    let Ok(cid) = Cid::try_from(bytes.as_slice()) else {
-        return Err(from.invalid());
-    };
+    let cid = fetch_cid(alloc, from)?;
     match from.next_key(&[LINK])? {
         None => Ok(cid),
         Some(_) => Err(from.unknown_key()),
     }
+}
+
+/// The CID of the binary form, where it stands in the input, or else in memory.
+#[inline(always)]
+fn fetch_cid<F: Format>(
+    alloc: Global,
+    from: &mut Deserializer<'_, '_, F>,
+) -> Result<Cid, F::Error> {
+    let mark = from.mark();
+    if let Ok(bytes) = from.borrowed_bytes() {
+        from.release(mark);
+        return Cid::try_from(bytes).map_err(|_| from.invalid());
+    }
+    from.rewind(mark);
+    from.release(mark);
+    let bytes = from.byte_buf(alloc)?;
+    Cid::try_from(bytes.as_slice()).map_err(|_| from.invalid())
 }

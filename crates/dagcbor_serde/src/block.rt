@@ -5,8 +5,9 @@ ghost use Rattle.std.specs.Prelude.{◌≤◌, length};
 
 use crate::error::Misfit;
 use crate::link::LINK;
+use arrayvec::ArrayVec;
 use dagcbor_heads::{Name as Kept, split_head};
-use serde::{Format, Kind, Name, find};
+use serde::{Case, Format, Kind, Name, find};
 use std::alloc::Global;
 use std::str::from_utf8;
 
@@ -30,8 +31,8 @@ pub(crate) struct Block<'r> {
     rest: &'r [u8],
     /// How many items or entries of the innermost list or map are not read yet.
     left: u64,
-    /// The same of those around it.
-    around: Vec<u64>,
+    /// The same of those around it, the outermost first.
+    around: Counts,
     link: LinkStage,
 }
 
@@ -43,6 +44,84 @@ pub(crate) struct Mark<'r> {
     link: LinkStage,
 }
 
+/// Numbers of items, of which the first need no memory of their own.
+#[derive(Drop)]
+struct Counts {
+    near: ArrayVec<u64, 8>,
+    far: Vec<u64>,
+}
+
+impl Counts {
+    fn new(alloc: Global) -> Counts {
+        Counts {
+            near: ArrayVec::new(),
+            far: Vec::new(alloc),
+        }
+    }
+
+    #[inline(always)]
+    fn len(&self) -> usize {
+        self.near.len().saturating_add(self.far.len())
+    }
+
+    #[inline(always)]
+    fn push(&mut self, count: u64) -> Result<(), Misfit> {
+        match self.near.try_push(count) {
+            Ok(()) => Ok(()),
+            Err(_) => self.push_far(count),
+        }
+    }
+
+    #[cold]
+    #[inline(never)]
+    fn push_far(&mut self, count: u64) -> Result<(), Misfit> {
+        match self.far.push(count) {
+            Ok(()) => Ok(()),
+            Err(_) => Err(Misfit::OutOfMemory),
+        }
+    }
+
+    #[inline(always)]
+    fn pop(&mut self) -> u64 {
+        match self.far.pop() {
+            Some(count) => count,
+            None => self.near.pop().unwrap_or(0),
+        }
+    }
+
+    fn truncate(&mut self, len: usize) {
+        self.far.truncate(len.saturating_sub(self.near.len()));
+        self.near.truncate(len);
+    }
+}
+
+/// The argument of the head at the front, where it has this major type, and what is behind it.
+#[inline(always)]
+fn split_argument(rest: &[u8], major: u8) -> Option<(u64, &[u8])> {
+    match split_head(rest) {
+        Some((found, argument, behind)) if found == major => Some((argument, behind)),
+        _ => None,
+    }
+}
+
+/// What is behind this name, where it stands at the front as a key. A name in another case, or with
+/// others beside it, is not looked for.
+#[inline(always)]
+fn behind_name<'a>(rest: &'a [u8], name: &str) -> Option<&'a [u8]> {
+    let (first, behind) = rest.split_first()?;
+    if name.len() > 23 || usize::from(*first) != 0x60 + name.len() || behind.len() < name.len() {
+        return None;
+    }
+    let (key, behind) = behind.split_at(name.len());
+    if key == name.as_bytes() {
+        Some(behind)
+    } else {
+        None
+    }
+}
+
+#[cold]
+#[inline(never)]
 fn mismatch(rest: &[u8]) -> Misfit {
     match rest.first() {
         Some(first) => Misfit::Mismatch(*first),
@@ -88,7 +167,7 @@ impl<'r> Block<'r> {
         Block {
             rest: bytes,
             left: 0,
-            around: Vec::new(alloc),
+            around: Counts::new(alloc),
             link: LinkStage::Nowhere,
         }
     }
@@ -112,8 +191,8 @@ impl<'r> Block<'r> {
     /// The argument of the head at the front, where it has this major type.
     #[inline(always)]
     fn take_argument(&mut self, major: u8) -> Result<u64, Misfit> {
-        match split_head(self.rest) {
-            Some((found, argument, behind)) if found == major && self.is_outside() => {
+        match split_argument(self.rest, major) {
+            Some((argument, behind)) if self.is_outside() => {
                 self.rest = behind;
                 Ok(argument)
             }
@@ -174,25 +253,28 @@ impl<'r> Block<'r> {
         }
     }
 
-    /// The integer at the front, and what is behind it.
+    /// The major type and the argument of the integer at the front, and what is behind it.
     #[inline(always)]
-    fn integer(&self) -> Result<(i128, &'r [u8]), Misfit> {
+    fn number(&self) -> Result<(u8, u64, &'r [u8]), Misfit> {
         match split_head(self.rest) {
-            Some((0, argument, behind)) if self.is_outside() => Ok((argument as i128, behind)),
-            Some((1, argument, behind)) if self.is_outside() => {
-                Ok((-1 - argument as i128, behind))
+            Some((major, argument, behind)) if major < 2 && self.is_outside() => {
+                Ok((major, argument, behind))
             }
             _ => Err(mismatch(self.rest)),
         }
     }
 
+    /// The integer at the front, and what is behind it.
+    fn integer(&self) -> Result<(i128, &'r [u8]), Misfit> {
+        let (major, argument, behind) = self.number()?;
+        let v = argument as i128;
+        Ok((if major == 0 { v } else { -1 - v }, behind))
+    }
+
     /// Goes into a list or map of so many items or entries.
     #[inline(always)]
     fn enter(&mut self, count: u64) -> Result<(), Misfit> {
-        match self.around.push(self.left) {
-            Ok(()) => {}
-            Err(_) => return Err(Misfit::OutOfMemory),
-        }
+        self.around.push(self.left)?;
         self.left = count;
         Ok(())
     }
@@ -204,13 +286,27 @@ impl<'r> Block<'r> {
             self.left -= 1;
             return true;
         }
-        self.left = self.around.pop().unwrap_or(0);
+        self.left = self.around.pop();
         false
     }
 
     /// The index of the key among the names.
     #[inline(always)]
     fn take_key(&mut self, names: &[Name<'_>]) -> Result<usize, Misfit> {
+        for (at, name) in names.iter().enumerate() {
+            if !matches!(name.case, Case::AsIs) || !name.aliases.is_empty() || name.skipped {
+                break;
+            }
+            if let Some(behind) = behind_name(self.rest, name.name) {
+                self.rest = behind;
+                return Ok(at);
+            }
+        }
+        self.take_other_key(names)
+    }
+
+    #[inline(never)]
+    fn take_other_key(&mut self, names: &[Name<'_>]) -> Result<usize, Misfit> {
         Ok(find(names, self.take_text()?))
     }
 
@@ -254,22 +350,22 @@ impl<'r> Format for Block<'r> {
 
     #[inline(always)]
     fn i64(&mut self, _input: &[u8]) -> Result<i64, Misfit> {
-        let (found, behind) = self.integer()?;
-        let Ok(v) = i64::try_from(found) else {
+        let (major, argument, behind) = self.number()?;
+        let Ok(v) = i64::try_from(argument) else {
             return Err(Misfit::OutOfRange);
         };
         self.rest = behind;
-        Ok(v)
+        Ok(if major == 0 { v } else { -1 - v })
     }
 
     #[inline(always)]
     fn u64(&mut self, _input: &[u8]) -> Result<u64, Misfit> {
-        let (found, behind) = self.integer()?;
-        let Ok(v) = u64::try_from(found) else {
+        let (major, argument, behind) = self.number()?;
+        if major != 0 {
             return Err(Misfit::OutOfRange);
-        };
+        }
         self.rest = behind;
-        Ok(v)
+        Ok(argument)
     }
 
     fn i128(&mut self, _input: &[u8]) -> Result<i128, Misfit> {

@@ -28,6 +28,36 @@ pub enum WriteError {
     Custom(Name),
 }
 
+/// Why an event was refused: what `WriteError` says, without a message, so that it stays in a
+/// register.
+#[derive(Clone, Copy, Drop, PartialEq, Eq)]
+pub(crate) enum Refusal {
+    OutOfMemory,
+    OutOfRange,
+    KeyIsNoText,
+    RepeatedKey,
+    NoCid,
+    FlattensNoMap,
+    Misplaced,
+}
+
+impl Refusal {
+    /// The public cause.
+    #[cold]
+    #[inline(never)]
+    pub(crate) fn cause(self) -> WriteError {
+        match self {
+            Refusal::OutOfMemory => WriteError::OutOfMemory,
+            Refusal::OutOfRange => WriteError::OutOfRange,
+            Refusal::KeyIsNoText => WriteError::KeyIsNoText,
+            Refusal::RepeatedKey => WriteError::RepeatedKey,
+            Refusal::NoCid => WriteError::NoCid,
+            Refusal::FlattensNoMap => WriteError::FlattensNoMap,
+            Refusal::Misplaced => WriteError::Misplaced,
+        }
+    }
+}
+
 /// The text of `Debug`.
 impl Display for WriteError {
     fn fmt<W: fmt::Write>(&self, f: &mut Formatter<W>) -> fmt::Result {

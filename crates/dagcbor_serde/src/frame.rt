@@ -1,15 +1,11 @@
-//! What is open: the whole, a list, a map or a link, with the bytes of what it holds.
+//! What is open: the whole, a list, a map or a link, as places in the bytes of all.
 
-ghost use Rattle.std.specs.Prelude.{◌≡◌, ◌≤◌, ◌++◌, [], length, pos, OnOk};
+ghost use Rattle.std.specs.Prelude.{IfErr, ◌≡◌, ◌≢◌, ◌≤◌, ◌<◌, ◌+◌, ◌++◌, ◌∷◌, length, take, drop, OnOk, MatchBool};
 ghost use Rattle.dagcbor_heads.specs.Head.{head};
-ghost use Rattle.ipld_tree.specs.Tree.{null, boolean, integer, text, IsTree};
-ghost use Rattle.dagcbor_serde.specs.Building.{put, put_key, put_unit, put_bytes};
-ghost use Rattle.dagcbor_serde.specs.Building.{as_link, begin_key, end_key, flatten};
-ghost use Rattle.dagcbor_serde.specs.Holds.{Moves, Puts, named};
+ghost use Rattle.dagcbor_serde.specs.Refusing.{LacksMemory, LacksMemoryOrPlace, ItemRefused};
 
-use crate::error::WriteError;
+use crate::error::Refusal;
 use dagcbor_heads::head_bytes;
-use ipld_tree::Cid;
 
 /// What is open, and what it wants next.
 #[derive(Clone, Copy, Drop, PartialEq, Eq)]
@@ -42,326 +38,249 @@ pub(crate) struct Span {
     pub(crate) end: usize,
 }
 
-/// What is open.
-#[derive(Drop)]
+/// What is open. Its bytes stand behind those of what is around it, and its entries behind theirs.
+#[derive(Clone, Copy, Drop)]
 pub(crate) struct Frame {
     pub(crate) stage: Stage,
-    /// The items of a list, or the entries of a map in the order in which they came.
-    pub(crate) bytes: Vec<u8>,
+    /// Where its bytes begin: those of a list or a map with one byte, in whose place its head comes.
+    pub(crate) place: usize,
+    /// Where its entries begin.
+    pub(crate) first: usize,
     /// How many items a list has.
     pub(crate) count: usize,
-    /// Where the entries of a map stand.
-    pub(crate) spans: Vec<Span>,
     /// Where the key that waits begins.
     pub(crate) key: usize,
     /// How many open maps give their entries to this one.
     pub(crate) flat: usize,
 }
 
-/// Appends the bytes.
-pub(crate) fn push(out: &mut Vec<u8>, bytes: &[u8]) -> Result<(), WriteError>
-    ensures { OnOk result (out.new.items ≡ out.old.items ++ bytes.now) }
-{
-    match out.extend_from_slice(bytes) {
-        Ok(()) => Ok(()),
-        Err(_) => Err(WriteError::OutOfMemory),
-    }
-}
-
-/// Appends the shortest head.
-#[tactic(auto, unfolding(dagcbor_heads::specs::Head::head))]
-#[inline(always)]
-pub(crate) fn push_head(out: &mut Vec<u8>, major: u8, argument: u64) -> Result<(), WriteError>
-    requires { major ≤ 7 }
-    ensures { OnOk result (out.new.items ≡ out.old.items ++ head major argument) }
-{
-    if argument < 24 {
-        return push(out, &[32 * major + argument as u8]);
-    }
-    let (bytes, count) = head_bytes(major, argument);
-    push(out, &bytes[..count])
-}
-
 impl Frame {
-    pub(crate) fn new(stage: Stage, bytes: Vec<u8>, spans: Vec<Span>) -> Frame
-        ensures { (result.stage ≡ stage) × (result.bytes ≡ bytes) × (result.spans ≡ spans)
-            × (result.count ≡ 0) × (result.flat ≡ 0) }
+    #[inline(always)]
+    pub(crate) fn new(stage: Stage, place: usize, first: usize) -> Frame
+        ensures { result ≡ record {
+          stage = stage;
+          place = place;
+          first = first;
+          count = 0;
+          key = 0;
+          flat = 0;
+        } }
     {
         Frame {
             stage,
-            bytes,
+            place,
+            first,
             count: 0,
-            spans,
             key: 0,
             flat: 0,
         }
     }
+}
 
-    /// Appends a head and what is behind it.
-    #[tactic(auto, using(crate::proofs::Levels::no_item))]
-    #[inline(always)]
-    fn append(&mut self, major: u8, argument: u64, payload: &[u8]) -> Result<(), WriteError>
-        requires { major ≤ 7 }
-        ensures bytes { OnOk result (self.new.bytes.items
-            ≡ self.old.bytes.items ++ (head major argument ++ payload.now)) }
-        ensures rest { (self.new.stage ≡ self.old.stage) × (self.new.count ≡ self.old.count)
-            × (self.new.spans ≡ self.old.spans) × (self.new.key ≡ self.old.key)
-            × (self.new.flat ≡ self.old.flat) }
-    {
-        push_head(&mut self.bytes, major, argument)?;
-        if payload.is_empty() {
-            return Ok(());
-        }
-        push(&mut self.bytes, payload)
-    }
-
-    /// Puts an item.
-    pub(crate) fn put(&mut self, major: u8, argument: u64, payload: &[u8]) -> Result<(), WriteError>
-        requires { major ≤ 7 }
-        ensures { OnOk result (Puts (head major argument ++ payload.now) self.old self.new) }
-    {
-        match self.stage {
-            Stage::List => self.put_item(major, argument, payload),
-            Stage::WantsValue => self.put_value(major, argument, payload),
-            Stage::Vacant => self.put_whole(major, argument, payload),
-            _ => Err(self.misplaced()),
-        }
-    }
-
-    /// Why an item may not come.
-    #[cold]
-    #[inline(never)]
-    fn misplaced(&self) -> WriteError {
-        match self.stage {
-            Stage::WantsKey => WriteError::KeyIsNoText,
-            Stage::WantsMap => WriteError::FlattensNoMap,
-            _ => WriteError::Misplaced,
-        }
-    }
-
-    #[inline(always)]
-    fn put_item(&mut self, major: u8, argument: u64, payload: &[u8]) -> Result<(), WriteError>
-        requires major { major ≤ 7 }
-        requires stage { self.old.stage ≡ Stage.List }
-        ensures { OnOk result (Puts (head major argument ++ payload.now) self.old self.new) }
-    {
-        self.append(major, argument, payload)?;
-        match self.count.checked_add(1) {
-            Some(count) => {
-                self.count = count;
-                Ok(())
-            }
-            None => Err(WriteError::OutOfMemory),
-        }
-    }
-
-    #[inline(always)]
-    fn put_value(&mut self, major: u8, argument: u64, payload: &[u8]) -> Result<(), WriteError>
-        requires major { major ≤ 7 }
-        requires stage { self.old.stage ≡ Stage.WantsValue }
-        ensures { OnOk result (Puts (head major argument ++ payload.now) self.old self.new) }
-    {
-        let key_end = self.bytes.len();
-        self.append(major, argument, payload)?;
-        let span = Span {
-            start: self.key,
-            key_end,
-            end: self.bytes.len(),
-        };
-        self.stage = Stage::Rests;
-        match self.spans.push(span) {
-            Ok(()) => Ok(()),
-            Err(_) => Err(WriteError::OutOfMemory),
-        }
-    }
-
-    #[inline(always)]
-    fn put_whole(&mut self, major: u8, argument: u64, payload: &[u8]) -> Result<(), WriteError>
-        requires major { major ≤ 7 }
-        requires stage { self.old.stage ≡ Stage.Vacant }
-        ensures { OnOk result (Puts (head major argument ++ payload.now) self.old self.new) }
-    {
-        self.append(major, argument, payload)?;
-        self.stage = Stage::Full;
-        Ok(())
-    }
-
-    /// Takes the text as a key, whose value comes next.
-    #[inline(always)]
-    fn wait(&mut self, v: &str) -> Result<(), WriteError>
-        ensures stage { OnOk result (self.new.stage ≡ Stage.WantsValue) }
-        ensures key { OnOk result (self.new.key ≡ length self.old.bytes.items) }
-        ensures bytes { OnOk result (self.new.bytes.items
-            ≡ self.old.bytes.items ++ (head 3 (length v.now) ++ v.now)) }
-        ensures text { IsTree (text v.now) }
-        ensures rest { (self.new.spans ≡ self.old.spans) × (self.new.flat ≡ self.old.flat) }
-    {
-        let key = self.bytes.len();
-        self.append(3, v.len() as u64, v.as_bytes())?;
-        self.key = key;
-        self.stage = Stage::WantsValue;
-        Ok(())
+/// Appends the bytes.
+pub(crate) fn push(out: &mut Vec<u8>, bytes: &[u8]) -> Result<(), Refusal>
+    ensures appended { OnOk result (out.new.items ≡ out.old.items ++ bytes.now) }
+    ensures refused { IfErr result LacksMemory }
+{
+    match out.extend_from_slice(bytes) {
+        Ok(()) => Ok(()),
+        Err(_) => Err(Refusal::OutOfMemory),
     }
 }
 
-// What is sent to the innermost.
-impl Frame {
-    #[tactic(auto, using(crate::proofs::Levels::puts_good, crate::proofs::Leaves::good_true, crate::proofs::Leaves::good_false))]
-    pub(crate) fn bool(&mut self, v: bool) -> Result<(), WriteError>
-        ensures { OnOk result (Moves (put (boolean v)) self.old self.new) }
-    {
-        self.put(7, if v { 21 } else { 20 }, &[])
-    }
+/// Appends the shortest head.
+#[inline(never)]
+fn push_head(out: &mut Vec<u8>, major: u8, argument: u64) -> Result<(), Refusal>
+    requires { major ≤ 7 }
+    ensures appended { OnOk result (out.new.items ≡ out.old.items ++ head major argument) }
+    ensures refused { IfErr result LacksMemory }
+{
+    let (bytes, count) = head_bytes(major, argument);
+    push(out, &bytes[..count])
+}
 
-    pub(crate) fn unsigned(&mut self, v: u64) -> Result<(), WriteError>
-        ensures { OnOk result (Moves (put (integer (pos v))) self.old self.new) }
-    {
-        self.put(0, v, &[])
+/// Appends both where there is room for them; else appends nothing, and answers false.
+#[inline(always)]
+fn push_at_once(out: &mut Vec<u8>, front: &[u8], rest: &[u8]) -> bool
+    ensures { MatchBool result (out.new.items ≡ out.old.items ++ (front.now ++ rest.now))
+        (out.new.items ≡ out.old.items) }
+{
+    let room = out.capacity() - out.len();
+    if room < front.len() || room - front.len() < rest.len() {
+        return false;
     }
+    out.extend_from_slice(front).is_ok() && out.extend_from_slice(rest).is_ok()
+}
 
-    #[tactic(auto, using(crate::proofs::Levels::puts_good, crate::proofs::Leaves::good_unsigned, crate::proofs::Leaves::good_negative))]
-    pub(crate) fn signed(&mut self, v: i64) -> Result<(), WriteError>
-        ensures { OnOk result (Moves (put (integer v)) self.old self.new) }
-    {
-        let (major, argument) = if v < 0 { (1, -1 - v) } else { (0, v) };
-        self.put(major, argument as u64, &[])
+/// Appends the shortest head where there is room for it; else appends nothing, and answers false.
+#[tactic(auto, unfolding(dagcbor_heads::specs::Head::head))]
+#[inline(always)]
+fn push_head_at_once(out: &mut Vec<u8>, major: u8, argument: u64) -> bool
+    requires { major ≤ 7 }
+    ensures { MatchBool result (out.new.items ≡ out.old.items ++ head major argument)
+        (out.new.items ≡ out.old.items) }
+{
+    let first = 32 * major;
+    if argument < 24 {
+        push_at_once(out, &[first + argument as u8], &[])
+    } else if argument < 1 << 8 {
+        push_at_once(out, &[first + 24, argument as u8], &[])
+    } else if argument < 1 << 16 {
+        let [a, b] = (argument as u16).to_be_bytes();
+        push_at_once(out, &[first + 25, a, b], &[])
+    } else if argument < 1 << 32 {
+        let [a, b, c, d] = (argument as u32).to_be_bytes();
+        push_at_once(out, &[first + 26, a, b, c, d], &[])
+    } else {
+        let [a, b, c, d, e, f, g, h] = argument.to_be_bytes();
+        push_at_once(out, &[first + 27, a, b, c, d, e, f, g, h], &[])
     }
+}
 
-    #[tactic(auto, using(crate::proofs::Levels::puts_good, crate::proofs::Leaves::good_unsigned))]
-    pub(crate) fn unsigned_wide(&mut self, v: u128) -> Result<(), WriteError>
-        ensures { OnOk result (Moves (put (integer (pos v))) self.old self.new) }
-    {
-        match u64::try_from(v) {
-            Ok(argument) => self.put(0, argument, &[]),
-            Err(_) => Err(WriteError::OutOfRange),
-        }
+/// Appends the shortest head and nothing behind it.
+#[inline(always)]
+pub(crate) fn append_head(out: &mut Vec<u8>, major: u8, argument: u64) -> Result<(), Refusal>
+    requires { major ≤ 7 }
+    ensures appended { OnOk result (out.new.items ≡ out.old.items ++ head major argument) }
+    ensures refused { IfErr result LacksMemory }
+{
+    if push_head_at_once(out, major, argument) {
+        return Ok(());
     }
+    push_head(out, major, argument)
+}
 
-    #[tactic(auto, using(crate::proofs::Levels::puts_good, crate::proofs::Leaves::good_unsigned, crate::proofs::Leaves::good_negative))]
-    pub(crate) fn signed_wide(&mut self, v: i128) -> Result<(), WriteError>
-        ensures { OnOk result (Moves (put (integer v)) self.old self.new) }
-    {
-        let (major, argument) = if v < 0 { (1, -1 - v) } else { (0, v) };
-        match u64::try_from(argument) {
-            Ok(argument) => self.put(major, argument, &[]),
-            Err(_) => Err(WriteError::OutOfRange),
-        }
+/// Appends the shortest head and what is behind it.
+#[tactic(auto, unfolding(dagcbor_heads::specs::Head::head))]
+#[inline(always)]
+pub(crate) fn append(
+    out: &mut Vec<u8>,
+    major: u8,
+    argument: u64,
+    payload: &[u8],
+) -> Result<(), Refusal>
+    requires { major ≤ 7 }
+    ensures appended { OnOk result (out.new.items ≡ out.old.items ++ (head major argument ++ payload.now)) }
+    ensures refused { IfErr result LacksMemory }
+{
+    if argument < 24 && push_at_once(out, &[32 * major + argument as u8], payload) {
+        return Ok(());
     }
+    append_slowly(out, major, argument, payload)
+}
 
-    /// Puts a text, which may be a key.
-    pub(crate) fn text(&mut self, v: &str) -> Result<(), WriteError>
-        ensures { OnOk result (Moves (put (text v.now)) self.old self.new) }
+#[inline(never)]
+fn append_slowly(out: &mut Vec<u8>, major: u8, argument: u64, payload: &[u8]) -> Result<(), Refusal>
+    requires { major ≤ 7 }
+    ensures appended { OnOk result (out.new.items ≡ out.old.items ++ (head major argument ++ payload.now)) }
+    ensures refused { IfErr result LacksMemory }
+{
+    push_head(out, major, argument)?;
+    push(out, payload)
+}
+
+/// Appends a link: its tag, and the byte string of a zero byte and the CID.
+#[tactic(auto, unfolding(dagcbor_heads::specs::Head::head))]
+#[inline(always)]
+pub(crate) fn append_link(out: &mut Vec<u8>, cid: &[u8]) -> Result<(), Refusal>
+    ensures appended { OnOk result (out.new.items
+        ≡ out.old.items ++ (head 6 42 ++ (head 2 (length cid.now + 1) ++ 0x00 ∷ cid.now))) }
+    ensures refused { IfErr result LacksMemory }
+{
+    let count = cid.len();
+    if count >= 23
+        && count < 255
+        && push_at_once(out, &[0xd8, 0x2a, 0x58, count as u8 + 1, 0x00], cid)
     {
-        match self.stage {
-            Stage::WantsKey => self.wait(v),
-            _ => self.put(3, v.len() as u64, v.as_bytes()),
-        }
+        return Ok(());
     }
+    append_link_slowly(out, cid)
+}
 
-    /// Puts the name of a field or a variant.
-    pub(crate) fn key(&mut self, v: &str) -> Result<(), WriteError>
-        ensures { OnOk result (Moves (put_key v.now) self.old self.new) }
-    {
-        match self.stage {
-            Stage::Rests => self.wait(v),
-            _ => Err(WriteError::Misplaced),
-        }
+#[tactic(auto, unfolding(dagcbor_heads::specs::Head::head))]
+#[inline(never)]
+fn append_link_slowly(out: &mut Vec<u8>, cid: &[u8]) -> Result<(), Refusal>
+    ensures appended { OnOk result (out.new.items
+        ≡ out.old.items ++ (head 6 42 ++ (head 2 (length cid.now + 1) ++ 0x00 ∷ cid.now))) }
+    ensures refused { IfErr result LacksMemory }
+{
+    let Some(length) = (cid.len() as u64).checked_add(1) else {
+        return Err(Refusal::OutOfMemory);
+    };
+    push(out, &[0xd8, 0x2a])?;
+    push_head(out, 2, length)?;
+    push(out, &[0x00])?;
+    push(out, cid)
+}
+
+/// Puts the head of so many items or entries into the place of the byte there.
+#[tactic(auto, unfolding(dagcbor_heads::specs::Head::head))]
+#[inline(always)]
+pub(crate) fn set_head(
+    out: &mut Vec<u8>,
+    room: &mut Vec<u8>,
+    place: usize,
+    major: u8,
+    count: usize,
+) -> Result<(), Refusal>
+    requires { major ≤ 7 }
+    ensures replaced { OnOk result (out.new.items
+        ≡ take place out.old.items ++ (head major count ++ drop (place + 1) out.old.items)) }
+    ensures refused { IfErr result LacksMemoryOrPlace }
+{
+    if count < 24 && place < out.len() {
+        out[place] = 32 * major + count as u8;
+        return Ok(());
     }
+    insert_head(out, room, place, major, count)
+}
 
-    /// Puts a name, as a key or as a text.
-    #[inline(always)]
-    pub(crate) fn name(&mut self, v: &str, is_key: bool) -> Result<(), WriteError>
-        ensures { OnOk result (Moves (named is_key v.now) self.old self.new) }
-    {
-        if is_key { self.key(v) } else { self.text(v) }
+/// The same of a head of more bytes: what is behind its place is copied.
+#[inline(never)]
+fn insert_head(
+    out: &mut Vec<u8>,
+    room: &mut Vec<u8>,
+    place: usize,
+    major: u8,
+    count: usize,
+) -> Result<(), Refusal>
+    requires { major ≤ 7 }
+    ensures replaced { OnOk result (out.new.items
+        ≡ take place out.old.items ++ (head major count ++ drop (place + 1) out.old.items)) }
+    ensures refused { IfErr result LacksMemoryOrPlace }
+{
+    if place >= out.len() {
+        return Err(Refusal::Misplaced);
     }
+    room.clear();
+    push(room, &out[place + 1..])?;
+    out.truncate(place);
+    push_head(out, major, count as u64)?;
+    push(out, room)
+}
 
-    /// Puts a byte string, or the CID of a link.
-    pub(crate) fn bytes(&mut self, v: &[u8]) -> Result<(), WriteError>
-        ensures { OnOk result (Moves (put_bytes v.now) self.old self.new) }
-    {
-        match self.stage {
-            Stage::Link => self.cid(v),
-            _ => self.put(2, v.len() as u64, v),
-        }
+/// Puts other bytes behind the byte at this place.
+pub(crate) fn replace_behind(out: &mut Vec<u8>, place: usize, bytes: &[u8]) -> Result<(), Refusal>
+    ensures replaced { OnOk result (out.new.items ≡ take (place + 1) out.old.items ++ bytes.now) }
+    ensures refused { IfErr result LacksMemoryOrPlace }
+{
+    if place >= out.len() {
+        return Err(Refusal::Misplaced);
     }
+    out.truncate(place + 1);
+    push(out, bytes)
+}
 
-    /// Puts the CID of a link, behind a zero byte.
-    #[tactic(auto, unfolding(ipld_tree::specs::Spelled::spelled))]
-    fn cid(&mut self, v: &[u8]) -> Result<(), WriteError>
-        requires { self.old.stage ≡ Stage.Link }
-        ensures { OnOk result (Moves (put_bytes v.now) self.old self.new) }
-    {
-        if Cid::try_from(v).is_err() {
-            return Err(WriteError::NoCid);
-        }
-        let Some(length) = (v.len() as u64).checked_add(1) else {
-            return Err(WriteError::OutOfMemory);
-        };
-        push_head(&mut self.bytes, 2, length)?;
-        push(&mut self.bytes, &[0x00])?;
-        push(&mut self.bytes, v)?;
-        self.stage = Stage::Linked;
-        Ok(())
-    }
-
-    /// Puts null, or flattens nothing.
-    pub(crate) fn unit(&mut self) -> Result<(), WriteError>
-        ensures { OnOk result (Moves put_unit self.old self.new) }
-    {
-        match self.stage {
-            Stage::WantsMap => {
-                self.stage = Stage::Rests;
-                Ok(())
-            }
-            _ => self.put(7, 22, &[]),
-        }
-    }
-
-    /// Makes the map that has just been begun a link.
-    pub(crate) fn link(&mut self) -> Result<(), WriteError>
-        ensures { OnOk result (Moves as_link self.old self.new) }
-    {
-        match self.stage {
-            Stage::Rests if self.spans.is_empty() && self.flat == 0 => {
-                self.bytes.clear();
-                self.stage = Stage::Link;
-                Ok(())
-            }
-            _ => Err(WriteError::Misplaced),
-        }
-    }
-
-    pub(crate) fn begin_key(&mut self) -> Result<(), WriteError>
-        ensures { OnOk result (Moves begin_key self.old self.new) }
-    {
-        match self.stage {
-            Stage::Rests => {
-                self.stage = Stage::WantsKey;
-                Ok(())
-            }
-            _ => Err(WriteError::Misplaced),
-        }
-    }
-
-    pub(crate) fn end_key(&mut self) -> Result<(), WriteError>
-        ensures { OnOk result (Moves end_key self.old self.new) }
-    {
-        match self.stage {
-            Stage::WantsValue => Ok(()),
-            _ => Err(WriteError::Misplaced),
-        }
-    }
-
-    pub(crate) fn flatten(&mut self) -> Result<(), WriteError>
-        ensures { OnOk result (Moves flatten self.old self.new) }
-    {
-        match self.stage {
-            Stage::Rests => {
-                self.stage = Stage::WantsMap;
-                Ok(())
-            }
-            _ => Err(WriteError::Misplaced),
-        }
+/// Why an item may not come.
+#[cold]
+#[inline(never)]
+pub(crate) fn misplaced(stage: Stage) -> Refusal
+    requires { (stage ≢ Stage.List) × (stage ≢ Stage.WantsValue) × (stage ≢ Stage.Vacant) }
+    ensures { ItemRefused stage result }
+{
+    match stage {
+        Stage::WantsKey => Refusal::KeyIsNoText,
+        Stage::WantsMap => Refusal::FlattensNoMap,
+        _ => Refusal::Misplaced,
     }
 }

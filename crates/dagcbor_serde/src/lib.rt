@@ -20,6 +20,7 @@ pub mod as_link;
 mod block;
 mod byte_buf;
 mod device;
+mod entries;
 mod error;
 mod frame;
 pub mod laws;

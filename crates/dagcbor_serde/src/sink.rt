@@ -1,22 +1,27 @@
 //! The bytes of a value, event by event.
 
-ghost use Rattle.std.specs.Prelude.{◌≡◌, ◌<◌, ◌++◌, ◌∷◌, [], length, map, IsTrue, ◌↔◌, OnOk, IfOk};
-ghost use Rattle.std.specs.Prelude.{encode_utf8, slice_index_or, string_bytes};
-ghost use Rattle.std.specs.List.{All, slice_range, flat_map};
+ghost use Rattle.std.specs.Prelude.{◌≡◌, ◌≤◌, ◌+◌, ◌^◌, ◌++◌, [], ◌∷◌, List, length, take, drop, OnOk, IfOk, IfErr};
+ghost use Rattle.std.specs.Prelude.{encode_utf8, pos};
 ghost use Rattle.serde.specs.Spelling.{spelled as spelled_name};
 ghost use Rattle.serde.specs.declared.name.NameKind.TheVariants.{Variant};
-ghost use Rattle.ipld_tree.specs.Tree.{Tree, text};
-ghost use Rattle.dagcbor_write.specs.Maps.{Texts};
-ghost use Rattle.dagcbor_write.specs.Order.{KeysDiffer, PutsInOrder};
+ghost use Rattle.dagcbor_heads.specs.Head.{head};
+ghost use Rattle.ipld_tree.specs.Tree.{Tree, null, boolean, integer, text, IsTree};
 ghost use Rattle.dagcbor_serde.specs.Building.{State, start, finished, is_link_name, put, put_field, put_key};
+ghost use Rattle.dagcbor_serde.specs.Building.{put_unit, put_bytes, as_link, begin_key, end_key, flatten};
 ghost use Rattle.dagcbor_serde.specs.Building.{begin, begin_map, in_list, close, list_of, close_map};
-ghost use Rattle.dagcbor_serde.specs.Holds.{IsGood, IsWithin, IsFresh, entry_at, whole_at, named, HoldsAll};
-ghost use Rattle.dagcbor_serde.specs.Holds.{StepsBy, MovesTop};
+ghost use Rattle.dagcbor_serde.specs.Holds.{IsGood, HoldsAll, StepsBy, MovesTop, Puts, Lands, named};
+ghost use Rattle.dagcbor_serde.specs.Holds.{Begins, PutsEach};
+ghost use Rattle.dagcbor_serde.specs.Refusing.{LacksMemory, CidRefused, BytesRefused, ItemRefused, TextRefused, NumberRefused, OnlyAt};
 
-use crate::error::WriteError;
-use crate::frame::{Frame, Span, Stage, push};
+use crate::entries::{are_in_order, push_entries, put_in_order};
+use crate::error::Refusal;
+use crate::frame::{
+    Frame, Span, Stage, append, append_head, append_link, misplaced, replace_behind, set_head,
+};
+use ipld_tree::Cid;
 use serde::{Case, NameKind};
 use std::alloc::Global;
+use std::mem;
 
 /// The name of the one entry of a link, in a case that no derive sends it in: that of a field which
 /// is renamed is `AsIs`, and any other name is an identifier.
@@ -36,72 +41,18 @@ pub(crate) fn is_link_name(name: &str, case: Case) -> bool
 #[derive(Drop)]
 pub(crate) struct Sink {
     alloc: Global,
+    /// The bytes of all that is open, the whole first.
+    bytes: Vec<u8>,
+    /// Where the entries of the open maps stand.
+    spans: Vec<Span>,
     /// The innermost that is open.
-    pub(crate) top: Frame,
+    top: Frame,
     /// Those around it, the whole first.
     below: Vec<Frame>,
-    /// Room for what a list or map held that has ended.
-    spare: Vec<Frame>,
-    /// Room for the entries of a map in their order.
-    sorted: Vec<u8>,
+    /// Room for bytes that change their place.
+    room: Vec<u8>,
     /// Room for a name in another case.
-    room: String,
-}
-
-/// The bytes of a range, as far as it lies within them.
-#[inline(always)]
-fn range(bytes: &[u8], start: usize, end: usize) -> &[u8]
-    ensures { result.now ≡ slice_range bytes.now start end }
-{
-    let end = end.min(bytes.len());
-    &bytes[start.min(end)..end]
-}
-
-/// The key of the entry in place `i`.
-#[inline(always)]
-fn key_at<'a>(bytes: &'a [u8], spans: &Vec<Span>, i: usize) -> &'a [u8]
-    requires { i < length spans.now.items }
-    ensures { (d : Texts)
-        → result.now ≡ (slice_index_or (map (entry_at bytes.now) spans.now.items) i d).0 }
-{
-    let span = &spans[i];
-    range(bytes, span.start, span.key_end)
-}
-
-/// Whether no key is that of the entry before it.
-fn keys_differ(bytes: &[u8], spans: &Vec<Span>) -> bool
-    ensures { KeysDiffer (map (entry_at bytes.now) spans.now.items) result }
-{
-    for i in 1..spans.len() {
-        if key_at(bytes, spans, i - 1) == key_at(bytes, spans, i) {
-            return false;
-        }
-    }
-    true
-}
-
-/// Puts the entries into the order of their bytes, and says whether no key repeats.
-fn put_in_order(bytes: &[u8], spans: &mut Vec<Span>) -> bool
-    ensures order { All (IsWithin (length bytes.now)) spans.old.items
-        → PutsInOrder (map (entry_at bytes.now) spans.old.items)
-        (map (entry_at bytes.now) spans.new.items) result }
-    ensures within { All (IsWithin (length bytes.now)) spans.old.items
-        → All (IsWithin (length bytes.now)) spans.new.items }
-{
-    spans.sort_unstable_by(|a, b| range(bytes, a.start, a.end).cmp(range(bytes, b.start, b.end)));
-    keys_differ(bytes, spans)
-}
-
-/// Appends the entries.
-fn push_entries(out: &mut Vec<u8>, bytes: &[u8], spans: &Vec<Span>) -> Result<(), WriteError>
-    ensures { OnOk result (out.new.items
-        ≡ out.old.items ++ flat_map (whole_at bytes.now) spans.now.items) }
-{
-    for i in 0..spans.len() {
-        let span = &spans[i];
-        push(out, range(bytes, span.start, span.end))?;
-    }
-    Ok(())
+    name: String,
 }
 
 impl Sink {
@@ -111,11 +62,12 @@ impl Sink {
     {
         Sink {
             alloc,
-            top: Frame::new(Stage::Vacant, out, Vec::new(alloc)),
+            bytes: out,
+            spans: Vec::new(alloc),
+            top: Frame::new(Stage::Vacant, 0, 0),
             below: Vec::new(alloc),
-            spare: Vec::new(alloc),
-            sorted: Vec::new(alloc),
-            room: String::new(alloc),
+            room: Vec::new(alloc),
+            name: String::new(alloc),
         }
     }
 
@@ -124,159 +76,424 @@ impl Sink {
     }
 
     /// The bytes, where one whole value was sent.
-    pub(crate) fn into_bytes(self) -> Result<Vec<u8>, WriteError>
+    pub(crate) fn into_bytes(self) -> Result<Vec<u8>, Refusal>
         ensures { IfOk result (λ v. (s : State) → HoldsAll s self
             → (t : Tree) × (finished s ≡ Some t) × IsGood t v.items) }
     {
-        let Sink { top, below, .. } = self;
+        let Sink {
+            bytes,
+            top,
+            below,
+            ..
+        } = self;
         match top.stage {
-            Stage::Full if below.is_empty() => {
-                let Frame { bytes, .. } = top;
-                Ok(bytes)
-            }
-            _ => Err(WriteError::Misplaced),
+            Stage::Full if below.is_empty() => Ok(bytes),
+            _ => Err(Refusal::Misplaced),
         }
     }
+}
 
-    /// A frame that holds nothing.
+// Items, which come behind all bytes.
+impl Sink {
+    /// Puts an item of a head alone.
+    fn put_head(&mut self, major: u8, argument: u64) -> Result<(), Refusal>
+        requires { major ≤ 7 }
+        ensures put { OnOk result (Puts (head major argument) self.old self.new) }
+        ensures refused { IfErr result (ItemRefused self.old.top.stage) }
+    {
+        let from = self.bytes.len();
+        append_head(&mut self.bytes, major, argument)?;
+        self.land(from)
+    }
+
+    /// Puts an item of a head and what is behind it.
+    fn put(&mut self, major: u8, argument: u64, payload: &[u8]) -> Result<(), Refusal>
+        requires { major ≤ 7 }
+        ensures put { OnOk result (Puts (head major argument ++ payload.now) self.old self.new) }
+        ensures refused { IfErr result (ItemRefused self.old.top.stage) }
+    {
+        let from = self.bytes.len();
+        append(&mut self.bytes, major, argument, payload)?;
+        self.land(from)
+    }
+
+    /// The item whose bytes stand from there to the end came.
     #[inline(always)]
-    fn fresh(&mut self, stage: Stage) -> Result<Frame, WriteError>
-        ensures fresh { IfOk result (λ f. IsFresh stage f) }
-        ensures same { (self.new.top ≡ self.old.top) × (self.new.below ≡ self.old.below) }
+    fn land(&mut self, from: usize) -> Result<(), Refusal>
+        ensures same { (self.new.bytes ≡ self.old.bytes) × (self.new.below ≡ self.old.below) }
+        ensures landed { OnOk result (Lands self.old.top.stage from (length self.old.bytes.items)
+            self.old.top self.old.spans.items self.new.top self.new.spans.items) }
+        ensures refused { IfErr result (ItemRefused self.old.top.stage) }
     {
-        if let Some(frame) = self.spare.pop() {
-            let Frame {
-                mut bytes,
-                mut spans,
-                ..
-            } = frame;
-            bytes.clear();
-            spans.clear();
-            return Ok(Frame::new(stage, bytes, spans));
-        }
-        match Vec::with_capacity(self.alloc, 64) {
-            Ok(bytes) => Ok(Frame::new(stage, bytes, Vec::new(self.alloc))),
-            Err(_) => Err(WriteError::OutOfMemory),
+        match self.top.stage {
+            Stage::List => self.land_item(),
+            Stage::WantsValue => self.land_value(from),
+            Stage::Vacant => {
+                self.top.stage = Stage::Full;
+                Ok(())
+            }
+            _ => Err(misplaced(self.top.stage)),
         }
     }
 
-    /// Begins a list or a map.
-    fn open(&mut self, stage: Stage) -> Result<(), WriteError>
-        ensures fresh { OnOk result (IsFresh stage self.new.top) }
-        ensures below { OnOk result (self.new.below.items
-            ≡ self.old.below.items ++ self.old.top ∷ []) }
+    #[inline(always)]
+    fn land_item(&mut self) -> Result<(), Refusal>
+        ensures same { (self.new.bytes ≡ self.old.bytes) × (self.new.below ≡ self.old.below)
+            × (self.new.spans ≡ self.old.spans) }
+        ensures counted { OnOk result
+            (self.new.top ≡ record self.old.top { count = self.old.top.count + 1 }) }
+        ensures refused { IfErr result (LacksMemory) }
     {
-        let frame = self.fresh(stage)?;
-        let around = std::mem::replace(&mut self.top, frame);
-        match self.below.push(around) {
+        match self.top.count.checked_add(1) {
+            Some(count) => {
+                self.top.count = count;
+                Ok(())
+            }
+            None => Err(Refusal::OutOfMemory),
+        }
+    }
+
+    #[inline(always)]
+    fn land_value(&mut self, from: usize) -> Result<(), Refusal>
+        ensures same { (self.new.bytes ≡ self.old.bytes) × (self.new.below ≡ self.old.below)
+            × (self.new.top ≡ record self.old.top { stage = Stage.Rests }) }
+        ensures listed { OnOk result (self.new.spans.items ≡ self.old.spans.items
+            ++ (record {
+              start = self.old.top.key;
+              key_end = from;
+              end = length self.old.bytes.items;
+            }) ∷ []) }
+        ensures refused { IfErr result (LacksMemory) }
+    {
+        self.top.stage = Stage::Rests;
+        let span = Span {
+            start: self.top.key,
+            key_end: from,
+            end: self.bytes.len(),
+        };
+        match self.spans.push(span) {
             Ok(()) => Ok(()),
-            Err(_) => Err(WriteError::OutOfMemory),
+            Err(_) => Err(Refusal::OutOfMemory),
         }
     }
 
-    /// Goes out of the innermost, which is answered.
-    fn leave(&mut self) -> Result<Frame, WriteError>
-        ensures { IfOk result (λ f. (f ≡ self.old.top)
-            × (self.old.below.items ≡ self.new.below.items ++ self.new.top ∷ [])) }
+    /// Takes the text as a key, whose value comes next.
+    #[inline(always)]
+    fn wait(&mut self, v: &str) -> Result<(), Refusal>
+        ensures top { OnOk result (self.new.top ≡ record self.old.top {
+          stage = Stage.WantsValue;
+          key = length self.old.bytes.items;
+        }) }
+        ensures bytes { OnOk result (self.new.bytes.items
+            ≡ self.old.bytes.items ++ (head 3 (length v.now) ++ v.now)) }
+        ensures text { IsTree (text v.now) }
+        ensures rest { (self.new.spans ≡ self.old.spans) × (self.new.below ≡ self.old.below) }
+        ensures refused { IfErr result (LacksMemory) }
     {
-        match self.below.pop() {
-            Some(around) => Ok(std::mem::replace(&mut self.top, around)),
-            None => Err(WriteError::Misplaced),
-        }
+        let key = self.bytes.len();
+        append(&mut self.bytes, 3, v.len() as u64, v.as_bytes())?;
+        self.top.key = key;
+        self.top.stage = Stage::WantsValue;
+        Ok(())
     }
+}
 
-    /// Keeps the room of what has ended.
-    fn keep(&mut self, frame: Frame) -> Result<(), WriteError>
-        ensures same { (self.new.top ≡ self.old.top) × (self.new.below ≡ self.old.below) }
+// What is sent to the innermost.
+impl Sink {
+    #[tactic(auto, using(crate::proofs::Opening::puts_good, crate::proofs::Leaves::good_true, crate::proofs::Leaves::good_false))]
+    pub(crate) fn bool(&mut self, v: bool) -> Result<(), Refusal>
+        ensures moved { OnOk result (MovesTop (put (boolean v)) self.old self.new) }
+        ensures refused { IfErr result (ItemRefused self.old.top.stage) }
     {
-        match self.spare.push(frame) {
-            Ok(()) => Ok(()),
-            Err(_) => Err(WriteError::OutOfMemory),
+        self.put_head(7, if v { 21 } else { 20 })
+    }
+
+    pub(crate) fn unsigned(&mut self, v: u64) -> Result<(), Refusal>
+        ensures moved { OnOk result (MovesTop (put (integer (pos v))) self.old self.new) }
+        ensures refused { IfErr result (ItemRefused self.old.top.stage) }
+    {
+        self.put_head(0, v)
+    }
+
+    #[tactic(auto, using(crate::proofs::Opening::puts_good, crate::proofs::Leaves::good_unsigned, crate::proofs::Leaves::good_negative))]
+    pub(crate) fn signed(&mut self, v: i64) -> Result<(), Refusal>
+        ensures moved { OnOk result (MovesTop (put (integer v)) self.old self.new) }
+        ensures refused { IfErr result (ItemRefused self.old.top.stage) }
+    {
+        let (major, argument) = if v < 0 { (1, -1 - v) } else { (0, v) };
+        self.put_head(major, argument as u64)
+    }
+
+    #[tactic(auto, using(crate::proofs::Opening::puts_good, crate::proofs::Leaves::good_unsigned))]
+    pub(crate) fn unsigned_wide(&mut self, v: u128) -> Result<(), Refusal>
+        ensures moved { OnOk result (MovesTop (put (integer (pos v))) self.old self.new) }
+        ensures refused { IfErr result (NumberRefused (2 ^ 64 ≤ v) self.old.top.stage) }
+    {
+        match u64::try_from(v) {
+            Ok(argument) => self.put_head(0, argument),
+            Err(_) => Err(Refusal::OutOfRange),
         }
     }
 
-    /// Puts a name in its case, as a key or as a text.
-    fn name(
+    #[tactic(auto, using(crate::proofs::Opening::puts_good, crate::proofs::Leaves::good_unsigned, crate::proofs::Leaves::good_negative))]
+    pub(crate) fn signed_wide(&mut self, v: i128) -> Result<(), Refusal>
+        ensures { OnOk result (MovesTop (put (integer v)) self.old self.new) }
+    {
+        let (major, argument) = if v < 0 { (1, -1 - v) } else { (0, v) };
+        match u64::try_from(argument) {
+            Ok(argument) => self.put_head(major, argument),
+            Err(_) => Err(Refusal::OutOfRange),
+        }
+    }
+
+    /// Puts a text, which may be a key.
+    pub(crate) fn text(&mut self, v: &str) -> Result<(), Refusal>
+        ensures moved { OnOk result (MovesTop (put (text v.now)) self.old self.new) }
+        ensures refused { IfErr result (TextRefused self.old.top.stage) }
+    {
+        match self.top.stage {
+            Stage::WantsKey => self.wait(v),
+            _ => self.put(3, v.len() as u64, v.as_bytes()),
+        }
+    }
+
+    /// Puts the name of a field or a variant.
+    #[inline(always)]
+    fn key(&mut self, v: &str) -> Result<(), Refusal>
+        ensures moved { OnOk result (MovesTop (put_key v.now) self.old self.new) }
+        ensures refused { IfErr result (OnlyAt Stage.Rests self.old.top.stage) }
+    {
+        match self.top.stage {
+            Stage::Rests => self.wait(v),
+            _ => Err(Refusal::Misplaced),
+        }
+    }
+
+    /// Puts a byte string, or the CID of a link.
+    pub(crate) fn bytes(&mut self, v: &[u8]) -> Result<(), Refusal>
+        ensures moved { OnOk result (MovesTop (put_bytes v.now) self.old self.new) }
+        ensures refused { IfErr result (BytesRefused v.now self.old.top.stage) }
+    {
+        match self.top.stage {
+            Stage::Link => self.cid(v),
+            _ => self.put(2, v.len() as u64, v),
+        }
+    }
+
+    /// Puts the CID of a link.
+    fn cid(&mut self, v: &[u8]) -> Result<(), Refusal>
+        requires { self.old.top.stage ≡ Stage.Link }
+        ensures moved { OnOk result (MovesTop (put_bytes v.now) self.old self.new) }
+        ensures refused { IfErr result (CidRefused v.now) }
+    {
+        if Cid::try_from(v).is_err() {
+            return Err(Refusal::NoCid);
+        }
+        append_link(&mut self.bytes, v)?;
+        self.top.stage = Stage::Linked;
+        Ok(())
+    }
+
+    /// Puts null, or flattens nothing.
+    pub(crate) fn unit(&mut self) -> Result<(), Refusal>
+        ensures moved { OnOk result (MovesTop put_unit self.old self.new) }
+        ensures refused { IfErr result (ItemRefused self.old.top.stage) }
+    {
+        match self.top.stage {
+            Stage::WantsMap => {
+                self.top.stage = Stage::Rests;
+                Ok(())
+            }
+            _ => self.put_head(7, 22),
+        }
+    }
+
+    /// Makes the map that has just been begun a link.
+    fn link(&mut self) -> Result<(), Refusal>
+        ensures { OnOk result (MovesTop as_link self.old self.new) }
+    {
+        match self.top.stage {
+            Stage::Rests if self.spans.len() == self.top.first && self.top.flat == 0 => {
+                self.bytes.truncate(self.top.place);
+                self.top.stage = Stage::Link;
+                Ok(())
+            }
+            _ => Err(Refusal::Misplaced),
+        }
+    }
+
+    pub(crate) fn begin_key(&mut self) -> Result<(), Refusal>
+        ensures moved { OnOk result (MovesTop begin_key self.old self.new) }
+        ensures refused { IfErr result (OnlyAt Stage.Rests self.old.top.stage) }
+    {
+        match self.top.stage {
+            Stage::Rests => {
+                self.top.stage = Stage::WantsKey;
+                Ok(())
+            }
+            _ => Err(Refusal::Misplaced),
+        }
+    }
+
+    pub(crate) fn end_key(&mut self) -> Result<(), Refusal>
+        ensures moved { OnOk result (MovesTop end_key self.old self.new) }
+        ensures refused { IfErr result (OnlyAt Stage.WantsValue self.old.top.stage) }
+    {
+        match self.top.stage {
+            Stage::WantsValue => Ok(()),
+            _ => Err(Refusal::Misplaced),
+        }
+    }
+
+    pub(crate) fn flatten(&mut self) -> Result<(), Refusal>
+        ensures moved { OnOk result (MovesTop flatten self.old self.new) }
+        ensures refused { IfErr result (OnlyAt Stage.Rests self.old.top.stage) }
+    {
+        match self.top.stage {
+            Stage::Rests => {
+                self.top.stage = Stage::WantsMap;
+                Ok(())
+            }
+            _ => Err(Refusal::Misplaced),
+        }
+    }
+}
+
+// The same, by a name or a text that is made here.
+impl Sink {
+    pub(crate) fn char(&mut self, v: char) -> Result<(), Refusal>
+        ensures moved { OnOk result (MovesTop (put (text (encode_utf8 v))) self.old self.new) }
+        ensures refused { IfErr result (TextRefused self.old.top.stage) }
+    {
+        let mut room = [0; 4];
+        self.text(v.encode_utf8(&mut room))
+    }
+
+    pub(crate) fn unit_variant(&mut self, name: &str, case: Case) -> Result<(), Refusal>
+        ensures { OnOk result
+            (MovesTop (put (text (spelled_name case Variant name.now))) self.old self.new) }
+    {
+        self.cased(name, case, NameKind::Variant, false)
+    }
+
+    pub(crate) fn field_key(&mut self, name: &str, case: Case) -> Result<(), Refusal>
+        ensures { OnOk result (MovesTop (put_field name.now case) self.old self.new) }
+    {
+        if is_link_name(name, case) {
+            return self.link();
+        }
+        self.cased(name, case, NameKind::Field, true)
+    }
+
+    pub(crate) fn variant_key(&mut self, name: &str, case: Case) -> Result<(), Refusal>
+        ensures { OnOk result
+            (MovesTop (put_key (spelled_name case Variant name.now)) self.old self.new) }
+    {
+        self.cased(name, case, NameKind::Variant, true)
+    }
+
+    /// Puts a name in its case.
+    #[inline(always)]
+    fn cased(&mut self, name: &str, case: Case, kind: NameKind, is_key: bool) -> Result<(), Refusal>
+        ensures { OnOk result
+            (MovesTop (named is_key (spelled_name case kind name.now)) self.old self.new) }
+    {
+        if let Case::AsIs = case {
+            return self.named(name, is_key);
+        }
+        self.respelled(name, case, kind, is_key)
+    }
+
+    /// Puts a name that is spelled anew.
+    #[inline(never)]
+    fn respelled(
         &mut self,
         name: &str,
         case: Case,
         kind: NameKind,
         is_key: bool,
-    ) -> Result<(), WriteError>
+    ) -> Result<(), Refusal>
         ensures { OnOk result
             (MovesTop (named is_key (spelled_name case kind name.now)) self.old self.new) }
     {
-        if let Case::AsIs = case {
-            return self.top.name(name, is_key);
+        let mut room = mem::replace(&mut self.name, String::new(self.alloc));
+        room.clear();
+        if case.append(kind, name, &mut room).is_err() {
+            return Err(Refusal::OutOfMemory);
         }
-        self.room.clear();
-        if case.append(kind, name, &mut self.room).is_err() {
-            return Err(WriteError::OutOfMemory);
+        let result = self.named(room.as_str(), is_key);
+        self.name = room;
+        result
+    }
+
+    /// Puts a name, as a key or as a text.
+    #[inline(always)]
+    fn named(&mut self, name: &str, is_key: bool) -> Result<(), Refusal>
+        ensures { OnOk result (MovesTop (named is_key name.now) self.old self.new) }
+    {
+        if is_key {
+            self.key(name)
+        } else {
+            self.text(name)
         }
-        self.top.name(self.room.as_str(), is_key)
-    }
-}
-
-// What is sent to the innermost, by a name or a text that is made here.
-impl Sink {
-    pub(crate) fn char(&mut self, v: char) -> Result<(), WriteError>
-        ensures { OnOk result (MovesTop (put (text (encode_utf8 v))) self.old self.new) }
-    {
-        let mut room = [0; 4];
-        self.top.text(v.encode_utf8(&mut room))
-    }
-
-    pub(crate) fn unit_variant(&mut self, name: &str, case: Case) -> Result<(), WriteError>
-        ensures { OnOk result
-            (MovesTop (put (text (spelled_name case Variant name.now))) self.old self.new) }
-    {
-        self.name(name, case, NameKind::Variant, false)
-    }
-
-    pub(crate) fn field_key(&mut self, name: &str, case: Case) -> Result<(), WriteError>
-        ensures { OnOk result (MovesTop (put_field name.now case) self.old self.new) }
-    {
-        if is_link_name(name, case) {
-            return self.top.link();
-        }
-        self.name(name, case, NameKind::Field, true)
-    }
-
-    pub(crate) fn variant_key(&mut self, name: &str, case: Case) -> Result<(), WriteError>
-        ensures { OnOk result
-            (MovesTop (put_key (spelled_name case Variant name.now)) self.old self.new) }
-    {
-        self.name(name, case, NameKind::Variant, true)
     }
 }
 
 // What begins and ends.
 impl Sink {
-    pub(crate) fn begin_seq(&mut self) -> Result<(), WriteError>
+    /// Begins a list or a map.
+    fn open(&mut self, stage: Stage) -> Result<(), Refusal>
+        ensures { OnOk result (Begins stage self.old self.new) }
+    {
+        let frame = Frame::new(stage, self.bytes.len(), self.spans.len());
+        if self.bytes.push(0x00).is_err() {
+            return Err(Refusal::OutOfMemory);
+        }
+        let around = mem::replace(&mut self.top, frame);
+        match self.below.push(around) {
+            Ok(()) => Ok(()),
+            Err(_) => Err(Refusal::OutOfMemory),
+        }
+    }
+
+    /// Goes out of the innermost, which is answered.
+    #[inline(always)]
+    fn leave(&mut self) -> Result<Frame, Refusal>
+        ensures frame { IfOk result (λ f. (f ≡ self.old.top)
+            × (self.old.below.items ≡ self.new.below.items ++ self.new.top ∷ [])) }
+        ensures same { (self.new.bytes ≡ self.old.bytes) × (self.new.spans ≡ self.old.spans) }
+    {
+        match self.below.pop() {
+            Some(around) => Ok(mem::replace(&mut self.top, around)),
+            None => Err(Refusal::Misplaced),
+        }
+    }
+
+    pub(crate) fn begin_seq(&mut self) -> Result<(), Refusal>
         ensures { OnOk result (StepsBy (begin (in_list [])) self.old self.new) }
     {
         self.open(Stage::List)
     }
 
-    pub(crate) fn end_seq(&mut self) -> Result<(), WriteError>
+    pub(crate) fn end_seq(&mut self) -> Result<(), Refusal>
         ensures { OnOk result (StepsBy (λ s. close (list_of s.top) s.around) self.old self.new) }
     {
         match self.top.stage {
             Stage::List => self.end_list(),
-            _ => Err(WriteError::Misplaced),
+            _ => Err(Refusal::Misplaced),
         }
     }
 
-    fn end_list(&mut self) -> Result<(), WriteError>
+    fn end_list(&mut self) -> Result<(), Refusal>
         requires { self.old.top.stage ≡ Stage.List }
         ensures { OnOk result (StepsBy (λ s. close (list_of s.top) s.around) self.old self.new) }
     {
         let list = self.leave()?;
-        self.top.put(4, list.count as u64, &list.bytes)?;
-        self.keep(list)
+        set_head(&mut self.bytes, &mut self.room, list.place, 4, list.count)?;
+        self.land(list.place)
     }
 
-    pub(crate) fn begin_map(&mut self) -> Result<(), WriteError>
+    pub(crate) fn begin_map(&mut self) -> Result<(), Refusal>
         ensures { OnOk result (StepsBy (λ s. begin_map s.top s.around) self.old self.new) }
     {
         match self.top.stage {
@@ -286,7 +503,7 @@ impl Sink {
     }
 
     /// Begins a map whose entries go into the one around it.
-    fn begin_flat(&mut self) -> Result<(), WriteError>
+    fn begin_flat(&mut self) -> Result<(), Refusal>
         requires { self.old.top.stage ≡ Stage.WantsMap }
         ensures { OnOk result (StepsBy (λ s. begin_map s.top s.around) self.old self.new) }
     {
@@ -296,11 +513,11 @@ impl Sink {
                 self.top.stage = Stage::Rests;
                 Ok(())
             }
-            None => Err(WriteError::OutOfMemory),
+            None => Err(Refusal::OutOfMemory),
         }
     }
 
-    pub(crate) fn end_map(&mut self) -> Result<(), WriteError>
+    pub(crate) fn end_map(&mut self) -> Result<(), Refusal>
         ensures { OnOk result (StepsBy (λ s. close_map s.top s.around) self.old self.new) }
     {
         match self.top.stage {
@@ -312,31 +529,67 @@ impl Sink {
                 None => self.end_entries(),
             },
             Stage::Linked => self.end_link(),
-            _ => Err(WriteError::Misplaced),
+            _ => Err(Refusal::Misplaced),
         }
     }
 
-    fn end_entries(&mut self) -> Result<(), WriteError>
+    fn end_entries(&mut self) -> Result<(), Refusal>
         requires stage { self.old.top.stage ≡ Stage.Rests }
         requires flat { self.old.top.flat ≡ 0 }
         ensures { OnOk result (StepsBy (λ s. close_map s.top s.around) self.old self.new) }
     {
-        let mut map = self.leave()?;
-        if !put_in_order(&map.bytes, &mut map.spans) {
-            return Err(WriteError::RepeatedKey);
-        }
-        self.sorted.clear();
-        push_entries(&mut self.sorted, &map.bytes, &map.spans)?;
-        self.top.put(5, map.spans.len() as u64, &self.sorted)?;
-        self.keep(map)
+        let map = self.leave()?;
+        let count = self.put_entries(map.place, map.first)?;
+        set_head(&mut self.bytes, &mut self.room, map.place, 5, count)?;
+        self.land(map.place)
     }
 
-    fn end_link(&mut self) -> Result<(), WriteError>
+    /// Puts the entries of the map that has ended in their order, and counts them. They are listed
+    /// no more.
+    fn put_entries(&mut self, place: usize, first: usize) -> Result<usize, Refusal>
+        ensures same { (self.new.top ≡ self.old.top) × (self.new.below ≡ self.old.below) }
+        ensures spans { OnOk result (self.new.spans.items ≡ take first self.old.spans.items) }
+        ensures entries { IfOk result (PutsEach place self.old.bytes.items
+            (drop first self.old.spans.items) self.new.bytes.items) }
+    {
+        let Some(count) = self.spans.len().checked_sub(first) else {
+            return Err(Refusal::Misplaced);
+        };
+        if !are_in_order(&self.bytes, &self.spans[first..]) {
+            self.sort_entries(place, first)?;
+        }
+        self.spans.truncate(first);
+        Ok(count)
+    }
+
+    /// The same of entries that do not stand in their order.
+    #[inline(never)]
+    fn sort_entries(&mut self, place: usize, first: usize) -> Result<(), Refusal>
+        requires { first ≤ length self.old.spans.items }
+        ensures same { (self.new.top ≡ self.old.top) × (self.new.below ≡ self.old.below) }
+        ensures spans { OnOk result
+            (take first self.new.spans.items ≡ take first self.old.spans.items) }
+        ensures entries { OnOk result (PutsEach place self.old.bytes.items
+            (drop first self.old.spans.items) self.new.bytes.items
+            (length (drop first self.old.spans.items))) }
+    {
+        let spans = &mut self.spans[first..];
+        if !put_in_order(&self.bytes, spans) {
+            return Err(Refusal::RepeatedKey);
+        }
+        self.room.clear();
+        if self.room.reserve(self.bytes.len()).is_err() {
+            return Err(Refusal::OutOfMemory);
+        }
+        push_entries(&mut self.room, &self.bytes, spans)?;
+        replace_behind(&mut self.bytes, place, &self.room)
+    }
+
+    fn end_link(&mut self) -> Result<(), Refusal>
         requires { self.old.top.stage ≡ Stage.Linked }
         ensures { OnOk result (StepsBy (λ s. close_map s.top s.around) self.old self.new) }
     {
         let link = self.leave()?;
-        self.top.put(6, 42, &link.bytes)?;
-        self.keep(link)
+        self.land(link.place)
     }
 }

@@ -41,7 +41,10 @@ impl Writer {
         if failed {
             return Err(WriteError::Misplaced);
         }
-        sink.into_bytes()
+        match sink.into_bytes() {
+            Ok(bytes) => Ok(bytes),
+            Err(refusal) => Err(refusal.cause()),
+        }
     }
 }
 
@@ -55,9 +58,9 @@ impl Serializer for Writer {
         if self.failed {
             return Err(WriteError::Misplaced);
         }
-        if let Err(error) = self.sink.top.bool(v) {
+        if let Err(refusal) = self.sink.bool(v) {
             self.failed = true;
-            return Err(error);
+            return Err(refusal.cause());
         }
         self.log = self.log.then(&Note::Bool(v));
         Ok(())
@@ -68,9 +71,9 @@ impl Serializer for Writer {
         if self.failed {
             return Err(WriteError::Misplaced);
         }
-        if let Err(error) = self.sink.top.signed(v) {
+        if let Err(refusal) = self.sink.signed(v) {
             self.failed = true;
-            return Err(error);
+            return Err(refusal.cause());
         }
         self.log = self.log.then(&Note::I64(v));
         Ok(())
@@ -81,9 +84,9 @@ impl Serializer for Writer {
         if self.failed {
             return Err(WriteError::Misplaced);
         }
-        if let Err(error) = self.sink.top.unsigned(v) {
+        if let Err(refusal) = self.sink.unsigned(v) {
             self.failed = true;
-            return Err(error);
+            return Err(refusal.cause());
         }
         self.log = self.log.then(&Note::U64(v));
         Ok(())
@@ -94,9 +97,9 @@ impl Serializer for Writer {
         if self.failed {
             return Err(WriteError::Misplaced);
         }
-        if let Err(error) = self.sink.top.signed_wide(v) {
+        if let Err(refusal) = self.sink.signed_wide(v) {
             self.failed = true;
-            return Err(error);
+            return Err(refusal.cause());
         }
         self.log = self.log.then(&Note::I128(v));
         Ok(())
@@ -107,9 +110,9 @@ impl Serializer for Writer {
         if self.failed {
             return Err(WriteError::Misplaced);
         }
-        if let Err(error) = self.sink.top.unsigned_wide(v) {
+        if let Err(refusal) = self.sink.unsigned_wide(v) {
             self.failed = true;
-            return Err(error);
+            return Err(refusal.cause());
         }
         self.log = self.log.then(&Note::U128(v));
         Ok(())
@@ -130,9 +133,9 @@ impl Serializer for Writer {
         if self.failed {
             return Err(WriteError::Misplaced);
         }
-        if let Err(error) = self.sink.char(v) {
+        if let Err(refusal) = self.sink.char(v) {
             self.failed = true;
-            return Err(error);
+            return Err(refusal.cause());
         }
         self.log = self.log.then(&Note::Char(v));
         Ok(())
@@ -143,9 +146,9 @@ impl Serializer for Writer {
         if self.failed {
             return Err(WriteError::Misplaced);
         }
-        if let Err(error) = self.sink.top.text(v) {
+        if let Err(refusal) = self.sink.text(v) {
             self.failed = true;
-            return Err(error);
+            return Err(refusal.cause());
         }
         self.log = self.log.then(&Note::Text(v));
         Ok(())
@@ -156,9 +159,9 @@ impl Serializer for Writer {
         if self.failed {
             return Err(WriteError::Misplaced);
         }
-        if let Err(error) = self.sink.top.bytes(v) {
+        if let Err(refusal) = self.sink.bytes(v) {
             self.failed = true;
-            return Err(error);
+            return Err(refusal.cause());
         }
         self.log = self.log.then(&Note::Bytes(v));
         Ok(())
@@ -169,9 +172,9 @@ impl Serializer for Writer {
         if self.failed {
             return Err(WriteError::Misplaced);
         }
-        if let Err(error) = self.sink.top.unit() {
+        if let Err(refusal) = self.sink.unit() {
             self.failed = true;
-            return Err(error);
+            return Err(refusal.cause());
         }
         self.log = self.log.then(&Note::Unit);
         Ok(())
@@ -182,9 +185,9 @@ impl Serializer for Writer {
         if self.failed {
             return Err(WriteError::Misplaced);
         }
-        if let Err(error) = self.sink.unit_variant(name, case) {
+        if let Err(refusal) = self.sink.unit_variant(name, case) {
             self.failed = true;
-            return Err(error);
+            return Err(refusal.cause());
         }
         self.log = self.log.then(&Note::UnitVariant(name, case));
         Ok(())
@@ -195,9 +198,9 @@ impl Serializer for Writer {
         if self.failed {
             return Err(WriteError::Misplaced);
         }
-        if let Err(error) = self.sink.begin_seq() {
+        if let Err(refusal) = self.sink.begin_seq() {
             self.failed = true;
-            return Err(error);
+            return Err(refusal.cause());
         }
         self.log = self.log.then(&Note::BeginSeq(len));
         Ok(())
@@ -208,9 +211,9 @@ impl Serializer for Writer {
         if self.failed {
             return Err(WriteError::Misplaced);
         }
-        if let Err(error) = self.sink.end_seq() {
+        if let Err(refusal) = self.sink.end_seq() {
             self.failed = true;
-            return Err(error);
+            return Err(refusal.cause());
         }
         self.log = self.log.then(&Note::EndSeq);
         Ok(())
@@ -221,9 +224,9 @@ impl Serializer for Writer {
         if self.failed {
             return Err(WriteError::Misplaced);
         }
-        if let Err(error) = self.sink.begin_map() {
+        if let Err(refusal) = self.sink.begin_map() {
             self.failed = true;
-            return Err(error);
+            return Err(refusal.cause());
         }
         self.log = self.log.then(&Note::BeginMap(len));
         Ok(())
@@ -234,9 +237,9 @@ impl Serializer for Writer {
         if self.failed {
             return Err(WriteError::Misplaced);
         }
-        if let Err(error) = self.sink.end_map() {
+        if let Err(refusal) = self.sink.end_map() {
             self.failed = true;
-            return Err(error);
+            return Err(refusal.cause());
         }
         self.log = self.log.then(&Note::EndMap);
         Ok(())
@@ -247,9 +250,9 @@ impl Serializer for Writer {
         if self.failed {
             return Err(WriteError::Misplaced);
         }
-        if let Err(error) = self.sink.field_key(name, case) {
+        if let Err(refusal) = self.sink.field_key(name, case) {
             self.failed = true;
-            return Err(error);
+            return Err(refusal.cause());
         }
         self.log = self.log.then(&Note::FieldKey(name, case));
         Ok(())
@@ -260,9 +263,9 @@ impl Serializer for Writer {
         if self.failed {
             return Err(WriteError::Misplaced);
         }
-        if let Err(error) = self.sink.variant_key(name, case) {
+        if let Err(refusal) = self.sink.variant_key(name, case) {
             self.failed = true;
-            return Err(error);
+            return Err(refusal.cause());
         }
         self.log = self.log.then(&Note::VariantKey(name, case));
         Ok(())
@@ -273,9 +276,9 @@ impl Serializer for Writer {
         if self.failed {
             return Err(WriteError::Misplaced);
         }
-        if let Err(error) = self.sink.top.begin_key() {
+        if let Err(refusal) = self.sink.begin_key() {
             self.failed = true;
-            return Err(error);
+            return Err(refusal.cause());
         }
         self.log = self.log.then(&Note::BeginKey);
         Ok(())
@@ -286,9 +289,9 @@ impl Serializer for Writer {
         if self.failed {
             return Err(WriteError::Misplaced);
         }
-        if let Err(error) = self.sink.top.end_key() {
+        if let Err(refusal) = self.sink.end_key() {
             self.failed = true;
-            return Err(error);
+            return Err(refusal.cause());
         }
         self.log = self.log.then(&Note::EndKey);
         Ok(())
@@ -299,9 +302,9 @@ impl Serializer for Writer {
         if self.failed {
             return Err(WriteError::Misplaced);
         }
-        if let Err(error) = self.sink.top.flatten() {
+        if let Err(refusal) = self.sink.flatten() {
             self.failed = true;
-            return Err(error);
+            return Err(refusal.cause());
         }
         self.log = self.log.then(&Note::Flatten);
         Ok(())

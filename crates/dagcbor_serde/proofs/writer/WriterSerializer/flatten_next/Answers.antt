@@ -1,10 +1,8 @@
-use Rattle.std.proofs.Common.{refl}
 use Rattle.serde.specs.Event as event
-use Rattle.dagcbor_serde.specs.Building.{flatten}
-use Rattle.dagcbor_serde.proofs.Logs.{top_follows}
+use Rattle.dagcbor_serde.proofs.Logs.{follows_more}
 use Rattle.dagcbor_serde.proofs.writer.WriterSerializer.flatten_next.Goals as goal
 
 pub invariant_of-self-2 : goal.invariant_of-self-2
 invariant_of-self-2 c = record {
-  follows = top_follows c.args.self.now.failed c.args.self.now.log.events event.flattens flatten c.args.self.now.sink (record c.args.self.now.sink { top = c.flatten.new.self }) c.then-self.result.events (λ s. refl) c.args.self.now.follows (c.in_default.ensures, refl) c.then-self.ensures;
+  follows = follows_more c.args.self.now.failed c.args.self.now.log.events event.flattens c.args.self.now.sink c.flatten.new.self c.then-self.result.events c.args.self.now.follows c.in_default.ensures.moved c.then-self.ensures;
 }

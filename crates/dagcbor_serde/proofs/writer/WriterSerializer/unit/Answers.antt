@@ -1,10 +1,8 @@
-use Rattle.std.proofs.Common.{refl}
 use Rattle.serde.specs.Event as event
-use Rattle.dagcbor_serde.specs.Building.{put_unit}
-use Rattle.dagcbor_serde.proofs.Logs.{top_follows}
+use Rattle.dagcbor_serde.proofs.Logs.{follows_more}
 use Rattle.dagcbor_serde.proofs.writer.WriterSerializer.unit.Goals as goal
 
 pub invariant_of-self-2 : goal.invariant_of-self-2
 invariant_of-self-2 c = record {
-  follows = top_follows c.args.self.now.failed c.args.self.now.log.events event.nothing put_unit c.args.self.now.sink (record c.args.self.now.sink { top = c.unit.new.self }) c.then-self.result.events (λ s. refl) c.args.self.now.follows (c.in_default.ensures, refl) c.then-self.ensures;
+  follows = follows_more c.args.self.now.failed c.args.self.now.log.events event.nothing c.args.self.now.sink c.unit.new.self c.then-self.result.events c.args.self.now.follows c.in_default.ensures.moved c.then-self.ensures;
 }

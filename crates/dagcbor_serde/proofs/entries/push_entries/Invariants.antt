@@ -1,0 +1,7 @@
+use Rattle.std.proofs.Common.{◌≡◌, ◌++◌, drop}
+use Rattle.std.specs.List.{flat_map}
+use Rattle.dagcbor_serde.specs.Holds.{whole_at}
+use Rattle.dagcbor_serde.proofs.entries.push_entries.Given as goal
+
+abbrev pub invariant-loop-i : goal.invariant-loop-i
+invariant-loop-i l = l.out.items ++ flat_map (whole_at l.bytes) (drop l.i l.spans) ≡ l.fn.out.items ++ flat_map (whole_at l.bytes) l.spans

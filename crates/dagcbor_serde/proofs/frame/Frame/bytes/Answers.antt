@@ -1,9 +1,0 @@
-use Rattle.std.proofs.Common.{rules}
-use Rattle.ipld_tree.specs.Tree.{bytes}
-use Rattle.dagcbor_serde.proofs.Levels.{bytes_put, puts_good, moves_as}
-use Rattle.dagcbor_serde.proofs.Leaves.{good_bytes}
-use Rattle.dagcbor_serde.specs.Building.{put, put_bytes}
-use Rattle.dagcbor_serde.proofs.frame.Frame.bytes.Goals as goal
-
-pub returns-in_default : goal.returns-in_default
-returns-in_default c = moves_as _ _ _ (put (bytes c.args.v.now)) (put_bytes c.args.v.now) (bytes_put c.args.v.now _ _ c.in_default.not-Link) (puts_good _ _ _ _ (bytes c.args.v.now) c.put.ensures (good_bytes c.args.v.now (search rules)))

@@ -1,7 +1,0 @@
-use Rattle.std.proofs.Common.{rules}
-use Rattle.dagcbor_serde.proofs.Levels.{name_wait}
-use Rattle.dagcbor_serde.proofs.Leaves.{good_text}
-use Rattle.dagcbor_serde.proofs.frame.Frame.key.Goals as goal
-
-pub returns-in-Rests : goal.returns-in-Rests
-returns-in-Rests c = name_wait _ _ _ c.args.v.now _ (good_text c.args.v.now (search rules) c.wait.ensures.text) c.in-Rests.is c.wait.ensures.stage c.wait.ensures.key c.wait.ensures.bytes c.wait.ensures.rest

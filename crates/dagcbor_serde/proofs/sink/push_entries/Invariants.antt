@@ -1,7 +1,0 @@
-use Rattle.std.proofs.Common.{◌≡◌, ◌++◌, drop}
-use Rattle.std.specs.List.{flat_map}
-use Rattle.dagcbor_serde.specs.Holds.{whole_at}
-use Rattle.dagcbor_serde.proofs.sink.push_entries.Given as goal
-
-abbrev pub invariant-loop-i : goal.invariant-loop-i
-invariant-loop-i l = l.out.items ++ flat_map (whole_at l.bytes) (drop l.i l.spans.items) ≡ l.fn.out.items ++ flat_map (whole_at l.bytes) l.spans.items

@@ -2,14 +2,16 @@
 types, in every order. A seed draws the same schema always."""
 
 import random
+import re
 import string
 
-from schemas.law import RESERVED, TAKEN, Schema, field_name, snake
+from schemas.law import MOST_PAIRS, RESERVED, TAKEN, Schema, bounds, field_name, snake
 from schemas.parsing import WIDTHS, SchemaError, parse
 
 LENGTHS = (1, 2, 3, 5, 8, 13, 21, 40)
+LONG = 21  # from here on a word has no capitals behind the first, which would make it longer as a field's name
 SCALARS = ("Int", "String", "Bytes", "Bool", "&Any", "Any")
-KINDED = {"bool": "Bool", "int": "Int", "string": "String", "bytes": "Bytes", "link": "&Any"}
+KINDED = {"bool": "Bool", "int": "Int", "string": "String", "bytes": "Bytes", "link": "&Any", "list": "", "map": ""}
 MOST_FIELDS = 14
 MOST_IN_ALL = 15  # fields, members and cases of a schema
 MOST_TYPES = 3  # so that its proof takes a minute or two of a processor
@@ -25,6 +27,8 @@ class Drawing:
     def word(self, first, others, taken, form):
         while True:
             length = self.random.choice(LENGTHS)
+            if length >= LONG:
+                others = [char for char in others if not char.isupper()]
             word = self.random.choice(first) + "".join(self.random.choice(others) for _ in range(length - 1))
             if len(form(word)) <= 40 and form(word) not in taken and word not in TAKEN and word not in RESERVED:
                 taken.add(form(word))
@@ -66,21 +70,46 @@ class Drawing:
             part, note = self.value(depth + 1)
             null = "nullable " if self.random.random() < 0.3 else ""
             return (f"[{null}{part}]" if self.random.random() < 0.6 else f"{{String:{null}{part}}}"), note
+        return self.scalar()
+
+    def scalar(self):
         scalar = self.random.choice(SCALARS)
         note = f" # as {self.random.choice(WIDTHS)}" if scalar == "Int" and self.random.random() < 0.6 else ""
         return scalar, note
 
     # -- definitions
 
+    def field_types(self):
+        """The types of a struct's fields: of many they are plain, as the prover wants it."""
+        count = self.some(MOST_FIELDS)
+        most_steps = 2 if count > 8 else 16
+        for _ in range(count):
+            while True:
+                kind, note = self.value() if most_steps > 2 else self.scalar()
+                before = self.random.choice(("", "", "optional ", "nullable ", "optional nullable "))
+                if most_steps > 2 or before.count(" ") <= most_steps:
+                    break
+            most_steps -= before.count(" ") if most_steps <= 2 else 0
+            yield kind, note, before
+
+    def meant(self, kind, note):
+        """What a field means that is left out, where its type has such values."""
+        if kind == "Bool":
+            return self.random.choice(("true", "false"))
+        least, most = bounds(note.removeprefix(" # as "))
+        return str(self.random.choice((least, most, 0, 1, self.random.randint(least, most))))
+
     def struct(self, name):
         names, keys, rows = set(), set(), []
-        for _ in range(self.some(MOST_FIELDS)):
-            kind, note = self.value()
+        for kind, note, before in self.field_types():
             word = self.word(string.ascii_letters, string.ascii_letters + string.digits + "_", names, field_name)
             key = self.text(keys) if self.random.random() < 0.4 or word in keys else word
             keys.add(key)
-            before = self.random.choice(("", "", "optional ", "nullable ", "optional nullable "))
-            behind = f' (rename "{key}")' if key != word else ""
+            behind = [f'rename "{key}"'] if key != word else []
+            plain = kind == "Bool" or (kind == "Int" and note.startswith(" # as u"))
+            if plain and not before and self.random.random() < 0.5:
+                behind.append(f"implicit {self.meant(kind, note)}")
+            behind = f" ({' '.join(behind)})" if behind else ""
             rows.append(f"  {word} {before}{kind}{behind}{note}")
         is_open = " # open" if self.random.random() < 0.3 else ""
         return [f"type {name} struct {{{is_open}", *rows, "}"]
@@ -95,6 +124,13 @@ class Drawing:
             rows.append(f"  {word} {'optional ' if place >= there else ''}{self.random.choice(('', 'nullable '))}{kind}{note}")
         return [f"type {name} struct {{", *rows, "} representation tuple"]
 
+    def pairs(self, name):
+        """A struct that is a list of pairs."""
+        lines = self.struct(name)[: MOST_PAIRS + 1] + ["}"]
+        rows = [re.sub(r" optional (?=nullable )| optional ", " ", row, count=1) for row in lines[1:] if row != "}"]
+        rows = [re.sub(r" ?implicit [-a-z0-9]+", "", row).replace(" ()", "") for row in rows]
+        return [f"type {name} struct {{", *rows, "} representation listpairs"]
+
     def enum(self, name):
         variants, texts = set(), set()
         rows = [f'  | {self.variant(variants)} ("{self.text(texts)}")' for _ in range(self.some(6))]
@@ -106,19 +142,48 @@ class Drawing:
             rows.append(f'  | {self.variant(variants)} ("{number}")')
         return [f"type {name} enum {{", *rows, "} representation int"]
 
-    def keyed(self, name):
+    def cases(self, most):
+        """The members of a union that are told by texts."""
         held = ["Int", "String", "Bytes", "Bool", "&Any", "Any"] + self.made * 3
         chosen, names, keys = [], set(), set()
-        for _ in range(self.some(5)):
+        for _ in range(self.some(most)):
             kind = self.random.choice(held)
             if kind.lower().replace("&any", "link") not in names:
                 names.add(kind.lower().replace("&any", "link"))
                 chosen.append(f'  | {kind} "{self.text(keys)}"')
-        return [f"type {name} union {{", *chosen, "} representation keyed"]
+        return chosen
+
+    def keyed(self, name):
+        return [f"type {name} union {{", *self.cases(5), "} representation keyed"]
+
+    def envelope(self, name):
+        """A union whose tag stands before its content, in the order of the keys."""
+        keys = set()
+        while len(keys) < 2:
+            self.text(keys)
+        tag, content = sorted(keys, key=lambda key: (len(key), key))
+        options = [f'  discriminantKey "{tag}"', f'  contentKey "{content}"']
+        return [f"type {name} union {{", *self.cases(4), "} representation envelope {", *options, "}"]
 
     def kinded(self, name):
-        kinds = self.random.sample(sorted(KINDED), self.some(5))
-        return [f"type {name} union {{", *(f"  | {KINDED[kind]} {kind}" for kind in kinds), "} representation kinded"]
+        """A union of kinds, of which a list and a map are drawn for it."""
+        rows = []
+        for kind in self.random.sample(sorted(KINDED), self.some(len(KINDED))):
+            held = KINDED[kind]
+            if not held:
+                held = self.type_name()
+                make = self.random.choice((self.tuple, self.items) if kind == "list" else (self.struct, self.entries))
+                self.lines.append(make(held))
+            rows.append(f"  | {held} {kind}")
+        return [f"type {name} union {{", *rows, "} representation kinded"]
+
+    def items(self, name):
+        kind, note = self.value()
+        return [f"type {name} [{kind}]{note}"]
+
+    def entries(self, name):
+        kind, note = self.value()
+        return [f"type {name} {{String:{kind}}}{note}"]
 
     def alias(self, name):
         kind, note = self.value()
@@ -153,7 +218,7 @@ class Drawing:
     def schema(self):
         forms = [self.struct] * 5 + [self.tuple] * 2 + [self.enum] * 2 + [self.keyed] * 2
         forms += [self.numbers, self.kinded, self.alias, self.counts, self.nothing]
-        forms += [self.inline] * 2
+        forms += [self.inline, self.envelope, self.kinded, self.pairs] * 2
         self.lines = []
         while self.left > 0 and len(self.lines) < MOST_TYPES:
             name = self.type_name()

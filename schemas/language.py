@@ -24,13 +24,13 @@ KNOWN = {
     MapOf: ("value",),
     Nullable: ("part",),
     Alias: ("name", "of", "text"),
-    Field: ("name", "type", "optional", "key", "text"),
+    Field: ("name", "type", "optional", "key", "text", "implicit"),
     Struct: ("name", "fields", "representation", "open", "text", "of_enum"),
     Unit: ("name", "representation", "text"),
     Member: ("name", "data"),
     Enum: ("name", "members", "representation", "text"),
     Case: ("name", "type", "data"),
-    Union: ("name", "cases", "representation", "text", "discriminant"),
+    Union: ("name", "cases", "representation", "text", "discriminant", "content"),
 }
 
 LEAVES = {"String": "text", "Bytes": "bytes", "Bool": "bool", "Any": "anything"}
@@ -222,14 +222,6 @@ def named_blocks(text, gap):
     """The blocks of a text, by their names: each begins with comments and then the line that declares its name."""
     blocks = [block.split("\n") for block in text.strip("\n").split("\n" * (gap + 1))]
     return {next(NAME.match(row)[1] for row in rows if NAME.match(row)): rows for rows in blocks}
-
-
-def bounds(width):
-    """The least and the greatest of the integers of a width. Those of 128 bits are all of the data."""
-    bits = int(width[1:])
-    if width == "i128":
-        return -(2**64), 2**64 - 1
-    return (0, 2**bits - 1) if width[0] == "u" else (-(2 ** (bits - 1)), 2 ** (bits - 1) - 1)
 
 
 def camel(word):

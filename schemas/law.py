@@ -11,6 +11,7 @@ from schemas.parsing import (
     Leaf,
     Link,
     ListOf,
+    Literal,
     MapOf,
     Named,
     Nullable,
@@ -21,8 +22,9 @@ from schemas.parsing import (
 )
 
 MOST_FIELDS = 14  # of a struct
+MOST_PAIRS = 3  # of the fields of a struct that is a list of pairs
 MOST_STEPS = 16  # of a struct: one for a field, and one for each list, map, nullable and optional of its type
-KINDS = {"bool": ("Bool",), "int": ("Int",), "string": ("String",), "bytes": ("Bytes",), "link": ("Link",)}
+KINDS = ("bool", "int", "string", "bytes", "list", "map", "link")  # of the members of a kinded union
 
 # What a link may lead to, beside the types of the schema.
 DATA_MODEL = ("Any", "Bool", "Bytes", "Float", "Int", "Link", "List", "Map", "String")
@@ -32,7 +34,7 @@ TAKEN = set(
     """Any Bool Bytes Float Int Link List Map Null String Unit
     Box Clone Copy Debug Default Drop Eq Err From Hash Into Iterator Model Never None Ok Option Ord PartialEq PartialOrd Result Self
     Send Some Sync Vec BTreeMap Cid Ipld Global Closed DecodeError Deserialize DeserializeOwned Deserializer EnumAccessor Field
-    Kinded Numbered Omissible Optional Read ReadResult Required Serialize Serializer Shown Variants Write WriteResult
+    Accessor ByKind Enveloped NoKind Numbered Omissible Optional Read ReadResult Required Serialize Serializer Shown Variants Write WriteResult
     EnumShape Lib Made Numbered OptionalPart Part Parts PartRow Prim R Shape Syntax TheOwn TheVariants Tree Type W""".split()
 )
 TAKEN_VARIANTS = {"Below", "Self", "Denot"}
@@ -152,12 +154,12 @@ class Schema:
 
     def check_struct(self, struct):
         names, keys = {}, {}
-        if struct.representation not in ("map", "tuple"):
+        if struct.representation not in ("map", "tuple", "listpairs"):
             refuse_later(struct, struct.representation)
         for field in struct.fields:
-            if field.implicit is not None:
-                raise SchemaError(field.implicit.place, "`implicit` is not supported yet")
             self.check_known(field.type)
+            if field.implicit is not None:
+                field.implicit = self.implied(struct, field)
             if not re.fullmatch(r"[A-Za-z][A-Za-z0-9_]*", field.name):
                 raise SchemaError(field.place, f'a field\'s name begins with a letter here: `x T (rename "{field.name}")`')
             once(names, field_name(field.name), field.place, "two fields have the name")
@@ -173,6 +175,31 @@ class Schema:
         self.check_size(struct)
         if struct.representation == "tuple":
             self.check_tuple(struct)
+        if struct.representation == "listpairs":
+            check_pairs(struct)
+
+    def implied(self, struct, field):
+        """What a field means that is left out, as a value of its type."""
+        kind, literal = self.resolve(field.type), field.implicit
+        value, place = literal.value, literal.place
+        if struct.representation != "map":
+            raise SchemaError(place, f"a field of a {struct.representation} means nothing where it is left out: `{field.name}`")
+        if field.optional:
+            raise SchemaError(place, f"`{field.name}` is optional: what is left out means no value")
+        if isinstance(kind, Leaf) and kind.kind == "Bool" and value in ("true", "false"):
+            value = value == "true"
+        if isinstance(kind, Int) and isinstance(value, str) and re.fullmatch(r"0|-?[1-9][0-9]*", value):
+            value = int(value)
+        if isinstance(kind, Leaf) and kind.kind == "Bool" and isinstance(value, bool):
+            return Literal(value, place)
+        if isinstance(kind, Int) and kind.width[0] == "i":
+            raise SchemaError(place, f"a number that is meant where it is left out has no sign here, as `# as u32` says: `{field.name}`")
+        if isinstance(kind, Int) and isinstance(value, int) and not isinstance(value, bool):
+            least, most = bounds(kind.width)
+            if least <= value <= most:
+                return Literal(value, place)
+            raise SchemaError(place, f"{value} is no {kind.width}: `{field.name}`")
+        raise SchemaError(place, f"a field that means a value where it is left out is a Bool or an Int here: `{field.name}`")
 
     def check_size(self, struct):
         """The prover takes so many steps for one statement: a struct whose fields' types are large passes them."""
@@ -212,7 +239,7 @@ class Schema:
 
     def check_union(self, union):
         names, data = {}, {}
-        if union.representation not in ("keyed", "kinded", "inline"):
+        if union.representation not in ("keyed", "kinded", "inline", "envelope"):
             refuse_later(union, union.representation)
         if not union.cases:
             raise SchemaError(union.place, f"`{union.name}` has no members")
@@ -227,6 +254,8 @@ class Schema:
                 check_key(case.data, case.place)
         if union.representation == "inline":
             self.check_inline(union)
+        if union.representation == "envelope":
+            check_envelope(union)
 
     def check_inline(self, union):
         """The members are maps of one row: of all their fields, which may be absent, behind the field that tells the member."""
@@ -241,6 +270,8 @@ class Schema:
             if struct.open != first.open:
                 raise SchemaError(case.place, f"the members of an inline union are all open or none: `{first.name}` and `{struct.name}`")
             for field in struct.fields:
+                if field.implicit is not None:
+                    raise SchemaError(case.place, f"`{struct.name}` has a field that means a value where it is left out, and is a member of an inline union: `{field.name}`")
                 other = seen.setdefault(field.key, field)
                 if field.key == union.discriminant:
                     raise SchemaError(case.place, f"`{struct.name}` has a field `{field.key}`, which tells the members of `{union.name}`")
@@ -264,16 +295,23 @@ class Schema:
 
     def check_kind(self, case):
         if case.data not in KINDS:
-            raise SchemaError(
-                case.place,
-                f"the kind {case.data} is not supported: the members of a kinded union are {', '.join(KINDS)}, which are told by their first byte",
-            )
+            raise SchemaError(case.place, f"the kind {case.data} is not supported: the members of a kinded union are {', '.join(KINDS)}")
         kind = self.resolve(case.type)
-        name = kind.kind if isinstance(kind, Leaf) else type(kind).__name__
-        if name not in KINDS[case.data]:
+        if self.kind_of(kind) != case.data:
             raise SchemaError(case.place, f"`{case.name}` is no {case.data}")
         if isinstance(kind, Int) and kind.width not in (DEFAULT_WIDTH, "i128"):
             raise SchemaError(case.place, "an int of a kinded union is any of the data model's: it is kept as i128")
+
+    def kind_of(self, kind):
+        """The kind of all data of a type; none where it has several."""
+        if isinstance(kind, Named):
+            one = self.by_name[kind.name]
+            kinds = {"int": "int", "string": "string", "true": "bool", "false": "bool", "tuple": "list", "listpairs": "list"}
+            kinds |= {word: "map" for word in ("map", "keyed", "inline", "envelope")}
+            return kinds.get(one.representation)
+        if isinstance(kind, Leaf):
+            return {"Bool": "bool", "String": "string", "Bytes": "bytes"}.get(kind.kind)
+        return {Int: "int", Link: "link", ListOf: "list", MapOf: "map"}.get(type(kind))
 
     # -- recursion
 
@@ -313,6 +351,14 @@ class Schema:
         for definition in self.definitions:
             visit(definition)
         return found
+
+
+def bounds(width):
+    """The least and the greatest of the integers of a width. Those of 128 bits are all of the data."""
+    bits = int(width[1:])
+    if width == "i128":
+        return -(2**64), 2**64 - 1
+    return (0, 2**bits - 1) if width[0] == "u" else (-(2 ** (bits - 1)), 2 ** (bits - 1) - 1)
 
 
 def depth(kind):
@@ -365,6 +411,30 @@ def once(seen, word, place, what):
 def check_key(key, place):
     if not re.fullmatch(r"[ -~]{0,40}", key) or '"' in key or "\\" in key:
         raise SchemaError(place, f"names in the data are up to 40 printable characters of ASCII here, without \" and \\: {key!r}")
+
+
+def check_pairs(struct):
+    """The pairs stand in the schema's order, and all are there: so each struct has one spelling."""
+    for field in struct.fields:
+        if field.optional:
+            raise SchemaError(field.place, f"a list of pairs has all of its fields here: `{field.name}` is optional")
+    if len(struct.fields) > MOST_PAIRS:
+        raise SchemaError(struct.fields[MOST_PAIRS].place, f"a list of pairs has at most {MOST_PAIRS} fields here, which the prover can take at once: `{struct.name}`")
+    if struct.open:
+        raise SchemaError(struct.place, f"a list of pairs has no other keys to skip: `{struct.name}`")
+
+
+def check_envelope(union):
+    """The tag stands before the content, in the order of their keys, so that it tells what to read."""
+    tag, content = union.discriminant, union.content
+    for key in (tag, content):
+        check_key(key, union.place)
+    if (len(tag), tag) >= (len(content), content):
+        raise SchemaError(
+            union.place,
+            f"the tag of `{union.name}` stands behind its content, which it is to tell: in the order of keys `{content}` comes"
+            f" {'before' if tag != content else 'with'} `{tag}`",
+        )
 
 
 def check_variant(name, place):

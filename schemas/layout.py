@@ -6,6 +6,7 @@ from dataclasses import dataclass
 WIDTH = 100  # of a line
 INSIDE = 60  # of what stands between brackets on one line
 INSIDE_STRUCT = 18  # the same of a struct's fields
+SHORT_IF = 50  # of an `if` with its `else`
 SHORT = 10  # of an item of a list, where several stand in a line
 
 

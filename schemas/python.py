@@ -2,8 +2,8 @@
 
 import keyword
 
-from schemas.law import snake
-from schemas.language import WIDTH, Language, bounds, named_blocks
+from schemas.law import bounds, snake
+from schemas.language import WIDTH, Language, named_blocks
 from schemas.parsing import WIDTHS, Alias, Enum, Int, Leaf, Link, ListOf, MapOf, Named, Nullable, Struct, Union, Unit
 
 SCALARS = {"String": "str", "Bytes": "bytes", "Bool": "bool", "Any": "Any"}
@@ -77,6 +77,24 @@ def _omissible(
     return read(entries[key], (*at, key)) if key in entries else Absent.ABSENT
 
 
+def _implied(
+    entries: dict[_Key, Any], key: _Key, at: _Place, read: _Conversion[_T], value: _T
+) -> _T:
+    """What stands under the key, which means the value where it is left out, and is no other then."""
+    if key not in entries:
+        return value
+    found = read(entries[key], (*at, key))
+    if found == value:
+        raise _refused("Msg", (*at, key), "no such value")
+    return found
+
+
+def _put_implied(entries: dict[str, Any], key: str, item: Any, value: Any) -> None:
+    """Adds an entry, where it is not what is meant without it."""
+    if item != value:
+        entries[key] = item
+
+
 def _items(value: Any, at: _Place, least: int, most: int | None = None) -> list[Any]:
     """The items of a list that has so many."""
     items = _is(list, value, at)
@@ -85,6 +103,14 @@ def _items(value: Any, at: _Place, least: int, most: int | None = None) -> list[
         why = f"a list of {wanted} is wanted, and not of {len(items)}"
         raise _refused("LengthMismatch", at, why)
     return items
+
+
+def _pair(item: Any, at: _Place, key: str, read: _Conversion[_T]) -> _T:
+    """The value of a pair of this key."""
+    found, value = _items(item, at, 2)
+    if _text(found, (*at, 0)) != key:
+        raise _refused("Msg", (*at, 0), "unknown field")
+    return read(value, (*at, 1))
 
 
 def _put(items: list[Any], place: int, at: _Place, item: Any) -> None:
@@ -108,6 +134,12 @@ def _told(value: Any, at: _Place, key: str) -> tuple[str, dict[str, Any]]:
     tag = _field(entries, key, at, _text)
     del entries[key]
     return tag, entries
+
+
+def _enveloped(value: Any, at: _Place, tag: str, content: str) -> tuple[str, Any]:
+    """What stands under the two keys of a map that has no others."""
+    entries = _fields(value, at, tag, content)
+    return _field(entries, tag, at, _text), _field(entries, content, at, _anything)
 
 
 def _unit(one: bool | None, value: Any, at: _Place) -> None:
@@ -196,7 +228,7 @@ def _refused(kind: str, at: _Place, why: str) -> DagCborError:
 class Python(Language):
     called = "Python"
     suffix = ".py"
-    kinds = {"bool": "bool", "int": "int", "string": "str", "bytes": "bytes", "link": "CID"}  # and the class of each
+    kinds = {"bool": "bool", "int": "int", "string": "str", "bytes": "bytes", "list": "list", "map": "dict", "link": "CID"}  # and the class of each
     taken = frozenset("CID Callable DagCborError Enum Absent TypeAlias TypeVar ValueError".split())
     closed_modules = frozenset({*keyword.kwlist, "collections", "dagcbor", "dataclasses", "enum", "typing"})
     gap = 2
@@ -217,8 +249,7 @@ class Python(Language):
         return f"_{word}"
 
     def function(self, way, name):
-        one = self.schema.by_name[name]
-        return f"_{'check' if is_kinded(one) else way}_{snake(name)}"
+        return f"_{way}_{snake(name)}"
 
     # ---- the file
 
@@ -266,7 +297,7 @@ class Python(Language):
 
     def declared_case(self, union, case):
         said = f"The entry {literal(case.data)} of {union.name}."
-        if union.representation == "inline":
+        if union.representation != "keyed":
             said = f"{union.name}, where {literal(union.discriminant)} is {literal(case.data)}."
         head = ["@dataclass(slots=True)", f"class {case_class(union, case)}:"]
         return [*head, f'    """{said}"""', "", f"    value: {self.annotation(case.type)}"]
@@ -277,6 +308,8 @@ class Python(Language):
             kind = self.annotation(field.type)
             if field.optional:
                 kind += " | Absent = Absent.ABSENT" if self.has_null(field.type) else " | None = None"
+            elif field.implicit is not None:
+                kind += f" = {field.implicit.value}"
             rows += [*comments(field.text, 4), f"    {self.field_name(field)}: {kind}"]
         return [*rows, *([""] if struct.fields else []), *methods(struct)]
 
@@ -320,6 +353,8 @@ class Python(Language):
         for key, field in fields:
             how = "_field" if not field.optional else "_omissible" if self.has_null(field.type) else "_optional"
             given = ["entries", literal(key), "at", self.conversion(field.type, "read")]
+            if field.implicit is not None:
+                how, given = "_implied", [*given, str(field.implicit.value)]
             rows += self.call(8, f"{self.field_name(field)}={how}(", given, "),")
         return rows
 
@@ -333,7 +368,11 @@ class Python(Language):
                 rows.append(self.if_there(field))
                 indent = 8
             write = self.conversion(field.type, "write")
-            rows += self.call(indent, f"entries[{key}] = {write}(", [held, f"(*at, {key})"], ")")
+            if field.implicit is not None:
+                given = ["entries", key, f"{write}({held}, (*at, {key}))", str(field.implicit.value)]
+                rows += self.call(4, "_put_implied(", given, ")")
+            else:
+                rows += self.call(indent, f"entries[{key}] = {write}(", [held, f"(*at, {key})"], ")")
         return [*rows, "    return entries"]
 
     def if_there(self, field):
@@ -364,6 +403,18 @@ class Python(Language):
             given = ["items", str(place), "at", self.written_item(place, field)]
             rows += [self.if_there(field), *self.call(8, "_put(", given, ")")]
         return [*rows, "    return items"]
+
+    def struct_listpairs(self, struct):
+        items = "items = " if struct.fields else ""
+        parts, pairs = [], []
+        for place, field in enumerate(struct.fields):
+            name, key = self.field_name(field), literal(field.key)
+            given = [f"items[{place}]", f"(*at, {place})", key, self.conversion(field.type, "read")]
+            parts += self.call(8, f"{name}=_pair(", given, "),")
+            pairs.append(f"[{key}, {self.conversion(field.type, 'write')}(held.{name}, (*at, {place}, 1))]")
+        read = [f"    {items}_items(value, at, {len(struct.fields)})", *constructed(struct, parts)]
+        held = "held = " if struct.fields else ""
+        return self.both(struct, read, [f"    {held}_is({struct.name}, value, at)", *self.call(4, "return [", pairs, "]")])
 
     def written_item(self, place, field):
         return f"{self.conversion(field.type, 'write')}(held.{self.field_name(field)}, (*at, {place}))"
@@ -426,14 +477,37 @@ class Python(Language):
         write.append(f'    raise _other("{union.name}", value, at)')
         return self.both(union, read, write)
 
+    def union_envelope(self, union):
+        tag, content = literal(union.discriminant), literal(union.content)
+        read, write = [f"    tag, held = _enveloped(value, at, {tag}, {content})", "    match tag:"], ["    match value:"]
+        for case in union.cases:
+            key, kind = literal(case.data), case_class(union, case)
+            call = f"{self.conversion(case.type, 'read')}(held, (*at, {content}))"
+            read += [f"        case {key}:", *self.call(12, f"return {kind}(", [call], ")")]
+            call = f"{self.conversion(case.type, 'write')}(value.value, (*at, {content}))"
+            write += [f"        case {kind}():", *self.call(12, "return {", [f"{tag}: {key}", f"{content}: {call}"], "}")]
+        read.append(f'    raise _refused("Msg", (*at, {tag}), "unknown variant")')
+        write.append(f'    raise _other("{union.name}", value, at)')
+        return self.both(union, read, write)
+
     def union_kinded(self, union):
-        """One function, since each value stands for itself. A bool is an int to Python, so that it comes first."""
-        rows = ["    match value:"]
+        """Each value stands for itself. A bool is an int to Python, so that it comes first."""
+        read, write = ["    match value:"], ["    match value:"]
         for case in sorted(union.cases, key=lambda case: case.data != "bool"):
-            kind = Int("i128", case.place) if case.data == "int" else case.type
-            rows += [f"        case {self.kinds[case.data]}():", f"            return {self.conversion(kind, 'read')}(value, at)"]
-        head = f"def {self.function('read', union.name)}(value: Any, at: _Place) -> {union.name}:"
-        return [[head, *rows, '    raise _refused("Msg", at, "unknown kind")']]
+            kind = Int("i128", case.place) if isinstance(self.schema.resolve(case.type), Int) else case.type
+            read += [f"        case {self.kinds[case.data]}():", f"            return {self.conversion(kind, 'read')}(value, at)"]
+            classes = " | ".join(f"{name}()" for name in self.classes(kind))
+            write += [f"        case {classes}:", f"            return {self.conversion(kind, 'write')}(value, at)"]
+        last = '    raise _refused("Msg", at, "unknown kind")'
+        return self.both(union, [*read, last], [*write, last])
+
+    def classes(self, kind):
+        """The classes of the values of a type that is of one kind."""
+        kind = self.schema.resolve(kind)
+        if isinstance(kind, Named):
+            one = self.schema.by_name[kind.name]
+            return [case_class(one, case) for case in one.cases] if isinstance(one, Union) else [kind.name]
+        return [self.kinds[self.schema.kind_of(kind)]]
 
 
 def spelled(number):

@@ -2,8 +2,8 @@
 
 import re
 
-from schemas.law import field_name, held_by, parts, path_name, snake
-from schemas.layout import INSIDE_STRUCT, WIDTH, Group, arm, filled, lines, split, typed
+from schemas.law import RESERVED, field_name, held_by, parts, path_name, snake
+from schemas.layout import INSIDE_STRUCT, SHORT_IF, WIDTH, Group, arm, filled, lines, split, typed
 from schemas.parsing import Alias, Enum, Int, Leaf, Link, ListOf, MapOf, Named, Nullable, Struct, Union, Unit
 
 LEAVES = {
@@ -17,7 +17,7 @@ LEAVES = {
 # Where each word of the specs stands.
 LIBRARY = "Rattle.serde_ipld_dagcbor.specs."
 WORDS = {
-    "Rattle.std.specs.Prelude": "ℕ ℤ ◌^◌ Bool List [] ◌∷◌ Option Some None option_map if◌then◌else◌ codes pos string_bytes nat_eq true false refl",
+    "Rattle.std.specs.Prelude": "ℕ ℤ ◌^◌ Bool List [] ◌∷◌ Option Some None option_map if◌then◌else◌ codes pos string_bytes nat_eq not true false refl",
     "Rattle.std.specs.Str": "bytes_eq",
     LIBRARY + "Cid": "cid_bytes",
     LIBRARY + "Tree": "Tree null text bytes boolean integer link list_tree entries_tree",
@@ -27,12 +27,18 @@ WORDS = {
     LIBRARY + "Structs": "required_field no_fields struct_shape",
     LIBRARY + "EnumViews": "EnumShape enum_of",
     "Rattle.dagcbor_schema.specs.SchemaFields": "omissible_field no_other_fields",
-    "Rattle.dagcbor_schema.specs.ToldValues": "told_by_number told_by_tree",
+    "Rattle.dagcbor_schema.specs.ToldValues": "told_by_number",
+    "Rattle.dagcbor_schema.specs.Kinds": "by_kind no_kind",
+    "Rattle.dagcbor_schema.specs.declared.by_kind.ByKind": "ByKind",
+    "Rattle.dagcbor_schema.specs.Envelopes": "envelope_of",
+    "Rattle.dagcbor_schema.specs.Implied": "implied unless_implied",
+    "Rattle.dagcbor_schema.specs.Pairs": "pair_of named",
     "Rattle.dagcbor_schema.specs.Parts": "optional_part optional_then",
     "Rattle.dagcbor_schema.specs.Members": "there absent",
 }
-SCHEMA_WORDS = """Closed Kinded Made Numbered Omissible OptionalPart Part read_kinded read_made read_numbered read_parts
-    write_parts""".split()
+SCHEMA_WORDS = """ByKind Closed Enveloped Made NoKind Numbered Omissible OptionalPart Part of_name read_enveloped read_made
+    read_numbered read_parts unless_false unless_meant write_parts""".split()
+KINDS_PATH = "Rattle.dagcbor_schema.specs.declared.by_kind.ByKind.TheVariants as kinds"
 LETTERS = {"ℕ": "ℕ", "ℤ": "ℤ", "^": "◌^◌", "[]": "[]", "∷": "◌∷◌", "if": "if◌then◌else◌"}
 PUNCTUATION = str.maketrans({char: " " for char in "();,={}⟦⟧<>|[].λ:"})
 
@@ -138,10 +144,10 @@ class Module:
     def imports(self, text, ghost):
         """The lines that import the words of the text: in code as `ghost use`, in specs as `use`."""
         head, close = ("ghost use ", ";") if ghost else ("use ", "")
-        text = re.sub(r'"[^"]*"', "", text)
+        text = re.sub(r'"[^"]*"|kinds\.\w+', "", text)
         words = set(text.translate(PUNCTUATION).split())
         words |= {name for sign, name in LETTERS.items() if sign in words}
-        if "∷ []" in text:
+        if "[]" in text:
             words.add("[]")
         made = []
         for home, there in WORDS.items():
@@ -155,13 +161,16 @@ class Module:
         name = snake(one.name)
         if isinstance(one, Enum):
             return [f"{name}_variants", f"{name}_shape"] if one.representation == "string" else [f"{name}_of_number", f"{name}_shape"]
+        of_row = [f"{name}_row", f"{name}_row_shape", f"{name}_of_row", f"{name}_shape"]
+        if isinstance(one, Struct) and is_made(one):
+            return [view_name(one), *of_row]
         if isinstance(one, (Struct, Unit)):
             words = [f"{name}_of_bool"] if isinstance(one, Unit) and one.representation != "null" else []
             return [view_name(one), *words, f"{name}_shape"]
         made = [view_name(one), *(case_word(one, case) for case in one.cases)]
-        if one.representation == "inline":
-            return made + [f"{name}_row", f"{name}_row_shape", f"{name}_of_row", f"{name}_shape"]
-        return made + ([f"{name}_variants", f"{name}_shape"] if one.representation == "keyed" else [f"{name}_of_tree", f"{name}_shape"])
+        if one.representation in ("inline", "kinded"):
+            return made + of_row
+        return made + [f"{name}_variants", f"{name}_shape"]
 
     def variants_import(self, one, ghost):
         head, close = ("ghost use ", ";") if ghost else ("use ", "")
@@ -180,6 +189,8 @@ class Module:
         text = "\n".join(line for line in body if not line.startswith("--"))
         head = [f"-- What a tree shows to the types of {source}, by ./dagcbor-types."]
         head += self.imports(text, ghost=False)
+        if "(kinds." in text:
+            head.append(f"use {KINDS_PATH}")
         for one in self.types:
             if shows_itself(one):
                 head += self.variants_import(one, ghost=False)
@@ -200,23 +211,63 @@ class Module:
             rows = [f"{'optional' if field.optional else 'first'}_then {wrapped(self.shape(kind))} (" for field, kind in kinds]
             end, whole = "no_more", "list_of ("
             said = "a list of " + listed([field.name for field, _ in kinds])
+        elif struct.representation == "listpairs":
+            rows = [f"first_then (pair_of {wrapped(self.shape(kind))}) (" for _, kind in kinds]
+            end, whole = "no_more", "list_of ("
+            said = "a list of pairs, of " + listed([field.name for field, _ in kinds])
         else:
             rows = [
-                f'{"omissible" if field.optional else "required"}_field (codes "{field.key}") {wrapped(self.shape(kind))} ('
+                f'{"omissible" if may_lack(field) else "required"}_field (codes "{field.key}") {wrapped(self.shape(kind))} ('
                 for field, kind in kinds
             ]
             end, whole = "no_fields" if struct.open else "no_other_fields", "struct_shape ("
             said = "a map of " + listed([field.name for field, _ in kinds])
-        return [
-            f"-- {struct.name}: {said}",
-            f"abbrev pub {view} : Type 0",
-            *view_rows(view, shown),
-            "",
-            f"abbrev pub {name}_shape : Shape Tree {view}",
-            f"{name}_shape = {whole}",
+        head = [f"-- {struct.name}: {said}", f"abbrev pub {view} : Type 0", *view_rows(view, shown), ""]
+        row = f"{name}_row" if is_made(struct) else name
+        shape = [
+            f"abbrev pub {row}_shape : Shape Tree {row if is_made(struct) else view}",
+            f"{row}_shape = {whole}",
             *(f"    {row}" for row in rows[:-1]),
             *([f"    {rows[-1][:-2]} {end}{')' * len(rows)}"] if rows else [f"    {end})"]),
         ]
+        if not is_made(struct):
+            return head + shape
+        pairs = struct.representation == "listpairs"
+        held = [f"Option {wrapped(self.view(kind))}" if may_lack(field) else self.view(kind) for field, kind in kinds]
+        held = [f"(List ℕ × ({wrapped(one)} × Unit {{0}}))" for one in held] if pairs else held
+        made, values = [], []
+        for place, (field, kind) in enumerate(kinds):
+            path = "row" + ".1" * place + ".0"
+            local = field_name(field.name) + "'"  # the sign keeps it from being antt's own word
+            if pairs:
+                made.append(f'    named (codes "{field.key}") {path} (λ {local}.')
+            elif field.implicit is not None:
+                test, value, _ = self.implied(kind, field.implicit.value)
+                made.append(f"    implied {test} {value} {path} (λ {local}.")
+            values.append(local if made and made[-1].endswith(f"(λ {local}.") else path)
+        pairs = "".join(f"({value}, " for value in values) + "tt" + ")" * len(values)
+        return [
+            *head,
+            f"abbrev pub {name}_row : Type 0",
+            *view_rows(f"{name}_row", held),
+            "",
+            *shape,
+            "",
+            f"abbrev pub {name}_of_row : {name}_row → Option {view}",
+            f"{name}_of_row row =",
+            *made,
+            f"    Some {pairs}{')' * len(made)}",
+            "",
+            f"abbrev pub {name}_shape : Shape Tree {view}",
+            f"{name}_shape = finishing {name}_of_row {name}_row_shape",
+        ]
+
+    @staticmethod
+    def implied(kind, value):
+        """Of a value that is meant: the test of it and itself in specs, and itself in code."""
+        if isinstance(kind, Int):
+            return f"(λ n. nat_eq n {value})", str(value), str(value)
+        return ("(λ b. b)", "true", "true") if value else ("not", "false", "false")
 
     def writing_takes_memory(self, kind):
         """Whether writing it may take memory, where the writer takes none."""
@@ -265,6 +316,9 @@ class Module:
 
     def variants_spec(self, one, view, part, need, memory):
         name = snake(one.name)
+        form = "enum_of"
+        if one.representation == "envelope":
+            form = f'envelope_of (codes "{one.discriminant}") (codes "{one.content}")'
         return [
             f"abbrev pub {name}_variants : EnumShape {view}",
             f"{name}_variants = record {{",
@@ -276,7 +330,7 @@ class Module:
             "}",
             "",
             f"abbrev pub {name}_shape : Shape Tree {view}",
-            f"{name}_shape = enum_of {name}_variants",
+            f"{name}_shape = {form} {name}_variants",
         ]
 
     def union_spec(self, union):
@@ -288,16 +342,7 @@ class Module:
             "",
         ]
         if union.representation == "kinded":
-            return [
-                f"-- {union.name}: told by its kind",
-                *data,
-                f"abbrev pub {name}_of_tree : Tree → Option {view}",
-                *(f"{name}_of_tree ({TREES[case.data]} x) = Some ({case_word(union, case)} x)" for case, _ in kinds),
-                f"{name}_of_tree _ = None",
-                "",
-                f"abbrev pub {name}_shape : Shape Tree {view}",
-                f"{name}_shape = told_by_tree {name}_of_tree",
-            ]
+            return [f"-- {union.name}: told by its kind", *data, *self.kinded_spec(union)]
         if union.representation == "inline":
             return [f"-- {union.name}: a map, told by one of its fields", *data, *self.inline_spec(union)]
         parts, needs = [], []
@@ -306,8 +351,9 @@ class Module:
             shape = f"{wrapped(self.shape(kind))}"
             parts.append(f"    {test} option_map {case_word(union, case)} ({shape}.view t)")
             needs.append(f"    {test} {shape}.need t")
+        said = "a map of one entry, from a name" if union.representation == "keyed" else "a map of a tag and of what it tells"
         return [
-            f"-- {union.name}: a map of one entry, from a name",
+            f"-- {union.name}: {said}",
             *data,
             f"abbrev pub {name}_part : List ℕ → Tree → Option {view}",
             f"{name}_part name t =",
@@ -320,6 +366,29 @@ class Module:
             "    else 0",
             "",
             *self.variants_spec(union, view, f"{name}_part", f"{name}_need", any(self.reading_takes_memory(kind) for _, kind in kinds)),
+        ]
+
+    def kinded_spec(self, union):
+        name, view = snake(union.name), view_name(union)
+        held = {case.data: self.case_kind(union, case) for case in union.cases}
+        views = [wrapped(self.view(held[kind]) if kind in held else "Unit {0}") for kind in KINDS]
+        shapes = [f"  of_{word} = {self.shape(held[kind]) if kind in held else 'no_kind'};" for kind, (word, _) in KINDS.items()]
+        rows = [f"{name}_of_row (kinds.{KINDS[case.data][1]} x) = Some ({case_word(union, case)} x)" for case in union.cases]
+        return [
+            f"abbrev pub {name}_row : Type 0",
+            *applied(f"{name}_row = ByKind", views),
+            "",
+            f"abbrev pub {name}_row_shape : Shape Tree {name}_row",
+            f"{name}_row_shape = by_kind (record {{",
+            *shapes,
+            "})",
+            "",
+            f"abbrev pub {name}_of_row : {name}_row → Option {view}",
+            *rows,
+            *([f"{name}_of_row _ = None"] if len(held) < len(KINDS) else []),
+            "",
+            f"abbrev pub {name}_shape : Shape Tree {view}",
+            f"{name}_shape = finishing {name}_of_row {name}_row_shape",
         ]
 
     def unit_spec(self, unit):
@@ -430,13 +499,14 @@ class Module:
 
     @staticmethod
     def code_imports(text):
-        text = re.sub(r'"[^"]*"', "", "\n".join(line for line in text.split("\n") if "///" not in line)).replace("fn read_parts", "")
+        text = "\n".join(line for line in text.split("\n") if "///" not in line)
+        text = re.sub(r'"[^"]*"|fn read_parts|ByKind::[A-Z]\w*', "ByKind" if "ByKind::" in text else "", text)
         words = set("".join(char if char.isalnum() or char == "_" else " " for char in text).split())
         made = []
         schema = [word for word in SCHEMA_WORDS if word in words]
         if schema:
             made += filled("use dagcbor_schema::", schema, ";")
-        library = """Bytes Cid DecodeError Deserialize DeserializeOwned Deserializer EnumAccessor Field Ipld Optional Read ReadResult
+        library = """Accessor Bytes Cid DecodeError Deserialize DeserializeOwned Deserializer EnumAccessor Field Ipld Optional Read ReadResult
             Required Serialize Serializer Shown Variants Write WriteResult read_enum read_struct write_struct""".split()
         made += filled("use serde_ipld_dagcbor::", [word for word in library if word in words], ";")
         made.append("use std::alloc::Global;")
@@ -471,15 +541,14 @@ class Module:
 
     def impls(self, one):
         if isinstance(one, Struct):
-            made = self.tuple_impls(one) if one.representation == "tuple" else self.struct_impls(one)
+            forms = {"map": self.struct_impls, "tuple": self.tuple_impls, "listpairs": self.pairs_impls}
+            made = forms[one.representation](one)
         elif isinstance(one, Enum):
             made = self.enum_impls(one) if one.representation == "string" else self.number_impls(one)
         elif isinstance(one, Unit):
             made = self.unit_impls(one)
-        elif one.representation == "inline":
-            made = self.inline_impls(one)
         else:
-            made = self.keyed_impls(one) if one.representation == "keyed" else self.kinded_impls(one)
+            made = getattr(self, f"{one.representation}_impls")(one)
         return made + [
             "",
             f"impl<'de> DeserializeOwned<'de> for {one.name} {{",
@@ -495,27 +564,74 @@ class Module:
         tree = []
         for field, kind in sorted_kinds:
             value = f"v.{field_name(field.name)}"
-            if field.optional:
+            if field.implicit is not None:
+                value = f"(unless_implied {self.implied(kind, field.implicit.value)[0]} {value})"
+            if may_lack(field):
                 tree.append(f'optional (codes "{field.key}") {self.tree_of(kind)} {value} (')
             else:
                 tree.append(f'field (codes "{field.key}") ({self.tree(kind, value)}) ∷')
-        write = ["        let row = ();"]
+        write = []
+        for field, _ in kinds:
+            if field.implicit is not None:
+                write += self.unless_implied(field)
+        write.append("        let row = ();")
         for field, _ in reversed(sorted_kinds):
-            form = "Optional" if field.optional else "Field"
-            part = Group(f"{form}(", [f'"{field.key}"', f"&self.{field_name(field.name)}"], ")")
+            form = "Optional" if may_lack(field) else "Field"
+            held = field_name(field.name) if field.implicit is not None else f"self.{field_name(field.name)}"
+            part = Group(f"{form}(", [f'"{field.key}"', f"&{held}"], ")")
             write += lines(Group("let row = (", [part, "row"], ")"), 8, ";")
         write.append("        write_struct(alloc, row, ser)")
         names = Group("let names = &[", [f'"{field.key}"' for field, _ in kinds], "]")
         end = "()" if struct.open else "Closed"
         read = lines(names, 8, ";")
-        read += lines(Group("let row = read_struct(", ["alloc", f'"{struct.name}"', "names", "de"], ")?"), 8, ";")
+        call = ["alloc", f'"{struct.name}"', "names", "de"]
+        whole = ghost_rows("λ v. entries_tree (", tree, "[]")
+        made = [*self.serialize_impl(struct, whole, write), *self.shown_impl(struct, self.row_meaning(kinds))]
+        if has_implied(struct):
+            read += lines(Group("read_struct(", call, ")"), 8)
+            return made + self.implied_impls(struct, kinds, end, read)
+        read += lines(Group("let row = read_struct(", call, ")?"), 8, ";")
         read += self.row_apart(kinds, end)
         read += lines(self.literal(struct), 8)
+        return made + self.deserialize_impl(struct, read)
+
+    @staticmethod
+    def unless_implied(field):
+        """What is written of a field that is left out where it is what that means."""
+        name, value = field_name(field.name), field.implicit.value
+        if value is False:
+            return lines(Group(f"let {name} = unless_false(", [f"self.{name}"], ")"), 8, ";")
+        test = f"self.{name}" if value is True else f"self.{name} == {value}"
+        return lines(Group(f"let {name} = unless_meant(", [f"self.{name}", test], ")"), 8, ";")
+
+    def implied_impls(self, struct, kinds, end, read):
+        """A struct that is made of a row in which fields are left out that mean a value then."""
+        name = snake(struct.name)
+        of = self.row_apart(kinds, end)
+        of[0] = of[0].replace("= row;", "= parts;")
+        for field, kind in kinds:
+            if field.implicit is not None:
+                word, value = field_name(field.name), self.implied(kind, field.implicit.value)[2]
+                of += [f"        let {word} = match {word} {{", f"            None => {value},", f"            Some({value}) => return None,"]
+                of += ["            Some(x) => x,", "        };"]
+        of += lines(Group(f"Some({struct.name} {{", [field_name(field.name) for field in struct.fields], "})", INSIDE_STRUCT), 8)
+        parts, seen = "Closed" if end == "Closed" else "()", []
+        for field, kind in reversed(kinds):
+            part = f"{self.code(kind)}"
+            parts = f"Omissible<{part}, {parts}>" if may_lack(field) else f"(Required<{part}>, {parts})"
+        for place, (field, kind) in enumerate(kinds):
+            value = self.row_place(kinds, place)
+            seen.append(self.meaning(Nullable(kind, kind.place), value) if may_lack(field) else self.meaning(kind, value + ".0"))
+        meaning = self.row_meaning(kinds)
         return [
-            *self.serialize_impl(struct, ghost_rows("λ v. entries_tree (", tree, "[]"), write),
-            *self.shown_impl(struct, self.row_meaning(kinds)),
-            *self.deserialize_impl(struct, read),
+            *self.made_impl(struct, parts, [f"{name}_row", pairs_of(seen), f"{name}_row_shape"], meaning, f"{name}_of_row", read, of),
+            *self.deserialize_impl(struct, ["        read_made(alloc, de)"]),
         ]
+
+    @staticmethod
+    def row_place(kinds, place):
+        """What stands at a place of a row of fields."""
+        return "v" + ".1" * place + ".0"
 
     def row_meaning(self, kinds):
         rows = []
@@ -552,6 +668,37 @@ class Module:
             *self.deserialize_impl(struct, read),
         ]
 
+    def pairs_impls(self, struct):
+        kinds = [(field, self.schema.resolve(field.type)) for field in struct.fields]
+        tree, write, of, seen, parts = [], [], self.row_apart(kinds, "()"), [], "()"
+        for place, (field, kind) in enumerate(kinds):
+            word = field_name(field.name)
+            tree.append(f'list_tree (Some (text (codes "{field.key}")) ∷ {self.tree(kind, f"v.{word}")} ∷ []) ∷')
+            write += lines(Group(f"let {word} = (", [f'"{field.key}"', f"&self.{word}"], ")"), 8, ";")
+            seen.append(f"⟦<(String, {self.code(kind)}) as Shown>⟧.meaning {self.row_place(kinds, place)}.0")
+        write.append("        let row = ();")
+        for field, kind in reversed(kinds):
+            write.append(f"        let row = (Part(&{field_name(field.name)}), row);")
+            parts = f"(Required<(String, {self.code(kind)})>, {parts})"
+        write.append(f"        write_parts(alloc, {len(kinds)}, row, ser)")
+        if kinds:
+            of[0] = of[0].replace("= row;", "= parts;")
+        else:
+            of = ["        let () = parts;"]
+        for field, _ in kinds:
+            word = field_name(field.name)
+            of += lines(Group(f"let {word} = of_name(", [word, f'"{field.key}"'], ")?"), 8, ";")
+        names = [field_name(field.name) for field, _ in kinds]
+        of += lines(Group(f"Some({struct.name} {{", names, "})", INSIDE_STRUCT) if names else f"Some({struct.name} {{}})", 8)
+        name, meaning = snake(struct.name), self.row_meaning(kinds)
+        return [
+            *self.serialize_impl(struct, ghost_rows("λ v. list_tree (", tree, "[]"), write),
+            *self.shown_impl(struct, meaning),
+            *self.made_impl(struct, parts, [f"{name}_row", pairs_of(seen), f"{name}_row_shape"], meaning, f"{name}_of_row",
+                            [f"        read_parts(alloc, {len(kinds)}, de)"], of),
+            *self.deserialize_impl(struct, ["        read_made(alloc, de)"]),
+        ]
+
     @staticmethod
     def row_apart(kinds, end):
         """The lines that take a row apart into its fields."""
@@ -559,7 +706,7 @@ class Module:
         for place, (field, _) in enumerate(kinds):
             name = field_name(field.name)
             rest = "row" if place < len(kinds) - 1 else end
-            made.append(f"        let {f'Omissible({name}, {rest})' if field.optional else f'(Required({name}), {rest})'} = row;")
+            made.append(f"        let {f'Omissible({name}, {rest})' if may_lack(field) else f'(Required({name}), {rest})'} = row;")
         return made or [f"        let {end} = row;"]
 
     # -- enums
@@ -616,7 +763,7 @@ class Module:
             read = ["        let () = Deserialize::deserialize(alloc, de)?;", f"        Ok({name})"]
             return made + self.deserialize_impl(unit, read)
         of = [f"        if parts {{ {f'Some({name})' if word == 'true' else 'None'} }} else {{ {'None' if word == 'true' else f'Some({name})'} }}"]
-        if len(of[0]) > 58:
+        if len(of[0].strip()) > SHORT_IF:
             of = ["        if parts {", f"            {f'Some({name})' if word == 'true' else 'None'}", "        } else {",
                   f"            {'None' if word == 'true' else f'Some({name})'}", "        }"]
         return [
@@ -740,26 +887,54 @@ class Module:
 
     def kinded_impls(self, union):
         name = union.name
-        tree, meaning, write, of = [], [], ["        match self {"], ["        match value {"]
+        tree, meaning, write, of, types = [], [], ["        match self {"], ["        match parts {"], {}
         for case in union.cases:
             kind = self.case_kind(union, case)
-            held = {"bool": "Bool", "int": "Integer", "string": "String", "bytes": "Bytes", "link": "Link"}[case.data]
+            types[case.data] = self.code(kind)
             tree.append(f"{alias(union)}.{case.name} x ↦ {self.tree(kind, 'x')}")
             meaning.append(f"{alias(union)}.{case.name} x ↦ {case_word(union, case)} {wrapped(self.meaning(kind, 'x'))}")
             write += arm(f"{name}::{case.name}(x)", Group("x.serialize(", ["alloc", "ser"], ")"), 12)
-            inner = "Bytes(x)" if held == "Bytes" else "x"
-            of += arm(f"Ipld::{held}(x)", Group("Some(", [Group(f"{name}::{case.name}(", [inner], ")")], ")", WIDTH), 12)
+            found = f"ByKind::{KINDS[case.data][1]}(x)"
+            of += arm(found, Group("Some(", [Group(f"{name}::{case.name}(", ["x"], ")")], ")", WIDTH), 12)
         write.append("        }")
-        named = {case.data for case in union.cases}
-        others = [("null", "Null"), ("bool", "Bool(_)"), ("int", "Integer(_)"), ("string", "String(_)"), ("bytes", "Bytes(_)")]
-        others += [("list", "List(_)"), ("map", "Map(_)"), ("link", "Link(_)")]
-        of += [f"            Ipld::{form} => None," for kind, form in others if kind not in named]
+        of += [f"            ByKind::{word}(_) => None," for kind, (_, word) in KINDS.items() if kind not in types]
         of.append("        }")
+        parts = f"ByKind<{', '.join(types.get(kind, 'NoKind') for kind in KINDS)}>"
+        seen = [f"{snake(name)}_row", [f"⟦<{parts} as Shown>⟧.meaning"], f"{snake(name)}_row_shape"]
         return [
             *self.serialize_impl(union, cases_of(tree), write),
             *self.shown_impl(union, cases_of(meaning)),
-            *self.told_impl(union, "Kinded", "of_data(value: Ipld)", cases_of(meaning), f"{snake(name)}_of_tree", of),
-            *self.deserialize_impl(union, ["        read_kinded(alloc, de)"]),
+            *self.made_impl(union, parts, seen, cases_of(meaning), f"{snake(name)}_of_row", ["        ByKind::deserialize(alloc, de)"], of),
+            *self.deserialize_impl(union, ["        read_made(alloc, de)"]),
+        ]
+
+    def envelope_impls(self, union):
+        name = union.name
+        tree, meaning, write, read = [], [], ["        match self {"], ["        match tag {"]
+        for case in union.cases:
+            kind = self.case_kind(union, case)
+            tag = f'field (codes "{union.discriminant}") (Some (text (codes "{case.data}")))'
+            held = f'field (codes "{union.content}") ({self.tree(kind, "x")})'
+            tree.append(f"{alias(union)}.{case.name} x ↦ entries_tree ({tag} ∷\n          {held} ∷ [])")
+            meaning.append(f"{alias(union)}.{case.name} x ↦ {case_word(union, case)} {wrapped(self.meaning(kind, 'x'))}")
+            rows = [f'                let tag = "{case.data}";', "                let row = ();"]
+            for key, value in ((union.content, "x"), (union.discriminant, "&tag")):
+                rows += lines(Group("let row = (", [Group("Field(", [f'"{key}"', value], ")"), "row"], ")"), 16, ";")
+            write += [f"            {name}::{case.name}(x) => {{", *rows, "                write_struct(alloc, row, ser)", "            }"]
+            read += [
+                f'            "{case.data}" => {{',
+                "                let x = entries.next_value(alloc, de)?;",
+                f"                Ok({name}::{case.name}(x))",
+                "            }",
+            ]
+        write.append("        }")
+        read += ['            _ => Err(DecodeError::custom("unknown variant")),', "        }"]
+        keys = [f'"{union.discriminant}"', f'"{union.content}"']
+        return [
+            *self.serialize_impl(union, cases_of(tree), write),
+            *self.shown_impl(union, cases_of(meaning)),
+            *self.enveloped_impl(union, cases_of(meaning), read),
+            *self.deserialize_impl(union, lines(Group("read_enveloped(", ["alloc", *keys, "de"], ")"), 8)),
         ]
 
     # ---- proofs
@@ -769,6 +944,23 @@ class Module:
         union one of whose members is a link, where the search takes the CID apart, and those of an inline union."""
         made = {}
         for one in self.types:
+            if isinstance(one, Struct) and has_implied(one):
+                place = f"{self.name}.{one.name}Serialize.serialize"
+                fields = [field for field in one.fields if field.implicit is not None]
+                words = ["unless_false" if field.implicit.value is False else "unless_meant" for field in fields]
+                calls = [f"c.{word}-{field_name(field.name)}.ensures" for word, field in zip(words, fields)]
+                steps = "".join(f"rw (sym {call}) (" for call in calls)
+                made[place.replace(".", "/")] = "\n".join([
+                    f"-- What writes {one.name}, of {source}, by ./dagcbor-types.",
+                    "use Rattle.std.proofs.Common.{sym}",
+                    f"use Rattle.{self.crate}.proofs.{place}.Goals as goal",
+                    "",
+                    "pub returns-clause-written : goal.returns-clause-written",
+                    f"returns-clause-written g c = {steps}c.write_struct.ensures.written{')' * len(calls)}",
+                    "",
+                ])
+            if isinstance(one, Union) and one.representation == "envelope":
+                made |= self.envelope_answers(one, source)
             cases = getattr(one, "cases", [])
             links = any(isinstance(self.schema.resolve(case.type), Link) for case in cases)
             if len(cases) > 1 and (one.representation == "inline" or (one.representation == "keyed" and links)):
@@ -785,6 +977,43 @@ class Module:
                     rows.append(f"{goal} g c = rw c.in-{case.name}.is c.{call}.ensures.written")
                 made[place.replace(".", "/")] = "\n".join(rows) + "\n"
         return made
+
+    def envelope_answers(self, union, source):
+        """Of the members whose tags are words: the goals of their arms have names of these. The search finds the others."""
+        place, name = f"{self.name}.{union.name}Enveloped.read_content", snake(union.name)
+        cases = [case for case in union.cases if re.fullmatch(r"[a-z][a-z_]*", case.data) and case.data not in RESERVED]
+        if not cases:
+            return {}
+        takes = any(self.reading_takes_memory(self.case_kind(union, case)) for case in union.cases)
+        rows = []
+        for case in cases:
+            behind = f"-in_err-x-in-{case.data}" if case is not union.cases[0] else ""
+            shape = wrapped(self.shape(self.case_kind(union, case)))
+            head = f"{name}_variants (λ x. {case_word(union, case)} x) {shape} g.row.R-Error.Denot _"
+            told = f'(codes "{case.data}")'
+            same = f"c.in-{case.data}.is (λ t. refl) (λ t. refl)"
+            lacks = "refl" if takes else "h"
+            ok, err = (f"returns-in_{way}-x-in-{case.data}-clause-value" for way in ("ok", "err"))
+            rows += [
+                "",
+                f"pub {ok} : goal.{ok}",
+                f"{ok} g c = λ sound.",
+                f"    content_shown {head} _ _ {told} _ _ {same} sound c.in_ok-x-in-{case.data}.ensures.value",
+                "",
+                f"pub {err} : goal.{err}",
+                f"{err} g c = λ sound.",
+                f"    content_handed_on {head} _ _ _ _ {told} _ _ c.from_residual{behind}.ensures.1 {same}"
+                f" (λ h. h) (λ lends h. {lacks}) sound c.in_err-x-in-{case.data}.ensures.value",
+            ]
+        text = "\n".join(rows)
+        words = self.imports(text, ghost=False)
+        shapes = [f"{name}_variants", *(case_word(union, case) for case in cases)]
+        shapes += sorted({word for word in re.findall(r"\w+_shape", text)})
+        words += split(f"use Rattle.{self.crate}.specs.{self.path}.", shapes, "")
+        words.append("use Rattle.dagcbor_schema.proofs.EnvelopeFronts.{content_shown, content_handed_on}")
+        words.append(f"use Rattle.{self.crate}.proofs.{place}.Goals as goal")
+        head = f"-- The members of {union.name}, of {source}, by ./dagcbor-types."
+        return {place.replace(".", "/"): "\n".join([head, *words, text]) + "\n"}
 
     # -- the forms of an impl
 
@@ -852,6 +1081,29 @@ class Module:
             "}",
         ]
 
+    @staticmethod
+    def enveloped_impl(one, meaning, body):
+        return [
+            "",
+            f"impl<'de> Enveloped<'de> for {one.name} {{",
+            f"    ghost View = {{ {view_name(one)} }};",
+            "",
+            *ghost("meaning", meaning),
+            "",
+            f"    ghost shape = {{ {snake(one.name)}_variants }};",
+            "",
+            "    #[tactic(auto, using(dagcbor_schema::proofs::EnvelopeFronts::content_not_read))]",
+            "    fn read_content<R: Read>(",
+            "        alloc: Global,",
+            "        tag: &str,",
+            "        entries: &mut Accessor<'de>,",
+            "        de: &mut Deserializer<'de, R>,",
+            f"    ) -> ReadResult<{one.name}, R> {{",
+            *body,
+            "    }",
+            "}",
+        ]
+
     def read_enum_impl(self, one, names):
         names = Group("let names = &[", [f'"{name}"' for name in names], "]")
         call = Group("read_enum(", ["alloc", f'"{one.name}"', "names", "de"], ")")
@@ -909,7 +1161,41 @@ class Module:
         ]
 
 
-TREES = {"bool": "boolean", "int": "integer", "string": "text", "bytes": "bytes", "link": "link"}
+# The kinds of data, as of a kinded union: in the words of specs, and as a variant of `ByKind`.
+KINDS = {
+    "bool": ("bool", "Bool"),
+    "int": ("integer", "Integer"),
+    "string": ("text", "Text"),
+    "bytes": ("bytes", "Bytes"),
+    "list": ("list", "List"),
+    "map": ("map", "Map"),
+    "link": ("link", "Link"),
+}
+
+
+def may_lack(field):
+    """Whether the data may lack the field: it is optional, or means a value where it is left out."""
+    return field.optional or field.implicit is not None
+
+
+def is_made(struct):
+    """Whether the struct is made of a row that is read in another form."""
+    return has_implied(struct) or struct.representation == "listpairs"
+
+
+def has_implied(struct):
+    return any(field.implicit is not None for field in struct.fields)
+
+
+def applied(head, words):
+    """A type of these parameters, in as many lines as it takes."""
+    made, line = [], head
+    for word in words:
+        if len(f"{line} {word}") > WIDTH:
+            made.append(line)
+            line = "   "
+        line += f" {word}"
+    return [*made, line]
 
 
 def shows_itself(one):

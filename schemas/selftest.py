@@ -3,7 +3,8 @@
 
     python3 -m schemas.selftest                   at the top of the repository; ends in a line `N passed, M failed`
     python3 -m schemas.selftest prove 30 [FIRST]  makes 30 schemas at random, from seed FIRST on, and has `rt` prove what the tool
-                                                  makes of each, and lay it out, in a copy: a line for each. It takes an hour or two
+                                                  makes of each, and lay it out, in a copy: a line for five, which are modules of
+                                                  one crate. It takes an hour or two
     python3 -m schemas.selftest draw 7            prints the schema of a seed
     python3 -m schemas.selftest wrong             writes specs of a schema that was edited beside the code of the schema as it was,
                                                   edit by edit, and has `rt` refuse each: a line for each, some ten minutes"""
@@ -35,15 +36,20 @@ REFUSED = [
     ("type A struct {\n  b optional B\n}\ntype B {String:nullable C}\ntype C union {\n | A \"a\"\n} representation keyed", "1:6: `A` holds itself (A -> B -> C -> A)"),
     ("type A = A", "1:6: `A` holds itself"),
     ("type A struct { x Int } representation stringjoin", "1:40: stringjoin wants `{ join \"a\" }` behind it"),
-    ("type A struct { x Int } representation listpairs", "1:6: listpairs is not supported yet: `A`"),
+    ("type A struct {\n  x optional Int\n} representation listpairs", "2:3: a list of pairs has all of its fields here: `x` is optional"),
+    ("type A struct {\n  a Int\n  b Int\n  c Int\n  d Int\n} representation listpairs", "5:3: a list of pairs has at most 3 fields here"),
     ("type A {String:Int} representation stringpairs", "1:36: the representation stringpairs of `A` is not supported"),
     ("type A union {\n  | Int \"i\"\n} representation envelope", "3:18: envelope wants `{ discriminantKey \"a\" }` behind it"),
     ("type A union {\n  | Int \"i\"\n} representation inline", "3:18: inline wants `{ discriminantKey \"a\" }` behind it"),
     ("type A union {\n  | Int \"i\"\n} representation stringprefix", "1:6: stringprefix is not supported yet: `A`"),
     ("type A union {\n  | Int \"i\"\n} representation bytesprefix", "3:18: the representation bytesprefix of `A` is not supported"),
     ("type A union {\n  | Int \"i\"\n}", "3:2: the representation of the union `A` is wanted"),
-    ("type A union {\n  | B list\n} representation kinded\ntype B [Int]", "2:5: the kind list is not supported"),
-    ("type A union {\n  | B map\n} representation kinded\ntype B {String:Int}", "2:5: the kind map is not supported"),
+    ("type A union {\n  | B list\n} representation kinded\ntype B {String:Int}", "2:5: `B` is no list"),
+    ("type A union {\n  | B map\n} representation kinded\ntype B struct {\n  x Int\n} representation tuple", "2:5: `B` is no map"),
+    ("type A union {\n  | Any map\n} representation kinded", "2:5: `Any` is no map"),
+    ("type A union {\n  | B null\n} representation kinded\ntype B unit", "2:5: the kind null is not supported"),
+    ("type A union {\n  | Int \"i\"\n} representation envelope {\n  discriminantKey \"type\"\n  contentKey \"data\"\n}", "1:6: the tag of `A` stands behind its content"),
+    ("type A union {\n  | Int \"i\"\n} representation envelope {\n  discriminantKey \"t\"\n}", "3:18: envelope wants `{ contentKey \"a\" }` behind it"),
     ("type A union {\n  | String bytes\n} representation kinded", "2:5: `String` is no bytes"),
     ("type A union {\n  | B int\n} representation kinded\ntype B int # as u8", "2:5: an int of a kinded union"),
     ("type A union {\n  | Int \"a\"\n  | Bool \"a\"\n} representation keyed", "3:5: two members have the key `a`: this and line 2"),
@@ -58,7 +64,13 @@ REFUSED = [
     ("type A struct {\n  x Int\n  x String\n}", "3:3: two fields have the name `x`: this and line 2"),
     ("type A struct {\n  fooBar Int\n  foo_bar String\n}", "3:3: two fields have the name `foo_bar`"),
     ("type A struct {\n  x Int\n  y String (rename \"x\")\n}", "3:3: two fields have the key `x`"),
-    ("type A struct {\n  x Int (implicit \"0\")\n}", "2:19: `implicit` is not supported yet"),
+    ("type A struct {\n  x Int (implicit 256) # as u8\n}", "2:19: 256 is no u8: `x`"),
+    ("type A struct {\n  x String (implicit true)\n}", "2:22: a field that means a value where it is left out is a Bool or an Int here: `x`"),
+    ("type A struct {\n  x nullable Int (implicit 0)\n}", "2:28: a field that means a value where it is left out is a Bool or an Int here: `x`"),
+    ("type A struct {\n  x Int (implicit 0)\n}", "2:19: a number that is meant where it is left out has no sign here"),
+    ("type A struct {\n  x optional Int (implicit 0)\n}", "2:28: `x` is optional: what is left out means no value"),
+    ("type A struct {\n  x Int (implicit 0)\n} representation tuple", "2:19: a field of a tuple means nothing where it is left out: `x`"),
+    ("type A union {\n  | B \"b\"\n} representation inline {\n  discriminantKey \"t\"\n}\ntype B struct {\n  x Int (implicit 0)\n}", "2:5: `B` has a field that means a value where it is left out, and is a member of an inline union: `x`"),
     ("type A struct {\n  x Int (rename \"\\u00e9\")\n}", "2:18: behind \\"),
     ("type A struct {\n  x Int (rename \"é\")\n}", "2:3: names in the data are up to 40 printable characters"),
     ("type A struct {\n  a optional Int\n  b Int\n} representation tuple", "3:3: behind `a`, which is optional, each field of a tuple is: `b`"),
@@ -96,10 +108,14 @@ MADE = [
     ("type A struct {\n  x nullable Any\n}", "    pub x: Ipld,"),
     ("type A struct {\n  x Int (rename \"$x\")\n}", '        let names = &["$x"];'),
     ("type A struct { # open\n  x Int\n}", "        let (Required(x), ()) = row;"),
+    ("type A struct {\n  x optional Int\n}", "ghost use Rattle.std.specs.Prelude.{[], Option, Some, codes, true, refl};"),
     ("type A struct {\n  bb Int\n  c Int\n}", "        field (codes \"c\") (Some (integer v.c)) ∷"),
     ("type B int # as u16\ntype A struct {\n  x B\n}", "    pub x: B,"),
     ("type B int # as u16\ntype A struct {\n  x B\n}", "pub type B = u16;"),
     ("type A struct {\n  # How many.\n  x Int\n}", "    /// How many."),
+    ("type A struct {\n  x Int (implicit \"5\") # as u8\n}", "            Some(5) => return None,"),
+    ("type A union {\n  | B list\n  | Int int\n} representation kinded\ntype B [Int]", "    type Parts = ByKind<NoKind, i128, NoKind, NoKind, Vec<i64>, NoKind, NoKind>;"),
+    ("type A union {\n  | Int \"i\"\n} representation envelope {\n  discriminantKey \"t\"\n  contentKey \"v\"\n}", '        read_enveloped(alloc, "t", "v", de)'),
 ]
 
 
@@ -114,6 +130,12 @@ type B struct { # open
 }
 type C struct { # open
   y String
+}"""
+ENVELOPE = """type A union {
+  | Int "i"
+} representation envelope {
+  discriminantKey "t"
+  contentKey "v"
 }"""
 KEYS = """type A {Format:String}
 type Format enum {
@@ -138,6 +160,9 @@ MADE_IN = [
     ("python", "type A struct {\n  y optional nullable Int\n} representation tuple", "        y=_omissible(entries, 0, at, _nullable(_i64)),"),
     ("python", INLINE, '            return {"t": "b", **_write_b(value.value, at)}'),
     ("python", INLINE, '            _optional(entries, "y", at, _text)'),
+    ("python", ENVELOPE, '    tag, held = _enveloped(value, at, "t", "v")'),
+    ("python", "type A struct {\n  x Bool (implicit true)\n}", '        x=_implied(entries, "x", at, _bool, True),'),
+    ("python", "type B struct {}\ntype A union {\n  | B map\n} representation kinded", "        case B():"),
     ("python", KEYS, "    vinyl: str | None = None"),
     ("python", "type A unit representation true", "    _unit(True, value, at)"),
     ("typescript", "type A struct {\n  createdAt optional nullable [Int] # as u8\n}", "  createdAt?: number[] | null;"),
@@ -153,6 +178,9 @@ MADE_IN = [
     ("typescript", "type A struct {\n  x Int\n  y optional Int\n} representation tuple", "  if (held.y !== undefined) put(items, 1, at, i64(held.y, [...at, 1]));"),
     ("typescript", INLINE, "      return tagged('t', 'b', writeB(held.value, at));"),
     ("typescript", INLINE, "      if (has(entries, 'y')) field(entries, 'y', at, text);"),
+    ("typescript", ENVELOPE, "  const [tag, part] = enveloped(value, at, 't', 'v');"),
+    ("typescript", "type A struct {\n  x Int (implicit 3) # as u64\n}", "  putImplied(entries, 'x', u64(held.x, [...at, 'x']), 3n);"),
+    ("typescript", "type B [Int]\ntype A union {\n  | B list\n} representation kinded", "    case 'list':"),
     ("typescript", KEYS, "  Vinyl?: string;"),
     ("typescript", "type A unit", "export type A = null;"),
 ]
@@ -161,6 +189,7 @@ MADE_IN = [
 REFUSED_IN = [
     ("python", "type CID struct {}", "1:6: `CID` is a name that the made Python uses"),
     ("python", "type AInt int\ntype A union {\n  | Int \"i\"\n} representation keyed", "2:6: two types have the name `AInt`: this and line 1"),
+    ("typescript", "type A union {\n  | B list\n  | C map\n} representation kinded\ntype B struct {} representation tuple\ntype C struct {}", "3:5: a kinded union of `B` and `C`"),
     ("typescript", "type Data struct {}", "1:6: `Data` is a name that the made TypeScript uses"),
     ("typescript", "type A struct {\n  x Int (rename \"__proto__\")\n}", "2:3: no field is named __proto__"),
     ("typescript", "type A struct {\n  toString Int\n  toString_ Int\n}", "3:3: two fields have the name `toString_`"),
@@ -244,6 +273,7 @@ def refuse_and_make():
 # ---- schemas at random
 
 ROOT = pathlib.Path(__file__).resolve().parent.parent
+BATCH = 5  # schemas of a crate
 
 
 def below(names, table):
@@ -273,18 +303,35 @@ def ran(*command, folder):
     return result.returncode, result.stdout + result.stderr
 
 
-def judged(seed, folder, table):
-    """What becomes of the schema of a seed: a line, and the log where it fails."""
-    name = f"drawn_{seed}"
-    source, crate = folder / f"{name}.ipldsch", folder / "crates" / name
-    source.write_text(drawn(seed), encoding="utf-8")
+def batches(seeds):
+    """The seeds in batches, each for one crate: no two schemas of it have a type of one name."""
+    made, names = [], []
+    for seed in seeds:
+        found = {one.name for one in Schema(parse(drawn(seed))).definitions}
+        for place, batch in enumerate(made):
+            if len(batch) < BATCH and not found & names[place]:
+                batch.append(seed)
+                names[place] |= found
+                break
+        else:
+            made.append([seed])
+            names.append(found)
+    return made
+
+
+def judged(batch, folder, table):
+    """What becomes of the schemas of these seeds, as modules of one crate: a line, and the log where it fails."""
+    crate = folder / "crates" / f"drawn_{batch[0]}"
+    sources = [folder / f"seed_{seed}.ipldsch" for seed in batch]
+    for seed, source in zip(batch, sources):
+        source.write_text(drawn(seed), encoding="utf-8")
     (folder / "crates.txt").write_text(table, encoding="utf-8")
-    write(files_of([source], crate), check=False)
+    write(files_of(sources, crate), check=False)
     made = {path: path.read_text(encoding="utf-8") for path in crate.rglob("*") if path.is_file()}
     start = time.monotonic()
     status, log = ran("rt", "check", "--jobs", "2", folder=crate)
     took = f"{time.monotonic() - start:.0f} s"
-    functions = re.search(r"logic=proved functions=(\d+)", log)
+    functions = re.search(rf"crate {crate.name}:.*\nlogic=proved functions=(\d+)", log)
     if status or not functions:
         return f"not proved, {took}", log
     status, log = ran("rt", "fmt", folder=crate)
@@ -356,10 +403,10 @@ def prove(count, first):
     with tempfile.TemporaryDirectory() as name:
         folder = pathlib.Path(name)
         table = copied(folder)
-        for seed in range(first, first + count):
-            line, log = judged(seed, folder, table)
-            passed, failed = (passed + 1, failed) if log is None else (passed, failed + 1)
-            print(f"seed {seed}: {line}", flush=True)
+        for batch in batches(range(first, first + count)):
+            line, log = judged(batch, folder, table)
+            passed, failed = (passed + len(batch), failed) if log is None else (passed, failed + len(batch))
+            print(f"{'seed' if len(batch) == 1 else 'seeds'} {' '.join(map(str, batch))}: {line}", flush=True)
             if log is not None:
                 print("\n".join(row for row in log.split("\n") if re.search(r"not proved|no proof|error", row))[:4000], flush=True)
     print(f"{passed} passed, {failed} failed")

@@ -1,7 +1,8 @@
 """The file of TypeScript that is made of a schema: types over the package `dagcbor`, each with an object of its name that has
 `decode` and `encode`."""
 
-from schemas.language import WIDTH, Language, bounds, camel, named_blocks
+from schemas.law import bounds
+from schemas.language import WIDTH, Language, camel, named_blocks
 from schemas.parsing import WIDTHS, Alias, Enum, Int, Leaf, Link, ListOf, MapOf, Named, SchemaError, Struct, Union, Unit
 
 SCALARS = {"String": "string", "Bytes": "Uint8Array", "Bool": "boolean", "Any": "Data"}
@@ -44,12 +45,43 @@ function field<T>(entries: Entries, key: string, at: Place, read: Conversion<T>)
   return read(entries[key], [...at, key]);
 }
 
+/** What stands under the key, which means the value where it is left out, and is no other then. */
+function implied<T>(entries: Entries, key: string, at: Place, read: Conversion<T>, value: T): T {
+  if (!has(entries, key)) return value;
+  const found = read(entries[key], [...at, key]);
+  if (found === value) throw refused('Msg', [...at, key], 'no such value');
+  return found;
+}
+
+/** Adds an entry, where it is not what is meant without it. */
+function putImplied<T extends Data>(
+  entries: { [key: string]: Data },
+  key: string,
+  item: T,
+  value: T,
+): void {
+  if (item !== value) entries[key] = item;
+}
+
+/** What stands under the two keys of a map that has no others. */
+function enveloped(value: unknown, at: Place, tag: string, content: string): [string, unknown] {
+  const entries = fieldsOf(value, at, tag, content);
+  return [field(entries, tag, at, text), field(entries, content, at, anything)];
+}
+
 /** The items of a list that has so many. */
 function itemsOf(value: unknown, at: Place, least: number, most: number = least): unknown[] {
   if (!Array.isArray(value)) throw other('list', value, at);
   if (value.length >= least && value.length <= most) return value;
   const wanted = least === most ? least : `${least} to ${most}`;
   throw refused('LengthMismatch', at, `a list of ${wanted} is wanted, and not of ${value.length}`);
+}
+
+/** The value of a pair of this key. */
+function pairOf<T>(item: unknown, at: Place, key: string, read: Conversion<T>): T {
+  const [found, value] = itemsOf(item, at, 2);
+  if (text(found, [...at, 0]) !== key) throw refused('Msg', [...at, 0], 'unknown field');
+  return read(value, [...at, 1]);
 }
 
 /** Adds an item at its place, before which none is left out. */
@@ -171,7 +203,7 @@ class TypeScript(Language):
     called = "TypeScript"
     suffix = ".ts"
     step = 2
-    kinds = ("bool", "int", "string", "bytes", "link")
+    kinds = ("bool", "int", "string", "bytes", "list", "map", "link")
     taken = frozenset("Array CID Conversion DagCborError Data Entries Number Object BigInt Place Uint8Array".split())
     closed_modules = frozenset({"dagcbor"})
     front = named_blocks(FRONT, 1)
@@ -192,7 +224,7 @@ class TypeScript(Language):
 
     def function(self, way, name):
         one = self.schema.by_name[name]
-        return f"{'check' if is_kinded(one) or isinstance(one, Unit) else way}{name}"
+        return f"{'check' if isinstance(one, Unit) else way}{name}"
 
     # ---- the file
 
@@ -283,7 +315,9 @@ class TypeScript(Language):
         for field in struct.fields:
             name, key = self.field_name(field), quoted(field.key)
             given = ["entries", key, "at", self.conversion(field.type, "read")]
-            if field.optional:
+            if field.implicit is not None:
+                parts += self.call(4, f"{name}: implied(", [*given, self.meant(field)], "),")
+            elif field.optional:
                 optional += self.when(f"has(entries, {key})", self.call(2, f"held.{name} = field(", given, ");"))
             else:
                 parts += self.call(4, f"{name}: field(", given, "),")
@@ -296,12 +330,22 @@ class TypeScript(Language):
         for field in struct.fields:
             held, key = f"held.{self.field_name(field)}", quoted(field.key)
             write, given = self.conversion(field.type, "write"), [held, f"[...at, {key}]"]
-            if field.optional:
+            if field.implicit is not None:
+                item = f"{write}({', '.join(given)})"
+                optional += self.call(2, "putImplied(", ["entries", key, item, self.meant(field)], ");")
+            elif field.optional:
                 optional += self.when(f"{held} !== undefined", self.call(2, f"entries[{key}] = {write}(", given, ");"))
             else:
                 parts += self.call(4, f"{property_name(field.key)}: {write}(", given, "),")
         rows = [f"  const held = object<{struct.name}>(value, at);"]
         return rows + constructed("{ [key: string]: Data }", parts, optional, "entries")
+
+    def meant(self, field):
+        """What a field means that is left out."""
+        value, kind = field.implicit.value, self.schema.resolve(field.type)
+        if isinstance(value, bool):
+            return "true" if value else "false"
+        return str(value) if kind.width in NARROW else f"{value}n"
 
     @staticmethod
     def when(test, rows, indent=2):
@@ -336,6 +380,18 @@ class TypeScript(Language):
             put = self.call(2, "put(", ["items", str(place), "at", self.written_item(place, field)], ");")
             rows += self.when(f"held.{self.field_name(field)} !== undefined", put)
         return [*rows, "  return items;"]
+
+    def struct_listpairs(self, struct):
+        items = "const items = " if struct.fields else ""
+        parts, pairs = [], []
+        for place, field in enumerate(struct.fields):
+            name, key = self.field_name(field), quoted(field.key)
+            given = [*item_at(place), key, self.conversion(field.type, "read")]
+            parts += self.call(4, f"{name}: pairOf(", given, "),")
+            pairs.append(f"[{key}, {self.conversion(field.type, 'write')}(held.{name}, [...at, {place}, 1])]")
+        read = [f"  {items}itemsOf(value, at, {len(struct.fields)});", *constructed(struct.name, parts, [])]
+        held = "const held = " if struct.fields else ""
+        return self.both(struct, read, [f"  {held}object<{struct.name}>(value, at);", *self.call(2, "return [", pairs, "];")])
 
     def written_item(self, place, field):
         return f"{self.conversion(field.type, 'write')}(held.{self.field_name(field)}, [...at, {place}])"
@@ -401,19 +457,56 @@ class TypeScript(Language):
         read += otherwise(f"[...at, {key}]", "unknown variant")
         return self.both(union, read, [*write, *otherwise("at", "unknown variant")])
 
-    @staticmethod
-    def case_kind(case):
-        """What a member of a kinded union holds: each int of the data, whatever its type."""
-        return Int("i128", case.place) if case.data == "int" else case.type
+    def union_envelope(self, union):
+        tag, content = quoted(union.discriminant), quoted(union.content)
+        read = [f"  const [tag, part] = enveloped(value, at, {tag}, {content});", "  switch (tag) {"]
+        write = [f"  const held = object<{union.name}>(value, at);", "  switch (held.kind) {"]
+        for case in union.cases:
+            kind = quoted(case.name)
+            call = f"{self.conversion(case.type, 'read')}(part, [...at, {content}])"
+            read += [f"    case {quoted(case.data)}:", *self.call(6, "return { ", [f"kind: {kind}", f"value: {call}"], " };")]
+            call = f"{self.conversion(case.type, 'write')}(held.value, [...at, {content}])"
+            rows = [f"{property_name(union.discriminant)}: {quoted(case.data)}", f"{property_name(union.content)}: {call}"]
+            write += [f"    case {kind}:", *self.call(6, "return { ", rows, " };")]
+        read += otherwise(f"[...at, {tag}]", "unknown variant")
+        return self.both(union, read, [*write, *otherwise("at", "unknown variant")])
+
+    def case_kind(self, case):
+        """What a member of a kinded union holds: each int of the data, where its type is Int."""
+        return Int("i128", case.place) if isinstance(self.schema.resolve(case.type), Int) else case.type
 
     def union_kinded(self, union):
-        """One function, since each value stands for itself."""
-        rows = ["  switch (kindOf(value)) {"]
+        """Each value stands for itself."""
+        read, write = ["  switch (kindOf(value)) {"], ["  switch (kindOf(value)) {"]
         for case in union.cases:
-            call = f"{self.conversion(self.case_kind(case), 'read')}(value, at)"
-            rows += [f"    case {quoted(case.data)}:", f"      return {call};"]
-        head = f"function {self.function('read', union.name)}(value: unknown, at: Place): {union.name} {{"
-        return [[head, *rows, *otherwise("at", "unknown kind"), "}"]]
+            kind = self.case_kind(case)
+            held = self.held_kind(kind, case.data)
+            read += [f"    case {quoted(case.data)}:", f"      return {self.conversion(kind, 'read')}(value, at);"]
+            write += [f"    case {quoted(held)}:", f"      return {self.conversion(kind, 'write')}(value, at);"]
+        last = otherwise("at", "unknown kind")
+        return self.both(union, [*read, *last], [*write, *last])
+
+    def check(self, node):
+        super().check(node)
+        if isinstance(node, Union) and node.representation == "kinded":
+            self.check_kinds(node)
+
+    def check_kinds(self, union):
+        """Refuses members whose values are of one kind, so that none could be told from the other."""
+        seen = {}
+        for case in union.cases:
+            held = self.held_kind(self.case_kind(case), case.data)
+            if held in seen:
+                self.refuse(case.place, f"a kinded union of `{seen[held]}` and `{case.name}`, which are one kind of value,")
+            seen[held] = case.name
+
+    def held_kind(self, kind, data):
+        """The kind of the values of a type, whose data is of a kind: a tuple's is an object, an enum's its name."""
+        kind = self.schema.resolve(kind)
+        one = self.schema.by_name[kind.name] if isinstance(kind, Named) else None
+        if isinstance(one, (Struct, Union)):
+            return "map"
+        return "string" if isinstance(one, Enum) else data
 
 
 def spelled(number):

@@ -63,6 +63,9 @@ PROFILE = {"$type": "app.bsky.actor.profile", "displayName": "a", "avatar": BLOB
 FOLLOW = {"$type": "app.bsky.graph.follow", "subject": "did:plc:b", "createdAt": "2024-01-01T00:00:00Z"}
 POINT = [1, None, 255, {"Vinyl": 1, "tape": -2}, ["a"], "n", 3]
 UNITS = {"yes": True, "no": False, "nothing": None, "empty": {}}
+SCALE = {"by": 2, "smooth": True, "shift": 0, "name": "n"}
+CHORD = [["root", "C"], ["notes", [0, 4, 7]], ["by", None]]
+EVENT = {"tag": "point", "content": POINT[:5]}
 FIGURES = {
     "totals": {"b": 1, "aa": 2},
     "grids": {"g": [[[1], []]]},
@@ -143,6 +146,43 @@ BLOCKS = {
         "UNITS_NO_YES": {**UNITS, "yes": False},
         "UNITS_NOTHING": {**UNITS, "nothing": 0},
         "UNITS_FULL": {**UNITS, "empty": {"x": 1}},
+        "SCALE": SCALE,
+        "SCALE_NONE": {},
+        "SCALE_ONE": {**SCALE, "by": 1},
+        "SCALE_ROUGH": {"smooth": False},
+        "SCALE_SHIFT": {"shift": 2},
+        "SCALE_NULL": {"by": None},
+        "CHORD": CHORD,
+        "CHORD_SCALE": [*CHORD[:2], ["by", SCALE]],
+        "CHORD_TURNED": [CHORD[1], CHORD[0], CHORD[2]],
+        "CHORD_SHORT": CHORD[:2],
+        "CHORD_LONG": [*CHORD, ["by", None]],
+        "CHORD_BARE": ["root", *CHORD[1:]],
+        "CHORD_MORE": [["root", "C", 1], *CHORD[1:]],
+        "CHORD_NAME": [CHORD[0], ["tones", []], CHORD[2]],
+        "CHORD_MAP": {"root": "C", "notes": [], "by": None},
+        "FILL_TRUE": True,
+        "FILL_INT": -(2**64),
+        "FILL_TAPE": "tape",
+        "FILL_NAMES": ["a", ""],
+        "FILL_SCALE": SCALE,
+        "FILL_LINK": CID,
+        "FILL_NULL": None,
+        "FILL_BYTES": b"\x01",
+        "FILL_WAX": "Wax",
+        "FILL_NUMBER": ["a", 1],
+        "FILL_ONE": {"by": 1},
+        "EVENT": EVENT,
+        "EVENT_SCALE": {"tag": "scale", "content": {}},
+        "EVENT_FILL": {"tag": "fill", "content": ["x"]},
+        "EVENT_BARE": {"tag": "point"},
+        "EVENT_UNTOLD": {"content": POINT[:5]},
+        "EVENT_BEFORE": {**EVENT, "x": 1},
+        "EVENT_BEHIND": {**EVENT, "contents": 1},
+        "EVENT_UNKNOWN": {**EVENT, "tag": "Point"},
+        "EVENT_TAG": {**EVENT, "tag": 1},
+        "EVENT_OTHER": {**EVENT, "tag": "scale"},
+        "EVENT_LIST": ["point", POINT[:5]],
     },
     "ledger": {
         "LEDGER": LEDGER,

@@ -27,7 +27,7 @@ pub(crate) fn kind_of_front(bytes: &[u8]) -> Kind
 }
 
 /// The kind of the item that begins with the byte.
-fn kind_at(first: u8) -> Kind
+pub fn kind_at(first: u8) -> Kind
     ensures { IsKindAt first result }
 {
     match first / 32 {

@@ -29,7 +29,7 @@ mod walk;
 pub use any::read_any;
 pub use judge::{behind_item, behind_link};
 pub use key::{no_key, read_key, take_key, take_name};
-pub use kind::Kind;
+pub use kind::{Kind, kind_at};
 pub use link::{pull_link, take_link};
 pub use majors::pull_major;
 pub use numbers::{pull_i128, pull_signed, pull_u128, pull_unsigned};

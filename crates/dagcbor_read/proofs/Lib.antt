@@ -16,3 +16,4 @@ pub mod FieldPlaces
 pub mod Finishing
 pub mod EntryLoops
 pub mod NamedRows
+pub mod FirstKinds

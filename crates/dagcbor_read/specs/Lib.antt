@@ -28,6 +28,7 @@ pub use Rattle.dagcbor_items.specs.LeafReads
 pub mod Deserializers
 pub mod Values
 pub mod Options
+pub mod Kinds
 pub mod Accessors
 pub mod Collections
 pub mod Named

@@ -29,6 +29,7 @@ ghost use Rattle.ipld_tree.specs.Tree.{text};
 ghost use Rattle.dagcbor_read.specs.Accessors.{ReadsHead, BeginsItems, ReadsKeyAfter, OfBegin};
 ghost use Rattle.dagcbor_read.specs.Values.{ReadsPart};
 ghost use Rattle.dagcbor_read.specs.Options.{ReadsOption, EntersOption};
+ghost use Rattle.dagcbor_read.specs.Kinds.{PeeksKind};
 ghost use Rattle.dagcbor_read.specs.Enums.{enum_state, SpendsEnum, OfForm};
 ghost use Rattle.dagcbor_items.specs.Walks.{GathersLinks};
 ghost use Rattle.dagcbor_read.specs.Streams.{stream_state, ReadsNext};
@@ -42,7 +43,7 @@ use dagcbor_heads::{
     spend_step,
 };
 use dagcbor_items::{
-    gather_links, pull_bool, pull_char, pull_i128, pull_link, pull_major, pull_null,
+    Kind, gather_links, kind_at, pull_bool, pull_char, pull_i128, pull_link, pull_major, pull_null,
     pull_owned_bytes, pull_owned_text, pull_signed, pull_slice, pull_str, pull_u128, pull_unsigned,
     read_any, read_key, skip_any, take_key, take_link, take_name,
 };
@@ -125,6 +126,18 @@ impl<'de, R: Read> Deserializer<'de, R> {
     {
         self.failed = true;
         error
+    }
+
+    /// The kind of the item that stands here, by its first byte, which is left.
+    pub fn peek_kind(&mut self) -> ReadResult<Kind, R>
+        ensures kind { Over R.reading (Call PeeksKind) self.old result self.new }
+        ensures looked { LooksOnce (de_state R.reading self.old).input
+            (de_state R.reading self.new).input }
+    {
+        self.begin()?;
+        let first = peek_one("item", &mut self.input)?;
+        self.failed = false;
+        Ok(kind_at(first))
     }
 
     /// Reads an item of any kind, no deeper than the steps that are left.

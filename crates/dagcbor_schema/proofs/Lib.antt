@@ -1,2 +1,4 @@
 pub mod PartRows
 pub mod PartItems
+pub mod KindFronts
+pub mod EnvelopeFronts

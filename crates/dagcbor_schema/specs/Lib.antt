@@ -2,5 +2,9 @@
 -- value.
 pub mod SchemaFields
 pub mod ToldValues
+pub mod Kinds
+pub mod Envelopes
 pub mod Parts
 pub mod Members
+pub mod Implied
+pub mod Pairs

@@ -42,6 +42,7 @@ pub use Rattle.dagcbor_items.specs.Slices
 pub use Rattle.dagcbor_read.specs.Deserializers
 pub use Rattle.dagcbor_read.specs.Values
 pub use Rattle.dagcbor_read.specs.Options
+pub use Rattle.dagcbor_read.specs.Kinds
 pub use Rattle.dagcbor_read.specs.Accessors
 pub use Rattle.dagcbor_read.specs.Collections
 pub use Rattle.dagcbor_read.specs.Structs

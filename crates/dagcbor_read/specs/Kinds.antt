@@ -1,0 +1,21 @@
+-- What the first byte of an item tells of it.
+use Rattle.std.specs.Prelude.{◌≡◌, ℕ, List, Some, Result, MatchResult}
+use Rattle.dagcbor_heads.specs.Reading.{Reading, Keeps, Stays}
+use Rattle.dagcbor_heads.specs.Fronts.{HasByte}
+use Rattle.dagcbor_heads.specs.Causes.{ByteCause}
+use Rattle.dagcbor_heads.specs.Refusals.{RefusesPlainly}
+use Rattle.dagcbor_heads.specs.declared.error.DecodeError.{DecodeError}
+use Rattle.dagcbor_items.specs.TreeKinds.{IsKindOfFront}
+use Rattle.dagcbor_items.specs.declared.kind.Kind.{Kind}
+
+-- an item that stands at the front is of this kind, and stays there
+pub record ShowsKind (old : Reading) (kind : Kind) (new : Reading) : Type 0 where
+  pub is : (b : List ℕ) → old.left ≡ Some b → IsKindOfFront b kind
+  pub kept : Keeps old new
+  pub same : Stays old new
+
+-- The kind of an item is told exactly where a byte stands, and nothing is taken.
+abbrev pub PeeksKind : {E : Type 0} → Reading → Result Kind (DecodeError E) → Reading → Type 0
+PeeksKind old result new = MatchResult result
+    (λ kind. ShowsKind old kind new)
+    (λ e. RefusesPlainly (HasByte old) ByteCause old e new)

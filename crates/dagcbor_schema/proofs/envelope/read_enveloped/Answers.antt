@@ -1,0 +1,64 @@
+use Rattle.std.specs.Cow.{cow_str_bytes}
+use Rattle.dagcbor_heads.proofs.Refusing.{as_refusal}
+use Rattle.dagcbor_schema.proofs.EnvelopeFronts.{at_first_key, at_told, at_second_key, at_held, tag_refused, name_refused, content_refused, held_refused, end_refused, envelope_read}
+use Rattle.dagcbor_schema.proofs.envelope.read_enveloped.Goals as goal
+
+pub returns-in_err-read_named_key-clause-value : goal.returns-in_err-read_named_key-clause-value
+returns-in_err-read_named_key-clause-value g c = λ sound.
+    let T = c.args.tag.now in
+    let C = c.args.content.now in
+    let S = g.V.Enveloped.shape in
+    let first = at_first_key T C S g.row.R-Error.Denot _ _ _ _ c.in_ok-entries.ensures.begun in
+    as_refusal _ _ _ _ c.from_residual-in_err-read_named_key.ensures.1 (tag_refused T C S _ _ _ first c.in_err-read_named_key.ensures.key)
+
+pub returns-in_err-name-clause-value : goal.returns-in_err-name-clause-value
+returns-in_err-name-clause-value g c = λ sound.
+    let T = c.args.tag.now in
+    let C = c.args.content.now in
+    let S = g.V.Enveloped.shape in
+    let first = at_first_key T C S g.row.R-Error.Denot _ _ _ _ c.in_ok-entries.ensures.begun in
+    let told = at_told T C S g.row.R-Error.Denot first c.in_ok-read_named_key.ensures.key in
+    as_refusal _ _ _ _ c.from_residual-in_err-name.ensures.1 (name_refused T C S _ cow_str_bytes _ _ told c.in_err-name.ensures.value)
+
+pub returns-in_err-read_named_key-2-clause-value : goal.returns-in_err-read_named_key-2-clause-value
+returns-in_err-read_named_key-2-clause-value g c = λ sound.
+    let T = c.args.tag.now in
+    let C = c.args.content.now in
+    let S = g.V.Enveloped.shape in
+    let first = at_first_key T C S g.row.R-Error.Denot _ _ _ _ c.in_ok-entries.ensures.begun in
+    let told = at_told T C S g.row.R-Error.Denot first c.in_ok-read_named_key.ensures.key in
+    let second = at_second_key T C S g.row.R-Error.Denot cow_str_bytes _ told c.in_ok-name.ensures.value c.in_ok-name.ensures.after in
+    as_refusal _ _ _ _ c.from_residual-in_err-read_named_key-2.ensures.1 (content_refused T C S _ _ _ second c.in_err-read_named_key-2.ensures.key)
+
+pub returns-in_err-value-clause-value : goal.returns-in_err-value-clause-value
+returns-in_err-value-clause-value g c = λ sound.
+    let T = c.args.tag.now in
+    let C = c.args.content.now in
+    let S = g.V.Enveloped.shape in
+    let first = at_first_key T C S g.row.R-Error.Denot _ _ _ _ c.in_ok-entries.ensures.begun in
+    let told = at_told T C S g.row.R-Error.Denot first c.in_ok-read_named_key.ensures.key in
+    let second = at_second_key T C S g.row.R-Error.Denot cow_str_bytes _ told c.in_ok-name.ensures.value c.in_ok-name.ensures.after in
+    let held = at_held T C S g.row.R-Error.Denot second c.in_ok-read_named_key-2.ensures.key in
+    as_refusal _ _ _ _ c.from_residual-in_err-value.ensures.1 (held_refused T C S _ _ c.as_str.ensures.value held c.in_err-value.ensures.value)
+
+pub returns-in_err-end-clause-value : goal.returns-in_err-end-clause-value
+returns-in_err-end-clause-value g c = λ sound.
+    let T = c.args.tag.now in
+    let C = c.args.content.now in
+    let S = g.V.Enveloped.shape in
+    let first = at_first_key T C S g.row.R-Error.Denot _ _ _ _ c.in_ok-entries.ensures.begun in
+    let told = at_told T C S g.row.R-Error.Denot first c.in_ok-read_named_key.ensures.key in
+    let second = at_second_key T C S g.row.R-Error.Denot cow_str_bytes _ told c.in_ok-name.ensures.value c.in_ok-name.ensures.after in
+    let held = at_held T C S g.row.R-Error.Denot second c.in_ok-read_named_key-2.ensures.key in
+    as_refusal _ _ _ _ c.from_residual-in_err-end.ensures.1 (end_refused T C S _ g.V.Enveloped.meaning _ _ _ _ c.as_str.ensures.value held c.in_ok-value.ensures.value c.in_ok-value.ensures.after c.in_err-end.ensures)
+
+pub returns-clause-value : goal.returns-clause-value
+returns-clause-value g c = λ sound.
+    let T = c.args.tag.now in
+    let C = c.args.content.now in
+    let S = g.V.Enveloped.shape in
+    let first = at_first_key T C S g.row.R-Error.Denot _ _ _ _ c.in_ok-entries.ensures.begun in
+    let told = at_told T C S g.row.R-Error.Denot first c.in_ok-read_named_key.ensures.key in
+    let second = at_second_key T C S g.row.R-Error.Denot cow_str_bytes _ told c.in_ok-name.ensures.value c.in_ok-name.ensures.after in
+    let held = at_held T C S g.row.R-Error.Denot second c.in_ok-read_named_key-2.ensures.key in
+    envelope_read T C S g.row.R-Error.Denot g.V.Enveloped.meaning _ _ _ c.as_str.ensures.value held c.in_ok-value.ensures.value c.in_ok-value.ensures.after c.in_ok-end.ensures

@@ -277,7 +277,8 @@ class Module:
             one = self.schema.by_name[kind.name]
             if isinstance(one, Alias):
                 return self.writing_takes_memory(one.of)
-            return isinstance(one, Struct) and one.representation == "map" or any(map(self.writing_takes_memory, held_by(one)))
+            is_map = isinstance(one, Struct) and one.representation == "map" or isinstance(one, Union) and one.representation == "envelope"
+            return is_map or any(map(self.writing_takes_memory, held_by(one)))
         return isinstance(kind, MapOf) or any(map(self.writing_takes_memory, parts(kind)))
 
     def reading_takes_memory(self, kind):
@@ -963,7 +964,8 @@ class Module:
                 made |= self.envelope_answers(one, source)
             cases = getattr(one, "cases", [])
             links = any(isinstance(self.schema.resolve(case.type), Link) for case in cases)
-            if len(cases) > 1 and (one.representation == "inline" or (one.representation == "keyed" and links)):
+            told = one.representation in ("inline", "envelope")
+            if len(cases) > 1 and (told or (one.representation == "keyed" and links)):
                 place = f"{self.name}.{one.name}Serialize.serialize"
                 rows = [
                     f"-- The arms that write {one.name}, of {source}, by ./dagcbor-types.",
@@ -971,7 +973,7 @@ class Module:
                 ]
                 for case in cases:
                     goal = f"returns-in-{case.name}-clause-written"
-                    call = "write_struct" if one.representation == "inline" else "serialize_newtype_variant"
+                    call = "write_struct" if told else "serialize_newtype_variant"
                     call += f"-in-{case.name}" if case is not cases[0] else ""
                     rows += ["", f"pub {goal} : goal.{goal}"]
                     rows.append(f"{goal} g c = rw c.in-{case.name}.is c.{call}.ensures.written")

@@ -8,6 +8,8 @@ use Rattle.std.specs.List.Sorted.{IsSortedBy}
 use Rattle.std.specs.Ordering.{is_lt}
 use Rattle.ipld_tree.specs.Key.{bytes_cmp}
 use Rattle.dagcbor_write.specs.Maps.{Texts}
+use Rattle.dagcbor_write.specs.declared.collect.gathered.Span.{Span as Place}
+use Rattle.dagcbor_write.proofs.Spans.{one_range as place_range}
 use Rattle.dagcbor_write.specs.Order.{goes_before, entries_bytes}
 use Rattle.dagcbor_serde.specs.declared.frame.Span.{Span}
 use Rattle.dagcbor_serde.specs.Holds.{entry_at, whole_at, IsWithin}
@@ -51,18 +53,13 @@ pub value_within : (old text : List ℕ) (ss : List Span) (s : Span) → All (Is
 value_within old text ss s w b k e =
     All-push (IsWithin (length (old ++ text))) ss s (within_stays old text ss w) (omega (arith, b, k), omega (arith, k, e, length-append old text), omega (arith, e))
 
-take_join : (n m : ℕ) (xs : List ℕ) → take n xs ++ take m (drop n xs) ≡ take (n + m) xs
-take_join zero m xs = ap (λ j. take j xs) (omega arith)
-take_join (suc n) m [] = take_all m [] (omega arith) ∙ sym (take_all (suc n + m) [] (omega arith))
-take_join (suc n) m (x ∷ xs) = let one : suc (n + m) ≡ suc n + m = omega arith in ap (λ ys. x ∷ ys) (take_join n m xs) ∙ ap (λ j. take j (x ∷ xs)) one
+-- the same place, as the collector of maps has it
+abbrev as_place : Span → Place
+as_place s = record { start = s.start; key_end = s.key_end; end = s.end }
 
 -- a key and its value stand one behind the other
 pub one_range : (bs : List ℕ) (s : Span) → s.start ≤ s.key_end → s.key_end ≤ s.end → (entry_at bs s).0 ++ (entry_at bs s).1 ≡ slice_range bs s.start s.end
-one_range bs s h k =
-    let n = s.key_end - s.start in let m = s.end - s.key_end in
-    let at : s.start + n ≡ s.key_end = omega arith in
-    let whole : n + m ≡ s.end - s.start = omega arith in
-    ap (λ j. take n (drop s.start bs) ++ take m (drop j bs)) (sym at) ∙ ap (λ ys. take n (drop s.start bs) ++ take m ys) (sym (drop-drop n s.start bs)) ∙ take_join n m (drop s.start bs) ∙ ap (λ j. take j (drop s.start bs)) whole
+one_range bs s h k = place_range bs (as_place s) h k
 
 -- the entry in a place
 pub entry_is : (n : ℕ) (bs : List ℕ) (ss : List Span) (i : ℕ) (s : Span) (d : Texts) → i < length ss → s ≡ get_or ss i s → All (IsWithin n) ss → slice_range bs s.start s.end ≡ (get_or (map (entry_at bs) ss) i d).0 ++ (get_or (map (entry_at bs) ss) i d).1

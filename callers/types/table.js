@@ -14,7 +14,7 @@ const answer = (made, block) => {
     return Buffer.from(made.encode(made.decode(block))).toString('hex');
   } catch (error) {
     if (!(error instanceof DagCborError)) throw error;
-    // A path where the block is one, and its type is another; of bytes that are no block the number of a byte.
+    // A path where the bytes are a block of another shape; of other bytes the place of one.
     const path = Array.isArray(error.place) ? error.place.join('/') || '-' : '-';
     assert.ok(error.message.startsWith(path === '-' ? '' : `${path}: `));
     return `${error.kind} ${path}`;

@@ -942,7 +942,7 @@ class Module:
 
     def answers(self, source):
         """The answers that the search does not find, of each function by the folder of its proof: the arms that write a keyed
-        union one of whose members is a link, where the search takes the CID apart, and those of an inline union."""
+        union one of whose members is a link or bytes, where the search takes the CID or the bytes apart, and those of an inline union."""
         made = {}
         for one in self.types:
             if isinstance(one, Struct) and has_implied(one):
@@ -963,9 +963,9 @@ class Module:
             if isinstance(one, Union) and one.representation == "envelope":
                 made |= self.envelope_answers(one, source)
             cases = getattr(one, "cases", [])
-            links = any(isinstance(self.schema.resolve(case.type), Link) for case in cases)
+            taken_apart = any(self.code(self.schema.resolve(case.type)) in ("Cid", "Bytes") for case in cases)
             told = one.representation in ("inline", "envelope")
-            if len(cases) > 1 and (told or (one.representation == "keyed" and links)):
+            if len(cases) > 1 and (told or (one.representation == "keyed" and taken_apart)):
                 place = f"{self.name}.{one.name}Serialize.serialize"
                 rows = [
                     f"-- The arms that write {one.name}, of {source}, by ./dagcbor-types.",

@@ -1060,11 +1060,14 @@ class Module:
             same = f"c.in-{word}.is (λ t. refl) (λ t. refl)"
             lacks = "refl" if takes else "h"
             ok, err = (f"returns-in_{way}-x-in-{word}-clause-value" for way in ("ok", "err"))
+            if not isinstance(self.case_kind(union, case), Int):  # which the goal takes through the machine's words: the search finds it
+                rows += [
+                    "",
+                    f"pub {ok} : goal.{ok}",
+                    f"{ok} g c = λ sound.",
+                    f"    content_shown {head} _ _ {told} _ _ {same} sound c.in_ok-x-in-{word}.ensures.value",
+                ]
             rows += [
-                "",
-                f"pub {ok} : goal.{ok}",
-                f"{ok} g c = λ sound.",
-                f"    content_shown {head} _ _ {told} _ _ {same} sound c.in_ok-x-in-{word}.ensures.value",
                 "",
                 f"pub {err} : goal.{err}",
                 f"{err} g c = λ sound.",

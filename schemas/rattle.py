@@ -723,7 +723,7 @@ class Module:
             read += [
                 f'            "{member.data}" => {{',
                 "                variant.unit_variant(de)?;",
-                f"                Ok({name}::{member.name})",
+                *lines(Group("Ok(", [f"{name}::{member.name}"], ")"), 16),
                 "            }",
             ]
         write.append("        }")
@@ -850,7 +850,8 @@ class Module:
         made = [f'            "{case.data}" => {{']
         for field, _, local, _ in row:
             if field.key in fields and not fields[field.key].optional:
-                made.append(f"                let {local} = {local}?;")
+                one = f"                let {local} = {local}?;"
+                made += [one] if len(one) <= WIDTH else [f"                let {local} =", f"                    {local}?;"]
             elif field.key not in fields and not is_open:
                 made += [f"                if {local}.is_some() {{", "                    return None;", "                }"]
         locals_by_key = {field.key: local for field, _, local, _ in row}
@@ -942,7 +943,7 @@ class Module:
 
     def answers(self, source):
         """The answers that the search does not find, of each function by the folder of its proof: the arms that write a keyed
-        union one of whose members is a link, where the search takes the CID apart, and those of an inline union."""
+        union one of whose members is a link or bytes, which the search takes apart, or has a long text, and those of an inline union."""
         made = {}
         for one in self.types:
             if isinstance(one, Struct) and has_implied(one):
@@ -962,10 +963,15 @@ class Module:
                 ])
             if isinstance(one, Union) and one.representation == "envelope":
                 made |= self.envelope_answers(one, source)
+            if isinstance(one, Union) and one.representation == "inline":
+                made |= self.inline_answers(one, source)
+            if isinstance(one, Enum) and one.representation == "string":
+                made |= self.enum_answers(one, source)
             cases = getattr(one, "cases", [])
-            links = any(isinstance(self.schema.resolve(case.type), Link) for case in cases)
+            taken_apart = any(self.code(self.schema.resolve(case.type)) in ("Cid", "Bytes") for case in cases)
             told = one.representation in ("inline", "envelope")
-            if len(cases) > 1 and (told or (one.representation == "keyed" and links)):
+            written = taken_apart or any(len(case.data) > LONG_TEXT for case in cases)
+            if len(cases) > 1 and (told or (one.representation == "keyed" and written)):
                 place = f"{self.name}.{one.name}Serialize.serialize"
                 rows = [
                     f"-- The arms that write {one.name}, of {source}, by ./dagcbor-types.",
@@ -980,42 +986,127 @@ class Module:
                 made[place.replace(".", "/")] = "\n".join(rows) + "\n"
         return made
 
+    def enum_answers(self, enum, source):
+        """The arms that write a long text."""
+        place = f"{self.name}.{enum.name}Serialize.serialize"
+        rows = []
+        for member in enum.members:
+            if len(member.data) > LONG_TEXT and len(enum.members) > 1:
+                goal = f"returns-in-{member.name}-clause-written"
+                call = "serialize_unit_variant" + (f"-in-{member.name}" if member is not enum.members[0] else "")
+                rows += ["", f"pub {goal} : goal.{goal}"]
+                rows.append(f"{goal} g c = rw c.in-{member.name}.is c.{call}.ensures.written")
+        if not rows:
+            return {}
+        head = [f"-- The arms that write long texts of {enum.name}, of {source}, by ./dagcbor-types."]
+        head.append(f"use Rattle.{self.crate}.proofs.{place}.Goals as goal")
+        return {place.replace(".", "/"): "\n".join(head + rows) + "\n"}
+
+    @staticmethod
+    def arm_words(union):
+        """How the prover names the arms of a match on the members' texts. None, where two might have one name."""
+        words, others = [], 0
+        for case in union.cases:
+            if re.fullmatch(r"[A-Za-z]\w*", case.data, re.ASCII):
+                words.append(case.data)
+            elif not case.data:
+                words.append("empty")
+            else:
+                others += 1
+                words.append("text" if others == 1 else f"text-{others}")
+        return words if len(set(words)) == len(words) else None
+
+    def inline_answers(self, union, source):
+        """Of a union with a list of lists or the like, the arm of other texts than the members': the search unfolds the row first."""
+        words = self.arm_words(union)
+        if words is None or not any(is_deep(kind) for _, kind, _, _ in self.inline_row(union)):
+            return {}
+        place = f"{self.name}.{union.name}Made.of_parts"
+        steps = [
+            f'    rw (other_name {{name = codes "{case.data}"}} (λ e. c.in_default.not-{word} (c.as_str.ensures.value ∙ e))) ('
+            for case, word in zip(union.cases, words)
+        ]
+        return {place.replace(".", "/"): "\n".join([
+            f"-- A text that tells no member of {union.name}, of {source}, by ./dagcbor-types.",
+            "use Rattle.std.proofs.Common.{◌∙◌, refl, codes}",
+            "use Rattle.dagcbor_read.proofs.FieldPlaces.{other_name}",
+            f"use Rattle.{self.crate}.proofs.{place}.Goals as goal",
+            "",
+            "pub returns : goal.returns",
+            "returns c =",
+            *steps,
+            f"    refl{')' * len(steps)}",
+            "",
+        ])}
+
     def envelope_answers(self, union, source):
-        """Of the members whose tags are words: the goals of their arms have names of these. The search finds the others."""
+        """Of the members whose tags are words, and of all, and of other tags, where they are many. The search finds the others."""
         place, name = f"{self.name}.{union.name}Enveloped.read_content", snake(union.name)
-        cases = [case for case in union.cases if re.fullmatch(r"[a-z][a-z_]*", case.data) and case.data not in RESERVED]
+        words = self.arm_words(union)
+        many = len(union.cases) > SEARCHED_MEMBERS and words is not None
+        tags = [case.data for case in union.cases]
+        words = dict(zip(tags, words or tags))
+        cases = [case for case in union.cases if many or re.fullmatch(r"[a-z][a-z_]*", case.data) and case.data not in RESERVED]
         if not cases:
             return {}
         takes = any(self.reading_takes_memory(self.case_kind(union, case)) for case in union.cases)
         rows = []
         for case in cases:
-            behind = f"-in_err-x-in-{case.data}" if case is not union.cases[0] else ""
+            word = words[case.data]
+            behind = f"-in_err-x-in-{word}" if case is not union.cases[0] else ""
             shape = wrapped(self.shape(self.case_kind(union, case)))
             head = f"{name}_variants (λ x. {case_word(union, case)} x) {shape} g.row.R-Error.Denot _"
             told = f'(codes "{case.data}")'
-            same = f"c.in-{case.data}.is (λ t. refl) (λ t. refl)"
+            same = f"c.in-{word}.is (λ t. refl) (λ t. refl)"
             lacks = "refl" if takes else "h"
-            ok, err = (f"returns-in_{way}-x-in-{case.data}-clause-value" for way in ("ok", "err"))
+            ok, err = (f"returns-in_{way}-x-in-{word}-clause-value" for way in ("ok", "err"))
+            if not isinstance(self.case_kind(union, case), Int):  # which the goal takes through the machine's words: the search finds it
+                rows += [
+                    "",
+                    f"pub {ok} : goal.{ok}",
+                    f"{ok} g c = λ sound.",
+                    f"    content_shown {head} _ _ {told} _ _ {same} sound c.in_ok-x-in-{word}.ensures.value",
+                ]
             rows += [
-                "",
-                f"pub {ok} : goal.{ok}",
-                f"{ok} g c = λ sound.",
-                f"    content_shown {head} _ _ {told} _ _ {same} sound c.in_ok-x-in-{case.data}.ensures.value",
                 "",
                 f"pub {err} : goal.{err}",
                 f"{err} g c = λ sound.",
                 f"    content_handed_on {head} _ _ _ _ {told} _ _ c.from_residual{behind}.ensures.1 {same}"
-                f" (λ h. h) (λ lends h. {lacks}) sound c.in_err-x-in-{case.data}.ensures.value",
+                f" (λ h. h) (λ lends h. {lacks}) sound c.in_err-x-in-{word}.ensures.value",
             ]
+        imported = []
+        if many:
+            rows += self.untold_rows(union, words)
+            imported = ["use Rattle.dagcbor_read.proofs.FieldPlaces.{other_name}", *UNTOLD_USES]
         text = "\n".join(rows)
         words = self.imports(text, ghost=False)
-        shapes = [f"{name}_variants", *(case_word(union, case) for case in cases)]
+        shapes = [f"{name}_variants", *([f"{name}_part"] if many else []), *(case_word(union, case) for case in cases)]
         shapes += sorted({word for word in re.findall(r"\w+_shape", text)})
         words += split(f"use Rattle.{self.crate}.specs.{self.path}.", shapes, "")
         words.append("use Rattle.dagcbor_schema.proofs.EnvelopeFronts.{content_shown, content_handed_on}")
+        words += imported
         words.append(f"use Rattle.{self.crate}.proofs.{place}.Goals as goal")
         head = f"-- The members of {union.name}, of {source}, by ./dagcbor-types."
         return {place.replace(".", "/"): "\n".join([head, *words, text]) + "\n"}
+
+    @staticmethod
+    def untold_rows(union, words):
+        """That no content is read behind a tag that is no member's."""
+        name, goal = snake(union.name), "returns-in_default-clause-value"
+        tests = [f'(k ≡ codes "{tag}" → ⊥)' for tag in words]
+        steps = "".join(f'rw (other_name {{name = codes "{tag}"}} n{place}) (' for place, tag in enumerate(words))
+        return [
+            "",
+            f"untold : (k : List ℕ) → {' → '.join(tests)} → (t : Tree) → {name}_part k t ≡ None",
+            f"untold k {' '.join(f'n{place}' for place in range(len(words)))} t = {steps}refl{')' * len(words)}",
+            "",
+            "refused : {E : Type 0} (could L B : Type 0) (r : Reading) (message : Name) (e : DecodeError E) → e ≡ Msg message → (could → ⊥) → Refuses could L B Anything r e r",
+            "refused {E} could L B r message e is never = subst (λ x. Refuses {E = E} could L B Anything r x r) (sym is) (refl, never, λ b l. tt)",
+            "",
+            f"pub {goal} : goal.{goal}",
+            f"{goal} g c = λ sound. refused _ _ _ _ _ _ c.custom.ensures.1",
+            f"    (λ h. absurd (cc (subst (λ o. is_some o ≡ true) (untold c.args.tag.now {' '.join(f'c.in_default.not-{word}' for word in words.values())} h.tree) h.accepted)))",
+        ]
 
     # -- the forms of an impl
 
@@ -1173,6 +1264,27 @@ KINDS = {
     "map": ("map", "Map"),
     "link": ("link", "Link"),
 }
+
+
+SEARCHED_MEMBERS = 3  # of an envelope: how many arms the search proves
+UNTOLD_USES = [
+    "use Rattle.std.proofs.Common.{◌≡◌, subst, sym}",
+    "use Rattle.std.specs.Prelude.{is_some}",
+    "use Rattle.serde_ipld_dagcbor.specs.Reading.{Reading}",
+    "use Rattle.serde_ipld_dagcbor.specs.Refusals.{Refuses}",
+    "use Rattle.serde_ipld_dagcbor.specs.DecodeError.{DecodeError}",
+    "use Rattle.serde_ipld_dagcbor.specs.DecodeError.TheVariants.{Msg}",
+    "use Rattle.serde_ipld_dagcbor.specs.declared.Name.{Name}",
+    "use Rattle.serde_ipld_dagcbor.specs.TypedReads.{Anything}",
+]
+LONG_TEXT = 8  # a member's: of a longer one the search does not find what writes it
+
+
+def is_deep(kind):
+    """Whether it has a list or a map of what is nullable, a list or a map."""
+    inner = parts(kind)
+    holds = isinstance(kind, (ListOf, MapOf)) and any(isinstance(part, (ListOf, MapOf, Nullable)) for part in inner)
+    return holds or any(map(is_deep, inner))
 
 
 def may_lack(field):

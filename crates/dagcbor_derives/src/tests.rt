@@ -99,10 +99,9 @@ fn goes_both_ways<T: Serialize + DeserializeOwned>(
 
 /// The type accepts no such bytes, and this is the refusal.
 fn is_refused<T: DeserializeOwned>(alloc: Global, bytes: &[u8], told: &str) -> Result<(), Fail> {
-    match from_slice_owned::<T>(alloc, bytes) {
-        Ok(_) => Err(Fail::new("was read")),
-        Err(refusal) => is_told(alloc, &refusal, told),
-    }
+    let refusal = from_slice_owned::<T>(alloc, bytes).err();
+    let wanted = format!(in alloc; "Some({told})")?;
+    is_told(alloc, &refusal, &wanted)
 }
 
 fn link() -> Result<Link, Fail> {

@@ -114,8 +114,6 @@ fn fields_have_other_names(rt: HostRuntime) -> Result<(), Fail> {
         ..renamed
     };
     is_read(alloc, RENAMED_SHORT, &short)?;
-    let read: Renamed = from_slice_owned(alloc, RENAMED)?;
-    agree(read.sixth, 0)?;
     is_refused::<Renamed>(
         alloc,
         b"\xa1\x65SIXTH\x01",

@@ -11,6 +11,7 @@ ROOT = os.path.dirname(os.path.dirname(os.path.realpath(__file__)))
 sys.dont_write_bytecode = True
 sys.path.insert(0, os.path.join(ROOT, "faults"))
 
+import bars
 import building
 
 
@@ -28,12 +29,13 @@ def load():
 
 
 def into_page(begin, lines, end):
-    """Puts the lines into docs/SPEED.md, in the place of those that stand there between the marks."""
+    """Puts the lines into docs/SPEED.md, in the place of those that stand there between the marks, and draws docs/speed.svg."""
     path = f"{ROOT}/docs/SPEED.md"
     with open(path, encoding="utf-8") as file:
         before, _, rest = file.read().partition(begin)
     with open(path, "w", encoding="utf-8") as file:
         file.write(before + begin + "".join(lines) + "\n" + end + rest.partition(end)[2])
+    bars.draw()
 
 
 @functools.cache

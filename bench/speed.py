@@ -6,7 +6,7 @@ files of blocks, beside SHA-256 alone; and a block as DAG-JSON, beside Python.
 
 Builds what is not built, makes its data with a fixed seed, runs ours and the peer in turn, and prints tables of processor time, the
 least of so many runs (7 where none is given), and of the heap that a tree takes. With `cars` it measures files of blocks alone, with
-`shown` DAG-JSON. With `page` the tables are put into docs/SPEED.md too.
+`shown` DAG-JSON. With `page` the tables are put into docs/SPEED.md too, and docs/speed.svg is drawn of them (bench/bars.py).
 The peer is built where cargo and Debian's sources of serde_cbor and serde_derive are on the machine, and the one in Go where Go and
 Debian's sources of fxamacker/cbor are; else their columns are left out. Nothing here is a test."""
 

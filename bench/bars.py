@@ -1,0 +1,127 @@
+#!/usr/bin/env python3
+"""Draws docs/speed.svg: the ratios that stand in the tables of docs/SPEED.md, as bars from the line at 1.
+
+    bench/bars.py          draws it anew; so does each script that puts a table into the page
+    bench/bars.py check    fails where the picture is another than the tables say
+
+Nothing is measured here. A bar to the left took less time than what it is compared with, one to the right more; the scale is
+logarithmic, so that half and twice the time are as far from the line."""
+
+import math
+import pathlib
+import re
+import sys
+from xml.sax.saxutils import escape
+
+ROOT = pathlib.Path(__file__).resolve().parent.parent
+PAGE, PICTURE = ROOT / "docs" / "SPEED.md", ROOT / "docs" / "speed.svg"
+
+# A group of bars: its heading, the first cell of its table's head, the columns of ratios, with what each adds to a row's name, and
+# the rows that are drawn.
+GROUPS = [
+    ("Rust: serde_cbor, which is not strict", "Call", {"ours / serde_cbor": ""}, ".*"),
+    ("Rust: a program over serde_cbor, 20 MB of lines", "Program, 20 MB of lines", {"ours / serde_cbor": ""}, ".*from a file"),
+    ("Go: fxamacker/cbor, which is not strict", "Call", {"ours / fxamacker/cbor": ""}, ".*"),
+    ("Python: cbor2, which is not strict", "Python", {"loads / cbor2.loads": "loads: ", "dumps / cbor2.dumps": "dumps: "}, "the record|10,000"),
+    ("Node: the engine's own JSON of the same data", "Node",
+     {"decode / JSON.parse": "decode: ", "encode / JSON.stringify": "encode: "}, "the record|10,000"),
+]
+WIDTH, LEFT, RIGHT, TOP, STEP, BAR = 860, 330, 800, 62, 19, 12
+
+STYLE = """
+  text { font: 12.5px system-ui, sans-serif; fill: #1f2328; }
+  .title { font-weight: 600; font-size: 15px; }
+  .group { font-weight: 600; }
+  .note { fill: #59636e; }
+  .grid { stroke: #d1d9e0; }
+  .one { stroke: #1f2328; stroke-width: 1.5; }
+  .less { fill: #1a7f64; }
+  .more { fill: #bc6c00; }
+  @media (prefers-color-scheme: dark) {
+    text { fill: #f0f6fc; }
+    .note { fill: #9198a1; }
+    .grid { stroke: #3d444d; }
+    .one { stroke: #f0f6fc; }
+    .less { fill: #3fb992; }
+    .more { fill: #e0973a; }
+  }
+"""
+
+
+def tables(page):
+    """The tables of the page, each as its rows of cells."""
+    for block in re.findall(r"(?:^\|.*\n)+", page, re.M):
+        yield [[cell.strip() for cell in line.strip().strip("|").split("|")] for line in block.strip().split("\n")]
+
+
+def bars_of(page, first, columns, wanted):
+    """The names and ratios of a group, in the order of the page."""
+    for head, _, *rows in tables(page):
+        if head[0] == first and set(columns) <= set(head):
+            for row in rows:
+                for column, name in columns.items():
+                    ratio = row[head.index(column)]
+                    if ratio and re.match(wanted, row[0]):
+                        yield name + row[0].replace("`", "").replace(", from a file", ""), float(ratio)
+
+
+def text(x, y, words, kind="", anchor="start"):
+    return f'<text x="{x:.0f}" y="{y:.0f}" class="{kind}" text-anchor="{anchor}">{escape(words)}</text>'
+
+
+def line(x, top, end, kind):
+    return f'<line x1="{x:.1f}" y1="{top}" x2="{x:.1f}" y2="{end}" class="{kind}"/>'
+
+
+def drawn(page):
+    """The lines of the picture."""
+    groups = [(heading, list(bars_of(page, *rest))) for heading, *rest in GROUPS]
+    groups = [(heading, bars) for heading, bars in groups if bars]
+    ratios = [ratio for _, bars in groups for _, ratio in bars]
+    least, most = math.floor(math.log2(min([*ratios, 0.5]))), math.ceil(math.log2(max([*ratios, 2])))
+
+    def place(ratio):
+        return LEFT + (math.log2(ratio) - least) / (most - least) * (RIGHT - LEFT)
+
+    height = TOP + sum(STEP * len(bars) + 34 for _, bars in groups) + 6
+    yield f'<svg xmlns="http://www.w3.org/2000/svg" viewBox="0 0 {WIDTH} {height}" role="img" aria-labelledby="title">'
+    yield '<title id="title">Processor time of this library, as a multiple of that of others</title>'
+    yield f"<style>{STYLE}</style>"
+    yield text(16, 24, "Processor time, as a multiple of that of others", "title")
+    yield text(16, 44, "to the left of 1 we take less", "note")
+    for power in range(least, most + 1):
+        yield line(place(2.0 ** power), TOP - 6, height - 8, "one" if power == 0 else "grid")
+        yield text(place(2.0 ** power), TOP - 12, str(2 ** power) if power >= 0 else f"1/{2 ** -power}", "note", "middle")
+    y = TOP + 14
+    for heading, bars in groups:
+        yield text(16, y, heading, "group")
+        for name, ratio in bars:
+            y += STEP
+            x, kind = sorted([place(1), place(ratio)]), "less" if ratio <= 1 else "more"
+            yield text(LEFT - 8, y, name, "", "end")
+            yield f'<rect x="{x[0]:.1f}" y="{y - BAR + 2}" width="{max(x[1] - x[0], 1):.1f}" height="{BAR}" class="{kind}"/>'
+            yield text(x[0] - 6, y, f"{ratio:.2f}", "", "end") if ratio <= 1 else text(x[1] + 6, y, f"{ratio:.2f}")
+        y += 34
+    yield "</svg>"
+
+
+def picture():
+    return "\n".join(drawn(PAGE.read_text(encoding="utf-8"))) + "\n"
+
+
+def draw():
+    """Draws the picture of the tables that stand in the page."""
+    PICTURE.write_text(picture(), encoding="utf-8")
+
+
+def main(words):
+    if words != ["check"]:
+        draw()
+    elif not PICTURE.exists() or PICTURE.read_text(encoding="utf-8") != picture():
+        print("docs/speed.svg is not what the tables of docs/SPEED.md say: run bench/bars.py")
+        return 1
+    return 0
+
+
+if __name__ == "__main__":
+    sys.exit(main(sys.argv[1:]))

@@ -1,8 +1,8 @@
 #!/usr/bin/env python3
 """The definitions that each sentence of the claim stands on, in the order in which to read them.
 
-    docs/definitions.py          prints the lists
-    docs/definitions.py page     puts how many they are, and their files, into docs/PROVED.md
+    docs/definitions.py          prints the lists, with their files
+    docs/definitions.py page     puts how many they are, and their crates, into docs/PROVED.md
     docs/definitions.py check    fails where the page has others
 
 It begins at the contracts of the calls that a sentence names, and follows each name to its definition in specs/. Names of
@@ -171,12 +171,9 @@ def printed():
         yield from [f"### {sentence}", "", *table, "", *([beside, ""] if beside else [])]
 
 
-def files_of(keys):
-    """The files of the definitions, by crate, each where its first definition comes."""
-    crates = {}
-    for crate, file, _ in keys:
-        crates.setdefault(crate, {})[file] = None
-    return "; ".join(f"`{crate}`: {', '.join(files)}" for crate, files in crates.items())
+def crates_of(keys):
+    """The crates of the definitions, each where its first definition comes."""
+    return ", ".join(f"`{crate}`" for crate in dict.fromkeys(crate for crate, *_ in keys))
 
 
 def page():
@@ -187,7 +184,7 @@ def page():
         lines = sum(found[key] for key in new)
         ghosts = int(beside.split()[0]) if beside else 0
         total, count = total + lines + ghosts, count + len(new)
-        out.append(f"| {sentence} | {len(new)} | {lines} | {files_of(new)}{f'; and {beside}' if beside else ''} |")
+        out.append(f"| {sentence} | {len(new)} | {lines} | {crates_of(new)}{f'; and {beside}' if beside else ''} |")
     return "\n".join([*out, "", f"In all {count} definitions, {total} lines."])
 
 

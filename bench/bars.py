@@ -61,7 +61,7 @@ def bars_of(page, first, columns, wanted):
             for row in rows:
                 for column, name in columns.items():
                     ratio = row[head.index(column)]
-                    if ratio and re.match(wanted, row[0]):
+                    if re.fullmatch(r"[\d.]+", ratio) and re.match(wanted, row[0]):
                         yield name + row[0].replace("`", "").replace(", from a file", ""), float(ratio)
 
 

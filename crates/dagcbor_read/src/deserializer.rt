@@ -597,6 +597,7 @@ impl<'de, R: Read> Deserializer<'de, R> {
     }
 
     /// Begins a list. Takes no memory.
+    #[inline(always)]
     pub fn deserialize_seq(&mut self) -> ReadResult<Accessor<'de>, R>
         ensures begun { Over R.reading
             (Call (BeginsItems 4 (codes "array") 1)) self.old result self.new }
@@ -669,6 +670,7 @@ impl<'de, R: Read> Deserializer<'de, R> {
     }
 
     /// Reads a value as its type does, and remembers a refusal of the type's own.
+    #[inline(always)]
     pub(crate) fn read_part<T: Deserialize<'de>>(&mut self, alloc: Global) -> ReadResult<T, R>
         ensures part { Over R.reading
             (Call (ReadsPart T.meaning T.shape)) self.old result self.new }

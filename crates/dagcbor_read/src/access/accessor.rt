@@ -63,6 +63,7 @@ impl<'de> Accessor<'de> {
     ghost use Rattle.dagcbor_read.specs.Named.{TakesName};
 
     /// Nothing of it is read so far.
+    #[inline(always)]
     pub(crate) fn new(name: Name, is_map: bool, announced: usize, steps: usize) -> Accessor<'de>
         ensures { accessor_state result ≡ fresh name is_map announced steps }
     {
@@ -107,6 +108,7 @@ impl<'de> Accessor<'de> {
     }
 
     /// The next item of a list, where one is left.
+    #[inline(always)]
     pub fn next_element<T: Deserialize<'de>, R: Read>(
         &mut self,
         alloc: Global,
@@ -277,6 +279,7 @@ impl<'de> Accessor<'de> {
     }
 
     /// Ends the list or map, and gives its steps back.
+    #[inline(always)]
     pub fn end<R: Read>(self, de: &mut Deserializer<'de, R>) -> ReadResult<(), R>
         requires in_turn { (accessor_state self).owes_value ≡ false }
         requires out { AreOut (accessor_state self).steps (de_state R.reading de.old) }

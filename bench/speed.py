@@ -140,6 +140,7 @@ def calls(folder, runs):
         ("writing the tree", "to_vec::<Ipld>", "Value", good, 100_000),
         ("reading a struct of the record", "from_slice::<Record>", "Record", good, 200_000),
         ("refusing it as a struct", "from_slice::<Record>", "Record", wrong, 200_000),
+        ("reading the struct from a source", "from_reader::<Record>", "Record", good, 200_000),
         ("writing the struct", "to_vec::<Record>", "Record", good, 200_000),
         ("writing it, its row in no key order", "to_vec::<Declared>", "Record", good, 200_000),
     )
@@ -151,7 +152,7 @@ def calls(folder, runs):
         runner = lambda program, call, times, right: lambda: called(program, call, times, block, right)[0]
         row_calls = [runner(ours, call, times, right), runner(ours, call, 0, 0)]
         if folder:
-            theirs = "to_vec::<" if call.startswith("to_vec") else "from_slice::<"
+            theirs = call.partition("<")[0].replace("check_slice", "from_slice::") + "<"
             program = f"{folder}/calls"
             row_calls += [runner(program, f"{theirs}{kind}>", times, right), runner(program, f"{theirs}{kind}>", 0, 0)]
         best = least_of(runs, row_calls)

@@ -3,7 +3,7 @@
 use serde::de::{Deserialize, DeserializeOwned, Deserializer, Error, IgnoredAny, Visitor};
 use serde::ser::{Serialize, Serializer};
 use serde_cbor::tags::Tagged;
-use serde_cbor::{Value, from_slice, to_vec};
+use serde_cbor::{Value, from_reader, from_slice, to_vec};
 use serde_derive::{Deserialize, Serialize};
 use std::fmt;
 use std::hint::black_box;
@@ -59,6 +59,10 @@ fn reads<T: DeserializeOwned>(block: &[u8], times: u64) -> u64 {
     repeated(times, || black_box(from_slice::<T>(black_box(block))).is_ok())
 }
 
+fn reads_source<T: DeserializeOwned>(block: &[u8], times: u64) -> u64 {
+    repeated(times, || black_box(from_reader::<T, _>(black_box(block))).is_ok())
+}
+
 fn writes<T: DeserializeOwned + Serialize>(block: &[u8], times: u64) -> u64 {
     match from_slice::<T>(block) {
         Ok(value) => repeated(times, || black_box(to_vec(black_box(&value))).is_ok()),
@@ -71,6 +75,7 @@ fn successes(name: &str, block: &[u8], times: u64) -> Option<u64> {
         "from_slice::<IgnoredAny>" => reads::<IgnoredAny>(block, times),
         "from_slice::<Value>" => reads::<Value>(block, times),
         "from_slice::<Record>" => reads::<Record>(block, times),
+        "from_reader::<Record>" => reads_source::<Record>(block, times),
         "to_vec::<Value>" => writes::<Value>(block, times),
         "to_vec::<Record>" => writes::<Record>(block, times),
         _ => return None,

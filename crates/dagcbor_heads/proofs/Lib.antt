@@ -2,6 +2,7 @@ pub mod Bytes
 pub mod Heads
 pub mod Sending
 pub mod Writing
+pub mod Windows
 pub mod Taking
 pub mod Looking
 pub mod Refusing

@@ -48,7 +48,7 @@ row_short (two a b c d) = omega (arith, b)
 row_short (four a b c d) = omega (arith, b)
 row_short (eight a b c d) = omega (arith, b)
 
-head_short : (major n : ℕ) → n < 2 ^ 64 → length (head major n) ≤ 9
+pub head_short : (major n : ℕ) → n < 2 ^ 64 → length (head major n) ≤ 9
 head_short major n h = let s = shape major n h in omega (arith, ap length s.is, length-bytes_high_first s.width n, row_short s.row)
 
 pub slice_at_most : (before now : ℕ) {b : List ℕ} (rest : List ℕ) {major argument : ℕ} → SplitsHead b major argument rest → now + length rest ≡ before + length b → now ≤ before + 18

@@ -10,10 +10,9 @@ use std::io;
 use std::io::BufRead;
 use std::marker::Model;
 
-/// A reader over a buffered source. It takes no byte from the source before `advance` does: what is
-/// shown are copies of bytes that the source still has. An interrupted call is a fault like any
-/// other.
-#[derive(Drop)]
+/// A reader over a buffered source. It takes no byte early: what is shown are copies of bytes that
+/// the source still has. The source loses those that were taken where it is asked for more, in
+/// `into_inner`, and where the reader is dropped. An interrupted call is a fault like any other.
 pub struct IoReader<R: BufRead> {
     source: R,
     window: Window,
@@ -28,7 +27,8 @@ impl<R: BufRead> Model for IoReader<R> {
     ghost Value = { Reading };
 
     ghost view = { λ s. record {
-      left = bytes_told s.window.shown (R.remaining s.source) (R.consumable_len s.source);
+      left = bytes_told s.window.copies s.window.taken (R.remaining s.source)
+          (R.consumable_len s.source);
       shown = s.window.shown;
       steps = s.steps.left;
       budget = s.steps.budget;
@@ -64,11 +64,23 @@ impl<R: BufRead> IoReader<R> {
         ensures { (b : List ℕ) → self.left ≡ Some b → R.remaining result ≡ Some b }
     {
         let Self {
-            source,
-            window: _,
+            mut source,
+            window,
             steps: _,
         } = self;
+        source.consume(window.taken());
         source
+    }
+}
+
+impl<R: BufRead + Drop> Drop for IoReader<R> {
+    fn drop(self) {
+        let Self {
+            mut source,
+            window,
+            steps: _,
+        } = self;
+        source.consume(window.taken());
     }
 }
 
@@ -86,8 +98,11 @@ impl<R: BufRead + Drop> Read for IoReader<R> {
     }
 
     fn advance(&mut self, n: usize) {
-        self.source.consume(n);
-        self.window.clear(n);
+        self.window.advance(n);
+    }
+
+    fn take_head(&mut self) -> Option<(u8, u64, u8)> {
+        self.window.take_head()
     }
 
     fn step_in(&mut self) -> bool {

@@ -12,7 +12,6 @@ use std::marker::Model;
 
 /// A reader over a buffered source that is lent, as `IoReader` over one of its own. Contracts see
 /// through which reference it reads, so that a caller knows what its source has left.
-#[derive(Drop)]
 pub struct IoRefReader<'r, R: BufRead> {
     source: &'r mut R,
     window: Window,
@@ -27,7 +26,8 @@ impl<'r, R: BufRead> Model for IoRefReader<'r, R> {
     ghost Value = { Reading };
 
     ghost view = { λ s. record {
-      left = bytes_told s.window.shown (R.remaining s.source.now) (R.consumable_len s.source.now);
+      left = bytes_told s.window.copies s.window.taken (R.remaining s.source.now)
+          (R.consumable_len s.source.now);
       shown = s.window.shown;
       steps = s.steps.left;
       budget = s.steps.budget;
@@ -67,10 +67,23 @@ impl<'r, R: BufRead> IoRefReader<'r, R> {
     {
         let Self {
             source,
-            window: _,
+            window,
             steps: _,
         } = self;
+        let taken = window.taken();
+        source.consume(taken);
         source
+    }
+}
+
+impl<R: BufRead> Drop for IoRefReader<'_, R> {
+    fn drop(self) {
+        let Self {
+            source,
+            window,
+            steps: _,
+        } = self;
+        source.consume(window.taken());
     }
 }
 
@@ -88,8 +101,11 @@ impl<R: BufRead> Read for IoRefReader<'_, R> {
     }
 
     fn advance(&mut self, n: usize) {
-        self.source.consume(n);
-        self.window.clear(n);
+        self.window.advance(n);
+    }
+
+    fn take_head(&mut self) -> Option<(u8, u64, u8)> {
+        self.window.take_head()
     }
 
     fn step_in(&mut self) -> bool {

@@ -1,71 +1,149 @@
 //! What a reader over a buffered source shows.
 
-ghost use Rattle.std.specs.Prelude.{◌≡◌, ◌+◌, ◌<◌, [], min, length, take, IfSome, MatchResult};
-ghost use Rattle.std.specs.Prelude.{Some};
-ghost use Rattle.dagcbor_heads.specs.IoReading.{Copies};
+ghost use Rattle.std.specs.Prelude.{◌≡◌, ◌+◌, ◌<◌, ◌≤◌, ◌++◌, ◌∷◌, ◌/◌, [], min, length, take, drop, List, ℕ};
+ghost use Rattle.std.specs.Prelude.{IfSome, MatchResult, MatchOption, Some};
+ghost use Rattle.dagcbor_heads.specs.Head.{head};
+ghost use Rattle.dagcbor_heads.specs.IoReading.{Refills, bytes_told, BeginsWithHeadOf, TakesHeadOf};
 
+use crate::front::split_head;
 use crate::tally::Tally;
 use std::io;
 use std::io::BufRead;
 use std::marker::Model;
 
-/// The most bytes that are shown at once.
-const WINDOW: usize = 4096;
+/// The most bytes that are copied at once.
+const WINDOW: usize = 1024;
 
-/// Copies of bytes that a source still has, how often it faulted, and how many bytes were looked
-/// at.
+/// Copies of bytes that a source still has, how many of these were taken, how many behind them are
+/// shown, how often the source faulted, and how many bytes were looked at.
 #[derive(Drop)]
 pub(crate) struct Window {
     bytes: [u8; WINDOW],
-    count: usize,
+    end: usize,
+    start: usize,
+    shown: usize,
     faults: Tally,
     looked: Tally,
 }
 
 impl Model for Window {
-    ghost use Rattle.std.specs.Prelude.{◌≤◌, take};
+    ghost use Rattle.std.specs.Prelude.{◌≤◌, ◌+◌, length, take, drop};
     ghost use Rattle.dagcbor_heads.specs.IoReading.{Windowed};
 
     ghost Value = { Windowed };
 
-    ghost view = { λ s. record { shown = take s.count s.bytes; faults = s.faults.count; looked = s.looked.count } };
+    ghost view = { λ s. record {
+      copies = take s.end s.bytes;
+      taken = s.start;
+      shown = take s.shown (drop s.start (take s.end s.bytes));
+      faults = s.faults.count;
+      looked = s.looked.count;
+    } };
 
-    ghost invariant = { λ s. s.count ≤ 4096 };
+    ghost invariant = { λ s. (s.end ≤ 1024) × (s.end ≤ length s.bytes) × (s.start + s.shown ≤ s.end) };
 }
 
 impl Window {
-    /// Shows nothing, and no fault was met.
+    /// Copies nothing, and no fault was met.
     pub(crate) fn new() -> Window
-        ensures { result ≡ record { shown = []; faults = 0; looked = 0 } }
+        ensures { result ≡ record { copies = []; taken = 0; shown = []; faults = 0; looked = 0 } }
     {
         Window {
             bytes: [0; WINDOW],
-            count: 0,
+            end: 0,
+            start: 0,
+            shown: 0,
             faults: Tally::new(),
             looked: Tally::new(),
         }
     }
 
-    /// Copies some of the next bytes of the source, which stay there: at most as many as are
-    /// wanted, and none only at the end, or where none is wanted. A fault is counted.
+    /// How many bytes were taken that the source still has.
+    pub(crate) fn taken(&self) -> usize
+        ensures value { result ≡ self.now.taken }
+        ensures most { result ≤ length self.now.copies }
+    {
+        self.start
+    }
+
+    /// Shows at most as many of the next bytes as are wanted: none only at the end, or where none is
+    /// wanted. The source is asked only where all that was copied is taken, which it loses then. A
+    /// fault is counted.
     pub(crate) fn look<R: BufRead>(&mut self, source: &mut R, want: usize) -> io::Result<()>
-        ensures { MatchResult result
-            (λ _. Copies (R.remaining source.old) (R.remaining source.new)
-            (R.consumable_len source.new) want self.new.shown
+        ensures shown { MatchResult result
+            (λ _. Refills (bytes_told self.old.copies self.old.taken (R.remaining source.old)
+            (R.consumable_len source.old))
+            (bytes_told self.new.copies self.new.taken (R.remaining source.new)
+            (R.consumable_len source.new)) want self.new.shown
             × (self.new.faults ≡ self.old.faults)
             × (self.new.looked ≡ self.old.looked + min want (length self.new.shown)))
-            (λ _. IfSome (R.remaining source.old) (λ b. R.remaining source.new ≡ Some b)
+            (λ _. IfSome (bytes_told self.old.copies self.old.taken (R.remaining source.old)
+            (R.consumable_len source.old))
+            (λ b. bytes_told self.new.copies self.new.taken (R.remaining source.new)
+            (R.consumable_len source.new) ≡ Some b)
+            × (self.new.shown ≡ []) × (self.new.faults ≡ self.old.faults + 1)
+            × (self.new.looked ≡ self.old.looked)) }
+    {
+        self.prepare(source)?;
+        self.show(want);
+        Ok(())
+    }
+
+    /// Copies some of the next bytes where all that was copied is taken: none only at the end.
+    #[inline(always)]
+    fn prepare<R: BufRead>(&mut self, source: &mut R) -> io::Result<()>
+        ensures ready { MatchResult result
+            (λ _. IfSome (bytes_told self.old.copies self.old.taken (R.remaining source.old)
+            (R.consumable_len source.old))
+            (λ b. (bytes_told self.new.copies self.new.taken (R.remaining source.new)
+            (R.consumable_len source.new) ≡ Some b)
+            × (length (drop self.new.taken self.new.copies) ≡ 0 → b ≡ []))
+            × (self.new.taken ≤ length self.new.copies)
+            × (self.new.faults ≡ self.old.faults) × (self.new.looked ≡ self.old.looked))
+            (λ _. IfSome (bytes_told self.old.copies self.old.taken (R.remaining source.old)
+            (R.consumable_len source.old))
+            (λ b. bytes_told self.new.copies self.new.taken (R.remaining source.new)
+            (R.consumable_len source.new) ≡ Some b)
+            × (self.new.shown ≡ []) × (self.new.faults ≡ self.old.faults + 1)
+            × (self.new.looked ≡ self.old.looked)) }
+    {
+        if self.start < self.end {
+            return Ok(());
+        }
+        self.refill(source)
+    }
+
+    /// Lets the source lose what was taken, and copies some of its next bytes: none only at the end.
+    #[cold]
+    #[inline(never)]
+    fn refill<R: BufRead>(&mut self, source: &mut R) -> io::Result<()>
+        requires { self.old.taken ≡ length self.old.copies }
+        ensures filled { MatchResult result
+            (λ _. IfSome (bytes_told self.old.copies self.old.taken (R.remaining source.old)
+            (R.consumable_len source.old))
+            (λ b. (bytes_told self.new.copies 0 (R.remaining source.new)
+            (R.consumable_len source.new) ≡ Some b) × (length self.new.copies ≡ 0 → b ≡ []))
+            × (self.new.taken ≡ 0) × (self.new.shown ≡ [])
+            × (self.new.faults ≡ self.old.faults) × (self.new.looked ≡ self.old.looked))
+            (λ _. IfSome (bytes_told self.old.copies self.old.taken (R.remaining source.old)
+            (R.consumable_len source.old))
+            (λ b. bytes_told [] 0 (R.remaining source.new)
+            (R.consumable_len source.new) ≡ Some b)
             × (self.new ≡ record {
+              copies = [];
+              taken = 0;
               shown = [];
               faults = self.old.faults + 1;
               looked = self.old.looked;
             })) }
     {
-        self.count = 0;
+        source.consume(self.start);
+        self.start = 0;
+        self.end = 0;
+        self.shown = 0;
         match source.fill_buf() {
             Ok(bytes) => {
-                self.count = copy_front(bytes, &mut self.bytes, want);
-                self.looked.add(self.count);
+                self.end = copy_front(bytes, &mut self.bytes);
                 Ok(())
             }
             Err(fault) => {
@@ -75,31 +153,84 @@ impl Window {
         }
     }
 
+    /// Shows what was copied and not taken, at most as many bytes as are wanted.
+    fn show(&mut self, want: usize)
+        ensures { self.new ≡ record {
+          copies = self.old.copies;
+          taken = self.old.taken;
+          shown = take want (drop self.old.taken self.old.copies);
+          faults = self.old.faults;
+          looked = self.old.looked + min want (length (drop self.old.taken self.old.copies));
+        } }
+    {
+        self.shown = (self.end - self.start).min(want);
+        self.looked.add(self.shown);
+    }
+
     pub(crate) fn shown(&self) -> &[u8]
         ensures { result.now ≡ self.now.shown }
     {
-        &self.bytes[..self.count]
+        &self.bytes[self.start..self.start + self.shown]
     }
 
-    /// Shows nothing any more: n bytes were taken.
-    pub(crate) fn clear(&mut self, n: usize)
+    /// Takes n of the bytes that are shown, and shows nothing any more.
+    pub(crate) fn advance(&mut self, n: usize)
+        requires { n ≤ length self.old.shown }
         ensures { self.new ≡ record {
+          copies = self.old.copies;
+          taken = self.old.taken + n;
           shown = [];
           faults = self.old.faults;
           looked = self.old.looked + n;
         } }
     {
-        self.count = 0;
+        self.start += n;
+        self.shown = 0;
         self.looked.add(n);
+    }
+
+    /// What was copied and not taken.
+    #[inline(always)]
+    fn behind(&self) -> &[u8]
+        ensures { result.now ≡ drop self.now.taken self.now.copies }
+    {
+        &self.bytes[..self.end][self.start..]
+    }
+
+    /// Takes the head at the front, where all of it was copied: its major type, its argument and its
+    /// first byte. The source is not asked.
+    pub(crate) fn take_head(&mut self) -> Option<(u8, u64, u8)>
+        ensures { MatchOption result
+            (self.new ≡ self.old)
+            (λ h. TakesHeadOf self.old h.0 h.1 h.2 self.new) }
+    {
+        let (major, argument, first, count) = whole_head(self.behind())?;
+        self.start += count;
+        self.shown = 0;
+        self.looked.add(count);
+        Some((major, argument, first))
     }
 }
 
-/// Copies as many of the bytes as are wanted and there is room for, and answers how many.
-fn copy_front(bytes: &[u8], room: &mut [u8], want: usize) -> usize
-    ensures count { result ≡ min (min (length bytes.now) (length room.old)) want }
-    ensures copied { take result room.new ≡ take result bytes.now }
+/// The head at the front, where all of it is there: its major type, its argument, its first byte and
+/// its length.
+#[inline(always)]
+fn whole_head(bytes: &[u8]) -> Option<(u8, u64, u8, usize)>
+    ensures { IfSome result (λ h. BeginsWithHeadOf bytes.now h.0 h.1 h.2 h.3) }
 {
-    let count = bytes.len().min(room.len()).min(want);
+    let (first, _behind) = bytes.split_first()?;
+    let first = *first;
+    let (major, argument, rest) = split_head(bytes)?;
+    Some((major, argument, first, bytes.len() - rest.len()))
+}
+
+/// Copies as many of the bytes as there is room for, and answers how many.
+fn copy_front(bytes: &[u8], room: &mut [u8]) -> usize
+    ensures count { result ≡ min (length bytes.now) (length room.old) }
+    ensures copied { take result room.new ≡ take result bytes.now }
+    ensures room { length room.new ≡ length room.old }
+{
+    let count = bytes.len().min(room.len());
     room[..count].copy_from_slice(&bytes[..count]);
     count
 }

@@ -1,7 +1,7 @@
 //! Reading the keys of maps: texts, each behind the one before it.
 
 ghost use Rattle.std.specs.Prelude.{◌≡◌, ◌↔◌, true, false, IfOk, IsTrue, option_map, IfErr, IsUtf8};
-ghost use Rattle.std.specs.Prelude.{IfSome, MatchOption, ◌++◌, ◌<◌, List, ℕ, length};
+ghost use Rattle.std.specs.Prelude.{IfSome, MatchOption, MatchBool, ◌++◌, ◌<◌, List, ℕ, length};
 ghost use Rattle.std.specs.Cow.{cow_str_bytes, IsBorrowedStr};
 ghost use Rattle.dagcbor_heads.specs.Inputs.{input_reading, OverInput};
 ghost use Rattle.dagcbor_heads.specs.Looking.{Looks, LooksAtTaken};
@@ -85,6 +85,20 @@ pub fn take_key<'de, R: Read>(
     }
 }
 
+/// Whether the bytes are the same. In line it is quicker than `==` for a name that is known.
+#[inline(always)]
+fn is_same(text: &[u8], wanted: &[u8]) -> bool
+    requires { length text.now ≡ length wanted.now }
+    ensures { MatchBool result (text.now ≡ wanted.now) (¬ (text.now ≡ wanted.now)) }
+{
+    for i in 0..wanted.len() {
+        if text[i] != wanted[i] {
+            return false;
+        }
+    }
+    true
+}
+
 /// The text at the front, whose head has one byte, and the bytes behind it, where it is this name.
 #[inline(always)]
 fn split_name<'b>(front: &'b [u8], name: &str) -> Option<(&'b str, &'b [u8])>
@@ -103,7 +117,7 @@ fn split_name<'b>(front: &'b [u8], name: &str) -> Option<(&'b str, &'b [u8])>
         return None;
     }
     let (text, rest) = behind.split_at_checked(wanted.len())?;
-    if text != wanted {
+    if !is_same(text, wanted) {
         return None;
     }
     Some((unsafe { from_utf8_unchecked(text) }, rest))

@@ -1,6 +1,6 @@
 -- What calls say that answered, or were refused, on a Deserializer that had not failed.
-use Rattle.std.proofs.Common.{◌≡◌, ℕ, List, Global, ◌<◌, ◌-◌, true, false, subst}
-use Rattle.std.specs.Prelude.{Option, None, Some, Result, Ok, Err, is_err}
+use Rattle.std.proofs.Common.{◌≡◌, ℕ, List, Global, ◌<◌, ◌-◌, true, false, refl, subst}
+use Rattle.std.specs.Prelude.{Option, None, Some, IfSome, Result, Ok, Err, is_err}
 use Rattle.std.specs.Borrow.{Bor}
 use Rattle.std.specs.Cow.{cow_str_bytes}
 use Rattle.std.specs.declared.borrow.CowStr.{CowStr}
@@ -15,7 +15,7 @@ use Rattle.dagcbor_items.proofs.Keys.{no_key_refused}
 use Rattle.dagcbor_read.specs.Deserializers.{DeState, Call}
 use Rattle.dagcbor_items.specs.TypedReads.{HasFront, TakesFront, MayLack, Anything}
 use Rattle.dagcbor_read.proofs.Progressing.{call_answered, call_of, call_told}
-use Rattle.dagcbor_read.specs.Accessors.{AccessorState, ReadsElement, after_element, ReadsNextKey, after_key}
+use Rattle.dagcbor_read.specs.Accessors.{AccessorState, ReadsElement, after_element, ReadsNextKey, KeepsKey, after_key}
 use Rattle.dagcbor_items.specs.Shapes.{Shape}
 use Rattle.dagcbor_items.proofs.StringItems.{text_taken}
 
@@ -74,6 +74,21 @@ after_some_key E o k c d e h = subst (λ x. d ≡ after_key {E = E} (Ok x) c) e 
 
 pub after_no_key : (E : Type 0) (o : Option (CowStr Global)) (c d : AccessorState) → o ≡ None → d ≡ after_key {E = E} (Ok o) c → d ≡ c
 after_no_key E o c d e h = subst (λ x. d ≡ after_key {E = E} (Ok x) c) e h
+
+-- a key that was read and kept
+pub kept_read : (E : Type 0) (last kept : Option (List ℕ)) (left : ℕ) (old new : DeState) (u : Unit {0}) → 0 < left → Call (KeepsKey {E = E} last kept) old (Ok u) new → (k : List ℕ) × (kept ≡ Some k) × KeyRead last left old k new
+kept_read E last (Some k) left old new u some h =
+    let r = call_answered (KeepsKey {E = E} last (Some k)) old new u h in
+    (k, refl, record { sound = r.1; some = some; follows = r.2.0; takes = text_taken _ r.2.1 })
+kept_read E last None left old new u some h = absurd (call_answered (KeepsKey {E = E} last None) old new u h).2
+
+pub kept_refused : (E : Type 0) (last kept : Option (List ℕ)) (old new : DeState) (e : DecodeError E) → old.failed ≡ false → Call (KeepsKey last kept) old (Err e) new
+    → Refuses (HasKey last old.input) (old.input.lends ≡ false) ⊥ (KeyCause last) old.input e new.input
+kept_refused E last (Some k) old new e f h = (call_told (KeepsKey last (Some k)) old new (Err e) f h).1
+kept_refused E last None old new e f h = (call_told (KeepsKey last None) old new (Err e) f h).1
+
+pub at_some : {o : Option (List ℕ)} {k : List ℕ} (P : List ℕ → Type 0) → o ≡ Some k → IfSome o P → P k
+at_some {o} {k} P e h = subst (λ x. IfSome x P) e h
 
 -- a text was taken that is no key
 pub no_key_told : {E : Type 0} (last : Option (List ℕ)) (left : ℕ) (old new : DeState)

@@ -129,6 +129,13 @@ ReadsKeyAfter last old result new = MatchResult result
     (λ p. (cow_str_bytes p.1 ≡ cow_str_bytes p.0) × Follows last (cow_str_bytes p.0) × TakesFront (leaf view_text) old (cow_str_bytes p.0) new)
     (λ e. Refuses (HasKey last old) (old.lends ≡ false) ⊥ (KeyCause last) old e new)
 
+-- a key that stands after the one before it, which is kept
+abbrev pub KeepsKey : {E : Type 0} → Option (List ℕ) → Option (List ℕ) → Reading
+    → Result (Unit {0}) (DecodeError E) → Reading → Type 0
+KeepsKey last (Some k) old (Ok u) new = Follows last k × TakesFront (leaf view_text) old k new
+KeepsKey last None old (Ok u) new = ⊥
+KeepsKey last kept old (Err e) new = Refuses (HasKey last old) (old.lends ≡ false) ⊥ (KeyCause last) old e new
+
 -- one pair fewer is left, whose key is this, and its value is to be read
 abbrev pub with_key : List ℕ → AccessorState → AccessorState
 with_key k c = record c { left = c.left - 1; last = Some k; owes_value = true }

@@ -10,7 +10,7 @@ ghost use Rattle.dagcbor_heads.specs.Looking.{Looks, LooksOnce, LooksAtTaken};
 ghost use Rattle.dagcbor_items.specs.Looks.{LooksAtAny};
 ghost use Rattle.dagcbor_read.specs.Deserializers.{de_state, Call, Ends, Over};
 ghost use Rattle.dagcbor_read.specs.Deserializers.{LooksAtFirst};
-ghost use Rattle.dagcbor_items.specs.Entries.{TakesKey, HasName};
+ghost use Rattle.dagcbor_items.specs.Entries.{TakesKey, HasName, ReadsKey};
 ghost use Rattle.dagcbor_read.specs.Named.{TakesName};
 ghost use Rattle.ipld_tree.specs.Cid.{cid_bytes};
 ghost use Rattle.dagcbor_items.specs.Shapes.{view_link, leaf};
@@ -248,6 +248,7 @@ impl<'de, R: Read> Deserializer<'de, R> {
     }
 
     /// Reads a number from 0 to 255.
+    #[inline(always)]
     pub fn deserialize_u8(&mut self) -> ReadResult<u8, R>
         ensures number { Over R.reading
             (Call (ReadsUnsigned (codes "u8") (2 ^ 8))) self.old result self.new }
@@ -259,6 +260,7 @@ impl<'de, R: Read> Deserializer<'de, R> {
     }
 
     /// Reads a number from 0 to 65,535.
+    #[inline(always)]
     pub fn deserialize_u16(&mut self) -> ReadResult<u16, R>
         ensures number { Over R.reading
             (Call (ReadsUnsigned (codes "u16") (2 ^ 16))) self.old result self.new }
@@ -270,6 +272,7 @@ impl<'de, R: Read> Deserializer<'de, R> {
     }
 
     /// Reads a number from 0 to 2^32 - 1.
+    #[inline(always)]
     pub fn deserialize_u32(&mut self) -> ReadResult<u32, R>
         ensures number { Over R.reading
             (Call (ReadsUnsigned (codes "u32") (2 ^ 32))) self.old result self.new }
@@ -281,6 +284,7 @@ impl<'de, R: Read> Deserializer<'de, R> {
     }
 
     /// Reads a number from 0 to 2^64 - 1.
+    #[inline(always)]
     pub fn deserialize_u64(&mut self) -> ReadResult<u64, R>
         ensures number { Over R.reading
             (Call (ReadsUnsigned (codes "u64") (2 ^ 64))) self.old result self.new }
@@ -532,6 +536,21 @@ impl<'de, R: Read> Deserializer<'de, R> {
         take_name(&mut self.input, last, name)
     }
 
+    /// A key behind the one before it.
+    pub(crate) fn read_key(
+        &mut self,
+        alloc: Global,
+        last: &Option<CowStr<'de>>,
+    ) -> ReadResult<CowStr<'de>, R>
+        ensures key { Over R.reading
+            (Call (ReadsKey (option_map cow_str_bytes last.now))) self.old result self.new }
+    {
+        self.begin()?;
+        let key = read_key(alloc, &mut self.input, last)?;
+        self.failed = false;
+        Ok(key)
+    }
+
     /// A key behind the one before it, twice.
     pub(crate) fn read_key_after(
         &mut self,
@@ -578,6 +597,7 @@ impl<'de, R: Read> Deserializer<'de, R> {
     }
 
     /// Begins a list. Takes no memory.
+    #[inline(always)]
     pub fn deserialize_seq(&mut self) -> ReadResult<Accessor<'de>, R>
         ensures begun { Over R.reading
             (Call (BeginsItems 4 (codes "array") 1)) self.old result self.new }
@@ -650,6 +670,7 @@ impl<'de, R: Read> Deserializer<'de, R> {
     }
 
     /// Reads a value as its type does, and remembers a refusal of the type's own.
+    #[inline(always)]
     pub(crate) fn read_part<T: Deserialize<'de>>(&mut self, alloc: Global) -> ReadResult<T, R>
         ensures part { Over R.reading
             (Call (ReadsPart T.meaning T.shape)) self.old result self.new }

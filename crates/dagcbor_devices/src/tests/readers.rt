@@ -114,7 +114,7 @@ fn fault_of(answer: Result<u8, DecodeError<io::Error>>) -> Option<ErrorKind> {
 
 #[test]
 fn an_interrupted_fill_is_a_fault(_rt: HostRuntime) -> Result<(), Fail> {
-    let mut reader = IoReader::new(Source::new(b"ab", 100, 2));
+    let mut reader = IoReader::new(Source::new(b"ab", 1, 2));
     takes(&mut reader, b'a')?;
     let fault = fault_of(pull_one("any", &mut reader));
     agree(fault, Some(ErrorKind::Interrupted))?;
@@ -124,7 +124,7 @@ fn an_interrupted_fill_is_a_fault(_rt: HostRuntime) -> Result<(), Fail> {
 
 #[test]
 fn an_interrupted_fill_of_a_lent_source_is_a_fault(_rt: HostRuntime) -> Result<(), Fail> {
-    let mut source = Source::new(b"ab", 100, 2);
+    let mut source = Source::new(b"ab", 1, 2);
     let mut reader = IoRefReader::new(&mut source);
     takes(&mut reader, b'a')?;
     let fault = fault_of(pull_one("any", &mut reader));

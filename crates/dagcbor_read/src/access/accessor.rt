@@ -58,11 +58,12 @@ pub(crate) fn give_back<R: Read>(reader: &mut R, steps: usize)
 impl<'de> Accessor<'de> {
     ghost use Rattle.dagcbor_read.specs.Accessors.{accessor_state, fresh, ReadsElement};
     ghost use Rattle.dagcbor_read.specs.Accessors.{after_element, ReadsNextKey, after_key};
-    ghost use Rattle.dagcbor_read.specs.Accessors.{with_key};
+    ghost use Rattle.dagcbor_read.specs.Accessors.{with_key, KeepsKey};
     ghost use Rattle.dagcbor_read.specs.Accessors.{after_value, with_value, EndsItems};
     ghost use Rattle.dagcbor_read.specs.Named.{TakesName};
 
     /// Nothing of it is read so far.
+    #[inline(always)]
     pub(crate) fn new(name: Name, is_map: bool, announced: usize, steps: usize) -> Accessor<'de>
         ensures { accessor_state result ≡ fresh name is_map announced steps }
     {
@@ -107,6 +108,7 @@ impl<'de> Accessor<'de> {
     }
 
     /// The next item of a list, where one is left.
+    #[inline(always)]
     pub fn next_element<T: Deserialize<'de>, R: Read>(
         &mut self,
         alloc: Global,
@@ -223,6 +225,36 @@ impl<'de> Accessor<'de> {
         Ok(Some(key))
     }
 
+    /// Reads the next key, and keeps it alone: `last_key` lends it then.
+    #[cold]
+    #[inline(never)]
+    pub(crate) fn keep_key<R: Read>(
+        &mut self,
+        alloc: Global,
+        de: &mut Deserializer<'de, R>,
+    ) -> ReadResult<(), R>
+        requires { 0 < (accessor_state self.old).left }
+        ensures after { IfOk result (λ _. IfSome (accessor_state self.new).last
+            (λ k. accessor_state self.new ≡ with_key k (accessor_state self.old))) }
+        ensures key { Over R.reading
+            (Call (KeepsKey (accessor_state self.old).last (accessor_state self.new).last)) de.old
+            result de.new }
+    {
+        let key = de.read_key(alloc, &self.last)?;
+        self.note_key(key);
+        Ok(())
+    }
+
+    /// The key that was read last.
+    pub(crate) fn last_key(&self) -> &str
+        ensures { IfSome (accessor_state self.now).last (λ k. result.now ≡ k) }
+    {
+        match &self.last {
+            Some(key) => key.as_str(),
+            None => "",
+        }
+    }
+
     /// The value of the key before it.
     pub fn next_value<T: Deserialize<'de>, R: Read>(
         &mut self,
@@ -247,6 +279,7 @@ impl<'de> Accessor<'de> {
     }
 
     /// Ends the list or map, and gives its steps back.
+    #[inline(always)]
     pub fn end<R: Read>(self, de: &mut Deserializer<'de, R>) -> ReadResult<(), R>
         requires in_turn { (accessor_state self).owes_value ≡ false }
         requires out { AreOut (accessor_state self).steps (de_state R.reading de.old) }

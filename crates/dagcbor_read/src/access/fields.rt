@@ -105,10 +105,8 @@ fn read_by_key<'de, F: Fields<'de>, R: Read>(
         (accessor_state entries.new) (de_state R.reading de.new) }
     ensures stops { Over R.reading Stops de.old result de.new }
 {
-    let Some(key) = entries.next_key(alloc, de)? else {
-        return Ok(());
-    };
-    F::read_field(places, alloc, names, key.as_str(), de)?;
+    entries.keep_key(alloc, de)?;
+    F::read_field(places, alloc, names, entries.last_key(), de)?;
     entries.note_value();
     Ok(())
 }

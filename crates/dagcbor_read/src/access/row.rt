@@ -54,6 +54,7 @@ impl<'de, T: Deserialize<'de>> Row<'de> for Vec<T> {
 
     ghost lies = { λ lends v. All (T.lies lends) v.items };
 
+    #[inline(always)]
     fn read_row<R: Read>(
         alloc: Global,
         items: &mut Accessor<'de>,
@@ -110,6 +111,7 @@ impl<'de, T: Deserialize<'de>, L: Row<'de>> Row<'de> for (T, L) {
 }
 
 /// Reads all that is left of a list, and ends it.
+#[inline(always)]
 pub(crate) fn read_rest<'de, L: Row<'de>, R: Read>(
     alloc: Global,
     items: Accessor<'de>,

@@ -70,6 +70,7 @@ impl<'de> Fields<'de> for () {
         false
     }
 
+    #[inline(always)]
     fn finish(_places: ()) -> Option<()> {
         Some(())
     }
@@ -206,6 +207,7 @@ impl<'de, T: Deserialize<'de>, L: Fields<'de>> Fields<'de> for (Required<T>, L) 
         read_named_place::<T, L, R>(places, alloc, names, entries, de, refusal)
     }
 
+    #[inline(always)]
     fn finish(places: (Option<T>, L::Places)) -> Option<(Required<T>, L)> {
         let (value, others) = places;
         let value = value?;
@@ -258,6 +260,7 @@ impl<'de, T: Deserialize<'de>, L: Fields<'de>> Fields<'de> for (Option<T>, L) {
         read_named_place::<Option<T>, L, R>(places, alloc, names, entries, de, refusal)
     }
 
+    #[inline(always)]
     fn finish(places: (Option<Option<T>>, L::Places)) -> Option<(Option<T>, L)> {
         let (value, others) = places;
         let others = L::finish(others)?;
@@ -266,6 +269,7 @@ impl<'de, T: Deserialize<'de>, L: Fields<'de>> Fields<'de> for (Option<T>, L) {
 }
 
 /// The fields, once all were read.
+#[inline(always)]
 fn finished<'de, F: Fields<'de>, E>(places: F::Places) -> Result<F, DecodeError<E>>
     ensures { MatchResult result
         (λ v. F.finish (F.state places) ≡ Some (F.meaning v))

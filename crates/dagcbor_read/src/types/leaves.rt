@@ -62,6 +62,7 @@ impl Shown for u8 {
 }
 
 impl<'de> Deserialize<'de> for u8 {
+    #[inline(always)]
     fn deserialize<R: Read>(_alloc: Global, de: &mut Deserializer<'de, R>) -> ReadResult<Self, R> {
         de.deserialize_u8()
     }
@@ -80,6 +81,7 @@ impl Shown for u16 {
 }
 
 impl<'de> Deserialize<'de> for u16 {
+    #[inline(always)]
     fn deserialize<R: Read>(_alloc: Global, de: &mut Deserializer<'de, R>) -> ReadResult<Self, R> {
         de.deserialize_u16()
     }
@@ -98,6 +100,7 @@ impl Shown for u32 {
 }
 
 impl<'de> Deserialize<'de> for u32 {
+    #[inline(always)]
     fn deserialize<R: Read>(_alloc: Global, de: &mut Deserializer<'de, R>) -> ReadResult<Self, R> {
         de.deserialize_u32()
     }
@@ -116,6 +119,7 @@ impl Shown for u64 {
 }
 
 impl<'de> Deserialize<'de> for u64 {
+    #[inline(always)]
     fn deserialize<R: Read>(_alloc: Global, de: &mut Deserializer<'de, R>) -> ReadResult<Self, R> {
         de.deserialize_u64()
     }

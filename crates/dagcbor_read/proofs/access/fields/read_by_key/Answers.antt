@@ -1,47 +1,47 @@
 use Rattle.std.proofs.Common.{◌≡◌, true, ap, subst, ◌∙◌}
 use Rattle.dagcbor_heads.proofs.Refusing.{as_refusal}
-use Rattle.dagcbor_read.specs.Accessors.{accessor_state, with_value}
-use Rattle.std.specs.Cow.{cow_str_bytes}
+use Rattle.dagcbor_read.specs.Accessors.{accessor_state, with_key, with_value}
 use Rattle.dagcbor_items.specs.TypedReads.{TakesFront}
 use Rattle.dagcbor_read.specs.Collections.{value_of}
 use Rattle.dagcbor_read.specs.Deserializers.{de_state}
 use Rattle.dagcbor_read.specs.Structs.{texts}
-use Rattle.dagcbor_read.proofs.Answered.{key_read, key_refused, after_some_key}
+use Rattle.dagcbor_read.proofs.Answered.{kept_read, kept_refused, at_some}
 use Rattle.dagcbor_read.proofs.EntryRows.{no_field_so_far, key_not_read, value_not_read}
 use Rattle.dagcbor_read.proofs.Passing.{or_right}
 use Rattle.dagcbor_read.proofs.access.fields.read_by_key.Goals as goal
 
-pub returns-in_err-key-clause-entry : goal.returns-in_err-key-clause-entry
-returns-in_err-key-clause-entry g c =
+pub returns-in_err-keep_key-clause-entry : goal.returns-in_err-keep_key-clause-entry
+returns-in_err-keep_key-clause-entry g c =
     let shape = g.F.Fields.shape (texts c.args.names.now) in
     let i = no_field_so_far shape (g.F.Fields.state c.args.places.now) (accessor_state c.args.entries.now) (de_state g.R.Read.reading c.args.de.now) c.requires.sound c.requires.map c.requires.in_turn in
-    let k = key_refused g.row.R-Error.Denot _ _ _ (de_state g.R.Read.reading c.next_key.new.de) _ c.requires.sound c.in_err-key.ensures.key in
-    as_refusal _ _ _ _ c.from_residual.ensures.1 (key_not_read shape (shape.wants_loan ≡ true) _ _ i k.0 k.1)
+    let k = kept_refused g.row.R-Error.Denot (accessor_state c.args.entries.now).last (accessor_state c.keep_key.new.self).last (de_state g.R.Read.reading c.args.de.now) (de_state g.R.Read.reading c.keep_key.new.de) _ c.requires.sound c.in_err-keep_key.ensures.key in
+    as_refusal _ _ _ _ c.from_residual.ensures.1 (key_not_read shape (shape.wants_loan ≡ true) _ _ i c.requires.some k)
 
 pub returns-in_err-read_field-clause-entry : goal.returns-in_err-read_field-clause-entry
 returns-in_err-read_field-clause-entry g c =
     let shape = g.F.Fields.shape (texts c.args.names.now) in
     let i = no_field_so_far shape (g.F.Fields.state c.args.places.now) (accessor_state c.args.entries.now) (de_state g.R.Read.reading c.args.de.now) c.requires.sound c.requires.map c.requires.in_turn in
-    let k = key_read g.row.R-Error.Denot _ _ (de_state g.R.Read.reading c.args.de.now) (de_state g.R.Read.reading c.next_key.new.de) _ _ c.in-Some.is c.in_ok-key.ensures.key in
-    as_refusal _ _ _ _ c.from_residual-in_err-read_field.ensures.1 (value_not_read shape (shape.memory (de_state g.R.Read.reading c.next_key.new.de).input.lends ≡ true) (shape.wants_loan ≡ true) _ _ _ _ c.as_str.ensures.value i k (or_right _ _) (c.in_err-read_field.ensures.value k.sound))
+    let k = kept_read g.row.R-Error.Denot _ (accessor_state c.keep_key.new.self).last (accessor_state c.args.entries.now).left (de_state g.R.Read.reading c.args.de.now) (de_state g.R.Read.reading c.keep_key.new.de) _ c.requires.some c.in_ok-keep_key.ensures.key in
+    let is = at_some (λ x. c.last_key.result.now ≡ x) k.1 c.last_key.ensures in
+    as_refusal _ _ _ _ c.from_residual-in_err-read_field.ensures.1 (value_not_read shape (shape.memory (de_state g.R.Read.reading c.keep_key.new.de).input.lends ≡ true) (shape.wants_loan ≡ true) _ _ k.0 _ is i k.2 (or_right _ _) (c.in_err-read_field.ensures.value k.2.sound))
 
 pub returns-clause-entry : goal.returns-clause-entry
 returns-clause-entry g c =
     let shape = g.F.Fields.shape (texts c.args.names.now) in
     let state = g.F.Fields.state c.args.places.now in
-    let mid = de_state g.R.Read.reading c.next_key.new.de in
-    let key = cow_str_bytes c.in-Some.key in
-    let k = key_read g.row.R-Error.Denot _ _ (de_state g.R.Read.reading c.args.de.now) mid _ _ c.in-Some.is c.in_ok-key.ensures.key in
-    let after = after_some_key g.row.R-Error.Denot _ _ (accessor_state c.args.entries.now) (accessor_state c.next_key.new.self) c.in-Some.is c.in_ok-key.ensures.after in
-    let v = c.in_ok-read_field.ensures.value k.sound in
+    let mid = de_state g.R.Read.reading c.keep_key.new.de in
+    let k = kept_read g.row.R-Error.Denot _ (accessor_state c.keep_key.new.self).last (accessor_state c.args.entries.now).left (de_state g.R.Read.reading c.args.de.now) mid _ c.requires.some c.in_ok-keep_key.ensures.key in
+    let is = at_some (λ x. c.last_key.result.now ≡ x) k.1 c.last_key.ensures in
+    let after = at_some (λ x. accessor_state c.keep_key.new.self ≡ with_key x (accessor_state c.args.entries.now)) k.1 c.in_ok-keep_key.ensures.after in
+    let v = c.in_ok-read_field.ensures.value k.2.sound in
     record {
-      key = key;
+      key = k.0;
       mid = mid;
       is = tt;
-      follows = k.follows;
-      read = k.sound;
-      takes = k.takes;
+      follows = k.2.follows;
+      read = k.2.sound;
+      takes = k.2.takes;
       counted = c.note_value.ensures ∙ ap with_value after;
       sound = v.0;
-      value = subst (λ x. TakesFront (value_of shape state x) mid.input (g.F.Fields.state c.read_field.new.places) (de_state g.R.Read.reading c.read_field.new.de).input) c.as_str.ensures.value v.1;
+      value = subst (λ x. TakesFront (value_of shape state x) mid.input (g.F.Fields.state c.read_field.new.places) (de_state g.R.Read.reading c.read_field.new.de).input) is v.1;
     }

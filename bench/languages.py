@@ -1,13 +1,14 @@
 #!/usr/bin/env python3
 """Speed of the packages for Python and Node, and of the calls of the C ABI.
 
-    bench/languages.py [RUNS] [page]
+    bench/languages.py [RUNS] [libcbor] [page]
 
 Builds the packages as docs/OTHER_LANGUAGES.md says, makes its blocks with a fixed seed, runs ours
 and what it is compared with in turn, and prints tables of processor time, the least of so many runs
 (9 where none is given). With `page` the tables are put into docs/SPEED.md too. Python's are
-compared with json and with the accelerator of Debian's python3-cbor2, and Node's with its JSON.
-What is not there is left out. Nothing here is a test."""
+compared with json and with the accelerator of Debian's python3-cbor2, and Node's with its JSON; the
+judge of the C ABI with Debian's libcbor-dev, and with `libcbor` that alone. What is not there is
+left out. Nothing here is a test."""
 
 import os
 import random
@@ -24,6 +25,8 @@ import building
 HERE, CRATE = f"{ROOT}/bench/languages", f"{ROOT}/crates/dagcbor_ffi"
 BEGIN = "<!-- made by bench/languages.py page -->\n"
 END = "<!-- so far, of other languages -->\n"
+LIBCBOR_BEGIN = "<!-- made by bench/languages.py libcbor page -->\n"
+LIBCBOR_END = "<!-- so far, of libcbor -->\n"
 PYTHON = "/usr/bin/python3" if os.path.exists("/usr/bin/python3") else sys.executable
 RECORD = bytes.fromhex(
     "a3646e616d656c477261636520486f707065726a70726f66657373696f6e72636f6d707574657220"
@@ -57,10 +60,11 @@ def printed(words, **how):
     return [[float(it) for it in line.split()] for line in ran.stdout.splitlines()]
 
 
-def in_c(folder, runs, paths):
-    words = [*building.c_compiler(), "-O2", f"-I{CRATE}/include", f"{HERE}/calls.c"]
-    subprocess.run([*words, f"{CRATE}/out/libdagcbor_ffi.a", "-o", f"{folder}/calls"], check=True)
-    return printed([f"{folder}/calls", str(runs), *paths])
+def in_c(folder, name, runs, paths, *libraries):
+    words = [*building.c_compiler(), "-O2", f"-I{CRATE}/include", f"{HERE}/{name}.c"]
+    words += [f"{CRATE}/out/libdagcbor_ffi.a", *libraries, "-o", f"{folder}/{name}"]
+    subprocess.run(words, check=True)
+    return printed([f"{folder}/{name}", str(runs), *paths])
 
 
 def python_package(folder):
@@ -100,10 +104,34 @@ def table(title, columns, names, rows, pairs):
         tell(f"| {name} | {' | '.join(cells)} |")
 
 
+def measured(runs):
+    tell(f"Measured {machine()}, nanoseconds of processor time, the least of {runs} runs.")
+
+
+def packages(folder, runs, names, paths):
+    measured(runs)
+    columns = ["check", "tape", "spell"]
+    table("C", columns, names, in_c(folder, "calls", runs, paths), [(1, 0), (2, 0)])
+    columns = ["loads", "dumps", "cbor2.loads", "cbor2.dumps", "json.loads", "json.dumps"]
+    table("Python", columns, names, in_python(folder, runs, paths), [(0, 2), (1, 3)])
+    if shutil.which("node"):
+        columns = ["decode", "encode", "JSON.parse", "JSON.stringify"]
+        table("Node", columns, names, in_node(runs, paths), [(0, 2), (1, 3)])
+
+
+def beside_libcbor(folder, runs, names, paths):
+    measured(runs)
+    columns = ["dagcbor_check", "cbor_stream_decode", "cbor_load"]
+    rows = in_c(folder, "libcbor", runs, paths, "-lcbor")
+    table("C", columns, names, rows, [(0, 1), (0, 2)])
+
+
 def main(words):
     runs = next((int(word) for word in words if word.isdigit()), 9)
     subprocess.run(["rt", "lib"], cwd=CRATE, stdout=subprocess.DEVNULL, check=True)
-    tell(f"Measured {machine()}, nanoseconds of processor time, the least of {runs} runs.")
+    tables = [] if "libcbor" in words else [(packages, BEGIN, END)]
+    if os.path.exists("/usr/include/cbor.h"):
+        tables.append((beside_libcbor, LIBCBOR_BEGIN, LIBCBOR_END))
     with tempfile.TemporaryDirectory(prefix="languages-") as folder:
         names, paths = [], []
         for name, block in blocks():
@@ -111,15 +139,11 @@ def main(words):
             paths.append(f"{folder}/{len(paths)}.block")
             with open(paths[-1], "wb") as file:
                 file.write(block)
-        columns = ["check", "tape", "spell"]
-        table("C", columns, names, in_c(folder, runs, paths), [(1, 0), (2, 0)])
-        columns = ["loads", "dumps", "cbor2.loads", "cbor2.dumps", "json.loads", "json.dumps"]
-        table("Python", columns, names, in_python(folder, runs, paths), [(0, 2), (1, 3)])
-        if shutil.which("node"):
-            columns = ["decode", "encode", "JSON.parse", "JSON.stringify"]
-            table("Node", columns, names, in_node(runs, paths), [(0, 2), (1, 3)])
-    if "page" in words:
-        into_page(BEGIN, told, END)
+        for make, begin, end in tables:
+            told.clear()
+            make(folder, runs, names, paths)
+            if "page" in words:
+                into_page(begin, told, end)
 
 
 if __name__ == "__main__":

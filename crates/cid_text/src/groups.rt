@@ -35,13 +35,13 @@ pub fn push_groups(
         held += 8;
         while held >= width {
             held -= width;
-            let unit = 2u32.pow(held);
+            let unit = 1u32 << held;
             out.push(symbols[(rest / unit) as usize]);
             rest %= unit;
         }
     }
     if held > 0 {
-        out.push(symbols[(rest * 2u32.pow(width - held)) as usize]);
+        out.push(symbols[(rest * (1u32 << (width - held))) as usize]);
     }
 }
 

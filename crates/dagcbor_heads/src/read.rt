@@ -137,7 +137,7 @@ impl<'a> SliceReader<'a> {
 
     /// The bytes that are left, for as long as the slice. Nothing is taken, and nothing counted.
     #[inline(always)]
-    pub(crate) fn rest(&self) -> &'a [u8]
+    pub fn rest(&self) -> &'a [u8]
         ensures bytes { self.now.left ≡ Some result.now }
         ensures lends { self.now.lends ≡ true }
     {

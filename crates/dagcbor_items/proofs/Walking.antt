@@ -41,6 +41,15 @@ rest_of_entries es t b l = let k = t.taken b l in (entries_spelling es, k.0, k.1
 pub rest_of_key : {old mid : Reading} (key : List ℕ) → TakesItem 1 old (text key) mid → LeavesRest old.left mid.left
 rest_of_key key t b l = let k = t.taken b l in (text_spelling key, k.0, k.1.is, k.3)
 
+-- ---- links
+
+-- only lists, maps and links have links in them
+pub no_links : (t : Tree) → major t ≢ 4 → major t ≢ 5 → major t ≢ 6 → links_of t ≡ []
+no_links (list ts) a b c = absurd (a refl)
+no_links (mapping es) a b c = absurd (b refl)
+no_links (link cid) a b c = absurd (c refl)
+no_links _ a b c = refl
+
 -- ---- want of memory
 
 -- what may be wanting behind what was taken might have been before
@@ -130,13 +139,6 @@ module _ {S : Type 0} (sink : Sink S) where
   pub leaf_walked : {E : Type 0} (old : Reading) {first : ℕ} (s : S) (r : Result (Unit {0}) (DecodeError E)) (new : Reading) → StartsWith old first → first / 32 ≢ 4 → first / 32 ≢ 5 → first / 32 ≢ 6 → SkipsEnteredItem old r new → WalksEnteredItem sink old s r new s
   leaf_walked {E} old {first} s (Ok u) new starts a b c h = by old.left refl
     where
-      -- only lists, maps and links have links in them
-      no_links : (t : Tree) → major t ≢ 4 → major t ≢ 5 → major t ≢ 6 → links_of t ≡ []
-      no_links (list ts) a b c = absurd (a refl)
-      no_links (mapping es) a b c = absurd (b refl)
-      no_links (link cid) a b c = absurd (c refl)
-      no_links _ a b c = refl
-
       -- where the bytes are not known, null may be named for what was taken
       by : (o : Option (List ℕ)) → old.left ≡ o → (t : Tree) × TakesItem 1 old t new × Finds sink.holds s (links_of t) s
       by None e = (null, record { taken = λ x l. absurd (cc (e, l)); same = h.1.same }, found_none s)

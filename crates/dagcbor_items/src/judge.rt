@@ -218,7 +218,7 @@ fn behind_simple(value: u64, bytes: &[u8]) -> Option<&[u8]>
 
 /// The bytes behind an item that holds no others, whose head was split off.
 #[inline(always)]
-fn behind_leaf(major: u8, argument: u64, behind: &[u8]) -> Option<&[u8]>
+pub(crate) fn behind_leaf(major: u8, argument: u64, behind: &[u8]) -> Option<&[u8]>
     requires no_list { major ≢ 4 }
     requires no_map { major ≢ 5 }
     ensures { (b : List ℕ) → SplitsHead b major argument behind.now →

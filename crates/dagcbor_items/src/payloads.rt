@@ -2,20 +2,26 @@
 //! by a slice.
 
 ghost use Rattle.std.specs.Prelude.{◌≡◌, ◌<◌, ◌↔◌, ℕ, List, true, false, IsTrue, option_map, IfErr};
+ghost use Rattle.std.specs.Prelude.{◌+◌, [], length, MatchBool, IfSome};
 ghost use Rattle.std.specs.Cow.{cow_str_bytes};
-ghost use Rattle.dagcbor_heads.specs.Looking.{Looks, LooksBehind};
+ghost use Rattle.dagcbor_heads.specs.Looking.{Looks, LooksBehind, LooksAtTaken};
+ghost use Rattle.ipld_tree.specs.Tree.{Tree, any_need, links_of};
+ghost use Rattle.ipld_tree.specs.Spelling.{IsFront};
 ghost use Rattle.dagcbor_items.specs.Majors.{ReadsString};
 ghost use Rattle.dagcbor_items.specs.Places.{Follows};
 ghost use Rattle.dagcbor_items.specs.Entries.{ReadsKeyAs};
 ghost use Rattle.dagcbor_items.specs.LeafReads.{ReadsTextAs};
 ghost use Rattle.dagcbor_items.specs.AnsweredVariants.{OfKey, OfHead, OfText};
-ghost use Rattle.dagcbor_items.specs.Untyped.{SkipsEnteredItem, StartsWithMajor};
+ghost use Rattle.dagcbor_items.specs.Untyped.{SkipsEnteredItem, StartsWithMajor, TakesItem};
 
+use crate::judge::behind_leaf;
 use crate::key::{comes_before, read_key};
 use crate::majors::peek_major;
 use crate::strings::{no_text, pull_peeked_slice, pull_peeked_str};
 use crate::utf8::as_text;
-use dagcbor_heads::{DecodeError, Input, Len, Name, Read, ReadResult, SliceReader, pull_head};
+use dagcbor_heads::{
+    DecodeError, Input, Len, Name, Read, ReadResult, SliceReader, pull_head, split_head,
+};
 use std::alloc::Global;
 use std::borrow::CowStr;
 use std::convert::Infallible;
@@ -29,6 +35,16 @@ pub trait PayloadReader: Read {
     type Key: Drop;
 
     ghost key_bytes: { Self.Key → List ℕ };
+
+    /// Takes the item at the front, where it holds no others and no link, and all of it is at hand.
+    /// It may take nothing.
+    fn take_leaf(&mut self) -> bool
+        ensures taken { MatchBool result
+            ((t : Tree) × TakesItem 0 (Self.reading self.old) t (Self.reading self.new)
+            × (links_of t ≡ []))
+            (Self.reading self.new ≡ Self.reading self.old) }
+        ensures looked { IsTrue result
+            → LooksAtTaken 3 0 (Self.reading self.old) (Self.reading self.new) };
 
     /// Reads a key behind the one before it.
     fn pull_key(
@@ -63,6 +79,14 @@ impl<'de, R: Read> PayloadReader for Input<'de, R> {
     type Key = CowStr<'de>;
 
     ghost key_bytes = { cow_str_bytes };
+
+    #[inline(always)]
+    fn take_leaf(&mut self) -> bool {
+        match self {
+            Input::Slice(reader) => reader.take_leaf(),
+            Input::Reader(_) => false,
+        }
+    }
 
     fn pull_key(
         &mut self,
@@ -169,6 +193,20 @@ fn lent_follows(previous: &Option<&str>, key: &str) -> bool
     }
 }
 
+/// How many bytes the item at the front has, where it holds no others and no link.
+#[inline(always)]
+fn leaf_length(bytes: &[u8]) -> Option<usize>
+    ensures { IfSome result (λ n. (t : Tree) × (rest : List ℕ) × IsFront bytes.now t rest
+        × (any_need t ≡ 1) × (links_of t ≡ []) × (n + length rest ≡ length bytes.now)) }
+{
+    let (major, argument, behind) = split_head(bytes)?;
+    if major == 4 || major == 5 || major == 6 {
+        return None;
+    }
+    let rest = behind_leaf(major, argument, behind)?;
+    Some(bytes.len() - rest.len())
+}
+
 /// Lent, with no allocator.
 impl<'de> PayloadReader for SliceReader<'de> {
     type Alloc = ();
@@ -176,6 +214,21 @@ impl<'de> PayloadReader for SliceReader<'de> {
     type Key = &'de str;
 
     ghost key_bytes = { λ s. s.now };
+
+    #[inline(always)]
+    fn take_leaf(&mut self) -> bool {
+        let Some(count) = leaf_length(self.rest()) else {
+            return false;
+        };
+        if !self.step_in() {
+            return false;
+        }
+        let Some(_leaf) = self.lend(count as u64) else {
+            unreachable!()
+        };
+        self.step_out();
+        true
+    }
 
     fn pull_key(
         &mut self,

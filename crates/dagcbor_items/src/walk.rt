@@ -44,9 +44,28 @@ pub fn gather_links<R: Read>(alloc: Global, input: &mut Input<'_, R>) -> ReadRes
 
 /// Goes through an item of any kind, no deeper than the steps that are left, and hands its links
 /// on.
+#[cycle(walk)]
+#[inline(always)]
+pub fn walk_any<I: PayloadReader, S: LinkSink>(
+    alloc: I::Alloc,
+    input: &mut I,
+    links: &mut S,
+) -> ReadResult<(), I>
+    ensures item { WalksItem S.sink (I.reading input.old) links.old result
+        (I.reading input.new) links.new }
+    ensures looked { Looks 3 (I.reading input.old) result (I.reading input.new) }
+    ensures variant { IfErr result OfItem }
+{
+    if input.take_leaf() {
+        return Ok(());
+    }
+    walk_by_bytes(alloc, input, links)
+}
+
+/// The same byte by byte: a refusal names its cause.
 #[tactic(auto, using(crate::proofs::PartRefusals::depth_item))]
 #[cycle(walk)]
-pub fn walk_any<I: PayloadReader, S: LinkSink>(
+fn walk_by_bytes<I: PayloadReader, S: LinkSink>(
     alloc: I::Alloc,
     input: &mut I,
     links: &mut S,

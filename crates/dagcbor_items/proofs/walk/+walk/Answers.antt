@@ -1,5 +1,6 @@
-use Rattle.std.proofs.Common.{inl, refl, sym, ◌∙◌, ap, [], ◌∷◌, ◌++◌, arith}
-use Rattle.dagcbor_items.specs.Walks.{WalkLacks}
+use Rattle.std.proofs.Common.{inl, refl, sym, ◌∙◌, ap, subst, [], ◌∷◌, ◌++◌, arith}
+use Rattle.dagcbor_items.specs.Walks.{WalkLacks, WalksItem}
+use Rattle.dagcbor_heads.specs.Looking.{Looks}
 use Rattle.dagcbor_heads.proofs.Refusing.{as_refusal}
 use Rattle.dagcbor_heads.specs.Reading.{Reading}
 use Rattle.dagcbor_heads.proofs.Looking.{looks_more, looks_then, some_both, some_then, some_taken, nothing_looked, same_looked}
@@ -8,22 +9,22 @@ use Rattle.ipld_tree.specs.Tree.{no_entries}
 use Rattle.dagcbor_items.proofs.Fronts.{byte_refused}
 use Rattle.dagcbor_items.proofs.Leaves.{indefinite_refused}
 use Rattle.dagcbor_items.proofs.Steps.{no_step_left, stepped_taken, more_lacks}
-use Rattle.dagcbor_items.proofs.Walking.{lacks_before, rest_of_bytes, rest_of_items, rest_of_entries, rest_of_key, found_none, item_found, entry_found, none_handed, handed_inside, handed_in_items, handed_in_entries, handed_in_value, step_walk_refused, leaf_walked, walked_from}
+use Rattle.dagcbor_items.proofs.Walking.{lacks_before, rest_of_bytes, rest_of_items, rest_of_entries, rest_of_key, found_none, found_as, item_found, entry_found, none_handed, handed_inside, handed_in_items, handed_in_entries, handed_in_value, step_walk_refused, leaf_walked, walked_from}
 use Rattle.dagcbor_items.proofs.StringItems.{text_taken}
 use Rattle.dagcbor_items.proofs.Lists.{list_refused, list_taken, no_item_read, next_refused, one_item_read, all_items_read}
 use Rattle.dagcbor_items.proofs.Maps as maps
 use Rattle.dagcbor_items.proofs.Entering.{enters}
 use Rattle.dagcbor_items.proofs.walk.+walk.Goals as goal
 
-pub walk_any-returns-in_err-spend_step-clause-item : goal.walk_any-returns-in_err-spend_step-clause-item
-walk_any-returns-in_err-spend_step-clause-item g t c = as_refusal _ _ _ _ c.from_residual.ensures.1 record { refuses = no_step_left _ _ c.in_err-spend_step.ensures; handed = none_handed g.S.LinkSink.sink _ _ }
+pub walk_by_bytes-returns-in_err-spend_step-clause-item : goal.walk_by_bytes-returns-in_err-spend_step-clause-item
+walk_by_bytes-returns-in_err-spend_step-clause-item g t c = as_refusal _ _ _ _ c.from_residual.ensures.1 record { refuses = no_step_left _ _ c.in_err-spend_step.ensures; handed = none_handed g.S.LinkSink.sink _ _ }
 
-pub walk_any-returns-in_err-walk_item-clause-item : goal.walk_any-returns-in_err-walk_item-clause-item
-walk_any-returns-in_err-walk_item-clause-item g t c =
+pub walk_by_bytes-returns-in_err-walk_item-clause-item : goal.walk_by_bytes-returns-in_err-walk_item-clause-item
+walk_by_bytes-returns-in_err-walk_item-clause-item g t c =
     as_refusal _ _ _ _ c.from_residual-in_err-walk_item.ensures.1 (step_walk_refused g.S.LinkSink.sink _ _ _ 0 _ c.in_ok-spend_step.ensures c.in_err-walk_item.ensures.item)
 
-pub walk_any-returns-clause-item : goal.walk_any-returns-clause-item
-walk_any-returns-clause-item g t c = let k = c.in_ok-walk_item.ensures.item in (k.0, stepped_taken 0 c.in_ok-spend_step.ensures k.1 c.step_out.ensures, k.2)
+pub walk_by_bytes-returns-clause-item : goal.walk_by_bytes-returns-clause-item
+walk_by_bytes-returns-clause-item g t c = let k = c.in_ok-walk_item.ensures.item in (k.0, stepped_taken 0 c.in_ok-spend_step.ensures k.1 c.step_out.ensures, k.2)
 
 pub walk_item-returns-in_err-first-clause-item : goal.walk_item-returns-in_err-first-clause-item
 walk_item-returns-in_err-first-clause-item g t c =
@@ -136,14 +137,14 @@ walk_entries-loop-index-preserved g t c =
 pub walk_entries-returns-clause-entries : goal.walk_entries-returns-clause-entries
 walk_entries-returns-clause-entries g t c = let s = c.loop-index.invariant.read in let k = maps.all_entries_read s.0 (omega arith) s.1 in (s.0, k.0, k.1, s.2)
 
-pub walk_any-returns-in_err-spend_step-clause-looked : goal.walk_any-returns-in_err-spend_step-clause-looked
-walk_any-returns-in_err-spend_step-clause-looked g t c = as_refusal _ _ _ _ c.from_residual.ensures.1 (same_looked (ap (λ (r : Reading). r.looked) c.in_err-spend_step.ensures.same))
+pub walk_by_bytes-returns-in_err-spend_step-clause-looked : goal.walk_by_bytes-returns-in_err-spend_step-clause-looked
+walk_by_bytes-returns-in_err-spend_step-clause-looked g t c = as_refusal _ _ _ _ c.from_residual.ensures.1 (same_looked (ap (λ (r : Reading). r.looked) c.in_err-spend_step.ensures.same))
 
-pub walk_any-returns-in_err-walk_item-clause-looked : goal.walk_any-returns-in_err-walk_item-clause-looked
-walk_any-returns-in_err-walk_item-clause-looked g t c = as_refusal _ _ _ _ c.from_residual-in_err-walk_item.ensures.1 (stepped_left _ c.in_ok-spend_step.ensures.is c.in_err-walk_item.ensures.looked)
+pub walk_by_bytes-returns-in_err-walk_item-clause-looked : goal.walk_by_bytes-returns-in_err-walk_item-clause-looked
+walk_by_bytes-returns-in_err-walk_item-clause-looked g t c = as_refusal _ _ _ _ c.from_residual-in_err-walk_item.ensures.1 (stepped_left _ c.in_ok-spend_step.ensures.is c.in_err-walk_item.ensures.looked)
 
-pub walk_any-returns-clause-looked : goal.walk_any-returns-clause-looked
-walk_any-returns-clause-looked g t c = looks_stepped _ c.in_ok-spend_step.ensures.is c.in_ok-walk_item.ensures.looked c.step_out.ensures
+pub walk_by_bytes-returns-clause-looked : goal.walk_by_bytes-returns-clause-looked
+walk_by_bytes-returns-clause-looked g t c = looks_stepped _ c.in_ok-spend_step.ensures.is c.in_ok-walk_item.ensures.looked c.step_out.ensures
 
 pub walk_item-returns-in_err-first-clause-looked : goal.walk_item-returns-in_err-first-clause-looked
 walk_item-returns-in_err-first-clause-looked g t c = as_refusal _ _ _ _ c.from_residual.ensures.1 (once_left_more 3 (omega arith) c.in_err-first.ensures.looked)
@@ -153,3 +154,19 @@ walk_item-returns-then-is_indefinite-clause-looked g t c = once_left_more 3 (ome
 
 pub walk_item-returns-clause-looked : goal.walk_item-returns-clause-looked
 walk_item-returns-clause-looked g t c = looks_behind_peek 3 _ _ c.in_ok-first.ensures.looked c.in_ok-first.ensures.shown c.walk_of_major.ensures.looked
+
+pub walk_any-returns-then-take_leaf-clause-item : goal.walk_any-returns-then-take_leaf-clause-item
+walk_any-returns-then-take_leaf-clause-item g t c =
+    let k = rw c.if-take_leaf.true at c.take_leaf.ensures.taken in
+    (k.0, k.1, found_as g.S.LinkSink.sink _ _ _ _ (sym k.2) (found_none g.S.LinkSink.sink _))
+
+pub walk_any-returns-then-take_leaf-clause-looked : goal.walk_any-returns-then-take_leaf-clause-looked
+walk_any-returns-then-take_leaf-clause-looked g t c = c.take_leaf.ensures.looked c.if-take_leaf.true
+
+pub walk_any-returns-clause-item : goal.walk_any-returns-clause-item
+walk_any-returns-clause-item g t c =
+    subst (λ old. WalksItem g.S.LinkSink.sink old c.args.links.now c.walk_by_bytes.result (g.I.Read.reading c.walk_by_bytes.new.input) c.walk_by_bytes.new.links) (rw c.if-take_leaf.false at c.take_leaf.ensures.taken) c.walk_by_bytes.ensures.item
+
+pub walk_any-returns-clause-looked : goal.walk_any-returns-clause-looked
+walk_any-returns-clause-looked g t c =
+    subst (λ old. Looks 3 old c.walk_by_bytes.result (g.I.Read.reading c.walk_by_bytes.new.input)) (rw c.if-take_leaf.false at c.take_leaf.ensures.taken) c.walk_by_bytes.ensures.looked

@@ -9,7 +9,7 @@ ghost use Rattle.dagcbor_items.specs.Untyped.{ReadsEnteredItem, ReadsText, Reads
 ghost use Rattle.dagcbor_items.specs.Untyped.{IsSimple, StartsWithMajor, TakesEnteredItem};
 ghost use Rattle.dagcbor_items.specs.AnsweredVariants.{OfItem};
 
-use crate::link::read_link;
+use crate::link::{read_link, take_link};
 use crate::numbers::number_of;
 use crate::strings::{no_text, pull_peeked_owned_bytes, pull_peeked_owned_text};
 use crate::utf8::as_text;
@@ -106,6 +106,19 @@ fn read_simple<R: Read>(reader: &mut R, first: u8) -> ReadResult<Ipld, R>
     }
 }
 
+/// Reads a link, whose first byte was seen: in one piece where a slice has all of it.
+fn read_link_at_once<R: Read>(input: &mut Input<'_, R>) -> ReadResult<Ipld, R>
+    requires { StartsWithMajor (input_reading R.reading input.old) 6 }
+    ensures leaf { OverInput R.reading ReadsLeaf input.old result input.new }
+    ensures looked { OverInput R.reading (LooksBehind 3 1) input.old result input.new }
+    ensures variant { IfErr result OfItem }
+{
+    if let Some(cid) = take_link(input) {
+        return Ok(Ipld::Link(cid));
+    }
+    read_link(input)
+}
+
 /// Reads an integer, a byte string, a link or a simple value, whose first byte was seen.
 pub(crate) fn read_leaf<R: Read>(
     alloc: Global,
@@ -122,7 +135,7 @@ pub(crate) fn read_leaf<R: Read>(
         0 => read_integer("u64", input, first),
         1 => read_integer("any", input, first),
         2 => read_bytes(alloc, input),
-        6 => read_link(input),
+        6 => read_link_at_once(input),
         _ => read_simple(input, first),
     }
 }

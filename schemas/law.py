@@ -192,8 +192,6 @@ class Schema:
             value = int(value)
         if isinstance(kind, Leaf) and kind.kind == "Bool" and isinstance(value, bool):
             return Literal(value, place)
-        if isinstance(kind, Int) and kind.width[0] == "i":
-            raise SchemaError(place, f"a number that is meant where it is left out has no sign here, as `# as u32` says: `{field.name}`")
         if isinstance(kind, Int) and isinstance(value, int) and not isinstance(value, bool):
             least, most = bounds(kind.width)
             if least <= value <= most:

@@ -17,8 +17,10 @@ LEAVES = {
 # Where each word of the specs stands.
 LIBRARY = "Rattle.serde_ipld_dagcbor.specs."
 WORDS = {
-    "Rattle.std.specs.Prelude": "ℕ ℤ ◌^◌ Bool List [] ◌∷◌ Option Some None option_map if◌then◌else◌ codes pos string_bytes nat_eq not true false refl",
+    "Rattle.std.specs.Prelude": "ℕ ℤ ◌^◌ Bool List [] ◌∷◌ Option Some None option_map if◌then◌else◌ codes pos neg_ℤ string_bytes nat_eq true false refl",
     "Rattle.std.specs.Str": "bytes_eq",
+    "Rattle.std.specs.Ordering": "int_eq",
+    "Rattle.std.specs.Bool": "beq",
     LIBRARY + "Cid": "cid_bytes",
     LIBRARY + "Tree": "Tree null text bytes boolean integer link list_tree entries_tree",
     LIBRARY + "Trees": "field optional variant_tree",
@@ -37,7 +39,7 @@ WORDS = {
     "Rattle.dagcbor_schema.specs.Members": "there absent",
 }
 SCHEMA_WORDS = """ByKind Closed Enveloped Made NoKind Numbered Omissible OptionalPart Part of_name read_enveloped read_made
-    read_numbered read_parts unless_false unless_meant write_parts""".split()
+    read_numbered read_parts unless_meant write_parts""".split()
 KINDS_PATH = "Rattle.dagcbor_schema.specs.declared.by_kind.ByKind.TheVariants as kinds"
 LETTERS = {"ℕ": "ℕ", "ℤ": "ℤ", "^": "◌^◌", "[]": "[]", "∷": "◌∷◌", "if": "if◌then◌else◌"}
 PUNCTUATION = str.maketrans({char: " " for char in "();,={}⟦⟧<>|[].λ:"})
@@ -242,8 +244,7 @@ class Module:
             if pairs:
                 made.append(f'    named (codes "{field.key}") {path} (λ {local}.')
             elif field.implicit is not None:
-                test, value, _ = self.implied(kind, field.implicit.value)
-                made.append(f"    implied {test} {value} {path} (λ {local}.")
+                made.append(f"    implied {equal_to(kind, field.implicit.value)} {path} (λ {local}.")
             values.append(local if made and made[-1].endswith(f"(λ {local}.") else path)
         pairs = "".join(f"({value}, " for value in values) + "tt" + ")" * len(values)
         return [
@@ -261,13 +262,6 @@ class Module:
             f"abbrev pub {name}_shape : Shape Tree {view}",
             f"{name}_shape = finishing {name}_of_row {name}_row_shape",
         ]
-
-    @staticmethod
-    def implied(kind, value):
-        """Of a value that is meant: the test of it and itself in specs, and itself in code."""
-        if isinstance(kind, Int):
-            return f"(λ n. nat_eq n {value})", str(value), str(value)
-        return ("(λ b. b)", "true", "true") if value else ("not", "false", "false")
 
     def writing_takes_memory(self, kind):
         """Whether writing it may take memory, where the writer takes none."""
@@ -566,7 +560,7 @@ class Module:
         for field, kind in sorted_kinds:
             value = f"v.{field_name(field.name)}"
             if field.implicit is not None:
-                value = f"(unless_implied {self.implied(kind, field.implicit.value)[0]} {value})"
+                value = f"(unless_implied {equal_to(kind, field.implicit.value)} {value})"
             if may_lack(field):
                 tree.append(f'optional (codes "{field.key}") {self.tree_of(kind)} {value} (')
             else:
@@ -599,11 +593,8 @@ class Module:
     @staticmethod
     def unless_implied(field):
         """What is written of a field that is left out where it is what that means."""
-        name, value = field_name(field.name), field.implicit.value
-        if value is False:
-            return lines(Group(f"let {name} = unless_false(", [f"self.{name}"], ")"), 8, ";")
-        test = f"self.{name}" if value is True else f"self.{name} == {value}"
-        return lines(Group(f"let {name} = unless_meant(", [f"self.{name}", test], ")"), 8, ";")
+        name = field_name(field.name)
+        return lines(Group(f"let {name} = unless_meant(", [f"&self.{name}", meant(field.implicit.value)], ")"), 8, ";")
 
     def implied_impls(self, struct, kinds, end, read):
         """A struct that is made of a row in which fields are left out that mean a value then."""
@@ -612,9 +603,8 @@ class Module:
         of[0] = of[0].replace("= row;", "= parts;")
         for field, kind in kinds:
             if field.implicit is not None:
-                word, value = field_name(field.name), self.implied(kind, field.implicit.value)[2]
-                of += [f"        let {word} = match {word} {{", f"            None => {value},", f"            Some({value}) => return None,"]
-                of += ["            Some(x) => x,", "        };"]
+                word, value = field_name(field.name), meant(field.implicit.value)
+                of += matched(word, [f"None => {value},", f"Some({value}) => return None,", "Some(x) => x,"])
         of += lines(Group(f"Some({struct.name} {{", [field_name(field.name) for field in struct.fields], "})", INSIDE_STRUCT), 8)
         parts, seen = "Closed" if end == "Closed" else "()", []
         for field, kind in reversed(kinds):
@@ -723,7 +713,7 @@ class Module:
             read += [
                 f'            "{member.data}" => {{',
                 "                variant.unit_variant(de)?;",
-                *lines(Group("Ok(", [f"{name}::{member.name}"], ")"), 16),
+                *lines(Group("Ok(", [f"{name}::{member.name}"], ")", WIDTH), 16),
                 "            }",
             ]
         write.append("        }")
@@ -875,7 +865,7 @@ class Module:
             read += [
                 f'            "{case.data}" => {{',
                 "                let x = variant.newtype_variant(alloc, de)?;",
-                f"                Ok({name}::{case.name}(x))",
+                *lines(Group("Ok(", [Group(f"{name}::{case.name}(", ["x"], ")")], ")", WIDTH), 16),
                 "            }",
             ]
         write.append("        }")
@@ -926,7 +916,7 @@ class Module:
             read += [
                 f'            "{case.data}" => {{',
                 "                let x = entries.next_value(alloc, de)?;",
-                f"                Ok({name}::{case.name}(x))",
+                *lines(Group("Ok(", [Group(f"{name}::{case.name}(", ["x"], ")")], ")", WIDTH), 16),
                 "            }",
             ]
         write.append("        }")
@@ -949,8 +939,7 @@ class Module:
             if isinstance(one, Struct) and has_implied(one):
                 place = f"{self.name}.{one.name}Serialize.serialize"
                 fields = [field for field in one.fields if field.implicit is not None]
-                words = ["unless_false" if field.implicit.value is False else "unless_meant" for field in fields]
-                calls = [f"c.{word}-{field_name(field.name)}.ensures" for word, field in zip(words, fields)]
+                calls = [f"c.unless_meant-{field_name(field.name)}.ensures" for field in fields]
                 steps = "".join(f"rw (sym {call}) (" for call in calls)
                 made[place.replace(".", "/")] = "\n".join([
                     f"-- What writes {one.name}, of {source}, by ./dagcbor-types.",
@@ -1301,6 +1290,20 @@ def has_implied(struct):
     return any(field.implicit is not None for field in struct.fields)
 
 
+def meant(value):
+    """In code, a value that is meant where its field is left out."""
+    return str(value).lower() if isinstance(value, bool) else str(value)
+
+
+def equal_to(kind, value):
+    """In specs, the equality of a type, and a value that is meant."""
+    if not isinstance(kind, Int):
+        return f"beq {meant(value)}"
+    if kind.width[0] == "u":
+        return f"nat_eq {value}"
+    return f"int_eq (pos {value})" if value >= 0 else f"int_eq (neg_ℤ (pos {-value}))"
+
+
 def applied(head, words):
     """A type of these parameters, in as many lines as it takes."""
     made, line = [], head
@@ -1342,6 +1345,14 @@ def ghost_rows(head, rows, end):
     last = rows[-1].removesuffix(" (")
     opened = 1 + sum(row.endswith("(") for row in rows[:-1])
     return [head, *(f"        {row}" for row in rows[:-1]), f"        {last} {end}{')' * opened}"]
+
+
+def matched(word, arms):
+    """A value that a `match` of itself makes."""
+    head, margin = [f"        let {word} = match {word} {{"], " " * 8
+    if len(head[0]) > WIDTH:
+        head, margin = [f"        let {word} =", f"            match {word} {{"], " " * 12
+    return [*head, *(f"{margin}    {arm}" for arm in arms), f"{margin}}};"]
 
 
 def pairs_of(rows):

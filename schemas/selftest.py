@@ -67,7 +67,7 @@ REFUSED = [
     ("type A struct {\n  x Int (implicit 256) # as u8\n}", "2:19: 256 is no u8: `x`"),
     ("type A struct {\n  x String (implicit true)\n}", "2:22: a field that means a value where it is left out is a Bool or an Int here: `x`"),
     ("type A struct {\n  x nullable Int (implicit 0)\n}", "2:28: a field that means a value where it is left out is a Bool or an Int here: `x`"),
-    ("type A struct {\n  x Int (implicit 0)\n}", "2:19: a number that is meant where it is left out has no sign here"),
+    ("type A struct {\n  x Int (implicit -129) # as i8\n}", "2:19: -129 is no i8: `x`"),
     ("type A struct {\n  x optional Int (implicit 0)\n}", "2:28: `x` is optional: what is left out means no value"),
     ("type A struct {\n  x Int (implicit 0)\n} representation tuple", "2:19: a field of a tuple means nothing where it is left out: `x`"),
     ("type A union {\n  | B \"b\"\n} representation inline {\n  discriminantKey \"t\"\n}\ntype B struct {\n  x Int (implicit 0)\n}", "2:5: `B` has a field that means a value where it is left out, and is a member of an inline union: `x`"),
@@ -114,6 +114,7 @@ MADE = [
     ("type B int # as u16\ntype A struct {\n  x B\n}", "pub type B = u16;"),
     ("type A struct {\n  # How many.\n  x Int\n}", "    /// How many."),
     ("type A struct {\n  x Int (implicit \"5\") # as u8\n}", "            Some(5) => return None,"),
+    ("type A struct {\n  x Int (implicit -5)\n}", "        let x = unless_meant(&self.x, -5);"),
     ("type A union {\n  | B list\n  | Int int\n} representation kinded\ntype B [Int]", "    type Parts = ByKind<NoKind, i128, NoKind, NoKind, Vec<i64>, NoKind, NoKind>;"),
     ("type A union {\n  | Int \"i\"\n} representation envelope {\n  discriminantKey \"t\"\n  contentKey \"v\"\n}", '        read_enveloped(alloc, "t", "v", de)'),
 ]

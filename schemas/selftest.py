@@ -6,6 +6,7 @@
                                                   makes of each, and lay it out, in a copy: a line for five, which are modules of
                                                   one crate. It takes an hour or two
     python3 -m schemas.selftest draw 7            prints the schema of a seed
+    python3 -m schemas.selftest layout 200 [FIRST]  has `rt fmt` lay out what is made of so many, and tells what it changes: a second each
     python3 -m schemas.selftest wrong             writes specs of a schema that was edited beside the code of the schema as it was,
                                                   edit by edit, and has `rt` refuse each: a line for each, some ten minutes"""
 
@@ -335,12 +336,35 @@ def judged(batch, folder, table):
     functions = re.search(rf"crate {crate.name}:.*\nlogic=proved functions=(\d+)", log)
     if status or not functions:
         return f"not proved, {took}", log
-    status, log = ran("rt", "fmt", folder=crate)
-    others = [path.name for path, text in made.items() if path.read_text(encoding="utf-8") != text]
+    others = laid_out(crate, made)
     shutil.rmtree(crate)
-    if status or others:
-        return f"proved, and laid out by rt fmt as another: {' '.join(others)}", log
+    if others:
+        return f"proved, and laid out by rt fmt as another: {others}", log
     return f"proved, {functions[1]} functions, {took}", None
+
+
+def laid_out(crate, made):
+    """What `rt fmt` makes another of these files, or what it says where it fails."""
+    status, log = ran("rt", "fmt", folder=crate)
+    return (log or "rt fmt failed") if status else " ".join(path.name for path, text in made.items() if path.read_text(encoding="utf-8") != text)
+
+
+def layout(count, first):
+    failed = 0
+    with tempfile.TemporaryDirectory() as name:
+        folder = pathlib.Path(name)
+        (folder / "crates.txt").write_text("", encoding="utf-8")
+        for seed in range(first, first + count):
+            source = folder / f"seed_{seed}.ipldsch"
+            source.write_text(drawn(seed), encoding="utf-8")
+            crate, made = files_of([source], folder / "crates" / f"drawn_{seed}")
+            write((crate, made), check=False)
+            others = laid_out(crate, made)
+            if others:
+                failed += 1
+                print(f"seed {seed}: laid out by rt fmt as another: {others}", flush=True)
+    print(f"{count - failed} passed, {failed} failed")
+    sys.exit(1 if failed else 0)
 
 
 # A schema, and edits of it: what is edited, a line of it, and what stands there in its place.
@@ -362,6 +386,10 @@ type Track struct {
   side Side
   seconds Length
 }
+
+type Take struct {
+  gain Int (implicit -3) # as i8
+}
 """
 EDITS = [
     ("a field renamed", "  title String", '  title String (rename "name")'),
@@ -369,6 +397,7 @@ EDITS = [
     ("a bound", "type Length int # as u16", "type Length int # as u32"),
     ("an enum's text", '  | Tape ("tape")', '  | Tape ("Tape")'),
     ("a member's key", '  | Length "minutes"', '  | Length "seconds"'),
+    ("what a field means", "(implicit -3)", "(implicit -4)"),
     ("other keys skipped", "type Track struct {", "type Track struct { # open"),
 ]
 
@@ -418,8 +447,8 @@ def main():
     words = sys.argv[1:]
     if words[:1] == ["draw"]:
         print(drawn(int(words[1])), end="")
-    elif words[:1] == ["prove"]:
-        prove(int(words[1]), int(words[2]) if len(words) > 2 else 0)
+    elif words[:1] in (["prove"], ["layout"]):
+        {"prove": prove, "layout": layout}[words[0]](int(words[1]), int(words[2]) if len(words) > 2 else 0)
     elif words[:1] == ["wrong"]:
         wrong()
     else:

@@ -4,7 +4,7 @@ import re
 
 from schemas.law import RESERVED, field_name, held_by, parts, path_name, snake
 from schemas.layout import INSIDE_STRUCT, SHORT_IF, WIDTH, Group, arm, filled, lines, split, typed
-from schemas.parsing import Alias, Enum, Int, Leaf, Link, ListOf, MapOf, Named, Nullable, Struct, Union, Unit
+from schemas.parsing import Alias, Enum, Int, Leaf, Link, ListOf, MapOf, Member, Named, Nullable, Struct, Union, Unit
 
 LEAVES = {
     # its type, what it is read as, its shape, its tree and its meaning
@@ -17,7 +17,7 @@ LEAVES = {
 # Where each word of the specs stands.
 LIBRARY = "Rattle.serde_ipld_dagcbor.specs."
 WORDS = {
-    "Rattle.std.specs.Prelude": "ℕ ℤ ◌^◌ Bool List [] ◌∷◌ Option Some None option_map if◌then◌else◌ codes pos neg_ℤ string_bytes nat_eq true false refl",
+    "Rattle.std.specs.Prelude": "◌≡◌ ℕ ℤ ◌^◌ Bool List [] ◌∷◌ Option Some None option_map if◌then◌else◌ codes pos neg_ℤ string_bytes nat_eq true false refl",
     "Rattle.std.specs.Str": "bytes_eq",
     "Rattle.std.specs.Ordering": "int_eq",
     "Rattle.std.specs.Bool": "beq",
@@ -58,6 +58,9 @@ class Module:
         self.path = path_name(name)
         self.definitions = schema.in_order()
         self.types = [one for one in self.definitions if not isinstance(one, Alias)]
+        structs = [one for one in self.types if isinstance(one, Struct)]
+        implied = [self.schema.resolve(field.type) for one in structs for field in one.fields if field.implicit is not None]
+        self.implied = {kind.name for kind in implied if isinstance(kind, Named)}  # the enums of which a member is meant somewhere
 
     # ---- a type of a value: in code, in ghost lines, in specs
 
@@ -151,6 +154,8 @@ class Module:
         words |= {name for sign, name in LETTERS.items() if sign in words}
         if "[]" in text:
             words.add("[]")
+        if ghost and "≡" in words:
+            words.add("◌≡◌")
         made = []
         for home, there in WORDS.items():
             used = [word for word in there.split() if word in words]
@@ -162,7 +167,8 @@ class Module:
         """What the specs say of a type."""
         name = snake(one.name)
         if isinstance(one, Enum):
-            return [f"{name}_variants", f"{name}_shape"] if one.representation == "string" else [f"{name}_of_number", f"{name}_shape"]
+            words = [f"{name}_eq"] if one.name in self.implied else []
+            return words + ([f"{name}_variants", f"{name}_shape"] if one.representation == "string" else [f"{name}_of_number", f"{name}_shape"])
         of_row = [f"{name}_row", f"{name}_row_shape", f"{name}_of_row", f"{name}_shape"]
         if isinstance(one, Struct) and is_made(one):
             return [view_name(one), *of_row]
@@ -284,7 +290,7 @@ class Module:
 
     def enum_spec(self, enum):
         name = snake(enum.name)
-        rows = []
+        rows, same = [], self.enum_equality(enum) if enum.name in self.implied else []
         for place, member in enumerate(enum.members):
             test = f'bytes_eq name (codes "{member.data}")' if enum.representation == "string" else f"nat_eq n {member.data}"
             rows.append(f"    {'else ' if place else ''}if {test} then Some {alias(enum)}.{member.name}")
@@ -298,6 +304,7 @@ class Module:
                 "",
                 f"abbrev pub {name}_shape : Shape Tree {enum.name}",
                 f"{name}_shape = told_by_number {name}_of_number",
+                *same,
             ]
         return [
             f"-- {enum.name}: a name",
@@ -307,6 +314,19 @@ class Module:
             "    else None",
             "",
             *self.variants_spec(enum, enum.name, "λ name t. None", "λ name t. 0", False),
+            *same,
+        ]
+
+    @staticmethod
+    def enum_equality(enum):
+        name = snake(enum.name)
+        return [
+            "",
+            f"abbrev pub {name}_place : {enum.name} → ℕ",
+            *(f"{name}_place {alias(enum)}.{member.name} = {place}" for place, member in enumerate(enum.members)),
+            "",
+            f"abbrev pub {name}_eq : {enum.name} → {enum.name} → Bool",
+            f"{name}_eq x y = nat_eq ({name}_place x) ({name}_place y)",
         ]
 
     def variants_spec(self, one, view, part, need, memory):
@@ -484,11 +504,11 @@ class Module:
 
     @staticmethod
     def ghost_lines(body):
-        """The lines of ghost members, which may be several each."""
+        """The lines of ghost members, which may be several each, and of contracts."""
         inside = False
         for line in body:
             inside = inside or line.startswith("    ghost ")
-            if inside:
+            if inside or line.startswith("    ensures "):
                 yield line.replace("ghost View =", "").replace("ghost", "")
             inside = inside and not line.endswith("};")
 
@@ -540,6 +560,7 @@ class Module:
             made = forms[one.representation](one)
         elif isinstance(one, Enum):
             made = self.enum_impls(one) if one.representation == "string" else self.number_impls(one)
+            made += self.unless_enum(one)
         elif isinstance(one, Unit):
             made = self.unit_impls(one)
         else:
@@ -566,9 +587,9 @@ class Module:
             else:
                 tree.append(f'field (codes "{field.key}") ({self.tree(kind, value)}) ∷')
         write = []
-        for field, _ in kinds:
+        for field, kind in kinds:
             if field.implicit is not None:
-                write += self.unless_implied(field)
+                write += self.unless_implied(field, kind)
         write.append("        let row = ();")
         for field, _ in reversed(sorted_kinds):
             form = "Optional" if may_lack(field) else "Field"
@@ -591,10 +612,10 @@ class Module:
         return made + self.deserialize_impl(struct, read)
 
     @staticmethod
-    def unless_implied(field):
+    def unless_implied(field, kind):
         """What is written of a field that is left out where it is what that means."""
         name = field_name(field.name)
-        return lines(Group(f"let {name} = unless_meant(", [f"&self.{name}", meant(field.implicit.value)], ")"), 8, ";")
+        return lines(Group(f"let {name} = {unless(kind)}(", [f"&self.{name}", meant(kind, field.implicit.value)], ")"), 8, ";")
 
     def implied_impls(self, struct, kinds, end, read):
         """A struct that is made of a row in which fields are left out that mean a value then."""
@@ -603,7 +624,7 @@ class Module:
         of[0] = of[0].replace("= row;", "= parts;")
         for field, kind in kinds:
             if field.implicit is not None:
-                word, value = field_name(field.name), meant(field.implicit.value)
+                word, value = field_name(field.name), meant(kind, field.implicit.value)
                 of += matched(word, [f"None => {value},", f"Some({value}) => return None,", "Some(x) => x,"])
         of += lines(Group(f"Some({struct.name} {{", [field_name(field.name) for field in struct.fields], "})", INSIDE_STRUCT), 8)
         parts, seen = "Closed" if end == "Closed" else "()", []
@@ -701,6 +722,15 @@ class Module:
         return made or [f"        let {end} = row;"]
 
     # -- enums
+
+    def unless_enum(self, enum):
+        """What is written of a field of the enum that is left out where it is what that means."""
+        if enum.name not in self.implied:
+            return []
+        name = snake(enum.name)
+        head = Group(f"fn unless_{name}(", [f"value: &{enum.name}", f"meant: {enum.name}"], f") -> Option<{enum.name}>", WIDTH)
+        ensures = f"    ensures {{ result ≡ unless_implied {name}_eq meant value.now }}"
+        return ["", *lines(head, 0), ensures, "{", "    unless_meant(value, meant)", "}"]
 
     def enum_impls(self, enum):
         name = enum.name
@@ -939,7 +969,7 @@ class Module:
             if isinstance(one, Struct) and has_implied(one):
                 place = f"{self.name}.{one.name}Serialize.serialize"
                 fields = [field for field in one.fields if field.implicit is not None]
-                calls = [f"c.unless_meant-{field_name(field.name)}.ensures" for field in fields]
+                calls = [f"c.{unless(self.schema.resolve(field.type))}-{field_name(field.name)}.ensures" for field in fields]
                 steps = "".join(f"rw (sym {call}) (" for call in calls)
                 made[place.replace(".", "/")] = "\n".join([
                     f"-- What writes {one.name}, of {source}, by ./dagcbor-types.",
@@ -1290,15 +1320,24 @@ def has_implied(struct):
     return any(field.implicit is not None for field in struct.fields)
 
 
-def meant(value):
+def meant(kind, value):
     """In code, a value that is meant where its field is left out."""
+    if isinstance(value, Member):
+        return f"{kind.name}::{value.name}"
     return str(value).lower() if isinstance(value, bool) else str(value)
+
+
+def unless(kind):
+    """The function that leaves out what is meant."""
+    return f"unless_{snake(kind.name)}" if isinstance(kind, Named) else "unless_meant"
 
 
 def equal_to(kind, value):
     """In specs, the equality of a type, and a value that is meant."""
+    if isinstance(value, Member):
+        return f"{snake(kind.name)}_eq in_{snake(kind.name)}.{value.name}"
     if not isinstance(kind, Int):
-        return f"beq {meant(value)}"
+        return f"beq {meant(kind, value)}"
     if kind.width[0] == "u":
         return f"nat_eq {value}"
     return f"int_eq (pos {value})" if value >= 0 else f"int_eq (neg_ℤ (pos {-value}))"

@@ -728,7 +728,7 @@ class Module:
         if enum.name not in self.implied:
             return []
         name = snake(enum.name)
-        head = Group(f"fn unless_{name}(", [f"value: &{enum.name}", f"meant: {enum.name}"], f") -> Option<{enum.name}>", WIDTH)
+        head = Group(f"fn {name}_unless(", [f"value: &{enum.name}", f"meant: {enum.name}"], f") -> Option<{enum.name}>", WIDTH)
         ensures = f"    ensures {{ result ≡ unless_implied {name}_eq meant value.now }}"
         return ["", *lines(head, 0), ensures, "{", "    unless_meant(value, meant)", "}"]
 
@@ -980,6 +980,8 @@ class Module:
                     f"returns-clause-written g c = {steps}c.write_struct.ensures.written{')' * len(calls)}",
                     "",
                 ])
+            if isinstance(one, Struct) and one.representation == "listpairs":
+                made |= self.pairs_answers(one, source)
             if isinstance(one, Union) and one.representation == "envelope":
                 made |= self.envelope_answers(one, source)
             if isinstance(one, Union) and one.representation == "inline":
@@ -1020,6 +1022,32 @@ class Module:
         head = [f"-- The arms that write long texts of {enum.name}, of {source}, by ./dagcbor-types."]
         head.append(f"use Rattle.{self.crate}.proofs.{place}.Goals as goal")
         return {place.replace(".", "/"): "\n".join(head + rows) + "\n"}
+
+    def pairs_answers(self, struct, source):
+        """What a list of pairs with a link makes, which the search takes apart: each pair has its field's name, and holds its value."""
+        kinds = [self.code(self.schema.resolve(field.type)) for field in struct.fields]
+        if len(kinds) < 2 or not any("Cid" in kind for kind in kinds):
+            return {}
+        signed = any(re.search(r"\bi[0-9]", kind) for kind in kinds)  # which the goal takes through the machine's words
+        end, word = ("(search rules)", "rules") if signed else ("refl", "refl")
+        place = f"{self.name}.{struct.name}Made.of_parts"
+        steps, opened = [], ""
+        for number, field in enumerate(struct.fields, 1):
+            call = f"c.of_name{f'-{number}' if number > 1 else ''}.ensures"
+            steps.append(f"    let taken{number} = taken_under _ _ _ (sym {call} ∙ c.in_ok-{field_name(field.name)}.was) in")
+            opened += f"rw (taken{number}.0, taken{number}.1) ("
+        return {place.replace(".", "/"): "\n".join([
+            f"-- What the pairs of {struct.name} make, of {source}, by ./dagcbor-types.",
+            f"use Rattle.std.proofs.Common.{{◌∙◌, {word}, sym}}",
+            "use Rattle.dagcbor_schema.proofs.PairNames.{taken_under}",
+            f"use Rattle.{self.crate}.proofs.{place}.Goals as goal",
+            "",
+            "pub returns : goal.returns",
+            "returns c =",
+            *steps,
+            f"    {opened}{end}{')' * len(steps)}",
+            "",
+        ])}
 
     @staticmethod
     def arm_words(union):
@@ -1329,7 +1357,7 @@ def meant(kind, value):
 
 def unless(kind):
     """The function that leaves out what is meant."""
-    return f"unless_{snake(kind.name)}" if isinstance(kind, Named) else "unless_meant"
+    return f"{snake(kind.name)}_unless" if isinstance(kind, Named) else "unless_meant"
 
 
 def equal_to(kind, value):

@@ -84,8 +84,9 @@ def lib_of(modules):
     names = ", ".join(f"{module.name}.ipldsch" for module in modules)
     rows = [f"//! The types of {names}, {MADE}.", "#![tactic(auto)]", ""]
     rows += [f"mod {module.name};" for module in modules] + [""]
-    for module in modules:
-        rows += filled(f"pub use {module.name}::", in_order(one.name for one in module.definitions), ";")
+    by_name = {module.name: module for module in modules}
+    for name in in_order(by_name):
+        rows += filled(f"pub use {name}::", in_order(one.name for one in by_name[name].definitions), ";")
     return "\n".join(rows) + "\n"
 
 

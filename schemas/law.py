@@ -192,14 +192,18 @@ class Schema:
             value = int(value)
         if isinstance(kind, Leaf) and kind.kind == "Bool" and isinstance(value, bool):
             return Literal(value, place)
-        if isinstance(kind, Int) and kind.width[0] == "i":
-            raise SchemaError(place, f"a number that is meant where it is left out has no sign here, as `# as u32` says: `{field.name}`")
         if isinstance(kind, Int) and isinstance(value, int) and not isinstance(value, bool):
             least, most = bounds(kind.width)
             if least <= value <= most:
                 return Literal(value, place)
             raise SchemaError(place, f"{value} is no {kind.width}: `{field.name}`")
-        raise SchemaError(place, f"a field that means a value where it is left out is a Bool or an Int here: `{field.name}`")
+        enum = self.by_name[kind.name] if isinstance(kind, Named) else None
+        if isinstance(enum, Enum):
+            for member in enum.members:
+                if value == member.data or enum.representation == "int" and value == str(member.data):
+                    return Literal(member, place)
+            raise SchemaError(place, f"{value} is no member of `{enum.name}`: `{field.name}`")
+        raise SchemaError(place, f"a field that means a value where it is left out is a Bool, an Int or of an enum here: `{field.name}`")
 
     def check_size(self, struct):
         """The prover takes so many steps for one statement: a struct whose fields' types are large passes them."""

@@ -70,9 +70,11 @@ def filled(head, words, close):
     one = f"{head}{{{', '.join(words)}}}{close}" if len(words) > 1 else f"{head}{words[0]}{close}"
     if len(one) <= WIDTH - 2 or len(words) == 1:
         return [one]
+    if len(f"    {', '.join(words)},") <= WIDTH:
+        return [head + "{", f"    {', '.join(words)},", "}" + close]
     made, line = [head + "{"], "   "
     for word in words:
-        if len(line) + len(word) + 2 > WIDTH - (word is not words[-1]):
+        if len(line) + len(word) + 2 >= WIDTH:
             made.append(line)
             line = "   "
         line += f" {word},"
@@ -82,8 +84,7 @@ def filled(head, words, close):
 def typed(head, kind, indent, close):
     """A type behind what names it: where the line is too long, its parameters stand on lines of their own."""
     margin = " " * indent
-    fits = len(margin + head + kind + close) <= WIDTH and not (kind.startswith("(") and len(kind) - 2 > INSIDE)
-    if fits or "<" not in kind:
+    if len(margin + head + kind + close) <= WIDTH and longest_tuple(kind) <= INSIDE or "<" not in kind:
         return [margin + head + kind + close]
     if kind.startswith("("):
         name, inside, end = "(", kind[1:-1], ")"
@@ -94,6 +95,17 @@ def typed(head, kind, indent, close):
     for part in split_parameters(inside):
         made += typed("", part, indent + 4, ",")
     return made + [f"{margin}{end}{close}"]
+
+
+def longest_tuple(kind):
+    """How much stands between the parentheses of the longest tuple in a type."""
+    starts, longest = [], 0
+    for place, char in enumerate(kind):
+        if char == "(":
+            starts.append(place)
+        elif char == ")":
+            longest = max(longest, place - starts.pop() - 1)
+    return longest
 
 
 def split_parameters(inside):

@@ -118,7 +118,7 @@ class Field:
 class Literal:
     """A scalar in a schema."""
 
-    value: object  # bool, int, str
+    value: object  # bool, int, str; or the Member of an enum that it stands for
     place: Place
 
 

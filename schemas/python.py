@@ -4,7 +4,7 @@ import keyword
 
 from schemas.law import bounds, snake
 from schemas.language import WIDTH, Language, named_blocks
-from schemas.parsing import WIDTHS, Alias, Enum, Int, Leaf, Link, ListOf, MapOf, Named, Nullable, Struct, Union, Unit
+from schemas.parsing import WIDTHS, Alias, Enum, Int, Leaf, Link, ListOf, MapOf, Member, Named, Nullable, Struct, Union, Unit
 
 SCALARS = {"String": "str", "Bytes": "bytes", "Bool": "bool", "Any": "Any"}
 
@@ -309,7 +309,7 @@ class Python(Language):
             if field.optional:
                 kind += " | Absent = Absent.ABSENT" if self.has_null(field.type) else " | None = None"
             elif field.implicit is not None:
-                kind += f" = {field.implicit.value}"
+                kind += f" = {self.meant(field)}"
             rows += [*comments(field.text, 4), f"    {self.field_name(field)}: {kind}"]
         return [*rows, *([""] if struct.fields else []), *methods(struct)]
 
@@ -354,7 +354,7 @@ class Python(Language):
             how = "_field" if not field.optional else "_omissible" if self.has_null(field.type) else "_optional"
             given = ["entries", literal(key), "at", self.conversion(field.type, "read")]
             if field.implicit is not None:
-                how, given = "_implied", [*given, str(field.implicit.value)]
+                how, given = "_implied", [*given, self.meant(field)]
             rows += self.call(8, f"{self.field_name(field)}={how}(", given, "),")
         return rows
 
@@ -369,11 +369,20 @@ class Python(Language):
                 indent = 8
             write = self.conversion(field.type, "write")
             if field.implicit is not None:
-                given = ["entries", key, f"{write}({held}, (*at, {key}))", str(field.implicit.value)]
+                data = field.implicit.value
+                given = ["entries", key, f"{write}({held}, (*at, {key}))", literal(data.data if isinstance(data, Member) else data)]
                 rows += self.call(4, "_put_implied(", given, ")")
             else:
                 rows += self.call(indent, f"entries[{key}] = {write}(", [held, f"(*at, {key})"], ")")
         return [*rows, "    return entries"]
+
+    def meant(self, field):
+        """What a field means that is left out."""
+        value = field.implicit.value
+        if not isinstance(value, Member):
+            return str(value)
+        enum = self.schema.by_name[self.schema.resolve(field.type).name]
+        return f"{enum.name}.{member_name(enum, value)}"
 
     def if_there(self, field):
         return f"    if held.{self.field_name(field)} is not {'Absent.ABSENT' if self.has_null(field.type) else 'None'}:"

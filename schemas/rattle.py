@@ -4,7 +4,7 @@ import re
 
 from schemas.law import RESERVED, field_name, held_by, parts, path_name, snake
 from schemas.layout import INSIDE_STRUCT, SHORT_IF, WIDTH, Group, arm, filled, lines, split, typed
-from schemas.parsing import Alias, Enum, Int, Leaf, Link, ListOf, MapOf, Named, Nullable, Struct, Union, Unit
+from schemas.parsing import Alias, Enum, Int, Leaf, Link, ListOf, MapOf, Member, Named, Nullable, Struct, Union, Unit
 
 LEAVES = {
     # its type, what it is read as, its shape, its tree and its meaning
@@ -17,8 +17,10 @@ LEAVES = {
 # Where each word of the specs stands.
 LIBRARY = "Rattle.serde_ipld_dagcbor.specs."
 WORDS = {
-    "Rattle.std.specs.Prelude": "ℕ ℤ ◌^◌ Bool List [] ◌∷◌ Option Some None option_map if◌then◌else◌ codes pos string_bytes nat_eq not true false refl",
+    "Rattle.std.specs.Prelude": "◌≡◌ ℕ ℤ ◌^◌ Bool List [] ◌∷◌ Option Some None option_map if◌then◌else◌ codes pos neg_ℤ string_bytes nat_eq true false refl",
     "Rattle.std.specs.Str": "bytes_eq",
+    "Rattle.std.specs.Ordering": "int_eq",
+    "Rattle.std.specs.Bool": "beq",
     LIBRARY + "Cid": "cid_bytes",
     LIBRARY + "Tree": "Tree null text bytes boolean integer link list_tree entries_tree",
     LIBRARY + "Trees": "field optional variant_tree",
@@ -37,7 +39,7 @@ WORDS = {
     "Rattle.dagcbor_schema.specs.Members": "there absent",
 }
 SCHEMA_WORDS = """ByKind Closed Enveloped Made NoKind Numbered Omissible OptionalPart Part of_name read_enveloped read_made
-    read_numbered read_parts unless_false unless_meant write_parts""".split()
+    read_numbered read_parts unless_meant write_parts""".split()
 KINDS_PATH = "Rattle.dagcbor_schema.specs.declared.by_kind.ByKind.TheVariants as kinds"
 LETTERS = {"ℕ": "ℕ", "ℤ": "ℤ", "^": "◌^◌", "[]": "[]", "∷": "◌∷◌", "if": "if◌then◌else◌"}
 PUNCTUATION = str.maketrans({char: " " for char in "();,={}⟦⟧<>|[].λ:"})
@@ -56,6 +58,9 @@ class Module:
         self.path = path_name(name)
         self.definitions = schema.in_order()
         self.types = [one for one in self.definitions if not isinstance(one, Alias)]
+        structs = [one for one in self.types if isinstance(one, Struct)]
+        implied = [self.schema.resolve(field.type) for one in structs for field in one.fields if field.implicit is not None]
+        self.implied = {kind.name for kind in implied if isinstance(kind, Named)}  # the enums of which a member is meant somewhere
 
     # ---- a type of a value: in code, in ghost lines, in specs
 
@@ -149,6 +154,8 @@ class Module:
         words |= {name for sign, name in LETTERS.items() if sign in words}
         if "[]" in text:
             words.add("[]")
+        if ghost and "≡" in words:
+            words.add("◌≡◌")
         made = []
         for home, there in WORDS.items():
             used = [word for word in there.split() if word in words]
@@ -160,7 +167,8 @@ class Module:
         """What the specs say of a type."""
         name = snake(one.name)
         if isinstance(one, Enum):
-            return [f"{name}_variants", f"{name}_shape"] if one.representation == "string" else [f"{name}_of_number", f"{name}_shape"]
+            words = [f"{name}_eq"] if one.name in self.implied else []
+            return words + ([f"{name}_variants", f"{name}_shape"] if one.representation == "string" else [f"{name}_of_number", f"{name}_shape"])
         of_row = [f"{name}_row", f"{name}_row_shape", f"{name}_of_row", f"{name}_shape"]
         if isinstance(one, Struct) and is_made(one):
             return [view_name(one), *of_row]
@@ -242,8 +250,7 @@ class Module:
             if pairs:
                 made.append(f'    named (codes "{field.key}") {path} (λ {local}.')
             elif field.implicit is not None:
-                test, value, _ = self.implied(kind, field.implicit.value)
-                made.append(f"    implied {test} {value} {path} (λ {local}.")
+                made.append(f"    implied {equal_to(kind, field.implicit.value)} {path} (λ {local}.")
             values.append(local if made and made[-1].endswith(f"(λ {local}.") else path)
         pairs = "".join(f"({value}, " for value in values) + "tt" + ")" * len(values)
         return [
@@ -261,13 +268,6 @@ class Module:
             f"abbrev pub {name}_shape : Shape Tree {view}",
             f"{name}_shape = finishing {name}_of_row {name}_row_shape",
         ]
-
-    @staticmethod
-    def implied(kind, value):
-        """Of a value that is meant: the test of it and itself in specs, and itself in code."""
-        if isinstance(kind, Int):
-            return f"(λ n. nat_eq n {value})", str(value), str(value)
-        return ("(λ b. b)", "true", "true") if value else ("not", "false", "false")
 
     def writing_takes_memory(self, kind):
         """Whether writing it may take memory, where the writer takes none."""
@@ -290,7 +290,7 @@ class Module:
 
     def enum_spec(self, enum):
         name = snake(enum.name)
-        rows = []
+        rows, same = [], self.enum_equality(enum) if enum.name in self.implied else []
         for place, member in enumerate(enum.members):
             test = f'bytes_eq name (codes "{member.data}")' if enum.representation == "string" else f"nat_eq n {member.data}"
             rows.append(f"    {'else ' if place else ''}if {test} then Some {alias(enum)}.{member.name}")
@@ -304,6 +304,7 @@ class Module:
                 "",
                 f"abbrev pub {name}_shape : Shape Tree {enum.name}",
                 f"{name}_shape = told_by_number {name}_of_number",
+                *same,
             ]
         return [
             f"-- {enum.name}: a name",
@@ -313,6 +314,19 @@ class Module:
             "    else None",
             "",
             *self.variants_spec(enum, enum.name, "λ name t. None", "λ name t. 0", False),
+            *same,
+        ]
+
+    @staticmethod
+    def enum_equality(enum):
+        name = snake(enum.name)
+        return [
+            "",
+            f"abbrev pub {name}_place : {enum.name} → ℕ",
+            *(f"{name}_place {alias(enum)}.{member.name} = {place}" for place, member in enumerate(enum.members)),
+            "",
+            f"abbrev pub {name}_eq : {enum.name} → {enum.name} → Bool",
+            f"{name}_eq x y = nat_eq ({name}_place x) ({name}_place y)",
         ]
 
     def variants_spec(self, one, view, part, need, memory):
@@ -490,11 +504,11 @@ class Module:
 
     @staticmethod
     def ghost_lines(body):
-        """The lines of ghost members, which may be several each."""
+        """The lines of ghost members, which may be several each, and of contracts."""
         inside = False
         for line in body:
             inside = inside or line.startswith("    ghost ")
-            if inside:
+            if inside or line.startswith("    ensures "):
                 yield line.replace("ghost View =", "").replace("ghost", "")
             inside = inside and not line.endswith("};")
 
@@ -546,6 +560,7 @@ class Module:
             made = forms[one.representation](one)
         elif isinstance(one, Enum):
             made = self.enum_impls(one) if one.representation == "string" else self.number_impls(one)
+            made += self.unless_enum(one)
         elif isinstance(one, Unit):
             made = self.unit_impls(one)
         else:
@@ -566,15 +581,15 @@ class Module:
         for field, kind in sorted_kinds:
             value = f"v.{field_name(field.name)}"
             if field.implicit is not None:
-                value = f"(unless_implied {self.implied(kind, field.implicit.value)[0]} {value})"
+                value = f"(unless_implied {equal_to(kind, field.implicit.value)} {value})"
             if may_lack(field):
                 tree.append(f'optional (codes "{field.key}") {self.tree_of(kind)} {value} (')
             else:
                 tree.append(f'field (codes "{field.key}") ({self.tree(kind, value)}) ∷')
         write = []
-        for field, _ in kinds:
+        for field, kind in kinds:
             if field.implicit is not None:
-                write += self.unless_implied(field)
+                write += self.unless_implied(field, kind)
         write.append("        let row = ();")
         for field, _ in reversed(sorted_kinds):
             form = "Optional" if may_lack(field) else "Field"
@@ -597,13 +612,10 @@ class Module:
         return made + self.deserialize_impl(struct, read)
 
     @staticmethod
-    def unless_implied(field):
+    def unless_implied(field, kind):
         """What is written of a field that is left out where it is what that means."""
-        name, value = field_name(field.name), field.implicit.value
-        if value is False:
-            return lines(Group(f"let {name} = unless_false(", [f"self.{name}"], ")"), 8, ";")
-        test = f"self.{name}" if value is True else f"self.{name} == {value}"
-        return lines(Group(f"let {name} = unless_meant(", [f"self.{name}", test], ")"), 8, ";")
+        name = field_name(field.name)
+        return lines(Group(f"let {name} = {unless(kind)}(", [f"&self.{name}", meant(kind, field.implicit.value)], ")"), 8, ";")
 
     def implied_impls(self, struct, kinds, end, read):
         """A struct that is made of a row in which fields are left out that mean a value then."""
@@ -612,9 +624,8 @@ class Module:
         of[0] = of[0].replace("= row;", "= parts;")
         for field, kind in kinds:
             if field.implicit is not None:
-                word, value = field_name(field.name), self.implied(kind, field.implicit.value)[2]
-                of += [f"        let {word} = match {word} {{", f"            None => {value},", f"            Some({value}) => return None,"]
-                of += ["            Some(x) => x,", "        };"]
+                word, value = field_name(field.name), meant(kind, field.implicit.value)
+                of += matched(word, [f"None => {value},", f"Some({value}) => return None,", "Some(x) => x,"])
         of += lines(Group(f"Some({struct.name} {{", [field_name(field.name) for field in struct.fields], "})", INSIDE_STRUCT), 8)
         parts, seen = "Closed" if end == "Closed" else "()", []
         for field, kind in reversed(kinds):
@@ -712,6 +723,15 @@ class Module:
 
     # -- enums
 
+    def unless_enum(self, enum):
+        """What is written of a field of the enum that is left out where it is what that means."""
+        if enum.name not in self.implied:
+            return []
+        name = snake(enum.name)
+        head = Group(f"fn {name}_unless(", [f"value: &{enum.name}", f"meant: {enum.name}"], f") -> Option<{enum.name}>", WIDTH)
+        ensures = f"    ensures {{ result ≡ unless_implied {name}_eq meant value.now }}"
+        return ["", *lines(head, 0), ensures, "{", "    unless_meant(value, meant)", "}"]
+
     def enum_impls(self, enum):
         name = enum.name
         tree = [f'{alias(enum)}.{member.name} ↦ Some (text (codes "{member.data}"))' for member in enum.members]
@@ -723,7 +743,7 @@ class Module:
             read += [
                 f'            "{member.data}" => {{',
                 "                variant.unit_variant(de)?;",
-                *lines(Group("Ok(", [f"{name}::{member.name}"], ")"), 16),
+                *lines(Group("Ok(", [f"{name}::{member.name}"], ")", WIDTH), 16),
                 "            }",
             ]
         write.append("        }")
@@ -875,7 +895,7 @@ class Module:
             read += [
                 f'            "{case.data}" => {{',
                 "                let x = variant.newtype_variant(alloc, de)?;",
-                f"                Ok({name}::{case.name}(x))",
+                *lines(Group("Ok(", [Group(f"{name}::{case.name}(", ["x"], ")")], ")", WIDTH), 16),
                 "            }",
             ]
         write.append("        }")
@@ -926,7 +946,7 @@ class Module:
             read += [
                 f'            "{case.data}" => {{',
                 "                let x = entries.next_value(alloc, de)?;",
-                f"                Ok({name}::{case.name}(x))",
+                *lines(Group("Ok(", [Group(f"{name}::{case.name}(", ["x"], ")")], ")", WIDTH), 16),
                 "            }",
             ]
         write.append("        }")
@@ -949,8 +969,7 @@ class Module:
             if isinstance(one, Struct) and has_implied(one):
                 place = f"{self.name}.{one.name}Serialize.serialize"
                 fields = [field for field in one.fields if field.implicit is not None]
-                words = ["unless_false" if field.implicit.value is False else "unless_meant" for field in fields]
-                calls = [f"c.{word}-{field_name(field.name)}.ensures" for word, field in zip(words, fields)]
+                calls = [f"c.{unless(self.schema.resolve(field.type))}-{field_name(field.name)}.ensures" for field in fields]
                 steps = "".join(f"rw (sym {call}) (" for call in calls)
                 made[place.replace(".", "/")] = "\n".join([
                     f"-- What writes {one.name}, of {source}, by ./dagcbor-types.",
@@ -961,6 +980,8 @@ class Module:
                     f"returns-clause-written g c = {steps}c.write_struct.ensures.written{')' * len(calls)}",
                     "",
                 ])
+            if isinstance(one, Struct) and one.representation == "listpairs":
+                made |= self.pairs_answers(one, source)
             if isinstance(one, Union) and one.representation == "envelope":
                 made |= self.envelope_answers(one, source)
             if isinstance(one, Union) and one.representation == "inline":
@@ -1001,6 +1022,32 @@ class Module:
         head = [f"-- The arms that write long texts of {enum.name}, of {source}, by ./dagcbor-types."]
         head.append(f"use Rattle.{self.crate}.proofs.{place}.Goals as goal")
         return {place.replace(".", "/"): "\n".join(head + rows) + "\n"}
+
+    def pairs_answers(self, struct, source):
+        """What a list of pairs with a link makes, which the search takes apart: each pair has its field's name, and holds its value."""
+        kinds = [self.code(self.schema.resolve(field.type)) for field in struct.fields]
+        if len(kinds) < 2 or not any("Cid" in kind for kind in kinds):
+            return {}
+        signed = any(re.search(r"\bi[0-9]", kind) for kind in kinds)  # which the goal takes through the machine's words
+        end, word = ("(search rules)", "rules") if signed else ("refl", "refl")
+        place = f"{self.name}.{struct.name}Made.of_parts"
+        steps, opened = [], ""
+        for number, field in enumerate(struct.fields, 1):
+            call = f"c.of_name{f'-{number}' if number > 1 else ''}.ensures"
+            steps.append(f"    let taken{number} = taken_under _ _ _ (sym {call} ∙ c.in_ok-{field_name(field.name)}.was) in")
+            opened += f"rw (taken{number}.0, taken{number}.1) ("
+        return {place.replace(".", "/"): "\n".join([
+            f"-- What the pairs of {struct.name} make, of {source}, by ./dagcbor-types.",
+            f"use Rattle.std.proofs.Common.{{◌∙◌, {word}, sym}}",
+            "use Rattle.dagcbor_schema.proofs.PairNames.{taken_under}",
+            f"use Rattle.{self.crate}.proofs.{place}.Goals as goal",
+            "",
+            "pub returns : goal.returns",
+            "returns c =",
+            *steps,
+            f"    {opened}{end}{')' * len(steps)}",
+            "",
+        ])}
 
     @staticmethod
     def arm_words(union):
@@ -1301,6 +1348,29 @@ def has_implied(struct):
     return any(field.implicit is not None for field in struct.fields)
 
 
+def meant(kind, value):
+    """In code, a value that is meant where its field is left out."""
+    if isinstance(value, Member):
+        return f"{kind.name}::{value.name}"
+    return str(value).lower() if isinstance(value, bool) else str(value)
+
+
+def unless(kind):
+    """The function that leaves out what is meant."""
+    return f"{snake(kind.name)}_unless" if isinstance(kind, Named) else "unless_meant"
+
+
+def equal_to(kind, value):
+    """In specs, the equality of a type, and a value that is meant."""
+    if isinstance(value, Member):
+        return f"{snake(kind.name)}_eq in_{snake(kind.name)}.{value.name}"
+    if not isinstance(kind, Int):
+        return f"beq {meant(kind, value)}"
+    if kind.width[0] == "u":
+        return f"nat_eq {value}"
+    return f"int_eq (pos {value})" if value >= 0 else f"int_eq (neg_ℤ (pos {-value}))"
+
+
 def applied(head, words):
     """A type of these parameters, in as many lines as it takes."""
     made, line = [], head
@@ -1342,6 +1412,14 @@ def ghost_rows(head, rows, end):
     last = rows[-1].removesuffix(" (")
     opened = 1 + sum(row.endswith("(") for row in rows[:-1])
     return [head, *(f"        {row}" for row in rows[:-1]), f"        {last} {end}{')' * opened}"]
+
+
+def matched(word, arms):
+    """A value that a `match` of itself makes."""
+    head, margin = [f"        let {word} = match {word} {{"], " " * 8
+    if len(head[0]) > WIDTH:
+        head, margin = [f"        let {word} =", f"            match {word} {{"], " " * 12
+    return [*head, *(f"{margin}    {arm}" for arm in arms), f"{margin}}};"]
 
 
 def pairs_of(rows):

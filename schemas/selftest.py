@@ -6,6 +6,7 @@
                                                   makes of each, and lay it out, in a copy: a line for five, which are modules of
                                                   one crate. It takes an hour or two
     python3 -m schemas.selftest draw 7            prints the schema of a seed
+    python3 -m schemas.selftest layout 200 [FIRST]  has `rt fmt` lay out what is made of so many, and tells what it changes: a second each
     python3 -m schemas.selftest wrong             writes specs of a schema that was edited beside the code of the schema as it was,
                                                   edit by edit, and has `rt` refuse each: a line for each, some ten minutes"""
 
@@ -65,9 +66,10 @@ REFUSED = [
     ("type A struct {\n  fooBar Int\n  foo_bar String\n}", "3:3: two fields have the name `foo_bar`"),
     ("type A struct {\n  x Int\n  y String (rename \"x\")\n}", "3:3: two fields have the key `x`"),
     ("type A struct {\n  x Int (implicit 256) # as u8\n}", "2:19: 256 is no u8: `x`"),
-    ("type A struct {\n  x String (implicit true)\n}", "2:22: a field that means a value where it is left out is a Bool or an Int here: `x`"),
-    ("type A struct {\n  x nullable Int (implicit 0)\n}", "2:28: a field that means a value where it is left out is a Bool or an Int here: `x`"),
-    ("type A struct {\n  x Int (implicit 0)\n}", "2:19: a number that is meant where it is left out has no sign here"),
+    ("type A struct {\n  x String (implicit true)\n}", "2:22: a field that means a value where it is left out is a Bool, an Int or of an enum here: `x`"),
+    ("type A struct {\n  x nullable Int (implicit 0)\n}", "2:28: a field that means a value where it is left out is a Bool, an Int or of an enum here: `x`"),
+    ("type A struct {\n  x B (implicit \"D\")\n}\ntype B enum {\n  | C\n}", "2:17: D is no member of `B`: `x`"),
+    ("type A struct {\n  x Int (implicit -129) # as i8\n}", "2:19: -129 is no i8: `x`"),
     ("type A struct {\n  x optional Int (implicit 0)\n}", "2:28: `x` is optional: what is left out means no value"),
     ("type A struct {\n  x Int (implicit 0)\n} representation tuple", "2:19: a field of a tuple means nothing where it is left out: `x`"),
     ("type A union {\n  | B \"b\"\n} representation inline {\n  discriminantKey \"t\"\n}\ntype B struct {\n  x Int (implicit 0)\n}", "2:5: `B` has a field that means a value where it is left out, and is a member of an inline union: `x`"),
@@ -114,6 +116,8 @@ MADE = [
     ("type B int # as u16\ntype A struct {\n  x B\n}", "pub type B = u16;"),
     ("type A struct {\n  # How many.\n  x Int\n}", "    /// How many."),
     ("type A struct {\n  x Int (implicit \"5\") # as u8\n}", "            Some(5) => return None,"),
+    ("type A struct {\n  x B (implicit \"c\")\n}\ntype B enum {\n  | C (\"c\")\n}", "            Some(B::C) => return None,"),
+    ("type A struct {\n  x Int (implicit -5)\n}", "        let x = unless_meant(&self.x, -5);"),
     ("type A union {\n  | B list\n  | Int int\n} representation kinded\ntype B [Int]", "    type Parts = ByKind<NoKind, i128, NoKind, NoKind, Vec<i64>, NoKind, NoKind>;"),
     ("type A union {\n  | Int \"i\"\n} representation envelope {\n  discriminantKey \"t\"\n  contentKey \"v\"\n}", '        read_enveloped(alloc, "t", "v", de)'),
 ]
@@ -162,6 +166,8 @@ MADE_IN = [
     ("python", INLINE, '            _optional(entries, "y", at, _text)'),
     ("python", ENVELOPE, '    tag, held = _enveloped(value, at, "t", "v")'),
     ("python", "type A struct {\n  x Bool (implicit true)\n}", '        x=_implied(entries, "x", at, _bool, True),'),
+    ("python", "type A struct {\n  x B (implicit 2)\n}\ntype B enum {\n  | C (\"2\")\n} representation int", "    x: B = B.C"),
+    ("python", "type A struct {\n  x B (implicit \"c\")\n}\ntype B enum {\n  | C (\"c\")\n}", '    _put_implied(entries, "x", _write_b(held.x, (*at, "x")), "c")'),
     ("python", "type B struct {}\ntype A union {\n  | B map\n} representation kinded", "        case B():"),
     ("python", KEYS, "    vinyl: str | None = None"),
     ("python", "type A unit representation true", "    _unit(True, value, at)"),
@@ -180,6 +186,8 @@ MADE_IN = [
     ("typescript", INLINE, "      if (has(entries, 'y')) field(entries, 'y', at, text);"),
     ("typescript", ENVELOPE, "  const [tag, part] = enveloped(value, at, 't', 'v');"),
     ("typescript", "type A struct {\n  x Int (implicit 3) # as u64\n}", "  putImplied(entries, 'x', u64(held.x, [...at, 'x']), 3n);"),
+    ("typescript", "type A struct {\n  x B (implicit \"c\")\n}\ntype B enum {\n  | C (\"c\")\n}", "    x: implied(entries, 'x', at, readB, 'C'),"),
+    ("typescript", "type A struct {\n  x B (implicit 2)\n}\ntype B enum {\n  | C (\"2\")\n} representation int", "  putImplied(entries, 'x', writeB(held.x, [...at, 'x']), 2n);"),
     ("typescript", "type B [Int]\ntype A union {\n  | B list\n} representation kinded", "    case 'list':"),
     ("typescript", KEYS, "  Vinyl?: string;"),
     ("typescript", "type A unit", "export type A = null;"),
@@ -334,12 +342,35 @@ def judged(batch, folder, table):
     functions = re.search(rf"crate {crate.name}:.*\nlogic=proved functions=(\d+)", log)
     if status or not functions:
         return f"not proved, {took}", log
-    status, log = ran("rt", "fmt", folder=crate)
-    others = [path.name for path, text in made.items() if path.read_text(encoding="utf-8") != text]
+    others = laid_out(crate, made)
     shutil.rmtree(crate)
-    if status or others:
-        return f"proved, and laid out by rt fmt as another: {' '.join(others)}", log
+    if others:
+        return f"proved, and laid out by rt fmt as another: {others}", log
     return f"proved, {functions[1]} functions, {took}", None
+
+
+def laid_out(crate, made):
+    """What `rt fmt` makes another of these files, or what it says where it fails."""
+    status, log = ran("rt", "fmt", folder=crate)
+    return (log or "rt fmt failed") if status else " ".join(path.name for path, text in made.items() if path.read_text(encoding="utf-8") != text)
+
+
+def layout(count, first):
+    failed = 0
+    with tempfile.TemporaryDirectory() as name:
+        folder = pathlib.Path(name)
+        (folder / "crates.txt").write_text("", encoding="utf-8")
+        for seed in range(first, first + count):
+            source = folder / f"seed_{seed}.ipldsch"
+            source.write_text(drawn(seed), encoding="utf-8")
+            crate, made = files_of([source], folder / "crates" / f"drawn_{seed}")
+            write((crate, made), check=False)
+            others = laid_out(crate, made)
+            if others:
+                failed += 1
+                print(f"seed {seed}: laid out by rt fmt as another: {others}", flush=True)
+    print(f"{count - failed} passed, {failed} failed")
+    sys.exit(1 if failed else 0)
 
 
 # A schema, and edits of it: what is edited, a line of it, and what stands there in its place.
@@ -361,6 +392,10 @@ type Track struct {
   side Side
   seconds Length
 }
+
+type Take struct {
+  gain Int (implicit -3) # as i8
+}
 """
 EDITS = [
     ("a field renamed", "  title String", '  title String (rename "name")'),
@@ -368,6 +403,7 @@ EDITS = [
     ("a bound", "type Length int # as u16", "type Length int # as u32"),
     ("an enum's text", '  | Tape ("tape")', '  | Tape ("Tape")'),
     ("a member's key", '  | Length "minutes"', '  | Length "seconds"'),
+    ("what a field means", "(implicit -3)", "(implicit -4)"),
     ("other keys skipped", "type Track struct {", "type Track struct { # open"),
 ]
 
@@ -417,8 +453,8 @@ def main():
     words = sys.argv[1:]
     if words[:1] == ["draw"]:
         print(drawn(int(words[1])), end="")
-    elif words[:1] == ["prove"]:
-        prove(int(words[1]), int(words[2]) if len(words) > 2 else 0)
+    elif words[:1] in (["prove"], ["layout"]):
+        {"prove": prove, "layout": layout}[words[0]](int(words[1]), int(words[2]) if len(words) > 2 else 0)
     elif words[:1] == ["wrong"]:
         wrong()
     else:

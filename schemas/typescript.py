@@ -3,7 +3,7 @@
 
 from schemas.law import bounds
 from schemas.language import WIDTH, Language, camel, named_blocks
-from schemas.parsing import WIDTHS, Alias, Enum, Int, Leaf, Link, ListOf, MapOf, Named, SchemaError, Struct, Union, Unit
+from schemas.parsing import WIDTHS, Alias, Enum, Int, Leaf, Link, ListOf, MapOf, Member, Named, SchemaError, Struct, Union, Unit
 
 SCALARS = {"String": "string", "Bytes": "Uint8Array", "Bool": "boolean", "Any": "Data"}
 NARROW = ("u8", "u16", "u32", "i8", "i16", "i32")  # the widths that are kept as a number, and not as a bigint
@@ -332,7 +332,7 @@ class TypeScript(Language):
             write, given = self.conversion(field.type, "write"), [held, f"[...at, {key}]"]
             if field.implicit is not None:
                 item = f"{write}({', '.join(given)})"
-                optional += self.call(2, "putImplied(", ["entries", key, item, self.meant(field)], ");")
+                optional += self.call(2, "putImplied(", ["entries", key, item, self.meant_data(field)], ");")
             elif field.optional:
                 optional += self.when(f"{held} !== undefined", self.call(2, f"entries[{key}] = {write}(", given, ");"))
             else:
@@ -343,9 +343,18 @@ class TypeScript(Language):
     def meant(self, field):
         """What a field means that is left out."""
         value, kind = field.implicit.value, self.schema.resolve(field.type)
+        if isinstance(value, Member):
+            return quoted(value.name)
         if isinstance(value, bool):
             return "true" if value else "false"
         return str(value) if kind.width in NARROW else f"{value}n"
+
+    def meant_data(self, field):
+        """The same, in the data."""
+        value = field.implicit.value
+        if not isinstance(value, Member):
+            return self.meant(field)
+        return quoted(value.data) if isinstance(value.data, str) else f"{value.data}n"
 
     @staticmethod
     def when(test, rows, indent=2):

@@ -63,7 +63,7 @@ PROFILE = {"$type": "app.bsky.actor.profile", "displayName": "a", "avatar": BLOB
 FOLLOW = {"$type": "app.bsky.graph.follow", "subject": "did:plc:b", "createdAt": "2024-01-01T00:00:00Z"}
 POINT = [1, None, 255, {"Vinyl": 1, "tape": -2}, ["a"], "n", 3]
 UNITS = {"yes": True, "no": False, "nothing": None, "empty": {}}
-SCALE = {"by": 2, "smooth": True, "shift": 0, "name": "n"}
+SCALE = {"by": 2, "smooth": True, "shift": 0, "lift": 5, "style": "Vinyl", "name": "n"}
 CHORD = [["root", "C"], ["notes", [0, 4, 7]], ["by", None]]
 EVENT = {"tag": "point", "content": POINT[:5]}
 FIGURES = {
@@ -151,6 +151,8 @@ BLOCKS = {
         "SCALE_ONE": {**SCALE, "by": 1},
         "SCALE_ROUGH": {"smooth": False},
         "SCALE_SHIFT": {"shift": 2},
+        "SCALE_LIFT": {"lift": -5},
+        "SCALE_STYLE": {"style": "tape"},
         "SCALE_NULL": {"by": None},
         "CHORD": CHORD,
         "CHORD_SCALE": [*CHORD[:2], ["by", SCALE]],

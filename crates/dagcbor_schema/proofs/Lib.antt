@@ -2,3 +2,4 @@ pub mod PartRows
 pub mod PartItems
 pub mod KindFronts
 pub mod EnvelopeFronts
+pub mod PairNames

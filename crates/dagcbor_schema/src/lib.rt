@@ -17,7 +17,7 @@ mod parts;
 pub use by_kind::{ByKind, NoKind};
 pub use closed::Closed;
 pub use envelope::{Enveloped, read_enveloped};
-pub use implied::{unless_false, unless_meant};
+pub use implied::unless_meant;
 pub use made::{Made, read_made};
 pub use numbered::{Numbered, read_numbered};
 pub use omissible::Omissible;

@@ -11,11 +11,15 @@ use std::test::Fail;
 /// The number 5, by the identity, which is named so.
 const IDENTITY: &[u8] = b"\x06\x01\x71\x00\x01\x05\x05";
 
-/// The name of a section, and its block: its last so many bytes.
-fn parts(section: &[u8], block: usize) -> Result<(Cid, &[u8]), Fail> {
-    let start = section.len().saturating_sub(block);
-    match section.get(1..start) {
-        Some(name) => Ok((Cid::try_from(name)?, &section[start..])),
+/// The block of a section: its last so many bytes.
+fn block_in(section: &[u8], length: usize) -> &[u8] {
+    &section[section.len().saturating_sub(length)..]
+}
+
+/// The name in front of it.
+fn name_in(section: &[u8], length: usize) -> Result<Cid, Fail> {
+    match section.get(1..section.len().saturating_sub(length)) {
+        Some(name) => Ok(Cid::try_from(name)?),
         None => Err(Fail::new("too short")),
     }
 }
@@ -36,7 +40,8 @@ fn refuses(
     length: usize,
     refusal: &str,
 ) -> Result<(), Fail> {
-    let (name, block) = parts(section, length)?;
+    let name = name_in(section, length)?;
+    let block = block_in(section, length);
     is_told(alloc, &blocks.put_block(&name, block), refusal)?;
     agree((blocks.contains(&name), blocks.len()), (false, 0))
 }
@@ -60,7 +65,8 @@ fn are_names(alloc: Global, blocks: &Blocks, names: &[&[u8]]) -> Result<(), Fail
 
 /// Fails where the block is not kept as the only one, or handed out otherwise.
 fn keeps(alloc: Global, blocks: &mut Blocks, section: &[u8]) -> Result<(), Fail> {
-    let (name, block) = parts(section, 4)?;
+    let name = name_in(section, 4)?;
+    let block = block_in(section, 4);
     is_told(alloc, &blocks.put_block(&name, block), "Ok(())")?;
     are_names(alloc, blocks, &[NUMBERS])?;
     agree(blocks.get_block(&name), Some(block))

@@ -1,41 +1,18 @@
 //! Reading the blocks of a file into a store.
 
-ghost use Rattle.std.specs.Prelude.{MatchResult};
 ghost use Rattle.serde_ipld_dagcbor.specs.Inputs.{input_reading};
 ghost use Rattle.dagcbor_blocks.specs.Blocks.{held_blocks};
-ghost use Rattle.dagcbor_blocks.specs.Cars.{IsNamedBlock, BlockRefused, ReadsCar};
+ghost use Rattle.dagcbor_blocks.specs.Cars.{ReadsCar};
 ghost use Rattle.dagcbor_blocks.specs.CarSteps.{KeepsSection, KeepsNext};
 
 use crate::car_error::ReadCarError;
-use crate::error::BlockError;
 use crate::store::Blocks;
-use dagcbor_car::{SHA2_256, Section, Verdict, pull_header, pull_section, verify};
+use dagcbor_car::{Section, pull_header, pull_section};
 use serde_ipld_dagcbor::{Cid, Input, Read};
 
-/// Whether the section is a block under its name.
-fn check_section<E: Drop>(section: &Section<'_>) -> Result<(), ReadCarError<E>>
-    ensures { MatchResult result
-        (λ _. IsNamedBlock (section.now.cid, section.now.block.now))
-        (λ e. BlockRefused (section.now.cid, section.now.block.now) e) }
-{
-    let cid = section.cid;
-    // What is known of a CID comes with its version.
-    let _version = cid.version();
-    if cid.hash_code() != SHA2_256 {
-        return Err(ReadCarError::OtherHash(cid));
-    }
-    match verify(&cid, section.block) {
-        Verdict::Block(_) => Ok(()),
-        Verdict::Refused(error) => Err(ReadCarError::NoBlock(cid, error)),
-        Verdict::OtherBytes => Err(ReadCarError::OtherBytes(cid)),
-        Verdict::NotRead => Err(ReadCarError::OtherCodec(cid)),
-        Verdict::Unverified => Err(ReadCarError::OtherHash(cid)),
-    }
-}
-
 impl Blocks {
-    /// Keeps the blocks of the file that the input has left (CAR, version 1), each under its name,
-    /// and answers its roots. The input is a slice, or a reader, as
+    /// Keeps the blocks of the file that the input has left (CAR, version 1 or 2), each under its
+    /// name, and answers its roots. The input is a slice, or a reader, as
     /// `Input::Reader(IoReader::new(source))` for a source of std; one section of it is in memory
     /// at a time, beside what is kept.
     ///
@@ -49,12 +26,12 @@ impl Blocks {
         ensures { ReadsCar (input_reading R.reading input.old) (held_blocks self.old) result
             (input_reading R.reading input.new) (held_blocks self.new) }
     {
-        let roots = match pull_header(self.alloc, input) {
-            Ok(roots) => roots,
+        let (roots, mut left) = match pull_header(self.alloc, input) {
+            Ok(begun) => begun,
             Err(error) => return Err(ReadCarError::of_file(error)),
         };
         for _count in 0..u64::MAX {
-            let more = self.keep_next(input)?;
+            let more = self.keep_next(input, &mut left)?;
             if !more {
                 return Ok(roots);
             }
@@ -66,11 +43,12 @@ impl Blocks {
     fn keep_next<'de, R: Read>(
         &mut self,
         input: &mut Input<'de, R>,
+        left: &mut Option<u64>,
     ) -> Result<bool, ReadCarError<R::Error>>
-        ensures { KeepsNext (input_reading R.reading input.old) (held_blocks self.old) result
-            (input_reading R.reading input.new) (held_blocks self.new) }
+        ensures { KeepsNext left.old (input_reading R.reading input.old) (held_blocks self.old)
+            result left.new (input_reading R.reading input.new) (held_blocks self.new) }
     {
-        match pull_section(self.alloc, input) {
+        match pull_section(self.alloc, input, left) {
             Ok(Some(section)) => match self.keep_section(&section.section()) {
                 Ok(()) => Ok(true),
                 Err(error) => Err(error),
@@ -85,14 +63,9 @@ impl Blocks {
         ensures { KeepsSection (section.now.cid, section.now.block.now) (held_blocks self.old)
             result (held_blocks self.new) }
     {
-        check_section(section)?;
-        let Ok(block) = section.block.to_vec(self.alloc) else {
-            return Err(ReadCarError::OutOfMemory);
-        };
-        match self.store(section.cid, block) {
-            Ok(_name) => Ok(()),
-            Err(BlockError::Collision) => Err(ReadCarError::Collision(section.cid)),
-            Err(_) => Err(ReadCarError::OutOfMemory),
+        match self.put_block(&section.cid, section.block) {
+            Ok(()) => Ok(()),
+            Err(error) => Err(ReadCarError::of_block(section.cid, error)),
         }
     }
 }

@@ -1,0 +1,93 @@
+//! Blocks that are kept, and handed out, as bytes.
+
+use crate::tests::files::cids_of;
+use crate::tests::sections::{CHANGED, NUMBERS, RAW, SECTION, UNORDERED};
+use dagcbor_blocks::Blocks;
+use dagcbor_testing::{agree, is_told};
+use serde_ipld_dagcbor::Cid;
+use std::alloc::Global;
+use std::test::Fail;
+
+/// The number 5, by the identity, which is named so.
+const IDENTITY: &[u8] = b"\x06\x01\x71\x00\x01\x05\x05";
+
+/// The block of a section: its last so many bytes.
+fn block_in(section: &[u8], length: usize) -> &[u8] {
+    &section[section.len().saturating_sub(length)..]
+}
+
+/// The name in front of it.
+fn name_in(section: &[u8], length: usize) -> Result<Cid, Fail> {
+    match section.get(1..section.len().saturating_sub(length)) {
+        Some(name) => Ok(Cid::try_from(name)?),
+        None => Err(Fail::new("too short")),
+    }
+}
+
+/// Sections, the lengths of their blocks, and why these are not kept.
+const REFUSED: &[(&[u8], usize, &str)] = &[
+    (CHANGED, 4, "Err(OtherBytes)"),
+    (RAW, 3, "Err(OtherCodec)"),
+    (IDENTITY, 1, "Err(OtherHash)"),
+    (UNORDERED, 7, "Err(NoBlock(UnorderedKey))"),
+];
+
+/// Fails where the block is kept, or refused otherwise.
+fn refuses(
+    alloc: Global,
+    blocks: &mut Blocks,
+    section: &[u8],
+    length: usize,
+    refusal: &str,
+) -> Result<(), Fail> {
+    let name = name_in(section, length)?;
+    let block = block_in(section, length);
+    is_told(alloc, &blocks.put_block(&name, block), refusal)?;
+    agree((blocks.contains(&name), blocks.len()), (false, 0))
+}
+
+#[test]
+fn what_is_no_block_is_not_kept(rt: HostRuntime) -> Result<(), Fail> {
+    let alloc = rt.alloc();
+    let mut blocks = Blocks::new(alloc);
+    for (section, length, refusal) in REFUSED {
+        refuses(alloc, &mut blocks, section, *length, refusal)?;
+    }
+    Ok(())
+}
+
+/// Fails where other names are told.
+fn are_names(alloc: Global, blocks: &Blocks, names: &[&[u8]]) -> Result<(), Fail> {
+    let wanted = cids_of(alloc, names)?;
+    agree(blocks.names()?.as_slice(), wanted.as_slice())?;
+    agree(blocks.len(), names.len())
+}
+
+/// Fails where the block is not kept as the only one, or handed out otherwise.
+fn keeps(alloc: Global, blocks: &mut Blocks, section: &[u8]) -> Result<(), Fail> {
+    let name = name_in(section, 4)?;
+    let block = block_in(section, 4);
+    is_told(alloc, &blocks.put_block(&name, block), "Ok(())")?;
+    are_names(alloc, blocks, &[NUMBERS])?;
+    agree(blocks.get_block(&name), Some(block))
+}
+
+/// Fails where the text is not handed out as its block, or still held then.
+fn lets_go(blocks: &mut Blocks) -> Result<(), Fail> {
+    let name = blocks.put(&"a")?;
+    agree(blocks.get_block(&name), Some(b"\x61a".as_slice()))?;
+    agree(blocks.remove(&name), true)?;
+    agree(blocks.remove(&name), false)?;
+    agree(blocks.get_block(&name), None)
+}
+
+#[test]
+fn blocks_are_handed_out_as_they_came(rt: HostRuntime) -> Result<(), Fail> {
+    let alloc = rt.alloc();
+    let mut blocks = Blocks::new(alloc);
+    for _ in 0..2 {
+        keeps(alloc, &mut blocks, SECTION)?;
+        lets_go(&mut blocks)?;
+    }
+    are_names(alloc, &blocks, &[NUMBERS])
+}

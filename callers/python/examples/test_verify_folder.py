@@ -30,8 +30,13 @@ def held_inside(block):
     return b"\x01\x71\0" + bytes([len(block)]) + block
 
 
+def link(name):
+    count = len(name) + 1
+    return b"\xd8\x2a" + (bytes([0x40 + count]) if count < 24 else bytes([0x58, count])) + b"\0" + name
+
+
 def links_to(names):
-    return b"".join(b"\xd8\x2a\x58" + bytes([len(it) + 1, 0]) + it for it in names)
+    return b"".join(map(link, names))
 
 
 def block_of(names, number):
@@ -105,7 +110,7 @@ def made(tmp_path_factory):
 
 @pytest.fixture(scope="module")
 def client():
-    with LocalCluster(3, threads_per_worker=1, dashboard_address=None) as cluster:
+    with LocalCluster(n_workers=3, threads_per_worker=1, dashboard_address=None) as cluster:
         with Client(cluster) as client:
             yield client
 

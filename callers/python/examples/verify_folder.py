@@ -61,13 +61,14 @@ def verified(path, parts):
 
 
 def missing_in(group):
-    """The names of a part that some files want and none holds."""
+    """The names of a part that some files want and none holds. Those that are held make no set."""
     _, pieces = group
-    held, wanted = set(), set()
-    for _, of_held, of_wanted in pieces:
-        held.update(unpacked(of_held))
-        wanted.update(unpacked(of_wanted))
-    return sorted(wanted - held)
+    missing = set()
+    for _, _, wanted in pieces:
+        missing.update(unpacked(wanted))
+    for _, held, _ in pieces:
+        missing.difference_update(unpacked(held))
+    return sorted(missing)
 
 
 def number_of(piece):

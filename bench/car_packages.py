@@ -3,8 +3,8 @@
 
     bench/car_packages.py [RUNS] [PROGRAM] [page]
 
-Makes a file of 104 MB as bench/cars.py does, goes through it in each way in turn, and prints a table
-of processor time, the least of so many runs (9 where none is given). Without the path of a `dagcar`
+Makes a file of 104 MB as bench/cars.py does, goes through it in each way in turn, and prints a
+table of processor time, the least of so many runs (9 where none is given). Without the path of a `dagcar`
 it is proved and built first. With `page` the table is put into docs/SPEED.md too. Nothing here is a
 test."""
 
@@ -23,7 +23,7 @@ END = "<!-- so far, of files in packages -->\n"
 PROGRAM = ["`dagcar check`", "`dagcar list`, which hashes nothing"]
 PACKAGES = {
     "Python": ["`check_car` of an open file", "`check_car` of bytes", "`read_car` of an open file",
-               "Python, the sections alone: a loop that reads lengths and bytes, and judges nothing"],
+               "Python, the sections alone: a loop reads lengths and bytes, and judges nothing"],
     "Node": ["`checkCar` of a stream", "`checkCar` of bytes", "`CarBlockIterator` of a stream"],
 }
 told = []
@@ -59,8 +59,8 @@ def main(words):
         rows = list(in_turn(runs, given, program, python_package(folder)))
     least = [min(it) for it in zip(*rows)]
     tell(f"Measured {machine()}, {busy}, processor time, the least of {runs} runs.\n")
-    tell(f"| {size:.0f} MB of blocks of {RECORD} bytes, {FILE // RECORD + 1:,} sections | s | MB a second "
-         "| by `dagcar check` |")
+    title = f"{size:.0f} MB of blocks of {RECORD} bytes, {FILE // RECORD + 1:,} sections"
+    tell(f"| {title} | s | MB a second | by `dagcar check` |")
     tell("|---|---|---|---|")
     for name, took in zip(names, least):
         tell(f"| {name} | {took:.3g} | {size / took:.0f} | {took / least[0]:.2f} |")

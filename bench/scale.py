@@ -1,6 +1,6 @@
 #!/usr/bin/env python3
-"""What one core does for docs/SCALE.md: files of blocks of each size through the package for Python,
-and what `verify_folder.py` does with their names.
+"""What one core does, for docs/SCALE.md: files of blocks of each size by the package for Python, and
+what `verify_folder.py` does with their names.
 
     bench/scale.py [RUNS] [page]
 
@@ -29,7 +29,8 @@ def tell(line):
 
 def least(work, path, runs, env):
     """The seconds, the names, and the bytes by which the process grew."""
-    rows = [printed([PYTHON, "-B", f"{HERE}/scale.py", work, path], env=env)[0] for _ in range(runs)]
+    words = [PYTHON, "-B", f"{HERE}/scale.py", work, path]
+    rows = [printed(words, env=env)[0] for _ in range(runs)]
     return min(row[0] for row in rows), rows[0][1], min(row[2] for row in rows)
 
 

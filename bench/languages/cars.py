@@ -52,4 +52,5 @@ def seconds(call, path):
     return took
 
 
-print(*(seconds(it, sys.argv[1]) for it in (check_file, check_bytes, read_sections, sections_alone)))
+CALLS = check_file, check_bytes, read_sections, sections_alone
+print(*(seconds(it, sys.argv[1]) for it in CALLS))

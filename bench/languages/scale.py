@@ -8,7 +8,8 @@ import time
 
 from dagcbor import check_car
 
-sys.path.insert(0, os.path.join(os.path.dirname(os.path.abspath(__file__)), "../../callers/python/examples"))
+HERE = os.path.dirname(os.path.abspath(__file__))
+sys.path.insert(0, os.path.join(HERE, "../../callers/python/examples"))
 
 from verify_folder import divided, missing_in
 

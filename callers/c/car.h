@@ -150,8 +150,8 @@ static inline int32_t car_header(Car *car) {
     return 0;
 }
 
-/* What is said of the next section, whose places are counted from the bytes at hand; or why there is
- * none. It is not passed. At most so many of the bytes at hand are looked at. */
+/* What is said of the next section, whose places are counted from the bytes at hand; or why there
+ * is none. It is not passed. At most so many of the bytes at hand are looked at. */
 static inline int32_t car_section(const Car *car, size_t most, size_t places[3]) {
     size_t shown = car_shown(car), looked = shown < most ? shown : most;
     if (shown == 0 && car->place == car->end) return CAR_END;
@@ -180,7 +180,7 @@ static inline size_t put_length(uint8_t *out, uint64_t length) {
  * whether a block of that name is held; else it is wanted alone. */
 typedef struct {
     Bytes packed;
-    uint64_t *slots; /* where the name stands, counted from 1, and above it a part of its hash; or 0 */
+    uint64_t *slots; /* where a name stands, counted from 1, and above it a part of its hash; or 0 */
     size_t count, mask;
     uint64_t key[2]; /* of the hash: who sends a file chooses its names */
 } Names;

@@ -34,7 +34,8 @@ def main():
         with tempfile.NamedTemporaryFile() as kept:
             kept.write(bytes.fromhex(file.strip("-")))
             kept.flush()
-            ran = subprocess.run([sys.argv[1], kept.name], stdout=subprocess.PIPE, text=True, check=False)
+            words = [sys.argv[1], kept.name]
+            ran = subprocess.run(words, stdout=subprocess.PIPE, text=True, check=False)
         wanted = list(lines_of(roots, sections, fault))
         if ran.stdout.splitlines() != wanted or ran.returncode != (fault != "-"):
             sys.exit(f"wrong: {file}\n{ran.stdout}")

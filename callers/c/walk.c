@@ -80,7 +80,8 @@ static bool is_right(size_t piece, const char *fault, const char *missing, bool 
     int32_t code = walked(&check, piece);
     *has_memory = code != CAR_NO_MEMORY && (code != CAR_END || check_inside(&check));
     strcpy(told, "-");
-    if (code != CAR_END) sprintf(told, "%" PRId32 ":%" PRIu64, code, check.car.place + check.car.skip);
+    uint64_t place = check.car.place + check.car.skip;
+    if (code != CAR_END) sprintf(told, "%" PRId32 ":%" PRIu64, code, place);
     bool is_well = !*has_memory || strcmp(told, fault) == 0;
     if (*has_memory && code == CAR_END) {
         tell_missing(&check.names, told);

@@ -108,8 +108,8 @@ static int32_t go_on(Walk *walk) {
         int32_t code = car_header(car);
         if (code != 0) return code;
         walk->is_behind_header = true;
-        if (!names_want(&walk->check.names, car->roots.start, car->roots.used)) return CAR_NO_MEMORY;
-        return 0;
+        bool has_memory = names_want(&walk->check.names, car->roots.start, car->roots.used);
+        return has_memory ? 0 : CAR_NO_MEMORY;
     }
     return walk->is_check ? check_sections(&walk->check, SLICE) : tell_sections(walk, SLICE);
 }
@@ -126,7 +126,7 @@ static napi_value batch_of(napi_env env, Walk *walk, size_t count) {
     return copied(env, walk->front, count ? (size_t)told[count - 1].end : 0);
 }
 
-/* [code, place, bytes, numbers]: why the work stopped and where, and four numbers of each section. */
+/* [code, place, bytes, numbers]: why the work stopped, and where; four numbers of each section. */
 static napi_value answer_of(napi_env env, Walk *walk) {
     size_t size = walk->told.used, count = size / sizeof(Told);
     napi_value answer, parts[4], buffer;

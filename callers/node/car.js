@@ -19,7 +19,8 @@ const pieces = function* (bytes) {
 
 // The bytes of a CID, of this package or another.
 const bytesOf = (cid) => (cid.bytes instanceof Uint8Array ? cid.bytes : cid);
-const keyOf = (bytes) => Buffer.from(bytes.buffer, bytes.byteOffset, bytes.length).toString('latin1');
+const keyOf = ({ buffer, byteOffset, length }) =>
+  Buffer.from(buffer, byteOffset, length).toString('latin1');
 
 module.exports = ({ native, CID, DagCborError, makeCid, KINDS, REASONS }) => {
   class CarError extends DagCborError {}
@@ -46,7 +47,7 @@ module.exports = ({ native, CID, DagCborError, makeCid, KINDS, REASONS }) => {
       this.isHungry = true;
     }
 
-    // What is found next: numbers of sections and their bytes; whether it is the end; why it stopped.
+    // What is found next: numbers of sections, and their bytes; whether it is the end; a fault.
     async step() {
       for (;;) {
         if (this.isHungry) {

@@ -230,12 +230,13 @@ const collected = async (out) => {
 };
 
 test('files are written', async () => {
-  const [one, other] = [encode({ a: 1 }), encode([name(Buffer.of(0xf6))])].map((it) => Buffer.from(it));
+  const [one, other] = [{ a: 1 }, [name(Buffer.of(0xf6))]].map((it) => Buffer.from(encode(it)));
   for (const roots of [undefined, name(one), [name(one), { bytes: name(other).bytes }]]) {
     const { writer, out } = CarWriter.create(roots);
     const file = collected(out);
     await writer.put({ cid: name(one), bytes: one });
-    await assert.rejects(() => writer.put({ cid: name(one), bytes: other }), { kind: 'OtherBytes' });
+    const isRefused = { kind: 'OtherBytes' };
+    await assert.rejects(() => writer.put({ cid: name(one), bytes: other }), isRefused);
     writer.put({ cid: { bytes: name(other).bytes }, bytes: other });
     await writer.close();
     await assert.rejects(() => writer.put({ cid: name(one), bytes: one }), /closed/);
@@ -291,7 +292,8 @@ test('memory', () => {
     const bytes = Buffer.concat([Buffer.from('59ffff', 'hex'), Buffer.alloc(0xffff)]);
     const block = Buffer.concat([Buffer.of(0x90), ...Array(16).fill(bytes)]);
     const length = (n) => n < 128 ? [n] : [(n % 128) + 128, ...length(Math.floor(n / 128))];
-    const section = Buffer.concat([Buffer.from(length(36 + block.length)), name(block).bytes, block]);
+    const front = Buffer.from(length(36 + block.length));
+    const section = Buffer.concat([front, name(block).bytes, block]);
     const file = function* (count) {
       yield header;
       for (let i = 0; i < count; i++) yield section;

@@ -32,7 +32,8 @@ def held_inside(block):
 
 def link(name):
     count = len(name) + 1
-    return b"\xd8\x2a" + (bytes([0x40 + count]) if count < 24 else bytes([0x58, count])) + b"\0" + name
+    head = bytes([0x40 + count]) if count < 24 else bytes([0x58, count])
+    return b"\xd8\x2a" + head + b"\0" + name
 
 
 def links_to(names):
@@ -40,7 +41,8 @@ def links_to(names):
 
 
 def block_of(names, number):
-    return bytes([0x81 + len(names)]) + links_to(names) + b"\x19" + (1000 + number).to_bytes(2, "big")
+    tail = b"\x19" + (1000 + number).to_bytes(2, "big")
+    return bytes([0x81 + len(names)]) + links_to(names) + tail
 
 
 def section(block, name=None):
@@ -57,11 +59,12 @@ def header(roots):
 def second(inner):
     """A file of version 2 around it."""
     numbers = b"".join(it.to_bytes(8, "little") for it in (60, len(inner), 60 + len(inner)))
-    return bytes.fromhex("0aa16776657273696f6e02") + bytes(16) + numbers + b"\xff" * 9 + inner + b"\x80"
+    front = bytes.fromhex("0aa16776657273696f6e02") + bytes(16) + numbers
+    return front + b"\xff" * 9 + inner + b"\x80"
 
 
 def blocks(chance):
-    """Of each block its bytes and its links, which lead to some before it, and at times within a name."""
+    """Of each block its bytes and its links, to some before it, and at times within a name."""
     names = []
     for number in range(BLOCKS):
         links = chance.sample(names, min(len(names), chance.randrange(4)))
@@ -76,10 +79,11 @@ def blocks(chance):
 
 @pytest.fixture(scope="module")
 def made(tmp_path_factory):
-    """The folder; all whole sections under one header; the verdicts of each file; what is missing."""
+    """The folder; all whole sections under one header; each file's verdicts; what is missing."""
     chance, folder = random.Random(12), tmp_path_factory.mktemp("files")
     told = [Counter() for _ in range(FILES)]
-    sections, roots, held, wanted = [[] for _ in range(FILES)], [[] for _ in range(FILES)], set(), set()
+    sections, roots = [[] for _ in range(FILES)], [[] for _ in range(FILES)]
+    held, wanted = set(), set()
     for number, (block, links) in enumerate(blocks(chance)):
         file, fate = chance.randrange(FILES - 1), chance.random()  # the last has none
         if chance.random() < 0.02:
@@ -124,9 +128,18 @@ def test_as_one_file(made, client):
         reports, missing = verify(paths, parts)
         assert missing == found.missing
         assert [it["verdicts"] for it in reports] == [dict(it) for it in told]
-        assert sum((Counter(it["verdicts"]) for it in reports), Counter()) == Counter(found.verdicts)
-        refused = [it["refused"] and it["refused"][0] for it in reports]
-        assert refused == [None] * 3 + ["Truncated"] + [None] * (FILES - 4)
+        counts = sum((Counter(it["verdicts"]) for it in reports), Counter())
+        assert counts == Counter(found.verdicts)
+        refused = [it["refused"] and it["refused"].rpartition(" ")[0] for it in reports]
+        assert refused == [None] * 3 + ["refused Truncated at"] + [None] * (FILES - 4)
+
+
+def test_a_file_that_is_not_there(made, client):
+    """The others are checked nevertheless."""
+    folder, paths, _, told, _ = made
+    reports, _ = verify([folder / "none.car", *paths[:2]], 3)
+    assert reports[0]["refused"].startswith("not read: [Errno 2]") and not reports[0]["verdicts"]
+    assert [it["verdicts"] for it in reports[1:]] == [dict(it) for it in told[:2]]
 
 
 def test_no_part_has_all_names(made, client):

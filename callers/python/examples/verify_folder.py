@@ -6,8 +6,9 @@ worker.
 
 A path is a file, or a folder, of which each file that ends with .car is taken; workers read them
 under the same names. Without an address workers are started on this machine. A line tells the
-verdicts on each file, and why it is none from some place on; then `missing <CID>` comes for each
-root and link that leads to no verified block of any of the files. The status is 0 where all is well.
+verdicts on each file, and why it is none from some place on, or was not read. Then `missing <CID>`
+comes for each root and link that leads to no verified block of any of the files. The status is 0
+where all is well.
 
 Names never come together on one machine: those that a file holds, and those that it links to and
 does not hold, are divided into parts by a hash of the name, and what is missing is found part by
@@ -48,16 +49,20 @@ def verified(path, parts):
     """What is said of a file; and of each part its number, and the names that the file holds and
     wants."""
     report = {"path": str(path), "verdicts": {}, "refused": None}
+    found = None
     try:
         with open(path, "rb") as file:
             found = check_car(file)
     except CarError as error:
-        report["refused"] = error.kind, error.place
+        report["refused"] = f"refused {error.kind} at {error.place}"
         found = error.checked  # what stands before that place counts
+    except OSError as error:
+        report["refused"] = f"not read: {error}"
     if found is None:
         return report, []
     report["verdicts"] = found.verdicts
-    return report, list(zip(range(parts), divided(found.held, parts), divided(found.missing, parts)))
+    held, wanted = divided(found.held, parts), divided(found.missing, parts)
+    return report, list(zip(range(parts), held, wanted))
 
 
 def missing_in(group):
@@ -94,7 +99,7 @@ def is_well(report):
 def line_of(report):
     told = [f"{count} {verdict}" for verdict, count in report["verdicts"].items()] or ["no section"]
     if report["refused"]:
-        told.append("refused {} at {}".format(*report["refused"]))
+        told.append(report["refused"])
     return f"{report['path']}: {', '.join(told)}"
 
 
@@ -105,7 +110,7 @@ def files_in(path):
 def main():
     words = argparse.ArgumentParser(description=__doc__.partition("\n\n")[0])
     words.add_argument("--scheduler", help="the address of Dask's scheduler")
-    words.add_argument("--parts", type=int, default=PARTS, help="how many parts names are divided into")
+    words.add_argument("--parts", type=int, default=PARTS, help="how many parts of names there are")
     words.add_argument("paths", nargs="+", type=pathlib.Path, metavar="PATH")
     given = words.parse_args()
     paths = [file for path in given.paths for file in files_in(path)]

@@ -372,7 +372,7 @@ PyObject *check_car(PyObject *module, PyObject *given) {
 
 /* Writing */
 
-/* A section of a name and its block, where that is the block's, or cannot be said to be another's. */
+/* A section of a name and its block, where it is the block's, or cannot be said to be another's. */
 static PyObject *judged_section(State *state, const uint8_t *name, size_t length, PyObject *block) {
     uint8_t front[10];
     size_t size = length_of(block), places[3], count = put_length(front, length + size);

@@ -5,8 +5,8 @@ An answer is right, or there is no memory."""
 import io
 import sys
 
-from dagcbor import CID, DagCborError, check, check_car, dumps, links, loads, name, read_car, write_car
-from dagcbor import _native
+from dagcbor import CID, DagCborError, _native, check, check_car, dumps, links, loads, name
+from dagcbor import read_car, write_car
 from plain import same
 from plain_car import cid, header, section
 

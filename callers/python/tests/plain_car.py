@@ -91,8 +91,8 @@ def varint_at(file, at, end):
         byte = file[at + count]
         number += (byte & 127) << 7 * count
         if byte < 128:
-            is_short = byte or not count
-            return (number, at + count + 1) if is_short and number < 1 << 64 else (INVALID_LENGTH, at)
+            is_well = (byte or not count) and number < 1 << 64
+            return (number, at + count + 1) if is_well else (INVALID_LENGTH, at)
     return INVALID_LENGTH, at
 
 
@@ -141,8 +141,8 @@ def span(file):
 
 
 def read(file):
-    """The roots; of each section its name, its block and the number of its verdict; the place behind;
-    and the fault's number and place, or none."""
+    """The roots; of each section its name, its block and the number of its verdict; and the fault's
+    number and place, or none."""
     found, at = [], 0
     try:
         at, stop = span(file)
@@ -189,11 +189,12 @@ def files():
     yield header(AWAY, cid(ROOT)) + section(ROOT)
     yield header(cid(SMALL, code=0)) + section(WITHIN) + section(b"\xf6")
     yield header() + section(WITHIN) + section(SMALL, cid(SMALL, code=0))
-    yield header() + section(UNORDERED) + section(b"\xfb" + bytes(8)) + section(b"") + section(b"\xf5")
+    yield header() + b"".join(map(section, (UNORDERED, b"\xfb" + bytes(8), b"", b"\xf5")))
     yield header() + section(NUMBERS, AWAY) + section(ROOT, cid(ROOT, code=0x13)) + section(b"\x05")
     yield header() + section(b"foo", cid(b"foo", codec=0x55)) + section(b"foo", cid(b"foo")[2:])
     yield header() + section(b"", cid(b"", codec=0x55)) * 3 + section(b"", b"\x01\x71\x00\x00")
-    yield header() + section(LEAF) + section(b"\x05", b"\x01\x71\x12\x01\x05") + section(NUMBERS) * 2
+    other = section(b"\x05", b"\x01\x71\x12\x01\x05")  # a digest that is cut
+    yield header() + section(LEAF) + other + section(NUMBERS) * 2
     yield header() + section(BIG)
     yield from (plain[:it] for it in (0, 1, 40, 60, 100, len(plain) - 1))
     yield from (plain + it for it in (b"\0", b"\x80\0", b"\x04\x02\x71\0\0", b"\xff" * 9 + b"\x01"))
@@ -223,9 +224,11 @@ def row(file):
     return " ".join([*fields, joined(it.hex() for it in lost)])
 
 
+TITLE = """\
+# Files of blocks and what each caller must be told of them: the bytes in hexadecimal (or -); the
+# roots; of each section its CID, the length of its block, and the number of its verdict; the number
+# and the place of the refusal (or -); and what is missing. They are those of the format, made by
+# callers/python/tests/plain_car.py, which knows nothing of the library."""
+
 if __name__ == "__main__":
-    print("# Files of blocks and what each caller must be told of them: the bytes in hexadecimal (or -);")
-    print("# the roots; of each section its CID, the length of its block, and the number of its verdict;")
-    print("# the number and the place of the refusal (or -); and what is missing. They are those of the")
-    print("# format, made by callers/python/tests/plain_car.py, which knows nothing of the library.")
-    print(*map(row, files()), sep="\n")
+    print(TITLE, *map(row, files()), sep="\n")

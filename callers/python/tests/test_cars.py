@@ -235,7 +235,8 @@ def test_section():
     (one, other) = sections = list(read_car(PLAIN))
     assert all(isinstance(it, Section) for it in sections)
     named, block, verdict = one
-    assert (named, block, verdict) == (name(ROOT), ROOT, "ok map") == (one.cid, one.block, one.verdict)
+    assert (named, block, verdict) == (name(ROOT), ROOT, "ok map")
+    assert (one.cid, one.block, one.verdict) == one
     assert pickle.loads(pickle.dumps(other)) == other and "verdict='ok list'" in repr(other)
     with pytest.raises(AttributeError):
         one.cid = 1

@@ -124,8 +124,8 @@ fn span_of(front: &[u8]) -> Result<(u64, u64), CarRefusal> {
     }
 }
 
-/// The length of the packed roots of the header that begins the bytes, and where it ends. They stand
-/// in the room where it has place for all.
+/// The length of the packed roots of the header that begins the bytes, and where it ends. They
+/// stand in the room where it has place for all.
 fn header_of(bytes: &[u8], room: &mut [u8]) -> Result<(usize, usize), CarRefusal> {
     let (mut needed, mut behind) = (0, 0);
     match put_header(bytes, room, &mut needed, &mut behind) {
@@ -301,10 +301,10 @@ mod reading {
         }
     }
 
-    /// The sections of a file of blocks (CAR, of version 1 or 2) that is read, one behind the other.
-    /// At most one is in memory beside a piece of 64 KB, and nothing is reserved from a length that
-    /// the file announces. A refusal comes once, and nothing behind it; behind an error of the reader
-    /// the next call goes on.
+    /// The sections of a file of blocks (CAR, of version 1 or 2) that is read, one behind the
+    /// other. At most one is in memory beside a piece of 64 KB, and nothing is reserved from a
+    /// length that the file announces. A refusal comes once, and nothing behind it; behind an error
+    /// of the reader the next call goes on.
     #[derive(Debug)]
     pub struct CarReader<R> {
         reader: R,

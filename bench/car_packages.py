@@ -23,7 +23,7 @@ END = "<!-- so far, of files in packages -->\n"
 PROGRAM = ["`dagcar check`", "`dagcar list`, which hashes nothing"]
 PACKAGES = {
     "Python": ["`check_car` of an open file", "`check_car` of bytes", "`read_car` of an open file",
-               "Python, the sections alone: a loop reads lengths and bytes, and judges nothing"],
+               "the sections alone: a loop reads lengths and bytes, and judges nothing"],
     "Node": ["`checkCar` of a stream", "`checkCar` of bytes", "`CarBlockIterator` of a stream"],
 }
 told = []
@@ -48,21 +48,22 @@ def in_turn(runs, given, program, env):
 def main(words):
     runs = next((int(it) for it in words if it.isdigit()), 9)
     program = next((it for it in words if "/" in it), None) or built("dagcar", 1)
-    names = PROGRAM + PACKAGES["Python"]
+    packages = ["Python"]
     if shutil.which("node"):
         subprocess.run(["node", f"{ROOT}/callers/node/build.js"], check=True)
-        names = names + PACKAGES["Node"]
+        packages.append("Node")
+    names = PROGRAM + [f"{language}: {it}" for language in packages for it in PACKAGES[language]]
     with tempfile.TemporaryDirectory(prefix="cars-") as folder:
         given, busy = f"{folder}/records", load()
         put(given, FILE // RECORD, RECORD)
         size = os.path.getsize(given) / 1e6
         rows = list(in_turn(runs, given, program, python_package(folder)))
     least = [min(it) for it in zip(*rows)]
-    tell(f"Measured {machine()}, {busy}, processor time, the least of {runs} runs.\n")
+    tell(f"Measured {machine()}, {busy},\nprocessor time, the least of {runs} runs.\n")
     title = f"{size:.0f} MB of blocks of {RECORD} bytes, {FILE // RECORD + 1:,} sections"
     tell(f"| {title} | s | MB a second | by `dagcar check` |")
     tell("|---|---|---|---|")
-    for name, took in zip(names, least):
+    for name, took in zip(names, least, strict=True):
         tell(f"| {name} | {took:.3g} | {size / took:.0f} | {took / least[0]:.2f} |")
     if "page" in words:
         into_page(BEGIN, told, END)

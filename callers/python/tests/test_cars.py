@@ -391,6 +391,7 @@ class TestWrite:
         assert {it.cid: it.block for it in reader} == blocks
 
 
+@pytest.mark.skipif("asan" in os.environ.get("LD_PRELOAD", ""), reason="memory let go is kept there")
 def test_memory():
     """Sections of 1 MB in turn, and announced lengths: no more is taken than a section needs."""
     script = """

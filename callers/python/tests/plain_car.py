@@ -59,6 +59,8 @@ SMALL = link(AWAY_TOO)
 WITHIN = b"\x82" + link(cid(SMALL, code=0)) + link(cid(NUMBERS, code=0))
 LEAF = b"\x6dleaf of bytes"
 BIG = spelling(bytes(range(256)) * 32)
+MANY = [b"\x18" + bytes([it]) for it in range(100, 200)]
+TO_MANY = b"\x98\x66" + b"".join(link(cid(it)) for it in MANY) + link(AWAY) + link(cid(ROOT))
 
 # The number of each block of DAG-CBOR, and where its links lead.
 BLOCKS = {
@@ -69,13 +71,15 @@ BLOCKS = {
     WITHIN: (5, [cid(SMALL, code=0), cid(NUMBERS, code=0)]),
     LEAF: (3, []),
     BIG: (4, []),
+    TO_MANY: (5, [cid(it) for it in MANY] + [AWAY, cid(ROOT)]),
+    **dict.fromkeys(MANY, (2, [])),
     b"\x05": (2, []),
     b"\xf6": (0, []),
     b"\xf5": (1, []),
     b"\xfb" + bytes(8): (-5, []),
     b"": (-3, []),
 }
-HEADERS = [(), (cid(ROOT),), (AWAY, cid(ROOT)), (cid(SMALL, code=0),)]
+HEADERS = [(), (cid(ROOT),), (AWAY, cid(ROOT)), (cid(SMALL, code=0),), (cid(UNORDERED),)]
 
 
 class Fault(Exception):
@@ -196,6 +200,8 @@ def files():
     other = section(b"\x05", b"\x01\x71\x12\x01\x05")  # a digest that is cut
     yield header() + section(LEAF) + other + section(NUMBERS) * 2
     yield header() + section(BIG)
+    yield header(cid(UNORDERED)) + section(UNORDERED) + section(ROOT, cid(ROOT, codec=0x55))
+    yield header() + b"".join(map(section, MANY[:50])) + section(TO_MANY) + section(MANY[60])
     yield from (plain[:it] for it in (0, 1, 40, 60, 100, len(plain) - 1))
     yield from (plain + it for it in (b"\0", b"\x80\0", b"\x04\x02\x71\0\0", b"\xff" * 9 + b"\x01"))
     yield plain + section(b"", b"\x01\x71\x12\x41" + bytes(65))

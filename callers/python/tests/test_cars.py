@@ -315,6 +315,29 @@ def test_a_file_that_fails():
         check_car(Failing([PLAIN[:70], b"fail", PLAIN[70:]]))
 
 
+@pytest.mark.parametrize("size", [len(PLAIN), len(PLAIN) - 1])
+def test_nothing_behind_is_read(size):
+    """Of version 2, behind the file of version 1, which here may end inside a section."""
+    class Ending(Large):
+        def read(self, count):
+            piece = super().read(count)
+            assert piece, "it was read on"
+            return piece
+
+    file = second(PLAIN, size=size)
+    for cut in (20, 51, 70, len(file) - 1):
+        pieces = [file[:cut], file[cut : 51 + size]]
+        if size == len(PLAIN):
+            found = check_car(Ending(pieces))
+            assert found.verdicts == {"ok map": 1, "ok list": 1}
+            assert len(list(read_car(Ending(pieces)))) == 2
+        else:
+            for call in (check_car, lambda it: list(read_car(it))):
+                with pytest.raises(CarError) as caught:
+                    call(Ending(pieces))
+                assert caught.value.kind == "Truncated"
+
+
 def test_a_file_that_asks_back():
     class Asking(Large):
         def read(self, count):

@@ -8,7 +8,7 @@ const WINDOW = 2 << 20;
 const FIRST_HEADER = 64 << 10;
 const MOST_HEADER = 16 << 20;
 const MOST = 1 << 30;
-const FRONT = 51; // says where a file of version 1 is in one of version 2
+const FIRST_BYTES = 51; // says where a file of version 1 is in one of version 2
 const HELD = 4; // behind 01 71 00 and a byte of length, in a CID that holds a block of DAG-CBOR
 
 const read = async (file, from, length) =>
@@ -32,7 +32,7 @@ export const headerOf = async (library, file) => {
 
 // Where the file of version 1 is inside one of version 2, or null.
 export const innerOf = async (library, file) => {
-  const span = library.carSpan(await read(file, 0, FRONT));
+  const span = library.carSpan(await read(file, 0, FIRST_BYTES));
   const isInside = typeof span !== 'number' && span.begin > 0n && span.end <= BigInt(file.size);
   return isInside ? { from: Number(span.begin), end: Number(span.end) } : null;
 };

@@ -13,6 +13,7 @@ fault_name faults.InvalidLength = codes "InvalidLength"
 fault_name (faults.InvalidCid e) = codes "InvalidCid"
 fault_name (faults.NoBlock e) = codes "NoBlock"
 fault_name faults.OtherHeader = codes "OtherHeader"
+fault_name faults.InvalidOffset = codes "InvalidOffset"
 fault_name faults.OutOfMemory = codes "OutOfMemory"
 
 -- the name of the variant of a text's refusal

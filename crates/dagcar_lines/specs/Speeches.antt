@@ -4,9 +4,10 @@ use Rattle.std.specs.Prelude.{Option, Some, Result, MatchResult}
 use Rattle.std.specs.Io.KnownBytes.{Appends}
 use Rattle.std.specs.declared.convert.Infallible.{Infallible}
 use Rattle.dagcbor_heads.specs.Reading.{Reading}
-use Rattle.dagcbor_car.specs.Car.{Section, IsCar}
-use Rattle.dagcbor_car.specs.Sources.{RefusesHeader, RefusesSection}
-use Rattle.dagcbor_car.specs.Checks.{IsCarFront, IsNoCar}
+use Rattle.dagcbor_car.specs.Car.{Section}
+use Rattle.dagcbor_car.specs.Versions.{IsFile}
+use Rattle.dagcbor_car.specs.Sources.{RefusesStart, RefusesSection}
+use Rattle.dagcbor_car.specs.Checks.{IsFileFront, IsNoFile}
 use Rattle.dagcbor_car.specs.declared.error.CarError.{CarError}
 use Rattle.dagcar_lines.specs.Lines.{refused_line}
 use Rattle.dagcbor_cli.specs.declared.fault.ToolError.{ToolError}
@@ -37,7 +38,7 @@ IsSaidSoFar speech roots sections well out = (lines : List ℕ)
 pub record IsSaidOfFile (speech : Speech) (b : List ℕ) (well : Bool) (out : List ℕ) : Type 0 where
   pub roots : List (List ℕ)
   pub sections : List Section
-  pub file : IsCar b roots sections
+  pub file : IsFile b roots sections
   pub all_well : Bool
   pub said : List ℕ
   pub far : IsSaidSoFar speech roots sections all_well said
@@ -47,19 +48,19 @@ pub record IsSaidOfFile (speech : Speech) (b : List ℕ) (well : Bool) (out : Li
   pub lines : out ≡ said ++ last
   pub wellness : well ≡ (end_well && all_well)
 
--- no header stands first, and nothing was said; or the roots and all sections up to a place were
--- told where no section stands, though bytes do
+-- no file begins, and nothing was said; or the roots and all sections up to a place were told where
+-- no section stands, though bytes do, or are wanting
 abbrev pub StandsBehind : Speech → CarError Infallible → List ℕ → List ℕ → Type 0
-StandsBehind speech e b said = (RefusesHeader e b × (said ≡ []))
-    ⊎ ((roots : List (List ℕ)) × (sections : List Section) × (rest : List ℕ) × (well : Bool)
-    × IsCarFront b roots sections rest × IsSaidSoFar speech roots sections well said
-    × RefusesSection e rest)
+StandsBehind speech e b said = (RefusesStart e b × (said ≡ []))
+    ⊎ ((roots : List (List ℕ)) × (sections : List Section) × (n : ℕ) × (rest : List ℕ)
+    × (well : Bool) × IsFileFront b roots sections n rest
+    × IsSaidSoFar speech roots sections well said × RefusesSection n e rest)
 
 -- what is said of bytes that are no file: what stands in front of the fault, and a line for it
 pub record IsSaidOfNone (speech : Speech) (b : List ℕ) (out : List ℕ) : Type 0 where
   pub error : CarError Infallible
   pub said : List ℕ
-  pub none : IsNoCar b
+  pub none : IsNoFile b
   pub stands : StandsBehind speech error b said
   pub lines : out ≡ said ++ refused_line error
 
@@ -71,8 +72,9 @@ IsSaidOf speech b well out = IsSaidOfFile speech b well out
 -- what is said of the roots and of the first sections of a file, or nothing
 abbrev pub AreFirstLines : Speech → List ℕ → List ℕ → Type 0
 AreFirstLines speech b out = (out ≡ [])
-    ⊎ ((roots : List (List ℕ)) × (sections : List Section) × (rest : List ℕ) × (well : Bool)
-    × IsCarFront b roots sections rest × IsSaidSoFar speech roots sections well out)
+    ⊎ ((roots : List (List ℕ)) × (sections : List Section) × (n : ℕ) × (rest : List ℕ)
+    × (well : Bool) × IsFileFront b roots sections n rest
+    × IsSaidSoFar speech roots sections well out)
 
 -- these lines are the first, or all that is said
 abbrev pub AreLines : Speech → List ℕ → List ℕ → Type 0

@@ -5,9 +5,9 @@ use Rattle.std.specs.Io.KnownBytes.{Appends}
 use Rattle.std.specs.declared.alloc.Global.{Global}
 use Rattle.std.specs.declared.convert.Infallible.{Infallible}
 use Rattle.dagcbor_heads.specs.Reading.{Reading}
-use Rattle.dagcbor_heads.specs.Fronts.{FindsEnd}
 use Rattle.dagcbor_car.specs.Car.{Section}
-use Rattle.dagcbor_car.specs.Sources.{RefusesSection, TakesHeader, TakesSectionBytes}
+use Rattle.dagcbor_car.specs.Extents.{EndsThere}
+use Rattle.dagcbor_car.specs.Sources.{RefusesNext, TakesStart, TakesSectionBytes}
 use Rattle.dagcbor_car.specs.declared.error.CarError.{CarError}
 use Rattle.dagcbor_car.specs.declared.error.CarError.TheVariants as faults
 use Rattle.dagcar_lines.specs.Lines.{refused_line, BreaksLine, Says}
@@ -52,33 +52,37 @@ SaysRefusal error before result after = MatchResult result
     (λ e. BreaksLine (λ text. IsOfBytes error × (text ≡ refused_line error)) before after e)
 
 -- the known bytes are refused so
-abbrev pub IsRefused : Reading → CarError Infallible → Type 0
-IsRefused source error = (b : List ℕ) → source.left ≡ Some b → RefusesSection error b
+abbrev pub IsRefused : Option ℕ → Reading → CarError Infallible → Type 0
+IsRefused extent source error = (b : List ℕ) → source.left ≡ Some b → RefusesNext extent error b
 
 -- the line of what stands next: a section, or none for this cause
-abbrev pub IsNextLine : Speech → Reading → List ℕ → Type 0
-IsNextLine speech source text =
-    ((s : Section) × (behind : Reading) × TakesSectionBytes source s behind
+abbrev pub IsNextLine : Speech → Option ℕ → Reading → List ℕ → Type 0
+IsNextLine speech extent source text =
+    ((s : Section) × (more : Option ℕ) × (behind : Reading)
+    × TakesSectionBytes extent source s more behind
     × ((well : Bool) × speech.of_section s well text))
-    ⊎ ((error : CarError Infallible) × IsRefused source error × (text ≡ refused_line error))
+    ⊎ ((error : CarError Infallible) × IsRefused extent source error × (text ≡ refused_line error))
 
 -- what was found next, and its line went out
 abbrev pub SaysFound : {T : Type 0} → Speech → (T → List (List ℕ) → List Section → Type 0)
-    → Reading → T → Option (List ℕ) → Found → Reading → T → Option (List ℕ) → Type 0
-SaysFound speech knows source old before (found.Section well) behind new after =
-    (s : Section) × TakesSectionBytes source s behind × KnowsMore knows s old new
+    → Option ℕ → Reading → T → Option (List ℕ) → Found → Option ℕ → Reading → T
+    → Option (List ℕ) → Type 0
+SaysFound speech knows extent source old before (found.Section well) more behind new after =
+    (s : Section) × TakesSectionBytes extent source s more behind × KnowsMore knows s old new
     × ((text : List ℕ) × speech.of_section s well text × Appends before after text)
-SaysFound speech knows source old before found.End behind new after = FindsEnd source behind
-    × (new ≡ old) × (after ≡ before)
-SaysFound speech knows source old before found.Fault behind new after =
-    (error : CarError Infallible) × IsRefused source error × Appends before after (refused_line error)
+SaysFound speech knows extent source old before found.End more behind new after =
+    EndsThere extent source more behind × (new ≡ old) × (after ≡ before)
+SaysFound speech knows extent source old before found.Fault more behind new after =
+    (error : CarError Infallible) × IsRefused extent source error
+    × Appends before after (refused_line error)
 
 -- What stands next in a file is said in a line, or a line broke off.
 abbrev pub SaysNext : {T : Type 0} → Speech → (T → List (List ℕ) → List Section → Type 0)
-    → Reading → T → Option (List ℕ) → Result Found ToolError → Reading → T → Option (List ℕ) → Type 0
-SaysNext speech knows source old before result behind new after = MatchResult result
-    (λ next. SaysFound speech knows source old before next behind new after)
-    (λ e. BreaksLine (IsNextLine speech source) before after e)
+    → Option ℕ → Reading → T → Option (List ℕ) → Result Found ToolError → Option ℕ → Reading → T
+    → Option (List ℕ) → Type 0
+SaysNext speech knows extent source old before result more behind new after = MatchResult result
+    (λ next. SaysFound speech knows extent source old before next more behind new after)
+    (λ e. BreaksLine (IsNextLine speech extent source) before after e)
 
 -- ---- the whole
 
@@ -90,15 +94,16 @@ SaysEnd speech knows teller before result after = (roots : List (List ℕ)) (sec
 
 -- all is said of a file behind its header, of whose roots it was said before
 abbrev pub SaysSections : {T : Type 0} → Speech → (T → List (List ℕ) → List Section → Type 0)
-    → Reading → T → Option (List ℕ) → Result Bool ToolError → Option (List ℕ) → Type 0
-SaysSections speech knows source teller before result after =
+    → Option ℕ → Reading → T → Option (List ℕ) → Result Bool ToolError → Option (List ℕ) → Type 0
+SaysSections speech knows extent source teller before result after =
     (start : Reading) (roots : List (List ℕ)) (old : Option (List ℕ))
-    → TakesHeader start roots source → knows teller roots [] → Appends old before (speech.of_roots roots)
+    → TakesStart start roots extent source → knows teller roots [] → Appends old before (speech.of_roots roots)
     → SaysFile speech start old result after
 
 -- the same, where nothing was said of its roots yet
 abbrev pub SaysHeader : {T : Type 0} → Speech → (T → List (List ℕ) → List Section → Type 0)
-    → Reading → List ℕ → T → Option (List ℕ) → Result Bool ToolError → Option (List ℕ) → Type 0
-SaysHeader speech knows source text teller old result new =
-    (start : Reading) (roots : List (List ℕ)) → TakesHeader start roots source
+    → Option ℕ → Reading → List ℕ → T → Option (List ℕ) → Result Bool ToolError
+    → Option (List ℕ) → Type 0
+SaysHeader speech knows extent source text teller old result new =
+    (start : Reading) (roots : List (List ℕ)) → TakesStart start roots extent source
     → knows teller roots [] → text ≡ speech.of_roots roots → SaysFile speech start old result new

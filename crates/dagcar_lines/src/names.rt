@@ -17,6 +17,7 @@ pub fn fault_name<E>(refusal: &CarError<E>) -> &'static str
         CarError::InvalidCid(_) => "InvalidCid",
         CarError::NoBlock(_) => "NoBlock",
         CarError::OtherHeader => "OtherHeader",
+        CarError::InvalidOffset => "InvalidOffset",
         CarError::OutOfMemory => "OutOfMemory",
     }
 }

@@ -92,13 +92,14 @@ fn say_next<'de, T: Teller, R: Read, W: Write>(
     alloc: Global,
     teller: &mut T,
     input: &mut Input<'de, R>,
+    left: &mut Option<u64>,
     output: &mut W,
 ) -> Result<Found, ToolError>
-    ensures { SaysNext T.speech T.knows
-        (input_reading R.reading input.old) teller.old (W.contents output.old) result
+    ensures { SaysNext T.speech T.knows left.old
+        (input_reading R.reading input.old) teller.old (W.contents output.old) result left.new
         (input_reading R.reading input.new) teller.new (W.contents output.new) }
 {
-    match pull_section(alloc, input) {
+    match pull_section(alloc, input, left) {
         Ok(Some(section)) => match say_section(alloc, teller, &section.section(), output) {
             Ok(well) => Ok(Found::Section(well)),
             Err(fault) => Err(fault),
@@ -129,19 +130,21 @@ fn both(one: bool, other: bool) -> bool
     one && other
 }
 
-/// Says what is behind the header. Whether nothing is wrong.
+/// Says what is behind the header, of so much of the file. Whether nothing is wrong.
 fn say_sections<'de, T: Teller, R: Read, W: Write>(
     alloc: Global,
     mut teller: T,
     input: &mut Input<'de, R>,
+    extent: Option<u64>,
     output: &mut W,
 ) -> Result<bool, ToolError>
-    ensures { SaysSections T.speech T.knows (input_reading R.reading input.old) teller
+    ensures { SaysSections T.speech T.knows extent (input_reading R.reading input.old) teller
         (W.contents output.old) result (W.contents output.new) }
 {
+    let mut left = extent;
     let mut well = true;
     for _ in 0..u64::MAX {
-        match say_next(alloc, &mut teller, input, output) {
+        match say_next(alloc, &mut teller, input, &mut left, output) {
             Ok(Found::Section(is_well)) => well = both(well, is_well),
             Ok(Found::End) => {
                 return match say_end(alloc, teller, output) {
@@ -162,13 +165,14 @@ fn say_header<'de, T: Teller, R: Read, W: Write>(
     teller: T,
     of_roots: &[u8],
     input: &mut Input<'de, R>,
+    extent: Option<u64>,
     output: &mut W,
 ) -> Result<bool, ToolError>
-    ensures { SaysHeader T.speech T.knows (input_reading R.reading input.old) of_roots.now teller
+    ensures { SaysHeader T.speech T.knows extent (input_reading R.reading input.old) of_roots.now teller
         (W.contents output.old) result (W.contents output.new) }
 {
     write_all(output, of_roots)?;
-    say_sections(alloc, teller, input, output)
+    say_sections(alloc, teller, input, extent, output)
 }
 
 /// Writes what the teller says of the file, and where it is refused why, in a line. Whether nothing
@@ -182,8 +186,10 @@ pub fn say_file<'de, T: Teller, R: Read, W: Write>(
         (W.contents output.new) }
 {
     match pull_header(alloc, input) {
-        Ok(roots) => match T::begin(alloc, &roots) {
-            Ok((teller, of_roots)) => say_header(alloc, teller, &of_roots, input, output),
+        Ok((roots, extent)) => match T::begin(alloc, &roots) {
+            Ok((teller, of_roots)) => {
+                say_header(alloc, teller, &of_roots, input, extent, output)
+            }
             Err(_) => Err(ToolError::OutOfMemory),
         },
         Err(error) => match say_refusal(alloc, error, output) {

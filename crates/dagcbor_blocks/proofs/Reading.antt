@@ -1,19 +1,20 @@
 -- A file that is read into a store, section by section.
-use Rattle.std.proofs.Common.{◌≡◌, ◌⊎◌, inl, inr, ℕ, List, [], ◌∷◌, ◌++◌, sym, ap, ◌∙◌, subst, append_assoc, append-nil}
-use Rattle.std.specs.Prelude.{Some, Err}
-use Rattle.std.specs.List.{AllByRecursion, flat_map}
-use Rattle.dagcbor_heads.proofs.Taking.{stays_both, takes_both}
-use Rattle.serde_ipld_dagcbor.specs.Reading.{Reading}
-use Rattle.serde_ipld_dagcbor.specs.Fronts.{FindsEnd, Takes}
-use Rattle.dagcbor_car.specs.Car.{header_bytes, Section, section_bytes, car_bytes, IsSection}
+use Rattle.std.proofs.Common.{◌≡◌, ◌⊎◌, inl, inr, ℕ, List, [], ◌∷◌, ◌++◌, sym, subst}
+use Rattle.std.specs.Prelude.{Option, Some, Err}
+use Rattle.std.specs.List.{AllByRecursion}
+use Rattle.dagcbor_heads.proofs.Taking.{stays_both}
+use Rattle.serde_ipld_dagcbor.specs.Reading.{Reading, Stays}
+use Rattle.dagcbor_car.specs.Car.{Section}
+use Rattle.dagcbor_car.specs.Extents.{EndsThere}
 use Rattle.dagcbor_car.specs.Sets.{Among}
-use Rattle.dagcbor_car.specs.Sources.{CarRefuses, LacksMemoryIf, TakesHeader, TakesSectionBytes}
+use Rattle.dagcbor_car.specs.Sources.{CarRefuses, LacksMemoryIf, TakesStart, TakesSectionBytes}
 use Rattle.dagcbor_car.specs.declared.error.CarError.{CarError}
 use Rattle.dagcbor_car.specs.declared.error.CarError.TheVariants.{OutOfMemory}
 use Rattle.dagcbor_blocks.specs.declared.car_error.ReadCarError.{ReadCarError}
 use Rattle.dagcbor_blocks.specs.Blocks.{Held, block_at, HoldsAlso}
-use Rattle.dagcbor_blocks.specs.Cars.{IsNamedBlock, TellsOfFile, FileRefused, IsReadTo, TakesCar, KeepsAll, StopsAt, ReadRefused}
+use Rattle.dagcbor_blocks.specs.Cars.{IsNamedBlock, TellsOfFile, FileRefused, IsReadTo, KeepsAll, StopsAt, ReadRefused}
 use Rattle.dagcbor_car.proofs.Members.{among_push, push_among}
+use Rattle.dagcbor_car.proofs.Places.{IsPlace, place_begun, place_more, place_front, place_whole, place_end, ended, ends_same}
 
 -- ---- what is held
 
@@ -41,50 +42,54 @@ also_more old mid new these s h k q b = (λ e. there ((k q b).0 e), back)
 
 -- ---- how far a file was read
 
-all_push : (P : Section → Type 0) (ss : List Section) (s : Section) → AllByRecursion P ss → P s → AllByRecursion P (ss ++ s ∷ [])
-all_push P [] s h p = (p, tt)
-all_push P (x ∷ ss) s h p = (h.0, all_push P ss s h.1 p)
+named_push : (ss : List Section) (s : Section) → AllByRecursion IsNamedBlock ss → IsNamedBlock s → AllByRecursion IsNamedBlock (ss ++ s ∷ [])
+named_push [] s h p = (p, tt)
+named_push (x ∷ ss) s h p = (h.0, named_push ss s h.1 p)
 
-flat_push : (ss : List Section) (s : Section) → flat_map section_bytes (ss ++ s ∷ []) ≡ flat_map section_bytes ss ++ section_bytes s
-flat_push [] s = append-nil (section_bytes s)
-flat_push (x ∷ ss) s = ap (λ more. section_bytes x ++ more) (flat_push ss s) ∙ sym (append_assoc (section_bytes x) (flat_map section_bytes ss) (section_bytes s))
+-- so many sections were taken, and kept
+pub record IsReadAt (roots : List (List ℕ)) (sections : List Section) (old : Reading) (before : Held) (extent : Option ℕ) (now : Reading) (after : Held) : Type 0 where
+  pub known : (b : List ℕ) → old.left ≡ Some b → (rest : List ℕ) × (now.left ≡ Some rest) × IsPlace b roots sections extent rest
+  pub same : Stays old now
+  pub blocks : AllByRecursion IsNamedBlock sections
+  pub holds : HoldsAlso before sections after
 
-pub read_begun : (roots : List (List ℕ)) (old now : Reading) (blocks : Held) → TakesHeader old roots now → IsReadTo roots [] old blocks now blocks
-read_begun roots old now blocks h = record {
-  header = h.0;
-  all = tt;
-  takes = subst (λ b. Takes old b now) (sym (append-nil (header_bytes roots))) h.1;
+pub read_to : {roots : List (List ℕ)} {ss : List Section} {old : Reading} {before : Held} {extent : Option ℕ} {now : Reading} {after : Held} → IsReadAt roots ss old before extent now after → IsReadTo roots ss old before extent now after
+read_to {roots} {ss} {old} {before} {extent} {now} {after} h = record {
+  known = λ b l. let k = h.known b l in (k.0, k.1, place_front b k.0 roots ss extent k.2);
+  same = h.same;
+  blocks = h.blocks;
+  holds = h.holds;
+}
+
+pub read_begun : (roots : List (List ℕ)) (extent : Option ℕ) (old now : Reading) (blocks : Held) → TakesStart old roots extent now → IsReadAt roots [] old blocks extent now blocks
+read_begun roots extent old now blocks h = record {
+  known = λ b l. let w = h.takes.taken b l in (w.0, w.2, subst (λ x. IsPlace x roots [] extent w.0) (sym w.1) (place_begun h.front w.0 roots extent h.header h.start));
+  same = h.takes.same;
   blocks = tt;
   holds = also_none blocks;
 }
 
-pub read_more : (roots : List (List ℕ)) (ss : List Section) (s : Section) (old mid now : Reading) (before held after : Held) → IsReadTo roots ss old before mid held → TakesSectionBytes mid s now → IsNamedBlock s → HoldsAlso held (s ∷ []) after
-    → IsReadTo roots (ss ++ s ∷ []) old before now after
-read_more roots ss s old mid now before held after h k named also = record {
-  header = h.header;
-  all = all_push IsSection ss s h.all k.0;
-  takes =
-      let bytes = append_assoc (header_bytes roots) (flat_map section_bytes ss) (section_bytes s) ∙ ap (λ x. header_bytes roots ++ x) (sym (flat_push ss s)) in
-      subst (λ b. Takes old b now) bytes (takes_both h.takes k.1);
-  blocks = all_push IsNamedBlock ss s h.blocks named;
+pub read_more : (roots : List (List ℕ)) (ss : List Section) (s : Section) (extent more : Option ℕ) (old mid now : Reading) (before held after : Held) → IsReadAt roots ss old before extent mid held → TakesSectionBytes extent mid s more now → IsNamedBlock s → HoldsAlso held (s ∷ []) after
+    → IsReadAt roots (ss ++ s ∷ []) old before more now after
+read_more roots ss s extent more old mid now before held after h k named also = record {
+  known = λ b l.
+      let far = h.known b l in
+      let w = k.1.takes.taken far.0 far.1 in
+      (w.0, w.2, place_more b w.0 roots ss extent more s (subst (λ x. IsPlace b roots ss extent x) w.1 far.2) k.0 k.1.spends);
+  same = stays_both h.same k.1.takes.same;
+  blocks = named_push ss s h.blocks named;
   holds = also_more before held after ss s h.holds also;
 }
 
-pub read_whole : (roots : List (List ℕ)) (ss : List Section) (old mid new : Reading) (before held after : Held) → IsReadTo roots ss old before mid held → FindsEnd mid new → after ≡ held → KeepsAll roots ss old before new after
-read_whole roots ss old mid new before held after h end same = record {
-  is_car = taken;
-  same = stays_both h.takes.same end.same;
+pub read_whole : (roots : List (List ℕ)) (ss : List Section) (extent more : Option ℕ) (old mid new : Reading) (before held after : Held) → IsReadAt roots ss old before extent mid held → EndsThere extent mid more new → after ≡ held → KeepsAll roots ss old before new after
+read_whole roots ss extent more old mid new before held after h end same = record {
+  is_car = λ b l.
+      let k = h.known b l in
+      (place_whole b k.0 roots ss extent more mid new k.2 end k.1, (k.0, place_end b k.0 roots ss extent more mid new k.2 end k.1, (ended extent more mid new k.0 end k.1).2));
+  same = stays_both h.same (ends_same extent more mid new end);
   blocks = h.blocks;
   holds = subst (λ blocks. HoldsAlso before ss blocks) (sym same) h.holds;
 }
-  where
-    taken : TakesCar old roots ss new
-    taken b l =
-        let w = h.takes.taken b l in
-        let none = end.none_left w.0 w.2 in (
-          record { header = h.header; all = h.all; is = w.1 ∙ ap (λ r. car_bytes roots ss ++ r) none ∙ append-nil (car_bytes roots ss) },
-          end.kept w.0 w.2 ∙ ap Some none,
-        )
 
 -- ---- refusals
 
@@ -95,5 +100,5 @@ lacks_alike T P e l = tt
 pub file_refused : {E : Type 0} (T : Type 0) (stands : CarError E → List ℕ → Type 0) (lacks : Type 0) (e : CarError E) (told : ReadCarError E) (old new : Reading) → TellsOfFile e told → CarRefuses stands old e new → LacksMemoryIf {T = T} lacks (Err e) → FileRefused stands lacks old told new
 file_refused T stands lacks e told old new tells refused memory = (e, tells, refused, lacks_alike T lacks e memory)
 
-pub stopped : {E : Type 0} (roots : List (List ℕ)) (ss : List Section) (old mid new : Reading) (before held after : Held) (e : ReadCarError E) → IsReadTo roots ss old before mid held → (after ≡ held) × StopsAt mid held e new → ReadRefused old before e new after
-stopped roots ss old mid new before held after e h k = inr (roots, ss, mid, subst (λ (x : Held). IsReadTo roots ss old before mid x) (sym k.0) h, inl (subst (λ (x : Held). StopsAt mid x e new) (sym k.0) k.1))
+pub stopped : {E : Type 0} (roots : List (List ℕ)) (ss : List Section) (extent : Option ℕ) (old mid new : Reading) (before held after : Held) (e : ReadCarError E) → IsReadAt roots ss old before extent mid held → (after ≡ held) × StopsAt extent mid held e new → ReadRefused old before e new after
+stopped roots ss extent old mid new before held after e h k = inr (roots, ss, extent, mid, subst (λ (x : Held). IsReadTo roots ss old before extent mid x) (sym k.0) (read_to h), inl (subst (λ (x : Held). StopsAt extent mid x e new) (sym k.0) k.1))

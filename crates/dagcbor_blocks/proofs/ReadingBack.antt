@@ -17,13 +17,16 @@ use Rattle.sha2.proofs.Facts256.{length-sha256}
 use Rattle.dagcbor_car.specs.Names.{IsBySha256, block_name}
 use Rattle.dagcbor_car.specs.Car.{Section, header_bytes, section_bytes, IsSection, IsCar}
 use Rattle.dagcbor_car.specs.Splits.{HasBlock}
-use Rattle.dagcbor_car.specs.Laws.{CarsAreUnique}
+use Rattle.dagcbor_car.specs.Extents.{within, wanting}
+use Rattle.dagcbor_car.specs.Laws.{FilesAreUnique}
 use Rattle.dagcbor_car.specs.Sets.{Among}
-use Rattle.dagcbor_car.specs.Sources.{CarRefuses, RefusesHeader, RefusesSection}
+use Rattle.dagcbor_car.specs.Sources.{CarRefuses, RefusesStart, RefusesNext}
 use Rattle.dagcbor_car.specs.declared.error.CarError.{CarError}
 use Rattle.dagcbor_car.specs.declared.error.CarError.TheVariants as car
 use Rattle.dagcbor_car.proofs.Cars.{section_unique, section_some, header_unique}
-use Rattle.dagcbor_car.proofs.Files.{others_behind}
+use Rattle.dagcbor_car.proofs.Places.{others_behind, no_file}
+use Rattle.dagcbor_car.proofs.Spending.{within_behind}
+use Rattle.dagcbor_car.proofs.Starting.{holds_one, file_of_car}
 use Rattle.dagcbor_blocks.specs.Blocks.{Held, block_at, HoldsAlso, HoldsOther, FindsMembers}
 use Rattle.dagcbor_blocks.specs.Sound.{IsSound}
 use Rattle.dagcbor_blocks.specs.Cars.{IsNamedBlock, SectionRefused, TellsOfFile, StopsAt, ReadRefused}
@@ -108,9 +111,9 @@ told_for_memory stands old new b roots blocks after l never car.OutOfMemory e te
 told_for_memory stands old new b roots blocks after l never c e tells r = absurd (never c (r.1 b l))
 
 -- where sections are left, one stands first
-never_no_section : (rest : List ℕ) (more : List Section) → AllByRecursion IsSection more → rest ≡ flat_map section_bytes more → (c : CarError Infallible) → RefusesSection c rest → ⊥
-never_no_section rest [] all is c r = omega (arith, r.0, ap length is)
-never_no_section rest (s ∷ more) all is c r = r.1 s (flat_map section_bytes more) (all.0, is)
+never_no_section : (rest : List ℕ) (extent : Option ℕ) (more : List Section) → AllByRecursion IsSection more → wanting extent rest ≡ 0 → within extent rest ≡ flat_map section_bytes more → (c : CarError Infallible) → RefusesNext extent c rest → ⊥
+never_no_section rest extent [] all none is c r = omega (arith, r.0, none, ap length is)
+never_no_section rest extent (s ∷ more) all none is c r = r.1 s (flat_map section_bytes more) (all.0, is)
 
 -- a section that stands first is the next
 next_among : (rest behind : List ℕ) (ss more blocks : List Section) (s : Section) → AllByRecursion IsSection more → rest ≡ flat_map section_bytes more → blocks ≡ ss ++ more → IsSection s → rest ≡ section_bytes s ++ behind → Among s blocks
@@ -120,25 +123,30 @@ next_among rest behind ss (t ∷ more) blocks s all is whole own first =
     subst (Among s) (sym whole) (subst (λ x. Among s (ss ++ x ∷ more)) same.0 (among_mid ss s more))
 
 module _ (es : List BlockEntry) (finds : FindsMembers (shown es)) (sound : ∥ AllByRecursion IsSound es ∥₁) (b : List ℕ) (roots : List (List ℕ)) (old new : Reading) (after : Held) (file : IsCar b roots (shown es)) (l : old.left ≡ Some b) where
-  stops_for_memory : (others : List (List ℕ)) (ss more : List Section) (mid : Reading) (rest : List ℕ) (e : ReadCarError Infallible) → HoldsAlso [] ss after → AllByRecursion IsSection more → rest ≡ flat_map section_bytes more → shown es ≡ ss ++ more → mid.left ≡ Some rest
-      → StopsAt mid after e new → IsReadBack roots (shown es) (Err e) after
-  stops_for_memory others ss more mid rest e holds all is whole left (inl f) = told_for_memory RefusesSection mid new rest roots (shown es) after left (never_no_section rest more all is) f.0 e f.1 f.2
-  stops_for_memory others ss more mid rest e holds all is whole left (inr t) =
-      let w = t.1.1.taken rest left in
-      let m = next_among rest w.0 ss more (shown es) t.0 all is whole t.1.0 w.1 in
-      for_memory roots (shown es) ss after t.0 finds m (λ x n. subst (Among x) (sym whole) (among_left x ss more n)) holds (∥∥₁_map sound (λ k. held_named es t.0 k m)) e t.2
+  stops_for_memory : (others : List (List ℕ)) (ss more : List Section) (extent : Option ℕ) (mid : Reading) (rest : List ℕ) (e : ReadCarError Infallible) → HoldsAlso [] ss after → AllByRecursion IsSection more → wanting extent rest ≡ 0 → within extent rest ≡ flat_map section_bytes more → shown es ≡ ss ++ more → mid.left ≡ Some rest
+      → StopsAt extent mid after e new → IsReadBack roots (shown es) (Err e) after
+  stops_for_memory others ss more extent mid rest e holds all none is whole left (inl f) = told_for_memory (RefusesNext extent) mid new rest roots (shown es) after left (never_no_section rest extent more all none is) f.0 e f.1 f.2
+  stops_for_memory others ss more extent mid rest e holds all none is whole left (inr t) =
+      let w = t.2.1.takes.taken rest left in
+      let first = ap (within extent) w.1 ∙ within_behind extent t.1 (section_bytes t.0) w.0 t.2.1.spends in
+      let m = next_among (within extent rest) (within t.1 w.0) ss more (shown es) t.0 all is whole t.2.0 first in
+      for_memory roots (shown es) ss after t.0 finds m (λ x n. subst (Among x) (sym whole) (among_left x ss more n)) holds (∥∥₁_map sound (λ k. held_named es t.0 k m)) e t.3
 
   refused_for_memory : (e : ReadCarError Infallible) → ReadRefused old [] e new after → IsReadBack roots (shown es) (Err e) after
-  refused_for_memory e (inl h) = told_for_memory RefusesHeader old new b roots (shown es) after l (λ c r. r.0 roots (flat_map section_bytes (shown es)) (file.header, file.is)) h.0.0 e h.0.1 h.0.2
-  refused_for_memory e (inr (others, ss, mid, to, inr many)) = subst (λ (x : ReadCarError Infallible). IsReadBack roots (shown es) (Err x) after) (sym many.1.0) tt
-  refused_for_memory e (inr (others, ss, mid, to, inl stops)) =
-      let w = to.takes.taken b l in
-      let same = header_unique others roots (flat_map section_bytes ss ++ w.0) (flat_map section_bytes (shown es)) to.header file.header (sym (append_assoc (header_bytes others) (flat_map section_bytes ss) w.0) ∙ sym w.1 ∙ file.is) in
-      let o = others_behind ss (shown es) w.0 to.all file.all same.1 in
-      stops_for_memory others ss o.0 mid w.0 e to.holds o.1 o.2 o.3 w.2 stops
+  refused_for_memory e (inl h) = told_for_memory RefusesStart old new b roots (shown es) after l (λ c r. no_file c b r roots (shown es) (file_of_car b roots (shown es) file)) h.0.0 e h.0.1 h.0.2
+  refused_for_memory e (inr (others, ss, extent, mid, to, inr many)) = subst (λ (x : ReadCarError Infallible). IsReadBack roots (shown es) (Err x) after) (sym many.1.0) tt
+  refused_for_memory e (inr (others, ss, extent, mid, to, inl stops)) =
+      let k = to.known b l in
+      let whole = file_of_car b roots (shown es) file in
+      let one = holds_one b k.2.0 whole.0 (wanting extent k.0) 0 k.2.1 whole.1 in
+      let front = k.2.2 in
+      let bytes = sym (append_assoc (header_bytes others) (flat_map section_bytes ss) (within extent k.0)) ∙ sym front.is ∙ one.0 ∙ file.is in
+      let same = header_unique others roots (flat_map section_bytes ss ++ within extent k.0) (flat_map section_bytes (shown es)) front.header file.header bytes in
+      let o = others_behind ss (shown es) (within extent k.0) front.all file.all same.1 in
+      stops_for_memory others ss o.0 extent mid k.0 e to.holds o.1 one.1 o.2 o.3 k.1 stops
 
-pub reads_back : CarsAreUnique → (es : List BlockEntry) → IsStrictlySortedBy cid_cmp (keys_of es) → ∥ AllByRecursion IsSound es ∥₁ → WrittenThenRead (shown es)
+pub reads_back : FilesAreUnique → (es : List BlockEntry) → IsStrictlySortedBy cid_cmp (keys_of es) → ∥ AllByRecursion IsSound es ∥₁ → WrittenThenRead (shown es)
 reads_back law es sorted sound b roots old new after (Ok v) file l h =
-    let same = law b (forms v.items) roots h.0 (shown es) (h.1.is_car b l).0 file in
+    let same = law b (forms v.items) roots h.0 (shown es) (h.1.is_car b l).0 (file_of_car b roots (shown es) file) in
     (same.0, same_held (shown es) after (finds_members es sorted) (subst (λ ss. HoldsAlso [] ss after) same.1 h.1.holds))
 reads_back law es sorted sound b roots old new after (Err e) file l h = refused_for_memory es (finds_members es sorted) sound b roots old new after file l e h

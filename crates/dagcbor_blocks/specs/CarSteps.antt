@@ -1,8 +1,8 @@
 -- What the steps of reading a file into a store do.
-use Rattle.std.specs.Prelude.{◌≡◌, [], ◌∷◌, Bool, Result, MatchResult, MatchBool}
+use Rattle.std.specs.Prelude.{◌≡◌, ℕ, [], ◌∷◌, Bool, Option, Result, MatchResult, MatchBool}
 use Rattle.serde_ipld_dagcbor.specs.Reading.{Reading}
-use Rattle.serde_ipld_dagcbor.specs.Fronts.{FindsEnd}
 use Rattle.dagcbor_car.specs.Car.{Section}
+use Rattle.dagcbor_car.specs.Extents.{EndsThere}
 use Rattle.dagcbor_car.specs.Sources.{TakesSectionBytes}
 use Rattle.dagcbor_blocks.specs.Blocks.{Held, HoldsAlso}
 use Rattle.dagcbor_blocks.specs.Cars.{IsNamedBlock, SectionRefused, StopsAt}
@@ -17,10 +17,11 @@ KeepsSection s old result new = MatchResult result
 
 -- The section at the front is taken, and its block is kept; or the end is found. A refusal keeps
 -- nothing.
-abbrev pub KeepsNext : {E : Type 0} → Reading → Held → Result Bool (ReadCarError E) → Reading → Held
-    → Type 0
-KeepsNext old before result new after = MatchResult result
+abbrev pub KeepsNext : {E : Type 0} → Option ℕ → Reading → Held → Result Bool (ReadCarError E)
+    → Option ℕ → Reading → Held → Type 0
+KeepsNext extent old before result rest new after = MatchResult result
     (λ more. MatchBool more
-    ((s : Section) × TakesSectionBytes old s new × IsNamedBlock s × HoldsAlso before (s ∷ []) after)
-    (FindsEnd old new × (after ≡ before)))
-    (λ e. (after ≡ before) × StopsAt old before e new)
+    ((s : Section) × TakesSectionBytes extent old s rest new × IsNamedBlock s
+    × HoldsAlso before (s ∷ []) after)
+    (EndsThere extent old rest new × (after ≡ before)))
+    (λ e. (after ≡ before) × StopsAt extent old before e new)

@@ -1,17 +1,19 @@
 -- What is read into a store from a file of blocks.
-use Rattle.std.specs.Prelude.{◌≡◌, ◌⊎◌, ℕ, ◌-◌, ◌^◌, List, [], length, Some}
+use Rattle.std.specs.Prelude.{◌≡◌, ◌⊎◌, ℕ, ◌-◌, ◌^◌, List, [], length, Option, Some}
 use Rattle.std.specs.Prelude.{Result, Err, MatchResult, Vec}
 use Rattle.std.specs.List.{AllByRecursion}
 use Rattle.std.specs.declared.alloc.Global.{Global}
 use Rattle.serde_ipld_dagcbor.specs.Reading.{Reading, Stays}
-use Rattle.serde_ipld_dagcbor.specs.Fronts.{Takes}
 use Rattle.serde_ipld_dagcbor.specs.Cid.{CidParts}
 use Rattle.serde_ipld_dagcbor.specs.Walks.{forms}
 use Rattle.dagcbor_car.specs.Names.{IsBySha256, block_name}
-use Rattle.dagcbor_car.specs.Car.{Section, IsHeader, IsSection, car_bytes, IsCar}
+use Rattle.dagcbor_car.specs.Car.{Section}
+use Rattle.dagcbor_car.specs.Versions.{IsFile}
+use Rattle.dagcbor_car.specs.Extents.{within, wanting, of_file}
 use Rattle.dagcbor_car.specs.Splits.{HasBlock}
-use Rattle.dagcbor_car.specs.Sources.{CarRefuses, RefusesHeader, RefusesSection, TakesSectionBytes}
-use Rattle.dagcbor_car.specs.Sources.{LacksMemoryIf, HeaderLacks, SectionLacks}
+use Rattle.dagcbor_car.specs.Sources.{CarRefuses, RefusesStart, RefusesNext, TakesSectionBytes}
+use Rattle.dagcbor_car.specs.Sources.{LacksMemoryIf, FileLacks, SectionLacks}
+use Rattle.dagcbor_car.specs.Checks.{IsFileFront, StandBehind}
 use Rattle.dagcbor_car.specs.Verdicts.{IsVerdict}
 use Rattle.dagcbor_car.specs.declared.verdict.Verdict.TheVariants as verdict
 use Rattle.dagcbor_car.specs.declared.error.CarError.{CarError}
@@ -59,20 +61,21 @@ FileRefused stands lacks old told new = (e : CarError _) × TellsOfFile e told
 
 -- ---- the file
 
--- the header of these roots and these sections stood first, and were taken; the sections are blocks
--- under their names, and what is held is what was held, and these
+-- the header of these roots and these sections stood first in a file, and were taken, and so much of it
+-- is left; the sections are blocks under their names, and what is held is what was held, and these
 pub record IsReadTo (roots : List (List ℕ)) (sections : List Section) (old : Reading)
-    (before : Held) (now : Reading) (after : Held) : Type 0 where
-  pub header : IsHeader roots
-  pub all : AllByRecursion IsSection sections
-  pub takes : Takes old (car_bytes roots sections) now
+    (before : Held) (extent : Option ℕ) (now : Reading) (after : Held) : Type 0 where
+  pub known : (b : List ℕ) → old.left ≡ Some b → (rest : List ℕ) × (now.left ≡ Some rest)
+      × IsFileFront b roots sections (wanting extent rest) (within extent rest)
+  pub same : Stays old now
   pub blocks : AllByRecursion IsNamedBlock sections
   pub holds : HoldsAlso before sections after
 
--- the bytes left, where they are known, are the file of these roots and sections, and all are taken
+-- the bytes left, where they are known, are the file of these roots and sections, and it is taken, and
+-- nothing behind it
 abbrev pub TakesCar : Reading → List (List ℕ) → List Section → Reading → Type 0
 TakesCar old roots sections new = (b : List ℕ) → old.left ≡ Some b
-    → IsCar b roots sections × (new.left ≡ Some [])
+    → IsFile b roots sections × ((rest : List ℕ) × StandBehind b rest × (new.left ≡ Some rest))
 
 -- the whole file was taken, with these sections: all are blocks under their names, and what is held
 -- is what was held, and these
@@ -83,25 +86,27 @@ pub record KeepsAll (roots : List (List ℕ)) (sections : List Section) (old : R
   pub blocks : AllByRecursion IsNamedBlock sections
   pub holds : HoldsAlso before sections after
 
--- why no section more is kept: none stands there, though bytes do; or the next, which was taken, is
--- refused
-abbrev pub StopsAt : {E : Type 0} → Reading → Held → ReadCarError E → Reading → Type 0
-StopsAt old held e new = FileRefused RefusesSection (SectionLacks old) old e new
-    ⊎ ((s : Section) × TakesSectionBytes old s new × SectionRefused s held e)
+-- why no section more is kept: none stands there, though bytes do, or are wanting; or the next, which
+-- was taken, is refused
+abbrev pub StopsAt : {E : Type 0} → Option ℕ → Reading → Held → ReadCarError E → Reading → Type 0
+StopsAt extent old held e new =
+    FileRefused (RefusesNext extent) (SectionLacks (of_file extent old)) old e new
+    ⊎ ((s : Section) × (more : Option ℕ) × TakesSectionBytes extent old s more new
+    × SectionRefused s held e)
 
 -- the call gives up behind so many sections
 abbrev pub AreTooMany : {E : Type 0} → List Section → ReadCarError E → Type 0
 AreTooMany sections e = (e ≡ OutOfMemory) × (length sections ≡ 2 ^ 64 - 1)
 
--- why a file is not read, and what is held: no header stands first; or else all sections up to a
--- place were kept, and no more
+-- why a file is not read, and what is held: no file begins; or else all sections up to a place were
+-- kept, and no more
 abbrev pub ReadRefused : {E : Type 0} → Reading → Held → ReadCarError E → Reading → Held → Type 0
-ReadRefused old before e new after = (FileRefused RefusesHeader (HeaderLacks old) old e new × (after ≡ before))
-    ⊎ ((roots : List (List ℕ)) × (sections : List Section) × (mid : Reading)
-    × IsReadTo roots sections old before mid after
-    × (StopsAt mid after e new ⊎ ((new ≡ mid) × AreTooMany sections e)))
+ReadRefused old before e new after = (FileRefused RefusesStart (FileLacks old) old e new × (after ≡ before))
+    ⊎ ((roots : List (List ℕ)) × (sections : List Section) × (extent : Option ℕ) × (mid : Reading)
+    × IsReadTo roots sections old before extent mid after
+    × (StopsAt extent mid after e new ⊎ ((new ≡ mid) × AreTooMany sections e)))
 
--- A file is read exactly where all of its sections are blocks under their names, faults, want of
+-- A file of either version is read exactly where all of its sections are blocks under their names, faults, want of
 -- memory and collisions aside. What is held is what was held, and the sections taken.
 abbrev pub ReadsCar : {E : Type 0} → Reading → Held → Result (Vec CidParts Global) (ReadCarError E)
     → Reading → Held → Type 0

@@ -4,7 +4,7 @@ ghost use Rattle.dagcbor_blocks.specs.Blocks.{held_blocks, FindsMembers};
 ghost use Rattle.dagcbor_blocks.specs.Laws.{WrittenThenRead};
 
 use crate::store::Blocks;
-use dagcbor_car::laws::cars_are_unique;
+use dagcbor_car::laws::files_are_unique;
 
 /// A block is found under a name exactly where the two are among the held blocks: what `put` and
 /// `get` say by look-ups and `missing` by members is said of the same blocks.
@@ -22,5 +22,5 @@ pub fn written_then_read(blocks: &Blocks)
     // No effect at run time. The proof reads from these calls that no name repeats, and that bytes
     // are one file.
     let _ = blocks.blocks.iter();
-    cars_are_unique();
+    files_are_unique();
 }

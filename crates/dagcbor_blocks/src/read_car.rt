@@ -34,8 +34,8 @@ fn check_section<E: Drop>(section: &Section<'_>) -> Result<(), ReadCarError<E>>
 }
 
 impl Blocks {
-    /// Keeps the blocks of the file that the input has left (CAR, version 1), each under its name,
-    /// and answers its roots. The input is a slice, or a reader, as
+    /// Keeps the blocks of the file that the input has left (CAR, version 1 or 2), each under its
+    /// name, and answers its roots. The input is a slice, or a reader, as
     /// `Input::Reader(IoReader::new(source))` for a source of std; one section of it is in memory
     /// at a time, beside what is kept.
     ///
@@ -49,12 +49,12 @@ impl Blocks {
         ensures { ReadsCar (input_reading R.reading input.old) (held_blocks self.old) result
             (input_reading R.reading input.new) (held_blocks self.new) }
     {
-        let roots = match pull_header(self.alloc, input) {
-            Ok(roots) => roots,
+        let (roots, mut left) = match pull_header(self.alloc, input) {
+            Ok(begun) => begun,
             Err(error) => return Err(ReadCarError::of_file(error)),
         };
         for _count in 0..u64::MAX {
-            let more = self.keep_next(input)?;
+            let more = self.keep_next(input, &mut left)?;
             if !more {
                 return Ok(roots);
             }
@@ -66,11 +66,12 @@ impl Blocks {
     fn keep_next<'de, R: Read>(
         &mut self,
         input: &mut Input<'de, R>,
+        left: &mut Option<u64>,
     ) -> Result<bool, ReadCarError<R::Error>>
-        ensures { KeepsNext (input_reading R.reading input.old) (held_blocks self.old) result
-            (input_reading R.reading input.new) (held_blocks self.new) }
+        ensures { KeepsNext left.old (input_reading R.reading input.old) (held_blocks self.old)
+            result left.new (input_reading R.reading input.new) (held_blocks self.new) }
     {
-        match pull_section(self.alloc, input) {
+        match pull_section(self.alloc, input, left) {
             Ok(Some(section)) => match self.keep_section(&section.section()) {
                 Ok(()) => Ok(true),
                 Err(error) => Err(error),

@@ -57,12 +57,13 @@ verdict_code (verdicts.Refused e) = refusal_code e
 verdict_code verdicts.OtherBytes = negsuc 21
 verdict_code verdicts.Unverified = negsuc 22
 
--- the number of a cause for which no section stands; the last is of those that are none of a section:
--- of a header that is a block of other data
+-- the number of a cause for which no section stands, or no file of version 1; the last is of those that
+-- are none of these: of a header that is a block of other data
 abbrev pub fault_code : {E : Type 0} → CarError E → ℤ
 fault_code faults.Truncated = negsuc 23
 fault_code faults.InvalidLength = negsuc 24
 fault_code (faults.InvalidCid e) = negsuc 25
+fault_code faults.InvalidOffset = negsuc 34
 fault_code _ = negsuc 26
 
 -- the number of a cause for which no header stands: that of the refusal where its bytes are no

@@ -7,3 +7,4 @@ pub mod Answers
 pub mod Sections
 pub mod Headers
 pub mod CidTexts
+pub mod Spans

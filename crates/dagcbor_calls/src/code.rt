@@ -64,7 +64,7 @@ pub(crate) fn refusal_code<E>(refusal: &DecodeError<E>) -> i32
     }
 }
 
-/// The number of the cause for which no section stands.
+/// The number of the cause for which no section, no header or no file of version 1 stands.
 pub(crate) fn fault_code<E>(fault: &CarError<E>) -> i32
     ensures { result ≡ fault_code fault.now }
 {
@@ -72,6 +72,7 @@ pub(crate) fn fault_code<E>(fault: &CarError<E>) -> i32
         CarError::Truncated => -24,
         CarError::InvalidLength => -25,
         CarError::InvalidCid(_) => NO_CID,
+        CarError::InvalidOffset => -35,
         _ => -27,
     }
 }

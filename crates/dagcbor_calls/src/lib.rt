@@ -9,6 +9,7 @@ pub mod laws;
 mod links;
 mod name;
 mod section;
+mod span;
 mod spell;
 mod tape;
 
@@ -18,5 +19,6 @@ pub use header::put_header;
 pub use links::put_links;
 pub use name::name_of;
 pub use section::judge_section;
+pub use span::put_span;
 pub use spell::spell_tape;
 pub use tape::{Token, put_front_tape, put_tape};

@@ -6,7 +6,7 @@ use Rattle.ipld_tree.proofs.Cids.{varint_unique}
 use Rattle.dagcbor_car.specs.Car.{counted, Section, section_body}
 use Rattle.dagcbor_car.specs.Splits.{SplitsCounted, CountFault, SplitsCid, BeginsNoCid, SplitsSection, BeginsNoSection, SectionFault}
 use Rattle.dagcbor_car.specs.declared.error.CarError.{CarError}
-use Rattle.dagcbor_car.specs.declared.error.CarError.TheVariants.{Read, Truncated, InvalidLength, InvalidCid, NoBlock, OtherHeader, OutOfMemory}
+use Rattle.dagcbor_car.specs.declared.error.CarError.TheVariants.{Read, Truncated, InvalidLength, InvalidCid, NoBlock, OtherHeader, InvalidOffset, OutOfMemory}
 use Rattle.dagcbor_car.proofs.Cars.{counted_unique}
 
 -- ---- what is counted
@@ -28,6 +28,7 @@ no_counted InvalidLength b inner rest none h = none (length inner) [] (inner ++ 
 no_counted (InvalidCid f) b inner rest none h = none
 no_counted (NoBlock f) b inner rest none h = none
 no_counted OtherHeader b inner rest none h = none
+no_counted InvalidOffset b inner rest none h = none
 no_counted OutOfMemory b inner rest none h = none
 no_counted (Read f) b inner rest none h = none
 
@@ -42,6 +43,7 @@ at_count InvalidLength b h = h
 at_count (InvalidCid f) b h = absurd h
 at_count (NoBlock f) b h = h
 at_count OtherHeader b h = h
+at_count InvalidOffset b h = h
 at_count OutOfMemory b h = h
 at_count (Read f) b h = h
 

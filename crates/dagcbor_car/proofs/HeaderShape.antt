@@ -86,7 +86,7 @@ before_roots = 0xa2 ∷ 0x65 ∷ 0x72 ∷ 0x6f ∷ 0x6f ∷ 0x74 ∷ 0x73 ∷ []
 abbrev pub behind_roots : List ℕ
 behind_roots = 0x67 ∷ 0x76 ∷ 0x65 ∷ 0x72 ∷ 0x73 ∷ 0x69 ∷ 0x6f ∷ 0x6e ∷ 0x01 ∷ []
 
-header_spelled : (roots : List (List ℕ)) → spelling (header_tree roots) ≡ before_roots ++ (spelling (link_list roots) ++ behind_roots)
+pub header_spelled : (roots : List (List ℕ)) → spelling (header_tree roots) ≡ before_roots ++ (spelling (link_list roots) ++ behind_roots)
 unfolding head
 header_spelled roots = refl
 

@@ -16,7 +16,7 @@ use Rattle.dagcbor_write.specs.Answers.{AreSpellingOf, HasNoSpelling}
 use Rattle.dagcbor_car.specs.Car.{counted, header_tree}
 use Rattle.dagcbor_car.specs.Splits.{SplitsCounted, CountFault, IsNoHeader, SplitsHeader, BeginsNoHeader, HeaderRefused}
 use Rattle.dagcbor_car.specs.declared.error.CarError.{CarError}
-use Rattle.dagcbor_car.specs.declared.error.CarError.TheVariants.{Read, Truncated, InvalidLength, InvalidCid, NoBlock, OtherHeader, OutOfMemory}
+use Rattle.dagcbor_car.specs.declared.error.CarError.TheVariants.{Read, Truncated, InvalidLength, InvalidCid, NoBlock, OtherHeader, InvalidOffset, OutOfMemory}
 use Rattle.dagcbor_car.proofs.Cars.{counted_unique, links_of_header}
 use Rattle.dagcbor_car.proofs.Counts.{no_counted}
 
@@ -99,6 +99,7 @@ not_read (NoBlock e) b inner rest h r = (no_header_here b inner rest h (λ roots
 not_read OtherHeader b inner rest h r = (no_header_here b inner rest h r.1, (inner, rest, h, r.0))
 not_read OutOfMemory b inner rest h r = (inner, rest, h, r)
 not_read Truncated b inner rest h r = absurd r
+not_read InvalidOffset b inner rest h r = absurd r
 not_read InvalidLength b inner rest h r = absurd r
 not_read (InvalidCid f) b inner rest h r = absurd r
 not_read (Read f) b inner rest h r = absurd r
@@ -109,5 +110,6 @@ not_counted {E} InvalidLength b f = (λ roots rest h. no_counted {E = E} Invalid
 not_counted (InvalidCid g) b f = absurd f
 not_counted (NoBlock g) b f = absurd f
 not_counted OtherHeader b f = absurd f
+not_counted InvalidOffset b f = absurd f
 not_counted OutOfMemory b f = absurd f
 not_counted (Read g) b f = absurd f

@@ -1,4 +1,5 @@
 pub mod Cars
+pub mod Spending
 pub mod Fronts
 pub mod Counts
 pub mod Headers
@@ -6,8 +7,10 @@ pub mod Testing
 pub mod Members
 pub mod Within
 pub mod Checking
+pub mod Places
 pub mod Files
 pub mod Pulling
 pub mod Pushing
+pub mod Starting
 pub mod Running
 pub mod HeaderShape

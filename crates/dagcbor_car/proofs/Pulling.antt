@@ -1,24 +1,26 @@
 -- What is taken of a file from a reader.
 use Rattle.std.proofs.Common.{◌≡◌, inl, inr, ℕ, ◌+◌, ◌*◌, ◌<◌, ◌≤◌, ◌^◌, true, false, List, [], ◌∷◌, ◌++◌, length, length-append, refl, sym, ap, ◌∙◌, subst, arith, append_assoc, append-nil}
-use Rattle.std.specs.Prelude.{Some, Result, Ok, Err, MatchResult, IfOk, IsErrAnd, Vec}
-use Rattle.std.specs.declared.alloc.Global.{Global}
+use Rattle.std.specs.Prelude.{Option, Some, option_map, Result, Ok, Err, MatchResult, IfOk, IsErrAnd}
 use Rattle.dagcbor_heads.specs.Reading.{Reading}
 use Rattle.dagcbor_heads.specs.Fronts.{ShowsByte, Takes}
 use Rattle.dagcbor_heads.specs.Looking.{LooksAtMost, LooksAtTaken, LooksAtSome, LooksAtLeft, LooksOnce}
 use Rattle.dagcbor_heads.proofs.Taking.{stays_both, nothing_taken, takes_both}
 use Rattle.dagcbor_heads.proofs.Looking.{nothing_looked, some_both, some_taken, taken_left}
-use Rattle.ipld_tree.specs.Cid.{varint, CidParts}
+use Rattle.ipld_tree.specs.Cid.{varint}
 use Rattle.ipld_tree.specs.CidFault.{IsCutVarint, IsNoVarint, IsVarintFault}
 use Rattle.ipld_tree.specs.declared.cid_error.CidError.{CidError}
 use Rattle.ipld_tree.specs.declared.cid_error.CidError.TheVariants as cid
-use Rattle.ipld_tree.proofs.Cids.{varint_unique, varint_length}
+use Rattle.std.proofs.lemmas.Bool.{cases_lt}
+use Rattle.ipld_tree.proofs.Cids.{varint_unique, varint_length, one_group, more_groups}
 use Rattle.dagcbor_car.specs.Car.{counted, Section, section_bytes}
-use Rattle.dagcbor_car.specs.Splits.{CountFault, SplitsCid, BeginsNoCid, BeginsNoSection, SectionFault, IsNoHeader, ReadsHeader}
-use Rattle.dagcbor_car.specs.Sources.{CarRefuses, LacksMemoryIf, HeaderLacks, IsShort, RefusesHeader, RefusesSection, PullsHeader, LooksAtHeader, TakesSectionBytes}
+use Rattle.dagcbor_car.specs.Splits.{CountFault, SplitsCid, BeginsNoCid, BeginsNoSection, SectionFault}
+use Rattle.dagcbor_car.specs.Extents.{within, wanting, of_file, Spends, TakesOff}
+use Rattle.dagcbor_car.specs.Sources.{CarRefuses, LacksMemoryIf, SectionLacks, IsShort, RefusesNext, TakesSectionBytes}
+use Rattle.dagcbor_car.specs.Steps.{IsDue}
 use Rattle.dagcbor_car.specs.declared.error.CarError.{CarError}
-use Rattle.dagcbor_car.specs.declared.error.CarError.TheVariants.{Read, Truncated, InvalidLength, InvalidCid, NoBlock, OtherHeader, OutOfMemory}
+use Rattle.dagcbor_car.specs.declared.error.CarError.TheVariants.{Read, Truncated, InvalidLength, InvalidCid, NoBlock, OtherHeader, InvalidOffset, OutOfMemory}
 use Rattle.dagcbor_car.proofs.Counts.{no_section_counted, no_section_named}
-use Rattle.dagcbor_car.proofs.Headers.{not_read, not_counted}
+use Rattle.dagcbor_car.proofs.Spending.{known, off_none, off_both, off_within, taken_within}
 
 -- ---- refusals
 
@@ -33,25 +35,31 @@ refused_behind stands stands' front old mid new (Read e) t f r = omega (arith, t
 refused_behind stands stands' front old mid new OutOfMemory t f r = r ∙ t.same.faults
 refused_behind stands stands' front old mid new e t f r = (r.0 ∙ t.same.faults, λ b l. let w = t.taken b l in subst (stands' e) (sym w.1) (f w.0 (r.1 w.0 w.2)))
 
+-- the same within a file
+pub refused_off : {E : Type 0} (stands stands' : CarError E → List ℕ → Type 0) {x y : Option ℕ} {front : List ℕ} {old mid : Reading} (new : Reading) (e : CarError E) → TakesOff x old front y mid → ((rest : List ℕ) → stands e rest → stands' e (front ++ rest)) → CarRefuses stands (of_file y mid) e new → CarRefuses stands' (of_file x old) e new
+refused_off stands stands' {x} {y} {front} {old} {mid} new (Read e) t f r = omega (arith, t.takes.same.faults, r)
+refused_off stands stands' {x} {y} {front} {old} {mid} new OutOfMemory t f r = r ∙ t.takes.same.faults
+refused_off stands stands' {x} {y} {front} {old} {mid} new e t f r = (r.0 ∙ t.takes.same.faults, λ b l. let w = (off_within t).taken b l in subst (stands' e) (sym w.1) (f w.0 (r.1 w.0 w.2)))
+
 -- ---- a length
 
 -- so many bytes of a varint were taken, and more of it are to come
-pub record IsInVarint (groups : List ℕ) (n : ℕ) (old now : Reading) : Type 0 where
+pub record IsInVarint (groups : List ℕ) (n : ℕ) (x : Option ℕ) (old : Reading) (y : Option ℕ) (now : Reading) : Type 0 where
   pub counted : length groups ≡ n
-  pub takes : Takes old groups now
+  pub takes : TakesOff x old groups y now
   pub cut : IsCutVarint groups
-  pub looked : LooksAtSome 2 old now
+  pub looked : LooksAtSome 2 (of_file x old) (of_file y now)
   pub most : LooksAtMost (2 * n) old now
 
 zero_below : 0 < 2 ^ 64
 zero_below = omega arith
 
-zero_form : varint 0 ≡ 0 ∷ []
+pub zero_form : varint 0 ≡ 0 ∷ []
 unfolding varint
 zero_form = refl
 
-pub no_group : (groups : List ℕ) (r : Reading) → groups ≡ [] → IsInVarint groups 0 r r
-no_group groups r none = subst (λ b. IsInVarint b 0 r r) (sym none) record { counted = refl; takes = nothing_taken r; cut = (0, varint 0, zero_below, omega (arith, ap length zero_form), refl); looked = nothing_looked r; most = omega arith }
+pub no_group : (groups : List ℕ) (x : Option ℕ) (r : Reading) → groups ≡ [] → IsInVarint groups 0 x r x r
+no_group groups x r none = subst (λ b. IsInVarint b 0 x r x r) (sym none) record { counted = refl; takes = off_none x r; cut = (0, varint 0, zero_below, omega (arith, ap length zero_form), refl); looked = nothing_looked (of_file x r); most = omega arith }
 
 -- the bytes end there
 pub cut_there : {E : Type 0} (e : CarError E) (groups rest : List ℕ) → IsCutVarint groups → IsShort 1 e rest → CountFault e (groups ++ rest)
@@ -77,10 +85,10 @@ ends_there groups byte number (x ∷ xs) cut fits e =
     absurd (omega (arith, ap length none, length-append w.0 cut.1, cut.3))
 
 -- the last of the groups ended the varint
-pub length_taken : {old mid new : Reading} {groups : List ℕ} {n byte number : ℕ} (rest : List ℕ) → IsInVarint groups n old mid → Takes mid (byte ∷ []) new → number < 2 ^ 64 → groups ++ byte ∷ [] ≡ varint number ++ rest → Takes old (varint number) new
-length_taken {old} {mid} {new} {groups} {n} {byte} {number} rest h t fits e =
+pub length_taken : {x y z : Option ℕ} {old mid new : Reading} {groups : List ℕ} {n byte number : ℕ} (rest : List ℕ) → IsInVarint groups n x old y mid → TakesOff y mid (byte ∷ []) z new → number < 2 ^ 64 → groups ++ byte ∷ [] ≡ varint number ++ rest → TakesOff x old (varint number) z new
+length_taken {x} {y} {z} {old} {mid} {new} {groups} {n} {byte} {number} rest h t fits e =
     let end : groups ++ byte ∷ [] ≡ varint number = e ∙ ap (λ r. varint number ++ r) (ends_there groups byte number rest h.cut fits e) ∙ append-nil (varint number) in
-    subst (λ b. Takes old b new) end (takes_both h.takes t)
+    subst (λ b. TakesOff x old b z new) end (off_both h.takes t)
 
 no_varint_there : (f : CidError) (b : List ℕ) → IsVarintFault f b → (f ≡ cid.Truncated → ⊥) → IsNoVarint b
 no_varint_there cid.InvalidVarint b h n = h
@@ -88,18 +96,18 @@ no_varint_there cid.Truncated b h n = absurd (n refl)
 no_varint_there _ b h n = absurd h
 
 -- no varint begins so
-pub no_length : {old mid new : Reading} {groups more : List ℕ} {n byte : ℕ} → IsInVarint groups n old mid → Takes mid (byte ∷ []) new → (f : CidError) → IsVarintFault f more → (f ≡ cid.Truncated → ⊥) → more ≡ groups ++ byte ∷ [] → (new.faults ≡ old.faults) × ((b : List ℕ) → old.left ≡ Some b → IsNoVarint b)
-no_length {old} {mid} {new} {groups} {more} {n} {byte} h t f fault other is =
+pub no_length : {x y z : Option ℕ} {old mid new : Reading} {groups more : List ℕ} {n byte : ℕ} → IsInVarint groups n x old y mid → TakesOff y mid (byte ∷ []) z new → (f : CidError) → IsVarintFault f more → (f ≡ cid.Truncated → ⊥) → more ≡ groups ++ byte ∷ [] → (new.faults ≡ old.faults) × ((b : List ℕ) → (of_file x old).left ≡ Some b → IsNoVarint b)
+no_length {x} {y} {z} {old} {mid} {new} {groups} {more} {n} {byte} h t f fault other is =
     let none = subst IsNoVarint is (no_varint_there f more fault other) in
-    let both = takes_both h.takes t in (
+    let both = off_within (off_both h.takes t) in (
       both.same.faults,
-      λ b l m x y fits e. let w = both.taken b l in none m (w.0 ++ x) y fits (sym (append_assoc (groups ++ byte ∷ []) w.0 x) ∙ ap (λ z. z ++ x) (sym w.1) ∙ e),
+      λ b l m u v fits e. let w = both.taken b l in none m (w.0 ++ u) v fits (sym (append_assoc (groups ++ byte ∷ []) w.0 u) ∙ ap (λ a. a ++ u) (sym w.1) ∙ e),
     )
 
-pub group_more : {old mid new : Reading} {groups more : List ℕ} {n byte : ℕ} → IsInVarint groups n old mid → Takes mid (byte ∷ []) new → LooksAtTaken 2 0 mid new → LooksAtMost 2 mid new → more ≡ groups ++ byte ∷ [] → IsCutVarint more → IsInVarint more (n + 1) old new
-group_more {old} {mid} {new} {groups} {more} {n} {byte} h t looked most is cut = record {
+pub group_more : {x y z : Option ℕ} {old mid new : Reading} {groups more : List ℕ} {n byte : ℕ} → IsInVarint groups n x old y mid → TakesOff y mid (byte ∷ []) z new → LooksAtTaken 2 0 (of_file y mid) (of_file z new) → LooksAtMost 2 mid new → more ≡ groups ++ byte ∷ [] → IsCutVarint more → IsInVarint more (n + 1) x old z new
+group_more {x} {y} {z} {old} {mid} {new} {groups} {more} {n} {byte} h t looked most is cut = record {
   counted = omega (arith, ap length is, length-append groups (byte ∷ []), h.counted);
-  takes = subst (λ b. Takes old b new) (sym is) (takes_both h.takes t);
+  takes = subst (λ b. TakesOff x old b z new) (sym is) (off_both h.takes t);
   cut = cut;
   looked = some_both h.looked (some_taken looked);
   most = omega (arith, h.most, most);
@@ -110,24 +118,24 @@ pub last_looked : {old mid new : Reading} → LooksAtSome 2 old mid → LooksAtT
 last_looked {old} {mid} {new} h k = let both = some_both h (some_taken k) in record { grows = both.grows; most = λ b l. let p = both.most b l in (p.0, p.1, p.2, p.3, omega (arith, p.4)); none_shown = k.none_shown }
 
 -- what was looked at of a varint that ended
-pub length_most : {old mid : Reading} {groups : List ℕ} {n : ℕ} (new : Reading) (byte number : ℕ) (rest : List ℕ) → IsInVarint groups n old mid → LooksAtMost 2 mid new → number < 2 ^ 64 → groups ++ byte ∷ [] ≡ varint number ++ rest → LooksAtMost (2 * length (varint number)) old new
-length_most {old} {mid} {groups} {n} new byte number rest h most fits e =
+pub length_most : {x y : Option ℕ} {old mid : Reading} {groups : List ℕ} {n : ℕ} (new : Reading) (byte number : ℕ) (rest : List ℕ) → IsInVarint groups n x old y mid → LooksAtMost 2 mid new → number < 2 ^ 64 → groups ++ byte ∷ [] ≡ varint number ++ rest → LooksAtMost (2 * length (varint number)) old new
+length_most {x} {y} {old} {mid} {groups} {n} new byte number rest h most fits e =
     let end : groups ++ byte ∷ [] ≡ varint number = e ∙ ap (λ r. varint number ++ r) (ends_there groups byte number rest h.cut fits e) ∙ append-nil (varint number) in
     omega (arith, h.most, most, h.counted, ap length end, length-append groups (byte ∷ []))
 
 -- more groups than a varint has
-pub no_more_groups : {old now : Reading} {groups : List ℕ} {n : ℕ} → IsInVarint groups n old now → 10 ≤ n → ⊥
-no_more_groups {old} {now} {groups} h ten =
+pub no_more_groups : {x y : Option ℕ} {old now : Reading} {groups : List ℕ} {n : ℕ} → IsInVarint groups n x old y now → 10 ≤ n → ⊥
+no_more_groups {x} {y} {old} {now} {groups} h ten =
     let w = h.cut in
     omega (arith, ten, h.counted, w.3, ap length w.4, length-append groups w.1, varint_length w.0)
 
 -- ---- what is counted
 
-pub counted_pulled : {C E : Type 0} (bytes : C → List ℕ) (r : Result C (CarError E)) (n : ℕ) (old mid new : Reading) → n < 2 ^ 64 → Takes old (varint n) mid
-    → MatchResult r (λ c. (length (bytes c) ≡ n) × Takes mid (bytes c) new) (λ e. CarRefuses (IsShort n) mid e new)
-    → MatchResult r (λ c. (length (bytes c) < 2 ^ 64) × Takes old (counted (bytes c)) new) (λ e. CarRefuses CountFault old e new)
-counted_pulled bytes (Ok c) n old mid new fits t h = (omega (arith, h.0, fits), subst (λ m. Takes old (varint m ++ bytes c) new) (sym h.0) (takes_both t h.1))
-counted_pulled bytes (Err e) n old mid new fits t h = refused_behind (IsShort n) CountFault (varint n) old mid new e t (λ rest s. subst (λ x. CountFault x (varint n ++ rest)) (sym s.0) (inr (n, rest, fits, s.1, refl))) h
+pub counted_pulled : {C E : Type 0} (bytes : C → List ℕ) (r : Result C (CarError E)) (n : ℕ) (x y z : Option ℕ) (old mid new : Reading) → n < 2 ^ 64 → TakesOff x old (varint n) y mid
+    → MatchResult r (λ c. (length (bytes c) ≡ n) × TakesOff y mid (bytes c) z new) (λ e. CarRefuses (IsShort n) (of_file y mid) e new)
+    → MatchResult r (λ c. (length (bytes c) < 2 ^ 64) × TakesOff x old (counted (bytes c)) z new) (λ e. CarRefuses CountFault (of_file x old) e new)
+counted_pulled bytes (Ok c) n x y z old mid new fits t h = (omega (arith, h.0, fits), subst (λ m. TakesOff x old (varint m ++ bytes c) z new) (sym h.0) (off_both t h.1))
+counted_pulled bytes (Err e) n x y z old mid new fits t h = refused_off (IsShort n) CountFault new e t (λ rest s. subst (λ f. CountFault f (varint n ++ rest)) (sym s.0) (inr (n, rest, fits, s.1, refl))) h
 
 -- what was looked at of a length and what it counts
 pub counted_most : (bytes : List ℕ) (n : ℕ) (old mid new : Reading) → length bytes ≡ n → LooksAtMost (2 * length (varint n)) old mid → LooksAtMost (2 * n) mid new → LooksAtMost (2 * length (counted bytes)) old new
@@ -135,10 +143,10 @@ counted_most bytes n old mid new is first most =
     let sized : varint n ≡ varint (length bytes) = ap varint (sym is) in
     omega (arith, is, first, most, ap length sized, length-append (varint (length bytes)) bytes)
 
-pub counted_sized : {C E : Type 0} (bytes : C → List ℕ) (r : Result C (CarError E)) (n : ℕ) (old mid new : Reading) → LooksAtMost (2 * length (varint n)) old mid
-    → MatchResult r (λ c. (length (bytes c) ≡ n) × Takes mid (bytes c) new) (λ e. CarRefuses (IsShort n) mid e new) → LooksAtMost (2 * n) mid new → IfOk r (λ c. LooksAtMost (2 * length (counted (bytes c))) old new)
-counted_sized bytes (Ok c) n old mid new first h most = counted_most (bytes c) n old mid new h.0 first most
-counted_sized bytes (Err e) n old mid new first h most = tt
+pub counted_sized : {C E : Type 0} (bytes : C → List ℕ) (r : Result C (CarError E)) (n : ℕ) (y z : Option ℕ) (old mid new : Reading) → LooksAtMost (2 * length (varint n)) old mid
+    → MatchResult r (λ c. (length (bytes c) ≡ n) × TakesOff y mid (bytes c) z new) (λ e. CarRefuses (IsShort n) (of_file y mid) e new) → LooksAtMost (2 * n) mid new → IfOk r (λ c. LooksAtMost (2 * length (counted (bytes c))) old new)
+counted_sized bytes (Ok c) n y z old mid new first h most = counted_most (bytes c) n old mid new h.0 first most
+counted_sized bytes (Err e) n y z old mid new first h most = tt
 
 -- ---- want of memory
 
@@ -153,59 +161,42 @@ lacks_more {U} {E} T P Q (Err y) e h f l = by e l h
     by InvalidLength l is = subst (λ x. LacksMemoryIf {T = U} {E = E} Q (Err x)) (sym is) tt
     by (InvalidCid g) l is = subst (λ x. LacksMemoryIf {T = U} {E = E} Q (Err x)) (sym is) tt
     by (NoBlock g) l is = subst (λ x. LacksMemoryIf {T = U} {E = E} Q (Err x)) (sym is) tt
+    by InvalidOffset l is = subst (λ x. LacksMemoryIf {T = U} {E = E} Q (Err x)) (sym is) tt
     by OtherHeader l is = subst (λ x. LacksMemoryIf {T = U} {E = E} Q (Err x)) (sym is) tt
 
--- a header's block stands whole
-pub header_lacks : {E : Type 0} (r : Result (Vec CidParts Global) (CarError E)) (inner : List ℕ) (old new : Reading) → length inner < 2 ^ 64 → Takes old (counted inner) new → ReadsHeader inner r → LacksMemoryIf (HeaderLacks old) r
-header_lacks (Ok v) inner old new h t s = tt
-header_lacks (Err OutOfMemory) inner old new h t has = λ lends b l. let w = t.taken b l in (inner, w.0, (h, w.1), has)
-header_lacks (Err e) inner old new h t s = tt
+varint_some : (n : ℕ) → 1 ≤ length (varint n)
+unfolding varint
+varint_some n = elim (cases_lt n 128) [ inl h ↦ omega (arith, ap length (one_group 9 n h)) | inr h ↦ omega (arith, ap length (more_groups 9 n h)) ]
 
--- a source that does not lend may want memory
-pub unlent_lacks : (old : Reading) → old.lends ≡ false → HeaderLacks old
-unlent_lacks old unlent lent b l = let clash : true ≡ false = sym lent ∙ unlent in absurd (cc clash)
+-- behind a length memory may be wanting for what it counts
+pub counted_lacks : {T E : Type 0} (r : Result T (CarError E)) (n : ℕ) {x y : Option ℕ} {old mid : Reading} → TakesOff x old (varint n) y mid → LacksMemoryIf (mid.lends ≡ false) r → LacksMemoryIf (SectionLacks (of_file x old)) r
+counted_lacks (Ok v) n {x} {y} {old} {mid} t l = tt
+counted_lacks (Err OutOfMemory) n {x} {y} {old} {mid} t l = (sym t.takes.same.lends ∙ l, λ e. let w = (off_within t).taken [] e in omega (arith, ap length w.1, length-append (varint n) w.0, varint_some n))
+counted_lacks (Err e) n {x} {y} {old} {mid} t l = tt
+
+-- of the same bytes the same may be wanting
+pub due_lacks : {T E : Type 0} (r : Result T (CarError E)) {x : Option ℕ} {old mid : Reading} → IsDue x old mid → LacksMemoryIf (SectionLacks (of_file x mid)) r → LacksMemoryIf (SectionLacks (of_file x old)) r
+due_lacks (Ok v) {x} {old} {mid} h l = tt
+due_lacks (Err OutOfMemory) {x} {old} {mid} h l = (sym h.same.lends ∙ l.0, λ e. let w = known x old.left [] e in l.1 (ap (option_map (within x)) (h.kept w.0 w.1) ∙ ap Some (sym w.2)))
+due_lacks (Err e) {x} {old} {mid} h l = tt
 
 -- ---- what was looked at
-
--- a header that was looked at
-pub header_looked : {E : Type 0} (r : Result (Vec CidParts Global) (CarError E)) (inner : List ℕ) (old new : Reading) → LooksAtMost (2 * length (counted inner)) old new → LooksAtTaken 2 0 old new → ReadsHeader inner r → LooksAtHeader old r new
-header_looked (Ok v) inner old new most looked s = (subst (λ x. LooksAtMost (2 * length (counted x)) old new) s.is most, looked.none_shown)
-header_looked (Err e) inner old new most looked s = taken_left looked
 
 -- a section that was looked at
 pub section_most : (s : Section) (body : List ℕ) (old new : Reading) → SplitsCid body s.0 s.1 → LooksAtMost (2 * length (counted body)) old new → LooksAtMost (2 * length (section_bytes s)) old new
 section_most s body old new c most = subst (λ x. LooksAtMost (2 * length (counted x)) old new) c.1 most
 
 -- a byte was looked at first, and stayed
-pub first_left : {old mid new : Reading} {byte : ℕ} → LooksOnce old mid → ShowsByte old byte mid → LooksAtLeft 2 0 mid new → LooksAtLeft 3 0 old new
-first_left {old} {mid} {new} {byte} once shown left = record {
+pub first_left : {x : Option ℕ} {old mid : Reading} (now : Reading) → LooksOnce (of_file x old) mid → IsDue x old mid → LooksAtLeft 2 0 (of_file x mid) now → LooksAtLeft 3 0 (of_file x old) now
+first_left {x} {old} {mid} now once due left = record {
   grows = omega (arith, once.grows, left.grows);
-  most = λ b l. let w = shown.starts b l in omega (arith, once.one, left.most b (shown.kept b l), ap length w.1);
+  most = λ c l. let w = known x old.left c l in omega (arith, once.left c l, left.most (within x w.0) (ap (option_map (within x)) (due.kept w.0 w.1)), ap length w.2);
 }
-
--- ---- the header
-
-no_header_pulled : {E : Type 0} (e : CarError E) (inner : List ℕ) (old new : Reading) → length inner < 2 ^ 64 → Takes old (counted inner) new → IsNoHeader e inner → CarRefuses RefusesHeader old e new
-no_header_pulled (Read f) inner old new h t r = absurd r
-no_header_pulled OutOfMemory inner old new h t r = t.same.faults
-no_header_pulled e inner old new h t r = (t.same.faults, λ b l. let w = t.taken b l in not_read e b inner w.0 (h, w.1) r)
-
-pub header_pulled : {E : Type 0} (r : Result (Vec CidParts Global) (CarError E)) (inner : List ℕ) (old new : Reading) → length inner < 2 ^ 64 → Takes old (counted inner) new → ReadsHeader inner r → PullsHeader old r new
-header_pulled (Ok v) inner old new h t s = (
-  record { well_formed = s.well_formed; spellable = s.spellable; fits = omega (arith, h, ap length s.is) },
-  subst (λ x. Takes old (counted x) new) s.is t,
-)
-header_pulled (Err e) inner old new h t r = no_header_pulled e inner old new h t r
-
-pub no_header_counted : {E : Type 0} (e : CarError E) (old new : Reading) → CarRefuses CountFault old e new → CarRefuses RefusesHeader old e new
-no_header_counted (Read f) old new r = r
-no_header_counted OutOfMemory old new r = r
-no_header_counted e old new r = (r.0, λ b l. not_counted e b (r.1 b l))
 
 -- ---- a section
 
-pub section_pulled : (s : Section) (body : List ℕ) (old new : Reading) → length body < 2 ^ 64 → Takes old (counted body) new → SplitsCid body s.0 s.1 → TakesSectionBytes old s new
-section_pulled s body old new h t c = ((c.0, omega (arith, h, ap length c.1)), subst (λ x. Takes old (counted x) new) c.1 t)
+pub section_pulled : (s : Section) (body : List ℕ) {x z : Option ℕ} {old new : Reading} → length body < 2 ^ 64 → TakesOff x old (counted body) z new → SplitsCid body s.0 s.1 → TakesSectionBytes x old s z new
+section_pulled s body {x} {z} {old} {new} h t c = ((c.0, omega (arith, h, ap length c.1)), subst (λ b. TakesOff x old (counted b) z new) c.1 t)
 
 pub no_section_pulled : (E : Type 0) (f : CidError) (body : List ℕ) (old new : Reading) → length body < 2 ^ 64 → Takes old (counted body) new → BeginsNoCid f body
     → (new.faults ≡ old.faults) × ((b : List ℕ) → old.left ≡ Some b → BeginsNoSection b × SectionFault {E = E} (InvalidCid f) b)
@@ -216,14 +207,11 @@ no_section_at_count (Read f) old new r = r
 no_section_at_count OutOfMemory old new r = r
 no_section_at_count e old new r = (r.0, λ b l. no_section_counted e b (r.1 b l))
 
--- what was looked at before it was taken
-pub section_shown : {old mid new : Reading} {byte : ℕ} (s : Section) → ShowsByte old byte mid → TakesSectionBytes mid s new → TakesSectionBytes old s new
-section_shown {old} {mid} {new} s h t = (t.0, record { taken = λ b l. t.1.taken b (h.kept b l); same = stays_both h.same t.1.same })
+-- what was due before it was taken
+pub section_due : {x z : Option ℕ} {old mid new : Reading} (s : Section) → IsDue x old mid → TakesSectionBytes x mid s z new → TakesSectionBytes x old s z new
+section_due {x} {z} {old} {mid} {new} s h t = (t.0, record { takes = record { taken = λ b l. t.1.takes.taken b (h.kept b l); same = stays_both h.same t.1.takes.same }; spends = t.1.spends })
 
-some_shown : {b more : List ℕ} {byte : ℕ} → b ≡ byte ∷ more → 0 < length b
-some_shown e = omega (arith, ap length e)
-
-pub no_section_shown : {E : Type 0} {old mid : Reading} {byte : ℕ} (new : Reading) (e : CarError E) → ShowsByte old byte mid → CarRefuses (λ e b. BeginsNoSection b × SectionFault e b) mid e new → CarRefuses RefusesSection old e new
-no_section_shown new (Read f) h r = omega (arith, h.same.faults, r)
-no_section_shown new OutOfMemory h r = r ∙ h.same.faults
-no_section_shown new e h r = (r.0 ∙ h.same.faults, λ b l. let w = r.1 b (h.kept b l) in (some_shown (h.starts b l).1, w.0, w.1))
+pub no_section_due : {E : Type 0} {x : Option ℕ} {old mid : Reading} (new : Reading) (e : CarError E) → IsDue x old mid → CarRefuses (λ e b. BeginsNoSection b × SectionFault e b) (of_file x mid) e new → CarRefuses (RefusesNext x) old e new
+no_section_due {E} {x} {old} {mid} new (Read f) h r = omega (arith, h.same.faults, r)
+no_section_due {E} {x} {old} {mid} new OutOfMemory h r = r ∙ h.same.faults
+no_section_due {E} {x} {old} {mid} new e h r = (r.0 ∙ h.same.faults, λ b l. let w = r.1 (within x b) (ap (option_map (within x)) (h.kept b l)) in (h.some b l, w.0, w.1))

@@ -1,13 +1,15 @@
 -- What comes of runs of calls, against the bytes.
-use Rattle.std.proofs.Common.{◌≡◌, ◌⊎◌, inl, inr, ℕ, ◌<◌, Bool, true, false, List, [], ◌∷◌, length, length-append, refl, sym, ap, ◌∙◌, subst, arith}
+use Rattle.std.proofs.Common.{◌≡◌, ◌⊎◌, inl, inr, ℕ, ◌<◌, Bool, true, false, List, [], ◌∷◌, ◌++◌, take, length, length-append, refl, sym, ap, ◌∙◌, subst, arith}
 use Rattle.std.proofs.lemmas.Bool.{MatchBool-at_true, MatchBool-at_false}
-use Rattle.std.specs.Prelude.{None, Some, Result, Ok, Err, MatchBool}
+use Rattle.std.specs.Prelude.{Option, None, Some, option_map, Result, Ok, Err, MatchBool}
 use Rattle.std.specs.List.{AllByRecursion, flat_map}
 use Rattle.dagcbor_heads.specs.Reading.{Reading}
 use Rattle.dagcbor_heads.specs.Written.{Written, WroteAll}
 use Rattle.dagcbor_heads.proofs.Writing.{WroteAll_then, Appends_nothing}
 use Rattle.dagcbor_items.specs.Walks.{forms}
-use Rattle.dagcbor_car.specs.Car.{Section, section_bytes, IsSection, header_bytes, IsCar}
+use Rattle.dagcbor_car.specs.Car.{Section, section_bytes, IsSection, header_bytes}
+use Rattle.dagcbor_car.specs.Versions.{HoldsCar, IsFile}
+use Rattle.dagcbor_car.specs.Extents.{within, wanting, EndsThere}
 use Rattle.dagcbor_car.specs.Sources.{RefusesSection, SectionStream, section_stream, GivesNext, NotBegun}
 use Rattle.dagcbor_car.specs.Writers.{WriterState, WritesSection}
 use Rattle.dagcbor_car.specs.Runs.{Item, GivesItems, AreNone, GivesUp, AreItemsOf, RunsAreExact, AreSections, DoesNotBegin, CarsReadBack, WritesSections, CarsAreWritten}
@@ -16,6 +18,9 @@ use Rattle.dagcbor_car.specs.declared.error.CarError.TheVariants.{Read, OutOfMem
 use Rattle.dagcbor_car.specs.declared.error.CarWriteError.{CarWriteError}
 use Rattle.dagcbor_car.specs.declared.error.CarWriteError.TheVariants.{Failed}
 use Rattle.dagcbor_car.proofs.Cars.{section_unique, section_some, header_unique}
+use Rattle.dagcbor_car.proofs.Spending.{within_behind, wanting_behind}
+use Rattle.dagcbor_car.proofs.Starting.{holds_one, start_holds}
+use Rattle.dagcbor_car.proofs.Places.{no_file}
 
 -- ---- runs of `next`
 
@@ -32,24 +37,36 @@ nothing_more s (item ∷ items) d h =
     (k.0, nothing_more h.0 items (ap (λ t. t.done) k.1 ∙ d) h.2)
 
 -- why no section came
-why : {E : Type 0} (e : CarError E) (old new : Reading) (b : List ℕ) → old.left ≡ Some b → GivesNext old (Err e) new → GivesUp old.lends b e ⊎ RefusesSection e b
-why (Read f) old new b l n = inl tt
-why OutOfMemory old new b l n = inl (n.memory.0, λ none. n.memory.1 (l ∙ ap Some none))
-why e old new b l n = inr (n.taken.1 b l)
+why : {E : Type 0} (e : CarError E) (extent rest : Option ℕ) (old new : Reading) (b : List ℕ) → old.left ≡ Some b → GivesNext extent old (Err e) rest new → GivesUp old.lends (within extent b) e ⊎ RefusesSection (wanting extent b) e (within extent b)
+why (Read f) extent rest old new b l n = inl tt
+why OutOfMemory extent rest old new b l n = inl (n.memory.0, λ none. n.memory.1 (ap (option_map (within extent)) l ∙ ap Some none))
+why e extent rest old new b l n = inr (n.taken.1 b l)
+
+-- what is left of a file that ends
+none_left : (extent rest : Option ℕ) (old new : Reading) (b : List ℕ) → EndsThere extent old rest new → old.left ≡ Some b → (within extent b ≡ []) × (wanting extent b ≡ 0)
+none_left None rest old new b h l = (h.0.none_left b l, refl)
+none_left (Some n) rest old new b h l = (ap (λ k. take k b) h.0, omega (arith, h.0))
 
 pub exact : (E : Type 0) → RunsAreExact E
 exact E s b [] d l h = tt
 exact E s b (Some (Ok t) ∷ items) d l h =
     let k = MatchBool-at_false _ _ d h.1 in
     let t = k.1.taken in
-    let w = t.1.taken b l in
-    (w.0, (t.0, w.1), subst (λ x. AreItemsOf {E = E} x w.0 items) t.1.same.lends (exact E h.0 w.0 items k.0 w.2 h.2))
+    let w = t.1.takes.taken b l in
+    let more = exact E h.0 w.0 items k.0 w.2 h.2 in
+    let lends : h.0.source.lends ≡ s.source.lends = t.1.takes.same.lends in
+    let wants : wanting h.0.extent w.0 ≡ wanting s.extent b = wanting_behind s.extent h.0.extent _ w.0 t.1.spends ∙ ap (wanting s.extent) (sym w.1) in (
+      within h.0.extent w.0,
+      (t.0, ap (within s.extent) w.1 ∙ within_behind s.extent h.0.extent _ w.0 t.1.spends),
+      subst (λ n. AreItemsOf {E = E} s.source.lends n (within h.0.extent w.0) items) wants (subst (λ x. AreItemsOf {E = E} x (wanting h.0.extent w.0) (within h.0.extent w.0) items) lends more),
+    )
 exact E s b (Some (Err e) ∷ items) d l h =
     let k = MatchBool-at_false _ _ d h.1 in
-    (why e s.source h.0.source b l k.1, nothing_more h.0 items k.0 h.2)
+    (why e s.extent h.0.extent s.source h.0.source b l k.1, nothing_more h.0 items k.0 h.2)
 exact E s b (None ∷ items) d l h =
     let k = MatchBool-at_false _ _ d h.1 in
-    (k.1.taken.none_left b l, nothing_more h.0 items k.0 h.2)
+    let e = none_left s.extent h.0.extent s.source h.0.source b k.1.taken l in
+    (e.0, e.1, nothing_more h.0 items k.0 h.2)
 
 -- ---- a file, read back
 
@@ -61,33 +78,36 @@ some_bytes : (s : Section) (sections : List Section) → IsSection s → 0 < len
 some_bytes s sections h = omega (arith, section_some s h, length-append (section_bytes s) (bytes_of sections))
 
 -- where sections stand, no section is refused
-not_refused : {E : Type 0} (e : CarError E) (sections : List Section) → AllByRecursion IsSection sections → RefusesSection e (bytes_of sections) → ⊥
+not_refused : {E : Type 0} (e : CarError E) (sections : List Section) → AllByRecursion IsSection sections → RefusesSection 0 e (bytes_of sections) → ⊥
 not_refused e [] all r = omega (arith, r.0)
 not_refused e (s ∷ sections) all r = r.1 s (bytes_of sections) (all.0, refl)
 
-sections_given : {E : Type 0} (lends : Bool) (items : List (Item E)) (sections : List Section) → AllByRecursion IsSection sections → AreItemsOf lends (bytes_of sections) items → AreSections lends items sections
+sections_given : {E : Type 0} (lends : Bool) (items : List (Item E)) (sections : List Section) → AllByRecursion IsSection sections → AreItemsOf lends 0 (bytes_of sections) items → AreSections lends items sections
 sections_given lends [] sections all h = tt
 sections_given lends (Some (Ok t) ∷ items) [] all h = absurd (omega (arith, ap length h.1.1, section_some t h.1.0, length-append (section_bytes t) h.0))
 sections_given {E} lends (Some (Ok t) ∷ items) (s ∷ sections) all h =
     let same = section_unique t s h.0 (bytes_of sections) h.1.0 all.0 (sym h.1.1) in
-    (sections, ap (λ x. x ∷ sections) (sym same.0), sections_given lends items sections all.1 (subst (λ b. AreItemsOf {E = E} lends b items) same.1 h.2))
+    (sections, ap (λ x. x ∷ sections) (sym same.0), sections_given lends items sections all.1 (subst (λ b. AreItemsOf {E = E} lends 0 b items) same.1 h.2))
 sections_given lends (Some (Err e) ∷ items) sections all h = (elim h.0 [ inl g ↦ g | inr r ↦ absurd (not_refused e sections all r) ], h.1)
-sections_given lends (None ∷ items) [] all h = (refl, h.1)
+sections_given lends (None ∷ items) [] all h = (refl, h.2)
 sections_given lends (None ∷ items) (s ∷ sections) all h = absurd (omega (arith, ap length h.0, some_bytes s sections all.0))
 
--- the header of a file is not refused
-gives_up : {E : Type 0} (e : CarError E) (old : Reading) (b : List ℕ) (roots : List (List ℕ)) (sections : List Section) → IsCar b roots sections → old.left ≡ Some b → NotBegun old e → DoesNotBegin e
-gives_up (Read f) old b roots sections car l n = tt
-gives_up OutOfMemory old b roots sections car l n = tt
-gives_up e old b roots sections car l n = absurd ((n b l).0 roots (bytes_of sections) (car.header, car.is))
+-- the start of a file is not refused
+gives_up : {E : Type 0} (e : CarError E) (old : Reading) (b : List ℕ) (roots : List (List ℕ)) (sections : List Section) → IsFile b roots sections → old.left ≡ Some b → NotBegun old e → DoesNotBegin e
+gives_up (Read f) old b roots sections file l n = tt
+gives_up OutOfMemory old b roots sections file l n = tt
+gives_up {E} e old b roots sections file l n = absurd (no_file {E = E} e b (n b l) roots sections file)
 
 pub read_back : {R : Type 0} (E : Type 0) (reading : R → Reading) → CarsReadBack E reading
-read_back {R} E reading b roots sections old (Err e) car l h = gives_up e old b roots sections car l h
-read_back {R} E reading b roots sections old (Ok p) car l h =
-    let w = h.0.1.taken b l in
-    let same = header_unique (forms p.0.items) roots w.0 (bytes_of sections) h.0.0 car.header (sym w.1 ∙ car.is) in
-    let from : Reading = (section_stream reading p.1).source in
-    (same.0, λ items g. subst (λ x. AreSections {E = E} x items sections) h.0.1.same.lends (sections_given from.lends items sections car.all (exact E (section_stream reading p.1) (bytes_of sections) items h.1 (w.2 ∙ ap Some same.1) g)))
+read_back {R} E reading b roots sections old (Err e) file l h = gives_up e old b roots sections file l h
+read_back {R} E reading b roots sections old (Ok p) file l h =
+    let from = section_stream reading p.1 in
+    let w = h.0.takes.taken b l in
+    let car = header_bytes (forms p.0.items) ++ within from.extent w.0 in
+    let holds : HoldsCar b car (wanting from.extent w.0) = subst (λ x. HoldsCar x car (wanting from.extent w.0)) (sym w.1) (start_holds h.0.front w.0 (forms p.0.items) from.extent h.0.header h.0.start) in
+    let one = holds_one b car file.0 (wanting from.extent w.0) 0 holds file.1 in
+    let same = header_unique (forms p.0.items) roots (within from.extent w.0) (bytes_of sections) h.0.header file.2.header (one.0 ∙ file.2.is) in
+    (same.0, λ items g. subst (λ x. AreSections {E = E} x items sections) h.0.takes.same.lends (sections_given from.source.lends items sections file.2.all (subst (λ n. AreItemsOf {E = E} from.source.lends n (bytes_of sections) items) one.1 (subst (λ c. AreItemsOf {E = E} from.source.lends (wanting from.extent w.0) c items) same.1 (exact E from w.0 items h.1 w.2 g)))))
 
 -- ---- runs of `write`
 

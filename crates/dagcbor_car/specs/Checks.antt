@@ -1,18 +1,19 @@
 -- What is found of a whole file of blocks.
-use Rattle.std.specs.Prelude.{◌≡◌, ◌≢◌, ◌↔◌, ◌⊎◌, ℕ, List, [], ◌∷◌, ◌++◌, ⊤, Vec}
+use Rattle.std.specs.Prelude.{◌≡◌, ◌≢◌, ◌↔◌, ◌⊎◌, ℕ, ◌+◌, List, [], ◌∷◌, ◌++◌, drop, ⊤, Option, Vec}
 use Rattle.std.specs.Prelude.{Result, MatchResult, MatchBool, Bool, Some, OnOk}
 use Rattle.std.specs.List.{AllByRecursion}
 use Rattle.std.specs.List.Sorted.{IsStrictlySortedBy}
 use Rattle.std.specs.declared.alloc.Global.{Global}
 use Rattle.dagcbor_heads.specs.Reading.{Reading, Stays}
-use Rattle.dagcbor_heads.specs.Fronts.{FindsEnd}
 use Rattle.ipld_tree.specs.Cid.{CidParts, cid_bytes, cid_cmp}
 use Rattle.ipld_tree.specs.Tree.{Tree, links_of}
 use Rattle.dagcbor_items.specs.Slices.{IsBlock}
 use Rattle.dagcbor_items.specs.Walks.{forms}
-use Rattle.dagcbor_car.specs.Car.{Section, IsHeader, IsSection, car_bytes, IsCar}
-use Rattle.dagcbor_car.specs.Sources.{CarRefuses, RefusesHeader, RefusesSection, TakesSectionBytes}
-use Rattle.dagcbor_car.specs.Sources.{LacksMemoryIf, HeaderLacks}
+use Rattle.dagcbor_car.specs.Car.{Section, IsHeader, IsSection, car_bytes}
+use Rattle.dagcbor_car.specs.Versions.{IsVersion2, begin_of, length_of, HasSpan, HoldsCar, IsFile}
+use Rattle.dagcbor_car.specs.Extents.{EndsThere}
+use Rattle.dagcbor_car.specs.Sources.{CarRefuses, RefusesStart, RefusesSection, RefusesNext}
+use Rattle.dagcbor_car.specs.Sources.{TakesSectionBytes, LacksMemoryIf, FileLacks}
 use Rattle.dagcbor_car.specs.Verdicts.{IsVerified, IsDagCbor, IsVerdict}
 use Rattle.dagcbor_car.specs.Verdicts.{Told, sections_of, AreTold, TellsAll, Tells}
 use Rattle.dagcbor_car.specs.Sets.{Among, members, AreCids}
@@ -91,19 +92,20 @@ TellsNone holds OutOfMemory before after = TellsAll holds before [] after
 TellsNone holds e before after = after ≡ before
 
 -- why no section is taken; no verdict is told then
-abbrev pub StepRefused : {S E : Type 0} → (S → List Told → Type 0) → Reading → S → CarError E
-    → Reading → S → Type 0
-StepRefused holds old before e new after = CarRefuses RefusesSection old e new
+abbrev pub StepRefused : {S E : Type 0} → (S → List Told → Type 0) → Option ℕ → Reading → S
+    → CarError E → Reading → S → Type 0
+StepRefused holds extent old before e new after = CarRefuses (RefusesNext extent) old e new
     × TellsNone holds e before after
 
 -- The section at the front is taken, and the verdict on it told; or the end is found.
-abbrev pub Steps : {S E : Type 0} → (S → List Told → Type 0) → Reading → CarCheck → S
-    → Result Bool (CarError E) → Reading → CarCheck → S → Type 0
-Steps holds old check before result new next after = MatchResult result
+abbrev pub Steps : {S E : Type 0} → (S → List Told → Type 0) → Option ℕ → Reading → CarCheck → S
+    → Result Bool (CarError E) → Option ℕ → Reading → CarCheck → S → Type 0
+Steps holds extent old check before result rest new next after = MatchResult result
     (λ more. MatchBool more
-    ((s : Section) × TakesSectionBytes old s new × TellsVerdict holds s check before next after)
-    (FindsEnd old new × (next ≡ check) × (after ≡ before)))
-    (λ e. StepRefused holds old before e new after)
+    ((s : Section) × TakesSectionBytes extent old s rest new
+    × TellsVerdict holds s check before next after)
+    (EndsThere extent old rest new × (next ≡ check) × (after ≡ before)))
+    (λ e. StepRefused holds extent old before e new after)
 
 -- ---- the whole
 
@@ -113,15 +115,22 @@ pub record IsCarFront (b : List ℕ) (roots : List (List ℕ)) (sections : List 
   pub all : AllByRecursion IsSection sections
   pub is : b ≡ car_bytes roots sections ++ rest
 
--- the bytes are no file of blocks
-abbrev pub IsNoCar : List ℕ → Type 0
-IsNoCar b = (roots : List (List ℕ)) (sections : List Section) → ¬ IsCar b roots sections
+-- of a file of either version, of which so many bytes are wanting, the header and these sections stand
+-- there, and then the rest
+abbrev pub IsFileFront : List ℕ → List (List ℕ) → List Section → ℕ → List ℕ → Type 0
+IsFileFront b roots sections n rest = (car : List ℕ) × HoldsCar b car n
+    × IsCarFront car roots sections rest
 
--- the sections of a file up to the rest were told, and the verdicts on them
-pub record TellsFront {S : Type 0} (holds : S → List Told → Type 0) (b rest : List ℕ) (old new : S) : Type 0 where
+-- the bytes are no file of blocks
+abbrev pub IsNoFile : List ℕ → Type 0
+IsNoFile b = (roots : List (List ℕ)) (sections : List Section) → ¬ IsFile b roots sections
+
+-- Of a file of which so many bytes are wanting the sections up to the rest were told, and the verdicts
+-- on them.
+pub record TellsFront {S : Type 0} (holds : S → List Told → Type 0) (b : List ℕ) (n : ℕ) (rest : List ℕ) (old new : S) : Type 0 where
   pub roots : List (List ℕ)
   pub told : List Told
-  pub front : IsCarFront b roots (sections_of told) rest
+  pub front : IsFileFront b roots (sections_of told) n rest
   pub right : AreTold told
   pub tells : TellsAll holds old told new
 
@@ -130,33 +139,39 @@ pub record TellsFront {S : Type 0} (holds : S → List Told → Type 0) (b rest 
 abbrev pub TellsFirst : {S E : Type 0} → (S → List Told → Type 0) → CarError E → List ℕ → S → S
     → Type 0
 TellsFirst holds e b old new = TellsNone holds e old new
-    ⊎ ((rest : List ℕ) × TellsFront holds b rest old new)
+    ⊎ ((n : ℕ) × (rest : List ℕ) × TellsFront holds b n rest old new)
 
--- why bytes are no file, and what was told: no header stands first; or all sections up to a place
--- were told where no section stands, though bytes do
+-- why bytes are no file, and what was told: no file begins; or all sections up to a place were told
+-- where no section stands, though bytes do, or are wanting
 abbrev pub CarFault : {S E : Type 0} → (S → List Told → Type 0) → CarError E → List ℕ → S → S → Type 0
-CarFault holds e b old new = (RefusesHeader e b × (new ≡ old))
-    ⊎ ((rest : List ℕ) × RefusesSection e rest × TellsFront holds b rest old new)
+CarFault holds e b old new = (RefusesStart e b × (new ≡ old))
+    ⊎ ((n : ℕ) × (rest : List ℕ) × RefusesSection n e rest × TellsFront holds b n rest old new)
 
 -- why a file is not gone through, and what was told
 abbrev pub CarRefused : {S E : Type 0} → (S → List Told → Type 0) → CarError E → List ℕ → S → S → Type 0
 CarRefused {S} {E} holds (Read e) b old new = TellsFirst {E = E} holds (Read e) b old new
 CarRefused {S} {E} holds OutOfMemory b old new = TellsFirst {E = E} holds OutOfMemory b old new
-CarRefused holds e b old new = IsNoCar b × CarFault holds e b old new
+CarRefused holds e b old new = IsNoFile b × CarFault holds e b old new
 
--- A file is gone through exactly where the bytes are one, faults and want of memory aside: its
--- sections are told, and the verdicts on them, and what leads nowhere is listed.
+-- A file of either version is gone through exactly where the bytes are one, faults and want of memory
+-- aside: its sections are told, and the verdicts on them, and what leads nowhere is listed.
 abbrev pub ChecksCar : {S E : Type 0} → (S → List Told → Type 0) → List ℕ → S
     → Result (Vec CidParts Global) (CarError E) → S → Type 0
 ChecksCar holds b old result new = MatchResult result
-    (λ v. (roots : List (List ℕ)) × (told : List Told) × IsCar b roots (sections_of told) × AreTold told × TellsAll holds old told new × ListsMissing roots (sections_of told) v)
+    (λ v. (roots : List (List ℕ)) × (told : List Told) × IsFile b roots (sections_of told) × AreTold told × TellsAll holds old told new × ListsMissing roots (sections_of told) v)
     (λ e. CarRefused holds e b old new)
 
--- The bytes that are left are gone through so, where the source tells them, and all are taken, and
--- the reader and its steps are as before; a fault is one of the source; and over a slice memory is
--- wanted only behind a header's block.
+-- these bytes of the whole stand behind the file: none, or of version 2 all that do
+abbrev pub StandBehind : List ℕ → List ℕ → Type 0
+StandBehind b rest = ((¬ IsVersion2 b) × (rest ≡ []))
+    ⊎ (HasSpan b × (rest ≡ drop (begin_of b + length_of b) b))
+
+-- The bytes that are left are gone through so, where the source tells them, and the file is taken and
+-- nothing behind it, and the reader and its steps are as before; a fault is one of the source; and
+-- over a slice memory is wanted only behind a header's block.
 pub record ChecksInput {S E : Type 0} (holds : S → List Told → Type 0) (old : Reading) (before : S) (result : Result (Vec CidParts Global) (CarError E)) (new : Reading) (after : S) : Type 0 where
   pub known : (b : List ℕ) → old.left ≡ Some b → ChecksCar holds b before result after
-  pub all : OnOk result ((b : List ℕ) → old.left ≡ Some b → new.left ≡ Some [])
+  pub all : OnOk result ((b : List ℕ) → old.left ≡ Some b
+      → (rest : List ℕ) × StandBehind b rest × (new.left ≡ Some rest))
   pub faults : MatchResult result (λ _. Stays old new) (λ e. CarRefuses (λ _ _. ⊤) old e new)
-  pub memory : LacksMemoryIf (HeaderLacks old) result
+  pub memory : LacksMemoryIf (FileLacks old) result

@@ -1,7 +1,10 @@
 pub mod Names
 pub mod Car
+pub mod Versions
 pub mod Splits
+pub mod Extents
 pub mod Sources
+pub mod Steps
 pub mod Writers
 pub mod Verdicts
 pub mod Runs

@@ -9,6 +9,8 @@ use Rattle.ipld_tree.specs.Cid.{CidParts}
 use Rattle.dagcbor_items.specs.Walks.{forms}
 use Rattle.dagcbor_car.specs.Car.{Section, section_bytes, car_bytes, IsCar}
 use Rattle.dagcbor_car.specs.Splits.{SplitsSection}
+use Rattle.dagcbor_car.specs.Versions.{IsFile}
+use Rattle.dagcbor_car.specs.Extents.{within, wanting}
 use Rattle.dagcbor_car.specs.Sources.{RefusesSection, SectionStream, section_stream, GivesSection}
 use Rattle.dagcbor_car.specs.Sources.{Begins}
 use Rattle.dagcbor_car.specs.Writers.{WriterState, BeginsCar, WritesSection}
@@ -40,19 +42,21 @@ GivesUp lends b OutOfMemory = (lends ≡ false) × (b ≢ [])
 GivesUp lends b _ = ⊥
 
 -- The sections that stand one behind the other at the front of the bytes come one by one. Then
--- comes the end, where no bytes are left, or one error: its cause stands there, and no section, or
--- it says nothing of the bytes. Nothing comes behind that.
-abbrev pub AreItemsOf : {E : Type 0} → Bool → List ℕ → List (Item E) → Type 0
-AreItemsOf lends b [] = ⊤
-AreItemsOf lends b (Some (Ok s) ∷ items) = (rest : List ℕ) × SplitsSection b s rest
-    × AreItemsOf lends rest items
-AreItemsOf lends b (Some (Err e) ∷ items) = (GivesUp lends b e ⊎ RefusesSection e b) × AreNone items
-AreItemsOf lends b (None ∷ items) = (b ≡ []) × AreNone items
+-- comes the end, where no bytes are left, nor wanting; or one error: its cause stands there, and no
+-- section, or it says nothing of the bytes. Nothing comes behind that.
+abbrev pub AreItemsOf : {E : Type 0} → Bool → ℕ → List ℕ → List (Item E) → Type 0
+AreItemsOf lends n b [] = ⊤
+AreItemsOf lends n b (Some (Ok s) ∷ items) = (rest : List ℕ) × SplitsSection b s rest
+    × AreItemsOf lends n rest items
+AreItemsOf lends n b (Some (Err e) ∷ items) = (GivesUp lends b e ⊎ RefusesSection n e b)
+    × AreNone items
+AreItemsOf lends n b (None ∷ items) = (b ≡ []) × (n ≡ 0) × AreNone items
 
--- However often `next` is called, over known bytes, it gives the items of these bytes.
+-- However often `next` is called, over known bytes, it gives the items of those that are of the file.
 abbrev pub RunsAreExact : Type 0 → Type 0
 RunsAreExact E = (s : SectionStream) (b : List ℕ) (items : List (Item E)) → s.done ≡ false
-    → s.source.left ≡ Some b → GivesItems s items → AreItemsOf s.source.lends b items
+    → s.source.left ≡ Some b → GivesItems s items
+    → AreItemsOf s.source.lends (wanting s.extent b) (within s.extent b) items
 
 -- ---- what is read of a file
 
@@ -77,7 +81,7 @@ DoesNotBegin _ = ⊥
 abbrev pub CarsReadBack : {R : Type 0} → Type 0 → (R → Reading) → Type 0
 CarsReadBack {R} E reading = (b : List ℕ) (roots : List (List ℕ)) (sections : List Section)
     (old : Reading) (result : Result (Vec CidParts Global × CarReader R) (CarError E))
-    → IsCar b roots sections → old.left ≡ Some b → Begins reading old result
+    → IsFile b roots sections → old.left ≡ Some b → Begins reading old result
     → MatchResult result
     (λ p. (forms p.0.items ≡ roots) × ((items : List (Item E))
     → GivesItems (section_stream reading p.1) items → AreSections old.lends items sections))

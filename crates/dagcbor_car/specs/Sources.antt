@@ -1,5 +1,5 @@
 -- What is taken of a file that comes from a reader, and why it is not.
-use Rattle.std.specs.Prelude.{◌≡◌, ◌≢◌, ℕ, ◌+◌, ◌*◌, ◌<◌, List, [], length, Bool, true, false, ⊤}
+use Rattle.std.specs.Prelude.{◌≡◌, ◌≢◌, ◌⊎◌, ℕ, ◌+◌, ◌*◌, ◌<◌, List, [], ◌++◌, length, Bool, true, false, ⊤}
 use Rattle.std.specs.Prelude.{Option, None, Some, Result, Ok, Err, is_err, Vec}
 use Rattle.std.specs.declared.alloc.Global.{Global}
 use Rattle.std.specs.Prelude.{MatchBool, MatchOption, MatchResult}
@@ -14,6 +14,8 @@ use Rattle.dagcbor_items.specs.Walks.{forms}
 use Rattle.dagcbor_car.specs.Car.{Section, section_bytes, IsSection, header_bytes, IsHeader}
 use Rattle.dagcbor_car.specs.Splits.{BeginsNoSection, SectionFault, BeginsNoHeader, HeaderFault}
 use Rattle.dagcbor_car.specs.Splits.{CountsBlock}
+use Rattle.dagcbor_car.specs.Versions.{begin_of, length_of, IsVersion2, HasSpan, HoldsCar, SpanFault}
+use Rattle.dagcbor_car.specs.Extents.{within, wanting, of_file, Spends, TakesOff, EndsThere}
 use Rattle.dagcbor_car.specs.declared.error.CarError.{CarError}
 use Rattle.dagcbor_car.specs.declared.error.CarError.TheVariants.{Read, Truncated, OutOfMemory}
 use Rattle.dagcbor_car.specs.declared.reader.CarReader.{CarReader}
@@ -39,6 +41,11 @@ LacksMemoryIf lacks (Ok v) = ⊤
 abbrev pub HeaderLacks : Reading → Type 0
 HeaderLacks old = old.lends ≡ true → (b : List ℕ) → old.left ≡ Some b → CountsBlock b
 
+-- the same where a file of either version begins
+abbrev pub FileLacks : Reading → Type 0
+FileLacks old = old.lends ≡ true → (b : List ℕ) → old.left ≡ Some b
+    → (car : List ℕ) × (n : ℕ) × HoldsCar b car n × CountsBlock car
+
 -- where memory may be wanting for a section: not over a slice, nor at the end
 abbrev pub SectionLacks : Reading → Type 0
 SectionLacks old = (old.lends ≡ false) × (old.left ≢ Some [])
@@ -57,44 +64,65 @@ car_error _ = Truncated
 abbrev pub RefusesHeader : {E : Type 0} → CarError E → List ℕ → Type 0
 RefusesHeader e b = BeginsNoHeader b × HeaderFault e b
 
--- some bytes are there, and no section stands first, for this cause
-abbrev pub RefusesSection : {E : Type 0} → CarError E → List ℕ → Type 0
-RefusesSection e b = (0 < length b) × BeginsNoSection b × SectionFault e b
+-- no file begins, for this cause: bytes of version 2 do not tell where the file of version 1 stands, or
+-- no header stands first there
+abbrev pub RefusesStart : {E : Type 0} → CarError E → List ℕ → Type 0
+RefusesStart e b = SpanFault e b
+    ⊎ ((car : List ℕ) × (n : ℕ) × HoldsCar b car n × RefusesHeader e car)
+
+-- some bytes are there, or are wanting, and no section stands first, for this cause
+abbrev pub RefusesSection : {E : Type 0} → ℕ → CarError E → List ℕ → Type 0
+RefusesSection n e b = (0 < length b + n) × BeginsNoSection b × SectionFault e b
+
+-- the same of what is left of a file
+abbrev pub RefusesNext : {E : Type 0} → Option ℕ → CarError E → List ℕ → Type 0
+RefusesNext extent e b = RefusesSection (wanting extent b) e (within extent b)
 
 -- ---- what is taken
 
--- the header of these roots stood first, and was taken
-abbrev pub TakesHeader : Reading → List (List ℕ) → Reading → Type 0
-TakesHeader old roots new = IsHeader roots × Takes old (header_bytes roots) new
+-- the bytes begin a file of these roots, and so much of it is left: they are the header; or, of
+-- version 2, its header, any bytes up to where the file of version 1 begins, and the header of that
+abbrev pub IsStart : List ℕ → List (List ℕ) → Option ℕ → Type 0
+IsStart front roots extent = ((front ≡ header_bytes roots) × (extent ≡ None))
+    ⊎ (HasSpan front × ((before : List ℕ) × (length before ≡ begin_of front)
+    × (front ≡ before ++ header_bytes roots)
+    × Spends (Some (length_of front)) (length (header_bytes roots)) extent))
 
--- The header at the front is taken, or none stands there.
-abbrev pub PullsHeader : {E : Type 0} → Reading → Result (Vec CidParts Global) (CarError E) → Reading
-    → Type 0
-PullsHeader old result new = MatchResult result
-    (λ v. TakesHeader old (forms v.items) new)
-    (λ e. CarRefuses RefusesHeader old e new)
+-- the start of a file of these roots stood first, and was taken, and so much of the file is left; each
+-- byte was looked at twice, and none behind them
+pub record TakesStart (old : Reading) (roots : List (List ℕ)) (extent : Option ℕ) (new : Reading) : Type 0 where
+  pub front : List ℕ
+  pub header : IsHeader roots
+  pub start : IsStart front roots extent
+  pub takes : Takes old front new
+  pub looked : LooksAtMost (2 * length front) old new
+  pub none_shown : new.shown ≡ []
 
--- how often bytes are looked at: each of the header's twice, and none behind it, of which none is
--- shown
-abbrev pub LooksAtHeader : {E : Type 0} → Reading → Result (Vec CidParts Global) (CarError E)
-    → Reading → Type 0
-LooksAtHeader old result new = MatchResult result
-    (λ v. LooksAtMost (2 * length (header_bytes (forms v.items))) old new × (new.shown ≡ []))
-    (λ _. LooksAtLeft 2 0 old new)
+-- The start of a file is taken, or none begins.
+abbrev pub PullsStart : {E : Type 0} → Reading
+    → Result (Vec CidParts Global × Option ℕ) (CarError E) → Reading → Type 0
+PullsStart old result new = MatchResult result
+    (λ p. TakesStart old (forms p.0.items) p.1 new)
+    (λ e. CarRefuses RefusesStart old e new)
 
--- this section stood first, and was taken
-abbrev pub TakesSectionBytes : Reading → Section → Reading → Type 0
-TakesSectionBytes old s new = IsSection s × Takes old (section_bytes s) new
+-- how often bytes are looked at by a call that refuses: each that was left twice
+abbrev pub LooksTwice : {T E : Type 0} → Reading → Result T E → Reading → Type 0
+LooksTwice old result new = MatchResult result (λ _. ⊤) (λ _. LooksAtLeft 2 0 old new)
 
--- The end is found, or the section at the front is taken, or none stands there.
-abbrev pub PullsSection : {E : Type 0} → Reading → Result (Option Section) (CarError E) → Reading
-    → Type 0
-PullsSection old result new = MatchResult result
-    (λ next. MatchOption next (FindsEnd old new) (λ s. TakesSectionBytes old s new))
-    (λ e. CarRefuses RefusesSection old e new)
+-- this section stood first, within the file, and was taken
+abbrev pub TakesSectionBytes : Option ℕ → Reading → Section → Option ℕ → Reading → Type 0
+TakesSectionBytes extent old s rest new = IsSection s × TakesOff extent old (section_bytes s) rest new
 
--- how often bytes are looked at: each of the section's twice, the first once more, and none behind
--- it, of which none is shown
+-- The end of the file is found, or the section at the front is taken, or none stands there.
+abbrev pub PullsSection : {E : Type 0} → Option ℕ → Reading → Result (Option Section) (CarError E)
+    → Option ℕ → Reading → Type 0
+PullsSection extent old result rest new = MatchResult result
+    (λ next. MatchOption next (EndsThere extent old rest new)
+    (λ s. TakesSectionBytes extent old s rest new))
+    (λ e. CarRefuses (RefusesNext extent) old e new)
+
+-- how often bytes of the file are looked at: each of the section's twice, the first once more, and
+-- none behind it, of which none is shown
 abbrev pub LooksAtSection : {E : Type 0} → Reading → Result (Option Section) (CarError E) → Reading
     → Type 0
 LooksAtSection old result new = MatchResult result
@@ -108,12 +136,18 @@ LooksAtSection old result new = MatchResult result
 pub record SectionStream : Type 0 where
   -- what they are read from
   pub source : Reading
+  -- how much of the file is left there
+  pub extent : Option ℕ
   -- whether an error, or the end, was met
   pub done : Bool
 
 -- a `CarReader` over a reader whose reading is known
 abbrev pub section_stream : {R : Type 0} → (R → Reading) → CarReader R → SectionStream
-section_stream reading s = record { source = input_reading reading s.input; done = s.done }
+section_stream reading s = record {
+  source = input_reading reading s.input;
+  extent = s.left;
+  done = s.done;
+}
 
 -- what `next` gives is what was taken, and the last but after a section
 abbrev pub as_pulled : {S E : Type 0} → Option (Result S E) → Result (Option S) E
@@ -126,32 +160,31 @@ abbrev pub is_last : {S E : Type 0} → Option (Result S E) → Bool
 is_last None = true
 is_last (Some r) = is_err r
 
--- what is taken next, when memory is wanted, and how often bytes are looked at
-pub record GivesNext {E : Type 0} (old : Reading) (result : Result (Option Section) (CarError E))
-    (new : Reading) : Type 0 where
-  pub taken : PullsSection old result new
-  pub memory : LacksMemoryIf (SectionLacks old) result
-  pub looked : LooksAtSection old result new
+-- what is taken next, when memory is wanted, and how often bytes of the file are looked at
+pub record GivesNext {E : Type 0} (extent : Option ℕ) (old : Reading)
+    (result : Result (Option Section) (CarError E)) (rest : Option ℕ) (new : Reading) : Type 0 where
+  pub taken : PullsSection extent old result rest new
+  pub memory : LacksMemoryIf (SectionLacks (of_file extent old)) result
+  pub looked : LooksAtSection (of_file extent old) result (of_file rest new)
 
 -- What `next` does: nothing comes behind the end, or behind an error; else what is taken next.
 abbrev pub GivesSection : {E : Type 0} → SectionStream → Option (Result Section (CarError E))
     → SectionStream → Type 0
 GivesSection old item new = MatchBool old.done
     ((item ≡ None) × (new ≡ old))
-    ((new.done ≡ is_last item) × GivesNext old.source (as_pulled item) new.source)
+    ((new.done ≡ is_last item)
+    × GivesNext old.extent old.source (as_pulled item) new.extent new.source)
 
--- no header stands first, which a fault of the source and want of memory excuse
+-- no file begins, which a fault of the source and want of memory excuse
 abbrev pub NotBegun : {E : Type 0} → Reading → CarError E → Type 0
 NotBegun old (Read e) = ⊤
-NotBegun old OutOfMemory = HeaderLacks old
-NotBegun old e = (b : List ℕ) → old.left ≡ Some b → RefusesHeader e b
+NotBegun old OutOfMemory = FileLacks old
+NotBegun old e = (b : List ℕ) → old.left ≡ Some b → RefusesStart e b
 
--- The header was taken, and the sections behind it are to come; or nothing was begun.
+-- The start of a file was taken, and the sections behind it are to come; or nothing was begun.
 abbrev pub Begins : {R E : Type 0} → (R → Reading) → Reading
     → Result (Vec CidParts Global × CarReader R) (CarError E) → Type 0
 Begins reading old result = MatchResult result
-    (λ p. TakesHeader old (forms p.0.items) (section_stream reading p.1).source × (p.1.done ≡ false)
-    × LooksAtMost (2 * length (header_bytes (forms p.0.items))) old
-    (section_stream reading p.1).source
-    × ((section_stream reading p.1).source.shown ≡ []))
+    (λ p. TakesStart old (forms p.0.items) (section_stream reading p.1).extent
+    (section_stream reading p.1).source × (p.1.done ≡ false))
     (λ e. NotBegun old e)

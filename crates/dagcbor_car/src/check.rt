@@ -7,6 +7,7 @@ ghost use Rattle.dagcbor_items.specs.Walks.{forms};
 ghost use Rattle.dagcbor_car.specs.Car.{Section as CarSection};
 ghost use Rattle.dagcbor_car.specs.Verdicts.{IsVerified, IsVerdict, TellsAll};
 ghost use Rattle.dagcbor_car.specs.Splits.{HasBlock, CountsBlock};
+ghost use Rattle.dagcbor_car.specs.Versions.{HoldsCar};
 ghost use Rattle.dagcbor_car.specs.Sources.{LacksMemoryIf};
 ghost use Rattle.dagcbor_car.specs.Checks.{HoldsName, FollowsLinks};
 ghost use Rattle.dagcbor_car.specs.Checks.{IsAfter, TakesSection, ListsMissing, TellsVerdict};
@@ -135,7 +136,8 @@ pub fn check_car<S: VerdictSink>(
     verdicts: &mut S,
 ) -> Result<Vec<Cid>, CarError<Infallible>>
     ensures checked { ChecksCar S.holds bytes.now verdicts.old result verdicts.new }
-    ensures memory { LacksMemoryIf (CountsBlock bytes.now) result }
+    ensures memory { LacksMemoryIf ((car : List ℕ) × (n : ℕ) × HoldsCar bytes.now car n
+        × CountsBlock car) result }
 {
     let mut input = Input::<SliceReader>::Slice(SliceReader::new(bytes));
     check_input(alloc, &mut input, verdicts)
@@ -150,12 +152,12 @@ pub fn check_input<'de, R: Read, S: VerdictSink>(
     ensures { ChecksInput S.holds (input_reading R.reading input.old) verdicts.old result
         (input_reading R.reading input.new) verdicts.new }
 {
-    let roots = pull_header(alloc, input)?;
+    let (roots, mut left) = pull_header(alloc, input)?;
     let Ok(mut check) = CarCheck::new(alloc, &roots) else {
         return Err(CarError::OutOfMemory);
     };
     for _ in 0..u64::MAX {
-        let more = step(alloc, &mut check, input, verdicts)?;
+        let more = step(alloc, &mut check, input, &mut left, verdicts)?;
         if !more {
             return missing_of(alloc, check);
         }
@@ -181,12 +183,13 @@ fn step<'de, R: Read, S: VerdictSink>(
     alloc: Global,
     check: &mut CarCheck,
     input: &mut Input<'de, R>,
+    left: &mut Option<u64>,
     verdicts: &mut S,
 ) -> Result<bool, CarError<R::Error>>
-    ensures { Steps S.holds (input_reading R.reading input.old) check.old verdicts.old result
-        (input_reading R.reading input.new) check.new verdicts.new }
+    ensures { Steps S.holds left.old (input_reading R.reading input.old) check.old verdicts.old
+        result left.new (input_reading R.reading input.new) check.new verdicts.new }
 {
-    match pull_section(alloc, input) {
+    match pull_section(alloc, input, left) {
         Ok(Some(section)) => match take_section(check, &section.section(), verdicts) {
             Ok(()) => Ok(true),
             Err(_) => Err(CarError::OutOfMemory),

@@ -27,6 +27,10 @@ pub enum CarError<E> {
     /// The header is a block that is not the map of roots, and of the version 1.
     #[error("the header is not that of version 1")]
     OtherHeader,
+    /// The file of version 1 begins inside the header of version 2, or its end is no number below
+    /// 2^64.
+    #[error("the file of version 1 stands at no place of version 2")]
+    InvalidOffset,
     /// A growth was refused.
     #[error("out of memory")]
     OutOfMemory,

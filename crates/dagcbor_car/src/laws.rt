@@ -1,6 +1,6 @@
 //! Laws of the definitions, and of runs of calls, each the contract of a function that does nothing.
 
-ghost use Rattle.dagcbor_car.specs.Laws.{CarsAreUnique};
+ghost use Rattle.dagcbor_car.specs.Laws.{CarsAreUnique, FilesAreUnique, CarsAreFiles};
 ghost use Rattle.dagcbor_car.specs.Runs.{RunsAreExact, CarsReadBack, CarsAreWritten};
 
 use dagcbor_heads::{Read, Write};
@@ -8,6 +8,16 @@ use dagcbor_heads::{Read, Write};
 /// Bytes are the file of one list of roots and one list of sections at most.
 pub fn cars_are_unique()
     ensures { CarsAreUnique }
+{}
+
+/// The same of files of either version.
+pub fn files_are_unique()
+    ensures { FilesAreUnique }
+{}
+
+/// A file of version 1 is one.
+pub fn cars_are_files()
+    ensures { CarsAreFiles }
 {}
 
 /// However often `next` is called, its sections are those at the front of the bytes, in their order,

@@ -1,4 +1,4 @@
-//! Files of blocks: CAR, version 1.
+//! Files of blocks: CAR, versions 1 and 2.
 #![tactic(auto)]
 
 mod check;
@@ -15,6 +15,7 @@ mod reader;
 mod section;
 mod sink;
 mod verdict;
+mod version;
 mod writer;
 
 pub use check::{CarCheck, check_car, check_input};
@@ -29,4 +30,5 @@ pub use reader::{Begun, CarReader};
 pub use section::{Section, split_section};
 pub use sink::VerdictSink;
 pub use verdict::{Verdict, verify};
+pub use version::{Span, file_span};
 pub use writer::CarWriter;

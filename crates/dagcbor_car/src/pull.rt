@@ -1,30 +1,45 @@
 //! The header and the sections of a file, taken off any reader.
 
-ghost use Rattle.std.specs.Prelude.{◌≡◌, ◌<◌, ◌*◌, ◌^◌, [], ◌∷◌, length, false};
-ghost use Rattle.std.specs.Prelude.{MatchResult, IfOk};
+ghost use Rattle.std.specs.Prelude.{◌≡◌, ◌<◌, ◌≤◌, ◌+◌, ◌*◌, ◌^◌, [], ◌∷◌, ◌++◌, length, false, Some, ℕ};
+ghost use Rattle.std.specs.Prelude.{MatchResult, MatchBool, IfOk, OnOk, List};
 ghost use Rattle.std.specs.Cow.{cow_slice_items};
+ghost use Rattle.dagcbor_heads.specs.Reading.{Fails};
 ghost use Rattle.dagcbor_heads.specs.Fronts.{Takes};
 ghost use Rattle.dagcbor_heads.specs.Inputs.{input_reading, OverInput};
-ghost use Rattle.dagcbor_heads.specs.Looking.{Looks, LooksSome, LooksAtMost};
+ghost use Rattle.dagcbor_heads.specs.Looking.{Looks, LooksSome, LooksOnce, LooksAtLeft, LooksAtMost};
 ghost use Rattle.ipld_tree.specs.Cid.{varint};
+ghost use Rattle.dagcbor_items.specs.Walks.{forms};
 ghost use Rattle.dagcbor_car.specs.Car.{counted, section_bytes};
 ghost use Rattle.dagcbor_car.specs.Splits.{CountFault, BeginsNoSection, SectionFault};
+ghost use Rattle.dagcbor_car.specs.Versions.{pragma, begin_of, length_of, HasSpan};
+ghost use Rattle.dagcbor_car.specs.Extents.{of_file, Spends, TakesOff, EndsThere};
 ghost use Rattle.dagcbor_car.specs.Sources.{CarRefuses, IsShort, car_error, TakesSectionBytes};
-ghost use Rattle.dagcbor_car.specs.Sources.{LacksMemoryIf, HeaderLacks, SectionLacks};
-ghost use Rattle.dagcbor_car.specs.Sources.{PullsHeader, PullsSection};
-ghost use Rattle.dagcbor_car.specs.Sources.{LooksAtHeader, LooksAtSection};
+ghost use Rattle.dagcbor_car.specs.Sources.{LacksMemoryIf, FileLacks, SectionLacks, RefusesStart};
+ghost use Rattle.dagcbor_car.specs.Sources.{TakesStart, PullsStart, PullsSection};
+ghost use Rattle.dagcbor_car.specs.Sources.{LooksTwice, LooksAtSection};
+ghost use Rattle.dagcbor_car.specs.Steps.{IsOver, IsDue, TakesSpan, TakesEnclosed, EnclosedLacks};
+ghost use Rattle.dagcbor_car.specs.declared.error.CarError.TheVariants.{Truncated};
 
 use crate::error::CarError;
 use crate::header::read_header;
 use crate::read_section::ReadSection;
+use crate::version::{HEADER_LENGTH, is_version_2, span_of};
 use arrayvec::ArrayVec;
-use dagcbor_heads::{DecodeError, Input, Read, is_at_end, pull_one, pull_payload};
+use dagcbor_heads::{
+    DecodeError, Input, Read, is_at_end, pull_one, pull_payload, pull_short_payload,
+};
 use ipld_tree::{Cid, CidError, split_varint};
 use std::alloc::Global;
 use std::borrow::CowSlice;
 
 /// What was being read, where bytes are missing. No error of a file tells it.
 const NAME: &str = "file";
+
+/// How many bytes the fields of a header of version 2 have.
+const FIELDS: usize = 40;
+
+/// How many bytes are skipped at once.
+const PIECE: usize = 1024;
 
 /// The most groups of a varint.
 pub(crate) const MOST_GROUPS: usize = 10;
@@ -55,19 +70,57 @@ fn pull_byte<R: Read>(reader: &mut R) -> Result<u8, CarError<R::Error>>
     }
 }
 
-/// The length at the front, which is taken.
-fn pull_length<R: Read>(reader: &mut R) -> Result<u64, CarError<R::Error>>
+/// Takes so many off the bytes that are left of the file.
+fn spend<E: Drop>(left: &mut Option<u64>, count: u64) -> Result<(), CarError<E>>
+    ensures { MatchResult result
+        (λ _. Spends left.old count left.new)
+        (λ e. (e ≡ Truncated) × IsOver left.old count) }
+{
+    let Some(most) = *left else {
+        return Ok(());
+    };
+    match most.checked_sub(count) {
+        Some(rest) => {
+            *left = Some(rest);
+            Ok(())
+        }
+        None => Err(CarError::Truncated),
+    }
+}
+
+/// The next byte of the file, which is taken.
+#[tactic(auto, using(crate::proofs::Spending::byte_off, crate::proofs::Spending::byte_looked, crate::proofs::Spending::over_short, crate::proofs::Spending::looked_not))]
+fn pull_next<R: Read>(reader: &mut R, left: &mut Option<u64>) -> Result<u8, CarError<R::Error>>
     ensures taken { MatchResult result
-        (λ n. (n < 2 ^ 64) × Takes (R.reading reader.old) (varint n) (R.reading reader.new))
-        (λ e. CarRefuses CountFault (R.reading reader.old) e (R.reading reader.new)) }
+        (λ byte. TakesOff left.old (R.reading reader.old) (byte ∷ []) left.new
+        (R.reading reader.new))
+        (λ e. CarRefuses (IsShort 1) (of_file left.old (R.reading reader.old)) e
+        (R.reading reader.new)) }
     ensures memory { LacksMemoryIf ⊥ result }
-    ensures looked { Looks 2 (R.reading reader.old) result (R.reading reader.new) }
+    ensures looked { Looks 2 (of_file left.old (R.reading reader.old)) result
+        (of_file left.new (R.reading reader.new)) }
+    ensures at_most { LooksAtMost 2 (R.reading reader.old) (R.reading reader.new) }
+{
+    spend(left, 1)?;
+    pull_byte(reader)
+}
+
+/// The length at the front, which is taken.
+fn pull_length<R: Read>(reader: &mut R, left: &mut Option<u64>) -> Result<u64, CarError<R::Error>>
+    ensures taken { MatchResult result
+        (λ n. (n < 2 ^ 64) × TakesOff left.old (R.reading reader.old) (varint n) left.new
+        (R.reading reader.new))
+        (λ e. CarRefuses CountFault (of_file left.old (R.reading reader.old)) e
+        (R.reading reader.new)) }
+    ensures memory { LacksMemoryIf ⊥ result }
+    ensures looked { Looks 2 (of_file left.old (R.reading reader.old)) result
+        (of_file left.new (R.reading reader.new)) }
     ensures at_most { IfOk result
         (λ n. LooksAtMost (2 * length (varint n)) (R.reading reader.old) (R.reading reader.new)) }
 {
     let mut groups = ArrayVec::<u8, MOST_GROUPS>::new();
     for _place in 0..MOST_GROUPS {
-        let byte = pull_byte(reader)?;
+        let byte = pull_next(reader, left)?;
         groups.push(byte);
         match split_varint(&groups) {
             Ok((number, _rest)) => return Ok(number),
@@ -103,77 +156,230 @@ fn pull_bytes<'de, R: Read>(
     }
 }
 
+/// The next n bytes of the file, which are taken.
+#[tactic(auto, using(crate::proofs::Spending::bytes_off, crate::proofs::Spending::bytes_looked, crate::proofs::Spending::over_short, crate::proofs::Spending::looked_not))]
+fn pull_body<'de, R: Read>(
+    alloc: Global,
+    input: &mut Input<'de, R>,
+    left: &mut Option<u64>,
+    n: u64,
+) -> Result<CowSlice<'de, u8>, CarError<R::Error>>
+    ensures taken { MatchResult result
+        (λ c. (length (cow_slice_items c) ≡ n)
+        × TakesOff left.old (input_reading R.reading input.old) (cow_slice_items c) left.new
+        (input_reading R.reading input.new))
+        (λ e. CarRefuses (IsShort n) (of_file left.old (input_reading R.reading input.old)) e
+        (input_reading R.reading input.new)) }
+    ensures memory { LacksMemoryIf ((input_reading R.reading input.old).lends ≡ false) result }
+    ensures looked { LooksSome 2 (of_file left.old (input_reading R.reading input.old)) result
+        (of_file left.new (input_reading R.reading input.new)) }
+    ensures at_most { LooksAtMost (2 * n) (input_reading R.reading input.old)
+        (input_reading R.reading input.new) }
+{
+    spend(left, n)?;
+    pull_bytes(alloc, input, n)
+}
+
 /// The bytes behind the length at the front. All of them are taken.
 fn pull_counted<'de, R: Read>(
     alloc: Global,
     input: &mut Input<'de, R>,
+    left: &mut Option<u64>,
 ) -> Result<CowSlice<'de, u8>, CarError<R::Error>>
     ensures taken { MatchResult result
         (λ c. (length (cow_slice_items c) < 2 ^ 64)
-        × Takes (input_reading R.reading input.old) (counted (cow_slice_items c))
-        (input_reading R.reading input.new))
-        (λ e. CarRefuses CountFault (input_reading R.reading input.old) e
+        × TakesOff left.old (input_reading R.reading input.old) (counted (cow_slice_items c))
+        left.new (input_reading R.reading input.new))
+        (λ e. CarRefuses CountFault (of_file left.old (input_reading R.reading input.old)) e
         (input_reading R.reading input.new)) }
-    ensures memory { LacksMemoryIf ((input_reading R.reading input.old).lends ≡ false) result }
-    ensures looked { OverInput R.reading (Looks 2) input.old result input.new }
-    ensures at_most { IfOk result (λ c. LooksAtMost (2 * length (counted (cow_slice_items c)))
+    ensures memory { LacksMemoryIf
+        (SectionLacks (of_file left.old (input_reading R.reading input.old))) result }
+    ensures looked { Looks 2 (of_file left.old (input_reading R.reading input.old)) result
+        (of_file left.new (input_reading R.reading input.new)) }
+    ensures at_most { IfOk result
+        (λ c. LooksAtMost (2 * length (counted (cow_slice_items c)))
         (input_reading R.reading input.old) (input_reading R.reading input.new)) }
 {
-    let count = pull_length(input)?;
-    pull_bytes(alloc, input, count)
+    let count = pull_length(input, left)?;
+    pull_body(alloc, input, left, count)
 }
 
-/// The roots of the header at the front, which is taken.
+/// The next n bytes, at most `CAP`, which are taken, with no memory.
+fn pull_short<R: Read, const CAP: usize>(
+    reader: &mut R,
+    n: u64,
+) -> Result<ArrayVec<u8, CAP>, CarError<R::Error>>
+    requires { n ≤ CAP }
+    ensures taken { MatchResult result
+        (λ v. (length v.items ≡ n) × Takes (R.reading reader.old) v.items (R.reading reader.new))
+        (λ e. CarRefuses (IsShort n) (R.reading reader.old) e (R.reading reader.new)) }
+    ensures memory { LacksMemoryIf ⊥ result }
+    ensures looked { LooksSome 2 (R.reading reader.old) result (R.reading reader.new) }
+    ensures at_most { LooksAtMost (2 * n) (R.reading reader.old) (R.reading reader.new) }
+{
+    match pull_short_payload(NAME, reader, n) {
+        Ok(bytes) => Ok(bytes),
+        Err(error) => Err(of_reader(error)),
+    }
+}
+
+/// Takes so many bytes, in pieces.
+fn skip_pieces<R: Read>(reader: &mut R, count: u64) -> Result<(), CarError<R::Error>>
+    ensures taken { MatchResult result
+        (λ _. (bytes : List ℕ) × (length bytes ≡ count)
+        × Takes (R.reading reader.old) bytes (R.reading reader.new))
+        (λ e. CarRefuses (IsShort count) (R.reading reader.old) e (R.reading reader.new)) }
+    ensures memory { LacksMemoryIf ⊥ result }
+    ensures looked { LooksSome 2 (R.reading reader.old) result (R.reading reader.new) }
+    ensures at_most { OnOk result
+        (LooksAtMost (2 * count) (R.reading reader.old) (R.reading reader.new)) }
+{
+    let mut more = count;
+    while more > 0 {
+        let piece = more.min(PIECE as u64);
+        let _bytes = pull_short::<R, PIECE>(reader, piece)?;
+        more -= piece;
+    }
+    Ok(())
+}
+
+/// Takes so many bytes, which are not looked at in a slice.
+fn skip<R: Read>(input: &mut Input<'_, R>, count: u64) -> Result<(), CarError<R::Error>>
+    ensures taken { MatchResult result
+        (λ _. (bytes : List ℕ) × (length bytes ≡ count)
+        × Takes (input_reading R.reading input.old) bytes (input_reading R.reading input.new))
+        (λ e. CarRefuses (IsShort count) (input_reading R.reading input.old) e
+        (input_reading R.reading input.new)) }
+    ensures memory { LacksMemoryIf ⊥ result }
+    ensures looked { OverInput R.reading (LooksSome 2) input.old result input.new }
+    ensures at_most { OnOk result (LooksAtMost (2 * count) (input_reading R.reading input.old)
+        (input_reading R.reading input.new)) }
+{
+    match input.lend(count) {
+        Some(_bytes) => Ok(()),
+        None => skip_pieces(input, count),
+    }
+}
+
+/// Behind the bytes that begin version 2: takes the header's fields, and what stands before the file of
+/// version 1, and answers how long that is.
+fn pull_span<R: Read>(input: &mut Input<'_, R>) -> Result<u64, CarError<R::Error>>
+    ensures taken { MatchResult result
+        (λ n. TakesSpan (input_reading R.reading input.old) n (input_reading R.reading input.new))
+        (λ e. CarRefuses (λ e b. RefusesStart e (pragma ++ b)) (input_reading R.reading input.old)
+        e (input_reading R.reading input.new)) }
+    ensures memory { LacksMemoryIf ⊥ result }
+    ensures looked { LooksSome 2 (input_reading R.reading input.old) result
+        (input_reading R.reading input.new) }
+{
+    let fields = pull_short::<_, FIELDS>(input, FIELDS as u64)?;
+    let Some(span) = span_of(&fields) else {
+        return Err(CarError::InvalidOffset);
+    };
+    skip(input, span.begin - HEADER_LENGTH)?;
+    Ok(span.length)
+}
+
+/// Behind the bytes that begin version 2: the roots of the file, and how many bytes of it are left
+/// behind its header, which is taken.
+fn pull_enclosed<'de, R: Read>(
+    alloc: Global,
+    input: &mut Input<'de, R>,
+) -> Result<(Vec<Cid>, Option<u64>), CarError<R::Error>>
+    ensures taken { MatchResult result
+        (λ p. TakesEnclosed (input_reading R.reading input.old) (forms p.0.items) p.1
+        (input_reading R.reading input.new))
+        (λ e. CarRefuses (λ e b. RefusesStart e (pragma ++ b)) (input_reading R.reading input.old)
+        e (input_reading R.reading input.new)) }
+    ensures memory { LacksMemoryIf (EnclosedLacks (input_reading R.reading input.old)) result }
+    ensures looked { LooksTwice (input_reading R.reading input.old) result
+        (input_reading R.reading input.new) }
+{
+    let length = pull_span(input)?;
+    let mut left = Some(length);
+    let inner = pull_counted(alloc, input, &mut left)?;
+    let roots = read_header(alloc, &inner)?;
+    Ok((roots, left))
+}
+
+/// The roots of the file at the front, of version 1 or 2, and how many bytes of it are left behind
+/// its header, which is taken: none is told of version 1, which goes on to the end.
 pub fn pull_header<'de, R: Read>(
     alloc: Global,
     input: &mut Input<'de, R>,
-) -> Result<Vec<Cid>, CarError<R::Error>>
-    ensures taken { PullsHeader (input_reading R.reading input.old) result
+) -> Result<(Vec<Cid>, Option<u64>), CarError<R::Error>>
+    ensures taken { PullsStart (input_reading R.reading input.old) result
         (input_reading R.reading input.new) }
-    ensures memory { LacksMemoryIf (HeaderLacks (input_reading R.reading input.old)) result }
-    ensures looked { LooksAtHeader (input_reading R.reading input.old) result
+    ensures memory { LacksMemoryIf (FileLacks (input_reading R.reading input.old)) result }
+    ensures looked { LooksTwice (input_reading R.reading input.old) result
         (input_reading R.reading input.new) }
 {
-    let inner = pull_counted(alloc, input)?;
-    read_header(alloc, &inner)
+    let inner = pull_counted(alloc, input, &mut None)?;
+    if is_version_2(&inner) {
+        return pull_enclosed(alloc, input);
+    }
+    let roots = read_header(alloc, &inner)?;
+    Ok((roots, None))
 }
 
 /// The section at the front, which is taken.
 fn pull_first_section<'de, R: Read>(
     alloc: Global,
     input: &mut Input<'de, R>,
+    left: &mut Option<u64>,
 ) -> Result<ReadSection<'de>, CarError<R::Error>>
     ensures taken { MatchResult result
-        (λ s. TakesSectionBytes (input_reading R.reading input.old) s
+        (λ s. TakesSectionBytes left.old (input_reading R.reading input.old) s left.new
         (input_reading R.reading input.new))
         (λ e. CarRefuses (λ e b. BeginsNoSection b × SectionFault e b)
-        (input_reading R.reading input.old) e (input_reading R.reading input.new)) }
-    ensures memory { LacksMemoryIf ((input_reading R.reading input.old).lends ≡ false) result }
-    ensures looked { OverInput R.reading (Looks 2) input.old result input.new }
+        (of_file left.old (input_reading R.reading input.old)) e
+        (input_reading R.reading input.new)) }
+    ensures memory { LacksMemoryIf
+        (SectionLacks (of_file left.old (input_reading R.reading input.old))) result }
+    ensures looked { Looks 2 (of_file left.old (input_reading R.reading input.old)) result
+        (of_file left.new (input_reading R.reading input.new)) }
     ensures at_most { IfOk result (λ s. LooksAtMost (2 * length (section_bytes s))
         (input_reading R.reading input.old) (input_reading R.reading input.new)) }
 {
-    let body = pull_counted(alloc, input)?;
+    let body = pull_counted(alloc, input, left)?;
     match ReadSection::new(body) {
         Ok(section) => Ok(section),
         Err(fault) => Err(CarError::InvalidCid(fault)),
     }
 }
 
-/// The section at the front, which is taken, or nothing at the end.
+/// Whether nothing of the file is left. Nothing is taken.
+fn is_done<R: Read>(reader: &mut R, left: Option<u64>) -> Result<bool, R::Error>
+    ensures done { MatchResult result
+        (λ done. MatchBool done
+        (EndsThere left (R.reading reader.old) left (R.reading reader.new))
+        (IsDue left (R.reading reader.old) (R.reading reader.new)))
+        (λ _. Fails (R.reading reader.old) (R.reading reader.new)) }
+    ensures looked { LooksOnce (of_file left (R.reading reader.old)) (R.reading reader.new) }
+{
+    match left {
+        Some(count) => Ok(count == 0),
+        None => is_at_end(reader),
+    }
+}
+
+/// The section at the front, which is taken, or nothing at the end of the file, of which `left` says
+/// how many bytes are left, as `pull_header` does.
 pub fn pull_section<'de, R: Read>(
     alloc: Global,
     input: &mut Input<'de, R>,
+    left: &mut Option<u64>,
 ) -> Result<Option<ReadSection<'de>>, CarError<R::Error>>
-    ensures taken { PullsSection (input_reading R.reading input.old) result
+    ensures taken { PullsSection left.old (input_reading R.reading input.old) result left.new
         (input_reading R.reading input.new) }
-    ensures memory { LacksMemoryIf (SectionLacks (input_reading R.reading input.old)) result }
-    ensures looked { LooksAtSection (input_reading R.reading input.old) result
-        (input_reading R.reading input.new) }
+    ensures memory { LacksMemoryIf
+        (SectionLacks (of_file left.old (input_reading R.reading input.old))) result }
+    ensures looked { LooksAtSection (of_file left.old (input_reading R.reading input.old)) result
+        (of_file left.new (input_reading R.reading input.new)) }
 {
-    match is_at_end(input) {
+    match is_done(input, *left) {
         Ok(true) => Ok(None),
-        Ok(false) => match pull_first_section(alloc, input) {
+        Ok(false) => match pull_first_section(alloc, input, left) {
             Ok(section) => Ok(Some(section)),
             Err(error) => Err(error),
         },

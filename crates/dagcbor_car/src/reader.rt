@@ -19,6 +19,8 @@ use std::convert::Infallible;
 pub struct CarReader<'de, R> {
     alloc: Global,
     input: Input<'de, R>,
+    /// How many bytes of the file are left, as `pull_header` tells.
+    left: Option<u64>,
     done: bool,
 }
 
@@ -45,10 +47,11 @@ impl<'de, R: Read> CarReader<'de, R> {
     fn begin(alloc: Global, mut input: Input<'de, R>) -> Begun<'de, R>
         ensures { Begins R.reading (input_reading R.reading input.entry) result }
     {
-        let roots = pull_header(alloc, &mut input)?;
+        let (roots, left) = pull_header(alloc, &mut input)?;
         let sections = CarReader {
             alloc,
             input,
+            left,
             done: false,
         };
         Ok((roots, sections))
@@ -62,7 +65,7 @@ impl<'de, R: Read> CarReader<'de, R> {
         if self.done {
             return None;
         }
-        let item = pull_section(self.alloc, &mut self.input).transpose();
+        let item = pull_section(self.alloc, &mut self.input, &mut self.left).transpose();
         self.done = !matches!(item, Some(Ok(_)));
         item
     }

@@ -1,5 +1,6 @@
 /* DAG-CBOR for C: whether bytes are a block, what it holds, where they are none, how it is spelled, the links of an item,
-   a block's name, the header and the sections of a file of blocks (CAR, version 1), and the text of CIDs.
+   a block's name, the header and the sections of a file of blocks (CAR, version 1, and where it stands in one of version
+   2), and the text of CIDs.
 
    A block is the one spelling of a DAG-CBOR item that reading takes at most 256 steps of depth: one for a leaf, and
    two for each list or map around it. An item of more steps is refused here as too deep.
@@ -11,7 +12,7 @@
      there, and nobody writes them during the call, no other thread either; `length` is below 2^63.
    - `out` likewise, also where `room` is 0 (dagcbor_into), for `room` bytes that nobody else reads or writes
      during the call; `tape` for `room` tokens (dagcbor_tape_into), aligned as a uint64_t, and fewer than 2^58 of
-     them; `needed`, `place` and `behind` for one number each, `places` for three. None of these overlaps another.
+     them; `needed`, `place` and `behind` for one number each, `places` for three, or two. None of these overlaps another.
    - The thread has 128 KB of stack left; the CPU is an x86-64-v2.
    Calls on different threads need no lock: nothing is shared between them. */
 #ifndef DAGCBOR_H
@@ -112,8 +113,17 @@ enum dagcbor_section {
     DAGCBOR_TRUNCATED = -24,       /* the bytes end inside the length, or before as many follow */
     DAGCBOR_INVALID_LENGTH = -25,  /* the length is no varint in shortest form below 2^64 */
     DAGCBOR_INVALID_CID = -26,     /* behind the length stands no CID, or it goes on behind the section; not of dagcbor_car_header */
-    DAGCBOR_OTHER_HEADER = -27     /* of dagcbor_car_header alone: a block that is not the map of roots and of version 1 */
+    DAGCBOR_OTHER_HEADER = -27,    /* of dagcbor_car_header alone: a block that is not the map of roots and of version 1 */
+    DAGCBOR_INVALID_OFFSET = -35   /* of dagcbor_car_span alone: of version 2, a begin below 51, or an end of 2^64 or more */
 };
+
+/* Where the file of version 1 stands within a file of blocks, of which these bytes are the front: 51 of them are enough.
+   0, and places[0] becomes where it begins and places[1] where it ends, both counted from the first byte: of version 2
+   what its header says, which may lie behind `length`; of version 1 they are 0 and UINT64_MAX, up to the end of the file.
+   Else, below 0, and then `places` stay: DAGCBOR_TRUNCATED where the bytes are fewer than the 11 that begin version 2 and
+   begin them, or begin with these and are fewer than 51; DAGCBOR_INVALID_OFFSET. What follows the file of version 1 is no
+   part of it: hand no byte behind places[1] to the calls below. */
+int32_t dagcbor_car_span(const uint8_t *bytes, size_t length, uint64_t places[2]);
 
 /* The header that begins the bytes of a file of blocks, of version 1. 0 exactly where one does: *behind becomes where the
    first section begins, and *needed the length of its roots, packed as dagcbor_links packs links; where that is at most

@@ -12,11 +12,12 @@ ghost use Rattle.dagcbor_calls.specs.Answers.{IsCheckAnswer, IsLinksAnswer, IsTa
 ghost use Rattle.dagcbor_calls.specs.Answers.{IsSpellAnswer, IsTokensAnswer};
 ghost use Rattle.dagcbor_calls.specs.Headers.{IsHeaderAnswer};
 ghost use Rattle.dagcbor_calls.specs.Sections.{IsSectionAnswer};
+ghost use Rattle.dagcbor_calls.specs.Spans.{IsSpanAnswer};
 ghost use Rattle.dagcbor_calls.specs.CidTexts.{IsCidTextAnswer, IsCidFromTextAnswer};
 
 use dagcbor_calls::{
     Token, code_of, judge_section, name_of, put_cid_of_text, put_cid_text, put_front_tape,
-    put_header, put_links, put_tape, spell_tape,
+    put_header, put_links, put_span, put_tape, spell_tape,
 };
 use dagcbor_items::check_slice;
 
@@ -101,6 +102,17 @@ pub extern "C" fn dagcbor_car_section(bytes: &[u8], places: &mut [usize; 3]) -> 
     ensures { IsSectionAnswer bytes.now places.old places.new result }
 {
     judge_section(bytes, places)
+}
+
+/// Where the file of version 1 stands in a file of blocks, of which the bytes are the front: 51 of them
+/// are enough. 0, and `places` become where it begins and where it ends: of version 2 what its header
+/// says, and of version 1 0 and 2^64 - 1. Below 0 the number of the cause, and then they stay: -24
+/// where more bytes are wanted, -35 where the offsets are none.
+#[unsafe(no_mangle)]
+pub extern "C" fn dagcbor_car_span(bytes: &[u8], places: &mut [u64; 2]) -> i32
+    ensures { IsSpanAnswer bytes.now places.old places.new result }
+{
+    put_span(bytes, places)
 }
 
 /// The header that begins the bytes of a file of blocks, of version 1. 0 where one does: `behind`

@@ -3,16 +3,16 @@ use Rattle.ipld_tree.specs.CidFault.{IsVarintFault, IsCutVarint}
 use Rattle.dagcbor_car.specs.Splits.{CountFault}
 use Rattle.dagcbor_car.specs.Sources.{IsShort}
 use Rattle.dagcbor_heads.proofs.Looking.{some_then, taken_left}
-use Rattle.dagcbor_car.proofs.Pulling.{handed_on, refused_behind, no_group, cut_there, length_taken, length_most, no_length, group_more, last_looked, no_more_groups}
+use Rattle.dagcbor_car.proofs.Pulling.{handed_on, refused_off, no_group, cut_there, length_taken, length_most, no_length, group_more, last_looked, no_more_groups}
 use Rattle.dagcbor_car.proofs.pull.pull_length.Goals as goal
 
 pub loop-place-init : goal.loop-place-init
-loop-place-init g c = no_group _ _ c.new-groups.ensures
+loop-place-init g c = no_group _ _ _ c.new-groups.ensures
 
 pub returns-in_err-byte-clause-taken : goal.returns-in_err-byte-clause-taken
 returns-in_err-byte-clause-taken g c =
     let h = c.loop-place.invariant in
-    handed_on _ _ _ _ c.from_residual.ensures.1 (refused_behind (IsShort 1) CountFault c.loop-place.groups.items _ _ _ _ h.takes (λ rest s. cut_there _ _ rest h.cut s) c.in_err-byte.ensures.taken)
+    handed_on _ _ _ _ c.from_residual.ensures.1 (refused_off (IsShort 1) CountFault _ _ h.takes (λ rest s. cut_there _ _ rest h.cut s) c.in_err-byte.ensures.taken)
 
 pub returns-in-Ok-clause-taken : goal.returns-in-Ok-clause-taken
 returns-in-Ok-clause-taken g c = (c.in-Ok.ensures.0, length_taken c.in-Ok._rest.now c.loop-place.invariant c.in_ok-byte.ensures.taken c.in-Ok.ensures.0 (sym c.push.ensures.items ∙ sym c.deref.ensures.0 ∙ c.in-Ok.ensures.1))
@@ -27,7 +27,7 @@ pub returns-in-Ok-clause-looked : goal.returns-in-Ok-clause-looked
 returns-in-Ok-clause-looked g c = last_looked c.loop-place.invariant.looked c.in_ok-byte.ensures.looked
 
 pub returns-in-Ok-clause-at_most : goal.returns-in-Ok-clause-at_most
-returns-in-Ok-clause-at_most g c = length_most (g.R.Read.reading c.pull_byte.new.reader) c.in_ok-byte.byte c.in-Ok.number c.in-Ok._rest.now c.loop-place.invariant c.in_ok-byte.ensures.at_most c.in-Ok.ensures.0 (sym c.push.ensures.items ∙ sym c.deref.ensures.0 ∙ c.in-Ok.ensures.1)
+returns-in-Ok-clause-at_most g c = length_most (g.R.Read.reading c.pull_next.new.reader) c.in_ok-byte.byte c.in-Ok.number c.in-Ok._rest.now c.loop-place.invariant c.in_ok-byte.ensures.at_most c.in-Ok.ensures.0 (sym c.push.ensures.items ∙ sym c.deref.ensures.0 ∙ c.in-Ok.ensures.1)
 
 pub returns-in_default-clause-looked : goal.returns-in_default-clause-looked
 returns-in_default-clause-looked g c = taken_left (last_looked c.loop-place.invariant.looked c.in_ok-byte.ensures.looked)

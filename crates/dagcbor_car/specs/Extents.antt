@@ -1,0 +1,32 @@
+-- How much of a file is left in a reader: so many bytes, or as many as there are.
+use Rattle.std.specs.Prelude.{◌≡◌, ℕ, ◌+◌, ◌-◌, List, length, take, Option, None, Some, option_map}
+use Rattle.dagcbor_heads.specs.Reading.{Reading}
+use Rattle.dagcbor_heads.specs.Fronts.{FindsEnd, Takes}
+
+-- those of the bytes left that are of the file
+abbrev pub within : Option ℕ → List ℕ → List ℕ
+within None b = b
+within (Some n) b = take n b
+
+-- how many bytes of the file are not there
+abbrev pub wanting : Option ℕ → List ℕ → ℕ
+wanting None b = 0
+wanting (Some n) b = n - length b
+
+-- the reader, of whose bytes those of the file are left
+abbrev pub of_file : Option ℕ → Reading → Reading
+of_file extent r = record r { left = option_map (within extent) r.left }
+
+-- of so many bytes that were left so many were taken
+abbrev pub Spends : Option ℕ → ℕ → Option ℕ → Type 0
+Spends old n new = old ≡ option_map (λ m. m + n) new
+
+-- these bytes stood at the front, within the file, and were taken
+pub record TakesOff (extent : Option ℕ) (old : Reading) (bytes : List ℕ) (rest : Option ℕ) (new : Reading) : Type 0 where
+  pub takes : Takes old bytes new
+  pub spends : Spends extent (length bytes) rest
+
+-- The file ends there: where its length is known nothing is asked of the reader.
+abbrev pub EndsThere : Option ℕ → Reading → Option ℕ → Reading → Type 0
+EndsThere None old rest new = FindsEnd old new × (rest ≡ None)
+EndsThere (Some n) old rest new = (n ≡ 0) × (new ≡ old) × (rest ≡ Some n)

@@ -1,0 +1,46 @@
+-- What the steps of reading a file's start, and of finding its end, do.
+use Rattle.std.specs.Prelude.{◌≡◌, ◌≢◌, ℕ, ◌+◌, ◌*◌, ◌<◌, List, [], ◌++◌, length, true}
+use Rattle.std.specs.Prelude.{Option, None, Some, Result}
+use Rattle.dagcbor_heads.specs.Reading.{Reading, Keeps, Stays}
+use Rattle.dagcbor_heads.specs.Fronts.{Takes}
+use Rattle.dagcbor_heads.specs.Looking.{LooksAtMost}
+use Rattle.dagcbor_car.specs.Car.{IsHeader}
+use Rattle.dagcbor_car.specs.Splits.{CountsBlock}
+use Rattle.dagcbor_car.specs.Versions.{pragma, begin_of, length_of, HasSpan, HoldsCar}
+use Rattle.dagcbor_car.specs.Extents.{within, wanting}
+use Rattle.dagcbor_car.specs.Sources.{IsStart}
+
+-- fewer than so many bytes are left of the file
+abbrev pub IsOver : Option ℕ → ℕ → Type 0
+IsOver extent count = (n : ℕ) × (extent ≡ Some n) × (n < count)
+
+-- something of the file is to come, and the reader stays
+pub record IsDue (extent : Option ℕ) (old new : Reading) : Type 0 where
+  pub some : (b : List ℕ) → old.left ≡ Some b → 0 < length (within extent b) + wanting extent b
+  pub ends_none : extent ≡ None → (b : List ℕ) → old.left ≡ Some b → b ≢ []
+  pub kept : Keeps old new
+  pub same : Stays old new
+
+-- Behind the bytes that begin version 2: the fields of the header, and what stands before the file of
+-- version 1, were taken, and so long that is.
+pub record TakesSpan (old : Reading) (n : ℕ) (new : Reading) : Type 0 where
+  pub front : List ℕ
+  pub takes : Takes old front new
+  pub span : HasSpan (pragma ++ front)
+  pub begins : 11 + length front ≡ begin_of (pragma ++ front)
+  pub long : n ≡ length_of (pragma ++ front)
+  pub looked : LooksAtMost (2 * length front) old new
+
+-- Behind the same bytes: the rest of the start of a file was taken.
+pub record TakesEnclosed (old : Reading) (roots : List (List ℕ)) (extent : Option ℕ) (new : Reading) : Type 0 where
+  pub front : List ℕ
+  pub header : IsHeader roots
+  pub start : IsStart (pragma ++ front) roots extent
+  pub takes : Takes old front new
+  pub looked : LooksAtMost (2 * length front) old new
+  pub none_shown : new.shown ≡ []
+
+-- where memory may be wanting there: over a slice only behind a block
+abbrev pub EnclosedLacks : Reading → Type 0
+EnclosedLacks old = old.lends ≡ true → (b : List ℕ) → old.left ≡ Some b
+    → (car : List ℕ) × (n : ℕ) × HoldsCar (pragma ++ b) car n × CountsBlock car

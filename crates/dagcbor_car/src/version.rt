@@ -1,0 +1,90 @@
+//! Where the file of version 1 stands in one of version 2.
+
+ghost use Rattle.std.specs.Prelude.{◌≡◌, ◌≤◌, ◌<◌, ◌+◌, ◌^◌, ◌∷◌, ◌++◌, ◌⊎◌, ◌↔◌, length, IsTrue};
+ghost use Rattle.std.specs.Prelude.{MatchResult, MatchOption};
+ghost use Rattle.dagcbor_car.specs.Versions.{pragma, number_behind, begin_of, length_of, HasSpan};
+ghost use Rattle.dagcbor_car.specs.Versions.{MayBeVersion2, SpanRefused};
+
+use crate::error::CarError;
+use std::convert::Infallible;
+
+/// The bytes that begin version 2: a length, and the map of the version alone.
+const PRAGMA: [u8; 11] = [
+    0x0a, 0xa1, 0x67, 0x76, 0x65, 0x72, 0x73, 0x69, 0x6f, 0x6e, 0x02,
+];
+
+/// How many bytes the header of version 2 has.
+pub(crate) const HEADER_LENGTH: u64 = 51;
+
+/// Where the file of version 1 stands in one of version 2, counted from the first byte.
+#[derive(Clone, Copy, Debug)]
+pub struct Span {
+    pub begin: u64,
+    pub length: u64,
+}
+
+/// Where the file of version 1 stands, if the bytes begin one of version 2: 51 of them tell it, and
+/// it may lie behind these bytes. None where they cannot begin one.
+pub fn file_span(bytes: &[u8]) -> Result<Option<Span>, CarError<Infallible>>
+    ensures { MatchResult result
+        (λ found. MatchOption found
+        (¬ MayBeVersion2 bytes.now)
+        (λ span. HasSpan bytes.now × (span.begin ≡ begin_of bytes.now)
+        × (span.length ≡ length_of bytes.now)))
+        (λ e. SpanRefused e bytes.now) }
+{
+    if !may_be_version_2(bytes) {
+        return Ok(None);
+    }
+    if bytes.len() < HEADER_LENGTH as usize {
+        return Err(CarError::Truncated);
+    }
+    match span_of(&bytes[PRAGMA.len()..]) {
+        Some(span) => Ok(Some(span)),
+        None => Err(CarError::InvalidOffset),
+    }
+}
+
+/// Whether the bytes begin version 2, or might go on so.
+fn may_be_version_2(bytes: &[u8]) -> bool
+    ensures { IsTrue result ↔ MayBeVersion2 bytes.now }
+{
+    let count = bytes.len().min(PRAGMA.len());
+    bytes[..count] == PRAGMA[..count]
+}
+
+/// Whether the bytes stand behind their length where version 2 begins.
+pub(crate) fn is_version_2(bytes: &[u8]) -> bool
+    ensures { IsTrue result ↔ (0x0a ∷ bytes.now ≡ pragma) }
+{
+    bytes == &PRAGMA[1..]
+}
+
+/// Where the file of version 1 stands, by the fields of the header. None where it begins in that
+/// header, or its end is no number below 2^64.
+pub(crate) fn span_of(fields: &[u8]) -> Option<Span>
+    requires { 40 ≤ length fields.now }
+    ensures { MatchOption result
+        ((begin_of (pragma ++ fields.now) < 51)
+        ⊎ (2 ^ 64 ≤ begin_of (pragma ++ fields.now) + length_of (pragma ++ fields.now)))
+        (λ span. HasSpan (pragma ++ fields.now) × (span.begin ≡ begin_of (pragma ++ fields.now))
+        × (span.length ≡ length_of (pragma ++ fields.now))) }
+{
+    let begin = number_behind(fields, 16);
+    let length = number_behind(fields, 24);
+    if begin < HEADER_LENGTH || begin.checked_add(length).is_none() {
+        return None;
+    }
+    Some(Span { begin, length })
+}
+
+/// The number of eight bytes, the lowest of them first, of which so many stand before.
+fn number_behind(bytes: &[u8], before: usize) -> u64
+    requires { before + 8 ≤ length bytes.now }
+    ensures { result ≡ number_behind before bytes.now }
+{
+    match bytes[before..].split_first_chunk::<8>() {
+        Some((number, _behind)) => u64::from_le_bytes(*number),
+        None => unreachable!(),
+    }
+}

@@ -18,7 +18,7 @@ from measuring import ROOT, load, machine
 
 BEGIN = "<!-- made by bench/scale.py page -->\n"
 END = "<!-- so far, of scale -->\n"
-SIZES = (100, 1_000, 10_000, 100_000, 1_000_000)
+SIZES = (400, 1_000, 10_000, 100_000, 1_000_000)
 told = []
 
 

@@ -51,4 +51,5 @@ else:
     call, found = work(path)
     before, began = peak(), time.process_time()
     call()
+assert found.is_well
 print(time.process_time() - began, sum(found.verdicts.values()), peak() - before)

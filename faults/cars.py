@@ -69,6 +69,20 @@ HEADERS = {header(): [], header(cid(ROOT)): [cid(ROOT)], header(AWAY, cid(ROOT))
 NO_HEADERS = {b"": "NoBlock", header()[:-1] + b"\x02": "OtherHeader", header()[:-1]: "NoBlock", NUMBERS: "OtherHeader"}
 
 
+# What begins a file of version 2, and blocks that stand there where a byte of it is another.
+PRAGMA = b"\x0a\xa1\x67version\x02"
+NO_HEADERS |= {
+    PRAGMA[1:]: "OtherHeader",
+    PRAGMA[1:10]: "NoBlock",
+    PRAGMA[1:] + b"\x00": "NoBlock",
+    b"\xa0" + PRAGMA[2:]: "NoBlock",
+    b"\xa1\x66" + PRAGMA[3:]: "NoBlock",
+    b"\xa1\x67versioo\x02": "OtherHeader",
+    PRAGMA[1:10] + b"\x01": "OtherHeader",
+    PRAGMA[1:10] + b"\x03": "OtherHeader",
+}
+
+
 class Refusal(Exception):
     """The variant of `CarError`."""
 
@@ -77,15 +91,28 @@ class Judge:
     """What is to be said of the bytes."""
 
     def __init__(self, bytes_):
-        self.bytes, self.at = bytes_, 0
+        self.at = 0
         self.checked, self.listed, self.linked, self.held, self.is_well = [], [], set(), set(), True
         self.refusal = []
         try:
+            self.bytes, is_short = self.file_in(bytes_)
             self.header()
-            while self.at < len(bytes_):
+            while self.at < len(self.bytes) or is_short:
                 self.section()
         except Refusal as refusal:
             self.refusal = [f"refused {refusal}"]
+
+    @staticmethod
+    def file_in(bytes_):
+        """What is there of the file of version 1, and whether some of it is not."""
+        if bytes_[:11] != PRAGMA:
+            return bytes_, False
+        if len(bytes_) < 51:
+            raise Refusal("Truncated")
+        begin, size = (int.from_bytes(bytes_[at : at + 8], "little") for at in (27, 35))
+        if begin < 51 or begin + size >= 1 << 64:
+            raise Refusal("InvalidOffset")
+        return bytes_[begin : begin + size], len(bytes_) < begin + size
 
     @staticmethod
     def number(bytes_, at):
@@ -184,7 +211,37 @@ def files():
     yield "names that are none", [SMALL + section(NUMBERS, name=it) for it in names]
     yield "headers that are none", [counted(it) + section(NUMBERS) for it in NO_HEADERS]
     rows = [(b"\x05", b"\x01\x71\x00\x01\x05"), (b"\x05", b"\x01\x71\x13\x01\x05"), (b"\x05", b"\x01\x71\x00\x01\x06"), (b"\x05", b"\x01\x71\x12\x01\x05")]
+    yield from files_of_version_2()
     yield "other hash functions", [counted(header()) + b"".join(section(block, name=name) for block, name in rows)]
+
+
+def wrapped(file, padding=b"", behind=b"", begin=None, size=None, index=0):
+    """The file in one of version 2."""
+    fields = (51 + len(padding) if begin is None else begin, len(file) if size is None else size, index)
+    return PRAGMA + bytes(range(16)) + b"".join(it.to_bytes(8, "little") for it in fields) + padding + file + behind
+
+
+def damaged(file):
+    """The file with each byte of its header of version 2 another one, in some ways; but none begins inside a block."""
+    for at in range(51):
+        for byte in {0x00, 0x01, file[at] ^ 1} | ({0x7F, 0x80, 0xFF, file[at] ^ 0x80} if at != 27 else set()):
+            yield file[:at] + bytes([byte]) + file[at + 1 :]
+
+
+def files_of_version_2():
+    """What each kind of file of version 2 is, and the files."""
+    small = wrapped(SMALL, b"\x00" * 5, section(UNORDERED), index=51 + 5 + len(SMALL))
+    yield "version 2, each front", [small[:end] for end in range(len(small) + 1)]
+    yield "version 2, each byte of the fields", [it for it in damaged(small) if it[:11] == PRAGMA]
+    first = [b"\x09" + PRAGMA[1:], b"\x0b" + PRAGMA[1:], b"\x0a\xa0" + PRAGMA[2:], b"\x0a\xa1\x66" + PRAGMA[3:]]
+    first += [b"\x0a\xa1\x67versioo\x02", PRAGMA[:10] + b"\x01", PRAGMA[:10] + b"\x03"]
+    yield "version 2, its first bytes", [it + small[11:] for it in first]
+    ends = (0, 1, 50, 51, 52, (1 << 32) - 1, 1 << 32, (1 << 63) - 1, 1 << 63, (1 << 64) - 52, (1 << 64) - 51, (1 << 64) - 1)
+    yield "version 2, offsets", [wrapped(SMALL, begin=begin, size=size) for begin in ends for size in ends]
+    inner = [b"", PRAGMA, wrapped(SMALL), SMALL + b"\x00", SMALL[:-1]]
+    yield "version 2, other files in it", [wrapped(it, padding) for it in inner for padding in (b"", b"\x00" * 1300, SMALL)]
+    sizes = range(len(SMALL) + 3)
+    yield "version 2, each length", [wrapped(SMALL, behind=RAW_NOTHING, size=size) for size in sizes]
 
 
 def limit():

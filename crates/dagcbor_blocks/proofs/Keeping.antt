@@ -41,7 +41,7 @@ BlockEntry = CidParts × Vec ℕ Global
 abbrev pub shown : List BlockEntry → Held
 shown es = map (λ e. (e.0, e.1.items)) es
 
-abbrev items_of_vec : Vec ℕ Global → List ℕ
+abbrev pub items_of_vec : Vec ℕ Global → List ℕ
 items_of_vec v = v.items
 
 -- ---- look-ups

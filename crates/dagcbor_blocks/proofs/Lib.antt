@@ -7,3 +7,4 @@ pub mod Reading
 pub mod ReadingBack
 pub mod Writing
 pub mod Nothing
+mod Holding

@@ -14,8 +14,8 @@ use Rattle.std.proofs.lemmas.Grind.{not_there}
 use Rattle.sha2.proofs.Facts256.{length-sha256}
 use Rattle.serde_ipld_dagcbor.specs.DecodeError.{DecodeError}
 use Rattle.serde_ipld_dagcbor.specs.DecodeError.TheVariants as unread
-use Rattle.serde_ipld_dagcbor.specs.Cid.{CidParts, AreCidParts, IsCid, cid_bytes, cid_cmp}
-use Rattle.serde_ipld_dagcbor.specs.Tree.{Tree, null, boolean, integer, text, bytes, list, mapping, link, Items, no_items, item, Entries, no_entries, entry, IsTree, AreItems, AreEntries, links_of, items_links, entries_links}
+use Rattle.serde_ipld_dagcbor.specs.Cid.{CidParts, AreCidParts, cid_bytes, cid_cmp}
+use Rattle.serde_ipld_dagcbor.specs.Tree.{Tree, links_of}
 use Rattle.serde_ipld_dagcbor.specs.Spelling.{spelling, IsSpelling, IsFront}
 use Rattle.serde_ipld_dagcbor.specs.Slices.{IsBlock}
 use Rattle.serde_ipld_dagcbor.specs.Slices.{AreFirstLinks, LinksRefused}

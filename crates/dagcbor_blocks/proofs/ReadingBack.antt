@@ -26,7 +26,7 @@ use Rattle.dagcbor_car.specs.declared.error.CarError.TheVariants as car
 use Rattle.dagcbor_car.proofs.Cars.{section_unique, section_some, header_unique}
 use Rattle.dagcbor_car.proofs.Places.{others_behind, no_file}
 use Rattle.dagcbor_car.proofs.Spending.{within_behind}
-use Rattle.dagcbor_car.proofs.Starting.{holds_one, file_of_car}
+use Rattle.dagcbor_car.proofs.Starting.{holds_one, car_holds, file_of_car}
 use Rattle.dagcbor_blocks.specs.Blocks.{Held, block_at, HoldsAlso, HoldsOther, FindsMembers}
 use Rattle.dagcbor_blocks.specs.Sound.{IsSound}
 use Rattle.dagcbor_blocks.specs.Cars.{IsNamedBlock, SectionRefused, TellsOfFile, StopsAt, ReadRefused}
@@ -137,8 +137,7 @@ module _ (es : List BlockEntry) (finds : FindsMembers (shown es)) (sound : ∥ A
   refused_for_memory e (inr (others, ss, extent, mid, to, inr many)) = subst (λ (x : ReadCarError Infallible). IsReadBack roots (shown es) (Err x) after) (sym many.1.0) tt
   refused_for_memory e (inr (others, ss, extent, mid, to, inl stops)) =
       let k = to.known b l in
-      let whole = file_of_car b roots (shown es) file in
-      let one = holds_one b k.2.0 whole.0 (wanting extent k.0) 0 k.2.1 whole.1 in
+      let one = holds_one b k.2.0 b (wanting extent k.0) 0 k.2.1 (car_holds b roots (shown es) file) in
       let front = k.2.2 in
       let bytes = sym (append_assoc (header_bytes others) (flat_map section_bytes ss) (within extent k.0)) ∙ sym front.is ∙ one.0 ∙ file.is in
       let same = header_unique others roots (flat_map section_bytes ss ++ within extent k.0) (flat_map section_bytes (shown es)) front.header file.header bytes in

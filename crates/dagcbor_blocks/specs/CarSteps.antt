@@ -7,6 +7,19 @@ use Rattle.dagcbor_car.specs.Sources.{TakesSectionBytes}
 use Rattle.dagcbor_blocks.specs.Blocks.{Held, HoldsAlso}
 use Rattle.dagcbor_blocks.specs.Cars.{IsNamedBlock, SectionRefused, StopsAt}
 use Rattle.dagcbor_blocks.specs.declared.car_error.ReadCarError.{ReadCarError}
+use Rattle.dagcbor_blocks.specs.declared.car_error.ReadCarError.TheVariants as car
+use Rattle.dagcbor_blocks.specs.declared.put_error.PutBlockError.{PutBlockError}
+use Rattle.dagcbor_blocks.specs.declared.put_error.PutBlockError.TheVariants as puts
+use Rattle.serde_ipld_dagcbor.specs.Cid.{CidParts}
+
+-- why the block of a section of this name is not kept
+abbrev pub of_block : {E : Type 0} → CidParts → PutBlockError → ReadCarError E
+of_block name puts.OtherHash = car.OtherHash name
+of_block name puts.OtherBytes = car.OtherBytes name
+of_block name puts.OtherCodec = car.OtherCodec name
+of_block name (puts.NoBlock e) = car.NoBlock name e
+of_block name puts.Collision = car.Collision name
+of_block name puts.OutOfMemory = car.OutOfMemory
 
 -- The block of a section is kept under its name. A refusal changes nothing.
 abbrev pub KeepsSection : {E : Type 0} → Section → Held → Result (Unit {0}) (ReadCarError E) → Held

@@ -3,6 +3,7 @@ pub mod Errors
 pub mod Sound
 pub mod Blocks
 pub mod Cars
+pub mod Bytes
 pub mod CarSteps
 pub mod Laws
 pub mod Steps

@@ -1,7 +1,10 @@
 //! Why a file of blocks was not read into a store.
 
+ghost use Rattle.std.specs.Prelude.{◌≡◌};
 ghost use Rattle.dagcbor_blocks.specs.Cars.{TellsOfFile};
+ghost use Rattle.dagcbor_blocks.specs.CarSteps.{of_block};
 
+use crate::put_error::PutBlockError;
 use dagcbor_car::CarError;
 use serde_ipld_dagcbor::{Cid, DecodeError};
 use std::convert::Infallible;
@@ -41,6 +44,20 @@ impl<E: Drop> ReadCarError<E> {
         match error {
             CarError::OutOfMemory => ReadCarError::OutOfMemory,
             _ => ReadCarError::Car(error),
+        }
+    }
+
+    /// Why the block of a section of this name is not kept.
+    pub(crate) fn of_block(name: Cid, error: PutBlockError) -> ReadCarError<E>
+        ensures { result ≡ of_block name error }
+    {
+        match error {
+            PutBlockError::OtherHash => ReadCarError::OtherHash(name),
+            PutBlockError::OtherBytes => ReadCarError::OtherBytes(name),
+            PutBlockError::OtherCodec => ReadCarError::OtherCodec(name),
+            PutBlockError::NoBlock(refusal) => ReadCarError::NoBlock(name, refusal),
+            PutBlockError::Collision => ReadCarError::Collision(name),
+            PutBlockError::OutOfMemory => ReadCarError::OutOfMemory,
         }
     }
 }

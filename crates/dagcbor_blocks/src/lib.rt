@@ -14,10 +14,12 @@
 #![tactic(auto)]
 
 mod blocks;
+mod bytes;
 mod car_error;
 mod error;
 pub mod laws;
 mod name;
+mod put_error;
 mod read_car;
 mod store;
 mod write_car;
@@ -25,4 +27,5 @@ mod write_car;
 pub use car_error::ReadCarError;
 pub use error::BlockError;
 pub use name::name_of;
+pub use put_error::PutBlockError;
 pub use store::Blocks;

@@ -1,37 +1,14 @@
 //! Reading the blocks of a file into a store.
 
-ghost use Rattle.std.specs.Prelude.{MatchResult};
 ghost use Rattle.serde_ipld_dagcbor.specs.Inputs.{input_reading};
 ghost use Rattle.dagcbor_blocks.specs.Blocks.{held_blocks};
-ghost use Rattle.dagcbor_blocks.specs.Cars.{IsNamedBlock, BlockRefused, ReadsCar};
+ghost use Rattle.dagcbor_blocks.specs.Cars.{ReadsCar};
 ghost use Rattle.dagcbor_blocks.specs.CarSteps.{KeepsSection, KeepsNext};
 
 use crate::car_error::ReadCarError;
-use crate::error::BlockError;
 use crate::store::Blocks;
-use dagcbor_car::{SHA2_256, Section, Verdict, pull_header, pull_section, verify};
+use dagcbor_car::{Section, pull_header, pull_section};
 use serde_ipld_dagcbor::{Cid, Input, Read};
-
-/// Whether the section is a block under its name.
-fn check_section<E: Drop>(section: &Section<'_>) -> Result<(), ReadCarError<E>>
-    ensures { MatchResult result
-        (λ _. IsNamedBlock (section.now.cid, section.now.block.now))
-        (λ e. BlockRefused (section.now.cid, section.now.block.now) e) }
-{
-    let cid = section.cid;
-    // What is known of a CID comes with its version.
-    let _version = cid.version();
-    if cid.hash_code() != SHA2_256 {
-        return Err(ReadCarError::OtherHash(cid));
-    }
-    match verify(&cid, section.block) {
-        Verdict::Block(_) => Ok(()),
-        Verdict::Refused(error) => Err(ReadCarError::NoBlock(cid, error)),
-        Verdict::OtherBytes => Err(ReadCarError::OtherBytes(cid)),
-        Verdict::NotRead => Err(ReadCarError::OtherCodec(cid)),
-        Verdict::Unverified => Err(ReadCarError::OtherHash(cid)),
-    }
-}
 
 impl Blocks {
     /// Keeps the blocks of the file that the input has left (CAR, version 1 or 2), each under its
@@ -86,14 +63,9 @@ impl Blocks {
         ensures { KeepsSection (section.now.cid, section.now.block.now) (held_blocks self.old)
             result (held_blocks self.new) }
     {
-        check_section(section)?;
-        let Ok(block) = section.block.to_vec(self.alloc) else {
-            return Err(ReadCarError::OutOfMemory);
-        };
-        match self.store(section.cid, block) {
-            Ok(_name) => Ok(()),
-            Err(BlockError::Collision) => Err(ReadCarError::Collision(section.cid)),
-            Err(_) => Err(ReadCarError::OutOfMemory),
+        match self.put_block(&section.cid, section.block) {
+            Ok(()) => Ok(()),
+            Err(error) => Err(ReadCarError::of_block(section.cid, error)),
         }
     }
 }

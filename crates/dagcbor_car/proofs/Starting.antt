@@ -429,5 +429,8 @@ file_unique b roots others sections more h k =
     let same = holds_one b h.0 k.0 0 0 h.1 k.1 in
     car_unique h.0 roots others sections more h.2 (subst (λ c. IsCar c others more) (sym same.0) k.2)
 
+pub car_holds : (b : List ℕ) (roots : List (List ℕ)) (sections : List Section) → IsCar b roots sections → HoldsCar b b 0
+car_holds b roots sections h = inl (λ v. header_version roots (flat_map section_bytes sections) h.header (subst IsVersion2 h.is v), refl, refl)
+
 pub file_of_car : (b : List ℕ) (roots : List (List ℕ)) (sections : List Section) → IsCar b roots sections → IsFile b roots sections
-file_of_car b roots sections h = (b, inl (λ v. header_version roots (flat_map section_bytes sections) h.header (subst IsVersion2 h.is v), refl, refl), h)
+file_of_car b roots sections h = (b, car_holds b roots sections h, h)

@@ -3,8 +3,10 @@
 mod cars;
 mod faults;
 mod files;
+mod held;
 mod pair;
 mod sections;
 mod store;
 mod streams;
+mod versions;
 mod writing;

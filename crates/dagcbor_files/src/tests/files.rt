@@ -19,11 +19,11 @@ pub(crate) const LINKED: &[u8] =
 pub(crate) const ENDS: [usize; 2] = [59, 221];
 
 /// The root of `LINKED`.
-const PARENT: &[u8] =
+pub(crate) const PARENT: &[u8] =
     b"\x01\x71\x12\x20\x4e\xd9\x06\x5c\x0d\xac\x82\xb6\x65\xdf\x8f\xd5\xa1\x81\xff\xf5\xf4\x1b\x01\x96\x2b\x8e\x9b\x4f\x25\xb9\x22\x28\x39\x8c\xd0\x97";
 
 /// The name of "foo", of the codec 0x55.
-const FOO: &[u8] =
+pub(crate) const FOO: &[u8] =
     b"\x01\x55\x12\x20\x2c\x26\xb4\x6b\x68\xff\xc6\x8f\xf9\x9b\x45\x3c\x1d\x30\x41\x34\x13\x42\x2d\x70\x64\x83\xbf\xa0\xf9\x8a\x5e\x88\x62\x66\xe7\xae";
 
 /// A name by another hash function.
@@ -88,7 +88,12 @@ pub(crate) fn cids_of(alloc: Global, names: &[&[u8]]) -> Result<Vec<Cid>, Fail> 
 }
 
 /// Fails where the letters are others, or what leads nowhere is.
-fn tells(alloc: Global, file: &[u8], letters: &[u8], missing: &[&[u8]]) -> Result<(), Fail> {
+pub(crate) fn tells(
+    alloc: Global,
+    file: &[u8],
+    letters: &[u8],
+    missing: &[&[u8]],
+) -> Result<(), Fail> {
     let (told_letters, told_missing) = told(alloc, file)?;
     agree(told_letters.as_slice(), letters)?;
     let missing = cids_of(alloc, missing)?;
@@ -140,7 +145,7 @@ fn files_are_gone_through(rt: HostRuntime) -> Result<(), Fail> {
 }
 
 /// Fails where the file is not refused so.
-fn is_refused(alloc: Global, file: &[u8], refusal: &str) -> Result<(), Fail> {
+pub(crate) fn is_refused(alloc: Global, file: &[u8], refusal: &str) -> Result<(), Fail> {
     is_told(alloc, &told(alloc, file).err(), refusal)
 }
 
@@ -170,6 +175,9 @@ const NO_FILES: &[(&[&[u8]], &str)] = &[
     (&[HEADER, b"\xa8\x00", SECTION], "Some(InvalidLength)"),
     (&[SECTION], "Some(NoBlock(TrailingData))"),
     (&[b"\x01\xa0"], "Some(OtherHeader)"),
+    // The bytes that begin version 2, and some of them.
+    (&[b"\x0a\xa1\x67version\x02"], "Some(Truncated)"),
+    (&[b"\x0a\xa1\x67version"], "Some(Truncated)"),
 ];
 
 #[test]

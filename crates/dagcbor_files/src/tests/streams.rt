@@ -40,7 +40,7 @@ fn wanted(end: usize) -> Option<(u32, u32)> {
 
 /// How many sections come, and how many errors, where a header came. Fails where what is refused is
 /// not refused as cut.
-fn counted<R: Read>(begun: Begun<'_, R>) -> Result<Option<(u32, u32)>, Fail> {
+pub(crate) fn counted<R: Read>(begun: Begun<'_, R>) -> Result<Option<(u32, u32)>, Fail> {
     match begun {
         Ok((_roots, mut sections)) => Ok(Some(drained(&mut sections))),
         Err(CarError::Truncated) => Ok(None),

@@ -125,6 +125,31 @@ fn files_are_listed_up_to_the_cut(rt: HostRuntime) -> Result<(), Fail> {
     Ok(())
 }
 
+/// The header of version 2 of `GOOD`, behind which five bytes stand before it.
+const GOOD_FRONT: &[u8] =
+    b"\x0a\xa1\x67\x76\x65\x72\x73\x69\x6f\x6e\x02\x00\x01\x02\x03\x04\x05\x06\x07\x08\x09\x0a\x0b\x0c\x0d\x0e\x0f\x38\x00\x00\x00\x00\x00\x00\x00\xdb\x00\x00\x00\x00\x00\x00\x00\x13\x01\x00\x00\x00\x00\x00\x00\x00\x01\x02\x03\x04";
+
+#[test]
+fn files_of_version_2_are_checked_and_listed(rt: HostRuntime) -> Result<(), Fail> {
+    let alloc = rt.alloc();
+    let listed = good_listed(alloc, GOOD.len())?;
+    for behind in [b"".as_slice(), b"\x01\x00".as_slice()] {
+        let mut file = Vec::new(alloc);
+        for part in [GOOD_FRONT, GOOD, behind] {
+            file.extend_from_slice(part)?;
+        }
+        for (word, lines) in [("check", GOOD_LINES), ("list", listed.as_slice())] {
+            let (ended, written, _told) = run_word(alloc, word, &file)?;
+            assert_eq!(rt; written.as_slice(), lines);
+            assert_eq!(rt; ended, 0);
+        }
+    }
+    let (ended, written, _told) = run_word(alloc, "check", &GOOD_FRONT[..55])?;
+    assert_eq!(rt; written.as_slice(), b"refused Truncated\n".as_slice());
+    assert_eq!(rt; ended, 1);
+    Ok(())
+}
+
 #[test]
 fn blocks_are_named_judged_and_shown(rt: HostRuntime) -> Result<(), Fail> {
     let alloc = rt.alloc();

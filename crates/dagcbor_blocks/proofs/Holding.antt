@@ -1,0 +1,105 @@
+-- Blocks that are kept and handed out as bytes.
+use Rattle.std.proofs.Common.{◌≡◌, ℕ, List, [], ◌∷◌, ◌++◌, map, append_assoc, append-nil, Bool, true, false, cond, refl, sym, ap, ◌∙◌, subst}
+use Rattle.std.specs.Prelude.{Option, None, Some, is_some, option_map, Vec}
+use Rattle.std.specs.declared.alloc.Global.{Global}
+use Rattle.std.specs.List.{AllByRecursion}
+use Rattle.std.specs.Map.{remove_entry, lookup, keys_of}
+use Rattle.std.specs.List.Sorted.{IsStrictlySortedBy}
+use Rattle.std.specs.BTreeMap.{BTreeMap, is_at, get, UpdatesBy}
+use Rattle.std.proofs.Math.Logic.{∥∥₁_map}
+use Rattle.serde_ipld_dagcbor.specs.Cid.{CidParts, cid_cmp}
+use Rattle.serde_ipld_dagcbor.specs.CidHash.{same_cid, is_equal}
+use Rattle.dagcbor_car.specs.Car.{Section}
+use Rattle.dagcbor_blocks.specs.Sound.{IsSound}
+use Rattle.dagcbor_blocks.specs.Blocks.{Held, block_at}
+use Rattle.dagcbor_blocks.specs.Cars.{SectionRefused}
+use Rattle.dagcbor_blocks.specs.CarSteps.{of_block}
+use Rattle.dagcbor_blocks.specs.Bytes.{BytesRefused, HoldsOthers, is_held}
+use Rattle.dagcbor_blocks.specs.declared.car_error.ReadCarError.{ReadCarError}
+use Rattle.dagcbor_blocks.specs.declared.put_error.PutBlockError.{PutBlockError}
+use Rattle.dagcbor_blocks.specs.declared.put_error.PutBlockError.TheVariants as puts
+use Rattle.dagcbor_car.proofs.Members.{same_at}
+use Rattle.dagcbor_blocks.proofs.Keeping.{BlockEntry, items_of_vec, shown, block_at_shown}
+
+-- ---- letting go
+
+sound_removed : (test : CidParts → Bool) (es : List BlockEntry) → AllByRecursion IsSound es → AllByRecursion IsSound (remove_entry test es)
+sound_removed test [] h = tt
+sound_removed test (e ∷ es) h = by (test e.0) (sound_removed test es h.1)
+  where
+    by : (b : Bool) → AllByRecursion IsSound (remove_entry test es) → AllByRecursion IsSound (cond b es (e ∷ remove_entry test es))
+    by true r = h.1
+    by false r = (h.0, r)
+
+pub still_sound_without : (test : CidParts → Bool) (es fs : List BlockEntry) → fs ≡ remove_entry test es → ∥ AllByRecursion IsSound es ∥₁ → ∥ AllByRecursion IsSound fs ∥₁
+still_sound_without test es fs is h = ∥∥₁_map h (λ s. subst (AllByRecursion IsSound) (sym is) (sound_removed test es s))
+
+pub held_of : (name : CidParts) (es : List BlockEntry) → is_some (lookup (is_at (cid_cmp name)) es) ≡ is_held name (shown es)
+held_of name es = by (lookup (is_at (cid_cmp name)) es) ∙ ap is_some (sym (block_at_shown name es))
+  where
+    by : (o : Option (Vec ℕ Global)) → is_some o ≡ is_some (option_map items_of_vec o)
+    by None = refl
+    by (Some v) = refl
+
+pub others_held : (m n : BTreeMap CidParts (Vec ℕ Global)) (name : CidParts) → UpdatesBy cid_cmp (cid_cmp name) m n None → HoldsOthers name (shown m.entries) (shown n.entries)
+others_held m n name updates q b = (λ e. there (is_at (cid_cmp name) q) refl (sym (now q) ∙ e), λ k. now q ∙ back (is_at (cid_cmp name) q) refl k.0 k.1)
+  where
+    by : (q : CidParts) (t : Bool) → option_map items_of_vec (cond t None (get cid_cmp m q)) ≡ cond t None (option_map items_of_vec (get cid_cmp m q))
+    by q true = refl
+    by q false = refl
+
+    now : (q : CidParts) → block_at q (shown n.entries) ≡ cond (is_at (cid_cmp name) q) None (block_at q (shown m.entries))
+    now q = block_at_shown q n.entries ∙ ap (option_map items_of_vec) (updates.0 q) ∙ by q (is_at (cid_cmp name) q) ∙ ap (λ o. cond (is_at (cid_cmp name) q) None o) (sym (block_at_shown q m.entries))
+
+    there : (t : Bool) → is_at (cid_cmp name) q ≡ t → cond t None (block_at q (shown m.entries)) ≡ Some b → (q ≡ name → ⊥) × (block_at q (shown m.entries) ≡ Some b)
+    there true t e = absurd (cc e)
+    there false t e = (λ same. let clash = sym t ∙ same_at name q (sym same) in absurd (cc clash), e)
+
+    back : (t : Bool) → is_at (cid_cmp name) q ≡ t → (q ≡ name → ⊥) → block_at q (shown m.entries) ≡ Some b → cond t None (block_at q (shown m.entries)) ≡ Some b
+    back true t other e = absurd (other (sym (same_cid name q (is_equal (cid_cmp name q) t))))
+    back false t other e = e
+
+-- ---- the names
+
+-- of these entries so many were listed
+pub record NamesSoFar (entries rest : List BlockEntry) (names : List CidParts) : Type 0 where
+  pub seen : List BlockEntry
+  pub all : entries ≡ seen ++ rest
+  pub listed : names ≡ map (λ e. e.0) (shown seen)
+
+pub names_begun : (entries rest : List BlockEntry) (names : List CidParts) → rest ≡ entries → names ≡ [] → NamesSoFar entries rest names
+names_begun entries rest names same none = record { seen = []; all = sym same; listed = none }
+
+names_push : (es : List BlockEntry) (e : BlockEntry) → map (λ x. x.0) (shown (es ++ e ∷ [])) ≡ map (λ x. x.0) (shown es) ++ e.0 ∷ []
+names_push [] e = refl
+names_push (x ∷ es) e = ap (λ more. x.0 ∷ more) (names_push es e)
+
+pub names_more : (entries before rest : List BlockEntry) (e : BlockEntry) (names more : List CidParts) → before ≡ e ∷ rest → NamesSoFar entries before names → more ≡ names ++ e.0 ∷ [] → NamesSoFar entries rest more
+names_more entries before rest e names more is h put = record {
+  seen = h.seen ++ e ∷ [];
+  all = h.all ∙ ap (λ l. h.seen ++ l) is ∙ sym (append_assoc h.seen (e ∷ []) rest);
+  listed = put ∙ ap (λ ns. ns ++ e.0 ∷ []) h.listed ∙ sym (names_push h.seen e);
+}
+
+same_keys : (es : List BlockEntry) → map (λ e. e.0) (shown es) ≡ keys_of es
+same_keys [] = refl
+same_keys (e ∷ es) = ap (λ more. e.0 ∷ more) (same_keys es)
+
+pub names_listed : (entries rest : List BlockEntry) (names : List CidParts) → rest ≡ [] → NamesSoFar entries rest names → IsStrictlySortedBy cid_cmp (keys_of entries) → (names ≡ map (λ e. e.0) (shown entries)) × IsStrictlySortedBy cid_cmp names
+names_listed entries rest names end h sorted =
+    let whole : entries ≡ h.seen = h.all ∙ ap (λ r. h.seen ++ r) end ∙ append-nil h.seen in
+    let listed : names ≡ map (λ e. e.0) (shown entries) = h.listed ∙ ap (λ es. map (λ (e : CidParts × List ℕ). e.0) (shown es)) (sym whole) in
+    (listed, subst (IsStrictlySortedBy cid_cmp) (sym (listed ∙ same_keys entries)) sorted)
+
+-- ---- a section
+
+refused_section : (E : Type 0) (s : Section) (held : Held) (e : PutBlockError) → BytesRefused s held e → SectionRefused {E = E} s held (of_block s.0 e)
+refused_section E s held puts.OtherHash r = (refl, r)
+refused_section E s held puts.OtherBytes r = (refl, r.0, r.1)
+refused_section E s held puts.OtherCodec r = (refl, r.0, r.1)
+refused_section E s held (puts.NoBlock e) r = (refl, r.0, r.1)
+refused_section E s held puts.Collision r = (refl, r.0, r.1)
+refused_section E s held puts.OutOfMemory r = r
+
+pub section_refused : {E : Type 0} (s : Section) (held : Held) (e : PutBlockError) (told : ReadCarError E) → told ≡ of_block s.0 e → BytesRefused s held e → SectionRefused s held told
+section_refused {E} s held e told is r = subst (SectionRefused s held) (sym is) (refused_section E s held e r)

@@ -1,0 +1,49 @@
+-- Blocks that are kept and handed out as bytes.
+use Rattle.std.specs.Prelude.{◌≡◌, ◌≢◌, ◌↔◌, ℕ, List, [], ◌∷◌, map, is_some, Bool, Some, Result}
+use Rattle.std.specs.Prelude.{MatchResult, Vec}
+use Rattle.std.specs.List.Sorted.{IsStrictlySortedBy}
+use Rattle.std.specs.declared.alloc.Global.{Global}
+use Rattle.serde_ipld_dagcbor.specs.Cid.{CidParts, cid_cmp}
+use Rattle.dagcbor_car.specs.Names.{IsBySha256}
+use Rattle.dagcbor_car.specs.Car.{Section}
+use Rattle.dagcbor_car.specs.Verdicts.{IsVerdict}
+use Rattle.dagcbor_car.specs.declared.verdict.Verdict.TheVariants as verdict
+use Rattle.dagcbor_blocks.specs.Blocks.{Held, block_at, HoldsAlso, HoldsOther}
+use Rattle.dagcbor_blocks.specs.Cars.{IsNamedBlock}
+use Rattle.dagcbor_blocks.specs.declared.put_error.PutBlockError.{PutBlockError}
+use Rattle.dagcbor_blocks.specs.declared.put_error.PutBlockError.TheVariants.{OtherHash, OtherBytes}
+use Rattle.dagcbor_blocks.specs.declared.put_error.PutBlockError.TheVariants.{OtherCodec, NoBlock}
+use Rattle.dagcbor_blocks.specs.declared.put_error.PutBlockError.TheVariants.{Collision, OutOfMemory}
+
+-- why bytes are no block under a name
+abbrev pub IsNoBlock : Section → PutBlockError → Type 0
+IsNoBlock s OtherHash = ¬ IsBySha256 s.0
+IsNoBlock s OtherBytes = IsBySha256 s.0 × IsVerdict s verdict.OtherBytes
+IsNoBlock s OtherCodec = IsBySha256 s.0 × IsVerdict s verdict.NotRead
+IsNoBlock s (NoBlock e) = IsBySha256 s.0 × IsVerdict s (verdict.Refused e)
+IsNoBlock s _ = ⊥
+
+-- why bytes are not kept under a name: memory is wanted only for a block under its name
+abbrev pub BytesRefused : Section → Held → PutBlockError → Type 0
+BytesRefused s held Collision = IsNamedBlock s × HoldsOther s.1 held
+BytesRefused s held OutOfMemory = IsNamedBlock s
+BytesRefused s held e = IsNoBlock s e
+
+-- A block is kept under its name. A refusal changes nothing.
+abbrev pub PutsBytes : Section → Held → Result (Unit {0}) PutBlockError → Held → Type 0
+PutsBytes s old result new = MatchResult result
+    (λ _. IsNamedBlock s × HoldsAlso old (s ∷ []) new)
+    (λ e. (new ≡ old) × BytesRefused s old e)
+
+-- whether a block is held under the name
+abbrev pub is_held : CidParts → Held → Bool
+is_held name blocks = is_some (block_at name blocks)
+
+-- what is held is what was held under other names
+abbrev pub HoldsOthers : CidParts → Held → Held → Type 0
+HoldsOthers name old new = (q : CidParts) (b : List ℕ)
+    → (block_at q new ≡ Some b) ↔ ((q ≢ name) × (block_at q old ≡ Some b))
+
+-- the names of the held blocks, each once, in their order
+abbrev pub AreNames : Held → Vec CidParts Global → Type 0
+AreNames blocks v = (v.items ≡ map (λ e. e.0) blocks) × IsStrictlySortedBy cid_cmp v.items

@@ -1,0 +1,97 @@
+//! Keeping blocks as bytes, and handing them out.
+
+ghost use Rattle.std.specs.Prelude.{◌≡◌, length, IfOk, MatchOption, MatchResult, None};
+ghost use Rattle.dagcbor_blocks.specs.Blocks.{held_blocks, block_at, IsHeld};
+ghost use Rattle.dagcbor_blocks.specs.Cars.{IsNamedBlock};
+ghost use Rattle.dagcbor_blocks.specs.Bytes.{IsNoBlock, PutsBytes, is_held, HoldsOthers, AreNames};
+
+use crate::error::BlockError;
+use crate::put_error::PutBlockError;
+use crate::store::Blocks;
+use dagcbor_car::{SHA2_256, Verdict, verify};
+use serde_ipld_dagcbor::Cid;
+use std::alloc::AllocError;
+
+/// Whether the bytes are a block, and the name is its own.
+fn check_block(name: &Cid, bytes: &[u8]) -> Result<(), PutBlockError>
+    ensures { MatchResult result
+        (λ _. IsNamedBlock (name.now, bytes.now))
+        (λ e. IsNoBlock (name.now, bytes.now) e) }
+{
+    // What is known of a CID comes with its version.
+    let _version = name.version();
+    if name.hash_code() != SHA2_256 {
+        return Err(PutBlockError::OtherHash);
+    }
+    match verify(name, bytes) {
+        Verdict::Block(_) => Ok(()),
+        Verdict::Refused(error) => Err(PutBlockError::NoBlock(error)),
+        Verdict::OtherBytes => Err(PutBlockError::OtherBytes),
+        Verdict::NotRead => Err(PutBlockError::OtherCodec),
+        Verdict::Unverified => Err(PutBlockError::OtherHash),
+    }
+}
+
+impl Blocks {
+    /// Keeps a copy of the block under the name, which must be its own, by SHA-256: the bytes must be
+    /// DAG-CBOR that is read within 256 steps. A refusal changes nothing.
+    pub fn put_block(&mut self, name: &Cid, bytes: &[u8]) -> Result<(), PutBlockError>
+        ensures { PutsBytes (name.now, bytes.now) (held_blocks self.old) result
+            (held_blocks self.new) }
+    {
+        check_block(name, bytes)?;
+        let Ok(block) = bytes.to_vec(self.alloc) else {
+            return Err(PutBlockError::OutOfMemory);
+        };
+        match self.store(*name, block) {
+            Ok(_name) => Ok(()),
+            Err(BlockError::Collision) => Err(PutBlockError::Collision),
+            Err(_) => Err(PutBlockError::OutOfMemory),
+        }
+    }
+
+    /// The block under the name, as it was kept.
+    pub fn get_block(&self, name: &Cid) -> Option<&[u8]>
+        ensures { MatchOption result
+            (block_at name.now (held_blocks self.now) ≡ None)
+            (λ b. IsHeld name.now b.now (held_blocks self.now)) }
+    {
+        match self.blocks.get(name) {
+            Some(block) => Some(block.as_slice()),
+            None => None,
+        }
+    }
+
+    /// Whether a block is held under the name.
+    pub fn contains(&self, name: &Cid) -> bool
+        ensures { result ≡ is_held name.now (held_blocks self.now) }
+    {
+        self.get_block(name).is_some()
+    }
+
+    /// How many blocks are held.
+    pub fn len(&self) -> usize
+        ensures { result ≡ length (held_blocks self.now) }
+    {
+        self.blocks.len()
+    }
+
+    /// The names of the held blocks, in their order.
+    pub fn names(&self) -> Result<Vec<Cid>, AllocError>
+        ensures { IfOk result (AreNames (held_blocks self.now)) }
+    {
+        let mut names = Vec::new(self.alloc);
+        for (name, _block) in self.blocks.iter() {
+            names.push(*name)?;
+        }
+        Ok(names)
+    }
+
+    /// Lets go of the block under the name, and answers whether one was held.
+    pub fn remove(&mut self, name: &Cid) -> bool
+        ensures answer { result ≡ is_held name.now (held_blocks self.old) }
+        ensures others { HoldsOthers name.now (held_blocks self.old) (held_blocks self.new) }
+    {
+        self.blocks.remove(name).is_some()
+    }
+}

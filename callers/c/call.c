@@ -1,6 +1,8 @@
-/* Calls each export for each row of its table: call TABLE SECTIONS TEXTS HEADERS. Prints the number of
- * rows, or the row that is answered otherwise. */
+/* Calls each export for each row of its table: call TABLE SECTIONS TEXTS HEADERS SPANS. Prints the
+ * number of rows, or the row that is answered otherwise. */
 #include "dagcbor.h"
+#include <inttypes.h>
+#include <stdbool.h>
 #include <stdio.h>
 #include <stdlib.h>
 #include <string.h>
@@ -147,6 +149,17 @@ static int is_right_header(char *const field[4]) {
     return memcmp(out, roots, count) == 0 && out[count] == 0xee;
 }
 
+/* Where the front of the file says nothing, the places stay. */
+static int is_right_span(char *const field[3]) {
+    static uint8_t bytes[MOST];
+    size_t length = from_hex(field[0], bytes, 0);
+    uint64_t places[] = {99, 98, 97}, wanted[] = {99, 98, 97};
+    const char *text = field[2];
+    if (*text != '-' && sscanf(text, "%" SCNu64 ":%" SCNu64, &wanted[0], &wanted[1]) != 2) return 0;
+    if (dagcbor_car_span(dagcbor_from(bytes, length), length, places) != atoi(field[1])) return 0;
+    return memcmp(places, wanted, sizeof wanted) == 0;
+}
+
 /* A call that puts bytes into room, in which all that it needs stands, or nothing changes. */
 typedef int32_t Putter(const uint8_t *, size_t, uint8_t *, size_t, size_t *);
 
@@ -197,10 +210,13 @@ static int rows_of(const char *name, int words, int is_right(char *const *)) {
 }
 
 int main(int count, char **words) {
-    int blocks = count == 5 ? rows_of(words[1], 8, is_right_block) : 0;
-    int sections = count == 5 ? rows_of(words[2], 3, is_right_section) : 0;
-    int texts = count == 5 ? rows_of(words[3], 4, is_right_text) : 0;
-    int headers = count == 5 ? rows_of(words[4], 4, is_right_header) : 0;
-    printf("%d blocks, %d sections, %d texts, %d headers\n", blocks, sections, texts, headers);
-    return !blocks || !sections || !texts || !headers;
+    bool is_whole = count == 6;
+    int blocks = is_whole ? rows_of(words[1], 8, is_right_block) : 0;
+    int sections = is_whole ? rows_of(words[2], 3, is_right_section) : 0;
+    int texts = is_whole ? rows_of(words[3], 4, is_right_text) : 0;
+    int headers = is_whole ? rows_of(words[4], 4, is_right_header) : 0;
+    int spans = is_whole ? rows_of(words[5], 3, is_right_span) : 0;
+    printf("%d blocks, %d sections, %d texts, %d headers, %d spans\n", blocks, sections, texts,
+           headers, spans);
+    return !blocks || !sections || !texts || !headers || !spans;
 }

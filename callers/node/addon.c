@@ -3,23 +3,15 @@
 
    No script runs while the library reads the bytes of a Uint8Array. Memory that another thread may
    write is refused. `decode` copies them first, since making values may run scripts. */
-#define NAPI_VERSION 8
-#include "dagcbor.h"
+#include "addon.h"
 #include "writer.h"
 #include <math.h>
-#include <node_api.h>
 
 enum {
     MANY_TOKENS = 1 << 20, /* from here on they are counted before room is taken */
     FEW_UNITS = 64,        /* of a text, that have room on the stack */
     MOST_AT_ONCE = 32      /* values that are added to a list or map by one call; an even number */
 };
-
-/* Where a call of Node-API fails, an exception is pending, or `raise` makes one. */
-#define TRY(call)                                                              \
-    do {                                                                       \
-        if ((call) != napi_ok) return raise(env, "a call of Node-API failed"); \
-    } while (0)
 
 typedef struct {
     napi_ref refused;     /* (code, what was said, the place) => an error */
@@ -29,14 +21,14 @@ typedef struct {
     napi_ref add_entries; /* (map, or undefined for a new one, ..keys and values) => the map */
 } State;
 
-static void *raise(napi_env env, const char *said) {
+void *raise(napi_env env, const char *said) {
     bool is_pending = false;
     napi_is_exception_pending(env, &is_pending);
     if (!is_pending) napi_throw_error(env, NULL, said);
     return NULL;
 }
 
-static void *no_memory(napi_env env) { return raise(env, "out of memory"); }
+void *no_memory(napi_env env) { return raise(env, "out of memory"); }
 
 /* What the function answers. */
 static napi_value ask(napi_env env, napi_ref function, size_t count, const napi_value *given) {
@@ -68,7 +60,7 @@ static void *refuse_at(napi_env env, int32_t code, const char *said, const size_
     return NULL;
 }
 
-static void *refuse(napi_env env, int32_t code, const char *said) {
+void *refuse(napi_env env, int32_t code, const char *said) {
     return refuse_at(env, code, said, NULL);
 }
 
@@ -79,9 +71,7 @@ static void *refuse_block(napi_env env, int32_t code, const uint8_t *bytes, size
     return refuse_at(env, code, NULL, &place);
 }
 
-/* The bytes of a Uint8Array over memory that is not shared; else NULL. An empty one may have no
- * address. */
-static const uint8_t *bytes_in(napi_env env, napi_value given, size_t *length) {
+const uint8_t *bytes_in(napi_env env, napi_value given, size_t *length) {
     napi_value buffer;
     napi_typedarray_type type;
     void *data;
@@ -109,8 +99,7 @@ static const uint8_t *bytes_of(napi_env env, napi_callback_info info, size_t *le
     return bytes;
 }
 
-/* A Uint8Array of its own, and where its bytes stand. */
-static napi_value new_bytes(napi_env env, size_t length, uint8_t **at) {
+napi_value new_bytes(napi_env env, size_t length, uint8_t **at) {
     napi_value buffer, array;
     void *data;
     TRY(napi_create_arraybuffer(env, length, &data, &buffer));
@@ -119,7 +108,7 @@ static napi_value new_bytes(napi_env env, size_t length, uint8_t **at) {
     return array;
 }
 
-static napi_value copied(napi_env env, const uint8_t *bytes, size_t length) {
+napi_value copied(napi_env env, const uint8_t *bytes, size_t length) {
     uint8_t *at;
     napi_value array = new_bytes(env, length, &at);
     if (array && length) memcpy(at, bytes, length);
@@ -566,8 +555,7 @@ static napi_value tape(napi_env env, napi_callback_info info) {
     return answer;
 }
 
-/* An array of the CIDs that are packed. */
-static napi_value unpack(napi_env env, const uint8_t *packed, size_t length) {
+napi_value unpack(napi_env env, const uint8_t *packed, size_t length) {
     napi_value found;
     uint32_t index = 0;
     TRY(napi_create_array(env, &found));
@@ -664,7 +652,9 @@ NAPI_MODULE_INIT() {
         napi_callback call;
     } all[] = {{"start", start}, {"decode", decode}, {"encode", encode}, {"check", check},
                {"tape", tape},   {"links", links},   {"name", name},     {"cid_text", cid_text},
-               {"cid_from_text", cid_from_text}};
+               {"cid_from_text", cid_from_text},
+               {"car_open", car_open}, {"car_put", car_put}, {"car_go", car_go},
+               {"car_found", car_found}, {"car_section", car_section_of}};
     if (!has_processor()) return raise(env, "dagcbor wants an x86-64-v2 processor");
     for (size_t i = 0; i < sizeof all / sizeof *all; i++) {
         napi_value call;

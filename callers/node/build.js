@@ -37,6 +37,7 @@ const more = (process.env.CFLAGS || '').split(' ').filter(Boolean);
 const folders = [headers(), join(crate, 'include'), join(__dirname, '../c')].map((it) => `-I${it}`);
 mkdirSync(join(__dirname, 'out'), { recursive: true });
 const made = join(__dirname, 'out/dagcbor.node');
-const files = [join(__dirname, 'addon.c'), library(), '-lm', '-o', made];
+const sources = ['addon.c', 'car.c'].map((it) => join(__dirname, it));
+const files = [...sources, library(), '-lm', '-o', made];
 const all = [...words, ...flags, ...hidden, ...more, ...folders, ...files];
 execFileSync(cc, all, { stdio: 'inherit' });

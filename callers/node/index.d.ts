@@ -41,7 +41,12 @@ export type Refusal =
   | 'InvalidLength'
   | 'TrailingBits'
   | 'LeadingZero'
-  | 'InvalidVersion';
+  | 'InvalidVersion'
+  | 'OtherBytes'
+  | 'Truncated'
+  | 'NoBlock'
+  | 'OtherHeader'
+  | 'InvalidOffset';
 
 /** Bytes that are no block, a value that has none, or what is no CID. */
 export class DagCborError extends Error {
@@ -89,3 +94,90 @@ export function name(block: Uint8Array): CID;
 
 /** Three numbers for each token of a block: its kind, its number, its place. */
 export function tape(block: Uint8Array): BigUint64Array;
+
+// Files of blocks (CAR, of version 1 or 2). The names are those of the package `@ipld/car`.
+
+/** A CID of this package, or of another that has its binary form in `bytes`. */
+export type AnyCid = { readonly bytes: Uint8Array };
+
+/** Bytes as they come: a stream of Node, say. */
+export type Source = AsyncIterable<Uint8Array> | Iterable<Uint8Array>;
+
+/** What is said of a section, in the words of `dagcar check`. */
+export type Verdict =
+  | `ok ${Kind}`
+  | `refused ${Refusal}`
+  | 'other bytes'
+  | 'not read'
+  | 'not verified';
+
+/** A section of a file. */
+export interface Block {
+  readonly cid: CID;
+  readonly bytes: Uint8Array;
+  readonly verdict: Verdict;
+}
+
+/**
+ * Bytes that are no file of blocks. `place` is the offset in the file of the header or the section
+ * that is none.
+ */
+export class CarError extends DagCborError {
+  readonly place: number;
+  /** Of `checkCar`, what was found before; not where the header is none. */
+  readonly checked?: CarCheck;
+}
+
+/** The sections of a file, one at a time, and its roots. */
+export class CarBlockIterator implements AsyncIterable<Block> {
+  static fromBytes(bytes: Uint8Array): Promise<CarBlockIterator>;
+  static fromIterable(source: Source): Promise<CarBlockIterator>;
+  getRoots(): Promise<CID[]>;
+  [Symbol.asyncIterator](): AsyncIterator<Block>;
+}
+
+/** A file in memory. */
+export class CarReader {
+  static fromBytes(bytes: Uint8Array): Promise<CarReader>;
+  static fromIterable(source: Source): Promise<CarReader>;
+  getRoots(): Promise<CID[]>;
+  /** Whether a verified block has the name. */
+  has(cid: AnyCid): Promise<boolean>;
+  /** The first verified block of the name. */
+  get(cid: AnyCid): Promise<Block | undefined>;
+  /** All sections, whatever their verdicts. */
+  blocks(): AsyncGenerator<Block>;
+  cids(): AsyncGenerator<CID>;
+}
+
+/** What was found in a file. */
+export interface CarCheck {
+  readonly roots: CID[];
+  /** How often each verdict was given. */
+  readonly verdicts: { readonly [verdict in Verdict]?: number };
+  /**
+   * The roots and links that lead to no verified block of the file, each once, in the order of
+   * their bytes. A CID by the identity holds its block itself: its links are followed.
+   */
+  readonly missing: CID[];
+  /** Whether nothing is missing, and each verdict is `ok ..` or `not read`. */
+  readonly isWell: boolean;
+}
+
+/** Goes through a whole file, with no more than a section and the names in memory. */
+export function checkCar(source: Uint8Array | Source): Promise<CarCheck>;
+
+/** Writes a file of version 1. */
+export class CarWriter {
+  /** `out` gives the file as it is written. */
+  static create(roots?: AnyCid | readonly AnyCid[]): {
+    writer: CarWriter;
+    out: AsyncIterable<Uint8Array>;
+  };
+  /**
+   * A section. Bytes that are not those of their CID are refused (`OtherBytes`), and nothing is
+   * written. The promise is kept when what follows is asked for.
+   */
+  put(block: { readonly cid: AnyCid; readonly bytes: Uint8Array }): Promise<void>;
+  close(): Promise<void>;
+}

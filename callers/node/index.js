@@ -19,6 +19,7 @@ const REASONS = {
   [-15]: ['IndefiniteSize', 'an indefinite length or a break'],
   [-16]: ['NonMinimal', 'a number or a length in more bytes than it needs'],
   [-17]: ['UnorderedKey', 'a key that does not come behind the one before it'],
+  [-22]: ['OtherBytes', 'the bytes are not those that the CID names'],
   [-26]: ['InvalidCid', 'the bytes are no CID'],
   [-28]: ['UnknownBase', 'the first character of the text names no base that is read here'],
   [-29]: ['TooLong', 'the text is longer than that of any CID'],
@@ -107,9 +108,12 @@ const addEntries = (map = {}, ...entries) => {
   return map;
 };
 
-native.start(refused, (bytes) => new CID(bytes, MADE), bytesOf, addItems, addEntries);
+const makeCid = (bytes) => new CID(bytes, MADE);
+native.start(refused, makeCid, bytesOf, addItems, addEntries);
 
 const { decode, encode, tape, links, name } = native;
 const check = (block) => KINDS[native.check(block)];
 
-module.exports = { CID, DagCborError, check, decode, encode, links, name, tape };
+const files = require('./car.js')({ native, CID, DagCborError, makeCid, KINDS, REASONS });
+
+module.exports = { CID, DagCborError, check, decode, encode, links, name, tape, ...files };

@@ -33,7 +33,8 @@ archive, include = library(), os.path.join(CRATE, "include")
 made = tempfile.TemporaryDirectory(prefix="dagcbor-")  # it is there until this process ends
 native = Extension(
     "dagcbor._native",
-    sources=["src/_native.c"],
+    sources=["src/_native.c", "src/_car.c"],
+    depends=["src/native.h", *(os.path.join(CALLERS, "c", it) for it in ("car.h", "writer.h"))],
     include_dirs=[include, os.path.join(CALLERS, "c")],
     extra_objects=[archive],
     extra_compile_args=["-std=c11", "-Wall", "-Wextra", "-fvisibility=hidden"],

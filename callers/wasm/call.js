@@ -1,4 +1,4 @@
-// node --experimental-wasm-memory64 call.js dagcbor_ffi.wasm TABLE TEXTS HEADERS SECTIONS (later
+// node --experimental-wasm-memory64 call.js dagcbor_ffi.wasm TABLE TEXTS HEADERS SECTIONS SPANS (later
 // versions want no flag). Holds the module against each row of the tables.
 'use strict';
 const { readFileSync } = require('fs');
@@ -54,6 +54,11 @@ const isRightSection = ({ carSection, carSections }, [text, code, wanted]) => {
     && (all.cause < 0) === (rest.length > 0);
 };
 
+const isRightSpan = ({ carSpan }, [text, code, wanted]) => {
+  const found = carSpan(Buffer.from(text === '-' ? '' : text, 'hex'));
+  return Number(code) < 0 ? String(found) === code : `${found.begin}:${found.end}` === wanted;
+};
+
 const isRightText = ({ cidText, cidFromText }, [text, code, cid, written]) => {
   const read = cidFromText(text === '-' ? '' : text);
   if (Number(code) < 0) return String(read) === code;
@@ -68,7 +73,7 @@ const rowsOf = (table) => {
 const main = async () => {
   const module = await require('./dagcbor.js').load(readFileSync(process.argv[2]));
   const tables = process.argv.slice(3).map(rowsOf);
-  const holds = [isRight, isRightText, isRightHeader, isRightSection];
+  const holds = [isRight, isRightText, isRightHeader, isRightSection, isRightSpan];
   const wrong = tables.flatMap((rows, i) => rows.filter((it) => !holds[i](module, it)))[0];
   const counts = tables.map((rows) => rows.length);
   console.log(wrong ? `wrong: ${wrong[0]}` : `${counts.join(', ')} rows`);

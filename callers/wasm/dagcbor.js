@@ -1,6 +1,6 @@
 // The WebAssembly module for JavaScript, in Node and in a browser:
-// const { check, tape, tokens, spell, links, name, cidText, cidFromText, carHeader, carSection,
-// carSections } = await load(module), which is the module's bytes, or a WebAssembly.Module.
+// const { check, tape, tokens, spell, links, name, cidText, cidFromText, carSpan, carHeader,
+// carSection, carSections } = await load(module), which is the module's bytes, or a WebAssembly.Module.
 // It imports nothing, and has a 64-bit memory: addresses and lengths are BigInts.
 const PAGE = 65536;
 const FRONT = 64;
@@ -153,6 +153,15 @@ const walking = (calls, room) => {
   const section = (at, length) =>
     calls.dagcbor_car_section(room.address(at), BigInt(length), room.front);
   return {
+    // Of the front of a file: the number of a refusal, or where the file of version 1 begins in it,
+    // and where it ends, which are BigInts.
+    carSpan: (bytes) => {
+      const code = calls.dagcbor_car_span(...room.put(bytes), room.front);
+      if (code < 0) return code;
+      const numbers = new DataView(room.memory.buffer, room.base);
+      const [begin, end] = [0, 8].map((at) => numbers.getBigUint64(at, true));
+      return { begin, end };
+    },
     // Of a file of blocks: the number of a refusal, or the roots, and where the first section begins.
     carHeader: (bytes) => {
       const out = bytes.length;

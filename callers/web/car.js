@@ -1,4 +1,4 @@
-// A file of blocks (CAR, version 1), gone through by a window over the file: never more of it is in
+// A file of blocks (CAR), gone through by a window over the file: never more of it is in
 // memory than its longest section needs.
 
 import { CUT, NOT_VERIFIED, OTHER_BYTES, TOO_LONG } from './kinds.js';
@@ -8,6 +8,7 @@ const WINDOW = 2 << 20;
 const FIRST_HEADER = 64 << 10;
 const MOST_HEADER = 16 << 20;
 const MOST = 1 << 30;
+const FIRST_BYTES = 51; // says where a file of version 1 is in one of version 2
 const HELD = 4; // behind 01 71 00 and a byte of length, in a CID that holds a block of DAG-CBOR
 
 const read = async (file, from, length) =>
@@ -29,17 +30,11 @@ export const headerOf = async (library, file) => {
   }
 };
 
-// A file of version 2 begins by these bytes; 16 of flags follow, and where the file of version 1
-// inside begins, and how long it is: a front of one length, which is read here.
-const SECOND = [0x0a, 0xa1, 0x67, 0x76, 0x65, 0x72, 0x73, 0x69, 0x6f, 0x6e, 0x02];
-
 // Where the file of version 1 is inside one of version 2, or null.
-export const innerOf = async (file) => {
-  const front = await read(file, 0, 43);
-  if (front.length < 43 || SECOND.some((it, i) => front[i] !== it)) return null;
-  const view = new DataView(front.buffer);
-  const [from, length] = [27, 35].map((it) => Number(view.getBigUint64(it, true)));
-  return from + length <= file.size ? { from, end: from + length } : null;
+export const innerOf = async (library, file) => {
+  const span = library.carSpan(await read(file, 0, FIRST_BYTES));
+  const isInside = typeof span !== 'number' && span.begin > 0n && span.end <= BigInt(file.size);
+  return isInside ? { from: Number(span.begin), end: Number(span.end) } : null;
 };
 
 // Hands out sections in batches, and answers what is missing, and why it stopped before the end.

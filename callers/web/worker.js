@@ -20,7 +20,7 @@ const calls = {
 
   // Whether it is a file of blocks, by its front, or has one inside.
   async look({ file }) {
-    const inner = await innerOf(file);
+    const inner = await innerOf(library, file);
     const whole = inner ? file.slice(inner.from, inner.end) : file;
     return { header: await headerOf(library, whole), inner };
   },

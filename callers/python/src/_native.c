@@ -1,16 +1,13 @@
 /* The library for Python, by the limited API: objects out of the tokens of a block, and tokens out
    of objects.
 
-   A call holds the interpreter's lock, and reads a `bytes`, which nobody writes: what is handed
-   over otherwise, and may be written by other threads and programs meanwhile, is copied into one
-   first. */
-#define Py_LIMITED_API 0x030B0000
-#define PY_SSIZE_T_CLEAN
-#include <Python.h>
+   A call reads a `bytes`, which nobody writes: what is handed over otherwise, and may be written by
+   other threads and programs meanwhile, is copied into one first. The interpreter's lock is let go
+   while a big block is judged or hashed. */
+#include "native.h"
 
 #define WRITER_REALLOC PyMem_Realloc
 #define WRITER_FREE PyMem_Free
-#include "dagcbor.h"
 #include "writer.h"
 
 enum {
@@ -25,25 +22,7 @@ enum {
 static const char *const KINDS[] = {"null",  "bool", "integer", "string",
                                     "bytes", "list", "map",     "link"};
 
-/* What the module holds. Of dagcbor._errors: refused(code, place), DagCborError(message, kind,
- * place) */
-typedef struct {
-    PyTypeObject *cid;
-    PyObject *refused;
-    PyObject *error;
-} State;
-
-static void *no_memory(void) {
-    PyErr_NoMemory();
-    return NULL;
-}
-
-static const uint8_t *bytes_of(PyObject *bytes) { return (const uint8_t *)PyBytes_AsString(bytes); }
-
-static size_t length_of(PyObject *bytes) { return (size_t)PyBytes_Size(bytes); }
-
-/* A `bytes` with what the argument holds: itself, where it is one. */
-static PyObject *to_bytes(PyObject *given) {
+PyObject *to_bytes(PyObject *given) {
     Py_buffer view;
     if (PyBytes_Check(given)) return Py_NewRef(given);
     if (PyObject_GetBuffer(given, &view, PyBUF_SIMPLE) < 0) return NULL;
@@ -52,8 +31,7 @@ static PyObject *to_bytes(PyObject *given) {
     return bytes;
 }
 
-/* Raises the error of a number of the library, and of a place or None. */
-static void *refuse_code(State *state, int32_t code, PyObject *place) {
+void *refuse_code(State *state, int32_t code, PyObject *place) {
     PyObject *error = PyObject_CallFunction(state->refused, "iO", (int)code, place);
     if (error) PyErr_SetObject(state->error, error);
     Py_XDECREF(error);
@@ -78,12 +56,7 @@ static void *refuse_block(State *state, int32_t code, PyObject *block) {
 
 /* CIDs */
 
-typedef struct {
-    PyObject_HEAD
-    PyObject *bytes;
-} Cid;
-
-static PyObject *new_cid(PyTypeObject *type, const uint8_t *bytes, size_t length) {
+PyObject *new_cid(PyTypeObject *type, const uint8_t *bytes, size_t length) {
     PyObject *held = PyBytes_FromStringAndSize((const char *)bytes, (Py_ssize_t)length);
     Cid *cid = held ? PyObject_New(Cid, type) : NULL;
     if (cid) cid->bytes = held;
@@ -532,15 +505,18 @@ static PyObject *loads(PyObject *module, PyObject *given) {
 static PyObject *check(PyObject *module, PyObject *given) {
     PyObject *block = to_bytes(given), *kind = NULL;
     if (!block) return NULL;
-    int32_t code = dagcbor_check(bytes_of(block), length_of(block));
+    const uint8_t *bytes = bytes_of(block);
+    size_t length = length_of(block);
+    PyThreadState *held = length > SHORT_CALL ? PyEval_SaveThread() : NULL;
+    int32_t code = dagcbor_check(bytes, length);
+    if (held) PyEval_RestoreThread(held);
     if (code < 0) refuse_block(PyModule_GetState(module), code, block);
     else kind = PyUnicode_FromString(KINDS[code]);
     Py_DECREF(block);
     return kind;
 }
 
-/* The CIDs that are packed. */
-static PyObject *unpack(State *state, const uint8_t *packed, size_t length) {
+PyObject *unpack(State *state, const uint8_t *packed, size_t length) {
     PyObject *found = PyList_New(0);
     for (size_t at = 0; found && at < length; at += 1 + packed[at]) {
         PyObject *cid = new_cid(state->cid, packed + at + 1, packed[at]);
@@ -548,6 +524,10 @@ static PyObject *unpack(State *state, const uint8_t *packed, size_t length) {
         Py_XDECREF(cid);
     }
     return found;
+}
+
+static PyObject *unpack_bytes(PyObject *module, PyObject *packed) {
+    return unpack(PyModule_GetState(module), bytes_of(packed), length_of(packed));
 }
 
 static PyObject *links(PyObject *module, PyObject *given) {
@@ -574,7 +554,11 @@ static PyObject *name(PyObject *module, PyObject *given) {
     uint8_t out[36];
     PyObject *block = to_bytes(given);
     if (!block) return NULL;
-    dagcbor_name(bytes_of(block), length_of(block), out);
+    const uint8_t *bytes = bytes_of(block);
+    size_t length = length_of(block);
+    PyThreadState *held = length > SHORT_CALL ? PyEval_SaveThread() : NULL;
+    dagcbor_name(bytes, length, out);
+    if (held) PyEval_RestoreThread(held);
     Py_DECREF(block);
     return new_cid(state->cid, out, sizeof out);
 }
@@ -592,6 +576,12 @@ static PyMethodDef methods[] = {
      "at."},
     {"name", name, METH_O,
      "name(block): the CID of any bytes as a block: version 1, DAG-CBOR, SHA-256."},
+    {"read_car", read_car, METH_O,
+     "read_car(source): the roots of a file of blocks (CAR), and its sections one at a time."},
+    {"check_car", check_car, METH_O,
+     "The roots, the verdicts' counts, what is missing, the names held, packed; and an error."},
+    {"car_section", car_section_of, METH_VARARGS, "car_section(cid, block): the two as a section."},
+    {"unpack", unpack_bytes, METH_O, "unpack(packed): the CIDs."},
     {NULL, NULL, 0, NULL},
 };
 
@@ -613,10 +603,16 @@ static int start(PyObject *module) {
     if (!errors) return -1;
     state->refused = PyObject_GetAttrString(errors, "refused");
     state->error = PyObject_GetAttrString(errors, "DagCborError");
+    state->refused_car = PyObject_GetAttrString(errors, "refused_car");
+    state->verdicts = PyObject_GetAttrString(errors, "VERDICTS");
     Py_DECREF(errors);
+    if (!state->refused || !state->error || !state->refused_car || !state->verdicts) return -1;
     state->cid = (PyTypeObject *)PyType_FromModuleAndSpec(module, &cid_spec, NULL);
-    if (!state->refused || !state->error || !state->cid) return -1;
-    return PyModule_AddType(module, state->cid);
+    if (!state->cid || PyModule_AddType(module, state->cid) < 0) return -1;
+    state->car_reader = (PyTypeObject *)PyType_FromModuleAndSpec(module, &car_reader_spec, NULL);
+    if (!state->car_reader || PyModule_AddType(module, state->car_reader) < 0) return -1;
+    state->section = PyStructSequence_NewType(&section_desc);
+    return state->section ? PyModule_AddType(module, state->section) : -1;
 }
 
 static int traverse(PyObject *module, visitproc visit, void *arg) {
@@ -624,6 +620,10 @@ static int traverse(PyObject *module, visitproc visit, void *arg) {
     Py_VISIT(state->cid);
     Py_VISIT(state->refused);
     Py_VISIT(state->error);
+    Py_VISIT(state->refused_car);
+    Py_VISIT(state->verdicts);
+    Py_VISIT(state->car_reader);
+    Py_VISIT(state->section);
     return 0;
 }
 
@@ -632,6 +632,10 @@ static int clear(PyObject *module) {
     Py_CLEAR(state->cid);
     Py_CLEAR(state->refused);
     Py_CLEAR(state->error);
+    Py_CLEAR(state->refused_car);
+    Py_CLEAR(state->verdicts);
+    Py_CLEAR(state->car_reader);
+    Py_CLEAR(state->section);
     return 0;
 }
 

@@ -2,10 +2,13 @@
 
 An answer is right, or there is no memory."""
 
+import io
 import sys
 
-from dagcbor import CID, DagCborError, check, dumps, links, loads, name
+from dagcbor import CID, DagCborError, _native, check, check_car, dumps, links, loads, name
+from dagcbor import read_car, write_car
 from plain import same
+from plain_car import cid, header, section
 
 try:
     from _testcapi import remove_mem_hooks, set_nomemory
@@ -21,7 +24,38 @@ VALUE = {
 BLOCK = dumps(VALUE)
 BAD = [VALUE, {"a": [2**64]}]
 TEXT = str(CIDS[0])
+FILE = header(cid(b"\xf6")) + section(BLOCK) + section(dumps(CIDS[:50]))
+MISSING = sorted({CIDS[0], *CIDS, CID(cid(b"\xf6"))})
+VERDICTS = {"ok list": 1, "ok map": 1}
+
+
+def read(file):
+    return [(bytes(it.cid), it.block, it.verdict) for it in read_car(io.BytesIO(file))]
+
+
+def checked(file):
+    found = check_car(io.BytesIO(file))
+    return [found.verdicts, found.missing, [bytes(it) for it in found.held]]
+
+
+def refused(file):
+    """Not by a `raise`: with no memory for it, Python 3.11 may say SystemError."""
+    _, verdicts, _, _, error = _native.check_car(file)
+    return [error.kind, error.place, verdicts]
+
+
+def written(blocks):
+    file = io.BytesIO()
+    write_car(file, [CID(cid(b"\xf6"))], blocks)
+    return file.getvalue()
+
+
 CALLS = [
+    (read, FILE, [(cid(it), it, verdict) for it, verdict in (
+        (BLOCK, "ok map"), (dumps(CIDS[:50]), "ok list"))]),
+    (checked, FILE, [VERDICTS, MISSING, [cid(BLOCK), cid(dumps(CIDS[:50]))]]),
+    (refused, FILE + b"\0", ["InvalidCid", len(FILE), VERDICTS]),
+    (written, {name(BLOCK): BLOCK, name(dumps(CIDS[:50])): dumps(CIDS[:50])}, FILE),
     (dumps, VALUE, BLOCK), (loads, BLOCK, VALUE), (loads, bytearray(BLOCK), VALUE),
     (links, BLOCK, CIDS), (check, BLOCK, "map"),
     (name, BLOCK, name(BLOCK)), (CID, TEXT, CIDS[0]), (CID, bytes(CIDS[0]), CIDS[0]),

@@ -41,6 +41,16 @@ extern "C" {
         needed: *mut usize,
     ) -> i32;
     fn dagcbor_name(bytes: *const u8, length: usize, out: *mut [u8; 36]);
+    fn dagcbor_car_span(bytes: *const u8, length: usize, places: *mut [u64; 2]) -> i32;
+    fn dagcbor_car_header(
+        bytes: *const u8,
+        length: usize,
+        out: *mut u8,
+        room: usize,
+        needed: *mut usize,
+        behind: *mut usize,
+    ) -> i32;
+    fn dagcbor_car_section(bytes: *const u8, length: usize, places: *mut [usize; 3]) -> i32;
     fn dagcbor_cid_text(
         bytes: *const u8,
         length: usize,
@@ -101,6 +111,38 @@ pub fn name(block: &[u8]) -> [u8; 36] {
     // SAFETY: see above.
     unsafe { dagcbor_name(block.as_ptr(), block.len(), &mut out) };
     out
+}
+
+/// What the library answers of the front of a file of blocks.
+pub(crate) fn put_span(bytes: &[u8], places: &mut [u64; 2]) -> i32 {
+    // SAFETY: see above.
+    unsafe { dagcbor_car_span(bytes.as_ptr(), bytes.len(), places) }
+}
+
+/// What it answers of the header.
+pub(crate) fn put_header(
+    bytes: &[u8],
+    room: &mut [u8],
+    needed: &mut usize,
+    behind: &mut usize,
+) -> i32 {
+    // SAFETY: see above.
+    unsafe {
+        dagcbor_car_header(
+            bytes.as_ptr(),
+            bytes.len(),
+            room.as_mut_ptr(),
+            room.len(),
+            needed,
+            behind,
+        )
+    }
+}
+
+/// What it answers of a section.
+pub(crate) fn put_section(bytes: &[u8], places: &mut [usize; 3]) -> i32 {
+    // SAFETY: see above.
+    unsafe { dagcbor_car_section(bytes.as_ptr(), bytes.len(), places) }
 }
 
 /// How many characters the text of the CID has that the bytes are. They stand in the room, where all
@@ -243,7 +285,7 @@ pub fn tape(block: &[u8]) -> Result<Tape<'_>, Refused> {
 /// The links of an item.
 #[cfg(feature = "alloc")]
 #[derive(Clone, Debug)]
-pub struct Links(Vec<u8>);
+pub struct Links(pub(crate) Vec<u8>);
 
 #[cfg(feature = "alloc")]
 impl Links {

@@ -15,6 +15,8 @@
 //! # Ok::<(), Refusal>(())
 //! ```
 //!
+//! [`Car`] goes through a file of blocks in memory, and [`CarReader`] through one that is read.
+//!
 //! Without the feature `alloc`, which `std` brings, there are the calls that take room:
 //! [`tape_into`], [`links_into`] and [`spell_into`].
 //!
@@ -28,10 +30,14 @@ extern crate alloc;
 
 mod answer;
 mod calls;
+mod car;
 mod item;
 
 pub use answer::{Kind, Refusal, Refused};
 pub use calls::{check, links_into, name, spell_into, tape_into, MOST_OF_CID};
 #[cfg(feature = "alloc")]
 pub use calls::{links, spell, tape, Links, Tape};
+pub use car::{Car, CarRefusal, CarRefused, Section, Verdict};
+#[cfg(feature = "std")]
+pub use car::{CarError, CarReader, OwnedSection};
 pub use item::{Cid, Cids, Item, Items, Token};

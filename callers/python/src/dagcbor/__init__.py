@@ -6,11 +6,31 @@
     links(block)   the links of the first item
     name(block)    the block's own CID
 
-Whether bytes are a block is the library's judgement, which is proved, for `loads` as for `dumps`.
-The rest, which makes objects from what the library tells and tells it what the objects are, is a
-small extension in C, and not proved."""
+    read_car(source)                the roots of a file of blocks (CAR), and its sections in turn
+    check_car(source)               its verdicts, and what is missing
+    write_car(file, roots, blocks)  writes one
 
-from ._errors import DagCborError
-from ._native import CID, check, dumps, links, loads, name
+Whether bytes are a block or a file of blocks is the library's judgement, which is proved. The rest,
+which makes objects from what the library tells and tells it what the objects are, is a small
+extension in C, and not proved."""
 
-__all__ = ["CID", "DagCborError", "check", "dumps", "links", "loads", "name"]
+from ._car import CarCheck, check_car, write_car
+from ._errors import CarError, DagCborError
+from ._native import CID, CarReader, Section, check, dumps, links, loads, name, read_car
+
+__all__ = [
+    "CID",
+    "CarCheck",
+    "CarError",
+    "CarReader",
+    "DagCborError",
+    "Section",
+    "check",
+    "check_car",
+    "dumps",
+    "links",
+    "loads",
+    "name",
+    "read_car",
+    "write_car",
+]

@@ -1,4 +1,6 @@
-"""Why bytes are no block, why data has none, and why a text is that of no CID."""
+"""Why bytes are no block or no file of blocks, why data has none, why a text is that of no CID."""
+
+KINDS = ("null", "bool", "integer", "string", "bytes", "list", "map", "link")
 
 REASONS = {
     -1: ("Msg", "no CID"),
@@ -14,6 +16,7 @@ REASONS = {
     -15: ("IndefiniteSize", "an indefinite length or a break"),
     -16: ("NonMinimal", "a number or a length in more bytes than it needs"),
     -17: ("UnorderedKey", "a key that does not come behind the one before it"),
+    -22: ("OtherBytes", "the bytes are not those that the CID names"),
     -26: ("InvalidCid", "the bytes are no CID"),
     -28: ("UnknownBase", "the first character of the text names no base that is read here"),
     -29: ("TooLong", "the text is longer than that of any CID"),
@@ -22,6 +25,20 @@ REASONS = {
     -32: ("TrailingBits", "bits that are not zero stand behind the last byte"),
     -33: ("LeadingZero", "the text begins with a zero byte, as no CID does"),
     -34: ("InvalidVersion", "version 0 has no prefix, and version 1 has one"),
+}
+
+# What is said of a section, in the words of `dagcar check`.
+VERDICTS = {code: f"ok {kind}" for code, kind in enumerate(KINDS)}
+VERDICTS |= {code: f"refused {kind}" for code, (kind, _) in REASONS.items() if code > -20}
+VERDICTS |= {9: "not read", -22: "other bytes", -23: "not verified"}
+
+# Why bytes are no file of blocks.
+FAULTS = {
+    -24: ("Truncated", "the file is cut short"),
+    -25: ("InvalidLength", "a length is not in shortest form or too large"),
+    -26: ("InvalidCid", "no name stands before a block"),
+    -27: ("OtherHeader", "the header is not that of version 1"),
+    -35: ("InvalidOffset", "the offsets of version 2 are none"),
 }
 
 
@@ -39,7 +56,24 @@ class DagCborError(ValueError):
         self.place = place
 
 
+class CarError(DagCborError):
+    """Bytes that are no file of blocks.
+
+    `kind` names the variant, as `dagcar check` does, and `place` is the offset in the file of the
+    header or the section that is none. Of `check_car`, `checked` is what was found before it; else,
+    and where the header is none, it is None.
+    """
+
+    checked = None
+
+
 def refused(code, place=None):
     """The error of a number of the library, at a place in a block."""
     kind, reason = REASONS.get(code, (None, f"refused: {code}"))
     return DagCborError(reason, kind, place)
+
+
+def refused_car(code, place):
+    """The error of a number of the library, at a place in a file of blocks."""
+    kind, reason = FAULTS.get(code) or ("NoBlock", f"the header is no block: {refused(code)}")
+    return CarError(reason, kind, place)

@@ -1,3 +1,5 @@
+from ._car import CarCheck
+
 class DagCborError(ValueError):
     kind: str | None
     place: int | tuple[str | int, ...] | None
@@ -7,3 +9,7 @@ class DagCborError(ValueError):
         kind: str | None = None,
         place: int | tuple[str | int, ...] | None = None,
     ) -> None: ...
+
+class CarError(DagCborError):
+    place: int
+    checked: CarCheck | None

@@ -1,7 +1,34 @@
-from typing import Any, Literal, TypeAlias, final
+from mmap import mmap
+from typing import Any, Literal, Protocol, TypeAlias, final
 
 Buffer: TypeAlias = bytes | bytearray | memoryview
 Kind: TypeAlias = Literal["null", "bool", "integer", "string", "bytes", "list", "map", "link"]
+Verdict: TypeAlias = Literal[
+    "ok null",
+    "ok bool",
+    "ok integer",
+    "ok string",
+    "ok bytes",
+    "ok list",
+    "ok map",
+    "ok link",
+    "not read",
+    "not verified",
+    "other bytes",
+    "refused Msg",
+    "refused Eof",
+    "refused Mismatch",
+    "refused Unsupported",
+    "refused RequireUtf8",
+    "refused DepthOverflow",
+    "refused TrailingData",
+    "refused IndefiniteSize",
+    "refused NonMinimal",
+    "refused UnorderedKey",
+]
+
+class Readable(Protocol):
+    def read(self, count: int, /) -> bytes | None: ...
 
 @final
 class CID:
@@ -14,8 +41,25 @@ class CID:
     def __gt__(self, other: CID, /) -> bool: ...
     def __ge__(self, other: CID, /) -> bool: ...
 
+@final
+class Section(tuple[CID, bytes, Verdict]):
+    @property
+    def cid(self) -> CID: ...
+    @property
+    def block(self) -> bytes: ...
+    @property
+    def verdict(self) -> Verdict: ...
+
+@final
+class CarReader:
+    @property
+    def roots(self) -> list[CID]: ...
+    def __iter__(self) -> CarReader: ...
+    def __next__(self) -> Section: ...
+
 def loads(block: Buffer, /) -> Any: ...
 def dumps(value: Any, /) -> bytes: ...
 def check(block: Buffer, /) -> Kind: ...
 def links(block: Buffer, /) -> list[CID]: ...
 def name(block: Buffer, /) -> CID: ...
+def read_car(source: Buffer | mmap | Readable, /) -> CarReader: ...

@@ -1,0 +1,45 @@
+"""Holds the example over each file of callers/files.txt: table.py PROGRAM."""
+
+import os
+import subprocess
+import sys
+import tempfile
+
+sys.dont_write_bytecode = True
+sys.path.insert(0, os.path.join(os.path.dirname(os.path.abspath(__file__)), "../../faults"))
+
+from cars import text_of
+
+TABLE = os.path.join(os.path.dirname(os.path.abspath(__file__)), "../files.txt")
+
+
+def parts(text):
+    return [] if text == "-" else text.split(",")
+
+
+def lines_of(roots, sections, fault):
+    """What is to be printed."""
+    for it in parts(roots):
+        yield f"root {text_of(bytes.fromhex(it))}"
+    for it in parts(sections):
+        name, _, code = it.split(":")
+        yield f"{text_of(bytes.fromhex(name))} {code}"
+    yield "end" if fault == "-" else " at ".join(fault.split(":"))
+
+
+def main():
+    with open(TABLE, encoding="ascii") as lines:
+        rows = [line.split() for line in lines if not line.startswith("#")]
+    for file, roots, sections, fault, _ in rows:
+        with tempfile.NamedTemporaryFile() as kept:
+            kept.write(bytes.fromhex(file.strip("-")))
+            kept.flush()
+            words = [sys.argv[1], kept.name]
+            ran = subprocess.run(words, stdout=subprocess.PIPE, text=True, check=False)
+        wanted = list(lines_of(roots, sections, fault))
+        if ran.stdout.splitlines() != wanted or ran.returncode != (fault != "-"):
+            sys.exit(f"wrong: {file}\n{ran.stdout}")
+    print(f"{len(rows)} files")
+
+
+main()

@@ -1,0 +1,229 @@
+/* Files of blocks for Node: pieces are put, and a thread of the pool goes through the sections that
+   stand whole in what was put, in memory of its own. car.js asks for one thing at a time. */
+#include "addon.h"
+
+#include "car.h"
+
+enum { SLICE = 1 << 22 /* of a file, that is gone through by one work */ };
+
+/* A section: the number of its verdict, and its places, counted from the front of a batch. */
+typedef struct {
+    double code, cid, block, end;
+} Told;
+
+typedef struct {
+    Check check;
+    bool is_check; /* whose names are noted; else its sections are told */
+    bool is_behind_span, is_behind_header;
+    bool is_busy;
+    napi_async_work work;
+    napi_deferred deferred;
+    napi_ref kept;
+    int32_t code; /* why the work stopped, or 0 */
+    Bytes told;
+    const uint8_t *front; /* of the batch */
+} Walk;
+
+static void walk_free(napi_env env, void *given, void *hint) {
+    Walk *walk = given;
+    (void)env, (void)hint;
+    check_free(&walk->check);
+    bytes_free(&walk->told);
+    free(walk);
+}
+
+/* car_open(isCheck): a walk through a file of which nothing was put. */
+napi_value car_open(napi_env env, napi_callback_info info) {
+    size_t count = 1;
+    napi_value given, answer;
+    bool is_check;
+    TRY(napi_get_cb_info(env, info, &count, &given, NULL, NULL));
+    TRY(napi_get_value_bool(env, given, &is_check));
+    Walk *walk = calloc(1, sizeof *walk);
+    if (!walk) return no_memory(env);
+    walk->is_check = is_check;
+    if (!check_start(&walk->check) ||
+        napi_create_external(env, walk, walk_free, NULL, &answer) != napi_ok) {
+        walk_free(env, walk, NULL);
+        return raise(env, "no walk was begun");
+    }
+    return answer;
+}
+
+/* The walk that is the first of so many arguments, where no work is on its way. */
+static Walk *walk_of(napi_env env, napi_callback_info info, size_t count, napi_value *given) {
+    void *walk;
+    TRY(napi_get_cb_info(env, info, &count, given, NULL, NULL));
+    TRY(napi_get_value_external(env, given[0], &walk));
+    return ((Walk *)walk)->is_busy ? raise(env, "the walk is already at work") : walk;
+}
+
+/* car_put(walk, piece): bytes that follow; undefined at the file's end. */
+napi_value car_put(napi_env env, napi_callback_info info) {
+    napi_value given[2];
+    napi_valuetype type;
+    size_t length;
+    Walk *walk = walk_of(env, info, 2, given);
+    if (!walk) return NULL;
+    TRY(napi_typeof(env, given[1], &type));
+    if (type == napi_undefined) {
+        walk->check.car.is_whole = true;
+        return NULL;
+    }
+    const uint8_t *bytes = bytes_in(env, given[1], &length);
+    if (!bytes) {
+        napi_throw_type_error(env, NULL, "a Uint8Array over memory that is not shared is wanted");
+        return NULL;
+    }
+    return car_gather(&walk->check.car, bytes, length) ? NULL : no_memory(env);
+}
+
+/* Tells the sections at hand, as far as so many bytes. Answers why it stopped, or 0. */
+static int32_t tell_sections(Walk *walk, size_t most) {
+    Car *car = &walk->check.car;
+    walk->front = car->bytes;
+    for (size_t at = 0; at < most;) {
+        size_t places[3];
+        int32_t code = car_section(car, SIZE_MAX, places);
+        if (!is_verdict(code)) return code;
+        Told told = {code, (double)(at + places[0]), (double)(at + places[1]),
+                     (double)(at + places[2])};
+        if (!bytes_add(&walk->told, (const uint8_t *)&told, sizeof told)) return CAR_NO_MEMORY;
+        car_pass(car, places[2]);
+        at += places[2];
+    }
+    return 0;
+}
+
+/* Goes on through what was put. */
+static int32_t go_on(Walk *walk) {
+    Car *car = &walk->check.car;
+    walk->told.used = 0;
+    if (!walk->is_behind_span) {
+        int32_t code = car_span(car);
+        if (code != 0) return code;
+        walk->is_behind_span = true;
+    }
+    if (!walk->is_behind_header) {
+        int32_t code = car_header(car);
+        if (code != 0) return code;
+        walk->is_behind_header = true;
+        bool has_memory = names_want(&walk->check.names, car->roots.start, car->roots.used);
+        return has_memory ? 0 : CAR_NO_MEMORY;
+    }
+    return walk->is_check ? check_sections(&walk->check, SLICE) : tell_sections(walk, SLICE);
+}
+
+static void at_work(napi_env env, void *given) {
+    Walk *walk = given;
+    (void)env;
+    walk->code = go_on(walk);
+}
+
+/* The bytes of the sections that were told. */
+static napi_value batch_of(napi_env env, Walk *walk, size_t count) {
+    const Told *told = (const Told *)walk->told.start;
+    return copied(env, walk->front, count ? (size_t)told[count - 1].end : 0);
+}
+
+/* [code, place, bytes, numbers]: why the work stopped, and where; four numbers of each section. */
+static napi_value answer_of(napi_env env, Walk *walk) {
+    size_t size = walk->told.used, count = size / sizeof(Told);
+    napi_value answer, parts[4], buffer;
+    void *at;
+    TRY(napi_create_int32(env, walk->code, &parts[0]));
+    TRY(napi_create_double(env, (double)(walk->check.car.place + walk->check.car.skip), &parts[1]));
+    if (!(parts[2] = batch_of(env, walk, count))) return NULL;
+    TRY(napi_create_arraybuffer(env, size, &at, &buffer));
+    if (size) memcpy(at, walk->told.start, size);
+    TRY(napi_create_typedarray(env, napi_float64_array, 4 * count, buffer, 0, &parts[3]));
+    TRY(napi_create_array_with_length(env, 4, &answer));
+    for (uint32_t i = 0; i < 4; i++) TRY(napi_set_element(env, answer, i, parts[i]));
+    return answer;
+}
+
+/* Settles the promise. */
+static void ended(napi_env env, napi_status status, void *given) {
+    Walk *walk = given;
+    napi_value error, answer = NULL;
+    napi_deferred deferred = walk->deferred;
+    walk->is_busy = false;
+    if (status != napi_ok) walk->code = CAR_NO_MEMORY;
+    if (walk->code == CAR_NO_MEMORY) no_memory(env);
+    else answer = answer_of(env, walk);
+    napi_delete_async_work(env, walk->work);
+    napi_delete_reference(env, walk->kept);
+    if (answer) napi_resolve_deferred(env, deferred, answer);
+    else if (napi_get_and_clear_last_exception(env, &error) == napi_ok)
+        napi_reject_deferred(env, deferred, error);
+}
+
+/* car_go(walk): a promise of what is found in what was put, by a thread of the pool. */
+napi_value car_go(napi_env env, napi_callback_info info) {
+    napi_value given, name, promise;
+    Walk *walk = walk_of(env, info, 1, &given);
+    if (!walk) return NULL;
+    TRY(napi_create_string_latin1(env, "dagcbor", NAPI_AUTO_LENGTH, &name));
+    TRY(napi_create_async_work(env, NULL, name, at_work, ended, walk, &walk->work));
+    TRY(napi_create_reference(env, given, 1, &walk->kept));
+    TRY(napi_create_promise(env, &walk->deferred, &promise));
+    walk->is_busy = true;
+    if (napi_queue_async_work(env, walk->work) == napi_ok) return promise;
+    walk->is_busy = false;
+    return raise(env, "no work was begun");
+}
+
+/* The names that are wanted and not held. */
+static napi_value missing_of(napi_env env, const Names *names) {
+    Bytes packed = {NULL, 0, 0};
+    const uint8_t *from = names->packed.start;
+    for (size_t at = 0; at < names->packed.used; at += 1 + (from[at] & NAME_LENGTH)) {
+        if (from[at] & NAME_HELD) continue;
+        if (!bytes_add(&packed, from + at, 1 + (from[at] & NAME_LENGTH))) return no_memory(env);
+    }
+    napi_value missing = unpack(env, packed.start, packed.used);
+    bytes_free(&packed);
+    return missing;
+}
+
+/* car_found(walk): [roots, counts, missing]. The counts are those of the verdicts, from the least
+ * number on; none are missing before a check is at its end. */
+napi_value car_found(napi_env env, napi_callback_info info) {
+    napi_value given, answer, parts[3], buffer;
+    void *at;
+    Walk *walk = walk_of(env, info, 1, &given);
+    if (!walk) return NULL;
+    Check *check = &walk->check;
+    if (walk->is_check && !check_inside(check)) return no_memory(env);
+    if (!(parts[0] = unpack(env, check->car.roots.start, check->car.roots.used))) return NULL;
+    TRY(napi_create_arraybuffer(env, VERDICTS * sizeof(double), &at, &buffer));
+    for (int i = 0; i < VERDICTS; i++) ((double *)at)[i] = (double)check->verdicts[i];
+    TRY(napi_create_typedarray(env, napi_float64_array, VERDICTS, buffer, 0, &parts[1]));
+    if (walk->is_check) parts[2] = missing_of(env, &check->names);
+    else TRY(napi_create_array(env, &parts[2]));
+    if (!parts[2]) return NULL;
+    TRY(napi_create_array_with_length(env, 3, &answer));
+    for (uint32_t i = 0; i < 3; i++) TRY(napi_set_element(env, answer, i, parts[i]));
+    return answer;
+}
+
+/* car_section(cid, block): the two as a section, where that is the name of the block, or cannot be
+ * said to be another's. */
+napi_value car_section_of(napi_env env, napi_callback_info info) {
+    size_t count = 2, length, size, places[3];
+    uint8_t front[10], *out;
+    napi_value given[2], section;
+    TRY(napi_get_cb_info(env, info, &count, given, NULL, NULL));
+    const uint8_t *name = bytes_in(env, given[0], &length), *block = bytes_in(env, given[1], &size);
+    if (!name || !block) {
+        napi_throw_type_error(env, NULL, "a Uint8Array over memory that is not shared is wanted");
+        return NULL;
+    }
+    count = put_length(front, (uint64_t)length + size);
+    if (!(section = new_bytes(env, count + length + size, &out))) return NULL;
+    memcpy(out, front, count);
+    memcpy(out + count, name, length);
+    if (size) memcpy(out + count + length, block, size);
+    int32_t code = dagcbor_car_section(out, count + length + size, places);
+    return is_verdict(code) && code != DAGCBOR_OTHER_BYTES ? section : refuse(env, code, NULL);
+}

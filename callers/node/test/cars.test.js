@@ -1,0 +1,321 @@
+// Files of blocks: each source is answered as callers/files.txt says.
+'use strict';
+const assert = require('assert');
+const { execFileSync } = require('child_process');
+const { createHash } = require('crypto');
+const { createReadStream, mkdtempSync, readFileSync, rmSync, writeFileSync } = require('fs');
+const { tmpdir } = require('os');
+const { join } = require('path');
+const { Readable } = require('stream');
+const { test } = require('node:test');
+const {
+  CID, CarBlockIterator, CarError, CarReader, CarWriter, DagCborError, checkCar, encode, name,
+} = require('..');
+
+const KINDS = ['null', 'bool', 'integer', 'string', 'bytes', 'list', 'map', 'link'];
+const OTHERS = {
+  9: 'not read', [-22]: 'other bytes', [-23]: 'not verified', [-3]: 'refused Eof',
+  [-5]: 'refused Unsupported', [-17]: 'refused UnorderedKey',
+};
+const FAULTS = {
+  [-24]: 'Truncated', [-25]: 'InvalidLength', [-26]: 'InvalidCid', [-27]: 'OtherHeader',
+  [-35]: 'InvalidOffset',
+};
+const HEADER = Buffer.from('\x11\xa2eroots\x80gversion\x01', 'latin1');
+const hex = (bytes) => Buffer.from(bytes).toString('hex');
+const parts = (text) => (text === '-' ? [] : text.split(','));
+
+const rows = readFileSync(join(__dirname, '../../files.txt'), 'ascii').split('\n')
+  .filter((it) => it && it[0] !== '#')
+  .map((line) => {
+    const [file, roots, sections, fault, missing] = line.split(' ');
+    const told = parts(sections).map((it) => {
+      const [cid, length, code] = it.split(':');
+      return [cid, Number(length), OTHERS[code] ?? `ok ${KINDS[code]}`];
+    });
+    const [code, place] = fault.split(':');
+    const kind = fault === '-' ? null : [FAULTS[code], Number(place)];
+    const bytes = Buffer.from(file === '-' ? '' : file, 'hex');
+    return { bytes, roots: parts(roots), told, fault: kind, missing: parts(missing) };
+  });
+
+// Sources of the bytes: in pieces of each size, by generators and by a stream.
+const cut = function* (bytes, size) {
+  for (let at = 0; at < bytes.length; at += size) yield bytes.subarray(at, at + size);
+};
+const later = async function* (bytes, size) {
+  for (const it of cut(bytes, size)) yield Uint8Array.from(it);
+};
+const sources = (bytes) => [
+  [bytes], [bytes, new Uint8Array()], cut(bytes, 1), cut(bytes, 7), later(bytes, 50),
+  Readable.from([...cut(bytes, 64)]),
+];
+
+const faultOf = (error) => {
+  assert.ok(error instanceof CarError && error instanceof DagCborError, error);
+  assert.strictEqual(error.name, 'CarError');
+  return [error.kind, error.place];
+};
+
+const told = async (open) => {
+  const found = { roots: [], told: [], fault: null };
+  try {
+    const all = await open();
+    found.roots = (await all.getRoots()).map((it) => hex(it.bytes));
+    for await (const { cid, bytes, verdict } of all) {
+      found.told.push([hex(cid.bytes), bytes.length, verdict]);
+    }
+  } catch (error) {
+    found.fault = faultOf(error);
+  }
+  return found;
+};
+
+test('the table holds', async () => {
+  assert.ok(rows.length > 40);
+  for (const { bytes, missing, ...wanted } of rows) {
+    const opened = sources(bytes).map((it) => () => CarBlockIterator.fromIterable(it));
+    for (const open of [() => CarBlockIterator.fromBytes(bytes), ...opened]) {
+      assert.deepStrictEqual(await told(open), wanted);
+    }
+    for (const source of [bytes, ...sources(bytes)]) await checks(source, wanted, missing);
+    await reads(bytes, wanted);
+  }
+});
+
+const checks = async (source, wanted, missing) => {
+  let [found, fault] = [undefined, null];
+  try {
+    found = await checkCar(source);
+    assert.deepStrictEqual(found.missing.map((it) => hex(it.bytes)), missing);
+    const areWell = wanted.told.every((it) => it[2] === 'not read' || it[2].startsWith('ok '));
+    assert.strictEqual(found.isWell, areWell && !missing.length);
+  } catch (error) {
+    [found, fault] = [error.checked, faultOf(error)];
+  }
+  assert.deepStrictEqual(fault, wanted.fault);
+  if (!found) return assert.deepStrictEqual(wanted.told, []);
+  const counts = {};
+  for (const [, , verdict] of wanted.told) counts[verdict] = (counts[verdict] ?? 0) + 1;
+  assert.deepStrictEqual(found.verdicts, counts);
+  return assert.deepStrictEqual(found.roots.map((it) => hex(it.bytes)), wanted.roots);
+};
+
+const reads = async (bytes, wanted) => {
+  let reader;
+  try {
+    reader = await CarReader.fromBytes(bytes);
+  } catch (error) {
+    return assert.deepStrictEqual(faultOf(error), wanted.fault);
+  }
+  assert.strictEqual(wanted.fault, null);
+  assert.deepStrictEqual((await reader.getRoots()).map((it) => hex(it.bytes)), wanted.roots);
+  const blocks = [];
+  for await (const it of reader.blocks()) blocks.push(it);
+  const found = blocks.map((it) => [hex(it.cid.bytes), it.bytes.length, it.verdict]);
+  assert.deepStrictEqual(found, wanted.told);
+  const verified = blocks.filter((it) => !['other bytes', 'not verified'].includes(it.verdict));
+  for await (const cid of reader.cids()) {
+    const isHere = verified.some((it) => it.cid.equals(cid));
+    assert.strictEqual(await reader.has(cid), isHere);
+    const got = await reader.get({ bytes: cid.bytes }); // of another package
+    if (isHere) assert.ok(verified.includes(got) && got.cid.equals(cid));
+    else assert.strictEqual(got, undefined);
+  }
+  return assert.strictEqual(await reader.get(name(Buffer.of(9))), undefined);
+};
+
+test('each byte damaged', async () => {
+  const { bytes } = rows[1];
+  for (let at = 0; at < bytes.length; at++) {
+    const file = Buffer.from(bytes);
+    file[at] ^= 1;
+    const whole = await told(() => CarBlockIterator.fromBytes(file));
+    assert.deepStrictEqual(await told(() => CarBlockIterator.fromIterable(cut(file, 9))), whole);
+    let fault = null;
+    await checkCar(file).catch((error) => { fault = faultOf(error); });
+    assert.deepStrictEqual(fault, whole.fault);
+  }
+});
+
+const cidOf = (block) => {
+  const digest = createHash('sha256').update(block).digest();
+  return new CID(Buffer.concat([Buffer.of(1, 0x71, 0x12, 0x20), digest]));
+};
+const varint = (n) => (n < 128 ? [n] : [(n % 128) + 128, ...varint(Math.floor(n / 128))]);
+const section = (block, cid = cidOf(block)) => {
+  const length = cid.bytes.length + block.length;
+  return Buffer.concat([Buffer.from(varint(length)), cid.bytes, block]);
+};
+
+test('sections of each size', async () => {
+  const sizes = [0, 1, 91, 92, 60000, 65536, 262144, 300000, 5e6];
+  const blocks = sizes.map((size) => Buffer.alloc(size, 0xf6));
+  const file = Buffer.concat([HEADER, ...blocks.map((it) => section(it))]);
+  const folder = mkdtempSync(join(tmpdir(), 'cars-'));
+  try {
+    writeFileSync(join(folder, 'it.car'), file);
+    const stream = () => createReadStream(join(folder, 'it.car'));
+    for (const source of [[file], cut(file, 1000), stream(), cut(file, 262144)]) {
+      const found = [];
+      for await (const it of await CarBlockIterator.fromIterable(source)) found.push(it.bytes);
+      assert.deepStrictEqual(found.map((it) => hex(it)), blocks.map(hex));
+    }
+    const counts = { 'ok null': 1, 'refused Eof': 1, 'refused TrailingData': sizes.length - 2 };
+    assert.deepStrictEqual((await checkCar(stream())).verdicts, counts);
+  } finally {
+    rmSync(folder, { recursive: true });
+  }
+});
+
+test('headers that are none', async () => {
+  for (const [text, kind] of [['00', 'NoBlock'], ['021817', 'NoBlock'], ['0180', 'OtherHeader']]) {
+    const file = Buffer.from(text, 'hex');
+    for (const call of [checkCar, CarReader.fromBytes, CarBlockIterator.fromBytes]) {
+      const isRight = (error) => faultOf(error)[0] === kind && error.checked === undefined;
+      await assert.rejects(() => call(file), isRight);
+    }
+  }
+});
+
+test('what is no source', async () => {
+  const shared = new Uint8Array(new SharedArrayBuffer(9));
+  for (const given of [undefined, null, 1, {}, ['text'], [1], [shared], 'text']) {
+    for (const call of [checkCar, CarReader.fromIterable, CarBlockIterator.fromIterable]) {
+      await assert.rejects(async () => call(given), TypeError);
+    }
+  }
+});
+
+test('a source is let go', async () => {
+  let left = 0;
+  const source = async function* (...pieces) {
+    try {
+      yield* pieces;
+      throw new RangeError('mine');
+    } finally {
+      left += 1;
+    }
+  };
+  const block = Buffer.from(encode([1, 2]));
+  const file = Buffer.concat([HEADER, section(block), section(block)]);
+  for await (const it of await CarBlockIterator.fromIterable(source(file))) {
+    assert.strictEqual(it.verdict, 'ok list');
+    break;
+  }
+  assert.strictEqual(left, 1);
+  const mine = (error) => error instanceof RangeError;
+  await assert.rejects(() => checkCar(source(file)), mine);
+  await assert.rejects(() => CarReader.fromIterable(source(Buffer.of(1, 0x80))), CarError);
+  await assert.rejects(() => checkCar(source(file, Buffer.of(0))), CarError);
+  assert.strictEqual(left, 4);
+});
+
+test('bytes that change meanwhile', async () => {
+  const block = Buffer.alloc(100000, 0xf6);
+  const file = Buffer.concat([HEADER, section(block)]);
+  const piece = Buffer.from(file);
+  const source = (function* () {
+    yield piece;
+    piece.fill(0);
+  })();
+  const found = await checkCar(source);
+  assert.deepStrictEqual(found.verdicts, { 'refused TrailingData': 1 });
+});
+
+const collected = async (out) => {
+  const pieces = [];
+  for await (const it of out) pieces.push(it);
+  return Buffer.concat(pieces);
+};
+
+test('files are written', async () => {
+  const [one, other] = [{ a: 1 }, [name(Buffer.of(0xf6))]].map((it) => Buffer.from(encode(it)));
+  for (const roots of [undefined, name(one), [name(one), { bytes: name(other).bytes }]]) {
+    const { writer, out } = CarWriter.create(roots);
+    const file = collected(out);
+    await writer.put({ cid: name(one), bytes: one });
+    const isRefused = { kind: 'OtherBytes' };
+    await assert.rejects(() => writer.put({ cid: name(one), bytes: other }), isRefused);
+    writer.put({ cid: { bytes: name(other).bytes }, bytes: other });
+    await writer.close();
+    await assert.rejects(() => writer.put({ cid: name(one), bytes: one }), /closed/);
+    const whole = await file;
+    assert.ok(whole.subarray(-section(other).length).equals(section(other)));
+    const reader = await CarReader.fromBytes(whole);
+    const listed = roots === undefined ? [] : [roots].flat();
+    const all = (await reader.getRoots()).map((it) => hex(it.bytes));
+    assert.deepStrictEqual(all, listed.map((it) => hex(it.bytes)));
+    assert.deepStrictEqual(hex((await reader.get(name(one))).bytes), hex(one));
+  }
+  assert.ok((await (async () => {
+    const { writer, out } = CarWriter.create();
+    writer.close();
+    return collected(out);
+  })()).equals(HEADER));
+  assert.throws(() => CarWriter.create([{ bytes: Buffer.of(1) }]), { kind: 'InvalidCid' });
+});
+
+test('who takes a file may leave', async () => {
+  const { writer, out } = CarWriter.create();
+  const block = Buffer.from(encode(1));
+  const put = [1, 2].map(() => writer.put({ cid: name(block), bytes: block }));
+  for await (const it of out) {
+    assert.ok(Buffer.from(it).equals(HEADER));
+    break;
+  }
+  await Promise.all(put);
+  await assert.rejects(() => writer.put({ cid: name(block), bytes: block }), /closed/);
+});
+
+test('the loop goes on while a big block is hashed', async () => {
+  const block = Buffer.concat([Buffer.from('5a04000000', 'hex'), Buffer.alloc(1 << 26)]);
+  const file = Buffer.concat([HEADER, section(block)]);
+  let [gap, before] = [0, Infinity];
+  const tick = setInterval(() => {
+    gap = Math.max(gap, Date.now() - before);
+    before = Date.now();
+  }, 5);
+  const began = Date.now();
+  // The last piece begins the work on all of it.
+  const found = await checkCar([file]);
+  const took = Date.now() - began;
+  clearInterval(tick);
+  assert.deepStrictEqual(found.verdicts, { 'ok bytes': 1 });
+  assert.ok(gap < took, `${gap} of ${took} ms`);
+});
+
+test('memory', () => {
+  const script = `
+    const { CarBlockIterator, checkCar, name } = require(process.argv[1]);
+    const header = Buffer.from(process.argv[2], 'hex');
+    const bytes = Buffer.concat([Buffer.from('59ffff', 'hex'), Buffer.alloc(0xffff)]);
+    const block = Buffer.concat([Buffer.of(0x90), ...Array(16).fill(bytes)]);
+    const length = (n) => n < 128 ? [n] : [(n % 128) + 128, ...length(Math.floor(n / 128))];
+    const front = Buffer.from(length(36 + block.length));
+    const section = Buffer.concat([front, name(block).bytes, block]);
+    const file = function* (count) {
+      yield header;
+      for (let i = 0; i < count; i++) yield section;
+    };
+    const round = async (count) => {
+      for await (const it of await CarBlockIterator.fromIterable(file(count))) it.bytes[0];
+      if ((await checkCar(file(count))).verdicts['ok list'] !== count) throw 1;
+      for (const n of [2 ** 40, 2 ** 52]) {
+        const short = [header, Uint8Array.from(length(n)), Buffer.alloc(99999)];
+        await checkCar(short).then(() => { throw 1; }, (error) => {
+          if (error.kind !== 'Truncated') throw error;
+        });
+      }
+      gc();
+      return process.memoryUsage.rss();
+    };
+    (async () => {
+      await round(30);
+      const before = await round(30);
+      const more = (await round(300)) - before;
+      if (more > 40e6) throw new Error('more by ' + more);
+    })();`;
+  const words = ['--expose-gc', '-e', script, join(__dirname, '..'), hex(HEADER)];
+  execFileSync(process.execPath, words, { stdio: ['ignore', 'ignore', 'inherit'] });
+});

@@ -1,6 +1,6 @@
 -- What a seek in the index of names finds.
 use Rattle.std.proofs.Common.{◌≡◌, inl, inr, ℕ, ℤ, List, [], ◌∷◌, Bool, true, false, cond, Ordering, Less, Equal, Greater, is_lt, is_eq, refl, sym, ap, ◌∙◌, subst, true≢false, length, arith}
-use Rattle.std.specs.Prelude.{◌⊎◌, ◌≢◌, Option, None, Some, MatchOption}
+use Rattle.std.specs.Prelude.{◌⊎◌, ◌≢◌, Option, None, Some, MatchOption, is_some}
 use Rattle.std.specs.List.{AllByRecursion}
 use Rattle.std.specs.Ordering.{nat_cmp, ordering_then}
 use Rattle.std.specs.Cmp.Lexicographic.{slice_cmp}
@@ -113,3 +113,7 @@ sought_name old new key at is = ap (λ v. left_of v 0) is ∙ placed old 0 _ ∙
 
 pub index_rises : (v : View) → v.shape name_tree ≡ shape.Index plain → IsOrdered v.shape v.trees → IsIndex plain (v.trees name_tree)
 index_rises v at ordered = subst (λ s. IsShaped s (v.trees name_tree)) at (ordered name_tree)
+
+pub listed_if_some : (es : List Row) (name : List ℕ) (o : Option ℤ) → true ≡ is_some o → FindsName es name o → IsListed es name
+listed_if_some es name None t h = absurd (true≢false t)
+listed_if_some es name (Some id) t h = (id, h)

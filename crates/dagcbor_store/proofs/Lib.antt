@@ -1,3 +1,5 @@
 pub mod Finding
 pub mod Numbers
 pub mod Causes
+pub mod Keeping
+pub mod Calls

@@ -105,7 +105,7 @@ reads_found rows id name r None table finds other = λ b there.
 reads_found rows id name r (Some b) table finds is =
     let here = among_unfiltered (has_rowid id) r rows (subst (Among r) (sym finds) (inl refl)) in
     let number = number_is id r (all_among (λ y. IsTrue (is_int (rowid y))) r rows table.1 here.0) here.1 in
-    subst (λ x. Among x rows) (is ∙ ap (λ v. v ∷ Blob name ∷ Blob b ∷ []) number) here.0
+    finds ∙ ap (λ x. x ∷ []) (is ∙ ap (λ v. v ∷ Blob name ∷ Blob b ∷ []) number)
 
 pub reads_none : (rows : List Row) (id : ℤ) (name : List ℕ) (r : Row) → Finds rows id r false → ReadsRow rows id name None
 reads_none rows id name r finds b there = subst (Among (block_row id name b)) finds (among_filter (has_rowid id) (block_row id name b) rows (has_own id (block_row id name b) refl) there)

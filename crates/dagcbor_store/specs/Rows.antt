@@ -7,6 +7,8 @@ use Rattle.sqlite_value.specs.Keys.{plain}
 use Rattle.sqlite_trees.specs.Tree.{Trees, rowid, has_rowid, put_row, without_rowid, insert_entry, remove_entry}
 use Rattle.sqlite_trees.specs.View.{IsStorable, IsStorableRow}
 use Rattle.dagcbor_car.specs.Sets.{Among}
+use Rattle.dagcbor_store.specs.declared.entries.Found.{Found}
+use Rattle.dagcbor_store.specs.declared.entries.Found.TheVariants.{Nothing, NoRow, Block}
 use Rattle.dagcbor_store.specs.declared.entries.Added.{Added}
 use Rattle.dagcbor_store.specs.declared.entries.Added.TheVariants.{New, Listed, NoNumber}
 
@@ -64,7 +66,13 @@ FreesId rows (Some id) = IsFreeId rows id
 -- the bytes in the row with the number, where it has the name; or no such row is there
 abbrev pub ReadsRow : List Row → ℤ → List ℕ → Option (List ℕ) → Type 0
 ReadsRow rows id name None = (b : List ℕ) → Among (block_row id name b) rows → ⊥
-ReadsRow rows id name (Some b) = Among (block_row id name b) rows
+ReadsRow rows id name (Some b) = filter (has_rowid id) rows ≡ block_row id name b ∷ []
+
+-- what the index and the table have of a name: no entry, an entry that leads to no row of the name, or these bytes
+abbrev pub Gets : Trees → List ℕ → Found → Type 0
+Gets trees name Nothing = FindsName (trees name_tree) name None
+Gets trees name NoRow = (id : ℤ) × Among (name_entry name id) (trees name_tree) × ReadsRow (trees block_tree) id name None
+Gets trees name (Block v) = (id : ℤ) × Among (name_entry name id) (trees name_tree) × ReadsRow (trees block_tree) id name (Some v.items)
 
 -- what comes of a block that is to be kept: it is new, or its name is listed; or no number is left
 abbrev pub Adds : Trees → Trees → List ℕ → List ℕ → Added → Type 0

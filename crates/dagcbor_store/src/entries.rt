@@ -10,7 +10,7 @@ ghost use Rattle.sqlite_trees.specs.declared.store.Shape.TheVariants as shape;
 ghost use Rattle.sqlite_trees.specs.View.{IsClean, IsStorable, OnlyWrites, SetsTree, KeepsSchema, KeepsCommitted, HasCause, IsQuiet, Tells};
 ghost use Rattle.sqlite_trees.specs.Tree.{put_row, insert_entry, remove_entry};
 ghost use Rattle.sqlite_exec.specs.Calls.{OnlyReads};
-ghost use Rattle.dagcbor_store.specs.Rows.{block_tree, name_tree, block_row, name_entry, IsOther, FindsName, FreesId, last_id, ReadsRow, Adds, IsTooLong, Takes, TakesRow};
+ghost use Rattle.dagcbor_store.specs.Rows.{block_tree, name_tree, block_row, name_entry, IsOther, FindsName, FreesId, last_id, ReadsRow, Gets, Adds, IsTooLong, Takes, TakesRow};
 
 use sqlite_exec::write::last;
 use sqlite_trees::error::StoreError;
@@ -18,6 +18,15 @@ use sqlite_trees::store::{Direction, Store};
 use sqlite_value::row::Row;
 use sqlite_value::value::ValueRef;
 use std::alloc::{AllocError, Global};
+
+/// What the index and the table have of a name.
+#[derive(Debug, Drop)]
+pub(crate) enum Found {
+    Nothing,
+    /// The entry leads to no row of the name.
+    NoRow,
+    Block(Vec<u8>),
+}
 
 /// The tree of the table `block`.
 pub(crate) const BLOCKS: u32 = 0;
@@ -121,8 +130,35 @@ fn number_above(value: ValueRef<'_>) -> Option<i64>
     integer(value)?.checked_add(1)
 }
 
+/// What is kept under the name.
+pub(crate) fn get<S: Store>(
+    alloc: Global,
+    store: &mut S,
+    row: &mut Row,
+    name: &[u8],
+) -> Result<Found, StoreError>
+    requires names { IsClean (S.Store.view store.old) → (S.Store.view store.old).shape name_tree ≡ shape.Index plain }
+    requires blocks { IsClean (S.Store.view store.old) → (S.Store.view store.old).shape block_tree ≡ shape.Table }
+    ensures ok { IfOk result (λ found. IsClean (S.Store.view store.new) → Gets (S.Store.view store.old).trees name.now found) }
+    ensures same { OnOk result (IsClean (S.Store.view store.new) → OnlyReads (S.Store.view store.old) (S.Store.view store.new)) }
+    ensures sound { OnOk result (IsClean (S.Store.view store.new) → (S.Store.view store.old).is_broken ≡ false) }
+    ensures told { IfErr result (Tells (S.Store.blamed store.new)) }
+    ensures err { IsClean (S.Store.view store.new) → OnErr result (KeepsCommitted (S.Store.view store.old) (S.Store.view store.new)) }
+    ensures cause { IsClean (S.Store.view store.new) → IfErr result (HasCause (S.Store.view store.old) (MoreFaults (S.Store.faults store.old) (S.Store.faults store.new)) ⊥) }
+    ensures schema { KeepsSchema (S.Store.view store.old) (S.Store.view store.new) }
+    ensures quiet { IsQuiet S.Store.view S.Store.faults S.Store.recovers S.Store.is_shielded store.old store.new }
+{
+    let Some(id) = find(store, row, name)? else {
+        return Ok(Found::Nothing);
+    };
+    match read(alloc, store, row, id, name)? {
+        Some(bytes) => Ok(Found::Block(bytes)),
+        None => Ok(Found::NoRow),
+    }
+}
+
 /// The bytes in the row with the number. None where there is no such row of the name.
-pub(crate) fn read<S: Store>(
+fn read<S: Store>(
     alloc: Global,
     store: &mut S,
     row: &mut Row,

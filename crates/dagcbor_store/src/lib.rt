@@ -2,3 +2,8 @@
 #![tactic(auto)]
 
 mod entries;
+mod error;
+mod store;
+
+pub use error::StoreRefusal;
+pub use store::BlockStore;

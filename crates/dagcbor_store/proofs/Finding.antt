@@ -46,7 +46,7 @@ no_entry name e (inr (inr h)) id same = h (rw same)
 pub entry_key : (m n : List ℕ) (i : ℤ) → prefix_cmp plain (name_entry m i) (Blob n ∷ []) ≡ name_cmp m n
 entry_key m n i = prefix_cmp-one (Blob m) (Int i ∷ []) (Blob n) ∙ value_cmp-Blob m n
 
-names_rise : (m n : List ℕ) (i j : ℤ) → entry_cmp plain (name_entry m i) (name_entry n j) ≡ Less → (name_cmp m n ≡ Less) ⊎ (name_cmp m n ≡ Equal)
+pub names_rise : (m n : List ℕ) (i j : ℤ) → entry_cmp plain (name_entry m i) (name_entry n j) ≡ Less → (name_cmp m n ≡ Less) ⊎ (name_cmp m n ≡ Equal)
 names_rise m n i j h = elim (then_below (value_cmp (Blob m) (Blob n)) _ (rw first_key-plain at h)) [
   | inl below ↦ inl (sym (value_cmp-Blob m n) ∙ below)
   | inr tied ↦ inr (sym (value_cmp-Blob m n) ∙ tied.0)

@@ -3,3 +3,4 @@ pub mod Numbers
 pub mod Causes
 pub mod Keeping
 pub mod Calls
+pub mod Surveying

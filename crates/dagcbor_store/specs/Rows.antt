@@ -36,9 +36,13 @@ pub record IsStored (trees : Trees) (name b : List ℕ) : Type 0 where
 abbrev pub IsListed : List Row → List ℕ → Type 0
 IsListed entries name = (id : ℤ) × Among (name_entry name id) entries
 
--- each entry of the index is a name and a number
+-- a name and a number
+abbrev pub IsNameEntry : Row → Type 0
+IsNameEntry e = (name : List ℕ) × (id : ℤ) × (e ≡ name_entry name id)
+
+-- each entry of the index is so
 abbrev pub AreNameEntries : List Row → Type 0
-AreNameEntries entries = AllByRecursion (λ e. (name : List ℕ) × (id : ℤ) × (e ≡ name_entry name id)) entries
+AreNameEntries entries = AllByRecursion IsNameEntry entries
 
 -- the entries begin with none of the name
 abbrev pub IsOther : List ℕ → List Row → Type 0

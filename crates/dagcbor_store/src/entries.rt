@@ -34,7 +34,7 @@ pub(crate) const BLOCKS: u32 = 0;
 /// The tree of its index by names.
 pub(crate) const NAMES: u32 = 1;
 
-const CURSOR: u16 = 0;
+pub(crate) const CURSOR: u16 = 0;
 
 /// What came of a block that was to be kept.
 #[derive(Clone, Copy, Debug, PartialEq, Eq)]

@@ -4,6 +4,7 @@
 mod entries;
 mod error;
 mod store;
+mod survey;
 
 pub use error::StoreRefusal;
 pub use store::BlockStore;

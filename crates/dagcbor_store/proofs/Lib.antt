@@ -4,3 +4,4 @@ pub mod Causes
 pub mod Keeping
 pub mod Calls
 pub mod Surveying
+pub mod Opening

@@ -4,6 +4,7 @@ ghost use Rattle.dagcbor_store.specs.Stored.{TellsOfStore};
 
 use dagcbor_heads::DecodeError;
 use ipld_tree::Cid;
+use sqlite_store::OpenError;
 use sqlite_trees::error::StoreError;
 use std::convert::Infallible;
 use thiserror::Error;
@@ -32,6 +33,16 @@ pub enum StoreRefusal {
     /// The block is longer than a row can be: about a billion bytes.
     #[error("the block is too long for a row")]
     TooLong,
+    /// The file holds no blocks, or something else.
+    #[error("the file is no store of blocks")]
+    NotAStore,
+    /// Another process or handle has the file open.
+    #[error("another process has the file open")]
+    Locked,
+    /// The file was not opened: it is no regular file, it may not be written, or it is in use by
+    /// a rollback journal.
+    #[error("the file cannot be opened for reading and writing")]
+    CannotOpen,
     /// The disk failed or is full, the file is damaged, or it was shut by an earlier failure. Never
     /// want of memory.
     #[error("{0}")]
@@ -50,6 +61,15 @@ impl StoreRefusal {
             StoreError::OutOfMemory => StoreRefusal::OutOfMemory,
             StoreError::Unstorable => StoreRefusal::TooLong,
             _ => StoreRefusal::Disk(error),
+        }
+    }
+
+    pub(crate) fn of_opening(error: OpenError) -> StoreRefusal {
+        match error {
+            OpenError::OutOfMemory => StoreRefusal::OutOfMemory,
+            OpenError::Io => StoreRefusal::Disk(StoreError::Io),
+            OpenError::Full => StoreRefusal::Disk(StoreError::Full),
+            OpenError::Refused => StoreRefusal::NotAStore,
         }
     }
 }

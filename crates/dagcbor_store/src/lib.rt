@@ -3,8 +3,14 @@
 
 mod entries;
 mod error;
+mod open;
 mod store;
 mod survey;
+#[cfg(test)]
+mod tests;
 
 pub use error::StoreRefusal;
+pub use sqlite_disk::{Unknown, Wary};
+pub use sqlite_std_file::FileFrom;
+pub use sqlite_store::FileStore;
 pub use store::BlockStore;

@@ -1,11 +1,13 @@
 //! The store, and its calls on single blocks.
 
-ghost use Rattle.std.specs.Prelude.{◌≡◌, ◌↔◌, ◌⊎◌, IsTrue, MatchResult, IfOk, IfErr, IfSome, OnOk, option_map};
+ghost use Rattle.std.specs.Prelude.{◌≡◌, ◌↔◌, ◌⊎◌, IsTrue, MatchResult, IfOk, IfErr, IfSome, OnOk, option_map, length};
+ghost use Rattle.dagcbor_store.specs.Rows.{name_tree};
 ghost use Rattle.sqlite_trees.specs.View.{IsClean, IsQuiet, IsRolledBack};
-ghost use Rattle.dagcbor_store.specs.Stored.{Lists, IsSame, IsUndone, IsNamed, GetsSome, GetRefused, Fails, TellsOfStore, IsCommitted, IsKeptBy, IsNamedBlock, IsUnfit, IsAdded, IsTaken, PutRefused, IsVerified, IsToldAdded};
+ghost use Rattle.dagcbor_store.specs.Stored.{IsReady, Lists, IsSame, IsUndone, IsNamed, GetsSome, GetRefused, Fails, TellsOfStore, IsCommitted, IsKeptBy, IsNamedBlock, IsUnfit, IsAdded, IsTaken, PutRefused, IsVerified, IsToldAdded};
 
 use crate::entries::{self, Added, Found};
 use crate::error::StoreRefusal;
+use crate::survey::survey;
 use arrayvec::ArrayVec;
 use dagcbor_car::{SHA2_256, Verdict, verify};
 use ipld_tree::Cid;
@@ -49,6 +51,27 @@ fn undo<S: Store>(store: &mut S, error: StoreError) -> StoreRefusal
 }
 
 impl<S: Store> BlockStore<S> {
+    pub(crate) fn of(alloc: Global, store: S, row: Row) -> BlockStore<S>
+        requires { IsClean (S.Store.view store) → IsReady (S.Store.view store) }
+        ensures { result ≡ store }
+    {
+        BlockStore { alloc, store, row }
+    }
+
+    /// How many names are listed. It walks over the index.
+    pub fn len(&mut self) -> Result<u64, StoreRefusal>
+        ensures ok { IfOk result (λ n. IsClean (S.Store.view self.new) → n ≡ length ((S.Store.view self.old).trees name_tree)) }
+        ensures same { OnOk result (IsClean (S.Store.view self.new) → IsSame (S.Store.view self.old) (S.Store.view self.new)) }
+        ensures refused { IfErr result (Fails S.Store ⊥ self.old self.new) }
+        ensures quiet { IsQuiet S.Store.view S.Store.faults S.Store.recovers S.Store.is_shielded self.old self.new }
+    {
+        match survey(self.alloc, &mut self.store, &mut self.row) {
+            Ok(Some(count)) => Ok(count),
+            Ok(None) => Err(undo(&mut self.store, StoreError::Broken)),
+            Err(error) => Err(undo(&mut self.store, error)),
+        }
+    }
+
     /// Whether something is listed under the name. It may be damaged: `get_block` tells.
     pub fn contains(&mut self, name: &Cid) -> Result<bool, StoreRefusal>
         ensures found { IfOk result (λ found. IsClean (S.Store.view self.new) → (IsTrue found ↔ Lists (S.Store.view self.old) name.now)) }

@@ -1,6 +1,6 @@
 -- What the calls of a store answer.
-use Rattle.std.proofs.Common.{◌≡◌, ◌≢◌, inl, inr, ℕ, ◌≤◌, ℤ, List, [], ◌∷◌, filter, Bool, true, false, refl, sym, ap, ◌∙◌, subst, true≢false, IsTrue, arith}
-use Rattle.std.specs.Prelude.{◌⊎◌, ◌↔◌, Option, None, Some, option_map, Result, Ok, Err, IfOk, IfErr, OnOk, OnErr, Vec}
+use Rattle.std.proofs.Common.{◌≡◌, inl, inr, ℕ, ◌≤◌, List, Bool, true, false, refl, sym, ap, ◌∙◌, subst, true≢false, IsTrue, arith}
+use Rattle.std.specs.Prelude.{Option, option_map, Result, Ok, Err, IfOk, IfErr, OnOk, OnErr, Vec}
 use Rattle.std.specs.declared.alloc.Global.{Global}
 use Rattle.sqlite_disk.specs.Disk.{MoreFaults}
 use Rattle.sqlite_trees.specs.Tree.{Trees, has_rowid}
@@ -11,8 +11,8 @@ use Rattle.sqlite_trees.specs.declared.error.StoreError.TheVariants as stored
 use Rattle.ipld_tree.specs.Cid.{CidParts, cid_bytes}
 use Rattle.dagcbor_car.specs.Car.{Section}
 use Rattle.dagcbor_car.specs.Sets.{Among}
-use Rattle.dagcbor_store.specs.Rows.{block_tree, name_tree, block_row, name_entry, IsStored, IsListed, FindsName, Gets, Adds, Takes, FreesId, IsTooLong}
-use Rattle.dagcbor_store.specs.Stored.{IsKeyed, IsReady, IsSame, IsUndone, IsNamed, Lists, Holds, GetsSome, GetRefused, IsDamaged, IsVerified, Fails, TellsOfStore, IsAdded, IsTaken, IsToldAdded, HoldsAlso, PutRefused, IsCommitted}
+use Rattle.dagcbor_store.specs.Rows.{block_tree, name_tree, block_row, name_entry, IsStored, IsListed, Gets, Adds, Takes, IsTooLong}
+use Rattle.dagcbor_store.specs.Stored.{IsKeyed, IsReady, IsSame, IsUndone, IsNamed, GetsSome, GetRefused, IsDamaged, IsVerified, Fails, TellsOfStore, IsAdded, IsTaken, IsToldAdded, PutRefused}
 use Rattle.dagcbor_store.specs.declared.entries.Found.{Found}
 use Rattle.dagcbor_store.specs.declared.entries.Found.TheVariants.{Nothing, NoRow, Block}
 use Rattle.dagcbor_store.specs.declared.entries.Added.{Added}
@@ -88,15 +88,17 @@ keyed_taken old new name true t keyed = keyed_left old new name t.0 keyed t.1 t.
 still_open : (old new : View) → OnlyWrites old new → IsTrue old.is_open → IsTrue new.is_open
 still_open old new h o = subst IsTrue (sym (ap (λ (v : View). v.is_open) h)) o
 
-pub is_added : (old new : View) (name : CidParts) (b : List ℕ) (added : Added) (r : Result (Unit {0}) StoreRefusal) → OnlyWrites old new → IsTrue old.is_open → IsKeyed (old.trees name_tree)
+pub is_added : (old new : View) (name : CidParts) (b : List ℕ) (added : Added) (r : Result (Unit {0}) StoreRefusal) → OnlyWrites old new → old.is_broken ≡ false → IsTrue old.is_open → IsKeyed (old.trees name_tree)
     → Adds old.trees new.trees (cid_bytes name) b added → IsToldAdded added r → OnOk r (IsAdded old new name b)
-is_added old new name b New r h o keyed a is = subst (λ x. OnOk x (IsAdded old new name b)) (sym is) (record {
+is_added old new name b New r h sound o keyed a is = subst (λ x. OnOk x (IsAdded old new name b)) (sym is) (record {
   trees = inl (record { unlisted = a.1 keyed.0; holds = stored_since old.trees new.trees (cid_bytes name) b a.0 keyed (a.1 keyed.0) a.2 a.3 a.4 });
   committed = ap (λ (v : View). v.committed) h;
+  was_open = o;
   is_open = still_open old new h o;
+  sound = ap (λ (v : View). v.is_broken) h ∙ sound;
 })
-is_added old new name b Listed r h o keyed a is = subst (λ x. OnOk x (IsAdded old new name b)) (sym is) (record { trees = inr a; committed = ap (λ (v : View). v.committed) h; is_open = still_open old new h o })
-is_added old new name b NoNumber r h o keyed a is = subst (λ x. OnOk x (IsAdded old new name b)) (sym is) tt
+is_added old new name b Listed r h sound o keyed a is = subst (λ x. OnOk x (IsAdded old new name b)) (sym is) (record { trees = inr a; committed = ap (λ (v : View). v.committed) h; was_open = o; is_open = still_open old new h o; sound = ap (λ (v : View). v.is_broken) h ∙ sound })
+is_added old new name b NoNumber r h sound o keyed a is = subst (λ x. OnOk x (IsAdded old new name b)) (sym is) tt
 
 pub not_added : {S : Type 0} (g : Ghosts S) (s : Section) (old new : S) (added : Added) (r : Result (Unit {0}) StoreRefusal)
     → (IsClean (g.view new) → Adds (g.view old).trees (g.view new).trees (cid_bytes s.0) s.1 added × OnlyWrites (g.view old) (g.view new)) → IsToldAdded added r → IfErr r (PutRefused g s old new)

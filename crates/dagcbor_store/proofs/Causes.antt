@@ -1,5 +1,5 @@
 -- Why a call of several steps failed.
-use Rattle.std.proofs.Common.{◌≡◌, ℕ, ℤ, List, ◌≤◌, Bool, IsTrue, ap, subst, arith}
+use Rattle.std.proofs.Common.{◌≡◌, ℕ, ℤ, List, ◌≤◌, IsTrue, ap, subst, arith}
 use Rattle.sqlite_disk.specs.Disk.{MoreFaults}
 use Rattle.sqlite_trees.specs.View.{View, HasCause, OnlyWrites, KeepsSchema, IsStorable, IsStorableRow}
 use Rattle.sqlite_exec.specs.Calls.{OnlyReads}

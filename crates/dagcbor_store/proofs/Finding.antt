@@ -1,8 +1,8 @@
 -- What a seek in the index of names finds.
-use Rattle.std.proofs.Common.{◌≡◌, inl, inr, ℕ, ℤ, List, [], ◌∷◌, Bool, true, false, cond, Ordering, Less, Equal, Greater, is_lt, is_eq, refl, sym, ap, ◌∙◌, subst, true≢false, length, arith}
+use Rattle.std.proofs.Common.{◌≡◌, inl, inr, ℕ, ℤ, List, [], ◌∷◌, Bool, true, false, cond, Ordering, Less, Equal, is_lt, refl, sym, ap, ◌∙◌, subst, true≢false, length, arith}
 use Rattle.std.specs.Prelude.{◌⊎◌, ◌≢◌, Option, None, Some, MatchOption, is_some}
 use Rattle.std.specs.List.{AllByRecursion}
-use Rattle.std.specs.Ordering.{nat_cmp, ordering_then}
+use Rattle.std.specs.Ordering.{nat_cmp}
 use Rattle.std.specs.Cmp.Lexicographic.{slice_cmp}
 use Rattle.std.proofs.lemmas.Cmp.{tied_itself, nat_list_cmp_total}
 use Rattle.sqlite_value.specs.declared.value.Value.{Value}
@@ -78,16 +78,16 @@ module _ (name : List ℕ) where
           → (IsOther name (from_key plain (Blob name ∷ []) es) → IsListed es name → ⊥) → ⊥
       by true t o more = elim h.1 [
         | inl here ↦
-          let tied : prefix_cmp plain e (Blob name ∷ []) ≡ Equal = ap (λ (x : Row). prefix_cmp plain x (Blob name ∷ [])) (sym here) ∙ entry_key name name h.0 ∙ tied_itself nat_list_cmp_total name in
-          true≢false (sym t ∙ ap is_lt tied)
+            let tied : prefix_cmp plain e (Blob name ∷ []) ≡ Equal = ap (λ (x : Row). prefix_cmp plain x (Blob name ∷ [])) (sym here) ∙ entry_key name name h.0 ∙ tied_itself nat_list_cmp_total name in
+            true≢false (sym t ∙ ap is_lt tied)
         | inr later ↦ more o (h.0, later)
       ]
       by false t o more = elim h.1 [
         | inl here ↦ o h.0 (sym here)
         | inr later ↦
-          let below = subst (λ x. entry_cmp plain x (name_entry name h.0) ≡ Less) is (all_among (λ f. entry_cmp plain e f ≡ Less) (name_entry name h.0) es up.0 later) in
-          let eq = none_later m name are.0.1 h.0 (ap is_lt (sym same) ∙ t) (names_rise m name are.0.1 h.0 below) in
-          o are.0.1 (is ∙ ap (λ n. name_entry n are.0.1) eq)
+            let below = subst (λ x. entry_cmp plain x (name_entry name h.0) ≡ Less) is (all_among (λ f. entry_cmp plain e f ≡ Less) (name_entry name h.0) es up.0 later) in
+            let eq = none_later m name are.0.1 h.0 (ap is_lt (sym same) ∙ t) (names_rise m name are.0.1 h.0 below) in
+            o are.0.1 (is ∙ ap (λ n. name_entry n are.0.1) eq)
       ]
 
   pub first_is_among : (es left : List Row) (e : Row) → from_key plain (Blob name ∷ []) es ≡ e ∷ left → Among e es

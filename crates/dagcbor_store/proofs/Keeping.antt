@@ -1,9 +1,7 @@
 -- What a store holds after a step, and that it stays ready.
-use Rattle.std.proofs.Common.{◌≡◌, ◌≢◌, inl, inr, ℕ, ◌≤◌, ℤ, List, [], ◌∷◌, filter, Bool, true, false, not, cond, Ordering, Less, Equal, Greater, is_lt, is_eq, refl, sym, ap, ◌∙◌, subst, true≢false, IsTrue, arith}
+use Rattle.std.proofs.Common.{◌≡◌, inl, inr, ℕ, ℤ, List, [], ◌∷◌, filter, Bool, true, false, not, Ordering, Less, Equal, Greater, is_eq, refl, sym, ap, ◌∙◌, subst, true≢false, IsTrue}
 use Rattle.std.specs.Prelude.{◌⊎◌, ◌↔◌, Option, None, Some, is_some}
-use Rattle.std.specs.List.{AllByRecursion}
 use Rattle.std.specs.Ordering.{match_ordering}
-use Rattle.sqlite_disk.specs.Disk.{MoreFaults}
 use Rattle.sqlite_value.specs.declared.value.Value.TheVariants.{Int, Blob}
 use Rattle.sqlite_value.specs.Order.{Row, column, value_cmp}
 use Rattle.sqlite_value.specs.Keys.{plain, entry_cmp}
@@ -14,10 +12,8 @@ use Rattle.std.proofs.lemmas.Map.Lookups.{exact_bytes}
 use Rattle.sqlite_trees.proofs.ListLemmas.{all-filter}
 use Rattle.dagcbor_store.proofs.Finding.{all_among}
 use Rattle.sqlite_trees.specs.Tree.{Trees, rowid, has_rowid, put_row, without_rowid, insert_entry, remove_entry}
-use Rattle.sqlite_trees.specs.View.{View, IsClean, KeepsCommitted, IsRolledBack, HasCause, OnlyWrites}
-use Rattle.sqlite_trees.specs.declared.error.StoreError.{StoreError}
+use Rattle.sqlite_trees.specs.View.{View, IsClean, KeepsCommitted, IsRolledBack}
 use Rattle.sqlite_exec.specs.Calls.{OnlyReads}
-use Rattle.ipld_tree.specs.Cid.{CidParts, cid_bytes}
 use Rattle.dagcbor_car.specs.Sets.{Among}
 use Rattle.dagcbor_store.specs.Rows.{block_tree, name_tree, block_row, name_entry, IsStored, IsListed, AreNameEntries, FindsName, IsFreeId, IsRowOf}
 use Rattle.dagcbor_store.proofs.Numbers.{among_filter, among_unfiltered, has_own}
@@ -158,15 +154,15 @@ module _ (old new : Trees) (name b : List ℕ) (id : ℤ) (keyed : IsKeyed (old 
       there : IsStored new q d → ((q ≡ name) × (d ≡ b)) ⊎ IsStored old q d
       there s = elim ((inserted (name_entry q s.id)).0 s.listed) [
         | inl e ↦
-          let same = same_entry q name s.id id e in
-          elim ((put (block_row s.id q d)).0 s.row) [
-            | inl r ↦ inl (same.0, (same_row q name d b s.id id r).1)
-            | inr was ↦ absurd (not_free q d (subst (λ i. Among (block_row i q d) (old block_tree)) same.1 was))
-          ]
+            let same = same_entry q name s.id id e in
+            elim ((put (block_row s.id q d)).0 s.row) [
+              | inl r ↦ inl (same.0, (same_row q name d b s.id id r).1)
+              | inr was ↦ absurd (not_free q d (subst (λ i. Among (block_row i q d) (old block_tree)) same.1 was))
+            ]
         | inr was ↦ elim ((put (block_row s.id q d)).0 s.row) [
-            | inl r ↦ inl ((same_row q name d b s.id id r).0, (same_row q name d b s.id id r).1)
-            | inr row ↦ inr (record { id = s.id; listed = was; row = row })
-          ]
+          | inl r ↦ inl ((same_row q name d b s.id id r).0, (same_row q name d b s.id id r).1)
+          | inr row ↦ inr (record { id = s.id; listed = was; row = row })
+        ]
       ]
 
       back : ((q ≡ name) × (d ≡ b)) ⊎ IsStored old q d → IsStored new q d
@@ -195,13 +191,13 @@ module _ (old new : Trees) (name b : List ℕ) (id : ℤ) (keyed : IsKeyed (old 
       once : (q : List ℕ) (i j : ℤ) → Among (name_entry q i) (new name_tree) → Among (name_entry q j) (new name_tree) → i ≡ j
       once q i j a b = elim ((inserted (name_entry q i)).0 a) [
         | inl e ↦ elim ((inserted (name_entry q j)).0 b) [
-            | inl f ↦ (same_entry q name i id e).1 ∙ sym (same_entry q name j id f).1
-            | inr was ↦ absurd (none (j, subst (λ n. Among (name_entry n j) (old name_tree)) (same_entry q name i id e).0 was))
-          ]
+          | inl f ↦ (same_entry q name i id e).1 ∙ sym (same_entry q name j id f).1
+          | inr was ↦ absurd (none (j, subst (λ n. Among (name_entry n j) (old name_tree)) (same_entry q name i id e).0 was))
+        ]
         | inr there ↦ elim ((inserted (name_entry q j)).0 b) [
-            | inl f ↦ absurd (none (i, subst (λ n. Among (name_entry n i) (old name_tree)) (same_entry q name j id f).0 there))
-            | inr was ↦ keyed.1 q i j there was
-          ]
+          | inl f ↦ absurd (none (i, subst (λ n. Among (name_entry n i) (old name_tree)) (same_entry q name j id f).0 there))
+          | inr was ↦ keyed.1 q i j there was
+        ]
       ]
 
 -- ---- taking out

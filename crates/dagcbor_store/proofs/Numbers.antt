@@ -1,8 +1,7 @@
 -- Numbers of rows: which are free, and which row has one.
-use Rattle.std.proofs.Common.{◌≡◌, inl, inr, ℕ, ℤ, pos, ◌+ℤ◌, List, [], ◌∷◌, ◌++◌, filter, Bool, true, false, cond, Ordering, Less, Equal, Greater, is_lt, is_eq, int_cmp, refl, sym, ap, ◌∙◌, subst, true≢false, length, arith, IsTrue}
-use Rattle.std.specs.Prelude.{◌⊎◌, ◌≢◌, Option, None, Some, MatchOption, option_map, Vec}
+use Rattle.std.proofs.Common.{◌≡◌, inl, inr, ℕ, ℤ, pos, ◌+ℤ◌, List, [], ◌∷◌, ◌++◌, filter, Bool, true, false, cond, Less, is_eq, int_cmp, refl, sym, ap, ◌∙◌, subst, true≢false, arith, IsTrue}
+use Rattle.std.specs.Prelude.{◌≢◌, Option, None, Some, MatchOption, option_map, Vec}
 use Rattle.std.specs.declared.alloc.Global.{Global}
-use Rattle.std.specs.List.{AllByRecursion}
 use Rattle.std.proofs.lemmas.Int.{ints}
 use Rattle.std.proofs.lemmas.Bool.Decides.{nat_tests}
 use Rattle.std.proofs.lemmas.Cmp.{tied_itself}
@@ -11,7 +10,7 @@ use Rattle.sqlite_value.specs.declared.value.Value.TheVariants.{Null, Int, Real,
 use Rattle.sqlite_value.specs.Order.{Row, column, value_cmp}
 use Rattle.sqlite_value.proofs.OrderLemmas.{value_cmp_total, value_cmp-Int}
 use Rattle.sqlite_trees.specs.declared.store.Shape.TheVariants as shape
-use Rattle.sqlite_trees.specs.Tree.{rowid, has_rowid, IsAscending, IsTable}
+use Rattle.sqlite_trees.specs.Tree.{rowid, has_rowid, IsTable}
 use Rattle.sqlite_trees.specs.View.{View, IsShaped, IsOrdered, is_int, Finds}
 use Rattle.sqlite_exec.specs.Write.{IsLast}
 use Rattle.dagcbor_car.specs.Sets.{Among}

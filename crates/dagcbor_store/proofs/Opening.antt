@@ -1,5 +1,5 @@
 -- A database that was checked is a store.
-use Rattle.std.proofs.Common.{◌≡◌, ℕ, List, Bool, true, false, refl, sym, ap, ◌∙◌, subst, IsTrue}
+use Rattle.std.proofs.Common.{◌≡◌, List, false, sym, ap, ◌∙◌, subst, IsTrue}
 use Rattle.sqlite_value.specs.Order.{Row}
 use Rattle.sqlite_value.specs.Keys.{plain}
 use Rattle.sqlite_trees.specs.Tree.{Trees}
@@ -9,7 +9,7 @@ use Rattle.sqlite_trees.specs.declared.store.Shape.TheVariants as shape
 use Rattle.sqlite_exec.specs.Calls.{OnlyReads}
 use Rattle.dagcbor_store.specs.Rows.{block_tree, name_tree}
 use Rattle.dagcbor_store.specs.Stored.{IsKeyed, IsReady}
-use Rattle.dagcbor_store.specs.Opened.{IsChecked, IsOpened, HasSameBlocks}
+use Rattle.dagcbor_store.specs.Opened.{IsChecked, IsOpened, IsSettled}
 use Rattle.dagcbor_store.proofs.Keeping.{open_of}
 
 pub checked_read : (old new : View) → OnlyReads old new → old.is_broken ≡ false → old.shape block_tree ≡ shape.Table → old.shape name_tree ≡ shape.Index plain → IsKeyed (old.trees name_tree) → IsChecked old new
@@ -80,3 +80,6 @@ module _ (old rolled : View) (clean : IsClean rolled) (undone : IsRolledBack old
         now = record { blocks = blocks; names = names };
         committed = record { blocks = ap (λ t. t block_tree) (sym (c.settled settled)) ∙ blocks; names = ap (λ t. t name_tree) (sym (c.settled settled)) ∙ names };
       }
+
+pub is_settled : (old new : View) → IsOpened old new → IsSettled new
+is_settled old new h = record { is_open = h.is_open; committed = record { blocks = h.now.blocks ∙ sym h.committed.blocks; names = h.now.names ∙ sym h.committed.names } }

@@ -1,10 +1,10 @@
 -- What a walk over the index of names tells.
-use Rattle.std.proofs.Common.{◌≡◌, ◌≢◌, inl, inr, ℕ, ◌+◌, ℤ, List, [], ◌∷◌, ◌++◌, Bool, true, false, Ordering, Less, Equal, Greater, is_lt, refl, sym, ap, ◌∙◌, subst, true≢false, length, arith, length-append, append_assoc}
+use Rattle.std.proofs.Common.{◌≡◌, inl, inr, ℕ, ◌+◌, ℤ, List, [], ◌∷◌, ◌++◌, Less, is_lt, refl, sym, ap, ◌∙◌, subst, true≢false, length, arith, length-append, append_assoc}
 use Rattle.std.specs.Prelude.{◌⊎◌}
 use Rattle.std.specs.List.{AllByRecursion}
 use Rattle.std.proofs.lemmas.Cmp.{tied_itself}
 use Rattle.std.proofs.lemmas.Map.Lookups.{exact_bytes}
-use Rattle.sqlite_value.specs.declared.value.Value.TheVariants.{Null, Int, Blob}
+use Rattle.sqlite_value.specs.declared.value.Value.TheVariants.{Null, Blob}
 use Rattle.sqlite_value.specs.Order.{Row, column, value_cmp}
 use Rattle.sqlite_value.specs.Keys.{plain, entry_cmp}
 use Rattle.sqlite_value.proofs.KeyLemmas.{entry_cmp_total}
@@ -13,7 +13,7 @@ use Rattle.sqlite_trees.specs.Tree.{IsIndex, IsAscending}
 use Rattle.dagcbor_car.specs.Sets.{Among}
 use Rattle.dagcbor_store.specs.Rows.{name_entry, IsNameEntry, AreNameEntries}
 use Rattle.dagcbor_store.specs.Stored.{IsKeyed}
-use Rattle.dagcbor_store.proofs.Finding.{all_among, names_rise, name_cmp}
+use Rattle.dagcbor_store.proofs.Finding.{all_among, names_rise}
 
 abbrev pub BelowByName : Row → Row → Type 0
 BelowByName a b = value_cmp (column a 0) (column b 0) ≡ Less

@@ -140,9 +140,21 @@ pub record HoldsAlso (old new : Trees) (name b : List ℕ) : Type 0 where
   pub holds : (q d : List ℕ) → IsStored new q d ↔ (((q ≡ name) × (d ≡ b)) ⊎ IsStored old q d)
 
 -- the block is stored too, or nothing is changed where its name is listed
+abbrev pub IsAddedTo : Trees → Trees → CidParts → List ℕ → Type 0
+IsAddedTo old new name b = HoldsAlso old new (cid_bytes name) b ⊎ (IsListed (old name_tree) (cid_bytes name) × (new ≡ old))
+
+-- the same, and what was committed stands
 pub record IsAdded (old new : View) (name : CidParts) (b : List ℕ) : Type 0 where
-  pub trees : HoldsAlso old.trees new.trees (cid_bytes name) b ⊎ (Lists old name × (new.trees ≡ old.trees))
+  pub trees : IsAddedTo old.trees new.trees name b
   pub committed : new.committed ≡ old.committed
+  pub was_open : IsTrue old.is_open
+  pub is_open : IsTrue new.is_open
+  pub sound : new.is_broken ≡ false
+
+-- the same, and all of it is committed
+pub record IsPut (old new : View) (name : CidParts) (b : List ℕ) : Type 0 where
+  pub trees : IsAddedTo old.trees new.trees name b
+  pub committed : new.committed ≡ new.trees
   pub is_open : IsTrue new.is_open
 
 -- what is stored is what was stored under the other names; nothing is changed where the name is not listed

@@ -253,12 +253,7 @@ fn put<S: Store>(
 }
 
 /// Writes the entry of the name.
-fn list<S: Store>(
-    store: &mut S,
-    row: &mut Row,
-    id: i64,
-    name: &[u8],
-) -> Result<(), StoreError>
+fn list<S: Store>(store: &mut S, row: &mut Row, id: i64, name: &[u8]) -> Result<(), StoreError>
     requires names { IsClean (S.Store.view store.old) → (S.Store.view store.old).shape name_tree ≡ shape.Index plain }
     ensures ok { OnOk result (IsClean (S.Store.view store.new) → SetsTree (S.Store.view store.old) (S.Store.view store.new) name_tree (insert_entry plain (name_entry name.now id))) }
     ensures frame { OnOk result (IsClean (S.Store.view store.new) → OnlyWrites (S.Store.view store.old) (S.Store.view store.new)) }
@@ -276,11 +271,7 @@ fn list<S: Store>(
 }
 
 /// Takes the name out of the index, and its row out of the table where that is of the name.
-pub(crate) fn take<S: Store>(
-    store: &mut S,
-    row: &mut Row,
-    name: &[u8],
-) -> Result<bool, StoreError>
+pub(crate) fn take<S: Store>(store: &mut S, row: &mut Row, name: &[u8]) -> Result<bool, StoreError>
     requires blocks { IsClean (S.Store.view store.old) → (S.Store.view store.old).shape block_tree ≡ shape.Table }
     requires names { IsClean (S.Store.view store.old) → (S.Store.view store.old).shape name_tree ≡ shape.Index plain }
     ensures ok { IfOk result (λ taken. IsClean (S.Store.view store.new) → Takes (S.Store.view store.old).trees (S.Store.view store.new).trees name.now taken) }
@@ -301,12 +292,7 @@ pub(crate) fn take<S: Store>(
 }
 
 /// Takes the row with the number out, where it is of the name.
-fn take_row<S: Store>(
-    store: &mut S,
-    row: &mut Row,
-    id: i64,
-    name: &[u8],
-) -> Result<(), StoreError>
+fn take_row<S: Store>(store: &mut S, row: &mut Row, id: i64, name: &[u8]) -> Result<(), StoreError>
     requires blocks { IsClean (S.Store.view store.old) → (S.Store.view store.old).shape block_tree ≡ shape.Table }
     ensures ok { OnOk result (IsClean (S.Store.view store.new) → TakesRow (S.Store.view store.old).trees (S.Store.view store.new).trees id name.now) }
     ensures frame { OnOk result (IsClean (S.Store.view store.new) → OnlyWrites (S.Store.view store.old) (S.Store.view store.new)) }
@@ -326,12 +312,7 @@ fn take_row<S: Store>(
 }
 
 /// Takes the entry of the name out of the index.
-fn unlist<S: Store>(
-    store: &mut S,
-    row: &mut Row,
-    id: i64,
-    name: &[u8],
-) -> Result<(), StoreError>
+fn unlist<S: Store>(store: &mut S, row: &mut Row, id: i64, name: &[u8]) -> Result<(), StoreError>
     requires names { IsClean (S.Store.view store.old) → (S.Store.view store.old).shape name_tree ≡ shape.Index plain }
     ensures ok { OnOk result (IsClean (S.Store.view store.new) → SetsTree (S.Store.view store.old) (S.Store.view store.new) name_tree (remove_entry plain (name_entry name.now id))) }
     ensures frame { OnOk result (IsClean (S.Store.view store.new) → OnlyWrites (S.Store.view store.old) (S.Store.view store.new)) }

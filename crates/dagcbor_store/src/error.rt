@@ -1,5 +1,6 @@
 //! Why a store refused a call.
 
+ghost use Rattle.dagcbor_store.specs.Opened.{TellsOfOpening};
 ghost use Rattle.dagcbor_store.specs.Stored.{TellsOfStore};
 
 use dagcbor_heads::DecodeError;
@@ -64,7 +65,10 @@ impl StoreRefusal {
         }
     }
 
-    pub(crate) fn of_opening(error: OpenError) -> StoreRefusal {
+    /// Want of memory is told as such, and a file that is refused as none of ours.
+    pub(crate) fn of_opening(error: OpenError) -> StoreRefusal
+        ensures { TellsOfOpening error result }
+    {
         match error {
             OpenError::OutOfMemory => StoreRefusal::OutOfMemory,
             OpenError::Io => StoreRefusal::Disk(StoreError::Io),

@@ -13,4 +13,5 @@ pub use error::StoreRefusal;
 pub use sqlite_disk::{Unknown, Wary};
 pub use sqlite_std_file::FileFrom;
 pub use sqlite_store::FileStore;
+pub use sqlite_trees::store::{Alter, Store};
 pub use store::BlockStore;

@@ -3,7 +3,8 @@
 ghost use Rattle.std.specs.Prelude.{◌≡◌, ◌⊎◌, IsTrue, IfOk, IfErr};
 ghost use Rattle.sqlite_trees.specs.View.{IsClean};
 ghost use Rattle.dagcbor_store.specs.Stored.{IsKeptBy};
-ghost use Rattle.dagcbor_store.specs.Opened.{IsChecked, IsOpened, HasSameBlocks};
+ghost use Rattle.sqlite_store.specs.FileStore.{view};
+ghost use Rattle.dagcbor_store.specs.Opened.{IsChecked, IsOpened, IsSettled, HasSameBlocks};
 
 use crate::entries::{BLOCKS, NAMES};
 use crate::error::StoreRefusal;
@@ -80,9 +81,13 @@ impl<S: Alter + Drop> BlockStore<S> {
 fn opened<S: Alter + Drop>(alloc: Global, store: S) -> Result<BlockStore<S>, StoreRefusal>
     ensures ok { IfOk result (λ it. IsClean (S.Store.view it) → IsOpened (S.Store.view store) (S.Store.view it)) }
 {
-    match BlockStore::over(alloc, store) {
+    let taken = BlockStore::over(alloc, store);
+    match taken {
         Ok(store) => Ok(store),
-        Err((refusal, _)) => Err(refusal),
+        Err((refusal, left)) => {
+            drop(left);
+            Err(refusal)
+        }
     }
 }
 
@@ -109,10 +114,7 @@ fn schema() -> [Object<'static>; 2] {
 }
 
 /// The size of the pages, and whether the files begin as a database does.
-fn page_size<D: Disk>(
-    alloc: Global,
-    files: &mut Files<D>,
-) -> Result<(PageSize, bool), StoreRefusal>
+fn page_size<D: Disk>(alloc: Global, files: &mut Files<D>) -> Result<(PageSize, bool), StoreRefusal>
     requires log { IsTrue (D.Disk.is_usable files.old.log) }
     requires db { IsTrue (D.Disk.is_usable files.old.db) }
     ensures log { IsTrue (D.Disk.is_usable files.new.log) }
@@ -165,7 +167,9 @@ impl<S: Start> BlockStore<FileStore<FileFrom<S>>> {
         rt: &HostRuntime,
         path: &str,
         start: S,
-    ) -> Result<BlockStore<FileStore<FileFrom<S>>>, StoreRefusal> {
+    ) -> Result<BlockStore<FileStore<FileFrom<S>>>, StoreRefusal>
+        ensures settled { IfOk result (λ it. IsClean (view it) → IsSettled (view it)) }
+    {
         let files = match sqlite_std_file::open(rt, path, start) {
             Ok(files) => files,
             Err(PathError::OutOfMemory) => return Err(StoreRefusal::OutOfMemory),

@@ -3,7 +3,7 @@
 ghost use Rattle.std.specs.Prelude.{◌≡◌, ◌↔◌, ◌⊎◌, IsTrue, MatchResult, IfOk, IfErr, IfSome, OnOk, option_map, length};
 ghost use Rattle.dagcbor_store.specs.Rows.{name_tree};
 ghost use Rattle.sqlite_trees.specs.View.{IsClean, IsQuiet, IsRolledBack};
-ghost use Rattle.dagcbor_store.specs.Stored.{IsReady, Lists, IsSame, IsUndone, IsNamed, GetsSome, GetRefused, Fails, TellsOfStore, IsCommitted, IsKeptBy, IsNamedBlock, IsUnfit, IsAdded, IsTaken, PutRefused, IsVerified, IsToldAdded};
+ghost use Rattle.dagcbor_store.specs.Stored.{IsReady, Lists, IsSame, IsUndone, IsNamed, GetsSome, GetRefused, Fails, TellsOfStore, IsCommitted, IsKeptBy, IsNamedBlock, IsUnfit, IsAdded, IsAddedTo, IsPut, IsTaken, PutRefused, IsVerified, IsToldAdded};
 
 use crate::entries::{self, Added, Found};
 use crate::error::StoreRefusal;
@@ -141,6 +141,18 @@ impl<S: Store> BlockStore<S> {
             Ok(added) => told(added),
             Err(error) => Err(undo(&mut self.store, error)),
         }
+    }
+
+    /// Keeps the block under its name, and commits it, with whatever waited for a commit. Once this
+    /// answers `Ok` the block is there, also after the power failed.
+    pub fn put_block(&mut self, name: &Cid, block: &[u8]) -> Result<(), StoreRefusal>
+        ensures ok { OnOk result (IsNamedBlock (name.now, block.now) × (IsClean (S.Store.view self.new) → IsPut (S.Store.view self.old) (S.Store.view self.new) name.now block.now)) }
+        ensures refused { IfErr result (PutRefused S.Store (name.now, block.now) self.old self.new) }
+        ensures crash { (db : _) → S.Store.recovers self.new db → S.Store.recovers self.old db ⊎ (IsClean (S.Store.view self.new) → IsAddedTo (S.Store.view self.old).trees db name.now block.now) }
+        ensures kept { IsKeptBy S.Store self.old self.new }
+    {
+        self.add_block(name, block)?;
+        self.commit()
     }
 
     /// Takes the block under the name out, with what is committed next, and answers whether one was

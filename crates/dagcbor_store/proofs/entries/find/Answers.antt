@@ -3,7 +3,6 @@ use Rattle.sqlite_value.specs.declared.value.Value.TheVariants.{Blob}
 use Rattle.sqlite_value.specs.Keys.{plain}
 use Rattle.sqlite_trees.specs.Tree.{from_key}
 use Rattle.sqlite_trees.specs.View.{IsClean}
-use Rattle.sqlite_exec.specs.Loops.{left_of}
 use Rattle.sqlite_exec.proofs.CheckLemmas.{stepped, ended}
 use Rattle.dagcbor_store.specs.Rows.{name_tree}
 use Rattle.dagcbor_store.proofs.Finding.{finds_name, finds_none, sought_name, index_rises}

@@ -1,4 +1,4 @@
-use Rattle.std.proofs.Common.{arith, ap, sym}
+use Rattle.std.proofs.Common.{arith}
 use Rattle.sqlite_trees.specs.View.{IsClean}
 use Rattle.dagcbor_store.specs.Rows.{block_tree}
 use Rattle.dagcbor_store.proofs.Numbers.{table_rows, frees, frees_first}

@@ -1,7 +1,7 @@
-use Rattle.std.proofs.Common.{rules, arith, to_z-of_z, ◌≡◌, ◌∷◌, [], refl, sym, subst}
+use Rattle.std.proofs.Common.{rules, arith, to_z-of_z, ◌≡◌, refl, sym, subst}
 use Rattle.std.proofs.lemmas.Result.{IfErr-weaker, err_from_is_err_and}
-use Rattle.sqlite_trees.specs.View.{View, IsClean, IsStorable, IsStorableRow}
-use Rattle.dagcbor_store.specs.Rows.{block_tree, name_tree, block_row, name_entry}
+use Rattle.sqlite_trees.specs.View.{IsClean, IsStorable}
+use Rattle.dagcbor_store.specs.Rows.{name_tree, block_row, name_entry}
 use Rattle.dagcbor_store.proofs.Causes.{cause_then, only_writes, row_too_long, entry_too_long}
 use Rattle.dagcbor_store.proofs.entries.put.Goals as goal
 

@@ -1,4 +1,4 @@
-use Rattle.std.proofs.Common.{rules, arith, ◌≡◌, sym, ap, subst, IsTrue}
+use Rattle.std.proofs.Common.{rules, arith, ◌≡◌, subst}
 use Rattle.sqlite_trees.specs.View.{IsClean}
 use Rattle.ipld_tree.specs.Cid.{cid_bytes}
 use Rattle.std.specs.Prelude.{OnOk, IfErr}
@@ -31,7 +31,7 @@ returns-in-Ok-clause-ok g c =
     let form : c.deref.result.now ≡ cid_bytes c.args.name.now = search rules in
     let new = g.S.Store.view c.add.new.store in
     subst (λ s. OnOk c.told.result (IsAdded (g.S.Store.view s) new c.args.name.now c.args.block.now)) c.self.view_is
-    (is_added old new c.args.name.now c.args.block.now c.in-Ok.added c.told.result (c.in-Ok.ensures.frame clean) is_open keyed (subst (λ n. Adds old.trees new.trees n c.args.block.now c.in-Ok.added) form (c.in-Ok.ensures.ok clean)) c.told.ensures))
+    (is_added old new c.args.name.now c.args.block.now c.in-Ok.added c.told.result (c.in-Ok.ensures.frame clean) (c.in-Ok.ensures.sound clean) is_open keyed (subst (λ n. Adds old.trees new.trees n c.args.block.now c.in-Ok.added) form (c.in-Ok.ensures.ok clean)) c.told.ensures))
 
 pub returns-in-Ok-clause-refused : goal.returns-in-Ok-clause-refused
 returns-in-Ok-clause-refused g c =

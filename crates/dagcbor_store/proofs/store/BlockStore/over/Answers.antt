@@ -1,4 +1,4 @@
-use Rattle.std.proofs.Common.{arith, sym, subst, refl}
+use Rattle.std.proofs.Common.{arith, sym, subst}
 use Rattle.sqlite_trees.specs.View.{IsClean}
 use Rattle.dagcbor_store.specs.Opened.{IsOpened}
 use Rattle.dagcbor_store.proofs.Opening.{ready_checked, is_opened}

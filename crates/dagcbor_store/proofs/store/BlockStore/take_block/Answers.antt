@@ -1,4 +1,4 @@
-use Rattle.std.proofs.Common.{rules, arith, ◌≡◌, sym, ap, subst, IsTrue}
+use Rattle.std.proofs.Common.{rules, arith, ◌≡◌, subst}
 use Rattle.sqlite_trees.specs.View.{IsClean}
 use Rattle.ipld_tree.specs.Cid.{cid_bytes}
 use Rattle.dagcbor_store.specs.Rows.{Takes}

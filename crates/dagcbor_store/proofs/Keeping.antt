@@ -1,0 +1,260 @@
+-- What a store holds after a step, and that it stays ready.
+use Rattle.std.proofs.Common.{◌≡◌, inl, inr, ℕ, ℤ, List, [], ◌∷◌, filter, Bool, true, false, not, Ordering, Less, Equal, Greater, is_eq, refl, sym, ap, ◌∙◌, subst, true≢false, IsTrue}
+use Rattle.std.specs.Prelude.{◌⊎◌, ◌↔◌, Option, None, Some, is_some}
+use Rattle.std.specs.Ordering.{match_ordering}
+use Rattle.sqlite_value.specs.declared.value.Value.TheVariants.{Int, Blob}
+use Rattle.sqlite_value.specs.Order.{Row, column, value_cmp}
+use Rattle.sqlite_value.specs.Keys.{plain, entry_cmp}
+use Rattle.sqlite_value.proofs.KeyLemmas.{first_key-plain, then_tied, entry_cmp_total}
+use Rattle.sqlite_value.proofs.OrderLemmas.{value_cmp-Blob}
+use Rattle.std.proofs.lemmas.Cmp.{tied_itself}
+use Rattle.std.proofs.lemmas.Map.Lookups.{exact_bytes}
+use Rattle.sqlite_trees.proofs.ListLemmas.{all-filter}
+use Rattle.dagcbor_store.proofs.Finding.{all_among}
+use Rattle.sqlite_trees.specs.Tree.{Trees, rowid, has_rowid, put_row, without_rowid, insert_entry, remove_entry}
+use Rattle.sqlite_trees.specs.View.{View, IsClean, KeepsCommitted, IsRolledBack}
+use Rattle.sqlite_exec.specs.Calls.{OnlyReads}
+use Rattle.dagcbor_car.specs.Sets.{Among}
+use Rattle.dagcbor_store.specs.Rows.{block_tree, name_tree, block_row, name_entry, IsStored, IsListed, AreNameEntries, FindsName, IsFreeId, IsRowOf}
+use Rattle.dagcbor_store.proofs.Numbers.{among_filter, among_unfiltered, has_own}
+use Rattle.dagcbor_store.specs.Stored.{IsKeyed, IsReady, IsSame, IsUndone}
+
+-- ---- reads
+
+pub ready_read : (old new : View) → OnlyReads old new → IsReady old → IsReady new
+ready_read old new h r = subst IsReady (sym h) (record { blocks = r.blocks; names = r.names; lasting = r.lasting; unbroken = r.unbroken; keyed = r.keyed; committed = r.committed })
+
+pub same_read : (old new : View) → OnlyReads old new → IsSame old new
+same_read old new h = record { trees = ap (λ (v : View). v.trees) h; committed = ap (λ (v : View). v.committed) h; is_open = ap (λ (v : View). v.is_open) h }
+
+-- ---- failures
+
+pub ready_undone : (old mid new : View) → IsClean new → KeepsCommitted old mid → IsRolledBack mid new → IsReady old → IsReady new
+ready_undone old mid new clean kept undone r =
+    let back = undone.kept clean in
+    let was : mid.shape ≡ mid.committed_shape = kept.shape ∙ r.lasting ∙ sym kept.committed_shape in
+    let shape : new.shape ≡ old.shape = undone.shape was ∙ kept.shape in
+    let committed = λ (h : IsTrue new.is_open). back.committed h ∙ kept.committed (back.was_open h) in
+    let trees = λ (h : IsTrue new.is_open). (undone.undone h).0 ∙ kept.committed (back.was_open h) in
+    let opened = λ (h : IsTrue new.is_open). kept.was_open (back.was_open h) in
+    record {
+      blocks = ap (λ f. f block_tree) shape ∙ r.blocks;
+      names = ap (λ f. f name_tree) shape ∙ r.names;
+      lasting = shape ∙ r.lasting ∙ sym (undone.committed_shape ∙ kept.committed_shape);
+      unbroken = λ h. (undone.undone h).1;
+      keyed = λ h. subst (λ (t : Trees). IsKeyed (t name_tree)) (sym (trees h)) (r.committed (opened h));
+      committed = λ h. subst (λ (t : Trees). IsKeyed (t name_tree)) (sym (committed h)) (r.committed (opened h));
+    }
+
+pub undone_since : (old mid new : View) → IsClean new → KeepsCommitted old mid → IsRolledBack mid new → IsUndone old new
+undone_since old mid new clean kept undone = let back = undone.kept clean in record {
+  was_open = λ h. kept.was_open (back.was_open h);
+  trees = λ h. (undone.undone h).0 ∙ kept.committed (back.was_open h);
+  committed = λ h. back.committed h ∙ kept.committed (back.was_open h);
+}
+
+-- a store that is not broken is open
+pub open_of : (v : View) → (v.is_open ≡ false → IsTrue v.is_broken) → v.is_broken ≡ false → IsTrue v.is_open
+open_of v shut sound = by v.is_open refl
+  where
+    by : (b : Bool) → v.is_open ≡ b → IsTrue b
+    by true e = refl
+    by false e = absurd (true≢false (sym (shut e) ∙ sound))
+
+-- ---- finding
+
+pub found_listed : (es : List Row) (name : List ℕ) (o : Option ℤ) → AreNameEntries es → FindsName es name o → IsTrue (is_some o) ↔ IsListed es name
+found_listed es name None are f = (λ t. absurd (true≢false (sym t)), λ l. absurd (f are l))
+found_listed es name (Some id) are f = (λ t. (id, f), λ l. refl)
+
+-- ---- getting
+
+pub stored_found : (trees : Trees) (name b : List ℕ) (id : ℤ) → Among (name_entry name id) (trees name_tree) → filter (has_rowid id) (trees block_tree) ≡ block_row id name b ∷ [] → IsStored trees name b
+stored_found trees name b id listed row = record { id = id; listed = listed; row = (among_unfiltered (has_rowid id) (block_row id name b) (trees block_tree) (subst (Among (block_row id name b)) (sym row) (inl refl))).0 }
+
+-- the bytes under a name are those in the row that was found
+pub stored_there : (trees : Trees) (name b : List ℕ) (id : ℤ) → IsKeyed (trees name_tree) → Among (name_entry name id) (trees name_tree) → IsStored trees name b → Among (block_row id name b) (filter (has_rowid id) (trees block_tree))
+stored_there trees name b id keyed listed s =
+    let same : s.id ≡ id = keyed.1 name s.id id s.listed listed in
+    among_filter (has_rowid id) (block_row id name b) (trees block_tree) (has_own id (block_row id name b) refl) (subst (λ n. Among (block_row n name b) (trees block_tree)) same s.row)
+
+same_bytes : (id : ℤ) (name b d : List ℕ) → block_row id name b ≡ block_row id name d → b ≡ d
+same_bytes id name b d e = cc e
+
+pub stored_as_found : (trees : Trees) (name b d : List ℕ) (id : ℤ) → IsKeyed (trees name_tree) → Among (name_entry name id) (trees name_tree) → filter (has_rowid id) (trees block_tree) ≡ block_row id name d ∷ [] → IsStored trees name b → b ≡ d
+stored_as_found trees name b d id keyed listed row s =
+    elim (subst (Among (block_row id name b)) row (stored_there trees name b id keyed listed s)) [ inl same ↦ same_bytes id name b d same | inr none ↦ absurd none ]
+
+-- ---- adding
+
+among_inserted : (name : List ℕ) (id : ℤ) (es : List Row) (x : Row) → ((e : Row) → Among e es → entry_cmp plain e (name_entry name id) ≡ Equal → ⊥)
+    → Among x (insert_entry plain (name_entry name id) es) ↔ ((x ≡ name_entry name id) ⊎ Among x es)
+among_inserted name id [] x apart = (λ h. elim h [ inl same ↦ inl same | inr none ↦ absurd none ], λ h. elim h [ inl same ↦ inl same | inr none ↦ absurd none ])
+among_inserted name id (e ∷ es) x apart = by (entry_cmp plain e (name_entry name id)) refl (among_inserted name id es x (λ f there. apart f (inr there)))
+  where
+    new : Row
+    new = name_entry name id
+
+    by : (o : Ordering) → entry_cmp plain e new ≡ o → (Among x (insert_entry plain new es) ↔ ((x ≡ new) ⊎ Among x es))
+        → (Among x (match_ordering o (e ∷ insert_entry plain new es) (e ∷ es) (new ∷ e ∷ es)) ↔ ((x ≡ new) ⊎ Among x (e ∷ es)))
+    by Less t more = (
+      λ h. elim h [ inl same ↦ inr (inl same) | inr later ↦ elim (more.0 later) [ inl is ↦ inl is | inr there ↦ inr (inr there) ] ],
+      λ h. elim h [ inl is ↦ inr (more.1 (inl is)) | inr there ↦ elim there [ inl same ↦ inl same | inr later ↦ inr (more.1 (inr later)) ] ],
+    )
+    by Equal t more = absurd (apart e (inl refl) t)
+    by Greater t more = (
+      λ h. elim h [ inl is ↦ inl is | inr there ↦ inr there ],
+      λ h. elim h [ inl is ↦ inl is | inr there ↦ inr there ],
+    )
+
+among_put : (new : Row) (id : ℤ) (rs : List Row) (x : Row) → rowid new ≡ Int id → IsFreeId rs id → Among x (put_row new rs) ↔ ((x ≡ new) ⊎ Among x rs)
+among_put new id [] x is free = (λ h. elim h [ inl same ↦ inl same | inr none ↦ absurd none ], λ h. elim h [ inl same ↦ inl same | inr none ↦ absurd none ])
+among_put new id (r ∷ rs) x is free = by (value_cmp (rowid r) (rowid new)) refl (among_put new id rs x is free.1)
+  where
+    by : (o : Ordering) → value_cmp (rowid r) (rowid new) ≡ o → (Among x (put_row new rs) ↔ ((x ≡ new) ⊎ Among x rs))
+        → (Among x (match_ordering o (r ∷ put_row new rs) (new ∷ rs) (new ∷ r ∷ rs)) ↔ ((x ≡ new) ⊎ Among x (r ∷ rs)))
+    by Less t more = (
+      λ h. elim h [ inl same ↦ inr (inl same) | inr later ↦ elim (more.0 later) [ inl at ↦ inl at | inr there ↦ inr (inr there) ] ],
+      λ h. elim h [ inl at ↦ inr (more.1 (inl at)) | inr there ↦ elim there [ inl same ↦ inl same | inr later ↦ inr (more.1 (inr later)) ] ],
+    )
+    by Equal t more = absurd (true≢false (ap is_eq (sym t) ∙ ap (λ v. is_eq (value_cmp (rowid r) v)) is ∙ free.0))
+    by Greater t more = (
+      λ h. elim h [ inl at ↦ inl at | inr there ↦ inr there ],
+      λ h. elim h [ inl at ↦ inl at | inr there ↦ inr there ],
+    )
+
+-- the name that is added is that of no entry
+apart_from : (name : List ℕ) (id : ℤ) (es : List Row) → AreNameEntries es → (IsListed es name → ⊥) → (e : Row) → Among e es → entry_cmp plain e (name_entry name id) ≡ Equal → ⊥
+apart_from name id es are none e there tied =
+    let a = all_among (λ x. (n : List ℕ) × (i : ℤ) × (x ≡ name_entry n i)) e es are there in
+    let same : a.0 ≡ name = exact_bytes a.0 name (sym (value_cmp-Blob a.0 name) ∙ (then_tied (value_cmp (Blob a.0) (Blob name)) _ (rw first_key-plain at (subst (λ x. entry_cmp plain x (name_entry name id) ≡ Equal) a.2 tied))).0) in
+    none (a.1, subst (λ x. Among x es) (a.2 ∙ ap (λ n. name_entry n a.1) same) there)
+
+same_entry : (m n : List ℕ) (i j : ℤ) → name_entry m i ≡ name_entry n j → (m ≡ n) × (i ≡ j)
+same_entry m n i j e = (cc e, cc e)
+
+same_row : (m n b d : List ℕ) (i j : ℤ) → block_row i m b ≡ block_row j n d → (m ≡ n) × (b ≡ d) × (i ≡ j)
+same_row m n b d i j e = (cc e, cc e, cc e)
+
+module _ (old new : Trees) (name b : List ℕ) (id : ℤ) (keyed : IsKeyed (old name_tree)) (none : IsListed (old name_tree) name → ⊥) (free : IsFreeId (old block_tree) id)
+    (rows : new block_tree ≡ put_row (block_row id name b) (old block_tree)) (entries : new name_tree ≡ insert_entry plain (name_entry name id) (old name_tree)) where
+  inserted : (x : Row) → Among x (new name_tree) ↔ ((x ≡ name_entry name id) ⊎ Among x (old name_tree))
+  inserted x = subst (λ es. Among x es ↔ ((x ≡ name_entry name id) ⊎ Among x (old name_tree))) (sym entries) (among_inserted name id (old name_tree) x (apart_from name id (old name_tree) keyed.0 none))
+
+  put : (x : Row) → Among x (new block_tree) ↔ ((x ≡ block_row id name b) ⊎ Among x (old block_tree))
+  put x = subst (λ rs. Among x rs ↔ ((x ≡ block_row id name b) ⊎ Among x (old block_tree))) (sym rows) (among_put (block_row id name b) id (old block_tree) x refl free)
+
+  -- a row of the table does not have the number
+  not_free : (q d : List ℕ) → Among (block_row id q d) (old block_tree) → ⊥
+  not_free q d there = true≢false (sym (has_own id (block_row id q d) refl) ∙ all_among (λ r. has_rowid id r ≡ false) (block_row id q d) (old block_tree) free there)
+
+  pub stored_since : (q d : List ℕ) → IsStored new q d ↔ (((q ≡ name) × (d ≡ b)) ⊎ IsStored old q d)
+  stored_since q d = (there, back)
+    where
+      there : IsStored new q d → ((q ≡ name) × (d ≡ b)) ⊎ IsStored old q d
+      there s = elim ((inserted (name_entry q s.id)).0 s.listed) [
+        | inl e ↦
+            let same = same_entry q name s.id id e in
+            elim ((put (block_row s.id q d)).0 s.row) [
+              | inl r ↦ inl (same.0, (same_row q name d b s.id id r).1)
+              | inr was ↦ absurd (not_free q d (subst (λ i. Among (block_row i q d) (old block_tree)) same.1 was))
+            ]
+        | inr was ↦ elim ((put (block_row s.id q d)).0 s.row) [
+          | inl r ↦ inl ((same_row q name d b s.id id r).0, (same_row q name d b s.id id r).1)
+          | inr row ↦ inr (record { id = s.id; listed = was; row = row })
+        ]
+      ]
+
+      back : ((q ≡ name) × (d ≡ b)) ⊎ IsStored old q d → IsStored new q d
+      back (inl e) = record {
+        id = id;
+        listed = (inserted (name_entry q id)).1 (inl (ap (λ n. name_entry n id) e.0));
+        row = (put (block_row id q d)).1 (inl (ap (λ n. block_row id n d) e.0 ∙ ap (block_row id name) e.1));
+      }
+      back (inr s) = record { id = s.id; listed = (inserted (name_entry q s.id)).1 (inr s.listed); row = (put (block_row s.id q d)).1 (inr s.row) }
+
+  entries_since : AreNameEntries (new name_tree)
+  entries_since = subst AreNameEntries (sym entries) (all_inserted (old name_tree) keyed.0)
+    where
+      all_inserted : (es : List Row) → AreNameEntries es → AreNameEntries (insert_entry plain (name_entry name id) es)
+      all_inserted [] are = ((name, id, refl), tt)
+      all_inserted (e ∷ es) are = by (entry_cmp plain e (name_entry name id)) (all_inserted es are.1)
+        where
+          by : (o : Ordering) → AreNameEntries (insert_entry plain (name_entry name id) es) → AreNameEntries (match_ordering o (e ∷ insert_entry plain (name_entry name id) es) (e ∷ es) (name_entry name id ∷ e ∷ es))
+          by Less more = (are.0, more)
+          by Equal more = are
+          by Greater more = ((name, id, refl), are)
+
+  pub keyed_since : IsKeyed (new name_tree)
+  keyed_since = (entries_since, once)
+    where
+      once : (q : List ℕ) (i j : ℤ) → Among (name_entry q i) (new name_tree) → Among (name_entry q j) (new name_tree) → i ≡ j
+      once q i j a b = elim ((inserted (name_entry q i)).0 a) [
+        | inl e ↦ elim ((inserted (name_entry q j)).0 b) [
+          | inl f ↦ (same_entry q name i id e).1 ∙ sym (same_entry q name j id f).1
+          | inr was ↦ absurd (none (j, subst (λ n. Among (name_entry n j) (old name_tree)) (same_entry q name i id e).0 was))
+        ]
+        | inr there ↦ elim ((inserted (name_entry q j)).0 b) [
+          | inl f ↦ absurd (none (i, subst (λ n. Among (name_entry n i) (old name_tree)) (same_entry q name j id f).0 there))
+          | inr was ↦ keyed.1 q i j there was
+        ]
+      ]
+
+-- ---- taking out
+
+entry_itself : (e : Row) → is_eq (entry_cmp plain e e) ≡ true
+entry_itself e = ap is_eq (tied_itself (entry_cmp_total plain) e)
+
+not_other : (m n : List ℕ) (i j : ℤ) → (m ≡ n → ⊥) → is_eq (entry_cmp plain (name_entry m i) (name_entry n j)) ≡ false
+not_other m n i j apart = by (entry_cmp plain (name_entry m i) (name_entry n j)) refl
+  where
+    by : (o : Ordering) → entry_cmp plain (name_entry m i) (name_entry n j) ≡ o → is_eq o ≡ false
+    by Less t = refl
+    by Greater t = refl
+    by Equal t = absurd (apart (exact_bytes m n (sym (value_cmp-Blob m n) ∙ (then_tied (value_cmp (Blob m) (Blob n)) _ (rw first_key-plain at t)).0)))
+
+module _ (old new : Trees) (name : List ℕ) (id : ℤ) (keyed : IsKeyed (old name_tree)) (at : Among (name_entry name id) (old name_tree))
+    (entries : new name_tree ≡ remove_entry plain (name_entry name id) (old name_tree)) where
+  left : (x : Row) → Among x (new name_tree) → Among x (old name_tree) × (not (is_eq (entry_cmp plain x (name_entry name id))) ≡ true)
+  left x h = among_unfiltered (λ e. not (is_eq (entry_cmp plain e (name_entry name id)))) x (old name_tree) (subst (Among x) entries h)
+
+  pub none_left : (i : ℤ) → Among (name_entry name i) (new name_tree) → ⊥
+  none_left i h =
+      let l = left (name_entry name i) h in
+      let same : i ≡ id = keyed.1 name i id l.0 at in
+      let itself : not (is_eq (entry_cmp plain (name_entry name id) (name_entry name id))) ≡ true = subst (λ n. not (is_eq (entry_cmp plain (name_entry name n) (name_entry name id))) ≡ true) same l.1 in
+      true≢false (sym itself ∙ ap not (entry_itself (name_entry name id)))
+
+  pub keyed_left : IsKeyed (new name_tree)
+  keyed_left = (subst AreNameEntries (sym entries) (all-filter _ (λ e. not (is_eq (entry_cmp plain e (name_entry name id)))) (old name_tree) keyed.0), λ q i j a b. keyed.1 q i j (left (name_entry q i) a).0 (left (name_entry q j) b).0)
+
+  other_left : (q : List ℕ) (i : ℤ) → (q ≡ name → ⊥) → Among (name_entry q i) (old name_tree) → Among (name_entry q i) (new name_tree)
+  other_left q i apart h = subst (Among (name_entry q i)) (sym entries) (among_filter (λ e. not (is_eq (entry_cmp plain e (name_entry name id)))) (name_entry q i) (old name_tree) (ap not (not_other q name i id apart)) h)
+
+  module _ (rows : (x : Row) → Among x (new block_tree) → Among x (old block_tree)) (others : (q d : List ℕ) (i : ℤ) → (q ≡ name → ⊥) → Among (block_row i q d) (old block_tree) → Among (block_row i q d) (new block_tree)) where
+    pub stored_left : (q d : List ℕ) → IsStored new q d ↔ (IsStored old q d × (q ≡ name → ⊥))
+    stored_left q d = (
+      λ s. (record { id = s.id; listed = (left (name_entry q s.id) s.listed).0; row = rows (block_row s.id q d) s.row }, λ e. none_left s.id (subst (λ n. Among (name_entry n s.id) (new name_tree)) e s.listed)),
+      λ h. record { id = h.0.id; listed = other_left q h.0.id h.1 h.0.listed; row = others q d h.0.id h.1 h.0.row },
+    )
+
+same_blob : (m n : List ℕ) → Blob m ≡ Blob n → m ≡ n
+same_blob m n e = cc e
+
+-- what is left of the table
+pub rows_left : (old new : Trees) (name : List ℕ) (id : ℤ) → (IsRowOf (old block_tree) id name × (new block_tree ≡ without_rowid id (old block_tree))) ⊎ ((IsRowOf (old block_tree) id name → ⊥) × (new block_tree ≡ old block_tree))
+    → ((x : Row) → Among x (new block_tree) → Among x (old block_tree)) × ((q d : List ℕ) (i : ℤ) → (q ≡ name → ⊥) → Among (block_row i q d) (old block_tree) → Among (block_row i q d) (new block_tree))
+rows_left old new name id (inr h) = (λ x there. subst (Among x) h.1 there, λ q d i apart there. subst (Among (block_row i q d)) (sym h.1) there)
+rows_left old new name id (inl h) = (
+  λ x there. (among_unfiltered (λ r. not (has_rowid id r)) x (old block_tree) (subst (Among x) h.1 there)).0,
+  λ q d i apart there. subst (Among (block_row i q d)) (sym h.1) (among_filter (λ r. not (has_rowid id r)) (block_row i q d) (old block_tree) (apart_row q d i apart there (has_rowid id (block_row i q d)) refl) there),
+)
+  where
+    apart_row : (q d : List ℕ) (i : ℤ) → (q ≡ name → ⊥) → Among (block_row i q d) (old block_tree) → (t : Bool) → has_rowid id (block_row i q d) ≡ t → not (has_rowid id (block_row i q d)) ≡ true
+    apart_row q d i apart there false e = ap not e
+    apart_row q d i apart there true e =
+        let r = h.0 in
+        elim (subst (Among (block_row i q d)) r.1 (among_filter (has_rowid id) (block_row i q d) (old block_tree) e there)) [
+          | inl same ↦ absurd (apart (same_blob q name (ap (λ (x : Row). column x 1) same ∙ r.2)))
+          | inr none ↦ absurd none
+        ]

@@ -1,0 +1,17 @@
+use Rattle.std.proofs.Common.{arith, sym, subst}
+use Rattle.sqlite_trees.specs.View.{IsClean}
+use Rattle.dagcbor_store.specs.Opened.{IsOpened}
+use Rattle.dagcbor_store.proofs.Opening.{ready_checked, is_opened}
+use Rattle.dagcbor_store.proofs.store.BlockStore.over.Goals as goal
+
+pub of-requires : goal.of-requires
+of-requires g c clean =
+    let rolled : IsClean (g.S.Store.view c.rollback.new.self) = omega (arith, c.in-Ok-true.ensures.kept.clean) in
+    let checked = c.in-Ok-true.ensures.ok clean c.in-Ok-true.field-0-test in
+    ready_checked (g.S.Store.view c.args.store) _ rolled c.rollback.ensures.undone checked.was_sound (g.met.S.Store.broken_if_shut c.rollback.new.self) (g.met.S.Store.unaltered c.rollback.new.self) _ checked
+
+pub returns-in-Ok-true-clause-ok : goal.returns-in-Ok-true-clause-ok
+returns-in-Ok-true-clause-ok g c = subst (λ s. IsClean (g.S.Store.view s) → IsOpened (g.S.Store.view c.args.store) (g.S.Store.view s)) (sym c.of.ensures) (λ clean.
+    let rolled : IsClean (g.S.Store.view c.rollback.new.self) = omega (arith, c.in-Ok-true.ensures.kept.clean) in
+    let checked = c.in-Ok-true.ensures.ok clean c.in-Ok-true.field-0-test in
+    is_opened (g.S.Store.view c.args.store) _ rolled c.rollback.ensures.undone checked.was_sound (g.met.S.Store.broken_if_shut c.rollback.new.self) (g.met.S.Store.unaltered c.rollback.new.self) (g.S.Store.view c.check.new.store) (g.met.S.Store.broken_if_shut c.check.new.store) checked)

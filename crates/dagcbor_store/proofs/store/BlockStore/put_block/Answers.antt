@@ -1,0 +1,12 @@
+use Rattle.std.proofs.Common.{arith, inl, inr, sym, subst}
+use Rattle.sqlite_trees.specs.View.{IsClean}
+use Rattle.dagcbor_store.specs.Stored.{IsAddedTo}
+use Rattle.dagcbor_store.proofs.store.BlockStore.put_block.Goals as goal
+
+pub returns-clause-crash : goal.returns-clause-crash
+returns-clause-crash g c db h = elim (c.commit.ensures.crash db h) [
+  | inl same ↦ inr (λ clean.
+      let mid : IsClean (g.S.Store.view c.add_block.new.self) = omega (arith, c.commit.ensures.kept.clean) in
+      subst (λ t. IsAddedTo (g.S.Store.view c.args.self.now).trees t c.args.name.now c.args.block.now) (sym same) (c.in_ok-add_block.ensures.ok.1 mid).trees)
+  | inr was ↦ inl (c.add_block.ensures.quiet.outcomes db was)
+]

@@ -1,0 +1,47 @@
+-- What an open finds.
+use Rattle.std.specs.Prelude.{◌≡◌, false, IsTrue}
+use Rattle.sqlite_value.specs.Keys.{plain}
+use Rattle.sqlite_trees.specs.Tree.{Trees}
+use Rattle.sqlite_trees.specs.View.{View}
+use Rattle.sqlite_trees.specs.declared.store.Shape.TheVariants as shape
+use Rattle.sqlite_trees.specs.declared.error.StoreError.TheVariants as stored
+use Rattle.sqlite_store.specs.declared.error.OpenError.{OpenError}
+use Rattle.sqlite_store.specs.declared.error.OpenError.TheVariants as opening
+use Rattle.dagcbor_store.specs.declared.error.StoreRefusal.{StoreRefusal}
+use Rattle.dagcbor_store.specs.declared.error.StoreRefusal.TheVariants as refusal
+use Rattle.dagcbor_store.specs.Rows.{block_tree, name_tree}
+use Rattle.dagcbor_store.specs.Stored.{IsKeyed}
+
+-- the rows of blocks and the entries of names are the same
+pub record HasSameBlocks (old new : Trees) : Type 0 where
+  pub blocks : new block_tree ≡ old block_tree
+  pub names : new name_tree ≡ old name_tree
+
+-- the database holds blocks, and they are the same, as the transaction sees them and as they are committed
+pub record IsChecked (old new : View) : Type 0 where
+  pub blocks : new.shape block_tree ≡ shape.Table
+  pub names : new.shape name_tree ≡ shape.Index plain
+  pub was_sound : old.is_broken ≡ false
+  pub sound : new.is_broken ≡ false
+  pub keyed : IsKeyed (new.trees name_tree)
+  pub same : HasSameBlocks old.trees new.trees
+  pub settled : old.trees ≡ old.committed → new.trees ≡ new.committed
+  pub lasting : old.shape ≡ old.committed_shape → new.shape ≡ new.committed_shape
+
+-- the blocks that were committed are stored, and nothing else waits for a commit
+pub record IsOpened (old new : View) : Type 0 where
+  pub is_open : IsTrue new.is_open
+  pub now : HasSameBlocks old.committed new.trees
+  pub committed : HasSameBlocks old.committed new.committed
+
+-- the store is open, and all that it holds is committed
+pub record IsSettled (v : View) : Type 0 where
+  pub is_open : IsTrue v.is_open
+  pub committed : HasSameBlocks v.committed v.trees
+
+-- how the refusal of an open is told
+abbrev pub TellsOfOpening : OpenError → StoreRefusal → Type 0
+TellsOfOpening opening.OutOfMemory told = told ≡ refusal.OutOfMemory
+TellsOfOpening opening.Io told = told ≡ refusal.Disk stored.Io
+TellsOfOpening opening.Full told = told ≡ refusal.Disk stored.Full
+TellsOfOpening opening.Refused told = told ≡ refusal.NotAStore

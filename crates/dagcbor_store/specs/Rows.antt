@@ -1,0 +1,109 @@
+-- The rows of a database that holds blocks, and which blocks they are.
+use Rattle.std.specs.Prelude.{◌≡◌, ◌≢◌, ◌⊎◌, ℕ, ◌^◌, ◌-◌, ℤ, pos, List, [], ◌∷◌, filter, Option, None, Some, Bool, true, false, ⊤}
+use Rattle.std.specs.List.{AllByRecursion}
+use Rattle.sqlite_value.specs.declared.value.Value.TheVariants.{Int, Blob}
+use Rattle.sqlite_value.specs.Order.{Row, column}
+use Rattle.sqlite_value.specs.Keys.{plain}
+use Rattle.sqlite_trees.specs.Tree.{Trees, rowid, has_rowid, put_row, without_rowid, insert_entry, remove_entry}
+use Rattle.sqlite_trees.specs.View.{IsStorable, IsStorableRow}
+use Rattle.dagcbor_car.specs.Sets.{Among}
+use Rattle.dagcbor_store.specs.declared.entries.Found.{Found}
+use Rattle.dagcbor_store.specs.declared.entries.Found.TheVariants.{Nothing, NoRow, Block}
+use Rattle.dagcbor_store.specs.declared.entries.Added.{Added}
+use Rattle.dagcbor_store.specs.declared.entries.Added.TheVariants.{New, Listed, NoNumber}
+
+-- the tree of the table `block`: a number, a name in its binary form and the bytes, in each row
+abbrev pub block_tree : ℕ
+block_tree = 0
+
+-- the tree of its index by names
+abbrev pub name_tree : ℕ
+name_tree = 1
+
+abbrev pub block_row : ℤ → List ℕ → List ℕ → Row
+block_row id name b = Int id ∷ Blob name ∷ Blob b ∷ []
+
+abbrev pub name_entry : List ℕ → ℤ → Row
+name_entry name id = Blob name ∷ Int id ∷ []
+
+-- the index leads from the name to a row, which has the name and these bytes
+pub record IsStored (trees : Trees) (name b : List ℕ) : Type 0 where
+  pub id : ℤ
+  pub listed : Among (name_entry name id) (trees name_tree)
+  pub row : Among (block_row id name b) (trees block_tree)
+
+-- the index leads from the name to some row
+abbrev pub IsListed : List Row → List ℕ → Type 0
+IsListed entries name = (id : ℤ) × Among (name_entry name id) entries
+
+-- a name and a number
+abbrev pub IsNameEntry : Row → Type 0
+IsNameEntry e = (name : List ℕ) × (id : ℤ) × (e ≡ name_entry name id)
+
+-- each entry of the index is so
+abbrev pub AreNameEntries : List Row → Type 0
+AreNameEntries entries = AllByRecursion IsNameEntry entries
+
+-- the entries begin with none of the name
+abbrev pub IsOther : List ℕ → List Row → Type 0
+IsOther name [] = ⊤
+IsOther name (e ∷ more) = (id : ℤ) → e ≢ name_entry name id
+
+-- the number of the name's row was found, or none is listed under the name
+abbrev pub FindsName : List Row → List ℕ → Option ℤ → Type 0
+FindsName entries name None = AreNameEntries entries → IsListed entries name → ⊥
+FindsName entries name (Some id) = Among (name_entry name id) entries
+
+-- no row of the table has the number
+abbrev pub IsFreeId : List Row → ℤ → Type 0
+IsFreeId rows id = AllByRecursion (λ r. has_rowid id r ≡ false) rows
+
+-- the greatest number of a row
+abbrev pub last_id : ℤ
+last_id = pos (2 ^ 63 - 1)
+
+-- a number that no row has, or a row has the greatest
+abbrev pub FreesId : List Row → Option ℤ → Type 0
+FreesId rows None = (r : Row) × Among r rows × (rowid r ≡ Int last_id)
+FreesId rows (Some id) = IsFreeId rows id
+
+-- the bytes in the row with the number, where it has the name; or no such row is there
+abbrev pub ReadsRow : List Row → ℤ → List ℕ → Option (List ℕ) → Type 0
+ReadsRow rows id name None = (b : List ℕ) → Among (block_row id name b) rows → ⊥
+ReadsRow rows id name (Some b) = filter (has_rowid id) rows ≡ block_row id name b ∷ []
+
+-- what the index and the table have of a name: no entry, an entry that leads to no row of the name, or these bytes
+abbrev pub Gets : Trees → List ℕ → Found → Type 0
+Gets trees name Nothing = FindsName (trees name_tree) name None
+Gets trees name NoRow = (id : ℤ) × Among (name_entry name id) (trees name_tree) × ReadsRow (trees block_tree) id name None
+Gets trees name (Block v) = (id : ℤ) × Among (name_entry name id) (trees name_tree) × ReadsRow (trees block_tree) id name (Some v.items)
+
+-- what comes of a block that is to be kept: it is new, or its name is listed; or no number is left
+abbrev pub Adds : Trees → Trees → List ℕ → List ℕ → Added → Type 0
+Adds old new name b New = ((id : ℤ) × FindsName (old name_tree) name None × IsFreeId (old block_tree) id
+    × (new block_tree ≡ put_row (block_row id name b) (old block_tree))
+    × (new name_tree ≡ insert_entry plain (name_entry name id) (old name_tree)))
+Adds old new name b Listed = IsListed (old name_tree) name × (new ≡ old)
+Adds old new name b NoNumber = FreesId (old block_tree) None × (new ≡ old)
+
+-- the number of a row leads to a row of the name
+abbrev pub IsRowOf : List Row → ℤ → List ℕ → Type 0
+IsRowOf rows id name = (r : Row) × (filter (has_rowid id) rows ≡ r ∷ []) × (column r 1 ≡ Blob name)
+
+-- the row with the number is taken out where it is of the name, and the index is not changed
+abbrev pub TakesRow : Trees → Trees → ℤ → List ℕ → Type 0
+TakesRow old new id name = (new name_tree ≡ old name_tree)
+    × ((IsRowOf (old block_tree) id name × (new block_tree ≡ without_rowid id (old block_tree)))
+    ⊎ ((IsRowOf (old block_tree) id name → ⊥) × (new block_tree ≡ old block_tree)))
+
+-- the entry is taken out of the index, and the row of the name with it, if there is one
+abbrev pub Takes : Trees → Trees → List ℕ → Bool → Type 0
+Takes old new name false = FindsName (old name_tree) name None × (new ≡ old)
+Takes old new name true = (id : ℤ) × Among (name_entry name id) (old name_tree)
+    × (new name_tree ≡ remove_entry plain (name_entry name id) (old name_tree))
+    × ((IsRowOf (old block_tree) id name × (new block_tree ≡ without_rowid id (old block_tree)))
+    ⊎ ((IsRowOf (old block_tree) id name → ⊥) × (new block_tree ≡ old block_tree)))
+
+-- the row or its entry is too long for a database
+abbrev pub IsTooLong : (ℕ → ℕ) → List ℕ → List ℕ → Type 0
+IsTooLong reals name b = ((id : ℤ) → IsStorableRow (reals block_tree) (block_row id name b) × IsStorable (reals name_tree) (name_entry name id)) → ⊥

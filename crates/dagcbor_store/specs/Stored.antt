@@ -1,0 +1,171 @@
+-- What a store holds, and what its calls answer.
+use Rattle.std.specs.Prelude.{◌≡◌, ◌≢◌, ◌↔◌, ◌⊎◌, ℕ, ◌≤◌, Vec, false, ℤ, List, Option, None, Some, Bool, IsTrue, Result, Ok, Err}
+use Rattle.sha2.specs.Sha256.{sha256}
+use Rattle.sqlite_disk.specs.Disk.{MoreFaults}
+use Rattle.sqlite_value.specs.Order.{Row}
+use Rattle.sqlite_value.specs.Keys.{plain}
+use Rattle.sqlite_trees.specs.Tree.{Trees}
+use Rattle.sqlite_trees.specs.View.{View, IsClean, HasCause, Tells, doubt}
+use Rattle.sqlite_trees.specs.declared.store.Store.{Ghosts}
+use Rattle.sqlite_trees.specs.declared.store.Shape.TheVariants as shape
+use Rattle.sqlite_trees.specs.declared.error.StoreError.{StoreError}
+use Rattle.sqlite_trees.specs.declared.error.StoreError.TheVariants as stored
+use Rattle.ipld_tree.specs.Cid.{CidParts, cid_bytes}
+use Rattle.dagcbor_car.specs.Names.{IsBySha256, block_name}
+use Rattle.dagcbor_car.specs.Car.{Section}
+use Rattle.dagcbor_car.specs.Splits.{HasBlock}
+use Rattle.dagcbor_car.specs.Verdicts.{IsVerdict}
+use Rattle.dagcbor_car.specs.declared.verdict.Verdict.TheVariants as verdict
+use Rattle.dagcbor_car.specs.Sets.{Among}
+use Rattle.dagcbor_store.specs.Rows.{block_tree, name_tree, name_entry, IsStored, IsListed, AreNameEntries, FreesId, IsTooLong}
+use Rattle.std.specs.declared.alloc.Global.{Global}
+use Rattle.dagcbor_store.specs.declared.entries.Added.{Added}
+use Rattle.dagcbor_store.specs.declared.entries.Added.TheVariants.{New, Listed, NoNumber}
+use Rattle.dagcbor_store.specs.declared.entries.Found.{Found}
+use Rattle.dagcbor_store.specs.declared.entries.Found.TheVariants.{Nothing, NoRow, Block}
+use Rattle.dagcbor_store.specs.declared.error.StoreRefusal.{StoreRefusal}
+use Rattle.dagcbor_store.specs.declared.error.StoreRefusal.TheVariants as refusal
+
+-- no name has two entries
+abbrev pub IsKeyed : List Row → Type 0
+IsKeyed entries = AreNameEntries entries
+    × ((name : List ℕ) (i j : ℤ) → Among (name_entry name i) entries → Among (name_entry name j) entries → i ≡ j)
+
+-- the two trees are there, and no name is listed twice, as the transaction sees them and as the last commit left them
+pub record IsReady (v : View) : Type 0 where
+  pub blocks : v.shape block_tree ≡ shape.Table
+  pub names : v.shape name_tree ≡ shape.Index plain
+  pub lasting : v.shape ≡ v.committed_shape
+  pub unbroken : IsTrue v.is_open → v.is_broken ≡ false
+  pub keyed : IsTrue v.is_open → IsKeyed (v.trees name_tree)
+  pub committed : IsTrue v.is_open → IsKeyed (v.committed name_tree)
+
+-- a block is stored under its name
+abbrev pub Holds : View → CidParts → List ℕ → Type 0
+Holds v name b = IsStored v.trees (cid_bytes name) b
+
+-- something is listed under the name, be it a block or not
+abbrev pub Lists : View → CidParts → Type 0
+Lists v name = IsListed (v.trees name_tree) (cid_bytes name)
+
+-- the bytes are those that the name names
+abbrev pub IsNamed : CidParts → List ℕ → Type 0
+IsNamed name b = IsBySha256 name × (name.digest ≡ sha256 b)
+
+-- neither what the transaction sees has changed, nor what was committed
+pub record IsSame (old new : View) : Type 0 where
+  pub trees : new.trees ≡ old.trees
+  pub committed : new.committed ≡ old.committed
+  pub is_open : new.is_open ≡ old.is_open
+
+-- what was not committed is undone, unless the store is shut
+pub record IsUndone (old new : View) : Type 0 where
+  pub was_open : IsTrue new.is_open → IsTrue old.is_open
+  pub trees : IsTrue new.is_open → new.trees ≡ old.committed
+  pub committed : IsTrue new.is_open → new.committed ≡ old.committed
+
+-- ---- refusals
+
+-- want of memory, and a row that is too long, are told as such, and each other failure as the store's
+abbrev pub TellsOfStore : StoreError → StoreRefusal → Type 0
+TellsOfStore stored.OutOfMemory told = told ≡ refusal.OutOfMemory
+TellsOfStore stored.Unstorable told = told ≡ refusal.TooLong
+TellsOfStore e told = told ≡ refusal.Disk e
+
+-- The store failed, by the cause that it named, and what was not committed is undone.
+abbrev pub Fails : {S : Type 0} → Ghosts S → Type 0 → S → S → StoreRefusal → Type 0
+Fails g too_long old new told = (e : StoreError) × TellsOfStore e told × Tells (g.blamed new) e
+    × (IsClean (g.view new) → HasCause (g.view old) (MoreFaults (g.faults old) (g.faults new)) too_long e × IsUndone (g.view old) (g.view new))
+
+-- ---- getting
+
+-- none where nothing is listed under the name, else the bytes that are stored under it
+abbrev pub GetsSome : View → CidParts → Option (List ℕ) → Type 0
+GetsSome v name None = Lists v name → ⊥
+GetsSome v name (Some b) = Holds v name b
+
+-- the name is listed, and no bytes that it names are stored under it
+abbrev pub IsDamaged : View → CidParts → Type 0
+IsDamaged v name = Lists v name × ((b : List ℕ) → Holds v name b → IsNamed name b → ⊥)
+
+abbrev pub GetRefused : {S : Type 0} → Ghosts S → CidParts → S → S → StoreRefusal → Type 0
+GetRefused g name old new (refusal.Damaged n) = (n ≡ name) × (IsClean (g.view new) → IsDamaged (g.view old) name × IsSame (g.view old) (g.view new))
+GetRefused g name old new told = Fails g ⊥ old new told
+
+-- what was found is answered where it is what the name names
+abbrev pub IsVerified : CidParts → Found → Result (Option (Vec ℕ Global)) StoreRefusal → Type 0
+IsVerified name Nothing r = r ≡ Ok None
+IsVerified name NoRow r = r ≡ Err (refusal.Damaged name)
+IsVerified name (Block v) r = ((r ≡ Ok (Some v)) × IsNamed name v.items) ⊎ ((r ≡ Err (refusal.Damaged name)) × (IsNamed name v.items → ⊥))
+
+-- a block was refused only for want of a number
+abbrev pub IsToldAdded : Added → Result (Unit {0}) StoreRefusal → Type 0
+IsToldAdded New r = r ≡ Ok tt
+IsToldAdded Listed r = r ≡ Ok tt
+IsToldAdded NoNumber r = r ≡ Err refusal.NoNumber
+
+-- ---- committing
+
+-- what the transaction saw is committed
+pub record IsCommitted (old new : View) : Type 0 where
+  pub was_open : IsTrue old.is_open
+  pub trees : new.trees ≡ old.trees
+  pub committed : new.committed ≡ old.trees
+  pub is_open : IsTrue new.is_open
+
+-- no fault is forgotten, and only a fault shuts the store
+pub record IsKeptBy {S : Type 0} (g : Ghosts S) (old new : S) : Type 0 where
+  pub shield : g.is_shielded old → g.is_shielded new
+  pub clean : doubt (g.view old).is_clean ≤ doubt (g.view new).is_clean
+  pub counts : g.faults old ≤ g.faults new
+  pub closes : IsClean (g.view new) → IsTrue (g.view old).is_open → IsTrue (g.view new).is_open ⊎ MoreFaults (g.faults old) (g.faults new)
+
+-- ---- putting and taking out
+
+-- the bytes are a block of DAG-CBOR that is read within 256 steps, and the name is theirs
+abbrev pub IsNamedBlock : Section → Type 0
+IsNamedBlock s = HasBlock s.1 × (s.0 ≡ block_name s.1)
+
+-- why bytes are no block under the name
+abbrev pub IsUnfit : Section → StoreRefusal → Type 0
+IsUnfit s refusal.OtherHash = ¬ IsBySha256 s.0
+IsUnfit s refusal.OtherBytes = IsBySha256 s.0 × IsVerdict s verdict.OtherBytes
+IsUnfit s refusal.OtherCodec = IsBySha256 s.0 × IsVerdict s verdict.NotRead
+IsUnfit s (refusal.NoBlock e) = IsBySha256 s.0 × IsVerdict s (verdict.Refused e)
+IsUnfit s _ = ⊥
+
+-- what is stored is what was stored, and the block under its name, where nothing was listed under it
+pub record HoldsAlso (old new : Trees) (name b : List ℕ) : Type 0 where
+  pub unlisted : IsListed (old name_tree) name → ⊥
+  pub holds : (q d : List ℕ) → IsStored new q d ↔ (((q ≡ name) × (d ≡ b)) ⊎ IsStored old q d)
+
+-- the block is stored too, or nothing is changed where its name is listed
+abbrev pub IsAddedTo : Trees → Trees → CidParts → List ℕ → Type 0
+IsAddedTo old new name b = HoldsAlso old new (cid_bytes name) b ⊎ (IsListed (old name_tree) (cid_bytes name) × (new ≡ old))
+
+-- the same, and what was committed stands
+pub record IsAdded (old new : View) (name : CidParts) (b : List ℕ) : Type 0 where
+  pub trees : IsAddedTo old.trees new.trees name b
+  pub committed : new.committed ≡ old.committed
+  pub was_open : IsTrue old.is_open
+  pub is_open : IsTrue new.is_open
+  pub sound : new.is_broken ≡ false
+
+-- the same, and all of it is committed
+pub record IsPut (old new : View) (name : CidParts) (b : List ℕ) : Type 0 where
+  pub trees : IsAddedTo old.trees new.trees name b
+  pub committed : new.committed ≡ new.trees
+  pub is_open : IsTrue new.is_open
+
+-- what is stored is what was stored under the other names; nothing is changed where the name is not listed
+pub record IsTaken (old new : View) (name : CidParts) (taken : Bool) : Type 0 where
+  pub was : IsTrue taken ↔ Lists old name
+  pub gone : Lists new name → ⊥
+  pub holds : (q d : List ℕ) → IsStored new.trees q d ↔ (IsStored old.trees q d × (q ≢ cid_bytes name))
+  pub committed : new.committed ≡ old.committed
+  pub is_open : IsTrue new.is_open
+
+-- The bytes are no block under the name, and nothing is changed; a row has the greatest number; or the store failed.
+abbrev pub PutRefused : {S : Type 0} → Ghosts S → Section → S → S → StoreRefusal → Type 0
+PutRefused g s old new refusal.NoNumber = IsClean (g.view new) → FreesId ((g.view old).trees block_tree) None × IsSame (g.view old) (g.view new)
+PutRefused g s old new told = (IsUnfit s told × (new ≡ old)) ⊎ Fails g (IsTooLong (g.view old).reals (cid_bytes s.0) s.1) old new told

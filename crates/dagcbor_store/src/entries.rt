@@ -1,0 +1,330 @@
+//! The rows of the two trees: blocks by their numbers, and numbers by the names of blocks.
+
+ghost use Rattle.std.specs.Prelude.{◌≡◌, ◌≢◌, ◌↔◌, ◌∷◌, [], false, IsTrue, MatchOption, option_map, pos, ◌+ℤ◌, IfOk, IfErr, IfSome, OnOk, OnErr};
+ghost use Rattle.sqlite_disk.specs.Disk.{MoreFaults};
+ghost use Rattle.sqlite_value.specs.declared.value.Value.TheVariants.{Int, Blob};
+ghost use Rattle.sqlite_value.specs.Value.{owned};
+ghost use Rattle.sqlite_value.specs.Order.{column};
+ghost use Rattle.sqlite_value.specs.Keys.{plain};
+ghost use Rattle.sqlite_trees.specs.declared.store.Shape.TheVariants as shape;
+ghost use Rattle.sqlite_trees.specs.View.{IsClean, IsStorable, OnlyWrites, SetsTree, KeepsSchema, KeepsCommitted, HasCause, IsQuiet, Tells};
+ghost use Rattle.sqlite_trees.specs.Tree.{put_row, insert_entry, remove_entry};
+ghost use Rattle.sqlite_exec.specs.Calls.{OnlyReads};
+ghost use Rattle.dagcbor_store.specs.Rows.{block_tree, name_tree, block_row, name_entry, IsOther, FindsName, FreesId, last_id, ReadsRow, Gets, Adds, IsTooLong, Takes, TakesRow};
+
+use sqlite_exec::write::last;
+use sqlite_trees::error::StoreError;
+use sqlite_trees::store::{Direction, Store};
+use sqlite_value::row::Row;
+use sqlite_value::value::ValueRef;
+use std::alloc::{AllocError, Global};
+
+/// What the index and the table have of a name.
+#[derive(Debug, Drop)]
+pub(crate) enum Found {
+    Nothing,
+    /// The entry leads to no row of the name.
+    NoRow,
+    Block(Vec<u8>),
+}
+
+/// The tree of the table `block`.
+pub(crate) const BLOCKS: u32 = 0;
+
+/// The tree of its index by names.
+pub(crate) const NAMES: u32 = 1;
+
+pub(crate) const CURSOR: u16 = 0;
+
+/// What came of a block that was to be kept.
+#[derive(Clone, Copy, Debug, PartialEq, Eq)]
+pub(crate) enum Added {
+    New,
+    Listed,
+    /// A row has the greatest number.
+    NoNumber,
+}
+
+/// The integer that the value is.
+fn integer(value: ValueRef<'_>) -> Option<i64>
+    ensures { MatchOption result ((id : _) → owned value.entry ≢ Int id) (λ id. owned value.entry ≡ Int id) }
+{
+    match value {
+        ValueRef::Int(id) => Some(id),
+        _ => None,
+    }
+}
+
+/// Whether the value is these bytes.
+fn is_blob(value: ValueRef<'_>, bytes: &[u8]) -> bool
+    ensures { IsTrue result ↔ (owned value.entry ≡ Blob bytes.now) }
+{
+    match value {
+        ValueRef::Blob(found) => found == bytes,
+        _ => false,
+    }
+}
+
+/// The number in an entry of the index, where the entry is of this name.
+#[tactic(auto, using(crate::proofs::Finding::two_columns, crate::proofs::Finding::no_entry))]
+fn number_in(entry: &Row, name: &[u8]) -> Option<i64>
+    ensures { MatchOption result (IsOther name.now (entry.now ∷ [])) (λ id. entry.now ≡ name_entry name.now id) }
+{
+    if entry.len() == 2 && is_blob(entry.get(0), name) {
+        integer(entry.get(1))
+    } else {
+        None
+    }
+}
+
+/// The number of the row that has the name.
+pub(crate) fn find<S: Store>(
+    store: &mut S,
+    row: &mut Row,
+    name: &[u8],
+) -> Result<Option<i64>, StoreError>
+    requires names { IsClean (S.Store.view store.old) → (S.Store.view store.old).shape name_tree ≡ shape.Index plain }
+    ensures ok { IfOk result (λ o. IsClean (S.Store.view store.new) → FindsName ((S.Store.view store.old).trees name_tree) name.now o) }
+    ensures same { OnOk result (IsClean (S.Store.view store.new) → OnlyReads (S.Store.view store.old) (S.Store.view store.new)) }
+    ensures sound { OnOk result (IsClean (S.Store.view store.new) → (S.Store.view store.old).is_broken ≡ false) }
+    ensures told { IfErr result (Tells (S.Store.blamed store.new)) }
+    ensures err { IsClean (S.Store.view store.new) → OnErr result (KeepsCommitted (S.Store.view store.old) (S.Store.view store.new)) }
+    ensures cause { IsClean (S.Store.view store.new) → IfErr result (HasCause (S.Store.view store.old) (MoreFaults (S.Store.faults store.old) (S.Store.faults store.new)) ⊥) }
+    ensures schema { KeepsSchema (S.Store.view store.old) (S.Store.view store.new) }
+    ensures quiet { IsQuiet S.Store.view S.Store.faults S.Store.recovers S.Store.is_shielded store.old store.new }
+{
+    row.clear();
+    row.push(ValueRef::Blob(name))?;
+    store.seek(CURSOR, NAMES, row, Direction::Forward)?;
+    if store.next(CURSOR, row)? {
+        Ok(number_in(row, name))
+    } else {
+        Ok(None)
+    }
+}
+
+/// A number that no row has, above each that one has. None where a row has the greatest number.
+fn free_number<S: Store>(store: &mut S, row: &mut Row) -> Result<Option<i64>, StoreError>
+    requires blocks { IsClean (S.Store.view store.old) → (S.Store.view store.old).shape block_tree ≡ shape.Table }
+    ensures ok { IfOk result (λ o. IsClean (S.Store.view store.new) → FreesId ((S.Store.view store.old).trees block_tree) o) }
+    ensures same { OnOk result (IsClean (S.Store.view store.new) → OnlyReads (S.Store.view store.old) (S.Store.view store.new)) }
+    ensures sound { OnOk result (IsClean (S.Store.view store.new) → (S.Store.view store.old).is_broken ≡ false) }
+    ensures told { IfErr result (Tells (S.Store.blamed store.new)) }
+    ensures err { IsClean (S.Store.view store.new) → OnErr result (KeepsCommitted (S.Store.view store.old) (S.Store.view store.new)) }
+    ensures cause { IsClean (S.Store.view store.new) → IfErr result (HasCause (S.Store.view store.old) (MoreFaults (S.Store.faults store.old) (S.Store.faults store.new)) ⊥) }
+    ensures schema { KeepsSchema (S.Store.view store.old) (S.Store.view store.new) }
+    ensures quiet { IsQuiet S.Store.view S.Store.faults S.Store.recovers S.Store.is_shielded store.old store.new }
+{
+    if last(store, BLOCKS, row)? {
+        Ok(number_above(row.get(0)))
+    } else {
+        Ok(Some(1))
+    }
+}
+
+/// The next number. None behind the greatest, and behind what is no number.
+fn number_above(value: ValueRef<'_>) -> Option<i64>
+    ensures { MatchOption result ((id : _) → owned value.entry ≡ Int id → id ≡ last_id)
+        (λ n. (id : _) × (owned value.entry ≡ Int id) × (n ≡ id +ℤ pos 1)) }
+{
+    integer(value)?.checked_add(1)
+}
+
+/// What is kept under the name.
+pub(crate) fn get<S: Store>(
+    alloc: Global,
+    store: &mut S,
+    row: &mut Row,
+    name: &[u8],
+) -> Result<Found, StoreError>
+    requires names { IsClean (S.Store.view store.old) → (S.Store.view store.old).shape name_tree ≡ shape.Index plain }
+    requires blocks { IsClean (S.Store.view store.old) → (S.Store.view store.old).shape block_tree ≡ shape.Table }
+    ensures ok { IfOk result (λ found. IsClean (S.Store.view store.new) → Gets (S.Store.view store.old).trees name.now found) }
+    ensures same { OnOk result (IsClean (S.Store.view store.new) → OnlyReads (S.Store.view store.old) (S.Store.view store.new)) }
+    ensures sound { OnOk result (IsClean (S.Store.view store.new) → (S.Store.view store.old).is_broken ≡ false) }
+    ensures told { IfErr result (Tells (S.Store.blamed store.new)) }
+    ensures err { IsClean (S.Store.view store.new) → OnErr result (KeepsCommitted (S.Store.view store.old) (S.Store.view store.new)) }
+    ensures cause { IsClean (S.Store.view store.new) → IfErr result (HasCause (S.Store.view store.old) (MoreFaults (S.Store.faults store.old) (S.Store.faults store.new)) ⊥) }
+    ensures schema { KeepsSchema (S.Store.view store.old) (S.Store.view store.new) }
+    ensures quiet { IsQuiet S.Store.view S.Store.faults S.Store.recovers S.Store.is_shielded store.old store.new }
+{
+    let Some(id) = find(store, row, name)? else {
+        return Ok(Found::Nothing);
+    };
+    match read(alloc, store, row, id, name)? {
+        Some(bytes) => Ok(Found::Block(bytes)),
+        None => Ok(Found::NoRow),
+    }
+}
+
+/// The bytes in the row with the number. None where there is no such row of the name.
+fn read<S: Store>(
+    alloc: Global,
+    store: &mut S,
+    row: &mut Row,
+    id: i64,
+    name: &[u8],
+) -> Result<Option<Vec<u8>>, StoreError>
+    requires blocks { IsClean (S.Store.view store.old) → (S.Store.view store.old).shape block_tree ≡ shape.Table }
+    ensures ok { IfOk result (λ o. IsClean (S.Store.view store.new) → ReadsRow ((S.Store.view store.old).trees block_tree) id name.now (option_map (λ v. v.items) o)) }
+    ensures same { OnOk result (IsClean (S.Store.view store.new) → OnlyReads (S.Store.view store.old) (S.Store.view store.new)) }
+    ensures sound { OnOk result (IsClean (S.Store.view store.new) → (S.Store.view store.old).is_broken ≡ false) }
+    ensures told { IfErr result (Tells (S.Store.blamed store.new)) }
+    ensures err { IsClean (S.Store.view store.new) → OnErr result (KeepsCommitted (S.Store.view store.old) (S.Store.view store.new)) }
+    ensures cause { IsClean (S.Store.view store.new) → IfErr result (HasCause (S.Store.view store.old) (MoreFaults (S.Store.faults store.old) (S.Store.faults store.new)) ⊥) }
+    ensures schema { KeepsSchema (S.Store.view store.old) (S.Store.view store.new) }
+    ensures quiet { IsQuiet S.Store.view S.Store.faults S.Store.recovers S.Store.is_shielded store.old store.new }
+{
+    if store.get(BLOCKS, id, row)? {
+        Ok(bytes_in(alloc, row, name)?)
+    } else {
+        Ok(None)
+    }
+}
+
+/// The bytes in a row of the name.
+fn bytes_in(alloc: Global, row: &Row, name: &[u8]) -> Result<Option<Vec<u8>>, AllocError>
+    ensures { IfOk result (λ o. MatchOption o ((id : _) (b : _) → row.now ≢ block_row id name.now b)
+        (λ v. row.now ≡ column row.now 0 ∷ Blob name.now ∷ Blob v.items ∷ [])) }
+{
+    if row.len() != 3 || !is_blob(row.get(1), name) {
+        return Ok(None);
+    }
+    match row.get(2) {
+        ValueRef::Blob(bytes) => Ok(Some(bytes.to_vec(alloc)?)),
+        _ => Ok(None),
+    }
+}
+
+/// Keeps the bytes in a row of their own, and lists the name.
+pub(crate) fn add<S: Store>(
+    store: &mut S,
+    row: &mut Row,
+    name: &[u8],
+    bytes: &[u8],
+) -> Result<Added, StoreError>
+    requires blocks { IsClean (S.Store.view store.old) → (S.Store.view store.old).shape block_tree ≡ shape.Table }
+    requires names { IsClean (S.Store.view store.old) → (S.Store.view store.old).shape name_tree ≡ shape.Index plain }
+    ensures ok { IfOk result (λ added. IsClean (S.Store.view store.new) → Adds (S.Store.view store.old).trees (S.Store.view store.new).trees name.now bytes.now added) }
+    ensures frame { OnOk result (IsClean (S.Store.view store.new) → OnlyWrites (S.Store.view store.old) (S.Store.view store.new)) }
+    ensures sound { OnOk result (IsClean (S.Store.view store.new) → (S.Store.view store.old).is_broken ≡ false) }
+    ensures told { IfErr result (Tells (S.Store.blamed store.new)) }
+    ensures err { IsClean (S.Store.view store.new) → OnErr result (KeepsCommitted (S.Store.view store.old) (S.Store.view store.new)) }
+    ensures cause { IsClean (S.Store.view store.new) → IfErr result (HasCause (S.Store.view store.old) (MoreFaults (S.Store.faults store.old) (S.Store.faults store.new)) (IsTooLong (S.Store.view store.old).reals name.now bytes.now)) }
+    ensures schema { KeepsSchema (S.Store.view store.old) (S.Store.view store.new) }
+    ensures quiet { IsQuiet S.Store.view S.Store.faults S.Store.recovers S.Store.is_shielded store.old store.new }
+{
+    if find(store, row, name)?.is_some() {
+        return Ok(Added::Listed);
+    }
+    let Some(id) = free_number(store, row)? else {
+        return Ok(Added::NoNumber);
+    };
+    put(store, row, id, name, bytes)?;
+    Ok(Added::New)
+}
+
+/// Writes the row with this number, and its entry.
+fn put<S: Store>(
+    store: &mut S,
+    row: &mut Row,
+    id: i64,
+    name: &[u8],
+    bytes: &[u8],
+) -> Result<(), StoreError>
+    requires blocks { IsClean (S.Store.view store.old) → (S.Store.view store.old).shape block_tree ≡ shape.Table }
+    requires names { IsClean (S.Store.view store.old) → (S.Store.view store.old).shape name_tree ≡ shape.Index plain }
+    ensures row { OnOk result (IsClean (S.Store.view store.new) → (S.Store.view store.new).trees block_tree ≡ put_row (block_row id name.now bytes.now) ((S.Store.view store.old).trees block_tree)) }
+    ensures entry { OnOk result (IsClean (S.Store.view store.new) → (S.Store.view store.new).trees name_tree ≡ insert_entry plain (name_entry name.now id) ((S.Store.view store.old).trees name_tree)) }
+    ensures frame { OnOk result (IsClean (S.Store.view store.new) → OnlyWrites (S.Store.view store.old) (S.Store.view store.new)) }
+    ensures sound { OnOk result (IsClean (S.Store.view store.new) → (S.Store.view store.old).is_broken ≡ false) }
+    ensures told { IfErr result (Tells (S.Store.blamed store.new)) }
+    ensures err { IsClean (S.Store.view store.new) → OnErr result (KeepsCommitted (S.Store.view store.old) (S.Store.view store.new)) }
+    ensures cause { IsClean (S.Store.view store.new) → IfErr result (HasCause (S.Store.view store.old) (MoreFaults (S.Store.faults store.old) (S.Store.faults store.new)) (IsTooLong (S.Store.view store.old).reals name.now bytes.now)) }
+    ensures schema { KeepsSchema (S.Store.view store.old) (S.Store.view store.new) }
+    ensures quiet { IsQuiet S.Store.view S.Store.faults S.Store.recovers S.Store.is_shielded store.old store.new }
+{
+    row.clear();
+    row.push(ValueRef::Int(id))?;
+    row.push(ValueRef::Blob(name))?;
+    row.push(ValueRef::Blob(bytes))?;
+    store.put(BLOCKS, row)?;
+    list(store, row, id, name)
+}
+
+/// Writes the entry of the name.
+fn list<S: Store>(store: &mut S, row: &mut Row, id: i64, name: &[u8]) -> Result<(), StoreError>
+    requires names { IsClean (S.Store.view store.old) → (S.Store.view store.old).shape name_tree ≡ shape.Index plain }
+    ensures ok { OnOk result (IsClean (S.Store.view store.new) → SetsTree (S.Store.view store.old) (S.Store.view store.new) name_tree (insert_entry plain (name_entry name.now id))) }
+    ensures frame { OnOk result (IsClean (S.Store.view store.new) → OnlyWrites (S.Store.view store.old) (S.Store.view store.new)) }
+    ensures sound { OnOk result (IsClean (S.Store.view store.new) → (S.Store.view store.old).is_broken ≡ false) }
+    ensures told { IfErr result (Tells (S.Store.blamed store.new)) }
+    ensures err { IsClean (S.Store.view store.new) → OnErr result (KeepsCommitted (S.Store.view store.old) (S.Store.view store.new)) }
+    ensures cause { IsClean (S.Store.view store.new) → IfErr result (HasCause (S.Store.view store.old) (MoreFaults (S.Store.faults store.old) (S.Store.faults store.new)) (¬ IsStorable ((S.Store.view store.old).reals name_tree) (name_entry name.now id))) }
+    ensures schema { KeepsSchema (S.Store.view store.old) (S.Store.view store.new) }
+    ensures quiet { IsQuiet S.Store.view S.Store.faults S.Store.recovers S.Store.is_shielded store.old store.new }
+{
+    row.clear();
+    row.push(ValueRef::Blob(name))?;
+    row.push(ValueRef::Int(id))?;
+    store.insert(NAMES, row)
+}
+
+/// Takes the name out of the index, and its row out of the table where that is of the name.
+pub(crate) fn take<S: Store>(store: &mut S, row: &mut Row, name: &[u8]) -> Result<bool, StoreError>
+    requires blocks { IsClean (S.Store.view store.old) → (S.Store.view store.old).shape block_tree ≡ shape.Table }
+    requires names { IsClean (S.Store.view store.old) → (S.Store.view store.old).shape name_tree ≡ shape.Index plain }
+    ensures ok { IfOk result (λ taken. IsClean (S.Store.view store.new) → Takes (S.Store.view store.old).trees (S.Store.view store.new).trees name.now taken) }
+    ensures frame { OnOk result (IsClean (S.Store.view store.new) → OnlyWrites (S.Store.view store.old) (S.Store.view store.new)) }
+    ensures sound { OnOk result (IsClean (S.Store.view store.new) → (S.Store.view store.old).is_broken ≡ false) }
+    ensures told { IfErr result (Tells (S.Store.blamed store.new)) }
+    ensures err { IsClean (S.Store.view store.new) → OnErr result (KeepsCommitted (S.Store.view store.old) (S.Store.view store.new)) }
+    ensures cause { IsClean (S.Store.view store.new) → IfErr result (HasCause (S.Store.view store.old) (MoreFaults (S.Store.faults store.old) (S.Store.faults store.new)) ⊥) }
+    ensures schema { KeepsSchema (S.Store.view store.old) (S.Store.view store.new) }
+    ensures quiet { IsQuiet S.Store.view S.Store.faults S.Store.recovers S.Store.is_shielded store.old store.new }
+{
+    let Some(id) = find(store, row, name)? else {
+        return Ok(false);
+    };
+    take_row(store, row, id, name)?;
+    unlist(store, row, id, name)?;
+    Ok(true)
+}
+
+/// Takes the row with the number out, where it is of the name.
+fn take_row<S: Store>(store: &mut S, row: &mut Row, id: i64, name: &[u8]) -> Result<(), StoreError>
+    requires blocks { IsClean (S.Store.view store.old) → (S.Store.view store.old).shape block_tree ≡ shape.Table }
+    ensures ok { OnOk result (IsClean (S.Store.view store.new) → TakesRow (S.Store.view store.old).trees (S.Store.view store.new).trees id name.now) }
+    ensures frame { OnOk result (IsClean (S.Store.view store.new) → OnlyWrites (S.Store.view store.old) (S.Store.view store.new)) }
+    ensures sound { OnOk result (IsClean (S.Store.view store.new) → (S.Store.view store.old).is_broken ≡ false) }
+    ensures told { IfErr result (Tells (S.Store.blamed store.new)) }
+    ensures err { IsClean (S.Store.view store.new) → OnErr result (KeepsCommitted (S.Store.view store.old) (S.Store.view store.new)) }
+    ensures cause { IsClean (S.Store.view store.new) → IfErr result (HasCause (S.Store.view store.old) (MoreFaults (S.Store.faults store.old) (S.Store.faults store.new)) ⊥) }
+    ensures schema { KeepsSchema (S.Store.view store.old) (S.Store.view store.new) }
+    ensures quiet { IsQuiet S.Store.view S.Store.faults S.Store.recovers S.Store.is_shielded store.old store.new }
+{
+    let found = store.get(BLOCKS, id, row)?;
+    if found && is_blob(row.get(1), name) {
+        store.delete(BLOCKS, id)
+    } else {
+        Ok(())
+    }
+}
+
+/// Takes the entry of the name out of the index.
+fn unlist<S: Store>(store: &mut S, row: &mut Row, id: i64, name: &[u8]) -> Result<(), StoreError>
+    requires names { IsClean (S.Store.view store.old) → (S.Store.view store.old).shape name_tree ≡ shape.Index plain }
+    ensures ok { OnOk result (IsClean (S.Store.view store.new) → SetsTree (S.Store.view store.old) (S.Store.view store.new) name_tree (remove_entry plain (name_entry name.now id))) }
+    ensures frame { OnOk result (IsClean (S.Store.view store.new) → OnlyWrites (S.Store.view store.old) (S.Store.view store.new)) }
+    ensures sound { OnOk result (IsClean (S.Store.view store.new) → (S.Store.view store.old).is_broken ≡ false) }
+    ensures told { IfErr result (Tells (S.Store.blamed store.new)) }
+    ensures err { IsClean (S.Store.view store.new) → OnErr result (KeepsCommitted (S.Store.view store.old) (S.Store.view store.new)) }
+    ensures cause { IsClean (S.Store.view store.new) → IfErr result (HasCause (S.Store.view store.old) (MoreFaults (S.Store.faults store.old) (S.Store.faults store.new)) ⊥) }
+    ensures schema { KeepsSchema (S.Store.view store.old) (S.Store.view store.new) }
+    ensures quiet { IsQuiet S.Store.view S.Store.faults S.Store.recovers S.Store.is_shielded store.old store.new }
+{
+    row.clear();
+    row.push(ValueRef::Blob(name))?;
+    row.push(ValueRef::Int(id))?;
+    store.remove(NAMES, row)
+}

@@ -1,0 +1,225 @@
+//! The store, and its calls on single blocks.
+
+ghost use Rattle.std.specs.Prelude.{◌≡◌, ◌↔◌, ◌⊎◌, IsTrue, MatchResult, IfOk, IfErr, IfSome, OnOk, option_map, length};
+ghost use Rattle.dagcbor_store.specs.Rows.{name_tree};
+ghost use Rattle.sqlite_trees.specs.View.{IsClean, IsQuiet, IsRolledBack};
+ghost use Rattle.dagcbor_store.specs.Stored.{IsReady, Lists, IsSame, IsUndone, IsNamed, GetsSome, GetRefused, Fails, TellsOfStore, IsCommitted, IsKeptBy, IsNamedBlock, IsUnfit, IsAdded, IsAddedTo, IsPut, IsTaken, PutRefused, IsVerified, IsToldAdded};
+
+use crate::entries::{self, Added, Found};
+use crate::error::StoreRefusal;
+use crate::survey::survey;
+use arrayvec::ArrayVec;
+use dagcbor_car::{SHA2_256, Verdict, verify};
+use ipld_tree::Cid;
+use sha2::{Digest, Sha256};
+use sqlite_trees::error::StoreError;
+use sqlite_trees::store::Store;
+use sqlite_value::row::Row;
+use std::alloc::Global;
+use std::marker::Model;
+
+/// Blocks in a database, each under its name. What a contract sees of it is the database.
+#[derive(Drop)]
+pub struct BlockStore<S: Store> {
+    alloc: Global,
+    store: S,
+    row: Row,
+}
+
+impl<S: Store> Model for BlockStore<S> {
+    ghost use Rattle.sqlite_trees.specs.View.{IsClean};
+    ghost use Rattle.dagcbor_store.specs.Stored.{IsReady};
+
+    ghost Value = { S };
+
+    ghost coded = { S.code };
+
+    ghost view = { λ b. b.store };
+
+    ghost invariant = { λ b. IsClean (S.Store.view b.store) → IsReady (S.Store.view b.store) };
+}
+
+/// Undoes what is not committed, and tells the failure.
+fn undo<S: Store>(store: &mut S, error: StoreError) -> StoreRefusal
+    ensures told { TellsOfStore error result }
+    ensures undone { IsRolledBack (S.Store.view store.old) (S.Store.view store.new) }
+    ensures blame { S.Store.blamed store.new ≡ S.Store.blamed store.old }
+    ensures quiet { IsQuiet S.Store.view S.Store.faults S.Store.recovers S.Store.is_shielded store.old store.new }
+{
+    store.rollback();
+    StoreRefusal::of_store(error)
+}
+
+impl<S: Store> BlockStore<S> {
+    pub(crate) fn of(alloc: Global, store: S, row: Row) -> BlockStore<S>
+        requires { IsClean (S.Store.view store) → IsReady (S.Store.view store) }
+        ensures { result ≡ store }
+    {
+        BlockStore { alloc, store, row }
+    }
+
+    /// How many names are listed. It walks over the index.
+    pub fn len(&mut self) -> Result<u64, StoreRefusal>
+        ensures ok { IfOk result (λ n. IsClean (S.Store.view self.new) → n ≡ length ((S.Store.view self.old).trees name_tree)) }
+        ensures same { OnOk result (IsClean (S.Store.view self.new) → IsSame (S.Store.view self.old) (S.Store.view self.new)) }
+        ensures refused { IfErr result (Fails S.Store ⊥ self.old self.new) }
+        ensures quiet { IsQuiet S.Store.view S.Store.faults S.Store.recovers S.Store.is_shielded self.old self.new }
+    {
+        match survey(self.alloc, &mut self.store, &mut self.row) {
+            Ok(Some(count)) => Ok(count),
+            Ok(None) => Err(undo(&mut self.store, StoreError::Broken)),
+            Err(error) => Err(undo(&mut self.store, error)),
+        }
+    }
+
+    /// Whether something is listed under the name. It may be damaged: `get_block` tells.
+    pub fn contains(&mut self, name: &Cid) -> Result<bool, StoreRefusal>
+        ensures found { IfOk result (λ found. IsClean (S.Store.view self.new) → (IsTrue found ↔ Lists (S.Store.view self.old) name.now)) }
+        ensures same { OnOk result (IsClean (S.Store.view self.new) → IsSame (S.Store.view self.old) (S.Store.view self.new)) }
+        ensures refused { IfErr result (Fails S.Store ⊥ self.old self.new) }
+        ensures quiet { IsQuiet S.Store.view S.Store.faults S.Store.recovers S.Store.is_shielded self.old self.new }
+    {
+        let mut form = ArrayVec::new();
+        name.write_bytes(&mut form);
+        match entries::find(&mut self.store, &mut self.row, &form) {
+            Ok(found) => Ok(found.is_some()),
+            Err(error) => Err(undo(&mut self.store, error)),
+        }
+    }
+
+    /// The bytes of the block under the name, which are those that the name names, whatever the disk
+    /// gave. None where nothing is listed under it.
+    pub fn get_block(&mut self, name: &Cid) -> Result<Option<Vec<u8>>, StoreRefusal>
+        ensures verified { IfOk result (λ found. IfSome found (λ b. IsNamed name.now b.items)) }
+        ensures found { IfOk result (λ found. IsClean (S.Store.view self.new) → GetsSome (S.Store.view self.old) name.now (option_map (λ b. b.items) found)) }
+        ensures same { OnOk result (IsClean (S.Store.view self.new) → IsSame (S.Store.view self.old) (S.Store.view self.new)) }
+        ensures refused { IfErr result (GetRefused S.Store name.now self.old self.new) }
+        ensures quiet { IsQuiet S.Store.view S.Store.faults S.Store.recovers S.Store.is_shielded self.old self.new }
+    {
+        let mut form = ArrayVec::new();
+        name.write_bytes(&mut form);
+        match entries::get(self.alloc, &mut self.store, &mut self.row, &form) {
+            Ok(found) => verified(name, found),
+            Err(error) => Err(undo(&mut self.store, error)),
+        }
+    }
+
+    /// Makes what was added and removed last. Where it fails, all of it is undone.
+    pub fn commit(&mut self) -> Result<(), StoreRefusal>
+        ensures ok { OnOk result (IsClean (S.Store.view self.new) → IsCommitted (S.Store.view self.old) (S.Store.view self.new)) }
+        ensures refused { IfErr result (Fails S.Store ⊥ self.old self.new) }
+        ensures crash { (db : _) → S.Store.recovers self.new db → (db ≡ (S.Store.view self.old).trees) ⊎ S.Store.recovers self.old db }
+        ensures kept { IsKeptBy S.Store self.old self.new }
+    {
+        match self.store.commit() {
+            Ok(()) => Ok(()),
+            Err(error) => Err(StoreRefusal::of_store(error)),
+        }
+    }
+
+    /// Undoes what is not committed.
+    pub fn rollback(&mut self)
+        ensures undone { IsClean (S.Store.view self.new) → IsUndone (S.Store.view self.old) (S.Store.view self.new) }
+        ensures quiet { IsQuiet S.Store.view S.Store.faults S.Store.recovers S.Store.is_shielded self.old self.new }
+    {
+        self.store.rollback();
+    }
+
+    /// Keeps the block under its name, with what is committed next. Where something is listed under
+    /// the name, nothing is changed.
+    ///
+    /// The block must be DAG-CBOR that is read within 256 steps, and be named by its SHA-256.
+    pub fn add_block(&mut self, name: &Cid, block: &[u8]) -> Result<(), StoreRefusal>
+        ensures ok { OnOk result (IsNamedBlock (name.now, block.now) × (IsClean (S.Store.view self.new) → IsAdded (S.Store.view self.old) (S.Store.view self.new) name.now block.now)) }
+        ensures refused { IfErr result (PutRefused S.Store (name.now, block.now) self.old self.new) }
+        ensures quiet { IsQuiet S.Store.view S.Store.faults S.Store.recovers S.Store.is_shielded self.old self.new }
+    {
+        check_block(name, block)?;
+        let mut form = ArrayVec::new();
+        name.write_bytes(&mut form);
+        match entries::add(&mut self.store, &mut self.row, &form, block) {
+            Ok(added) => told(added),
+            Err(error) => Err(undo(&mut self.store, error)),
+        }
+    }
+
+    /// Keeps the block under its name, and commits it, with whatever waited for a commit. Once this
+    /// answers `Ok` the block is there, also after the power failed.
+    pub fn put_block(&mut self, name: &Cid, block: &[u8]) -> Result<(), StoreRefusal>
+        ensures ok { OnOk result (IsNamedBlock (name.now, block.now) × (IsClean (S.Store.view self.new) → IsPut (S.Store.view self.old) (S.Store.view self.new) name.now block.now)) }
+        ensures refused { IfErr result (PutRefused S.Store (name.now, block.now) self.old self.new) }
+        ensures crash { (db : _) → S.Store.recovers self.new db → S.Store.recovers self.old db ⊎ (IsClean (S.Store.view self.new) → IsAddedTo (S.Store.view self.old).trees db name.now block.now) }
+        ensures kept { IsKeptBy S.Store self.old self.new }
+    {
+        self.add_block(name, block)?;
+        self.commit()
+    }
+
+    /// Takes the block under the name out, with what is committed next, and answers whether one was
+    /// listed. What is damaged is taken out too.
+    pub fn take_block(&mut self, name: &Cid) -> Result<bool, StoreRefusal>
+        ensures ok { IfOk result (λ taken. IsClean (S.Store.view self.new) → IsTaken (S.Store.view self.old) (S.Store.view self.new) name.now taken) }
+        ensures refused { IfErr result (Fails S.Store ⊥ self.old self.new) }
+        ensures quiet { IsQuiet S.Store.view S.Store.faults S.Store.recovers S.Store.is_shielded self.old self.new }
+    {
+        let mut form = ArrayVec::new();
+        name.write_bytes(&mut form);
+        match entries::take(&mut self.store, &mut self.row, &form) {
+            Ok(taken) => Ok(taken),
+            Err(error) => Err(undo(&mut self.store, error)),
+        }
+    }
+}
+
+/// What is told of a block that was to be kept.
+fn told(added: Added) -> Result<(), StoreRefusal>
+    ensures { IsToldAdded added result }
+{
+    match added {
+        Added::New => Ok(()),
+        Added::Listed => Ok(()),
+        Added::NoNumber => Err(StoreRefusal::NoNumber),
+    }
+}
+
+/// Whether the bytes are those that the name names.
+fn is_named(name: &Cid, bytes: &[u8]) -> bool
+    ensures { IsTrue result ↔ IsNamed name.now bytes.now }
+{
+    name.hash_code() == SHA2_256 && name.digest() == Sha256::digest(bytes).as_slice()
+}
+
+/// What was found under the name, where it is what the name names.
+fn verified(name: &Cid, found: Found) -> Result<Option<Vec<u8>>, StoreRefusal>
+    ensures { IsVerified name.now found result }
+{
+    match found {
+        Found::Nothing => Ok(None),
+        Found::NoRow => Err(StoreRefusal::Damaged(*name)),
+        Found::Block(bytes) => {
+            if is_named(name, &bytes) {
+                Ok(Some(bytes))
+            } else {
+                Err(StoreRefusal::Damaged(*name))
+            }
+        }
+    }
+}
+
+/// Whether the bytes are a block under its name.
+fn check_block(name: &Cid, block: &[u8]) -> Result<(), StoreRefusal>
+    ensures { MatchResult result (λ _. IsNamedBlock (name.now, block.now)) (IsUnfit (name.now, block.now)) }
+{
+    // What is known of a CID comes with its version.
+    let _version = name.version();
+    if name.hash_code() != SHA2_256 {
+        return Err(StoreRefusal::OtherHash);
+    }
+    match verify(name, block) {
+        Verdict::Block(_) => Ok(()),
+        Verdict::Refused(error) => Err(StoreRefusal::NoBlock(error)),
+        Verdict::OtherBytes => Err(StoreRefusal::OtherBytes),
+        Verdict::NotRead => Err(StoreRefusal::OtherCodec),
+        Verdict::Unverified => Err(StoreRefusal::OtherHash),
+    }
+}

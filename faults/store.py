@@ -1,0 +1,170 @@
+"""The program `dagstore`: killed at random moments, on a full disk, on a file that may not be written, beside another process.
+
+What was said to be stored must be there, and of what was not, all or nothing. What the file holds is read by SQLite
+(Python's sqlite3) from a copy, and then by the program itself."""
+
+import hashlib
+import os
+import random
+import resource
+import shutil
+import signal
+import sqlite3
+import subprocess
+import tempfile
+import threading
+import time
+
+NOBODY = 65534
+HEADER = b"\xa2\x65roots\x80\x67version\x01"
+
+
+def varint(n):
+    out = b""
+    while n >= 128:
+        out += bytes([128 + n % 128])
+        n //= 128
+    return out + bytes([n])
+
+
+def block_of(draw):
+    """A byte string of a random length, and its CID."""
+    payload = draw.randbytes(draw.choice([1, 40, 300, 1000, 5000]))
+    n = len(payload)
+    head = bytes([0x40 + n]) if n < 24 else b"\x58" + bytes([n]) if n < 256 else b"\x59" + n.to_bytes(2, "big")
+    block = head + payload
+    return b"\x01\x71\x12\x20" + hashlib.sha256(block).digest(), block
+
+
+def car_of(blocks):
+    return varint(len(HEADER)) + HEADER + b"".join(varint(len(c) + len(b)) + c + b for c, b in blocks.items())
+
+
+def rows_of(path):
+    """What SQLite reads in a copy of the files, which it finds whole."""
+    with tempfile.TemporaryDirectory() as at:
+        for end in ("", "-wal"):
+            if os.path.exists(path + end):
+                shutil.copy(path + end, f"{at}/copy{end}")
+        base = sqlite3.connect(f"{at}/copy")
+        assert base.execute("PRAGMA integrity_check").fetchall() == [("ok",)], "integrity_check"
+        has_table = base.execute("SELECT count(*) FROM sqlite_schema WHERE name = 'block'").fetchone()[0]
+        rows = dict(base.execute("SELECT cid, bytes FROM block")) if has_table else {}
+        base.close()
+        return rows
+
+
+def run(program, path, *words, given=b"", **how):
+    return subprocess.run([program, path, *words], input=given, capture_output=True, **how)
+
+
+def crash(program, path, count, seed):
+    """Kills an import at a random moment, so often; answers what was wrong."""
+    draw, kept, wrong, killed = random.Random(seed), {}, [], 0
+    begun = time.monotonic()
+    blocks = dict(block_of(draw) for _ in range(1000))
+    run(program, path + ".first", "import", given=car_of(blocks))
+    longest = time.monotonic() - begun
+    for n in range(count):
+        blocks = dict(block_of(draw) for _ in range(draw.choice([1, 3, 100, 1000])))
+        process = subprocess.Popen([program, path, "import"], stdin=subprocess.PIPE, stdout=subprocess.PIPE, stderr=subprocess.DEVNULL)
+        watch = draw.random() * (0.02 + longest * len(blocks) / 500)
+        timer = threading.Timer(watch, process.kill)
+        timer.start()
+        try:
+            said = process.communicate(car_of(blocks))[0]
+        except BrokenPipeError:
+            said = process.stdout.read()
+            process.wait()
+        timer.cancel()
+        timer.join()
+        killed += process.returncode == -signal.SIGKILL
+        if process.returncode not in (0, -signal.SIGKILL):
+            wrong.append(f"{n}: status {process.returncode}")
+        both = {**kept, **blocks}
+        try:
+            rows = rows_of(path) if os.path.exists(path) else {}
+        except sqlite3.DatabaseError:
+            # A file whose making was cut off is no database yet, and the next open goes on with it.
+            rows = {} if not kept else None
+        if said == b"stored %d\n" % len(blocks) and rows != both:
+            wrong.append(f"{n}: said to be stored, and is not")
+        if rows not in (kept, both):
+            wrong.append(f"{n}: {rows and len(rows)} rows, and {len(kept)} or {len(both)} were committed")
+            rows = kept
+        kept = rows
+        own = run(program, path, "count")
+        if own.stdout != b"holds %d\n" % len(kept):
+            wrong.append(f"{n}: the program says {own.stdout} {own.stderr} of {len(kept)}")
+    return wrong, killed
+
+
+def limits(program, path, draw):
+    """A full disk, a file that may not be written, and a second process."""
+    wrong = []
+    first = dict(block_of(draw) for _ in range(50))
+    if run(program, path, "import", given=car_of(first)).stdout != b"stored 50\n":
+        wrong.append("the first import")
+
+    def full():
+        signal.signal(signal.SIGXFSZ, signal.SIG_IGN)
+        resource.setrlimit(resource.RLIMIT_FSIZE, (1 << 20, 1 << 20))
+
+    many = dict(block_of(draw) for _ in range(3000))
+    ran = run(program, path, "import", given=car_of(many), preexec_fn=full)
+    if (ran.returncode, ran.stdout) != (2, b"") or rows_of(path) != first:
+        wrong.append(f"a full disk: {ran.returncode} {ran.stdout} {ran.stderr} {len(rows_of(path))} rows")
+
+    holder = subprocess.Popen([program, path, "import"], stdin=subprocess.PIPE, stdout=subprocess.DEVNULL)
+    time.sleep(1)
+    ran = run(program, path, "count")
+    if (ran.returncode, ran.stderr) != (2, b"dagstore: another process has the file open\n"):
+        wrong.append(f"a second process: {ran.returncode} {ran.stderr}")
+    holder.kill()
+    holder.communicate()
+
+    before = open(path, "rb").read()
+    os.chmod(path, 0o444)
+    drop = (lambda: (os.setgid(NOBODY), os.setuid(NOBODY))) if os.getuid() == 0 else None
+    ran = run(program, path, "count", preexec_fn=drop)
+    if ran.returncode != 2 or open(path, "rb").read() != before:
+        wrong.append(f"a file that may not be written: {ran.returncode} {ran.stdout} {ran.stderr}")
+    os.chmod(path, 0o644)
+
+    name = next(iter(first))
+    base = sqlite3.connect(path)
+    base.execute("UPDATE block SET bytes = x'00' WHERE cid = ?", (name,))
+    base.commit()
+    base.close()
+    ran = run(program, path, "get", "f" + name.hex())
+    if (ran.returncode, ran.stdout) != (1, b""):
+        wrong.append(f"a block with other bytes: {ran.returncode} {ran.stdout}")
+    return wrong
+
+
+def foreign(program, at):
+    """Files that are none of ours are refused, and left as they are."""
+    wrong = []
+    base = sqlite3.connect(f"{at}/other.db")
+    base.execute("CREATE TABLE note (a)")
+    base.execute("INSERT INTO note VALUES (1)")
+    base.commit()
+    base.close()
+    with open(f"{at}/text", "wb") as file:
+        file.write(b"a text, and no database\n" * 100)
+    for name in ("other.db", "text"):
+        before = open(f"{at}/{name}", "rb").read()
+        ran = run(program, f"{at}/{name}", "count")
+        if ran.returncode != 1 or ran.stdout or open(f"{at}/{name}", "rb").read() != before:
+            wrong.append(f"{name}: {ran.returncode} {ran.stdout} {ran.stderr}")
+    return wrong
+
+
+def check(report, program, count=200, seed=1):
+    """One line for each kind of run."""
+    with tempfile.TemporaryDirectory() as at:
+        os.chmod(at, 0o777)
+        wrong, killed = crash(program, f"{at}/a.db", count, seed)
+        report(f"dagstore: killed at random moments ({killed} in an import)", count, wrong)
+        report("dagstore: a full disk, a second process, a file that may not be written, other bytes", 4, limits(program, f"{at}/b.db", random.Random(seed)))
+        report("dagstore: files that are none of ours", 2, foreign(program, at))

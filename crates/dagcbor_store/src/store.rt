@@ -157,7 +157,7 @@ impl<S: Store> BlockStore<S> {
 
     /// Takes the block under the name out, with what is committed next, and answers whether one was
     /// listed. What is damaged is taken out too.
-    pub fn take_block(&mut self, name: &Cid) -> Result<bool, StoreRefusal>
+    pub fn remove(&mut self, name: &Cid) -> Result<bool, StoreRefusal>
         ensures ok { IfOk result (λ taken. IsClean (S.Store.view self.new) → IsTaken (S.Store.view self.old) (S.Store.view self.new) name.now taken) }
         ensures refused { IfErr result (Fails S.Store ⊥ self.old self.new) }
         ensures quiet { IsQuiet S.Store.view S.Store.faults S.Store.recovers S.Store.is_shielded self.old self.new }

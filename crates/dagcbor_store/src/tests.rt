@@ -30,9 +30,9 @@ fn blocks_last(rt: HostRuntime) -> Result<(), Fail> {
         return Err(Fail::new("no block"));
     };
     assert_eq!(rt; bytes.as_slice(), b"\x17".as_slice());
-    assert!(rt; store.take_block(&name)?);
+    assert!(rt; store.remove(&name)?);
     store.rollback();
-    assert!(rt; store.take_block(&name)?);
+    assert!(rt; store.remove(&name)?);
     store.commit()?;
     assert!(rt; store.get_block(&name)?.is_none());
     fs::remove_dir_all(&rt, "dagcbor_store_test")?;

@@ -5,7 +5,7 @@ use Rattle.dagcbor_store.specs.Rows.{Takes}
 use Rattle.dagcbor_store.specs.Stored.{IsTaken}
 use Rattle.dagcbor_store.proofs.Keeping.{ready_undone, open_of}
 use Rattle.dagcbor_store.proofs.Calls.{ready_written, keyed_taken, is_taken}
-use Rattle.dagcbor_store.proofs.store.BlockStore.take_block.Goals as goal
+use Rattle.dagcbor_store.proofs.store.BlockStore.remove.Goals as goal
 
 pub invariant_of-self : goal.invariant_of-self
 invariant_of-self g c clean =

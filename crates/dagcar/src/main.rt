@@ -1,4 +1,4 @@
-//! The program `dagcar`: judges files of blocks (CAR, version 1), and blocks.
+//! The program `dagcar`: judges files of blocks (CAR, versions 1 and 2), and blocks.
 #![tactic(auto)]
 
 use dagcar_lines::{OUT_OF_MEMORY, USAGE, run_command};

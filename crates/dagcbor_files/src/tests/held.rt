@@ -11,11 +11,15 @@ use std::test::Fail;
 /// The number 5, by the identity, which is named so.
 const IDENTITY: &[u8] = b"\x06\x01\x71\x00\x01\x05\x05";
 
-/// The name of a section, and its block: its last so many bytes.
-fn parts(section: &[u8], block: usize) -> Result<(Cid, &[u8]), Fail> {
-    let start = section.len().saturating_sub(block);
-    match section.get(1..start) {
-        Some(name) => Ok((Cid::try_from(name)?, &section[start..])),
+/// The block of a section: its last so many bytes.
+fn block_in(section: &[u8], length: usize) -> &[u8] {
+    &section[section.len().saturating_sub(length)..]
+}
+
+/// The name in front of it.
+fn name_in(section: &[u8], length: usize) -> Result<Cid, Fail> {
+    match section.get(1..section.len().saturating_sub(length)) {
+        Some(name) => Ok(Cid::try_from(name)?),
         None => Err(Fail::new("too short")),
     }
 }
@@ -28,14 +32,26 @@ const REFUSED: &[(&[u8], usize, &str)] = &[
     (UNORDERED, 7, "Err(NoBlock(UnorderedKey))"),
 ];
 
+/// Fails where the block is kept, or refused otherwise.
+fn refuses(
+    alloc: Global,
+    blocks: &mut Blocks,
+    section: &[u8],
+    length: usize,
+    refusal: &str,
+) -> Result<(), Fail> {
+    let name = name_in(section, length)?;
+    let block = block_in(section, length);
+    is_told(alloc, &blocks.put_block(&name, block), refusal)?;
+    agree((blocks.contains(&name), blocks.len()), (false, 0))
+}
+
 #[test]
 fn what_is_no_block_is_not_kept(rt: HostRuntime) -> Result<(), Fail> {
     let alloc = rt.alloc();
     let mut blocks = Blocks::new(alloc);
     for (section, length, refusal) in REFUSED {
-        let (name, block) = parts(section, *length)?;
-        is_told(alloc, &blocks.put_block(&name, block), refusal)?;
-        agree((blocks.contains(&name), blocks.len()), (false, 0))?;
+        refuses(alloc, &mut blocks, section, *length, refusal)?;
     }
     Ok(())
 }
@@ -47,23 +63,31 @@ fn are_names(alloc: Global, blocks: &Blocks, names: &[&[u8]]) -> Result<(), Fail
     agree(blocks.len(), names.len())
 }
 
+/// Fails where the block is not kept as the only one, or handed out otherwise.
+fn keeps(alloc: Global, blocks: &mut Blocks, section: &[u8]) -> Result<(), Fail> {
+    let name = name_in(section, 4)?;
+    let block = block_in(section, 4);
+    is_told(alloc, &blocks.put_block(&name, block), "Ok(())")?;
+    are_names(alloc, blocks, &[NUMBERS])?;
+    agree(blocks.get_block(&name), Some(block))
+}
+
+/// Fails where the text is not handed out as its block, or still held then.
+fn lets_go(blocks: &mut Blocks) -> Result<(), Fail> {
+    let name = blocks.put(&"a")?;
+    agree(blocks.get_block(&name), Some(b"\x61a".as_slice()))?;
+    agree(blocks.remove(&name), true)?;
+    agree(blocks.remove(&name), false)?;
+    agree(blocks.get_block(&name), None)
+}
+
 #[test]
 fn blocks_are_handed_out_as_they_came(rt: HostRuntime) -> Result<(), Fail> {
     let alloc = rt.alloc();
     let mut blocks = Blocks::new(alloc);
-    let (name, block) = parts(SECTION, 4)?;
     for _ in 0..2 {
-        is_told(alloc, &blocks.put_block(&name, block), "Ok(())")?;
-        are_names(alloc, &blocks, &[NUMBERS])?;
+        keeps(alloc, &mut blocks, SECTION)?;
+        lets_go(&mut blocks)?;
     }
-    agree(blocks.get_block(&name), Some(block))?;
-    let text = blocks.put(&"a")?;
-    agree(blocks.get_block(&text), Some(b"\x61a".as_slice()))?;
-    agree(blocks.remove(&text), true)?;
-    agree(
-        (blocks.remove(&text), blocks.contains(&text)),
-        (false, false),
-    )?;
-    agree(blocks.get_block(&text), None)?;
     are_names(alloc, &blocks, &[NUMBERS])
 }

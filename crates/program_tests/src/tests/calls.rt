@@ -3,7 +3,7 @@
 
 use dagcbor_calls::{
     Token, code_of, judge_section, name_of, put_cid_of_text, put_cid_text, put_front_tape,
-    put_links, put_tape, spell_tape,
+    put_links, put_span, put_tape, spell_tape,
 };
 use dagcbor_items::check_slice;
 use std::test::Fail;
@@ -324,6 +324,62 @@ fn each_fault_of_a_text_has_its_number(rt: HostRuntime) -> Result<(), Fail> {
         assert_eq!(rt; put_cid_of_text(text, &mut room, &mut needed), *code);
         assert_eq!(rt; needed, 0);
         assert_eq!(rt; room, [0xee; 86]);
+    }
+    Ok(())
+}
+
+/// The bytes that begin version 2, and 16 of characteristics.
+const VERSION_2: &[u8] =
+    b"\x0a\xa1\x67version\x02\x00\x01\x02\x03\x04\x05\x06\x07\x08\x09\x0a\x0b\x0c\x0d\x0e\x0f";
+
+/// The offsets behind them, what is answered, and the places then. They were 7 and 8.
+const OFFSETS: &[(&[u8; 24], i32, [u64; 2])] = &[
+    (
+        b"\x38\0\0\0\0\0\0\0\x06\x01\0\0\0\0\0\0\x3e\x01\0\0\0\0\0\0",
+        0,
+        [56, 318],
+    ),
+    (
+        b"\x33\0\0\0\0\0\0\0\0\0\0\0\0\0\0\0\xff\xff\xff\xff\xff\xff\xff\xff",
+        0,
+        [51, 51],
+    ),
+    (
+        b"\x33\0\0\0\0\0\0\0\xcc\xff\xff\xff\xff\xff\xff\xff\0\0\0\0\0\0\0\0",
+        0,
+        [51, u64::MAX],
+    ),
+    (
+        b"\x33\0\0\0\0\0\0\0\xcd\xff\xff\xff\xff\xff\xff\xff\0\0\0\0\0\0\0\0",
+        -35,
+        [7, 8],
+    ),
+    (
+        b"\x32\0\0\0\0\0\0\0\x06\x01\0\0\0\0\0\0\0\0\0\0\0\0\0\0",
+        -35,
+        [7, 8],
+    ),
+];
+
+#[test]
+fn the_file_of_version_1_is_placed(rt: HostRuntime) -> Result<(), Fail> {
+    for (offsets, answer, wanted) in OFFSETS {
+        let mut bytes = Vec::new(rt.alloc());
+        bytes.extend_from_slice(VERSION_2)?;
+        bytes.extend_from_slice(offsets.as_slice())?;
+        let mut places = [7, 8];
+        assert_eq!(rt; put_span(&bytes, &mut places), *answer);
+        assert_eq!(rt; places, *wanted);
+        for end in 0..51 {
+            let mut places = [7, 8];
+            assert_eq!(rt; put_span(&bytes[..end], &mut places), -24);
+            assert_eq!(rt; places, [7, 8]);
+        }
+    }
+    for bytes in [b"\x3a\xa2".as_slice(), b"\x0a\xa2".as_slice()] {
+        let mut places = [7, 8];
+        assert_eq!(rt; put_span(bytes, &mut places), 0);
+        assert_eq!(rt; places, [0, u64::MAX]);
     }
     Ok(())
 }

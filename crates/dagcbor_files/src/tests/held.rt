@@ -2,6 +2,7 @@
 
 use crate::tests::files::cids_of;
 use crate::tests::sections::{CHANGED, NUMBERS, RAW, SECTION, UNORDERED};
+use crate::tests::store::put;
 use dagcbor_blocks::Blocks;
 use dagcbor_testing::{agree, is_told};
 use serde_ipld_dagcbor::Cid;
@@ -74,7 +75,7 @@ fn keeps(alloc: Global, blocks: &mut Blocks, section: &[u8]) -> Result<(), Fail>
 
 /// Fails where the text is not handed out as its block, or still held then.
 fn lets_go(blocks: &mut Blocks) -> Result<(), Fail> {
-    let name = blocks.put(&"a")?;
+    let name = put(blocks, &"a")?;
     agree(blocks.get_block(&name), Some(b"\x61a".as_slice()))?;
     agree(blocks.remove(&name), true)?;
     agree(blocks.remove(&name), false)?;

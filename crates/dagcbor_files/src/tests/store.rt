@@ -30,7 +30,7 @@ pub(crate) fn lacks(blocks: &Blocks, missing: &[Cid]) -> Result<(), Fail> {
 }
 
 /// Puts the value, and answers its name.
-fn put<T: Serialize>(blocks: &mut Blocks, value: &T) -> Result<Cid, Fail> {
+pub(crate) fn put<T: Serialize>(blocks: &mut Blocks, value: &T) -> Result<Cid, Fail> {
     Ok(blocks.put(value)?)
 }
 

@@ -65,9 +65,9 @@ fn offsets_are_refused(rt: HostRuntime) -> Result<(), Fail> {
         let file = joined(alloc, &[&FRONT[..27], offsets, &FRONT[43..51], LINKED])?;
         is_refused(alloc, &file, refusal)?;
     }
-    for end in 0..FRONT.len() + LINKED.len() {
-        let file = joined(alloc, &[FRONT, LINKED])?;
-        is_refused(alloc, &file[..end], "Some(Truncated)")?;
+    let whole = joined(alloc, &[FRONT, LINKED])?;
+    for end in 0..whole.len() {
+        is_refused(alloc, &whole[..end], "Some(Truncated)")?;
     }
     Ok(())
 }

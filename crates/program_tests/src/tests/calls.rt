@@ -370,7 +370,7 @@ fn the_file_of_version_1_is_placed(rt: HostRuntime) -> Result<(), Fail> {
         let mut places = [7, 8];
         assert_eq!(rt; put_span(&bytes, &mut places), *answer);
         assert_eq!(rt; places, *wanted);
-        for end in 0..51 {
+        for end in 0..bytes.len() {
             let mut places = [7, 8];
             assert_eq!(rt; put_span(&bytes[..end], &mut places), -24);
             assert_eq!(rt; places, [7, 8]);

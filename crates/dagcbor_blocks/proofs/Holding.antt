@@ -1,5 +1,5 @@
 -- Blocks that are kept and handed out as bytes.
-use Rattle.std.proofs.Common.{◌≡◌, ℕ, List, [], ◌∷◌, ◌++◌, map, append_assoc, append-nil, Bool, true, false, cond, refl, sym, ap, ◌∙◌, subst}
+use Rattle.std.proofs.Common.{◌≡◌, ◌≢◌, ℕ, List, [], ◌∷◌, ◌++◌, map, append_assoc, append-nil, Bool, true, false, cond, refl, sym, ap, ◌∙◌, subst}
 use Rattle.std.specs.Prelude.{Option, None, Some, is_some, option_map, Vec}
 use Rattle.std.specs.declared.alloc.Global.{Global}
 use Rattle.std.specs.List.{AllByRecursion}
@@ -90,6 +90,14 @@ names_listed entries rest names end h sorted =
     let whole : entries ≡ h.seen = h.all ∙ ap (λ r. h.seen ++ r) end ∙ append-nil h.seen in
     let listed : names ≡ map (λ e. e.0) (shown entries) = h.listed ∙ ap (λ es. map (λ (e : CidParts × List ℕ). e.0) (shown es)) (sym whole) in
     (listed, subst (IsStrictlySortedBy cid_cmp) (sym (listed ∙ same_keys entries)) sorted)
+
+some_held : (seen rest : List BlockEntry) (e : BlockEntry) → shown (seen ++ e ∷ rest) ≢ []
+some_held [] rest e none = cc none
+some_held (x ∷ seen) rest e none = cc none
+
+pub another_held : (entries before rest : List BlockEntry) (e : BlockEntry) (names : List CidParts) → before ≡ e ∷ rest → NamesSoFar entries before names → shown entries ≢ []
+another_held entries before rest e names is h none =
+    some_held h.seen rest e (sym (ap shown (h.all ∙ ap (λ l. h.seen ++ l) is)) ∙ none)
 
 -- ---- a section
 

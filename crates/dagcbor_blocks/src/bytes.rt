@@ -1,6 +1,6 @@
 //! Keeping blocks as bytes, and handing them out.
 
-ghost use Rattle.std.specs.Prelude.{◌≡◌, length, IfOk, MatchOption, MatchResult, None};
+ghost use Rattle.std.specs.Prelude.{◌≡◌, ◌≢◌, [], length, IfOk, OnErr, MatchOption, MatchResult, None};
 ghost use Rattle.dagcbor_blocks.specs.Blocks.{held_blocks, block_at, IsHeld};
 ghost use Rattle.dagcbor_blocks.specs.Cars.{IsNamedBlock};
 ghost use Rattle.dagcbor_blocks.specs.Bytes.{IsNoBlock, PutsBytes, is_held, HoldsOthers, AreNames};
@@ -78,7 +78,8 @@ impl Blocks {
 
     /// The names of the held blocks, in their order.
     pub fn names(&self) -> Result<Vec<Cid>, AllocError>
-        ensures { IfOk result (AreNames (held_blocks self.now)) }
+        ensures names { IfOk result (AreNames (held_blocks self.now)) }
+        ensures memory { OnErr result (held_blocks self.now ≢ []) }
     {
         let mut names = Vec::new(self.alloc);
         for (name, _block) in self.blocks.iter() {

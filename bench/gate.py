@@ -93,7 +93,7 @@ def name_of_edit(crate, number):
 
 
 def table(costs, ends):
-    """A row for each crate, as docs/DESIGN.md has it: the seconds of each part, how many edits, and the minute of its end."""
+    """A row for each crate: the seconds of each part, how many edits, and the minute of its end."""
     yield "| Crate | Proof | Tests | Seed | Edits | How many | Other | End |"
     yield "|---|---|---|---|---|---|---|---|"
     for crate, row in sorted(costs.items()):

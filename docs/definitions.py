@@ -2,7 +2,7 @@
 """The definitions that each sentence of the claim stands on, in the order in which to read them.
 
     docs/definitions.py          prints the lists, with their files
-    docs/definitions.py page     puts how many they are, and their crates, into docs/PROVED.md
+    docs/definitions.py page     puts how many they are into docs/PROVED.md
     docs/definitions.py check    fails where the page has others
 
 It begins at the contracts of the calls that a sentence names, and follows each name to its definition in specs/. Names of
@@ -171,20 +171,15 @@ def printed():
         yield from [f"### {sentence}", "", *table, "", *([beside, ""] if beside else [])]
 
 
-def crates_of(keys):
-    """The crates of the definitions, each where its first definition comes."""
-    return ", ".join(f"`{crate}`" for crate in dict.fromkeys(crate for crate, *_ in keys))
-
-
 def page():
     """The page's part."""
-    out = ["| Sentence | Definitions | Lines | In `specs/` of |", "|---|---|---|---|"]
+    out = ["| Sentence | Definitions | Lines |", "|---|---|---|"]
     total, count = 0, 0
     for sentence, new, found, beside in lists():
         lines = sum(found[key] for key in new)
         ghosts = int(beside.split()[0]) if beside else 0
         total, count = total + lines + ghosts, count + len(new)
-        out.append(f"| {sentence} | {len(new)} | {lines} | {crates_of(new)}{f'; and {beside}' if beside else ''} |")
+        out.append(f"| {sentence} | {len(new)} | {lines}{f'; and {beside}' if beside else ''} |")
     return "\n".join([*out, "", f"In all {count} definitions, {total} lines."])
 
 

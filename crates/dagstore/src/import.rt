@@ -35,11 +35,11 @@ fn keep<'de, S: Store, R: Read>(
     store: &mut BlockStore<S>,
     input: &mut Input<'de, R>,
 ) -> Result<u64, ImportError> {
-    if pull_header(alloc, input).is_err() {
+    let Ok((_roots, mut left)) = pull_header(alloc, input) else {
         return Err(ImportError::NoFile);
-    }
+    };
     for count in 0..u64::MAX {
-        match pull_section(alloc, input) {
+        match pull_section(alloc, input, &mut left) {
             Ok(Some(section)) => {
                 let section = section.section();
                 if let Err(refusal) = store.add_block(&section.cid, section.block) {

@@ -66,7 +66,7 @@ held_block es v m s =
     (sound.tree, subst (λ (w : Vec ℕ Global). IsBlock w.items sound.tree) (sym e.2) sound.is_block)
 
 -- the first item of a held block is the whole of it
-links_of_block : SpellingsAreUnique → (es : List BlockEntry) (v : Vec ℕ Global) (names : List CidParts) → ∥ AllByRecursion IsSound es ∥₁ → Among v (values_of es) → AreFirstNames v.items names → (t : Tree) × IsSpelling v.items t × ListsReached names (links_of t)
+pub links_of_block : SpellingsAreUnique → (es : List BlockEntry) (v : Vec ℕ Global) (names : List CidParts) → ∥ AllByRecursion IsSound es ∥₁ → Among v (values_of es) → AreFirstNames v.items names → (t : Tree) × IsSpelling v.items t × ListsReached names (links_of t)
 links_of_block law es v links h m first = (first.0, whole_spelling v.items first.1 first.0 first.2 none, first.4)
   where
     none : first.1 ≡ []
@@ -133,7 +133,7 @@ so_far_next law cids blocks before rest v links old new sound is h first added =
 
 -- ---- the whole
 
-name_is_cid : (b : List ℕ) → AreCidParts (block_name b)
+pub name_is_cid : (b : List ℕ) → AreCidParts (block_name b)
 name_is_cid b = inr (refl, omega arith, omega arith, omega (arith, length-sha256 b))
 
 -- a look-up in the entries

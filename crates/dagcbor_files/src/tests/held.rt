@@ -4,8 +4,8 @@ use crate::tests::files::cids_of;
 use crate::tests::sections::{CHANGED, NUMBERS, RAW, SECTION, UNORDERED};
 use crate::tests::store::put;
 use dagcbor_blocks::Blocks;
-use dagcbor_testing::{agree, is_told};
-use serde_ipld_dagcbor::Cid;
+use dagcbor_testing::{LINK, agree, is_told};
+use serde_ipld_dagcbor::{Cid, Ipld, from_slice};
 use std::alloc::Global;
 use std::test::Fail;
 
@@ -91,4 +91,36 @@ fn blocks_are_handed_out_as_they_came(rt: HostRuntime) -> Result<(), Fail> {
         lets_go(&mut blocks)?;
     }
     are_names(alloc, &blocks, &[NUMBERS])
+}
+
+/// Keeps a list of links, and answers its name.
+fn put_links(alloc: Global, blocks: &mut Blocks, names: &[Cid]) -> Result<Cid, Fail> {
+    let mut links = Vec::new(alloc);
+    for name in names {
+        links.push(Ipld::Link(*name))?;
+    }
+    put(blocks, &Ipld::List(links))
+}
+
+/// Fails where other names are reached from the root, or in another order.
+fn reaches(blocks: &Blocks, root: Cid, names: &[Cid]) -> Result<(), Fail> {
+    agree(blocks.reachable(&root)?.as_slice(), names)
+}
+
+#[test]
+fn what_links_lead_to_is_reached_once(rt: HostRuntime) -> Result<(), Fail> {
+    let alloc = rt.alloc();
+    let nowhere: Cid = from_slice(alloc, LINK)?;
+    let mut blocks = Blocks::new(alloc);
+    let leaf = put(&mut blocks, &"a")?;
+    let _other = put(&mut blocks, &"b")?;
+    // By their SHA-256 the left one comes first.
+    let left = put_links(alloc, &mut blocks, &[leaf])?;
+    let right = put_links(alloc, &mut blocks, &[leaf, leaf])?;
+    let root = put_links(alloc, &mut blocks, &[right, left, nowhere])?;
+    reaches(&blocks, root, &[root, left, leaf, right])?;
+    reaches(&blocks, right, &[right, leaf])?;
+    reaches(&blocks, nowhere, &[])?;
+    agree(blocks.remove(&left), true)?;
+    reaches(&blocks, root, &[root, right, leaf])
 }

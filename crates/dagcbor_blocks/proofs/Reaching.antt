@@ -1,6 +1,6 @@
 -- The walk along links.
-use Rattle.std.proofs.Common.{◌≡◌, ◌⊎◌, inl, inr, ℕ, zero, suc, List, [], ◌∷◌, ◌++◌, reverse, true, false, cond, refl, sym, ap, ◌∙◌, subst}
-use Rattle.std.specs.Prelude.{◌↔◌, if◌then◌else◌, is_ok, Option, None, Some, is_some, Result, Ok, Err, OnOk, Vec}
+use Rattle.std.proofs.Common.{◌≡◌, ◌⊎◌, inl, inr, ℕ, zero, suc, List, [], ◌∷◌, ◌++◌, reverse, Bool, true, false, cond, refl, sym, ap, ◌∙◌, subst}
+use Rattle.std.specs.Prelude.{◌↔◌, if◌then◌else◌, Option, None, Some, is_some, Result, Ok, Err, IfOk, OnOk, Vec}
 use Rattle.std.specs.declared.alloc.Global.{Global}
 use Rattle.std.specs.List.{AllByRecursion}
 use Rattle.std.specs.Map.{lookup}
@@ -11,22 +11,27 @@ use Rattle.std.proofs.Math.Logic.{∥∥₁_elim}
 use Rattle.std.proofs.lemmas.Grind.{reverse_onto}
 use mathlib.Core.Bool.{Bool-set}
 use Rattle.serde_ipld_dagcbor.specs.Cid.{CidParts, AreCidParts, cid_bytes, cid_cmp}
-use Rattle.serde_ipld_dagcbor.specs.Tree.{links_of}
+use Rattle.serde_ipld_dagcbor.specs.Tree.{Tree, links_of}
 use Rattle.serde_ipld_dagcbor.specs.Spelling.{IsSpelling}
-use Rattle.serde_ipld_dagcbor.specs.GrammarLaws.{SpellingsAreUnique}
+use Rattle.serde_ipld_dagcbor.specs.Slices.{IsBlock, AreFirstLinks}
+use Rattle.serde_ipld_dagcbor.specs.Walks.{forms}
+use Rattle.serde_ipld_dagcbor.specs.GrammarLaws.{SpellingsAreUnique, CidEqualityIsOfBytes}
 use Rattle.dagcbor_car.specs.Names.{IsInline, block_name}
 use Rattle.dagcbor_car.specs.Sets.{Among}
-use Rattle.dagcbor_car.specs.Within.{IsReached, AreFirstNames}
-use Rattle.dagcbor_car.proofs.Members.{at_same, same_at, any_among, among_any, among_push, push_among, among_append, append_among, among_map}
+use Rattle.dagcbor_car.specs.Splits.{HasBlock}
+use Rattle.dagcbor_car.specs.Verdicts.{IsDagCbor}
+use Rattle.dagcbor_car.specs.Within.{HoldsBlock}
+use Rattle.dagcbor_car.proofs.Within.{not_inline}
+use Rattle.dagcbor_car.proofs.Members.{at_same, same_at, any_among, among_any, among_push, push_among, among_append, append_among, among_map, map_among, whole_block}
 use Rattle.dagcbor_blocks.specs.Sound.{IsSound}
 use Rattle.dagcbor_blocks.specs.Blocks.{Held}
 use Rattle.dagcbor_blocks.specs.Bytes.{is_held}
 use Rattle.dagcbor_blocks.specs.declared.reach.Walk.{Walk}
-use Rattle.dagcbor_blocks.specs.Reaching.{LeadsTo, IsStepsFrom, NoneTwice, ListsReachable, AddsName, FindsBlock, Visits}
-use Rattle.dagcbor_blocks.proofs.Unique.{front_unique, whole_front}
-use Rattle.dagcbor_blocks.proofs.Members.{found_among}
+use Rattle.dagcbor_blocks.specs.Reaching.{NamesTree, LeadsTo, IsStepsFrom, NoneTwice, ListsReachable, LeadsNowhere, AreLinksOf, PushesAll, GoesOver, VisitsName, Visits}
+use Rattle.dagcbor_blocks.proofs.Unique.{front_unique, cid_unique, whole_front}
+use Rattle.dagcbor_blocks.proofs.Members.{all_among, found_among}
 use Rattle.dagcbor_blocks.proofs.Missing.{one_put}
-use Rattle.dagcbor_blocks.proofs.Listing.{links_of_block, name_is_cid}
+use Rattle.dagcbor_blocks.proofs.Listing.{whole_of_block, name_is_cid}
 use Rattle.dagcbor_blocks.proofs.Keeping.{BlockEntry, shown, block_found, no_block_found, found_named}
 
 -- ---- lists
@@ -46,65 +51,95 @@ once_push (x ∷ xs) y h none = (
   once_push xs y h.1 (λ m. none (inr m)),
 )
 
+-- ---- the links of one block
+
+pub no_inner : CidEqualityIsOfBytes → (name : CidParts) (links : List CidParts) → AreCidParts name → links ≡ [] → ((t : Tree) → IsInline name → IsDagCbor name → IsBlock name.digest t → ⊥) → AreLinksOf (HoldsBlock (cid_bytes name)) links
+no_inner cids name links valid none other = inr (
+  none,
+  λ t h.
+      let same = cid_unique cids h.0 name h.1 valid (sym h.2) in
+      other t (subst IsInline same h.3) (subst IsDagCbor same h.4) (subst (λ (d : CidParts). IsBlock d.digest t) same h.5),
+)
+
+pub inner_links : {E : Type 0} (r : Result (Vec CidParts Global) E) (name : CidParts) (b : List ℕ) → AreCidParts name → IsInline name → IsDagCbor name → b ≡ name.digest → HasBlock name.digest
+    → IfOk r (λ v. AreFirstLinks b (forms v.items)) → IfOk r (λ v. AreLinksOf (HoldsBlock (cid_bytes name)) v.items)
+inner_links (Err e) name b valid i d is has first = tt
+inner_links (Ok v) name b valid i d is has first =
+    let f = subst (λ x. AreFirstLinks x (forms v.items)) is first in
+    inl (f.0, (name, valid, refl, i, d, whole_block name.digest f.1 f.0 has f.2), f.4)
+
 -- ---- one name
 
-pub name_added : {E : Type 0} (r : Result (Unit {0}) E) (name : CidParts) (names more : List CidParts) (old new : Walk) → ((q : CidParts) → set.contains cid_cmp new.seen q ≡ cond (is_at (cid_cmp name) q) true (set.contains cid_cmp old.seen q))
-    → new.found.items ≡ old.found.items ++ name ∷ [] → more ≡ reverse names → new.waiting.items ≡ (if is_ok r then old.waiting.items ++ more else old.waiting.items) → OnOk r (AddsName name names old new)
-name_added (Err e) name names more old new put found turned waits = tt
-name_added (Ok x) name names more old new put found turned waits = record {
+pub gone_over : {E : Type 0} (r : Result (Unit {0}) E) (name : CidParts) (links more : List CidParts) (old new : Walk) → AreCidParts name → ((q : CidParts) → set.contains cid_cmp new.seen q ≡ cond (is_at (cid_cmp name) q) true (set.contains cid_cmp old.seen q))
+    → more ≡ reverse links → OnOk r (PushesAll more old.waiting.items new.waiting.items) → OnOk r (GoesOver name links old new)
+gone_over (Err e) name links more old new valid put turned pushed = tt
+gone_over (Ok x) name links more old new valid put turned pushed = record {
+  valid = valid;
   seen = one_put name old.seen new.seen put;
-  found = found;
-  waiting = waits ∙ ap (λ l. old.waiting.items ++ l) turned;
+  waiting = subst (λ ls. PushesAll ls old.waiting.items new.waiting.items) turned pushed;
 }
 
 pub seen_before : (blocks : Held) (name : CidParts) (walk : Walk) → set.contains cid_cmp walk.seen name ≡ true → Visits blocks name walk walk
-seen_before blocks name walk e = inl (refl, inl (any_among name walk.seen.keys e))
+seen_before blocks name walk e = inl (refl, any_among name walk.seen.keys e)
 
-pub none_there : (es : List BlockEntry) (name : CidParts) (walk : Walk) → lookup (is_at (cid_cmp name)) es ≡ None → Visits (shown es) name walk walk
-none_there es name walk e = inl (refl, inr (ap is_some (no_block_found name es e)))
+not_seen : (name : CidParts) (s : BTreeSet CidParts) → set.contains cid_cmp s name ≡ false → Among name s.keys → ⊥
+not_seen name s e m = let clash : true ≡ false = sym (among_any name s.keys m) ∙ e in absurd (cc clash)
 
-pub block_visited : {E : Type 0} → SpellingsAreUnique → (es : List BlockEntry) (name : CidParts) (v : Vec ℕ Global) (names : List CidParts) (old new : Walk) (r : Result (Unit {0}) E) → ∥ AllByRecursion IsSound es ∥₁
-    → lookup (is_at (cid_cmp name)) es ≡ Some v → AreFirstNames v.items names → set.contains cid_cmp old.seen name ≡ false → OnOk r (AddsName name names old new) → OnOk r (Visits (shown es) name old new)
-block_visited law es name v names old new (Err e) sound at first fresh adds = tt
-block_visited law es name v names old new (Ok x) sound at first fresh adds =
-    let l = links_of_block law es v names sound (among_map (λ (e : BlockEntry). e.1) (name, v) es (found_among name es v at)) first in
+pub block_visited : {E : Type 0} → SpellingsAreUnique → (es : List BlockEntry) (name : CidParts) (v : Vec ℕ Global) (links : List CidParts) (old new : Walk) (found : Vec CidParts Global) (r : Result (Unit {0}) E) → ∥ AllByRecursion IsSound es ∥₁
+    → lookup (is_at (cid_cmp name)) es ≡ Some v → AreFirstLinks v.items (forms links) → set.contains cid_cmp old.seen name ≡ false → found.items ≡ old.found.items ++ name ∷ []
+    → OnOk r (GoesOver name links record { seen = old.seen; waiting = old.waiting; found = found } new) → new.found ≡ found → OnOk r (Visits (shown es) name old new)
+block_visited law es name v links old new found (Err e) sound at first fresh put goes same = tt
+block_visited law es name v links old new found (Ok x) sound at first fresh put goes same =
+    let here = among_map (λ (e : BlockEntry). e.1) (name, v) es (found_among name es v at) in
+    let held = block_found name es v at in
     inr record {
-      block = v.items;
-      tree = l.0;
-      names = names;
-      held = block_found name es v at;
-      spelled = l.1;
-      listed = l.2;
-      fresh = λ m. let clash : true ≡ false = sym (among_any name old.seen.keys m) ∙ fresh in absurd (cc clash);
-      adds = adds;
+      fresh = not_seen name old.seen fresh;
+      links = links;
+      listed = inl (first.0, inl (v.items, held, whole_of_block law es v sound here first.0 first.1 first.2), first.4);
+      goes = record { valid = goes.valid; seen = goes.seen; waiting = goes.waiting };
+      found = ap (λ (w : Vec CidParts Global). w.items) same ∙ put ∙ ap (λ b. if b then old.found.items ++ name ∷ [] else old.found.items) (sym (ap is_some held));
+    }
+
+pub none_visited : {E : Type 0} (es : List BlockEntry) (name : CidParts) (links : List CidParts) (old new : Walk) (r : Result (Unit {0}) E) → lookup (is_at (cid_cmp name)) es ≡ None → AreLinksOf (HoldsBlock (cid_bytes name)) links
+    → set.contains cid_cmp old.seen name ≡ false → OnOk r (GoesOver name links old new) → new.found ≡ old.found → OnOk r (Visits (shown es) name old new)
+none_visited es name links old new (Err e) at listed fresh goes same = tt
+none_visited es name links old new (Ok x) at listed fresh goes same =
+    let free = no_block_found name es at in
+    inr record {
+      fresh = not_seen name old.seen fresh;
+      links = links;
+      listed = elim listed [
+        | inl h ↦ inl (h.0, inr h.1, h.2)
+        | inr n ↦ inr (n.0, λ t m. elim m [ inl b ↦ absurd (cc (sym free ∙ b.1)) | inr h ↦ n.1 t h ])
+      ];
+      goes = goes;
+      found = ap (λ (w : Vec CidParts Global). w.items) same ∙ ap (λ b. if b then old.found.items ++ name ∷ [] else old.found.items) (sym (ap is_some free));
     }
 
 -- ---- the walk
 
--- the name was found, or waits
+-- the name was seen, or waits
 abbrev Covers : Walk → CidParts → Type 0
-Covers walk q = Among q walk.found.items ⊎ Among q walk.waiting.items
+Covers walk q = Among q walk.seen.keys ⊎ Among q walk.waiting.items
 
 -- what is known of a walk from the root
 pub record IsWalked (blocks : Held) (root : CidParts) (walk : Walk) : Type 0 where
-  pub begun : is_held root blocks ≡ true → Covers walk root
-  pub next : (q r : CidParts) → Among q walk.found.items → LeadsTo blocks q r → is_held r blocks ≡ true → Covers walk r
+  pub begun : Covers walk root
+  pub next : (q r : CidParts) → Among q walk.seen.keys → LeadsTo blocks q r → Covers walk r
   pub stepped : (q : CidParts) → Covers walk q → (n : ℕ) × IsStepsFrom blocks root n q
-  pub held : (q : CidParts) → Among q walk.found.items → is_held q blocks ≡ true
+  pub found : (q : CidParts) → Among q walk.found.items ↔ (Among q walk.seen.keys × (is_held q blocks ≡ true))
   pub once : NoneTwice walk.found.items
-  pub same : (q : CidParts) → Among q walk.seen.keys ↔ Among q walk.found.items
 
 pub walk_begun : (blocks : Held) (root : CidParts) (walk : Walk) → walk.seen.keys ≡ [] → walk.found.items ≡ [] → walk.waiting.items ≡ root ∷ [] → IsWalked blocks root walk
 walk_begun blocks root walk unseen none waits = record {
-  begun = λ h. inr (subst (Among root) (sym waits) (inl refl));
-  next = λ q r m. absurd (subst (Among q) none m);
+  begun = inr (subst (Among root) (sym waits) (inl refl));
+  next = λ q r m. absurd (subst (Among q) unseen m);
   stepped = λ q m. elim m [
-    | inl f ↦ absurd (subst (Among q) none f)
+    | inl f ↦ absurd (subst (Among q) unseen f)
     | inr w ↦ elim (subst (Among q) waits w) [ inl e ↦ (0, e) | inr n ↦ absurd n ]
   ];
-  held = λ q m. absurd (subst (Among q) none m);
+  found = λ q. (λ m. absurd (subst (Among q) none m), λ m. absurd (subst (Among q) unseen m.0));
   once = subst NoneTwice (sym none) tt;
-  same = λ q. (λ m. absurd (subst (Among q) unseen m), λ m. absurd (subst (Among q) none m));
 }
 
 -- a name under which a block is held holds none itself
@@ -117,102 +152,127 @@ held_name es q sound h = by (lookup (is_at (cid_cmp q)) es) refl
         let is : q ≡ block_name v.items = at_same q (block_name v.items) (∥∥₁_elim sound (Bool-set _ _) (λ s. same_at q (block_name v.items) (found_named q es v e s))) in
         (subst AreCidParts (sym is) (name_is_cid v.items), λ i. let j = subst IsInline is i in absurd (cc j))
 
-module _ (law : SpellingsAreUnique) (es : List BlockEntry) (sound : ∥ AllByRecursion IsSound es ∥₁) (root name : CidParts) where
-  -- a name that is gone over, and not found
-  walked_on : (old mid : Walk) → mid.seen ≡ old.seen → mid.found ≡ old.found → old.waiting.items ≡ mid.waiting.items ++ name ∷ [] → IsWalked (shown es) root old
-      → Among name mid.seen.keys ⊎ (is_held name (shown es) ≡ false) → IsWalked (shown es) root mid
-  walked_on old mid seen found waits h why = record {
-    begun = λ k. covers root k (h.begun k);
-    next = λ q r m l k. covers r k (h.next q r (before q m) l k);
-    stepped = λ q m. h.stepped q (elim m [ inl f ↦ inl (before q f) | inr w ↦ inr (subst (Among q) (sym waits) (push_among q mid.waiting.items name (inl w))) ]);
-    held = λ q m. h.held q (before q m);
-    once = subst (λ v. NoneTwice v.items) (sym found) h.once;
-    same = λ q. (λ m. after q ((h.same q).0 (subst (λ (s : BTreeSet CidParts). Among q s.keys) seen m)), λ m. subst (λ (s : BTreeSet CidParts). Among q s.keys) (sym seen) ((h.same q).1 (before q m)));
+module _ (law : SpellingsAreUnique) (cids : CidEqualityIsOfBytes) (es : List BlockEntry) (sound : ∥ AllByRecursion IsSound es ∥₁) (root name : CidParts) (old : Walk) (rest : Vec CidParts Global) (waits : old.waiting.items ≡ rest.items ++ name ∷ []) where
+  -- of a name that was seen
+  walked_on : (mid : Walk) → mid ≡ record { seen = old.seen; waiting = rest; found = old.found } → IsWalked (shown es) root old → Among name old.seen.keys → IsWalked (shown es) root mid
+  walked_on mid is h m = subst (IsWalked (shown es) root) (sym is) record {
+    begun = covers root h.begun;
+    next = λ q r k l. covers r (h.next q r k l);
+    stepped = λ q k. h.stepped q (elim k [ inl s ↦ inl s | inr w ↦ inr (subst (Among q) (sym waits) (push_among q rest.items name (inl w))) ]);
+    found = h.found;
+    once = h.once;
   }
     where
-      before : (q : CidParts) → Among q mid.found.items → Among q old.found.items
-      before q m = subst (λ (v : Vec CidParts Global). Among q v.items) found m
+      covers : (q : CidParts) → Covers old q → Among q old.seen.keys ⊎ Among q rest.items
+      covers q (inl s) = inl s
+      covers q (inr w) = elim (among_push q rest.items name (subst (Among q) waits w)) [ inl k ↦ inr k | inr e ↦ inl (subst (λ x. Among x old.seen.keys) (sym e) m) ]
 
-      after : (q : CidParts) → Among q old.found.items → Among q mid.found.items
-      after q m = subst (λ (v : Vec CidParts Global). Among q v.items) (sym found) m
+  -- the block under a name is one
+  one_tree : AreCidParts name → (t u : Tree) → NamesTree (shown es) name t → NamesTree (shown es) name u → t ≡ u
+  one_tree valid t u (inl a) (inl b) =
+      let same : a.0 ≡ b.0 = cc (sym a.1 ∙ b.1) in
+      (front_unique law b.0 [] [] t u (whole_front (subst (λ x. IsSpelling x t) same a.2)) (whole_front b.2)).0
+  one_tree valid t u (inl a) (inr b) = absurd (not_inline (cid_bytes name) name valid (held_name es name sound (ap is_some a.1)).1 refl (b.0, b.1, b.2, b.3))
+  one_tree valid t u (inr a) (inl b) = absurd (not_inline (cid_bytes name) name valid (held_name es name sound (ap is_some b.1)).1 refl (a.0, a.1, a.2, a.3))
+  one_tree valid t u (inr a) (inr b) =
+      let same : a.0 ≡ b.0 = cid_unique cids a.0 b.0 a.1 b.1 (sym a.2 ∙ b.2) in
+      let block = subst (λ (d : CidParts). IsBlock d.digest t) same a.5 in
+      (front_unique law b.0.digest [] [] t u (whole_front block.0) (whole_front b.5.0)).0
 
-      here : (q : CidParts) → q ≡ name → is_held q (shown es) ≡ true → Among name mid.seen.keys ⊎ (is_held name (shown es) ≡ false) → Covers mid q
-      here q e k (inl s) = inl (after q ((h.same q).0 (subst (λ (s : BTreeSet CidParts). Among q s.keys) seen (subst (λ x. Among x mid.seen.keys) (sym e) s))))
-      here q e k (inr u) = let clash : true ≡ false = sym k ∙ ap (λ x. is_held x (shown es)) e ∙ u in absurd (cc clash)
-
-      covers : (q : CidParts) → is_held q (shown es) ≡ true → Covers old q → Covers mid q
-      covers q k (inl f) = inl (after q f)
-      covers q k (inr w) = elim (among_push q mid.waiting.items name (subst (Among q) waits w)) [ inl m ↦ inr m | inr e ↦ here q e k why ]
-
-  -- a name whose block is found
-  walked_far : (old mid new : Walk) → mid.seen ≡ old.seen → mid.found ≡ old.found → old.waiting.items ≡ mid.waiting.items ++ name ∷ [] → IsWalked (shown es) root old
-      → FindsBlock (shown es) name mid new → IsWalked (shown es) root new
-  walked_far old mid new seen found waits h f = record {
-    begun = λ k. covers root (h.begun k);
-    next = λ q r m l k. elim (was_found q m) [ inl o ↦ covers r (h.next q r o l k) | inr e ↦ inr (waits_now r (inr (listed r k (subst (λ x. LeadsTo (shown es) x r) e l)))) ];
+  -- of a name that is gone over
+  walked_far : (new : Walk) → IsWalked (shown es) root old → VisitsName (shown es) name record { seen = old.seen; waiting = rest; found = old.found } new → IsWalked (shown es) root new
+  walked_far new h f = record {
+    begun = covers root h.begun;
+    next = λ q r m l. elim ((f.goes.seen q).0 m) [ inl o ↦ covers r (h.next q r o l) | inr e ↦ inr (waits_now r (inr (listed r (subst (λ x. LeadsTo (shown es) x r) e l)))) ];
     stepped = λ q m. elim m [
-      | inl k ↦ elim (was_found q k) [ inl o ↦ h.stepped q (inl o) | inr e ↦ subst (λ x. (n : ℕ) × IsStepsFrom (shown es) root n x) (sym e) reached ]
-      | inr w ↦ elim (among_append q mid.waiting.items (reverse f.names) (subst (Among q) f.adds.waiting w)) [
-        | inl o ↦ h.stepped q (inr (subst (Among q) (sym waits) (push_among q mid.waiting.items name (inl o))))
-        | inr t ↦ (suc reached.0, (name, reached.1, (f.block, f.tree, f.held, f.spelled, ((f.listed q).0 (reverse_among q f.names t)).2)))
+      | inl k ↦ elim ((f.goes.seen q).0 k) [ inl o ↦ h.stepped q (inl o) | inr e ↦ subst (λ x. (n : ℕ) × IsStepsFrom (shown es) root n x) (sym e) reached ]
+      | inr w ↦ elim (among_append q rest.items (reverse f.links) (subst (Among q) f.goes.waiting.1 w)) [
+        | inl o ↦ h.stepped q (inr (subst (Among q) (sym waits) (push_among q rest.items name (inl o))))
+        | inr t ↦ (suc reached.0, (name, reached.1, leads q t))
       ]
     ];
-    held = λ q m. elim (was_found q m) [ inl o ↦ h.held q o | inr e ↦ ap (λ x. is_held x (shown es)) e ∙ ap is_some f.held ];
-    once = subst NoneTwice (sym finds) (once_push old.found.items name h.once (λ m. f.fresh (subst (λ (s : BTreeSet CidParts). Among name s.keys) (sym seen) ((h.same name).1 m))));
-    same = λ q. (
-      λ m. found_now q (elim ((f.adds.seen q).0 m) [ inl s ↦ inl ((h.same q).0 (subst (λ (s : BTreeSet CidParts). Among q s.keys) seen s)) | inr e ↦ inr e ]),
-      λ m. (f.adds.seen q).1 (elim (was_found q m) [ inl o ↦ inl (subst (λ (s : BTreeSet CidParts). Among q s.keys) (sym seen) ((h.same q).1 o)) | inr e ↦ inr e ]),
-    );
+    found = λ q. there q (is_held name (shown es)) refl f.found;
+    once = by (is_held name (shown es)) f.found;
   }
     where
-      finds : new.found.items ≡ old.found.items ++ name ∷ []
-      finds = f.adds.found ∙ ap (λ (v : Vec CidParts Global). v.items ++ name ∷ []) found
-
-      was_found : (q : CidParts) → Among q new.found.items → Among q old.found.items ⊎ (q ≡ name)
-      was_found q m = among_push q old.found.items name (subst (Among q) finds m)
-
-      found_now : (q : CidParts) → Among q old.found.items ⊎ (q ≡ name) → Among q new.found.items
-      found_now q m = subst (Among q) (sym finds) (push_among q old.found.items name m)
-
-      waits_now : (q : CidParts) → Among q mid.waiting.items ⊎ Among q (reverse f.names) → Among q new.waiting.items
-      waits_now q m = subst (Among q) (sym f.adds.waiting) (append_among q mid.waiting.items (reverse f.names) m)
+      waits_now : (q : CidParts) → Among q rest.items ⊎ Among q (reverse f.links) → Among q new.waiting.items
+      waits_now q m = subst (Among q) (sym f.goes.waiting.1) (append_among q rest.items (reverse f.links) m)
 
       covers : (q : CidParts) → Covers old q → Covers new q
-      covers q (inl k) = inl (found_now q (inl k))
-      covers q (inr w) = elim (among_push q mid.waiting.items name (subst (Among q) waits w)) [ inl m ↦ inr (waits_now q (inl m)) | inr e ↦ inl (found_now q (inr e)) ]
+      covers q (inl s) = inl ((f.goes.seen q).1 (inl s))
+      covers q (inr w) = elim (among_push q rest.items name (subst (Among q) waits w)) [ inl m ↦ inr (waits_now q (inl m)) | inr e ↦ inl ((f.goes.seen q).1 (inr e)) ]
 
       reached : (n : ℕ) × IsStepsFrom (shown es) root n name
-      reached = h.stepped name (inr (subst (Among name) (sym waits) (push_among name mid.waiting.items name (inr refl))))
+      reached = h.stepped name (inr (subst (Among name) (sym waits) (push_among name rest.items name (inr refl))))
 
-      listed : (r : CidParts) → is_held r (shown es) ≡ true → LeadsTo (shown es) name r → Among r (reverse f.names)
-      listed r k l =
-          let b : l.0 ≡ f.block = cc (sym l.2 ∙ f.held) in
-          let t : l.1 ≡ f.tree = (front_unique law f.block [] [] l.1 f.tree (whole_front (subst (λ x. IsSpelling x l.1) b l.3)) (whole_front f.spelled)).0 in
-          let n = held_name es r sound k in
-          among_reverse r f.names ((f.listed r).1 (n.0, n.1, subst (λ x. IsReached (cid_bytes r) (links_of x)) t l.4))
+      valid : (q : CidParts) → Among q (reverse f.links) → AreCidParts q
+      valid q m = all_among AreCidParts (reverse f.links) q f.goes.waiting.0 m
 
-  pub walked : (old mid new : Walk) → mid.seen ≡ old.seen → mid.found ≡ old.found → old.waiting.items ≡ mid.waiting.items ++ name ∷ [] → IsWalked (shown es) root old
-      → Visits (shown es) name mid new → IsWalked (shown es) root new
-  walked old mid new seen found waits h (inl v) = subst (IsWalked (shown es) root) (sym v.0) (walked_on old mid seen found waits h v.1)
-  walked old mid new seen found waits h (inr f) = walked_far old mid new seen found waits h f
+      leads : (q : CidParts) → Among q (reverse f.links) → LeadsTo (shown es) name q
+      leads q m = elim f.listed [
+        | inl t ↦ (valid q m, (t.0, t.1, subst (Among (cid_bytes q)) t.2 (among_map cid_bytes q f.links (reverse_among q f.links m))))
+        | inr n ↦ absurd (subst (Among q) n.0 (reverse_among q f.links m))
+      ]
+
+      listed : (r : CidParts) → LeadsTo (shown es) name r → Among r (reverse f.links)
+      listed r l = elim f.listed [
+        | inl t ↦
+            let tree : l.1.0 ≡ t.0 = one_tree f.goes.valid l.1.0 t.0 l.1.1 t.1 in
+            let k = map_among cid_bytes (cid_bytes r) f.links (subst (Among (cid_bytes r)) (ap links_of tree ∙ sym t.2) l.1.2) in
+            let m = among_reverse k.0 f.links k.1 in
+            subst (λ x. Among x (reverse f.links)) (sym (cid_unique cids r k.0 l.0 (valid k.0 m) k.2)) m
+        | inr n ↦ absurd (n.1 l.1.0 l.1.1)
+      ]
+
+      there : (q : CidParts) (b : Bool) → is_held name (shown es) ≡ b → new.found.items ≡ (if b then old.found.items ++ name ∷ [] else old.found.items) → Among q new.found.items ↔ (Among q new.seen.keys × (is_held q (shown es) ≡ true))
+      there q true t is = (
+        λ m. elim (among_push q old.found.items name (subst (Among q) is m)) [
+          | inl o ↦ let k = (h.found q).0 o in ((f.goes.seen q).1 (inl k.0), k.1)
+          | inr e ↦ ((f.goes.seen q).1 (inr e), ap (λ x. is_held x (shown es)) e ∙ t)
+        ],
+        λ k. subst (Among q) (sym is) (push_among q old.found.items name (elim ((f.goes.seen q).0 k.0) [ inl o ↦ inl ((h.found q).1 (o, k.1)) | inr e ↦ inr e ])),
+      )
+      there q false t is = (
+        λ m. let k = (h.found q).0 (subst (Among q) is m) in ((f.goes.seen q).1 (inl k.0), k.1),
+        λ k. subst (Among q) (sym is) (elim ((f.goes.seen q).0 k.0) [
+          | inl o ↦ (h.found q).1 (o, k.1)
+          | inr e ↦ let clash : true ≡ false = sym k.1 ∙ ap (λ x. is_held x (shown es)) e ∙ t in absurd (cc clash)
+        ]),
+      )
+
+      by : (b : Bool) → new.found.items ≡ (if b then old.found.items ++ name ∷ [] else old.found.items) → NoneTwice new.found.items
+      by true is = subst NoneTwice (sym is) (once_push old.found.items name h.once (λ m. f.fresh ((h.found name).0 m).0))
+      by false is = subst NoneTwice (sym is) h.once
+
+  pub walked : (new : Walk) → IsWalked (shown es) root old → Visits (shown es) name record { seen = old.seen; waiting = rest; found = old.found } new → IsWalked (shown es) root new
+  walked new h (inl v) = walked_on new v.0 h v.1
+  walked new h (inr f) = walked_far new h f
 
 -- ---- the end
 
 pub all_found : (blocks : Held) (root : CidParts) (walk : Walk) → walk.waiting.items ≡ [] → IsWalked blocks root walk → ListsReachable blocks root walk.found.items
-all_found blocks root walk none h = (h.once, λ q. (λ m. (h.held q m, h.stepped q (inl m)), λ r. by r.1.0 q r.1.1 r.0))
+all_found blocks root walk none h = (h.once, λ q. (λ m. let k = (h.found q).0 m in (k.1, h.stepped q (inl k.0)), λ r. (h.found q).1 (by r.1.0 q r.1.1, r.0)))
   where
-    covered : (q : CidParts) → Covers walk q → Among q walk.found.items
+    covered : (q : CidParts) → Covers walk q → Among q walk.seen.keys
     covered q (inl m) = m
     covered q (inr w) = absurd (subst (Among q) none w)
 
-    by : (n : ℕ) (q : CidParts) → IsStepsFrom blocks root n q → is_held q blocks ≡ true → Among q walk.found.items
-    by zero q e k = subst (λ x. Among x walk.found.items) (sym e) (covered root (h.begun (subst (λ x. is_held x blocks ≡ true) e k)))
-    by (suc n) q s k = covered q (h.next s.0 q (by n s.0 s.1 (ap is_some s.2.2)) s.2 k)
+    by : (n : ℕ) (q : CidParts) → IsStepsFrom blocks root n q → Among q walk.seen.keys
+    by zero q e = subst (λ x. Among x walk.seen.keys) (sym e) (covered root h.begun)
+    by (suc n) q s = covered q (h.next s.0 q (by n s.0 s.1) s.2)
 
--- no step leads on from a name that is not held
-pub none_found : (blocks : Held) (root : CidParts) → is_held root blocks ≡ false → ListsReachable blocks root []
-none_found blocks root free = (tt, λ q. (λ m. absurd m, λ r. absurd (by r.1.0 q r.1.1 r.0)))
+-- no link leads on from a name that is not held
+pub none_found : (blocks : Held) (root : CidParts) → LeadsNowhere blocks root → ListsReachable blocks root []
+none_found blocks root free = (tt, λ q. (λ m. absurd m, λ r. absurd (elsewhere r.1.0 q r.1.1 r.0)))
   where
-    by : (n : ℕ) (q : CidParts) → IsStepsFrom blocks root n q → is_held q blocks ≡ true → ⊥
-    by zero q e k = let clash : true ≡ false = sym k ∙ ap (λ x. is_held x blocks) e ∙ free in absurd (cc clash)
-    by (suc n) q s k = by n s.0 s.1 (ap is_some s.2.2)
+    no_tree : (t : Tree) → NamesTree blocks root t → ⊥
+    no_tree t (inl b) = let clash : true ≡ false = sym (ap is_some b.1) ∙ free.1 in absurd (cc clash)
+    no_tree t (inr h) = not_inline (cid_bytes root) root free.0 free.2 refl (h.0, h.1, h.2, h.3)
+
+    by : (n : ℕ) (q r : CidParts) → IsStepsFrom blocks root n q → LeadsTo blocks q r → ⊥
+    by zero q r e l = no_tree l.1.0 (subst (λ x. NamesTree blocks x l.1.0) e l.1.1)
+    by (suc n) q r s l = by n s.0 q s.1 s.2
+
+    elsewhere : (n : ℕ) (q : CidParts) → IsStepsFrom blocks root n q → is_held q blocks ≡ true → ⊥
+    elsewhere zero q e k = let clash : true ≡ false = sym k ∙ ap (λ x. is_held x blocks) e ∙ free.1 in absurd (cc clash)
+    elsewhere (suc n) q s k = by n s.0 q s.1 s.2

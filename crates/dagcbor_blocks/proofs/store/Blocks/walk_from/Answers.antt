@@ -1,4 +1,4 @@
-use Rattle.std.proofs.Common.{rules, refl}
+use Rattle.std.proofs.Common.{rules}
 use Rattle.dagcbor_blocks.specs.Blocks.{held_blocks}
 use Rattle.dagcbor_blocks.proofs.Reaching.{walk_begun, walked, all_found}
 use Rattle.dagcbor_blocks.proofs.store.Blocks.walk_from.Goals as goal
@@ -10,4 +10,4 @@ pub returns-in_default : goal.returns-in_default
 returns-in_default c = all_found (held_blocks c.args.self.now) c.args.root c.loop-count.walk (search rules) c.loop-count.invariant
 
 pub loop-count-preserved : goal.loop-count-preserved
-loop-count-preserved c = walked c.spelling_unique.ensures c.args.self.now.blocks.entries c.args.self.now.sound c.args.root c.in-Some.name c.loop-count.walk _ c.visit.new.walk refl refl c.in-Some.ensures.items c.loop-count.invariant c.in_ok-visit.ensures
+loop-count-preserved c = walked c.spelling_unique.ensures c.cid_equality.ensures c.args.self.now.blocks.entries c.args.self.now.sound c.args.root c.in-Some.name c.loop-count.walk c.pop.new.self c.in-Some.ensures.items c.visit.new.walk c.loop-count.invariant c.in_ok-visit.ensures

@@ -122,6 +122,11 @@ none_visited es name links old new (Ok x) at listed fresh goes same =
 abbrev Covers : Walk → CidParts → Type 0
 Covers walk q = Among q walk.seen.keys ⊎ Among q walk.waiting.items
 
+-- nothing was gone over, or a root that is held was found first
+abbrev BeginsAt : Held → CidParts → Walk → Type 0
+BeginsAt blocks root walk = is_held root blocks ≡ true → ((walk.found.items ≡ []) × (walk.seen.keys ≡ []) × (walk.waiting.items ≡ root ∷ []))
+    ⊎ ((more : List CidParts) × (walk.found.items ≡ root ∷ more))
+
 -- what is known of a walk from the root
 pub record IsWalked (blocks : Held) (root : CidParts) (walk : Walk) : Type 0 where
   pub begun : Covers walk root
@@ -129,6 +134,7 @@ pub record IsWalked (blocks : Held) (root : CidParts) (walk : Walk) : Type 0 whe
   pub stepped : (q : CidParts) → Covers walk q → (n : ℕ) × IsStepsFrom blocks root n q
   pub found : (q : CidParts) → Among q walk.found.items ↔ (Among q walk.seen.keys × (is_held q blocks ≡ true))
   pub once : NoneTwice walk.found.items
+  pub first : BeginsAt blocks root walk
 
 pub walk_begun : (blocks : Held) (root : CidParts) (walk : Walk) → walk.seen.keys ≡ [] → walk.found.items ≡ [] → walk.waiting.items ≡ root ∷ [] → IsWalked blocks root walk
 walk_begun blocks root walk unseen none waits = record {
@@ -140,6 +146,7 @@ walk_begun blocks root walk unseen none waits = record {
   ];
   found = λ q. (λ m. absurd (subst (Among q) none m), λ m. absurd (subst (Among q) unseen m.0));
   once = subst NoneTwice (sym none) tt;
+  first = λ k. inl (none, unseen, waits);
 }
 
 -- a name under which a block is held holds none itself
@@ -161,6 +168,7 @@ module _ (law : SpellingsAreUnique) (cids : CidEqualityIsOfBytes) (es : List Blo
     stepped = λ q k. h.stepped q (elim k [ inl s ↦ inl s | inr w ↦ inr (subst (Among q) (sym waits) (push_among q rest.items name (inl w))) ]);
     found = h.found;
     once = h.once;
+    first = λ k. elim (h.first k) [ inl b ↦ absurd (subst (Among name) b.1 m) | inr f ↦ inr f ];
   }
     where
       covers : (q : CidParts) → Covers old q → Among q old.seen.keys ⊎ Among q rest.items
@@ -193,8 +201,25 @@ module _ (law : SpellingsAreUnique) (cids : CidEqualityIsOfBytes) (es : List Blo
     ];
     found = λ q. there q (is_held name (shown es)) refl f.found;
     once = by (is_held name (shown es)) f.found;
+    first = λ k. inr (begins (is_held name (shown es)) refl f.found k (h.first k));
   }
     where
+      only_one : {x : CidParts} → Among x (root ∷ []) → x ≡ root
+      only_one (inl e) = e
+      only_one (inr m) = absurd m
+
+      after : (b : Bool) → new.found.items ≡ (if b then old.found.items ++ name ∷ [] else old.found.items) → (more : List CidParts) × (old.found.items ≡ root ∷ more) → (more : List CidParts) × (new.found.items ≡ root ∷ more)
+      after true is o = (o.0 ++ name ∷ [], is ∙ ap (λ l. l ++ name ∷ []) o.1)
+      after false is o = (o.0, is ∙ o.1)
+
+      begins : (b : Bool) → is_held name (shown es) ≡ b → new.found.items ≡ (if b then old.found.items ++ name ∷ [] else old.found.items) → is_held root (shown es) ≡ true
+          → ((old.found.items ≡ []) × (old.seen.keys ≡ []) × (old.waiting.items ≡ root ∷ [])) ⊎ ((more : List CidParts) × (old.found.items ≡ root ∷ more)) → (more : List CidParts) × (new.found.items ≡ root ∷ more)
+      begins b t is k (inr o) = after b is o
+      begins b t is k (inl o) =
+          let same : name ≡ root = only_one (subst (Among name) (sym waits ∙ o.2) (push_among name rest.items name (inr refl))) in
+          let held : b ≡ true = sym t ∙ ap (λ x. is_held x (shown es)) same ∙ k in
+          ([], subst (λ x. new.found.items ≡ (if x then old.found.items ++ name ∷ [] else old.found.items)) held is ∙ ap (λ l. l ++ name ∷ []) o.0 ∙ ap (λ x. x ∷ []) same)
+
       waits_now : (q : CidParts) → Among q rest.items ⊎ Among q (reverse f.links) → Among q new.waiting.items
       waits_now q m = subst (Among q) (sym f.goes.waiting.1) (append_among q rest.items (reverse f.links) m)
 
@@ -251,7 +276,11 @@ module _ (law : SpellingsAreUnique) (cids : CidEqualityIsOfBytes) (es : List Blo
 -- ---- the end
 
 pub all_found : (blocks : Held) (root : CidParts) (walk : Walk) → walk.waiting.items ≡ [] → IsWalked blocks root walk → ListsReachable blocks root walk.found.items
-all_found blocks root walk none h = (h.once, λ q. (λ m. let k = (h.found q).0 m in (k.1, h.stepped q (inl k.0)), λ r. (h.found q).1 (by r.1.0 q r.1.1, r.0)))
+all_found blocks root walk none h = record {
+  all = λ q. (λ m. let k = (h.found q).0 m in (k.1, h.stepped q (inl k.0)), λ r. (h.found q).1 (by r.1.0 q r.1.1, r.0));
+  once = h.once;
+  first = λ k. elim (h.first k) [ inl b ↦ absurd (cc (sym none ∙ b.2)) | inr f ↦ f ];
+}
   where
     covered : (q : CidParts) → Covers walk q → Among q walk.seen.keys
     covered q (inl m) = m
@@ -263,7 +292,11 @@ all_found blocks root walk none h = (h.once, λ q. (λ m. let k = (h.found q).0 
 
 -- no link leads on from a name that is not held
 pub none_found : (blocks : Held) (root : CidParts) → LeadsNowhere blocks root → ListsReachable blocks root []
-none_found blocks root free = (tt, λ q. (λ m. absurd m, λ r. absurd (elsewhere r.1.0 q r.1.1 r.0)))
+none_found blocks root free = record {
+  all = λ q. (λ m. absurd m, λ r. absurd (elsewhere r.1.0 q r.1.1 r.0));
+  once = tt;
+  first = λ k. absurd (cc (sym k ∙ free.1));
+}
   where
     no_tree : (t : Tree) → NamesTree blocks root t → ⊥
     no_tree t (inl b) = let clash : true ≡ false = sym (ap is_some b.1) ∙ free.1 in absurd (cc clash)

@@ -42,10 +42,11 @@ abbrev pub NoneTwice : {X : Type 0} → List X → Type 0
 NoneTwice [] = ⊤
 NoneTwice (x ∷ xs) = ¬ Among x xs × NoneTwice xs
 
--- the names of the held blocks that links lead to from the root, each once
-abbrev pub ListsReachable : Held → CidParts → List CidParts → Type 0
-ListsReachable blocks root names = NoneTwice names
-    × ((q : CidParts) → Among q names ↔ IsReachable blocks root q)
+-- the names of the held blocks that links lead to from the root, each once, the root first
+pub record ListsReachable (blocks : Held) (root : CidParts) (names : List CidParts) : Type 0 where
+  pub all : (q : CidParts) → Among q names ↔ IsReachable blocks root q
+  pub once : NoneTwice names
+  pub first : is_held root blocks ≡ true → (more : List CidParts) × (names ≡ root ∷ more)
 
 -- ---- steps
 

@@ -8,3 +8,4 @@ pub mod ReadingBack
 pub mod Writing
 pub mod Nothing
 mod Holding
+mod Reaching

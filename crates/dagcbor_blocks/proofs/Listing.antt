@@ -66,11 +66,14 @@ held_block es v m s =
     (sound.tree, subst (λ (w : Vec ℕ Global). IsBlock w.items sound.tree) (sym e.2) sound.is_block)
 
 -- the first item of a held block is the whole of it
-links_of_block : SpellingsAreUnique → (es : List BlockEntry) (v : Vec ℕ Global) (names : List CidParts) → ∥ AllByRecursion IsSound es ∥₁ → Among v (values_of es) → AreFirstNames v.items names → (t : Tree) × IsSpelling v.items t × ListsReached names (links_of t)
-links_of_block law es v links h m first = (first.0, whole_spelling v.items first.1 first.0 first.2 none, first.4)
+pub whole_of_block : SpellingsAreUnique → (es : List BlockEntry) (v : Vec ℕ Global) → ∥ AllByRecursion IsSound es ∥₁ → Among v (values_of es) → (t : Tree) (rest : List ℕ) → IsFront v.items t rest → IsSpelling v.items t
+whole_of_block law es v h m t rest front = whole_spelling v.items rest t front none
   where
-    none : first.1 ≡ []
-    none = ∥∥₁_elim h (List-set ℕ_set _ _) (λ s. let u = held_block es v m s in (front_unique law v.items first.1 [] first.0 u.0 first.2 (whole_front u.1.0)).1)
+    none : rest ≡ []
+    none = ∥∥₁_elim h (List-set ℕ_set _ _) (λ s. let u = held_block es v m s in (front_unique law v.items rest [] t u.0 front (whole_front u.1.0)).1)
+
+links_of_block : SpellingsAreUnique → (es : List BlockEntry) (v : Vec ℕ Global) (names : List CidParts) → ∥ AllByRecursion IsSound es ∥₁ → Among v (values_of es) → AreFirstNames v.items names → (t : Tree) × IsSpelling v.items t × ListsReached names (links_of t)
+links_of_block law es v links h m first = (first.0, whole_of_block law es v h m first.0 first.1 first.2, first.4)
 
 -- the links of a held block are refused for want of memory alone
 no_links : (es : List BlockEntry) (v : Vec ℕ Global) → ∥ AllByRecursion IsSound es ∥₁ → Among v (values_of es) → ((links : List (List ℕ)) → AreFirstLinks v.items links → ⊥) → ⊥
@@ -133,7 +136,7 @@ so_far_next law cids blocks before rest v links old new sound is h first added =
 
 -- ---- the whole
 
-name_is_cid : (b : List ℕ) → AreCidParts (block_name b)
+pub name_is_cid : (b : List ℕ) → AreCidParts (block_name b)
 name_is_cid b = inr (refl, omega arith, omega arith, omega (arith, length-sha256 b))
 
 -- a look-up in the entries

@@ -32,27 +32,34 @@ pub unheld : {X : Type 0} (o : Option X) → false ≡ is_some o → o ≡ None
 unheld None e = refl
 unheld (Some x) e = absurd (cc e)
 
-pub put_link : {X : Type 0} (blocks : BTreeMap CidParts X) (link : CidParts) (old new : BTreeSet CidParts) → AreCidParts link → IsUnheld blocks link
-    → ((q : CidParts) → set.contains cid_cmp new q ≡ cond (is_at (cid_cmp link) q) true (set.contains cid_cmp old q)) → AddsOne {E = ℕ} blocks link old (Ok tt) new
-put_link blocks link old new valid free put = (
-  valid,
-  λ q. (
-    λ m. there q (is_at (cid_cmp link) q) refl (sym (put q) ∙ among_any q new.keys m),
-    λ h. any_among q new.keys (put q ∙ back q h),
-  ),
+pub one_put : (link : CidParts) (old new : BTreeSet CidParts) → ((q : CidParts) → set.contains cid_cmp new q ≡ cond (is_at (cid_cmp link) q) true (set.contains cid_cmp old q))
+    → (q : CidParts) → Among q new.keys ↔ (Among q old.keys ⊎ (q ≡ link))
+one_put link old new put q = (
+  λ m. there (is_at (cid_cmp link) q) refl (sym (put q) ∙ among_any q new.keys m),
+  λ h. any_among q new.keys (put q ∙ back h),
 )
   where
-    there : (q : CidParts) (b : Bool) → is_at (cid_cmp link) q ≡ b → cond b true (set.contains cid_cmp old q) ≡ true → Among q old.keys ⊎ ((q ≡ link) × IsUnheld blocks q)
-    there q true t m = let same = at_same link q t in inr (sym same, subst (IsUnheld blocks) same free)
-    there q false t m = inl (any_among q old.keys m)
+    there : (b : Bool) → is_at (cid_cmp link) q ≡ b → cond b true (set.contains cid_cmp old q) ≡ true → Among q old.keys ⊎ (q ≡ link)
+    there true t m = inr (sym (at_same link q t))
+    there false t m = inl (any_among q old.keys m)
 
     kept : (b : Bool) {x : Bool} → x ≡ true → cond b true x ≡ true
     kept true e = refl
     kept false e = e
 
-    back : (q : CidParts) → Among q old.keys ⊎ ((q ≡ link) × IsUnheld blocks q) → cond (is_at (cid_cmp link) q) true (set.contains cid_cmp old q) ≡ true
-    back q (inl m) = kept (is_at (cid_cmp link) q) (among_any q old.keys m)
-    back q (inr u) = ap (λ b. cond b true (set.contains cid_cmp old q)) (same_at link q (sym u.0))
+    back : Among q old.keys ⊎ (q ≡ link) → cond (is_at (cid_cmp link) q) true (set.contains cid_cmp old q) ≡ true
+    back (inl m) = kept (is_at (cid_cmp link) q) (among_any q old.keys m)
+    back (inr u) = ap (λ b. cond b true (set.contains cid_cmp old q)) (same_at link q (sym u))
+
+pub put_link : {X : Type 0} (blocks : BTreeMap CidParts X) (link : CidParts) (old new : BTreeSet CidParts) → AreCidParts link → IsUnheld blocks link
+    → ((q : CidParts) → set.contains cid_cmp new q ≡ cond (is_at (cid_cmp link) q) true (set.contains cid_cmp old q)) → AddsOne {E = ℕ} blocks link old (Ok tt) new
+put_link blocks link old new valid free put = (
+  valid,
+  λ q. (
+    λ m. elim ((one_put link old new put q).0 m) [ inl o ↦ inl o | inr e ↦ inr (e, subst (IsUnheld blocks) (sym e) free) ],
+    λ h. (one_put link old new put q).1 (elim h [ inl o ↦ inl o | inr u ↦ inr u.0 ]),
+  ),
+)
 
 -- ---- many links
 

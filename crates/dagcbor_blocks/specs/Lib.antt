@@ -7,3 +7,4 @@ pub mod Bytes
 pub mod CarSteps
 pub mod Laws
 pub mod Steps
+pub mod Reaching

@@ -20,6 +20,7 @@ mod error;
 pub mod laws;
 mod name;
 mod put_error;
+mod reach;
 mod read_car;
 mod store;
 mod write_car;

@@ -4,8 +4,8 @@ use crate::tests::files::cids_of;
 use crate::tests::sections::{CHANGED, NUMBERS, RAW, SECTION, UNORDERED};
 use crate::tests::store::put;
 use dagcbor_blocks::Blocks;
-use dagcbor_testing::{agree, is_told};
-use serde_ipld_dagcbor::Cid;
+use dagcbor_testing::{LINK, agree, is_told};
+use serde_ipld_dagcbor::{Cid, Ipld, from_slice};
 use std::alloc::Global;
 use std::test::Fail;
 
@@ -91,4 +91,51 @@ fn blocks_are_handed_out_as_they_came(rt: HostRuntime) -> Result<(), Fail> {
         lets_go(&mut blocks)?;
     }
     are_names(alloc, &blocks, &[NUMBERS])
+}
+
+/// The list of one link, to the text "a", by the identity.
+const LIST: &[u8] =
+    b"\x01\x71\x00\x2a\x81\xd8\x2a\x58\x25\x00\x01\x71\x12\x20\x96\x1b\x6d\xd3\xed\xe3\xcb\x8e\xcb\xaa\xcb\xd6\x8d\xe0\x40\xcd\x78\xeb\x2e\xd5\x88\x91\x30\xcc\xeb\x4c\x49\x26\x8e\xa4\xd5\x06";
+
+/// Keeps a list of links, and answers its name.
+fn put_links(alloc: Global, blocks: &mut Blocks, names: &[Cid]) -> Result<Cid, Fail> {
+    let mut links = Vec::new(alloc);
+    for name in names {
+        links.push(Ipld::Link(*name))?;
+    }
+    put(blocks, &Ipld::List(links))
+}
+
+/// Fails where other names are reached from the root, or in another order.
+fn reaches(blocks: &Blocks, root: Cid, names: &[Cid]) -> Result<(), Fail> {
+    agree(blocks.reachable(&root)?.as_slice(), names)
+}
+
+#[test]
+fn what_links_lead_to_is_reached_once(rt: HostRuntime) -> Result<(), Fail> {
+    let alloc = rt.alloc();
+    let nowhere: Cid = from_slice(alloc, LINK)?;
+    let mut blocks = Blocks::new(alloc);
+    let leaf = put(&mut blocks, &"a")?;
+    let _other = put(&mut blocks, &"b")?;
+    let left = put_links(alloc, &mut blocks, &[leaf])?;
+    let right = put_links(alloc, &mut blocks, &[leaf, leaf])?;
+    let root = put_links(alloc, &mut blocks, &[right, left, nowhere])?;
+    reaches(&blocks, root, &[root, right, leaf, left])?;
+    reaches(&blocks, right, &[right, leaf])?;
+    reaches(&blocks, nowhere, &[])?;
+    agree(blocks.remove(&left), true)?;
+    reaches(&blocks, root, &[root, right, leaf])
+}
+
+#[test]
+fn names_by_the_identity_are_followed(rt: HostRuntime) -> Result<(), Fail> {
+    let alloc = rt.alloc();
+    let list = Cid::try_from(LIST)?;
+    let mut blocks = Blocks::new(alloc);
+    let root = put_links(alloc, &mut blocks, &[list, list])?;
+    reaches(&blocks, root, &[root])?;
+    let leaf = put(&mut blocks, &"a")?;
+    reaches(&blocks, root, &[root, leaf])?;
+    reaches(&blocks, list, &[leaf])
 }

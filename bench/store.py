@@ -1,5 +1,5 @@
 #!/usr/bin/env python3
-"""What a store that lasts takes: 100,000 blocks of 1,000 bytes imported by `dagstore`, and opened again, beside Python's sqlite3 with hashlib.
+"""What a store that lasts takes: 100,000 blocks of 1,000 bytes imported by `dagstore`, opened again, checked and exported, beside Python's sqlite3 with hashlib.
 
     bench/store.py           prints the rows of docs/SPEED.md: processor seconds, and the greatest memory in MB
 
@@ -61,6 +61,18 @@ def peer(cars, path):
     base.execute("COMMIT")
 
 
+def peer_check(path, out):
+    """The same check: each block's digest is tested, in the order of names; or, with a file to write, the same export."""
+    base = sqlite3.connect(path, isolation_level=None)
+    with open(out, "wb") as file:
+        for name, block in base.execute("SELECT cid, bytes FROM block ORDER BY cid"):
+            assert hashlib.sha256(block).digest() == name[4:]
+            if out != os.devnull:
+                file.write(varint(len(name) + len(block)) + name + block)
+            else:
+                print(name.hex(), "ok")
+
+
 def timed(words, given=None):
     """Processor seconds, and the greatest memory in MB, of a child of its own."""
     reader, writer = os.pipe()
@@ -79,12 +91,19 @@ def main(words):
     if words[:1] == ["peer"]:
         peer(*words[1:])
         return 0
+    if words[:1] == ["peer_check"]:
+        peer_check(*words[1:])
+        return 0
     with tempfile.TemporaryDirectory() as at:
         make(f"{at}/blocks.car", 100_000)
         rows = [
             ("import, `dagstore`", timed([PROGRAM, f"{at}/a.db", "import"], f"{at}/blocks.car")),
             ("import, Python's `sqlite3`", timed([sys.executable, __file__, "peer", f"{at}/blocks.car", f"{at}/b.db"])),
             ("open and count, `dagstore`", timed([PROGRAM, f"{at}/a.db", "count"])),
+            ("check, `dagstore`", timed([PROGRAM, f"{at}/a.db", "check"])),
+            ("check, Python's `sqlite3`", timed([sys.executable, __file__, "peer_check", f"{at}/b.db", os.devnull])),
+            ("export, `dagstore`", timed([PROGRAM, f"{at}/a.db", "export"])),
+            ("export, Python's `sqlite3`", timed([sys.executable, __file__, "peer_check", f"{at}/b.db", f"{at}/c.car"])),
         ]
     for name, (seconds, memory) in rows:
         print(f"| {name} | {seconds:.2f} | {memory:.0f} |")

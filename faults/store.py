@@ -3,6 +3,7 @@
 What was said to be stored must be there, and of what was not, all or nothing. What the file holds is read by SQLite
 (Python's sqlite3) from a copy, and then by the program itself."""
 
+import base64
 import hashlib
 import os
 import random
@@ -142,6 +143,89 @@ def limits(program, path, draw):
     return wrong
 
 
+def sections_of(car):
+    """The names and blocks of a file, in its order."""
+    def length(at):
+        n = shift = 0
+        while True:
+            byte = car[at]
+            n |= (byte & 127) << shift
+            shift, at = shift + 7, at + 1
+            if byte < 128:
+                return n, at
+    n, at = length(0)
+    at += n
+    found = []
+    while at < len(car):
+        n, at = length(at)
+        found.append((car[at:at + 36], car[at + 36:at + n]))
+        at += n
+    return found
+
+
+def text_of(name):
+    """A CID of version 1 in base 32."""
+    return "b" + base64.b32encode(name).decode().lower().rstrip("=")
+
+
+def parent_of(names):
+    """A list of links, and its CID."""
+    block = bytes([0x80 + len(names)]) + b"".join(b"\xd8\x2a\x58\x25\x00" + name for name in names)
+    return b"\x01\x71\x12\x20" + hashlib.sha256(block).digest(), block
+
+
+def words(program, at, draw):
+    """What `export`, `list` and `check` say of a store, and of one that was changed by hand; and what `import` refuses."""
+    wrong, path = [], f"{at}/c.db"
+
+    def expect(what, ran, status, said):
+        if (ran.returncode, ran.stdout) != (status, said):
+            wrong.append(f"{what}: {ran.returncode} {ran.stdout[:200]} {ran.stderr}")
+
+    blocks = dict(block_of(draw) for _ in range(200))
+    lost = block_of(draw)[0]
+    held = next(iter(blocks))
+    name, parent = parent_of([lost, held, lost])
+    blocks[name] = parent
+    stored = sorted(blocks.items())
+    expect("import", run(program, path, "import", given=car_of(blocks)), 0, b"stored 201\n")
+    exported = run(program, path, "export")
+    if exported.returncode != 0 or sections_of(exported.stdout) != stored:
+        wrong.append(f"export: {exported.returncode} {len(exported.stdout)} bytes {exported.stderr}")
+    expect("import of the export", run(program, f"{at}/d.db", "import", given=exported.stdout), 0, b"stored 201\n")
+    expect("export of the import", run(program, f"{at}/d.db", "export"), 0, exported.stdout)
+    expect("list", run(program, path, "list"), 0, "".join(f"{text_of(n)} {len(b)}\n" for n, b in stored).encode())
+    kinds = {n: "list" if n == name else "bytes" for n in blocks}
+    missing = f"missing {text_of(lost)}\n"
+    expect("check", run(program, path, "check"), 1, ("".join(f"{text_of(n)} ok {kinds[n]}\n" for n, _ in stored) + missing).encode())
+
+    # A file with a block of other bytes at its end, and one that is cut, change nothing.
+    other = block_of(draw)
+    for what, car in (("other bytes", car_of({**dict([block_of(draw)]), other[0]: b"\x41\x00"})), ("cut", car_of(dict([block_of(draw), other]))[:-1])):
+        ran = run(program, path, "import", given=car)
+        if (ran.returncode, ran.stdout) != (1, b"") or rows_of(path) != blocks:
+            wrong.append(f"import of a file that is {what}: {ran.returncode} {ran.stdout} {ran.stderr}")
+    expect("a word that is none", run(program, f"{at}/none.db", "lists"), 2, b"")
+    if os.path.exists(f"{at}/none.db"):
+        wrong.append("a word that is none made a file")
+
+    # Other bytes, and no row, under two names; and no missing link once the lost one is stored by another.
+    first, second = stored[0][0], stored[1][0]
+    base = sqlite3.connect(path)
+    base.execute("UPDATE block SET bytes = x'00' WHERE cid = ?", (first,))
+    base.execute("UPDATE block SET bytes = x'ff' WHERE cid = ?", (second,))
+    base.commit()
+    base.close()
+    damaged = {first, second}
+    lines = "".join(f"{text_of(n)} damaged\n" if n in damaged else f"{text_of(n)} ok {kinds[n]}\n" for n, _ in stored)
+    after = missing if name not in damaged else ""
+    expect("check of other bytes", run(program, path, "check"), 1, (lines + after).encode())
+    ran = run(program, path, "export")
+    if ran.returncode != 1 or b"other bytes" not in ran.stderr:
+        wrong.append(f"export of other bytes: {ran.returncode} {ran.stderr}")
+    return wrong
+
+
 def foreign(program, at):
     """Files that are none of ours are refused, and left as they are."""
     wrong = []
@@ -150,9 +234,15 @@ def foreign(program, at):
     base.execute("INSERT INTO note VALUES (1)")
     base.commit()
     base.close()
+    base = sqlite3.connect(f"{at}/names.db")
+    base.execute("CREATE TABLE block (cid BLOB NOT NULL PRIMARY KEY, bytes BLOB NOT NULL) STRICT")
+    base.execute("INSERT INTO block VALUES (x'00', x'00')")
+    base.execute("PRAGMA user_version = 1")
+    base.commit()
+    base.close()
     with open(f"{at}/text", "wb") as file:
         file.write(b"a text, and no database\n" * 100)
-    for name in ("other.db", "text"):
+    for name in ("other.db", "names.db", "text"):
         before = open(f"{at}/{name}", "rb").read()
         ran = run(program, f"{at}/{name}", "count")
         if ran.returncode != 1 or ran.stdout or open(f"{at}/{name}", "rb").read() != before:
@@ -167,4 +257,5 @@ def check(report, program, count=200, seed=1):
         wrong, killed = crash(program, f"{at}/a.db", count, seed)
         report(f"dagstore: killed at random moments ({killed} in an import)", count, wrong)
         report("dagstore: a full disk, a second process, a file that may not be written, other bytes", 4, limits(program, f"{at}/b.db", random.Random(seed)))
-        report("dagstore: files that are none of ours", 2, foreign(program, at))
+        report("dagstore: what its words say of a store, whole and changed by hand", 1, words(program, at, random.Random(seed)))
+        report("dagstore: files that are none of ours", 3, foreign(program, at))

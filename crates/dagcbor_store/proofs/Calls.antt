@@ -8,11 +8,11 @@ use Rattle.sqlite_trees.specs.View.{View, IsClean, KeepsCommitted, IsRolledBack,
 use Rattle.sqlite_trees.specs.declared.store.Store.{Ghosts}
 use Rattle.sqlite_trees.specs.declared.error.StoreError.{StoreError}
 use Rattle.sqlite_trees.specs.declared.error.StoreError.TheVariants as stored
-use Rattle.ipld_tree.specs.Cid.{CidParts, cid_bytes}
+use Rattle.ipld_tree.specs.Cid.{CidParts, cid_bytes, IsCid}
 use Rattle.dagcbor_car.specs.Car.{Section}
 use Rattle.dagcbor_car.specs.Sets.{Among}
 use Rattle.dagcbor_store.specs.Rows.{block_tree, name_tree, block_row, name_entry, IsStored, IsListed, Gets, Adds, Takes, IsTooLong}
-use Rattle.dagcbor_store.specs.Stored.{IsKeyed, IsReady, IsSame, IsUndone, IsNamed, GetsSome, GetRefused, IsDamaged, IsVerified, Fails, TellsOfStore, IsAdded, IsTaken, IsToldAdded, PutRefused}
+use Rattle.dagcbor_store.specs.Stored.{IsKeyed, IsReady, IsSame, IsUndone, IsNamed, GetsSome, GetRefused, IsDamaged, IsVerified, Fails, TellsOfStore, IsAdded, IsAddedTo, IsTaken, IsToldAdded, PutRefused}
 use Rattle.dagcbor_store.specs.declared.entries.Found.{Found}
 use Rattle.dagcbor_store.specs.declared.entries.Found.TheVariants.{Nothing, NoRow, Block}
 use Rattle.dagcbor_store.specs.declared.entries.Added.{Added}
@@ -20,7 +20,7 @@ use Rattle.dagcbor_store.specs.declared.entries.Added.TheVariants.{New, Listed, 
 use Rattle.dagcbor_store.specs.declared.error.StoreRefusal.{StoreRefusal}
 use Rattle.dagcbor_store.specs.declared.error.StoreRefusal.TheVariants as refusal
 use Rattle.dagcbor_store.proofs.Numbers.{among_unfiltered}
-use Rattle.dagcbor_store.proofs.Keeping.{stored_found, stored_there, stored_as_found, stored_since, keyed_since, stored_left, none_left, keyed_left, rows_left, ready_undone, undone_since}
+use Rattle.dagcbor_store.proofs.Keeping.{stored_found, stored_there, stored_as_found, stored_since, keyed_since, stored_left, lists_since, lists_left, keyed_left, rows_left, ready_undone, undone_since}
 
 -- ---- getting
 
@@ -28,7 +28,7 @@ pub gets_some : (v : View) (name : CidParts) (found : Found) (r : Result (Option
     → IfOk r (λ o. GetsSome v name (option_map (λ (b : Vec ℕ Global). b.items) o))
 gets_some v name Nothing r keyed f is = subst (λ x. IfOk x (λ o. GetsSome v name (option_map (λ (b : Vec ℕ Global). b.items) o))) (sym is) (f keyed.0)
 gets_some v name NoRow r keyed f is = subst (λ x. IfOk x (λ o. GetsSome v name (option_map (λ (b : Vec ℕ Global). b.items) o))) (sym is) tt
-gets_some v name (Block b) r keyed f (inl is) = subst (λ x. IfOk x (λ o. GetsSome v name (option_map (λ (b : Vec ℕ Global). b.items) o))) (sym is.0) (stored_found v.trees (cid_bytes name) b.items f.0 f.1 f.2)
+gets_some v name (Block b) r keyed f (inl is) = subst (λ x. IfOk x (λ o. GetsSome v name (option_map (λ (b : Vec ℕ Global). b.items) o))) (sym is.0) (stored_found v.trees (cid_bytes name) b.items f.0 f.1 f.2, λ d s. stored_as_found v.trees (cid_bytes name) d b.items f.0 keyed f.1 f.2 s)
 gets_some v name (Block b) r keyed f (inr is) = subst (λ x. IfOk x (λ o. GetsSome v name (option_map (λ (b : Vec ℕ Global). b.items) o))) (sym is.0) tt
 
 damaged : (v : View) (name : CidParts) (found : Found) → IsKeyed (v.trees name_tree) → Gets v.trees (cid_bytes name) found → (r : Result (Option (Vec ℕ Global)) StoreRefusal) → IsVerified name found r → (e : StoreRefusal) → r ≡ Err e → (e ≡ refusal.Damaged name) × IsDamaged v name
@@ -76,10 +76,10 @@ ready_written old new h keyed r =
       committed = λ o. subst (λ (t : Trees). IsKeyed (t name_tree)) (sym committed) (r.committed (subst IsTrue is_open o));
     }
 
-pub keyed_added : (old new : Trees) (name b : List ℕ) (added : Added) → Adds old new name b added → IsKeyed (old name_tree) → IsKeyed (new name_tree)
-keyed_added old new name b New a keyed = keyed_since old new name b a.0 keyed (a.1 keyed.0) a.2 a.3 a.4
-keyed_added old new name b Listed a keyed = subst (λ (t : Trees). IsKeyed (t name_tree)) (sym a.1) keyed
-keyed_added old new name b NoNumber a keyed = subst (λ (t : Trees). IsKeyed (t name_tree)) (sym a.1) keyed
+pub keyed_added : (old new : Trees) (name b : List ℕ) (added : Added) → IsCid name → Adds old new name b added → IsKeyed (old name_tree) → IsKeyed (new name_tree)
+keyed_added old new name b New cid a keyed = keyed_since old new name b a.0 keyed (a.1 keyed.0) a.2 a.3 a.4 cid
+keyed_added old new name b Listed cid a keyed = subst (λ (t : Trees). IsKeyed (t name_tree)) (sym a.1) keyed
+keyed_added old new name b NoNumber cid a keyed = subst (λ (t : Trees). IsKeyed (t name_tree)) (sym a.1) keyed
 
 pub keyed_taken : (old new : Trees) (name : List ℕ) (taken : Bool) → Takes old new name taken → IsKeyed (old name_tree) → IsKeyed (new name_tree)
 keyed_taken old new name false t keyed = subst (λ (x : Trees). IsKeyed (x name_tree)) (sym t.1) keyed
@@ -88,16 +88,27 @@ keyed_taken old new name true t keyed = keyed_left old new name t.0 keyed t.1 t.
 still_open : (old new : View) → OnlyWrites old new → IsTrue old.is_open → IsTrue new.is_open
 still_open old new h o = subst IsTrue (sym (ap (λ (v : View). v.is_open) h)) o
 
-pub is_added : (old new : View) (name : CidParts) (b : List ℕ) (added : Added) (r : Result (Unit {0}) StoreRefusal) → OnlyWrites old new → old.is_broken ≡ false → IsTrue old.is_open → IsKeyed (old.trees name_tree)
-    → Adds old.trees new.trees (cid_bytes name) b added → IsToldAdded added r → OnOk r (IsAdded old new name b)
-is_added old new name b New r h sound o keyed a is = subst (λ x. OnOk x (IsAdded old new name b)) (sym is) (record {
-  trees = inl (record { unlisted = a.1 keyed.0; holds = stored_since old.trees new.trees (cid_bytes name) b a.0 keyed (a.1 keyed.0) a.2 a.3 a.4 });
+added_view : (old new : View) (name : CidParts) (b : List ℕ) → OnlyWrites old new → old.is_broken ≡ false → IsTrue old.is_open → IsAddedTo old.trees new.trees name b → IsAdded old new name b
+added_view old new name b h sound o trees = record {
+  trees = trees;
   committed = ap (λ (v : View). v.committed) h;
+  reals = ap (λ (v : View). v.reals) h;
   was_open = o;
+  was_sound = sound;
   is_open = still_open old new h o;
   sound = ap (λ (v : View). v.is_broken) h ∙ sound;
-})
-is_added old new name b Listed r h sound o keyed a is = subst (λ x. OnOk x (IsAdded old new name b)) (sym is) (record { trees = inr a; committed = ap (λ (v : View). v.committed) h; was_open = o; is_open = still_open old new h o; sound = ap (λ (v : View). v.is_broken) h ∙ sound })
+}
+
+pub is_added : (old new : View) (name : CidParts) (b : List ℕ) (added : Added) (r : Result (Unit {0}) StoreRefusal) → OnlyWrites old new → old.is_broken ≡ false → IsTrue old.is_open → IsKeyed (old.trees name_tree)
+    → Adds old.trees new.trees (cid_bytes name) b added → IsToldAdded added r → OnOk r (IsAdded old new name b)
+is_added old new name b New r h sound o keyed a is = subst (λ x. OnOk x (IsAdded old new name b)) (sym is)
+    (added_view old new name b h sound o
+    (inl (record {
+      unlisted = a.1 keyed.0;
+      holds = stored_since old.trees new.trees (cid_bytes name) b a.0 keyed (a.1 keyed.0) a.2 a.3 a.4;
+      lists = lists_since old.trees new.trees (cid_bytes name) b a.0 keyed (a.1 keyed.0) a.2 a.3 a.4;
+    })))
+is_added old new name b Listed r h sound o keyed a is = subst (λ x. OnOk x (IsAdded old new name b)) (sym is) (added_view old new name b h sound o (inr a))
 is_added old new name b NoNumber r h sound o keyed a is = subst (λ x. OnOk x (IsAdded old new name b)) (sym is) tt
 
 pub not_added : {S : Type 0} (g : Ghosts S) (s : Section) (old new : S) (added : Added) (r : Result (Unit {0}) StoreRefusal)
@@ -105,14 +116,14 @@ pub not_added : {S : Type 0} (g : Ghosts S) (s : Section) (old new : S) (added :
 not_added g s old new New r h is = subst (λ x. IfErr x (PutRefused g s old new)) (sym is) tt
 not_added g s old new Listed r h is = subst (λ x. IfErr x (PutRefused g s old new)) (sym is) tt
 not_added g s old new NoNumber r h is = subst (λ x. IfErr x (PutRefused g s old new)) (sym is)
-    (λ clean. let k = h clean in (k.0.0, record { trees = k.0.1; committed = ap (λ (v : View). v.committed) k.1; is_open = ap (λ (v : View). v.is_open) k.1 }))
+    (λ clean. let k = h clean in (k.0.0, record { trees = k.0.1; committed = ap (λ (v : View). v.committed) k.1; is_open = ap (λ (v : View). v.is_open) k.1; broken = ap (λ (v : View). v.is_broken) k.1 }))
 
 pub is_taken : (old new : View) (name : CidParts) (taken : Bool) → OnlyWrites old new → IsTrue old.is_open → IsKeyed (old.trees name_tree) → Takes old.trees new.trees (cid_bytes name) taken → IsTaken old new name taken
 is_taken old new name true h o keyed t =
     let rows = rows_left old.trees new.trees (cid_bytes name) t.0 t.3 in
     record {
       was = (λ x. (t.0, t.1), λ x. refl);
-      gone = λ l. none_left old.trees new.trees (cid_bytes name) t.0 keyed t.1 t.2 l.0 l.1;
+      lists = lists_left old.trees new.trees (cid_bytes name) t.0 keyed t.1 t.2;
       holds = stored_left old.trees new.trees (cid_bytes name) t.0 keyed t.1 t.2 rows.0 rows.1;
       committed = ap (λ (v : View). v.committed) h;
       is_open = still_open old new h o;
@@ -121,7 +132,10 @@ is_taken old new name false h o keyed t =
     let none = t.0 keyed.0 in
     record {
       was = (λ x. absurd (true≢false (sym x)), λ l. absurd (none l));
-      gone = λ l. none (subst (λ (x : Trees). IsListed (x name_tree) (cid_bytes name)) t.1 l);
+      lists = λ q. (
+        λ l. let was = subst (λ (x : Trees). IsListed (x name_tree) q) t.1 l in (was, λ e. none (subst (IsListed (old.trees name_tree)) e was)),
+        λ h. subst (λ (x : Trees). IsListed (x name_tree) q) (sym t.1) h.0,
+      );
       holds = λ q d. (
         λ s. let was = subst (λ x. IsStored x q d) t.1 s in (was, λ e. none (was.id, subst (λ n. Among (name_entry n was.id) (old.trees name_tree)) e was.listed)),
         λ s. subst (λ x. IsStored x q d) (sym t.1) s.0,
@@ -132,7 +146,7 @@ is_taken old new name false h o keyed t =
 
 -- ---- failures
 
-cause_until : (v : View) (a b c : ℕ) (U : Type 0) (e : StoreError) → b ≤ c → HasCause v (MoreFaults a b) U e → HasCause v (MoreFaults a c) U e
+pub cause_until : (v : View) (a b c : ℕ) (U : Type 0) (e : StoreError) → b ≤ c → HasCause v (MoreFaults a b) U e → HasCause v (MoreFaults a c) U e
 cause_until v a b c U stored.OutOfMemory up h = tt
 cause_until v a b c U stored.Io up h = omega arith
 cause_until v a b c U stored.Corrupt up h = omega arith

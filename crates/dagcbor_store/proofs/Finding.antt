@@ -1,10 +1,10 @@
 -- What a seek in the index of names finds.
-use Rattle.std.proofs.Common.{◌≡◌, inl, inr, ℕ, ℤ, List, [], ◌∷◌, Bool, true, false, cond, Ordering, Less, Equal, is_lt, refl, sym, ap, ◌∙◌, subst, true≢false, length, arith}
+use Rattle.std.proofs.Common.{◌≡◌, inl, inr, ℕ, ℤ, List, [], ◌∷◌, ◌++◌, Bool, true, false, cond, Ordering, Less, Equal, Greater, is_lt, refl, sym, ap, ◌∙◌, subst, true≢false, length, arith}
 use Rattle.std.specs.Prelude.{◌⊎◌, ◌≢◌, Option, None, Some, MatchOption, is_some}
 use Rattle.std.specs.List.{AllByRecursion}
-use Rattle.std.specs.Ordering.{nat_cmp}
-use Rattle.std.specs.Cmp.Lexicographic.{slice_cmp}
-use Rattle.std.proofs.lemmas.Cmp.{tied_itself, nat_list_cmp_total}
+use Rattle.std.specs.Ordering.{nat_cmp, ordering_then, ordering_reverse}
+use Rattle.std.proofs.lemmas.Bool.Decides.{nat_tests}
+use Rattle.std.proofs.lemmas.Cmp.{tied_itself, nat_cmp_total, nat_list_cmp_total}
 use Rattle.sqlite_value.specs.declared.value.Value.{Value}
 use Rattle.sqlite_value.specs.declared.value.Value.TheVariants.{Int, Blob}
 use Rattle.sqlite_value.specs.Order.{Row, column, value_cmp}
@@ -20,10 +20,11 @@ use Rattle.sqlite_trees.specs.Tree.{IsIndex, from_key, sought, order_of}
 use Rattle.sqlite_trees.proofs.TreeLemmas.{prefix_cmp-one}
 use Rattle.std.proofs.lemmas.Map.Lookups.{exact_bytes}
 use Rattle.dagcbor_car.specs.Sets.{Among}
-use Rattle.dagcbor_store.specs.Rows.{name_tree, name_entry, IsOther, IsListed, AreNameEntries, FindsName}
-
-abbrev pub name_cmp : List ℕ → List ℕ → Ordering
-name_cmp = slice_cmp nat_cmp
+use Rattle.dagcbor_store.specs.Rows.{name_tree, name_entry, IsOther, IsListed, IsNameEntry, AreNameEntries, FindsName, name_cmp, EntersName, IsFirstFrom, FindsFirst}
+use Rattle.dagcbor_store.specs.Stored.{bound_behind, IsBehind, IsNext}
+use Rattle.ipld_tree.specs.declared.cid_error.CidError.{CidError}
+use Rattle.std.specs.Prelude.{Result, Ok, Err}
+use Rattle.ipld_tree.specs.Cid.{CidParts, cid_bytes}
 
 pub all_among : {X : Type 0} (P : X → Type 0) (x : X) (xs : List X) → AllByRecursion P xs → Among x xs → P x
 all_among P x [] all h = absurd h
@@ -105,6 +106,110 @@ module _ (name : List ℕ) where
 
   pub finds_none : (es : List Row) → IsIndex plain es → from_key plain (Blob name ∷ []) es ≡ [] → FindsName es name None
   finds_none es up h = λ are. not_listed es up are (subst (IsOther name) (sym h) tt)
+
+-- ---- the first from a bound on
+
+same_blob : (m n : List ℕ) → Blob m ≡ Blob n → m ≡ n
+same_blob m n e = cc e
+
+pub none_from : (bound : List ℕ) (es : List Row) → from_key plain (Blob bound ∷ []) es ≡ [] → (q : List ℕ) → IsListed es q → is_lt (name_cmp q bound) ≡ true
+none_from bound [] h q l = absurd l.1
+none_from bound (e ∷ es) h q l = by (is_lt (prefix_cmp plain e (Blob bound ∷ []))) refl h (none_from bound es)
+  where
+    by : (b : Bool) → is_lt (prefix_cmp plain e (Blob bound ∷ [])) ≡ b → cond b (from_key plain (Blob bound ∷ []) es) (e ∷ es) ≡ []
+        → (from_key plain (Blob bound ∷ []) es ≡ [] → (q : List ℕ) → IsListed es q → is_lt (name_cmp q bound) ≡ true) → is_lt (name_cmp q bound) ≡ true
+    by true t none more = elim l.1 [
+      | inl here ↦ sym (ap is_lt (ap (λ (x : Row). prefix_cmp plain x (Blob bound ∷ [])) (sym here) ∙ entry_key q bound l.0)) ∙ t
+      | inr later ↦ more none q (l.0, later)
+    ]
+    by false t none more = absurd (cc none)
+
+-- the entry that a seek stands at is not below the bound, and each other such is behind it
+first_behind : (bound : List ℕ) (es left : List Row) (e : Row) (n : List ℕ) (id : ℤ) → IsIndex plain es → from_key plain (Blob bound ∷ []) es ≡ e ∷ left → e ≡ name_entry n id
+    → (is_lt (name_cmp n bound) ≡ false) × ((q : List ℕ) → IsListed es q → is_lt (name_cmp q bound) ≡ false → (q ≡ n) ⊎ (name_cmp n q ≡ Less))
+first_behind bound [] left e n id up h is = absurd (cc h)
+first_behind bound (x ∷ es) left e n id up h is = by (is_lt (prefix_cmp plain x (Blob bound ∷ []))) refl h (λ k. first_behind bound es left e n id up.1 k is)
+  where
+    by : (b : Bool) → is_lt (prefix_cmp plain x (Blob bound ∷ [])) ≡ b → cond b (from_key plain (Blob bound ∷ []) es) (x ∷ es) ≡ e ∷ left
+        → (from_key plain (Blob bound ∷ []) es ≡ e ∷ left → (is_lt (name_cmp n bound) ≡ false) × ((q : List ℕ) → IsListed es q → is_lt (name_cmp q bound) ≡ false → (q ≡ n) ⊎ (name_cmp n q ≡ Less)))
+        → (is_lt (name_cmp n bound) ≡ false) × ((q : List ℕ) → IsListed (x ∷ es) q → is_lt (name_cmp q bound) ≡ false → (q ≡ n) ⊎ (name_cmp n q ≡ Less))
+    by true t at more = (
+      (more at).0,
+      λ q l above. elim l.1 [
+        | inl here ↦ absurd (true≢false (sym t ∙ ap is_lt (ap (λ (y : Row). prefix_cmp plain y (Blob bound ∷ [])) (sym here) ∙ entry_key q bound l.0) ∙ above))
+        | inr later ↦ (more at).1 q (l.0, later) above
+      ],
+    )
+    by false t at more =
+        let same : x ≡ name_entry n id = (let first : x ≡ e = cc at in first) ∙ is in (
+          sym (ap is_lt (ap (λ (y : Row). prefix_cmp plain y (Blob bound ∷ [])) same ∙ entry_key n bound id)) ∙ t,
+          λ q l above. elim l.1 [
+            | inl here ↦ inl (let equal : name_entry q l.0 ≡ name_entry n id = here ∙ same in cc equal)
+            | inr later ↦
+                let below = subst (λ y. entry_cmp plain y (name_entry q l.0) ≡ Less) same (all_among (λ f. entry_cmp plain x f ≡ Less) (name_entry q l.0) es up.0 later) in
+                elim (names_rise n q id l.0 below) [ inl less ↦ inr less | inr tied ↦ inl (sym (exact_bytes n q tied)) ]
+          ],
+        )
+
+pub finds_first : (bound : List ℕ) (es left : List Row) (e : Row) (f : Result CidParts CidError) → IsIndex plain es → from_key plain (Blob bound ∷ []) es ≡ e ∷ left → EntersName e f → FindsFirst es bound (Some f)
+finds_first bound es left e (Err fault) up h enters = λ are. enters (all_among IsNameEntry e es are (first_is_among bound es left e h))
+finds_first bound es left e (Ok c) up h enters = λ are.
+    let here = first_is_among bound es left e h in
+    let n = all_among IsNameEntry e es are here in
+    let name : n.0 ≡ cid_bytes c = same_blob n.0 (cid_bytes c) (ap (λ (x : Row). column x 0) (sym n.2) ∙ enters.1) in
+    let is : e ≡ name_entry (cid_bytes c) n.1 = n.2 ∙ ap (λ m. name_entry m n.1) name in
+    let w = first_behind bound es left e (cid_bytes c) n.1 up h is in
+    record { valid = enters.0; listed = (n.1, subst (λ x. Among x es) is here); above = w.0; first = w.1 }
+
+-- ---- names behind a name
+
+not_below : (m q : List ℕ) → is_lt (name_cmp q (m ++ 0 ∷ [])) ≡ false → name_cmp m q ≡ Less
+not_below [] [] h = absurd (true≢false h)
+not_below [] (x ∷ q) h = refl
+not_below (a ∷ m) [] h = absurd (true≢false h)
+not_below (a ∷ m) (x ∷ q) h = subst (λ o. ordering_then o (name_cmp m q) ≡ Less) (sym (nat_cmp_total.antisymm a x)) (by (nat_cmp x a) h (not_below m q))
+  where
+    by : (o : Ordering) → is_lt (ordering_then o (name_cmp q (m ++ 0 ∷ []))) ≡ false → (is_lt (name_cmp q (m ++ 0 ∷ [])) ≡ false → name_cmp m q ≡ Less) → ordering_then (ordering_reverse o) (name_cmp m q) ≡ Less
+    by Less k more = absurd (true≢false k)
+    by Equal k more = more k
+    by Greater k more = refl
+
+no_less : (x : ℕ) → is_lt (nat_cmp x 0) ≡ false
+no_less x = grind (arith, nat_tests)
+
+none_below : (q : List ℕ) → is_lt (name_cmp q []) ≡ false
+none_below [] = refl
+none_below (x ∷ q) = refl
+
+below_bound : (m q : List ℕ) → name_cmp m q ≡ Less → is_lt (name_cmp q (m ++ 0 ∷ [])) ≡ false
+below_bound [] [] h = absurd (cc h)
+below_bound [] (x ∷ q) h = by (nat_cmp x 0) (no_less x)
+  where
+    by : (o : Ordering) → is_lt o ≡ false → is_lt (ordering_then o (name_cmp q [])) ≡ false
+    by Less k = k
+    by Equal k = none_below q
+    by Greater k = refl
+below_bound (a ∷ m) [] h = absurd (cc h)
+below_bound (a ∷ m) (x ∷ q) h = by (nat_cmp x a) (subst (λ o. ordering_then o (name_cmp m q) ≡ Less) (nat_cmp_total.antisymm a x) h) (below_bound m q)
+  where
+    by : (o : Ordering) → ordering_then (ordering_reverse o) (name_cmp m q) ≡ Less → (name_cmp m q ≡ Less → is_lt (name_cmp q (m ++ 0 ∷ [])) ≡ false) → is_lt (ordering_then o (name_cmp q (m ++ 0 ∷ []))) ≡ false
+    by Less k more = absurd (cc k)
+    by Equal k more = more k
+    by Greater k more = refl
+
+above_bound : (last : Option CidParts) (q : List ℕ) → is_lt (name_cmp q (bound_behind last)) ≡ false → IsBehind last q
+above_bound None q h = tt
+above_bound (Some c) q h = not_below (cid_bytes c) q h
+
+not_below_bound : (last : Option CidParts) (q : List ℕ) → IsBehind last q → is_lt (name_cmp q (bound_behind last)) ≡ false
+not_below_bound None q h = none_below q
+not_below_bound (Some c) q h = below_bound (cid_bytes c) q h
+
+pub next_none : (es : List Row) (last : Option CidParts) → FindsFirst es (bound_behind last) None → (q : List ℕ) → IsListed es q → IsBehind last q → ⊥
+next_none es last h q l behind = true≢false (sym (h q l) ∙ not_below_bound last q behind)
+
+pub next_some : (es : List Row) (last : Option CidParts) (c : CidParts) → IsFirstFrom es (bound_behind last) c → IsNext es last c
+next_some es last c h = record { valid = h.valid; listed = h.listed; behind = above_bound last (cid_bytes c) h.above; first = λ q l behind. h.first q l (not_below_bound last q behind) }
 
 -- where a seek in the index stands
 pub sought_name : (old new : View) (key : Row) → old.shape name_tree ≡ shape.Index plain → new ≡ with_cursor old 0 (sought (order_of (old.shape name_tree)) Forward key (old.trees name_tree))

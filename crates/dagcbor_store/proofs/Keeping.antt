@@ -14,8 +14,9 @@ use Rattle.dagcbor_store.proofs.Finding.{all_among}
 use Rattle.sqlite_trees.specs.Tree.{Trees, rowid, has_rowid, put_row, without_rowid, insert_entry, remove_entry}
 use Rattle.sqlite_trees.specs.View.{View, IsClean, KeepsCommitted, IsRolledBack}
 use Rattle.sqlite_exec.specs.Calls.{OnlyReads}
+use Rattle.ipld_tree.specs.Cid.{IsCid}
 use Rattle.dagcbor_car.specs.Sets.{Among}
-use Rattle.dagcbor_store.specs.Rows.{block_tree, name_tree, block_row, name_entry, IsStored, IsListed, AreNameEntries, FindsName, IsFreeId, IsRowOf}
+use Rattle.dagcbor_store.specs.Rows.{block_tree, name_tree, block_row, name_entry, IsStored, IsListed, IsNameEntry, AreNameEntries, FindsName, IsFreeId, IsRowOf}
 use Rattle.dagcbor_store.proofs.Numbers.{among_filter, among_unfiltered, has_own}
 use Rattle.dagcbor_store.specs.Stored.{IsKeyed, IsReady, IsSame, IsUndone}
 
@@ -25,7 +26,7 @@ pub ready_read : (old new : View) → OnlyReads old new → IsReady old → IsRe
 ready_read old new h r = subst IsReady (sym h) (record { blocks = r.blocks; names = r.names; lasting = r.lasting; unbroken = r.unbroken; keyed = r.keyed; committed = r.committed })
 
 pub same_read : (old new : View) → OnlyReads old new → IsSame old new
-same_read old new h = record { trees = ap (λ (v : View). v.trees) h; committed = ap (λ (v : View). v.committed) h; is_open = ap (λ (v : View). v.is_open) h }
+same_read old new h = record { trees = ap (λ (v : View). v.trees) h; committed = ap (λ (v : View). v.committed) h; is_open = ap (λ (v : View). v.is_open) h; broken = ap (λ (v : View). v.is_broken) h }
 
 -- ---- failures
 
@@ -126,7 +127,7 @@ among_put new id (r ∷ rs) x is free = by (value_cmp (rowid r) (rowid new)) ref
 -- the name that is added is that of no entry
 apart_from : (name : List ℕ) (id : ℤ) (es : List Row) → AreNameEntries es → (IsListed es name → ⊥) → (e : Row) → Among e es → entry_cmp plain e (name_entry name id) ≡ Equal → ⊥
 apart_from name id es are none e there tied =
-    let a = all_among (λ x. (n : List ℕ) × (i : ℤ) × (x ≡ name_entry n i)) e es are there in
+    let a = all_among IsNameEntry e es are there in
     let same : a.0 ≡ name = exact_bytes a.0 name (sym (value_cmp-Blob a.0 name) ∙ (then_tied (value_cmp (Blob a.0) (Blob name)) _ (rw first_key-plain at (subst (λ x. entry_cmp plain x (name_entry name id) ≡ Equal) a.2 tied))).0) in
     none (a.1, subst (λ x. Among x es) (a.2 ∙ ap (λ n. name_entry n a.1) same) there)
 
@@ -173,20 +174,26 @@ module _ (old new : Trees) (name b : List ℕ) (id : ℤ) (keyed : IsKeyed (old 
       }
       back (inr s) = record { id = s.id; listed = (inserted (name_entry q s.id)).1 (inr s.listed); row = (put (block_row s.id q d)).1 (inr s.row) }
 
-  entries_since : AreNameEntries (new name_tree)
-  entries_since = subst AreNameEntries (sym entries) (all_inserted (old name_tree) keyed.0)
+  pub lists_since : (q : List ℕ) → IsListed (new name_tree) q ↔ ((q ≡ name) ⊎ IsListed (old name_tree) q)
+  lists_since q = (
+    λ l. elim ((inserted (name_entry q l.0)).0 l.1) [ inl e ↦ inl (same_entry q name l.0 id e).0 | inr was ↦ inr (l.0, was) ],
+    λ h. elim h [ inl e ↦ (id, (inserted (name_entry q id)).1 (inl (ap (λ n. name_entry n id) e))) | inr l ↦ (l.0, (inserted (name_entry q l.0)).1 (inr l.1)) ],
+  )
+
+  entries_since : IsCid name → AreNameEntries (new name_tree)
+  entries_since cid = subst AreNameEntries (sym entries) (all_inserted (old name_tree) keyed.0)
     where
       all_inserted : (es : List Row) → AreNameEntries es → AreNameEntries (insert_entry plain (name_entry name id) es)
-      all_inserted [] are = ((name, id, refl), tt)
+      all_inserted [] are = ((name, id, refl, cid), tt)
       all_inserted (e ∷ es) are = by (entry_cmp plain e (name_entry name id)) (all_inserted es are.1)
         where
           by : (o : Ordering) → AreNameEntries (insert_entry plain (name_entry name id) es) → AreNameEntries (match_ordering o (e ∷ insert_entry plain (name_entry name id) es) (e ∷ es) (name_entry name id ∷ e ∷ es))
           by Less more = (are.0, more)
           by Equal more = are
-          by Greater more = ((name, id, refl), are)
+          by Greater more = ((name, id, refl, cid), are)
 
-  pub keyed_since : IsKeyed (new name_tree)
-  keyed_since = (entries_since, once)
+  pub keyed_since : IsCid name → IsKeyed (new name_tree)
+  keyed_since cid = (entries_since cid, once)
     where
       once : (q : List ℕ) (i j : ℤ) → Among (name_entry q i) (new name_tree) → Among (name_entry q j) (new name_tree) → i ≡ j
       once q i j a b = elim ((inserted (name_entry q i)).0 a) [
@@ -230,6 +237,12 @@ module _ (old new : Trees) (name : List ℕ) (id : ℤ) (keyed : IsKeyed (old na
 
   other_left : (q : List ℕ) (i : ℤ) → (q ≡ name → ⊥) → Among (name_entry q i) (old name_tree) → Among (name_entry q i) (new name_tree)
   other_left q i apart h = subst (Among (name_entry q i)) (sym entries) (among_filter (λ e. not (is_eq (entry_cmp plain e (name_entry name id)))) (name_entry q i) (old name_tree) (ap not (not_other q name i id apart)) h)
+
+  pub lists_left : (q : List ℕ) → IsListed (new name_tree) q ↔ (IsListed (old name_tree) q × (q ≡ name → ⊥))
+  lists_left q = (
+    λ l. ((l.0, (left (name_entry q l.0) l.1).0), λ e. none_left l.0 (subst (λ n. Among (name_entry n l.0) (new name_tree)) e l.1)),
+    λ h. (h.0.0, other_left q h.0.0 h.1 h.0.1),
+  )
 
   module _ (rows : (x : Row) → Among x (new block_tree) → Among x (old block_tree)) (others : (q d : List ℕ) (i : ℤ) → (q ≡ name → ⊥) → Among (block_row i q d) (old block_tree) → Among (block_row i q d) (new block_tree)) where
     pub stored_left : (q d : List ℕ) → IsStored new q d ↔ (IsStored old q d × (q ≡ name → ⊥))

@@ -5,3 +5,8 @@ pub mod Keeping
 pub mod Calls
 pub mod Surveying
 pub mod Opening
+pub mod Adding
+pub mod Reading
+pub mod Walking
+pub mod Unlisted
+pub mod Putting

@@ -1,6 +1,7 @@
 -- What a walk over the index of names tells.
-use Rattle.std.proofs.Common.{◌≡◌, inl, inr, ℕ, ◌+◌, ℤ, List, [], ◌∷◌, ◌++◌, Less, is_lt, refl, sym, ap, ◌∙◌, subst, true≢false, length, arith, length-append, append_assoc}
-use Rattle.std.specs.Prelude.{◌⊎◌}
+use Rattle.std.proofs.Common.{Bool, IsTrue, ◌≡◌, inl, inr, ℕ, ◌+◌, ℤ, List, [], ◌∷◌, ◌++◌, Less, is_lt, refl, sym, ap, ◌∙◌, subst, true≢false, length, arith, length-append, append_assoc}
+use Rattle.std.specs.Prelude.{◌⊎◌, ◌↔◌}
+use Rattle.ipld_tree.specs.Cid.{IsCid}
 use Rattle.std.specs.List.{AllByRecursion}
 use Rattle.std.proofs.lemmas.Cmp.{tied_itself}
 use Rattle.std.proofs.lemmas.Map.Lookups.{exact_bytes}
@@ -34,13 +35,16 @@ pub record Surveyed (entries left : List Row) (last : Row) (count : ℕ) : Type 
   pub rising : Rising done
   pub last_is : IsLastOf done last
 
+pub named_blob : (bytes : List ℕ) (r : Bool) → IsTrue r ↔ IsCid bytes → IsTrue r ↔ ((name : List ℕ) × (Blob bytes ≡ Blob name) × IsCid name)
+named_blob bytes r h = (λ t. (bytes, refl, h.0 t), λ n. h.1 (let same : bytes ≡ n.0 = cc n.1 in subst IsCid (sym same) n.2))
+
 -- ---- lists
 
-all_more : {X : Type 0} (P : X → Type 0) (xs : List X) (x : X) → AllByRecursion P xs → P x → AllByRecursion P (xs ++ x ∷ [])
+pub all_more : {X : Type 0} (P : X → Type 0) (xs : List X) (x : X) → AllByRecursion P xs → P x → AllByRecursion P (xs ++ x ∷ [])
 all_more P [] x all h = (h, tt)
 all_more P (y ∷ ys) x all h = (all.0, all_more P ys x all.1 h)
 
-ascending_more : {X : Type 0} (R : X → X → Type 0) (xs : List X) (x : X) → IsAscending R xs → AllByRecursion (λ y. R y x) xs → IsAscending R (xs ++ x ∷ [])
+pub ascending_more : {X : Type 0} (R : X → X → Type 0) (xs : List X) (x : X) → IsAscending R xs → AllByRecursion (λ y. R y x) xs → IsAscending R (xs ++ x ∷ [])
 ascending_more R [] x up all = (tt, tt)
 ascending_more R (y ∷ ys) x up all = (all_more (R y) ys x up.0 all.0, ascending_more R ys x up.1 all.1)
 

@@ -1,11 +1,17 @@
 -- The rows of a database that holds blocks, and which blocks they are.
-use Rattle.std.specs.Prelude.{◌≡◌, ◌≢◌, ◌⊎◌, ℕ, ◌^◌, ◌-◌, ℤ, pos, List, [], ◌∷◌, filter, Option, None, Some, Bool, true, false, ⊤}
+use Rattle.std.specs.Prelude.{◌≡◌, ◌≢◌, ◌⊎◌, ℕ, ◌^◌, ◌-◌, ℤ, pos, List, [], ◌∷◌, ◌++◌, filter, Option, None, Some, Result, Ok, Err, Bool, true, false, ⊤}
+use Rattle.std.specs.declared.cmp.Ordering.{Ordering}
+use Rattle.std.specs.declared.cmp.Ordering.TheVariants.{Less}
+use Rattle.std.specs.Ordering.{nat_cmp, is_lt}
+use Rattle.std.specs.Cmp.Lexicographic.{slice_cmp}
 use Rattle.std.specs.List.{AllByRecursion}
 use Rattle.sqlite_value.specs.declared.value.Value.TheVariants.{Int, Blob}
 use Rattle.sqlite_value.specs.Order.{Row, column}
 use Rattle.sqlite_value.specs.Keys.{plain}
 use Rattle.sqlite_trees.specs.Tree.{Trees, rowid, has_rowid, put_row, without_rowid, insert_entry, remove_entry}
 use Rattle.sqlite_trees.specs.View.{IsStorable, IsStorableRow}
+use Rattle.ipld_tree.specs.Cid.{CidParts, AreCidParts, cid_bytes, IsCid}
+use Rattle.ipld_tree.specs.declared.cid_error.CidError.{CidError}
 use Rattle.dagcbor_car.specs.Sets.{Among}
 use Rattle.dagcbor_store.specs.declared.entries.Found.{Found}
 use Rattle.dagcbor_store.specs.declared.entries.Found.TheVariants.{Nothing, NoRow, Block}
@@ -36,9 +42,9 @@ pub record IsStored (trees : Trees) (name b : List ℕ) : Type 0 where
 abbrev pub IsListed : List Row → List ℕ → Type 0
 IsListed entries name = (id : ℤ) × Among (name_entry name id) entries
 
--- a name and a number
+-- the binary form of a CID, and a number
 abbrev pub IsNameEntry : Row → Type 0
-IsNameEntry e = (name : List ℕ) × (id : ℤ) × (e ≡ name_entry name id)
+IsNameEntry e = (name : List ℕ) × (id : ℤ) × (e ≡ name_entry name id) × IsCid name
 
 -- each entry of the index is so
 abbrev pub AreNameEntries : List Row → Type 0
@@ -48,6 +54,30 @@ AreNameEntries entries = AllByRecursion IsNameEntry entries
 abbrev pub IsOther : List ℕ → List Row → Type 0
 IsOther name [] = ⊤
 IsOther name (e ∷ more) = (id : ℤ) → e ≢ name_entry name id
+
+-- names stand in the order of their bytes
+abbrev pub name_cmp : List ℕ → List ℕ → Ordering
+name_cmp = slice_cmp nat_cmp
+
+-- the first of the listed names that are not below the bound
+pub record IsFirstFrom (entries : List Row) (bound : List ℕ) (c : CidParts) : Type 0 where
+  pub valid : AreCidParts c
+  pub listed : IsListed entries (cid_bytes c)
+  pub above : is_lt (name_cmp (cid_bytes c) bound) ≡ false
+  pub first : (q : List ℕ) → IsListed entries q → is_lt (name_cmp q bound) ≡ false
+      → (q ≡ cid_bytes c) ⊎ (name_cmp (cid_bytes c) q ≡ Less)
+
+-- the name that an entry begins with, if it does
+abbrev pub EntersName : Row → Result CidParts CidError → Type 0
+EntersName e (Ok c) = AreCidParts c × (column e 0 ≡ Blob (cid_bytes c))
+EntersName e (Err fault) = IsNameEntry e → ⊥
+
+-- that name was found; or each listed name is below the bound; or an entry is none
+abbrev pub FindsFirst : List Row → List ℕ → Option (Result CidParts CidError) → Type 0
+FindsFirst entries bound None = (q : List ℕ) → IsListed entries q
+    → is_lt (name_cmp q bound) ≡ true
+FindsFirst entries bound (Some (Ok c)) = AreNameEntries entries → IsFirstFrom entries bound c
+FindsFirst entries bound (Some (Err fault)) = AreNameEntries entries → ⊥
 
 -- the number of the name's row was found, or none is listed under the name
 abbrev pub FindsName : List Row → List ℕ → Option ℤ → Type 0

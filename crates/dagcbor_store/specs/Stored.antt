@@ -1,5 +1,6 @@
 -- What a store holds, and what its calls answer.
-use Rattle.std.specs.Prelude.{◌≡◌, ◌≢◌, ◌↔◌, ◌⊎◌, ℕ, ◌≤◌, Vec, false, ℤ, List, Option, None, Some, Bool, IsTrue, Result, Ok, Err}
+use Rattle.std.specs.Prelude.{◌≡◌, ◌≢◌, ◌↔◌, ◌⊎◌, ℕ, ◌≤◌, Vec, false, ℤ, List, [], ◌∷◌, ◌++◌, ⊤, Option, None, Some, Bool, IsTrue, Result, Ok, Err}
+use Rattle.std.specs.declared.cmp.Ordering.TheVariants.{Less}
 use Rattle.sha2.specs.Sha256.{sha256}
 use Rattle.sqlite_disk.specs.Disk.{MoreFaults}
 use Rattle.sqlite_value.specs.Order.{Row}
@@ -10,14 +11,14 @@ use Rattle.sqlite_trees.specs.declared.store.Store.{Ghosts}
 use Rattle.sqlite_trees.specs.declared.store.Shape.TheVariants as shape
 use Rattle.sqlite_trees.specs.declared.error.StoreError.{StoreError}
 use Rattle.sqlite_trees.specs.declared.error.StoreError.TheVariants as stored
-use Rattle.ipld_tree.specs.Cid.{CidParts, cid_bytes}
+use Rattle.ipld_tree.specs.Cid.{CidParts, AreCidParts, cid_bytes}
 use Rattle.dagcbor_car.specs.Names.{IsBySha256, block_name}
 use Rattle.dagcbor_car.specs.Car.{Section}
 use Rattle.dagcbor_car.specs.Splits.{HasBlock}
 use Rattle.dagcbor_car.specs.Verdicts.{IsVerdict}
 use Rattle.dagcbor_car.specs.declared.verdict.Verdict.TheVariants as verdict
 use Rattle.dagcbor_car.specs.Sets.{Among}
-use Rattle.dagcbor_store.specs.Rows.{block_tree, name_tree, name_entry, IsStored, IsListed, AreNameEntries, FreesId, IsTooLong}
+use Rattle.dagcbor_store.specs.Rows.{block_tree, name_tree, name_entry, name_cmp, IsStored, IsListed, AreNameEntries, FreesId, IsTooLong}
 use Rattle.std.specs.declared.alloc.Global.{Global}
 use Rattle.dagcbor_store.specs.declared.entries.Added.{Added}
 use Rattle.dagcbor_store.specs.declared.entries.Added.TheVariants.{New, Listed, NoNumber}
@@ -48,6 +49,28 @@ Holds v name b = IsStored v.trees (cid_bytes name) b
 abbrev pub Lists : View → CidParts → Type 0
 Lists v name = IsListed (v.trees name_tree) (cid_bytes name)
 
+-- the name comes behind the last one, if there is one, in the order of bytes
+abbrev pub IsBehind : Option CidParts → List ℕ → Type 0
+IsBehind None q = ⊤
+IsBehind (Some c) q = name_cmp (cid_bytes c) q ≡ Less
+
+-- the least bytes that come behind the last name
+abbrev pub bound_behind : Option CidParts → List ℕ
+bound_behind None = []
+bound_behind (Some c) = cid_bytes c ++ 0 ∷ []
+
+-- the first of the names that are listed behind the last one
+pub record IsNext (entries : List Row) (last : Option CidParts) (c : CidParts) : Type 0 where
+  pub valid : AreCidParts c
+  pub listed : IsListed entries (cid_bytes c)
+  pub behind : IsBehind last (cid_bytes c)
+  pub first : (q : List ℕ) → IsListed entries q → IsBehind last q → (q ≡ cid_bytes c) ⊎ (name_cmp (cid_bytes c) q ≡ Less)
+
+-- the first name behind the last one is given, or none is listed there
+abbrev pub GivesNext : View → Option CidParts → Option CidParts → Type 0
+GivesNext v last None = (q : List ℕ) → IsListed (v.trees name_tree) q → IsBehind last q → ⊥
+GivesNext v last (Some c) = IsNext (v.trees name_tree) last c
+
 -- the bytes are those that the name names
 abbrev pub IsNamed : CidParts → List ℕ → Type 0
 IsNamed name b = IsBySha256 name × (name.digest ≡ sha256 b)
@@ -57,6 +80,7 @@ pub record IsSame (old new : View) : Type 0 where
   pub trees : new.trees ≡ old.trees
   pub committed : new.committed ≡ old.committed
   pub is_open : new.is_open ≡ old.is_open
+  pub broken : new.is_broken ≡ old.is_broken
 
 -- what was not committed is undone, unless the store is shut
 pub record IsUndone (old new : View) : Type 0 where
@@ -79,10 +103,14 @@ Fails g too_long old new told = (e : StoreError) × TellsOfStore e told × Tells
 
 -- ---- getting
 
+-- these bytes, and no others, are stored under the name
+abbrev pub HoldsOnly : View → CidParts → List ℕ → Type 0
+HoldsOnly v name b = Holds v name b × ((d : List ℕ) → Holds v name d → d ≡ b)
+
 -- none where nothing is listed under the name, else the bytes that are stored under it
 abbrev pub GetsSome : View → CidParts → Option (List ℕ) → Type 0
 GetsSome v name None = Lists v name → ⊥
-GetsSome v name (Some b) = Holds v name b
+GetsSome v name (Some b) = HoldsOnly v name b
 
 -- the name is listed, and no bytes that it names are stored under it
 abbrev pub IsDamaged : View → CidParts → Type 0
@@ -138,6 +166,7 @@ IsUnfit s _ = ⊥
 pub record HoldsAlso (old new : Trees) (name b : List ℕ) : Type 0 where
   pub unlisted : IsListed (old name_tree) name → ⊥
   pub holds : (q d : List ℕ) → IsStored new q d ↔ (((q ≡ name) × (d ≡ b)) ⊎ IsStored old q d)
+  pub lists : (q : List ℕ) → IsListed (new name_tree) q ↔ ((q ≡ name) ⊎ IsListed (old name_tree) q)
 
 -- the block is stored too, or nothing is changed where its name is listed
 abbrev pub IsAddedTo : Trees → Trees → CidParts → List ℕ → Type 0
@@ -147,7 +176,9 @@ IsAddedTo old new name b = HoldsAlso old new (cid_bytes name) b ⊎ (IsListed (o
 pub record IsAdded (old new : View) (name : CidParts) (b : List ℕ) : Type 0 where
   pub trees : IsAddedTo old.trees new.trees name b
   pub committed : new.committed ≡ old.committed
+  pub reals : new.reals ≡ old.reals
   pub was_open : IsTrue old.is_open
+  pub was_sound : old.is_broken ≡ false
   pub is_open : IsTrue new.is_open
   pub sound : new.is_broken ≡ false
 
@@ -160,8 +191,8 @@ pub record IsPut (old new : View) (name : CidParts) (b : List ℕ) : Type 0 wher
 -- what is stored is what was stored under the other names; nothing is changed where the name is not listed
 pub record IsTaken (old new : View) (name : CidParts) (taken : Bool) : Type 0 where
   pub was : IsTrue taken ↔ Lists old name
-  pub gone : Lists new name → ⊥
   pub holds : (q d : List ℕ) → IsStored new.trees q d ↔ (IsStored old.trees q d × (q ≢ cid_bytes name))
+  pub lists : (q : List ℕ) → IsListed (new.trees name_tree) q ↔ (IsListed (old.trees name_tree) q × (q ≢ cid_bytes name))
   pub committed : new.committed ≡ old.committed
   pub is_open : IsTrue new.is_open
 

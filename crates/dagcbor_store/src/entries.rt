@@ -10,8 +10,9 @@ ghost use Rattle.sqlite_trees.specs.declared.store.Shape.TheVariants as shape;
 ghost use Rattle.sqlite_trees.specs.View.{IsClean, IsStorable, OnlyWrites, SetsTree, KeepsSchema, KeepsCommitted, HasCause, IsQuiet, Tells};
 ghost use Rattle.sqlite_trees.specs.Tree.{put_row, insert_entry, remove_entry};
 ghost use Rattle.sqlite_exec.specs.Calls.{OnlyReads};
-ghost use Rattle.dagcbor_store.specs.Rows.{block_tree, name_tree, block_row, name_entry, IsOther, FindsName, FreesId, last_id, ReadsRow, Gets, Adds, IsTooLong, Takes, TakesRow};
+ghost use Rattle.dagcbor_store.specs.Rows.{block_tree, name_tree, block_row, name_entry, IsOther, FindsName, EntersName, FindsFirst, FreesId, last_id, ReadsRow, Gets, Adds, IsTooLong, Takes, TakesRow};
 
+use ipld_tree::{Cid, CidError};
 use sqlite_exec::write::last;
 use sqlite_trees::error::StoreError;
 use sqlite_trees::store::{Direction, Store};
@@ -98,6 +99,42 @@ pub(crate) fn find<S: Store>(
     store.seek(CURSOR, NAMES, row, Direction::Forward)?;
     if store.next(CURSOR, row)? {
         Ok(number_in(row, name))
+    } else {
+        Ok(None)
+    }
+}
+
+/// The name in an entry of the index, where it has one.
+fn name_in(entry: &Row) -> Result<Cid, CidError>
+    ensures { EntersName entry.now result }
+{
+    match entry.get(0) {
+        ValueRef::Blob(bytes) => Cid::try_from(bytes),
+        _ => Err(CidError::Truncated),
+    }
+}
+
+/// The first listed name that is not below the bound, or why the entry has none.
+pub(crate) fn first_from<S: Store>(
+    store: &mut S,
+    row: &mut Row,
+    bound: &[u8],
+) -> Result<Option<Result<Cid, CidError>>, StoreError>
+    requires names { IsClean (S.Store.view store.old) → (S.Store.view store.old).shape name_tree ≡ shape.Index plain }
+    ensures ok { IfOk result (λ f. IsClean (S.Store.view store.new) → FindsFirst ((S.Store.view store.old).trees name_tree) bound.now f) }
+    ensures same { OnOk result (IsClean (S.Store.view store.new) → OnlyReads (S.Store.view store.old) (S.Store.view store.new)) }
+    ensures sound { OnOk result (IsClean (S.Store.view store.new) → (S.Store.view store.old).is_broken ≡ false) }
+    ensures told { IfErr result (Tells (S.Store.blamed store.new)) }
+    ensures err { IsClean (S.Store.view store.new) → OnErr result (KeepsCommitted (S.Store.view store.old) (S.Store.view store.new)) }
+    ensures cause { IsClean (S.Store.view store.new) → IfErr result (HasCause (S.Store.view store.old) (MoreFaults (S.Store.faults store.old) (S.Store.faults store.new)) ⊥) }
+    ensures schema { KeepsSchema (S.Store.view store.old) (S.Store.view store.new) }
+    ensures quiet { IsQuiet S.Store.view S.Store.faults S.Store.recovers S.Store.is_shielded store.old store.new }
+{
+    row.clear();
+    row.push(ValueRef::Blob(bound))?;
+    store.seek(CURSOR, NAMES, row, Direction::Forward)?;
+    if store.next(CURSOR, row)? {
+        Ok(Some(name_in(row)))
     } else {
         Ok(None)
     }

@@ -3,7 +3,7 @@
 ghost use Rattle.std.specs.Prelude.{◌≡◌, ◌↔◌, ◌⊎◌, IsTrue, MatchResult, IfOk, IfErr, IfSome, OnOk, option_map, length};
 ghost use Rattle.dagcbor_store.specs.Rows.{name_tree};
 ghost use Rattle.sqlite_trees.specs.View.{IsClean, IsQuiet, IsRolledBack};
-ghost use Rattle.dagcbor_store.specs.Stored.{IsReady, Lists, IsSame, IsUndone, IsNamed, GetsSome, GetRefused, Fails, TellsOfStore, IsCommitted, IsKeptBy, IsNamedBlock, IsUnfit, IsAdded, IsAddedTo, IsPut, IsTaken, PutRefused, IsVerified, IsToldAdded};
+ghost use Rattle.dagcbor_store.specs.Stored.{IsReady, GivesNext, bound_behind, Lists, IsSame, IsUndone, IsNamed, GetsSome, GetRefused, Fails, TellsOfStore, IsCommitted, IsKeptBy, IsNamedBlock, IsUnfit, IsAdded, IsAddedTo, IsPut, IsTaken, PutRefused, IsVerified, IsToldAdded};
 
 use crate::entries::{self, Added, Found};
 use crate::error::StoreRefusal;
@@ -21,7 +21,7 @@ use std::marker::Model;
 /// Blocks in a database, each under its name. What a contract sees of it is the database.
 #[derive(Drop)]
 pub struct BlockStore<S: Store> {
-    alloc: Global,
+    pub(crate) alloc: Global,
     store: S,
     row: Row,
 }
@@ -87,6 +87,23 @@ impl<S: Store> BlockStore<S> {
         }
     }
 
+    /// The first of the listed names that come behind the last one, or the first of all; none behind
+    /// the greatest. Names stand in the order of the bytes of their binary forms.
+    pub fn next_name(&mut self, last: Option<Cid>) -> Result<Option<Cid>, StoreRefusal>
+        ensures next { IfOk result (λ next. IsClean (S.Store.view self.new) → GivesNext (S.Store.view self.old) last next) }
+        ensures same { OnOk result (IsClean (S.Store.view self.new) → IsSame (S.Store.view self.old) (S.Store.view self.new)) }
+        ensures refused { IfErr result (Fails S.Store ⊥ self.old self.new) }
+        ensures quiet { IsQuiet S.Store.view S.Store.faults S.Store.recovers S.Store.is_shielded self.old self.new }
+    {
+        let bound = bound_behind(last);
+        match entries::first_from(&mut self.store, &mut self.row, &bound) {
+            Ok(None) => Ok(None),
+            Ok(Some(Ok(name))) => Ok(Some(name)),
+            Ok(Some(Err(_))) => Err(undo(&mut self.store, StoreError::Broken)),
+            Err(error) => Err(undo(&mut self.store, error)),
+        }
+    }
+
     /// The bytes of the block under the name, which are those that the name names, whatever the disk
     /// gave. None where nothing is listed under it.
     pub fn get_block(&mut self, name: &Cid) -> Result<Option<Vec<u8>>, StoreRefusal>
@@ -120,6 +137,7 @@ impl<S: Store> BlockStore<S> {
     /// Undoes what is not committed.
     pub fn rollback(&mut self)
         ensures undone { IsClean (S.Store.view self.new) → IsUndone (S.Store.view self.old) (S.Store.view self.new) }
+        ensures blame { S.Store.blamed self.new ≡ S.Store.blamed self.old }
         ensures quiet { IsQuiet S.Store.view S.Store.faults S.Store.recovers S.Store.is_shielded self.old self.new }
     {
         self.store.rollback();
@@ -169,6 +187,20 @@ impl<S: Store> BlockStore<S> {
             Err(error) => Err(undo(&mut self.store, error)),
         }
     }
+}
+
+/// The least bytes that come behind the last name.
+fn bound_behind(last: Option<Cid>) -> ArrayVec<u8, 87>
+    ensures { result.items ≡ bound_behind last }
+{
+    let mut bound = ArrayVec::new();
+    if let Some(name) = last {
+        let mut form = ArrayVec::new();
+        name.write_bytes(&mut form);
+        bound.try_extend_from_slice(&form).unwrap();
+        bound.push(0);
+    }
+    bound
 }
 
 /// What is told of a block that was to be kept.

@@ -1,7 +1,10 @@
 //! A walk over the index of names.
 
-ghost use Rattle.std.specs.Prelude.{◌≡◌, ◌↔◌, ◌⊎◌, MatchBool, false, length, IsTrue, MatchOption, IfOk, IfErr, OnOk, OnErr};
+ghost use Rattle.std.specs.Prelude.{◌≡◌, ◌↔◌, ◌⊎◌, List, ℕ, MatchBool, false, length, IsTrue, MatchOption, IfOk, IfErr, OnOk, OnErr};
 ghost use Rattle.sqlite_disk.specs.Disk.{MoreFaults};
+ghost use Rattle.ipld_tree.specs.Cid.{IsCid};
+ghost use Rattle.sqlite_value.specs.declared.value.Value.TheVariants.{Blob};
+ghost use Rattle.sqlite_value.specs.Value.{owned};
 ghost use Rattle.sqlite_value.specs.Keys.{plain};
 ghost use Rattle.sqlite_value.specs.Order.{column};
 ghost use Rattle.sqlite_trees.specs.declared.store.Shape.TheVariants as shape;
@@ -11,6 +14,7 @@ ghost use Rattle.dagcbor_store.specs.Rows.{name_tree, IsNameEntry};
 ghost use Rattle.dagcbor_store.specs.Stored.{IsKeyed};
 
 use crate::entries::{CURSOR, NAMES};
+use ipld_tree::Cid;
 use sqlite_trees::error::StoreError;
 use sqlite_trees::store::{Direction, Store};
 use sqlite_value::order::is_same;
@@ -19,13 +23,28 @@ use sqlite_value::value::ValueRef;
 use std::alloc::Global;
 use std::mem;
 
-/// Whether the row is an entry of the index: a name and a number.
+/// Whether the bytes are the binary form of a CID.
+fn is_cid(bytes: &[u8]) -> bool
+    ensures { IsTrue result ↔ IsCid bytes.now }
+{
+    Cid::try_from(bytes).is_ok()
+}
+
+/// Whether the value is the binary form of a CID.
+fn is_name(value: ValueRef<'_>) -> bool
+    ensures { IsTrue result ↔ ((name : List ℕ) × (owned value.entry ≡ Blob name) × IsCid name) }
+{
+    match value {
+        ValueRef::Blob(bytes) => is_cid(bytes),
+        _ => false,
+    }
+}
+
+/// Whether the row is an entry of the index: the binary form of a CID, and a number.
 fn is_entry(row: &Row) -> bool
     ensures { IsTrue result ↔ IsNameEntry row.now }
 {
-    row.len() == 2
-        && matches!(row.get(0), ValueRef::Blob(_))
-        && matches!(row.get(1), ValueRef::Int(_))
+    row.len() == 2 && is_name(row.get(0)) && matches!(row.get(1), ValueRef::Int(_))
 }
 
 /// Whether the row is an entry of the index of another name than the last.

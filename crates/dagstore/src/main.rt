@@ -1,17 +1,18 @@
 //! The program `dagstore`: blocks in a file that lasts.
 #![tactic(auto)]
 
-mod import;
+mod command;
 mod said;
+mod walk;
 
-use cid_text::cid_from_text;
+use command::{Command, command_of};
 use dagcbor_cli::{arguments, give_up};
-use dagcbor_heads::{Input, IoReader};
-use dagcbor_store::{BlockStore, FileFrom, FileStore, Wary};
-use import::{ImportError, import};
-use said::{NO_FILE, OUT_OF_MEMORY, USAGE, say_block, say_count, say_refusal};
-use std::io::{BufReader, Write};
+use dagcbor_heads::{Input, IoReader, IoWriter};
+use dagcbor_store::{BlockStore, FileFrom, FileStore, Wary, WriteCarError};
+use said::{NOT_WRITTEN, OUT_OF_MEMORY, USAGE, say_block, say_count, say_refusal, say_unread};
+use std::io::{BufReader, BufWriter, Write};
 use std::process::ExitCode;
+use walk::{check, list};
 
 type Store = BlockStore<FileStore<FileFrom<Wary>>>;
 
@@ -21,50 +22,76 @@ fn run_import<W: Write>(rt: &HostRuntime, store: &mut Store, errors: &mut W) -> 
         return give_up(errors, OUT_OF_MEMORY, 2);
     };
     let mut input = Input::Reader(IoReader::new(source));
-    match import(rt.alloc(), store, &mut input) {
-        Ok(count) => say_count(rt.alloc(), "stored", count, &mut rt.stdout().lock(), errors),
-        Err(ImportError::NoFile) => give_up(errors, NO_FILE, 1),
-        Err(ImportError::Store(refusal)) => say_refusal(rt.alloc(), &refusal, errors),
+    match store.read_car(&mut input) {
+        Ok((_roots, count)) => say_count(rt.alloc(), "stored", count, &mut rt.stdout().lock(), errors),
+        Err(error) => say_unread(rt.alloc(), &error, errors),
     }
 }
 
-/// Writes the block under the name on standard output.
-fn run_get<W: Write>(rt: &HostRuntime, store: &mut Store, text: &str, errors: &mut W) -> u8 {
-    let Ok(name) = cid_from_text(text.as_bytes()) else {
-        return give_up(errors, USAGE, 2);
+/// Writes the file of all blocks on standard output.
+fn run_export<W: Write>(rt: &HostRuntime, store: &mut Store, errors: &mut W) -> u8 {
+    let Ok(output) = BufWriter::new(rt.alloc(), rt.stdout().lock()) else {
+        return give_up(errors, OUT_OF_MEMORY, 2);
     };
-    let found = store.get_block(&name);
-    say_block(rt.alloc(), found, &mut rt.stdout().lock(), errors)
-}
-
-/// Says how many blocks there are.
-fn run_count<W: Write>(rt: &HostRuntime, store: &mut Store, errors: &mut W) -> u8 {
-    match store.len() {
-        Ok(count) => say_count(rt.alloc(), "holds", count, &mut rt.stdout().lock(), errors),
-        Err(refusal) => say_refusal(rt.alloc(), &refusal, errors),
+    let mut writer = IoWriter::new(output);
+    match store.write_car(&[], &mut writer) {
+        Ok(()) => flushed(writer.into_inner(), 0, errors),
+        Err(WriteCarError::Write(_)) => give_up(errors, NOT_WRITTEN, 2),
+        Err(WriteCarError::Store(refusal)) => say_refusal(rt.alloc(), &refusal, errors),
     }
 }
 
-fn run<W: Write>(rt: &HostRuntime, words: &[String], errors: &mut W) -> u8 {
-    let (Some(path), Some(command)) = (words.first(), words.get(1)) else {
-        return give_up(errors, USAGE, 2);
+/// The status, once all lines are out.
+fn flushed<O: Write + Drop, W: Write>(mut output: O, status: u8, errors: &mut W) -> u8 {
+    match output.flush() {
+        Ok(()) => status,
+        Err(_) => give_up(errors, NOT_WRITTEN, 2),
+    }
+}
+
+/// Writes a line for each block.
+fn run_lines<W: Write>(rt: &HostRuntime, store: &mut Store, judges: bool, errors: &mut W) -> u8 {
+    let alloc = rt.alloc();
+    let Ok(mut output) = BufWriter::new(alloc, rt.stdout().lock()) else {
+        return give_up(errors, OUT_OF_MEMORY, 2);
     };
-    let mut store = match BlockStore::open(rt, path.as_str(), Wary) {
+    let status = if judges {
+        check(alloc, store, &mut output, errors)
+    } else {
+        list(alloc, store, &mut output, errors)
+    };
+    flushed(output, status, errors)
+}
+
+fn run<W: Write>(rt: &HostRuntime, path: &str, command: Command, errors: &mut W) -> u8 {
+    let mut store = match BlockStore::open(rt, path, Wary) {
         Ok(store) => store,
         Err(refusal) => return say_refusal(rt.alloc(), &refusal, errors),
     };
-    match (command.as_str(), words.get(2)) {
-        ("import", None) => run_import(rt, &mut store, errors),
-        ("get", Some(text)) => run_get(rt, &mut store, text.as_str(), errors),
-        ("count", None) => run_count(rt, &mut store, errors),
-        _ => give_up(errors, USAGE, 2),
+    let alloc = rt.alloc();
+    match command {
+        Command::Import => run_import(rt, &mut store, errors),
+        Command::Export => run_export(rt, &mut store, errors),
+        Command::Get(name) => {
+            let found = store.get_block(&name);
+            say_block(alloc, found, &mut rt.stdout().lock(), errors)
+        }
+        Command::Check => run_lines(rt, &mut store, true, errors),
+        Command::List => run_lines(rt, &mut store, false, errors),
+        Command::Count => match store.len() {
+            Ok(count) => say_count(alloc, "holds", count, &mut rt.stdout().lock(), errors),
+            Err(refusal) => say_refusal(alloc, &refusal, errors),
+        },
     }
 }
 
 fn main(rt: HostRuntime) -> ExitCode {
     let mut errors = rt.stderr().lock();
     let status = match arguments(&rt) {
-        Ok(words) => run(&rt, &words, &mut errors),
+        Ok(words) => match command_of(&words) {
+            Some((path, command)) => run(&rt, path, command, &mut errors),
+            None => give_up(&mut errors, USAGE, 2),
+        },
         Err(_) => give_up(&mut errors, OUT_OF_MEMORY, 2),
     };
     ExitCode::from(status)

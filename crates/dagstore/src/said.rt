@@ -1,18 +1,43 @@
 //! What the program says.
 
+use cid_text::cid_text;
+use dagcbor_car::CarError;
 use dagcbor_cli::{give_up, write_all};
-use dagcbor_store::StoreRefusal;
-use std::alloc::Global;
+use dagcbor_store::{ReadCarError, StoreRefusal};
+use ipld_tree::Cid;
+use std::alloc::{AllocError, Global};
 use std::io::Write;
 
+/// Why not all lines were written.
+#[derive(Drop)]
+pub(crate) enum Fault {
+    Store(StoreRefusal),
+    Output,
+    Memory,
+}
+
+impl From<StoreRefusal> for Fault {
+    fn from(refusal: StoreRefusal) -> Fault {
+        Fault::Store(refusal)
+    }
+}
+
+impl From<AllocError> for Fault {
+    fn from(_error: AllocError) -> Fault {
+        Fault::Memory
+    }
+}
+
 pub(crate) const USAGE: &str =
-    "usage: dagstore FILE import < BLOCKS.car, dagstore FILE get CID, dagstore FILE count\n";
+    "usage: dagstore FILE import|export|check|list|count, dagstore FILE get CID\n";
 
 pub(crate) const OUT_OF_MEMORY: &str = "dagstore: out of memory\n";
 
-const NOT_WRITTEN: &str = "dagstore: standard output takes no more\n";
+pub(crate) const NOT_WRITTEN: &str = "dagstore: standard output takes no more\n";
 
-pub(crate) const NO_FILE: &str = "dagstore: the input is no file of blocks\n";
+const NO_FILE: &str = "dagstore: the input is no file of blocks\n";
+
+const NOT_READ: &str = "dagstore: the input failed\n";
 
 const NO_BLOCK: &str = "dagstore: no block has the name\n";
 
@@ -65,4 +90,63 @@ pub(crate) fn say_block<W: Write, E: Write>(
         Ok(None) => give_up(errors, NO_BLOCK, 1),
         Err(refusal) => say_refusal(alloc, &refusal, errors),
     }
+}
+
+/// Says why a file was not kept. Status 1 where its bytes are the cause.
+pub(crate) fn say_unread<R: Drop, W: Write>(
+    alloc: Global,
+    error: &ReadCarError<R>,
+    errors: &mut W,
+) -> u8 {
+    match error {
+        ReadCarError::Car(CarError::Read(_)) => give_up(errors, NOT_READ, 2),
+        ReadCarError::Car(_) => give_up(errors, NO_FILE, 1),
+        ReadCarError::Block(name, refusal) => {
+            let _ = say_line(alloc, b"dagstore: of ", name, b":", b"", errors);
+            say_refusal(alloc, refusal, errors)
+        }
+        ReadCarError::Store(refusal) => say_refusal(alloc, refusal, errors),
+        ReadCarError::OutOfMemory => give_up(errors, OUT_OF_MEMORY, 2),
+    }
+}
+
+/// Says why not all lines were written.
+pub(crate) fn say_fault<W: Write>(alloc: Global, fault: Fault, errors: &mut W) -> u8 {
+    match fault {
+        Fault::Store(refusal) => say_refusal(alloc, &refusal, errors),
+        Fault::Output => give_up(errors, NOT_WRITTEN, 2),
+        Fault::Memory => give_up(errors, OUT_OF_MEMORY, 2),
+    }
+}
+
+/// Writes a line of a CID and what stands beside it.
+pub(crate) fn say_line<W: Write>(
+    alloc: Global,
+    before: &[u8],
+    name: &Cid,
+    word: &[u8],
+    detail: &[u8],
+    output: &mut W,
+) -> Result<(), Fault> {
+    let line = line_of(alloc, before, name, word, detail)?;
+    match write_all(output, &line) {
+        Ok(()) => Ok(()),
+        Err(_) => Err(Fault::Output),
+    }
+}
+
+fn line_of(
+    alloc: Global,
+    before: &[u8],
+    name: &Cid,
+    word: &[u8],
+    detail: &[u8],
+) -> Result<Vec<u8>, AllocError> {
+    let mut line = Vec::new(alloc);
+    line.extend_from_slice(before)?;
+    line.extend_from_slice(&cid_text(name))?;
+    line.extend_from_slice(word)?;
+    line.extend_from_slice(detail)?;
+    line.push(b'\n')?;
+    Ok(line)
 }

@@ -13,7 +13,8 @@ invariant_of-self g c clean =
     let old = g.S.Store.view c.self.inside.store in
     let was : IsClean old = omega (arith, c.add.ensures.quiet.clean) in
     let ready = c.self.invariant was in
-    ready_written old _ (c.in-Ok.ensures.frame clean) (λ o. keyed_added old.trees (g.S.Store.view c.add.new.store).trees c.deref.result.now c.args.block.now c.in-Ok.added (c.in-Ok.ensures.ok clean) (ready.keyed o)) ready
+    let form : c.deref.result.now ≡ cid_bytes c.args.name.now = search rules in
+    ready_written old _ (c.in-Ok.ensures.frame clean) (λ o. keyed_added old.trees (g.S.Store.view c.add.new.store).trees c.deref.result.now c.args.block.now c.in-Ok.added (c.args.name.now, c.write_bytes.ensures.valid, form) (c.in-Ok.ensures.ok clean) (ready.keyed o)) ready
 
 pub invariant_of-self-in-Err : goal.invariant_of-self-in-Err
 invariant_of-self-in-Err g c clean =

@@ -1,0 +1,216 @@
+-- Sections that are added to a store one by one, and what a refusal leaves.
+use Rattle.std.proofs.Common.{◌≡◌, inl, inr, ℕ, ◌≤◌, List, [], ◌∷◌, ◌++◌, refl, sym, ap, ◌∙◌, subst, IsTrue, arith}
+use Rattle.std.specs.Prelude.{◌⊎◌, ◌↔◌}
+use Rattle.sqlite_disk.specs.Disk.{MoreFaults}
+use Rattle.sqlite_trees.specs.Tree.{Trees}
+use Rattle.sqlite_trees.specs.View.{View, IsClean, IsQuiet, HasCause, Tells}
+use Rattle.sqlite_trees.specs.declared.store.Store.{Ghosts}
+use Rattle.sqlite_trees.specs.declared.error.StoreError.{StoreError}
+use Rattle.ipld_tree.specs.Cid.{CidParts, cid_bytes}
+use Rattle.dagcbor_car.specs.Car.{Section}
+use Rattle.dagcbor_car.specs.Sets.{Among}
+use Rattle.dagcbor_car.proofs.Members.{among_push, push_among}
+use Rattle.dagcbor_store.specs.Rows.{name_tree, IsStored, IsListed, IsTooLong}
+use Rattle.dagcbor_store.specs.Stored.{IsAddedTo, IsAdded, IsSame, IsUndone, Fails, IsUnfit, PutRefused, IsCommitted}
+use Rattle.dagcbor_store.specs.Cars.{IsNameIn, IsSectionIn, HoldsSections, IsFilled, IsAddedAll, Adds, NotKept}
+use Rattle.dagcbor_store.specs.declared.error.StoreRefusal.{StoreRefusal}
+use Rattle.dagcbor_store.specs.declared.error.StoreRefusal.TheVariants as refusal
+use Rattle.dagcbor_store.proofs.Causes.{cause_then}
+use Rattle.dagcbor_store.proofs.Calls.{cause_until}
+
+-- ---- what is stored
+
+name_push : (ss : List Section) (s : Section) (q : List ℕ) → IsNameIn (ss ++ s ∷ []) q → IsNameIn ss q ⊎ (cid_bytes s.0 ≡ q)
+name_push ss s q n = elim (among_push n.0 ss s n.1) [ inl m ↦ inl (n.0, m, n.2) | inr e ↦ inr (subst (λ (x : Section). cid_bytes x.0 ≡ q) e n.2) ]
+
+pub push_name : (ss : List Section) (s : Section) (q : List ℕ) → IsNameIn ss q ⊎ (cid_bytes s.0 ≡ q) → IsNameIn (ss ++ s ∷ []) q
+push_name ss s q (inl n) = (n.0, push_among n.0 ss s (inl n.1), n.2)
+push_name ss s q (inr e) = (s, push_among s ss s (inr refl), e)
+
+section_push : (ss : List Section) (s : Section) (q b : List ℕ) → IsSectionIn ss q b → IsSectionIn (ss ++ s ∷ []) q b
+section_push ss s q b n = (n.0, push_among n.0 ss s (inl n.1), n.2, n.3)
+
+holds_none : (t : Trees) → HoldsSections t t []
+holds_none t = record {
+  kept = λ q b s. s;
+  only = λ q b s. inl s;
+  each = λ q n. absurd n.1;
+  lists = λ q. (λ l. inr l, λ h. elim h [ inl n ↦ absurd n.1 | inr l ↦ l ]);
+}
+
+holds_more : (old mid new : Trees) (ss : List Section) (s : Section) → HoldsSections old mid ss → IsAddedTo mid new s.0 s.1 → HoldsSections old new (ss ++ s ∷ [])
+holds_more old mid new ss s h (inl a) = record {
+  kept = λ q b t. (a.holds q b).1 (inr (h.kept q b t));
+  only = λ q b t. elim ((a.holds q b).0 t) [
+    | inl e ↦ inr (λ l. a.unlisted (subst (IsListed (mid name_tree)) e.0 ((h.lists q).1 (inr l))), (s, push_among s ss s (inr refl), sym e.0, sym e.1))
+    | inr was ↦ elim (h.only q b was) [ inl o ↦ inl o | inr n ↦ inr (n.0, section_push ss s q b n.1) ]
+  ];
+  each = λ q n. elim (name_push ss s q n) [
+    | inl m ↦ elim (h.each q m) [ inl l ↦ inl l | inr t ↦ inr (t.0, (a.holds q t.0).1 (inr t.1)) ]
+    | inr e ↦ inr (s.1, (a.holds q s.1).1 (inl (sym e, refl)))
+  ];
+  lists = λ q. (
+    λ l. elim ((a.lists q).0 l) [
+      | inl e ↦ inl (push_name ss s q (inr (sym e)))
+      | inr was ↦ elim ((h.lists q).0 was) [ inl n ↦ inl (push_name ss s q (inl n)) | inr o ↦ inr o ]
+    ],
+    λ k. elim k [
+      | inl n ↦ elim (name_push ss s q n) [ inl m ↦ (a.lists q).1 (inr ((h.lists q).1 (inl m))) | inr e ↦ (a.lists q).1 (inl (sym e)) ]
+      | inr l ↦ (a.lists q).1 (inr ((h.lists q).1 (inr l)))
+    ],
+  );
+}
+holds_more old mid new ss s h (inr a) = subst (λ (t : Trees). HoldsSections old t (ss ++ s ∷ [])) (sym a.1) (record {
+  kept = h.kept;
+  only = λ q b t. elim (h.only q b t) [ inl o ↦ inl o | inr n ↦ inr (n.0, section_push ss s q b n.1) ];
+  each = λ q n. elim (name_push ss s q n) [
+    | inl m ↦ h.each q m
+    | inr e ↦ elim ((h.lists q).0 (subst (IsListed (mid name_tree)) e a.0)) [ inl m ↦ h.each q m | inr l ↦ inl l ]
+  ];
+  lists = λ q. (
+    λ l. elim ((h.lists q).0 l) [ inl n ↦ inl (push_name ss s q (inl n)) | inr o ↦ inr o ],
+    λ k. elim k [
+      | inl n ↦ elim (name_push ss s q n) [ inl m ↦ (h.lists q).1 (inl m) | inr e ↦ subst (IsListed (mid name_tree)) e a.0 ]
+      | inr l ↦ (h.lists q).1 (inr l)
+    ],
+  );
+})
+
+added_none : (v : View) → IsAddedAll v v []
+added_none v = record { trees = holds_none v.trees; committed = refl; reals = refl; is_open = refl; broken = refl }
+
+added_more : (old mid new : View) (ss : List Section) (s : Section) → IsAddedAll old mid ss → IsAdded mid new s.0 s.1 → IsAddedAll old new (ss ++ s ∷ [])
+added_more old mid new ss s h a = record {
+  trees = holds_more old.trees mid.trees new.trees ss s h.trees a.trees;
+  committed = a.committed ∙ h.committed;
+  reals = a.reals ∙ h.reals;
+  is_open = a.is_open ∙ sym a.was_open ∙ h.is_open;
+  broken = a.sound ∙ sym a.was_sound ∙ h.broken;
+}
+
+pub filled : (old mid new : View) (ss : List Section) → IsAddedAll old mid ss → IsCommitted mid new → IsFilled old new ss
+filled old mid new ss h c = record {
+  trees = subst (λ (t : Trees). HoldsSections old.trees t ss) (sym c.trees) h.trees;
+  committed = c.committed ∙ sym c.trees;
+  is_open = c.is_open;
+}
+
+-- ---- stores
+
+module _ {S : Type 0} (g : Ghosts S) where
+  abbrev pub Quiet : S → S → Type 0
+  Quiet a b = IsQuiet g.view g.faults g.recovers g.is_shielded a b
+
+  pub quiet_itself : (a : S) → Quiet a a
+  quiet_itself a = record { shield = λ h. h; clean = omega arith; counts = omega arith; closes = λ c o. inl o; outcomes = λ db h. h }
+
+  pub quiet_then : (a b c : S) → Quiet a b → Quiet b c → Quiet a c
+  quiet_then a b c p q = record {
+    shield = λ h. q.shield (p.shield h);
+    clean = omega (arith, p.clean, q.clean);
+    counts = omega (arith, p.counts, q.counts);
+    closes = λ now h. elim (p.closes (omega (arith, q.clean)) h) [
+      | inl on ↦ elim (q.closes now on) [ inl still ↦ inl still | inr fault ↦ inr (omega (arith, p.counts)) ]
+      | inr fault ↦ inr (omega (arith, q.counts))
+    ];
+    outcomes = λ db h. p.outcomes db (q.outcomes db h);
+  }
+
+  pub adds_none : (a : S) → Adds g [] a a
+  adds_none a = record { added = λ clean. added_none (g.view a); quiet = quiet_itself a }
+
+  pub adds_more : (ss : List Section) (s : Section) (old mid new : S) → Adds g ss old mid → (IsClean (g.view new) → IsAdded (g.view mid) (g.view new) s.0 s.1) → Quiet mid new → Adds g (ss ++ s ∷ []) old new
+  adds_more ss s old mid new h a quiet = record {
+    added = λ clean. added_more (g.view old) (g.view mid) (g.view new) ss s (h.added (omega (arith, quiet.clean))) (a clean);
+    quiet = quiet_then old mid new h.quiet quiet;
+  }
+
+-- ---- what stands after a refusal
+
+-- what was committed stands
+pub record KeepsLast (old new : View) : Type 0 where
+  pub was_open : IsTrue new.is_open → IsTrue old.is_open
+  pub committed : IsTrue new.is_open → new.committed ≡ old.committed
+
+pub last_itself : (v : View) → KeepsLast v v
+last_itself v = record { was_open = λ h. h; committed = λ h. refl }
+
+pub last_undone : (old new : View) → IsUndone old new → KeepsLast old new
+last_undone old new h = record { was_open = h.was_open; committed = h.committed }
+
+pub last_same : (old new : View) → IsSame old new → KeepsLast old new
+last_same old new h = record { was_open = λ o. sym h.is_open ∙ o; committed = λ o. h.committed }
+
+pub last_added : (old new : View) (ss : List Section) → IsAddedAll old new ss → KeepsLast old new
+last_added old new ss h = record { was_open = λ o. sym h.is_open ∙ o; committed = λ o. h.committed }
+
+pub last_then : (a b c : View) → KeepsLast a b → KeepsLast b c → KeepsLast a c
+last_then a b c p q = record { was_open = λ o. p.was_open (q.was_open o); committed = λ o. q.committed o ∙ p.committed (q.was_open o) }
+
+pub undone_then : (a b c : View) → KeepsLast a b → IsUndone b c → IsUndone a c
+undone_then a b c p q = record {
+  was_open = λ o. p.was_open (q.was_open o);
+  trees = λ o. q.trees o ∙ p.committed (q.was_open o);
+  committed = λ o. q.committed o ∙ p.committed (q.was_open o);
+}
+
+module _ {S : Type 0} (g : Ghosts S) where
+  -- a failure behind a call that kept what was committed
+  pub fails_behind : (U V : Type 0) (old mid new : S) (told : StoreRefusal) → Quiet g old mid → (IsClean (g.view new) → IsClean (g.view mid))
+      → (IsClean (g.view mid) → ((g.view mid).is_broken ≡ (g.view old).is_broken) × KeepsLast (g.view old) (g.view mid) × (U → V)) → Fails g U mid new told → Fails g V old new told
+  fails_behind U V old mid new told before was same f = (
+    f.0,
+    f.1,
+    f.2,
+    λ clean.
+        let k = f.3 clean in
+        let is = same (was clean) in (
+          cause_then (g.view old) (g.view mid) (g.faults old) (g.faults mid) (g.faults new) U V f.0 before.counts is.0 is.2 k.0,
+          undone_then (g.view old) (g.view mid) (g.view new) is.1 k.1,
+        ),
+  )
+
+  -- behind sections that were added
+  pub fails_from : (U V : Type 0) (ss : List Section) (old mid new : S) (told : StoreRefusal) → Adds g ss old mid → (IsClean (g.view new) → IsClean (g.view mid)) → (IsClean (g.view mid) → U → V) → Fails g U mid new told → Fails g V old new told
+  fails_from U V ss old mid new told h was gives =
+      fails_behind U V old mid new told h.quiet was (λ clean. let a = h.added clean in (a.broken, last_added (g.view old) (g.view mid) ss a, gives clean))
+
+  -- a failure before a rollback
+  pub fails_until : (U : Type 0) (old mid new : S) (told : StoreRefusal) → Quiet g mid new → g.blamed new ≡ g.blamed mid → (IsClean (g.view new) → IsUndone (g.view mid) (g.view new)) → Fails g U old mid told → Fails g U old new told
+  fails_until U old mid new told quiet blame undone f = (
+    f.0,
+    f.1,
+    subst (λ b. Tells b f.0) (sym blame) f.2,
+    λ clean.
+        let k = f.3 (omega (arith, quiet.clean)) in (
+          cause_until (g.view old) (g.faults old) (g.faults mid) (g.faults new) U f.0 quiet.counts k.0,
+          undone_then (g.view old) (g.view mid) (g.view new) (last_undone (g.view old) (g.view mid) k.1) (undone clean),
+        ),
+  )
+
+  pub not_kept : (ss : List Section) (s : Section) (old mid refused new : S) (told : StoreRefusal) → Adds g ss old mid → Quiet g mid refused → Quiet g refused new → g.blamed new ≡ g.blamed refused
+      → (IsClean (g.view new) → IsUndone (g.view refused) (g.view new)) → PutRefused g s mid refused told → NotKept g ss s old new told
+  not_kept ss s old mid refused new refusal.NoNumber h quiet last blame undone p = inr (inl (
+    refl,
+    λ clean.
+        let behind : IsClean (g.view refused) = omega (arith, last.clean) in
+        let was : IsClean (g.view mid) = omega (arith, quiet.clean, last.clean) in
+        ((g.view mid).trees, (h.added was).trees, (p behind).0),
+  ))
+  not_kept ss s old mid refused new told h quiet last blame undone p = by p
+    where
+      long : IsClean (g.view mid) → IsTooLong (g.view mid).reals (cid_bytes s.0) s.1 → IsTooLong (g.view old).reals (cid_bytes s.0) s.1
+      long clean = subst (λ r. IsTooLong r (cid_bytes s.0) s.1) (h.added clean).reals
+
+      by : (IsUnfit s told × (refused ≡ mid)) ⊎ Fails g (IsTooLong (g.view mid).reals (cid_bytes s.0) s.1) mid refused told → NotKept g ss s old new told
+      by (inl u) = inl u.0
+      by (inr f) = inr (inr (fails_until (IsTooLong (g.view old).reals (cid_bytes s.0) s.1) old refused new told last blame undone
+          (fails_from (IsTooLong (g.view mid).reals (cid_bytes s.0) s.1) (IsTooLong (g.view old).reals (cid_bytes s.0) s.1) ss old mid refused told h (λ clean. omega (arith, quiet.clean)) long f)))
+
+  pub last_put : (s : Section) (old new : S) (told : StoreRefusal) → IsClean (g.view new) → PutRefused g s old new told → KeepsLast (g.view old) (g.view new)
+  last_put s old new refusal.NoNumber clean p = last_same (g.view old) (g.view new) (p clean).1
+  last_put s old new told clean p = by p
+    where
+      by : (IsUnfit s told × (new ≡ old)) ⊎ Fails g (IsTooLong (g.view old).reals (cid_bytes s.0) s.1) old new told → KeepsLast (g.view old) (g.view new)
+      by (inl u) = subst (λ x. KeepsLast (g.view old) (g.view x)) (sym u.1) (last_itself (g.view old))
+      by (inr f) = last_undone (g.view old) (g.view new) (f.3 clean).1

@@ -1,0 +1,181 @@
+-- The links that lead to nothing in a store.
+use Rattle.std.proofs.Common.{◌≡◌, ◌⊎◌, inl, inr, ℕ, ◌+◌, ◌<◌, ◌≤◌, List, [], ◌∷◌, ◌++◌, length, get_or, take, Bool, true, false, cond, refl, sym, ap, ◌∙◌, subst, arith, add-one, IsTrue, true≢false}
+use Rattle.std.specs.Prelude.{◌↔◌, Option, None, Some, Vec, Result, Ok, Err, OnOk}
+use Rattle.std.specs.declared.alloc.Global.{Global}
+use Rattle.std.specs.List.Sorted.{IsStrictlySortedBy}
+use Rattle.std.specs.BTreeMap.{is_at}
+use Rattle.std.specs.BTreeSet as set
+use Rattle.std.specs.BTreeSet.{BTreeSet}
+use Rattle.std.proofs.Math.Seq.{take-suc, take-length}
+use Rattle.sqlite_trees.specs.View.{View, IsClean}
+use Rattle.sqlite_trees.specs.declared.store.Store.{Ghosts}
+use Rattle.ipld_tree.specs.Cid.{CidParts, AreCidParts, cid_bytes, cid_cmp}
+use Rattle.ipld_tree.specs.Tree.{Tree, links_of}
+use Rattle.ipld_tree.specs.Spelling.{IsFront}
+use Rattle.ipld_tree.proofs.Fronts.{front_unique}
+use Rattle.dagcbor_items.specs.Walks.{forms}
+use Rattle.dagcbor_items.specs.Slices.{IsBlock}
+use Rattle.dagcbor_items.proofs.SliceReads.{whole_front}
+use Rattle.dagcbor_car.specs.Car.{Section}
+use Rattle.dagcbor_car.specs.Names.{IsInline}
+use Rattle.dagcbor_car.specs.Splits.{HasBlock}
+use Rattle.dagcbor_car.specs.Sets.{Among}
+use Rattle.dagcbor_car.specs.Within.{IsReached, IsReachedName, AreFirstNames}
+use Rattle.dagcbor_car.proofs.Within.{reached_cid, not_inline}
+use Rattle.dagcbor_car.proofs.Members.{at_same, same_at, any_among, among_any, among_push, push_among, among_map, map_among, whole_block}
+use Rattle.sqlite_trees.specs.Tree.{Trees}
+use Rattle.dagcbor_store.specs.Rows.{name_tree, IsStored, IsListed}
+use Rattle.dagcbor_store.specs.Stored.{Lists, IsNamed, IsNext, GivesNext, HoldsOnly, IsSame, Fails}
+use Rattle.dagcbor_store.specs.Walking.{AreBlocks, WalkRefused}
+use Rattle.dagcbor_store.specs.Missing.{IsLinked, NamesNone, ListsMissing, AddsName, AddsNames, AddsMissing, HasNoBlock, MissingRefused}
+use Rattle.dagcbor_store.specs.declared.error.StoreRefusal.{StoreRefusal}
+use Rattle.dagcbor_store.specs.declared.error.StoreRefusal.TheVariants as refusal
+use Rattle.dagcbor_store.proofs.Adding.{Quiet}
+use Rattle.dagcbor_store.proofs.Walking.{IsWalked, all_blocks, same_then, fails_same, fails_walk}
+
+-- ---- one name
+
+pub name_listed : (v : View) (name : CidParts) (s : BTreeSet CidParts) → Lists v name → AddsName v name s s
+name_listed v name s l q = (inl, λ h. elim h [ inl m ↦ m | inr u ↦ absurd (u.1 (subst (Lists v) (sym u.0) l)) ])
+
+pub name_put : (v : View) (name : CidParts) (old new : BTreeSet CidParts) → (Lists v name → ⊥) → ((q : CidParts) → set.contains cid_cmp new q ≡ cond (is_at (cid_cmp name) q) true (set.contains cid_cmp old q)) → AddsName v name old new
+name_put v name old new none put q = (
+  λ m. there (is_at (cid_cmp name) q) refl (sym (put q) ∙ among_any q new.keys m),
+  λ h. any_among q new.keys (put q ∙ back h),
+)
+  where
+    there : (b : Bool) → is_at (cid_cmp name) q ≡ b → cond b true (set.contains cid_cmp old q) ≡ true → Among q old.keys ⊎ ((q ≡ name) × (Lists v q → ⊥))
+    there true t m = let same = at_same name q t in inr (sym same, λ l. none (subst (Lists v) (sym same) l))
+    there false t m = inl (any_among q old.keys m)
+
+    kept : (b : Bool) {x : Bool} → x ≡ true → cond b true x ≡ true
+    kept true e = refl
+    kept false e = e
+
+    back : Among q old.keys ⊎ ((q ≡ name) × (Lists v q → ⊥)) → cond (is_at (cid_cmp name) q) true (set.contains cid_cmp old q) ≡ true
+    back (inl m) = kept (is_at (cid_cmp name) q) (among_any q old.keys m)
+    back (inr u) = ap (λ b. cond b true (set.contains cid_cmp old q)) (same_at name q (sym u.0))
+
+-- ---- many names
+
+pub names_none : (v : View) (s : BTreeSet CidParts) → AddsNames v [] s s
+names_none v s q = (inl, λ h. elim h [ inl m ↦ m | inr u ↦ absurd u.0 ])
+
+names_push : (v : View) (names : List CidParts) (name : CidParts) (old mid new : BTreeSet CidParts) → AddsNames v names old mid → AddsName v name mid new → AddsNames v (names ++ name ∷ []) old new
+names_push v names name old mid new h one q = (
+  λ m. elim ((one q).0 m) [
+    | inl n ↦ elim ((h q).0 n) [ inl o ↦ inl o | inr u ↦ inr (push_among q names name (inl u.0), u.1) ]
+    | inr u ↦ inr (push_among q names name (inr u.0), u.1)
+  ],
+  λ m. elim m [
+    | inl o ↦ (one q).1 (inl ((h q).1 (inl o)))
+    | inr u ↦ elim (among_push q names name u.0) [
+      | inl n ↦ (one q).1 (inl ((h q).1 (inr (n, u.1))))
+      | inr e ↦ (one q).1 (inr (e, u.1))
+    ]
+  ],
+)
+
+pub names_next : (v : View) (names : List CidParts) (i : ℕ) (name : CidParts) (old mid new : BTreeSet CidParts) → i < length names → name ≡ get_or names i name → AddsNames v (take i names) old mid → AddsName v name mid new → AddsNames v (take (i + 1) names) old new
+names_next v names i name old mid new within is h one =
+    let more : take i names ++ name ∷ [] ≡ take (i + 1) names = ap (λ y. take i names ++ y ∷ []) is ∙ sym (take-suc names i name within) ∙ ap (λ n. take n names) (sym (add-one i)) in
+    subst (λ ns. AddsNames v ns old new) more (names_push v (take i names) name old mid new h one)
+
+pub names_all : (v : View) (names : List CidParts) (i : ℕ) (old new : BTreeSet CidParts) → i ≤ length names → length names ≤ i → AddsNames v (take i names) old new → AddsNames v names old new
+names_all v names i old new below end h =
+    let same : i ≡ length names = omega (arith, below, end) in
+    subst (λ ns. AddsNames v ns old new) (ap (λ n. take n names) same ∙ take-length names) h
+
+-- ---- the links of a block
+
+pub adds_missing : (v : View) (b : List ℕ) (names : List CidParts) (old new : BTreeSet CidParts) → HasBlock b → AreFirstNames b names → AddsNames v names old new → AddsMissing v b old new
+adds_missing v b names old new has first added q =
+    let block = whole_block b first.1 first.0 has first.2 in (
+      λ m. elim ((added q).0 m) [ inl o ↦ inl o | inr u ↦ inr ((first.0, block, (first.4 q).0 u.0), u.1) ],
+      λ m. elim m [
+        | inl o ↦ (added q).1 (inl o)
+        | inr u ↦
+            let same = front_unique b [] [] first.0 u.0.0 (whole_front block.0) (whole_front u.0.1.0) in
+            (added q).1 (inr ((first.4 q).1 (subst (λ t. IsReachedName q (links_of t)) (sym same.0) u.0.2), u.1))
+      ],
+    )
+
+-- ---- the walk
+
+-- a link in one of the blocks leads to the name
+abbrev pub LeadsTo : List Section → CidParts → Type 0
+LeadsTo ss q = (s : Section) × Among s ss × ((t : Tree) × IsBlock s.1 t × IsReachedName q (links_of t))
+
+-- the set has the names that links in these blocks lead to which are not listed
+abbrev pub MissingOf : View → List Section → BTreeSet CidParts → Type 0
+MissingOf v ss s = (q : CidParts) → Among q s.keys ↔ (LeadsTo ss q × (Lists v q → ⊥))
+
+pub missing_none : (v : View) (s : BTreeSet CidParts) → s.keys ≡ [] → MissingOf v [] s
+missing_none v s none q = (λ m. absurd (subst (Among q) none m), λ h. absurd h.0.1)
+
+pub missing_push : (v : View) (ss : List Section) (c : CidParts) (b : List ℕ) (old new : BTreeSet CidParts) → MissingOf v ss old → AddsMissing v b old new → MissingOf v (ss ++ (c, b) ∷ []) new
+missing_push v ss c b old new h added q = (
+  λ m. elim ((added q).0 m) [
+    | inl o ↦ let k = (h q).0 o in ((k.0.0, push_among k.0.0 ss (c, b) (inl k.0.1), k.0.2), k.1)
+    | inr u ↦ (((c, b), push_among (c, b) ss (c, b) (inr refl), u.0), u.1)
+  ],
+  λ k. elim (among_push k.0.0 ss (c, b) k.0.1) [
+    | inl m ↦ (added q).1 (inl ((h q).1 ((k.0.0, m, k.0.2), k.1)))
+    | inr e ↦ (added q).1 (inr (subst (λ (s : Section). (t : Tree) × IsBlock s.1 t × IsReachedName q (links_of t)) e k.0.2, k.1))
+  ],
+)
+
+pub lists_missing : (v : View) (last : Option CidParts) (ss : List Section) (s : BTreeSet CidParts) (links : Vec CidParts Global) → IsWalked v last ss → GivesNext v last None → MissingOf v ss s → IsStrictlySortedBy cid_cmp links.items × (links.items ≡ s.keys) → ListsMissing v links.items
+lists_missing v last ss s links walked none h listed = (listed.0, λ form. (there form, back form))
+  where
+    blocks : AreBlocks v ss
+    blocks = all_blocks v last ss walked none
+
+    there : (form : List ℕ) → Among form (forms links.items) → IsLinked form v × NamesNone form v
+    there form m =
+        let k = map_among cid_bytes form links.items m in
+        let w = (h k.0).0 (subst (Among k.0) listed.1 k.1) in
+        let t = w.0.2 in
+        subst (λ f. IsLinked f v × NamesNone f v) (sym k.2)
+        ((cid_bytes w.0.0.0, w.0.0.1, t.0, (walked.stored w.0.0 w.0.1).0, t.1, t.2.2), (not_inline (cid_bytes k.0) k.0 t.2.0 t.2.1 refl, w.1))
+
+    back : (form : List ℕ) → IsLinked form v × NamesNone form v → Among form (forms links.items)
+    back form m =
+        let l = m.0 in
+        let c = reached_cid l.2 form l.4.0.well_formed l.5 in
+        let at = (blocks.stored l.0 l.1).1 l.3 in
+        let is = subst (λ f. NamesNone f v) c.2 m.1 in
+        let found = (h c.0).1 ((at.0, at.1, (l.2, subst (λ b. IsBlock b l.2) (sym at.3) l.4, (c.1, λ i. is.0 (c.0, c.1, refl, i), subst (λ f. IsReached f (links_of l.2)) c.2 l.5))), is.1) in
+        subst (λ f. Among f (forms links.items)) (sym c.2) (among_map cid_bytes c.0 links.items (subst (Among c.0) (sym listed.1) found))
+
+-- ---- the same view
+
+pub name_same : (old mid : View) (name : CidParts) (s t : BTreeSet CidParts) → IsSame old mid → AddsName mid name s t → AddsName old name s t
+name_same old mid name s t same h = subst (λ (u : Trees). (q : CidParts) → Among q t.keys ↔ (Among q s.keys ⊎ ((q ≡ name) × (IsListed (u name_tree) (cid_bytes q) → ⊥)))) same.trees h
+
+pub missing_same : (old mid : View) (b : List ℕ) (s t : BTreeSet CidParts) → IsSame old mid → AddsMissing mid b s t → AddsMissing old b s t
+missing_same old mid b s t same h = subst (λ (u : Trees). (q : CidParts) → Among q t.keys ↔ (Among q s.keys ⊎ (((x : Tree) × IsBlock b x × IsReachedName q (links_of x)) × (IsListed (u name_tree) (cid_bytes q) → ⊥)))) same.trees h
+
+-- ---- calls
+
+pub on_ok_clean : {X E : Type 0} (r : Result X E) (C P Q : Type 0) → OnOk r (C → P) → (P → Q) → OnOk r (C → Q)
+on_ok_clean (Ok x) C P Q h f = λ clean. f (h clean)
+on_ok_clean (Err e) C P Q h f = tt
+
+pub no_block_here : (v : View) (last : Option CidParts) (n : CidParts) (b : List ℕ) (r : Bool) → IsNext (v.trees name_tree) last n → HoldsOnly v n b → r ≡ false → (IsTrue r ↔ HasBlock b) → HasNoBlock v n
+no_block_here v last n b r next only none tells = (next.listed, λ d s named has. true≢false (sym (tells.1 (subst HasBlock (only.1 d s) has)) ∙ none))
+
+module _ {S : Type 0} (g : Ghosts S) where
+  pub walk_missing : (old new : S) (told : StoreRefusal) → WalkRefused g old new told → MissingRefused g old new told
+  walk_missing old new (refusal.Damaged n) w = λ clean. let k = w clean in ((k.0.0, λ b s named has. k.0.1 b s named), k.1)
+  walk_missing old new told w = w
+
+  pub fails_missing : (old new : S) (told : StoreRefusal) → Fails g ⊥ old new told → MissingRefused g old new told
+  fails_missing old new told f = walk_missing old new told (fails_walk g old new told f)
+
+  pub missing_refused : (old mid new : S) (told : StoreRefusal) → Quiet g old mid → (IsClean (g.view mid) → IsSame (g.view old) (g.view mid)) → Quiet g mid new → MissingRefused g mid new told → MissingRefused g old new told
+  missing_refused old mid new (refusal.Damaged n) before same quiet w = λ clean.
+      let k = w clean in
+      let s = same (omega (arith, quiet.clean)) in
+      (subst (λ (t : Trees). IsListed (t name_tree) (cid_bytes n) × ((b : List ℕ) → IsStored t (cid_bytes n) b → IsNamed n b → HasBlock b → ⊥)) s.trees k.0, same_then (g.view old) (g.view mid) (g.view new) s k.1)
+  missing_refused old mid new told before same quiet w = fails_same g old mid new told before same quiet w

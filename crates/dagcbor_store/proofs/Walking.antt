@@ -1,0 +1,223 @@
+-- A walk over the blocks of a store, in the order of their names.
+use Rattle.std.proofs.Common.{◌≡◌, inl, inr, ℕ, List, [], ◌∷◌, ◌++◌, Less, refl, sym, ap, ◌∙◌, subst, arith, append_assoc, append-nil}
+use Rattle.std.specs.Prelude.{◌⊎◌, ◌↔◌, Option, None, Some}
+use Rattle.std.specs.List.{AllByRecursion, flat_map}
+use Rattle.std.proofs.lemmas.Cmp.{nat_list_cmp_total}
+use Rattle.sqlite_trees.specs.Tree.{Trees, IsAscending}
+use Rattle.sqlite_trees.specs.View.{View, IsClean}
+use Rattle.sqlite_trees.specs.declared.store.Store.{Ghosts}
+use Rattle.dagcbor_heads.specs.Written.{Written, WroteAll, Stops}
+use Rattle.dagcbor_heads.specs.declared.error.EncodeError.{EncodeError}
+use Rattle.dagcbor_heads.proofs.Writing.{WroteAll_then, Stops-then}
+use Rattle.ipld_tree.specs.Cid.{CidParts, cid_bytes}
+use Rattle.dagcbor_car.specs.Car.{Section, header_bytes, section_bytes, car_bytes, IsHeader, IsSection, IsCar}
+use Rattle.dagcbor_car.specs.Sets.{Among}
+use Rattle.dagcbor_car.proofs.Members.{among_push, push_among}
+use Rattle.dagcbor_car.proofs.Places.{flat_push}
+use Rattle.dagcbor_store.specs.Rows.{name_tree, name_cmp, IsStored, IsListed}
+use Rattle.dagcbor_store.specs.Stored.{IsNamed, IsBehind, IsNext, GivesNext, HoldsOnly, Lists, IsDamaged, IsSame, Fails, GetRefused, TellsOfStore}
+use Rattle.sqlite_trees.specs.declared.error.StoreError.{StoreError}
+use Rattle.sqlite_trees.specs.declared.error.StoreError.TheVariants as stored
+use Rattle.dagcbor_store.specs.Cars.{IsNameIn, IsSectionIn}
+use Rattle.dagcbor_store.specs.Walking.{AreBefore, AreRising, AreFirstBlocks, AreBlocks, AreNamed, WalkRefused, WriteRefused, HeaderUnwritten, NextUnwritten}
+use Rattle.dagcbor_store.specs.declared.error.StoreRefusal.{StoreRefusal}
+use Rattle.dagcbor_store.specs.declared.error.StoreRefusal.TheVariants as refusal
+use Rattle.dagcbor_store.specs.declared.car_error.WriteCarError.{WriteCarError}
+use Rattle.dagcbor_store.specs.declared.car_error.WriteCarError.TheVariants as car
+use Rattle.dagcbor_store.proofs.Surveying.{all_more, ascending_more}
+use Rattle.dagcbor_store.proofs.Adding.{push_name, Quiet, quiet_itself, quiet_then, KeepsLast, last_same, fails_behind}
+
+-- ---- how far a walk has come
+
+pub record IsWalked (v : View) (last : Option CidParts) (sections : List Section) : Type 0 where
+  pub stored : (s : Section) → Among s sections → HoldsOnly v s.0 s.1
+  pub rising : AreRising sections
+  pub last_is : (q : List ℕ) → IsBehind last q ↔ AreBefore sections q
+  pub reached : (q : List ℕ) → IsListed (v.trees name_tree) q → IsNameIn sections q ⊎ AreBefore sections q
+
+pub walked_none : (v : View) → IsWalked v None []
+walked_none v = record { stored = λ s m. absurd m; rising = tt; last_is = λ q. (λ h. tt, λ h. tt); reached = λ q l. inr tt }
+
+before_then : (ss : List Section) (c q : List ℕ) → AreBefore ss c → name_cmp c q ≡ Less → AreBefore ss q
+before_then [] c q all less = tt
+before_then (s ∷ ss) c q all less = (nat_list_cmp_total.trans (cid_bytes s.0) c q all.0 less, before_then ss c q all.1 less)
+
+all_last : {X : Type 0} (P : X → Type 0) (xs : List X) (x : X) → AllByRecursion P (xs ++ x ∷ []) → P x
+all_last P [] x all = all.0
+all_last P (y ∷ ys) x all = all_last P ys x all.1
+
+pub walked_more : (v : View) (last : Option CidParts) (ss : List Section) (c : CidParts) (b : List ℕ) → IsWalked v last ss → IsNext (v.trees name_tree) last c → HoldsOnly v c b → IsWalked v (Some c) (ss ++ (c, b) ∷ [])
+walked_more v last ss c b h n holds = record {
+  stored = λ s m. elim (among_push s ss (c, b) m) [ inl o ↦ h.stored s o | inr e ↦ subst (λ (x : Section). HoldsOnly v x.0 x.1) (sym e) holds ];
+  rising = ascending_more (λ (s t : Section). name_cmp (cid_bytes s.0) (cid_bytes t.0) ≡ Less) ss (c, b) h.rising before;
+  last_is = λ q. (
+    λ less. all_more (λ (s : Section). name_cmp (cid_bytes s.0) q ≡ Less) ss (c, b) (before_then ss (cid_bytes c) q before less) less,
+    λ all. all_last (λ (s : Section). name_cmp (cid_bytes s.0) q ≡ Less) ss (c, b) all,
+  );
+  reached = λ q l. elim (h.reached q l) [
+    | inl m ↦ inl (push_name ss (c, b) q (inl m))
+    | inr early ↦ elim (n.first q l ((h.last_is q).1 early)) [
+      | inl e ↦ inl (push_name ss (c, b) q (inr (sym e)))
+      | inr less ↦ inr (all_more (λ (s : Section). name_cmp (cid_bytes s.0) q ≡ Less) ss (c, b) early less)
+    ]
+  ];
+}
+  where
+    before : AreBefore ss (cid_bytes c)
+    before = (h.last_is (cid_bytes c)).0 n.behind
+
+pub first_blocks : (v : View) (last : Option CidParts) (ss : List Section) → IsWalked v last ss → AreFirstBlocks v ss
+first_blocks v last ss h = record { stored = h.stored; rising = h.rising; reached = h.reached }
+
+pub all_blocks : (v : View) (last : Option CidParts) (ss : List Section) → IsWalked v last ss → GivesNext v last None → AreBlocks v ss
+all_blocks v last ss h none = record { stored = λ q b. (there q b, back q b); lists = lists; rising = h.rising }
+  where
+    lists : (q : List ℕ) → IsListed (v.trees name_tree) q → IsNameIn ss q
+    lists q l = elim (h.reached q l) [ inl m ↦ m | inr early ↦ absurd (none q l ((h.last_is q).1 early)) ]
+
+    there : (q b : List ℕ) → IsSectionIn ss q b → IsStored v.trees q b
+    there q b n = subst (λ d. IsStored v.trees q d) n.3 (subst (λ m. IsStored v.trees m n.0.1) n.2 (h.stored n.0 n.1).0)
+
+    back : (q b : List ℕ) → IsStored v.trees q b → IsSectionIn ss q b
+    back q b s =
+        let m = lists q (s.id, s.listed) in
+        (m.0, m.1, m.2, sym ((h.stored m.0 m.1).1 b (subst (λ n. IsStored v.trees n b) (sym m.2) s)))
+
+-- ---- the same view
+
+pub next_same : (old mid : View) (last : Option CidParts) (c : CidParts) → IsSame old mid → IsNext (mid.trees name_tree) last c → IsNext (old.trees name_tree) last c
+next_same old mid last c same h = subst (λ (t : Trees). IsNext (t name_tree) last c) same.trees h
+
+pub holds_same : (old mid : View) (c : CidParts) (b : List ℕ) → IsSame old mid → HoldsOnly mid c b → HoldsOnly old c b
+holds_same old mid c b same h = subst (λ (t : Trees). IsStored t (cid_bytes c) b × ((d : List ℕ) → IsStored t (cid_bytes c) d → d ≡ b)) same.trees h
+
+pub none_same : (old mid : View) (last : Option CidParts) → IsSame old mid → GivesNext mid last None → GivesNext old last None
+none_same old mid last same h = subst (λ (t : Trees). (q : List ℕ) → IsListed (t name_tree) q → IsBehind last q → ⊥) same.trees h
+
+damaged_same : (old mid : View) (c : CidParts) → IsSame old mid → IsDamaged mid c → IsDamaged old c
+damaged_same old mid c same h = subst (λ (t : Trees). IsListed (t name_tree) (cid_bytes c) × ((b : List ℕ) → IsStored t (cid_bytes c) b → IsNamed c b → ⊥)) same.trees h
+
+pub same_itself : (v : View) → IsSame v v
+same_itself v = record { trees = refl; committed = refl; is_open = refl; broken = refl }
+
+pub same_then : (a b c : View) → IsSame a b → IsSame b c → IsSame a c
+same_then a b c p q = record { trees = q.trees ∙ p.trees; committed = q.committed ∙ p.committed; is_open = q.is_open ∙ p.is_open; broken = q.broken ∙ p.broken }
+
+module _ {S : Type 0} (g : Ghosts S) where
+  -- a failure behind a call that changed nothing
+  pub fails_same : (old mid new : S) (told : StoreRefusal) → Quiet g old mid → (IsClean (g.view mid) → IsSame (g.view old) (g.view mid)) → Quiet g mid new → Fails g ⊥ mid new told → Fails g ⊥ old new told
+  fails_same old mid new told before same quiet w =
+      fails_behind g ⊥ ⊥ old mid new told before (λ clean. omega (arith, quiet.clean)) (λ clean. let s = same clean in (s.broken, last_same (g.view old) (g.view mid) s, λ u. u)) w
+
+  pub walk_refused : (old mid new : S) (told : StoreRefusal) → Quiet g old mid → (IsClean (g.view mid) → IsSame (g.view old) (g.view mid)) → Quiet g mid new → WalkRefused g mid new told → WalkRefused g old new told
+  walk_refused old mid new (refusal.Damaged n) before same quiet w = λ clean.
+      let k = w clean in
+      let s = same (omega (arith, quiet.clean)) in
+      (damaged_same (g.view old) (g.view mid) n s k.0, same_then (g.view old) (g.view mid) (g.view new) s k.1)
+  walk_refused old mid new told before same quiet w = fails_same old mid new told before same quiet w
+
+  -- ---- the next block
+
+  not_damaged : (e : StoreError) (n : CidParts) → TellsOfStore e (refusal.Damaged n) → ⊥
+  not_damaged stored.OutOfMemory n h = cc
+  not_damaged stored.Unstorable n h = cc
+  not_damaged stored.Io n h = cc
+  not_damaged stored.Corrupt n h = cc
+  not_damaged stored.Full n h = cc
+  not_damaged stored.Broken n h = cc
+
+  pub fails_walk : (old new : S) (told : StoreRefusal) → Fails g ⊥ old new told → WalkRefused g old new told
+  fails_walk old new (refusal.Damaged n) f = absurd (not_damaged f.0 n f.1)
+  fails_walk old new told f = f
+
+  get_walk : (name : CidParts) (old new : S) (told : StoreRefusal) → GetRefused g name old new told → WalkRefused g old new told
+  get_walk name old new (refusal.Damaged n) p = λ clean. let k = p.1 clean in (subst (IsDamaged (g.view old)) (sym p.0) k.0, k.1)
+  get_walk name old new told p = p
+
+  pub get_refused_next : (name : CidParts) (old mid new : S) (told : StoreRefusal) → Quiet g old mid → (IsClean (g.view mid) → IsSame (g.view old) (g.view mid)) → Quiet g mid new → GetRefused g name mid new told → WalkRefused g old new told
+  get_refused_next name old mid new told before same quiet p = walk_refused old mid new told before same quiet (get_walk name mid new told p)
+
+  -- a name that is listed has something under it
+  pub no_block_next : (last : Option CidParts) (name : CidParts) (old mid new : S) → Quiet g mid new → (IsClean (g.view mid) → IsSame (g.view old) (g.view mid)) → (IsClean (g.view mid) → IsNext ((g.view old).trees name_tree) last name)
+      → (IsClean (g.view new) → Lists (g.view mid) name → ⊥) → WalkRefused g old new (refusal.Damaged name)
+  no_block_next last name old mid new quiet same next none = λ clean.
+      let was : IsClean (g.view mid) = omega (arith, quiet.clean) in
+      absurd (none clean (subst (λ (t : Trees). IsListed (t name_tree) (cid_bytes name)) (sym (same was).trees) (next was).listed))
+
+  -- ---- how much was written
+
+  pub record IsWritten (roots : List (List ℕ)) (old : S) (before : Written) (last : Option CidParts) (sections : List Section) (now : Written) (mid : S) : Type 0 where
+    pub header : IsHeader roots
+    pub named : AreNamed sections
+    pub sections_are : AllByRecursion IsSection sections
+    pub wrote : WroteAll (Some (car_bytes roots sections)) before now
+    pub walked : IsClean (g.view mid) → IsSame (g.view old) (g.view mid) × IsWalked (g.view old) last sections
+    pub quiet : Quiet g old mid
+
+  pub written_begun : (roots : List (List ℕ)) (old : S) (before now : Written) → IsHeader roots → WroteAll (Some (header_bytes roots)) before now → IsWritten roots old before None [] now old
+  written_begun roots old before now header wrote = record {
+    header = header;
+    named = tt;
+    sections_are = tt;
+    wrote = subst (λ b. WroteAll (Some b) before now) (sym (append-nil (header_bytes roots))) wrote;
+    walked = λ clean. (same_itself (g.view old), walked_none (g.view old));
+    quiet = quiet_itself g old;
+  }
+
+  car_push : (roots : List (List ℕ)) (ss : List Section) (s : Section) → car_bytes roots ss ++ section_bytes s ≡ car_bytes roots (ss ++ s ∷ [])
+  car_push roots ss s = append_assoc (header_bytes roots) (flat_map section_bytes ss) (section_bytes s) ∙ ap (λ more. header_bytes roots ++ more) (sym (flat_push ss s))
+
+  pub written_more : (roots : List (List ℕ)) (old mid new : S) (before now after : Written) (last : Option CidParts) (ss : List Section) (c : CidParts) (b : List ℕ) → IsWritten roots old before last ss now mid → IsNamed c b → IsSection (c, b)
+      → (IsClean (g.view new) → IsSame (g.view mid) (g.view new)) → (IsClean (g.view new) → IsNext ((g.view mid).trees name_tree) last c × HoldsOnly (g.view mid) c b) → WroteAll (Some (section_bytes (c, b))) now after → Quiet g mid new
+      → IsWritten roots old before (Some c) (ss ++ (c, b) ∷ []) after new
+  written_more roots old mid new before now after last ss c b h named own same next wrote quiet = record {
+    header = h.header;
+    named = all_more (λ (s : Section). IsNamed s.0 s.1) ss (c, b) h.named named;
+    sections_are = all_more IsSection ss (c, b) h.sections_are own;
+    wrote = subst (λ t. WroteAll (Some t) before after) (car_push roots ss (c, b)) (WroteAll_then (Some (car_bytes roots ss)) (Some (section_bytes (c, b))) before now after h.wrote wrote);
+    walked = λ clean.
+        let w = h.walked (omega (arith, quiet.clean)) in
+        let n = next clean in (
+          same_then (g.view old) (g.view mid) (g.view new) w.0 (same clean),
+          walked_more (g.view old) last ss c b w.1 (next_same (g.view old) (g.view mid) last c w.0 n.0) (holds_same (g.view old) (g.view mid) c b w.0 n.1),
+        );
+    quiet = quiet_then g old mid new h.quiet quiet;
+  }
+
+  pub header_unwritten : {E : Type 0} (roots : List (List ℕ)) (old : S) (before after : Written) (e : WriteCarError E) → HeaderUnwritten roots before after e → WriteRefused g roots old before e after old
+  header_unwritten roots old before after (car.Store told) stops = absurd stops
+  header_unwritten roots old before after (car.Write e) stops = (
+    [],
+    tt,
+    λ clean. (first_blocks (g.view old) None [] (walked_none (g.view old)), same_itself (g.view old)),
+    subst (λ b. Stops (Some b) before after e) (sym (append-nil (header_bytes roots))) stops,
+  )
+
+  pub next_unwritten : {E : Type 0} (roots : List (List ℕ)) (old mid new : S) (before now after : Written) (last : Option CidParts) (ss : List Section) (e : WriteCarError E) → IsWritten roots old before last ss now mid → Quiet g mid new
+      → NextUnwritten g last mid now e after new → WriteRefused g roots old before e after new
+  next_unwritten roots old mid new before now after last ss (car.Write e) h quiet n = (
+    ss ++ n.0 ∷ [],
+    all_more (λ (s : Section). IsNamed s.0 s.1) ss n.0 h.named n.1,
+    λ clean.
+        let w = h.walked (omega (arith, quiet.clean)) in
+        let k = n.2 clean in (
+          first_blocks (g.view old) (Some n.0.0) (ss ++ n.0 ∷ []) (walked_more (g.view old) last ss n.0.0 n.0.1 w.1 (next_same (g.view old) (g.view mid) last n.0.0 w.0 k.0) (holds_same (g.view old) (g.view mid) n.0.0 n.0.1 w.0 k.1)),
+          same_then (g.view old) (g.view mid) (g.view new) w.0 k.2,
+        ),
+    subst (λ t. Stops (Some t) before after e) (car_push roots ss n.0) (Stops-then (Some (car_bytes roots ss)) (Some (section_bytes n.0)) before now after e h.wrote n.3),
+  )
+  next_unwritten roots old mid new before now after last ss (car.Store told) h quiet n = (
+    ss,
+    h.named,
+    λ clean. first_blocks (g.view old) last ss (h.walked (omega (arith, quiet.clean))).1,
+    subst (λ w. WroteAll (Some (car_bytes roots ss)) before w) (sym n.0) h.wrote,
+    walk_refused old mid new told h.quiet (λ clean. (h.walked clean).0) quiet n.1,
+  )
+
+  pub is_car : (roots : List (List ℕ)) (old mid : S) (before now : Written) (last : Option CidParts) (ss : List Section) → IsWritten roots old before last ss now mid → IsCar (car_bytes roots ss) roots ss
+  is_car roots old mid before now last ss h = record { header = h.header; all = h.sections_are; is = refl }
+
+  -- the walk was given up, and what was not committed is undone
+  pub gave_up : (roots : List (List ℕ)) (old mid new : S) (before now : Written) (last : Option CidParts) (ss : List Section) (told : StoreRefusal) → IsWritten roots old before last ss now mid → Quiet g mid new → WalkRefused g mid new told
+      → WriteRefused {E = ℕ} g roots old before (car.Store told) now new
+  gave_up roots old mid new before now last ss told h quiet w = next_unwritten {E = ℕ} roots old mid new before now now last ss (car.Store told) h quiet (refl, w)

@@ -1,0 +1,26 @@
+use Rattle.std.proofs.Common.{◌≡◌, subst}
+use Rattle.std.specs.Prelude.{◌⊎◌}
+use Rattle.dagcbor_heads.specs.Reading.{default_steps}
+use Rattle.dagcbor_heads.specs.declared.error.DecodeError.TheVariants.{OutOfMemory}
+use Rattle.dagcbor_read.specs.Whole.{IsWhole, HoldsNoValue}
+use Rattle.dagcbor_store.proofs.store.BlockStore.get.Goals as goal
+
+pub returns-in-Ok-clause-gets : goal.returns-in-Ok-clause-gets
+returns-in-Ok-clause-gets g c clean = (
+  c.in-Ok-Some.block.items,
+  rw c.in-Ok-Some.field-0-is at (c.in-Ok-Some.ensures.found clean),
+  subst (λ b. IsWhole g.T.Shown.shape default_steps b (g.T.Shown.meaning c.in-Ok.value)) c.deref.ensures.value c.in-Ok.ensures.value,
+)
+
+pub returns-in-Ok-Some-clause-refused : goal.returns-in-Ok-Some-clause-refused
+returns-in-Ok-Some-clause-refused g c =
+    let e = c.in-Err-from_slice_owned.error in (
+      c.in-Err-from_slice_owned.ensures.never,
+      c.in-Err-from_slice_owned.ensures.memory,
+      (
+        c.in-Ok-Some.block.items,
+        rw c.in-Ok-Some.field-0-is at c.in-Ok-Some.ensures.verified,
+        subst (λ b. (e ≡ OutOfMemory) ⊎ HoldsNoValue g.T.Shown.shape default_steps b) c.deref.ensures.value c.in-Err-from_slice_owned.ensures.refused,
+        λ clean. (rw c.in-Ok-Some.field-0-is at (c.in-Ok-Some.ensures.found clean), c.in-Ok-Some.ensures.same clean),
+      ),
+    )

@@ -1,0 +1,191 @@
+-- What is read into a store from a file of blocks.
+use Rattle.std.specs.Prelude.{◌≡◌, ◌↔◌, ◌⊎◌, ℕ, ◌-◌, ◌^◌, List, length, Option, None, Some, IsTrue}
+use Rattle.std.specs.Prelude.{Result, Err, MatchBool, MatchResult, Bool, Vec}
+use Rattle.std.specs.List.{AllByRecursion}
+use Rattle.std.specs.declared.alloc.Global.{Global}
+use Rattle.sqlite_trees.specs.Tree.{Trees}
+use Rattle.sqlite_trees.specs.View.{View, IsClean, IsQuiet}
+use Rattle.sqlite_trees.specs.declared.store.Store.{Ghosts}
+use Rattle.dagcbor_heads.specs.Reading.{Reading, Stays}
+use Rattle.ipld_tree.specs.Cid.{CidParts, cid_bytes}
+use Rattle.dagcbor_items.specs.Walks.{forms}
+use Rattle.dagcbor_car.specs.Car.{Section}
+use Rattle.dagcbor_car.specs.Versions.{IsFile}
+use Rattle.dagcbor_car.specs.Extents.{within, wanting, of_file, EndsThere}
+use Rattle.dagcbor_car.specs.Sources.{CarRefuses, RefusesStart, RefusesNext, TakesSectionBytes}
+use Rattle.dagcbor_car.specs.Sources.{LacksMemoryIf, FileLacks, SectionLacks}
+use Rattle.dagcbor_car.specs.Checks.{IsFileFront, StandBehind}
+use Rattle.dagcbor_car.specs.Sets.{Among}
+use Rattle.dagcbor_car.specs.declared.error.CarError.{CarError}
+use Rattle.dagcbor_car.specs.declared.error.CarError.TheVariants as file
+use Rattle.dagcbor_store.specs.Rows.{block_tree, name_tree, IsStored, IsListed, FreesId, IsTooLong}
+use Rattle.dagcbor_store.specs.Stored.{IsNamedBlock, IsUnfit, IsAdded, IsUndone, Fails, PutRefused}
+use Rattle.dagcbor_store.specs.declared.error.StoreRefusal.{StoreRefusal}
+use Rattle.dagcbor_store.specs.declared.error.StoreRefusal.TheVariants as refusal
+use Rattle.dagcbor_store.specs.declared.car_error.ReadCarError.{ReadCarError}
+use Rattle.dagcbor_store.specs.declared.car_error.ReadCarError.TheVariants as car
+
+-- ---- what is stored
+
+-- a section has this name, in its binary form
+abbrev pub IsNameIn : List Section → List ℕ → Type 0
+IsNameIn sections q = (s : Section) × Among s sections × (cid_bytes s.0 ≡ q)
+
+-- a section has this name and these bytes
+abbrev pub IsSectionIn : List Section → List ℕ → List ℕ → Type 0
+IsSectionIn sections q b = (s : Section) × Among s sections × (cid_bytes s.0 ≡ q) × (s.1 ≡ b)
+
+-- What was stored and listed is, and so is each of these sections whose name was not listed. Where sections have
+-- one name, the bytes of one of them are stored.
+pub record HoldsSections (old new : Trees) (sections : List Section) : Type 0 where
+  pub kept : (q b : List ℕ) → IsStored old q b → IsStored new q b
+  pub only : (q b : List ℕ) → IsStored new q b
+      → IsStored old q b ⊎ ((IsListed (old name_tree) q → ⊥) × IsSectionIn sections q b)
+  pub each : (q : List ℕ) → IsNameIn sections q
+      → IsListed (old name_tree) q ⊎ ((b : List ℕ) × IsStored new q b)
+  pub lists : (q : List ℕ) → IsListed (new name_tree) q
+      ↔ (IsNameIn sections q ⊎ IsListed (old name_tree) q)
+
+-- the same, and all of it is committed
+pub record IsFilled (old new : View) (sections : List Section) : Type 0 where
+  pub trees : HoldsSections old.trees new.trees sections
+  pub committed : new.committed ≡ new.trees
+  pub is_open : IsTrue new.is_open
+
+-- ---- the file
+
+-- want of memory is never inside another refusal
+abbrev pub TellsOfFile : {E : Type 0} → CarError E → ReadCarError E → Type 0
+TellsOfFile file.OutOfMemory told = told ≡ car.OutOfMemory
+TellsOfFile error told = told ≡ car.Car error
+
+-- the refusal is that of the file, which `CarRefuses` says of this cause; memory is wanted only where that lacks it
+abbrev pub FileRefused : {E : Type 0} → (CarError E → List ℕ → Type 0) → Type 0 → Reading
+    → ReadCarError E → Reading → Type 0
+FileRefused stands lacks old told new = (e : CarError _) × TellsOfFile e told
+    × CarRefuses stands old e new × LacksMemoryIf {T = Unit {0}} lacks (Err e)
+
+-- the header of these roots and these sections stood first in a file, and were taken, and so much of it is left; the
+-- sections are blocks under their names
+pub record IsReadTo (roots : List (List ℕ)) (sections : List Section) (old : Reading) (extent : Option ℕ) (now : Reading) : Type 0 where
+  pub known : (b : List ℕ) → old.left ≡ Some b → (rest : List ℕ) × (now.left ≡ Some rest)
+      × IsFileFront b roots sections (wanting extent rest) (within extent rest)
+  pub same : Stays old now
+  pub blocks : AllByRecursion IsNamedBlock sections
+
+-- the bytes left, where they are known, are the file of these roots and sections, and it is taken, and nothing behind
+-- it; the sections are blocks under their names
+pub record IsRead (roots : List (List ℕ)) (sections : List Section) (old new : Reading) : Type 0 where
+  pub is_car : (b : List ℕ) → old.left ≡ Some b
+      → IsFile b roots sections × ((rest : List ℕ) × StandBehind b rest × (new.left ≡ Some rest))
+  pub same : Stays old new
+  pub blocks : AllByRecursion IsNamedBlock sections
+
+-- ---- refusals
+
+-- how the refusal of the block of a section is told: one of the block with its name, and one of the store as such
+abbrev pub of_block : {E : Type 0} → CidParts → StoreRefusal → ReadCarError E
+of_block name refusal.OtherHash = car.Block name refusal.OtherHash
+of_block name refusal.OtherBytes = car.Block name refusal.OtherBytes
+of_block name refusal.OtherCodec = car.Block name refusal.OtherCodec
+of_block name (refusal.NoBlock e) = car.Block name (refusal.NoBlock e)
+of_block name refusal.TooLong = car.Block name refusal.TooLong
+of_block name refusal.OutOfMemory = car.OutOfMemory
+of_block name told = car.Store told
+
+-- the same of the commit
+abbrev pub of_commit : {E : Type 0} → StoreRefusal → ReadCarError E
+of_commit refusal.OutOfMemory = car.OutOfMemory
+of_commit told = car.Store told
+
+-- a row has the greatest number, behind these sections
+abbrev pub NumbersEnd : Trees → List Section → Type 0
+NumbersEnd old sections = (mid : Trees) × HoldsSections old mid sections × FreesId (mid block_tree) None
+
+-- Why the block of a section, behind these, is not kept: it is none under its name, or too long for a row; no number
+-- is left; or the store failed.
+abbrev pub NotKept : {S : Type 0} → Ghosts S → List Section → Section → S → S → StoreRefusal → Type 0
+NotKept g sections s old new told = IsUnfit s told
+    ⊎ (((told ≡ refusal.NoNumber) × (IsClean (g.view new) → NumbersEnd (g.view old).trees sections))
+    ⊎ Fails g (IsTooLong (g.view old).reals (cid_bytes s.0) s.1) old new told)
+
+-- why no section more is kept, behind these: none stands there, though bytes do, or are wanting; the next, which was
+-- taken, is refused; or it is the end, and the commit failed
+abbrev pub StopsAt : {S E : Type 0} → Ghosts S → List Section → Option ℕ → Reading → S → ReadCarError E → Reading → S → Type 0
+StopsAt g sections extent old before e new after =
+    FileRefused (RefusesNext extent) (SectionLacks (of_file extent old)) old e new
+    ⊎ (((s : Section) × (more : Option ℕ) × (told : StoreRefusal) × TakesSectionBytes extent old s more new
+    × (e ≡ of_block s.0 told) × NotKept g sections s before after told)
+    ⊎ ((more : Option ℕ) × (told : StoreRefusal) × EndsThere extent old more new × (e ≡ of_commit told)
+    × Fails g ⊥ before after told))
+
+-- the call gives up behind so many sections
+abbrev pub AreTooMany : {E : Type 0} → List Section → ReadCarError E → Type 0
+AreTooMany sections e = (e ≡ car.OutOfMemory) × (length sections ≡ 2 ^ 64 - 1)
+
+-- why a file is not read: none begins; or else behind some of its sections there is a cause
+abbrev pub ReadRefused : {S E : Type 0} → Ghosts S → Reading → S → ReadCarError E → Reading → S → Type 0
+ReadRefused g old before e new after = FileRefused RefusesStart (FileLacks old) old e new
+    ⊎ ((roots : List (List ℕ)) × (sections : List Section) × (extent : Option ℕ) × (mid : Reading)
+    × IsReadTo roots sections old extent mid
+    × (StopsAt g sections extent mid before e new after ⊎ ((new ≡ mid) × AreTooMany sections e)))
+
+-- A crash behind the call leaves what it could leave before; or that and a whole file, which was taken.
+abbrev pub MayLeave : Reading → Reading → Trees → Trees → Type 0
+MayLeave old new before db = (roots : List (List ℕ)) × (sections : List Section)
+    × IsRead roots sections old new × HoldsSections before db sections
+
+-- ---- steps
+
+-- these sections were added, and what was committed stands
+pub record IsAddedAll (old new : View) (sections : List Section) : Type 0 where
+  pub trees : HoldsSections old.trees new.trees sections
+  pub committed : new.committed ≡ old.committed
+  pub reals : new.reals ≡ old.reals
+  pub is_open : new.is_open ≡ old.is_open
+  pub broken : new.is_broken ≡ old.is_broken
+
+-- the same, and no fault is forgotten
+pub record Adds {S : Type 0} (g : Ghosts S) (sections : List Section) (old new : S) : Type 0 where
+  pub added : IsClean (g.view new) → IsAddedAll (g.view old) (g.view new) sections
+  pub quiet : IsQuiet g.view g.faults g.recovers g.is_shielded old new
+
+-- The block of a section is added under its name, or refused.
+abbrev pub AddsSection : {S E : Type 0} → Ghosts S → Section → S → Result (Unit {0}) (ReadCarError E) → S → Type 0
+AddsSection g s before result after = MatchResult result
+    (λ _. IsNamedBlock s × (IsClean (g.view after) → IsAdded (g.view before) (g.view after) s.0 s.1))
+    (λ e. (told : StoreRefusal) × (e ≡ of_block s.0 told) × PutRefused g s before after told)
+
+-- why the next section is not added
+abbrev pub NextRefused : {S E : Type 0} → Ghosts S → Option ℕ → Reading → S → ReadCarError E → Reading → S → Type 0
+NextRefused g extent old before e new after =
+    (FileRefused (RefusesNext extent) (SectionLacks (of_file extent old)) old e new × (after ≡ before))
+    ⊎ ((s : Section) × (more : Option ℕ) × (told : StoreRefusal) × TakesSectionBytes extent old s more new
+    × (e ≡ of_block s.0 told) × PutRefused g s before after told)
+
+-- The section at the front is taken, and added; or the end is found.
+abbrev pub AddsNext : {S E : Type 0} → Ghosts S → Option ℕ → Reading → S → Result Bool (ReadCarError E)
+    → Option ℕ → Reading → S → Type 0
+AddsNext g extent old before result rest new after = MatchResult result
+    (λ more. MatchBool more
+    ((s : Section) × TakesSectionBytes extent old s rest new × IsNamedBlock s
+    × (IsClean (g.view after) → IsAdded (g.view before) (g.view after) s.0 s.1))
+    (EndsThere extent old rest new × (after ≡ before)))
+    (λ e. NextRefused g extent old before e new after)
+
+-- why not all of a file is added
+abbrev pub AddRefused : {S E : Type 0} → Ghosts S → Reading → S → ReadCarError E → Reading → S → Type 0
+AddRefused {S} g old before e new after = (FileRefused RefusesStart (FileLacks old) old e new × (after ≡ before))
+    ⊎ ((roots : List (List ℕ)) × (sections : List Section) × (extent : Option ℕ) × (mid : Reading) × (held : S)
+    × IsReadTo roots sections old extent mid × Adds g sections before held
+    × IsQuiet g.view g.faults g.recovers g.is_shielded held after
+    × (NextRefused g extent mid held e new after ⊎ ((new ≡ mid) × (after ≡ held) × AreTooMany sections e)))
+
+-- The sections of a whole file are added, so many.
+abbrev pub AddsCar : {S E : Type 0} → Ghosts S → Reading → S → Result (Vec CidParts Global × ℕ) (ReadCarError E)
+    → Reading → S → Type 0
+AddsCar g old before result new after = MatchResult result
+    (λ p. (sections : List Section) × (extent : Option ℕ) × (more : Option ℕ) × (mid : Reading) × (p.1 ≡ length sections)
+    × IsReadTo (forms p.0.items) sections old extent mid × EndsThere extent mid more new
+    × IsRead (forms p.0.items) sections old new × Adds g sections before after)
+    (λ e. AddRefused g old before e new after)

@@ -1,0 +1,47 @@
+-- Values that are kept in a store and read again.
+use Rattle.std.specs.Prelude.{◌≡◌, ◌⊎◌, ℕ, false, List, ⊤, Option, None, Some, IsSomeAnd}
+use Rattle.sqlite_trees.specs.View.{View, IsClean}
+use Rattle.sqlite_trees.specs.declared.store.Store.{Ghosts}
+use Rattle.dagcbor_heads.specs.Reading.{default_steps}
+use Rattle.dagcbor_heads.specs.declared.error.EncodeError.TheVariants as unwritten
+use Rattle.dagcbor_heads.specs.declared.error.DecodeError.TheVariants as unread
+use Rattle.ipld_tree.specs.Cid.{CidParts}
+use Rattle.ipld_tree.specs.Tree.{Tree}
+use Rattle.ipld_tree.specs.Spelling.{spelling}
+use Rattle.dagcbor_items.specs.Shapes.{Shape}
+use Rattle.dagcbor_items.specs.Slices.{IsBlock}
+use Rattle.dagcbor_write.specs.Answers.{HasNoSpelling}
+use Rattle.dagcbor_read.specs.Whole.{IsWhole, HoldsNoValue, OfWhole, LacksMemoryIf}
+use Rattle.dagcbor_car.specs.Names.{block_name}
+use Rattle.dagcbor_store.specs.Stored.{Lists, HoldsOnly, IsNamed, IsSame, IsPut, GetRefused, PutRefused}
+use Rattle.dagcbor_store.specs.declared.value.PutError.{PutError}
+use Rattle.dagcbor_store.specs.declared.value.PutError.TheVariants as put
+use Rattle.dagcbor_store.specs.declared.value.GetError.{GetError}
+use Rattle.dagcbor_store.specs.declared.value.GetError.TheVariants as got
+
+-- the spelling of the value's tree is a block, which is stored under its name, and committed
+abbrev pub PutsValue : {S : Type 0} → Ghosts S → Option Tree → S → CidParts → S → Type 0
+PutsValue g tree old name new = IsSomeAnd tree (λ t. IsBlock (spelling t) t × (name ≡ block_name (spelling t))
+    × (IsClean (g.view new) → IsPut (g.view old) (g.view new) name (spelling t)))
+
+-- the value has no spelling; or its spelling is no block, or not stored
+abbrev pub PutValueRefused : {S : Type 0} → Ghosts S → Option Tree → S → PutError → S → Type 0
+PutValueRefused g tree old (put.Encode e) new = (new ≡ old) × ((e ≡ unwritten.OutOfMemory) ⊎ HasNoSpelling tree)
+PutValueRefused g tree old (put.Store told) new = IsSomeAnd tree (λ t. PutRefused g (block_name (spelling t), spelling t) old new told)
+
+-- the value is the one that bytes of the name show to the type
+abbrev pub ShowsNamed : {T V : Type 0} → (T → V) → Shape Tree V → CidParts → Option T → Type 0
+ShowsNamed show shape name None = ⊤
+ShowsNamed show shape name (Some x) = (b : List ℕ) × IsNamed name b × IsWhole shape default_steps b (show x)
+
+-- none where nothing is listed under the name, else what the bytes that are stored under it show to the type
+abbrev pub GetsValue : {T V : Type 0} → (T → V) → Shape Tree V → View → CidParts → Option T → Type 0
+GetsValue show shape v name None = Lists v name → ⊥
+GetsValue show shape v name (Some x) = (b : List ℕ) × HoldsOnly v name b × IsWhole shape default_steps b (show x)
+
+-- bytes of the name, which are stored under it, show nothing to the type; or it takes memory; or they were not got
+abbrev pub GetValueRefused : {S V : Type 0} → Ghosts S → Shape Tree V → CidParts → S → GetError → S → Type 0
+GetValueRefused g shape name old (got.Decode e) new = OfWhole e × LacksMemoryIf (shape.memory false) e
+    × ((b : List ℕ) × IsNamed name b × ((e ≡ unread.OutOfMemory) ⊎ HoldsNoValue shape default_steps b)
+    × (IsClean (g.view new) → HoldsOnly (g.view old) name b × IsSame (g.view old) (g.view new)))
+GetValueRefused g shape name old (got.Store told) new = GetRefused g name old new told

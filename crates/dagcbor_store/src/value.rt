@@ -1,0 +1,80 @@
+//! Keeping values, and reading them.
+
+ghost use Rattle.std.specs.Prelude.{◌⊎◌, IsSomeAnd, IfOk, IfErr, OnOk, option_map};
+ghost use Rattle.ipld_tree.specs.Spelling.{spelling};
+ghost use Rattle.dagcbor_car.specs.Names.{block_name};
+ghost use Rattle.sqlite_trees.specs.View.{IsClean, IsQuiet};
+ghost use Rattle.dagcbor_store.specs.Stored.{IsSame, IsAddedTo, IsKeptBy};
+ghost use Rattle.dagcbor_store.specs.Values.{PutsValue, PutValueRefused, ShowsNamed, GetsValue, GetValueRefused};
+
+use crate::error::StoreRefusal;
+use crate::store::BlockStore;
+use dagcbor_car::name_of_block;
+use dagcbor_heads::{DecodeError, EncodeError};
+use dagcbor_read::{DeserializeOwned, from_slice_owned};
+use dagcbor_write::{Serialize, to_vec};
+use ipld_tree::Cid;
+use sqlite_trees::store::Store;
+use std::convert::Infallible;
+use thiserror::Error;
+
+/// Why a value was not kept.
+#[derive(Debug, Drop, Error)]
+pub enum PutError {
+    /// The value has no spelling, or memory was wanting for it.
+    #[error("encode error: {0}")]
+    Encode(EncodeError<Infallible>),
+    /// Its spelling was not kept. `NoBlock`: it is not read within 256 steps.
+    #[error("{0}")]
+    Store(StoreRefusal),
+}
+
+/// Why a value was not read.
+#[derive(Debug, Drop, Error)]
+pub enum GetError {
+    /// The block under the name is not read as the type within 256 steps, or memory was wanting.
+    #[error("decode error: {0}")]
+    Decode(DecodeError<Infallible>),
+    /// It was not got.
+    #[error("{0}")]
+    Store(StoreRefusal),
+}
+
+impl<S: Store> BlockStore<S> {
+    /// Keeps the value's spelling under its name, and commits it, as `put_block`.
+    pub fn put<T: Serialize>(&mut self, value: &T) -> Result<Cid, PutError>
+        ensures ok { IfOk result (λ name. PutsValue S.Store (T.tree value.now) self.old name self.new) }
+        ensures refused { IfErr result (λ e. PutValueRefused S.Store (T.tree value.now) self.old e self.new) }
+        ensures crash { (db : _) → S.Store.recovers self.new db → S.Store.recovers self.old db
+            ⊎ IsSomeAnd (T.tree value.now) (λ t. IsClean (S.Store.view self.new) → IsAddedTo (S.Store.view self.old).trees db (block_name (spelling t)) (spelling t)) }
+        ensures kept { IsKeptBy S.Store self.old self.new }
+    {
+        let block = match to_vec(self.alloc, value) {
+            Ok(block) => block,
+            Err(error) => return Err(PutError::Encode(error)),
+        };
+        let name = name_of_block(&block);
+        match self.put_block(&name, &block) {
+            Ok(()) => Ok(name),
+            Err(refusal) => Err(PutError::Store(refusal)),
+        }
+    }
+
+    /// The block under the name, read as a value. None where nothing is listed under it.
+    pub fn get<'de, T: DeserializeOwned<'de>>(&mut self, name: &Cid) -> Result<Option<T>, GetError>
+        ensures named { IfOk result (ShowsNamed T.meaning T.shape name.now) }
+        ensures gets { IfOk result (λ found. IsClean (S.Store.view self.new) → GetsValue T.meaning T.shape (S.Store.view self.old) name.now found) }
+        ensures same { OnOk result (IsClean (S.Store.view self.new) → IsSame (S.Store.view self.old) (S.Store.view self.new)) }
+        ensures refused { IfErr result (λ e. GetValueRefused S.Store T.shape name.now self.old e self.new) }
+        ensures quiet { IsQuiet S.Store.view S.Store.faults S.Store.recovers S.Store.is_shielded self.old self.new }
+    {
+        match self.get_block(name) {
+            Ok(None) => Ok(None),
+            Ok(Some(block)) => match from_slice_owned(self.alloc, &block) {
+                Ok(value) => Ok(Some(value)),
+                Err(error) => Err(GetError::Decode(error)),
+            },
+            Err(refusal) => Err(GetError::Store(refusal)),
+        }
+    }
+}

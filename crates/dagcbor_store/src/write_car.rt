@@ -1,0 +1,79 @@
+//! Writing the blocks of a store as a file.
+
+ghost use Rattle.std.specs.Prelude.{◌≡◌, ◌∷◌, [], List, Some, IfOk, IfErr, OnOk, MatchResult, MatchOption};
+ghost use Rattle.dagcbor_heads.specs.Written.{WroteAll, Stops};
+ghost use Rattle.dagcbor_items.specs.Walks.{forms};
+ghost use Rattle.dagcbor_car.specs.Car.{Section as CarSection, car_bytes, section_bytes, IsCar, IsSection};
+ghost use Rattle.sqlite_trees.specs.View.{IsClean, IsQuiet};
+ghost use Rattle.dagcbor_store.specs.Stored.{IsSame, IsNamed};
+ghost use Rattle.dagcbor_store.specs.Walking.{AreBlocks, AreNamed, WriteRefused, BeginsFile, WritesNext};
+
+use crate::car_error::WriteCarError;
+use crate::store::BlockStore;
+use dagcbor_car::{push_header, push_section};
+use dagcbor_heads::Write;
+use ipld_tree::Cid;
+use sqlite_trees::store::Store;
+use std::alloc::Global;
+
+/// Appends the header.
+fn begin<W: Write>(
+    alloc: Global,
+    writer: &mut W,
+    roots: &[Cid],
+) -> Result<(), WriteCarError<W::Error>>
+    ensures { BeginsFile (forms roots.now) (W.written writer.old) result (W.written writer.new) }
+{
+    match push_header(alloc, writer, roots) {
+        Ok(()) => Ok(()),
+        Err(error) => Err(WriteCarError::Write(error)),
+    }
+}
+
+impl<S: Store> BlockStore<S> {
+    /// Appends the file of these roots and of all blocks (CAR, version 1), in the order of their
+    /// names, each verified as it is read. No root need be stored. One block is in memory at a time.
+    pub fn write_car<W: Write>(
+        &mut self,
+        roots: &[Cid],
+        writer: &mut W,
+    ) -> Result<(), WriteCarError<W::Error>>
+        ensures ok { OnOk result ((sections : List CarSection) × AreNamed sections
+            × WroteAll (Some (car_bytes (forms roots.now) sections)) (W.written writer.old) (W.written writer.new)
+            × IsCar (car_bytes (forms roots.now) sections) (forms roots.now) sections
+            × (IsClean (S.Store.view self.new) → AreBlocks (S.Store.view self.old) sections)) }
+        ensures same { OnOk result (IsClean (S.Store.view self.new) → IsSame (S.Store.view self.old) (S.Store.view self.new)) }
+        ensures refused { IfErr result (λ e. WriteRefused S.Store (forms roots.now) self.old (W.written writer.old) e (W.written writer.new) self.new) }
+        ensures quiet { IsQuiet S.Store.view S.Store.faults S.Store.recovers S.Store.is_shielded self.old self.new }
+    {
+        begin(self.alloc, writer, roots)?;
+        let mut last = None;
+        for _count in 0..u64::MAX {
+            match self.push_next(last, writer)? {
+                Some(name) => last = Some(name),
+                None => return Ok(()),
+            }
+        }
+        Err(WriteCarError::Store(self.give_up()))
+    }
+
+    /// Appends the section of the next block, and answers its name.
+    fn push_next<W: Write>(
+        &mut self,
+        last: Option<Cid>,
+        writer: &mut W,
+    ) -> Result<Option<Cid>, WriteCarError<W::Error>>
+        ensures next { WritesNext S.Store last self.old (W.written writer.old) result (W.written writer.new) self.new }
+        ensures quiet { IsQuiet S.Store.view S.Store.faults S.Store.recovers S.Store.is_shielded self.old self.new }
+    {
+        let (name, block) = match self.next_block(last) {
+            Ok(Some(next)) => next,
+            Ok(None) => return Ok(None),
+            Err(refusal) => return Err(WriteCarError::Store(refusal)),
+        };
+        match push_section(writer, &name, &block) {
+            Ok(()) => Ok(Some(name)),
+            Err(error) => Err(WriteCarError::Write(error)),
+        }
+    }
+}

@@ -9,6 +9,7 @@ use command::{Command, command_of};
 use dagcbor_cli::{arguments, give_up};
 use dagcbor_heads::{Input, IoReader, IoWriter};
 use dagcbor_store::{BlockStore, FileFrom, FileStore, Wary, WriteCarError};
+use ipld_tree::Cid;
 use said::{NOT_WRITTEN, OUT_OF_MEMORY, USAGE, say_block, say_count, say_refusal, say_unread};
 use std::io::{BufReader, BufWriter, Write};
 use std::process::ExitCode;
@@ -23,7 +24,13 @@ fn run_import<W: Write>(rt: &HostRuntime, store: &mut Store, errors: &mut W) -> 
     };
     let mut input = Input::Reader(IoReader::new(source));
     match store.read_car(&mut input) {
-        Ok((_roots, count)) => say_count(rt.alloc(), "stored", count, &mut rt.stdout().lock(), errors),
+        Ok((_roots, count)) => say_count(
+            rt.alloc(),
+            "stored",
+            count,
+            &mut rt.stdout().lock(),
+            errors,
+        ),
         Err(error) => say_unread(rt.alloc(), &error, errors),
     }
 }
@@ -38,6 +45,20 @@ fn run_export<W: Write>(rt: &HostRuntime, store: &mut Store, errors: &mut W) -> 
         Ok(()) => flushed(writer.into_inner(), 0, errors),
         Err(WriteCarError::Write(_)) => give_up(errors, NOT_WRITTEN, 2),
         Err(WriteCarError::Store(refusal)) => say_refusal(rt.alloc(), &refusal, errors),
+    }
+}
+
+/// Writes the block under the name on standard output.
+fn run_get<W: Write>(rt: &HostRuntime, store: &mut Store, name: &Cid, errors: &mut W) -> u8 {
+    let found = store.get_block(name);
+    say_block(rt.alloc(), found, &mut rt.stdout().lock(), errors)
+}
+
+/// Says how many blocks there are.
+fn run_count<W: Write>(rt: &HostRuntime, store: &mut Store, errors: &mut W) -> u8 {
+    match store.len() {
+        Ok(count) => say_count(rt.alloc(), "holds", count, &mut rt.stdout().lock(), errors),
+        Err(refusal) => say_refusal(rt.alloc(), &refusal, errors),
     }
 }
 
@@ -68,20 +89,13 @@ fn run<W: Write>(rt: &HostRuntime, path: &str, command: Command, errors: &mut W)
         Ok(store) => store,
         Err(refusal) => return say_refusal(rt.alloc(), &refusal, errors),
     };
-    let alloc = rt.alloc();
     match command {
         Command::Import => run_import(rt, &mut store, errors),
         Command::Export => run_export(rt, &mut store, errors),
-        Command::Get(name) => {
-            let found = store.get_block(&name);
-            say_block(alloc, found, &mut rt.stdout().lock(), errors)
-        }
+        Command::Get(name) => run_get(rt, &mut store, &name, errors),
         Command::Check => run_lines(rt, &mut store, true, errors),
         Command::List => run_lines(rt, &mut store, false, errors),
-        Command::Count => match store.len() {
-            Ok(count) => say_count(alloc, "holds", count, &mut rt.stdout().lock(), errors),
-            Err(refusal) => say_refusal(alloc, &refusal, errors),
-        },
+        Command::Count => run_count(rt, &mut store, errors),
     }
 }
 

@@ -59,7 +59,14 @@ fn check_one<S: Store, W: Write>(
         Ok(Some(block)) => match check_slice(&block) {
             Ok(kind) => {
                 store.add_missing(&block, missing)?;
-                say_line(alloc, b"", name, b" ok ", kind_name(kind).as_bytes(), output)?;
+                say_line(
+                    alloc,
+                    b"",
+                    name,
+                    b" ok ",
+                    kind_name(kind).as_bytes(),
+                    output,
+                )?;
                 Ok(true)
             }
             Err(_) => say_damaged(alloc, name, output),

@@ -12,3 +12,4 @@ pub mod Laws
 pub mod Sets
 pub mod Within
 pub mod Checks
+pub mod Reaching

@@ -1,14 +1,17 @@
 -- A file that is written section by section.
-use Rattle.std.proofs.Common.{◌≡◌, ℕ, List, [], ◌∷◌, ◌++◌, Bool, true, false, Result, Ok, Err, refl, sym, ap, ◌∙◌, subst, append_assoc, append-nil}
+use Rattle.std.proofs.Common.{◌≡◌, ℕ, suc, ◌+◌, ◌<◌, add-one, List, [], ◌∷◌, ◌++◌, length, drop, get_or, Bool, true, false, Result, Ok, Err, refl, sym, ap, ◌∙◌, subst, append_assoc, append-nil}
 use Rattle.std.specs.Prelude.{Some}
 use Rattle.std.specs.List.{AllByRecursion, flat_map}
 use Rattle.std.specs.Result.{IsErrAnd}
+use Rattle.std.proofs.Math.Seq.{drop-cons}
 use Rattle.std.proofs.lemmas.Grind.{flat_map-append}
+use Rattle.ipld_tree.specs.Cid.{CidParts}
 use Rattle.dagcbor_heads.specs.Written.{Written, WroteAll, Stops, Writes, WantsMemoryOnlyIf}
 use Rattle.dagcbor_heads.specs.declared.error.EncodeError.{EncodeError}
 use Rattle.dagcbor_heads.specs.declared.error.EncodeError.TheVariants.{OutOfMemory}
 use Rattle.dagcbor_heads.proofs.Writing.{WroteAll_then, Stops-then, Writes_exit}
 use Rattle.dagcbor_car.specs.Writers.{UnsentWithoutMemory}
+use Rattle.dagcbor_car.specs.Reaching.{Stored, section_at, sections_at}
 use Rattle.dagcbor_car.specs.Car.{Section, header_bytes, section_bytes, car_bytes, IsHeader, IsSection, IsCar}
 
 -- the bytes of some sections, and then of others
@@ -19,13 +22,17 @@ joined roots seen these rest =
     ∙ ap (λ more. header_bytes roots ++ (flat_map section_bytes seen ++ more)) (sym (flat_map-append section_bytes these rest))
     ∙ ap (λ more. header_bytes roots ++ more) (sym (flat_map-append section_bytes seen (these ++ rest)))
 
-all_append : {X : Type 0} {P : X → Type 0} (xs ys : List X) → AllByRecursion P xs → AllByRecursion P ys → AllByRecursion P (xs ++ ys)
+all_append : (xs ys : List Section) → AllByRecursion IsSection xs → AllByRecursion IsSection ys → AllByRecursion IsSection (xs ++ ys)
 all_append [] ys h k = k
 all_append (x ∷ xs) ys h k = (h.0, all_append xs ys h.1 k)
 
 -- one section is written as a list of one
 pub one_section : (s : Section) → section_bytes s ≡ flat_map section_bytes (s ∷ [])
 one_section s = sym (append-nil (section_bytes s))
+
+-- the sections of names, of which the first is the one at this place
+pub sections_left : (stored : Stored) (names : List CidParts) (i : ℕ) (name : CidParts) → i < length names → name ≡ get_or names i name → sections_at stored (drop i names) ≡ section_at stored name ++ sections_at stored (drop (i + 1) names)
+sections_left stored names i name lt is = ap (sections_at stored) (drop-cons names i name lt) ∙ ap (λ q. section_at stored q ++ sections_at stored (drop (suc i) names)) (sym is) ∙ ap (λ n. section_at stored name ++ sections_at stored (drop n names)) (sym (add-one i))
 
 -- ---- how far a file was written
 

@@ -50,36 +50,35 @@ pub links_found : {E : Type 0} (r : Result (Vec CidParts Global) E) (b : List �
 links_found (Err e) b has f = tt
 links_found (Ok v) b has f = inl (f.0, whole_block b f.1 f.0 has f.2, f.4)
 
+-- the bytes under a name are the same
+one_bytes : (stored : Stored) (name : CidParts) (b c : List ℕ) → AreBytesOf stored name b → AreBytesOf stored name c → b ≡ c
+one_bytes stored name b c (inl h) (inl k) = cc (sym h ∙ k)
+one_bytes stored name b c (inl h) (inr k) = let clash : Some b ≡ None = sym h ∙ k.0 in absurd (cc clash)
+one_bytes stored name b c (inr h) (inl k) = let clash : Some c ≡ None = sym k ∙ h.0 in absurd (cc clash)
+one_bytes stored name b c (inr h) (inr k) = sym h.2 ∙ k.2
+
 -- the links of the bytes under the name are those under the name
-pub links_under : {E : Type 0} (r : Result (Vec CidParts Global) E) (stored : Stored) (name : CidParts) (b : List ℕ) → IsDagCbor name → AreBytesOf stored name b → IfOk r (λ v. AreLinksOf (IsBlock b) v.items) → IfOk r (λ v. AreLinksOf (NamesTree stored name) v.items)
-links_under (Err e) stored name b d are links = tt
-links_under (Ok v) stored name b d are (inl h) = inl (h.0, (d, (b, are, h.1)), h.2)
-links_under (Ok v) stored name b d are (inr n) = inr (n.0, λ t k. n.1 t (subst (λ x. IsBlock x t) (one k.1.0 k.1.1) k.1.2))
-  where
-    some : {x y : List ℕ} → Some x ≡ Some y → x ≡ y
-    some e = cc e
+pub links_stored : {E : Type 0} (r : Result (Vec CidParts Global) E) (stored : Stored) (name : CidParts) (b : List ℕ) → IsDagCbor name → AreBytesOf stored name b → IfOk r (λ v. AreLinksOf (IsBlock b) v.items) → IfOk r (λ v. AreLinksOf (NamesTree stored name) v.items)
+links_stored (Err e) stored name b d are links = tt
+links_stored (Ok v) stored name b d are (inl h) = inl (h.0, (d, (b, are, h.1)), h.2)
+links_stored (Ok v) stored name b d are (inr n) = inr (n.0, λ t k. n.1 t (subst (λ x. IsBlock x t) (one_bytes stored name k.1.0 b k.1.1 are) k.1.2))
 
-    one_of : (c : List ℕ) → AreBytesOf stored name c → AreBytesOf stored name b → c ≡ b
-    one_of c (inl h) (inl k) = some (sym h.1 ∙ k.1)
-    one_of c (inl h) (inr k) = absurd (h.0 k.0)
-    one_of c (inr h) (inl k) = absurd (k.0 h.0)
-    one_of c (inr h) (inr k) = sym h.1 ∙ k.1
-
-    one : (c : List ℕ) → AreBytesOf stored name c → c ≡ b
-    one c h = one_of c h are
+pub links_inside : {E : Type 0} (r : Result (Vec CidParts Global) E) (stored : Stored) (name : CidParts) → IsDagCbor name → stored name ≡ None → IfOk r (λ v. AreLinksOf (λ t. IsInline name × IsBlock name.digest t) v.items) → IfOk r (λ v. AreLinksOf (NamesTree stored name) v.items)
+links_inside (Err e) stored name d free links = tt
+links_inside (Ok v) stored name d free (inl h) = inl (h.0, (d, (name.digest, inr (free, h.1.0, refl), h.1.1)), h.2)
+links_inside (Ok v) stored name d free (inr n) = inr (
+  n.0,
+  λ t k. elim k.1.1 [
+    | inl s ↦ (let clash : None ≡ Some k.1.0 = sym free ∙ s in absurd (cc clash))
+    | inr s ↦ n.1 t (s.1, subst (λ x. IsBlock x t) (sym s.2) k.1.2)
+  ],
+)
 
 -- the block under a name is one
 one_tree : (stored : Stored) (name : CidParts) (t u : Tree) → NamesTree stored name t → NamesTree stored name u → t ≡ u
-one_tree stored name t u h k = by h.1.0 k.1.0 h.1.1 k.1.1 h.1.2 k.1.2
-  where
-    same : (b c : List ℕ) → b ≡ c → IsBlock b t → IsBlock c u → t ≡ u
-    same b c e p q = (front_unique c [] [] t u (whole_front (subst (λ x. IsBlock x t) e p).0) (whole_front q.0)).0
-
-    by : (b c : List ℕ) → AreBytesOf stored name b → AreBytesOf stored name c → IsBlock b t → IsBlock c u → t ≡ u
-    by b c (inl x) (inl y) p q = same b c (cc (sym x.1 ∙ y.1)) p q
-    by b c (inl x) (inr y) p q = absurd (x.0 y.0)
-    by b c (inr x) (inl y) p q = absurd (y.0 x.0)
-    by b c (inr x) (inr y) p q = same b c (sym x.1 ∙ y.1) p q
+one_tree stored name t u h k =
+    let block = subst (λ x. IsBlock x t) (one_bytes stored name h.1.0 k.1.0 h.1.1 k.1.1) h.1.2 in
+    (front_unique k.1.0 [] [] t u (whole_front block.0) (whole_front k.1.2.0)).0
 
 -- ---- one name
 
@@ -219,14 +218,14 @@ module _ (stored : Stored) (root name : CidParts) (block : Option (List ℕ)) (a
   there_or_not A t e = let clash : true ≡ false = sym t ∙ ap is_some e in absurd (cc clash)
 
   found_now : Sorts name (is_some block) found lost finds loses → Lists (λ q. Among q more × IsThere stored q) finds
-  found_now (inl s) = lists_same (IsThere stored) name seen more found finds sees (λ k. k.0 s.0) s.1 h.finds
-  found_now (inr (inl s)) = lists_push (IsThere stored) name seen more found finds sees fresh (s.0, is_there s.1) s.2 h.finds
-  found_now (inr (inr s)) = lists_same (IsThere stored) name seen more found finds sees (λ k. there_or_not ⊥ k.1 (at ∙ nothing block s.1)) s.2 h.finds
+  found_now (inl s) = lists_push (IsThere stored) name seen more found finds sees fresh (is_there s.0) s.1 h.finds
+  found_now (inr (inl s)) = lists_same (IsThere stored) name seen more found finds sees (λ k. there_or_not ⊥ k (at ∙ nothing block s.0)) s.2 h.finds
+  found_now (inr (inr s)) = lists_same (IsThere stored) name seen more found finds sees (λ k. there_or_not ⊥ k (at ∙ nothing block s.0)) s.2 h.finds
 
   lost_now : Sorts name (is_some block) found lost finds loses → Lists (λ q. Among q more × IsLost stored q) loses
-  lost_now (inl s) = lists_same (IsLost stored) name seen more lost loses sees (λ k. k.0 s.0) s.2 h.loses
-  lost_now (inr (inl s)) = lists_same (IsLost stored) name seen more lost loses sees (λ k. there_or_not ⊥ (is_there s.1) k.1) s.3 h.loses
-  lost_now (inr (inr s)) = lists_push (IsLost stored) name seen more lost loses sees fresh (s.0, at ∙ nothing block s.1) s.3 h.loses
+  lost_now (inl s) = lists_same (IsLost stored) name seen more lost loses sees (λ k. there_or_not ⊥ (is_there s.0) k.0) s.2 h.loses
+  lost_now (inr (inl s)) = lists_same (IsLost stored) name seen more lost loses sees (λ k. k.1 s.1) s.3 h.loses
+  lost_now (inr (inr s)) = lists_push (IsLost stored) name seen more lost loses sees fresh (at ∙ nothing block s.0, s.1) s.3 h.loses
 
   only_one : (x : CidParts) → Among x (root ∷ []) → x ≡ root
   only_one x (inl e) = e
@@ -237,17 +236,17 @@ module _ (stored : Stored) (root name : CidParts) (block : Option (List ℕ)) (a
 
   -- the first that is found is the root
   first_of : Sorts name (is_some block) found lost finds loses → seen ≡ [] → name ≡ root → IsThere stored root → (rest : List CidParts) × (finds ≡ root ∷ rest)
-  first_of (inl s) none same t = absurd (t.0 (subst IsInline same s.0))
-  first_of (inr (inl s)) none same t = ([], s.2 ∙ ap (λ l. l ++ name ∷ []) (no_member found (λ q m. subst (Among q) none ((h.finds.all q).0 m).0)) ∙ ap (λ x. x ∷ []) same)
+  first_of (inl s) none same t = ([], s.1 ∙ ap (λ l. l ++ name ∷ []) (no_member found (λ q m. subst (Among q) none ((h.finds.all q).0 m).0)) ∙ ap (λ x. x ∷ []) same)
     where
       no_member : (xs : List CidParts) → ((q : CidParts) → Among q xs → ⊥) → xs ≡ []
       no_member [] k = refl
       no_member (x ∷ xs) k = absurd (k x (inl refl))
-  first_of (inr (inr s)) none same t = there_or_not ((rest : List CidParts) × (finds ≡ root ∷ rest)) (ap (λ x. is_some (stored x)) same ∙ t.1) (at ∙ nothing block s.1)
+  first_of (inr (inl s)) none same t = there_or_not ((rest : List CidParts) × (finds ≡ root ∷ rest)) (ap (λ x. is_some (stored x)) same ∙ t) (at ∙ nothing block s.0)
+  first_of (inr (inr s)) none same t = there_or_not ((rest : List CidParts) × (finds ≡ root ∷ rest)) (ap (λ x. is_some (stored x)) same ∙ t) (at ∙ nothing block s.0)
 
   still_first : Sorts name (is_some block) found lost finds loses → (rest : List CidParts) × (found ≡ root ∷ rest) → (rest : List CidParts) × (finds ≡ root ∷ rest)
-  still_first (inl s) o = (o.0, s.1 ∙ o.1)
-  still_first (inr (inl s)) o = (o.0 ++ name ∷ [], s.2 ∙ ap (λ l. l ++ name ∷ []) o.1)
+  still_first (inl s) o = (o.0 ++ name ∷ [], s.1 ∙ ap (λ l. l ++ name ∷ []) o.1)
+  still_first (inr (inl s)) o = (o.0, s.2 ∙ o.1)
   still_first (inr (inr s)) o = (o.0, s.2 ∙ o.1)
 
   pub walk_far : Sorts name (is_some block) found lost finds loses → IsWalked stored root more later finds loses
@@ -285,6 +284,27 @@ walk_over stored root seen waiting found lost none h = (
       all = λ q. (λ m. let k = (l.all q).0 m in (k.1, h.stepped q (inl k.0)), λ r. (l.all q).1 (by r.1.0 q r.1.1, r.0));
       once = l.once;
     }
+
+-- no link leads on from a name under which nothing is
+pub none_found : (stored : Stored) (root : CidParts) → IsLost stored root → ListsReachable stored root []
+none_found stored root gone = record {
+  lists = record { all = λ q. (λ m. absurd m, λ r. absurd (elsewhere r.1.0 q r.1.1 r.0)); once = tt };
+  first = λ k. let clash : true ≡ false = sym k ∙ ap is_some gone.0 in absurd (cc clash);
+}
+  where
+    no_tree : (t : Tree) → NamesTree stored root t → ⊥
+    no_tree t h = elim h.1.1 [
+      | inl s ↦ (let clash : None ≡ Some h.1.0 = sym gone.0 ∙ s in absurd (cc clash))
+      | inr s ↦ gone.1 s.1
+    ]
+
+    by : (n : ℕ) (q r : CidParts) → IsStepsFrom stored root n q → LeadsTo stored q r → ⊥
+    by zero q r e l = no_tree l.1.0 (subst (λ x. NamesTree stored x l.1.0) e l.1.1)
+    by (suc n) q r s l = by n s.0 q s.1 s.2
+
+    elsewhere : (n : ℕ) (q : CidParts) → IsStepsFrom stored root n q → IsThere stored q → ⊥
+    elsewhere zero q e k = let clash : true ≡ false = sym k ∙ ap (λ x. is_some (stored x)) e ∙ ap is_some gone.0 in absurd (cc clash)
+    elsewhere (suc n) q s k = by n s.0 q s.1 s.2
 
 -- ---- the calls
 

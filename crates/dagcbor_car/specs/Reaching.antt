@@ -21,18 +21,18 @@ Stored = CidParts → Option (List ℕ)
 abbrev pub stored_in : BTreeMap CidParts (Vec ℕ Global) → Stored
 stored_in blocks name = option_map (λ v. v.items) (get cid_cmp blocks name)
 
--- bytes are stored under the name, which is not by the identity
+-- bytes are stored under the name
 abbrev pub IsThere : Stored → CidParts → Type 0
-IsThere stored name = ¬ IsInline name × (is_some (stored name) ≡ true)
+IsThere stored name = is_some (stored name) ≡ true
 
 -- none are stored under the name, which is not by the identity
 abbrev pub IsLost : Stored → CidParts → Type 0
-IsLost stored name = ¬ IsInline name × (stored name ≡ None)
+IsLost stored name = (stored name ≡ None) × ¬ IsInline name
 
--- the bytes under the name: the stored ones; of a name by the identity its digest
+-- the bytes under the name: the stored ones; else, of a name by the identity, its digest
 abbrev pub AreBytesOf : Stored → CidParts → List ℕ → Type 0
-AreBytesOf stored name b = (¬ IsInline name × (stored name ≡ Some b))
-    ⊎ (IsInline name × (name.digest ≡ b))
+AreBytesOf stored name b = (stored name ≡ Some b)
+    ⊎ ((stored name ≡ None) × IsInline name × (name.digest ≡ b))
 
 -- the name is of DAG-CBOR, and the bytes under it are the block of the tree
 abbrev pub NamesTree : Stored → CidParts → Tree → Type 0
@@ -150,14 +150,13 @@ pub record Sees (name : CidParts) (old new : Walk) : Type 0 where
   pub found : new.found ≡ old.found
   pub lost : new.lost ≡ old.lost
 
--- the name is found where bytes are stored under it, and else lost; neither where it is by the
--- identity
+-- the name is found where bytes are stored under it, and else lost, but where it is by the identity
 abbrev pub Sorts : CidParts → Bool → List CidParts → List CidParts → List CidParts
     → List CidParts → Type 0
 Sorts name is_there found lost more others =
-    (IsInline name × (more ≡ found) × (others ≡ lost))
-    ⊎ ((¬ IsInline name) × (is_there ≡ true) × (more ≡ found ++ name ∷ []) × (others ≡ lost))
-    ⊎ ((¬ IsInline name) × (is_there ≡ false) × (more ≡ found) × (others ≡ lost ++ name ∷ []))
+    ((is_there ≡ true) × (more ≡ found ++ name ∷ []) × (others ≡ lost))
+    ⊎ ((is_there ≡ false) × (IsInline name) × (more ≡ found) × (others ≡ lost))
+    ⊎ ((is_there ≡ false) × (¬ IsInline name) × (more ≡ found) × (others ≡ lost ++ name ∷ []))
 
 -- the same of a walk, of which all else stays
 pub record SortsOut (name : CidParts) (is_there : Bool) (old new : Walk) : Type 0 where

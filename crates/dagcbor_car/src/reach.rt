@@ -4,6 +4,7 @@ ghost use Rattle.std.specs.Prelude.{◌≡◌, option_map, is_some, IfOk, OnOk, 
 ghost use Rattle.ipld_tree.specs.Cid.{CidParts, AreCidParts};
 ghost use Rattle.dagcbor_items.specs.Slices.{IsBlock, AreFirstLinks};
 ghost use Rattle.dagcbor_items.specs.Walks.{forms};
+ghost use Rattle.dagcbor_car.specs.Names.{IsInline};
 ghost use Rattle.dagcbor_car.specs.Reaching.{Stored, NamesTree, Walks, GoesOn, Visits, AreLinksOf};
 ghost use Rattle.dagcbor_car.specs.Reaching.{PushesAll, Sees, SortsOut, stored_in};
 ghost use Rattle.dagcbor_car.specs.Reaching.{ListsReachable, ListsLost};
@@ -16,8 +17,9 @@ use std::collections::{BTreeMap, BTreeSet};
 
 /// A walk along links from a root, depth first, the links of a block as they stand. Its user looks
 /// each name up that `next` answers, and hands what is stored under it to `visit`, so that it does
-/// not matter in what the blocks are stored. A name by the identity holds its block itself: the
-/// links in that block are followed, and the name is neither found nor lost.
+/// not matter in what the blocks are stored. A name by the identity holds its block itself: where
+/// nothing is stored under it, the links in that block are followed, and the name is neither found
+/// nor lost.
 #[derive(Drop)]
 pub struct Walk {
     alloc: Global,
@@ -68,13 +70,21 @@ fn links_under(alloc: Global, name: &Cid, stored: Option<&[u8]>) -> Result<Vec<C
     if name.codec() != DAG_CBOR {
         return Ok(Vec::new(alloc));
     }
-    if name.hash_code() == IDENTITY {
-        return links_in(alloc, name.digest());
-    }
     match stored {
         Some(bytes) => links_in(alloc, bytes),
-        None => Ok(Vec::new(alloc)),
+        None => links_in_name(alloc, name),
     }
+}
+
+/// The links of the block of DAG-CBOR that the name holds itself, if it holds one.
+fn links_in_name(alloc: Global, name: &Cid) -> Result<Vec<Cid>, AllocError>
+    ensures { IfOk result
+        (λ v. AreLinksOf (λ t. IsInline name.now × IsBlock name.now.digest t) v.items) }
+{
+    if name.hash_code() != IDENTITY {
+        return Ok(Vec::new(alloc));
+    }
+    links_in(alloc, name.digest())
 }
 
 /// Pushes the links.
@@ -148,12 +158,9 @@ impl Walk {
     fn sort_out(&mut self, name: Cid, is_there: bool) -> Result<(), AllocError>
         ensures { OnOk result (SortsOut name is_there self.old self.new) }
     {
-        if name.hash_code() == IDENTITY {
-            return Ok(());
-        }
         if is_there {
             self.found.push(name)?;
-        } else {
+        } else if name.hash_code() != IDENTITY {
             self.lost.push(name)?;
         }
         Ok(())

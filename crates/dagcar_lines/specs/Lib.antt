@@ -3,4 +3,5 @@ pub mod Lines
 pub mod Speeches
 pub mod Commands
 pub mod Steps
+pub mod Taking
 pub mod Answers

@@ -9,6 +9,7 @@ mod line;
 mod list;
 mod make;
 mod names;
+mod take;
 mod walk;
 
 pub use command::{Command, OUT_OF_MEMORY, USAGE, run_command};

@@ -78,3 +78,8 @@ start_refused knows stopped source behind old error (Ok (ended.Fault line)) h to
     (alone error, (no_file (alone error) b refused, inl refused), told.1 ∙ alone_line error told.0)
 start_refused knows stopped source behind old error (Ok ended.Whole) h told = absurd told.1
 start_refused knows stopped source behind old error (Ok ended.Enough) h told = absurd told.1
+
+-- where the bytes are known, what holds of an `Ok` for all bytes holds of it for these
+pub of_known : {A E : Type 0} (P : List ℕ → A → Type 0) (r : Result A E) (known : Option (List ℕ)) → IfOk r (λ x. (b : List ℕ) → known ≡ Some b → P b x) → (b : List ℕ) → known ≡ Some b → IfOk r (P b)
+of_known P (Ok x) known h b l = h b l
+of_known P (Err e) known h b l = tt

@@ -4,4 +4,5 @@ pub mod Speeches
 pub mod Commands
 pub mod Steps
 pub mod Taking
+pub mod Finding
 pub mod Answers

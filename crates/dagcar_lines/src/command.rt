@@ -82,7 +82,7 @@ fn status_of<V: Write>(ended: Result<bool, ToolError>, errors: &mut V) -> u8
 }
 
 /// An input that does not lend.
-fn input_over<'de, R: Read>(reader: R) -> Input<'de, R>
+pub fn input_over<'de, R: Read>(reader: R) -> Input<'de, R>
     ensures { input_reading R.reading result ≡ not_lending (R.reading reader) }
 {
     Input::Reader(reader)

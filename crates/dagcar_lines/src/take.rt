@@ -1,17 +1,19 @@
 //! A file of blocks, section by section: what takes them says when it wants no more.
 
-ghost use Rattle.std.specs.Prelude.{IfOk};
+ghost use Rattle.std.specs.Prelude.{[], IfOk, IfSome};
 ghost use Rattle.dagcbor_heads.specs.Inputs.{input_reading};
 ghost use Rattle.dagcar_lines.specs.Lines.{refused_line};
 ghost use Rattle.dagcar_lines.specs.Steps.{IsOfBytes};
 ghost use Rattle.dagcar_lines.specs.Taking.{Known, TakesNext, TakesFile, TakesStep};
-ghost use Rattle.dagcar_lines.specs.Taking.{TakesBehind, IsFaultLine};
+ghost use Rattle.dagcar_lines.specs.Taking.{TakesBehind, TakesAll, IsFaultLine};
 
+use crate::command::input_over;
 use crate::line::refused_line;
 use dagcbor_car::{CarError, Section, pull_header, pull_section};
 use dagcbor_cli::ToolError;
-use dagcbor_heads::{Input, Read};
+use dagcbor_heads::{Input, IoRefReader, Read};
 use std::alloc::{AllocError, Global};
+use std::io::BufRead;
 
 /// What takes the sections of a file.
 pub trait Taker: Sized {
@@ -98,9 +100,8 @@ fn take_sections<'de, T: Taker, R: Read>(
     Err(ToolError::OutOfMemory)
 }
 
-/// Takes the file that the input is, until it ends or no more is wanted. One section is in memory
-/// at a time, beside what the taker keeps.
-pub fn take_file<'de, T: Taker, R: Read>(
+/// Takes the file that a source has, until it ends or no more is wanted.
+fn take_file<'de, T: Taker, R: Read>(
     alloc: Global,
     taker: &mut T,
     input: &mut Input<'de, R>,
@@ -112,4 +113,23 @@ pub fn take_file<'de, T: Taker, R: Read>(
         Ok((_roots, extent)) => take_sections(alloc, taker, input, extent),
         Err(error) => fault_of(alloc, error),
     }
+}
+
+/// Takes the file that the input is, until it ends or no more is wanted. One section is in memory
+/// at a time, beside what the taker keeps.
+pub fn take_input<T: Taker, R: BufRead>(
+    alloc: Global,
+    taker: &mut T,
+    input: &mut R,
+) -> Result<Ended, ToolError>
+    ensures { IfSome (R.remaining input.old) (λ b. IfOk result (λ ended.
+        T.knows taker.old taker.old []
+        → TakesAll T.knows T.stopped b taker.old ended taker.new)) }
+{
+    let mut source = input_over(IoRefReader::new(input));
+    let result = take_file(alloc, taker, &mut source);
+    if let Some(lent) = source.into_reader() {
+        let _source = lent.into_inner();
+    }
+    result
 }

@@ -42,7 +42,7 @@ module _ (map : BTreeMap CidParts (Vec ℕ Global)) (root : CidParts) (leads : M
 
   pub tree_written : (old new : Written) → WroteAll (Some sent) old new → IsCar sent (cid_bytes root ∷ []) (sections_at (stored_in map) names)
       → OfReachable (shown map.entries) root (λ qs. IsCar (tree_bytes (shown map.entries) root qs) (cid_bytes root ∷ []) (sections_at (stored (shown map.entries)) qs) × WroteAll (Some (tree_bytes (shown map.entries) root qs)) old new)
-  tree_written old new wrote car = (leads, (names, listed, subst (λ s. IsCar (car_bytes (cid_bytes root ∷ []) (sections_at s names)) (cid_bytes root ∷ []) (sections_at s names)) (same_stored map) car, subst (λ b. WroteAll (Some b) old new) same_sent wrote))
+  tree_written old new wrote car = (leads, (names, listed, (subst (λ s. IsCar (car_bytes (cid_bytes root ∷ []) (sections_at s names)) (cid_bytes root ∷ []) (sections_at s names)) (same_stored map) car, subst (λ b. WroteAll (Some b) old new) same_sent wrote)))
 
   tree_stopped : {E : Type 0} (old new : Written) (e : EncodeError E) → Stops (Some sent) old new e → OfReachable (shown map.entries) root (λ qs. Stops (Some (tree_bytes (shown map.entries) root qs)) old new e)
   tree_stopped old new e stops = (leads, (names, listed, subst (λ b. Stops (Some b) old new e) same_sent stops))
@@ -50,7 +50,7 @@ module _ (map : BTreeMap CidParts (Vec ℕ Global)) (root : CidParts) (leads : M
   pub tree_faulted : {E : Type 0} (takes_memory : Bool) (old new : Written) (e : E) → Stops (Some sent) old new (unwritten.Write e) → TreeRefused (shown map.entries) root takes_memory old (trees.Write e) new
   tree_faulted takes_memory old new e stops = tree_stopped old new (unwritten.Write e) stops
 
-  pub tree_lacks : {T E : Type 0} (takes_memory : Bool) (old new : Written) (e : EncodeError E) → ((f : E) → e ≡ unwritten.Write f → ⊥) → Stops (Some sent) old new e → UnsentWithoutMemory {T = T} takes_memory old (Err e) new → TreeRefused {E = E} (shown map.entries) root takes_memory old trees.OutOfMemory new
-  tree_lacks takes_memory old new unwritten.OutOfMemory other stops unsent = (unsent, inr (tree_stopped old new unwritten.OutOfMemory stops))
-  tree_lacks takes_memory old new (unwritten.Write f) other stops unsent = absurd (other f refl)
-  tree_lacks takes_memory old new (unwritten.Msg m) other stops unsent = absurd (cc stops.0)
+  pub tree_lacks : (T : Type 0) {E : Type 0} (takes_memory : Bool) (old new : Written) (e : EncodeError E) → ((f : E) → e ≡ unwritten.Write f → ⊥) → Stops (Some sent) old new e → UnsentWithoutMemory {T = T} takes_memory old (Err e) new → TreeRefused {E = E} (shown map.entries) root takes_memory old trees.OutOfMemory new
+  tree_lacks T {E} takes_memory old new unwritten.OutOfMemory other stops unsent = (unsent, inr (tree_stopped {E = E} old new unwritten.OutOfMemory stops))
+  tree_lacks T takes_memory old new (unwritten.Write f) other stops unsent = absurd (other f refl)
+  tree_lacks T takes_memory old new (unwritten.Msg m) other stops unsent = absurd (cc stops.0)

@@ -5,7 +5,7 @@ use Rattle.std.specs.Io.KnownBytes.{Appends}
 use Rattle.std.specs.declared.convert.Infallible.{Infallible}
 use Rattle.ipld_tree.specs.Cid.{CidParts, cid_bytes}
 use Rattle.dagcbor_items.specs.Walks.{forms}
-use Rattle.dagcbor_car.specs.Car.{Section, car_bytes, IsCar}
+use Rattle.dagcbor_car.specs.Car.{Section, car_bytes}
 use Rattle.dagcbor_car.specs.Names.{IsInline}
 use Rattle.dagcbor_car.specs.Splits.{HasBlock}
 use Rattle.dagcbor_car.specs.Versions.{IsFile}
@@ -48,15 +48,19 @@ pub record StoresSound (sections : List Section) (stored : Stored) : Type 0 wher
       → Among (q, b) sections × IsSound (q, b)
   pub all : (s : Section) → Among s sections → IsSound s → IsThere stored s.0
 
--- what `tree` gives of what is stored: the file of the root, and of the blocks that links lead to from
--- there; nothing where the root names none; and a line for each name that has none
+-- the file of the root, and of the stored blocks of these names; nothing where the root names none
+abbrev pub IsTreeFile : Stored → CidParts → List CidParts → List ℕ → Type 0
+IsTreeFile stored root names out = (IsLost stored root × (out ≡ []))
+    ⊎ ((¬ IsLost stored root) × (out ≡ car_bytes (cid_bytes root ∷ []) (sections_at stored names)))
+
+-- what `tree` gives of what is stored: the file of the blocks that links lead to from the root, and a
+-- line for each name that has none
 pub record IsTreeOf (stored : Stored) (root : CidParts) (well : Bool) (out told : List ℕ) : Type 0 where
   pub found : List CidParts
   pub lost : List CidParts
   pub reachable : ListsReachable stored root found
   pub missing : ListsLost stored root lost
-  pub tree : (IsLost stored root × (out ≡ []))
-      ⊎ ((¬ IsLost stored root) × IsCar out (cid_bytes root ∷ []) (sections_at stored found))
+  pub tree : IsTreeFile stored root found out
   pub lines : told ≡ flat_map missing_line (forms lost)
   pub wellness : IsTrue well ↔ (lost ≡ [])
 
@@ -68,13 +72,15 @@ IsTree root b well out told = ((roots : List (List ℕ)) × (sections : List Sec
     × IsTreeOf stored root well out told))
     ⊎ ((well ≡ false) × (out ≡ []) × TellsFault (λ sections. ⊤) b told)
 
--- ---- a step of it
+-- ---- its steps
 
--- the file of this root and these sections went out; or nothing did; or the device failed, and a
--- front did
-abbrev pub Sends : List ℕ → List Section → Option (List ℕ) → Result (Unit {0}) ToolError
-    → Option (List ℕ) → Type 0
-Sends root sections old result new = MatchResult result
-    (λ _. IsCar (car_bytes (root ∷ []) sections) (root ∷ []) sections
-    × Appends old new (car_bytes (root ∷ []) sections))
-    (λ e. BreaksLine (λ out. out ≡ car_bytes (root ∷ []) sections) old new e)
+-- the text went out; or nothing did; or the device failed, and a front did
+abbrev pub Sends : List ℕ → Option (List ℕ) → Result (Unit {0}) ToolError → Option (List ℕ) → Type 0
+Sends text old result new = MatchResult result (λ _. Appends old new text)
+    (λ e. BreaksLine (λ out. out ≡ text) old new e)
+
+-- the same of the file of these names
+abbrev pub SendsTree : Stored → CidParts → List CidParts → Option (List ℕ)
+    → Result (Unit {0}) ToolError → Option (List ℕ) → Type 0
+SendsTree stored root names old result new = (out : List ℕ) × IsTreeFile stored root names out
+    × Sends out old result new

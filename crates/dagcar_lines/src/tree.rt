@@ -1,17 +1,20 @@
 //! `tree`: a file of the blocks that links lead to.
 
-ghost use Rattle.std.specs.Prelude.{◌≡◌, ◌⊎◌, ◌∷◌, ◌++◌, [], List, ℕ, Some, IfOk, IfSome, OnOk, MatchBool, MatchResult};
+ghost use Rattle.std.specs.Prelude.{◌≡◌, ◌⊎◌, ◌∷◌, ◌++◌, [], List, ℕ, Some, is_some, IfOk, IfSome, OnOk, MatchBool, MatchResult};
 ghost use Rattle.std.specs.Io.KnownBytes.{Appends};
 ghost use Rattle.ipld_tree.specs.Cid.{CidParts, cid_bytes};
-ghost use Rattle.dagcbor_car.specs.Car.{Section as CarSection, IsCar, car_bytes};
+ghost use Rattle.dagcbor_car.specs.Car.{Section as CarSection, car_bytes};
 ghost use Rattle.dagcbor_car.specs.Reaching.{stored_in, sections_at, IsLost};
 ghost use Rattle.dagcbor_cli.specs.declared.fault.ToolError.TheVariants.{Output};
-ghost use Rattle.dagcar_lines.specs.Finding.{IsSound, StoresSound, IsTreeOf, IsTree, Sends};
+ghost use Rattle.dagcar_lines.specs.Finding.{IsSound, StoresSound, IsTreeOf, IsTree, Sends, SendsTree};
 ghost use Rattle.dagcar_lines.specs.Lines.{SaysBoth};
 
+use crate::check::is_none;
 use crate::line::{missing_lines, say_both};
 use crate::take::{Ended, Taker, take_input};
-use dagcbor_car::{IDENTITY, Reached, Section, Verdict, push_tree, reach_from, verify};
+use dagcbor_car::{
+    IDENTITY, Reached, Section, Verdict, push_tree, reach_from, stored_bytes, verify,
+};
 use dagcbor_cli::{ToolError, write_all};
 use dagcbor_heads::{EncodeError, IoRefWriter};
 use ipld_tree::Cid;
@@ -43,6 +46,13 @@ fn is_sound(section: &Section<'_>) -> bool
     }
 }
 
+/// Whether a block is held under the name.
+fn is_there(blocks: &BTreeMap<Cid, Vec<u8>>, name: &Cid) -> bool
+    ensures { result ≡ is_some (stored_in blocks.now name.now) }
+{
+    stored_bytes(blocks, name).is_some()
+}
+
 /// Keeps the block of a sound section, if none is held under its name.
 fn hold(
     alloc: Global,
@@ -54,7 +64,10 @@ fn hold(
         → StoresSound (sections ++ (section.now.cid, section.now.block.now) ∷ [])
         (stored_in blocks.new)) }
 {
-    if blocks.contains_key(&section.cid) || !is_sound(section) {
+    if is_there(blocks, &section.cid) {
+        return Ok(());
+    }
+    if !is_sound(section) {
         return Ok(());
     }
     let block = section.block.to_vec(alloc)?;
@@ -83,7 +96,8 @@ fn send<W: Write>(
     names: &[Cid],
     output: &mut W,
 ) -> Result<(), ToolError>
-    ensures { Sends (cid_bytes root.now) (sections_at (stored_in blocks.now) names.now)
+    ensures { Sends
+        (car_bytes (cid_bytes root.now ∷ []) (sections_at (stored_in blocks.now) names.now))
         (W.contents output.old) result (W.contents output.new) }
 {
     let mut writer = IoRefWriter::new(output);
@@ -104,11 +118,31 @@ fn is_lost(name: &Cid, blocks: &BTreeMap<Cid, Vec<u8>>) -> bool
     ensures { MatchBool result (IsLost (stored_in blocks.now) name.now)
         (¬ IsLost (stored_in blocks.now) name.now) }
 {
-    name.hash_code() != IDENTITY && !blocks.contains_key(name)
+    if name.hash_code() == IDENTITY {
+        return false;
+    }
+    !is_there(blocks, name)
+}
+
+/// The same, where the root leads somewhere: else nothing is written.
+fn send_tree<W: Write>(
+    alloc: Global,
+    root: &Cid,
+    blocks: &BTreeMap<Cid, Vec<u8>>,
+    names: &[Cid],
+    output: &mut W,
+) -> Result<(), ToolError>
+    ensures { SendsTree (stored_in blocks.now) root.now names.now
+        (W.contents output.old) result (W.contents output.new) }
+{
+    if is_lost(root, blocks) {
+        return Ok(());
+    }
+    send(alloc, root, blocks, names, output)
 }
 
 /// Writes the file of the root, and of the blocks that links lead to from there, and tells which links
-/// lead nowhere. Whether none does. Where the root leads nowhere, nothing is written.
+/// lead nowhere. Whether none does.
 fn say_tree<W: Write, V: Write>(
     alloc: Global,
     root: &Cid,
@@ -121,11 +155,10 @@ fn say_tree<W: Write, V: Write>(
 {
     let Reached { found, lost } = reach_from(alloc, blocks, root)?;
     let told = missing_lines(alloc, &lost)?;
-    if !is_lost(root, blocks) {
-        send(alloc, root, blocks, &found, output)?;
-    }
+    let whole = is_none(&lost);
+    send_tree(alloc, root, blocks, &found, output)?;
     write_all(errors, &told)?;
-    Ok(lost.is_empty())
+    Ok(whole)
 }
 
 /// Writes the file of the root, and of the blocks that links lead to from there within the file that

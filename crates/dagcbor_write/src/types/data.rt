@@ -8,6 +8,7 @@ ghost use Rattle.ipld_tree.specs.Tree.{IsTree};
 
 use crate::serialize::Serialize;
 use crate::serializer::Serializer;
+use crate::types::texts::write_texts;
 use dagcbor_heads::{Write, WriteResult};
 use ipld_tree::Ipld;
 use std::alloc::Global;
@@ -65,7 +66,7 @@ fn push_data<W: Write>(value: &Ipld, alloc: Global, ser: &mut Serializer<W>) -> 
         Ipld::Map(entries) => {
             // No effect at run time. The proof reads from this call that no key repeats.
             let _ = entries.iter();
-            entries.serialize(alloc, ser)
+            write_texts(alloc, entries, ser)
         }
         Ipld::Link(cid) => ser.serialize_cid(cid),
     }

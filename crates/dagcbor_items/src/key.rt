@@ -178,18 +178,16 @@ pub fn read_key<'de, R: Read>(
     ensures looked { OverInput R.reading (Looks 3) input.old result input.new }
     ensures variant { IfErr result OfKey }
 {
-    let Some(found) = take_key(input, previous) else {
-        return read_key_slowly(alloc, input, previous);
-    };
-    match found {
-        Ok(key) => Ok(CowStr::Borrowed(key)),
-        Err(payload) => Err(no_key(payload)),
+    match take_key(input, previous) {
+        Some(Ok(key)) => Ok(CowStr::Borrowed(key)),
+        Some(Err(payload)) => Err(no_key(payload)),
+        None => read_key_slowly(alloc, input, previous),
     }
 }
 
 /// The same, where no slice has all of the text.
 #[tactic(auto, using(crate::proofs::PartRefusals::text_key))]
-#[inline(never)]
+#[inline(always)]
 fn read_key_slowly<'de, R: Read>(
     alloc: Global,
     input: &mut Input<'de, R>,

@@ -1,7 +1,7 @@
 //! The program `dagcar`: judges files of blocks (CAR, versions 1 and 2), and blocks.
 #![tactic(auto)]
 
-use dagcar_lines::{OUT_OF_MEMORY, USAGE, run_command};
+use dagcar_lines::{OUT_OF_MEMORY, OneFault, USAGE, run_command};
 use dagcbor_cli::{arguments, give_up};
 use std::io;
 use std::io::{BufReader, BufWriter, ErrorKind, Write};
@@ -11,7 +11,7 @@ use std::process::ExitCode;
 fn run_words<V: Write>(rt: &HostRuntime, words: &[String], errors: &mut V) -> io::Result<u8> {
     // A pipe is read a byte a call where no buffer stands before it.
     let mut input = BufReader::new(rt.alloc(), rt.reader())?;
-    let mut output = BufWriter::new(rt.alloc(), rt.stdout().lock())?;
+    let mut output = BufWriter::new(rt.alloc(), OneFault::new(rt.stdout().lock()))?;
     let status = run_command(rt.alloc(), words, &mut input, &mut output, errors);
     match output.flush() {
         Err(_) if status != 2 => Ok(give_up(errors, "dagcar: output failed\n", 2)),

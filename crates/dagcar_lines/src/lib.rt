@@ -5,6 +5,7 @@
 mod block;
 mod check;
 mod command;
+mod device;
 mod line;
 mod list;
 mod make;
@@ -12,3 +13,4 @@ mod names;
 mod walk;
 
 pub use command::{Command, OUT_OF_MEMORY, USAGE, run_command};
+pub use device::OneFault;

@@ -15,3 +15,5 @@ pub mod Pushing
 pub mod Starting
 pub mod Running
 pub mod HeaderShape
+pub mod Reaching
+pub mod Writing

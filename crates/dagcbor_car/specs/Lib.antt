@@ -13,3 +13,4 @@ pub mod Sets
 pub mod Held
 pub mod Within
 pub mod Checks
+pub mod Reaching

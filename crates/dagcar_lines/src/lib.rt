@@ -5,6 +5,7 @@
 mod block;
 mod check;
 mod command;
+mod device;
 mod get;
 mod line;
 mod list;
@@ -15,3 +16,4 @@ mod tree;
 mod walk;
 
 pub use command::{Command, OUT_OF_MEMORY, USAGE, run_command};
+pub use device::OneFault;

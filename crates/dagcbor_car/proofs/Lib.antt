@@ -5,6 +5,7 @@ pub mod Counts
 pub mod Headers
 pub mod Testing
 pub mod Members
+pub mod Keeping
 pub mod Within
 pub mod Checking
 pub mod Places

@@ -5,6 +5,7 @@ mod check;
 mod cid_set;
 mod error;
 mod header;
+mod held;
 pub mod laws;
 mod name;
 mod names;

@@ -286,8 +286,8 @@ def test_names_within_names():
 
 
 def test_names_are_told_apart():
-    """As many as the table of names has before it grows, where most meet others: that compares their
-    bytes, and not a part of their hash alone, by which some nine of these would be another's."""
+    """As many as the table of names has before it grows, where most meet others. By a part of their
+    hash alone, and not their bytes, some nine of these would be another's."""
     count = 3 * 2**17 - 216
     names = [b"\x01\x55\x12\x20" + number.to_bytes(32, "big") for number in range(count)]
     links = b"".join(b"\xd8\x2a\x58\x25\0" + it for it in names)

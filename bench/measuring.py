@@ -63,12 +63,17 @@ def heap_counter(folder):
 
 def processor_seconds(words, given, out, env=None):
     """Runs the words on the open files, and hands back the processor seconds that they took."""
+    return sum(processor_times(words, given, out, env))
+
+
+def processor_times(words, given, out, env=None):
+    """Runs the words on the open files, and hands back the processor seconds of the user, and of the system."""
     ran = subprocess.Popen(words, stdin=given, stdout=out, env=env)
     _, status, used = os.wait4(ran.pid, 0)
     ran.returncode = os.waitstatus_to_exitcode(status)
     if ran.returncode:
         sys.exit(f"{' '.join(words)}: ended with status {ran.returncode}")
-    return used.ru_utime + used.ru_stime
+    return used.ru_utime, used.ru_stime
 
 
 def run(words, given, library=None):

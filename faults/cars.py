@@ -93,7 +93,7 @@ class Judge:
     def __init__(self, bytes_):
         self.at = 0
         self.checked, self.listed, self.linked, self.held, self.is_well = [], [], set(), set(), True
-        self.refusal = []
+        self.sections, self.refusal = [], []
         try:
             self.bytes, is_short = self.file_in(bytes_)
             self.header()
@@ -145,6 +145,7 @@ class Judge:
         codec, hash_code, digest, end = self.name(body)
         found = self.verdict(codec, hash_code, digest, body[end:])
         self.is_well = self.is_well and (found == "not read" or found.startswith("ok "))
+        self.sections.append((body[:end], body[end:], found))
         self.checked.append(f"{text_of(body[:end])} {found}")
         self.listed.append(f"{text_of(body[:end])} {len(body) - end}")
         if found not in ("other bytes", "not verified"):
@@ -174,6 +175,40 @@ class Judge:
         if digest != (hashlib.sha256(block).digest() if hash_code else block):
             return "other bytes"
         return BLOCKS[block][0] if codec == 0x71 else "not read"
+
+    def told(self, line):
+        """Nothing is written, and why is told."""
+        return 1, b"", f"{line}\n".encode()
+
+    def got(self, name):
+        """The status, the output and what is told of the block of one name."""
+        for other, block, found in self.sections:
+            if other == name and found not in ("other bytes", "not verified"):
+                return 0, block, b""
+        return self.told(self.refusal[0] if self.refusal else f"missing {text_of(name)}")
+
+    def tree(self, root):
+        """The same of the blocks that links lead to from a root."""
+        if self.refusal:
+            return self.told(self.refusal[0])
+        stored = {}
+        for name, block, found in self.sections:
+            if (found == "not read" or found.startswith("ok ")) and name[2:3] != b"\x00":
+                stored.setdefault(name, block)
+        out, lost, seen, waiting = counted(header(root)), [], set(), [root]
+        while waiting:
+            name = waiting.pop()
+            if name in seen:
+                continue
+            seen.add(name)
+            if name not in stored:
+                lost.append(name)
+                continue
+            out += section(stored[name], name=name)
+            if name[1] == 0x71:
+                waiting += reversed(BLOCKS[stored[name]][1])
+        told = "".join(f"missing {text_of(it)}\n" for it in lost).encode()
+        return (1 if lost else 0), (b"" if root in lost else out), told
 
     def wanted(self, command):
         """The status and the output."""
@@ -260,7 +295,14 @@ def sweep_files(path, report):
                 wanted = Judge(file).wanted(command)
                 if (ran.returncode, ran.stdout) != wanted or ran.stderr:
                     wrong.append((command, number, ran.returncode, ran.stdout[-80:], ran.stderr))
-        report(f"dagcar, {name}", 2 * len(given), wrong)
+            judge = Judge(file)
+            for words, wanted in ((("get", NUMBERS), judge.got), (("tree", ROOT), judge.tree)):
+                of = cid(words[1])
+                how = {"input": file, "capture_output": True, "preexec_fn": limit, "timeout": 60}
+                ran = subprocess.run([path, words[0], text_of(of)], check=False, **how)
+                if (ran.returncode, ran.stdout, ran.stderr) != wanted(of):
+                    wrong.append((words[0], number, ran.returncode, ran.stdout[-80:], ran.stderr))
+        report(f"dagcar, {name}", 4 * len(given), wrong)
 
 
 # A block, and its text as `show` writes it and `make` reads it.
@@ -269,6 +311,14 @@ TEXT = b'{"a":[1,2,3],"bb":{"/":{"bytes":"AQIDBA"}}}'
 BLOCKS_AND_TEXTS = {
     "show": (NUMBERS_IN_A_MAP, (0, TEXT + b"\n")),
     "make": (TEXT, (0, NUMBERS_IN_A_MAP)),
+}
+# A file of a list of a link that stands there twice, and of a raw leaf: what `get` and `tree` give of it.
+TWICE = b"\x83" + link(cid(NUMBERS)) + link(cid(b"raw", codec=0x55)) + link(cid(NUMBERS))
+TREE = [section(TWICE), section(NUMBERS), section(b"raw", codec=0x55)]
+OUT_OF_ORDER = counted(header()) + b"".join(reversed(TREE)) + section(UNORDERED) + section(NUMBERS)
+FOUND = {
+    f"get {text_of(cid(NUMBERS))}": (0, NUMBERS),
+    f"tree {text_of(cid(TWICE))}": (0, counted(header(cid(TWICE))) + b"".join(TREE)),
 }
 MANY = 100_000
 

@@ -77,7 +77,7 @@ class Sweep:
         """Each place: the status, the line on standard error, and of the output whole lines, no fewer for a later place."""
         wanted, lines_before, wrong = self.wanted[command][1], 0, []
         for n in range(1, count + 1):
-            (status, out, err), _ = self.run([command], **{fault: n}, **more)
+            (status, out, err), _ = self.run(command.split(), **{fault: n}, **more)
             lines = out.count(b"\n")
             is_right = status == self.fault_status and err == said and wanted.startswith(out) and lines >= lines_before
             # A failed write leaves at most a beginning of its line; nothing else leaves any.
@@ -91,16 +91,16 @@ class Sweep:
         """A read or a write that moves one byte changes nothing."""
         wrong = []
         for n in range(1, count + 1):
-            answer, _ = self.run([command], **{fault: n})
+            answer, _ = self.run(command.split(), **{fault: n})
             if answer != (*self.wanted[command], b""):
                 wrong.append((n, answer[0], answer[1][-60:], answer[2]))
         self.report(f"{self.name} {command}, {fault}", count, wrong)
 
     def whole(self, command):
-        answer, counts = self.run([command])
+        answer, counts = self.run(command.split())
         wrong = [] if answer == (*self.wanted[command], b"") else [answer]
         self.report(f"{self.name} {command}, nothing refused", 1, wrong)
-        answer, _ = self.run([command], SHORT_ALL=1)
+        answer, _ = self.run(command.split(), SHORT_ALL=1)
         wrong = [] if answer == (*self.wanted[command], b"") else [answer]
         self.report(f"{self.name} {command}, one byte a read and a write", 1, wrong)
         return counts

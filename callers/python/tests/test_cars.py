@@ -285,6 +285,16 @@ def test_names_within_names():
     assert check_car(header(no_block, cid(inner, codec=0x55, code=0))).missing == []
 
 
+def test_names_are_told_apart():
+    """As many as the table of names has before it grows, where most meet others. By a part of their
+    hash alone, and not their bytes, some nine of these would be another's."""
+    count = 3 * 2**17 - 216
+    names = [b"\x01\x55\x12\x20" + number.to_bytes(32, "big") for number in range(count)]
+    links = b"".join(b"\xd8\x2a\x58\x25\0" + it for it in names)
+    found = check_car(header() + section(b"\x9a" + count.to_bytes(4, "big") + links))
+    assert [bytes(it) for it in found.missing] == names
+
+
 def test_what_is_no_source():
     for call in (read_car, check_car):
         for given in (1, None, "text", [PLAIN], memoryview(PLAIN)[::2]):

@@ -1,23 +1,29 @@
 //! The program `dagcar`: judges files of blocks (CAR, versions 1 and 2), and blocks.
 #![tactic(auto)]
 
-use dagcar_lines::{OUT_OF_MEMORY, USAGE, run_command};
+use dagcar_lines::{OUT_OF_MEMORY, OneFault, USAGE, run_command};
 use dagcbor_cli::{arguments, give_up};
-use std::io::{BufReader, ErrorKind};
+use std::io;
+use std::io::{BufReader, BufWriter, ErrorKind, Write};
 use std::process::ExitCode;
+
+/// Does what the words say, and answers the exit status. Lines are gathered, and go out many a call.
+fn run_words<V: Write>(rt: &HostRuntime, words: &[String], errors: &mut V) -> io::Result<u8> {
+    // A pipe is read a byte a call where no buffer stands before it.
+    let mut input = BufReader::new(rt.alloc(), rt.reader())?;
+    let mut output = BufWriter::new(rt.alloc(), OneFault::new(rt.stdout().lock()))?;
+    let status = run_command(rt.alloc(), words, &mut input, &mut output, errors);
+    match output.flush() {
+        Err(_) if status != 2 => Ok(give_up(errors, "dagcar: output failed\n", 2)),
+        _ => Ok(status),
+    }
+}
 
 fn main(rt: HostRuntime) -> ExitCode {
     let mut errors = rt.stderr().lock();
     let status = match arguments(&rt) {
-        // A pipe is read a byte a call where no buffer stands before it.
-        Ok(words) => match BufReader::new(rt.alloc(), rt.reader()) {
-            Ok(mut input) => run_command(
-                rt.alloc(),
-                &words,
-                &mut input,
-                &mut rt.stdout().lock(),
-                &mut errors,
-            ),
+        Ok(words) => match run_words(&rt, &words, &mut errors) {
+            Ok(status) => status,
             Err(_) => give_up(&mut errors, OUT_OF_MEMORY, 2),
         },
         Err(e) if e.kind() == ErrorKind::OutOfMemory => give_up(&mut errors, OUT_OF_MEMORY, 2),

@@ -1,2 +1,4 @@
 pub mod Saying
 pub mod Running
+pub mod Taking
+pub mod Finding

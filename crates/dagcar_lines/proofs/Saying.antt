@@ -105,7 +105,7 @@ pub record SoFarSaid {T : Type 0} (speech : Speech) (knows : T → List (List �
   pub lines : Appends before after said
   pub known : (b : List ℕ) → start.left ≡ Some b → (rest : List ℕ) × (now.left ≡ Some rest) × IsFar speech knows b rest extent teller well said
 
-begun_place : (roots : List (List ℕ)) (extent : Option ℕ) {start now : Reading} → TakesStart start roots extent now → (b : List ℕ) → start.left ≡ Some b → (rest : List ℕ) × (now.left ≡ Some rest) × IsPlace b roots [] extent rest
+pub begun_place : (roots : List (List ℕ)) (extent : Option ℕ) {start now : Reading} → TakesStart start roots extent now → (b : List ℕ) → start.left ≡ Some b → (rest : List ℕ) × (now.left ≡ Some rest) × IsPlace b roots [] extent rest
 begun_place roots extent {start} {now} h b l = let w = h.takes.taken b l in (w.0, w.2, subst (λ x. IsPlace x roots [] extent w.0) (sym w.1) (place_begun h.front w.0 roots extent h.header h.start))
 
 pub said_begun : {T : Type 0} (speech : Speech) (knows : T → List (List ℕ) → List Section → Type 0) (roots : List (List ℕ)) (start now : Reading) (extent : Option ℕ) (teller : T) (before after : Option (List ℕ)) → TakesStart start roots extent now → knows teller roots [] → Appends before after (speech.of_roots roots)
@@ -234,7 +234,7 @@ roots_broken speech start now extent roots text before after (Err x) e w h is sa
 -- ---- refusals of the bytes
 
 -- the same refusal, where no source can fault
-abbrev alone : {E : Type 0} → CarError E → CarError Infallible
+abbrev pub alone : {E : Type 0} → CarError E → CarError Infallible
 alone (faults.Read f) = faults.Truncated
 alone faults.Truncated = faults.Truncated
 alone faults.InvalidLength = faults.InvalidLength
@@ -244,16 +244,16 @@ alone faults.OtherHeader = faults.OtherHeader
 alone faults.InvalidOffset = faults.InvalidOffset
 alone faults.OutOfMemory = faults.OutOfMemory
 
-alone_line : {E : Type 0} (e : CarError E) → IsOfBytes e → refused_line e ≡ refused_line (alone e)
+pub alone_line : {E : Type 0} (e : CarError E) → IsOfBytes e → refused_line e ≡ refused_line (alone e)
 alone_line (faults.Read f) is = absurd is
 alone_line _ is = refl
 
-section_alone : {E : Type 0} (extent : Option ℕ) (old now : Reading) (e : CarError E) → IsOfBytes e → CarRefuses (RefusesNext extent) old e now → (b : List ℕ) → old.left ≡ Some b → RefusesNext extent (alone e) b
+pub section_alone : {E : Type 0} (extent : Option ℕ) (old now : Reading) (e : CarError E) → IsOfBytes e → CarRefuses (RefusesNext extent) old e now → (b : List ℕ) → old.left ≡ Some b → RefusesNext extent (alone e) b
 section_alone extent old now (faults.Read f) is r = absurd is
 section_alone extent old now faults.OutOfMemory is r = absurd is
 section_alone extent old now _ is r = r.1
 
-header_alone : {E : Type 0} (old now : Reading) (e : CarError E) → IsOfBytes e → CarRefuses RefusesStart old e now → (b : List ℕ) → old.left ≡ Some b → RefusesStart (alone e) b
+pub header_alone : {E : Type 0} (old now : Reading) (e : CarError E) → IsOfBytes e → CarRefuses RefusesStart old e now → (b : List ℕ) → old.left ≡ Some b → RefusesStart (alone e) b
 header_alone old now (faults.Read f) is r = absurd is
 header_alone old now faults.OutOfMemory is r = absurd is
 header_alone old now _ is r = r.1

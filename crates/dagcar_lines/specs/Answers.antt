@@ -27,6 +27,7 @@ use Rattle.dagcbor_items.specs.PrintedNames.{kind_name, variant_name}
 use Rattle.dagcar_lines.specs.Lines.{line, told_line, listed_line, missing_line, root_line, is_well}
 use Rattle.dagcar_lines.specs.Lines.{cause_line, reserved_line, Says, SaysBoth}
 use Rattle.dagcar_lines.specs.Speeches.{Speech, SaysBytes}
+use Rattle.dagcar_lines.specs.Finding.{IsGot, IsTree}
 use Rattle.dagcar_lines.specs.declared.command.Command.{Command}
 use Rattle.dagcar_lines.specs.declared.command.Command.TheVariants as commands
 use Rattle.dagcbor_cli.specs.declared.fault.ToolError.{ToolError}
@@ -116,9 +117,13 @@ RunsCommand commands.Name b old heard ended new after = Says (IsNamed b) old end
 RunsCommand commands.One b old heard ended new after = Says (IsJudged b) old ended new
 RunsCommand commands.Show b old heard ended new after = SaysBoth (IsShown b) old heard ended new after
 RunsCommand commands.Make b old heard ended new after = SaysBoth (IsMade b) old heard ended new after
+RunsCommand (commands.Get name) b old heard ended new after = SaysBoth (IsGot name b) old heard ended new after
+RunsCommand (commands.Tree root) b old heard ended new after = SaysBoth (IsTree root b) old heard ended new after
 
 -- the commands that tell of nothing but of faults
 abbrev pub IsQuiet : Command → Type 0
 IsQuiet commands.Show = ⊥
 IsQuiet commands.Make = ⊥
+IsQuiet (commands.Get name) = ⊥
+IsQuiet (commands.Tree root) = ⊥
 IsQuiet _ = ⊤

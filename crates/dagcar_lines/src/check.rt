@@ -71,7 +71,7 @@ fn verdict_said(
 }
 
 /// Whether there is none.
-fn is_none(names: &[Cid]) -> bool
+pub fn is_none(names: &[Cid]) -> bool
     ensures { IsTrue result ↔ (names.now ≡ []) }
 {
     match names {

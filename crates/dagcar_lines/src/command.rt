@@ -1,24 +1,28 @@
 //! The program's words, and what it answers to them.
 
-ghost use Rattle.std.specs.Prelude.{◌≡◌, ◌≢◌, map, string_bytes, IfSome, MatchOption, Result, Bool, Option, List, ℕ};
+ghost use Rattle.std.specs.Prelude.{◌≡◌, ◌≢◌, [], ◌∷◌, codes, map, string_bytes, IfSome, MatchOption, Result, Bool, Option, List, ℕ};
 ghost use Rattle.dagcbor_heads.specs.Inputs.{input_reading, not_lending};
 ghost use Rattle.dagcar_lines.specs.Answers.{RunsCommand, EndsSo, IsQuiet};
 ghost use Rattle.dagcar_lines.specs.Speeches.{SaysBytes};
 ghost use Rattle.dagcbor_cli.specs.declared.fault.ToolError.{ToolError};
-ghost use Rattle.dagcar_lines.specs.Commands.{command_name, IsCommand};
+ghost use Rattle.dagcar_lines.specs.Commands.{IsCommand, IsCommandOn};
 
 use crate::block::{say_data, say_kind, say_name};
+use crate::get::get_block;
 use crate::list::Listing;
 use crate::make::make_block;
+use crate::tree::write_tree;
 use crate::walk::{Teller, say_file};
+use cid_text::{cid_from_text, laws};
 use dagcbor_car::CarCheck;
 use dagcbor_cli::{ToolError, give_up};
 use dagcbor_heads::{Input, IoRefReader, Read};
+use ipld_tree::Cid;
 use std::alloc::Global;
 use std::io::{BufRead, Write};
 
 /// What is told of wrong words.
-pub const USAGE: &str = "usage: dagcar check|list|name|one|show|make\n";
+pub const USAGE: &str = "usage: dagcar check|list|name|one|show|make|get CID|tree CID\n";
 
 /// What is told of want of memory.
 pub const OUT_OF_MEMORY: &str = "dagcar: out of memory\n";
@@ -38,12 +42,16 @@ pub enum Command {
     Show,
     /// To make a block of DAG-JSON.
     Make,
+    /// To write the block of this name.
+    Get(Cid),
+    /// To write the blocks that links lead to from this root.
+    Tree(Cid),
 }
 
-/// The command of this name.
+/// The command of this one word.
 fn command_named(name: &str) -> Option<Command>
-    ensures { MatchOption result ((c : Command) → name.now ≢ command_name c)
-        (λ c. name.now ≡ command_name c) }
+    ensures { MatchOption result ((c : Command) → ¬ IsCommand (name.now ∷ []) c)
+        (λ c. IsCommand (name.now ∷ []) c) }
 {
     match name {
         "check" => Some(Command::Check),
@@ -56,13 +64,37 @@ fn command_named(name: &str) -> Option<Command>
     }
 }
 
-/// The one command that the words are.
+/// The command of this word on the block of this name.
+fn command_on(word: &str, name: Cid) -> Option<Command>
+    ensures { MatchOption result ((word.now ≢ codes "get") × (word.now ≢ codes "tree"))
+        (IsCommandOn word.now name) }
+{
+    match word {
+        "get" => Some(Command::Get(name)),
+        "tree" => Some(Command::Tree(name)),
+        _ => None,
+    }
+}
+
+/// The command of a word and a CID as text.
+fn command_on_text(word: &str, text: &str) -> Option<Command>
+    ensures { MatchOption result ((c : Command) → ¬ IsCommand (word.now ∷ text.now ∷ []) c)
+        (λ c. IsCommand (word.now ∷ text.now ∷ []) c) }
+{
+    match cid_from_text(text.as_bytes()) {
+        Ok(name) => command_on(word, name),
+        Err(_) => None,
+    }
+}
+
+/// The command that the words are.
 fn command_of(args: &[String]) -> Option<Command>
     ensures { MatchOption result ((c : Command) → ¬ IsCommand (map string_bytes args.now) c)
         (λ c. IsCommand (map string_bytes args.now) c) }
 {
     match args {
         [word] => command_named(word.as_str()),
+        [word, text] => command_on_text(word.as_str(), text.as_str()),
         _ => None,
     }
 }
@@ -82,7 +114,7 @@ fn status_of<V: Write>(ended: Result<bool, ToolError>, errors: &mut V) -> u8
 }
 
 /// An input that does not lend.
-fn input_over<'de, R: Read>(reader: R) -> Input<'de, R>
+pub fn input_over<'de, R: Read>(reader: R) -> Input<'de, R>
     ensures { input_reading R.reading result ≡ not_lending (R.reading reader) }
 {
     Input::Reader(reader)
@@ -125,6 +157,8 @@ pub fn run<R: BufRead, W: Write, V: Write>(
         Command::One => say_kind(alloc, input, output),
         Command::Show => say_data(alloc, input, output, errors),
         Command::Make => make_block(alloc, input, output, errors),
+        Command::Get(name) => get_block(alloc, &name, input, output, errors),
+        Command::Tree(root) => write_tree(alloc, &root, input, output, errors),
     }
 }
 
@@ -146,6 +180,7 @@ pub fn run_command<R: BufRead, W: Write, V: Write>(
     ensures quiet { (c : Command) → IsCommand (map string_bytes args.now) c → IsQuiet c
         → result ≢ 2 → errors.new ≡ errors.old }
 {
+    laws::texts_tell_cids();
     let Some(command) = command_of(args) else {
         return give_up(errors, USAGE, 2);
     };

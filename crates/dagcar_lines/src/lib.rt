@@ -5,10 +5,15 @@
 mod block;
 mod check;
 mod command;
+mod device;
+mod get;
 mod line;
 mod list;
 mod make;
 mod names;
+mod take;
+mod tree;
 mod walk;
 
 pub use command::{Command, OUT_OF_MEMORY, USAGE, run_command};
+pub use device::OneFault;

@@ -5,7 +5,6 @@ pub mod Members
 pub mod Listing
 pub mod Reading
 pub mod ReadingBack
-pub mod Writing
 pub mod Nothing
 mod Holding
 mod Reaching

@@ -23,10 +23,13 @@ mod put_error;
 mod reach;
 mod read_car;
 mod store;
+mod tree_error;
 mod write_car;
+mod write_tree;
 
 pub use car_error::ReadCarError;
 pub use error::BlockError;
 pub use name::name_of;
 pub use put_error::PutBlockError;
 pub use store::Blocks;
+pub use tree_error::WriteTreeError;

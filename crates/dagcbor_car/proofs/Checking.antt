@@ -15,13 +15,15 @@ use Rattle.dagcbor_items.specs.declared.kind.Kind.{Kind}
 use Rattle.dagcbor_items.proofs.SliceReads.{whole_front}
 use Rattle.dagcbor_car.specs.Car.{Section}
 use Rattle.dagcbor_car.specs.Verdicts.{IsVerified, IsDagCbor, IsVerdict}
-use Rattle.dagcbor_car.specs.Sets.{Among, members, AddsCid, RemovesCid, AddsOthers, AreCids}
-use Rattle.dagcbor_car.specs.Within.{IsWithin, IsReached, HoldsReached, AddsReached, AddsAll}
+use Rattle.dagcbor_car.specs.Sets.{Among, members, RemovesCid, AreCids}
+use Rattle.dagcbor_car.specs.Held.{IsKept, HoldsNone, AddsName, AreNames}
+use Rattle.dagcbor_car.specs.Within.{IsWithin, IsReached, IsReachedName, HoldsReached, AddsReached, AddsAll, AddsLinks}
 use Rattle.dagcbor_car.proofs.Within.{reached_only, reached_of_cids, reached_cid, not_inline}
 use Rattle.dagcbor_car.specs.Checks.{IsHeld, IsLinked, NamesNone, ListsMissing, IsAfter, TakesSection, HoldsName, FollowsLinks}
 use Rattle.dagcbor_car.specs.declared.verdict.Verdict.{Verdict}
 use Rattle.dagcbor_car.specs.declared.verdict.Verdict.TheVariants.{Block, Refused, OtherBytes, NotRead, Unverified}
 use Rattle.dagcbor_car.specs.declared.cid_set.CidSet.{CidSet}
+use Rattle.dagcbor_car.specs.declared.held.HeldNames.{HeldNames}
 use Rattle.dagcbor_car.specs.declared.check.CarCheck.{CarCheck}
 use Rattle.dagcbor_car.proofs.Headers.{no_block}
 use Rattle.dagcbor_car.proofs.Testing.{verified_testable}
@@ -29,16 +31,16 @@ use Rattle.dagcbor_car.proofs.Members.{among_push, push_among, map_among, among_
 
 -- ---- the roots
 
-pub after_header : (alloc : Global) (roots : List CidParts) (held start missing : CidSet) → members held ≡ [] → members start ≡ [] → AddsAll roots start missing → IsAfter record { alloc = alloc; held = held; missing = missing; failed = false } (forms roots) []
+pub after_header : (alloc : Global) (roots : List CidParts) (held : HeldNames) (start missing : CidSet) → HoldsNone held → members start ≡ [] → AddsAll roots held start missing → IsAfter record { alloc = alloc; held = held; missing = missing; failed = false } (forms roots) []
 after_header alloc roots held start missing none empty h = record {
-  held = λ c. (λ m. absurd (subst (Among c) none m), λ m. absurd m.1);
-  names = λ q m. absurd (subst (Among q) none m);
+  held = λ c. (λ m. absurd (none c m), λ m. absurd m.1);
+  names = λ q m. absurd (none q m);
   missing = λ form. (there form, λ l. back form l.0 l.1);
   cids = λ q m. ((whole q).0 m).0;
 }
   where
     whole : HoldsReached missing (forms roots)
-    whole = reached_only start missing (forms roots) empty h.1
+    whole = reached_only held start missing (forms roots) none empty h.1
 
     there : (form : List ℕ) → Among form (forms (members missing)) → IsLinked form (forms roots) [] × NamesNone form []
     there form m =
@@ -62,22 +64,22 @@ linked_still form roots sections s (link, n, inl m, w) = (link, n, inl m, w)
 linked_still form roots sections s (link, n, inr l, w) = (link, n, inr (l.0, l.1, push_among l.0 sections s (inl l.2), l.3, l.4, l.5, l.6), w)
 
 -- a name joined those of the verified blocks
-held_more : (s : Section) (sections : List Section) (old new : CidSet) → IsVerified s → AddsCid s.0 old new → ((c : CidParts) → Among c (members old) ↔ IsHeld c sections) → (c : CidParts) → Among c (members new) ↔ IsHeld c (sections ++ s ∷ [])
+held_more : (s : Section) (sections : List Section) (old new : HeldNames) → IsVerified s → AddsName s.0 old new → ((c : CidParts) → IsKept c old ↔ IsHeld c sections) → (c : CidParts) → IsKept c new ↔ IsHeld c (sections ++ s ∷ [])
 held_more s sections old new v a h c = (there, back)
   where
-    there : Among c (members new) → IsHeld c (sections ++ s ∷ [])
+    there : IsKept c new → IsHeld c (sections ++ s ∷ [])
     there m = elim ((a.1 c).0 m) [
       | inl o ↦ let k = (h c).0 o in (k.0, push_among (c, k.0) sections s (inl k.1), k.2)
       | inr e ↦ (s.1, push_among (c, s.1) sections s (inr (λ i. (e i, s.1))), subst (λ d. IsVerified (d, s.1)) (sym e) v)
     ]
 
-    back : IsHeld c (sections ++ s ∷ []) → Among c (members new)
+    back : IsHeld c (sections ++ s ∷ []) → IsKept c new
     back k = elim (among_push (c, k.0) sections s k.1) [
       | inl m ↦ (a.1 c).1 (inl ((h c).1 (k.0, m, k.2)))
       | inr e ↦ (a.1 c).1 (inr (ap (λ (p : Section). p.0) e))
     ]
 
-names_more : (c : CidParts) (old new : CidSet) → AddsCid c old new → AreCids old → AreCids new
+names_more : (c : CidParts) (old new : HeldNames) → AddsName c old new → AreNames old → AreNames new
 names_more c old new a h q m = elim ((a.1 q).0 m) [ inl o ↦ h q o | inr e ↦ subst AreCidParts (sym e) a.0 ]
 
 -- reached from a link of the section's block, where that is verified and DAG-CBOR
@@ -128,11 +130,11 @@ fewer_cids : (c : CidParts) (old new : CidSet) → RemovesCid c old new → AreC
 fewer_cids c old new cut h q m = h q ((cut q).0 m).0
 
 -- the links that are not held are missing too
-links_in : (s : Section) (t : Tree) (roots : List (List ℕ)) (sections : List Section) (held links old new : CidSet) → IsVerified s → IsDagCbor s.0 → IsBlock s.1 t → HoldsReached links (links_of t) → AddsOthers (members links) (members held) old new
-    → AreCids held → ((c : CidParts) → Among c (members held) ↔ IsHeld c (sections ++ s ∷ []))
+links_in : (s : Section) (t : Tree) (roots : List (List ℕ)) (sections : List Section) (held : HeldNames) (old new : CidSet) → IsVerified s → IsDagCbor s.0 → IsBlock s.1 t → AddsReached (links_of t) held old new
+    → AreNames held → ((c : CidParts) → IsKept c held ↔ IsHeld c (sections ++ s ∷ []))
     → ((form : List ℕ) → Among form (forms (members old)) ↔ (IsLinked form roots sections × NamesNone form (sections ++ s ∷ [])))
     → (form : List ℕ) → Among form (forms (members new)) ↔ (IsLinked form roots (sections ++ s ∷ []) × NamesNone form (sections ++ s ∷ []))
-links_in s t roots sections held links old new v d block l joins names has h form = (there, back)
+links_in s t roots sections held old new v d block joins names has h form = (there, back)
   where
     more : List Section
     more = sections ++ s ∷ []
@@ -142,14 +144,14 @@ links_in s t roots sections held links old new v d block l joins names has h for
         let q = map_among cid_bytes form (members new) m in
         elim ((joins q.0).0 q.1) [
           | inl o ↦ let k = (h form).0 (among_forms form q.0 (members old) o q.2) in (linked_still form roots sections s k.0, k.1)
-          | inr w ↦ let r = (l q.0).0 w.0 in (
+          | inr (r, free) ↦ (
             (r.2.0, r.2.1, inr (s, t, push_among s sections s (inr refl), v, d, block, r.2.2), subst (IsWithin r.2.1 r.2.0) (sym q.2) r.2.3),
             (
               not_inline form q.0 r.0 r.1 q.2,
               λ k n u e.
                   let found = (has k.0).1 (k.1, n, u) in
                   let same = cid_unique k.0 q.0 (names k.0 found) r.0 (e ∙ q.2) in
-                  w.1 (subst (λ c. Among c (members held)) same found),
+                  free (subst (λ c. IsKept c held) same found),
             ),
           )
         ]
@@ -160,8 +162,8 @@ links_in s t roots sections held links old new v d block l joins names has h for
     joined : IsReached form (links_of t) → NamesNone form more → Among form (forms (members new))
     joined r none =
         let q = reached_cid t form block.0.well_formed r in
-        let in_links = (l q.0).1 (q.1, (λ i. none.0 (q.0, q.1, q.2, i)), (r.0, r.1, r.2, subst (IsWithin r.1 r.0) q.2 r.3)) in
-        among_forms form q.0 (members new) ((joins q.0).1 (inr (in_links, λ found. let w = (has q.0).0 found in none.1 (q.0, w.0) w.1 w.2 (sym q.2)))) q.2
+        let name : IsReachedName q.0 (links_of t) = (q.1, (λ i. none.0 (q.0, q.1, q.2, i)), (r.0, r.1, r.2, subst (IsWithin r.1 r.0) q.2 r.3)) in
+        among_forms form q.0 (members new) ((joins q.0).1 (inr (name, λ found. let w = (has q.0).0 found in none.1 (q.0, w.0) w.1 w.2 (sym q.2)))) q.2
 
     stays : Among form (forms (members old)) → Among form (forms (members new))
     stays m = let q = map_among cid_bytes form (members old) m in among_forms form q.0 (members new) ((joins q.0).1 (inl q.1)) q.2
@@ -172,27 +174,27 @@ links_in s t roots sections held links old new v d block l joins names has h for
       | inr k ↦ joined (subst (λ u. IsReached form (links_of u)) (same_tree k.0 k.3) k.4) m.1
     ]
 
-more_cids : (links : List (List ℕ)) (held : List CidParts) (cids old new : CidSet) → HoldsReached cids links → AddsOthers (members cids) held old new → AreCids old → AreCids new
-more_cids links held cids old new l joins h q m = elim ((joins q).0 m) [ inl o ↦ h q o | inr w ↦ ((l q).0 w.0).0 ]
+more_cids : (links : List (List ℕ)) (held : HeldNames) (old new : CidSet) → AddsReached links held old new → AreCids old → AreCids new
+more_cids links held old new joins h q m = elim ((joins q).0 m) [ inl o ↦ h q o | inr w ↦ w.0.0 ]
 
-pub links_followed : {E : Type 0} (b : List ℕ) (old : CarCheck) (start links after : CidSet) (r : Result (Unit {0}) E) → members start ≡ [] → (t : Tree) × IsBlock b t × AddsReached (links_of t) start links
-    → OnOk r (AddsOthers (members links) (members old.held) old.missing after) → OnOk r (FollowsLinks b old record { alloc = old.alloc; held = old.held; missing = after; failed = old.failed })
-links_followed b old start links after (Ok u) none found joins = (refl, (found.0, found.1, (links, reached_only start links (links_of found.0) none found.2, joins)))
-links_followed b old start links after (Err e) none found joins = tt
+pub links_followed : {E : Type 0} (b : List ℕ) (old : CarCheck) (after : CidSet) (r : Result (Unit {0}) E) → AddsLinks b old.held old.missing r after
+    → OnOk r (FollowsLinks b old record { alloc = old.alloc; held = old.held; missing = after; failed = old.failed })
+links_followed b old after (Ok u) found = (refl, found)
+links_followed b old after (Err e) found = tt
 
 -- a verified block of DAG-CBOR
 block_taken : (s : Section) (old mid new : CarCheck) → IsVerified s → IsDagCbor s.0 → HoldsName s.0 old mid → FollowsLinks s.1 mid new → TakesSection s old new
-block_taken s old mid new v d (a, cut) (same, (t, block, (links, l, joins))) roots sections h = record {
-  held = subst (λ k. (c : CidParts) → Among c (members k) ↔ IsHeld c (sections ++ s ∷ [])) (sym same) held;
-  names = subst AreCids (sym same) names;
-  missing = links_in s t roots sections mid.held links mid.missing new.missing v d block l joins names held (name_out s roots sections old.missing mid.missing v a.0 h.cids cut h.missing);
-  cids = more_cids (links_of t) (members mid.held) links mid.missing new.missing l joins (fewer_cids s.0 old.missing mid.missing cut h.cids);
+block_taken s old mid new v d (a, cut) (same, (t, block, joins)) roots sections h = record {
+  held = subst (λ k. (c : CidParts) → IsKept c k ↔ IsHeld c (sections ++ s ∷ [])) (sym same) held;
+  names = subst AreNames (sym same) names;
+  missing = links_in s t roots sections mid.held mid.missing new.missing v d block joins names held (name_out s roots sections old.missing mid.missing v a.0 h.cids cut h.missing);
+  cids = more_cids (links_of t) mid.held mid.missing new.missing joins (fewer_cids s.0 old.missing mid.missing cut h.cids);
 }
   where
-    held : (c : CidParts) → Among c (members mid.held) ↔ IsHeld c (sections ++ s ∷ [])
+    held : (c : CidParts) → IsKept c mid.held ↔ IsHeld c (sections ++ s ∷ [])
     held = held_more s sections old.held mid.held v a h.held
 
-    names : AreCids mid.held
+    names : AreNames mid.held
     names = names_more s.0 old.held mid.held a h.names
 
 -- where no link comes from the section, the links stay
@@ -237,8 +239,8 @@ unnamed_taken s k none roots sections h = record {
 -- what is known is of the two sets alone
 known_same : (k j : CarCheck) (roots : List (List ℕ)) (sections : List Section) → j.held ≡ k.held → j.missing ≡ k.missing → IsAfter k roots sections → IsAfter j roots sections
 known_same k j roots sections held missing h = record {
-  held = subst (λ x. (c : CidParts) → Among c (members x) ↔ IsHeld c sections) (sym held) h.held;
-  names = subst AreCids (sym held) h.names;
+  held = subst (λ x. (c : CidParts) → IsKept c x ↔ IsHeld c sections) (sym held) h.held;
+  names = subst AreNames (sym held) h.names;
   missing = subst (λ x. (form : List ℕ) → Among form (forms (members x)) ↔ (IsLinked form roots sections × NamesNone form sections)) (sym missing) h.missing;
   cids = subst AreCids (sym missing) h.cids;
 }

@@ -5,6 +5,7 @@ pub mod Counts
 pub mod Headers
 pub mod Testing
 pub mod Members
+pub mod Keeping
 pub mod Within
 pub mod Checking
 pub mod Places
@@ -14,3 +15,5 @@ pub mod Pushing
 pub mod Starting
 pub mod Running
 pub mod HeaderShape
+pub mod Reaching
+pub mod Writing

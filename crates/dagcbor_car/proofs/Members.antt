@@ -1,6 +1,5 @@
 -- Members of lists, and of sets of CIDs.
 use Rattle.std.proofs.Common.{◌≡◌, ◌⊎◌, inl, inr, ℕ, List, [], ◌∷◌, ◌++◌, map, Bool, true, false, ◌||◌, cond, Ordering, Less, Equal, Greater, refl, sym, ap, ◌∙◌, subst}
-use Rattle.std.specs.Prelude.{Result, Ok, Err, OnOk}
 use Rattle.std.specs.Ordering.{nat_cmp, ordering_then, ordering_reverse, is_eq}
 use Rattle.std.specs.Cmp.Lexicographic.{slice_cmp}
 use Rattle.std.specs.List.{list_any}
@@ -16,7 +15,7 @@ use Rattle.dagcbor_items.specs.Walks.{forms}
 use Rattle.dagcbor_items.specs.Slices.{IsBlock}
 use Rattle.dagcbor_items.proofs.SliceReads.{whole_front}
 use Rattle.dagcbor_car.specs.Splits.{HasBlock}
-use Rattle.dagcbor_car.specs.Sets.{Among, members, AddsCid, RemovesCid, AddsOthers}
+use Rattle.dagcbor_car.specs.Sets.{Among, members, AddsCid, RemovesCid}
 use Rattle.dagcbor_car.specs.declared.cid_set.CidSet.{CidSet}
 
 -- ---- lists
@@ -70,7 +69,7 @@ self_equal Greater e = absurd (cc e)
 then_equal : (a b : Ordering) → a ≡ Equal → b ≡ Equal → ordering_then a b ≡ Equal
 then_equal a b e f = ap (λ o. ordering_then o b) e ∙ f
 
-number_equal : (n : ℕ) → nat_cmp n n ≡ Equal
+pub number_equal : (n : ℕ) → nat_cmp n n ≡ Equal
 number_equal n = self_equal (nat_cmp n n) (nat_cmp_total.antisymm n n)
 
 pub cid_equal : (q : CidParts) → cid_cmp q q ≡ Equal
@@ -144,51 +143,6 @@ cid_removed c old new cut q = (
     back : (b : Bool) → is_at (cid_cmp c) q ≡ b → Among q (members old) × (q ≡ c → ⊥) → cond b false (set.contains cid_cmp old.cids q) ≡ true
     back true t m = absurd (m.1 (sym (at_same c q t)))
     back false t m = among_any q (members old) m.0
-
--- ---- those that are not held
-
-pub others_none : (held : List CidParts) (s : CidSet) → AddsOthers [] held s s
-others_none held s q = (λ m. inl m, λ m. elim m [ inl o ↦ o | inr w ↦ absurd w.0 ])
-
-pub other_held : (c : CidParts) (held : List CidParts) (s : CidSet) → list_any (is_at (cid_cmp c)) held ≡ true → AddsOthers (c ∷ []) held s s
-other_held c held s found q = (λ m. inl m, back)
-  where
-    back : Among q (members s) ⊎ (Among q (c ∷ []) × (Among q held → ⊥)) → Among q (members s)
-    back (inl o) = o
-    back (inr (inl e, none)) = absurd (none (subst (λ x. Among x held) (sym e) (any_among c held found)))
-    back (inr (inr h, none)) = absurd h
-
-pub other_added : {X E : Type 0} (r : Result X E) (c : CidParts) (held : List CidParts) (old new : CidSet) → list_any (is_at (cid_cmp c)) held ≡ false → OnOk r (AddsCid c old new) → OnOk r (AddsOthers (c ∷ []) held old new)
-other_added (Err e) c held old new lacks a = tt
-other_added (Ok x) c held old new lacks a = λ q. (there q, back q)
-  where
-    not_held : (q : CidParts) → q ≡ c → Among q held → ⊥
-    not_held q e m = let clash : true ≡ false = sym (among_any c held (subst (λ x. Among x held) e m)) ∙ lacks in absurd (cc clash)
-
-    there : (q : CidParts) → Among q (members new) → Among q (members old) ⊎ (Among q (c ∷ []) × (Among q held → ⊥))
-    there q m = elim ((a.1 q).0 m) [ inl o ↦ inl o | inr e ↦ inr (inl e, not_held q e) ]
-
-    back : (q : CidParts) → Among q (members old) ⊎ (Among q (c ∷ []) × (Among q held → ⊥)) → Among q (members new)
-    back q (inl o) = (a.1 q).1 (inl o)
-    back q (inr (inl e, none)) = (a.1 q).1 (inr e)
-    back q (inr (inr h, none)) = absurd h
-
-pub others_next : (c : CidParts) (cids held : List CidParts) (old mid new : CidSet) → AddsOthers cids held old mid → AddsOthers (c ∷ []) held mid new → AddsOthers (cids ++ c ∷ []) held old new
-others_next c cids held old mid new first next q = (there, back)
-  where
-    there : Among q (members new) → Among q (members old) ⊎ (Among q (cids ++ c ∷ []) × (Among q held → ⊥))
-    there m = elim ((next q).0 m) [
-      | inl o ↦ elim ((first q).0 o) [ inl k ↦ inl k | inr w ↦ inr (append_among q cids (c ∷ []) (inl w.0), w.1) ]
-      | inr w ↦ inr (append_among q cids (c ∷ []) (inr w.0), w.1)
-    ]
-
-    by : Among q cids ⊎ Among q (c ∷ []) → (Among q held → ⊥) → Among q (members new)
-    by (inl m) none = (next q).1 (inl ((first q).1 (inr (m, none))))
-    by (inr m) none = (next q).1 (inr (m, none))
-
-    back : Among q (members old) ⊎ (Among q (cids ++ c ∷ []) × (Among q held → ⊥)) → Among q (members new)
-    back (inl o) = (next q).1 (inl ((first q).1 (inl o)))
-    back (inr w) = by (among_append q cids (c ∷ []) w.0) w.1
 
 -- ---- a block
 

@@ -16,9 +16,11 @@ use Rattle.dagcbor_items.proofs.SliceReads.{whole_front}
 use Rattle.dagcbor_car.specs.Names.{IsInline}
 use Rattle.dagcbor_car.specs.Verdicts.{IsDagCbor}
 use Rattle.dagcbor_car.specs.Splits.{HasBlock}
-use Rattle.dagcbor_car.specs.Sets.{Among, members, AddsCid}
-use Rattle.dagcbor_car.specs.Within.{IsInlineForm, IsWithin, IsReached, IsReachedName, HoldsReached, AddsReached, AddsAll, AreFirstNames, AddsLinks}
+use Rattle.dagcbor_car.specs.Sets.{Among, members}
+use Rattle.dagcbor_car.specs.Held.{IsKept, HoldsNone}
+use Rattle.dagcbor_car.specs.Within.{IsInlineForm, IsWithin, IsReached, IsReachedName, HoldsReached, AddsUnheld, AddsReached, AddsAll, AreFirstNames, AddsLinks}
 use Rattle.dagcbor_car.specs.declared.cid_set.CidSet.{CidSet}
+use Rattle.dagcbor_car.specs.declared.held.HeldNames.{HeldNames}
 use Rattle.dagcbor_car.proofs.Members.{among_append, append_among, among_map, whole_block}
 
 -- ---- a link is shorter than the block that it stands in
@@ -104,15 +106,15 @@ plain_reached c q p none r (start, zero, inl at, w) = own q c r p (w ∙ at)
 plain_reached c q p none r (start, suc n, inl at, w) = absurd (none (subst IsInline (own w.2.0 c w.2.1 p (sym w.2.2 ∙ at)) w.2.3))
 plain_reached c q p none r (start, n, inr m, w) = absurd m
 
-plain_one : (c : CidParts) (old new : CidSet) → (IsInline c → ⊥) → AddsCid c old new → AddsReached (cid_bytes c ∷ []) old new
-plain_one c old new none a q = (
-  λ m. elim ((a.1 q).0 m) [ inl o ↦ inl o | inr e ↦ inr (subst AreCidParts (sym e) a.0, (λ i. none (subst IsInline e i)), (cid_bytes c, zero, inl refl, ap cid_bytes e)) ],
-  λ h. elim h [ inl o ↦ (a.1 q).1 (inl o) | inr r ↦ (a.1 q).1 (inr (plain_reached c q a.0 none r.0 r.2)) ],
+plain_one : (c : CidParts) (held : HeldNames) (old new : CidSet) → (IsInline c → ⊥) → AddsUnheld c held old new → AddsReached (cid_bytes c ∷ []) held old new
+plain_one c held old new none a q = (
+  λ m. elim ((a.1 q).0 m) [ inl o ↦ inl o | inr (e, free) ↦ inr ((subst AreCidParts (sym e) a.0, (λ i. none (subst IsInline e i)), (cid_bytes c, zero, inl refl, ap cid_bytes e)), free) ],
+  λ h. elim h [ inl o ↦ (a.1 q).1 (inl o) | inr (r, free) ↦ (a.1 q).1 (inr (plain_reached c q a.0 none r.0 r.2, free)) ],
 )
 
-pub plain_added : {E : Type 0} (r : Result (Unit {0}) E) (c : CidParts) (old new : CidSet) → (IsInline c → ⊥) → OnOk r (AddsCid c old new) → OnOk r (AddsAll (c ∷ []) old new)
-plain_added (Err e) c old new none a = tt
-plain_added (Ok u) c old new none a = ((a.0, tt), λ q. plain_one c old new none a q)
+pub plain_added : {E : Type 0} (r : Result (Unit {0}) E) (c : CidParts) (held : HeldNames) (old new : CidSet) → (IsInline c → ⊥) → OnOk r (AddsUnheld c held old new) → OnOk r (AddsAll (c ∷ []) held old new)
+plain_added (Err e) c held old new none a = tt
+plain_added (Ok u) c held old new none a = ((a.0, tt), λ q. plain_one c held old new none a q)
 
 -- a name that holds no block of DAG-CBOR
 no_reach : (c q : CidParts) → AreCidParts c → IsInline c → ((t : Tree) → IsDagCbor c → IsBlock c.digest t → ⊥) → AreCidParts q → (IsInline q → ⊥) → IsReached (cid_bytes q) (cid_bytes c ∷ []) → ⊥
@@ -122,8 +124,8 @@ no_reach c q p i none r other (start, suc n, inl at, w) =
     none w.0 (subst IsDagCbor same w.2.4) (subst (λ (d : CidParts). IsBlock d.digest w.0) same w.2.5)
 no_reach c q p i none r other (start, n, inr m, w) = m
 
-pub none_added : (c : CidParts) (s : CidSet) → AreCidParts c → IsInline c → ((t : Tree) → IsDagCbor c → IsBlock c.digest t → ⊥) → AddsAll (c ∷ []) s s
-none_added c s p i none = ((p, tt), λ q. (inl, λ h. elim h [ inl o ↦ o | inr r ↦ absurd (no_reach c q p i none r.0 r.1 r.2) ]))
+pub none_added : (c : CidParts) (held : HeldNames) (s : CidSet) → AreCidParts c → IsInline c → ((t : Tree) → IsDagCbor c → IsBlock c.digest t → ⊥) → AddsAll (c ∷ []) held s s
+none_added c held s p i none = ((p, tt), λ q. (inl, λ h. elim h [ inl o ↦ o | inr (r, free) ↦ absurd (no_reach c q p i none r.0 r.1 r.2) ]))
 
 -- a name that holds a block
 inner_reach : (c q : CidParts) (t : Tree) → AreCidParts c → IsInline c → IsBlock c.digest t → AreCidParts q → (IsInline q → ⊥) → IsReached (cid_bytes q) (cid_bytes c ∷ []) → IsReached (cid_bytes q) (links_of t)
@@ -135,23 +137,23 @@ inner_reach c q t p i block r other (start, suc n, inl at, w) =
     (w.1, n, subst (λ u. Among w.1 (links_of u)) tree w.3, w.4)
 inner_reach c q t p i block r other (start, n, inr m, w) = absurd m
 
-pub inner_added : {E : Type 0} (r : Result (Unit {0}) E) (c : CidParts) (old new : CidSet) → AreCidParts c → IsInline c → IsDagCbor c → AddsLinks c.digest old r new → OnOk r (AddsAll (c ∷ []) old new)
-inner_added (Err e) c old new p i d h = tt
-inner_added (Ok u) c old new p i d (t, block, h) = (
+pub inner_added : {E : Type 0} (r : Result (Unit {0}) E) (c : CidParts) (held : HeldNames) (old new : CidSet) → AreCidParts c → IsInline c → IsDagCbor c → AddsLinks c.digest held old r new → OnOk r (AddsAll (c ∷ []) held old new)
+inner_added (Err e) c held old new p i d h = tt
+inner_added (Ok u) c held old new p i d (t, block, h) = (
   (p, tt),
   λ q. (
     λ m. elim ((h q).0 m) [
       | inl o ↦ inl o
-      | inr r ↦ inr (r.0, r.1, (cid_bytes c, suc r.2.1, inl refl, (t, r.2.0, (c, p, refl, i, d, block), r.2.2, r.2.3)))
+      | inr (r, free) ↦ inr ((r.0, r.1, (cid_bytes c, suc r.2.1, inl refl, (t, r.2.0, (c, p, refl, i, d, block), r.2.2, r.2.3))), free)
     ],
-    λ k. elim k [ inl o ↦ (h q).1 (inl o) | inr r ↦ (h q).1 (inr (r.0, r.1, inner_reach c q t p i block r.0 r.1 r.2)) ],
+    λ k. elim k [ inl o ↦ (h q).1 (inl o) | inr (r, free) ↦ (h q).1 (inr ((r.0, r.1, inner_reach c q t p i block r.0 r.1 r.2), free)) ],
   ),
 )
 
 -- ---- many links
 
-pub added_none : (s : CidSet) → AddsReached [] s s
-added_none s q = (inl, λ h. elim h [ inl o ↦ o | inr r ↦ absurd r.2.2 ])
+pub added_none : (held : HeldNames) (s : CidSet) → AddsReached [] held s s
+added_none held s q = (inl, λ h. elim h [ inl o ↦ o | inr (r, free) ↦ absurd r.2.2 ])
 
 reached_append : (q : CidParts) (xs ys : List (List ℕ)) → IsReachedName q (xs ++ ys) → IsReachedName q xs ⊎ IsReachedName q ys
 reached_append q xs ys r = elim (among_append r.2.0 xs ys r.2.2) [
@@ -163,22 +165,22 @@ append_reached : (q : CidParts) (xs ys : List (List ℕ)) → IsReachedName q xs
 append_reached q xs ys (inl r) = (r.0, r.1, (r.2.0, r.2.1, append_among r.2.0 xs ys (inl r.2.2), r.2.3))
 append_reached q xs ys (inr r) = (r.0, r.1, (r.2.0, r.2.1, append_among r.2.0 xs ys (inr r.2.2), r.2.3))
 
-added_both : (xs ys : List (List ℕ)) (old mid new : CidSet) → AddsReached xs old mid → AddsReached ys mid new → AddsReached (xs ++ ys) old new
-added_both xs ys old mid new first next q = (there, back)
+added_both : (xs ys : List (List ℕ)) (held : HeldNames) (old mid new : CidSet) → AddsReached xs held old mid → AddsReached ys held mid new → AddsReached (xs ++ ys) held old new
+added_both xs ys held old mid new first next q = (there, back)
   where
-    there : Among q (members new) → Among q (members old) ⊎ IsReachedName q (xs ++ ys)
+    there : Among q (members new) → Among q (members old) ⊎ (IsReachedName q (xs ++ ys) × (IsKept q held → ⊥))
     there m = elim ((next q).0 m) [
-      | inl o ↦ elim ((first q).0 o) [ inl k ↦ inl k | inr r ↦ inr (append_reached q xs ys (inl r)) ]
-      | inr r ↦ inr (append_reached q xs ys (inr r))
+      | inl o ↦ elim ((first q).0 o) [ inl k ↦ inl k | inr (r, free) ↦ inr (append_reached q xs ys (inl r), free) ]
+      | inr (r, free) ↦ inr (append_reached q xs ys (inr r), free)
     ]
 
-    by : IsReachedName q xs ⊎ IsReachedName q ys → Among q (members new)
-    by (inl r) = (next q).1 (inl ((first q).1 (inr r)))
-    by (inr r) = (next q).1 (inr r)
+    by : IsReachedName q xs ⊎ IsReachedName q ys → (IsKept q held → ⊥) → Among q (members new)
+    by (inl r) free = (next q).1 (inl ((first q).1 (inr (r, free))))
+    by (inr r) free = (next q).1 (inr (r, free))
 
-    back : Among q (members old) ⊎ IsReachedName q (xs ++ ys) → Among q (members new)
+    back : Among q (members old) ⊎ (IsReachedName q (xs ++ ys) × (IsKept q held → ⊥)) → Among q (members new)
     back (inl o) = (next q).1 (inl ((first q).1 (inl o)))
-    back (inr r) = by (reached_append q xs ys r)
+    back (inr (r, free)) = by (reached_append q xs ys r) free
 
 forms_push : (cs : List CidParts) (c : CidParts) → forms (cs ++ c ∷ []) ≡ forms cs ++ cid_bytes c ∷ []
 forms_push [] c = refl
@@ -188,22 +190,22 @@ all_push : (xs : List CidParts) (c : CidParts) → AllByRecursion AreCidParts xs
 all_push [] c h p = (p, tt)
 all_push (x ∷ xs) c h p = (h.0, all_push xs c h.1 p)
 
-pub all_none : (s : CidSet) → AddsAll [] s s
-all_none s = (tt, added_none s)
+pub all_none : (held : HeldNames) (s : CidSet) → AddsAll [] held s s
+all_none held s = (tt, added_none held s)
 
-pub all_next : (cids : List CidParts) (i : ℕ) (c : CidParts) (old mid new : CidSet) → i < length cids → c ≡ get_or cids i c → AddsAll (take i cids) old mid → AddsAll (c ∷ []) mid new → AddsAll (take (i + 1) cids) old new
-all_next cids i c old mid new within is first next =
+pub all_next : (cids : List CidParts) (i : ℕ) (c : CidParts) (held : HeldNames) (old mid new : CidSet) → i < length cids → c ≡ get_or cids i c → AddsAll (take i cids) held old mid → AddsAll (c ∷ []) held mid new → AddsAll (take (i + 1) cids) held old new
+all_next cids i c held old mid new within is first next =
     let more : take i cids ++ c ∷ [] ≡ take (i + 1) cids = ap (λ y. take i cids ++ y ∷ []) is ∙ sym (take-suc cids i c within) ∙ ap (λ n. take n cids) (sym (add-one i)) in
-    subst (λ cs. AddsAll cs old new) more (all_push (take i cids) c first.0 next.0.0, subst (λ ls. AddsReached ls old new) (sym (forms_push (take i cids) c)) (added_both (forms (take i cids)) (cid_bytes c ∷ []) old mid new first.1 next.1))
+    subst (λ cs. AddsAll cs held old new) more (all_push (take i cids) c first.0 next.0.0, subst (λ ls. AddsReached ls held old new) (sym (forms_push (take i cids) c)) (added_both (forms (take i cids)) (cid_bytes c ∷ []) held old mid new first.1 next.1))
 
-pub all_done : (cids : List CidParts) (i : ℕ) (old new : CidSet) → i ≡ length cids → AddsAll (take i cids) old new → AddsAll cids old new
-all_done cids i old new all h = subst (λ cs. AddsAll cs old new) (ap (λ n. take n cids) all ∙ take-length cids) h
+pub all_done : (cids : List CidParts) (i : ℕ) (held : HeldNames) (old new : CidSet) → i ≡ length cids → AddsAll (take i cids) held old new → AddsAll cids held old new
+all_done cids i held old new all h = subst (λ cs. AddsAll cs held old new) (ap (λ n. take n cids) all ∙ take-length cids) h
 
 -- ---- the links of a block
 
-pub block_added : {E : Type 0} (b : List ℕ) (r : Result (Unit {0}) E) (cids : List CidParts) (old new : CidSet) → HasBlock b → AreFirstLinks b (forms cids) → OnOk r (AddsAll cids old new) → AddsLinks b old r new
-block_added b (Err e) cids old new has first h = tt
-block_added b (Ok u) cids old new has first h = (first.0, whole_block b first.1 first.0 has first.2, subst (λ ls. AddsReached ls old new) first.4 h.1)
+pub block_added : {E : Type 0} (b : List ℕ) (r : Result (Unit {0}) E) (cids : List CidParts) (held : HeldNames) (old new : CidSet) → HasBlock b → AreFirstLinks b (forms cids) → OnOk r (AddsAll cids held old new) → AddsLinks b held old r new
+block_added b (Err e) cids held old new has first h = tt
+block_added b (Ok u) cids held old new has first h = (first.0, whole_block b first.1 first.0 has first.2, subst (λ ls. AddsReached ls held old new) first.4 h.1)
 
 -- ---- measures
 
@@ -235,13 +237,13 @@ longest_at [] i c h e = absurd (omega (arith, h))
 longest_at (x ∷ xs) zero c h e = omega (arith, ap (λ (d : CidParts). length d.digest) e)
 longest_at (x ∷ xs) (suc k) c h e = omega (arith, longest_at xs k c (omega (arith, h)) e)
 
-pub reached_only : (s new : CidSet) (links : List (List ℕ)) → members s ≡ [] → AddsReached links s new → HoldsReached new links
-reached_only s new links none h q = (λ m. elim ((h q).0 m) [ inl o ↦ absurd (subst (Among q) none o) | inr r ↦ r ], λ r. (h q).1 (inr r))
+pub reached_only : (held : HeldNames) (s new : CidSet) (links : List (List ℕ)) → HoldsNone held → members s ≡ [] → AddsReached links held s new → HoldsReached new links
+reached_only held s new links free none h q = (λ m. elim ((h q).0 m) [ inl o ↦ absurd (subst (Among q) none o) | inr r ↦ r.0 ], λ r. (h q).1 (inr (r, free q)))
 
-pub first_names : {E : Type 0} (b : List ℕ) (r : Result (Unit {0}) E) (cids items : List CidParts) (start new : CidSet) → members start ≡ [] → AreFirstLinks b (forms cids) → false ≡ is_err r → OnOk r (AddsAll cids start new) → items ≡ members new → AreFirstNames b items
-first_names b (Err e) cids items start new none first wrong h is = absurd (cc wrong)
-first_names b (Ok u) cids items start new none first right h is =
-    let reached = reached_only start new (links_of first.0) none (subst (λ ls. AddsReached ls start new) first.4 h.1) in
+pub first_names : {E : Type 0} (b : List ℕ) (r : Result (Unit {0}) E) (cids items : List CidParts) (held : HeldNames) (start new : CidSet) → HoldsNone held → members start ≡ [] → AreFirstLinks b (forms cids) → false ≡ is_err r → OnOk r (AddsAll cids held start new) → items ≡ members new → AreFirstNames b items
+first_names b (Err e) cids items held start new free none first wrong h is = absurd (cc wrong)
+first_names b (Ok u) cids items held start new free none first right h is =
+    let reached = reached_only held start new (links_of first.0) free none (subst (λ ls. AddsReached ls held start new) first.4 h.1) in
     (first.0, first.1, first.2, first.3, λ q. subst (λ ms. Among q ms ↔ IsReachedName q (links_of first.0)) (sym is) (reached q))
 
 -- where no link stands no name is reached

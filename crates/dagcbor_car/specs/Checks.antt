@@ -17,12 +17,12 @@ use Rattle.dagcbor_car.specs.Sources.{TakesSectionBytes, LacksMemoryIf, FileLack
 use Rattle.dagcbor_car.specs.Verdicts.{IsVerified, IsDagCbor, IsVerdict}
 use Rattle.dagcbor_car.specs.Verdicts.{Told, sections_of, AreTold, TellsAll, Tells}
 use Rattle.dagcbor_car.specs.Sets.{Among, members, AreCids}
-use Rattle.dagcbor_car.specs.Sets.{AddsCid, RemovesCid, AddsOthers}
-use Rattle.dagcbor_car.specs.Within.{IsInlineForm, IsWithin, HoldsReached}
+use Rattle.dagcbor_car.specs.Sets.{RemovesCid}
+use Rattle.dagcbor_car.specs.Held.{IsKept, AddsName, AreNames}
+use Rattle.dagcbor_car.specs.Within.{IsInlineForm, IsWithin, AddsReached}
 use Rattle.dagcbor_car.specs.declared.verdict.Verdict.{Verdict}
 use Rattle.dagcbor_car.specs.declared.error.CarError.{CarError}
 use Rattle.dagcbor_car.specs.declared.error.CarError.TheVariants.{Read, OutOfMemory}
-use Rattle.dagcbor_car.specs.declared.cid_set.CidSet.{CidSet}
 use Rattle.dagcbor_car.specs.declared.check.CarCheck.{CarCheck}
 
 -- ---- what leads nowhere
@@ -59,21 +59,20 @@ ListsMissing roots sections v = IsStrictlySortedBy cid_cmp v.items
 
 -- what is known behind these sections of a file of these roots
 pub record IsAfter (check : CarCheck) (roots : List (List ℕ)) (sections : List Section) : Type 0 where
-  pub held : (c : CidParts) → Among c (members check.held) ↔ IsHeld c sections
-  pub names : AreCids check.held
+  pub held : (c : CidParts) → IsKept c check.held ↔ IsHeld c sections
+  pub names : AreNames check.held
   pub missing : (form : List ℕ) → Among form (forms (members check.missing)) ↔ (IsLinked form roots sections × NamesNone form sections)
   pub cids : AreCids check.missing
 
 -- the name of a verified block joined those that are held, and is not missing
 abbrev pub HoldsName : CidParts → CarCheck → CarCheck → Type 0
-HoldsName c old new = AddsCid c old.held new.held × RemovesCid c old.missing new.missing
+HoldsName c old new = AddsName c old.held new.held × RemovesCid c old.missing new.missing
 
 -- the names that are reached from the links of the block and are not held joined those that are
 -- missing
 abbrev pub FollowsLinks : List ℕ → CarCheck → CarCheck → Type 0
 FollowsLinks b old new = (new.held ≡ old.held) × ((t : Tree) × IsBlock b t
-    × ((links : CidSet) × HoldsReached links (links_of t)
-    × AddsOthers (members links) (members old.held) old.missing new.missing))
+    × AddsReached (links_of t) old.held old.missing new.missing)
 
 -- what is known behind a section, whatever stood before
 abbrev pub TakesSection : Section → CarCheck → CarCheck → Type 0

@@ -10,5 +10,7 @@ pub mod Verdicts
 pub mod Runs
 pub mod Laws
 pub mod Sets
+pub mod Held
 pub mod Within
 pub mod Checks
+pub mod Reaching

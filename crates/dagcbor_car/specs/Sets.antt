@@ -22,11 +22,6 @@ abbrev pub RemovesCid : CidParts → CidSet → CidSet → Type 0
 RemovesCid c old new = (q : CidParts)
     → Among q (members new) ↔ (Among q (members old) × (q ≢ c))
 
--- the members are the old ones and those of the list that are not held
-abbrev pub AddsOthers : List CidParts → List CidParts → CidSet → CidSet → Type 0
-AddsOthers cids held old new = (q : CidParts)
-    → Among q (members new) ↔ (Among q (members old) ⊎ (Among q cids × ¬ Among q held))
-
 -- the members are CIDs
 abbrev pub AreCids : CidSet → Type 0
 AreCids s = (q : CidParts) → Among q (members s) → AreCidParts q

@@ -10,7 +10,9 @@ use Rattle.dagcbor_items.specs.Slices.{IsBlock}
 use Rattle.dagcbor_car.specs.Names.{IsInline}
 use Rattle.dagcbor_car.specs.Verdicts.{IsDagCbor}
 use Rattle.dagcbor_car.specs.Sets.{Among, members}
+use Rattle.dagcbor_car.specs.Held.{IsKept}
 use Rattle.dagcbor_car.specs.declared.cid_set.CidSet.{CidSet}
+use Rattle.dagcbor_car.specs.declared.held.HeldNames.{HeldNames}
 
 -- the binary form is that of a name which holds its block itself
 abbrev pub IsInlineForm : List ℕ → Type 0
@@ -42,14 +44,19 @@ IsReachedName q links = AreCidParts q × ¬ IsInline q × IsReached (cid_bytes q
 abbrev pub HoldsReached : CidSet → List (List ℕ) → Type 0
 HoldsReached s links = (q : CidParts) → Among q (members s) ↔ IsReachedName q links
 
--- the members are the old ones, and the names that are reached from the links
-abbrev pub AddsReached : List (List ℕ) → CidSet → CidSet → Type 0
-AddsReached links old new = (q : CidParts)
-    → Among q (members new) ↔ (Among q (members old) ⊎ IsReachedName q links)
+-- the members are the old ones, and this CID, if it is not held
+abbrev pub AddsUnheld : CidParts → HeldNames → CidSet → CidSet → Type 0
+AddsUnheld c held old new = AreCidParts c
+    × ((q : CidParts) → Among q (members new) ↔ (Among q (members old) ⊎ ((q ≡ c) × ¬ IsKept q held)))
 
--- the links are CIDs, and the names that are reached from them joined the members
-abbrev pub AddsAll : List CidParts → CidSet → CidSet → Type 0
-AddsAll cids old new = AllByRecursion AreCidParts cids × AddsReached (forms cids) old new
+-- the members are the old ones, and the names that are reached from the links and are not held
+abbrev pub AddsReached : List (List ℕ) → HeldNames → CidSet → CidSet → Type 0
+AddsReached links held old new = (q : CidParts)
+    → Among q (members new) ↔ (Among q (members old) ⊎ (IsReachedName q links × ¬ IsKept q held))
+
+-- the links are CIDs, and the names that are reached from them and are not held joined the members
+abbrev pub AddsAll : List CidParts → HeldNames → CidSet → CidSet → Type 0
+AddsAll cids held old new = AllByRecursion AreCidParts cids × AddsReached (forms cids) held old new
 
 -- the list has the names that are reached from the links
 abbrev pub ListsReached : List CidParts → List (List ℕ) → Type 0
@@ -61,7 +68,8 @@ abbrev pub AreFirstNames : List ℕ → List CidParts → Type 0
 AreFirstNames b names = (t : Tree) × (rest : List ℕ) × IsFront b t rest
     × (any_need t ≤ default_steps) × ListsReached names (links_of t)
 
--- the names that are reached from the links of a block joined those before
-abbrev pub AddsLinks : {E : Type 0} → List ℕ → CidSet → Result (Unit {0}) E → CidSet → Type 0
-AddsLinks b old result new = OnOk result
-    ((t : Tree) × IsBlock b t × AddsReached (links_of t) old new)
+-- the names that are reached from the links of a block and are not held joined those before
+abbrev pub AddsLinks : {E : Type 0} → List ℕ → HeldNames → CidSet → Result (Unit {0}) E → CidSet
+    → Type 0
+AddsLinks b held old result new = OnOk result
+    ((t : Tree) × IsBlock b t × AddsReached (links_of t) held old new)

@@ -16,6 +16,7 @@ ghost use Rattle.dagcbor_car.specs.declared.error.CarError.TheVariants.{OutOfMem
 
 use crate::cid_set::CidSet;
 use crate::error::CarError;
+use crate::held::HeldNames;
 use crate::pull::{pull_header, pull_section};
 use crate::section::Section;
 use crate::sink::VerdictSink;
@@ -33,7 +34,7 @@ use std::convert::Infallible;
 #[derive(Drop)]
 pub struct CarCheck {
     alloc: Global,
-    held: CidSet,
+    held: HeldNames,
     missing: CidSet,
     failed: bool,
 }
@@ -44,9 +45,9 @@ impl CarCheck {
         ensures after { IfOk result (λ check. IsAfter check (forms roots.now) []) }
         ensures sound { IfOk result (λ check. check.failed ≡ false) }
     {
+        let held = HeldNames::new(alloc);
         let mut missing = CidSet::new(alloc);
-        missing.add_all(alloc, roots)?;
-        let held = CidSet::new(alloc);
+        missing.add_all(alloc, roots, &held)?;
         Ok(CarCheck {
             alloc,
             held,
@@ -110,9 +111,7 @@ impl CarCheck {
         ensures followed { OnOk result (FollowsLinks block.now self.old self.new) }
         ensures same { self.new.failed ≡ self.old.failed }
     {
-        let mut links = CidSet::new(self.alloc);
-        links.add_links(self.alloc, block)?;
-        self.missing.add_others(links, &self.held)
+        self.missing.add_links(self.alloc, block, &self.held)
     }
 
     /// The roots and the links that lead to no verified block, each once, in their order.

@@ -1,12 +1,13 @@
 //! Sets of CIDs.
 
-ghost use Rattle.std.specs.Prelude.{◌≡◌, [], ◌∷◌, IfOk, OnOk, Some};
+ghost use Rattle.std.specs.Prelude.{◌≡◌, ◌↔◌, [], ◌∷◌, IfOk, OnOk, Some, IsTrue};
 ghost use Rattle.std.specs.List.Sorted.{IsStrictlySortedBy};
 ghost use Rattle.ipld_tree.specs.Cid.{cid_cmp};
 ghost use Rattle.dagcbor_car.specs.Splits.{HasBlock};
-ghost use Rattle.dagcbor_car.specs.Sets.{members, AddsCid, RemovesCid, AddsOthers};
-ghost use Rattle.dagcbor_car.specs.Within.{AddsAll, AddsLinks};
+ghost use Rattle.dagcbor_car.specs.Sets.{Among, members, AddsCid, RemovesCid};
+ghost use Rattle.dagcbor_car.specs.Within.{AddsUnheld, AddsAll, AddsLinks};
 
+use crate::held::HeldNames;
 use crate::name::{DAG_CBOR, IDENTITY};
 use dagcbor_items::{check_slice, links_from_slice};
 use ipld_tree::Cid;
@@ -39,45 +40,61 @@ impl CidSet {
         }
     }
 
-    /// Adds the links of a block, and those within them.
+    pub(crate) fn contains(&self, cid: &Cid) -> bool
+        ensures { IsTrue result ↔ Among cid.now (members self.now) }
+    {
+        self.cids.contains(cid)
+    }
+
+    /// Adds the links of a block, and those within them, that are not held.
     #[cycle(links)]
-    pub(crate) fn add_links(&mut self, alloc: Global, block: &[u8]) -> Result<(), AllocError>
+    pub(crate) fn add_links(
+        &mut self,
+        alloc: Global,
+        block: &[u8],
+        held: &HeldNames,
+    ) -> Result<(), AllocError>
         requires { HasBlock block.now }
-        ensures { AddsLinks block.now self.old result self.new }
+        ensures { AddsLinks block.now held.now self.old result self.new }
     {
         // The links of a block are refused for want of memory alone.
         let Ok(links) = links_from_slice(alloc, block) else {
             return Err(AllocError);
         };
-        self.add_all(alloc, &links)
+        self.add_all(alloc, &links, held)
     }
 
-    /// Adds the links, and those within them.
+    /// Adds the links, and those within them, that are not held.
     #[cycle(links)]
-    pub(crate) fn add_all(&mut self, alloc: Global, links: &[Cid]) -> Result<(), AllocError>
-        ensures { OnOk result (AddsAll links.now self.old self.new) }
+    pub(crate) fn add_all(
+        &mut self,
+        alloc: Global,
+        links: &[Cid],
+        held: &HeldNames,
+    ) -> Result<(), AllocError>
+        ensures { OnOk result (AddsAll links.now held.now self.old self.new) }
     {
         for link in links {
-            self.add_link(alloc, link)?;
+            self.add_link(alloc, link, held)?;
         }
         Ok(())
     }
 
-    /// Adds the link; or those within it, where its name holds a block itself.
+    /// Adds the link, if it is not held; or those within it, where its name holds a block itself.
     #[cycle(links)]
-    fn add_link(&mut self, alloc: Global, link: &Cid) -> Result<(), AllocError>
-        ensures { OnOk result (AddsAll (link.now ∷ []) self.old self.new) }
+    fn add_link(&mut self, alloc: Global, link: &Cid, held: &HeldNames) -> Result<(), AllocError>
+        ensures { OnOk result (AddsAll (link.now ∷ []) held.now self.old self.new) }
     {
         // What is known of a CID comes with its version.
         let _version = link.version();
         if link.hash_code() != IDENTITY {
-            return self.add(*link);
+            return self.add_unheld(link, held);
         }
         if link.codec() != DAG_CBOR {
             return Ok(());
         }
         match check_slice(link.digest()) {
-            Ok(_kind) => self.add_links(alloc, link.digest()),
+            Ok(_kind) => self.add_links(alloc, link.digest(), held),
             Err(_) => Ok(()),
         }
     }
@@ -88,24 +105,16 @@ impl CidSet {
         self.cids.remove(cid);
     }
 
-    /// Adds those that the other set does not have.
-    pub(crate) fn add_others(&mut self, cids: CidSet, held: &CidSet) -> Result<(), AllocError>
-        ensures { OnOk result (AddsOthers (members cids) (members held.now) self.old self.new) }
+    /// Adds the CID, if it is not held.
+    fn add_unheld(&mut self, cid: &Cid, held: &HeldNames) -> Result<(), AllocError>
+        ensures { OnOk result (AddsUnheld cid.now held.now self.old self.new) }
     {
-        for cid in cids.cids {
-            self.add_other(cid, held)?;
-        }
-        Ok(())
-    }
-
-    /// Adds the CID, if the other set does not have it.
-    fn add_other(&mut self, cid: Cid, held: &CidSet) -> Result<(), AllocError>
-        ensures { OnOk result (AddsOthers (cid ∷ []) (members held.now) self.old self.new) }
-    {
-        if held.cids.contains(&cid) {
+        // What is known of a CID comes with its version.
+        let _version = cid.version();
+        if held.contains(cid) {
             return Ok(());
         }
-        self.add(cid)
+        self.add(*cid)
     }
 
     /// The members, in their order.

@@ -5,6 +5,7 @@ ghost use Rattle.dagcbor_items.specs.Slices.{LinksRefused};
 ghost use Rattle.dagcbor_car.specs.Within.{AreFirstNames};
 
 use crate::cid_set::CidSet;
+use crate::held::HeldNames;
 use dagcbor_heads::DecodeError;
 use dagcbor_items::links_from_slice;
 use ipld_tree::Cid;
@@ -23,7 +24,10 @@ pub fn names_from_slice(alloc: Global, bytes: &[u8]) -> Result<Vec<Cid>, DecodeE
         return Ok(links);
     }
     let mut names = CidSet::new(alloc);
-    if names.add_all(alloc, &links).is_err() {
+    if names
+        .add_all(alloc, &links, &HeldNames::new(alloc))
+        .is_err()
+    {
         return Err(DecodeError::OutOfMemory);
     }
     match names.into_vec(alloc) {

@@ -8,11 +8,11 @@ mod note;
 
 use crate::types::{Command, Either, Inner, Node, Outer, Parcel, Record, Shape, Slash, SlashEnum};
 use dagcbor_serde::{ByteBuf, Link, from_slice, from_slice_owned, to_vec};
+use dagcbor_testing::{agree, is_told};
 use ipld_tree::Cid;
 use serde::{DeserializeOwned, Serialize};
 use std::alloc::Global;
 use std::collections::BTreeMap;
-use std::fmt::Debug;
 use std::test::Fail;
 
 /// The CID of a raw block with an empty digest by the identity.
@@ -59,20 +59,6 @@ const PAIR: &[u8] =
 const NUMBER: &[u8] = b"\x05";
 
 const TEXT: &[u8] = b"\x61\x74";
-
-/// Fails where the two differ.
-fn agree<T: Debug + PartialEq + Copy>(answer: T, wanted: T) -> Result<(), Fail> {
-    if answer == wanted {
-        return Ok(());
-    }
-    Err(Fail::new(format_args!("{answer:?} in place of {wanted:?}")))
-}
-
-/// Fails where the value's text is another.
-fn is_told<T: Debug>(alloc: Global, value: &T, wanted: &str) -> Result<(), Fail> {
-    let text = format!(in alloc; "{value:?}")?;
-    agree(text.as_str(), wanted)
-}
 
 /// The bytes are read as a value that is written as this one.
 fn is_read<T: Serialize + DeserializeOwned>(

@@ -1,7 +1,6 @@
 //! Readers, sources, sinks and streams.
 
 mod depth;
-mod failing;
 mod heads;
 mod hostile;
 mod io;

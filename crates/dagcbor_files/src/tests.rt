@@ -8,5 +8,6 @@ mod pair;
 mod sections;
 mod store;
 mod streams;
+mod trees;
 mod versions;
 mod writing;

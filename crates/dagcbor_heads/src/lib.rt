@@ -38,7 +38,7 @@ pub use pull::{
     is_at_end, is_indefinite, peek_one, pull_head, pull_head_argument, pull_one, pull_payload,
     pull_short_payload,
 };
-pub use push::{head_bytes, push_head, push_headed_at_once};
+pub use push::{head_bytes, push_head, push_head_at_once, push_headed_at_once};
 pub use read::{Read, ReadResult, Reference, SliceReader};
 pub use steps::{DEFAULT_STEPS, spend_step};
 pub use tally::Tally;

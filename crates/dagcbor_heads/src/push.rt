@@ -36,7 +36,7 @@ pub fn head_bytes(major: u8, argument: u64) -> ([u8; 9], usize)
 /// false. How many bytes a head has is known at each place, so that they are stored one by one, and
 /// no copy is called.
 #[tactic(auto, unfolding(crate::specs::Head::head))]
-fn push_head_at_once<W: Write>(writer: &mut W, major: u8, argument: u64) -> bool
+pub fn push_head_at_once<W: Write>(writer: &mut W, major: u8, argument: u64) -> bool
     requires { major ≤ 7 }
     ensures { WritesAtOnce (Some (head major argument)) (W.written writer.old)
         (W.written writer.new) result }

@@ -1,6 +1,7 @@
 -- Reading the keys of maps.
 use Rattle.std.proofs.Common.{◌≡◌, inl, inr, ℕ, List, refl, sym, subst, Bool, true, false, zero-le}
-use Rattle.std.specs.Prelude.{Option, Some, None, IsTrue, IsUtf8, codes}
+use Rattle.std.specs.Prelude.{Option, Some, None, IsTrue, IsUtf8, codes, Result, Err}
+use Rattle.std.specs.Borrow.{Bor}
 use Rattle.dagcbor_heads.specs.Reading.{Reading}
 use Rattle.dagcbor_heads.specs.Refusals.{Refuses}
 use Rattle.dagcbor_heads.specs.declared.error.DecodeError.{DecodeError}
@@ -14,7 +15,7 @@ use Rattle.ipld_tree.proofs.Fronts.{front_unique}
 use Rattle.dagcbor_items.specs.Untyped.{TakesItem}
 use Rattle.dagcbor_items.specs.Places.{Follows}
 use Rattle.dagcbor_items.specs.ItemCauses.{KeyCause}
-use Rattle.dagcbor_items.specs.Entries.{HasKey, IsNoKey}
+use Rattle.dagcbor_items.specs.Entries.{HasKey, IsNoKey, TakesKey}
 use Rattle.dagcbor_items.specs.Majors.{TakesString}
 use Rattle.dagcbor_items.specs.TypedReads.{HasFront}
 use Rattle.dagcbor_items.specs.Shapes.{view_text, leaf}
@@ -62,3 +63,13 @@ no_key_refused {E} previous {old} {new} b (RequireUtf8 kept) h t other =
 no_key_refused {E} previous {old} {new} b UnorderedKey h t other =
     unordered_refused E previous b (text_taken b (text_string_taken b b refl h t)) (other h)
 no_key_refused previous b _ h t other = absurd h
+
+-- the same of what was found in place of a key
+pub found_refused : {E : Type 0} (previous : Option (List ℕ)) (old new : Reading)
+    (found : Result (Bor (List ℕ)) (Bor (List ℕ))) (b : Bor (List ℕ)) (e : DecodeError E)
+    → found ≡ Err b → TakesKey previous old found new → IsNoKey b.now e
+    → Refuses {E = E} (HasKey previous old) (old.lends ≡ false) ⊥ (KeyCause previous) old e new
+found_refused {E} previous old new found b e is h none =
+    let P : Result (Bor (List ℕ)) (Bor (List ℕ)) → Type 0 = λ r. TakesKey previous old r new in
+    let k = subst P is h in
+    no_key_refused {E = E} previous b.now e none k.0 k.1

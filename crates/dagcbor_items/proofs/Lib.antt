@@ -28,3 +28,4 @@ pub mod Lent
 pub mod Names
 pub mod Ends
 pub mod StopPlaces
+pub mod Progress

@@ -150,3 +150,7 @@ pub map_placed : {A B X Y : Type 0} (f : A → B) (r : Result X Y) (xs ys : List
     → map f (set ys i x) ≡ map f xs ++ f x ∷ []
 map_placed f (Ok v) xs ys blank x i e h k = ap (map f) (placed xs ys blank x i h k) ∙ map_push f xs x
 map_placed f (Err d) xs ys blank x i e h k = absurd (cc)
+
+-- an item that was taken, as an `Ipld`
+pub item_taken : (j : Ipld) (t : Tree) (old new : Reading) → tree_of j ≡ t → TakesItem 0 old t new → TakesItem 0 old (tree_of j) new
+item_taken j t old new is h = let P : Tree → Type 0 = λ u. TakesItem 0 old u new in subst P (sym is) h

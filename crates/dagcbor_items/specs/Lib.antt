@@ -20,6 +20,7 @@ pub mod Entries
 pub mod Links
 pub mod Walks
 pub mod Judging
+pub mod ItemsLeft
 pub mod TypedReads
 pub mod Shapes
 pub mod LeafCauses

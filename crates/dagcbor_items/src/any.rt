@@ -1,11 +1,12 @@
 //! Reading items of any kind.
 
-ghost use Rattle.std.specs.Prelude.{◌≡◌, IfErr};
+ghost use Rattle.std.specs.Prelude.{◌≡◌, IfErr, IfSome, MatchOption};
 ghost use Rattle.dagcbor_heads.specs.Inputs.{input_reading, OverInput};
 ghost use Rattle.dagcbor_heads.specs.Fronts.{StartsWith};
-ghost use Rattle.dagcbor_heads.specs.Looking.{Looks, LooksSome, LooksBehind};
+ghost use Rattle.dagcbor_heads.specs.Looking.{Looks, LooksSome, LooksBehind, LooksAtTaken};
 ghost use Rattle.dagcbor_items.specs.Untyped.{ReadsItem, PutsItem, PutsEnteredItem};
-ghost use Rattle.dagcbor_items.specs.Untyped.{ReadsList, ReadsMap, StartsWithMajor};
+ghost use Rattle.dagcbor_items.specs.Untyped.{ReadsList, ReadsMap, StartsWithMajor, TakesItem};
+ghost use Rattle.ipld_tree.specs.Tree.{integer};
 ghost use Rattle.dagcbor_items.specs.Items.{ReadsItems};
 ghost use Rattle.dagcbor_items.specs.Entries.{ReadsEntries};
 ghost use Rattle.dagcbor_items.specs.AnsweredVariants.{OfItem};
@@ -132,6 +133,12 @@ fn read_items<R: Read>(
         if take_first_room(&mut items, count).is_err() {
             return Err(DecodeError::OutOfMemory);
         }
+        if let Some(number) = take_number(input) {
+            if items.push(Ipld::Integer(number)).is_err() {
+                return Err(DecodeError::OutOfMemory);
+            }
+            continue;
+        }
         if items.push(Ipld::Null).is_err() {
             return Err(DecodeError::OutOfMemory);
         }
@@ -139,6 +146,33 @@ fn read_items<R: Read>(
         read_into(alloc, input, &mut items[last])?;
     }
     Ok(items)
+}
+
+/// Takes an integer, where the input is a slice that has all of it. It may take nothing.
+#[inline(always)]
+fn take_number<R: Read>(input: &mut Input<'_, R>) -> Option<i128>
+    ensures taken { MatchOption result
+        (input_reading R.reading input.new ≡ input_reading R.reading input.old)
+        (λ n. TakesItem 0 (input_reading R.reading input.old) (integer n)
+        (input_reading R.reading input.new)) }
+    ensures looked { IfSome result
+        (λ _. LooksAtTaken 3 0 (input_reading R.reading input.old)
+        (input_reading R.reading input.new)) }
+{
+    let first = *input.rest()?.first()?;
+    if first / 32 > 1 || !input.step_in() {
+        return None;
+    }
+    match take_integer(input, first) {
+        Some(number) => {
+            input.step_out();
+            Some(number)
+        }
+        None => {
+            input.step_out();
+            None
+        }
+    }
 }
 
 /// The room that a vector of items takes at first.

@@ -313,17 +313,8 @@ fn stop_at_item(bytes: &[u8], steps: usize, stop: &mut Stop)
     *stop = Stop { cause, behind };
 }
 
-/// The bytes behind the item at the front, where one stands that takes no more than these steps. Each
-/// takes stack, so they are no more than those of a reader.
-pub fn behind_item(bytes: &[u8], steps: usize) -> Option<&[u8]>
-    requires { steps ≤ 1024 }
-    ensures { GivesRest (λ rest. rest.now) (SplitsItem bytes.now steps) result }
-{
-    judge_item(bytes, steps, &mut Stop::new())
-}
-
 /// The bytes behind the item at the front, where one stands that takes no more than these steps,
-/// and else why not, and where.
+/// and else why not, and where. Each step takes stack, so they are no more than those of a reader.
 #[cycle(judge)]
 #[inline(always)]
 pub(crate) fn judge_item<'b>(bytes: &'b [u8], steps: usize, stop: &mut Stop) -> Option<&'b [u8]>

@@ -165,9 +165,30 @@ pub fn no_key<E>(payload: &[u8]) -> DecodeError<E>
 }
 
 /// A key, lent where the input lends.
-#[tactic(auto, using(crate::proofs::PartRefusals::text_key))]
 #[inline(always)]
 pub fn read_key<'de, R: Read>(
+    alloc: Global,
+    input: &mut Input<'de, R>,
+    previous: &Option<CowStr<'de>>,
+) -> ReadResult<CowStr<'de>, R>
+    ensures key { OverInput R.reading
+        (ReadsKey (option_map cow_str_bytes previous.now)) input.old result input.new }
+    ensures lent { IfOk result
+        (λ k. IsBorrowedStr k ↔ ((input_reading R.reading input.old).lends ≡ true)) }
+    ensures looked { OverInput R.reading (Looks 3) input.old result input.new }
+    ensures variant { IfErr result OfKey }
+{
+    match take_key(input, previous) {
+        Some(Ok(key)) => Ok(CowStr::Borrowed(key)),
+        Some(Err(payload)) => Err(no_key(payload)),
+        None => read_key_slowly(alloc, input, previous),
+    }
+}
+
+/// The same, where no slice has all of the text.
+#[tactic(auto, using(crate::proofs::PartRefusals::text_key))]
+#[inline(always)]
+fn read_key_slowly<'de, R: Read>(
     alloc: Global,
     input: &mut Input<'de, R>,
     previous: &Option<CowStr<'de>>,

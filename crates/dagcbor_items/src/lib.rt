@@ -27,7 +27,7 @@ mod utf8;
 mod walk;
 
 pub use any::read_any;
-pub use judge::{behind_item, behind_link};
+pub use judge::behind_link;
 pub use key::{no_key, read_key, take_key, take_name};
 pub use kind::{Kind, kind_at};
 pub use link::{pull_link, take_link};

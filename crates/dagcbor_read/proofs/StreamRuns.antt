@@ -13,7 +13,8 @@ use Rattle.dagcbor_read.specs.Streams.{StreamState, SomeLeft, AreSome, ReadsNext
 use Rattle.dagcbor_read.specs.Whole.{IsFirst, BeginsWithNoValue}
 use Rattle.dagcbor_read.proofs.Progressing.{match_true, match_false, call_answered, call_told}
 use Rattle.dagcbor_items.proofs.Fronts.{shorter}
-use Rattle.dagcbor_read.proofs.Streaming.{goes_on, same_value, no_value_of_none, some_of_none}
+use Rattle.dagcbor_items.proofs.Progress.{goes_on}
+use Rattle.dagcbor_read.proofs.Streaming.{same_value, no_value_of_none, some_of_none}
 use Rattle.dagcbor_items.specs.Shapes.{Shape}
 
 -- ---- what came, against the bytes

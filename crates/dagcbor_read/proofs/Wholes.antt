@@ -1,6 +1,6 @@
 -- Reading a whole input as a value.
 use Rattle.std.proofs.Common.{◌≡◌, ℕ, ◌<◌, ◌≤◌, ◌++◌, Option, Bool, true, false, List, [], length, inl, inr, refl, sym, ap, subst, ◌∙◌, arith, append-nil}
-use Rattle.std.specs.Prelude.{◌⊎◌, None, Some, IfSome, IfOk, IfErr, IsErrAnd, Result, Ok, Err, MatchResult, is_some}
+use Rattle.std.specs.Prelude.{◌⊎◌, None, Some, IfSome, IfOk, IfErr, IsErrAnd, Result, Ok, Err, MatchResult, is_err, is_some}
 use Rattle.std.specs.declared.convert.Infallible.{Infallible}
 use Rattle.dagcbor_heads.specs.Reading.{Reading, Stays}
 use Rattle.dagcbor_heads.specs.Fronts.{ShowsByte}
@@ -26,6 +26,26 @@ on_refusal Q (Err y) e h q = subst Q (sym h) q
 pub not_answered : {T E : Type 0} (P : T → Type 0) (r : Result T (DecodeError E)) (e : DecodeError E) → IsErrAnd r (λ y. y ≡ e) → IfOk r P
 not_answered P (Ok v) e h = absurd h
 not_answered P (Err y) e h = tt
+
+-- a result that is tested, and handed on as it is
+pub the_refusal : {T E : Type 0} (r : Result T E) → true ≡ is_err r → (e : E) × (r ≡ Err e)
+the_refusal (Ok v) is = cc
+the_refusal (Err e) is = (e, refl)
+
+pub the_answer : {T E : Type 0} (r : Result T E) → false ≡ is_err r → (v : T) × (r ≡ Ok v)
+the_answer (Ok v) is = (v, refl)
+the_answer (Err e) is = cc
+
+pub is_the_refusal : {T E : Type 0} (r : Result T E) (e : E) → r ≡ Err e → IsErrAnd r (λ y. y ≡ e)
+is_the_refusal (Ok v) e is = cc
+is_the_refusal (Err y) e is = cc
+
+pub on_the_answer : {T E : Type 0} (P : T → Type 0) (r : Result T E) (v : T) → r ≡ Ok v → P v → IfOk r P
+on_the_answer {T} {E} P r v is p = let Q : Result T E → Type 0 = λ x. IfOk x P in subst Q (sym is) p
+
+pub no_refusal : {T E : Type 0} (Q : E → Type 0) (r : Result T E) → false ≡ is_err r → IfErr r Q
+no_refusal Q (Ok v) is = tt
+no_refusal Q (Err e) is = cc
 
 -- what follows of a refusal
 follows : {T E : Type 0} (P Q : DecodeError E → Type 0) → ((e : DecodeError E) → P e → Q e) → (r : Result T (DecodeError E)) → IfErr r P → IfErr r Q

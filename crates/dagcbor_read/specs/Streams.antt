@@ -2,7 +2,7 @@
 use Rattle.std.specs.Prelude.{◌≡◌, ◌≢◌, ℕ, ◌+◌, ◌<◌, ◌≤◌, ◌⊎◌, Bool, true, false, List, [], ◌∷◌}
 use Rattle.std.specs.Prelude.{length, map, Option, None, Some, Result, Ok, Err, is_err, MatchBool}
 use Rattle.std.specs.Prelude.{MatchOption, MatchResult, IfSome, IfOk, ⊤}
-use Rattle.std.specs.Iterator.{Count, at_most, endless, DrainsIf}
+use Rattle.std.specs.Iterator.{Count, DrainsIf}
 use Rattle.dagcbor_heads.specs.Reading.{Reading}
 use Rattle.dagcbor_heads.specs.Fronts.{FindsEnd}
 use Rattle.dagcbor_heads.specs.Refusals.{Refuses}
@@ -11,6 +11,7 @@ use Rattle.dagcbor_heads.specs.declared.error.DecodeError.TheVariants.{Read, Req
 use Rattle.dagcbor_heads.specs.declared.error.DecodeError.TheVariants.{OutOfMemory, Failed}
 use Rattle.ipld_tree.specs.Tree.{Tree}
 use Rattle.dagcbor_read.specs.Deserializers.{DeState, de_state, Call}
+use Rattle.dagcbor_items.specs.ItemsLeft.{items_left_of}
 use Rattle.dagcbor_items.specs.TypedReads.{HasFront, TakesFront, MayLack}
 use Rattle.dagcbor_read.specs.declared.stream.StreamDeserializer.{StreamDeserializer}
 use Rattle.dagcbor_items.specs.Shapes.{Shape}
@@ -96,13 +97,6 @@ GivesNext meaning shape old item new = MatchBool old.done
 abbrev pub LiesNext : {T E : Type 0} → (Bool → T → Type 0) → StreamState
     → Option (Result T (DecodeError E)) → Type 0
 LiesNext lies old item = IfSome item (λ r. IfOk r (lies old.source.input.lends))
-
--- Where n bytes are left, at most n + 1 items come; where the source does not tell its bytes,
--- nothing is said.
-abbrev pub items_left_of : Bool → Option (List ℕ) → Count
-items_left_of true left = at_most 0
-items_left_of false None = endless
-items_left_of false (Some b) = at_most (length b + 1)
 
 -- how many items may still come
 abbrev pub items_left : StreamState → Count

@@ -147,10 +147,12 @@ impl<'de, R: Read> Deserializer<'de, R> {
             (de_state R.reading self.new).input }
         ensures variant { IfErr result OfItem }
     {
-        self.begin()?;
-        let value = read_any(alloc, &mut self.input)?;
-        self.failed = false;
-        Ok(value)
+        if self.failed {
+            return Err(DecodeError::Failed);
+        }
+        let result = read_any(alloc, &mut self.input);
+        self.failed = result.is_err();
+        result
     }
 
     /// Reads a link, and takes no memory.

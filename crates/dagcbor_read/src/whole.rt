@@ -59,7 +59,10 @@ pub fn from_slice_with_depth<'a, T: Deserialize<'a>>(
     ensures lies { IfOk result (T.lies true) }
 {
     let mut de = Deserializer::from_slice_reader(SliceReader::with_depth(bytes, steps));
-    let value = T::deserialize(alloc, &mut de)?;
+    let result = T::deserialize(alloc, &mut de);
+    if result.is_err() {
+        return result;
+    }
     de.end()?;
-    Ok(value)
+    result
 }

@@ -1,15 +1,12 @@
 //! A field that a map may lack.
 
-ghost use Rattle.std.specs.Prelude.{◌≡◌, false, Option, None, option_map, IfErr};
-ghost use Rattle.serde_ipld_dagcbor.specs.Deserializers.{de_state, Stops, Over};
-ghost use Rattle.serde_ipld_dagcbor.specs.Values.{ReadsValue};
-ghost use Rattle.serde_ipld_dagcbor.specs.Collections.{value_of};
-ghost use Rattle.serde_ipld_dagcbor.specs.Structs.{texts, places};
+ghost use Rattle.std.specs.Prelude.{Option, None, option_map};
+ghost use Rattle.serde_ipld_dagcbor.specs.Structs.{places};
 ghost use Rattle.dagcbor_schema.specs.SchemaFields.{finish_omissible};
 
 use serde_ipld_dagcbor::{
-    Accessor, DecodeError, Deserialize, Deserializer, Fields, Read, ReadResult, read_into,
-    read_named_place,
+    Accessor, DecodeError, Deserialize, Deserializer, Fields, Read, ReadResult, read_named_place,
+    read_place,
 };
 use std::alloc::Global;
 
@@ -17,34 +14,6 @@ use std::alloc::Global;
 /// type, where an `Option` in a row takes it for an absent one.
 #[derive(Debug, Drop)]
 pub struct Omissible<T, L>(pub Option<T>, pub L);
-
-/// The value of the first name goes to the first place, any other to the others.
-fn read_place<'de, T: Deserialize<'de>, L: Fields<'de>, R: Read>(
-    into: &mut (Option<T>, L::Places),
-    alloc: Global,
-    names: &[&str],
-    key: &str,
-    de: &mut Deserializer<'de, R>,
-) -> ReadResult<(), R>
-    requires { (de_state R.reading de.old).failed ≡ false }
-    ensures value { Over R.reading
-        (ReadsValue (λ _. (option_map T.meaning into.new.0, L.state into.new.1))
-        (value_of (places T.shape L.shape (texts names.now))
-        (option_map T.meaning into.old.0, L.state into.old.1) key.now)) de.old result de.new }
-    ensures kept { IfErr result
-        (λ _. ◌≡◌ {A = Option T.View × L.State}
-        (option_map T.meaning into.new.0, L.state into.new.1)
-        (option_map T.meaning into.old.0, L.state into.old.1)) }
-    ensures stops { Over R.reading Stops de.old result de.new }
-{
-    let Some((name, others)) = names.split_first() else {
-        return L::read_field(&mut into.1, alloc, names, key, de);
-    };
-    if key == *name {
-        return read_into(alloc, &mut into.0, de);
-    }
-    L::read_field(&mut into.1, alloc, others, key, de)
-}
 
 impl<'de, T: Deserialize<'de>, L: Fields<'de>> Fields<'de> for Omissible<T, L> {
     type Places = (Option<T>, L::Places);

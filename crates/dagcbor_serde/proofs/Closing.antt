@@ -17,9 +17,10 @@ use Rattle.dagcbor_write.specs.Order.{PutsInOrder, entries_bytes}
 use Rattle.dagcbor_write.proofs.Mapping.{in_order}
 use Rattle.dagcbor_write.proofs.Spelling.{head_is_spelled}
 use Rattle.dagcbor_serde.specs.Building.{Level, whole, in_list, in_map, in_link, rests, for_key, for_value, for_map, State, state, begin, begin_map, close, list_of, close_map, finished, only_item}
-use Rattle.dagcbor_serde.specs.Holds.{IsGood, Holds, HoldsEntries, PutsEntries, PutsEach, AreInOrder, IsWithin, entry_at, whole_at, Opens, HoldsAll, Part, part, StepsBy, Lands, Begins}
+use Rattle.dagcbor_serde.specs.Holds.{IsGood, Holds, HoldsEntries, PutsEntries, PutsEach, AreInOrder, whole_at, Opens, HoldsAll, Part, part, StepsBy, Lands, Begins}
+use Rattle.dagcbor_write.specs.Spans.{IsWithin, entry_at}
 use Rattle.dagcbor_serde.specs.declared.frame.Frame.{Frame}
-use Rattle.dagcbor_serde.specs.declared.frame.Span.{Span}
+use Rattle.dagcbor_write.specs.declared.collect.gathered.Span.{Span}
 use Rattle.dagcbor_serde.specs.declared.frame.Stage.TheVariants as stage
 use Rattle.dagcbor_serde.specs.declared.sink.Sink.{Sink}
 use Rattle.dagcbor_serde.proofs.AtStages.{at_full, at_list, at_rests, at_map, at_linked}

@@ -10,7 +10,7 @@ use Rattle.dagcbor_heads.specs.Head.{head}
 use Rattle.dagcbor_serde.specs.Building.{Level, State, state, put, put_key, put_unit, put_bytes, as_link, on_top}
 use Rattle.dagcbor_serde.specs.Holds.{IsGood, Holds, Opens, HoldsAll, Part, part, StepsBy, MovesTop, Puts, Lands}
 use Rattle.dagcbor_serde.specs.declared.frame.Frame.{Frame}
-use Rattle.dagcbor_serde.specs.declared.frame.Span.{Span}
+use Rattle.dagcbor_write.specs.declared.collect.gathered.Span.{Span}
 use Rattle.dagcbor_serde.specs.declared.frame.Stage.{Stage}
 use Rattle.dagcbor_serde.specs.declared.frame.Stage.TheVariants as stage
 use Rattle.dagcbor_serde.specs.declared.sink.Sink.{Sink}

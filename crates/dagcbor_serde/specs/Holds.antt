@@ -7,6 +7,8 @@ use Rattle.std.specs.List.Sorted.{IsSortedBy}
 use Rattle.serde.specs.Event.{Log}
 use Rattle.ipld_tree.specs.Tree.{Tree, text, link, IsTree, AreItems, items_of}
 use Rattle.ipld_tree.specs.Spelled.{spelled, spelled_items}
+use Rattle.dagcbor_write.specs.declared.collect.gathered.Span.{Span}
+use Rattle.dagcbor_write.specs.Spans.{entry_at, IsWithin}
 use Rattle.dagcbor_write.specs.Trees.{Pair}
 use Rattle.dagcbor_write.specs.Maps.{Texts, AreSpellingsOf}
 use Rattle.dagcbor_write.specs.Order.{PutsInOrder, KeysDiffer, goes_before, entries_bytes}
@@ -14,7 +16,6 @@ use Rattle.dagcbor_serde.specs.Building.{Wait, rests, for_key, for_value, for_ma
 use Rattle.dagcbor_serde.specs.Building.{in_map, in_link, State, put, put_key, on_top, steps, start}
 use Rattle.dagcbor_serde.specs.Building.{events_tree}
 use Rattle.dagcbor_serde.specs.declared.frame.Frame.{Frame}
-use Rattle.dagcbor_serde.specs.declared.frame.Span.{Span}
 use Rattle.dagcbor_serde.specs.declared.frame.Stage.{Stage}
 use Rattle.dagcbor_serde.specs.declared.frame.Stage.TheVariants as stage
 use Rattle.dagcbor_serde.specs.declared.sink.Sink.{Sink}
@@ -25,17 +26,9 @@ IsGood t b = (spelled t ≡ Some b) × IsTree t
 
 -- ---- entries
 
--- the key and the value that stand there
-abbrev pub entry_at : List ℕ → Span → Texts
-entry_at b s = (slice_range b s.start s.key_end, slice_range b s.key_end s.end)
-
--- both
+-- the key and the value that stand there, one behind the other
 abbrev pub whole_at : List ℕ → Span → List ℕ
 whole_at b s = slice_range b s.start s.end
-
--- the places are in order, and the last lies within n bytes
-abbrev pub IsWithin : ℕ → Span → Type 0
-IsWithin n s = (s.start ≤ s.key_end) × (s.key_end ≤ s.end) × (s.end ≤ n)
 
 -- the entries stand in the order of their bytes, and no key is that of the one before it
 abbrev pub AreInOrder : List Texts → Type 0

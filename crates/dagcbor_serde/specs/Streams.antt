@@ -1,12 +1,13 @@
 -- Streams: values one behind the other.
 use Rattle.std.specs.Prelude.{◌≡◌, ℕ, ◌+◌, Bool, true, false, List, length, Option, None, Some}
 use Rattle.std.specs.Prelude.{Result, Ok, Err, is_err, MatchBool}
-use Rattle.std.specs.Iterator.{Count, at_most, endless}
+use Rattle.std.specs.Iterator.{Count}
 use Rattle.dagcbor_heads.specs.Reading.{Reading}
 use Rattle.dagcbor_heads.specs.Fronts.{FindsEnd}
 use Rattle.dagcbor_heads.specs.Inputs.{input_reading}
 use Rattle.dagcbor_heads.specs.Refusals.{RefusesOrLacksMemory}
 use Rattle.ipld_tree.specs.Tree.{Tree}
+use Rattle.dagcbor_items.specs.ItemsLeft.{items_left_of}
 use Rattle.dagcbor_items.specs.ItemCauses.{CauseInside}
 use Rattle.dagcbor_items.specs.Untyped.{TakesItem, HasItem}
 use Rattle.dagcbor_serde.specs.declared.error.Error.{Error}
@@ -43,13 +44,6 @@ abbrev pub GivesNext : {T E : Type 0} → StreamState → Option (Result T (Erro
 GivesNext old item new = MatchBool old.done
     ((item ≡ None) × (new ≡ old))
     ((new.done ≡ is_last item) × ReadsNext old.reading item new.reading)
-
--- Where n bytes are left, at most n + 1 items come; where the source does not tell its bytes,
--- nothing is said.
-abbrev pub items_left_of : Bool → Option (List ℕ) → Count
-items_left_of true left = at_most 0
-items_left_of false None = endless
-items_left_of false (Some b) = at_most (length b + 1)
 
 -- how many items may still come
 abbrev pub items_left : StreamState → Count

@@ -4,11 +4,13 @@ ghost use Rattle.std.specs.Prelude.{◌≡◌, ◌<◌, ◌++◌, length, map, I
 ghost use Rattle.std.specs.List.{All, slice_range, flat_map};
 ghost use Rattle.dagcbor_write.specs.Maps.{Texts};
 ghost use Rattle.dagcbor_write.specs.Order.{KeysDiffer, PutsInOrder};
-ghost use Rattle.dagcbor_serde.specs.Holds.{IsWithin, entry_at, whole_at, AreInOrder};
+ghost use Rattle.dagcbor_serde.specs.Holds.{whole_at, AreInOrder};
+ghost use Rattle.dagcbor_write.specs.Spans.{IsWithin, entry_at};
 ghost use Rattle.dagcbor_serde.specs.Refusing.{LacksMemory};
 
 use crate::error::Refusal;
-use crate::frame::{Span, push};
+use crate::frame::push;
+use dagcbor_write::Span;
 
 /// The bytes of a range, as far as it lies within them.
 #[inline(always)]

@@ -30,14 +30,6 @@ pub(crate) enum Stage {
     Linked,
 }
 
-/// Where an entry stands: its key from `start` to `key_end`, its value from there to `end`.
-#[derive(Clone, Copy, Drop)]
-pub(crate) struct Span {
-    pub(crate) start: usize,
-    pub(crate) key_end: usize,
-    pub(crate) end: usize,
-}
-
 /// What is open. Its bytes stand behind those of what is around it, and its entries behind theirs.
 #[derive(Clone, Copy, Drop)]
 pub(crate) struct Frame {

@@ -16,8 +16,9 @@ ghost use Rattle.dagcbor_serde.specs.Refusing.{LacksMemory, CidRefused, BytesRef
 use crate::entries::{are_in_order, push_entries, put_in_order};
 use crate::error::Refusal;
 use crate::frame::{
-    Frame, Span, Stage, append, append_head, append_link, misplaced, replace_behind, set_head,
+    Frame, Stage, append, append_head, append_link, misplaced, replace_behind, set_head,
 };
+use dagcbor_write::Span;
 use ipld_tree::Cid;
 use serde::{Case, NameKind};
 use std::alloc::Global;

@@ -17,11 +17,6 @@ all_there : {A : Type 0} (f : A → Tree) (xs : List A) → all_some (map (λ x.
 all_there f [] = refl
 all_there f (x ∷ xs) = ap (option_map (λ more. f x ∷ more)) (all_there f xs)
 
-pub bool_kind : (j : Ipld) (b : Bool) → j ≡ Bool' b → Some (boolean b) ≡ Some (tree_of j)
-bool_kind j b is =
-    let shown : tree_of (Bool' b) ≡ boolean b = search (rules, the_lemmas) in
-    ap Some (sym shown ∙ ap tree_of (sym is))
-
 pub list_kind : (j : Ipld) (v : Vec Ipld Global) → j ≡ List' v → list_tree (map (λ x. Some (tree_of x)) v.items) ≡ Some (tree_of j)
 list_kind j v is = ap (option_map (λ found. list (items_of found))) (all_there tree_of v.items) ∙ ap Some (sym (tree_of_List v) ∙ ap tree_of (sym is))
 

@@ -16,11 +16,11 @@ use Rattle.dagcbor_write.specs.Each.{AreTrees}
 use Rattle.dagcbor_write.specs.Keyed.{JoinsKeyed, key_goes_before, PutsKeysInOrder, spelled_keyed, value_trees}
 use Rattle.dagcbor_write.specs.Maps.{spelled_key}
 use Rattle.dagcbor_write.specs.Pairwise.{Pairwise}
-use Rattle.dagcbor_write.specs.Rows.{spelled_pairs, ArePairs, KeysRise}
+use Rattle.dagcbor_write.specs.Rows.{spelled_pairs, ArePairs, KeysRise, Rises}
 use Rattle.dagcbor_write.specs.Trees.{Pair}
 use Rattle.dagcbor_write.proofs.Lists.{AreTrees_next}
 use Rattle.dagcbor_write.proofs.Parts.{part_opened, parts_ended}
-use Rattle.dagcbor_write.proofs.Mapping.{pairwise_length, beside, follows, Rises, row_map, BeginsWithName, clash, repeats, tree_of}
+use Rattle.dagcbor_write.proofs.Mapping.{pairwise_length, beside, follows, row_map, BeginsWithName, clash, repeats, tree_of}
 use Rattle.dagcbor_write.proofs.Walks.{Named, IsNamed, names_given, same_map}
 
 -- the entry is the pair, whose key is spelled

@@ -16,3 +16,4 @@ pub mod Walks
 pub mod KeyOrder
 pub mod MapMessages
 pub mod PlaceOrder
+pub mod Texts

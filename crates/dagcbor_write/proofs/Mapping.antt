@@ -24,7 +24,7 @@ use Rattle.dagcbor_write.specs.Pairwise.{Pairwise}
 use Rattle.dagcbor_write.proofs.Lists.{OnOk_of}
 use Rattle.dagcbor_write.specs.Trees.{Pair}
 use Rattle.dagcbor_write.specs.Gathering.{AppendsTo}
-use Rattle.dagcbor_write.specs.Rows.{spelled_pairs, ArePairs, KeysRise}
+use Rattle.dagcbor_write.specs.Rows.{spelled_pairs, ArePairs, KeysRise, Rises}
 use Rattle.dagcbor_write.specs.Maps.{Texts, spelled_key, AreSpellingsOf, entries_text, map_rest, RepeatsKey}
 use Rattle.dagcbor_write.specs.Order.{head_rest, entries_bytes, goes_before, PutsInOrder}
 
@@ -192,11 +192,6 @@ in_order out ps es fs h o =
     record { text = text_by out ps moved.0 fs is moved.2; good = subst P (sym as_ordered) (are_entries given.0 sorted.0 (good_pairs given.0 es given.2)) }
 
 -- ---- a row of pairs whose keys rise
-
--- each key stands behind the one before it, in key order
-abbrev pub Rises : List Pair → Type 0
-Rises [] = ⊤
-Rises (p ∷ ps) = IsSomeAnd (option_and_then key_of p.0) (λ k. KeysRise k ps)
 
 rises_behind : (last : List ℕ) (ps : List Pair) → KeysRise last ps → Rises ps
 rises_behind last [] r = tt

@@ -28,7 +28,7 @@ use Rattle.dagcbor_write.proofs.Walks.{same_map}
 
 -- ---- a loop over places
 
-begins : {A : Type 0} (xs : List A) (i : ℕ) (d : A) → i < length xs
+pub begins : {A : Type 0} (xs : List A) (i : ℕ) (d : A) → i < length xs
     → drop i xs ≡ get_or xs i d ∷ drop (i + 1) xs
 begins xs i d h = rw add-one (drop-cons xs i d h)
 
@@ -51,7 +51,7 @@ pub no_name : (es : List Place) (i : ℕ) (last : List ℕ) → length es ≤ i
     → names_rise last (drop i es) ≡ true
 no_name es i last h = ap (names_rise last) (drop_of_length-le es h)
 
-pairs_joined : (ps : List Pair) → spelled_pairs ps ≡ join_parts (map spelled_pair ps)
+pub pairs_joined : (ps : List Pair) → spelled_pairs ps ≡ join_parts (map spelled_pair ps)
 pairs_joined [] = refl
 pairs_joined (p ∷ ps) =
     ap (λ x. spelled_key p.0 ++? (spelled_tree p.1 ++? x)) (pairs_joined ps)
@@ -152,7 +152,7 @@ both_true : (a b : Bool) → a && b ≡ true → (a ≡ true) × (b ≡ true)
 both_true true b e = (refl, e)
 both_true false b e = cc
 
-is_less : (o : Ordering) → is_lt o ≡ true → o ≡ Less
+pub is_less : (o : Ordering) → is_lt o ≡ true → o ≡ Less
 is_less Less e = refl
 is_less Equal e = cc
 is_less Greater e = cc

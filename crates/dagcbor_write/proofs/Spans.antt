@@ -33,15 +33,15 @@ pub behind : (o : Option (List ℕ)) (old new : List ℕ) → AppendsTo old new 
 behind None old new h = absurd h
 behind (Some t) old new h = ap Some (sym (drop-append_seam old t) ∙ ap (drop (length old)) (sym h))
 
-range_stays : (bs more : List ℕ) (a b : ℕ) → a ≤ b → b ≤ length bs → slice_range (bs ++ more) a b ≡ slice_range bs a b
+pub range_stays : (bs more : List ℕ) (a b : ℕ) → a ≤ b → b ≤ length bs → slice_range (bs ++ more) a b ≡ slice_range bs a b
 range_stays bs more a b h k = ap (take (b - a)) (drop-append-le a bs more (omega arith)) ∙ take-append-le (b - a) (drop a bs) more (omega (arith, length-drop a bs))
 
 -- what stands within the bytes stays as it is where they grow
-all_stay : {S X : Type 0} (at : List ℕ → S → X) (Within : ℕ → S → Type 0) (bs more : List ℕ) → ((s : S) → Within (length bs) s → at (bs ++ more) s ≡ at bs s) → (ss : List S) → AllByRecursion (Within (length bs)) ss → map (at (bs ++ more)) ss ≡ map (at bs) ss
+pub all_stay : {S X : Type 0} (at : List ℕ → S → X) (Within : ℕ → S → Type 0) (bs more : List ℕ) → ((s : S) → Within (length bs) s → at (bs ++ more) s ≡ at bs s) → (ss : List S) → AllByRecursion (Within (length bs)) ss → map (at (bs ++ more)) ss ≡ map (at bs) ss
 all_stay at Within bs more stays [] w = refl
 all_stay at Within bs more stays (s ∷ ss) w = ap₂ (λ e es. e ∷ es) (stays s w.0) (all_stay at Within bs more stays ss w.1)
 
-entry_stays : (bs more : List ℕ) (s : Span) → IsWithin (length bs) s → entry_at (bs ++ more) s ≡ entry_at bs s
+pub entry_stays : (bs more : List ℕ) (s : Span) → IsWithin (length bs) s → entry_at (bs ++ more) s ≡ entry_at bs s
 entry_stays bs more s w = ap₂ (λ k v. (k, v)) (range_stays bs more s.start s.key_end w.0 (omega (arith, w))) (range_stays bs more s.key_end s.end w.1 w.2)
 
 -- bytes that are appended leave the entries as they are
@@ -49,7 +49,7 @@ pub entries_kept : (o : Option (List ℕ)) (old new : List ℕ) (ss : List Span)
 entries_kept None old new ss h w = absurd h
 entries_kept (Some t) old new ss h w = ap (λ bs. map (entry_at bs) ss) h ∙ all_stay entry_at IsWithin old t (entry_stays old t) ss (recursion_from_All (IsWithin (length old)) ss w)
 
-last_entry : (old text : List ℕ) (s : Span) → s.start ≤ length old → s.key_end ≡ length old → s.end ≡ length (old ++ text) → entry_at (old ++ text) s ≡ (drop s.start old, text)
+pub last_entry : (old text : List ℕ) (s : Span) → s.start ≤ length old → s.key_end ≡ length old → s.end ≡ length (old ++ text) → entry_at (old ++ text) s ≡ (drop s.start old, text)
 last_entry old text s h k e =
     let key = range_stays old text s.start s.key_end (omega (arith, k)) (omega (arith, k)) ∙ take_all (s.key_end - s.start) (drop s.start old) (omega (arith, k, length-drop s.start old)) in
     let value = ap (λ n. take (s.end - s.key_end) (drop n (old ++ text))) k ∙ ap (take (s.end - s.key_end)) (drop-append_seam old text) ∙ take_all (s.end - s.key_end) text (omega (arith, k, e, length-append old text)) in

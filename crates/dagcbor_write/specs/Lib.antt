@@ -18,4 +18,5 @@ pub mod Rows
 pub mod Lending
 pub mod Bounded
 pub mod Spans
+pub mod Texts
 pub mod Laws

@@ -29,6 +29,11 @@ KeysRise last [] = ⊤
 KeysRise last (p ∷ ps) = IsSomeAnd (option_and_then key_of p.0)
     (λ k. (key_cmp last k ≡ Less) × KeysRise k ps)
 
+-- each key stands behind the one before it, in key order
+abbrev pub Rises : List Pair → Type 0
+Rises [] = ⊤
+Rises (p ∷ ps) = IsSomeAnd (option_and_then key_of p.0) (λ k. KeysRise k ps)
+
 -- ---- places
 
 -- the pair in this place, or one without a key where there is none

@@ -19,7 +19,7 @@ pub struct Place {
 pub type Places = ArrayVec<Place, 16>;
 
 /// The order of two keys: the shorter first, and keys of one length by their bytes.
-fn key_cmp(key: &[u8], other: &[u8]) -> Ordering
+pub(crate) fn key_cmp(key: &[u8], other: &[u8]) -> Ordering
     ensures { result ≡ key_cmp key.now other.now }
 {
     match key.len().cmp(&other.len()) {

@@ -13,7 +13,9 @@ ghost use Rattle.dagcbor_write.specs.Trees.{variant_tree, variant_head};
 
 use crate::serialize::Serialize;
 use arrayvec::ArrayVec;
-use dagcbor_heads::{EncodeError, Write, WriteResult, push_head, push_headed_at_once};
+use dagcbor_heads::{
+    EncodeError, Write, WriteResult, push_head, push_head_at_once, push_headed_at_once,
+};
 use ipld_tree::Cid;
 use std::alloc::Global;
 use std::marker::Model;
@@ -375,6 +377,63 @@ impl<W: Write> Serializer<W> {
     {
         self.push_variant(variant)?;
         self.push_head(major, len)
+    }
+}
+
+/// Leaves, where the writer has room for them; else nothing is appended, and false answered.
+impl<W: Write> Serializer<W> {
+    #[tactic(auto, unfolding(ipld_tree::specs::Spelled::spelled))]
+    pub(crate) fn null_at_once(&mut self) -> bool
+        ensures { WritesAtOnce (spelled null) (W.written self.old) (W.written self.new) result }
+    {
+        self.writer.push_at_once(&[0xf6], &[])
+    }
+
+    #[tactic(auto, unfolding(ipld_tree::specs::Spelled::spelled))]
+    pub(crate) fn bool_at_once(&mut self, v: bool) -> bool
+        ensures { WritesAtOnce (spelled (boolean v))
+            (W.written self.old) (W.written self.new) result }
+    {
+        self.writer
+            .push_at_once(&[if v { 0xf5 } else { 0xf4 }], &[])
+    }
+
+    #[tactic(auto, unfolding(ipld_tree::specs::Spelled::spelled))]
+    pub(crate) fn integer_at_once(&mut self, v: i128) -> bool
+        ensures { WritesAtOnce (spelled (integer v))
+            (W.written self.old) (W.written self.new) result }
+    {
+        let (major, magnitude) = if v < 0 { (1, -1 - v) } else { (0, v) };
+        match u64::try_from(magnitude) {
+            Ok(argument) => push_head_at_once(&mut self.writer, major, argument),
+            Err(_) => false,
+        }
+    }
+
+    #[tactic(auto, unfolding(ipld_tree::specs::Spelled::spelled))]
+    pub(crate) fn str_at_once(&mut self, v: &str) -> bool
+        ensures { WritesAtOnce (spelled (text v.now))
+            (W.written self.old) (W.written self.new) result }
+    {
+        counted_at_once(&mut self.writer, 3, v.as_bytes())
+    }
+
+    #[tactic(auto, unfolding(ipld_tree::specs::Spelled::spelled))]
+    pub(crate) fn bytes_at_once(&mut self, v: &[u8]) -> bool
+        ensures { WritesAtOnce (spelled (bytes v.now))
+            (W.written self.old) (W.written self.new) result }
+    {
+        counted_at_once(&mut self.writer, 2, v)
+    }
+
+    pub(crate) fn cid_at_once(&mut self, cid: &Cid) -> bool
+        ensures written { WritesAtOnce (spelled (link (cid_bytes cid.now)))
+            (W.written self.old) (W.written self.new) result }
+        ensures well_formed { IsTree (link (cid_bytes cid.now)) }
+    {
+        let mut bytes = ArrayVec::new();
+        cid.write_bytes(&mut bytes);
+        link_at_once(&mut self.writer, &bytes)
     }
 }
 

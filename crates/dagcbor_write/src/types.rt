@@ -5,3 +5,4 @@ pub(crate) mod holders;
 pub(crate) mod leaves;
 pub(crate) mod lists;
 pub(crate) mod maps;
+pub(crate) mod texts;

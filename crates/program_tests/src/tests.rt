@@ -1,4 +1,5 @@
 mod calls;
 mod dagcar;
 mod dagcbor;
+mod found;
 mod make;

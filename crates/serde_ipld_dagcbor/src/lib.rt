@@ -30,7 +30,7 @@ pub use dagcbor_read::{
     Accessor, Deserialize, DeserializeOwned, Deserializer, EnumAccessor, Fields, IgnoredAny,
     Required, Shown, StreamDeserializer, Variants, from_reader, from_reader_once, from_slice,
     from_slice_owned, from_slice_with_depth, iter_from_reader, read_enum, read_fields, read_into,
-    read_named_place, read_struct, read_struct_variant, skip_value,
+    read_named_place, read_place, read_struct, read_struct_variant, skip_value,
 };
 pub use dagcbor_write::{
     BoundedCollect, CollectMap, CollectSeq, Field, FieldRow, Optional, Serialize, Serializer,

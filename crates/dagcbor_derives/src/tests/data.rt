@@ -1,8 +1,9 @@
 //! Any data in fields, and the data of another format.
 
-use super::{CID, agree, goes_both_ways, is_refused, is_told, link, text};
+use super::{CID, goes_both_ways, is_refused, link, text};
 use crate::types::{Envelope, Inner, Shared};
 use dagcbor_serde::{Any, Link, from_slice_owned, to_vec};
+use dagcbor_testing::{agree, is_told};
 use ipld_tree::{Cid, Ipld};
 use serde_json::Value;
 use std::collections::BTreeMap;

@@ -1,48 +1,17 @@
 //! Values to devices and from sources.
 
-use super::{RECORD, agree, is_told, link, text};
+use super::{RECORD, link, text};
 use crate::types::Record;
 use dagcbor_heads::{DecodeError, EncodeError};
 use dagcbor_serde::{
     DeviceError, Error, Link, WriteError, block_from_reader, block_from_reader_once, from_reader,
     from_reader_once, to_vec, to_writer,
 };
+use dagcbor_testing::{Source, agree, is_told};
 use std::alloc::Global;
 use std::io;
-use std::io::{BufRead, ErrorKind};
+use std::io::ErrorKind;
 use std::test::Fail;
-
-/// Shows one byte a fill, and faults once where so many bytes are left.
-#[derive(Drop)]
-struct Source<'a> {
-    rest: &'a [u8],
-    fault: Option<usize>,
-}
-
-impl io::Read for Source<'_> {
-    fn read(&mut self, buf: &mut [u8]) -> io::Result<usize> {
-        let count = self.rest.len().min(buf.len());
-        buf[..count].copy_from_slice(&self.rest[..count]);
-        self.rest = &self.rest[count..];
-        Ok(count)
-    }
-}
-
-impl BufRead for Source<'_> {
-    fn fill_buf(&mut self) -> io::Result<&[u8]> {
-        if self.fault == Some(self.rest.len()) {
-            self.fault = None;
-            return Err(io::Error::from(ErrorKind::ConnectionReset));
-        }
-        let count = self.rest.len().min(1);
-        Ok(&self.rest[..count])
-    }
-
-    fn consume(&mut self, amount: usize) {
-        let count = self.rest.len().min(amount);
-        self.rest = &self.rest[count..];
-    }
-}
 
 /// Takes three bytes a call, and no more than so many.
 #[derive(Drop)]
@@ -103,11 +72,7 @@ fn devices_have_a_beginning(rt: HostRuntime) -> Result<(), Fail> {
 #[test]
 fn sources_are_read(rt: HostRuntime) -> Result<(), Fail> {
     let alloc = rt.alloc();
-    let source = Source {
-        rest: RECORD,
-        fault: None,
-    };
-    let read: Record = from_reader(alloc, source)?;
+    let read: Record = from_reader(alloc, Source::new(RECORD, 1))?;
     agree(to_vec(alloc, &read)?.as_slice(), RECORD)?;
     agree(block_from_reader(alloc, RECORD)?.as_slice(), RECORD)?;
     let mut three = b"\x07\xd8\x2a\x45\x00\x01\x55\x00\x00\x61t".as_slice();
@@ -124,13 +89,9 @@ fn sources_are_read(rt: HostRuntime) -> Result<(), Fail> {
 fn sources_are_refused(rt: HostRuntime) -> Result<(), Fail> {
     let alloc = rt.alloc();
     for left in 0..RECORD.len() + 1 {
-        let source = Source {
-            rest: RECORD,
-            fault: Some(left),
-        };
-        match from_reader::<Record, _>(alloc, source) {
+        match from_reader::<Record, _>(alloc, Source::interrupted(RECORD, left)) {
             Err(Error::NoBlock(DecodeError::Read(fault))) => {
-                agree(fault.kind(), ErrorKind::ConnectionReset)?;
+                agree(fault.kind(), ErrorKind::Interrupted)?;
             }
             _ => return Err(Fail::new("no fault of the source")),
         }

@@ -1,13 +1,14 @@
 //! The forms of a derive, with the bytes that serde_ipld_dagcbor 0.7.0 writes of them in Rust, where
 //! docs/DERIVES.md says no other. An encoder apart made them.
 
-use super::{agree, goes_both_ways, is_read, is_refused, is_told, link};
+use super::{goes_both_ways, is_read, is_refused, link};
 use crate::types::Shape;
 use crate::types::forms::{
     Adjacent, BytesAlone, Cased, Even, Flat, Holders, Level, Metres, Octets, Pinned, Plain, Point,
     Renamed, Side, Tagged, Unit, Wrapper,
 };
 use dagcbor_serde::{ByteBuf, from_slice_owned, to_vec};
+use dagcbor_testing::{agree, is_told};
 use std::alloc::Global;
 use std::collections::{BTreeMap, BTreeSet};
 use std::test::Fail;

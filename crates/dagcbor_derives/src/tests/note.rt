@@ -1,7 +1,8 @@
 //! The first example of the README, word for word: a type that derives.
 
-use super::{agree, is_refused};
+use super::is_refused;
 use dagcbor_serde::{from_slice, to_vec};
+use dagcbor_testing::agree;
 use serde::{Deserialize, Serialize};
 use std::test::Fail;
 

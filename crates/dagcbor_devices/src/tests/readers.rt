@@ -1,12 +1,11 @@
 //! Bytes, heads and payloads through buffered sources.
 
-use crate::tests::failing::Source;
 use arrayvec::ArrayVec;
 use dagcbor_heads::{
     DecodeError, Input, IoReader, IoRefReader, Read, is_at_end, peek_one, pull_head, pull_one,
     pull_payload, pull_short_payload,
 };
-use dagcbor_testing::{agree, is_told};
+use dagcbor_testing::{Source, agree, is_told};
 use std::alloc::Global;
 use std::borrow::CowSlice;
 use std::io;
@@ -43,7 +42,7 @@ fn is_taken(alloc: Global, mut input: Gathering<'_>) -> Result<(), Fail> {
 
 /// Fails where a source that shows so many bytes a fill gives other heads and payloads, or more.
 fn are_gathered(alloc: Global, bytes: &[u8], size: usize) -> Result<(), Fail> {
-    let mut input: Gathering<'_> = Input::Reader(IoReader::new(Source::new(bytes, size, 0)));
+    let mut input: Gathering<'_> = Input::Reader(IoReader::new(Source::new(bytes, size)));
     takes_head(&mut input, "u64", (0, 4_294_967_296, 0x1b))?;
     takes_head(&mut input, "string", (3, 3, 0x63))?;
     takes_payloads(alloc, &mut input)?;
@@ -85,7 +84,7 @@ fn takes<R: Read>(reader: &mut R, wanted: u8) -> Result<(), Fail> {
 
 #[test]
 fn nothing_is_taken_early(_rt: HostRuntime) -> Result<(), Fail> {
-    let mut reader = IoReader::new(Source::new(b"abcd", 100, 0));
+    let mut reader = IoReader::new(Source::new(b"abcd", 100));
     shows(&mut reader, 3, b"abc")?;
     takes(&mut reader, b'a')?;
     looks(&mut reader, b'b')?;
@@ -96,7 +95,7 @@ fn nothing_is_taken_early(_rt: HostRuntime) -> Result<(), Fail> {
 
 #[test]
 fn nothing_is_taken_early_of_a_lent_source(_rt: HostRuntime) -> Result<(), Fail> {
-    let mut source = Source::new(b"abcd", 100, 0);
+    let mut source = Source::new(b"abcd", 100);
     let mut reader = IoRefReader::new(&mut source);
     takes(&mut reader, b'a')?;
     shows(&mut reader, 2, b"bc")?;
@@ -114,7 +113,7 @@ fn fault_of(answer: Result<u8, DecodeError<io::Error>>) -> Option<ErrorKind> {
 
 #[test]
 fn an_interrupted_fill_is_a_fault(_rt: HostRuntime) -> Result<(), Fail> {
-    let mut reader = IoReader::new(Source::new(b"ab", 1, 2));
+    let mut reader = IoReader::new(Source::interrupted_at(b"ab", 2));
     takes(&mut reader, b'a')?;
     let fault = fault_of(pull_one("any", &mut reader));
     agree(fault, Some(ErrorKind::Interrupted))?;
@@ -124,7 +123,7 @@ fn an_interrupted_fill_is_a_fault(_rt: HostRuntime) -> Result<(), Fail> {
 
 #[test]
 fn an_interrupted_fill_of_a_lent_source_is_a_fault(_rt: HostRuntime) -> Result<(), Fail> {
-    let mut source = Source::new(b"ab", 1, 2);
+    let mut source = Source::interrupted_at(b"ab", 2);
     let mut reader = IoRefReader::new(&mut source);
     takes(&mut reader, b'a')?;
     let fault = fault_of(pull_one("any", &mut reader));
@@ -157,7 +156,7 @@ fn has_256_steps<R: Read>(reader: &mut R) -> Result<(), Fail> {
 
 #[test]
 fn steps_are_spent_and_given_back(_rt: HostRuntime) -> Result<(), Fail> {
-    let mut source = Source::new(b"", 1, 0);
+    let mut source = Source::new(b"", 1);
     has_256_steps(&mut IoRefReader::new(&mut source))?;
-    has_256_steps(&mut IoReader::new(Source::new(b"", 1, 0)))
+    has_256_steps(&mut IoReader::new(Source::new(b"", 1)))
 }

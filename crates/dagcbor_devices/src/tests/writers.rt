@@ -1,8 +1,7 @@
 //! Heads onto devices.
 
-use crate::tests::failing::Sink;
 use dagcbor_heads::{EncodeError, IoRefWriter, IoWriter, Write, push_head};
-use dagcbor_testing::agree;
+use dagcbor_testing::{Sink, agree};
 use std::alloc::Global;
 use std::io;
 use std::io::ErrorKind;

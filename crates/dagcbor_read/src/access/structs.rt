@@ -76,8 +76,9 @@ impl<'de> Fields<'de> for () {
     }
 }
 
-/// The value of the first name goes to the first place, any other to the others.
-fn read_place<'de, T: Deserialize<'de>, L: Fields<'de>, R: Read>(
+/// The value of the first name goes to the first place, any other to the others: the `read_field` of
+/// a row that begins with a field of its own.
+pub fn read_place<'de, T: Deserialize<'de>, L: Fields<'de>, R: Read>(
     into: &mut (Option<T>, L::Places),
     alloc: Global,
     names: &[&str],

@@ -24,11 +24,11 @@ pub(crate) const NO_TEXT: &str = "Map keys must be strings";
 pub(crate) const BAD_VALUE: &str = "Struct value cannot be serialized.";
 
 /// Where an entry stands: its key from `start` to `key_end`, its value from there to `end`.
-#[derive(Drop)]
+#[derive(Clone, Copy, Drop)]
 pub struct Span {
-    start: usize,
-    key_end: usize,
-    end: usize,
+    pub start: usize,
+    pub key_end: usize,
+    pub end: usize,
 }
 
 /// The entries that a map was given, encoded in one buffer. A key that waits for its value begins

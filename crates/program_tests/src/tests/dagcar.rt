@@ -185,7 +185,7 @@ fn other_words_are_refused(rt: HostRuntime) -> Result<(), Fail> {
     assert!(rt; written.is_empty());
     assert_eq!(rt;
         told.as_slice(),
-        b"usage: dagcar check|list|name|one|show|make\n".as_slice()
+        b"usage: dagcar check|list|name|one|show|make|get CID|tree CID\n".as_slice()
     );
     Ok(())
 }

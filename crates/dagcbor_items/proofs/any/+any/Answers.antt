@@ -6,10 +6,11 @@ use Rattle.dagcbor_heads.proofs.Looking.{looks_more, looks_then, some_both, some
 use Rattle.dagcbor_items.proofs.Looks.{once_left_more, looks_behind_peek, stepped_left, looks_stepped}
 use Rattle.ipld_tree.specs.Tree.{ordered_entries}
 use Rattle.ipld_tree.specs.Ipld.{tree_of, pairs_of}
+use Rattle.ipld_tree.specs.declared.ipld.Ipld.{the_lemmas}
 use Rattle.dagcbor_items.proofs.Fronts.{byte_refused}
 use Rattle.dagcbor_items.proofs.Leaves.{indefinite_refused}
 use Rattle.dagcbor_items.proofs.Steps.{no_step_left, stepped_refused, more_lacks}
-use Rattle.dagcbor_items.proofs.Lists.{list_refused, list_as_tree, next_refused, one_item_read, map_placed}
+use Rattle.dagcbor_items.proofs.Lists.{list_refused, list_as_tree, next_refused, one_item_read, map_placed, map_pushed, item_taken}
 use Rattle.dagcbor_items.proofs.Maps as maps
 use Rattle.dagcbor_items.proofs.Entering.{enters}
 use Rattle.dagcbor_items.proofs.Pushes.{ordered_push, pushed_as}
@@ -70,19 +71,29 @@ read_map-returns-clause-looked g t c = looks_stepped _ refl (looks_more c.in_ok-
 
 pub read_items-returns-in_err-read_into-clause-items : goal.read_items-returns-in_err-read_into-clause-items
 read_items-returns-in_err-read_into-clause-items g t c =
-    as_refusal _ _ _ _ c.from_residual.ensures.1 (next_refused _ _ _ (omega arith) c.loop-index.invariant.read (λ x. x) c.in_err-read_into.ensures.item)
+    as_refusal _ _ _ _ c.from_residual.ensures.1 (next_refused _ _ _ (omega arith) c.loop-index.invariant.read (λ x. x) (rw c.in_default.ensures.taken at c.in_err-read_into.ensures.item))
+
+pub read_items-loop-index-preserved-in-Some : goal.read_items-loop-index-preserved-in-Some
+read_items-loop-index-preserved-in-Some g t c =
+    let pushed = map_pushed tree_of c.push.result _ _ _ c.if-is_err-2.ensures.value (rw c.take_first_room.ensures at c.push.ensures.items) in
+    record {
+      read = one_item_read _ _ pushed (omega arith) c.loop-index.invariant.read (item_taken _ _ _ _ (search (rules, the_lemmas)) c.in-Some.ensures.taken);
+      looked = some_both c.loop-index.invariant.looked (some_taken c.in-Some.ensures.looked);
+    }
 
 pub read_items-loop-index-preserved : goal.read_items-loop-index-preserved
-read_items-loop-index-preserved g t c = record {
-  read = one_item_read _ _ (map_placed tree_of c.push.result _ _ _ _ _ c.if-is_err-2.ensures.value (rw c.take_first_room.ensures at c.push.ensures.items) (omega (arith, c.len-last.ensures))) (omega arith) c.loop-index.invariant.read c.in_ok-read_into.ensures.item;
-  looked = some_both c.loop-index.invariant.looked (some_taken c.in_ok-read_into.ensures.looked);
-}
+read_items-loop-index-preserved g t c =
+    let placed = map_placed tree_of c.push-in-loop-index.result _ _ _ _ _ c.if-is_err-3.ensures.value (rw c.take_first_room.ensures at c.push-in-loop-index.ensures.items) (omega (arith, c.len-last.ensures)) in
+    record {
+      read = one_item_read _ _ placed (omega arith) c.loop-index.invariant.read (rw c.in_default.ensures.taken at c.in_ok-read_into.ensures.item);
+      looked = some_both c.loop-index.invariant.looked (some_taken (rw c.in_default.ensures.taken at c.in_ok-read_into.ensures.looked));
+    }
 
 pub read_items-loop-index-init : goal.read_items-loop-index-init
 read_items-loop-index-init g t c = record { read = search rules; looked = nothing_looked _ }
 
 pub read_items-returns-in_err-read_into-clause-looked : goal.read_items-returns-in_err-read_into-clause-looked
-read_items-returns-in_err-read_into-clause-looked g t c = as_refusal _ _ _ _ c.from_residual.ensures.1 (some_then c.loop-index.invariant.looked c.in_err-read_into.ensures.looked)
+read_items-returns-in_err-read_into-clause-looked g t c = as_refusal _ _ _ _ c.from_residual.ensures.1 (some_then c.loop-index.invariant.looked (rw c.in_default.ensures.taken at c.in_err-read_into.ensures.looked))
 
 pub read_entries-loop-index-init : goal.read_entries-loop-index-init
 read_entries-loop-index-init g t c = record {

@@ -1,7 +1,7 @@
 use Rattle.std.proofs.Common.{arith, length}
 use Rattle.std.proofs.lemmas.List.{length-map}
-use Rattle.dagcbor_serde.specs.Holds.{entry_at}
-use Rattle.dagcbor_serde.proofs.Spans.{entries_sorted}
+use Rattle.dagcbor_write.specs.Spans.{entry_at}
+use Rattle.dagcbor_write.proofs.Spans.{entries_sorted}
 use Rattle.dagcbor_serde.proofs.entries.are_in_order.Goals as goal
 
 pub returns : goal.returns

@@ -2,8 +2,9 @@ use Rattle.std.proofs.Common.{◌≡◌, ℕ, ◌+◌, ◌<◌, slice_index_or, 
 use Rattle.std.specs.Ordering.{is_lt}
 use Rattle.ipld_tree.specs.Key.{bytes_cmp}
 use Rattle.dagcbor_write.specs.Maps.{Texts}
-use Rattle.dagcbor_serde.specs.Holds.{entry_at, whole_at}
-use Rattle.dagcbor_serde.specs.declared.frame.Span.{Span}
+use Rattle.dagcbor_serde.specs.Holds.{whole_at}
+use Rattle.dagcbor_write.specs.Spans.{entry_at}
+use Rattle.dagcbor_write.specs.declared.collect.gathered.Span.{Span}
 use Rattle.dagcbor_serde.proofs.entries.are_in_order.Given as goal
 
 abbrev pub invariant-loop-i : goal.invariant-loop-i

@@ -1,7 +1,7 @@
 use Rattle.std.proofs.Common.{◌-◌, ◌+◌, ◌≡◌, arith, sym, ◌∙◌}
 use Rattle.std.proofs.lemmas.List.{length-map}
 use Rattle.dagcbor_write.proofs.Spans.{same_bytes}
-use Rattle.dagcbor_serde.specs.Holds.{entry_at}
+use Rattle.dagcbor_write.specs.Spans.{entry_at}
 use Rattle.dagcbor_serde.proofs.entries.keys_differ.Goals as goal
 
 pub returns-then-eq : goal.returns-then-eq

@@ -1,6 +1,6 @@
 use Rattle.std.proofs.Common.{◌≡◌, ℕ, ◌+◌, ◌<◌, slice_index_or, map}
 use Rattle.dagcbor_write.specs.Maps.{Texts}
-use Rattle.dagcbor_serde.specs.Holds.{entry_at}
+use Rattle.dagcbor_write.specs.Spans.{entry_at}
 use Rattle.dagcbor_serde.proofs.entries.keys_differ.Given as goal
 
 abbrev pub invariant-loop-i : goal.invariant-loop-i

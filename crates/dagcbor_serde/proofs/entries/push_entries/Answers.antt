@@ -1,6 +1,6 @@
 use Rattle.std.proofs.Common.{refl, rules, ap, ◌∙◌, ◌++◌}
 use Rattle.dagcbor_serde.specs.Holds.{whole_at}
-use Rattle.dagcbor_serde.specs.declared.frame.Span.{Span}
+use Rattle.dagcbor_write.specs.declared.collect.gathered.Span.{Span}
 use Rattle.dagcbor_serde.proofs.Closing.{pushed_on, all_pushed}
 use Rattle.dagcbor_serde.proofs.entries.push_entries.Goals as goal
 

@@ -3,9 +3,9 @@ use Rattle.std.proofs.lemmas.Cmp.{nat_list_cmp_total}
 use Rattle.std.proofs.lemmas.Fn.{always_returns_same}
 use Rattle.std.proofs.lemmas.List.Sorted.{All-permutation, IsPermutation-map, ranks_by}
 use Rattle.std.specs.List.{slice_range}
-use Rattle.dagcbor_serde.specs.declared.frame.Span.{Span}
-use Rattle.dagcbor_serde.specs.Holds.{IsWithin, entry_at}
-use Rattle.dagcbor_serde.proofs.Spans.{entries_sorted}
+use Rattle.dagcbor_write.specs.declared.collect.gathered.Span.{Span}
+use Rattle.dagcbor_write.specs.Spans.{IsWithin, entry_at}
+use Rattle.dagcbor_write.proofs.Spans.{entries_sorted}
 use Rattle.dagcbor_serde.proofs.entries.put_in_order.Goals as goal
 
 pub returns-clause-within : goal.returns-clause-within

@@ -4,7 +4,7 @@ use Rattle.dagcbor_car.proofs.Within.{longest}
 use Rattle.dagcbor_car.proofs.cid_set.CidSet.+links.Given as goal
 
 abbrev pub invariant-add_all-loop-link : goal.invariant-add_all-loop-link
-invariant-add_all-loop-link l = AddsAll (take l.link-index l.links) l.fn.self l.self
+invariant-add_all-loop-link l = AddsAll (take l.link-index l.links) l.held l.fn.self l.self
 
 abbrev pub decreases-add_links : goal.decreases-add_links
 decreases-add_links l = 3 * length l.block.now + 3

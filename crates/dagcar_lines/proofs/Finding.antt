@@ -1,0 +1,155 @@
+-- What is found in a file: one block, or those that links lead to.
+use Rattle.std.proofs.Common.{◌≡◌, ◌⊎◌, inl, inr, ℕ, List, [], ◌∷◌, ◌++◌, append-nil, Bool, true, false, cond, refl, sym, ap, ◌∙◌, subst}
+use Rattle.std.specs.Prelude.{◌↔◌, IsTrue, Option, None, Some, is_some, option_map, Result, Ok, Err, IsErrAnd, IfOk, OnOk, Vec}
+use Rattle.std.specs.Io.KnownBytes.{Appends}
+use Rattle.std.proofs.KnownBytes.{Appends-nil}
+use Rattle.std.specs.Map.{lookup}
+use Rattle.std.specs.BTreeMap.{BTreeMap, is_at, get}
+use Rattle.std.specs.declared.alloc.Global.{Global}
+use Rattle.std.specs.List.{flat_map}
+use Rattle.std.specs.declared.convert.Infallible.{Infallible}
+use Rattle.ipld_tree.specs.Cid.{CidParts, cid_bytes, cid_cmp}
+use Rattle.dagcbor_items.specs.Walks.{forms}
+use Rattle.dagcbor_car.specs.Car.{Section}
+use Rattle.dagcbor_car.specs.Names.{IsInline}
+use Rattle.dagcbor_car.specs.Splits.{HasBlock}
+use Rattle.dagcbor_car.specs.Sets.{Among}
+use Rattle.dagcbor_car.specs.Verdicts.{IsVerified, IsVerdict, IsDagCbor}
+use Rattle.dagcbor_car.specs.Checks.{IsFileFront, IsHeld}
+use Rattle.dagcbor_car.specs.declared.error.CarError.{CarError}
+use Rattle.dagcbor_car.specs.declared.verdict.Verdict.{Verdict}
+use Rattle.dagcbor_car.specs.declared.verdict.Verdict.TheVariants as verdicts
+use Rattle.dagcbor_heads.specs.Written.{Written, Stops}
+use Rattle.dagcbor_heads.specs.declared.error.EncodeError.{EncodeError}
+use Rattle.dagcbor_heads.specs.declared.error.EncodeError.TheVariants as unsent
+use Rattle.dagcbor_cli.specs.Writing.{WritesFront}
+use Rattle.dagcbor_cli.specs.declared.fault.ToolError.{ToolError}
+use Rattle.dagcbor_cli.specs.declared.fault.ToolError.TheVariants.{Output}
+use Rattle.dagcbor_car.specs.Reaching.{Stored, stored_in, IsThere, ListsReachable, ListsLost}
+use Rattle.dagcbor_car.proofs.Members.{at_same, same_at, among_push, push_among}
+use Rattle.dagcar_lines.specs.Lines.{missing_line, refused_line, BreaksLine, SaysBoth}
+use Rattle.dagcar_lines.specs.Taking.{IsFault, TakesAll}
+use Rattle.dagcar_lines.specs.Finding.{TellsFault, IsGot, IsSound, StoresSound, IsTreeFile, IsTreeOf, Sends, SendsTree}
+
+-- ---- verdicts
+
+pub verified_of : (s : Section) (v : Verdict) → IsVerdict s v → (v ≡ verdicts.OtherBytes → ⊥) → (v ≡ verdicts.Unverified → ⊥) → IsVerified s
+verified_of s (verdicts.Block kind) h other none = h.0
+verified_of s (verdicts.Refused e) h other none = h.0
+verified_of s verdicts.NotRead h other none = h.0
+verified_of s verdicts.OtherBytes h other none = absurd (other refl)
+verified_of s verdicts.Unverified h other none = absurd (none refl)
+
+-- ---- faults
+
+pub fault_of_others : (P Q : List Section → Type 0) (b told line : List ℕ) → ((sections : List Section) → P sections → Q sections) → told ≡ line → ((e : CarError Infallible) × IsFault P e b × (line ≡ refused_line e)) → TellsFault Q b told
+fault_of_others P Q b told line f is h = (h.0, (h.1.0, elim h.1.1 [ inl s ↦ inl s | inr s ↦ inr (s.0, s.1, s.2, s.3, s.4, f s.1 s.5, s.6) ]), is ∙ h.2)
+
+-- ---- one block
+
+pub still_none : (name : CidParts) (sections : List Section) (s : Section) → (IsHeld name sections → ⊥) → (((s.0 ≡ name) × IsVerified s) → ⊥) → IsHeld name (sections ++ s ∷ []) → ⊥
+still_none name sections s none other h = elim (among_push (name, h.0) sections s h.1) [
+  | inl m ↦ none (h.0, m, h.2)
+  | inr e ↦ other (sym (ap (λ (p : Section). p.0) e), subst IsVerified e h.2)
+]
+
+pub got_whole : (name : CidParts) (b told : List ℕ) → told ≡ flat_map missing_line (forms (name ∷ [])) → told ≡ missing_line (cid_bytes name)
+got_whole name b told is = is ∙ append-nil (missing_line (cid_bytes name))
+
+-- ---- what is held
+
+pub sound_none : (blocks : BTreeMap CidParts (Vec ℕ Global)) → blocks.entries ≡ [] → StoresSound [] (stored_in blocks)
+sound_none blocks none = record {
+  some = λ q b e. let free : lookup (is_at (cid_cmp q)) blocks.entries ≡ None = ap (λ es. lookup (is_at (cid_cmp q)) es) none in absurd (nothing (sym (ap (option_map (λ (v : Vec ℕ Global). v.items)) free) ∙ e));
+  all = λ s m. absurd m;
+}
+  where
+    nothing : {b : List ℕ} → None ≡ Some b → ⊥
+    nothing e = cc e
+
+pub sound_held : (stored : Stored) (sections : List Section) (s : Section) → IsThere stored s.0 → StoresSound sections stored → StoresSound (sections ++ s ∷ []) stored
+sound_held stored sections s held h = record {
+  some = λ q b e. let k = h.some q b e in (push_among (q, b) sections s (inl k.0), k.1);
+  all = λ t m sound. elim (among_push t sections s m) [ inl o ↦ h.all t o sound | inr e ↦ subst (λ (x : Section). IsThere stored x.0) (sym e) held ];
+}
+
+pub sound_other : (stored : Stored) (sections : List Section) (s : Section) → (IsSound s → ⊥) → StoresSound sections stored → StoresSound (sections ++ s ∷ []) stored
+sound_other stored sections s other h = record {
+  some = λ q b e. let k = h.some q b e in (push_among (q, b) sections s (inl k.0), k.1);
+  all = λ t m sound. elim (among_push t sections s m) [ inl o ↦ h.all t o sound | inr e ↦ absurd (other (subst IsSound e sound)) ];
+}
+
+pub sound_put : (old new : BTreeMap CidParts (Vec ℕ Global)) (name : CidParts) (block : List ℕ) (v : Vec ℕ Global) (sections : List Section) → v.items ≡ block → ((q : CidParts) → get cid_cmp new q ≡ cond (is_at (cid_cmp name) q) (Some v) (get cid_cmp old q))
+    → is_some (stored_in old name) ≡ false → IsSound (name, block) → StoresSound sections (stored_in old) → StoresSound (sections ++ (name, block) ∷ []) (stored_in new)
+sound_put old new name block v sections is put free sound h = record {
+  some = λ q b e. found q b (is_at (cid_cmp name) q) refl (sym (now q) ∙ e);
+  all = λ t m good. elim (among_push t sections (name, block) m) [
+    | inl o ↦ kept t.0 (is_at (cid_cmp name) t.0) (h.all t o good)
+    | inr e ↦ kept_name t.0 (ap (λ (p : Section). p.0) e) (is_at (cid_cmp name) t.0) refl
+  ];
+}
+  where
+    by : (q : CidParts) (t : Bool) → option_map (λ (w : Vec ℕ Global). w.items) (cond t (Some v) (get cid_cmp old q)) ≡ cond t (Some v.items) (stored_in old q)
+    by q true = refl
+    by q false = refl
+
+    now : (q : CidParts) → stored_in new q ≡ cond (is_at (cid_cmp name) q) (Some v.items) (stored_in old q)
+    now q = ap (option_map (λ (w : Vec ℕ Global). w.items)) (put q) ∙ by q (is_at (cid_cmp name) q)
+
+    found : (q : CidParts) (b : List ℕ) (t : Bool) → is_at (cid_cmp name) q ≡ t → cond t (Some v.items) (stored_in old q) ≡ Some b → Among (q, b) (sections ++ (name, block) ∷ []) × IsSound (q, b)
+    found q b true t e =
+        let bytes : v.items ≡ b = cc e in
+        let same : (q, b) ≡ (name, block) = λ i. (sym (at_same name q t) i, (sym bytes ∙ is) i) in
+        (push_among (q, b) sections (name, block) (inr same), subst IsSound (sym same) sound)
+    found q b false t e = let k = h.some q b e in (push_among (q, b) sections (name, block) (inl k.0), k.1)
+
+    kept_by : (q : CidParts) (t : Bool) → is_some (stored_in old q) ≡ true → is_some (cond t (Some v.items) (stored_in old q)) ≡ true
+    kept_by q true e = refl
+    kept_by q false e = e
+
+    kept : (q : CidParts) (t : Bool) → is_some (stored_in old q) ≡ true → is_some (stored_in new q) ≡ true
+    kept q t e = ap is_some (now q) ∙ kept_by q (is_at (cid_cmp name) q) e
+
+    kept_name : (q : CidParts) → q ≡ name → (t : Bool) → is_at (cid_cmp name) q ≡ t → is_some (stored_in new q) ≡ true
+    kept_name q e t at = ap is_some (now q ∙ ap (λ b. cond b (Some v.items) (stored_in old q)) (same_at name q (sym e)))
+
+-- ---- how a tree goes out
+
+pub front_sent : {E : Type 0} (text : List ℕ) (old new : Written) (e : EncodeError E) (f : E) (before after : Option (List ℕ)) → Stops (Some text) old new e → e ≡ unsent.Write f → old.bytes ≡ before → new.bytes ≡ after → BreaksLine (λ out. out ≡ text) before after Output
+front_sent text old new e f before after stops is b a =
+    let k = (subst (Stops (Some text) old new) is stops).0 in
+    inr (k.0, k.1, sym k.2, refl, subst (λ x. Appends x after k.0) b (subst (λ x. Appends old.bytes x k.0) a k.3))
+
+module _ (stored : Stored) (root : CidParts) (found names lost : List CidParts) (well : Bool) (told text : List ℕ) (same : names ≡ found) (reachable : ListsReachable stored root found) (missing : ListsLost stored root lost) (lines : told ≡ flat_map missing_line (forms lost)) (same_told : text ≡ told)
+    (wellness : IsTrue well ↔ (lost ≡ [])) where
+  is_tree : (out : List ℕ) → IsTreeFile stored root names out → IsTreeOf stored root well out text
+  is_tree out file = record {
+    found = found;
+    lost = lost;
+    reachable = reachable;
+    missing = missing;
+    tree = subst (λ ns. IsTreeFile stored root ns out) same file;
+    lines = same_told ∙ lines;
+    wellness = wellness;
+  }
+
+  pub tree_broken : (old heard new : Option (List ℕ)) (r : Result Bool ToolError) (e : ToolError) → IsErrAnd r (λ x. x ≡ e) → SendsTree stored root names old (Err e) new → SaysBoth (IsTreeOf stored root) old heard r new heard
+  tree_broken old heard new (Ok w) e is h = absurd is
+  tree_broken old heard new (Err x) e is h = by h.2
+    where
+      by : BreaksLine (λ out. out ≡ h.0) old new e → SaysBoth (IsTreeOf stored root) old heard (Err x) new heard
+      by (inl none) = inl (none, Appends-nil heard)
+      by (inr k) = inr (well, k.0, k.1, [], text, is_tree (k.0 ++ k.1) (subst (IsTreeFile stored root names) (sym k.2) h.1), is ∙ k.3, k.4, Appends-nil heard)
+
+  pub told_broken : (old heard new after : Option (List ℕ)) (r : Result Bool ToolError) (e : ToolError) → IsErrAnd r (λ x. x ≡ e) → e ≡ Output → SendsTree stored root names old (Ok tt) new → ((front back : List ℕ) × (text ≡ front ++ back) × Appends heard after front) → SaysBoth (IsTreeOf stored root) old heard r new after
+  told_broken old heard new after (Ok w) e is out h k = absurd is
+  told_broken old heard new after (Err x) e is out h k =
+      inr (well, h.0, [], k.0, k.1, subst (IsTreeOf stored root well (h.0 ++ [])) k.2 (is_tree (h.0 ++ []) (subst (IsTreeFile stored root names) (sym (append-nil h.0)) h.1)), is ∙ out, h.2, k.3)
+
+  pub tree_said : (old heard new after : Option (List ℕ)) → SendsTree stored root names old (Ok tt) new → Appends heard after text → (said line : List ℕ) × IsTreeOf stored root well said line × Appends old new said × Appends heard after line
+  tree_said old heard new after h k = (h.0, text, is_tree h.0 h.1, h.2, k)
+
+pub both_of : (P Q : Bool → List ℕ → List ℕ → Type 0) (old heard : Option (List ℕ)) (r : Result Bool ToolError) (new after : Option (List ℕ)) → ((well : Bool) (said told : List ℕ) → P well said told → Q well said told) → SaysBoth P old heard r new after → SaysBoth Q old heard r new after
+both_of P Q old heard (Ok w) new after f k = (k.0, k.1, f w k.0 k.1 k.2, k.3, k.4)
+both_of P Q old heard (Err e) new after f (inl none) = inl none
+both_of P Q old heard (Err e) new after f (inr k) = inr (k.0, k.1, k.2, k.3, k.4, f k.0 (k.1 ++ k.2) (k.3 ++ k.4) k.5, k.6, k.7, k.8)

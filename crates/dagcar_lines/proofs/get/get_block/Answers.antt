@@ -1,0 +1,9 @@
+use Rattle.std.proofs.Common.{subst, sym}
+use Rattle.dagcar_lines.specs.Finding.{IsGot}
+use Rattle.dagcar_lines.proofs.Running.{if_some}
+use Rattle.dagcar_lines.proofs.Saying.{both_said}
+use Rattle.dagcar_lines.proofs.get.get_block.Goals as goal
+
+pub returns-in-Ok : goal.returns-in-Ok
+returns-in-Ok g c = if_some (g.R.Read.remaining c.args.input.now) c.in-Ok.ensures (λ b h.
+    both_said (IsGot c.args.name.now b) c.in-Ok.said.0.items c.deref.result.now c.in-Ok.said.1 _ _ c.say_both.result _ _ (subst (IsGot c.args.name.now b c.in-Ok.said.1 c.in-Ok.said.0.items) (sym c.deref.ensures.value) h) c.say_both.ensures)

@@ -1,0 +1,38 @@
+//! Writing the blocks that links lead to as a file.
+
+ghost use Rattle.dagcbor_blocks.specs.Blocks.{held_blocks};
+ghost use Rattle.dagcbor_blocks.specs.Reaching.{WritesTree};
+
+use crate::store::Blocks;
+use crate::tree_error::WriteTreeError;
+use dagcbor_car::push_tree;
+use serde_ipld_dagcbor::{Cid, EncodeError, Write};
+
+impl Blocks {
+    /// Appends the file (CAR, version 1) whose one root this is, and whose sections are the held
+    /// blocks that links lead to from there, each once, in the order of `reachable`. A link that
+    /// leads to no held block is passed over, as there: `missing` lists them.
+    pub fn write_tree<W: Write>(
+        &self,
+        root: &Cid,
+        writer: &mut W,
+    ) -> Result<(), WriteTreeError<W::Error>>
+        ensures { WritesTree (held_blocks self.now) root.now W.takes_memory
+            (W.written writer.old) result (W.written writer.new) }
+    {
+        if !self.may_lead(root) {
+            return Err(WriteTreeError::NotHeld);
+        }
+        let Ok(names) = self.reach(root) else {
+            return Err(WriteTreeError::OutOfMemory);
+        };
+        match push_tree(self.alloc, writer, root, &self.blocks, &names) {
+            Ok(()) => Ok(()),
+            Err(error) => match error {
+                EncodeError::Write(fault) => Err(WriteTreeError::Write(fault)),
+                // No message comes: what is sent has a spelling.
+                _ => Err(WriteTreeError::OutOfMemory),
+            },
+        }
+    }
+}

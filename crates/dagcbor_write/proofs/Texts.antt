@@ -1,0 +1,113 @@
+-- Entries of a map whose keys are texts.
+use Rattle.std.proofs.Common.{◌≡◌, ℕ, ◌+◌, ◌<◌, ◌≤◌, List, [], ◌∷◌, ◌++◌, length, get_or, drop, map, Option, Some, String, Global, string_bytes, Bool, true, Less, Equal, Greater, refl, sym, ap, ap₂, ◌∙◌, subst, add-one, append_assoc, IsPermutation}
+use Rattle.std.proofs.Math.Seq.{drop-cons}
+use Rattle.std.proofs.Math.ListN.{drop_of_length-le}
+use Rattle.std.proofs.lemmas.List.{length-map}
+use Rattle.std.proofs.lemmas.List.Sorted.{IsPermutation-map}
+use Rattle.std.specs.Prelude.{IfSome, OnOk, Result}
+use Rattle.dagcbor_heads.specs.declared.error.EncodeError.{EncodeError}
+use Rattle.std.specs.Fmt.{◌++?◌}
+use Rattle.dagcbor_heads.specs.Written.{Written, Writes}
+use Rattle.dagcbor_heads.proofs.Writing.{Written-but, begin_writing}
+use Rattle.ipld_tree.specs.Key.{key_cmp, comes_before}
+use Rattle.ipld_tree.specs.Tree.{Tree, text, IsTree, entries_tree}
+use Rattle.ipld_tree.specs.Spelled.{spelled_tree, spelled_head}
+use Rattle.dagcbor_write.specs.declared.types.texts.TextEntry.{TextEntry}
+use Rattle.dagcbor_write.specs.Rows.{spelled_pairs, spelled_pair, ArePairs, IsPair, KeysRise, Rises}
+use Rattle.dagcbor_write.specs.Texts.{text_pair, text_pairs, map_pairs}
+use Rattle.dagcbor_write.specs.Trees.{Pair}
+use Rattle.dagcbor_write.proofs.Mapping.{row_map}
+use Rattle.dagcbor_write.proofs.PlaceOrder.{begins, is_less, pairs_joined}
+use Rattle.dagcbor_write.proofs.Walks.{same_map}
+
+map_joined : {A B : Type 0} (f : A → B) (xs : List A) (y : A) → map f (xs ++ y ∷ []) ≡ map f xs ++ f y ∷ []
+map_joined f [] y = refl
+map_joined f (x ∷ xs) y = ap (λ ys. f x ∷ ys) (map_joined f xs y)
+
+-- the entries that were listed of a map, of which some are left
+abbrev pub Listed-but : {V : Type 0} → List (String Global × V) → List (String Global × V) → List (TextEntry V) → Type 0
+Listed-but {V} all left row = (done : List (String Global × V)) × (all ≡ done ++ left)
+    × ((tree : V → Option Tree) → text_pairs tree row ≡ map_pairs tree done)
+
+module _ {V : Type 0} where
+  pub next_listed : (e : String Global × V) (x : TextEntry V) (all left more : List (String Global × V)) (row new : List (TextEntry V))
+      → left ≡ e ∷ more → x.key.now ≡ string_bytes e.0 → x.value.now ≡ e.1 → new ≡ row ++ x ∷ []
+      → Listed-but all left row → Listed-but all more new
+  next_listed e x all left more row new is key value put h = (
+    h.0 ++ e ∷ [],
+    h.1 ∙ ap (λ es. h.0 ++ es) is ∙ sym (append_assoc h.0 (e ∷ []) more),
+    λ tree.
+        let pair : Pair = (Some (text (string_bytes e.0)), tree e.1) in
+        ap (text_pairs tree) put
+        ∙ map_joined (text_pair tree) row x
+        ∙ ap₂ (λ ps p. ps ++ p ∷ []) (h.2 tree) (ap₂ (λ k v. (Some (text k), tree v)) key value)
+        ∙ sym (map_joined (λ f. (Some (text (string_bytes f.0)), tree f.1)) h.0 e),
+  )
+
+  -- ---- keys that rise
+
+  pub rises_at : (tree : V → Option Tree) (row : List (TextEntry V)) (i : ℕ) (d : TextEntry V) (last : List ℕ) → i < length row
+      → comes_before last (get_or row i d).key.now ≡ true
+      → KeysRise (get_or row i d).key.now (text_pairs tree (drop (i + 1) row)) → KeysRise last (text_pairs tree (drop i row))
+  rises_at tree row i d last h e more =
+      let P : List (TextEntry V) → Type 0 = λ es. KeysRise last (text_pairs tree es) in
+      subst P (sym (begins row i d h)) (is_less (key_cmp last (get_or row i d).key.now) e, more)
+
+  pub rises_behind_last : (tree : V → Option Tree) (row : List (TextEntry V)) (i : ℕ) (last : List ℕ) → length row ≤ i → KeysRise last (text_pairs tree (drop i row))
+  rises_behind_last tree row i last h =
+      let P : List (TextEntry V) → Type 0 = λ es. KeysRise last (text_pairs tree es) in
+      subst P (sym (drop_of_length-le row h)) tt
+
+  -- ---- a row that is written
+
+  module _ (tree : V → Option Tree) (row : List (TextEntry V)) where
+    abbrev pub left_of : ℕ → List Pair
+    left_of i = text_pairs tree (drop i row)
+
+    pub begin_row : (n : ℕ) (s : Written) → n ≡ length row → Rises (text_pairs tree row)
+        → Written-but (spelled_tree (entries_tree (text_pairs tree row))) (spelled_head 5 n ∷ map spelled_pair (text_pairs tree row)) s s
+    begin_row n s count rise =
+        let whole = row_map (text_pairs tree row) n (count ∙ sym (length-map row (text_pair tree))) rise in
+        begin_writing _ _ s (whole.0 ∙ ap (λ x. spelled_head 5 n ++? x) (pairs_joined (text_pairs tree row)))
+
+    begins_with : (i : ℕ) (x : TextEntry V) → i < length row → x ≡ get_or row i x → drop i row ≡ x ∷ drop (i + 1) row
+    begins_with i x h e = begins row i x h ∙ ap (λ y. y ∷ drop (i + 1) row) (sym e)
+
+    pub at_entry : (i : ℕ) (x : TextEntry V) → i < length row → x ≡ get_or row i x → {whole : Option (List ℕ)} {s t : Written}
+        → Written-but whole (map spelled_pair (left_of i)) s t
+        → Written-but whole (spelled_pair (text_pair tree x) ∷ map spelled_pair (left_of (i + 1))) s t
+    at_entry i x h e {whole} {s} {t} w =
+        let P : List (TextEntry V) → Type 0 = λ es. Written-but whole (map spelled_pair (text_pairs tree es)) s t in
+        subst P (begins_with i x h e) w
+
+    pub no_entry_left : (i : ℕ) → length row ≤ i → {whole : Option (List ℕ)} {s t : Written}
+        → Written-but whole (map spelled_pair (left_of i)) s t → Written-but whole [] s t
+    no_entry_left i h {whole} {s} {t} w =
+        let P : List (TextEntry V) → Type 0 = λ es. Written-but whole (map spelled_pair (text_pairs tree es)) s t in
+        subst P (drop_of_length-le row h) w
+
+    -- what follows from the pairs that are left, follows from those behind a well-formed one
+    pub good_entry : (i : ℕ) (x : TextEntry V) → i < length row → x ≡ get_or row i x → {G : Type 0} → (ArePairs (left_of i) → G)
+        → IsPair (text_pair tree x) → ArePairs (left_of (i + 1)) → G
+    good_entry i x h e all good more =
+        let P : List (TextEntry V) → Type 0 = λ es. ArePairs (text_pairs tree es) in
+        all (subst P (sym (begins_with i x h e)) (good.0, good.1, more))
+
+    pub good_row : (i : ℕ) → length row ≤ i → {G : Type 0} → (ArePairs (left_of i) → G) → G
+    good_row i h all =
+        let P : List (TextEntry V) → Type 0 = λ es. ArePairs (text_pairs tree es) in
+        all (subst P (sym (drop_of_length-le row h)) tt)
+
+    pub row_good : Rises (text_pairs tree row) → ArePairs (text_pairs tree row) → IfSome (entries_tree (text_pairs tree row)) IsTree
+    row_good rise good = (row_map (text_pairs tree row) (length (text_pairs tree row)) refl rise).1 good
+
+-- ---- pairs in another order
+
+pub Writes_moved : {T E : Type 0} (ps qs : List Pair) (s t : Written) (r : Result T (EncodeError E)) → IsPermutation ps qs → Writes (spelled_tree (entries_tree qs)) s t r → Writes (spelled_tree (entries_tree ps)) s t r
+Writes_moved {T} {E} ps qs s t r moved w = let P : Option Tree → Type 0 = λ x. Writes (spelled_tree x) s t r in subst P (sym (same_map ps qs moved)) w
+
+pub good_moved : {T E : Type 0} (ps qs : List Pair) (r : Result T E) → IsPermutation ps qs → OnOk r (IfSome (entries_tree qs) IsTree) → OnOk r (IfSome (entries_tree ps) IsTree)
+good_moved {T} {E} ps qs r moved w = let P : Option Tree → Type 0 = λ x. OnOk r (IfSome x IsTree) in subst P (sym (same_map ps qs moved)) w
+
+pub listed_moved : {V : Type 0} (tree : V → Option Tree) (ps : List Pair) (row new : List (TextEntry V)) → text_pairs tree row ≡ ps → IsPermutation row new → IsPermutation ps (text_pairs tree new)
+listed_moved tree ps row new is moved = let P : List Pair → Type 0 = λ qs. IsPermutation qs (text_pairs tree new) in subst P is (IsPermutation-map (text_pair tree) row new moved)

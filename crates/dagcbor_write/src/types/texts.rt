@@ -1,0 +1,136 @@
+//! Maps whose keys are texts: the keys are written as they stand, and spelled nowhere else.
+
+ghost use Rattle.std.specs.Prelude.{◌≡◌, Option, IsPermutation, OnOk, IfOk, IfSome, IsTrue};
+ghost use Rattle.dagcbor_heads.specs.Written.{Writes};
+ghost use Rattle.ipld_tree.specs.Tree.{Tree, IsTree, entries_tree};
+ghost use Rattle.ipld_tree.specs.Spelled.{spelled_tree};
+ghost use Rattle.dagcbor_write.specs.Rows.{Rises, spelled_pair, IsPair};
+ghost use Rattle.dagcbor_write.specs.Texts.{text_pair, text_pairs, map_pairs};
+
+use crate::places::{comes_before, key_cmp};
+use crate::serialize::Serialize;
+use crate::serializer::Serializer;
+use dagcbor_heads::{EncodeError, Write, WriteResult};
+use std::alloc::{AllocError, Global};
+use std::collections::BTreeMap;
+
+/// An entry: its key, and its value.
+#[derive_where(Clone, Copy)]
+pub(crate) struct TextEntry<'a, V> {
+    key: &'a str,
+    value: &'a V,
+}
+
+/// Appends the map of the entries.
+pub(crate) fn write_texts<V: Serialize, W: Write>(
+    alloc: Global,
+    entries: &BTreeMap<String, V>,
+    ser: &mut Serializer<W>,
+) -> WriteResult<(), W>
+    ensures written { Writes (spelled_tree (entries_tree (map_pairs V.tree entries.now.entries)))
+        (W.written ser.old) (W.written ser.new) result }
+    ensures well_formed { OnOk result
+        (IfSome (entries_tree (map_pairs V.tree entries.now.entries)) IsTree) }
+{
+    let Ok(row) = list_in_order(alloc, entries) else {
+        return Err(EncodeError::OutOfMemory);
+    };
+    if !keys_rise(&row) {
+        // The keys of a sorted map do rise here; nothing else rests on it.
+        return entries.serialize(alloc, ser);
+    }
+    write_row(alloc, &row, ser)
+}
+
+/// The entries in key order.
+fn list_in_order<V>(
+    alloc: Global,
+    entries: &BTreeMap<String, V>,
+) -> Result<Vec<TextEntry<'_, V>>, AllocError>
+    ensures { IfOk result (λ row. (tree : V → Option Tree)
+        → IsPermutation (map_pairs tree entries.now.entries) (text_pairs tree row.items)) }
+{
+    let mut row = list_entries(alloc, entries)?;
+    row.sort_unstable_by(|a, b| key_cmp(a.key.as_bytes(), b.key.as_bytes()));
+    Ok(row)
+}
+
+/// The entries as the map has them.
+fn list_entries<V>(
+    alloc: Global,
+    entries: &BTreeMap<String, V>,
+) -> Result<Vec<TextEntry<'_, V>>, AllocError>
+    ensures { IfOk result (λ row. (tree : V → Option Tree)
+        → text_pairs tree row.items ≡ map_pairs tree entries.now.entries) }
+{
+    let mut row = Vec::new(alloc);
+    row.reserve(entries.len())?;
+    for (key, value) in entries.iter() {
+        row.push(TextEntry {
+            key: key.as_str(),
+            value,
+        })?;
+    }
+    Ok(row)
+}
+
+/// Whether each key stands behind the one before it.
+fn keys_rise<V>(row: &[TextEntry<'_, V>]) -> bool
+    ensures { IsTrue result → (tree : V → Option Tree) → Rises (text_pairs tree row.now) }
+{
+    let Some((first, others)) = row.split_first() else {
+        return true;
+    };
+    let mut last = first.key.as_bytes();
+    for entry in others {
+        let key = entry.key.as_bytes();
+        if !comes_before(last, key) {
+            return false;
+        }
+        last = key;
+    }
+    true
+}
+
+/// Appends the map of the entries, whose keys rise.
+fn write_row<V: Serialize, W: Write>(
+    alloc: Global,
+    row: &[TextEntry<'_, V>],
+    ser: &mut Serializer<W>,
+) -> WriteResult<(), W>
+    requires { Rises (text_pairs V.tree row.now) }
+    ensures written { Writes (spelled_tree (entries_tree (text_pairs V.tree row.now)))
+        (W.written ser.old) (W.written ser.new) result }
+    ensures well_formed { OnOk result
+        (IfSome (entries_tree (text_pairs V.tree row.now)) IsTree) }
+{
+    let head = ser.push_head(5, row.len());
+    if head.is_err() {
+        return head;
+    }
+    for entry in row {
+        let part = write_entry(alloc, entry, ser);
+        if part.is_err() {
+            return part;
+        }
+    }
+    Ok(())
+}
+
+/// Appends the key and the value.
+#[inline(always)]
+fn write_entry<V: Serialize, W: Write>(
+    alloc: Global,
+    entry: &TextEntry<'_, V>,
+    ser: &mut Serializer<W>,
+) -> WriteResult<(), W>
+    ensures written { Writes (spelled_pair (text_pair V.tree entry.now))
+        (W.written ser.old) (W.written ser.new) result }
+    ensures well_formed { OnOk result (IsPair (text_pair V.tree entry.now)) }
+{
+    let key = ser.serialize_str(entry.key);
+    if key.is_err() {
+        return key;
+    }
+    entry.value.serialize(alloc, ser)
+}

@@ -10,3 +10,4 @@ pub mod Reading
 pub mod Walking
 pub mod Unlisted
 pub mod Putting
+pub mod Trees

@@ -94,7 +94,7 @@ holds_same old mid c b same h = subst (λ (t : Trees). IsStored t (cid_bytes c) 
 pub none_same : (old mid : View) (last : Option CidParts) → IsSame old mid → GivesNext mid last None → GivesNext old last None
 none_same old mid last same h = subst (λ (t : Trees). (q : List ℕ) → IsListed (t name_tree) q → IsBehind last q → ⊥) same.trees h
 
-damaged_same : (old mid : View) (c : CidParts) → IsSame old mid → IsDamaged mid c → IsDamaged old c
+pub damaged_same : (old mid : View) (c : CidParts) → IsSame old mid → IsDamaged mid c → IsDamaged old c
 damaged_same old mid c same h = subst (λ (t : Trees). IsListed (t name_tree) (cid_bytes c) × ((b : List ℕ) → IsStored t (cid_bytes c) b → IsNamed c b → ⊥)) same.trees h
 
 pub same_itself : (v : View) → IsSame v v
@@ -118,7 +118,7 @@ module _ {S : Type 0} (g : Ghosts S) where
 
   -- ---- the next block
 
-  not_damaged : (e : StoreError) (n : CidParts) → TellsOfStore e (refusal.Damaged n) → ⊥
+  pub not_damaged : (e : StoreError) (n : CidParts) → TellsOfStore e (refusal.Damaged n) → ⊥
   not_damaged stored.OutOfMemory n h = cc
   not_damaged stored.Unstorable n h = cc
   not_damaged stored.Io n h = cc
@@ -164,7 +164,7 @@ module _ {S : Type 0} (g : Ghosts S) where
     quiet = quiet_itself g old;
   }
 
-  car_push : (roots : List (List ℕ)) (ss : List Section) (s : Section) → car_bytes roots ss ++ section_bytes s ≡ car_bytes roots (ss ++ s ∷ [])
+  pub car_push : (roots : List (List ℕ)) (ss : List Section) (s : Section) → car_bytes roots ss ++ section_bytes s ≡ car_bytes roots (ss ++ s ∷ [])
   car_push roots ss s = append_assoc (header_bytes roots) (flat_map section_bytes ss) (section_bytes s) ∙ ap (λ more. header_bytes roots ++ more) (sym (flat_push ss s))
 
   pub written_more : (roots : List (List ℕ)) (old mid new : S) (before now after : Written) (last : Option CidParts) (ss : List Section) (c : CidParts) (b : List ℕ) → IsWritten roots old before last ss now mid → IsNamed c b → IsSection (c, b)

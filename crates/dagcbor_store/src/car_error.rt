@@ -37,6 +37,17 @@ pub enum WriteCarError<E> {
     Store(StoreRefusal),
 }
 
+/// Why a file of the blocks that links lead to was not written. `E` is the writer's error.
+#[derive(Debug, Drop, Error)]
+pub enum WriteTreeError<E> {
+    /// Nothing is listed under the root, which is not by the identity. Nothing was sent.
+    #[error("no block is stored under the root")]
+    NotStored,
+    /// The file was not written, or not as a whole.
+    #[error("{0}")]
+    Unwritten(WriteCarError<E>),
+}
+
 impl<E: Drop> ReadCarError<E> {
     /// Want of memory is told as such.
     pub(crate) fn of_file(error: CarError<E>) -> ReadCarError<E>

@@ -155,6 +155,27 @@ fn holds<S: Store>(
     Ok(())
 }
 
+/// Fails where links lead from `PARENT` to other blocks than those of the sections, or others are
+/// lost.
+fn leads<S: Store>(
+    alloc: Global,
+    store: &mut BlockStore<S>,
+    sections: &[&[u8]],
+    lost: &[Cid],
+) -> Result<(), Fail> {
+    let mut writer = BufWriter::new(Vec::new(alloc));
+    let answer = store.write_tree(&name_in(PARENT)?, &mut writer)?;
+    let behind = joined(alloc, sections)?;
+    let file = joined(alloc, &[HEADER, &behind])?;
+    if writer.buffer() != file.as_slice() || answer.as_slice() != lost {
+        return Err(Fail::new("another tree"));
+    }
+    if store.write_tree(&name_in(RAW)?, &mut writer).is_ok() {
+        return Err(Fail::new("a root that is not stored"));
+    }
+    Ok(())
+}
+
 /// Sections, and what is answered of a file where they stand behind another.
 const REFUSED: &[(&[u8], &str)] = &[
     (CHANGED, "other bytes"),
@@ -188,8 +209,10 @@ fn files_are_kept_whole(rt: HostRuntime) -> Result<(), Fail> {
         3,
     )?;
     holds(alloc, &mut store, &[NUMBERS, TEXT, PARENT], &[])?;
+    leads(alloc, &mut store, &[PARENT, NUMBERS, TEXT], &[])?;
     assert!(rt; store.remove(&name_in(TEXT)?)?);
     holds(alloc, &mut store, &[NUMBERS, PARENT], &[name_in(TEXT)?])?;
+    leads(alloc, &mut store, &[PARENT, NUMBERS], &[name_in(TEXT)?])?;
     drop(store);
     fs::remove_dir_all(&rt, "dagcbor_store_files")?;
     Ok(())

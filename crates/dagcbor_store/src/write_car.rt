@@ -17,7 +17,7 @@ use sqlite_trees::store::Store;
 use std::alloc::Global;
 
 /// Appends the header.
-fn begin<W: Write>(
+pub(crate) fn begin<W: Write>(
     alloc: Global,
     writer: &mut W,
     roots: &[Cid],

@@ -1,0 +1,277 @@
+-- The blocks of a store that links lead to from a root, and the file of them.
+use Rattle.std.proofs.Common.{◌≡◌, inl, inr, ℕ, zero, suc, ◌+◌, ◌<◌, ◌≤◌, List, [], ◌∷◌, ◌++◌, length, get_or, drop, ◌==◌, true, false, refl, sym, ap, ◌∙◌, subst, arith, append_assoc, append-nil}
+use Rattle.std.specs.Prelude.{◌↔◌, Option, None, Some, is_some, option_map, option_to_list, Vec}
+use Rattle.std.specs.declared.alloc.Global.{Global}
+use Rattle.std.specs.List.{AllByRecursion}
+use Rattle.std.proofs.Math.Seq.{drop-cons}
+use Rattle.std.proofs.lemmas.Bool.{eqb-true}
+use Rattle.std.proofs.lemmas.List.{drop_all, nil_from_length}
+use Rattle.sqlite_trees.specs.Tree.{Trees}
+use Rattle.sqlite_trees.specs.View.{View, IsClean}
+use Rattle.sqlite_trees.specs.declared.store.Store.{Ghosts}
+use Rattle.dagcbor_heads.specs.Written.{Written, WroteAll, Stops}
+use Rattle.dagcbor_heads.proofs.Writing.{WroteAll_then, Stops-then}
+use Rattle.ipld_tree.specs.Cid.{CidParts, cid_bytes}
+use Rattle.dagcbor_car.specs.Names.{IsInline}
+use Rattle.dagcbor_car.specs.Car.{Section, header_bytes, section_bytes, IsHeader, IsSection}
+use Rattle.dagcbor_car.specs.Sets.{Among}
+use Rattle.dagcbor_car.specs.Reaching.{Stored, IsThere, IsLost, LeadsFar, ListsReachable, ListsLost, IsOver, Walks, WalksAt, Visits, sections_at}
+use Rattle.dagcbor_car.specs.declared.reach.Reached.{Reached}
+use Rattle.dagcbor_car.specs.declared.reach.Walk.{Walk}
+use Rattle.dagcbor_car.proofs.Members.{push_among}
+use Rattle.dagcbor_car.proofs.Reaching.{none_found}
+use Rattle.dagcbor_car.proofs.Writing.{sections_left}
+use Rattle.dagcbor_store.specs.Rows.{name_tree, IsStored, IsListed}
+use Rattle.dagcbor_store.specs.Stored.{IsNamed, HoldsOnly, GetsSome, Lists, IsDamaged, IsSame, Fails, GetRefused}
+use Rattle.dagcbor_store.specs.Walking.{AreNamed, HeaderUnwritten}
+use Rattle.dagcbor_store.specs.Trees.{Shows, OfStored, Reaches, ReachRefused, VisitsStored, tree_bytes, AreFirstReached, WritesTree, TreeRefused, AreFirstAt, NamedRefused, NamesRefused, NamedUnwritten, WritesNames, NamesUnwritten}
+use Rattle.dagcbor_store.specs.declared.error.StoreRefusal.{StoreRefusal}
+use Rattle.dagcbor_store.specs.declared.error.StoreRefusal.TheVariants as refusal
+use Rattle.dagcbor_store.specs.declared.car_error.WriteCarError.{WriteCarError}
+use Rattle.dagcbor_store.specs.declared.car_error.WriteCarError.TheVariants as car
+use Rattle.dagcbor_store.specs.declared.car_error.WriteTreeError.TheVariants as tree
+use Rattle.dagcbor_store.proofs.Surveying.{all_more}
+use Rattle.dagcbor_store.proofs.Adding.{Quiet, quiet_itself, quiet_then}
+use Rattle.dagcbor_store.proofs.Walking.{holds_same, damaged_same, same_itself, same_then, fails_same, not_damaged, car_push}
+
+-- ---- what is stored
+
+pub shows_same : (old mid : View) (stored : Stored) → IsSame old mid → Shows old stored → Shows mid stored
+shows_same old mid stored same h = subst (λ (t : Trees). (q : CidParts) (b : List ℕ) → (stored q ≡ Some b) ↔ IsStored t (cid_bytes q) b) (sym same.trees) h
+
+pub got_stored : (v : View) (stored : Stored) (name : CidParts) (found : Option (List ℕ)) → Shows v stored → GetsSome v name found → stored name ≡ found
+got_stored v stored name (Some b) shows gets = (shows name b).1 gets.0
+got_stored v stored name None shows none = nothing (stored name) refl
+  where
+    nothing : (o : Option (List ℕ)) → stored name ≡ o → stored name ≡ None
+    nothing None e = e
+    nothing (Some b) e = let s = (shows name b).0 e in absurd (none (s.id, s.listed))
+
+-- ---- the walk
+
+pub visits_stored : (v : View) (name : CidParts) (found : Option (List ℕ)) (old new : Walk) → GetsSome v name found → Visits name found old new → VisitsStored v name old new
+visits_stored v name found old new gets visits root stored shows at = visits stored root (got_stored v stored name found shows gets) at
+
+pub reaches_over : (v : View) (root : CidParts) (walk : Walk) (r : Reached) → r.found ≡ walk.found → r.lost ≡ walk.lost → OfStored v (λ stored. IsOver stored root walk) → Reaches v root r
+reaches_over v root walk r found lost over stored shows =
+    let o = over stored shows in
+    (subst (λ f. ListsReachable stored root f.items) (sym found) o.0, subst (λ l. ListsLost stored root l.items) (sym lost) o.1)
+
+pub leads_to_next : (stored : Stored) (root name : CidParts) (walk : Walk) → WalksAt stored root name walk → LeadsFar stored root name
+leads_to_next stored root name walk at = at.1.stepped name (inr (push_among name walk.waiting.items name (inr refl)))
+
+-- ---- the names of a file
+
+at_among : {X : Type 0} (xs : List X) (i : ℕ) (x : X) → i < length xs → x ≡ get_or xs i x → Among x xs
+at_among {X} xs i x lt is = later i xs (subst (Among x) (sym (drop-cons xs i x lt)) (inl is))
+  where
+    later : (n : ℕ) (ys : List X) → Among x (drop n ys) → Among x ys
+    later zero ys m = m
+    later (suc n) [] m = absurd m
+    later (suc n) (y ∷ ys) m = inr (later n ys m)
+
+push_at : (v : View) (names : List CidParts) (ss : List Section) (i : ℕ) (name : CidParts) (b : List ℕ) → i < length names → name ≡ get_or names i name → HoldsOnly v name b → OfStored v (λ stored. ss ++ sections_at stored (drop i names) ≡ sections_at stored names)
+    → OfStored v (λ stored. (ss ++ (name, b) ∷ []) ++ sections_at stored (drop (i + 1) names) ≡ sections_at stored names)
+push_at v names ss i name b lt is holds h stored shows =
+    let at : stored name ≡ Some b = (shows name b).1 holds.0 in
+    let rest = sections_at stored (drop (i + 1) names) in
+    append_assoc ss ((name, b) ∷ []) rest
+    ∙ ap (λ l. ss ++ l) (ap (λ (o : Option (List ℕ)). option_to_list (option_map (λ c. (name, c)) o) ++ rest) (sym at) ∙ sym (sections_left stored names i name lt is))
+    ∙ h stored shows
+
+-- the root is not lost where something was found, or it is by the identity
+pub not_lost : (stored : Stored) (root : CidParts) (found : List CidParts) → ListsReachable stored root found → (found ≡ [] → IsInline root) → IsLost stored root → ⊥
+not_lost stored root [] l either gone = gone.1 (either refl)
+not_lost stored root (x ∷ xs) l either gone = ((none_found stored root gone).lists.all x).1 ((l.lists.all x).0 (inl refl))
+
+pub lost_root : (stored : Stored) (root : CidParts) (found : List CidParts) → ListsReachable stored root found → found ≡ [] → (IsInline root → ⊥) → IsLost stored root
+lost_root stored root found l none other = (nothing (stored root) refl, other)
+  where
+    nothing : (o : Option (List ℕ)) → stored root ≡ o → stored root ≡ None
+    nothing None e = e
+    nothing (Some b) e = let f = l.first (ap is_some e) in absurd (cc (sym none ∙ f.1))
+
+pub none_there : (v : Vec CidParts Global) → true ≡ (v.len == 0) → v.items ≡ []
+none_there v e = nil_from_length v.items (sym v.ok.0 ∙ eqb-true v.len 0 (sym e))
+
+pub some_there : (v : Vec CidParts Global) → false ≡ (v.len == 0) → v.items ≡ [] → ⊥
+some_there v e none = let clash : false ≡ true = e ∙ ap (λ n. n == 0) (v.ok.0 ∙ ap length none) in absurd (cc clash)
+
+pub listed_there : (v : View) (stored : Stored) (name : CidParts) → Shows v stored → IsThere stored name → Lists v name
+listed_there v stored name shows there = some (stored name) refl
+  where
+    some : (o : Option (List ℕ)) → stored name ≡ o → Lists v name
+    some None e = let clash : true ≡ false = sym there ∙ ap is_some e in absurd (cc clash)
+    some (Some b) e = let s = (shows name b).0 e in (s.id, s.listed)
+
+module _ {S : Type 0} (g : Ghosts S) where
+  pub fails_reach : (root : CidParts) (old new : S) (told : StoreRefusal) → Fails g ⊥ old new told → ReachRefused g root old new told
+  fails_reach root old new (refusal.Damaged n) f = absurd (not_damaged g f.0 n f.1)
+  fails_reach root old new told f = f
+
+  pub visit_refused : (root name : CidParts) (old mid new : S) (told : StoreRefusal) → Quiet g old mid → (IsClean (g.view mid) → IsSame (g.view old) (g.view mid)) → (IsClean (g.view mid) → OfStored (g.view old) (λ stored. LeadsFar stored root name))
+      → Quiet g mid new → GetRefused g name mid new told → ReachRefused g root old new told
+  visit_refused root name old mid new (refusal.Damaged n) before same far quiet p = λ clean.
+      let k = p.1 clean in
+      let was : IsClean (g.view mid) = omega (arith, quiet.clean) in
+      let s = same was in (
+        same_then (g.view old) (g.view mid) (g.view new) s k.1,
+        λ stored shows. (
+          damaged_same (g.view old) (g.view mid) n s (subst (IsDamaged (g.view mid)) (sym p.0) k.0),
+          subst (LeadsFar stored root) (sym p.0) (far was stored shows),
+        ),
+      )
+  visit_refused root name old mid new told before same far quiet p = fails_same g old mid new told before same quiet p
+
+  -- ---- a file
+
+  -- how much of the file of these names was written
+  pub record IsTreeWritten (root : CidParts) (names : List CidParts) (old : S) (before : Written) (i : ℕ) (sections : List Section) (now : Written) (mid : S) : Type 0 where
+    pub header : IsHeader (cid_bytes root ∷ [])
+    pub named : AreNamed sections
+    pub sections_are : AllByRecursion IsSection sections
+    pub wrote : WroteAll (Some (tree_bytes root sections)) before now
+    pub walked : IsClean (g.view mid) → IsSame (g.view old) (g.view mid) × OfStored (g.view old) (λ stored. sections ++ sections_at stored (drop i names) ≡ sections_at stored names)
+    pub quiet : Quiet g old mid
+
+  module _ (root : CidParts) (names : List CidParts) (old : S) (before : Written) where
+    pub tree_begun : (now : Written) → IsHeader (cid_bytes root ∷ []) → WroteAll (Some (header_bytes (cid_bytes root ∷ []))) before now → IsTreeWritten root names old before 0 [] now old
+    tree_begun now header wrote = record {
+      header = header;
+      named = tt;
+      sections_are = tt;
+      wrote = subst (λ b. WroteAll (Some b) before now) (sym (append-nil (header_bytes (cid_bytes root ∷ [])))) wrote;
+      walked = λ clean. (same_itself (g.view old), λ stored shows. refl);
+      quiet = quiet_itself g old;
+    }
+
+    pub tree_unbegun : {E : Type 0} (after : Written) (e : WriteCarError E) → HeaderUnwritten (cid_bytes root ∷ []) before after e → NamesUnwritten g root names old before e after old
+    tree_unbegun after (car.Store told) stops = absurd stops
+    tree_unbegun after (car.Write e) stops = (
+      [],
+      tt,
+      subst (λ b. Stops (Some b) before after e) (sym (append-nil (header_bytes (cid_bytes root ∷ [])))) stops,
+      λ clean. (same_itself (g.view old), (names, λ stored shows. refl)),
+    )
+
+    module _ (mid new : S) (now after : Written) (i : ℕ) (ss : List Section) (h : IsTreeWritten root names old before i ss now mid) (quiet : Quiet g mid new) where
+      before_clean : IsClean (g.view new) → IsSame (g.view old) (g.view mid) × OfStored (g.view old) (λ stored. ss ++ sections_at stored (drop i names) ≡ sections_at stored names)
+      before_clean clean = h.walked (omega (arith, quiet.clean))
+
+      more_clean : (name : CidParts) (b : List ℕ) → i < length names → name ≡ get_or names i name → (IsClean (g.view new) → IsSame (g.view mid) (g.view new) × HoldsOnly (g.view mid) name b)
+          → IsClean (g.view new) → IsSame (g.view old) (g.view new) × OfStored (g.view old) (λ stored. (ss ++ (name, b) ∷ []) ++ sections_at stored (drop (i + 1) names) ≡ sections_at stored names)
+      more_clean name b lt is next clean =
+          let w = before_clean clean in
+          let n = next clean in (
+            same_then (g.view old) (g.view mid) (g.view new) w.0 n.0,
+            push_at (g.view old) names ss i name b lt is (holds_same (g.view old) (g.view mid) name b w.0 n.1) w.1,
+          )
+
+      pub tree_more : (name : CidParts) (b : List ℕ) → i < length names → name ≡ get_or names i name → IsNamed name b → IsSection (name, b) → WroteAll (Some (section_bytes (name, b))) now after
+          → (IsClean (g.view new) → IsSame (g.view mid) (g.view new) × HoldsOnly (g.view mid) name b) → IsTreeWritten root names old before (i + 1) (ss ++ (name, b) ∷ []) after new
+      tree_more name b lt is named own wrote next = record {
+        header = h.header;
+        named = all_more (λ (s : Section). IsNamed s.0 s.1) ss (name, b) h.named named;
+        sections_are = all_more IsSection ss (name, b) h.sections_are own;
+        wrote = subst (λ t. WroteAll (Some t) before after) (car_push g (cid_bytes root ∷ []) ss (name, b)) (WroteAll_then (Some (tree_bytes root ss)) (Some (section_bytes (name, b))) before now after h.wrote wrote);
+        walked = more_clean name b lt is next;
+        quiet = quiet_then g old mid new h.quiet quiet;
+      }
+
+      named_refused : (name : CidParts) (told : StoreRefusal) → i < length names → name ≡ get_or names i name → NamedRefused g name mid new told → NamesRefused g names old new told
+      named_refused name (refusal.Damaged n) lt is p = (
+        subst (λ x. Among x names) (sym p.0) (at_among names i name lt is),
+        λ clean.
+            let s = (before_clean clean).0 in
+            let k = p.1 clean in (
+              same_then (g.view old) (g.view mid) (g.view new) s k.0,
+              λ l. damaged_same (g.view old) (g.view mid) n s (k.1 (subst (λ (t : Trees). IsListed (t name_tree) (cid_bytes n)) (sym s.trees) l)),
+            ),
+      )
+      named_refused name told lt is p = fails_same g old mid new told h.quiet (λ clean. (h.walked clean).0) quiet p
+
+      pub tree_stopped : {E : Type 0} (name : CidParts) (e : WriteCarError E) → i < length names → name ≡ get_or names i name → NamedUnwritten g name mid now e after new → NamesUnwritten g root names old before e after new
+      tree_stopped name (car.Write e) lt is n = (
+        ss ++ (name, n.0) ∷ [],
+        all_more (λ (s : Section). IsNamed s.0 s.1) ss (name, n.0) h.named n.1,
+        subst (λ t. Stops (Some t) before after e) (car_push g (cid_bytes root ∷ []) ss (name, n.0)) (Stops-then (Some (tree_bytes root ss)) (Some (section_bytes (name, n.0))) before now after e h.wrote n.2),
+        λ clean. let k = more_clean name n.0 lt is n.3 clean in (k.0, (drop (i + 1) names, k.1)),
+      )
+      tree_stopped name (car.Store told) lt is n = (
+        named_refused name told lt is n.1,
+        (
+          ss,
+          h.named,
+          subst (λ w. WroteAll (Some (tree_bytes root ss)) before w) (sym n.0) h.wrote,
+          λ clean. (drop i names, (before_clean clean).1),
+        ),
+      )
+
+    pub tree_done : (mid : S) (now : Written) (i : ℕ) (ss : List Section) → length names ≤ i → IsTreeWritten root names old before i ss now mid → WritesNames g root names old before now mid
+    tree_done mid now i ss end h = (
+      ss,
+      h.named,
+      h.wrote,
+      record { header = h.header; all = h.sections_are; is = refl },
+      λ clean.
+          let w = h.walked clean in
+          (w.0, λ stored shows. sym (append-nil ss) ∙ ap (λ ns. ss ++ sections_at stored ns) (sym (drop_all i names end)) ∙ w.1 stored shows),
+    )
+
+  -- ---- the call
+
+  module _ (root : CidParts) (old mid : S) (r : Reached) (before : Quiet g old mid) (same : IsClean (g.view mid) → IsSame (g.view old) (g.view mid)) (reached : IsClean (g.view mid) → Reaches (g.view old) root r) where
+    pub tree_lost : (E : Type 0) (sent : Written) → r.found.items ≡ [] → (IsInline root → ⊥) → TreeRefused {E = E} g root old sent tree.NotStored sent mid
+    tree_lost E sent none other = (refl, λ clean. (same clean, λ stored shows. lost_root stored root r.found.items (reached clean stored shows).0 none other))
+
+    module _ (new : S) (sent after : Written) (quiet : Quiet g mid new) (either : r.found.items ≡ [] → IsInline root) where
+      was : IsClean (g.view new) → IsClean (g.view mid)
+      was clean = omega (arith, quiet.clean)
+
+      of_old : (IsSo : Stored → Type 0) → IsClean (g.view new) → OfStored (g.view mid) IsSo → OfStored (g.view old) IsSo
+      of_old IsSo clean h stored shows = h stored (shows_same (g.view old) (g.view mid) stored (same (was clean)) shows)
+
+      leads : IsClean (g.view new) → OfStored (g.view old) (λ stored. IsLost stored root → ⊥)
+      leads clean stored shows = not_lost stored root r.found.items (reached (was clean) stored shows).0 either
+
+      first_reached : (ss : List Section) → IsClean (g.view new) → AreFirstAt (g.view mid) r.found.items ss → OfStored (g.view old) (λ stored. (IsLost stored root → ⊥) × AreFirstReached stored root ss)
+      first_reached ss clean f stored shows = (
+        leads clean stored shows,
+        (sections_at stored f.0, (r.found.items, (reached (was clean) stored shows).0, f.1 stored (shows_same (g.view old) (g.view mid) stored (same (was clean)) shows))),
+      )
+
+      pub tree_written : WritesNames g root r.found.items mid sent after new → WritesTree g root old sent r.lost.items after new
+      tree_written w = (
+        w.0,
+        w.1,
+        w.2,
+        w.3,
+        λ clean. (
+          same_then (g.view old) (g.view mid) (g.view new) (same (was clean)) (w.4 clean).0,
+          λ stored shows. (
+            leads clean stored shows,
+            (reached (was clean) stored shows).1,
+            (r.found.items, (reached (was clean) stored shows).0, (w.4 clean).1 stored (shows_same (g.view old) (g.view mid) stored (same (was clean)) shows)),
+          ),
+        ),
+      )
+
+      names_refused : (told : StoreRefusal) → NamesRefused g r.found.items mid new told → ReachRefused g root old new told
+      names_refused (refusal.Damaged n) p = λ clean.
+          let s = same (was clean) in
+          let k = p.1 clean in (
+            same_then (g.view old) (g.view mid) (g.view new) s k.0,
+            λ stored shows.
+                let q = ((reached (was clean) stored shows).0.lists.all n).0 p.0 in
+                (damaged_same (g.view old) (g.view mid) n s (k.1 (listed_there (g.view mid) stored n (shows_same (g.view old) (g.view mid) stored s shows) q.0)), q.1),
+          )
+      names_refused told p = fails_same g old mid new told before same quiet p
+
+      pub tree_refused : {E : Type 0} (e : WriteCarError E) → NamesUnwritten g root r.found.items mid sent e after new → TreeRefused g root old sent (tree.Unwritten e) after new
+      tree_refused (car.Write e) n = (
+        n.0,
+        n.1,
+        n.2,
+        λ clean. (same_then (g.view old) (g.view mid) (g.view new) (same (was clean)) (n.3 clean).0, first_reached n.0 clean (n.3 clean).1),
+      )
+      tree_refused (car.Store told) n = (names_refused told n.0, inr (n.1.0, n.1.1, n.1.2, λ clean. first_reached n.1.0 clean (n.1.3 clean)))

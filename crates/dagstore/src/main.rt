@@ -2,28 +2,52 @@
 #![tactic(auto)]
 
 mod command;
+mod progress;
 mod said;
 mod walk;
 
 use command::{Command, command_of};
 use dagcbor_cli::{arguments, give_up};
 use dagcbor_heads::{Input, IoReader, IoWriter};
-use dagcbor_store::{BlockStore, FileFrom, FileStore, Wary, WriteCarError};
+use dagcbor_store::{BlockStore, FileFrom, FileStore, ReadCarError, Wary, WriteCarError};
 use ipld_tree::Cid;
-use said::{NOT_WRITTEN, OUT_OF_MEMORY, USAGE, say_block, say_count, say_refusal, say_unread};
-use std::io::{BufReader, BufWriter, Write};
+use progress::{Counted, Progress};
+use said::{
+    Fault, NOT_WRITTEN, OUT_OF_MEMORY, USAGE, say_block, say_count, say_fault, say_refusal,
+    say_unread,
+};
+use std::alloc::Global;
+use std::io;
+use std::io::{BufRead, BufReader, BufWriter, IsTerminal, Write};
 use std::process::ExitCode;
 use walk::{check, list};
 
 type Store = BlockStore<FileStore<FileFrom<Wary>>>;
+
+/// After so many bytes, and so many blocks, progress is told.
+const BYTES: u64 = 10_000_000;
+
+const BLOCKS: u64 = 10_000;
+
+/// Keeps the blocks of the file that the source has, and tells how far it is.
+fn read_counted<R: BufRead + Drop, W: Write>(
+    rt: &HostRuntime,
+    store: &mut Store,
+    source: R,
+    errors: &mut W,
+) -> Result<(Vec<Cid>, u64), ReadCarError<io::Error>> {
+    let is_told = rt.stderr().is_terminal();
+    let progress = Progress::new(rt.alloc(), errors, is_told, "bytes are read", BYTES);
+    let mut input = Input::Reader(IoReader::new(Counted { source, progress }));
+    store.read_car(&mut input)
+}
 
 /// Keeps the blocks of the file on standard input, all of them or none.
 fn run_import<W: Write>(rt: &HostRuntime, store: &mut Store, errors: &mut W) -> u8 {
     let Ok(source) = BufReader::new(rt.alloc(), rt.reader()) else {
         return give_up(errors, OUT_OF_MEMORY, 2);
     };
-    let mut input = Input::Reader(IoReader::new(source));
-    match store.read_car(&mut input) {
+    match read_counted(rt, store, source, errors) {
         Ok((_roots, count)) => say_count(
             rt.alloc(),
             "stored",
@@ -70,6 +94,15 @@ fn flushed<O: Write + Drop, W: Write>(mut output: O, status: u8, errors: &mut W)
     }
 }
 
+/// Status 1 where something is wrong.
+fn status_of<W: Write>(alloc: Global, is_well: Result<bool, Fault>, errors: &mut W) -> u8 {
+    match is_well {
+        Ok(true) => 0,
+        Ok(false) => 1,
+        Err(fault) => say_fault(alloc, fault, errors),
+    }
+}
+
 /// Writes a line for each block.
 fn run_lines<W: Write>(rt: &HostRuntime, store: &mut Store, judges: bool, errors: &mut W) -> u8 {
     let alloc = rt.alloc();
@@ -77,9 +110,12 @@ fn run_lines<W: Write>(rt: &HostRuntime, store: &mut Store, judges: bool, errors
         return give_up(errors, OUT_OF_MEMORY, 2);
     };
     let status = if judges {
-        check(alloc, store, &mut output, errors)
+        let is_told = rt.stderr().is_terminal();
+        let mut progress = Progress::new(alloc, errors, is_told, "blocks are judged", BLOCKS);
+        let checked = check(alloc, store, &mut output, &mut progress);
+        status_of(alloc, checked, errors)
     } else {
-        list(alloc, store, &mut output, errors)
+        status_of(alloc, list(alloc, store, &mut output), errors)
     };
     flushed(output, status, errors)
 }

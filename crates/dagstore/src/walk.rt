@@ -1,6 +1,7 @@
 //! `check` and `list`: a line for each block.
 
-use crate::said::{Fault, say_fault, say_line};
+use crate::progress::Progress;
+use crate::said::{Fault, say_line};
 use dagcbor_items::{check_slice, kind_name};
 use dagcbor_store::{BlockStore, Store, StoreRefusal};
 use ipld_tree::Cid;
@@ -8,25 +9,12 @@ use std::alloc::Global;
 use std::collections::BTreeSet;
 use std::io::Write;
 
-/// A line for each block, and one for each link that leads to nothing. Status 1 where something is
-/// wrong.
+/// A line for each block, and one for each link that leads to nothing. Whether nothing is wrong.
 pub(crate) fn check<S: Store, W: Write, E: Write>(
     alloc: Global,
     store: &mut BlockStore<S>,
     output: &mut W,
-    errors: &mut E,
-) -> u8 {
-    match check_all(alloc, store, output) {
-        Ok(true) => 0,
-        Ok(false) => 1,
-        Err(fault) => say_fault(alloc, fault, errors),
-    }
-}
-
-fn check_all<S: Store, W: Write>(
-    alloc: Global,
-    store: &mut BlockStore<S>,
-    output: &mut W,
+    progress: &mut Progress<'_, E>,
 ) -> Result<bool, Fault> {
     let mut missing = BTreeSet::new(alloc);
     let mut is_well = true;
@@ -38,6 +26,7 @@ fn check_all<S: Store, W: Write>(
         if !check_one(alloc, store, &name, &mut missing, output)? {
             is_well = false;
         }
+        progress.add(1);
         last = Some(name);
     }
     is_well = is_well && missing.is_empty();
@@ -81,21 +70,8 @@ fn say_damaged<W: Write>(alloc: Global, name: &Cid, output: &mut W) -> Result<bo
     Ok(false)
 }
 
-/// The name of each block, and its length. Status 1 where one is damaged.
-pub(crate) fn list<S: Store, W: Write, E: Write>(
-    alloc: Global,
-    store: &mut BlockStore<S>,
-    output: &mut W,
-    errors: &mut E,
-) -> u8 {
-    match list_all(alloc, store, output) {
-        Ok(true) => 0,
-        Ok(false) => 1,
-        Err(fault) => say_fault(alloc, fault, errors),
-    }
-}
-
-fn list_all<S: Store, W: Write>(
+/// The name of each block, and its length. Whether none is damaged.
+pub(crate) fn list<S: Store, W: Write>(
     alloc: Global,
     store: &mut BlockStore<S>,
     output: &mut W,

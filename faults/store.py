@@ -200,6 +200,18 @@ def words(program, at, draw):
     missing = f"missing {text_of(lost)}\n"
     expect("check", run(program, path, "check"), 1, ("".join(f"{text_of(n)} ok {kinds[n]}\n" for n, _ in stored) + missing).encode())
 
+    # The parent's tree, which leads to one block twice over, and to the lost one; and a root that is not stored.
+    above, grandparent = parent_of([name, held, name])
+    expect("import of a tree", run(program, f"{at}/e.db", "import", given=car_of({**blocks, above: grandparent})), 0, b"stored %d\n" % (len(blocks) + 1))
+    root = b"\xa2\x65roots\x81\xd8\x2a\x58\x25\x00" + above + b"\x67version\x01"
+    car = varint(len(root)) + root + b"".join(varint(len(c) + len(b)) + c + b for c, b in ((above, grandparent), (name, parent), (held, blocks[held])))
+    ran = run(program, f"{at}/e.db", "tree", text_of(above))
+    if (ran.returncode, ran.stdout, ran.stderr) != (1, car, missing.encode()):
+        wrong.append(f"tree: {ran.returncode} {len(ran.stdout)} bytes {ran.stderr}")
+    ran = run(program, f"{at}/e.db", "tree", text_of(lost))
+    if (ran.returncode, ran.stdout, ran.stderr) != (1, b"", b"dagstore: no block has the name\n"):
+        wrong.append(f"tree of a root that is not stored: {ran.returncode} {ran.stdout[:200]} {ran.stderr}")
+
     # A file with a block of other bytes at its end, and one that is cut, change nothing.
     other = block_of(draw)
     for what, car in (("other bytes", car_of({**dict([block_of(draw)]), other[0]: b"\x41\x00"})), ("cut", car_of(dict([block_of(draw), other]))[:-1])):

@@ -15,7 +15,7 @@ use Rattle.ipld_tree.specs.Cid.{CidParts, cid_bytes}
 use Rattle.dagcbor_car.specs.Names.{IsInline}
 use Rattle.dagcbor_car.specs.Car.{Section, header_bytes, section_bytes, IsHeader, IsSection}
 use Rattle.dagcbor_car.specs.Sets.{Among}
-use Rattle.dagcbor_car.specs.Reaching.{Stored, IsThere, IsLost, LeadsFar, ListsReachable, ListsLost, IsOver, Walks, WalksAt, Visits, sections_at}
+use Rattle.dagcbor_car.specs.Reaching.{Stored, IsThere, IsLost, LeadsFar, ListsReachable, ListsLost, IsOver, WalksAt, Visits, sections_at}
 use Rattle.dagcbor_car.specs.declared.reach.Reached.{Reached}
 use Rattle.dagcbor_car.specs.declared.reach.Walk.{Walk}
 use Rattle.dagcbor_car.proofs.Members.{push_among}

@@ -12,6 +12,8 @@ pub(crate) enum Command {
     Export,
     /// To write the one under the name.
     Get(Cid),
+    /// To write those that links lead to from the one under the name, as a file of blocks.
+    Tree(Cid),
     /// To judge each, and its links.
     Check,
     /// To list them.
@@ -25,12 +27,13 @@ pub(crate) fn command_of(words: &[String]) -> Option<(&str, Command)> {
     match words {
         [path, word] => Some((path.as_str(), command_named(word.as_str())?)),
         [path, word, name] => {
-            if word.as_str() != "get" {
+            let Ok(name) = cid_from_text(name.as_bytes()) else {
                 return None;
-            }
-            match cid_from_text(name.as_bytes()) {
-                Ok(name) => Some((path.as_str(), Command::Get(name))),
-                Err(_) => None,
+            };
+            match word.as_str() {
+                "get" => Some((path.as_str(), Command::Get(name))),
+                "tree" => Some((path.as_str(), Command::Tree(name))),
+                _ => None,
             }
         }
         _ => None,

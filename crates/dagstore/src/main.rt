@@ -9,12 +9,12 @@ mod walk;
 use command::{Command, command_of};
 use dagcbor_cli::{arguments, give_up};
 use dagcbor_heads::{Input, IoReader, IoWriter};
-use dagcbor_store::{BlockStore, FileFrom, FileStore, ReadCarError, Wary, WriteCarError};
+use dagcbor_store::{BlockStore, FileFrom, FileStore, ReadCarError, Wary, WriteTreeError};
 use ipld_tree::Cid;
 use progress::{Counted, Progress};
 use said::{
-    Fault, NOT_WRITTEN, OUT_OF_MEMORY, USAGE, say_block, say_count, say_fault, say_refusal,
-    say_unread,
+    Fault, NO_BLOCK, NOT_WRITTEN, OUT_OF_MEMORY, USAGE, say_block, say_count, say_fault, say_lost,
+    say_refusal, say_unread, say_unwritten,
 };
 use std::alloc::Global;
 use std::io;
@@ -67,8 +67,24 @@ fn run_export<W: Write>(rt: &HostRuntime, store: &mut Store, errors: &mut W) -> 
     let mut writer = IoWriter::new(output);
     match store.write_car(&[], &mut writer) {
         Ok(()) => flushed(writer.into_inner(), 0, errors),
-        Err(WriteCarError::Write(_)) => give_up(errors, NOT_WRITTEN, 2),
-        Err(WriteCarError::Store(refusal)) => say_refusal(rt.alloc(), &refusal, errors),
+        Err(error) => say_unwritten(rt.alloc(), &error, errors),
+    }
+}
+
+/// Writes the file of the blocks that links lead to from the root on standard output, and the links
+/// that lead to none on standard error.
+fn run_tree<W: Write>(rt: &HostRuntime, store: &mut Store, root: &Cid, errors: &mut W) -> u8 {
+    let Ok(output) = BufWriter::new(rt.alloc(), rt.stdout().lock()) else {
+        return give_up(errors, OUT_OF_MEMORY, 2);
+    };
+    let mut writer = IoWriter::new(output);
+    match store.write_tree(root, &mut writer) {
+        Ok(lost) => {
+            let status = say_lost(rt.alloc(), &lost, errors);
+            flushed(writer.into_inner(), status, errors)
+        }
+        Err(WriteTreeError::NotStored) => give_up(errors, NO_BLOCK, 1),
+        Err(WriteTreeError::Unwritten(error)) => say_unwritten(rt.alloc(), &error, errors),
     }
 }
 
@@ -129,6 +145,7 @@ fn run<W: Write>(rt: &HostRuntime, path: &str, command: Command, errors: &mut W)
         Command::Import => run_import(rt, &mut store, errors),
         Command::Export => run_export(rt, &mut store, errors),
         Command::Get(name) => run_get(rt, &mut store, &name, errors),
+        Command::Tree(root) => run_tree(rt, &mut store, &root, errors),
         Command::Check => run_lines(rt, &mut store, true, errors),
         Command::List => run_lines(rt, &mut store, false, errors),
         Command::Count => run_count(rt, &mut store, errors),

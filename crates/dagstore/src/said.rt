@@ -3,7 +3,7 @@
 use cid_text::cid_text;
 use dagcbor_car::CarError;
 use dagcbor_cli::{give_up, write_all};
-use dagcbor_store::{ReadCarError, StoreRefusal};
+use dagcbor_store::{ReadCarError, StoreRefusal, WriteCarError};
 use ipld_tree::Cid;
 use std::alloc::{AllocError, Global};
 use std::io::Write;
@@ -29,7 +29,7 @@ impl From<AllocError> for Fault {
 }
 
 pub(crate) const USAGE: &str =
-    "usage: dagstore FILE import|export|check|list|count, dagstore FILE get CID\n";
+    "usage: dagstore FILE import|export|check|list|count, dagstore FILE get|tree CID\n";
 
 pub(crate) const OUT_OF_MEMORY: &str = "dagstore: out of memory\n";
 
@@ -39,7 +39,7 @@ const NO_FILE: &str = "dagstore: the input is no file of blocks\n";
 
 const NOT_READ: &str = "dagstore: the input failed\n";
 
-const NO_BLOCK: &str = "dagstore: no block has the name\n";
+pub(crate) const NO_BLOCK: &str = "dagstore: no block has the name\n";
 
 /// Status 1 where the data are the cause, else 2.
 fn status_of(refusal: &StoreRefusal) -> u8 {
@@ -108,6 +108,26 @@ pub(crate) fn say_unread<R: Drop, W: Write>(
         ReadCarError::Store(refusal) => say_refusal(alloc, refusal, errors),
         ReadCarError::OutOfMemory => give_up(errors, OUT_OF_MEMORY, 2),
     }
+}
+
+/// Says why a file was not written.
+pub(crate) fn say_unwritten<R: Drop, W: Write>(
+    alloc: Global,
+    error: &WriteCarError<R>,
+    errors: &mut W,
+) -> u8 {
+    match error {
+        WriteCarError::Write(_) => give_up(errors, NOT_WRITTEN, 2),
+        WriteCarError::Store(refusal) => say_refusal(alloc, refusal, errors),
+    }
+}
+
+/// Says which links lead to no block. Status 1 where one does.
+pub(crate) fn say_lost<W: Write>(alloc: Global, lost: &[Cid], errors: &mut W) -> u8 {
+    for name in lost {
+        let _ = say_line(alloc, b"missing ", name, b"", b"", errors);
+    }
+    if lost.is_empty() { 0 } else { 1 }
 }
 
 /// Says why not all lines were written.

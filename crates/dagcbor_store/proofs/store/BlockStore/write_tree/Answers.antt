@@ -1,4 +1,4 @@
-use Rattle.std.proofs.Common.{rules, [], ◌≡◌, sym, subst}
+use Rattle.std.proofs.Common.{rules, [], ◌≡◌, subst}
 use Rattle.dagcbor_car.specs.Names.{IsInline}
 use Rattle.dagcbor_store.specs.Trees.{WritesNames, NamesUnwritten}
 use Rattle.dagcbor_store.proofs.Trees.{none_there, some_there, tree_lost, tree_written, tree_refused}

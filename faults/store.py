@@ -183,7 +183,7 @@ def words(program, at, draw):
             wrong.append(f"{what}: {ran.returncode} {ran.stdout[:200]} {ran.stderr}")
 
     blocks = dict(block_of(draw) for _ in range(200))
-    lost = block_of(draw)[0]
+    lost = next(name for name, _ in iter(lambda: block_of(draw), None) if name not in blocks)
     held = next(iter(blocks))
     name, parent = parent_of([lost, held, lost])
     blocks[name] = parent

@@ -16,7 +16,9 @@ fn blocks_last(rt: HostRuntime) -> Result<(), Fail> {
     let _ = fs::remove_dir_all(&rt, FOLDER);
     fs::create_dir(&rt, FOLDER)?;
     let mut store = BlockStore::open(&rt, FILE, Wary)?;
-    let name = store.put(&23u8)?;
+    let Ok(name) = store.put(&23u8) else {
+        return Err(Fail::new("not put"));
+    };
     let value: Option<u8> = store.get(&name)?;
     assert_eq!(rt; value, Some(23));
     assert_eq!(rt; name, name_of_block(b"\x17"));

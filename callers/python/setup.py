@@ -9,11 +9,20 @@ import subprocess
 import sys
 import tempfile
 
-from setuptools import Extension, setup
+from setuptools import Distribution, Extension, setup
+from setuptools.errors import ModuleError
 
 HERE = os.path.dirname(os.path.abspath(__file__))
 CALLERS = os.path.dirname(HERE)
 CRATE = os.path.join(os.path.dirname(CALLERS), "crates", "dagcbor_ffi")
+
+
+def demand_wheel():
+    """Refuses a setuptools that makes no wheels, before anything is proved for one."""
+    try:
+        Distribution().get_command_class("bdist_wheel")
+    except ModuleError:
+        sys.exit("dagcbor: this Python's setuptools makes no wheels: 70.1 does, or an older one with the package `wheel`")
 
 
 def library():
@@ -29,6 +38,7 @@ def library():
 
 
 os.chdir(HERE)
+demand_wheel()
 archive, include = library(), os.path.join(CRATE, "include")
 made = tempfile.TemporaryDirectory(prefix="dagcbor-")  # it is there until this process ends
 native = Extension(

@@ -20,7 +20,7 @@ use Rattle.dagcbor_items.specs.Items.{HasRow}
 use Rattle.dagcbor_read.specs.Collections.{view_list, need_list, view_none, TakesRow, ReadsRest, list_of, all_of, no_more, first_then}
 use Rattle.dagcbor_items.proofs.Rows.{row_entered, row_first}
 use Rattle.dagcbor_read.proofs.Progressing.{call_answered}
-use Rattle.dagcbor_read.proofs.Passing.{SameReader, refusal_carried, or_left, or_right, lacks_before}
+use Rattle.dagcbor_read.proofs.Passing.{SameReader, refusal_carried, given_back, or_left, or_right, lacks_before}
 use Rattle.dagcbor_items.specs.Shapes.{Shape}
 
 pub same_reader : {old new : Reading} → Stays old new → SameReader old new
@@ -28,13 +28,9 @@ same_reader h = record { faults = h.faults; lends = h.lends }
 
 -- what was entered with a step is left with that step again
 pub left_again : {major count : ℕ} {old mid now new : Reading} → Enters major count old mid → Stays mid now → new ≡ with_steps (now.steps + 1) now → Stays old new
-left_again {major} {count} {old} {mid} {now} {new} n r back = record {
-  steps = omega (arith, ap (λ (r : Reading). r.steps) back, r.steps, n.takes.same.steps, n.step);
-  budget = ap (λ (r : Reading). r.budget) back ∙ r.budget ∙ n.takes.same.budget;
-  lends = ap (λ (r : Reading). r.lends) back ∙ r.lends ∙ n.takes.same.lends;
-  faults = ap (λ (r : Reading). r.faults) back ∙ r.faults ∙ n.takes.same.faults;
-  through = ap (λ (r : Reading). r.through) back ∙ r.through ∙ n.takes.same.through;
-}
+left_again n r back =
+    let a = n.takes.same in
+    given_back (record { steps = omega (arith, a.steps, n.step); budget = a.budget; lends = a.lends; faults = a.faults; through = a.through }) r refl back
 
 -- ---- options
 
@@ -138,16 +134,6 @@ module _ {V : Type 0} (shape : Shape Tree V) where
     pub has : HasRow (all_of shape) before.left old.input → HasRow (all_of shape) now_left.left now.input
     pub takes : (count : ℕ) (ws : List V) (new : Reading) → TakesRow (all_of shape) count now.input ws new
         → TakesRow (all_of shape) (count + (before.left - now_left.left)) old.input (vs ++ ws) new
-
-  pub no_item_so_far : (before : AccessorState) (old : DeState) (vs : List V) → old.failed ≡ false → vs ≡ [] → ReadSoFar before old before vs old
-  no_item_so_far before old vs f e = subst (λ x. ReadSoFar before old before x old) (sym e) record {
-    sound = f;
-    is = refl;
-    fewer = omega arith;
-    same = stays old.input;
-    has = λ h. h;
-    takes = λ count ws new t. as_row ws ws (omega arith) refl t;
-  }
 
   first_of : {r : Reading} {count : ℕ} → 0 < count → HasRow (all_of shape) count r → HasFront shape r
   first_of = row_first shape (all_of shape) (λ v vs. v ∷ vs) (all_of shape) (λ t ts. refl) (λ t ts. refl)

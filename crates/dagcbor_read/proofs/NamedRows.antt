@@ -13,12 +13,19 @@ use Rattle.dagcbor_items.proofs.StringItems.{text_taken}
 use Rattle.dagcbor_read.specs.Accessors.{AccessorState, with_key, with_value}
 use Rattle.dagcbor_read.specs.Collections.{FieldShape, value_of, HasFields, fields_memory}
 use Rattle.dagcbor_read.specs.Deserializers.{DeState}
-use Rattle.dagcbor_read.specs.Named.{TakesName, TakesField, ReadsNamed, ReadsNamedValue}
+use Rattle.dagcbor_read.specs.Named.{TakesName, TakesKnown, TakesField, ReadsNamed, ReadsNamedValue}
 use Rattle.dagcbor_read.specs.Structs.{place}
+use Rattle.dagcbor_read.proofs.Answered.{KeyRead}
 use Rattle.dagcbor_read.proofs.EntryRows.{FieldsSoFar, one_more_field, value_not_read}
 use Rattle.dagcbor_read.proofs.ItemRows.{same_reader}
 use Rattle.dagcbor_read.proofs.FieldPlaces.{other_name, takes_as, front_as}
 use Rattle.dagcbor_read.proofs.Passing.{refusal_carried, or_left, or_right, lacks_before}
+
+name_taken : {last : Option (List ℕ)} {name : List ℕ} {old mid : DeState} → TakesName last name old mid → TakesKnown (λ k. HasName last k old.input) last old name mid
+name_taken h = record { is = h.0; follows = h.0.follows; read = h.1; takes = text_taken _ h.2 }
+
+key_known : {known : List ℕ → Type 0} {last : Option (List ℕ)} {left : ℕ} {old mid : DeState} {key : List ℕ} → 0 < left → TakesKnown known last old key mid → KeyRead last left old key mid
+key_known some t = record { sound = t.read; some = some; follows = t.follows; takes = t.takes }
 
 module _ {V S : Type 0} (name : List ℕ) (shape : Shape Tree V) (others : FieldShape S) (o : Option V) (state : S) where
   -- ---- the first place
@@ -35,10 +42,7 @@ module _ {V S : Type 0} (name : List ℕ) (shape : Shape Tree V) (others : Field
   first_named before with_name after old mid new true refusal (Some v) is h r = record {
     key = name;
     mid = mid;
-    is = h.0;
-    follows = h.0.follows;
-    read = h.1;
-    takes = text_taken _ h.2;
+    begun = name_taken h;
     counted = r.0 ∙ ap with_value is;
     sound = r.1;
     value = takes_as (λ v. (Some v, state)) shape (value_of (place name shape others) (o, state) name) own_view own_need r.2;
@@ -47,10 +51,7 @@ module _ {V S : Type 0} (name : List ℕ) (shape : Shape Tree V) (others : Field
   first_named before with_name after old mid new false (Some e) p is h r = record {
     key = name;
     mid = mid;
-    is = h.0;
-    follows = h.0.follows;
-    read = h.1;
-    takes = text_taken _ h.2;
+    begun = name_taken h;
     refused = refusal_carried Anything Anything mid.input mid.input new.input e record { faults = refl; lends = refl }
         (λ front. front_as (λ v. (Some v, state)) shape (value_of (place name shape others) (o, state) name) own_view own_need front) (or_left _ _) (or_left _ _) (λ b l g. tt) r;
   }
@@ -68,27 +69,21 @@ module _ {V S : Type 0} (name : List ℕ) (shape : Shape Tree V) (others : Field
       → ¬ HasName before.last name old.input → ReadsNamed others state before old taken refusal s after new
       → ReadsNamed (place name shape others) (o, state) before old taken refusal (o, s) after new
   other_named before after old new true refusal s none h =
-      let e = other_name (λ is. none (subst (λ k. HasName before.last k old.input) is h.is)) in
+      let e = other_name (λ is. none (subst (λ k. HasName before.last k old.input) is h.begun.is)) in
       record {
         key = h.key;
         mid = h.mid;
-        is = h.is;
-        follows = h.follows;
-        read = h.read;
-        takes = h.takes;
+        begun = h.begun;
         counted = h.counted;
         sound = h.sound;
         value = takes_as (λ x. (o, x)) (value_of others state h.key) (value_of (place name shape others) (o, state) h.key) (other_view h.key e) (other_need h.key e) h.value;
       }
   other_named before after old new false (Some r) s none h =
-      let e = other_name (λ is. none (subst (λ k. HasName before.last k old.input) is h.is)) in
+      let e = other_name (λ is. none (subst (λ k. HasName before.last k old.input) is h.begun.is)) in
       record {
         key = h.key;
         mid = h.mid;
-        is = h.is;
-        follows = h.follows;
-        read = h.read;
-        takes = h.takes;
+        begun = h.begun;
         refused = refusal_carried Anything Anything h.mid.input h.mid.input new.input r record { faults = refl; lends = refl }
             (λ front. front_as (λ x. (o, x)) (value_of others state h.key) (value_of (place name shape others) (o, state) h.key) (other_view h.key e) (other_need h.key e) front) (or_right _ _) (or_right _ _) (λ b l g. tt) h.refused;
       }
@@ -107,14 +102,14 @@ module _ {S : Type 0} (shape : FieldShape S) {start s : S} {before now_left : Ac
   pub field_so_far : {known : List ℕ → Type 0} {next : S} {after : AccessorState} {new : DeState} → FieldsSoFar shape start before old now_left s now → 0 < now_left.left
       → TakesField known shape s now_left now next after new → FieldsSoFar shape start before old after next new
   field_so_far {known} {next} {after} {new} i some t =
-      one_more_field shape t.key t.key refl i record { sound = t.read; some = some; follows = t.follows; takes = t.takes } refl t.counted t.sound t.value
+      one_more_field shape t.key t.key refl i (key_known some t.begun) refl t.counted t.sound t.value
 
   pub named_value_refused : {E : Type 0} (after : AccessorState) (s' : S) (new : DeState) (refusal : Option (DecodeError E)) (e : DecodeError E) → refusal ≡ Some e → FieldsSoFar shape start before old now_left s now → 0 < now_left.left
       → ReadsNamed shape s now_left now false refusal s' after new
       → Refuses (HasFields shape start before.last before.left old.input) (MayLack (fields_memory shape) old.input) (shape.wants_loan ≡ true) Anything old.input e new.input
   named_value_refused {E} after s' new refusal e is i some h =
       let r = subst (λ x. ReadsNamed shape s now_left now false x s' after new) is h in
-      value_not_read shape (MayLack shape.memory r.mid.input) (shape.wants_loan ≡ true) new.input e r.key r.key refl i record { sound = r.read; some = some; follows = r.follows; takes = r.takes } (or_right (unless_lent r.mid.input.lends) (shape.memory r.mid.input.lends)) r.refused
+      value_not_read shape (MayLack shape.memory r.mid.input) (shape.wants_loan ≡ true) new.input e r.key r.key refl i (key_known some r.begun) (or_right (unless_lent r.mid.input.lends) (shape.memory r.mid.input.lends)) r.refused
 
   pub nothing_named : {E : Type 0} {after : AccessorState} {s' : S} {new : DeState} (refusal : Option (DecodeError E)) → refusal ≡ None → FieldsSoFar shape start before old now_left s now
       → ReadsNamed shape s now_left now false refusal s' after new → FieldsSoFar shape start before old after s' new × (after ≡ now_left)

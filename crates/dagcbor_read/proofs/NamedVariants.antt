@@ -11,6 +11,7 @@ use Rattle.dagcbor_heads.specs.declared.error.DecodeError.{DecodeError}
 use Rattle.dagcbor_heads.specs.declared.error.DecodeError.TheVariants.{Msg, Mismatch}
 use Rattle.dagcbor_heads.specs.declared.name.Name.{Name}
 use Rattle.dagcbor_heads.proofs.Heads.{head_whole}
+use Rattle.dagcbor_heads.proofs.Taking.{stays_both}
 use Rattle.ipld_tree.specs.Tree.{Tree, text, mapping, no_entries, entry}
 use Rattle.ipld_tree.specs.Spelling.{IsFront, entries_spelling}
 use Rattle.ipld_tree.proofs.Fronts.{front_first, front_unique, map_opened, entry_opened, entry_closed}
@@ -26,7 +27,7 @@ use Rattle.dagcbor_read.specs.declared.access.enum_accessor.EnumAccessor.{EnumAc
 use Rattle.dagcbor_read.proofs.Progressing.{call_answered, call_told}
 use Rattle.dagcbor_read.proofs.FieldPlaces.{takes_as, front_as}
 use Rattle.dagcbor_read.proofs.Finishing.{value_unfinished}
-use Rattle.dagcbor_read.proofs.Passing.{SameReader, refusal_carried, or_left, or_right, lacks_before, lacks_unlent}
+use Rattle.dagcbor_read.proofs.Passing.{SameReader, Entered, given_back, refusal_carried, or_left, or_right, lacks_before, lacks_unlent}
 
 -- ---- texts and the first byte
 
@@ -46,13 +47,6 @@ none_some {V} {o} n e = let both : is_some o ≡ false = ap is_some n in absurd 
 -- what `deserialize_enum` answers
 pub Spent : EnumState → Reading → Reading → Type 0
 Spent e old mid = (e.steps ≡ 1) × (0 < old.steps) × (mid.steps < mid.budget) × TakesForm e (with_steps (old.steps - 1) old) mid
-
-record Entered (old mid : Reading) : Type 0 where
-  steps : mid.steps + 1 ≡ old.steps
-  budget : mid.budget ≡ old.budget
-  lends : mid.lends ≡ old.lends
-  faults : mid.faults ≡ old.faults
-  through : mid.through ≡ old.through
 
 enum_entered : (e : EnumState) {old mid : Reading} → Spent e old mid → Entered old mid
 unfolding Spent
@@ -250,13 +244,7 @@ module _ {V : Type 0} (shape : EnumShape V) where
               omega (arith, ap (need_enum shape.need) name, n.spent.1),
               ap (λ (x : Reading). x.left) h.1 ∙ t.5,
             );
-        same = record {
-          steps = omega (arith, ap (λ (x : Reading). x.steps) h.1, n.name.same.steps, i.steps, n.spent.0);
-          budget = ap (λ (x : Reading). x.budget) h.1 ∙ n.name.same.budget ∙ i.budget;
-          lends = ap (λ (x : Reading). x.lends) h.1 ∙ n.name.same.lends ∙ i.lends;
-          faults = ap (λ (x : Reading). x.faults) h.1 ∙ n.name.same.faults ∙ i.faults;
-          through = ap (λ (x : Reading). x.through) h.1 ∙ n.name.same.through ∙ i.through;
-        };
+        same = given_back i n.name.same n.spent.0 h.1;
       }
 
   -- the bytes of the map
@@ -287,13 +275,7 @@ module _ {V : Type 0} (shape : EnumShape V) where
               omega (arith, u.4, n.name.same.steps, i.steps),
               ap (λ (x : Reading). x.left) back ∙ u.5,
             );
-        same = record {
-          steps = omega (arith, ap (λ (x : Reading). x.steps) back, a.same.steps, n.name.same.steps, i.steps, n.spent.0);
-          budget = ap (λ (x : Reading). x.budget) back ∙ a.same.budget ∙ n.name.same.budget ∙ i.budget;
-          lends = ap (λ (x : Reading). x.lends) back ∙ a.same.lends ∙ n.name.same.lends ∙ i.lends;
-          faults = ap (λ (x : Reading). x.faults) back ∙ a.same.faults ∙ n.name.same.faults ∙ i.faults;
-          through = ap (λ (x : Reading). x.through) back ∙ a.same.through ∙ n.name.same.through ∙ i.through;
-        };
+        same = given_back i (stays_both n.name.same a.same) n.spent.0 back;
       }
 
 -- ---- calls
@@ -336,25 +318,6 @@ module _ {V : Type 0} (shape : EnumShape V) where
 
   -- ---- a variant that is its name alone
 
-  pub unit_read : (E : Type 0) (e : EnumState) (old new : DeState) {k : List ℕ} (name : List ℕ) {v : V} → k ≡ name → shape.unit name ≡ Some v → Call (EndsUnit {E = E} e) old (Ok tt) new
-      → (new.failed ≡ false) × TakesVariant shape k e old.input v new.input
-  unit_read E e old new {k} name {v} is shows h =
-      let r = call_answered (EndsUnit e) old new tt h in
-      let taken : (shape.unit k ≡ Some v) × (new.input ≡ with_steps (old.input.steps + e.steps) old.input) = (ap shape.unit is ∙ shows, r.2.1) in (
-        r.1,
-        subst (λ b. MatchBool b ((end : Reading) × TakesFront (part_of shape k) old.input v end × (new.input ≡ with_steps (end.steps + e.steps) end)) ((shape.unit k ≡ Some v) × (new.input ≡ with_steps (old.input.steps + e.steps) old.input))) (sym r.2.0) taken,
-      )
-
-  -- it is not begun as a map
-  pub unit_refused : {E : Type 0} (borrows : Type 0) (e : EnumState) (old new : DeState) {k : List ℕ} (name : List ℕ) (r : DecodeError E) → k ≡ name → ((t : Tree) → shape.part name t ≡ None) → old.failed ≡ false → Call (EndsUnit e) old (Err r) new
-      → Refuses (HasVariant shape k e old.input) (MayLack shape.memory old.input) borrows Anything old.input r new.input
-  unit_refused {E} borrows e old new {k} name r is none f h =
-      let g = (call_told (EndsUnit e) old new (Err r) f h).1 in
-      other_form_refused (MayLack shape.memory old.input) borrows old.input new.input e r g.1 (ap (λ (x : Reading). x.faults) g.2)
-      (λ i.
-      let p = subst (λ b. MatchBool b (HasFront (part_of shape k) old.input) (is_some (shape.unit k) ≡ true)) g.0 i in
-      none_some (ap (λ x. shape.part x p.tree) is ∙ none p.tree) p.accepted)
-
   -- no variant has the name
   pub unknown_variant : {E : Type 0} (borrows : Type 0) (e : EnumState) (old : Reading) {k : List ℕ} {message : Name} (r : DecodeError E) → r ≡ Msg message → shape.unit k ≡ None → ((t : Tree) → shape.part k t ≡ None)
       → Refuses (HasVariant shape k e old) (MayLack shape.memory old) borrows Anything old r old
@@ -367,19 +330,6 @@ module _ {V : Type 0} (shape : EnumShape V) where
   -- ---- a variant that holds a value of another type
 
   module _ {W : Type 0} (f : W → V) (own : Shape Tree W) {T : Type 0} (E : Type 0) (meaning : T → W) where
-    pub fields_read : (e : EnumState) (old new : DeState) {k : List ℕ} (name : List ℕ) (w : T) → k ≡ name → ((t : Tree) → shape.part name t ≡ option_map f (own.view t)) → ((t : Tree) → shape.need name t ≡ own.need t)
-        → old.failed ≡ false → ReadsFieldsHeld {E = E} meaning own e old (Ok w) new
-        → (new.failed ≡ false) × TakesVariant shape k e old.input (f (meaning w)) new.input
-    fields_read e old new {k} name w is same much sound h =
-        let r = h sound in
-        let taken = r.1.1 in
-        let takes = takes_as f own (part_of shape name) same much taken.1 in
-        let there : (end : Reading) × TakesFront (part_of shape k) old.input (f (meaning w)) end × (new.input ≡ with_steps (end.steps + e.steps) end) =
-        (taken.0, subst (λ x. TakesFront (part_of shape x) old.input (f (meaning w)) taken.0) (sym is) takes, taken.2) in (
-          r.0,
-          subst (λ b. MatchBool b ((end : Reading) × TakesFront (part_of shape k) old.input (f (meaning w)) end × (new.input ≡ with_steps (end.steps + e.steps) end)) ((shape.unit k ≡ Some (f (meaning w))) × (new.input ≡ with_steps (old.input.steps + e.steps) old.input))) (sym r.1.0) there,
-        )
-
     pub fields_refused : (borrows : Type 0) (e : EnumState) (old new : DeState) {k : List ℕ} (name : List ℕ) (r : DecodeError E) → k ≡ name → shape.unit name ≡ None → ((t : Tree) → shape.part name t ≡ option_map f (own.view t)) → ((t : Tree) → shape.need name t ≡ own.need t)
         → (own.wants_loan ≡ true → borrows) → ((lends : Bool) → own.memory lends ≡ true → shape.memory lends ≡ true) → old.failed ≡ false → ReadsFieldsHeld meaning own e old (Err r) new
         → Refuses (HasVariant shape k e old.input) (MayLack shape.memory old.input) borrows Anything old.input r new.input
@@ -392,42 +342,7 @@ module _ {V : Type 0} (shape : EnumShape V) where
         by false g = other_form_refused (MayLack shape.memory old.input) borrows old.input new.input e r g.0 (ap (λ (x : Reading). x.faults) g.1) (λ i. none_some (ap shape.unit is ∙ none) i)
 
     -- by a call of the accessor
-    called : (e : EnumState) (old new : DeState) (r : Result T (DecodeError E)) → Call (ReadsHeld meaning own e) old r new → ReadsFieldsHeld meaning own e old r new
-    called e old new (Ok w) h sound = let r = call_answered (ReadsHeld meaning own e) old new w h in (r.1, r.2)
-    called e old new (Err x) h sound = (tt, (call_told (ReadsHeld meaning own e) old new (Err x) sound h).1)
-
-    pub held_read : (e : EnumState) (old new : DeState) {k : List ℕ} (name : List ℕ) (w : T) → k ≡ name → ((t : Tree) → shape.part name t ≡ option_map f (own.view t)) → ((t : Tree) → shape.need name t ≡ own.need t)
-        → old.failed ≡ false → Call (ReadsHeld {E = E} meaning own e) old (Ok w) new
-        → (new.failed ≡ false) × TakesVariant shape k e old.input (f (meaning w)) new.input
-    held_read e old new name w is same much sound h = fields_read e old new name w is same much sound (called e old new (Ok w) h)
-
     pub held_refused : (borrows : Type 0) (e : EnumState) (old new : DeState) {k : List ℕ} (name : List ℕ) (r : DecodeError E) → k ≡ name → shape.unit name ≡ None → ((t : Tree) → shape.part name t ≡ option_map f (own.view t)) → ((t : Tree) → shape.need name t ≡ own.need t)
         → (own.wants_loan ≡ true → borrows) → ((lends : Bool) → own.memory lends ≡ true → shape.memory lends ≡ true) → old.failed ≡ false → Call (ReadsHeld meaning own e) old (Err r) new
         → Refuses (HasVariant shape k e old.input) (MayLack shape.memory old.input) borrows Anything old.input r new.input
-    held_refused borrows e old new name r is none same much w may sound h = fields_refused borrows e old new name r is none same much w may sound (called e old new (Err r) h)
-
--- ---- the fields that a variant holds make a value, as a struct's do
-
-module _ {S W : Type 0} (fields : FieldShape S) (start : S) (finish : S → Option W) {T : Type 0} (E : Type 0) (meaning : T → S) (e : EnumState) (old new : DeState) where
-  -- a field that must be there was not there
-  pub held_unfinished : (s : T) (r : DecodeError E) (message : Name) → r ≡ Msg message → finish (meaning s) ≡ None → ReadsFieldsHeld {E = E} meaning (fields_of fields start) e old (Ok s) new
-      → ReadsFieldsHeld {T = W} (λ w. w) (struct_of fields start finish) e old (Err r) new
-  held_unfinished s r message is none h sound =
-      let k = h sound in
-      let end = k.1.1.0 in
-      let same : new.input.faults ≡ end.faults = ap (λ (x : Reading). x.faults) k.1.1.2 in
-      let u = value_unfinished (fields_of fields start) finish (fields.wants_loan ≡ true) (message, is) none (λ (u : Unit {0}). (k.0, k.1.1.1)) tt in
-      let moved : Refuses (HasFront (struct_of fields start finish) old.input) (MayLack (fields_memory fields) old.input) (fields.wants_loan ≡ true) Anything old.input r new.input =
-      told_refused (MayLack (fields_memory fields) old.input) (fields.wants_loan ≡ true) old.input r new.input is (same ∙ k.1.1.1.same.faults)
-      (subst (λ x. Refuses {E = E} (HasFront (struct_of fields start finish) old.input) (MayLack (fields_memory fields) old.input) (fields.wants_loan ≡ true) Anything old.input x end) is u).1 in
-      (tt, subst (λ b. MatchBool b (Refuses (HasFront (struct_of fields start finish) old.input) (MayLack (fields_memory fields) old.input) (fields.wants_loan ≡ true) Anything old.input r new.input) (IsOtherForm e r × (new.input ≡ old.input))) (sym k.1.0) moved)
-
--- a field that must be there was not among those that the variant holds
-pub field_missing : {V W S T : Type 0} (shape : EnumShape V) (f : W → V) (fields : FieldShape S) (start : S) (finish : S → Option W) (E : Type 0) (meaning : T → S) (borrows : Type 0)
-    (e : EnumState) (old new : DeState) {k : List ℕ} (name : List ℕ) (s : T) (r : DecodeError E) (message : Name)
-    → k ≡ name → shape.unit name ≡ None → ((t : Tree) → shape.part name t ≡ option_map f ((struct_of fields start finish).view t)) → ((t : Tree) → shape.need name t ≡ need_fields fields.need t)
-    → (fields.wants_loan ≡ true → borrows) → ((lends : Bool) → fields_memory fields lends ≡ true → shape.memory lends ≡ true) → old.failed ≡ false
-    → r ≡ Msg message → finish (meaning s) ≡ None → ReadsFieldsHeld {E = E} meaning (fields_of fields start) e old (Ok s) new
-    → Refuses (HasVariant shape k e old.input) (MayLack shape.memory old.input) borrows Anything old.input r new.input
-field_missing {V} {W} shape f fields start finish E meaning borrows e old new name s r message is none same much w may sound told missing h =
-    fields_refused shape f (struct_of fields start finish) {T = W} E (λ w. w) borrows e old new name r is none same much w may sound (held_unfinished fields start finish E meaning e old new s r message told missing h)
+    held_refused borrows e old new name r is none same much w may sound h = fields_refused borrows e old new name r is none same much w may sound (λ f. (tt, (call_told (ReadsHeld meaning own e) old new (Err r) f h).1))

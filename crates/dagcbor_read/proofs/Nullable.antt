@@ -5,13 +5,12 @@ use Rattle.dagcbor_heads.specs.Reading.{Reading, with_steps}
 use Rattle.dagcbor_heads.specs.Fronts.{ShowsByte, Takes}
 use Rattle.dagcbor_heads.specs.Refusals.{Refuses}
 use Rattle.dagcbor_heads.specs.declared.error.DecodeError.{DecodeError}
-use Rattle.dagcbor_heads.specs.declared.error.DecodeError.TheVariants.{Read, RequireBorrowed, OutOfMemory, Failed, DepthOverflow}
 use Rattle.dagcbor_heads.proofs.Taking.{stays}
 use Rattle.dagcbor_heads.proofs.Refusing.{passed_on}
 use Rattle.ipld_tree.specs.Tree.{Tree, null}
 use Rattle.ipld_tree.specs.Spelling.{spelling, IsFront}
 use Rattle.dagcbor_items.specs.TypedReads.{HasFront, TakesFront, MayLack, Anything}
-use Rattle.dagcbor_read.proofs.Passing.{lacks_before}
+use Rattle.dagcbor_read.proofs.Passing.{refusal_carried, given_back, lacks_before}
 use Rattle.dagcbor_items.specs.Shapes.{view_option, need_option, Shape, option_of}
 use Rattle.dagcbor_read.specs.Options.{CanEnter, EntersSome, OptionCause}
 use Rattle.dagcbor_items.proofs.Fronts.{front_byte}
@@ -80,13 +79,7 @@ some_entered shape {old} {mid} {now} {new} v h a back = record {
       let k = a.taken b (h.kept b l) in
       let p = is_part shape k.0 (no_null b k.1 k.0 h l k.2) in
       (k.0, k.1, k.2, p.shown ∙ ap (option_map Some) k.3, omega (arith, k.4, p.needed, h.steps), ap (λ (r : Reading). r.left) back ∙ k.5);
-  same = record {
-    steps = omega (arith, ap (λ (r : Reading). r.steps) back, a.same.steps, h.steps);
-    budget = ap (λ (r : Reading). r.budget) back ∙ a.same.budget ∙ h.budget;
-    lends = ap (λ (r : Reading). r.lends) back ∙ a.same.lends ∙ h.lends;
-    faults = ap (λ (r : Reading). r.faults) back ∙ a.same.faults ∙ h.faults;
-    through = ap (λ (r : Reading). r.through) back ∙ a.same.through ∙ h.through;
-  };
+  same = given_back (record { steps = h.steps; budget = h.budget; lends = h.lends; faults = h.faults; through = h.through }) a.same refl back;
 }
 
 -- the part stands behind the step
@@ -107,15 +100,6 @@ part_stands shape {old} {mid} h i =
     some_of (Some a) e = refl
     some_of None e = e
 
-part_refused : {E could could' lacks lacks' : Type 0} (borrows : Type 0) (old mid new : Reading) (e : DecodeError E) → mid.faults ≡ old.faults → mid.lends ≡ old.lends → (could' → could) → (lacks → lacks')
-    → Refuses could lacks borrows Anything mid e new → Refuses could' lacks' borrows Anything old e new
-part_refused borrows old mid new (Read e) f l c k r = omega (arith, f, r)
-part_refused borrows old mid new OutOfMemory f l c k r = (r.0 ∙ f, k r.1)
-part_refused borrows old mid new (RequireBorrowed n) f l c k r = (r.0 ∙ f, r.1, sym l ∙ r.2)
-part_refused borrows old mid new Failed f l c k r = r
-part_refused borrows old mid new (DepthOverflow n) f l c k r = (r.0 ∙ f, λ x. r.1 (c x), λ b s. tt, r.3)
-part_refused borrows old mid new _ f l c k r = (r.0 ∙ f, λ x. r.1 (c x), λ b s. tt)
-
 pub some_refused : {V E : Type 0} (shape : Shape Tree V) (borrows : Type 0) {old mid : Reading} (new : Reading) (e : DecodeError E) → EntersSome old mid → Refuses (HasFront shape mid) (MayLack shape.memory mid) borrows Anything mid e new
     → Refuses (HasFront (option_of shape) old) (MayLack shape.memory old) borrows Anything old e new
-some_refused shape borrows {old} {mid} new e h r = part_refused borrows old mid new e h.faults h.lends (part_stands shape h) (lacks_before shape.memory h.lends) r
+some_refused shape borrows {old} {mid} new e h r = refusal_carried Anything Anything old mid new e (record { faults = h.faults; lends = h.lends }) (part_stands shape h) (lacks_before shape.memory h.lends) (λ x. x) (λ b l g. tt) r

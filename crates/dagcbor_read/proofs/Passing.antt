@@ -1,7 +1,7 @@
 -- A refusal of a part is a refusal of the whole, though steps were spent.
-use Rattle.std.proofs.Common.{◌≡◌, ℕ, List, Bool, true, false, ◌||◌, refl, sym, ap, ◌∙◌, arith}
+use Rattle.std.proofs.Common.{◌≡◌, ℕ, ◌+◌, List, Bool, true, false, ◌||◌, refl, sym, ap, ◌∙◌, arith}
 use Rattle.std.specs.Prelude.{Some}
-use Rattle.dagcbor_heads.specs.Reading.{Reading}
+use Rattle.dagcbor_heads.specs.Reading.{Reading, Stays, with_steps}
 use Rattle.dagcbor_heads.specs.Refusals.{Refuses}
 use Rattle.dagcbor_heads.specs.declared.error.DecodeError.{DecodeError}
 use Rattle.dagcbor_items.specs.Shapes.{unless_lent}
@@ -22,6 +22,26 @@ refusal_carried stands stands' old mid new (RequireBorrowed n) h c k w s r = (r.
 refusal_carried stands stands' old mid new Failed h c k w s r = r
 refusal_carried stands stands' old mid new (DepthOverflow n) h c k w s r = (r.0 ∙ h.faults, λ x. r.1 (c x), λ b l. s b l r.2, r.3)
 refusal_carried stands stands' old mid new _ h c k w s r = (r.0 ∙ h.faults, λ x. r.1 (c x), λ b l. s b l r.2)
+
+-- ---- steps that are given back
+
+-- a step was taken, and nothing else changed
+pub record Entered (old mid : Reading) : Type 0 where
+  pub steps : mid.steps + 1 ≡ old.steps
+  pub budget : mid.budget ≡ old.budget
+  pub lends : mid.lends ≡ old.lends
+  pub faults : mid.faults ≡ old.faults
+  pub through : mid.through ≡ old.through
+
+-- it was given back
+pub given_back : {old mid now new : Reading} {n : ℕ} → Entered old mid → Stays mid now → n ≡ 1 → new ≡ with_steps (now.steps + n) now → Stays old new
+given_back {old} {mid} {now} {new} {n} i s one back = record {
+  steps = omega (arith, ap (λ (r : Reading). r.steps) back, s.steps, i.steps, one);
+  budget = ap (λ (r : Reading). r.budget) back ∙ s.budget ∙ i.budget;
+  lends = ap (λ (r : Reading). r.lends) back ∙ s.lends ∙ i.lends;
+  faults = ap (λ (r : Reading). r.faults) back ∙ s.faults ∙ i.faults;
+  through = ap (λ (r : Reading). r.through) back ∙ s.through ∙ i.through;
+}
 
 -- ---- memory
 

@@ -17,14 +17,18 @@ abbrev pub TakesName : Option (List ℕ) → List ℕ → DeState → DeState �
 TakesName last name old mid = HasName last name old.input × (mid.failed ≡ false)
     × TakesFront (leaf view_text) old.input name mid.input
 
+-- a key was taken behind the last one, of which this is known
+pub record TakesKnown (known : List ℕ → Type 0) (last : Option (List ℕ)) (old : DeState) (key : List ℕ) (mid : DeState) : Type 0 where
+  pub is : known key
+  pub follows : Follows last key
+  pub read : mid.failed ≡ false
+  pub takes : TakesItem 1 old.input (text key) mid.input
+
 -- the next key was taken, of which this is known, and its value brought the state to s
 pub record TakesField {S : Type 0} (known : List ℕ → Type 0) (shape : FieldShape S) (state : S) (before : AccessorState) (old : DeState) (s : S) (after : AccessorState) (new : DeState) : Type 0 where
   pub key : List ℕ
   pub mid : DeState
-  pub is : known key
-  pub follows : Follows before.last key
-  pub read : mid.failed ≡ false
-  pub takes : TakesItem 1 old.input (text key) mid.input
+  pub begun : TakesKnown known before.last old key mid
   pub counted : after ≡ with_value (with_key key before)
   pub sound : new.failed ≡ false
   pub value : TakesFront (value_of shape state key) mid.input s new.input
@@ -33,10 +37,7 @@ pub record TakesField {S : Type 0} (known : List ℕ → Type 0) (shape : FieldS
 pub record RefusesValue {S E : Type 0} (known : List ℕ → Type 0) (shape : FieldShape S) (state : S) (before : AccessorState) (old : DeState) (e : DecodeError E) (new : DeState) : Type 0 where
   pub key : List ℕ
   pub mid : DeState
-  pub is : known key
-  pub follows : Follows before.last key
-  pub read : mid.failed ≡ false
-  pub takes : TakesItem 1 old.input (text key) mid.input
+  pub begun : TakesKnown known before.last old key mid
   pub refused : Refuses (HasFront (value_of shape state key) mid.input) (MayLack shape.memory mid.input) (shape.wants_loan ≡ true) Anything mid.input e new.input
 
 -- The value of a name that was taken was read; or it was refused.

@@ -15,8 +15,6 @@ use Rattle.ipld_tree.specs.Tree.{Tree, text, mapping, Entries, no_entries, entry
 use Rattle.ipld_tree.specs.Spelling.{IsFront, AreEntryFronts, entries_spelling}
 use Rattle.ipld_tree.proofs.Fronts.{front_unique, map_opened, entry_opened, entry_closed}
 use Rattle.dagcbor_items.specs.Entering.{Enters}
-use Rattle.dagcbor_items.specs.Entries.{HasKey}
-use Rattle.dagcbor_items.specs.ItemCauses.{KeyCause}
 use Rattle.dagcbor_items.specs.Places.{Follows}
 use Rattle.dagcbor_items.specs.Shapes.{Shape, cow_leaf, view_text, unless_lent}
 use Rattle.dagcbor_items.specs.TypedReads.{HasFront, TakesFront, MayLack, Anything}
@@ -40,20 +38,12 @@ pub key_refused_by_name : {E : Type 0} (L B : Type 0) (name : List ℕ) (before 
     → Refuses (HasNamedKey name before old) L B Anything old e new
 key_refused_by_name {E} L B name before old new message e is same never = subst (λ x. Refuses {E = E} (HasNamedKey name before old) L B Anything old x new) (sym is) (same, never, λ b l. tt)
 
-pub no_key_left : {name : List ℕ} {before : AccessorState} {r : Reading} → before.left ≡ 0 → HasNamedKey name before r → ⊥
-no_key_left none h = absurd (omega (arith, none, h.some))
-
 pub other_key : {name key : List ℕ} {before : AccessorState} {old mid : Reading} → TakesItem 1 old (text key) mid → (key ≡ name → ⊥) → HasNamedKey name before old → ⊥
 other_key {name} {key} {before} {old} {mid} a n h =
     let t = a.taken h.has.bytes h.has.left in
     let same = front_unique h.has.bytes t.0 h.has.rest (text key) (text h.has.key) t.1 h.has.front in
     let is : key ≡ h.has.key = cc same.0 in
     n (is ∙ h.is)
-
--- the next key was refused
-pub named_key_refused : {E : Type 0} (L : Type 0) (name : List ℕ) (before : AccessorState) (old new : Reading) (e : DecodeError E) → (old.lends ≡ false → L) → Refuses (HasKey before.last old) (old.lends ≡ false) ⊥ (KeyCause before.last) old e new
-    → Refuses (HasNamedKey name before old) L ⊥ Anything old e new
-named_key_refused {E} L name before old new e may r = refusal_carried (KeyCause before.last) Anything old old new e (same_reader (stays old)) (λ h. h.has) may (λ x. x) (λ b l g. tt) r
 
 -- ---- what stands there
 

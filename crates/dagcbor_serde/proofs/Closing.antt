@@ -23,7 +23,7 @@ use Rattle.dagcbor_serde.specs.declared.frame.Frame.{Frame}
 use Rattle.dagcbor_write.specs.declared.collect.gathered.Span.{Span}
 use Rattle.dagcbor_serde.specs.declared.frame.Stage.TheVariants as stage
 use Rattle.dagcbor_serde.specs.declared.sink.Sink.{Sink}
-use Rattle.dagcbor_serde.proofs.AtStages.{at_full, at_list, at_rests, at_map, at_linked}
+use Rattle.dagcbor_serde.proofs.AtStages.{at_stage}
 use Rattle.dagcbor_serde.proofs.Opening.{landed}
 use Rattle.dagcbor_serde.proofs.Spans.{entries_are}
 
@@ -135,13 +135,13 @@ module _ (old new : Sink) where
   pub flat_begun : old.top.stage ≡ stage.WantsMap → (flat : ℕ) → flat ≡ old.top.flat + 1 → new ≡ record old { top = record old.top { stage = stage.Rests; flat = flat } } → StepsBy (λ s. begin_map s.top s.around) old new
   flat_begun at flat more is s h =
       let P : Sink → Type 0 = λ k. (t : State) × (begin_map s.top s.around ≡ Some t) × HoldsAll t k in
-      subst P (sym is) (at_map (part old.top old.bytes.items (drop old.top.first old.spans.items)) (λ l. (t : State) × (begin_map l s.around ≡ Some t) × HoldsAll t (record old { top = record old.top { stage = stage.Rests; flat = flat } })) at (λ ps n held.
+      subst P (sym is) (at_stage stage.WantsMap (part old.top old.bytes.items (drop old.top.first old.spans.items)) (λ l. (t : State) × (begin_map l s.around ≡ Some t) × HoldsAll t (record old { top = record old.top { stage = stage.Rests; flat = flat } })) at (λ ps n held.
       (state (in_map ps rests (suc n)) s.around, refl, (((refl, held.0.1), omega (arith, more, held.1)), h.1, h.2, h.3))) s.top h.0)
 
   pub flat_ended : old.top.stage ≡ stage.Rests → (flat : ℕ) → old.top.flat ≡ flat + 1 → new ≡ record old { top = record old.top { flat = flat } } → StepsBy (λ s. close_map s.top s.around) old new
   flat_ended at flat less is s h =
       let P : Sink → Type 0 = λ k. (t : State) × (close_map s.top s.around ≡ Some t) × HoldsAll t k in
-      subst P (sym is) (at_rests (part old.top old.bytes.items (drop old.top.first old.spans.items)) (λ l. (t : State) × (close_map l s.around ≡ Some t) × HoldsAll t (record old { top = record old.top { flat = flat } })) at (λ ps n held. by ps n held.0 (sym held.1 ∙ less)) s.top h.0)
+      subst P (sym is) (at_stage stage.Rests (part old.top old.bytes.items (drop old.top.first old.spans.items)) (λ l. (t : State) × (close_map l s.around ≡ Some t) × HoldsAll t (record old { top = record old.top { flat = flat } })) at (λ ps n held. by ps n held.0 (sym held.1 ∙ less)) s.top h.0)
     where
       by : (ps : List Pair) (n : ℕ) → (old.top.stage ≡ stage.Rests) × HoldsEntries ps old.top.place old.bytes.items (drop old.top.first old.spans.items) → n ≡ flat + 1 → (t : State) × (close_map (in_map ps rests n) s.around ≡ Some t) × HoldsAll t (record old { top = record old.top { flat = flat } })
       by ps zero e m = absurd (omega (arith, m))
@@ -201,21 +201,14 @@ unfolding spelled
 good_list ts n b count fits e good =
     (ap₂ (λ (x y : Option (List ℕ)). x ++? y) (ap (spelled_head 4) (count_items ts ∙ sym count) ∙ head_is_spelled 4 n fits) e, good)
 
--- what a list holds has no entries
-pub list_lists : (s : State) (sink : Sink) → sink.top.stage ≡ stage.List → HoldsAll s sink → drop sink.top.first sink.spans.items ≡ []
-list_lists s sink at h = at_list (part sink.top sink.bytes.items (drop sink.top.first sink.spans.items)) (λ l. drop sink.top.first sink.spans.items ≡ []) at (λ ts held. held.5) s.top h.0
-
-pub link_lists : (s : State) (sink : Sink) → sink.top.stage ≡ stage.Linked → HoldsAll s sink → drop sink.top.first sink.spans.items ≡ []
-link_lists s sink at h = at_linked (part sink.top sink.bytes.items (drop sink.top.first sink.spans.items)) (λ l. drop sink.top.first sink.spans.items ≡ []) at (λ cid held. held.2) s.top h.0
-
 pub list_ended : (old new : Sink) → old.top.stage ≡ stage.List → old.top.count < 2 ^ 64 → (drop old.top.first old.spans.items ≡ [] → Left old new (head 4 old.top.count ++ drop (old.top.place + 1) old.bytes.items)) → StepsBy (λ s. close (list_of s.top) s.around) old new
 list_ended old new at fits l s h =
-    at_list (part old.top old.bytes.items (drop old.top.first old.spans.items)) (λ k. (t : State) × (close (list_of k) s.around ≡ Some t) × HoldsAll t new) at (λ ts held.
+    at_stage stage.List (part old.top old.bytes.items (drop old.top.first old.spans.items)) (λ k. (t : State) × (close (list_of k) s.around ≡ Some t) × HoldsAll t new) at (λ ts held.
     closed (list (items_of ts)) _ old new s.around (good_list ts old.top.count (drop (old.top.place + 1) old.bytes.items) held.1 fits held.2 held.3) (l held.5) h.1 h.3) s.top h.0
 
 pub link_ended : (old new : Sink) → old.top.stage ≡ stage.Linked → (drop old.top.first old.spans.items ≡ [] → Left old new (drop old.top.place old.bytes.items)) → StepsBy (λ s. close_map s.top s.around) old new
 link_ended old new at l s h =
-    at_linked (part old.top old.bytes.items (drop old.top.first old.spans.items)) (λ k. (t : State) × (close_map k s.around ≡ Some t) × HoldsAll t new) at (λ cid held.
+    at_stage stage.Linked (part old.top old.bytes.items (drop old.top.first old.spans.items)) (λ k. (t : State) × (close_map k s.around ≡ Some t) × HoldsAll t new) at (λ cid held.
     closed (link cid) _ old new s.around held.1 (l held.2) h.1 h.3) s.top h.0
 
 -- a map has a tree where its entries stand in order
@@ -242,7 +235,7 @@ pub map_ended : (old new : Sink) (c : List ℕ) (n : ℕ) → old.top.stage ≡ 
     → ((item : List ℕ) → take old.top.place c ++ (head 5 n ++ drop (old.top.place + 1) c) ≡ take old.top.place old.bytes.items ++ item → Left old new item)
     → StepsBy (λ s. close_map s.top s.around) old new
 map_ended old new c n at flat fits puts l s h =
-    at_rests (part old.top old.bytes.items (drop old.top.first old.spans.items)) (λ k. (t : State) × (close_map k s.around ≡ Some t) × HoldsAll t new) at (λ ps k held. by ps k held.0.1 (sym held.1 ∙ flat)) s.top h.0
+    at_stage stage.Rests (part old.top old.bytes.items (drop old.top.first old.spans.items)) (λ k. (t : State) × (close_map k s.around ≡ Some t) × HoldsAll t new) at (λ ps k held. by ps k held.0.1 (sym held.1 ∙ flat)) s.top h.0
   where
     by : (ps : List Pair) (k : ℕ) → HoldsEntries ps old.top.place old.bytes.items (drop old.top.first old.spans.items) → k ≡ 0 → (t : State) × (close_map (in_map ps rests k) s.around ≡ Some t) × HoldsAll t new
     by ps (suc k) e m = absurd (omega (arith, m))
@@ -253,19 +246,6 @@ map_ended old new c n at flat fits puts l s h =
         let is = ap₂ (λ x y. x ++ (head 5 n ++ y)) stand.0 stand.1 in
         let done = closed tree.0 _ old new s.around tree.2 (l (head 5 n ++ entries_bytes p.0) is) h.1 h.3 in
         (done.0, ap (λ o. close o s.around) tree.1 ∙ done.1, done.2)
-
--- ---- the whole
-
-pub all_finished : (s : State) (sink : Sink) → sink.top.stage ≡ stage.Full → sink.below.items ≡ [] → HoldsAll s sink → (t : Tree) × (finished s ≡ Some t) × IsGood t sink.bytes.items
-all_finished s sink at none h =
-    at_full (part sink.top sink.bytes.items (drop sink.top.first sink.spans.items)) (λ l. (t : Tree) × (only_item l s.around ≡ Some t) × IsGood t sink.bytes.items) at (λ u held. by u s.around held.1 (subst P none h.3)) s.top h.0
-  where
-    P : List Frame → Type 0
-    P fs = Opens s.around (reverse fs) (take sink.top.place sink.bytes.items) (take sink.top.first sink.spans.items)
-
-    by : (u : Tree) (ls : List Level) → IsGood u sink.bytes.items → Opens ls [] (take sink.top.place sink.bytes.items) (take sink.top.first sink.spans.items) → (t : Tree) × (only_item (whole (Some u)) ls ≡ Some t) × IsGood t sink.bytes.items
-    by u [] g p = (u, refl, g)
-    by u (l ∷ ls) g p = absurd p
 
 -- ---- what is left, by the steps of a call
 

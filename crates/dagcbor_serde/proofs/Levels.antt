@@ -17,7 +17,7 @@ use Rattle.dagcbor_write.specs.Spans.{entry_at, IsWithin}
 use Rattle.dagcbor_serde.specs.declared.frame.Frame.{Frame}
 use Rattle.dagcbor_write.specs.declared.collect.gathered.Span.{Span}
 use Rattle.dagcbor_serde.specs.declared.frame.Stage.TheVariants as stage
-use Rattle.dagcbor_serde.proofs.AtStages.{at_vacant, at_list, at_rests, at_key, at_value, at_map, at_link}
+use Rattle.dagcbor_serde.proofs.AtStages.{at_stage}
 use Rattle.dagcbor_serde.proofs.Spans.{entries_stay, within_stays, wholes_stay, value_joins, value_within}
 
 -- what is held behind a level
@@ -42,13 +42,13 @@ good_push (u ∷ ts) t h g = (h.0, good_push ts t h.1 g)
 module _ (t : Tree) (f : Frame) (b more : List ℕ) (ss : List Span) (good : IsGood t more) where
   -- a list with one more item
   pub item_put : f.stage ≡ stage.List → Moves (put t) (part f b ss) (part (record f { count = f.count + 1 }) (b ++ more) ss)
-  item_put at = at_list (part f b ss) (After (put t) (part (record f { count = f.count + 1 }) (b ++ more) ss)) at (λ ts h.
+  item_put at = at_stage stage.List (part f b ss) (After (put t) (part (record f { count = f.count + 1 }) (b ++ more) ss)) at (λ ts h.
       let longer : drop (f.place + 1) (b ++ more) ≡ drop (f.place + 1) b ++ more = drop-append-le (f.place + 1) b more (omega (arith, h.4)) in
       (in_list (ts ++ t ∷ []), refl, (at, ap (λ n. n + 1) h.1 ∙ sym (length-append ts (t ∷ [])), items_push ts t ∙ ap₂ (λ (x y : Option (List ℕ)). x ++? y) h.2 good.0 ∙ ap Some (sym longer), good_push ts t h.3 good.1, omega (arith, h.4, length-append b more), h.5)))
 
   -- the whole
   pub whole_put : f.stage ≡ stage.Vacant → Moves (put t) (part f b ss) (part (record f { stage = stage.Full }) (b ++ more) ss)
-  whole_put at = at_vacant (part f b ss) (After (put t) (part (record f { stage = stage.Full }) (b ++ more) ss)) at (λ h.
+  whole_put at = at_stage stage.Vacant (part f b ss) (After (put t) (part (record f { stage = stage.Full }) (b ++ more) ss)) at (λ h.
       let all : b ++ more ≡ more = ap (λ x. x ++ more) h.1 in
       (whole (Some t), refl, (refl, (good.0 ∙ ap Some (sym all), good.1))))
 
@@ -87,7 +87,7 @@ module _ (place key : ℕ) (old : List ℕ) (ss : List Span) where
 -- the value of the key that waits
 pub value_put : (t : Tree) (f : Frame) (b more : List ℕ) (ss : List Span) → IsGood t more → f.stage ≡ stage.WantsValue
     → Moves (put t) (part f b ss) (part (record f { stage = stage.Rests }) (b ++ more) (ss ++ (record { start = f.key; key_end = length b; end = length (b ++ more) }) ∷ []))
-value_put t f b more ss good at = at_value (part f b ss) (After (put t) (part (record f { stage = stage.Rests }) (b ++ more) (ss ++ (record { start = f.key; key_end = length b; end = length (b ++ more) }) ∷ []))) at (λ ps k n h.
+value_put t f b more ss good at = at_stage stage.WantsValue (part f b ss) (After (put t) (part (record f { stage = stage.Rests }) (b ++ more) (ss ++ (record { start = f.key; key_end = length b; end = length (b ++ more) }) ∷ []))) at (λ ps k n h.
     (in_map (ps ++ (Some (text k), Some t) ∷ []) rests n, refl, ((refl, entries_put f.place f.key b ss ps k t more h.0.1 h.0.2 h.0.3 good), h.1)))
 
 module _ (k : List ℕ) (f : Frame) (b more : List ℕ) (ss : List Span) (good : IsGood (text k) more) where
@@ -103,30 +103,27 @@ module _ (k : List ℕ) (f : Frame) (b more : List ℕ) (ss : List Span) (good :
 
   -- a text as a key
   pub text_waits : f.stage ≡ stage.WantsKey → Moves (put (text k)) (part f b ss) waiting
-  text_waits at = at_key (part f b ss) (After (put (text k)) waiting) at (λ ps n h. (in_map ps (for_value k) n, refl, waits ps n h.0.1 h.1))
+  text_waits at = at_stage stage.WantsKey (part f b ss) (After (put (text k)) waiting) at (λ ps n h. (in_map ps (for_value k) n, refl, waits ps n h.0.1 h.1))
 
   -- a name as a key
   pub name_waits : f.stage ≡ stage.Rests → Moves (put_key k) (part f b ss) waiting
-  name_waits at = at_rests (part f b ss) (After (put_key k) waiting) at (λ ps n h. (in_map ps (for_value k) n, refl, waits ps n h.0.1 h.1))
+  name_waits at = at_stage stage.Rests (part f b ss) (After (put_key k) waiting) at (λ ps n h. (in_map ps (for_value k) n, refl, waits ps n h.0.1 h.1))
 
 -- ---- calls that change the stage alone
 
 module _ (f : Frame) (b : List ℕ) (ss : List Span) where
   pub key_begun : f.stage ≡ stage.Rests → Moves begin_key (part f b ss) (part (record f { stage = stage.WantsKey }) b ss)
-  key_begun at = at_rests (part f b ss) (After begin_key (part (record f { stage = stage.WantsKey }) b ss)) at (λ ps n h. (in_map ps for_key n, refl, ((refl, h.0.1), h.1)))
-
-  pub key_ended : f.stage ≡ stage.WantsValue → Moves end_key (part f b ss) (part f b ss)
-  key_ended at = at_value (part f b ss) (After end_key (part f b ss)) at (λ ps k n h. (in_map ps (for_value k) n, refl, h))
+  key_begun at = at_stage stage.Rests (part f b ss) (After begin_key (part (record f { stage = stage.WantsKey }) b ss)) at (λ ps n h. (in_map ps for_key n, refl, ((refl, h.0.1), h.1)))
 
   pub flattened : f.stage ≡ stage.Rests → Moves flatten (part f b ss) (part (record f { stage = stage.WantsMap }) b ss)
-  flattened at = at_rests (part f b ss) (After flatten (part (record f { stage = stage.WantsMap }) b ss)) at (λ ps n h. (in_map ps for_map n, refl, ((refl, h.0.1), h.1)))
+  flattened at = at_stage stage.Rests (part f b ss) (After flatten (part (record f { stage = stage.WantsMap }) b ss)) at (λ ps n h. (in_map ps for_map n, refl, ((refl, h.0.1), h.1)))
 
   pub no_map : f.stage ≡ stage.WantsMap → Moves put_unit (part f b ss) (part (record f { stage = stage.Rests }) b ss)
-  no_map at = at_map (part f b ss) (After put_unit (part (record f { stage = stage.Rests }) b ss)) at (λ ps n h. (in_map ps rests n, refl, ((refl, h.0.1), h.1)))
+  no_map at = at_stage stage.WantsMap (part f b ss) (After put_unit (part (record f { stage = stage.Rests }) b ss)) at (λ ps n h. (in_map ps rests n, refl, ((refl, h.0.1), h.1)))
 
   -- a map without an entry is a link
   pub link_begun : f.stage ≡ stage.Rests → f.flat ≡ 0 → ss ≡ [] → Moves as_link (part f b ss) (part (record f { stage = stage.Link }) (take f.place b) ss)
-  link_begun at flat none = at_rests (part f b ss) (After as_link (part (record f { stage = stage.Link }) (take f.place b) ss)) at (λ ps n h. by ps n h.0.1 (sym h.1 ∙ flat))
+  link_begun at flat none = at_stage stage.Rests (part f b ss) (After as_link (part (record f { stage = stage.Link }) (take f.place b) ss)) at (λ ps n h. by ps n h.0.1 (sym h.1 ∙ flat))
     where
       by : (ps : List Pair) (n : ℕ) → HoldsEntries ps f.place b ss → n ≡ 0 → After as_link (part (record f { stage = stage.Link }) (take f.place b) ss) (in_map ps rests n)
       by [] zero h e = (in_link None, refl, (refl, length-take-le f.place b (omega (arith, h.3)), none))
@@ -135,7 +132,7 @@ module _ (f : Frame) (b : List ℕ) (ss : List Span) where
 
   -- the CID of a link
   pub cid_put : (cid more : List ℕ) → f.stage ≡ stage.Link → IsGood (link cid) more → Moves (put_bytes cid) (part f b ss) (part (record f { stage = stage.Linked }) (b ++ more) ss)
-  cid_put cid more at good = at_link (part f b ss) (After (put_bytes cid) (part (record f { stage = stage.Linked }) (b ++ more) ss)) at (λ h.
+  cid_put cid more at good = at_stage stage.Link (part f b ss) (After (put_bytes cid) (part (record f { stage = stage.Linked }) (b ++ more) ss)) at (λ h.
       let P : List ℕ → Type 0 = λ x. IsGood (link cid) x in
       let Q : ℕ → Type 0 = λ n. IsGood (link cid) (drop n (b ++ more)) in
       (in_link (Some cid), refl, (refl, subst Q h.1 (subst P (sym (drop-append_seam b more)) good), h.2)))
@@ -143,17 +140,9 @@ module _ (f : Frame) (b : List ℕ) (ss : List Span) where
 -- ---- what is no more than an item
 
 pub unit_is_null : (p : Part) → (p.frame.stage ≡ stage.WantsMap → ⊥) → (l : Level) → Holds l p → put null l ≡ put_unit l
-unit_is_null p n (whole o) h = refl
-unit_is_null p n (in_list ts) h = refl
-unit_is_null p n (in_map ps rests k) h = refl
-unit_is_null p n (in_map ps for_key k) h = refl
-unit_is_null p n (in_map ps (for_value l) k) h = refl
 unit_is_null p n (in_map ps for_map k) h = absurd (n h.0.0)
-unit_is_null p n (in_link o) h = refl
+unit_is_null p n _ h = refl
 
 pub bytes_are_bytes : (s : List ℕ) (p : Part) → (p.frame.stage ≡ stage.Link → ⊥) → (l : Level) → Holds l p → put (bytes s) l ≡ put_bytes s l
-bytes_are_bytes s p n (whole o) h = refl
-bytes_are_bytes s p n (in_list ts) h = refl
-bytes_are_bytes s p n (in_map ps w k) h = refl
 bytes_are_bytes s p n (in_link None) h = absurd (n h.0)
-bytes_are_bytes s p n (in_link (Some c)) h = refl
+bytes_are_bytes s p n _ h = refl

@@ -48,10 +48,6 @@ pub known_log : (failed : Bool) (log : Log) (sink : Sink) (b : List ℕ) → fai
 known_log true log sink b e h f = absurd (cc e)
 known_log false log sink b e h f = ∥∥₁_elim h (log_prop log b) (finished_log log sink b f)
 
-pub known_ok : {E : Type 0} (failed : Bool) (log : Log) (sink : Sink) (r : Result (Vec ℕ Global) E) → failed ≡ false → ∥ FollowsUnless failed log sink ∥₁ → IfOk r (λ v. (s : State) → HoldsAll s sink → (t : Tree) × (finished s ≡ Some t) × IsGood t v.items) → IfOk r (λ v. IsGoodLog log v.items)
-known_ok failed log sink (Ok v) e h f = known_log failed log sink v.items e h f
-known_ok failed log sink (Err x) e h f = tt
-
 -- the bytes that were taken apart into a spelling
 pub block_of : (log : Log) (b : List ℕ) → IsGoodLog log b → IsBlockOf log b
 block_of None b h = absurd h

@@ -57,31 +57,19 @@ pub sends : (e : Event) (t : Tree) (a b : Log) → ((s : State) → IsTrue (take
 sends e t a b h k = (e ∷ [], grows_one e a b k, one_event e t h)
 
 unit_put : (l : Level) → IsTrue (takes_items l) → put_unit l ≡ put null l
-unit_put (whole o) h = refl
-unit_put (in_list ts) h = refl
-unit_put (in_map ps rests n) h = refl
-unit_put (in_map ps for_key n) h = refl
-unit_put (in_map ps (for_value k) n) h = refl
 unit_put (in_map ps for_map n) h = absurd (cc h)
 unit_put (in_link o) h = absurd (cc h)
+unit_put _ h = refl
 
 bytes_put : (b : List ℕ) (l : Level) → IsTrue (takes_items l) → put_bytes b l ≡ put (bytes b) l
-bytes_put b (whole o) h = refl
-bytes_put b (in_list ts) h = refl
-bytes_put b (in_map ps rests n) h = refl
-bytes_put b (in_map ps for_key n) h = refl
-bytes_put b (in_map ps (for_value k) n) h = refl
 bytes_put b (in_map ps for_map n) h = absurd (cc h)
 bytes_put b (in_link o) h = absurd (cc h)
+bytes_put b _ h = refl
 
 map_begun : (l : Level) (ls : List Level) → IsTrue (takes_items l) → begin_map l ls ≡ Some (state (in_map [] rests 0) (l ∷ ls))
-map_begun (whole o) ls h = refl
-map_begun (in_list ts) ls h = refl
-map_begun (in_map ps rests n) ls h = refl
-map_begun (in_map ps for_key n) ls h = refl
-map_begun (in_map ps (for_value k) n) ls h = refl
 map_begun (in_map ps for_map n) ls h = absurd (cc h)
 map_begun (in_link o) ls h = absurd (cc h)
+map_begun _ ls h = refl
 
 pub sends_null : (a b : Log) → Logs a b event.nothing → WritesTree null a b
 sends_null a b = sends event.nothing null a b (λ s h. ap (option_map (λ l. state l s.around)) (unit_put s.top h))

@@ -75,12 +75,7 @@ landed t f g b more ss ts good lands l ls fs h = by f.stage refl lands
     by stage.Vacant at e = subst P (sym e.0) (subst (Q (record f { stage = stage.Full })) (sym e.1) (longer (put t) f (record f { stage = stage.Full }) b more ss refl refl (λ xs. whole_put t f b more xs good at) l ls fs h))
     by stage.List at e = subst P (sym e.0) (subst (Q (record f { count = f.count + 1 })) (sym e.1) (longer (put t) f (record f { count = f.count + 1 }) b more ss refl refl (λ xs. item_put t f b more xs good at) l ls fs h))
     by stage.WantsValue at e = subst P (sym e.0) (subst (Q (record f { stage = stage.Rests })) (sym e.1) (one_entry (put t) f (record f { stage = stage.Rests }) b more ss (record { start = f.key; key_end = length b; end = length (b ++ more) }) refl refl (λ xs. value_put t f b more xs good at) l ls fs h))
-    by stage.Full at e = absurd e
-    by stage.Rests at e = absurd e
-    by stage.WantsKey at e = absurd e
-    by stage.WantsMap at e = absurd e
-    by stage.Link at e = absurd e
-    by stage.Linked at e = absurd e
+    by _ at e = absurd e
 
 -- ---- of the sink
 

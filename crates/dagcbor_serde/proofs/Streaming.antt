@@ -16,25 +16,6 @@ use Rattle.dagcbor_items.proofs.Places.{at_steps}
 use Rattle.dagcbor_serde.specs.declared.error.Error.{Error}
 use Rattle.dagcbor_serde.specs.Streams.{StreamState, ReadsNext, GivesNext, items_left}
 
--- ---- behind a look
-
-pub stays_then : (a b c : Reading) → Stays a b → Stays b c → Stays a c
-stays_then a b c h k = record { steps = k.steps ∙ h.steps; budget = k.budget ∙ h.budget; lends = k.lends ∙ h.lends; faults = k.faults ∙ h.faults; through = k.through ∙ h.through }
-
-pub shown_taken : (old mid new : Reading) (byte : ℕ) (t : Tree) → ShowsByte old byte mid → TakesItem 0 mid t new → TakesItem 0 old t new
-shown_taken old mid new byte t h a = record {
-  taken = λ b l. (let k = a.taken b (h.kept b l) in (k.0, k.1, omega (arith, k.2, h.same.steps), k.3));
-  same = stays_then old mid new h.same a.same;
-}
-
-pub shown_refused : {E : Type 0} (old mid new : Reading) (byte : ℕ) (e : DecodeError E) → ShowsByte old byte mid → RefusesOrLacksMemory (HasItem 0 mid) (CauseInside (mid.steps + 0)) mid e new → RefusesOrLacksMemory (HasItem 0 old) (CauseInside (old.steps + 0)) old e new
-shown_refused {E} old mid new byte e h r =
-    passed_on (CauseInside {E = E} (mid.steps + 0)) (CauseInside {E = E} (old.steps + 0)) old mid new e h.same
-    (λ x. record { bytes = x.bytes; tree = x.tree; rest = x.rest; left = h.kept x.bytes x.left; front = x.front; accepted = x.accepted; within = omega (arith, x.within, h.same.steps) })
-    (λ x. x) (λ x. x)
-    (λ b l. (b, h.kept b l, λ c. at_steps {E = E} e b _ _ (omega (arith, h.same.steps)) c))
-    r
-
 -- ---- a stream ends
 
 module _ (E T : Type 0) where

@@ -50,17 +50,15 @@ module _ {A : Type 0} (tree : A → Option Tree) where
 
   keyed_text : (ps : List Pair) (es : List (List ℕ × A)) → AreKeyedBy ps es → spelled_pairs ps ≡ spelled_keyed tree es
   keyed_text [] [] w = refl
-  keyed_text [] (e ∷ es) w = absurd w
-  keyed_text (p ∷ ps) [] w = absurd w
   keyed_text (p ∷ ps) (e ∷ es) w = ap₂ (λ k x. k ++? x) w.0.key (ap₂ (λ v x. spelled_tree v ++? x) w.0.value (keyed_text ps es w.1))
+  keyed_text _ _ w = absurd w
 
   keyed_good : (ps : List Pair) (es : List (List ℕ × A)) → AreKeyedBy ps es → AreTrees (value_trees tree es) → ArePairs ps
   keyed_good [] [] w g = tt
-  keyed_good [] (e ∷ es) w g = absurd w
-  keyed_good (p ∷ ps) [] w g = absurd w
   keyed_good (p ∷ ps) (e ∷ es) w g =
       let P : Option Tree → Type 0 = λ o. IfSome o IsTree in
       (w.0.good, subst P (sym w.0.value) g.0, keyed_good ps es w.1 g.1)
+  keyed_good _ _ w g = absurd w
 
   keyed_names : (ns : List Named) (ps : List Pair) (es : List (List ℕ × A)) → Pairwise IsNamed ns ps → AreKeyedBy ps es → Pairwise BeginsWithName ns es
   keyed_names [] [] [] n w = tt
@@ -167,11 +165,5 @@ module _ {A : Type 0} (tree : A → Option Tree) (es : List (List ℕ × A)) whe
       let first : spelled_keyed tree (drop i es) ≡ Some key ++? (spelled_tree (tree value) ++? spelled_keyed tree (drop (i + 1) es)) = ap (spelled_keyed tree) begins ∙ ap₂ (λ k v. Some k ++? (spelled_tree (tree v) ++? spelled_keyed tree (drop (i + 1) es))) (sym (is_key d)) (sym (is_value d)) in
       part_opened _ _ first w
 
-  pub no_keyed : (i : ℕ) → length es ≤ i → (whole : Option (List ℕ)) (s t : Written) → Written-but whole (spelled_keyed tree (drop i es) ∷ []) s t → WroteAll whole s t
-  no_keyed i h whole s t w = let P : List (List ℕ × A) → Type 0 = λ fs. Written-but whole (spelled_keyed tree fs ∷ []) s t in parts_ended refl (subst P (drop_of_length-le es h) w)
-
   pub values_next : (i : ℕ) (key : List ℕ) (value : A) → i < length es → ((d : List ℕ × A) → key ≡ (get_or es i d).0) → ((d : List ℕ × A) → value ≡ (get_or es i d).1) → AreTrees (value_trees tree (take i es)) → IfSome (tree value) IsTree → AreTrees (value_trees tree (take (i + 1) es))
   values_next i key value h is_key is_value all one = AreTrees_next (λ e. tree e.1) es i (key, value) h (ap₂ (λ k v. (k, v)) (is_key (key, value)) (is_value (key, value))) all one
-
-  pub values_all : (i : ℕ) → length es ≤ i → AreTrees (value_trees tree (take i es)) → AreTrees (value_trees tree es)
-  values_all i h all = let P : List (List ℕ × A) → Type 0 = λ fs. AreTrees (value_trees tree fs) in subst P (take_all i es h) all

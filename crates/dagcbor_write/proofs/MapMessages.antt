@@ -39,8 +39,7 @@ key_message {T} {E} {X} {Writer} {R} {whole} {left} {p} {held} {s} {t} w r e h i
   where
     by : (e : EncodeError E) → Refused (RefusesKey p.0) e → OnMessage (RefusesMap s t whole) e
     by (Msg m) h = let P : List Pair → Type 0 = λ ps. RefusesAnyKey ps (message_bytes m) in inl (inl (subst P (sym w.split) (any_in (λ q. RefusesKey q.0 (message_bytes m)) w.done left p h)), same)
-    by (Write x) h = tt
-    by OutOfMemory h = tt
+    by _ h = tt
 
 -- ---- a key that is there twice
 
@@ -79,9 +78,8 @@ module _ {A : Type 0} (tree : A → Option Tree) where
 
   lack_alike : (ps : List Pair) (es : List (List ℕ × A)) → Pairwise (IsKeyedBy tree) ps es → list_any pair_lacks ps ≡ list_any (lacks_value tree) es
   lack_alike [] [] w = refl
-  lack_alike [] (e ∷ es) w = absurd w
-  lack_alike (p ∷ ps) [] w = absurd w
   lack_alike (p ∷ ps) (e ∷ es) w = ap₂ (λ a b. a || b) (ap (λ v. is_none (spelled_tree v)) w.0.value) (lack_alike ps es w.1)
+  lack_alike _ _ w = absurd w
 
   none_of : (o : Option (List ℕ)) → is_none o ≡ true → o ≡ None
   none_of None e = refl
@@ -99,5 +97,4 @@ module _ {A : Type 0} (tree : A → Option Tree) where
       let d : List ℕ × A = ([], value) in
       let none : is_none (spelled_tree (tree (get_or es i d).1)) ≡ true = ap (λ v. is_none (spelled_tree (tree v))) (sym (is d)) ∙ ap is_none stops.0 in
       (said, search (list_any_at (lacks_value tree) es i d inside none))
-  value_message es i value inside is old new (Write x) said stops = tt
-  value_message es i value inside is old new OutOfMemory said stops = tt
+  value_message es i value inside is old new _ said stops = tt

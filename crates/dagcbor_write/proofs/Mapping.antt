@@ -48,33 +48,29 @@ module _ {A B : Type 0} (R : A → B → Type 0) where
 
   pairwise_set : (xs : List A) (ys : List B) (i : ℕ) (a : A) (b : B) → R a b → Pairwise R xs ys → Pairwise R (set xs i a) (set ys i b)
   pairwise_set [] [] i a b r p = tt
-  pairwise_set [] (y ∷ ys) i a b r p = absurd p
-  pairwise_set (x ∷ xs) [] i a b r p = absurd p
   pairwise_set (x ∷ xs) (y ∷ ys) zero a b r p = (r, p.1)
   pairwise_set (x ∷ xs) (y ∷ ys) (suc i) a b r p = (p.0, pairwise_set xs ys i a b r p.1)
+  pairwise_set _ _ i a b r p = absurd p
 
   pub pairwise_length : (xs : List A) (ys : List B) → Pairwise R xs ys → length xs ≡ length ys
   pairwise_length [] [] p = refl
-  pairwise_length [] (y ∷ ys) p = absurd p
-  pairwise_length (x ∷ xs) [] p = absurd p
   pairwise_length (x ∷ xs) (y ∷ ys) p = ap suc (pairwise_length xs ys p.1)
+  pairwise_length _ _ p = absurd p
 
   pairwise_swap : (xs : List A) (ys : List B) (i j : ℕ) → i < length ys → j < length ys → Pairwise R xs ys → Pairwise R (swap xs i j) (swap ys i j)
   pairwise_swap [] [] i j h k p = tt
-  pairwise_swap [] (y ∷ ys) i j h k p = absurd p
-  pairwise_swap (x ∷ xs) [] i j h k p = absurd p
   pairwise_swap (x ∷ xs) (y ∷ ys) i j h k p =
       let n = pairwise_length (x ∷ xs) (y ∷ ys) p in
       let ati = pairwise_at (x ∷ xs) (y ∷ ys) i x y (omega (arith, h, n)) p in
       let atj = pairwise_at (x ∷ xs) (y ∷ ys) j x y (omega (arith, k, n)) p in
       pairwise_set (set (x ∷ xs) i (get_or (x ∷ xs) j x)) (set (y ∷ ys) i (get_or (y ∷ ys) j y)) j (get_or (x ∷ xs) i x) (get_or (y ∷ ys) i y) ati
       (pairwise_set (x ∷ xs) (y ∷ ys) i (get_or (x ∷ xs) j x) (get_or (y ∷ ys) j y) atj p)
+  pairwise_swap _ _ i j h k p = absurd p
 
   pub pairwise_push : (xs : List A) (ys : List B) (x : A) (y : B) → Pairwise R xs ys → R x y → Pairwise R (xs ++ x ∷ []) (ys ++ y ∷ [])
   pairwise_push [] [] x y p r = (r, tt)
-  pairwise_push [] (z ∷ ys) x y p r = absurd p
-  pairwise_push (w ∷ xs) [] x y p r = absurd p
   pairwise_push (w ∷ xs) (z ∷ ys) x y p r = (p.0, pairwise_push xs ys x y p.1 r)
+  pairwise_push _ _ x y p r = absurd p
 
   -- what stands beside a list that changes places
   pub beside : (xs : List A) (ys zs : List B) → IsPermutation ys zs → Pairwise R xs ys → (ws : List A) × IsPermutation xs ws × Pairwise R ws zs
@@ -133,8 +129,6 @@ below_all p q (k ∷ ks) h r = (key_cmp_total.trans p q k h r.0, below_all p q k
 sorted_names : (qs : List Named) (fs : List Texts) → Pairwise IsSpelledBy qs fs → ((k : ℕ) (d : Texts) → suc k < length fs → goes_before (get_or fs (suc k) d) (get_or fs k d) ≡ false) → ((k : ℕ) (d : Texts) → suc k < length fs → (get_or fs k d).0 ≡ (get_or fs (suc k) d).0 → ⊥) → IsSortedList qs
 unfolding IsStrictlySortedBy
 sorted_names [] [] w s n = tt
-sorted_names [] (f ∷ fs) w s n = absurd w
-sorted_names (q ∷ qs) [] w s n = absurd w
 sorted_names (q ∷ []) (f ∷ []) w s n = (tt, tt)
 sorted_names (q ∷ []) (f ∷ g ∷ fs) w s n = absurd w.1
 sorted_names (q ∷ p ∷ qs) (f ∷ []) w s n = absurd w.1
@@ -142,6 +136,7 @@ sorted_names (q ∷ p ∷ qs) (f ∷ g ∷ fs) w s n =
     let first = follows q.0 p.0 f.0 g.0 f.1 g.1 w.0.key w.1.0.key (s 0 f (omega arith)) (n 0 f (omega arith)) in
     let more = sorted_names (p ∷ qs) (g ∷ fs) w.1 (λ k d h. s (suc k) d (omega (arith, h))) (λ k d h. n (suc k) d (omega (arith, h))) in
     ((first, below_all q.0 p.0 (keys_of qs) first more.0), more)
+sorted_names _ _ w s n = absurd w
 
 -- ---- the text of the entries
 
@@ -151,9 +146,8 @@ Some_both a b x y e f = ap₂ (λ s t. s ++? t) e f
 entries_text_is : (qs : List Named) (fs : List Texts) → Pairwise IsSpelledBy qs fs → spelled_entries (entries_of qs) ≡ Some (entries_bytes fs)
 unfolding spelled
 entries_text_is [] [] w = refl
-entries_text_is [] (f ∷ fs) w = absurd w
-entries_text_is (q ∷ qs) [] w = absurd w
 entries_text_is (q ∷ qs) (f ∷ fs) w = Some_both f.0 (f.1 ++ entries_bytes fs) _ _ w.0.key (Some_both f.1 (entries_bytes fs) _ _ w.0.value (entries_text_is qs fs w.1))
+entries_text_is _ _ w = absurd w
 
 count_is : (qs : List Named) → entry_count (entries_of qs) ≡ length qs
 count_is [] = refl
@@ -161,9 +155,8 @@ count_is (q ∷ qs) = ap suc (count_is qs)
 
 good_pairs : (qs : List Named) (fs : List Texts) → Pairwise IsSpelledBy qs fs → EachPair IsGoodPair qs
 good_pairs [] [] w = tt
-good_pairs [] (f ∷ fs) w = absurd w
-good_pairs (q ∷ qs) [] w = absurd w
 good_pairs (q ∷ qs) (f ∷ fs) w = (w.0.good, good_pairs qs fs w.1)
+good_pairs _ _ w = absurd w
 
 -- ---- the map of the pairs
 
@@ -302,21 +295,19 @@ BeginsWithName q f = spelled (text q.0) ≡ Some f.0
 
 with_name : (qs : List Named) (fs : List Texts) → Pairwise IsSpelledBy qs fs → Pairwise BeginsWithName qs fs
 with_name [] [] w = tt
-with_name [] (f ∷ fs) w = absurd w
-with_name (q ∷ qs) [] w = absurd w
 with_name (q ∷ qs) (f ∷ fs) w = (w.0.key, with_name qs fs w.1)
+with_name _ _ w = absurd w
 
 pub clash : {A : Type 0} (qs : List Named) (fs : List (List ℕ × A)) (k : ℕ) → Pairwise BeginsWithName qs fs → suc k < length fs → ((d : List ℕ × A) → (get_or fs k d).0 ≡ (get_or fs (suc k) d).0) → AreDistinct qs → ⊥
 unfolding IsDistinct
 clash [] [] k w h e d = omega (arith, h)
-clash [] (f ∷ fs) k w h e d = absurd w
-clash (q ∷ qs) [] k w h e d = absurd w
 clash (q ∷ qs) (f ∷ []) k w h e d = omega (arith, h)
 clash (q ∷ []) (f ∷ g ∷ fs) k w h e d = absurd w.1
 clash (q ∷ p ∷ qs) (f ∷ g ∷ fs) zero w h e d =
     let same : key_cmp q.0 p.0 ≡ Equal = ap (key_cmp q.0) (sym (same_text q.0 p.0 f.0 g.0 w.0 w.1.0 (e f))) ∙ key_cmp_same q.0 in
     let differ : true ≡ false = sym (ap is_eq same) ∙ d.0.0 in cc differ
 clash (q ∷ p ∷ qs) (f ∷ g ∷ fs) (suc k) w h e d = clash (p ∷ qs) (g ∷ fs) k w.1 (omega (arith, h)) e d.1
+clash _ _ k w h e d = absurd w
 
 pub repeats : (b : Bool) (qs : List Named) → repeats_key qs ≡ b → (AreDistinct qs → ⊥) → b ≡ true
 repeats true qs e n = refl

@@ -31,24 +31,18 @@ module _ {T E : Type 0} where
 
   -- a message of a call that was to append a text comes where there is none
   pub message_of : (P : Type 0) (whole : Option (List ℕ)) (s t : Written) (r : Result T (EncodeError E)) → (whole ≡ None → P) → Writes whole s t r → IfErr r (OnMessage (λ _. P))
-  message_of P whole s t (Ok x) cause h = tt
   message_of P whole s t (Err (Msg m)) cause h = cause h.0
-  message_of P whole s t (Err (Write e)) cause h = tt
-  message_of P whole s t (Err OutOfMemory) cause h = tt
+  message_of P whole s t _ cause h = tt
 
   -- a part that answers no message makes none of the whole
   pub none_as : (P : List ℕ → Type 0) (r : Result T (EncodeError E)) → IfErr r (OnMessage (λ _. ⊥)) → IfErr r (OnMessage P)
-  none_as P (Ok x) h = tt
   none_as P (Err (Msg m)) h = absurd h
-  none_as P (Err (Write e)) h = tt
-  none_as P (Err OutOfMemory) h = tt
+  none_as P _ h = tt
 
   -- what holds of a message tells more of it
   pub message_tells : (P Q : List ℕ → Type 0) (r : Result T (EncodeError E)) → ((m : List ℕ) → P m → Q m) → IfErr r (OnMessage P) → IfErr r (OnMessage Q)
-  message_tells P Q (Ok x) more h = tt
   message_tells P Q (Err (Msg m)) more h = more _ h
-  message_tells P Q (Err (Write e)) more h = tt
-  message_tells P Q (Err OutOfMemory) more h = tt
+  message_tells P Q _ more h = tt
 
 -- ---- a row of fields, where the writer is left as it was
 
@@ -59,8 +53,7 @@ module _ {T E : Type 0} (ps : List Pair) (r : Result T (EncodeError E)) where
     where
       by : (e : EncodeError E) → Refused (RefusesAnyValue ps) e → OnMessage (λ m. RefusesPairs ps m × (s ≡ t)) e
       by (Msg m) h = (inl h, same)
-      by (Write x) h = tt
-      by OutOfMemory h = tt
+      by _ h = tt
 
   -- behind fields that were all taken, a message is that of the keys
   pub keys_message : {Writer : Type 0} {s t u v : Writer} → (LacksValue ps → ⊥) → IfErr r (OnMessage (λ m. RefusesKeys ps m × (u ≡ v))) → s ≡ u → v ≡ t → IfErr r (OnMessage (λ m. RefusesPairs ps m × (s ≡ t)))
@@ -72,8 +65,7 @@ module _ {T E : Type 0} (ps : List Pair) (r : Result T (EncodeError E)) where
     where
       by : (e : EncodeError E) → Stops head start t e → OnMessage (λ m. RefusesPairs ps m × WroteAll head start t) e
       by (Msg m) h = absurd (has h.0)
-      by (Write x) h = tt
-      by OutOfMemory h = tt
+      by _ h = tt
 
   -- behind a head that went out before the fields
   pub behind_head : {Writer : Type 0} (head : Option (List ℕ)) (written : Writer → Written) (start : Written) (s t : Writer) → WroteAll head start (written t) → IfErr r (OnMessage (λ m. RefusesPairs ps m × (s ≡ t))) → IfErr r (OnMessage (λ m. RefusesPairs ps m × WroteAll head start (written s)))

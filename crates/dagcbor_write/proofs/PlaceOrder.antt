@@ -57,43 +57,52 @@ pairs_joined (p ∷ ps) =
     ap (λ x. spelled_key p.0 ++? (spelled_tree p.1 ++? x)) (pairs_joined ps)
     ∙ sym (joined_assoc (spelled_key p.0) (spelled_tree p.1) (join_parts (map spelled_pair ps)))
 
-module _ (ps : List Pair) (es : List Place) where
-  abbrev pub left_at : ℕ → List Pair
-  left_at i = in_order ps (Some (drop i es))
+module _ {A : Type 0} (pair : A → Pair) (es : List A) where
+  -- the pairs of those that are left
+  abbrev pub left_from : ℕ → List Pair
+  left_from i = map pair (drop i es)
 
-  pub begin_places : (s : Written)
-      → Written-but (spelled_pairs (left_at 0)) (map spelled_pair (left_at 0)) s s
-  begin_places s = begin_writing _ _ s (pairs_joined (left_at 0))
+  first_left : (i : ℕ) (d : A) (p : Pair) → i < length es → pair (get_or es i d) ≡ p
+      → left_from i ≡ p ∷ left_from (i + 1)
+  first_left i d p h e =
+      ap (map pair) (begins es i d h) ∙ ap (λ q. q ∷ left_from (i + 1)) e
 
-  -- the pair in the first of the places that are left, and what is left behind it
-  pub at_place : (i : ℕ) (d : Place) → i < length es → {whole : Option (List ℕ)} {s t : Written}
-      → Written-but whole (map spelled_pair (left_at i)) s t
-      → Written-but whole
-      (spelled_pair (pair_at ps (get_or es i d).at) ∷ map spelled_pair (left_at (i + 1))) s t
-  at_place i d h {whole} {s} {t} w =
-      let P : List Place → Type 0 = λ fs.
-      Written-but whole (map spelled_pair (in_order ps (Some fs))) s t in
-      subst P (begins es i d h) w
+  none_left : (i : ℕ) → length es ≤ i → left_from i ≡ []
+  none_left i h = ap (map pair) (drop_of_length-le es h)
 
-  pub no_place : (i : ℕ) → length es ≤ i → {whole : Option (List ℕ)} {s t : Written}
-      → Written-but whole (map spelled_pair (left_at i)) s t → Written-but whole [] s t
-  no_place i h {whole} {s} {t} w =
-      let P : List Place → Type 0 = λ fs.
-      Written-but whole (map spelled_pair (in_order ps (Some fs))) s t in
-      subst P (drop_of_length-le es h) w
+  -- the pair of the first of those that are left, and what is left behind it
+  pub at_pair : (i : ℕ) (d : A) (p : Pair) → i < length es → pair (get_or es i d) ≡ p
+      → {whole : Option (List ℕ)} {s t : Written}
+      → Written-but whole (map spelled_pair (left_from i)) s t
+      → Written-but whole (spelled_pair p ∷ map spelled_pair (left_from (i + 1))) s t
+  at_pair i d p h e {whole} {s} {t} w =
+      let P : List Pair → Type 0 = λ qs. Written-but whole (map spelled_pair qs) s t in
+      subst P (first_left i d p h e) w
+
+  pub no_pair_left : (i : ℕ) → length es ≤ i → {whole : Option (List ℕ)} {s t : Written}
+      → Written-but whole (map spelled_pair (left_from i)) s t → Written-but whole [] s t
+  no_pair_left i h {whole} {s} {t} w =
+      let P : List Pair → Type 0 = λ qs. Written-but whole (map spelled_pair qs) s t in
+      subst P (none_left i h) w
 
   -- what follows from the pairs that are left, follows from those behind a well-formed one
-  pub good_place : (i : ℕ) (d : Place) → i < length es → {G : Type 0}
-      → (ArePairs (left_at i) → G) → IsPair (pair_at ps (get_or es i d).at)
-      → ArePairs (left_at (i + 1)) → G
-  good_place i d h all good more =
-      let P : List Place → Type 0 = λ fs. ArePairs (in_order ps (Some fs)) in
-      all (subst P (sym (begins es i d h)) (good.0, good.1, more))
+  pub good_pair : (i : ℕ) (d : A) (p : Pair) → i < length es → pair (get_or es i d) ≡ p
+      → {G : Type 0} → (ArePairs (left_from i) → G) → IsPair p → ArePairs (left_from (i + 1)) → G
+  good_pair i d p h e all good more =
+      let P : List Pair → Type 0 = λ qs. ArePairs qs in
+      all (subst P (sym (first_left i d p h e)) (good.0, good.1, more))
 
-  pub all_good : (i : ℕ) → length es ≤ i → {G : Type 0} → (ArePairs (left_at i) → G) → G
+  pub all_good : (i : ℕ) → length es ≤ i → {G : Type 0} → (ArePairs (left_from i) → G) → G
   all_good i h all =
-      let P : List Place → Type 0 = λ fs. ArePairs (in_order ps (Some fs)) in
-      all (subst P (sym (drop_of_length-le es h)) tt)
+      let P : List Pair → Type 0 = λ qs. ArePairs qs in all (subst P (sym (none_left i h)) tt)
+
+-- the pairs in the places that are left
+abbrev pub left_at : List Pair → List Place → ℕ → List Pair
+left_at ps es i = left_from (λ (e : Place). pair_at ps e.at) es i
+
+pub begin_places : (ps : List Pair) (es : List Place) (s : Written)
+    → Written-but (spelled_pairs (left_at ps es 0)) (map spelled_pair (left_at ps es 0)) s s
+begin_places ps es s = begin_writing _ _ s (pairs_joined (left_at ps es 0))
 
 pub ok_holds : {T E P : Type 0} (r : Result T E) → false ≡ is_err r → OnOk r P → P
 ok_holds (Ok x) is h = h
@@ -136,8 +145,6 @@ first_listed row ps p e es one is more = record {
 listed : (done ps : List Pair) (es : List Place) → ArePlaces (length done) ps es
     → AreListed (done ++ ps) ps es
 listed done [] [] a = record { each = λ k d h. absurd (omega (arith, h)); same = refl }
-listed done [] (e ∷ es) a = absurd a
-listed done (p ∷ ps) [] a = absurd a
 listed done (p ∷ ps) (e ∷ es) a =
     let row : List Pair = done ++ p ∷ ps in
     let there : pair_at row e.at ≡ p = ap (pair_at row) a.1 ∙ at_seam done ps p in
@@ -147,6 +154,7 @@ listed done (p ∷ ps) (e ∷ es) a =
     let more = listed (done ++ p ∷ []) ps es (subst P (sym (one_more done p)) a.2) in
     first_listed row ps p e es (omega (arith, within, a.1), ap (λ q. q.0) there ∙ a.0) there
     (subst Q (append_assoc done (p ∷ []) ps) more)
+listed done _ _ a = absurd a
 
 both_true : (a b : Bool) → a && b ≡ true → (a ≡ true) × (b ≡ true)
 both_true true b e = (refl, e)
@@ -202,9 +210,6 @@ sorted_order ps old es lent fs seen none lists is moved same shown rise =
     let rises : names_rise [] fs ≡ true = ap (names_rise []) (sym (shown ∙ back)) ∙ rise in
     let Q : List Place → Type 0 = λ gs. IsKeyOrder ps (Some gs) in
     subst Q (sym back) (key_order ps old es fs none lists (subst P is moved) rises)
-
-pub as_they_stand : (ps : List Pair) → KeysRise [] ps → IsKeyOrder ps None
-as_they_stand ps rise = record { places = tt; all = IsPermutation-refl ps; rise = rise }
 
 -- what is written of a row in an order in which its keys rise is the map of its pairs
 pub ordered_map : (ps : List Pair) (order : Option (List Place)) (n : ℕ) (bs : List ℕ)

@@ -23,7 +23,5 @@ module _ {E : Type 0} {e : EncodeError E} {text : List ℕ} (made : (kept : Mess
 
 -- want of memory may be answered where some may be taken
 pub may_want : {T E : Type 0} (r : Result T (EncodeError E)) → WantsMemoryOnlyIf true r
-may_want (Ok x) = tt
-may_want (Err (Msg m)) = tt
-may_want (Err (Write e)) = tt
 may_want (Err OutOfMemory) = cc
+may_want _ = tt

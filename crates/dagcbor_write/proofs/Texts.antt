@@ -17,7 +17,7 @@ use Rattle.dagcbor_write.specs.Rows.{spelled_pairs, spelled_pair, ArePairs, IsPa
 use Rattle.dagcbor_write.specs.Texts.{text_pair, text_pairs, map_pairs}
 use Rattle.dagcbor_write.specs.Trees.{Pair}
 use Rattle.dagcbor_write.proofs.Mapping.{row_map}
-use Rattle.dagcbor_write.proofs.PlaceOrder.{begins, is_less, pairs_joined}
+use Rattle.dagcbor_write.proofs.PlaceOrder.{pairs_joined}
 use Rattle.dagcbor_write.proofs.Walks.{same_map}
 
 map_joined : {A B : Type 0} (f : A → B) (xs : List A) (y : A) → map f (xs ++ y ∷ []) ≡ map f xs ++ f y ∷ []
@@ -44,59 +44,14 @@ module _ {V : Type 0} where
         ∙ sym (map_joined (λ f. (Some (text (string_bytes f.0)), tree f.1)) h.0 e),
   )
 
-  -- ---- keys that rise
-
-  pub rises_at : (tree : V → Option Tree) (row : List (TextEntry V)) (i : ℕ) (d : TextEntry V) (last : List ℕ) → i < length row
-      → comes_before last (get_or row i d).key.now ≡ true
-      → KeysRise (get_or row i d).key.now (text_pairs tree (drop (i + 1) row)) → KeysRise last (text_pairs tree (drop i row))
-  rises_at tree row i d last h e more =
-      let P : List (TextEntry V) → Type 0 = λ es. KeysRise last (text_pairs tree es) in
-      subst P (sym (begins row i d h)) (is_less (key_cmp last (get_or row i d).key.now) e, more)
-
-  pub rises_behind_last : (tree : V → Option Tree) (row : List (TextEntry V)) (i : ℕ) (last : List ℕ) → length row ≤ i → KeysRise last (text_pairs tree (drop i row))
-  rises_behind_last tree row i last h =
-      let P : List (TextEntry V) → Type 0 = λ es. KeysRise last (text_pairs tree es) in
-      subst P (sym (drop_of_length-le row h)) tt
-
   -- ---- a row that is written
 
   module _ (tree : V → Option Tree) (row : List (TextEntry V)) where
-    abbrev pub left_of : ℕ → List Pair
-    left_of i = text_pairs tree (drop i row)
-
     pub begin_row : (n : ℕ) (s : Written) → n ≡ length row → Rises (text_pairs tree row)
         → Written-but (spelled_tree (entries_tree (text_pairs tree row))) (spelled_head 5 n ∷ map spelled_pair (text_pairs tree row)) s s
     begin_row n s count rise =
         let whole = row_map (text_pairs tree row) n (count ∙ sym (length-map row (text_pair tree))) rise in
         begin_writing _ _ s (whole.0 ∙ ap (λ x. spelled_head 5 n ++? x) (pairs_joined (text_pairs tree row)))
-
-    begins_with : (i : ℕ) (x : TextEntry V) → i < length row → x ≡ get_or row i x → drop i row ≡ x ∷ drop (i + 1) row
-    begins_with i x h e = begins row i x h ∙ ap (λ y. y ∷ drop (i + 1) row) (sym e)
-
-    pub at_entry : (i : ℕ) (x : TextEntry V) → i < length row → x ≡ get_or row i x → {whole : Option (List ℕ)} {s t : Written}
-        → Written-but whole (map spelled_pair (left_of i)) s t
-        → Written-but whole (spelled_pair (text_pair tree x) ∷ map spelled_pair (left_of (i + 1))) s t
-    at_entry i x h e {whole} {s} {t} w =
-        let P : List (TextEntry V) → Type 0 = λ es. Written-but whole (map spelled_pair (text_pairs tree es)) s t in
-        subst P (begins_with i x h e) w
-
-    pub no_entry_left : (i : ℕ) → length row ≤ i → {whole : Option (List ℕ)} {s t : Written}
-        → Written-but whole (map spelled_pair (left_of i)) s t → Written-but whole [] s t
-    no_entry_left i h {whole} {s} {t} w =
-        let P : List (TextEntry V) → Type 0 = λ es. Written-but whole (map spelled_pair (text_pairs tree es)) s t in
-        subst P (drop_of_length-le row h) w
-
-    -- what follows from the pairs that are left, follows from those behind a well-formed one
-    pub good_entry : (i : ℕ) (x : TextEntry V) → i < length row → x ≡ get_or row i x → {G : Type 0} → (ArePairs (left_of i) → G)
-        → IsPair (text_pair tree x) → ArePairs (left_of (i + 1)) → G
-    good_entry i x h e all good more =
-        let P : List (TextEntry V) → Type 0 = λ es. ArePairs (text_pairs tree es) in
-        all (subst P (sym (begins_with i x h e)) (good.0, good.1, more))
-
-    pub good_row : (i : ℕ) → length row ≤ i → {G : Type 0} → (ArePairs (left_of i) → G) → G
-    good_row i h all =
-        let P : List (TextEntry V) → Type 0 = λ es. ArePairs (text_pairs tree es) in
-        all (subst P (sym (drop_of_length-le row h)) tt)
 
     pub row_good : Rises (text_pairs tree row) → ArePairs (text_pairs tree row) → IfSome (entries_tree (text_pairs tree row)) IsTree
     row_good rise good = (row_map (text_pairs tree row) (length (text_pairs tree row)) refl rise).1 good

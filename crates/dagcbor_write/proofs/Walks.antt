@@ -21,9 +21,8 @@ before o os = option_and_then (λ a. option_map (λ more. a ∷ more) os) o
 
 names : (ps : List Pair) (ns : List Named) → Pairwise IsNamed ns ps → all_some (map pair_of ps) ≡ Some ns
 names [] [] w = refl
-names [] (n ∷ ns) w = absurd w
-names (p ∷ ps) [] w = absurd w
 names (p ∷ ps) (n ∷ ns) w = ap₂ before w.0 (names ps ns w.1)
+names _ _ w = absurd w
 
 pub names_given : (ps : List Pair) → IfSome (all_some (map pair_of ps)) (λ ns. Pairwise IsNamed ns ps)
 names_given [] = tt

@@ -8,6 +8,3 @@ pub returns-then-eq : goal.returns-then-eq
 returns-then-eq c =
     let at : c.loop-i.i - 1 + 1 ≡ c.loop-i.i = omega arith in
     (c.loop-i.i - 1, omega (arith, length-map c.args.spans.now (entry_at c.args.bytes.now)), λ d. rw at (sym (c.key_at.ensures d) ∙ same_bytes c.key_at.result.now c.key_at-in-loop-i.result.now (sym c.eq.ensures ∙ c.if-eq.true) ∙ c.key_at-in-loop-i.ensures d))
-
-pub returns : goal.returns
-returns c = λ k d h. c.loop-i.invariant k d (omega (arith, h, length-map c.args.spans.now (entry_at c.args.bytes.now), c.loop-i-test.false))

@@ -4,9 +4,6 @@ use Rattle.dagcbor_write.specs.declared.collect.gathered.Span.{Span}
 use Rattle.dagcbor_serde.proofs.Closing.{pushed_on, all_pushed}
 use Rattle.dagcbor_serde.proofs.entries.push_entries.Goals as goal
 
-pub loop-i-init : goal.loop-i-init
-loop-i-init c = refl
-
 pub loop-i-preserved : goal.loop-i-preserved
 loop-i-preserved c =
     let none : Span = record { start = 0; key_end = 0; end = 0 } in

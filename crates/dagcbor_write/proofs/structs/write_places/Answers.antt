@@ -1,6 +1,8 @@
+use Rattle.std.proofs.Common.{refl}
 use Rattle.dagcbor_heads.proofs.Writing.{next_taken, exit_refused, all_written}
-use Rattle.dagcbor_write.proofs.PlaceOrder.{begin_places, at_place, no_place, good_place, all_good}
-use Rattle.dagcbor_write.proofs.PlaceOrder.{ok_holds}
+use Rattle.dagcbor_write.specs.declared.places.Place.{Place}
+use Rattle.dagcbor_write.specs.Rows.{pair_at}
+use Rattle.dagcbor_write.proofs.PlaceOrder.{begin_places, at_pair, no_pair_left, good_pair, all_good, ok_holds}
 use Rattle.dagcbor_write.proofs.structs.write_places.Goals as goal
 
 pub loop-place-init : goal.loop-place-init
@@ -11,28 +13,30 @@ loop-place-init g c = record {
 
 pub returns-then-is_err-clause-written : goal.returns-then-is_err-clause-written
 returns-then-is_err-clause-written g c =
+    let pair = λ (e : Place). pair_at (g.F.FieldRow.pairs c.args.fields.now) e.at in
     exit_refused
-    (at_place (g.F.FieldRow.pairs c.args.fields.now) c.args.places.now _ _ c.loop-place-test.true
+    (at_pair pair c.args.places.now _ _ _ c.loop-place-test.true refl
     c.loop-place.invariant.written) _ _ c.if-is_err.ensures.value c.write_field-part.ensures.written
 
 pub loop-place-preserved : goal.loop-place-preserved
 loop-place-preserved g c =
-    let pairs = g.F.FieldRow.pairs c.args.fields.now in
+    let pair = λ (e : Place). pair_at (g.F.FieldRow.pairs c.args.fields.now) e.at in
     let good = ok_holds _ c.if-is_err.ensures.value c.write_field-part.ensures.well_formed in
     record {
       written = next_taken
-          (at_place pairs c.args.places.now _ _ c.loop-place-test.true c.loop-place.invariant.written)
+          (at_pair pair c.args.places.now _ _ _ c.loop-place-test.true refl c.loop-place.invariant.written)
           _ _ c.if-is_err.ensures.value c.write_field-part.ensures.written;
-      well_formed = good_place pairs c.args.places.now _ _ c.loop-place-test.true
+      well_formed = good_pair pair c.args.places.now _ _ _ c.loop-place-test.true refl
           c.loop-place.invariant.well_formed good;
     }
 
 pub returns-clause-written : goal.returns-clause-written
 returns-clause-written g c =
-    all_written (no_place (g.F.FieldRow.pairs c.args.fields.now) c.args.places.now _
-    c.loop-place-test.false c.loop-place.invariant.written)
+    let pair = λ (e : Place). pair_at (g.F.FieldRow.pairs c.args.fields.now) e.at in
+    all_written (no_pair_left pair c.args.places.now _ c.loop-place-test.false
+    c.loop-place.invariant.written)
 
 pub returns-clause-well_formed : goal.returns-clause-well_formed
 returns-clause-well_formed g c =
-    all_good (g.F.FieldRow.pairs c.args.fields.now) c.args.places.now _
-    c.loop-place-test.false c.loop-place.invariant.well_formed
+    all_good (λ (e : Place). pair_at (g.F.FieldRow.pairs c.args.fields.now) e.at)
+    c.args.places.now _ c.loop-place-test.false c.loop-place.invariant.well_formed

@@ -37,10 +37,7 @@ returns-clause-entry g c =
     record {
       key = k.0;
       mid = mid;
-      is = tt;
-      follows = k.2.follows;
-      read = k.2.sound;
-      takes = k.2.takes;
+      begun = record { is = tt; follows = k.2.follows; read = k.2.sound; takes = k.2.takes };
       counted = c.note_value.ensures ∙ ap with_value after;
       sound = v.0;
       value = subst (λ x. TakesFront (value_of shape state x) mid.input (g.F.Fields.state c.read_field.new.places) (de_state g.R.Read.reading c.read_field.new.de).input) is v.1;

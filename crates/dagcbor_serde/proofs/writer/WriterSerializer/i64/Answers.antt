@@ -4,6 +4,4 @@ use Rattle.dagcbor_serde.proofs.Logs.{follows_more}
 use Rattle.dagcbor_serde.proofs.writer.WriterSerializer.i64.Goals as goal
 
 pub invariant_of-self-2 : goal.invariant_of-self-2
-invariant_of-self-2 c = record {
-  follows = follows_more c.args.self.now.failed c.args.self.now.log.events (event.signed c.args.v) c.args.self.now.sink c.signed.new.self c.then-self.result.events c.args.self.now.follows (search rules) (search rules);
-}
+invariant_of-self-2 c = record { follows = follows_more _ _ (event.signed c.args.v) _ _ _ c.args.self.now.follows (search rules) (search rules) }

@@ -10,6 +10,3 @@ returns-in-Ok-clause-written g c = grind (arith, common_steps)
 pub returns-in-Err-clause-written : goal.returns-in-Err-clause-written
 unfolding spelled
 returns-in-Err-clause-written g c = search rules
-
-pub returns-in-Err-clause-message : goal.returns-in-Err-clause-message
-returns-in-Err-clause-message g c = search rules

@@ -10,6 +10,3 @@ returns-in_err-push_variant-clause-written g c =
 pub returns-clause-written : goal.returns-clause-written
 returns-clause-written g c =
     last_part (next_part (begin_newtype_variant c.args.variant.now (g.T.Serialize.tree c.args.value.now) _) _ c.in_ok-push_variant.ensures.written) _ _ c.serialize.ensures.written
-
-pub returns-clause-well_formed : goal.returns-clause-well_formed
-returns-clause-well_formed g c = search rules

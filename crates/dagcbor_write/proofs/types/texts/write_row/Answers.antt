@@ -1,7 +1,8 @@
-use Rattle.std.proofs.Common.{length, refl}
+use Rattle.std.proofs.Common.{length, refl, sym, ap}
 use Rattle.dagcbor_heads.proofs.Writing.{next_taken, exit_refused, all_written}
-use Rattle.dagcbor_write.proofs.PlaceOrder.{ok_holds}
-use Rattle.dagcbor_write.proofs.Texts.{begin_row, at_entry, no_entry_left, good_entry, good_row, row_good}
+use Rattle.dagcbor_write.specs.Texts.{text_pair}
+use Rattle.dagcbor_write.proofs.PlaceOrder.{at_pair, no_pair_left, good_pair, all_good, ok_holds}
+use Rattle.dagcbor_write.proofs.Texts.{begin_row, row_good}
 use Rattle.dagcbor_write.proofs.types.texts.write_row.Goals as goal
 
 pub returns-then-is_err-clause-written : goal.returns-then-is_err-clause-written
@@ -19,25 +20,27 @@ loop-entry-init g c =
 
 pub returns-then-is_err-2-clause-written : goal.returns-then-is_err-2-clause-written
 returns-then-is_err-2-clause-written g c =
-    let w = at_entry g.V.Serialize.tree c.args.row.now _ _ c.loop-entry-test.true c.entry-item.is c.loop-entry.invariant.written in
+    let pair = text_pair g.V.Serialize.tree in
+    let w = at_pair pair c.args.row.now _ _ _ c.loop-entry-test.true (sym (ap pair c.entry-item.is)) c.loop-entry.invariant.written in
     exit_refused w _ _ c.if-is_err-2.ensures.value c.write_entry-part.ensures.written
 
 pub loop-entry-preserved : goal.loop-entry-preserved
 loop-entry-preserved g c =
-    let tree = g.V.Serialize.tree in
+    let pair = text_pair g.V.Serialize.tree in
+    let is = sym (ap pair c.entry-item.is) in
     let good = ok_holds _ c.if-is_err-2.ensures.value c.write_entry-part.ensures.well_formed in
-    let w = at_entry tree c.args.row.now _ _ c.loop-entry-test.true c.entry-item.is c.loop-entry.invariant.written in
+    let w = at_pair pair c.args.row.now _ _ _ c.loop-entry-test.true is c.loop-entry.invariant.written in
     record {
       written = next_taken w _ _ c.if-is_err-2.ensures.value c.write_entry-part.ensures.written;
-      well_formed = good_entry tree c.args.row.now _ _ c.loop-entry-test.true c.entry-item.is c.loop-entry.invariant.well_formed good;
+      well_formed = good_pair pair c.args.row.now _ _ _ c.loop-entry-test.true is c.loop-entry.invariant.well_formed good;
     }
 
 pub returns-clause-written : goal.returns-clause-written
 returns-clause-written g c =
-    all_written (no_entry_left g.V.Serialize.tree c.args.row.now _ c.loop-entry-test.false c.loop-entry.invariant.written)
+    all_written (no_pair_left (text_pair g.V.Serialize.tree) c.args.row.now _ c.loop-entry-test.false c.loop-entry.invariant.written)
 
 pub returns-clause-well_formed : goal.returns-clause-well_formed
 returns-clause-well_formed g c =
     let tree = g.V.Serialize.tree in
     row_good tree c.args.row.now c.requires
-    (good_row tree c.args.row.now _ c.loop-entry-test.false c.loop-entry.invariant.well_formed)
+    (all_good (text_pair tree) c.args.row.now _ c.loop-entry-test.false c.loop-entry.invariant.well_formed)

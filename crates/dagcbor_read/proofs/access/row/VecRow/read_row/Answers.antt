@@ -28,6 +28,3 @@ returns-clause-row g c =
     let k = no_element g.row.R-Error.Denot g.T.Shown.meaning g.T.Shown.shape _ (de_state g.R.Read.reading c.loop-all.de) (de_state g.R.Read.reading c.next_element.new.de) _ c.in_default.is c.in_ok-item.ensures.element in
     let after = after_none g.row.R-Error.Denot g.T.Shown.meaning g.T.Shown.shape _ (accessor_state c.loop-all.items) _ c.in_default.is c.in_ok-item.ensures.after in
     none_more g.T.Shown.shape _ i k.1 after k.0 k.2
-
-pub returns-clause-lies : goal.returns-clause-lies
-returns-clause-lies g c = c.loop-all.invariant.1

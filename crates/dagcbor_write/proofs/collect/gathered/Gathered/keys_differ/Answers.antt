@@ -6,6 +6,3 @@ pub returns-then-eq : goal.returns-then-eq
 returns-then-eq c =
     let at : c.loop-i.i - 1 + 1 ≡ c.loop-i.i = omega arith in
     (c.loop-i.i - 1, omega arith, λ d. rw at (sym (c.key.ensures d) ∙ same_bytes c.key.result.now c.key-in-loop-i.result.now (sym c.eq.ensures ∙ c.if-eq.true) ∙ c.key-in-loop-i.ensures d))
-
-pub returns : goal.returns
-returns c = λ k d h. c.loop-i.invariant k d (omega (arith, h, c.loop-i-test.false, c.len-i-end.ensures))

@@ -1,5 +1,0 @@
-use Rattle.std.proofs.Common.{refl}
-use Rattle.dagcbor_read.proofs.access.accessor.Accessor.size_hint.Goals as goal
-
-pub returns : goal.returns
-returns c = refl

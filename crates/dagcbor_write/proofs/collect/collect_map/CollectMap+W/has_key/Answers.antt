@@ -1,5 +1,0 @@
-use Rattle.std.proofs.Common.{rules}
-use Rattle.dagcbor_write.proofs.collect.collect_map.CollectMap+W.has_key.Goals as goal
-
-pub returns : goal.returns
-returns g c = search rules

@@ -1,8 +1,0 @@
-use Rattle.std.proofs.Common.{rules}
-use Rattle.dagcbor_write.proofs.serializer.Serializer.serialize_newtype_struct.Goals as goal
-
-pub returns-clause-written : goal.returns-clause-written
-returns-clause-written g c = search rules
-
-pub returns-clause-well_formed : goal.returns-clause-well_formed
-returns-clause-well_formed g c = search rules

@@ -1,4 +1,0 @@
-use Rattle.dagcbor_write.proofs.serializer.Serializer.serialize_u8.Goals as goal
-
-pub returns-clause-written : goal.returns-clause-written
-returns-clause-written g c = c.serialize_u16.ensures.written

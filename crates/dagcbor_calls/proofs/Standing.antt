@@ -1,5 +1,5 @@
 -- Tokens that stand in bytes, one behind the other.
-use Rattle.std.proofs.Common.{◌≡◌, ◌≢◌, ◌⊎◌, inl, inr, ℕ, suc, ◌+◌, ◌-◌, ◌^◌, ◌<◌, ◌≤◌, List, [], ◌∷◌, ◌++◌, length, take, drop, set, if◌then◌else◌, refl, sym, ap, ap₂, ◌∙◌, subst, arith, append_assoc, append-nil, length-append, length-take, lt-ltb, Bool}
+use Rattle.std.proofs.Common.{◌≡◌, ◌≢◌, ◌⊎◌, inl, inr, ℕ, suc, ◌+◌, ◌-◌, ◌^◌, ◌<◌, ◌≤◌, List, [], ◌∷◌, ◌++◌, length, take, drop, set, if◌then◌else◌, refl, sym, ap, ap₂, ◌∙◌, subst, arith, append_assoc, append-nil, length-append, length-take, Bool}
 use Rattle.std.proofs.lemmas.Bool.{le-ltb}
 use Rattle.std.proofs.lemmas.List.{take-append-drop}
 use Rattle.std.specs.Prelude.{Option, Some, None, nat_eq}
@@ -255,11 +255,7 @@ one_stood whole b now next old before after count first same s token put = recor
   done = s.done ++ first ∷ [];
   row = λ more h. subst (AreTokensOf whole b) (sym (append_assoc s.done (first ∷ []) more)) (s.row (first ∷ more) (next, token, h));
   counted = omega (arith, length-append s.done (first ∷ []), s.counted);
-  stands = λ room.
-      put (omega (arith, same, room)) ∙ ap₂ (λ x n. set x n first) (s.stands (omega (arith, room))) (sym s.counted)
-      ∙ ap (λ n. set (s.done ++ drop n old) (length s.done) first) (sym s.counted)
-      ∙ put_more s.done old first (omega (arith, s.counted, room))
-      ∙ ap (λ n. (s.done ++ first ∷ []) ++ drop (n + 1) old) s.counted;
+  stands = put_more s.done old before after count first same s.counted s.stands put;
 }
 
 pub all_stood : (whole : ℕ) (b now : List ℕ) (old after : List Token) (count : ℕ) → ((t : Token) (rest : List ℕ) → ¬ StandsToken whole now t rest) → Stood whole b now old after count
@@ -272,9 +268,6 @@ all_stood whole b now old after count none s = (
 )
 
 -- ---- with room, and without
-
-pub no_room : (b : List ℕ) (old none after : List Token) (needed : ℕ) → length old < needed → PutsStanding b none after needed → (tokens : List Token) × AreTokens b tokens × (needed ≡ length tokens) × (old ≡ with_tokens tokens old)
-no_room b old none after needed more k = (k.0, k.1, k.2, sym (ap (λ (o : Bool). if o then old else k.0 ++ drop (length k.0) old) (lt-ltb (length old) (length k.0) (omega (arith, more, k.2)))))
 
 pub with_room : (b : List ℕ) (old new : List Token) (needed : ℕ) → needed ≤ length old → PutsStanding b old new needed → (tokens : List Token) × AreTokens b tokens × (needed ≡ length tokens) × (new ≡ with_tokens tokens old)
 with_room b old new needed room k =

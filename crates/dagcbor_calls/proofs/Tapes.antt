@@ -325,13 +325,22 @@ none_told b t old s = record {
 }
 
 -- a token behind those at the front of a tape
-pub put_more : (done old : List Token) (first : Token) → length done < length old → set (done ++ drop (length done) old) (length done) first ≡ (done ++ first ∷ []) ++ drop (length done + 1) old
-put_more done old first room =
+put_behind : (done old : List Token) (first : Token) → length done < length old → set (done ++ drop (length done) old) (length done) first ≡ (done ++ first ∷ []) ++ drop (length done + 1) old
+put_behind done old first room =
     let d = token 0 0 0 in
     ap (λ x. set (done ++ x) (length done) first) (drop-cons old (length done) d room)
     ∙ set-append_seam done (get_or old (length done) d) (drop (suc (length done)) old) first
     ∙ sym (append_assoc done (first ∷ []) (drop (suc (length done)) old))
     ∙ ap (λ n. (done ++ first ∷ []) ++ drop n old) {x = suc (length done)} {y = length done + 1} (omega arith)
+
+-- a call that put it there
+pub put_more : (done old before after : List Token) (count : ℕ) (first : Token) → length before ≡ length old → length done ≡ count → (count ≤ length old → before ≡ done ++ drop count old) → (count < length before → after ≡ set before count first)
+    → count + 1 ≤ length old → after ≡ (done ++ first ∷ []) ++ drop (count + 1) old
+put_more done old before after count first same counted stands put room =
+    put (omega (arith, same, room)) ∙ ap₂ (λ x n. set x n first) (stands (omega (arith, room))) (sym counted)
+    ∙ ap (λ n. set (done ++ drop n old) (length done) first) (sym counted)
+    ∙ put_behind done old first (omega (arith, counted, room))
+    ∙ ap (λ n. (done ++ first ∷ []) ++ drop (n + 1) old) counted
 
 pub one_told : (whole : ℕ) (t : Tree) (now next : List ℕ) (old before after : List Token) (count : ℕ) (first : Token) → length before ≡ length old → Told whole t now old before count → length next < length now → SplitsToken whole now first next
     → (count < length before → after ≡ set before count first) → Told whole t next old after (count + 1)
@@ -347,11 +356,7 @@ one_told whole t now next old before after count first same s shorter split put 
           fronts = k.1;
           told = e ∙ ap (λ x. s.done ++ x) k.2 ∙ sym (append_assoc s.done (first ∷ []) (items_tokens (whole - length next) k.0));
           counted = omega (arith, length-append s.done (first ∷ []), s.counted);
-          stands = λ room.
-              put (omega (arith, same, room)) ∙ ap₂ (λ x n. set x n first) (s.stands (omega (arith, room))) (sym s.counted)
-              ∙ ap (λ n. set (s.done ++ drop n old) (length s.done) first) (sym s.counted)
-              ∙ put_more s.done old first (omega (arith, s.counted, room))
-              ∙ ap (λ n. (s.done ++ first ∷ []) ++ drop (n + 1) old) s.counted;
+          stands = put_more s.done old before after count first same s.counted s.stands put;
         }
 
 pub all_told : (whole : ℕ) (t : Tree) (now : List ℕ) (old after : List Token) (count : ℕ) → ((u : Tree) (us : Items) → ¬ AreFronts now (item u us) []) → Told whole t now old after count

@@ -1,20 +1,17 @@
 -- A whole file, gone through section by section.
-use Rattle.std.proofs.Common.{◌≡◌, inl, inr, ℕ, ◌+◌, ◌<◌, List, [], ◌∷◌, ◌++◌, length, length-append, take, drop, refl, sym, ap, ap₂, ◌∙◌, subst, arith, append_assoc, append-nil}
-use Rattle.std.specs.Prelude.{⊤, Option, None, Some, option_map, Result, Ok, Err, Vec, MatchResult}
-use Rattle.std.specs.List.{AllByRecursion, flat_map}
+use Rattle.std.proofs.Common.{◌≡◌, inl, inr, ℕ, List, [], ◌∷◌, ◌++◌, length, refl, sym, ap, ◌∙◌, subst, arith, append_assoc, append-nil}
+use Rattle.std.specs.Prelude.{⊤, Option, Some, Result, Ok, Err, Vec, MatchResult}
 use Rattle.std.specs.declared.alloc.Global.{Global}
 use Rattle.dagcbor_heads.specs.Reading.{Reading, Stays}
-use Rattle.dagcbor_heads.proofs.Taking.{stays, stays_both}
-use Rattle.dagcbor_heads.specs.Fronts.{Takes}
+use Rattle.dagcbor_heads.proofs.Taking.{stays_both}
 use Rattle.ipld_tree.specs.Cid.{CidParts}
 use Rattle.ipld_tree.specs.Spelling.{spelling, IsSpelling}
-use Rattle.dagcbor_car.specs.Car.{header_tree, header_bytes, Section, section_bytes, car_bytes, IsSection, IsCar}
-use Rattle.dagcbor_car.specs.Splits.{SplitsSection, BeginsNoSection, SplitsHeader}
-use Rattle.dagcbor_car.specs.Versions.{IsVersion2, begin_of, length_of, HasSpan, HoldsCar, IsFile}
-use Rattle.dagcbor_car.specs.Extents.{within, wanting, of_file, Spends, TakesOff, EndsThere}
-use Rattle.dagcbor_car.specs.Sources.{CarRefuses, LacksMemoryIf, FileLacks, IsStart, RefusesStart, RefusesSection, RefusesNext, TakesStart, TakesSectionBytes}
+use Rattle.dagcbor_car.specs.Car.{header_tree, header_bytes, Section, section_bytes, IsSection}
+use Rattle.dagcbor_car.specs.Versions.{HoldsCar}
+use Rattle.dagcbor_car.specs.Extents.{within, wanting, Spends, EndsThere}
+use Rattle.dagcbor_car.specs.Sources.{CarRefuses, LacksMemoryIf, FileLacks, RefusesStart, RefusesNext, TakesStart, TakesSectionBytes}
 use Rattle.dagcbor_car.specs.Verdicts.{IsVerdict, Told, sections_of, AreTold, TellsAll, Tells}
-use Rattle.dagcbor_car.specs.Checks.{IsAfter, ListsMissing, TakesSection, TellsVerdict, TellsNone, StepRefused, IsCarFront, IsNoFile, CarFault, TellsFront, CarRefused, StandBehind, ChecksInput}
+use Rattle.dagcbor_car.specs.Checks.{IsAfter, ListsMissing, TakesSection, TellsVerdict, TellsNone, StepRefused, IsNoFile, CarFault, TellsFront, CarRefused, ChecksInput}
 use Rattle.dagcbor_car.specs.declared.error.CarError.{CarError}
 use Rattle.dagcbor_car.specs.declared.error.CarError.TheVariants.{Read, Truncated, InvalidLength, InvalidCid, NoBlock, OtherHeader, InvalidOffset, OutOfMemory}
 use Rattle.dagcbor_car.specs.declared.verdict.Verdict.{Verdict}

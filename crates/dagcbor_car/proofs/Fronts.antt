@@ -24,18 +24,6 @@ two_fields {s} {r} {t} j k h i = one_varint_more k t (one_field j h) i
 pub three_fields : {s r t d : List ℕ} (j k n : ℕ) → Read s j r → Read r k t → Read t n d → HasVarints (0x01 ∷ s) (j ∷ k ∷ n ∷ []) d
 three_fields {s} {r} {t} {d} j k n h i l = one_varint_more n d (two_fields j k h i) l
 
--- the fields, a digest of that length, and the block
-pub front_of_fields : (s r t d digest block : List ℕ) (j k n : ℕ) → Read s j r → Read r k t → Read t n d → n ≤ 64 → length digest ≡ n → d ≡ digest ++ block → SplitsCid (0x01 ∷ s) (cid_parts 1 j k digest) block
-front_of_fields s r t d digest block j k n h i l short long split = (inr (refl, h.0, i.0, omega (arith, long, short)), whole)
-  where
-    len : t ≡ varint (length digest) ++ (digest ++ block)
-    len = l.1 ∙ ap (λ m. varint m ++ d) (sym long) ∙ ap (λ b. varint (length digest) ++ b) split
-
-    whole : 0x01 ∷ s ≡ cid_bytes (cid_parts 1 j k digest) ++ block
-    whole =
-        ap (λ b. 0x01 ∷ b) (h.1 ∙ ap (λ b. varint j ++ b) (i.1 ∙ ap (λ b. varint k ++ b) len))
-        ∙ sym (front_1 (cid_parts 1 j k digest) block refl)
-
 -- where a fault stands that is not of bytes behind a CID, no CID stands first
 pub no_front : (e : CidError) (s : List ℕ) → (e ≡ TrailingBytes → ⊥) → IsFault e (0x01 ∷ s) → BeginsNoCid e (0x01 ∷ s)
 no_front e s other fault = (λ c rest h. by c rest h.0 h.1, fault)
@@ -71,16 +59,6 @@ front_of_digest b digest block h = (inl (refl, refl, refl, long), ap (λ x. 0x12
 
     split : b ≡ digest ++ block
     split = sym (take-append-drop 32 b) ∙ (λ i. sym h.0 i ++ sym h.1 i)
-
-pub no_digest : (b : List ℕ) → length b < 32 → BeginsNoCid InvalidVersion (0x12 ∷ 0x20 ∷ b)
-no_digest b short = (λ c rest h. by c rest h.0 h.1, (0x12, 0x20 ∷ b, refl, λ e. omega (arith, e), λ digest long is. let same : b ≡ digest = cc is in omega (arith, short, long, ap length same)))
-  where
-    by : (c : CidParts) (rest : List ℕ) → AreCidParts c → 0x12 ∷ 0x20 ∷ b ≡ cid_bytes c ++ rest → ⊥
-    by c rest (inl p) is =
-        let parts = is ∙ front_0 c rest p.0 in
-        let same : b ≡ c.digest ++ rest = cc parts in
-        omega (arith, short, p.3, ap length same, length-append c.digest rest)
-    by c rest (inr p) is = let clash = is ∙ front_1 c rest p.0 in absurd (cc clash)
 
 -- ---- neither
 

@@ -104,9 +104,6 @@ is_the_header b front rest version is before behind k = (
 header_parts : (b : List ℕ) (roots : List (List ℕ)) → IsSpelling b (header_tree roots) → (b ≡ before_roots ++ (spelling (link_list roots) ++ behind_roots)) × IsFront (spelling (link_list roots) ++ behind_roots) (link_list roots) behind_roots
 header_parts b roots h = (h.is ∙ header_spelled roots, record { well_formed = h.well_formed.1; spellable = h.spellable.1.1; is = refl })
 
-pub short_header : (b : List ℕ) → length b < 7 → ¬ ((roots : List (List ℕ)) × IsSpelling b (header_tree roots))
-short_header b few h = let k = header_parts b h.0 h.1 in omega (arith, few, ap length k.0)
-
 pub other_beginning : (b front rest : List ℕ) → b ≡ front ++ rest → length front ≡ 7 → ¬ (front ≡ before_roots) → ¬ ((roots : List (List ℕ)) × IsSpelling b (header_tree roots))
 other_beginning b front rest is long other h =
     let k = header_parts b h.0 h.1 in

@@ -1,11 +1,10 @@
 -- What is taken of a file from a reader.
-use Rattle.std.proofs.Common.{◌≡◌, inl, inr, ℕ, ◌+◌, ◌*◌, ◌<◌, ◌≤◌, ◌^◌, true, false, List, [], ◌∷◌, ◌++◌, length, length-append, refl, sym, ap, ◌∙◌, subst, arith, append_assoc, append-nil}
-use Rattle.std.specs.Prelude.{Option, Some, option_map, Result, Ok, Err, MatchResult, IfOk, IsErrAnd}
+use Rattle.std.proofs.Common.{◌≡◌, inl, inr, ℕ, ◌+◌, ◌*◌, ◌<◌, ◌≤◌, ◌^◌, false, List, [], ◌∷◌, ◌++◌, length, length-append, refl, sym, ap, ◌∙◌, subst, arith, append_assoc, append-nil}
+use Rattle.std.specs.Prelude.{Option, Some, Result, Ok, Err, MatchResult, IfOk, IsErrAnd}
 use Rattle.dagcbor_heads.specs.Reading.{Reading}
-use Rattle.dagcbor_heads.specs.Fronts.{ShowsByte, Takes}
-use Rattle.dagcbor_heads.specs.Looking.{LooksAtMost, LooksAtTaken, LooksAtSome, LooksAtLeft, LooksOnce}
-use Rattle.dagcbor_heads.proofs.Taking.{stays_both, nothing_taken, takes_both}
-use Rattle.dagcbor_heads.proofs.Looking.{nothing_looked, some_both, some_taken, taken_left}
+use Rattle.dagcbor_heads.specs.Fronts.{Takes}
+use Rattle.dagcbor_heads.specs.Looking.{LooksAtMost, LooksAtTaken, LooksAtSome}
+use Rattle.dagcbor_heads.proofs.Looking.{nothing_looked, some_both, some_taken}
 use Rattle.ipld_tree.specs.Cid.{varint}
 use Rattle.ipld_tree.specs.CidFault.{IsCutVarint, IsNoVarint, IsVarintFault}
 use Rattle.ipld_tree.specs.declared.cid_error.CidError.{CidError}
@@ -14,13 +13,12 @@ use Rattle.std.proofs.lemmas.Bool.{cases_lt}
 use Rattle.ipld_tree.proofs.Cids.{varint_unique, varint_length, one_group, more_groups}
 use Rattle.dagcbor_car.specs.Car.{counted, Section, section_bytes}
 use Rattle.dagcbor_car.specs.Splits.{CountFault, SplitsCid, BeginsNoCid, BeginsNoSection, SectionFault}
-use Rattle.dagcbor_car.specs.Extents.{within, wanting, of_file, Spends, TakesOff}
-use Rattle.dagcbor_car.specs.Sources.{CarRefuses, LacksMemoryIf, SectionLacks, IsShort, RefusesNext, TakesSectionBytes}
-use Rattle.dagcbor_car.specs.Steps.{IsDue}
+use Rattle.dagcbor_car.specs.Extents.{of_file, TakesOff}
+use Rattle.dagcbor_car.specs.Sources.{CarRefuses, LacksMemoryIf, SectionLacks, IsShort, TakesSectionBytes}
 use Rattle.dagcbor_car.specs.declared.error.CarError.{CarError}
 use Rattle.dagcbor_car.specs.declared.error.CarError.TheVariants.{Read, Truncated, InvalidLength, InvalidCid, NoBlock, OtherHeader, InvalidOffset, OutOfMemory}
 use Rattle.dagcbor_car.proofs.Counts.{no_section_counted, no_section_named}
-use Rattle.dagcbor_car.proofs.Spending.{known, off_none, off_both, off_within, taken_within}
+use Rattle.dagcbor_car.proofs.Spending.{off_none, off_both, off_within}
 
 -- ---- refusals
 
@@ -174,24 +172,11 @@ counted_lacks (Ok v) n {x} {y} {old} {mid} t l = tt
 counted_lacks (Err OutOfMemory) n {x} {y} {old} {mid} t l = (sym t.takes.same.lends ∙ l, λ e. let w = (off_within t).taken [] e in omega (arith, ap length w.1, length-append (varint n) w.0, varint_some n))
 counted_lacks (Err e) n {x} {y} {old} {mid} t l = tt
 
--- of the same bytes the same may be wanting
-pub due_lacks : {T E : Type 0} (r : Result T (CarError E)) {x : Option ℕ} {old mid : Reading} → IsDue x old mid → LacksMemoryIf (SectionLacks (of_file x mid)) r → LacksMemoryIf (SectionLacks (of_file x old)) r
-due_lacks (Ok v) {x} {old} {mid} h l = tt
-due_lacks (Err OutOfMemory) {x} {old} {mid} h l = (sym h.same.lends ∙ l.0, λ e. let w = known x old.left [] e in l.1 (ap (option_map (within x)) (h.kept w.0 w.1) ∙ ap Some (sym w.2)))
-due_lacks (Err e) {x} {old} {mid} h l = tt
-
 -- ---- what was looked at
 
 -- a section that was looked at
 pub section_most : (s : Section) (body : List ℕ) (old new : Reading) → SplitsCid body s.0 s.1 → LooksAtMost (2 * length (counted body)) old new → LooksAtMost (2 * length (section_bytes s)) old new
 section_most s body old new c most = subst (λ x. LooksAtMost (2 * length (counted x)) old new) c.1 most
-
--- a byte was looked at first, and stayed
-pub first_left : {x : Option ℕ} {old mid : Reading} (now : Reading) → LooksOnce (of_file x old) mid → IsDue x old mid → LooksAtLeft 2 0 (of_file x mid) now → LooksAtLeft 3 0 (of_file x old) now
-first_left {x} {old} {mid} now once due left = record {
-  grows = omega (arith, once.grows, left.grows);
-  most = λ c l. let w = known x old.left c l in omega (arith, once.left c l, left.most (within x w.0) (ap (option_map (within x)) (due.kept w.0 w.1)), ap length w.2);
-}
 
 -- ---- a section
 
@@ -206,12 +191,3 @@ pub no_section_at_count : {E : Type 0} (e : CarError E) (old new : Reading) → 
 no_section_at_count (Read f) old new r = r
 no_section_at_count OutOfMemory old new r = r
 no_section_at_count e old new r = (r.0, λ b l. no_section_counted e b (r.1 b l))
-
--- what was due before it was taken
-pub section_due : {x z : Option ℕ} {old mid new : Reading} (s : Section) → IsDue x old mid → TakesSectionBytes x mid s z new → TakesSectionBytes x old s z new
-section_due {x} {z} {old} {mid} {new} s h t = (t.0, record { takes = record { taken = λ b l. t.1.takes.taken b (h.kept b l); same = stays_both h.same t.1.takes.same }; spends = t.1.spends })
-
-pub no_section_due : {E : Type 0} {x : Option ℕ} {old mid : Reading} (new : Reading) (e : CarError E) → IsDue x old mid → CarRefuses (λ e b. BeginsNoSection b × SectionFault e b) (of_file x mid) e new → CarRefuses (RefusesNext x) old e new
-no_section_due {E} {x} {old} {mid} new (Read f) h r = omega (arith, h.same.faults, r)
-no_section_due {E} {x} {old} {mid} new OutOfMemory h r = r ∙ h.same.faults
-no_section_due {E} {x} {old} {mid} new e h r = (r.0 ∙ h.same.faults, λ b l. let w = r.1 (within x b) (ap (option_map (within x)) (h.kept b l)) in (h.some b l, w.0, w.1))

@@ -1,6 +1,6 @@
 -- The walk along links.
-use Rattle.std.proofs.Common.{◌≡◌, ◌⊎◌, inl, inr, ℕ, zero, suc, List, [], ◌∷◌, ◌++◌, reverse, append_assoc, append-nil, Bool, true, false, cond, refl, sym, ap, ◌∙◌, subst}
-use Rattle.std.specs.Prelude.{◌↔◌, Option, None, Some, is_some, option_map, Result, Ok, Err, IfOk, OnOk, MatchOption, Vec}
+use Rattle.std.proofs.Common.{◌≡◌, ◌⊎◌, inl, inr, ℕ, zero, suc, List, [], ◌∷◌, ◌++◌, reverse, Bool, true, false, cond, refl, sym, ap, ◌∙◌, subst}
+use Rattle.std.specs.Prelude.{◌↔◌, Option, None, Some, is_some, option_map, Result, Ok, Err, IfOk, OnOk, Vec}
 use Rattle.std.specs.declared.alloc.Global.{Global}
 use Rattle.std.specs.List.{AllByRecursion}
 use Rattle.std.specs.BTreeMap.{is_at}
@@ -19,7 +19,7 @@ use Rattle.dagcbor_car.specs.Splits.{HasBlock}
 use Rattle.dagcbor_car.specs.Verdicts.{IsDagCbor}
 use Rattle.dagcbor_car.specs.Sets.{Among}
 use Rattle.dagcbor_car.specs.declared.reach.Walk.{Walk}
-use Rattle.dagcbor_car.specs.Reaching.{Stored, IsThere, IsLost, AreBytesOf, NamesTree, LeadsTo, IsStepsFrom, LeadsFar, NoneTwice, Lists, ListsReachable, ListsLost, Covers, IsWalked, Walks, WalksAt, IsOver, GoesOn, Visits, AreLinksOf, PushesAll, Sees, Sorts, SortsOut}
+use Rattle.dagcbor_car.specs.Reaching.{Stored, IsThere, IsLost, AreBytesOf, NamesTree, LeadsTo, IsStepsFrom, LeadsFar, NoneTwice, Lists, ListsReachable, ListsLost, Covers, IsWalked, Visits, AreLinksOf, PushesAll, Sees, Sorts, SortsOut}
 use Rattle.dagcbor_car.proofs.Members.{at_same, same_at, any_among, among_any, among_push, push_among, among_append, append_among, among_map, map_among, whole_block}
 
 -- ---- lists
@@ -56,12 +56,6 @@ one_bytes stored name b c (inl h) (inl k) = cc (sym h ∙ k)
 one_bytes stored name b c (inl h) (inr k) = let clash : Some b ≡ None = sym h ∙ k.0 in absurd (cc clash)
 one_bytes stored name b c (inr h) (inl k) = let clash : Some c ≡ None = sym k ∙ h.0 in absurd (cc clash)
 one_bytes stored name b c (inr h) (inr k) = sym h.2 ∙ k.2
-
--- the links of the bytes under the name are those under the name
-pub links_stored : {E : Type 0} (r : Result (Vec CidParts Global) E) (stored : Stored) (name : CidParts) (b : List ℕ) → IsDagCbor name → AreBytesOf stored name b → IfOk r (λ v. AreLinksOf (IsBlock b) v.items) → IfOk r (λ v. AreLinksOf (NamesTree stored name) v.items)
-links_stored (Err e) stored name b d are links = tt
-links_stored (Ok v) stored name b d are (inl h) = inl (h.0, (d, (b, are, h.1)), h.2)
-links_stored (Ok v) stored name b d are (inr n) = inr (n.0, λ t k. n.1 t (subst (λ x. IsBlock x t) (one_bytes stored name k.1.0 b k.1.1 are) k.1.2))
 
 pub links_inside : {E : Type 0} (r : Result (Vec CidParts Global) E) (stored : Stored) (name : CidParts) → IsDagCbor name → stored name ≡ None → IfOk r (λ v. AreLinksOf (λ t. IsInline name × IsBlock name.digest t) v.items) → IfOk r (λ v. AreLinksOf (NamesTree stored name) v.items)
 links_inside (Err e) stored name d free links = tt
@@ -105,23 +99,6 @@ pub not_seen : (name : CidParts) (s : BTreeSet CidParts) → set.contains cid_cm
 not_seen name s e m = let clash : true ≡ false = sym (among_any name s.keys m) ∙ e in absurd (cc clash)
 
 -- ---- the walk
-
-pub walk_begun : (stored : Stored) (root : CidParts) (seen waiting found lost : List CidParts) → AreCidParts root → seen ≡ [] → waiting ≡ root ∷ [] → found ≡ [] → lost ≡ [] → IsWalked stored root seen waiting found lost
-walk_begun stored root seen waiting found lost valid unseen waits none gone = record {
-  begun = inr (subst (Among root) (sym waits) (inl refl));
-  next = λ q r m. absurd (subst (Among q) unseen m);
-  stepped = λ q m. elim m [
-    | inl f ↦ absurd (subst (Among q) unseen f)
-    | inr w ↦ elim (subst (Among q) waits w) [ inl e ↦ (0, e) | inr n ↦ absurd n ]
-  ];
-  valid = λ q m. elim m [
-    | inl f ↦ absurd (subst (Among q) unseen f)
-    | inr w ↦ elim (subst (Among q) waits w) [ inl e ↦ subst AreCidParts (sym e) valid | inr n ↦ absurd n ]
-  ];
-  finds = record { all = λ q. (λ m. absurd (subst (Among q) none m), λ m. absurd (subst (Among q) unseen m.0)); once = subst NoneTwice (sym none) tt };
-  loses = record { all = λ q. (λ m. absurd (subst (Among q) gone m), λ m. absurd (subst (Among q) unseen m.0)); once = subst NoneTwice (sym gone) tt };
-  first = inl (unseen, waits);
-}
 
 -- a name that was seen waits no more
 pub walk_on : (stored : Stored) (root name : CidParts) (seen before waiting found lost : List CidParts) → before ≡ waiting ++ name ∷ [] → Among name seen → IsWalked stored root seen before found lost → IsWalked stored root seen waiting found lost

@@ -10,8 +10,8 @@ use Rattle.std.specs.declared.alloc.Global.{Global}
 use Rattle.dagcbor_heads.specs.Reading.{Reading}
 use Rattle.dagcbor_heads.specs.Fronts.{Takes}
 use Rattle.dagcbor_heads.specs.Looking.{LooksAtMost, LooksAtSome, LooksAtLeft}
-use Rattle.dagcbor_heads.proofs.Taking.{nothing_taken, takes_both}
-use Rattle.dagcbor_heads.proofs.Looking.{nothing_looked, some_both}
+use Rattle.dagcbor_heads.proofs.Taking.{takes_both}
+use Rattle.dagcbor_heads.proofs.Looking.{some_both}
 use Rattle.ipld_tree.specs.Cid.{varint, CidParts}
 use Rattle.ipld_tree.specs.Spelling.{spelling, IsSpelling}
 use Rattle.dagcbor_items.specs.Walks.{forms}
@@ -46,9 +46,6 @@ pragma_counted = ap (λ v. v ++ version_2) (sym ten_form)
 -- the bytes of version 2 are these eleven, and others
 pub version_split : (b : List ℕ) → IsVersion2 b → b ≡ pragma ++ drop 11 b
 version_split b h = sym (take-append-drop 11 b) ∙ ap (λ x. x ++ drop 11 b) h
-
-pub version_more : (rest : List ℕ) → IsVersion2 (pragma ++ rest)
-version_more rest = refl
 
 version_counted : (b : List ℕ) → IsVersion2 b → SplitsCounted b version_2 (drop 11 b)
 version_counted b h = (omega arith, version_split b h ∙ ap (λ x. x ++ drop 11 b) pragma_counted)
@@ -211,9 +208,6 @@ pub record IsSkipping (count more : ℕ) (old now : Reading) : Type 0 where
   pub looked : LooksAtSome 2 old now
   pub most : LooksAtMost (2 * length bytes) old now
 
-pub skip_begun : (count : ℕ) (r : Reading) → IsSkipping count count r r
-skip_begun count r = record { bytes = []; counted = omega arith; takes = nothing_taken r; looked = nothing_looked r; most = omega arith }
-
 pub skip_more : {count more piece : ℕ} {old mid new : Reading} (bytes : List ℕ) → IsSkipping count more old mid → piece ≤ more → length bytes ≡ piece → Takes mid bytes new → LooksAtSome 2 mid new → LooksAtMost (2 * piece) mid new → IsSkipping count (more - piece) old new
 skip_more {count} {more} {piece} {old} {mid} {new} bytes h few long t looked most = record {
   bytes = h.bytes ++ bytes;
@@ -222,12 +216,6 @@ skip_more {count} {more} {piece} {old} {mid} {new} bytes h few long t looked mos
   looked = some_both h.looked looked;
   most = omega (arith, h.most, most, long, length-append h.bytes bytes);
 }
-
-pub skip_short : {E : Type 0} {count more : ℕ} (piece : ℕ) {old mid : Reading} (new : Reading) (e : CarError E) → IsSkipping count more old mid → piece ≤ more → CarRefuses (IsShort piece) mid e new → CarRefuses (IsShort count) old e new
-skip_short {E} {count} {more} piece {old} {mid} new e h few r = refused_behind (IsShort piece) (IsShort count) h.bytes old mid new e h.takes (λ rest s. (s.0, omega (arith, s.1, h.counted, few, length-append h.bytes rest))) r
-
-pub skip_all : {count more : ℕ} {old now : Reading} → IsSkipping count more old now → more ≡ 0 → (bytes : List ℕ) × (length bytes ≡ count) × Takes old bytes now
-skip_all {count} {more} {old} {now} h none = (h.bytes, omega (arith, h.counted, none), h.takes)
 
 -- bytes that were lent
 pub lent_looked : {n : ℕ} {bytes : List ℕ} {old new : Reading} → length bytes ≡ n → Takes old bytes new → new.looked ≡ old.looked + n → new.shown ≡ [] → LooksAtSome 2 old new
@@ -338,10 +326,6 @@ enclosed_taken n inner roots {y} {old} {mid} {new} h fits t s most none = record
 
     spent : Spends (Some (length_of (pragma ++ (h.front ++ header_bytes roots)))) (length (header_bytes roots)) y
     spent = ap Some (number_on 35 (pragma ++ h.front) (header_bytes roots) (omega (arith, h.span.whole)) ∙ sym h.long) ∙ subst (λ k. Spends (Some n) k y) (ap length same) t.spends
-
--- where memory may be wanting
-pub enclosed_unlent : (n : ℕ) {old mid : Reading} → TakesSpan old n mid → SectionLacks (of_file (Some n) mid) → EnclosedLacks old
-enclosed_unlent n {old} {mid} h l lent b k = let clash : true ≡ false = sym lent ∙ sym h.takes.same.lends ∙ l.0 in absurd (cc clash)
 
 pub unread_lacks : {E : Type 0} (T : Type 0) (P : Type 0) (e : CarError E) (inner : List ℕ) → (HasBlock inner → P) → IsNoHeader e inner → LacksMemoryIf {T = T} P (Err e)
 unread_lacks T P OutOfMemory inner f r = f r

@@ -190,9 +190,6 @@ all_push : (xs : List CidParts) (c : CidParts) → AllByRecursion AreCidParts xs
 all_push [] c h p = (p, tt)
 all_push (x ∷ xs) c h p = (h.0, all_push xs c h.1 p)
 
-pub all_none : (held : HeldNames) (s : CidSet) → AddsAll [] held s s
-all_none held s = (tt, added_none held s)
-
 pub all_next : (cids : List CidParts) (i : ℕ) (c : CidParts) (held : HeldNames) (old mid new : CidSet) → i < length cids → c ≡ get_or cids i c → AddsAll (take i cids) held old mid → AddsAll (c ∷ []) held mid new → AddsAll (take (i + 1) cids) held old new
 all_next cids i c held old mid new within is first next =
     let more : take i cids ++ c ∷ [] ≡ take (i + 1) cids = ap (λ y. take i cids ++ y ∷ []) is ∙ sym (take-suc cids i c within) ∙ ap (λ n. take n cids) (sym (add-one i)) in
@@ -245,12 +242,6 @@ first_names b (Err e) cids items held start new free none first wrong h is = abs
 first_names b (Ok u) cids items held start new free none first right h is =
     let reached = reached_only held start new (links_of first.0) free none (subst (λ ls. AddsReached ls held start new) first.4 h.1) in
     (first.0, first.1, first.2, first.3, λ q. subst (λ ms. Among q ms ↔ IsReachedName q (links_of first.0)) (sym is) (reached q))
-
--- where no link stands no name is reached
-pub no_names : (b : List ℕ) (cids : List CidParts) → AreFirstLinks b (forms cids) → cids ≡ [] → AreFirstNames b cids
-no_names b cids first none =
-    let empty = sym first.4 ∙ ap forms none in
-    (first.0, first.1, first.2, first.3, λ q. (λ m. absurd (subst (Among q) none m), λ r. absurd (subst (Among r.2.0) empty r.2.2)))
 
 -- the links that are read stand in the bytes
 pub some_link : (b : List ℕ) (cids : List CidParts) → AreFirstLinks b (forms cids) → cids ≢ [] → HasLinkIn b

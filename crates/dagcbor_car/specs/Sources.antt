@@ -4,7 +4,7 @@ use Rattle.std.specs.Prelude.{Option, None, Some, Result, Ok, Err, is_err, Vec}
 use Rattle.std.specs.declared.alloc.Global.{Global}
 use Rattle.std.specs.Prelude.{MatchBool, MatchOption, MatchResult}
 use Rattle.dagcbor_heads.specs.Reading.{Reading}
-use Rattle.dagcbor_heads.specs.Fronts.{FindsEnd, Takes}
+use Rattle.dagcbor_heads.specs.Fronts.{Takes}
 use Rattle.dagcbor_heads.specs.Inputs.{input_reading}
 use Rattle.dagcbor_heads.specs.Looking.{LooksAtMost, LooksAtLeft, LooksOnce}
 use Rattle.dagcbor_heads.specs.declared.error.DecodeError.{DecodeError}
@@ -14,7 +14,7 @@ use Rattle.dagcbor_items.specs.Walks.{forms}
 use Rattle.dagcbor_car.specs.Car.{Section, section_bytes, IsSection, header_bytes, IsHeader}
 use Rattle.dagcbor_car.specs.Splits.{BeginsNoSection, SectionFault, BeginsNoHeader, HeaderFault}
 use Rattle.dagcbor_car.specs.Splits.{CountsBlock}
-use Rattle.dagcbor_car.specs.Versions.{begin_of, length_of, IsVersion2, HasSpan, HoldsCar, SpanFault}
+use Rattle.dagcbor_car.specs.Versions.{begin_of, length_of, HasSpan, HoldsCar, SpanFault}
 use Rattle.dagcbor_car.specs.Extents.{within, wanting, of_file, Spends, TakesOff, EndsThere}
 use Rattle.dagcbor_car.specs.declared.error.CarError.{CarError}
 use Rattle.dagcbor_car.specs.declared.error.CarError.TheVariants.{Read, Truncated, OutOfMemory}

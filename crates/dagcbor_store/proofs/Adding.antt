@@ -1,16 +1,14 @@
 -- Sections that are added to a store one by one, and what a refusal leaves.
-use Rattle.std.proofs.Common.{◌≡◌, inl, inr, ℕ, ◌≤◌, List, [], ◌∷◌, ◌++◌, refl, sym, ap, ◌∙◌, subst, IsTrue, arith}
-use Rattle.std.specs.Prelude.{◌⊎◌, ◌↔◌}
-use Rattle.sqlite_disk.specs.Disk.{MoreFaults}
+use Rattle.std.proofs.Common.{◌≡◌, inl, inr, ℕ, List, [], ◌∷◌, ◌++◌, refl, sym, ◌∙◌, subst, IsTrue, arith}
+use Rattle.std.specs.Prelude.{◌⊎◌}
 use Rattle.sqlite_trees.specs.Tree.{Trees}
-use Rattle.sqlite_trees.specs.View.{View, IsClean, IsQuiet, HasCause, Tells}
+use Rattle.sqlite_trees.specs.View.{View, IsClean, Tells}
 use Rattle.sqlite_trees.specs.declared.store.Store.{Ghosts}
-use Rattle.sqlite_trees.specs.declared.error.StoreError.{StoreError}
-use Rattle.ipld_tree.specs.Cid.{CidParts, cid_bytes}
+use Rattle.ipld_tree.specs.Cid.{cid_bytes}
 use Rattle.dagcbor_car.specs.Car.{Section}
-use Rattle.dagcbor_car.specs.Sets.{Among}
 use Rattle.dagcbor_car.proofs.Members.{among_push, push_among}
-use Rattle.dagcbor_store.specs.Rows.{name_tree, IsStored, IsListed, IsTooLong}
+use Rattle.dagcbor_store.specs.Ends.{Quiet}
+use Rattle.dagcbor_store.specs.Rows.{name_tree, IsListed, IsTooLong}
 use Rattle.dagcbor_store.specs.Stored.{IsAddedTo, IsAdded, IsSame, IsUndone, Fails, IsUnfit, PutRefused, IsCommitted}
 use Rattle.dagcbor_store.specs.Cars.{IsNameIn, IsSectionIn, HoldsSections, IsFilled, IsAddedAll, Adds, NotKept}
 use Rattle.dagcbor_store.specs.declared.error.StoreRefusal.{StoreRefusal}
@@ -98,13 +96,10 @@ filled old mid new ss h c = record {
 -- ---- stores
 
 module _ {S : Type 0} (g : Ghosts S) where
-  abbrev pub Quiet : S → S → Type 0
-  Quiet a b = IsQuiet g.view g.faults g.recovers g.is_shielded a b
-
-  pub quiet_itself : (a : S) → Quiet a a
+  pub quiet_itself : (a : S) → Quiet g a a
   quiet_itself a = record { shield = λ h. h; clean = omega arith; counts = omega arith; closes = λ c o. inl o; outcomes = λ db h. h }
 
-  pub quiet_then : (a b c : S) → Quiet a b → Quiet b c → Quiet a c
+  pub quiet_then : (a b c : S) → Quiet g a b → Quiet g b c → Quiet g a c
   quiet_then a b c p q = record {
     shield = λ h. q.shield (p.shield h);
     clean = omega (arith, p.clean, q.clean);
@@ -119,7 +114,7 @@ module _ {S : Type 0} (g : Ghosts S) where
   pub adds_none : (a : S) → Adds g [] a a
   adds_none a = record { added = λ clean. added_none (g.view a); quiet = quiet_itself a }
 
-  pub adds_more : (ss : List Section) (s : Section) (old mid new : S) → Adds g ss old mid → (IsClean (g.view new) → IsAdded (g.view mid) (g.view new) s.0 s.1) → Quiet mid new → Adds g (ss ++ s ∷ []) old new
+  pub adds_more : (ss : List Section) (s : Section) (old mid new : S) → Adds g ss old mid → (IsClean (g.view new) → IsAdded (g.view mid) (g.view new) s.0 s.1) → Quiet g mid new → Adds g (ss ++ s ∷ []) old new
   adds_more ss s old mid new h a quiet = record {
     added = λ clean. added_more (g.view old) (g.view mid) (g.view new) ss s (h.added (omega (arith, quiet.clean))) (a clean);
     quiet = quiet_then old mid new h.quiet quiet;

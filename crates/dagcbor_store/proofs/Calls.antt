@@ -20,7 +20,7 @@ use Rattle.dagcbor_store.specs.declared.entries.Added.TheVariants.{New, Listed, 
 use Rattle.dagcbor_store.specs.declared.error.StoreRefusal.{StoreRefusal}
 use Rattle.dagcbor_store.specs.declared.error.StoreRefusal.TheVariants as refusal
 use Rattle.dagcbor_store.proofs.Numbers.{among_unfiltered}
-use Rattle.dagcbor_store.proofs.Keeping.{stored_found, stored_there, stored_as_found, stored_since, keyed_since, stored_left, lists_since, lists_left, keyed_left, rows_left, ready_undone, undone_since}
+use Rattle.dagcbor_store.proofs.Keeping.{stored_found, stored_there, stored_as_found, stored_since, keyed_since, stored_left, lists_since, lists_left, keyed_left, rows_left, ready_undone}
 
 -- ---- getting
 
@@ -178,9 +178,6 @@ kept_itself v = record { shape = refl; reals = refl; committed_shape = refl; com
 
 pub ready_rolled : (old new : View) → IsClean new → IsRolledBack old new → IsReady old → IsReady new
 ready_rolled old new clean undone r = ready_undone old old new clean (kept_itself old) undone r
-
-pub rolled_is_undone : (old new : View) → IsClean new → IsRolledBack old new → IsUndone old new
-rolled_is_undone old new clean undone = undone_since old old new clean (kept_itself old) undone
 
 pub ready_committed : {X Y : Type 0} (r : Result X Y) (old new : View) → OnOk r (IsClean new → Commits old new) → OnErr r (IsRolledBack old new) → IsClean new → IsReady old → IsReady new
 ready_committed (Err e) old new ok err clean r = ready_rolled old new clean err r

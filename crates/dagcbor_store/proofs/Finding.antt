@@ -13,14 +13,14 @@ use Rattle.sqlite_value.proofs.KeyLemmas.{first_key-plain, then_below}
 use Rattle.sqlite_value.proofs.OrderLemmas.{value_cmp-Blob}
 use Rattle.sqlite_trees.specs.declared.store.Shape.TheVariants as shape
 use Rattle.sqlite_trees.specs.declared.store.Direction.TheVariants.{Forward}
-use Rattle.sqlite_trees.specs.View.{View, with_cursor, IsShaped, IsOrdered}
+use Rattle.sqlite_trees.specs.View.{View, Advances, with_cursor, IsShaped, IsOrdered}
 use Rattle.sqlite_exec.specs.Loops.{left_of}
-use Rattle.sqlite_exec.proofs.CheckLemmas.{placed}
+use Rattle.sqlite_exec.proofs.CheckLemmas.{placed, stepped, ended}
 use Rattle.sqlite_trees.specs.Tree.{IsIndex, from_key, sought, order_of}
 use Rattle.sqlite_trees.proofs.TreeLemmas.{prefix_cmp-one}
 use Rattle.std.proofs.lemmas.Map.Lookups.{exact_bytes}
 use Rattle.dagcbor_car.specs.Sets.{Among}
-use Rattle.dagcbor_store.specs.Rows.{name_tree, name_entry, IsOther, IsListed, IsNameEntry, AreNameEntries, FindsName, name_cmp, EntersName, IsFirstFrom, FindsFirst}
+use Rattle.dagcbor_store.specs.Rows.{name_tree, name_entry, IsOther, IsListed, IsNameEntry, AreNameEntries, FindsName, name_cmp, EntersName, IsFirstFrom, FindsFirst, Seeks}
 use Rattle.dagcbor_store.specs.Stored.{bound_behind, IsBehind, IsNext}
 use Rattle.ipld_tree.specs.declared.cid_error.CidError.{CidError}
 use Rattle.std.specs.Prelude.{Result, Ok, Err}
@@ -222,3 +222,8 @@ index_rises v at ordered = subst (λ s. IsShaped s (v.trees name_tree)) at (orde
 pub listed_if_some : (es : List Row) (name : List ℕ) (o : Option ℤ) → true ≡ is_some o → FindsName es name o → IsListed es name
 listed_if_some es name None t h = absurd (true≢false t)
 listed_if_some es name (Some id) t h = (id, h)
+
+-- the entry that the cursor gave first
+pub seeks : (es : List Row) (name : List ℕ) (mid new : View) (row : Row) (is_there : Bool) → IsIndex plain es → from_key plain (Blob name ∷ []) es ≡ left_of mid 0 → Advances mid new 0 row is_there → Seeks es name row is_there
+seeks es name mid new row true up at h = (up, (left_of new 0, at ∙ stepped mid new 0 row h))
+seeks es name mid new row false up at h = (up, at ∙ ended mid new 0 row h)

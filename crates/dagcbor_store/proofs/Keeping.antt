@@ -1,6 +1,6 @@
 -- What a store holds after a step, and that it stays ready.
-use Rattle.std.proofs.Common.{◌≡◌, inl, inr, ℕ, ℤ, List, [], ◌∷◌, filter, Bool, true, false, not, Ordering, Less, Equal, Greater, is_eq, refl, sym, ap, ◌∙◌, subst, true≢false, IsTrue}
-use Rattle.std.specs.Prelude.{◌⊎◌, ◌↔◌, Option, None, Some, is_some}
+use Rattle.std.proofs.Common.{◌≡◌, inl, inr, ℕ, ℤ, List, [], ◌∷◌, filter, Bool, true, false, not, Ordering, Less, Equal, Greater, is_eq, refl, sym, ap, ◌∙◌, subst, true≢false, IsTrue, arith}
+use Rattle.std.specs.Prelude.{◌⊎◌, ◌↔◌, Option, None, Some, is_some, Ok, Err}
 use Rattle.std.specs.Ordering.{match_ordering}
 use Rattle.sqlite_value.specs.declared.value.Value.TheVariants.{Int, Blob}
 use Rattle.sqlite_value.specs.Order.{Row, column, value_cmp}
@@ -13,7 +13,10 @@ use Rattle.sqlite_trees.proofs.ListLemmas.{all-filter}
 use Rattle.dagcbor_store.proofs.Finding.{all_among}
 use Rattle.sqlite_trees.specs.Tree.{Trees, rowid, has_rowid, put_row, without_rowid, insert_entry, remove_entry}
 use Rattle.sqlite_trees.specs.View.{View, IsClean, KeepsCommitted, IsRolledBack}
+use Rattle.sqlite_trees.specs.declared.store.Store.{Ghosts}
+use Rattle.sqlite_trees.specs.declared.error.StoreError.{StoreError}
 use Rattle.sqlite_exec.specs.Calls.{OnlyReads}
+use Rattle.dagcbor_store.specs.Ends.{Quiet, Ends}
 use Rattle.ipld_tree.specs.Cid.{IsCid}
 use Rattle.dagcbor_car.specs.Sets.{Among}
 use Rattle.dagcbor_store.specs.Rows.{block_tree, name_tree, block_row, name_entry, IsStored, IsListed, IsNameEntry, AreNameEntries, FindsName, IsFreeId, IsRowOf}
@@ -61,6 +64,30 @@ open_of v shut sound = by v.is_open refl
     by : (b : Bool) → v.is_open ≡ b → IsTrue b
     by true e = refl
     by false e = absurd (true≢false (sym (shut e) ∙ sound))
+
+-- ---- what calls on rows leave
+
+-- a store is ready, where no wrong answer of the disk was taken as true
+abbrev pub Ready : {S : Type 0} → Ghosts S → S → Type 0
+Ready g s = IsClean (g.view s) → IsReady (g.view s)
+
+module _ {S T : Type 0} (g : Ghosts S) (old new : S) where
+  -- a call that only read leaves a store ready
+  pub ready_ended : {x : T} → Ready g old → Ends g OnlyReads ⊥ (Ok x) old new → Ready g new
+  ready_ended {x} was e clean = ready_read _ _ (e.frame clean) (was (omega (arith, e.quiet.clean)))
+
+  -- so does one that failed, and was undone
+  pub ready_failed : {C : View → View → Type 0} {F : Type 0} {e : StoreError} (mid : S) → Ready g old → Ends {T = T} g C F (Err e) old mid → IsRolledBack (g.view mid) (g.view new) → Quiet g mid new → Ready g new
+  ready_failed {C} {F} {e} mid was ends undone quiet clean =
+      let clean_then : IsClean (g.view mid) = omega (arith, quiet.clean) in
+      ready_undone _ _ _ clean (ends.err clean_then) undone (was (omega (arith, ends.quiet.clean)))
+
+  -- where a call succeeded, the store was open and each name stood once
+  pub keyed_ended : {C : View → View → Type 0} {F : Type 0} {x : T} → ((g.view old).is_open ≡ false → IsTrue (g.view old).is_broken) → Ready g old → Ends g C F (Ok x) old new → IsClean (g.view new)
+      → IsTrue (g.view old).is_open × IsKeyed ((g.view old).trees name_tree)
+  keyed_ended {C} {F} {x} shut was e clean =
+      let is_open = open_of (g.view old) shut (e.sound clean) in
+      (is_open, (was (omega (arith, e.quiet.clean))).keyed is_open)
 
 -- ---- finding
 

@@ -1,6 +1,7 @@
 pub mod Finding
 pub mod Numbers
 pub mod Causes
+pub mod Ending
 pub mod Keeping
 pub mod Calls
 pub mod Surveying

@@ -1,11 +1,10 @@
 -- A file that is read into a store, section by section.
-use Rattle.std.proofs.Common.{◌≡◌, ◌⊎◌, inl, inr, ℕ, List, [], ◌∷◌, ◌++◌, length, refl, sym, ap, ◌∙◌, subst, arith}
+use Rattle.std.proofs.Common.{◌≡◌, inl, inr, ℕ, List, [], ◌∷◌, ◌++◌, refl, sym, subst}
 use Rattle.std.specs.Prelude.{Option, Some, Err}
 use Rattle.std.specs.List.{AllByRecursion}
 use Rattle.dagcbor_heads.proofs.Taking.{stays_both}
 use Rattle.dagcbor_heads.specs.Reading.{Reading, Stays}
-use Rattle.sqlite_trees.specs.Tree.{Trees}
-use Rattle.sqlite_trees.specs.View.{View, IsClean}
+use Rattle.sqlite_trees.specs.View.{IsClean}
 use Rattle.sqlite_trees.specs.declared.store.Store.{Ghosts}
 use Rattle.dagcbor_car.specs.Car.{Section}
 use Rattle.dagcbor_car.specs.Extents.{EndsThere}
@@ -13,11 +12,12 @@ use Rattle.dagcbor_car.specs.Sources.{CarRefuses, LacksMemoryIf, TakesStart, Tak
 use Rattle.dagcbor_car.specs.declared.error.CarError.{CarError}
 use Rattle.dagcbor_car.specs.declared.error.CarError.TheVariants.{OutOfMemory}
 use Rattle.dagcbor_car.proofs.Places.{IsPlace, place_begun, place_more, place_front, place_whole, place_end, ended, ends_same}
-use Rattle.dagcbor_store.specs.Stored.{IsNamedBlock, IsUndone, Fails, PutRefused}
+use Rattle.dagcbor_store.specs.Stored.{IsNamedBlock, IsUndone, Fails}
 use Rattle.dagcbor_store.specs.declared.error.StoreRefusal.{StoreRefusal}
 use Rattle.dagcbor_store.specs.Cars.{TellsOfFile, FileRefused, IsReadTo, IsRead, Adds, NextRefused, AddRefused, ReadRefused, StopsAt, of_commit}
 use Rattle.dagcbor_store.specs.declared.car_error.ReadCarError.{ReadCarError}
-use Rattle.dagcbor_store.proofs.Adding.{KeepsLast, last_itself, last_added, last_then, last_put, not_kept, fails_from, Quiet}
+use Rattle.dagcbor_store.specs.Ends.{Quiet}
+use Rattle.dagcbor_store.proofs.Adding.{not_kept, fails_from}
 
 -- ---- how far a file was read
 
@@ -75,20 +75,6 @@ pub file_refused : {E : Type 0} (T : Type 0) (stands : CarError E → List ℕ �
 file_refused T stands lacks e told old new tells refused memory = (e, tells, refused, lacks_alike T lacks e memory)
 
 module _ {S : Type 0} (g : Ghosts S) where
-  pub last_next : {E : Type 0} (extent : Option ℕ) (old new : Reading) (before after : S) (e : ReadCarError E) → IsClean (g.view after) → NextRefused g extent old before e new after → KeepsLast (g.view before) (g.view after)
-  last_next extent old new before after e clean (inl f) = subst (λ x. KeepsLast (g.view before) (g.view x)) (sym f.1) (last_itself (g.view before))
-  last_next extent old new before after e clean (inr p) = last_put g p.0 before after p.2 clean p.5
-
-  pub last_refused : {E : Type 0} (old new : Reading) (before after : S) (e : ReadCarError E) → IsClean (g.view after) → AddRefused g old before e new after → KeepsLast (g.view before) (g.view after)
-  last_refused old new before after e clean (inl f) = subst (λ x. KeepsLast (g.view before) (g.view x)) (sym f.1) (last_itself (g.view before))
-  last_refused old new before after e clean (inr r) =
-      let held = r.4 in
-      let was : IsClean (g.view held) = omega (arith, r.7.clean) in
-      last_then (g.view before) (g.view held) (g.view after) (last_added (g.view before) (g.view held) r.1 (r.6.added was)) (elim r.8 [
-        | inl n ↦ last_next r.2 r.3 new held after e clean n
-        | inr m ↦ subst (λ x. KeepsLast (g.view held) (g.view x)) (sym m.1) (last_itself (g.view held))
-      ])
-
   stops_at : {E : Type 0} (ss : List Section) (extent : Option ℕ) (mid new : Reading) (before held after last : S) (e : ReadCarError E) → Adds g ss before held → Quiet g held after → Quiet g after last → g.blamed last ≡ g.blamed after
       → (IsClean (g.view last) → IsUndone (g.view after) (g.view last)) → NextRefused g extent mid held e new after → StopsAt g ss extent mid before e new last
   stops_at ss extent mid new before held after last e h quiet behind blame undone (inl f) = inl f.0

@@ -15,24 +15,25 @@ use Rattle.ipld_tree.specs.Cid.{CidParts, cid_bytes}
 use Rattle.dagcbor_car.specs.Names.{IsInline}
 use Rattle.dagcbor_car.specs.Car.{Section, header_bytes, section_bytes, IsHeader, IsSection}
 use Rattle.dagcbor_car.specs.Sets.{Among}
-use Rattle.dagcbor_car.specs.Reaching.{Stored, IsThere, IsLost, LeadsFar, ListsReachable, ListsLost, IsOver, WalksAt, Visits, sections_at}
+use Rattle.dagcbor_car.specs.Reaching.{Stored, IsThere, IsLost, LeadsFar, ListsReachable, ListsLost, IsOver, WalksAt, sections_at}
 use Rattle.dagcbor_car.specs.declared.reach.Reached.{Reached}
 use Rattle.dagcbor_car.specs.declared.reach.Walk.{Walk}
 use Rattle.dagcbor_car.proofs.Members.{push_among}
 use Rattle.dagcbor_car.proofs.Reaching.{none_found}
 use Rattle.dagcbor_car.proofs.Writing.{sections_left}
 use Rattle.dagcbor_store.specs.Rows.{name_tree, IsStored, IsListed}
-use Rattle.dagcbor_store.specs.Stored.{IsNamed, HoldsOnly, GetsSome, Lists, IsDamaged, IsSame, Fails, GetRefused}
+use Rattle.dagcbor_store.specs.Stored.{IsNamed, HoldsOnly, GetsSome, Lists, IsDamaged, IsSame, GetRefused}
 use Rattle.dagcbor_store.specs.Walking.{AreNamed, HeaderUnwritten}
-use Rattle.dagcbor_store.specs.Trees.{Shows, OfStored, Reaches, ReachRefused, VisitsStored, tree_bytes, AreFirstReached, WritesTree, TreeRefused, AreFirstAt, NamedRefused, NamesRefused, NamedUnwritten, WritesNames, NamesUnwritten}
+use Rattle.dagcbor_store.specs.Trees.{Shows, OfStored, Reaches, ReachRefused, tree_bytes, AreFirstReached, WritesTree, TreeRefused, AreFirstAt, NamedRefused, NamesRefused, NamedUnwritten, WritesNames, NamesUnwritten}
 use Rattle.dagcbor_store.specs.declared.error.StoreRefusal.{StoreRefusal}
 use Rattle.dagcbor_store.specs.declared.error.StoreRefusal.TheVariants as refusal
 use Rattle.dagcbor_store.specs.declared.car_error.WriteCarError.{WriteCarError}
 use Rattle.dagcbor_store.specs.declared.car_error.WriteCarError.TheVariants as car
 use Rattle.dagcbor_store.specs.declared.car_error.WriteTreeError.TheVariants as tree
 use Rattle.dagcbor_store.proofs.Surveying.{all_more}
-use Rattle.dagcbor_store.proofs.Adding.{Quiet, quiet_itself, quiet_then}
-use Rattle.dagcbor_store.proofs.Walking.{holds_same, damaged_same, same_itself, same_then, fails_same, not_damaged, car_push}
+use Rattle.dagcbor_store.specs.Ends.{Quiet}
+use Rattle.dagcbor_store.proofs.Adding.{quiet_itself, quiet_then}
+use Rattle.dagcbor_store.proofs.Walking.{holds_same, damaged_same, same_itself, same_then, fails_same, car_push}
 
 -- ---- what is stored
 
@@ -48,9 +49,6 @@ got_stored v stored name None shows none = nothing (stored name) refl
     nothing (Some b) e = let s = (shows name b).0 e in absurd (none (s.id, s.listed))
 
 -- ---- the walk
-
-pub visits_stored : (v : View) (name : CidParts) (found : Option (List ℕ)) (old new : Walk) → GetsSome v name found → Visits name found old new → VisitsStored v name old new
-visits_stored v name found old new gets visits root stored shows at = visits stored root (got_stored v stored name found shows gets) at
 
 pub reaches_over : (v : View) (root : CidParts) (walk : Walk) (r : Reached) → r.found ≡ walk.found → r.lost ≡ walk.lost → OfStored v (λ stored. IsOver stored root walk) → Reaches v root r
 reaches_over v root walk r found lost over stored shows =
@@ -105,10 +103,6 @@ listed_there v stored name shows there = some (stored name) refl
     some (Some b) e = let s = (shows name b).0 e in (s.id, s.listed)
 
 module _ {S : Type 0} (g : Ghosts S) where
-  pub fails_reach : (root : CidParts) (old new : S) (told : StoreRefusal) → Fails g ⊥ old new told → ReachRefused g root old new told
-  fails_reach root old new (refusal.Damaged n) f = absurd (not_damaged g f.0 n f.1)
-  fails_reach root old new told f = f
-
   pub visit_refused : (root name : CidParts) (old mid new : S) (told : StoreRefusal) → Quiet g old mid → (IsClean (g.view mid) → IsSame (g.view old) (g.view mid)) → (IsClean (g.view mid) → OfStored (g.view old) (λ stored. LeadsFar stored root name))
       → Quiet g mid new → GetRefused g name mid new told → ReachRefused g root old new told
   visit_refused root name old mid new (refusal.Damaged n) before same far quiet p = λ clean.

@@ -1,42 +1,34 @@
 -- The links that lead to nothing in a store.
 use Rattle.std.proofs.Common.{◌≡◌, ◌⊎◌, inl, inr, ℕ, ◌+◌, ◌<◌, ◌≤◌, List, [], ◌∷◌, ◌++◌, length, get_or, take, Bool, true, false, cond, refl, sym, ap, ◌∙◌, subst, arith, add-one, IsTrue, true≢false}
-use Rattle.std.specs.Prelude.{◌↔◌, Option, None, Some, Vec, Result, Ok, Err, OnOk}
+use Rattle.std.specs.Prelude.{◌↔◌, Option, None, Vec, Result, Ok, Err, OnOk}
 use Rattle.std.specs.declared.alloc.Global.{Global}
 use Rattle.std.specs.List.Sorted.{IsStrictlySortedBy}
 use Rattle.std.specs.BTreeMap.{is_at}
 use Rattle.std.specs.BTreeSet as set
 use Rattle.std.specs.BTreeSet.{BTreeSet}
 use Rattle.std.proofs.Math.Seq.{take-suc, take-length}
-use Rattle.sqlite_trees.specs.View.{View, IsClean}
+use Rattle.sqlite_trees.specs.View.{View}
 use Rattle.sqlite_trees.specs.declared.store.Store.{Ghosts}
-use Rattle.ipld_tree.specs.Cid.{CidParts, AreCidParts, cid_bytes, cid_cmp}
+use Rattle.ipld_tree.specs.Cid.{CidParts, cid_bytes, cid_cmp}
 use Rattle.ipld_tree.specs.Tree.{Tree, links_of}
-use Rattle.ipld_tree.specs.Spelling.{IsFront}
 use Rattle.ipld_tree.proofs.Fronts.{front_unique}
 use Rattle.dagcbor_items.specs.Walks.{forms}
 use Rattle.dagcbor_items.specs.Slices.{IsBlock}
 use Rattle.dagcbor_items.proofs.SliceReads.{whole_front}
 use Rattle.dagcbor_car.specs.Car.{Section}
-use Rattle.dagcbor_car.specs.Names.{IsInline}
 use Rattle.dagcbor_car.specs.Splits.{HasBlock}
 use Rattle.dagcbor_car.specs.Sets.{Among}
 use Rattle.dagcbor_car.specs.Within.{IsReached, IsReachedName, AreFirstNames}
 use Rattle.dagcbor_car.proofs.Within.{reached_cid, not_inline}
 use Rattle.dagcbor_car.proofs.Members.{at_same, same_at, any_among, among_any, among_push, push_among, among_map, map_among, whole_block}
 use Rattle.sqlite_trees.specs.Tree.{Trees}
-use Rattle.dagcbor_store.specs.Rows.{name_tree, IsStored, IsListed}
-use Rattle.dagcbor_store.specs.Stored.{Lists, IsNamed, IsNext, GivesNext, HoldsOnly, IsSame, Fails}
-use Rattle.dagcbor_store.specs.Walking.{AreBlocks, WalkRefused}
-use Rattle.dagcbor_store.specs.Missing.{IsLinked, NamesNone, ListsMissing, AddsName, AddsNames, AddsMissing, HasNoBlock, MissingRefused}
-use Rattle.dagcbor_store.specs.declared.error.StoreRefusal.{StoreRefusal}
-use Rattle.dagcbor_store.specs.declared.error.StoreRefusal.TheVariants as refusal
-use Rattle.dagcbor_store.proofs.Adding.{Quiet}
-use Rattle.dagcbor_store.proofs.Walking.{IsWalked, all_blocks, same_then, fails_same, fails_walk}
+use Rattle.dagcbor_store.specs.Rows.{name_tree, IsListed}
+use Rattle.dagcbor_store.specs.Stored.{Lists, IsNext, GivesNext, HoldsOnly, IsSame}
+use Rattle.dagcbor_store.specs.Walking.{AreBlocks}
+use Rattle.dagcbor_store.specs.Missing.{IsLinked, NamesNone, ListsMissing, AddsName, AddsNames, AddsMissing, HasNoBlock}
+use Rattle.dagcbor_store.proofs.Walking.{IsWalked, all_blocks}
 
 -- ---- one name
-
-pub name_listed : (v : View) (name : CidParts) (s : BTreeSet CidParts) → Lists v name → AddsName v name s s
-name_listed v name s l q = (inl, λ h. elim h [ inl m ↦ m | inr u ↦ absurd (u.1 (subst (Lists v) (sym u.0) l)) ])
 
 pub name_put : (v : View) (name : CidParts) (old new : BTreeSet CidParts) → (Lists v name → ⊥) → ((q : CidParts) → set.contains cid_cmp new q ≡ cond (is_at (cid_cmp name) q) true (set.contains cid_cmp old q)) → AddsName v name old new
 name_put v name old new none put q = (
@@ -164,18 +156,3 @@ on_ok_clean (Err e) C P Q h f = tt
 
 pub no_block_here : (v : View) (last : Option CidParts) (n : CidParts) (b : List ℕ) (r : Bool) → IsNext (v.trees name_tree) last n → HoldsOnly v n b → r ≡ false → (IsTrue r ↔ HasBlock b) → HasNoBlock v n
 no_block_here v last n b r next only none tells = (next.listed, λ d s named has. true≢false (sym (tells.1 (subst HasBlock (only.1 d s) has)) ∙ none))
-
-module _ {S : Type 0} (g : Ghosts S) where
-  pub walk_missing : (old new : S) (told : StoreRefusal) → WalkRefused g old new told → MissingRefused g old new told
-  walk_missing old new (refusal.Damaged n) w = λ clean. let k = w clean in ((k.0.0, λ b s named has. k.0.1 b s named), k.1)
-  walk_missing old new told w = w
-
-  pub fails_missing : (old new : S) (told : StoreRefusal) → Fails g ⊥ old new told → MissingRefused g old new told
-  fails_missing old new told f = walk_missing old new told (fails_walk g old new told f)
-
-  pub missing_refused : (old mid new : S) (told : StoreRefusal) → Quiet g old mid → (IsClean (g.view mid) → IsSame (g.view old) (g.view mid)) → Quiet g mid new → MissingRefused g mid new told → MissingRefused g old new told
-  missing_refused old mid new (refusal.Damaged n) before same quiet w = λ clean.
-      let k = w clean in
-      let s = same (omega (arith, quiet.clean)) in
-      (subst (λ (t : Trees). IsListed (t name_tree) (cid_bytes n) × ((b : List ℕ) → IsStored t (cid_bytes n) b → IsNamed n b → HasBlock b → ⊥)) s.trees k.0, same_then (g.view old) (g.view mid) (g.view new) s k.1)
-  missing_refused old mid new told before same quiet w = fails_same g old mid new told before same quiet w

@@ -3,19 +3,18 @@ use Rattle.std.proofs.Common.{◌≡◌, inl, inr, ℕ, List, [], ◌∷◌, ◌
 use Rattle.std.specs.Prelude.{◌⊎◌, ◌↔◌, Option, None, Some}
 use Rattle.std.specs.List.{AllByRecursion, flat_map}
 use Rattle.std.proofs.lemmas.Cmp.{nat_list_cmp_total}
-use Rattle.sqlite_trees.specs.Tree.{Trees, IsAscending}
+use Rattle.sqlite_trees.specs.Tree.{Trees}
 use Rattle.sqlite_trees.specs.View.{View, IsClean}
 use Rattle.sqlite_trees.specs.declared.store.Store.{Ghosts}
 use Rattle.dagcbor_heads.specs.Written.{Written, WroteAll, Stops}
-use Rattle.dagcbor_heads.specs.declared.error.EncodeError.{EncodeError}
 use Rattle.dagcbor_heads.proofs.Writing.{WroteAll_then, Stops-then}
 use Rattle.ipld_tree.specs.Cid.{CidParts, cid_bytes}
 use Rattle.dagcbor_car.specs.Car.{Section, header_bytes, section_bytes, car_bytes, IsHeader, IsSection, IsCar}
 use Rattle.dagcbor_car.specs.Sets.{Among}
-use Rattle.dagcbor_car.proofs.Members.{among_push, push_among}
+use Rattle.dagcbor_car.proofs.Members.{among_push}
 use Rattle.dagcbor_car.proofs.Places.{flat_push}
 use Rattle.dagcbor_store.specs.Rows.{name_tree, name_cmp, IsStored, IsListed}
-use Rattle.dagcbor_store.specs.Stored.{IsNamed, IsBehind, IsNext, GivesNext, HoldsOnly, Lists, IsDamaged, IsSame, Fails, GetRefused, TellsOfStore}
+use Rattle.dagcbor_store.specs.Stored.{IsNamed, IsBehind, IsNext, GivesNext, HoldsOnly, IsDamaged, IsSame, Fails, GetRefused, TellsOfStore}
 use Rattle.sqlite_trees.specs.declared.error.StoreError.{StoreError}
 use Rattle.sqlite_trees.specs.declared.error.StoreError.TheVariants as stored
 use Rattle.dagcbor_store.specs.Cars.{IsNameIn, IsSectionIn}
@@ -25,7 +24,8 @@ use Rattle.dagcbor_store.specs.declared.error.StoreRefusal.TheVariants as refusa
 use Rattle.dagcbor_store.specs.declared.car_error.WriteCarError.{WriteCarError}
 use Rattle.dagcbor_store.specs.declared.car_error.WriteCarError.TheVariants as car
 use Rattle.dagcbor_store.proofs.Surveying.{all_more, ascending_more}
-use Rattle.dagcbor_store.proofs.Adding.{push_name, Quiet, quiet_itself, quiet_then, KeepsLast, last_same, fails_behind}
+use Rattle.dagcbor_store.specs.Ends.{Quiet}
+use Rattle.dagcbor_store.proofs.Adding.{push_name, quiet_itself, quiet_then, last_same, fails_behind}
 
 -- ---- how far a walk has come
 
@@ -136,13 +136,6 @@ module _ {S : Type 0} (g : Ghosts S) where
 
   pub get_refused_next : (name : CidParts) (old mid new : S) (told : StoreRefusal) → Quiet g old mid → (IsClean (g.view mid) → IsSame (g.view old) (g.view mid)) → Quiet g mid new → GetRefused g name mid new told → WalkRefused g old new told
   get_refused_next name old mid new told before same quiet p = walk_refused old mid new told before same quiet (get_walk name mid new told p)
-
-  -- a name that is listed has something under it
-  pub no_block_next : (last : Option CidParts) (name : CidParts) (old mid new : S) → Quiet g mid new → (IsClean (g.view mid) → IsSame (g.view old) (g.view mid)) → (IsClean (g.view mid) → IsNext ((g.view old).trees name_tree) last name)
-      → (IsClean (g.view new) → Lists (g.view mid) name → ⊥) → WalkRefused g old new (refusal.Damaged name)
-  no_block_next last name old mid new quiet same next none = λ clean.
-      let was : IsClean (g.view mid) = omega (arith, quiet.clean) in
-      absurd (none clean (subst (λ (t : Trees). IsListed (t name_tree) (cid_bytes name)) (sym (same was).trees) (next was).listed))
 
   -- ---- how much was written
 

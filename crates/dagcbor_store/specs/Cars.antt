@@ -4,7 +4,7 @@ use Rattle.std.specs.Prelude.{Result, Err, MatchBool, MatchResult, Bool, Vec}
 use Rattle.std.specs.List.{AllByRecursion}
 use Rattle.std.specs.declared.alloc.Global.{Global}
 use Rattle.sqlite_trees.specs.Tree.{Trees}
-use Rattle.sqlite_trees.specs.View.{View, IsClean, IsQuiet}
+use Rattle.sqlite_trees.specs.View.{View, IsClean}
 use Rattle.sqlite_trees.specs.declared.store.Store.{Ghosts}
 use Rattle.dagcbor_heads.specs.Reading.{Reading, Stays}
 use Rattle.ipld_tree.specs.Cid.{CidParts, cid_bytes}
@@ -19,7 +19,8 @@ use Rattle.dagcbor_car.specs.Sets.{Among}
 use Rattle.dagcbor_car.specs.declared.error.CarError.{CarError}
 use Rattle.dagcbor_car.specs.declared.error.CarError.TheVariants as file
 use Rattle.dagcbor_store.specs.Rows.{block_tree, name_tree, IsStored, IsListed, FreesId, IsTooLong}
-use Rattle.dagcbor_store.specs.Stored.{IsNamedBlock, IsUnfit, IsAdded, IsUndone, Fails, PutRefused}
+use Rattle.dagcbor_store.specs.Ends.{Quiet}
+use Rattle.dagcbor_store.specs.Stored.{IsNamedBlock, IsUnfit, IsAdded, Fails, PutRefused}
 use Rattle.dagcbor_store.specs.declared.error.StoreRefusal.{StoreRefusal}
 use Rattle.dagcbor_store.specs.declared.error.StoreRefusal.TheVariants as refusal
 use Rattle.dagcbor_store.specs.declared.car_error.ReadCarError.{ReadCarError}
@@ -148,7 +149,7 @@ pub record IsAddedAll (old new : View) (sections : List Section) : Type 0 where
 -- the same, and no fault is forgotten
 pub record Adds {S : Type 0} (g : Ghosts S) (sections : List Section) (old new : S) : Type 0 where
   pub added : IsClean (g.view new) → IsAddedAll (g.view old) (g.view new) sections
-  pub quiet : IsQuiet g.view g.faults g.recovers g.is_shielded old new
+  pub quiet : Quiet g old new
 
 -- The block of a section is added under its name, or refused.
 abbrev pub AddsSection : {S E : Type 0} → Ghosts S → Section → S → Result (Unit {0}) (ReadCarError E) → S → Type 0
@@ -178,7 +179,7 @@ abbrev pub AddRefused : {S E : Type 0} → Ghosts S → Reading → S → ReadCa
 AddRefused {S} g old before e new after = (FileRefused RefusesStart (FileLacks old) old e new × (after ≡ before))
     ⊎ ((roots : List (List ℕ)) × (sections : List Section) × (extent : Option ℕ) × (mid : Reading) × (held : S)
     × IsReadTo roots sections old extent mid × Adds g sections before held
-    × IsQuiet g.view g.faults g.recovers g.is_shielded held after
+    × Quiet g held after
     × (NextRefused g extent mid held e new after ⊎ ((new ≡ mid) × (after ≡ held) × AreTooMany sections e)))
 
 -- The sections of a whole file are added, so many.

@@ -1,5 +1,5 @@
 -- The rows of a database that holds blocks, and which blocks they are.
-use Rattle.std.specs.Prelude.{◌≡◌, ◌≢◌, ◌⊎◌, ℕ, ◌^◌, ◌-◌, ℤ, pos, List, [], ◌∷◌, ◌++◌, filter, Option, None, Some, Result, Ok, Err, Bool, true, false, ⊤}
+use Rattle.std.specs.Prelude.{◌≡◌, ◌≢◌, ◌⊎◌, ℕ, ◌^◌, ◌-◌, ℤ, pos, List, [], ◌∷◌, filter, Option, None, Some, Result, Ok, Err, Bool, true, false, ⊤}
 use Rattle.std.specs.declared.cmp.Ordering.{Ordering}
 use Rattle.std.specs.declared.cmp.Ordering.TheVariants.{Less}
 use Rattle.std.specs.Ordering.{nat_cmp, is_lt}
@@ -8,7 +8,7 @@ use Rattle.std.specs.List.{AllByRecursion}
 use Rattle.sqlite_value.specs.declared.value.Value.TheVariants.{Int, Blob}
 use Rattle.sqlite_value.specs.Order.{Row, column}
 use Rattle.sqlite_value.specs.Keys.{plain}
-use Rattle.sqlite_trees.specs.Tree.{Trees, rowid, has_rowid, put_row, without_rowid, insert_entry, remove_entry}
+use Rattle.sqlite_trees.specs.Tree.{Trees, IsIndex, from_key, rowid, has_rowid, put_row, without_rowid, insert_entry, remove_entry}
 use Rattle.sqlite_trees.specs.View.{IsStorable, IsStorableRow}
 use Rattle.ipld_tree.specs.Cid.{CidParts, AreCidParts, cid_bytes, IsCid}
 use Rattle.ipld_tree.specs.declared.cid_error.CidError.{CidError}
@@ -54,6 +54,12 @@ AreNameEntries entries = AllByRecursion IsNameEntry entries
 abbrev pub IsOther : List ℕ → List Row → Type 0
 IsOther name [] = ⊤
 IsOther name (e ∷ more) = (id : ℤ) → e ≢ name_entry name id
+
+-- entries rise, and the first that is not below the name is this one, or none is there
+abbrev pub Seeks : List Row → List ℕ → Row → Bool → Type 0
+Seeks es name e true = IsIndex plain es
+    × ((more : List Row) × (from_key plain (Blob name ∷ []) es ≡ e ∷ more))
+Seeks es name e false = IsIndex plain es × (from_key plain (Blob name ∷ []) es ≡ [])
 
 -- names stand in the order of their bytes
 abbrev pub name_cmp : List ℕ → List ℕ → Ordering

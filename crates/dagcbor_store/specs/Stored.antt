@@ -82,6 +82,10 @@ pub record IsSame (old new : View) : Type 0 where
   pub is_open : new.is_open ≡ old.is_open
   pub broken : new.is_broken ≡ old.is_broken
 
+-- the same, where no wrong answer of the disk was taken as true
+abbrev pub StaysSame : {S : Type 0} → Ghosts S → S → S → Type 0
+StaysSame g old new = IsClean (g.view new) → IsSame (g.view old) (g.view new)
+
 -- what was not committed is undone, unless the store is shut
 pub record IsUndone (old new : View) : Type 0 where
   pub was_open : IsTrue new.is_open → IsTrue old.is_open

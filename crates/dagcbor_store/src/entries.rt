@@ -1,16 +1,15 @@
 //! The rows of the two trees: blocks by their numbers, and numbers by the names of blocks.
 
-ghost use Rattle.std.specs.Prelude.{◌≡◌, ◌≢◌, ◌↔◌, ◌∷◌, [], false, IsTrue, MatchOption, option_map, pos, ◌+ℤ◌, IfOk, IfErr, IfSome, OnOk, OnErr};
-ghost use Rattle.sqlite_disk.specs.Disk.{MoreFaults};
+ghost use Rattle.std.specs.Prelude.{◌≡◌, ◌≢◌, ◌↔◌, ◌∷◌, [], IsTrue, MatchOption, option_map, pos, ◌+ℤ◌, IfOk, OnOk};
 ghost use Rattle.sqlite_value.specs.declared.value.Value.TheVariants.{Int, Blob};
 ghost use Rattle.sqlite_value.specs.Value.{owned};
 ghost use Rattle.sqlite_value.specs.Order.{column};
 ghost use Rattle.sqlite_value.specs.Keys.{plain};
-ghost use Rattle.sqlite_trees.specs.declared.store.Shape.TheVariants as shape;
-ghost use Rattle.sqlite_trees.specs.View.{IsClean, IsStorable, OnlyWrites, SetsTree, KeepsSchema, KeepsCommitted, HasCause, IsQuiet, Tells};
+ghost use Rattle.sqlite_trees.specs.View.{IsClean, IsStorable, OnlyWrites, SetsTree};
 ghost use Rattle.sqlite_trees.specs.Tree.{put_row, insert_entry, remove_entry};
 ghost use Rattle.sqlite_exec.specs.Calls.{OnlyReads};
-ghost use Rattle.dagcbor_store.specs.Rows.{block_tree, name_tree, block_row, name_entry, IsOther, FindsName, EntersName, FindsFirst, FreesId, last_id, ReadsRow, Gets, Adds, IsTooLong, Takes, TakesRow};
+ghost use Rattle.dagcbor_store.specs.Ends.{Ends, HasNames, HasBlocks};
+ghost use Rattle.dagcbor_store.specs.Rows.{block_tree, name_tree, block_row, name_entry, IsOther, Seeks, FindsName, EntersName, FindsFirst, FreesId, last_id, ReadsRow, Gets, Adds, IsTooLong, Takes, TakesRow};
 
 use ipld_tree::{Cid, CidError};
 use sqlite_exec::write::last;
@@ -48,7 +47,8 @@ pub(crate) enum Added {
 
 /// The integer that the value is.
 fn integer(value: ValueRef<'_>) -> Option<i64>
-    ensures { MatchOption result ((id : _) → owned value.entry ≢ Int id) (λ id. owned value.entry ≡ Int id) }
+    ensures { MatchOption result ((id : _) → owned value.entry ≢ Int id)
+        (λ id. owned value.entry ≡ Int id) }
 {
     match value {
         ValueRef::Int(id) => Some(id),
@@ -69,7 +69,8 @@ fn is_blob(value: ValueRef<'_>, bytes: &[u8]) -> bool
 /// The number in an entry of the index, where the entry is of this name.
 #[tactic(auto, using(crate::proofs::Finding::two_columns, crate::proofs::Finding::no_entry))]
 fn number_in(entry: &Row, name: &[u8]) -> Option<i64>
-    ensures { MatchOption result (IsOther name.now (entry.now ∷ [])) (λ id. entry.now ≡ name_entry name.now id) }
+    ensures { MatchOption result (IsOther name.now (entry.now ∷ []))
+        (λ id. entry.now ≡ name_entry name.now id) }
 {
     if entry.len() == 2 && is_blob(entry.get(0), name) {
         integer(entry.get(1))
@@ -78,26 +79,32 @@ fn number_in(entry: &Row, name: &[u8]) -> Option<i64>
     }
 }
 
+/// Reads the first entry that is not below the name. Whether there is one.
+fn seek_name<S: Store>(store: &mut S, row: &mut Row, name: &[u8]) -> Result<bool, StoreError>
+    requires names { HasNames S.Store store.old }
+    ensures ok { IfOk result (λ is_there. IsClean (S.Store.view store.new)
+        → Seeks ((S.Store.view store.old).trees name_tree) name.now row.new is_there) }
+    ensures ends { Ends S.Store OnlyReads ⊥ result store.old store.new }
+{
+    row.clear();
+    row.push(ValueRef::Blob(name))?;
+    store.seek(CURSOR, NAMES, row, Direction::Forward)?;
+    store.next(CURSOR, row)
+}
+
 /// The number of the row that has the name.
 pub(crate) fn find<S: Store>(
     store: &mut S,
     row: &mut Row,
     name: &[u8],
 ) -> Result<Option<i64>, StoreError>
-    requires names { IsClean (S.Store.view store.old) → (S.Store.view store.old).shape name_tree ≡ shape.Index plain }
-    ensures ok { IfOk result (λ o. IsClean (S.Store.view store.new) → FindsName ((S.Store.view store.old).trees name_tree) name.now o) }
-    ensures same { OnOk result (IsClean (S.Store.view store.new) → OnlyReads (S.Store.view store.old) (S.Store.view store.new)) }
-    ensures sound { OnOk result (IsClean (S.Store.view store.new) → (S.Store.view store.old).is_broken ≡ false) }
-    ensures told { IfErr result (Tells (S.Store.blamed store.new)) }
-    ensures err { IsClean (S.Store.view store.new) → OnErr result (KeepsCommitted (S.Store.view store.old) (S.Store.view store.new)) }
-    ensures cause { IsClean (S.Store.view store.new) → IfErr result (HasCause (S.Store.view store.old) (MoreFaults (S.Store.faults store.old) (S.Store.faults store.new)) ⊥) }
-    ensures schema { KeepsSchema (S.Store.view store.old) (S.Store.view store.new) }
-    ensures quiet { IsQuiet S.Store.view S.Store.faults S.Store.recovers S.Store.is_shielded store.old store.new }
+    requires names { HasNames S.Store store.old }
+    ensures ok { IfOk result (λ o. IsClean (S.Store.view store.new)
+        → FindsName ((S.Store.view store.old).trees name_tree) name.now o) }
+    ensures ends { Ends S.Store OnlyReads ⊥ result store.old store.new }
 {
-    row.clear();
-    row.push(ValueRef::Blob(name))?;
-    store.seek(CURSOR, NAMES, row, Direction::Forward)?;
-    if store.next(CURSOR, row)? {
+    let is_there = seek_name(store, row, name)?;
+    if is_there {
         Ok(number_in(row, name))
     } else {
         Ok(None)
@@ -120,20 +127,13 @@ pub(crate) fn first_from<S: Store>(
     row: &mut Row,
     bound: &[u8],
 ) -> Result<Option<Result<Cid, CidError>>, StoreError>
-    requires names { IsClean (S.Store.view store.old) → (S.Store.view store.old).shape name_tree ≡ shape.Index plain }
-    ensures ok { IfOk result (λ f. IsClean (S.Store.view store.new) → FindsFirst ((S.Store.view store.old).trees name_tree) bound.now f) }
-    ensures same { OnOk result (IsClean (S.Store.view store.new) → OnlyReads (S.Store.view store.old) (S.Store.view store.new)) }
-    ensures sound { OnOk result (IsClean (S.Store.view store.new) → (S.Store.view store.old).is_broken ≡ false) }
-    ensures told { IfErr result (Tells (S.Store.blamed store.new)) }
-    ensures err { IsClean (S.Store.view store.new) → OnErr result (KeepsCommitted (S.Store.view store.old) (S.Store.view store.new)) }
-    ensures cause { IsClean (S.Store.view store.new) → IfErr result (HasCause (S.Store.view store.old) (MoreFaults (S.Store.faults store.old) (S.Store.faults store.new)) ⊥) }
-    ensures schema { KeepsSchema (S.Store.view store.old) (S.Store.view store.new) }
-    ensures quiet { IsQuiet S.Store.view S.Store.faults S.Store.recovers S.Store.is_shielded store.old store.new }
+    requires names { HasNames S.Store store.old }
+    ensures ok { IfOk result (λ f. IsClean (S.Store.view store.new)
+        → FindsFirst ((S.Store.view store.old).trees name_tree) bound.now f) }
+    ensures ends { Ends S.Store OnlyReads ⊥ result store.old store.new }
 {
-    row.clear();
-    row.push(ValueRef::Blob(bound))?;
-    store.seek(CURSOR, NAMES, row, Direction::Forward)?;
-    if store.next(CURSOR, row)? {
+    let is_there = seek_name(store, row, bound)?;
+    if is_there {
         Ok(Some(name_in(row)))
     } else {
         Ok(None)
@@ -142,15 +142,10 @@ pub(crate) fn first_from<S: Store>(
 
 /// A number that no row has, above each that one has. None where a row has the greatest number.
 fn free_number<S: Store>(store: &mut S, row: &mut Row) -> Result<Option<i64>, StoreError>
-    requires blocks { IsClean (S.Store.view store.old) → (S.Store.view store.old).shape block_tree ≡ shape.Table }
-    ensures ok { IfOk result (λ o. IsClean (S.Store.view store.new) → FreesId ((S.Store.view store.old).trees block_tree) o) }
-    ensures same { OnOk result (IsClean (S.Store.view store.new) → OnlyReads (S.Store.view store.old) (S.Store.view store.new)) }
-    ensures sound { OnOk result (IsClean (S.Store.view store.new) → (S.Store.view store.old).is_broken ≡ false) }
-    ensures told { IfErr result (Tells (S.Store.blamed store.new)) }
-    ensures err { IsClean (S.Store.view store.new) → OnErr result (KeepsCommitted (S.Store.view store.old) (S.Store.view store.new)) }
-    ensures cause { IsClean (S.Store.view store.new) → IfErr result (HasCause (S.Store.view store.old) (MoreFaults (S.Store.faults store.old) (S.Store.faults store.new)) ⊥) }
-    ensures schema { KeepsSchema (S.Store.view store.old) (S.Store.view store.new) }
-    ensures quiet { IsQuiet S.Store.view S.Store.faults S.Store.recovers S.Store.is_shielded store.old store.new }
+    requires blocks { HasBlocks S.Store store.old }
+    ensures ok { IfOk result (λ o. IsClean (S.Store.view store.new)
+        → FreesId ((S.Store.view store.old).trees block_tree) o) }
+    ensures ends { Ends S.Store OnlyReads ⊥ result store.old store.new }
 {
     if last(store, BLOCKS, row)? {
         Ok(number_above(row.get(0)))
@@ -174,16 +169,11 @@ pub(crate) fn get<S: Store>(
     row: &mut Row,
     name: &[u8],
 ) -> Result<Found, StoreError>
-    requires names { IsClean (S.Store.view store.old) → (S.Store.view store.old).shape name_tree ≡ shape.Index plain }
-    requires blocks { IsClean (S.Store.view store.old) → (S.Store.view store.old).shape block_tree ≡ shape.Table }
-    ensures ok { IfOk result (λ found. IsClean (S.Store.view store.new) → Gets (S.Store.view store.old).trees name.now found) }
-    ensures same { OnOk result (IsClean (S.Store.view store.new) → OnlyReads (S.Store.view store.old) (S.Store.view store.new)) }
-    ensures sound { OnOk result (IsClean (S.Store.view store.new) → (S.Store.view store.old).is_broken ≡ false) }
-    ensures told { IfErr result (Tells (S.Store.blamed store.new)) }
-    ensures err { IsClean (S.Store.view store.new) → OnErr result (KeepsCommitted (S.Store.view store.old) (S.Store.view store.new)) }
-    ensures cause { IsClean (S.Store.view store.new) → IfErr result (HasCause (S.Store.view store.old) (MoreFaults (S.Store.faults store.old) (S.Store.faults store.new)) ⊥) }
-    ensures schema { KeepsSchema (S.Store.view store.old) (S.Store.view store.new) }
-    ensures quiet { IsQuiet S.Store.view S.Store.faults S.Store.recovers S.Store.is_shielded store.old store.new }
+    requires names { HasNames S.Store store.old }
+    requires blocks { HasBlocks S.Store store.old }
+    ensures ok { IfOk result (λ found. IsClean (S.Store.view store.new)
+        → Gets (S.Store.view store.old).trees name.now found) }
+    ensures ends { Ends S.Store OnlyReads ⊥ result store.old store.new }
 {
     let Some(id) = find(store, row, name)? else {
         return Ok(Found::Nothing);
@@ -202,15 +192,11 @@ fn read<S: Store>(
     id: i64,
     name: &[u8],
 ) -> Result<Option<Vec<u8>>, StoreError>
-    requires blocks { IsClean (S.Store.view store.old) → (S.Store.view store.old).shape block_tree ≡ shape.Table }
-    ensures ok { IfOk result (λ o. IsClean (S.Store.view store.new) → ReadsRow ((S.Store.view store.old).trees block_tree) id name.now (option_map (λ v. v.items) o)) }
-    ensures same { OnOk result (IsClean (S.Store.view store.new) → OnlyReads (S.Store.view store.old) (S.Store.view store.new)) }
-    ensures sound { OnOk result (IsClean (S.Store.view store.new) → (S.Store.view store.old).is_broken ≡ false) }
-    ensures told { IfErr result (Tells (S.Store.blamed store.new)) }
-    ensures err { IsClean (S.Store.view store.new) → OnErr result (KeepsCommitted (S.Store.view store.old) (S.Store.view store.new)) }
-    ensures cause { IsClean (S.Store.view store.new) → IfErr result (HasCause (S.Store.view store.old) (MoreFaults (S.Store.faults store.old) (S.Store.faults store.new)) ⊥) }
-    ensures schema { KeepsSchema (S.Store.view store.old) (S.Store.view store.new) }
-    ensures quiet { IsQuiet S.Store.view S.Store.faults S.Store.recovers S.Store.is_shielded store.old store.new }
+    requires blocks { HasBlocks S.Store store.old }
+    ensures ok { IfOk result (λ o. IsClean (S.Store.view store.new)
+        → ReadsRow ((S.Store.view store.old).trees block_tree) id name.now
+        (option_map (λ v. v.items) o)) }
+    ensures ends { Ends S.Store OnlyReads ⊥ result store.old store.new }
 {
     if store.get(BLOCKS, id, row)? {
         Ok(bytes_in(alloc, row, name)?)
@@ -240,16 +226,14 @@ pub(crate) fn add<S: Store>(
     name: &[u8],
     bytes: &[u8],
 ) -> Result<Added, StoreError>
-    requires blocks { IsClean (S.Store.view store.old) → (S.Store.view store.old).shape block_tree ≡ shape.Table }
-    requires names { IsClean (S.Store.view store.old) → (S.Store.view store.old).shape name_tree ≡ shape.Index plain }
-    ensures ok { IfOk result (λ added. IsClean (S.Store.view store.new) → Adds (S.Store.view store.old).trees (S.Store.view store.new).trees name.now bytes.now added) }
-    ensures frame { OnOk result (IsClean (S.Store.view store.new) → OnlyWrites (S.Store.view store.old) (S.Store.view store.new)) }
-    ensures sound { OnOk result (IsClean (S.Store.view store.new) → (S.Store.view store.old).is_broken ≡ false) }
-    ensures told { IfErr result (Tells (S.Store.blamed store.new)) }
-    ensures err { IsClean (S.Store.view store.new) → OnErr result (KeepsCommitted (S.Store.view store.old) (S.Store.view store.new)) }
-    ensures cause { IsClean (S.Store.view store.new) → IfErr result (HasCause (S.Store.view store.old) (MoreFaults (S.Store.faults store.old) (S.Store.faults store.new)) (IsTooLong (S.Store.view store.old).reals name.now bytes.now)) }
-    ensures schema { KeepsSchema (S.Store.view store.old) (S.Store.view store.new) }
-    ensures quiet { IsQuiet S.Store.view S.Store.faults S.Store.recovers S.Store.is_shielded store.old store.new }
+    requires blocks { HasBlocks S.Store store.old }
+    requires names { HasNames S.Store store.old }
+    ensures ok { IfOk result (λ added. IsClean (S.Store.view store.new)
+        → Adds (S.Store.view store.old).trees (S.Store.view store.new).trees
+        name.now bytes.now added) }
+    ensures ends { Ends S.Store OnlyWrites
+        (IsTooLong (S.Store.view store.old).reals name.now bytes.now)
+        result store.old store.new }
 {
     if find(store, row, name)?.is_some() {
         return Ok(Added::Listed);
@@ -269,17 +253,19 @@ fn put<S: Store>(
     name: &[u8],
     bytes: &[u8],
 ) -> Result<(), StoreError>
-    requires blocks { IsClean (S.Store.view store.old) → (S.Store.view store.old).shape block_tree ≡ shape.Table }
-    requires names { IsClean (S.Store.view store.old) → (S.Store.view store.old).shape name_tree ≡ shape.Index plain }
-    ensures row { OnOk result (IsClean (S.Store.view store.new) → (S.Store.view store.new).trees block_tree ≡ put_row (block_row id name.now bytes.now) ((S.Store.view store.old).trees block_tree)) }
-    ensures entry { OnOk result (IsClean (S.Store.view store.new) → (S.Store.view store.new).trees name_tree ≡ insert_entry plain (name_entry name.now id) ((S.Store.view store.old).trees name_tree)) }
-    ensures frame { OnOk result (IsClean (S.Store.view store.new) → OnlyWrites (S.Store.view store.old) (S.Store.view store.new)) }
-    ensures sound { OnOk result (IsClean (S.Store.view store.new) → (S.Store.view store.old).is_broken ≡ false) }
-    ensures told { IfErr result (Tells (S.Store.blamed store.new)) }
-    ensures err { IsClean (S.Store.view store.new) → OnErr result (KeepsCommitted (S.Store.view store.old) (S.Store.view store.new)) }
-    ensures cause { IsClean (S.Store.view store.new) → IfErr result (HasCause (S.Store.view store.old) (MoreFaults (S.Store.faults store.old) (S.Store.faults store.new)) (IsTooLong (S.Store.view store.old).reals name.now bytes.now)) }
-    ensures schema { KeepsSchema (S.Store.view store.old) (S.Store.view store.new) }
-    ensures quiet { IsQuiet S.Store.view S.Store.faults S.Store.recovers S.Store.is_shielded store.old store.new }
+    requires blocks { HasBlocks S.Store store.old }
+    requires names { HasNames S.Store store.old }
+    ensures row { OnOk result (IsClean (S.Store.view store.new)
+        → (S.Store.view store.new).trees block_tree
+        ≡ put_row (block_row id name.now bytes.now)
+        ((S.Store.view store.old).trees block_tree)) }
+    ensures entry { OnOk result (IsClean (S.Store.view store.new)
+        → (S.Store.view store.new).trees name_tree
+        ≡ insert_entry plain (name_entry name.now id)
+        ((S.Store.view store.old).trees name_tree)) }
+    ensures ends { Ends S.Store OnlyWrites
+        (IsTooLong (S.Store.view store.old).reals name.now bytes.now)
+        result store.old store.new }
 {
     row.clear();
     row.push(ValueRef::Int(id))?;
@@ -291,15 +277,13 @@ fn put<S: Store>(
 
 /// Writes the entry of the name.
 fn list<S: Store>(store: &mut S, row: &mut Row, id: i64, name: &[u8]) -> Result<(), StoreError>
-    requires names { IsClean (S.Store.view store.old) → (S.Store.view store.old).shape name_tree ≡ shape.Index plain }
-    ensures ok { OnOk result (IsClean (S.Store.view store.new) → SetsTree (S.Store.view store.old) (S.Store.view store.new) name_tree (insert_entry plain (name_entry name.now id))) }
-    ensures frame { OnOk result (IsClean (S.Store.view store.new) → OnlyWrites (S.Store.view store.old) (S.Store.view store.new)) }
-    ensures sound { OnOk result (IsClean (S.Store.view store.new) → (S.Store.view store.old).is_broken ≡ false) }
-    ensures told { IfErr result (Tells (S.Store.blamed store.new)) }
-    ensures err { IsClean (S.Store.view store.new) → OnErr result (KeepsCommitted (S.Store.view store.old) (S.Store.view store.new)) }
-    ensures cause { IsClean (S.Store.view store.new) → IfErr result (HasCause (S.Store.view store.old) (MoreFaults (S.Store.faults store.old) (S.Store.faults store.new)) (¬ IsStorable ((S.Store.view store.old).reals name_tree) (name_entry name.now id))) }
-    ensures schema { KeepsSchema (S.Store.view store.old) (S.Store.view store.new) }
-    ensures quiet { IsQuiet S.Store.view S.Store.faults S.Store.recovers S.Store.is_shielded store.old store.new }
+    requires names { HasNames S.Store store.old }
+    ensures ok { OnOk result (IsClean (S.Store.view store.new)
+        → SetsTree (S.Store.view store.old) (S.Store.view store.new) name_tree
+        (insert_entry plain (name_entry name.now id))) }
+    ensures ends { Ends S.Store OnlyWrites
+        (¬ IsStorable ((S.Store.view store.old).reals name_tree) (name_entry name.now id))
+        result store.old store.new }
 {
     row.clear();
     row.push(ValueRef::Blob(name))?;
@@ -309,16 +293,11 @@ fn list<S: Store>(store: &mut S, row: &mut Row, id: i64, name: &[u8]) -> Result<
 
 /// Takes the name out of the index, and its row out of the table where that is of the name.
 pub(crate) fn take<S: Store>(store: &mut S, row: &mut Row, name: &[u8]) -> Result<bool, StoreError>
-    requires blocks { IsClean (S.Store.view store.old) → (S.Store.view store.old).shape block_tree ≡ shape.Table }
-    requires names { IsClean (S.Store.view store.old) → (S.Store.view store.old).shape name_tree ≡ shape.Index plain }
-    ensures ok { IfOk result (λ taken. IsClean (S.Store.view store.new) → Takes (S.Store.view store.old).trees (S.Store.view store.new).trees name.now taken) }
-    ensures frame { OnOk result (IsClean (S.Store.view store.new) → OnlyWrites (S.Store.view store.old) (S.Store.view store.new)) }
-    ensures sound { OnOk result (IsClean (S.Store.view store.new) → (S.Store.view store.old).is_broken ≡ false) }
-    ensures told { IfErr result (Tells (S.Store.blamed store.new)) }
-    ensures err { IsClean (S.Store.view store.new) → OnErr result (KeepsCommitted (S.Store.view store.old) (S.Store.view store.new)) }
-    ensures cause { IsClean (S.Store.view store.new) → IfErr result (HasCause (S.Store.view store.old) (MoreFaults (S.Store.faults store.old) (S.Store.faults store.new)) ⊥) }
-    ensures schema { KeepsSchema (S.Store.view store.old) (S.Store.view store.new) }
-    ensures quiet { IsQuiet S.Store.view S.Store.faults S.Store.recovers S.Store.is_shielded store.old store.new }
+    requires blocks { HasBlocks S.Store store.old }
+    requires names { HasNames S.Store store.old }
+    ensures ok { IfOk result (λ taken. IsClean (S.Store.view store.new)
+        → Takes (S.Store.view store.old).trees (S.Store.view store.new).trees name.now taken) }
+    ensures ends { Ends S.Store OnlyWrites ⊥ result store.old store.new }
 {
     let Some(id) = find(store, row, name)? else {
         return Ok(false);
@@ -330,15 +309,10 @@ pub(crate) fn take<S: Store>(store: &mut S, row: &mut Row, name: &[u8]) -> Resul
 
 /// Takes the row with the number out, where it is of the name.
 fn take_row<S: Store>(store: &mut S, row: &mut Row, id: i64, name: &[u8]) -> Result<(), StoreError>
-    requires blocks { IsClean (S.Store.view store.old) → (S.Store.view store.old).shape block_tree ≡ shape.Table }
-    ensures ok { OnOk result (IsClean (S.Store.view store.new) → TakesRow (S.Store.view store.old).trees (S.Store.view store.new).trees id name.now) }
-    ensures frame { OnOk result (IsClean (S.Store.view store.new) → OnlyWrites (S.Store.view store.old) (S.Store.view store.new)) }
-    ensures sound { OnOk result (IsClean (S.Store.view store.new) → (S.Store.view store.old).is_broken ≡ false) }
-    ensures told { IfErr result (Tells (S.Store.blamed store.new)) }
-    ensures err { IsClean (S.Store.view store.new) → OnErr result (KeepsCommitted (S.Store.view store.old) (S.Store.view store.new)) }
-    ensures cause { IsClean (S.Store.view store.new) → IfErr result (HasCause (S.Store.view store.old) (MoreFaults (S.Store.faults store.old) (S.Store.faults store.new)) ⊥) }
-    ensures schema { KeepsSchema (S.Store.view store.old) (S.Store.view store.new) }
-    ensures quiet { IsQuiet S.Store.view S.Store.faults S.Store.recovers S.Store.is_shielded store.old store.new }
+    requires blocks { HasBlocks S.Store store.old }
+    ensures ok { OnOk result (IsClean (S.Store.view store.new)
+        → TakesRow (S.Store.view store.old).trees (S.Store.view store.new).trees id name.now) }
+    ensures ends { Ends S.Store OnlyWrites ⊥ result store.old store.new }
 {
     let found = store.get(BLOCKS, id, row)?;
     if found && is_blob(row.get(1), name) {
@@ -350,15 +324,11 @@ fn take_row<S: Store>(store: &mut S, row: &mut Row, id: i64, name: &[u8]) -> Res
 
 /// Takes the entry of the name out of the index.
 fn unlist<S: Store>(store: &mut S, row: &mut Row, id: i64, name: &[u8]) -> Result<(), StoreError>
-    requires names { IsClean (S.Store.view store.old) → (S.Store.view store.old).shape name_tree ≡ shape.Index plain }
-    ensures ok { OnOk result (IsClean (S.Store.view store.new) → SetsTree (S.Store.view store.old) (S.Store.view store.new) name_tree (remove_entry plain (name_entry name.now id))) }
-    ensures frame { OnOk result (IsClean (S.Store.view store.new) → OnlyWrites (S.Store.view store.old) (S.Store.view store.new)) }
-    ensures sound { OnOk result (IsClean (S.Store.view store.new) → (S.Store.view store.old).is_broken ≡ false) }
-    ensures told { IfErr result (Tells (S.Store.blamed store.new)) }
-    ensures err { IsClean (S.Store.view store.new) → OnErr result (KeepsCommitted (S.Store.view store.old) (S.Store.view store.new)) }
-    ensures cause { IsClean (S.Store.view store.new) → IfErr result (HasCause (S.Store.view store.old) (MoreFaults (S.Store.faults store.old) (S.Store.faults store.new)) ⊥) }
-    ensures schema { KeepsSchema (S.Store.view store.old) (S.Store.view store.new) }
-    ensures quiet { IsQuiet S.Store.view S.Store.faults S.Store.recovers S.Store.is_shielded store.old store.new }
+    requires names { HasNames S.Store store.old }
+    ensures ok { OnOk result (IsClean (S.Store.view store.new)
+        → SetsTree (S.Store.view store.old) (S.Store.view store.new) name_tree
+        (remove_entry plain (name_entry name.now id))) }
+    ensures ends { Ends S.Store OnlyWrites ⊥ result store.old store.new }
 {
     row.clear();
     row.push(ValueRef::Blob(name))?;

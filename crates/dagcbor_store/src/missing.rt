@@ -3,8 +3,9 @@
 ghost use Rattle.std.specs.Prelude.{◌≡◌, ◌↔◌, IsTrue, IfOk, IfErr, OnOk};
 ghost use Rattle.dagcbor_items.specs.Walks.{forms};
 ghost use Rattle.dagcbor_car.specs.Splits.{HasBlock};
-ghost use Rattle.sqlite_trees.specs.View.{IsClean, IsQuiet};
-ghost use Rattle.dagcbor_store.specs.Stored.{IsSame, Fails};
+ghost use Rattle.sqlite_trees.specs.View.{IsClean};
+ghost use Rattle.dagcbor_store.specs.Ends.{Quiet};
+ghost use Rattle.dagcbor_store.specs.Stored.{StaysSame, Fails};
 ghost use Rattle.dagcbor_store.specs.Missing.{ListsMissing, MissingRefused, AddsMissing, AddsName, AddsNames, AddsLinks, ListsKeys};
 
 use crate::error::StoreRefusal;
@@ -40,9 +41,9 @@ impl<S: Store> BlockStore<S> {
     /// followed. One block is in memory at a time, beside the links that are answered.
     pub fn missing(&mut self) -> Result<Vec<Cid>, StoreRefusal>
         ensures lists { IfOk result (λ v. IsClean (S.Store.view self.new) → ListsMissing (S.Store.view self.old) v.items) }
-        ensures same { OnOk result (IsClean (S.Store.view self.new) → IsSame (S.Store.view self.old) (S.Store.view self.new)) }
+        ensures same { OnOk result (StaysSame S.Store self.old self.new) }
         ensures refused { IfErr result (MissingRefused S.Store self.old self.new) }
-        ensures quiet { IsQuiet S.Store.view S.Store.faults S.Store.recovers S.Store.is_shielded self.old self.new }
+        ensures quiet { Quiet S.Store self.old self.new }
     {
         let mut missing = BTreeSet::new(self.alloc);
         let mut last = None;
@@ -65,9 +66,9 @@ impl<S: Store> BlockStore<S> {
         missing: &mut BTreeSet<Cid>,
     ) -> Result<Option<Cid>, StoreRefusal>
         ensures ok { IfOk result (λ next. IsClean (S.Store.view self.new) → AddsLinks (S.Store.view self.old) last missing.old next missing.new) }
-        ensures same { OnOk result (IsClean (S.Store.view self.new) → IsSame (S.Store.view self.old) (S.Store.view self.new)) }
+        ensures same { OnOk result (StaysSame S.Store self.old self.new) }
         ensures refused { IfErr result (MissingRefused S.Store self.old self.new) }
-        ensures quiet { IsQuiet S.Store.view S.Store.faults S.Store.recovers S.Store.is_shielded self.old self.new }
+        ensures quiet { Quiet S.Store self.old self.new }
     {
         let (name, block) = match self.next_block(last)? {
             Some(next) => next,
@@ -88,9 +89,9 @@ impl<S: Store> BlockStore<S> {
     ) -> Result<(), StoreRefusal>
         requires { HasBlock block.now }
         ensures ok { OnOk result (IsClean (S.Store.view self.new) → AddsMissing (S.Store.view self.old) block.now missing.old missing.new) }
-        ensures same { OnOk result (IsClean (S.Store.view self.new) → IsSame (S.Store.view self.old) (S.Store.view self.new)) }
+        ensures same { OnOk result (StaysSame S.Store self.old self.new) }
         ensures refused { IfErr result (Fails S.Store ⊥ self.old self.new) }
-        ensures quiet { IsQuiet S.Store.view S.Store.faults S.Store.recovers S.Store.is_shielded self.old self.new }
+        ensures quiet { Quiet S.Store self.old self.new }
     {
         match names_from_slice(self.alloc, block) {
             Ok(names) => self.add_unlisted(&names, missing),
@@ -105,9 +106,9 @@ impl<S: Store> BlockStore<S> {
         missing: &mut BTreeSet<Cid>,
     ) -> Result<(), StoreRefusal>
         ensures ok { OnOk result (IsClean (S.Store.view self.new) → AddsNames (S.Store.view self.old) names.now missing.old missing.new) }
-        ensures same { OnOk result (IsClean (S.Store.view self.new) → IsSame (S.Store.view self.old) (S.Store.view self.new)) }
+        ensures same { OnOk result (StaysSame S.Store self.old self.new) }
         ensures refused { IfErr result (Fails S.Store ⊥ self.old self.new) }
-        ensures quiet { IsQuiet S.Store.view S.Store.faults S.Store.recovers S.Store.is_shielded self.old self.new }
+        ensures quiet { Quiet S.Store self.old self.new }
     {
         for name in names {
             self.add_if_unlisted(name, missing)?;
@@ -121,9 +122,9 @@ impl<S: Store> BlockStore<S> {
         missing: &mut BTreeSet<Cid>,
     ) -> Result<(), StoreRefusal>
         ensures ok { OnOk result (IsClean (S.Store.view self.new) → AddsName (S.Store.view self.old) name.now missing.old missing.new) }
-        ensures same { OnOk result (IsClean (S.Store.view self.new) → IsSame (S.Store.view self.old) (S.Store.view self.new)) }
+        ensures same { OnOk result (StaysSame S.Store self.old self.new) }
         ensures refused { IfErr result (Fails S.Store ⊥ self.old self.new) }
-        ensures quiet { IsQuiet S.Store.view S.Store.faults S.Store.recovers S.Store.is_shielded self.old self.new }
+        ensures quiet { Quiet S.Store self.old self.new }
     {
         if self.contains(name)? {
             return Ok(());

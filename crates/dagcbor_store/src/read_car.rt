@@ -4,7 +4,8 @@ ghost use Rattle.std.specs.Prelude.{◌≡◌, ◌⊎◌, List, length, IfOk, If
 ghost use Rattle.dagcbor_heads.specs.Inputs.{input_reading};
 ghost use Rattle.dagcbor_items.specs.Walks.{forms};
 ghost use Rattle.dagcbor_car.specs.Car.{Section as CarSection};
-ghost use Rattle.sqlite_trees.specs.View.{IsClean, IsQuiet};
+ghost use Rattle.sqlite_trees.specs.View.{IsClean};
+ghost use Rattle.dagcbor_store.specs.Ends.{Quiet};
 ghost use Rattle.dagcbor_store.specs.Stored.{IsUndone, IsKeptBy};
 ghost use Rattle.dagcbor_store.specs.Cars.{IsRead, IsFilled, ReadRefused, MayLeave, AddsCar, AddsNext, AddsSection};
 
@@ -55,7 +56,7 @@ impl<S: Store> BlockStore<S> {
         input: &mut Input<'de, R>,
     ) -> Result<(Vec<Cid>, u64), ReadCarError<R::Error>>
         ensures adds { AddsCar S.Store (input_reading R.reading input.old) self.old result (input_reading R.reading input.new) self.new }
-        ensures quiet { IsQuiet S.Store.view S.Store.faults S.Store.recovers S.Store.is_shielded self.old self.new }
+        ensures quiet { Quiet S.Store self.old self.new }
     {
         let (roots, mut left) = match pull_header(self.alloc, input) {
             Ok(begun) => begun,
@@ -78,7 +79,7 @@ impl<S: Store> BlockStore<S> {
     ) -> Result<bool, ReadCarError<R::Error>>
         ensures adds { AddsNext S.Store left.old (input_reading R.reading input.old) self.old
             result left.new (input_reading R.reading input.new) self.new }
-        ensures quiet { IsQuiet S.Store.view S.Store.faults S.Store.recovers S.Store.is_shielded self.old self.new }
+        ensures quiet { Quiet S.Store self.old self.new }
     {
         match pull_section(self.alloc, input, left) {
             Ok(Some(section)) => match self.add_section(&section.section()) {
@@ -93,7 +94,7 @@ impl<S: Store> BlockStore<S> {
     /// Adds the block of the section under its name.
     fn add_section<E: Drop>(&mut self, section: &Section<'_>) -> Result<(), ReadCarError<E>>
         ensures adds { AddsSection S.Store (section.now.cid, section.now.block.now) self.old result self.new }
-        ensures quiet { IsQuiet S.Store.view S.Store.faults S.Store.recovers S.Store.is_shielded self.old self.new }
+        ensures quiet { Quiet S.Store self.old self.new }
     {
         match self.add_block(&section.cid, section.block) {
             Ok(()) => Ok(()),

@@ -1,9 +1,10 @@
 //! The store, and its calls on single blocks.
 
 ghost use Rattle.std.specs.Prelude.{◌≡◌, ◌↔◌, ◌⊎◌, IsTrue, MatchResult, IfOk, IfErr, IfSome, OnOk, option_map, length};
+ghost use Rattle.dagcbor_store.specs.Ends.{Quiet};
 ghost use Rattle.dagcbor_store.specs.Rows.{name_tree};
-ghost use Rattle.sqlite_trees.specs.View.{IsClean, IsQuiet, IsRolledBack};
-ghost use Rattle.dagcbor_store.specs.Stored.{IsReady, GivesNext, bound_behind, Lists, IsSame, IsUndone, IsNamed, GetsSome, GetRefused, Fails, TellsOfStore, IsCommitted, IsKeptBy, IsNamedBlock, IsUnfit, IsAdded, IsAddedTo, IsPut, IsTaken, PutRefused, IsVerified, IsToldAdded};
+ghost use Rattle.sqlite_trees.specs.View.{IsClean, IsRolledBack};
+ghost use Rattle.dagcbor_store.specs.Stored.{IsReady, GivesNext, bound_behind, Lists, StaysSame, IsUndone, IsNamed, GetsSome, GetRefused, Fails, TellsOfStore, IsCommitted, IsKeptBy, IsNamedBlock, IsUnfit, IsAdded, IsAddedTo, IsPut, IsTaken, PutRefused, IsVerified, IsToldAdded};
 
 use crate::entries::{self, Added, Found};
 use crate::error::StoreRefusal;
@@ -44,7 +45,7 @@ fn undo<S: Store>(store: &mut S, error: StoreError) -> StoreRefusal
     ensures told { TellsOfStore error result }
     ensures undone { IsRolledBack (S.Store.view store.old) (S.Store.view store.new) }
     ensures blame { S.Store.blamed store.new ≡ S.Store.blamed store.old }
-    ensures quiet { IsQuiet S.Store.view S.Store.faults S.Store.recovers S.Store.is_shielded store.old store.new }
+    ensures quiet { Quiet S.Store store.old store.new }
 {
     store.rollback();
     StoreRefusal::of_store(error)
@@ -61,9 +62,9 @@ impl<S: Store> BlockStore<S> {
     /// How many names are listed. It walks over the index.
     pub fn len(&mut self) -> Result<u64, StoreRefusal>
         ensures ok { IfOk result (λ n. IsClean (S.Store.view self.new) → n ≡ length ((S.Store.view self.old).trees name_tree)) }
-        ensures same { OnOk result (IsClean (S.Store.view self.new) → IsSame (S.Store.view self.old) (S.Store.view self.new)) }
+        ensures same { OnOk result (StaysSame S.Store self.old self.new) }
         ensures refused { IfErr result (Fails S.Store ⊥ self.old self.new) }
-        ensures quiet { IsQuiet S.Store.view S.Store.faults S.Store.recovers S.Store.is_shielded self.old self.new }
+        ensures quiet { Quiet S.Store self.old self.new }
     {
         match survey(self.alloc, &mut self.store, &mut self.row) {
             Ok(Some(count)) => Ok(count),
@@ -75,9 +76,9 @@ impl<S: Store> BlockStore<S> {
     /// Whether something is listed under the name. It may be damaged: `get_block` tells.
     pub fn contains(&mut self, name: &Cid) -> Result<bool, StoreRefusal>
         ensures found { IfOk result (λ found. IsClean (S.Store.view self.new) → (IsTrue found ↔ Lists (S.Store.view self.old) name.now)) }
-        ensures same { OnOk result (IsClean (S.Store.view self.new) → IsSame (S.Store.view self.old) (S.Store.view self.new)) }
+        ensures same { OnOk result (StaysSame S.Store self.old self.new) }
         ensures refused { IfErr result (Fails S.Store ⊥ self.old self.new) }
-        ensures quiet { IsQuiet S.Store.view S.Store.faults S.Store.recovers S.Store.is_shielded self.old self.new }
+        ensures quiet { Quiet S.Store self.old self.new }
     {
         let mut form = ArrayVec::new();
         name.write_bytes(&mut form);
@@ -91,9 +92,9 @@ impl<S: Store> BlockStore<S> {
     /// the greatest. Names stand in the order of the bytes of their binary forms.
     pub fn next_name(&mut self, last: Option<Cid>) -> Result<Option<Cid>, StoreRefusal>
         ensures next { IfOk result (λ next. IsClean (S.Store.view self.new) → GivesNext (S.Store.view self.old) last next) }
-        ensures same { OnOk result (IsClean (S.Store.view self.new) → IsSame (S.Store.view self.old) (S.Store.view self.new)) }
+        ensures same { OnOk result (StaysSame S.Store self.old self.new) }
         ensures refused { IfErr result (Fails S.Store ⊥ self.old self.new) }
-        ensures quiet { IsQuiet S.Store.view S.Store.faults S.Store.recovers S.Store.is_shielded self.old self.new }
+        ensures quiet { Quiet S.Store self.old self.new }
     {
         let bound = bound_behind(last);
         match entries::first_from(&mut self.store, &mut self.row, &bound) {
@@ -109,9 +110,9 @@ impl<S: Store> BlockStore<S> {
     pub fn get_block(&mut self, name: &Cid) -> Result<Option<Vec<u8>>, StoreRefusal>
         ensures verified { IfOk result (λ found. IfSome found (λ b. IsNamed name.now b.items)) }
         ensures found { IfOk result (λ found. IsClean (S.Store.view self.new) → GetsSome (S.Store.view self.old) name.now (option_map (λ b. b.items) found)) }
-        ensures same { OnOk result (IsClean (S.Store.view self.new) → IsSame (S.Store.view self.old) (S.Store.view self.new)) }
+        ensures same { OnOk result (StaysSame S.Store self.old self.new) }
         ensures refused { IfErr result (GetRefused S.Store name.now self.old self.new) }
-        ensures quiet { IsQuiet S.Store.view S.Store.faults S.Store.recovers S.Store.is_shielded self.old self.new }
+        ensures quiet { Quiet S.Store self.old self.new }
     {
         let mut form = ArrayVec::new();
         name.write_bytes(&mut form);
@@ -138,7 +139,7 @@ impl<S: Store> BlockStore<S> {
     pub fn rollback(&mut self)
         ensures undone { IsClean (S.Store.view self.new) → IsUndone (S.Store.view self.old) (S.Store.view self.new) }
         ensures blame { S.Store.blamed self.new ≡ S.Store.blamed self.old }
-        ensures quiet { IsQuiet S.Store.view S.Store.faults S.Store.recovers S.Store.is_shielded self.old self.new }
+        ensures quiet { Quiet S.Store self.old self.new }
     {
         self.store.rollback();
     }
@@ -150,7 +151,7 @@ impl<S: Store> BlockStore<S> {
     pub fn add_block(&mut self, name: &Cid, block: &[u8]) -> Result<(), StoreRefusal>
         ensures ok { OnOk result (IsNamedBlock (name.now, block.now) × (IsClean (S.Store.view self.new) → IsAdded (S.Store.view self.old) (S.Store.view self.new) name.now block.now)) }
         ensures refused { IfErr result (PutRefused S.Store (name.now, block.now) self.old self.new) }
-        ensures quiet { IsQuiet S.Store.view S.Store.faults S.Store.recovers S.Store.is_shielded self.old self.new }
+        ensures quiet { Quiet S.Store self.old self.new }
     {
         check_block(name, block)?;
         let mut form = ArrayVec::new();
@@ -178,7 +179,7 @@ impl<S: Store> BlockStore<S> {
     pub fn remove(&mut self, name: &Cid) -> Result<bool, StoreRefusal>
         ensures ok { IfOk result (λ taken. IsClean (S.Store.view self.new) → IsTaken (S.Store.view self.old) (S.Store.view self.new) name.now taken) }
         ensures refused { IfErr result (Fails S.Store ⊥ self.old self.new) }
-        ensures quiet { IsQuiet S.Store.view S.Store.faults S.Store.recovers S.Store.is_shielded self.old self.new }
+        ensures quiet { Quiet S.Store self.old self.new }
     {
         let mut form = ArrayVec::new();
         name.write_bytes(&mut form);

@@ -1,15 +1,13 @@
 //! A walk over the index of names.
 
-ghost use Rattle.std.specs.Prelude.{◌≡◌, ◌↔◌, ◌⊎◌, List, ℕ, MatchBool, false, length, IsTrue, MatchOption, IfOk, IfErr, OnOk, OnErr};
-ghost use Rattle.sqlite_disk.specs.Disk.{MoreFaults};
+ghost use Rattle.std.specs.Prelude.{◌≡◌, ◌↔◌, ◌⊎◌, List, ℕ, MatchBool, length, IsTrue, MatchOption, IfOk};
 ghost use Rattle.ipld_tree.specs.Cid.{IsCid};
 ghost use Rattle.sqlite_value.specs.declared.value.Value.TheVariants.{Blob};
 ghost use Rattle.sqlite_value.specs.Value.{owned};
-ghost use Rattle.sqlite_value.specs.Keys.{plain};
 ghost use Rattle.sqlite_value.specs.Order.{column};
-ghost use Rattle.sqlite_trees.specs.declared.store.Shape.TheVariants as shape;
-ghost use Rattle.sqlite_trees.specs.View.{IsClean, KeepsSchema, KeepsCommitted, HasCause, IsQuiet, Tells};
+ghost use Rattle.sqlite_trees.specs.View.{IsClean};
 ghost use Rattle.sqlite_exec.specs.Calls.{OnlyReads};
+ghost use Rattle.dagcbor_store.specs.Ends.{Ends, HasNames};
 ghost use Rattle.dagcbor_store.specs.Rows.{name_tree, IsNameEntry};
 ghost use Rattle.dagcbor_store.specs.Stored.{IsKeyed};
 
@@ -49,7 +47,9 @@ fn is_entry(row: &Row) -> bool
 
 /// Whether the row is an entry of the index of another name than the last.
 fn follows(last: &Row, row: &Row) -> bool
-    ensures { MatchBool result (IsNameEntry row.now × (column row.now 0 ≡ column last.now 0 → ⊥)) ((IsNameEntry row.now → ⊥) ⊎ (column row.now 0 ≡ column last.now 0)) }
+    ensures { MatchBool result
+        (IsNameEntry row.now × (column row.now 0 ≡ column last.now 0 → ⊥))
+        ((IsNameEntry row.now → ⊥) ⊎ (column row.now 0 ≡ column last.now 0)) }
 {
     is_entry(row) && !is_same(row.get(0), last.get(0))
 }
@@ -60,16 +60,12 @@ pub(crate) fn survey<S: Store>(
     store: &mut S,
     row: &mut Row,
 ) -> Result<Option<u64>, StoreError>
-    requires names { IsClean (S.Store.view store.old) → (S.Store.view store.old).shape name_tree ≡ shape.Index plain }
-    ensures ok { IfOk result (λ o. IsClean (S.Store.view store.new) → MatchOption o (IsKeyed ((S.Store.view store.old).trees name_tree) → ⊥)
-        (λ n. IsKeyed ((S.Store.view store.old).trees name_tree) × (n ≡ length ((S.Store.view store.old).trees name_tree)))) }
-    ensures same { OnOk result (IsClean (S.Store.view store.new) → OnlyReads (S.Store.view store.old) (S.Store.view store.new)) }
-    ensures sound { OnOk result (IsClean (S.Store.view store.new) → (S.Store.view store.old).is_broken ≡ false) }
-    ensures told { IfErr result (Tells (S.Store.blamed store.new)) }
-    ensures err { IsClean (S.Store.view store.new) → OnErr result (KeepsCommitted (S.Store.view store.old) (S.Store.view store.new)) }
-    ensures cause { IsClean (S.Store.view store.new) → IfErr result (HasCause (S.Store.view store.old) (MoreFaults (S.Store.faults store.old) (S.Store.faults store.new)) ⊥) }
-    ensures schema { KeepsSchema (S.Store.view store.old) (S.Store.view store.new) }
-    ensures quiet { IsQuiet S.Store.view S.Store.faults S.Store.recovers S.Store.is_shielded store.old store.new }
+    requires names { HasNames S.Store store.old }
+    ensures ok { IfOk result (λ o. IsClean (S.Store.view store.new)
+        → MatchOption o (IsKeyed ((S.Store.view store.old).trees name_tree) → ⊥)
+        (λ n. IsKeyed ((S.Store.view store.old).trees name_tree)
+        × (n ≡ length ((S.Store.view store.old).trees name_tree)))) }
+    ensures ends { Ends S.Store OnlyReads ⊥ result store.old store.new }
 {
     let mut last = Row::new(alloc);
     row.clear();

@@ -3,8 +3,9 @@
 ghost use Rattle.std.specs.Prelude.{◌⊎◌, IsSomeAnd, IfOk, IfErr, OnOk, option_map};
 ghost use Rattle.ipld_tree.specs.Spelling.{spelling};
 ghost use Rattle.dagcbor_car.specs.Names.{block_name};
-ghost use Rattle.sqlite_trees.specs.View.{IsClean, IsQuiet};
-ghost use Rattle.dagcbor_store.specs.Stored.{IsSame, IsAddedTo, IsKeptBy};
+ghost use Rattle.sqlite_trees.specs.View.{IsClean};
+ghost use Rattle.dagcbor_store.specs.Ends.{Quiet};
+ghost use Rattle.dagcbor_store.specs.Stored.{StaysSame, IsAddedTo, IsKeptBy};
 ghost use Rattle.dagcbor_store.specs.Values.{PutsValue, PutValueRefused, ShowsNamed, GetsValue, GetValueRefused};
 
 use crate::error::StoreRefusal;
@@ -64,9 +65,9 @@ impl<S: Store> BlockStore<S> {
     pub fn get<'de, T: DeserializeOwned<'de>>(&mut self, name: &Cid) -> Result<Option<T>, GetError>
         ensures named { IfOk result (ShowsNamed T.meaning T.shape name.now) }
         ensures gets { IfOk result (λ found. IsClean (S.Store.view self.new) → GetsValue T.meaning T.shape (S.Store.view self.old) name.now found) }
-        ensures same { OnOk result (IsClean (S.Store.view self.new) → IsSame (S.Store.view self.old) (S.Store.view self.new)) }
+        ensures same { OnOk result (StaysSame S.Store self.old self.new) }
         ensures refused { IfErr result (λ e. GetValueRefused S.Store T.shape name.now self.old e self.new) }
-        ensures quiet { IsQuiet S.Store.view S.Store.faults S.Store.recovers S.Store.is_shielded self.old self.new }
+        ensures quiet { Quiet S.Store self.old self.new }
     {
         match self.get_block(name) {
             Ok(None) => Ok(None),

@@ -1,8 +1,9 @@
 //! A walk over the blocks, in the order of their names.
 
 ghost use Rattle.std.specs.Prelude.{IfOk, IfErr, OnOk};
-ghost use Rattle.sqlite_trees.specs.View.{IsClean, IsQuiet};
-ghost use Rattle.dagcbor_store.specs.Stored.{IsSame, Fails};
+ghost use Rattle.sqlite_trees.specs.View.{IsClean};
+ghost use Rattle.dagcbor_store.specs.Ends.{Quiet};
+ghost use Rattle.dagcbor_store.specs.Stored.{StaysSame, Fails};
 ghost use Rattle.dagcbor_store.specs.Walking.{NextBlock, IsNamedNext, WalkRefused};
 
 use crate::error::StoreRefusal;
@@ -16,9 +17,9 @@ impl<S: Store> BlockStore<S> {
     pub fn next_block(&mut self, last: Option<Cid>) -> Result<Option<(Cid, Vec<u8>)>, StoreRefusal>
         ensures verified { IfOk result IsNamedNext }
         ensures next { IfOk result (λ next. IsClean (S.Store.view self.new) → NextBlock (S.Store.view self.old) last next) }
-        ensures same { OnOk result (IsClean (S.Store.view self.new) → IsSame (S.Store.view self.old) (S.Store.view self.new)) }
+        ensures same { OnOk result (StaysSame S.Store self.old self.new) }
         ensures refused { IfErr result (WalkRefused S.Store self.old self.new) }
-        ensures quiet { IsQuiet S.Store.view S.Store.faults S.Store.recovers S.Store.is_shielded self.old self.new }
+        ensures quiet { Quiet S.Store self.old self.new }
     {
         let Some(name) = self.next_name(last)? else {
             return Ok(None);
@@ -33,7 +34,7 @@ impl<S: Store> BlockStore<S> {
     pub(crate) fn give_up(&mut self) -> StoreRefusal
         ensures refused { Fails S.Store ⊥ self.old self.new result }
         ensures walk { WalkRefused S.Store self.old self.new result }
-        ensures quiet { IsQuiet S.Store.view S.Store.faults S.Store.recovers S.Store.is_shielded self.old self.new }
+        ensures quiet { Quiet S.Store self.old self.new }
     {
         self.rollback();
         StoreRefusal::OutOfMemory

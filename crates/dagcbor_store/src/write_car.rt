@@ -4,8 +4,9 @@ ghost use Rattle.std.specs.Prelude.{◌≡◌, ◌∷◌, [], List, Some, IfOk, 
 ghost use Rattle.dagcbor_heads.specs.Written.{WroteAll, Stops};
 ghost use Rattle.dagcbor_items.specs.Walks.{forms};
 ghost use Rattle.dagcbor_car.specs.Car.{Section as CarSection, car_bytes, section_bytes, IsCar, IsSection};
-ghost use Rattle.sqlite_trees.specs.View.{IsClean, IsQuiet};
-ghost use Rattle.dagcbor_store.specs.Stored.{IsSame, IsNamed};
+ghost use Rattle.sqlite_trees.specs.View.{IsClean};
+ghost use Rattle.dagcbor_store.specs.Ends.{Quiet};
+ghost use Rattle.dagcbor_store.specs.Stored.{StaysSame, IsNamed};
 ghost use Rattle.dagcbor_store.specs.Walking.{AreBlocks, AreNamed, WriteRefused, BeginsFile, WritesNext};
 
 use crate::car_error::WriteCarError;
@@ -42,9 +43,9 @@ impl<S: Store> BlockStore<S> {
             × WroteAll (Some (car_bytes (forms roots.now) sections)) (W.written writer.old) (W.written writer.new)
             × IsCar (car_bytes (forms roots.now) sections) (forms roots.now) sections
             × (IsClean (S.Store.view self.new) → AreBlocks (S.Store.view self.old) sections)) }
-        ensures same { OnOk result (IsClean (S.Store.view self.new) → IsSame (S.Store.view self.old) (S.Store.view self.new)) }
+        ensures same { OnOk result (StaysSame S.Store self.old self.new) }
         ensures refused { IfErr result (λ e. WriteRefused S.Store (forms roots.now) self.old (W.written writer.old) e (W.written writer.new) self.new) }
-        ensures quiet { IsQuiet S.Store.view S.Store.faults S.Store.recovers S.Store.is_shielded self.old self.new }
+        ensures quiet { Quiet S.Store self.old self.new }
     {
         begin(self.alloc, writer, roots)?;
         let mut last = None;
@@ -64,7 +65,7 @@ impl<S: Store> BlockStore<S> {
         writer: &mut W,
     ) -> Result<Option<Cid>, WriteCarError<W::Error>>
         ensures next { WritesNext S.Store last self.old (W.written writer.old) result (W.written writer.new) self.new }
-        ensures quiet { IsQuiet S.Store.view S.Store.faults S.Store.recovers S.Store.is_shielded self.old self.new }
+        ensures quiet { Quiet S.Store self.old self.new }
     {
         let (name, block) = match self.next_block(last) {
             Ok(Some(next)) => next,

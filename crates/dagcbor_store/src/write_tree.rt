@@ -1,7 +1,8 @@
 //! Writing the blocks that links lead to as a file.
 
 ghost use Rattle.std.specs.Prelude.{IfOk, IfErr, OnOk};
-ghost use Rattle.sqlite_trees.specs.View.{IsClean, IsQuiet};
+ghost use Rattle.sqlite_trees.specs.View.{IsClean};
+ghost use Rattle.dagcbor_store.specs.Ends.{Quiet};
 ghost use Rattle.dagcbor_store.specs.Trees.{WritesTree, TreeRefused, WritesNames, NamesUnwritten, WritesNamed};
 
 use crate::car_error::{WriteCarError, WriteTreeError};
@@ -24,7 +25,7 @@ impl<S: Store> BlockStore<S> {
     ) -> Result<Vec<Cid>, WriteTreeError<W::Error>>
         ensures ok { IfOk result (λ lost. WritesTree S.Store root.now self.old (W.written writer.old) lost.items (W.written writer.new) self.new) }
         ensures refused { IfErr result (λ e. TreeRefused S.Store root.now self.old (W.written writer.old) e (W.written writer.new) self.new) }
-        ensures quiet { IsQuiet S.Store.view S.Store.faults S.Store.recovers S.Store.is_shielded self.old self.new }
+        ensures quiet { Quiet S.Store self.old self.new }
     {
         let reached = match self.reach(root) {
             Ok(reached) => reached,
@@ -49,7 +50,7 @@ impl<S: Store> BlockStore<S> {
     ) -> Result<(), WriteCarError<W::Error>>
         ensures ok { OnOk result (WritesNames S.Store root.now names.now self.old (W.written writer.old) (W.written writer.new) self.new) }
         ensures refused { IfErr result (λ e. NamesUnwritten S.Store root.now names.now self.old (W.written writer.old) e (W.written writer.new) self.new) }
-        ensures quiet { IsQuiet S.Store.view S.Store.faults S.Store.recovers S.Store.is_shielded self.old self.new }
+        ensures quiet { Quiet S.Store self.old self.new }
     {
         begin(self.alloc, writer, &[*root])?;
         for name in names {
@@ -65,7 +66,7 @@ impl<S: Store> BlockStore<S> {
         writer: &mut W,
     ) -> Result<(), WriteCarError<W::Error>>
         ensures named { WritesNamed S.Store name.now self.old (W.written writer.old) result (W.written writer.new) self.new }
-        ensures quiet { IsQuiet S.Store.view S.Store.faults S.Store.recovers S.Store.is_shielded self.old self.new }
+        ensures quiet { Quiet S.Store self.old self.new }
     {
         let block = match self.get_block(name) {
             Ok(Some(block)) => block,

@@ -1,4 +1,4 @@
-use Rattle.std.proofs.Common.{subst, rules}
+use Rattle.std.proofs.Common.{subst}
 use Rattle.std.specs.Prelude.{IfSome}
 use Rattle.dagcbor_lines.specs.Answers.{IsAnswer, AnswersAll, AnswersSome}
 use Rattle.dagcbor_lines.proofs.Words.{same_command, ended_well, ended_badly}
@@ -15,6 +15,3 @@ returns-clause-broken g c d is badly = subst
     (λ command. IfSome (g.R.Read.remaining c.args.input.now) (λ bytes. AnswersSome (IsAnswer command) bytes (g.R.Read.remaining c.run_lines-ended.new.reader) (g.W.Write.contents c.args.output.now) (g.W.Write.contents c.run_lines-ended.new.writer)))
     (same_command _ _ _ c.in-Some.ensures is)
     (ended_badly _ c.run_lines-ended.result _ c.status_of.ensures badly c.run_lines-ended.ensures.broken)
-
-pub returns-in_default-clause-usage : goal.returns-in_default-clause-usage
-returns-in_default-clause-usage g c = search rules

@@ -10,4 +10,4 @@ returns-in-1-clause-ok g c clean ours =
     let old = g.S.Store.view c.args.store.now in
     let blocks : old.shape block_tree ≡ shape.Table = search rules in
     let names : old.shape name_tree ≡ shape.Index plain = search rules in
-    checked_read old _ (c.in_ok-count.ensures.same clean) (c.in_ok-count.ensures.sound clean) blocks names ((rw c.in-Some.is at (c.in_ok-count.ensures.ok clean))).0
+    checked_read old _ (c.in_ok-count.ensures.ends.frame clean) (c.in_ok-count.ensures.ends.sound clean) blocks names ((rw c.in-Some.is at (c.in_ok-count.ensures.ok clean))).0

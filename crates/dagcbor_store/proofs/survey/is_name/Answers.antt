@@ -1,4 +1,3 @@
-use Rattle.std.proofs.Common.{subst, sym}
 use Rattle.dagcbor_store.proofs.Surveying.{named_blob}
 use Rattle.dagcbor_store.proofs.survey.is_name.Goals as goal
 

@@ -4,35 +4,30 @@ use Rattle.ipld_tree.specs.Cid.{cid_bytes}
 use Rattle.std.specs.Prelude.{OnOk, IfErr}
 use Rattle.dagcbor_store.specs.Rows.{Adds, IsTooLong}
 use Rattle.dagcbor_store.specs.Stored.{IsAdded, PutRefused, Fails}
-use Rattle.dagcbor_store.proofs.Keeping.{ready_undone, undone_since, open_of}
+use Rattle.dagcbor_store.proofs.Keeping.{ready_failed, keyed_ended, undone_since}
 use Rattle.dagcbor_store.proofs.Calls.{ready_written, keyed_added, is_added, not_added, fails_since, put_failed, added_if_clean}
 use Rattle.dagcbor_store.proofs.store.BlockStore.add_block.Goals as goal
 
 pub invariant_of-self : goal.invariant_of-self
 invariant_of-self g c clean =
     let old = g.S.Store.view c.self.inside.store in
-    let was : IsClean old = omega (arith, c.add.ensures.quiet.clean) in
+    let was : IsClean old = omega (arith, c.add.ensures.ends.quiet.clean) in
     let ready = c.self.invariant was in
     let form : c.deref.result.now ≡ cid_bytes c.args.name.now = search rules in
-    ready_written old _ (c.in-Ok.ensures.frame clean) (λ o. keyed_added old.trees (g.S.Store.view c.add.new.store).trees c.deref.result.now c.args.block.now c.in-Ok.added (c.args.name.now, c.write_bytes.ensures.valid, form) (c.in-Ok.ensures.ok clean) (ready.keyed o)) ready
+    ready_written old _ (c.in-Ok.ensures.ends.frame clean) (λ o. keyed_added old.trees (g.S.Store.view c.add.new.store).trees c.deref.result.now c.args.block.now c.in-Ok.added (c.args.name.now, c.write_bytes.ensures.valid, form) (c.in-Ok.ensures.ok clean) (ready.keyed o)) ready
 
 pub invariant_of-self-in-Err : goal.invariant_of-self-in-Err
-invariant_of-self-in-Err g c clean =
-    let mid : IsClean (g.S.Store.view c.add.new.store) = omega (arith, c.undo.ensures.quiet.clean) in
-    let was : IsClean (g.S.Store.view c.self.inside.store) = omega (arith, c.add.ensures.quiet.clean) in
-    ready_undone _ _ _ clean (c.in-Err.ensures.err mid) c.undo.ensures.undone (c.self.invariant was)
+invariant_of-self-in-Err g c = ready_failed g.S.Store c.self.inside.store c.undo.new.store c.add.new.store c.self.invariant c.in-Err.ensures.ends c.undo.ensures.undone c.undo.ensures.quiet
 
 pub returns-in-Ok-clause-ok : goal.returns-in-Ok-clause-ok
 returns-in-Ok-clause-ok g c =
     added_if_clean c.told.result _ _ _ c.in_ok-check_block.ensures (λ clean.
     let old = g.S.Store.view c.self.inside.store in
-    let was : IsClean old = omega (arith, c.add.ensures.quiet.clean) in
-    let is_open = open_of old (g.met.S.Store.broken_if_shut c.self.inside.store) (c.in-Ok.ensures.sound clean) in
-    let keyed = (c.self.invariant was).keyed is_open in
+    let keyed = keyed_ended g.S.Store c.self.inside.store c.add.new.store (g.met.S.Store.broken_if_shut c.self.inside.store) c.self.invariant c.in-Ok.ensures.ends clean in
     let form : c.deref.result.now ≡ cid_bytes c.args.name.now = search rules in
     let new = g.S.Store.view c.add.new.store in
     subst (λ s. OnOk c.told.result (IsAdded (g.S.Store.view s) new c.args.name.now c.args.block.now)) c.self.view_is
-    (is_added old new c.args.name.now c.args.block.now c.in-Ok.added c.told.result (c.in-Ok.ensures.frame clean) (c.in-Ok.ensures.sound clean) is_open keyed (subst (λ n. Adds old.trees new.trees n c.args.block.now c.in-Ok.added) form (c.in-Ok.ensures.ok clean)) c.told.ensures))
+    (is_added old new c.args.name.now c.args.block.now c.in-Ok.added c.told.result (c.in-Ok.ensures.ends.frame clean) (c.in-Ok.ensures.ends.sound clean) keyed.0 keyed.1 (subst (λ n. Adds old.trees new.trees n c.args.block.now c.in-Ok.added) form (c.in-Ok.ensures.ok clean)) c.told.ensures))
 
 pub returns-in-Ok-clause-refused : goal.returns-in-Ok-clause-refused
 returns-in-Ok-clause-refused g c =
@@ -41,7 +36,7 @@ returns-in-Ok-clause-refused g c =
     let form : c.deref.result.now ≡ cid_bytes c.args.name.now = search rules in
     subst (λ s. IfErr c.told.result (PutRefused g.S.Store (c.args.name.now, c.args.block.now) s c.add.new.store)) c.self.view_is
     (not_added g.S.Store (c.args.name.now, c.args.block.now) c.self.inside.store c.add.new.store c.in-Ok.added c.told.result
-    (λ clean. (subst (λ n. Adds old.trees new.trees n c.args.block.now c.in-Ok.added) form (c.in-Ok.ensures.ok clean), c.in-Ok.ensures.frame clean)) c.told.ensures)
+    (λ clean. (subst (λ n. Adds old.trees new.trees n c.args.block.now c.in-Ok.added) form (c.in-Ok.ensures.ok clean), c.in-Ok.ensures.ends.frame clean)) c.told.ensures)
 
 pub returns-in-Err-clause-refused : goal.returns-in-Err-clause-refused
 returns-in-Err-clause-refused g c =
@@ -50,5 +45,5 @@ returns-in-Err-clause-refused g c =
     subst (λ x. PutRefused g.S.Store (c.args.name.now, c.args.block.now) x c.undo.new.store c.undo.result) c.self.view_is
     (put_failed g.S.Store (c.args.name.now, c.args.block.now) c.self.inside.store c.undo.new.store c.undo.result
     (subst (λ n. Fails g.S.Store (IsTooLong old.reals n c.args.block.now) c.self.inside.store c.undo.new.store c.undo.result) form
-    (fails_since g.S.Store (IsTooLong old.reals c.deref.result.now c.args.block.now) c.self.inside.store c.add.new.store c.undo.new.store c.in-Err.error c.undo.result c.undo.ensures.told c.undo.ensures.blame c.in-Err.ensures.told c.undo.ensures.quiet.counts
-    (λ clean. let mid : IsClean (g.S.Store.view c.add.new.store) = omega (arith, c.undo.ensures.quiet.clean) in (c.in-Err.ensures.cause mid, undone_since _ _ _ clean (c.in-Err.ensures.err mid) c.undo.ensures.undone)))))
+    (fails_since g.S.Store (IsTooLong old.reals c.deref.result.now c.args.block.now) c.self.inside.store c.add.new.store c.undo.new.store c.in-Err.error c.undo.result c.undo.ensures.told c.undo.ensures.blame c.in-Err.ensures.ends.told c.undo.ensures.quiet.counts
+    (λ clean. let mid : IsClean (g.S.Store.view c.add.new.store) = omega (arith, c.undo.ensures.quiet.clean) in (c.in-Err.ensures.ends.cause mid, undone_since _ _ _ clean (c.in-Err.ensures.ends.err mid) c.undo.ensures.undone)))))

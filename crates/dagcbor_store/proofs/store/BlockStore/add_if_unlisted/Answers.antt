@@ -1,6 +1,4 @@
-use Rattle.std.proofs.Common.{arith, sym, ◌∙◌, true≢false}
-use Rattle.sqlite_trees.specs.View.{IsClean}
-use Rattle.dagcbor_store.proofs.Adding.{last_same}
+use Rattle.std.proofs.Common.{sym, ◌∙◌, true≢false}
 use Rattle.dagcbor_store.proofs.Unlisted.{name_put}
 use Rattle.dagcbor_store.proofs.Walking.{fails_same}
 use Rattle.dagcbor_store.proofs.store.BlockStore.add_if_unlisted.Goals as goal

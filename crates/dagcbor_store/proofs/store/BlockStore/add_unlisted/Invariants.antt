@@ -2,7 +2,7 @@ use Rattle.std.specs.Prelude.{take}
 use Rattle.sqlite_trees.specs.View.{IsClean}
 use Rattle.dagcbor_store.specs.Stored.{IsSame}
 use Rattle.dagcbor_store.specs.Missing.{AddsNames}
-use Rattle.dagcbor_store.proofs.Adding.{Quiet}
+use Rattle.dagcbor_store.specs.Ends.{Quiet}
 use Rattle.dagcbor_store.proofs.store.BlockStore.add_unlisted.Given as goal
 
 abbrev pub invariant-loop-name : goal.invariant-loop-name

@@ -2,7 +2,7 @@ use Rattle.std.specs.Prelude.{List}
 use Rattle.sqlite_trees.specs.View.{IsClean}
 use Rattle.dagcbor_car.specs.Car.{Section}
 use Rattle.dagcbor_store.specs.Stored.{IsSame}
-use Rattle.dagcbor_store.proofs.Adding.{Quiet}
+use Rattle.dagcbor_store.specs.Ends.{Quiet}
 use Rattle.dagcbor_store.proofs.Walking.{IsWalked}
 use Rattle.dagcbor_store.proofs.Unlisted.{MissingOf}
 use Rattle.dagcbor_store.proofs.store.BlockStore.missing.Given as goal

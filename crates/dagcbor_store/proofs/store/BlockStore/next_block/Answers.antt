@@ -1,7 +1,7 @@
 use Rattle.std.proofs.Common.{arith}
 use Rattle.std.proofs.lemmas.Result.{err_from_is_err_and}
 use Rattle.sqlite_trees.specs.View.{IsClean}
-use Rattle.dagcbor_store.proofs.Walking.{fails_walk, get_refused_next, holds_same}
+use Rattle.dagcbor_store.proofs.Walking.{get_refused_next, holds_same}
 use Rattle.dagcbor_store.proofs.store.BlockStore.next_block.Goals as goal
 
 pub returns-in_err-block-clause-refused : goal.returns-in_err-block-clause-refused

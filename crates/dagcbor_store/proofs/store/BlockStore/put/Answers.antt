@@ -1,4 +1,4 @@
-use Rattle.std.proofs.Common.{◌≡◌, inl, inr, ap, ◌∙◌, subst}
+use Rattle.std.proofs.Common.{inl, inr, ap, ◌∙◌, subst}
 use Rattle.sqlite_trees.specs.View.{IsClean}
 use Rattle.dagcbor_car.specs.Names.{block_name}
 use Rattle.dagcbor_store.specs.Stored.{IsNamedBlock, IsPut, IsAddedTo}

@@ -4,7 +4,6 @@ use Rattle.dagcbor_car.specs.Car.{car_bytes}
 use Rattle.std.proofs.lemmas.Result.{err_from_is_err_and}
 use Rattle.sqlite_trees.specs.View.{IsClean}
 use Rattle.dagcbor_items.specs.Walks.{forms}
-use Rattle.dagcbor_store.proofs.Adding.{quiet_then}
 use Rattle.dagcbor_store.proofs.Walking.{written_begun, written_more, header_unwritten, next_unwritten, is_car, all_blocks, none_same, gave_up}
 use Rattle.dagcbor_store.proofs.store.BlockStore.write_car.Goals as goal
 

@@ -1,6 +1,6 @@
 -- What is found in a file: one block, or those that links lead to.
-use Rattle.std.proofs.Common.{◌≡◌, ◌⊎◌, inl, inr, ℕ, List, [], ◌∷◌, ◌++◌, append-nil, Bool, true, false, cond, refl, sym, ap, ◌∙◌, subst}
-use Rattle.std.specs.Prelude.{◌↔◌, IsTrue, Option, None, Some, is_some, option_map, Result, Ok, Err, IsErrAnd, IfOk, OnOk, Vec}
+use Rattle.std.proofs.Common.{◌≡◌, inl, inr, ℕ, List, [], ◌∷◌, ◌++◌, append-nil, Bool, true, false, cond, refl, sym, ap, ◌∙◌, subst}
+use Rattle.std.specs.Prelude.{◌↔◌, IsTrue, Option, None, Some, is_some, option_map, Result, Ok, Err, IsErrAnd, Vec}
 use Rattle.std.specs.Io.KnownBytes.{Appends}
 use Rattle.std.proofs.KnownBytes.{Appends-nil}
 use Rattle.std.specs.Map.{lookup}
@@ -11,25 +11,22 @@ use Rattle.std.specs.declared.convert.Infallible.{Infallible}
 use Rattle.ipld_tree.specs.Cid.{CidParts, cid_bytes, cid_cmp}
 use Rattle.dagcbor_items.specs.Walks.{forms}
 use Rattle.dagcbor_car.specs.Car.{Section}
-use Rattle.dagcbor_car.specs.Names.{IsInline}
-use Rattle.dagcbor_car.specs.Splits.{HasBlock}
 use Rattle.dagcbor_car.specs.Sets.{Among}
-use Rattle.dagcbor_car.specs.Verdicts.{IsVerified, IsVerdict, IsDagCbor}
-use Rattle.dagcbor_car.specs.Checks.{IsFileFront, IsHeld}
+use Rattle.dagcbor_car.specs.Verdicts.{IsVerified, IsVerdict}
+use Rattle.dagcbor_car.specs.Checks.{IsHeld}
 use Rattle.dagcbor_car.specs.declared.error.CarError.{CarError}
 use Rattle.dagcbor_car.specs.declared.verdict.Verdict.{Verdict}
 use Rattle.dagcbor_car.specs.declared.verdict.Verdict.TheVariants as verdicts
 use Rattle.dagcbor_heads.specs.Written.{Written, Stops}
 use Rattle.dagcbor_heads.specs.declared.error.EncodeError.{EncodeError}
 use Rattle.dagcbor_heads.specs.declared.error.EncodeError.TheVariants as unsent
-use Rattle.dagcbor_cli.specs.Writing.{WritesFront}
 use Rattle.dagcbor_cli.specs.declared.fault.ToolError.{ToolError}
 use Rattle.dagcbor_cli.specs.declared.fault.ToolError.TheVariants.{Output}
 use Rattle.dagcbor_car.specs.Reaching.{Stored, stored_in, IsThere, ListsReachable, ListsLost}
 use Rattle.dagcbor_car.proofs.Members.{at_same, same_at, among_push, push_among}
 use Rattle.dagcar_lines.specs.Lines.{missing_line, refused_line, BreaksLine, SaysBoth}
-use Rattle.dagcar_lines.specs.Taking.{IsFault, TakesAll}
-use Rattle.dagcar_lines.specs.Finding.{TellsFault, IsGot, IsSound, StoresSound, IsTreeFile, IsTreeOf, Sends, SendsTree}
+use Rattle.dagcar_lines.specs.Taking.{IsFault}
+use Rattle.dagcar_lines.specs.Finding.{TellsFault, IsSound, StoresSound, IsTreeFile, IsTreeOf, SendsTree}
 
 -- ---- verdicts
 
@@ -145,9 +142,6 @@ module _ (stored : Stored) (root : CidParts) (found names lost : List CidParts) 
   told_broken old heard new after (Ok w) e is out h k = absurd is
   told_broken old heard new after (Err x) e is out h k =
       inr (well, h.0, [], k.0, k.1, subst (IsTreeOf stored root well (h.0 ++ [])) k.2 (is_tree (h.0 ++ []) (subst (IsTreeFile stored root names) (sym (append-nil h.0)) h.1)), is ∙ out, h.2, k.3)
-
-  pub tree_said : (old heard new after : Option (List ℕ)) → SendsTree stored root names old (Ok tt) new → Appends heard after text → (said line : List ℕ) × IsTreeOf stored root well said line × Appends old new said × Appends heard after line
-  tree_said old heard new after h k = (h.0, text, is_tree h.0 h.1, h.2, k)
 
 pub both_of : (P Q : Bool → List ℕ → List ℕ → Type 0) (old heard : Option (List ℕ)) (r : Result Bool ToolError) (new after : Option (List ℕ)) → ((well : Bool) (said told : List ℕ) → P well said told → Q well said told) → SaysBoth P old heard r new after → SaysBoth Q old heard r new after
 both_of P Q old heard (Ok w) new after f k = (k.0, k.1, f w k.0 k.1 k.2, k.3, k.4)

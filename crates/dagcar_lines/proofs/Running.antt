@@ -61,12 +61,6 @@ same_command law words c d h k = sym (by_name c tt) ∙ ap (λ ws. by_letter (fi
 
 -- ---- which words are none
 
--- one word
-pub no_plain : (name : List ℕ) (c : Command) → ((d : Command) → IsPlain d → name ≡ command_name d → ⊥) → IsCommand (name ∷ []) c → ⊥
-no_plain name (commands.Get n) other h = other_words (name ∷ []) (codes "get") h.0 name h.1 refl
-no_plain name (commands.Tree n) other h = other_words (name ∷ []) (codes "tree") h.0 name h.1 refl
-no_plain name c other h = other c tt (ap (λ ws. get_or ws 0 []) h)
-
 -- a word and a text
 pub no_word : (word text : List ℕ) → ((n : CidParts) → ((word ≡ codes "get") ⊎ (word ≡ codes "tree")) → IsTextOf text n → ⊥) → (c : Command) → IsCommand (word ∷ text ∷ []) c → ⊥
 no_word word text other (commands.Get n) h = other n (inl (ap (λ ws. get_or ws 0 []) h.1)) (subst (λ t. IsTextOf t n) (sym (ap (λ ws. get_or ws 1 []) h.1)) h.2)

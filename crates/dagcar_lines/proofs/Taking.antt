@@ -1,16 +1,15 @@
 -- A file that is taken section by section.
-use Rattle.std.proofs.Common.{◌≡◌, inl, inr, ℕ, List, [], ◌∷◌, ◌++◌, length, refl, sym, ap, ◌∙◌, subst}
-use Rattle.std.specs.Prelude.{◌⊎◌, Option, Some, Result, Ok, Err, IfOk, Vec}
-use Rattle.std.specs.declared.convert.Infallible.{Infallible}
+use Rattle.std.proofs.Common.{◌≡◌, inl, inr, ℕ, List, [], ◌∷◌, ◌++◌, refl, sym, ◌∙◌, subst}
+use Rattle.std.specs.Prelude.{Option, Some, Result, Ok, Err, IfOk}
 use Rattle.dagcbor_heads.specs.Reading.{Reading}
-use Rattle.dagcbor_car.specs.Car.{Section, section_bytes, IsSection}
-use Rattle.dagcbor_car.specs.Extents.{within, wanting, EndsThere}
+use Rattle.dagcbor_car.specs.Car.{Section}
+use Rattle.dagcbor_car.specs.Extents.{within, wanting}
 use Rattle.dagcbor_car.specs.Sources.{CarRefuses, RefusesStart, RefusesNext, TakesStart, TakesSectionBytes}
 use Rattle.dagcbor_car.specs.declared.error.CarError.{CarError}
 use Rattle.dagcbor_car.proofs.Places.{IsPlace, no_file, place_more, place_none, place_front, place_whole}
 use Rattle.dagcar_lines.specs.Lines.{refused_line}
 use Rattle.dagcar_lines.specs.Steps.{IsOfBytes}
-use Rattle.dagcar_lines.specs.Taking.{Known, KnownBehind, IsFault, TakesAll, EndsNext, IsFaultLine}
+use Rattle.dagcar_lines.specs.Taking.{Known, KnownBehind, TakesAll, EndsNext, IsFaultLine}
 use Rattle.dagcar_lines.specs.declared.take.Ended.{Ended}
 use Rattle.dagcar_lines.specs.declared.take.Ended.TheVariants as ended
 use Rattle.dagcar_lines.proofs.Saying.{begun_place, alone, alone_line, section_alone, header_alone}

@@ -67,9 +67,6 @@ pub record NamesSoFar (entries rest : List BlockEntry) (names : List CidParts) :
   pub all : entries ≡ seen ++ rest
   pub listed : names ≡ map (λ e. e.0) (shown seen)
 
-pub names_begun : (entries rest : List BlockEntry) (names : List CidParts) → rest ≡ entries → names ≡ [] → NamesSoFar entries rest names
-names_begun entries rest names same none = record { seen = []; all = sym same; listed = none }
-
 names_push : (es : List BlockEntry) (e : BlockEntry) → map (λ x. x.0) (shown (es ++ e ∷ [])) ≡ map (λ x. x.0) (shown es) ++ e.0 ∷ []
 names_push [] e = refl
 names_push (x ∷ es) e = ap (λ more. x.0 ∷ more) (names_push es e)

@@ -153,10 +153,6 @@ not_checked b _ told r h = subst (DepthRefused b) (sym h) (exceeds b _ r (λ sam
 
 -- ---- putting
 
-pub has_tree : (tree : Option Tree) (v : Vec ℕ Global) → AreSpellingOf tree v.items → HasTree v.items
-has_tree None v h = absurd h
-has_tree (Some t) v h = (t, h)
-
 pub put_done : SpellingsAreUnique → (tree : Option Tree) (v : Vec ℕ Global) (name : CidParts) (old new : Held) (r : Result CidParts BlockError) → AreSpellingOf tree v.items → HasBlock v.items → name ≡ block_name v.items → Stores name v.items old r new → Puts tree old r new
 put_done law None v name old new r a has named h = absurd a
 put_done law (Some t) v name old new (Ok n) a has named h =

@@ -1,6 +1,6 @@
 -- The blocks that links lead to within a store, and the file of them.
-use Rattle.std.proofs.Common.{◌≡◌, inl, inr, ℕ, List, [], ◌∷◌, Bool, true, false, refl, sym, ap, ◌∙◌, subst}
-use Rattle.std.specs.Prelude.{Option, None, Some, is_some, Result, Ok, Err, OnOk, OnErr, Vec}
+use Rattle.std.proofs.Common.{◌≡◌, inr, ℕ, List, [], ◌∷◌, Bool, false, refl, sym, ap, subst}
+use Rattle.std.specs.Prelude.{Option, None, Some, is_some, Err, Vec}
 use Rattle.std.specs.declared.alloc.Global.{Global}
 use Rattle.std.specs.BTreeMap.{BTreeMap}
 use Rattle.serde_ipld_dagcbor.specs.Cid.{CidParts, cid_bytes}
@@ -9,11 +9,10 @@ use Rattle.serde_ipld_dagcbor.specs.EncodeError.{EncodeError}
 use Rattle.serde_ipld_dagcbor.specs.EncodeError.TheVariants as unwritten
 use Rattle.dagcbor_car.specs.Writers.{UnsentWithoutMemory}
 use Rattle.dagcbor_car.specs.Car.{car_bytes, IsCar}
-use Rattle.dagcbor_car.specs.Reaching.{Stored, stored_in, sections_at, IsLost, ListsReachable}
+use Rattle.dagcbor_car.specs.Reaching.{stored_in, sections_at, ListsReachable}
 use Rattle.dagcbor_car.proofs.Reaching.{none_found}
 use Rattle.dagcbor_blocks.specs.Blocks.{Held}
-use Rattle.dagcbor_blocks.specs.Reaching.{stored, MayLead, LeadsNowhere, tree_bytes, OfReachable, TreeRefused, WritesTree}
-use Rattle.dagcbor_blocks.specs.declared.tree_error.WriteTreeError.{WriteTreeError}
+use Rattle.dagcbor_blocks.specs.Reaching.{stored, MayLead, LeadsNowhere, tree_bytes, OfReachable, TreeRefused}
 use Rattle.dagcbor_blocks.specs.declared.tree_error.WriteTreeError.TheVariants as trees
 use Rattle.dagcbor_blocks.proofs.Keeping.{shown, block_at_shown}
 

@@ -1,4 +1,4 @@
-use Rattle.std.proofs.Common.{inl, inr, refl, ap, subst, ◌++◌, ◌∷◌, []}
+use Rattle.std.proofs.Common.{inl, inr, refl, subst}
 use Rattle.dagcbor_car.specs.Checks.{IsFileFront, IsHeld}
 use Rattle.dagcar_lines.proofs.Running.{if_some}
 use Rattle.dagcar_lines.proofs.Finding.{fault_of_others, got_whole}

@@ -1,4 +1,4 @@
-use Rattle.std.proofs.Common.{rules, true, false, sym, ◌∙◌}
+use Rattle.std.proofs.Common.{rules}
 use Rattle.dagcbor_car.proofs.Members.{at_same, same_at}
 use Rattle.dagcar_lines.proofs.Finding.{verified_of}
 use Rattle.dagcar_lines.proofs.get.is_sought.Goals as goal

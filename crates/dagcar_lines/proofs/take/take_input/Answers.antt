@@ -1,6 +1,6 @@
-use Rattle.std.proofs.Common.{List, [], ap, ◌∙◌}
+use Rattle.std.proofs.Common.{[], ap, ◌∙◌}
 use Rattle.dagcbor_heads.specs.Reading.{Reading}
-use Rattle.dagcbor_heads.specs.Inputs.{input_reading, not_lending}
+use Rattle.dagcbor_heads.specs.Inputs.{not_lending}
 use Rattle.dagcar_lines.specs.Taking.{TakesAll}
 use Rattle.dagcar_lines.proofs.Running.{if_known}
 use Rattle.dagcar_lines.proofs.Taking.{of_known}

@@ -164,14 +164,6 @@ pub record IsMultiplying (b times plus : ℕ) (digits out : List ℕ) (carry i :
   pub long : length out ≡ i
   pub so_far : (n : ℕ) → AreDigits b n digits → IsMultiplied b times (n * times + plus) out (drop i digits) carry
 
-pub none_multiplied : (b times plus : ℕ) (digits : List ℕ) → CanTimesPlus b times plus digits → IsMultiplying b times plus digits [] plus 0
-none_multiplied b times plus digits can = record {
-  less = can.less;
-  below = tt;
-  long = refl;
-  so_far = λ n is. record { rest = n; digits = is.is; is = refl };
-}
-
 at_below : (b i : ℕ) (ds : List ℕ) → AllBelowBase b ds → i < length ds → get_or ds i 0 < b
 at_below b i [] h l = absurd (omega (arith, l))
 at_below b zero (d ∷ ds) h l = h.0
@@ -219,9 +211,6 @@ pub all_taken : (start out ds bytes : List ℕ) (i count : ℕ) → out ≡ star
 unfolding text_in_58
 all_taken start out ds bytes i count e past long are =
     e ∙ ap (λ x. start ++ map (slice_index symbols_58) x) (take_all i (reverse ds) (omega (arith, length-reverse ds)) ∙ ap reverse are.is ∙ reverse-reverse (digits_of 58 (number_from_digits 256 bytes)))
-
-pub none_written : Writes58 [] [] 0
-none_written = record { below = tt; is = refl; number = refl }
 
 pub one_written : (text : List ℕ) (i : ℕ) (values : List ℕ) (n v : ℕ) → Writes58 (take i text) values n → i < length text → v < 58 → slice_index symbols_58 v ≡ get_or text i 0 → Writes58 (take (i + 1) text) (values ++ v ∷ []) (n * 58 + v)
 one_written text i values n v w here small symbol = record {

@@ -25,9 +25,6 @@ pub record AreOut (start out : List ℕ) (texts : List (List ℕ)) (is_first : B
   pub is : out ≡ start ++ joined texts
   pub first : is_first ≡ is_empty texts
 
-pub none_out : (start : List ℕ) → AreOut start start [] true
-none_out start = record { is = sym (append-nil start); first = refl }
-
 joined_push : (texts : List (List ℕ)) (t : List ℕ) → joined (texts ++ t ∷ []) ≡ joined texts ++ cond (is_empty texts) t (44 ∷ t)
 joined_push [] t = append-nil t
 joined_push (u ∷ us) t =
@@ -141,9 +138,6 @@ tree_of_Link c = search (rules, the_lemmas)
 pub json_Link : (j : Ipld) (c : CidParts) → j ≡ Link' c → dag_json (tree_of j) ≡ link_text (cid_bytes c)
 unfolding dag_json
 json_Link j c is = ap (λ x. dag_json (tree_of x)) is ∙ ap dag_json (tree_of_Link c)
-
-pub json_Map : (j : Ipld) (m : BTreeMap (String Global) Ipld) → j ≡ Map' m → dag_json (tree_of j) ≡ dag_json (mapping (ordered_entries (pairs_of m.entries)))
-json_Map j m is = ap (λ x. dag_json (tree_of x)) is ∙ ap dag_json (tree_of_Map m)
 
 -- what was appended is the text
 pub pushed : {A E : Type 0} (said whole old : List ℕ) (r : Result A E) (new : List ℕ) → whole ≡ said → Pushes said old r new → Pushes whole old r new

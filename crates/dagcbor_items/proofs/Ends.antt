@@ -87,10 +87,6 @@ head_refused_at first more (NonMinimal n f) h other =
     }
 head_refused_at first more _ h other = absurd h
 
-pub head_refused_nowhere : (n : ℕ) → StopsWith HeadCause EndsInHead [] n
-head_refused_nowhere n (Eof name x) h other = absurd (other tt)
-head_refused_nowhere n _ h other = absurd h
-
 -- ---- fronts of what begins there
 
 pub front_first : (k first : ℕ) (b more : List ℕ) → take k b ≡ first ∷ more → (rest : List ℕ) × (b ≡ first ∷ rest)
@@ -346,9 +342,6 @@ no_byte_string b none e (inl x) = by e x
 no_byte_string b none e (inr (inl x)) = absurd (omega (arith, ap length none, ap length x.1))
 no_byte_string b none e (inr (inr x)) = absurd (omega (arith, ap length none, ap length x.1))
 
-pub no_link_byte : (b : List ℕ) (seen : ℕ) → b ≡ [] → StopsWith LinkCause EndsInLink b seen
-no_link_byte b seen none e h other = absurd (other (no_byte_string b none e h))
-
 pub other_tag : (b : List ℕ) (first : ℕ) (more : List ℕ) → b ≡ first ∷ more → first ≢ 0xd8 → StopsWith LinkCause EndsInLink b 1
 other_tag b first more is ne e (inl x) other = by e x other
   where
@@ -366,31 +359,6 @@ no_tag_at : (b c : List ℕ) → b ≡ 0xd8 ∷ c → (e : DecodeError Infallibl
 no_tag_at b c is (Eof n y) h = omega (arith, ap length is, ap length h.1)
 no_tag_at b c is (Mismatch n f) h = let both = sym is ∙ h.1.1 in let same : f ≡ 0xd8 = cc both in h.1.2 same
 no_tag_at b c is _ h = h
-
-pub no_tag_byte : (b c : List ℕ) (seen : ℕ) → b ≡ 0xd8 ∷ c → c ≡ [] → StopsWith LinkCause EndsInLink b seen
-no_tag_byte b c seen is none e (inl x) other = absurd (no_tag_at b c is e x)
-no_tag_byte b c seen is none e (inr (inl x)) other = by e x.0 x.1 x.2 other
-  where
-    by : (e : DecodeError Infallible) (d : List ℕ) → b ≡ 0xd8 ∷ d → IsOtherByte (codes "CBOR tag") 0x2a e d → ¬ IsEnd e → StopsIn LinkCause EndsInLink e b seen
-    by (Mismatch n f) d same h other = absurd (omega (arith, ap length is, ap length same, ap length none, ap length h.1.1))
-    by (Eof n y) d same h other = absurd (other tt)
-    by _ d same h other = absurd h
-no_tag_byte b c seen is none e (inr (inr x)) other = absurd (omega (arith, ap length is, ap length none, ap length x.1))
-
-pub other_number : (b c : List ℕ) (second : ℕ) (more : List ℕ) → b ≡ 0xd8 ∷ c → c ≡ second ∷ more → second ≢ 0x2a → StopsWith LinkCause EndsInLink b 2
-other_number b c second more is next ne e (inl x) other = absurd (no_tag_at b c is e x)
-other_number b c second more is next ne e (inr (inl x)) other = by e x.0 x.1 x.2 other
-  where
-    by : (e : DecodeError Infallible) (d : List ℕ) → b ≡ 0xd8 ∷ d → IsOtherByte (codes "CBOR tag") 0x2a e d → ¬ IsEnd e → StopsIn LinkCause EndsInLink e b 2
-    by (Mismatch n f) d same h other = record {
-      some = omega arith;
-      there = omega (arith, ap length same, ap length h.1.1);
-      stands = inr (inl (f ∷ [], ap (take 2) (same ∙ ap (λ y. 0xd8 ∷ y) h.1.1), (h.0, ([], refl, h.1.2))));
-      before = inr (inl (ap (take 1) same));
-    }
-    by (Eof n y) d same h other = absurd (other tt)
-    by _ d same h other = absurd h
-other_number b c second more is next ne e (inr (inr x)) other = let both = sym (is ∙ ap (λ y. 0xd8 ∷ y) next) ∙ x.1 in let same : second ≡ 0x2a = cc both in absurd (ne same)
 
 pub tagged_cid : (b c d : List ℕ) (seen : ℕ) → b ≡ 0xd8 ∷ c → c ≡ 0x2a ∷ d → StopsWith LinkBytesCause EndsInCid d seen → StopsWith LinkCause EndsInLink b (2 + seen)
 tagged_cid b c d seen is next cids e (inl x) other = absurd (no_tag_at b c is e x)
@@ -448,36 +416,6 @@ leaf_major e b first more is h other = elim h [
 
     tagged : BeginsWith 6 b → first / 32 ≡ 6
     tagged x = let same = same_first x.0 x.1 x.2 in omega (arith, same, x.3)
-
-no_leaf_at_the_end : (b : List ℕ) → b ≡ [] → (e : DecodeError Infallible) → LeafCause e b → ¬ IsEnd e → ⊥
-no_leaf_at_the_end b none e h other = elim h [
-  | inl x ↦ other (head_end e (subst (HeadCause e) none x.0))
-  | inr y ↦ elim y [
-    | inl x ↦ elim x [
-      | inl c ↦ other (cut_is_end _ _ e b c)
-      | inr z ↦ elim z [
-        | inl c ↦ other (cut_is_end _ _ e b c)
-        | inr w ↦ elim w [ inl g ↦ garbled e g | inr s ↦ simple e s ]
-      ]
-    ]
-    | inr x ↦ omega (arith, ap length none, ap length x.0.2)
-  ]
-]
-  where
-    head_end : (e : DecodeError Infallible) → HeadCause e [] → IsEnd e
-    head_end (Eof n x) h = tt
-    head_end _ h = absurd h
-
-    garbled : (e : DecodeError Infallible) → IsGarbled (codes "string") e b → ⊥
-    garbled (RequireUtf8 kept) x = let f = head_first 3 (length x.1.0) x.1.2 in omega (arith, ap length none, ap length (x.1.3 ∙ ap (λ y. y ++ (x.1.0 ++ x.1.1)) f.3))
-    garbled _ x = x
-
-    simple : (e : DecodeError Infallible) → IsOtherSimple e b → ⊥
-    simple (Unsupported kept found) x = omega (arith, ap length none, ap length x.1.1)
-    simple _ x = x
-
-pub no_leaf_byte : (b : List ℕ) (seen : ℕ) → b ≡ [] → StopsWith LeafCause EndsInLeaf b seen
-no_leaf_byte b seen none e h other = absurd (no_leaf_at_the_end b none e h other)
 
 leaf_head : (e : DecodeError Infallible) (b : List ℕ) (seen : ℕ) → StopsIn HeadCause EndsInHead e b seen → BeginsFrom 0 5 b ⊎ (e ≡ IndefiniteSize) × (seen ≡ 1) → StopsIn LeafCause EndsInLeaf e b seen
 leaf_head e b seen k (inl from) = record { some = k.some; there = k.there; stands = inl (k.stands, inl (front_from seen 0 5 b from)); before = inl (k.before, front_from (seen - 1) 0 5 b from) }

@@ -5,6 +5,3 @@ use Rattle.dagcbor_heads.proofs.io_write.push_all.Goals as goal
 
 pub loop-rest-preserved : goal.loop-rest-preserved
 loop-rest-preserved g c = record { sent = Sent_more c.loop-rest.invariant.sent _ _ _ (grind (arith, common_steps)) c.in-Ok.ensures.written; faults = search rules }
-
-pub loop-rest-smaller : goal.loop-rest-smaller
-loop-rest-smaller g c = grind (arith, common_steps)

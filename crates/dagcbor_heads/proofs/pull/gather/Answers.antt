@@ -7,6 +7,3 @@ returns-in_err-count-clause-looked g c = as_refusal _ _ _ _ c.from_residual.ensu
 
 pub returns-then-count-eq0-clause-looked : goal.returns-then-count-eq0-clause-looked
 returns-then-count-eq0-clause-looked g c = some_left (some_both c.loop-left.invariant.looked c.in_ok-count.ensures.looked)
-
-pub returns-clause-looked : goal.returns-clause-looked
-returns-clause-looked g c = c.loop-left.invariant.looked

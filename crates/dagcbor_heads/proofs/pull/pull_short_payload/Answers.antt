@@ -6,6 +6,3 @@ returns-in-Ok-eq0-clause-looked g c = some_left (some_both c.loop-left.invariant
 
 pub returns-in-Err-clause-looked : goal.returns-in-Err-clause-looked
 returns-in-Err-clause-looked g c = some_then c.loop-left.invariant.looked c.in-Err.ensures.looked
-
-pub returns-clause-looked : goal.returns-clause-looked
-returns-clause-looked g c = c.loop-left.invariant.looked

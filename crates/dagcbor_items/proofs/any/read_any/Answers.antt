@@ -9,9 +9,3 @@ returns-in_err-read_into-clause-looked g c = as_refusal _ _ _ _ c.from_residual.
 
 pub returns-in_err-read_into-clause-variant : goal.returns-in_err-read_into-clause-variant
 returns-in_err-read_into-clause-variant g c = as_refusal _ _ _ _ c.from_residual.ensures.1 c.in_err-read_into.ensures.variant
-
-pub returns-clause-item : goal.returns-clause-item
-returns-clause-item g c = c.in_ok-read_into.ensures.item
-
-pub returns-clause-looked : goal.returns-clause-looked
-returns-clause-looked g c = c.in_ok-read_into.ensures.looked

@@ -7,6 +7,3 @@ returns-in_err-pull_link-clause-leaf g c = as_refusal _ _ _ _ c.from_residual.en
 
 pub returns-in_err-pull_link-clause-looked : goal.returns-in_err-pull_link-clause-looked
 returns-in_err-pull_link-clause-looked g c = as_refusal _ _ _ _ c.from_residual.ensures.1 (c.in_err-pull_link.ensures.peeked c.requires)
-
-pub returns-clause-looked : goal.returns-clause-looked
-returns-clause-looked g c = c.in_ok-pull_link.ensures.peeked c.requires

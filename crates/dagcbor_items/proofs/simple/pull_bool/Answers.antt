@@ -18,9 +18,3 @@ returns-in_err-found-clause-looked g c = as_refusal _ _ _ _ c.from_residual.ensu
 
 pub returns-in_err-found-clause-variant : goal.returns-in_err-found-clause-variant
 returns-in_err-found-clause-variant g c = as_refusal _ _ _ _ c.from_residual.ensures.1 (end_byte _ _ c.in_err-found.ensures.variant)
-
-pub returns-in-244-clause-looked : goal.returns-in-244-clause-looked
-returns-in-244-clause-looked g c = c.in_ok-found.ensures.looked
-
-pub returns-in-245-clause-looked : goal.returns-in-245-clause-looked
-returns-in-245-clause-looked g c = c.in_ok-found.ensures.looked

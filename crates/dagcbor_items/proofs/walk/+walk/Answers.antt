@@ -37,9 +37,6 @@ walk_item-returns-then-is_indefinite-clause-item g t c =
 pub walk_item-returns-clause-item : goal.walk_item-returns-clause-item
 walk_item-returns-clause-item g t c = walked_from g.S.LinkSink.sink c.args.links.now c.walk_of_major.new.links c.walk_of_major.result _ c.in_ok-first.ensures.shown c.walk_of_major.ensures.item
 
-pub walk_of_major-returns-in-6-clause-item : goal.walk_of_major-returns-in-6-clause-item
-walk_of_major-returns-in-6-clause-item g t c = c.walk_link.ensures.item
-
 pub walk_of_major-returns-in_default-clause-item : goal.walk_of_major-returns-in_default-clause-item
 walk_of_major-returns-in_default-clause-item g t c = leaf_walked g.S.LinkSink.sink (g.I.Read.reading c.args.input.now) c.args.links.now c.skip_leaf.result _ c.requires (λ x. omega arith) (λ x. omega arith) (λ x. omega arith) c.skip_leaf.ensures.item
 
@@ -159,9 +156,6 @@ pub walk_any-returns-then-take_leaf-clause-item : goal.walk_any-returns-then-tak
 walk_any-returns-then-take_leaf-clause-item g t c =
     let k = rw c.if-take_leaf.true at c.take_leaf.ensures.taken in
     (k.0, k.1, found_as g.S.LinkSink.sink _ _ _ _ (sym k.2) (found_none g.S.LinkSink.sink _))
-
-pub walk_any-returns-then-take_leaf-clause-looked : goal.walk_any-returns-then-take_leaf-clause-looked
-walk_any-returns-then-take_leaf-clause-looked g t c = c.take_leaf.ensures.looked c.if-take_leaf.true
 
 pub walk_any-returns-clause-item : goal.walk_any-returns-clause-item
 walk_any-returns-clause-item g t c =

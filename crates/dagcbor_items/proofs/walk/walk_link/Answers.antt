@@ -25,8 +25,5 @@ returns-in-Err-clause-item g c = record {
 pub returns-in_err-cid-clause-looked : goal.returns-in_err-cid-clause-looked
 returns-in_err-cid-clause-looked g c = as_refusal _ _ _ _ c.from_residual.ensures.1 (c.in_err-cid.ensures.peeked c.requires)
 
-pub returns-in-Ok-clause-looked : goal.returns-in-Ok-clause-looked
-returns-in-Ok-clause-looked g c = c.in_ok-cid.ensures.peeked c.requires
-
 pub returns-in-Err-clause-looked : goal.returns-in-Err-clause-looked
 returns-in-Err-clause-looked g c = taken_left (c.in_ok-cid.ensures.peeked c.requires)

@@ -1,10 +1,7 @@
-use Rattle.std.proofs.Common.{◌∙◌, rules}
+use Rattle.std.proofs.Common.{◌∙◌}
 use Rattle.std.specs.List.{each_same}
 use Rattle.ipld_tree.proofs.Trees.{next_entry_tree, bytes_copied}
 use Rattle.ipld_tree.proofs.ipld.+try_clone.Goals as goal
-
-pub Ipld::try_clone-returns-in-Bool-clause-same : goal.Ipld::try_clone-returns-in-Bool-clause-same
-Ipld::try_clone-returns-in-Bool-clause-same t c = search rules
 
 pub Ipld::try_clone-returns-in_ok-clone-in-Bytes-clause-same : goal.Ipld::try_clone-returns-in_ok-clone-in-Bytes-clause-same
 Ipld::try_clone-returns-in_ok-clone-in-Bytes-clause-same t c = bytes_copied c.args.self.now c.in-Bytes.bytes c.in_ok-clone-in-Bytes.field-0 c.in-Bytes.is (each_same _ _ c.in_ok-clone-in-Bytes.ensures.cases.0)

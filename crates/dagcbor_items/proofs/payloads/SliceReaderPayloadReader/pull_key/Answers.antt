@@ -10,6 +10,3 @@ returns-in_err-key-clause-key c = as_refusal _ _ _ _ c.from_residual.ensures.1 (
 pub returns-then-not-lent_follows-clause-key : goal.returns-then-not-lent_follows-clause-key
 returns-then-not-lent_follows-clause-key c =
     unordered_refused Infallible _ _ (text_taken _ c.in_ok-key.ensures.text) (λ f. let yes = c.lent_follows.ensures.1 f in let no_more = c.if-not-lent_follows.true in absurd (cc (yes, no_more)))
-
-pub returns-clause-key : goal.returns-clause-key
-returns-clause-key c = (c.lent_follows.ensures.0 c.if-not-lent_follows.false, c.in_ok-key.ensures.text)

@@ -1,5 +1,0 @@
-use Rattle.std.proofs.Common.{refl}
-use Rattle.dagcbor_heads.proofs.error.DecodeError.out_of_range.Goals as goal
-
-pub returns : goal.returns
-returns g c = (c.new.result, refl, c.new.ensures)

@@ -1,5 +1,0 @@
-use Rattle.std.proofs.Common.{rules}
-use Rattle.dagcbor_heads.proofs.io_read.IoReader.with_depth.Goals as goal
-
-pub returns : goal.returns
-returns g c = search rules

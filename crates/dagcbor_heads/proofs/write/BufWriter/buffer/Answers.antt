@@ -1,5 +1,0 @@
-use Rattle.std.proofs.Common.{rules}
-use Rattle.dagcbor_heads.proofs.write.BufWriter.buffer.Goals as goal
-
-pub returns : goal.returns
-returns c = search rules

@@ -1,7 +1,6 @@
 -- The symbols of an alphabet tell their places.
-use Rattle.std.proofs.Common.{◌≡◌, inl, inr, ℕ, zero, suc, ◌<◌, Bool, true, false, not, ◌&&◌, List, [], ◌∷◌, length, map, refl, sym, ap, ◌∙◌, arith, eq-eqb}
-use Rattle.std.specs.Prelude.{◌==◌, slice_index, IsTrue, Contains, slice_index_or}
-use Rattle.std.proofs.lemmas.Bool.{cases_lt, cases_eq, true≢false, eqb-true}
+use Rattle.std.proofs.Common.{◌≡◌, inl, inr, ℕ, zero, suc, ◌<◌, Bool, true, false, not, ◌&&◌, List, [], ◌∷◌, length, map, refl, sym, ap, ◌∙◌, arith, eq-eqb, ◌==◌, slice_index, IsTrue, Contains, slice_index_or, true≢false, eqb-true}
+use Rattle.std.proofs.lemmas.Bool.{cases_lt, cases_eq}
 use Rattle.std.specs.Int.Digits.{AllBelowBase}
 use Rattle.cid_text.specs.Alphabets.{all_below, is_new, is_alphabet, IsNoSymbol}
 

@@ -1,10 +1,8 @@
 -- A text in groups of bits: what is read so far.
-use Rattle.std.proofs.Common.{◌≡◌, ◌≢◌, ℕ, ◌+◌, ◌*◌, ◌/◌, ◌%◌, ◌^◌, ◌<◌, ◌≤◌, List, [], ◌∷◌, ◌++◌, length, take, get_or, replicate, map, refl, sym, ap, ◌∙◌, subst, arith, append_assoc, length-append}
-use Rattle.std.specs.Prelude.{slice_index, Contains}
+use Rattle.std.proofs.Common.{◌≡◌, ◌≢◌, ℕ, ◌+◌, ◌*◌, ◌/◌, ◌%◌, ◌^◌, ◌<◌, ◌≤◌, List, [], ◌∷◌, ◌++◌, length, take, get_or, replicate, map, refl, sym, ap, ◌∙◌, subst, arith, append_assoc, length-append, slice_index, Contains, take_all, pow_pos, pow-add, flat_map}
 use Rattle.std.proofs.lemmas.List.Elements.{Contains-get_or}
-use Rattle.std.proofs.lemmas.List.{length-map, take_more, take_all}
-use Rattle.std.proofs.lemmas.Nat.{pow_pos, pow-add, mul-le, mul-add-lt}
-use Rattle.std.specs.List.{flat_map}
+use Rattle.std.proofs.lemmas.List.{length-map, take_more}
+use Rattle.std.proofs.lemmas.Nat.{mul-le, mul-add-lt}
 use Rattle.std.specs.Int.Digits.{AllBelowBase}
 use Rattle.cid_text.specs.Rfc4648.{bits, text_in_groups}
 use Rattle.cid_text.specs.Alphabets.{IsBase, IsNoSymbol, AreBytes}

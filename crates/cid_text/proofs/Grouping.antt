@@ -1,10 +1,8 @@
 -- Bytes in groups of bits: what is written and read so far.
-use Rattle.std.proofs.Common.{◌≡◌, ℕ, zero, suc, ◌+◌, ◌-◌, ◌*◌, ◌/◌, ◌%◌, ◌^◌, ◌<◌, ◌≤◌, List, [], ◌∷◌, ◌++◌, length, take, replicate, map, refl, sym, ap, ◌∙◌, subst, arith, append_assoc, append-nil, length-append}
-use Rattle.std.specs.Prelude.{slice_index, Contains}
-use Rattle.std.proofs.lemmas.List.{length-map, map-append, length-replicate, length-take-le, take_all}
+use Rattle.std.proofs.Common.{◌≡◌, ℕ, zero, suc, ◌+◌, ◌-◌, ◌*◌, ◌/◌, ◌%◌, ◌^◌, ◌<◌, ◌≤◌, List, [], ◌∷◌, ◌++◌, length, take, replicate, map, refl, sym, ap, ◌∙◌, subst, arith, append_assoc, append-nil, length-append, slice_index, Contains, length-take-le, take_all, pow-add, pow_pos, div-add-mod', flat_map}
+use Rattle.std.proofs.lemmas.List.{length-map, map-append, length-replicate}
 use Rattle.std.proofs.lemmas.List.Concat.{flat_map-append}
-use Rattle.std.proofs.lemmas.Nat.{div_below, mod_below, le-div, pow-add, pow_pos, same_from_place, mul-le, div-add-mod'}
-use Rattle.std.specs.List.{flat_map}
+use Rattle.std.proofs.lemmas.Nat.{div_below, mod_below, le-div, same_from_place, mul-le}
 use Rattle.std.specs.Int.Digits.{AllBelowBase}
 use Rattle.cid_text.specs.Rfc4648.{bits, groups, group_count, lacking, message_bits, text_in_groups}
 use Rattle.cid_text.specs.Alphabets.{IsBase, IsNoSymbol, AreBytes}

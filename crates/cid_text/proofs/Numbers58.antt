@@ -1,9 +1,7 @@
 -- Numbers in two bases.
-use Rattle.std.proofs.Common.{◌≡◌, ◌≢◌, ℕ, zero, suc, ◌+◌, ◌-◌, ◌*◌, ◌/◌, ◌%◌, ◌<◌, ◌≤◌, List, [], ◌∷◌, ◌++◌, length, take, drop, reverse, map, get_or, refl, sym, ap, ◌∙◌, subst, arith, append_assoc, append-nil, length-append, add-one}
-use Rattle.std.specs.Prelude.{slice_index, IsTrue, Contains}
-use Rattle.std.proofs.lemmas.List.{reverse-append, reverse-reverse, length-reverse, drop_all, get_or-reverse, take_more, take_all, map-append}
-use Rattle.std.proofs.Math.Seq.{drop-cons}
-use Rattle.std.proofs.lemmas.Nat.{div_below, le-div, mod_below, div-mul-add, mod-mul-add, div-add-mod', mul-add-lt, mul-le}
+use Rattle.std.proofs.Common.{◌≡◌, ◌≢◌, ℕ, zero, suc, ◌+◌, ◌-◌, ◌*◌, ◌/◌, ◌%◌, ◌<◌, ◌≤◌, List, [], ◌∷◌, ◌++◌, length, take, drop, reverse, map, get_or, refl, sym, ap, ◌∙◌, subst, arith, append_assoc, append-nil, length-append, add-one, slice_index, IsTrue, Contains, take_all, drop-cons, div-add-mod'}
+use Rattle.std.proofs.lemmas.List.{reverse-append, reverse-reverse, length-reverse, drop_all, get_or-reverse, take_more, map-append}
+use Rattle.std.proofs.lemmas.Nat.{div_below, le-div, mod_below, div-mul-add, mod-mul-add, mul-add-lt, mul-le}
 use Rattle.std.proofs.lemmas.Int.Digits.{digits_of_step, first_digits_of, all_below_base_digits_of, number_digits_of, number_push, same_from_digits_of}
 use Rattle.std.specs.Int.Digits.{AllBelowBase, digits_of, number_from_digits, number_from_digits_after}
 use Rattle.cid_text.specs.Base58.{symbols_58, text_in_58, BeginsAboveZero, AreDigits, CanTimesPlus}

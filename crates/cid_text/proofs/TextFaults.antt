@@ -1,8 +1,6 @@
 -- At most one fault stands in a text, and none in that of a CID.
-use Rattle.std.proofs.Common.{◌≡◌, inl, inr, ℕ, ◌+◌, ◌*◌, ◌%◌, ◌≤◌, List, ◌∷◌, length, replicate, refl, sym, ap, ◌∙◌, subst, arith, length-append}
-use Rattle.std.specs.Prelude.{slice_index}
+use Rattle.std.proofs.Common.{◌≡◌, inl, inr, ℕ, ◌+◌, ◌*◌, ◌%◌, ◌≤◌, List, ◌∷◌, length, replicate, refl, sym, ap, ◌∙◌, subst, arith, length-append, slice_index, flat_map}
 use Rattle.std.proofs.lemmas.List.{length-map}
-use Rattle.std.specs.List.{flat_map}
 use Rattle.ipld_tree.specs.Cid.{CidParts, cid_bytes}
 use Rattle.ipld_tree.specs.CidFault.{IsFault}
 use Rattle.ipld_tree.proofs.CidFaults.{fault_no_cid, one_fault}

@@ -1,7 +1,6 @@
 -- Texts of CIDs.
-use Rattle.std.proofs.Common.{◌≡◌, ◌≢◌, inl, inr, ℕ, zero, suc, ◌+◌, ◌*◌, ◌/◌, ◌%◌, ◌^◌, ◌<◌, ◌≤◌, List, [], ◌∷◌, ◌++◌, length, drop, map, refl, sym, ap, ◌∙◌, subst, arith, eq-eqb, append_assoc, append-nil, ne_eqb}
-use Rattle.std.specs.Prelude.{slice_index, Result, Ok, Err}
-use Rattle.std.proofs.Math.Nat.{pow-suc, pow-succ', pow-le-pow_right, div-div-eq-div-mul}
+use Rattle.std.proofs.Common.{◌≡◌, ◌≢◌, inl, inr, ℕ, zero, suc, ◌+◌, ◌*◌, ◌/◌, ◌%◌, ◌^◌, ◌<◌, ◌≤◌, List, [], ◌∷◌, ◌++◌, length, drop, map, refl, sym, ap, ◌∙◌, subst, arith, eq-eqb, append_assoc, append-nil, ne_eqb, slice_index, Result, Ok, Err, pow-suc}
+use Rattle.std.proofs.Math.Nat.{pow-succ', pow-le-pow_right, div-div-eq-div-mul}
 use Rattle.std.proofs.lemmas.List.{length-map}
 use Rattle.std.proofs.lemmas.Int.Digits.{number_after_lt, number_lt, digits_of_step, length-digits_of-le}
 use Rattle.std.specs.Int.Digits.{digits_of, number_from_digits, number_from_digits_after}

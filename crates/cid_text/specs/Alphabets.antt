@@ -1,6 +1,5 @@
 -- What makes symbols an alphabet, as tests that compute.
-use Rattle.std.specs.Prelude.{◌≡◌, ℕ, zero, suc, ◌<◌, ◌≤◌, ◌^◌, ◌==◌, Bool, true, not, ◌&&◌, List, length}
-use Rattle.std.specs.Prelude.{slice_index, IsTrue}
+use Rattle.std.specs.Prelude.{◌≡◌, ℕ, zero, suc, ◌<◌, ◌≤◌, ◌^◌, ◌==◌, Bool, true, not, ◌&&◌, List, length, slice_index, IsTrue}
 use Rattle.std.specs.List.{AllByRecursion}
 
 -- p holds of each number below n

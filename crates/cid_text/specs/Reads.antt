@@ -1,15 +1,12 @@
 -- What reading a text in one base answers.
-use Rattle.std.specs.Prelude.{◌≡◌, ◌≢◌, ℕ, ◌*◌, ◌%◌, ◌^◌, ◌<◌, ◌≤◌, List, ◌∷◌, ◌++◌, length, Result, MatchResult}
-use Rattle.std.specs.Prelude.{Contains, map, slice_index, replicate}
-use Rattle.std.specs.List.{flat_map}
+use Rattle.std.specs.Prelude.{◌≡◌, ◌≢◌, ℕ, ◌*◌, ◌%◌, ◌^◌, ◌<◌, ◌≤◌, List, ◌∷◌, ◌++◌, length, Result, MatchResult, Contains, map, slice_index, replicate, flat_map}
 use Rattle.arrayvec.specs.ArrayVec.{ArrayVec}
 use Rattle.cid_text.specs.Rfc4648.{bits, text_in_groups}
 use Rattle.std.specs.Int.Digits.{AllBelowBase, number_from_digits}
 use Rattle.cid_text.specs.Base58.{symbols_58, text_in_58, BeginsAboveZero, AreDigits}
 use Rattle.cid_text.specs.Alphabets.{AreBytes, IsNoSymbol}
 use Rattle.cid_text.specs.declared.error.CidTextError.{CidTextError}
-use Rattle.cid_text.specs.declared.error.CidTextError.TheVariants.{InvalidCharacter, InvalidLength}
-use Rattle.cid_text.specs.declared.error.CidTextError.TheVariants.{TrailingBits, LeadingZero}
+use Rattle.cid_text.specs.declared.error.CidTextError.TheVariants.{InvalidCharacter, InvalidLength, TrailingBits, LeadingZero}
 
 -- a character of the text is none of the symbols
 abbrev pub HasOtherCharacter : List ℕ → List ℕ → Type 0

@@ -1,8 +1,6 @@
 -- Bytes as text of 2 ^ w symbols (RFC 4648: base32 is of section 6, base16 of section 8), without
 -- padding, as multibase has it.
-use Rattle.std.specs.Prelude.{ℕ, zero, suc, ◌+◌, ◌-◌, ◌*◌, ◌/◌, ◌%◌, List, [], ◌∷◌, ◌++◌, length, map}
-use Rattle.std.specs.Prelude.{take, drop, replicate, slice_index}
-use Rattle.std.specs.List.{flat_map}
+use Rattle.std.specs.Prelude.{ℕ, zero, suc, ◌+◌, ◌-◌, ◌*◌, ◌/◌, ◌%◌, List, [], ◌∷◌, ◌++◌, length, map, take, drop, replicate, slice_index, flat_map}
 use Rattle.std.specs.Int.Digits.{number_from_digits}
 
 -- the lowest n bits of x, the most significant first

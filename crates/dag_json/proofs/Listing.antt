@@ -1,12 +1,11 @@
 -- Texts with commas between, one by one.
-use Rattle.std.proofs.Common.{◌≡◌, ◌≤◌, ◌⊎◌, inl, inr, ℕ, length, take, List, [], ◌∷◌, ◌++◌, Bool, true, false, cond, map, Global, String, Vec, string_bytes, refl, sym, ap, ◌∙◌, append_assoc, append-nil, subst, string_cmp, Less, rules, BTreeMap, ℤ}
-use Rattle.std.specs.Prelude.{Result, Ok, Err, codes, is_ok, if◌then◌else◌}
+use Rattle.std.proofs.Common.{◌≡◌, ◌≤◌, ◌⊎◌, inl, inr, ℕ, length, take, List, [], ◌∷◌, ◌++◌, Bool, true, false, cond, map, Global, String, Vec, string_bytes, refl, sym, ap, ◌∙◌, append_assoc, append-nil, subst, string_cmp, Less, rules, BTreeMap, ℤ, Result, Ok, Err, codes, is_ok, if◌then◌else◌, flat_map, take_all}
 use Rattle.std.specs.Fmt.{signed_decimal}
-use Rattle.std.specs.List.{flat_map, AllByRecursion}
+use Rattle.std.specs.List.{AllByRecursion}
 use Rattle.std.specs.List.Sorted.{IsStrictlySortedBy}
 use Rattle.std.specs.Map.{keys_of}
 use Rattle.std.proofs.lemmas.List.Concat.{flat_map-append}
-use Rattle.std.proofs.lemmas.List.{map-append, take_all}
+use Rattle.std.proofs.lemmas.List.{map-append}
 use Rattle.ipld_tree.specs.Key.{bytes_cmp}
 use Rattle.ipld_tree.specs.Cid.{CidParts, cid_bytes}
 use Rattle.ipld_tree.specs.Tree.{null, boolean, integer, text, bytes, list, mapping, link, items_of, ordered_entries}

@@ -1,11 +1,7 @@
 -- What is read of a list and of a map, one by one.
-use Rattle.std.proofs.Common.{◌≡◌, ℕ, ◌+◌, ◌<◌, ◌≤◌, length, get_or, drop, List, [], ◌∷◌, ◌++◌, Bool, true, false, Vec, Global, String, string_bytes, string_cmp, refl, sym, ap, ◌∙◌, subst, arith, append_assoc, append-nil, ◌||◌}
-use Rattle.std.specs.Prelude.{Result, Ok, Err, IfOk, IfErr}
-use Rattle.std.specs.Result.{IsErrAnd}
+use Rattle.std.proofs.Common.{◌≡◌, ℕ, ◌+◌, ◌<◌, ◌≤◌, length, get_or, drop, List, [], ◌∷◌, ◌++◌, Bool, true, false, Vec, Global, String, string_bytes, string_cmp, refl, sym, ap, ◌∙◌, subst, arith, append_assoc, append-nil, ◌||◌, Result, Ok, Err, IfOk, IfErr, IsErrAnd, MatchBool, is_eq}
 use Rattle.std.specs.Borrow.{Bor}
-use Rattle.std.specs.Bool.{MatchBool}
 use Rattle.std.specs.BTreeMap.{insert_entry}
-use Rattle.std.specs.Ordering.{is_eq}
 use Rattle.std.proofs.lemmas.List.{drop_more, drop_all, map-append}
 use Rattle.json.specs.Json as json
 use Rattle.json.specs.Value.{value_view, items_view, members_view}

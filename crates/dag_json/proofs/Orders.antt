@@ -1,11 +1,10 @@
 -- Members in the order of the bytes of their keys.
-use Rattle.std.proofs.Common.{◌≡◌, ◌⊎◌, inl, inr, ℕ, List, [], ◌∷◌, Bool, true, false, cond, Ordering, Less, Equal, Greater, map, refl, sym, ap, ◌∙◌}
+use Rattle.std.proofs.Common.{◌≡◌, ◌⊎◌, inl, inr, ℕ, List, [], ◌∷◌, Bool, true, false, cond, Ordering, Less, Equal, Greater, map, refl, sym, ap, ◌∙◌, true≢false, is_lt}
 use Rattle.std.proofs.lemmas.Cmp.{nat_list_cmp_total}
-use Rattle.std.proofs.lemmas.Bool.{true≢false}
 use Rattle.std.specs.List.{AllByRecursion}
 use Rattle.std.specs.List.Sorted.{IsStrictlySortedBy}
 use Rattle.std.specs.Map.{keys_of}
-use Rattle.std.specs.Ordering.{is_lt, ordering_reverse}
+use Rattle.std.specs.Ordering.{ordering_reverse}
 use Rattle.ipld_tree.specs.Key.{bytes_cmp, comes_before}
 use Rattle.ipld_tree.specs.Tree.{Tree, Entries, no_entries, entry, insert, ordered_entries}
 use Rattle.dag_json.specs.DagJson.{Member, put, by_bytes, dag_json, entry_texts}

@@ -1,9 +1,8 @@
 -- Texts that need no escape: those of CIDs, and base64.
-use Rattle.std.proofs.Common.{◌≡◌, ◌⊎◌, inl, inr, ℕ, zero, suc, ◌+◌, ◌*◌, ◌/◌, ◌%◌, ◌<◌, ◌≤◌, List, [], ◌∷◌, ◌++◌, Bool, true, false, cond, ◌&&◌, ◌==◌, map, length, refl, sym, ap, ◌∙◌, subst, arith, IsUtf8}
-use Rattle.std.specs.Prelude.{slice_index, nat_lt, not}
-use Rattle.std.specs.List.{flat_map, AllByRecursion}
+use Rattle.std.proofs.Common.{◌≡◌, ◌⊎◌, inl, inr, ℕ, zero, suc, ◌+◌, ◌*◌, ◌/◌, ◌%◌, ◌<◌, ◌≤◌, List, [], ◌∷◌, ◌++◌, Bool, true, false, cond, ◌&&◌, ◌==◌, map, length, refl, sym, ap, ◌∙◌, subst, arith, IsUtf8, slice_index, nat_lt, not, flat_map, le-ltb, ltb-true, eqb-true, ne_eqb}
+use Rattle.std.specs.List.{AllByRecursion}
 use Rattle.std.specs.Int.Digits.{AllBelowBase, digits_of, number_from_digits}
-use Rattle.std.proofs.lemmas.Bool.{and_parts, le-ltb, ltb-true, eqb-true, eqb-false, cases_lt, ne_eqb}
+use Rattle.std.proofs.lemmas.Bool.{and_parts, eqb-false, cases_lt}
 use Rattle.std.proofs.lemmas.Int.Digits.{all_below_base_digits_of}
 use Rattle.json.specs.Print.{escape_byte, escape, quoted}
 use Rattle.json.proofs.Printed.Strings.{escape_byte_plain}

@@ -1,11 +1,7 @@
 -- What is written of a tree is read back as that tree.
-use Rattle.std.proofs.Common.{◌≡◌, inl, inr, ℕ, ℤ, zero, suc, ◌+◌, ◌*◌, ◌≤◌, max, List, [], ◌∷◌, ◌++◌, Bool, true, false, cond, ◌||◌, map, refl, sym, ap, ◌∙◌, subst, arith, append-nil, IsUtf8, Ordering, Equal, Less, Greater}
-use Rattle.std.specs.Prelude.{Ok, Err, codes, MatchResult}
-use Rattle.std.specs.Bool.{MatchBool}
-use Rattle.std.specs.List.{flat_map, AllByRecursion}
-use Rattle.std.specs.Ordering.{is_lt, is_eq}
-use Rattle.std.specs.Str.{bytes_eq}
-use Rattle.std.proofs.lemmas.Bool.{or_parts, or_from, le-leb}
+use Rattle.std.proofs.Common.{◌≡◌, inl, inr, ℕ, ℤ, zero, suc, ◌+◌, ◌*◌, ◌≤◌, max, List, [], ◌∷◌, ◌++◌, Bool, true, false, cond, ◌||◌, map, refl, sym, ap, ◌∙◌, subst, arith, append-nil, IsUtf8, Ordering, Equal, Less, Greater, Ok, Err, codes, MatchResult, MatchBool, flat_map, is_lt, is_eq, bytes_eq, le-leb}
+use Rattle.std.specs.List.{AllByRecursion}
+use Rattle.std.proofs.lemmas.Bool.{or_parts, or_from}
 use Rattle.std.proofs.lemmas.Str.{IsUtf8-append, IsUtf8-nil}
 use Rattle.json.specs.Lex.{tokens}
 use Rattle.json.specs.Json as json
@@ -21,8 +17,7 @@ use Rattle.base64.proofs.EngineFacts.{decode_of-encode_of}
 use Rattle.ipld_tree.specs.Cid.{CidParts, IsCid, AreCidParts, cid_bytes}
 use Rattle.ipld_tree.specs.Key.{key_cmp, bytes_cmp}
 use Rattle.ipld_tree.specs.Spelling.{IsInRange, IsSpellable, AreSpellableItems, AreSpellableEntries}
-use Rattle.ipld_tree.specs.Tree.{Tree, null, boolean, integer, text, bytes, list, mapping, link, Items, no_items, item, Entries, no_entries, entry}
-use Rattle.ipld_tree.specs.Tree.{IsTree, AreItems, AreEntries, Precedes, items_of, insert, ordered_entries, has_key, any_need, items_need, entries_need}
+use Rattle.ipld_tree.specs.Tree.{Tree, null, boolean, integer, text, bytes, list, mapping, link, Items, no_items, item, Entries, no_entries, entry, IsTree, AreItems, AreEntries, Precedes, items_of, insert, ordered_entries, has_key, any_need, items_need, entries_need}
 use Rattle.ipld_tree.proofs.KeyOrder.{same_key}
 use Rattle.ipld_tree.proofs.Ordered.{key_cmp_total, key_cmp_same, less_from_before}
 use Rattle.cid_text.specs.Alphabets.{AreBytes}

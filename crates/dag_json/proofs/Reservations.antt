@@ -1,6 +1,5 @@
 -- The key `/` among a map's entries, in whichever order they stand.
-use Rattle.std.proofs.Common.{◌≡◌, ℕ, List, [], ◌∷◌, Bool, true, false, cond, ◌||◌, codes, refl, sym, ap, ◌∙◌, string_bytes}
-use Rattle.std.specs.Str.{bytes_eq}
+use Rattle.std.proofs.Common.{◌≡◌, ℕ, List, [], ◌∷◌, Bool, true, false, cond, ◌||◌, codes, refl, sym, ap, ◌∙◌, string_bytes, bytes_eq}
 use Rattle.ipld_tree.specs.Key.{comes_before}
 use Rattle.ipld_tree.specs.Tree.{Tree, Entries, no_entries, entry, insert, ordered_entries}
 use Rattle.ipld_tree.specs.Ipld.{tree_of, pairs_of}

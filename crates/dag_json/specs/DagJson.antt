@@ -1,15 +1,11 @@
 -- Data as DAG-JSON, in one line without spaces (DAG-JSON specification, over RFC 8259).
-use Rattle.std.specs.Prelude.{◌≡◌, ℕ, ◌/◌, ◌%◌, ◌==◌, ◌||◌, nat_lt, Bool, true, false, List, [], ◌∷◌, ◌++◌, codes, map}
-use Rattle.std.specs.Prelude.{slice_index, if◌then◌else◌, Result, OnOk}
-use Rattle.std.specs.List.{flat_map}
-use Rattle.std.specs.Str.{bytes_eq}
+use Rattle.std.specs.Prelude.{◌≡◌, ℕ, ◌/◌, ◌%◌, ◌==◌, ◌||◌, nat_lt, Bool, true, false, List, [], ◌∷◌, ◌++◌, codes, map, slice_index, if◌then◌else◌, Result, OnOk, flat_map, bytes_eq}
 use Rattle.std.specs.Fmt.{signed_decimal}
 use Rattle.std.specs.Ordering.{is_lt}
 use Rattle.base64.specs.GeneralPurpose.{encode_of}
 use Rattle.base64.specs.Engines.{standard_no_pad}
 use Rattle.ipld_tree.specs.Key.{bytes_cmp}
-use Rattle.ipld_tree.specs.Tree.{Tree, null, boolean, integer, text, bytes, list, mapping, link}
-use Rattle.ipld_tree.specs.Tree.{Items, no_items, item, Entries, no_entries, entry}
+use Rattle.ipld_tree.specs.Tree.{Tree, null, boolean, integer, text, bytes, list, mapping, link, Items, no_items, item, Entries, no_entries, entry}
 use Rattle.cid_text.specs.Texts.{text_of_form}
 
 -- ---- texts

@@ -1,9 +1,6 @@
 -- What data a text of DAG-JSON is, or why it is none (DAG-JSON specification, over RFC 8259).
-use Rattle.std.specs.Prelude.{◌≡◌, ◌⊎◌, ℕ, suc, zero, ℤ, pos, negsuc, ◌^◌, ◌==◌, ◌≤◌, ⊤, nat_lt, nat_le, Bool, true, false, ◌&&◌, ◌||◌}
-use Rattle.std.specs.Prelude.{List, [], ◌∷◌, codes, IsUtf8, if◌then◌else◌, Option, Some, None, Result, Ok, Err, MatchResult}
-use Rattle.std.specs.Bool.{MatchBool}
+use Rattle.std.specs.Prelude.{◌≡◌, ◌⊎◌, ℕ, suc, zero, ℤ, pos, negsuc, ◌^◌, ◌==◌, ◌≤◌, ⊤, nat_lt, nat_le, Bool, true, false, ◌&&◌, ◌||◌, List, [], ◌∷◌, codes, IsUtf8, if◌then◌else◌, Option, Some, None, Result, Ok, Err, MatchResult, MatchBool, bytes_eq}
 use Rattle.std.specs.Char.{is_ascii_digit}
-use Rattle.std.specs.Str.{bytes_eq}
 use Rattle.std.specs.Str.Parse.{signed_digits_value}
 use Rattle.json.specs.Token.{Token}
 use Rattle.json.specs.Lex.{tokens}
@@ -13,17 +10,14 @@ use Rattle.base64.specs.GeneralPurpose.{decode_of}
 use Rattle.base64.specs.Engines.{standard_no_pad}
 use Rattle.base64.specs.declared.decode.DecodeError.{DecodeError}
 use Rattle.ipld_tree.specs.Cid.{CidParts, cid_bytes}
-use Rattle.ipld_tree.specs.Tree.{Tree, null, boolean, integer, text, bytes, list, mapping, link}
-use Rattle.ipld_tree.specs.Tree.{Items, no_items, item, Entries, no_entries, entry}
-use Rattle.ipld_tree.specs.Tree.{IsTree, items_of, ordered_entries, has_key, any_need}
+use Rattle.ipld_tree.specs.Tree.{Tree, null, boolean, integer, text, bytes, list, mapping, link, Items, no_items, item, Entries, no_entries, entry, IsTree, items_of, ordered_entries, has_key, any_need}
 use Rattle.ipld_tree.specs.Spelling.{IsSpellable}
 use Rattle.cid_text.specs.Alphabets.{AreBytes}
 use Rattle.dag_json.specs.DagJson.{dag_json, has_reserved_key}
 use Rattle.cid_text.specs.Texts.{IsTextOf, IsTextFault}
 use Rattle.cid_text.specs.declared.error.CidTextError.{CidTextError}
 use Rattle.dag_json.specs.declared.error.DagJsonError.{DagJsonError}
-use Rattle.dag_json.specs.declared.error.DagJsonError.TheVariants.{NoText, NoJson, TrailingData, TooDeep, Float}
-use Rattle.dag_json.specs.declared.error.DagJsonError.TheVariants.{OutOfRange, RepeatedKey, ReservedKey, NoCid, NoBase64}
+use Rattle.dag_json.specs.declared.error.DagJsonError.TheVariants.{NoText, NoJson, TrailingData, TooDeep, Float, OutOfRange, RepeatedKey, ReservedKey, NoCid, NoBase64}
 
 -- what is read, or why it is none
 abbrev pub Read : Type 0 → Type 0

@@ -1,12 +1,9 @@
 -- What is found in a file: one block, or those that links lead to.
-use Rattle.std.proofs.Common.{◌≡◌, inl, inr, ℕ, List, [], ◌∷◌, ◌++◌, append-nil, Bool, true, false, cond, refl, sym, ap, ◌∙◌, subst}
-use Rattle.std.specs.Prelude.{◌↔◌, IsTrue, Option, None, Some, is_some, option_map, Result, Ok, Err, IsErrAnd, Vec}
+use Rattle.std.proofs.Common.{◌≡◌, inl, inr, ℕ, List, [], ◌∷◌, ◌++◌, append-nil, Bool, true, false, cond, refl, sym, ap, ◌∙◌, subst, ◌↔◌, IsTrue, Option, None, Some, is_some, option_map, Result, Ok, Err, IsErrAnd, Vec, BTreeMap, Global, flat_map}
 use Rattle.std.specs.Io.KnownBytes.{Appends}
 use Rattle.std.proofs.KnownBytes.{Appends-nil}
 use Rattle.std.specs.Map.{lookup}
-use Rattle.std.specs.BTreeMap.{BTreeMap, is_at, get}
-use Rattle.std.specs.declared.alloc.Global.{Global}
-use Rattle.std.specs.List.{flat_map}
+use Rattle.std.specs.BTreeMap.{is_at, get}
 use Rattle.std.specs.declared.convert.Infallible.{Infallible}
 use Rattle.ipld_tree.specs.Cid.{CidParts, cid_bytes, cid_cmp}
 use Rattle.dagcbor_items.specs.Walks.{forms}

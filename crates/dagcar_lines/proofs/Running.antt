@@ -1,6 +1,6 @@
 -- What a run of a command says, where its input tells its bytes.
-use Rattle.std.proofs.Common.{◌≡◌, ◌≢◌, ◌⊎◌, inl, inr, ℕ, List, [], ◌∷◌, length, refl, sym, ap, ◌∙◌, subst, get_or}
-use Rattle.std.specs.Prelude.{Option, None, Some, IfSome, MatchOption, codes, ⊤, if◌then◌else◌, ◌==◌}
+use Rattle.std.proofs.Common.{◌≡◌, ◌≢◌, ◌⊎◌, inl, inr, ℕ, List, [], ◌∷◌, length, refl, sym, ap, ◌∙◌, subst, get_or, Option, None, Some, IfSome, MatchOption, codes, if◌then◌else◌, ◌==◌}
+use Rattle.std.specs.Prelude.{⊤}
 use Rattle.ipld_tree.specs.Cid.{CidParts}
 use Rattle.cid_text.specs.Texts.{IsTextOf, TextsTellCids}
 use Rattle.dagcar_lines.specs.Commands.{command_name, IsWordOf, IsCommand, IsCommandOn}

@@ -1,8 +1,5 @@
 -- What was said of a file so far, and how a run ends.
-use Rattle.std.proofs.Common.{◌≡◌, inl, inr, ℕ, List, [], ◌∷◌, ◌++◌, length, Bool, true, false, ◌&&◌, refl, sym, ap, ◌∙◌, subst, append_assoc, append-nil}
-use Rattle.std.specs.Prelude.{◌↔◌, IsTrue, Option, Some, Result, Ok, Err, MatchResult, OnOk, IfOk, IsErrAnd, Vec}
-use Rattle.std.specs.List.{flat_map}
-use Rattle.std.specs.declared.alloc.Global.{Global}
+use Rattle.std.proofs.Common.{◌≡◌, inl, inr, ℕ, List, [], ◌∷◌, ◌++◌, length, Bool, true, false, ◌&&◌, refl, sym, ap, ◌∙◌, subst, append_assoc, append-nil, ◌↔◌, IsTrue, Option, Some, Result, Ok, Err, MatchResult, OnOk, IfOk, IsErrAnd, Vec, flat_map, Global}
 use Rattle.std.specs.Io.KnownBytes.{Appends}
 use Rattle.std.proofs.KnownBytes.{Appends-nil, Appends-trans}
 use Rattle.std.specs.declared.convert.Infallible.{Infallible}

@@ -1,6 +1,5 @@
 -- A file that is taken section by section.
-use Rattle.std.proofs.Common.{◌≡◌, inl, inr, ℕ, List, [], ◌∷◌, ◌++◌, refl, sym, ◌∙◌, subst}
-use Rattle.std.specs.Prelude.{Option, Some, Result, Ok, Err, IfOk}
+use Rattle.std.proofs.Common.{◌≡◌, inl, inr, ℕ, List, [], ◌∷◌, ◌++◌, refl, sym, ◌∙◌, subst, Option, Some, Result, Ok, Err, IfOk}
 use Rattle.dagcbor_heads.specs.Reading.{Reading}
 use Rattle.dagcbor_car.specs.Car.{Section}
 use Rattle.dagcbor_car.specs.Extents.{within, wanting}

@@ -1,8 +1,5 @@
 -- What the program answers of bytes.
-use Rattle.std.specs.Prelude.{◌≡◌, ◌≢◌, ◌⊎◌, ◌↔◌, ℕ, codes, List, [], ◌++◌, Vec}
-use Rattle.std.specs.Prelude.{Bool, true, false, IsTrue, ⊤}
-use Rattle.std.specs.Prelude.{Result, Ok, Err, Option, IfOk, IsErr, if◌then◌else◌}
-use Rattle.std.specs.List.{flat_map}
+use Rattle.std.specs.Prelude.{◌≡◌, ◌≢◌, ◌⊎◌, ◌↔◌, ℕ, codes, List, [], ◌++◌, Vec, Bool, true, false, IsTrue, ⊤, Result, Ok, Err, Option, IfOk, IsErr, if◌then◌else◌, flat_map}
 use Rattle.std.specs.declared.alloc.Global.{Global}
 use Rattle.std.specs.declared.convert.Infallible.{Infallible}
 use Rattle.dagcbor_heads.specs.declared.error.DecodeError.{DecodeError}
@@ -24,8 +21,7 @@ use Rattle.dagcbor_car.specs.Verdicts.{IsVerdict}
 use Rattle.dagcbor_car.specs.Checks.{ListsMissing}
 use Rattle.dagcbor_car.specs.declared.verdict.Verdict.{Verdict}
 use Rattle.dagcbor_items.specs.PrintedNames.{kind_name, variant_name}
-use Rattle.dagcar_lines.specs.Lines.{line, told_line, listed_line, missing_line, root_line, is_well}
-use Rattle.dagcar_lines.specs.Lines.{cause_line, reserved_line, Says, SaysBoth}
+use Rattle.dagcar_lines.specs.Lines.{line, told_line, listed_line, missing_line, root_line, is_well, cause_line, reserved_line, Says, SaysBoth}
 use Rattle.dagcar_lines.specs.Speeches.{Speech, SaysBytes}
 use Rattle.dagcar_lines.specs.Finding.{IsGot, IsTree}
 use Rattle.dagcar_lines.specs.declared.command.Command.{Command}

@@ -1,6 +1,5 @@
 -- The lines that the program writes, and how a line goes out.
-use Rattle.std.specs.Prelude.{◌≡◌, ◌⊎◌, ℕ, List, [], ◌∷◌, ◌++◌, length, codes, Bool, true, false, Option, Result, MatchResult}
-use Rattle.std.specs.Fmt.{decimal}
+use Rattle.std.specs.Prelude.{◌≡◌, ◌⊎◌, ℕ, List, [], ◌∷◌, ◌++◌, length, codes, Bool, true, false, Option, Result, MatchResult, decimal}
 use Rattle.std.specs.Io.KnownBytes.{Appends}
 use Rattle.cid_text.specs.Texts.{text_of_form, cid_text}
 use Rattle.dagcbor_car.specs.Car.{Section}

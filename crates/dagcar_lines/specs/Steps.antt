@@ -1,6 +1,5 @@
 -- What is said of a file, step by step.
-use Rattle.std.specs.Prelude.{◌≡◌, ◌⊎◌, ◌∷◌, ℕ, List, [], ◌++◌, Vec, Bool, ⊤, Option, Some, Result}
-use Rattle.std.specs.Prelude.{MatchResult, OnOk, IfOk}
+use Rattle.std.specs.Prelude.{◌≡◌, ◌⊎◌, ◌∷◌, ℕ, List, [], ◌++◌, Vec, Bool, ⊤, Option, Some, Result, MatchResult, OnOk, IfOk}
 use Rattle.std.specs.Io.KnownBytes.{Appends}
 use Rattle.std.specs.declared.alloc.Global.{Global}
 use Rattle.std.specs.declared.convert.Infallible.{Infallible}

@@ -1,6 +1,5 @@
 -- What is taken of a file, section by section, whatever is done with a section.
-use Rattle.std.specs.Prelude.{◌≡◌, ◌⊎◌, ◌∷◌, ◌++◌, ℕ, List, [], Bool, Option, Some, Result}
-use Rattle.std.specs.Prelude.{MatchBool, MatchOption, IfOk}
+use Rattle.std.specs.Prelude.{◌≡◌, ◌⊎◌, ◌∷◌, ◌++◌, ℕ, List, [], Bool, Option, Some, Result, MatchBool, MatchOption, IfOk}
 use Rattle.std.specs.declared.convert.Infallible.{Infallible}
 use Rattle.dagcbor_heads.specs.Reading.{Reading}
 use Rattle.dagcbor_car.specs.Car.{Section}

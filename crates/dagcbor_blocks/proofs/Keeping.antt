@@ -1,12 +1,10 @@
 -- Keeping blocks, and finding them again.
-use Rattle.std.proofs.Common.{◌≡◌, inl, inr, ℕ, ◌<◌, ◌≤◌, List, [], ◌∷◌, map, Bool, true, false, cond, Ordering, Less, Equal, Greater, refl, sym, ap, ◌∙◌, subst, arith}
-use Rattle.std.specs.Prelude.{◌⊎◌, Option, None, Some, option_map, Result, Ok, Err, OnOk, OnErr, Vec}
-use Rattle.std.specs.declared.alloc.Global.{Global}
+use Rattle.std.proofs.Common.{◌≡◌, inl, inr, ℕ, ◌<◌, ◌≤◌, List, [], ◌∷◌, map, Bool, true, false, cond, Ordering, Less, Equal, Greater, refl, sym, ap, ◌∙◌, subst, arith, ◌⊎◌, Option, None, Some, option_map, Result, Ok, Err, OnOk, OnErr, Vec, Global, BTreeMap}
 use Rattle.std.specs.declared.convert.Infallible.{Infallible}
 use Rattle.std.specs.Ordering.{match_ordering}
 use Rattle.std.specs.List.{AllByRecursion}
 use Rattle.std.specs.Map.{lookup}
-use Rattle.std.specs.BTreeMap.{BTreeMap, is_at, insert_entry, get, Updates}
+use Rattle.std.specs.BTreeMap.{is_at, insert_entry, get, Updates}
 use mathlib.Core.List.{is_set as List-set}
 use Rattle.std.proofs.Math.Nat.{ℕ_set}
 use Rattle.std.proofs.Math.Logic.{∥∥₁_elim, ∥∥₁_map}

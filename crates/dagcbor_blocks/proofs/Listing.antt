@@ -1,12 +1,9 @@
 -- The links in held blocks that name no held block.
-use Rattle.std.proofs.Common.{◌≡◌, ◌⊎◌, inl, inr, ℕ, List, [], ◌∷◌, ◌++◌, Bool, true, false, cond, refl, sym, ap, ◌∙◌, subst, arith, append_assoc, append-nil}
-use Rattle.std.specs.Prelude.{◌↔◌, Option, None, Some, Vec}
-use Rattle.std.specs.declared.alloc.Global.{Global}
+use Rattle.std.proofs.Common.{◌≡◌, ◌⊎◌, inl, inr, ℕ, List, [], ◌∷◌, ◌++◌, Bool, true, false, cond, refl, sym, ap, ◌∙◌, subst, arith, append_assoc, append-nil, ◌↔◌, Option, None, Some, Vec, Global, BTreeMap, BTreeSet}
 use Rattle.std.specs.declared.convert.Infallible.{Infallible}
 use Rattle.std.specs.List.{AllByRecursion}
 use Rattle.std.specs.Map.{lookup, values_of}
-use Rattle.std.specs.BTreeMap.{BTreeMap, is_at, get}
-use Rattle.std.specs.BTreeSet.{BTreeSet}
+use Rattle.std.specs.BTreeMap.{is_at, get}
 use mathlib.Core.List.{is_set as List-set}
 use Rattle.std.proofs.Math.Nat.{ℕ_set}
 use Rattle.std.proofs.Math.Logic.{∥∥₁_elim}
@@ -17,11 +14,10 @@ use Rattle.serde_ipld_dagcbor.specs.DecodeError.TheVariants as unread
 use Rattle.serde_ipld_dagcbor.specs.Cid.{CidParts, AreCidParts, cid_bytes, cid_cmp}
 use Rattle.serde_ipld_dagcbor.specs.Tree.{Tree, links_of}
 use Rattle.serde_ipld_dagcbor.specs.Spelling.{spelling, IsSpelling, IsFront}
-use Rattle.serde_ipld_dagcbor.specs.Slices.{IsBlock}
-use Rattle.serde_ipld_dagcbor.specs.Slices.{AreFirstLinks, LinksRefused}
+use Rattle.serde_ipld_dagcbor.specs.Slices.{IsBlock, AreFirstLinks, LinksRefused}
 use Rattle.serde_ipld_dagcbor.specs.Walks.{forms}
 use Rattle.serde_ipld_dagcbor.specs.GrammarLaws.{SpellingsAreUnique, CidEqualityIsOfBytes}
-use Rattle.dagcbor_car.specs.Names.{block_name}
+use Rattle.dagcbor_car.specs.Names.{block_name, IsInline}
 use Rattle.dagcbor_blocks.specs.Errors.{TellsOfDecoding}
 use Rattle.dagcbor_blocks.specs.Sound.{IsSound}
 use Rattle.dagcbor_car.specs.Sets.{Among}
@@ -32,7 +28,6 @@ use Rattle.dagcbor_blocks.specs.declared.error.BlockError.TheVariants.{OutOfMemo
 use Rattle.dagcbor_blocks.proofs.Unique.{front_unique, cid_unique, whole_front}
 use Rattle.dagcbor_blocks.proofs.Keeping.{BlockEntry, shown}
 use Rattle.dagcbor_blocks.proofs.Members.{all_among, found_among}
-use Rattle.dagcbor_car.specs.Names.{IsInline}
 use Rattle.dagcbor_car.specs.Within.{IsReached, ListsReached, AreFirstNames}
 use Rattle.dagcbor_car.proofs.Within.{reached_cid, not_inline}
 use Rattle.dagcbor_car.proofs.Members.{among_map, map_among, among_push, push_among, same_at}

@@ -1,11 +1,9 @@
 -- Links that name no held block.
-use Rattle.std.proofs.Common.{◌≡◌, ◌⊎◌, inl, inr, ℕ, ◌+◌, ◌<◌, ◌≤◌, List, [], ◌∷◌, ◌++◌, length, get_or, take, Bool, true, false, cond, refl, sym, ap, ◌∙◌, subst, arith, add-one}
-use Rattle.std.specs.Prelude.{◌↔◌, Option, None, Some, is_some, Ok}
+use Rattle.std.proofs.Common.{◌≡◌, ◌⊎◌, inl, inr, ℕ, ◌+◌, ◌<◌, ◌≤◌, List, [], ◌∷◌, ◌++◌, length, get_or, take, Bool, true, false, cond, refl, sym, ap, ◌∙◌, subst, arith, add-one, ◌↔◌, Option, None, Some, is_some, Ok, BTreeMap, BTreeSet, take-suc}
 use Rattle.std.specs.List.{AllByRecursion}
-use Rattle.std.specs.BTreeMap.{BTreeMap, is_at, get}
+use Rattle.std.specs.BTreeMap.{is_at, get}
 use Rattle.std.specs.BTreeSet as set
-use Rattle.std.specs.BTreeSet.{BTreeSet}
-use Rattle.std.proofs.Math.Seq.{take-suc, take-length}
+use Rattle.std.proofs.Math.Seq.{take-length}
 use Rattle.serde_ipld_dagcbor.specs.Cid.{CidParts, AreCidParts, cid_cmp}
 use Rattle.dagcbor_car.specs.Sets.{Among}
 use Rattle.dagcbor_car.proofs.Members.{at_same, same_at, any_among, among_any, among_push, push_among}

@@ -1,8 +1,6 @@
 -- A store that holds nothing lacks nothing.
-use Rattle.std.proofs.Common.{◌≡◌, ℕ, List, [], ◌∷◌, length, map, Result, Ok, Err, Vec, refl, sym, ap, subst, arith, rules}
-use Rattle.std.specs.Prelude.{◌≢◌, OnErr}
+use Rattle.std.proofs.Common.{◌≡◌, ℕ, List, [], ◌∷◌, length, map, Result, Ok, Err, Vec, refl, sym, ap, subst, arith, rules, ◌≢◌, OnErr, Global}
 use Rattle.std.specs.List.Sorted.{IsStrictlySortedBy}
-use Rattle.std.specs.declared.alloc.Global.{Global}
 use Rattle.serde_ipld_dagcbor.specs.Cid.{CidParts, cid_cmp}
 use Rattle.serde_ipld_dagcbor.specs.Walks.{forms}
 use Rattle.dagcbor_car.specs.Sets.{Among}

@@ -1,8 +1,5 @@
 -- The blocks that links lead to within a store, and the file of them.
-use Rattle.std.proofs.Common.{◌≡◌, inr, ℕ, List, [], ◌∷◌, Bool, false, refl, sym, ap, subst}
-use Rattle.std.specs.Prelude.{Option, None, Some, is_some, Err, Vec}
-use Rattle.std.specs.declared.alloc.Global.{Global}
-use Rattle.std.specs.BTreeMap.{BTreeMap}
+use Rattle.std.proofs.Common.{◌≡◌, inr, ℕ, List, [], ◌∷◌, Bool, false, refl, sym, ap, subst, Option, None, Some, is_some, Err, Vec, Global, BTreeMap}
 use Rattle.serde_ipld_dagcbor.specs.Cid.{CidParts, cid_bytes}
 use Rattle.serde_ipld_dagcbor.specs.Written.{Written, WroteAll, Stops}
 use Rattle.serde_ipld_dagcbor.specs.EncodeError.{EncodeError}

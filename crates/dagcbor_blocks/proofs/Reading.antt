@@ -1,6 +1,5 @@
 -- A file that is read into a store, section by section.
-use Rattle.std.proofs.Common.{◌≡◌, ◌⊎◌, inl, inr, ℕ, List, [], ◌∷◌, ◌++◌, sym, subst}
-use Rattle.std.specs.Prelude.{Option, Some, Err}
+use Rattle.std.proofs.Common.{◌≡◌, ◌⊎◌, inl, inr, ℕ, List, [], ◌∷◌, ◌++◌, sym, subst, Option, Some, Err}
 use Rattle.std.specs.List.{AllByRecursion}
 use Rattle.dagcbor_heads.proofs.Taking.{stays_both}
 use Rattle.serde_ipld_dagcbor.specs.Reading.{Reading, Stays}

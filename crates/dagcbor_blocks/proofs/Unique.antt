@@ -1,6 +1,5 @@
 -- What follows of the laws that the code calls: that no two trees share a spelling, and that CIDs are equal as their binary forms are.
-use Rattle.std.proofs.Common.{◌≡◌, ℕ, List, [], false, sym, ◌∙◌, append-nil}
-use Rattle.std.specs.Prelude.{Result, Ok, Err, OnOk, is_err}
+use Rattle.std.proofs.Common.{◌≡◌, ℕ, List, [], false, sym, ◌∙◌, append-nil, Result, Ok, Err, OnOk, is_err}
 use Rattle.serde_ipld_dagcbor.specs.Cid.{CidParts, AreCidParts, cid_bytes, cid_cmp}
 use Rattle.serde_ipld_dagcbor.specs.CidHash.{same_cid, is_equal}
 use Rattle.serde_ipld_dagcbor.specs.Tree.{Tree}

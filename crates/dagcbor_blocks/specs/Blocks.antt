@@ -1,7 +1,5 @@
 -- What a store of blocks holds, and what its calls answer.
-use Rattle.std.specs.Prelude.{◌≡◌, ◌≢◌, ◌↔◌, ◌⊎◌, [], ◌∷◌, ℕ, ◌<◌, List, map, Option}
-use Rattle.std.specs.Prelude.{None, Some, IfSome, IsSomeAnd, Result, MatchResult, Vec}
-use Rattle.std.specs.Prelude.{⊤, true}
+use Rattle.std.specs.Prelude.{◌≡◌, ◌≢◌, ◌↔◌, ◌⊎◌, [], ◌∷◌, ℕ, ◌<◌, List, map, Option, None, Some, IfSome, IsSomeAnd, Result, MatchResult, Vec, ⊤, true}
 use Rattle.std.specs.List.Sorted.{IsStrictlySortedBy}
 use Rattle.std.specs.Map.{lookup}
 use Rattle.std.specs.BTreeMap.{is_at}
@@ -23,8 +21,7 @@ use Rattle.dagcbor_car.specs.Names.{block_name}
 use Rattle.dagcbor_car.specs.Sets.{Among}
 use Rattle.dagcbor_car.specs.Within.{IsInlineForm, IsReached}
 use Rattle.dagcbor_blocks.specs.declared.error.BlockError.{BlockError}
-use Rattle.dagcbor_blocks.specs.declared.error.BlockError.TheVariants.{Encode, Decode, Collision}
-use Rattle.dagcbor_blocks.specs.declared.error.BlockError.TheVariants.{OutOfMemory}
+use Rattle.dagcbor_blocks.specs.declared.error.BlockError.TheVariants.{Encode, Decode, Collision, OutOfMemory}
 use Rattle.dagcbor_blocks.specs.declared.store.Blocks.{Blocks}
 use Rattle.serde_ipld_dagcbor.specs.Reading.{default_steps}
 

@@ -1,6 +1,5 @@
 -- Blocks that are kept and handed out as bytes.
-use Rattle.std.specs.Prelude.{◌≡◌, ◌≢◌, ◌↔◌, ℕ, List, [], ◌∷◌, map, is_some, Bool, Some, Result}
-use Rattle.std.specs.Prelude.{MatchResult, Vec}
+use Rattle.std.specs.Prelude.{◌≡◌, ◌≢◌, ◌↔◌, ℕ, List, [], ◌∷◌, map, is_some, Bool, Some, Result, MatchResult, Vec}
 use Rattle.std.specs.List.Sorted.{IsStrictlySortedBy}
 use Rattle.std.specs.declared.alloc.Global.{Global}
 use Rattle.serde_ipld_dagcbor.specs.Cid.{CidParts, cid_cmp}
@@ -11,9 +10,7 @@ use Rattle.dagcbor_car.specs.declared.verdict.Verdict.TheVariants as verdict
 use Rattle.dagcbor_blocks.specs.Blocks.{Held, block_at, HoldsAlso, HoldsOther}
 use Rattle.dagcbor_blocks.specs.Cars.{IsNamedBlock}
 use Rattle.dagcbor_blocks.specs.declared.put_error.PutBlockError.{PutBlockError}
-use Rattle.dagcbor_blocks.specs.declared.put_error.PutBlockError.TheVariants.{OtherHash, OtherBytes}
-use Rattle.dagcbor_blocks.specs.declared.put_error.PutBlockError.TheVariants.{OtherCodec, NoBlock}
-use Rattle.dagcbor_blocks.specs.declared.put_error.PutBlockError.TheVariants.{Collision, OutOfMemory}
+use Rattle.dagcbor_blocks.specs.declared.put_error.PutBlockError.TheVariants.{OtherHash, OtherBytes, OtherCodec, NoBlock, Collision, OutOfMemory}
 
 -- why bytes are no block under a name
 abbrev pub IsNoBlock : Section → PutBlockError → Type 0

@@ -1,6 +1,5 @@
 -- What is read into a store from a file of blocks.
-use Rattle.std.specs.Prelude.{◌≡◌, ◌⊎◌, ℕ, ◌-◌, ◌^◌, List, length, Option, Some}
-use Rattle.std.specs.Prelude.{Result, Err, MatchResult, Vec}
+use Rattle.std.specs.Prelude.{◌≡◌, ◌⊎◌, ℕ, ◌-◌, ◌^◌, List, length, Option, Some, Result, Err, MatchResult, Vec}
 use Rattle.std.specs.List.{AllByRecursion}
 use Rattle.std.specs.declared.alloc.Global.{Global}
 use Rattle.serde_ipld_dagcbor.specs.Reading.{Reading, Stays}
@@ -11,8 +10,7 @@ use Rattle.dagcbor_car.specs.Car.{Section}
 use Rattle.dagcbor_car.specs.Versions.{IsFile}
 use Rattle.dagcbor_car.specs.Extents.{within, wanting, of_file}
 use Rattle.dagcbor_car.specs.Splits.{HasBlock}
-use Rattle.dagcbor_car.specs.Sources.{CarRefuses, RefusesStart, RefusesNext, TakesSectionBytes}
-use Rattle.dagcbor_car.specs.Sources.{LacksMemoryIf, FileLacks, SectionLacks}
+use Rattle.dagcbor_car.specs.Sources.{CarRefuses, RefusesStart, RefusesNext, TakesSectionBytes, LacksMemoryIf, FileLacks, SectionLacks}
 use Rattle.dagcbor_car.specs.Checks.{IsFileFront, StandBehind}
 use Rattle.dagcbor_car.specs.Verdicts.{IsVerdict}
 use Rattle.dagcbor_car.specs.declared.verdict.Verdict.TheVariants as verdict
@@ -20,10 +18,7 @@ use Rattle.dagcbor_car.specs.declared.error.CarError.{CarError}
 use Rattle.dagcbor_car.specs.declared.error.CarError.TheVariants as car
 use Rattle.dagcbor_blocks.specs.Blocks.{Held, HoldsAlso, HoldsOther}
 use Rattle.dagcbor_blocks.specs.declared.car_error.ReadCarError.{ReadCarError}
-use Rattle.dagcbor_blocks.specs.declared.car_error.ReadCarError.TheVariants.{Car, OtherHash}
-use Rattle.dagcbor_blocks.specs.declared.car_error.ReadCarError.TheVariants.{OtherBytes, OtherCodec}
-use Rattle.dagcbor_blocks.specs.declared.car_error.ReadCarError.TheVariants.{NoBlock, Collision}
-use Rattle.dagcbor_blocks.specs.declared.car_error.ReadCarError.TheVariants.{OutOfMemory}
+use Rattle.dagcbor_blocks.specs.declared.car_error.ReadCarError.TheVariants.{Car, OtherHash, OtherBytes, OtherCodec, NoBlock, Collision, OutOfMemory}
 
 -- ---- a section
 

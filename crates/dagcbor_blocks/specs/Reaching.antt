@@ -9,8 +9,7 @@ use Rattle.dagcbor_car.specs.Reaching.{Stored, sections_at, ListsReachable}
 use Rattle.dagcbor_blocks.specs.Blocks.{Held, block_at}
 use Rattle.dagcbor_blocks.specs.Bytes.{is_held}
 use Rattle.dagcbor_blocks.specs.declared.tree_error.WriteTreeError.{WriteTreeError}
-use Rattle.dagcbor_blocks.specs.declared.tree_error.WriteTreeError.TheVariants.{NotHeld, Write}
-use Rattle.dagcbor_blocks.specs.declared.tree_error.WriteTreeError.TheVariants.{OutOfMemory}
+use Rattle.dagcbor_blocks.specs.declared.tree_error.WriteTreeError.TheVariants.{NotHeld, Write, OutOfMemory}
 
 -- the held bytes under each name
 abbrev pub stored : Held → Stored

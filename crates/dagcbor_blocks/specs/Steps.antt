@@ -12,8 +12,7 @@ use Rattle.dagcbor_car.specs.Sets.{Among}
 use Rattle.dagcbor_car.specs.Splits.{HasBlock}
 use Rattle.dagcbor_blocks.specs.Blocks.{Held, ExceedsSteps, HoldsOther, HoldsAlso}
 use Rattle.dagcbor_blocks.specs.declared.error.BlockError.{BlockError}
-use Rattle.dagcbor_blocks.specs.declared.error.BlockError.TheVariants.{Decode, Collision}
-use Rattle.dagcbor_blocks.specs.declared.error.BlockError.TheVariants.{OutOfMemory}
+use Rattle.dagcbor_blocks.specs.declared.error.BlockError.TheVariants.{Decode, Collision, OutOfMemory}
 
 -- ---- putting
 

@@ -1,6 +1,5 @@
 -- What callers in other languages are answered.
-use Rattle.std.specs.Prelude.{◌≡◌, ◌≢◌, ◌⊎◌, ℕ, ◌-◌, ◌^◌, ◌≤◌, min, ℤ, negsuc, List, ◌++◌, length, take, drop}
-use Rattle.std.specs.Prelude.{Option, None, Some}
+use Rattle.std.specs.Prelude.{◌≡◌, ◌≢◌, ◌⊎◌, ℕ, ◌-◌, ◌^◌, ◌≤◌, min, ℤ, negsuc, List, ◌++◌, length, take, drop, Option, None, Some}
 use Rattle.std.specs.declared.convert.Infallible.{Infallible}
 use Rattle.dagcbor_heads.specs.Reading.{default_steps}
 use Rattle.dagcbor_heads.specs.declared.error.DecodeError.{DecodeError}
@@ -8,8 +7,7 @@ use Rattle.dagcbor_heads.specs.declared.error.DecodeError.TheVariants.{OutOfMemo
 use Rattle.ipld_tree.specs.Tree.{Tree, any_need}
 use Rattle.ipld_tree.specs.Spelling.{IsFront}
 use Rattle.dagcbor_items.specs.TreeKinds.{kind_of}
-use Rattle.dagcbor_items.specs.Slices.{IsBlock, SliceRefused}
-use Rattle.dagcbor_items.specs.Slices.{LinksRefused}
+use Rattle.dagcbor_items.specs.Slices.{IsBlock, SliceRefused, LinksRefused}
 use Rattle.dagcbor_items.specs.Stops.{StandsAt}
 use Rattle.dagcbor_calls.specs.Codes.{kind_code, refusal_code}
 use Rattle.dagcbor_calls.specs.Packed.{packed_links, with_front}

@@ -1,15 +1,11 @@
 -- The tokens of an item: its heads in the order of its spelling, from which a caller builds values.
-use Rattle.std.specs.Prelude.{◌≡◌, ◌≢◌, ℕ, ◌+◌, ◌-◌, ◌<◌, ◌≤◌, ℤ, pos, negsuc, Bool, true, false}
-use Rattle.std.specs.Prelude.{List, [], ◌∷◌, ◌++◌, length, drop, if◌then◌else◌, nat_lt, Option}
-use Rattle.std.specs.Prelude.{Result, MatchResult, MatchOption}
+use Rattle.std.specs.Prelude.{◌≡◌, ◌≢◌, ℕ, ◌+◌, ◌-◌, ◌<◌, ◌≤◌, ℤ, pos, negsuc, Bool, true, false, List, [], ◌∷◌, ◌++◌, length, drop, if◌then◌else◌, nat_lt, Option, Result, MatchResult, MatchOption}
 use Rattle.std.specs.declared.convert.Infallible.{Infallible}
 use Rattle.dagcbor_heads.specs.Head.{head}
 use Rattle.dagcbor_heads.specs.declared.error.DecodeError.{DecodeError}
 use Rattle.dagcbor_heads.specs.declared.error.DecodeError.TheVariants.{OutOfMemory}
-use Rattle.ipld_tree.specs.Tree.{Tree, null, boolean, integer, text, bytes, list, mapping, link}
-use Rattle.ipld_tree.specs.Tree.{Items, no_items, item, Entries, no_entries, entry}
-use Rattle.ipld_tree.specs.Spelling.{item_count, entry_count, text_spelling, spelling}
-use Rattle.ipld_tree.specs.Spelling.{IsSpelling, IsFront, AreFronts}
+use Rattle.ipld_tree.specs.Tree.{Tree, null, boolean, integer, text, bytes, list, mapping, link, Items, no_items, item, Entries, no_entries, entry}
+use Rattle.ipld_tree.specs.Spelling.{item_count, entry_count, text_spelling, spelling, IsSpelling, IsFront, AreFronts}
 use Rattle.dagcbor_items.specs.declared.kind.Kind.{Kind}
 use Rattle.dagcbor_items.specs.TreeKinds.{kind_of}
 use Rattle.dagcbor_items.specs.Slices.{IsBlock, SliceRefused}

@@ -1,6 +1,5 @@
 -- A CID at the front of bytes, and why there is none.
-use Rattle.std.proofs.Common.{◌≡◌, inl, inr, ℕ, ◌+◌, ◌^◌, ◌<◌, ◌≤◌, List, [], ◌∷◌, ◌++◌, take, drop, length, length-append, refl, sym, ap, ◌∙◌, arith, append-nil}
-use Rattle.std.proofs.lemmas.List.{length-take-le, take-append-drop}
+use Rattle.std.proofs.Common.{◌≡◌, inl, inr, ℕ, ◌+◌, ◌^◌, ◌<◌, ◌≤◌, List, [], ◌∷◌, ◌++◌, take, drop, length, length-append, refl, sym, ap, ◌∙◌, arith, append-nil, length-take-le, take-append-drop}
 use Rattle.ipld_tree.specs.Cid.{varint, CidParts, cid_parts, AreCidParts, cid_bytes}
 use Rattle.ipld_tree.specs.CidFault.{HasVarints, IsFault, IsVarintFault}
 use Rattle.ipld_tree.specs.declared.cid_error.CidError.{CidError}

@@ -1,9 +1,6 @@
 -- The shape of a header: its bytes before the list of roots and behind it, and the links of the list.
-use Rattle.std.proofs.Common.{◌≡◌, ◌≢◌, ℕ, suc, ◌+◌, ◌-◌, ◌<◌, List, [], ◌∷◌, ◌++◌, map, length, take, codes, Bool, refl, sym, ap, ◌∙◌, subst, arith, append_assoc}
-use Rattle.std.specs.Prelude.{◌↔◌, IsTrue, Option, Some, None, MatchOption}
+use Rattle.std.proofs.Common.{◌≡◌, ◌≢◌, ℕ, suc, ◌+◌, ◌-◌, ◌<◌, List, [], ◌∷◌, ◌++◌, map, length, take, codes, Bool, refl, sym, ap, ◌∙◌, subst, arith, append_assoc, ◌↔◌, IsTrue, Option, Some, None, MatchOption, bytes_eq, take-append-drop}
 use Rattle.std.specs.List.{IsSplitAt}
-use Rattle.std.specs.Str.{bytes_eq}
-use Rattle.std.proofs.lemmas.List.{take-append-drop}
 use Rattle.std.proofs.lemmas.Slice.Eq.{bytes_eq-Decides}
 use Rattle.dagcbor_heads.specs.Head.{head}
 use Rattle.dagcbor_heads.specs.Splits.{SplitsHead, BeginsWithHead}

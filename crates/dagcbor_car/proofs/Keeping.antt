@@ -1,11 +1,7 @@
 -- The names that a file holds.
-use Rattle.std.proofs.Common.{◌≡◌, ◌⊎◌, inl, inr, ℕ, zero, suc, ◌<◌, ◌≤◌, arith, nat_le, Bool, true, false, List, [], ◌∷◌, ◌++◌, length, take, Option, None, Some, slice_get, if◌then◌else◌, refl, sym, ap, ◌∙◌, subst}
-use Rattle.std.specs.Prelude.{◌↔◌, Result, Ok, Err, OnOk}
+use Rattle.std.proofs.Common.{◌≡◌, ◌⊎◌, inl, inr, ℕ, zero, suc, ◌<◌, ◌≤◌, arith, nat_le, Bool, true, false, List, [], ◌∷◌, ◌++◌, length, take, Option, None, Some, slice_get, if◌then◌else◌, refl, sym, ap, ◌∙◌, subst, ◌↔◌, Result, Ok, Err, OnOk, nat_cmp, is_eq, Equal, le-leb, leb-true}
 use Rattle.std.specs.Int.{w64, from_le_bytes}
-use Rattle.std.specs.Ordering.{nat_cmp, is_eq}
-use Rattle.std.specs.declared.cmp.Ordering.TheVariants.{Equal}
 use Rattle.std.specs.BTreeMap.{get, is_at}
-use Rattle.std.proofs.lemmas.Bool.{le-leb, leb-true}
 use Rattle.std.proofs.lemmas.Cmp.{ranked}
 use Rattle.ipld_tree.specs.Cid.{CidParts, AreCidParts, cid_cmp}
 use Rattle.ipld_tree.specs.CidHash.{is_equal}

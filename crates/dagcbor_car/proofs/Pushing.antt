@@ -1,6 +1,5 @@
 -- What is appended of a file to a writer.
-use Rattle.std.proofs.Common.{◌≡◌, ℕ, List, length, Some, Result, subst}
-use Rattle.std.specs.Result.{IsErrAnd}
+use Rattle.std.proofs.Common.{◌≡◌, ℕ, List, length, Some, Result, subst, IsErrAnd}
 use Rattle.dagcbor_heads.specs.Written.{Written, WroteAll, Stops, Writes}
 use Rattle.dagcbor_heads.specs.declared.error.EncodeError.{EncodeError}
 use Rattle.dagcbor_heads.proofs.Writing.{Writes_exit, Writes_then}

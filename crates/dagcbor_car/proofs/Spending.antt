@@ -1,7 +1,6 @@
 -- How much of a file is left.
-use Rattle.std.proofs.Common.{◌≡◌, ℕ, ◌+◌, ◌*◌, ◌<◌, ◌≤◌, min, List, [], ◌∷◌, ◌++◌, length, length-append, length-take, take, refl, sym, ap, ◌∙◌, subst, arith}
+use Rattle.std.proofs.Common.{◌≡◌, ℕ, ◌+◌, ◌*◌, ◌<◌, ◌≤◌, min, List, [], ◌∷◌, ◌++◌, length, length-append, length-take, take, refl, sym, ap, ◌∙◌, subst, arith, Option, None, Some, option_map, Result, Ok, Err, MatchResult}
 use lib.Seq.{take-append-add}
-use Rattle.std.specs.Prelude.{Option, None, Some, option_map, Result, Ok, Err, MatchResult}
 use Rattle.dagcbor_heads.specs.Reading.{Reading}
 use Rattle.dagcbor_heads.specs.Fronts.{Takes}
 use Rattle.dagcbor_heads.specs.Looking.{LooksAtMost, LooksAtTaken, LooksAtSome, LooksAtLeft, Looks, LooksSome}

@@ -1,12 +1,9 @@
 -- The start of a file of either version.
-use Rattle.std.proofs.Common.{◌≡◌, ◌⊎◌, inl, inr, ℕ, zero, suc, ◌+◌, ◌-◌, ◌*◌, ◌<◌, ◌≤◌, ◌^◌, min, true, false, List, [], ◌∷◌, ◌++◌, length, length-append, length-take, length-drop, drop_of_length-le, take, drop, take-append-drop, refl, sym, ap, ◌∙◌, subst, arith, append_assoc, append-nil}
+use Rattle.std.proofs.Common.{◌≡◌, ◌⊎◌, inl, inr, ℕ, zero, suc, ◌+◌, ◌-◌, ◌*◌, ◌<◌, ◌≤◌, ◌^◌, min, true, false, List, [], ◌∷◌, ◌++◌, length, length-append, length-take, length-drop, drop_of_length-le, take, drop, take-append-drop, refl, sym, ap, ◌∙◌, subst, arith, append_assoc, append-nil, ◌↔◌, Bool, IsTrue, Option, None, Some, option_map, Result, Ok, Err, MatchResult, Vec, flat_map, Global}
 use Rattle.std.proofs.lemmas.List.{take-append-le, drop-append-le}
 use Rattle.std.proofs.lemmas.Bool.{cases_lt}
 use lib.Seq.{take_all, take-take, drop-append_seam, drop-append-add}
 use Rattle.std.specs.Int.{w64, from_le_bytes}
-use Rattle.std.specs.Prelude.{◌↔◌, Bool, IsTrue, Option, None, Some, option_map, Result, Ok, Err, MatchResult, Vec}
-use Rattle.std.specs.List.{flat_map}
-use Rattle.std.specs.declared.alloc.Global.{Global}
 use Rattle.dagcbor_heads.specs.Reading.{Reading}
 use Rattle.dagcbor_heads.specs.Fronts.{Takes}
 use Rattle.dagcbor_heads.specs.Looking.{LooksAtMost, LooksAtSome, LooksAtLeft}

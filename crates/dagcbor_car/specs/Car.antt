@@ -1,9 +1,8 @@
 -- What a file of blocks is (CARv1 specification). A length is a varint, as in a CID.
-use Rattle.std.specs.Prelude.{ℕ, ◌^◌, ◌<◌, ◌≡◌, pos, List, ◌++◌, length, map, codes}
-use Rattle.std.specs.List.{AllByRecursion, flat_map}
+use Rattle.std.specs.Prelude.{ℕ, ◌^◌, ◌<◌, ◌≡◌, pos, List, ◌++◌, length, map, codes, flat_map}
+use Rattle.std.specs.List.{AllByRecursion}
 use Rattle.ipld_tree.specs.Cid.{varint, CidParts, AreCidParts, cid_bytes}
-use Rattle.ipld_tree.specs.Tree.{Tree, integer, list, mapping, link, no_entries, entry, items_of}
-use Rattle.ipld_tree.specs.Tree.{IsTree}
+use Rattle.ipld_tree.specs.Tree.{Tree, integer, list, mapping, link, no_entries, entry, items_of, IsTree}
 use Rattle.ipld_tree.specs.Spelling.{spelling, IsSpellable}
 
 -- the bytes behind their length

@@ -1,6 +1,5 @@
 -- What is found of a whole file of blocks.
-use Rattle.std.specs.Prelude.{◌≡◌, ◌≢◌, ◌↔◌, ◌⊎◌, ℕ, ◌+◌, List, [], ◌∷◌, ◌++◌, drop, ⊤, Option, Vec}
-use Rattle.std.specs.Prelude.{Result, MatchResult, MatchBool, Bool, Some, OnOk}
+use Rattle.std.specs.Prelude.{◌≡◌, ◌≢◌, ◌↔◌, ◌⊎◌, ℕ, ◌+◌, List, [], ◌∷◌, ◌++◌, drop, ⊤, Option, Vec, Result, MatchResult, MatchBool, Bool, Some, OnOk}
 use Rattle.std.specs.List.{AllByRecursion}
 use Rattle.std.specs.List.Sorted.{IsStrictlySortedBy}
 use Rattle.std.specs.declared.alloc.Global.{Global}
@@ -12,12 +11,9 @@ use Rattle.dagcbor_items.specs.Walks.{forms}
 use Rattle.dagcbor_car.specs.Car.{Section, IsHeader, IsSection, car_bytes}
 use Rattle.dagcbor_car.specs.Versions.{IsVersion2, begin_of, length_of, HasSpan, HoldsCar, IsFile}
 use Rattle.dagcbor_car.specs.Extents.{EndsThere}
-use Rattle.dagcbor_car.specs.Sources.{CarRefuses, RefusesStart, RefusesSection, RefusesNext}
-use Rattle.dagcbor_car.specs.Sources.{TakesSectionBytes, LacksMemoryIf, FileLacks}
-use Rattle.dagcbor_car.specs.Verdicts.{IsVerified, IsDagCbor, IsVerdict}
-use Rattle.dagcbor_car.specs.Verdicts.{Told, sections_of, AreTold, TellsAll, Tells}
-use Rattle.dagcbor_car.specs.Sets.{Among, members, AreCids}
-use Rattle.dagcbor_car.specs.Sets.{RemovesCid}
+use Rattle.dagcbor_car.specs.Sources.{CarRefuses, RefusesStart, RefusesSection, RefusesNext, TakesSectionBytes, LacksMemoryIf, FileLacks}
+use Rattle.dagcbor_car.specs.Verdicts.{IsVerified, IsDagCbor, IsVerdict, Told, sections_of, AreTold, TellsAll, Tells}
+use Rattle.dagcbor_car.specs.Sets.{Among, members, AreCids, RemovesCid}
 use Rattle.dagcbor_car.specs.Held.{IsKept, AddsName, AreNames}
 use Rattle.dagcbor_car.specs.Within.{IsInlineForm, IsWithin, AddsReached}
 use Rattle.dagcbor_car.specs.declared.verdict.Verdict.{Verdict}

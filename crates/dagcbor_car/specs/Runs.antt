@@ -1,7 +1,6 @@
 -- What comes of runs of calls: what `next` gives of a file, and what `write` makes of sections.
-use Rattle.std.specs.Prelude.{◌≡◌, ◌≢◌, ◌⊎◌, ℕ, Bool, false, List, [], ◌∷◌, ⊤, Option, None, Some}
-use Rattle.std.specs.Prelude.{Result, Ok, Err, MatchResult, Vec}
-use Rattle.std.specs.List.{AllByRecursion, flat_map}
+use Rattle.std.specs.Prelude.{◌≡◌, ◌≢◌, ◌⊎◌, ℕ, Bool, false, List, [], ◌∷◌, ⊤, Option, None, Some, Result, Ok, Err, MatchResult, Vec, flat_map}
+use Rattle.std.specs.List.{AllByRecursion}
 use Rattle.std.specs.declared.alloc.Global.{Global}
 use Rattle.dagcbor_heads.specs.Reading.{Reading}
 use Rattle.dagcbor_heads.specs.Written.{Written, WroteAll}
@@ -11,8 +10,7 @@ use Rattle.dagcbor_car.specs.Car.{Section, section_bytes, car_bytes, IsCar}
 use Rattle.dagcbor_car.specs.Splits.{SplitsSection}
 use Rattle.dagcbor_car.specs.Versions.{IsFile}
 use Rattle.dagcbor_car.specs.Extents.{within, wanting}
-use Rattle.dagcbor_car.specs.Sources.{RefusesSection, SectionStream, section_stream, GivesSection}
-use Rattle.dagcbor_car.specs.Sources.{Begins}
+use Rattle.dagcbor_car.specs.Sources.{RefusesSection, SectionStream, section_stream, GivesSection, Begins}
 use Rattle.dagcbor_car.specs.Writers.{WriterState, BeginsCar, WritesSection}
 use Rattle.dagcbor_car.specs.declared.error.CarError.{CarError}
 use Rattle.dagcbor_car.specs.declared.error.CarError.TheVariants.{Read, OutOfMemory}

@@ -1,8 +1,6 @@
 -- What is taken of a file that comes from a reader, and why it is not.
-use Rattle.std.specs.Prelude.{◌≡◌, ◌≢◌, ◌⊎◌, ℕ, ◌+◌, ◌*◌, ◌<◌, List, [], ◌++◌, length, Bool, true, false, ⊤}
-use Rattle.std.specs.Prelude.{Option, None, Some, Result, Ok, Err, is_err, Vec}
+use Rattle.std.specs.Prelude.{◌≡◌, ◌≢◌, ◌⊎◌, ℕ, ◌+◌, ◌*◌, ◌<◌, List, [], ◌++◌, length, Bool, true, false, ⊤, Option, None, Some, Result, Ok, Err, is_err, Vec, MatchBool, MatchOption, MatchResult}
 use Rattle.std.specs.declared.alloc.Global.{Global}
-use Rattle.std.specs.Prelude.{MatchBool, MatchOption, MatchResult}
 use Rattle.dagcbor_heads.specs.Reading.{Reading}
 use Rattle.dagcbor_heads.specs.Fronts.{Takes}
 use Rattle.dagcbor_heads.specs.Inputs.{input_reading}
@@ -12,8 +10,7 @@ use Rattle.dagcbor_heads.specs.declared.error.DecodeError.TheVariants as unread
 use Rattle.ipld_tree.specs.Cid.{CidParts}
 use Rattle.dagcbor_items.specs.Walks.{forms}
 use Rattle.dagcbor_car.specs.Car.{Section, section_bytes, IsSection, header_bytes, IsHeader}
-use Rattle.dagcbor_car.specs.Splits.{BeginsNoSection, SectionFault, BeginsNoHeader, HeaderFault}
-use Rattle.dagcbor_car.specs.Splits.{CountsBlock}
+use Rattle.dagcbor_car.specs.Splits.{BeginsNoSection, SectionFault, BeginsNoHeader, HeaderFault, CountsBlock}
 use Rattle.dagcbor_car.specs.Versions.{begin_of, length_of, HasSpan, HoldsCar, SpanFault}
 use Rattle.dagcbor_car.specs.Extents.{within, wanting, of_file, Spends, TakesOff, EndsThere}
 use Rattle.dagcbor_car.specs.declared.error.CarError.{CarError}

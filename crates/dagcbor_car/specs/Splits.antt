@@ -1,6 +1,5 @@
 -- What stands at the front of the bytes of a file, and why it does not.
-use Rattle.std.specs.Prelude.{◌≡◌, ◌≢◌, ◌⊎◌, ℕ, ◌^◌, ◌<◌, List, ◌++◌, length, map}
-use Rattle.std.specs.Prelude.{Result, MatchResult, Vec}
+use Rattle.std.specs.Prelude.{◌≡◌, ◌≢◌, ◌⊎◌, ℕ, ◌^◌, ◌<◌, List, ◌++◌, length, map, Result, MatchResult, Vec}
 use Rattle.std.specs.declared.alloc.Global.{Global}
 use Rattle.dagcbor_heads.specs.declared.error.DecodeError.TheVariants as unread
 use Rattle.ipld_tree.specs.Cid.{varint, CidParts, AreCidParts, cid_bytes}
@@ -10,12 +9,9 @@ use Rattle.ipld_tree.specs.Tree.{Tree, link, items_of}
 use Rattle.ipld_tree.specs.Spelling.{IsSpelling, AreFronts}
 use Rattle.dagcbor_items.specs.Slices.{IsBlock, SliceRefused}
 use Rattle.dagcbor_items.specs.Walks.{forms}
-use Rattle.dagcbor_car.specs.Car.{counted, Section, section_bytes, IsSection}
-use Rattle.dagcbor_car.specs.Car.{header_tree, header_bytes, IsHeader}
+use Rattle.dagcbor_car.specs.Car.{counted, Section, section_bytes, IsSection, header_tree, header_bytes, IsHeader}
 use Rattle.dagcbor_car.specs.declared.error.CarError.{CarError}
-use Rattle.dagcbor_car.specs.declared.error.CarError.TheVariants.{Truncated, InvalidLength}
-use Rattle.dagcbor_car.specs.declared.error.CarError.TheVariants.{InvalidCid, NoBlock, OtherHeader}
-use Rattle.dagcbor_car.specs.declared.error.CarError.TheVariants.{OutOfMemory}
+use Rattle.dagcbor_car.specs.declared.error.CarError.TheVariants.{Truncated, InvalidLength, InvalidCid, NoBlock, OtherHeader, OutOfMemory}
 
 -- ---- what is counted
 

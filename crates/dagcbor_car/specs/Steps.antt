@@ -1,6 +1,5 @@
 -- What the steps of reading a file's start, and of finding its end, do.
-use Rattle.std.specs.Prelude.{◌≡◌, ◌≢◌, ℕ, ◌+◌, ◌*◌, ◌<◌, List, [], ◌++◌, length, true}
-use Rattle.std.specs.Prelude.{Option, None, Some}
+use Rattle.std.specs.Prelude.{◌≡◌, ◌≢◌, ℕ, ◌+◌, ◌*◌, ◌<◌, List, [], ◌++◌, length, true, Option, None, Some}
 use Rattle.dagcbor_heads.specs.Reading.{Reading, Keeps, Stays}
 use Rattle.dagcbor_heads.specs.Fronts.{Takes}
 use Rattle.dagcbor_heads.specs.Looking.{LooksAtMost}

@@ -10,8 +10,7 @@ use Rattle.dagcbor_items.specs.TreeKinds.{kind_of}
 use Rattle.dagcbor_car.specs.Names.{IsBySha256, IsInline}
 use Rattle.dagcbor_car.specs.Car.{Section}
 use Rattle.dagcbor_car.specs.declared.verdict.Verdict.{Verdict}
-use Rattle.dagcbor_car.specs.declared.verdict.Verdict.TheVariants.{Block, Refused, OtherBytes}
-use Rattle.dagcbor_car.specs.declared.verdict.Verdict.TheVariants.{NotRead, Unverified}
+use Rattle.dagcbor_car.specs.declared.verdict.Verdict.TheVariants.{Block, Refused, OtherBytes, NotRead, Unverified}
 
 -- the bytes are those that the name names: their SHA-256 is its digest, or they are its digest
 abbrev pub IsVerified : Section → Type 0

@@ -1,7 +1,5 @@
 -- How many bytes were looked at.
-use Rattle.std.proofs.Common.{◌≡◌, ℕ, ◌<◌, ◌+◌, ◌*◌, ◌≤◌, min, List, [], ◌∷◌, ◌++◌, length, ap, arith, length-append}
-use Rattle.std.proofs.Math.Nat.{mul-le-mul_left}
-use Rattle.std.specs.Prelude.{Some}
+use Rattle.std.proofs.Common.{◌≡◌, ℕ, ◌<◌, ◌+◌, ◌*◌, ◌≤◌, min, List, [], ◌∷◌, ◌++◌, length, ap, arith, length-append, mul-le-mul_left, Some}
 use Rattle.dagcbor_heads.specs.Reading.{Reading, Shows, Fails, Advances}
 use Rattle.dagcbor_heads.specs.Fronts.{Takes, Gathers}
 use Rattle.dagcbor_heads.specs.Looking.{LooksOnce, LooksAtTaken, LooksAtSome, LooksAtLeft, LooksAtMost}

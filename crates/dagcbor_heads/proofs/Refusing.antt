@@ -1,6 +1,5 @@
 -- A refusal of a part is a refusal of the whole.
-use Rattle.std.proofs.Common.{◌≡◌, ℕ, ◌<◌, List, sym, ap, ◌∙◌, arith, subst}
-use Rattle.std.specs.Prelude.{Some, Result, Ok, Err, MatchResult, IsErrAnd}
+use Rattle.std.proofs.Common.{◌≡◌, ℕ, ◌<◌, List, sym, ap, ◌∙◌, arith, subst, Some, Result, Ok, Err, MatchResult, IsErrAnd}
 use Rattle.dagcbor_heads.specs.Reading.{Reading, Stays}
 use Rattle.dagcbor_heads.specs.Causes.{ByteCause, HeadCause, IsFaultOrLack, IsEndNamed, IsPayloadNamed, IsNamed}
 use Rattle.dagcbor_heads.specs.Names.{Names}

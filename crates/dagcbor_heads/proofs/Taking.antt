@@ -1,7 +1,6 @@
 -- Bytes that are shown and taken.
-use Rattle.std.proofs.Common.{◌≡◌, ℕ, ◌+◌, ◌*◌, ◌≤◌, min, List, [], ◌∷◌, ◌++◌, length, take, drop, Option, Some, MatchOption, refl, sym, ap, subst, ◌∙◌, arith, append_assoc}
-use Rattle.std.proofs.lemmas.List.{take-append-drop, take-append-le, length-take-le}
-use Rattle.std.specs.List.{slice_get}
+use Rattle.std.proofs.Common.{◌≡◌, ℕ, ◌+◌, ◌*◌, ◌≤◌, min, List, [], ◌∷◌, ◌++◌, length, take, drop, Option, Some, MatchOption, refl, sym, ap, subst, ◌∙◌, arith, append_assoc, take-append-drop, length-take-le, slice_get}
+use Rattle.std.proofs.lemmas.List.{take-append-le}
 use Rattle.dagcbor_heads.specs.Reading.{Reading, Stays, Shows, Advances}
 use Rattle.dagcbor_heads.specs.Fronts.{FindsEnd, ShowsByte, Takes, Gathers}
 use Rattle.dagcbor_heads.specs.Looking.{LooksAtSome}

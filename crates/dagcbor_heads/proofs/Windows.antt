@@ -1,11 +1,9 @@
 -- Copies of a source's first bytes, and what is known of its bytes behind those that were taken.
-use Rattle.std.proofs.Common.{◌≡◌, ℕ, ◌+◌, ◌-◌, ◌<◌, ◌≤◌, min, List, [], ◌∷◌, ◌++◌, length, take, drop, Bool, true, false, ◌&&◌, Option, None, Some, IfSome, refl, sym, ap, ap₂, subst, ◌∙◌, arith, length-append, append_assoc}
-use Rattle.std.proofs.lemmas.List.{take_min, take-append-le, length-take, length-drop, drop-drop, drop-append-le}
+use Rattle.std.proofs.Common.{◌≡◌, ℕ, ◌+◌, ◌-◌, ◌<◌, ◌≤◌, min, List, [], ◌∷◌, ◌++◌, length, take, drop, Bool, true, false, ◌&&◌, Option, None, Some, IfSome, refl, sym, ap, ap₂, subst, ◌∙◌, arith, length-append, append_assoc, length-take, length-drop, drop-drop, le-leb, bytes_eq, nat_le, if◌then◌else◌, MatchOption}
+use Rattle.std.proofs.lemmas.List.{take_min, take-append-le, drop-append-le}
 use Rattle.std.proofs.lemmas.Slice.Eq.{bytes_eq-Decides}
 use Rattle.std.proofs.Math.Facts.{leb_yes}
-use Rattle.std.proofs.lemmas.Bool.{le-leb}
 use Rattle.std.proofs.lemmas.Float.{T_from_true}
-use Rattle.std.specs.Prelude.{bytes_eq, nat_le, if◌then◌else◌, MatchOption}
 use Rattle.std.specs.Io.BufRead.{DropsConsumable}
 use Rattle.dagcbor_heads.specs.Head.{head}
 use Rattle.dagcbor_heads.specs.Splits.{SplitsHead}

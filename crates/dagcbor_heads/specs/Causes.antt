@@ -1,15 +1,12 @@
 -- The causes of refusals that heads and payloads can have, each where it stands (RFC 8949, section
 -- 3).
-use Rattle.std.specs.Prelude.{◌≡◌, ◌==◌, ℕ, ◌%◌, ◌^◌, ◌<◌, ◌≤◌, List, [], ◌∷◌, ◌++◌, length}
-use Rattle.std.specs.Prelude.{if◌then◌else◌, ⊤}
+use Rattle.std.specs.Prelude.{◌≡◌, ◌==◌, ℕ, ◌%◌, ◌^◌, ◌<◌, ◌≤◌, List, [], ◌∷◌, ◌++◌, length, if◌then◌else◌, ⊤}
 use Rattle.std.specs.Int.{bytes_high_first}
 use Rattle.dagcbor_heads.specs.Lengths.{len_of}
 use Rattle.dagcbor_heads.specs.Names.{Names}
 use Rattle.dagcbor_heads.specs.declared.error.Len.TheVariants.{Small}
 use Rattle.dagcbor_heads.specs.declared.error.DecodeError.{DecodeError}
-use Rattle.dagcbor_heads.specs.declared.error.DecodeError.TheVariants.{Read, Eof, Unsupported}
-use Rattle.dagcbor_heads.specs.declared.error.DecodeError.TheVariants.{DepthOverflow, OutOfMemory}
-use Rattle.dagcbor_heads.specs.declared.error.DecodeError.TheVariants.{IndefiniteSize, NonMinimal}
+use Rattle.dagcbor_heads.specs.declared.error.DecodeError.TheVariants.{Read, Eof, Unsupported, DepthOverflow, OutOfMemory, IndefiniteSize, NonMinimal}
 
 -- how many bytes of argument stand behind a first byte with this additional information
 abbrev pub argument_width : ℕ → ℕ

@@ -1,7 +1,5 @@
 -- What contracts see of a reader over a buffered source.
-use Rattle.std.specs.Prelude.{◌≡◌, ℕ, ◌+◌, ◌/◌, ◌^◌, ◌<◌, ◌≤◌, Bool, ◌&&◌, true, List, [], ◌∷◌, ◌++◌}
-use Rattle.std.specs.Prelude.{length, take, drop, IfSome}
-use Rattle.std.specs.Prelude.{nat_le, bytes_eq, if◌then◌else◌, Option, None, Some}
+use Rattle.std.specs.Prelude.{◌≡◌, ℕ, ◌+◌, ◌/◌, ◌^◌, ◌<◌, ◌≤◌, Bool, ◌&&◌, true, List, [], ◌∷◌, ◌++◌, length, take, drop, IfSome, nat_le, bytes_eq, if◌then◌else◌, Option, None, Some}
 use Rattle.dagcbor_heads.specs.Head.{head}
 
 -- whether n bytes may be consumed at once

@@ -1,6 +1,5 @@
 -- What contracts see of a reader, and what its calls do to it.
-use Rattle.std.specs.Prelude.{◌≡◌, ℕ, ◌+◌, ◌-◌, ◌<◌, ◌≤◌, min, List, [], Bool, true, false, length}
-use Rattle.std.specs.Prelude.{take, drop, Option, Some}
+use Rattle.std.specs.Prelude.{◌≡◌, ℕ, ◌+◌, ◌-◌, ◌<◌, ◌≤◌, min, List, [], Bool, true, false, length, take, drop, Option, Some}
 use Rattle.dagcbor_heads.specs.declared.read.Reference.{Reference}
 use Rattle.dagcbor_heads.specs.declared.read.Reference.TheVariants.{Long, Short}
 

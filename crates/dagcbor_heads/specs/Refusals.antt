@@ -3,9 +3,7 @@ use Rattle.std.specs.Prelude.{◌≡◌, ℕ, ◌<◌, List, false, Some, Result
 use Rattle.dagcbor_heads.specs.Reading.{Reading, SpentStep}
 use Rattle.dagcbor_heads.specs.Causes.{IsDepthNamed}
 use Rattle.dagcbor_heads.specs.declared.error.DecodeError.{DecodeError}
-use Rattle.dagcbor_heads.specs.declared.error.DecodeError.TheVariants.{Read, RequireBorrowed}
-use Rattle.dagcbor_heads.specs.declared.error.DecodeError.TheVariants.{DepthOverflow, OutOfMemory}
-use Rattle.dagcbor_heads.specs.declared.error.DecodeError.TheVariants.{Failed}
+use Rattle.dagcbor_heads.specs.declared.error.DecodeError.TheVariants.{Read, RequireBorrowed, DepthOverflow, OutOfMemory, Failed}
 
 -- A refusal is one of these: a fault of the source, which was counted; want of memory, where the
 -- call may lack memory; a wish to borrow, where the call may have it and the reader does not lend;

@@ -1,6 +1,5 @@
 -- Texts that are kept up to a number of bytes.
-use Rattle.std.specs.Prelude.{◌≡◌, ℕ, ◌<◌, ◌≤◌, List, take}
-use Rattle.std.specs.Str.{IsCharBoundary}
+use Rattle.std.specs.Prelude.{◌≡◌, ℕ, ◌<◌, ◌≤◌, List, take, IsCharBoundary}
 use Rattle.dagcbor_heads.specs.declared.text.Text.{Text}
 
 -- the bytes of a kept text

@@ -1,6 +1,5 @@
 -- Reading the keys of maps.
-use Rattle.std.proofs.Common.{◌≡◌, inl, inr, ℕ, List, refl, sym, subst, Bool, true, false, zero-le}
-use Rattle.std.specs.Prelude.{Option, Some, None, IsTrue, IsUtf8, codes, Result, Err}
+use Rattle.std.proofs.Common.{◌≡◌, inl, inr, ℕ, List, refl, sym, subst, Bool, true, false, zero-le, Option, Some, None, IsTrue, IsUtf8, codes, Result, Err}
 use Rattle.std.specs.Borrow.{Bor}
 use Rattle.dagcbor_heads.specs.Reading.{Reading}
 use Rattle.dagcbor_heads.specs.Refusals.{Refuses}

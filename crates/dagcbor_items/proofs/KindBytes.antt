@@ -1,7 +1,5 @@
 -- The kind of an item, by its first byte.
-use Rattle.std.proofs.Common.{◌≡◌, ◌≢◌, ◌++◌, inl, inr, ℕ, ◌/◌, ◌≤◌, List, [], ◌∷◌, true, false, refl, sym, ap, ◌∙◌, subst, arith}
-use Rattle.std.specs.Prelude.{Option, IfSome}
-use Rattle.std.specs.List.{slice_get}
+use Rattle.std.proofs.Common.{◌≡◌, ◌≢◌, ◌++◌, inl, inr, ℕ, ◌/◌, ◌≤◌, List, [], ◌∷◌, true, false, refl, sym, ap, ◌∙◌, subst, arith, Option, IfSome, slice_get}
 use Rattle.ipld_tree.specs.Tree.{Tree, null, boolean, integer}
 use Rattle.ipld_tree.specs.Spelling.{spelling, IsFront}
 use Rattle.ipld_tree.proofs.Unique.{major, integer_major}

@@ -1,6 +1,5 @@
 -- Reading the items of a list.
-use Rattle.std.proofs.Common.{◌≡◌, ℕ, suc, ◌+◌, ◌-◌, ◌<◌, ◌≤◌, List, [], ◌∷◌, ◌++◌, length, map, refl, sym, ap, ◌∙◌, subst, arith, length-append, Vec, Global, false, cond, is_ok, is_err}
-use Rattle.std.specs.Prelude.{Result, Ok, Err, set}
+use Rattle.std.proofs.Common.{◌≡◌, ℕ, suc, ◌+◌, ◌-◌, ◌<◌, ◌≤◌, List, [], ◌∷◌, ◌++◌, length, map, refl, sym, ap, ◌∙◌, subst, arith, length-append, Vec, Global, false, cond, is_ok, is_err, Result, Ok, Err, set}
 use Rattle.std.proofs.Math.Seq.{set-append_seam}
 use Rattle.dagcbor_heads.specs.Head.{head}
 use Rattle.dagcbor_heads.specs.Reading.{Reading, with_steps}

@@ -1,13 +1,10 @@
 -- Names whose head has one byte, at the front of a slice.
-use Rattle.std.proofs.Common.{◌≡◌, Bool, true, false, not, ℕ, ◌+◌, ◌*◌, ◌<◌, List, ◌∷◌, ◌++◌, length, take, refl, sym, ap, ◌∙◌, arith, length-append}
-use Rattle.std.proofs.lemmas.List.{take-append-drop}
+use Rattle.std.proofs.Common.{◌≡◌, Bool, true, false, not, ℕ, ◌+◌, ◌*◌, ◌<◌, List, ◌∷◌, ◌++◌, length, take, refl, sym, ap, ◌∙◌, arith, length-append, take-append-drop, bytes_eq, IsUtf8}
 use Rattle.std.proofs.lemmas.Slice.Eq.{bytes_eq-Decides}
-use Rattle.std.specs.Str.{bytes_eq}
 use Rattle.std.specs.List.{IsSplitAt}
 use Rattle.dagcbor_heads.proofs.Heads.{head_whole}
 use Rattle.ipld_tree.specs.Spelling.{text_spelling, IsFront}
 use Rattle.ipld_tree.specs.Tree.{text}
-use Rattle.std.specs.Prelude.{IsUtf8}
 use Rattle.ipld_tree.proofs.Unique.{split_at_length}
 
 short_text : (name rest : List ℕ) → length name < 24 → text_spelling name ++ rest ≡ (32 * 3 + length name) ∷ (name ++ rest)

@@ -1,5 +1,5 @@
 -- The refusals of a part are among those of the whole.
-use Rattle.std.specs.Prelude.{List, ℕ}
+use Rattle.std.proofs.Common.{List, ℕ}
 use Rattle.dagcbor_heads.specs.Causes.{IsDepthNamed, IsEndNamed, IsPayloadNamed, IsNamed}
 use Rattle.dagcbor_heads.specs.declared.error.DecodeError.{DecodeError}
 use Rattle.dagcbor_heads.specs.declared.error.DecodeError.TheVariants.{Msg, Read, Eof, Unsupported, RequireUtf8, CastOverflow, DepthOverflow, IndefiniteSize, NonMinimal, UnorderedKey, OutOfMemory}

@@ -1,6 +1,5 @@
 -- Streams of items end: each item takes bytes, or is the last.
-use Rattle.std.proofs.Common.{◌≡◌, inl, inr, ℕ, ◌+◌, ◌<◌, Bool, true, false, List, length, refl, sym, subst, arith}
-use Rattle.std.specs.Prelude.{Option, None, Some, ◌⊎◌, MatchBool}
+use Rattle.std.proofs.Common.{◌≡◌, inl, inr, ℕ, ◌+◌, ◌<◌, Bool, true, false, List, length, refl, sym, subst, arith, Option, None, Some, ◌⊎◌, MatchBool}
 use Rattle.std.specs.Iterator.{Count, MakesProgress, IsFinite, size}
 use Rattle.dagcbor_items.specs.ItemsLeft.{items_left_of}
 

@@ -1,6 +1,5 @@
 -- An entry behind the last one, and what a `BTreeMap` makes of a key that comes behind all others.
-use Rattle.std.proofs.Common.{◌≡◌, inl, inr, ℕ, ◌+◌, ◌≤◌, max, List, [], ◌∷◌, refl, sym, ap, ◌∙◌, subst, arith, String, Global, string_bytes, string_cmp, Ordering, Less, Equal, Greater}
-use Rattle.std.specs.Prelude.{Some, ◌⊎◌}
+use Rattle.std.proofs.Common.{◌≡◌, inl, inr, ℕ, ◌+◌, ◌≤◌, max, List, [], ◌∷◌, refl, sym, ap, ◌∙◌, subst, arith, String, Global, string_bytes, string_cmp, Ordering, Less, Equal, Greater, Some, ◌⊎◌}
 use Rattle.std.specs.BTreeMap.{insert_entry}
 use Rattle.std.specs.List.Sorted.{IsStrictlySortedBy}
 use Rattle.std.specs.Map.{keys_of}

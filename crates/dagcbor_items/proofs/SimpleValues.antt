@@ -1,6 +1,5 @@
 -- Reading null, false and true.
-use Rattle.std.proofs.Common.{◌≡◌, ℕ, List, [], ◌∷◌, ◌++◌, Bool, true, refl, ap, ◌∙◌, subst, zero-le}
-use Rattle.std.specs.Prelude.{Some, Option, is_some, Result, Ok, Err, MatchResult, codes}
+use Rattle.std.proofs.Common.{◌≡◌, ℕ, List, [], ◌∷◌, ◌++◌, Bool, true, refl, ap, ◌∙◌, subst, zero-le, Some, Option, is_some, Result, Ok, Err, MatchResult, codes}
 use Rattle.dagcbor_heads.specs.Reading.{Reading}
 use Rattle.dagcbor_heads.specs.Fronts.{HasByte, Takes}
 use Rattle.dagcbor_heads.specs.Causes.{ByteCause}

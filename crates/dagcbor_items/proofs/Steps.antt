@@ -1,6 +1,5 @@
 -- Steps that are spent on entering an item, and given back at its end.
-use Rattle.std.proofs.Common.{◌≡◌, inl, ℕ, ◌+◌, ◌-◌, ◌≤◌, List, refl, sym, ap, ◌∙◌, arith}
-use Rattle.std.specs.Prelude.{Some}
+use Rattle.std.proofs.Common.{◌≡◌, inl, ℕ, ◌+◌, ◌-◌, ◌≤◌, List, refl, sym, ap, ◌∙◌, arith, Some}
 use Rattle.dagcbor_heads.specs.Reading.{Reading, SpentStep, with_steps}
 use Rattle.dagcbor_heads.specs.Refusals.{Refuses, NoStep}
 use Rattle.dagcbor_heads.specs.declared.name.Name.{Name}

@@ -1,6 +1,5 @@
 -- Where the judge stops, the cause is named, which then stands in all that was judged.
-use Rattle.std.proofs.Common.{◌≡◌, inl, inr, ℕ, ◌+◌, ◌-◌, ◌<◌, ◌≤◌, List, false, true, sym, ◌∙◌, subst, arith}
-use Rattle.std.specs.Prelude.{Option, Some, codes}
+use Rattle.std.proofs.Common.{◌≡◌, inl, inr, ℕ, ◌+◌, ◌-◌, ◌<◌, ◌≤◌, List, false, true, sym, ◌∙◌, subst, arith, Option, Some, codes}
 use Rattle.std.specs.declared.convert.Infallible.{Infallible}
 use Rattle.dagcbor_heads.specs.Reading.{Reading}
 use Rattle.dagcbor_heads.specs.Refusals.{Refuses}

@@ -1,6 +1,5 @@
 -- Texts and byte strings as items of unknown kind.
-use Rattle.std.proofs.Common.{◌≡◌, inl, inr, ℕ, ◌+◌, ◌<◌, List, ◌∷◌, refl, sym, ap, ◌∙◌, subst, arith, Vec, Global, ◌≤◌}
-use Rattle.std.specs.Prelude.{Option, Some, is_some, String, string_bytes, codes}
+use Rattle.std.proofs.Common.{◌≡◌, inl, inr, ℕ, ◌+◌, ◌<◌, List, ◌∷◌, refl, sym, ap, ◌∙◌, subst, arith, Vec, Global, ◌≤◌, Option, Some, is_some, String, string_bytes, codes}
 use Rattle.dagcbor_heads.specs.Reading.{Reading}
 use Rattle.dagcbor_heads.specs.Refusals.{Refuses}
 use Rattle.dagcbor_heads.specs.declared.error.DecodeError.{DecodeError}

@@ -1,9 +1,7 @@
 -- Reading texts and byte strings.
-use Rattle.std.proofs.Common.{◌≡◌, inl, inr, ℕ, ◌^◌, ◌<◌, List, ◌++◌, length, true, false, refl, sym, ap, ◌∙◌, subst, arith, append_assoc, zero-le}
-use Rattle.std.specs.Prelude.{Some, None, Option, is_some, Result, Ok, Err, MatchResult, IsUtf8, IfErr, codes}
+use Rattle.std.proofs.Common.{◌≡◌, inl, inr, ℕ, ◌^◌, ◌<◌, List, ◌++◌, length, true, false, refl, sym, ap, ◌∙◌, subst, arith, append_assoc, zero-le, Some, None, Option, is_some, Result, Ok, Err, MatchResult, IsUtf8, IfErr, codes, Global}
 use Rattle.std.specs.Cow.{cow_slice_items}
 use Rattle.std.specs.declared.borrow.CowSlice.{CowSlice}
-use Rattle.std.specs.declared.alloc.Global.{Global}
 use Rattle.dagcbor_heads.specs.Head.{head}
 use Rattle.dagcbor_heads.specs.Names.{Names}
 use Rattle.dagcbor_heads.specs.Reading.{Reading, Stays}

@@ -2,12 +2,7 @@
 -- those of no cause.
 use Rattle.std.specs.Prelude.{⊤}
 use Rattle.dagcbor_heads.specs.declared.error.DecodeError.{DecodeError}
-use Rattle.dagcbor_heads.specs.declared.error.DecodeError.TheVariants.{Msg, Read, Eof, Mismatch}
-use Rattle.dagcbor_heads.specs.declared.error.DecodeError.TheVariants.{Unsupported, RequireUtf8}
-use Rattle.dagcbor_heads.specs.declared.error.DecodeError.TheVariants.{CastOverflow, DepthOverflow}
-use Rattle.dagcbor_heads.specs.declared.error.DecodeError.TheVariants.{IndefiniteSize, NonMinimal}
-use Rattle.dagcbor_heads.specs.declared.error.DecodeError.TheVariants.{UnorderedKey, OutOfMemory}
-use Rattle.dagcbor_heads.specs.declared.error.DecodeError.TheVariants.{RequireBorrowed, Failed}
+use Rattle.dagcbor_heads.specs.declared.error.DecodeError.TheVariants.{Msg, Read, Eof, Mismatch, Unsupported, RequireUtf8, CastOverflow, DepthOverflow, IndefiniteSize, NonMinimal, UnorderedKey, OutOfMemory, RequireBorrowed, Failed}
 
 -- of no cause in the bytes: `Refuses` says where these may come. The last two come of reads of types
 -- alone.

@@ -1,6 +1,5 @@
 -- What a read of a map's entries answers and refuses.
-use Rattle.std.specs.Prelude.{◌≡◌, ℕ, ◌++◌, ◌<◌, ◌≤◌, length, true, false, List, Option, None, Some, is_some, Result}
-use Rattle.std.specs.Prelude.{MatchResult, ⊤, String, IsUtf8, codes}
+use Rattle.std.specs.Prelude.{◌≡◌, ℕ, ◌++◌, ◌<◌, ◌≤◌, length, true, false, List, Option, None, Some, is_some, Result, MatchResult, ⊤, String, IsUtf8, codes}
 use Rattle.std.specs.Borrow.{Bor}
 use Rattle.std.specs.BTreeMap.{BTreeMap}
 use Rattle.std.specs.Cow.{cow_str_bytes}

@@ -1,11 +1,9 @@
 -- The causes of refusals that an item of unknown kind can have, each where it stands.
-use Rattle.std.specs.Prelude.{◌≡◌, ℕ, ◌+◌, ◌*◌, ◌/◌, ◌<◌, ◌≤◌, ◌⊎◌, false, List, ◌∷◌, Option, Some}
-use Rattle.std.specs.Prelude.{codes}
+use Rattle.std.specs.Prelude.{◌≡◌, ℕ, ◌+◌, ◌*◌, ◌/◌, ◌<◌, ◌≤◌, ◌⊎◌, false, List, ◌∷◌, Option, Some, codes}
 use Rattle.dagcbor_heads.specs.Causes.{HeadCause}
 use Rattle.dagcbor_heads.specs.Names.{Names}
 use Rattle.dagcbor_heads.specs.declared.error.DecodeError.{DecodeError}
-use Rattle.dagcbor_heads.specs.declared.error.DecodeError.TheVariants.{Unsupported, DepthOverflow}
-use Rattle.dagcbor_heads.specs.declared.error.DecodeError.TheVariants.{UnorderedKey, IndefiniteSize}
+use Rattle.dagcbor_heads.specs.declared.error.DecodeError.TheVariants.{Unsupported, DepthOverflow, UnorderedKey, IndefiniteSize}
 use Rattle.ipld_tree.specs.Key.{comes_before}
 use Rattle.ipld_tree.specs.Tree.{text, Items, Entries}
 use Rattle.ipld_tree.specs.Spelling.{item_count, entry_count, IsFront, AreFronts, AreEntryFronts}

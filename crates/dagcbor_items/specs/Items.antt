@@ -1,6 +1,5 @@
 -- What a read of a list's items answers and refuses.
-use Rattle.std.specs.Prelude.{◌≡◌, ℕ, ◌≤◌, true, false, List, length, Some, is_some, Result}
-use Rattle.std.specs.Prelude.{MatchResult, Vec}
+use Rattle.std.specs.Prelude.{◌≡◌, ℕ, ◌≤◌, true, false, List, length, Some, is_some, Result, MatchResult, Vec}
 use Rattle.std.specs.declared.alloc.Global.{Global}
 use Rattle.dagcbor_heads.specs.Reading.{Reading, Stays}
 use Rattle.dagcbor_heads.specs.Refusals.{RefusesOrLacksMemory}

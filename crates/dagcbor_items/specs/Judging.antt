@@ -1,8 +1,7 @@
 -- What stands at the front of bytes that are all there, and the rest that follows it.
 use Rattle.std.specs.Prelude.{◌≡◌, ℕ, ◌≤◌, List, ◌∷◌, ◌++◌, length, IsUtf8, Option, MatchOption}
 use Rattle.ipld_tree.specs.Cid.{IsCid}
-use Rattle.ipld_tree.specs.Tree.{Tree, text, bytes, Items, Entries}
-use Rattle.ipld_tree.specs.Tree.{any_need, items_need, entries_need}
+use Rattle.ipld_tree.specs.Tree.{Tree, text, bytes, Items, Entries, any_need, items_need, entries_need}
 use Rattle.ipld_tree.specs.Spelling.{item_count, entry_count, IsFront, AreFronts, AreEntryFronts}
 use Rattle.dagcbor_items.specs.Places.{Follows}
 

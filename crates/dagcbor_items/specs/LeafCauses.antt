@@ -1,16 +1,13 @@
 -- The causes of refusals that typed reads of leaves can have. Each stands where the leaf is to
 -- stand.
-use Rattle.std.specs.Prelude.{◌≡◌, ◌≢◌, ℕ, ℤ, ◌/◌, ◌^◌, ◌<◌, ◌≤◌, ◌⊎◌, List, [], ◌∷◌, ◌++◌, length}
-use Rattle.std.specs.Prelude.{Option, None, codes, IsUtf8}
+use Rattle.std.specs.Prelude.{◌≡◌, ◌≢◌, ℕ, ℤ, ◌/◌, ◌^◌, ◌<◌, ◌≤◌, ◌⊎◌, List, [], ◌∷◌, ◌++◌, length, Option, None, codes, IsUtf8}
 use Rattle.dagcbor_heads.specs.Head.{head}
 use Rattle.dagcbor_heads.specs.Causes.{HeadCause, IsNamed}
 use Rattle.dagcbor_heads.specs.Lengths.{len_of}
 use Rattle.dagcbor_heads.specs.Names.{Names}
 use Rattle.dagcbor_heads.specs.declared.error.Len.TheVariants.{Small}
 use Rattle.dagcbor_heads.specs.declared.error.DecodeError.{DecodeError}
-use Rattle.dagcbor_heads.specs.declared.error.DecodeError.TheVariants.{Msg, Eof, Mismatch}
-use Rattle.dagcbor_heads.specs.declared.error.DecodeError.TheVariants.{Unsupported, RequireUtf8}
-use Rattle.dagcbor_heads.specs.declared.error.DecodeError.TheVariants.{CastOverflow}
+use Rattle.dagcbor_heads.specs.declared.error.DecodeError.TheVariants.{Msg, Eof, Mismatch, Unsupported, RequireUtf8, CastOverflow}
 use Rattle.ipld_tree.specs.Tree.{integer, text}
 use Rattle.ipld_tree.specs.Spelling.{IsFront}
 use Rattle.dagcbor_items.specs.FirstBytes.{BeginsFrom}

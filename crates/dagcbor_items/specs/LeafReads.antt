@@ -1,6 +1,5 @@
 -- What typed reads of leaves answer and refuse.
-use Rattle.std.specs.Prelude.{◌≡◌, ℕ, ◌^◌, ℤ, false, Bool, List, Result, codes, String}
-use Rattle.std.specs.Prelude.{string_bytes, ⊤, Vec}
+use Rattle.std.specs.Prelude.{◌≡◌, ℕ, ◌^◌, ℤ, false, Bool, List, Result, codes, String, string_bytes, ⊤, Vec}
 use Rattle.std.specs.Cow.{cow_str_bytes, cow_slice_items}
 use Rattle.std.specs.declared.borrow.CowStr.{CowStr}
 use Rattle.std.specs.declared.borrow.CowSlice.{CowSlice}
@@ -8,13 +7,10 @@ use Rattle.std.specs.declared.alloc.Global.{Global}
 use Rattle.dagcbor_heads.specs.Reading.{Reading}
 use Rattle.dagcbor_heads.specs.declared.error.DecodeError.{DecodeError}
 use Rattle.dagcbor_items.specs.TypedReads.{Reads}
-use Rattle.dagcbor_items.specs.Shapes.{natural_below, within, view_unsigned, view_signed}
-use Rattle.dagcbor_items.specs.Shapes.{view_null, view_bool, view_text, view_char, view_bytes}
-use Rattle.dagcbor_items.specs.Shapes.{ignored_item, leaf}
+use Rattle.dagcbor_items.specs.Shapes.{natural_below, within, view_unsigned, view_signed, view_null, view_bool, view_text, view_char, view_bytes, ignored_item, leaf}
 use Rattle.dagcbor_items.specs.ItemCauses.{CauseInside}
 use Rattle.dagcbor_items.specs.LinkCauses.{IsOtherByte}
-use Rattle.dagcbor_items.specs.LeafCauses.{NumberCause, BigNumberCause, StringCause, TextCause}
-use Rattle.dagcbor_items.specs.LeafCauses.{CharCause, BoolCause}
+use Rattle.dagcbor_items.specs.LeafCauses.{NumberCause, BigNumberCause, StringCause, TextCause, CharCause, BoolCause}
 
 -- A number is read exactly where one stands from 0 to the bound, exclusive.
 abbrev pub ReadsUnsigned : {E : Type 0} → List ℕ → ℕ → Reading → Result ℕ (DecodeError E) → Reading

@@ -7,8 +7,7 @@ use Rattle.dagcbor_heads.specs.Lengths.{len_of}
 use Rattle.dagcbor_heads.specs.Names.{Names}
 use Rattle.dagcbor_heads.specs.declared.error.Len.TheVariants.{Small}
 use Rattle.dagcbor_heads.specs.declared.error.DecodeError.{DecodeError}
-use Rattle.dagcbor_heads.specs.declared.error.DecodeError.TheVariants.{Msg, Eof, Mismatch}
-use Rattle.dagcbor_heads.specs.declared.error.DecodeError.TheVariants.{Unsupported}
+use Rattle.dagcbor_heads.specs.declared.error.DecodeError.TheVariants.{Msg, Eof, Mismatch, Unsupported}
 use Rattle.ipld_tree.specs.Cid.{IsCid}
 use Rattle.dagcbor_items.specs.FirstBytes.{BeginsAs}
 

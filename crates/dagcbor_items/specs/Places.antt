@@ -1,7 +1,6 @@
 -- Places in an item where another is to stand: behind the heads of the lists and maps that are open
 -- there, and behind what was whole in each of them.
-use Rattle.std.specs.Prelude.{◌≡◌, ◌⊎◌, ℕ, zero, suc, ◌^◌, ◌<◌, List, ◌++◌, Option, None, Some}
-use Rattle.std.specs.Prelude.{IsTrue, ⊤}
+use Rattle.std.specs.Prelude.{◌≡◌, ◌⊎◌, ℕ, zero, suc, ◌^◌, ◌<◌, List, ◌++◌, Option, None, Some, IsTrue, ⊤}
 use Rattle.dagcbor_heads.specs.Head.{head}
 use Rattle.ipld_tree.specs.Key.{comes_before}
 use Rattle.ipld_tree.specs.Tree.{text, Items, Entries, no_entries, entry}

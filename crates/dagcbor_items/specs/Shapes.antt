@@ -1,7 +1,5 @@
 -- The shape of a type: what it makes of the data that it is read from.
-use Rattle.std.specs.Prelude.{ℕ, zero, suc, ◌+◌, ℤ, pos, negsuc, Bool, true, false, List, [], ◌∷◌}
-use Rattle.std.specs.Prelude.{Option, None, Some, option_map, if◌then◌else◌, nat_lt}
-use Rattle.std.specs.Str.{chars}
+use Rattle.std.specs.Prelude.{ℕ, zero, suc, ◌+◌, ℤ, pos, negsuc, Bool, true, false, List, [], ◌∷◌, Option, None, Some, option_map, if◌then◌else◌, nat_lt, chars}
 use Rattle.ipld_tree.specs.Tree.{Tree, null, boolean, integer, text, bytes, link, any_need}
 
 -- what a type makes of the data that it is read from

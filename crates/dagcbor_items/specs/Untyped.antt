@@ -1,6 +1,5 @@
 -- What an untyped read answers and refuses.
-use Rattle.std.specs.Prelude.{◌≡◌, ℕ, ◌+◌, ◌-◌, ◌/◌, ◌≤◌, false, List, [], ◌∷◌, Option, None, Some}
-use Rattle.std.specs.Prelude.{Result, MatchResult, ⊤, Vec, String}
+use Rattle.std.specs.Prelude.{◌≡◌, ℕ, ◌+◌, ◌-◌, ◌/◌, ◌≤◌, false, List, [], ◌∷◌, Option, None, Some, Result, MatchResult, ⊤, Vec, String}
 use Rattle.std.specs.BTreeMap.{BTreeMap}
 use Rattle.std.specs.declared.alloc.Global.{Global}
 use Rattle.dagcbor_heads.specs.Reading.{Reading, Stays}
@@ -9,8 +8,7 @@ use Rattle.dagcbor_heads.specs.declared.error.DecodeError.{DecodeError}
 use Rattle.ipld_tree.specs.Tree.{Tree, list, mapping, IsTree, any_need}
 use Rattle.ipld_tree.specs.Spelling.{IsSpellable, spelling, IsFront}
 use Rattle.ipld_tree.specs.Ipld.{tree_of}
-use Rattle.ipld_tree.specs.declared.ipld.Ipld.{Ipld, String as String', List as List'}
-use Rattle.ipld_tree.specs.declared.ipld.Ipld.{Map as Map'}
+use Rattle.ipld_tree.specs.declared.ipld.Ipld.{Ipld, String as String', List as List', Map as Map'}
 use Rattle.dagcbor_items.specs.ItemCauses.{CauseInside}
 use Rattle.dagcbor_items.specs.Shapes.{Shape, takes_some}
 use Rattle.dagcbor_items.specs.TypedReads.{HasFront}

@@ -1,13 +1,11 @@
 -- What is written for the lines of the input.
-use Rattle.std.proofs.Common.{◌≡◌, ◌++◌, ◌∷◌, ◌<◌, ◌≤◌, ℕ, List, [], length, drop, Option, Some, None, IfSome, Result, Ok, Err, refl, sym, ap, subst, ◌∙◌, append_assoc, arith}
-use Rattle.std.specs.Prelude.{OnOk, OnErr, IfOk}
+use Rattle.std.proofs.Common.{◌≡◌, ◌++◌, ◌∷◌, ◌<◌, ◌≤◌, ℕ, List, [], length, drop, Option, Some, None, IfSome, Result, Ok, Err, refl, sym, ap, subst, ◌∙◌, append_assoc, arith, OnOk, OnErr, IfOk, append-nil}
 use Rattle.std.specs.Io.{StartsWith}
 use Rattle.std.specs.Borrow.{Bor}
 use Rattle.std.specs.Io.BufRead.{FillKeeps, DropsConsumable}
 use Rattle.std.specs.Io.KnownBytes.{Consumes, Appends, Keeps, IsAtEnd, prepend_known}
 use Rattle.std.specs.Str.Lines.{lines}
 use Rattle.std.proofs.KnownBytes.{Appends-nil, Appends-trans, starts_with_rest}
-use Rattle.std.proofs.lemmas.List.{append-nil}
 use Rattle.dagcbor_lines.specs.Pieces.{IsOfOneLine}
 use Rattle.dagcbor_cli.specs.Writing.{WritesFront}
 use Rattle.dagcbor_lines.specs.Answers.{AreAnswers, AppendsLine, BeginsWithLines, AppendsAnswers, WritesAnswers, WritesWhole, IsBeginning, WritesBeginning, HasAnswered, BreaksOff, AnswersAll, AnswersSome}

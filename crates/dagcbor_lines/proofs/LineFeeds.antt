@@ -1,8 +1,5 @@
 -- The first line feed of some bytes.
-use Rattle.std.proofs.Common.{◌≡◌, ◌≢◌, true, ℕ, ◌<◌, List, length, take, slice_index, All, ap, ◌∙◌, sym, zero-le, arith}
-use Rattle.std.specs.Prelude.{Option, None, Some, MatchOption}
-use Rattle.std.proofs.lemmas.Bool.{eqb-true}
-use Rattle.std.proofs.lemmas.List.{get_or-take, length-take}
+use Rattle.std.proofs.Common.{◌≡◌, ◌≢◌, true, ℕ, ◌<◌, List, length, take, slice_index, All, ap, ◌∙◌, sym, zero-le, arith, Option, None, Some, MatchOption, eqb-true, get_or-take, length-take}
 use Rattle.std.proofs.lemmas.List.Elements.{All-from_get_or}
 use Rattle.memchr.specs.Find.{IsFirstByte, is_byte}
 

@@ -1,10 +1,7 @@
 -- The lines of a text, from its front.
-use Rattle.std.proofs.Common.{◌≡◌, ◌≢◌, ◌++◌, ◌∷◌, ◌<◌, ◌-◌, ◌+◌, ◌==◌, ℕ, suc, Bool, true, false, cond, List, [], length, take, drop, slice_index, All, refl, sym, ap, ◌∙◌, add-one, append_assoc, arith, length-drop}
-use Rattle.std.proofs.lemmas.Bool.{ne_eqb}
-use Rattle.std.proofs.lemmas.List.{take-append-drop, take_all}
+use Rattle.std.proofs.Common.{◌≡◌, ◌≢◌, ◌++◌, ◌∷◌, ◌<◌, ◌-◌, ◌+◌, ◌==◌, ℕ, suc, Bool, true, false, cond, List, [], length, take, drop, slice_index, All, refl, sym, ap, ◌∙◌, add-one, append_assoc, arith, length-drop, ne_eqb, take-append-drop, take_all, drop-cons}
 use Rattle.std.proofs.lemmas.List.Elements.{All-append}
 use Rattle.std.proofs.lemmas.List.Splits.{slice_split_none, slice_split_at}
-use Rattle.std.proofs.Math.Seq.{drop-cons}
 use Rattle.std.specs.List.{slice_split, onto_first}
 use Rattle.std.specs.Str.Lines.{lines, lines_of_parts, strip_carriage_return}
 use Rattle.dagcbor_lines.specs.Answers.{BeginsWithLines}

@@ -1,9 +1,7 @@
 -- Links in a line.
-use Rattle.std.proofs.Common.{◌≡◌, ◌++◌, ◌∷◌, [], ◌<◌, ◌≤◌, ◌+◌, ℕ, List, length, map, sym, ap, ◌∙◌, get_or, take, append_assoc}
-use Rattle.std.specs.Prelude.{Result, OnOk, IsErr, Ok, Err}
-use Rattle.std.proofs.Math.Seq.{take-suc, take-append_seam, take-length}
-use Rattle.std.proofs.Math.Numerals.{add-one}
-use Rattle.std.proofs.lemmas.List.{map-append, append-nil, take_all}
+use Rattle.std.proofs.Common.{◌≡◌, ◌++◌, ◌∷◌, [], ◌<◌, ◌≤◌, ◌+◌, ℕ, List, length, map, sym, ap, ◌∙◌, get_or, take, append_assoc, Result, OnOk, IsErr, Ok, Err, take-suc, add-one, append-nil, take_all}
+use Rattle.std.proofs.Math.Seq.{take-append_seam, take-length}
+use Rattle.std.proofs.lemmas.List.{map-append}
 use Rattle.hex.specs.Hex.{encode_lower}
 use Rattle.ipld_tree.specs.Cid.{CidParts, cid_bytes}
 use Rattle.dagcbor_lines.specs.Answers.{behind_spaces}

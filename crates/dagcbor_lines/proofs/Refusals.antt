@@ -1,6 +1,5 @@
 -- Why a refusal of a block is said.
-use Rattle.std.proofs.Common.{ℕ, List, Result, Ok, Err}
-use Rattle.std.specs.Prelude.{OnOk}
+use Rattle.std.proofs.Common.{ℕ, List, Result, Ok, Err, OnOk}
 use Rattle.dagcbor_cli.specs.declared.fault.ToolError.{ToolError}
 use Rattle.dagcbor_lines.specs.Answers.{AppendsLine, PushesLine}
 

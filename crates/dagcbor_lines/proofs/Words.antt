@@ -1,6 +1,5 @@
 -- The command that words name, and how its run ended.
-use Rattle.std.proofs.Common.{◌≡◌, ℕ, List, [], refl, sym, ap, ◌∙◌, get_or, arith, Result, Ok, Err}
-use Rattle.std.specs.Prelude.{MatchResult, OnOk, OnErr}
+use Rattle.std.proofs.Common.{◌≡◌, ℕ, List, [], refl, sym, ap, ◌∙◌, get_or, arith, Result, Ok, Err, MatchResult, OnOk, OnErr}
 use Rattle.dagcbor_lines.specs.declared.command.Command.{Command}
 use Rattle.dagcbor_lines.specs.declared.command.Command.TheVariants.{Check, Links}
 use Rattle.dagcbor_lines.specs.Commands.{IsCommand}

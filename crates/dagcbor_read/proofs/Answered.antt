@@ -1,6 +1,5 @@
 -- What calls say that answered, or were refused, on a Deserializer that had not failed.
-use Rattle.std.proofs.Common.{◌≡◌, ℕ, List, Global, ◌<◌, ◌-◌, true, false, refl, subst}
-use Rattle.std.specs.Prelude.{Option, None, Some, IfSome, Result, Ok, Err, is_err}
+use Rattle.std.proofs.Common.{◌≡◌, ℕ, List, Global, ◌<◌, ◌-◌, true, false, refl, subst, Option, None, Some, IfSome, Result, Ok, Err, is_err}
 use Rattle.std.specs.Borrow.{Bor}
 use Rattle.std.specs.Cow.{cow_str_bytes}
 use Rattle.std.specs.declared.borrow.CowStr.{CowStr}

@@ -1,6 +1,6 @@
 -- A map that a loop over its keys reads: what each step of such a loop cites.
-use Rattle.std.proofs.Common.{◌≡◌, ℕ, ◌+◌, ◌-◌, Global, List, Bool, true, false, refl, sym, ◌∙◌, ap, subst}
-use Rattle.std.specs.Prelude.{Option, None, Some, option_map, Ok, Err, MatchResult, ⊤}
+use Rattle.std.proofs.Common.{◌≡◌, ℕ, ◌+◌, ◌-◌, Global, List, Bool, true, false, refl, sym, ◌∙◌, ap, subst, Option, None, Some, option_map, Ok, Err, MatchResult}
+use Rattle.std.specs.Prelude.{⊤}
 use Rattle.std.specs.Cow.{cow_str_bytes}
 use Rattle.std.specs.declared.borrow.CowStr.{CowStr}
 use Rattle.dagcbor_heads.specs.Reading.{with_steps}

@@ -1,6 +1,5 @@
 -- A value that is made of what was read.
-use Rattle.std.proofs.Common.{◌≡◌, Bool, true, false, sym, ap, ◌∙◌, subst, refl}
-use Rattle.std.specs.Prelude.{Option, None, Some, option_and_then, is_some, Result, Ok, Err, MatchResult, IsErrAnd, MatchBool}
+use Rattle.std.proofs.Common.{◌≡◌, Bool, true, false, sym, ap, ◌∙◌, subst, refl, Option, None, Some, option_and_then, is_some, Result, Ok, Err, MatchResult, IsErrAnd, MatchBool}
 use Rattle.dagcbor_heads.specs.Reading.{Reading}
 use Rattle.dagcbor_heads.specs.Refusals.{Refuses}
 use Rattle.dagcbor_heads.specs.declared.name.Name.{Name}

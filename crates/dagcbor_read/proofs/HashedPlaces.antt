@@ -1,19 +1,16 @@
 -- Pairs of a hashed map, whose walk does not show in the order of the keys.
-use Rattle.std.proofs.Common.{◌≡◌, T, List, [], ◌∷◌, ℕ, Bool, true, false, cond, refl, sym, ap, ◌∙◌, subst, String, Global, string_bytes, nat_eq}
+use Rattle.std.proofs.Common.{◌≡◌, T, List, [], ◌∷◌, ℕ, Bool, true, false, cond, refl, sym, ap, ◌∙◌, subst, String, Global, string_bytes, nat_eq, Option, None, Some, IsPermutation, MatchOption, is_eq, string_eq, Ordering, Less, Equal, Greater}
 use Rattle.std.proofs.lemmas.List.Sorted.{Contains-permutation, IsPermutation-sym, IsPermutation-map}
 use Rattle.std.proofs.lemmas.Map.Keys.{IsDistinct-IsPermutation}
 use Rattle.std.proofs.lemmas.Map.Views.{Contains-from_lookup, lookup-from_Contains}
-use Rattle.std.specs.Prelude.{Option, None, Some, IsPermutation, MatchOption}
 use Rattle.std.specs.BTreeMap.{insert_entry}
 use Rattle.std.specs.Cmp.{eq_by_cmp_equiv}
 use Rattle.std.specs.Cmp.Lexicographic.{bytes_decides, pointwise}
 use Rattle.std.specs.FinMap.Entries as places
 use Rattle.std.specs.List.{IsDistinct, AllByRecursion}
 use Rattle.std.specs.Map.{keys_of, lookup, set_value}
-use Rattle.std.specs.Ordering.{match_ordering, is_eq}
-use Rattle.std.specs.String.{string_eq, string_eq_equiv}
-use Rattle.std.specs.declared.cmp.Ordering.{Ordering}
-use Rattle.std.specs.declared.cmp.Ordering.TheVariants.{Less, Equal, Greater}
+use Rattle.std.specs.Ordering.{match_ordering}
+use Rattle.std.specs.String.{string_eq_equiv}
 use Rattle.ipld_tree.specs.Key.{key_cmp}
 use Rattle.ipld_tree.proofs.Ordered.{key_cmp_total, same_place, same_place_flips}
 use Rattle.dagcbor_read.specs.Collections.{in_key_order, text_pairs}

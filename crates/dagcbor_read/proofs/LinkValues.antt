@@ -1,6 +1,5 @@
 -- Links as values of a type.
-use Rattle.std.proofs.Common.{◌≡◌, true, false}
-use Rattle.std.specs.Prelude.{is_err, Result, Ok, Err, MatchResult}
+use Rattle.std.proofs.Common.{◌≡◌, true, false, is_err, Result, Ok, Err, MatchResult}
 use Rattle.dagcbor_heads.specs.Reading.{Reading}
 use Rattle.dagcbor_heads.specs.Refusals.{Refuses}
 use Rattle.dagcbor_heads.specs.declared.error.DecodeError.{DecodeError}

@@ -1,6 +1,5 @@
 -- Reading an enum: its variant's name, or a map from the name to what the variant holds.
-use Rattle.std.proofs.Common.{◌≡◌, inl, inr, ℕ, ◌+◌, ◌-◌, ◌*◌, ◌/◌, ◌<◌, ◌≤◌, List, [], ◌∷◌, ◌++◌, Bool, true, false, Global, refl, sym, ◌∙◌, ap, subst, arith, append_assoc, zero-le}
-use Rattle.std.specs.Prelude.{◌⊎◌, Option, Some, None, is_some, option_map, Result, Ok, Err, MatchBool}
+use Rattle.std.proofs.Common.{◌≡◌, inl, inr, ℕ, ◌+◌, ◌-◌, ◌*◌, ◌/◌, ◌<◌, ◌≤◌, List, [], ◌∷◌, ◌++◌, Bool, true, false, Global, refl, sym, ◌∙◌, ap, subst, arith, append_assoc, zero-le, ◌⊎◌, Option, Some, None, is_some, option_map, Result, Ok, Err, MatchBool}
 use Rattle.std.specs.Cow.{cow_str_bytes}
 use Rattle.std.specs.declared.borrow.CowStr.{CowStr}
 use Rattle.dagcbor_heads.specs.Head.{head}

@@ -1,6 +1,5 @@
 -- Values that may be null.
-use Rattle.std.proofs.Common.{◌≡◌, inl, inr, ℕ, ◌+◌, ◌<◌, List, [], ◌∷◌, ◌++◌, true, refl, sym, ap, ◌∙◌, arith, zero-le}
-use Rattle.std.specs.Prelude.{◌⊎◌, Some, None, Option, option_map, is_some}
+use Rattle.std.proofs.Common.{◌≡◌, inl, inr, ℕ, ◌+◌, ◌<◌, List, [], ◌∷◌, ◌++◌, true, refl, sym, ap, ◌∙◌, arith, zero-le, ◌⊎◌, Some, None, Option, option_map, is_some}
 use Rattle.dagcbor_heads.specs.Reading.{Reading, with_steps}
 use Rattle.dagcbor_heads.specs.Fronts.{ShowsByte, Takes}
 use Rattle.dagcbor_heads.specs.Refusals.{Refuses}

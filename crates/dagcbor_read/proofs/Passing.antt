@@ -1,6 +1,5 @@
 -- A refusal of a part is a refusal of the whole, though steps were spent.
-use Rattle.std.proofs.Common.{◌≡◌, ℕ, ◌+◌, List, Bool, true, false, ◌||◌, refl, sym, ap, ◌∙◌, arith}
-use Rattle.std.specs.Prelude.{Some}
+use Rattle.std.proofs.Common.{◌≡◌, ℕ, ◌+◌, List, Bool, true, false, ◌||◌, refl, sym, ap, ◌∙◌, arith, Some}
 use Rattle.dagcbor_heads.specs.Reading.{Reading, Stays, with_steps}
 use Rattle.dagcbor_heads.specs.Refusals.{Refuses}
 use Rattle.dagcbor_heads.specs.declared.error.DecodeError.{DecodeError}

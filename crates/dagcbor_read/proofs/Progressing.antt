@@ -1,6 +1,5 @@
 -- Calls within calls.
-use Rattle.std.proofs.Common.{◌≡◌, Bool, true, false, refl, sym, ap, subst}
-use Rattle.std.specs.Prelude.{Result, Ok, Err, IsErrAnd, is_err, MatchBool}
+use Rattle.std.proofs.Common.{◌≡◌, Bool, true, false, refl, sym, ap, subst, Result, Ok, Err, IsErrAnd, is_err, MatchBool}
 use Rattle.dagcbor_heads.specs.Reading.{Reading}
 use Rattle.dagcbor_heads.specs.declared.error.DecodeError.{DecodeError}
 use Rattle.dagcbor_heads.specs.declared.error.DecodeError.TheVariants.{Failed}

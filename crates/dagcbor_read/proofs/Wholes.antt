@@ -1,6 +1,5 @@
 -- Reading a whole input as a value.
-use Rattle.std.proofs.Common.{◌≡◌, ℕ, ◌<◌, ◌≤◌, ◌++◌, Option, Bool, true, false, List, [], length, inl, inr, refl, sym, ap, subst, ◌∙◌, arith, append-nil}
-use Rattle.std.specs.Prelude.{◌⊎◌, None, Some, IfSome, IfOk, IfErr, IsErrAnd, Result, Ok, Err, MatchResult, is_err, is_some}
+use Rattle.std.proofs.Common.{◌≡◌, ℕ, ◌<◌, ◌≤◌, ◌++◌, Option, Bool, true, false, List, [], length, inl, inr, refl, sym, ap, subst, ◌∙◌, arith, append-nil, ◌⊎◌, None, Some, IfSome, IfOk, IfErr, IsErrAnd, Result, Ok, Err, MatchResult, is_err, is_some}
 use Rattle.std.specs.declared.convert.Infallible.{Infallible}
 use Rattle.dagcbor_heads.specs.Reading.{Reading, Stays}
 use Rattle.dagcbor_heads.specs.Fronts.{ShowsByte}

@@ -1,7 +1,5 @@
 -- What contracts see of an accessor, and what its calls do.
-use Rattle.std.specs.Prelude.{◌≡◌, ◌≢◌, ◌==◌, ℕ, ◌+◌, ◌-◌, ◌^◌, ◌/◌, ◌<◌, Bool, false, true, List, ◌∷◌}
-use Rattle.std.specs.Prelude.{◌++◌, Option, None, Some, option_map, Result, Ok, Err, MatchResult}
-use Rattle.std.specs.Prelude.{⊤}
+use Rattle.std.specs.Prelude.{◌≡◌, ◌≢◌, ◌==◌, ℕ, ◌+◌, ◌-◌, ◌^◌, ◌/◌, ◌<◌, Bool, false, true, List, ◌∷◌, ◌++◌, Option, None, Some, option_map, Result, Ok, Err, MatchResult, ⊤}
 use Rattle.std.specs.Cow.{cow_str_bytes}
 use Rattle.std.specs.declared.borrow.CowStr.{CowStr}
 use Rattle.std.specs.declared.alloc.Global.{Global}
@@ -12,8 +10,7 @@ use Rattle.dagcbor_heads.specs.Refusals.{Refuses}
 use Rattle.dagcbor_heads.specs.Names.{Names}
 use Rattle.dagcbor_heads.specs.declared.name.Name.{Name}
 use Rattle.dagcbor_heads.specs.declared.error.DecodeError.{DecodeError}
-use Rattle.dagcbor_heads.specs.declared.error.DecodeError.TheVariants.{Mismatch, DepthOverflow}
-use Rattle.dagcbor_heads.specs.declared.error.DecodeError.TheVariants.{LengthMismatch}
+use Rattle.dagcbor_heads.specs.declared.error.DecodeError.TheVariants.{Mismatch, DepthOverflow, LengthMismatch}
 use Rattle.ipld_tree.specs.Tree.{Tree}
 use Rattle.dagcbor_items.specs.FirstBytes.{BeginsAs}
 use Rattle.dagcbor_items.specs.Places.{Follows}

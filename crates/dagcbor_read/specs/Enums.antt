@@ -1,6 +1,5 @@
 -- What contracts see of an enum that was begun, and what its calls do.
-use Rattle.std.specs.Prelude.{◌≡◌, ◌≢◌, ◌⊎◌, ℕ, ◌+◌, ◌-◌, ◌/◌, ◌<◌, Bool, true, false, List, [], ◌∷◌}
-use Rattle.std.specs.Prelude.{Some, Result, MatchResult, MatchBool, IfOk, codes, ⊤}
+use Rattle.std.specs.Prelude.{◌≡◌, ◌≢◌, ◌⊎◌, ℕ, ◌+◌, ◌-◌, ◌/◌, ◌<◌, Bool, true, false, List, [], ◌∷◌, Some, Result, MatchResult, MatchBool, IfOk, codes, ⊤}
 use Rattle.dagcbor_heads.specs.Reading.{Reading, with_steps}
 use Rattle.dagcbor_heads.specs.Fronts.{Takes, ShowsByte}
 use Rattle.dagcbor_heads.specs.Refusals.{Refuses}

@@ -1,9 +1,7 @@
 -- What a map's entries show to a struct, whose fields have a place each.
-use Rattle.std.specs.Prelude.{◌||◌, ℕ, List, [], ◌∷◌, map, Option, None, Some, option_map}
-use Rattle.std.specs.Prelude.{option_and_then, if◌then◌else◌, false}
+use Rattle.std.specs.Prelude.{◌||◌, ℕ, List, [], ◌∷◌, map, Option, None, Some, option_map, option_and_then, if◌then◌else◌, false, bytes_eq}
 use Rattle.std.specs.Option.{option_flatten}
 use Rattle.std.specs.Borrow.{Bor}
-use Rattle.std.specs.Str.{bytes_eq}
 use Rattle.ipld_tree.specs.Tree.{Tree, any_need}
 use Rattle.dagcbor_items.specs.Shapes.{Shape, option_of, unless_lent}
 use Rattle.dagcbor_read.specs.Collections.{FieldShape, struct_of}

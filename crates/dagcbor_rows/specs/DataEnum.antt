@@ -1,7 +1,5 @@
 -- What a tree shows to an enum whose variants hold a value, two values, and fields.
-use Rattle.std.specs.Prelude.{ℕ, ◌^◌, Bool, List, Option, None, option_map, if◌then◌else◌, codes}
-use Rattle.std.specs.Prelude.{false}
-use Rattle.std.specs.Str.{bytes_eq}
+use Rattle.std.specs.Prelude.{ℕ, ◌^◌, Bool, List, Option, None, option_map, if◌then◌else◌, codes, false, bytes_eq}
 use Rattle.serde_ipld_dagcbor.specs.Tree.{Tree}
 use Rattle.serde_ipld_dagcbor.specs.Shapes.{view_unsigned, view_bool, view_text, Shape, leaf, owned_leaf, takes_some}
 use Rattle.serde_ipld_dagcbor.specs.Collections.{list_of, no_more, first_then}

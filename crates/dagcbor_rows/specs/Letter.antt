@@ -1,6 +1,5 @@
 -- What a tree shows to an enum of two unit variants.
-use Rattle.std.specs.Prelude.{ℕ, List, Option, Some, None, if◌then◌else◌, codes, false}
-use Rattle.std.specs.Str.{bytes_eq}
+use Rattle.std.specs.Prelude.{ℕ, List, Option, Some, None, if◌then◌else◌, codes, false, bytes_eq}
 use Rattle.serde_ipld_dagcbor.specs.Tree.{Tree}
 use Rattle.serde_ipld_dagcbor.specs.Shapes.{Shape, takes_none}
 use Rattle.serde_ipld_dagcbor.specs.EnumViews.{EnumShape, enum_of}

@@ -1,6 +1,5 @@
 -- What a tree shows to an enum whose one variant holds three fields.
-use Rattle.std.specs.Prelude.{ℕ, ◌^◌, List, Option, None, if◌then◌else◌, codes, false}
-use Rattle.std.specs.Str.{bytes_eq}
+use Rattle.std.specs.Prelude.{ℕ, ◌^◌, List, Option, None, if◌then◌else◌, codes, false, bytes_eq}
 use Rattle.serde_ipld_dagcbor.specs.Tree.{Tree}
 use Rattle.serde_ipld_dagcbor.specs.Shapes.{view_unsigned, leaf, Shape}
 use Rattle.serde_ipld_dagcbor.specs.Structs.{required_field, no_fields, struct_shape}

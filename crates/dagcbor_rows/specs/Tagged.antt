@@ -1,9 +1,8 @@
 -- What a tree shows to an enum whose variant is named by a field.
-use Rattle.std.specs.Prelude.{ℕ, List, Option, Some, None, if◌then◌else◌, codes}
+use Rattle.std.specs.Prelude.{ℕ, List, Option, Some, None, if◌then◌else◌, codes, bytes_eq}
 use Rattle.serde_ipld_dagcbor.specs.Tree.{Tree}
 use Rattle.serde_ipld_dagcbor.specs.Shapes.{view_link, view_text, leaf, owned_leaf, Shape}
 use Rattle.serde_ipld_dagcbor.specs.Structs.{required_field, no_fields, struct_shape}
-use Rattle.std.specs.Str.{bytes_eq}
 use Rattle.serde_ipld_dagcbor.specs.Collections.{finishing}
 
 -- the tag and the link

@@ -1,6 +1,5 @@
 -- The spelling of a list, by its head and its parts.
-use Rattle.std.proofs.Common.{◌≡◌, ℕ, List, [], ◌∷◌, length, Option, sym, ap₂, ◌∙◌}
-use Rattle.std.specs.Prelude.{Result, Ok, Err, IfSome, OnOk}
+use Rattle.std.proofs.Common.{◌≡◌, ℕ, List, [], ◌∷◌, length, Option, sym, ap₂, ◌∙◌, Result, Ok, Err, IfSome, OnOk}
 use Rattle.std.specs.Fmt.{◌++?◌}
 use Rattle.dagcbor_heads.specs.Written.{Written}
 use Rattle.dagcbor_heads.proofs.Writing.{Written-but, begin_writing, append_Some}

@@ -1,7 +1,5 @@
 -- A map of two entries, whose first tells what the second holds.
-use Rattle.std.specs.Prelude.{◌≡◌, ◌||◌, ◌<◌, ℕ, ◌+◌, List, Option, None, if◌then◌else◌, Result}
-use Rattle.std.specs.Prelude.{MatchResult, false}
-use Rattle.std.specs.Str.{bytes_eq}
+use Rattle.std.specs.Prelude.{◌≡◌, ◌||◌, ◌<◌, ℕ, ◌+◌, List, Option, None, if◌then◌else◌, Result, MatchResult, false, bytes_eq}
 use Rattle.dagcbor_heads.specs.Reading.{Reading}
 use Rattle.dagcbor_heads.specs.Refusals.{Refuses}
 use Rattle.dagcbor_heads.specs.declared.error.DecodeError.{DecodeError}

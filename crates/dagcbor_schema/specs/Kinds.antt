@@ -1,7 +1,6 @@
 -- A value that is told by the kind of its data.
 use Rattle.std.specs.Prelude.{◌||◌, ℕ, Option, None, option_map}
-use Rattle.serde_ipld_dagcbor.specs.Tree.{Tree, null, boolean, integer, text, bytes, list, mapping}
-use Rattle.serde_ipld_dagcbor.specs.Tree.{link}
+use Rattle.serde_ipld_dagcbor.specs.Tree.{Tree, null, boolean, integer, text, bytes, list, mapping, link}
 use Rattle.serde_ipld_dagcbor.specs.Shapes.{Shape, leaf}
 use Rattle.dagcbor_schema.specs.declared.by_kind.ByKind.{ByKind}
 use Rattle.dagcbor_schema.specs.declared.by_kind.ByKind.TheVariants as kinds

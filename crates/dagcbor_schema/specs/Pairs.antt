@@ -1,6 +1,5 @@
 -- The fields of a struct as a list of pairs: of a name, and of the field's value.
-use Rattle.std.specs.Prelude.{List, ℕ, Option, None, if◌then◌else◌}
-use Rattle.std.specs.Str.{bytes_eq}
+use Rattle.std.specs.Prelude.{List, ℕ, Option, None, if◌then◌else◌, bytes_eq}
 use Rattle.serde_ipld_dagcbor.specs.Tree.{Tree}
 use Rattle.serde_ipld_dagcbor.specs.Shapes.{Shape, owned_leaf, view_text}
 use Rattle.serde_ipld_dagcbor.specs.Collections.{list_of, first_then, no_more}

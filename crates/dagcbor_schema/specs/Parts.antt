@@ -1,6 +1,5 @@
 -- The parts of a tuple of a schema, of which some at the end may be absent.
-use Rattle.std.specs.Prelude.{ℕ, max, ◌||◌, List, [], ◌∷◌, Option, None, Some, option_map}
-use Rattle.std.specs.Prelude.{option_and_then}
+use Rattle.std.specs.Prelude.{ℕ, max, ◌||◌, List, [], ◌∷◌, Option, None, Some, option_map, option_and_then}
 use Rattle.serde_ipld_dagcbor.specs.Tree.{Tree, Items, no_items, item}
 use Rattle.serde_ipld_dagcbor.specs.Shapes.{Shape}
 

@@ -1,10 +1,7 @@
 -- What begins, ends and is finished.
-use Rattle.std.proofs.Common.{◌≡◌, ℕ, zero, suc, ◌+◌, ◌-◌, ◌<◌, ◌≤◌, ◌^◌, List, [], ◌∷◌, ◌++◌, length, map, take, drop, get_or, Option, None, Some, Bool, true, false, refl, sym, ap, ap₂, ◌∙◌, subst, arith, length-append, append-nil, append_assoc, add-one}
-use Rattle.std.proofs.Math.Seq.{drop-cons, take-append_seam, take-length, drop-length, drop-append_seam}
-use Rattle.std.proofs.Math.ListN.{drop_of_length-le}
-use Rattle.std.proofs.lemmas.List.{reverse-append, length-map, take-append-drop, take-append-le, take_all, length-take-le, length-drop, drop_at}
-use Rattle.std.specs.Prelude.{IfSome, reverse, option_map}
-use Rattle.std.specs.List.{All, flat_map}
+use Rattle.std.proofs.Common.{◌≡◌, ℕ, zero, suc, ◌+◌, ◌-◌, ◌<◌, ◌≤◌, ◌^◌, List, [], ◌∷◌, ◌++◌, length, map, take, drop, get_or, Option, None, Some, Bool, true, false, refl, sym, ap, ap₂, ◌∙◌, subst, arith, length-append, append-nil, append_assoc, add-one, drop-cons, drop_of_length-le, take-append-drop, take_all, length-take-le, length-drop, drop_at, IfSome, reverse, option_map, All, flat_map}
+use Rattle.std.proofs.Math.Seq.{take-append_seam, take-length, drop-length, drop-append_seam}
+use Rattle.std.proofs.lemmas.List.{reverse-append, length-map, take-append-le}
 use Rattle.std.proofs.lemmas.List.Sorted.{IsPermutation-refl}
 use Rattle.std.specs.Fmt.{◌++?◌}
 use Rattle.dagcbor_heads.specs.Head.{head}

@@ -1,9 +1,8 @@
 -- What is held behind an item, a key, or another call.
-use Rattle.std.proofs.Common.{◌≡◌, ℕ, zero, suc, ◌+◌, ◌≤◌, ◌<◌, List, [], ◌∷◌, ◌++◌, length, map, take, drop, Option, None, Some, refl, sym, ap, ap₂, ◌∙◌, subst, arith, length-append, append_assoc, append-nil}
+use Rattle.std.proofs.Common.{◌≡◌, ℕ, zero, suc, ◌+◌, ◌≤◌, ◌<◌, List, [], ◌∷◌, ◌++◌, length, map, take, drop, Option, None, Some, refl, sym, ap, ap₂, ◌∙◌, subst, arith, length-append, append_assoc, append-nil, take_all, take-append-drop, length-drop, length-take-le, All, flat_map}
 use Rattle.std.proofs.Math.Seq.{drop-append_seam, take-append_seam}
-use Rattle.std.proofs.lemmas.List.{take_all, take-append-drop, drop-append-le, length-drop, length-take-le}
+use Rattle.std.proofs.lemmas.List.{drop-append-le}
 use Rattle.std.proofs.lemmas.Grind.{flat_map-append}
-use Rattle.std.specs.List.{All, flat_map}
 use Rattle.std.specs.Fmt.{◌++?◌}
 use Rattle.dagcbor_heads.proofs.Writing.{append_Some, Some_append, joined_assoc}
 use Rattle.ipld_tree.specs.Tree.{Tree, null, text, bytes, link, IsTree, AreItems, items_of}

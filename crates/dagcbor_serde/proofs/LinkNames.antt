@@ -1,6 +1,5 @@
 -- The one name of a link.
-use Rattle.std.proofs.Common.{refl}
-use Rattle.std.specs.Prelude.{codes}
+use Rattle.std.proofs.Common.{refl, codes}
 use Rattle.serde.specs.declared.name.Case.TheVariants.{Kebab}
 use Rattle.dagcbor_write.proofs.Spans.{same_bytes}
 use Rattle.dagcbor_serde.specs.Links.{FieldsAreNoLinks}

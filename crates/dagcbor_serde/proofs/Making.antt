@@ -1,6 +1,5 @@
 -- Which events make a tree: of leaves, of lists, of maps and of links.
-use Rattle.std.proofs.Common.{◌≡◌, ℕ, ℤ, List, [], ◌∷◌, ◌++◌, map, Option, Some, None, Bool, IsTrue, refl, sym, ap, ◌∙◌, subst, append_assoc, append-nil, codes, rules, pos, string_bytes, string_cmp, String, Global, Vec, BTreeMap}
-use Rattle.std.specs.Prelude.{option_map, option_and_then, IsSomeAnd, Result, OnOk}
+use Rattle.std.proofs.Common.{◌≡◌, ℕ, ℤ, List, [], ◌∷◌, ◌++◌, map, Option, Some, None, Bool, IsTrue, refl, sym, ap, ◌∙◌, subst, append_assoc, append-nil, codes, rules, pos, string_bytes, string_cmp, String, Global, Vec, BTreeMap, option_map, option_and_then, IsSomeAnd, Result, OnOk}
 use Rattle.std.specs.List.Sorted.{IsStrictlySortedBy}
 use Rattle.std.specs.Map.{keys_of}
 use Rattle.std.proofs.lemmas.Result.{on_ok_weaker}

@@ -1,8 +1,7 @@
 -- What is held of all that is open behind one more call.
-use Rattle.std.proofs.Common.{◌≡◌, ℕ, ◌+◌, ◌≤◌, ◌<◌, ◌^◌, List, [], ◌∷◌, ◌++◌, length, take, drop, Option, Some, refl, sym, ap, ◌∙◌, subst, arith, length-append, append_assoc, append-nil}
+use Rattle.std.proofs.Common.{◌≡◌, ℕ, ◌+◌, ◌≤◌, ◌<◌, ◌^◌, List, [], ◌∷◌, ◌++◌, length, take, drop, Option, Some, refl, sym, ap, ◌∙◌, subst, arith, length-append, append_assoc, append-nil, take_all, length-take-le, take-append-drop, reverse, option_map, Result, Ok, Err, OnOk}
 use Rattle.std.proofs.Math.Seq.{drop-append_seam, take-append_seam, take-length, drop-length, take-append-add, drop-append-add}
-use Rattle.std.proofs.lemmas.List.{take-append-le, drop-append-le, take_all, length-take-le, take-append-drop}
-use Rattle.std.specs.Prelude.{reverse, option_map, Result, Ok, Err, OnOk}
+use Rattle.std.proofs.lemmas.List.{take-append-le, drop-append-le}
 use Rattle.ipld_tree.specs.Tree as tree
 use Rattle.ipld_tree.specs.Tree.{Tree}
 use Rattle.ipld_tree.specs.Cid.{IsCid}

@@ -1,10 +1,9 @@
 -- What a tree says of itself has one proof at most, and so has what is said of a log.
-use Rattle.std.proofs.Common.{◌≡◌, ℕ, List, Option, Some, None, sym, ap, ◌∙◌, arith}
+use Rattle.std.proofs.Common.{◌≡◌, ℕ, List, Option, Some, None, sym, ap, ◌∙◌, arith, IsUtf8, IsSomeAnd}
 use mathlib.Core.Logic.{inl, inr}
 use mathlib.Core.List.{is_set}
 use mathlib.Core.HLevel.{Unit-prop, Σ_prop, Σ_prop_path, hedberg}
 use native.Mathlib.Decide.{ℕ_discrete}
-use Rattle.std.specs.Prelude.{IsUtf8, IsSomeAnd}
 use Rattle.std.proofs.Props.{props}
 use Rattle.serde.specs.Event.{Log}
 use Rattle.ipld_tree.specs.Cid.{CidParts, IsVersion0, IsVersion1, AreCidParts, cid_bytes, IsCid}

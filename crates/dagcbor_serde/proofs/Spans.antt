@@ -1,8 +1,8 @@
 -- Entries that stand in one buffer, where bytes are appended.
-use Rattle.std.proofs.Common.{◌≡◌, ℕ, ◌+◌, ◌<◌, ◌≤◌, List, [], ◌∷◌, ◌++◌, length, map, drop, refl, sym, ap₂, ◌∙◌, arith, length-append, append_assoc}
+use Rattle.std.proofs.Common.{◌≡◌, ℕ, ◌+◌, ◌<◌, ◌≤◌, List, [], ◌∷◌, ◌++◌, length, map, drop, refl, sym, ap₂, ◌∙◌, arith, length-append, append_assoc, All, flat_map}
 use Rattle.std.proofs.lemmas.List.{map_push}
 use Rattle.std.proofs.lemmas.List.Elements.{All-push, recursion_from_All}
-use Rattle.std.specs.List.{All, AllByRecursion, flat_map}
+use Rattle.std.specs.List.{AllByRecursion}
 use Rattle.dagcbor_write.specs.Order.{entries_bytes}
 use Rattle.dagcbor_write.specs.declared.collect.gathered.Span.{Span}
 use Rattle.dagcbor_write.specs.Spans.{entry_at, IsWithin}

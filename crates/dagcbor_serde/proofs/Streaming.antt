@@ -1,6 +1,5 @@
 -- Streams end, and their items are those behind a look at the front.
-use Rattle.std.proofs.Common.{◌≡◌, inl, inr, ℕ, ◌+◌, ◌<◌, Bool, true, false, List, length, refl, sym, subst, ◌∙◌, arith}
-use Rattle.std.specs.Prelude.{Option, None, Some, Result, Ok, Err, is_err, ◌⊎◌}
+use Rattle.std.proofs.Common.{◌≡◌, inl, inr, ℕ, ◌+◌, ◌<◌, Bool, true, false, List, length, refl, sym, subst, ◌∙◌, arith, Option, None, Some, Result, Ok, Err, is_err, ◌⊎◌}
 use Rattle.std.specs.Iterator.{MakesProgress}
 use Rattle.dagcbor_heads.specs.Reading.{Reading, Stays}
 use Rattle.dagcbor_heads.specs.Fronts.{ShowsByte}

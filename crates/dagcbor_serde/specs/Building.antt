@@ -1,16 +1,12 @@
 -- The tree that the events of a value make, one by one.
-use Rattle.std.specs.Prelude.{ℕ, zero, suc, pos, Bool, true, false, ◌&&◌, if◌then◌else◌, codes}
-use Rattle.std.specs.Prelude.{List, [], ◌∷◌, ◌++◌, Option, Some, None, option_map, option_and_then}
-use Rattle.std.specs.Prelude.{encode_utf8}
-use Rattle.std.specs.Str.{bytes_eq}
+use Rattle.std.specs.Prelude.{ℕ, zero, suc, pos, Bool, true, false, ◌&&◌, if◌then◌else◌, codes, List, [], ◌∷◌, ◌++◌, Option, Some, None, option_map, option_and_then, encode_utf8, bytes_eq}
 use Rattle.serde.specs.Event as event
 use Rattle.serde.specs.Event.{Event}
 use Rattle.serde.specs.Spelling.{spelled as spelled_name}
 use Rattle.serde.specs.declared.name.Case.{Case}
 use Rattle.serde.specs.declared.name.Case.TheVariants.{Kebab}
 use Rattle.serde.specs.declared.name.NameKind.TheVariants.{Field, Variant}
-use Rattle.ipld_tree.specs.Tree.{Tree, null, boolean, integer, text, bytes, list, link}
-use Rattle.ipld_tree.specs.Tree.{items_of, key_of, entries_tree}
+use Rattle.ipld_tree.specs.Tree.{Tree, null, boolean, integer, text, bytes, list, link, items_of, key_of, entries_tree}
 use Rattle.dagcbor_write.specs.Trees.{Pair}
 
 -- what an open map wants next: a key, a key as a value, the value of a key, or a map whose entries

@@ -1,9 +1,5 @@
 -- What the writer holds for what is open; for private clauses.
-use Rattle.std.specs.Prelude.{◌≡◌, ℕ, zero, ◌+◌, ◌≤◌, ◌<◌, List, [], ◌∷◌, ◌++◌, length, map, take}
-use Rattle.std.specs.Prelude.{drop, Option, Some, None, reverse, slice_range, Bool, true, false}
-use Rattle.std.specs.Prelude.{IsSomeAnd, ⊤}
-use Rattle.std.specs.List.{All, flat_map}
-use Rattle.std.specs.List.Sorted.{IsSortedBy}
+use Rattle.std.specs.Prelude.{◌≡◌, ℕ, zero, ◌+◌, ◌≤◌, ◌<◌, List, [], ◌∷◌, ◌++◌, length, map, take, drop, Option, Some, None, reverse, slice_range, Bool, true, false, IsSomeAnd, ⊤, All, flat_map, IsSortedBy}
 use Rattle.serde.specs.Event.{Log}
 use Rattle.ipld_tree.specs.Tree.{Tree, text, link, IsTree, AreItems, items_of}
 use Rattle.ipld_tree.specs.Spelled.{spelled, spelled_items}
@@ -12,9 +8,7 @@ use Rattle.dagcbor_write.specs.Spans.{entry_at, IsWithin}
 use Rattle.dagcbor_write.specs.Trees.{Pair}
 use Rattle.dagcbor_write.specs.Maps.{Texts, AreSpellingsOf}
 use Rattle.dagcbor_write.specs.Order.{PutsInOrder, KeysDiffer, goes_before, entries_bytes}
-use Rattle.dagcbor_serde.specs.Building.{Wait, rests, for_key, for_value, for_map, Level, whole, in_list}
-use Rattle.dagcbor_serde.specs.Building.{in_map, in_link, State, put, put_key, on_top, steps, start}
-use Rattle.dagcbor_serde.specs.Building.{events_tree}
+use Rattle.dagcbor_serde.specs.Building.{Wait, rests, for_key, for_value, for_map, Level, whole, in_list, in_map, in_link, State, put, put_key, on_top, steps, start, events_tree}
 use Rattle.dagcbor_serde.specs.declared.frame.Frame.{Frame}
 use Rattle.dagcbor_serde.specs.declared.frame.Stage.{Stage}
 use Rattle.dagcbor_serde.specs.declared.frame.Stage.TheVariants as stage

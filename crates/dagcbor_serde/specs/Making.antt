@@ -1,8 +1,6 @@
 -- Events that make a tree, wherever it is put.
-use Rattle.std.specs.Prelude.{◌≡◌, ℕ, ℤ, pos, map, List, [], ◌++◌, Bool, true, false, IsTrue, Some}
-use Rattle.std.specs.Prelude.{None, ⊤}
-use Rattle.serde.specs.Event.{Event, Log, Logs, WritesSeq, nothing, boolean, unsigned, signed}
-use Rattle.serde.specs.Event.{text, octets}
+use Rattle.std.specs.Prelude.{◌≡◌, ℕ, ℤ, pos, map, List, [], ◌++◌, Bool, true, false, IsTrue, Some, None, ⊤}
+use Rattle.serde.specs.Event.{Event, Log, Logs, WritesSeq, nothing, boolean, unsigned, signed, text, octets}
 use Rattle.ipld_tree.specs.Tree as tree
 use Rattle.ipld_tree.specs.Tree.{Tree, null, list, items_of}
 use Rattle.ipld_tree.specs.Spelling.{IsSpelling}

@@ -1,12 +1,10 @@
 -- What is read of a source, and why it is refused.
-use Rattle.std.specs.Prelude.{◌≡◌, ℕ, ◌+◌, ◌≤◌, List, length, Option, Some, Result, MatchResult}
-use Rattle.std.specs.Prelude.{Vec, ⊤}
+use Rattle.std.specs.Prelude.{◌≡◌, ℕ, ◌+◌, ◌≤◌, List, length, Option, Some, Result, MatchResult, Vec, ⊤}
 use Rattle.std.specs.declared.alloc.Global.{Global}
 use Rattle.dagcbor_heads.specs.Reading.{Reading, default_steps}
 use Rattle.dagcbor_heads.specs.Refusals.{RefusesOrLacksMemory}
 use Rattle.dagcbor_heads.specs.declared.error.DecodeError.{DecodeError}
-use Rattle.dagcbor_heads.specs.declared.error.DecodeError.TheVariants.{Read, RequireBorrowed}
-use Rattle.dagcbor_heads.specs.declared.error.DecodeError.TheVariants.{OutOfMemory, Failed}
+use Rattle.dagcbor_heads.specs.declared.error.DecodeError.TheVariants.{Read, RequireBorrowed, OutOfMemory, Failed}
 use Rattle.ipld_tree.specs.Tree.{Tree, any_need}
 use Rattle.ipld_tree.specs.Spelling.{IsFront, IsSpelling}
 use Rattle.dagcbor_items.specs.ItemCauses.{CauseInside}

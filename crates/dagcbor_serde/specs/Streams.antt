@@ -1,6 +1,5 @@
 -- Streams: values one behind the other.
-use Rattle.std.specs.Prelude.{◌≡◌, ℕ, ◌+◌, Bool, true, false, List, length, Option, None, Some}
-use Rattle.std.specs.Prelude.{Result, Ok, Err, is_err, MatchBool}
+use Rattle.std.specs.Prelude.{◌≡◌, ℕ, ◌+◌, Bool, true, false, List, length, Option, None, Some, Result, Ok, Err, is_err, MatchBool}
 use Rattle.std.specs.Iterator.{Count}
 use Rattle.dagcbor_heads.specs.Reading.{Reading}
 use Rattle.dagcbor_heads.specs.Fronts.{FindsEnd}

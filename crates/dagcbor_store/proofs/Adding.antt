@@ -1,6 +1,5 @@
 -- Sections that are added to a store one by one, and what a refusal leaves.
-use Rattle.std.proofs.Common.{◌≡◌, inl, inr, ℕ, List, [], ◌∷◌, ◌++◌, refl, sym, ◌∙◌, subst, IsTrue, arith}
-use Rattle.std.specs.Prelude.{◌⊎◌}
+use Rattle.std.proofs.Common.{◌≡◌, inl, inr, ℕ, List, [], ◌∷◌, ◌++◌, refl, sym, ◌∙◌, subst, IsTrue, arith, ◌⊎◌}
 use Rattle.sqlite_trees.specs.Tree.{Trees}
 use Rattle.sqlite_trees.specs.View.{View, IsClean, Tells}
 use Rattle.sqlite_trees.specs.declared.store.Store.{Ghosts}

@@ -1,7 +1,5 @@
 -- What the calls of a store answer.
-use Rattle.std.proofs.Common.{◌≡◌, inl, inr, ℕ, ◌≤◌, List, Bool, true, false, refl, sym, ap, ◌∙◌, subst, true≢false, IsTrue, arith}
-use Rattle.std.specs.Prelude.{Option, option_map, Result, Ok, Err, IfOk, IfErr, OnOk, OnErr, Vec}
-use Rattle.std.specs.declared.alloc.Global.{Global}
+use Rattle.std.proofs.Common.{◌≡◌, inl, inr, ℕ, ◌≤◌, List, Bool, true, false, refl, sym, ap, ◌∙◌, subst, true≢false, IsTrue, arith, Option, option_map, Result, Ok, Err, IfOk, IfErr, OnOk, OnErr, Vec, Global}
 use Rattle.sqlite_disk.specs.Disk.{MoreFaults}
 use Rattle.sqlite_trees.specs.Tree.{Trees, has_rowid}
 use Rattle.sqlite_trees.specs.View.{View, IsClean, KeepsCommitted, IsRolledBack, HasCause, OnlyWrites, Commits, Tells}

@@ -1,6 +1,5 @@
 -- How a call of several steps on rows ends.
-use Rattle.std.proofs.Common.{◌≡◌, sym, ap, ◌∙◌, subst, arith}
-use Rattle.std.specs.Prelude.{Result, Ok, Err}
+use Rattle.std.proofs.Common.{◌≡◌, sym, ap, ◌∙◌, subst, arith, Result, Ok, Err}
 use Rattle.sqlite_trees.specs.View.{View, IsClean, KeepsSchema, KeepsCommitted, OnlyWrites}
 use Rattle.sqlite_trees.specs.declared.store.Store.{Ghosts}
 use Rattle.sqlite_trees.specs.declared.error.StoreError.{StoreError}

@@ -1,8 +1,7 @@
 -- What a seek in the index of names finds.
-use Rattle.std.proofs.Common.{◌≡◌, inl, inr, ℕ, ℤ, List, [], ◌∷◌, ◌++◌, Bool, true, false, cond, Ordering, Less, Equal, Greater, is_lt, refl, sym, ap, ◌∙◌, subst, true≢false, length, arith}
-use Rattle.std.specs.Prelude.{◌⊎◌, ◌≢◌, Option, None, Some, MatchOption, is_some}
+use Rattle.std.proofs.Common.{◌≡◌, inl, inr, ℕ, ℤ, List, [], ◌∷◌, ◌++◌, Bool, true, false, cond, Ordering, Less, Equal, Greater, is_lt, refl, sym, ap, ◌∙◌, subst, true≢false, length, arith, ◌⊎◌, ◌≢◌, Option, None, Some, MatchOption, is_some, nat_cmp, Result, Ok, Err}
 use Rattle.std.specs.List.{AllByRecursion}
-use Rattle.std.specs.Ordering.{nat_cmp, ordering_then, ordering_reverse}
+use Rattle.std.specs.Ordering.{ordering_then, ordering_reverse}
 use Rattle.std.proofs.lemmas.Bool.Decides.{nat_tests}
 use Rattle.std.proofs.lemmas.Cmp.{tied_itself, nat_cmp_total, nat_list_cmp_total}
 use Rattle.sqlite_value.specs.declared.value.Value.{Value}
@@ -23,7 +22,6 @@ use Rattle.dagcbor_car.specs.Sets.{Among}
 use Rattle.dagcbor_store.specs.Rows.{name_tree, name_entry, IsOther, IsListed, IsNameEntry, AreNameEntries, FindsName, name_cmp, EntersName, IsFirstFrom, FindsFirst, Seeks}
 use Rattle.dagcbor_store.specs.Stored.{bound_behind, IsBehind, IsNext}
 use Rattle.ipld_tree.specs.declared.cid_error.CidError.{CidError}
-use Rattle.std.specs.Prelude.{Result, Ok, Err}
 use Rattle.ipld_tree.specs.Cid.{CidParts, cid_bytes}
 
 pub all_among : {X : Type 0} (P : X → Type 0) (x : X) (xs : List X) → AllByRecursion P xs → Among x xs → P x

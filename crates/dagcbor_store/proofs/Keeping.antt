@@ -1,6 +1,5 @@
 -- What a store holds after a step, and that it stays ready.
-use Rattle.std.proofs.Common.{◌≡◌, inl, inr, ℕ, ℤ, List, [], ◌∷◌, filter, Bool, true, false, not, Ordering, Less, Equal, Greater, is_eq, refl, sym, ap, ◌∙◌, subst, true≢false, IsTrue, arith}
-use Rattle.std.specs.Prelude.{◌⊎◌, ◌↔◌, Option, None, Some, is_some, Ok, Err}
+use Rattle.std.proofs.Common.{◌≡◌, inl, inr, ℕ, ℤ, List, [], ◌∷◌, filter, Bool, true, false, not, Ordering, Less, Equal, Greater, is_eq, refl, sym, ap, ◌∙◌, subst, true≢false, IsTrue, arith, ◌⊎◌, ◌↔◌, Option, None, Some, is_some, Ok, Err}
 use Rattle.std.specs.Ordering.{match_ordering}
 use Rattle.sqlite_value.specs.declared.value.Value.TheVariants.{Int, Blob}
 use Rattle.sqlite_value.specs.Order.{Row, column, value_cmp}

@@ -1,7 +1,5 @@
 -- Numbers of rows: which are free, and which row has one.
-use Rattle.std.proofs.Common.{◌≡◌, inl, inr, ℕ, ℤ, pos, ◌+ℤ◌, List, [], ◌∷◌, ◌++◌, filter, Bool, true, false, cond, Less, is_eq, int_cmp, refl, sym, ap, ◌∙◌, subst, true≢false, arith, IsTrue}
-use Rattle.std.specs.Prelude.{◌≢◌, Option, None, Some, MatchOption, option_map, Vec}
-use Rattle.std.specs.declared.alloc.Global.{Global}
+use Rattle.std.proofs.Common.{◌≡◌, inl, inr, ℕ, ℤ, pos, ◌+ℤ◌, List, [], ◌∷◌, ◌++◌, filter, Bool, true, false, cond, Less, is_eq, int_cmp, refl, sym, ap, ◌∙◌, subst, true≢false, arith, IsTrue, ◌≢◌, Option, None, Some, MatchOption, option_map, Vec, Global}
 use Rattle.std.proofs.lemmas.Int.{ints}
 use Rattle.std.proofs.lemmas.Bool.Decides.{nat_tests}
 use Rattle.std.proofs.lemmas.Cmp.{tied_itself}

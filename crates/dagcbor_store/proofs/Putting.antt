@@ -1,6 +1,5 @@
 -- Values that are kept.
-use Rattle.std.proofs.Common.{◌≡◌, ℕ, List, [], ap, ◌∙◌, subst}
-use Rattle.std.specs.Prelude.{Option, None, Some, IsSomeAnd}
+use Rattle.std.proofs.Common.{◌≡◌, ℕ, List, [], ap, ◌∙◌, subst, Option, None, Some, IsSomeAnd}
 use Rattle.sqlite_trees.specs.Tree.{Trees}
 use Rattle.sqlite_trees.specs.View.{IsClean}
 use Rattle.sqlite_trees.specs.declared.store.Store.{Ghosts}

@@ -1,6 +1,5 @@
 -- What a walk over the index of names tells.
-use Rattle.std.proofs.Common.{Bool, IsTrue, ◌≡◌, inl, inr, ℕ, ◌+◌, ℤ, List, [], ◌∷◌, ◌++◌, Less, is_lt, refl, sym, ap, ◌∙◌, subst, true≢false, length, arith, length-append, append_assoc}
-use Rattle.std.specs.Prelude.{◌⊎◌, ◌↔◌}
+use Rattle.std.proofs.Common.{Bool, IsTrue, ◌≡◌, inl, inr, ℕ, ◌+◌, ℤ, List, [], ◌∷◌, ◌++◌, Less, is_lt, refl, sym, ap, ◌∙◌, subst, true≢false, length, arith, length-append, append_assoc, ◌⊎◌, ◌↔◌}
 use Rattle.ipld_tree.specs.Cid.{IsCid}
 use Rattle.std.specs.List.{AllByRecursion}
 use Rattle.std.proofs.lemmas.Cmp.{tied_itself}

@@ -1,6 +1,5 @@
 -- What is read into a store from a file of blocks.
-use Rattle.std.specs.Prelude.{◌≡◌, ◌↔◌, ◌⊎◌, ℕ, ◌-◌, ◌^◌, List, length, Option, None, Some, IsTrue}
-use Rattle.std.specs.Prelude.{Result, Err, MatchBool, MatchResult, Bool, Vec}
+use Rattle.std.specs.Prelude.{◌≡◌, ◌↔◌, ◌⊎◌, ℕ, ◌-◌, ◌^◌, List, length, Option, None, Some, IsTrue, Result, Err, MatchBool, MatchResult, Bool, Vec}
 use Rattle.std.specs.List.{AllByRecursion}
 use Rattle.std.specs.declared.alloc.Global.{Global}
 use Rattle.sqlite_trees.specs.Tree.{Trees}
@@ -12,8 +11,7 @@ use Rattle.dagcbor_items.specs.Walks.{forms}
 use Rattle.dagcbor_car.specs.Car.{Section}
 use Rattle.dagcbor_car.specs.Versions.{IsFile}
 use Rattle.dagcbor_car.specs.Extents.{within, wanting, of_file, EndsThere}
-use Rattle.dagcbor_car.specs.Sources.{CarRefuses, RefusesStart, RefusesNext, TakesSectionBytes}
-use Rattle.dagcbor_car.specs.Sources.{LacksMemoryIf, FileLacks, SectionLacks}
+use Rattle.dagcbor_car.specs.Sources.{CarRefuses, RefusesStart, RefusesNext, TakesSectionBytes, LacksMemoryIf, FileLacks, SectionLacks}
 use Rattle.dagcbor_car.specs.Checks.{IsFileFront, StandBehind}
 use Rattle.dagcbor_car.specs.Sets.{Among}
 use Rattle.dagcbor_car.specs.declared.error.CarError.{CarError}

@@ -1,12 +1,7 @@
 -- The pairs of a map, handed over one after another.
-use Rattle.std.proofs.Common.{◌≡◌, ◌⊎◌, inl, inr, ℕ, zero, suc, List, [], ◌∷◌, ◌++◌, length, map, Option, None, Some, Bool, true, false, cond, Result, Ok, Err, refl, sym, ap, ◌∙◌, subst, append_assoc, append-nil}
-use Rattle.std.specs.Prelude.{Any, IfSome, is_some, MatchResult, option_map, option_and_then}
-use Rattle.std.proofs.Common.{◌<◌, ◌^◌, take, drop, get_or, arith}
-use Rattle.std.proofs.Math.Seq.{drop-cons}
-use Rattle.std.proofs.lemmas.List.{take-append-drop}
+use Rattle.std.proofs.Common.{◌≡◌, ◌⊎◌, inl, inr, ℕ, zero, suc, List, [], ◌∷◌, ◌++◌, length, map, Option, None, Some, Bool, true, false, cond, Result, Ok, Err, refl, sym, ap, ◌∙◌, subst, append_assoc, append-nil, Any, IfSome, is_some, MatchResult, option_map, option_and_then, ◌<◌, ◌^◌, take, drop, get_or, arith, drop-cons, take-append-drop, IsErrAnd}
 use Rattle.std.specs.Fmt.{◌++?◌}
 use Rattle.std.specs.Map.Iter.{TakesFirst}
-use Rattle.std.specs.Result.{IsErrAnd}
 use Rattle.dagcbor_heads.proofs.Writing.{append_None, append_Some, appends_nothing, wrote_nothing, Written-but, begin_writing, next_part, last_part}
 use Rattle.dagcbor_heads.specs.Messages.{message_bytes}
 use Rattle.dagcbor_heads.specs.Written.{Written, WroteAll, Writes, Stops}

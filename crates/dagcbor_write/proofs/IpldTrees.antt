@@ -1,6 +1,5 @@
 -- The trees of data of any kind, by those of its parts.
-use Rattle.std.proofs.Common.{◌≡◌, List, [], ◌∷◌, map, Option, None, Some, Result, Vec, BTreeMap, String, Global, Bool, string_bytes, string_cmp, cond, refl, sym, ap, ◌∙◌, subst, rules}
-use Rattle.std.specs.Prelude.{IfSome, OnOk, option_map, option_and_then}
+use Rattle.std.proofs.Common.{◌≡◌, List, [], ◌∷◌, map, Option, None, Some, Result, Vec, BTreeMap, String, Global, Bool, string_bytes, string_cmp, cond, refl, sym, ap, ◌∙◌, subst, rules, IfSome, OnOk, option_map, option_and_then}
 use Rattle.std.specs.List.Sorted.{IsStrictlySortedBy}
 use Rattle.std.specs.Map.{keys_of}
 use Rattle.dagcbor_heads.specs.declared.error.EncodeError.{EncodeError}

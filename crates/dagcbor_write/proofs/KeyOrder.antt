@@ -1,11 +1,6 @@
 -- Pairs whose keys alone are spelled: in the order of these spellings they are the map.
-use Rattle.std.proofs.Common.{◌≡◌, ℕ, suc, ◌+◌, ◌<◌, ◌≤◌, drop, take, List, [], ◌∷◌, ◌++◌, length, get_or, map, Option, None, Some, Bool, true, false, Less, Result, Ok, Err, refl, sym, ap, ap₂, ◌∙◌, subst, arith, add-one, append-nil}
-use Rattle.std.proofs.Math.Seq.{drop-cons}
-use Rattle.std.proofs.Math.ListN.{drop_of_length-le}
-use Rattle.std.proofs.lemmas.List.{take_all}
-use Rattle.std.specs.Prelude.{IfSome, IsSomeAnd, OnOk, option_and_then}
+use Rattle.std.proofs.Common.{◌≡◌, ℕ, suc, ◌+◌, ◌<◌, ◌≤◌, drop, take, List, [], ◌∷◌, ◌++◌, length, get_or, map, Option, None, Some, Bool, true, false, Less, Result, Ok, Err, refl, sym, ap, ap₂, ◌∙◌, subst, arith, add-one, append-nil, drop-cons, drop_of_length-le, take_all, IfSome, IsSomeAnd, OnOk, option_and_then, is_lt}
 use Rattle.std.specs.Fmt.{◌++?◌}
-use Rattle.std.specs.Ordering.{is_lt}
 use Rattle.ipld_tree.specs.Key.{bytes_cmp, key_cmp}
 use Rattle.ipld_tree.specs.Tree.{Tree, text, IsTree, key_of, pair_of, all_some, map_tree, ordered_entries, repeats_key, entries_tree}
 use Rattle.ipld_tree.specs.Spelled.{spelled, spelled_tree, spelled_head}

@@ -1,8 +1,5 @@
 -- A key is a text exactly where its spelling begins as one.
-use Rattle.std.proofs.Common.{◌≡◌, ℕ, ◌+◌, ◌*◌, ◌/◌, ◌<◌, List, [], ◌∷◌, ◌++◌, length, drop, ◌-◌, pos, negsuc, Option, None, Some, Bool, true, false, refl, sym, ap, ◌∙◌, subst, arith}
-use Rattle.std.proofs.lemmas.List.{take_all, length-drop}
-use Rattle.std.specs.List.{slice_range}
-use Rattle.std.specs.Prelude.{IfSome, nat_eq, option_and_then}
+use Rattle.std.proofs.Common.{◌≡◌, ℕ, ◌+◌, ◌*◌, ◌/◌, ◌<◌, List, [], ◌∷◌, ◌++◌, length, drop, ◌-◌, pos, negsuc, Option, None, Some, Bool, true, false, refl, sym, ap, ◌∙◌, subst, arith, take_all, length-drop, slice_range, IfSome, nat_eq, option_and_then}
 use Rattle.ipld_tree.specs.Tree.{Tree, integer, text, IsTree, key_of}
 use Rattle.ipld_tree.specs.Spelling.{IsFront, spelling}
 use Rattle.ipld_tree.specs.Spelled.{spelled, spelled_tree}

@@ -1,9 +1,6 @@
 -- The spelling of a list, by its items.
-use Rattle.std.proofs.Common.{◌≡◌, ℕ, suc, ◌+◌, List, [], ◌∷◌, length, Option, None, Some, refl, sym, ap, ap₂, ◌∙◌, add-one, map, ◌<◌, get_or, drop, take, subst, ◌≤◌, ◌++◌}
-use Rattle.std.proofs.Math.Seq.{drop-cons}
-use Rattle.std.proofs.Math.ListN.{drop_of_length-le}
-use Rattle.std.proofs.lemmas.List.{length-map, take_more, take_all}
-use Rattle.std.specs.Prelude.{option_map, option_and_then, IfSome, OnOk, Result, Ok, Err}
+use Rattle.std.proofs.Common.{◌≡◌, ℕ, suc, ◌+◌, List, [], ◌∷◌, length, Option, None, Some, refl, sym, ap, ap₂, ◌∙◌, add-one, map, ◌<◌, get_or, drop, take, subst, ◌≤◌, ◌++◌, drop-cons, drop_of_length-le, take_all, option_map, option_and_then, IfSome, OnOk, Result, Ok, Err}
+use Rattle.std.proofs.lemmas.List.{length-map, take_more}
 use Rattle.std.specs.Fmt.{◌++?◌}
 use Rattle.dagcbor_heads.proofs.Writing.{append_None, append_Some, Some_append, joined_assoc, Written-but, begin_writing, join_parts}
 use Rattle.dagcbor_heads.specs.Written.{Written}

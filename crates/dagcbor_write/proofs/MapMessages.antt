@@ -1,9 +1,7 @@
 -- Why a map that is at hand is refused with a message.
-use Rattle.std.proofs.Common.{◌≡◌, ℕ, suc, ◌<◌, List, [], ◌∷◌, ◌++◌, length, get_or, map, Option, None, Some, Bool, true, false, ◌||◌, is_none, IsTrue, Result, Ok, Err, inl, inr, refl, sym, ap, ap₂, ◌∙◌, subst, arith, add-one, codes}
-use Rattle.std.specs.Prelude.{IfErr, IsSomeAnd, option_and_then}
-use Rattle.std.specs.List.{Any, list_any}
+use Rattle.std.proofs.Common.{◌≡◌, ℕ, suc, ◌<◌, List, [], ◌∷◌, ◌++◌, length, get_or, map, Option, None, Some, Bool, true, false, ◌||◌, is_none, IsTrue, Result, Ok, Err, inl, inr, refl, sym, ap, ap₂, ◌∙◌, subst, arith, add-one, codes, IfErr, IsSomeAnd, option_and_then, Any, IsErrAnd}
+use Rattle.std.specs.List.{list_any}
 use Rattle.std.specs.Map.{keys_of}
-use Rattle.std.specs.Result.{IsErrAnd}
 use Rattle.std.proofs.lemmas.List.Folds.{list_any_at, Any-from_list_any}
 use Rattle.std.proofs.lemmas.List.Sorted.{list_any-IsPermutation, IsPermutation-map}
 use Rattle.std.proofs.lemmas.Map.Keys.{IsDistinct-IsPermutation}

@@ -1,13 +1,12 @@
 -- The map of pairs, by the entries that spell them.
-use Rattle.std.proofs.Common.{◌≡◌, ◌≢◌, ℕ, zero, suc, ◌^◌, ◌<◌, List, [], ◌∷◌, ◌++◌, length, get_or, set, map, Option, None, Some, Bool, true, false, cond, Less, Equal, refl, sym, ap, ap₂, ◌∙◌, subst, arith, add-one, IsPermutation, is_eq}
+use Rattle.std.proofs.Common.{◌≡◌, ◌≢◌, ℕ, zero, suc, ◌^◌, ◌<◌, List, [], ◌∷◌, ◌++◌, length, get_or, set, map, Option, None, Some, Bool, true, false, cond, Less, Equal, refl, sym, ap, ap₂, ◌∙◌, subst, arith, add-one, IsPermutation, is_eq, IsUtf8, IfSome, IsSomeAnd, IsTrue, OnOk, Result, option_map, option_and_then, swap, is_lt}
 use Rattle.std.proofs.lemmas.List.Sorted.{IsPermutation-keeps, IsPermutation-refl, IsPermutation-trans, IsPermutation-swap, IsPermutation-map}
 use Rattle.std.proofs.lemmas.Map.Keys.{IsDistinct-IsPermutation}
-use Rattle.std.specs.Prelude.{IsUtf8, IfSome, IsSomeAnd, IsTrue, OnOk, Result, option_map, option_and_then, ⊤}
+use Rattle.std.specs.Prelude.{⊤}
 use Rattle.std.specs.Fmt.{◌++?◌}
-use Rattle.std.specs.List.{swap, AllByRecursion, IsDistinct}
+use Rattle.std.specs.List.{AllByRecursion, IsDistinct}
 use Rattle.std.specs.List.Sorted.{IsStrictlySortedBy}
 use Rattle.std.specs.Map.{keys_of}
-use Rattle.std.specs.Ordering.{is_lt}
 use Rattle.ipld_tree.specs.Key.{bytes_cmp, key_cmp}
 use Rattle.ipld_tree.specs.Tree.{Tree, text, mapping, Entries, entry, IsTree, key_of, entries_of, ordered_entries, repeats_key, map_tree, all_some, pair_of, entries_tree}
 use Rattle.ipld_tree.specs.Spelling.{text_spelling, entry_count}

@@ -1,16 +1,9 @@
 -- Rows of pairs that are written in the order of their keys, by their places.
-use Rattle.std.proofs.Common.{◌≡◌, ℕ, zero, suc, ◌+◌, ◌<◌, ◌≤◌, List, [], ◌∷◌, ◌++◌, length, get_or}
-use Rattle.std.proofs.Common.{take, drop, map, Option, None, Some, Bool, true, false, Less, Equal}
-use Rattle.std.proofs.Common.{Greater, Result, Ok, Err, is_err, refl, sym, ap, ◌∙◌, subst, arith}
-use Rattle.std.proofs.Common.{add-one, append_assoc, IsPermutation}
-use Rattle.std.proofs.Math.Seq.{drop-cons, take-append_seam}
-use Rattle.std.proofs.Math.ListN.{drop_of_length-le}
+use Rattle.std.proofs.Common.{◌≡◌, ℕ, zero, suc, ◌+◌, ◌<◌, ◌≤◌, List, [], ◌∷◌, ◌++◌, length, get_or, take, drop, map, Option, None, Some, Bool, true, false, Less, Equal, Greater, Result, Ok, Err, is_err, refl, sym, ap, ◌∙◌, subst, arith, add-one, append_assoc, IsPermutation, drop-cons, drop_of_length-le, ◌&&◌, IfSome, IsSomeAnd, OnOk, option_and_then, Ordering, All, is_lt}
+use Rattle.std.proofs.Math.Seq.{take-append_seam}
 use Rattle.std.proofs.lemmas.List.Sorted.{IsPermutation-map, IsPermutation-refl, All-permutation}
-use Rattle.std.specs.Prelude.{◌&&◌, IfSome, IsSomeAnd, OnOk, option_and_then}
-use Rattle.std.specs.declared.cmp.Ordering.{Ordering}
 use Rattle.std.specs.Fmt.{◌++?◌}
-use Rattle.std.specs.List.{All, refill}
-use Rattle.std.specs.Ordering.{is_lt}
+use Rattle.std.specs.List.{refill}
 use Rattle.dagcbor_heads.specs.Written.{Written}
 use Rattle.dagcbor_heads.proofs.Writing.{Written-but, begin_writing, join_parts, joined_assoc}
 use Rattle.ipld_tree.specs.Key.{key_cmp, comes_before}
@@ -19,9 +12,7 @@ use Rattle.ipld_tree.specs.Spelled.{spelled_tree, spelled_head}
 use Rattle.dagcbor_write.specs.declared.places.Place.{Place}
 use Rattle.dagcbor_write.specs.Gathering.{AppendsTo}
 use Rattle.dagcbor_write.specs.Maps.{spelled_key}
-use Rattle.dagcbor_write.specs.Rows.{spelled_pairs, ArePairs, KeysRise, pair_at, spelled_pair}
-use Rattle.dagcbor_write.specs.Rows.{IsPair, ArePlaces, ListsPlaces, names_rise, in_order}
-use Rattle.dagcbor_write.specs.Rows.{IsKeyOrder}
+use Rattle.dagcbor_write.specs.Rows.{spelled_pairs, ArePairs, KeysRise, pair_at, spelled_pair, IsPair, ArePlaces, ListsPlaces, names_rise, in_order, IsKeyOrder}
 use Rattle.dagcbor_write.specs.Trees.{Pair}
 use Rattle.dagcbor_write.proofs.Mapping.{rising_map}
 use Rattle.dagcbor_write.proofs.Walks.{same_map}

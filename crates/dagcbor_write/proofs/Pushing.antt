@@ -1,7 +1,5 @@
 -- The entries of a map, written one after another.
-use Rattle.std.proofs.Common.{◌≡◌, ℕ, ◌+◌, ◌<◌, ◌≤◌, List, [], ◌∷◌, ◌++◌, length, get_or, drop, Option, Some, Bool, refl, sym, ap, ◌∙◌, subst, add-one, append_assoc}
-use Rattle.std.proofs.Math.Seq.{drop-cons}
-use Rattle.std.proofs.Math.ListN.{drop_of_length-le}
+use Rattle.std.proofs.Common.{◌≡◌, ℕ, ◌+◌, ◌<◌, ◌≤◌, List, [], ◌∷◌, ◌++◌, length, get_or, drop, Option, Some, Bool, refl, sym, ap, ◌∙◌, subst, add-one, append_assoc, drop-cons, drop_of_length-le}
 use Rattle.std.specs.Fmt.{◌++?◌}
 use Rattle.dagcbor_heads.specs.Written.{Written, WroteAll}
 use Rattle.dagcbor_heads.proofs.Writing.{Written-but, begin_writing, append_Some, Appends_nothing, next_part, all_written}

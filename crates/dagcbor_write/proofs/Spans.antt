@@ -1,15 +1,10 @@
 -- Entries that stand in one buffer.
-use Rattle.std.proofs.Common.{◌≡◌, ℕ, zero, suc, ◌+◌, ◌-◌, ◌<◌, ◌≤◌, List, [], ◌∷◌, ◌++◌, length, map, get_or, take, drop, Option, None, Some, Bool, true, refl, sym, ap, ap₂, ◌∙◌, subst, arith, length-append}
-use Rattle.std.proofs.lemmas.List.{take-append-le, drop-append-le, take_all, drop-drop, length-drop, get_or-map, get_or_default, length-map, map_push}
+use Rattle.std.proofs.Common.{◌≡◌, ℕ, zero, suc, ◌+◌, ◌-◌, ◌<◌, ◌≤◌, List, [], ◌∷◌, ◌++◌, length, map, get_or, take, drop, Option, None, Some, Bool, true, refl, sym, ap, ap₂, ◌∙◌, subst, arith, length-append, take_all, drop-drop, length-drop, Decides, bytes_eq, IfSome, option_map, All, slice_range, IsSortedBy, is_lt}
+use Rattle.std.proofs.lemmas.List.{take-append-le, drop-append-le, get_or-map, get_or_default, length-map, map_push}
 use Rattle.std.proofs.lemmas.List.Elements.{All-get_or, All-push, recursion_from_All}
 use Rattle.std.proofs.lemmas.Slice.Eq.{bytes_eq-Decides}
 use Rattle.std.proofs.Math.Seq.{drop-append_seam}
-use Rattle.std.specs.Bool.{Decides}
-use Rattle.std.specs.Str.{bytes_eq}
-use Rattle.std.specs.Prelude.{IfSome, option_map}
-use Rattle.std.specs.List.{All, AllByRecursion, slice_range}
-use Rattle.std.specs.List.Sorted.{IsSortedBy}
-use Rattle.std.specs.Ordering.{is_lt}
+use Rattle.std.specs.List.{AllByRecursion}
 use Rattle.ipld_tree.specs.Key.{bytes_cmp}
 use Rattle.ipld_tree.specs.Tree.{Tree}
 use Rattle.ipld_tree.specs.Spelled.{spelled_tree}

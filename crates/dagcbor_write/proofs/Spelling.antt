@@ -1,6 +1,5 @@
 -- What a write of a tree's spelling says.
-use Rattle.std.proofs.Common.{◌≡◌, ℕ, ◌^◌, ◌<◌, List, [], refl, sym, ap, subst, ◌∙◌, Option, None, Some, Result, Ok, Err, Vec, Global, cond, lt-ltb, ◌⊎◌, inl, inr}
-use Rattle.std.specs.Prelude.{IfSome, IsErrAnd, IfOk, IfErr, OnOk}
+use Rattle.std.proofs.Common.{◌≡◌, ℕ, ◌^◌, ◌<◌, List, [], refl, sym, ap, subst, ◌∙◌, Option, None, Some, Result, Ok, Err, Vec, Global, cond, lt-ltb, ◌⊎◌, inl, inr, IfSome, IsErrAnd, IfOk, IfErr, OnOk}
 use Rattle.std.specs.Io.KnownBytes.{Appends}
 use Rattle.std.specs.declared.convert.Infallible.{Infallible}
 use Rattle.dagcbor_heads.specs.declared.error.EncodeError.{EncodeError}

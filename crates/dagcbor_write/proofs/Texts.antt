@@ -1,10 +1,7 @@
 -- Entries of a map whose keys are texts.
-use Rattle.std.proofs.Common.{◌≡◌, ℕ, ◌+◌, ◌<◌, ◌≤◌, List, [], ◌∷◌, ◌++◌, length, get_or, drop, map, Option, Some, String, Global, string_bytes, Bool, true, Less, Equal, Greater, refl, sym, ap, ap₂, ◌∙◌, subst, add-one, append_assoc, IsPermutation}
-use Rattle.std.proofs.Math.Seq.{drop-cons}
-use Rattle.std.proofs.Math.ListN.{drop_of_length-le}
+use Rattle.std.proofs.Common.{◌≡◌, ℕ, ◌+◌, ◌<◌, ◌≤◌, List, [], ◌∷◌, ◌++◌, length, get_or, drop, map, Option, Some, String, Global, string_bytes, Bool, true, Less, Equal, Greater, refl, sym, ap, ap₂, ◌∙◌, subst, add-one, append_assoc, IsPermutation, drop-cons, drop_of_length-le, IfSome, OnOk, Result}
 use Rattle.std.proofs.lemmas.List.{length-map}
 use Rattle.std.proofs.lemmas.List.Sorted.{IsPermutation-map}
-use Rattle.std.specs.Prelude.{IfSome, OnOk, Result}
 use Rattle.dagcbor_heads.specs.declared.error.EncodeError.{EncodeError}
 use Rattle.std.specs.Fmt.{◌++?◌}
 use Rattle.dagcbor_heads.specs.Written.{Written, Writes}

@@ -1,8 +1,7 @@
 -- Pairs in another order have the same map.
-use Rattle.std.proofs.Common.{◌≡◌, ℕ, List, [], ◌∷◌, map, Option, None, Some, Bool, true, false, cond, refl, sym, ap, ap₂, ◌∙◌, IsPermutation}
+use Rattle.std.proofs.Common.{◌≡◌, ℕ, List, [], ◌∷◌, map, Option, None, Some, Bool, true, false, cond, refl, sym, ap, ap₂, ◌∙◌, IsPermutation, IfSome, option_map, option_and_then}
 use Rattle.std.proofs.lemmas.List.Sorted.{IsPermutation-map, IsPermutation-sym}
 use Rattle.std.proofs.lemmas.Map.Keys.{IsDistinct-IsPermutation}
-use Rattle.std.specs.Prelude.{IfSome, option_map, option_and_then}
 use Rattle.std.specs.Map.{keys_of}
 use Rattle.ipld_tree.specs.Tree.{Tree, mapping, ordered_entries, repeats_key, map_tree, all_some, pair_of, entries_tree}
 use Rattle.ipld_tree.proofs.Ordered.{AreDistinct, same_place, same_place_flips, ordered_moved, distinct_from_test, test_from_distinct}

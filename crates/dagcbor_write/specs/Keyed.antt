@@ -1,9 +1,7 @@
 -- Entries of a map whose keys alone are spelled: each key's spelling, and the value.
-use Rattle.std.specs.Prelude.{◌≡◌, ℕ, Bool, List, [], ◌∷◌, ◌++◌, map, Option, Some, IsPermutation}
-use Rattle.std.specs.Prelude.{is_none, codes, IsTrue}
+use Rattle.std.specs.Prelude.{◌≡◌, ℕ, Bool, List, [], ◌∷◌, ◌++◌, map, Option, Some, IsPermutation, is_none, codes, IsTrue, IsSortedBy}
 use Rattle.std.specs.List.{list_any}
 use Rattle.std.specs.Fmt.{◌++?◌}
-use Rattle.std.specs.List.Sorted.{IsSortedBy}
 use Rattle.std.specs.Ordering.{is_lt}
 use Rattle.ipld_tree.specs.Key.{bytes_cmp}
 use Rattle.ipld_tree.specs.Tree.{Tree}

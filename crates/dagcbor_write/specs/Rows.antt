@@ -1,8 +1,5 @@
 -- A row of pairs: what it is spelled as, whether its keys rise, and in which order it is written.
-use Rattle.std.specs.Prelude.{◌≡◌, ℕ, suc, ◌<◌, Bool, true, ◌&&◌, List, [], ◌∷◌, ◌++◌, length, map}
-use Rattle.std.specs.Prelude.{slice_index_or, IsPermutation, Option, None, Some}
-use Rattle.std.specs.Prelude.{option_and_then, option_map, IfSome, IsSomeAnd, ⊤}
-use Rattle.std.specs.List.{All}
+use Rattle.std.specs.Prelude.{◌≡◌, ℕ, suc, ◌<◌, Bool, true, ◌&&◌, List, [], ◌∷◌, ◌++◌, length, map, slice_index_or, IsPermutation, Option, None, Some, option_and_then, option_map, IfSome, IsSomeAnd, ⊤, All}
 use Rattle.std.specs.Borrow.{Bor}
 use Rattle.std.specs.Fmt.{◌++?◌}
 use Rattle.std.specs.declared.cmp.Ordering.TheVariants.{Less}

@@ -1,6 +1,5 @@
 -- Entries of a map that stand in one buffer.
-use Rattle.std.specs.Prelude.{ℕ, ◌≤◌, List}
-use Rattle.std.specs.List.{slice_range}
+use Rattle.std.specs.Prelude.{ℕ, ◌≤◌, List, slice_range}
 use Rattle.dagcbor_write.specs.declared.collect.gathered.Span.{Span}
 use Rattle.dagcbor_write.specs.declared.collect.keyed.KeySpan.{KeySpan}
 use Rattle.dagcbor_write.specs.Maps.{Texts}

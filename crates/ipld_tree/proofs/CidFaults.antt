@@ -1,7 +1,7 @@
 -- Of a CID no fault stands, and of other bytes at most one.
-use Rattle.std.proofs.Common.{◌≡◌, ◌⊎◌, inl, inr, ℕ, ◌^◌, ◌<◌, ◌≤◌, List, [], ◌∷◌, ◌++◌, length, refl, sym, ap, ◌∙◌, subst, arith, append_assoc, append-nil, length-append}
+use Rattle.std.proofs.Common.{◌≡◌, ◌⊎◌, inl, inr, ℕ, ◌^◌, ◌<◌, ◌≤◌, List, [], ◌∷◌, ◌++◌, length, refl, sym, ap, ◌∙◌, subst, arith, append_assoc, append-nil, length-append, flat_map}
 use Rattle.std.proofs.lemmas.Bool.{cases_order}
-use Rattle.std.specs.List.{AllByRecursion, flat_map}
+use Rattle.std.specs.List.{AllByRecursion}
 use Rattle.ipld_tree.specs.Cid.{varint, CidParts, IsVersion1, cid_bytes, IsCid}
 use Rattle.ipld_tree.specs.CidFault.{IsCutVarint, IsNoVarint, IsVarintFault, HasVarints, AtVarint, AtDigest, IsFault}
 use Rattle.ipld_tree.specs.declared.cid_error.CidError.{CidError}

@@ -1,7 +1,6 @@
 -- Two lists or maps with one tree have the same items or entries.
-use Rattle.std.proofs.Common.{◌≡◌, inl, inr, ℕ, List, [], ◌∷◌, Bool, Less, Equal, String, Vec, BTreeMap, Global, string_bytes, string_cmp, refl, sym, ap, ◌∙◌}
+use Rattle.std.proofs.Common.{◌≡◌, inl, inr, ℕ, List, [], ◌∷◌, Bool, Less, Equal, String, Vec, BTreeMap, Global, string_bytes, string_cmp, refl, sym, ap, ◌∙◌, IsTrue, ◌↔◌}
 use Rattle.std.proofs.lemmas.Cmp.{nat_list_cmp_total, tied_itself}
-use Rattle.std.specs.Prelude.{IsTrue, ◌↔◌}
 use Rattle.std.specs.List.{AllByRecursion}
 use Rattle.std.specs.List.Sorted.{IsStrictlySortedBy}
 use Rattle.std.specs.Map.{keys_of}

@@ -1,14 +1,12 @@
 -- An `Ipld`, level by level, and what its tree needs.
-use Rattle.std.proofs.Common.{◌≡◌, ℕ, ◌+◌, ◌<◌, min, max, length, get_or, take, List, [], ◌∷◌, ◌++◌, Bool, true, false, cond, map, String, Vec, BTreeMap, Global, string_bytes, refl, sym, add-one, ap, ◌∙◌, subst, arith, rules, append_assoc, string_cmp, Ordering, Less, Equal, Greater}
-use Rattle.std.proofs.Math.Seq.{take-suc}
-use Rattle.std.proofs.lemmas.Cmp.{ranked, by_ranked}
+use Rattle.std.proofs.Common.{◌≡◌, ℕ, ◌+◌, ◌<◌, min, max, length, get_or, take, List, [], ◌∷◌, ◌++◌, Bool, true, false, cond, map, String, Vec, BTreeMap, Global, string_bytes, refl, sym, add-one, ap, ◌∙◌, subst, arith, rules, append_assoc, string_cmp, Ordering, Less, Equal, Greater, take-suc, nat_cmp, is_lt}
+use Rattle.std.proofs.lemmas.Cmp.{ranked, by_ranked, nat_list_cmp_total}
 use Rattle.std.proofs.lemmas.List.{map-append}
-use Rattle.std.proofs.lemmas.Cmp.{nat_list_cmp_total}
 use Rattle.std.specs.BTreeMap.{insert_entry}
 use Rattle.std.specs.List.{AllByRecursion}
 use Rattle.std.specs.List.Sorted.{IsStrictlySortedBy}
 use Rattle.std.specs.Map.{keys_of}
-use Rattle.std.specs.Ordering.{nat_cmp, is_lt, ord_max, match_ordering, ordering_reverse}
+use Rattle.std.specs.Ordering.{ord_max, match_ordering, ordering_reverse}
 use Rattle.ipld_tree.specs.Key.{bytes_cmp, comes_before}
 use Rattle.ipld_tree.specs.Tree.{Tree, text, bytes, list, mapping, Items, Entries, no_entries, entry, items_of, insert, ordered_entries, any_need, items_need, entries_need}
 use Rattle.ipld_tree.specs.Ipld.{tree_of, trees_of, pairs_of}

@@ -1,12 +1,9 @@
 -- Why bytes are no CID: the first fault from the front (CID specification, decoding).
-use Rattle.std.specs.Prelude.{◌≡◌, ◌≢◌, ℕ, ◌^◌, ◌<◌, ◌≤◌, ◌⊎◌, List, [], ◌∷◌, ◌++◌, length, Result}
-use Rattle.std.specs.Prelude.{MatchResult}
-use Rattle.std.specs.List.{AllByRecursion, flat_map}
+use Rattle.std.specs.Prelude.{◌≡◌, ◌≢◌, ℕ, ◌^◌, ◌<◌, ◌≤◌, ◌⊎◌, List, [], ◌∷◌, ◌++◌, length, Result, MatchResult, flat_map}
+use Rattle.std.specs.List.{AllByRecursion}
 use Rattle.ipld_tree.specs.Cid.{varint, CidParts, AreCidParts, cid_bytes, IsCid}
 use Rattle.ipld_tree.specs.declared.cid_error.CidError.{CidError}
-use Rattle.ipld_tree.specs.declared.cid_error.CidError.TheVariants.{InvalidVersion, InvalidVarint}
-use Rattle.ipld_tree.specs.declared.cid_error.CidError.TheVariants.{DigestTooLong, Truncated}
-use Rattle.ipld_tree.specs.declared.cid_error.CidError.TheVariants.{TrailingBytes}
+use Rattle.ipld_tree.specs.declared.cid_error.CidError.TheVariants.{InvalidVersion, InvalidVarint, DigestTooLong, Truncated, TrailingBytes}
 
 -- the bytes end inside a varint
 abbrev pub IsCutVarint : List ℕ → Type 0

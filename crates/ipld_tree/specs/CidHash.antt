@@ -1,5 +1,6 @@
 -- What a CID hands to a hasher.
-use Rattle.std.proofs.Common.{◌≡◌, ℕ, ◌++◌, true, Ordering, Less, Equal, Greater, refl, sym, ap}
+use Rattle.std.specs.Prelude.{◌≡◌, ℕ, ◌++◌, true, refl}
+use Rattle.std.proofs.Common.{Ordering, Less, Equal, Greater, sym, ap}
 use Rattle.std.proofs.lemmas.Cmp.{ranked}
 use Rattle.std.proofs.lemmas.Map.Lookups.{exact_bytes}
 use Rattle.std.proofs.Math.Bool.{true≢false}

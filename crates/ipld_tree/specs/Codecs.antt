@@ -1,7 +1,6 @@
 -- What the calls of a codec answer, whatever its format is. Bytes and data are tied by one
 -- relation, that of encodings, for writing and for reading.
-use Rattle.std.specs.Prelude.{◌≡◌, ◌⊎◌, ℕ, List, map, Option, IfSome, IsSomeAnd, Result}
-use Rattle.std.specs.Prelude.{MatchResult, Vec}
+use Rattle.std.specs.Prelude.{◌≡◌, ◌⊎◌, ℕ, List, map, Option, IfSome, IsSomeAnd, Result, MatchResult, Vec}
 use Rattle.std.specs.Io.KnownBytes.{Appends}
 use Rattle.std.specs.declared.alloc.Global.{Global}
 use Rattle.dagcbor_heads.specs.Written.{AppendsSome, AppendsFront}

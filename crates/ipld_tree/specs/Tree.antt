@@ -1,7 +1,5 @@
 -- The data of DAG-CBOR, without floats (DAG-CBOR specification: the IPLD data model).
-use Rattle.std.specs.Prelude.{ℕ, ℤ, ◌+◌, max, Bool, false, ◌||◌, List, [], ◌∷◌, ◌++◌, Option, Some}
-use Rattle.std.specs.Prelude.{None, option_map, option_and_then, map, if◌then◌else◌, IsUtf8}
-use Rattle.std.specs.Prelude.{IsTrue, ⊤}
+use Rattle.std.specs.Prelude.{ℕ, ℤ, ◌+◌, max, Bool, false, ◌||◌, List, [], ◌∷◌, ◌++◌, Option, Some, None, option_map, option_and_then, map, if◌then◌else◌, IsUtf8, IsTrue, ⊤}
 use Rattle.std.specs.Ordering.{is_eq}
 use Rattle.ipld_tree.specs.Key.{key_cmp, comes_before}
 use Rattle.ipld_tree.specs.Cid.{IsCid}

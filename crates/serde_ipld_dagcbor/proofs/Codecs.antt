@@ -1,6 +1,5 @@
 -- DAG-CBOR as a codec.
-use Rattle.std.proofs.Common.{◌≡◌, ◌⊎◌, inl, inr, ℕ, List, sym, subst}
-use Rattle.std.specs.Prelude.{Bool, Option, None, Some, IfSome}
+use Rattle.std.proofs.Common.{◌≡◌, ◌⊎◌, inl, inr, ℕ, List, sym, subst, Bool, Option, None, Some, IfSome}
 use Rattle.dagcbor_heads.specs.declared.error.DecodeError.{DecodeError}
 use Rattle.dagcbor_heads.specs.declared.error.DecodeError.TheVariants.{Read, RequireBorrowed, OutOfMemory, TrailingData, Failed}
 use Rattle.ipld_tree.specs.Codecs.{AreRead}

@@ -16,8 +16,7 @@ use Rattle.dagcbor_read.specs.Whole.{HoldsNoValue, IsReadExcuse, OfWhole}
 use Rattle.std.specs.declared.io.Error.{Error}
 use Rattle.dagcbor_items.specs.Slices.{AreFirstLinks, LinksRefused}
 use Rattle.serde_ipld_dagcbor.specs.declared.error.CodecError.{CodecError}
-use Rattle.serde_ipld_dagcbor.specs.declared.error.CodecError.TheVariants.{Decode, Encode}
-use Rattle.serde_ipld_dagcbor.specs.declared.error.CodecError.TheVariants.{DecodeIo, EncodeIo}
+use Rattle.serde_ipld_dagcbor.specs.declared.error.CodecError.TheVariants.{Decode, Encode, DecodeIo, EncodeIo}
 use Rattle.dagcbor_items.specs.Shapes.{Shape}
 use Rattle.dagcbor_heads.specs.Reading.{default_steps}
 

@@ -1,12 +1,9 @@
 -- What a tree shows to an album, to its tracks and to its format.
-use Rattle.std.specs.Prelude.{ℕ, ◌^◌, List, Option, Some, None, if◌then◌else◌, codes, false}
-use Rattle.std.specs.Str.{bytes_eq}
+use Rattle.std.specs.Prelude.{ℕ, ◌^◌, List, Option, Some, None, if◌then◌else◌, codes, false, bytes_eq}
 use Rattle.serde_ipld_dagcbor.specs.Tree.{Tree}
-use Rattle.serde_ipld_dagcbor.specs.Shapes.{view_text, view_unsigned, leaf, owned_leaf, Shape}
-use Rattle.serde_ipld_dagcbor.specs.Shapes.{takes_none}
+use Rattle.serde_ipld_dagcbor.specs.Shapes.{view_text, view_unsigned, leaf, owned_leaf, Shape, takes_none}
 use Rattle.serde_ipld_dagcbor.specs.Collections.{list_of, all_of}
-use Rattle.serde_ipld_dagcbor.specs.Structs.{required_field, optional_field, no_fields}
-use Rattle.serde_ipld_dagcbor.specs.Structs.{struct_shape}
+use Rattle.serde_ipld_dagcbor.specs.Structs.{required_field, optional_field, no_fields, struct_shape}
 use Rattle.serde_ipld_dagcbor.specs.EnumViews.{EnumShape, enum_of}
 use Rattle.uses.specs.declared.album.Format.{Format}
 use Rattle.uses.specs.declared.album.Format.TheVariants.{Vinyl, Tape, Disc}

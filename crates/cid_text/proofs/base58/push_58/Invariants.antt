@@ -1,5 +1,4 @@
-use Rattle.std.proofs.Common.{◌≡◌, ◌++◌, take, reverse, map}
-use Rattle.std.specs.Prelude.{slice_index}
+use Rattle.std.proofs.Common.{◌≡◌, ◌++◌, take, reverse, map, slice_index}
 use Rattle.cid_text.specs.Base58.{symbols_58}
 use Rattle.cid_text.proofs.base58.push_58.Given as goal
 

@@ -1,6 +1,4 @@
-use Rattle.std.proofs.Common.{◌+◌, ◌-◌, ◌*◌, ◌^◌, ◌%◌, ◌<◌, ◌≡◌, ℕ, ◌++◌, ap, arith, subst, take, length}
-use Rattle.std.specs.Prelude.{slice_index}
-use Rattle.std.specs.List.{flat_map}
+use Rattle.std.proofs.Common.{◌+◌, ◌-◌, ◌*◌, ◌^◌, ◌%◌, ◌<◌, ◌≡◌, ℕ, ◌++◌, ap, arith, subst, take, length, slice_index, flat_map}
 use Rattle.std.proofs.lemmas.Nat.{pow_below}
 use Rattle.cid_text.specs.Rfc4648.{bits}
 use Rattle.cid_text.proofs.Alphabet.{alphabet_length}

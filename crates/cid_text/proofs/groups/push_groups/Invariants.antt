@@ -1,5 +1,4 @@
-use Rattle.std.proofs.Common.{◌+◌, ◌<◌, ◌-◌, ◌++◌, take}
-use Rattle.std.specs.List.{flat_map}
+use Rattle.std.proofs.Common.{◌+◌, ◌<◌, ◌-◌, ◌++◌, take, flat_map}
 use Rattle.cid_text.specs.Rfc4648.{bits}
 use Rattle.cid_text.proofs.Grouping.{IsGrouped}
 use Rattle.cid_text.proofs.groups.push_groups.Given as goal

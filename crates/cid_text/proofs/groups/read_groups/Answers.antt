@@ -1,5 +1,4 @@
-use Rattle.std.proofs.Common.{◌≡◌, ◌+◌, ◌-◌, ◌*◌, ◌^◌, ◌<◌, refl, sym, arith, subst, take}
-use Rattle.std.proofs.lemmas.List.{length-take}
+use Rattle.std.proofs.Common.{◌≡◌, ◌+◌, ◌-◌, ◌*◌, ◌^◌, ◌<◌, refl, sym, arith, subst, take, length-take}
 use Rattle.cid_text.proofs.Alphabet.{alphabet_length}
 use Rattle.cid_text.proofs.GroupReads.{IsRead, none_read, symbol_taken, byte_read, byte_below, room_for_byte, whole_read, all_read, too_many_left, other_bits_left, other_symbol}
 use Rattle.cid_text.proofs.groups.read_groups.Goals as goal

@@ -1,5 +1,4 @@
-use Rattle.std.proofs.Common.{List, ℕ, ap, sym, ◌++◌, ◌∙◌}
-use Rattle.std.specs.Prelude.{codes}
+use Rattle.std.proofs.Common.{List, ℕ, ap, sym, ◌++◌, ◌∙◌, codes}
 use Rattle.dag_json.specs.DagJson.{bytes_text}
 use Rattle.dag_json.proofs.Listing.{pushed}
 use Rattle.dag_json.proofs.leaves.push_bytes.Goals as goal

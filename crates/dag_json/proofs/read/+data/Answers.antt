@@ -1,5 +1,4 @@
-use Rattle.std.proofs.Common.{◌∙◌, sym, arith}
-use Rattle.std.specs.Prelude.{Ok, Err}
+use Rattle.std.proofs.Common.{◌∙◌, sym, arith, Ok, Err}
 use Rattle.ipld_tree.specs.Ipld.{tree_of}
 use Rattle.dag_json.proofs.Slots.{is_found}
 use Rattle.dag_json.proofs.Members.{data_object, on_ok, on_err, refused_with, items_refused, items_next, items_done, members_repeated, members_refused, members_next}

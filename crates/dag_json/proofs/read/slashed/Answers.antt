@@ -1,4 +1,4 @@
-use Rattle.std.specs.Prelude.{Ok, Err}
+use Rattle.std.proofs.Common.{Ok, Err}
 use Rattle.ipld_tree.specs.Ipld.{tree_of}
 use Rattle.dag_json.proofs.Members.{slashed_object, on_ok, on_err}
 use Rattle.dag_json.proofs.read.slashed.Goals as goal

@@ -1,5 +1,4 @@
-use Rattle.std.proofs.Common.{◌≡◌, ◌⊎◌, inl, inr, ℕ, List, Vec, Global, [], ◌∷◌, ◌++◌, true, false, ap, sym, ◌∙◌}
-use Rattle.std.specs.Prelude.{codes}
+use Rattle.std.proofs.Common.{◌≡◌, ◌⊎◌, inl, inr, ℕ, List, Vec, Global, [], ◌∷◌, ◌++◌, true, false, ap, sym, ◌∙◌, codes}
 use Rattle.dag_json.specs.DagJson.{dag_json, json_text, item_texts, list_text, bytes_text}
 use Rattle.ipld_tree.specs.Tree.{items_of}
 use Rattle.ipld_tree.specs.Ipld.{tree_of, trees_of}

@@ -1,5 +1,4 @@
-use Rattle.std.proofs.Common.{◌≡◌, take}
-use Rattle.std.specs.List.{flat_map}
+use Rattle.std.proofs.Common.{◌≡◌, take, flat_map}
 use Rattle.dagcbor_items.specs.Walks.{forms}
 use Rattle.dagcar_lines.specs.Lines.{named_line}
 use Rattle.dagcar_lines.proofs.line.named_lines.Given as goal

@@ -1,5 +1,4 @@
-use Rattle.std.proofs.Common.{arith}
-use Rattle.std.proofs.Math.ListN.{drop_of_length-le}
+use Rattle.std.proofs.Common.{arith, drop_of_length-le}
 use Rattle.dagcbor_calls.proofs.Spelling.{begun, one_put, one_is_none, all_put, next_token}
 use Rattle.dagcbor_calls.proofs.spell.put_all.Goals as goal
 

@@ -1,5 +1,4 @@
-use Rattle.std.proofs.Common.{suc, ◌∷◌, ◌++◌, ap}
-use Rattle.std.specs.Prelude.{option_map}
+use Rattle.std.proofs.Common.{suc, ◌∷◌, ◌++◌, ap, option_map}
 use Rattle.dagcbor_heads.specs.Head.{head}
 use Rattle.dagcbor_calls.proofs.Spelling.{link_put}
 use Rattle.dagcbor_calls.proofs.spell.put_link.Goals as goal

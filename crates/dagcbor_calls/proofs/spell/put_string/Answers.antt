@@ -1,5 +1,4 @@
-use Rattle.std.proofs.Common.{◌++◌, ap}
-use Rattle.std.specs.Prelude.{option_map}
+use Rattle.std.proofs.Common.{◌++◌, ap, option_map}
 use Rattle.dagcbor_heads.specs.Head.{head}
 use Rattle.dagcbor_calls.proofs.Spelling.{puts, puts_both}
 use Rattle.dagcbor_calls.proofs.spell.put_string.Goals as goal

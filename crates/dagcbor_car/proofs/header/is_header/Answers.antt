@@ -1,5 +1,4 @@
-use Rattle.std.proofs.Common.{sym, ◌∙◌, ap}
-use Rattle.std.specs.Str.{bytes_eq}
+use Rattle.std.proofs.Common.{sym, ◌∙◌, ap, bytes_eq}
 use Rattle.dagcbor_items.proofs.Names.{bytes_agree, bytes_differ}
 use Rattle.dagcbor_car.proofs.HeaderShape.{other_beginning, no_roots, header_decided, split_joins}
 use Rattle.dagcbor_car.proofs.header.is_header.Goals as goal

@@ -1,5 +1,4 @@
-use Rattle.std.proofs.Common.{◌≡◌, rules, inl, inr}
-use Rattle.std.specs.Prelude.{◌↔◌, IsTrue}
+use Rattle.std.proofs.Common.{◌≡◌, rules, inl, inr, ◌↔◌, IsTrue}
 use Rattle.dagcbor_car.proofs.Headers.{header_test, no_header_written}
 use Rattle.dagcbor_car.proofs.header.is_header_of.Goals as goal
 

@@ -1,5 +1,4 @@
-use Rattle.std.proofs.Common.{◌+◌, ◌-◌, ◌*◌}
-use Rattle.std.specs.Prelude.{option_map}
+use Rattle.std.proofs.Common.{◌+◌, ◌-◌, ◌*◌, option_map}
 use Rattle.std.specs.Cow.{cow_str_bytes}
 use Rattle.dagcbor_heads.specs.Inputs.{input_reading}
 use Rattle.dagcbor_heads.specs.Looking.{LooksAtSome}

@@ -1,5 +1,4 @@
-use Rattle.std.proofs.Common.{◌+◌, ◌-◌, ◌*◌}
-use Rattle.std.specs.Prelude.{option_map}
+use Rattle.std.proofs.Common.{◌+◌, ◌-◌, ◌*◌, option_map}
 use Rattle.dagcbor_items.proofs.Judging.{ItemsPassed, EntriesPassed}
 use Rattle.dagcbor_items.proofs.judge.+judge.Given as goal
 

@@ -1,5 +1,4 @@
-use Rattle.std.proofs.Common.{sym, subst}
-use Rattle.std.specs.Prelude.{IsUtf8}
+use Rattle.std.proofs.Common.{sym, subst, IsUtf8}
 use Rattle.dagcbor_items.proofs.StringReads.{text_string_taken}
 use Rattle.dagcbor_items.proofs.key.take_key.Goals as goal
 

@@ -1,6 +1,4 @@
-use Rattle.std.proofs.Common.{◌≡◌}
-use Rattle.std.specs.Prelude.{Some, None}
-use Rattle.std.specs.List.{slice_get}
+use Rattle.std.proofs.Common.{◌≡◌, Some, None, slice_get}
 use Rattle.dagcbor_items.specs.declared.kind.Kind.TheVariants.{Null}
 use Rattle.dagcbor_items.proofs.KindBytes.{front_kind}
 use Rattle.dagcbor_items.proofs.kind.kind_of_front.Goals as goal

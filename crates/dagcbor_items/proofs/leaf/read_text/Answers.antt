@@ -1,5 +1,5 @@
-use Rattle.std.proofs.Common.{◌∙◌, sym, subst}
-use Rattle.std.specs.Prelude.{IsUtf8, ⊤}
+use Rattle.std.proofs.Common.{◌∙◌, sym, subst, IsUtf8}
+use Rattle.std.specs.Prelude.{⊤}
 use Rattle.dagcbor_heads.specs.declared.error.DecodeError.TheVariants.{RequireUtf8}
 use Rattle.dagcbor_heads.specs.Inputs.{input_reading}
 use Rattle.dagcbor_items.proofs.Looks.{front_looked}

@@ -1,5 +1,4 @@
-use Rattle.std.proofs.Common.{arith}
-use Rattle.std.specs.Prelude.{None, Some}
+use Rattle.std.proofs.Common.{arith, None, Some}
 use Rattle.dagcbor_heads.proofs.Refusing.{as_refusal}
 use Rattle.dagcbor_items.proofs.Fronts.{head_of}
 use Rattle.dagcbor_items.proofs.Links.{cid_head_refused, link_too_long, cid_payload_refused, cid_taken, no_cid, found_in}

@@ -1,8 +1,7 @@
-use Rattle.std.proofs.Common.{rules, ◌^◌}
+use Rattle.std.proofs.Common.{rules, ◌^◌, codes}
 use Rattle.std.proofs.lemmas.Int.{to_z-of_z}
 use mir.Syntax.{w128}
 use mir.Val.{SFits}
-use Rattle.std.specs.Prelude.{codes}
 use Rattle.dagcbor_heads.proofs.Refusing.{as_refusal}
 use Rattle.dagcbor_items.specs.Shapes.{within}
 use Rattle.dagcbor_items.specs.LeafCauses.{BigCause}

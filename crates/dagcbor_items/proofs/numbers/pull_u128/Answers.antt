@@ -1,7 +1,6 @@
-use Rattle.std.proofs.Common.{◌^◌, rules}
+use Rattle.std.proofs.Common.{◌^◌, rules, codes}
 use mir.Syntax.{w128}
 use mir.Val.{SFits}
-use Rattle.std.specs.Prelude.{codes}
 use Rattle.dagcbor_heads.proofs.Refusing.{as_refusal}
 use Rattle.dagcbor_items.specs.Shapes.{natural_below}
 use Rattle.dagcbor_items.specs.LeafCauses.{BigCause}

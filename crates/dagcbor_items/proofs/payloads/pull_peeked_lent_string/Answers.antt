@@ -1,5 +1,4 @@
-use Rattle.std.proofs.Common.{ap, arith, length-append}
-use Rattle.std.specs.Prelude.{Err}
+use Rattle.std.proofs.Common.{ap, arith, length-append, Err}
 use Rattle.dagcbor_heads.proofs.Refusing.{as_refusal}
 use Rattle.std.specs.declared.convert.Infallible.{Infallible}
 use Rattle.dagcbor_heads.specs.declared.error.DecodeError.TheVariants.{Eof}

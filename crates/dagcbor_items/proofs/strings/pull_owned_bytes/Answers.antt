@@ -1,4 +1,5 @@
-use Rattle.std.specs.Prelude.{⊤, codes}
+use Rattle.std.proofs.Common.{codes}
+use Rattle.std.specs.Prelude.{⊤}
 use Rattle.dagcbor_heads.proofs.Refusing.{as_refusal}
 use Rattle.dagcbor_items.specs.LeafCauses.{StringCause}
 use Rattle.dagcbor_items.proofs.StringReads.{bytes_string_refused, string_kind_refused, peeked_read}

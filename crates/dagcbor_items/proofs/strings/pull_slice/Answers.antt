@@ -1,5 +1,4 @@
-use Rattle.std.proofs.Common.{sym, ◌∙◌}
-use Rattle.std.specs.Prelude.{◌≡◌, false, codes}
+use Rattle.std.proofs.Common.{sym, ◌∙◌, ◌≡◌, false, codes}
 use Rattle.dagcbor_heads.proofs.Refusing.{as_refusal}
 use Rattle.dagcbor_items.specs.LeafCauses.{StringCause}
 use Rattle.dagcbor_items.proofs.StringReads.{bytes_string_refused, string_kind_refused, peeked_read}

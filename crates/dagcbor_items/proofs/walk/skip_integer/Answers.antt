@@ -1,4 +1,4 @@
-use Rattle.std.specs.Prelude.{◌≡◌, false}
+use Rattle.std.proofs.Common.{◌≡◌, false}
 use Rattle.dagcbor_heads.proofs.Refusing.{as_refusal}
 use Rattle.dagcbor_items.proofs.Fronts.{head_refused, begins_number}
 use Rattle.dagcbor_items.proofs.Looks.{head_taken}

@@ -1,5 +1,4 @@
-use Rattle.std.specs.Prelude.{◌≡◌, false}
-use Rattle.std.proofs.Common.{arith}
+use Rattle.std.proofs.Common.{◌≡◌, false, arith}
 use Rattle.dagcbor_items.proofs.Leaves.{unsupported_refused}
 use Rattle.dagcbor_items.proofs.Walking.{simple_taken}
 use Rattle.dagcbor_items.proofs.walk.skip_simple.Goals as goal

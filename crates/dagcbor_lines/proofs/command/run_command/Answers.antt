@@ -1,5 +1,4 @@
-use Rattle.std.proofs.Common.{subst}
-use Rattle.std.specs.Prelude.{IfSome}
+use Rattle.std.proofs.Common.{subst, IfSome}
 use Rattle.dagcbor_lines.specs.Answers.{IsAnswer, AnswersAll, AnswersSome}
 use Rattle.dagcbor_lines.proofs.Words.{same_command, ended_well, ended_badly}
 use Rattle.dagcbor_lines.proofs.command.run_command.Goals as goal

@@ -1,5 +1,4 @@
-use Rattle.std.proofs.Common.{rules, ap, sym, ◌∙◌, ◌≡◌, false}
-use Rattle.std.specs.Prelude.{Some}
+use Rattle.std.proofs.Common.{rules, ap, sym, ◌∙◌, ◌≡◌, false, Some}
 use Rattle.dagcbor_heads.specs.Reading.{default_steps}
 use Rattle.dagcbor_read.proofs.Wholes.{not_answered, on_refusal, slice_excused, value_refused, value_end_refused, value_answered}
 use Rattle.dagcbor_read.proofs.owned.from_slice_owned.Goals as goal

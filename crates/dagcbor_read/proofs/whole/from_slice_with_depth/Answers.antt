@@ -1,7 +1,5 @@
-use Rattle.std.proofs.Common.{ap, sym, ◌∙◌}
-use Rattle.std.specs.Prelude.{Some, true}
-use Rattle.dagcbor_read.proofs.Wholes.{not_answered, on_refusal, slice_excused, value_refused, value_end_refused, value_answered}
-use Rattle.dagcbor_read.proofs.Wholes.{the_refusal, the_answer, is_the_refusal, on_the_answer, no_refusal}
+use Rattle.std.proofs.Common.{ap, sym, ◌∙◌, Some, true}
+use Rattle.dagcbor_read.proofs.Wholes.{not_answered, on_refusal, slice_excused, value_refused, value_end_refused, value_answered, the_refusal, the_answer, is_the_refusal, on_the_answer, no_refusal}
 use Rattle.dagcbor_read.proofs.whole.from_slice_with_depth.Goals as goal
 
 -- no value was read

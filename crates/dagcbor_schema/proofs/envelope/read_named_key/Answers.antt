@@ -1,6 +1,5 @@
-use Rattle.std.proofs.Common.{◌≡◌, true, ◌∙◌}
+use Rattle.std.proofs.Common.{◌≡◌, true, ◌∙◌, bytes_eq}
 use Rattle.std.proofs.lemmas.Slice.Eq.{bytes_eq-Decides}
-use Rattle.std.specs.Str.{bytes_eq}
 use Rattle.dagcbor_read.proofs.Answered.{key_read}
 use Rattle.dagcbor_schema.proofs.EnvelopeFronts.{key_refused_by_name, other_key}
 use Rattle.dagcbor_schema.proofs.envelope.read_named_key.Goals as goal

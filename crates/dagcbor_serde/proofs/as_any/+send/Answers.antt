@@ -1,6 +1,5 @@
-use Rattle.std.proofs.Common.{◌≡◌, length, Some, subst, arith, rules, string_bytes}
+use Rattle.std.proofs.Common.{◌≡◌, length, Some, subst, arith, rules, string_bytes, OnOk}
 use Rattle.std.proofs.lemmas.Grind.{common_steps}
-use Rattle.std.specs.Prelude.{OnOk}
 use Rattle.std.proofs.lemmas.Result.{on_ok_weaker}
 use Rattle.serde.specs.Event.{Logs, map_begins, text, octets, signed, WritesEntry}
 use Rattle.serde.proofs.Events.{WritesEach-more, WritesSeq-ends, WritesUpTo-more, WritesUpTo-all}

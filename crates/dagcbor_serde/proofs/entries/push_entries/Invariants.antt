@@ -1,5 +1,4 @@
-use Rattle.std.proofs.Common.{◌≡◌, ◌++◌, drop}
-use Rattle.std.specs.List.{flat_map}
+use Rattle.std.proofs.Common.{◌≡◌, ◌++◌, drop, flat_map}
 use Rattle.dagcbor_serde.specs.Holds.{whole_at}
 use Rattle.dagcbor_serde.proofs.entries.push_entries.Given as goal
 

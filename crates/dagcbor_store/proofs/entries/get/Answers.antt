@@ -1,5 +1,4 @@
-use Rattle.std.proofs.Common.{rules, arith, subst, to_z-of_z, SFits, w64}
-use Rattle.std.specs.Prelude.{None}
+use Rattle.std.proofs.Common.{rules, arith, subst, to_z-of_z, SFits, w64, None}
 use Rattle.sqlite_trees.specs.View.{IsClean}
 use Rattle.dagcbor_store.specs.Rows.{block_tree, ReadsRow}
 use Rattle.dagcbor_store.proofs.Causes.{only_reads}

@@ -1,6 +1,5 @@
-use Rattle.std.proofs.Common.{◌≡◌, take, map}
+use Rattle.std.proofs.Common.{◌≡◌, take, map, Some, []}
 use Rattle.dagcbor_heads.specs.Written.{WroteAll}
-use Rattle.std.proofs.Common.{Some, []}
 use Rattle.ipld_tree.specs.Spelled.{spelled_tree}
 use Rattle.dagcbor_write.specs.Each.{AreTrees}
 use Rattle.dagcbor_write.proofs.Waiting.{Holds}

@@ -1,5 +1,4 @@
-use Rattle.std.proofs.Common.{◌≡◌, sym, subst}
-use Rattle.std.specs.Prelude.{◌⊎◌, true}
+use Rattle.std.proofs.Common.{◌≡◌, sym, subst, ◌⊎◌, true}
 use Rattle.serde_ipld_dagcbor.specs.Whole.{IsWhole, HoldsNoValue, OfWhole, LacksMemoryIf}
 use Rattle.dagcbor_blocks.proofs.Keeping.{block_found, no_block_found, digest_of_found, not_got}
 use Rattle.serde_ipld_dagcbor.specs.Reading.{default_steps}

@@ -1,6 +1,4 @@
-use Rattle.std.proofs.Common.{[], ◌∷◌, ◌++◌, ℕ, inl, inr, refl, arith, length-append}
-use Rattle.std.specs.Prelude.{Vec, Option}
-use Rattle.std.specs.declared.alloc.Global.{Global}
+use Rattle.std.proofs.Common.{[], ◌∷◌, ◌++◌, ℕ, inl, inr, refl, arith, length-append, Vec, Option, Global}
 use Rattle.std.proofs.lemmas.Result.{err_from_is_err_and}
 use Rattle.serde_ipld_dagcbor.specs.Inputs.{input_reading}
 use Rattle.serde_ipld_dagcbor.specs.Cid.{CidParts}

@@ -1,4 +1,4 @@
-use Rattle.std.specs.Prelude.{◌≡◌, List, length}
+use Rattle.std.proofs.Common.{◌≡◌, List, length}
 use Rattle.serde_ipld_dagcbor.specs.Inputs.{input_reading}
 use Rattle.serde_ipld_dagcbor.specs.Walks.{forms}
 use Rattle.dagcbor_car.specs.Car.{Section}

@@ -1,5 +1,4 @@
-use Rattle.std.proofs.Common.{ap, ◌∙◌}
-use Rattle.std.specs.Prelude.{is_some}
+use Rattle.std.proofs.Common.{ap, ◌∙◌, is_some}
 use Rattle.std.specs.BTreeMap.{is_at}
 use Rattle.serde_ipld_dagcbor.specs.Cid.{cid_cmp}
 use Rattle.dagcbor_blocks.proofs.Holding.{still_sound_without, held_of, others_held}

@@ -1,5 +1,4 @@
-use Rattle.std.proofs.Common.{◌≡◌, refl, sym, ap, ◌∙◌, rules}
-use Rattle.std.specs.Prelude.{Some}
+use Rattle.std.proofs.Common.{◌≡◌, refl, sym, ap, ◌∙◌, rules, Some}
 use Rattle.dagcbor_blocks.specs.Blocks.{block_at, held_blocks}
 use Rattle.dagcbor_blocks.proofs.Keeping.{block_found, held_already, now_held, still_sound}
 use Rattle.dagcbor_blocks.proofs.store.Blocks.store.Goals as goal

@@ -1,5 +1,4 @@
-use Rattle.std.proofs.Common.{[], ◌∷◌, subst, ap, ◌∙◌}
-use Rattle.std.specs.Prelude.{length}
+use Rattle.std.proofs.Common.{[], ◌∷◌, subst, ap, ◌∙◌, length}
 use Rattle.ipld_tree.specs.Cid.{cid_bytes}
 use Rattle.dagcbor_calls.specs.Packed.{PutsBytes}
 use Rattle.dagcbor_calls.proofs.Putting.{took}

@@ -1,5 +1,4 @@
-use Rattle.std.proofs.Common.{◌∙◌}
-use Rattle.std.specs.Prelude.{option_map}
+use Rattle.std.proofs.Common.{◌∙◌, option_map}
 use Rattle.dagcbor_car.proofs.Reaching.{visited, is_there_now}
 use Rattle.dagcbor_car.proofs.reach.Walk.visit.Goals as goal
 

@@ -1,5 +1,4 @@
-use Rattle.std.proofs.Common.{◌∙◌, ap, sym, subst}
-use Rattle.std.specs.Prelude.{IfOk, Result, Ok, Err, true}
+use Rattle.std.proofs.Common.{◌∙◌, ap, sym, subst, IfOk, Result, Ok, Err, true}
 use Rattle.serde_ipld_dagcbor.specs.Streams.{AreStreamItems, AreUpTo}
 use Rattle.dagcbor_devices.proofs.tests.streams.items_of.Goals as goal
 

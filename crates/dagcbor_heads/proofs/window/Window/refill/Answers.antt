@@ -1,5 +1,4 @@
-use Rattle.std.proofs.Common.{rules, arith, refl}
-use Rattle.std.proofs.lemmas.List.{length-take}
+use Rattle.std.proofs.Common.{rules, arith, refl, length-take}
 use Rattle.dagcbor_heads.proofs.Windows.{fill_told}
 use Rattle.dagcbor_heads.proofs.window.Window.refill.Goals as goal
 

@@ -1,4 +1,4 @@
-use Rattle.std.specs.Prelude.{◌≡◌, false, Ok, Err}
+use Rattle.std.proofs.Common.{◌≡◌, false, Ok, Err}
 use Rattle.std.specs.declared.convert.Infallible.{Infallible}
 use Rattle.std.specs.declared.borrow.CowSlice.TheVariants.{Borrowed}
 use Rattle.dagcbor_heads.proofs.Refusing.{as_refusal}

@@ -1,4 +1,4 @@
-use Rattle.std.specs.Prelude.{◌≡◌, false}
+use Rattle.std.proofs.Common.{◌≡◌, false}
 use Rattle.dagcbor_heads.proofs.Refusing.{as_refusal}
 use Rattle.dagcbor_items.proofs.StringItems.{text_taken, text_refused}
 use Rattle.dagcbor_items.proofs.Looks.{front_looked}

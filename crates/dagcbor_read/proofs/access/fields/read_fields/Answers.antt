@@ -1,4 +1,4 @@
-use Rattle.std.specs.Prelude.{codes, []}
+use Rattle.std.proofs.Common.{codes, []}
 use Rattle.dagcbor_read.specs.Deserializers.{de_state}
 use Rattle.dagcbor_read.proofs.EntryRows.{entries_read}
 use Rattle.dagcbor_read.proofs.access.fields.read_fields.Goals as goal

@@ -1,4 +1,4 @@
-use Rattle.std.specs.Prelude.{codes}
+use Rattle.std.proofs.Common.{codes}
 use Rattle.dagcbor_read.specs.Deserializers.{de_state}
 use Rattle.dagcbor_read.proofs.ItemRows.{rest_reads}
 use Rattle.dagcbor_read.proofs.access.row.read_tuple.Goals as goal

@@ -1,5 +1,4 @@
-use Rattle.std.proofs.Common.{◌⊎◌, inl, inr, ℕ, List, sym, subst}
-use Rattle.std.specs.Prelude.{Option, None, Some, IfSome, IsSomeAnd}
+use Rattle.std.proofs.Common.{◌⊎◌, inl, inr, ℕ, List, sym, subst, Option, None, Some, IfSome, IsSomeAnd}
 use Rattle.ipld_tree.specs.Codecs.{AreRead}
 use Rattle.dagcbor_rows.proofs.tests.codec.there_and_back.Goals as goal
 

@@ -1,5 +1,4 @@
-use Rattle.std.proofs.Common.{◌≡◌, ap, ◌∙◌, sym, subst}
-use Rattle.std.specs.Prelude.{List, ℕ, OnOk}
+use Rattle.std.proofs.Common.{◌≡◌, ap, ◌∙◌, sym, subst, List, ℕ, OnOk}
 use Rattle.serde.specs.Spelling.{spelled}
 use Rattle.serde.proofs.Spellings.{spelled-AsIs}
 use Rattle.dagcbor_serde.specs.Holds.{MovesTop, named}

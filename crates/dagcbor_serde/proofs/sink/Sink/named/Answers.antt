@@ -1,5 +1,4 @@
-use Rattle.std.proofs.Common.{sym, subst, Bool}
-use Rattle.std.specs.Prelude.{OnOk}
+use Rattle.std.proofs.Common.{sym, subst, Bool, OnOk}
 use Rattle.dagcbor_serde.specs.Holds.{MovesTop, named}
 use Rattle.dagcbor_serde.proofs.sink.Sink.named.Goals as goal
 

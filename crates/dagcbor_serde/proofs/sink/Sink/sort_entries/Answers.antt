@@ -1,5 +1,4 @@
-use Rattle.std.proofs.Common.{rules, ◌≡◌, [], ap, ap₂, ◌∙◌, ◌++◌, ◌+◌, take, drop}
-use Rattle.std.specs.List.{flat_map}
+use Rattle.std.proofs.Common.{rules, ◌≡◌, [], ap, ap₂, ◌∙◌, ◌++◌, ◌+◌, take, drop, flat_map}
 use Rattle.dagcbor_serde.specs.Holds.{whole_at}
 use Rattle.dagcbor_serde.proofs.Closing.{rest_from, sorted_by}
 use Rattle.dagcbor_serde.proofs.Opening.{ok_then}

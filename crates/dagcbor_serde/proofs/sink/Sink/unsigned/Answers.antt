@@ -1,5 +1,4 @@
-use Rattle.std.proofs.Common.{arith}
-use Rattle.std.specs.Prelude.{pos}
+use Rattle.std.proofs.Common.{arith, pos}
 use Rattle.ipld_tree.specs.Tree.{integer}
 use Rattle.dagcbor_serde.proofs.Leaves.{good_unsigned}
 use Rattle.dagcbor_serde.proofs.Opening.{puts_good}

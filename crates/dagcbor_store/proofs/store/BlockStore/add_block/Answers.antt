@@ -1,7 +1,6 @@
-use Rattle.std.proofs.Common.{rules, arith, ◌≡◌, subst}
+use Rattle.std.proofs.Common.{rules, arith, ◌≡◌, subst, OnOk, IfErr}
 use Rattle.sqlite_trees.specs.View.{IsClean}
 use Rattle.ipld_tree.specs.Cid.{cid_bytes}
-use Rattle.std.specs.Prelude.{OnOk, IfErr}
 use Rattle.dagcbor_store.specs.Rows.{Adds, IsTooLong}
 use Rattle.dagcbor_store.specs.Stored.{IsAdded, PutRefused, Fails}
 use Rattle.dagcbor_store.proofs.Keeping.{ready_failed, keyed_ended, undone_since}

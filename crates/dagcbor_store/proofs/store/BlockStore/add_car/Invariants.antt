@@ -1,4 +1,4 @@
-use Rattle.std.specs.Prelude.{◌≡◌, List, length}
+use Rattle.std.proofs.Common.{◌≡◌, List, length}
 use Rattle.dagcbor_heads.specs.Inputs.{input_reading}
 use Rattle.dagcbor_items.specs.Walks.{forms}
 use Rattle.dagcbor_car.specs.Car.{Section}

@@ -1,5 +1,4 @@
-use Rattle.std.proofs.Common.{arith, subst, IsTrue}
-use Rattle.std.specs.Prelude.{◌↔◌}
+use Rattle.std.proofs.Common.{arith, subst, IsTrue, ◌↔◌}
 use Rattle.sqlite_trees.specs.View.{IsClean}
 use Rattle.dagcbor_car.specs.Splits.{HasBlock}
 use Rattle.dagcbor_store.specs.Missing.{AddsMissing}

@@ -1,4 +1,4 @@
-use Rattle.std.specs.Prelude.{take}
+use Rattle.std.proofs.Common.{take}
 use Rattle.sqlite_trees.specs.View.{IsClean}
 use Rattle.dagcbor_store.specs.Stored.{IsSame}
 use Rattle.dagcbor_store.specs.Missing.{AddsNames}

@@ -1,6 +1,5 @@
-use Rattle.std.proofs.Common.{rules, ◌≡◌, sym, subst, IsTrue}
+use Rattle.std.proofs.Common.{rules, ◌≡◌, sym, subst, IsTrue, ◌↔◌}
 use Rattle.ipld_tree.specs.Cid.{cid_bytes}
-use Rattle.std.specs.Prelude.{◌↔◌}
 use Rattle.dagcbor_store.specs.Rows.{name_tree, FindsName}
 use Rattle.dagcbor_store.specs.Stored.{Lists}
 use Rattle.dagcbor_store.proofs.Keeping.{ready_ended, ready_failed, keyed_ended, found_listed}

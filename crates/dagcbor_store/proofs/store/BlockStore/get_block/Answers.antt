@@ -1,7 +1,5 @@
-use Rattle.std.proofs.Common.{rules, ◌≡◌, subst}
+use Rattle.std.proofs.Common.{rules, ◌≡◌, subst, IfOk, IfErr, option_map, Vec, ℕ, Global}
 use Rattle.ipld_tree.specs.Cid.{cid_bytes}
-use Rattle.std.specs.Prelude.{IfOk, IfErr, option_map, Vec, ℕ}
-use Rattle.std.specs.declared.alloc.Global.{Global}
 use Rattle.dagcbor_store.specs.Rows.{Gets}
 use Rattle.dagcbor_store.specs.Stored.{GetsSome, GetRefused}
 use Rattle.dagcbor_store.proofs.Keeping.{ready_ended, ready_failed, keyed_ended, same_read}

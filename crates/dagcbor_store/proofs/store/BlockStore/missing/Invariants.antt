@@ -1,4 +1,4 @@
-use Rattle.std.specs.Prelude.{List}
+use Rattle.std.proofs.Common.{List}
 use Rattle.sqlite_trees.specs.View.{IsClean}
 use Rattle.dagcbor_car.specs.Car.{Section}
 use Rattle.dagcbor_store.specs.Stored.{IsSame}

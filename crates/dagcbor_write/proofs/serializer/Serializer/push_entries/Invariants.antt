@@ -1,5 +1,4 @@
-use Rattle.std.proofs.Common.{Some, [], ◌∷◌, drop, length}
-use Rattle.std.specs.Prelude.{is_some}
+use Rattle.std.proofs.Common.{Some, [], ◌∷◌, drop, length, is_some}
 use Rattle.std.specs.Fmt.{◌++?◌}
 use Rattle.dagcbor_heads.proofs.Writing.{Written-but}
 use Rattle.dagcbor_write.specs.Order.{head_rest, entries_bytes}

@@ -1,5 +1,4 @@
-use Rattle.std.proofs.Common.{◌≡◌, refl, lit≤}
-use Rattle.std.specs.Prelude.{is_some}
+use Rattle.std.proofs.Common.{◌≡◌, refl, lit≤, is_some}
 use Rattle.dagcbor_write.specs.Maps.{RefusesKeys}
 use Rattle.dagcbor_write.proofs.Mapping.{in_order_written, in_order_good, no_order_written}
 use Rattle.dagcbor_write.proofs.Refusals.{stops_with, on_message_with}

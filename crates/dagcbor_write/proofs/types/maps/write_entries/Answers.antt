@@ -1,4 +1,4 @@
-use Rattle.std.proofs.Common.{rules, ap, sym, refl}
+use Rattle.std.proofs.Common.{rules, ap, sym, refl, inl, inr, arith}
 use Rattle.dagcbor_write.proofs.Fields.{begin_map, next_pair, exit_key, all_given, left_as}
 use Rattle.dagcbor_write.proofs.KeyOrder.{IsKeyedBy, keyed_pair, keyed_written, keyed_well_formed, keyed_none}
 use Rattle.dagcbor_write.proofs.Refusals.{stops_with, on_message_with}
@@ -6,7 +6,6 @@ use Rattle.dagcbor_write.proofs.Messages.{message_tells}
 use Rattle.dagcbor_write.proofs.MapMessages.{key_message, keyed_twice, keyed_lacks}
 use Rattle.dagcbor_write.specs.Keyed.{RefusesKeyedValue}
 use Rattle.dagcbor_write.specs.Maps.{RefusesMap}
-use Rattle.std.proofs.Common.{inl, inr, arith}
 use Rattle.dagcbor_write.proofs.types.maps.write_entries.Goals as goal
 
 pub loop-key-init : goal.loop-key-init

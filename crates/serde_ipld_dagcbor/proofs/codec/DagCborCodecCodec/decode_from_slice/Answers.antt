@@ -1,5 +1,5 @@
 use Rattle.serde_ipld_dagcbor.proofs.Codecs.{slice_not_decoded, slice_excused, alike_for_behind, alike_in_memory}
-use Rattle.std.specs.Prelude.{false}
+use Rattle.std.proofs.Common.{false}
 use Rattle.serde_ipld_dagcbor.proofs.codec.DagCborCodecCodec.decode_from_slice.Goals as goal
 
 pub returns-in-Err-clause-answers : goal.returns-in-Err-clause-answers

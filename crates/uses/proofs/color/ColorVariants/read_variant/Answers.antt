@@ -1,5 +1,4 @@
-use Rattle.std.proofs.Common.{ℕ, refl, false, ◌≡◌, true}
-use Rattle.std.specs.Prelude.{codes}
+use Rattle.std.proofs.Common.{ℕ, refl, false, ◌≡◌, true, codes}
 use Rattle.dagcbor_heads.proofs.Refusing.{as_refusal}
 use Rattle.serde_ipld_dagcbor.specs.Deserializers.{de_state}
 use Rattle.serde_ipld_dagcbor.specs.Enums.{enum_state}

@@ -1,5 +1,4 @@
-use Rattle.std.proofs.Common.{map}
-use Rattle.std.specs.Prelude.{codes}
+use Rattle.std.proofs.Common.{map, codes}
 use Rattle.dagcbor_read.specs.Deserializers.{de_state}
 use Rattle.dagcbor_read.specs.Collections.{all_of}
 use Rattle.dagcbor_read.proofs.ItemRows.{rest_reads}

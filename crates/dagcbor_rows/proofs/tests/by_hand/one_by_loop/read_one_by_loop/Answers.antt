@@ -1,5 +1,4 @@
-use Rattle.std.proofs.Common.{◌^◌, refl, sym, ◌∙◌, rules}
-use Rattle.std.specs.Prelude.{Some, codes}
+use Rattle.std.proofs.Common.{◌^◌, refl, sym, ◌∙◌, rules, Some, codes}
 use Rattle.dagcbor_read.specs.Shapes.{view_unsigned, leaf}
 use Rattle.dagcbor_read.proofs.EntryLoops.{map_begun, map_key_refused, at_value, map_value_refused, value_read, skip_refused, value_skipped, map_ended}
 use Rattle.dagcbor_read.proofs.FieldPlaces.{other_name}

@@ -1,4 +1,4 @@
-use Rattle.std.specs.Prelude.{option_map}
+use Rattle.std.proofs.Common.{option_map}
 use Rattle.dagcbor_read.specs.Accessors.{accessor_state}
 use Rattle.dagcbor_read.specs.Deserializers.{de_state}
 use Rattle.dagcbor_read.proofs.EntryLoops.{MapSoFar}

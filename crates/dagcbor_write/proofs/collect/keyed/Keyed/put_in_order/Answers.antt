@@ -1,8 +1,7 @@
-use Rattle.std.proofs.Common.{ℕ, List, rules, length}
+use Rattle.std.proofs.Common.{ℕ, List, rules, length, slice_range}
 use Rattle.std.proofs.lemmas.Cmp.{nat_list_cmp_total}
 use Rattle.std.proofs.lemmas.Fn.{always_returns_same}
 use Rattle.std.proofs.lemmas.List.Sorted.{All-permutation, IsPermutation-map, ranks_by}
-use Rattle.std.specs.List.{slice_range}
 use Rattle.dagcbor_write.specs.declared.collect.keyed.KeySpan.{KeySpan}
 use Rattle.dagcbor_write.specs.Spans.{IsInside, keyed_at}
 use Rattle.dagcbor_write.proofs.Spans.{keyed_sorted}

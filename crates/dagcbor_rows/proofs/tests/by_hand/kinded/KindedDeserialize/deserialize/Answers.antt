@@ -1,5 +1,4 @@
-use Rattle.std.proofs.Common.{◌≡◌, ℕ, Vec, Global, refl, rules}
-use Rattle.std.specs.Prelude.{None}
+use Rattle.std.proofs.Common.{◌≡◌, ℕ, Vec, Global, refl, rules, None}
 use Rattle.ipld_tree.specs.Ipld.{tree_of}
 use Rattle.dagcbor_read.specs.Shapes.{any_tree}
 use Rattle.ipld_tree.specs.declared.cid.Cid.{Cid}

@@ -98,14 +98,14 @@ pub enum Either {
 }
 
 /// Two fields of one name share a map.
-#[derive(Drop, Serialize, Deserialize)]
+#[derive(Drop, Serialize)]
 pub struct Twice {
     pub a: u8,
     #[serde(flatten)]
     pub rest: Again,
 }
 
-#[derive(Drop, Serialize, Deserialize)]
+#[derive(Drop, Serialize)]
 pub struct Again {
     pub a: u8,
 }

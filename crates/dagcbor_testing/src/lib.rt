@@ -3,6 +3,7 @@
 #![tactic(auto)]
 
 mod alike;
+mod examples;
 mod own_devices;
 mod pieces_of_blocks;
 mod reads;
@@ -13,6 +14,7 @@ pub use alike::{
     beginnings_are_cut, each_is_refused, goes_both_ways, is_read_as, is_refused, is_written_again,
     reads_alike,
 };
+pub use examples::{BLUE_TOLD, DEMO_TOLD, note_goes_both_ways};
 pub use own_devices::{FaultyWriter, Pieces};
 pub use pieces_of_blocks::{LINK, THREE_LINKS, joined, nested};
 pub use reads::{answers, each_answers, each_tells, tells};

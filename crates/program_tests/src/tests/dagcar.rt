@@ -2,6 +2,7 @@
 
 use dagcar_lines::run_command;
 use dagcbor_cli::{Pieces, Stingy};
+use dagcbor_testing::{agree, joined};
 use std::alloc::Global;
 use std::io::{BufRead, ErrorKind, Write};
 use std::test::Fail;
@@ -44,6 +45,15 @@ pub const DATA: &[u8] =
 pub const DATA_LINE: &[u8] =
     b"{\"aa\":{\"\":{\"/\":{\"bytes\":\"AQIDBA\"}},\"k\":{\"/\":\"QmUhhq4PAFturoCmeccqMaYxb8yWcRATkVt5nTdmsWj4Es\"}},\"b\":[true,null,-18446744073709551616,18446744073709551615,\"a\\\"\\\\\\n\\u0001\x7f\xc3\xa9\"],\"c\":{\"/\":\"bafyreickxqyrg7hhhdm2z24kduovd4k4vvbmfmenzn7nc6pxg6qzjm2v44\"}}\n";
 
+/// The words, as a program has them.
+pub fn owned_words(alloc: Global, words: &[&str]) -> Result<Vec<String>, Fail> {
+    let mut args = Vec::new(alloc);
+    for word in words {
+        args.push(String::from_str(alloc, word)?)?;
+    }
+    Ok(args)
+}
+
 pub fn run_words(
     alloc: Global,
     words: &[&str],
@@ -51,11 +61,7 @@ pub fn run_words(
     output: &mut impl Write,
     errors: &mut impl Write,
 ) -> Result<u8, Fail> {
-    let mut args = Vec::new(alloc);
-    for word in words {
-        args.push(String::from_str(alloc, word)?)?;
-    }
-    Ok(run_command(alloc, &args, input, output, errors))
+    Ok(run_command(alloc, &owned_words(alloc, words)?, input, output, errors))
 }
 
 /// What a run of one word gives: its status, and what it wrote and told.
@@ -64,6 +70,68 @@ pub fn run_word(alloc: Global, word: &str, bytes: &[u8]) -> Result<(u8, Vec<u8>,
     let (mut output, mut errors) = (Vec::new(alloc), Vec::new(alloc));
     let status = run_words(alloc, &[word], &mut input, &mut output, &mut errors)?;
     Ok((status, output, errors))
+}
+
+/// Fails where a run of one word ends with another status or writes other lines.
+pub fn writes(
+    alloc: Global,
+    word: &str,
+    bytes: &[u8],
+    status: u8,
+    lines: &[u8],
+) -> Result<(), Fail> {
+    let (ended, written, _told) = run_word(alloc, word, bytes)?;
+    agree((written.as_slice(), ended), (lines, status))
+}
+
+/// Fails where a run of one word ends with another status, writes other lines or tells others.
+pub fn gives(
+    alloc: Global,
+    word: &str,
+    bytes: &[u8],
+    status: u8,
+    lines: &[u8],
+    line: &[u8],
+) -> Result<(), Fail> {
+    let (ended, written, told) = run_word(alloc, word, bytes)?;
+    agree(
+        (written.as_slice(), ended, told.as_slice()),
+        (lines, status, line),
+    )
+}
+
+/// What a run over bytes that fault at this fill writes, one byte being shown a fill. Fails where
+/// the fault is not told.
+pub fn written_of_faulty(
+    alloc: Global,
+    words: &[&str],
+    bytes: &[u8],
+    fill: usize,
+) -> Result<Vec<u8>, Fail> {
+    let (mut output, mut errors) = (Vec::new(alloc), Vec::new(alloc));
+    let mut input = Pieces::new(bytes, 1, fill, ErrorKind::Other);
+    let ended = run_words(alloc, words, &mut input, &mut output, &mut errors)?;
+    let line = b"dagcar: input failed\n".as_slice();
+    agree((ended, errors.as_slice()), (2, line))?;
+    Ok(output)
+}
+
+/// Fails where a run whose output has room for so many bytes writes no such beginning of the lines,
+/// or where the fault is not told.
+pub fn fills(
+    alloc: Global,
+    words: &[&str],
+    bytes: &[u8],
+    room: usize,
+    lines: &[u8],
+) -> Result<(), Fail> {
+    let mut errors = Vec::new(alloc);
+    let mut full = Stingy::new(alloc, room, None);
+    let mut input = bytes;
+    let ended = run_words(alloc, words, &mut input, &mut full, &mut errors)?;
+    let line = b"dagcar: output failed\n".as_slice();
+    agree((ended, errors.as_slice()), (2, line))?;
+    agree(full.held(), &lines[..room.min(lines.len())])
 }
 
 /// What `list` says of so many bytes of `GOOD`.
@@ -80,36 +148,35 @@ fn good_listed(alloc: Global, end: usize) -> Result<Vec<u8>, Fail> {
     Ok(listed)
 }
 
+const FILES: &[(&str, &[u8], u8, &[u8])] = &[
+    ("check", GOOD, 0, GOOD_LINES),
+    ("check", MIXED, 1, MIXED_LINES),
+    ("list", MIXED, 0, MIXED_LISTED),
+];
+
 #[test]
 fn files_are_checked_and_listed(rt: HostRuntime) -> Result<(), Fail> {
-    let alloc = rt.alloc();
-    let rows: &[(&str, &[u8], u8, &[u8])] = &[
-        ("check", GOOD, 0, GOOD_LINES),
-        ("check", MIXED, 1, MIXED_LINES),
-        ("list", MIXED, 0, MIXED_LISTED),
-    ];
-    for (word, file, status, lines) in rows {
-        let (ended, written, told) = run_word(alloc, word, file)?;
-        assert_eq!(rt; written.as_slice(), *lines);
-        assert_eq!(rt; ended, *status);
-        assert!(rt; told.is_empty());
+    for (word, file, status, lines) in FILES {
+        gives(rt.alloc(), word, file, *status, lines, b"")?;
     }
     Ok(())
 }
 
+const CUT: &[u8] = b"refused Truncated\n";
+
+/// Fails where the beginning of `GOOD` is checked with another status, or a cut is not told, or one
+/// that is none.
+fn is_cut(alloc: Global, end: usize, beginning: &[u8]) -> Result<(), Fail> {
+    let (ended, written, _told) = run_word(alloc, "check", beginning)?;
+    let status = if end == ENDS[2] { 0 } else { 1 };
+    let is_cut = !ENDS.contains(&end);
+    agree((end, ended, written.ends_with(CUT)), (end, status, is_cut))
+}
+
 #[test]
 fn cut_files_are_told(rt: HostRuntime) -> Result<(), Fail> {
-    let alloc = rt.alloc();
     for end in 0..GOOD.len() {
-        let (ended, written, _told) = run_word(alloc, "check", &GOOD[..end])?;
-        let status = if end == ENDS[2] { 0 } else { 1 };
-        assert_eq!(rt; ended, status, "{end}");
-        let is_whole = ENDS.contains(&end);
-        assert_eq!(rt;
-            written.ends_with(b"refused Truncated\n".as_slice()),
-            !is_whole,
-            "{end}"
-        );
+        is_cut(rt.alloc(), end, &GOOD[..end])?;
     }
     Ok(())
 }
@@ -118,9 +185,9 @@ fn cut_files_are_told(rt: HostRuntime) -> Result<(), Fail> {
 fn files_are_listed_up_to_the_cut(rt: HostRuntime) -> Result<(), Fail> {
     let alloc = rt.alloc();
     for end in 0..=GOOD.len() {
-        let (ended, written, _told) = run_word(alloc, "list", &GOOD[..end])?;
-        assert_eq!(rt; written.as_slice(), good_listed(alloc, end)?.as_slice());
-        assert_eq!(rt; ended, if ENDS.contains(&end) { 0 } else { 1 }, "{end}");
+        let status = if ENDS.contains(&end) { 0 } else { 1 };
+        let listed = good_listed(alloc, end)?;
+        writes(alloc, "list", &GOOD[..end], status, &listed)?;
     }
     Ok(())
 }
@@ -133,89 +200,69 @@ const GOOD_FRONT: &[u8] =
 fn files_of_version_2_are_checked_and_listed(rt: HostRuntime) -> Result<(), Fail> {
     let alloc = rt.alloc();
     let listed = good_listed(alloc, GOOD.len())?;
-    for behind in [b"".as_slice(), b"\x01\x00".as_slice()] {
-        let mut file = Vec::new(alloc);
-        for part in [GOOD_FRONT, GOOD, behind] {
-            file.extend_from_slice(part)?;
-        }
-        for (word, lines) in [("check", GOOD_LINES), ("list", listed.as_slice())] {
-            let (ended, written, _told) = run_word(alloc, word, &file)?;
-            assert_eq!(rt; written.as_slice(), lines);
-            assert_eq!(rt; ended, 0);
-        }
+    let behinds: &[&[u8]] = &[b"", b"\x01\x00"];
+    for behind in behinds {
+        let file = joined(alloc, &[GOOD_FRONT, GOOD, behind])?;
+        writes(alloc, "check", &file, 0, GOOD_LINES)?;
+        writes(alloc, "list", &file, 0, &listed)?;
     }
-    let (ended, written, _told) = run_word(alloc, "check", &GOOD_FRONT[..55])?;
-    assert_eq!(rt; written.as_slice(), b"refused Truncated\n".as_slice());
-    assert_eq!(rt; ended, 1);
-    Ok(())
+    writes(alloc, "check", &GOOD_FRONT[..55], 1, CUT)
 }
+
+const NUMBERS: &[u8] = b"\x83\x01\x02\x03";
+
+const BLOCKS: &[(&str, &[u8], u8, &[u8])] = &[
+    ("name", NUMBERS, 0, NUMBERS_LINE),
+    ("one", NUMBERS, 0, b"ok list\n"),
+    ("show", NUMBERS, 0, b"[1,2,3]\n"),
+    ("show", DATA, 0, DATA_LINE),
+    ("show", b"\xa0", 0, b"{}\n"),
+    (
+        "show",
+        b"\xa2\x61b\x01\x61a\x02",
+        1,
+        b"refused UnorderedKey\n",
+    ),
+    ("name", b"\x18\x17", 1, b"refused NonMinimal\n"),
+    ("one", b"", 1, b"refused Eof\n"),
+];
 
 #[test]
 fn blocks_are_named_judged_and_shown(rt: HostRuntime) -> Result<(), Fail> {
-    let alloc = rt.alloc();
-    let numbers = b"\x83\x01\x02\x03".as_slice();
-    let rows: &[(&str, &[u8], u8, &[u8])] = &[
-        ("name", numbers, 0, NUMBERS_LINE),
-        ("one", numbers, 0, b"ok list\n"),
-        ("show", numbers, 0, b"[1,2,3]\n"),
-        ("show", DATA, 0, DATA_LINE),
-        ("show", b"\xa0", 0, b"{}\n"),
-        (
-            "show",
-            b"\xa2\x61b\x01\x61a\x02",
-            1,
-            b"refused UnorderedKey\n",
-        ),
-        ("name", b"\x18\x17", 1, b"refused NonMinimal\n"),
-        ("one", b"", 1, b"refused Eof\n"),
-    ];
-    for (word, bytes, status, lines) in rows {
-        let (ended, written, _told) = run_word(alloc, word, bytes)?;
-        assert_eq!(rt; written.as_slice(), *lines);
-        assert_eq!(rt; ended, *status);
+    for (word, bytes, status, lines) in BLOCKS {
+        writes(rt.alloc(), word, bytes, *status, lines)?;
     }
     Ok(())
 }
 
 #[test]
 fn other_words_are_refused(rt: HostRuntime) -> Result<(), Fail> {
-    let alloc = rt.alloc();
-    let (ended, written, told) = run_word(alloc, "links", GOOD)?;
-    assert_eq!(rt; ended, 2);
-    assert!(rt; written.is_empty());
-    assert_eq!(rt;
-        told.as_slice(),
-        b"usage: dagcar check|list|name|one|show|make|get CID|tree CID\n".as_slice()
-    );
-    Ok(())
+    let line = b"usage: dagcar check|list|name|one|show|make|get CID|tree CID\n";
+    gives(rt.alloc(), "links", GOOD, 2, b"", line)
+}
+
+/// Fails where what stands before a fault of the input is not out in whole lines.
+fn is_out_in_lines(alloc: Global, word: &str, fill: usize, lines: &[u8]) -> Result<(), Fail> {
+    let written = written_of_faulty(alloc, &[word], GOOD, fill)?;
+    agree(lines.starts_with(written.as_slice()), true)?;
+    agree(
+        written.is_empty() || written.ends_with(b"\n".as_slice()),
+        true,
+    )
+}
+
+/// Fails where a fault of the input or the output is told otherwise, or other lines are out then.
+fn tells_faults(alloc: Global, word: &str, lines: &[u8]) -> Result<(), Fail> {
+    for fill in [2, 70, 160, 200] {
+        is_out_in_lines(alloc, word, fill, lines)?;
+    }
+    fills(alloc, &[word], GOOD, 30, lines)?;
+    fills(alloc, &[word], GOOD, 90, lines)
 }
 
 #[test]
 fn faults_are_told(rt: HostRuntime) -> Result<(), Fail> {
     let alloc = rt.alloc();
-    let mut errors = Vec::new(alloc);
-    let listed = good_listed(alloc, GOOD.len())?;
-    for (word, lines) in [("check", GOOD_LINES), ("list", listed.as_slice())] {
-        // The bytes come one a fill. What stands before the fault is out in whole lines.
-        for fill in [2, 70, 160, 200] {
-            errors.clear();
-            let mut output = Vec::new(alloc);
-            let mut input = Pieces::new(GOOD, 1, fill, ErrorKind::Other);
-            let ended = run_words(alloc, &[word], &mut input, &mut output, &mut errors)?;
-            assert_eq!(rt; ended, 2);
-            assert_eq!(rt; errors.as_slice(), b"dagcar: input failed\n".as_slice());
-            assert!(rt; lines.starts_with(output.as_slice()));
-            assert!(rt; output.is_empty() || output.ends_with(b"\n".as_slice()));
-        }
-        for room in [30, 90] {
-            errors.clear();
-            let mut full = Stingy::new(alloc, room, None);
-            let ended = run_words(alloc, &[word], &mut &GOOD[..], &mut full, &mut errors)?;
-            assert_eq!(rt; ended, 2);
-            assert_eq!(rt; errors.as_slice(), b"dagcar: output failed\n".as_slice());
-            assert!(rt; lines.starts_with(full.held()));
-            assert_eq!(rt; full.held().len(), room);
-        }
-    }
-    Ok(())
+    tells_faults(alloc, "check", GOOD_LINES)?;
+    tells_faults(alloc, "list", &good_listed(alloc, GOOD.len())?)
 }

@@ -1,10 +1,12 @@
 //! The lines, words and faults of `dagcbor`.
 
+use crate::tests::dagcar::owned_words;
 use dagcbor_cli::{Pieces, Stingy, ToolError, arguments, give_up};
 use dagcbor_lines::{USAGE, run_check, run_command, run_links};
+use dagcbor_testing::agree;
 use std::alloc::Global;
 use std::env::{Env, FillError};
-use std::io::{BufRead, ErrorKind, Write};
+use std::io::ErrorKind;
 use std::test::Fail;
 
 const LINES: &[u8] = b"1817\nzz\n\nF6\n63616263\r\nF5\n420102";
@@ -12,117 +14,131 @@ const LINES: &[u8] = b"1817\nzz\n\nF6\n63616263\r\nF5\n420102";
 const ANSWERS: &[u8] =
     b"refused NonMinimal\nrefused hex\nrefused Eof\nok null\nok string\nok bool\nok bytes\n";
 
+/// Fails where the lines, so many bytes of which come at once, are answered otherwise.
+fn is_answered(alloc: Global, size: usize) -> Result<(), Fail> {
+    let mut stingy = Stingy::new(alloc, 1000, None);
+    let mut input = Pieces::new(LINES, size, 0, ErrorKind::Other);
+    run_check(alloc, &mut input, &mut stingy)?;
+    agree((size, stingy.held()), (size, ANSWERS))
+}
+
+/// Fails where `check` answers the lines otherwise.
+fn checks(alloc: Global, lines: &[u8], answers: &[u8]) -> Result<(), Fail> {
+    let mut output = Vec::new(alloc);
+    let mut input = lines;
+    run_check(alloc, &mut input, &mut output)?;
+    agree(output.as_slice(), answers)
+}
+
 #[test]
 fn answers_each_line(rt: HostRuntime) -> Result<(), Fail> {
-    let alloc = rt.alloc();
-    let mut output = Vec::new(alloc);
-    run_check(alloc, &mut &LINES[..], &mut output)?;
-    assert_eq!(rt; output.as_slice(), ANSWERS);
+    checks(rt.alloc(), LINES, ANSWERS)?;
     // The fills cut the lines at each of their bytes.
     for size in 1..LINES.len() {
-        let mut stingy = Stingy::new(alloc, 1000, None);
-        let mut input = Pieces::new(LINES, size, 0, ErrorKind::Other);
-        run_check(alloc, &mut input, &mut stingy)?;
-        assert_eq!(rt; stingy.held(), ANSWERS, "{size}");
+        is_answered(rt.alloc(), size)?;
     }
     Ok(())
 }
 
 #[test]
 fn every_kind_has_its_name(rt: HostRuntime) -> Result<(), Fail> {
-    let lines = b"83010203\n1817\nzz\n\na10102\na0\nd82a4500015500\nd82a450001550000\nf600\n";
-    let answers =
-        b"ok list\nrefused NonMinimal\nrefused hex\nrefused Eof\nrefused Mismatch\nok map\nrefused Eof\nok link\nrefused TrailingData\n";
-    let mut output = Vec::new(rt.alloc());
-    run_check(rt.alloc(), &mut &lines[..], &mut output)?;
-    assert_eq!(rt; output.as_slice(), answers.as_slice());
-    Ok(())
+    checks(
+        rt.alloc(),
+        b"83010203\n1817\nzz\n\na10102\na0\nd82a4500015500\nd82a450001550000\nf600\n",
+        b"ok list\nrefused NonMinimal\nrefused hex\nrefused Eof\nrefused Mismatch\nok map\nrefused Eof\nok link\nrefused TrailingData\n",
+    )
 }
 
 #[test]
 fn links_of_each_line(rt: HostRuntime) -> Result<(), Fail> {
-    let lines =
-        b"d82a490001ce019b010263c8\n80\na26162d82a450001550000626161d82a450001710000\nf600\n81\nzz\n";
+    let mut lines =
+        b"d82a490001ce019b010263c8\n80\na26162d82a450001550000626161d82a450001710000\nf600\n81\nzz\n".as_slice();
     let answers = b"01ce019b010263c8\nnone\n01550000 01710000\nnone\nrefused Eof\nrefused hex\n";
     let mut output = Vec::new(rt.alloc());
-    run_links(rt.alloc(), &mut &lines[..], &mut output)?;
-    assert_eq!(rt; output.as_slice(), answers.as_slice());
-    Ok(())
+    run_links(rt.alloc(), &mut lines, &mut output)?;
+    agree(output.as_slice(), answers.as_slice())
+}
+
+/// What an earlier fill ends is out, and no part of a line that none has ended: so many bytes at
+/// once, the fill that faults, and how many bytes are out.
+const FAULTY: &[(usize, usize, usize)] = &[
+    (1, 1, 0),
+    (1, 5, 0),
+    (1, 6, 19),
+    (1, 9, 31),
+    (7, 2, 19),
+    (10, 2, 43),
+    (20, 3, 69),
+];
+
+/// Fails where the run does not end with the fault of its input, or other bytes are out then.
+fn ends(alloc: Global, fault: ErrorKind, row: &(usize, usize, usize)) -> Result<(), Fail> {
+    let (size, fill, written) = *row;
+    let mut output = Vec::new(alloc);
+    let mut input = Pieces::new(LINES, size, fill, fault);
+    let ended = run_check(alloc, &mut input, &mut output);
+    let is_fault = matches!(ended, Err(ToolError::Input));
+    agree((*row, is_fault), (*row, true))?;
+    agree(
+        (*row, output.as_slice()),
+        (*row, &ANSWERS[..written.min(ANSWERS.len())]),
+    )
 }
 
 #[test]
 fn a_reader_that_fails_ends_the_run(rt: HostRuntime) -> Result<(), Fail> {
-    // An interrupted call is not made again.
-    for fault in [ErrorKind::Other, ErrorKind::Interrupted] {
-        // What an earlier fill ends is out, and no part of a line that none has ended.
-        let rows: &[(usize, usize, usize)] = &[
-            (1, 1, 0),
-            (1, 5, 0),
-            (1, 6, 19),
-            (1, 9, 31),
-            (7, 2, 19),
-            (10, 2, 43),
-            (20, 3, 69),
-        ];
-        for (size, fill, written) in rows {
-            let mut output = Vec::new(rt.alloc());
-            let mut input = Pieces::new(LINES, *size, *fill, fault);
-            let ended = run_check(rt.alloc(), &mut input, &mut output);
-            assert!(rt; matches!(ended, Err(ToolError::Input)), "{size}, {fill}");
-            assert!(rt; ANSWERS.starts_with(output.as_slice()), "{size}, {fill}");
-            assert_eq!(rt; output.len(), *written, "{size}, {fill}");
-        }
+    for row in FAULTY {
+        ends(rt.alloc(), ErrorKind::Other, row)?;
+        // An interrupted call is not made again.
+        ends(rt.alloc(), ErrorKind::Interrupted, row)?;
     }
     Ok(())
+}
+
+/// Fails where the run does not end with the fault of an output that has room for so many bytes, or
+/// other bytes are out then.
+fn ends_where_full(alloc: Global, room: usize, fault: Option<ErrorKind>) -> Result<(), Fail> {
+    let mut stingy = Stingy::new(alloc, room, fault);
+    let ended = run_check(alloc, &mut &LINES[..], &mut stingy);
+    let is_fault = matches!(ended, Err(ToolError::Output));
+    agree((room, is_fault), (room, true))?;
+    agree(stingy.held(), &ANSWERS[..room.min(ANSWERS.len())])
 }
 
 #[test]
 fn a_writer_that_fails_ends_the_run(rt: HostRuntime) -> Result<(), Fail> {
-    for fault in [None, Some(ErrorKind::Other), Some(ErrorKind::Interrupted)] {
-        for room in [0, 1, 18, 19, 24] {
-            let mut stingy = Stingy::new(rt.alloc(), room, fault);
-            let ended = run_check(rt.alloc(), &mut &LINES[..], &mut stingy);
-            assert!(rt; matches!(ended, Err(ToolError::Output)), "{room}");
-            assert!(rt; ANSWERS.starts_with(stingy.held()), "{room}");
-            assert_eq!(rt; stingy.held().len(), room);
-        }
+    for room in [0, 1, 18, 19, 24] {
+        ends_where_full(rt.alloc(), room, None)?;
+        ends_where_full(rt.alloc(), room, Some(ErrorKind::Other))?;
+        ends_where_full(rt.alloc(), room, Some(ErrorKind::Interrupted))?;
     }
     Ok(())
 }
 
-fn run_words(
-    alloc: Global,
-    words: &[&str],
-    input: &mut impl BufRead,
-    output: &mut impl Write,
-    errors: &mut impl Write,
-) -> Result<u8, Fail> {
-    let mut args = Vec::new(alloc);
-    for word in words {
-        args.push(String::from_str(alloc, word)?)?;
-    }
-    Ok(run_command(alloc, &args, input, output, errors))
-}
+const USED: &[u8] = b"usage: dagcbor check|links\n";
+
+/// Words, the status of a run of them over a line, and what it writes and tells.
+const WORDS: &[(&[&str], u8, &[u8], &[u8])] = &[
+    (&["check"], 0, b"ok integer\n", b""),
+    (&["links"], 0, b"none\n", b""),
+    (&[], 2, b"", USED),
+    (&["check", "check"], 2, b"", USED),
+    (&["list"], 2, b"", USED),
+    (&["Check"], 2, b"", USED),
+];
 
 #[test]
 fn words_pick_the_command(rt: HostRuntime) -> Result<(), Fail> {
     let alloc = rt.alloc();
-    let rows: &[(&[&str], u8, &[u8], &[u8])] = &[
-        (&["check"], 0, b"ok integer\n", b""),
-        (&["links"], 0, b"none\n", b""),
-        (&[], 2, b"", b"usage: dagcbor check|links\n"),
-        (&["check", "check"], 2, b"", b"usage: dagcbor check|links\n"),
-        (&["list"], 2, b"", b"usage: dagcbor check|links\n"),
-        (&["Check"], 2, b"", b"usage: dagcbor check|links\n"),
-    ];
-    for (words, status, written, told) in rows {
-        let mut input: &[u8] = b"1818\n";
-        let mut output = Vec::new(alloc);
-        let mut errors = Vec::new(alloc);
-        let ended = run_words(alloc, words, &mut input, &mut output, &mut errors)?;
-        assert_eq!(rt; ended, *status);
-        assert_eq!(rt; output.as_slice(), *written);
-        assert_eq!(rt; errors.as_slice(), *told);
+    for (words, status, written, told) in WORDS {
+        let mut input = b"1818\n".as_slice();
+        let (mut output, mut errors) = (Vec::new(alloc), Vec::new(alloc));
+        let args = owned_words(alloc, words)?;
+        let ended = run_command(alloc, &args, &mut input, &mut output, &mut errors);
+        agree(
+            (ended, output.as_slice(), errors.as_slice()),
+            (*status, *written, *told),
+        )?;
     }
     Ok(())
 }
@@ -155,35 +171,42 @@ impl Env for NoText {
 #[test]
 fn an_argument_that_is_no_text_is_refused(rt: HostRuntime) -> Result<(), Fail> {
     let refused = arguments(&(NoText, rt.alloc())).err().map(|e| e.kind());
-    assert_eq!(rt; refused, Some(ErrorKind::InvalidData));
+    agree(refused, Some(ErrorKind::InvalidData))?;
     let mut errors = Vec::new(rt.alloc());
-    assert_eq!(rt; give_up(&mut errors, USAGE, 2), 2);
-    assert_eq!(rt;
-        errors.as_slice(),
-        b"usage: dagcbor check|links\n".as_slice()
-    );
-    Ok(())
+    agree(give_up(&mut errors, USAGE, 2), 2)?;
+    agree(errors.as_slice(), USED)
 }
 
 #[test]
-fn faults_are_told(rt: HostRuntime) -> Result<(), Fail> {
+fn a_fault_of_the_input_is_told(rt: HostRuntime) -> Result<(), Fail> {
+    let alloc = rt.alloc();
+    let (mut output, mut errors) = (Vec::new(alloc), Vec::new(alloc));
+    let mut input = Pieces::new(LINES, 1, 2, ErrorKind::Other);
+    let args = owned_words(alloc, &["check"])?;
+    let ended = run_command(alloc, &args, &mut input, &mut output, &mut errors);
+    let line = b"dagcbor: input failed\n".as_slice();
+    agree((ended, errors.as_slice()), (1, line))
+}
+
+#[test]
+fn a_fault_of_the_output_is_told(rt: HostRuntime) -> Result<(), Fail> {
     let alloc = rt.alloc();
     let mut errors = Vec::new(alloc);
-    let mut input = Pieces::new(LINES, 1, 2, ErrorKind::Other);
-    let mut output = Vec::new(alloc);
-    let ended = run_words(alloc, &["check"], &mut input, &mut output, &mut errors)?;
-    assert_eq!(rt; ended, 1);
-    assert_eq!(rt; errors.as_slice(), b"dagcbor: input failed\n".as_slice());
-    errors.clear();
     let mut full = Stingy::new(alloc, 3, None);
-    let ended = run_words(alloc, &["check"], &mut &LINES[..], &mut full, &mut errors)?;
-    assert_eq!(rt; ended, 1);
-    assert_eq!(rt; errors.as_slice(), b"dagcbor: output failed\n".as_slice());
-    assert_eq!(rt; full.held(), b"ref".as_slice());
-    // A fault in telling it is not told.
+    let args = owned_words(alloc, &["check"])?;
+    let ended = run_command(alloc, &args, &mut &LINES[..], &mut full, &mut errors);
+    let line = b"dagcbor: output failed\n".as_slice();
+    agree((ended, errors.as_slice()), (1, line))?;
+    agree(full.held(), b"ref".as_slice())
+}
+
+/// A fault in telling it is not told.
+#[test]
+fn a_fault_in_telling_is_not_told(rt: HostRuntime) -> Result<(), Fail> {
+    let alloc = rt.alloc();
     let mut deaf = Stingy::new(alloc, 0, Some(ErrorKind::Other));
     let mut output = Vec::new(alloc);
-    let ended = run_words(alloc, &[], &mut &LINES[..], &mut output, &mut deaf)?;
-    assert_eq!(rt; ended, 2);
-    Ok(())
+    let args = owned_words(alloc, &[])?;
+    let ended = run_command(alloc, &args, &mut &LINES[..], &mut output, &mut deaf);
+    agree(ended, 2)
 }

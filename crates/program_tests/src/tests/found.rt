@@ -1,9 +1,8 @@
 //! `get` and `tree`: blocks out of a file. The expected bytes are made by another program.
 
-use crate::tests::dagcar::run_words;
-use dagcbor_cli::{Pieces, Stingy};
+use crate::tests::dagcar::{fills, run_words, written_of_faulty};
+use dagcbor_testing::{agree, joined};
 use std::alloc::Global;
-use std::io::ErrorKind;
 use std::test::Fail;
 
 /// A file whose root leads nowhere: another integer, the numbers, other bytes under the name of the map,
@@ -111,10 +110,10 @@ fn gives(alloc: Global, file: &[u8], row: &Row) -> Result<(), Fail> {
     let (mut output, mut errors) = (Vec::new(alloc), Vec::new(alloc));
     let mut input = file;
     let ended = run_words(alloc, &[word, name], &mut input, &mut output, &mut errors)?;
-    if ended != status || output.as_slice() != wanted || errors.as_slice() != line {
-        return Err(Fail::new(name));
-    }
-    Ok(())
+    agree(
+        (name, ended, output.as_slice(), errors.as_slice()),
+        (name, status, wanted, line),
+    )
 }
 
 #[test]
@@ -133,10 +132,7 @@ const FRONT: &[u8] =
 #[test]
 fn blocks_are_found_in_files_of_version_2(rt: HostRuntime) -> Result<(), Fail> {
     let alloc = rt.alloc();
-    let mut file = Vec::new(alloc);
-    for part in [FRONT, FILE, b"\x01\x00".as_slice()] {
-        file.extend_from_slice(part)?;
-    }
+    let file = joined(alloc, &[FRONT, FILE, b"\x01\x00"])?;
     for row in ROWS {
         gives(alloc, &file, row)?;
     }
@@ -146,58 +142,40 @@ fn blocks_are_found_in_files_of_version_2(rt: HostRuntime) -> Result<(), Fail> {
 /// Where the section of the leaf ends in `FILE`.
 const BEHIND_LEAF: usize = 253;
 
+/// What is told where the file is cut.
+const CUT: &[u8] = b"refused Truncated\n";
+
+/// What `get` gives of the leaf in so many bytes of `FILE`.
+fn row_of_cut(end: usize) -> Row {
+    if end >= BEHIND_LEAF {
+        ("get", LEAF_NAME, 0, b"foo", b"")
+    } else if ENDS.contains(&end) {
+        ("get", LEAF_NAME, 1, b"", LEAF_LINE)
+    } else {
+        ("get", LEAF_NAME, 1, b"", CUT)
+    }
+}
+
 #[test]
 fn what_stands_behind_a_block_is_not_read(rt: HostRuntime) -> Result<(), Fail> {
     let alloc = rt.alloc();
-    let cut = b"refused Truncated\n".as_slice();
     for end in 0..FILE.len() {
-        let found: Row = ("get", LEAF_NAME, 0, b"foo", b"");
-        let none: Row = ("get", LEAF_NAME, 1, b"", cut);
-        let whole: Row = ("get", LEAF_NAME, 1, b"", LEAF_LINE);
-        let row = if end >= BEHIND_LEAF {
-            found
-        } else if ENDS.contains(&end) {
-            whole
-        } else {
-            none
-        };
-        gives(alloc, &FILE[..end], &row)?;
+        gives(alloc, &FILE[..end], &row_of_cut(end))?;
     }
-    gives(
-        alloc,
-        &FILE[..FILE.len() - 1],
-        &("tree", LIST_NAME, 1, b"", cut),
-    )
+    let tree: Row = ("tree", LIST_NAME, 1, b"", CUT);
+    gives(alloc, &FILE[..FILE.len() - 1], &tree)
+}
+
+/// Fails where a fault of the input or the output is told otherwise, or other bytes are out then.
+fn tells_faults(alloc: Global, word: &str, wanted: &[u8]) -> Result<(), Fail> {
+    let words = &[word, LIST_NAME];
+    let written = written_of_faulty(alloc, words, FILE, 150)?;
+    agree(written.is_empty(), true)?;
+    fills(alloc, words, FILE, 100, wanted)
 }
 
 #[test]
 fn faults_are_told(rt: HostRuntime) -> Result<(), Fail> {
-    let alloc = rt.alloc();
-    for (word, wanted) in [("get", LIST), ("tree", TREE)] {
-        let (mut output, mut errors) = (Vec::new(alloc), Vec::new(alloc));
-        let mut input = Pieces::new(FILE, 1, 150, ErrorKind::Other);
-        let ended = run_words(
-            alloc,
-            &[word, LIST_NAME],
-            &mut input,
-            &mut output,
-            &mut errors,
-        )?;
-        assert_eq!(rt; ended, 2);
-        assert_eq!(rt; errors.as_slice(), b"dagcar: input failed\n".as_slice());
-        assert!(rt; output.is_empty());
-        errors.clear();
-        let mut full = Stingy::new(alloc, 100, None);
-        let ended = run_words(
-            alloc,
-            &[word, LIST_NAME],
-            &mut &FILE[..],
-            &mut full,
-            &mut errors,
-        )?;
-        assert_eq!(rt; ended, 2);
-        assert_eq!(rt; errors.as_slice(), b"dagcar: output failed\n".as_slice());
-        assert_eq!(rt; full.held(), &wanted[..100]);
-    }
-    Ok(())
+    tells_faults(rt.alloc(), "get", LIST)?;
+    tells_faults(rt.alloc(), "tree", TREE)
 }

@@ -1,7 +1,8 @@
 //! `make`: blocks of DAG-JSON. The expected bytes are made by another program.
 
-use crate::tests::dagcar::{DATA, DATA_LINE, run_word, run_words};
+use crate::tests::dagcar::{DATA, DATA_LINE, fills, gives, run_word, run_words, writes};
 use dagcbor_cli::Stingy;
+use dagcbor_testing::{agree, nested};
 use std::alloc::Global;
 use std::test::Fail;
 
@@ -94,117 +95,96 @@ const REFUSED: &[(&[u8], &str)] = &[
 
 #[test]
 fn texts_are_made_blocks(rt: HostRuntime) -> Result<(), Fail> {
-    let alloc = rt.alloc();
     for (text, block) in MADE {
-        let (ended, written, told) = run_word(alloc, "make", text)?;
-        assert_eq!(rt; written.as_slice(), *block);
-        assert_eq!(rt; ended, 0);
-        assert!(rt; told.is_empty());
+        gives(rt.alloc(), "make", text, 0, block, b"")?;
     }
-    let (ended, written, _told) = run_word(alloc, "make", DATA_LINE)?;
-    assert_eq!(rt; written.as_slice(), DATA);
-    assert_eq!(rt; ended, 0);
-    Ok(())
+    writes(rt.alloc(), "make", DATA_LINE, 0, DATA)
 }
 
 #[test]
 fn other_texts_are_refused(rt: HostRuntime) -> Result<(), Fail> {
-    let alloc = rt.alloc();
     for (text, line) in REFUSED {
-        let (ended, written, told) = run_word(alloc, "make", text)?;
-        assert_eq!(rt; told.as_slice(), line.as_bytes());
-        assert_eq!(rt; ended, 1);
-        assert!(rt; written.is_empty());
+        gives(rt.alloc(), "make", text, 1, b"", line.as_bytes())?;
     }
     Ok(())
 }
 
-/// So many lists, one in the other, around a text.
-fn lists_around(alloc: Global, count: usize, inner: &[u8]) -> Result<Vec<u8>, Fail> {
-    let mut text = Vec::new(alloc);
-    for _ in 0..count {
-        text.push(b'[')?;
-    }
-    text.extend_from_slice(inner)?;
-    for _ in 0..count {
-        text.push(b']')?;
-    }
-    Ok(text)
+/// Bytes by their text.
+const BYTES: &[u8] = b"{\"/\":{\"bytes\":\"AQ\"}}";
+
+/// A text is in so many lists, one in the other: what is told of them.
+const NESTED: &[(usize, &[u8], &[u8])] = &[
+    (128, b"", b""),
+    (127, b"1", b""),
+    (127, b"{}", b""),
+    (127, BYTES, b""),
+    (128, b"1", TOO_DEEP),
+    (128, b"{}", TOO_DEEP),
+    (128, BYTES, TOO_DEEP),
+    (129, b"", TOO_DEEP),
+    (130, b"", TOO_DEEP),
+    (200, b"", TOO_DEEP),
+];
+
+const TOO_DEEP: &[u8] = b"refused TooDeep 128\n";
+
+/// Fails where so many lists around a text are answered otherwise.
+fn nests(alloc: Global, count: usize, inner: &[u8], line: &[u8]) -> Result<(), Fail> {
+    let ends = b"]".repeat(alloc, count)?;
+    let mut text = nested(alloc, b"[", count, inner)?;
+    text.extend_from_slice(&ends)?;
+    let (status, written, told) = run_word(alloc, "make", &text)?;
+    let is_refused = !line.is_empty();
+    agree(
+        (told.as_slice(), status, written.is_empty()),
+        (line, if is_refused { 1 } else { 0 }, is_refused),
+    )
 }
 
 #[test]
 fn lists_nest_so_deep(rt: HostRuntime) -> Result<(), Fail> {
-    let alloc = rt.alloc();
-    let bytes = b"{\"/\":{\"bytes\":\"AQ\"}}".as_slice();
-    let rows: &[(usize, &[u8], u8, &[u8])] = &[
-        (128, b"", 0, b""),
-        (127, b"1", 0, b""),
-        (127, b"{}", 0, b""),
-        (127, bytes, 0, b""),
-        (128, b"1", 1, b"refused TooDeep 128\n"),
-        (128, b"{}", 1, b"refused TooDeep 128\n"),
-        (128, bytes, 1, b"refused TooDeep 128\n"),
-        (129, b"", 1, b"refused TooDeep 128\n"),
-        (130, b"", 1, b"refused TooDeep 128\n"),
-        (200, b"", 1, b"refused TooDeep 128\n"),
-    ];
-    for (count, inner, ended, line) in rows {
-        let text = lists_around(alloc, *count, inner)?;
-        let (status, written, told) = run_word(alloc, "make", &text)?;
-        assert_eq!(rt; told.as_slice(), *line);
-        assert_eq!(rt; status, *ended);
-        assert_eq!(rt; written.is_empty(), *ended == 1);
+    for (count, inner, line) in NESTED {
+        nests(rt.alloc(), *count, inner, line)?;
     }
     Ok(())
 }
 
+/// What is told of data that looks like a link.
+const LOOKS: &[u8] = b"dagcar: a map with the key / looks like a link or like bytes\n";
+
+/// Blocks of such data, and of other data, and what is told of them.
+const SHOWN: &[(&[u8], &[u8], &[u8])] = &[
+    (b"\xa1\x61/\x01", b"{\"/\":1}\n", LOOKS),
+    (
+        b"\x81\xa2\x61/\xf6\x61a\xa0",
+        b"[{\"/\":null,\"a\":{}}]\n",
+        LOOKS,
+    ),
+    (
+        b"\xa1\x61a\xa1\x61/\x61x",
+        b"{\"a\":{\"/\":\"x\"}}\n",
+        LOOKS,
+    ),
+];
+
 #[test]
 fn data_that_looks_like_a_link_is_told(rt: HostRuntime) -> Result<(), Fail> {
     let alloc = rt.alloc();
-    let rows: &[(&[u8], &[u8])] = &[
-        (b"\xa1\x61/\x01", b"{\"/\":1}\n"),
-        (b"\x81\xa2\x61/\xf6\x61a\xa0", b"[{\"/\":null,\"a\":{}}]\n"),
-        (b"\xa1\x61a\xa1\x61/\x61x", b"{\"a\":{\"/\":\"x\"}}\n"),
-    ];
-    for (block, line) in rows {
-        let (ended, written, told) = run_word(alloc, "show", block)?;
-        assert_eq!(rt; written.as_slice(), *line);
-        assert_eq!(rt; ended, 0);
-        assert_eq!(rt;
-            told.as_slice(),
-            b"dagcar: a map with the key / looks like a link or like bytes\n".as_slice()
-        );
+    for (block, line, told) in SHOWN {
+        gives(alloc, "show", block, 0, line, told)?;
     }
     let (_ended, _written, told) = run_word(alloc, "show", b"\xa1\x62//\x01")?;
-    assert!(rt; told.is_empty());
-    Ok(())
+    agree(told.is_empty(), true)
 }
 
 #[test]
 fn faults_of_making_are_told(rt: HostRuntime) -> Result<(), Fail> {
     let alloc = rt.alloc();
-    let (mut output, mut errors) = (Vec::new(alloc), Vec::new(alloc));
-    let mut full = Stingy::new(alloc, 30, None);
-    let ended = run_words(
-        alloc,
-        &["make"],
-        &mut &DATA_LINE[..],
-        &mut full,
-        &mut errors,
-    )?;
-    assert_eq!(rt; ended, 2);
-    assert!(rt; DATA.starts_with(full.held()));
-    assert_eq!(rt; errors.as_slice(), b"dagcar: output failed\n".as_slice());
+    fills(alloc, &["make"], DATA_LINE, 30, DATA)?;
     // What cannot be told is a fault too.
+    let mut output = Vec::new(alloc);
     let mut deaf = Stingy::new(alloc, 3, None);
-    let ended = run_words(
-        alloc,
-        &["make"],
-        &mut b"1.5".as_slice(),
-        &mut output,
-        &mut deaf,
-    )?;
-    assert_eq!(rt; ended, 2);
-    assert!(rt; output.is_empty());
-    Ok(())
+    let mut input = b"1.5".as_slice();
+    let ended = run_words(alloc, &["make"], &mut input, &mut output, &mut deaf)?;
+    agree((ended, output.is_empty()), (2, true))
 }

@@ -1,0 +1,38 @@
+//! What values of the examples are written and read as, by whichever way their types are made.
+
+use crate::reads::each_answers;
+use crate::told::writes;
+use serde_ipld_dagcbor::{Deserialize, Serialize};
+use std::alloc::Global;
+use std::fmt::Debug;
+use std::test::Fail;
+
+/// The note of the year 23 and of the text "hi".
+const NOTE: &[u8] = b"\xa2\x64text\x62hi\x64year\x17";
+
+/// Blocks, and what they are read as.
+const NOTES: &[(&[u8], &str)] = &[
+    (NOTE, r#"Ok(Note { year: 23, text: "hi" })"#),
+    // 18 17 spells 23 in two bytes, where one is enough.
+    (
+        b"\xa2\x64text\x62hi\x64year\x18\x17",
+        r#"Err(NonMinimal { name: "u16", found: 24 })"#,
+    ),
+];
+
+/// Fails where the note of the year 23 and of the text "hi" is written otherwise, or where it or
+/// another spelling of it, however the bytes come, is read otherwise.
+pub fn note_goes_both_ways<'de, T: Serialize + Deserialize<'de> + Debug + Drop>(
+    alloc: Global,
+    note: &T,
+) -> Result<(), Fail> {
+    writes(alloc, note, NOTE)?;
+    each_answers::<T>(alloc, NOTES)
+}
+
+/// What an album of two tracks is read as.
+pub const BLUE_TOLD: &str =
+    r#"Ok(Album { year: Some(1971), title: "Blue", format: Vinyl, tracks: [Track { note: Some("take 2"), title: "Carey", seconds: 182 }, Track { note: None, title: "River", seconds: 244 }] })"#;
+
+/// What an album of no year and no track is read as.
+pub const DEMO_TOLD: &str = r#"Ok(Album { year: None, title: "Demo", format: Tape, tracks: [] })"#;

@@ -1,9 +1,10 @@
-//! Files of blocks, and the store that keeps them.
+//! Files of blocks, and the two stores that keep them.
 
 mod cars;
 mod faults;
 mod files;
 mod held;
+mod lasting;
 mod pair;
 mod sections;
 mod store;

@@ -15,16 +15,11 @@ const FOLDER: &str = "dagcbor_store_test";
 
 const FILE: &str = "dagcbor_store_test/a.db";
 
-/// Fails where the store keeps no 23, or another block under a name.
-fn keeps_a_number<S: Store>(store: &mut BlockStore<S>) -> Result<Cid, Fail> {
-    let Ok(name) = store.put(&23u8) else {
-        return Err(Fail::new("not put"));
-    };
-    agree(store.get::<u8>(&name)?, Some(23))?;
-    agree(name, name_of_block(b"\x17"))?;
-    store.put_block(&name, b"\x17")?;
-    agree(store.get::<String>(&name).is_err(), true)?;
-    Ok(name)
+/// Fails where the name is not that of 23, or where another type reads it.
+fn keeps_a_number<S: Store>(store: &mut BlockStore<S>, name: &Cid) -> Result<(), Fail> {
+    agree(*name, name_of_block(b"\x17"))?;
+    store.put_block(name, b"\x17")?;
+    agree(store.get::<String>(name).is_err(), true)
 }
 
 /// Fails where a block is not added behind one that is kept, or where what is none of its name is.
@@ -56,7 +51,12 @@ fn blocks_last(rt: HostRuntime) -> Result<(), Fail> {
     let _ = fs::remove_dir_all(&rt, FOLDER);
     fs::create_dir(&rt, FOLDER)?;
     let mut store = BlockStore::open(&rt, FILE, Wary)?;
-    let name = keeps_a_number(&mut store)?;
+    let Ok(name) = store.put(&23u8) else {
+        return Err(Fail::new("not put"));
+    };
+    let value: Option<u8> = store.get(&name)?;
+    agree(value, Some(23))?;
+    keeps_a_number(&mut store, &name)?;
     adds_blocks_alone(&mut store, &name)?;
     // What was added and not committed is lost.
     drop(store);

@@ -104,27 +104,14 @@ begins_with_q c bytes (inl h) is = by (cid_bytes c) (form_0 c h.0) bytes
 
 pub no_q : (base : Base) → prefix_of base ≢ 81
 no_q bases.Lower16 e = omega (arith, e)
-no_q bases.Lower32 e = omega (arith, e)
-no_q bases.Upper32 e = omega (arith, e)
-no_q bases.Bitcoin58 e = omega (arith, e)
+no_q _ e = omega (arith, e)
 
 pub same_base : (b d : Base) → prefix_of b ≡ prefix_of d → b ≡ d
 same_base bases.Lower16 bases.Lower16 e = refl
 same_base bases.Lower32 bases.Lower32 e = refl
 same_base bases.Upper32 bases.Upper32 e = refl
 same_base bases.Bitcoin58 bases.Bitcoin58 e = refl
-same_base bases.Lower16 bases.Lower32 e = absurd (omega (arith, e))
-same_base bases.Lower16 bases.Upper32 e = absurd (omega (arith, e))
-same_base bases.Lower16 bases.Bitcoin58 e = absurd (omega (arith, e))
-same_base bases.Lower32 bases.Lower16 e = absurd (omega (arith, e))
-same_base bases.Lower32 bases.Upper32 e = absurd (omega (arith, e))
-same_base bases.Lower32 bases.Bitcoin58 e = absurd (omega (arith, e))
-same_base bases.Upper32 bases.Lower16 e = absurd (omega (arith, e))
-same_base bases.Upper32 bases.Lower32 e = absurd (omega (arith, e))
-same_base bases.Upper32 bases.Bitcoin58 e = absurd (omega (arith, e))
-same_base bases.Bitcoin58 bases.Lower16 e = absurd (omega (arith, e))
-same_base bases.Bitcoin58 bases.Lower32 e = absurd (omega (arith, e))
-same_base bases.Bitcoin58 bases.Upper32 e = absurd (omega (arith, e))
+same_base _ _ e = absurd (omega (arith, e))
 
 -- ---- one CID a text
 
@@ -169,13 +156,9 @@ one_cid text c d h k = by h.told k.told
 
 fault_told : (base : Base) (text rest : List ℕ) (e : CidTextError) → IsInBase text base rest → IsBytesFault base e rest → IsTextFault e text
 fault_told bases.Lower16 text rest faults.UnknownBase is h = absurd h.1
-fault_told bases.Lower32 text rest faults.UnknownBase is h = absurd h.1
-fault_told bases.Upper32 text rest faults.UnknownBase is h = absurd h.1
-fault_told bases.Bitcoin58 text rest faults.UnknownBase is h = absurd h.1
+fault_told _ text rest faults.UnknownBase is h = absurd h.1
 fault_told bases.Lower16 text rest faults.InvalidVersion is h = absurd h.1
-fault_told bases.Lower32 text rest faults.InvalidVersion is h = absurd h.1
-fault_told bases.Upper32 text rest faults.InvalidVersion is h = absurd h.1
-fault_told bases.Bitcoin58 text rest faults.InvalidVersion is h = absurd h.1
+fault_told _ text rest faults.InvalidVersion is h = absurd h.1
 fault_told base text rest _ is h = (base, rest, is, h)
 
 -- behind its prefix the text is that of no other CID

@@ -20,6 +20,7 @@ pub fn text_faults()
 {}
 
 /// What was written is read back.
+#[tactic(auto, using(crate::proofs::Texting::read_back))]
 pub fn texts_are_read_back(cid: &Cid) -> Result<Cid, CidTextError>
     ensures { result ≡ Ok cid.now }
 {

@@ -20,11 +20,7 @@ link_once s (Err e) (Err f) h k = ap Err (h.1 ∙ ap NoCid (one_of_text s h.0 k.
 
 named_once : (k : List ℕ) (j : Json) (r q : Read Tree) → ReadsNamed k j r → ReadsNamed k j q → r ≡ q
 named_once k json.null r q h g = h ∙ sym g
-named_once k (json.boolean b) r q h g = h ∙ sym g
-named_once k (json.number s) r q h g = h ∙ sym g
-named_once k (json.string s) r q h g = h ∙ sym g
-named_once k (json.array js) r q h g = h ∙ sym g
-named_once k (json.object ms) r q h g = h ∙ sym g
+named_once k _ r q h g = h ∙ sym g
 
 bytes_once : (ms : Members) (r q : Read Tree) → ReadsBytes ms r → ReadsBytes ms q → r ≡ q
 bytes_once no_members r q h g = h ∙ sym g

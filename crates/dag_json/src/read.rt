@@ -131,6 +131,7 @@ fn named_bytes(
 }
 
 /// The bytes that stand at the key `/`.
+#[tactic(auto, using(crate::proofs::Members::no_bytes))]
 fn slashed_bytes(
     alloc: Global,
     members: &[(&str, Value<'_>)],
@@ -169,6 +170,7 @@ fn slashed(alloc: Global, value: &Value<'_>, place: &mut usize) -> Result<Ipld, 
 }
 
 /// What a map is that has the key `/`.
+#[tactic(auto, using(crate::proofs::Members::no_reserved))]
 fn reserved_of(
     alloc: Global,
     members: &[(&str, Value<'_>)],

@@ -30,6 +30,7 @@ pub fn say<W: Write>(said: Said, output: &mut W) -> Result<bool, ToolError>
 }
 
 /// Writes the lines to the output and what is told to the errors, and answers whether nothing is wrong.
+#[tactic(auto, using(crate::proofs::Saying::first_broken))]
 pub fn say_both<W: Write, V: Write>(
     said: Said,
     told: &[u8],

@@ -25,12 +25,7 @@ no_counted Truncated b inner rest (inr short) h =
     let same = varint_unique (length inner) short.0 (inner ++ rest) short.1 h.0 short.2 (sym (begins b inner rest h) ∙ short.4) in
     omega (arith, same.0, ap length same.1, length-append inner rest, short.3)
 no_counted InvalidLength b inner rest none h = none (length inner) [] (inner ++ rest) h.0 (append-nil b ∙ begins b inner rest h)
-no_counted (InvalidCid f) b inner rest none h = none
-no_counted (NoBlock f) b inner rest none h = none
-no_counted OtherHeader b inner rest none h = none
-no_counted InvalidOffset b inner rest none h = none
-no_counted OutOfMemory b inner rest none h = none
-no_counted (Read f) b inner rest none h = none
+no_counted _ b inner rest none h = none
 
 -- ---- a section
 
@@ -41,11 +36,7 @@ at_count : {E : Type 0} (e : CarError E) (b : List ℕ) → CountFault e b → S
 at_count Truncated b h = h
 at_count InvalidLength b h = h
 at_count (InvalidCid f) b h = absurd h
-at_count (NoBlock f) b h = h
-at_count OtherHeader b h = h
-at_count InvalidOffset b h = h
-at_count OutOfMemory b h = h
-at_count (Read f) b h = h
+at_count _ b h = h
 
 pub no_section_counted : {E : Type 0} (e : CarError E) (b : List ℕ) → CountFault e b → BeginsNoSection b × SectionFault e b
 no_section_counted e b f = (λ s rest h. no_counted e b (section_body s) rest f (section_counted b s rest h), at_count e b f)

@@ -44,9 +44,7 @@ no_varint_front e s fields rest h few f = no_front e s (λ is. not_trailing e f 
     not_trailing : (e : CidError) → IsVarintFault e rest → e ≡ TrailingBytes → ⊥
     not_trailing InvalidVarint f is = absurd (cc is)
     not_trailing Truncated f is = absurd (cc is)
-    not_trailing InvalidVersion f is = f
-    not_trailing DigestTooLong f is = f
-    not_trailing TrailingBytes f is = f
+    not_trailing _ f is = f
 
 -- ---- version 0
 

@@ -97,18 +97,9 @@ pub not_read : {E : Type 0} (e : CarError E) (b inner rest : List ℕ) → Split
 not_read (NoBlock e) b inner rest h r = (no_header_here b inner rest h (λ roots s. no_block e inner r.0 r.1 (header_tree roots) (header_block inner roots s)), (inner, rest, h, r.0, r.1))
 not_read OtherHeader b inner rest h r = (no_header_here b inner rest h r.1, (inner, rest, h, r.0))
 not_read OutOfMemory b inner rest h r = (inner, rest, h, r)
-not_read Truncated b inner rest h r = absurd r
-not_read InvalidOffset b inner rest h r = absurd r
-not_read InvalidLength b inner rest h r = absurd r
-not_read (InvalidCid f) b inner rest h r = absurd r
-not_read (Read f) b inner rest h r = absurd r
+not_read _ b inner rest h r = absurd r
 
 pub not_counted : {E : Type 0} (e : CarError E) (b : List ℕ) → CountFault e b → HeaderRefused e b
 not_counted {E} Truncated b f = (λ roots rest h. no_counted {E = E} Truncated b (spelling (header_tree roots)) rest f (h.0.fits, h.1), f)
 not_counted {E} InvalidLength b f = (λ roots rest h. no_counted {E = E} InvalidLength b (spelling (header_tree roots)) rest f (h.0.fits, h.1), f)
-not_counted (InvalidCid g) b f = absurd f
-not_counted (NoBlock g) b f = absurd f
-not_counted OtherHeader b f = absurd f
-not_counted InvalidOffset b f = absurd f
-not_counted OutOfMemory b f = absurd f
-not_counted (Read g) b f = absurd f
+not_counted _ b f = absurd f

@@ -153,13 +153,7 @@ lacks_more {U} {E} T P Q (Err y) e h f l = by e l h
   where
     by : (x : CarError E) → LacksMemoryIf {T = T} {E = E} P (Err x) → y ≡ x → LacksMemoryIf {T = U} {E = E} Q (Err y)
     by OutOfMemory l is = subst (λ x. LacksMemoryIf {T = U} {E = E} Q (Err x)) (sym is) (f l)
-    by (Read g) l is = subst (λ x. LacksMemoryIf {T = U} {E = E} Q (Err x)) (sym is) tt
-    by Truncated l is = subst (λ x. LacksMemoryIf {T = U} {E = E} Q (Err x)) (sym is) tt
-    by InvalidLength l is = subst (λ x. LacksMemoryIf {T = U} {E = E} Q (Err x)) (sym is) tt
-    by (InvalidCid g) l is = subst (λ x. LacksMemoryIf {T = U} {E = E} Q (Err x)) (sym is) tt
-    by (NoBlock g) l is = subst (λ x. LacksMemoryIf {T = U} {E = E} Q (Err x)) (sym is) tt
-    by InvalidOffset l is = subst (λ x. LacksMemoryIf {T = U} {E = E} Q (Err x)) (sym is) tt
-    by OtherHeader l is = subst (λ x. LacksMemoryIf {T = U} {E = E} Q (Err x)) (sym is) tt
+    by _ l is = subst (λ x. LacksMemoryIf {T = U} {E = E} Q (Err x)) (sym is) tt
 
 varint_some : (n : ℕ) → 1 ≤ length (varint n)
 unfolding varint

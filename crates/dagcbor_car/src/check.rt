@@ -106,6 +106,7 @@ impl CarCheck {
     }
 
     /// Notes the links of a block, and those within them, that lead to no verified block so far.
+    #[tactic(auto, using(crate::proofs::Checking::links_followed))]
     fn follow(&mut self, block: &[u8]) -> Result<(), AllocError>
         requires { HasBlock block.now }
         ensures followed { OnOk result (FollowsLinks block.now self.old self.new) }
@@ -199,6 +200,7 @@ fn step<'de, R: Read, S: VerdictSink>(
 }
 
 /// Takes the section, and hands it and the verdict on it to the sink.
+#[tactic(auto, using(crate::proofs::Files::section_told, crate::proofs::Files::tells_none))]
 fn take_section<S: VerdictSink>(
     check: &mut CarCheck,
     section: &Section<'_>,

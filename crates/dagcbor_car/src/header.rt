@@ -47,6 +47,7 @@ impl Serialize for Header<'_> {
 }
 
 /// The header of these roots.
+#[tactic(auto, using(crate::proofs::Headers::is_written))]
 pub(crate) fn spell_header(alloc: Global, roots: &[Cid]) -> Result<Vec<u8>, AllocError>
     ensures { IfOk result (λ v. IsSpelling v.items (header_tree (forms roots.now))) }
 {

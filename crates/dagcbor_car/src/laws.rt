@@ -6,6 +6,7 @@ ghost use Rattle.dagcbor_car.specs.Runs.{RunsAreExact, CarsReadBack, CarsAreWrit
 use dagcbor_heads::{Read, Write};
 
 /// Bytes are the file of one list of roots and one list of sections at most.
+#[tactic(auto, using(crate::proofs::Cars::car_unique))]
 pub fn cars_are_unique()
     ensures { CarsAreUnique }
 {}
@@ -22,6 +23,7 @@ pub fn cars_are_files()
 
 /// However often `next` is called, its sections are those at the front of the bytes, in their order,
 /// up to the end or to one error where no section stands.
+#[tactic(auto, using(crate::proofs::Running::exact))]
 pub fn runs_are_exact<R: Read>()
     ensures { RunsAreExact R.Error }
 {}
@@ -33,6 +35,7 @@ pub fn cars_are_written<W: Write>()
 
 /// Such a file is read as its roots and its sections, and then the end, faults and want of memory
 /// aside.
+#[tactic(auto, using(crate::proofs::Running::read_back))]
 pub fn cars_read_back<R: Read>()
     ensures { CarsReadBack R.Error R.reading }
 {}

@@ -53,6 +53,7 @@ fn first_links(alloc: Global, block: &[u8]) -> Result<Vec<Cid>, AllocError>
 }
 
 /// The links of the block that the bytes are, if they are one.
+#[tactic(auto, using(crate::proofs::Reaching::links_found, crate::proofs::Headers::no_block))]
 fn links_in(alloc: Global, bytes: &[u8]) -> Result<Vec<Cid>, AllocError>
     ensures { IfOk result (λ v. AreLinksOf (IsBlock bytes.now) v.items) }
 {

@@ -84,6 +84,7 @@ fn split_cid(bytes: &[u8]) -> Result<(Cid, &[u8]), CidError>
 }
 
 /// What stands behind the first two bytes of version 0.
+#[tactic(auto, using(crate::proofs::Fronts::front_of_digest))]
 fn split_version_0(bytes: &[u8]) -> Result<(Cid, &[u8]), CidError>
     ensures { MatchResult result
         (λ p. SplitsCid (0x12 ∷ 0x20 ∷ bytes.now) p.0 p.1.now)

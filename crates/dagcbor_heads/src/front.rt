@@ -18,6 +18,7 @@ fn split_one(bytes: &[u8]) -> Option<(u64, &[u8])>
 
 /// The number that the bytes spell, the highest of them first.
 #[inline(always)]
+#[tactic(auto, using(std::proofs::lemmas::Nat::be_bytes_2))]
 fn high_first_two(bytes: [u8; 2]) -> u16
     ensures { bytes_high_first 2 result ≡ bytes }
 {
@@ -35,6 +36,7 @@ fn split_two(bytes: &[u8]) -> Option<(u64, &[u8])>
 
 /// The number that the bytes spell, the highest of them first.
 #[inline(always)]
+#[tactic(auto, using(std::proofs::lemmas::Nat::be_bytes_4))]
 fn high_first_four(bytes: [u8; 4]) -> u32
     ensures { bytes_high_first 4 result ≡ bytes }
 {

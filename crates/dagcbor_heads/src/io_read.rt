@@ -97,6 +97,7 @@ impl<R: BufRead + Drop> Read for IoReader<R> {
         self.window.shown()
     }
 
+    #[tactic(auto, using(crate::proofs::Windows::more_taken))]
     fn advance(&mut self, n: usize) {
         self.window.advance(n);
     }

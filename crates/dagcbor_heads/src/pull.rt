@@ -33,6 +33,7 @@ pub fn is_indefinite(byte: u8) -> bool
 }
 
 /// The next byte, which is left, or nothing at the end.
+#[tactic(auto, using(crate::proofs::Taking::first_shown, crate::proofs::Looking::once_shown))]
 fn look<R: Read>(reader: &mut R) -> Result<Option<u8>, R::Error>
     ensures looked { LooksOnce (R.reading reader.old) (R.reading reader.new) }
     ensures found { MatchResult result

@@ -20,6 +20,7 @@ use std::alloc::{AllocError, Global};
 use std::collections::BTreeMap;
 
 /// Reads an item of any kind, no deeper than the steps that are left.
+#[tactic(auto, using(dagcbor_heads::proofs::Refusing::as_refusal))]
 pub fn read_any<R: Read>(alloc: Global, input: &mut Input<'_, R>) -> ReadResult<Ipld, R>
     ensures item { OverInput R.reading ReadsItem input.old result input.new }
     ensures looked { OverInput R.reading (Looks 3) input.old result input.new }

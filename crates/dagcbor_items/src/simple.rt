@@ -9,6 +9,7 @@ use crate::link::pull_wanted;
 use dagcbor_heads::{DecodeError, Read, ReadResult, pull_one};
 
 /// A null.
+#[tactic(auto, using(crate::proofs::SimpleValues::null_read))]
 pub fn pull_null<R: Read>(reader: &mut R) -> ReadResult<(), R>
     ensures null { ReadsNull (R.reading reader.old) result (R.reading reader.new) }
     ensures looked { Looks 2 (R.reading reader.old) result (R.reading reader.new) }

@@ -65,6 +65,7 @@ fn text_of<'de>(payload: CowSlice<'de, u8>) -> Option<CowStr<'de>>
 }
 
 /// A byte string whose first byte has its major type, lent where the input lends.
+#[tactic(auto, using(crate::proofs::StringReads::bytes_read))]
 pub(crate) fn pull_peeked_slice<'de, R: Read>(
     alloc: Global,
     input: &mut Input<'de, R>,
@@ -227,6 +228,7 @@ pub fn pull_owned_bytes<R: Read>(alloc: Global, input: &mut Input<'_, R>) -> Rea
 }
 
 /// The one character of a text.
+#[tactic(auto, using(crate::proofs::Characters::two_chars, crate::proofs::Characters::one_char))]
 fn only_char(text: &str) -> Option<char>
     ensures { result ≡ only (chars text.now) }
 {

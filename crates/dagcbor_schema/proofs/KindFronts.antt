@@ -99,13 +99,7 @@ module _ {B I T Y L M K : Type 0} (s : KindShapes B I T Y L M K) where
 
   each_told : (t : Tree) → IsTold (kind_of t) t
   each_told null = refl
-  each_told (boolean b) = (refl, refl)
-  each_told (integer n) = (refl, refl)
-  each_told (text w) = (refl, refl)
-  each_told (bytes w) = (refl, refl)
-  each_told (list ts) = (refl, refl)
-  each_told (mapping es) = (refl, refl)
-  each_told (link cid) = (refl, refl)
+  each_told _ = (refl, refl)
 
   told_of : (kind : Kind) (t : Tree) → kind_of t ≡ kind → IsTold kind t
   told_of kind t e = subst (λ k. IsTold k t) e (each_told t)

@@ -11,11 +11,13 @@ pub fn links_are_links()
 {}
 
 /// A field of another name, or in another case, makes none: a derive sends `/` as it is.
+#[tactic(auto, using(crate::proofs::LinkNames::only_link_names))]
 pub fn fields_are_no_links()
     ensures { FieldsAreNoLinks }
 {}
 
 /// What is sent as a tree, as `Any` is, has that tree's spelling.
+#[tactic(auto, using(crate::proofs::Making::written_trees))]
 pub fn trees_are_written()
     ensures { TreesAreWritten }
 {}

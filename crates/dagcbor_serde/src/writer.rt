@@ -34,6 +34,7 @@ impl Writer {
     }
 
     /// The bytes, where one whole value was sent and no event refused.
+    #[tactic(auto, using(crate::proofs::Logs::known_log))]
     pub(crate) fn into_bytes(self) -> Result<Vec<u8>, WriteError>
         ensures { IfOk result (λ v. IsGoodLog self.log.events v.items) }
     {

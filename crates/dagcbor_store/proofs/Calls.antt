@@ -159,11 +159,7 @@ fails_since g U old mid new e told t blame tells up h =
 
 not_number : (e : StoreError) → TellsOfStore e refusal.NoNumber → ⊥
 not_number stored.OutOfMemory h = cc
-not_number stored.Unstorable h = cc
-not_number stored.Io h = cc
-not_number stored.Corrupt h = cc
-not_number stored.Full h = cc
-not_number stored.Broken h = cc
+not_number _ h = cc
 
 pub put_failed : {S : Type 0} (g : Ghosts S) (s : Section) (old new : S) (told : StoreRefusal) → Fails g (IsTooLong (g.view old).reals (cid_bytes s.0) s.1) old new told → PutRefused g s old new told
 put_failed g s old new refusal.NoNumber f = absurd (not_number f.0 f.1)

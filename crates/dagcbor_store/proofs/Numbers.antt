@@ -54,9 +54,7 @@ int_tied m n h = grind (arith, ints, nat_tests)
 int_value : (v : Value) → IsTrue (is_int v) → (n : ℤ) × (v ≡ Int n)
 int_value Null h = absurd (true≢false (sym h))
 int_value (Int n) h = (n, refl)
-int_value (Real x) h = absurd (true≢false (sym h))
-int_value (Text t) h = absurd (true≢false (sym h))
-int_value (Blob b) h = absurd (true≢false (sym h))
+int_value _ h = absurd (true≢false (sym h))
 
 -- the number that a row of a table has
 pub number_is : (id : ℤ) (r : Row) → IsTrue (is_int (rowid r)) → has_rowid id r ≡ true → rowid r ≡ Int id

@@ -119,11 +119,7 @@ module _ {S : Type 0} (g : Ghosts S) where
 
   pub not_damaged : (e : StoreError) (n : CidParts) → TellsOfStore e (refusal.Damaged n) → ⊥
   not_damaged stored.OutOfMemory n h = cc
-  not_damaged stored.Unstorable n h = cc
-  not_damaged stored.Io n h = cc
-  not_damaged stored.Corrupt n h = cc
-  not_damaged stored.Full n h = cc
-  not_damaged stored.Broken n h = cc
+  not_damaged _ n h = cc
 
   pub fails_walk : (old new : S) (told : StoreRefusal) → Fails g ⊥ old new told → WalkRefused g old new told
   fails_walk old new (refusal.Damaged n) f = absurd (not_damaged f.0 n f.1)

@@ -167,9 +167,7 @@ digest_or_cut b P never h (inr (inr g)) = one_digest b P IsCutDigest never h g
 pub varint_fault : (e : CidError) (b numbers rest : List ℕ) → HasVarints b numbers rest → length numbers ≤ 2 → IsVarintFault e rest → IsFault e b
 varint_fault InvalidVarint b numbers rest h few f = (numbers, rest, h, few, f)
 varint_fault Truncated b numbers rest h few f = inr (inl (numbers, rest, h, few, f))
-varint_fault InvalidVersion b numbers rest h few f = absurd f
-varint_fault DigestTooLong b numbers rest h few f = absurd f
-varint_fault TrailingBytes b numbers rest h few f = absurd f
+varint_fault _ b numbers rest h few f = absurd f
 
 -- no fault stands in a CID
 pub fault_no_cid : (e : CidError) (b : List ℕ) → IsFault e b → IsCid b → ⊥

@@ -210,8 +210,7 @@ same_place_flips k l = ap is_eq (key_cmp_total.antisymm k l) ∙ turned (key_cmp
   where
     turned : (o : Ordering) → is_eq (ordering_reverse o) ≡ is_eq o
     turned Less = refl
-    turned Equal = refl
-    turned Greater = refl
+    turned _ = refl
 
 -- what a sort of the pairs gives is their order
 pub ordered_by_sort : (ps qs : List KeyAndTree) → IsPermutation ps qs → IsSortedList qs → AreDistinct ps × (ordered_entries ps ≡ entries_of qs)

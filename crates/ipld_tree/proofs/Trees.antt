@@ -86,8 +86,7 @@ bytes_copied j v w is e = tree_of_Bytes w ∙ ap bytes e ∙ sym (tree_of_Bytes 
 
 pairs_of_match_ordering : (o : Ordering) (a b c : List IpldEntry) → pairs_of (match_ordering o a b c) ≡ match_ordering o (pairs_of a) (pairs_of b) (pairs_of c)
 pairs_of_match_ordering Less a b c = refl
-pairs_of_match_ordering Equal a b c = refl
-pairs_of_match_ordering Greater a b c = refl
+pairs_of_match_ordering _ a b c = refl
 
 -- what a `BTreeMap` does at a key, on the pairs
 pub pairs_of_insert_entry : (es : List IpldEntry) (k : String Global) (j : Ipld) → pairs_of (insert_entry string_cmp es k j) ≡ insert_entry bytes_cmp (pairs_of es) (string_bytes k) (tree_of j)

@@ -138,6 +138,7 @@ fn equal(left: &Ipld, right: &Ipld) -> bool
     }
 }
 
+#[tactic(auto, using(crate::proofs::Cids::is_same))]
 fn equal_links(left: &Cid, right: &Cid) -> bool
     ensures { IsTrue result ↔ (cid_bytes left.now ≡ cid_bytes right.now) }
 {

@@ -1,5 +1,0 @@
-use Rattle.dag_json.proofs.Members.{no_bytes}
-use Rattle.dag_json.proofs.read.slashed_bytes.Goals as goal
-
-pub returns-in-len2-up-clause-refused : goal.returns-in-len2-up-clause-refused
-returns-in-len2-up-clause-refused c _ = no_bytes c.args.members.now c.in-len2-up.len_at_least

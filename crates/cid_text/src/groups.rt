@@ -46,6 +46,7 @@ pub fn push_groups(
 }
 
 /// The bytes that the text is of.
+#[tactic(auto, using(crate::proofs::GroupReads::other_symbol))]
 pub fn read_groups(
     width: u32,
     symbols: &[u8],

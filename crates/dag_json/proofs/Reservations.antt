@@ -5,6 +5,7 @@ use Rattle.ipld_tree.specs.Tree.{Tree, Entries, no_entries, entry, insert, order
 use Rattle.ipld_tree.specs.Ipld.{tree_of, pairs_of}
 use Rattle.ipld_tree.proofs.Trees.{IpldEntry}
 use Rattle.dag_json.specs.DagJson.{has_reserved_key, entries_reserved}
+use Rattle.dag_json.proofs.Slots.{or_swap}
 
 -- whether the key is `/`, or one stands in the value
 abbrev pub entry_reserved : List ℕ → Tree → Bool
@@ -17,12 +18,6 @@ pairs_reserved (e ∷ es) = entry_reserved (string_bytes e.0) (tree_of e.1) || p
 or_assoc : (a b c : Bool) → (a || (b || c)) ≡ ((a || b) || c)
 or_assoc true b c = refl
 or_assoc false b c = refl
-
-or_swap : (a b c : Bool) → (a || (b || c)) ≡ (b || (a || c))
-or_swap true true c = refl
-or_swap true false c = refl
-or_swap false true c = refl
-or_swap false false c = refl
 
 entry_step : (k : List ℕ) (t : Tree) (es : Entries) → entries_reserved (entry k t es) ≡ (entry_reserved k t || entries_reserved es)
 entry_step k t es = or_assoc (bytes_eq k (codes "/")) (has_reserved_key t) (entries_reserved es)

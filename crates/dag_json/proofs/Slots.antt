@@ -87,11 +87,9 @@ or_false : (a b : Bool) → (a || b) ≡ false → (a ≡ false) × (b ≡ false
 or_false true b h = absurd cc
 or_false false b h = (refl, h)
 
-or_swap : (a b c : Bool) → (a || (b || c)) ≡ (b || (a || c))
+pub or_swap : (a b c : Bool) → (a || (b || c)) ≡ (b || (a || c))
 or_swap true true c = refl
-or_swap true false c = refl
-or_swap false true c = refl
-or_swap false false c = refl
+or_swap _ _ c = refl
 
 not_tied : (k l : List ℕ) → is_eq (key_cmp k l) ≡ false → key_cmp k l ≡ Equal → ⊥
 not_tied k l h e = true≢false (sym (ap is_eq e) ∙ h)

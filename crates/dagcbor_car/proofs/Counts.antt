@@ -6,7 +6,7 @@ use Rattle.ipld_tree.proofs.Cids.{varint_unique}
 use Rattle.dagcbor_car.specs.Car.{counted, Section, section_body}
 use Rattle.dagcbor_car.specs.Splits.{SplitsCounted, CountFault, SplitsCid, BeginsNoCid, SplitsSection, BeginsNoSection, SectionFault}
 use Rattle.dagcbor_car.specs.declared.error.CarError.{CarError}
-use Rattle.dagcbor_car.specs.declared.error.CarError.TheVariants.{Read, Truncated, InvalidLength, InvalidCid, NoBlock, OtherHeader, InvalidOffset, OutOfMemory}
+use Rattle.dagcbor_car.specs.declared.error.CarError.TheVariants.{Truncated, InvalidLength, InvalidCid}
 use Rattle.dagcbor_car.proofs.Cars.{counted_unique}
 
 -- ---- what is counted

@@ -3,7 +3,7 @@ use Rattle.std.proofs.Common.{◌≡◌, inl, inr, ℕ, ◌+◌, ◌^◌, ◌<�
 use Rattle.ipld_tree.specs.Cid.{varint, CidParts, cid_parts, AreCidParts, cid_bytes}
 use Rattle.ipld_tree.specs.CidFault.{HasVarints, IsFault, IsVarintFault}
 use Rattle.ipld_tree.specs.declared.cid_error.CidError.{CidError}
-use Rattle.ipld_tree.specs.declared.cid_error.CidError.TheVariants.{InvalidVersion, InvalidVarint, DigestTooLong, Truncated, TrailingBytes}
+use Rattle.ipld_tree.specs.declared.cid_error.CidError.TheVariants.{InvalidVarint, Truncated, TrailingBytes}
 use Rattle.ipld_tree.proofs.CidFaults.{no_varint, one_varint_more, varint_fault, fault_no_cid, one_fault}
 use Rattle.dagcbor_car.specs.Splits.{SplitsCid, BeginsNoCid}
 use Rattle.dagcbor_car.proofs.Cars.{front_0, front_1}

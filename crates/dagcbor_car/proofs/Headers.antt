@@ -15,7 +15,7 @@ use Rattle.dagcbor_write.specs.Answers.{AreSpellingOf, HasNoSpelling}
 use Rattle.dagcbor_car.specs.Car.{counted, header_tree}
 use Rattle.dagcbor_car.specs.Splits.{SplitsCounted, CountFault, IsNoHeader, SplitsHeader, BeginsNoHeader, HeaderRefused}
 use Rattle.dagcbor_car.specs.declared.error.CarError.{CarError}
-use Rattle.dagcbor_car.specs.declared.error.CarError.TheVariants.{Read, Truncated, InvalidLength, InvalidCid, NoBlock, OtherHeader, InvalidOffset, OutOfMemory}
+use Rattle.dagcbor_car.specs.declared.error.CarError.TheVariants.{Truncated, InvalidLength, NoBlock, OtherHeader, OutOfMemory}
 use Rattle.dagcbor_car.proofs.Cars.{counted_unique, links_of_header}
 use Rattle.dagcbor_car.proofs.Counts.{no_counted}
 

@@ -15,7 +15,7 @@ use Rattle.dagcbor_car.specs.Splits.{CountFault, SplitsCid, BeginsNoCid, BeginsN
 use Rattle.dagcbor_car.specs.Extents.{of_file, TakesOff}
 use Rattle.dagcbor_car.specs.Sources.{CarRefuses, LacksMemoryIf, SectionLacks, IsShort, TakesSectionBytes}
 use Rattle.dagcbor_car.specs.declared.error.CarError.{CarError}
-use Rattle.dagcbor_car.specs.declared.error.CarError.TheVariants.{Read, Truncated, InvalidLength, InvalidCid, NoBlock, OtherHeader, InvalidOffset, OutOfMemory}
+use Rattle.dagcbor_car.specs.declared.error.CarError.TheVariants.{Read, InvalidCid, OutOfMemory}
 use Rattle.dagcbor_car.proofs.Counts.{no_section_counted, no_section_named}
 use Rattle.dagcbor_car.proofs.Spending.{off_none, off_both, off_within}
 

@@ -136,6 +136,7 @@ fn behind_link_list(bytes: &[u8]) -> Option<&[u8]>
 }
 
 /// The bytes behind so many links.
+#[tactic(auto, using(crate::proofs::HeaderShape::no_link_passed))]
 fn behind_links(bytes: &[u8], count: u64) -> Option<&[u8]>
     ensures { MatchOption result
         (¬ ((roots : List (List ℕ)) × (rest : List ℕ) × AreLinkFronts bytes.now count roots rest))

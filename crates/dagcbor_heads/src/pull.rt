@@ -153,6 +153,7 @@ pub(crate) fn least_argument(information: u8) -> u64
 }
 
 /// The number that the next bytes spell, the highest of them first. They are taken.
+#[tactic(auto, using(crate::proofs::Looking::some_then, crate::proofs::Looking::once_left))]
 fn pull_argument<R: Read>(name: &str, reader: &mut R, width: u16) -> ReadResult<u64, R>
     requires { width ≤ 8 }
     ensures taken { MatchResult result
@@ -382,6 +383,7 @@ fn copy_some<R: Read, const CAP: usize>(
 }
 
 /// The next n bytes, at most `CAP`, which are taken, with no memory.
+#[tactic(auto, using(crate::proofs::Looking::some_left, crate::proofs::Looking::some_both, crate::proofs::Looking::some_then))]
 pub fn pull_short_payload<R: Read, const CAP: usize>(
     name: &str,
     reader: &mut R,

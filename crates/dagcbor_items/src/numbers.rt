@@ -24,6 +24,7 @@ pub(crate) fn number_of(major: u8, argument: u64) -> i128
 
 /// A number of any size.
 #[inline(always)]
+#[tactic(auto, using(dagcbor_heads::proofs::Refusing::as_refusal, crate::proofs::Integers::number_refused))]
 fn pull_number<R: Read>(name: &str, reader: &mut R) -> ReadResult<i128, R>
     ensures number { Reads
         (λ n. n) (leaf (view_number Some)) ⊥ ⊥ (MajorCause name.now 0 1)

@@ -78,6 +78,7 @@ fn answer_shown(
 }
 
 /// Answers the lines that end in the next fill, and answers whether it showed any byte.
+#[tactic(auto, using(crate::proofs::Answering::fill_failed, crate::proofs::Answering::none_answered))]
 fn answer_fill<R: BufRead, W: Write>(
     alloc: Global,
     command: Command,

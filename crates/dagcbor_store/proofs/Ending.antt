@@ -1,6 +1,6 @@
 -- How a call of several steps on rows ends.
-use Rattle.std.proofs.Common.{◌≡◌, sym, ap, ◌∙◌, subst, arith, Result, Ok, Err}
-use Rattle.sqlite_trees.specs.View.{View, IsClean, KeepsSchema, KeepsCommitted, OnlyWrites}
+use Rattle.std.proofs.Common.{sym, ap, ◌∙◌, subst, arith, Result, Ok, Err}
+use Rattle.sqlite_trees.specs.View.{View, KeepsSchema, KeepsCommitted, OnlyWrites}
 use Rattle.sqlite_trees.specs.declared.store.Store.{Ghosts}
 use Rattle.sqlite_trees.specs.declared.error.StoreError.{StoreError}
 use Rattle.sqlite_exec.specs.Calls.{OnlyReads}

@@ -5,7 +5,6 @@ use Rattle.std.specs.BTreeMap.{is_at}
 use Rattle.std.specs.BTreeSet as set
 use Rattle.std.proofs.Math.Seq.{take-length}
 use Rattle.sqlite_trees.specs.View.{View}
-use Rattle.sqlite_trees.specs.declared.store.Store.{Ghosts}
 use Rattle.ipld_tree.specs.Cid.{CidParts, cid_bytes, cid_cmp}
 use Rattle.ipld_tree.specs.Tree.{Tree, links_of}
 use Rattle.ipld_tree.proofs.Fronts.{front_unique}

@@ -1,13 +1,13 @@
 -- The trees of data of any kind, by those of its parts.
-use Rattle.std.proofs.Common.{◌≡◌, List, [], ◌∷◌, map, Option, None, Some, Result, Vec, BTreeMap, String, Global, Bool, string_bytes, string_cmp, cond, refl, sym, ap, ◌∙◌, subst, rules, IfSome, OnOk, option_map, option_and_then}
+use Rattle.std.proofs.Common.{◌≡◌, List, [], ◌∷◌, map, Option, None, Some, Result, Vec, BTreeMap, String, Global, string_bytes, string_cmp, cond, refl, sym, ap, ◌∙◌, subst, IfSome, OnOk, option_map, option_and_then}
 use Rattle.std.specs.List.Sorted.{IsStrictlySortedBy}
 use Rattle.std.specs.Map.{keys_of}
 use Rattle.dagcbor_heads.specs.declared.error.EncodeError.{EncodeError}
 use Rattle.dagcbor_heads.specs.Written.{Written, Writes}
-use Rattle.ipld_tree.specs.Tree.{Tree, boolean, text, list, mapping, IsTree, items_of, ordered_entries, map_tree, all_some, list_tree, pair_of, entries_tree}
+use Rattle.ipld_tree.specs.Tree.{Tree, text, list, mapping, IsTree, items_of, ordered_entries, map_tree, all_some, list_tree, pair_of, entries_tree}
 use Rattle.ipld_tree.specs.Ipld.{tree_of, pairs_of}
 use Rattle.ipld_tree.specs.Spelled.{spelled, spelled_tree}
-use Rattle.ipld_tree.specs.declared.ipld.Ipld.{Ipld, Bool as Bool', List as List', Map as Map', the_lemmas}
+use Rattle.ipld_tree.specs.declared.ipld.Ipld.{Ipld, List as List', Map as Map'}
 use Rattle.ipld_tree.proofs.Ordered.{test_from_distinct}
 use Rattle.ipld_tree.proofs.Trees.{tree_of_List, tree_of_Map}
 use Rattle.ipld_tree.proofs.WellFormed.{distinct_entries}

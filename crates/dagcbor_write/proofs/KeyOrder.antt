@@ -1,11 +1,11 @@
 -- Pairs whose keys alone are spelled: in the order of these spellings they are the map.
-use Rattle.std.proofs.Common.{◌≡◌, ℕ, suc, ◌+◌, ◌<◌, ◌≤◌, drop, take, List, [], ◌∷◌, ◌++◌, length, get_or, map, Option, None, Some, Bool, true, false, Less, Result, Ok, Err, refl, sym, ap, ap₂, ◌∙◌, subst, arith, add-one, append-nil, drop-cons, drop_of_length-le, take_all, IfSome, IsSomeAnd, OnOk, option_and_then, is_lt}
+use Rattle.std.proofs.Common.{◌≡◌, ℕ, suc, ◌+◌, ◌<◌, drop, take, List, [], ◌∷◌, ◌++◌, length, get_or, map, Option, None, Some, Bool, true, false, Less, Result, Ok, Err, refl, sym, ap, ap₂, ◌∙◌, subst, arith, add-one, append-nil, drop-cons, IfSome, IsSomeAnd, OnOk, option_and_then, is_lt}
 use Rattle.std.specs.Fmt.{◌++?◌}
 use Rattle.ipld_tree.specs.Key.{bytes_cmp, key_cmp}
 use Rattle.ipld_tree.specs.Tree.{Tree, text, IsTree, key_of, pair_of, all_some, map_tree, ordered_entries, repeats_key, entries_tree}
 use Rattle.ipld_tree.specs.Spelled.{spelled, spelled_tree, spelled_head}
 use Rattle.dagcbor_heads.specs.declared.error.EncodeError.{EncodeError}
-use Rattle.dagcbor_heads.specs.Written.{Written, WroteAll, Writes}
+use Rattle.dagcbor_heads.specs.Written.{Written, Writes}
 use Rattle.dagcbor_heads.proofs.Writing.{Written-but}
 use Rattle.dagcbor_write.specs.Each.{AreTrees}
 use Rattle.dagcbor_write.specs.Keyed.{JoinsKeyed, key_goes_before, PutsKeysInOrder, spelled_keyed, value_trees}
@@ -14,7 +14,7 @@ use Rattle.dagcbor_write.specs.Pairwise.{Pairwise}
 use Rattle.dagcbor_write.specs.Rows.{spelled_pairs, ArePairs, KeysRise, Rises}
 use Rattle.dagcbor_write.specs.Trees.{Pair}
 use Rattle.dagcbor_write.proofs.Lists.{AreTrees_next}
-use Rattle.dagcbor_write.proofs.Parts.{part_opened, parts_ended}
+use Rattle.dagcbor_write.proofs.Parts.{part_opened}
 use Rattle.dagcbor_write.proofs.Mapping.{pairwise_length, beside, follows, row_map, BeginsWithName, clash, repeats, tree_of}
 use Rattle.dagcbor_write.proofs.Walks.{Named, IsNamed, names_given, same_map}
 

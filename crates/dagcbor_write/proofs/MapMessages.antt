@@ -1,27 +1,27 @@
 -- Why a map that is at hand is refused with a message.
-use Rattle.std.proofs.Common.{◌≡◌, ℕ, suc, ◌<◌, List, [], ◌∷◌, ◌++◌, length, get_or, map, Option, None, Some, Bool, true, false, ◌||◌, is_none, IsTrue, Result, Ok, Err, inl, inr, refl, sym, ap, ap₂, ◌∙◌, subst, arith, add-one, codes, IfErr, IsSomeAnd, option_and_then, Any, IsErrAnd}
+use Rattle.std.proofs.Common.{◌≡◌, ℕ, suc, ◌<◌, List, [], ◌∷◌, ◌++◌, length, get_or, map, Option, None, Some, Bool, true, false, ◌||◌, is_none, IsTrue, Result, inl, refl, sym, ap, ap₂, ◌∙◌, subst, arith, add-one, codes, IfErr, IsSomeAnd, Any, IsErrAnd}
 use Rattle.std.specs.List.{list_any}
 use Rattle.std.specs.Map.{keys_of}
 use Rattle.std.proofs.lemmas.List.Folds.{list_any_at, Any-from_list_any}
 use Rattle.std.proofs.lemmas.List.Sorted.{list_any-IsPermutation, IsPermutation-map}
 use Rattle.std.proofs.lemmas.Map.Keys.{IsDistinct-IsPermutation}
 use Rattle.dagcbor_heads.specs.declared.error.EncodeError.{EncodeError}
-use Rattle.dagcbor_heads.specs.declared.error.EncodeError.TheVariants.{Msg, Write, OutOfMemory}
+use Rattle.dagcbor_heads.specs.declared.error.EncodeError.TheVariants.{Msg}
 use Rattle.dagcbor_heads.specs.Messages.{message_bytes}
 use Rattle.dagcbor_heads.specs.Written.{Written, Stops}
-use Rattle.ipld_tree.specs.Tree.{Tree, null, text, key_of, pair_of, all_some, repeats_key}
+use Rattle.ipld_tree.specs.Tree.{Tree, null, text, pair_of, all_some, repeats_key}
 use Rattle.ipld_tree.specs.Spelled.{spelled, spelled_tree}
 use Rattle.ipld_tree.proofs.Ordered.{AreDistinct, same_place, same_place_flips}
 use Rattle.dagcbor_write.specs.Answers.{OnMessage, IsMessage}
 use Rattle.dagcbor_write.specs.Gathering.{Refused}
 use Rattle.dagcbor_write.specs.Keyed.{PutsKeysInOrder, lacks_value, RefusesKeyedValue}
-use Rattle.dagcbor_write.specs.Maps.{spelled_key, RefusesKey, RefusesAnyKey, RefusesKeys, RepeatsKey, LacksValue, RefusesAnyValue, RefusesMap, keys_alone}
+use Rattle.dagcbor_write.specs.Maps.{spelled_key, RefusesKey, RefusesAnyKey, RepeatsKey, LacksValue, RefusesMap, keys_alone}
 use Rattle.dagcbor_write.specs.Pairwise.{Pairwise}
 use Rattle.dagcbor_write.specs.Trees.{Pair}
 use Rattle.dagcbor_write.proofs.Fields.{Given-but}
 use Rattle.dagcbor_write.proofs.KeyOrder.{IsKeyedBy}
 use Rattle.dagcbor_write.proofs.Mapping.{beside, BeginsWithName, clash, repeats}
-use Rattle.dagcbor_write.proofs.Messages.{exit_message, message_tells}
+use Rattle.dagcbor_write.proofs.Messages.{exit_message}
 use Rattle.dagcbor_write.proofs.Walks.{Named}
 
 -- ---- a key

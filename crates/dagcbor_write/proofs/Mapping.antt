@@ -2,7 +2,6 @@
 use Rattle.std.proofs.Common.{◌≡◌, ◌≢◌, ℕ, zero, suc, ◌^◌, ◌<◌, List, [], ◌∷◌, ◌++◌, length, get_or, set, map, Option, None, Some, Bool, true, false, cond, Less, Equal, refl, sym, ap, ap₂, ◌∙◌, subst, arith, add-one, IsPermutation, is_eq, IsUtf8, IfSome, IsSomeAnd, IsTrue, OnOk, Result, option_map, option_and_then, swap, is_lt}
 use Rattle.std.proofs.lemmas.List.Sorted.{IsPermutation-keeps, IsPermutation-refl, IsPermutation-trans, IsPermutation-swap, IsPermutation-map}
 use Rattle.std.proofs.lemmas.Map.Keys.{IsDistinct-IsPermutation}
-use Rattle.std.specs.Prelude.{⊤}
 use Rattle.std.specs.Fmt.{◌++?◌}
 use Rattle.std.specs.List.{AllByRecursion, IsDistinct}
 use Rattle.std.specs.List.Sorted.{IsStrictlySortedBy}

@@ -2,9 +2,9 @@
 use Rattle.std.proofs.Common.{◌≡◌, ℕ, ◌^◌, ◌<◌, List, length, Option, None, Some, Result, Ok, Err, inl, inr, refl, sym, ap, ◌∙◌, subst, IfErr, IsErrAnd}
 use Rattle.std.specs.Fmt.{◌++?◌}
 use Rattle.dagcbor_heads.specs.declared.error.EncodeError.{EncodeError}
-use Rattle.dagcbor_heads.specs.declared.error.EncodeError.TheVariants.{Msg, Write, OutOfMemory}
+use Rattle.dagcbor_heads.specs.declared.error.EncodeError.TheVariants.{Msg}
 use Rattle.dagcbor_heads.specs.Written.{Written, WroteAll, Writes, Stops}
-use Rattle.ipld_tree.specs.Tree.{Tree, text}
+use Rattle.ipld_tree.specs.Tree.{text}
 use Rattle.ipld_tree.specs.Spelling.{text_spelling}
 use Rattle.ipld_tree.specs.Spelled.{spelled, spelled_head}
 use Rattle.ipld_tree.proofs.Spelled.{spelled_is}

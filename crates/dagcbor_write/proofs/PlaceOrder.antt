@@ -1,7 +1,7 @@
 -- Rows of pairs that are written in the order of their keys, by their places.
-use Rattle.std.proofs.Common.{◌≡◌, ℕ, zero, suc, ◌+◌, ◌<◌, ◌≤◌, List, [], ◌∷◌, ◌++◌, length, get_or, take, drop, map, Option, None, Some, Bool, true, false, Less, Equal, Greater, Result, Ok, Err, is_err, refl, sym, ap, ◌∙◌, subst, arith, add-one, append_assoc, IsPermutation, drop-cons, drop_of_length-le, ◌&&◌, IfSome, IsSomeAnd, OnOk, option_and_then, Ordering, All, is_lt}
+use Rattle.std.proofs.Common.{◌≡◌, ℕ, zero, suc, ◌+◌, ◌<◌, ◌≤◌, List, [], ◌∷◌, ◌++◌, length, get_or, take, drop, map, Option, Some, Bool, true, false, Less, Equal, Greater, Result, Ok, Err, is_err, refl, sym, ap, ◌∙◌, subst, arith, add-one, append_assoc, IsPermutation, drop-cons, drop_of_length-le, ◌&&◌, IfSome, IsSomeAnd, OnOk, option_and_then, Ordering, All, is_lt}
 use Rattle.std.proofs.Math.Seq.{take-append_seam}
-use Rattle.std.proofs.lemmas.List.Sorted.{IsPermutation-map, IsPermutation-refl, All-permutation}
+use Rattle.std.proofs.lemmas.List.Sorted.{IsPermutation-map, All-permutation}
 use Rattle.std.specs.Fmt.{◌++?◌}
 use Rattle.std.specs.List.{refill}
 use Rattle.dagcbor_heads.specs.Written.{Written}

@@ -1,16 +1,15 @@
 -- Entries of a map whose keys are texts.
-use Rattle.std.proofs.Common.{◌≡◌, ℕ, ◌+◌, ◌<◌, ◌≤◌, List, [], ◌∷◌, ◌++◌, length, get_or, drop, map, Option, Some, String, Global, string_bytes, Bool, true, Less, Equal, Greater, refl, sym, ap, ap₂, ◌∙◌, subst, add-one, append_assoc, IsPermutation, drop-cons, drop_of_length-le, IfSome, OnOk, Result}
+use Rattle.std.proofs.Common.{◌≡◌, ℕ, List, [], ◌∷◌, ◌++◌, length, map, Option, Some, String, Global, string_bytes, refl, sym, ap, ap₂, ◌∙◌, subst, append_assoc, IsPermutation, IfSome, OnOk, Result}
 use Rattle.std.proofs.lemmas.List.{length-map}
 use Rattle.std.proofs.lemmas.List.Sorted.{IsPermutation-map}
 use Rattle.dagcbor_heads.specs.declared.error.EncodeError.{EncodeError}
 use Rattle.std.specs.Fmt.{◌++?◌}
 use Rattle.dagcbor_heads.specs.Written.{Written, Writes}
 use Rattle.dagcbor_heads.proofs.Writing.{Written-but, begin_writing}
-use Rattle.ipld_tree.specs.Key.{key_cmp, comes_before}
 use Rattle.ipld_tree.specs.Tree.{Tree, text, IsTree, entries_tree}
 use Rattle.ipld_tree.specs.Spelled.{spelled_tree, spelled_head}
 use Rattle.dagcbor_write.specs.declared.types.texts.TextEntry.{TextEntry}
-use Rattle.dagcbor_write.specs.Rows.{spelled_pairs, spelled_pair, ArePairs, IsPair, KeysRise, Rises}
+use Rattle.dagcbor_write.specs.Rows.{spelled_pair, ArePairs, Rises}
 use Rattle.dagcbor_write.specs.Texts.{text_pair, text_pairs, map_pairs}
 use Rattle.dagcbor_write.specs.Trees.{Pair}
 use Rattle.dagcbor_write.proofs.Mapping.{row_map}

@@ -99,6 +99,7 @@ fn gather_fields<F: FieldRow, E>(
 
 /// Writes a struct of these fields, whose names rise as they stand or in these places.
 #[inline(always)]
+#[tactic(auto, using(crate::proofs::Fields::exit_row))]
 fn write_rising<F: FieldRow, W: Write>(
     alloc: Global,
     fields: F,

@@ -43,6 +43,7 @@ pub fn to_vec<T: Serialize>(alloc: Global, value: &T) -> Result<Vec<u8>, EncodeE
 /// to_writer(alloc, &mut device, &2u8)?;
 /// agree(device.as_slice(), b"\x82\x01\x61a\x02".as_slice())?;
 /// ```
+#[tactic(auto, using(crate::proofs::Spelling::device_refused))]
 pub fn to_writer<W: io::Write, T: Serialize>(
     alloc: Global,
     writer: &mut W,

@@ -1,5 +1,5 @@
 -- An `Ipld`, level by level, and what its tree needs.
-use Rattle.std.proofs.Common.{◌≡◌, ℕ, ◌+◌, ◌<◌, min, max, length, get_or, take, List, [], ◌∷◌, ◌++◌, Bool, true, false, cond, map, String, Vec, BTreeMap, Global, string_bytes, refl, sym, add-one, ap, ◌∙◌, subst, arith, rules, append_assoc, string_cmp, Ordering, Less, Equal, Greater, take-suc, nat_cmp, is_lt}
+use Rattle.std.proofs.Common.{◌≡◌, ℕ, ◌+◌, ◌<◌, min, max, length, get_or, take, List, [], ◌∷◌, ◌++◌, Bool, true, false, cond, map, String, Vec, BTreeMap, Global, string_bytes, refl, sym, add-one, ap, ◌∙◌, subst, arith, rules, append_assoc, string_cmp, Ordering, Less, Greater, take-suc, nat_cmp, is_lt}
 use Rattle.std.proofs.lemmas.Cmp.{ranked, by_ranked, nat_list_cmp_total}
 use Rattle.std.proofs.lemmas.List.{map-append}
 use Rattle.std.specs.BTreeMap.{insert_entry}

@@ -221,6 +221,7 @@ fn is_misplaced(group: u8, place: usize) -> bool
 }
 
 /// Appends groups of seven bits, the lowest first.
+#[tactic(auto, using(crate::proofs::Varint::all_left))]
 fn push_varint(out: &mut ArrayVec<u8, 86>, number: u64)
     requires { array_vec_len out.old + length (varint number) ≤ 86 }
     ensures items { out.new.items ≡ out.old.items ++ varint number }

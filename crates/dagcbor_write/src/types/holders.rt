@@ -65,6 +65,7 @@ impl<T: Serialize> Serialize for &[T] {
 }
 
 /// Appends the list of the items.
+#[tactic(auto, using(crate::proofs::Lists::OnOk_of, crate::proofs::Lists::AreTrees_all))]
 fn serialize_items<T: Serialize, W: Write>(
     alloc: Global,
     items: &[T],

@@ -55,6 +55,7 @@ impl<T: Serialize> Part for &T {
 }
 
 /// Appends the list of the parts, whose number is `len`.
+#[tactic(auto, using(crate::proofs::Lists::parts_IsTree))]
 fn serialize_parts<A: Part, B: Part, C: Part, D: Part, W: Write>(
     alloc: Global,
     ser: &mut Serializer<W>,

@@ -1,14 +1,11 @@
-use Rattle.std.proofs.Common.{◌≡◌, ◌+◌, ◌-◌, ◌*◌, ◌^◌, ◌<◌, refl, sym, arith, subst, take, length-take}
+use Rattle.std.proofs.Common.{◌≡◌, ◌+◌, ◌-◌, ◌*◌, ◌^◌, ◌<◌, sym, arith, subst, take, length-take}
 use Rattle.cid_text.proofs.Alphabet.{alphabet_length}
-use Rattle.cid_text.proofs.GroupReads.{IsRead, none_read, symbol_taken, byte_read, byte_below, room_for_byte, whole_read, all_read, too_many_left, other_bits_left, other_symbol}
+use Rattle.cid_text.proofs.GroupReads.{IsRead, none_read, symbol_taken, byte_read, byte_below, room_for_byte, whole_read, all_read, too_many_left, other_bits_left}
 use Rattle.cid_text.proofs.groups.read_groups.Goals as goal
 use Rattle.cid_text.proofs.groups.read_groups.Goals.{then-held-ge8, else-held-ge8}
 
 pub loop-symbol-init : goal.loop-symbol-init
 loop-symbol-init c = rw c.new-bytes.ensures (none_read c.args.width c.args.symbols.now, omega arith)
-
-pub returns-in_default : goal.returns-in_default
-returns-in_default c = other_symbol c.args.width c.args.symbols.now c.args.text.now c.loop-symbol.symbol-index _ c.requires.base c.loop-symbol-test.true refl c.in_default.ensures
 
 pub overflow_cast-rest : goal.overflow_cast-rest
 overflow_cast-rest c =

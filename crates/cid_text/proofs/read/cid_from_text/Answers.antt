@@ -1,10 +1,7 @@
 use Rattle.std.proofs.Common.{◌∷◌, ap, ◌∙◌, arith}
 use Rattle.cid_text.specs.declared.base.Base.TheVariants as bases
-use Rattle.cid_text.proofs.Texting.{read_prefixed, read_unprefixed, no_characters, other_character}
+use Rattle.cid_text.proofs.Texting.{read_prefixed, read_unprefixed, other_character}
 use Rattle.cid_text.proofs.read.cid_from_text.Goals as goal
-
-pub returns-in_default : goal.returns-in_default
-returns-in_default c = no_characters c.args.text.now c.in_default.ensures
 
 pub returns-in-102 : goal.returns-in-102
 returns-in-102 c = read_prefixed bases.Lower16 c.args.text.now c.in-Some.rest.now c.cid_in.result c.of_version.result (c.in-Some.ensures ∙ ap (λ x. x ∷ c.in-Some.rest.now) c.in-102.is) c.cid_in.ensures c.of_version.ensures

@@ -1,9 +1,6 @@
 use Rattle.std.proofs.Common.{arith}
-use Rattle.dagcbor_car.proofs.HeaderShape.{no_link_passed, one_link_passed, no_link_there, all_links_passed}
+use Rattle.dagcbor_car.proofs.HeaderShape.{one_link_passed, no_link_there, all_links_passed}
 use Rattle.dagcbor_car.proofs.header.behind_links.Goals as goal
-
-pub loop-more-init : goal.loop-more-init
-loop-more-init c = no_link_passed _ _
 
 pub returns-in_err-rest : goal.returns-in_err-rest
 returns-in_err-rest c = rw c.from_residual.ensures (no_link_there _ _ _ _ (omega arith) c.loop-more.invariant c.in_err-rest.ensures)

@@ -14,9 +14,6 @@ returns-in-Ok-None-clause-taken g c =
 pub returns-in-Ok-None-clause-looked : goal.returns-in-Ok-None-clause-looked
 returns-in-Ok-None-clause-looked g c = some_then c.loop-i.invariant.looked (once_left (rw c.in-Ok-None.field-0-is at c.in-Ok-None.ensures.looked))
 
-pub returns-in-Err-clause-looked : goal.returns-in-Err-clause-looked
-returns-in-Err-clause-looked g c = some_then c.loop-i.invariant.looked (once_left c.in-Err.ensures.looked)
-
 pub loop-i-preserved : goal.loop-i-preserved
 loop-i-preserved g c = record {
   read = rw c.from.ensures (one_byte_read (rw c.in-Ok-Some.field-0-is at c.in-Ok-Some.ensures.is_byte) c.loop-i.invariant.read (rw c.in-Ok-Some.field-0-is at c.in-Ok-Some.ensures.taken));

@@ -2,13 +2,9 @@ use Rattle.std.proofs.Common.{rules, ◌∙◌}
 use Rattle.std.proofs.lemmas.Int.{to_z-of_z}
 use mir.Syntax.{w128}
 use mir.Val.{SFits}
-use Rattle.dagcbor_heads.proofs.Refusing.{as_refusal}
 use Rattle.dagcbor_items.proofs.HeadMajors.{as_value}
-use Rattle.dagcbor_items.proofs.Integers.{number_refused, number_taken}
+use Rattle.dagcbor_items.proofs.Integers.{number_taken}
 use Rattle.dagcbor_items.proofs.numbers.pull_number.Goals as goal
-
-pub returns-in_err-major-clause-number : goal.returns-in_err-major-clause-number
-returns-in_err-major-clause-number g c = as_refusal _ _ _ _ c.from_residual.ensures.1 (number_refused _ _ _ _ c.in_err-major.ensures.kind)
 
 pub returns-clause-number : goal.returns-clause-number
 returns-clause-number g c =

@@ -1,14 +1,8 @@
 use Rattle.std.proofs.Common.{◌++◌, refl}
 use Rattle.std.proofs.lemmas.Result.{err_from_is_err_and}
 use Rattle.dagcbor_lines.specs.Answers.{IsAnswer}
-use Rattle.dagcbor_lines.proofs.Answering.{answers_are, consumed_shown, fill_answered, fill_broken, fill_failed, fill_written, none_answered}
+use Rattle.dagcbor_lines.proofs.Answering.{answers_are, consumed_shown, fill_answered, fill_broken, fill_written}
 use Rattle.dagcbor_lines.proofs.run.answer_fill.Goals as goal
-
-pub returns-in_default-clause-broken : goal.returns-in_default-clause-broken
-returns-in_default-clause-broken g c = fill_failed _ _ _ _ _ c.args.buffers.now.one_line c.fill_buf.follows.holds-at-none.0
-
-pub returns-then-taken-eq0-clause-answered : goal.returns-then-taken-eq0-clause-answered
-returns-then-taken-eq0-clause-answered g c = none_answered _ _ _ _ _ c.fill_buf.follows.holds-at-none.0
 
 pub returns-in_err-write_all-clause-broken : goal.returns-in_err-write_all-clause-broken
 returns-in_err-write_all-clause-broken g c =

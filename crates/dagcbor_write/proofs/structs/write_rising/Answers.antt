@@ -1,18 +1,13 @@
-use Rattle.std.proofs.Common.{List, Some, refl}
+use Rattle.std.proofs.Common.{List, Some}
 use Rattle.dagcbor_heads.proofs.Writing.{next_taken, exit_refused, last_part}
 use Rattle.ipld_tree.specs.Tree.{entries_tree}
 use Rattle.ipld_tree.specs.Spelled.{spelled_tree, spelled_head}
 use Rattle.dagcbor_write.specs.Rows.{places_of}
 use Rattle.dagcbor_write.specs.Trees.{Pair}
-use Rattle.dagcbor_write.proofs.Fields.{exit_row}
 use Rattle.dagcbor_write.proofs.Lists.{OnOk_of}
 use Rattle.dagcbor_write.proofs.Parts.{begin_two}
 use Rattle.dagcbor_write.proofs.PlaceOrder.{ordered_map}
 use Rattle.dagcbor_write.proofs.structs.write_rising.Goals as goal
-
-pub returns-in_err-gather_fields-clause-written : goal.returns-in_err-gather_fields-clause-written
-returns-in_err-gather_fields-clause-written g c =
-    exit_row _ _ _ _ _ c.in_err-gather_fields.ensures c.from_residual.ensures.1 refl
 
 pub returns-then-is_err-clause-written : goal.returns-then-is_err-clause-written
 returns-then-is_err-clause-written g c =

@@ -1,9 +1,6 @@
 use Rattle.std.proofs.Common.{arith}
-use Rattle.ipld_tree.proofs.Varint.{all_left, one_left_less, room_left}
+use Rattle.ipld_tree.proofs.Varint.{one_left_less, room_left}
 use Rattle.ipld_tree.proofs.cid.push_varint.Goals as goal
-
-pub loop-rest-init : goal.loop-rest-init
-loop-rest-init c = all_left _ _ c.ranges.number.fits
 
 pub loop-rest-preserved : goal.loop-rest-preserved
 loop-rest-preserved c = rw c.push.ensures.items (one_left_less c.loop-rest.invariant c.loop-rest-test.true)

@@ -1,4 +1,4 @@
-use Rattle.std.proofs.Common.{rules, arith, ◌≡◌, subst, None, Some, Ok, Err}
+use Rattle.std.proofs.Common.{rules, arith, ◌≡◌, subst, None, Some, Ok}
 use Rattle.sqlite_trees.specs.View.{IsClean}
 use Rattle.sqlite_trees.specs.declared.error.StoreError.TheVariants as stored
 use Rattle.dagcbor_store.specs.Rows.{name_tree, FindsFirst}

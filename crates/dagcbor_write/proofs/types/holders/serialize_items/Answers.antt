@@ -1,6 +1,6 @@
 use Rattle.std.proofs.Common.{rules, length, refl}
 use Rattle.dagcbor_heads.proofs.Writing.{next_part, exit_part, all_written, Writes_at, Writes_ok}
-use Rattle.dagcbor_write.proofs.Lists.{begin_items, at_item, at-end, AreTrees_next, AreTrees_all, OnOk_of}
+use Rattle.dagcbor_write.proofs.Lists.{begin_items, at_item, at-end, AreTrees_next}
 use Rattle.dagcbor_write.proofs.types.holders.serialize_items.Goals as goal
 
 pub returns-in_err-list-clause-written : goal.returns-in_err-list-clause-written
@@ -27,6 +27,3 @@ pub returns-clause-written : goal.returns-clause-written
 returns-clause-written g c =
     let w = at-end g.T.Serialize.tree _ _ c.loop-item-test.false _ _ _ c.loop-item.invariant.written in
     Writes_at _ _ _ _ _ (search rules) (Writes_ok _ _ _ _ c.end.ensures.ok (all_written w))
-
-pub returns-clause-well_formed : goal.returns-clause-well_formed
-returns-clause-well_formed g c = OnOk_of _ (AreTrees_all g.T.Serialize.tree _ _ c.loop-item-test.false c.loop-item.invariant.well_formed)

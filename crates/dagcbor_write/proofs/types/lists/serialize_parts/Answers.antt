@@ -1,5 +1,5 @@
 use Rattle.dagcbor_heads.proofs.Writing.{next_part, exit_part, last_part}
-use Rattle.dagcbor_write.proofs.Lists.{begin_parts, parts_IsTree}
+use Rattle.dagcbor_write.proofs.Lists.{begin_parts}
 use Rattle.dagcbor_write.proofs.types.lists.serialize_parts.Goals as goal
 
 pub returns-in_err-push_head-clause-written : goal.returns-in_err-push_head-clause-written
@@ -36,7 +36,3 @@ returns-clause-written g c =
     let w = next_part w _ c.in_ok-serialize_part-2.ensures.written in
     let w = next_part w _ c.in_ok-serialize_part-3.ensures.written in
     last_part w _ _ c.serialize_part-4.ensures.written
-
-pub returns-clause-well_formed : goal.returns-clause-well_formed
-returns-clause-well_formed g c =
-    parts_IsTree (g.A.Part.trees c.args.parts.0) (g.B.Part.trees c.args.parts.1) (g.C.Part.trees c.args.parts.2) (g.D.Part.trees c.args.parts.3) _ c.in_ok-serialize_part.ensures.well_formed c.in_ok-serialize_part-2.ensures.well_formed c.in_ok-serialize_part-3.ensures.well_formed c.serialize_part-4.ensures.well_formed

@@ -1,4 +1,4 @@
-use Rattle.std.proofs.Common.{rules, ◌-◌, ◌+◌, ◌≡◌, arith, sym, ◌∙◌}
+use Rattle.std.proofs.Common.{◌-◌, ◌+◌, ◌≡◌, arith, sym, ◌∙◌}
 use Rattle.dagcbor_write.proofs.Spans.{same_bytes}
 use Rattle.dagcbor_write.proofs.collect.keyed.Keyed.keys_differ.Goals as goal
 

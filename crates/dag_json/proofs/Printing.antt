@@ -130,7 +130,9 @@ print_null false rest = refl
 pub print_boolean : (b : Bool) → Prints (json.boolean b) (boolean_text b)
 unfolding print_from
 print_boolean true true rest = refl
-print_boolean _ _ rest = refl
+print_boolean true false rest = refl
+print_boolean false true rest = refl
+print_boolean false false rest = refl
 
 pub print_number : (s : List ℕ) → Prints (json.number s) s
 unfolding print_from

@@ -1,10 +1,9 @@
-//! Files of blocks, and the two stores that keep them.
+//! Files of blocks, and the store that keeps them.
 
 mod cars;
 mod faults;
 mod files;
 mod held;
-mod lasting;
 mod pair;
 mod sections;
 mod store;

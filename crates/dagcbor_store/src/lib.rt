@@ -10,6 +10,8 @@ mod reach;
 mod read_car;
 mod store;
 mod survey;
+#[cfg(test)]
+mod tests;
 mod value;
 mod walk;
 mod write_car;

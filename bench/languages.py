@@ -1,14 +1,14 @@
 #!/usr/bin/env python3
 """Speed of the packages for Python and Node, and of the calls of the C ABI.
 
-    bench/languages.py [RUNS] [libcbor] [page]
+    bench/languages.py [RUNS] [libcbor | node] [page]
 
 Builds the packages as docs/OTHER_LANGUAGES.md says, makes its blocks with a fixed seed, runs ours
 and what it is compared with in turn, and prints tables of processor time, the least of so many runs
 (9 where none is given). With `page` the tables are put into docs/SPEED.md too. Python's are
-compared with json and with the accelerator of Debian's python3-cbor2, and Node's with its JSON; the
-judge of the C ABI with Debian's libcbor-dev, and with `libcbor` that alone. What is not there is
-left out. Nothing here is a test."""
+compared with json and with the accelerator of Debian's python3-cbor2, and Node's with its JSON and
+Debian's node-cbor, with `node` that alone; the judge of the C ABI with Debian's libcbor-dev, and
+with `libcbor` that alone. What is not there is left out. Nothing here is a test."""
 
 import os
 import random
@@ -25,6 +25,8 @@ import building
 HERE, CRATE = f"{ROOT}/bench/languages", f"{ROOT}/crates/dagcbor_ffi"
 BEGIN = "<!-- made by bench/languages.py page -->\n"
 END = "<!-- so far, of other languages -->\n"
+NODE_BEGIN = "<!-- made by bench/languages.py node page -->\n"
+NODE_END = "<!-- so far, of Node -->\n"
 LIBCBOR_BEGIN = "<!-- made by bench/languages.py libcbor page -->\n"
 LIBCBOR_END = "<!-- so far, of libcbor -->\n"
 PYTHON = "/usr/bin/python3" if os.path.exists("/usr/bin/python3") else sys.executable
@@ -86,7 +88,9 @@ def in_python(folder, runs, paths):
 
 def in_node(runs, paths):
     subprocess.run(["node", f"{ROOT}/callers/node/build.js"], check=True)
-    return printed(["node", f"{HERE}/calls.js", f"{ROOT}/callers/node", str(runs), *paths])
+    env = {**os.environ, "NODE_PATH": "/usr/share/nodejs"}  # where Debian has packages
+    words = ["node", f"{HERE}/calls.js", f"{ROOT}/callers/node", str(runs), *paths]
+    return printed(words, env=env)
 
 
 def in_digits(number):
@@ -114,9 +118,13 @@ def packages(folder, runs, names, paths):
     table("C", columns, names, in_c(folder, "calls", runs, paths), [(1, 0), (2, 0)])
     columns = ["loads", "dumps", "cbor2.loads", "cbor2.dumps", "json.loads", "json.dumps"]
     table("Python", columns, names, in_python(folder, runs, paths), [(0, 2), (1, 3)])
-    if shutil.which("node"):
-        columns = ["decode", "encode", "JSON.parse", "JSON.stringify"]
-        table("Node", columns, names, in_node(runs, paths), [(0, 2), (1, 3)])
+
+
+def beside_json(folder, runs, names, paths):
+    measured(runs)
+    columns = ["decode", "encode", "JSON.parse", "JSON.stringify", "cbor.decode", "cbor.encode"]
+    pairs = [(0, 2), (1, 3), (0, 4), (1, 5)]
+    table("Node", columns, names, in_node(runs, paths), pairs)
 
 
 def beside_libcbor(folder, runs, names, paths):
@@ -129,8 +137,11 @@ def beside_libcbor(folder, runs, names, paths):
 def main(words):
     runs = next((int(word) for word in words if word.isdigit()), 9)
     subprocess.run(["rt", "lib"], cwd=CRATE, stdout=subprocess.DEVNULL, check=True)
-    tables = [] if "libcbor" in words else [(packages, BEGIN, END)]
-    if os.path.exists("/usr/include/cbor.h"):
+    alone = {"libcbor", "node"} & set(words)
+    tables = [] if alone else [(packages, BEGIN, END)]
+    if shutil.which("node") and alone <= {"node"}:
+        tables.append((beside_json, NODE_BEGIN, NODE_END))
+    if os.path.exists("/usr/include/cbor.h") and alone <= {"libcbor"}:
         tables.append((beside_libcbor, LIBCBOR_BEGIN, LIBCBOR_END))
     with tempfile.TemporaryDirectory(prefix="languages-") as folder:
         names, paths = [], []

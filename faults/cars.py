@@ -46,6 +46,20 @@ def header(*roots):
     return b"\xa2\x65roots" + bytes([0x80 + len(roots)]) + b"".join(map(link, roots)) + b"\x67version\x01"
 
 
+CODECS = {0x55: "raw", 0x70: "dag-pb", 0x71: "dag-cbor", 0x72: "libp2p-key", 0x0129: "dag-json", 0x0200: "json"}
+
+
+def missing_line(name):
+    """The line of a name that leads nowhere, with its codec; that of version 0 is dag-pb."""
+    codec, place = 0, 0
+    for byte in name[1:]:
+        codec, place = codec + (byte % 128 << 7 * place), place + 1
+        if byte < 128:
+            break
+    codec = 0x70 if name[0] == 0x12 else codec
+    return f"missing {text_of(name)} {CODECS.get(codec, f'codec {codec:#x}')}"
+
+
 def section(block, codec=0x71, name=None):
     return counted((cid(block, codec) if name is None else name) + block)
 
@@ -185,7 +199,7 @@ class Judge:
         for other, block, found in self.sections:
             if other == name and found not in ("other bytes", "not verified"):
                 return 0, block, b""
-        return self.told(self.refusal[0] if self.refusal else f"missing {text_of(name)}")
+        return self.told(self.refusal[0] if self.refusal else missing_line(name))
 
     def tree(self, root):
         """The same of the blocks that links lead to from a root."""
@@ -207,7 +221,7 @@ class Judge:
             out += section(stored[name], name=name)
             if name[1] == 0x71:
                 waiting += reversed(BLOCKS[stored[name]][1])
-        told = "".join(f"missing {text_of(it)}\n" for it in lost).encode()
+        told = "".join(missing_line(it) + "\n" for it in lost).encode()
         return (1 if lost else 0), (b"" if root in lost else out), told
 
     def wanted(self, command):
@@ -217,7 +231,7 @@ class Judge:
         else:
             # The order of CIDs: these here are all of version 1, of one codec and by one hash function.
             missing = [] if self.refusal else sorted(self.linked - self.held)
-            lines = self.checked + self.refusal + [f"missing {text_of(it)}" for it in missing]
+            lines = self.checked + self.refusal + [missing_line(it) for it in missing]
             status = 0 if self.is_well and not missing and not self.refusal else 1
         return status, "".join(it + "\n" for it in lines).encode()
 

@@ -136,7 +136,7 @@ class Sweep:
             self.short(command, "SHORT_READ", reads)
             self.short(command, "SHORT_WRITE", writes)
         # The last two are no text.
-        words = ([], ["check", "check"], ["--help"], *words, [b"\xff"], [b"check\xff"])
+        words = ([], *words, [b"\xff"], [b"check\xff"])
         usage = (2, b"", f"usage: {self.name} {usage}\n".encode())
         wrong = [(it, found) for it in words for found in [self.run(it)[0]] if found != usage]
         self.report(f"{self.name}, words that are no command", len(words), wrong)

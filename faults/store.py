@@ -94,9 +94,43 @@ def crash(program, path, count, seed):
             wrong.append(f"{n}: {rows and len(rows)} rows, and {len(kept)} or {len(both)} were committed")
             rows = kept
         kept = rows
+        # A file that is not there is none, and no word but `import` makes one.
+        wanted = b"holds %d\n" % len(kept) if os.path.exists(path) else b""
         own = run(program, path, "count")
-        if own.stdout != b"holds %d\n" % len(kept):
+        if own.stdout != wanted:
             wrong.append(f"{n}: the program says {own.stdout} {own.stderr} of {len(kept)}")
+    return wrong, killed
+
+
+def collect(program, path, count, seed):
+    """Kills a `gc` at a random moment, so often; answers what was wrong. Each round adds a tree and blocks that it does not lead to."""
+    draw, wrong, killed, longest = random.Random(seed), [], 0, 0.05
+    for n in range(count):
+        leaves = dict(block_of(draw) for _ in range(draw.choice([1, 30, 300])))
+        root, parent = parent_of(list(leaves))
+        tree = {root: parent, **leaves}
+        run(program, path, "import", given=car_of({**tree, **dict(block_of(draw) for _ in range(draw.choice([1, 100, 1000])))}))
+        before = rows_of(path)
+        words = [program, path, "gc", text_of(root)]
+        process = subprocess.Popen(words, stdout=subprocess.PIPE, stderr=subprocess.DEVNULL)
+        timer = threading.Timer(draw.random() * longest, process.kill)
+        timer.start()
+        said = process.communicate()[0]
+        timer.cancel()
+        timer.join()
+        killed += process.returncode == -signal.SIGKILL
+        if process.returncode not in (0, -signal.SIGKILL):
+            wrong.append(f"{n}: status {process.returncode}")
+        rows = rows_of(path)
+        if said and (said != b"removed %d\n" % (len(before) - len(tree)) or rows != tree):
+            wrong.append(f"{n}: {said} of {len(before)} rows, {len(rows)} are left, and {len(tree)} ought to be")
+        if rows not in (before, tree):
+            wrong.append(f"{n}: {len(rows)} rows, and {len(before)} or {len(tree)} ought to be there")
+        begun = time.monotonic()
+        again = run(program, path, *words[2:])
+        longest = max(longest, time.monotonic() - begun)
+        if (again.returncode, again.stdout) != (0, b"removed %d\n" % (len(rows) - len(tree))) or rows_of(path) != tree:
+            wrong.append(f"{n}: a second gc: {again.returncode} {again.stdout} {again.stderr}")
     return wrong, killed
 
 
@@ -168,9 +202,16 @@ def text_of(name):
     return "b" + base64.b32encode(name).decode().lower().rstrip("=")
 
 
+def named(codec, block):
+    """A block of a codec, and its CID."""
+    return b"\x01" + bytes([codec]) + b"\x12\x20" + hashlib.sha256(block).digest(), block
+
+
 def parent_of(names):
     """A list of links, and its CID."""
-    block = bytes([0x80 + len(names)]) + b"".join(b"\xd8\x2a\x58\x25\x00" + name for name in names)
+    n = len(names)
+    head = bytes([0x80 + n]) if n < 24 else b"\x98" + bytes([n]) if n < 256 else b"\x99" + n.to_bytes(2, "big")
+    block = head + b"".join(b"\xd8\x2a\x58\x25\x00" + name for name in names)
     return b"\x01\x71\x12\x20" + hashlib.sha256(block).digest(), block
 
 
@@ -185,7 +226,10 @@ def words(program, at, draw):
     blocks = dict(block_of(draw) for _ in range(200))
     lost = next(name for name, _ in iter(lambda: block_of(draw), None) if name not in blocks)
     held = next(iter(blocks))
-    name, parent = parent_of([lost, held, lost])
+    # A raw leaf, and a node of the codec 0x70 with a link that nobody follows.
+    raw, node = named(0x55, b"raw"), named(0x70, b"\x12\x26\x0a\x24" + lost)
+    blocks.update((raw, node))
+    name, parent = parent_of([lost, held, raw[0], node[0], lost])
     blocks[name] = parent
     stored = sorted(blocks.items())
     said = b"stored %d\n" % len(blocks)
@@ -195,22 +239,101 @@ def words(program, at, draw):
         wrong.append(f"export: {exported.returncode} {len(exported.stdout)} bytes {exported.stderr}")
     expect("import of the export", run(program, f"{at}/d.db", "import", given=exported.stdout), 0, said)
     expect("export of the import", run(program, f"{at}/d.db", "export"), 0, exported.stdout)
+    rooted = run(program, path, "export", text_of(name))
+    root = b"\xa2\x65roots\x81\xd8\x2a\x58\x25\x00" + name + b"\x67version\x01"
+    if (rooted.returncode, rooted.stdout) != (0, varint(len(root)) + root + exported.stdout[1 + len(HEADER):]):
+        wrong.append(f"export with a root: {rooted.returncode} {len(rooted.stdout)} bytes {rooted.stderr}")
+    expect("import of the root", run(program, f"{at}/r.db", "import", given=rooted.stdout), 0, b"root %s\n" % text_of(name).encode() + said)
     expect("list", run(program, path, "list"), 0, "".join(f"{text_of(n)} {len(b)}\n" for n, b in stored).encode())
-    kinds = {n: "list" if n == name else "bytes" for n in blocks}
-    missing = f"missing {text_of(lost)}\n"
-    expect("check", run(program, path, "check"), 1, ("".join(f"{text_of(n)} ok {kinds[n]}\n" for n, _ in stored) + missing).encode())
+    kinds = {n: "ok list" if n == name else "not read" if n in (raw[0], node[0]) else "ok bytes" for n in blocks}
+    missing = f"missing {text_of(lost)} dag-cbor\n"
+    expect("check", run(program, path, "check"), 1, ("".join(f"{text_of(n)} {kinds[n]}\n" for n, _ in stored) + missing).encode())
 
     # The parent's tree, which leads to one block twice over, and to the lost one; and a root that is not stored.
     above, grandparent = parent_of([name, held, name])
     expect("import of a tree", run(program, f"{at}/e.db", "import", given=car_of({**blocks, above: grandparent})), 0, b"stored %d\n" % (len(blocks) + 1))
     root = b"\xa2\x65roots\x81\xd8\x2a\x58\x25\x00" + above + b"\x67version\x01"
-    car = varint(len(root)) + root + b"".join(varint(len(c) + len(b)) + c + b for c, b in ((above, grandparent), (name, parent), (held, blocks[held])))
+    car = varint(len(root)) + root + b"".join(varint(len(c) + len(b)) + c + b for c, b in ((above, grandparent), (name, parent), (held, blocks[held]), raw, node))
     ran = run(program, f"{at}/e.db", "tree", text_of(above))
     if (ran.returncode, ran.stdout, ran.stderr) != (1, car, missing.encode()):
         wrong.append(f"tree: {ran.returncode} {len(ran.stdout)} bytes {ran.stderr}")
     ran = run(program, f"{at}/e.db", "tree", text_of(lost))
     if (ran.returncode, ran.stdout, ran.stderr) != (1, b"", b"dagstore: no block has the name\n"):
         wrong.append(f"tree of a root that is not stored: {ran.returncode} {ran.stdout[:200]} {ran.stderr}")
+
+    # What links lead to is kept, from each root that is given, and nothing else; and of a root that is not stored nothing.
+    tree = {above: grandparent, name: parent, held: blocks[held], raw[0]: raw[1], node[0]: node[1]}
+    alone = next(n for n in blocks if n not in tree)
+    removed = b"removed %d\n" % (len(blocks) + 1 - len(tree) - 1)
+    expect("gc", run(program, f"{at}/e.db", "gc", text_of(above), text_of(alone), text_of(held)), 0, removed)
+    if rows_of(f"{at}/e.db") != {**tree, alone: blocks[alone]}:
+        wrong.append("gc of two roots keeps others")
+    expect("gc again", run(program, f"{at}/e.db", "gc", text_of(above)), 0, b"removed 1\n")
+    if rows_of(f"{at}/e.db") != tree:
+        wrong.append("gc keeps others")
+    base = sqlite3.connect(f"{at}/e.db")
+    base.execute("UPDATE block SET bytes = x'00' WHERE cid = ?", (held,))
+    base.commit()
+    base.close()
+    ran = run(program, f"{at}/e.db", "gc", text_of(above))
+    if (ran.returncode, ran.stdout) != (1, b"") or text_of(held).encode() not in ran.stderr or set(rows_of(f"{at}/e.db")) != set(tree):
+        wrong.append(f"gc of a damaged block: {ran.returncode} {ran.stdout} {ran.stderr}")
+    expect("gc beside a damaged block", run(program, f"{at}/e.db", "gc", text_of(raw[0])), 0, b"removed 4\n")
+    expect("gc of a root that is not stored", run(program, f"{at}/e.db", "gc", text_of(lost)), 0, b"removed 1\n")
+    if rows_of(f"{at}/e.db"):
+        wrong.append("gc of a root that is not stored keeps a block")
+
+    # One block, put by its codec.
+    put = f"{at}/p.db"
+    given = {("dag-cbor", 0x71): b"\x83\x01\x02\x03", ("raw", 0x55): b"foo", ("0x70", 0x70): b"\x0a\x00", (None, 0x71): b"\xf6"}
+    for (word, code), block in given.items():
+        own = text_of(named(code, block)[0])
+        expect(f"put {word}", run(program, put, "put", *([word] if word else []), given=block), 0, f"{own}\n".encode())
+        expect("has", run(program, put, "has", own), 0, b"")
+        expect("get", run(program, put, "get", own), 0, block)
+    for block in (b"\x18\x17", b"", b"\x01\x01"):
+        expect("put of no DAG-CBOR", run(program, put, "put", given=block), 1, b"")
+    for word in ("0x", "0x1z", "0x11111111111111111", "dag-pb"):
+        expect(f"put {word}", run(program, put, "put", word), 2, b"")
+    expect("count", run(program, put, "count"), 0, b"holds 4\n")
+    expect("has of another", run(program, put, "has", text_of(lost)), 1, b"")
+    ran = run(program, put, "remove", text_of(named(0x55, b"foo")[0]), text_of(lost))
+    if (ran.returncode, ran.stdout, ran.stderr) != (1, b"removed 1\n", b"dagstore: no block has the name\n"):
+        wrong.append(f"remove: {ran.returncode} {ran.stdout} {ran.stderr}")
+    expect("remove", run(program, put, "remove", text_of(named(0x70, b"\x0a\x00")[0])), 0, b"removed 1\n")
+    expect("count", run(program, put, "count"), 0, b"holds 2\n")
+
+    # A file that is read by its path; words that are no CID, or none; and what the program tells of itself.
+    with open(f"{at}/in.car", "wb") as file:
+        file.write(exported.stdout)
+    expect("import of a path", run(program, f"{at}/f.db", "import", f"{at}/in.car"), 0, said)
+    expect("import of -", run(program, f"{at}/g.db", "import", "-", given=exported.stdout), 0, said)
+    expect("import of no file", run(program, f"{at}/none.db", "import", f"{at}/none.car"), 2, b"")
+    for word, cause in (("mAXASIA", "UnknownBase"), ("b!", "InvalidCharacter"), ("f01", "InvalidCid"), ("", "UnknownBase")):
+        for verb in ("export", "get", "has", "remove", "gc", "tree"):
+            ran = run(program, path, verb, word)
+            if (ran.returncode, ran.stdout, ran.stderr) != (2, b"", f"no CID: {cause}\n".encode()):
+                wrong.append(f"{verb} {word}: {ran.returncode} {ran.stdout[:100]} {ran.stderr}")
+    for wordless in ("gc", "remove", "get", "has", "tree"):
+        expect(f"{wordless} of nothing", run(program, path, wordless), 2, b"")
+    ran = subprocess.run([program, "--help"], capture_output=True)
+    if ran.returncode != 0 or not ran.stdout.startswith(b"usage: dagstore FILE ") or ran.stderr:
+        wrong.append(f"--help: {ran.returncode} {ran.stdout[:100]} {ran.stderr}")
+    ran = subprocess.run([program, "--version"], capture_output=True)
+    if (ran.returncode, ran.stdout, ran.stderr) != (0, b"dagstore 0.7.0\n", b""):
+        wrong.append(f"--version: {ran.returncode} {ran.stdout} {ran.stderr}")
+
+    # What is no file says which fault it has, and a file that is not there is not made.
+    cut = car_of(dict([block_of(draw)]))[:-1]
+    ran = run(program, path, "import", given=cut)
+    if (ran.returncode, ran.stderr) != (1, b"dagstore: behind 0 sections\ndagstore: the input is no file of blocks: Truncated\n"):
+        wrong.append(f"import of a cut file: {ran.returncode} {ran.stderr}")
+    for word in ("export", "check", "list", "count"):
+        expect(f"{word} of no file", run(program, f"{at}/none.db", word), 1, b"")
+    for word in ("get", "has", "remove", "gc", "tree"):
+        expect(f"{word} of no file", run(program, f"{at}/none.db", word, text_of(held)), 1, b"")
+    if os.path.exists(f"{at}/none.db"):
+        wrong.append("a word that reads made a file")
 
     # A file with a block of other bytes at its end, and one that is cut, change nothing.
     other = block_of(draw)
@@ -230,12 +353,16 @@ def words(program, at, draw):
     base.commit()
     base.close()
     damaged = {first, second}
-    lines = "".join(f"{text_of(n)} damaged\n" if n in damaged else f"{text_of(n)} ok {kinds[n]}\n" for n, _ in stored)
+    lines = "".join(f"{text_of(n)} damaged\n" if n in damaged else f"{text_of(n)} {kinds[n]}\n" for n, _ in stored)
     after = missing if name not in damaged else ""
     expect("check of other bytes", run(program, path, "check"), 1, (lines + after).encode())
     ran = run(program, path, "export")
     if ran.returncode != 1 or b"other bytes" not in ran.stderr:
         wrong.append(f"export of other bytes: {ran.returncode} {ran.stderr}")
+    # Blocks that are damaged are written anew by an import that has them.
+    expect("import of damaged blocks", run(program, path, "import", given=car_of({n: blocks[n] for n in (first, second)})), 0, b"stored 2\n")
+    if rows_of(path) != blocks:
+        wrong.append("an import left a damaged block")
     return wrong
 
 
@@ -247,7 +374,7 @@ def foreign(program, at):
     base.execute("INSERT INTO note VALUES (1)")
     base.commit()
     base.close()
-    run(program, f"{at}/names.db", "count")
+    run(program, f"{at}/names.db", "import", given=car_of({}))
     base = sqlite3.connect(f"{at}/names.db")
     base.execute("INSERT INTO block VALUES (x'00', x'00')")
     base.commit()
@@ -268,6 +395,8 @@ def check(report, program, count=200, seed=1):
         os.chmod(at, 0o777)
         wrong, killed = crash(program, f"{at}/a.db", count, seed)
         report(f"dagstore: killed at random moments ({killed} in an import)", count, wrong)
+        wrong, killed = collect(program, f"{at}/gc.db", count // 4, seed)
+        report(f"dagstore: killed at random moments of a gc ({killed} in one)", count // 4, wrong)
         report("dagstore: a full disk, a second process, a file that may not be written, other bytes", 4, limits(program, f"{at}/b.db", random.Random(seed)))
         report("dagstore: what its words say of a store, whole and changed by hand", 1, words(program, at, random.Random(seed)))
         report("dagstore: files that are none of ours", 3, foreign(program, at))

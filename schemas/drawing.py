@@ -1,6 +1,8 @@
 """Schemas drawn at random, which keep the law: every kind of type, names of 1 to 40 letters, up to 14 fields, types within
-types, in every order. A seed draws the same schema always."""
+types, in every order. A seed draws the same schema always. So many seeds in a row as there are PAIRS draw a union of each pair of
+members' kinds, and one of each kind alone."""
 
+import itertools
 import random
 import re
 import string
@@ -15,6 +17,18 @@ KINDED = {"bool": "Bool", "int": "Int", "string": "String", "bytes": "Bytes", "l
 MOST_FIELDS = 14
 MOST_IN_ALL = 15  # fields, members and cases of a schema
 MOST_TYPES = 3  # so that its proof takes a minute or two of a processor
+DRAWN = ("struct", "tuple", "pairs", "enum", "numbers", "nothing", "items", "entries", "keyed", "kinded", "inline", "envelope")
+MEMBERS = (*SCALARS, *DRAWN)  # of a union: a type that has a name, or the form of one that is drawn for it
+
+
+def pairs():
+    """The kinds of a union's members: one, or two. No union has a scalar twice."""
+    made = [(one,) for one in MEMBERS] + [pair for pair in itertools.combinations_with_replacement(MEMBERS, 2) if pair[0] != pair[1] or pair[0] in DRAWN]
+    random.Random("pairs").shuffle(made)
+    return made
+
+
+PAIRS = pairs()
 
 
 class Drawing:
@@ -153,17 +167,36 @@ class Drawing:
                 chosen.append(f'  | {kind} "{self.text(keys)}"')
         return chosen
 
+    def member(self, kind):
+        """A member of this kind, of which a type may be drawn for it."""
+        if kind in SCALARS:
+            return kind
+        name = self.type_name()
+        self.lines.append(getattr(self, kind)(name))
+        return name
+
+    def pair(self, name, kinds):
+        """A union of members of these kinds."""
+        held = [self.member(kind) for kind in kinds]
+        self.random.shuffle(held)
+        keys = set()
+        cases = [f'  | {kind} "{self.text(keys)}"' for kind in held]
+        return self.told(name, cases) if self.random.random() < 0.3 else [f"type {name} union {{", *cases, "} representation keyed"]
+
     def keyed(self, name):
         return [f"type {name} union {{", *self.cases(5), "} representation keyed"]
 
     def envelope(self, name):
+        return self.told(name, self.cases(4))
+
+    def told(self, name, cases):
         """A union whose tag stands before its content, in the order of the keys."""
         keys = set()
         while len(keys) < 2:
             self.text(keys)
         tag, content = sorted(keys, key=lambda key: (len(key), key))
         options = [f'  discriminantKey "{tag}"', f'  contentKey "{content}"']
-        return [f"type {name} union {{", *self.cases(4), "} representation envelope {", *options, "}"]
+        return [f"type {name} union {{", *cases, "} representation envelope {", *options, "}"]
 
     def kinded(self, name):
         """A union of kinds, of which a list and a map are drawn for it."""
@@ -215,11 +248,14 @@ class Drawing:
             members.append(f'  | {member} "{self.text(set())[:39]}{len(members)}"')
         return [f"type {name} union {{", *members, "} representation inline {", f'  discriminantKey "{tag}"', "}"]
 
-    def schema(self):
+    def schema(self, kinds):
         forms = [self.struct] * 5 + [self.tuple] * 2 + [self.enum] * 2 + [self.keyed] * 2
         forms += [self.numbers, self.kinded, self.alias, self.counts, self.nothing]
         forms += [self.inline, self.envelope, self.kinded, self.pairs] * 2
         self.lines = []
+        name = self.type_name()
+        self.lines.append(self.pair(name, kinds))
+        self.made.append(name)
         while self.left > 0 and len(self.lines) < MOST_TYPES:
             name = self.type_name()
             self.lines.append(self.random.choice(forms)(name))
@@ -231,7 +267,7 @@ class Drawing:
 def drawn(seed):
     """The schema of a seed. A draw that passes a limit is drawn again."""
     for attempt in range(1000):
-        text = Drawing(f"{seed}.{attempt}").schema()
+        text = Drawing(f"{seed}.{attempt}").schema(PAIRS[seed % len(PAIRS)])
         try:
             Schema(parse(text))
         except SchemaError as error:

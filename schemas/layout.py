@@ -54,6 +54,14 @@ def arm(pattern, call, indent):
     return [" " * indent + f"{pattern} =>"] + lines(call, indent + 4, ",")
 
 
+def block_arm(pattern, rows_at, indent):
+    """An arm of a `match` that is a block, of these rows at an indent."""
+    margin, head = " " * indent, " " * indent + f"{pattern} => {{"
+    if len(head) <= WIDTH:
+        return [head, *rows_at(indent + 4), margin + "}"]
+    return [margin + f"{pattern} =>", margin + "    {", *rows_at(indent + 8), margin + "    }"]
+
+
 def filled_items(items, indent):
     """Short items of a list, as many in each line as fit."""
     made, line = [], " " * (indent - 1)

@@ -3,7 +3,7 @@
 import re
 
 from schemas.law import RESERVED, field_name, held_by, parts, path_name, snake
-from schemas.layout import INSIDE_STRUCT, SHORT_IF, WIDTH, Group, arm, filled, lines, split, typed
+from schemas.layout import INSIDE_STRUCT, SHORT_IF, WIDTH, Group, arm, block_arm, filled, lines, split, typed
 from schemas.parsing import Alias, Enum, Int, Leaf, Link, ListOf, MapOf, Member, Named, Nullable, Struct, Union, Unit
 
 LEAVES = {
@@ -811,7 +811,7 @@ class Module:
             struct = self.inline_member(case)
             tree += self.inline_tree(union, case, struct)
             meaning.append(f"{alias(union)}.{case.name} x ↦ {case_word(union, case)} ({self.meaning(Named(struct.name, case.place), 'x')})")
-            write += [f"            {name}::{case.name}(x) => {{", *self.inline_written(union, case, struct), "            }"]
+            write += block_arm(f"{name}::{case.name}(x)", lambda at: self.inline_written(union, case, struct, at), 12)
             of += self.inline_made(union, case, struct, row, is_open)
         write.append("        }")
         of += ["            _ => None,", "        }"]
@@ -855,15 +855,16 @@ class Module:
         key = lambda row: row[0].key if row[0] else union.discriminant
         return sorted(kinds, key=lambda row: (len(key(row)), key(row)))
 
-    def inline_written(self, union, case, struct):
-        made = [f'                let tag = "{case.data}";', "                let row = ();"]
+    def inline_written(self, union, case, struct, at):
+        margin = " " * at
+        made = [f'{margin}let tag = "{case.data}";', f"{margin}let row = ();"]
         for field, _ in reversed(self.inline_order(union, struct)):
             if field is None:
                 part = Group("Field(", [f'"{union.discriminant}"', "&tag"], ")")
             else:
                 part = Group("Optional(" if field.optional else "Field(", [f'"{field.key}"', f"&x.{field_name(field.name)}"], ")")
-            made += lines(Group("let row = (", [part, "row"], ")"), 16, ";")
-        return made + ["                write_struct(alloc, row, ser)"]
+            made += lines(Group("let row = (", [part, "row"], ")"), at, ";")
+        return made + [f"{margin}write_struct(alloc, row, ser)"]
 
     def inline_made(self, union, case, struct, row, is_open):
         fields = {field.key: field for field in struct.fields}
@@ -930,6 +931,14 @@ class Module:
             *self.deserialize_impl(union, ["        read_made(alloc, de)"]),
         ]
 
+    @staticmethod
+    def envelope_written(union, case, at):
+        margin = " " * at
+        made = [f'{margin}let tag = "{case.data}";', f"{margin}let row = ();"]
+        for key, value in ((union.content, "x"), (union.discriminant, "&tag")):
+            made += lines(Group("let row = (", [Group("Field(", [f'"{key}"', value], ")"), "row"], ")"), at, ";")
+        return made + [f"{margin}write_struct(alloc, row, ser)"]
+
     def envelope_impls(self, union):
         name = union.name
         tree, meaning, write, read = [], [], ["        match self {"], ["        match tag {"]
@@ -939,10 +948,7 @@ class Module:
             held = f'field (codes "{union.content}") ({self.tree(kind, "x")})'
             tree.append(f"{alias(union)}.{case.name} x ↦ entries_tree ({tag} ∷\n          {held} ∷ [])")
             meaning.append(f"{alias(union)}.{case.name} x ↦ {case_word(union, case)} {wrapped(self.meaning(kind, 'x'))}")
-            rows = [f'                let tag = "{case.data}";', "                let row = ();"]
-            for key, value in ((union.content, "x"), (union.discriminant, "&tag")):
-                rows += lines(Group("let row = (", [Group("Field(", [f'"{key}"', value], ")"), "row"], ")"), 16, ";")
-            write += [f"            {name}::{case.name}(x) => {{", *rows, "                write_struct(alloc, row, ser)", "            }"]
+            write += block_arm(f"{name}::{case.name}(x)", lambda at: self.envelope_written(union, case, at), 12)
             read += [
                 f'            "{case.data}" => {{',
                 "                let x = entries.next_value(alloc, de)?;",
@@ -971,13 +977,16 @@ class Module:
                 fields = [field for field in one.fields if field.implicit is not None]
                 calls = [f"c.{unless(self.schema.resolve(field.type))}-{field_name(field.name)}.ensures" for field in fields]
                 steps = "".join(f"rw (sym {call}) (" for call in calls)
+                rows = []
+                for clause in ("written", "well_formed") if len(one.fields) > SEARCHED_FIELDS else ("written",):
+                    goal = f"returns-clause-{clause}"
+                    rows += ["", f"pub {goal} : goal.{goal}"]
+                    rows.append(f"{goal} g c = {steps}c.write_struct.ensures.{clause}{')' * len(calls)}")
                 made[place.replace(".", "/")] = "\n".join([
                     f"-- What writes {one.name}, of {source}, by ./dagcbor-types.",
                     "use Rattle.std.proofs.Common.{sym}",
                     f"use Rattle.{self.crate}.proofs.{place}.Goals as goal",
-                    "",
-                    "pub returns-clause-written : goal.returns-clause-written",
-                    f"returns-clause-written g c = {steps}c.write_struct.ensures.written{')' * len(calls)}",
+                    *rows,
                     "",
                 ])
             if isinstance(one, Struct) and one.representation == "listpairs":
@@ -986,6 +995,10 @@ class Module:
                 made |= self.envelope_answers(one, source)
             if isinstance(one, Union) and one.representation == "inline":
                 made |= self.inline_answers(one, source)
+                made |= self.one_member_answers(one, source)
+            if isinstance(one, Union) and one.representation == "keyed":
+                made |= self.variant_answers(one, source)
+                made |= self.one_member_answers(one, source)
             if isinstance(one, Enum) and one.representation == "string":
                 made |= self.enum_answers(one, source)
             cases = getattr(one, "cases", [])
@@ -1087,13 +1100,17 @@ class Module:
         ])}
 
     def envelope_answers(self, union, source):
-        """Of the members whose tags are words, and of all, and of other tags, where they are many. The search finds the others."""
+        """What a member holds is refused; of those whose tags are words, or where they are many, also that it is read, and of other tags,
+        where they are many or one has a long row. The search finds the rest."""
         place, name = f"{self.name}.{union.name}Enveloped.read_content", snake(union.name)
         words = self.arm_words(union)
         many = len(union.cases) > SEARCHED_MEMBERS and words is not None
         tags = [case.data for case in union.cases]
+        named = words is not None
+        untold = named and (many or any(map(self.has_long_row, union.cases)))
         words = dict(zip(tags, words or tags))
-        cases = [case for case in union.cases if many or re.fullmatch(r"[a-z][a-z_]*", case.data) and case.data not in RESERVED]
+        plain = [case for case in union.cases if many or re.fullmatch(r"[a-z][a-z_]*", case.data) and case.data not in RESERVED]
+        cases = union.cases if named else plain
         if not cases:
             return {}
         takes = any(self.reading_takes_memory(self.case_kind(union, case)) for case in union.cases)
@@ -1107,7 +1124,7 @@ class Module:
             same = f"c.in-{word}.is (λ t. refl) (λ t. refl)"
             lacks = "refl" if takes else "h"
             ok, err = (f"returns-in_{way}-x-in-{word}-clause-value" for way in ("ok", "err"))
-            if not isinstance(self.case_kind(union, case), Int):  # which the goal takes through the machine's words: the search finds it
+            if case in plain and not isinstance(self.case_kind(union, case), Int):  # which the goal takes through the machine's words: the search finds it
                 rows += [
                     "",
                     f"pub {ok} : goal.{ok}",
@@ -1122,19 +1139,86 @@ class Module:
                 f" (λ h. h) (λ lends h. {lacks}) sound c.in_err-x-in-{word}.ensures.value",
             ]
         imported = []
-        if many:
+        if untold:
             rows += self.untold_rows(union, words)
             imported = ["use Rattle.dagcbor_read.proofs.FieldPlaces.{other_name}", *UNTOLD_USES]
         text = "\n".join(rows)
         words = self.imports(text, ghost=False)
-        shapes = [f"{name}_variants", *([f"{name}_part"] if many else []), *(case_word(union, case) for case in cases)]
+        shapes = [f"{name}_variants", *([f"{name}_part"] if untold else []), *(case_word(union, case) for case in cases)]
         shapes += sorted({word for word in re.findall(r"\w+_shape", text)})
         words += split(f"use Rattle.{self.crate}.specs.{self.path}.", shapes, "")
-        words.append("use Rattle.dagcbor_schema.proofs.EnvelopeFronts.{content_shown, content_handed_on}")
+        lemmas = [word for word in ("content_shown", "content_handed_on") if word in text]
+        words += split("use Rattle.dagcbor_schema.proofs.EnvelopeFronts.", lemmas, "")
         words += imported
         words.append(f"use Rattle.{self.crate}.proofs.{place}.Goals as goal")
         head = f"-- The members of {union.name}, of {source}, by ./dagcbor-types."
         return {place.replace(".", "/"): "\n".join([head, *words, text]) + "\n"}
+
+    def has_long_row(self, case):
+        """Whether the member is an inline union of many fields."""
+        kind = self.schema.resolve(case.type)
+        one = self.schema.by_name[kind.name] if isinstance(kind, Named) else None
+        return isinstance(one, Union) and one.representation == "inline" and len(self.schema.row_of(one)) > LONG_ROW
+
+    def variant_answers(self, union, source):
+        """Of a keyed union, that what a member holds was refused. The search finds the rest."""
+        place, name = f"{self.name}.{union.name}Variants.read_variant", snake(union.name)
+        words = self.arm_words(union)
+        if words is None:
+            return {}
+        takes = any(self.reading_takes_memory(self.case_kind(union, case)) for case in union.cases)
+        rows = []
+        for case, word in zip(union.cases, words):
+            behind = f"-in_err-x-in-{word}" if case is not union.cases[0] else ""
+            shape = wrapped(self.shape(self.case_kind(union, case)))
+            goal = f"returns-in_err-x-in-{word}-clause-variant"
+            rows += [
+                "",
+                f"pub {goal} : goal.{goal}",
+                f"{goal} g c =",
+                f"    held_handed_on {name}_variants (λ x. {case_word(union, case)} x) {shape} g.row.R-Error.Denot _ _ _ (enum_state c.args.variant) _ _"
+                f' (codes "{case.data}") _ _ c.from_residual{behind}.ensures.1 c.in-{word}.is',
+                f"    refl (λ t. refl) (λ t. refl) (λ h. h) (λ lends h. {'refl' if takes else 'h'}) c.requires.sound c.in_err-x-in-{word}.ensures.part",
+            ]
+        text = "\n".join(rows)
+        shapes = [f"{name}_variants", *(case_word(union, case) for case in union.cases)]
+        shapes += sorted({word for word in re.findall(r"\w+_shape", text)})
+        imports = [
+            *self.imports(text, ghost=False),
+            *split(f"use Rattle.{self.crate}.specs.{self.path}.", shapes, ""),
+            "use Rattle.dagcbor_read.specs.Enums.{enum_state}",
+            "use Rattle.dagcbor_schema.proofs.VariantFronts.{held_handed_on}",
+            f"use Rattle.{self.crate}.proofs.{place}.Goals as goal",
+        ]
+        head = f"-- The members of {union.name} whose values are refused, of {source}, by ./dagcbor-types."
+        return {place.replace(".", "/"): "\n".join([head, *imports, text]) + "\n"}
+
+    def one_member_answers(self, union, source):
+        """What writes a union of one member, by its name or inside its map: no arm says that the value is that one."""
+        if len(union.cases) != 1:
+            return {}
+        place, variant = f"{self.name}.{union.name}Serialize.serialize", f"{alias(union)}.{union.cases[0].name}"
+        keyed = union.representation == "keyed"
+        call = "serialize_newtype_variant" if keyed else "write_struct"
+        rows = []
+        for clause in ("written", "well_formed") if keyed else ("written",):
+            goal = f"returns-clause-{clause}"
+            rows += ["", f"pub {goal} : goal.{goal}"]
+            rows.append(f"{goal} g c = of c.{call}.ensures.{clause} (rw (held c.args.self.now).1 (λ h. h))")
+        return {place.replace(".", "/"): "\n".join([
+            f"-- What writes the one member of {union.name}, of {source}, by ./dagcbor-types.",
+            "use Rattle.std.proofs.Common.{◌≡◌, refl}",
+            f"use Rattle.{self.crate}.specs.declared.{self.name}.{union.name}.{{{union.name}}}",
+            f"use Rattle.{self.crate}.specs.declared.{self.name}.{union.name}.TheVariants as {alias(union)}",
+            f"use Rattle.{self.crate}.proofs.{place}.Goals as goal",
+            "",
+            f"held : (v : {union.name}) → (x : _) × (v ≡ {variant} x)",
+            f"held ({variant} x) = (x, refl)",
+            "",
+            "of : {H G : Type 0} → H → (H → G) → G",
+            "of h g = g h",
+            *rows,
+        ]) + "\n"}
 
     @staticmethod
     def untold_rows(union, words):
@@ -1324,7 +1408,9 @@ UNTOLD_USES = [
     "use Rattle.serde_ipld_dagcbor.specs.declared.Name.{Name}",
     "use Rattle.serde_ipld_dagcbor.specs.TypedReads.{Anything}",
 ]
-LONG_TEXT = 8  # a member's: of a longer one the search does not find what writes it
+SEARCHED_FIELDS = 6  # of a struct where some mean a value: how many the search proves well formed
+LONG_ROW = 5  # an inline member's: of a longer one the search does not find other tags refused
+LONG_TEXT = 7  # a member's: of a longer one the search does not find what writes it
 
 
 def is_deep(kind):

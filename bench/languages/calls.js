@@ -1,19 +1,31 @@
 // Nanoseconds of each call for the block of each file, the least of RUNS:
 // node calls.js ADDON RUNS FILE..
-// Prints decode and encode of ours, and JSON.parse and JSON.stringify of the same data (0 where
-// JSON has no such data), one line for each file.
+// Prints decode and encode of ours, JSON.parse and JSON.stringify of the same data (0 where JSON has
+// no such data), and decode and encode of the package `cbor` (0 where it is not there, and of links,
+// for which it has no class), one line for each file.
 'use strict';
 const { readFileSync } = require('fs');
 const [, , addon, runs, ...paths] = process.argv;
 const { CID, decode, encode } = require(addon);
+const cborOf = () => {
+  try {
+    return require('cbor');
+  } catch (error) {
+    return undefined;
+  }
+};
+const cbor = cborOf();
+// Its `encode` is this, for what is shorter than the mark.
+const cborEncode = (value) => cbor.encodeOne(value, { highWaterMark: 1 << 24 });
 
 // Of each call, in turn: so what else the machine does falls on all of them.
 const least = (calls) => {
   const now = () => process.cpuUsage().user + process.cpuUsage().system;
   const counts = calls.map(([call, given]) => {
     const start = performance.now();
-    for (let i = 0; i < 50; i++) call(given);
-    return 1 + Math.floor(20 / (0.0001 + (performance.now() - start) / 50));
+    let rounds = 0;
+    while (rounds < 50 && performance.now() - start < 500) call(given), rounds++;
+    return 1 + Math.floor(20 / (0.0001 + (performance.now() - start) / rounds));
   });
   const best = calls.map(() => Infinity);
   for (let run = 0; run < Number(runs); run++) {
@@ -35,5 +47,6 @@ for (const path of paths) {
   const value = decode(block);
   const calls = [[decode, block], [encode, value]];
   if (isData(value)) calls.push([JSON.parse, JSON.stringify(value)], [JSON.stringify, value]);
-  console.log([...least(calls), 0, 0].slice(0, 4).join(' '));
+  if (isData(value) && cbor) calls.push([cbor.decode, block], [cborEncode, value]);
+  console.log([...least(calls), 0, 0, 0, 0].slice(0, 6).join(' '));
 }

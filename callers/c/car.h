@@ -52,8 +52,9 @@ typedef struct {
     const uint8_t *bytes;
     size_t length;
     uint64_t place;
-    uint64_t end;  /* of the file of version 1 in it; UINT64_MAX where that is the file's end */
+    uint64_t end;  /* of the file of version 1 in it, where that is of version 2 */
     uint64_t skip; /* so many bytes of what comes are not looked at */
+    bool is_plain; /* of version 1, which ends where no bytes follow */
     bool is_whole; /* no bytes follow those at hand */
     Bytes gathered, roots; /* the roots are packed as dagcbor_links packs links */
 } Car;
@@ -132,6 +133,7 @@ static inline int32_t car_span(Car *car) {
     if (code < 0) return car_answer(car, code);
     car->skip = span[0];
     car->end = span[1];
+    car->is_plain = span[0] == 0;
     car_skip(car);
     return 0;
 }
@@ -155,7 +157,7 @@ static inline int32_t car_header(Car *car) {
 static inline int32_t car_section(const Car *car, size_t most, size_t places[3]) {
     size_t shown = car_shown(car), looked = shown < most ? shown : most;
     if (shown == 0 && car->place == car->end) return CAR_END;
-    if (shown == 0 && car->is_whole && car->end == UINT64_MAX) return CAR_END;
+    if (shown == 0 && car->is_whole && car->is_plain) return CAR_END;
     int32_t code = dagcbor_car_section(car->bytes, looked, places);
     return code == DAGCBOR_TRUNCATED && looked < shown ? CAR_MORE : car_answer(car, code);
 }

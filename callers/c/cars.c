@@ -21,6 +21,7 @@ typedef struct {
     uint8_t *start;
     size_t at, used, size;
     uint64_t place, end; /* of what is next in the file, and of the file of version 1 */
+    bool is_plain;       /* of version 1, which ends where no byte follows */
     bool is_whole;       /* nothing follows */
 } Window;
 
@@ -81,6 +82,7 @@ static int32_t go_to_begin(Window *window) {
         else fill(window);
     }
     window->end = places[1];
+    window->is_plain = places[0] == 0;
     return 0;
 }
 
@@ -113,7 +115,7 @@ static int32_t print_roots(Window *window) {
  * follows. */
 static bool is_end(Window *window) {
     if (left(window) == 0) grows(window);
-    return window->place == window->end || (window->end == UINT64_MAX && left(window) == 0);
+    return window->place == window->end || (window->is_plain && left(window) == 0);
 }
 
 static int32_t print_sections(Window *window) {

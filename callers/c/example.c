@@ -18,7 +18,8 @@ static void judge(void) {
     assert(dagcbor_check(BLOCK, LENGTH - 1) == DAGCBOR_EOF);
     assert(dagcbor_check(dagcbor_from(NULL, 0), 0) == DAGCBOR_EOF);
     /* 18 17 spells 23 in two bytes where one is enough. */
-    assert(dagcbor_check((const uint8_t *)"\x18\x17", 2) == DAGCBOR_NON_MINIMAL);
+    int32_t code = dagcbor_check((const uint8_t *)"\x18\x17", 2);
+    assert(code == DAGCBOR_NON_MINIMAL && strcmp(dagcbor_name_of_code(code), "NonMinimal") == 0);
 
     uint8_t name[36];
     dagcbor_name(BLOCK, LENGTH, name);

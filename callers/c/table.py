@@ -1,4 +1,4 @@
-"""Holds the example over each file of callers/files.txt: table.py PROGRAM."""
+"""Holds the example over each file of callers/tables/files.txt, which conformance/rows writes: table.py PROGRAM."""
 
 import os
 import subprocess
@@ -10,7 +10,7 @@ sys.path.insert(0, os.path.join(os.path.dirname(os.path.abspath(__file__)), "../
 
 from cars import text_of
 
-TABLE = os.path.join(os.path.dirname(os.path.abspath(__file__)), "../files.txt")
+TABLE = os.path.join(os.path.dirname(os.path.abspath(__file__)), "../tables/files.txt")
 
 
 def parts(text):

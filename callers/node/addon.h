@@ -6,6 +6,8 @@
 #include "dagcbor.h"
 #include <node_api.h>
 #include <stdbool.h>
+#include <stdlib.h>
+#include <string.h>
 
 /* Where a call of Node-API fails, an exception is pending, or `raise` makes one. */
 #define TRY(call)                                                              \
@@ -15,9 +17,8 @@
 
 void *raise(napi_env env, const char *said);
 void *no_memory(napi_env env);
-
-/* Throws the error of a number of the library, or of those that `encode` has beside them. */
-void *refuse(napi_env env, int32_t code, const char *said);
+void *no_bytes(napi_env env); /* a TypeError */
+napi_value number_of(napi_env env, int64_t number);
 
 /* The bytes of a Uint8Array over memory that is not shared; else NULL. An empty one may have no
  * address. */
@@ -27,14 +28,12 @@ const uint8_t *bytes_in(napi_env env, napi_value given, size_t *length);
 napi_value new_bytes(napi_env env, size_t length, uint8_t **at);
 napi_value copied(napi_env env, const uint8_t *bytes, size_t length);
 
-/* An array of the CIDs that are packed. */
-napi_value unpack(napi_env env, const uint8_t *packed, size_t length);
-
 /* Of files of blocks */
 napi_value car_open(napi_env env, napi_callback_info info);
 napi_value car_put(napi_env env, napi_callback_info info);
 napi_value car_go(napi_env env, napi_callback_info info);
 napi_value car_found(napi_env env, napi_callback_info info);
 napi_value car_section_of(napi_env env, napi_callback_info info);
+napi_value car_verdict(napi_env env, napi_callback_info info);
 
 #endif

@@ -71,10 +71,7 @@ napi_value car_put(napi_env env, napi_callback_info info) {
         return NULL;
     }
     const uint8_t *bytes = bytes_in(env, given[1], &length);
-    if (!bytes) {
-        napi_throw_type_error(env, NULL, "a Uint8Array over memory that is not shared is wanted");
-        return NULL;
-    }
+    if (!bytes) return no_bytes(env);
     return car_gather(&walk->check.car, bytes, length) ? NULL : no_memory(env);
 }
 
@@ -173,21 +170,21 @@ napi_value car_go(napi_env env, napi_callback_info info) {
     return raise(env, "no work was begun");
 }
 
-/* The names that are wanted and not held. */
+/* The names that are wanted and not held, packed. */
 static napi_value missing_of(napi_env env, const Names *names) {
     Bytes packed = {NULL, 0, 0};
     const uint8_t *from = names->packed.start;
-    for (size_t at = 0; at < names->packed.used; at += 1 + (from[at] & NAME_LENGTH)) {
-        if (from[at] & NAME_HELD) continue;
-        if (!bytes_add(&packed, from + at, 1 + (from[at] & NAME_LENGTH))) return no_memory(env);
-    }
-    napi_value missing = unpack(env, packed.start, packed.used);
+    bool has_memory = true;
+    for (size_t at = 0; has_memory && at < names->packed.used; at += 1 + (from[at] & NAME_LENGTH))
+        if (!(from[at] & NAME_HELD))
+            has_memory = bytes_add(&packed, from + at, 1 + (from[at] & NAME_LENGTH));
+    napi_value missing = has_memory ? copied(env, packed.start, packed.used) : no_memory(env);
     bytes_free(&packed);
     return missing;
 }
 
-/* car_found(walk): [roots, counts, missing]. The counts are those of the verdicts, from the least
- * number on; none are missing before a check is at its end. */
+/* car_found(walk): [roots, counts, missing]. Names are packed; the counts are those of the
+ * verdicts, from the least number on; none are missing before a check is at its end. */
 napi_value car_found(napi_env env, napi_callback_info info) {
     napi_value given, answer, parts[3], buffer;
     void *at;
@@ -195,35 +192,45 @@ napi_value car_found(napi_env env, napi_callback_info info) {
     if (!walk) return NULL;
     Check *check = &walk->check;
     if (walk->is_check && !check_inside(check)) return no_memory(env);
-    if (!(parts[0] = unpack(env, check->car.roots.start, check->car.roots.used))) return NULL;
+    if (!(parts[0] = copied(env, check->car.roots.start, check->car.roots.used))) return NULL;
     TRY(napi_create_arraybuffer(env, VERDICTS * sizeof(double), &at, &buffer));
     for (int i = 0; i < VERDICTS; i++) ((double *)at)[i] = (double)check->verdicts[i];
     TRY(napi_create_typedarray(env, napi_float64_array, VERDICTS, buffer, 0, &parts[1]));
-    if (walk->is_check) parts[2] = missing_of(env, &check->names);
-    else TRY(napi_create_array(env, &parts[2]));
+    parts[2] = walk->is_check ? missing_of(env, &check->names) : copied(env, NULL, 0);
     if (!parts[2]) return NULL;
     TRY(napi_create_array_with_length(env, 3, &answer));
     for (uint32_t i = 0; i < 3; i++) TRY(napi_set_element(env, answer, i, parts[i]));
     return answer;
 }
 
-/* car_section(cid, block): the two as a section, where that is the name of the block, or cannot be
- * said to be another's. */
-napi_value car_section_of(napi_env env, napi_callback_info info) {
+/* The two as a section, and what is said of it. */
+static napi_value section_of(napi_env env, napi_callback_info info, int32_t *code) {
     size_t count = 2, length, size, places[3];
     uint8_t front[10], *out;
     napi_value given[2], section;
     TRY(napi_get_cb_info(env, info, &count, given, NULL, NULL));
     const uint8_t *name = bytes_in(env, given[0], &length), *block = bytes_in(env, given[1], &size);
-    if (!name || !block) {
-        napi_throw_type_error(env, NULL, "a Uint8Array over memory that is not shared is wanted");
-        return NULL;
-    }
+    if (!name || !block) return no_bytes(env);
     count = put_length(front, (uint64_t)length + size);
     if (!(section = new_bytes(env, count + length + size, &out))) return NULL;
     memcpy(out, front, count);
     memcpy(out + count, name, length);
     if (size) memcpy(out + count + length, block, size);
-    int32_t code = dagcbor_car_section(out, count + length + size, places);
-    return is_verdict(code) && code != DAGCBOR_OTHER_BYTES ? section : refuse(env, code, NULL);
+    *code = dagcbor_car_section(out, count + length + size, places);
+    return section;
+}
+
+/* car_section(cid, block): the two as a section, where that is the name of the block, or cannot be
+ * said to be another's. */
+napi_value car_section_of(napi_env env, napi_callback_info info) {
+    int32_t code;
+    napi_value section = section_of(env, info, &code);
+    bool is_well = section && is_verdict(code) && code != DAGCBOR_OTHER_BYTES;
+    return is_well || !section ? section : number_of(env, code);
+}
+
+/* car_verdict(cid, block): the number of what is said of the two. */
+napi_value car_verdict(napi_env env, napi_callback_info info) {
+    int32_t code;
+    return section_of(env, info, &code) ? number_of(env, code) : NULL;
 }

@@ -1,5 +1,10 @@
 // Files of blocks: index.d.ts says what each call does.
 'use strict';
+const native = require('./out/dagcbor.node');
+const { CID, binaryOf, cidOf, unpack } = require('./cid.js');
+const { latin1 } = require('./bytes.js');
+const { encode } = require('./encode.js');
+const { DagCborError, KINDS, REASONS, answered, refusal } = require('./errors.js');
 
 const PIECE = 1 << 18; // of bytes in memory, that are copied at once
 const [MORE, END, LEAST] = [100, 101, -23]; // of a walk; and the least number of a verdict
@@ -17,258 +22,360 @@ const pieces = function* (bytes) {
   for (let at = 0; at < bytes.length; at += PIECE) yield bytes.subarray(at, at + PIECE);
 };
 
-// The bytes of a CID, of this package or another.
+// The bytes of a CID, of this package or another; and a text of them.
 const bytesOf = (cid) => (cid.bytes instanceof Uint8Array ? cid.bytes : cid);
-const keyOf = ({ buffer, byteOffset, length }) =>
-  Buffer.from(buffer, byteOffset, length).toString('latin1');
+const keyOf = (cid) => binaryOf(cid) ?? latin1(bytesOf(cid));
 
-module.exports = ({ native, CID, DagCborError, makeCid, KINDS, REASONS }) => {
-  class CarError extends DagCborError {}
-  CarError.prototype.name = 'CarError';
+class CarError extends DagCborError {}
+CarError.prototype.name = 'CarError';
 
-  const verdictOf = (code) =>
-    OTHERS[code] ?? (code < 0 ? `refused ${REASONS[code][0]}` : `ok ${KINDS[code]}`);
+const verdictOf = (code) =>
+  OTHERS[code] ?? (code < 0 ? `refused ${REASONS[code][0]}` : `ok ${KINDS[code]}`);
 
-  // Of the header a fault may be the refusal of a block.
-  const faultOf = (code, place) => {
-    const [kind, reason] =
-      FAULTS[code] ?? ['NoBlock', `the header is no block: ${REASONS[code]?.[1] ?? code}`];
-    return new CarError(kind, reason, place);
-  };
+// What is said of a block that came under a name.
+const verify = (cid, bytes) => {
+  const code = native.car_verdict(bytesOf(cid), bytes);
+  if (code < LEAST) throw refusal(code);
+  return verdictOf(code);
+};
 
-  // A file that is gone through: its front, and then batches of its sections.
-  class Walk {
-    constructor(source, isCheck = false) {
-      const given = source instanceof Uint8Array ? pieces(source) : source;
-      const begin = given?.[Symbol.asyncIterator] ?? given?.[Symbol.iterator];
-      if (!begin) throw new TypeError('a Uint8Array or an iterable of Uint8Arrays is wanted');
-      this.source = begin.call(given);
-      this.car = native.car_open(isCheck);
-      this.isHungry = true;
+// Of the header a fault may be the refusal of a block.
+const faultOf = (code, place) => {
+  const [kind, reason] =
+    FAULTS[code] ?? ['NoBlock', `the header is no block: ${REASONS[code]?.[1] ?? code}`];
+  return new CarError(kind, reason, place);
+};
+
+// A file that is gone through: its front, and then batches of its sections.
+class Walk {
+  constructor(source, isCheck = false) {
+    const given = source instanceof Uint8Array ? pieces(source) : source;
+    const begin = given?.[Symbol.asyncIterator] ?? given?.[Symbol.iterator];
+    if (!begin) throw new TypeError('a Uint8Array or an iterable of Uint8Arrays is wanted');
+    this.source = begin.call(given);
+    this.car = native.car_open(isCheck);
+    this.isHungry = true;
+  }
+
+  // What is found next: numbers of sections, their bytes, and where these begin; whether it is the
+  // end; a fault.
+  async step() {
+    for (;;) {
+      if (this.isHungry) {
+        const { done, value } = await this.source.next();
+        native.car_put(this.car, done ? undefined : value ?? null);
+      }
+      const [code, place, bytes, numbers] = await native.car_go(this.car);
+      this.isHungry = code === MORE;
+      if (code === MORE && !numbers.length) continue;
+      const fault = code < 0 && faultOf(code, place);
+      return { isEnd: code === END, fault, place: place - bytes.length, bytes, numbers };
     }
+  }
 
-    // What is found next: numbers of sections, and their bytes; whether it is the end; a fault.
-    async step() {
-      for (;;) {
-        if (this.isHungry) {
-          const { done, value } = await this.source.next();
-          native.car_put(this.car, done ? undefined : value ?? null);
+  // Lets the source go where there is an error, and where `left` says so.
+  async guarded(work) {
+    try {
+      return await work();
+    } catch (error) {
+      await this.leave();
+      throw error;
+    }
+  }
+
+  async leave() {
+    await this.source.return?.();
+  }
+
+  // Behind the header, with the roots.
+  async begin() {
+    const { fault } = await this.guarded(() => this.step());
+    if (fault) {
+      await this.leave();
+      throw fault;
+    }
+    this.roots = unpack(native.car_found(this.car)[0]);
+    return this;
+  }
+
+  // What `make` makes of each section: of its batch, where that and it begin, and its numbers.
+  async *sections(make) {
+    let isOver = false;
+    try {
+      while (!isOver) {
+        const { isEnd, fault, place, bytes, numbers } = await this.step();
+        let from = 0;
+        for (let i = 0; i < numbers.length; i += 4) {
+          const told = numbers.subarray(i, i + 4);
+          yield make(bytes, place, from, told);
+          from = told[3];
         }
-        const [code, place, bytes, numbers] = await native.car_go(this.car);
-        this.isHungry = code === MORE;
-        if (code === MORE && !numbers.length) continue;
-        const isFault = code < 0;
-        return { isEnd: code === END, fault: isFault && faultOf(code, place), bytes, numbers };
+        if (fault) throw fault;
+        isOver = isEnd;
       }
+    } finally {
+      if (!isOver) await this.leave();
     }
+  }
+}
 
-    // Lets the source go where there is an error, and where `left` says so.
-    async guarded(work) {
-      try {
-        return await work();
-      } catch (error) {
-        await this.leave();
-        throw error;
-      }
-    }
+const nameIn = (bytes, from, to) => cidOf(latin1(bytes, from, to));
 
-    async leave() {
-      await this.source.return?.();
-    }
+const blockOf = (bytes, place, from, [code, cid, block, end]) =>
+  ({ cid: nameIn(bytes, cid, block), bytes: bytes.slice(block, end), verdict: verdictOf(code) });
 
-    // Behind the header, with the roots.
-    async begin() {
-      const { fault } = await this.guarded(() => this.step());
-      if (fault) {
-        await this.leave();
-        throw fault;
-      }
-      this.roots = native.car_found(this.car)[0];
-      return this;
-    }
+const indexOf = (bytes, place, from, [code, cid, block, end]) => ({
+  cid: nameIn(bytes, cid, block),
+  offset: place + from,
+  length: end - from,
+  blockOffset: place + block,
+  blockLength: end - block,
+  verdict: verdictOf(code),
+});
 
-    async *sections() {
-      let isOver = false;
-      try {
-        while (!isOver) {
-          const { isEnd, fault, bytes, numbers } = await this.step();
-          for (let i = 0; i < numbers.length; i += 4) {
-            const [code, cid, block, end] = numbers.subarray(i, i + 4);
-            const named = makeCid(bytes.slice(cid, block));
-            yield { cid: named, bytes: bytes.slice(block, end), verdict: verdictOf(code) };
-          }
-          if (fault) throw fault;
-          isOver = isEnd;
-        }
-      } finally {
-        if (!isOver) await this.leave();
-      }
+// The class of the iterators over what `make` makes of sections.
+const iteratorOf = (make) => class {
+  #walk;
+  #sections;
+
+  constructor(walk) {
+    this.#walk = walk;
+    this.#sections = walk.sections(make);
+  }
+
+  static async fromBytes(bytes) {
+    return new this(await new Walk(bytes).begin());
+  }
+
+  static async fromIterable(source) {
+    return new this(await new Walk(source).begin());
+  }
+
+  async getRoots() {
+    return [...this.#walk.roots];
+  }
+
+  [Symbol.asyncIterator]() {
+    return this.#sections;
+  }
+};
+
+class CarBlockIterator extends iteratorOf(blockOf) {}
+class CarCIDIterator extends iteratorOf((bytes, place, from, [, cid, block]) =>
+  nameIn(bytes, cid, block)) {}
+class CarIndexer extends iteratorOf(indexOf) {}
+
+class CarReader {
+  #roots;
+  #blocks;
+  #named = new Map(); // verified, by their names
+
+  constructor(roots, blocks) {
+    this.#roots = roots;
+    this.#blocks = blocks;
+    for (const it of blocks) {
+      const key = keyOf(it.cid);
+      const isVerified = it.verdict !== 'other bytes' && it.verdict !== 'not verified';
+      if (isVerified && !this.#named.has(key)) this.#named.set(key, it);
     }
   }
 
-  class CarBlockIterator {
-    #walk;
-    #sections;
-
-    constructor(walk) {
-      this.#walk = walk;
-      this.#sections = walk.sections();
-    }
-
-    static async fromBytes(bytes) {
-      return new CarBlockIterator(await new Walk(bytes).begin());
-    }
-
-    static async fromIterable(source) {
-      return new CarBlockIterator(await new Walk(source).begin());
-    }
-
-    async getRoots() {
-      return [...this.#walk.roots];
-    }
-
-    [Symbol.asyncIterator]() {
-      return this.#sections;
-    }
+  static async fromBytes(bytes) {
+    return CarReader.fromIterable(bytes);
   }
 
-  class CarReader {
-    #roots;
-    #blocks;
-    #named = new Map(); // verified, by their names
-
-    constructor(roots, blocks) {
-      this.#roots = roots;
-      this.#blocks = blocks;
-      for (const it of blocks) {
-        const key = keyOf(it.cid.bytes);
-        const isVerified = it.verdict !== 'other bytes' && it.verdict !== 'not verified';
-        if (isVerified && !this.#named.has(key)) this.#named.set(key, it);
-      }
-    }
-
-    static async fromBytes(bytes) {
-      return CarReader.fromIterable(bytes);
-    }
-
-    static async fromIterable(source) {
-      const walk = await new Walk(source).begin();
-      const blocks = [];
-      for await (const it of walk.sections()) blocks.push(it);
-      return new CarReader(walk.roots, blocks);
-    }
-
-    async getRoots() {
-      return [...this.#roots];
-    }
-
-    async has(cid) {
-      return this.#named.has(keyOf(bytesOf(cid)));
-    }
-
-    async get(cid) {
-      return this.#named.get(keyOf(bytesOf(cid)));
-    }
-
-    async *blocks() {
-      yield* this.#blocks;
-    }
-
-    async *cids() {
-      for (const { cid } of this.#blocks) yield cid;
-    }
+  static async fromIterable(source) {
+    const walk = await new Walk(source).begin();
+    const blocks = [];
+    for await (const it of walk.sections(blockOf)) blocks.push(it);
+    return new CarReader(walk.roots, blocks);
   }
 
-  const checkCar = async (source) => {
-    const walk = await new Walk(source, true).begin();
-    return walk.guarded(async () => {
+  async getRoots() {
+    return [...this.#roots];
+  }
+
+  async has(cid) {
+    return this.#named.has(keyOf(cid));
+  }
+
+  async get(cid) {
+    return this.#named.get(keyOf(cid));
+  }
+
+  async *blocks() {
+    yield* this.#blocks;
+  }
+
+  async *cids() {
+    for (const { cid } of this.#blocks) yield cid;
+  }
+}
+
+const checkCar = async (source) => {
+  const walk = await new Walk(source, true).begin();
+  return walk.guarded(async () => {
+    for (;;) {
+      const { isEnd, fault } = await walk.step();
+      if (!isEnd && !fault) continue;
+      const checked = found(native.car_found(walk.car));
+      if (isEnd) return checked;
+      throw Object.assign(fault, { checked });
+    }
+  });
+};
+
+const found = ([roots, counts, packed]) => {
+  const missing = unpack(packed);
+  const verdicts = {};
+  const codes = Array.from(counts, (_, i) => (i < 10 ? i : 9 - i)); // first what is well
+  for (const code of codes) {
+    if (counts[code - LEAST]) verdicts[verdictOf(code)] = counts[code - LEAST];
+  }
+  missing.sort((one, other) => Buffer.compare(one.bytes, other.bytes));
+  const areWell = Object.keys(verdicts).every((it) => it === 'not read' || it.startsWith('ok '));
+  return { roots: unpack(roots), verdicts, missing, isWell: areWell && !missing.length };
+};
+
+// Pieces that one side puts and the other takes: a put ends when the next is asked for.
+const channel = () => {
+  const waiting = [];
+  let [isClosed, wake] = [false, () => {}];
+  const put = (piece) => new Promise((done, fail) => {
+    if (isClosed) fail(new Error('the writer is closed'));
+    else waiting.push({ piece, done });
+    wake();
+  });
+  const close = () => {
+    const ended = put(undefined);
+    isClosed = true;
+    return ended;
+  };
+  const all = async function* () {
+    try {
+      yield;
       for (;;) {
-        const { isEnd, fault } = await walk.step();
-        if (!isEnd && !fault) continue;
-        const checked = found(native.car_found(walk.car));
-        if (isEnd) return checked;
-        throw Object.assign(fault, { checked });
+        while (!waiting.length) await new Promise((done) => { wake = done; });
+        const { piece, done } = waiting[0];
+        if (!piece) return;
+        yield piece;
+        waiting.shift();
+        done();
       }
-    });
-  };
-
-  const found = ([roots, counts, missing]) => {
-    const verdicts = {};
-    const codes = Array.from(counts, (_, i) => (i < 10 ? i : 9 - i)); // first what is well
-    for (const code of codes) {
-      if (counts[code - LEAST]) verdicts[verdictOf(code)] = counts[code - LEAST];
-    }
-    missing.sort((one, other) => Buffer.compare(one.bytes, other.bytes));
-    const areWell = Object.keys(verdicts).every((it) => it === 'not read' || it.startsWith('ok '));
-    return { roots, verdicts, missing, isWell: areWell && !missing.length };
-  };
-
-  // Pieces that one side puts and the other takes: a put ends when the next is asked for.
-  const channel = () => {
-    const waiting = [];
-    let [isClosed, wake] = [false, () => {}];
-    const put = (piece) => new Promise((done, fail) => {
-      if (isClosed) fail(new Error('the writer is closed'));
-      else waiting.push({ piece, done });
-      wake();
-    });
-    const close = () => {
-      const ended = put(undefined);
+    } finally {
       isClosed = true;
-      return ended;
-    };
-    const out = async function* () {
-      try {
-        for (;;) {
-          while (!waiting.length) await new Promise((done) => { wake = done; });
-          const { piece, done } = waiting[0];
-          if (!piece) return;
-          yield piece;
-          waiting.shift();
-          done();
-        }
-      } finally {
-        isClosed = true;
-        for (const { done } of waiting) done();
-      }
-    };
-    return { put, close, out: out() };
+      for (const { done } of waiting) done();
+    }
   };
+  const out = all();
+  out.next(); // begins it, so that its end is seen also where nobody asks for a piece
+  return { put, close, out };
+};
 
-  const lengthOf = (count) => {
-    const groups = [];
-    for (; count >= 128; count = Math.floor(count / 128)) groups.push((count % 128) + 128);
-    return Uint8Array.of(...groups, count);
-  };
+const lengthOf = (count) => {
+  const groups = [];
+  for (; count >= 128; count = Math.floor(count / 128)) groups.push((count % 128) + 128);
+  return Uint8Array.of(...groups, count);
+};
 
-  const isOfPackage = (it) => it instanceof CID;
+const headerOf = (roots) => {
+  const own = roots.map((it) => (binaryOf(it) === undefined ? new CID(bytesOf(it)) : it));
+  const header = encode({ roots: own, version: 1 });
+  return Buffer.concat([lengthOf(header.length), header]);
+};
 
-  class CarWriter {
-    #put;
-    #close;
+const sectionOf = ({ cid, bytes }) => answered(native.car_section(bytesOf(cid), bytes));
 
-    constructor(put, close) {
-      this.#put = put;
-      this.#close = close;
-    }
+class CarWriter {
+  #put;
+  #close;
 
-    static create(roots = []) {
-      const all = (Array.isArray(roots) ? roots : [roots]).map((it) =>
-        isOfPackage(it) ? it : new CID(bytesOf(it)));
-      const header = native.encode({ roots: all, version: 1 });
-      const { put, close, out } = channel();
-      put(Buffer.concat([lengthOf(header.length), header]));
-      return { writer: new CarWriter(put, close), out };
-    }
-
-    async put({ cid, bytes }) {
-      return this.#put(native.car_section(bytesOf(cid), bytes));
-    }
-
-    async close() {
-      return this.#close();
-    }
+  constructor(put, close) {
+    this.#put = put;
+    this.#close = close;
   }
 
-  return { CarBlockIterator, CarError, CarReader, CarWriter, checkCar };
+  static create(roots = []) {
+    const header = headerOf(Array.isArray(roots) ? roots : [roots]);
+    const { put, close, out } = channel();
+    put(header);
+    return { writer: new CarWriter(put, close), out };
+  }
+
+  async put(block) {
+    return this.#put(sectionOf(block));
+  }
+
+  async close() {
+    return this.#close();
+  }
+}
+
+// A file in memory of a given size: first the room of the header, then sections up to `end`.
+class BufferWriter {
+  #bytes;
+  #roots;
+  #header;
+  #end;
+
+  constructor(bytes, roots, header) {
+    this.#bytes = bytes;
+    this.#roots = roots;
+    this.#header = header;
+    this.#end = header;
+    this.#fits(0);
+  }
+
+  #fits(more) {
+    const room = this.#bytes.length - this.#end;
+    if (more > room) throw new RangeError(`${more} bytes are wanted, and there is room for ${room}`);
+  }
+
+  #sizeHeader(size, resize) {
+    if (!resize) throw new RangeError(`the header has ${size} bytes, and room for ${this.#header}`);
+    this.#fits(size - this.#header);
+    this.#bytes.copyWithin(size, this.#header, this.#end);
+    this.#end += size - this.#header;
+    this.#header = size;
+  }
+
+  addRoot(root, { resize = false } = {}) {
+    const roots = [...this.#roots, root];
+    const size = headerOf(roots).length;
+    if (size > this.#header) this.#sizeHeader(size, resize);
+    this.#roots = roots;
+  }
+
+  write(block) {
+    const section = sectionOf(block);
+    this.#fits(section.length);
+    this.#bytes.set(section, this.#end);
+    this.#end += section.length;
+  }
+
+  close({ resize = false } = {}) {
+    const header = headerOf(this.#roots);
+    if (header.length !== this.#header) this.#sizeHeader(header.length, resize);
+    this.#bytes.set(header);
+    return this.#bytes.subarray(0, this.#end);
+  }
+}
+
+const headerLength = ({ roots }) => headerOf(roots).length;
+const blockLength = ({ cid, bytes }) => {
+  const length = bytesOf(cid).length + bytes.length;
+  return lengthOf(length).length + length;
+};
+
+const createWriter = (buffer, options = {}) => {
+  const { roots = [], byteOffset = 0, byteLength = buffer.byteLength - byteOffset } = options;
+  const bytes = new Uint8Array(buffer, byteOffset, byteLength);
+  return new BufferWriter(bytes, roots, options.headerSize ?? headerLength({ roots }));
+};
+
+const CarBufferWriter = { createWriter, blockLength, headerLength };
+
+module.exports = {
+  CarBlockIterator, CarBufferWriter, CarCIDIterator, CarError, CarIndexer, CarReader, CarWriter,
+  checkCar, verify,
 };

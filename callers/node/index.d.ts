@@ -54,34 +54,79 @@ export class DagCborError extends Error {
   readonly kind: Refusal;
   /**
    * Of bytes that are no block: the offset of the byte with which the refusal comes, or how many
-   * there are, where they end too early. Of a type that is made of a schema: the keys and indices
-   * that lead to what it refuses.
+   * there are, where they end too early. Of a value that has none, or that a type which is made of
+   * a schema refuses: the keys and indices that lead there.
    */
   readonly place: number | readonly (string | number)[] | undefined;
 }
 
+/** A multihash, as that of `multiformats`. */
+export interface Multihash {
+  readonly code: number;
+  readonly size: number;
+  readonly digest: Uint8Array;
+  readonly bytes: Uint8Array;
+}
+
+/** A base, as one of `multiformats`. */
+export interface Base {
+  readonly prefix: string;
+  encode(bytes: Uint8Array): string;
+}
+
+/** A CID, with the names of `multiformats`, whose `CID.asCID` takes one. */
 export class CID {
+  #binary;
   /** Of the binary form, or of the text: Qm.. of version 0, and of version 1 behind b, B, z or f. */
   constructor(value: Uint8Array | string);
-  /** A copy of the binary form. */
-  get bytes(): Uint8Array;
+  static parse(text: string): CID;
+  static decode(bytes: Uint8Array): CID;
+  /** The same CID of this package, out of one of another; null where it is none. */
+  static asCID(value: unknown): CID | null;
+  static create(version: number, code: number, multihash: { readonly bytes: Uint8Array }): CID;
+  static createV0(multihash: { readonly bytes: Uint8Array }): CID;
+  static createV1(code: number, multihash: { readonly bytes: Uint8Array }): CID;
+  readonly version: 0 | 1;
+  /** Of the codec: 0x71 for DAG-CBOR. */
+  readonly code: number;
+  readonly multihash: Multihash;
+  /** A copy of the binary form, the same one each time. What is written into it changes no CID. */
+  readonly bytes: Uint8Array;
+  readonly '/': Uint8Array;
+  readonly byteOffset: number;
+  readonly byteLength: number;
+  readonly asCID: this;
+  readonly [Symbol.toStringTag]: 'CID';
+  link(): this;
+  toV0(): CID;
+  toV1(): CID;
+  /** Whether it is the same CID, of this package or of another. */
   equals(other: unknown): boolean;
-  /** The text: Qm.. of version 0, and base32 behind b of version 1. */
-  toString(): string;
+  /** The text: Qm.. of version 0, and base32 behind b of version 1; or in another base. */
+  toString(base?: Base): string;
   toJSON(): { '/': string };
 }
 
 // Each Uint8Array is over memory that is not shared; over a SharedArrayBuffer it is a TypeError.
 
-/** The data of a block. */
-export function decode(block: Uint8Array): Data;
+/** The data of a block. The caller may say of which type it is: nothing looks at that. */
+export function decode<T = Data>(block: Uint8Array): T;
+
+/** The data of the first item, and the bytes behind it, which lie over the same memory. */
+export function decodeFirst<T = Data>(bytes: Uint8Array): [T, Uint8Array];
 
 /**
- * The one block of a value. Keys come in the order of blocks, whatever the object's. A float,
- * undefined, a text with a surrogate alone, and an object that is no Array, Uint8Array, CID or
- * plain object are refused.
+ * The one block of a value. Keys come in the order of blocks, whatever the object's. Beside `Data`
+ * it takes a CID of `multiformats`, a Map whose keys are texts, and an object of another class, as
+ * a map of its own enumerable properties. A float, undefined, a text with a surrogate alone, and
+ * any other object, as a Date, a Set or a Uint16Array, are refused. Of a Proxy nobody can tell what
+ * it stands for: it is written where it shows an Array or a plain object, and else refused
+ * (`Unsupported`), as the reactive Map of a framework.
+ *
+ * A block of up to 1,024 bytes may share its `buffer` with others, as a Buffer of Node does: where
+ * that matters, as for `postMessage`, take its `slice()`.
  */
-export function encode(value: Data): Uint8Array;
+export function encode(value: unknown): Uint8Array;
 
 /** The kind of a block. */
 export function check(block: Uint8Array): Kind;
@@ -94,6 +139,12 @@ export function name(block: Uint8Array): CID;
 
 /** Three numbers for each token of a block: its kind, its number, its place. */
 export function tape(block: Uint8Array): BigUint64Array;
+
+/**
+ * What is said of bytes that came under a name. `ok ..` and `refused ..` where they are those that
+ * it names.
+ */
+export function verify(cid: AnyCid, bytes: Uint8Array): Verdict;
 
 // Files of blocks (CAR, of version 1 or 2). The names are those of the package `@ipld/car`.
 
@@ -150,6 +201,32 @@ export class CarReader {
   cids(): AsyncGenerator<CID>;
 }
 
+/** The names in a file, one at a time, and its roots. */
+export class CarCIDIterator implements AsyncIterable<CID> {
+  static fromBytes(bytes: Uint8Array): Promise<CarCIDIterator>;
+  static fromIterable(source: Source): Promise<CarCIDIterator>;
+  getRoots(): Promise<CID[]>;
+  [Symbol.asyncIterator](): AsyncIterator<CID>;
+}
+
+/** Where a section stands in a file, and where its block does. */
+export interface BlockIndex {
+  readonly cid: CID;
+  readonly offset: number;
+  readonly length: number;
+  readonly blockOffset: number;
+  readonly blockLength: number;
+  readonly verdict: Verdict;
+}
+
+/** Where the sections of a file stand, one at a time, and its roots. */
+export class CarIndexer implements AsyncIterable<BlockIndex> {
+  static fromBytes(bytes: Uint8Array): Promise<CarIndexer>;
+  static fromIterable(source: Source): Promise<CarIndexer>;
+  getRoots(): Promise<CID[]>;
+  [Symbol.asyncIterator](): AsyncIterator<BlockIndex>;
+}
+
 /** What was found in a file. */
 export interface CarCheck {
   readonly roots: CID[];
@@ -181,3 +258,29 @@ export class CarWriter {
   put(block: { readonly cid: AnyCid; readonly bytes: Uint8Array }): Promise<void>;
   close(): Promise<void>;
 }
+
+/** A file of version 1 that is written into memory of a given size. */
+export interface BufferWriter {
+  /** Where the header has no room for it, `resize` moves what was written; else a RangeError. */
+  addRoot(root: AnyCid, options?: { readonly resize?: boolean }): void;
+  /** A section, as by `CarWriter`; a RangeError where the memory has no room for it. */
+  write(block: { readonly cid: AnyCid; readonly bytes: Uint8Array }): void;
+  /** The file. Where the header has another size than was foretold, `resize` is wanted. */
+  close(options?: { readonly resize?: boolean }): Uint8Array;
+}
+
+export const CarBufferWriter: {
+  createWriter(
+    buffer: ArrayBuffer,
+    options?: {
+      readonly roots?: readonly AnyCid[];
+      readonly byteOffset?: number;
+      readonly byteLength?: number;
+      readonly headerSize?: number;
+    },
+  ): BufferWriter;
+  /** How many bytes a section has. */
+  blockLength(block: { readonly cid: AnyCid; readonly bytes: Uint8Array }): number;
+  /** How many bytes the header has. */
+  headerLength(header: { readonly roots: readonly AnyCid[] }): number;
+};

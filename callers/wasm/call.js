@@ -66,7 +66,7 @@ const isRightText = ({ cidText, cidFromText }, [text, code, cid, written]) => {
 };
 
 const rowsOf = (table) => {
-  const lines = readFileSync(table, 'ascii').split('\n');
+  const lines = readFileSync(table, 'utf8').split('\n');
   return lines.filter((it) => it && !it.startsWith('#')).map((it) => it.split(' '));
 };
 

@@ -136,13 +136,16 @@ class Names {
       const cid = cidOfKey(key);
       const { codec, hash } = cidParts(cid);
       if (hash !== IDENTITY) lost.push(cid);
-      else if (codec === 'DAG-CBOR') this.follow(library.links(cid.subarray(HELD)));
+      else if (codec === 'DAG-CBOR') this.follow(library, cid.subarray(HELD));
     }
     return lost;
   }
 
-  follow(links) {
-    if (typeof links === 'number') return;
-    for (const it of links.map(cidKey)) if (!this.held.has(it)) this.wanted.add(it);
+  // Of a block alone: other bytes may begin with an item that has links.
+  follow(library, bytes) {
+    if (library.check(bytes) < 0) return;
+    for (const it of library.links(bytes).map(cidKey)) {
+      if (!this.held.has(it)) this.wanted.add(it);
+    }
   }
 }

@@ -1,9 +1,9 @@
-// Files of blocks: each source is answered as callers/files.txt says.
+// Files of blocks: each source is answered as the vectors say.
 'use strict';
 const assert = require('assert');
 const { execFileSync } = require('child_process');
 const { createHash } = require('crypto');
-const { createReadStream, mkdtempSync, readFileSync, rmSync, writeFileSync } = require('fs');
+const { createReadStream, mkdtempSync, rmSync, writeFileSync } = require('fs');
 const { tmpdir } = require('os');
 const { join } = require('path');
 const { Readable } = require('stream');
@@ -11,33 +11,14 @@ const { test } = require('node:test');
 const {
   CID, CarBlockIterator, CarError, CarReader, CarWriter, DagCborError, checkCar, encode, name,
 } = require('..');
+const { vectorsOf, verdictOf } = require('./vectors.js');
 
-const KINDS = ['null', 'bool', 'integer', 'string', 'bytes', 'list', 'map', 'link'];
-const OTHERS = {
-  9: 'not read', [-22]: 'other bytes', [-23]: 'not verified', [-3]: 'refused Eof',
-  [-5]: 'refused Unsupported', [-17]: 'refused UnorderedKey',
-};
-const FAULTS = {
-  [-24]: 'Truncated', [-25]: 'InvalidLength', [-26]: 'InvalidCid', [-27]: 'OtherHeader',
-  [-35]: 'InvalidOffset',
-};
 const HEADER = Buffer.from('\x11\xa2eroots\x80gversion\x01', 'latin1');
 const hex = (bytes) => Buffer.from(bytes).toString('hex');
-const parts = (text) => (text === '-' ? [] : text.split(','));
-
-const rows = readFileSync(join(__dirname, '../../files.txt'), 'ascii').split('\n')
-  .filter((it) => it && it[0] !== '#')
-  .map((line) => {
-    const [file, roots, sections, fault, missing] = line.split(' ');
-    const told = parts(sections).map((it) => {
-      const [cid, length, code] = it.split(':');
-      return [cid, Number(length), OTHERS[code] ?? `ok ${KINDS[code]}`];
-    });
-    const [code, place] = fault.split(':');
-    const kind = fault === '-' ? null : [FAULTS[code], Number(place)];
-    const bytes = Buffer.from(file === '-' ? '' : file, 'hex');
-    return { bytes, roots: parts(roots), told, fault: kind, missing: parts(missing) };
-  });
+const rows = vectorsOf('files').map(({ bytes, roots = [], sections = [], missing, variant, at }) => {
+  const told = sections.map((it) => [it.cid, it.end - it.block, verdictOf(it)]);
+  return { bytes, roots, told, fault: variant ? [variant, at] : null, missing };
+});
 
 // Sources of the bytes: in pieces of each size, by generators and by a stream.
 const cut = function* (bytes, size) {
@@ -61,9 +42,9 @@ const told = async (open) => {
   const found = { roots: [], told: [], fault: null };
   try {
     const all = await open();
-    found.roots = (await all.getRoots()).map((it) => hex(it.bytes));
+    found.roots = (await all.getRoots()).map(String);
     for await (const { cid, bytes, verdict } of all) {
-      found.told.push([hex(cid.bytes), bytes.length, verdict]);
+      found.told.push([String(cid), bytes.length, verdict]);
     }
   } catch (error) {
     found.fault = faultOf(error);
@@ -71,7 +52,7 @@ const told = async (open) => {
   return found;
 };
 
-test('the table holds', async () => {
+test('the vectors hold', async () => {
   assert.ok(rows.length > 40);
   for (const { bytes, missing, ...wanted } of rows) {
     const opened = sources(bytes).map((it) => () => CarBlockIterator.fromIterable(it));
@@ -87,7 +68,7 @@ const checks = async (source, wanted, missing) => {
   let [found, fault] = [undefined, null];
   try {
     found = await checkCar(source);
-    assert.deepStrictEqual(found.missing.map((it) => hex(it.bytes)), missing);
+    assert.deepStrictEqual(found.missing.map(String), missing);
     const areWell = wanted.told.every((it) => it[2] === 'not read' || it[2].startsWith('ok '));
     assert.strictEqual(found.isWell, areWell && !missing.length);
   } catch (error) {
@@ -98,7 +79,7 @@ const checks = async (source, wanted, missing) => {
   const counts = {};
   for (const [, , verdict] of wanted.told) counts[verdict] = (counts[verdict] ?? 0) + 1;
   assert.deepStrictEqual(found.verdicts, counts);
-  return assert.deepStrictEqual(found.roots.map((it) => hex(it.bytes)), wanted.roots);
+  return assert.deepStrictEqual(found.roots.map(String), wanted.roots);
 };
 
 const reads = async (bytes, wanted) => {
@@ -109,10 +90,10 @@ const reads = async (bytes, wanted) => {
     return assert.deepStrictEqual(faultOf(error), wanted.fault);
   }
   assert.strictEqual(wanted.fault, null);
-  assert.deepStrictEqual((await reader.getRoots()).map((it) => hex(it.bytes)), wanted.roots);
+  assert.deepStrictEqual((await reader.getRoots()).map(String), wanted.roots);
   const blocks = [];
   for await (const it of reader.blocks()) blocks.push(it);
-  const found = blocks.map((it) => [hex(it.cid.bytes), it.bytes.length, it.verdict]);
+  const found = blocks.map((it) => [String(it.cid), it.bytes.length, it.verdict]);
   assert.deepStrictEqual(found, wanted.told);
   const verified = blocks.filter((it) => !['other bytes', 'not verified'].includes(it.verdict));
   for await (const cid of reader.cids()) {
@@ -266,6 +247,21 @@ test('who takes a file may leave', async () => {
   }
   await Promise.all(put);
   await assert.rejects(() => writer.put({ cid: name(block), bytes: block }), /closed/);
+});
+
+test('who takes a file may leave before it began', async () => {
+  const block = Buffer.from(encode(1));
+  for (const how of ['return', 'throw']) {
+    for (const isEarly of [true, false]) {
+      const { writer, out } = CarWriter.create();
+      const put = () => writer.put({ cid: name(block), bytes: block });
+      const early = isEarly ? put() : undefined;
+      await out[how](new Error('enough')).catch(() => {});
+      await early;
+      await assert.rejects(put, /closed/);
+      await assert.rejects(() => writer.close(), /closed/);
+    }
+  }
 });
 
 test('the loop goes on while a big block is hashed', async () => {

@@ -372,33 +372,45 @@ PyObject *check_car(PyObject *module, PyObject *given) {
 
 /* Writing */
 
-/* A section of a name and its block, where it is the block's, or cannot be said to be another's. */
-static PyObject *judged_section(State *state, const uint8_t *name, size_t length, PyObject *block) {
+/* A name and a block as a section, and the verdict on it. The lock is let go meanwhile. */
+static PyObject *judged_section(State *state, PyObject *args, int32_t *code) {
     uint8_t front[10];
-    size_t size = length_of(block), places[3], count = put_length(front, length + size);
-    if (size > PY_SSIZE_T_MAX - sizeof front - length) return no_memory();
-    PyObject *section = PyBytes_FromStringAndSize(NULL, (Py_ssize_t)(count + length + size));
-    if (!section) return NULL;
-    uint8_t *out = (uint8_t *)PyBytes_AsString(section);
-    memcpy(out, front, count);
-    memcpy(out + count, name, length);
-    memcpy(out + count + length, bytes_of(block), size);
+    PyObject *cid, *given, *section = NULL;
+    if (!PyArg_ParseTuple(args, "O!O", state->cid, &cid, &given)) return NULL;
+    PyObject *block = to_bytes(given), *name = ((Cid *)cid)->bytes;
+    if (!block) return NULL;
+    size_t length = length_of(name), size = length_of(block), places[3];
+    size_t count = put_length(front, length + size);
+    if (size > PY_SSIZE_T_MAX - sizeof front - length) no_memory();
+    else section = PyBytes_FromStringAndSize(NULL, (Py_ssize_t)(count + length + size));
+    if (section) {
+        uint8_t *out = (uint8_t *)PyBytes_AsString(section);
+        memcpy(out, front, count);
+        memcpy(out + count, bytes_of(name), length);
+        memcpy(out + count + length, bytes_of(block), size);
+        Py_BEGIN_ALLOW_THREADS
+        *code = dagcbor_car_section(out, count + length + size, places);
+        Py_END_ALLOW_THREADS
+    }
+    Py_DECREF(block);
+    return section;
+}
+
+/* The section, where the block is that of the name, or cannot be said to be another's. */
+PyObject *car_section_of(PyObject *module, PyObject *args) {
+    State *state = PyModule_GetState(module);
     int32_t code;
-    Py_BEGIN_ALLOW_THREADS
-    code = dagcbor_car_section(out, count + length + size, places);
-    Py_END_ALLOW_THREADS
-    if (is_verdict(code) && code != DAGCBOR_OTHER_BYTES) return section;
+    PyObject *section = judged_section(state, args, &code);
+    if (!section || (is_verdict(code) && code != DAGCBOR_OTHER_BYTES)) return section;
     Py_DECREF(section);
     return refuse_code(state, code, Py_None);
 }
 
-PyObject *car_section_of(PyObject *module, PyObject *args) {
+PyObject *verdict_on(PyObject *module, PyObject *args) {
     State *state = PyModule_GetState(module);
-    PyObject *cid, *given;
-    if (!PyArg_ParseTuple(args, "O!O:car_section", state->cid, &cid, &given)) return NULL;
-    PyObject *block = to_bytes(given), *name = ((Cid *)cid)->bytes;
-    if (!block) return NULL;
-    PyObject *section = judged_section(state, bytes_of(name), length_of(name), block);
-    Py_DECREF(block);
-    return section;
+    int32_t code;
+    PyObject *section = judged_section(state, args, &code);
+    if (!section) return NULL;
+    Py_DECREF(section);
+    return verdict_of(state, code);
 }

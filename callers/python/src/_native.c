@@ -6,6 +6,8 @@
    while a big block is judged or hashed. */
 #include "native.h"
 
+#include "car.h"
+
 #define WRITER_REALLOC PyMem_Realloc
 #define WRITER_FREE PyMem_Free
 #include "writer.h"
@@ -29,6 +31,12 @@ PyObject *to_bytes(PyObject *given) {
     PyObject *bytes = PyBytes_FromStringAndSize(view.buf, view.len);
     PyBuffer_Release(&view);
     return bytes;
+}
+
+/* Whether it is a CID of another library, as that of `multiformats`. */
+static bool is_foreign_cid(PyObject *given) {
+    return PyObject_HasAttrString(given, "__bytes__") && PyObject_HasAttrString(given, "version") &&
+           PyObject_HasAttrString(given, "codec") && PyObject_HasAttrString(given, "hashfun");
 }
 
 void *refuse_code(State *state, int32_t code, PyObject *place) {
@@ -82,18 +90,78 @@ static PyObject *cid_from_text(PyTypeObject *type, State *state, PyObject *given
     return code < 0 ? refuse_code(state, code, Py_None) : new_cid(type, cid, needed);
 }
 
-/* Its text is not wanted, but whether it has one. */
-static PyObject *cid_from_bytes(PyTypeObject *type, State *state, PyObject *given) {
+/* Whether the bytes are a CID: its text is not wanted, but whether it has one. */
+static int32_t judge_cid(const uint8_t *bytes, size_t length) {
     uint8_t text[DAGCBOR_CID_TEXT_MOST];
     size_t needed;
-    PyObject *cid = NULL, *bytes = to_bytes(given);
+    return dagcbor_cid_text(bytes, length, text, sizeof text, &needed);
+}
+
+static PyObject *cid_from_bytes(PyTypeObject *type, State *state, PyObject *given) {
+    bool is_foreign = !PyObject_CheckBuffer(given) && is_foreign_cid(given);
+    PyObject *cid = NULL, *bytes = is_foreign ? PyObject_Bytes(given) : to_bytes(given);
     if (!bytes) return NULL;
-    int32_t code =
-        dagcbor_cid_text(bytes_of(bytes), length_of(bytes), text, sizeof text, &needed);
+    int32_t code = judge_cid(bytes_of(bytes), length_of(bytes));
     if (code < 0) refuse_code(state, code, Py_None);
     else cid = new_cid(type, bytes_of(bytes), length_of(bytes));
     Py_DECREF(bytes);
     return cid;
+}
+
+/* CID.of(codec, hash_code, digest) */
+static PyObject *cid_of(PyObject *type, PyObject *args) {
+    State *state = PyType_GetModuleState((PyTypeObject *)type);
+    uint8_t bytes[4 * 10 + 64];
+    PyObject *codec, *hash_code, *digest, *cid = NULL;
+    if (!PyArg_ParseTuple(args, "O!O!S:of", &PyLong_Type, &codec, &PyLong_Type, &hash_code, &digest))
+        return NULL;
+    size_t length = length_of(digest);
+    uint64_t numbers[] = {1, PyLong_AsUnsignedLongLong(codec), 0, length};
+    if (!PyErr_Occurred()) numbers[2] = PyLong_AsUnsignedLongLong(hash_code);
+    if (PyErr_Occurred()) return NULL;
+    if (length > 64) return refuse_code(state, DAGCBOR_INVALID_CID, Py_None);
+    size_t at = 0;
+    for (int i = 0; i < 4; i++) at += put_length(bytes + at, numbers[i]);
+    memcpy(bytes + at, bytes_of(digest), length);
+    int32_t code = judge_cid(bytes, at + length);
+    if (code < 0) refuse_code(state, code, Py_None);
+    else cid = new_cid((PyTypeObject *)type, bytes, at + length);
+    return cid;
+}
+
+/* The parts of a CID: its version, codec and hash function, and where its digest begins. Version 0
+   is a bare SHA-256 of DAG-PB. */
+typedef struct {
+    uint64_t numbers[3];
+    size_t digest;
+} CidParts;
+
+static CidParts cid_parts(PyObject *self) {
+    const uint8_t *bytes = bytes_of(((Cid *)self)->bytes);
+    if (bytes[0] == 0x12) return (CidParts){{0, 0x70, 0x12}, 2};
+    CidParts parts = {{0}, 0};
+    for (int i = 0; i < 4; i++) {
+        uint64_t number = 0;
+        int shift = 0;
+        do {
+            number |= (uint64_t)(bytes[parts.digest] % 128) << shift;
+            shift += 7;
+        } while (bytes[parts.digest++] >= 128);
+        if (i < 3) parts.numbers[i] = number;
+    }
+    return parts;
+}
+
+static PyObject *cid_number(PyObject *self, void *which) {
+    return PyLong_FromUnsignedLongLong(cid_parts(self).numbers[(size_t)which]);
+}
+
+static PyObject *cid_digest(PyObject *self, void *unused) {
+    (void)unused;
+    PyObject *bytes = ((Cid *)self)->bytes;
+    size_t begin = cid_parts(self).digest;
+    return PyBytes_FromStringAndSize((const char *)bytes_of(bytes) + begin,
+                                     (Py_ssize_t)(length_of(bytes) - begin));
 }
 
 static PyObject *cid_new(PyTypeObject *type, PyObject *args, PyObject *named) {
@@ -137,7 +205,17 @@ static PyObject *cid_compare(PyObject *self, PyObject *other, int how) {
     return PyObject_RichCompare(((Cid *)self)->bytes, ((Cid *)other)->bytes, how);
 }
 
+static PyGetSetDef cid_getters[] = {
+    {"version", cid_number, NULL, "0 or 1", (void *)0},
+    {"codec", cid_number, NULL, "the codec of the block: 0x71 is DAG-CBOR", (void *)1},
+    {"hash_code", cid_number, NULL, "the hash function: 0x12 is SHA-256", (void *)2},
+    {"digest", cid_digest, NULL, "the digest, without its length", NULL},
+    {NULL, NULL, NULL, NULL, NULL},
+};
+
 static PyMethodDef cid_methods[] = {
+    {"of", cid_of, METH_VARARGS | METH_CLASS,
+     "of(codec, hash_code, digest): that of version 1, with at most 64 bytes of digest."},
     {"__bytes__", cid_bytes, METH_NOARGS, "The binary form."},
     {"__reduce__", cid_reduce, METH_NOARGS, NULL},
     {NULL, NULL, 0, NULL},
@@ -146,7 +224,8 @@ static PyMethodDef cid_methods[] = {
 static PyType_Slot cid_slots[] = {
     {Py_tp_doc,
      "CID(value): a CID, of its binary form, or of its text: Qm.. of version 0, and of version 1\n"
-     "behind b, B, z or f.\n\n"
+     "behind b, B, z or f; or of another library's CID, which has __bytes__, version, codec and\n"
+     "hashfun.\n\n"
      "bytes(cid) is its binary form, and str(cid) its text. CIDs compare as their bytes."},
     {Py_tp_new, cid_new},
     {Py_tp_dealloc, cid_dealloc},
@@ -155,6 +234,7 @@ static PyType_Slot cid_slots[] = {
     {Py_tp_hash, cid_hash},
     {Py_tp_richcompare, cid_compare},
     {Py_tp_methods, cid_methods},
+    {Py_tp_getset, cid_getters},
     {0, NULL},
 };
 
@@ -287,6 +367,24 @@ static PyObject *loads_bytes(State *state, PyObject *block) {
     return value;
 }
 
+/* The first value from an offset on, and where it ends. */
+static PyObject *first_value(State *state, PyObject *block, size_t start) {
+    dagcbor_token few[FEW_TOKENS], *tape = few;
+    const uint8_t *bytes = bytes_of(block) + start;
+    size_t length = length_of(block) - start, needed, place;
+    PyObject *found = NULL;
+    int32_t code = dagcbor_tokens(bytes, length, few, FEW_TOKENS, &needed, &place);
+    if (code < 0 && code != DAGCBOR_TRAILING_DATA) return refuse_at(state, code, start + place);
+    if (needed > FEW_TOKENS) {
+        if (!(tape = room_for(needed))) return NULL;
+        dagcbor_tokens(bytes, length, tape, needed, &needed, &place);
+    }
+    PyObject *value = value_of(state, (const char *)bytes, place, tape);
+    if (value) found = Py_BuildValue("Nn", value, (Py_ssize_t)(start + place));
+    if (tape != few) PyMem_Free(tape);
+    return found;
+}
+
 /* Tokens out of objects */
 
 /* A step to a part: the key, or none and an index. */
@@ -298,6 +396,7 @@ typedef struct {
 typedef struct {
     State *state;
     Tape tape;
+    PyObject *replace; /* what `default` is, or NULL */
     Room entries; /* of the maps that are being written */
     Step path[MOST_LEVELS];
     int level;
@@ -397,14 +496,17 @@ static int add_part(Writer *writer, Step step, PyObject *part) {
     return done;
 }
 
+/* Adds a list, or a tuple as one. */
 static int add_list(Writer *writer, PyObject *list) {
-    Py_ssize_t count = PyList_Size(list);
+    bool is_tuple = PyTuple_Check(list);
+    Py_ssize_t count = is_tuple ? PyTuple_Size(list) : PyList_Size(list);
     if (writer->level == MOST_LEVELS) return refuse(writer, "DepthOverflow", "too deep", list);
     if (add_token(writer, DAGCBOR_LIST, (uint64_t)count) < 0) return -1;
     for (Py_ssize_t i = 0; i < count; i++) {
-        if (PyList_Size(list) != count)
+        if (!is_tuple && PyList_Size(list) != count)
             return PyErr_SetString(PyExc_RuntimeError, "list changed size during dumps"), -1;
-        if (add_part(writer, (Step){NULL, i}, PyList_GetItem(list, i)) < 0) return -1;
+        PyObject *part = is_tuple ? PyTuple_GetItem(list, i) : PyList_GetItem(list, i);
+        if (add_part(writer, (Step){NULL, i}, part) < 0) return -1;
     }
     return 0;
 }
@@ -414,14 +516,13 @@ static int hold_entries(Writer *writer, PyObject *map, Py_ssize_t *held) {
     PyObject *key, *value;
     Py_ssize_t at = 0;
     while (PyDict_Next(map, &at, &key, &value)) {
-        size_t length;
-        if (!PyUnicode_Check(key)) return refuse(writer, "Mismatch", "a key that is no str", key);
-        const char *text = utf8_of(writer, key, &length);
-        if (!text) return -1;
         Entry *entry = room_take(&writer->entries, sizeof *entry);
         if (!entry) return raise_unless(false);
-        *entry = (Entry){text, length, 0, Py_NewRef(key), Py_NewRef(value)};
-        ++*held;
+        *entry = (Entry){NULL, 0, 0, Py_NewRef(key), Py_NewRef(value)};
+        ++*held; /* first: what makes an error may run code that takes the key out of the map */
+        if (!PyUnicode_Check(key)) return refuse(writer, "Mismatch", "a key that is no str", key);
+        entry->text = utf8_of(writer, key, &entry->length);
+        if (!entry->text) return -1;
     }
     return 0;
 }
@@ -453,6 +554,28 @@ static int add_map(Writer *writer, PyObject *map) {
     return done;
 }
 
+/* Adds a CID of another library, where it is one. */
+static int add_foreign_cid(Writer *writer, PyObject *given) {
+    PyObject *bytes = PyObject_Bytes(given);
+    int done = -1;
+    if (!bytes) return -1;
+    if (judge_cid(bytes_of(bytes), length_of(bytes)) < 0)
+        refuse(writer, "InvalidCid", "its bytes are no CID", given);
+    else done = add_bytes(writer, DAGCBOR_LINK, bytes);
+    Py_DECREF(bytes);
+    return done;
+}
+
+/* Adds what `default` gives for the value. */
+static int add_replaced(Writer *writer, PyObject *value) {
+    if (Py_EnterRecursiveCall(" in dumps' default")) return -1;
+    PyObject *given = PyObject_CallFunctionObjArgs(writer->replace, value, NULL);
+    int done = given ? add_value(writer, given) : -1;
+    Py_XDECREF(given);
+    Py_LeaveRecursiveCall();
+    return done;
+}
+
 static int add_value(Writer *writer, PyObject *value) {
     if (PyUnicode_Check(value)) return add_text(writer, value);
     if (Py_IsTrue(value) || Py_IsFalse(value))
@@ -460,13 +583,20 @@ static int add_value(Writer *writer, PyObject *value) {
     if (PyLong_Check(value)) return add_integer(writer, value);
     if (Py_IsNone(value)) return add_token(writer, DAGCBOR_NULL, 0);
     if (PyDict_Check(value)) return add_map(writer, value);
-    if (PyList_Check(value)) return add_list(writer, value);
+    if (PyList_Check(value) || PyTuple_Check(value)) return add_list(writer, value);
     if (PyBytes_Check(value)) return add_bytes(writer, DAGCBOR_BYTES, value);
     if (Py_IS_TYPE(value, writer->state->cid))
         return add_bytes(writer, DAGCBOR_LINK, ((Cid *)value)->bytes);
     if (PyByteArray_Check(value) || PyObject_TypeCheck(value, &PyMemoryView_Type))
         return add_buffer(writer, value);
-    return refuse(writer, "Unsupported", "not of the types of data", value);
+    if (!PyFloat_Check(value) && is_foreign_cid(value)) return add_foreign_cid(writer, value);
+    if (writer->replace) return add_replaced(writer, value);
+    return refuse(writer, "Unsupported",
+                  PyFloat_Check(value)
+                      ? "floats are left out of these blocks"
+                      : "not None, bool, int, str, bytes, list, tuple, dict or CID, which dumps("
+                        "default=..) may make of it",
+                  value);
 }
 
 /* The block of the tokens. */
@@ -481,13 +611,19 @@ static PyObject *spell(Writer *writer) {
     return PyErr_SetString(PyExc_SystemError, "the size of a block was foretold wrong"), NULL;
 }
 
-static PyObject *dumps(PyObject *module, PyObject *value) {
+static PyObject *dumps(PyObject *module, PyObject *const *args, Py_ssize_t count, PyObject *names) {
     Writer writer;
+    Py_ssize_t named = names ? PyTuple_Size(names) : 0;
+    bool is_default = named == 1 && PyUnicode_CompareWithASCIIString(PyTuple_GetItem(names, 0),
+                                                                     "default") == 0;
+    if (count != 1 || named != (Py_ssize_t)is_default)
+        return PyErr_SetString(PyExc_TypeError, "it is dumps(value, *, default=None)"), NULL;
     writer.state = PyModule_GetState(module);
+    writer.replace = is_default && !Py_IsNone(args[1]) ? args[1] : NULL;
     writer.level = 0;
     tape_start(&writer.tape);
     room_start(&writer.entries);
-    PyObject *block = add_value(&writer, value) < 0 ? NULL : spell(&writer);
+    PyObject *block = add_value(&writer, args[0]) < 0 ? NULL : spell(&writer);
     tape_free(&writer.tape);
     room_free(&writer.entries);
     return block;
@@ -500,6 +636,21 @@ static PyObject *loads(PyObject *module, PyObject *given) {
              *value = block ? loads_bytes(PyModule_GetState(module), block) : NULL;
     Py_XDECREF(block);
     return value;
+}
+
+static PyObject *loads_first(PyObject *module, PyObject *args, PyObject *named) {
+    static char *names[] = {"", "start", NULL};
+    PyObject *given, *found = NULL;
+    Py_ssize_t start = 0;
+    if (!PyArg_ParseTupleAndKeywords(args, named, "O|n:loads_first", names, &given, &start))
+        return NULL;
+    PyObject *block = to_bytes(given);
+    if (!block) return NULL;
+    if (start < 0 || start > PyBytes_Size(block))
+        PyErr_SetString(PyExc_IndexError, "start is outside the bytes");
+    else found = first_value(PyModule_GetState(module), block, (size_t)start);
+    Py_DECREF(block);
+    return found;
 }
 
 static PyObject *check(PyObject *module, PyObject *given) {
@@ -516,6 +667,28 @@ static PyObject *check(PyObject *module, PyObject *given) {
     return kind;
 }
 
+/* The data to which a path leads in a block. */
+static PyObject *find(PyObject *module, PyObject *args) {
+    PyObject *given, *path, *value = NULL;
+    if (!PyArg_ParseTuple(args, "OU:find", &given, &path)) return NULL;
+    Py_ssize_t length;
+    const char *text = PyUnicode_AsUTF8AndSize(path, &length);
+    PyObject *block = text ? to_bytes(given) : NULL;
+    if (!block) return NULL;
+    size_t place, end;
+    int32_t code = dagcbor_find(bytes_of(block), length_of(block), (const uint8_t *)text,
+                                (size_t)length, &place, &end);
+    if (code >= 0) {
+        PyObject *part = PyBytes_FromStringAndSize((const char *)bytes_of(block) + place,
+                                                   (Py_ssize_t)(end - place));
+        value = part ? loads_bytes(PyModule_GetState(module), part) : NULL;
+        Py_XDECREF(part);
+    } else if (code == DAGCBOR_NO_SUCH_PATH) PyErr_SetObject(PyExc_KeyError, path);
+    else refuse_block(PyModule_GetState(module), code, block);
+    Py_DECREF(block);
+    return value;
+}
+
 PyObject *unpack(State *state, const uint8_t *packed, size_t length) {
     PyObject *found = PyList_New(0);
     for (size_t at = 0; found && at < length; at += 1 + packed[at]) {
@@ -526,7 +699,16 @@ PyObject *unpack(State *state, const uint8_t *packed, size_t length) {
     return found;
 }
 
+/* Whether each byte of a length has as many behind it. */
+static bool are_packed(const uint8_t *packed, size_t length) {
+    size_t at = 0;
+    while (at < length && packed[at] < length - at) at += 1 + packed[at];
+    return at == length;
+}
+
 static PyObject *unpack_bytes(PyObject *module, PyObject *packed) {
+    if (!PyBytes_Check(packed) || !are_packed(bytes_of(packed), length_of(packed)))
+        return PyErr_SetString(PyExc_TypeError, "packed names are wanted"), NULL;
     return unpack(PyModule_GetState(module), bytes_of(packed), length_of(packed));
 }
 
@@ -567,10 +749,15 @@ static PyObject *name(PyObject *module, PyObject *given) {
 
 static PyMethodDef methods[] = {
     {"loads", loads, METH_O, "loads(block): the data of a block."},
-    {"dumps", dumps, METH_O,
-     "dumps(value): the one block of the data. Keys come in the order of blocks, whatever the "
-     "dict's."},
+    {"loads_first", (PyCFunction)(void (*)(void))loads_first, METH_VARARGS | METH_KEYWORDS,
+     "loads_first(bytes, start=0): the data of the first item from there on, and the offset behind "
+     "it."},
+    {"dumps", (PyCFunction)(void (*)(void))dumps, METH_FASTCALL | METH_KEYWORDS,
+     "dumps(value, *, default=None): the one block of the data. Keys come in the order of blocks, "
+     "whatever the dict's. What `default(it)` gives is written for what is no data."},
     {"check", check, METH_O, "check(block): the kind of a block."},
+    {"find", find, METH_VARARGS,
+     "find(block, path): the data to which a path as a/0/b leads in a block; else a KeyError."},
     {"links", links, METH_O,
      "links(block): the links of the first item, in their order. What follows it is not looked "
      "at."},
@@ -581,6 +768,7 @@ static PyMethodDef methods[] = {
     {"check_car", check_car, METH_O,
      "The roots, the verdicts' counts, what is missing, the names held, packed; and an error."},
     {"car_section", car_section_of, METH_VARARGS, "car_section(cid, block): the two as a section."},
+    {"verdict", verdict_on, METH_VARARGS, "verdict(cid, block): that on the two as a section."},
     {"unpack", unpack_bytes, METH_O, "unpack(packed): the CIDs."},
     {NULL, NULL, 0, NULL},
 };

@@ -5,10 +5,12 @@ An answer is right, or there is no memory."""
 import io
 import sys
 
-from dagcbor import CID, DagCborError, _native, check, check_car, dumps, links, loads, name
-from dagcbor import read_car, write_car
+from dagcbor import CID, DagCborError, _native, check, check_car, dumps, links, loads, loads_first
+from dagcbor import name, read_car, verify, write_car
 from plain import same
-from plain_car import cid, header, section
+from conformance import cars
+from cars import header, section
+from cars import name as cid
 
 try:
     from _testcapi import remove_mem_hooks, set_nomemory
@@ -22,6 +24,7 @@ VALUE = {
     for i in range(60)
 }
 BLOCK = dumps(VALUE)
+BLOCK_NAME = name(BLOCK)
 BAD = [VALUE, {"a": [2**64]}]
 TEXT = str(CIDS[0])
 FILE = header(cid(b"\xf6")) + section(BLOCK) + section(dumps(CIDS[:50]))
@@ -50,6 +53,18 @@ def written(blocks):
     return file.getvalue()
 
 
+def replaced(value):
+    return dumps(value, default=list)
+
+
+def of_parts(given):
+    return CID.of(given.codec, given.hash_code, given.digest)
+
+
+def verified(block):
+    return verify(BLOCK_NAME, block)
+
+
 CALLS = [
     (read, FILE, [(cid(it), it, verdict) for it, verdict in (
         (BLOCK, "ok map"), (dumps(CIDS[:50]), "ok list"))]),
@@ -62,6 +77,8 @@ CALLS = [
     (str, CIDS[0], TEXT), (repr, CIDS[0], f"CID('{TEXT}')"),
     (dumps, BAD, "CastOverflow"), (loads, BLOCK[:-1], "Eof"), (check, b"\x18\x17", "NonMinimal"),
     (dumps, [1.5], "Unsupported"), (CID, b"", "InvalidCid"),
+    (loads_first, BLOCK + b"\xf6", (VALUE, len(BLOCK))), (replaced, [(1, {2})], dumps([[1, [2]]])),
+    (of_parts, CIDS[0], CIDS[0]), (verified, BLOCK, True),
 ]
 
 

@@ -1,5 +1,5 @@
-"""Files of blocks: each source of bytes is answered as the reader in plain_car.py answers, which
-knows nothing of the library, and as the program `dagcar` does where it is built."""
+"""Files of blocks: each source of bytes is answered as conformance/cars.py answers, which knows
+nothing of the library, and as the program `dagcar` does where it is built."""
 
 import io
 import mmap
@@ -14,19 +14,18 @@ import time
 from collections import Counter
 
 import pytest
-from dagcbor import CID, CarError, DagCborError, Section, check_car, name, read_car, write_car
-from plain_car import (
-    BIG, LEAF, NUMBERS, ROOT, SMALL, UNORDERED, cid, counted, files, header, missing, read, row,
-    second, section,
-)
+from conformance import block_of, cars, load
+from cars import counted, header, second, section
+from cars import name as cid
+from dagcbor import CID, CarCheck, CarError, DagCborError, Section, check_car, name, read_car, write_car
+from forms import NUMBERS, ROOT, SMALL
+from plain import spelling
 
 HERE = os.path.dirname(os.path.abspath(__file__))
 DAGCAR = os.path.join(HERE, "../../../crates/dagcar/out/dagcar")
-KINDS = ("null", "bool", "integer", "string", "bytes", "list", "map", "link")
-OTHERS = {9: "not read", -22: "other bytes", -23: "not verified", -3: "refused Eof",
-          -5: "refused Unsupported", -17: "refused UnorderedKey"}
-FAULTS = {-24: "Truncated", -25: "InvalidLength", -26: "InvalidCid", -27: "OtherHeader",
-          -35: "InvalidOffset"}
+UNORDERED = b"\xa2\x61b\x01\x61a\x02"
+LEAF = b"\x6dleaf of bytes"
+BIG = spelling(bytes(range(256)) * 32)
 PLAIN = header(cid(ROOT)) + section(ROOT) + section(NUMBERS)
 
 
@@ -58,12 +57,8 @@ def sources(file):
     yield from (bytearray(file), memoryview(file), io.BytesIO(file), Dripping(file), Large([file]))
 
 
-def words(code):
-    return OTHERS.get(code) or f"ok {KINDS[code]}"
-
-
 def answered(source):
-    """As plain_car.read answers: the roots, the sections, and the kind and place of the fault."""
+    """As `wanted`: the roots, the sections, and the kind and place of the fault."""
     try:
         reader = read_car(source)
     except CarError as error:
@@ -80,9 +75,11 @@ def answered(source):
 
 
 def wanted(file):
-    roots, sections, fault = read(file)
-    told = [(name, block, words(code)) for name, block, code in sections]
-    return roots, told, fault and (FAULTS[fault[0]], fault[1])
+    found, fault = cars.read(file)
+    told = [(it["cid"], file[it["block"] : it["end"]], cars.in_variants(it["verdict"]))
+            for it in found["sections"]]
+    roots = found.get("roots")
+    return roots, told, fault and (cars.VARIANTS[fault[0]], fault[1])
 
 
 def checked(source):
@@ -99,31 +96,32 @@ def checked(source):
 
 
 def wanted_check(file):
-    roots, sections, fault = read(file)
-    fault = fault and (FAULTS[fault[0]], fault[1])
+    roots, told, fault = wanted(file)
     if roots is None:
         return None, fault
-    counts = dict(Counter(words(code) for _, _, code in sections))
-    held = {name for name, _, code in sections if code not in (-22, -23)}
-    lost = missing(roots, sections)
+    counts = dict(Counter(verdict for _, _, verdict in told))
+    held = {name for name, _, verdict in told if verdict not in ("other bytes", "not verified")}
+    lost = cars.missing(file, cars.read(file)[0])
     well = not lost and all(it.startswith("ok") or it == "not read" for it in counts)
-    return (list(roots), counts, lost, held, well), fault
+    return (roots, counts, lost, held, well), fault
 
 
-def test_table_is_made():
-    with open(os.path.join(HERE, "../../files.txt"), encoding="ascii") as lines:
-        rows = [it.rstrip("\n") for it in lines if not it.startswith("#")]
-    assert rows == [row(it) for it in files()] and len(rows) > 40
-
-
-@pytest.mark.parametrize("number", range(len(list(files()))))
-def test_files(number):
-    file = list(files())[number]
+@pytest.mark.parametrize("vector", load(["files"]), ids=lambda it: it["id"])
+def test_files(vector):
+    file = block_of(vector)
     roots, told, fault = wanted(file)
     for source in sources(file):
-        assert answered(source) == (None if roots is None else list(roots), told, fault)
+        assert answered(source) == (roots, told, fault)
     for source in sources(file):
         assert checked(source) == wanted_check(file)
+
+
+def test_names_that_are_not_packed():
+    name = bytes([4, 1, 0x55, 0, 0])
+    assert [bytes(it) for it in CarCheck([], {}, [], name * 2).held] == [name[1:]] * 2
+    for packed in (b"\xff", b"\xffa", b"\x04\x01\x55\x00", name + b"\x01", "abc", None, bytearray(name)):
+        with pytest.raises(TypeError):
+            CarCheck([], {}, [], packed).held
 
 
 def said_by(words):
@@ -177,7 +175,7 @@ def test_each_byte_damaged(file):
         assert all_one[1] == one[2]
         if inside[0] <= number // 2 < inside[1] and len(it) == len(file):
             roots, told, fault = wanted(it)
-            assert one == (list(roots), told, fault)
+            assert one == (roots, told, fault)
 
 
 @pytest.mark.parametrize("file", [PLAIN, second(PLAIN, begin=53, behind=b"\0\0")])
@@ -254,7 +252,7 @@ def test_check_travels():
     error = pickle.loads(pickle.dumps(caught.value))
     assert (error.kind, error.place) == ("InvalidCid", len(PLAIN))
     assert error.checked.verdicts == {"ok map": 1, "ok list": 1} == found.verdicts
-    assert isinstance(error, DagCborError) and str(error) == "no name stands before a block"
+    assert isinstance(error, DagCborError) and str(error).startswith("no name stands before a block, at ")
 
 
 @pytest.mark.parametrize("bytes_, kind, said", [
@@ -269,7 +267,7 @@ def test_no_header(bytes_, kind, said):
             call(bytes_)
         error = caught.value
         assert (error.kind, error.place, error.checked) == (kind, 0, None)
-        assert said in (None, str(error))
+        assert said is None or str(error) == f"{said}, at 0"
 
 
 def test_names_within_names():

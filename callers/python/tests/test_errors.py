@@ -1,10 +1,10 @@
 """What is refused, and how it is told."""
 
 import copy
-import os
 import pickle
 
 import pytest
+from conformance import block_of, cidtexts, load
 from dagcbor import CID, DagCborError, check, dumps, links, loads, name
 
 
@@ -26,7 +26,7 @@ def test_place_in_bytes(block, kind, place):
     for given in (bytes.fromhex(block), bytearray.fromhex(block)):
         error = refusal(loads, given)
         assert isinstance(error, ValueError) and (error.kind, error.place) == (kind, place)
-        assert refusal(check, given).place == place
+        assert refusal(check, given).place == place and str(error).endswith(f", at {place}")
     other = pickle.loads(pickle.dumps(error))
     assert (str(other), other.kind, other.place) == (str(error), kind, place)
 
@@ -39,13 +39,14 @@ def test_place_in_bytes(block, kind, place):
     ({1: 2}, "Mismatch", (), "int"), ({"a": {b"b": 1}}, "Mismatch", ("a",), "bytes"),
     ({None: 1}, "Mismatch", (), "NoneType"),
     ("\ud800", "RequireUtf8", (), "str"), ({"\udfff": 1}, "RequireUtf8", (), "str"),
-    ([(1, 2)], "Unsupported", (0,), "tuple"),
+    ([(1, {2})], "Unsupported", (0, 1), "set"),
     ({"b": 1, "a": {1, 2}}, "Unsupported", ("a",), "set"), (object(), "Unsupported", (), "object"),
     (CID, "Unsupported", (), "type"),
 ])
 def test_place_in_data(value, kind, place, said):
     error = refusal(dumps, value)
     assert (error.kind, error.place) == (kind, place) and str(error).startswith(said + ": ")
+    assert str(error).endswith("".join(f"[{it!r}]" for it in place))
     assert pickle.loads(pickle.dumps(error)).place == place
 
 
@@ -104,25 +105,15 @@ def test_cid():
     assert loads(dumps({"a": cid})) == {"a": cid}
 
 
-TEXT_REFUSALS = {
-    -26: "InvalidCid", -28: "UnknownBase", -29: "TooLong", -30: "InvalidCharacter",
-    -31: "InvalidLength", -32: "TrailingBits", -33: "LeadingZero", -34: "InvalidVersion",
-}
-
-
-def rows_of_texts():
-    table = os.path.join(os.path.dirname(os.path.abspath(__file__)), "..", "..", "texts.txt")
-    with open(table, encoding="ascii") as lines:
-        return [line.split() for line in lines if not line.startswith("#")]
-
-
-@pytest.mark.parametrize("given, code, binary, text", rows_of_texts())
-def test_cid_texts(given, code, binary, text):
-    if int(code) < 0:
-        assert refusal(CID, given.strip("-")).kind == TEXT_REFUSALS[int(code)]
-        return
-    cid = CID(given)
-    assert bytes(cid).hex() == binary and str(cid) == text and CID(text) == cid
+def test_cid_texts():
+    for vector in load(["cid-texts"]):
+        given = block_of(vector).decode()
+        if vector["verdict"] == "ok":
+            cid = CID(given)
+            assert bytes(cid).hex() == vector["cid"] and str(cid) == vector["written"], given
+            assert CID(str(cid)) == cid
+        else:
+            assert refusal(CID, given).kind == cidtexts.VARIANTS[vector["cause"]], given
 
 
 @pytest.mark.parametrize("given, kind", [

@@ -167,6 +167,37 @@ def test_a_list_that_a_finalizer_empties():
             gc.set_threshold(*threshold)
 
 
+def test_a_map_that_a_finalizer_empties():
+    class Key:
+        pass
+
+    class Emptying:
+        def __del__(self):
+            values.clear()
+
+    # The collector runs while the error is made, which names the key and the place of its map.
+    kinds = set()
+    for levels in range(0, 120, 10):
+        nested = values = {Key(): 1}
+        for _ in range(levels):
+            nested = [nested]
+        threshold = gc.get_threshold()
+        gc.collect()
+        gc.disable()
+        ring = [Emptying()]
+        ring.append(ring)
+        del ring
+        gc.set_threshold(1, 1, 1)
+        try:
+            gc.enable()
+            dumps(nested)
+        except DagCborError as error:
+            kinds.add(error.kind)
+        finally:
+            gc.set_threshold(*threshold)
+    assert kinds == {"Mismatch"}
+
+
 def test_nothing_is_kept():
     cid = name(b"")
     key = "a key of its own" + str(os.getpid())

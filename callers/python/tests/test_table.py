@@ -1,21 +1,15 @@
-"""The answers over the table of all callers, over rows from outside, and over random blocks."""
+"""The answers over the vectors of all codecs, over rows from outside, and over random blocks."""
 
 import os
 import random
 import time
 
 import pytest
-from dagcbor import CID, DagCborError, check, dumps, links, loads, name
+from conformance import VARIANTS, block_of, load
+from dagcbor import DagCborError, check, dumps, links, loads, name
 from plain import links_in, mutated, random_value, same, spelling
 
 KINDS = ["null", "bool", "integer", "string", "bytes", "list", "map", "link"]
-REFUSALS = {
-    -1: "Msg", -3: "Eof", -4: "Mismatch", -5: "Unsupported", -8: "RequireUtf8",
-    -12: "DepthOverflow",
-    -14: "TrailingData", -15: "IndefiniteSize", -16: "NonMinimal", -17: "UnorderedKey",
-}
-HERE = os.path.dirname(os.path.abspath(__file__))
-TABLE = os.path.join(HERE, "..", "..", "table.txt")
 
 # Of RFC 8949, appendix A: those that DAG-CBOR has.
 FROM_RFC = [
@@ -52,11 +46,6 @@ NOT_FROM_RFC = [
 ]
 
 
-def rows():
-    with open(TABLE, encoding="ascii") as table:
-        return [line.split() for line in table if not line.startswith("#")]
-
-
 def told(call, block):
     """What it answers, or the name of the refusal."""
     try:
@@ -78,24 +67,23 @@ def place_by_fronts(block):
     return next(places, len(block))
 
 
-def kind_of(code):
-    return KINDS[int(code)] if int(code) >= 0 else REFUSALS[int(code)]
-
-
-@pytest.mark.parametrize("row", rows(), ids=lambda row: row[0][:32])
-def test_table(row):
-    block, kind, first, cids, named, _, place, _ = row
-    block = bytes.fromhex(block.strip("-"))
-    for given in (block, bytearray(block), memoryview(block), memoryview(b"\0" + block)[1:]):
-        assert told(check, given) == kind_of(kind)
-        wanted = [CID(bytes.fromhex(it)) for it in cids.strip("-").split(",") if it]
-        assert told(links, given) == (wanted if int(first) >= 0 else kind_of(first))
-        assert bytes(name(given)).hex() == named
-        if int(kind) < 0:
-            assert told(loads, given) == kind_of(kind)
-            assert place_told(loads, given) == place_told(check, given) == int(place)
-        else:
-            assert spelling(loads(given)) == block == dumps(loads(given))
+def test_vectors():
+    vectors = list(load())
+    for vector in vectors:
+        block, wanted = block_of(vector), vector.get("kind") or VARIANTS[vector["cause"]]
+        given = [block, bytearray(block), memoryview(block), memoryview(b"\0" + block)[1:]]
+        for it in given if len(block) < 99 else given[:1]:
+            assert told(check, it) == wanted, vector["id"]
+            if vector["verdict"] == "ok":
+                assert list(map(str, links(it))) == vector["links"] and str(name(it)) == vector["cid"]
+                assert spelling(loads(it)) == block == dumps(loads(it))
+            else:
+                assert told(loads, it) == wanted, vector["id"]
+                assert place_told(loads, it) == place_told(check, it) == vector["at"], vector["id"]
+                # What is behind the first item is not looked at for its links.
+                of_item = links(block[: vector["at"]]) if wanted == "TrailingData" else wanted
+                assert told(links, it) == of_item, vector["id"]
+    assert len(vectors) > 1000
 
 
 @pytest.mark.parametrize("block, value", FROM_RFC)

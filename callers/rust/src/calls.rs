@@ -1,6 +1,6 @@
 use crate::answer::answer_of;
 use crate::item::{Cids, Items, Token};
-use crate::{Kind, Refusal, Refused};
+use crate::{Cid, Kind, Refusal, Refused};
 #[cfg(feature = "alloc")]
 use {
     crate::item::{self, Item},
@@ -80,6 +80,10 @@ pub(crate) const MOST_OF_TEXT: usize = 139;
 /// Tokens are fewer than this.
 const MOST_TOKENS: usize = 1 << 58;
 
+/// Room for so many is taken before they are counted.
+#[cfg(feature = "alloc")]
+const FEW_TOKENS: usize = 1 << 16;
+
 /// The kind of a block, exactly where the bytes are one.
 pub fn check(block: &[u8]) -> Result<Kind, Refused> {
     // SAFETY: see above.
@@ -106,11 +110,11 @@ fn place_in(block: &[u8]) -> usize {
 }
 
 /// The block's name, a CID: version 1, DAG-CBOR, by the SHA-256 of the bytes. Any bytes have one.
-pub fn name(block: &[u8]) -> [u8; 36] {
+pub fn name(block: &[u8]) -> Cid {
     let mut out = [0; 36];
     // SAFETY: see above.
     unsafe { dagcbor_name(block.as_ptr(), block.len(), &mut out) };
-    out
+    Cid::held(&out)
 }
 
 /// What the library answers of the front of a file of blocks.
@@ -274,12 +278,51 @@ impl<'a> Tape<'a> {
 /// The tokens of a block.
 #[cfg(feature = "alloc")]
 pub fn tape(block: &[u8]) -> Result<Tape<'_>, Refused> {
-    let at_place = |refusal: Refusal| refusal.at(place_in(block));
-    let mut tokens = Vec::new();
-    let needed = put_tape(block, &mut tokens).map_err(at_place)?;
-    tokens.resize(needed, Token::default());
-    put_tape(block, &mut tokens).map_err(at_place)?;
-    Ok(Tape { block, tokens })
+    match tokens_of(block) {
+        (Ok(_), tape, _) => Ok(tape),
+        (Err(refusal), _, place) => Err(refusal.at(place)),
+    }
+}
+
+/// The tokens of the first item, and the bytes that follow it.
+///
+/// ```
+/// let (first, rest) = dagcbor::take_tape(b"\xf6\x17").unwrap();
+/// assert_eq!((first.items().len(), rest), (1, &b"\x17"[..]));
+/// ```
+#[cfg(feature = "alloc")]
+pub fn take_tape(bytes: &[u8]) -> Result<(Tape<'_>, &[u8]), Refused> {
+    match tokens_of(bytes) {
+        (Ok(_) | Err(Refusal::TrailingData), tape, place) => Ok((tape, &bytes[place..])),
+        (Err(refusal), _, place) => Err(refusal.at(place)),
+    }
+}
+
+/// What is said of the bytes, and where; and the tokens before that place.
+#[cfg(feature = "alloc")]
+fn tokens_of(block: &[u8]) -> (Result<Kind, Refusal>, Tape<'_>, usize) {
+    let (mut needed, mut place, mut room) = (0, 0, block.len().min(FEW_TOKENS));
+    let mut tokens: Vec<Token> = Vec::new();
+    loop {
+        tokens.reserve_exact(room);
+        // SAFETY: see above; of the room nothing is read.
+        let code = unsafe {
+            dagcbor_tokens(
+                block.as_ptr(),
+                block.len(),
+                tokens.as_mut_ptr(),
+                room,
+                &mut needed,
+                &mut place,
+            )
+        };
+        if needed <= room {
+            // SAFETY: so many tokens were put there.
+            unsafe { tokens.set_len(needed) };
+            return (answer_of(code, needed), Tape { block, tokens }, place);
+        }
+        room = needed;
+    }
 }
 
 /// The links of an item.
@@ -297,7 +340,7 @@ impl Links {
 
 #[cfg(feature = "alloc")]
 impl<'a> IntoIterator for &'a Links {
-    type Item = crate::Cid<'a>;
+    type Item = Cid;
     type IntoIter = Cids<'a>;
 
     fn into_iter(self) -> Cids<'a> {

@@ -4,7 +4,7 @@ use crate::item::Cids;
 use crate::{Cid, Kind, Refusal};
 use core::fmt;
 #[cfg(feature = "alloc")]
-use {crate::calls::Links, alloc::vec};
+use {crate::calls::Links, crate::cid::put_varint, alloc::vec, alloc::vec::Vec};
 
 /// What is said of the block of a section.
 #[derive(Clone, Copy, Debug, PartialEq, Eq, Hash)]
@@ -32,7 +32,7 @@ impl Verdict {
 #[derive(Clone, Copy, Debug, PartialEq, Eq)]
 pub struct Section<'a> {
     /// the name
-    pub cid: Cid<'a>,
+    pub cid: Cid,
     /// the bytes
     pub block: &'a [u8],
     /// what is said of them
@@ -140,7 +140,7 @@ fn section_of(bytes: &[u8]) -> Result<(Section<'_>, usize), CarRefusal> {
     let verdict = verdict_of(put_section(bytes, &mut places))?;
     let [cid, block, end] = places;
     let section = Section {
-        cid: Cid(&bytes[cid..block]),
+        cid: Cid::held(&bytes[cid..block]),
         block: &bytes[block..end],
         verdict,
     };
@@ -155,7 +155,7 @@ fn section_of(bytes: &[u8]) -> Result<(Section<'_>, usize), CarRefusal> {
 ///
 /// let mut file = b"\x11\xa2\x65roots\x80\x67version\x01".to_vec(); // no root
 /// file.push(37);
-/// file.extend(name(b"\x05"));
+/// file.extend(name(b"\x05").as_bytes());
 /// file.push(5);
 /// for section in Car::new(&file)? {
 ///     assert_eq!(section?.verdict, Verdict::Ok(Kind::Integer));
@@ -187,7 +187,7 @@ impl<'a> Car<'a> {
             header,
             rest,
             place: begin + behind as u64,
-            is_cut: end != u64::MAX && end > length,
+            is_cut: begin > 0 && end > length,
             is_over: false,
         })
     }
@@ -245,25 +245,28 @@ impl<'a> Iterator for Car<'a> {
 }
 
 #[cfg(feature = "std")]
-pub use reading::{CarError, CarReader, OwnedSection};
+pub use streams::{CarError, CarReader, CarWriter, OwnedSection};
 
 #[cfg(feature = "std")]
-mod reading {
+mod streams {
     use super::*;
-    use alloc::vec::Vec;
+    use crate::{spell, Item};
     use std::error::Error;
-    use std::io::{self, ErrorKind, Read};
+    use std::io::{self, ErrorKind, Read, Write};
 
     /// So much is read at once, at most.
     const PIECE: usize = 1 << 16;
 
-    /// Why a file of blocks is not read on.
+    /// Why a file of blocks is not read on, or not written.
     #[derive(Debug)]
+    #[non_exhaustive]
     pub enum CarError {
-        /// the reader's error
+        /// the reader's error, or the writer's
         Io(io::Error),
         /// the bytes are no file of blocks
         Refused(CarRefused),
+        /// the bytes are not those that the CID names; they are not written
+        OtherBytes,
     }
 
     impl fmt::Display for CarError {
@@ -271,6 +274,7 @@ mod reading {
             match self {
                 CarError::Io(error) => write!(f, "{error}"),
                 CarError::Refused(refused) => write!(f, "{refused}"),
+                CarError::OtherBytes => f.write_str("the bytes are not those that the CID names"),
             }
         }
     }
@@ -280,6 +284,7 @@ mod reading {
             match self {
                 CarError::Io(error) => Some(error),
                 CarError::Refused(refused) => Some(refused),
+                CarError::OtherBytes => None,
             }
         }
     }
@@ -287,18 +292,12 @@ mod reading {
     /// A section of a file that is read: a name, and a block that is the caller's own.
     #[derive(Clone, Debug, PartialEq, Eq)]
     pub struct OwnedSection {
-        cid: Vec<u8>,
+        /// the name
+        pub cid: Cid,
         /// the bytes
         pub block: Vec<u8>,
         /// what is said of them
         pub verdict: Verdict,
-    }
-
-    impl OwnedSection {
-        /// The name.
-        pub fn cid(&self) -> Cid<'_> {
-            Cid(&self.cid)
-        }
     }
 
     /// The sections of a file of blocks (CAR, of version 1 or 2) that is read, one behind the
@@ -312,7 +311,8 @@ mod reading {
         at: usize,
         used: usize,
         place: u64,
-        end: u64,
+        end: u64,       // of the file of version 1 in it
+        is_plain: bool, // of version 1, which ends where no bytes follow
         roots: Links,
         is_whole: bool,
         is_over: bool,
@@ -328,12 +328,14 @@ mod reading {
                 used: 0,
                 place: 0,
                 end: u64::MAX,
+                is_plain: true,
                 roots: Links(Vec::new()),
                 is_whole: false,
                 is_over: false,
             };
             let (begin, end) = car.front(|bytes| span_of(bytes).map(|span| (span, 0)))?;
             car.end = end;
+            car.is_plain = begin == 0;
             car.go_to(begin)?;
             car.roots = car.front(|bytes| {
                 let (_, behind) = header_of(bytes, &mut [])?;
@@ -429,7 +431,7 @@ mod reading {
             if self.shown().is_empty() && !self.is_whole && self.place < self.end {
                 self.fill()?;
             }
-            let is_end = self.place == self.end || self.end == u64::MAX;
+            let is_end = self.place == self.end || self.is_plain;
             Ok(!self.is_over && !(self.shown().is_empty() && is_end))
         }
     }
@@ -446,7 +448,7 @@ mod reading {
             Some(self.front(|bytes| {
                 let (section, end) = section_of(bytes)?;
                 let owned = OwnedSection {
-                    cid: section.cid.as_bytes().to_vec(),
+                    cid: section.cid,
                     block: section.block.to_vec(),
                     verdict: section.verdict,
                 };
@@ -454,4 +456,87 @@ mod reading {
             }))
         }
     }
+
+    /// Writes a file of blocks, of version 1.
+    ///
+    /// ```
+    /// use dagcbor::{name, Car, CarWriter, Kind, Verdict};
+    ///
+    /// let mut file = Vec::new();
+    /// let mut car = CarWriter::new(&mut file, &[name(b"\x05")])?;
+    /// assert_eq!(car.write(&name(b"\x05"), b"\x05")?, Verdict::Ok(Kind::Integer));
+    /// assert!(car.write(&name(b"\x05"), b"\x06").is_err());
+    /// assert_eq!(Car::new(&file)?.count(), 1);
+    /// # Ok::<(), Box<dyn std::error::Error>>(())
+    /// ```
+    #[derive(Debug)]
+    pub struct CarWriter<W> {
+        writer: W,
+        section: Vec<u8>,
+    }
+
+    impl<W: Write> CarWriter<W> {
+        /// Writes the header.
+        pub fn new(mut writer: W, roots: &[Cid]) -> io::Result<Self> {
+            let mut items = vec![Item::Map(2), Item::Text("roots")];
+            items.push(Item::List(roots.len() as u64));
+            items.extend(roots.iter().copied().map(Item::Link));
+            items.extend([Item::Text("version"), Item::Integer(1)]);
+            let header = spell(&items).map_err(|it| io::Error::new(ErrorKind::InvalidInput, it))?;
+            let mut section = Vec::new();
+            put_length_and(&mut section, &[&header]);
+            writer.write_all(&section)?;
+            Ok(CarWriter { writer, section })
+        }
+
+        /// Writes a block under its name, and says what is to be said of it. Bytes that are not
+        /// those of the CID are refused.
+        pub fn write(&mut self, cid: &Cid, block: &[u8]) -> Result<Verdict, CarError> {
+            let verdict = verdict_on(&mut self.section, cid, block);
+            if verdict == Verdict::OtherBytes {
+                return Err(CarError::OtherBytes);
+            }
+            self.writer.write_all(&self.section).map_err(CarError::Io)?;
+            Ok(verdict)
+        }
+
+        /// The writer, with all handed over to it.
+        pub fn into_inner(self) -> W {
+            self.writer
+        }
+    }
+}
+
+/// What is said of a block under a name, as of a section of a file of blocks: it is copied.
+///
+/// ```
+/// use dagcbor::{name, verify, Kind, Verdict};
+///
+/// assert_eq!(verify(&name(b"\x05"), b"\x05"), Verdict::Ok(Kind::Integer));
+/// assert_eq!(verify(&name(b"\x05"), b"\x06"), Verdict::OtherBytes);
+/// ```
+#[cfg(feature = "alloc")]
+pub fn verify(cid: &Cid, block: &[u8]) -> Verdict {
+    verdict_on(&mut Vec::new(), cid, block)
+}
+
+/// Makes it the section, and says what is said of it.
+#[cfg(feature = "alloc")]
+fn verdict_on(section: &mut Vec<u8>, cid: &Cid, block: &[u8]) -> Verdict {
+    put_length_and(section, &[cid.as_bytes(), block]);
+    match section_of(section) {
+        Ok((section, _)) => section.verdict,
+        Err(refusal) => unreachable!("it is a section: {refusal}"),
+    }
+}
+
+/// Makes it the parts, with their length in front.
+#[cfg(feature = "alloc")]
+fn put_length_and(section: &mut Vec<u8>, parts: &[&[u8]]) {
+    let mut room = [0; 10];
+    let length: usize = parts.iter().map(|it| it.len()).sum();
+    let count = put_varint(length as u64, &mut room);
+    section.clear();
+    section.extend_from_slice(&room[..count]);
+    parts.iter().for_each(|it| section.extend_from_slice(it));
 }

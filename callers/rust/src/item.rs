@@ -1,6 +1,5 @@
-use crate::calls::{put_cid_of_text, put_cid_text, MOST_OF_CID, MOST_OF_TEXT};
-use crate::Refusal;
-use core::{fmt, slice};
+use crate::Cid;
+use core::slice;
 
 /// A head of a block as the library tells it: `include/dagcbor.h` says what the numbers are.
 #[repr(C)]
@@ -24,47 +23,6 @@ pub(crate) const MAP: u64 = 6;
 pub(crate) const LINK: u64 = 7;
 pub(crate) const NEGATIVE: u64 = 8;
 
-/// The binary form of a CID, lent.
-#[derive(Clone, Copy, PartialEq, Eq, PartialOrd, Ord, Hash)]
-pub struct Cid<'a>(pub(crate) &'a [u8]);
-
-impl<'a> Cid<'a> {
-    /// The bytes as a CID, where they are one.
-    pub fn new(bytes: &'a [u8]) -> Option<Self> {
-        put_cid_text(bytes, &mut [0; MOST_OF_TEXT]).ok()?;
-        Some(Cid(bytes))
-    }
-
-    /// The CID of a text, whose bytes are put into the room: `Qm..` of version 0, and of version 1
-    /// behind `b`, `B`, `z` or `f`.
-    pub fn from_text_into(text: &str, room: &'a mut [u8; MOST_OF_CID]) -> Result<Self, Refusal> {
-        let count = put_cid_of_text(text, room)?;
-        Ok(Cid(&room[..count]))
-    }
-
-    /// The bytes.
-    pub fn as_bytes(self) -> &'a [u8] {
-        self.0
-    }
-}
-
-/// The text: `Qm..` of version 0, and base32 behind `b` of version 1.
-impl fmt::Display for Cid<'_> {
-    fn fmt(&self, f: &mut fmt::Formatter<'_>) -> fmt::Result {
-        let mut room = [0; MOST_OF_TEXT];
-        let count = put_cid_text(self.0, &mut room).map_err(|_| fmt::Error)?;
-        f.pad(core::str::from_utf8(&room[..count]).map_err(|_| fmt::Error)?)
-    }
-}
-
-impl fmt::Debug for Cid<'_> {
-    fn fmt(&self, f: &mut fmt::Formatter<'_>) -> fmt::Result {
-        f.write_str("Cid(")?;
-        self.0.iter().try_for_each(|byte| write!(f, "{byte:02x}"))?;
-        f.write_str(")")
-    }
-}
-
 /// An item of a block, with its payload lent. What is in a list or a map follows it.
 #[derive(Clone, Copy, Debug, PartialEq, Eq, Hash)]
 pub enum Item<'a> {
@@ -85,7 +43,7 @@ pub enum Item<'a> {
     /// a map of so many entries: of each its key, a text, and its value follow
     Map(u64),
     /// a link
-    Link(Cid<'a>),
+    Link(Cid),
 }
 
 /// The items of a block, in its order.
@@ -110,28 +68,65 @@ impl<'a, 't> Items<'a, 't> {
     }
 }
 
-impl<'a> Iterator for Items<'a, '_> {
-    type Item = Item<'a>;
+/// An item, with its payload lent.
+#[derive(Clone, Copy)]
+pub(crate) enum Lent<'a> {
+    Null,
+    Bool(bool),
+    Integer(u64),
+    Negative(u64),
+    Text(&'a str),
+    Bytes(&'a [u8]),
+    List(u64),
+    Map(u64),
+    Link(&'a [u8]),
+}
 
-    fn next(&mut self) -> Option<Item<'a>> {
+impl<'a> Items<'a, '_> {
+    /// The first item that is left.
+    pub(crate) fn peek(&self) -> Option<Lent<'a>> {
         let Token {
             kind,
             number,
             place,
-        } = *self.tokens.next()?;
+        } = *self.tokens().first()?;
         let payload = || &self.block[place as usize..][..number as usize];
         Some(match kind {
-            NULL => Item::Null,
-            BOOL => Item::Bool(number == 1),
-            INTEGER => Item::Integer(number),
-            NEGATIVE => Item::Negative(number),
+            NULL => Lent::Null,
+            BOOL => Lent::Bool(number == 1),
+            INTEGER => Lent::Integer(number),
+            NEGATIVE => Lent::Negative(number),
             // SAFETY: the token is one of the block, and its texts are UTF-8, which is proved.
-            TEXT => Item::Text(unsafe { core::str::from_utf8_unchecked(payload()) }),
-            BYTES => Item::Bytes(payload()),
-            LIST => Item::List(number),
-            MAP => Item::Map(number),
-            LINK => Item::Link(Cid(payload())),
+            TEXT => Lent::Text(unsafe { core::str::from_utf8_unchecked(payload()) }),
+            BYTES => Lent::Bytes(payload()),
+            LIST => Lent::List(number),
+            MAP => Lent::Map(number),
+            LINK => Lent::Link(payload()),
             _ => unreachable!("the library tells no token of kind {kind}"),
+        })
+    }
+
+    pub(crate) fn pass(&mut self) {
+        self.tokens.next();
+    }
+}
+
+impl<'a> Iterator for Items<'a, '_> {
+    type Item = Item<'a>;
+
+    fn next(&mut self) -> Option<Item<'a>> {
+        let item = self.peek()?;
+        self.pass();
+        Some(match item {
+            Lent::Null => Item::Null,
+            Lent::Bool(value) => Item::Bool(value),
+            Lent::Integer(n) => Item::Integer(n),
+            Lent::Negative(n) => Item::Negative(n),
+            Lent::Text(text) => Item::Text(text),
+            Lent::Bytes(bytes) => Item::Bytes(bytes),
+            Lent::List(count) => Item::List(count),
+            Lent::Map(count) => Item::Map(count),
+            Lent::Link(cid) => Item::Link(Cid::held(cid)),
         })
     }
 
@@ -146,13 +141,13 @@ impl ExactSizeIterator for Items<'_, '_> {}
 #[derive(Clone, Debug)]
 pub struct Cids<'a>(pub(crate) &'a [u8]);
 
-impl<'a> Iterator for Cids<'a> {
-    type Item = Cid<'a>;
+impl Iterator for Cids<'_> {
+    type Item = Cid;
 
-    fn next(&mut self) -> Option<Cid<'a>> {
+    fn next(&mut self) -> Option<Cid> {
         let (length, rest) = self.0.split_first()?;
         let (cid, rest) = rest.split_at(usize::from(*length));
         self.0 = rest;
-        Some(Cid(cid))
+        Some(Cid::held(cid))
     }
 }

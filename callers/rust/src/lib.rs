@@ -15,7 +15,9 @@
 //! # Ok::<(), Refusal>(())
 //! ```
 //!
-//! [`Car`] goes through a file of blocks in memory, and [`CarReader`] through one that is read.
+//! With the feature `serde`, `from_slice` reads a type and `to_vec` writes one; `Ipld` is data
+//! without types. [`Car`] goes through a file of blocks in memory, [`CarReader`] through one that
+//! is read, and [`CarWriter`] writes one.
 //!
 //! Without the feature `alloc`, which `std` brings, there are the calls that take room:
 //! [`tape_into`], [`links_into`] and [`spell_into`].
@@ -31,13 +33,38 @@ extern crate alloc;
 mod answer;
 mod calls;
 mod car;
+mod cid;
 mod item;
+
+#[cfg(feature = "serde")]
+mod de;
+#[cfg(feature = "serde")]
+mod error;
+#[cfg(feature = "serde")]
+mod ipld;
+#[cfg(feature = "serde")]
+mod ser;
 
 pub use answer::{Kind, Refusal, Refused};
 pub use calls::{check, links_into, name, spell_into, tape_into, MOST_OF_CID};
 #[cfg(feature = "alloc")]
-pub use calls::{links, spell, tape, Links, Tape};
+pub use calls::{links, spell, take_tape, tape, Links, Tape};
+#[cfg(feature = "alloc")]
+pub use car::verify;
 pub use car::{Car, CarRefusal, CarRefused, Section, Verdict};
 #[cfg(feature = "std")]
-pub use car::{CarError, CarReader, OwnedSection};
-pub use item::{Cid, Cids, Item, Items, Token};
+pub use car::{CarError, CarReader, CarWriter, OwnedSection};
+pub use cid::Cid;
+#[cfg(all(feature = "serde", feature = "std"))]
+pub use de::from_reader;
+#[cfg(feature = "serde")]
+pub use de::{from_slice, take_from_slice};
+#[cfg(feature = "serde")]
+pub use error::Error;
+#[cfg(feature = "serde")]
+pub use ipld::Ipld;
+pub use item::{Cids, Item, Items, Token};
+#[cfg(feature = "serde")]
+pub use ser::to_vec;
+#[cfg(all(feature = "serde", feature = "std"))]
+pub use ser::to_writer;

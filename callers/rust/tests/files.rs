@@ -1,4 +1,4 @@
-//! Files of blocks, over the table of all callers: in memory, and by readers that give few bytes.
+//! Files of blocks, over the vectors of all callers: in memory, and by readers that give few bytes.
 
 use dagcbor::{
     name, Car, CarError, CarReader, CarRefusal, CarRefused, Cid, Kind, Refusal, Verdict,
@@ -24,6 +24,7 @@ fn number_of(verdict: Verdict) -> i32 {
         Verdict::NotVerified => -23,
         Verdict::Refused(Refusal::Eof) => -3,
         Verdict::Refused(Refusal::Unsupported) => -5,
+        Verdict::Refused(Refusal::TrailingData) => -14,
         Verdict::Refused(Refusal::UnorderedKey) => -17,
         Verdict::Refused(refusal) => panic!("{refusal}"),
     }
@@ -54,7 +55,7 @@ fn joined(parts: Vec<String>) -> String {
 struct Told(Vec<String>, Vec<String>, Option<String>);
 
 impl Told {
-    fn section(&mut self, cid: Cid<'_>, block: &[u8], verdict: Verdict) {
+    fn section(&mut self, cid: Cid, block: &[u8], verdict: Verdict) {
         let name = hex(cid.as_bytes());
         let number = number_of(verdict);
         self.1.push(format!("{name}:{}:{number}", block.len()));
@@ -107,7 +108,7 @@ impl Read for Dripping<'_> {
 fn refused(error: CarError) -> CarRefused {
     match error {
         CarError::Refused(refused) => refused,
-        CarError::Io(error) => panic!("{error}"),
+        error => panic!("{error}"),
     }
 }
 
@@ -123,7 +124,7 @@ fn read(reader: impl Read) -> [String; 3] {
     told.0 = car.roots().map(|it| hex(it.as_bytes())).collect();
     for section in &mut car {
         match section {
-            Ok(it) => told.section(it.cid(), &it.block, it.verdict),
+            Ok(it) => told.section(it.cid, &it.block, it.verdict),
             Err(error) => told.2 = Some(fault_of(refused(error))),
         }
     }
@@ -134,10 +135,7 @@ fn read(reader: impl Read) -> [String; 3] {
 #[test]
 fn the_table_holds() {
     let mut count = 0;
-    for line in include_str!("../../files.txt").lines() {
-        if line.starts_with('#') {
-            continue;
-        }
+    for line in include_str!("../../tables/files.txt").lines() {
         let row: Vec<&str> = line.split(' ').collect();
         let file = from_hex(row[0]);
         assert_eq!(in_memory(&file), row[1..4], "{line}");
@@ -160,7 +158,7 @@ fn section(block: &[u8]) -> Vec<u8> {
         length /= 128;
     }
     section.push(length as u8);
-    section.extend(name(block));
+    section.extend(name(block).as_bytes());
     section.extend(block);
     section
 }

@@ -122,6 +122,10 @@ def held_in_names(page):
     node = items(link(holds[0]), link(bytes([1, 0x55, 0, 2]) + b"hi"))
     page.give_car(header(named(node)) + section(named(node), node))
     assert "all is well" in page.text(".banner h2"), page.text(".banner")
+    # What is no block leads nowhere, though an item with a link begins it.
+    node = items(link(bytes([1, 0x71, 0, 1 + len(inner)]) + inner + b"\0"))
+    page.give_car(header(named(node)) + section(named(node), node))
+    assert "all is well" in page.text(".banner h2"), page.text(".banner")
     return "blocks in names"
 
 

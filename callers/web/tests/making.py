@@ -3,7 +3,7 @@
 import hashlib
 import os
 
-TABLES = os.path.join(os.path.dirname(os.path.realpath(__file__)), "..", "..")
+TABLES = os.path.join(os.path.dirname(os.path.realpath(__file__)), "..", "..", "tables")
 ALPHABET = "abcdefghijklmnopqrstuvwxyz234567"
 
 
@@ -69,7 +69,12 @@ def cid_text(cid):
     return "b" + "".join(ALPHABET[int(bits[i : i + 5], 2)] for i in range(0, len(bits), 5))
 
 
+def some(rows):
+    """One of so many that a page is asked in a minute."""
+    return rows[::20]
+
+
 def rows(table):
-    """The rows of a table in callers/, by words."""
-    with open(f"{TABLES}/{table}.txt", encoding="ascii") as file:
+    """The rows of a table that conformance/rows writes, by words."""
+    with open(f"{TABLES}/{table}.txt", encoding="utf-8") as file:
         return [it.split(" ") for it in file.read().split("\n") if it and not it.startswith("#")]

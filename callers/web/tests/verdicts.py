@@ -2,7 +2,7 @@
 
 import json
 
-from making import cid_text, entries, head, items, link, named, rows, text
+from making import cid_text, entries, head, items, link, named, rows, some, text
 from browser import By, Keys, same
 
 NAMES = {
@@ -13,8 +13,8 @@ KINDS = ["null", "boolean", "integer", "text", "bytes", "list", "map", "link"]
 
 
 def table(page):
-    """Each row of the table: the verdict, the place, the name, the count of items, the bytes."""
-    for hexed, kind, _, _, name, tokens, place, before in rows("table"):
+    """Rows of the table: the verdict, the place, the name, the count of items, the bytes."""
+    for hexed, kind, _, _, name, tokens, place, before in some(rows("table")):
         block = bytes.fromhex(hexed.replace("-", ""))
         page.give_bytes(block)
         title = page.text(".banner h2")
@@ -35,7 +35,7 @@ def table(page):
             same(page.js("return document.querySelector('.item.k-fault').id"), f"item-{whole}", hexed)
         shown = "".join(page.texts(".hex .byte:not(.is-end)"))
         assert hexed.replace("-", "").startswith(shown[: len(hexed)]), hexed
-    return f"{len(rows('table'))} rows"
+    return f"{len(some(rows('table')))} rows"
 
 
 def before_fault(page):

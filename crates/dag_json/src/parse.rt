@@ -1,6 +1,7 @@
 //! Data from a text of JSON.
 
-ghost use Rattle.std.specs.Prelude.{◌≡◌, ◌≢◌, ◌≤◌, Ok, Err, IfOk, IfErr, MatchResult, IsUtf8, if◌then◌else◌};
+ghost use Rattle.std.specs.Prelude.{◌≡◌, ◌≢◌, ◌≤◌, length, Ok, Err, IfOk, IfErr, MatchResult, IsUtf8, if◌then◌else◌};
+ghost use Rattle.std.specs.Str.Lossy.{utf8_valid_len};
 ghost use Rattle.json.specs.Lex.{tokens};
 ghost use Rattle.json.specs.Value.{value_view};
 ghost use Rattle.ipld_tree.specs.Ipld.{tree_of};
@@ -21,18 +22,24 @@ const MOST_LEVELS: usize = 129;
 /// The steps of an untyped read.
 const MOST_STEPS: u64 = 256;
 
-/// A refusal at this byte, or want of memory where the place was not found.
-fn refusal(cause: DagJsonError, offset: Result<usize, AllocError>) -> Refusal
-    ensures { result.cause ≢ DagJsonError.OutOfMemory → result.cause ≡ cause }
+/// A refusal at this byte of the text, or want of memory where the place was not found. No contract
+/// says where a reader stands, so the place is held to the text.
+fn refusal(text: &str, cause: DagJsonError, offset: Result<usize, AllocError>) -> Refusal
+    ensures cause { result.cause ≢ DagJsonError.OutOfMemory → result.cause ≡ cause }
+    ensures place { result.offset ≤ length text.now }
 {
     match offset {
-        Ok(offset) => Refusal { cause, offset },
+        Ok(offset) => Refusal {
+            cause,
+            offset: offset.min(text.len()),
+        },
         Err(_) => out_of_memory(),
     }
 }
 
 fn out_of_memory() -> Refusal
-    ensures { result.cause ≡ DagJsonError.OutOfMemory }
+    ensures cause { result.cause ≡ DagJsonError.OutOfMemory }
+    ensures place { result.offset ≡ 0 }
 {
     Refusal {
         cause: DagJsonError::OutOfMemory,
@@ -69,13 +76,14 @@ fn is_too_deep(alloc: Global, text: &str) -> Result<bool, AllocError>
 
 /// Why the text is no value of JSON within the levels. The reader stopped at this byte.
 fn no_document(alloc: Global, text: &str, stopped: usize) -> Refusal
-    ensures { result.cause ≢ DagJsonError.OutOfMemory
+    ensures place { result.offset ≤ length text.now }
+    ensures cause { result.cause ≢ DagJsonError.OutOfMemory
         → result.cause ≡ (if opens_past most_levels (tokens text.now) then DagJsonError.TooDeep
         else DagJsonError.NoJson) }
 {
     match is_too_deep(alloc, text) {
-        Ok(true) => refusal(DagJsonError::TooDeep, offset_inside(alloc, text)),
-        Ok(false) => refusal(DagJsonError::NoJson, Ok(stopped)),
+        Ok(true) => refusal(text, DagJsonError::TooDeep, offset_inside(alloc, text)),
+        Ok(false) => refusal(text, DagJsonError::NoJson, Ok(stopped)),
         Err(_) => out_of_memory(),
     }
 }
@@ -89,6 +97,7 @@ fn document<'a>(
     ensures value { IfOk result (λ v. document_of (tokens text.now) ≡ Ok (value_view v)) }
     ensures refused { IfErr result (λ e. e.cause ≢ DagJsonError.OutOfMemory
         → document_of (tokens text.now) ≡ Err e.cause) }
+    ensures place { IfErr result (λ e. e.offset ≤ length text.now) }
 {
     let Ok(mut reader) = Reader::new(text, scratch) else {
         return Err(out_of_memory());
@@ -97,7 +106,7 @@ fn document<'a>(
         Ok(value) => {
             let offset = reader.offset();
             match reader.next() {
-                Some(_) => Err(refusal(DagJsonError::TrailingData, Ok(offset))),
+                Some(_) => Err(refusal(text, DagJsonError::TrailingData, Ok(offset))),
                 None => Ok(value),
             }
         }
@@ -112,12 +121,13 @@ fn whole_data(alloc: Global, text: &str, value: &Value<'_>) -> Result<Ipld, Refu
         (λ v. ReadsWhole (value_view value.now) (Ok (tree_of v))) }
     ensures refused { IfErr result (λ e. e.cause ≢ DagJsonError.OutOfMemory
         → ReadsWhole (value_view value.now) (Err e.cause)) }
+    ensures place { IfErr result (λ e. e.offset ≤ length text.now) }
 {
     let mut place = 0;
     match data_of(alloc, value, &mut place) {
         Ok(data) if data.depth_need() <= MOST_STEPS => Ok(data),
-        Ok(_) => Err(refusal(DagJsonError::TooDeep, offset_inside(alloc, text))),
-        Err(cause) => Err(refusal(cause, offset_behind(alloc, text, place))),
+        Ok(_) => Err(refusal(text, DagJsonError::TooDeep, offset_inside(alloc, text))),
+        Err(cause) => Err(refusal(text, cause, offset_behind(alloc, text, place))),
     }
 }
 
@@ -126,18 +136,23 @@ fn data_from_text(alloc: Global, text: &str) -> Result<Ipld, Refusal>
     ensures data { IfOk result (λ v. ReadsTokens (tokens text.now) (Ok (tree_of v))) }
     ensures refused { IfErr result (λ e. e.cause ≢ DagJsonError.OutOfMemory
         → ReadsTokens (tokens text.now) (Err e.cause)) }
+    ensures place { IfErr result (λ e. e.offset ≤ length text.now) }
 {
     let mut scratch = Scratch::new(alloc);
     let value = document(alloc, text, &mut scratch)?;
     whole_data(alloc, text, &value)
 }
 
-/// The data that the text is, in DAG-JSON. What no contract says is the byte at which a refusal
-/// stands, but for one that is no UTF-8.
+/// The data that the text is, in DAG-JSON. Which byte of the text a refusal names is not said, but for
+/// one that is no UTF-8: that names the first byte of what is none.
 pub fn data_from_json(alloc: Global, text: &[u8]) -> Result<Ipld, Refusal>
     ensures data { IfOk result (λ v. ReadsText text.now (Ok (tree_of v))) }
     ensures refused { IfErr result (λ e. e.cause ≢ DagJsonError.OutOfMemory
         → ReadsText text.now (Err e.cause)) }
+    ensures memory { IfErr result (λ e. e.cause ≡ DagJsonError.OutOfMemory → IsUtf8 text.now) }
+    ensures place { IfErr result (λ e. e.offset ≤ length text.now) }
+    ensures no_text { IfErr result
+        (λ e. ¬ IsUtf8 text.now → e.offset ≡ utf8_valid_len text.now) }
 {
     match from_utf8(text) {
         Ok(text) => data_from_text(alloc, text),

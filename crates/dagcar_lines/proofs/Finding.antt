@@ -1,29 +1,40 @@
 -- What is found in a file: one block, or those that links lead to.
+use Rattle.std.specs.Bool.{⊤}
 use Rattle.std.proofs.Common.{◌≡◌, inl, inr, ℕ, List, [], ◌∷◌, ◌++◌, append-nil, Bool, true, false, cond, refl, sym, ap, ◌∙◌, subst, ◌↔◌, IsTrue, Option, None, Some, is_some, option_map, Result, Ok, Err, IsErrAnd, Vec, BTreeMap, Global, flat_map}
 use Rattle.std.specs.Io.KnownBytes.{Appends}
 use Rattle.std.proofs.KnownBytes.{Appends-nil}
 use Rattle.std.specs.Map.{lookup}
 use Rattle.std.specs.BTreeMap.{is_at, get}
 use Rattle.std.specs.declared.convert.Infallible.{Infallible}
-use Rattle.ipld_tree.specs.Cid.{CidParts, cid_bytes, cid_cmp}
-use Rattle.dagcbor_items.specs.Walks.{forms}
+use Rattle.ipld_tree.specs.Cid.{CidParts, cid_cmp}
 use Rattle.dagcbor_car.specs.Car.{Section}
-use Rattle.dagcbor_car.specs.Sets.{Among}
-use Rattle.dagcbor_car.specs.Verdicts.{IsVerified, IsVerdict}
-use Rattle.dagcbor_car.specs.Checks.{IsHeld}
+use Rattle.ipld_links.specs.Sets.{Among}
+use Rattle.ipld_links.specs.Verdicts.{IsVerified, IsVerdict}
+use Rattle.dagcbor_car.specs.Checks.{IsHeld, IsFileFront}
 use Rattle.dagcbor_car.specs.declared.error.CarError.{CarError}
-use Rattle.dagcbor_car.specs.declared.verdict.Verdict.{Verdict}
-use Rattle.dagcbor_car.specs.declared.verdict.Verdict.TheVariants as verdicts
+use Rattle.ipld_links.specs.declared.verdict.Verdict.{Verdict}
+use Rattle.ipld_links.specs.declared.verdict.Verdict.TheVariants as verdicts
 use Rattle.dagcbor_heads.specs.Written.{Written, Stops}
 use Rattle.dagcbor_heads.specs.declared.error.EncodeError.{EncodeError}
 use Rattle.dagcbor_heads.specs.declared.error.EncodeError.TheVariants as unsent
 use Rattle.dagcbor_cli.specs.declared.fault.ToolError.{ToolError}
 use Rattle.dagcbor_cli.specs.declared.fault.ToolError.TheVariants.{Output}
-use Rattle.dagcbor_car.specs.Reaching.{Stored, stored_in, IsThere, ListsReachable, ListsLost}
-use Rattle.dagcbor_car.proofs.Members.{at_same, same_at, among_push, push_among}
-use Rattle.dagcar_lines.specs.Lines.{missing_line, refused_line, BreaksLine, SaysBoth}
-use Rattle.dagcar_lines.specs.Taking.{IsFault}
-use Rattle.dagcar_lines.specs.Finding.{TellsFault, IsSound, StoresSound, IsTreeFile, IsTreeOf, SendsTree}
+use Rattle.ipld_links.specs.Reaching.{Stored, stored_in, IsThere, ListsReachable, ListsLost}
+use Rattle.ipld_links.proofs.Members.{at_same, same_at, among_push, push_among}
+use Rattle.block_lines.specs.Lines.{missing_line, refused_line, BreaksLine, SaysBoth}
+use Rattle.dagcbor_car.specs.Each.{Takes}
+use Rattle.ipld_links.specs.Sound.{IsSound}
+use Rattle.dagcbor_car.specs.Versions.{IsFile}
+use Rattle.dagcar_lines.specs.Taking.{TookEach, FaultBehind, NotBegun, TakesAll}
+use Rattle.dagcar_lines.specs.Finding.{TellsFault, Seeks, StoresSound, Keeps, IsTreeFile, IsTreeOf, SendsTree}
+use Rattle.dagcar_lines.proofs.Taking.{took_knows}
+use Rattle.dagcar_lines.specs.declared.get.Search.{Search}
+use Rattle.dagcar_lines.specs.declared.get.Stop.{Stop}
+use Rattle.dagcar_lines.specs.declared.get.Stop.TheVariants as stops
+use Rattle.dagcar_lines.specs.declared.holding.Holding.{Holding}
+use Rattle.dagcar_lines.specs.declared.take.Ended.{Ended}
+use Rattle.dagcar_lines.specs.declared.take.Ended.TheVariants as ended
+use Rattle.std.specs.declared.alloc.AllocError.{AllocError}
 
 -- ---- verdicts
 
@@ -36,8 +47,11 @@ verified_of s verdicts.Unverified h other none = absurd (none refl)
 
 -- ---- faults
 
-pub fault_of_others : (P Q : List Section → Type 0) (b told line : List ℕ) → ((sections : List Section) → P sections → Q sections) → told ≡ line → ((e : CarError Infallible) × IsFault P e b × (line ≡ refused_line e)) → TellsFault Q b told
-fault_of_others P Q b told line f is h = (h.0, (h.1.0, elim h.1.1 [ inl s ↦ inl s | inr s ↦ inr (s.0, s.1, s.2, s.3, s.4, f s.1 s.5, s.6) ]), is ∙ h.2)
+pub fault_told : {S Stop : Type 0} (takes : Takes S Stop) (IsSo : List Section → Type 0) (b told : List ℕ) (roots : List (List ℕ)) (old new : S) (e : CarError Infallible) (h : FaultBehind takes roots b old e new) → IsSo h.first.sections → told ≡ refused_line e → TellsFault IsSo b told
+fault_told takes IsSo b told roots old new e h is tells = (e, (h.none, inr (roots, h.first.sections, h.first.wanting, h.first.rest, h.first.front, is, h.refuses)), tells)
+
+pub start_told : (IsSo : List Section → Type 0) (b : List ℕ) (Stop : Type 0) (v : Vec ℕ Global) → NotBegun {Stop = Stop} b (ended.Fault v) → TellsFault IsSo b v.items
+start_told IsSo b Stop v h = (h.0, (h.1, inl h.2), h.3)
 
 -- ---- one block
 
@@ -47,8 +61,41 @@ still_none name sections s none other h = elim (among_push (name, h.0) sections 
   | inr e ↦ other (sym (ap (λ (p : Section). p.0) e), subst IsVerified e h.2)
 ]
 
-pub got_whole : (name : CidParts) (b told : List ℕ) → told ≡ flat_map missing_line (forms (name ∷ [])) → told ≡ missing_line (cid_bytes name)
-got_whole name b told is = is ∙ append-nil (missing_line (cid_bytes name))
+-- a search that found none is as it was
+abbrev pub FoundNone : Search → Search → List Section → Type 0
+FoundNone first now sections = (now ≡ first) × ¬ IsHeld first.name sections
+
+none_more : (first : Search) (s : Section) (old new : Search) (done : List Section) → FoundNone first old done → Seeks s old (Ok tt) new → FoundNone first new (done ++ s ∷ [])
+none_more first s old new done h k = (k.0 ∙ h.0, still_none first.name done s h.1 (λ m. k.1 (m.0 ∙ ap (λ (x : Search). x.name) (sym h.0), m.1)))
+
+pub none_found : (ss : List Section) (old new : Search) → TookEach Seeks old ss new → FoundNone old new ss
+none_found ss old new t = took_knows Seeks (FoundNone old) (none_more old) [] ss old new (refl, λ none. absurd none.1) t
+
+pub got_whole : (name : CidParts) (b told : List ℕ) → told ≡ flat_map missing_line (name ∷ []) → told ≡ missing_line name
+got_whole name b told is = is ∙ append-nil (missing_line name)
+
+-- how far a file goes, and what was found in it
+abbrev pub GotOf : CidParts → List ℕ → Ended Stop → Search → Type 0
+GotOf name b ended.Whole new = (roots : List (List ℕ)) × (sections : List Section) × IsFile b roots sections
+    × ¬ IsHeld name sections
+GotOf name b (ended.Stopped stops.Enough) new = (roots : List (List ℕ)) × (sections : List Section) × (n : ℕ)
+    × (rest : List ℕ) × IsFileFront b roots (sections ++ (name, new.block.items) ∷ []) n rest
+    × ¬ IsHeld name sections × IsVerified (name, new.block.items)
+GotOf name b (ended.Stopped stops.OutOfMemory) new = ⊤
+GotOf name b (ended.Fault line) new = TellsFault (λ ss. ¬ IsHeld name ss) b line.items
+
+pub got_of : (b : List ℕ) (old new : Search) (e : Ended Stop) → TakesAll Seeks b old e new → GotOf old.name b e new
+got_of b old new (ended.Fault line) (inl (h, same)) = start_told (λ ss. IsHeld old.name ss → ⊥) b Stop line h
+got_of b old new ended.Whole (inl (h, same)) = absurd h
+got_of b old new (ended.Stopped stop) (inl (h, same)) = absurd h
+got_of b old new (ended.Fault line) (inr (roots, h)) = fault_told Seeks (λ ss. IsHeld old.name ss → ⊥) b line.items roots old new h.0 h.1 (none_found h.1.first.sections old new h.1.first.took).1 h.2
+got_of b old new ended.Whole (inr (roots, h)) = (roots, h.sections, h.file, (none_found h.sections old new h.took).1)
+got_of b old new (ended.Stopped stops.OutOfMemory) (inr (roots, h)) = tt
+got_of b old new (ended.Stopped stops.Enough) (inr (roots, h)) =
+    let none = none_found h.first.sections old h.it h.first.took in
+    let name : h.section.0 ≡ old.name = h.refused.0 ∙ ap (λ (x : Search). x.name) none.0 in
+    let same : h.section ≡ (old.name, new.block.items) = λ i. (name i, sym h.refused.2 i) in
+    (roots, h.first.sections, h.wanting, h.rest, subst (λ s. IsFileFront b roots (h.first.sections ++ s ∷ []) h.wanting h.rest) same h.front, none.1, subst IsVerified same h.refused.1)
 
 -- ---- what is held
 
@@ -107,6 +154,28 @@ sound_put old new name block v sections is put free sound h = record {
     kept_name : (q : CidParts) → q ≡ name → (t : Bool) → is_at (cid_cmp name) q ≡ t → is_some (stored_in new q) ≡ true
     kept_name q e t at = ap is_some (now q ∙ ap (λ b. cond b (Some v.items) (stored_in old q)) (same_at name q (sym e)))
 
+-- what a holding does to a section
+abbrev pub HoldsNext : Takes Holding AllocError
+HoldsNext s old result new = Keeps s (stored_in old.blocks) result (stored_in new.blocks)
+
+pub held_each : (done more : List Section) (old new : Holding) → StoresSound done (stored_in old.blocks) → TookEach HoldsNext old more new → StoresSound (done ++ more) (stored_in new.blocks)
+held_each done more old new h t = took_knows HoldsNext (λ it ss. StoresSound ss (stored_in it.blocks)) (λ s old new done h k. k done h) done more old new h t
+
+-- how far the file goes of which that is held
+abbrev pub HeldOf : {E : Type 0} → List ℕ → Ended E → Holding → Type 0
+HeldOf b ended.Whole new = (roots : List (List ℕ)) × (sections : List Section) × IsFile b roots sections
+    × StoresSound sections (stored_in new.blocks)
+HeldOf b (ended.Stopped stop) new = ⊤
+HeldOf b (ended.Fault line) new = TellsFault (λ ss. ⊤) b line.items
+
+pub held_of : (b : List ℕ) (old new : Holding) (e : Ended AllocError) → old.blocks.entries ≡ [] → TakesAll HoldsNext b old e new → HeldOf b e new
+held_of b old new (ended.Fault line) none (inl (h, same)) = start_told (λ ss. ⊤) b AllocError line h
+held_of b old new ended.Whole none (inl (h, same)) = absurd h
+held_of b old new (ended.Stopped stop) none (inl (h, same)) = absurd h
+held_of b old new (ended.Fault line) none (inr (roots, h)) = fault_told HoldsNext (λ ss. ⊤) b line.items roots old new h.0 h.1 tt h.2
+held_of b old new ended.Whole none (inr (roots, h)) = (roots, h.sections, h.file, held_each [] h.sections old new (sound_none old.blocks none) h.took)
+held_of b old new (ended.Stopped stop) none (inr (roots, h)) = tt
+
 -- ---- how a tree goes out
 
 pub front_sent : {E : Type 0} (text : List ℕ) (old new : Written) (e : EncodeError E) (f : E) (before after : Option (List ℕ)) → Stops (Some text) old new e → e ≡ unsent.Write f → old.bytes ≡ before → new.bytes ≡ after → BreaksLine (λ out. out ≡ text) before after Output
@@ -114,7 +183,7 @@ front_sent text old new e f before after stops is b a =
     let k = (subst (Stops (Some text) old new) is stops).0 in
     inr (k.0, k.1, sym k.2, refl, subst (λ x. Appends x after k.0) b (subst (λ x. Appends old.bytes x k.0) a k.3))
 
-module _ (stored : Stored) (root : CidParts) (found names lost : List CidParts) (well : Bool) (told text : List ℕ) (same : names ≡ found) (reachable : ListsReachable stored root found) (missing : ListsLost stored root lost) (lines : told ≡ flat_map missing_line (forms lost)) (same_told : text ≡ told)
+module _ (stored : Stored) (root : CidParts) (found names lost : List CidParts) (well : Bool) (told text : List ℕ) (same : names ≡ found) (reachable : ListsReachable stored root found) (missing : ListsLost stored root lost) (lines : told ≡ flat_map missing_line lost) (same_told : text ≡ told)
     (wellness : IsTrue well ↔ (lost ≡ [])) where
   is_tree : (out : List ℕ) → IsTreeFile stored root names out → IsTreeOf stored root well out text
   is_tree out file = record {

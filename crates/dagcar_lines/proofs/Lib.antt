@@ -1,4 +1,6 @@
 pub mod Saying
+pub mod Summing
 pub mod Running
+pub mod Ending
 pub mod Taking
 pub mod Finding

@@ -1,81 +1,157 @@
 -- A file that is taken section by section.
-use Rattle.std.proofs.Common.{◌≡◌, inl, inr, ℕ, List, [], ◌∷◌, ◌++◌, refl, sym, ◌∙◌, subst, Option, Some, Result, Ok, Err, IfOk}
+use Rattle.std.proofs.Common.{◌≡◌, inl, inr, ℕ, List, [], ◌∷◌, ◌++◌, length, append_assoc, append-nil, refl, sym, ◌∙◌, subst, Option, Some, Result, Ok, Err, IfOk, MatchResult, Vec, Global}
 use Rattle.dagcbor_heads.specs.Reading.{Reading}
 use Rattle.dagcbor_car.specs.Car.{Section}
-use Rattle.dagcbor_car.specs.Extents.{within, wanting}
+use Rattle.dagcbor_car.specs.Each.{Takes, TakesEach, StopsEach, RunsEach}
+use Rattle.dagcbor_car.specs.Extents.{within, wanting, EndsThere}
 use Rattle.dagcbor_car.specs.Sources.{CarRefuses, RefusesStart, RefusesNext, TakesStart, TakesSectionBytes}
 use Rattle.dagcbor_car.specs.declared.error.CarError.{CarError}
-use Rattle.dagcbor_car.proofs.Places.{IsPlace, no_file, place_more, place_none, place_front, place_whole}
-use Rattle.dagcar_lines.specs.Lines.{refused_line}
-use Rattle.dagcar_lines.specs.Steps.{IsOfBytes}
-use Rattle.dagcar_lines.specs.Taking.{Known, KnownBehind, TakesAll, EndsNext, IsFaultLine}
+use Rattle.dagcbor_car.specs.declared.error.CarError.TheVariants as faults
+use Rattle.dagcbor_car.specs.declared.each.ReadCarError.{ReadCarError}
+use Rattle.dagcbor_car.specs.declared.each.ReadCarError.TheVariants as stop
+use Rattle.dagcbor_car.proofs.Places.{IsPlace, no_file, place_begun, place_more, place_none, place_front, place_whole}
+use Rattle.std.specs.declared.convert.Infallible.{Infallible}
+use Rattle.dagcbor_cli.specs.declared.fault.ToolError.{ToolError}
+use Rattle.block_lines.specs.Lines.{refused_line}
+use Rattle.dagcar_lines.specs.Taking.{IsOfBytes, TookEach, TakesFront, TakesWhole, StopsAt, EndsAt, EndsBy, EndsByFault, TakesBehind, TakesAll, TakesFile}
 use Rattle.dagcar_lines.specs.declared.take.Ended.{Ended}
 use Rattle.dagcar_lines.specs.declared.take.Ended.TheVariants as ended
-use Rattle.dagcar_lines.proofs.Saying.{begun_place, alone, alone_line, section_alone, header_alone}
 
--- the file was taken up to the rest
-pub record IsTaken {T : Type 0} (knows : Known T) (b rest : List ℕ) (extent : Option ℕ) (first now : T) : Type 0 where
-  pub roots : List (List ℕ)
-  pub sections : List Section
-  pub place : IsPlace b roots sections extent rest
-  pub known : knows first now sections
+-- ---- refusals of the bytes
 
--- the same, where the source tells its bytes
-abbrev pub SoFarTaken : {T : Type 0} → Known T → Reading → Reading → Option ℕ → T → T → Type 0
-SoFarTaken knows start source extent first now = (b : List ℕ) → start.left ≡ Some b → knows first first []
-    → (rest : List ℕ) × (source.left ≡ Some rest) × IsTaken knows b rest extent first now
+-- the same refusal, where no source can fault
+abbrev pub alone : {E : Type 0} → CarError E → CarError Infallible
+alone (faults.Read f) = faults.Truncated
+alone faults.Truncated = faults.Truncated
+alone faults.InvalidLength = faults.InvalidLength
+alone (faults.InvalidCid f) = faults.InvalidCid f
+alone (faults.NoBlock f) = faults.NoBlock f
+alone faults.OtherHeader = faults.OtherHeader
+alone faults.InvalidOffset = faults.InvalidOffset
+alone faults.OutOfMemory = faults.OutOfMemory
 
-pub taken_begun : {T : Type 0} (knows : Known T) (roots : List (List ℕ)) (extent : Option ℕ) (start source : Reading) (first : T) → TakesStart start roots extent source → SoFarTaken knows start source extent first first
-taken_begun knows roots extent start source first h b l k = let w = begun_place roots extent h b l in (w.0, w.1, record { roots = roots; sections = []; place = w.2; known = k })
+pub alone_line : {E : Type 0} (e : CarError E) → IsOfBytes e → refused_line e ≡ refused_line (alone e)
+alone_line (faults.Read f) is = absurd is
+alone_line _ is = refl
+
+pub section_alone : {E : Type 0} (extent : Option ℕ) (old now : Reading) (e : CarError E) → IsOfBytes e → CarRefuses (RefusesNext extent) old e now → (b : List ℕ) → old.left ≡ Some b → RefusesNext extent (alone e) b
+section_alone extent old now (faults.Read f) is r = absurd is
+section_alone extent old now faults.OutOfMemory is r = absurd is
+section_alone extent old now _ is r = r.1
+
+pub header_alone : {E : Type 0} (old now : Reading) (e : CarError E) → IsOfBytes e → CarRefuses RefusesStart old e now → (b : List ℕ) → old.left ≡ Some b → RefusesStart (alone e) b
+header_alone old now (faults.Read f) is r = absurd is
+header_alone old now faults.OutOfMemory is r = absurd is
+header_alone old now _ is r = r.1
+
+-- ---- one section behind the other
+
+-- what is known behind each section is known behind all
+pub took_knows : {S Stop : Type 0} (takes : Takes S Stop) (knows : S → List Section → Type 0) → ((s : Section) (old new : S) (done : List Section) → knows old done → takes s old (Ok tt) new → knows new (done ++ s ∷ []))
+    → (done more : List Section) (old new : S) → knows old done → TookEach takes old more new → knows new (done ++ more)
+took_knows takes knows step done [] old new h t = subst (knows new) (sym (append-nil done)) (subst (λ x. knows x done) (sym t) h)
+took_knows takes knows step done (s ∷ more) old new h t = subst (knows new) (append_assoc done (s ∷ []) more) (took_knows takes knows step (done ++ s ∷ []) more t.0 new (step s old t.0 done h t.1) t.2)
+
+-- so much is left, behind the header and these sections
+abbrev IsLeft : List ℕ → List (List ℕ) → List Section → Option ℕ → Reading → Type 0
+IsLeft b roots ss extent source = (rest : List ℕ) × (source.left ≡ Some rest) × IsPlace b roots ss extent rest
+
+-- a header was taken
+pub left_begun : (roots : List (List ℕ)) (extent : Option ℕ) (start source : Reading) (b : List ℕ) → TakesStart start roots extent source → start.left ≡ Some b → IsLeft b roots [] extent source
+left_begun roots extent start source b h l = let w = h.takes.taken b l in (w.0, w.2, subst (λ x. IsPlace x roots [] extent w.0) (sym w.1) (place_begun h.front w.0 roots extent h.header h.start))
 
 -- one section more
-place_next : (b : List ℕ) (roots : List (List ℕ)) (sections : List Section) (extent more : Option ℕ) (source behind : Reading) (rest : List ℕ) (s : Section) → source.left ≡ Some rest → IsPlace b roots sections extent rest → TakesSectionBytes extent source s more behind
-    → (after : List ℕ) × (behind.left ≡ Some after) × IsPlace b roots (sections ++ s ∷ []) more after
-place_next b roots sections extent more source behind rest s l h t =
-    let w = t.1.takes.taken rest l in
-    (w.0, w.2, place_more b w.0 roots sections extent more s (subst (λ x. IsPlace b roots sections extent x) w.1 h) t.0 t.1.spends)
+left_more : (b : List ℕ) (roots : List (List ℕ)) (ss : List Section) (s : Section) (extent more : Option ℕ) (source behind : Reading) → IsLeft b roots ss extent source → TakesSectionBytes extent source s more behind → IsLeft b roots (ss ++ s ∷ []) more behind
+left_more b roots ss s extent more source behind h t =
+    let w = t.1.takes.taken h.0 h.1 in
+    (w.0, w.2, place_more b w.0 roots ss extent more s (subst (λ x. IsPlace b roots ss extent x) w.1 h.2) t.0 t.1.spends)
 
-pub taken_more : {T : Type 0} (knows : Known T) (start source behind : Reading) (extent more : Option ℕ) (first old new : T) → SoFarTaken knows start source extent first old → (s : Section) × TakesSectionBytes extent source s more behind × KnownBehind knows knows s old new → SoFarTaken knows start behind more first new
-taken_more knows start source behind extent more first old new h k b l begun =
-    let far = h b l begun in
-    let w = place_next b far.2.roots far.2.sections extent more source behind far.0 k.0 far.1 far.2.place k.1 in
-    (w.0, w.1, record { roots = far.2.roots; sections = far.2.sections ++ k.0 ∷ []; place = w.2; known = k.2 first far.2.sections far.2.known })
+left_each : {S Stop : Type 0} (takes : Takes S Stop) (b : List ℕ) (roots : List (List ℕ)) (ss more : List Section) (extent rest : Option ℕ) (source mid : Reading) (old new : S) → IsLeft b roots ss extent source → TakesEach takes extent source old more rest mid new → IsLeft b roots (ss ++ more) rest mid × TookEach takes old more new
+left_each takes b roots ss [] extent rest source mid old new h t = (
+  subst (λ e. IsLeft b roots (ss ++ []) e mid) (sym t.0) (subst (IsLeft b roots (ss ++ []) extent) (sym t.1) (subst (λ l. IsLeft b roots l extent source) (sym (append-nil ss)) h)),
+  t.2,
+)
+left_each takes b roots ss (s ∷ more) extent rest source mid old new h t =
+    let w = left_each takes b roots (ss ++ s ∷ []) more t.0 rest t.1 mid t.2 new (left_more b roots ss s extent t.0 source t.1 h t.3) t.5 in
+    (subst (λ l. IsLeft b roots l rest mid) (append_assoc ss (s ∷ []) more) w.0, (t.2, t.4, w.1))
 
-pub taken_all : {T : Type 0} (knows stopped : Known T) (start source behind : Reading) (extent more : Option ℕ) (first old new : T) (e : Ended) → SoFarTaken knows start source extent first old → EndsNext knows stopped extent source old e more behind new
-    → (b : List ℕ) → start.left ≡ Some b → knows first first [] → TakesAll knows stopped b first e new
-taken_all knows stopped start source behind extent more first old new ended.Whole h k b l begun =
-    let far = h b l begun in
-    (far.2.roots, far.2.sections, place_whole b far.0 far.2.roots far.2.sections extent more source behind far.2.place k.0 far.1, subst (λ t. knows first t far.2.sections) (sym k.1) far.2.known)
-taken_all knows stopped start source behind extent more first old new ended.Enough h k b l begun =
-    let far = h b l begun in
-    let w = place_next b far.2.roots far.2.sections extent more source behind far.0 k.0 far.1 far.2.place k.1 in
-    (far.2.roots, far.2.sections ++ k.0 ∷ [], wanting more w.0, within more w.0, place_front b w.0 far.2.roots (far.2.sections ++ k.0 ∷ []) more w.2, k.2 first far.2.sections far.2.known)
-taken_all knows stopped start source behind extent more first old new (ended.Fault line) h k b l begun =
-    let far = h b l begun in
-    let refused = k.1 far.0 far.1 in (
-      k.0,
-      (
-        place_none k.0 b far.0 far.2.roots far.2.sections extent far.2.place refused,
-        inr (far.2.roots, far.2.sections, wanting extent far.0, within extent far.0, place_front b far.0 far.2.roots far.2.sections extent far.2.place, subst (λ t. knows first t far.2.sections) (sym k.3) far.2.known, refused),
-      ),
-      k.2,
-    )
+module _ {S Stop : Type 0} (takes : Takes S Stop) (roots : List (List ℕ)) (b : List ℕ) where
+  abbrev taken_front : (ss : List Section) (extent : Option ℕ) (source : Reading) (old new : S) → IsLeft b roots ss extent source → TookEach takes old ss new → TakesFront takes roots b old new
+  taken_front ss extent source old new h t = record {
+    sections = ss;
+    wanting = wanting extent h.0;
+    rest = within extent h.0;
+    front = place_front b h.0 roots ss extent h.2;
+    took = t;
+  }
 
--- ---- refusals
+  -- all sections were taken
+  pub all_taken : (extent more : Option ℕ) (source behind : Reading) (old new : S) (count : ℕ) → IsLeft b roots [] extent source → ((ss : List Section) × (rest : Option ℕ) × (mid : Reading) × TakesEach takes extent source old ss rest mid new × (count ≡ length ss) × EndsThere rest mid more behind) → TakesWhole takes roots b old new
+  all_taken extent more source behind old new count h k =
+      let w = left_each takes b roots [] k.0 extent k.1 source k.2 old new h k.3 in
+      record { sections = k.0; file = place_whole b w.0.0 roots k.0 k.1 more k.2 behind w.0.2 k.5 w.0.1; took = w.1 }
 
-pub next_refused : {T E : Type 0} (knows stopped : Known T) (extent more : Option ℕ) (source behind : Reading) (old : T) (error : CarError E) (e : Ended) → CarRefuses (RefusesNext extent) source error behind → IsOfBytes error → IsFaultLine e (refused_line error) → EndsNext knows stopped extent source old e more behind old
-next_refused knows stopped extent more source behind old error (ended.Fault line) h is told = (alone error, section_alone extent source behind error is h, told ∙ alone_line error is, refl)
-next_refused knows stopped extent more source behind old error ended.Whole h is told = absurd told
-next_refused knows stopped extent more source behind old error ended.Enough h is told = absurd told
+  -- some were taken, and none of a fault of the bytes
+  fault_behind : {E : Type 0} (count : ℕ) (ss : List Section) (extent more : Option ℕ) (mid behind : Reading) (old it new : S) (e : CarError E) (r : Result (Ended Stop) ToolError) → IsLeft b roots ss extent mid → TookEach takes old ss it → StopsEach takes (length ss) extent mid it (stop.Section count e) more behind new → EndsByFault {Stop = Stop} e r
+      → MatchResult r (λ w. EndsAt takes roots b old w new) (λ _. TakesFront takes roots b old new)
+  fault_behind count ss extent more mid behind old it new e (Err x) h t k told = taken_front ss extent mid old new h (subst (TookEach takes old ss) (sym k.2) t)
+  fault_behind count ss extent more mid behind old it new e (Ok (ended.Fault line)) h t k told = (
+    alone e,
+    record {
+      first = taken_front ss extent mid old new h (subst (TookEach takes old ss) (sym k.2) t);
+      none = place_none (alone e) b h.0 roots ss extent h.2 (section_alone extent mid behind e told.1 k.1.0 h.0 h.1);
+      refuses = section_alone extent mid behind e told.1 k.1.0 h.0 h.1;
+    },
+    told.0 ∙ alone_line e told.1,
+  )
+  fault_behind count ss extent more mid behind old it new e (Ok ended.Whole) h t k told = absurd told.0
+  fault_behind count ss extent more mid behind old it new e (Ok (ended.Stopped stop)) h t k told = absurd told.0
 
-pub start_refused : {T E X : Type 0} (knows stopped : Known T) (source behind : Reading) (old : T) (error : CarError E) (r : Result Ended X) → CarRefuses RefusesStart source error behind → IfOk r (λ e. IsOfBytes error × IsFaultLine e (refused_line error))
-    → IfOk r (λ e. (b : List ℕ) → source.left ≡ Some b → knows old old [] → TakesAll knows stopped b old e old)
-start_refused knows stopped source behind old error (Err x) h told = tt
-start_refused knows stopped source behind old error (Ok (ended.Fault line)) h told = λ b l begun.
-    let refused = header_alone source behind error told.0 h b l in
-    (alone error, (no_file (alone error) b refused, inl refused), told.1 ∙ alone_line error told.0)
-start_refused knows stopped source behind old error (Ok ended.Whole) h told = absurd told.1
-start_refused knows stopped source behind old error (Ok ended.Enough) h told = absurd told.1
+  stopped : {E : Type 0} (ss : List Section) (extent more : Option ℕ) (mid behind : Reading) (old it new : S) (e : ReadCarError E Stop) (r : Result (Ended Stop) ToolError) → IsLeft b roots ss extent mid → TookEach takes old ss it → StopsEach takes (length ss) extent mid it e more behind new → EndsBy e r
+      → MatchResult r (λ w. EndsAt takes roots b old w new) (λ _. TakesFront takes roots b old new)
+  stopped ss extent more mid behind old it new (stop.Header e) r h t k told = absurd k
+  stopped ss extent more mid behind old it new (stop.Section count e) r h t k told = fault_behind count ss extent more mid behind old it new e r h t k told
+  stopped ss extent more mid behind old it new (stop.Block count name why) r h t k told =
+      let next = left_more b roots ss k.0 extent more mid behind h k.2 in
+      let at : StopsAt takes roots b old why new = record {
+        it = it;
+        first = taken_front ss extent mid old it h t;
+        section = k.0;
+        wanting = wanting more next.0;
+        rest = within more next.0;
+        front = place_front b next.0 roots (ss ++ k.0 ∷ []) more next.2;
+        refused = k.4;
+      } in
+      subst (λ x. MatchResult x (λ w. EndsAt takes roots b old w new) (λ _. TakesFront takes roots b old new)) (sym told) at
+
+  too_many : {E : Type 0} (count : ℕ) (e : ReadCarError E Stop) (r : Result (Ended Stop) ToolError) (X : Ended Stop → Type 0) (Y : Type 0) → e ≡ stop.Section count faults.OutOfMemory → EndsBy e r → Y → MatchResult r X (λ _. Y)
+  too_many count e (Err x) X Y is told y = y
+  too_many {E} count e (Ok w) X Y is told y = none w (subst (λ x. EndsBy x (Ok w)) is told)
+    where
+      none : {Z : Type 0} (w : Ended Stop) → EndsByFault {E = E} faults.OutOfMemory (Ok w) → Z
+      none w k = absurd k.1
+
+  -- some were taken
+  pub some_taken : {E : Type 0} (extent more : Option ℕ) (source behind : Reading) (old new : S) (e : ReadCarError E Stop) (r : Result (Ended Stop) ToolError) → IsLeft b roots [] extent source → RunsEach takes extent source old (Err e) more behind new → EndsBy e r
+      → MatchResult r (λ w. EndsAt takes roots b old w new) (λ _. TakesFront takes roots b old new)
+  some_taken extent more source behind old new e r h (ss, rest, mid, it, t, inl k) told =
+      let w = left_each takes b roots [] ss extent rest source mid old it h t in
+      stopped ss rest more mid behind old it new e r w.0 w.1 k told
+  some_taken extent more source behind old new e r h (ss, rest, mid, it, t, inr k) told =
+      let w = left_each takes b roots [] ss extent rest source mid old it h t in
+      too_many (length ss) e r (λ w. EndsAt takes roots b old w new) (TakesFront takes roots b old new) k.2.0 told (taken_front ss rest mid old new w.0 (subst (TookEach takes old ss) (sym k.1) w.1))
+
+-- ---- the whole
+
+-- all behind a header, where a header was taken
+pub behind_header : {S Stop : Type 0} (takes : Takes S Stop) (extent : Option ℕ) (start source : Reading) (roots : List (List ℕ)) (old new : S) (r : Result (Ended Stop) ToolError) → TakesStart start roots extent source → TakesBehind takes extent source old r new → TakesFile takes start old r new
+behind_header takes extent start source roots old new (Ok w) h k = λ b l. inr (roots, k start roots h b l)
+behind_header takes extent start source roots old new (Err e) h k = tt
+
+pub not_begun : {S Stop E : Type 0} (takes : Takes S Stop) (start source : Reading) (it : S) (error : CarError E) (v : Vec ℕ Global) → CarRefuses RefusesStart start error source → IsOfBytes error → v.items ≡ refused_line error → (b : List ℕ) → start.left ≡ Some b → TakesAll takes b it (ended.Fault v) it
+not_begun takes start source it error v h is told b l =
+    let refused = header_alone start source error is h b l in
+    inl ((alone error, no_file (alone error) b refused, refused, told ∙ alone_line error is), refl)
 
 -- where the bytes are known, what holds of an `Ok` for all bytes holds of it for these
 pub of_known : {A E : Type 0} (P : List ℕ → A → Type 0) (r : Result A E) (known : Option (List ℕ)) → IfOk r (λ x. (b : List ℕ) → known ≡ Some b → P b x) → (b : List ℕ) → known ≡ Some b → IfOk r (P b)

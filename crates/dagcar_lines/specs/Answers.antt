@@ -1,5 +1,5 @@
 -- What the program answers of bytes.
-use Rattle.std.specs.Prelude.{◌≡◌, ◌≢◌, ◌⊎◌, ◌↔◌, ℕ, codes, List, [], ◌++◌, Vec, Bool, true, false, IsTrue, ⊤, Result, Ok, Err, Option, IfOk, IsErr, if◌then◌else◌, flat_map}
+use Rattle.std.specs.Prelude.{◌≡◌, ◌≢◌, ◌⊎◌, ◌↔◌, ℕ, codes, List, [], ◌++◌, Vec, Bool, true, false, IsTrue, ⊤, Result, Ok, Err, Option, if◌then◌else◌, flat_map}
 use Rattle.std.specs.declared.alloc.Global.{Global}
 use Rattle.std.specs.declared.convert.Infallible.{Infallible}
 use Rattle.dagcbor_heads.specs.declared.error.DecodeError.{DecodeError}
@@ -11,19 +11,24 @@ use Rattle.cid_text.specs.Texts.{cid_text}
 use Rattle.dag_json.specs.DagJson.{dag_json, has_reserved_key}
 use Rattle.dag_json.specs.Reading.{ReadsText}
 use Rattle.dag_json.specs.declared.error.DagJsonError.{DagJsonError}
-use Rattle.dagcbor_items.specs.Walks.{forms}
 use Rattle.dagcbor_items.specs.Slices.{IsBlock, SliceRefused}
+use Rattle.dagcbor_items.specs.Stops.{StandsAt}
 use Rattle.dagcbor_items.specs.TreeKinds.{kind_of}
 use Rattle.dagcbor_car.specs.Car.{Section}
-use Rattle.dagcbor_car.specs.Names.{block_name}
-use Rattle.dagcbor_car.specs.Splits.{HasBlock}
-use Rattle.dagcbor_car.specs.Verdicts.{IsVerdict}
+use Rattle.ipld_links.specs.Names.{block_name}
+use Rattle.ipld_links.specs.Blocks.{HasBlock}
+use Rattle.ipld_links.specs.Verdicts.{IsVerdict}
 use Rattle.dagcbor_car.specs.Checks.{ListsMissing}
-use Rattle.dagcbor_car.specs.declared.verdict.Verdict.{Verdict}
+use Rattle.ipld_links.specs.declared.verdict.Verdict.{Verdict}
 use Rattle.dagcbor_items.specs.PrintedNames.{kind_name, variant_name}
-use Rattle.dagcar_lines.specs.Lines.{line, told_line, listed_line, missing_line, root_line, is_well, cause_line, reserved_line, Says, SaysBoth}
+use Rattle.block_lines.specs.Lines.{line, told_line, listed_line, missing_line, root_line, is_well, Says, SaysBoth}
+use Rattle.dagcar_lines.specs.Lines.{cause_line, place_line, reserved_line}
 use Rattle.dagcar_lines.specs.Speeches.{Speech, SaysBytes}
+use Rattle.dagcar_lines.specs.Summary.{IsSummary}
+use Rattle.dagcar_lines.specs.Help.{help_text, version_text}
+use Rattle.dagcbor_paths.specs.Paths.{segments}
 use Rattle.dagcar_lines.specs.Finding.{IsGot, IsTree}
+use Rattle.dagcar_lines.specs.Paths.{IsAt}
 use Rattle.dagcar_lines.specs.declared.command.Command.{Command}
 use Rattle.dagcar_lines.specs.declared.command.Command.TheVariants as commands
 use Rattle.dagcbor_cli.specs.declared.fault.ToolError.{ToolError}
@@ -39,7 +44,7 @@ IsVerdictLine s well text = (v : Verdict) × IsVerdict s v × (well ≡ is_well 
 pub record AreMissingLines (roots : List (List ℕ)) (sections : List Section) (well : Bool) (text : List ℕ) : Type 0 where
   pub missing : Vec CidParts Global
   pub lists : ListsMissing roots sections missing
-  pub lines : text ≡ flat_map missing_line (forms missing.items)
+  pub lines : text ≡ flat_map missing_line missing.items
   pub wellness : IsTrue well ↔ (missing.items ≡ [])
 
 -- what `check` says: the verdict on each section, and then what leads nowhere
@@ -48,6 +53,22 @@ check_speech = record {
   of_roots = λ roots. [];
   of_section = IsVerdictLine;
   of_end = AreMissingLines;
+}
+
+-- what `verify` says: the verdict on each section
+abbrev pub verify_speech : Speech
+verify_speech = record {
+  of_roots = λ roots. [];
+  of_section = IsVerdictLine;
+  of_end = λ roots sections well text. (well ≡ true) × (text ≡ []);
+}
+
+-- what `check --summary` says: what `check` says, and then how many sections had which verdict
+abbrev pub summary_speech : Speech
+summary_speech = record {
+  of_roots = λ roots. [];
+  of_section = IsVerdictLine;
+  of_end = IsSummary;
 }
 
 -- what `list` says: the roots, and then each section
@@ -60,22 +81,24 @@ list_speech = record {
 
 -- ---- one block
 
--- what is said of bytes that are no block
-abbrev pub IsSaidOfNoBlock : List ℕ → Bool → List ℕ → Type 0
-IsSaidOfNoBlock b well out = (e : DecodeError Infallible) × SliceRefused e b × (e ≢ unread.OutOfMemory)
-    × (well ≡ false) × (out ≡ line (codes "refused " ++ variant_name e))
+-- what is said of bytes that are no block, and what is told: by which byte they are none
+abbrev pub IsSaidOfNoBlock : List ℕ → Bool → List ℕ → List ℕ → Type 0
+IsSaidOfNoBlock b well out told = (e : DecodeError Infallible) × (place : ℕ) × SliceRefused e b
+    × (e ≢ unread.OutOfMemory) × StandsAt e b place × (well ≡ false)
+    × (out ≡ line (codes "refused " ++ variant_name e)) × (told ≡ place_line e place)
 
 -- what `one` says of bytes: the kind of the block, or why they are none
-abbrev pub IsJudged : List ℕ → Bool → List ℕ → Type 0
-IsJudged b well out = ((t : Tree) × IsBlock b t × (well ≡ true) × (out ≡ line (codes "ok " ++ kind_name (kind_of t))))
-    ⊎ IsSaidOfNoBlock b well out
+abbrev pub IsJudged : List ℕ → Bool → List ℕ → List ℕ → Type 0
+IsJudged b well out told = ((t : Tree) × IsBlock b t × (well ≡ true)
+    × (out ≡ line (codes "ok " ++ kind_name (kind_of t))) × (told ≡ []))
+    ⊎ IsSaidOfNoBlock b well out told
 
 -- what `show` says of bytes: the data of the block as DAG-JSON, or why they are none; and what it
 -- tells: a line where a map in the data has the key `/`
 abbrev pub IsShown : List ℕ → Bool → List ℕ → List ℕ → Type 0
 IsShown b well out told = ((t : Tree) × IsBlock b t × (well ≡ true) × (out ≡ line (dag_json t))
     × (told ≡ (if has_reserved_key t then reserved_line else [])))
-    ⊎ (IsSaidOfNoBlock b well out × (told ≡ []))
+    ⊎ IsSaidOfNoBlock b well out told
 
 -- what `make` gives of a text: the block of the data that it is; or nothing, and a line that tells
 -- why it is none. At which byte is not said here.
@@ -87,14 +110,9 @@ IsMade b well out told = ((t : Tree) × ReadsText b (Ok t) × IsSpelling out t �
 
 -- what `name` says of bytes: the CID of the block, of DAG-CBOR and by SHA-256 (multicodec table), or
 -- why they are none
-abbrev pub IsNamed : List ℕ → Bool → List ℕ → Type 0
-IsNamed b well out = (HasBlock b × (well ≡ true) × (out ≡ line (cid_text (block_name b))))
-    ⊎ IsSaidOfNoBlock b well out
-
--- the line, if there is one, and whether it tells of nothing wrong
-abbrev pub SaidOf : {E F : Type 0} → Result (Vec ℕ Global) E → Bool → Result (Vec ℕ Global × Bool) F → Type 0
-SaidOf (Ok v) well said = IfOk said (λ p. (p.0.items ≡ v.items) × (p.1 ≡ well))
-SaidOf (Err e) well said = IsErr said
+abbrev pub IsNamed : List ℕ → Bool → List ℕ → List ℕ → Type 0
+IsNamed b well out told = (HasBlock b × (well ≡ true) × (out ≡ line (cid_text (block_name b)))
+    × (told ≡ [])) ⊎ IsSaidOfNoBlock b well out told
 
 -- ---- a run
 
@@ -104,22 +122,30 @@ abbrev pub EndsSo : Result Bool ToolError → ℕ → Type 0
 EndsSo (Ok well) status = status ≡ (if well then 0 else 1)
 EndsSo (Err e) status = status ≡ 2
 
--- a run of a command on these bytes, by what the output and the errors hold
-abbrev pub RunsCommand : Command → List ℕ → Option (List ℕ) → Option (List ℕ)
+-- a run of a command on these bytes, and on the path of `at`, by what the output and the errors hold
+abbrev pub RunsCommand : Command → List ℕ → List ℕ → Option (List ℕ) → Option (List ℕ)
     → Result Bool ToolError → Option (List ℕ) → Option (List ℕ) → Type 0
-RunsCommand commands.Check b old heard ended new after = SaysBytes check_speech b old ended new
-RunsCommand commands.List b old heard ended new after = SaysBytes list_speech b old ended new
-RunsCommand commands.Name b old heard ended new after = Says (IsNamed b) old ended new
-RunsCommand commands.One b old heard ended new after = Says (IsJudged b) old ended new
-RunsCommand commands.Show b old heard ended new after = SaysBoth (IsShown b) old heard ended new after
-RunsCommand commands.Make b old heard ended new after = SaysBoth (IsMade b) old heard ended new after
-RunsCommand (commands.Get name) b old heard ended new after = SaysBoth (IsGot name b) old heard ended new after
-RunsCommand (commands.Tree root) b old heard ended new after = SaysBoth (IsTree root b) old heard ended new after
+RunsCommand commands.Check path b old heard ended new after = SaysBytes check_speech b old ended new
+RunsCommand commands.Verify path b old heard ended new after = SaysBytes verify_speech b old ended new
+RunsCommand commands.Summary path b old heard ended new after = SaysBytes summary_speech b old ended new
+RunsCommand commands.Help path b old heard ended new after = Says (λ well out. (well ≡ true) × (out ≡ help_text)) old ended new
+RunsCommand commands.Version path b old heard ended new after = Says (λ well out. (well ≡ true) × (out ≡ version_text)) old ended new
+RunsCommand commands.List path b old heard ended new after = SaysBytes list_speech b old ended new
+RunsCommand commands.Name path b old heard ended new after = SaysBoth (IsNamed b) old heard ended new after
+RunsCommand commands.One path b old heard ended new after = SaysBoth (IsJudged b) old heard ended new after
+RunsCommand commands.Show path b old heard ended new after = SaysBoth (IsShown b) old heard ended new after
+RunsCommand commands.Make path b old heard ended new after = SaysBoth (IsMade b) old heard ended new after
+RunsCommand (commands.Get name) path b old heard ended new after = SaysBoth (IsGot name b) old heard ended new after
+RunsCommand (commands.Tree root) path b old heard ended new after = SaysBoth (IsTree root b) old heard ended new after
+RunsCommand (commands.At root) path b old heard ended new after = SaysBoth (IsAt root (segments path) b) old heard ended new after
 
 -- the commands that tell of nothing but of faults
 abbrev pub IsQuiet : Command → Type 0
+IsQuiet commands.Name = ⊥
+IsQuiet commands.One = ⊥
 IsQuiet commands.Show = ⊥
 IsQuiet commands.Make = ⊥
 IsQuiet (commands.Get name) = ⊥
 IsQuiet (commands.Tree root) = ⊥
+IsQuiet (commands.At root) = ⊥
 IsQuiet _ = ⊤

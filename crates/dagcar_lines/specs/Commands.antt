@@ -1,13 +1,19 @@
 -- The program's words.
-use Rattle.std.specs.Prelude.{◌≡◌, ◌⊎◌, ℕ, List, [], ◌∷◌, codes}
+use Rattle.std.specs.Prelude.{◌≡◌, ◌⊎◌, ℕ, List, [], ◌∷◌, codes, ◌==◌}
+use Rattle.std.specs.List.{before_first, after_first}
 use Rattle.ipld_tree.specs.Cid.{CidParts}
-use Rattle.cid_text.specs.Texts.{IsTextOf}
+use Rattle.cid_text.specs.Texts.{IsTextOf, IsTextFault}
+use Rattle.cid_text.specs.declared.error.CidTextError.{CidTextError}
 use Rattle.dagcar_lines.specs.declared.command.Command.{Command}
 use Rattle.dagcar_lines.specs.declared.command.Command.TheVariants as commands
 
 -- the word that names the command
 abbrev pub command_name : Command → List ℕ
 command_name commands.Check = codes "check"
+command_name commands.Verify = codes "verify"
+command_name commands.Summary = codes "check"
+command_name commands.Help = codes "--help"
+command_name commands.Version = codes "--version"
 command_name commands.List = codes "list"
 command_name commands.Name = codes "name"
 command_name commands.One = codes "one"
@@ -15,16 +21,39 @@ command_name commands.Show = codes "show"
 command_name commands.Make = codes "make"
 command_name (commands.Get name) = codes "get"
 command_name (commands.Tree name) = codes "tree"
+command_name (commands.At name) = codes "at"
+
+-- a name and a path: what stands before the first slash of a text, and behind it
+abbrev pub name_part : List ℕ → List ℕ
+name_part text = before_first (λ b. b == 0x2f) text
+
+abbrev pub path_part : List ℕ → List ℕ
+path_part text = after_first (λ b. b == 0x2f) text
+
+-- the path in the second of two words
+abbrev pub path_of : List (List ℕ) → List ℕ
+path_of (word ∷ text ∷ []) = path_part text
+path_of _ = []
 
 -- this word, and the name as text
 abbrev pub IsWordOf : List (List ℕ) → List ℕ → CidParts → Type 0
 IsWordOf words word name = (text : List ℕ) × (words ≡ word ∷ text ∷ []) × IsTextOf text name
 
--- the words are the command: the one that names it; of `get` and `tree` also a CID
+-- the words are the command: the one that names it; of `get` and `tree` also a CID; of `at` also one
+-- before a path; and `check` with `--summary`
 abbrev pub IsCommand : List (List ℕ) → Command → Type 0
 IsCommand words (commands.Get name) = IsWordOf words (codes "get") name
 IsCommand words (commands.Tree name) = IsWordOf words (codes "tree") name
+IsCommand words (commands.At name) = (text : List ℕ) × (words ≡ codes "at" ∷ text ∷ [])
+    × IsTextOf (name_part text) name
+IsCommand words commands.Summary = words ≡ codes "check" ∷ codes "--summary" ∷ []
 IsCommand words command = words ≡ command_name command ∷ []
+
+-- no CID stands in the words where one should, for this cause
+abbrev pub IsMistyped : List (List ℕ) → CidTextError → Type 0
+IsMistyped words e = (word text : List ℕ) × (words ≡ word ∷ text ∷ [])
+    × ((((word ≡ codes "get") ⊎ (word ≡ codes "tree")) × IsTextFault e text)
+    ⊎ ((word ≡ codes "at") × IsTextFault e (name_part text)))
 
 -- the command of this word on the block of this name
 abbrev pub IsCommandOn : List ℕ → CidParts → Command → Type 0

@@ -5,4 +5,7 @@ pub mod Commands
 pub mod Steps
 pub mod Taking
 pub mod Finding
+pub mod Paths
+pub mod Summary
+pub mod Help
 pub mod Answers

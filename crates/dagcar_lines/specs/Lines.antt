@@ -1,95 +1,19 @@
--- The lines that the program writes, and how a line goes out.
-use Rattle.std.specs.Prelude.{◌≡◌, ◌⊎◌, ℕ, List, [], ◌∷◌, ◌++◌, length, codes, Bool, true, false, Option, Result, MatchResult, decimal}
-use Rattle.std.specs.Io.KnownBytes.{Appends}
-use Rattle.cid_text.specs.Texts.{text_of_form, cid_text}
-use Rattle.dagcbor_car.specs.Car.{Section}
-use Rattle.dagcbor_car.specs.Verdicts.{Told}
-use Rattle.dagcbor_car.specs.declared.error.CarError.{CarError}
-use Rattle.dagcbor_car.specs.declared.verdict.Verdict.{Verdict}
-use Rattle.dagcbor_car.specs.declared.verdict.Verdict.TheVariants as verdicts
-use Rattle.dagcbor_items.specs.PrintedNames.{kind_name, variant_name}
-use Rattle.dagcar_lines.specs.Names.{cause_name, fault_name}
+-- The lines that the program alone writes.
+use Rattle.std.specs.Prelude.{ℕ, List, ◌∷◌, ◌++◌, codes, decimal}
+use Rattle.block_lines.specs.Lines.{line}
+use Rattle.dagcar_lines.specs.Names.{cause_name}
 use Rattle.dag_json.specs.declared.error.DagJsonError.{DagJsonError}
-use Rattle.dagcbor_cli.specs.declared.fault.ToolError.{ToolError}
-use Rattle.dagcbor_cli.specs.declared.fault.ToolError.TheVariants.{Output}
-
--- what is said, and a line feed
-abbrev pub line : List ℕ → List ℕ
-line said = said ++ 10 ∷ []
-
--- a verdict in words
-abbrev pub verdict_text : Verdict → List ℕ
-verdict_text (verdicts.Block kind) = codes "ok " ++ kind_name kind
-verdict_text (verdicts.Refused e) = codes "refused " ++ variant_name e
-verdict_text verdicts.OtherBytes = codes "other bytes"
-verdict_text verdicts.NotRead = codes "not read"
-verdict_text verdicts.Unverified = codes "not verified"
-
--- whether a verdict tells of nothing wrong
-abbrev pub is_well : Verdict → Bool
-is_well (verdicts.Block kind) = true
-is_well verdicts.NotRead = true
-is_well _ = false
-
--- of a section: its name as text, and the verdict
-abbrev pub told_line : Told → List ℕ
-told_line p = line (cid_text p.0.0 ++ (32 ∷ verdict_text p.1))
-
--- of a section: its name as text, and how many bytes its block has, in decimal
-abbrev pub listed_line : Section → List ℕ
-listed_line s = line (cid_text s.0 ++ (32 ∷ decimal (length s.1)))
-
--- of a name behind a word, by its binary form
-abbrev pub named_line : List ℕ → List ℕ → List ℕ
-named_line word form = line (word ++ text_of_form form)
-
--- of a root or a link that leads nowhere
-abbrev pub missing_line : List ℕ → List ℕ
-missing_line = named_line (codes "missing ")
-
--- of a root
-abbrev pub root_line : List ℕ → List ℕ
-root_line = named_line (codes "root ")
-
--- of a file that is refused
-abbrev pub refused_line : {E : Type 0} → CarError E → List ℕ
-refused_line e = line (codes "refused " ++ fault_name e)
+use Rattle.dagcbor_heads.specs.declared.error.DecodeError.{DecodeError}
+use Rattle.dagcbor_items.specs.PrintedNames.{variant_name}
 
 -- of a text that is refused, at this byte
 abbrev pub cause_line : DagJsonError → ℕ → List ℕ
 cause_line e offset = line (codes "refused " ++ (cause_name e ++ (32 ∷ decimal offset)))
 
+-- of bytes that are no block, and by which byte
+abbrev pub place_line : {E : Type 0} → DecodeError E → ℕ → List ℕ
+place_line e place = line (codes "refused " ++ (variant_name e ++ (codes " at byte " ++ decimal place)))
+
 -- of data with a map that has the key `/`
 abbrev pub reserved_line : List ℕ
 reserved_line = line (codes "dagcar: a map with the key / looks like a link or like bytes")
-
--- nothing more went out; or the device failed, and of one of these lines a front did
-abbrev pub BreaksLine : (List ℕ → Type 0) → Option (List ℕ) → Option (List ℕ) → ToolError → Type 0
-BreaksLine IsLine old new e = Appends old new []
-    ⊎ ((front back : List ℕ) × IsLine (front ++ back) × (e ≡ Output) × Appends old new front)
-
--- what is said went out, and whether it tells of nothing wrong is answered; or nothing more of it
--- went out, or the device failed, and a front did
-abbrev pub Says : (Bool → List ℕ → Type 0) → Option (List ℕ) → Result Bool ToolError
-    → Option (List ℕ) → Type 0
-Says IsSaid old result new = MatchResult result
-    (λ well. (out : List ℕ) × IsSaid well out × Appends old new out)
-    (λ e. BreaksLine (λ out. (well : Bool) × IsSaid well out) old new e)
-
--- the same of these lines
-abbrev pub SaysLines : List ℕ → Bool → Option (List ℕ) → Result Bool ToolError
-    → Option (List ℕ) → Type 0
-SaysLines said well old result new = MatchResult result
-    (λ answer. (answer ≡ well) × Appends old new said)
-    (λ e. BreaksLine (λ out. out ≡ said) old new e)
-
--- what is said went out on the output, what is told on the errors, and whether nothing is wrong is
--- answered; or nothing went out; or a device failed, and fronts of both did
-abbrev pub SaysBoth : (Bool → List ℕ → List ℕ → Type 0) → Option (List ℕ) → Option (List ℕ)
-    → Result Bool ToolError → Option (List ℕ) → Option (List ℕ) → Type 0
-SaysBoth IsSaid old heard result new after = MatchResult result
-    (λ well. (said told : List ℕ) × IsSaid well said told × Appends old new said
-    × Appends heard after told)
-    (λ e. (Appends old new [] × Appends heard after [])
-    ⊎ ((well : Bool) × (said more told others : List ℕ) × IsSaid well (said ++ more) (told ++ others)
-    × (e ≡ Output) × Appends old new said × Appends heard after told))

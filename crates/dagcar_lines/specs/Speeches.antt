@@ -8,7 +8,7 @@ use Rattle.dagcbor_car.specs.Versions.{IsFile}
 use Rattle.dagcbor_car.specs.Sources.{RefusesStart, RefusesSection}
 use Rattle.dagcbor_car.specs.Checks.{IsFileFront, IsNoFile}
 use Rattle.dagcbor_car.specs.declared.error.CarError.{CarError}
-use Rattle.dagcar_lines.specs.Lines.{refused_line}
+use Rattle.block_lines.specs.Lines.{refused_line}
 use Rattle.dagcbor_cli.specs.declared.fault.ToolError.{ToolError}
 use Rattle.dagcbor_cli.specs.declared.fault.ToolError.TheVariants.{Output}
 

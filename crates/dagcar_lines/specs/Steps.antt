@@ -1,108 +1,94 @@
 -- What is said of a file, step by step.
-use Rattle.std.specs.Prelude.{◌≡◌, ◌⊎◌, ◌∷◌, ℕ, List, [], ◌++◌, Vec, Bool, ⊤, Option, Some, Result, MatchResult, OnOk, IfOk}
+use Rattle.std.specs.Prelude.{◌≡◌, ◌∷◌, ℕ, List, [], ◌++◌, ◌&&◌, Vec, Bool, false, Option, Result, Ok, Err, MatchResult, IfOk}
 use Rattle.std.specs.Io.KnownBytes.{Appends}
 use Rattle.std.specs.declared.alloc.Global.{Global}
-use Rattle.std.specs.declared.convert.Infallible.{Infallible}
 use Rattle.dagcbor_heads.specs.Reading.{Reading}
 use Rattle.dagcbor_car.specs.Car.{Section}
-use Rattle.dagcbor_car.specs.Extents.{EndsThere}
-use Rattle.dagcbor_car.specs.Sources.{RefusesNext, TakesStart, TakesSectionBytes}
-use Rattle.dagcbor_car.specs.declared.error.CarError.{CarError}
-use Rattle.dagcbor_car.specs.declared.error.CarError.TheVariants as faults
-use Rattle.dagcar_lines.specs.Lines.{refused_line, BreaksLine, Says}
+use Rattle.dagcbor_car.specs.Sources.{TakesStart}
+use Rattle.block_lines.specs.Lines.{BreaksLine, Says}
 use Rattle.dagcar_lines.specs.Speeches.{Speech, SaysFile}
+use Rattle.dagcar_lines.specs.declared.take.Ended.{Ended}
+use Rattle.dagcar_lines.specs.declared.take.Ended.TheVariants as ended
+use Rattle.dagcar_lines.specs.declared.walk.Telling.{Telling}
 use Rattle.dagcbor_cli.specs.declared.fault.ToolError.{ToolError}
-use Rattle.dagcar_lines.specs.declared.walk.Found.{Found}
-use Rattle.dagcar_lines.specs.declared.walk.Found.TheVariants as found
 
 -- ---- what a teller knows
 
+-- what a teller knows behind these sections of a file of these roots
+abbrev pub Knowing : Type 0 → Type 1
+Knowing T = T → List (List ℕ) → List Section → Type 0
+
 -- what is known behind this section, whatever stood before
-abbrev pub KnowsMore : {T : Type 0} → (T → List (List ℕ) → List Section → Type 0) → Section → T
-    → T → Type 0
+abbrev pub KnowsMore : {T : Type 0} → Knowing T → Section → T → T → Type 0
 KnowsMore knows s old new = (roots : List (List ℕ)) (sections : List Section)
     → knows old roots sections → knows new roots (sections ++ s ∷ [])
 
 -- what is said at the end of each file behind whose sections this is known
-abbrev pub TellsEnd : {T E : Type 0} → Speech → (T → List (List ℕ) → List Section → Type 0) → T
-    → Result (Vec ℕ Global × Bool) E → Type 0
+abbrev pub TellsEnd : {T E : Type 0} → Speech → Knowing T → T → Result (Vec ℕ Global × Bool) E
+    → Type 0
 TellsEnd speech knows teller result = (roots : List (List ℕ)) (sections : List Section)
     → knows teller roots sections → IfOk result (λ p. speech.of_end roots sections p.1 p.0.items)
 
--- ---- one step
+-- ---- a teller at work
 
--- a section is taken, and its line went out
-abbrev pub SaysSection : {T : Type 0} → Speech → (T → List (List ℕ) → List Section → Type 0)
-    → Section → T → Option (List ℕ) → Result Bool ToolError → T → Option (List ℕ) → Type 0
-SaysSection speech knows s old before result new after =
-    Says (speech.of_section s) before result after × OnOk result (KnowsMore knows s old new)
+-- the teller, whether nothing is wrong so far, what the output holds, and through which reference it
+-- is written
+pub record Work (T : Type 0) : Type 0 where
+  pub teller : T
+  pub well : Bool
+  pub written : Option (List ℕ)
+  pub through : ℕ
 
--- the refusal is one of the bytes
-abbrev pub IsOfBytes : {E : Type 0} → CarError E → Type 0
-IsOfBytes (faults.Read f) = ⊥
-IsOfBytes faults.OutOfMemory = ⊥
-IsOfBytes _ = ⊤
+-- what contracts see of a teller at work, of whose output the bytes are told so
+abbrev pub work_of : {T W : Type 0} → (W → Option (List ℕ)) → Telling T W → Work T
+work_of contents t = record {
+  teller = t.teller;
+  well = t.well;
+  written = contents t.output.now;
+  through = t.output.ghost_name;
+}
 
--- a refusal of the bytes is said
-abbrev pub SaysRefusal : {E A : Type 0} → CarError E → Option (List ℕ) → Result A ToolError
-    → Option (List ℕ) → Type 0
-SaysRefusal error before result after = MatchResult result
-    (λ _. IsOfBytes error × Appends before after (refused_line error))
-    (λ e. BreaksLine (λ text. IsOfBytes error × (text ≡ refused_line error)) before after e)
+-- a section was told, and its lines went out
+abbrev pub TellsSection : {T : Type 0} → Speech → Knowing T → Section → Work T → Work T → Type 0
+TellsSection speech knows s old new = (well : Bool) × (text : List ℕ)
+    × speech.of_section s well text × KnowsMore knows s old.teller new.teller
+    × (new.well ≡ (old.well && well)) × Appends old.written new.written text
 
--- the known bytes are refused so
-abbrev pub IsRefused : Option ℕ → Reading → CarError Infallible → Type 0
-IsRefused extent source error = (b : List ℕ) → source.left ≡ Some b → RefusesNext extent error b
+-- the same, or its lines broke off
+abbrev pub SaysSection : {T : Type 0} → Speech → Knowing T → Section → Work T
+    → Result (Unit {0}) ToolError → Work T → Type 0
+SaysSection speech knows s old result new = (new.through ≡ old.through) × MatchResult result
+    (λ _. TellsSection speech knows s old new)
+    (λ e. BreaksLine (λ text. (well : Bool) × speech.of_section s well text) old.written new.written e)
 
--- the line of what stands next: a section, or none for this cause
-abbrev pub IsNextLine : Speech → Option ℕ → Reading → List ℕ → Type 0
-IsNextLine speech extent source text =
-    ((s : Section) × (more : Option ℕ) × (behind : Reading)
-    × TakesSectionBytes extent source s more behind
-    × ((well : Bool) × speech.of_section s well text))
-    ⊎ ((error : CarError Infallible) × IsRefused extent source error × (text ≡ refused_line error))
+-- ---- the end
 
--- what was found next, and its line went out
-abbrev pub SaysFound : {T : Type 0} → Speech → (T → List (List ℕ) → List Section → Type 0)
-    → Option ℕ → Reading → T → Option (List ℕ) → Found → Option ℕ → Reading → T
-    → Option (List ℕ) → Type 0
-SaysFound speech knows extent source old before (found.Section well) more behind new after =
-    (s : Section) × TakesSectionBytes extent source s more behind × KnowsMore knows s old new
-    × ((text : List ℕ) × speech.of_section s well text × Appends before after text)
-SaysFound speech knows extent source old before found.End more behind new after =
-    EndsThere extent source more behind × (new ≡ old) × (after ≡ before)
-SaysFound speech knows extent source old before found.Fault more behind new after =
-    (error : CarError Infallible) × IsRefused extent source error
-    × Appends before after (refused_line error)
-
--- What stands next in a file is said in a line, or a line broke off.
-abbrev pub SaysNext : {T : Type 0} → Speech → (T → List (List ℕ) → List Section → Type 0)
-    → Option ℕ → Reading → T → Option (List ℕ) → Result Found ToolError → Option ℕ → Reading → T
-    → Option (List ℕ) → Type 0
-SaysNext speech knows extent source old before result more behind new after = MatchResult result
-    (λ next. SaysFound speech knows extent source old before next more behind new after)
-    (λ e. BreaksLine (IsNextLine speech extent source) before after e)
+-- what is said behind the sections: at the end of a file; or of what stands there, which is none
+abbrev pub SaysRest : {T : Type 0} → Speech → Knowing T → T → Bool → Result (Ended ToolError) ToolError
+    → Option (List ℕ) → Result Bool ToolError → Option (List ℕ) → Type 0
+SaysRest speech knows teller well (Ok ended.Whole) before result after =
+    (roots : List (List ℕ)) (sections : List Section) → knows teller roots sections
+    → Says (λ answer text. (end_well : Bool) × speech.of_end roots sections end_well text
+    × (answer ≡ (end_well && well))) before result after
+SaysRest speech knows teller well (Ok (ended.Stopped e)) before result after =
+    (result ≡ Err e) × (after ≡ before)
+SaysRest speech knows teller well (Ok (ended.Fault line)) before result after =
+    Says (λ answer text. (answer ≡ false) × (text ≡ line.items)) before result after
+SaysRest speech knows teller well (Err e) before result after = (result ≡ Err e) × (after ≡ before)
 
 -- ---- the whole
 
--- what is said at the end of a file went out
-abbrev pub SaysEnd : {T : Type 0} → Speech → (T → List (List ℕ) → List Section → Type 0) → T
-    → Option (List ℕ) → Result Bool ToolError → Option (List ℕ) → Type 0
-SaysEnd speech knows teller before result after = (roots : List (List ℕ)) (sections : List Section)
-    → knows teller roots sections → Says (speech.of_end roots sections) before result after
-
 -- all is said of a file behind its header, of whose roots it was said before
-abbrev pub SaysSections : {T : Type 0} → Speech → (T → List (List ℕ) → List Section → Type 0)
-    → Option ℕ → Reading → T → Option (List ℕ) → Result Bool ToolError → Option (List ℕ) → Type 0
+abbrev pub SaysSections : {T : Type 0} → Speech → Knowing T → Option ℕ → Reading → T
+    → Option (List ℕ) → Result Bool ToolError → Option (List ℕ) → Type 0
 SaysSections speech knows extent source teller before result after =
     (start : Reading) (roots : List (List ℕ)) (old : Option (List ℕ))
     → TakesStart start roots extent source → knows teller roots [] → Appends old before (speech.of_roots roots)
     → SaysFile speech start old result after
 
 -- the same, where nothing was said of its roots yet
-abbrev pub SaysHeader : {T : Type 0} → Speech → (T → List (List ℕ) → List Section → Type 0)
-    → Option ℕ → Reading → List ℕ → T → Option (List ℕ) → Result Bool ToolError
-    → Option (List ℕ) → Type 0
+abbrev pub SaysHeader : {T : Type 0} → Speech → Knowing T → Option ℕ → Reading → List ℕ → T
+    → Option (List ℕ) → Result Bool ToolError → Option (List ℕ) → Type 0
 SaysHeader speech knows extent source text teller old result new =
     (start : Reading) (roots : List (List ℕ)) → TakesStart start roots extent source
     → knows teller roots [] → text ≡ speech.of_roots roots → SaysFile speech start old result new

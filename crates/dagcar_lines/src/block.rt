@@ -3,22 +3,24 @@
 ghost use Rattle.std.specs.Prelude.{◌≡◌, ◌++◌, [], codes, true, false, IfOk, IfSome, if◌then◌else◌};
 ghost use Rattle.cid_text.specs.Texts.{cid_text};
 ghost use Rattle.dagcbor_items.specs.PrintedNames.{variant_name};
-ghost use Rattle.dagcar_lines.specs.Lines.{line, reserved_line, Says, SaysBoth};
+ghost use Rattle.block_lines.specs.Lines.{line, SaysBoth};
+ghost use Rattle.dagcar_lines.specs.Lines.{reserved_line, place_line};
 ghost use Rattle.ipld_tree.specs.Ipld.{tree_of};
 ghost use Rattle.dag_json.specs.DagJson.{dag_json, has_reserved_key};
-ghost use Rattle.dagcar_lines.specs.Answers.{IsJudged, IsNamed, IsShown, SaidOf};
+ghost use Rattle.dagcar_lines.specs.Answers.{IsJudged, IsNamed, IsShown};
 
-use crate::line::{Said, line_of, say, say_both};
+use block_lines::{Said, line_of, say_both};
 use cid_text::cid_text;
 use dag_json::{dag_json, has_reserved_key};
-use dagcbor_car::name_of_block;
 use dagcbor_cli::ToolError;
-use dagcbor_heads::DecodeError;
-use dagcbor_items::{any_from_slice, check_slice, kind_name, variant_name};
+use dagcbor_items::{Refused, any_from_slice, judge_slice, kind_name, variant_name};
+use ipld_links::name_of_block;
 use ipld_tree::{Cid, Ipld};
 use std::alloc::{AllocError, Global};
-use std::convert::Infallible;
 use std::io::{BufRead, ErrorKind, Write};
+
+/// What is said of a block, and what is told beside that.
+type Answer = (Said, Vec<u8>);
 
 /// All bytes of the input.
 pub fn read_all<R: BufRead>(alloc: Global, input: &mut R) -> Result<Vec<u8>, ToolError>
@@ -32,50 +34,37 @@ pub fn read_all<R: BufRead>(alloc: Global, input: &mut R) -> Result<Vec<u8>, Too
     }
 }
 
-/// A line that tells of nothing wrong.
-fn well_said(line: Result<Vec<u8>, AllocError>) -> Result<Said, AllocError>
-    ensures { SaidOf line true result }
+/// The line of bytes that are no block, with the byte by which they are none.
+fn place_line(alloc: Global, refused: &Refused) -> Result<Vec<u8>, AllocError>
+    ensures { IfOk result (λ v. v.items ≡ place_line refused.now.cause refused.now.place) }
 {
-    match line {
-        Ok(line) => Ok((line, true)),
-        Err(error) => Err(error),
-    }
+    let place = format!(in alloc; " at byte {}", refused.place)?;
+    let name = variant_name(&refused.cause);
+    line_of(alloc, b"refused ", name.as_bytes(), place.as_bytes())
 }
 
-/// A line that tells of something wrong.
-fn ill_said(line: Result<Vec<u8>, AllocError>) -> Result<Said, AllocError>
-    ensures { SaidOf line false result }
+/// What is said of bytes that are no block, and where that is told.
+fn refused_of(alloc: Global, refused: &Refused) -> Result<Answer, AllocError>
+    ensures { IfOk result (λ p. (p.0.1 ≡ false)
+        × (p.0.0.items ≡ line (codes "refused " ++ variant_name refused.now.cause))
+        × (p.1.items ≡ place_line refused.now.cause refused.now.place)) }
 {
-    match line {
-        Ok(line) => Ok((line, false)),
-        Err(error) => Err(error),
-    }
-}
-
-/// The line of bytes that are no block.
-fn no_block_line(alloc: Global, refusal: &DecodeError<Infallible>) -> Result<Vec<u8>, AllocError>
-    ensures { IfOk result (λ v. v.items ≡ line (codes "refused " ++ variant_name refusal.now)) }
-{
-    line_of(alloc, b"refused ", variant_name(refusal).as_bytes(), b"")
+    let name = variant_name(&refused.cause);
+    let line = line_of(alloc, b"refused ", name.as_bytes(), b"")?;
+    let told = place_line(alloc, refused)?;
+    Ok(((line, false), told))
 }
 
 /// The kind of the block, or why the bytes are none.
-fn judged(alloc: Global, block: &[u8]) -> Result<Said, AllocError>
-    ensures { IfOk result (λ p. IsJudged block.now p.1 p.0.items) }
+fn judged(alloc: Global, block: &[u8]) -> Result<Answer, AllocError>
+    ensures { IfOk result (λ p. IsJudged block.now p.0.1 p.0.0.items p.1.items) }
 {
-    match check_slice(block) {
-        Ok(kind) => well_said(line_of(alloc, b"ok ", kind_name(kind).as_bytes(), b"")),
-        Err(refusal) => ill_said(no_block_line(alloc, &refusal)),
-    }
-}
-
-/// The name of the block, or why the bytes are none.
-fn named(alloc: Global, block: &[u8]) -> Result<Said, AllocError>
-    ensures { IfOk result (λ p. IsNamed block.now p.1 p.0.items) }
-{
-    match check_slice(block) {
-        Ok(_kind) => well_said(name_line(alloc, &name_of_block(block))),
-        Err(refusal) => ill_said(no_block_line(alloc, &refusal)),
+    match judge_slice(block) {
+        Ok(kind) => {
+            let line = line_of(alloc, b"ok ", kind_name(kind).as_bytes(), b"")?;
+            Ok(((line, true), Vec::new(alloc)))
+        }
+        Err(refused) => refused_of(alloc, &refused),
     }
 }
 
@@ -84,6 +73,19 @@ fn name_line(alloc: Global, cid: &Cid) -> Result<Vec<u8>, AllocError>
     ensures { IfOk result (λ v. v.items ≡ line (cid_text cid.now)) }
 {
     line_of(alloc, &cid_text(cid), b"", b"")
+}
+
+/// The name of the block, or why the bytes are none.
+fn named(alloc: Global, block: &[u8]) -> Result<Answer, AllocError>
+    ensures { IfOk result (λ p. IsNamed block.now p.0.1 p.0.0.items p.1.items) }
+{
+    match judge_slice(block) {
+        Ok(_kind) => {
+            let line = name_line(alloc, &name_of_block(block))?;
+            Ok(((line, true), Vec::new(alloc)))
+        }
+        Err(refused) => refused_of(alloc, &refused),
+    }
 }
 
 /// The line of the data.
@@ -98,62 +100,55 @@ fn data_line(alloc: Global, value: &Ipld) -> Result<Vec<u8>, AllocError>
 const RESERVED_LINE: &[u8] = b"dagcar: a map with the key / looks like a link or like bytes\n";
 
 /// What is told of the data.
-fn told_of(value: &Ipld) -> &'static [u8]
-    ensures { result.now ≡ (if has_reserved_key (tree_of value.now) then reserved_line else []) }
+fn told_of(alloc: Global, value: &Ipld) -> Result<Vec<u8>, AllocError>
+    ensures { IfOk result (λ v. v.items
+        ≡ (if has_reserved_key (tree_of value.now) then reserved_line else [])) }
 {
     if has_reserved_key(value) {
-        RESERVED_LINE
+        RESERVED_LINE.to_vec(alloc)
     } else {
-        b""
+        Ok(Vec::new(alloc))
     }
 }
 
-/// What is said of bytes that are no block, of which nothing is told.
-fn refused(
-    alloc: Global,
-    refusal: &DecodeError<Infallible>,
-) -> Result<(Said, &'static [u8]), ToolError>
-    ensures { IfOk result (λ p. (p.0.1 ≡ false) × (p.1.now ≡ [])
-        × (p.0.0.items ≡ line (codes "refused " ++ variant_name refusal.now))) }
+/// What is said of the data, and what is told of it.
+fn data_of(alloc: Global, value: &Ipld) -> Result<Answer, AllocError>
+    ensures { IfOk result (λ p. (p.0.1 ≡ true) × (p.0.0.items ≡ line (dag_json (tree_of value.now)))
+        × (p.1.items ≡ (if has_reserved_key (tree_of value.now) then reserved_line else []))) }
 {
-    match no_block_line(alloc, refusal) {
-        Ok(line) => Ok(((line, false), b"")),
-        Err(_) => Err(ToolError::OutOfMemory),
-    }
+    let line = data_line(alloc, value)?;
+    let told = told_of(alloc, value)?;
+    Ok(((line, true), told))
 }
 
 /// The data of the block, or why the bytes are none; and what is told of it. The bytes are judged
-/// first: for a tree of what is no block no memory is taken.
-fn shown(alloc: Global, block: &[u8]) -> Result<(Said, &'static [u8]), ToolError>
-    ensures { IfOk result (λ p. IsShown block.now p.0.1 p.0.0.items p.1.now) }
+/// first: for a tree of what is no block no memory is taken, and a block lacks nothing but memory.
+pub fn shown(alloc: Global, block: &[u8]) -> Result<Answer, AllocError>
+    ensures { IfOk result (λ p. IsShown block.now p.0.1 p.0.0.items p.1.items) }
 {
-    if let Err(refusal) = check_slice(block) {
-        return refused(alloc, &refusal);
+    if let Err(refused) = judge_slice(block) {
+        return refused_of(alloc, &refused);
     }
     match any_from_slice(alloc, block) {
-        Ok(data) => match data_line(alloc, &data) {
-            Ok(line) => Ok(((line, true), told_of(&data))),
-            Err(_) => Err(ToolError::OutOfMemory),
-        },
-        Err(refusal) => match refusal {
-            DecodeError::OutOfMemory => Err(ToolError::OutOfMemory),
-            other => refused(alloc, &other),
-        },
+        Ok(data) => data_of(alloc, &data),
+        Err(_) => Err(AllocError),
     }
 }
 
 /// Writes the name of the block that the input is, or why it is none. Whether it is one.
-pub fn say_name<R: BufRead, W: Write>(
+pub fn say_name<R: BufRead, W: Write, V: Write>(
     alloc: Global,
     input: &mut R,
     output: &mut W,
+    errors: &mut V,
 ) -> Result<bool, ToolError>
     ensures { IfSome (R.remaining input.old) (λ b.
-        Says (IsNamed b) (W.contents output.old) result (W.contents output.new)) }
+        SaysBoth (IsNamed b) (W.contents output.old) (V.contents errors.old) result
+        (W.contents output.new) (V.contents errors.new)) }
 {
     match read_all(alloc, input) {
         Ok(block) => match named(alloc, &block) {
-            Ok(said) => say(said, output),
+            Ok((said, told)) => say_both(said, &told, output, errors),
             Err(_) => Err(ToolError::OutOfMemory),
         },
         Err(fault) => Err(fault),
@@ -161,17 +156,19 @@ pub fn say_name<R: BufRead, W: Write>(
 }
 
 /// Writes the kind of the block that the input is, or why it is none. Whether it is one.
-pub fn say_kind<R: BufRead, W: Write>(
+pub fn say_kind<R: BufRead, W: Write, V: Write>(
     alloc: Global,
     input: &mut R,
     output: &mut W,
+    errors: &mut V,
 ) -> Result<bool, ToolError>
     ensures { IfSome (R.remaining input.old) (λ b.
-        Says (IsJudged b) (W.contents output.old) result (W.contents output.new)) }
+        SaysBoth (IsJudged b) (W.contents output.old) (V.contents errors.old) result
+        (W.contents output.new) (V.contents errors.new)) }
 {
     match read_all(alloc, input) {
         Ok(block) => match judged(alloc, &block) {
-            Ok(said) => say(said, output),
+            Ok((said, told)) => say_both(said, &told, output, errors),
             Err(_) => Err(ToolError::OutOfMemory),
         },
         Err(fault) => Err(fault),
@@ -191,8 +188,8 @@ pub fn say_data<R: BufRead, W: Write, V: Write>(
 {
     match read_all(alloc, input) {
         Ok(block) => match shown(alloc, &block) {
-            Ok((said, told)) => say_both(said, told, output, errors),
-            Err(fault) => Err(fault),
+            Ok((said, told)) => say_both(said, &told, output, errors),
+            Err(_) => Err(ToolError::OutOfMemory),
         },
         Err(fault) => Err(fault),
     }

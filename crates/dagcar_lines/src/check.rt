@@ -1,57 +1,18 @@
 //! `check`: the verdict on each section, and then the roots and the links that lead nowhere.
 
-ghost use Rattle.std.specs.Prelude.{◌≡◌, ◌↔◌, ◌++◌, ◌∷◌, [], List, ℕ, IsTrue, IfOk, OnOk};
+ghost use Rattle.std.specs.Prelude.{◌≡◌, ◌↔◌, [], IsTrue, IfOk, OnOk};
 ghost use Rattle.std.specs.List.{flat_map};
-ghost use Rattle.dagcbor_items.specs.Walks.{forms};
 ghost use Rattle.dagcbor_car.specs.Checks.{IsAfter, TakesSection};
-ghost use Rattle.dagcar_lines.specs.Lines.{verdict_text, is_well, told_line, missing_line};
+ghost use Rattle.block_lines.specs.Lines.{missing_line};
 ghost use Rattle.dagcar_lines.specs.Answers.{IsVerdictLine, check_speech};
 ghost use Rattle.dagcar_lines.specs.Steps.{TellsEnd};
 
-use crate::line::{Said, line_of, missing_lines};
 use crate::walk::Teller;
-use cid_text::cid_text;
-use dagcbor_car::{CarCheck, Section, Verdict};
-use dagcbor_items::{kind_name, variant_name};
+use block_lines::{Said, is_none, missing_lines, told_line};
+use dagcbor_car::{CarCheck, Section};
+use ipld_links::Verdict;
 use ipld_tree::Cid;
 use std::alloc::{AllocError, Global};
-
-/// A verdict in words: what is found, and the name of a kind or a refusal.
-fn verdict_words(verdict: &Verdict) -> (&'static str, &'static str)
-    ensures { result.0.now ++ result.1.now ≡ 32 ∷ verdict_text verdict.now }
-{
-    match verdict {
-        Verdict::Block(kind) => (" ok ", kind_name(*kind)),
-        Verdict::Refused(refusal) => (" refused ", variant_name(refusal)),
-        Verdict::OtherBytes => (" other bytes", ""),
-        Verdict::NotRead => (" not read", ""),
-        Verdict::Unverified => (" not verified", ""),
-    }
-}
-
-/// Whether a verdict tells of nothing wrong.
-fn is_well(verdict: &Verdict) -> bool
-    ensures { result ≡ is_well verdict.now }
-{
-    match verdict {
-        Verdict::Block(_) => true,
-        Verdict::Refused(_) => false,
-        Verdict::OtherBytes => false,
-        Verdict::NotRead => true,
-        Verdict::Unverified => false,
-    }
-}
-
-/// The line of a section under this name, with this verdict.
-fn told_line(alloc: Global, cid: &Cid, verdict: &Verdict) -> Result<Said, AllocError>
-    ensures line { (block : List ℕ)
-        → IfOk result (λ p. p.0.items ≡ told_line ((cid.now, block), verdict.now)) }
-    ensures well { IfOk result (λ p. p.1 ≡ is_well verdict.now) }
-{
-    let (found, which) = verdict_words(verdict);
-    let line = line_of(alloc, &cid_text(cid), found.as_bytes(), which.as_bytes())?;
-    Ok((line, is_well(verdict)))
-}
 
 /// Takes the section, and answers the line of the verdict on it.
 fn verdict_said(
@@ -70,19 +31,9 @@ fn verdict_said(
     }
 }
 
-/// Whether there is none.
-pub fn is_none(names: &[Cid]) -> bool
-    ensures { IsTrue result ↔ (names.now ≡ []) }
-{
-    match names {
-        [] => true,
-        _ => false,
-    }
-}
-
 /// The lines of these names. Nothing is wrong where there is none.
 fn names_said(alloc: Global, names: &[Cid]) -> Result<Said, AllocError>
-    ensures lines { IfOk result (λ p. p.0.items ≡ flat_map missing_line (forms names.now)) }
+    ensures lines { IfOk result (λ p. p.0.items ≡ flat_map missing_line names.now) }
     ensures well { IfOk result (λ p. IsTrue p.1 ↔ (names.now ≡ [])) }
 {
     let lines = missing_lines(alloc, names)?;

@@ -1,28 +1,41 @@
 //! The program's words, and what it answers to them.
 
-ghost use Rattle.std.specs.Prelude.{◌≡◌, ◌≢◌, [], ◌∷◌, codes, map, string_bytes, IfSome, MatchOption, Result, Bool, Option, List, ℕ};
+ghost use Rattle.std.specs.Prelude.{◌≡◌, ◌≢◌, [], ◌∷◌, ◌++◌, codes, true, map, string_bytes, IfSome, MatchOption, Result, Bool, Option, None, Some, List, ℕ};
 ghost use Rattle.dagcbor_heads.specs.Inputs.{input_reading, not_lending};
 ghost use Rattle.dagcar_lines.specs.Answers.{RunsCommand, EndsSo, IsQuiet};
 ghost use Rattle.dagcar_lines.specs.Speeches.{SaysBytes};
+ghost use Rattle.block_lines.specs.Lines.{no_cid_line, Says};
 ghost use Rattle.dagcbor_cli.specs.declared.fault.ToolError.{ToolError};
-ghost use Rattle.dagcar_lines.specs.Commands.{IsCommand, IsCommandOn};
+ghost use Rattle.dagcar_lines.specs.Commands.{IsCommand, IsCommandOn, IsMistyped};
+ghost use Rattle.dagcar_lines.specs.Commands.{name_part, path_part, path_of};
+ghost use Rattle.dagcar_lines.specs.declared.command.Command.TheVariants.{At, Summary};
+ghost use Rattle.ipld_tree.specs.Cid.{CidParts};
+ghost use Rattle.cid_text.specs.Texts.{IsTextFault, IsTextOf};
+ghost use Rattle.cid_text.specs.declared.error.CidTextError.{CidTextError};
+ghost use Rattle.dagcbor_cli.specs.Writing.{WritesFront};
 
+use crate::at::write_at;
 use crate::block::{say_data, say_kind, say_name};
 use crate::get::get_block;
+use crate::help::{help_text, version_text};
 use crate::list::Listing;
 use crate::make::make_block;
+use crate::summary::Summing;
 use crate::tree::write_tree;
+use crate::verify::Verifying;
 use crate::walk::{Teller, say_file};
-use cid_text::{cid_from_text, laws};
+use block_lines::no_cid_line;
+use cid_text::{CidTextError, cid_from_text, laws};
 use dagcbor_car::CarCheck;
-use dagcbor_cli::{ToolError, give_up};
+use dagcbor_cli::{ToolError, give_up, write_all};
 use dagcbor_heads::{Input, IoRefReader, Read};
 use ipld_tree::Cid;
 use std::alloc::Global;
 use std::io::{BufRead, Write};
 
 /// What is told of wrong words.
-pub const USAGE: &str = "usage: dagcar check|list|name|one|show|make|get CID|tree CID\n";
+pub const USAGE: &str =
+    "usage: dagcar check [--summary]|verify|list|name|one|show|make|get CID|tree CID|at CID/PATH\n";
 
 /// What is told of want of memory.
 pub const OUT_OF_MEMORY: &str = "dagcar: out of memory\n";
@@ -32,6 +45,14 @@ pub const OUT_OF_MEMORY: &str = "dagcar: out of memory\n";
 pub enum Command {
     /// To judge a file of blocks.
     Check,
+    /// To judge a file of blocks, and to count its sections by their verdicts.
+    Summary,
+    /// To judge the sections of a file of blocks, and follow no link.
+    Verify,
+    /// To tell of the program.
+    Help,
+    /// To tell its version.
+    Version,
     /// To list a file of blocks.
     List,
     /// To name a block.
@@ -46,6 +67,8 @@ pub enum Command {
     Get(Cid),
     /// To write the blocks that links lead to from this root.
     Tree(Cid),
+    /// To show what a path leads to from this root.
+    At(Cid),
 }
 
 /// The command of this one word.
@@ -55,6 +78,9 @@ fn command_named(name: &str) -> Option<Command>
 {
     match name {
         "check" => Some(Command::Check),
+        "verify" => Some(Command::Verify),
+        "--help" => Some(Command::Help),
+        "--version" => Some(Command::Version),
         "list" => Some(Command::List),
         "name" => Some(Command::Name),
         "one" => Some(Command::One),
@@ -76,11 +102,61 @@ fn command_on(word: &str, name: Cid) -> Option<Command>
     }
 }
 
-/// The command of a word and a CID as text.
+/// A name and a path: the text before its first slash, and behind it.
+fn split_path(text: &str) -> (&str, &str)
+    ensures name { result.0.now ≡ name_part text.now }
+    ensures path { result.1.now ≡ path_part text.now }
+{
+    match text.split_once('/') {
+        Some((name, path)) => (name, path),
+        None => (text, ""),
+    }
+}
+
+/// The command `at` of a text: a CID, and a path behind it.
+fn command_at(text: &str) -> Option<Command>
+    ensures { MatchOption result ((n : CidParts) → ¬ IsTextOf (name_part text.now) n)
+        (λ c. (n : CidParts) × (c ≡ At n) × IsTextOf (name_part text.now) n) }
+{
+    let (name, _path) = split_path(text);
+    match cid_from_text(name.as_bytes()) {
+        Ok(root) => Some(Command::At(root)),
+        Err(_) => None,
+    }
+}
+
+/// The command `check` with this word behind it.
+fn check_with(option: &str) -> Option<Command>
+    ensures { MatchOption result (option.now ≢ codes "--summary")
+        (λ c. (c ≡ Summary) × (option.now ≡ codes "--summary")) }
+{
+    match option {
+        "--summary" => Some(Command::Summary),
+        _ => None,
+    }
+}
+
+/// The path in the words.
+fn path_of(args: &[String]) -> &str
+    ensures { result.now ≡ path_of (map string_bytes args.now) }
+{
+    match args {
+        [_word, text] => split_path(text.as_str()).1,
+        _ => "",
+    }
+}
+
+/// The command of a word and a CID as text, with a path behind it where the word is `at`.
 fn command_on_text(word: &str, text: &str) -> Option<Command>
     ensures { MatchOption result ((c : Command) → ¬ IsCommand (word.now ∷ text.now ∷ []) c)
         (λ c. IsCommand (word.now ∷ text.now ∷ []) c) }
 {
+    if word == "at" {
+        return command_at(text);
+    }
+    if word == "check" {
+        return check_with(text);
+    }
     match cid_from_text(text.as_bytes()) {
         Ok(name) => command_on(word, name),
         Err(_) => None,
@@ -96,6 +172,77 @@ fn command_of(args: &[String]) -> Option<Command>
         [word] => command_named(word.as_str()),
         [word, text] => command_on_text(word.as_str(), text.as_str()),
         _ => None,
+    }
+}
+
+/// Why the text is none of a CID.
+fn text_fault(text: &str) -> Option<CidTextError>
+    ensures { (e : CidTextError) → IsTextFault e text.now → result ≡ Some e }
+{
+    laws::text_faults();
+    match cid_from_text(text.as_bytes()) {
+        Ok(_cid) => None,
+        Err(fault) => Some(fault),
+    }
+}
+
+/// Why no CID stands where one should, behind this word.
+fn no_cid_behind(word: &str, text: &str) -> Option<CidTextError>
+    ensures { (e : CidTextError) → IsMistyped (word.now ∷ text.now ∷ []) e → result ≡ Some e }
+{
+    match word {
+        "get" | "tree" => text_fault(text),
+        "at" => text_fault(split_path(text).0),
+        _ => None,
+    }
+}
+
+/// Why no CID stands in the words where one should.
+fn no_cid_in(args: &[String]) -> Option<CidTextError>
+    ensures { (e : CidTextError) → IsMistyped (map string_bytes args.now) e → result ≡ Some e }
+{
+    match args {
+        [word, text] => no_cid_behind(word.as_str(), text.as_str()),
+        _ => None,
+    }
+}
+
+/// Tells what is wrong with the words, and answers the status.
+fn tell_wrong<V: Write>(args: &[String], errors: &mut V) -> u8
+    ensures status { result ≡ 2 }
+    ensures told { (e : CidTextError) → IsMistyped (map string_bytes args.now) e
+        → (told : Result (Unit {0}) ToolError)
+        × WritesFront (V.contents errors.old) (V.contents errors.new) told (no_cid_line e) }
+{
+    match no_cid_in(args) {
+        Some(fault) => give_up(errors, no_cid_line(&fault), 2),
+        None => give_up(errors, USAGE, 2),
+    }
+}
+
+/// Whether the words are a command, or lack no more than a CID where one should stand.
+fn begin_so(words: &[String]) -> bool
+    ensures { (c : Command) → IsCommand (map string_bytes words.now) c → result ≡ true }
+{
+    command_of(words).is_some() || no_cid_in(words).is_some()
+}
+
+/// The words of a command, and the file that is named behind them, if one is. Words that are a command
+/// name none.
+pub fn split_words(args: &[String]) -> (&[String], Option<&str>)
+    ensures split { MatchOption result.1 (map string_bytes result.0.now ≡ map string_bytes args.now)
+        (λ file. map string_bytes args.now ≡ map string_bytes result.0.now ++ file.now ∷ []) }
+    ensures whole { (c : Command) → IsCommand (map string_bytes args.now) c → result.1 ≡ None }
+    ensures named { (words : List (List ℕ)) (file : List ℕ) (c : Command)
+        → map string_bytes args.now ≡ words ++ file ∷ [] → IsCommand words c
+        → ((d : Command) → ¬ IsCommand (map string_bytes args.now) d) → result.1 ≢ None }
+{
+    if command_of(args).is_some() {
+        return (args, None);
+    }
+    match args {
+        [words @ .., file] if begin_so(words) => (words, Some(file.as_str())),
+        _ => (args, None),
     }
 }
 
@@ -137,28 +284,43 @@ fn say_input<T: Teller, R: BufRead, W: Write>(
     result
 }
 
+/// Says this, which is well.
+fn say_text<W: Write>(text: &str, output: &mut W) -> Result<bool, ToolError>
+    ensures { Says (λ well out. (well ≡ true) × (out ≡ text.now)) (W.contents output.old) result
+        (W.contents output.new) }
+{
+    write_all(output, text.as_bytes())?;
+    Ok(true)
+}
+
 /// Says of the input what the command asks, and answers whether nothing is wrong.
 pub fn run<R: BufRead, W: Write, V: Write>(
     alloc: Global,
     command: Command,
+    path: &str,
     input: &mut R,
     output: &mut W,
     errors: &mut V,
 ) -> Result<bool, ToolError>
     ensures runs { IfSome (R.remaining input.old) (λ b.
-        RunsCommand command b (W.contents output.old) (V.contents errors.old) result
+        RunsCommand command path.now b (W.contents output.old) (V.contents errors.old) result
         (W.contents output.new) (V.contents errors.new)) }
     ensures quiet { IsQuiet command → errors.new ≡ errors.old }
 {
     match command {
         Command::Check => say_input::<CarCheck, R, W>(alloc, input, output),
+        Command::Summary => say_input::<Summing, R, W>(alloc, input, output),
+        Command::Verify => say_input::<Verifying, R, W>(alloc, input, output),
+        Command::Help => say_text(help_text(), output),
+        Command::Version => say_text(version_text(), output),
         Command::List => say_input::<Listing, R, W>(alloc, input, output),
-        Command::Name => say_name(alloc, input, output),
-        Command::One => say_kind(alloc, input, output),
+        Command::Name => say_name(alloc, input, output, errors),
+        Command::One => say_kind(alloc, input, output, errors),
         Command::Show => say_data(alloc, input, output, errors),
         Command::Make => make_block(alloc, input, output, errors),
         Command::Get(name) => get_block(alloc, &name, input, output, errors),
         Command::Tree(root) => write_tree(alloc, &root, input, output, errors),
+        Command::At(root) => write_at(alloc, &root, path, input, output, errors),
     }
 }
 
@@ -172,9 +334,14 @@ pub fn run_command<R: BufRead, W: Write, V: Write>(
 ) -> u8
     ensures usage { ((c : Command) → ¬ IsCommand (map string_bytes args.now) c)
         → (result ≡ 2) × (input.new ≡ input.old) × (output.new ≡ output.old) }
+    ensures mistyped { ((c : Command) → ¬ IsCommand (map string_bytes args.now) c)
+        → (e : CidTextError) → IsMistyped (map string_bytes args.now) e
+        → (told : Result (Unit {0}) ToolError)
+        × WritesFront (V.contents errors.old) (V.contents errors.new) told (no_cid_line e) }
     ensures answered { (c : Command) → IsCommand (map string_bytes args.now) c
         → IfSome (R.remaining input.old) (λ b. (ended : Result Bool ToolError)
-        × (after : Option (List ℕ)) × EndsSo ended result × RunsCommand c b (W.contents output.old)
+        × (after : Option (List ℕ)) × EndsSo ended result
+        × RunsCommand c (path_of (map string_bytes args.now)) b (W.contents output.old)
         (V.contents errors.old) ended (W.contents output.new) after
         × (result ≢ 2 → V.contents errors.new ≡ after)) }
     ensures quiet { (c : Command) → IsCommand (map string_bytes args.now) c → IsQuiet c
@@ -182,8 +349,8 @@ pub fn run_command<R: BufRead, W: Write, V: Write>(
 {
     laws::texts_tell_cids();
     let Some(command) = command_of(args) else {
-        return give_up(errors, USAGE, 2);
+        return tell_wrong(args, errors);
     };
-    let ended = run(alloc, command, input, output, errors);
+    let ended = run(alloc, command, path_of(args), input, output, errors);
     status_of(ended, errors)
 }

@@ -1,26 +1,32 @@
 //! `get`: one block of a file.
 
-ghost use Rattle.std.specs.Prelude.{◌≡◌, ◌∷◌, ◌++◌, [], List, IfOk, IfSome, MatchBool};
-ghost use Rattle.ipld_tree.specs.Cid.{CidParts};
-ghost use Rattle.dagcbor_car.specs.Car.{Section as CarSection};
-ghost use Rattle.dagcbor_car.specs.Checks.{IsHeld};
-ghost use Rattle.dagcbor_car.specs.Verdicts.{IsVerified};
-ghost use Rattle.dagcar_lines.specs.Finding.{IsGot};
-ghost use Rattle.dagcar_lines.specs.Lines.{SaysBoth};
+ghost use Rattle.std.specs.Prelude.{◌≡◌, IfOk, IfSome, MatchBool};
+ghost use Rattle.ipld_links.specs.Verdicts.{IsVerified};
+ghost use Rattle.dagcar_lines.specs.Finding.{IsGot, Seeks};
+ghost use Rattle.block_lines.specs.Lines.{SaysBoth};
 
-use crate::line::{Said, missing_lines, say_both};
-use crate::take::{Ended, Taker, take_input};
-use dagcbor_car::{Section, Verdict, verify};
+use crate::take::{Ended, take_input};
+use block_lines::{Said, missing_lines, say_both};
+use dagcbor_car::{Section, SectionSink};
 use dagcbor_cli::ToolError;
+use ipld_links::{Verdict, verify};
 use ipld_tree::Cid;
-use std::alloc::{AllocError, Global};
+use std::alloc::Global;
 use std::io::{BufRead, Write};
 
 /// What is looked for, and, once it was found, the block.
 #[derive(Drop)]
 pub struct Search {
+    alloc: Global,
     name: Cid,
     block: Vec<u8>,
+}
+
+/// Why a search takes no section more.
+#[derive(Clone, Copy, Drop)]
+pub enum Stop {
+    Enough,
+    OutOfMemory,
 }
 
 /// Whether the section is of the name, and its bytes are those that it names.
@@ -39,19 +45,22 @@ fn is_sought(name: &Cid, section: &Section<'_>) -> bool
     }
 }
 
-impl Taker for Search {
-    ghost knows = { λ first now sections. (now.name ≡ first.name) × ¬ IsHeld first.name sections };
+impl SectionSink for Search {
+    type Stop = Stop;
 
-    ghost stopped = { λ first now sections. (before : List CarSection)
-        × (sections ≡ before ++ (first.name, now.block.items) ∷ []) × ¬ IsHeld first.name before
-        × IsVerified (first.name, now.block.items) };
+    ghost takes = { Seeks };
 
-    fn take(&mut self, alloc: Global, section: &Section<'_>) -> Result<bool, AllocError> {
+    fn take(&mut self, section: &Section<'_>) -> Result<(), Stop> {
         if !is_sought(&self.name, section) {
-            return Ok(true);
+            return Ok(());
         }
-        self.block = section.block.to_vec(alloc)?;
-        Ok(false)
+        match section.block.to_vec(self.alloc) {
+            Ok(block) => {
+                self.block = block;
+                Err(Stop::Enough)
+            }
+            Err(_) => Err(Stop::OutOfMemory),
+        }
     }
 }
 
@@ -62,11 +71,13 @@ fn got<R: BufRead>(alloc: Global, name: &Cid, input: &mut R) -> Result<(Said, Ve
         (λ p. IsGot name.now b p.0.1 p.0.0.items p.1.items)) }
 {
     let mut search = Search {
+        alloc,
         name: *name,
         block: Vec::new(alloc),
     };
     match take_input(alloc, &mut search, input) {
-        Ok(Ended::Enough) => Ok(((search.block, true), Vec::new(alloc))),
+        Ok(Ended::Stopped(Stop::Enough)) => Ok(((search.block, true), Vec::new(alloc))),
+        Ok(Ended::Stopped(Stop::OutOfMemory)) => Err(ToolError::OutOfMemory),
         Ok(Ended::Whole) => {
             let line = missing_lines(alloc, &[*name])?;
             Ok(((Vec::new(alloc), false), line))

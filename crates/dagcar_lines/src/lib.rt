@@ -2,18 +2,22 @@
 //! blocks are named, judged, shown and made.
 #![tactic(auto)]
 
+mod at;
 mod block;
 mod check;
 mod command;
 mod device;
 mod get;
-mod line;
+mod help;
+mod holding;
 mod list;
 mod make;
 mod names;
+mod summary;
 mod take;
 mod tree;
+mod verify;
 mod walk;
 
-pub use command::{Command, OUT_OF_MEMORY, USAGE, run_command};
+pub use command::{Command, OUT_OF_MEMORY, USAGE, run_command, split_words};
 pub use device::OneFault;

@@ -3,11 +3,12 @@
 ghost use Rattle.std.specs.Prelude.{◌≡◌, [], true, false, IfOk, IfSome};
 ghost use Rattle.ipld_tree.specs.Ipld.{tree_of};
 ghost use Rattle.ipld_tree.specs.Spelling.{IsSpelling};
-ghost use Rattle.dagcar_lines.specs.Lines.{SaysBoth};
+ghost use Rattle.block_lines.specs.Lines.{SaysBoth};
 ghost use Rattle.dagcar_lines.specs.Answers.{IsMade};
 
 use crate::block::read_all;
-use crate::line::{Said, cause_line, say_both};
+use crate::names::cause_line;
+use block_lines::{Said, say_both};
 use dag_json::{DagJsonError, data_from_json};
 use dagcbor_cli::ToolError;
 use dagcbor_write::to_vec;

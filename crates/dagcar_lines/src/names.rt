@@ -1,26 +1,12 @@
-//! The names of the refusals of a file, and of a text.
+//! The names of the refusals of a text, and their lines.
 
-ghost use Rattle.std.specs.Prelude.{◌≡◌};
-ghost use Rattle.dagcar_lines.specs.Names.{cause_name, fault_name};
+ghost use Rattle.std.specs.Prelude.{◌≡◌, IfOk};
+ghost use Rattle.dagcar_lines.specs.Lines.{cause_line};
+ghost use Rattle.dagcar_lines.specs.Names.{cause_name};
 
-use dag_json::DagJsonError;
-use dagcbor_car::CarError;
-
-/// The name of the variant of a file's refusal.
-pub fn fault_name<E>(refusal: &CarError<E>) -> &'static str
-    ensures { result.now ≡ fault_name refusal.now }
-{
-    match refusal {
-        CarError::Read(_) => "Read",
-        CarError::Truncated => "Truncated",
-        CarError::InvalidLength => "InvalidLength",
-        CarError::InvalidCid(_) => "InvalidCid",
-        CarError::NoBlock(_) => "NoBlock",
-        CarError::OtherHeader => "OtherHeader",
-        CarError::InvalidOffset => "InvalidOffset",
-        CarError::OutOfMemory => "OutOfMemory",
-    }
-}
+use block_lines::line_of;
+use dag_json::{DagJsonError, Refusal};
+use std::alloc::{AllocError, Global};
 
 /// The name of the variant of a text's refusal.
 pub fn cause_name(cause: &DagJsonError) -> &'static str
@@ -39,4 +25,17 @@ pub fn cause_name(cause: &DagJsonError) -> &'static str
         DagJsonError::NoBase64 => "NoBase64",
         DagJsonError::OutOfMemory => "OutOfMemory",
     }
+}
+
+/// The line of a text that is refused.
+pub fn cause_line(alloc: Global, refusal: &Refusal) -> Result<Vec<u8>, AllocError>
+    ensures { IfOk result (λ v. v.items ≡ cause_line refusal.now.cause refusal.now.offset) }
+{
+    let place = format!(in alloc; " {}", refusal.offset)?;
+    line_of(
+        alloc,
+        b"refused ",
+        cause_name(&refusal.cause).as_bytes(),
+        place.as_bytes(),
+    )
 }

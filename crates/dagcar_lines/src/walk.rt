@@ -1,15 +1,17 @@
 //! A file of blocks, section by section: what a teller says of it goes out as it comes.
 
-ghost use Rattle.std.specs.Prelude.{◌≡◌, ◌&&◌, [], List, ℕ, IfOk, OnOk};
+ghost use Rattle.std.specs.Prelude.{◌≡◌, [], List, ℕ, true, Ok, IfOk, OnOk};
+ghost use Rattle.dagcar_lines.specs.declared.take.Ended.TheVariants.{Whole};
 ghost use Rattle.dagcbor_heads.specs.Inputs.{input_reading};
 ghost use Rattle.dagcbor_items.specs.Walks.{forms};
 ghost use Rattle.dagcbor_car.specs.Car.{Section as CarSection};
 ghost use Rattle.dagcar_lines.specs.Speeches.{Speech, SaysFile};
-ghost use Rattle.dagcar_lines.specs.Steps.{KnowsMore, TellsEnd, SaysSection, SaysRefusal, SaysNext};
-ghost use Rattle.dagcar_lines.specs.Steps.{SaysEnd, SaysSections, SaysHeader};
+ghost use Rattle.dagcar_lines.specs.Steps.{KnowsMore, TellsEnd, work_of, SaysSection, SaysRest};
+ghost use Rattle.dagcar_lines.specs.Steps.{SaysSections, SaysHeader};
 
-use crate::line::{Said, refused_line, say};
-use dagcbor_car::{CarError, Section, pull_header, pull_section};
+use crate::take::{Ended, fault_line, take_sections};
+use block_lines::{Said, say};
+use dagcbor_car::{Section, SectionSink, pull_header};
 use dagcbor_cli::{ToolError, write_all};
 use dagcbor_heads::{Input, Read};
 use ipld_tree::Cid;
@@ -41,99 +43,95 @@ pub trait Teller: Sized + Drop {
         ensures { TellsEnd Self.speech Self.knows self result };
 }
 
-/// What stands next in a file.
-#[derive(Clone, Copy)]
-enum Found {
-    /// A section, and whether nothing is wrong with it.
-    Section(bool),
-    /// The end.
-    End,
-    /// No section, though bytes do.
-    Fault,
+/// A teller at work: what it says goes out as it comes.
+#[derive(Drop)]
+struct Telling<'a, T, W> {
+    alloc: Global,
+    teller: T,
+    /// Whether nothing is wrong so far.
+    well: bool,
+    output: &'a mut W,
 }
 
-/// Takes the section, and writes what is said of it. Whether nothing is wrong with it.
-fn say_section<T: Teller, W: Write>(
-    alloc: Global,
-    teller: &mut T,
-    section: &Section<'_>,
-    output: &mut W,
-) -> Result<bool, ToolError>
-    ensures { SaysSection T.speech T.knows (section.now.cid, section.now.block.now)
-        teller.old (W.contents output.old) result teller.new (W.contents output.new) }
-{
-    match teller.tell(alloc, section) {
-        Ok(said) => say(said, output),
-        Err(_) => Err(ToolError::OutOfMemory),
-    }
-}
-
-/// Writes why the file is refused. A fault of the source and want of memory are told in another
-/// way.
-fn say_refusal<E: Drop, W: Write>(
-    alloc: Global,
-    error: CarError<E>,
-    output: &mut W,
-) -> Result<(), ToolError>
-    ensures { SaysRefusal error (W.contents output.old) result (W.contents output.new) }
-{
-    match error {
-        CarError::Read(_) => Err(ToolError::Input),
-        CarError::OutOfMemory => Err(ToolError::OutOfMemory),
-        of_bytes => {
-            let line = refused_line(alloc, &of_bytes)?;
-            write_all(output, &line)
+impl<'a, T: Teller, W: Write> Telling<'a, T, W> {
+    /// A teller behind the header, of which nothing is wrong so far.
+    fn new(alloc: Global, teller: T, output: &'a mut W) -> Telling<'a, T, W>
+        ensures reference { result.output.ghost_name ≡ output.entry.ghost_name }
+        ensures bytes { result.output.now ≡ output.old }
+        ensures teller { result.teller ≡ teller }
+        ensures well { result.well ≡ true }
+    {
+        Telling {
+            alloc,
+            teller,
+            well: true,
+            output,
         }
     }
 }
 
-/// Takes what stands next, and writes what is said of it.
-fn say_next<'de, T: Teller, R: Read, W: Write>(
-    alloc: Global,
-    teller: &mut T,
-    input: &mut Input<'de, R>,
-    left: &mut Option<u64>,
-    output: &mut W,
-) -> Result<Found, ToolError>
-    ensures { SaysNext T.speech T.knows left.old
-        (input_reading R.reading input.old) teller.old (W.contents output.old) result left.new
-        (input_reading R.reading input.new) teller.new (W.contents output.new) }
-{
-    match pull_section(alloc, input, left) {
-        Ok(Some(section)) => match say_section(alloc, teller, &section.section(), output) {
-            Ok(well) => Ok(Found::Section(well)),
-            Err(fault) => Err(fault),
-        },
-        Ok(None) => Ok(Found::End),
-        Err(error) => match say_refusal(alloc, error, output) {
-            Ok(()) => Ok(Found::Fault),
-            Err(fault) => Err(fault),
-        },
+impl<T: Teller, W: Write> SectionSink for Telling<'_, T, W> {
+    type Stop = ToolError;
+
+    ghost takes = { λ s old result new. SaysSection T.speech T.knows s
+        (work_of W.contents old) result (work_of W.contents new) };
+
+    fn take(&mut self, section: &Section<'_>) -> Result<(), ToolError> {
+        match self.teller.tell(self.alloc, section) {
+            Ok(said) => match say(said, self.output) {
+                Ok(well) => {
+                    self.well = self.well && well;
+                    Ok(())
+                }
+                Err(fault) => Err(fault),
+            },
+            Err(_) => Err(ToolError::OutOfMemory),
+        }
     }
 }
 
-/// Writes what is said at the end. Whether that tells of nothing wrong.
-fn say_end<T: Teller, W: Write>(alloc: Global, teller: T, output: &mut W) -> Result<bool, ToolError>
-    ensures { SaysEnd T.speech T.knows teller
-        (W.contents output.old) result (W.contents output.new) }
+/// Writes what is said at the end. Whether that tells of nothing wrong, and nothing was wrong before.
+fn say_end<T: Teller, W: Write>(
+    alloc: Global,
+    teller: T,
+    well: bool,
+    output: &mut W,
+) -> Result<bool, ToolError>
+    ensures { SaysRest T.speech T.knows teller well (Ok Whole) (W.contents output.old) result
+        (W.contents output.new) }
 {
     match teller.end(alloc) {
-        Ok(said) => say(said, output),
+        Ok(said) => match say(said, output) {
+            Ok(end_well) => Ok(end_well && well),
+            Err(fault) => Err(fault),
+        },
         Err(_) => Err(ToolError::OutOfMemory),
     }
 }
 
-/// Whether both hold.
-fn both(one: bool, other: bool) -> bool
-    ensures { result ≡ (one && other) }
+/// Writes what is said behind the sections. Whether nothing is wrong.
+fn say_rest<T: Teller, W: Write>(
+    alloc: Global,
+    teller: T,
+    well: bool,
+    ended: Result<Ended<ToolError>, ToolError>,
+    output: &mut W,
+) -> Result<bool, ToolError>
+    ensures { SaysRest T.speech T.knows teller well ended (W.contents output.old) result
+        (W.contents output.new) }
 {
-    one && other
+    match ended {
+        Ok(Ended::Whole) => say_end(alloc, teller, well, output),
+        Ok(Ended::Stopped(fault)) => Err(fault),
+        Ok(Ended::Fault(line)) => say((line, false), output),
+        Err(fault) => Err(fault),
+    }
 }
 
 /// Says what is behind the header, of so much of the file. Whether nothing is wrong.
 fn say_sections<'de, T: Teller, R: Read, W: Write>(
     alloc: Global,
-    mut teller: T,
+    teller: T,
     input: &mut Input<'de, R>,
     extent: Option<u64>,
     output: &mut W,
@@ -141,22 +139,15 @@ fn say_sections<'de, T: Teller, R: Read, W: Write>(
     ensures { SaysSections T.speech T.knows extent (input_reading R.reading input.old) teller
         (W.contents output.old) result (W.contents output.new) }
 {
-    let mut left = extent;
-    let mut well = true;
-    for _ in 0..u64::MAX {
-        match say_next(alloc, &mut teller, input, &mut left, output) {
-            Ok(Found::Section(is_well)) => well = both(well, is_well),
-            Ok(Found::End) => {
-                return match say_end(alloc, teller, output) {
-                    Ok(end_well) => Ok(both(end_well, well)),
-                    Err(fault) => Err(fault),
-                };
-            }
-            Ok(Found::Fault) => return Ok(false),
-            Err(fault) => return Err(fault),
-        }
-    }
-    Err(ToolError::OutOfMemory)
+    let mut telling = Telling::new(alloc, teller, output);
+    let ended = take_sections(alloc, &mut telling, input, extent);
+    let Telling {
+        alloc: _,
+        teller,
+        well,
+        output,
+    } = telling;
+    say_rest(alloc, teller, well, ended, output)
 }
 
 /// Says this of the roots, and then what is behind the header. Whether nothing is wrong.
@@ -192,8 +183,8 @@ pub fn say_file<'de, T: Teller, R: Read, W: Write>(
             }
             Err(_) => Err(ToolError::OutOfMemory),
         },
-        Err(error) => match say_refusal(alloc, error, output) {
-            Ok(()) => Ok(false),
+        Err(error) => match fault_line(alloc, error) {
+            Ok(line) => say((line, false), output),
             Err(fault) => Err(fault),
         },
     }

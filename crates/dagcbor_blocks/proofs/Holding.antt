@@ -7,30 +7,24 @@ use Rattle.std.specs.BTreeMap.{is_at, get, UpdatesBy}
 use Rattle.std.proofs.Math.Logic.{∥∥₁_map}
 use Rattle.serde_ipld_dagcbor.specs.Cid.{CidParts, cid_cmp}
 use Rattle.serde_ipld_dagcbor.specs.CidHash.{same_cid, is_equal}
-use Rattle.dagcbor_car.specs.Car.{Section}
-use Rattle.dagcbor_blocks.specs.Sound.{IsSound}
-use Rattle.dagcbor_blocks.specs.Blocks.{Held, block_at}
-use Rattle.dagcbor_blocks.specs.Cars.{SectionRefused}
-use Rattle.dagcbor_blocks.specs.CarSteps.{of_block}
-use Rattle.dagcbor_blocks.specs.Bytes.{BytesRefused, HoldsOthers, is_held}
-use Rattle.dagcbor_blocks.specs.declared.car_error.ReadCarError.{ReadCarError}
-use Rattle.dagcbor_blocks.specs.declared.put_error.PutBlockError.{PutBlockError}
-use Rattle.dagcbor_blocks.specs.declared.put_error.PutBlockError.TheVariants as puts
-use Rattle.dagcbor_car.proofs.Members.{same_at}
+use Rattle.dagcbor_blocks.specs.Sound.{IsSoundEntry}
+use Rattle.dagcbor_blocks.specs.Blocks.{block_at}
+use Rattle.dagcbor_blocks.specs.Bytes.{HoldsOthers, is_held}
+use Rattle.ipld_links.proofs.Members.{same_at}
 use Rattle.dagcbor_blocks.proofs.Keeping.{BlockEntry, items_of_vec, shown, block_at_shown}
 
 -- ---- letting go
 
-sound_removed : (test : CidParts → Bool) (es : List BlockEntry) → AllByRecursion IsSound es → AllByRecursion IsSound (remove_entry test es)
+sound_removed : (test : CidParts → Bool) (es : List BlockEntry) → AllByRecursion IsSoundEntry es → AllByRecursion IsSoundEntry (remove_entry test es)
 sound_removed test [] h = tt
 sound_removed test (e ∷ es) h = by (test e.0) (sound_removed test es h.1)
   where
-    by : (b : Bool) → AllByRecursion IsSound (remove_entry test es) → AllByRecursion IsSound (cond b es (e ∷ remove_entry test es))
+    by : (b : Bool) → AllByRecursion IsSoundEntry (remove_entry test es) → AllByRecursion IsSoundEntry (cond b es (e ∷ remove_entry test es))
     by true r = h.1
     by false r = (h.0, r)
 
-pub still_sound_without : (test : CidParts → Bool) (es fs : List BlockEntry) → fs ≡ remove_entry test es → ∥ AllByRecursion IsSound es ∥₁ → ∥ AllByRecursion IsSound fs ∥₁
-still_sound_without test es fs is h = ∥∥₁_map h (λ s. subst (AllByRecursion IsSound) (sym is) (sound_removed test es s))
+pub still_sound_without : (test : CidParts → Bool) (es fs : List BlockEntry) → fs ≡ remove_entry test es → ∥ AllByRecursion IsSoundEntry es ∥₁ → ∥ AllByRecursion IsSoundEntry fs ∥₁
+still_sound_without test es fs is h = ∥∥₁_map h (λ s. subst (AllByRecursion IsSoundEntry) (sym is) (sound_removed test es s))
 
 pub held_of : (name : CidParts) (es : List BlockEntry) → is_some (lookup (is_at (cid_cmp name)) es) ≡ is_held name (shown es)
 held_of name es = by (lookup (is_at (cid_cmp name)) es) ∙ ap is_some (sym (block_at_shown name es))
@@ -93,16 +87,3 @@ some_held (x ∷ seen) rest e none = cc none
 pub another_held : (entries before rest : List BlockEntry) (e : BlockEntry) (names : List CidParts) → before ≡ e ∷ rest → NamesSoFar entries before names → shown entries ≢ []
 another_held entries before rest e names is h none =
     some_held h.seen rest e (sym (ap shown (h.all ∙ ap (λ l. h.seen ++ l) is)) ∙ none)
-
--- ---- a section
-
-refused_section : (E : Type 0) (s : Section) (held : Held) (e : PutBlockError) → BytesRefused s held e → SectionRefused {E = E} s held (of_block s.0 e)
-refused_section E s held puts.OtherHash r = (refl, r)
-refused_section E s held puts.OtherBytes r = (refl, r.0, r.1)
-refused_section E s held puts.OtherCodec r = (refl, r.0, r.1)
-refused_section E s held (puts.NoBlock e) r = (refl, r.0, r.1)
-refused_section E s held puts.Collision r = (refl, r.0, r.1)
-refused_section E s held puts.OutOfMemory r = r
-
-pub section_refused : {E : Type 0} (s : Section) (held : Held) (e : PutBlockError) (told : ReadCarError E) → told ≡ of_block s.0 e → BytesRefused s held e → SectionRefused s held told
-section_refused {E} s held e told is r = subst (SectionRefused s held) (sym is) (refused_section E s held e r)

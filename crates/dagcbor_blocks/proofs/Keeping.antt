@@ -11,7 +11,7 @@ use Rattle.std.proofs.Math.Logic.{∥∥₁_elim, ∥∥₁_map}
 use Rattle.sha2.specs.Sha256.{sha256}
 use Rattle.serde_ipld_dagcbor.specs.DecodeError.{DecodeError}
 use Rattle.serde_ipld_dagcbor.specs.DecodeError.TheVariants as unread
-use Rattle.serde_ipld_dagcbor.specs.Cid.{CidParts, cid_cmp}
+use Rattle.serde_ipld_dagcbor.specs.Cid.{CidParts, AreCidParts, cid_cmp}
 use Rattle.serde_ipld_dagcbor.specs.CidHash.{same_cid, is_equal}
 use Rattle.serde_ipld_dagcbor.specs.Tree.{Tree, any_need, links_of}
 use Rattle.serde_ipld_dagcbor.specs.Spelling.{IsSpelling}
@@ -20,17 +20,19 @@ use Rattle.serde_ipld_dagcbor.specs.Shapes.{Shape}
 use Rattle.serde_ipld_dagcbor.specs.Whole.{HoldsNoValue, OfWhole, LacksMemoryIf}
 use Rattle.serde_ipld_dagcbor.specs.Slices.{AreFirstLinks, LinksRefused}
 use Rattle.serde_ipld_dagcbor.specs.GrammarLaws.{SpellingsAreUnique}
-use Rattle.dagcbor_car.specs.Names.{block_name}
+use Rattle.ipld_links.specs.Names.{block_name}
 use Rattle.dagcbor_blocks.specs.Errors.{TellsOfDecoding}
-use Rattle.dagcbor_blocks.specs.Sound.{IsSound}
-use Rattle.dagcbor_blocks.specs.Blocks.{Held, block_at, HoldsAlso, HoldsOther, ExceedsSteps, Puts, IsHeld, GetRefused}
-use Rattle.dagcbor_car.specs.Sets.{Among}
-use Rattle.dagcbor_car.specs.Splits.{HasBlock}
+use Rattle.ipld_links.specs.Sound.{IsSound}
+use Rattle.ipld_links.proofs.Sounding.{sound_own}
+use Rattle.dagcbor_blocks.specs.Sound.{IsSoundEntry}
+use Rattle.dagcbor_blocks.specs.Blocks.{Held, block_at, HoldsAlso, HoldsOther, ExceedsSteps, Puts, HoldsRead, GetRefused}
+use Rattle.ipld_links.specs.Sets.{Among}
+use Rattle.ipld_links.specs.Blocks.{HasBlock}
 use Rattle.dagcbor_blocks.specs.Steps.{HasTree, DepthRefused, Stores}
 use Rattle.dagcbor_blocks.proofs.Unique.{front_unique, whole_front}
-use Rattle.dagcbor_car.proofs.Members.{same_at}
+use Rattle.ipld_links.proofs.Members.{same_at}
 use Rattle.dagcbor_blocks.specs.declared.error.BlockError.{BlockError}
-use Rattle.dagcbor_blocks.specs.declared.error.BlockError.TheVariants.{Encode, Decode, Collision, OutOfMemory}
+use Rattle.dagcbor_blocks.specs.declared.error.BlockError.TheVariants.{Encode, Decode, OtherCodec, Collision, OutOfMemory}
 use Rattle.serde_ipld_dagcbor.specs.Reading.{default_steps}
 
 abbrev pub BlockEntry : Type 0
@@ -61,33 +63,33 @@ no_block_found name es e = block_at_shown name es ∙ ap (option_map items_of_ve
 same_name : (name k : CidParts) → is_at (cid_cmp name) k ≡ true → name ≡ k
 same_name name k h = same_cid name k (is_equal (cid_cmp name k) h)
 
-pub found_named : (name : CidParts) (es : List BlockEntry) (v : Vec ℕ Global) → lookup (is_at (cid_cmp name)) es ≡ Some v → AllByRecursion IsSound es → name ≡ block_name v.items
+pub found_named : (name : CidParts) (es : List BlockEntry) (v : Vec ℕ Global) → lookup (is_at (cid_cmp name)) es ≡ Some v → AllByRecursion IsSoundEntry es → name.digest ≡ sha256 v.items
 found_named name [] v e h = absurd (cc e)
 found_named name (x ∷ es) v e h = by (is_at (cid_cmp name) x.0) refl e (λ l. found_named name es v l h.1)
   where
-    by : (b : Bool) → is_at (cid_cmp name) x.0 ≡ b → cond b (Some x.1) (lookup (is_at (cid_cmp name)) es) ≡ Some v → (lookup (is_at (cid_cmp name)) es ≡ Some v → name ≡ block_name v.items) → name ≡ block_name v.items
-    by true t l f = let same : x.1 ≡ v = cc l in same_name name x.0 t ∙ h.0.named ∙ ap (λ (w : Vec ℕ Global). block_name w.items) same
+    by : (b : Bool) → is_at (cid_cmp name) x.0 ≡ b → cond b (Some x.1) (lookup (is_at (cid_cmp name)) es) ≡ Some v → (lookup (is_at (cid_cmp name)) es ≡ Some v → name.digest ≡ sha256 v.items) → name.digest ≡ sha256 v.items
+    by true t l f = let same : x.1 ≡ v = cc l in ap (λ (c : CidParts). c.digest) (same_name name x.0 t) ∙ h.0.sound.digest ∙ ap (λ (w : Vec ℕ Global). sha256 w.items) same
     by false t l f = f l
 
-pub digest_of_found : (name : CidParts) (es : List BlockEntry) (v : Vec ℕ Global) → lookup (is_at (cid_cmp name)) es ≡ Some v → ∥ AllByRecursion IsSound es ∥₁ → name.digest ≡ sha256 v.items
-digest_of_found name es v e h = ∥∥₁_elim h (List-set ℕ_set _ _) (λ s. ap (λ (c : CidParts). c.digest) (found_named name es v e s))
+pub digest_of_found : (name : CidParts) (es : List BlockEntry) (v : Vec ℕ Global) → lookup (is_at (cid_cmp name)) es ≡ Some v → ∥ AllByRecursion IsSoundEntry es ∥₁ → name.digest ≡ sha256 v.items
+digest_of_found name es v e h = ∥∥₁_elim h (List-set ℕ_set _ _) (λ s. found_named name es v e s)
 
 -- ---- storing
 
-pub sound_inserted : (es : List BlockEntry) (k : CidParts) (v : Vec ℕ Global) → AllByRecursion IsSound es → IsSound (k, v) → AllByRecursion IsSound (insert_entry cid_cmp es k v)
+pub sound_inserted : (es : List BlockEntry) (k : CidParts) (v : Vec ℕ Global) → AllByRecursion IsSoundEntry es → IsSoundEntry (k, v) → AllByRecursion IsSoundEntry (insert_entry cid_cmp es k v)
 sound_inserted [] k v h s = (s, tt)
 sound_inserted (e ∷ es) k v h s = by (cid_cmp k e.0) refl (sound_inserted es k v h.1 s)
   where
-    by : (o : Ordering) → cid_cmp k e.0 ≡ o → AllByRecursion IsSound (insert_entry cid_cmp es k v) → AllByRecursion IsSound (match_ordering o ((k, v) ∷ e ∷ es) ((e.0, v) ∷ es) (e ∷ insert_entry cid_cmp es k v))
+    by : (o : Ordering) → cid_cmp k e.0 ≡ o → AllByRecursion IsSoundEntry (insert_entry cid_cmp es k v) → AllByRecursion IsSoundEntry (match_ordering o ((k, v) ∷ e ∷ es) ((e.0, v) ∷ es) (e ∷ insert_entry cid_cmp es k v))
     by Less x r = (s, h)
-    by Equal x r = (subst (λ n. IsSound (n, v)) (same_cid k e.0 x) s, h.1)
+    by Equal x r = (subst (λ n. IsSoundEntry (n, v)) (same_cid k e.0 x) s, h.1)
     by Greater x r = (h.0, r)
 
 -- whether the call took the entry or not
-pub still_sound : {X Y : Type 0} (r : Result X Y) (es fs : List BlockEntry) (k : CidParts) (v : Vec ℕ Global) → OnOk r (fs ≡ insert_entry cid_cmp es k v) → OnErr r (fs ≡ es) → k ≡ block_name v.items → HasBlock v.items
-    → ∥ AllByRecursion IsSound es ∥₁ → ∥ AllByRecursion IsSound fs ∥₁
-still_sound (Ok x) es fs k v put same named has h = ∥∥₁_map h (λ s. subst (AllByRecursion IsSound) (sym put) (sound_inserted es k v s record { tree = has.0; is_block = has.1; named = named }))
-still_sound (Err y) es fs k v put same named has h = ∥∥₁_map h (λ s. subst (AllByRecursion IsSound) (sym same) s)
+pub still_sound : {X Y : Type 0} (r : Result X Y) (es fs : List BlockEntry) (k : CidParts) (v : Vec ℕ Global) → OnOk r (fs ≡ insert_entry cid_cmp es k v) → OnErr r (fs ≡ es) → AreCidParts k → IsSound (k, v.items)
+    → ∥ AllByRecursion IsSoundEntry es ∥₁ → ∥ AllByRecursion IsSoundEntry fs ∥₁
+still_sound (Ok x) es fs k v put same valid sound h = ∥∥₁_map h (λ s. subst (AllByRecursion IsSoundEntry) (sym put) (sound_inserted es k v s record { valid = valid; sound = sound }))
+still_sound (Err y) es fs k v put same valid sound h = ∥∥₁_map h (λ s. subst (AllByRecursion IsSoundEntry) (sym same) s)
 
 -- what is held already
 pub held_already : (name : CidParts) (blocks : Held) (b : List ℕ) → block_at name blocks ≡ Some b → HoldsAlso blocks ((name, b) ∷ []) blocks
@@ -161,15 +163,20 @@ put_done law (Some t) v name old new (Ok n) a has named h =
     )
 put_done law (Some t) v name old new (Err (Encode e)) a has named h = absurd h.1
 put_done law (Some t) v name old new (Err (Decode e)) a has named h = absurd h.1
-put_done law (Some t) v name old new (Err Collision) a has named h = (h.0, subst (λ b. HoldsOther b old) a.is h.1)
+put_done law (Some t) v name old new (Err OtherCodec) a has named h = absurd h.1
+put_done law (Some t) v name old new (Err Collision) a has named h = (h.0, subst (λ b. HoldsOther (block_name b) b old) a.is (subst (λ m. HoldsOther m v.items old) named h.1))
 put_done law (Some t) v name old new (Err OutOfMemory) a has named h = (h.0, tt)
 
 -- ---- getting
 
 module _ {V : Type 0} (shape : Shape Tree V) where
-  pub not_got : (name : CidParts) (blocks : Held) (b : List ℕ) (e : DecodeError Infallible) (told : BlockError) → IsHeld name b blocks → ((e ≡ unread.OutOfMemory) ⊎ HoldsNoValue shape default_steps b) × OfWhole e × LacksMemoryIf (shape.memory true) e → TellsOfDecoding e told → GetRefused shape name blocks told
+  pub not_got : (name : CidParts) (blocks : Held) (b : List ℕ) (e : DecodeError Infallible) (told : BlockError) → HoldsRead name b blocks → ((e ≡ unread.OutOfMemory) ⊎ HoldsNoValue shape default_steps b) × OfWhole e × LacksMemoryIf (shape.memory true) e → TellsOfDecoding e told → GetRefused shape name blocks told
   not_got name blocks b (unread.Read e) told at r h = elim e [ ]
   not_got name blocks b unread.OutOfMemory told at r h = subst (GetRefused shape name blocks) (sym h) ((b, at), r.2)
   not_got name blocks b (unread.RequireBorrowed n) told at r h = absurd r.1
   not_got name blocks b unread.Failed told at r h = absurd r.1
   not_got name blocks b _ told at r h = elim r.0 [ inl k ↦ absurd (cc k) | inr k ↦ subst (GetRefused shape name blocks) (sym h) (tt, (b, at, k)) ]
+
+-- a block of DAG-CBOR is sound under its own name
+pub sound_named : (name : CidParts) (b : List ℕ) → name ≡ block_name b → HasBlock b → IsSound (name, b)
+sound_named name b named has = subst (λ n. IsSound (n, b)) (sym named) (sound_own b has)

@@ -5,10 +5,10 @@ use Rattle.std.specs.List.Sorted.{IsStrictlySortedBy}
 use Rattle.std.specs.Map.{lookup, keys_of}
 use Rattle.std.specs.BTreeMap.{is_at}
 use Rattle.serde_ipld_dagcbor.specs.Cid.{CidParts, cid_cmp}
-use Rattle.dagcbor_car.specs.Sets.{Among}
+use Rattle.ipld_links.specs.Sets.{Among}
 use Rattle.dagcbor_blocks.specs.Blocks.{block_at, FindsMembers}
 use Rattle.dagcbor_blocks.proofs.Keeping.{BlockEntry, shown, block_found}
-use Rattle.dagcbor_car.proofs.Members.{at_same, same_at, cid_equal, among_map, map_among}
+use Rattle.ipld_links.proofs.Members.{at_same, same_at, cid_equal, among_map, map_among}
 
 pub all_among : {X : Type 0} (P : X → Type 0) (xs : List X) (x : X) → AllByRecursion P xs → Among x xs → P x
 all_among P [] x h m = absurd m

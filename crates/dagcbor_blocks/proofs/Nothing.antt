@@ -3,7 +3,7 @@ use Rattle.std.proofs.Common.{◌≡◌, ℕ, List, [], ◌∷◌, length, map, 
 use Rattle.std.specs.List.Sorted.{IsStrictlySortedBy}
 use Rattle.serde_ipld_dagcbor.specs.Cid.{CidParts, cid_cmp}
 use Rattle.serde_ipld_dagcbor.specs.Walks.{forms}
-use Rattle.dagcbor_car.specs.Sets.{Among}
+use Rattle.ipld_links.specs.Sets.{Among}
 use Rattle.dagcbor_blocks.specs.Blocks.{Held, ListsMissing}
 use Rattle.dagcbor_blocks.specs.declared.error.BlockError.{BlockError}
 

@@ -6,8 +6,9 @@ use Rattle.serde_ipld_dagcbor.specs.EncodeError.{EncodeError}
 use Rattle.serde_ipld_dagcbor.specs.EncodeError.TheVariants as unwritten
 use Rattle.dagcbor_car.specs.Writers.{UnsentWithoutMemory}
 use Rattle.dagcbor_car.specs.Car.{car_bytes, IsCar}
-use Rattle.dagcbor_car.specs.Reaching.{stored_in, sections_at, ListsReachable}
-use Rattle.dagcbor_car.proofs.Reaching.{none_found}
+use Rattle.ipld_links.specs.Reaching.{stored_in, ListsReachable}
+use Rattle.dagcbor_car.specs.Reached.{sections_at}
+use Rattle.ipld_links.proofs.Reaching.{none_found}
 use Rattle.dagcbor_blocks.specs.Blocks.{Held}
 use Rattle.dagcbor_blocks.specs.Reaching.{stored, MayLead, LeadsNowhere, tree_bytes, OfReachable, TreeRefused}
 use Rattle.dagcbor_blocks.specs.declared.tree_error.WriteTreeError.TheVariants as trees

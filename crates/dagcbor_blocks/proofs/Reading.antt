@@ -1,19 +1,25 @@
 -- A file that is read into a store, section by section.
-use Rattle.std.proofs.Common.{◌≡◌, ◌⊎◌, inl, inr, ℕ, List, [], ◌∷◌, ◌++◌, sym, subst, Option, Some, Err}
+use Rattle.std.proofs.Common.{◌≡◌, ◌⊎◌, inl, inr, ℕ, List, [], ◌∷◌, ◌++◌, length, refl, sym, subst, Option, Some, Ok, Err}
 use Rattle.std.specs.List.{AllByRecursion}
 use Rattle.dagcbor_heads.proofs.Taking.{stays_both}
 use Rattle.serde_ipld_dagcbor.specs.Reading.{Reading, Stays}
 use Rattle.dagcbor_car.specs.Car.{Section}
 use Rattle.dagcbor_car.specs.Extents.{EndsThere}
-use Rattle.dagcbor_car.specs.Sets.{Among}
-use Rattle.dagcbor_car.specs.Sources.{CarRefuses, LacksMemoryIf, TakesStart, TakesSectionBytes}
+use Rattle.ipld_links.specs.Sets.{Among}
+use Rattle.ipld_links.specs.Sound.{IsSound}
+use Rattle.dagcbor_car.specs.Sources.{CarRefuses, RefusesStart, LacksMemoryIf, FileLacks, TakesStart, TakesSectionBytes}
+use Rattle.dagcbor_car.specs.Each.{Takes, TakesEach, StopsEach, RunsEach}
 use Rattle.dagcbor_car.specs.declared.error.CarError.{CarError}
-use Rattle.dagcbor_car.specs.declared.error.CarError.TheVariants.{OutOfMemory}
-use Rattle.dagcbor_blocks.specs.declared.car_error.ReadCarError.{ReadCarError}
-use Rattle.dagcbor_blocks.specs.Blocks.{Held, block_at, HoldsAlso}
-use Rattle.dagcbor_blocks.specs.Cars.{IsNamedBlock, TellsOfFile, FileRefused, IsReadTo, KeepsAll, StopsAt, ReadRefused}
-use Rattle.dagcbor_car.proofs.Members.{among_push, push_among}
+use Rattle.dagcbor_car.specs.declared.each.ReadCarError.{ReadCarError}
+use Rattle.dagcbor_car.specs.declared.each.ReadCarError.TheVariants as stop
+use Rattle.dagcbor_blocks.specs.Blocks.{Held, held_blocks, block_at, HoldsAlso}
+use Rattle.dagcbor_blocks.specs.Bytes.{PutsBytes, BytesRefused}
+use Rattle.dagcbor_blocks.specs.Cars.{IsReadTo, KeepsAll, ReadRefused}
+use Rattle.dagcbor_blocks.specs.declared.put_error.PutBlockError.{PutBlockError}
+use Rattle.dagcbor_blocks.specs.declared.store.Blocks.{Blocks}
+use Rattle.ipld_links.proofs.Members.{among_push, push_among}
 use Rattle.dagcbor_car.proofs.Places.{IsPlace, place_begun, place_more, place_front, place_whole, place_end, ended, ends_same}
+use Rattle.dagcbor_car.proofs.Taking.{each_along, lacks_alike}
 
 -- ---- what is held
 
@@ -41,15 +47,15 @@ also_more old mid new these s h k q b = (λ e. there ((k q b).0 e), back)
 
 -- ---- how far a file was read
 
-named_push : (ss : List Section) (s : Section) → AllByRecursion IsNamedBlock ss → IsNamedBlock s → AllByRecursion IsNamedBlock (ss ++ s ∷ [])
-named_push [] s h p = (p, tt)
-named_push (x ∷ ss) s h p = (h.0, named_push ss s h.1 p)
+sound_push : (ss : List Section) (s : Section) → AllByRecursion IsSound ss → IsSound s → AllByRecursion IsSound (ss ++ s ∷ [])
+sound_push [] s h p = (p, tt)
+sound_push (x ∷ ss) s h p = (h.0, sound_push ss s h.1 p)
 
 -- so many sections were taken, and kept
 pub record IsReadAt (roots : List (List ℕ)) (sections : List Section) (old : Reading) (before : Held) (extent : Option ℕ) (now : Reading) (after : Held) : Type 0 where
   pub known : (b : List ℕ) → old.left ≡ Some b → (rest : List ℕ) × (now.left ≡ Some rest) × IsPlace b roots sections extent rest
   pub same : Stays old now
-  pub blocks : AllByRecursion IsNamedBlock sections
+  pub blocks : AllByRecursion IsSound sections
   pub holds : HoldsAlso before sections after
 
 pub read_to : {roots : List (List ℕ)} {ss : List Section} {old : Reading} {before : Held} {extent : Option ℕ} {now : Reading} {after : Held} → IsReadAt roots ss old before extent now after → IsReadTo roots ss old before extent now after
@@ -68,15 +74,15 @@ read_begun roots extent old now blocks h = record {
   holds = also_none blocks;
 }
 
-pub read_more : (roots : List (List ℕ)) (ss : List Section) (s : Section) (extent more : Option ℕ) (old mid now : Reading) (before held after : Held) → IsReadAt roots ss old before extent mid held → TakesSectionBytes extent mid s more now → IsNamedBlock s → HoldsAlso held (s ∷ []) after
+pub read_more : (roots : List (List ℕ)) (ss : List Section) (s : Section) (extent more : Option ℕ) (old mid now : Reading) (before held after : Held) → IsReadAt roots ss old before extent mid held → TakesSectionBytes extent mid s more now → IsSound s → HoldsAlso held (s ∷ []) after
     → IsReadAt roots (ss ++ s ∷ []) old before more now after
-read_more roots ss s extent more old mid now before held after h k named also = record {
+read_more roots ss s extent more old mid now before held after h k sound also = record {
   known = λ b l.
       let far = h.known b l in
       let w = k.1.takes.taken far.0 far.1 in
       (w.0, w.2, place_more b w.0 roots ss extent more s (subst (λ x. IsPlace b roots ss extent x) w.1 far.2) k.0 k.1.spends);
   same = stays_both h.same k.1.takes.same;
-  blocks = named_push ss s h.blocks named;
+  blocks = sound_push ss s h.blocks sound;
   holds = also_more before held after ss s h.holds also;
 }
 
@@ -90,14 +96,39 @@ read_whole roots ss extent more old mid new before held after h end same = recor
   holds = subst (λ blocks. HoldsAlso before ss blocks) (sym same) h.holds;
 }
 
+-- ---- the sections, one by one
+
+-- what taking a section does to a store
+abbrev Keeps : Takes Blocks PutBlockError
+Keeps s old result new = PutsBytes s (held_blocks old) result (held_blocks new)
+
+pub read_along : (roots : List (List ℕ)) (ss : List Section) (extent rest : Option ℕ) (start source mid : Reading) (before : Held) (old new : Blocks) → IsReadAt roots [] start before extent source (held_blocks old) → TakesEach Keeps extent source old ss rest mid new
+    → IsReadAt roots ss start before rest mid (held_blocks new)
+read_along roots ss extent rest start source mid before old new =
+    each_along Keeps (λ seen extent source it. IsReadAt roots seen start before extent source (held_blocks it))
+    (λ seen s extent more source behind from to h t k. read_more roots seen s extent more start source behind before (held_blocks from) (held_blocks to) h t k.0 k.1)
+    [] ss extent rest source mid old new
+
 -- ---- refusals
 
-lacks_alike : {E : Type 0} (T P : Type 0) (e : CarError E) → LacksMemoryIf {T = T} P (Err e) → LacksMemoryIf {T = Unit {0}} P (Err e)
-lacks_alike T P OutOfMemory l = l
-lacks_alike T P e l = tt
+pub not_begun : {E : Type 0} (T : Type 0) (e : CarError E) (old new : Reading) (blocks : Held) → CarRefuses RefusesStart old e new → LacksMemoryIf {T = T} (FileLacks old) (Err e) → ReadRefused old blocks (stop.Header e) new blocks
+not_begun T e old new blocks refused memory = inl ((refused, lacks_alike T (FileLacks old) e memory), refl)
 
-pub file_refused : {E : Type 0} (T : Type 0) (stands : CarError E → List ℕ → Type 0) (lacks : Type 0) (e : CarError E) (told : ReadCarError E) (old new : Reading) → TellsOfFile e told → CarRefuses stands old e new → LacksMemoryIf {T = T} lacks (Err e) → FileRefused stands lacks old told new
-file_refused T stands lacks e told old new tells refused memory = (e, tells, refused, lacks_alike T lacks e memory)
+module _ {E : Type 0} (roots : List (List ℕ)) (start : Reading) (before : Held) where
+  stopped : (ss : List Section) (extent : Option ℕ) (mid : Reading) (it : Blocks) (e : ReadCarError E PutBlockError) (more : Option ℕ) (behind : Reading) (new : Blocks) → IsReadAt roots ss start before extent mid (held_blocks it) → StopsEach Keeps (length ss) extent mid it e more behind new → ReadRefused start before e behind (held_blocks new)
+  stopped ss extent mid it (stop.Header e) more behind new h k = absurd k
+  stopped ss extent mid it (stop.Section n e) more behind new h k = inr (roots, ss, extent, mid, subst (λ (b : Blocks). IsReadTo roots ss start before extent mid (held_blocks b)) (sym k.2) (read_to h), inl (k.0, k.1))
+  stopped ss extent mid it (stop.Block n name e) more behind new h k =
+      inr (roots, ss, extent, mid, subst (IsReadTo roots ss start before extent mid) (sym k.4.0) (read_to h), inl (k.0, more, k.1, k.2, k.3, subst (λ held. BytesRefused k.0 held e) (sym k.4.0) k.4.1))
 
-pub stopped : {E : Type 0} (roots : List (List ℕ)) (ss : List Section) (extent : Option ℕ) (old mid new : Reading) (before held after : Held) (e : ReadCarError E) → IsReadAt roots ss old before extent mid held → (after ≡ held) × StopsAt extent mid held e new → ReadRefused old before e new after
-stopped roots ss extent old mid new before held after e h k = inr (roots, ss, extent, mid, subst (λ (x : Held). IsReadTo roots ss old before extent mid x) (sym k.0) (read_to h), inl (subst (λ (x : Held). StopsAt extent mid x e new) (sym k.0) k.1))
+  pub read_stopped : (extent : Option ℕ) (source : Reading) (old : Blocks) (e : ReadCarError E PutBlockError) (more : Option ℕ) (behind : Reading) (new : Blocks) → IsReadAt roots [] start before extent source (held_blocks old) → RunsEach Keeps extent source old (Err e) more behind new → ReadRefused start before e behind (held_blocks new)
+  read_stopped extent source old e more behind new h (ss, rest, mid, it, t, inl k) = stopped ss rest mid it e more behind new (read_along roots ss extent rest start source mid before old it h t) k
+  read_stopped extent source old e more behind new h (ss, rest, mid, it, t, inr k) =
+      let at = read_along roots ss extent rest start source mid before old it h t in
+      inr (roots, ss, rest, mid, subst (λ (b : Blocks). IsReadTo roots ss start before rest mid (held_blocks b)) (sym k.1) (read_to at), inr (k.0, k.2))
+
+pub read_all : (E : Type 0) (roots : List (List ℕ)) (start : Reading) (before : Held) (extent : Option ℕ) (source : Reading) (old : Blocks) (count : ℕ) (more : Option ℕ) (behind : Reading) (new : Blocks) → IsReadAt roots [] start before extent source (held_blocks old) → RunsEach {E = E} Keeps extent source old (Ok count) more behind new
+    → (sections : List Section) × KeepsAll roots sections start before behind (held_blocks new)
+read_all E roots start before extent source old count more behind new h k =
+    let at = read_along roots k.0 extent k.1 start source k.2 before old new h k.3 in
+    (k.0, read_whole roots k.0 k.1 more start k.2 behind before (held_blocks new) (held_blocks new) at k.5 refl)

@@ -7,18 +7,12 @@ use Rattle.std.specs.declared.convert.Infallible.{Infallible}
 use Rattle.std.proofs.Math.Logic.{∥∥₁_map}
 use Rattle.std.proofs.lemmas.Grind.{not_there}
 use Rattle.serde_ipld_dagcbor.specs.Reading.{Reading}
-use Rattle.serde_ipld_dagcbor.specs.DecodeError.{DecodeError}
-use Rattle.serde_ipld_dagcbor.specs.DecodeError.TheVariants as unread
-use Rattle.serde_ipld_dagcbor.specs.Slices.{SliceRefused}
 use Rattle.serde_ipld_dagcbor.specs.Cid.{CidParts, cid_cmp}
 use Rattle.serde_ipld_dagcbor.specs.Walks.{forms}
-use Rattle.sha2.proofs.Facts256.{length-sha256}
-use Rattle.dagcbor_car.specs.Names.{IsBySha256, block_name}
 use Rattle.dagcbor_car.specs.Car.{Section, header_bytes, section_bytes, IsSection, IsCar}
-use Rattle.dagcbor_car.specs.Splits.{HasBlock}
 use Rattle.dagcbor_car.specs.Extents.{within, wanting}
 use Rattle.dagcbor_car.specs.Laws.{FilesAreUnique}
-use Rattle.dagcbor_car.specs.Sets.{Among}
+use Rattle.ipld_links.specs.Sets.{Among}
 use Rattle.dagcbor_car.specs.Sources.{CarRefuses, RefusesStart, RefusesNext}
 use Rattle.dagcbor_car.specs.declared.error.CarError.{CarError}
 use Rattle.dagcbor_car.specs.declared.error.CarError.TheVariants as car
@@ -27,13 +21,18 @@ use Rattle.dagcbor_car.proofs.Places.{others_behind, no_file}
 use Rattle.dagcbor_car.proofs.Spending.{within_behind}
 use Rattle.dagcbor_car.proofs.Starting.{holds_one, car_holds, file_of_car}
 use Rattle.dagcbor_blocks.specs.Blocks.{Held, block_at, HoldsAlso, HoldsOther, FindsMembers}
-use Rattle.dagcbor_blocks.specs.Sound.{IsSound}
-use Rattle.dagcbor_blocks.specs.Cars.{IsNamedBlock, SectionRefused, TellsOfFile, StopsAt, ReadRefused}
+use Rattle.ipld_links.specs.Sound.{IsSound}
+use Rattle.ipld_links.proofs.Sounding.{never_unsound}
+use Rattle.dagcbor_blocks.specs.Sound.{IsSoundEntry}
+use Rattle.dagcbor_blocks.specs.Bytes.{BytesRefused}
+use Rattle.dagcbor_blocks.specs.Cars.{StopsAt, NotBegun, ReadRefused}
 use Rattle.dagcbor_blocks.specs.Laws.{IsReadBack, WrittenThenRead}
-use Rattle.dagcbor_blocks.specs.declared.car_error.ReadCarError.{ReadCarError}
-use Rattle.dagcbor_blocks.specs.declared.car_error.ReadCarError.TheVariants.{Car, OtherHash, OtherBytes, OtherCodec, NoBlock, Collision, OutOfMemory}
+use Rattle.dagcbor_blocks.specs.declared.put_error.PutBlockError.{PutBlockError}
+use Rattle.dagcbor_blocks.specs.declared.put_error.PutBlockError.TheVariants.{Unsound, Collision, OutOfMemory}
+use Rattle.dagcbor_car.specs.declared.each.ReadCarError.{ReadCarError}
+use Rattle.dagcbor_car.specs.declared.each.ReadCarError.TheVariants as stop
 use Rattle.dagcbor_blocks.proofs.Keeping.{BlockEntry, shown}
-use Rattle.dagcbor_car.proofs.Members.{map_among}
+use Rattle.ipld_links.proofs.Members.{map_among}
 use Rattle.dagcbor_blocks.proofs.Members.{all_among, finds_members}
 
 -- ---- the same blocks
@@ -64,50 +63,43 @@ among_mid [] x ys = inl refl
 among_mid (z ∷ zs) x ys = inr (among_mid zs x ys)
 
 -- what is held is a block under its name
-held_named : (es : List BlockEntry) (s : Section) → AllByRecursion IsSound es → Among s (shown es) → IsNamedBlock s
+held_named : (es : List BlockEntry) (s : Section) → AllByRecursion IsSoundEntry es → Among s (shown es) → IsSound s
 held_named es s sound m =
     let e = map_among (λ (e : BlockEntry). (e.0, e.1.items)) s es m in
-    let k = all_among IsSound es e.0 sound e.1 in
-    subst IsNamedBlock (sym e.2) ((k.tree, k.is_block), k.named)
-
-no_slice_refused : (e : DecodeError Infallible) (b : List ℕ) → HasBlock b → SliceRefused e b → (e ≡ unread.OutOfMemory → ⊥) → ⊥
-no_slice_refused (unread.Read f) b h r n = r
-no_slice_refused unread.OutOfMemory b h r n = n refl
-no_slice_refused (unread.RequireBorrowed name) b h r n = r
-no_slice_refused unread.Failed b h r n = r
-no_slice_refused _ b h r n = r.0 h.0 h.1
+    let k = all_among IsSoundEntry es e.0 sound e.1 in
+    subst IsSound (sym e.2) k.sound
 
 -- bytes of one name in a store are the same
-no_other : (blocks ss after : Held) (s : Section) → FindsMembers blocks → Among s blocks → ((e : Section) → Among e ss → Among e blocks) → HoldsAlso [] ss after → IsNamedBlock s → HoldsOther s.1 after → ⊥
-no_other blocks ss after s finds m within h named other =
-    let found = (finds (block_name s.1) other.0).1 (within (block_name s.1, other.0) (only_these ss after h (block_name s.1) other.0 other.1)) in
-    let own = (finds (block_name s.1) s.1).1 (subst (λ (n : CidParts). Among {X = Section} (n, s.1) blocks) named.1 m) in
+no_other : (blocks ss after : Held) (s : Section) → FindsMembers blocks → Among s blocks → ((e : Section) → Among e ss → Among e blocks) → HoldsAlso [] ss after → HoldsOther s.0 s.1 after → ⊥
+no_other blocks ss after s finds m within h other =
+    let found = (finds s.0 other.0).1 (within (s.0, other.0) (only_these ss after h s.0 other.0 other.1)) in
+    let own = (finds s.0 s.1).1 m in
     let same : Some other.0 ≡ Some s.1 = sym found ∙ own in
     other.2 (cc same)
 
 module _ (roots : List (List ℕ)) (blocks ss after : Held) (s : Section) (finds : FindsMembers blocks) (m : Among s blocks) (within : (e : Section) → Among e ss → Among e blocks) (h : HoldsAlso [] ss after) where
   -- a section that is held is not refused
-  not_refused : IsNamedBlock s → (e : ReadCarError Infallible) → SectionRefused s after e → (e ≡ OutOfMemory → ⊥) → ⊥
-  not_refused named (Car e) r n = r
-  not_refused named (OtherHash c) r n = r.1 (subst IsBySha256 (sym (r.0 ∙ named.1)) (refl, length-sha256 s.1))
-  not_refused named (OtherBytes c) r n = r.2.1 (inl (subst IsBySha256 (sym named.1) (refl, length-sha256 s.1), ap (λ (x : CidParts). x.digest) named.1))
-  not_refused named (OtherCodec c) r n = r.2.1 (ap (λ (x : CidParts). x.codec) named.1)
-  not_refused named (NoBlock c e) r n = no_slice_refused e s.1 named.0 r.2.2 r.2.3
-  not_refused named (Collision c) r n = no_other blocks ss after s finds m within h named r.2
-  not_refused named OutOfMemory r n = n refl
+  not_refused : IsSound s → (e : PutBlockError) → BytesRefused s after e → (e ≡ OutOfMemory → ⊥) → ⊥
+  not_refused sound (Unsound e) r n = never_unsound s e sound r
+  not_refused sound Collision r n = no_other blocks ss after s finds m within h r.1
+  not_refused sound OutOfMemory r n = n refl
 
-  pub for_memory : ∥ IsNamedBlock s ∥₁ → (e : ReadCarError Infallible) → SectionRefused s after e → IsReadBack roots blocks (Err e) after
-  for_memory named OutOfMemory r = tt
-  for_memory named e r = absurd (not_there named (λ k. not_refused k e r (λ same. cc same)))
+  pub for_memory : ∥ IsSound s ∥₁ → (n : ℕ) (name : CidParts) (e : PutBlockError) → BytesRefused s after e → IsReadBack roots blocks (Err (stop.Block n name e)) after
+  for_memory sound n name OutOfMemory r = tt
+  for_memory sound n name e r = absurd (not_there sound (λ k. not_refused k e r (λ same. cc same)))
 
 -- ---- no refusal of the file
 
 -- where no cause stands only want of memory is told
-told_for_memory : (stands : CarError Infallible → List ℕ → Type 0) (old new : Reading) (b : List ℕ) (roots : List (List ℕ)) (blocks after : Held) → old.left ≡ Some b → ((c : CarError Infallible) → stands c b → ⊥) → (c : CarError Infallible) (e : ReadCarError Infallible)
-    → TellsOfFile c e → CarRefuses stands old c new → IsReadBack roots blocks (Err e) after
-told_for_memory stands old new b roots blocks after l never (car.Read f) e tells r = elim f [ ]
-told_for_memory stands old new b roots blocks after l never car.OutOfMemory e tells r = subst (λ (x : ReadCarError Infallible). IsReadBack roots blocks (Err x) after) (sym tells) tt
-told_for_memory stands old new b roots blocks after l never c e tells r = absurd (never c (r.1 b l))
+begins_for_memory : (old new : Reading) (b : List ℕ) (roots : List (List ℕ)) (blocks after : Held) → old.left ≡ Some b → ((c : CarError Infallible) → RefusesStart c b → ⊥) → (c : CarError Infallible) → CarRefuses RefusesStart old c new → IsReadBack roots blocks (Err (stop.Header c)) after
+begins_for_memory old new b roots blocks after l never (car.Read f) r = elim f [ ]
+begins_for_memory old new b roots blocks after l never car.OutOfMemory r = tt
+begins_for_memory old new b roots blocks after l never c r = absurd (never c (r.1 b l))
+
+goes_on_for_memory : (extent : Option ℕ) (mid new : Reading) (rest : List ℕ) (roots : List (List ℕ)) (blocks after : Held) (n : ℕ) → mid.left ≡ Some rest → ((c : CarError Infallible) → RefusesNext extent c rest → ⊥) → (c : CarError Infallible) → CarRefuses (RefusesNext extent) mid c new → IsReadBack roots blocks (Err (stop.Section n c)) after
+goes_on_for_memory extent mid new rest roots blocks after n l never (car.Read f) r = elim f [ ]
+goes_on_for_memory extent mid new rest roots blocks after n l never car.OutOfMemory r = tt
+goes_on_for_memory extent mid new rest roots blocks after n l never c r = absurd (never c (r.1 rest l))
 
 -- where sections are left, one stands first
 never_no_section : (rest : List ℕ) (extent : Option ℕ) (more : List Section) → AllByRecursion IsSection more → wanting extent rest ≡ 0 → within extent rest ≡ flat_map section_bytes more → (c : CarError Infallible) → RefusesNext extent c rest → ⊥
@@ -121,19 +113,24 @@ next_among rest behind ss (t ∷ more) blocks s all is whole own first =
     let same = section_unique s t behind (flat_map section_bytes more) own all.0 (sym first ∙ is) in
     subst (Among s) (sym whole) (subst (λ x. Among s (ss ++ x ∷ more)) same.0 (among_mid ss s more))
 
-module _ (es : List BlockEntry) (finds : FindsMembers (shown es)) (sound : ∥ AllByRecursion IsSound es ∥₁) (b : List ℕ) (roots : List (List ℕ)) (old new : Reading) (after : Held) (file : IsCar b roots (shown es)) (l : old.left ≡ Some b) where
-  stops_for_memory : (others : List (List ℕ)) (ss more : List Section) (extent : Option ℕ) (mid : Reading) (rest : List ℕ) (e : ReadCarError Infallible) → HoldsAlso [] ss after → AllByRecursion IsSection more → wanting extent rest ≡ 0 → within extent rest ≡ flat_map section_bytes more → shown es ≡ ss ++ more → mid.left ≡ Some rest
-      → StopsAt extent mid after e new → IsReadBack roots (shown es) (Err e) after
-  stops_for_memory others ss more extent mid rest e holds all none is whole left (inl f) = told_for_memory (RefusesNext extent) mid new rest roots (shown es) after left (never_no_section rest extent more all none is) f.0 e f.1 f.2
-  stops_for_memory others ss more extent mid rest e holds all none is whole left (inr t) =
-      let w = t.2.1.takes.taken rest left in
-      let first = ap (within extent) w.1 ∙ within_behind extent t.1 (section_bytes t.0) w.0 t.2.1.spends in
-      let m = next_among (within extent rest) (within t.1 w.0) ss more (shown es) t.0 all is whole t.2.0 first in
-      for_memory roots (shown es) ss after t.0 finds m (λ x n. subst (Among x) (sym whole) (among_left x ss more n)) holds (∥∥₁_map sound (λ k. held_named es t.0 k m)) e t.3
+module _ (es : List BlockEntry) (finds : FindsMembers (shown es)) (sound : ∥ AllByRecursion IsSoundEntry es ∥₁) (b : List ℕ) (roots : List (List ℕ)) (old new : Reading) (after : Held) (file : IsCar b roots (shown es)) (l : old.left ≡ Some b) where
+  stops_for_memory : (others : List (List ℕ)) (ss more : List Section) (extent : Option ℕ) (mid : Reading) (rest : List ℕ) (e : ReadCarError Infallible PutBlockError) → HoldsAlso [] ss after → AllByRecursion IsSection more → wanting extent rest ≡ 0 → within extent rest ≡ flat_map section_bytes more → shown es ≡ ss ++ more → mid.left ≡ Some rest
+      → StopsAt (length ss) extent mid after e new → IsReadBack roots (shown es) (Err e) after
+  stops_for_memory others ss more extent mid rest (stop.Header c) holds all none is whole left f = absurd f
+  stops_for_memory others ss more extent mid rest (stop.Section n c) holds all none is whole left f = goes_on_for_memory extent mid new rest roots (shown es) after n left (never_no_section rest extent more all none is) c f.1.0
+  stops_for_memory others ss more extent mid rest (stop.Block n name e) holds all none is whole left t =
+      let w = t.3.1.takes.taken rest left in
+      let first = ap (within extent) w.1 ∙ within_behind extent t.1 (section_bytes t.0) w.0 t.3.1.spends in
+      let m = next_among (within extent rest) (within t.1 w.0) ss more (shown es) t.0 all is whole t.3.0 first in
+      for_memory roots (shown es) ss after t.0 finds m (λ x n. subst (Among x) (sym whole) (among_left x ss more n)) holds (∥∥₁_map sound (λ k. held_named es t.0 k m)) n name e t.5
 
-  refused_for_memory : (e : ReadCarError Infallible) → ReadRefused old [] e new after → IsReadBack roots (shown es) (Err e) after
-  refused_for_memory e (inl h) = told_for_memory RefusesStart old new b roots (shown es) after l (λ c r. no_file c b r roots (shown es) (file_of_car b roots (shown es) file)) h.0.0 e h.0.1 h.0.2
-  refused_for_memory e (inr (others, ss, extent, mid, to, inr many)) = subst (λ (x : ReadCarError Infallible). IsReadBack roots (shown es) (Err x) after) (sym many.1.0) tt
+  begun_for_memory : (e : ReadCarError Infallible PutBlockError) → NotBegun old e new → IsReadBack roots (shown es) (Err e) after
+  begun_for_memory (stop.Header c) h = begins_for_memory old new b roots (shown es) after l (λ c r. no_file c b r roots (shown es) (file_of_car b roots (shown es) file)) c h.0
+  begun_for_memory e h = absurd h
+
+  refused_for_memory : (e : ReadCarError Infallible PutBlockError) → ReadRefused old [] e new after → IsReadBack roots (shown es) (Err e) after
+  refused_for_memory e (inl h) = begun_for_memory e h.0
+  refused_for_memory e (inr (others, ss, extent, mid, to, inr many)) = subst (λ (x : ReadCarError Infallible PutBlockError). IsReadBack roots (shown es) (Err x) after) (sym many.1.0) tt
   refused_for_memory e (inr (others, ss, extent, mid, to, inl stops)) =
       let k = to.known b l in
       let one = holds_one b k.2.0 b (wanting extent k.0) 0 k.2.1 (car_holds b roots (shown es) file) in
@@ -143,7 +140,7 @@ module _ (es : List BlockEntry) (finds : FindsMembers (shown es)) (sound : ∥ A
       let o = others_behind ss (shown es) (within extent k.0) front.all file.all same.1 in
       stops_for_memory others ss o.0 extent mid k.0 e to.holds o.1 one.1 o.2 o.3 k.1 stops
 
-pub reads_back : FilesAreUnique → (es : List BlockEntry) → IsStrictlySortedBy cid_cmp (keys_of es) → ∥ AllByRecursion IsSound es ∥₁ → WrittenThenRead (shown es)
+pub reads_back : FilesAreUnique → (es : List BlockEntry) → IsStrictlySortedBy cid_cmp (keys_of es) → ∥ AllByRecursion IsSoundEntry es ∥₁ → WrittenThenRead (shown es)
 reads_back law es sorted sound b roots old new after (Ok v) file l h =
     let same = law b (forms v.items) roots h.0 (shown es) (h.1.is_car b l).0 (file_of_car b roots (shown es) file) in
     (same.0, same_held (shown es) after (finds_members es sorted) (subst (λ ss. HoldsAlso [] ss after) same.1 h.1.holds))

@@ -17,11 +17,11 @@ use Rattle.serde_ipld_dagcbor.specs.Whole.{IsWhole}
 use Rattle.serde_ipld_dagcbor.specs.Walks.{forms}
 use Rattle.serde_ipld_dagcbor.specs.EncodeError.{EncodeError}
 use Rattle.serde_ipld_dagcbor.specs.EncodeError.TheVariants as unwritten
-use Rattle.dagcbor_car.specs.Names.{block_name}
-use Rattle.dagcbor_car.specs.Sets.{Among}
-use Rattle.dagcbor_car.specs.Within.{IsInlineForm, IsReached}
+use Rattle.ipld_links.specs.Names.{block_name}
+use Rattle.ipld_links.specs.Sets.{Among}
+use Rattle.ipld_links.specs.Verdicts.{IsDagCbor}
 use Rattle.dagcbor_blocks.specs.declared.error.BlockError.{BlockError}
-use Rattle.dagcbor_blocks.specs.declared.error.BlockError.TheVariants.{Encode, Decode, Collision, OutOfMemory}
+use Rattle.dagcbor_blocks.specs.declared.error.BlockError.TheVariants.{Encode, Decode, OtherCodec, Collision, OutOfMemory}
 use Rattle.dagcbor_blocks.specs.declared.store.Blocks.{Blocks}
 use Rattle.serde_ipld_dagcbor.specs.Reading.{default_steps}
 
@@ -63,9 +63,9 @@ abbrev pub ExceedsSteps : DecodeError Infallible → Tree → Type 0
 ExceedsSteps e t = (default_steps < any_need t) × (e ≢ unread.OutOfMemory)
     × LinksRefused e (spelling t)
 
--- other bytes are held under the name of these
-abbrev pub HoldsOther : List ℕ → Held → Type 0
-HoldsOther b blocks = (c : List ℕ) × (block_at (block_name b) blocks ≡ Some c) × (c ≢ b)
+-- other bytes than these are held under the name
+abbrev pub HoldsOther : CidParts → List ℕ → Held → Type 0
+HoldsOther name b blocks = (c : List ℕ) × (block_at name blocks ≡ Some c) × (c ≢ b)
 
 -- ---- putting
 
@@ -79,7 +79,8 @@ HoldsAlso old these new = (q : CidParts) (b : List ℕ)
 abbrev pub PutRefused : Option Tree → Held → BlockError → Type 0
 PutRefused tree old (Encode e) = IsOfValue e × IfSome tree (λ t. ¬ IsSpellable t)
 PutRefused tree old (Decode e) = IsSomeAnd tree (ExceedsSteps e)
-PutRefused tree old Collision = IsSomeAnd tree (λ t. HoldsOther (spelling t) old)
+PutRefused tree old OtherCodec = ⊥
+PutRefused tree old Collision = IsSomeAnd tree (λ t. HoldsOther (block_name (spelling t)) (spelling t) old)
 PutRefused tree old OutOfMemory = ⊤
 
 -- The spelling of the value's tree is kept under its name. A refusal changes nothing.
@@ -95,41 +96,50 @@ Puts tree old result new = MatchResult result
 abbrev pub IsHeld : CidParts → List ℕ → Held → Type 0
 IsHeld name b blocks = (block_at name blocks ≡ Some b) × (name.digest ≡ sha256 b)
 
--- why a held block is not read: the type does not accept it, or want of memory, which reading the
--- type may take
+-- a block is held under the name, of another codec than DAG-CBOR
+abbrev pub HoldsUnread : CidParts → Held → Type 0
+HoldsUnread name blocks = ((b : List ℕ) × IsHeld name b blocks) × ¬ IsDagCbor name
+
+-- a block of DAG-CBOR is held under the name
+abbrev pub HoldsRead : CidParts → List ℕ → Held → Type 0
+HoldsRead name b blocks = IsHeld name b blocks × IsDagCbor name
+
+-- why a held block is not read: it is of another codec; or the type does not accept it; or want of
+-- memory, which reading the type may take
 abbrev pub GetRefused : {V : Type 0} → Shape Tree V → CidParts → Held → BlockError → Type 0
 GetRefused shape name blocks (Encode e) = ⊥
 GetRefused {V} shape name blocks (Decode e) = IsOfBytes e
-    × ((b : List ℕ) × IsHeld name b blocks × ((v : V) → ¬ IsWhole shape default_steps b v))
+    × ((b : List ℕ) × HoldsRead name b blocks × ((v : V) → ¬ IsWhole shape default_steps b v))
+GetRefused shape name blocks OtherCodec = HoldsUnread name blocks
 GetRefused shape name blocks Collision = ⊥
-GetRefused shape name blocks OutOfMemory = ((b : List ℕ) × IsHeld name b blocks)
+GetRefused shape name blocks OutOfMemory = ((b : List ℕ) × HoldsRead name b blocks)
     × (shape.memory true ≡ true)
 
 -- none where no block has the name, else what the held block shows to the type
 abbrev pub GetsSome : {T V : Type 0} → (T → V) → Shape Tree V → CidParts → Held → Option T → Type 0
 GetsSome show shape name blocks None = block_at name blocks ≡ None
-GetsSome show shape name blocks (Some v) = (b : List ℕ) × IsHeld name b blocks
+GetsSome show shape name blocks (Some v) = (b : List ℕ) × HoldsRead name b blocks
     × IsWhole shape default_steps b (show v)
 
 -- None is answered exactly where no block has the name, else what the tree shows whose spelling is
--- held; refused only where the type does not accept that tree within 256 steps.
+-- held; refused only where the block is of another codec, or the type does not accept that tree within
+-- 256 steps.
 abbrev pub Gets : {T V : Type 0} → (T → V) → Shape Tree V → CidParts → Held
     → Result (Option T) BlockError → Type 0
 Gets show shape name blocks result = MatchResult result (GetsSome show shape name blocks) (GetRefused shape name blocks)
 
 -- ---- links
 
--- the binary form is that of a link in a held block, or of one within such a link
+-- the binary form is that of a link in a held block of DAG-CBOR
 abbrev pub IsLinked : List ℕ → Held → Type 0
-IsLinked form blocks = (e : CidParts × List ℕ) × (t : Tree) × Among e blocks × IsSpelling e.1 t
-    × IsReached form (links_of t)
+IsLinked form blocks = (e : CidParts × List ℕ) × (t : Tree) × Among e blocks × IsDagCbor e.0
+    × IsSpelling e.1 t × Among form (links_of t)
 
--- it names no held block, nor holds one itself
+-- it names no held block
 abbrev pub NamesNone : List ℕ → Held → Type 0
-NamesNone form blocks = ¬ IsInlineForm form
-    × ((e : CidParts × List ℕ) → Among e blocks → cid_bytes e.0 ≢ form)
+NamesNone form blocks = (e : CidParts × List ℕ) → Among e blocks → cid_bytes e.0 ≢ form
 
--- The links in held blocks that name no held block are listed, each once, in their order.
+-- The links in held blocks of DAG-CBOR that name no held block, of whatever codec, are listed, each once, in their order.
 abbrev pub ListsMissing : Held → Result (Vec CidParts Global) BlockError → Type 0
 ListsMissing blocks result = MatchResult result
     (λ v. IsStrictlySortedBy cid_cmp v.items × ((form : List ℕ) → Among form (forms v.items) ↔ (IsLinked form blocks × NamesNone form blocks)))

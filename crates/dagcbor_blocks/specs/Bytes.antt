@@ -3,33 +3,22 @@ use Rattle.std.specs.Prelude.{◌≡◌, ◌≢◌, ◌↔◌, ℕ, List, [], �
 use Rattle.std.specs.List.Sorted.{IsStrictlySortedBy}
 use Rattle.std.specs.declared.alloc.Global.{Global}
 use Rattle.serde_ipld_dagcbor.specs.Cid.{CidParts, cid_cmp}
-use Rattle.dagcbor_car.specs.Names.{IsBySha256}
+use Rattle.ipld_links.specs.Sound.{IsSound, IsUnsound}
 use Rattle.dagcbor_car.specs.Car.{Section}
-use Rattle.dagcbor_car.specs.Verdicts.{IsVerdict}
-use Rattle.dagcbor_car.specs.declared.verdict.Verdict.TheVariants as verdict
 use Rattle.dagcbor_blocks.specs.Blocks.{Held, block_at, HoldsAlso, HoldsOther}
-use Rattle.dagcbor_blocks.specs.Cars.{IsNamedBlock}
 use Rattle.dagcbor_blocks.specs.declared.put_error.PutBlockError.{PutBlockError}
-use Rattle.dagcbor_blocks.specs.declared.put_error.PutBlockError.TheVariants.{OtherHash, OtherBytes, OtherCodec, NoBlock, Collision, OutOfMemory}
+use Rattle.dagcbor_blocks.specs.declared.put_error.PutBlockError.TheVariants.{Unsound, Collision, OutOfMemory}
 
--- why bytes are no block under a name
-abbrev pub IsNoBlock : Section → PutBlockError → Type 0
-IsNoBlock s OtherHash = ¬ IsBySha256 s.0
-IsNoBlock s OtherBytes = IsBySha256 s.0 × IsVerdict s verdict.OtherBytes
-IsNoBlock s OtherCodec = IsBySha256 s.0 × IsVerdict s verdict.NotRead
-IsNoBlock s (NoBlock e) = IsBySha256 s.0 × IsVerdict s (verdict.Refused e)
-IsNoBlock s _ = ⊥
-
--- why bytes are not kept under a name: memory is wanted only for a block under its name
+-- why bytes are not kept under a name: memory is wanted only for a sound block
 abbrev pub BytesRefused : Section → Held → PutBlockError → Type 0
-BytesRefused s held Collision = IsNamedBlock s × HoldsOther s.1 held
-BytesRefused s held OutOfMemory = IsNamedBlock s
-BytesRefused s held e = IsNoBlock s e
+BytesRefused s held (Unsound e) = IsUnsound s e
+BytesRefused s held Collision = IsSound s × HoldsOther s.0 s.1 held
+BytesRefused s held OutOfMemory = IsSound s
 
--- A block is kept under its name. A refusal changes nothing.
+-- A sound block is kept under its name. A refusal changes nothing.
 abbrev pub PutsBytes : Section → Held → Result (Unit {0}) PutBlockError → Held → Type 0
 PutsBytes s old result new = MatchResult result
-    (λ _. IsNamedBlock s × HoldsAlso old (s ∷ []) new)
+    (λ _. IsSound s × HoldsAlso old (s ∷ []) new)
     (λ e. (new ≡ old) × BytesRefused s old e)
 
 -- whether a block is held under the name

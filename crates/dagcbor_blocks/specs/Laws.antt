@@ -8,20 +8,25 @@ use Rattle.serde_ipld_dagcbor.specs.Walks.{forms}
 use Rattle.dagcbor_car.specs.Car.{IsCar}
 use Rattle.dagcbor_blocks.specs.Blocks.{Held, block_at}
 use Rattle.dagcbor_blocks.specs.Cars.{ReadsCar}
-use Rattle.dagcbor_blocks.specs.declared.car_error.ReadCarError.{ReadCarError}
-use Rattle.dagcbor_blocks.specs.declared.car_error.ReadCarError.TheVariants.{OutOfMemory}
+use Rattle.dagcbor_car.specs.declared.error.CarError.TheVariants as car
+use Rattle.dagcbor_car.specs.declared.each.ReadCarError.{ReadCarError}
+use Rattle.dagcbor_car.specs.declared.each.ReadCarError.TheVariants as stop
+use Rattle.dagcbor_blocks.specs.declared.put_error.PutBlockError.{PutBlockError}
+use Rattle.dagcbor_blocks.specs.declared.put_error.PutBlockError.TheVariants as puts
 
 -- these roots were read, and under each name stands what stood there; or memory was wanting
 abbrev pub IsReadBack : List (List ℕ) → Held
-    → Result (Vec CidParts Global) (ReadCarError Infallible) → Held → Type 0
+    → Result (Vec CidParts Global) (ReadCarError Infallible PutBlockError) → Held → Type 0
 IsReadBack roots blocks (Ok v) after = (forms v.items ≡ roots)
     × ((name : CidParts) → block_at name after ≡ block_at name blocks)
-IsReadBack roots blocks (Err OutOfMemory) after = ⊤
+IsReadBack roots blocks (Err (stop.Header car.OutOfMemory)) after = ⊤
+IsReadBack roots blocks (Err (stop.Section n car.OutOfMemory)) after = ⊤
+IsReadBack roots blocks (Err (stop.Block n name puts.OutOfMemory)) after = ⊤
 IsReadBack roots blocks (Err _) after = ⊥
 
 -- What a store that holds these blocks writes is read into an empty store as the same blocks.
 abbrev pub WrittenThenRead : Held → Type 0
 WrittenThenRead blocks = (b : List ℕ) (roots : List (List ℕ)) (old new : Reading) (after : Held)
-    (result : Result (Vec CidParts Global) (ReadCarError Infallible))
+    (result : Result (Vec CidParts Global) (ReadCarError Infallible PutBlockError))
     → IsCar b roots blocks → old.left ≡ Some b → ReadsCar old [] result new after
     → IsReadBack roots blocks result after

@@ -2,9 +2,8 @@ pub mod Names
 pub mod Errors
 pub mod Sound
 pub mod Blocks
-pub mod Cars
 pub mod Bytes
-pub mod CarSteps
+pub mod Cars
 pub mod Laws
 pub mod Steps
 pub mod Reaching

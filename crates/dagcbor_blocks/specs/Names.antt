@@ -6,7 +6,7 @@ use Rattle.serde_ipld_dagcbor.specs.EncodeError.TheVariants.{Msg, Write, OutOfMe
 use Rattle.serde_ipld_dagcbor.specs.Cid.{CidParts}
 use Rattle.serde_ipld_dagcbor.specs.Tree.{Tree, IsTree}
 use Rattle.serde_ipld_dagcbor.specs.Spelling.{IsSpellable, spelling}
-use Rattle.dagcbor_car.specs.Names.{block_name}
+use Rattle.ipld_links.specs.Names.{block_name}
 
 -- The name of the spelling of the value's tree is answered. A message is answered only where the
 -- value has no tree, or its tree no spelling.

@@ -1,15 +1,13 @@
 -- What the steps of a store's calls do.
-use Rattle.std.specs.Prelude.{◌≡◌, ◌⊎◌, ◌↔◌, ℕ, List, [], ◌∷◌, None, Result, MatchResult, IfOk, OnOk, Vec, ⊤}
+use Rattle.std.specs.Prelude.{◌≡◌, ◌⊎◌, ◌↔◌, ℕ, List, [], ◌∷◌, None, Result, MatchResult, OnOk, ⊤}
 use Rattle.std.specs.List.{AllByRecursion}
-use Rattle.std.specs.List.Sorted.{IsStrictlySortedBy}
 use Rattle.std.specs.BTreeMap.{BTreeMap, get}
-use Rattle.std.specs.BTreeSet.{BTreeSet}
-use Rattle.std.specs.declared.alloc.Global.{Global}
 use Rattle.serde_ipld_dagcbor.specs.Cid.{CidParts, AreCidParts, cid_cmp}
 use Rattle.serde_ipld_dagcbor.specs.Tree.{Tree}
 use Rattle.serde_ipld_dagcbor.specs.Spelling.{IsSpelling}
-use Rattle.dagcbor_car.specs.Sets.{Among}
-use Rattle.dagcbor_car.specs.Splits.{HasBlock}
+use Rattle.ipld_links.specs.Sets.{Among, members}
+use Rattle.ipld_links.specs.declared.cid_set.CidSet.{CidSet}
+use Rattle.ipld_links.specs.Blocks.{HasBlock}
 use Rattle.dagcbor_blocks.specs.Blocks.{Held, ExceedsSteps, HoldsOther, HoldsAlso}
 use Rattle.dagcbor_blocks.specs.declared.error.BlockError.{BlockError}
 use Rattle.dagcbor_blocks.specs.declared.error.BlockError.TheVariants.{Decode, Collision, OutOfMemory}
@@ -31,16 +29,16 @@ abbrev pub ChecksDepth : List ℕ → Result (Unit {0}) BlockError → Type 0
 ChecksDepth b result = MatchResult result (λ _. HasBlock b) (DepthRefused b)
 
 -- why a block is not stored
-abbrev pub StoreRefused : List ℕ → Held → BlockError → Type 0
-StoreRefused b old Collision = HoldsOther b old
-StoreRefused b old OutOfMemory = ⊤
-StoreRefused b old _ = ⊥
+abbrev pub StoreRefused : CidParts → List ℕ → Held → BlockError → Type 0
+StoreRefused name b old Collision = HoldsOther name b old
+StoreRefused name b old OutOfMemory = ⊤
+StoreRefused name b old _ = ⊥
 
 -- A block is stored under its name, which is answered. A refusal changes nothing.
 abbrev pub Stores : CidParts → List ℕ → Held → Result CidParts BlockError → Held → Type 0
 Stores name b old result new = MatchResult result
     (λ n. (n ≡ name) × HoldsAlso old ((name, b) ∷ []) new)
-    (λ e. (new ≡ old) × StoreRefused b old e)
+    (λ e. (new ≡ old) × StoreRefused name b old e)
 
 -- ---- listing
 
@@ -49,15 +47,11 @@ abbrev pub IsUnheld : {X : Type 0} → BTreeMap CidParts X → CidParts → Type
 IsUnheld blocks name = get cid_cmp blocks name ≡ None
 
 -- The link is put into the set where it names no entry of the map.
-abbrev pub AddsOne : {X E : Type 0} → BTreeMap CidParts X → CidParts → BTreeSet CidParts
-    → Result (Unit {0}) E → BTreeSet CidParts → Type 0
-AddsOne blocks link old result new = OnOk result (AreCidParts link × ((q : CidParts) → Among q new.keys ↔ (Among q old.keys ⊎ ((q ≡ link) × IsUnheld blocks q))))
+abbrev pub AddsOne : {X E : Type 0} → BTreeMap CidParts X → CidParts → CidSet
+    → Result (Unit {0}) E → CidSet → Type 0
+AddsOne blocks link old result new = OnOk result (AreCidParts link × ((q : CidParts) → Among q (members new) ↔ (Among q (members old) ⊎ ((q ≡ link) × IsUnheld blocks q))))
 
 -- The links that name no entry of the map are put into the set.
-abbrev pub AddsMissing : {X E : Type 0} → BTreeMap CidParts X → List CidParts → BTreeSet CidParts
-    → Result (Unit {0}) E → BTreeSet CidParts → Type 0
-AddsMissing blocks links old result new = OnOk result (AllByRecursion AreCidParts links × ((q : CidParts) → Among q new.keys ↔ (Among q old.keys ⊎ (Among q links × IsUnheld blocks q))))
-
--- The CIDs of a set are listed, each once, in their order.
-abbrev pub ListsSet : {E : Type 0} → List CidParts → Result (Vec CidParts Global) E → Type 0
-ListsSet keys result = IfOk result (λ v. IsStrictlySortedBy cid_cmp v.items × (v.items ≡ keys))
+abbrev pub AddsMissing : {X E : Type 0} → BTreeMap CidParts X → List CidParts → CidSet
+    → Result (Unit {0}) E → CidSet → Type 0
+AddsMissing blocks links old result new = OnOk result (AllByRecursion AreCidParts links × ((q : CidParts) → Among q (members new) ↔ (Among q (members old) ⊎ (Among q links × IsUnheld blocks q))))

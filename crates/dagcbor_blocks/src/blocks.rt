@@ -2,17 +2,16 @@
 
 ghost use Rattle.std.specs.Prelude.{◌≡◌, ◌≢◌, [], true, IfOk, IfSome, OnErr};
 ghost use Rattle.dagcbor_blocks.specs.Blocks.{held_blocks, Puts, Gets, ListsMissing};
-ghost use Rattle.dagcbor_car.specs.Names.{block_name};
-ghost use Rattle.dagcbor_car.specs.Splits.{HasBlock};
+ghost use Rattle.ipld_links.specs.Sound.{IsSound};
 ghost use Rattle.dagcbor_blocks.specs.Steps.{HasTree, ChecksDepth, Stores};
-ghost use Rattle.dagcbor_blocks.specs.Steps.{AddsOne, AddsMissing, ListsSet};
+ghost use Rattle.dagcbor_blocks.specs.Steps.{AddsOne, AddsMissing};
 
 use crate::error::BlockError;
 use crate::store::Blocks;
-use dagcbor_car::{name_of_block, names_from_slice};
+use ipld_links::{CidSet, is_dag_cbor, name_of_block};
 use serde_ipld_dagcbor::{Cid, Deserialize, Serialize, from_slice, laws, links_from_slice, to_vec};
 use std::alloc::{AllocError, Global};
-use std::collections::{BTreeMap, BTreeSet};
+use std::collections::BTreeMap;
 
 /// Whether a spelling is read within 256 steps: its links are.
 fn check_depth(alloc: Global, bytes: &[u8]) -> Result<(), BlockError>
@@ -24,17 +23,6 @@ fn check_depth(alloc: Global, bytes: &[u8]) -> Result<(), BlockError>
         Ok(_links) => Ok(()),
         Err(error) => Err(BlockError::of_decoding(error)),
     }
-}
-
-/// The links of a set, in their order.
-fn in_order(alloc: Global, links: BTreeSet<Cid>) -> Result<Vec<Cid>, AllocError>
-    ensures { ListsSet links.keys result }
-{
-    let mut list = Vec::new(alloc);
-    for link in links {
-        list.push(link)?;
-    }
-    Ok(list)
 }
 
 impl Blocks {
@@ -60,12 +48,13 @@ impl Blocks {
         self.store(name, bytes)
     }
 
-    /// Keeps a block under its name.
+    /// Keeps a sound block under its name.
     pub(crate) fn store(&mut self, name: Cid, bytes: Vec<u8>) -> Result<Cid, BlockError>
-        requires block { HasBlock bytes.items }
-        requires named { name ≡ block_name bytes.items }
+        requires { IsSound (name, bytes.items) }
         ensures { Stores name bytes.items (held_blocks self.old) result (held_blocks self.new) }
     {
+        // What is known of a CID comes with its version.
+        let _version = name.version();
         match self.blocks.get(&name) {
             Some(other) => {
                 if other.as_slice() == bytes.as_slice() {
@@ -81,22 +70,27 @@ impl Blocks {
         }
     }
 
-    /// The block under the name, read as a value. None where no block is held under it.
+    /// The block under the name, which must be DAG-CBOR, read as a value. None where no block is held
+    /// under it.
     pub fn get<'a, T: Deserialize<'a>>(&'a self, name: &Cid) -> Result<Option<T>, BlockError>
         ensures gets { Gets T.meaning T.shape name.now (held_blocks self.now) result }
         ensures lies { IfOk result (λ found. IfSome found (T.lies true)) }
     {
-        match self.blocks.get(name) {
-            None => Ok(None),
-            Some(block) => match from_slice::<T>(self.alloc, block) {
-                Ok(value) => Ok(Some(value)),
-                Err(error) => Err(BlockError::of_decoding(error)),
-            },
+        let Some(block) = self.blocks.get(name) else {
+            return Ok(None);
+        };
+        if !is_dag_cbor(name) {
+            return Err(BlockError::OtherCodec);
+        }
+        match from_slice::<T>(self.alloc, block) {
+            Ok(value) => Ok(Some(value)),
+            Err(error) => Err(BlockError::of_decoding(error)),
         }
     }
 
-    /// The links in held blocks that name no held block, each once, in their order. A name by the
-    /// identity holds its block itself: it is not listed, and the links in that block are followed.
+    /// The links in held blocks of DAG-CBOR that name no held block, each once, in their order. Links
+    /// in blocks of another codec are not read. A link by the identity is listed as any other, and the
+    /// block in its digest, which is not held, is not read.
     pub fn missing(&self) -> Result<Vec<Cid>, BlockError>
         ensures lists { ListsMissing (held_blocks self.now) result }
         ensures memory { OnErr result (held_blocks self.now ≢ []) }
@@ -113,24 +107,27 @@ impl Blocks {
     {
         laws::spelling_unique();
         laws::cid_equality();
-        let mut missing = BTreeSet::new(self.alloc);
-        for block in self.blocks.values() {
-            let links = match names_from_slice(self.alloc, block) {
-                Ok(names) => names,
+        let mut missing = CidSet::new(self.alloc);
+        for (name, block) in self.blocks.iter() {
+            if !is_dag_cbor(name) {
+                continue;
+            }
+            let links = match links_from_slice(self.alloc, block) {
+                Ok(links) => links,
                 Err(error) => return Err(BlockError::of_decoding(error)),
             };
             if self.add_missing(&links, &mut missing).is_err() {
                 return Err(BlockError::OutOfMemory);
             }
         }
-        match in_order(self.alloc, missing) {
+        match missing.into_vec(self.alloc) {
             Ok(links) => Ok(links),
             Err(_) => Err(BlockError::OutOfMemory),
         }
     }
 
     /// Adds those of the links that name no held block.
-    fn add_missing(&self, links: &[Cid], missing: &mut BTreeSet<Cid>) -> Result<(), AllocError>
+    fn add_missing(&self, links: &[Cid], missing: &mut CidSet) -> Result<(), AllocError>
         ensures { AddsMissing self.now.blocks links.now missing.old result missing.new }
     {
         for link in links {
@@ -139,7 +136,7 @@ impl Blocks {
         Ok(())
     }
 
-    fn add_if_missing(&self, link: &Cid, missing: &mut BTreeSet<Cid>) -> Result<(), AllocError>
+    fn add_if_missing(&self, link: &Cid, missing: &mut CidSet) -> Result<(), AllocError>
         ensures { AddsOne self.now.blocks link.now missing.old result missing.new }
     {
         // What is known of a CID comes with its version.
@@ -148,9 +145,6 @@ impl Blocks {
         if is_held {
             return Ok(());
         }
-        match missing.insert(*link) {
-            Ok(_added) => Ok(()),
-            Err(_) => Err(AllocError),
-        }
+        missing.add(*link)
     }
 }

@@ -1,45 +1,27 @@
 //! Keeping blocks as bytes, and handing them out.
 
-ghost use Rattle.std.specs.Prelude.{◌≡◌, ◌≢◌, [], length, IfOk, OnErr, MatchOption, MatchResult, None};
+ghost use Rattle.std.specs.Prelude.{◌≡◌, ◌≢◌, [], length, IfOk, OnErr, MatchOption, None};
 ghost use Rattle.dagcbor_blocks.specs.Blocks.{held_blocks, block_at, IsHeld};
-ghost use Rattle.dagcbor_blocks.specs.Cars.{IsNamedBlock};
-ghost use Rattle.dagcbor_blocks.specs.Bytes.{IsNoBlock, PutsBytes, is_held, HoldsOthers, AreNames};
+ghost use Rattle.dagcbor_blocks.specs.Bytes.{PutsBytes, is_held, HoldsOthers, AreNames};
 
 use crate::error::BlockError;
 use crate::put_error::PutBlockError;
 use crate::store::Blocks;
-use dagcbor_car::{SHA2_256, Verdict, verify};
+use ipld_links::check_block;
 use serde_ipld_dagcbor::Cid;
 use std::alloc::AllocError;
 
-/// Whether the bytes are a block, and the name is its own.
-fn check_block(name: &Cid, bytes: &[u8]) -> Result<(), PutBlockError>
-    ensures { MatchResult result
-        (λ _. IsNamedBlock (name.now, bytes.now))
-        (λ e. IsNoBlock (name.now, bytes.now) e) }
-{
-    // What is known of a CID comes with its version.
-    let _version = name.version();
-    if name.hash_code() != SHA2_256 {
-        return Err(PutBlockError::OtherHash);
-    }
-    match verify(name, bytes) {
-        Verdict::Block(_) => Ok(()),
-        Verdict::Refused(error) => Err(PutBlockError::NoBlock(error)),
-        Verdict::OtherBytes => Err(PutBlockError::OtherBytes),
-        Verdict::NotRead => Err(PutBlockError::OtherCodec),
-        Verdict::Unverified => Err(PutBlockError::OtherHash),
-    }
-}
-
 impl Blocks {
-    /// Keeps a copy of the block under the name, which must be its own, by SHA-256: the bytes must be
-    /// DAG-CBOR that is read within 256 steps. A refusal changes nothing.
+    /// Keeps a copy of the block under the name, whatever its codec. The digest of the name must be
+    /// the SHA-256 of the block, of 32 bytes, and where the codec is DAG-CBOR, the block must be one
+    /// that is read within 256 steps. A refusal changes nothing.
     pub fn put_block(&mut self, name: &Cid, bytes: &[u8]) -> Result<(), PutBlockError>
         ensures { PutsBytes (name.now, bytes.now) (held_blocks self.old) result
             (held_blocks self.new) }
     {
-        check_block(name, bytes)?;
+        if let Err(cause) = check_block(name, bytes) {
+            return Err(PutBlockError::Unsound(cause));
+        }
         let Ok(block) = bytes.to_vec(self.alloc) else {
             return Err(PutBlockError::OutOfMemory);
         };

@@ -15,7 +15,6 @@
 
 mod blocks;
 mod bytes;
-mod car_error;
 mod error;
 pub mod laws;
 mod name;
@@ -27,8 +26,9 @@ mod tree_error;
 mod write_car;
 mod write_tree;
 
-pub use car_error::ReadCarError;
+pub use dagcbor_car::ReadCarError;
 pub use error::BlockError;
+pub use ipld_links::Unsound;
 pub use name::name_of;
 pub use put_error::PutBlockError;
 pub use store::Blocks;

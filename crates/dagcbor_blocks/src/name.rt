@@ -2,7 +2,7 @@
 
 ghost use Rattle.dagcbor_blocks.specs.Names.{IsNameOf};
 
-use dagcbor_car::name_of_block;
+use ipld_links::name_of_block;
 use serde_ipld_dagcbor::{Cid, EncodeError, Serialize, to_vec};
 use std::alloc::Global;
 use std::convert::Infallible;

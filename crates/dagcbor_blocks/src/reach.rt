@@ -1,12 +1,12 @@
 //! The blocks that links lead to.
 
 ghost use Rattle.std.specs.Prelude.{IfOk, OnErr, MatchBool};
-ghost use Rattle.dagcbor_car.specs.Reaching.{ListsReachable};
+ghost use Rattle.ipld_links.specs.Reaching.{ListsReachable};
 ghost use Rattle.dagcbor_blocks.specs.Blocks.{held_blocks};
 ghost use Rattle.dagcbor_blocks.specs.Reaching.{stored, MayLead, LeadsNowhere};
 
 use crate::store::Blocks;
-use dagcbor_car::{IDENTITY, Reached, reach_from};
+use ipld_links::{IDENTITY, Reached, reach_from};
 use serde_ipld_dagcbor::Cid;
 use std::alloc::AllocError;
 

@@ -1,7 +1,7 @@
 //! The blocks that are held.
 
 ghost use Rattle.std.specs.List.{AllByRecursion};
-ghost use Rattle.dagcbor_blocks.specs.Sound.{IsSound};
+ghost use Rattle.dagcbor_blocks.specs.Sound.{IsSoundEntry};
 
 use serde_ipld_dagcbor::Cid;
 use std::alloc::Global;
@@ -12,6 +12,6 @@ use std::collections::BTreeMap;
 pub struct Blocks {
     pub(crate) alloc: Global,
     pub(crate) blocks: BTreeMap<Cid, Vec<u8>>,
-    // Each is a spelling within 256 steps, under its name.
-    ghost sound: { ∥ AllByRecursion IsSound blocks.entries ∥₁ },
+    // Each is sound under its name.
+    ghost sound: { ∥ AllByRecursion IsSoundEntry blocks.entries ∥₁ },
 }

@@ -4,7 +4,7 @@ use Rattle.sha2.specs.Sha256.{sha256}
 use Rattle.sha2.proofs.Facts256.{length-sha256}
 use Rattle.ipld_tree.specs.Cid.{varint, cid_bytes}
 use Rattle.ipld_tree.proofs.Cids.{form_1}
-use Rattle.dagcbor_car.specs.Names.{block_name}
+use Rattle.ipld_links.specs.Names.{block_name}
 
 name_form : (b : List ℕ) → cid_bytes (block_name b) ≡ 1 ∷ 113 ∷ 18 ∷ 32 ∷ sha256 b
 unfolding varint

@@ -8,8 +8,8 @@ use Rattle.cid_text.specs.declared.error.CidTextError.{CidTextError}
 use Rattle.cid_text.specs.declared.error.CidTextError.TheVariants as texts
 use Rattle.dagcbor_car.specs.declared.error.CarError.{CarError}
 use Rattle.dagcbor_car.specs.declared.error.CarError.TheVariants as faults
-use Rattle.dagcbor_car.specs.declared.verdict.Verdict.{Verdict}
-use Rattle.dagcbor_car.specs.declared.verdict.Verdict.TheVariants as verdicts
+use Rattle.ipld_links.specs.declared.verdict.Verdict.{Verdict}
+use Rattle.ipld_links.specs.declared.verdict.Verdict.TheVariants as verdicts
 
 -- the number of a kind, from 0
 abbrev pub kind_code : Kind → ℤ

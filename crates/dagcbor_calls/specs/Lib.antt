@@ -1,3 +1,5 @@
+pub use Rattle.dagcbor_paths.specs.Paths
+pub use Rattle.dagcbor_paths.specs.Finding
 pub mod Codes
 pub mod Packed
 pub mod Tapes
@@ -8,3 +10,4 @@ pub mod Sections
 pub mod Headers
 pub mod CidTexts
 pub mod Spans
+pub mod Finds

@@ -4,9 +4,9 @@ use Rattle.std.specs.declared.convert.Infallible.{Infallible}
 use Rattle.ipld_tree.specs.Cid.{varint, cid_bytes}
 use Rattle.dagcbor_car.specs.Car.{Section, section_body, section_bytes}
 use Rattle.dagcbor_car.specs.Splits.{SplitsSection, BeginsNoSection, SectionFault}
-use Rattle.dagcbor_car.specs.Verdicts.{IsVerdict}
+use Rattle.ipld_links.specs.Verdicts.{IsVerdict}
 use Rattle.dagcbor_car.specs.declared.error.CarError.{CarError}
-use Rattle.dagcbor_car.specs.declared.verdict.Verdict.{Verdict}
+use Rattle.ipld_links.specs.declared.verdict.Verdict.{Verdict}
 use Rattle.dagcbor_calls.specs.Codes.{verdict_code, fault_code}
 
 -- where the CID of a section begins, behind the length; where it ends and the block begins; and

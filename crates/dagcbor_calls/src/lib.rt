@@ -4,6 +4,7 @@
 
 mod cid;
 mod code;
+mod find;
 mod header;
 pub mod laws;
 mod links;
@@ -15,6 +16,7 @@ mod tape;
 
 pub use cid::{put_cid_of_text, put_cid_text};
 pub use code::code_of;
+pub use find::put_found;
 pub use header::put_header;
 pub use links::put_links;
 pub use name::name_of;

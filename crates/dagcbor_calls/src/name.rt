@@ -2,10 +2,10 @@
 
 ghost use Rattle.std.specs.Prelude.{◌≡◌};
 ghost use Rattle.ipld_tree.specs.Cid.{cid_bytes};
-ghost use Rattle.dagcbor_car.specs.Names.{block_name};
+ghost use Rattle.ipld_links.specs.Names.{block_name};
 
 use arrayvec::ArrayVec;
-use dagcbor_car::name_of_block;
+use ipld_links::name_of_block;
 
 /// The binary form of the block's name.
 #[tactic(auto, using(crate::proofs::Naming::name_length))]

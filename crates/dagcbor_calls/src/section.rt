@@ -9,7 +9,8 @@ ghost use Rattle.dagcbor_calls.specs.Sections.{places_of, IsSectionAnswer};
 
 use crate::code::{fault_code, kind_code, refusal_code};
 use arrayvec::ArrayVec;
-use dagcbor_car::{Section, Verdict, split_section, verify};
+use dagcbor_car::{Section, split_section};
+use ipld_links::{Verdict, verify};
 use ipld_tree::Cid;
 
 /// The number of a verdict.

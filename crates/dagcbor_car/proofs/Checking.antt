@@ -12,20 +12,20 @@ use Rattle.dagcbor_items.specs.Slices.{IsBlock}
 use Rattle.dagcbor_items.specs.declared.kind.Kind.{Kind}
 use Rattle.dagcbor_items.proofs.SliceReads.{whole_front}
 use Rattle.dagcbor_car.specs.Car.{Section}
-use Rattle.dagcbor_car.specs.Verdicts.{IsVerified, IsDagCbor, IsVerdict}
-use Rattle.dagcbor_car.specs.Sets.{Among, members, RemovesCid, AreCids}
-use Rattle.dagcbor_car.specs.Held.{IsKept, HoldsNone, AddsName, AreNames}
-use Rattle.dagcbor_car.specs.Within.{IsWithin, IsReached, IsReachedName, HoldsReached, AddsReached, AddsAll, AddsLinks}
-use Rattle.dagcbor_car.proofs.Within.{reached_only, reached_of_cids, reached_cid, not_inline}
+use Rattle.ipld_links.specs.Verdicts.{IsVerified, IsDagCbor, IsVerdict}
+use Rattle.ipld_links.specs.Sets.{Among, members, RemovesCid, AreCids}
+use Rattle.ipld_links.specs.Held.{IsKept, HoldsNone, AddsName, AreNames}
+use Rattle.ipld_links.specs.Within.{IsWithin, IsReached, IsReachedName, HoldsReached, AddsReached, AddsAll, AddsLinks}
+use Rattle.ipld_links.proofs.Within.{reached_only, reached_of_cids, reached_cid, not_inline}
 use Rattle.dagcbor_car.specs.Checks.{IsHeld, IsLinked, NamesNone, ListsMissing, IsAfter, TakesSection, HoldsName, FollowsLinks}
-use Rattle.dagcbor_car.specs.declared.verdict.Verdict.{Verdict}
-use Rattle.dagcbor_car.specs.declared.verdict.Verdict.TheVariants.{Block, Refused, OtherBytes, NotRead, Unverified}
-use Rattle.dagcbor_car.specs.declared.cid_set.CidSet.{CidSet}
-use Rattle.dagcbor_car.specs.declared.held.HeldNames.{HeldNames}
+use Rattle.ipld_links.specs.declared.verdict.Verdict.{Verdict}
+use Rattle.ipld_links.specs.declared.verdict.Verdict.TheVariants.{Block, Refused, OtherBytes, NotRead, Unverified}
+use Rattle.ipld_links.specs.declared.cid_set.CidSet.{CidSet}
+use Rattle.ipld_links.specs.declared.held.HeldNames.{HeldNames}
 use Rattle.dagcbor_car.specs.declared.check.CarCheck.{CarCheck}
-use Rattle.dagcbor_car.proofs.Headers.{no_block}
-use Rattle.dagcbor_car.proofs.Testing.{verified_testable}
-use Rattle.dagcbor_car.proofs.Members.{among_push, push_among, map_among, among_forms}
+use Rattle.ipld_links.proofs.Sounding.{no_block}
+use Rattle.ipld_links.proofs.Testing.{verified_testable}
+use Rattle.ipld_links.proofs.Members.{among_push, push_among, map_among, among_forms}
 
 -- ---- the roots
 

@@ -1,6 +1,7 @@
 -- A whole file, gone through section by section.
 use Rattle.std.proofs.Common.{◌≡◌, inl, inr, ℕ, List, [], ◌∷◌, ◌++◌, length, refl, sym, ap, ◌∙◌, subst, arith, append_assoc, append-nil, Option, Some, Result, Ok, Err, Vec, MatchResult, Global}
 use Rattle.std.specs.Prelude.{⊤}
+use Rattle.std.specs.declared.alloc.AllocError.{AllocError}
 use Rattle.dagcbor_heads.specs.Reading.{Reading, Stays}
 use Rattle.dagcbor_heads.proofs.Taking.{stays_both}
 use Rattle.ipld_tree.specs.Cid.{CidParts}
@@ -9,13 +10,19 @@ use Rattle.dagcbor_car.specs.Car.{header_tree, header_bytes, Section, section_by
 use Rattle.dagcbor_car.specs.Versions.{HoldsCar}
 use Rattle.dagcbor_car.specs.Extents.{within, wanting, Spends, EndsThere}
 use Rattle.dagcbor_car.specs.Sources.{CarRefuses, LacksMemoryIf, FileLacks, RefusesStart, RefusesNext, TakesStart, TakesSectionBytes}
-use Rattle.dagcbor_car.specs.Verdicts.{IsVerdict, Told, sections_of, AreTold, TellsAll, Tells}
-use Rattle.dagcbor_car.specs.Checks.{IsAfter, ListsMissing, TakesSection, TellsVerdict, TellsNone, StepRefused, IsNoFile, CarFault, TellsFront, CarRefused, ChecksInput}
+use Rattle.ipld_links.specs.Verdicts.{IsVerdict}
+use Rattle.dagcbor_car.specs.Told.{Told, sections_of, AreTold, TellsAll, Tells}
+use Rattle.dagcbor_car.specs.Checks.{IsAfter, ListsMissing, TakesSection, TellsVerdict, HandsOn, of_run, IsNoFile, CarFault, TellsFront, CarRefused, ChecksInput}
+use Rattle.dagcbor_car.specs.Each.{Takes, TakesEach, StopsEach, AreTooMany, RunsEach}
+use Rattle.dagcbor_car.specs.declared.each.ReadCarError.{ReadCarError}
+use Rattle.dagcbor_car.specs.declared.each.ReadCarError.TheVariants as stop
 use Rattle.dagcbor_car.specs.declared.error.CarError.{CarError}
-use Rattle.dagcbor_car.specs.declared.error.CarError.TheVariants.{Read, Truncated, InvalidLength, InvalidCid, NoBlock, OtherHeader, InvalidOffset, OutOfMemory}
-use Rattle.dagcbor_car.specs.declared.verdict.Verdict.{Verdict}
+use Rattle.dagcbor_car.specs.declared.error.CarError.TheVariants.{Read, OutOfMemory}
+use Rattle.ipld_links.specs.declared.verdict.Verdict.{Verdict}
 use Rattle.dagcbor_car.specs.declared.check.CarCheck.{CarCheck}
+use Rattle.dagcbor_car.specs.declared.check.Checking.{Checking}
 use Rattle.dagcbor_car.proofs.Headers.{header_block}
+use Rattle.dagcbor_car.proofs.Taking.{each_along}
 use Rattle.dagcbor_car.proofs.Starting.{start_holds}
 use Rattle.dagcbor_car.proofs.Places.{IsPlace, no_file, place_begun, place_more, place_none, place_front, place_whole, place_end, ended, ends_same}
 
@@ -33,10 +40,6 @@ told_push (x ∷ told) p h v = (h.0, told_push told p h.1 v)
 
 pub tells_none : {S : Type 0} (holds : S → List Told → Type 0) (s : S) → TellsAll holds s [] s
 tells_none holds s before h = subst (holds s) (sym (append-nil before)) h
-
-pub none_told : {S E : Type 0} (holds : S → List Told → Type 0) (e : CarError E) (s : S) → TellsNone holds e s s
-none_told holds OutOfMemory s = tells_none holds s
-none_told holds e s = refl
 
 -- the verdict is told, or the sink refuses it
 pub section_told : {E : Type 0} {S : Type 0} (holds : S → List Told → Type 0) (P : Type 0) (s : Section) (v : Verdict) (r : Result (Unit {0}) E) (check next : CarCheck) (before after : S) → IsVerdict s v → TakesSection s check next
@@ -122,18 +125,18 @@ start_fault holds e b before h = (no_file e b h, inl (h, refl))
 
 start_refused : {S E : Type 0} (holds : S → List Told → Type 0) (old now : Reading) (e : CarError E) (b : List ℕ) (before : S) → CarRefuses RefusesStart old e now → old.left ≡ Some b → CarRefused holds e b before before
 start_refused holds old now (Read f) b before r l = inl refl
-start_refused holds old now OutOfMemory b before r l = inl (tells_none holds before)
+start_refused holds old now OutOfMemory b before r l = inl refl
 start_refused holds old now e b before r l = start_fault holds e b before (r.1 b l)
 
 -- ---- refusals of what is behind the header
 
-told_so_far : {S : Type 0} (holds : S → List Told → Type 0) (b rest : List ℕ) (extent : Option ℕ) (check : CarCheck) (old mid new : S) → IsAt holds b rest extent check old mid → new ≡ mid → TellsFront holds b (wanting extent rest) (within extent rest) old new
-told_so_far holds b rest extent check old mid new h same = record {
+told_so_far : {S : Type 0} (holds : S → List Told → Type 0) (b rest : List ℕ) (extent : Option ℕ) (check : CarCheck) (old new : S) → IsAt holds b rest extent check old new → TellsFront holds b (wanting extent rest) (within extent rest) old new
+told_so_far holds b rest extent check old new h = record {
   roots = h.roots;
   told = h.told;
   front = place_front b rest h.roots (sections_of h.told) extent h.place;
   right = h.right;
-  tells = subst (TellsAll holds old h.told) (sym same) h.tells;
+  tells = h.tells;
 }
 
 -- the sink refused one more
@@ -146,21 +149,16 @@ told_further holds b rest extent check old mid new h none = record {
   tells = λ before k. subst (holds new) (append-nil (before ++ h.told)) (none (before ++ h.told) (h.tells before k));
 }
 
-section_fault : {S E : Type 0} (holds : S → List Told → Type 0) (e : CarError E) (b rest : List ℕ) (extent : Option ℕ) (check : CarCheck) (old mid new : S) → IsAt holds b rest extent check old mid → new ≡ mid → RefusesNext extent e rest → IsNoFile b × CarFault holds e b old new
-section_fault holds e b rest extent check old mid new h same f = (
+section_fault : {S E : Type 0} (holds : S → List Told → Type 0) (e : CarError E) (b rest : List ℕ) (extent : Option ℕ) (check : CarCheck) (old new : S) → IsAt holds b rest extent check old new → RefusesNext extent e rest → IsNoFile b × CarFault holds e b old new
+section_fault holds e b rest extent check old new h f = (
   place_none e b rest h.roots (sections_of h.told) extent h.place f,
-  inr (wanting extent rest, within extent rest, f, told_so_far holds b rest extent check old mid new h same),
+  inr (wanting extent rest, within extent rest, f, told_so_far holds b rest extent check old new h),
 )
 
-section_refused : {S E : Type 0} (holds : S → List Told → Type 0) (extent : Option ℕ) (mid now : Reading) (e : CarError E) (b rest : List ℕ) (check : CarCheck) (before between after : S) → IsAt holds b rest extent check before between → mid.left ≡ Some rest → StepRefused holds extent mid between e now after → CarRefused holds e b before after
-section_refused holds extent mid now (Read f) b rest check before between after h l r = inr (wanting extent rest, within extent rest, told_so_far holds b rest extent check before between after h r.1)
-section_refused holds extent mid now OutOfMemory b rest check before between after h l r = inr (wanting extent rest, within extent rest, told_further holds b rest extent check before between after h r.1)
-section_refused {E = E} holds extent mid now Truncated b rest check before between after h l r = section_fault {E = E} holds Truncated b rest extent check before between after h r.1 (r.0.1 rest l)
-section_refused {E = E} holds extent mid now InvalidLength b rest check before between after h l r = section_fault {E = E} holds InvalidLength b rest extent check before between after h r.1 (r.0.1 rest l)
-section_refused {E = E} holds extent mid now (InvalidCid g) b rest check before between after h l r = section_fault {E = E} holds (InvalidCid g) b rest extent check before between after h r.1 (r.0.1 rest l)
-section_refused {E = E} holds extent mid now (NoBlock g) b rest check before between after h l r = section_fault {E = E} holds (NoBlock g) b rest extent check before between after h r.1 (r.0.1 rest l)
-section_refused {E = E} holds extent mid now OtherHeader b rest check before between after h l r = section_fault {E = E} holds OtherHeader b rest extent check before between after h r.1 (r.0.1 rest l)
-section_refused {E = E} holds extent mid now InvalidOffset b rest check before between after h l r = section_fault {E = E} holds InvalidOffset b rest extent check before between after h r.1 (r.0.1 rest l)
+section_refused : {S E : Type 0} (holds : S → List Told → Type 0) (extent : Option ℕ) (mid now : Reading) (e : CarError E) (b rest : List ℕ) (check : CarCheck) (before after : S) → IsAt holds b rest extent check before after → mid.left ≡ Some rest → CarRefuses (RefusesNext extent) mid e now → CarRefused holds e b before after
+section_refused holds extent mid now (Read f) b rest check before after h l r = inr (wanting extent rest, within extent rest, told_so_far holds b rest extent check before after h)
+section_refused holds extent mid now OutOfMemory b rest check before after h l r = inr (wanting extent rest, within extent rest, told_so_far holds b rest extent check before after h)
+section_refused holds extent mid now e b rest check before after h l r = section_fault holds e b rest extent check before after h (r.1 rest l)
 
 -- ---- what is answered of a whole file
 
@@ -187,22 +185,22 @@ no_start holds old now e before r lacks = record {
   memory = lacks;
 }
 
-pub no_section : {S E : Type 0} (holds : S → List Told → Type 0) (old mid now : Reading) (extent : Option ℕ) (e : CarError E) (check : CarCheck) (before between after : S) → SoFarOf holds old mid extent check before between → StepRefused holds extent mid between e now after → ChecksInput holds old before (refused e) now after
-no_section holds old mid now extent e check before between after h r = record {
-  known = λ b l. let far = h.known b l in section_refused holds extent mid now e b far.0 check before between after far.2 far.1 r;
+no_section : {S E : Type 0} (holds : S → List Told → Type 0) (old mid now : Reading) (extent : Option ℕ) (e : CarError E) (check : CarCheck) (before after : S) → SoFarOf holds old mid extent check before after → CarRefuses (RefusesNext extent) mid e now → ChecksInput holds old before (refused e) now after
+no_section holds old mid now extent e check before after h r = record {
+  known = λ b l. let far = h.known b l in section_refused holds extent mid now e b far.0 check before after far.2 far.1 r;
   all = tt;
-  faults = fault_behind old mid now e h.same.faults (only_fault (RefusesNext extent) mid now e r.0);
+  faults = fault_behind old mid now e h.same.faults (only_fault (RefusesNext extent) mid now e r);
   memory = lacks_if (FileLacks old) (refused e) h.lacks;
 }
 
 -- want of memory before the first section
 pub no_check : {S : Type 0} (E : Type 0) (holds : S → List Told → Type 0) (roots : List (List ℕ)) (extent : Option ℕ) (old now : Reading) (before : S) → TakesStart old roots extent now → ChecksInput {E = E} holds old before (refused OutOfMemory) now before
-no_check E holds roots extent old now before h = record { known = λ b l. inl (tells_none holds before); all = tt; faults = h.takes.same.faults; memory = behind_lacks roots extent old now h }
+no_check E holds roots extent old now before h = record { known = λ b l. inl refl; all = tt; faults = h.takes.same.faults; memory = behind_lacks roots extent old now h }
 
--- want of memory behind some sections
-pub no_memory : {S : Type 0} (E : Type 0) (holds : S → List Told → Type 0) (old mid now : Reading) (extent : Option ℕ) (check : CarCheck) (before after : S) → SoFarOf holds old mid extent check before after → now.faults ≡ mid.faults → ChecksInput {E = E} holds old before (refused OutOfMemory) now after
-no_memory E holds old mid now extent check before after h same = record {
-  known = λ b l. let far = h.known b l in inr (wanting extent far.0, within extent far.0, told_so_far holds b far.0 extent check before after after far.2 refl);
+-- want of memory behind some sections, of which the sink was told
+no_memory : {S : Type 0} (E : Type 0) (holds : S → List Told → Type 0) (old mid now : Reading) (extent : Option ℕ) (check : CarCheck) (before between after : S) → SoFarOf holds old mid extent check before between → TellsAll holds between [] after → now.faults ≡ mid.faults → ChecksInput {E = E} holds old before (refused OutOfMemory) now after
+no_memory E holds old mid now extent check before between after h none same = record {
+  known = λ b l. let far = h.known b l in inr (wanting extent far.0, within extent far.0, told_further holds b far.0 extent check before between after far.2 none);
   all = tt;
   faults = same ∙ h.same.faults;
   memory = h.lacks;
@@ -221,9 +219,59 @@ whole_input E holds old mid now extent more check before after v h end lists = r
 }
 
 -- the check's answer at the end of the file
-pub input_ended : {S E : Type 0} (holds : S → List Told → Type 0) (old mid now : Reading) (extent more : Option ℕ) (check next : CarCheck) (before between after : S) (r : Result (Vec CidParts Global) (CarError E)) → SoFarOf holds old mid extent check before between
-    → EndsThere extent mid more now → next ≡ check → after ≡ between
-    → MatchResult r (λ v. (roots : List (List ℕ)) (sections : List Section) → IsAfter next roots sections → ListsMissing roots sections v) (λ e. e ≡ OutOfMemory) → ChecksInput holds old before r now after
-input_ended {S} {E} holds old mid now extent more check next before between after (Ok v) h end same told lists =
-    whole_input E holds old mid now extent more check before after v (subst (λ a. SoFarOf holds old mid extent check before a) (sym told) h) end (λ roots sections k. lists roots sections (subst (λ x. IsAfter x roots sections) (sym same) k))
-input_ended {S} {E} holds old mid now extent more check next before between after (Err e) h end same told is = subst (λ x. ChecksInput {E = E} holds old before (refused x) now after) (sym is) (no_memory E holds old mid now extent check before after (subst (λ a. SoFarOf holds old mid extent check before a) (sym told) h) (ends_same extent more mid now end).faults)
+input_ended : {S E : Type 0} (holds : S → List Told → Type 0) (old mid now : Reading) (extent more : Option ℕ) (check : CarCheck) (before after : S) (r : Result (Vec CidParts Global) (CarError E)) → SoFarOf holds old mid extent check before after
+    → EndsThere extent mid more now
+    → MatchResult r (λ v. (roots : List (List ℕ)) (sections : List Section) → IsAfter check roots sections → ListsMissing roots sections v) (λ e. e ≡ OutOfMemory) → ChecksInput holds old before r now after
+input_ended {S} {E} holds old mid now extent more check before after (Ok v) h end lists = whole_input E holds old mid now extent more check before after v h end lists
+input_ended {S} {E} holds old mid now extent more check before after (Err e) h end is = subst (λ x. ChecksInput {E = E} holds old before (refused x) now after) (sym is) (no_memory E holds old mid now extent check before after after h (tells_none holds after) (ends_same extent more mid now end).faults)
+
+-- ---- the sections, one by one
+
+module _ {S : Type 0} (holds : S → List Told → Type 0) (old : Reading) (before : S) (name : ℕ) where
+  -- what taking a section does
+  abbrev Hands : Takes (Checking S) AllocError
+  Hands s from result to = HandsOn holds s from result to
+
+  -- some sections were handed on to the sink, through this reference
+  abbrev IsHandedOn : List Section → Option ℕ → Reading → Checking S → Type 0
+  IsHandedOn ss extent mid it = SoFarOf holds old mid extent it.check before it.verdicts.now × (it.verdicts.ghost_name ≡ name)
+
+  -- the answer, and through which reference the sink was reached
+  abbrev IsAnswered : {E : Type 0} → Result (Vec CidParts Global) (CarError E) → Reading → Checking S → Type 0
+  IsAnswered r now it = ChecksInput holds old before r now it.verdicts.now × (it.verdicts.ghost_name ≡ name)
+
+  one_more : (ss : List Section) (s : Section) (extent more : Option ℕ) (mid now : Reading) (from to : Checking S) → IsHandedOn ss extent mid from → TakesSectionBytes extent mid s more now → Hands s from (Ok tt) to → IsHandedOn (ss ++ s ∷ []) more now to
+  one_more ss s extent more mid now from to h t k = (section_more holds old mid now extent more from.check to.check before from.verdicts.now to.verdicts.now s h.0 t k.1, k.0 ∙ h.1)
+
+  along : (ss : List Section) (extent rest : Option ℕ) (mid now : Reading) (from to : Checking S) → IsHandedOn [] extent mid from → TakesEach Hands extent mid from ss rest now to → IsHandedOn ss rest now to
+  along ss extent rest mid now from to = each_along Hands IsHandedOn one_more [] ss extent rest mid now from to
+
+  stopped : {E : Type 0} (ss : List Section) (extent more : Option ℕ) (mid now : Reading) (from to : Checking S) (e : ReadCarError E AllocError) → IsHandedOn ss extent mid from → StopsEach Hands (length ss) extent mid from e more now to → IsAnswered (refused (of_run e)) now to
+  stopped ss extent more mid now from to (stop.Header e) h k = absurd k
+  stopped ss extent more mid now from to (stop.Section n e) h k =
+      let here = subst (IsHandedOn ss extent mid) (sym k.2) h in
+      (no_section holds old mid now extent e to.check before to.verdicts.now here.0 k.1.0, here.1)
+  stopped {E} ss extent more mid now from to (stop.Block n named why) h k =
+      (no_memory E holds old mid now extent from.check before from.verdicts.now to.verdicts.now h.0 k.4.1 k.2.1.takes.same.faults, k.4.0 ∙ h.1)
+
+  too_many : {E : Type 0} (ss : List Section) (extent : Option ℕ) (mid : Reading) (it : Checking S) (e : ReadCarError E AllocError) → IsHandedOn ss extent mid it → AreTooMany ss e → IsAnswered (refused (of_run e)) mid it
+  too_many {E} ss extent mid it e h many =
+      subst (λ (x : ReadCarError E AllocError). IsAnswered (refused (of_run x)) mid it) (sym many.0)
+      (no_memory E holds old mid mid extent it.check before it.verdicts.now it.verdicts.now h.0 (tells_none holds it.verdicts.now) refl, h.1)
+
+  pub run_stopped : {E : Type 0} (extent more : Option ℕ) (mid now : Reading) (from to : Checking S) (e : ReadCarError E AllocError) → IsHandedOn [] extent mid from → RunsEach Hands extent mid from (Err e) more now to → IsAnswered (refused (of_run e)) now to
+  run_stopped extent more mid now from to e h (ss, rest, far, it, t, inl k) = stopped ss rest more far now it to e (along ss extent rest mid far from it h t) k
+  run_stopped {E} extent more mid now from to e h (ss, rest, far, it, t, inr k) =
+      subst (λ m. IsAnswered {E = E} (refused (of_run e)) m to) (sym k.0)
+      (subst (IsAnswered {E = E} (refused (of_run e)) far) (sym k.1)
+      (too_many ss rest far it e (along ss extent rest mid far from it h t) k.2))
+
+  pub run_ended : {E : Type 0} (extent more : Option ℕ) (mid now : Reading) (from to : Checking S) (count : ℕ) (r : Result (Vec CidParts Global) (CarError E)) → IsHandedOn [] extent mid from → RunsEach {E = E} Hands extent mid from (Ok count) more now to
+      → MatchResult r (λ v. (roots : List (List ℕ)) (sections : List Section) → IsAfter to.check roots sections → ListsMissing roots sections v) (λ e. e ≡ OutOfMemory) → IsAnswered r now to
+  run_ended extent more mid now from to count r h k lists =
+      let here = along k.0 extent k.1 mid k.2 from to h k.3 in
+      (input_ended holds old k.2 now k.1 more to.check before to.verdicts.now r here.0 k.5 lists, here.1)
+
+  -- what stands in the sink behind the call
+  pub lent_back : {E : Type 0} (r : Result (Vec CidParts Global) (CarError E)) (now : Reading) (it : Checking S) (after : S) → IsAnswered r now it → (name ≡ it.verdicts.ghost_name → after ≡ it.verdicts.now) → ChecksInput holds old before r now after
+  lent_back r now it after h same = subst (λ x. ChecksInput holds old before r now x) (sym (same (sym h.1))) h.0

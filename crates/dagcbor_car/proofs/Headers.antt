@@ -1,5 +1,5 @@
 -- The header of a file: its spelling, its links, and why bytes are none.
-use Rattle.std.proofs.Common.{◌≡◌, ℕ, ◌≤◌, List, [], ◌∷◌, ◌++◌, map, length, codes, pos, refl, sym, ap, ◌∙◌, subst, arith, ◌↔◌, Bool, IsTrue, Option, Some, option_map}
+use Rattle.std.proofs.Common.{◌≡◌, ℕ, ◌≤◌, List, [], ◌∷◌, ◌++◌, map, length, codes, pos, refl, sym, ap, ◌∙◌, subst, arith, Option, Some, option_map}
 use Rattle.std.specs.declared.convert.Infallible.{Infallible}
 use Rattle.dagcbor_heads.specs.declared.error.DecodeError.{DecodeError}
 use Rattle.dagcbor_heads.specs.declared.error.DecodeError.TheVariants as unread
@@ -11,11 +11,12 @@ use Rattle.dagcbor_items.specs.Walks.{forms}
 use Rattle.dagcbor_items.specs.Slices.{IsBlock, SliceRefused, AreFirstLinks}
 use Rattle.dagcbor_items.proofs.SliceReads.{whole_front}
 use Rattle.dagcbor_write.specs.Trees.{field}
-use Rattle.dagcbor_write.specs.Answers.{AreSpellingOf, HasNoSpelling}
+use Rattle.dagcbor_write.specs.Answers.{AreSpellingOf}
 use Rattle.dagcbor_car.specs.Car.{counted, header_tree}
 use Rattle.dagcbor_car.specs.Splits.{SplitsCounted, CountFault, IsNoHeader, SplitsHeader, BeginsNoHeader, HeaderRefused}
 use Rattle.dagcbor_car.specs.declared.error.CarError.{CarError}
 use Rattle.dagcbor_car.specs.declared.error.CarError.TheVariants.{Truncated, InvalidLength, NoBlock, OtherHeader, OutOfMemory}
+use Rattle.ipld_links.proofs.Sounding.{no_block}
 use Rattle.dagcbor_car.proofs.Cars.{counted_unique, links_of_header}
 use Rattle.dagcbor_car.proofs.Counts.{no_counted}
 
@@ -39,15 +40,6 @@ IsWritten cs v = IsSpelling v (header_tree (forms cs))
 pub is_written : (cs : List CidParts) (v : List ℕ) → AreSpellingOf (written_tree cs) v → IsWritten cs v
 is_written cs v h = subst (λ o. AreSpellingOf o v) (written_header cs) h
 
-pub header_test : (cs : List CidParts) (v b : List ℕ) (test : Bool) → AreSpellingOf (written_tree cs) v → IsTrue test ↔ (v ≡ b) → IsTrue test ↔ IsSpelling b (header_tree (forms cs))
-header_test cs v b test h same = (
-  λ yes. subst (λ x. IsSpelling x (header_tree (forms cs))) (same.0 yes) (is_written cs v h),
-  λ s. same.1 ((is_written cs v h).is ∙ sym s.is),
-)
-
-pub no_header_written : (cs : List CidParts) (b : List ℕ) → HasNoSpelling (written_tree cs) → IsSpelling b (header_tree (forms cs)) → ⊥
-no_header_written cs b none s = subst HasNoSpelling (written_header cs) none s.spellable
-
 -- ---- a header as a block
 
 links_need : (roots : List (List ℕ)) → items_need (items_of (map link roots)) ≤ 1
@@ -61,11 +53,10 @@ pub header_block : (b : List ℕ) (roots : List (List ℕ)) → IsSpelling b (he
 header_block b roots h = (h, header_need roots)
 
 -- the first links of a header are its roots
-pub roots_read : (b : List ℕ) (links roots : List (List ℕ)) → AreFirstLinks b links → IsSpelling b (header_tree roots) → links ≡ roots
-roots_read b links roots first h = first.4 ∙ ap links_of (front_unique b first.1 [] first.0 (header_tree roots) first.2 (whole_front h)).0 ∙ links_of_header roots
-
-pub not_that_header : (b : List ℕ) (links : List (List ℕ)) → AreFirstLinks b links → (IsSpelling b (header_tree links) → ⊥) → (roots : List (List ℕ)) → IsSpelling b (header_tree roots) → ⊥
-not_that_header b links first none roots h = none (subst (λ rs. IsSpelling b (header_tree rs)) (sym (roots_read b links roots first h)) h)
+pub roots_found : (b : List ℕ) (links roots : List (List ℕ)) → AreFirstLinks b links → IsSpelling b (header_tree roots) → IsSpelling b (header_tree links)
+roots_found b links roots first h =
+    let same : links ≡ roots = first.4 ∙ ap links_of (front_unique b first.1 [] first.0 (header_tree roots) first.2 (whole_front h)).0 ∙ links_of_header roots in
+    subst (λ rs. IsSpelling b (header_tree rs)) (sym same) h
 
 -- ---- the header at the front
 
@@ -84,14 +75,6 @@ inner_of b inner rest more roots h k = record {
 
 no_header_here : (b inner rest : List ℕ) → SplitsCounted b inner rest → ((roots : List (List ℕ)) → IsSpelling inner (header_tree roots) → ⊥) → BeginsNoHeader b
 no_header_here b inner rest h none roots more k = none roots (inner_of b inner rest more roots h k)
-
--- what is refused without want of memory is no block
-pub no_block : (e : DecodeError Infallible) (b : List ℕ) → SliceRefused e b → (e ≡ unread.OutOfMemory → ⊥) → (t : Tree) → IsBlock b t → ⊥
-no_block (unread.Read e) b r n t h = r
-no_block unread.OutOfMemory b r n t h = n refl
-no_block (unread.RequireBorrowed name) b r n t h = r
-no_block unread.Failed b r n t h = r
-no_block e b r n t h = r.0 t h
 
 pub not_read : {E : Type 0} (e : CarError E) (b inner rest : List ℕ) → SplitsCounted b inner rest → IsNoHeader e inner → HeaderRefused e b
 not_read (NoBlock e) b inner rest h r = (no_header_here b inner rest h (λ roots s. no_block e inner r.0 r.1 (header_tree roots) (header_block inner roots s)), (inner, rest, h, r.0, r.1))

@@ -1,12 +1,9 @@
 pub mod Cars
 pub mod Spending
+pub mod Taking
 pub mod Fronts
 pub mod Counts
 pub mod Headers
-pub mod Testing
-pub mod Members
-pub mod Keeping
-pub mod Within
 pub mod Checking
 pub mod Places
 pub mod Files
@@ -15,5 +12,4 @@ pub mod Pushing
 pub mod Starting
 pub mod Running
 pub mod HeaderShape
-pub mod Reaching
 pub mod Writing

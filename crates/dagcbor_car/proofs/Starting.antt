@@ -13,7 +13,8 @@ use Rattle.ipld_tree.specs.Cid.{varint, CidParts}
 use Rattle.ipld_tree.specs.Spelling.{spelling, IsSpelling}
 use Rattle.dagcbor_items.specs.Walks.{forms}
 use Rattle.dagcbor_car.specs.Car.{counted, header_tree, header_bytes, IsHeader, Section, section_bytes, IsCar}
-use Rattle.dagcbor_car.specs.Splits.{CountFault, SplitsCounted, HasBlock, IsNoHeader}
+use Rattle.dagcbor_car.specs.Splits.{CountFault, SplitsCounted, IsNoHeader}
+use Rattle.ipld_links.specs.Blocks.{HasBlock}
 use Rattle.dagcbor_car.specs.Versions.{pragma, IsVersion2, number_behind, begin_of, length_of, HasSpan, HoldsCar, IsFile, SpanFault, MayBeVersion2}
 use Rattle.dagcbor_car.specs.Extents.{within, wanting, of_file, Spends, TakesOff}
 use Rattle.dagcbor_car.specs.Sources.{CarRefuses, LacksMemoryIf, FileLacks, SectionLacks, IsShort, RefusesHeader, RefusesStart, IsStart, TakesStart, PullsStart, LooksTwice}

@@ -8,7 +8,8 @@ use Rattle.dagcbor_heads.specs.declared.error.EncodeError.{EncodeError}
 use Rattle.dagcbor_heads.specs.declared.error.EncodeError.TheVariants.{OutOfMemory}
 use Rattle.dagcbor_heads.proofs.Writing.{WroteAll_then, Stops-then, Writes_exit}
 use Rattle.dagcbor_car.specs.Writers.{UnsentWithoutMemory}
-use Rattle.dagcbor_car.specs.Reaching.{Stored, section_at, sections_at}
+use Rattle.ipld_links.specs.Reaching.{Stored}
+use Rattle.dagcbor_car.specs.Reached.{section_at, sections_at}
 use Rattle.dagcbor_car.specs.Car.{Section, header_bytes, section_bytes, car_bytes, IsHeader, IsSection, IsCar}
 
 -- the bytes of some sections, and then of others

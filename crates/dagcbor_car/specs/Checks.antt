@@ -1,5 +1,5 @@
 -- What is found of a whole file of blocks.
-use Rattle.std.specs.Prelude.{◌≡◌, ◌≢◌, ◌↔◌, ◌⊎◌, ℕ, ◌+◌, List, [], ◌∷◌, ◌++◌, drop, ⊤, Option, Vec, Result, MatchResult, MatchBool, Bool, Some, OnOk}
+use Rattle.std.specs.Prelude.{◌≡◌, ◌≢◌, ◌↔◌, ◌⊎◌, ℕ, ◌+◌, List, [], ◌∷◌, ◌++◌, drop, ⊤, Vec, Result, MatchResult, Some, OnOk}
 use Rattle.std.specs.List.{AllByRecursion}
 use Rattle.std.specs.List.Sorted.{IsStrictlySortedBy}
 use Rattle.std.specs.declared.alloc.Global.{Global}
@@ -10,16 +10,19 @@ use Rattle.dagcbor_items.specs.Slices.{IsBlock}
 use Rattle.dagcbor_items.specs.Walks.{forms}
 use Rattle.dagcbor_car.specs.Car.{Section, IsHeader, IsSection, car_bytes}
 use Rattle.dagcbor_car.specs.Versions.{IsVersion2, begin_of, length_of, HasSpan, HoldsCar, IsFile}
-use Rattle.dagcbor_car.specs.Extents.{EndsThere}
-use Rattle.dagcbor_car.specs.Sources.{CarRefuses, RefusesStart, RefusesSection, RefusesNext, TakesSectionBytes, LacksMemoryIf, FileLacks}
-use Rattle.dagcbor_car.specs.Verdicts.{IsVerified, IsDagCbor, IsVerdict, Told, sections_of, AreTold, TellsAll, Tells}
-use Rattle.dagcbor_car.specs.Sets.{Among, members, AreCids, RemovesCid}
-use Rattle.dagcbor_car.specs.Held.{IsKept, AddsName, AreNames}
-use Rattle.dagcbor_car.specs.Within.{IsInlineForm, IsWithin, AddsReached}
-use Rattle.dagcbor_car.specs.declared.verdict.Verdict.{Verdict}
+use Rattle.dagcbor_car.specs.Sources.{CarRefuses, RefusesStart, RefusesSection, LacksMemoryIf, FileLacks}
+use Rattle.ipld_links.specs.Verdicts.{IsVerified, IsDagCbor, IsVerdict}
+use Rattle.dagcbor_car.specs.Told.{Told, sections_of, AreTold, TellsAll, Tells}
+use Rattle.ipld_links.specs.Sets.{Among, members, AreCids, RemovesCid}
+use Rattle.ipld_links.specs.Held.{IsKept, AddsName, AreNames}
+use Rattle.ipld_links.specs.Within.{IsInlineForm, IsWithin, AddsReached}
+use Rattle.ipld_links.specs.declared.verdict.Verdict.{Verdict}
 use Rattle.dagcbor_car.specs.declared.error.CarError.{CarError}
 use Rattle.dagcbor_car.specs.declared.error.CarError.TheVariants.{Read, OutOfMemory}
+use Rattle.dagcbor_car.specs.declared.each.ReadCarError.{ReadCarError}
+use Rattle.dagcbor_car.specs.declared.each.ReadCarError.TheVariants as stop
 use Rattle.dagcbor_car.specs.declared.check.CarCheck.{CarCheck}
+use Rattle.dagcbor_car.specs.declared.check.Checking.{Checking}
 
 -- ---- what leads nowhere
 
@@ -81,26 +84,19 @@ abbrev pub TellsVerdict : {S : Type 0} → (S → List Told → Type 0) → Sect
 TellsVerdict holds s old before new after = (v : Verdict) × IsVerdict s v × TakesSection s old new
     × Tells holds before (s, v) after
 
--- no verdict is told: the sink is as it was, or refused one for want of memory
-abbrev pub TellsNone : {S E : Type 0} → (S → List Told → Type 0) → CarError E → S → S → Type 0
-TellsNone holds OutOfMemory before after = TellsAll holds before [] after
-TellsNone holds e before after = after ≡ before
+-- The section is taken, and the verdict on it told, to the sink that is lent; or memory is wanting, and
+-- none is told.
+abbrev pub HandsOn : {S E : Type 0} → (S → List Told → Type 0) → Section → Checking S
+    → Result (Unit {0}) E → Checking S → Type 0
+HandsOn holds s old result new = (new.verdicts.ghost_name ≡ old.verdicts.ghost_name) × MatchResult result
+    (λ _. TellsVerdict holds s old.check old.verdicts.now new.check new.verdicts.now)
+    (λ _. TellsAll holds old.verdicts.now [] new.verdicts.now)
 
--- why no section is taken; no verdict is told then
-abbrev pub StepRefused : {S E : Type 0} → (S → List Told → Type 0) → Option ℕ → Reading → S
-    → CarError E → Reading → S → Type 0
-StepRefused holds extent old before e new after = CarRefuses (RefusesNext extent) old e new
-    × TellsNone holds e before after
-
--- The section at the front is taken, and the verdict on it told; or the end is found.
-abbrev pub Steps : {S E : Type 0} → (S → List Told → Type 0) → Option ℕ → Reading → CarCheck → S
-    → Result Bool (CarError E) → Option ℕ → Reading → CarCheck → S → Type 0
-Steps holds extent old check before result rest new next after = MatchResult result
-    (λ more. MatchBool more
-    ((s : Section) × TakesSectionBytes extent old s rest new
-    × TellsVerdict holds s check before next after)
-    (EndsThere extent old rest new × (next ≡ check) × (after ≡ before)))
-    (λ e. StepRefused holds extent old before e new after)
+-- why not all sections are checked: the sink refuses one for want of memory alone
+abbrev pub of_run : {E Stop : Type 0} → ReadCarError E Stop → CarError E
+of_run (stop.Header e) = e
+of_run (stop.Section n e) = e
+of_run (stop.Block n name why) = OutOfMemory
 
 -- ---- the whole
 
@@ -129,11 +125,10 @@ pub record TellsFront {S : Type 0} (holds : S → List Told → Type 0) (b : Lis
   pub right : AreTold told
   pub tells : TellsAll holds old told new
 
--- no verdict was told; or the file's header and some of its first sections stand there, and the
+-- the sink is as it was; or the file's header and some of its first sections stand there, and the
 -- verdicts on these were told
-abbrev pub TellsFirst : {S E : Type 0} → (S → List Told → Type 0) → CarError E → List ℕ → S → S
-    → Type 0
-TellsFirst holds e b old new = TellsNone holds e old new
+abbrev pub TellsFirst : {S : Type 0} → (S → List Told → Type 0) → List ℕ → S → S → Type 0
+TellsFirst holds b old new = (new ≡ old)
     ⊎ ((n : ℕ) × (rest : List ℕ) × TellsFront holds b n rest old new)
 
 -- why bytes are no file, and what was told: no file begins; or all sections up to a place were told
@@ -144,8 +139,8 @@ CarFault holds e b old new = (RefusesStart e b × (new ≡ old))
 
 -- why a file is not gone through, and what was told
 abbrev pub CarRefused : {S E : Type 0} → (S → List Told → Type 0) → CarError E → List ℕ → S → S → Type 0
-CarRefused {S} {E} holds (Read e) b old new = TellsFirst {E = E} holds (Read e) b old new
-CarRefused {S} {E} holds OutOfMemory b old new = TellsFirst {E = E} holds OutOfMemory b old new
+CarRefused holds (Read e) b old new = TellsFirst holds b old new
+CarRefused holds OutOfMemory b old new = TellsFirst holds b old new
 CarRefused holds e b old new = IsNoFile b × CarFault holds e b old new
 
 -- A file of either version is gone through exactly where the bytes are one, faults and want of memory

@@ -1,4 +1,3 @@
-pub mod Names
 pub mod Car
 pub mod Versions
 pub mod Splits
@@ -6,11 +5,9 @@ pub mod Extents
 pub mod Sources
 pub mod Steps
 pub mod Writers
-pub mod Verdicts
+pub mod Told
+pub mod Reached
+pub mod Each
 pub mod Runs
 pub mod Laws
-pub mod Sets
-pub mod Held
-pub mod Within
 pub mod Checks
-pub mod Reaching

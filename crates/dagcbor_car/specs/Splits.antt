@@ -9,6 +9,7 @@ use Rattle.ipld_tree.specs.Tree.{Tree, link, items_of}
 use Rattle.ipld_tree.specs.Spelling.{IsSpelling, AreFronts}
 use Rattle.dagcbor_items.specs.Slices.{IsBlock, SliceRefused}
 use Rattle.dagcbor_items.specs.Walks.{forms}
+use Rattle.ipld_links.specs.Blocks.{HasBlock}
 use Rattle.dagcbor_car.specs.Car.{counted, Section, section_bytes, IsSection, header_tree, header_bytes, IsHeader}
 use Rattle.dagcbor_car.specs.declared.error.CarError.{CarError}
 use Rattle.dagcbor_car.specs.declared.error.CarError.TheVariants.{Truncated, InvalidLength, InvalidCid, NoBlock, OtherHeader, OutOfMemory}
@@ -64,10 +65,6 @@ SplitsHeader b roots rest = IsHeader roots × (b ≡ header_bytes roots ++ rest)
 -- no header stands first
 abbrev pub BeginsNoHeader : List ℕ → Type 0
 BeginsNoHeader b = (roots : List (List ℕ)) (rest : List ℕ) → ¬ SplitsHeader b roots rest
-
--- the bytes are a block of DAG-CBOR
-abbrev pub HasBlock : List ℕ → Type 0
-HasBlock b = (t : Tree) × IsBlock b t
 
 -- the bytes begin with so many links, and the rest follows
 abbrev pub AreLinkFronts : List ℕ → ℕ → List (List ℕ) → List ℕ → Type 0

@@ -5,23 +5,24 @@ ghost use Rattle.std.specs.Prelude.{true, false, is_err};
 ghost use Rattle.dagcbor_heads.specs.Inputs.{input_reading};
 ghost use Rattle.dagcbor_items.specs.Walks.{forms};
 ghost use Rattle.dagcbor_car.specs.Car.{Section as CarSection};
-ghost use Rattle.dagcbor_car.specs.Verdicts.{IsVerified, IsVerdict, TellsAll};
-ghost use Rattle.dagcbor_car.specs.Splits.{HasBlock, CountsBlock};
+ghost use Rattle.ipld_links.specs.Verdicts.{IsVerified, IsVerdict};
+ghost use Rattle.dagcbor_car.specs.Told.{TellsAll};
+ghost use Rattle.ipld_links.specs.Blocks.{HasBlock};
+ghost use Rattle.dagcbor_car.specs.Splits.{CountsBlock};
 ghost use Rattle.dagcbor_car.specs.Versions.{HoldsCar};
 ghost use Rattle.dagcbor_car.specs.Sources.{LacksMemoryIf};
 ghost use Rattle.dagcbor_car.specs.Checks.{HoldsName, FollowsLinks};
 ghost use Rattle.dagcbor_car.specs.Checks.{IsAfter, TakesSection, ListsMissing, TellsVerdict};
-ghost use Rattle.dagcbor_car.specs.Checks.{Steps, ChecksCar, ChecksInput};
+ghost use Rattle.dagcbor_car.specs.Checks.{HandsOn, of_run, ChecksCar, ChecksInput};
 ghost use Rattle.dagcbor_car.specs.declared.error.CarError.TheVariants.{OutOfMemory};
 
-use crate::cid_set::CidSet;
+use crate::each::{ReadCarError, SectionSink, each_section};
 use crate::error::CarError;
-use crate::held::HeldNames;
-use crate::pull::{pull_header, pull_section};
+use crate::pull::pull_header;
 use crate::section::Section;
 use crate::sink::VerdictSink;
-use crate::verdict::{Verdict, verify};
 use dagcbor_heads::{Input, Read, SliceReader};
+use ipld_links::{CidSet, HeldNames, Verdict, verify};
 use ipld_tree::Cid;
 use std::alloc::{AllocError, Global};
 use std::convert::Infallible;
@@ -153,16 +154,29 @@ pub fn check_input<'de, R: Read, S: VerdictSink>(
         (input_reading R.reading input.new) verdicts.new }
 {
     let (roots, mut left) = pull_header(alloc, input)?;
-    let Ok(mut check) = CarCheck::new(alloc, &roots) else {
+    let Ok(check) = CarCheck::new(alloc, &roots) else {
         return Err(CarError::OutOfMemory);
     };
-    for _ in 0..u64::MAX {
-        let more = step(alloc, &mut check, input, &mut left, verdicts)?;
-        if !more {
-            return missing_of(alloc, check);
-        }
+    let mut checking = Checking { check, verdicts };
+    let ran = each_section(alloc, input, &mut left, &mut checking);
+    let Checking { check, verdicts } = checking;
+    // No effect at run time. The proof reads what the sink was told from this use of it.
+    let _ = &*verdicts;
+    match ran {
+        Ok(_count) => missing_of(alloc, check),
+        Err(error) => Err(of_run(error)),
     }
-    Err(CarError::OutOfMemory)
+}
+
+/// Why not all sections were checked: that the sink takes no more is want of memory.
+fn of_run<E: Drop>(error: ReadCarError<E, AllocError>) -> CarError<E>
+    ensures { result ≡ of_run error }
+{
+    match error {
+        ReadCarError::Header(error) => error,
+        ReadCarError::Section(_, error) => error,
+        ReadCarError::Block(_, _, _) => CarError::OutOfMemory,
+    }
 }
 
 /// The roots and the links that lead to no verified block.
@@ -178,41 +192,23 @@ fn missing_of<E: Drop>(alloc: Global, check: CarCheck) -> Result<Vec<Cid>, CarEr
     }
 }
 
-/// Takes the next section, and answers whether there is one.
-fn step<'de, R: Read, S: VerdictSink>(
-    alloc: Global,
-    check: &mut CarCheck,
-    input: &mut Input<'de, R>,
-    left: &mut Option<u64>,
-    verdicts: &mut S,
-) -> Result<bool, CarError<R::Error>>
-    ensures { Steps S.holds left.old (input_reading R.reading input.old) check.old verdicts.old
-        result left.new (input_reading R.reading input.new) check.new verdicts.new }
-{
-    match pull_section(alloc, input, left) {
-        Ok(Some(section)) => match take_section(check, &section.section(), verdicts) {
-            Ok(()) => Ok(true),
-            Err(_) => Err(CarError::OutOfMemory),
-        },
-        Ok(None) => Ok(false),
-        Err(error) => Err(error),
-    }
+/// What checks sections, and the sink, which is lent, that it hands them and the verdicts on to.
+#[derive(Drop)]
+pub(crate) struct Checking<'a, S> {
+    check: CarCheck,
+    verdicts: &'a mut S,
 }
 
-/// Takes the section, and hands it and the verdict on it to the sink.
-#[tactic(auto, using(crate::proofs::Files::section_told, crate::proofs::Files::tells_none))]
-fn take_section<S: VerdictSink>(
-    check: &mut CarCheck,
-    section: &Section<'_>,
-    verdicts: &mut S,
-) -> Result<(), AllocError>
-    ensures { MatchResult result
-        (λ _. TellsVerdict S.holds (section.now.cid, section.now.block.now)
-        check.old verdicts.old check.new verdicts.new)
-        (λ _. TellsAll S.holds verdicts.old [] verdicts.new) }
-{
-    match check.take(section) {
-        Ok(verdict) => verdicts.take(section, &verdict),
-        Err(_) => Err(AllocError),
+impl<S: VerdictSink> SectionSink for Checking<'_, S> {
+    type Stop = AllocError;
+
+    ghost takes = { λ s old result new. HandsOn S.holds s old result new };
+
+    #[tactic(auto, using(crate::proofs::Files::section_told, crate::proofs::Files::tells_none))]
+    fn take(&mut self, section: &Section<'_>) -> Result<(), AllocError> {
+        match self.check.take(section) {
+            Ok(verdict) => self.verdicts.take(section, &verdict),
+            Err(_) => Err(AllocError),
+        }
     }
 }

@@ -8,13 +8,13 @@ ghost use Rattle.ipld_tree.specs.Spelling.{IsSpelling, IsFront};
 ghost use Rattle.dagcbor_items.specs.Walks.{forms};
 ghost use Rattle.dagcbor_write.specs.Trees.{field};
 ghost use Rattle.dagcbor_car.specs.Car.{header_tree};
-ghost use Rattle.dagcbor_car.specs.Splits.{SplitsHeader, HeaderRefused, HasBlock, ReadsHeader};
+ghost use Rattle.dagcbor_car.specs.Splits.{SplitsHeader, HeaderRefused, ReadsHeader};
 ghost use Rattle.dagcbor_car.specs.Splits.{IsNoHeader, AreLinkFronts};
 ghost use Rattle.dagcbor_car.specs.declared.error.CarError.TheVariants.{OutOfMemory};
 
 use crate::error::CarError;
 use crate::section::split_counted;
-use dagcbor_heads::{EncodeError, Write, WriteResult, split_head};
+use dagcbor_heads::{Write, WriteResult, split_head};
 use dagcbor_items::{behind_link, check_slice, links_from_slice};
 use dagcbor_write::{Field, Serialize, Serializer, to_vec, write_struct};
 use ipld_tree::Cid;
@@ -84,20 +84,17 @@ pub fn judge_header(bytes: &[u8]) -> Result<(&[u8], &[u8]), CarError<Infallible>
 }
 
 /// Whether the bytes are a header, or why not.
-fn judge_block(bytes: &[u8]) -> Result<(), CarError<Infallible>>
+fn judge_block<E: Drop>(bytes: &[u8]) -> Result<(), CarError<E>>
     ensures header { MatchResult result
         (λ _. (roots : List (List ℕ)) × IsSpelling bytes.now (header_tree roots))
         (λ e. IsNoHeader e bytes.now) }
     ensures memory { IfErr result (λ e. e ≢ OutOfMemory) }
 {
+    if is_header(bytes) {
+        return Ok(());
+    }
     match check_slice(bytes) {
-        Ok(_kind) => {
-            if is_header(bytes) {
-                Ok(())
-            } else {
-                Err(CarError::OtherHeader)
-            }
-        }
+        Ok(_kind) => Err(CarError::OtherHeader),
         Err(error) => Err(CarError::NoBlock(error)),
     }
 }
@@ -155,40 +152,10 @@ fn behind_links(bytes: &[u8], count: u64) -> Option<&[u8]>
 pub(crate) fn read_header<E: Drop>(alloc: Global, bytes: &[u8]) -> Result<Vec<Cid>, CarError<E>>
     ensures { ReadsHeader bytes.now result }
 {
-    match check_slice(bytes) {
-        Ok(_kind) => read_block(alloc, bytes),
-        Err(error) => Err(CarError::NoBlock(error)),
-    }
-}
-
-/// The roots of the header that the block is.
-fn read_block<E: Drop>(alloc: Global, bytes: &[u8]) -> Result<Vec<Cid>, CarError<E>>
-    requires { HasBlock bytes.now }
-    ensures { ReadsHeader bytes.now result }
-{
+    judge_block(bytes)?;
     // The links of a block are refused for want of memory alone.
-    let Ok(roots) = links_from_slice(alloc, bytes) else {
-        return Err(CarError::OutOfMemory);
-    };
-    let is_header = is_header_of(alloc, &roots, bytes)?;
-    if is_header {
-        Ok(roots)
-    } else {
-        Err(CarError::OtherHeader)
-    }
-}
-
-/// Whether the bytes are the header of these roots.
-fn is_header_of<E: Drop>(alloc: Global, roots: &[Cid], bytes: &[u8]) -> Result<bool, CarError<E>>
-    ensures { MatchResult result
-        (λ is_header. IsTrue is_header ↔ IsSpelling bytes.now (header_tree (forms roots.now)))
-        (λ e. e ≡ OutOfMemory) }
-{
-    match to_vec(alloc, &Header { roots }) {
-        Ok(spelled) => Ok(spelled.as_slice() == bytes),
-        Err(error) => match error {
-            EncodeError::OutOfMemory => Err(CarError::OutOfMemory),
-            _ => Ok(false),
-        },
+    match links_from_slice(alloc, bytes) {
+        Ok(roots) => Ok(roots),
+        Err(_) => Err(CarError::OutOfMemory),
     }
 }

@@ -1,10 +1,10 @@
 //! What is done with the verdicts on the sections of a file.
 
 ghost use Rattle.std.specs.Prelude.{◌≡◌, [], Bool, true, List, MatchResult};
-ghost use Rattle.dagcbor_car.specs.Verdicts.{Told, Tells, TellsAll};
+ghost use Rattle.dagcbor_car.specs.Told.{Told, Tells, TellsAll};
 
 use crate::section::Section;
-use crate::verdict::Verdict;
+use ipld_links::Verdict;
 use std::alloc::AllocError;
 
 /// What is done with the verdicts on the sections of a file, one after the other.

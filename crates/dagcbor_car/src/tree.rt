@@ -6,11 +6,12 @@ ghost use Rattle.dagcbor_heads.specs.Written.{Writes, WantsMemoryOnlyIf};
 ghost use Rattle.ipld_tree.specs.Cid.{cid_bytes};
 ghost use Rattle.dagcbor_car.specs.Car.{car_bytes, section_bytes, IsSection, IsCar};
 ghost use Rattle.dagcbor_car.specs.Writers.{UnsentWithoutMemory};
-ghost use Rattle.dagcbor_car.specs.Reaching.{stored_in, section_at, sections_at};
+ghost use Rattle.ipld_links.specs.Reaching.{stored_in};
+ghost use Rattle.dagcbor_car.specs.Reached.{section_at, sections_at};
 
 use crate::push::{push_header, push_section};
-use crate::reach::stored_bytes;
 use dagcbor_heads::{Write, WriteResult};
+use ipld_links::stored_bytes;
 use ipld_tree::Cid;
 use std::alloc::Global;
 use std::collections::BTreeMap;

@@ -1,6 +1,7 @@
 //! Bytes to any writer. A write that was interrupted is not made again.
 
-ghost use Rattle.std.specs.Prelude.{◌≡◌, IfErr};
+ghost use Rattle.std.specs.Prelude.{◌≡◌, IfErr, Result};
+ghost use Rattle.dagcbor_cli.specs.declared.fault.ToolError.{ToolError};
 ghost use Rattle.dagcbor_cli.specs.Writing.{WritesFront};
 ghost use Rattle.dagcbor_cli.specs.declared.fault.ToolError.TheVariants.{Output};
 
@@ -24,7 +25,9 @@ pub fn write_all<W: Write>(writer: &mut W, bytes: &[u8]) -> Result<(), ToolError
 
 /// Tells a line on `errors`, and answers the status. A fault in telling it is not told.
 pub fn give_up<W: Write>(errors: &mut W, line: &str, status: u8) -> u8
-    ensures { result ≡ status }
+    ensures status { result ≡ status }
+    ensures told { (told : Result (Unit {0}) ToolError)
+        × WritesFront (W.contents errors.old) (W.contents errors.new) told line.now }
 {
     let _ = write_all(errors, line.as_bytes());
     status

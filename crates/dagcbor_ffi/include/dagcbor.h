@@ -21,6 +21,8 @@
 #include <stddef.h>
 #include <stdint.h>
 
+#define DAGCBOR_VERSION "0.1.0"
+
 #ifdef __cplusplus
 extern "C" {
 #endif
@@ -102,6 +104,21 @@ int32_t dagcbor_spell(const uint8_t *bytes, size_t length, const dagcbor_token *
    put at the front of `out`, and else `out` stays as it was. After a refusal *needed is 0 and `out` as it was. */
 int32_t dagcbor_links(const uint8_t *bytes, size_t length, uint8_t *out, size_t room, size_t *needed);
 
+/* What a path leads to in a block, beside the refusals above. */
+enum dagcbor_path {
+    DAGCBOR_NO_SUCH_PATH = -36,    /* the path leads to no item of the block */
+    DAGCBOR_PATH_NOT_UTF8 = -37    /* the path is no text; the bytes were not judged */
+};
+
+/* The kind, from 0, of the item to which the path leads in the block, which is judged whole. The path is a text of
+   segments between slashes; empty ones say nothing, and nothing is escaped, so a key that is empty or has a slash is
+   not reached. From a map a segment leads to the value of that key; from a list to the item whose index from 0 it is in
+   decimal, without a sign and without zeros in front; from a link, which is an item, nowhere. *place becomes where the item
+   begins in the block, and *end where it ends: the bytes between are a block. Below 0 the refusal of dagcbor_check, or one
+   of the above; then both stay. `path` may not be NULL either. */
+int32_t dagcbor_find(const uint8_t *block, size_t length, const uint8_t *path, size_t path_length, size_t *place,
+                     size_t *end);
+
 /* The block's name: the CID of version 1, of the codec DAG-CBOR, by the SHA-256 of the bytes. Any bytes have one. */
 void dagcbor_name(const uint8_t *bytes, size_t length, uint8_t out[36]);
 
@@ -180,6 +197,49 @@ static inline uint8_t *dagcbor_into(uint8_t *out, size_t room) {
 static inline dagcbor_token *dagcbor_tape_into(dagcbor_token *tape, size_t room) {
     static dagcbor_token none[1];
     return room ? tape : none;
+}
+
+/* The name of a number that is answered, as "map" and "NonMinimal": of a kind from 0, and of a cause below. */
+static inline const char *dagcbor_name_of_code(int32_t code) {
+    switch (code) {
+    case DAGCBOR_NULL: return "null";
+    case DAGCBOR_BOOL: return "bool";
+    case DAGCBOR_INTEGER:
+    case DAGCBOR_NEGATIVE: return "integer";
+    case DAGCBOR_STRING: return "string";
+    case DAGCBOR_BYTES: return "bytes";
+    case DAGCBOR_LIST: return "list";
+    case DAGCBOR_MAP: return "map";
+    case DAGCBOR_LINK: return "link";
+    case DAGCBOR_NOT_READ: return "NotRead";
+    case DAGCBOR_MSG: return "Msg";
+    case DAGCBOR_EOF: return "Eof";
+    case DAGCBOR_MISMATCH: return "Mismatch";
+    case DAGCBOR_UNSUPPORTED: return "Unsupported";
+    case DAGCBOR_REQUIRE_UTF8: return "RequireUtf8";
+    case DAGCBOR_DEPTH_OVERFLOW: return "DepthOverflow";
+    case DAGCBOR_TRAILING_DATA: return "TrailingData";
+    case DAGCBOR_INDEFINITE_SIZE: return "IndefiniteSize";
+    case DAGCBOR_NON_MINIMAL: return "NonMinimal";
+    case DAGCBOR_UNORDERED_KEY: return "UnorderedKey";
+    case DAGCBOR_NO_TOKEN: return "NoToken";
+    case DAGCBOR_NO_ROOM: return "NoRoom";
+    case DAGCBOR_OTHER_BYTES: return "OtherBytes";
+    case DAGCBOR_NOT_VERIFIED: return "NotVerified";
+    case DAGCBOR_TRUNCATED: return "Truncated";
+    case DAGCBOR_INVALID_LENGTH:
+    case DAGCBOR_INVALID_TEXT_LENGTH: return "InvalidLength";
+    case DAGCBOR_INVALID_CID: return "InvalidCid";
+    case DAGCBOR_OTHER_HEADER: return "OtherHeader";
+    case DAGCBOR_UNKNOWN_BASE: return "UnknownBase";
+    case DAGCBOR_TOO_LONG: return "TooLong";
+    case DAGCBOR_INVALID_CHARACTER: return "InvalidCharacter";
+    case DAGCBOR_TRAILING_BITS: return "TrailingBits";
+    case DAGCBOR_LEADING_ZERO: return "LeadingZero";
+    case DAGCBOR_INVALID_VERSION: return "InvalidVersion";
+    case DAGCBOR_INVALID_OFFSET: return "InvalidOffset";
+    default: return "none";
+    }
 }
 
 #ifdef __cplusplus

@@ -1,5 +1,5 @@
-//! DAG-CBOR for callers in other languages: the judge of blocks, the links of an item, a block's
-//! name, the header and the sections of a file of blocks, and the text of CIDs, by the C ABI.
+//! DAG-CBOR for callers in other languages: the judge of blocks, what a path leads to, the links of an
+//! item, a block's name, the header and the sections of a file of blocks, and the text of CIDs, by the C ABI.
 //!
 //! A slice crosses as a pointer and a length. `include/dagcbor.h` has what C declares, and
 //! `docs/OTHER_LANGUAGES.md` what a caller owes.
@@ -7,17 +7,18 @@
 
 ghost use Rattle.std.specs.Prelude.{◌≡◌};
 ghost use Rattle.ipld_tree.specs.Cid.{cid_bytes};
-ghost use Rattle.dagcbor_car.specs.Names.{block_name};
+ghost use Rattle.ipld_links.specs.Names.{block_name};
 ghost use Rattle.dagcbor_calls.specs.Answers.{IsCheckAnswer, IsLinksAnswer, IsTapeAnswer};
 ghost use Rattle.dagcbor_calls.specs.Answers.{IsSpellAnswer, IsTokensAnswer};
 ghost use Rattle.dagcbor_calls.specs.Headers.{IsHeaderAnswer};
 ghost use Rattle.dagcbor_calls.specs.Sections.{IsSectionAnswer};
 ghost use Rattle.dagcbor_calls.specs.Spans.{IsSpanAnswer};
+ghost use Rattle.dagcbor_calls.specs.Finds.{IsFindAnswer};
 ghost use Rattle.dagcbor_calls.specs.CidTexts.{IsCidTextAnswer, IsCidFromTextAnswer};
 
 use dagcbor_calls::{
-    Token, code_of, judge_section, name_of, put_cid_of_text, put_cid_text, put_front_tape,
-    put_header, put_links, put_span, put_tape, spell_tape,
+    Token, code_of, judge_section, name_of, put_cid_of_text, put_cid_text, put_found,
+    put_front_tape, put_header, put_links, put_span, put_tape, spell_tape,
 };
 use dagcbor_items::check_slice;
 
@@ -80,6 +81,18 @@ pub extern "C" fn dagcbor_spell(
     ensures { IsSpellAnswer bytes.now tape.now out.old out.new needed.new result }
 {
     spell_tape(bytes, tape, out, needed)
+}
+
+/// The number of the kind, from 0, of the item to which the path leads in the block: segments between
+/// slashes, of which empty ones say nothing, each a key of a map, or the index of an item of a list in
+/// decimal. `place` becomes where the item begins, and `end` where it ends. Below 0 the number of the
+/// refusal of `dagcbor_check`, -36 where the path leads nowhere, and -37 where it is not UTF-8; then
+/// both stay.
+#[unsafe(no_mangle)]
+pub extern "C" fn dagcbor_find(block: &[u8], path: &[u8], place: &mut usize, end: &mut usize) -> i32
+    ensures { IsFindAnswer block.now path.now (place.old, end.old) (place.new, end.new) result }
+{
+    put_found(block, path, place, end)
 }
 
 /// Puts the block's name into `out`: the CID of version 1, of the codec DAG-CBOR, by the SHA-256 of

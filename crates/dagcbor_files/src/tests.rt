@@ -4,6 +4,7 @@ mod cars;
 mod faults;
 mod files;
 mod held;
+mod mixed;
 mod pair;
 mod sections;
 mod store;

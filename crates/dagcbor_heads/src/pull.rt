@@ -222,6 +222,7 @@ fn pull_head_argument_slowly<R: Read>(name: &str, reader: &mut R) -> ReadResult<
     ensures stays { IfErr result (λ _. KeepsSteps (R.reading reader.old) (R.reading reader.new)) }
     ensures variant { IfErr result (λ e. IsNamed name.now e) }
     ensures looked { Looks 2 (R.reading reader.old) result (R.reading reader.new) }
+    ensures at_most { LooksAtMost 18 (R.reading reader.old) (R.reading reader.new) }
 {
     let (_, argument, _) = pull_head(name, reader)?;
     Ok(argument)
@@ -239,6 +240,7 @@ pub fn pull_head_argument<R: Read>(name: &str, reader: &mut R) -> ReadResult<u64
     ensures stays { IfErr result (λ _. KeepsSteps (R.reading reader.old) (R.reading reader.new)) }
     ensures variant { IfErr result (λ e. IsNamed name.now e) }
     ensures looked { Looks 2 (R.reading reader.old) result (R.reading reader.new) }
+    ensures at_most { LooksAtMost 18 (R.reading reader.old) (R.reading reader.new) }
 {
     if let Some((_, argument, _)) = reader.take_head() {
         return Ok(argument);

@@ -7,7 +7,7 @@ use Rattle.std.proofs.lemmas.Bool.{cases_lt}
 use Rattle.std.specs.Int.{bytes_high_first}
 use Rattle.std.specs.declared.convert.Infallible.{Infallible}
 use Rattle.dagcbor_heads.specs.Head.{head}
-use Rattle.dagcbor_heads.specs.Causes.{HeadCause, argument_width, least_argument}
+use Rattle.dagcbor_heads.specs.Causes.{HeadCause, IsNamed, argument_width, least_argument}
 use Rattle.dagcbor_heads.specs.Splits.{SplitsHead, BeginsWithHead}
 use Rattle.dagcbor_heads.specs.declared.error.DecodeError.{DecodeError}
 use Rattle.dagcbor_heads.specs.declared.error.DecodeError.TheVariants.{Eof, Msg, Mismatch, Unsupported, IndefiniteSize, NonMinimal, RequireUtf8}
@@ -20,7 +20,7 @@ use Rattle.dagcbor_items.specs.FirstBytes.{BeginsWith, BeginsAs, BeginsFrom}
 use Rattle.ipld_tree.specs.Cid.{IsCid}
 use Rattle.dagcbor_items.specs.LeafCauses.{IsOtherKind, IsCut, IsGarbled}
 use Rattle.dagcbor_items.specs.LinkCauses.{IsOtherByte, CidCause, LinkBytesCause, LinkCause}
-use Rattle.dagcbor_items.specs.ItemCauses.{KeyCause, IsOtherSimple, ItemHeadCause, LeafCause}
+use Rattle.dagcbor_items.specs.ItemCauses.{KeyCause, IsOtherSimple, ItemHeadCause, LeafCause, item_name}
 use Rattle.dagcbor_items.specs.Stops.{IsEnd, EndsInHead, EndsInPayload, EndsInKey, EndsInCid, EndsInLink, EndsInLeaf, StopsIn, StopsWith}
 
 -- ---- heads
@@ -268,7 +268,7 @@ other_cid b k e (inr x) other = by e x other
     by (Eof n x) h other = absurd (other tt)
     by (Unsupported n found) h other =
         let f = one_front found b h.0 h.1 in
-        record { some = omega arith; there = f.0; stands = inr ([], f.1, h.2); before = inl (tt, none_begins_as 2) }
+        record { some = omega arith; there = f.0; stands = inr ([], f.1, h.2, h.3); before = inl (tt, none_begins_as 2) }
     by (Msg message) h other = absurd (k.3 (first_major 2 h.1.0 k.0 b h.1.1 k.1 h.1.2 h.1.3 k.2))
     by _ h other = absurd h
 
@@ -306,7 +306,7 @@ long_cid b c m n starts h long e (inr x) other = by e x other
 pub string_cid : (b : List ℕ) (seen : ℕ) → BeginsAs 2 b → ((m n : ℕ) (c : List ℕ) → SplitsHead b m n c → n ≤ 87) → StopsWith HeadCause EndsInHead b seen → IsStringEnd b seen → StopsWith LinkBytesCause EndsInCid b seen
 string_cid b seen starts few heads ends e (inl x) other =
     let k = heads e x.0 other in
-    record { some = k.some; there = k.there; stands = inl (k.stands, front_as seen 2 b x.1); before = inl (k.before, front_as (seen - 1) 2 b x.1) }
+    record { some = k.some; there = k.there; stands = inl (k.stands, front_as seen 2 b x.1, x.2); before = inl (k.before, front_as (seen - 1) 2 b x.1) }
 string_cid b seen starts few heads ends e (inr x) other = by e x other
   where
     by : (e : DecodeError Infallible) → CidCause e b → ¬ IsEnd e → StopsIn LinkBytesCause EndsInCid e b seen
@@ -334,7 +334,7 @@ string_cid b seen starts few heads ends e (inr x) other = by e x other
 no_byte_string : (b : List ℕ) → b ≡ [] → (e : DecodeError Infallible) → LinkCause e b → IsEnd e
 no_byte_string b none e (inl x) = by e x
   where
-    by : (e : DecodeError Infallible) → IsOtherByte (codes "CBOR tag head") 0xd8 e b → IsEnd e
+    by : (e : DecodeError Infallible) → IsOtherByte (codes "tag head") (codes "CBOR tag head") 0xd8 e b → IsEnd e
     by (Eof n y) h = tt
     by (Mismatch n f) h = absurd (omega (arith, ap length none, ap length h.1.1))
     by _ h = absurd h
@@ -344,7 +344,7 @@ no_byte_string b none e (inr (inr x)) = absurd (omega (arith, ap length none, ap
 pub other_tag : (b : List ℕ) (first : ℕ) (more : List ℕ) → b ≡ first ∷ more → first ≢ 0xd8 → StopsWith LinkCause EndsInLink b 1
 other_tag b first more is ne e (inl x) other = by e x other
   where
-    by : (e : DecodeError Infallible) → IsOtherByte (codes "CBOR tag head") 0xd8 e b → ¬ IsEnd e → StopsIn LinkCause EndsInLink e b 1
+    by : (e : DecodeError Infallible) → IsOtherByte (codes "tag head") (codes "CBOR tag head") 0xd8 e b → ¬ IsEnd e → StopsIn LinkCause EndsInLink e b 1
     by (Eof n y) h other = absurd (other tt)
     by (Mismatch n f) h other =
         let front = one_front f b h.1.0 h.1.1 in
@@ -354,7 +354,7 @@ other_tag b first more is ne e (inr (inl x)) other = let both = sym is ∙ x.1 i
 other_tag b first more is ne e (inr (inr x)) other = let both = sym is ∙ x.1 in let same : first ≡ 0xd8 = cc both in absurd (ne same)
 
 -- behind d8
-no_tag_at : (b c : List ℕ) → b ≡ 0xd8 ∷ c → (e : DecodeError Infallible) → IsOtherByte (codes "CBOR tag head") 0xd8 e b → ⊥
+no_tag_at : (b c : List ℕ) → b ≡ 0xd8 ∷ c → (e : DecodeError Infallible) → IsOtherByte (codes "tag head") (codes "CBOR tag head") 0xd8 e b → ⊥
 no_tag_at b c is (Eof n y) h = omega (arith, ap length is, ap length h.1)
 no_tag_at b c is (Mismatch n f) h = let both = sym is ∙ h.1.1 in let same : f ≡ 0xd8 = cc both in h.1.2 same
 no_tag_at b c is _ h = h
@@ -363,7 +363,7 @@ pub tagged_cid : (b c d : List ℕ) (seen : ℕ) → b ≡ 0xd8 ∷ c → c ≡ 
 tagged_cid b c d seen is next cids e (inl x) other = absurd (no_tag_at b c is e x)
 tagged_cid b c d seen is next cids e (inr (inl x)) other = by e x.0 x.1 x.2 other
   where
-    by : (e : DecodeError Infallible) (d' : List ℕ) → b ≡ 0xd8 ∷ d' → IsOtherByte (codes "CBOR tag") 0x2a e d' → ¬ IsEnd e → StopsIn LinkCause EndsInLink e b (2 + seen)
+    by : (e : DecodeError Infallible) (d' : List ℕ) → b ≡ 0xd8 ∷ d' → IsOtherByte (codes "tag") (codes "CBOR tag") 0x2a e d' → ¬ IsEnd e → StopsIn LinkCause EndsInLink e b (2 + seen)
     by (Mismatch n f) d' same h other = let both = sym (is ∙ ap (λ y. 0xd8 ∷ y) next) ∙ (same ∙ ap (λ y. 0xd8 ∷ y) h.1.1) in let two : f ≡ 0x2a = cc both in absurd (h.1.2 two)
     by (Eof n y) d' same h other = absurd (other tt)
     by _ d' same h other = absurd h
@@ -416,9 +416,15 @@ leaf_major e b first more is h other = elim h [
     tagged : BeginsWith 6 b → first / 32 ≡ 6
     tagged x = let same = same_first x.0 x.1 x.2 in omega (arith, same, x.3)
 
-leaf_head : (e : DecodeError Infallible) (b : List ℕ) (seen : ℕ) → StopsIn HeadCause EndsInHead e b seen → BeginsFrom 0 5 b ⊎ (e ≡ IndefiniteSize) × (seen ≡ 1) → StopsIn LeafCause EndsInLeaf e b seen
-leaf_head e b seen k (inl from) = record { some = k.some; there = k.there; stands = inl (k.stands, inl (front_from seen 0 5 b from)); before = inl (k.before, front_from (seen - 1) 0 5 b from) }
-leaf_head e b seen k (inr x) = record { some = k.some; there = k.there; stands = inl (k.stands, inr x.0); before = subst (λ n. EndsInLeaf (take n b)) {x = 0} {y = seen - 1} (omega (arith, x.1)) (inl (tt, none_begins_from 0 5)) }
+-- a front that has a byte has the name of the whole
+pub front_named : (k : ℕ) (b : List ℕ) → 0 < k → item_name b ≡ item_name (take k b)
+front_named zero b some = absurd (omega (arith, some))
+front_named (suc k) [] some = refl
+front_named (suc k) (x ∷ l) some = refl
+
+leaf_head : (e : DecodeError Infallible) (b : List ℕ) (seen : ℕ) → IsNamed (item_name b) e → StopsIn HeadCause EndsInHead e b seen → BeginsFrom 0 5 b ⊎ (e ≡ IndefiniteSize) × (seen ≡ 1) → StopsIn LeafCause EndsInLeaf e b seen
+leaf_head e b seen named k (inl from) = record { some = k.some; there = k.there; stands = inl (k.stands, inl (front_from seen 0 5 b from), subst (λ x. IsNamed x e) (front_named seen b k.some) named); before = inl (k.before, front_from (seen - 1) 0 5 b from) }
+leaf_head e b seen named k (inr x) = record { some = k.some; there = k.there; stands = inl (k.stands, inr x.0, subst (λ y. IsNamed y e) (front_named seen b k.some) named); before = subst (λ n. EndsInLeaf (take n b)) {x = 0} {y = seen - 1} (omega (arith, x.1)) (inl (tt, none_begins_from 0 5)) }
 
 leaf_simple : (e : DecodeError Infallible) (b : List ℕ) → IsOtherSimple e b → StopsIn LeafCause EndsInLeaf e b 1
 leaf_simple (Unsupported kept found) b h =
@@ -452,7 +458,7 @@ indefinite_head first more at e h other = subst (StopsIn HeadCause EndsInHead e 
 
 pub leaf_indefinite : (b : List ℕ) (first : ℕ) (more : List ℕ) → b ≡ first ∷ more → first % 32 ≡ 31 → StopsWith LeafCause EndsInLeaf b 1
 leaf_indefinite b first more is at e h other = elim (leaf_major e b first more is h other) [
-  | inl x ↦ leaf_head e b 1 (subst (λ y. StopsIn HeadCause EndsInHead e y 1) (sym is) (indefinite_head first more at e (subst (HeadCause e) is x.0.0) other)) (elim x.0.1 [ inl from ↦ inl from | inr same ↦ inr (same, refl) ])
+  | inl x ↦ leaf_head e b 1 x.0.2 (subst (λ y. StopsIn HeadCause EndsInHead e y 1) (sym is) (indefinite_head first more at e (subst (HeadCause e) is x.0.0) other)) (elim x.0.1 [ inl from ↦ inl from | inr same ↦ inr (same, refl) ])
   | inr y ↦ elim y [
     | inl x ↦ absurd (garbled e x.0)
     | inr z ↦ elim z [ inl x ↦ leaf_simple e b x.0 | inr x ↦ link x.0.0 x.0.1 ]
@@ -486,7 +492,7 @@ leaf_of_simple b first more is some seven e h other = elim (leaf_major e b first
 
 pub leaf_of_string : (b : List ℕ) (first : ℕ) (more : List ℕ) (seen : ℕ) → b ≡ first ∷ more → ¬ (first % 32 ≡ 31) → ¬ (first / 32 ≡ 6) → ¬ (first / 32 ≡ 7) → StopsWith HeadCause EndsInHead b seen → IsStringEnd b seen → StopsWith LeafCause EndsInLeaf b seen
 leaf_of_string b first more seen is some no_tag no_simple heads ends e h other = elim (leaf_major e b first more is h other) [
-  | inl x ↦ elim x.0.1 [ inl from ↦ leaf_head e b seen (heads e x.0.0 other) (inl from) | inr same ↦ absurd (some (subst (λ y. HeadCause {E = Infallible} IndefiniteSize y) is (subst (λ k. HeadCause k b) same x.0.0))) ]
+  | inl x ↦ elim x.0.1 [ inl from ↦ leaf_head e b seen x.0.2 (heads e x.0.0 other) (inl from) | inr same ↦ absurd (some (subst (λ y. HeadCause {E = Infallible} IndefiniteSize y) is (subst (λ k. HeadCause k b) same x.0.0))) ]
   | inr y ↦ elim y [
     | inl x ↦ leaf_text e b seen x.0 ends
     | inr z ↦ elim z [ inl x ↦ absurd (no_simple x.1) | inr x ↦ absurd (no_tag x.1) ]

@@ -72,7 +72,7 @@ too_deep_is_long E n b h =
   where
     at : (left : ℕ) (c : List ℕ) → 256 ≡ 2 * h.0 + left → CauseAt {E = E} left (DepthOverflow n) c → h.0 ≡ 128
     at left c e s = elim s [
-      | inl x ↦ elim x [ inl none ↦ omega (arith, e, none) | inr one ↦ omega (arith, e, one.0) ]
+      | inl x ↦ elim x [ inl none ↦ omega (arith, e, none.0) | inr one ↦ omega (arith, e, one.0) ]
       | inr y ↦ elim y [
         | inl x ↦ elim x.1 [ inl v ↦ absurd v.0 | inr z ↦ elim z [ inl v ↦ absurd (no_item v) | inr w ↦ absurd (no_link E n c w.1) ] ]
         | inr x ↦ absurd (no_key E n x.1.0 x.1.1 x.1.3)

@@ -1,9 +1,10 @@
 -- What the bytes at the front say of the tree that stands there.
-use Rattle.std.proofs.Common.{◌≡◌, inl, ℕ, suc, ◌+◌, ◌*◌, ◌/◌, ◌^◌, ◌<◌, ◌≤◌, List, ◌∷◌, ◌++◌, sym, ap, ◌∙◌, subst, arith, [], length, refl, length-append, Some}
+use Rattle.std.proofs.Common.{◌≡◌, inl, ℕ, suc, ◌+◌, ◌*◌, ◌/◌, ◌^◌, ◌<◌, ◌≤◌, List, ◌∷◌, ◌++◌, sym, ap, ◌∙◌, subst, arith, [], length, refl, length-append, Some, codes}
 use Rattle.dagcbor_heads.specs.Head.{head}
 use Rattle.dagcbor_heads.specs.Reading.{Reading, Stays}
 use Rattle.dagcbor_heads.specs.Fronts.{HasByte, HasHead, StartsWith, TakesHead}
-use Rattle.dagcbor_heads.specs.Causes.{ByteCause, HeadCause}
+use Rattle.dagcbor_heads.specs.Causes.{ByteCause, HeadCause, IsEndNamed, IsNamed}
+use Rattle.dagcbor_heads.specs.Names.{Names}
 use Rattle.dagcbor_heads.specs.Refusals.{Refuses}
 use Rattle.dagcbor_heads.specs.declared.error.DecodeError.{DecodeError}
 use Rattle.dagcbor_heads.specs.declared.error.DecodeError.TheVariants.{Eof}
@@ -15,7 +16,7 @@ use Rattle.ipld_tree.specs.Spelling.{IsFront, spelling}
 use Rattle.ipld_tree.proofs.Unique.{major, argument, payload, argument_fits}
 use Rattle.ipld_tree.proofs.Fronts.{front_head, front_first, front_nonempty, major_le}
 use Rattle.dagcbor_items.specs.FirstBytes.{BeginsFrom}
-use Rattle.dagcbor_items.specs.ItemCauses.{CauseInside}
+use Rattle.dagcbor_items.specs.ItemCauses.{CauseInside, item_name, major_name}
 use Rattle.dagcbor_items.proofs.Places.{cause_here}
 use Rattle.dagcbor_items.specs.Shapes.{Shape}
 use Rattle.dagcbor_items.specs.TypedReads.{HasFront}
@@ -50,6 +51,13 @@ shorter b rest t f = by (spelling t) refl
 
 -- ---- what is refused where no byte or no head stands
 
+-- the first byte is of a major type up to 5
+begins_major : (r : Reading) (m : ℕ) → m ≤ 5 → StartsWithMajor r m → (b : List ℕ) → r.left ≡ Some b → BeginsFrom 0 5 b
+begins_major r m few starts b l first more is =
+    let s = starts b l in
+    let same : first ≡ s.0 = cc (is, s.2) in
+    (omega arith, omega (arith, few, same, s.3))
+
 pub front_head_stands : {V : Type 0} {shape : Shape Tree V} {r : Reading} → HasFront shape r → HasHead r
 front_head_stands h = record {
   major = major h.tree;
@@ -63,29 +71,32 @@ front_head_stands h = record {
 pub front_byte : {V : Type 0} {shape : Shape Tree V} {r : Reading} → HasFront shape r → HasByte r
 front_byte h = let f = front_first h.bytes h.rest h.tree h.front in record { byte = 32 * major h.tree + f.0; rest = f.1; left = h.left ∙ ap Some f.3 }
 
-pub head_refused : {E : Type 0} (lacks : Type 0) (spent : ℕ) (old new : Reading) (e : DecodeError E) → ((b : List ℕ) → old.left ≡ Some b → BeginsFrom 0 5 b) → Refuses (HasHead old) ⊥ ⊥ HeadCause old e new → Refuses (HasItem (suc spent) old) lacks ⊥ (CauseInside (old.steps + suc spent)) old e new
-head_refused lacks spent old new e begins r = passed_on HeadCause (CauseInside (old.steps + suc spent)) old old new e (stays old) front_head_stands (λ x. absurd x) (λ x. x) (λ b l. (b, l, λ h. cause_here _ e b (omega arith) (inl (h, inl (begins b l))))) r
+-- the name of what begins with a byte of the major type
+pub item_named : (b : List ℕ) (m : ℕ) → MajorAt b m → item_name b ≡ major_name m
+item_named b m h = ap item_name h.2 ∙ ap major_name h.3
 
-pub byte_refused : {E : Type 0} (lacks : Type 0) (spent : ℕ) (old new : Reading) (e : DecodeError E) → Refuses (HasByte old) ⊥ ⊥ ByteCause old e new → Refuses (HasItem (suc spent) old) lacks ⊥ (CauseInside (old.steps + suc spent)) old e new
-byte_refused lacks spent old new e r =
-    passed_on ByteCause (CauseInside (old.steps + suc spent)) old old new e (stays old) front_byte (λ x. absurd x) (λ x. x) (λ b l. (b, l, λ h. cause_here _ e b (omega arith) (inl (byte_in_head e b h, inl (none e b h))))) r
+pub head_refused : {E : Type 0} (lacks : Type 0) (spent m : ℕ) (old new : Reading) (e : DecodeError E) → m ≤ 5 → StartsWithMajor old m → IsNamed (major_name m) e → Refuses (HasHead old) ⊥ ⊥ HeadCause old e new → Refuses (HasItem (suc spent) old) lacks ⊥ (CauseInside (old.steps + suc spent)) old e new
+head_refused lacks spent m old new e few starts named r =
+    passed_on HeadCause (CauseInside (old.steps + suc spent)) old old new e (stays old) front_head_stands (λ x. absurd x) (λ x. x)
+    (λ b l. (b, l, λ h. cause_here _ e b (omega arith) (inl (h, inl (begins_major old m few starts b l), subst (λ x. IsNamed x e) (sym (item_named b m (starts b l))) named)))) r
+
+-- behind the first byte of a number
+pub number_head_refused : {E : Type 0} (lacks : Type 0) {name : List ℕ} (old new : Reading) (e : DecodeError E) (first : ℕ) → StartsWith old first → first / 32 ≤ 1 → name ≡ major_name (first / 32) → IsNamed name e → Refuses (HasHead old) ⊥ ⊥ HeadCause old e new
+    → Refuses (HasItem 1 old) lacks ⊥ (CauseInside (old.steps + 1)) old e new
+number_head_refused lacks old new e first starts few called named r =
+    head_refused lacks 0 (first / 32) old new e (omega (arith, few)) (major_at old first (first / 32) starts refl) (subst (λ x. IsNamed x e) called named) r
+
+pub byte_refused : {E : Type 0} (lacks : Type 0) (spent : ℕ) (old new : Reading) (e : DecodeError E) → IsEndNamed (codes "any") e → Refuses (HasByte old) ⊥ ⊥ ByteCause old e new → Refuses (HasItem (suc spent) old) lacks ⊥ (CauseInside (old.steps + suc spent)) old e new
+byte_refused lacks spent old new e named r =
+    passed_on ByteCause (CauseInside (old.steps + suc spent)) old old new e (stays old) front_byte (λ x. absurd x) (λ x. x) (λ b l. (b, l, λ h. cause_here _ e b (omega arith) (inl (byte_in_head e b h, inl (none e b h), end_of_item e b h named)))) r
   where
     none : {E : Type 0} (e : DecodeError E) (b : List ℕ) → ByteCause e b → BeginsFrom 0 5 b
     none (Eof n expect) b h = λ first more is. absurd (cc (is, h.1))
     none _ b h = absurd h
 
--- the first byte is of a major type up to 5
-pub begins_major : (r : Reading) (m : ℕ) → m ≤ 5 → StartsWithMajor r m → (b : List ℕ) → r.left ≡ Some b → BeginsFrom 0 5 b
-begins_major r m few starts b l first more is =
-    let s = starts b l in
-    let same : first ≡ s.0 = cc (is, s.2) in
-    (omega arith, omega (arith, few, same, s.3))
-
-pub begins_number : (r : Reading) (first : ℕ) → StartsWith r first → first / 32 ≤ 1 → (b : List ℕ) → r.left ≡ Some b → BeginsFrom 0 5 b
-begins_number r first starts few b l found more is =
-    let s = starts b l in
-    let same : found ≡ first = cc (is, s.1) in
-    (omega arith, omega (arith, few, same))
+    end_of_item : {E : Type 0} (e : DecodeError E) (b : List ℕ) → ByteCause e b → IsEndNamed (codes "any") e → IsNamed (item_name b) e
+    end_of_item (Eof n expect) b h named = subst (λ x. Names n (item_name x)) (sym h.1) named
+    end_of_item _ b h named = absurd h
 
 -- ---- a head of a known major type
 

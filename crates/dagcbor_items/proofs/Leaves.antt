@@ -55,5 +55,5 @@ indefinite_refused E lacks spent {old} {new} {first} h e = (
       let is : first ∷ s.0 ≡ (32 * major i.tree + f.0) ∷ f.1 = sym s.1 ∙ f.3 in
       let same : first ≡ 32 * major i.tree + f.0 = cc in
       omega (arith, e, same, f.2),
-  λ b l. let s = h.starts b l in cause_here {E = E} _ IndefiniteSize b (omega arith) (inl (subst (HeadCause {E = E} IndefiniteSize) (sym s.1) e, inr refl)),
+  λ b l. let s = h.starts b l in cause_here {E = E} _ IndefiniteSize b (omega arith) (inl (subst (HeadCause {E = E} IndefiniteSize) (sym s.1) e, inr refl, tt)),
 )

@@ -18,6 +18,7 @@ pub mod HeadMajors
 pub mod Integers
 pub mod SimpleValues
 pub mod StringReads
+pub mod Lacking
 pub mod Characters
 pub mod StringItems
 pub mod Examples

@@ -4,14 +4,14 @@ use Rattle.dagcbor_heads.specs.Head.{head}
 use Rattle.dagcbor_heads.specs.Names.{Names}
 use Rattle.dagcbor_heads.specs.Reading.{Reading}
 use Rattle.dagcbor_heads.specs.Fronts.{HasByte, HasHead, HasPayload, ShowsByte, Takes}
-use Rattle.dagcbor_heads.specs.Causes.{ByteCause, HeadCause, PayloadCause}
+use Rattle.dagcbor_heads.specs.Causes.{ByteCause, HeadCause, PayloadCause, IsEndNamed, IsNamed}
 use Rattle.dagcbor_heads.specs.Refusals.{Refuses}
 use Rattle.dagcbor_heads.specs.declared.name.Name.{Name}
 use Rattle.dagcbor_heads.specs.declared.error.DecodeError.{DecodeError}
 use Rattle.dagcbor_heads.specs.declared.error.DecodeError.TheVariants.{Msg, Eof, Unsupported}
 use Rattle.dagcbor_heads.proofs.Heads.{head_unique, head_first}
 use Rattle.dagcbor_heads.proofs.Taking.{stays, stays_both}
-use Rattle.dagcbor_heads.proofs.Refusing.{passed_on, byte_in_head}
+use Rattle.dagcbor_heads.proofs.Refusing.{passed_on, byte_in_head, end_named}
 use Rattle.ipld_tree.specs.Cid.{CidParts, AreCidParts, IsCid, cid_bytes}
 use Rattle.ipld_tree.specs.Tree.{Tree, link}
 use Rattle.ipld_tree.specs.Spelling.{bytes_spelling, IsFront}
@@ -33,12 +33,12 @@ use Rattle.dagcbor_items.proofs.Fronts.{TakesHeadOf, major_of_front}
 wanted_byte : {wanted : ℕ} {r : Reading} → HasWanted wanted r → HasByte r
 wanted_byte {wanted} h = record { byte = wanted; rest = h.rest; left = h.left }
 
-no_byte : {E : Type 0} (other : List ℕ) (wanted : ℕ) (e : DecodeError E) (b : List ℕ) → ByteCause e b → IsOtherByte other wanted e b
-no_byte other wanted (Eof name expect) b h = h
-no_byte other wanted _ b h = absurd h
+no_byte : {E : Type 0} (name other : List ℕ) (wanted : ℕ) (e : DecodeError E) (b : List ℕ) → IsEndNamed name e → ByteCause e b → IsOtherByte name other wanted e b
+no_byte name other wanted (Eof kept expect) b named h = (h.0, h.1, named)
+no_byte name other wanted _ b named h = absurd h
 
-pub wanted_refused : {E : Type 0} (other : List ℕ) (wanted : ℕ) (old new : Reading) (e : DecodeError E) → Refuses (HasByte old) ⊥ ⊥ ByteCause old e new → Refuses (HasWanted wanted old) ⊥ ⊥ (IsOtherByte other wanted) old e new
-wanted_refused other wanted old new e r = passed_on ByteCause (IsOtherByte other wanted) old old new e (stays old) wanted_byte (λ x. x) (λ x. x) (λ b l. (b, l, no_byte other wanted e b)) r
+pub wanted_refused : {E : Type 0} (name other : List ℕ) (wanted : ℕ) (old new : Reading) (e : DecodeError E) → IsEndNamed name e → Refuses (HasByte old) ⊥ ⊥ ByteCause old e new → Refuses (HasWanted wanted old) ⊥ ⊥ (IsOtherByte name other wanted) old e new
+wanted_refused name other wanted old new e named r = passed_on ByteCause (IsOtherByte name other wanted) old old new e (stays old) wanted_byte (λ x. x) (λ x. x) (λ b l. (b, l, no_byte name other wanted e b named)) r
 
 -- ---- behind the tag
 
@@ -58,15 +58,15 @@ cid_first h =
 cid_byte : {r : Reading} → HasCid r → HasByte r
 cid_byte h = let f = cid_first h in record { byte = 32 * 2 + f.0; rest = f.1; left = h.left ∙ ap Some f.3 }
 
-pub cid_byte_refused : {E : Type 0} (old new : Reading) (e : DecodeError E) → Refuses (HasByte old) ⊥ ⊥ ByteCause old e new → Refuses (HasCid old) ⊥ ⊥ LinkBytesCause old e new
-cid_byte_refused old new e r = passed_on ByteCause LinkBytesCause old old new e (stays old) cid_byte (λ x. x) (λ x. x) (λ b l. (b, l, λ h. inl (byte_in_head e b h, none e b h))) r
+pub cid_byte_refused : {E : Type 0} (old new : Reading) (e : DecodeError E) → IsEndNamed (codes "cid") e → Refuses (HasByte old) ⊥ ⊥ ByteCause old e new → Refuses (HasCid old) ⊥ ⊥ LinkBytesCause old e new
+cid_byte_refused old new e named r = passed_on ByteCause LinkBytesCause old old new e (stays old) cid_byte (λ x. x) (λ x. x) (λ b l. (b, l, λ h. inl (byte_in_head e b h, none e b h, end_named (codes "cid") e named))) r
   where
     none : {E : Type 0} (e : DecodeError E) (b : List ℕ) → ByteCause e b → BeginsAs 2 b
     none (Eof n expect) b h = λ first more is. absurd (cc (is, h.1))
     none _ b h = absurd h
 
-pub cid_head_refused : {E : Type 0} (old new : Reading) (e : DecodeError E) → StartsWithMajor old 2 → Refuses (HasHead old) ⊥ ⊥ HeadCause old e new → Refuses (HasCid old) ⊥ ⊥ LinkBytesCause old e new
-cid_head_refused old new e starts r = passed_on HeadCause LinkBytesCause old old new e (stays old) cid_head (λ x. x) (λ x. x) (λ b l. (b, l, λ h. inl (h, begins b l))) r
+pub cid_head_refused : {E : Type 0} (old new : Reading) (e : DecodeError E) → StartsWithMajor old 2 → IsNamed (codes "cid") e → Refuses (HasHead old) ⊥ ⊥ HeadCause old e new → Refuses (HasCid old) ⊥ ⊥ LinkBytesCause old e new
+cid_head_refused old new e starts named r = passed_on HeadCause LinkBytesCause old old new e (stays old) cid_head (λ x. x) (λ x. x) (λ b l. (b, l, λ h. inl (h, begins b l, named))) r
   where
     begins : (b : List ℕ) → old.left ≡ Some b → BeginsAs 2 b
     begins b l = λ first more is.
@@ -74,15 +74,15 @@ cid_head_refused old new e starts r = passed_on HeadCause LinkBytesCause old old
         let same : first ≡ s.0 = cc (is, s.2) in
         omega (arith, same, s.3)
 
-pub no_byte_string : (E : Type 0) {old new : Reading} {first : ℕ} (name : Name) → ShowsByte old first new → (first / 32 ≡ 2 → ⊥) → Refuses {E = E} (HasCid old) ⊥ ⊥ LinkBytesCause old (Unsupported name first) new
-no_byte_string E {old} {new} {first} name h other = (
+pub no_byte_string : (E : Type 0) {old new : Reading} {first : ℕ} (name : Name) → Names name (codes "cid") → ShowsByte old first new → (first / 32 ≡ 2 → ⊥) → Refuses {E = E} (HasCid old) ⊥ ⊥ LinkBytesCause old (Unsupported name first) new
+no_byte_string E {old} {new} {first} name named h other = (
   h.same.faults,
   λ k. let f = cid_first k in
       let s = h.starts _ k.left in
       let is : first ∷ s.0 ≡ (32 * 2 + f.0) ∷ f.1 = sym s.1 ∙ f.3 in
       let same : first ≡ 32 * 2 + f.0 = cc in
       other (omega (arith, same, f.2)),
-  λ b l. let s = h.starts b l in inr (s.0, s.1, other),
+  λ b l. let s = h.starts b l in inr (s.0, s.1, other, named),
 )
 
 -- the head was taken, and a CID stands behind it
@@ -110,14 +110,14 @@ link_too_long {E} {old} {mid} {n} e is h more = subst (λ x. Refuses {E = E} (Ha
   λ b l. let k = h.taken b l in inr (is.2, (n, k.0, h.fits, k.1, inl more)),
 )
 
-cut_stands : {E : Type 0} (e : DecodeError E) (b c : List ℕ) (n : ℕ) → n < 2 ^ 64 → n ≤ 87 → b ≡ head 2 n ++ c → PayloadCause n e c → LinkBytesCause e b
-cut_stands (Eof name expect) b c n fits most e h = inr (n, c, fits, e, h.1, h.0, most)
-cut_stands _ b c n fits most e h = absurd h
+cut_stands : {E : Type 0} (e : DecodeError E) (b c : List ℕ) (n : ℕ) → n < 2 ^ 64 → n ≤ 87 → b ≡ head 2 n ++ c → IsEndNamed (codes "cid") e → PayloadCause n e c → LinkBytesCause e b
+cut_stands (Eof name expect) b c n fits most e named h = inr (n, c, fits, e, h.1, h.0, most, named)
+cut_stands _ b c n fits most e named h = absurd h
 
-pub cid_payload_refused : {E : Type 0} {old mid : Reading} {n : ℕ} (new : Reading) (e : DecodeError E) → TakesHeadOf old 2 n mid → n ≤ 87 → Refuses (HasPayload n mid) ⊥ ⊥ (PayloadCause n) mid e new → Refuses (HasCid old) ⊥ ⊥ LinkBytesCause old e new
-cid_payload_refused {E} {old} {mid} {n} new e h most r = passed_on (PayloadCause n) LinkBytesCause old mid new e h.same
+pub cid_payload_refused : {E : Type 0} {old mid : Reading} {n : ℕ} (new : Reading) (e : DecodeError E) → TakesHeadOf old 2 n mid → n ≤ 87 → IsEndNamed (codes "cid") e → Refuses (HasPayload n mid) ⊥ ⊥ (PayloadCause n) mid e new → Refuses (HasCid old) ⊥ ⊥ LinkBytesCause old e new
+cid_payload_refused {E} {old} {mid} {n} new e h most named r = passed_on (PayloadCause n) LinkBytesCause old mid new e h.same
     (λ i. let k = behind_head h i in record { payload = 0x00 ∷ k.cid; rest = k.rest; long = k.long; left = k.left }) (λ x. x) (λ x. x)
-    (λ b l. let k = h.taken b l in (k.0, k.2, cut_stands e b k.0 n h.fits most k.1)) r
+    (λ b l. let k = h.taken b l in (k.0, k.2, cut_stands e b k.0 n h.fits most k.1 named)) r
 
 pub no_cid : {E : Type 0} {old mid new : Reading} {n : ℕ} (e : DecodeError E) (s : List ℕ) → IsInvalidCid e → TakesHeadOf old 2 n mid → length s ≡ n → Takes mid s new → IsZeroAndCid s None → Refuses (HasCid old) ⊥ ⊥ LinkBytesCause old e new
 no_cid {E} {old} {mid} {new} {n} e s is h long p other = subst (λ x. Refuses {E = E} (HasCid old) ⊥ ⊥ LinkBytesCause old x new) (sym is.1) (

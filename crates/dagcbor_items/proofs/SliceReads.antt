@@ -69,7 +69,7 @@ record IsCauseless {E : Type 0} (e : DecodeError E) : Type 0 where
   cut : (name : List ℕ) (kind : ℕ) (b : List ℕ) → IsCut name kind e b → ⊥
   garbled : (name b : List ℕ) → IsGarbled name e b → ⊥
   simple : (b : List ℕ) → IsOtherSimple e b → ⊥
-  byte : (other : List ℕ) (wanted : ℕ) (b : List ℕ) → IsOtherByte other wanted e b → ⊥
+  byte : (name other : List ℕ) (wanted : ℕ) (b : List ℕ) → IsOtherByte name other wanted e b → ⊥
   cid : (b : List ℕ) → CidCause e b → ⊥
   key : e ≢ UnorderedKey
 
@@ -90,9 +90,9 @@ no_cause {E} e b none h = elim h.5 [
 
     by_link : (c : List ℕ) → LinkCause {E = E} e c → ⊥
     by_link c h = elim h [
-      | inl x ↦ none.byte _ _ c x
+      | inl x ↦ none.byte _ _ _ c x
       | inr w ↦ elim w [
-        | inl x ↦ none.byte _ _ x.0 x.2
+        | inl x ↦ none.byte _ _ _ x.0 x.2
         | inr x ↦ elim x.2 [ inl v ↦ none.head x.0 v.0 | inr v ↦ none.cid x.0 v ]
       ]
     ]
@@ -108,19 +108,19 @@ no_cause {E} e b none h = elim h.5 [
 
 -- trailing data, and what no cause in the bytes has
 no_trailing : (E : Type 0) → IsCauseless {E = E} TrailingData
-no_trailing E = record { deep = λ l b x. x; head = λ b x. x; kind = λ n l h b x. x; cut = λ n k b x. x; garbled = λ n b x. x; simple = λ b x. x; byte = λ o w b x. x; cid = λ b x. x; key = λ is. absurd (cc is) }
+no_trailing E = record { deep = λ l b x. x; head = λ b x. x; kind = λ n l h b x. x; cut = λ n k b x. x; garbled = λ n b x. x; simple = λ b x. x; byte = λ n o w b x. x; cid = λ b x. x; key = λ is. absurd (cc is) }
 
 pub no_trailing_cause : (b : List ℕ) → CauseInside {E = Infallible} 256 TrailingData b → ⊥
 no_trailing_cause b h = no_cause {E = Infallible} TrailingData b (no_trailing Infallible) h
 
 no_lack : (E : Type 0) → IsCauseless {E = E} OutOfMemory
-no_lack E = record { deep = λ l b x. x; head = λ b x. x; kind = λ n l h b x. x; cut = λ n k b x. x; garbled = λ n b x. x; simple = λ b x. x; byte = λ o w b x. x; cid = λ b x. x; key = λ is. absurd (cc is) }
+no_lack E = record { deep = λ l b x. x; head = λ b x. x; kind = λ n l h b x. x; cut = λ n k b x. x; garbled = λ n b x. x; simple = λ b x. x; byte = λ n o w b x. x; cid = λ b x. x; key = λ is. absurd (cc is) }
 
 no_loan : (E : Type 0) (n : Name) → IsCauseless {E = E} (RequireBorrowed n)
-no_loan E n = record { deep = λ l b x. x; head = λ b x. x; kind = λ n l h b x. x; cut = λ n k b x. x; garbled = λ n b x. x; simple = λ b x. x; byte = λ o w b x. x; cid = λ b x. x; key = λ is. absurd (cc is) }
+no_loan E n = record { deep = λ l b x. x; head = λ b x. x; kind = λ n l h b x. x; cut = λ n k b x. x; garbled = λ n b x. x; simple = λ b x. x; byte = λ n o w b x. x; cid = λ b x. x; key = λ is. absurd (cc is) }
 
 no_failure : (E : Type 0) → IsCauseless {E = E} Failed
-no_failure E = record { deep = λ l b x. x; head = λ b x. x; kind = λ n l h b x. x; cut = λ n k b x. x; garbled = λ n b x. x; simple = λ b x. x; byte = λ o w b x. x; cid = λ b x. x; key = λ is. absurd (cc is) }
+no_failure E = record { deep = λ l b x. x; head = λ b x. x; kind = λ n l h b x. x; cut = λ n k b x. x; garbled = λ n b x. x; simple = λ b x. x; byte = λ n o w b x. x; cid = λ b x. x; key = λ is. absurd (cc is) }
 
 pub slice_refused : (e : DecodeError Infallible) (old new : Reading) (b : List ℕ) → old.left ≡ Some b → old.steps ≡ 256 → Refuses (HasItem 0 old) ⊤ ⊥ (CauseInside (old.steps + 0)) old e new → SliceRefused e b
 slice_refused (Read x) old new b l s r = elim x [ ]

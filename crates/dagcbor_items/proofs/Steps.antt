@@ -1,5 +1,6 @@
 -- Steps that are spent on entering an item, and given back at its end.
-use Rattle.std.proofs.Common.{◌≡◌, inl, ℕ, ◌+◌, ◌-◌, ◌≤◌, List, refl, sym, ap, ◌∙◌, arith, Some}
+use Rattle.std.proofs.Common.{◌≡◌, inl, ℕ, ◌+◌, ◌-◌, ◌≤◌, List, refl, sym, ap, ◌∙◌, arith, codes, Some}
+use Rattle.dagcbor_heads.specs.Names.{Names}
 use Rattle.dagcbor_heads.specs.Reading.{Reading, SpentStep, with_steps}
 use Rattle.dagcbor_heads.specs.Refusals.{Refuses, NoStep}
 use Rattle.dagcbor_heads.specs.declared.name.Name.{Name}
@@ -20,12 +21,12 @@ need_positive _ = omega arith
 
 -- no step is left for what stands there
 pub too_deep : {E : Type 0} (lacks : Type 0) (spent : ℕ) {text : List ℕ} {old new : Reading} (e : DecodeError E) → NoStep text old e new → ((i : HasItem spent old) → spent + 1 ≤ any_need i.tree)
-    → ((n : Name) (b : List ℕ) → old.left ≡ Some b → IsTooDeep {E = E} spent (DepthOverflow n) b) → Refuses (HasItem spent old) lacks ⊥ (CauseInside (old.steps + spent)) old e new
+    → ((n : Name) → Names n text → (b : List ℕ) → old.left ≡ Some b → IsTooDeep {E = E} spent (DepthOverflow n) b) → Refuses (HasItem spent old) lacks ⊥ (CauseInside (old.steps + spent)) old e new
 too_deep {E} lacks spent {text} {old} e h deep cause = no_step_refused lacks ⊥ (CauseInside (old.steps + spent)) e (stays old) h (λ i. omega (arith, i.within, deep i))
-    (λ n named b l. at_steps {E = E} (DepthOverflow n) b spent _ (omega (arith, h.none)) (stands_here {E = E} spent (DepthOverflow n) b (inl (cause n b l))))
+    (λ n named b l. at_steps {E = E} (DepthOverflow n) b spent _ (omega (arith, h.none)) (stands_here {E = E} spent (DepthOverflow n) b (inl (cause n named b l))))
 
-pub no_step_left : {E : Type 0} (lacks : Type 0) {text : List ℕ} {old new : Reading} (e : DecodeError E) → NoStep text old e new → Refuses (HasItem 0 old) lacks ⊥ (CauseInside (old.steps + 0)) old e new
-no_step_left lacks e h = too_deep lacks 0 e h (λ i. need_positive i.tree) (λ n b l. inl refl)
+pub no_step_left : {E : Type 0} (lacks : Type 0) {old new : Reading} (e : DecodeError E) → NoStep (codes "any") old e new → Refuses (HasItem 0 old) lacks ⊥ (CauseInside (old.steps + 0)) old e new
+no_step_left lacks e h = too_deep lacks 0 e h (λ i. need_positive i.tree) (λ n named b l. inl (refl, named))
 
 -- a call that may lack memory refuses what one refuses that lacks less
 pub more_lacks : {E : Type 0} {lacks : Type 0} (lacks' : Type 0) (spent : ℕ) (old new : Reading) (e : DecodeError E) → (lacks → lacks') → Refuses (HasItem spent old) lacks ⊥ (CauseInside (old.steps + spent)) old e new

@@ -4,6 +4,7 @@ use Rattle.std.proofs.Math.Seq.{take-append_seam, take-append-add}
 use Rattle.std.specs.declared.convert.Infallible.{Infallible}
 use Rattle.dagcbor_heads.specs.Head.{head}
 use Rattle.dagcbor_heads.specs.Causes.{HeadCause}
+use Rattle.dagcbor_heads.specs.Names.{Names}
 use Rattle.dagcbor_heads.specs.Splits.{SplitsHead, BeginsWithHead}
 use Rattle.dagcbor_heads.specs.declared.error.DecodeError.{DecodeError}
 use Rattle.dagcbor_heads.specs.declared.error.DecodeError.TheVariants.{Eof, DepthOverflow, TrailingData}
@@ -21,7 +22,7 @@ use Rattle.dagcbor_items.proofs.Steps.{need_positive}
 use Rattle.dagcbor_items.proofs.Judging.{ItemsPassed, EntriesPassed, entries_so_far, items_so_far}
 use Rattle.dagcbor_items.proofs.Stopping.{list_stopped, map_stopped}
 use Rattle.dagcbor_items.proofs.SliceReads.{no_trailing_cause}
-use Rattle.dagcbor_items.proofs.Ends.{head_cut, head_long, head_some, front_from, head_begins_from, none_begins_from, string_cut, key_ends}
+use Rattle.dagcbor_items.proofs.Ends.{head_cut, head_long, head_some, front_from, head_begins_from, none_begins_from, string_cut, key_ends, front_named}
 
 -- ---- bytes that end too early
 
@@ -130,12 +131,12 @@ item_deep steps behind e b is alone h other deep = elim (at_item steps e b alone
     }
 
     by : (e : DecodeError Infallible) → IsTooDeep steps e b → ¬ IsEnd e → StopsInItem steps e behind b
-    by (DepthOverflow n) (inl none) other = before_all (DepthOverflow n) (inl none) none other
+    by (DepthOverflow n) (inl none) other = before_all (DepthOverflow n) (inl none) none.0 other
     by (DepthOverflow n) (inr x) other = inr record {
       other = other;
       seen = 1;
       whole = elim x.1 [ inl p ↦ omega (arith, is, x.0, ap length p.2) | inr p ↦ omega (arith, is, x.0, ap length p.2) ];
-      stands = stands_here steps (DepthOverflow n) (take 1 b) (inl (inr (x.0, elim x.1 [ inl p ↦ inl (p.0, [], ap (take 1) p.2, p.3) | inr p ↦ inr (p.0, [], ap (take 1) p.2, p.3) ])));
+      stands = stands_here steps (DepthOverflow n) (take 1 b) (inl (inr (x.0, elim x.1 [ inl p ↦ inl (p.0, [], ap (take 1) p.2, p.3) | inr p ↦ inr (p.0, [], ap (take 1) p.2, p.3) ], subst (Names n) (front_named 1 b (omega arith)) x.2)));
       before = λ some. (0, (omega (arith, x.0), inl (tt, none_begins_from 0 5)));
       at_once = λ same. absurd (omega (arith, same));
     }

@@ -1,6 +1,7 @@
 -- Texts and byte strings as items of unknown kind.
 use Rattle.std.proofs.Common.{◌≡◌, inl, inr, ℕ, ◌+◌, ◌<◌, List, ◌∷◌, refl, sym, ap, ◌∙◌, subst, arith, Vec, Global, ◌≤◌, Option, Some, is_some, String, string_bytes, codes}
 use Rattle.dagcbor_heads.specs.Reading.{Reading}
+use Rattle.dagcbor_heads.specs.Causes.{IsNamed}
 use Rattle.dagcbor_heads.specs.Refusals.{Refuses}
 use Rattle.dagcbor_heads.specs.declared.error.DecodeError.{DecodeError}
 use Rattle.dagcbor_heads.specs.declared.error.DecodeError.TheVariants.{Mismatch}
@@ -13,13 +14,13 @@ use Rattle.ipld_tree.specs.declared.ipld.Ipld.{Bytes as Bytes', String as String
 use Rattle.ipld_tree.proofs.Trees.{tree_of_Bytes, tree_of_String}
 use Rattle.ipld_tree.proofs.Unique.{major}
 use Rattle.ipld_tree.proofs.Fronts.{is_bytes, is_text}
-use Rattle.dagcbor_items.specs.ItemCauses.{ItemCause, CauseInside}
+use Rattle.dagcbor_items.specs.ItemCauses.{ItemCause, CauseInside, major_name}
 use Rattle.dagcbor_items.specs.Untyped.{HasItem, TakesItem, StartsWithMajor}
 use Rattle.dagcbor_items.specs.TypedReads.{HasFront, TakesFront}
 use Rattle.dagcbor_items.specs.Shapes.{view_text, view_bytes, leaf}
 use Rattle.dagcbor_items.specs.LeafCauses.{IsOtherKind, IsCut, StringCause, TextCause}
 use Rattle.dagcbor_items.proofs.Places.{cause_here}
-use Rattle.dagcbor_items.proofs.Fronts.{MajorAt, major_of_front, as_tree}
+use Rattle.dagcbor_items.proofs.Fronts.{MajorAt, major_of_front, as_tree, item_named}
 use Rattle.dagcbor_items.proofs.StringReads.{shown_bytes, shown_text}
 
 -- ---- the causes
@@ -31,17 +32,17 @@ not_other name kind (Mismatch kept found) b m h =
     h.1.2 (omega (arith, same, m.3)) (omega (arith, same, m.3))
 not_other name kind _ b m h = absurd h
 
-string_stands : {E : Type 0} (steps : ℕ) → 0 < steps → (name : List ℕ) (kind : ℕ) → kind ≤ 5 → (e : DecodeError E) (b : List ℕ) → (IsCut name kind e b → ItemCause e b) → MajorAt b kind → StringCause name kind e b → CauseInside steps e b
-string_stands steps some name kind few e b of_item m (inl (inl h)) =
-    cause_here steps e b some (inl (h.0, inl (λ first more is. (omega arith, omega (arith, few, (h.2 first more is).1)))))
-string_stands steps some name kind few e b of_item m (inl (inr h)) = absurd (not_other name kind e b m h)
-string_stands steps some name kind few e b of_item m (inr h) = cause_here steps e b some (inr (inl (of_item h)))
+string_stands : {E : Type 0} (steps : ℕ) → 0 < steps → (name : List ℕ) (kind : ℕ) → kind ≤ 5 → name ≡ major_name kind → (e : DecodeError E) (b : List ℕ) → (IsCut name kind e b → ItemCause e b) → MajorAt b kind → StringCause name kind e b → CauseInside steps e b
+string_stands steps some name kind few called e b of_item m (inl (inl h)) =
+    cause_here steps e b some (inl (h.0, inl (λ first more is. (omega arith, omega (arith, few, (h.2 first more is).1))), subst (λ x. IsNamed x e) (called ∙ sym (item_named b kind m)) h.1))
+string_stands steps some name kind few called e b of_item m (inl (inr h)) = absurd (not_other name kind e b m h)
+string_stands steps some name kind few called e b of_item m (inr h) = cause_here steps e b some (inr (inl (of_item h)))
 
 bytes_stand : {E : Type 0} (steps : ℕ) → 0 < steps → (e : DecodeError E) (b : List ℕ) → MajorAt b 2 → StringCause (codes "bytes") 2 e b → CauseInside steps e b
-bytes_stand steps some e b m h = string_stands steps some (codes "bytes") 2 (omega arith) e b (λ c. inl c) m h
+bytes_stand steps some e b m h = string_stands steps some (codes "bytes") 2 (omega arith) refl e b (λ c. inl c) m h
 
 text_stands : {E : Type 0} (steps : ℕ) → 0 < steps → (e : DecodeError E) (b : List ℕ) → MajorAt b 3 → TextCause (codes "string") e b → CauseInside steps e b
-text_stands steps some e b m (inl h) = string_stands steps some (codes "string") 3 (omega arith) e b (λ c. inr (inl c)) m h
+text_stands steps some e b m (inl h) = string_stands steps some (codes "string") 3 (omega arith) refl e b (λ c. inr (inl c)) m h
 text_stands steps some e b m (inr h) = cause_here steps e b some (inr (inl (inr (inr (inl h)))))
 
 -- ---- strings of either kind

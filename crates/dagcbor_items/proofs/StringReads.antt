@@ -29,7 +29,7 @@ use Rattle.dagcbor_items.specs.Untyped.{StartsWithMajor}
 -- ---- a string of the major type
 
 -- the head of one major type was taken
-of_kind : {kind m n : ℕ} {old mid : Reading} → TakesMajor kind kind old m n mid → Takes old (head kind n) mid
+pub of_kind : {kind m n : ℕ} {old mid : Reading} → TakesMajor kind kind old m n mid → Takes old (head kind n) mid
 of_kind {kind} {m} {n} {old} {mid} h = let same : m ≡ kind = omega (arith, h.lowest, h.highest) in subst (λ x. Takes old (head x n) mid) same h.takes
 
 -- the string behind the head that was taken

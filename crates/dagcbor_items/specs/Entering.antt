@@ -1,11 +1,11 @@
 -- Entering a list or a map: a step is spent, and its head is taken.
-use Rattle.std.specs.Prelude.{ℕ, ◌+◌, ◌-◌, ◌^◌, ◌<◌, ◌⊎◌, Result, MatchResult}
+use Rattle.std.specs.Prelude.{◌≡◌, List, ℕ, ◌+◌, ◌-◌, ◌^◌, ◌<◌, ◌⊎◌, Result, MatchResult}
 use Rattle.dagcbor_heads.specs.Head.{head}
 use Rattle.dagcbor_heads.specs.Reading.{Reading, with_steps}
 use Rattle.dagcbor_heads.specs.Fronts.{Takes}
 use Rattle.dagcbor_heads.specs.Refusals.{RefusesPlainly}
 use Rattle.dagcbor_heads.specs.declared.error.DecodeError.{DecodeError}
-use Rattle.dagcbor_items.specs.ItemCauses.{CauseInside}
+use Rattle.dagcbor_items.specs.ItemCauses.{CauseInside, major_name}
 use Rattle.dagcbor_items.specs.Untyped.{HasEnteredItem, StartsWithMajor}
 
 -- a step was spent, and the head of a list (4) or map (5) of so many parts was taken
@@ -15,9 +15,10 @@ pub record Enters (major count : ℕ) (old new : Reading) : Type 0 where
   pub is_out : new.steps < new.budget
   pub takes : Takes (with_steps (old.steps - 1) old) (head major count) new
 
--- the first byte is that of a list or of a map
-abbrev pub StartsWithParts : Reading → Type 0
-StartsWithParts r = StartsWithMajor r 4 ⊎ StartsWithMajor r 5
+-- the first byte is that of a list or of a map, and this is its name
+abbrev pub StartsWithParts : List ℕ → Reading → Type 0
+StartsWithParts name r = (StartsWithMajor r 4 × (name ≡ major_name 4))
+    ⊎ (StartsWithMajor r 5 × (name ≡ major_name 5))
 
 -- A list or a map is entered as an item of unknown kind on which one step is already spent.
 abbrev pub ReadsCount : {E : Type 0} → Reading → Result ℕ (DecodeError E) → Reading → Type 0

@@ -1,6 +1,6 @@
 -- The causes of refusals that an item of unknown kind can have, each where it stands.
-use Rattle.std.specs.Prelude.{◌≡◌, ℕ, ◌+◌, ◌*◌, ◌/◌, ◌<◌, ◌≤◌, ◌⊎◌, false, List, ◌∷◌, Option, Some, codes}
-use Rattle.dagcbor_heads.specs.Causes.{HeadCause}
+use Rattle.std.specs.Prelude.{◌≡◌, ℕ, ◌+◌, ◌*◌, ◌/◌, ◌<◌, ◌≤◌, ◌⊎◌, ◌==◌, if◌then◌else◌, false, List, [], ◌∷◌, Option, Some, codes}
+use Rattle.dagcbor_heads.specs.Causes.{HeadCause, IsNamed}
 use Rattle.dagcbor_heads.specs.Names.{Names}
 use Rattle.dagcbor_heads.specs.declared.error.DecodeError.{DecodeError}
 use Rattle.dagcbor_heads.specs.declared.error.DecodeError.TheVariants.{Unsupported, DepthOverflow, UnorderedKey, IndefiniteSize}
@@ -34,17 +34,33 @@ abbrev pub ItemCause : {E : Type 0} → DecodeError E → List ℕ → Type 0
 ItemCause e b = IsCut (codes "bytes") 2 e b ⊎ IsCut (codes "string") 3 e b
     ⊎ IsGarbled (codes "string") e b ⊎ IsOtherSimple e b
 
+-- the name under which an item of a major type is refused, where its head is
+abbrev pub major_name : ℕ → List ℕ
+major_name major =
+    if major == 0 then codes "u64"
+    else if major == 2 then codes "bytes"
+    else if major == 3 then codes "string"
+    else if major == 4 then codes "array"
+    else if major == 5 then codes "map"
+    else codes "any"
+
+-- the name under which the item that begins there is refused, by its first byte
+abbrev pub item_name : List ℕ → List ℕ
+item_name [] = codes "any"
+item_name (first ∷ more) = major_name (first / 32)
+
 -- no step is left for the item that is to stand there, or one alone where a list or a map begins,
--- which takes two
+-- which takes two: it is named then
 abbrev pub IsTooDeep : {E : Type 0} → ℕ → DecodeError E → List ℕ → Type 0
-IsTooDeep left (DepthOverflow name) b = (left ≡ 0)
-    ⊎ ((left ≡ 1) × (BeginsWith 4 b ⊎ BeginsWith 5 b))
+IsTooDeep left (DepthOverflow name) b = ((left ≡ 0) × Names name (codes "any"))
+    ⊎ ((left ≡ 1) × (BeginsWith 4 b ⊎ BeginsWith 5 b) × Names name (item_name b))
 IsTooDeep left _ b = ⊥
 
--- the cause of a head: what begins as a tag or a simple value is refused for its first byte, but for
--- an indefinite length
+-- the cause of a head, under the item's name: what begins as a tag or a simple value is refused for
+-- its first byte, but for an indefinite length
 abbrev pub ItemHeadCause : {E : Type 0} → DecodeError E → List ℕ → Type 0
 ItemHeadCause e b = HeadCause e b × (BeginsFrom 0 5 b ⊎ (e ≡ IndefiniteSize))
+    × IsNamed (item_name b) e
 
 -- an item that holds no others stands there no more than a head does: its head's cause, its own, or a
 -- link's

@@ -88,7 +88,7 @@ CharCause e b = TextCause (codes "string") e b ⊎ IsNoChar e b
 
 -- no byte, or one that is neither false nor true
 abbrev pub BoolCause : {E : Type 0} → DecodeError E → List ℕ → Type 0
-BoolCause (Eof name expect) b = (expect ≡ Small 1) × (b ≡ [])
+BoolCause (Eof name expect) b = (expect ≡ Small 1) × (b ≡ []) × Names name (codes "bool")
 BoolCause (Mismatch name found) b = Names name (codes "bool")
     × ((more : List ℕ) × (b ≡ found ∷ more) × (found ≢ 0xf4) × (found ≢ 0xf5))
 BoolCause _ b = ⊥

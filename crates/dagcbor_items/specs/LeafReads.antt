@@ -62,7 +62,7 @@ ReadsOwnedBytes = Reads (λ v. v.items) (leaf view_bytes) ⊤ ⊥ (StringCause (
 
 -- A null is read exactly where one stands.
 abbrev pub ReadsNull : {E : Type 0} → Reading → Result (Unit {0}) (DecodeError E) → Reading → Type 0
-ReadsNull = Reads (λ u. u) (leaf view_null) ⊥ ⊥ (IsOtherByte (codes "unit") 0xf6)
+ReadsNull = Reads (λ u. u) (leaf view_null) ⊥ ⊥ (IsOtherByte (codes "unit") (codes "unit") 0xf6)
 
 -- False or true is read exactly where one stands.
 abbrev pub ReadsBool : {E : Type 0} → Reading → Result Bool (DecodeError E) → Reading → Type 0

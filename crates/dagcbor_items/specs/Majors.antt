@@ -1,10 +1,11 @@
 -- Heads of some major types, and strings of bytes.
-use Rattle.std.specs.Prelude.{◌≡◌, ℕ, ◌^◌, ◌<◌, ◌≤◌, List, ◌++◌, length, Some, Result, MatchResult}
+use Rattle.std.specs.Prelude.{◌≡◌, ℕ, ◌^◌, ◌<◌, ◌≤◌, List, ◌++◌, length, Option, Some, Result, MatchResult, ⊤}
 use Rattle.dagcbor_heads.specs.Head.{head}
 use Rattle.dagcbor_heads.specs.Reading.{Reading}
 use Rattle.dagcbor_heads.specs.Fronts.{Takes}
 use Rattle.dagcbor_heads.specs.Refusals.{RefusesPlainly, RefusesOrLacksMemoryUnlent}
 use Rattle.dagcbor_heads.specs.declared.error.DecodeError.{DecodeError}
+use Rattle.dagcbor_heads.specs.declared.error.DecodeError.TheVariants.{OutOfMemory}
 use Rattle.dagcbor_items.specs.LeafCauses.{MajorCause, StringCause}
 
 -- a head of a major type from low to high stands at the front
@@ -32,6 +33,16 @@ ReadsMajor name low high old result new = MatchResult result
     (λ e. RefusesPlainly (HasMajor low high old) (MajorCause name low high) old e new)
 
 -- ---- strings of bytes
+
+-- a string of the major type begins there that has some bytes
+abbrev pub BeginsSomeString : ℕ → List ℕ → Type 0
+BeginsSomeString kind b = (n : ℕ) × (rest : List ℕ) × (0 < n) × (n < 2 ^ 64)
+    × (b ≡ head kind n ++ rest)
+
+-- memory is wanting only where such a string begins the bytes that were left, where they are known
+abbrev pub LacksForString : {E : Type 0} → ℕ → Option (List ℕ) → DecodeError E → Type 0
+LacksForString kind left OutOfMemory = (b : List ℕ) → left ≡ Some b → BeginsSomeString kind b
+LacksForString kind left _ = ⊤
 
 -- a string of the major type stands at the front
 pub record HasString (kind : ℕ) (r : Reading) : Type 0 where

@@ -1,6 +1,6 @@
 //! Reading items of any kind.
 
-ghost use Rattle.std.specs.Prelude.{◌≡◌, IfErr, IfSome, MatchOption};
+ghost use Rattle.std.specs.Prelude.{◌≡◌, [], ◌∷◌, ◌++◌, IfErr, IfOk, IfSome, MatchOption};
 ghost use Rattle.dagcbor_heads.specs.Inputs.{input_reading, OverInput};
 ghost use Rattle.dagcbor_heads.specs.Fronts.{StartsWith};
 ghost use Rattle.dagcbor_heads.specs.Looking.{Looks, LooksSome, LooksBehind, LooksAtTaken};
@@ -131,11 +131,16 @@ fn read_items<R: Read>(
 {
     let mut items = Vec::new(alloc);
     for _index in 0..count {
-        if take_first_room(&mut items, count).is_err() {
-            return Err(DecodeError::OutOfMemory);
-        }
         if let Some(number) = take_number(input) {
-            if items.push(Ipld::Integer(number)).is_err() {
+            if push_item(&mut items, count, Ipld::Integer(number)).is_err() {
+                return Err(DecodeError::OutOfMemory);
+            }
+            continue;
+        }
+        if items.is_empty() {
+            let mut first = Ipld::Null;
+            read_into(alloc, input, &mut first)?;
+            if push_item(&mut items, count, first).is_err() {
                 return Err(DecodeError::OutOfMemory);
             }
             continue;
@@ -179,15 +184,20 @@ fn take_number<R: Read>(input: &mut Input<'_, R>) -> Option<i128>
 /// The room that a vector of items takes at first.
 const FIRST_ROOM: u64 = 4;
 
-/// Takes the first room of the vector of a list of so many items. A shorter list than that room
-/// takes room for its items alone: an `Ipld` has a hundred bytes.
-fn take_first_room(items: &mut Vec<Ipld>, count: u64) -> Result<(), AllocError>
-    ensures { items.new.items ≡ items.old.items }
+/// Appends an item that was read to those of a list of so many. With the first the vector takes its
+/// room: a list that is shorter than the first room takes it for its items alone, since an `Ipld`
+/// has a hundred bytes.
+#[inline(always)]
+fn push_item(items: &mut Vec<Ipld>, count: u64, item: Ipld) -> Result<(), AllocError>
+    ensures { IfOk result (λ _. items.new.items ≡ items.old.items ++ item ∷ []) }
 {
     if items.capacity() == 0 {
         items.reserve_exact(count.min(FIRST_ROOM) as usize)?;
     }
-    Ok(())
+    match items.push(item) {
+        Ok(()) => Ok(()),
+        Err(_) => Err(AllocError),
+    }
 }
 
 #[cycle(any)]

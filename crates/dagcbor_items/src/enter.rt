@@ -10,7 +10,7 @@ use dagcbor_heads::{Read, ReadResult, pull_head_argument, spend_step};
 /// Spends a step, and takes the head of a list or map: how many items or entries it has.
 #[tactic(auto, using(crate::proofs::PartRefusals::depth_item, crate::proofs::PartRefusals::named_item))]
 pub(crate) fn enter<R: Read>(name: &str, reader: &mut R) -> ReadResult<u64, R>
-    requires { StartsWithParts (R.reading reader.old) }
+    requires { StartsWithParts name.now (R.reading reader.old) }
     ensures count { ReadsCount (R.reading reader.old) result (R.reading reader.new) }
     ensures looked { LooksBehind 3 1 (R.reading reader.old) result (R.reading reader.new) }
     ensures variant { IfErr result OfItem }

@@ -9,6 +9,7 @@ ghost use Rattle.ipld_tree.specs.Key.{comes_before};
 ghost use Rattle.dagcbor_items.specs.Places.{Follows};
 ghost use Rattle.ipld_tree.specs.Spelling.{text_spelling};
 ghost use Rattle.dagcbor_items.specs.Entries.{ReadsKey, TakesKey, IsNoKey, HasName};
+ghost use Rattle.dagcbor_items.specs.Majors.{LacksForString};
 ghost use Rattle.dagcbor_items.specs.Shapes.{view_text, leaf};
 ghost use Rattle.dagcbor_items.specs.TypedReads.{TakesFront};
 ghost use Rattle.dagcbor_items.specs.AnsweredVariants.{OfKey};
@@ -175,6 +176,8 @@ pub fn read_key<'de, R: Read>(
         (ReadsKey (option_map cow_str_bytes previous.now)) input.old result input.new }
     ensures lent { IfOk result
         (λ k. IsBorrowedStr k ↔ ((input_reading R.reading input.old).lends ≡ true)) }
+    ensures memory { IfErr result
+        (LacksForString 3 (input_reading R.reading input.old).left) }
     ensures looked { OverInput R.reading (Looks 3) input.old result input.new }
     ensures variant { IfErr result OfKey }
 {
@@ -197,6 +200,8 @@ fn read_key_slowly<'de, R: Read>(
         (ReadsKey (option_map cow_str_bytes previous.now)) input.old result input.new }
     ensures lent { IfOk result
         (λ k. IsBorrowedStr k ↔ ((input_reading R.reading input.old).lends ≡ true)) }
+    ensures memory { IfErr result
+        (LacksForString 3 (input_reading R.reading input.old).left) }
     ensures looked { OverInput R.reading (Looks 3) input.old result input.new }
     ensures variant { IfErr result OfKey }
 {

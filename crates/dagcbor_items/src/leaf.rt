@@ -7,6 +7,7 @@ ghost use Rattle.dagcbor_heads.specs.Looking.{LooksAtTaken, LooksBehind};
 ghost use Rattle.ipld_tree.specs.Tree.{integer};
 ghost use Rattle.dagcbor_items.specs.Untyped.{ReadsEnteredItem, ReadsText, ReadsLeaf};
 ghost use Rattle.dagcbor_items.specs.Untyped.{IsSimple, StartsWithMajor, TakesEnteredItem};
+ghost use Rattle.dagcbor_items.specs.ItemCauses.{major_name};
 ghost use Rattle.dagcbor_items.specs.AnsweredVariants.{OfItem};
 
 use crate::link::{read_link, take_link};
@@ -39,6 +40,7 @@ pub(crate) fn take_integer<R: Read>(reader: &mut R, first: u8) -> Option<i128>
 fn read_integer<R: Read>(name: &str, reader: &mut R, first: u8) -> ReadResult<Ipld, R>
     requires starts { StartsWith (R.reading reader.old) first }
     requires major { first / 32 ≤ 1 }
+    requires named { name.now ≡ major_name (first / 32) }
     ensures leaf { ReadsLeaf (R.reading reader.old) result (R.reading reader.new) }
     ensures looked { LooksBehind 3 1 (R.reading reader.old) result (R.reading reader.new) }
     ensures variant { IfErr result OfItem }

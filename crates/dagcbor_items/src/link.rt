@@ -37,7 +37,7 @@ pub(crate) fn pull_wanted<R: Read>(
     ensures wanted { MatchResult result
         (λ _. Takes (R.reading reader.old) (wanted ∷ []) (R.reading reader.new))
         (λ e. RefusesPlainly (HasWanted wanted (R.reading reader.old))
-        (IsOtherByte other.now wanted) (R.reading reader.old) e (R.reading reader.new)) }
+        (IsOtherByte name.now other.now wanted) (R.reading reader.old) e (R.reading reader.new)) }
     ensures looked { Looks 2 (R.reading reader.old) result (R.reading reader.new) }
     ensures variant { IfErr result OfByte }
 {

@@ -1,7 +1,7 @@
 //! Reading texts, characters and byte strings.
 
 ghost use Rattle.std.specs.Prelude.{◌≡◌, ◌<◌, ◌↔◌, true, IfOk, IfSome, MatchOption, IsUtf8, IfErr};
-ghost use Rattle.std.specs.Prelude.{string_bytes};
+ghost use Rattle.std.specs.Prelude.{length, string_bytes};
 ghost use Rattle.std.specs.Str.{chars};
 ghost use Rattle.std.specs.Cow.{cow_slice_items, cow_str_bytes, IsBorrowedSlice, IsBorrowedStr};
 ghost use Rattle.dagcbor_heads.specs.Names.{Names};
@@ -9,7 +9,7 @@ ghost use Rattle.dagcbor_heads.specs.declared.name.Name.{Name};
 ghost use Rattle.dagcbor_heads.specs.declared.error.DecodeError.{DecodeError};
 ghost use Rattle.dagcbor_heads.specs.Inputs.{input_reading, OverInput};
 ghost use Rattle.dagcbor_heads.specs.Looking.{Looks};
-ghost use Rattle.dagcbor_items.specs.Majors.{ReadsString};
+ghost use Rattle.dagcbor_items.specs.Majors.{LacksForString, ReadsString};
 ghost use Rattle.dagcbor_items.specs.Untyped.{StartsWithMajor};
 ghost use Rattle.dagcbor_items.specs.Shapes.{only};
 ghost use Rattle.dagcbor_items.specs.LeafReads.{ReadsStr, ReadsOwnedText, ReadsChar};
@@ -19,7 +19,7 @@ ghost use Rattle.dagcbor_items.specs.AnsweredVariants.{OfChar, OfHead, OfText};
 use crate::majors::peek_major;
 use crate::utf8::as_text;
 use dagcbor_heads::{DecodeError, Input, Name, Read, ReadResult, pull_head, pull_payload};
-use std::alloc::Global;
+use std::alloc::{AllocError, Global};
 use std::borrow::{CowSlice, CowStr};
 
 /// The bytes of a string whose first byte has the major type, lent where the input lends.
@@ -36,6 +36,8 @@ fn pull_peeked_string<'de, R: Read>(
         (ReadsString cow_slice_items name.now kind) input.old result input.new }
     ensures lent { IfOk result
         (λ c. IsBorrowedSlice c ↔ ((input_reading R.reading input.old).lends ≡ true)) }
+    ensures memory { IfErr result
+        (LacksForString kind (input_reading R.reading input.old).left) }
     ensures looked { OverInput R.reading (Looks 2) input.old result input.new }
     ensures variant { IfErr result OfHead }
 {
@@ -74,6 +76,8 @@ pub(crate) fn pull_peeked_slice<'de, R: Read>(
     ensures bytes { OverInput R.reading ReadsByteSlice input.old result input.new }
     ensures lent { IfOk result
         (λ c. IsBorrowedSlice c ↔ ((input_reading R.reading input.old).lends ≡ true)) }
+    ensures memory { IfErr result
+        (LacksForString 2 (input_reading R.reading input.old).left) }
     ensures looked { OverInput R.reading (Looks 2) input.old result input.new }
     ensures variant { IfErr result OfHead }
 {
@@ -89,6 +93,8 @@ pub fn pull_slice<'de, R: Read>(
     ensures bytes { OverInput R.reading ReadsByteSlice input.old result input.new }
     ensures lent { IfOk result
         (λ c. IsBorrowedSlice c ↔ ((input_reading R.reading input.old).lends ≡ true)) }
+    ensures memory { IfErr result
+        (LacksForString 2 (input_reading R.reading input.old).left) }
     ensures looked { OverInput R.reading (Looks 3) input.old result input.new }
     ensures variant { IfErr result OfHead }
 {
@@ -107,6 +113,8 @@ pub(crate) fn pull_peeked_str<'de, R: Read>(
     ensures text { OverInput R.reading (ReadsStr name.now) input.old result input.new }
     ensures lent { IfOk result
         (λ s. IsBorrowedStr s ↔ ((input_reading R.reading input.old).lends ≡ true)) }
+    ensures memory { IfErr result
+        (LacksForString 3 (input_reading R.reading input.old).left) }
     ensures looked { OverInput R.reading (Looks 2) input.old result input.new }
     ensures variant { IfErr result OfText }
 {
@@ -142,6 +150,8 @@ fn pull_str_slowly<'de, R: Read>(
     ensures text { OverInput R.reading (ReadsStr name.now) input.old result input.new }
     ensures lent { IfOk result
         (λ s. IsBorrowedStr s ↔ ((input_reading R.reading input.old).lends ≡ true)) }
+    ensures memory { IfErr result
+        (LacksForString 3 (input_reading R.reading input.old).left) }
     ensures looked { OverInput R.reading (Looks 3) input.old result input.new }
     ensures variant { IfErr result OfText }
 {
@@ -159,6 +169,8 @@ pub fn pull_str<'de, R: Read>(
     ensures text { OverInput R.reading (ReadsStr name.now) input.old result input.new }
     ensures lent { IfOk result
         (λ s. IsBorrowedStr s ↔ ((input_reading R.reading input.old).lends ≡ true)) }
+    ensures memory { IfErr result
+        (LacksForString 3 (input_reading R.reading input.old).left) }
     ensures looked { OverInput R.reading (Looks 3) input.old result input.new }
     ensures variant { IfErr result OfText }
 {
@@ -171,6 +183,28 @@ pub fn pull_str<'de, R: Read>(
     pull_str_slowly(alloc, name, input)
 }
 
+/// The text in memory of its own. An empty one takes none.
+fn own_text(alloc: Global, text: CowStr<'_>) -> Result<String, AllocError>
+    ensures text { IfOk result (λ s. string_bytes s ≡ cow_str_bytes text.entry) }
+    ensures memory { IfErr result (λ _. 0 < length (cow_str_bytes text.entry)) }
+{
+    if text.len() == 0 {
+        return Ok(String::new(alloc));
+    }
+    text.into_owned(alloc)
+}
+
+/// The bytes in memory of their own. Where there are none, none is taken.
+fn own_bytes(alloc: Global, bytes: CowSlice<'_, u8>) -> Result<Vec<u8>, AllocError>
+    ensures bytes { IfOk result (λ v. v.items ≡ cow_slice_items bytes.entry) }
+    ensures memory { IfErr result (λ _. 0 < length (cow_slice_items bytes.entry)) }
+{
+    if bytes.len() == 0 {
+        return Ok(Vec::new(alloc));
+    }
+    bytes.into_owned(alloc)
+}
+
 /// A text whose first byte has its major type.
 pub(crate) fn pull_peeked_owned_text<R: Read>(
     alloc: Global,
@@ -178,10 +212,12 @@ pub(crate) fn pull_peeked_owned_text<R: Read>(
 ) -> ReadResult<String, R>
     requires { StartsWithMajor (input_reading R.reading input.old) 3 }
     ensures text { OverInput R.reading ReadsOwnedText input.old result input.new }
+    ensures memory { IfErr result
+        (LacksForString 3 (input_reading R.reading input.old).left) }
     ensures looked { OverInput R.reading (Looks 2) input.old result input.new }
     ensures variant { IfErr result OfText }
 {
-    match pull_peeked_str(alloc, "string", input)?.into_owned(alloc) {
+    match own_text(alloc, pull_peeked_str(alloc, "string", input)?) {
         Ok(text) => Ok(text),
         Err(_) => Err(DecodeError::OutOfMemory),
     }
@@ -191,10 +227,12 @@ pub(crate) fn pull_peeked_owned_text<R: Read>(
 #[tactic(auto, using(crate::proofs::PartRefusals::byte_text))]
 pub fn pull_owned_text<R: Read>(alloc: Global, input: &mut Input<'_, R>) -> ReadResult<String, R>
     ensures text { OverInput R.reading ReadsOwnedText input.old result input.new }
+    ensures memory { IfErr result
+        (LacksForString 3 (input_reading R.reading input.old).left) }
     ensures looked { OverInput R.reading (Looks 3) input.old result input.new }
     ensures variant { IfErr result OfText }
 {
-    match pull_str(alloc, "string", input)?.into_owned(alloc) {
+    match own_text(alloc, pull_str(alloc, "string", input)?) {
         Ok(text) => Ok(text),
         Err(_) => Err(DecodeError::OutOfMemory),
     }
@@ -207,10 +245,12 @@ pub(crate) fn pull_peeked_owned_bytes<R: Read>(
 ) -> ReadResult<Vec<u8>, R>
     requires { StartsWithMajor (input_reading R.reading input.old) 2 }
     ensures bytes { OverInput R.reading ReadsOwnedBytes input.old result input.new }
+    ensures memory { IfErr result
+        (LacksForString 2 (input_reading R.reading input.old).left) }
     ensures looked { OverInput R.reading (Looks 2) input.old result input.new }
     ensures variant { IfErr result OfHead }
 {
-    match pull_peeked_slice(alloc, input)?.into_owned(alloc) {
+    match own_bytes(alloc, pull_peeked_slice(alloc, input)?) {
         Ok(bytes) => Ok(bytes),
         Err(_) => Err(DecodeError::OutOfMemory),
     }
@@ -220,6 +260,8 @@ pub(crate) fn pull_peeked_owned_bytes<R: Read>(
 #[tactic(auto, using(crate::proofs::PartRefusals::byte_kind))]
 pub fn pull_owned_bytes<R: Read>(alloc: Global, input: &mut Input<'_, R>) -> ReadResult<Vec<u8>, R>
     ensures bytes { OverInput R.reading ReadsOwnedBytes input.old result input.new }
+    ensures memory { IfErr result
+        (LacksForString 2 (input_reading R.reading input.old).left) }
     ensures looked { OverInput R.reading (Looks 3) input.old result input.new }
     ensures variant { IfErr result OfHead }
 {
@@ -244,6 +286,8 @@ fn only_char(text: &str) -> Option<char>
 #[tactic(auto, using(crate::proofs::PartRefusals::text_char))]
 pub fn pull_char<R: Read>(alloc: Global, input: &mut Input<'_, R>) -> ReadResult<char, R>
     ensures character { OverInput R.reading ReadsChar input.old result input.new }
+    ensures memory { IfErr result
+        (LacksForString 3 (input_reading R.reading input.old).left) }
     ensures looked { OverInput R.reading (Looks 3) input.old result input.new }
     ensures variant { IfErr result OfChar }
 {

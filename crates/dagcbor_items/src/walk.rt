@@ -5,6 +5,7 @@ ghost use Rattle.std.specs.Prelude.{◌≡◌, ◌≢◌, ◌≤◌, ◌/◌, If
 ghost use Rattle.dagcbor_heads.specs.Fronts.{StartsWith};
 ghost use Rattle.dagcbor_heads.specs.Looking.{Looks, LooksSome, LooksBehind};
 ghost use Rattle.dagcbor_items.specs.Untyped.{SkipsItem, SkipsEnteredItem, StartsWithMajor};
+ghost use Rattle.dagcbor_items.specs.ItemCauses.{major_name};
 ghost use Rattle.dagcbor_items.specs.AnsweredVariants.{OfItem};
 ghost use Rattle.dagcbor_items.specs.Walks.{WalksItem, WalksEnteredItem, WalksItems, WalksEntries};
 ghost use Rattle.dagcbor_items.specs.Walks.{GathersLinks};
@@ -160,6 +161,7 @@ fn skip_leaf<I: PayloadReader>(alloc: I::Alloc, input: &mut I, first: u8) -> Rea
 fn skip_integer<R: Read>(name: &str, reader: &mut R, first: u8) -> ReadResult<(), R>
     requires starts { StartsWith (R.reading reader.old) first }
     requires major { first / 32 ≤ 1 }
+    requires named { name.now ≡ major_name (first / 32) }
     ensures item { SkipsEnteredItem (R.reading reader.old) result (R.reading reader.new) }
     ensures looked { LooksBehind 3 1 (R.reading reader.old) result (R.reading reader.new) }
     ensures variant { IfErr result OfItem }

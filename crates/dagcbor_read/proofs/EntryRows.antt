@@ -147,19 +147,23 @@ module _ {S : Type 0} (shape : FieldShape S) where
         takes = λ count end to t. as_count (omega (arith, less, k.some, i.fewer)) (i.takes (count + 1) end to (fields_taken key k.follows k.takes w (subst (λ l. TakesFields shape next l count new.input end to) last t)));
       }
 
-  pub all_fields_read : {start s : S} {before now_left after : AccessorState} {old now : DeState} (mid new : DeState) → FieldsSoFar start before old now_left s now → now_left.left ≡ 0 → after ≡ now_left → mid.input ≡ now.input → new.input ≡ with_steps (mid.input.steps + after.steps) mid.input
-      → (now : Reading) × TakesFields shape start before.last before.left old.input s now × (new.input ≡ with_steps (now.steps + before.steps) now)
-  all_fields_read {start} {s} {before} {now_left} {after} {old} {now} mid new i none is same back =
-      let end : TakesFields shape s now_left.last 0 now.input s mid.input = record {
-        taken = λ b l. (no_entries, b, refl, nothing now_left.last, record { well_formed = tt; spellable = tt; is = refl }, refl, omega arith, ap (λ (r : Reading). r.left) same ∙ l);
-        same = subst (Stays now.input) (sym same) (stays now.input);
-      } in
-      let steps : after.steps ≡ before.steps = ap (λ (c : AccessorState). c.steps) is ∙ i.steps in
-      (mid.input, as_count (omega (arith, none, i.fewer)) (i.takes 0 s mid.input end), back ∙ ap (λ n. with_steps (mid.input.steps + n) mid.input) steps)
+  -- none of those that are left
+  pub no_more_fields : (s : S) (last : Option (List ℕ)) (r : Reading) → TakesFields shape s last 0 r s r
+  no_more_fields s last r = record {
+    taken = λ b l. (no_entries, b, refl, nothing last, record { well_formed = tt; spellable = tt; is = refl }, refl, omega arith, l);
+    same = stays r;
+  }
     where
       nothing : (last : Option (List ℕ)) → AllFollow last no_entries
       nothing None = tt
       nothing (Some k) = tt
+
+  pub all_fields_read : {start s : S} {before now_left after : AccessorState} {old now : DeState} (mid new : DeState) → FieldsSoFar start before old now_left s now → now_left.left ≡ 0 → after ≡ now_left → mid.input ≡ now.input → new.input ≡ with_steps (mid.input.steps + after.steps) mid.input
+      → (now : Reading) × TakesFields shape start before.last before.left old.input s now × (new.input ≡ with_steps (now.steps + before.steps) now)
+  all_fields_read {start} {s} {before} {now_left} {after} {old} {now} mid new i none is same back =
+      let end = subst (TakesFields shape s now_left.last 0 now.input s) (sym same) (no_more_fields s now_left.last now.input) in
+      let steps : after.steps ≡ before.steps = ap (λ (c : AccessorState). c.steps) is ∙ i.steps in
+      (mid.input, as_count (omega (arith, none, i.fewer)) (i.takes 0 s mid.input end), back ∙ ap (λ n. with_steps (mid.input.steps + n) mid.input) steps)
 
   -- ---- the whole map
 

@@ -152,12 +152,15 @@ module _ {V : Type 0} (shape : Shape Tree V) where
             (s.takes (count + 1) (v ∷ xs) end (row_taken shape (all_of shape) (λ v vs. v ∷ vs) (all_of shape) (λ t ts. refl) (λ t ts. refl) a t));
       }
 
+  -- none of those that are left
+  pub no_more_items : (r : Reading) → TakesRow (all_of shape) 0 r [] r
+  no_more_items r = record { taken = λ b l. (no_items, b, refl, record { well_formed = tt; spellable = tt; is = refl }, refl, omega arith, l); same = stays r }
+
   pub none_more : {before now_left after : AccessorState} {old now new : DeState} (vs : List V) → ReadSoFar before old now_left vs now → now_left.left ≡ 0 → after ≡ now_left → new.failed ≡ false → new.input ≡ now.input
       → (new.failed ≡ false) × (after ≡ record before { left = after.left }) × (after.left ≤ before.left) × TakesRow (all_of shape) (before.left - after.left) old.input vs new.input
       × (HasRow (all_of shape) before.left old.input → after.left ≡ 0)
   none_more {before} {now_left} {after} {old} {now} {new} vs s none is f same =
-      let end : TakesRow (all_of shape) 0 now.input [] new.input =
-      record { taken = λ b l. (no_items, b, refl, record { well_formed = tt; spellable = tt; is = refl }, refl, omega arith, ap (λ (r : Reading). r.left) same ∙ l); same = subst (Stays now.input) (sym same) (stays now.input) } in
+      let end = subst (TakesRow (all_of shape) 0 now.input []) (sym same) (no_more_items now.input) in
       let as_left : after.left ≡ now_left.left = ap (λ (c : AccessorState). c.left) is in (
         f,
         is ∙ s.is ∙ ap (λ n. record before { left = n }) (sym as_left),

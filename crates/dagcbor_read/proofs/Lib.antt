@@ -6,6 +6,7 @@ pub mod EntryRows
 pub mod KeyPlaces
 pub mod HashedPlaces
 pub mod Wholes
+pub mod Handing
 pub mod Streaming
 pub mod StreamRuns
 pub mod Progressing

@@ -17,15 +17,13 @@ use Rattle.ipld_tree.proofs.Fronts.{front_first, front_unique, map_opened, entry
 use Rattle.dagcbor_items.specs.LeafCauses.{TextCause}
 use Rattle.dagcbor_items.specs.Shapes.{view_text, leaf, unless_lent, Shape}
 use Rattle.dagcbor_read.specs.EnumViews.{view_enum, need_enum, HasVariant, TakesVariant, ReadsVariant, EnumShape, enum_of, part_of}
-use Rattle.dagcbor_read.specs.Collections.{need_fields, fields_of, fields_memory, struct_of, FieldShape}
 use Rattle.dagcbor_read.specs.Deserializers.{DeState, Call}
 use Rattle.dagcbor_items.specs.TypedReads.{HasFront, TakesFront, MayLack, Anything}
 use Rattle.dagcbor_read.specs.Values.{ReadsValue}
-use Rattle.dagcbor_read.specs.Enums.{EnumState, enum_state, TakesForm, HasStepEnum, StepEnumCause, SpendsEnum, ReadsName, IsOtherForm, EndsUnit, ReadsHeld, ReadsFieldsHeld}
+use Rattle.dagcbor_read.specs.Enums.{EnumState, enum_state, TakesForm, HasStepEnum, StepEnumCause, SpendsEnum, ReadsName, IsOtherForm, ReadsHeld, ReadsFieldsHeld}
 use Rattle.dagcbor_read.specs.declared.access.enum_accessor.EnumAccessor.{EnumAccessor}
 use Rattle.dagcbor_read.proofs.Progressing.{call_answered, call_told}
-use Rattle.dagcbor_read.proofs.FieldPlaces.{takes_as, front_as}
-use Rattle.dagcbor_read.proofs.Finishing.{value_unfinished}
+use Rattle.dagcbor_read.proofs.FieldPlaces.{front_as}
 use Rattle.dagcbor_read.proofs.Passing.{SameReader, Entered, given_back, refusal_carried, or_left, or_right, lacks_before, lacks_unlent}
 
 -- ---- texts and the first byte

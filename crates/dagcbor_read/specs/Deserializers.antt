@@ -1,11 +1,11 @@
 -- What contracts see of a Deserializer, and what its calls do to it.
-use Rattle.std.specs.Prelude.{◌≡◌, ◌⊎◌, ℕ, ◌+◌, ◌<◌, ◌≤◌, Bool, true, false, Result, Ok, Err, is_err, MatchBool, MatchResult, IfErr, ⊤}
+use Rattle.std.specs.Prelude.{◌≡◌, ℕ, ◌+◌, ◌<◌, ◌≤◌, Bool, true, false, Result, Ok, Err, is_err, MatchBool, MatchResult}
 use Rattle.dagcbor_heads.specs.Reading.{Reading}
 use Rattle.dagcbor_heads.specs.Fronts.{FindsEnd, ShowsByte}
 use Rattle.dagcbor_heads.specs.Looking.{LooksOnce, LooksAtTaken, LooksAtLeft}
 use Rattle.dagcbor_heads.specs.Inputs.{input_reading}
 use Rattle.dagcbor_heads.specs.declared.error.DecodeError.{DecodeError}
-use Rattle.dagcbor_heads.specs.declared.error.DecodeError.TheVariants.{Read, TrailingData, Failed, Msg}
+use Rattle.dagcbor_heads.specs.declared.error.DecodeError.TheVariants.{Read, TrailingData, Failed}
 use Rattle.dagcbor_read.specs.declared.deserializer.Deserializer.{Deserializer}
 
 -- a Deserializer
@@ -35,19 +35,6 @@ Call reads old result new = MatchBool old.failed
 -- What has failed answers `Failed`, and stays as it is.
 abbrev pub StaysFailed : {T E : Type 0} → DeState → Result T (DecodeError E) → DeState → Type 0
 StaysFailed old result new = old.failed ≡ true → (result ≡ Err Failed) × (new ≡ old)
-
--- a message, by which a type refuses what was read
-abbrev pub IsMessage : {E : Type 0} → DecodeError E → Type 0
-IsMessage (Msg message) = ⊤
-IsMessage _ = ⊥
-
--- A refusal has failed, but for a message.
-abbrev pub StopsBy : {E : Type 0} → DecodeError E → DeState → Type 0
-StopsBy e new = (new.failed ≡ true) ⊎ IsMessage e
-
--- What reads a value has failed where it is refused, but for a message.
-abbrev pub Stops : {T E : Type 0} → DeState → Result T (DecodeError E) → DeState → Type 0
-Stops old result new = IfErr result (λ e. StopsBy e new)
 
 -- Where nothing has failed, so many steps are out, which may be given back.
 abbrev pub AreOut : ℕ → DeState → Type 0

@@ -1,10 +1,11 @@
 -- What the first byte of an item tells of it.
-use Rattle.std.specs.Prelude.{◌≡◌, ℕ, List, Some, Result, MatchResult}
+use Rattle.std.specs.Prelude.{◌≡◌, ℕ, List, Some, Result, MatchResult, codes, ⊤}
 use Rattle.dagcbor_heads.specs.Reading.{Reading, Keeps, Stays}
 use Rattle.dagcbor_heads.specs.Fronts.{HasByte}
-use Rattle.dagcbor_heads.specs.Causes.{ByteCause}
+use Rattle.dagcbor_heads.specs.Causes.{ByteCause, IsEndNamed}
 use Rattle.dagcbor_heads.specs.Refusals.{RefusesPlainly}
 use Rattle.dagcbor_heads.specs.declared.error.DecodeError.{DecodeError}
+use Rattle.dagcbor_heads.specs.declared.error.DecodeError.TheVariants.{Failed}
 use Rattle.dagcbor_items.specs.TreeKinds.{IsKindOfFront}
 use Rattle.dagcbor_items.specs.declared.kind.Kind.{Kind}
 
@@ -19,3 +20,8 @@ abbrev pub PeeksKind : {E : Type 0} → Reading → Result Kind (DecodeError E) 
 PeeksKind old result new = MatchResult result
     (λ kind. ShowsKind old kind new)
     (λ e. RefusesPlainly (HasByte old) ByteCause old e new)
+
+-- which refusals are answered, and that missing bytes are told under this name
+abbrev pub OfPeek : {E : Type 0} → DecodeError E → Type 0
+OfPeek Failed = ⊤
+OfPeek e = IsEndNamed (codes "item") e

@@ -34,6 +34,7 @@ pub mod Collections
 pub mod Named
 pub mod Structs
 pub mod Enums
+pub mod Parts
 pub mod EnumViews
 pub mod Whole
 pub mod Streams

@@ -1,7 +1,8 @@
 //! What can be read.
 
-ghost use Rattle.std.specs.Prelude.{◌≡◌, Bool, false, ⊤, IfOk};
-ghost use Rattle.dagcbor_read.specs.Deserializers.{de_state, StaysFailed, Stops, Over};
+ghost use Rattle.std.specs.Prelude.{◌≡◌, Bool, false, ⊤, IfOk, Result};
+ghost use Rattle.dagcbor_heads.specs.declared.error.DecodeError.{DecodeError};
+ghost use Rattle.dagcbor_read.specs.Deserializers.{DeState, de_state, StaysFailed, Over};
 ghost use Rattle.dagcbor_read.specs.Values.{ReadsValue};
 
 use crate::deserializer::Deserializer;
@@ -15,14 +16,17 @@ pub trait Deserialize<'de>: Shown + Sized + Drop {
     /// values may be lent says here when they are.
     ghost lies: { Bool → Self → Type 0 } = { λ lends v. ⊤ };
 
+    /// What reading a value answers beside the law: the causes of its refusals, its looks, and whether
+    /// it has failed then. Who reads a part hands it on.
+    ghost answers: { {E : Type 0} → DeState → Result Self (DecodeError E) → DeState → Type 0 } = { λ old result new. ⊤ };
+
     /// Reads a value: exactly where a tree stands that the type accepts, within the steps that are
-    /// left. Another refusal than a message goes through `Deserializer::refuse`, where no call has
-    /// made it.
+    /// left.
     fn deserialize<R: Read>(alloc: Global, de: &mut Deserializer<'de, R>) -> ReadResult<Self, R>
         ensures value { Over R.reading (ReadsValue Self.meaning Self.shape) de.old result de.new }
         ensures failed { Over R.reading StaysFailed de.old result de.new }
-        ensures stops { Over R.reading Stops de.old result de.new }
-        ensures lies { IfOk result (Self.lies (de_state R.reading de.old).input.lends) };
+        ensures lies { IfOk result (Self.lies (de_state R.reading de.old).input.lends) }
+        ensures answers { Over R.reading Self.answers de.old result de.new };
 }
 
 /// A value that wants no loan of the input, so that any reader will do.

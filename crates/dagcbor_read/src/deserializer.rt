@@ -28,8 +28,9 @@ ghost use Rattle.std.specs.Cow.{IsBorrowedSlice, IsBorrowedStr, cow_str_bytes};
 ghost use Rattle.ipld_tree.specs.Tree.{text};
 ghost use Rattle.dagcbor_read.specs.Accessors.{ReadsHead, BeginsItems, ReadsKeyAfter, OfBegin};
 ghost use Rattle.dagcbor_read.specs.Values.{ReadsPart};
+ghost use Rattle.dagcbor_read.specs.Parts.{HandsOn, HandsOptionOn};
 ghost use Rattle.dagcbor_read.specs.Options.{ReadsOption, EntersOption};
-ghost use Rattle.dagcbor_read.specs.Kinds.{PeeksKind};
+ghost use Rattle.dagcbor_read.specs.Kinds.{PeeksKind, OfPeek};
 ghost use Rattle.dagcbor_read.specs.Enums.{enum_state, SpendsEnum, OfForm};
 ghost use Rattle.dagcbor_items.specs.Walks.{GathersLinks};
 ghost use Rattle.dagcbor_read.specs.Streams.{stream_state, ReadsNext};
@@ -116,21 +117,10 @@ impl<'de, R: Read> Deserializer<'de, R> {
         Ok(())
     }
 
-    /// The refusal of a value that no call here refused. From now on it counts as refused.
-    #[cold]
-    #[inline(never)]
-    pub fn refuse(&mut self, error: DecodeError<R::Error>) -> DecodeError<R::Error>
-        ensures same { result ≡ error }
-        ensures failed { de_state R.reading
-            self.new ≡ record { input = (de_state R.reading self.old).input; failed = true } }
-    {
-        self.failed = true;
-        error
-    }
-
     /// The kind of the item that stands here, by its first byte, which is left.
     pub fn peek_kind(&mut self) -> ReadResult<Kind, R>
         ensures kind { Over R.reading (Call PeeksKind) self.old result self.new }
+        ensures variant { IfErr result OfPeek }
         ensures looked { LooksOnce (de_state R.reading self.old).input
             (de_state R.reading self.new).input }
     {
@@ -677,6 +667,7 @@ impl<'de, R: Read> Deserializer<'de, R> {
         ensures part { Over R.reading
             (Call (ReadsPart T.meaning T.shape)) self.old result self.new }
         ensures lies { IfOk result (T.lies (de_state R.reading self.old).input.lends) }
+        ensures answers { Over R.reading (HandsOn T.answers) self.old result self.new }
     {
         if self.failed {
             return Err(DecodeError::Failed);
@@ -699,6 +690,7 @@ impl<'de, R: Read> Deserializer<'de, R> {
         ensures part { Over R.reading
             (Call (ReadsPart T.meaning T.shape)) self.old result self.new }
         ensures lies { IfOk result (T.lies (de_state R.reading self.old).input.lends) }
+        ensures answers { Over R.reading (HandsOn T.answers) self.old result self.new }
     {
         self.read_part(alloc)
     }
@@ -712,6 +704,7 @@ impl<'de, R: Read> Deserializer<'de, R> {
             (Call (ReadsOption T.meaning T.shape)) self.old result self.new }
         ensures lies { IfOk result
             (λ o. IfSome o (T.lies (de_state R.reading self.old).input.lends)) }
+        ensures answers { Over R.reading (HandsOptionOn T.answers) self.old result self.new }
         ensures looked { IfOk result
             (λ o. IfNone o (LooksAtTaken 3 0 (de_state R.reading self.old).input
             (de_state R.reading self.new).input)) }

@@ -4,6 +4,7 @@ ghost use Rattle.std.specs.Prelude.{◌⊎◌, false, IfOk, IfErr, IfSome};
 ghost use Rattle.dagcbor_heads.specs.Reading.{default_steps};
 ghost use Rattle.dagcbor_read.specs.Whole.{IsWhole, HoldsNoValue, TakesFirst, BeginsWithNoValue};
 ghost use Rattle.dagcbor_read.specs.Whole.{IsReadExcuse, OfWhole, IsForBehind, LacksMemoryIf};
+ghost use Rattle.dagcbor_read.specs.Parts.{HandsWholeOn, HandsFirstOn};
 
 use crate::deserialize::DeserializeOwned;
 use crate::deserializer::Deserializer;
@@ -31,6 +32,7 @@ pub fn from_reader<'de, T: DeserializeOwned<'de>, R: BufRead + Drop>(
         (λ e. IfSome (R.remaining reader) (λ b. IsForBehind T.shape default_steps b e)) }
     ensures never { IfErr result OfWhole }
     ensures memory { IfErr result (LacksMemoryIf (T.shape.memory false)) }
+    ensures answers { HandsWholeOn T.answers (R.remaining reader) default_steps false result }
 {
     let mut de = Deserializer::from_reader(IoReader::new(reader));
     let value = T::deserialize(alloc, &mut de)?;
@@ -58,6 +60,7 @@ pub fn from_reader_once<'de, T: DeserializeOwned<'de>, R: BufRead>(
         (BeginsWithNoValue T.shape default_steps)) }
     ensures never { IfErr result OfWhole }
     ensures memory { IfErr result (LacksMemoryIf (T.shape.memory false)) }
+    ensures answers { HandsFirstOn T.answers (R.remaining reader.old) default_steps false result }
 {
     let mut de = Deserializer::from_reader(IoRefReader::new(reader));
     let result = T::deserialize(alloc, &mut de);

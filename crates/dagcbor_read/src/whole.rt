@@ -1,10 +1,11 @@
 //! Reading one value.
 
-ghost use Rattle.std.specs.Prelude.{◌≡◌, ◌⊎◌, ◌≤◌, true, IfOk, IfErr};
+ghost use Rattle.std.specs.Prelude.{◌≡◌, ◌⊎◌, ◌≤◌, true, Some, IfOk, IfErr};
 ghost use Rattle.dagcbor_heads.specs.Reading.{default_steps};
 ghost use Rattle.dagcbor_heads.specs.declared.error.DecodeError.TheVariants.{OutOfMemory};
 ghost use Rattle.dagcbor_read.specs.Whole.{IsWhole, HoldsNoValue, OfWhole};
 ghost use Rattle.dagcbor_read.specs.Whole.{IsForBehind, LacksMemoryIf};
+ghost use Rattle.dagcbor_read.specs.Parts.{HandsWholeOn};
 
 use crate::deserialize::Deserialize;
 use crate::deserializer::Deserializer;
@@ -31,6 +32,7 @@ pub fn from_slice<'a, T: Deserialize<'a>>(
     ensures never { IfErr result OfWhole }
     ensures memory { IfErr result (LacksMemoryIf (T.shape.memory true)) }
     ensures lies { IfOk result (T.lies true) }
+    ensures answers { HandsWholeOn T.answers (Some bytes.now) default_steps true result }
 {
     from_slice_with_depth(alloc, bytes, DEFAULT_STEPS)
 }
@@ -57,6 +59,7 @@ pub fn from_slice_with_depth<'a, T: Deserialize<'a>>(
     ensures never { IfErr result OfWhole }
     ensures memory { IfErr result (LacksMemoryIf (T.shape.memory true)) }
     ensures lies { IfOk result (T.lies true) }
+    ensures answers { HandsWholeOn T.answers (Some bytes.now) steps true result }
 {
     let mut de = Deserializer::from_slice_reader(SliceReader::with_depth(bytes, steps));
     let result = T::deserialize(alloc, &mut de);

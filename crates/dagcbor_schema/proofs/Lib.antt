@@ -2,4 +2,6 @@ pub mod PartRows
 pub mod PartItems
 pub mod KindFronts
 pub mod EnvelopeFronts
+pub mod VariantFronts
 pub mod PairNames
+pub mod SchemaRefusals

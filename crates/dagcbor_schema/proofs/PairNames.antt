@@ -1,5 +1,5 @@
 -- What `of_name` answered, taken apart.
-use Rattle.std.proofs.Common.{◌≡◌, Bool, true, false, Option, None, Some, if◌then◌else◌, refl, rules}
+use Rattle.std.proofs.Common.{◌≡◌, Bool, true, false, None, Some, if◌then◌else◌, rules}
 
 -- a value that was taken under a test is the value, and the test held
 pub taken_under : {A : Type 0} (b : Bool) (v x : A) → (if b then Some v else None) ≡ Some x → (b ≡ true) × (v ≡ x)

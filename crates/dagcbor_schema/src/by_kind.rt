@@ -1,6 +1,8 @@
 //! A value that is told by the kind of its data.
 
+ghost use Rattle.std.specs.Prelude.{None, codes};
 ghost use Rattle.dagcbor_schema.specs.Kinds.{no_kind, by_kind};
+ghost use Rattle.dagcbor_schema.specs.SchemaAnswers.{Makes, PeeksOnce, AnswersByKind};
 ghost use Rattle.dagcbor_schema.specs.declared.by_kind.ByKind.{ByKind};
 ghost use Rattle.dagcbor_schema.specs.declared.by_kind.ByKind.TheVariants as kinds;
 
@@ -32,6 +34,9 @@ impl Shown for NoKind {
 }
 
 impl<'de> Deserialize<'de> for NoKind {
+    ghost answers = { Makes {V = Unit {0}} (λ x. tt) (λ kind. None) (codes "unknown kind")
+        PeeksOnce };
+
     fn deserialize<R: Read>(_alloc: Global, de: &mut Deserializer<'de, R>) -> ReadResult<Self, R> {
         de.peek_kind()?;
         Err(DecodeError::custom("unknown kind"))
@@ -73,6 +78,9 @@ impl<
     M: Deserialize<'de>,
     K: Deserialize<'de>,
 > Deserialize<'de> for ByKind<B, I, T, Y, L, M, K> {
+    ghost answers = { AnswersByKind B.answers I.answers T.answers Y.answers L.answers M.answers
+        K.answers };
+
     fn deserialize<R: Read>(alloc: Global, de: &mut Deserializer<'de, R>) -> ReadResult<Self, R> {
         match de.peek_kind()? {
             Kind::Null => Err(DecodeError::custom("unknown kind")),

@@ -1,6 +1,7 @@
 //! The end of a row of fields, in a map that has no others.
 
 ghost use Rattle.std.specs.Prelude.{Some};
+ghost use Rattle.dagcbor_schema.specs.SchemaAnswers.{IsUnknownField};
 ghost use Rattle.dagcbor_schema.specs.SchemaFields.{no_other_places};
 
 use serde_ipld_dagcbor::{Accessor, DecodeError, Deserializer, Fields, Read, ReadResult};
@@ -27,6 +28,8 @@ impl<'de> Fields<'de> for Closed {
     ghost meaning = { λ u. tt };
 
     ghost finish = { Some };
+
+    ghost refuses = { IsUnknownField };
 
     fn unread(_alloc: Global) -> () {}
 

@@ -1,11 +1,14 @@
 //! A union whose member is told by a tag that stands before what it holds.
 
-ghost use Rattle.std.specs.Prelude.{◌≡◌, ◌<◌, true, false};
+ghost use Rattle.std.specs.Prelude.{◌≡◌, ◌<◌, true, false, IfErr, ⊤};
+ghost use Rattle.dagcbor_heads.specs.declared.error.DecodeError.{DecodeError};
 ghost use Rattle.dagcbor_read.specs.Accessors.{accessor_state, after_value};
-ghost use Rattle.dagcbor_read.specs.Deserializers.{de_state, StaysFailed, Stops, Over};
+ghost use Rattle.dagcbor_read.specs.Deserializers.{DeState, de_state, StaysFailed, Over};
 ghost use Rattle.dagcbor_read.specs.EnumViews.{EnumShape, part_of};
+ghost use Rattle.dagcbor_read.specs.Parts.{IfRefused};
 ghost use Rattle.dagcbor_read.specs.Values.{ReadsValue};
 ghost use Rattle.dagcbor_schema.specs.Envelopes.{envelope_of, ReadsNamedKey};
+ghost use Rattle.dagcbor_schema.specs.SchemaAnswers.{RefusesNamedKey, RefusesEnvelope};
 
 use serde_ipld_dagcbor::{Accessor, DecodeError, Deserializer, Read, ReadResult};
 use std::alloc::Global;
@@ -20,6 +23,9 @@ pub trait Enveloped<'de>: Sized + Drop {
     /// What its members hold, by their tags.
     ghost shape: { EnumShape View };
 
+    /// How what a member holds is refused, beside the law.
+    ghost refuses: { {E : Type 0} → DeState → DecodeError E → DeState → Type 0 } = { λ old e new. ⊤ };
+
     /// Reads what the member of this tag holds: the value of an entry whose key was read.
     fn read_content<R: Read>(
         alloc: Global,
@@ -33,7 +39,8 @@ pub trait Enveloped<'de>: Sized + Drop {
             (accessor_state entries.old) }
         ensures value { Over R.reading
             (ReadsValue meaning (part_of Self.shape tag.now)) de.old result de.new }
-        ensures stops { Over R.reading Stops de.old result de.new };
+        ensures refuses { IfErr result
+            (λ e. Self.refuses (de_state R.reading de.old) e (de_state R.reading de.new)) };
 }
 
 /// Reads the next key, which is this one. Another is refused with `Msg("unknown field")`.
@@ -48,7 +55,10 @@ fn read_named_key<'de, R: Read>(
     requires sound { (de_state R.reading de.old).failed ≡ false }
     ensures key { ReadsNamedKey name.now (accessor_state entries.old) (de_state R.reading de.old)
         result (accessor_state entries.new) (de_state R.reading de.new) }
-    ensures stops { Over R.reading Stops de.old result de.new }
+    ensures refuses { IfErr result
+        (λ e. RefusesNamedKey name.now (accessor_state entries.old).last
+        (accessor_state entries.old).left (de_state R.reading de.old) e
+        (de_state R.reading de.new)) }
 {
     let Some(key) = entries.next_key(alloc, de)? else {
         return Err(DecodeError::custom("missing field"));
@@ -70,7 +80,8 @@ pub fn read_enveloped<'de, V: Enveloped<'de>, R: Read>(
     ensures value { Over R.reading
         (ReadsValue V.meaning (envelope_of tag.now content.now V.shape)) de.old result de.new }
     ensures failed { Over R.reading StaysFailed de.old result de.new }
-    ensures stops { Over R.reading Stops de.old result de.new }
+    ensures refuses { Over R.reading (IfRefused (RefusesEnvelope tag.now content.now V.refuses))
+        de.old result de.new }
 {
     let mut entries = de.deserialize_map()?;
     read_named_key(alloc, tag, &mut entries, de)?;

@@ -1,11 +1,13 @@
 //! A value that is made of what was read in another form.
 
-ghost use Rattle.std.specs.Prelude.{◌≡◌, Option, option_map};
+ghost use Rattle.std.specs.Prelude.{◌≡◌, Option, option_map, Result, codes, ⊤};
 ghost use Rattle.serde_ipld_dagcbor.specs.Tree.{Tree};
 ghost use Rattle.serde_ipld_dagcbor.specs.Shapes.{Shape};
 ghost use Rattle.serde_ipld_dagcbor.specs.Collections.{finishing};
-ghost use Rattle.serde_ipld_dagcbor.specs.Deserializers.{StaysFailed, Stops, Over};
+ghost use Rattle.serde_ipld_dagcbor.specs.DecodeError.{DecodeError};
+ghost use Rattle.serde_ipld_dagcbor.specs.Deserializers.{DeState, StaysFailed, Over};
 ghost use Rattle.serde_ipld_dagcbor.specs.Values.{ReadsValue};
+ghost use Rattle.dagcbor_schema.specs.SchemaAnswers.{Makes};
 
 use serde_ipld_dagcbor::{DecodeError, Deserializer, Read, ReadResult};
 use std::alloc::Global;
@@ -27,6 +29,10 @@ pub trait Made<'de>: Sized + Drop {
     /// What the parts make. None where they make nothing.
     ghost made: { PartsView → Option View };
 
+    /// What reading the parts answers beside the law.
+    ghost parts_answers: { {E : Type 0} → DeState → Result Self.Parts (DecodeError E) → DeState
+        → Type 0 } = { λ old result new. ⊤ };
+
     fn read_parts<R: Read>(
         alloc: Global,
         de: &mut Deserializer<'de, R>,
@@ -34,7 +40,7 @@ pub trait Made<'de>: Sized + Drop {
         ensures value { Over R.reading (ReadsValue parts_meaning parts_shape) de.old result
             de.new }
         ensures failed { Over R.reading StaysFailed de.old result de.new }
-        ensures stops { Over R.reading Stops de.old result de.new };
+        ensures answers { Over R.reading Self.parts_answers de.old result de.new };
 
     fn of_parts(parts: Self::Parts) -> Option<Self>
         ensures { option_map meaning result ≡ made (parts_meaning parts) };
@@ -49,7 +55,8 @@ pub fn read_made<'de, T: Made<'de>, R: Read>(
     ensures value { Over R.reading (ReadsValue T.meaning (finishing T.made T.parts_shape)) de.old
         result de.new }
     ensures failed { Over R.reading StaysFailed de.old result de.new }
-    ensures stops { Over R.reading Stops de.old result de.new }
+    ensures answers { Over R.reading (Makes T.meaning (λ p. T.made (T.parts_meaning p))
+        (codes "no such value") T.parts_answers) de.old result de.new }
 {
     let parts = T::read_parts(alloc, de)?;
     match T::of_parts(parts) {

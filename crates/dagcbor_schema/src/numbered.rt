@@ -1,8 +1,13 @@
 //! An enum whose variants are told by numbers.
 
-ghost use Rattle.std.specs.Prelude.{◌≡◌, ℕ, Option, option_map};
-ghost use Rattle.serde_ipld_dagcbor.specs.Deserializers.{StaysFailed, Stops, Over};
+ghost use Rattle.std.specs.Prelude.{◌≡◌, ◌^◌, ℕ, Option, option_map, codes};
+ghost use Rattle.dagcbor_heads.specs.Looking.{Looks};
+ghost use Rattle.dagcbor_items.specs.AnsweredVariants.{OfNumber};
+ghost use Rattle.dagcbor_items.specs.LeafReads.{ReadsUnsigned};
+ghost use Rattle.dagcbor_read.specs.Parts.{ReadsOnce};
+ghost use Rattle.serde_ipld_dagcbor.specs.Deserializers.{StaysFailed, Over};
 ghost use Rattle.serde_ipld_dagcbor.specs.Values.{ReadsValue};
+ghost use Rattle.dagcbor_schema.specs.SchemaAnswers.{Makes};
 ghost use Rattle.dagcbor_schema.specs.ToldValues.{told_by_number};
 
 use serde_ipld_dagcbor::{DecodeError, Deserialize, Deserializer, Read, ReadResult};
@@ -30,7 +35,9 @@ pub fn read_numbered<'de, T: Numbered, R: Read>(
     ensures value { Over R.reading (ReadsValue T.meaning (told_by_number T.told)) de.old result
         de.new }
     ensures failed { Over R.reading StaysFailed de.old result de.new }
-    ensures stops { Over R.reading Stops de.old result de.new }
+    ensures answers { Over R.reading (Makes T.meaning T.told (codes "unknown variant")
+        (ReadsOnce (ReadsUnsigned (codes "u64") (2 ^ 64)) (Looks 3) OfNumber)) de.old result
+        de.new }
 {
     let number = u64::deserialize(alloc, de)?;
     match T::of_number(number) {

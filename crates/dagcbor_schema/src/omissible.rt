@@ -2,6 +2,7 @@
 
 ghost use Rattle.std.specs.Prelude.{Option, None, option_map};
 ghost use Rattle.serde_ipld_dagcbor.specs.Structs.{places};
+ghost use Rattle.dagcbor_read.specs.Parts.{RefusesAsOr};
 ghost use Rattle.dagcbor_schema.specs.SchemaFields.{finish_omissible};
 
 use serde_ipld_dagcbor::{
@@ -31,6 +32,8 @@ impl<'de, T: Deserialize<'de>, L: Fields<'de>> Fields<'de> for Omissible<T, L> {
     ghost meaning = { λ p. (option_map T.meaning p.0, L.meaning p.1) };
 
     ghost finish = { finish_omissible L.finish };
+
+    ghost refuses = { RefusesAsOr T.answers L.refuses };
 
     fn unread(alloc: Global) -> (Option<T>, L::Places) {
         (None, L::unread(alloc))

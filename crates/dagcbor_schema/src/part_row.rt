@@ -1,12 +1,14 @@
 //! The parts of a tuple that is written, one after another.
 
 ghost use Rattle.std.specs.Prelude.{◌≡◌, ◌+◌, ◌≤◌, ℕ, Bool, List, [], ◌∷◌, length, Option, OnOk, IfSome};
-ghost use Rattle.std.specs.Prelude.{MatchBool, ◌||◌, false};
+ghost use Rattle.std.specs.Prelude.{MatchBool, ◌||◌, false, IfErr, IsErrAnd, IsTrue};
 ghost use Rattle.dagcbor_heads.specs.Written.{Writes, WantsMemoryOnlyIf};
 ghost use Rattle.ipld_tree.specs.Spelled.{spelled_tree, spelled_head};
 ghost use Rattle.ipld_tree.specs.Tree.{Tree, IsTree, list_tree};
+ghost use Rattle.dagcbor_write.specs.Answers.{OnMessage, NoMessage, IsMsg};
 ghost use Rattle.dagcbor_write.specs.Each.{spelled_each, AreTrees};
-ghost use Rattle.dagcbor_schema.specs.Parts.{optional_part};
+ghost use Rattle.dagcbor_schema.specs.Parts.{optional_part, part_message, optional_message};
+ghost use Rattle.dagcbor_schema.specs.Parts.{is_gap, IsGapMessage};
 
 use serde_ipld_dagcbor::{EncodeError, Serialize, Serializer, Write, WriteResult};
 use std::alloc::Global;
@@ -27,6 +29,12 @@ pub trait PartRow: Copy {
     /// Whether writing a part may take memory, where the writer takes none.
     ghost takes_memory: { Bool };
 
+    /// Which messages parts that have no spelling may be refused with.
+    ghost message: { Self → List ℕ → Type 0 };
+
+    /// Whether the first part is absent before others.
+    ghost gap: { Self → Bool };
+
     /// How many parts there are at most.
     ghost most: { ℕ };
 
@@ -44,13 +52,21 @@ pub trait PartRow: Copy {
         ensures written { Writes (spelled_each (trees self))
             (W.written ser.old) (W.written ser.new) result }
         ensures well_formed { OnOk result (AreTrees (trees self)) }
-        ensures memory { WantsMemoryOnlyIf (takes_memory || W.takes_memory) result };
+        ensures memory { WantsMemoryOnlyIf (takes_memory || W.takes_memory) result }
+        ensures told { IfErr result (OnMessage (message self)) }
+        ensures gap { IsTrue (gap self)
+            → IsErrAnd result (λ e. IsMsg e × OnMessage IsGapMessage e)
+            × (W.written ser.new ≡ W.written ser.old) };
 }
 
 impl PartRow for () {
     ghost trees = { λ u. [] };
 
     ghost takes_memory = { false };
+
+    ghost message = { λ u. NoMessage };
+
+    ghost gap = { λ u. false };
 
     ghost most = { 0 };
 
@@ -71,6 +87,10 @@ impl<T: Serialize, L: PartRow> PartRow for (Part<'_, T>, L) {
     ghost trees = { λ row. T.tree row.0.0.now ∷ L.trees row.1 };
 
     ghost takes_memory = { T.takes_memory || L.takes_memory };
+
+    ghost message = { λ row. part_message T.tree T.message (L.message row.1) row.0.0.now };
+
+    ghost gap = { λ row. false };
 
     ghost most = { L.most + 1 };
 
@@ -94,6 +114,11 @@ impl<T: Serialize, L: PartRow> PartRow for (OptionalPart<'_, T>, L) {
     ghost trees = { λ row. optional_part T.tree row.0.0.now (L.trees row.1) };
 
     ghost takes_memory = { T.takes_memory || L.takes_memory };
+
+    ghost message = { λ row. optional_message T.tree T.message (L.trees row.1)
+        (L.message row.1) row.0.0.now };
+
+    ghost gap = { λ row. is_gap row.0.0.now (L.trees row.1) };
 
     ghost most = { L.most + 1 };
 
@@ -148,6 +173,7 @@ pub fn write_parts<P: PartRow, W: Write>(
         (W.written ser.old) (W.written ser.new) result }
     ensures well_formed { OnOk result (IfSome (list_tree (P.trees parts)) IsTree) }
     ensures memory { WantsMemoryOnlyIf (P.takes_memory || W.takes_memory) result }
+    ensures told { IfErr result (OnMessage (P.message parts)) }
 {
     write_head(alloc, parts.count(most), ser)?;
     parts.write_each(alloc, ser)

@@ -1,13 +1,16 @@
 //! The parts of a tuple that is read, one after another.
 
-ghost use Rattle.std.specs.Prelude.{◌≡◌, ◌+◌, ◌≤◌, Option, option_map, false};
+ghost use Rattle.std.specs.Prelude.{◌≡◌, ◌+◌, ◌≤◌, Option, option_map, false, codes, IfErr};
+ghost use Rattle.dagcbor_heads.specs.declared.error.DecodeError.{DecodeError};
 ghost use Rattle.dagcbor_read.specs.Accessors.{accessor_state};
 ghost use Rattle.dagcbor_read.specs.Collections.{list_of, no_more, first_then, ReadsRow, ReadsRest};
-ghost use Rattle.dagcbor_read.specs.Deserializers.{de_state, StaysFailed, Stops, Over};
+ghost use Rattle.dagcbor_read.specs.Deserializers.{DeState, de_state, StaysFailed, Over};
+ghost use Rattle.dagcbor_read.specs.Parts.{RefusesFirst, RefusesRest, RefusesListAs, IfRefused};
 ghost use Rattle.dagcbor_read.specs.Values.{ReadsValue};
 ghost use Rattle.dagcbor_items.specs.Shapes.{Shape};
 ghost use Rattle.ipld_tree.specs.Tree.{Items};
 ghost use Rattle.dagcbor_schema.specs.Parts.{optional_then};
+ghost use Rattle.dagcbor_schema.specs.SchemaAnswers.{RefusesOptional};
 
 use crate::omissible::Omissible;
 use serde_ipld_dagcbor::{
@@ -24,6 +27,9 @@ pub trait Parts<'de>: Sized + Drop {
     /// What the items show.
     ghost shape: { Shape Items View };
 
+    /// How the items are refused, beside the law.
+    ghost refuses: { {E : Type 0} → DeState → DecodeError E → DeState → Type 0 };
+
     /// Reads from the first item that is left on.
     fn read_each<R: Read>(
         alloc: Global,
@@ -35,7 +41,8 @@ pub trait Parts<'de>: Sized + Drop {
         ensures row { ReadsRow Self.meaning Self.shape (accessor_state items.old)
             (de_state R.reading de.old) result (accessor_state items.new)
             (de_state R.reading de.new) }
-        ensures stops { Over R.reading Stops de.old result de.new };
+        ensures refuses { IfErr result
+            (λ e. Self.refuses (de_state R.reading de.old) e (de_state R.reading de.new)) };
 }
 
 impl<'de> Parts<'de> for () {
@@ -44,6 +51,8 @@ impl<'de> Parts<'de> for () {
     ghost meaning = { λ u. tt };
 
     ghost shape = { no_more };
+
+    ghost refuses = { λ old e new. ⊥ };
 
     fn read_each<R: Read>(
         _alloc: Global,
@@ -60,6 +69,8 @@ impl<'de, T: Deserialize<'de>, L: Parts<'de>> Parts<'de> for (Required<T>, L) {
     ghost meaning = { λ p. (T.meaning p.0.0, L.meaning p.1) };
 
     ghost shape = { first_then T.shape L.shape };
+
+    ghost refuses = { RefusesFirst T.answers L.refuses };
 
     fn read_each<R: Read>(
         alloc: Global,
@@ -80,6 +91,8 @@ impl<'de, T: Deserialize<'de>, L: Parts<'de>> Parts<'de> for Omissible<T, L> {
     ghost meaning = { λ p. (option_map T.meaning p.0, L.meaning p.1) };
 
     ghost shape = { optional_then T.shape L.shape };
+
+    ghost refuses = { RefusesOptional T.answers L.refuses };
 
     fn read_each<R: Read>(
         alloc: Global,
@@ -108,7 +121,8 @@ fn read_rest<'de, L: Parts<'de>, R: Read>(
         (de_state R.reading de.old).input.budget }
     ensures rest { Over R.reading
         (ReadsRest L.meaning L.shape (accessor_state items.entry)) de.old result de.new }
-    ensures stops { Over R.reading Stops de.old result de.new }
+    ensures refuses { IfErr result (λ e. RefusesRest L.refuses (de_state R.reading de.old) e
+        (de_state R.reading de.new)) }
 {
     let mut items = items;
     let row = L::read_each(alloc, &mut items, de)?;
@@ -124,7 +138,8 @@ pub fn read_parts<'de, L: Parts<'de>, R: Read>(
 ) -> ReadResult<L, R>
     ensures value { Over R.reading (ReadsValue L.meaning (list_of L.shape)) de.old result de.new }
     ensures failed { Over R.reading StaysFailed de.old result de.new }
-    ensures stops { Over R.reading Stops de.old result de.new }
+    ensures refuses { Over R.reading
+        (IfRefused (RefusesListAs L.refuses (codes "tuple"))) de.old result de.new }
 {
     let items = de.deserialize_tuple(most)?;
     read_rest(alloc, items, de)

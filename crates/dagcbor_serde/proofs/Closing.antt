@@ -1,6 +1,6 @@
 -- What begins, ends and is finished.
 use Rattle.std.proofs.Common.{◌≡◌, ℕ, zero, suc, ◌+◌, ◌-◌, ◌<◌, ◌≤◌, ◌^◌, List, [], ◌∷◌, ◌++◌, length, map, take, drop, get_or, Option, None, Some, Bool, true, false, refl, sym, ap, ap₂, ◌∙◌, subst, arith, length-append, append-nil, append_assoc, add-one, drop-cons, drop_of_length-le, take-append-drop, take_all, length-take-le, length-drop, drop_at, IfSome, reverse, option_map, All, flat_map}
-use Rattle.std.proofs.Math.Seq.{take-append_seam, take-length, drop-length, drop-append_seam}
+use Rattle.std.proofs.Math.Seq.{take-append_seam, take-length, drop-length}
 use Rattle.std.proofs.lemmas.List.{reverse-append, length-map, take-append-le}
 use Rattle.std.proofs.lemmas.List.Sorted.{IsPermutation-refl}
 use Rattle.std.specs.Fmt.{◌++?◌}
@@ -9,12 +9,11 @@ use Rattle.ipld_tree.specs.Tree.{Tree, list, link, IsTree, items_of, entries_tre
 use Rattle.ipld_tree.specs.Spelling.{item_count}
 use Rattle.ipld_tree.specs.Spelled.{spelled, spelled_items, spelled_tree, spelled_head}
 use Rattle.dagcbor_write.specs.Trees.{Pair}
-use Rattle.dagcbor_write.specs.Maps.{Texts}
 use Rattle.dagcbor_write.specs.Order.{PutsInOrder, entries_bytes}
 use Rattle.dagcbor_write.proofs.Mapping.{in_order}
 use Rattle.dagcbor_write.proofs.Spelling.{head_is_spelled}
-use Rattle.dagcbor_serde.specs.Building.{Level, whole, in_list, in_map, in_link, rests, for_key, for_value, for_map, State, state, begin, begin_map, close, list_of, close_map, finished, only_item}
-use Rattle.dagcbor_serde.specs.Holds.{IsGood, Holds, HoldsEntries, PutsEntries, PutsEach, AreInOrder, whole_at, Opens, HoldsAll, Part, part, StepsBy, Lands, Begins}
+use Rattle.dagcbor_serde.specs.Building.{Level, whole, in_list, in_map, in_link, rests, for_key, for_value, for_map, State, state, begin, begin_map, close, list_of, close_map}
+use Rattle.dagcbor_serde.specs.Holds.{IsGood, Holds, HoldsEntries, PutsEntries, PutsEach, AreInOrder, whole_at, Opens, HoldsAll, part, StepsBy, Lands, Begins}
 use Rattle.dagcbor_write.specs.Spans.{IsWithin, entry_at}
 use Rattle.dagcbor_serde.specs.declared.frame.Frame.{Frame}
 use Rattle.dagcbor_write.specs.declared.collect.gathered.Span.{Span}

@@ -1,5 +1,5 @@
 -- What is held behind an item, a key, or another call.
-use Rattle.std.proofs.Common.{◌≡◌, ℕ, zero, suc, ◌+◌, ◌≤◌, ◌<◌, List, [], ◌∷◌, ◌++◌, length, map, take, drop, Option, None, Some, refl, sym, ap, ap₂, ◌∙◌, subst, arith, length-append, append_assoc, append-nil, take_all, take-append-drop, length-drop, length-take-le, All, flat_map}
+use Rattle.std.proofs.Common.{◌≡◌, ℕ, zero, suc, ◌+◌, ◌≤◌, List, [], ◌∷◌, ◌++◌, length, map, take, drop, Option, None, Some, refl, sym, ap, ap₂, ◌∙◌, subst, arith, length-append, append_assoc, append-nil, take_all, take-append-drop, length-drop, length-take-le, All, flat_map}
 use Rattle.std.proofs.Math.Seq.{drop-append_seam, take-append_seam}
 use Rattle.std.proofs.lemmas.List.{drop-append-le}
 use Rattle.std.proofs.lemmas.Grind.{flat_map-append}
@@ -10,7 +10,7 @@ use Rattle.ipld_tree.specs.Spelled.{spelled, spelled_items}
 use Rattle.dagcbor_write.specs.Trees.{Pair}
 use Rattle.dagcbor_write.specs.Maps.{Texts, IsSpellingOf, AreSpellingsOf}
 use Rattle.dagcbor_write.proofs.Mapping.{pairwise_push}
-use Rattle.dagcbor_serde.specs.Building.{Level, whole, in_list, in_map, in_link, rests, for_key, for_value, for_map, put, put_key, put_unit, put_bytes, as_link, begin_key, end_key, flatten}
+use Rattle.dagcbor_serde.specs.Building.{Level, whole, in_list, in_map, in_link, rests, for_key, for_value, for_map, put, put_key, put_unit, put_bytes, as_link, begin_key, flatten}
 use Rattle.dagcbor_serde.specs.Holds.{IsGood, Holds, HoldsEntries, Part, part, whole_at}
 use Rattle.dagcbor_write.specs.Spans.{entry_at, IsWithin}
 use Rattle.dagcbor_serde.specs.declared.frame.Frame.{Frame}

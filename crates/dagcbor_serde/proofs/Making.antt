@@ -14,7 +14,7 @@ use Rattle.ipld_tree.proofs.Trees.{tree_of_String, tree_of_Map}
 use Rattle.dagcbor_write.proofs.IpldTrees.{map_kind}
 use Rattle.ipld_tree.specs.Spelling.{IsSpelling}
 use Rattle.dagcbor_write.specs.Trees.{Pair}
-use Rattle.dagcbor_serde.specs.Building.{Level, whole, in_list, in_map, in_link, rests, for_key, for_value, for_map, State, state, start, put, put_unit, put_bytes, on_top, begin_map, close, step, steps, finished, events_tree}
+use Rattle.dagcbor_serde.specs.Building.{Level, in_list, in_map, in_link, rests, for_value, for_map, State, state, start, put, put_unit, put_bytes, on_top, begin_map, close, step, steps, finished, events_tree}
 use Rattle.dagcbor_serde.specs.Links.{WritesLink, link_events}
 use Rattle.dagcbor_serde.specs.Making.{takes_items, Makes, GrowsBy, WritesTree, TreesAreWritten, LeavesAreWritten, ListsAreWritten}
 

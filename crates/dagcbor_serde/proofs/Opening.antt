@@ -1,13 +1,13 @@
 -- What is held of all that is open behind one more call.
-use Rattle.std.proofs.Common.{◌≡◌, ℕ, ◌+◌, ◌≤◌, ◌<◌, ◌^◌, List, [], ◌∷◌, ◌++◌, length, take, drop, Option, Some, refl, sym, ap, ◌∙◌, subst, arith, length-append, append_assoc, append-nil, take_all, length-take-le, take-append-drop, reverse, option_map, Result, Ok, Err, OnOk}
-use Rattle.std.proofs.Math.Seq.{drop-append_seam, take-append_seam, take-length, drop-length, take-append-add, drop-append-add}
+use Rattle.std.proofs.Common.{◌≡◌, ℕ, ◌+◌, ◌≤◌, ◌<◌, ◌^◌, List, [], ◌∷◌, ◌++◌, length, take, drop, Option, Some, refl, sym, ap, ◌∙◌, subst, arith, length-append, take_all, length-take-le, reverse, option_map, Result, Ok, Err, OnOk}
+use Rattle.std.proofs.Math.Seq.{drop-length}
 use Rattle.std.proofs.lemmas.List.{take-append-le, drop-append-le}
 use Rattle.ipld_tree.specs.Tree as tree
 use Rattle.ipld_tree.specs.Tree.{Tree}
 use Rattle.ipld_tree.specs.Cid.{IsCid}
 use Rattle.dagcbor_heads.specs.Head.{head}
-use Rattle.dagcbor_serde.specs.Building.{Level, State, state, put, put_key, put_unit, put_bytes, as_link, on_top}
-use Rattle.dagcbor_serde.specs.Holds.{IsGood, Holds, Opens, HoldsAll, Part, part, StepsBy, MovesTop, Puts, Lands}
+use Rattle.dagcbor_serde.specs.Building.{Level, state, put, put_key, put_bytes, as_link}
+use Rattle.dagcbor_serde.specs.Holds.{IsGood, Holds, Opens, part, MovesTop, Puts, Lands}
 use Rattle.dagcbor_serde.specs.declared.frame.Frame.{Frame}
 use Rattle.dagcbor_write.specs.declared.collect.gathered.Span.{Span}
 use Rattle.dagcbor_serde.specs.declared.frame.Stage.{Stage}

@@ -1,11 +1,13 @@
 -- Streams: values one behind the other.
-use Rattle.std.specs.Prelude.{◌≡◌, ℕ, ◌+◌, Bool, true, false, List, length, Option, None, Some, Result, Ok, Err, is_err, MatchBool}
+use Rattle.std.specs.Prelude.{◌≡◌, ℕ, ◌+◌, ◌<◌, ◌≤◌, Bool, true, List, length, Option, None, Some, Result, Ok, Err, is_err, MatchBool}
 use Rattle.std.specs.Iterator.{Count}
 use Rattle.dagcbor_heads.specs.Reading.{Reading}
 use Rattle.dagcbor_heads.specs.Fronts.{FindsEnd}
 use Rattle.dagcbor_heads.specs.Inputs.{input_reading}
-use Rattle.dagcbor_heads.specs.Refusals.{RefusesOrLacksMemory}
+use Rattle.dagcbor_heads.specs.Refusals.{Refuses}
+use Rattle.dagcbor_heads.specs.declared.error.DecodeError.{DecodeError}
 use Rattle.ipld_tree.specs.Tree.{Tree}
+use Rattle.ipld_tree.specs.Spelling.{spelling}
 use Rattle.dagcbor_items.specs.ItemsLeft.{items_left_of}
 use Rattle.dagcbor_items.specs.ItemCauses.{CauseInside}
 use Rattle.dagcbor_items.specs.Untyped.{TakesItem, HasItem}
@@ -22,14 +24,26 @@ pub record StreamState : Type 0 where
 abbrev pub stream_state : {R T : Type 0} → (R → Reading) → Stream R T → StreamState
 stream_state reading s = record { reading = input_reading reading s.input; done = s.done }
 
+-- known bytes are left
+abbrev pub SomeLeft : Reading → Type 0
+SomeLeft r = (b : List ℕ) → r.left ≡ Some b → 0 < length b
+
+-- there are some, and the cause stands in them
+abbrev pub CauseInSome : {E : Type 0} → ℕ → DecodeError E → List ℕ → Type 0
+CauseInSome steps e b = (0 < length b) × CauseInside steps e b
+
+-- a block was taken, and the type does not accept it, as was found at a place in it
+abbrev pub TakesMisfit : Reading → ℕ → Reading → Type 0
+TakesMisfit old at new = (t : Tree) × TakesItem 0 old t new × (at ≤ length (spelling t))
+
 -- The end is found; or a block is taken, and its value given, or the type does not accept it; or no
--- block is read. A fault may come before it is known whether bytes are left.
+-- block is read of the bytes that are left. A fault may come before it is known whether some are.
 abbrev pub ReadsNext : {T E : Type 0} → Reading → Option (Result T (Error E)) → Reading → Type 0
 ReadsNext old None new = FindsEnd old new
 ReadsNext old (Some (Ok v)) new = (t : Tree) × TakesItem 0 old t new
-ReadsNext old (Some (Err (Misfit m at))) new = (t : Tree) × TakesItem 0 old t new
+ReadsNext old (Some (Err (Misfit m at))) new = TakesMisfit old at new
 ReadsNext old (Some (Err (NoBlock e))) new =
-    RefusesOrLacksMemory (HasItem 0 old) (CauseInside (old.steps + 0)) old e new
+    Refuses (HasItem 0 old) (SomeLeft old) ⊥ (CauseInSome (old.steps + 0)) old e new
 
 -- whether nothing comes behind what was given
 abbrev pub is_last : {T E : Type 0} → Option (Result T (Error E)) → Bool

@@ -28,6 +28,7 @@ pub struct Stream<R, T> {
 type Item<R, T> = Result<T, Error<<R as Read>::Error>>;
 
 /// The value of the block at the front.
+#[tactic(auto, using(crate::proofs::Streaming::refused_behind, crate::proofs::Streaming::item_before))]
 fn next_value<R: Read, T: DeserializeOwned>(
     alloc: Global,
     input: &mut Input<'_, R>,

@@ -1,13 +1,15 @@
 -- Sections that are added to a store one by one, and what a refusal leaves.
 use Rattle.std.proofs.Common.{◌≡◌, inl, inr, ℕ, List, [], ◌∷◌, ◌++◌, refl, sym, ◌∙◌, subst, IsTrue, arith, ◌⊎◌}
+use Rattle.std.proofs.Math.Decide.{ℕ_discrete}
+use mathlib.Core.List.{List-discrete}
 use Rattle.sqlite_trees.specs.Tree.{Trees}
 use Rattle.sqlite_trees.specs.View.{View, IsClean, Tells}
 use Rattle.sqlite_trees.specs.declared.store.Store.{Ghosts}
 use Rattle.ipld_tree.specs.Cid.{cid_bytes}
 use Rattle.dagcbor_car.specs.Car.{Section}
-use Rattle.dagcbor_car.proofs.Members.{among_push, push_among}
+use Rattle.ipld_links.proofs.Members.{among_push, push_among}
 use Rattle.dagcbor_store.specs.Ends.{Quiet}
-use Rattle.dagcbor_store.specs.Rows.{name_tree, IsListed, IsTooLong}
+use Rattle.dagcbor_store.specs.Rows.{IsStored, IsTooLong}
 use Rattle.dagcbor_store.specs.Stored.{IsAddedTo, IsAdded, IsSame, IsUndone, Fails, IsUnfit, PutRefused, IsCommitted}
 use Rattle.dagcbor_store.specs.Cars.{IsNameIn, IsSectionIn, HoldsSections, IsFilled, IsAddedAll, Adds, NotKept}
 use Rattle.dagcbor_store.specs.declared.error.StoreRefusal.{StoreRefusal}
@@ -29,23 +31,22 @@ section_push ss s q b n = (n.0, push_among n.0 ss s (inl n.1), n.2, n.3)
 
 holds_none : (t : Trees) → HoldsSections t t []
 holds_none t = record {
-  kept = λ q b s. s;
-  only = λ q b s. inl s;
+  named = λ q b n s. absurd n.1;
   each = λ q n. absurd n.1;
+  others = λ q b none. (λ s. s, λ s. s);
   lists = λ q. (λ l. inr l, λ h. elim h [ inl n ↦ absurd n.1 | inr l ↦ l ]);
 }
 
 holds_more : (old mid new : Trees) (ss : List Section) (s : Section) → HoldsSections old mid ss → IsAddedTo mid new s.0 s.1 → HoldsSections old new (ss ++ s ∷ [])
-holds_more old mid new ss s h (inl a) = record {
-  kept = λ q b t. (a.holds q b).1 (inr (h.kept q b t));
-  only = λ q b t. elim ((a.holds q b).0 t) [
-    | inl e ↦ inr (λ l. a.unlisted (subst (IsListed (mid name_tree)) e.0 ((h.lists q).1 (inr l))), (s, push_among s ss s (inr refl), sym e.0, sym e.1))
-    | inr was ↦ elim (h.only q b was) [ inl o ↦ inl o | inr n ↦ inr (n.0, section_push ss s q b n.1) ]
-  ];
-  each = λ q n. elim (name_push ss s q n) [
-    | inl m ↦ elim (h.each q m) [ inl l ↦ inl l | inr t ↦ inr (t.0, (a.holds q t.0).1 (inr t.1)) ]
-    | inr e ↦ inr (s.1, (a.holds q s.1).1 (inl (sym e, refl)))
-  ];
+holds_more old mid new ss s h a = record {
+  named = λ q b n t. named q b n t (List-discrete ℕ_discrete q (cid_bytes s.0));
+  each = λ q n. each q n (List-discrete ℕ_discrete q (cid_bytes s.0));
+  others = λ q b none.
+      let apart : q ≡ cid_bytes s.0 → ⊥ = λ e. none (push_name ss s q (inr (sym e))) in
+      let before : IsNameIn ss q → ⊥ = λ n. none (push_name ss s q (inl n)) in (
+        λ t. (h.others q b before).0 ((a.others q b apart).0 t),
+        λ t. (a.others q b apart).1 ((h.others q b before).1 t),
+      );
   lists = λ q. (
     λ l. elim ((a.lists q).0 l) [
       | inl e ↦ inl (push_name ss s q (inr (sym e)))
@@ -57,21 +58,17 @@ holds_more old mid new ss s h (inl a) = record {
     ],
   );
 }
-holds_more old mid new ss s h (inr a) = subst (λ (t : Trees). HoldsSections old t (ss ++ s ∷ [])) (sym a.1) (record {
-  kept = h.kept;
-  only = λ q b t. elim (h.only q b t) [ inl o ↦ inl o | inr n ↦ inr (n.0, section_push ss s q b n.1) ];
-  each = λ q n. elim (name_push ss s q n) [
-    | inl m ↦ h.each q m
-    | inr e ↦ elim ((h.lists q).0 (subst (IsListed (mid name_tree)) e a.0)) [ inl m ↦ h.each q m | inr l ↦ inl l ]
-  ];
-  lists = λ q. (
-    λ l. elim ((h.lists q).0 l) [ inl n ↦ inl (push_name ss s q (inl n)) | inr o ↦ inr o ],
-    λ k. elim k [
-      | inl n ↦ elim (name_push ss s q n) [ inl m ↦ (h.lists q).1 (inl m) | inr e ↦ subst (IsListed (mid name_tree)) e a.0 ]
-      | inr l ↦ (h.lists q).1 (inr l)
-    ],
-  );
-})
+  where
+    earlier : (q : List ℕ) → IsNameIn (ss ++ s ∷ []) q → (q ≡ cid_bytes s.0 → ⊥) → IsNameIn ss q
+    earlier q n apart = elim (name_push ss s q n) [ inl m ↦ m | inr e ↦ absurd (apart (sym e)) ]
+
+    named : (q b : List ℕ) → IsNameIn (ss ++ s ∷ []) q → IsStored new q b → Dec (q ≡ cid_bytes s.0) → IsSectionIn (ss ++ s ∷ []) q b
+    named q b n t (yes e) = (s, push_among s ss s (inr refl), sym e, sym ((a.stored b).0 (subst (λ x. IsStored new x b) e t)))
+    named q b n t (no apart) = section_push ss s q b (h.named q b (earlier q n apart) ((a.others q b apart).0 t))
+
+    each : (q : List ℕ) → IsNameIn (ss ++ s ∷ []) q → Dec (q ≡ cid_bytes s.0) → (b : List ℕ) × IsStored new q b
+    each q n (yes e) = (s.1, subst (λ x. IsStored new x s.1) (sym e) ((a.stored s.1).1 refl))
+    each q n (no apart) = let t = h.each q (earlier q n apart) in (t.0, (a.others q t.0 apart).1 t.1)
 
 added_none : (v : View) → IsAddedAll v v []
 added_none v = record { trees = holds_none v.trees; committed = refl; reals = refl; is_open = refl; broken = refl }

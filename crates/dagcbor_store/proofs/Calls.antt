@@ -1,24 +1,29 @@
 -- What the calls of a store answer.
-use Rattle.std.proofs.Common.{◌≡◌, inl, inr, ℕ, ◌≤◌, List, Bool, true, false, refl, sym, ap, ◌∙◌, subst, true≢false, IsTrue, arith, Option, option_map, Result, Ok, Err, IfOk, IfErr, OnOk, OnErr, Vec, Global}
+use Rattle.std.proofs.Common.{◌≡◌, ◌↔◌, ◌⊎◌, inl, inr, ℕ, ℤ, ◌≤◌, List, [], ◌∷◌, filter, Bool, true, false, not, refl, sym, ap, ◌∙◌, subst, true≢false, IsTrue, arith, Option, None, option_map, Result, Ok, Err, IfOk, IfErr, OnOk, OnErr, Vec, Global}
+use Rattle.std.proofs.Math.Decide.{ℕ_discrete}
+use Rattle.std.proofs.Math.IntN.{ℤ_discrete}
+use mathlib.Core.List.{List-discrete}
 use Rattle.sqlite_disk.specs.Disk.{MoreFaults}
-use Rattle.sqlite_trees.specs.Tree.{Trees, has_rowid}
-use Rattle.sqlite_trees.specs.View.{View, IsClean, KeepsCommitted, IsRolledBack, HasCause, OnlyWrites, Commits, Tells}
+use Rattle.sqlite_trees.proofs.ListLemmas.{all-filter}
+use Rattle.sqlite_value.specs.Keys.{plain}
+use Rattle.sqlite_trees.specs.Tree.{Trees, has_rowid, remove_entry}
+use Rattle.sqlite_trees.specs.View.{View, IsClean, KeepsCommitted, IsRolledBack, HasCause, OnlyWrites, SetsTree, Commits, Tells}
 use Rattle.sqlite_trees.specs.declared.store.Store.{Ghosts}
 use Rattle.sqlite_trees.specs.declared.error.StoreError.{StoreError}
 use Rattle.sqlite_trees.specs.declared.error.StoreError.TheVariants as stored
 use Rattle.ipld_tree.specs.Cid.{CidParts, cid_bytes, IsCid}
 use Rattle.dagcbor_car.specs.Car.{Section}
-use Rattle.dagcbor_car.specs.Sets.{Among}
-use Rattle.dagcbor_store.specs.Rows.{block_tree, name_tree, block_row, name_entry, IsStored, IsListed, Gets, Adds, Takes, IsTooLong}
+use Rattle.ipld_links.specs.Sets.{Among}
+use Rattle.dagcbor_store.specs.Rows.{block_tree, name_tree, block_row, name_entry, IsStored, IsListed, IsFreeId, FreesId, FindsName, Gets, Writes, Appends, Renews, Adds, Takes, TakesEntry, TakesRow, ClearsRow, IsTooLong}
 use Rattle.dagcbor_store.specs.Stored.{IsKeyed, IsReady, IsSame, IsUndone, IsNamed, GetsSome, GetRefused, IsDamaged, IsVerified, Fails, TellsOfStore, IsAdded, IsAddedTo, IsTaken, IsToldAdded, PutRefused}
 use Rattle.dagcbor_store.specs.declared.entries.Found.{Found}
 use Rattle.dagcbor_store.specs.declared.entries.Found.TheVariants.{Nothing, NoRow, Block}
 use Rattle.dagcbor_store.specs.declared.entries.Added.{Added}
-use Rattle.dagcbor_store.specs.declared.entries.Added.TheVariants.{New, Listed, NoNumber}
+use Rattle.dagcbor_store.specs.declared.entries.Added.TheVariants.{New, Stored, NoNumber}
 use Rattle.dagcbor_store.specs.declared.error.StoreRefusal.{StoreRefusal}
 use Rattle.dagcbor_store.specs.declared.error.StoreRefusal.TheVariants as refusal
 use Rattle.dagcbor_store.proofs.Numbers.{among_unfiltered}
-use Rattle.dagcbor_store.proofs.Keeping.{stored_found, stored_there, stored_as_found, stored_since, keyed_since, stored_left, lists_since, lists_left, keyed_left, rows_left, ready_undone}
+use Rattle.dagcbor_store.proofs.Keeping.{stored_found, stored_there, stored_as_found, stored_since, keyed_since, rows_since, stored_left, none_left, lists_since, lists_left, entries_left, keyed_left, rows_left, rows_taken, ready_undone}
 
 -- ---- getting
 
@@ -75,13 +80,20 @@ ready_written old new h keyed r =
     }
 
 pub keyed_added : (old new : Trees) (name b : List ℕ) (added : Added) → IsCid name → Adds old new name b added → IsKeyed (old name_tree) → IsKeyed (new name_tree)
-keyed_added old new name b New cid a keyed = keyed_since old new name b a.0 keyed (a.1 keyed.0) a.2 a.3 a.4 cid
-keyed_added old new name b Listed cid a keyed = subst (λ (t : Trees). IsKeyed (t name_tree)) (sym a.1) keyed
-keyed_added old new name b NoNumber cid a keyed = subst (λ (t : Trees). IsKeyed (t name_tree)) (sym a.1) keyed
+keyed_added old new name b New cid (inl a) keyed = let w = a.1 in keyed_since old new name b w.0 keyed (a.0 keyed.0) w.1 w.2 w.3 cid
+keyed_added old new name b New cid (inr (id, at, a)) keyed =
+    let mid = a.1.0 in
+    let t = a.1.1 in
+    let w = a.1.2 in
+    keyed_since mid new name b w.0 (keyed_left old mid name id keyed at t.0) (λ l. none_left old mid name id keyed at t.0 l.0 l.1) w.1 w.2 w.3 cid
+keyed_added old new name b Stored cid (inl a) keyed = absurd a.1
+keyed_added old new name b Stored cid (inr (id, at, a)) keyed = subst (λ (t : Trees). IsKeyed (t name_tree)) (sym a.1) keyed
+keyed_added old new name b NoNumber cid (inl a) keyed = subst (λ (t : Trees). IsKeyed (t name_tree)) (sym a.1.1) keyed
+keyed_added old new name b NoNumber cid (inr (id, at, a)) keyed = subst (λ (t : Trees). IsKeyed (t name_tree)) (sym a.1) keyed
 
 pub keyed_taken : (old new : Trees) (name : List ℕ) (taken : Bool) → Takes old new name taken → IsKeyed (old name_tree) → IsKeyed (new name_tree)
 keyed_taken old new name false t keyed = subst (λ (x : Trees). IsKeyed (x name_tree)) (sym t.1) keyed
-keyed_taken old new name true t keyed = keyed_left old new name t.0 keyed t.1 t.2
+keyed_taken old new name true t keyed = keyed_left old new name t.0 keyed t.1 t.2.0
 
 still_open : (old new : View) → OnlyWrites old new → IsTrue old.is_open → IsTrue new.is_open
 still_open old new h o = subst IsTrue (sym (ap (λ (v : View). v.is_open) h)) o
@@ -97,34 +109,144 @@ added_view old new name b h sound o trees = record {
   sound = ap (λ (v : View). v.is_broken) h ∙ sound;
 }
 
+-- the name was taken out, if it was listed, and is written with the bytes
+written_anew : (old mid new : Trees) (name : CidParts) (b : List ℕ) → IsKeyed (mid name_tree) → (IsListed (mid name_tree) (cid_bytes name) → ⊥) → ((q d : List ℕ) → (q ≡ cid_bytes name → ⊥) → IsStored mid q d ↔ IsStored old q d)
+    → ((q : List ℕ) → (q ≡ cid_bytes name → ⊥) → IsListed (mid name_tree) q ↔ IsListed (old name_tree) q) → ((id : ℤ) (q d : List ℕ) → Among (block_row id q d) (mid block_tree) ↔ (Among (block_row id q d) (old block_tree) × ((q ≡ cid_bytes name) × Among (name_entry q id) (old name_tree) → ⊥)))
+    → (IsStored old (cid_bytes name) b → ⊥) → Writes mid new (cid_bytes name) b → IsAddedTo old new name b
+written_anew old mid new name b keyed none stays lists table other w = record {
+  stored = λ d. (
+    λ s. elim ((since (cid_bytes name) d).0 s) [ inl is ↦ is.1 | inr was ↦ absurd (none (was.id, was.listed)) ],
+    λ e. (since (cid_bytes name) d).1 (inl (refl, e)),
+  );
+  others = λ q d apart. (
+    λ s. elim ((since q d).0 s) [ inl is ↦ absurd (apart is.0) | inr was ↦ (stays q d apart).0 was ],
+    λ s. (since q d).1 (inr ((stays q d apart).1 s)),
+  );
+  lists = λ q. (
+    λ l. elim ((listed q).0 l) [ inl e ↦ inl e | inr was ↦ inr ((lists q (λ e. none (subst (IsListed (mid name_tree)) e was))).0 was) ],
+    λ h. elim h [ inl e ↦ (listed q).1 (inl e) | inr l ↦ by q l (List-discrete ℕ_discrete q (cid_bytes name)) ],
+  );
+  rows = λ id q d. (
+    λ m. elim ((rows id q d).0 m) [ inl is ↦ inl is | inr was ↦ inr ((table id q d).0 was) ],
+    λ h. (rows id q d).1 (elim h [ inl is ↦ inl is | inr was ↦ inr ((table id q d).1 was) ]),
+  );
+  same = λ s. absurd (other s);
+}
+  where
+    since : (q d : List ℕ) → IsStored new q d ↔ (((q ≡ cid_bytes name) × (d ≡ b)) ⊎ IsStored mid q d)
+    since = stored_since mid new (cid_bytes name) b w.0 keyed none w.1 w.2 w.3
+
+    listed : (q : List ℕ) → IsListed (new name_tree) q ↔ ((q ≡ cid_bytes name) ⊎ IsListed (mid name_tree) q)
+    listed = lists_since mid new (cid_bytes name) b w.0 keyed none w.1 w.2 w.3
+
+    rows : (id : ℤ) (q d : List ℕ) → Among (block_row id q d) (new block_tree) ↔ (((q ≡ cid_bytes name) × (d ≡ b) × Among (name_entry q id) (new name_tree)) ⊎ Among (block_row id q d) (mid block_tree))
+    rows = rows_since mid new (cid_bytes name) b w.0 keyed none w.1 w.2 w.3
+
+    by : (q : List ℕ) → IsListed (old name_tree) q → Dec (q ≡ cid_bytes name) → IsListed (new name_tree) q
+    by q l (yes e) = (listed q).1 (inl e)
+    by q l (no apart) = (listed q).1 (inr ((lists q apart).1 l))
+
+-- the block stands in the row of its name, and nothing is changed
+stored_already : (old : Trees) (name : CidParts) (b : List ℕ) (id : ℤ) → IsKeyed (old name_tree) → Among (name_entry (cid_bytes name) id) (old name_tree) → filter (has_rowid id) (old block_tree) ≡ block_row id (cid_bytes name) b ∷ [] → IsAddedTo old old name b
+stored_already old name b id keyed at row = record {
+  stored = λ d. (stored_as_found old (cid_bytes name) d b id keyed at row, λ e. subst (IsStored old (cid_bytes name)) (sym e) (stored_found old (cid_bytes name) b id at row));
+  others = λ q d apart. (λ s. s, λ s. s);
+  lists = λ q. (λ l. inr l, λ h. elim h [ inl e ↦ (id, subst (λ n. Among (name_entry n id) (old name_tree)) (sym e) at) | inr l ↦ l ]);
+  rows = λ i q d. (
+    λ m. rows i q d m (List-discrete ℕ_discrete q (cid_bytes name)) (ℤ_discrete i id),
+    λ h. elim h [
+      | inl u ↦ subst (λ k. Among (block_row k q d) (old block_tree)) (sym (number i q u.0 u.2)) (subst (λ n. Among (block_row id n d) (old block_tree)) (sym u.0) (subst (λ x. Among (block_row id (cid_bytes name) x) (old block_tree)) (sym u.1) (among_unfiltered (has_rowid id) (block_row id (cid_bytes name) b) (old block_tree) (subst (Among (block_row id (cid_bytes name) b)) (sym row) (inl refl))).0))
+      | inr was ↦ was.0
+    ],
+  );
+  same = λ s. refl;
+}
+  where
+    number : (i : ℤ) (q : List ℕ) → q ≡ cid_bytes name → Among (name_entry q i) (old name_tree) → i ≡ id
+    number i q e l = keyed.1 (cid_bytes name) i id (subst (λ n. Among (name_entry n i) (old name_tree)) e l) at
+
+    rows : (i : ℤ) (q d : List ℕ) → Among (block_row i q d) (old block_tree) → Dec (q ≡ cid_bytes name) → Dec (i ≡ id)
+        → ((q ≡ cid_bytes name) × (d ≡ b) × Among (name_entry q i) (old name_tree)) ⊎ (Among (block_row i q d) (old block_tree) × ((q ≡ cid_bytes name) × Among (name_entry q i) (old name_tree) → ⊥))
+    rows i q d m (yes e) (yes f) =
+        let there = subst (λ n. Among (block_row id n d) (old block_tree)) e (subst (λ k. Among (block_row k q d) (old block_tree)) f m) in
+        let is = stored_as_found old (cid_bytes name) d b id keyed at row (record { id = id; listed = at; row = there }) in
+        inl (e, is, subst (λ n. Among (name_entry n i) (old name_tree)) (sym e) (subst (λ k. Among (name_entry (cid_bytes name) k) (old name_tree)) (sym f) at))
+    rows i q d m (yes e) (no apart) = inr (m, λ u. apart (number i q u.0 u.1))
+    rows i q d m (no apart) decided = inr (m, λ u. apart u.0)
+
+new_added : (old new : Trees) (name : CidParts) (b : List ℕ) → IsKeyed (old name_tree) → Adds old new (cid_bytes name) b New → IsAddedTo old new name b
+new_added old new name b keyed (inl a) =
+    let none = a.0 keyed.0 in
+    written_anew old old new name b keyed none (λ q d apart. (λ s. s, λ s. s)) (λ q apart. (λ l. l, λ l. l))
+    (λ id q d. (λ m. (m, λ u. none (id, subst (λ n. Among (name_entry n id) (old name_tree)) u.0 u.1)), λ m. m.0)) (λ s. none (s.id, s.listed)) a.1
+new_added old new name b keyed (inr (id, at, a)) =
+    let mid = a.1.0 in
+    let t = a.1.1 in
+    let rows = rows_left old mid (cid_bytes name) id t.1 in
+    let left = stored_left old mid (cid_bytes name) id keyed at t.0 rows.0 rows.1 in
+    let lists = lists_left old mid (cid_bytes name) id keyed at t.0 in
+    written_anew old mid new name b (keyed_left old mid (cid_bytes name) id keyed at t.0) (λ l. none_left old mid (cid_bytes name) id keyed at t.0 l.0 l.1)
+    (λ q d apart. (λ s. ((left q d).0 s).0, λ s. (left q d).1 (s, apart)))
+    (λ q apart. (λ l. ((lists q).0 l).0, λ l. (lists q).1 (l, apart)))
+    (rows_taken old mid (cid_bytes name) id keyed at t.1)
+    (λ s. a.0 (subst (λ i. Among (block_row i (cid_bytes name) b) (old block_tree)) (keyed.1 (cid_bytes name) s.id id s.listed at) s.row)) a.1.2
+
+stored_added : (old new : Trees) (name : CidParts) (b : List ℕ) → IsKeyed (old name_tree) → Adds old new (cid_bytes name) b Stored → IsAddedTo old new name b
+stored_added old new name b keyed (inl a) = absurd a.1
+stored_added old new name b keyed (inr (id, at, a)) = subst (λ (t : Trees). IsAddedTo old t name b) (sym a.1) (stored_already old name b id keyed at a.0)
+
+pub renewed : {E : Type 0} (r : Result Added E) (C : Type 0) (old mid new : Trees) (id : ℤ) (name b : List ℕ) → (C → (mid ≡ old) × Among (name_entry name id) (old name_tree)) → IfOk r (λ added. C → Renews mid new id name b added) → IfOk r (λ added. C → Adds old new name b added)
+renewed (Ok added) C old mid new id name b at h = λ clean. let k = at clean in inr (id, k.1, subst (λ t. Renews t new id name b added) k.0 (h clean))
+renewed (Err e) C old mid new id name b at h = tt
+
+pub appended : {E : Type 0} (r : Result Added E) (C : Type 0) (old mid new : Trees) (name b : List ℕ) → (C → (mid ≡ old) × FindsName (old name_tree) name None) → IfOk r (λ added. C → Appends mid new name b added) → IfOk r (λ added. C → Adds old new name b added)
+appended (Ok added) C old mid new name b none h = λ clean. let k = none clean in inl (k.1, subst (λ t. Appends t new name b added) k.0 (h clean))
+appended (Err e) C old mid new name b none h = tt
+
+pub entry_taken : {X E : Type 0} (r : Result X E) (C : Type 0) (old mid new : View) (id : ℤ) (name : List ℕ) → (C → TakesRow old.trees mid.trees id name) → OnOk r (C → SetsTree mid new name_tree (remove_entry plain (name_entry name id))) → OnOk r (C → TakesEntry old.trees new.trees id name)
+entry_taken (Ok x) C old mid new id name row h = λ clean.
+    let k = row clean in
+    let s = h clean in
+    (ap (λ (v : View). v.trees name_tree) s.is ∙ ap (remove_entry plain (name_entry name id)) k.0, subst (λ rs. ClearsRow (old.trees block_tree) rs id name) (sym (ap (λ (v : View). v.trees block_tree) s.is)) k.1)
+entry_taken (Err e) C old mid new id name row h = tt
+
+-- what is free in the table is free once an entry and its row are taken out
+pub free_left : (old mid : Trees) (id fresh : ℤ) (name : List ℕ) → TakesEntry old mid id name → IsFreeId (old block_tree) fresh → IsFreeId (mid block_tree) fresh
+free_left old mid id fresh name t free = elim t.1 [
+  | inl h ↦ subst (λ rs. IsFreeId rs fresh) (sym h.1) (all-filter _ (λ r. not (has_rowid id r)) (old block_tree) free)
+  | inr h ↦ subst (λ rs. IsFreeId rs fresh) (sym h.2) free
+]
+
+none_added : (old new : Trees) (name b : List ℕ) → Adds old new name b NoNumber → FreesId (old block_tree) None × (new ≡ old)
+none_added old new name b (inl a) = a.1
+none_added old new name b (inr (id, at, a)) = a
+
 pub is_added : (old new : View) (name : CidParts) (b : List ℕ) (added : Added) (r : Result (Unit {0}) StoreRefusal) → OnlyWrites old new → old.is_broken ≡ false → IsTrue old.is_open → IsKeyed (old.trees name_tree)
     → Adds old.trees new.trees (cid_bytes name) b added → IsToldAdded added r → OnOk r (IsAdded old new name b)
-is_added old new name b New r h sound o keyed a is = subst (λ x. OnOk x (IsAdded old new name b)) (sym is)
-    (added_view old new name b h sound o
-    (inl (record {
-      unlisted = a.1 keyed.0;
-      holds = stored_since old.trees new.trees (cid_bytes name) b a.0 keyed (a.1 keyed.0) a.2 a.3 a.4;
-      lists = lists_since old.trees new.trees (cid_bytes name) b a.0 keyed (a.1 keyed.0) a.2 a.3 a.4;
-    })))
-is_added old new name b Listed r h sound o keyed a is = subst (λ x. OnOk x (IsAdded old new name b)) (sym is) (added_view old new name b h sound o (inr a))
+is_added old new name b New r h sound o keyed a is = subst (λ x. OnOk x (IsAdded old new name b)) (sym is) (added_view old new name b h sound o (new_added old.trees new.trees name b keyed a))
+is_added old new name b Stored r h sound o keyed a is = subst (λ x. OnOk x (IsAdded old new name b)) (sym is) (added_view old new name b h sound o (stored_added old.trees new.trees name b keyed a))
 is_added old new name b NoNumber r h sound o keyed a is = subst (λ x. OnOk x (IsAdded old new name b)) (sym is) tt
 
 pub not_added : {S : Type 0} (g : Ghosts S) (s : Section) (old new : S) (added : Added) (r : Result (Unit {0}) StoreRefusal)
     → (IsClean (g.view new) → Adds (g.view old).trees (g.view new).trees (cid_bytes s.0) s.1 added × OnlyWrites (g.view old) (g.view new)) → IsToldAdded added r → IfErr r (PutRefused g s old new)
 not_added g s old new New r h is = subst (λ x. IfErr x (PutRefused g s old new)) (sym is) tt
-not_added g s old new Listed r h is = subst (λ x. IfErr x (PutRefused g s old new)) (sym is) tt
+not_added g s old new Stored r h is = subst (λ x. IfErr x (PutRefused g s old new)) (sym is) tt
 not_added g s old new NoNumber r h is = subst (λ x. IfErr x (PutRefused g s old new)) (sym is)
-    (λ clean. let k = h clean in (k.0.0, record { trees = k.0.1; committed = ap (λ (v : View). v.committed) k.1; is_open = ap (λ (v : View). v.is_open) k.1; broken = ap (λ (v : View). v.is_broken) k.1 }))
+    (λ clean. let k = h clean in let n = none_added (g.view old).trees (g.view new).trees (cid_bytes s.0) s.1 k.0 in (n.0, record { trees = n.1; committed = ap (λ (v : View). v.committed) k.1; is_open = ap (λ (v : View). v.is_open) k.1; broken = ap (λ (v : View). v.is_broken) k.1 }))
 
 pub is_taken : (old new : View) (name : CidParts) (taken : Bool) → OnlyWrites old new → IsTrue old.is_open → IsKeyed (old.trees name_tree) → Takes old.trees new.trees (cid_bytes name) taken → IsTaken old new name taken
 is_taken old new name true h o keyed t =
-    let rows = rows_left old.trees new.trees (cid_bytes name) t.0 t.3 in
+    let rows = rows_left old.trees new.trees (cid_bytes name) t.0 t.2.1 in
     record {
       was = (λ x. (t.0, t.1), λ x. refl);
-      lists = lists_left old.trees new.trees (cid_bytes name) t.0 keyed t.1 t.2;
-      holds = stored_left old.trees new.trees (cid_bytes name) t.0 keyed t.1 t.2 rows.0 rows.1;
+      lists = lists_left old.trees new.trees (cid_bytes name) t.0 keyed t.1 t.2.0;
+      entries = entries_left old.trees new.trees (cid_bytes name) t.0 keyed t.1 t.2.0;
+      holds = stored_left old.trees new.trees (cid_bytes name) t.0 keyed t.1 t.2.0 rows.0 rows.1;
+      rows = rows_taken old.trees new.trees (cid_bytes name) t.0 keyed t.1 t.2.1;
       committed = ap (λ (v : View). v.committed) h;
+      was_open = o;
       is_open = still_open old new h o;
+      broken = ap (λ (v : View). v.is_broken) h;
     }
 is_taken old new name false h o keyed t =
     let none = t.0 keyed.0 in
@@ -138,8 +260,18 @@ is_taken old new name false h o keyed t =
         λ s. let was = subst (λ x. IsStored x q d) t.1 s in (was, λ e. none (was.id, subst (λ n. Among (name_entry n was.id) (old.trees name_tree)) e was.listed)),
         λ s. subst (λ x. IsStored x q d) (sym t.1) s.0,
       );
+      entries = λ id q. (
+        λ m. let was = subst (λ (x : Trees). Among (name_entry q id) (x name_tree)) t.1 m in (was, λ e. none (id, subst (λ n. Among (name_entry n id) (old.trees name_tree)) e was)),
+        λ h. subst (λ (x : Trees). Among (name_entry q id) (x name_tree)) (sym t.1) h.0,
+      );
+      rows = λ id q d. (
+        λ m. (subst (λ (x : Trees). Among (block_row id q d) (x block_tree)) t.1 m, λ u. none (id, subst (λ n. Among (name_entry n id) (old.trees name_tree)) u.0 u.1)),
+        λ m. subst (λ (x : Trees). Among (block_row id q d) (x block_tree)) (sym t.1) m.0,
+      );
       committed = ap (λ (v : View). v.committed) h;
+      was_open = o;
       is_open = still_open old new h o;
+      broken = ap (λ (v : View). v.is_broken) h;
     }
 
 -- ---- failures

@@ -18,7 +18,7 @@ use Rattle.sqlite_exec.proofs.CheckLemmas.{placed, stepped, ended}
 use Rattle.sqlite_trees.specs.Tree.{IsIndex, from_key, sought, order_of}
 use Rattle.sqlite_trees.proofs.TreeLemmas.{prefix_cmp-one}
 use Rattle.std.proofs.lemmas.Map.Lookups.{exact_bytes}
-use Rattle.dagcbor_car.specs.Sets.{Among}
+use Rattle.ipld_links.specs.Sets.{Among}
 use Rattle.dagcbor_store.specs.Rows.{name_tree, name_entry, IsOther, IsListed, IsNameEntry, AreNameEntries, FindsName, name_cmp, EntersName, IsFirstFrom, FindsFirst, Seeks}
 use Rattle.dagcbor_store.specs.Stored.{bound_behind, IsBehind, IsNext}
 use Rattle.ipld_tree.specs.declared.cid_error.CidError.{CidError}

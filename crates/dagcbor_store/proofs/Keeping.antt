@@ -10,16 +10,16 @@ use Rattle.std.proofs.lemmas.Cmp.{tied_itself}
 use Rattle.std.proofs.lemmas.Map.Lookups.{exact_bytes}
 use Rattle.sqlite_trees.proofs.ListLemmas.{all-filter}
 use Rattle.dagcbor_store.proofs.Finding.{all_among}
-use Rattle.sqlite_trees.specs.Tree.{Trees, rowid, has_rowid, put_row, without_rowid, insert_entry, remove_entry}
+use Rattle.sqlite_trees.specs.Tree.{Trees, rowid, has_rowid, put_row, insert_entry, remove_entry}
 use Rattle.sqlite_trees.specs.View.{View, IsClean, KeepsCommitted, IsRolledBack}
 use Rattle.sqlite_trees.specs.declared.store.Store.{Ghosts}
 use Rattle.sqlite_trees.specs.declared.error.StoreError.{StoreError}
 use Rattle.sqlite_exec.specs.Calls.{OnlyReads}
 use Rattle.dagcbor_store.specs.Ends.{Quiet, Ends}
 use Rattle.ipld_tree.specs.Cid.{IsCid}
-use Rattle.dagcbor_car.specs.Sets.{Among}
-use Rattle.dagcbor_store.specs.Rows.{block_tree, name_tree, block_row, name_entry, IsStored, IsListed, IsNameEntry, AreNameEntries, FindsName, IsFreeId, IsRowOf}
-use Rattle.dagcbor_store.proofs.Numbers.{among_filter, among_unfiltered, has_own}
+use Rattle.ipld_links.specs.Sets.{Among}
+use Rattle.dagcbor_store.specs.Rows.{block_tree, name_tree, block_row, name_entry, IsStored, IsListed, IsNameEntry, AreNameEntries, FindsName, IsFreeId, IsRowOf, ClearsRow}
+use Rattle.dagcbor_store.proofs.Numbers.{among_filter, among_unfiltered, has_own, number_is}
 use Rattle.dagcbor_store.specs.Stored.{IsKeyed, IsReady, IsSame, IsUndone}
 
 -- ---- reads
@@ -206,6 +206,24 @@ module _ (old new : Trees) (name b : List ℕ) (id : ℤ) (keyed : IsKeyed (old 
     λ h. elim h [ inl e ↦ (id, (inserted (name_entry q id)).1 (inl (ap (λ n. name_entry n id) e))) | inr l ↦ (l.0, (inserted (name_entry q l.0)).1 (inr l.1)) ],
   )
 
+  pub rows_since : (i : ℤ) (q d : List ℕ) → Among (block_row i q d) (new block_tree) ↔ (((q ≡ name) × (d ≡ b) × Among (name_entry q i) (new name_tree)) ⊎ Among (block_row i q d) (old block_tree))
+  rows_since i q d = (there, back)
+    where
+      there : Among (block_row i q d) (new block_tree) → ((q ≡ name) × (d ≡ b) × Among (name_entry q i) (new name_tree)) ⊎ Among (block_row i q d) (old block_tree)
+      there m = elim ((put (block_row i q d)).0 m) [
+        | inl r ↦
+            let same = same_row q name d b i id r in
+            inl (same.0, same.1, (inserted (name_entry q i)).1 (inl (ap (λ n. name_entry n i) same.0 ∙ ap (name_entry name) same.2)))
+        | inr was ↦ inr was
+      ]
+
+      back : ((q ≡ name) × (d ≡ b) × Among (name_entry q i) (new name_tree)) ⊎ Among (block_row i q d) (old block_tree) → Among (block_row i q d) (new block_tree)
+      back (inl u) = elim ((inserted (name_entry q i)).0 u.2) [
+        | inl e ↦ (put (block_row i q d)).1 (inl (ap (λ k. block_row k q d) (same_entry q name i id e).1 ∙ ap (λ n. block_row id n d) u.0 ∙ ap (block_row id name) u.1))
+        | inr was ↦ absurd (none (i, subst (λ n. Among (name_entry n i) (old name_tree)) u.0 was))
+      ]
+      back (inr was) = (put (block_row i q d)).1 (inr was)
+
   entries_since : IsCid name → AreNameEntries (new name_tree)
   entries_since cid = subst AreNameEntries (sym entries) (all_inserted (old name_tree) keyed.0)
     where
@@ -270,6 +288,12 @@ module _ (old new : Trees) (name : List ℕ) (id : ℤ) (keyed : IsKeyed (old na
     λ h. (h.0.0, other_left q h.0.0 h.1 h.0.1),
   )
 
+  pub entries_left : (id : ℤ) (q : List ℕ) → Among (name_entry q id) (new name_tree) ↔ (Among (name_entry q id) (old name_tree) × (q ≡ name → ⊥))
+  entries_left i q = (
+    λ m. ((left (name_entry q i) m).0, λ e. none_left i (subst (λ n. Among (name_entry n i) (new name_tree)) e m)),
+    λ h. other_left q i h.1 h.0,
+  )
+
   module _ (rows : (x : Row) → Among x (new block_tree) → Among x (old block_tree)) (others : (q d : List ℕ) (i : ℤ) → (q ≡ name → ⊥) → Among (block_row i q d) (old block_tree) → Among (block_row i q d) (new block_tree)) where
     pub stored_left : (q d : List ℕ) → IsStored new q d ↔ (IsStored old q d × (q ≡ name → ⊥))
     stored_left q d = (
@@ -281,9 +305,9 @@ same_blob : (m n : List ℕ) → Blob m ≡ Blob n → m ≡ n
 same_blob m n e = cc e
 
 -- what is left of the table
-pub rows_left : (old new : Trees) (name : List ℕ) (id : ℤ) → (IsRowOf (old block_tree) id name × (new block_tree ≡ without_rowid id (old block_tree))) ⊎ ((IsRowOf (old block_tree) id name → ⊥) × (new block_tree ≡ old block_tree))
+pub rows_left : (old new : Trees) (name : List ℕ) (id : ℤ) → ClearsRow (old block_tree) (new block_tree) id name
     → ((x : Row) → Among x (new block_tree) → Among x (old block_tree)) × ((q d : List ℕ) (i : ℤ) → (q ≡ name → ⊥) → Among (block_row i q d) (old block_tree) → Among (block_row i q d) (new block_tree))
-rows_left old new name id (inr h) = (λ x there. subst (Among x) h.1 there, λ q d i apart there. subst (Among (block_row i q d)) (sym h.1) there)
+rows_left old new name id (inr h) = (λ x there. subst (Among x) h.2 there, λ q d i apart there. subst (Among (block_row i q d)) (sym h.2) there)
 rows_left old new name id (inl h) = (
   λ x there. (among_unfiltered (λ r. not (has_rowid id r)) x (old block_tree) (subst (Among x) h.1 there)).0,
   λ q d i apart there. subst (Among (block_row i q d)) (sym h.1) (among_filter (λ r. not (has_rowid id r)) (block_row i q d) (old block_tree) (apart_row q d i apart there (has_rowid id (block_row i q d)) refl) there),
@@ -297,3 +321,40 @@ rows_left old new name id (inl h) = (
           | inl same ↦ absurd (apart (same_blob q name (ap (λ (x : Row). column x 1) same ∙ r.2)))
           | inr none ↦ absurd none
         ]
+
+-- the row that the name led to is not left, and each other is
+pub rows_taken : (old new : Trees) (name : List ℕ) (id : ℤ) → IsKeyed (old name_tree) → Among (name_entry name id) (old name_tree) → ClearsRow (old block_tree) (new block_tree) id name
+    → (i : ℤ) (q d : List ℕ) → Among (block_row i q d) (new block_tree) ↔ (Among (block_row i q d) (old block_tree) × ((q ≡ name) × Among (name_entry q i) (old name_tree) → ⊥))
+rows_taken old new name id keyed at clears i q d = by clears
+  where
+    row : Row
+    row = block_row i q d
+
+    number : (q ≡ name) × Among (name_entry q i) (old name_tree) → i ≡ id
+    number u = keyed.1 name i id (subst (λ n. Among (name_entry n i) (old name_tree)) u.0 u.1) at
+
+    led : IsRowOf (old block_tree) id name → Among row (old block_tree) → has_rowid id row ≡ true → (q ≡ name) × Among (name_entry q i) (old name_tree)
+    led r there has =
+        let is : row ≡ r.0 = elim (subst (Among row) r.1 (among_filter (has_rowid id) row (old block_tree) has there)) [ inl same ↦ same | inr none ↦ absurd none ] in
+        let name_is : q ≡ name = same_blob q name (ap (λ (x : Row). column x 1) is ∙ r.2) in
+        let value : Int i ≡ Int id = number_is id row refl has in
+        let id_is : i ≡ id = cc value in
+        (name_is, subst (λ n. Among (name_entry n i) (old name_tree)) (sym name_is) (subst (λ k. Among (name_entry name k) (old name_tree)) (sym id_is) at))
+
+    decide : (t : Bool) → has_rowid id row ≡ t → IsRowOf (old block_tree) id name → Among row (old block_tree) → ((q ≡ name) × Among (name_entry q i) (old name_tree) → ⊥) → not (has_rowid id row) ≡ true
+    decide false e r there none = ap not e
+    decide true e r there none = absurd (none (led r there e))
+
+    by : ClearsRow (old block_tree) (new block_tree) id name → Among row (new block_tree) ↔ (Among row (old block_tree) × ((q ≡ name) × Among (name_entry q i) (old name_tree) → ⊥))
+    by (inl h) = (
+      λ m.
+          let k = among_unfiltered (λ r. not (has_rowid id r)) row (old block_tree) (subst (Among row) h.1 m) in
+          (k.0, λ u. true≢false (sym k.1 ∙ ap not (ap (λ n. has_rowid id (block_row n q d)) (number u) ∙ has_own id (block_row id q d) refl))),
+      λ p. subst (Among row) (sym h.1) (among_filter (λ r. not (has_rowid id r)) row (old block_tree) (decide (has_rowid id row) refl h.0 p.0 p.1) p.0),
+    )
+    by (inr h) = (
+      λ m.
+          let there = subst (Among row) h.2 m in
+          (there, λ u. h.1 d (subst (λ n. Among (block_row id n d) (old block_tree)) u.0 (subst (λ n. Among (block_row n q d) (old block_tree)) (number u) there))),
+      λ p. subst (Among row) (sym h.2) p.0,
+    )

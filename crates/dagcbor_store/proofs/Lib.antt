@@ -12,3 +12,5 @@ pub mod Walking
 pub mod Unlisted
 pub mod Putting
 pub mod Trees
+pub mod Marking
+pub mod Sweeping

@@ -1,5 +1,5 @@
 -- Numbers of rows: which are free, and which row has one.
-use Rattle.std.proofs.Common.{◌≡◌, inl, inr, ℕ, ℤ, pos, ◌+ℤ◌, List, [], ◌∷◌, ◌++◌, filter, Bool, true, false, cond, Less, is_eq, int_cmp, refl, sym, ap, ◌∙◌, subst, true≢false, arith, IsTrue, ◌≢◌, Option, None, Some, MatchOption, option_map, Vec, Global}
+use Rattle.std.proofs.Common.{◌≡◌, inl, inr, ℕ, ℤ, pos, ◌+ℤ◌, List, [], ◌∷◌, ◌++◌, filter, Bool, true, false, cond, Less, is_eq, int_cmp, refl, sym, ap, ◌∙◌, subst, true≢false, arith, IsTrue, ◌≢◌, Option, None, Some, MatchBool, MatchOption, option_map, Vec, Global}
 use Rattle.std.proofs.lemmas.Int.{ints}
 use Rattle.std.proofs.lemmas.Bool.Decides.{nat_tests}
 use Rattle.std.proofs.lemmas.Cmp.{tied_itself}
@@ -11,8 +11,8 @@ use Rattle.sqlite_trees.specs.declared.store.Shape.TheVariants as shape
 use Rattle.sqlite_trees.specs.Tree.{rowid, has_rowid, IsTable}
 use Rattle.sqlite_trees.specs.View.{View, IsShaped, IsOrdered, is_int, Finds}
 use Rattle.sqlite_exec.specs.Write.{IsLast}
-use Rattle.dagcbor_car.specs.Sets.{Among}
-use Rattle.dagcbor_store.specs.Rows.{block_tree, block_row, last_id, IsFreeId, FreesId, ReadsRow}
+use Rattle.ipld_links.specs.Sets.{Among}
+use Rattle.dagcbor_store.specs.Rows.{block_tree, block_row, last_id, IsFreeId, FreesId, ReadsRow, IsRowIn, IsRowOf}
 use Rattle.dagcbor_store.proofs.Finding.{all_among}
 
 pub table_rows : (v : View) → v.shape block_tree ≡ shape.Table → IsOrdered v.shape v.trees → IsShaped shape.Table (v.trees block_tree)
@@ -104,6 +104,26 @@ reads_found rows id name r (Some b) table finds is =
 
 pub reads_none : (rows : List Row) (id : ℤ) (name : List ℕ) (r : Row) → Finds rows id r false → ReadsRow rows id name None
 reads_none rows id name r finds b there = subst (Among (block_row id name b)) finds (among_filter (has_rowid id) (block_row id name b) rows (has_own id (block_row id name b) refl) there)
+
+pub row_in : (rows : List Row) (id : ℤ) (name b : List ℕ) (r : Row) (found : Bool) → IsShaped shape.Table rows → Finds rows id r true
+    → MatchBool found (r ≡ column r 0 ∷ Blob name ∷ Blob b ∷ []) ((i : ℤ) → r ≢ block_row i name b) → IsRowIn rows id name b found
+row_in rows id name b r true table finds is = reads_found rows id name r (Some b) table finds is
+row_in rows id name b r false table finds other = λ there.
+    elim (subst (Among (block_row id name b)) finds (among_filter (has_rowid id) (block_row id name b) rows (has_own id (block_row id name b) refl) there))
+    [ inl same ↦ other id (sym same) | inr none ↦ none ]
+
+-- the row that was found is of another name, or none was found
+pub none_of : (rows : List Row) (id : ℤ) (name : List ℕ) (r : Row) (found : Bool) → Finds rows id r found → (found ≡ true → column r 1 ≢ Blob name) → IsRowOf rows id name → ⊥
+none_of rows id name r false finds other h = absurd (cc (sym finds ∙ h.1))
+none_of rows id name r true finds other h =
+    let is : r ≡ h.0 = cc (sym finds ∙ h.1) in
+    other refl (ap (λ (x : Row). column x 1) is ∙ h.2)
+
+pub none_in : (rows : List Row) (id : ℤ) (name : List ℕ) (r : Row) (found : Bool) → Finds rows id r found → (found ≡ true → column r 1 ≢ Blob name) → (b : List ℕ) → Among (block_row id name b) rows → ⊥
+none_in rows id name r false finds other = reads_none rows id name r finds
+none_in rows id name r true finds other = λ b there.
+    elim (subst (Among (block_row id name b)) finds (among_filter (has_rowid id) (block_row id name b) rows (has_own id (block_row id name b) refl) there))
+    [ inl same ↦ other refl (ap (λ (x : Row). column x 1) (sym same)) | inr none ↦ none ]
 
 pub match_items : (o : Option (Vec ℕ Global)) (P : Type 0) (Q : List ℕ → Type 0) → MatchOption o P (λ v. Q v.items) → MatchOption (option_map (λ (v : Vec ℕ Global). v.items) o) P Q
 match_items None P Q h = h

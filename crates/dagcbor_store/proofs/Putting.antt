@@ -10,14 +10,15 @@ use Rattle.ipld_tree.proofs.Fronts.{front_unique}
 use Rattle.dagcbor_items.specs.Slices.{IsBlock}
 use Rattle.dagcbor_items.proofs.SliceReads.{whole_front}
 use Rattle.dagcbor_write.specs.Answers.{AreSpellingOf}
-use Rattle.dagcbor_car.specs.Names.{block_name}
-use Rattle.dagcbor_store.specs.Stored.{IsNamedBlock, IsPut, IsAddedTo}
+use Rattle.ipld_links.specs.Names.{block_name}
+use Rattle.ipld_links.specs.Sound.{IsSound}
+use Rattle.dagcbor_store.specs.Stored.{IsPut, IsAddedTo}
 use Rattle.dagcbor_store.specs.Values.{PutsValue}
 
-pub puts_value : {S : Type 0} (g : Ghosts S) (tree : Option Tree) (b : List ℕ) (name : CidParts) (old new : S) → AreSpellingOf tree b → name ≡ block_name b → IsNamedBlock (name, b) × (IsClean (g.view new) → IsPut (g.view old) (g.view new) name b) → PutsValue g tree old name new
+pub puts_value : {S : Type 0} (g : Ghosts S) (tree : Option Tree) (b : List ℕ) (name : CidParts) (old new : S) → AreSpellingOf tree b → name ≡ block_name b → IsSound (name, b) × (IsClean (g.view new) → IsPut (g.view old) (g.view new) name b) → PutsValue g tree old name new
 puts_value g None b name old new a named h = absurd a
 puts_value g (Some t) b name old new a named h =
-    let has = h.0.0 in
+    let has = h.0.read (ap (λ (c : CidParts). c.codec) named) in
     let same = front_unique b [] [] has.0 t (whole_front has.1.0) (whole_front a) in
     (subst (λ x. IsBlock x t) a.is (subst (IsBlock b) same.0 has.1), named ∙ ap block_name a.is, λ clean. subst (IsPut (g.view old) (g.view new) name) a.is (h.1 clean))
 

@@ -1,5 +1,5 @@
 -- A file that is read into a store, section by section.
-use Rattle.std.proofs.Common.{◌≡◌, inl, inr, ℕ, List, [], ◌∷◌, ◌++◌, refl, sym, subst, Option, Some, Err}
+use Rattle.std.proofs.Common.{◌≡◌, inl, inr, ℕ, List, [], ◌∷◌, ◌++◌, length, append_assoc, append-nil, refl, sym, ap, ◌∙◌, subst, Option, Some, Result, Ok, Err}
 use Rattle.std.specs.List.{AllByRecursion}
 use Rattle.dagcbor_heads.proofs.Taking.{stays_both}
 use Rattle.dagcbor_heads.specs.Reading.{Reading, Stays}
@@ -11,24 +11,30 @@ use Rattle.dagcbor_car.specs.Sources.{CarRefuses, LacksMemoryIf, TakesStart, Tak
 use Rattle.dagcbor_car.specs.declared.error.CarError.{CarError}
 use Rattle.dagcbor_car.specs.declared.error.CarError.TheVariants.{OutOfMemory}
 use Rattle.dagcbor_car.proofs.Places.{IsPlace, place_begun, place_more, place_front, place_whole, place_end, ended, ends_same}
-use Rattle.dagcbor_store.specs.Stored.{IsNamedBlock, IsUndone, Fails}
+use Rattle.ipld_links.specs.Sound.{IsSound}
+use Rattle.dagcbor_store.specs.Stored.{IsUndone, Fails}
 use Rattle.dagcbor_store.specs.declared.error.StoreRefusal.{StoreRefusal}
-use Rattle.dagcbor_store.specs.Cars.{TellsOfFile, FileRefused, IsReadTo, IsRead, Adds, NextRefused, AddRefused, ReadRefused, StopsAt, of_commit}
+use Rattle.dagcbor_store.specs.Cars.{TellsOfFile, FileRefused, IsReadTo, IsRead, Adds, NextRefused, AddRefused, ReadRefused, StopsAt, TellsOfRun, TakesBlock, of_block, of_commit}
 use Rattle.dagcbor_store.specs.declared.car_error.ReadCarError.{ReadCarError}
+use Rattle.dagcbor_store.specs.declared.car_error.ReadCarError.TheVariants as own
 use Rattle.dagcbor_store.specs.Ends.{Quiet}
-use Rattle.dagcbor_store.proofs.Adding.{not_kept, fails_from}
+use Rattle.dagcbor_store.proofs.Adding.{not_kept, fails_from, quiet_itself, quiet_then, adds_none, adds_more}
+use Rattle.dagcbor_car.proofs.Taking.{lacks_alike}
+use Rattle.dagcbor_car.specs.Each.{TakesEach, StopsEach, RunsEach}
+use Rattle.dagcbor_car.specs.declared.each.ReadCarError as run
+use Rattle.dagcbor_car.specs.declared.each.ReadCarError.TheVariants as stop
 
 -- ---- how far a file was read
 
-named_push : (ss : List Section) (s : Section) → AllByRecursion IsNamedBlock ss → IsNamedBlock s → AllByRecursion IsNamedBlock (ss ++ s ∷ [])
-named_push [] s h p = (p, tt)
-named_push (x ∷ ss) s h p = (h.0, named_push ss s h.1 p)
+sound_push : (ss : List Section) (s : Section) → AllByRecursion IsSound ss → IsSound s → AllByRecursion IsSound (ss ++ s ∷ [])
+sound_push [] s h p = (p, tt)
+sound_push (x ∷ ss) s h p = (h.0, sound_push ss s h.1 p)
 
 -- so many sections were taken
 pub record IsReadAt (roots : List (List ℕ)) (sections : List Section) (old : Reading) (extent : Option ℕ) (now : Reading) : Type 0 where
   pub known : (b : List ℕ) → old.left ≡ Some b → (rest : List ℕ) × (now.left ≡ Some rest) × IsPlace b roots sections extent rest
   pub same : Stays old now
-  pub blocks : AllByRecursion IsNamedBlock sections
+  pub blocks : AllByRecursion IsSound sections
 
 pub read_to : {roots : List (List ℕ)} {ss : List Section} {old : Reading} {extent : Option ℕ} {now : Reading} → IsReadAt roots ss old extent now → IsReadTo roots ss old extent now
 read_to {roots} {ss} {old} {extent} {now} h = record {
@@ -44,7 +50,7 @@ read_begun roots extent old now h = record {
   blocks = tt;
 }
 
-pub read_more : (roots : List (List ℕ)) (ss : List Section) (s : Section) (extent more : Option ℕ) (old mid now : Reading) → IsReadAt roots ss old extent mid → TakesSectionBytes extent mid s more now → IsNamedBlock s
+pub read_more : (roots : List (List ℕ)) (ss : List Section) (s : Section) (extent more : Option ℕ) (old mid now : Reading) → IsReadAt roots ss old extent mid → TakesSectionBytes extent mid s more now → IsSound s
     → IsReadAt roots (ss ++ s ∷ []) old more now
 read_more roots ss s extent more old mid now h k named = record {
   known = λ b l.
@@ -52,7 +58,7 @@ read_more roots ss s extent more old mid now h k named = record {
       let w = k.1.takes.taken far.0 far.1 in
       (w.0, w.2, place_more b w.0 roots ss extent more s (subst (λ x. IsPlace b roots ss extent x) w.1 far.2) k.0 k.1.spends);
   same = stays_both h.same k.1.takes.same;
-  blocks = named_push ss s h.blocks named;
+  blocks = sound_push ss s h.blocks named;
 }
 
 pub read_whole : (roots : List (List ℕ)) (ss : List Section) (extent more : Option ℕ) (old mid new : Reading) → IsReadAt roots ss old extent mid → EndsThere extent mid more new → IsRead roots ss old new
@@ -66,16 +72,12 @@ read_whole roots ss extent more old mid new h end = record {
 
 -- ---- refusals
 
-lacks_alike : {E : Type 0} (T P : Type 0) (e : CarError E) → LacksMemoryIf {T = T} P (Err e) → LacksMemoryIf {T = Unit {0}} P (Err e)
-lacks_alike T P OutOfMemory l = l
-lacks_alike T P e l = tt
-
-pub file_refused : {E : Type 0} (T : Type 0) (stands : CarError E → List ℕ → Type 0) (lacks : Type 0) (e : CarError E) (told : ReadCarError E) (old new : Reading) → TellsOfFile e told → CarRefuses stands old e new → LacksMemoryIf {T = T} lacks (Err e) → FileRefused stands lacks old told new
-file_refused T stands lacks e told old new tells refused memory = (e, tells, refused, lacks_alike T lacks e memory)
+pub file_refused : {E : Type 0} (T : Type 0) (variant : CarError E → ReadCarError E) (stands : CarError E → List ℕ → Type 0) (lacks : Type 0) (e : CarError E) (told : ReadCarError E) (old new : Reading) → TellsOfFile variant e told → CarRefuses stands old e new → LacksMemoryIf {T = T} lacks (Err e) → FileRefused variant stands lacks old told new
+file_refused T variant stands lacks e told old new tells refused memory = (e, tells, refused, lacks_alike T lacks e memory)
 
 module _ {S : Type 0} (g : Ghosts S) where
   stops_at : {E : Type 0} (ss : List Section) (extent : Option ℕ) (mid new : Reading) (before held after last : S) (e : ReadCarError E) → Adds g ss before held → Quiet g held after → Quiet g after last → g.blamed last ≡ g.blamed after
-      → (IsClean (g.view last) → IsUndone (g.view after) (g.view last)) → NextRefused g extent mid held e new after → StopsAt g ss extent mid before e new last
+      → (IsClean (g.view last) → IsUndone (g.view after) (g.view last)) → NextRefused g (length ss) extent mid held e new after → StopsAt g ss extent mid before e new last
   stops_at ss extent mid new before held after last e h quiet behind blame undone (inl f) = inl f.0
   stops_at ss extent mid new before held after last e h quiet behind blame undone (inr p) =
       inr (inl (p.0, p.1, p.2, p.3, p.4, not_kept g ss p.0 before held after last p.2 h quiet behind blame undone p.5))
@@ -101,3 +103,54 @@ module _ {S : Type 0} (g : Ghosts S) where
       → (IsClean (g.view last) → IsClean (g.view after)) → Fails g ⊥ after last told → ReadRefused {E = E} g old before (of_commit told) new last
   commit_refused roots ss extent more old mid new before after last told to end h was f =
       inr (roots, ss, extent, mid, to, inl (inr (inr (more, told, end, refl, fails_from g ⊥ ⊥ ss before after last told h was (λ clean none. none) f))))
+
+-- ---- the sections, one by one
+
+module _ {S : Type 0} (g : Ghosts S) (roots : List (List ℕ)) (start : Reading) (before : S) where
+  -- so many were taken, and added
+  abbrev IsAddedTo : List Section → Option ℕ → Reading → S → Type 0
+  IsAddedTo ss extent source it = IsReadAt roots ss start extent source × Adds g ss before it
+
+  along : (ss more : List Section) (extent rest : Option ℕ) (source mid : Reading) (old new : S) → IsAddedTo ss extent source old → TakesEach (TakesBlock g) extent source old more rest mid new → IsAddedTo (ss ++ more) rest mid new
+  along ss [] extent rest source mid old new h t =
+      subst (λ e. IsAddedTo (ss ++ []) e mid new) (sym t.0)
+      (subst (λ m. IsAddedTo (ss ++ []) extent m new) (sym t.1)
+      (subst (λ x. IsAddedTo (ss ++ []) extent source x) (sym t.2)
+      (subst (λ l. IsAddedTo l extent source old) (sym (append-nil ss)) h)))
+  along ss (s ∷ more) extent rest source mid old new h t =
+      subst (λ l. IsAddedTo l rest mid new) (append_assoc ss (s ∷ []) more)
+      (along (ss ++ s ∷ []) more t.0 rest t.1 mid t.2 new (read_more roots ss s extent t.0 start source t.1 h.0 t.3 t.4.1.0, adds_more g ss s before old t.2 h.1 t.4.1.1 t.4.0) t.5)
+
+  pub added_all : (ss : List Section) (extent rest : Option ℕ) (source mid : Reading) (new : S) → IsReadAt roots [] start extent source → TakesEach (TakesBlock g) extent source before ss rest mid new → IsAddedTo ss rest mid new
+  added_all ss extent rest source mid new h t = along [] ss extent rest source mid before new (h, adds_none g before) t
+
+  stopped : {E : Type 0} (ss : List Section) (extent more : Option ℕ) (mid behind : Reading) (it new : S) (e : run.ReadCarError E StoreRefusal) (told : ReadCarError E) → IsAddedTo ss extent mid it → StopsEach (TakesBlock g) (length ss) extent mid it e more behind new → TellsOfRun e told → AddRefused g start before told behind new
+  stopped ss extent more mid behind it new (stop.Header e) told h k tells = absurd k
+  stopped ss extent more mid behind it new (stop.Section n e) told h k tells =
+      inr (roots, ss, extent, mid, it, read_to h.0, h.1, subst (Quiet g it) (sym k.2) (quiet_itself g it), inl (inl ((e, subst (λ n. TellsOfFile (own.Section n) e told) k.0 tells, k.1.0, k.1.1), k.2)))
+  stopped {E} ss extent more mid behind it new (stop.Block n name refusal) told h k tells =
+      inr (roots, ss, extent, mid, it, read_to h.0, h.1, k.4.0, inl (inr (k.0, more, refusal, k.2, tells ∙ ap (λ n. of_block {E = E} n name refusal) k.1 ∙ ap (λ c. of_block {E = E} (length ss) c refusal) k.3, k.4.1)))
+
+  too_many : {E : Type 0} (n : ℕ) (e : run.ReadCarError E StoreRefusal) (told : ReadCarError E) → e ≡ stop.Section n OutOfMemory → TellsOfRun e told → told ≡ own.OutOfMemory
+  too_many n e told is tells = subst (λ x. TellsOfRun x told) is tells
+
+  pub run_refused : {E : Type 0} (extent more : Option ℕ) (source behind : Reading) (new : S) (e : run.ReadCarError E StoreRefusal) (told : ReadCarError E) → IsReadAt roots [] start extent source → RunsEach (TakesBlock g) extent source before (Err e) more behind new → TellsOfRun e told → AddRefused g start before told behind new
+  run_refused extent more source behind new e told h (ss, rest, mid, it, t, inl k) tells = stopped ss rest more mid behind it new e told (added_all ss extent rest source mid it h t) k tells
+  run_refused extent more source behind new e told h (ss, rest, mid, it, t, inr k) tells =
+      let at = added_all ss extent rest source mid it h t in
+      inr (roots, ss, rest, mid, it, read_to at.0, at.1, subst (Quiet g it) (sym k.1) (quiet_itself g it), inr (k.0, k.1, (too_many (length ss) e told k.2.0 tells, k.2.1)))
+
+module _ {S : Type 0} (g : Ghosts S) where
+  each_quiet : (extent rest : Option ℕ) (source mid : Reading) (old new : S) (ss : List Section) → TakesEach (TakesBlock g) extent source old ss rest mid new → Quiet g old new
+  each_quiet extent rest source mid old new [] t = subst (Quiet g old) (sym t.2) (quiet_itself g old)
+  each_quiet extent rest source mid old new (s ∷ ss) t = quiet_then g old t.2 new t.4.0 (each_quiet t.0 rest t.1 mid t.2 new ss t.5)
+
+  stop_quiet : {E : Type 0} (extent more : Option ℕ) (source behind : Reading) (old new : S) (count : ℕ) (e : run.ReadCarError E StoreRefusal) → StopsEach (TakesBlock g) count extent source old e more behind new → Quiet g old new
+  stop_quiet extent more source behind old new count (stop.Header e) k = absurd k
+  stop_quiet extent more source behind old new count (stop.Section n e) k = subst (Quiet g old) (sym k.2) (quiet_itself g old)
+  stop_quiet extent more source behind old new count (stop.Block n name refusal) k = k.4.0
+
+  pub run_quiet : {E : Type 0} (extent more : Option ℕ) (source behind : Reading) (old new : S) (r : Result ℕ (run.ReadCarError E StoreRefusal)) → RunsEach (TakesBlock g) extent source old r more behind new → Quiet g old new
+  run_quiet extent more source behind old new (Ok count) k = each_quiet extent k.1 source k.2 old new k.0 k.3
+  run_quiet extent more source behind old new (Err e) (ss, rest, mid, it, t, inl k) = quiet_then g old it new (each_quiet extent rest source mid old it ss t) (stop_quiet rest more mid behind it new (length ss) e k)
+  run_quiet extent more source behind old new (Err e) (ss, rest, mid, it, t, inr k) = subst (Quiet g old) (sym k.1) (each_quiet extent rest source mid old it ss t)

@@ -10,7 +10,7 @@ use Rattle.sqlite_value.specs.Keys.{plain, entry_cmp}
 use Rattle.sqlite_value.proofs.KeyLemmas.{entry_cmp_total}
 use Rattle.sqlite_value.proofs.OrderLemmas.{value_cmp_total, value_cmp-Blob}
 use Rattle.sqlite_trees.specs.Tree.{IsIndex, IsAscending}
-use Rattle.dagcbor_car.specs.Sets.{Among}
+use Rattle.ipld_links.specs.Sets.{Among}
 use Rattle.dagcbor_store.specs.Rows.{name_entry, IsNameEntry, AreNameEntries}
 use Rattle.dagcbor_store.specs.Stored.{IsKeyed}
 use Rattle.dagcbor_store.proofs.Finding.{all_among, names_rise}

@@ -8,14 +8,15 @@ use Rattle.sqlite_trees.specs.declared.store.Store.{Ghosts}
 use Rattle.dagcbor_heads.specs.Written.{Written, WroteAll, Stops}
 use Rattle.dagcbor_heads.proofs.Writing.{WroteAll_then, Stops-then}
 use Rattle.ipld_tree.specs.Cid.{CidParts, cid_bytes}
-use Rattle.dagcbor_car.specs.Names.{IsInline}
+use Rattle.ipld_links.specs.Names.{IsInline}
 use Rattle.dagcbor_car.specs.Car.{Section, header_bytes, section_bytes, IsHeader, IsSection}
-use Rattle.dagcbor_car.specs.Sets.{Among}
-use Rattle.dagcbor_car.specs.Reaching.{Stored, IsThere, IsLost, LeadsFar, ListsReachable, ListsLost, IsOver, WalksAt, sections_at}
-use Rattle.dagcbor_car.specs.declared.reach.Reached.{Reached}
-use Rattle.dagcbor_car.specs.declared.reach.Walk.{Walk}
-use Rattle.dagcbor_car.proofs.Members.{push_among}
-use Rattle.dagcbor_car.proofs.Reaching.{none_found}
+use Rattle.ipld_links.specs.Sets.{Among}
+use Rattle.ipld_links.specs.Reaching.{Stored, IsThere, IsLost, LeadsFar, ListsReachable, ListsLost, IsOver, WalksAt}
+use Rattle.dagcbor_car.specs.Reached.{sections_at}
+use Rattle.ipld_links.specs.declared.reach.Reached.{Reached}
+use Rattle.ipld_links.specs.declared.reach.Walk.{Walk}
+use Rattle.ipld_links.proofs.Members.{push_among}
+use Rattle.ipld_links.proofs.Reaching.{none_found}
 use Rattle.dagcbor_car.proofs.Writing.{sections_left}
 use Rattle.dagcbor_store.specs.Rows.{name_tree, IsStored, IsListed}
 use Rattle.dagcbor_store.specs.Stored.{IsNamed, HoldsOnly, GetsSome, Lists, IsDamaged, IsSame, GetRefused}

@@ -1,27 +1,29 @@
 -- The links that lead to nothing in a store.
-use Rattle.std.proofs.Common.{◌≡◌, ◌⊎◌, inl, inr, ℕ, ◌+◌, ◌<◌, ◌≤◌, List, [], ◌∷◌, ◌++◌, length, get_or, take, Bool, true, false, cond, refl, sym, ap, ◌∙◌, subst, arith, add-one, IsTrue, true≢false, ◌↔◌, Option, None, Vec, Result, Ok, Err, OnOk, Global, BTreeSet, take-suc}
+use Rattle.std.proofs.Common.{◌≡◌, ◌⊎◌, inl, inr, ℕ, zero, suc, ◌+◌, ◌<◌, ◌≤◌, List, [], ◌∷◌, ◌++◌, length, get_or, take, Bool, true, false, cond, refl, sym, ap, ◌∙◌, subst, arith, add-one, IsTrue, true≢false, ◌↔◌, Option, None, Vec, Result, Ok, Err, OnOk, Global, BTreeSet, take-suc}
 use Rattle.std.specs.List.Sorted.{IsStrictlySortedBy}
 use Rattle.std.specs.BTreeMap.{is_at}
 use Rattle.std.specs.BTreeSet as set
 use Rattle.std.proofs.Math.Seq.{take-length}
 use Rattle.sqlite_trees.specs.View.{View}
 use Rattle.ipld_tree.specs.Cid.{CidParts, cid_bytes, cid_cmp}
+use Rattle.ipld_tree.proofs.Cids.{cid_unique}
 use Rattle.ipld_tree.specs.Tree.{Tree, links_of}
 use Rattle.ipld_tree.proofs.Fronts.{front_unique}
 use Rattle.dagcbor_items.specs.Walks.{forms}
 use Rattle.dagcbor_items.specs.Slices.{IsBlock}
 use Rattle.dagcbor_items.proofs.SliceReads.{whole_front}
 use Rattle.dagcbor_car.specs.Car.{Section}
-use Rattle.dagcbor_car.specs.Splits.{HasBlock}
-use Rattle.dagcbor_car.specs.Sets.{Among}
-use Rattle.dagcbor_car.specs.Within.{IsReached, IsReachedName, AreFirstNames}
-use Rattle.dagcbor_car.proofs.Within.{reached_cid, not_inline}
-use Rattle.dagcbor_car.proofs.Members.{at_same, same_at, any_among, among_any, among_push, push_among, among_map, map_among, whole_block}
+use Rattle.ipld_links.specs.Blocks.{HasBlock}
+use Rattle.ipld_links.specs.Verdicts.{IsDagCbor}
+use Rattle.ipld_links.specs.Sets.{Among}
+use Rattle.ipld_links.specs.Within.{IsReached, IsReachedName, AreFirstNames}
+use Rattle.ipld_links.proofs.Within.{reached_cid, not_inline}
+use Rattle.ipld_links.proofs.Members.{at_same, same_at, any_among, among_any, among_push, push_among, among_map, map_among, whole_block}
 use Rattle.sqlite_trees.specs.Tree.{Trees}
 use Rattle.dagcbor_store.specs.Rows.{name_tree, IsListed}
 use Rattle.dagcbor_store.specs.Stored.{Lists, IsNext, GivesNext, HoldsOnly, IsSame}
 use Rattle.dagcbor_store.specs.Walking.{AreBlocks}
-use Rattle.dagcbor_store.specs.Missing.{IsLinked, NamesNone, ListsMissing, AddsName, AddsNames, AddsMissing, HasNoBlock}
+use Rattle.dagcbor_store.specs.Lost.{IsLinked, NamesNone, ListsLost, AddsName, AddsNames, AddsLost, AddsOf, HoldsNoneSound, GrowsBy, IsReachedIn}
 use Rattle.dagcbor_store.proofs.Walking.{IsWalked, all_blocks}
 
 -- ---- one name
@@ -43,6 +45,35 @@ name_put v name old new none put q = (
     back : Among q old.keys ⊎ ((q ≡ name) × (Lists v q → ⊥)) → cond (is_at (cid_cmp name) q) true (set.contains cid_cmp old q) ≡ true
     back (inl m) = kept (is_at (cid_cmp name) q) (among_any q old.keys m)
     back (inr u) = ap (λ b. cond b true (set.contains cid_cmp old q)) (same_at name q (sym u.0))
+
+-- a set that got one name, or none
+pub grows_put : (name : CidParts) (old new : BTreeSet CidParts) → ((q : CidParts) → set.contains cid_cmp new q ≡ cond (is_at (cid_cmp name) q) true (set.contains cid_cmp old q)) → GrowsBy (λ q. q ≡ name) old new
+grows_put name old new put q = (
+  λ m. any_among q new.keys (put q ∙ kept (is_at (cid_cmp name) q) (among_any q old.keys m)),
+  λ m. there (is_at (cid_cmp name) q) refl (sym (put q) ∙ among_any q new.keys m),
+)
+  where
+    kept : (b : Bool) {x : Bool} → x ≡ true → cond b true x ≡ true
+    kept true e = refl
+    kept false e = e
+
+    there : (b : Bool) → is_at (cid_cmp name) q ≡ b → cond b true (set.contains cid_cmp old q) ≡ true → Among q old.keys ⊎ (q ≡ name)
+    there true t m = inr (sym (at_same name q t))
+    there false t m = inl (any_among q old.keys m)
+
+pub grows_none : (IsSuch : CidParts → Type 0) (s : BTreeSet CidParts) → GrowsBy IsSuch s s
+grows_none IsSuch s q = (λ m. m, λ m. inl m)
+
+pub grows_more : (P Q R : CidParts → Type 0) (old mid new : BTreeSet CidParts) → ((q : CidParts) → P q → R q) → ((q : CidParts) → Q q → R q) → GrowsBy P old mid → GrowsBy Q mid new → GrowsBy R old new
+grows_more P Q R old mid new f g first next q = (
+  λ m. (next q).0 ((first q).0 m),
+  λ m. elim ((next q).1 m) [ inl was ↦ elim ((first q).1 was) [ inl o ↦ inl o | inr p ↦ inr (f q p) ] | inr p ↦ inr (g q p) ],
+)
+
+pub item_among : {X : Type 0} (xs : List X) (i : ℕ) (x : X) → i < length xs → x ≡ get_or xs i x → Among x xs
+item_among [] i x within is = absurd (omega (arith, within))
+item_among (y ∷ ys) zero x within is = inl is
+item_among (y ∷ ys) (suc i) x within is = inr (item_among ys i x (omega (arith, within)) is)
 
 -- ---- many names
 
@@ -76,8 +107,8 @@ names_all v names i old new below end h =
 
 -- ---- the links of a block
 
-pub adds_missing : (v : View) (b : List ℕ) (names : List CidParts) (old new : BTreeSet CidParts) → HasBlock b → AreFirstNames b names → AddsNames v names old new → AddsMissing v b old new
-adds_missing v b names old new has first added q =
+pub adds_lost : (v : View) (b : List ℕ) (names : List CidParts) (old new : BTreeSet CidParts) → HasBlock b → AreFirstNames b names → AddsNames v names old new → AddsLost v b old new
+adds_lost v b names old new has first added q =
     let block = whole_block b first.1 first.0 has first.2 in (
       λ m. elim ((added q).0 m) [ inl o ↦ inl o | inr u ↦ inr ((first.0, block, (first.4 q).0 u.0), u.1) ],
       λ m. elim m [
@@ -88,33 +119,51 @@ adds_missing v b names old new has first added q =
       ],
     )
 
+pub grows_linked : (b : List ℕ) (names : List CidParts) (old new : BTreeSet CidParts) → HasBlock b → AreFirstNames b names → GrowsBy (λ q. Among q names) old new → GrowsBy (IsReachedIn b) old new
+grows_linked b names old new has first grown q =
+    let block = whole_block b first.1 first.0 has first.2 in
+    ((grown q).0, λ m. elim ((grown q).1 m) [ inl o ↦ inl o | inr u ↦ inr (first.0, block, (first.4 q).0 u) ])
+
 -- ---- the walk
 
--- a link in one of the blocks leads to the name
+-- a link in one of the blocks of DAG-CBOR leads to the name
 abbrev pub LeadsTo : List Section → CidParts → Type 0
-LeadsTo ss q = (s : Section) × Among s ss × ((t : Tree) × IsBlock s.1 t × IsReachedName q (links_of t))
+LeadsTo ss q = (s : Section) × Among s ss × IsDagCbor s.0 × ((t : Tree) × IsBlock s.1 t × IsReachedName q (links_of t))
 
 -- the set has the names that links in these blocks lead to which are not listed
-abbrev pub MissingOf : View → List Section → BTreeSet CidParts → Type 0
-MissingOf v ss s = (q : CidParts) → Among q s.keys ↔ (LeadsTo ss q × (Lists v q → ⊥))
+abbrev pub LostOf : View → List Section → BTreeSet CidParts → Type 0
+LostOf v ss s = (q : CidParts) → Among q s.keys ↔ (LeadsTo ss q × (Lists v q → ⊥))
 
-pub missing_none : (v : View) (s : BTreeSet CidParts) → s.keys ≡ [] → MissingOf v [] s
-missing_none v s none q = (λ m. absurd (subst (Among q) none m), λ h. absurd h.0.1)
+pub lost_none : (v : View) (s : BTreeSet CidParts) → s.keys ≡ [] → LostOf v [] s
+lost_none v s none q = (λ m. absurd (subst (Among q) none m), λ h. absurd h.0.1)
 
-pub missing_push : (v : View) (ss : List Section) (c : CidParts) (b : List ℕ) (old new : BTreeSet CidParts) → MissingOf v ss old → AddsMissing v b old new → MissingOf v (ss ++ (c, b) ∷ []) new
-missing_push v ss c b old new h added q = (
+lost_more : (v : View) (ss : List Section) (c : CidParts) (b : List ℕ) (old new : BTreeSet CidParts) → LostOf v ss old → IsDagCbor c → AddsLost v b old new → LostOf v (ss ++ (c, b) ∷ []) new
+lost_more v ss c b old new h dag added q = (
   λ m. elim ((added q).0 m) [
-    | inl o ↦ let k = (h q).0 o in ((k.0.0, push_among k.0.0 ss (c, b) (inl k.0.1), k.0.2), k.1)
-    | inr u ↦ (((c, b), push_among (c, b) ss (c, b) (inr refl), u.0), u.1)
+    | inl o ↦ let k = (h q).0 o in ((k.0.0, push_among k.0.0 ss (c, b) (inl k.0.1), k.0.2, k.0.3), k.1)
+    | inr u ↦ (((c, b), push_among (c, b) ss (c, b) (inr refl), dag, u.0), u.1)
   ],
   λ k. elim (among_push k.0.0 ss (c, b) k.0.1) [
-    | inl m ↦ (added q).1 (inl ((h q).1 ((k.0.0, m, k.0.2), k.1)))
-    | inr e ↦ (added q).1 (inr (subst (λ (s : Section). (t : Tree) × IsBlock s.1 t × IsReachedName q (links_of t)) e k.0.2, k.1))
+    | inl m ↦ (added q).1 (inl ((h q).1 ((k.0.0, m, k.0.2, k.0.3), k.1)))
+    | inr e ↦ (added q).1 (inr (subst (λ (s : Section). (t : Tree) × IsBlock s.1 t × IsReachedName q (links_of t)) e k.0.3, k.1))
   ],
 )
 
-pub lists_missing : (v : View) (last : Option CidParts) (ss : List Section) (s : BTreeSet CidParts) (links : Vec CidParts Global) → IsWalked v last ss → GivesNext v last None → MissingOf v ss s → IsStrictlySortedBy cid_cmp links.items × (links.items ≡ s.keys) → ListsMissing v links.items
-lists_missing v last ss s links walked none h listed = (listed.0, λ form. (there form, back form))
+lost_skip : (v : View) (ss : List Section) (c : CidParts) (b : List ℕ) (s : BTreeSet CidParts) → LostOf v ss s → (IsDagCbor c → ⊥) → LostOf v (ss ++ (c, b) ∷ []) s
+lost_skip v ss c b s h other q = (
+  λ m. let k = (h q).0 m in ((k.0.0, push_among k.0.0 ss (c, b) (inl k.0.1), k.0.2, k.0.3), k.1),
+  λ k. elim (among_push k.0.0 ss (c, b) k.0.1) [
+    | inl m ↦ (h q).1 ((k.0.0, m, k.0.2, k.0.3), k.1)
+    | inr e ↦ absurd (other (subst (λ (s : Section). IsDagCbor s.0) e k.0.2))
+  ],
+)
+
+pub lost_push : (v : View) (ss : List Section) (c : CidParts) (b : List ℕ) (old new : BTreeSet CidParts) → LostOf v ss old → AddsOf v c b old new → LostOf v (ss ++ (c, b) ∷ []) new
+lost_push v ss c b old new h (inl a) = lost_more v ss c b old new h a.0 a.1
+lost_push v ss c b old new h (inr a) = subst (LostOf v (ss ++ (c, b) ∷ [])) (sym a.1) (lost_skip v ss c b old h a.0)
+
+pub lists_lost : (v : View) (last : Option CidParts) (ss : List Section) (s : BTreeSet CidParts) (links : Vec CidParts Global) → IsWalked v last ss → GivesNext v last None → LostOf v ss s → IsStrictlySortedBy cid_cmp links.items × (links.items ≡ s.keys) → ListsLost v links.items
+lists_lost v last ss s links walked none h listed = (listed.0, λ form. (there form, back form))
   where
     blocks : AreBlocks v ss
     blocks = all_blocks v last ss walked none
@@ -123,17 +172,18 @@ lists_missing v last ss s links walked none h listed = (listed.0, λ form. (ther
     there form m =
         let k = map_among cid_bytes form links.items m in
         let w = (h k.0).0 (subst (Among k.0) listed.1 k.1) in
-        let t = w.0.2 in
+        let t = w.0.3 in
         subst (λ f. IsLinked f v × NamesNone f v) (sym k.2)
-        ((cid_bytes w.0.0.0, w.0.0.1, t.0, (walked.stored w.0.0 w.0.1).0, t.1, t.2.2), (not_inline (cid_bytes k.0) k.0 t.2.0 t.2.1 refl, w.1))
+        ((w.0.0.0, w.0.0.1, t.0, walked.valid w.0.0 w.0.1, w.0.2, (walked.stored w.0.0 w.0.1).0, t.1, t.2.2), (not_inline (cid_bytes k.0) k.0 t.2.0 t.2.1 refl, w.1))
 
     back : (form : List ℕ) → IsLinked form v × NamesNone form v → Among form (forms links.items)
     back form m =
         let l = m.0 in
-        let c = reached_cid l.2 form l.4.0.well_formed l.5 in
-        let at = (blocks.stored l.0 l.1).1 l.3 in
+        let c = reached_cid l.2 form l.6.0.well_formed l.7 in
+        let at = (blocks.stored (cid_bytes l.0) l.1).1 l.5 in
+        let name = cid_unique at.0.0 l.0 (walked.valid at.0 at.1) l.3 at.2 in
         let is = subst (λ f. NamesNone f v) c.2 m.1 in
-        let found = (h c.0).1 ((at.0, at.1, (l.2, subst (λ b. IsBlock b l.2) (sym at.3) l.4, (c.1, λ i. is.0 (c.0, c.1, refl, i), subst (λ f. IsReached f (links_of l.2)) c.2 l.5))), is.1) in
+        let found = (h c.0).1 ((at.0, at.1, subst IsDagCbor (sym name) l.4, (l.2, subst (λ b. IsBlock b l.2) (sym at.3) l.6, (c.1, λ i. is.0 (c.0, c.1, refl, i), subst (λ f. IsReached f (links_of l.2)) c.2 l.7))), is.1) in
         subst (λ f. Among f (forms links.items)) (sym c.2) (among_map cid_bytes c.0 links.items (subst (Among c.0) (sym listed.1) found))
 
 -- ---- the same view
@@ -141,8 +191,12 @@ lists_missing v last ss s links walked none h listed = (listed.0, λ form. (ther
 pub name_same : (old mid : View) (name : CidParts) (s t : BTreeSet CidParts) → IsSame old mid → AddsName mid name s t → AddsName old name s t
 name_same old mid name s t same h = subst (λ (u : Trees). (q : CidParts) → Among q t.keys ↔ (Among q s.keys ⊎ ((q ≡ name) × (IsListed (u name_tree) (cid_bytes q) → ⊥)))) same.trees h
 
-pub missing_same : (old mid : View) (b : List ℕ) (s t : BTreeSet CidParts) → IsSame old mid → AddsMissing mid b s t → AddsMissing old b s t
-missing_same old mid b s t same h = subst (λ (u : Trees). (q : CidParts) → Among q t.keys ↔ (Among q s.keys ⊎ (((x : Tree) × IsBlock b x × IsReachedName q (links_of x)) × (IsListed (u name_tree) (cid_bytes q) → ⊥)))) same.trees h
+pub lost_same : (old mid : View) (b : List ℕ) (s t : BTreeSet CidParts) → IsSame old mid → AddsLost mid b s t → AddsLost old b s t
+lost_same old mid b s t same h = subst (λ (u : Trees). (q : CidParts) → Among q t.keys ↔ (Among q s.keys ⊎ (((x : Tree) × IsBlock b x × IsReachedName q (links_of x)) × (IsListed (u name_tree) (cid_bytes q) → ⊥)))) same.trees h
+
+pub adds_same : (old mid : View) (c : CidParts) (b : List ℕ) (s t : BTreeSet CidParts) → IsSame old mid → AddsOf mid c b s t → AddsOf old c b s t
+adds_same old mid c b s t same (inl a) = inl (a.0, lost_same old mid b s t same a.1)
+adds_same old mid c b s t same (inr a) = inr a
 
 -- ---- calls
 
@@ -150,5 +204,5 @@ pub on_ok_clean : {X E : Type 0} (r : Result X E) (C P Q : Type 0) → OnOk r (C
 on_ok_clean (Ok x) C P Q h f = λ clean. f (h clean)
 on_ok_clean (Err e) C P Q h f = tt
 
-pub no_block_here : (v : View) (last : Option CidParts) (n : CidParts) (b : List ℕ) (r : Bool) → IsNext (v.trees name_tree) last n → HoldsOnly v n b → r ≡ false → (IsTrue r ↔ HasBlock b) → HasNoBlock v n
-no_block_here v last n b r next only none tells = (next.listed, λ d s named has. true≢false (sym (tells.1 (subst HasBlock (only.1 d s) has)) ∙ none))
+pub none_sound_here : (v : View) (last : Option CidParts) (n : CidParts) (b : List ℕ) (r : Bool) → IsNext (v.trees name_tree) last n → HoldsOnly v n b → IsDagCbor n → r ≡ false → (IsTrue r ↔ HasBlock b) → HoldsNoneSound v n
+none_sound_here v last n b r next only dag none tells = (next.listed, λ d s sound. true≢false (sym (tells.1 (subst HasBlock (only.1 d s) (sound.read dag))) ∙ none))

@@ -7,17 +7,17 @@ use Rattle.sqlite_trees.specs.View.{View, IsClean}
 use Rattle.sqlite_trees.specs.declared.store.Store.{Ghosts}
 use Rattle.dagcbor_heads.specs.Written.{Written, WroteAll, Stops}
 use Rattle.dagcbor_heads.proofs.Writing.{WroteAll_then, Stops-then}
-use Rattle.ipld_tree.specs.Cid.{CidParts, cid_bytes}
+use Rattle.ipld_tree.specs.Cid.{CidParts, AreCidParts, cid_bytes}
 use Rattle.dagcbor_car.specs.Car.{Section, header_bytes, section_bytes, car_bytes, IsHeader, IsSection, IsCar}
-use Rattle.dagcbor_car.specs.Sets.{Among}
-use Rattle.dagcbor_car.proofs.Members.{among_push}
+use Rattle.ipld_links.specs.Sets.{Among}
+use Rattle.ipld_links.proofs.Members.{among_push}
 use Rattle.dagcbor_car.proofs.Places.{flat_push}
 use Rattle.dagcbor_store.specs.Rows.{name_tree, name_cmp, IsStored, IsListed}
 use Rattle.dagcbor_store.specs.Stored.{IsNamed, IsBehind, IsNext, GivesNext, HoldsOnly, IsDamaged, IsSame, Fails, GetRefused, TellsOfStore}
 use Rattle.sqlite_trees.specs.declared.error.StoreError.{StoreError}
 use Rattle.sqlite_trees.specs.declared.error.StoreError.TheVariants as stored
 use Rattle.dagcbor_store.specs.Cars.{IsNameIn, IsSectionIn}
-use Rattle.dagcbor_store.specs.Walking.{AreBefore, AreRising, AreFirstBlocks, AreBlocks, AreNamed, WalkRefused, WriteRefused, HeaderUnwritten, NextUnwritten}
+use Rattle.dagcbor_store.specs.Walking.{AreBefore, AreRising, AreFirstBlocks, AreBlocks, AreNamed, WalkRefused, IsOfNext, WriteRefused, HeaderUnwritten, NextUnwritten}
 use Rattle.dagcbor_store.specs.declared.error.StoreRefusal.{StoreRefusal}
 use Rattle.dagcbor_store.specs.declared.error.StoreRefusal.TheVariants as refusal
 use Rattle.dagcbor_store.specs.declared.car_error.WriteCarError.{WriteCarError}
@@ -29,13 +29,14 @@ use Rattle.dagcbor_store.proofs.Adding.{push_name, quiet_itself, quiet_then, las
 -- ---- how far a walk has come
 
 pub record IsWalked (v : View) (last : Option CidParts) (sections : List Section) : Type 0 where
+  pub valid : (s : Section) → Among s sections → AreCidParts s.0
   pub stored : (s : Section) → Among s sections → HoldsOnly v s.0 s.1
   pub rising : AreRising sections
   pub last_is : (q : List ℕ) → IsBehind last q ↔ AreBefore sections q
   pub reached : (q : List ℕ) → IsListed (v.trees name_tree) q → IsNameIn sections q ⊎ AreBefore sections q
 
 pub walked_none : (v : View) → IsWalked v None []
-walked_none v = record { stored = λ s m. absurd m; rising = tt; last_is = λ q. (λ h. tt, λ h. tt); reached = λ q l. inr tt }
+walked_none v = record { valid = λ s m. absurd m; stored = λ s m. absurd m; rising = tt; last_is = λ q. (λ h. tt, λ h. tt); reached = λ q l. inr tt }
 
 before_then : (ss : List Section) (c q : List ℕ) → AreBefore ss c → name_cmp c q ≡ Less → AreBefore ss q
 before_then [] c q all less = tt
@@ -47,6 +48,7 @@ all_last P (y ∷ ys) x all = all_last P ys x all.1
 
 pub walked_more : (v : View) (last : Option CidParts) (ss : List Section) (c : CidParts) (b : List ℕ) → IsWalked v last ss → IsNext (v.trees name_tree) last c → HoldsOnly v c b → IsWalked v (Some c) (ss ++ (c, b) ∷ [])
 walked_more v last ss c b h n holds = record {
+  valid = λ s m. elim (among_push s ss (c, b) m) [ inl o ↦ h.valid s o | inr e ↦ subst (λ (x : Section). AreCidParts x.0) (sym e) n.valid ];
   stored = λ s m. elim (among_push s ss (c, b) m) [ inl o ↦ h.stored s o | inr e ↦ subst (λ (x : Section). HoldsOnly v x.0 x.1) (sym e) holds ];
   rising = ascending_more (λ (s t : Section). name_cmp (cid_bytes s.0) (cid_bytes t.0) ≡ Less) ss (c, b) h.rising before;
   last_is = λ q. (
@@ -124,6 +126,10 @@ module _ {S : Type 0} (g : Ghosts S) where
   pub fails_walk : (old new : S) (told : StoreRefusal) → Fails g ⊥ old new told → WalkRefused g old new told
   fails_walk old new (refusal.Damaged n) f = absurd (not_damaged f.0 n f.1)
   fails_walk old new told f = f
+
+  pub get_of_next : (name : CidParts) (last : Option CidParts) (old mid new : S) (told : StoreRefusal) → (IsClean (g.view new) → IsNext ((g.view old).trees name_tree) last name) → GetRefused g name mid new told → IsOfNext g last old new told
+  get_of_next name last old mid new (refusal.Damaged n) next p = λ clean. subst (IsNext ((g.view old).trees name_tree) last) (sym p.0) (next clean)
+  get_of_next name last old mid new _ next p = tt
 
   get_walk : (name : CidParts) (old new : S) (told : StoreRefusal) → GetRefused g name old new told → WalkRefused g old new told
   get_walk name old new (refusal.Damaged n) p = λ clean. let k = p.1 clean in (subst (IsDamaged (g.view old)) (sym p.0) k.0, k.1)

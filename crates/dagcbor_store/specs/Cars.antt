@@ -1,5 +1,5 @@
 -- What is read into a store from a file of blocks.
-use Rattle.std.specs.Prelude.{◌≡◌, ◌↔◌, ◌⊎◌, ℕ, ◌-◌, ◌^◌, List, length, Option, None, Some, IsTrue, Result, Err, MatchBool, MatchResult, Bool, Vec}
+use Rattle.std.specs.Prelude.{◌≡◌, ◌↔◌, ◌⊎◌, ℕ, ◌-◌, ◌^◌, List, length, Option, None, Some, IsTrue, Result, Err, MatchResult, Vec}
 use Rattle.std.specs.List.{AllByRecursion}
 use Rattle.std.specs.declared.alloc.Global.{Global}
 use Rattle.sqlite_trees.specs.Tree.{Trees}
@@ -13,12 +13,15 @@ use Rattle.dagcbor_car.specs.Versions.{IsFile}
 use Rattle.dagcbor_car.specs.Extents.{within, wanting, of_file, EndsThere}
 use Rattle.dagcbor_car.specs.Sources.{CarRefuses, RefusesStart, RefusesNext, TakesSectionBytes, LacksMemoryIf, FileLacks, SectionLacks}
 use Rattle.dagcbor_car.specs.Checks.{IsFileFront, StandBehind}
-use Rattle.dagcbor_car.specs.Sets.{Among}
+use Rattle.ipld_links.specs.Sets.{Among}
+use Rattle.ipld_links.specs.Sound.{IsSound}
 use Rattle.dagcbor_car.specs.declared.error.CarError.{CarError}
 use Rattle.dagcbor_car.specs.declared.error.CarError.TheVariants as file
+use Rattle.dagcbor_car.specs.declared.each.ReadCarError as run
+use Rattle.dagcbor_car.specs.declared.each.ReadCarError.TheVariants as stop
 use Rattle.dagcbor_store.specs.Rows.{block_tree, name_tree, IsStored, IsListed, FreesId, IsTooLong}
 use Rattle.dagcbor_store.specs.Ends.{Quiet}
-use Rattle.dagcbor_store.specs.Stored.{IsNamedBlock, IsUnfit, IsAdded, Fails, PutRefused}
+use Rattle.dagcbor_store.specs.Stored.{IsUnfit, IsAdded, Fails, PutRefused}
 use Rattle.dagcbor_store.specs.declared.error.StoreRefusal.{StoreRefusal}
 use Rattle.dagcbor_store.specs.declared.error.StoreRefusal.TheVariants as refusal
 use Rattle.dagcbor_store.specs.declared.car_error.ReadCarError.{ReadCarError}
@@ -34,14 +37,12 @@ IsNameIn sections q = (s : Section) × Among s sections × (cid_bytes s.0 ≡ q)
 abbrev pub IsSectionIn : List Section → List ℕ → List ℕ → Type 0
 IsSectionIn sections q b = (s : Section) × Among s sections × (cid_bytes s.0 ≡ q) × (s.1 ≡ b)
 
--- What was stored and listed is, and so is each of these sections whose name was not listed. Where sections have
--- one name, the bytes of one of them are stored.
+-- Under the name of each section the bytes of a section of that name are stored, and no others; under each other name
+-- what was stored there.
 pub record HoldsSections (old new : Trees) (sections : List Section) : Type 0 where
-  pub kept : (q b : List ℕ) → IsStored old q b → IsStored new q b
-  pub only : (q b : List ℕ) → IsStored new q b
-      → IsStored old q b ⊎ ((IsListed (old name_tree) q → ⊥) × IsSectionIn sections q b)
-  pub each : (q : List ℕ) → IsNameIn sections q
-      → IsListed (old name_tree) q ⊎ ((b : List ℕ) × IsStored new q b)
+  pub named : (q b : List ℕ) → IsNameIn sections q → IsStored new q b → IsSectionIn sections q b
+  pub each : (q : List ℕ) → IsNameIn sections q → (b : List ℕ) × IsStored new q b
+  pub others : (q b : List ℕ) → (IsNameIn sections q → ⊥) → IsStored new q b ↔ IsStored old q b
   pub lists : (q : List ℕ) → IsListed (new name_tree) q
       ↔ (IsNameIn sections q ⊎ IsListed (old name_tree) q)
 
@@ -54,43 +55,48 @@ pub record IsFilled (old new : View) (sections : List Section) : Type 0 where
 -- ---- the file
 
 -- want of memory is never inside another refusal
-abbrev pub TellsOfFile : {E : Type 0} → CarError E → ReadCarError E → Type 0
-TellsOfFile file.OutOfMemory told = told ≡ car.OutOfMemory
-TellsOfFile error told = told ≡ car.Car error
+abbrev pub TellsOfFile : {E : Type 0} → (CarError E → ReadCarError E) → CarError E → ReadCarError E → Type 0
+TellsOfFile variant file.OutOfMemory told = told ≡ car.OutOfMemory
+TellsOfFile variant error told = told ≡ variant error
 
--- the refusal is that of the file, which `CarRefuses` says of this cause; memory is wanted only where that lacks it
-abbrev pub FileRefused : {E : Type 0} → (CarError E → List ℕ → Type 0) → Type 0 → Reading
-    → ReadCarError E → Reading → Type 0
-FileRefused stands lacks old told new = (e : CarError _) × TellsOfFile e told
+-- the refusal is that of the file, which `CarRefuses` says of this cause, told so; memory is wanted only where that
+-- lacks it
+abbrev pub FileRefused : {E : Type 0} → (CarError E → ReadCarError E) → (CarError E → List ℕ → Type 0) → Type 0
+    → Reading → ReadCarError E → Reading → Type 0
+FileRefused variant stands lacks old told new = (e : CarError _) × TellsOfFile variant e told
     × CarRefuses stands old e new × LacksMemoryIf {T = Unit {0}} lacks (Err e)
 
 -- the header of these roots and these sections stood first in a file, and were taken, and so much of it is left; the
--- sections are blocks under their names
+-- sections are sound
 pub record IsReadTo (roots : List (List ℕ)) (sections : List Section) (old : Reading) (extent : Option ℕ) (now : Reading) : Type 0 where
   pub known : (b : List ℕ) → old.left ≡ Some b → (rest : List ℕ) × (now.left ≡ Some rest)
       × IsFileFront b roots sections (wanting extent rest) (within extent rest)
   pub same : Stays old now
-  pub blocks : AllByRecursion IsNamedBlock sections
+  pub blocks : AllByRecursion IsSound sections
 
 -- the bytes left, where they are known, are the file of these roots and sections, and it is taken, and nothing behind
--- it; the sections are blocks under their names
+-- it; the sections are sound
 pub record IsRead (roots : List (List ℕ)) (sections : List Section) (old new : Reading) : Type 0 where
   pub is_car : (b : List ℕ) → old.left ≡ Some b
       → IsFile b roots sections × ((rest : List ℕ) × StandBehind b rest × (new.left ≡ Some rest))
   pub same : Stays old new
-  pub blocks : AllByRecursion IsNamedBlock sections
+  pub blocks : AllByRecursion IsSound sections
 
 -- ---- refusals
 
--- how the refusal of the block of a section is told: one of the block with its name, and one of the store as such
-abbrev pub of_block : {E : Type 0} → CidParts → StoreRefusal → ReadCarError E
-of_block name refusal.OtherHash = car.Block name refusal.OtherHash
-of_block name refusal.OtherBytes = car.Block name refusal.OtherBytes
-of_block name refusal.OtherCodec = car.Block name refusal.OtherCodec
-of_block name (refusal.NoBlock e) = car.Block name (refusal.NoBlock e)
-of_block name refusal.TooLong = car.Block name refusal.TooLong
-of_block name refusal.OutOfMemory = car.OutOfMemory
-of_block name told = car.Store told
+-- how the refusal of the block of a section, behind so many, is told: one of the block with that number and its name,
+-- and one of the store as such
+abbrev pub of_block : {E : Type 0} → ℕ → CidParts → StoreRefusal → ReadCarError E
+of_block count name (refusal.Unsound e) = car.Block count name (refusal.Unsound e)
+of_block count name refusal.TooLong = car.Block count name refusal.TooLong
+of_block count name refusal.OutOfMemory = car.OutOfMemory
+of_block count name told = car.Store told
+
+-- how it is told why not all sections were added
+abbrev pub TellsOfRun : {E : Type 0} → run.ReadCarError E StoreRefusal → ReadCarError E → Type 0
+TellsOfRun (stop.Header e) told = TellsOfFile car.Header e told
+TellsOfRun (stop.Section n e) told = TellsOfFile (car.Section n) e told
+TellsOfRun (stop.Block n name refusal) told = told ≡ of_block n name refusal
 
 -- the same of the commit
 abbrev pub of_commit : {E : Type 0} → StoreRefusal → ReadCarError E
@@ -101,7 +107,7 @@ of_commit told = car.Store told
 abbrev pub NumbersEnd : Trees → List Section → Type 0
 NumbersEnd old sections = (mid : Trees) × HoldsSections old mid sections × FreesId (mid block_tree) None
 
--- Why the block of a section, behind these, is not kept: it is none under its name, or too long for a row; no number
+-- Why the block of a section, behind these, is not kept: it is not sound, or too long for a row; no number
 -- is left; or the store failed.
 abbrev pub NotKept : {S : Type 0} → Ghosts S → List Section → Section → S → S → StoreRefusal → Type 0
 NotKept g sections s old new told = IsUnfit s told
@@ -112,9 +118,9 @@ NotKept g sections s old new told = IsUnfit s told
 -- taken, is refused; or it is the end, and the commit failed
 abbrev pub StopsAt : {S E : Type 0} → Ghosts S → List Section → Option ℕ → Reading → S → ReadCarError E → Reading → S → Type 0
 StopsAt g sections extent old before e new after =
-    FileRefused (RefusesNext extent) (SectionLacks (of_file extent old)) old e new
+    FileRefused (car.Section (length sections)) (RefusesNext extent) (SectionLacks (of_file extent old)) old e new
     ⊎ (((s : Section) × (more : Option ℕ) × (told : StoreRefusal) × TakesSectionBytes extent old s more new
-    × (e ≡ of_block s.0 told) × NotKept g sections s before after told)
+    × (e ≡ of_block (length sections) s.0 told) × NotKept g sections s before after told)
     ⊎ ((more : Option ℕ) × (told : StoreRefusal) × EndsThere extent old more new × (e ≡ of_commit told)
     × Fails g ⊥ before after told))
 
@@ -124,7 +130,7 @@ AreTooMany sections e = (e ≡ car.OutOfMemory) × (length sections ≡ 2 ^ 64 -
 
 -- why a file is not read: none begins; or else behind some of its sections there is a cause
 abbrev pub ReadRefused : {S E : Type 0} → Ghosts S → Reading → S → ReadCarError E → Reading → S → Type 0
-ReadRefused g old before e new after = FileRefused RefusesStart (FileLacks old) old e new
+ReadRefused g old before e new after = FileRefused car.Header RefusesStart (FileLacks old) old e new
     ⊎ ((roots : List (List ℕ)) × (sections : List Section) × (extent : Option ℕ) × (mid : Reading)
     × IsReadTo roots sections old extent mid
     × (StopsAt g sections extent mid before e new after ⊎ ((new ≡ mid) × AreTooMany sections e)))
@@ -150,35 +156,25 @@ pub record Adds {S : Type 0} (g : Ghosts S) (sections : List Section) (old new :
   pub quiet : Quiet g old new
 
 -- The block of a section is added under its name, or refused.
-abbrev pub AddsSection : {S E : Type 0} → Ghosts S → Section → S → Result (Unit {0}) (ReadCarError E) → S → Type 0
-AddsSection g s before result after = MatchResult result
-    (λ _. IsNamedBlock s × (IsClean (g.view after) → IsAdded (g.view before) (g.view after) s.0 s.1))
-    (λ e. (told : StoreRefusal) × (e ≡ of_block s.0 told) × PutRefused g s before after told)
+abbrev pub TakesBlock : {S : Type 0} → Ghosts S → Section → S → Result (Unit {0}) StoreRefusal → S → Type 0
+TakesBlock g s before result after = Quiet g before after × MatchResult result
+    (λ _. IsSound s × (IsClean (g.view after) → IsAdded (g.view before) (g.view after) s.0 s.1))
+    (λ told. PutRefused g s before after told)
 
--- why the next section is not added
-abbrev pub NextRefused : {S E : Type 0} → Ghosts S → Option ℕ → Reading → S → ReadCarError E → Reading → S → Type 0
-NextRefused g extent old before e new after =
-    (FileRefused (RefusesNext extent) (SectionLacks (of_file extent old)) old e new × (after ≡ before))
+-- why the next section, behind so many, is not added
+abbrev pub NextRefused : {S E : Type 0} → Ghosts S → ℕ → Option ℕ → Reading → S → ReadCarError E → Reading → S → Type 0
+NextRefused g count extent old before e new after =
+    (FileRefused (car.Section count) (RefusesNext extent) (SectionLacks (of_file extent old)) old e new × (after ≡ before))
     ⊎ ((s : Section) × (more : Option ℕ) × (told : StoreRefusal) × TakesSectionBytes extent old s more new
-    × (e ≡ of_block s.0 told) × PutRefused g s before after told)
-
--- The section at the front is taken, and added; or the end is found.
-abbrev pub AddsNext : {S E : Type 0} → Ghosts S → Option ℕ → Reading → S → Result Bool (ReadCarError E)
-    → Option ℕ → Reading → S → Type 0
-AddsNext g extent old before result rest new after = MatchResult result
-    (λ more. MatchBool more
-    ((s : Section) × TakesSectionBytes extent old s rest new × IsNamedBlock s
-    × (IsClean (g.view after) → IsAdded (g.view before) (g.view after) s.0 s.1))
-    (EndsThere extent old rest new × (after ≡ before)))
-    (λ e. NextRefused g extent old before e new after)
+    × (e ≡ of_block count s.0 told) × PutRefused g s before after told)
 
 -- why not all of a file is added
 abbrev pub AddRefused : {S E : Type 0} → Ghosts S → Reading → S → ReadCarError E → Reading → S → Type 0
-AddRefused {S} g old before e new after = (FileRefused RefusesStart (FileLacks old) old e new × (after ≡ before))
+AddRefused {S} g old before e new after = (FileRefused car.Header RefusesStart (FileLacks old) old e new × (after ≡ before))
     ⊎ ((roots : List (List ℕ)) × (sections : List Section) × (extent : Option ℕ) × (mid : Reading) × (held : S)
     × IsReadTo roots sections old extent mid × Adds g sections before held
     × Quiet g held after
-    × (NextRefused g extent mid held e new after ⊎ ((new ≡ mid) × (after ≡ held) × AreTooMany sections e)))
+    × (NextRefused g (length sections) extent mid held e new after ⊎ ((new ≡ mid) × (after ≡ held) × AreTooMany sections e)))
 
 -- The sections of a whole file are added, so many.
 abbrev pub AddsCar : {S E : Type 0} → Ghosts S → Reading → S → Result (Vec CidParts Global × ℕ) (ReadCarError E)

@@ -12,11 +12,11 @@ use Rattle.sqlite_trees.specs.Tree.{Trees, IsIndex, from_key, rowid, has_rowid, 
 use Rattle.sqlite_trees.specs.View.{IsStorable, IsStorableRow}
 use Rattle.ipld_tree.specs.Cid.{CidParts, AreCidParts, cid_bytes, IsCid}
 use Rattle.ipld_tree.specs.declared.cid_error.CidError.{CidError}
-use Rattle.dagcbor_car.specs.Sets.{Among}
+use Rattle.ipld_links.specs.Sets.{Among}
 use Rattle.dagcbor_store.specs.declared.entries.Found.{Found}
 use Rattle.dagcbor_store.specs.declared.entries.Found.TheVariants.{Nothing, NoRow, Block}
 use Rattle.dagcbor_store.specs.declared.entries.Added.{Added}
-use Rattle.dagcbor_store.specs.declared.entries.Added.TheVariants.{New, Listed, NoNumber}
+use Rattle.dagcbor_store.specs.declared.entries.Added.TheVariants.{New, Stored, NoNumber}
 
 -- the tree of the table `block`: a number, a name in its binary form and the bytes, in each row
 abbrev pub block_tree : ℕ
@@ -114,31 +114,60 @@ Gets trees name Nothing = FindsName (trees name_tree) name None
 Gets trees name NoRow = (id : ℤ) × Among (name_entry name id) (trees name_tree) × ReadsRow (trees block_tree) id name None
 Gets trees name (Block v) = (id : ℤ) × Among (name_entry name id) (trees name_tree) × ReadsRow (trees block_tree) id name (Some v.items)
 
--- what comes of a block that is to be kept: it is new, or its name is listed; or no number is left
-abbrev pub Adds : Trees → Trees → List ℕ → List ℕ → Added → Type 0
-Adds old new name b New = ((id : ℤ) × FindsName (old name_tree) name None × IsFreeId (old block_tree) id
-    × (new block_tree ≡ put_row (block_row id name b) (old block_tree))
-    × (new name_tree ≡ insert_entry plain (name_entry name id) (old name_tree)))
-Adds old new name b Listed = IsListed (old name_tree) name × (new ≡ old)
-Adds old new name b NoNumber = FreesId (old block_tree) None × (new ≡ old)
-
 -- the number of a row leads to a row of the name
 abbrev pub IsRowOf : List Row → ℤ → List ℕ → Type 0
 IsRowOf rows id name = (r : Row) × (filter (has_rowid id) rows ≡ r ∷ []) × (column r 1 ≡ Blob name)
 
--- the row with the number is taken out where it is of the name, and the index is not changed
+-- the row with the number is taken out where it is of the name; or it is of none, and nothing is changed
+abbrev pub ClearsRow : List Row → List Row → ℤ → List ℕ → Type 0
+ClearsRow old new id name = (IsRowOf old id name × (new ≡ without_rowid id old))
+    ⊎ ((IsRowOf old id name → ⊥) × ((b : List ℕ) → Among (block_row id name b) old → ⊥) × (new ≡ old))
+
+-- the same of a database, whose index is not changed
 abbrev pub TakesRow : Trees → Trees → ℤ → List ℕ → Type 0
-TakesRow old new id name = (new name_tree ≡ old name_tree)
-    × ((IsRowOf (old block_tree) id name × (new block_tree ≡ without_rowid id (old block_tree)))
-    ⊎ ((IsRowOf (old block_tree) id name → ⊥) × (new block_tree ≡ old block_tree)))
+TakesRow old new id name = (new name_tree ≡ old name_tree) × ClearsRow (old block_tree) (new block_tree) id name
 
 -- the entry is taken out of the index, and the row of the name with it, if there is one
+abbrev pub TakesEntry : Trees → Trees → ℤ → List ℕ → Type 0
+TakesEntry old new id name = (new name_tree ≡ remove_entry plain (name_entry name id) (old name_tree))
+    × ClearsRow (old block_tree) (new block_tree) id name
+
+-- the name is not listed, and nothing is changed; or its entry is taken out
 abbrev pub Takes : Trees → Trees → List ℕ → Bool → Type 0
 Takes old new name false = FindsName (old name_tree) name None × (new ≡ old)
-Takes old new name true = (id : ℤ) × Among (name_entry name id) (old name_tree)
-    × (new name_tree ≡ remove_entry plain (name_entry name id) (old name_tree))
-    × ((IsRowOf (old block_tree) id name × (new block_tree ≡ without_rowid id (old block_tree)))
-    ⊎ ((IsRowOf (old block_tree) id name → ⊥) × (new block_tree ≡ old block_tree)))
+Takes old new name true = (id : ℤ) × Among (name_entry name id) (old name_tree) × TakesEntry old new id name
+
+-- ---- adding
+
+-- the row with the number is of the name, and has these bytes; or no such row is there
+abbrev pub IsRowIn : List Row → ℤ → List ℕ → List ℕ → Bool → Type 0
+IsRowIn rows id name b true = ReadsRow rows id name (Some b)
+IsRowIn rows id name b false = Among (block_row id name b) rows → ⊥
+
+-- a row of their own has the name and the bytes, and the name leads to it
+abbrev pub Writes : Trees → Trees → List ℕ → List ℕ → Type 0
+Writes old new name b = (id : ℤ) × IsFreeId (old block_tree) id
+    × (new block_tree ≡ put_row (block_row id name b) (old block_tree))
+    × (new name_tree ≡ insert_entry plain (name_entry name id) (old name_tree))
+
+-- what comes of a block whose name is not listed: it is new, or no number is left
+abbrev pub Appends : Trees → Trees → List ℕ → List ℕ → Added → Type 0
+Appends old new name b New = Writes old new name b
+Appends old new name b Stored = ⊥
+Appends old new name b NoNumber = FreesId (old block_tree) None × (new ≡ old)
+
+-- what comes of a block whose name has an entry with this number: it is not in that row, and written
+-- anew; or it is, and nothing is changed; or no number is left
+abbrev pub Renews : Trees → Trees → ℤ → List ℕ → List ℕ → Added → Type 0
+Renews old new id name b New = (Among (block_row id name b) (old block_tree) → ⊥)
+    × ((mid : Trees) × TakesEntry old mid id name × Writes mid new name b)
+Renews old new id name b Stored = ReadsRow (old block_tree) id name (Some b) × (new ≡ old)
+Renews old new id name b NoNumber = FreesId (old block_tree) None × (new ≡ old)
+
+-- what comes of a block that is to be kept
+abbrev pub Adds : Trees → Trees → List ℕ → List ℕ → Added → Type 0
+Adds old new name b added = (FindsName (old name_tree) name None × Appends old new name b added)
+    ⊎ ((id : ℤ) × Among (name_entry name id) (old name_tree) × Renews old new id name b added)
 
 -- the row or its entry is too long for a database
 abbrev pub IsTooLong : (ℕ → ℕ) → List ℕ → List ℕ → Type 0

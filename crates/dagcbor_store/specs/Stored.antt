@@ -12,16 +12,14 @@ use Rattle.sqlite_trees.specs.declared.store.Shape.TheVariants as shape
 use Rattle.sqlite_trees.specs.declared.error.StoreError.{StoreError}
 use Rattle.sqlite_trees.specs.declared.error.StoreError.TheVariants as stored
 use Rattle.ipld_tree.specs.Cid.{CidParts, AreCidParts, cid_bytes}
-use Rattle.dagcbor_car.specs.Names.{IsBySha256, block_name}
+use Rattle.ipld_links.specs.Names.{IsBySha256}
+use Rattle.ipld_links.specs.Sound.{IsUnsound}
 use Rattle.dagcbor_car.specs.Car.{Section}
-use Rattle.dagcbor_car.specs.Splits.{HasBlock}
-use Rattle.dagcbor_car.specs.Verdicts.{IsVerdict}
-use Rattle.dagcbor_car.specs.declared.verdict.Verdict.TheVariants as verdict
-use Rattle.dagcbor_car.specs.Sets.{Among}
-use Rattle.dagcbor_store.specs.Rows.{block_tree, name_tree, name_entry, name_cmp, IsStored, IsListed, AreNameEntries, FreesId, IsTooLong}
+use Rattle.ipld_links.specs.Sets.{Among}
+use Rattle.dagcbor_store.specs.Rows.{block_tree, name_tree, block_row, name_entry, name_cmp, IsStored, IsListed, AreNameEntries, FreesId, IsTooLong}
 use Rattle.std.specs.declared.alloc.Global.{Global}
 use Rattle.dagcbor_store.specs.declared.entries.Added.{Added}
-use Rattle.dagcbor_store.specs.declared.entries.Added.TheVariants.{New, Listed, NoNumber}
+use Rattle.dagcbor_store.specs.declared.entries.Added.TheVariants.{New, Stored, NoNumber}
 use Rattle.dagcbor_store.specs.declared.entries.Found.{Found}
 use Rattle.dagcbor_store.specs.declared.entries.Found.TheVariants.{Nothing, NoRow, Block}
 use Rattle.dagcbor_store.specs.declared.error.StoreRefusal.{StoreRefusal}
@@ -133,7 +131,7 @@ IsVerified name (Block v) r = ((r ≡ Ok (Some v)) × IsNamed name v.items) ⊎ 
 -- a block was refused only for want of a number
 abbrev pub IsToldAdded : Added → Result (Unit {0}) StoreRefusal → Type 0
 IsToldAdded New r = r ≡ Ok tt
-IsToldAdded Listed r = r ≡ Ok tt
+IsToldAdded Stored r = r ≡ Ok tt
 IsToldAdded NoNumber r = r ≡ Err refusal.NoNumber
 
 -- ---- committing
@@ -154,27 +152,22 @@ pub record IsKeptBy {S : Type 0} (g : Ghosts S) (old new : S) : Type 0 where
 
 -- ---- putting and taking out
 
--- the bytes are a block of DAG-CBOR that is read within 256 steps, and the name is theirs
-abbrev pub IsNamedBlock : Section → Type 0
-IsNamedBlock s = HasBlock s.1 × (s.0 ≡ block_name s.1)
-
--- why bytes are no block under the name
+-- why a block is not kept under the name
 abbrev pub IsUnfit : Section → StoreRefusal → Type 0
-IsUnfit s refusal.OtherHash = ¬ IsBySha256 s.0
-IsUnfit s refusal.OtherBytes = IsBySha256 s.0 × IsVerdict s verdict.OtherBytes
-IsUnfit s refusal.OtherCodec = IsBySha256 s.0 × IsVerdict s verdict.NotRead
-IsUnfit s (refusal.NoBlock e) = IsBySha256 s.0 × IsVerdict s (verdict.Refused e)
+IsUnfit s (refusal.Unsound e) = IsUnsound s e
 IsUnfit s _ = ⊥
 
--- what is stored is what was stored, and the block under its name, where nothing was listed under it
-pub record HoldsAlso (old new : Trees) (name b : List ℕ) : Type 0 where
-  pub unlisted : IsListed (old name_tree) name → ⊥
-  pub holds : (q d : List ℕ) → IsStored new q d ↔ (((q ≡ name) × (d ≡ b)) ⊎ IsStored old q d)
-  pub lists : (q : List ℕ) → IsListed (new name_tree) q ↔ ((q ≡ name) ⊎ IsListed (old name_tree) q)
-
--- the block is stored too, or nothing is changed where its name is listed
-abbrev pub IsAddedTo : Trees → Trees → CidParts → List ℕ → Type 0
-IsAddedTo old new name b = HoldsAlso old new (cid_bytes name) b ⊎ (IsListed (old name_tree) (cid_bytes name) × (new ≡ old))
+-- The block is stored under its name, and nothing else; under each other name what was stored there. The table has the
+-- row of the block, and the rows that it had, but that to which the name led. Where just the block was stored under it,
+-- nothing is changed.
+pub record IsAddedTo (old new : Trees) (name : CidParts) (b : List ℕ) : Type 0 where
+  pub stored : (d : List ℕ) → IsStored new (cid_bytes name) d ↔ (d ≡ b)
+  pub others : (q d : List ℕ) → q ≢ cid_bytes name → IsStored new q d ↔ IsStored old q d
+  pub lists : (q : List ℕ) → IsListed (new name_tree) q ↔ ((q ≡ cid_bytes name) ⊎ IsListed (old name_tree) q)
+  pub rows : (id : ℤ) (q d : List ℕ) → Among (block_row id q d) (new block_tree)
+      ↔ (((q ≡ cid_bytes name) × (d ≡ b) × Among (name_entry q id) (new name_tree))
+      ⊎ (Among (block_row id q d) (old block_tree) × ¬ ((q ≡ cid_bytes name) × Among (name_entry q id) (old name_tree))))
+  pub same : IsStored old (cid_bytes name) b → new ≡ old
 
 -- the same, and what was committed stands
 pub record IsAdded (old new : View) (name : CidParts) (b : List ℕ) : Type 0 where
@@ -192,13 +185,20 @@ pub record IsPut (old new : View) (name : CidParts) (b : List ℕ) : Type 0 wher
   pub committed : new.committed ≡ new.trees
   pub is_open : IsTrue new.is_open
 
--- what is stored is what was stored under the other names; nothing is changed where the name is not listed
+-- what is stored is what was stored under the other names; nothing is changed where the name is not listed; the index
+-- has the entries that it had of the others, and the table the rows that it had, but that to which the name led
 pub record IsTaken (old new : View) (name : CidParts) (taken : Bool) : Type 0 where
   pub was : IsTrue taken ↔ Lists old name
   pub holds : (q d : List ℕ) → IsStored new.trees q d ↔ (IsStored old.trees q d × (q ≢ cid_bytes name))
   pub lists : (q : List ℕ) → IsListed (new.trees name_tree) q ↔ (IsListed (old.trees name_tree) q × (q ≢ cid_bytes name))
+  pub entries : (id : ℤ) (q : List ℕ) → Among (name_entry q id) (new.trees name_tree)
+      ↔ (Among (name_entry q id) (old.trees name_tree) × (q ≢ cid_bytes name))
+  pub rows : (id : ℤ) (q d : List ℕ) → Among (block_row id q d) (new.trees block_tree)
+      ↔ (Among (block_row id q d) (old.trees block_tree) × ¬ ((q ≡ cid_bytes name) × Among (name_entry q id) (old.trees name_tree)))
   pub committed : new.committed ≡ old.committed
+  pub was_open : IsTrue old.is_open
   pub is_open : IsTrue new.is_open
+  pub broken : new.is_broken ≡ old.is_broken
 
 -- The bytes are no block under the name, and nothing is changed; a row has the greatest number; or the store failed.
 abbrev pub PutRefused : {S : Type 0} → Ghosts S → Section → S → S → StoreRefusal → Type 0

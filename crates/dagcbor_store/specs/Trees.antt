@@ -1,17 +1,18 @@
 -- The blocks of a store that links lead to from a root, and the file of them.
-use Rattle.std.specs.Prelude.{◌≡◌, ◌↔◌, ◌⊎◌, ℕ, List, [], ◌∷◌, ◌++◌, Some, Result, MatchResult}
+use Rattle.std.specs.Prelude.{◌≡◌, ◌↔◌, ◌⊎◌, ℕ, List, [], ◌∷◌, ◌++◌, Some, Result, Err, MatchResult, Bool, ⊤}
 use Rattle.sqlite_trees.specs.View.{View, IsClean}
 use Rattle.sqlite_trees.specs.declared.store.Store.{Ghosts}
 use Rattle.dagcbor_heads.specs.Written.{Written, WroteAll, Stops}
 use Rattle.ipld_tree.specs.Cid.{CidParts, cid_bytes}
 use Rattle.dagcbor_car.specs.Car.{Section, car_bytes, section_bytes, IsSection, IsCar}
-use Rattle.dagcbor_car.specs.Sets.{Among}
-use Rattle.dagcbor_car.specs.Reaching.{Stored, LeadsFar, IsLost, ListsReachable, ListsLost, sections_at, Walks, WalksAt}
-use Rattle.dagcbor_car.specs.declared.reach.Reached.{Reached}
-use Rattle.dagcbor_car.specs.declared.reach.Walk.{Walk}
+use Rattle.ipld_links.specs.Sets.{Among}
+use Rattle.ipld_links.specs.Reaching.{Stored, LeadsFar, IsLost, ListsReachable, ListsLost, Walks, WalksAt}
+use Rattle.dagcbor_car.specs.Reached.{sections_at}
+use Rattle.ipld_links.specs.declared.reach.Reached.{Reached}
+use Rattle.ipld_links.specs.declared.reach.Walk.{Walk}
 use Rattle.dagcbor_store.specs.Rows.{IsStored}
 use Rattle.dagcbor_store.specs.Stored.{IsNamed, HoldsOnly, Lists, IsDamaged, IsSame, Fails}
-use Rattle.dagcbor_store.specs.Walking.{AreNamed}
+use Rattle.dagcbor_store.specs.Walking.{AreNamed, UnsentWithoutMemory}
 use Rattle.dagcbor_store.specs.declared.error.StoreRefusal.{StoreRefusal}
 use Rattle.dagcbor_store.specs.declared.error.StoreRefusal.TheVariants as refusal
 use Rattle.dagcbor_store.specs.declared.car_error.WriteCarError.{WriteCarError}
@@ -77,6 +78,11 @@ TreeRefused g root old before (tree.Unwritten (car.Store told)) after new = Reac
     × ((after ≡ before) ⊎ ((sections : List Section) × AreNamed sections
     × WroteAll (Some (tree_bytes root sections)) before after
     × (IsClean (g.view new) → OfStored (g.view old) (λ stored. ¬ IsLost stored root × AreFirstReached stored root sections))))
+
+-- where the writer takes no memory, want of memory for it comes before anything is sent
+abbrev pub TreeUnsent : {T E : Type 0} → Bool → Written → Result T (WriteTreeError E) → Written → Type 0
+TreeUnsent takes_memory old (Err (tree.Unwritten e)) new = UnsentWithoutMemory {T = Unit {0}} takes_memory old (Err e) new
+TreeUnsent takes_memory old _ new = ⊤
 
 -- ---- steps
 

@@ -12,7 +12,8 @@ use Rattle.dagcbor_items.specs.Shapes.{Shape}
 use Rattle.dagcbor_items.specs.Slices.{IsBlock}
 use Rattle.dagcbor_write.specs.Answers.{HasNoSpelling}
 use Rattle.dagcbor_read.specs.Whole.{IsWhole, HoldsNoValue, OfWhole, LacksMemoryIf}
-use Rattle.dagcbor_car.specs.Names.{block_name}
+use Rattle.ipld_links.specs.Names.{block_name}
+use Rattle.ipld_links.specs.Verdicts.{IsDagCbor}
 use Rattle.dagcbor_store.specs.Stored.{Lists, HoldsOnly, IsNamed, IsSame, IsPut, GetRefused, PutRefused}
 use Rattle.dagcbor_store.specs.declared.value.PutError.{PutError}
 use Rattle.dagcbor_store.specs.declared.value.PutError.TheVariants as put
@@ -29,19 +30,24 @@ abbrev pub PutValueRefused : {S : Type 0} → Ghosts S → Option Tree → S →
 PutValueRefused g tree old (put.Encode e) new = (new ≡ old) × ((e ≡ unwritten.OutOfMemory) ⊎ HasNoSpelling tree)
 PutValueRefused g tree old (put.Store told) new = IsSomeAnd tree (λ t. PutRefused g (block_name (spelling t), spelling t) old new told)
 
--- the value is the one that bytes of the name show to the type
+-- the name is of DAG-CBOR, and the value is the one that bytes of the name show to the type
 abbrev pub ShowsNamed : {T V : Type 0} → (T → V) → Shape Tree V → CidParts → Option T → Type 0
 ShowsNamed show shape name None = ⊤
-ShowsNamed show shape name (Some x) = (b : List ℕ) × IsNamed name b × IsWhole shape default_steps b (show x)
+ShowsNamed show shape name (Some x) = IsDagCbor name × ((b : List ℕ) × IsNamed name b × IsWhole shape default_steps b (show x))
 
 -- none where nothing is listed under the name, else what the bytes that are stored under it show to the type
 abbrev pub GetsValue : {T V : Type 0} → (T → V) → Shape Tree V → View → CidParts → Option T → Type 0
 GetsValue show shape v name None = Lists v name → ⊥
-GetsValue show shape v name (Some x) = (b : List ℕ) × HoldsOnly v name b × IsWhole shape default_steps b (show x)
+GetsValue show shape v name (Some x) = IsDagCbor name × ((b : List ℕ) × HoldsOnly v name b × IsWhole shape default_steps b (show x))
 
--- bytes of the name, which are stored under it, show nothing to the type; or it takes memory; or they were not got
+-- bytes of the name are stored under it, and nothing has changed
+abbrev pub HoldsNamed : {S : Type 0} → Ghosts S → CidParts → List ℕ → S → S → Type 0
+HoldsNamed g name b old new = IsNamed name b × (IsClean (g.view new) → HoldsOnly (g.view old) name b × IsSame (g.view old) (g.view new))
+
+-- a block of another codec is stored under the name; or bytes of a name of DAG-CBOR show nothing to the type, or it takes
+-- memory; or they were not got
 abbrev pub GetValueRefused : {S V : Type 0} → Ghosts S → Shape Tree V → CidParts → S → GetError → S → Type 0
-GetValueRefused g shape name old (got.Decode e) new = OfWhole e × LacksMemoryIf (shape.memory false) e
-    × ((b : List ℕ) × IsNamed name b × ((e ≡ unread.OutOfMemory) ⊎ HoldsNoValue shape default_steps b)
-    × (IsClean (g.view new) → HoldsOnly (g.view old) name b × IsSame (g.view old) (g.view new)))
+GetValueRefused g shape name old (got.Decode e) new = IsDagCbor name × OfWhole e × LacksMemoryIf (shape.memory false) e
+    × ((b : List ℕ) × HoldsNamed g name b old new × ((e ≡ unread.OutOfMemory) ⊎ HoldsNoValue shape default_steps b))
+GetValueRefused g shape name old got.OtherCodec new = (¬ IsDagCbor name) × ((b : List ℕ) × HoldsNamed g name b old new)
 GetValueRefused g shape name old (got.Store told) new = GetRefused g name old new told

@@ -1,5 +1,5 @@
 -- A walk over the blocks of a store, in the order of their names.
-use Rattle.std.specs.Prelude.{◌≡◌, ◌↔◌, ◌⊎◌, ℕ, List, ⊤, Option, None, Some, Vec, Result, MatchResult, MatchOption}
+use Rattle.std.specs.Prelude.{◌≡◌, ◌↔◌, ◌⊎◌, ℕ, List, ⊤, Option, None, Some, Vec, Result, Err, MatchResult, MatchOption, Bool, false, IsTrue}
 use Rattle.std.specs.List.{AllByRecursion}
 use Rattle.std.specs.declared.alloc.Global.{Global}
 use Rattle.std.specs.declared.cmp.Ordering.TheVariants.{Less}
@@ -7,9 +7,10 @@ use Rattle.sqlite_trees.specs.Tree.{IsAscending}
 use Rattle.sqlite_trees.specs.View.{View, IsClean}
 use Rattle.sqlite_trees.specs.declared.store.Store.{Ghosts}
 use Rattle.dagcbor_heads.specs.Written.{Written, WroteAll, Stops}
+use Rattle.dagcbor_heads.specs.declared.error.EncodeError.TheVariants as unsent
 use Rattle.ipld_tree.specs.Cid.{CidParts, cid_bytes}
 use Rattle.dagcbor_car.specs.Car.{Section, header_bytes, section_bytes, car_bytes, IsHeader, IsSection}
-use Rattle.dagcbor_car.specs.Sets.{Among}
+use Rattle.ipld_links.specs.Sets.{Among}
 use Rattle.dagcbor_store.specs.Rows.{name_tree, name_cmp, IsStored, IsListed}
 use Rattle.dagcbor_store.specs.Stored.{IsNamed, IsNext, GivesNext, HoldsOnly, IsDamaged, IsSame, Fails}
 use Rattle.dagcbor_store.specs.Cars.{IsNameIn, IsSectionIn}
@@ -47,6 +48,11 @@ abbrev pub WalkRefused : {S : Type 0} → Ghosts S → S → S → StoreRefusal 
 WalkRefused g old new (refusal.Damaged n) = IsClean (g.view new) → IsDamaged (g.view old) n × IsSame (g.view old) (g.view new)
 WalkRefused g old new told = Fails g ⊥ old new told
 
+-- what is damaged is stored under the first name behind the last one
+abbrev pub IsOfNext : {S : Type 0} → Ghosts S → Option CidParts → S → S → StoreRefusal → Type 0
+IsOfNext g last old new (refusal.Damaged n) = IsClean (g.view new) → IsNext ((g.view old).trees name_tree) last n
+IsOfNext g last old new _ = ⊤
+
 -- the first block behind the last name, or none where no name is listed there
 abbrev pub NextBlock : View → Option CidParts → Option (CidParts × Vec ℕ Global) → Type 0
 NextBlock v last None = GivesNext v last None
@@ -67,7 +73,17 @@ WriteRefused g roots old before (car.Store told) after new = (sections : List Se
     × (IsClean (g.view new) → AreFirstBlocks (g.view old) sections)
     × WroteAll (Some (car_bytes roots sections)) before after × WalkRefused g old new told
 
+-- where the writer takes no memory, want of memory for it comes before anything is sent
+abbrev pub UnsentWithoutMemory : {T E : Type 0} → Bool → Written → Result T (WriteCarError E) → Written → Type 0
+UnsentWithoutMemory takes_memory old (Err (car.Write unsent.OutOfMemory)) new = takes_memory ≡ false → new ≡ old
+UnsentWithoutMemory takes_memory old _ new = ⊤
+
 -- ---- steps
+
+-- want of memory for the writer is answered only where it may take some
+abbrev pub WantsMemoryOnlyIf : {T E : Type 0} → Bool → Result T (WriteCarError E) → Type 0
+WantsMemoryOnlyIf may (Err (car.Write unsent.OutOfMemory)) = IsTrue may
+WantsMemoryOnlyIf may _ = ⊤
 
 -- why the header is not appended
 abbrev pub HeaderUnwritten : {E : Type 0} → List (List ℕ) → Written → Written → WriteCarError E → Type 0

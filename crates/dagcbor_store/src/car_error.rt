@@ -1,10 +1,11 @@
 //! Why a file of blocks was not read into a store.
 
 ghost use Rattle.std.specs.Prelude.{◌≡◌};
-ghost use Rattle.dagcbor_store.specs.Cars.{TellsOfFile, of_block, of_commit};
+ghost use Rattle.dagcbor_store.specs.Cars.{TellsOfFile, TellsOfRun, of_block, of_commit};
+ghost use Rattle.dagcbor_store.specs.declared.car_error.ReadCarError.TheVariants.{Header, Section};
 
 use crate::error::StoreRefusal;
-use dagcbor_car::CarError;
+use dagcbor_car::{CarError, ReadCarError as RunError};
 use dagcbor_heads::EncodeError;
 use ipld_tree::Cid;
 use thiserror::Error;
@@ -12,12 +13,17 @@ use thiserror::Error;
 /// Why a file of blocks was not read into a store. `E` is the reader's error.
 #[derive(Debug, Drop, Error)]
 pub enum ReadCarError<E> {
-    /// The bytes are no file, or were not read. Never want of memory.
+    /// No file begins there, or its header was not read. Never want of memory.
     #[error("{0}")]
-    Car(CarError<E>),
-    /// The block of the section of this name is none under it, or too long for a row.
-    #[error("{1}")]
-    Block(Cid, StoreRefusal),
+    Header(CarError<E>),
+    /// Behind so many sections none stands, though bytes do or are wanting; or the next was not read.
+    /// Never want of memory.
+    #[error("behind {0} sections: {1}")]
+    Section(u64, CarError<E>),
+    /// Behind so many sections the block of the one of this name is not kept under it, or too long
+    /// for a row.
+    #[error("behind {0} sections: {2}")]
+    Block(u64, Cid, StoreRefusal),
     /// The store failed, or no number is left for a row. Never want of memory.
     #[error("{0}")]
     Store(StoreRefusal),
@@ -49,28 +55,47 @@ pub enum WriteTreeError<E> {
 }
 
 impl<E: Drop> ReadCarError<E> {
-    /// Want of memory is told as such.
-    pub(crate) fn of_file(error: CarError<E>) -> ReadCarError<E>
-        ensures { TellsOfFile error result }
+    /// Why no file begins. Want of memory is told as such.
+    pub(crate) fn of_header(error: CarError<E>) -> ReadCarError<E>
+        ensures { TellsOfFile Header error result }
     {
         match error {
             CarError::OutOfMemory => ReadCarError::OutOfMemory,
-            _ => ReadCarError::Car(error),
+            _ => ReadCarError::Header(error),
         }
     }
 
-    /// Why the block of a section of this name is not kept.
-    pub(crate) fn of_block(name: Cid, refusal: StoreRefusal) -> ReadCarError<E>
-        ensures { result ≡ of_block name refusal }
+    /// Why behind so many sections none stands. Want of memory is told as such.
+    fn of_section(count: u64, error: CarError<E>) -> ReadCarError<E>
+        ensures { TellsOfFile (Section count) error result }
+    {
+        match error {
+            CarError::OutOfMemory => ReadCarError::OutOfMemory,
+            _ => ReadCarError::Section(count, error),
+        }
+    }
+
+    /// Why the block of a section of this name, behind so many, is not kept.
+    fn of_block(count: u64, name: Cid, refusal: StoreRefusal) -> ReadCarError<E>
+        ensures { result ≡ of_block count name refusal }
     {
         match refusal {
-            StoreRefusal::OtherHash
-            | StoreRefusal::OtherBytes
-            | StoreRefusal::OtherCodec
-            | StoreRefusal::NoBlock(_)
-            | StoreRefusal::TooLong => ReadCarError::Block(name, refusal),
+            StoreRefusal::Unsound(_) | StoreRefusal::TooLong => {
+                ReadCarError::Block(count, name, refusal)
+            }
             StoreRefusal::OutOfMemory => ReadCarError::OutOfMemory,
             _ => ReadCarError::Store(refusal),
+        }
+    }
+
+    /// Why not all sections were added.
+    pub(crate) fn of_run(error: RunError<E, StoreRefusal>) -> ReadCarError<E>
+        ensures { TellsOfRun error result }
+    {
+        match error {
+            RunError::Header(error) => ReadCarError::of_header(error),
+            RunError::Section(count, error) => ReadCarError::of_section(count, error),
+            RunError::Block(count, name, refusal) => ReadCarError::of_block(count, name, refusal),
         }
     }
 

@@ -1,6 +1,6 @@
 //! The rows of the two trees: blocks by their numbers, and numbers by the names of blocks.
 
-ghost use Rattle.std.specs.Prelude.{◌≡◌, ◌≢◌, ◌↔◌, ◌∷◌, [], IsTrue, MatchOption, option_map, pos, ◌+ℤ◌, IfOk, OnOk};
+ghost use Rattle.std.specs.Prelude.{◌≡◌, ◌≢◌, ◌↔◌, ◌∷◌, [], IsTrue, MatchBool, MatchOption, option_map, pos, ◌+ℤ◌, IfOk, OnOk};
 ghost use Rattle.sqlite_value.specs.declared.value.Value.TheVariants.{Int, Blob};
 ghost use Rattle.sqlite_value.specs.Value.{owned};
 ghost use Rattle.sqlite_value.specs.Order.{column};
@@ -9,7 +9,7 @@ ghost use Rattle.sqlite_trees.specs.View.{IsClean, IsStorable, OnlyWrites, SetsT
 ghost use Rattle.sqlite_trees.specs.Tree.{put_row, insert_entry, remove_entry};
 ghost use Rattle.sqlite_exec.specs.Calls.{OnlyReads};
 ghost use Rattle.dagcbor_store.specs.Ends.{Ends, HasNames, HasBlocks};
-ghost use Rattle.dagcbor_store.specs.Rows.{block_tree, name_tree, block_row, name_entry, IsOther, Seeks, FindsName, EntersName, FindsFirst, FreesId, last_id, ReadsRow, Gets, Adds, IsTooLong, Takes, TakesRow};
+ghost use Rattle.dagcbor_store.specs.Rows.{block_tree, name_tree, block_row, name_entry, IsOther, Seeks, FindsName, EntersName, FindsFirst, FreesId, last_id, ReadsRow, IsRowIn, Gets, Adds, Appends, Renews, IsTooLong, Takes, TakesEntry, TakesRow};
 
 use ipld_tree::{Cid, CidError};
 use sqlite_exec::write::last;
@@ -40,7 +40,8 @@ pub(crate) const CURSOR: u16 = 0;
 #[derive(Clone, Copy, Debug, PartialEq, Eq)]
 pub(crate) enum Added {
     New,
-    Listed,
+    /// The bytes stood in the row of the name, and nothing was changed.
+    Stored,
     /// A row has the greatest number.
     NoNumber,
 }
@@ -219,7 +220,37 @@ fn bytes_in(alloc: Global, row: &Row, name: &[u8]) -> Result<Option<Vec<u8>>, Al
     }
 }
 
-/// Keeps the bytes in a row of their own, and lists the name.
+/// Whether the row is one of the name with just these bytes.
+fn is_row(row: &Row, name: &[u8], bytes: &[u8]) -> bool
+    ensures { MatchBool result
+        (row.now ≡ column row.now 0 ∷ Blob name.now ∷ Blob bytes.now ∷ [])
+        ((id : _) → row.now ≢ block_row id name.now bytes.now) }
+{
+    row.len() == 3 && is_blob(row.get(1), name) && is_blob(row.get(2), bytes)
+}
+
+/// Whether the row with the number is of the name, and has just these bytes.
+fn is_stored<S: Store>(
+    store: &mut S,
+    row: &mut Row,
+    id: i64,
+    name: &[u8],
+    bytes: &[u8],
+) -> Result<bool, StoreError>
+    requires blocks { HasBlocks S.Store store.old }
+    ensures ok { IfOk result (λ is_there. IsClean (S.Store.view store.new)
+        → IsRowIn ((S.Store.view store.old).trees block_tree) id name.now bytes.now is_there) }
+    ensures ends { Ends S.Store OnlyReads ⊥ result store.old store.new }
+{
+    if store.get(BLOCKS, id, row)? {
+        Ok(is_row(row, name, bytes))
+    } else {
+        Ok(false)
+    }
+}
+
+/// Keeps the bytes in a row of their own, and lists the name. Nothing is changed where they stand
+/// under the name; what else is listed under it is taken out.
 pub(crate) fn add<S: Store>(
     store: &mut S,
     row: &mut Row,
@@ -235,13 +266,60 @@ pub(crate) fn add<S: Store>(
         (IsTooLong (S.Store.view store.old).reals name.now bytes.now)
         result store.old store.new }
 {
-    if find(store, row, name)?.is_some() {
-        return Ok(Added::Listed);
+    match find(store, row, name)? {
+        Some(id) => renew(store, row, id, name, bytes),
+        None => append(store, row, name, bytes),
     }
+}
+
+/// The same of a name that is not listed.
+fn append<S: Store>(
+    store: &mut S,
+    row: &mut Row,
+    name: &[u8],
+    bytes: &[u8],
+) -> Result<Added, StoreError>
+    requires blocks { HasBlocks S.Store store.old }
+    requires names { HasNames S.Store store.old }
+    ensures ok { IfOk result (λ added. IsClean (S.Store.view store.new)
+        → Appends (S.Store.view store.old).trees (S.Store.view store.new).trees
+        name.now bytes.now added) }
+    ensures ends { Ends S.Store OnlyWrites
+        (IsTooLong (S.Store.view store.old).reals name.now bytes.now)
+        result store.old store.new }
+{
     let Some(id) = free_number(store, row)? else {
         return Ok(Added::NoNumber);
     };
     put(store, row, id, name, bytes)?;
+    Ok(Added::New)
+}
+
+/// The same of a name whose entry has this number.
+fn renew<S: Store>(
+    store: &mut S,
+    row: &mut Row,
+    id: i64,
+    name: &[u8],
+    bytes: &[u8],
+) -> Result<Added, StoreError>
+    requires blocks { HasBlocks S.Store store.old }
+    requires names { HasNames S.Store store.old }
+    ensures ok { IfOk result (λ added. IsClean (S.Store.view store.new)
+        → Renews (S.Store.view store.old).trees (S.Store.view store.new).trees
+        id name.now bytes.now added) }
+    ensures ends { Ends S.Store OnlyWrites
+        (IsTooLong (S.Store.view store.old).reals name.now bytes.now)
+        result store.old store.new }
+{
+    if is_stored(store, row, id, name, bytes)? {
+        return Ok(Added::Stored);
+    }
+    let Some(fresh) = free_number(store, row)? else {
+        return Ok(Added::NoNumber);
+    };
+    take_entry(store, row, id, name)?;
+    put(store, row, fresh, name, bytes)?;
     Ok(Added::New)
 }
 
@@ -302,9 +380,25 @@ pub(crate) fn take<S: Store>(store: &mut S, row: &mut Row, name: &[u8]) -> Resul
     let Some(id) = find(store, row, name)? else {
         return Ok(false);
     };
-    take_row(store, row, id, name)?;
-    unlist(store, row, id, name)?;
+    take_entry(store, row, id, name)?;
     Ok(true)
+}
+
+/// Takes the entry of the name, and its row where that is of the name.
+fn take_entry<S: Store>(
+    store: &mut S,
+    row: &mut Row,
+    id: i64,
+    name: &[u8],
+) -> Result<(), StoreError>
+    requires blocks { HasBlocks S.Store store.old }
+    requires names { HasNames S.Store store.old }
+    ensures ok { OnOk result (IsClean (S.Store.view store.new)
+        → TakesEntry (S.Store.view store.old).trees (S.Store.view store.new).trees id name.now) }
+    ensures ends { Ends S.Store OnlyWrites ⊥ result store.old store.new }
+{
+    take_row(store, row, id, name)?;
+    unlist(store, row, id, name)
 }
 
 /// Takes the row with the number out, where it is of the name.

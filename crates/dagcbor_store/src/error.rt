@@ -3,29 +3,19 @@
 ghost use Rattle.dagcbor_store.specs.Opened.{TellsOfOpening};
 ghost use Rattle.dagcbor_store.specs.Stored.{TellsOfStore};
 
-use dagcbor_heads::DecodeError;
+use ipld_links::Unsound;
 use ipld_tree::Cid;
 use sqlite_store::OpenError;
 use sqlite_trees::error::StoreError;
-use std::convert::Infallible;
 use thiserror::Error;
 
 /// Why a store refused a call: for memory, for the disk, or for the data.
 #[derive(Debug, Drop, Error)]
 pub enum StoreRefusal {
-    /// The name is by another hash function than SHA-256, or by one of another length than 32 bytes.
-    #[error("the block is named by another hash function than SHA-256")]
-    OtherHash,
-    /// The SHA-256 of the block is not the one in its name.
-    #[error("the block has other bytes than its name says")]
-    OtherBytes,
-    /// The block is the one that is named, of another codec than DAG-CBOR.
-    #[error("the block is of another codec than DAG-CBOR")]
-    OtherCodec,
-    /// The block is the one that is named, and no DAG-CBOR that is read within 256 steps.
-    #[error("the block is no DAG-CBOR: {0}")]
-    NoBlock(DecodeError<Infallible>),
-    /// What is stored under the name is no block of that name.
+    /// The block is not the one that the name names, or no DAG-CBOR where its codec is that.
+    #[error("{0}")]
+    Unsound(Unsound),
+    /// What is stored under the name is no block of that name, or no DAG-CBOR where its codec is that.
     #[error("what is stored under the name has other bytes than it says")]
     Damaged(Cid),
     /// A row has the greatest number that a row can have.

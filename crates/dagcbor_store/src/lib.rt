@@ -2,9 +2,10 @@
 #![tactic(auto)]
 
 mod car_error;
+mod collect;
 mod entries;
 mod error;
-mod missing;
+mod lost;
 mod open;
 mod reach;
 mod read_car;
@@ -18,8 +19,8 @@ mod write_car;
 mod write_tree;
 
 pub use car_error::{ReadCarError, WriteCarError, WriteTreeError};
-pub use dagcbor_car::Reached;
 pub use error::StoreRefusal;
+pub use ipld_links::{Reached, Unsound};
 pub use sqlite_disk::{Unknown, Wary};
 pub use sqlite_std_file::FileFrom;
 pub use sqlite_store::FileStore;

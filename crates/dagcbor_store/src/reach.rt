@@ -8,7 +8,7 @@ ghost use Rattle.dagcbor_store.specs.Trees.{Reaches, ReachRefused, VisitsStored}
 
 use crate::error::StoreRefusal;
 use crate::store::BlockStore;
-use dagcbor_car::{Reached, Walk};
+use ipld_links::{Reached, Walk};
 use ipld_tree::Cid;
 use sqlite_trees::store::Store;
 

@@ -1,16 +1,17 @@
 //! The store, and its calls on single blocks.
 
-ghost use Rattle.std.specs.Prelude.{◌≡◌, ◌↔◌, ◌⊎◌, IsTrue, MatchResult, IfOk, IfErr, IfSome, OnOk, option_map, length};
+ghost use Rattle.std.specs.Prelude.{◌≡◌, ◌↔◌, ◌⊎◌, IsTrue, IfOk, IfErr, IfSome, OnOk, option_map, length};
+ghost use Rattle.ipld_links.specs.Sound.{IsSound};
 ghost use Rattle.dagcbor_store.specs.Ends.{Quiet};
 ghost use Rattle.dagcbor_store.specs.Rows.{name_tree};
 ghost use Rattle.sqlite_trees.specs.View.{IsClean, IsRolledBack};
-ghost use Rattle.dagcbor_store.specs.Stored.{IsReady, GivesNext, bound_behind, Lists, StaysSame, IsUndone, IsNamed, GetsSome, GetRefused, Fails, TellsOfStore, IsCommitted, IsKeptBy, IsNamedBlock, IsUnfit, IsAdded, IsAddedTo, IsPut, IsTaken, PutRefused, IsVerified, IsToldAdded};
+ghost use Rattle.dagcbor_store.specs.Stored.{IsReady, GivesNext, bound_behind, Lists, StaysSame, IsUndone, IsNamed, GetsSome, GetRefused, Fails, TellsOfStore, IsCommitted, IsKeptBy, IsAdded, IsAddedTo, IsPut, IsTaken, PutRefused, IsVerified, IsToldAdded};
 
 use crate::entries::{self, Added, Found};
 use crate::error::StoreRefusal;
 use crate::survey::survey;
 use arrayvec::ArrayVec;
-use dagcbor_car::{SHA2_256, Verdict, verify};
+use ipld_links::{SHA2_256, check_block};
 use ipld_tree::Cid;
 use sha2::{Digest, Sha256};
 use sqlite_trees::error::StoreError;
@@ -144,16 +145,19 @@ impl<S: Store> BlockStore<S> {
         self.store.rollback();
     }
 
-    /// Keeps the block under its name, with what is committed next. Where something is listed under
-    /// the name, nothing is changed.
+    /// Keeps the block under its name, whatever its codec, with what is committed next. What else
+    /// stands under the name, which is damaged then, is taken out.
     ///
-    /// The block must be DAG-CBOR that is read within 256 steps, and be named by its SHA-256.
+    /// The digest of the name must be the SHA-256 of the block, of 32 bytes, and where the codec is
+    /// DAG-CBOR, the block must be one that is read within 256 steps.
     pub fn add_block(&mut self, name: &Cid, block: &[u8]) -> Result<(), StoreRefusal>
-        ensures ok { OnOk result (IsNamedBlock (name.now, block.now) × (IsClean (S.Store.view self.new) → IsAdded (S.Store.view self.old) (S.Store.view self.new) name.now block.now)) }
+        ensures ok { OnOk result (IsSound (name.now, block.now) × (IsClean (S.Store.view self.new) → IsAdded (S.Store.view self.old) (S.Store.view self.new) name.now block.now)) }
         ensures refused { IfErr result (PutRefused S.Store (name.now, block.now) self.old self.new) }
         ensures quiet { Quiet S.Store self.old self.new }
     {
-        check_block(name, block)?;
+        if let Err(cause) = check_block(name, block) {
+            return Err(StoreRefusal::Unsound(cause));
+        }
         let mut form = ArrayVec::new();
         name.write_bytes(&mut form);
         match entries::add(&mut self.store, &mut self.row, &form, block) {
@@ -165,7 +169,7 @@ impl<S: Store> BlockStore<S> {
     /// Keeps the block under its name, and commits it, with whatever waited for a commit. Once this
     /// answers `Ok` the block is there, also after the power failed.
     pub fn put_block(&mut self, name: &Cid, block: &[u8]) -> Result<(), StoreRefusal>
-        ensures ok { OnOk result (IsNamedBlock (name.now, block.now) × (IsClean (S.Store.view self.new) → IsPut (S.Store.view self.old) (S.Store.view self.new) name.now block.now)) }
+        ensures ok { OnOk result (IsSound (name.now, block.now) × (IsClean (S.Store.view self.new) → IsPut (S.Store.view self.old) (S.Store.view self.new) name.now block.now)) }
         ensures refused { IfErr result (PutRefused S.Store (name.now, block.now) self.old self.new) }
         ensures crash { (db : _) → S.Store.recovers self.new db → S.Store.recovers self.old db ⊎ (IsClean (S.Store.view self.new) → IsAddedTo (S.Store.view self.old).trees db name.now block.now) }
         ensures kept { IsKeptBy S.Store self.old self.new }
@@ -210,7 +214,7 @@ fn told(added: Added) -> Result<(), StoreRefusal>
 {
     match added {
         Added::New => Ok(()),
-        Added::Listed => Ok(()),
+        Added::Stored => Ok(()),
         Added::NoNumber => Err(StoreRefusal::NoNumber),
     }
 }
@@ -236,23 +240,5 @@ fn verified(name: &Cid, found: Found) -> Result<Option<Vec<u8>>, StoreRefusal>
                 Err(StoreRefusal::Damaged(*name))
             }
         }
-    }
-}
-
-/// Whether the bytes are a block under its name.
-fn check_block(name: &Cid, block: &[u8]) -> Result<(), StoreRefusal>
-    ensures { MatchResult result (λ _. IsNamedBlock (name.now, block.now)) (IsUnfit (name.now, block.now)) }
-{
-    // What is known of a CID comes with its version.
-    let _version = name.version();
-    if name.hash_code() != SHA2_256 {
-        return Err(StoreRefusal::OtherHash);
-    }
-    match verify(name, block) {
-        Verdict::Block(_) => Ok(()),
-        Verdict::Refused(error) => Err(StoreRefusal::NoBlock(error)),
-        Verdict::OtherBytes => Err(StoreRefusal::OtherBytes),
-        Verdict::NotRead => Err(StoreRefusal::OtherCodec),
-        Verdict::Unverified => Err(StoreRefusal::OtherHash),
     }
 }

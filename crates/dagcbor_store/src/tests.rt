@@ -1,6 +1,7 @@
 use super::*;
-use dagcbor_car::{CarError, name_of_block};
+use dagcbor_car::CarError;
 use dagcbor_heads::{BufWriter, Input, SliceReader};
+use ipld_links::name_of_block;
 use ipld_tree::Cid;
 use std::alloc::Global;
 use std::convert::Infallible;
@@ -11,42 +12,68 @@ const FOLDER: &str = "dagcbor_store_test";
 
 const FILE: &str = "dagcbor_store_test/a.db";
 
-#[test]
-fn blocks_last(rt: HostRuntime) -> Result<(), Fail> {
-    let _ = fs::remove_dir_all(&rt, FOLDER);
-    fs::create_dir(&rt, FOLDER)?;
-    let mut store = BlockStore::open(&rt, FILE, Wary)?;
+/// Fails where the condition does not hold.
+fn agree(holds: bool, wanted: &str) -> Result<(), Fail> {
+    if holds {
+        Ok(())
+    } else {
+        Err(Fail::new(wanted))
+    }
+}
+
+/// Puts 23, and adds 24, and what is no block under its name.
+fn puts_and_adds<S: Store>(store: &mut BlockStore<S>) -> Result<Cid, Fail> {
     let Ok(name) = store.put(&23u8) else {
         return Err(Fail::new("not put"));
     };
     let value: Option<u8> = store.get(&name)?;
-    assert_eq!(rt; value, Some(23));
-    assert_eq!(rt; name, name_of_block(b"\x17"));
+    agree(value == Some(23), "23")?;
+    agree(name == name_of_block(b"\x17"), "its name")?;
     store.put_block(&name, b"\x17")?;
-    assert!(rt; store.get::<String>(&name).is_err());
+    agree(store.get::<String>(&name).is_err(), "no text")?;
     store.add_block(&name_of_block(b"\x18\x18"), b"\x18\x18")?;
-    assert_eq!(rt; store.len()?, 2);
+    agree(store.len()? == 2, "two blocks")?;
     // 18 17 spells 23 in two bytes, where one is enough; and 16 is another block.
-    assert!(rt;
-        store
-            .add_block(&name_of_block(b"\x18\x17"), b"\x18\x17")
-            .is_err()
-    );
-    assert!(rt; store.add_block(&name, b"\x16").is_err());
-    // What was added and not committed is lost.
-    drop(store);
-    let mut store = BlockStore::open(&rt, FILE, Wary)?;
-    assert_eq!(rt; store.len()?, 1);
-    assert!(rt; store.contains(&name)?);
-    let Some(bytes) = store.get_block(&name)? else {
+    let long = store.add_block(&name_of_block(b"\x18\x17"), b"\x18\x17");
+    agree(long.is_err(), "no block")?;
+    agree(store.add_block(&name, b"\x16").is_err(), "other bytes")?;
+    Ok(name)
+}
+
+/// Fails where anything but 23 was committed, and takes it out.
+fn has_one_and_takes_it<S: Store>(store: &mut BlockStore<S>, name: &Cid) -> Result<(), Fail> {
+    agree(store.len()? == 1, "one block")?;
+    agree(store.contains(name)?, "it is listed")?;
+    let Some(bytes) = store.get_block(name)? else {
         return Err(Fail::new("no block"));
     };
-    assert_eq!(rt; bytes.as_slice(), b"\x17".as_slice());
-    assert!(rt; store.remove(&name)?);
+    agree(bytes.as_slice() == b"\x17".as_slice(), "its bytes")?;
+    agree(store.remove(name)?, "it was there")?;
     store.rollback();
-    assert!(rt; store.remove(&name)?);
+    agree(store.remove(name)?, "it is there again")?;
     store.commit()?;
-    assert!(rt; store.get_block(&name)?.is_none());
+    agree(store.get_block(name)?.is_none(), "it is taken out")
+}
+
+/// Puts and adds in the file, and commits no more.
+fn put_in_file(rt: &HostRuntime) -> Result<Cid, Fail> {
+    let mut store = BlockStore::open(rt, FILE, Wary)?;
+    puts_and_adds(&mut store)
+}
+
+/// Fails where the file has anything but what was committed, and takes it out.
+fn take_from_file(rt: &HostRuntime, name: &Cid) -> Result<(), Fail> {
+    let mut store = BlockStore::open(rt, FILE, Wary)?;
+    has_one_and_takes_it(&mut store, name)
+}
+
+#[test]
+fn blocks_last(rt: HostRuntime) -> Result<(), Fail> {
+    let _ = fs::remove_dir_all(&rt, FOLDER);
+    fs::create_dir(&rt, FOLDER)?;
+    let name = put_in_file(&rt)?;
+    // What was added and not committed is lost.
+    take_from_file(&rt, &name)?;
     fs::remove_dir_all(&rt, FOLDER)?;
     Ok(())
 }
@@ -82,9 +109,14 @@ const IDENTITY: &[u8] = b"\x06\x01\x71\x00\x01\x05\x05";
 const UNORDERED: &[u8] =
     b"\x2b\x01\x71\x12\x20\x36\x84\xf1\x97\xac\x45\x14\xab\x69\xc1\x1b\x98\x76\x1f\x2c\x8c\x1b\xeb\xb5\x68\xf8\x97\xb4\xbe\xb5\x62\xe7\x4f\xa6\xfa\x17\x27\xa2\x61\x62\x01\x61\x61\x02";
 
-/// The name in a section of a short length, by SHA-256.
+/// The name in a section, by SHA-256, behind a length of one or two bytes.
 fn name_in(section: &[u8]) -> Result<Cid, Fail> {
-    match section.get(1..37) {
+    let start = if section.first().is_some_and(|first| *first < 0x80) {
+        1
+    } else {
+        2
+    };
+    match section.get(start..start + 36) {
         Some(name) => Ok(Cid::try_from(name)?),
         None => Err(Fail::new("too short")),
     }
@@ -103,12 +135,12 @@ fn joined(alloc: Global, parts: &[&[u8]]) -> Result<Vec<u8>, Fail> {
 fn word_of(answer: &Result<(Vec<Cid>, u64), ReadCarError<Infallible>>) -> &'static str {
     match answer {
         Ok(_) => "read",
-        Err(ReadCarError::Car(CarError::Truncated)) => "cut",
-        Err(ReadCarError::Car(_)) => "no file",
-        Err(ReadCarError::Block(_, StoreRefusal::OtherHash)) => "other hash",
-        Err(ReadCarError::Block(_, StoreRefusal::OtherBytes)) => "other bytes",
-        Err(ReadCarError::Block(_, StoreRefusal::OtherCodec)) => "other codec",
-        Err(ReadCarError::Block(_, StoreRefusal::NoBlock(_))) => "no block",
+        Err(ReadCarError::Header(_)) => "no header",
+        Err(ReadCarError::Section(1, CarError::Truncated)) => "cut",
+        Err(ReadCarError::Section(_, _)) => "no section",
+        Err(ReadCarError::Block(1, _, StoreRefusal::Unsound(Unsound::OtherHash))) => "other hash",
+        Err(ReadCarError::Block(1, _, StoreRefusal::Unsound(Unsound::OtherBytes))) => "other bytes",
+        Err(ReadCarError::Block(1, _, StoreRefusal::Unsound(Unsound::NoBlock(_)))) => "no block",
         Err(_) => "other",
     }
 }
@@ -130,12 +162,12 @@ fn reads<S: Store>(
     Ok(())
 }
 
-/// Fails where other blocks than those of the sections are stored, or others are missing.
+/// Fails where other blocks than those of the sections are stored, or other names are lost.
 fn holds<S: Store>(
     alloc: Global,
     store: &mut BlockStore<S>,
     sections: &[&[u8]],
-    missing: &[Cid],
+    lost: &[Cid],
 ) -> Result<(), Fail> {
     let mut writer = BufWriter::new(Vec::new(alloc));
     store.write_car(&[name_in(PARENT)?], &mut writer)?;
@@ -151,7 +183,7 @@ fn holds<S: Store>(
     if writer.buffer() != file.as_slice() || store.next_name(last)?.is_some() {
         return Err(Fail::new("another file"));
     }
-    if store.missing()?.as_slice() != missing {
+    if store.lost()?.as_slice() != lost {
         return Err(Fail::new("other links"));
     }
     Ok(())
@@ -181,41 +213,109 @@ fn leads<S: Store>(
 /// Sections, and what is answered of a file where they stand behind another.
 const REFUSED: &[(&[u8], &str)] = &[
     (CHANGED, "other bytes"),
-    (RAW, "other codec"),
     (IDENTITY, "other hash"),
     (UNORDERED, "no block"),
 ];
 
+/// The section of a list of a link to `RAW`, one to `NODE`, and one to the number 5.
+const MIXED: &[u8] =
+    b"\xa0\x01\x01\x71\x12\x20\x48\xae\x11\xc5\x9a\xca\xfe\xc2\xcc\x46\xbd\xc1\x80\xbc\xea\x50\x0d\x27\xc3\xeb\xb1\x59\x17\x47\x8e\x98\xd9\x86\x55\xb3\xf0\xea\x83\xd8\x2a\x58\x25\x00\x01\x55\x12\x20\x2c\x26\xb4\x6b\x68\xff\xc6\x8f\xf9\x9b\x45\x3c\x1d\x30\x41\x34\x13\x42\x2d\x70\x64\x83\xbf\xa0\xf9\x8a\x5e\x88\x62\x66\xe7\xae\xd8\x2a\x58\x25\x00\x01\x70\x12\x20\xcc\x4f\x9b\xdc\x12\x82\xb3\x2a\xe4\xbb\x65\x9e\xab\x53\xd2\x21\x05\xd9\x56\xdc\xb2\xf5\xee\x91\x2d\x73\x47\x55\x6f\x89\x1c\x76\xd8\x2a\x58\x25\x00\x01\x71\x12\x20\xe7\x7b\x9a\x9a\xe9\xe3\x0b\x0d\xbd\xb6\xf5\x10\xa2\x64\xef\x9d\xe7\x81\x50\x1d\x7b\x6b\x92\xae\x89\xeb\x05\x9c\x5a\xb7\x43\xdb";
+
+/// The section of a node of the codec 0x70, with a link to other raw bytes, "bar".
+const NODE: &[u8] =
+    b"\x55\x01\x70\x12\x20\xcc\x4f\x9b\xdc\x12\x82\xb3\x2a\xe4\xbb\x65\x9e\xab\x53\xd2\x21\x05\xd9\x56\xdc\xb2\xf5\xee\x91\x2d\x73\x47\x55\x6f\x89\x1c\x76\x12\x2b\x0a\x24\x01\x55\x12\x20\xfc\xde\x2b\x2e\xdb\xa5\x6b\xf4\x08\x60\x1f\xb7\x21\xfe\x9b\x5c\x33\x8d\x10\xee\x42\x9e\xa0\x4f\xae\x55\x11\xb6\x8f\xbf\x8f\xb9\x12\x01\x61\x18\x03\x0a\x02\x08\x01";
+
+/// The name of the number 5, which is not stored.
+const FIVE: &[u8] =
+    b"\x01\x71\x12\x20\xe7\x7b\x9a\x9a\xe9\xe3\x0b\x0d\xbd\xb6\xf5\x10\xa2\x64\xef\x9d\xe7\x81\x50\x1d\x7b\x6b\x92\xae\x89\xeb\x05\x9c\x5a\xb7\x43\xdb";
+
+/// Reads a file of blocks of three codecs, and takes the raw one out.
+fn keeps_each_codec<S: Store>(alloc: Global, store: &mut BlockStore<S>) -> Result<(), Fail> {
+    reads(alloc, store, &[HEADER, MIXED, NODE, RAW], "read", 3)?;
+    let five = Cid::try_from(FIVE)?;
+    holds(alloc, store, &[RAW, NODE, MIXED], &[five])?;
+    let raw = name_in(RAW)?;
+    let typed = store.get::<u8>(&raw);
+    agree(matches!(typed, Err(GetError::OtherCodec)), "another codec")?;
+    agree(store.remove(&raw)?, "it was there")?;
+    holds(alloc, store, &[NODE, MIXED], &[raw, five])
+}
+
+#[test]
+fn blocks_of_each_codec_are_kept(rt: HostRuntime) -> Result<(), Fail> {
+    let _ = fs::remove_dir_all(&rt, "dagcbor_store_mixed");
+    fs::create_dir(&rt, "dagcbor_store_mixed")?;
+    let mut store = BlockStore::open(&rt, "dagcbor_store_mixed/a.db", Wary)?;
+    keeps_each_codec(rt.alloc(), &mut store)?;
+    drop(store);
+    fs::remove_dir_all(&rt, "dagcbor_store_mixed")?;
+    Ok(())
+}
+
+/// Reads a file of one block, then files that are refused and change nothing.
+fn refuses_files<S: Store>(alloc: Global, store: &mut BlockStore<S>) -> Result<(), Fail> {
+    reads(alloc, store, &[HEADER, PARENT], "read", 1)?;
+    let links = &[name_in(NUMBERS)?, name_in(TEXT)?];
+    holds(alloc, store, &[PARENT], links)?;
+    for (section, word) in REFUSED {
+        reads(alloc, store, &[HEADER, TEXT, section], word, 1)?;
+    }
+    reads(alloc, store, &[HEADER, TEXT, &PARENT[..9]], "cut", 1)
+}
+
+/// Reads a file whose links lead to its blocks, and takes one of them out.
+fn keeps_a_tree<S: Store>(alloc: Global, store: &mut BlockStore<S>) -> Result<(), Fail> {
+    let text = name_in(TEXT)?;
+    reads(alloc, store, &[HEADER, TEXT, PARENT, NUMBERS], "read", 3)?;
+    holds(alloc, store, &[NUMBERS, TEXT, PARENT], &[])?;
+    leads(alloc, store, &[PARENT, NUMBERS, TEXT], &[])?;
+    agree(store.remove(&text)?, "it was there")?;
+    holds(alloc, store, &[NUMBERS, PARENT], &[text])?;
+    leads(alloc, store, &[PARENT, NUMBERS], &[text])
+}
+
+/// Reads files whole, or not at all.
+fn keeps_files_whole<S: Store>(alloc: Global, store: &mut BlockStore<S>) -> Result<(), Fail> {
+    refuses_files(alloc, store)?;
+    keeps_a_tree(alloc, store)
+}
+
 #[test]
 fn files_are_kept_whole(rt: HostRuntime) -> Result<(), Fail> {
-    let alloc = rt.alloc();
     let _ = fs::remove_dir_all(&rt, "dagcbor_store_files");
     fs::create_dir(&rt, "dagcbor_store_files")?;
     let mut store = BlockStore::open(&rt, "dagcbor_store_files/a.db", Wary)?;
-    reads(alloc, &mut store, &[HEADER, PARENT], "read", 1)?;
-    holds(
-        alloc,
-        &mut store,
-        &[PARENT],
-        &[name_in(NUMBERS)?, name_in(TEXT)?],
-    )?;
-    for (section, word) in REFUSED {
-        reads(alloc, &mut store, &[HEADER, TEXT, section], word, 1)?;
-    }
-    reads(alloc, &mut store, &[HEADER, TEXT, &PARENT[..9]], "cut", 1)?;
-    reads(
-        alloc,
-        &mut store,
-        &[HEADER, TEXT, PARENT, NUMBERS],
-        "read",
-        3,
-    )?;
-    holds(alloc, &mut store, &[NUMBERS, TEXT, PARENT], &[])?;
-    leads(alloc, &mut store, &[PARENT, NUMBERS, TEXT], &[])?;
-    assert!(rt; store.remove(&name_in(TEXT)?)?);
-    holds(alloc, &mut store, &[NUMBERS, PARENT], &[name_in(TEXT)?])?;
-    leads(alloc, &mut store, &[PARENT, NUMBERS], &[name_in(TEXT)?])?;
+    keeps_files_whole(rt.alloc(), &mut store)?;
     drop(store);
     fs::remove_dir_all(&rt, "dagcbor_store_files")?;
+    Ok(())
+}
+
+/// Fails where another number of names is taken out.
+fn collects<S: Store>(store: &mut BlockStore<S>, roots: &[Cid], count: u64) -> Result<(), Fail> {
+    agree(store.keep_reachable(roots)? == count, "so many")
+}
+
+/// Reads a file of two trees, and keeps what links lead to from roots.
+fn keeps_what_is_reached<S: Store>(alloc: Global, store: &mut BlockStore<S>) -> Result<(), Fail> {
+    let file = &[HEADER, PARENT, MIXED, NODE, RAW, NUMBERS, TEXT];
+    reads(alloc, store, file, "read", 6)?;
+    collects(store, &[name_in(MIXED)?, name_in(PARENT)?], 0)?;
+    collects(store, &[name_in(TEXT)?, name_in(PARENT)?], 3)?;
+    holds(alloc, store, &[NUMBERS, TEXT, PARENT], &[])?;
+    collects(store, &[name_in(NUMBERS)?], 2)?;
+    // A root that is not stored leads to nothing.
+    collects(store, &[name_in(RAW)?], 1)?;
+    agree(store.len()? == 0, "nothing")
+}
+
+#[test]
+fn what_links_lead_to_is_kept(rt: HostRuntime) -> Result<(), Fail> {
+    let _ = fs::remove_dir_all(&rt, "dagcbor_store_collected");
+    fs::create_dir(&rt, "dagcbor_store_collected")?;
+    let mut store = BlockStore::open(&rt, "dagcbor_store_collected/a.db", Wary)?;
+    keeps_what_is_reached(rt.alloc(), &mut store)?;
+    drop(store);
+    fs::remove_dir_all(&rt, "dagcbor_store_collected")?;
     Ok(())
 }

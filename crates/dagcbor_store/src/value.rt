@@ -2,7 +2,7 @@
 
 ghost use Rattle.std.specs.Prelude.{◌⊎◌, IsSomeAnd, IfOk, IfErr, OnOk, option_map};
 ghost use Rattle.ipld_tree.specs.Spelling.{spelling};
-ghost use Rattle.dagcbor_car.specs.Names.{block_name};
+ghost use Rattle.ipld_links.specs.Names.{block_name};
 ghost use Rattle.sqlite_trees.specs.View.{IsClean};
 ghost use Rattle.dagcbor_store.specs.Ends.{Quiet};
 ghost use Rattle.dagcbor_store.specs.Stored.{StaysSame, IsAddedTo, IsKeptBy};
@@ -10,10 +10,10 @@ ghost use Rattle.dagcbor_store.specs.Values.{PutsValue, PutValueRefused, ShowsNa
 
 use crate::error::StoreRefusal;
 use crate::store::BlockStore;
-use dagcbor_car::name_of_block;
 use dagcbor_heads::{DecodeError, EncodeError};
 use dagcbor_read::{DeserializeOwned, from_slice_owned};
 use dagcbor_write::{Serialize, to_vec};
+use ipld_links::{is_dag_cbor, name_of_block};
 use ipld_tree::Cid;
 use sqlite_trees::store::Store;
 use std::convert::Infallible;
@@ -25,7 +25,7 @@ pub enum PutError {
     /// The value has no spelling, or memory was wanting for it.
     #[error("encode error: {0}")]
     Encode(EncodeError<Infallible>),
-    /// Its spelling was not kept. `NoBlock`: it is not read within 256 steps.
+    /// Its spelling was not kept. `Unsound`: it is not read within 256 steps.
     #[error("{0}")]
     Store(StoreRefusal),
 }
@@ -36,6 +36,9 @@ pub enum GetError {
     /// The block under the name is not read as the type within 256 steps, or memory was wanting.
     #[error("decode error: {0}")]
     Decode(DecodeError<Infallible>),
+    /// The block under the name is of another codec than DAG-CBOR.
+    #[error("the block is of another codec than DAG-CBOR")]
+    OtherCodec,
     /// It was not got.
     #[error("{0}")]
     Store(StoreRefusal),
@@ -61,7 +64,8 @@ impl<S: Store> BlockStore<S> {
         }
     }
 
-    /// The block under the name, read as a value. None where nothing is listed under it.
+    /// The block under the name, which must be DAG-CBOR, read as a value. None where nothing is listed
+    /// under it.
     pub fn get<'de, T: DeserializeOwned<'de>>(&mut self, name: &Cid) -> Result<Option<T>, GetError>
         ensures named { IfOk result (ShowsNamed T.meaning T.shape name.now) }
         ensures gets { IfOk result (λ found. IsClean (S.Store.view self.new) → GetsValue T.meaning T.shape (S.Store.view self.old) name.now found) }
@@ -69,13 +73,17 @@ impl<S: Store> BlockStore<S> {
         ensures refused { IfErr result (λ e. GetValueRefused S.Store T.shape name.now self.old e self.new) }
         ensures quiet { Quiet S.Store self.old self.new }
     {
-        match self.get_block(name) {
-            Ok(None) => Ok(None),
-            Ok(Some(block)) => match from_slice_owned(self.alloc, &block) {
-                Ok(value) => Ok(Some(value)),
-                Err(error) => Err(GetError::Decode(error)),
-            },
-            Err(refusal) => Err(GetError::Store(refusal)),
+        let block = match self.get_block(name) {
+            Ok(None) => return Ok(None),
+            Ok(Some(block)) => block,
+            Err(refusal) => return Err(GetError::Store(refusal)),
+        };
+        if !is_dag_cbor(name) {
+            return Err(GetError::OtherCodec);
+        }
+        match from_slice_owned(self.alloc, &block) {
+            Ok(value) => Ok(Some(value)),
+            Err(error) => Err(GetError::Decode(error)),
         }
     }
 }

@@ -4,7 +4,7 @@ ghost use Rattle.std.specs.Prelude.{IfOk, IfErr, OnOk};
 ghost use Rattle.sqlite_trees.specs.View.{IsClean};
 ghost use Rattle.dagcbor_store.specs.Ends.{Quiet};
 ghost use Rattle.dagcbor_store.specs.Stored.{StaysSame, Fails};
-ghost use Rattle.dagcbor_store.specs.Walking.{NextBlock, IsNamedNext, WalkRefused};
+ghost use Rattle.dagcbor_store.specs.Walking.{NextBlock, IsNamedNext, WalkRefused, IsOfNext};
 
 use crate::error::StoreRefusal;
 use crate::store::BlockStore;
@@ -19,6 +19,7 @@ impl<S: Store> BlockStore<S> {
         ensures next { IfOk result (λ next. IsClean (S.Store.view self.new) → NextBlock (S.Store.view self.old) last next) }
         ensures same { OnOk result (StaysSame S.Store self.old self.new) }
         ensures refused { IfErr result (WalkRefused S.Store self.old self.new) }
+        ensures of_next { IfErr result (IsOfNext S.Store last self.old self.new) }
         ensures quiet { Quiet S.Store self.old self.new }
     {
         let Some(name) = self.next_name(last)? else {

@@ -7,7 +7,7 @@ ghost use Rattle.dagcbor_car.specs.Car.{Section as CarSection, car_bytes, sectio
 ghost use Rattle.sqlite_trees.specs.View.{IsClean};
 ghost use Rattle.dagcbor_store.specs.Ends.{Quiet};
 ghost use Rattle.dagcbor_store.specs.Stored.{StaysSame, IsNamed};
-ghost use Rattle.dagcbor_store.specs.Walking.{AreBlocks, AreNamed, WriteRefused, BeginsFile, WritesNext};
+ghost use Rattle.dagcbor_store.specs.Walking.{AreBlocks, AreNamed, WriteRefused, BeginsFile, WritesNext, UnsentWithoutMemory, WantsMemoryOnlyIf};
 
 use crate::car_error::WriteCarError;
 use crate::store::BlockStore;
@@ -23,7 +23,8 @@ pub(crate) fn begin<W: Write>(
     writer: &mut W,
     roots: &[Cid],
 ) -> Result<(), WriteCarError<W::Error>>
-    ensures { BeginsFile (forms roots.now) (W.written writer.old) result (W.written writer.new) }
+    ensures begins { BeginsFile (forms roots.now) (W.written writer.old) result (W.written writer.new) }
+    ensures unsent { UnsentWithoutMemory W.takes_memory (W.written writer.old) result (W.written writer.new) }
 {
     match push_header(alloc, writer, roots) {
         Ok(()) => Ok(()),
@@ -45,6 +46,7 @@ impl<S: Store> BlockStore<S> {
             × (IsClean (S.Store.view self.new) → AreBlocks (S.Store.view self.old) sections)) }
         ensures same { OnOk result (StaysSame S.Store self.old self.new) }
         ensures refused { IfErr result (λ e. WriteRefused S.Store (forms roots.now) self.old (W.written writer.old) e (W.written writer.new) self.new) }
+        ensures unsent { UnsentWithoutMemory W.takes_memory (W.written writer.old) result (W.written writer.new) }
         ensures quiet { Quiet S.Store self.old self.new }
     {
         begin(self.alloc, writer, roots)?;
@@ -65,6 +67,7 @@ impl<S: Store> BlockStore<S> {
         writer: &mut W,
     ) -> Result<Option<Cid>, WriteCarError<W::Error>>
         ensures next { WritesNext S.Store last self.old (W.written writer.old) result (W.written writer.new) self.new }
+        ensures memory { WantsMemoryOnlyIf W.takes_memory result }
         ensures quiet { Quiet S.Store self.old self.new }
     {
         let (name, block) = match self.next_block(last) {

@@ -3,14 +3,16 @@
 ghost use Rattle.std.specs.Prelude.{IfOk, IfErr, OnOk};
 ghost use Rattle.sqlite_trees.specs.View.{IsClean};
 ghost use Rattle.dagcbor_store.specs.Ends.{Quiet};
-ghost use Rattle.dagcbor_store.specs.Trees.{WritesTree, TreeRefused, WritesNames, NamesUnwritten, WritesNamed};
+ghost use Rattle.dagcbor_store.specs.Trees.{WritesTree, TreeRefused, TreeUnsent, WritesNames, NamesUnwritten, WritesNamed};
+ghost use Rattle.dagcbor_store.specs.Walking.{UnsentWithoutMemory, WantsMemoryOnlyIf};
 
 use crate::car_error::{WriteCarError, WriteTreeError};
 use crate::error::StoreRefusal;
 use crate::store::BlockStore;
 use crate::write_car::begin;
-use dagcbor_car::{IDENTITY, Reached, push_section};
+use dagcbor_car::push_section;
 use dagcbor_heads::Write;
+use ipld_links::{IDENTITY, Reached};
 use ipld_tree::Cid;
 use sqlite_trees::store::Store;
 
@@ -25,6 +27,7 @@ impl<S: Store> BlockStore<S> {
     ) -> Result<Vec<Cid>, WriteTreeError<W::Error>>
         ensures ok { IfOk result (λ lost. WritesTree S.Store root.now self.old (W.written writer.old) lost.items (W.written writer.new) self.new) }
         ensures refused { IfErr result (λ e. TreeRefused S.Store root.now self.old (W.written writer.old) e (W.written writer.new) self.new) }
+        ensures unsent { TreeUnsent W.takes_memory (W.written writer.old) result (W.written writer.new) }
         ensures quiet { Quiet S.Store self.old self.new }
     {
         let reached = match self.reach(root) {
@@ -50,6 +53,7 @@ impl<S: Store> BlockStore<S> {
     ) -> Result<(), WriteCarError<W::Error>>
         ensures ok { OnOk result (WritesNames S.Store root.now names.now self.old (W.written writer.old) (W.written writer.new) self.new) }
         ensures refused { IfErr result (λ e. NamesUnwritten S.Store root.now names.now self.old (W.written writer.old) e (W.written writer.new) self.new) }
+        ensures unsent { UnsentWithoutMemory W.takes_memory (W.written writer.old) result (W.written writer.new) }
         ensures quiet { Quiet S.Store self.old self.new }
     {
         begin(self.alloc, writer, &[*root])?;
@@ -66,6 +70,7 @@ impl<S: Store> BlockStore<S> {
         writer: &mut W,
     ) -> Result<(), WriteCarError<W::Error>>
         ensures named { WritesNamed S.Store name.now self.old (W.written writer.old) result (W.written writer.new) self.new }
+        ensures memory { WantsMemoryOnlyIf W.takes_memory result }
         ensures quiet { Quiet S.Store self.old self.new }
     {
         let block = match self.get_block(name) {

@@ -1,16 +1,19 @@
 -- The trees of data of any kind, by those of its parts.
-use Rattle.std.proofs.Common.{◌≡◌, List, [], ◌∷◌, map, Option, None, Some, Result, Vec, BTreeMap, String, Global, string_bytes, string_cmp, cond, refl, sym, ap, ◌∙◌, subst, IfSome, OnOk, option_map, option_and_then}
+use Rattle.std.proofs.Common.{◌≡◌, ℕ, ℤ, zero, suc, arith, rules, true, false, IsTrue, inl, inr, codes, IfErr, List, [], ◌∷◌, map, Option, None, Some, Result, Vec, BTreeMap, String, Global, string_bytes, string_cmp, cond, refl, sym, ap, ◌∙◌, subst, IfSome, OnOk, option_map, option_and_then}
 use Rattle.std.specs.List.Sorted.{IsStrictlySortedBy}
 use Rattle.std.specs.Map.{keys_of}
 use Rattle.dagcbor_heads.specs.declared.error.EncodeError.{EncodeError}
 use Rattle.dagcbor_heads.specs.Written.{Written, Writes}
-use Rattle.ipld_tree.specs.Tree.{Tree, text, list, mapping, IsTree, items_of, ordered_entries, map_tree, all_some, list_tree, pair_of, entries_tree}
+use Rattle.ipld_tree.specs.Tree.{Tree, integer, text, list, mapping, IsTree, items_of, ordered_entries, map_tree, all_some, list_tree, pair_of, entries_tree}
 use Rattle.ipld_tree.specs.Ipld.{tree_of, pairs_of}
 use Rattle.ipld_tree.specs.Spelled.{spelled, spelled_tree}
-use Rattle.ipld_tree.specs.declared.ipld.Ipld.{Ipld, List as List', Map as Map'}
+use Rattle.ipld_tree.specs.declared.ipld.Ipld.{Ipld, the_lemmas, Integer as Integer', List as List', Map as Map'}
 use Rattle.ipld_tree.proofs.Ordered.{test_from_distinct}
 use Rattle.ipld_tree.proofs.Trees.{tree_of_List, tree_of_Map}
 use Rattle.ipld_tree.proofs.WellFormed.{distinct_entries}
+use Rattle.dagcbor_write.specs.Answers.{OnMessage, IsMessage, RefusesAnyPart}
+use Rattle.dagcbor_write.specs.TreeMessages.{tree_message, items_message, is_integer}
+use Rattle.dagcbor_write.proofs.Messages.{message_tells}
 
 all_there : {A : Type 0} (f : A → Tree) (xs : List A) → all_some (map (λ x. Some (f x)) xs) ≡ Some (map f xs)
 all_there f [] = refl
@@ -38,3 +41,39 @@ Writes_tree {T} {E} a t s u r e w = let P : Option Tree → Type 0 = λ x. Write
 
 pub good_tree : {T E : Type 0} (a : Option Tree) (t : Tree) (r : Result T E) → a ≡ Some t → OnOk r (IfSome a IsTree) → OnOk r (IsTree t)
 good_tree {T} {E} a t r e w = let P : Option Tree → Type 0 = λ x. OnOk r (IfSome x IsTree) in subst P e w
+
+-- ---- the message
+
+tree_of_Integer : (n : ℤ) → tree_of (Integer' n) ≡ integer n
+tree_of_Integer n = search (rules, the_lemmas)
+
+-- an integer's is its own
+pub integer_told : {T E Writer : Type 0} (j : Ipld) (n : ℤ) (s t : Writer) (r : Result T (EncodeError E)) → j ≡ Integer' n → IfErr r (OnMessage (λ m. (m ≡ codes "Integer must be within [-u64::MAX-1, u64::MAX] range") × (t ≡ s))) → IfErr r (OnMessage (tree_message (tree_of j)))
+integer_told {T} {E} {Writer} j n s t r is h =
+    let P : Tree → Type 0 = λ x. IfErr r (OnMessage (tree_message x)) in
+    subst P (sym (ap tree_of is ∙ tree_of_Integer n)) (message_tells (λ m. (m ≡ codes "Integer must be within [-u64::MAX-1, u64::MAX] range") × (t ≡ s)) (tree_message (integer n)) r (λ m k. k.0) h)
+
+items_told : (xs : List Ipld) (m : List ℕ) → RefusesAnyPart (λ x. Some (tree_of x)) (λ x. tree_message (tree_of x)) xs m → items_message (items_of (map tree_of xs)) m
+items_told [] m h = absurd (omega (arith, h.2))
+items_told (x ∷ xs) m (zero, y, inside, at, h) = let P : Ipld → Type 0 = λ z. (spelled (tree_of z) ≡ None) × tree_message (tree_of z) m in inl (subst P (sym at) h)
+items_told (x ∷ xs) m (suc k, y, inside, at, h) = inr (items_told xs m (k, y, omega (arith, inside), at, h))
+
+-- a list's is that of an item
+pub list_told : {T E : Type 0} (j : Ipld) (v : Vec Ipld Global) (r : Result T (EncodeError E)) → j ≡ List' v → IfErr r (OnMessage (RefusesAnyPart (λ x. Some (tree_of x)) (λ x. tree_message (tree_of x)) v.items)) → IfErr r (OnMessage (tree_message (tree_of j)))
+list_told {T} {E} j v r is h =
+    let P : Tree → Type 0 = λ x. IfErr r (OnMessage (tree_message x)) in
+    subst P (sym (ap tree_of is ∙ tree_of_List v)) (message_tells (RefusesAnyPart (λ x. Some (tree_of x)) (λ x. tree_message (tree_of x)) v.items) (items_message (items_of (map tree_of v.items))) r (items_told v.items) h)
+
+-- a map's is that of a value
+pub map_told : {T E : Type 0} (j : Ipld) (es : BTreeMap (String Global) Ipld) (r : Result T (EncodeError E)) → j ≡ Map' es → IfErr r (IsMessage (codes "Struct value cannot be serialized.")) → IfErr r (OnMessage (tree_message (tree_of j)))
+map_told {T} {E} j es r is h = let P : Tree → Type 0 = λ x. IfErr r (OnMessage (tree_message x)) in subst P (sym (ap tree_of is ∙ tree_of_Map es)) h
+
+-- a list and a map are no integers
+not_integer : {P : Type 0} (t u : Tree) → t ≡ u → is_integer u ≡ false → IsTrue (is_integer t) → P
+not_integer t u is e h = let differ : false ≡ true = sym e ∙ ap is_integer (sym is) ∙ search h in absurd (cc differ)
+
+pub list_no_integer : {P : Type 0} (j : Ipld) (v : Vec Ipld Global) → j ≡ List' v → IsTrue (is_integer (tree_of j)) → P
+list_no_integer j v is h = not_integer _ _ (ap tree_of is ∙ tree_of_List v) refl h
+
+pub map_no_integer : {P : Type 0} (j : Ipld) (es : BTreeMap (String Global) Ipld) → j ≡ Map' es → IsTrue (is_integer (tree_of j)) → P
+map_no_integer j es is h = not_integer _ _ (ap tree_of is ∙ tree_of_Map es) refl h

@@ -1,5 +1,5 @@
 -- Why a map that is at hand is refused with a message.
-use Rattle.std.proofs.Common.{◌≡◌, ℕ, suc, ◌<◌, List, [], ◌∷◌, ◌++◌, length, get_or, map, Option, None, Some, Bool, true, false, ◌||◌, is_none, IsTrue, Result, inl, refl, sym, ap, ap₂, ◌∙◌, subst, arith, add-one, codes, IfErr, IsSomeAnd, Any, IsErrAnd}
+use Rattle.std.proofs.Common.{◌≡◌, ℕ, suc, ◌<◌, List, [], ◌∷◌, ◌++◌, length, get_or, map, Option, None, Some, Bool, true, false, ◌||◌, is_none, IsTrue, Result, Err, inl, inr, refl, sym, ap, ap₂, ◌∙◌, subst, arith, add-one, codes, IfErr, IsSomeAnd, Any, IsErrAnd}
 use Rattle.std.specs.List.{list_any}
 use Rattle.std.specs.Map.{keys_of}
 use Rattle.std.proofs.lemmas.List.Folds.{list_any_at, Any-from_list_any}
@@ -8,20 +8,20 @@ use Rattle.std.proofs.lemmas.Map.Keys.{IsDistinct-IsPermutation}
 use Rattle.dagcbor_heads.specs.declared.error.EncodeError.{EncodeError}
 use Rattle.dagcbor_heads.specs.declared.error.EncodeError.TheVariants.{Msg}
 use Rattle.dagcbor_heads.specs.Messages.{message_bytes}
-use Rattle.dagcbor_heads.specs.Written.{Written, Stops}
+use Rattle.dagcbor_heads.specs.Written.{Written, Writes}
 use Rattle.ipld_tree.specs.Tree.{Tree, null, text, pair_of, all_some, repeats_key}
 use Rattle.ipld_tree.specs.Spelled.{spelled, spelled_tree}
 use Rattle.ipld_tree.proofs.Ordered.{AreDistinct, same_place, same_place_flips}
 use Rattle.dagcbor_write.specs.Answers.{OnMessage, IsMessage}
 use Rattle.dagcbor_write.specs.Gathering.{Refused}
 use Rattle.dagcbor_write.specs.Keyed.{PutsKeysInOrder, lacks_value, RefusesKeyedValue}
-use Rattle.dagcbor_write.specs.Maps.{spelled_key, RefusesKey, RefusesAnyKey, RepeatsKey, LacksValue, RefusesMap, keys_alone}
+use Rattle.dagcbor_write.specs.Maps.{spelled_key, RefusesKey, RefusesAnyKey, RepeatsKey, LacksValue, RefusesMap, RefusesEntries, keys_alone}
 use Rattle.dagcbor_write.specs.Pairwise.{Pairwise}
 use Rattle.dagcbor_write.specs.Trees.{Pair}
 use Rattle.dagcbor_write.proofs.Fields.{Given-but}
 use Rattle.dagcbor_write.proofs.KeyOrder.{IsKeyedBy}
 use Rattle.dagcbor_write.proofs.Mapping.{beside, BeginsWithName, clash, repeats}
-use Rattle.dagcbor_write.proofs.Messages.{exit_message}
+use Rattle.dagcbor_write.proofs.Messages.{exit_message, message_tells}
 use Rattle.dagcbor_write.proofs.Walks.{Named}
 
 -- ---- a key
@@ -38,6 +38,10 @@ key_message {T} {E} {X} {Writer} {R} {whole} {left} {p} {held} {s} {t} w r e h i
     by : (e : EncodeError E) → Refused (RefusesKey p.0) e → OnMessage (RefusesMap s t whole) e
     by (Msg m) h = let P : List Pair → Type 0 = λ ps. RefusesAnyKey ps (message_bytes m) in inl (inl (subst P (sym w.split) (any_in (λ q. RefusesKey q.0 (message_bytes m)) w.done left p h)), same)
     by _ h = tt
+
+-- what it is, wherever the writer stands
+pub entries_told : {T E Writer : Type 0} (s t : Writer) (ps : List Pair) (r : Result T (EncodeError E)) → IfErr r (OnMessage (RefusesMap s t ps)) → IfErr r (OnMessage (RefusesEntries ps))
+entries_told s t ps r h = message_tells (RefusesMap s t ps) (RefusesEntries ps) r (λ m k. elim k [ inl a ↦ inl a.0 | inr b ↦ inr b ]) h
 
 -- ---- a key that is there twice
 
@@ -89,9 +93,9 @@ module _ {A : Type 0} (tree : A → Option Tree) where
       (found.0, found.1, found.2, found.3, none_of _ found.4)
 
   -- the value in place i was refused
-  pub value_message : {E : Type 0} (es : List (List ℕ × A)) (i : ℕ) (value : A) → i < length es → ((d : List ℕ × A) → value ≡ (get_or es i d).1) → (old new : Written) (e : EncodeError E) → IsMessage (codes "Struct value cannot be serialized.") e → Stops (spelled_tree (tree value)) old new e
-      → OnMessage (RefusesKeyedValue tree es) e
-  value_message es i value inside is old new (Msg m) said stops =
+  pub value_message : {T E : Type 0} (es : List (List ℕ × A)) (i : ℕ) (value : A) → i < length es → ((d : List ℕ × A) → value ≡ (get_or es i d).1) → (old new : Written) (r : Result T (EncodeError E)) → IfErr r (IsMessage (codes "Struct value cannot be serialized.")) → Writes (spelled_tree (tree value)) old new r
+      → IfErr r (OnMessage (RefusesKeyedValue tree es))
+  value_message es i value inside is old new (Err (Msg m)) said stops =
       let d : List ℕ × A = ([], value) in
       let none : is_none (spelled_tree (tree (get_or es i d).1)) ≡ true = ap (λ v. is_none (spelled_tree (tree v))) (sym (is d)) ∙ ap is_none stops.0 in
       (said, search (list_any_at (lacks_value tree) es i d inside none))

@@ -1,15 +1,18 @@
 -- Why a row of fields is refused with a message.
-use Rattle.std.proofs.Common.{◌≡◌, ℕ, ◌^◌, ◌<◌, List, length, Option, None, Some, Result, Ok, Err, inl, inr, refl, sym, ap, ◌∙◌, subst, IfErr, IsErrAnd}
+use Rattle.std.proofs.Common.{Bool, ◌≡◌, ℕ, ◌^◌, ◌<◌, List, length, get_or, Option, None, Some, Result, Ok, Err, inl, inr, refl, sym, ap, ◌∙◌, subst, IfErr, IsErrAnd}
 use Rattle.std.specs.Fmt.{◌++?◌}
 use Rattle.dagcbor_heads.specs.declared.error.EncodeError.{EncodeError}
-use Rattle.dagcbor_heads.specs.declared.error.EncodeError.TheVariants.{Msg}
-use Rattle.dagcbor_heads.specs.Written.{Written, WroteAll, Writes, Stops}
-use Rattle.ipld_tree.specs.Tree.{text}
+use Rattle.dagcbor_heads.specs.declared.error.EncodeError.TheVariants.{Msg, Write, OutOfMemory}
+use Rattle.dagcbor_heads.specs.Written.{Written, WroteAll, Writes, Stops, WantsMemoryOnlyIf}
+use Rattle.ipld_tree.specs.Tree.{Tree, text}
 use Rattle.ipld_tree.specs.Spelling.{text_spelling}
-use Rattle.ipld_tree.specs.Spelled.{spelled, spelled_head}
+use Rattle.ipld_tree.specs.Spelled.{spelled, spelled_head, spelled_tree}
 use Rattle.ipld_tree.proofs.Spelled.{spelled_is}
-use Rattle.dagcbor_write.specs.Answers.{OnMessage}
+use Rattle.dagcbor_write.specs.Answers.{OnMessage, LacksBefore, RefusesPart, RefusesAnyPart}
+use Rattle.dagcbor_write.specs.Bounded.{WritesItem}
 use Rattle.dagcbor_write.specs.Gathering.{Refused}
+use Rattle.dagcbor_write.specs.Lending.{bounded_lent}
+use Rattle.dagcbor_write.specs.declared.collect.bounded.BoundedCollect.{BoundedCollect}
 use Rattle.dagcbor_write.specs.Trees.{Pair, variant_head}
 use Rattle.dagcbor_write.specs.Maps.{LacksValue, RefusesAnyValue, RefusesKeys, RefusesPairs}
 
@@ -42,6 +45,40 @@ module _ {T E : Type 0} where
   message_tells P Q (Err (Msg m)) more h = more _ h
   message_tells P Q _ more h = tt
 
+  -- the exit of a `?`, where what holds of the part's message tells more of it
+  pub exit_tells : (P Q : List ℕ → Type 0) (r : Result T (EncodeError E)) (e : EncodeError E) → IsErrAnd r (λ d. d ≡ e) → ((m : List ℕ) → P m → Q m) → OnMessage P e → IfErr r (OnMessage Q)
+  exit_tells P Q r e is more h = exit_message Q r e is (by e h)
+    where
+      by : (e : EncodeError E) → OnMessage P e → OnMessage Q e
+      by (Msg m) h = more _ h
+      by _ h = tt
+
+  -- of two facts of a message the first
+  pub first_told : (P Q : List ℕ → Type 0) (r : Result T (EncodeError E)) → IfErr r (OnMessage (λ m. P m × Q m)) → IfErr r (OnMessage P)
+  first_told P Q r h = message_tells (λ m. P m × Q m) P r (λ m k. k.0) h
+
+  -- where the second is that the writer is as it was, nothing was written
+  pub left_unsent : {Writer : Type 0} (written : Writer → Written) (P : List ℕ → Type 0) (s t : Writer) (r : Result T (EncodeError E)) → IfErr r (OnMessage (λ m. P m × (t ≡ s))) → IfErr r (OnMessage (λ m. written t ≡ written s))
+  left_unsent written P s t r h = message_tells (λ m. P m × (t ≡ s)) (λ m. written t ≡ written s) r (λ m k. ap written k.1) h
+
+  -- so too where nothing was written before
+  pub still_unsent : (s mid t : Written) (r : Result T (EncodeError E)) → mid ≡ s → IfErr r (OnMessage (λ m. t ≡ mid)) → IfErr r (OnMessage (λ m. t ≡ s))
+  still_unsent s mid t r same h = message_tells (λ m. t ≡ mid) (λ m. t ≡ s) r (λ m k. k ∙ same) h
+
+  -- a part that is refused with a message has no spelling
+  pub part_told : {A : Type 0} (tree : A → Option Tree) (message : A → List ℕ → Type 0) (x : A) (s t : Written) (r : Result T (EncodeError E)) → Writes (spelled_tree (tree x)) s t r → IfErr r (OnMessage (message x)) → IfErr r (OnMessage (RefusesPart tree message x))
+  part_told tree message x s t (Err (Msg m)) w h = (w.0, h)
+  part_told tree message x s t _ w h = tt
+
+  -- the exit of a `?` at an item
+  pub exit_item : {A W : Type 0} {written : W → Written} {may : Bool} {old new : BoundedCollect W} (tree : A → Option Tree) (message : A → List ℕ → Type 0) (xs : List A) (i : ℕ) (x : A) → i < length xs → x ≡ get_or xs i x → (r : Result T (EncodeError E)) (e : EncodeError E) → IsErrAnd r (λ d. d ≡ e)
+      → WritesItem written may (tree x) (message x) old new (Err e) → IfErr r (OnMessage (RefusesAnyPart tree message xs))
+  exit_item {A} {W} {written} {may} {old} {new} tree message xs i x inside at r e is w = exit_message (RefusesAnyPart tree message xs) r e is (by e w.item w.told)
+    where
+      by : (e : EncodeError E) → Stops (spelled_tree (tree x)) (written (bounded_lent old).now) (written (bounded_lent new).now) e → OnMessage (message x) e → OnMessage (RefusesAnyPart tree message xs) e
+      by (Msg m) w h = (i, x, inside, sym at, (w.0, h))
+      by _ w h = tt
+
 -- ---- a row of fields, where the writer is left as it was
 
 module _ {T E : Type 0} (ps : List Pair) (r : Result T (EncodeError E)) where
@@ -70,3 +107,10 @@ module _ {T E : Type 0} (ps : List Pair) (r : Result T (EncodeError E)) where
   behind_head {Writer} head written start s t w h =
       let P : Writer → Type 0 = λ x. WroteAll head start (written x) in
       message_tells (λ m. RefusesPairs ps m × (s ≡ t)) (λ m. RefusesPairs ps m × WroteAll head start (written s)) r (λ m k. (k.0, subst P (sym k.1) w)) h
+
+-- who may not take memory is not refused for want of it
+pub lacks_of_wants : {T E : Type 0} (may : Bool) (untouched : Type 0) (r : Result T (EncodeError E)) → WantsMemoryOnlyIf may r → LacksBefore may untouched r
+lacks_of_wants may untouched (Ok x) h = tt
+lacks_of_wants may untouched (Err (Msg m)) h = tt
+lacks_of_wants may untouched (Err (Write e)) h = tt
+lacks_of_wants may untouched (Err OutOfMemory) h = inl h

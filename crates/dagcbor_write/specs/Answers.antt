@@ -1,5 +1,5 @@
 -- What writing a value into memory, and to a device, answers.
-use Rattle.std.specs.Prelude.{◌≡◌, ℕ, List, Option, IfSome, IsSomeAnd, ⊤}
+use Rattle.std.specs.Prelude.{false, ◌≡◌, ◌⊎◌, ℕ, Bool, IsTrue, List, Any, None, Some, Option, IfSome, IsSomeAnd, Result, Ok, Err, ⊤}
 use Rattle.std.specs.Io.KnownBytes.{Appends}
 use Rattle.dagcbor_heads.specs.declared.error.EncodeError.{EncodeError}
 use Rattle.dagcbor_heads.specs.declared.error.EncodeError.TheVariants.{Msg, Write, OutOfMemory}
@@ -7,6 +7,7 @@ use Rattle.dagcbor_heads.specs.Messages.{message_bytes}
 use Rattle.dagcbor_heads.specs.Written.{AppendsSome, AppendsFront}
 use Rattle.ipld_tree.specs.Tree.{Tree}
 use Rattle.ipld_tree.specs.Spelling.{spelling, IsSpellable, IsSpelling}
+use Rattle.ipld_tree.specs.Spelled.{spelled_tree}
 
 -- the value has no tree, or its tree no spelling
 abbrev pub HasNoSpelling : Option Tree → Type 0
@@ -47,3 +48,40 @@ OnMessage P OutOfMemory = ⊤
 -- a message, where one is answered, is this text
 abbrev pub IsMessage : {E : Type 0} → List ℕ → EncodeError E → Type 0
 IsMessage text e = OnMessage (λ m. m ≡ text) e
+
+-- want of memory is answered only where the writer may take it, or else before anything went out
+abbrev pub LacksBefore : {T E : Type 0} → Bool → Type 0 → Result T (EncodeError E) → Type 0
+LacksBefore may untouched (Err OutOfMemory) = IsTrue may ⊎ untouched
+LacksBefore may untouched (Err (Msg m)) = ⊤
+LacksBefore may untouched (Err (Write e)) = ⊤
+LacksBefore may untouched (Ok x) = ⊤
+
+-- ---- the message of a value that holds others
+
+-- no message
+abbrev pub NoMessage : List ℕ → Type 0
+NoMessage m = ⊥
+
+-- the part has no spelling, and this is its message
+abbrev pub RefusesPart : {A : Type 0} → (A → Option Tree) → (A → List ℕ → Type 0) → A → List ℕ
+    → Type 0
+RefusesPart tree message x m = (spelled_tree (tree x) ≡ None) × message x m
+
+-- so it is with one of the parts
+abbrev pub RefusesAnyPart : {A : Type 0} → (A → Option Tree) → (A → List ℕ → Type 0) → List A
+    → List ℕ → Type 0
+RefusesAnyPart tree message xs m = Any (λ x. RefusesPart tree message x m) xs
+
+-- one of four is so
+abbrev pub OneOf : (P Q R S : List ℕ → Type 0) → List ℕ → Type 0
+OneOf P Q R S m = P m ⊎ (Q m ⊎ (R m ⊎ S m))
+
+-- the message of an option is that of its part
+abbrev pub option_message : {A : Type 0} → (A → List ℕ → Type 0) → Option A → List ℕ → Type 0
+option_message message None m = ⊥
+option_message message (Some x) m = message x m
+
+-- so is whether it comes before anything goes out
+abbrev pub option_unsent : {A : Type 0} → (A → Bool) → Option A → Bool
+option_unsent unsent None = false
+option_unsent unsent (Some x) = unsent x

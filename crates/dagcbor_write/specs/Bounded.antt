@@ -1,11 +1,12 @@
 -- What the collector of a list of known length does.
-use Rattle.std.specs.Prelude.{◌≡◌, ℕ, ◌+◌, Bool, List, Option, Result, IfOk, OnOk, IfSome}
+use Rattle.std.specs.Prelude.{◌≡◌, ℕ, ◌+◌, Bool, List, Option, Result, IfOk, IfErr, OnOk, IfSome}
 use Rattle.std.specs.Borrow.{MutBor}
 use Rattle.dagcbor_heads.specs.declared.error.EncodeError.{EncodeError}
 use Rattle.dagcbor_heads.specs.Written.{Written, Writes, WroteAll, WantsMemoryOnlyIf}
 use Rattle.ipld_tree.specs.Tree.{Tree, IsTree}
 use Rattle.ipld_tree.specs.Spelled.{spelled_tree}
 use Rattle.dagcbor_write.specs.declared.collect.bounded.BoundedCollect.{BoundedCollect}
+use Rattle.dagcbor_write.specs.Answers.{OnMessage, NoMessage}
 use Rattle.dagcbor_write.specs.Lending.{bounded_lent, bounded_left, SameLoan}
 
 -- A list of so many items was begun: a text went out that ends with its head. Want of memory is
@@ -15,11 +16,13 @@ pub record BeginsList {W E : Type 0} (written : W → Written) (takes_memory : B
   pub head : IfOk r (λ c. WroteAll text (written ser.now) (written (bounded_lent c).now))
   pub left : IfOk r (λ c. bounded_left c ≡ len)
   pub memory : WantsMemoryOnlyIf takes_memory r
+  pub silent : IfErr r (OnMessage NoMessage)
 
 -- The next item went out, or was refused. Either way one less is still to come.
-pub record WritesItem {W E : Type 0} (written : W → Written) (may : Bool) (tree : Option Tree) (old new : BoundedCollect W) (r : Result (Unit {0}) (EncodeError E)) : Type 0 where
+pub record WritesItem {W E : Type 0} (written : W → Written) (may : Bool) (tree : Option Tree) (message : List ℕ → Type 0) (old new : BoundedCollect W) (r : Result (Unit {0}) (EncodeError E)) : Type 0 where
   pub same_reference : SameLoan (bounded_lent old) (bounded_lent new)
   pub left : bounded_left new + 1 ≡ bounded_left old
   pub item : Writes (spelled_tree tree) (written (bounded_lent old).now) (written (bounded_lent new).now) r
   pub well_formed : OnOk r (IfSome tree IsTree)
   pub memory : WantsMemoryOnlyIf may r
+  pub told : IfErr r (OnMessage message)

@@ -7,6 +7,7 @@ pub use Rattle.ipld_tree.specs.Spelling
 pub use Rattle.ipld_tree.specs.Spelled
 pub mod Trees
 pub mod Answers
+pub mod TreeMessages
 pub mod Each
 pub mod Pairwise
 pub mod Gathering

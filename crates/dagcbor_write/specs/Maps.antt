@@ -154,8 +154,11 @@ keys_alone = map (λ p. (p.0, Some null))
 abbrev pub RefusesAnyKey : List Pair → List ℕ → Type 0
 RefusesAnyKey ps m = Any (λ p. RefusesKey p.0 m) ps
 
--- the causes of a map's message: one of its keys, or a key that is there twice, before anything went
--- out; or a value
+-- the causes of a map's message: one of its keys, or a key that is there twice; or a value
+abbrev pub RefusesEntries : List Pair → List ℕ → Type 0
+RefusesEntries ps m = (RefusesAnyKey ps m ⊎ RefusesKeys (keys_alone ps) m) ⊎ RefusesAnyValue ps m
+
+-- the same, where nothing went out before a message of the keys
 abbrev pub RefusesMap : {A : Type 0} → A → A → List Pair → List ℕ → Type 0
 RefusesMap old new ps m = ((RefusesAnyKey ps m ⊎ RefusesKeys (keys_alone ps) m) × (new ≡ old))
     ⊎ RefusesAnyValue ps m

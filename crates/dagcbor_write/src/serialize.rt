@@ -1,9 +1,12 @@
 //! What can be written.
 
-ghost use Rattle.std.specs.Prelude.{Option, OnOk, IfSome, Bool, true, ◌||◌};
+ghost use Rattle.std.specs.Prelude.{◌≡◌, ℕ, List, Option, OnOk, IfErr};
+ghost use Rattle.std.specs.Prelude.{IfSome, Bool, IsTrue, true, false, ◌||◌};
+ghost use Rattle.std.specs.Prelude.{⊤};
 ghost use Rattle.dagcbor_heads.specs.Written.{Writes, WantsMemoryOnlyIf};
 ghost use Rattle.ipld_tree.specs.Tree.{Tree, IsTree};
 ghost use Rattle.ipld_tree.specs.Spelled.{spelled_tree};
+ghost use Rattle.dagcbor_write.specs.Answers.{OnMessage};
 
 use crate::serializer::Serializer;
 use dagcbor_heads::{Write, WriteResult};
@@ -17,11 +20,21 @@ pub trait Serialize {
     /// Whether writing a value may take memory, where the writer takes none.
     ghost takes_memory: { Bool } = { true };
 
+    /// Which messages a value that has no spelling may be refused with. Any, where a type doesn't
+    /// say.
+    ghost message: { Self → List ℕ → Type 0 } = { λ v m. ⊤ };
+
+    /// Whether a message comes before anything goes out.
+    ghost unsent: { Self → Bool } = { λ v. false };
+
     /// Appends the spelling of the value's tree. Refused with `Msg` only where there is none. After
     /// a refusal of a value with a spelling a beginning of it may have gone out.
     fn serialize<W: Write>(&self, alloc: Global, ser: &mut Serializer<W>) -> WriteResult<(), W>
         ensures written { Writes (spelled_tree (tree self.now))
             (W.written ser.old) (W.written ser.new) result }
         ensures well_formed { OnOk result (IfSome (tree self.now) IsTree) }
-        ensures memory { WantsMemoryOnlyIf (takes_memory || W.takes_memory) result };
+        ensures memory { WantsMemoryOnlyIf (takes_memory || W.takes_memory) result }
+        ensures told { IfErr result (OnMessage (message self.now)) }
+        ensures unsent { IsTrue (unsent self.now)
+            → IfErr result (OnMessage (λ _. W.written ser.new ≡ W.written ser.old)) };
 }

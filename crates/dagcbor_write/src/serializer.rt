@@ -1,6 +1,7 @@
 //! The serializer, and what it writes by itself: leaves.
 
-ghost use Rattle.std.specs.Prelude.{◌≡◌, ◌≤◌, Some, OnOk, IfErr, codes, false, pos, IfSome, ◌||◌};
+ghost use Rattle.std.specs.Prelude.{◌≡◌, ◌≤◌, Some, OnOk, IfErr};
+ghost use Rattle.std.specs.Prelude.{codes, false, pos, IfSome, IsTrue, ◌||◌};
 ghost use Rattle.std.specs.Char.{encode_utf8};
 ghost use Rattle.dagcbor_heads.specs.Written.{Writes, WritesAtOnce, WantsMemoryOnlyIf};
 ghost use Rattle.ipld_tree.specs.Cid.{cid_bytes};
@@ -76,6 +77,7 @@ impl<W: Write> Serializer<W> {
         ensures written { Writes (spelled (boolean v))
             (W.written self.old) (W.written self.new) result }
         ensures memory { WantsMemoryOnlyIf W.takes_memory result }
+        ensures silent { IfErr result (OnMessage (λ _. ⊥)) }
     {
         self.writer.push(&[if v { 0xf5 } else { 0xf4 }])
     }
@@ -207,6 +209,7 @@ impl<W: Write> Serializer<W> {
         ensures written { Writes (spelled (text v.now))
             (W.written self.old) (W.written self.new) result }
         ensures memory { WantsMemoryOnlyIf W.takes_memory result }
+        ensures silent { IfErr result (OnMessage (λ _. ⊥)) }
     {
         if counted_at_once(&mut self.writer, 3, v.as_bytes()) {
             return Ok(());
@@ -220,6 +223,7 @@ impl<W: Write> Serializer<W> {
         ensures written { Writes (spelled (bytes v.now))
             (W.written self.old) (W.written self.new) result }
         ensures memory { WantsMemoryOnlyIf W.takes_memory result }
+        ensures silent { IfErr result (OnMessage (λ _. ⊥)) }
     {
         if counted_at_once(&mut self.writer, 2, v) {
             return Ok(());
@@ -232,6 +236,7 @@ impl<W: Write> Serializer<W> {
     pub fn serialize_none(&mut self) -> WriteResult<(), W>
         ensures written { Writes (spelled null) (W.written self.old) (W.written self.new) result }
         ensures memory { WantsMemoryOnlyIf W.takes_memory result }
+        ensures silent { IfErr result (OnMessage (λ _. ⊥)) }
     {
         self.writer.push(&[0xf6])
     }
@@ -240,6 +245,7 @@ impl<W: Write> Serializer<W> {
     pub fn serialize_unit(&mut self) -> WriteResult<(), W>
         ensures written { Writes (spelled null) (W.written self.old) (W.written self.new) result }
         ensures memory { WantsMemoryOnlyIf W.takes_memory result }
+        ensures silent { IfErr result (OnMessage (λ _. ⊥)) }
     {
         self.serialize_none()
     }
@@ -260,6 +266,7 @@ impl<W: Write> Serializer<W> {
         ensures memory { WantsMemoryOnlyIf W.takes_memory result }
         ensures well_formed { OnOk result (IsTree (link (cid_bytes cid.now))) }
         ensures spellable { IsSpellable (link (cid_bytes cid.now)) }
+        ensures silent { IfErr result (OnMessage (λ _. ⊥)) }
     {
         let mut bytes = ArrayVec::new();
         cid.write_bytes(&mut bytes);
@@ -298,6 +305,9 @@ impl<W: Write> Serializer<W> {
             (W.written self.old) (W.written self.new) result }
         ensures well_formed { OnOk result (IfSome (T.tree value.now) IsTree) }
         ensures memory { WantsMemoryOnlyIf (T.takes_memory || W.takes_memory) result }
+        ensures told { IfErr result (OnMessage (T.message value.now)) }
+        ensures unsent { IsTrue (T.unsent value.now)
+            → IfErr result (OnMessage (λ _. W.written self.new ≡ W.written self.old)) }
     {
         value.serialize(alloc, self)
     }
@@ -313,6 +323,9 @@ impl<W: Write> Serializer<W> {
             (W.written self.old) (W.written self.new) result }
         ensures well_formed { OnOk result (IfSome (T.tree value.now) IsTree) }
         ensures memory { WantsMemoryOnlyIf (T.takes_memory || W.takes_memory) result }
+        ensures told { IfErr result (OnMessage (T.message value.now)) }
+        ensures unsent { IsTrue (T.unsent value.now)
+            → IfErr result (OnMessage (λ _. W.written self.new ≡ W.written self.old)) }
     {
         self.serialize_some(alloc, value)
     }
@@ -346,6 +359,7 @@ impl<W: Write> Serializer<W> {
         ensures well_formed { OnOk result
             (IfSome (variant_tree variant.now (T.tree value.now)) IsTree) }
         ensures memory { WantsMemoryOnlyIf (T.takes_memory || W.takes_memory) result }
+        ensures told { IfErr result (OnMessage (T.message value.now)) }
     {
         self.push_variant(variant)?;
         Serialize::serialize(value, alloc, self)
@@ -357,6 +371,7 @@ impl<W: Write> Serializer<W> {
             (W.written self.old) (W.written self.new) result }
         ensures memory { WantsMemoryOnlyIf W.takes_memory result }
         ensures well_formed { OnOk result (IsTree (text name.now)) }
+        ensures silent { IfErr result (OnMessage (λ _. ⊥)) }
     {
         self.push_head(5, 1)?;
         self.serialize_str(name)
@@ -374,6 +389,7 @@ impl<W: Write> Serializer<W> {
             (W.written self.old) (W.written self.new) result }
         ensures memory { WantsMemoryOnlyIf W.takes_memory result }
         ensures well_formed { OnOk result (IsTree (text variant.now)) }
+        ensures silent { IfErr result (OnMessage (λ _. ⊥)) }
     {
         self.push_variant(variant)?;
         self.push_head(major, len)
@@ -465,6 +481,7 @@ fn push_counted<W: Write>(writer: &mut W, major: u8, payload: &[u8]) -> WriteRes
     ensures written { Writes (spelled_bytes major payload.now)
         (W.written writer.old) (W.written writer.new) result }
     ensures memory { WantsMemoryOnlyIf W.takes_memory result }
+    ensures silent { IfErr result (OnMessage (λ _. ⊥)) }
 {
     let head = push_head(writer, major, payload.len() as u64);
     if head.is_err() {
@@ -495,6 +512,7 @@ fn push_link<W: Write>(writer: &mut W, cid: &ArrayVec<u8, 86>) -> WriteResult<()
         (W.written writer.old) (W.written writer.new) result }
     ensures memory { WantsMemoryOnlyIf W.takes_memory result }
     ensures spellable { IsSpellable (link cid.now.items) }
+    ensures silent { IfErr result (OnMessage (λ _. ⊥)) }
 {
     let count = cid.len() as u64 + 1;
     let tag = writer.push(&[0xd8, 0x2a]);

@@ -1,7 +1,7 @@
 //! Structs that are written by a row of their fields.
 
 ghost use Rattle.std.specs.Prelude.{◌≡◌, length, Some, OnOk, IfErr, IfSome};
-ghost use Rattle.dagcbor_write.specs.Answers.{OnMessage};
+ghost use Rattle.dagcbor_write.specs.Answers.{OnMessage, LacksBefore};
 ghost use Rattle.dagcbor_heads.specs.Written.{Writes, WroteAll};
 ghost use Rattle.ipld_tree.specs.Tree.{IsTree, entries_tree};
 ghost use Rattle.ipld_tree.specs.Spelled.{spelled_tree};
@@ -115,6 +115,7 @@ fn write_rising<F: FieldRow, W: Write>(
     ensures well_formed { OnOk result (IfSome (entries_tree (F.pairs fields)) IsTree) }
     ensures message { IfErr result
         (OnMessage (λ m. RefusesAnyValue (F.pairs fields) m × (ser.new ≡ ser.old))) }
+    ensures memory { LacksBefore W.takes_memory (ser.new ≡ ser.old) result }
 {
     let mut bytes = Vec::new(alloc);
     gather_fields(alloc, &mut bytes, fields, order)?;
@@ -137,6 +138,7 @@ fn write_any<F: FieldRow, W: Write>(
     ensures well_formed { OnOk result (IfSome (entries_tree (F.pairs fields)) IsTree) }
     ensures message { IfErr result
         (OnMessage (λ m. RefusesPairs (F.pairs fields) m × (ser.new ≡ ser.old))) }
+    ensures memory { LacksBefore W.takes_memory (ser.new ≡ ser.old) result }
 {
     let mut map = ser.serialize_map(alloc, None);
     fields.push_fields(&mut map)?;
@@ -156,6 +158,7 @@ fn write_unordered<F: FieldRow, W: Write>(
     ensures well_formed { OnOk result (IfSome (entries_tree (F.pairs fields)) IsTree) }
     ensures message { IfErr result
         (OnMessage (λ m. RefusesPairs (F.pairs fields) m × (ser.new ≡ ser.old))) }
+    ensures memory { LacksBefore W.takes_memory (ser.new ≡ ser.old) result }
 {
     let mut places = ArrayVec::new();
     if list_in_order(fields, &mut places) {
@@ -185,6 +188,7 @@ pub fn write_struct<F: FieldRow, W: Write>(
     ensures well_formed { OnOk result (IfSome (entries_tree (F.pairs fields)) IsTree) }
     ensures message { IfErr result
         (OnMessage (λ m. RefusesPairs (F.pairs fields) m × (ser.new ≡ ser.old))) }
+    ensures memory { LacksBefore W.takes_memory (ser.new ≡ ser.old) result }
 {
     match fields.count_rising("", 0) {
         Some(count) => write_rising(alloc, fields, None, count, ser),
@@ -212,6 +216,8 @@ pub fn write_struct_variant<F: FieldRow, W: Write>(
         (IfSome (variant_tree variant.now (entries_tree (F.pairs fields))) IsTree) }
     ensures message { IfErr result (OnMessage (λ m. RefusesPairs (F.pairs fields) m
         × WroteAll (variant_head variant.now) (W.written ser.old) (W.written ser.new))) }
+    ensures memory { LacksBefore W.takes_memory
+        (WroteAll (variant_head variant.now) (W.written ser.old) (W.written ser.new)) result }
 {
     ser.push_variant(variant)?;
     write_struct(alloc, fields, ser)

@@ -4,7 +4,7 @@ ghost use Rattle.std.specs.Prelude.{◌≡◌, ◌⊎◌, IfOk, IfErr, false, �
 ghost use Rattle.dagcbor_heads.specs.Written.{WantsMemoryOnlyIf};
 ghost use Rattle.dagcbor_heads.specs.declared.error.EncodeError.TheVariants.{OutOfMemory};
 ghost use Rattle.dagcbor_write.specs.Answers.{HasNoSpelling, AreSpellingOf, GrewBySpelling};
-ghost use Rattle.dagcbor_write.specs.Answers.{GrewByFront, IsWriteExcuse};
+ghost use Rattle.dagcbor_write.specs.Answers.{GrewByFront, IsWriteExcuse, OnMessage};
 
 use crate::collect::buffer::FIRST_ROOM;
 use crate::serialize::Serialize;
@@ -24,6 +24,7 @@ use std::io;
 pub fn to_vec<T: Serialize>(alloc: Global, value: &T) -> Result<Vec<u8>, EncodeError<Infallible>>
     ensures value { IfOk result (λ v. AreSpellingOf (T.tree value.now) v.items) }
     ensures refused { IfErr result (λ e. (e ≡ OutOfMemory) ⊎ HasNoSpelling (T.tree value.now)) }
+    ensures told { IfErr result (OnMessage (T.message value.now)) }
 {
     let Ok(bytes) = Vec::with_capacity(alloc, FIRST_ROOM) else {
         return Err(EncodeError::OutOfMemory);
@@ -55,6 +56,7 @@ pub fn to_writer<W: io::Write, T: Serialize>(
     ensures sent { IfErr result
         (λ _. GrewByFront (T.tree value.now) (W.contents writer.old) (W.contents writer.new)) }
     ensures memory { WantsMemoryOnlyIf (T.takes_memory || false) result }
+    ensures told { IfErr result (OnMessage (T.message value.now)) }
 {
     let mut ser = Serializer::new(IoRefWriter::new(writer));
     let result = value.serialize(alloc, &mut ser);

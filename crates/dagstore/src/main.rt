@@ -2,25 +2,20 @@
 #![tactic(auto)]
 
 mod command;
-mod progress;
-mod said;
-mod walk;
 
-use command::{Command, command_of};
-use dagcbor_cli::{arguments, give_up};
-use dagcbor_heads::{Input, IoReader, IoWriter};
-use dagcbor_store::{BlockStore, FileFrom, FileStore, ReadCarError, Wary, WriteTreeError};
-use ipld_tree::Cid;
-use progress::{Counted, Progress};
-use said::{
-    Fault, NO_BLOCK, NOT_WRITTEN, OUT_OF_MEMORY, USAGE, say_block, say_count, say_fault, say_lost,
-    say_refusal, say_unread, say_unwritten,
+use block_lines::no_cid_line;
+use command::{Command, Words, words_of};
+use dagcbor_cli::{ToolError, arguments, give_up, write_all};
+use dagcbor_store::{BlockStore, FileFrom, FileStore, Wary};
+use dagstore_lines::{
+    Counted, Fault, HELP, NO_STORE, NOT_READ, NOT_WRITTEN, OUT_OF_MEMORY, Progress, USAGE, VERSION,
+    answer_check, answer_collect, answer_count, answer_export, answer_get, answer_has, answer_list,
+    answer_put, answer_remove, answer_tree, end, import_blocks, tell_refusal,
 };
-use std::alloc::Global;
-use std::io;
-use std::io::{BufRead, BufReader, BufWriter, IsTerminal, Write};
+use ipld_tree::Cid;
+use std::fs;
+use std::io::{BufReader, BufWriter, IsTerminal, Read, Write};
 use std::process::ExitCode;
-use walk::{check, list};
 
 type Store = BlockStore<FileStore<FileFrom<Wary>>>;
 
@@ -29,136 +24,207 @@ const BYTES: u64 = 10_000_000;
 
 const BLOCKS: u64 = 10_000;
 
-/// Keeps the blocks of the file that the source has, and tells how far it is.
-fn read_counted<R: BufRead + Drop, W: Write>(
+/// Keeps the blocks of the file that the source has, all of them or none, and tells how far it is.
+fn import_from<R: Read + Drop, W: Write>(
     rt: &HostRuntime,
     store: &mut Store,
     source: R,
     errors: &mut W,
-) -> Result<(Vec<Cid>, u64), ReadCarError<io::Error>> {
+) -> u8 {
+    let Ok(source) = BufReader::new(rt.alloc(), source) else {
+        return give_up(errors, OUT_OF_MEMORY, 2);
+    };
     let is_told = rt.stderr().is_terminal();
-    let progress = Progress::new(rt.alloc(), errors, is_told, "bytes are read", BYTES);
-    let mut input = Input::Reader(IoReader::new(Counted { source, progress }));
-    store.read_car(&mut input)
+    let progress = Progress::new(rt.alloc(), rt.stderr(), is_told, "bytes are read", BYTES);
+    let counted = Counted::new(source, progress);
+    import_blocks(rt.alloc(), store, counted, &mut rt.stdout().lock(), errors)
 }
 
-/// Keeps the blocks of the file on standard input, all of them or none.
-fn run_import<W: Write>(rt: &HostRuntime, store: &mut Store, errors: &mut W) -> u8 {
-    let Ok(source) = BufReader::new(rt.alloc(), rt.reader()) else {
-        return give_up(errors, OUT_OF_MEMORY, 2);
+/// Keeps the blocks of the file at the path, or of the one on standard input.
+fn run_import<W: Write>(rt: &HostRuntime, path: &str, from: Option<&str>, errors: &mut W) -> u8 {
+    let Some(from) = from else {
+        return match open(rt, path, errors) {
+            Ok(mut store) => import_from(rt, &mut store, rt.reader(), errors),
+            Err(status) => status,
+        };
     };
-    match read_counted(rt, store, source, errors) {
-        Ok((_roots, count)) => say_count(
-            rt.alloc(),
-            "stored",
-            count,
-            &mut rt.stdout().lock(),
-            errors,
-        ),
-        Err(error) => say_unread(rt.alloc(), &error, errors),
+    // It is opened first, so that no store is made where there is no source.
+    let Ok(source) = fs::File::open(rt, from) else {
+        return give_up(errors, NOT_READ, 2);
+    };
+    match open(rt, path, errors) {
+        Ok(mut store) => import_from(rt, &mut store, source, errors),
+        Err(status) => status,
     }
 }
 
-/// Writes the file of all blocks on standard output.
-fn run_export<W: Write>(rt: &HostRuntime, store: &mut Store, errors: &mut W) -> u8 {
-    let Ok(output) = BufWriter::new(rt.alloc(), rt.stdout().lock()) else {
+/// Keeps the block under its name of this codec.
+fn put_into<W: Write>(
+    rt: &HostRuntime,
+    store: &mut Store,
+    codec: u64,
+    block: &[u8],
+    errors: &mut W,
+) -> u8 {
+    answer_put(
+        rt.alloc(),
+        store,
+        codec,
+        block,
+        &mut rt.stdout().lock(),
+        errors,
+    )
+}
+
+/// Keeps the block that standard input has, under its name of this codec.
+fn run_put<W: Write>(rt: &HostRuntime, path: &str, codec: u64, errors: &mut W) -> u8 {
+    let mut block = Vec::new(rt.alloc());
+    if rt.reader().read_to_end(&mut block).is_err() {
+        return give_up(errors, NOT_READ, 2);
+    }
+    match open(rt, path, errors) {
+        Ok(mut store) => put_into(rt, &mut store, codec, &block, errors),
+        Err(status) => status,
+    }
+}
+
+/// Tells whether something is listed under the name, by the status alone.
+fn run_has<W: Write>(store: &mut Store, name: &Cid, errors: &mut W) -> u8 {
+    answer_has(store, name, errors)
+}
+
+/// Takes out the blocks under the names, and says how many. Status 1 where one is not listed.
+fn run_remove<W: Write>(rt: &HostRuntime, store: &mut Store, names: &[Cid], errors: &mut W) -> u8 {
+    answer_remove(rt.alloc(), store, names, &mut rt.stdout().lock(), errors)
+}
+
+/// Keeps what links lead to from the roots, and says how many names were taken out.
+fn run_collect<W: Write>(rt: &HostRuntime, store: &mut Store, roots: &[Cid], errors: &mut W) -> u8 {
+    answer_collect(rt.alloc(), store, roots, &mut rt.stdout().lock(), errors)
+}
+
+/// Writes the file of these roots and of all blocks on standard output.
+fn run_export<W: Write>(rt: &HostRuntime, store: &mut Store, roots: &[Cid], errors: &mut W) -> u8 {
+    let Ok(mut output) = BufWriter::new(rt.alloc(), rt.stdout().lock()) else {
         return give_up(errors, OUT_OF_MEMORY, 2);
     };
-    let mut writer = IoWriter::new(output);
-    match store.write_car(&[], &mut writer) {
-        Ok(()) => flushed(writer.into_inner(), 0, errors),
-        Err(error) => say_unwritten(rt.alloc(), &error, errors),
-    }
+    let status = answer_export(store, roots, &mut output, errors);
+    flushed(output, status, errors)
 }
 
 /// Writes the file of the blocks that links lead to from the root on standard output, and the links
 /// that lead to none on standard error.
 fn run_tree<W: Write>(rt: &HostRuntime, store: &mut Store, root: &Cid, errors: &mut W) -> u8 {
-    let Ok(output) = BufWriter::new(rt.alloc(), rt.stdout().lock()) else {
+    let Ok(mut output) = BufWriter::new(rt.alloc(), rt.stdout().lock()) else {
         return give_up(errors, OUT_OF_MEMORY, 2);
     };
-    let mut writer = IoWriter::new(output);
-    match store.write_tree(root, &mut writer) {
-        Ok(lost) => {
-            let status = say_lost(rt.alloc(), &lost, errors);
-            flushed(writer.into_inner(), status, errors)
-        }
-        Err(WriteTreeError::NotStored) => give_up(errors, NO_BLOCK, 1),
-        Err(WriteTreeError::Unwritten(error)) => say_unwritten(rt.alloc(), &error, errors),
-    }
+    let status = answer_tree(rt.alloc(), store, root, &mut output, errors);
+    flushed(output, status, errors)
 }
 
 /// Writes the block under the name on standard output.
 fn run_get<W: Write>(rt: &HostRuntime, store: &mut Store, name: &Cid, errors: &mut W) -> u8 {
-    let found = store.get_block(name);
-    say_block(rt.alloc(), found, &mut rt.stdout().lock(), errors)
+    answer_get(rt.alloc(), store, name, &mut rt.stdout().lock(), errors)
 }
 
-/// Says how many blocks there are.
+/// Says how many names there are.
 fn run_count<W: Write>(rt: &HostRuntime, store: &mut Store, errors: &mut W) -> u8 {
-    match store.len() {
-        Ok(count) => say_count(rt.alloc(), "holds", count, &mut rt.stdout().lock(), errors),
-        Err(refusal) => say_refusal(rt.alloc(), &refusal, errors),
-    }
+    answer_count(rt.alloc(), store, &mut rt.stdout().lock(), errors)
 }
 
-/// The status, once all lines are out.
+/// The status, once all that was written is out.
 fn flushed<O: Write + Drop, W: Write>(mut output: O, status: u8, errors: &mut W) -> u8 {
     match output.flush() {
-        Ok(()) => status,
-        Err(_) => give_up(errors, NOT_WRITTEN, 2),
+        Err(_) if status != 2 => give_up(errors, NOT_WRITTEN, 2),
+        _ => status,
     }
 }
 
-/// Status 1 where something is wrong.
-fn status_of<W: Write>(alloc: Global, is_well: Result<bool, Fault>, errors: &mut W) -> u8 {
-    match is_well {
-        Ok(true) => 0,
-        Ok(false) => 1,
-        Err(fault) => say_fault(alloc, fault, errors),
-    }
-}
-
-/// Writes a line for each block.
-fn run_lines<W: Write>(rt: &HostRuntime, store: &mut Store, judges: bool, errors: &mut W) -> u8 {
-    let alloc = rt.alloc();
-    let Ok(mut output) = BufWriter::new(alloc, rt.stdout().lock()) else {
+/// Writes the verdict on each block, and tells how far it is.
+fn run_check<W: Write>(rt: &HostRuntime, store: &mut Store, errors: &mut W) -> u8 {
+    let Ok(mut output) = BufWriter::new(rt.alloc(), rt.stdout().lock()) else {
         return give_up(errors, OUT_OF_MEMORY, 2);
     };
-    let status = if judges {
-        let is_told = rt.stderr().is_terminal();
-        let mut progress = Progress::new(alloc, errors, is_told, "blocks are judged", BLOCKS);
-        let checked = check(alloc, store, &mut output, &mut progress);
-        status_of(alloc, checked, errors)
-    } else {
-        status_of(alloc, list(alloc, store, &mut output), errors)
-    };
+    let is_told = rt.stderr().is_terminal();
+    let mut progress = Progress::new(
+        rt.alloc(),
+        rt.stderr(),
+        is_told,
+        "blocks are judged",
+        BLOCKS,
+    );
+    let status = answer_check(rt.alloc(), store, &mut output, errors, &mut progress);
     flushed(output, status, errors)
 }
 
-fn run<W: Write>(rt: &HostRuntime, path: &str, command: Command, errors: &mut W) -> u8 {
-    let mut store = match BlockStore::open(rt, path, Wary) {
-        Ok(store) => store,
-        Err(refusal) => return say_refusal(rt.alloc(), &refusal, errors),
+/// Writes a line for each block.
+fn run_list<W: Write>(rt: &HostRuntime, store: &mut Store, errors: &mut W) -> u8 {
+    let Ok(mut output) = BufWriter::new(rt.alloc(), rt.stdout().lock()) else {
+        return give_up(errors, OUT_OF_MEMORY, 2);
     };
+    let status = answer_list(rt.alloc(), store, &mut output, errors);
+    flushed(output, status, errors)
+}
+
+/// Opens the store, or makes it. The status, where it can't be.
+fn open<W: Write>(rt: &HostRuntime, path: &str, errors: &mut W) -> Result<Store, u8> {
+    match BlockStore::open(rt, path, Wary) {
+        Ok(store) => Ok(store),
+        Err(refusal) => Err(tell_refusal(&refusal, errors)),
+    }
+}
+
+/// Does what is to be done with a file that is there.
+fn run<W: Write>(rt: &HostRuntime, path: &str, command: Command, errors: &mut W) -> u8 {
+    if matches!(fs::exists(rt, path), Ok(false)) {
+        return give_up(errors, NO_STORE, 1);
+    }
+    match open(rt, path, errors) {
+        Ok(mut store) => run_over(rt, &mut store, command, errors),
+        Err(status) => status,
+    }
+}
+
+fn run_over<W: Write>(rt: &HostRuntime, store: &mut Store, command: Command, errors: &mut W) -> u8 {
     match command {
-        Command::Import => run_import(rt, &mut store, errors),
-        Command::Export => run_export(rt, &mut store, errors),
-        Command::Get(name) => run_get(rt, &mut store, &name, errors),
-        Command::Tree(root) => run_tree(rt, &mut store, &root, errors),
-        Command::Check => run_lines(rt, &mut store, true, errors),
-        Command::List => run_lines(rt, &mut store, false, errors),
-        Command::Count => run_count(rt, &mut store, errors),
+        Command::Export(roots) => run_export(rt, store, &roots, errors),
+        Command::Get(name) => run_get(rt, store, &name, errors),
+        Command::Has(name) => run_has(store, &name, errors),
+        Command::Remove(names) => run_remove(rt, store, &names, errors),
+        Command::Collect(roots) => run_collect(rt, store, &roots, errors),
+        Command::Tree(root) => run_tree(rt, store, &root, errors),
+        Command::Check => run_check(rt, store, errors),
+        Command::List => run_list(rt, store, errors),
+        Command::Count => run_count(rt, store, errors),
+    }
+}
+
+/// Writes what was asked for.
+fn run_text<W: Write>(rt: &HostRuntime, text: &str, errors: &mut W) -> u8 {
+    match write_all(&mut rt.stdout().lock(), text.as_bytes()) {
+        Ok(()) => 0,
+        Err(_) => end(Err(Fault::Tool(ToolError::Output)), errors),
+    }
+}
+
+/// Does what the words say, and answers the exit status.
+fn run_words<W: Write>(rt: &HostRuntime, words: &[String], errors: &mut W) -> u8 {
+    match words_of(rt.alloc(), words) {
+        Ok(Words::Import(path, from)) => run_import(rt, path, from, errors),
+        Ok(Words::Put(path, codec)) => run_put(rt, path, codec, errors),
+        Ok(Words::Do(path, command)) => run(rt, path, command, errors),
+        Ok(Words::Help) => run_text(rt, HELP, errors),
+        Ok(Words::Version) => run_text(rt, VERSION, errors),
+        Ok(Words::NoCid(cause)) => give_up(errors, no_cid_line(&cause), 2),
+        Ok(Words::Unknown) => give_up(errors, USAGE, 2),
+        Err(_) => give_up(errors, OUT_OF_MEMORY, 2),
     }
 }
 
 fn main(rt: HostRuntime) -> ExitCode {
     let mut errors = rt.stderr().lock();
     let status = match arguments(&rt) {
-        Ok(words) => match command_of(&words) {
-            Some((path, command)) => run(&rt, path, command, &mut errors),
-            None => give_up(&mut errors, USAGE, 2),
-        },
+        Ok(words) => run_words(&rt, &words, &mut errors),
         Err(_) => give_up(&mut errors, OUT_OF_MEMORY, 2),
     };
     ExitCode::from(status)

@@ -3,3 +3,4 @@ mod dagcar;
 mod dagcbor;
 mod found;
 mod make;
+mod paths;

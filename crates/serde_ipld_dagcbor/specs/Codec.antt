@@ -1,6 +1,6 @@
 -- What DAG-CBOR is as a codec: bytes are tied to trees by their spelling.
 use Rattle.std.proofs.Common.{sym, ◌∙◌, ap}
-use Rattle.std.specs.Prelude.{◌≡◌, ◌⊎◌, ℕ, ◌≤◌, List, [], Option, Some, IfSome, IfErr, Result, Vec}
+use Rattle.std.specs.Prelude.{◌≡◌, ◌⊎◌, ℕ, ◌≤◌, List, [], Option, Some, IfSome, IfErr, Result, Err, Bool, ⊤, Vec}
 use Rattle.std.specs.declared.alloc.Global.{Global}
 use Rattle.dagcbor_heads.specs.declared.error.DecodeError.{DecodeError}
 use Rattle.dagcbor_heads.specs.declared.error.DecodeError.TheVariants as unread
@@ -11,7 +11,8 @@ use Rattle.ipld_tree.specs.Spelling.{IsSpelling}
 use Rattle.ipld_tree.specs.declared.cid_iter.CidIter.{CidIter}
 use Rattle.ipld_tree.proofs.Fronts.{front_unique}
 use Rattle.dagcbor_items.proofs.SliceReads.{whole_front}
-use Rattle.dagcbor_write.specs.Answers.{HasNoSpelling, GrewByFront, IsWriteExcuse}
+use Rattle.dagcbor_write.specs.Answers.{HasNoSpelling, GrewByFront, IsWriteExcuse, OnMessage}
+use Rattle.dagcbor_heads.specs.Written.{WantsMemoryOnlyIf}
 use Rattle.dagcbor_read.specs.Whole.{HoldsNoValue, IsReadExcuse, OfWhole}
 use Rattle.std.specs.declared.io.Error.{Error}
 use Rattle.dagcbor_items.specs.Slices.{AreFirstLinks, LinksRefused}
@@ -99,6 +100,17 @@ NotEncoded tree old new _ = ⊥
 abbrev pub EncodeRefused : Option Tree → Option (List ℕ) → Result (Unit {0}) CodecError
     → Option (List ℕ) → Type 0
 EncodeRefused tree old result new = IfErr result (NotEncoded tree old new)
+
+-- want of memory comes only where writing the value may take some
+abbrev pub EncodeLacksMemoryIf : Bool → CodecError → Type 0
+EncodeLacksMemoryIf may (EncodeIo e) = WantsMemoryOnlyIf {T = Unit {0}} may (Err e)
+EncodeLacksMemoryIf may _ = ⊤
+
+-- the message of a value that is not written
+abbrev pub EncodeTells : (List ℕ → Type 0) → CodecError → Type 0
+EncodeTells message (Encode e) = OnMessage message e
+EncodeTells message (EncodeIo e) = OnMessage message e
+EncodeTells message _ = ⊤
 
 -- why a value is not written
 abbrev pub NotEncodedAsVec : Option Tree → CodecError → Type 0

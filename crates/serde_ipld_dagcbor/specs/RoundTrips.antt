@@ -13,7 +13,6 @@ use Rattle.ipld_tree.specs.declared.ipld.Ipld.{Ipld}
 use Rattle.dagcbor_write.specs.Answers.{AreSpellingOf, HasNoSpelling}
 use Rattle.dagcbor_read.specs.Whole.{IsWhole, HoldsNoValue, OfWhole}
 use Rattle.dagcbor_items.specs.Shapes.{Shape, any_tree}
-use Rattle.dagcbor_heads.specs.Reading.{default_steps}
 
 -- what `to_vec` says of its answer
 abbrev pub IsWritten : Option Tree → Result (Vec ℕ Global) (EncodeError Infallible) → Type 0
@@ -21,12 +20,12 @@ IsWritten tree written = MatchResult written
     (λ v. AreSpellingOf tree v.items)
     (λ e. (e ≡ unwritten.OutOfMemory) ⊎ HasNoSpelling tree)
 
--- what `from_slice` says of its answer
-abbrev pub IsRead : {T V : Type 0} → (T → V) → Shape Tree V → List ℕ
+-- what `from_slice_with_depth` says of its answer, and at the default budget `from_slice`
+abbrev pub IsRead : {T V : Type 0} → (T → V) → Shape Tree V → (steps : ℕ) → List ℕ
     → Result T (DecodeError Infallible) → Type 0
-IsRead held shape b read = MatchResult read
-    (λ v. IsWhole shape default_steps b (held v))
-    (λ e. ((e ≡ unread.OutOfMemory) ⊎ HoldsNoValue shape default_steps b) × OfWhole e)
+IsRead held shape steps b read = MatchResult read
+    (λ v. IsWhole shape steps b (held v))
+    (λ e. ((e ≡ unread.OutOfMemory) ⊎ HoldsNoValue shape steps b) × OfWhole e)
 
 -- the bytes were written, or memory was wanting
 abbrev pub IsWrittenBack : List ℕ → Result (Vec ℕ Global) (EncodeError Infallible) → Type 0
@@ -34,19 +33,22 @@ IsWrittenBack b (Ok v) = v.items ≡ b
 IsWrittenBack b (Err unwritten.OutOfMemory) = ⊤
 IsWrittenBack b (Err _) = ⊥
 
--- What was read of bytes is written as the same bytes, where its tree is the one that it was read
--- from.
+-- What was read of bytes, within any budget of steps, is written as the same bytes, where its tree
+-- is the one that it was read from.
 abbrev pub TypedReadThenWritten : {T V : Type 0} → (T → V) → Shape Tree V → (T → Option Tree)
     → Type 0
-TypedReadThenWritten {T} held shape tree = (b : List ℕ) (value : T) (written : Result (Vec ℕ Global) (EncodeError Infallible))
+TypedReadThenWritten {T} held shape tree =
+    (steps : ℕ) (b : List ℕ) (value : T)
+    (written : Result (Vec ℕ Global) (EncodeError Infallible))
     → ((t : Tree) → IsSpelling b t → shape.view t ≡ Some (held value) → tree value ≡ Some t)
-    → IsWhole shape default_steps b (held value) → IsWritten (tree value) written
+    → IsWhole shape steps b (held value) → IsWritten (tree value) written
     → IsWrittenBack b written
 
--- What was read of bytes is written as the same bytes.
+-- What was read of bytes, within any budget of steps, is written as the same bytes.
 abbrev pub ReadThenWritten : Type 0
-ReadThenWritten = (b : List ℕ) (value : Ipld) (written : Result (Vec ℕ Global) (EncodeError Infallible))
-    → IsWhole any_tree default_steps b (tree_of value) → IsWritten (Some (tree_of value)) written
+ReadThenWritten = (steps : ℕ) (b : List ℕ) (value : Ipld)
+    (written : Result (Vec ℕ Global) (EncodeError Infallible))
+    → IsWhole any_tree steps b (tree_of value) → IsWritten (Some (tree_of value)) written
     → IsWrittenBack b written
 
 -- a value that holds this was read, or memory was wanting
@@ -55,16 +57,21 @@ IsReadBack held x (Ok copy) = held copy ≡ x
 IsReadBack held x (Err unread.OutOfMemory) = ⊤
 IsReadBack held x (Err _) = ⊥
 
--- What was written of a value is read as what its tree shows to the type, where the need is within
--- the steps.
+-- What was written of a value is read as what its tree shows to the type, within any budget of
+-- steps that is not below the need.
 abbrev pub TypedWrittenThenRead : {T V : Type 0} → (T → V) → Shape Tree V → (T → Option Tree)
     → Type 0
-TypedWrittenThenRead {T} {V} held shape tree = (value : T) (t : Tree) (x : V) (v : Vec ℕ Global) (read : Result T (DecodeError Infallible))
-    → tree value ≡ Some t → shape.view t ≡ Some x → shape.need t ≤ default_steps
-    → AreSpellingOf (tree value) v.items → IsRead held shape v.items read → IsReadBack held x read
+TypedWrittenThenRead {T} {V} held shape tree =
+    (steps : ℕ) (value : T) (t : Tree) (x : V) (v : Vec ℕ Global)
+    (read : Result T (DecodeError Infallible))
+    → tree value ≡ Some t → shape.view t ≡ Some x → shape.need t ≤ steps
+    → AreSpellingOf (tree value) v.items → IsRead held shape steps v.items read
+    → IsReadBack held x read
 
--- What was written of a value is read as its tree, where the need is within the steps.
+-- What was written of a value is read as its tree, within any budget of steps that is not below the
+-- need.
 abbrev pub WrittenThenRead : Type 0
-WrittenThenRead = (value : Ipld) (v : Vec ℕ Global) (read : Result Ipld (DecodeError Infallible))
-    → AreSpellingOf (Some (tree_of value)) v.items → any_need (tree_of value) ≤ default_steps
-    → IsRead tree_of any_tree v.items read → IsReadBack tree_of (tree_of value) read
+WrittenThenRead = (steps : ℕ) (value : Ipld) (v : Vec ℕ Global)
+    (read : Result Ipld (DecodeError Infallible))
+    → AreSpellingOf (Some (tree_of value)) v.items → any_need (tree_of value) ≤ steps
+    → IsRead tree_of any_tree steps v.items read → IsReadBack tree_of (tree_of value) read

@@ -1,6 +1,6 @@
 //! DAG-CBOR as a codec.
 
-ghost use Rattle.std.specs.Prelude.{Some, IfErr, IfSome, false};
+ghost use Rattle.std.specs.Prelude.{Some, IfErr, IfSome, false, ◌||◌};
 ghost use Rattle.dagcbor_heads.specs.Reading.{default_steps};
 ghost use Rattle.ipld_tree.specs.Codecs.{Decodes, Encodes, EncodesAsVec, FindsLinks};
 ghost use Rattle.ipld_tree.specs.Tree.{Tree};
@@ -12,6 +12,7 @@ ghost use Rattle.serde_ipld_dagcbor.specs.Codec.{EncodeToVecRefused, LinksNotFou
 ghost use Rattle.serde_ipld_dagcbor.specs.Codec.{DecodeFromSliceRefused, IsDecodeIo, AreAlike};
 ghost use Rattle.serde_ipld_dagcbor.specs.Codec.{spellings_are_unique, trees_have_one_spelling};
 ghost use Rattle.serde_ipld_dagcbor.specs.Codec.{bytes_have_one_list};
+ghost use Rattle.serde_ipld_dagcbor.specs.Codec.{EncodeLacksMemoryIf, EncodeTells};
 
 use crate::DAG_CBOR_CODE;
 use crate::error::CodecError;
@@ -124,6 +125,8 @@ impl<'de, T: DeserializeOwned<'de> + Serialize> Codec<'de, T> for DagCborCodec {
             (W.contents writer.old) result (W.contents writer.new) }
         ensures exact { EncodeRefused (T.tree value.now) (W.contents writer.old) result
             (W.contents writer.new) }
+        ensures memory { IfErr result (EncodeLacksMemoryIf (T.takes_memory || false)) }
+        ensures told { IfErr result (EncodeTells (T.message value.now)) }
     {
         match to_writer(alloc, writer, value) {
             Ok(()) => Ok(()),
@@ -134,6 +137,7 @@ impl<'de, T: DeserializeOwned<'de> + Serialize> Codec<'de, T> for DagCborCodec {
     fn encode_to_vec(alloc: Global, value: &T) -> Result<Vec<u8>, CodecError>
         ensures answers { EncodesAsVec IsSpelling IsExcuse (T.tree value.now) result }
         ensures exact { EncodeToVecRefused (T.tree value.now) result }
+        ensures told { IfErr result (EncodeTells (T.message value.now)) }
     {
         match to_vec(alloc, value) {
             Ok(bytes) => Ok(bytes),

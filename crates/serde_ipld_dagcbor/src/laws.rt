@@ -12,7 +12,8 @@ pub use ipld_tree::laws::{
     cid_equality, cid_faults, equality, key_order, spelled_is_the_spelling, spelling_unique,
 };
 
-/// Bytes that `from_slice` reads as an `Ipld`, `to_vec` writes again.
+/// Bytes that `from_slice_with_depth` reads as an `Ipld`, at any budget, `to_vec` writes again. So
+/// it is of `from_slice`, whose budget is 256 steps.
 pub fn read_then_written()
     ensures { ReadThenWritten }
 {}
@@ -23,7 +24,8 @@ pub fn typed_read_then_written<'de, T: Deserialize<'de> + Serialize>()
     ensures { TypedReadThenWritten T.meaning T.shape T.tree }
 {}
 
-/// What `to_vec` writes of an `Ipld`, `from_slice` reads back, where its need is at most 256.
+/// What `to_vec` writes of an `Ipld`, `from_slice_with_depth` reads back, at any budget that is not
+/// below its need: `from_slice` where that is at most 256.
 pub fn written_then_read()
     ensures { WrittenThenRead }
 {}

@@ -1,10 +1,15 @@
 """DAG-CBOR by a proved library.
 
-    loads(block)   the data of a block: None, bool, int, str, bytes, list, dict and CID
-    dumps(value)   the one block of such data
-    check(block)   the kind of a block
-    links(block)   the links of the first item
-    name(block)    the block's own CID
+    loads(block)         the data of a block: None, bool, int, str, bytes, list, dict and CID
+    dumps(value)         the one block of such data
+    check(block)         the kind of a block
+    find(block, path)    the data to which a path as a/0/b leads in a block; else a KeyError
+    links(block)         the links of the first item
+    name(block)          the block's own CID
+    verify(cid, block)   whether the bytes are those that the CID names
+
+    loads_first(bytes)   the data of the first item, and where it ends
+    iter_loads(bytes)    the data of the items that stand one behind the other
 
     read_car(source)                the roots of a file of blocks (CAR), and its sections in turn
     check_car(source)               its verdicts, and what is missing
@@ -14,9 +19,11 @@ Whether bytes are a block or a file of blocks is the library's judgement, which 
 which makes objects from what the library tells and tells it what the objects are, is a small
 extension in C, and not proved."""
 
-from ._car import CarCheck, check_car, write_car
+from ._car import CarCheck, check_car, verify, write_car
 from ._errors import CarError, DagCborError
-from ._native import CID, CarReader, Section, check, dumps, links, loads, name, read_car
+from ._items import iter_loads
+from ._native import CID, CarReader, Section, check, dumps, find, links, loads, loads_first, name
+from ._native import read_car
 
 __all__ = [
     "CID",
@@ -28,9 +35,13 @@ __all__ = [
     "check",
     "check_car",
     "dumps",
+    "find",
+    "iter_loads",
     "links",
     "loads",
+    "loads_first",
     "name",
     "read_car",
+    "verify",
     "write_car",
 ]

@@ -4,6 +4,7 @@ from collections.abc import Mapping
 from io import RawIOBase
 
 from . import _native
+from ._errors import refused
 
 
 class CarCheck:
@@ -69,6 +70,15 @@ def write_car(file, roots, blocks):
     _put(file, _varint(len(header)) + header)
     for cid, block in blocks.items() if isinstance(blocks, Mapping) else blocks:
         _put(file, _native.car_section(cid, block))
+
+
+def verify(cid, block):
+    """Whether the bytes are those that the CID names: by SHA-256 or the identity, else it raises
+    DagCborError (`NotVerified`). `check` says whether they are a block."""
+    verdict = _native.verdict(cid, block)
+    if verdict == "not verified":
+        raise refused(-23)
+    return verdict != "other bytes"
 
 
 def _put(file, piece):

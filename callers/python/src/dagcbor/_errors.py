@@ -17,6 +17,7 @@ REASONS = {
     -16: ("NonMinimal", "a number or a length in more bytes than it needs"),
     -17: ("UnorderedKey", "a key that does not come behind the one before it"),
     -22: ("OtherBytes", "the bytes are not those that the CID names"),
+    -23: ("NotVerified", "the CID is by another hash function than SHA-256 and the identity"),
     -26: ("InvalidCid", "the bytes are no CID"),
     -28: ("UnknownBase", "the first character of the text names no base that is read here"),
     -29: ("TooLong", "the text is longer than that of any CID"),
@@ -54,6 +55,12 @@ class DagCborError(ValueError):
         super().__init__(message)
         self.kind = kind
         self.place = place
+
+    def __str__(self):
+        said = super().__str__()
+        if isinstance(self.place, tuple) and self.place:
+            return said + ", at " + "".join(f"[{it!r}]" for it in self.place)
+        return f"{said}, at {self.place}" if isinstance(self.place, int) else said
 
 
 class CarError(DagCborError):

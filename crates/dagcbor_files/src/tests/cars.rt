@@ -1,10 +1,11 @@
 //! A file of three blocks, in the order of their names. Its bytes are made by another program.
 
-use crate::tests::sections::{CHANGED, RAW, SECTION, UNORDERED};
+use crate::tests::sections::{CHANGED, SECTION, UNORDERED};
 use crate::tests::store::{gives, lacks};
-use dagcbor_blocks::{Blocks, ReadCarError};
+use dagcbor_blocks::{Blocks, PutBlockError, ReadCarError};
 use dagcbor_car::CarError;
 use dagcbor_testing::{agree, joined};
+use ipld_links::Unsound;
 use serde_ipld_dagcbor::{BufWriter, Cid, DecodeError, Input, IoReader, SliceReader};
 use std::alloc::Global;
 use std::convert::Infallible;
@@ -33,24 +34,35 @@ fn name_in(section: &[u8]) -> Result<Cid, Fail> {
     }
 }
 
-fn read_slice(blocks: &mut Blocks, file: &[u8]) -> Result<Vec<Cid>, ReadCarError<Infallible>> {
+/// What is answered of a file in a slice.
+type Answer = Result<Vec<Cid>, ReadCarError<Infallible, PutBlockError>>;
+
+fn read_slice(blocks: &mut Blocks, file: &[u8]) -> Answer {
     let mut input = Input::<SliceReader>::Slice(SliceReader::new(file));
     blocks.read_car(&mut input)
 }
 
-/// What is answered of a file, in a word.
-fn word_of(answer: &Result<Vec<Cid>, ReadCarError<Infallible>>) -> &'static str {
+/// Why a block is not kept, in a word.
+fn cause_of(cause: &Unsound) -> &'static str {
+    match cause {
+        Unsound::OtherHash => "other hash",
+        Unsound::OtherBytes => "other bytes",
+        Unsound::NoBlock(DecodeError::UnorderedKey) => "unordered",
+        Unsound::NoBlock(_) => "no block",
+    }
+}
+
+/// What is answered of a file, in a word; a refusal behind its first section.
+fn word_of(answer: &Answer) -> &'static str {
     match answer {
         Ok(_) => "read",
-        Err(ReadCarError::Car(CarError::Truncated)) => "cut",
-        Err(ReadCarError::Car(_)) => "no file",
-        Err(ReadCarError::OtherHash(_)) => "other hash",
-        Err(ReadCarError::OtherBytes(_)) => "other bytes",
-        Err(ReadCarError::OtherCodec(_)) => "other codec",
-        Err(ReadCarError::NoBlock(_, DecodeError::UnorderedKey)) => "unordered",
-        Err(ReadCarError::NoBlock(_, _)) => "no block",
-        Err(ReadCarError::Collision(_)) => "collision",
-        Err(ReadCarError::OutOfMemory) => "memory",
+        Err(ReadCarError::Header(_)) => "no file",
+        Err(ReadCarError::Section(1, CarError::Truncated)) => "cut",
+        Err(ReadCarError::Section(_, _)) => "no section",
+        Err(ReadCarError::Block(1, _, PutBlockError::Unsound(cause))) => cause_of(cause),
+        Err(ReadCarError::Block(_, _, PutBlockError::Unsound(_))) => "another section",
+        Err(ReadCarError::Block(_, _, PutBlockError::Collision)) => "collision",
+        Err(ReadCarError::Block(_, _, PutBlockError::OutOfMemory)) => "memory",
     }
 }
 
@@ -111,7 +123,6 @@ fn stays(alloc: Global, section: &[u8], word: &str) -> Result<(), Fail> {
 /// Sections, and what is answered of a file where they stand behind another.
 const REFUSED: &[(&[u8], &str)] = &[
     (CHANGED, "other bytes"),
-    (RAW, "other codec"),
     (IDENTITY, "other hash"),
     (UNORDERED, "unordered"),
 ];

@@ -3,8 +3,9 @@
 ghost use Rattle.std.specs.Prelude.{⊤, true};
 
 use crate::tests::sections::{CHANGED, EMPTY, HEADER, NUMBERS, SECTION, UNORDERED};
-use dagcbor_car::{CarError, Section, Verdict, VerdictSink, check_car};
+use dagcbor_car::{CarError, Section, VerdictSink, check_car};
 use dagcbor_testing::{agree, is_told, joined};
+use ipld_links::Verdict;
 use ipld_tree::Cid;
 use std::alloc::{AllocError, Global};
 use std::convert::Infallible;

@@ -1,7 +1,7 @@
 //! Blocks that are kept, and handed out, as bytes.
 
 use crate::tests::files::cids_of;
-use crate::tests::sections::{CHANGED, NUMBERS, RAW, SECTION, UNORDERED};
+use crate::tests::sections::{CHANGED, NUMBERS, SECTION, UNORDERED};
 use crate::tests::store::put;
 use dagcbor_blocks::Blocks;
 use dagcbor_testing::{LINK, agree, is_told};
@@ -27,10 +27,9 @@ fn name_in(section: &[u8], length: usize) -> Result<Cid, Fail> {
 
 /// Sections, the lengths of their blocks, and why these are not kept.
 const REFUSED: &[(&[u8], usize, &str)] = &[
-    (CHANGED, 4, "Err(OtherBytes)"),
-    (RAW, 3, "Err(OtherCodec)"),
-    (IDENTITY, 1, "Err(OtherHash)"),
-    (UNORDERED, 7, "Err(NoBlock(UnorderedKey))"),
+    (CHANGED, 4, "Err(Unsound(OtherBytes))"),
+    (IDENTITY, 1, "Err(Unsound(OtherHash))"),
+    (UNORDERED, 7, "Err(Unsound(NoBlock(UnorderedKey)))"),
 ];
 
 /// Fails where the block is kept, or refused otherwise.
@@ -138,4 +137,14 @@ fn names_by_the_identity_are_followed(rt: HostRuntime) -> Result<(), Fail> {
     let leaf = put(&mut blocks, &"a")?;
     reaches(&blocks, root, &[root, leaf])?;
     reaches(&blocks, list, &[leaf])
+}
+
+#[test]
+fn a_link_by_the_identity_may_be_missing(rt: HostRuntime) -> Result<(), Fail> {
+    let alloc = rt.alloc();
+    let raw = Cid::new_v1(0x55, 0, b"")?;
+    let list = Cid::try_from(LIST)?;
+    let mut blocks = Blocks::new(alloc);
+    let _name = put_links(alloc, &mut blocks, &[raw, list, raw])?;
+    agree(blocks.missing()?.as_slice(), [raw, list].as_slice())
 }

@@ -1,9 +1,10 @@
 //! Headers, sections, and verdicts on blocks. The expected bytes are made by another program.
 
-use dagcbor_car::{Verdict, split_header, split_section, verify};
+use dagcbor_car::{split_header, split_section};
 use dagcbor_heads::DecodeError;
 use dagcbor_items::Kind;
 use dagcbor_testing::{agree, is_told};
+use ipld_links::{Verdict, verify};
 use ipld_tree::Cid;
 use std::alloc::Global;
 use std::test::Fail;

@@ -56,6 +56,7 @@ pub(crate) fn give_back<R: Read>(reader: &mut R, steps: usize)
 }
 
 impl<'de> Accessor<'de> {
+    ghost use Rattle.dagcbor_read.specs.Parts.{HandsOn, HandsSomeOn};
     ghost use Rattle.dagcbor_read.specs.Accessors.{accessor_state, fresh, ReadsElement};
     ghost use Rattle.dagcbor_read.specs.Accessors.{after_element, ReadsNextKey, after_key};
     ghost use Rattle.dagcbor_read.specs.Accessors.{with_key, KeepsKey};
@@ -121,6 +122,7 @@ impl<'de> Accessor<'de> {
             de.new }
         ensures lies { IfOk result
             (λ o. IfSome o (T.lies (de_state R.reading de.old).input.lends)) }
+        ensures answers { Over R.reading (HandsSomeOn T.answers) de.old result de.new }
     {
         de.check()?;
         if self.left == 0 {
@@ -265,6 +267,7 @@ impl<'de> Accessor<'de> {
         ensures after { accessor_state self.new ≡ after_value result (accessor_state self.old) }
         ensures value { Over R.reading (Call (ReadsPart T.meaning T.shape)) de.old result de.new }
         ensures lies { IfOk result (T.lies (de_state R.reading de.old).input.lends) }
+        ensures answers { Over R.reading (HandsOn T.answers) de.old result de.new }
     {
         let value = de.read_part(alloc)?;
         self.owes_value = false;

@@ -7,6 +7,7 @@ ghost use Rattle.dagcbor_read.specs.Deserializers.{de_state, Call, AreOut, Over,
 ghost use Rattle.dagcbor_read.specs.Enums.{enum_state, BeginsEnum, SpendsEnum, ReadsName};
 ghost use Rattle.dagcbor_read.specs.Enums.{IsOtherForm, EntersMap, EndsUnit, ReadsHeld, BeginsHeld};
 ghost use Rattle.dagcbor_read.specs.Enums.{OfForm};
+ghost use Rattle.dagcbor_read.specs.Parts.{HandsHeldOn};
 ghost use Rattle.dagcbor_read.specs.Accessors.{OfBegin};
 ghost use Rattle.dagcbor_items.specs.AnsweredVariants.{OfByte, OfText};
 
@@ -119,6 +120,8 @@ impl EnumAccessor {
         ensures part { Over R.reading
             (Call (ReadsHeld T.meaning T.shape (enum_state self))) de.old result de.new }
         ensures lies { IfOk result (T.lies (de_state R.reading de.old).input.lends) }
+        ensures answers { Over R.reading
+            (HandsHeldOn T.answers (enum_state self)) de.old result de.new }
     {
         self.enter_map(de)?;
         let part = de.read_part(alloc)?;

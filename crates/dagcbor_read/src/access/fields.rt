@@ -1,11 +1,16 @@
 //! What the entries of a map make: the places of a struct, or a map.
 
 ghost use Rattle.std.specs.Prelude.{◌≡◌, ◌+◌, ◌<◌, ◌≤◌, ℕ, List, [], Bool, Option, option_map, true};
-ghost use Rattle.std.specs.Prelude.{false, codes, IfOk, IfErr, IfSome, None};
+ghost use Rattle.std.specs.Prelude.{false, codes, IfOk, IfErr, IfSome, None, ⊤};
 ghost use Rattle.ipld_tree.specs.Tree.{Tree, any_need};
 ghost use Rattle.dagcbor_items.specs.Shapes.{ignored_item};
 ghost use Rattle.dagcbor_items.specs.Looks.{LooksAtAny};
-ghost use Rattle.dagcbor_read.specs.Deserializers.{de_state, StaysFailed, Stops, StopsBy};
+ghost use Rattle.dagcbor_items.specs.LeafReads.{ReadsIgnored};
+ghost use Rattle.dagcbor_items.specs.AnsweredVariants.{OfItem};
+ghost use Rattle.dagcbor_read.specs.Parts.{ReadsOnce, FillsAs, RefusesFurther, RefusesEntry};
+ghost use Rattle.dagcbor_read.specs.Parts.{RefusesFieldsAs, IfRefused};
+ghost use Rattle.dagcbor_heads.specs.declared.error.DecodeError.{DecodeError};
+ghost use Rattle.dagcbor_read.specs.Deserializers.{DeState, de_state, StaysFailed};
 ghost use Rattle.dagcbor_read.specs.Deserializers.{Over};
 ghost use Rattle.dagcbor_read.specs.Values.{ReadsValue, RefusesToBegin};
 ghost use Rattle.dagcbor_read.specs.Accessors.{accessor_state, HasHeadOf, BeginsItems};
@@ -43,6 +48,9 @@ pub trait Fields<'de>: Sized + Drop {
     /// Once all was read. None where a field is missing.
     ghost finish: { State → Option View };
 
+    /// How the value of a key is refused, beside the law.
+    ghost refuses: { {E : Type 0} → DeState → DecodeError E → DeState → Type 0 } = { λ old e new. ⊤ };
+
     /// The places before anything was read.
     fn unread(alloc: Global) -> Self::Places
         ensures { state result ≡ unread };
@@ -61,7 +69,8 @@ pub trait Fields<'de>: Sized + Drop {
             (value_of (Self.shape (texts names.now)) (state places.old) key.now)) de.old result
             de.new }
         ensures kept { IfErr result (λ _. state places.new ≡ state places.old) }
-        ensures stops { Over R.reading Stops de.old result de.new };
+        ensures refuses { IfErr result
+            (λ e. Self.refuses (de_state R.reading de.old) e (de_state R.reading de.new)) };
 
     /// Reads the next entry and its value, where its key is one of the names and a slice has it
     /// whole. Why the value was refused goes into `refusal`, which is none. It may read nothing.
@@ -79,7 +88,9 @@ pub trait Fields<'de>: Sized + Drop {
         ensures entry { ReadsNamed (Self.shape (texts names.now)) (state places.old)
             (accessor_state entries.old) (de_state R.reading de.old) result refusal.new
             (state places.new) (accessor_state entries.new) (de_state R.reading de.new) }
-        ensures stops { IfSome refusal.new (λ e. StopsBy e (de_state R.reading de.new)) };
+        ensures refuses { IfSome refusal.new
+            (λ e. RefusesFurther Self.refuses (de_state R.reading de.old) e
+            (de_state R.reading de.new)) };
 
     /// What the places make once all was read. None where a field is missing.
     fn finish(places: Self::Places) -> Option<Self>
@@ -103,7 +114,8 @@ fn read_by_key<'de, F: Fields<'de>, R: Read>(
     ensures entry { ReadsByKey (F.shape (texts names.now)) (F.state places.old)
         (accessor_state entries.old) (de_state R.reading de.old) result (F.state places.new)
         (accessor_state entries.new) (de_state R.reading de.new) }
-    ensures stops { Over R.reading Stops de.old result de.new }
+    ensures refuses { IfErr result
+        (λ e. RefusesEntry F.refuses (de_state R.reading de.old) e (de_state R.reading de.new)) }
 {
     entries.keep_key(alloc, de)?;
     F::read_field(places, alloc, names, entries.last_key(), de)?;
@@ -126,7 +138,8 @@ pub(crate) fn read_entries_left<'de, F: Fields<'de>, R: Read>(
     ensures entries { Over R.reading
         (ReadsEntriesLeft F.state (F.shape (texts names.now)) F.unread
         (accessor_state entries.entry)) de.old result de.new }
-    ensures stops { Over R.reading Stops de.old result de.new }
+    ensures refuses { IfErr result (λ e. RefusesFurther (RefusesEntry F.refuses)
+        (de_state R.reading de.old) e (de_state R.reading de.new)) }
 {
     let mut places = F::unread(alloc);
     let mut entries = entries;
@@ -154,7 +167,8 @@ pub fn read_fields<'de, F: Fields<'de>, R: Read>(
     ensures named { Over R.reading
         (RefusesToBegin (HasHeadOf 5) (BeginsItems 5 (codes "map") 1)) de.old result de.new }
     ensures failed { Over R.reading StaysFailed de.old result de.new }
-    ensures stops { Over R.reading Stops de.old result de.new }
+    ensures refuses { Over R.reading
+        (IfRefused (RefusesFieldsAs F.refuses (codes "map"))) de.old result de.new }
 {
     let entries = de.deserialize_map()?;
     read_entries_left::<F, R>(alloc, &[], entries, de)
@@ -170,9 +184,9 @@ pub fn read_into<'de, T: Deserialize<'de>, R: Read>(
         (ReadsValue (λ _. option_map T.meaning place.new) (slot_of T.shape)) de.old result de.new }
     ensures kept { IfErr result (λ _. place.new ≡ place.old) }
     ensures failed { Over R.reading StaysFailed de.old result de.new }
-    ensures stops { Over R.reading Stops de.old result de.new }
     ensures lies { IfOk result
         (λ _. IfSome place.new (T.lies (de_state R.reading de.old).input.lends)) }
+    ensures answers { Over R.reading (FillsAs T.answers place.new) de.old result de.new }
 {
     let value = T::deserialize(alloc, de)?;
     *place = Some(value);
@@ -183,9 +197,8 @@ pub fn read_into<'de, T: Deserialize<'de>, R: Read>(
 pub fn skip_value<'de, R: Read>(alloc: Global, de: &mut Deserializer<'de, R>) -> ReadResult<(), R>
     ensures value { Over R.reading (ReadsValue (λ _. tt) ignored_item) de.old result de.new }
     ensures failed { Over R.reading StaysFailed de.old result de.new }
-    ensures stops { IfErr result (λ _. (de_state R.reading de.new).failed ≡ true) }
-    ensures looked { LooksAtAny (de_state R.reading de.old).input result
-        (de_state R.reading de.new).input }
+    ensures answers { Over R.reading
+        (ReadsOnce ReadsIgnored LooksAtAny OfItem) de.old result de.new }
 {
     de.deserialize_ignored_any(alloc)
 }

@@ -1,10 +1,13 @@
 //! What the items of a list make: a vector, or the parts of a tuple.
 
 ghost use Rattle.std.specs.Prelude.{◌≡◌, ◌+◌, ◌≤◌, ℕ, Bool, List, Option, map, true, false, ◌||◌};
-ghost use Rattle.std.specs.Prelude.{⊤, MatchResult, IfOk, All};
+ghost use Rattle.std.specs.Prelude.{⊤, MatchResult, IfOk, IfErr, All, codes};
 ghost use Rattle.dagcbor_heads.specs.Refusals.{Refuses};
 ghost use Rattle.ipld_tree.specs.Tree.{Items};
-ghost use Rattle.dagcbor_read.specs.Deserializers.{de_state, StaysFailed, Stops, Over};
+ghost use Rattle.dagcbor_heads.specs.declared.error.DecodeError.{DecodeError};
+ghost use Rattle.dagcbor_read.specs.Deserializers.{DeState, de_state, StaysFailed, Over};
+ghost use Rattle.dagcbor_read.specs.Parts.{RefusesItems, RefusesFirst, RefusesRest, RefusesListAs};
+ghost use Rattle.dagcbor_read.specs.Parts.{IfRefused};
 ghost use Rattle.dagcbor_items.specs.TypedReads.{Anything};
 ghost use Rattle.dagcbor_read.specs.Values.{ReadsValue};
 ghost use Rattle.dagcbor_read.specs.Accessors.{accessor_state};
@@ -30,6 +33,9 @@ pub(crate) trait Row<'de>: Sized + Drop {
     /// Where the parts lie, of an input that lends or of one that does not.
     ghost lies: { Bool → Self → Type 0 };
 
+    /// How the items are refused, beside the law.
+    ghost refuses: { {E : Type 0} → DeState → DecodeError E → DeState → Type 0 };
+
     /// Reads from the first item that is left on.
     fn read_row<R: Read>(
         alloc: Global,
@@ -42,7 +48,8 @@ pub(crate) trait Row<'de>: Sized + Drop {
             (de_state R.reading de.old) result (accessor_state items.new)
             (de_state R.reading de.new) }
         ensures lies { IfOk result (Self.lies (de_state R.reading de.old).input.lends) }
-        ensures stops { Over R.reading Stops de.old result de.new };
+        ensures refuses { IfErr result
+            (λ e. Self.refuses (de_state R.reading de.old) e (de_state R.reading de.new)) };
 }
 
 impl<'de, T: Deserialize<'de>> Row<'de> for Vec<T> {
@@ -54,6 +61,8 @@ impl<'de, T: Deserialize<'de>> Row<'de> for Vec<T> {
 
     ghost lies = { λ lends v. All (T.lies lends) v.items };
 
+    ghost refuses = { RefusesItems T.answers };
+
     #[inline(always)]
     fn read_row<R: Read>(
         alloc: Global,
@@ -63,7 +72,7 @@ impl<'de, T: Deserialize<'de>> Row<'de> for Vec<T> {
         let mut all = Vec::new(alloc);
         while let Some(item) = items.next_element(alloc, de)? {
             if all.push(item).is_err() {
-                return Err(de.refuse(DecodeError::OutOfMemory));
+                return Err(DecodeError::OutOfMemory);
             }
         }
         Ok(all)
@@ -78,6 +87,8 @@ impl<'de> Row<'de> for () {
     ghost shape = { no_more };
 
     ghost lies = { λ lends u. ⊤ };
+
+    ghost refuses = { λ old e new. ⊥ };
 
     fn read_row<R: Read>(
         _alloc: Global,
@@ -96,6 +107,8 @@ impl<'de, T: Deserialize<'de>, L: Row<'de>> Row<'de> for (T, L) {
     ghost shape = { first_then T.shape L.shape };
 
     ghost lies = { λ lends p. T.lies lends p.0 × L.lies lends p.1 };
+
+    ghost refuses = { RefusesFirst T.answers L.refuses };
 
     fn read_row<R: Read>(
         alloc: Global,
@@ -125,7 +138,8 @@ pub(crate) fn read_rest<'de, L: Row<'de>, R: Read>(
     ensures rest { Over R.reading
         (ReadsRest L.meaning L.shape (accessor_state items.entry)) de.old result de.new }
     ensures lies { IfOk result (L.lies (de_state R.reading de.old).input.lends) }
-    ensures stops { Over R.reading Stops de.old result de.new }
+    ensures refuses { IfErr result (λ e. RefusesRest L.refuses (de_state R.reading de.old) e
+        (de_state R.reading de.new)) }
 {
     let mut items = items;
     let row = L::read_row(alloc, &mut items, de)?;
@@ -142,7 +156,8 @@ pub(crate) fn read_tuple<'de, L: Row<'de>, R: Read>(
     ensures value { Over R.reading (ReadsValue L.meaning (list_of L.shape)) de.old result de.new }
     ensures failed { Over R.reading StaysFailed de.old result de.new }
     ensures lies { IfOk result (L.lies (de_state R.reading de.old).input.lends) }
-    ensures stops { Over R.reading Stops de.old result de.new }
+    ensures refuses { Over R.reading
+        (IfRefused (RefusesListAs L.refuses (codes "tuple"))) de.old result de.new }
 {
     let items = de.deserialize_tuple(len)?;
     read_rest(alloc, items, de)

@@ -1,12 +1,12 @@
 //! Structs, whose fields are read by their names.
 
 ghost use Rattle.std.specs.Prelude.{◌≡◌, ◌+◌, ◌<◌, false, ℕ, List, Bool, Option, None, Some, option_map};
-ghost use Rattle.std.specs.Prelude.{MatchResult, codes, IfErr, IfSome};
+ghost use Rattle.std.specs.Prelude.{◌⊎◌, MatchResult, Err, codes, IfErr, IfSome};
 ghost use Rattle.std.specs.Option.{option_flatten};
 ghost use Rattle.dagcbor_heads.specs.declared.name.Name.{Name};
 ghost use Rattle.dagcbor_heads.specs.declared.error.DecodeError.TheVariants.{Msg};
 ghost use Rattle.dagcbor_items.specs.Shapes.{option_of};
-ghost use Rattle.dagcbor_read.specs.Deserializers.{de_state, StaysFailed, Stops, StopsBy};
+ghost use Rattle.dagcbor_read.specs.Deserializers.{de_state, StaysFailed};
 ghost use Rattle.dagcbor_read.specs.Deserializers.{AreOut, Over};
 ghost use Rattle.dagcbor_read.specs.Values.{ReadsValue, RefusesToBegin};
 ghost use Rattle.dagcbor_read.specs.Accessors.{HasHeadOf, BeginsItems};
@@ -16,6 +16,12 @@ ghost use Rattle.dagcbor_read.specs.Structs.{texts, no_places, places, finish_re
 ghost use Rattle.dagcbor_read.specs.Structs.{finish_optional};
 ghost use Rattle.dagcbor_read.specs.Accessors.{accessor_state};
 ghost use Rattle.dagcbor_read.specs.Named.{ReadsNamed, ReadsNamedValue};
+ghost use Rattle.dagcbor_heads.specs.Names.{Names};
+ghost use Rattle.dagcbor_items.specs.Looks.{LooksAtAny};
+ghost use Rattle.dagcbor_items.specs.LeafReads.{ReadsIgnored};
+ghost use Rattle.dagcbor_items.specs.AnsweredVariants.{OfItem};
+ghost use Rattle.dagcbor_read.specs.Parts.{ReadsOnce, HandsOptionOn, RefusesAsOr, RefusesFurther};
+ghost use Rattle.dagcbor_read.specs.Parts.{RefusesFieldsAs, RefusesHeldFields, IfRefused, IsMissingField};
 
 use crate::access::accessor::Accessor;
 use crate::access::enum_accessor::EnumAccessor;
@@ -46,6 +52,8 @@ impl<'de> Fields<'de> for () {
     ghost meaning = { λ u. tt };
 
     ghost finish = { Some };
+
+    ghost refuses = { λ old e new. ReadsOnce {T = Unit {0}} ReadsIgnored LooksAtAny OfItem old (Err e) new };
 
     fn unread(_alloc: Global) -> () {}
 
@@ -78,6 +86,7 @@ impl<'de> Fields<'de> for () {
 
 /// The value of the first name goes to the first place, any other to the others: the `read_field` of
 /// a row that begins with a field of its own.
+#[tactic(auto, using(crate::proofs::Handing::own_refused, crate::proofs::Handing::others_refuse))]
 pub fn read_place<'de, T: Deserialize<'de>, L: Fields<'de>, R: Read>(
     into: &mut (Option<T>, L::Places),
     alloc: Global,
@@ -94,7 +103,8 @@ pub fn read_place<'de, T: Deserialize<'de>, L: Fields<'de>, R: Read>(
         (λ _. ◌≡◌ {A = Option T.View × L.State}
         (option_map T.meaning into.new.0, L.state into.new.1)
         (option_map T.meaning into.old.0, L.state into.old.1)) }
-    ensures stops { Over R.reading Stops de.old result de.new }
+    ensures refuses { IfErr result (λ e. RefusesAsOr T.answers L.refuses
+        (de_state R.reading de.old) e (de_state R.reading de.new)) }
 {
     let Some((name, others)) = names.split_first() else {
         return L::read_field(&mut into.1, alloc, names, key, de);
@@ -119,7 +129,8 @@ fn read_named_value<'de, T: Deserialize<'de>, R: Read>(
     ensures value { ReadsNamedValue T.shape (accessor_state entries.old)
         (de_state R.reading de.old) result refusal.new (option_map T.meaning place.new)
         (accessor_state entries.new) (de_state R.reading de.new) }
-    ensures stops { IfSome refusal.new (λ e. StopsBy e (de_state R.reading de.new)) }
+    ensures refuses { IfSome refusal.new
+        (λ e. T.answers (de_state R.reading de.old) (Err e) (de_state R.reading de.new)) }
 {
     match T::deserialize(alloc, de) {
         Ok(value) => {
@@ -153,7 +164,9 @@ pub fn read_named_place<'de, T: Deserialize<'de>, L: Fields<'de>, R: Read>(
         (de_state R.reading de.old) result refusal.new
         (option_map T.meaning into.new.0, L.state into.new.1) (accessor_state entries.new)
         (de_state R.reading de.new) }
-    ensures stops { IfSome refusal.new (λ e. StopsBy e (de_state R.reading de.new)) }
+    ensures refuses { IfSome refusal.new
+        (λ e. RefusesFurther (RefusesAsOr T.answers L.refuses) (de_state R.reading de.old) e
+        (de_state R.reading de.new)) }
 {
     let Some((name, others)) = names.split_first() else {
         return false;
@@ -181,6 +194,8 @@ impl<'de, T: Deserialize<'de>, L: Fields<'de>> Fields<'de> for (Required<T>, L) 
     ghost meaning = { λ p. (T.meaning p.0.0, L.meaning p.1) };
 
     ghost finish = { finish_required L.finish };
+
+    ghost refuses = { RefusesAsOr T.answers L.refuses };
 
     fn unread(alloc: Global) -> (Option<T>, L::Places) {
         (None, L::unread(alloc))
@@ -235,6 +250,8 @@ impl<'de, T: Deserialize<'de>, L: Fields<'de>> Fields<'de> for (Option<T>, L) {
 
     ghost finish = { finish_optional L.finish };
 
+    ghost refuses = { RefusesAsOr (HandsOptionOn T.answers) L.refuses };
+
     fn unread(alloc: Global) -> (Option<Option<T>>, L::Places) {
         (None, L::unread(alloc))
     }
@@ -272,9 +289,11 @@ impl<'de, T: Deserialize<'de>, L: Fields<'de>> Fields<'de> for (Option<T>, L) {
 /// The fields, once all were read.
 #[inline(always)]
 fn finished<'de, F: Fields<'de>, E>(places: F::Places) -> Result<F, DecodeError<E>>
-    ensures { MatchResult result
+    ensures finish { MatchResult result
         (λ v. F.finish (F.state places) ≡ Some (F.meaning v))
         (λ e. (F.finish (F.state places) ≡ None) × ((kept : Name) × (e ≡ Msg kept))) }
+    ensures said { IfErr result
+        (λ e. (kept : Name) × (e ≡ Msg kept) × Names kept (codes "missing field")) }
 {
     match F::finish(places) {
         Some(fields) => Ok(fields),
@@ -295,7 +314,9 @@ pub fn read_struct<'de, F: Fields<'de>, R: Read>(
     ensures named { Over R.reading
         (RefusesToBegin (HasHeadOf 5) (BeginsItems 5 name.now 1)) de.old result de.new }
     ensures failed { Over R.reading StaysFailed de.old result de.new }
-    ensures stops { Over R.reading Stops de.old result de.new }
+    ensures refuses { Over R.reading
+        (IfRefused (λ old e new. RefusesFieldsAs F.refuses name.now old e new
+        ⊎ IsMissingField e new)) de.old result de.new }
 {
     let entries = de.deserialize_struct(name, names)?;
     let places = read_entries_left::<F, R>(alloc, names, entries, de)?;
@@ -317,7 +338,9 @@ pub fn read_struct_variant<'de, F: Fields<'de>, R: Read>(
         (RefusesToBegin (HasHeadOf 5) (BeginsHeld 5 (codes "map") (enum_state variant))) de.old
         result de.new }
     ensures failed { Over R.reading StaysFailed de.old result de.new }
-    ensures stops { Over R.reading Stops de.old result de.new }
+    ensures refuses { Over R.reading
+        (IfRefused (λ old e new. RefusesHeldFields F.refuses (enum_state variant) old e new
+        ⊎ IsMissingField e new)) de.old result de.new }
 {
     let entries = variant.struct_variant(names, de)?;
     let places = read_entries_left::<F, R>(alloc, names, entries, de)?;

@@ -1,8 +1,10 @@
 //! Enums, whose variants are read by their names.
 
-ghost use Rattle.std.specs.Prelude.{◌≡◌, ◌+◌, ◌≤◌, ℕ, Bool, List, Option, false};
+ghost use Rattle.std.specs.Prelude.{◌≡◌, ◌+◌, ◌≤◌, ℕ, Bool, List, Option, false, IfErr, ⊤};
 ghost use Rattle.ipld_tree.specs.Tree.{Tree};
-ghost use Rattle.dagcbor_read.specs.Deserializers.{de_state, StaysFailed, Stops, AreOut, Over};
+ghost use Rattle.dagcbor_heads.specs.declared.error.DecodeError.{DecodeError};
+ghost use Rattle.dagcbor_read.specs.Parts.{IfRefused, RefusesEnumAs};
+ghost use Rattle.dagcbor_read.specs.Deserializers.{DeState, de_state, StaysFailed, AreOut, Over};
 ghost use Rattle.dagcbor_read.specs.Values.{ReadsValue, RefusesToBegin};
 ghost use Rattle.dagcbor_read.specs.Enums.{enum_state, HasStepEnum, SpendsEnum, ReadsFieldsHeld};
 ghost use Rattle.dagcbor_read.specs.EnumViews.{EnumShape, enum_of, ReadsVariant};
@@ -22,6 +24,9 @@ pub trait Variants<'de>: Sized + Drop {
     /// What its variants show.
     ghost shape: { EnumShape View };
 
+    /// How a variant is refused, beside the law.
+    ghost refuses: { {E : Type 0} → DeState → DecodeError E → DeState → Type 0 } = { λ old e new. ⊤ };
+
     /// Reads what the variant of this name holds, or ends it.
     fn read_variant<R: Read>(
         alloc: Global,
@@ -34,7 +39,8 @@ pub trait Variants<'de>: Sized + Drop {
             (de_state R.reading de.old).input.budget }
         ensures variant { Over R.reading
             (ReadsVariant meaning Self.shape name.now (enum_state variant)) de.old result de.new }
-        ensures stops { Over R.reading Stops de.old result de.new };
+        ensures refuses { IfErr result
+            (λ e. Self.refuses (de_state R.reading de.old) e (de_state R.reading de.new)) };
 }
 
 /// Reads an enum. The names of its variants are not looked at.
@@ -48,7 +54,8 @@ pub fn read_enum<'de, V: Variants<'de>, R: Read>(
     ensures named { Over R.reading
         (RefusesToBegin HasStepEnum (SpendsEnum name.now)) de.old result de.new }
     ensures failed { Over R.reading StaysFailed de.old result de.new }
-    ensures stops { Over R.reading Stops de.old result de.new }
+    ensures refuses { Over R.reading
+        (IfRefused (RefusesEnumAs V.refuses name.now)) de.old result de.new }
 {
     let form = de.deserialize_enum(name, variants)?;
     let (variant_name, variant) = form.variant(alloc, de)?;

@@ -4,6 +4,11 @@ ghost use Rattle.std.specs.Prelude.{refl};
 ghost use Rattle.ipld_tree.specs.Ipld.{tree_of};
 ghost use Rattle.ipld_tree.specs.Tree.{Tree};
 ghost use Rattle.dagcbor_items.specs.Shapes.{ignored_item, any_tree};
+ghost use Rattle.dagcbor_items.specs.Looks.{LooksAtAny};
+ghost use Rattle.dagcbor_items.specs.LeafReads.{ReadsIgnored};
+ghost use Rattle.dagcbor_items.specs.Untyped.{ReadsItem};
+ghost use Rattle.dagcbor_items.specs.AnsweredVariants.{OfItem};
+ghost use Rattle.dagcbor_read.specs.Parts.{ReadsOnce, ReadsAs};
 
 use crate::deserialize::{Deserialize, DeserializeOwned};
 use crate::deserializer::Deserializer;
@@ -25,6 +30,8 @@ impl Shown for IgnoredAny {
 }
 
 impl<'de> Deserialize<'de> for IgnoredAny {
+    ghost answers = { ReadsAs (λ _. tt) (ReadsOnce ReadsIgnored LooksAtAny OfItem) };
+
     fn deserialize<R: Read>(alloc: Global, de: &mut Deserializer<'de, R>) -> ReadResult<Self, R> {
         de.deserialize_ignored_any(alloc)?;
         Ok(IgnoredAny)
@@ -44,6 +51,8 @@ impl Shown for Ipld {
 }
 
 impl<'de> Deserialize<'de> for Ipld {
+    ghost answers = { ReadsOnce ReadsItem LooksAtAny OfItem };
+
     fn deserialize<R: Read>(alloc: Global, de: &mut Deserializer<'de, R>) -> ReadResult<Self, R> {
         de.deserialize_any(alloc)
     }

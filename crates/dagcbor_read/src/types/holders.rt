@@ -1,8 +1,10 @@
 //! Types that hold values of another.
 
-ghost use Rattle.std.specs.Prelude.{Option, option_map, box_value, IfSome, List, map, All};
+ghost use Rattle.std.specs.Prelude.{Option, option_map, box_value, IfSome, List, map, All, codes};
 ghost use Rattle.dagcbor_items.specs.Shapes.{option_of, boxed_of};
 ghost use Rattle.dagcbor_read.specs.Collections.{list_of, all_of};
+ghost use Rattle.dagcbor_read.specs.Parts.{HandsOptionOn, ReadsInMemory, IfRefused};
+ghost use Rattle.dagcbor_read.specs.Parts.{RefusesListAs, RefusesItems};
 
 use crate::access::row::read_rest;
 use crate::deserialize::{Deserialize, DeserializeOwned};
@@ -21,6 +23,8 @@ impl<T: Shown> Shown for Option<T> {
 
 impl<'de, T: Deserialize<'de>> Deserialize<'de> for Option<T> {
     ghost lies = { λ lends o. IfSome o (T.lies lends) };
+
+    ghost answers = { HandsOptionOn T.answers };
 
     fn deserialize<R: Read>(alloc: Global, de: &mut Deserializer<'de, R>) -> ReadResult<Self, R> {
         de.deserialize_option(alloc)
@@ -42,11 +46,13 @@ impl<T: Shown> Shown for Box<T> {
 impl<'de, T: Deserialize<'de>> Deserialize<'de> for Box<T> {
     ghost lies = { λ lends b. T.lies lends (box_value b) };
 
+    ghost answers = { ReadsInMemory box_value T.answers };
+
     fn deserialize<R: Read>(alloc: Global, de: &mut Deserializer<'de, R>) -> ReadResult<Self, R> {
         let value = T::deserialize(alloc, de)?;
         match Box::new(alloc, value) {
             Ok(boxed) => Ok(boxed),
-            Err(_) => Err(de.refuse(DecodeError::OutOfMemory)),
+            Err(_) => Err(DecodeError::OutOfMemory),
         }
     }
 }
@@ -65,6 +71,8 @@ impl<T: Shown> Shown for Vec<T> {
 
 impl<'de, T: Deserialize<'de>> Deserialize<'de> for Vec<T> {
     ghost lies = { λ lends v. All (T.lies lends) v.items };
+
+    ghost answers = { IfRefused (RefusesListAs (RefusesItems T.answers) (codes "array")) };
 
     fn deserialize<R: Read>(alloc: Global, de: &mut Deserializer<'de, R>) -> ReadResult<Self, R> {
         let items = de.deserialize_seq()?;

@@ -2,8 +2,15 @@
 //! input.
 
 ghost use Rattle.std.specs.Prelude.{◌≡◌, ◌↔◌, refl, ◌^◌, ℕ, ℤ, List, Bool, false, true};
-ghost use Rattle.std.specs.Prelude.{string_bytes};
-ghost use Rattle.std.specs.Cow.{cow_str_bytes, IsBorrowedStr};
+ghost use Rattle.std.specs.Prelude.{string_bytes, codes};
+ghost use Rattle.dagcbor_heads.specs.Looking.{Looks};
+ghost use Rattle.dagcbor_items.specs.AnsweredVariants.{OfByte, OfNumber, OfHead, OfChar, OfText, OfLink};
+ghost use Rattle.dagcbor_items.specs.LeafReads.{ReadsNull, ReadsBool, ReadsUnsigned, ReadsSigned};
+ghost use Rattle.dagcbor_items.specs.LeafReads.{ReadsU128, ReadsI128, ReadsChar, ReadsStr};
+ghost use Rattle.dagcbor_items.specs.LeafReads.{ReadsOwnedText, ReadsByteSlice, ReadsOwnedBytes};
+ghost use Rattle.dagcbor_items.specs.Links.{ReadsLink};
+ghost use Rattle.dagcbor_read.specs.Parts.{ReadsOnce, ReadsAs, ReadsLent};
+ghost use Rattle.std.specs.Cow.{cow_str_bytes, IsBorrowedStr, cow_slice_items, IsBorrowedSlice};
 ghost use Rattle.ipld_tree.specs.Cid.{cid_bytes};
 ghost use Rattle.dagcbor_items.specs.Shapes.{view_null, view_bool, view_unsigned, view_signed};
 ghost use Rattle.dagcbor_items.specs.Shapes.{view_char, view_text, view_bytes, view_link};
@@ -26,6 +33,8 @@ impl Shown for () {
 }
 
 impl<'de> Deserialize<'de> for () {
+    ghost answers = { ReadsOnce ReadsNull (Looks 2) OfByte };
+
     fn deserialize<R: Read>(_alloc: Global, de: &mut Deserializer<'de, R>) -> ReadResult<Self, R> {
         de.deserialize_unit()
     }
@@ -44,6 +53,8 @@ impl Shown for bool {
 }
 
 impl<'de> Deserialize<'de> for bool {
+    ghost answers = { ReadsOnce ReadsBool (Looks 2) OfByte };
+
     fn deserialize<R: Read>(_alloc: Global, de: &mut Deserializer<'de, R>) -> ReadResult<Self, R> {
         de.deserialize_bool()
     }
@@ -62,6 +73,8 @@ impl Shown for u8 {
 }
 
 impl<'de> Deserialize<'de> for u8 {
+    ghost answers = { ReadsOnce (ReadsUnsigned (codes "u8") (2 ^ 8)) (Looks 3) OfNumber };
+
     #[inline(always)]
     fn deserialize<R: Read>(_alloc: Global, de: &mut Deserializer<'de, R>) -> ReadResult<Self, R> {
         de.deserialize_u8()
@@ -81,6 +94,8 @@ impl Shown for u16 {
 }
 
 impl<'de> Deserialize<'de> for u16 {
+    ghost answers = { ReadsOnce (ReadsUnsigned (codes "u16") (2 ^ 16)) (Looks 3) OfNumber };
+
     #[inline(always)]
     fn deserialize<R: Read>(_alloc: Global, de: &mut Deserializer<'de, R>) -> ReadResult<Self, R> {
         de.deserialize_u16()
@@ -100,6 +115,8 @@ impl Shown for u32 {
 }
 
 impl<'de> Deserialize<'de> for u32 {
+    ghost answers = { ReadsOnce (ReadsUnsigned (codes "u32") (2 ^ 32)) (Looks 3) OfNumber };
+
     #[inline(always)]
     fn deserialize<R: Read>(_alloc: Global, de: &mut Deserializer<'de, R>) -> ReadResult<Self, R> {
         de.deserialize_u32()
@@ -119,6 +136,8 @@ impl Shown for u64 {
 }
 
 impl<'de> Deserialize<'de> for u64 {
+    ghost answers = { ReadsOnce (ReadsUnsigned (codes "u64") (2 ^ 64)) (Looks 3) OfNumber };
+
     #[inline(always)]
     fn deserialize<R: Read>(_alloc: Global, de: &mut Deserializer<'de, R>) -> ReadResult<Self, R> {
         de.deserialize_u64()
@@ -138,6 +157,8 @@ impl Shown for usize {
 }
 
 impl<'de> Deserialize<'de> for usize {
+    ghost answers = { ReadsOnce (ReadsUnsigned (codes "u64") (2 ^ 64)) (Looks 3) OfNumber };
+
     fn deserialize<R: Read>(_alloc: Global, de: &mut Deserializer<'de, R>) -> ReadResult<Self, R> {
         Ok(de.deserialize_u64()? as usize)
     }
@@ -156,6 +177,8 @@ impl Shown for i8 {
 }
 
 impl<'de> Deserialize<'de> for i8 {
+    ghost answers = { ReadsOnce (ReadsSigned (codes "i8") (2 ^ 7)) (Looks 3) OfNumber };
+
     fn deserialize<R: Read>(_alloc: Global, de: &mut Deserializer<'de, R>) -> ReadResult<Self, R> {
         de.deserialize_i8()
     }
@@ -174,6 +197,8 @@ impl Shown for i16 {
 }
 
 impl<'de> Deserialize<'de> for i16 {
+    ghost answers = { ReadsOnce (ReadsSigned (codes "i16") (2 ^ 15)) (Looks 3) OfNumber };
+
     fn deserialize<R: Read>(_alloc: Global, de: &mut Deserializer<'de, R>) -> ReadResult<Self, R> {
         de.deserialize_i16()
     }
@@ -192,6 +217,8 @@ impl Shown for i32 {
 }
 
 impl<'de> Deserialize<'de> for i32 {
+    ghost answers = { ReadsOnce (ReadsSigned (codes "i32") (2 ^ 31)) (Looks 3) OfNumber };
+
     fn deserialize<R: Read>(_alloc: Global, de: &mut Deserializer<'de, R>) -> ReadResult<Self, R> {
         de.deserialize_i32()
     }
@@ -210,6 +237,8 @@ impl Shown for i64 {
 }
 
 impl<'de> Deserialize<'de> for i64 {
+    ghost answers = { ReadsOnce (ReadsSigned (codes "i64") (2 ^ 63)) (Looks 3) OfNumber };
+
     fn deserialize<R: Read>(_alloc: Global, de: &mut Deserializer<'de, R>) -> ReadResult<Self, R> {
         de.deserialize_i64()
     }
@@ -228,6 +257,8 @@ impl Shown for isize {
 }
 
 impl<'de> Deserialize<'de> for isize {
+    ghost answers = { ReadsOnce (ReadsSigned (codes "i64") (2 ^ 63)) (Looks 3) OfNumber };
+
     fn deserialize<R: Read>(_alloc: Global, de: &mut Deserializer<'de, R>) -> ReadResult<Self, R> {
         Ok(de.deserialize_i64()? as isize)
     }
@@ -246,6 +277,8 @@ impl Shown for u128 {
 }
 
 impl<'de> Deserialize<'de> for u128 {
+    ghost answers = { ReadsOnce ReadsU128 (Looks 4) OfNumber };
+
     fn deserialize<R: Read>(_alloc: Global, de: &mut Deserializer<'de, R>) -> ReadResult<Self, R> {
         de.deserialize_u128()
     }
@@ -264,6 +297,8 @@ impl Shown for i128 {
 }
 
 impl<'de> Deserialize<'de> for i128 {
+    ghost answers = { ReadsOnce ReadsI128 (Looks 4) OfHead };
+
     fn deserialize<R: Read>(_alloc: Global, de: &mut Deserializer<'de, R>) -> ReadResult<Self, R> {
         de.deserialize_i128()
     }
@@ -282,6 +317,8 @@ impl Shown for char {
 }
 
 impl<'de> Deserialize<'de> for char {
+    ghost answers = { ReadsOnce ReadsChar (Looks 3) OfChar };
+
     fn deserialize<R: Read>(alloc: Global, de: &mut Deserializer<'de, R>) -> ReadResult<Self, R> {
         de.deserialize_char(alloc)
     }
@@ -300,12 +337,14 @@ impl Shown for &str {
 }
 
 impl<'de> Deserialize<'de> for &'de str {
+    ghost answers = { ReadsLent (λ s. s.now) cow_str_bytes IsBorrowedStr (codes "string") (ReadsOnce (ReadsStr (codes "string")) (Looks 3) OfText) };
+
     fn deserialize<R: Read>(alloc: Global, de: &mut Deserializer<'de, R>) -> ReadResult<Self, R> {
         match de.deserialize_str(alloc)? {
             CowStr::Borrowed(text) => Ok(text),
-            CowStr::Owned(_) => Err(de.refuse(DecodeError::RequireBorrowed {
+            CowStr::Owned(_) => Err(DecodeError::RequireBorrowed {
                 name: Name::new("string"),
-            })),
+            }),
         }
     }
 }
@@ -322,6 +361,8 @@ impl Shown for CowStr<'_> {
 impl<'de> Deserialize<'de> for CowStr<'de> {
     ghost lies = { λ lends s. IsBorrowedStr s ↔ (lends ≡ true) };
 
+    ghost answers = { ReadsOnce (ReadsStr (codes "string")) (Looks 3) OfText };
+
     fn deserialize<R: Read>(alloc: Global, de: &mut Deserializer<'de, R>) -> ReadResult<Self, R> {
         de.deserialize_str(alloc)
     }
@@ -336,6 +377,8 @@ impl Shown for String {
 }
 
 impl<'de> Deserialize<'de> for String {
+    ghost answers = { ReadsOnce ReadsOwnedText (Looks 3) OfText };
+
     fn deserialize<R: Read>(alloc: Global, de: &mut Deserializer<'de, R>) -> ReadResult<Self, R> {
         de.deserialize_string(alloc)
     }
@@ -354,6 +397,8 @@ impl Shown for Bytes {
 }
 
 impl<'de> Deserialize<'de> for Bytes {
+    ghost answers = { ReadsAs (λ b. b.0) (ReadsOnce ReadsOwnedBytes (Looks 3) OfHead) };
+
     fn deserialize<R: Read>(alloc: Global, de: &mut Deserializer<'de, R>) -> ReadResult<Self, R> {
         Ok(Bytes(de.deserialize_byte_buf(alloc)?))
     }
@@ -372,12 +417,14 @@ impl Shown for ByteSlice<'_> {
 }
 
 impl<'de> Deserialize<'de> for ByteSlice<'de> {
+    ghost answers = { ReadsLent (λ s. s.0.now) cow_slice_items IsBorrowedSlice (codes "bytes") (ReadsOnce ReadsByteSlice (Looks 3) OfHead) };
+
     fn deserialize<R: Read>(alloc: Global, de: &mut Deserializer<'de, R>) -> ReadResult<Self, R> {
         match de.deserialize_bytes(alloc)? {
             CowSlice::Borrowed(bytes) => Ok(ByteSlice(bytes)),
-            CowSlice::Owned(_) => Err(de.refuse(DecodeError::RequireBorrowed {
+            CowSlice::Owned(_) => Err(DecodeError::RequireBorrowed {
                 name: Name::new("bytes"),
-            })),
+            }),
         }
     }
 }
@@ -391,6 +438,8 @@ impl Shown for Cid {
 }
 
 impl<'de> Deserialize<'de> for Cid {
+    ghost answers = { ReadsOnce ReadsLink (Looks 3) OfLink };
+
     fn deserialize<R: Read>(_alloc: Global, de: &mut Deserializer<'de, R>) -> ReadResult<Self, R> {
         de.deserialize_cid()
     }

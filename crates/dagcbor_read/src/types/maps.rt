@@ -1,6 +1,7 @@
 //! Maps with text keys.
 
-ghost use Rattle.std.specs.Prelude.{ℕ, List, [], Some};
+ghost use Rattle.std.specs.Prelude.{ℕ, List, [], Some, codes};
+ghost use Rattle.dagcbor_read.specs.Parts.{IfRefused, RefusesFieldsAs, RefusesToKeep};
 ghost use Rattle.dagcbor_read.specs.Collections.{map_of, values_of, in_key_order, text_pairs};
 
 use crate::access::accessor::Accessor;
@@ -38,6 +39,8 @@ impl<'de, V: Deserialize<'de>> Fields<'de> for BTreeMap<String, V> {
 
     ghost finish = { Some };
 
+    ghost refuses = { RefusesToKeep V.answers };
+
     fn unread(alloc: Global) -> BTreeMap<String, V> {
         BTreeMap::new(alloc)
     }
@@ -51,11 +54,11 @@ impl<'de, V: Deserialize<'de>> Fields<'de> for BTreeMap<String, V> {
     ) -> ReadResult<(), R> {
         let value = V::deserialize(alloc, de)?;
         let Ok(name) = String::from_str(alloc, key) else {
-            return Err(de.refuse(DecodeError::OutOfMemory));
+            return Err(DecodeError::OutOfMemory);
         };
         match places.insert(name, value) {
             Ok(_) => Ok(()),
-            Err(_) => Err(de.refuse(DecodeError::OutOfMemory)),
+            Err(_) => Err(DecodeError::OutOfMemory),
         }
     }
 
@@ -76,6 +79,8 @@ impl<'de, V: Deserialize<'de>> Fields<'de> for BTreeMap<String, V> {
 }
 
 impl<'de, V: Deserialize<'de>> Deserialize<'de> for BTreeMap<String, V> {
+    ghost answers = { IfRefused (RefusesFieldsAs (RefusesToKeep V.answers) (codes "map")) };
+
     fn deserialize<R: Read>(alloc: Global, de: &mut Deserializer<'de, R>) -> ReadResult<Self, R> {
         read_fields::<BTreeMap<String, V>, R>(alloc, de)
     }
@@ -111,6 +116,8 @@ impl<'de, V: Deserialize<'de>> Fields<'de> for HashMap<String, V> {
 
     ghost finish = { Some };
 
+    ghost refuses = { RefusesToKeep V.answers };
+
     fn unread(alloc: Global) -> HashMap<String, V> {
         HashMap::new(alloc)
     }
@@ -124,11 +131,11 @@ impl<'de, V: Deserialize<'de>> Fields<'de> for HashMap<String, V> {
     ) -> ReadResult<(), R> {
         let value = V::deserialize(alloc, de)?;
         let Ok(name) = String::from_str(alloc, key) else {
-            return Err(de.refuse(DecodeError::OutOfMemory));
+            return Err(DecodeError::OutOfMemory);
         };
         match places.insert(name, value) {
             Ok(_) => Ok(()),
-            Err(_) => Err(de.refuse(DecodeError::OutOfMemory)),
+            Err(_) => Err(DecodeError::OutOfMemory),
         }
     }
 
@@ -151,6 +158,8 @@ impl<'de, V: Deserialize<'de>> Fields<'de> for HashMap<String, V> {
 /// For a stranger's bytes read a `BTreeMap`. The hasher's seed is fixed, so anyone finds keys whose
 /// hashes agree, and n such keys take time in proportion to the square of n.
 impl<'de, V: Deserialize<'de>> Deserialize<'de> for HashMap<String, V> {
+    ghost answers = { IfRefused (RefusesFieldsAs (RefusesToKeep V.answers) (codes "map")) };
+
     fn deserialize<R: Read>(alloc: Global, de: &mut Deserializer<'de, R>) -> ReadResult<Self, R> {
         read_fields::<HashMap<String, V>, R>(alloc, de)
     }

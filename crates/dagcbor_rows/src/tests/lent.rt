@@ -51,3 +51,16 @@ fn nothing_is_lent_by_a_reader(rt: HostRuntime) -> Result<(), Fail> {
     let mut de = Deserializer::from_reader(IoReader::new(Source::new(b"\x61a", 1)));
     is_told(alloc, &<&str>::deserialize(alloc, &mut de), refused)
 }
+
+#[test]
+fn a_wish_for_a_loan_leaves_the_rest(rt: HostRuntime) -> Result<(), Fail> {
+    let alloc = rt.alloc();
+    let mut de = Deserializer::from_reader(Pieces::new(b"\x61a\x61b\x41c\x61d", 1));
+    let refused = r#"Err(RequireBorrowed { name: "string" })"#;
+    is_told(alloc, &<&str>::deserialize(alloc, &mut de), refused)?;
+    is_told(alloc, &de.deserialize_string(alloc), r#"Ok("b")"#)?;
+    let refused = r#"Err(RequireBorrowed { name: "bytes" })"#;
+    is_told(alloc, &ByteSlice::deserialize(alloc, &mut de), refused)?;
+    is_told(alloc, &de.deserialize_string(alloc), r#"Ok("d")"#)?;
+    is_told(alloc, &de.end(), "Ok(())")
+}

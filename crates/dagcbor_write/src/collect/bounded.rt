@@ -104,7 +104,8 @@ impl<W: Write> BoundedCollect<'_, W> {
     /// Writes the next item.
     pub fn serialize_element<T: Serialize>(&mut self, value: &T) -> WriteResult<(), W>
         requires { 0 < bounded_left self.old }
-        ensures { WritesItem W.written (T.takes_memory || W.takes_memory) (T.tree value.now) self.old self.new result }
+        ensures { WritesItem W.written (T.takes_memory || W.takes_memory)
+            (T.tree value.now) (T.message value.now) self.old self.new result }
     {
         self.left -= 1;
         value.serialize(self.alloc, self.ser)
@@ -113,7 +114,8 @@ impl<W: Write> BoundedCollect<'_, W> {
     /// Writes the next field: as `serialize_element`.
     pub fn serialize_field<T: Serialize>(&mut self, value: &T) -> WriteResult<(), W>
         requires { 0 < bounded_left self.old }
-        ensures { WritesItem W.written (T.takes_memory || W.takes_memory) (T.tree value.now) self.old self.new result }
+        ensures { WritesItem W.written (T.takes_memory || W.takes_memory)
+            (T.tree value.now) (T.message value.now) self.old self.new result }
     {
         self.serialize_element(value)
     }

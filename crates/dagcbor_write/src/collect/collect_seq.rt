@@ -1,11 +1,13 @@
 //! The collector of a list whose number of items may come last.
 
-ghost use Rattle.std.specs.Prelude.{◌≡◌, IfOk, IsOk, OnOk, IfSome, IsSome, IsNone, IsOkAnd, Some, ◌||◌};
+ghost use Rattle.std.specs.Prelude.{◌≡◌, IfOk, IfErr, IsOk, OnOk};
+ghost use Rattle.std.specs.Prelude.{IfSome, IsSome, IsNone, IsOkAnd, Some, ◌||◌};
 ghost use Rattle.std.specs.Borrow.{sem};
 ghost use Rattle.std.specs.Fmt.{◌++?◌};
 ghost use Rattle.dagcbor_heads.specs.Written.{Writes, WroteAll, WantsMemoryOnlyIf};
 ghost use Rattle.ipld_tree.specs.Tree.{IsTree};
 ghost use Rattle.ipld_tree.specs.Spelled.{spelled_head};
+ghost use Rattle.dagcbor_write.specs.Answers.{OnMessage};
 ghost use Rattle.dagcbor_write.specs.Lists.{announced_head, elements_left, IsFresh, HasRoom};
 ghost use Rattle.dagcbor_write.specs.Lists.{IsComplete, TakesElement, waiting_text};
 ghost use Rattle.dagcbor_write.specs.Lending.{list_lent, list_state, SameLoan, BeginsOrStops};
@@ -120,6 +122,8 @@ impl<W: Write> CollectSeq<'_, W> {
         ensures well_formed { OnOk result (IfSome (T.tree value.now) IsTree) }
         ensures memory { IsSome (elements_left (list_state self.old))
             → WantsMemoryOnlyIf (T.takes_memory || W.takes_memory) result }
+        ensures told { IsSome (elements_left (list_state self.old))
+            → IfErr result (OnMessage (T.message value.now)) }
     {
         match &mut self.items {
             ListState::Announced(left) => {

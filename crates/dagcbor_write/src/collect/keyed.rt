@@ -1,10 +1,12 @@
 //! The entries of a map that is at hand: its keys, spelled in one buffer, each with its value.
 
 ghost use Rattle.std.specs.Prelude.{◌≡◌, ◌<◌, ◌++◌, List, [], length, map, IfOk, OnOk, IfErr};
-ghost use Rattle.std.specs.Prelude.{slice_index_or, codes, ℕ, Option, None};
+ghost use Rattle.std.specs.Prelude.{slice_index_or, codes, ℕ, Option};
+ghost use Rattle.std.specs.Prelude.{None, Bool, Err, IfSome, ◌||◌};
 ghost use Rattle.std.specs.Fmt.{◌++?◌};
-ghost use Rattle.dagcbor_heads.specs.Written.{Written, Writes, Stops};
-ghost use Rattle.ipld_tree.specs.Spelled.{spelled_head};
+ghost use Rattle.dagcbor_heads.specs.Written.{Written, Writes, Stops, WantsMemoryOnlyIf};
+ghost use Rattle.ipld_tree.specs.Tree.{IsTree};
+ghost use Rattle.ipld_tree.specs.Spelled.{spelled_head, spelled_tree};
 ghost use Rattle.dagcbor_write.specs.Answers.{IsMessage, OnMessage};
 ghost use Rattle.dagcbor_write.specs.Each.{AreTrees};
 ghost use Rattle.dagcbor_write.specs.Gathering.{Grows, Refused, RefusedFor, Collects};
@@ -162,9 +164,9 @@ impl<V: Serialize> Keyed<'_, V> {
             if key.is_err() {
                 return key;
             }
-            match value.serialize(alloc, ser) {
-                Ok(()) => {}
-                Err(error) => return Err(refused_value(error)),
+            let part = write_value(alloc, value, ser);
+            if part.is_err() {
+                return part;
             }
         }
         Ok(())
@@ -201,12 +203,33 @@ fn refused_key<E>(error: EncodeError<Infallible>) -> EncodeError<E>
     }
 }
 
+/// Appends a value of a map. One that has no spelling is refused as such, whatever is wrong in it.
+#[inline(always)]
+pub(crate) fn write_value<V: Serialize, W: Write>(
+    alloc: Global,
+    value: &V,
+    ser: &mut Serializer<W>,
+) -> WriteResult<(), W>
+    ensures written { Writes (spelled_tree (V.tree value.now))
+        (W.written ser.old) (W.written ser.new) result }
+    ensures well_formed { OnOk result (IfSome (V.tree value.now) IsTree) }
+    ensures memory { WantsMemoryOnlyIf (V.takes_memory || W.takes_memory) result }
+    ensures message { IfErr result (IsMessage (codes "Struct value cannot be serialized.")) }
+{
+    match value.serialize(alloc, ser) {
+        Ok(()) => Ok(()),
+        Err(error) => Err(refused_value(error)),
+    }
+}
+
 /// Why a map is refused whose value was refused so.
 #[cold]
 #[inline(never)]
 fn refused_value<E>(error: EncodeError<E>) -> EncodeError<E>
     ensures stops { (text : Option (List ℕ)) (old new : Written) → Stops text old new error
         → Stops text old new result }
+    ensures memory { (may : Bool) → WantsMemoryOnlyIf {T = Unit {0}} may (Err error)
+        → WantsMemoryOnlyIf {T = Unit {0}} may (Err result) }
     ensures message { IsMessage (codes "Struct value cannot be serialized.") result }
 {
     match error {

@@ -1,10 +1,12 @@
 //! Data of any kind.
 
-ghost use Rattle.std.specs.Prelude.{Some, true, IsTrue, OnOk};
+ghost use Rattle.std.specs.Prelude.{◌≡◌, Some, true, IsTrue, OnOk, IfErr};
 ghost use Rattle.dagcbor_heads.specs.Written.{Writes, WritesAtOnce};
 ghost use Rattle.ipld_tree.specs.Ipld.{tree_of};
 ghost use Rattle.ipld_tree.specs.Spelled.{spelled};
 ghost use Rattle.ipld_tree.specs.Tree.{IsTree};
+ghost use Rattle.dagcbor_write.specs.Answers.{OnMessage};
+ghost use Rattle.dagcbor_write.specs.TreeMessages.{tree_message, is_integer};
 
 use crate::serialize::Serialize;
 use crate::serializer::Serializer;
@@ -17,6 +19,10 @@ impl Serialize for Ipld {
     ghost tree = { λ v. Some (tree_of v) };
 
     ghost takes_memory = { true };
+
+    ghost message = { λ v. tree_message (tree_of v) };
+
+    ghost unsent = { λ v. is_integer (tree_of v) };
 
     #[cycle(serialize)]
     #[inline(always)]
@@ -55,6 +61,9 @@ fn push_data<W: Write>(value: &Ipld, alloc: Global, ser: &mut Serializer<W>) -> 
     ensures written { Writes (spelled (tree_of value.now))
         (W.written ser.old) (W.written ser.new) result }
     ensures well_formed { OnOk result (IsTree (tree_of value.now)) }
+    ensures told { IfErr result (OnMessage (tree_message (tree_of value.now))) }
+    ensures unsent { IsTrue (is_integer (tree_of value.now))
+        → IfErr result (OnMessage (λ _. W.written ser.new ≡ W.written ser.old)) }
 {
     match value {
         Ipld::Null => ser.serialize_unit(),

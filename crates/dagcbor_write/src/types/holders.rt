@@ -1,10 +1,12 @@
 //! Values that hold others.
 
-ghost use Rattle.std.specs.Prelude.{map, OnOk, IfSome, ◌||◌};
+ghost use Rattle.std.specs.Prelude.{map, OnOk, IfErr, IfSome, ◌||◌};
 ghost use Rattle.dagcbor_heads.specs.Written.{Writes, WantsMemoryOnlyIf};
 ghost use Rattle.ipld_tree.specs.Spelled.{spelled_tree};
 ghost use Rattle.ipld_tree.specs.Tree.{IsTree, list_tree};
 ghost use Rattle.dagcbor_write.specs.Trees.{option_tree};
+ghost use Rattle.dagcbor_write.specs.Answers.{OnMessage, RefusesAnyPart};
+ghost use Rattle.dagcbor_write.specs.Answers.{option_message, option_unsent};
 
 use crate::serialize::Serialize;
 use crate::serializer::Serializer;
@@ -16,6 +18,10 @@ impl<T: Serialize> Serialize for &T {
 
     ghost takes_memory = { T.takes_memory };
 
+    ghost message = { λ v. T.message v.now };
+
+    ghost unsent = { λ v. T.unsent v.now };
+
     fn serialize<W: Write>(&self, alloc: Global, ser: &mut Serializer<W>) -> WriteResult<(), W> {
         Serialize::serialize(*self, alloc, ser)
     }
@@ -26,6 +32,10 @@ impl<T: Serialize> Serialize for Box<T> {
 
     ghost takes_memory = { T.takes_memory };
 
+    ghost message = { λ v. T.message v.value };
+
+    ghost unsent = { λ v. T.unsent v.value };
+
     fn serialize<W: Write>(&self, alloc: Global, ser: &mut Serializer<W>) -> WriteResult<(), W> {
         Serialize::serialize(&**self, alloc, ser)
     }
@@ -35,6 +45,10 @@ impl<T: Serialize> Serialize for Option<T> {
     ghost tree = { option_tree T.tree };
 
     ghost takes_memory = { T.takes_memory };
+
+    ghost message = { option_message T.message };
+
+    ghost unsent = { option_unsent T.unsent };
 
     fn serialize<W: Write>(&self, alloc: Global, ser: &mut Serializer<W>) -> WriteResult<(), W> {
         match self {
@@ -49,6 +63,8 @@ impl<T: Serialize> Serialize for Vec<T> {
 
     ghost takes_memory = { T.takes_memory };
 
+    ghost message = { λ v. RefusesAnyPart T.tree T.message v.items };
+
     fn serialize<W: Write>(&self, alloc: Global, ser: &mut Serializer<W>) -> WriteResult<(), W> {
         serialize_items(alloc, self.as_slice(), ser)
     }
@@ -58,6 +74,8 @@ impl<T: Serialize> Serialize for &[T] {
     ghost tree = { λ v. list_tree (map T.tree v.now) };
 
     ghost takes_memory = { T.takes_memory };
+
+    ghost message = { λ v. RefusesAnyPart T.tree T.message v.now };
 
     fn serialize<W: Write>(&self, alloc: Global, ser: &mut Serializer<W>) -> WriteResult<(), W> {
         serialize_items(alloc, *self, ser)
@@ -75,6 +93,7 @@ fn serialize_items<T: Serialize, W: Write>(
         (W.written ser.old) (W.written ser.new) result }
     ensures well_formed { OnOk result (IfSome (list_tree (map T.tree items.now)) IsTree) }
     ensures memory { WantsMemoryOnlyIf (T.takes_memory || W.takes_memory) result }
+    ensures told { IfErr result (OnMessage (RefusesAnyPart T.tree T.message items.now)) }
 {
     let mut list = ser.serialize_tuple(alloc, items.len())?;
     for item in items {

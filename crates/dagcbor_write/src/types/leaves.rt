@@ -1,6 +1,6 @@
 //! Values that are one item.
 
-ghost use Rattle.std.specs.Prelude.{Some, pos, string_bytes, false};
+ghost use Rattle.std.specs.Prelude.{◌≡◌, Some, pos, string_bytes, true, false, codes};
 ghost use Rattle.std.specs.Char.{encode_utf8};
 ghost use Rattle.ipld_tree.specs.Cid.{cid_bytes};
 ghost use Rattle.ipld_tree.specs.Tree.{null, boolean, integer, text, bytes, link};
@@ -76,6 +76,10 @@ impl Serialize for i128 {
 
     ghost takes_memory = { false };
 
+    ghost message = { λ v m. m ≡ codes "Integer must be within [-u64::MAX-1, u64::MAX] range" };
+
+    ghost unsent = { λ v. true };
+
     fn serialize<W: Write>(&self, _alloc: Global, ser: &mut Serializer<W>) -> WriteResult<(), W> {
         ser.serialize_i128(*self)
     }
@@ -135,6 +139,10 @@ impl Serialize for u128 {
     ghost tree = { λ v. Some (integer (pos v)) };
 
     ghost takes_memory = { false };
+
+    ghost message = { λ v m. m ≡ codes "Unsigned integer must be within [0, u64::MAX] range" };
+
+    ghost unsent = { λ v. true };
 
     fn serialize<W: Write>(&self, _alloc: Global, ser: &mut Serializer<W>) -> WriteResult<(), W> {
         ser.serialize_u128(*self)

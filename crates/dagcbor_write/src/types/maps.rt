@@ -6,7 +6,7 @@ ghost use Rattle.dagcbor_heads.specs.Written.{Writes, WantsMemoryOnlyIf};
 ghost use Rattle.ipld_tree.specs.Tree.{IsTree, entries_tree};
 ghost use Rattle.ipld_tree.specs.Spelled.{spelled_tree};
 ghost use Rattle.dagcbor_write.specs.Trees.{Pair};
-ghost use Rattle.dagcbor_write.specs.Maps.{ShowsPairs, RefusesMap};
+ghost use Rattle.dagcbor_write.specs.Maps.{ShowsPairs, RefusesMap, RefusesEntries};
 ghost use Rattle.dagcbor_write.specs.Answers.{OnMessage};
 
 use crate::collect::collect_map::REPEATED_KEY;
@@ -58,6 +58,8 @@ impl<K: Ord + Serialize, V: Serialize> Serialize for BTreeMap<K, V> {
 
     ghost takes_memory = { true };
 
+    ghost message = { λ m. RefusesEntries (map (λ e. (K.tree e.0, V.tree e.1)) m.entries) };
+
     /// Its message is that of what has no spelling: a key, a key that is there twice, or a value. Where
     /// it is of the keys, nothing went out.
     fn serialize<W: Write>(&self, alloc: Global, ser: &mut Serializer<W>) -> WriteResult<(), W>
@@ -69,6 +71,8 @@ impl<K: Ord + Serialize, V: Serialize> Serialize for BTreeMap<K, V> {
         ensures memory { WantsMemoryOnlyIf (true || W.takes_memory) result }
         ensures message { IfErr result (OnMessage (RefusesMap ser.old ser.new
             (map (λ e. (K.tree e.0, V.tree e.1)) self.now.entries))) }
+        ensures told { IfErr result (OnMessage (RefusesEntries
+            (map (λ e. (K.tree e.0, V.tree e.1)) self.now.entries))) }
     {
         write_entries(alloc, self.len(), self.iter(), ser)
     }
@@ -78,6 +82,8 @@ impl<K: Eq + Hash + Serialize, V: Serialize> Serialize for HashMap<K, V> {
     ghost tree = { λ m. entries_tree (map (λ e. (K.tree e.0, V.tree e.1)) m.entries) };
 
     ghost takes_memory = { true };
+
+    ghost message = { λ m. RefusesEntries (map (λ e. (K.tree e.0, V.tree e.1)) m.entries) };
 
     /// Its message is that of what has no spelling: a key, a key that is there twice, or a value. Where
     /// it is of the keys, nothing went out.
@@ -89,6 +95,8 @@ impl<K: Eq + Hash + Serialize, V: Serialize> Serialize for HashMap<K, V> {
             (map (λ e. (K.tree e.0, V.tree e.1)) self.now.entries)) IsTree) }
         ensures memory { WantsMemoryOnlyIf (true || W.takes_memory) result }
         ensures message { IfErr result (OnMessage (RefusesMap ser.old ser.new
+            (map (λ e. (K.tree e.0, V.tree e.1)) self.now.entries))) }
+        ensures told { IfErr result (OnMessage (RefusesEntries
             (map (λ e. (K.tree e.0, V.tree e.1)) self.now.entries))) }
     {
         write_entries(alloc, self.len(), self.iter(), ser)

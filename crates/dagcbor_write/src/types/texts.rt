@@ -1,12 +1,15 @@
 //! Maps whose keys are texts: the keys are written as they stand, and spelled nowhere else.
 
-ghost use Rattle.std.specs.Prelude.{◌≡◌, Option, IsPermutation, OnOk, IfOk, IfSome, IsTrue};
+ghost use Rattle.std.specs.Prelude.{◌≡◌, Option, IsPermutation, OnOk, IfOk, IfErr, IfSome, IsTrue};
+ghost use Rattle.std.specs.Prelude.{codes};
 ghost use Rattle.dagcbor_heads.specs.Written.{Writes};
 ghost use Rattle.ipld_tree.specs.Tree.{Tree, IsTree, entries_tree};
 ghost use Rattle.ipld_tree.specs.Spelled.{spelled_tree};
+ghost use Rattle.dagcbor_write.specs.Answers.{IsMessage};
 ghost use Rattle.dagcbor_write.specs.Rows.{Rises, spelled_pair, IsPair};
 ghost use Rattle.dagcbor_write.specs.Texts.{text_pair, text_pairs, map_pairs};
 
+use crate::collect::keyed::write_value;
 use crate::places::{comes_before, key_cmp};
 use crate::serialize::Serialize;
 use crate::serializer::Serializer;
@@ -21,7 +24,7 @@ pub(crate) struct TextEntry<'a, V> {
     value: &'a V,
 }
 
-/// Appends the map of the entries.
+/// Appends the map of the entries. Its message is that of a value that has no spelling.
 pub(crate) fn write_texts<V: Serialize, W: Write>(
     alloc: Global,
     entries: &BTreeMap<String, V>,
@@ -31,13 +34,14 @@ pub(crate) fn write_texts<V: Serialize, W: Write>(
         (W.written ser.old) (W.written ser.new) result }
     ensures well_formed { OnOk result
         (IfSome (entries_tree (map_pairs V.tree entries.now.entries)) IsTree) }
+    ensures message { IfErr result (IsMessage (codes "Struct value cannot be serialized.")) }
 {
     let Ok(row) = list_in_order(alloc, entries) else {
         return Err(EncodeError::OutOfMemory);
     };
     if !keys_rise(&row) {
         // The keys of a sorted map do rise here; nothing else rests on it.
-        return entries.serialize(alloc, ser);
+        return write_value(alloc, entries, ser);
     }
     write_row(alloc, &row, ser)
 }
@@ -103,6 +107,7 @@ fn write_row<V: Serialize, W: Write>(
         (W.written ser.old) (W.written ser.new) result }
     ensures well_formed { OnOk result
         (IfSome (entries_tree (text_pairs V.tree row.now)) IsTree) }
+    ensures message { IfErr result (IsMessage (codes "Struct value cannot be serialized.")) }
 {
     let head = ser.push_head(5, row.len());
     if head.is_err() {
@@ -119,6 +124,7 @@ fn write_row<V: Serialize, W: Write>(
 
 /// Appends the key and the value.
 #[inline(always)]
+#[tactic(auto, using(crate::proofs::Messages::none_as))]
 fn write_entry<V: Serialize, W: Write>(
     alloc: Global,
     entry: &TextEntry<'_, V>,
@@ -127,10 +133,11 @@ fn write_entry<V: Serialize, W: Write>(
     ensures written { Writes (spelled_pair (text_pair V.tree entry.now))
         (W.written ser.old) (W.written ser.new) result }
     ensures well_formed { OnOk result (IsPair (text_pair V.tree entry.now)) }
+    ensures message { IfErr result (IsMessage (codes "Struct value cannot be serialized.")) }
 {
     let key = ser.serialize_str(entry.key);
     if key.is_err() {
         return key;
     }
-    entry.value.serialize(alloc, ser)
+    write_value(alloc, entry.value, ser)
 }

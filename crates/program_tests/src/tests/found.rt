@@ -54,11 +54,14 @@ const FLOAT_NAME: &str = "bafyreib2ir5ittexhu5d3zopo6wzsshuwi6byb3cdtp67bfopa2fk
 
 const UNREAD_NAME: &str = "bafyreih2e7uihbp662zthfysg7zdfi66tu7tp7cadsgxjezpdpigxwkuce";
 
-const AWAY_LINE: &[u8] = b"missing bafyreiewdnw5h3pdzohmxkwl22g6aqgnpdvs5vmiseymz22mjeti5jgvay\n";
+const AWAY_LINE: &[u8] =
+    b"missing bafyreiewdnw5h3pdzohmxkwl22g6aqgnpdvs5vmiseymz22mjeti5jgvay dag-cbor\n";
 
-const FLOAT_LINE: &[u8] = b"missing bafyreib2ir5ittexhu5d3zopo6wzsshuwi6byb3cdtp67bfopa2fkbpfcy\n";
+const FLOAT_LINE: &[u8] =
+    b"missing bafyreib2ir5ittexhu5d3zopo6wzsshuwi6byb3cdtp67bfopa2fkbpfcy dag-cbor\n";
 
-const USAGE_LINE: &[u8] = b"usage: dagcar check|list|name|one|show|make|get CID|tree CID\n";
+const USAGE_LINE: &[u8] =
+    b"usage: dagcar check [--summary]|verify|list|name|one|show|make|get CID|tree CID|at CID/PATH\n";
 
 /// The map's block.
 const MAP: &[u8] =
@@ -67,10 +70,11 @@ const MAP: &[u8] =
 /// The ends of the header and of the first four sections of `FILE`.
 const ENDS: &[usize] = &[59, 97, 138, 176, 213];
 
-const LEAF_LINE: &[u8] = b"missing bafkreibme22gw2h7y2h7tg2fhqotaqjucnbc24deqo72b6mkl2egezxhvy\n";
+const LEAF_LINE: &[u8] =
+    b"missing bafkreibme22gw2h7y2h7tg2fhqotaqjucnbc24deqo72b6mkl2egezxhvy raw\n";
 
 /// What a run of two words is asked, and what it gives.
-type Row = (&'static str, &'static str, u8, &'static [u8], &'static [u8]);
+pub type Row = (&'static str, &'static str, u8, &'static [u8], &'static [u8]);
 
 const ROWS: &[Row] = &[
     ("get", LIST_NAME, 0, LIST, b""),
@@ -98,14 +102,19 @@ const ROWS: &[Row] = &[
         "bafyreifeljyuakllifycw4ekim5hzalamju43coavipyjcd3rrrikh3fe",
         2,
         b"",
-        USAGE_LINE,
+        b"no CID: InvalidLength\n",
     ),
-    ("tree", "", 2, b"", USAGE_LINE),
+    ("tree", "", 2, b"", b"no CID: UnknownBase\n"),
+    ("get", "bAA", 2, b"", b"no CID: InvalidCharacter\n"),
+    ("get", "bab", 2, b"", b"no CID: TrailingBits\n"),
+    ("tree", "z1", 2, b"", b"no CID: LeadingZero\n"),
+    ("tree", "baa", 2, b"", b"no CID: InvalidCid\n"),
+    ("list", LIST_NAME, 2, b"", USAGE_LINE),
     ("check", LIST_NAME, 2, b"", USAGE_LINE),
 ];
 
 /// Fails where a run over the file gives anything else.
-fn gives(alloc: Global, file: &[u8], row: &Row) -> Result<(), Fail> {
+pub fn gives(alloc: Global, file: &[u8], row: &Row) -> Result<(), Fail> {
     let (word, name, status, wanted, line) = *row;
     let (mut output, mut errors) = (Vec::new(alloc), Vec::new(alloc));
     let mut input = file;

@@ -1,4 +1,5 @@
-use Rattle.dagcar_lines.proofs.Saying.{verdict_is_said, known_anyway}
+use Rattle.block_lines.proofs.Saying.{known_anyway}
+use Rattle.dagcar_lines.proofs.Saying.{verdict_is_said}
 use Rattle.dagcar_lines.proofs.check.verdict_said.Goals as goal
 
 pub returns-in-Ok-clause-said : goal.returns-in-Ok-clause-said

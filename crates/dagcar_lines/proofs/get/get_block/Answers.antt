@@ -1,7 +1,7 @@
 use Rattle.std.proofs.Common.{subst, sym}
 use Rattle.dagcar_lines.specs.Finding.{IsGot}
 use Rattle.dagcar_lines.proofs.Running.{if_some}
-use Rattle.dagcar_lines.proofs.Saying.{both_said}
+use Rattle.block_lines.proofs.Saying.{both_said}
 use Rattle.dagcar_lines.proofs.get.get_block.Goals as goal
 
 pub returns-in-Ok : goal.returns-in-Ok

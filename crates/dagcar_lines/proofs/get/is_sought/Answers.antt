@@ -1,5 +1,5 @@
 use Rattle.std.proofs.Common.{rules}
-use Rattle.dagcbor_car.proofs.Members.{at_same, same_at}
+use Rattle.ipld_links.proofs.Members.{at_same, same_at}
 use Rattle.dagcar_lines.proofs.Finding.{verified_of}
 use Rattle.dagcar_lines.proofs.get.is_sought.Goals as goal
 

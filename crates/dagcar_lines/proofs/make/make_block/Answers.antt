@@ -1,7 +1,7 @@
 use Rattle.std.proofs.Common.{◌∙◌, subst, sym}
 use Rattle.dagcar_lines.specs.Answers.{IsMade}
 use Rattle.dagcar_lines.proofs.Running.{if_some}
-use Rattle.dagcar_lines.proofs.Saying.{both_said}
+use Rattle.block_lines.proofs.Saying.{both_said}
 use Rattle.dagcar_lines.proofs.make.make_block.Goals as goal
 
 pub returns-in-Ok-made : goal.returns-in-Ok-made

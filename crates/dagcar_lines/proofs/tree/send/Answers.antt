@@ -1,7 +1,8 @@
 use Rattle.std.proofs.Common.{rules, [], ◌∷◌}
 use Rattle.ipld_tree.specs.Cid.{cid_bytes}
 use Rattle.dagcbor_car.specs.Car.{car_bytes}
-use Rattle.dagcbor_car.specs.Reaching.{stored_in, sections_at}
+use Rattle.ipld_links.specs.Reaching.{stored_in}
+use Rattle.dagcbor_car.specs.Reached.{sections_at}
 use Rattle.dagcar_lines.proofs.Finding.{front_sent}
 use Rattle.dagcar_lines.proofs.tree.send.Goals as goal
 

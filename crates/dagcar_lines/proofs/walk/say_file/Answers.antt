@@ -1,4 +1,4 @@
-use Rattle.std.proofs.Common.{Ok, Err, ◌∙◌}
+use Rattle.std.proofs.Common.{◌∙◌}
 use Rattle.dagcbor_heads.specs.Inputs.{input_reading}
 use Rattle.dagcbor_items.specs.Walks.{forms}
 use Rattle.dagcbor_cli.specs.declared.fault.ToolError.TheVariants.{OutOfMemory}
@@ -11,8 +11,8 @@ returns-in-Ok-begin g c = c.say_header.ensures (input_reading g.R.Read.reading c
 pub returns-in-Ok : goal.returns-in-Ok
 returns-in-Ok g c = not_begun g.T.Teller.speech (input_reading g.R.Read.reading c.args.input.now) _ OutOfMemory
 
-pub returns-in-Ok-say_refusal : goal.returns-in-Ok-say_refusal
-returns-in-Ok-say_refusal g c = header_said g.T.Teller.speech (input_reading g.R.Read.reading c.args.input.now) (input_reading g.R.Read.reading c.pull_header.new.input) (g.W.Write.contents c.args.output.now) (g.W.Write.contents c.say_refusal.new.output) c.in-Err.error (Ok c.in-Ok-say_refusal.field-0) c.in-Err.ensures.taken c.in-Ok-say_refusal.ensures
+pub returns-in-Ok-fault_line : goal.returns-in-Ok-fault_line
+returns-in-Ok-fault_line g c = header_said g.T.Teller.speech (input_reading g.R.Read.reading c.args.input.now) (input_reading g.R.Read.reading c.pull_header.new.input) (g.W.Write.contents c.args.output.now) (g.W.Write.contents c.say.new.output) c.in-Err.error _ c.say.result c.in-Err.ensures.taken c.in-Ok-fault_line.ensures.0 c.in-Ok-fault_line.ensures.1 c.say.ensures
 
 pub returns : goal.returns
-returns g c = header_said {A = Unit} g.T.Teller.speech (input_reading g.R.Read.reading c.args.input.now) (input_reading g.R.Read.reading c.pull_header.new.input) (g.W.Write.contents c.args.output.now) (g.W.Write.contents c.say_refusal.new.output) c.in-Err.error (Err c.in-Err-say_refusal.fault) c.in-Err.ensures.taken c.in-Err-say_refusal.ensures
+returns g c = not_begun g.T.Teller.speech (input_reading g.R.Read.reading c.args.input.now) _ c.in-Err-fault_line.fault

@@ -1,6 +1,7 @@
 use Rattle.std.proofs.Common.{Err}
 use Rattle.dagcbor_heads.specs.Inputs.{input_reading}
-use Rattle.dagcar_lines.proofs.Saying.{line_whole, roots_broken}
+use Rattle.block_lines.proofs.Saying.{line_whole}
+use Rattle.dagcar_lines.proofs.Saying.{roots_broken}
 use Rattle.dagcar_lines.proofs.walk.say_header.Goals as goal
 
 pub returns-in_err-write_all : goal.returns-in_err-write_all

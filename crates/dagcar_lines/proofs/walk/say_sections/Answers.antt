@@ -1,33 +1,21 @@
-use Rattle.std.proofs.Common.{Ok, Err}
-use Rattle.dagcbor_heads.specs.Inputs.{input_reading}
-use Rattle.dagcbor_cli.specs.declared.fault.ToolError.TheVariants.{OutOfMemory}
-use Rattle.dagcar_lines.proofs.Saying.{said_begun, said_more, fault_said, end_said, broke_off, nothing_said}
+use Rattle.std.proofs.Common.{rules, ◌≡◌, [], refl, sym, ◌∙◌, subst}
+use Rattle.std.specs.Io.KnownBytes.{Appends}
+use Rattle.dagcar_lines.specs.Speeches.{SaysBytes}
+use Rattle.dagcar_lines.specs.Steps.{work_of}
+use Rattle.dagcar_lines.proofs.Saying.{none_told, same_output, rest_said}
 use Rattle.dagcar_lines.proofs.walk.say_sections.Goals as goal
 
-pub loop-init : goal.loop-init
-loop-init g c = λ start roots old h k out. said_begun g.T.Teller.speech g.T.Teller.knows roots start _ _ _ _ _ h k out
-
-pub returns-in-Ok : goal.returns-in-Ok
-returns-in-Ok g c = λ start roots old h k out b l.
-    rw c.both.ensures (end_said g.T.Teller.speech g.T.Teller.knows start (input_reading g.R.Read.reading c.loop.input) (input_reading g.R.Read.reading c.say_next.new.input) c.loop.left c.say_next.new.left c.loop.teller c.say_next.new.teller c.loop.well _ _ _ _ (Ok c.in-Ok.end_well)
-    (c.loop.invariant start roots old h k out) (rw c.in-Ok-End.field-0-is at c.in-Ok-End.ensures) c.in-Ok.ensures b l)
-
-pub returns-in-Err-say_end : goal.returns-in-Err-say_end
-returns-in-Err-say_end g c = λ start roots old h k out b l.
-    end_said g.T.Teller.speech g.T.Teller.knows start (input_reading g.R.Read.reading c.loop.input) (input_reading g.R.Read.reading c.say_next.new.input) c.loop.left c.say_next.new.left c.loop.teller c.say_next.new.teller c.loop.well _ _ _ _ (Err c.in-Err-say_end.fault)
-    (c.loop.invariant start roots old h k out) (rw c.in-Ok-End.field-0-is at c.in-Ok-End.ensures) c.in-Err-say_end.ensures b l
-
-pub returns-in-Ok-Fault : goal.returns-in-Ok-Fault
-returns-in-Ok-Fault g c = λ start roots old h k out.
-    fault_said g.T.Teller.speech g.T.Teller.knows start (input_reading g.R.Read.reading c.loop.input) (input_reading g.R.Read.reading c.say_next.new.input) c.loop.left c.say_next.new.left c.loop.teller c.say_next.new.teller c.loop.well _ _ _ (c.loop.invariant start roots old h k out) (rw c.in-Ok-Fault.field-0-is at c.in-Ok-Fault.ensures)
-
-pub returns-in-Err : goal.returns-in-Err
-returns-in-Err g c = λ start roots old h k out. broke_off g.T.Teller.speech g.T.Teller.knows start (input_reading g.R.Read.reading c.loop.input) c.loop.left c.loop.teller c.loop.well _ _ _ c.in-Err.fault (c.loop.invariant start roots old h k out) c.in-Err.ensures
-
-pub loop-preserved : goal.loop-preserved
-loop-preserved g c = λ start roots old h k out.
-    rw c.both-well.ensures (said_more g.T.Teller.speech g.T.Teller.knows start (input_reading g.R.Read.reading c.loop.input) (input_reading g.R.Read.reading c.say_next.new.input) c.loop.left c.say_next.new.left c.loop.teller c.say_next.new.teller c.loop.well c.in-Ok-Section.is_well _ _ _
-    (c.loop.invariant start roots old h k out) (rw c.in-Ok-Section.field-0-is at c.in-Ok-Section.ensures))
-
 pub returns : goal.returns
-returns g c = λ start roots old h k out. nothing_said g.T.Teller.speech g.T.Teller.knows start (input_reading g.R.Read.reading c.loop.input) c.loop.left c.loop.teller c.loop.well _ _ OutOfMemory (c.loop.invariant start roots old h k out)
+returns g c = λ start roots old h k out b l.
+    let speech = g.T.Teller.speech in
+    let knows = g.T.Teller.knows in
+    let work = work_of g.W.Write.contents in
+    let telling = c.new-telling.result in
+    let name = telling.output.ghost_name in
+    let now = c.take_sections-ended.new.sink in
+    let at = none_told speech knows work roots b old name telling c.new-telling.ensures.well (subst (λ t. knows t roots []) (sym c.new-telling.ensures.teller) k) (subst (λ w. Appends old (g.W.Write.contents w) (speech.of_roots roots)) (sym c.new-telling.ensures.bytes) out) refl in
+    let ends = c.take_sections-ended.ensures start roots h b l in
+    let same : now.output.ghost_name ≡ telling.output.ghost_name = same_output speech knows work roots b old name telling now c.take_sections-ended.result at ends in
+    let chain = same ∙ c.new-telling.ensures.reference in
+    let said = rest_said speech knows work roots b old name telling now c.take_sections-ended.result c.say_rest.result (g.W.Write.contents c.say_rest.new.output) at ends c.say_rest.ensures in
+    subst (λ x. SaysBytes speech b old c.say_rest.result (g.W.Write.contents x)) (search (rules, chain)) said

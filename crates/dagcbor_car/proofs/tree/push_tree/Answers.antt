@@ -1,6 +1,7 @@
 use Rattle.std.proofs.Common.{[], ◌∷◌, drop, ◌+◌}
 use Rattle.ipld_tree.specs.Cid.{cid_bytes}
-use Rattle.dagcbor_car.specs.Reaching.{stored_in, section_at, sections_at}
+use Rattle.ipld_links.specs.Reaching.{stored_in}
+use Rattle.dagcbor_car.specs.Reached.{section_at, sections_at}
 use Rattle.dagcbor_car.proofs.Writing.{sections_left, written_more, header_stopped, section_stopped}
 use Rattle.dagcbor_car.proofs.tree.push_tree.Goals as goal
 

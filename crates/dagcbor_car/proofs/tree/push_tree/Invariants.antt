@@ -1,6 +1,7 @@
 use Rattle.std.proofs.Common.{[], ◌∷◌, drop}
 use Rattle.ipld_tree.specs.Cid.{cid_bytes}
-use Rattle.dagcbor_car.specs.Reaching.{stored_in, sections_at}
+use Rattle.ipld_links.specs.Reaching.{stored_in}
+use Rattle.dagcbor_car.specs.Reached.{sections_at}
 use Rattle.dagcbor_car.proofs.Writing.{WrittenTo}
 use Rattle.dagcbor_car.proofs.tree.push_tree.Given as goal
 

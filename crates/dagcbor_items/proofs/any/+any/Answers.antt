@@ -10,7 +10,7 @@ use Rattle.ipld_tree.specs.declared.ipld.Ipld.{the_lemmas}
 use Rattle.dagcbor_items.proofs.Fronts.{byte_refused}
 use Rattle.dagcbor_items.proofs.Leaves.{indefinite_refused}
 use Rattle.dagcbor_items.proofs.Steps.{no_step_left, stepped_refused, more_lacks}
-use Rattle.dagcbor_items.proofs.Lists.{list_refused, list_as_tree, next_refused, one_item_read, map_placed, map_pushed, item_taken}
+use Rattle.dagcbor_items.proofs.Lists.{list_refused, list_as_tree, next_refused, one_item_read, map_placed, map_appended, item_taken}
 use Rattle.dagcbor_items.proofs.Maps as maps
 use Rattle.dagcbor_items.proofs.Entering.{enters}
 use Rattle.dagcbor_items.proofs.Pushes.{ordered_push, pushed_as}
@@ -26,7 +26,7 @@ read_into-returns-in_err-read_item-clause-item g t c =
     as_refusal _ _ _ _ c.from_residual-in_err-read_item.ensures.1 (stepped_refused _ 0 _ c.in_ok-spend_step.ensures (λ x. x) c.in_err-read_item.ensures.item)
 
 pub read_item-returns-in_err-first-clause-item : goal.read_item-returns-in_err-first-clause-item
-read_item-returns-in_err-first-clause-item g t c = as_refusal _ _ _ _ c.from_residual.ensures.1 (byte_refused ⊤ 0 _ _ _ c.in_err-first.ensures.shown)
+read_item-returns-in_err-first-clause-item g t c = as_refusal _ _ _ _ c.from_residual.ensures.1 (byte_refused ⊤ 0 _ _ _ c.in_err-first.ensures.variant c.in_err-first.ensures.shown)
 
 pub read_item-returns-then-is_indefinite-clause-item : goal.read_item-returns-then-is_indefinite-clause-item
 read_item-returns-then-is_indefinite-clause-item g t c = indefinite_refused g.row.R-Error.Denot ⊤ 0 c.in_ok-first.ensures.shown (c.is_indefinite.ensures.0 c.if-is_indefinite.true)
@@ -75,7 +75,7 @@ read_items-returns-in_err-read_into-clause-items g t c =
 
 pub read_items-loop-index-preserved-in-Some : goal.read_items-loop-index-preserved-in-Some
 read_items-loop-index-preserved-in-Some g t c =
-    let pushed = map_pushed tree_of c.push.result _ _ _ c.if-is_err-2.ensures.value (rw c.take_first_room.ensures at c.push.ensures.items) in
+    let pushed = map_appended tree_of c.push_item.result _ _ _ c.if-is_err.ensures.value c.push_item.ensures in
     record {
       read = one_item_read _ _ pushed (omega arith) c.loop-index.invariant.read (item_taken _ _ _ _ (search (rules, the_lemmas)) c.in-Some.ensures.taken);
       looked = some_both c.loop-index.invariant.looked (some_taken c.in-Some.ensures.looked);
@@ -83,11 +83,15 @@ read_items-loop-index-preserved-in-Some g t c =
 
 pub read_items-loop-index-preserved : goal.read_items-loop-index-preserved
 read_items-loop-index-preserved g t c =
-    let placed = map_placed tree_of c.push-in-loop-index.result _ _ _ _ _ c.if-is_err-3.ensures.value (rw c.take_first_room.ensures at c.push-in-loop-index.ensures.items) (omega (arith, c.len-last.ensures)) in
+    let placed = map_placed tree_of c.push.result _ _ _ _ _ c.if-is_err-3.ensures.value c.push.ensures.items (omega (arith, c.len-last.ensures)) in
     record {
-      read = one_item_read _ _ placed (omega arith) c.loop-index.invariant.read (rw c.in_default.ensures.taken at c.in_ok-read_into.ensures.item);
-      looked = some_both c.loop-index.invariant.looked (some_taken (rw c.in_default.ensures.taken at c.in_ok-read_into.ensures.looked));
+      read = one_item_read _ _ placed (omega arith) c.loop-index.invariant.read (rw c.in_default.ensures.taken at c.in_ok-read_into-2.ensures.item);
+      looked = some_both c.loop-index.invariant.looked (some_taken (rw c.in_default.ensures.taken at c.in_ok-read_into-2.ensures.looked));
     }
+
+pub read_items-returns-in_err-read_into-2-clause-items : goal.read_items-returns-in_err-read_into-2-clause-items
+read_items-returns-in_err-read_into-2-clause-items g t c =
+    as_refusal _ _ _ _ c.from_residual-in_err-read_into-2.ensures.1 (next_refused _ _ _ (omega arith) c.loop-index.invariant.read (λ x. x) (rw c.in_default.ensures.taken at c.in_err-read_into-2.ensures.item))
 
 pub read_items-loop-index-init : goal.read_items-loop-index-init
 read_items-loop-index-init g t c = record { read = search rules; looked = nothing_looked _ }

@@ -2,9 +2,8 @@ use Rattle.std.proofs.Common.{ap, refl}
 use Rattle.dagcbor_heads.proofs.Refusing.{as_refusal}
 use Rattle.dagcbor_heads.specs.Reading.{Reading}
 use Rattle.dagcbor_items.proofs.Looks.{head_taken, stepped_left, looks_stepped}
-use Rattle.dagcbor_items.proofs.Fronts.{head_refused}
 use Rattle.dagcbor_items.proofs.Steps.{stepped_refused}
-use Rattle.dagcbor_items.proofs.Entering.{no_step_inside, begins_parts, enters_parts, parts_left, parts_unread}
+use Rattle.dagcbor_items.proofs.Entering.{no_step_inside, parts_head_refused, enters_parts, parts_left, parts_unread}
 use Rattle.dagcbor_items.proofs.enter.enter.Goals as goal
 
 pub returns-in_err-spend_step-clause-count : goal.returns-in_err-spend_step-clause-count
@@ -12,7 +11,7 @@ returns-in_err-spend_step-clause-count g c = as_refusal _ _ _ _ c.from_residual.
 
 pub returns-in_err-count-clause-count : goal.returns-in_err-count-clause-count
 returns-in_err-count-clause-count g c =
-    as_refusal _ _ _ _ c.from_residual-in_err-count.ensures.1 (stepped_refused _ 1 _ c.in_ok-spend_step.ensures (λ x. x) (head_refused ⊥ 1 _ _ _ (begins_parts c.requires c.in_ok-spend_step.ensures) c.in_err-count.ensures.taken))
+    as_refusal _ _ _ _ c.from_residual-in_err-count.ensures.1 (stepped_refused _ 1 _ c.in_ok-spend_step.ensures (λ x. x) (parts_head_refused _ _ c.requires c.in_ok-spend_step.ensures c.in_err-count.ensures.variant c.in_err-count.ensures.taken))
 
 pub returns-clause-count : goal.returns-clause-count
 returns-clause-count g c = enters_parts c.in_ok-spend_step.ensures c.in_ok-count.ensures.taken.2

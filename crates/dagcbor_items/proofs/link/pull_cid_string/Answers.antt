@@ -6,14 +6,14 @@ use Rattle.dagcbor_heads.proofs.Looking.{looks_more}
 use Rattle.dagcbor_items.proofs.link.pull_cid_string.Goals as goal
 
 pub returns-in_err-count-clause-cid : goal.returns-in_err-count-clause-cid
-returns-in_err-count-clause-cid g c = as_refusal _ _ _ _ c.from_residual.ensures.1 (cid_head_refused _ _ _ c.requires c.in_err-count.ensures.taken)
+returns-in_err-count-clause-cid g c = as_refusal _ _ _ _ c.from_residual.ensures.1 (cid_head_refused _ _ _ c.requires c.in_err-count.ensures.variant c.in_err-count.ensures.taken)
 
 pub returns-then-count-clause-cid : goal.returns-then-count-clause-cid
 returns-then-count-clause-cid g c = link_too_long _ c.custom.ensures (head_of 2 c.requires c.in_ok-count.ensures.taken.2) c.if-count.true
 
 pub returns-in_err-payload-clause-cid : goal.returns-in_err-payload-clause-cid
 returns-in_err-payload-clause-cid g c =
-    as_refusal _ _ _ _ c.from_residual-in_err-payload.ensures.1 (cid_payload_refused _ _ (head_of 2 c.requires c.in_ok-count.ensures.taken.2) (omega (arith, c.if-count.false)) c.in_err-payload.ensures.taken)
+    as_refusal _ _ _ _ c.from_residual-in_err-payload.ensures.1 (cid_payload_refused _ _ (head_of 2 c.requires c.in_ok-count.ensures.taken.2) (omega (arith, c.if-count.false)) c.in_err-payload.ensures.variant c.in_err-payload.ensures.taken)
 
 pub returns-in-Some-clause-cid : goal.returns-in-Some-clause-cid
 returns-in-Some-clause-cid g c =

@@ -1,8 +1,10 @@
 use Rattle.std.proofs.Common.{sym, ◌∙◌, ◌≡◌, false}
+use Rattle.dagcbor_heads.specs.Inputs.{input_reading}
 use Rattle.dagcbor_heads.proofs.Refusing.{as_refusal}
 use Rattle.dagcbor_items.specs.LeafCauses.{TextCause}
 use Rattle.dagcbor_items.proofs.StringReads.{text_string_refused, string_kind_refused, peeked_read}
 use Rattle.dagcbor_items.proofs.Looks.{peeked_value}
+use Rattle.dagcbor_items.proofs.Lacking.{major_lacks, shown_lacks}
 use Rattle.dagcbor_items.proofs.strings.pull_str_slowly.Goals as goal
 
 pub returns-in_err-peek_major-clause-text : goal.returns-in_err-peek_major-clause-text
@@ -15,3 +17,9 @@ pub returns-clause-looked : goal.returns-clause-looked
 returns-clause-looked g c =
     let peeked = c.in_ok-peek_major.ensures in
     peeked_value 2 _ _ (λ r. r.lends ≡ false) (TextCause c.args.name.now) _ _ peeked.looked peeked.kind.2 c.pull_peeked_str.ensures.text c.pull_peeked_str.ensures.looked
+
+pub returns-in_err-peek_major-clause-memory : goal.returns-in_err-peek_major-clause-memory
+returns-in_err-peek_major-clause-memory g c = as_refusal _ _ _ _ c.from_residual.ensures.1 (major_lacks c.args.name.now 3 3 3 _ (input_reading g.R.Read.reading c.args.input.now) (input_reading g.R.Read.reading c.peek_major.new.reader) _ c.in_err-peek_major.ensures.kind)
+
+pub returns-clause-memory : goal.returns-clause-memory
+returns-clause-memory g c = shown_lacks 3 _ c.in_ok-peek_major.ensures.kind.2 c.pull_peeked_str.ensures.memory

@@ -28,7 +28,7 @@ walk_by_bytes-returns-clause-item g t c = let k = c.in_ok-walk_item.ensures.item
 
 pub walk_item-returns-in_err-first-clause-item : goal.walk_item-returns-in_err-first-clause-item
 walk_item-returns-in_err-first-clause-item g t c =
-    as_refusal _ _ _ _ c.from_residual.ensures.1 record { refuses = byte_refused (WalkLacks g.S.LinkSink.sink.takes_memory (g.I.Read.reading c.args.input.now)) 0 _ _ _ c.in_err-first.ensures.shown; handed = none_handed g.S.LinkSink.sink _ _ }
+    as_refusal _ _ _ _ c.from_residual.ensures.1 record { refuses = byte_refused (WalkLacks g.S.LinkSink.sink.takes_memory (g.I.Read.reading c.args.input.now)) 0 _ _ _ c.in_err-first.ensures.variant c.in_err-first.ensures.shown; handed = none_handed g.S.LinkSink.sink _ _ }
 
 pub walk_item-returns-then-is_indefinite-clause-item : goal.walk_item-returns-then-is_indefinite-clause-item
 walk_item-returns-then-is_indefinite-clause-item g t c =

@@ -1,12 +1,12 @@
 use Rattle.std.proofs.Common.{◌≡◌, false}
 use Rattle.dagcbor_heads.proofs.Refusing.{as_refusal}
-use Rattle.dagcbor_items.proofs.Fronts.{head_refused, begins_number}
+use Rattle.dagcbor_items.proofs.Fronts.{number_head_refused}
 use Rattle.dagcbor_items.proofs.Looks.{head_taken}
 use Rattle.dagcbor_items.proofs.Walking.{integer_taken}
 use Rattle.dagcbor_items.proofs.walk.skip_integer.Goals as goal
 
 pub returns-in_err-pull_head_argument-clause-item : goal.returns-in_err-pull_head_argument-clause-item
-returns-in_err-pull_head_argument-clause-item g c = as_refusal _ _ _ _ c.from_residual.ensures.1 (head_refused ((g.R.Read.reading c.args.reader.now).lends ≡ false) 0 _ _ _ (begins_number (g.R.Read.reading c.args.reader.now) c.args.first c.requires.starts c.requires.major) c.in_err-pull_head_argument.ensures.taken)
+returns-in_err-pull_head_argument-clause-item g c = as_refusal _ _ _ _ c.from_residual.ensures.1 (number_head_refused ((g.R.Read.reading c.args.reader.now).lends ≡ false) _ _ _ c.args.first c.requires.starts c.requires.major c.requires.named c.in_err-pull_head_argument.ensures.variant c.in_err-pull_head_argument.ensures.taken)
 
 pub returns-clause-item : goal.returns-clause-item
 returns-clause-item g c = integer_taken c.requires.starts c.requires.major c.in_ok-pull_head_argument.ensures.taken.2

@@ -1,6 +1,6 @@
 //! The fields of a variant, by what their values are alone.
 
-ghost use Rattle.dagcbor_read.specs.Deserializers.{AreOut, de_state, StaysFailed, Stops, Over};
+ghost use Rattle.dagcbor_read.specs.Deserializers.{AreOut, de_state, StaysFailed, Over};
 ghost use Rattle.dagcbor_read.specs.Enums.{enum_state, ReadsFieldsHeld};
 ghost use Rattle.dagcbor_read.specs.Collections.{struct_of};
 ghost use Rattle.dagcbor_read.specs.Structs.{texts};
@@ -20,7 +20,6 @@ pub(crate) fn read_variant_fields<'de, F: Fields<'de>, R: Read>(
     requires { AreOut (enum_state variant).steps (de_state R.reading de.old) }
     ensures fields { Over R.reading (ReadsFieldsHeld F.meaning (struct_of (F.shape (texts names.now)) F.unread F.finish) (enum_state variant)) de.old result de.new }
     ensures failed { Over R.reading StaysFailed de.old result de.new }
-    ensures stops { Over R.reading Stops de.old result de.new }
 {
     read_struct_variant(alloc, variant, names, de)
 }

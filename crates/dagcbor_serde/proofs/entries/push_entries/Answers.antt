@@ -1,4 +1,4 @@
-use Rattle.std.proofs.Common.{refl, rules, ap, ◌∙◌, ◌++◌}
+use Rattle.std.proofs.Common.{rules, ap, ◌∙◌, ◌++◌}
 use Rattle.dagcbor_serde.specs.Holds.{whole_at}
 use Rattle.dagcbor_write.specs.declared.collect.gathered.Span.{Span}
 use Rattle.dagcbor_serde.proofs.Closing.{pushed_on, all_pushed}

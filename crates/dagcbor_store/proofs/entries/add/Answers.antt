@@ -1,27 +1,36 @@
-use Rattle.std.proofs.lemmas.Result.{err_from_is_err_and}
-use Rattle.dagcbor_store.specs.Rows.{name_tree}
-use Rattle.dagcbor_store.specs.declared.entries.Added.TheVariants.{New}
-use Rattle.dagcbor_store.proofs.Finding.{listed_if_some}
+use Rattle.std.proofs.Common.{arith, rules, to_z-of_z, SFits, w64}
+use Rattle.sqlite_trees.specs.View.{IsClean}
+use Rattle.dagcbor_store.proofs.Calls.{renewed, appended}
 use Rattle.dagcbor_store.proofs.Causes.{only_reads, too_long_as}
-use Rattle.dagcbor_store.proofs.Ending.{as_writes, then_ok, then_err}
+use Rattle.dagcbor_store.proofs.Ending.{as_writes, then_ends}
 use Rattle.dagcbor_store.proofs.entries.add.Goals as goal
 
-pub returns-then-is_some-clause-ok : goal.returns-then-is_some-clause-ok
-returns-then-is_some-clause-ok g c clean =
+pub returns-in-Some-clause-ok : goal.returns-in-Some-clause-ok
+returns-in-Some-clause-ok g c =
     let old = g.S.Store.view c.args.store.now in
-    (listed_if_some (old.trees name_tree) c.args.name.now c.in_ok-find.field-0 c.if-is_some.ensures (c.in_ok-find.ensures.ok clean), (only_reads old _ (c.in_ok-find.ensures.ends.frame clean)).1)
+    let mid = g.S.Store.view c.find.new.store in
+    renewed c.renew.result _ old.trees mid.trees (g.S.Store.view c.renew.new.store).trees c.in-Some.id c.args.name.now c.args.bytes.now
+    (λ clean.
+    let was : IsClean mid = omega (arith, c.renew.ensures.ends.quiet.clean) in
+    ((only_reads old mid (c.in_ok-id.ensures.ends.frame was)).1, rw c.in-Some.is at (c.in_ok-id.ensures.ok was)))
+    (let fits : SFits w64 c.in-Some.id = search rules in simp to_z-of_z at c.renew.ensures.ok)
 
-pub returns-in_err-put-clause-ends : goal.returns-in_err-put-clause-ends
-returns-in_err-put-clause-ends g c =
-    let p = err_from_is_err_and c.from_residual-in_err-put.result c.from_residual-in_err-put.ensures.1 in
-    let found = as_writes g.S.Store c.args.store.now c.find.new.store c.in_ok-find.ensures.ends in
-    let freed = as_writes g.S.Store c.find.new.store c.free_number.new.store c.in_ok-id.ensures.ends in
-    let both = then_ok {H = ⊥} g.S.Store c.args.store.now c.find.new.store c.free_number.new.store found (tt {0}) freed in
-    rw (p.1, p.2) (then_err g.S.Store c.args.store.now c.free_number.new.store c.put.new.store both (too_long_as c.args.name.now c.args.bytes.now (g.S.Store.view c.args.store.now) (g.S.Store.view c.free_number.new.store) both.schema) c.in_err-put.ensures.ends)
+pub returns-in-None-clause-ok : goal.returns-in-None-clause-ok
+returns-in-None-clause-ok g c =
+    let old = g.S.Store.view c.args.store.now in
+    let mid = g.S.Store.view c.find.new.store in
+    appended c.append.result _ old.trees mid.trees (g.S.Store.view c.append.new.store).trees c.args.name.now c.args.bytes.now
+    (λ clean.
+    let was : IsClean mid = omega (arith, c.append.ensures.ends.quiet.clean) in
+    ((only_reads old mid (c.in_ok-id.ensures.ends.frame was)).1, rw c.in-None.is at (c.in_ok-id.ensures.ok was)))
+    c.append.ensures.ok
 
-pub returns-clause-ends : goal.returns-clause-ends
-returns-clause-ends g c =
-    let found = as_writes g.S.Store c.args.store.now c.find.new.store c.in_ok-find.ensures.ends in
-    let freed = as_writes g.S.Store c.find.new.store c.free_number.new.store c.in_ok-id.ensures.ends in
-    let both = then_ok {H = ⊥} g.S.Store c.args.store.now c.find.new.store c.free_number.new.store found (tt {0}) freed in
-    then_ok g.S.Store c.args.store.now c.free_number.new.store c.put.new.store both New c.in_ok-put.ensures.ends
+pub returns-in-Some-clause-ends : goal.returns-in-Some-clause-ends
+returns-in-Some-clause-ends g c =
+    let found = as_writes g.S.Store c.args.store.now c.find.new.store c.in_ok-id.ensures.ends in
+    then_ends g.S.Store c.args.store.now c.find.new.store c.renew.new.store c.renew.result found (too_long_as c.args.name.now c.args.bytes.now (g.S.Store.view c.args.store.now) (g.S.Store.view c.find.new.store) found.schema) c.renew.ensures.ends
+
+pub returns-in-None-clause-ends : goal.returns-in-None-clause-ends
+returns-in-None-clause-ends g c =
+    let found = as_writes g.S.Store c.args.store.now c.find.new.store c.in_ok-id.ensures.ends in
+    then_ends g.S.Store c.args.store.now c.find.new.store c.append.new.store c.append.result found (too_long_as c.args.name.now c.args.bytes.now (g.S.Store.view c.args.store.now) (g.S.Store.view c.find.new.store) found.schema) c.append.ensures.ends

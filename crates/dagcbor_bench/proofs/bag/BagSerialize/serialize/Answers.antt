@@ -28,8 +28,15 @@ returns-in_err-serialize_element-clause-written g c =
     Writes_at _ _ _ _ _ (search rules) (last_part w _ _ (Holds_refused _ _ _ _ _ _ _ _ _ c.loop-item.invariant.holds c.in_err-serialize_element.ensures.item
     (λ n. rw c.deref-item-items.ensures.value at (none_among g.T.Serialize.tree _ _ _ c.loop-item-test.true c.item-item.is n)) c.from_residual-in_err-serialize_element.ensures.1))
 
-pub returns : goal.returns
-returns g c =
+pub returns-clause-written : goal.returns-clause-written
+returns-clause-written g c =
     let w = next_part (begin_later _ _) _ c.loop-item.invariant.nothing in
     let all = rw c.deref-item-items.ensures.value at (Holds_all g.T.Serialize.tree _ _ _ c.loop-item-test.false c.loop-item.invariant.holds) in
-    record { written = Writes_at _ _ _ _ _ (search rules) (last_part w _ _ (rw all at c.end.ensures.written)); well_formed = OnOk_of _ (rw c.deref-item-items.ensures.value at (AreTrees_all g.T.Serialize.tree _ _ c.loop-item-test.false c.loop-item.invariant.well_formed)); memory = may_want _ }
+    Writes_at _ _ _ _ _ (search rules) (last_part w _ _ (rw all at c.end.ensures.written))
+
+pub returns-clause-well_formed : goal.returns-clause-well_formed
+returns-clause-well_formed g c =
+    OnOk_of _ (rw c.deref-item-items.ensures.value at (AreTrees_all g.T.Serialize.tree _ _ c.loop-item-test.false c.loop-item.invariant.well_formed))
+
+pub returns-clause-memory : goal.returns-clause-memory
+returns-clause-memory g c = may_want _

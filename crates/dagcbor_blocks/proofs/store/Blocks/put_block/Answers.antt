@@ -5,4 +5,4 @@ use Rattle.dagcbor_blocks.proofs.store.Blocks.put_block.Goals as goal
 pub returns-in-Ok-store : goal.returns-in-Ok-store
 returns-in-Ok-store c =
     let same : c.in-Ok.block.items ≡ c.args.bytes.now = search rules in
-    (c.in_ok-check_block.ensures, subst (λ b. HoldsAlso (held_blocks c.args.self.now) ((c.args.name.now, b) ∷ []) (held_blocks c.store.new.self)) same c.in-Ok-store.ensures.1)
+    (search rules, subst (λ b. HoldsAlso (held_blocks c.args.self.now) ((c.args.name.now, b) ∷ []) (held_blocks c.store.new.self)) same c.in-Ok-store.ensures.1)

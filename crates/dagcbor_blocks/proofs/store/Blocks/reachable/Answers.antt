@@ -1,5 +1,5 @@
 use Rattle.std.proofs.Common.{sym, subst}
-use Rattle.dagcbor_car.specs.Reaching.{ListsReachable}
+use Rattle.ipld_links.specs.Reaching.{ListsReachable}
 use Rattle.dagcbor_blocks.specs.Blocks.{held_blocks}
 use Rattle.dagcbor_blocks.specs.Reaching.{stored}
 use Rattle.dagcbor_blocks.proofs.Reaching.{none_reachable}

@@ -1,5 +1,4 @@
 use Rattle.std.proofs.Common.{◌≡◌, refl, sym, ap, ◌∙◌, rules, Some}
-use Rattle.dagcbor_blocks.specs.Blocks.{block_at, held_blocks}
 use Rattle.dagcbor_blocks.proofs.Keeping.{block_found, held_already, now_held, still_sound}
 use Rattle.dagcbor_blocks.proofs.store.Blocks.store.Goals as goal
 
@@ -12,12 +11,12 @@ returns-then-eq c =
 pub returns-in-Some : goal.returns-in-Some
 returns-in-Some c =
     let found = block_found c.args.name c.args.self.now.blocks.entries c.in-Some.other.now (sym c.in-Some.ensures.value) in
-    (refl, (c.in-Some.other.now.items, ap (λ n. block_at n (held_blocks c.args.self.now)) (sym c.requires.named) ∙ found, λ e. search rules))
+    (refl, (c.in-Some.other.now.items, found, λ e. search rules))
 
 pub invariant_of-self : goal.invariant_of-self
 invariant_of-self c = record {
   sound = still_sound c.insert.result c.args.self.now.blocks.entries c.insert.new.self.entries c.args.name c.args.bytes c.insert.ensures.entries c.insert.ensures.err
-      c.requires.named c.requires.block c.args.self.now.sound;
+      c.version-version.ensures.valid c.requires c.args.self.now.sound;
 }
 
 pub returns-in-Ok : goal.returns-in-Ok

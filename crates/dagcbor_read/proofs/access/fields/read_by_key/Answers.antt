@@ -1,4 +1,4 @@
-use Rattle.std.proofs.Common.{◌≡◌, true, ap, subst, ◌∙◌}
+use Rattle.std.proofs.Common.{inl, inr, ◌≡◌, true, ap, subst, ◌∙◌}
 use Rattle.dagcbor_heads.proofs.Refusing.{as_refusal}
 use Rattle.dagcbor_read.specs.Accessors.{accessor_state, with_key, with_value}
 use Rattle.dagcbor_items.specs.TypedReads.{TakesFront}
@@ -8,6 +8,8 @@ use Rattle.dagcbor_read.specs.Structs.{texts}
 use Rattle.dagcbor_read.proofs.Answered.{kept_read, kept_refused, at_some}
 use Rattle.dagcbor_read.proofs.EntryRows.{no_field_so_far, key_not_read, value_not_read}
 use Rattle.dagcbor_read.proofs.Passing.{or_right}
+use Rattle.dagcbor_read.proofs.Wholes.{on_refusal}
+use Rattle.dagcbor_read.proofs.Handing.{key_further}
 use Rattle.dagcbor_read.proofs.access.fields.read_by_key.Goals as goal
 
 pub returns-in_err-keep_key-clause-entry : goal.returns-in_err-keep_key-clause-entry
@@ -42,3 +44,11 @@ returns-clause-entry g c =
       sound = v.0;
       value = subst (λ x. TakesFront (value_of shape state x) mid.input (g.F.Fields.state c.read_field.new.places) (de_state g.R.Read.reading c.read_field.new.de).input) is v.1;
     }
+
+pub returns-in_err-keep_key-clause-refuses : goal.returns-in_err-keep_key-clause-refuses
+returns-in_err-keep_key-clause-refuses g c = on_refusal _ _ _ c.from_residual.ensures.1 (inl ((accessor_state c.args.entries.now).last, (accessor_state c.keep_key.new.self).last, c.in_err-keep_key.ensures.key))
+
+pub returns-in_err-read_field-clause-refuses : goal.returns-in_err-read_field-clause-refuses
+returns-in_err-read_field-clause-refuses g c =
+    let k = kept_read g.row.R-Error.Denot _ (accessor_state c.keep_key.new.self).last (accessor_state c.args.entries.now).left (de_state g.R.Read.reading c.args.de.now) (de_state g.R.Read.reading c.keep_key.new.de) _ c.requires.some c.in_ok-keep_key.ensures.key in
+    on_refusal _ _ _ c.from_residual-in_err-read_field.ensures.1 (inr (_, key_further k.2, c.in_err-read_field.ensures.refuses))

@@ -3,9 +3,11 @@ use Rattle.dagcbor_heads.proofs.Refusing.{as_refusal}
 use Rattle.dagcbor_read.specs.Accessors.{AccessorState, accessor_state, EndsItems}
 use Rattle.dagcbor_read.specs.Deserializers.{de_state}
 use Rattle.dagcbor_read.specs.Structs.{texts}
-use Rattle.dagcbor_read.proofs.Progressing.{call_answered}
+use Rattle.dagcbor_read.proofs.Progressing.{call_answered, call_told}
 use Rattle.dagcbor_read.proofs.EntryRows.{all_fields_read}
 use Rattle.dagcbor_read.proofs.NamedRows.{field_so_far, named_value_refused, nothing_named, others_refused}
+use Rattle.dagcbor_read.proofs.Wholes.{on_refusal}
+use Rattle.dagcbor_read.proofs.Handing.{fields_further, named_refused}
 use Rattle.dagcbor_read.proofs.access.fields.read_entries_left.Goals as goal
 
 pub loop-alloc-preserved-then-read_named : goal.loop-alloc-preserved-then-read_named
@@ -35,3 +37,18 @@ returns-clause-entries g c =
     let e = call_answered (EndsItems (accessor_state c.loop-alloc.entries)) now (de_state g.R.Read.reading c.end.new.de) _ c.in_ok-end.ensures in
     let a = all_fields_read (g.F.Fields.shape (texts c.args.names.now)) now (de_state g.R.Read.reading c.end.new.de) i (omega (arith, c.left.ensures, c.loop-alloc-test.false)) refl refl e.2.1 in
     (e.1, a.0, a.1, a.2)
+
+pub returns-in-Some-clause-refuses : goal.returns-in-Some-clause-refuses
+returns-in-Some-clause-refuses g c =
+    named_refused g.F.Fields.refuses _ _ _ _ _ (fields_further (g.F.Fields.shape (texts c.args.names.now)) c.loop-alloc.invariant) c.in-Some.is c.if-read_named.ensures.refuses
+
+pub returns-in_err-read_by_key-clause-refuses : goal.returns-in_err-read_by_key-clause-refuses
+returns-in_err-read_by_key-clause-refuses g c =
+    let shape = g.F.Fields.shape (texts c.args.names.now) in
+    let i = nothing_named shape c.read_named.new.refusal c.in_default.is c.loop-alloc.invariant c.if-read_named.ensures.entry in
+    on_refusal _ _ _ c.from_residual.ensures.1 (_, fields_further shape i.0, c.in_err-read_by_key.ensures.refuses)
+
+pub returns-in_err-end-clause-refuses : goal.returns-in_err-end-clause-refuses
+returns-in_err-end-clause-refuses g c =
+    let k = call_told (EndsItems (accessor_state c.loop-alloc.entries)) (de_state g.R.Read.reading c.loop-alloc.de) (de_state g.R.Read.reading c.end.new.de) _ c.loop-alloc.invariant.sound c.in_err-end.ensures in
+    absurd (omega (arith, c.left.ensures, c.loop-alloc-test.false, k.1.0))

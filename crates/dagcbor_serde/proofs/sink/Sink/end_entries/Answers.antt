@@ -1,4 +1,4 @@
-use Rattle.std.proofs.Common.{ap, rules, ◌∙◌}
+use Rattle.std.proofs.Common.{ap, rules}
 use Rattle.dagcbor_serde.proofs.Closing.{map_closes}
 use Rattle.dagcbor_serde.proofs.Opening.{ok_then}
 use Rattle.dagcbor_serde.proofs.sink.Sink.end_entries.Goals as goal

@@ -1,4 +1,4 @@
-use Rattle.std.proofs.Common.{rules, ℕ, ◌≡◌, sym, ap, ◌∙◌, arith, drop, length, subst, length-drop}
+use Rattle.std.proofs.Common.{rules, ℕ, ◌≡◌, sym, ◌∙◌, drop, length, subst, length-drop}
 use Rattle.dagcbor_serde.specs.Holds.{PutsEach}
 use Rattle.dagcbor_serde.specs.declared.sink.Sink.{Sink}
 use Rattle.dagcbor_serde.proofs.Closing.{kept_by, rest_from}

@@ -15,12 +15,12 @@ invariant_of-self g c clean =
     let form : c.deref.result.now ≡ cid_bytes c.args.name.now = search rules in
     ready_written old _ (c.in-Ok.ensures.ends.frame clean) (λ o. keyed_added old.trees (g.S.Store.view c.add.new.store).trees c.deref.result.now c.args.block.now c.in-Ok.added (c.args.name.now, c.write_bytes.ensures.valid, form) (c.in-Ok.ensures.ok clean) (ready.keyed o)) ready
 
-pub invariant_of-self-in-Err : goal.invariant_of-self-in-Err
-invariant_of-self-in-Err g c = ready_failed g.S.Store c.self.inside.store c.undo.new.store c.add.new.store c.self.invariant c.in-Err.ensures.ends c.undo.ensures.undone c.undo.ensures.quiet
+pub invariant_of-self-in-Err-add : goal.invariant_of-self-in-Err-add
+invariant_of-self-in-Err-add g c = ready_failed g.S.Store c.self.inside.store c.undo.new.store c.add.new.store c.self.invariant c.in-Err-add.ensures.ends c.undo.ensures.undone c.undo.ensures.quiet
 
 pub returns-in-Ok-clause-ok : goal.returns-in-Ok-clause-ok
 returns-in-Ok-clause-ok g c =
-    added_if_clean c.told.result _ _ _ c.in_ok-check_block.ensures (λ clean.
+    added_if_clean c.told.result _ _ _ (search rules) (λ clean.
     let old = g.S.Store.view c.self.inside.store in
     let keyed = keyed_ended g.S.Store c.self.inside.store c.add.new.store (g.met.S.Store.broken_if_shut c.self.inside.store) c.self.invariant c.in-Ok.ensures.ends clean in
     let form : c.deref.result.now ≡ cid_bytes c.args.name.now = search rules in
@@ -37,12 +37,12 @@ returns-in-Ok-clause-refused g c =
     (not_added g.S.Store (c.args.name.now, c.args.block.now) c.self.inside.store c.add.new.store c.in-Ok.added c.told.result
     (λ clean. (subst (λ n. Adds old.trees new.trees n c.args.block.now c.in-Ok.added) form (c.in-Ok.ensures.ok clean), c.in-Ok.ensures.ends.frame clean)) c.told.ensures)
 
-pub returns-in-Err-clause-refused : goal.returns-in-Err-clause-refused
-returns-in-Err-clause-refused g c =
+pub returns-in-Err-add-clause-refused : goal.returns-in-Err-add-clause-refused
+returns-in-Err-add-clause-refused g c =
     let old = g.S.Store.view c.self.inside.store in
     let form : c.deref.result.now ≡ cid_bytes c.args.name.now = search rules in
     subst (λ x. PutRefused g.S.Store (c.args.name.now, c.args.block.now) x c.undo.new.store c.undo.result) c.self.view_is
     (put_failed g.S.Store (c.args.name.now, c.args.block.now) c.self.inside.store c.undo.new.store c.undo.result
     (subst (λ n. Fails g.S.Store (IsTooLong old.reals n c.args.block.now) c.self.inside.store c.undo.new.store c.undo.result) form
-    (fails_since g.S.Store (IsTooLong old.reals c.deref.result.now c.args.block.now) c.self.inside.store c.add.new.store c.undo.new.store c.in-Err.error c.undo.result c.undo.ensures.told c.undo.ensures.blame c.in-Err.ensures.ends.told c.undo.ensures.quiet.counts
-    (λ clean. let mid : IsClean (g.S.Store.view c.add.new.store) = omega (arith, c.undo.ensures.quiet.clean) in (c.in-Err.ensures.ends.cause mid, undone_since _ _ _ clean (c.in-Err.ensures.ends.err mid) c.undo.ensures.undone)))))
+    (fails_since g.S.Store (IsTooLong old.reals c.deref.result.now c.args.block.now) c.self.inside.store c.add.new.store c.undo.new.store c.in-Err-add.error c.undo.result c.undo.ensures.told c.undo.ensures.blame c.in-Err-add.ensures.ends.told c.undo.ensures.quiet.counts
+    (λ clean. let mid : IsClean (g.S.Store.view c.add.new.store) = omega (arith, c.undo.ensures.quiet.clean) in (c.in-Err-add.ensures.ends.cause mid, undone_since _ _ _ clean (c.in-Err-add.ensures.ends.err mid) c.undo.ensures.undone)))))

@@ -6,20 +6,26 @@ use Rattle.dagcbor_store.proofs.store.BlockStore.get.Goals as goal
 
 pub returns-in-Ok-clause-gets : goal.returns-in-Ok-clause-gets
 returns-in-Ok-clause-gets g c clean = (
-  c.in-Ok-Some.block.items,
-  rw c.in-Ok-Some.field-0-is at (c.in-Ok-Some.ensures.found clean),
-  subst (λ b. IsWhole g.T.Shown.shape default_steps b (g.T.Shown.meaning c.in-Ok.value)) c.deref.ensures.value c.in-Ok.ensures.value,
+  rw c.if-not-is_dag_cbor.false at c.is_dag_cbor.ensures,
+  (
+    c.in-Ok-Some.block.items,
+    rw c.in-Ok-Some.field-0-is at (c.in-Ok-Some.ensures.found clean),
+    subst (λ b. IsWhole g.T.Shown.shape default_steps b (g.T.Shown.meaning c.in-Ok.value)) c.deref.ensures.value c.in-Ok.ensures.value,
+  ),
 )
 
-pub returns-in-Ok-Some-clause-refused : goal.returns-in-Ok-Some-clause-refused
-returns-in-Ok-Some-clause-refused g c =
+pub returns-clause-refused : goal.returns-clause-refused
+returns-clause-refused g c =
     let e = c.in-Err-from_slice_owned.error in (
+      rw c.if-not-is_dag_cbor.false at c.is_dag_cbor.ensures,
       c.in-Err-from_slice_owned.ensures.never,
       c.in-Err-from_slice_owned.ensures.memory,
       (
         c.in-Ok-Some.block.items,
-        rw c.in-Ok-Some.field-0-is at c.in-Ok-Some.ensures.verified,
+        (
+          rw c.in-Ok-Some.field-0-is at c.in-Ok-Some.ensures.verified,
+          λ clean. (rw c.in-Ok-Some.field-0-is at (c.in-Ok-Some.ensures.found clean), c.in-Ok-Some.ensures.same clean),
+        ),
         subst (λ b. (e ≡ OutOfMemory) ⊎ HoldsNoValue g.T.Shown.shape default_steps b) c.deref.ensures.value c.in-Err-from_slice_owned.ensures.refused,
-        λ clean. (rw c.in-Ok-Some.field-0-is at (c.in-Ok-Some.ensures.found clean), c.in-Ok-Some.ensures.same clean),
       ),
     )

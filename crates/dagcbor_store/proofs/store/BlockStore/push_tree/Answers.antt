@@ -6,10 +6,10 @@ use Rattle.dagcbor_store.proofs.store.BlockStore.push_tree.Goals as goal
 pub returns-in_err-begin-clause-refused : goal.returns-in_err-begin-clause-refused
 returns-in_err-begin-clause-refused g c =
     let p = err_from_is_err_and c.from_residual.result c.from_residual.ensures.1 in
-    rw (p.1, p.2) (tree_unbegun g.S.Store c.args.root.now c.args.names.now c.args.self.now (g.W.Write.written c.args.writer.now) (g.W.Write.written c.begin.new.writer) c.in_err-begin.field-0.0 c.in_err-begin.ensures)
+    rw (p.1, p.2) (tree_unbegun g.S.Store c.args.root.now c.args.names.now c.args.self.now (g.W.Write.written c.args.writer.now) (g.W.Write.written c.begin.new.writer) c.in_err-begin.field-0.0 c.in_err-begin.ensures.begins)
 
 pub loop-name-init : goal.loop-name-init
-loop-name-init g c = ([], tree_begun g.S.Store c.args.root.now c.args.names.now c.args.self.now (g.W.Write.written c.args.writer.now) (g.W.Write.written c.begin.new.writer) c.in_ok-begin.ensures.0 c.in_ok-begin.ensures.1)
+loop-name-init g c = ([], tree_begun g.S.Store c.args.root.now c.args.names.now c.args.self.now (g.W.Write.written c.args.writer.now) (g.W.Write.written c.begin.new.writer) c.in_ok-begin.ensures.begins.0 c.in_ok-begin.ensures.begins.1)
 
 pub returns-in_err-push_named-clause-refused : goal.returns-in_err-push_named-clause-refused
 returns-in_err-push_named-clause-refused g c =

@@ -1,5 +1,5 @@
 use Rattle.sqlite_trees.specs.View.{IsClean}
-use Rattle.dagcbor_car.specs.Reaching.{Walks}
+use Rattle.ipld_links.specs.Reaching.{Walks}
 use Rattle.dagcbor_store.specs.Stored.{IsSame}
 use Rattle.dagcbor_store.specs.Trees.{OfStored}
 use Rattle.dagcbor_store.specs.Ends.{Quiet}

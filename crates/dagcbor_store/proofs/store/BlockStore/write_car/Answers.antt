@@ -10,10 +10,10 @@ use Rattle.dagcbor_store.proofs.store.BlockStore.write_car.Goals as goal
 pub returns-in_err-begin-clause-refused : goal.returns-in_err-begin-clause-refused
 returns-in_err-begin-clause-refused g c =
     let p = err_from_is_err_and c.from_residual.result c.from_residual.ensures.1 in
-    rw (p.1, p.2) (header_unwritten g.S.Store (forms c.args.roots.now) c.args.self.now (g.W.Write.written c.args.writer.now) (g.W.Write.written c.begin.new.writer) c.in_err-begin.field-0.0 c.in_err-begin.ensures)
+    rw (p.1, p.2) (header_unwritten g.S.Store (forms c.args.roots.now) c.args.self.now (g.W.Write.written c.args.writer.now) (g.W.Write.written c.begin.new.writer) c.in_err-begin.field-0.0 c.in_err-begin.ensures.begins)
 
 pub loop-count-init : goal.loop-count-init
-loop-count-init g c = ([], written_begun g.S.Store (forms c.args.roots.now) c.args.self.now (g.W.Write.written c.args.writer.now) (g.W.Write.written c.begin.new.writer) c.in_ok-begin.ensures.0 c.in_ok-begin.ensures.1)
+loop-count-init g c = ([], written_begun g.S.Store (forms c.args.roots.now) c.args.self.now (g.W.Write.written c.args.writer.now) (g.W.Write.written c.begin.new.writer) c.in_ok-begin.ensures.begins.0 c.in_ok-begin.ensures.begins.1)
 
 pub returns-in_err-name-clause-refused : goal.returns-in_err-name-clause-refused
 returns-in_err-name-clause-refused g c =

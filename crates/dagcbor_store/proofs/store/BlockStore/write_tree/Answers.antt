@@ -1,5 +1,5 @@
 use Rattle.std.proofs.Common.{rules, [], ◌≡◌, subst}
-use Rattle.dagcbor_car.specs.Names.{IsInline}
+use Rattle.ipld_links.specs.Names.{IsInline}
 use Rattle.dagcbor_store.specs.Trees.{WritesNames, NamesUnwritten}
 use Rattle.dagcbor_store.proofs.Trees.{none_there, some_there, tree_lost, tree_written, tree_refused}
 use Rattle.dagcbor_store.proofs.store.BlockStore.write_tree.Goals as goal

@@ -7,4 +7,4 @@ pub returns-clause-written : goal.returns-clause-written
 returns-clause-written g c =
     let w = begin_two _ _ _ _ refl in
     last_part (next_taken w _ _ c.if-is_err.ensures.value c.serialize_str-key.ensures.written) _ _
-    c.serialize.ensures.written
+    c.write_value.ensures.written

@@ -1,5 +1,6 @@
 use Rattle.dagcbor_write.proofs.Refusals.{may_want}
 use Rattle.dagcbor_write.proofs.Fields.{list_shows}
+use Rattle.dagcbor_write.proofs.MapMessages.{entries_told}
 use Rattle.dagcbor_write.proofs.types.maps.BTreeMapSerialize.serialize.Goals as goal
 
 pub returns : goal.returns
@@ -10,4 +11,5 @@ returns g c =
       well_formed = rw c.iter.ensures.rest at c.write_entries.ensures.well_formed _ shows;
       memory = may_want _;
       message = rw c.iter.ensures.rest at c.write_entries.ensures.message _ shows;
+      told = entries_told _ _ _ _ (rw c.iter.ensures.rest at c.write_entries.ensures.message _ shows);
     }

@@ -1,0 +1,457 @@
+package dagcbor
+
+import (
+	"bytes"
+	"encoding/hex"
+	"encoding/json"
+	"errors"
+	"fmt"
+	"io"
+	"math/big"
+	"math/rand"
+	"os"
+	"reflect"
+	"strconv"
+	"strings"
+	"testing"
+	"testing/iotest"
+	"time"
+)
+
+func rows(t testing.TB, name string) (rows [][]string) {
+	text, err := os.ReadFile("../tables/" + name + ".txt")
+	if err != nil {
+		t.Fatal(err, ": conformance/rows writes it")
+	}
+	for _, line := range strings.Split(strings.TrimSpace(string(text)), "\n") {
+		rows = append(rows, strings.Split(line, " "))
+	}
+	return
+}
+
+func unhex(text string) []byte {
+	bytes, err := hex.DecodeString(strings.Trim(text, "-"))
+	if err != nil {
+		panic(err)
+	}
+	return bytes
+}
+
+func number(text string) int {
+	n, err := strconv.Atoi(text)
+	if err != nil {
+		panic(err)
+	}
+	return n
+}
+
+func equal(t *testing.T, found, wanted any) {
+	t.Helper()
+	if !reflect.DeepEqual(found, wanted) {
+		t.Fatalf("found %v, wanted %v", found, wanted)
+	}
+}
+
+// Whether the error is that of the number, at the place.
+func isRefused(t *testing.T, err error, code int, place int64) {
+	t.Helper()
+	var refusal *Error
+	if !errors.As(err, &refusal) {
+		t.Fatalf("no Error: %v", err)
+	}
+	for known, reason := range reasons {
+		if int(known) == code {
+			equal(t, refusal.Kind, reason[0])
+		}
+	}
+	equal(t, refusal.Place, place)
+}
+
+func words(cids []CID) string {
+	var words []string
+	for _, cid := range cids {
+		words = append(words, hex.EncodeToString(cid.Bytes()))
+	}
+	if words == nil {
+		return "-"
+	}
+	return strings.Join(words, ",")
+}
+
+func TestTable(t *testing.T) {
+	for _, row := range rows(t, "table") {
+		block, code := unhex(row[0]), number(row[1])
+		kind, err := Check(block)
+		tokens, badTokens := Tokens(block)
+		value, badValue := Decode(block)
+		if code < 0 {
+			for _, err := range []error{err, badTokens, badValue} {
+				isRefused(t, err, code, int64(number(row[6])))
+			}
+			equal(t, errors.Is(err, io.ErrUnexpectedEOF), code == -3)
+		} else {
+			equal(t, []any{int(kind), err, badTokens, badValue}, []any{code, nil, nil, nil})
+			var told []string
+			for _, it := range tokens {
+				told = append(told, fmt.Sprintf("%d:%d:%d", it.Kind, it.Number, it.Place))
+			}
+			equal(t, strings.Join(told, ","), row[5])
+			again, err := Encode(value)
+			equal(t, []any{again, err}, []any{block, nil})
+			more := append(append([]byte{}, block...), 0xf6)
+			first, rest, err := DecodeFirst(more)
+			equal(t, []any{first, rest, err}, []any{value, []byte{0xf6}, nil})
+		}
+		links, err := Links(block)
+		if code := number(row[2]); code < 0 {
+			equal(t, err == nil, false)
+		} else {
+			equal(t, words(links), row[3])
+		}
+		equal(t, hex.EncodeToString(Name(block).Bytes()), row[4])
+	}
+}
+
+func TestTexts(t *testing.T) {
+	for _, row := range rows(t, "texts") {
+		cid, err := ParseCID(strings.Trim(row[0], "-"))
+		if code := number(row[1]); code < 0 {
+			isRefused(t, err, code, -1)
+			continue
+		}
+		equal(t, []any{hex.EncodeToString(cid.Bytes()), cid.String(), err}, []any{row[2], row[3], nil})
+		again, err := CIDOf(cid.Bytes())
+		equal(t, []any{again, err, again == cid}, []any{cid, nil, true})
+		if cid.Version() == 1 {
+			again, err = NewCID(cid.Codec(), cid.HashCode(), cid.Digest())
+			equal(t, []any{again, err}, []any{cid, nil})
+		}
+	}
+}
+
+func TestCID(t *testing.T) {
+	cid := Name([]byte{0xf6})
+	equal(t, []any{cid.Version(), cid.Codec(), cid.HashCode(), len(cid.Digest())}, []any{uint64(1), uint64(0x71), uint64(0x12), 32})
+	old, _ := ParseCID("QmdfTbBqBPQ7VNxZEYEj14VmRuZBkqFbiwReogJgS1zR1n")
+	equal(t, []any{old.Version(), old.Codec(), old.Bytes()[2:]}, []any{uint64(0), uint64(0x70), old.Digest()})
+	text, err := json.Marshal(map[CID][]CID{cid: {old}})
+	equal(t, []any{string(text), err}, []any{fmt.Sprintf(`{"%v":["%v"]}`, cid, old), nil})
+	var again map[CID][]CID
+	equal(t, []any{json.Unmarshal(text, &again), again}, []any{nil, map[CID][]CID{cid: {old}}})
+	equal(t, []any{CID{}.Defined(), CID{}.String(), CID{}.Version()}, []any{false, "", uint64(0)})
+	for _, length := range []int{65, 128, 1000} {
+		_, err := NewCID(0x71, 0x12, make([]byte, length))
+		isRefused(t, err, -26, -1)
+	}
+	equal(t, Verify(cid, []byte{0xf6}), nil)
+	isRefused(t, Verify(cid, []byte{0xf7}), -22, -1)
+	isRefused(t, Verify(CID{}, nil), -26, -1)
+	blake, _ := NewCID(0x71, 0x1e, make([]byte, 32))
+	isRefused(t, Verify(blake, nil), -23, -1)
+}
+
+func TestEncode(t *testing.T) {
+	type text string
+	type pair [2]uint16
+	seven := 7
+	least := new(big.Int).Not(new(big.Int).SetUint64(1<<64 - 1))
+	for _, row := range []struct {
+		value any
+		block string
+	}{
+		{nil, "f6"}, {true, "f5"}, {int8(-1), "20"}, {uint64(1<<64 - 1), "1bffffffffffffffff"},
+		{least, "3bffffffffffffffff"}, {text("a"), "6161"}, {pair{1, 256}, "8201190100"},
+		{&seven, "07"}, {(*int)(nil), "f6"}, {[]byte(nil), "f6"}, {[]byte{}, "40"}, {[2]byte{1, 2}, "420102"},
+		{map[text][]int{"bb": {1}, "c": nil}, "a26163f66262628101"}, {[]any(nil), "f6"},
+		{[]any{Name(nil), map[string]any{}}, "82d82a58250001711220e3b0c44298fc1c149afbf4c8996fb92427ae41e4649b934ca495991b7852b855a0"},
+	} {
+		block, err := Encode(row.value)
+		equal(t, []any{hex.EncodeToString(block), err}, []any{row.block, nil})
+	}
+	deep := any(nil)
+	for i := 0; i < 127; i++ {
+		deep = []any{deep}
+	}
+	if _, err := Encode(deep); err != nil {
+		t.Fatal(err)
+	}
+	for _, row := range []struct {
+		value any
+		kind  string
+		path  []any
+	}{
+		{1.5, "Unsupported", []any{}}, {[]any{1, map[string]any{"a": float32(0)}}, "Unsupported", []any{1, "a"}},
+		{map[int]int{}, "Mismatch", []any{}}, {"\xff", "RequireUtf8", []any{}}, {[]any{make(chan int)}, "Unsupported", []any{0}},
+		{map[string]any{"a": CID{}}, "InvalidCid", []any{"a"}},
+		{new(big.Int).Sub(least, big.NewInt(1)), "CastOverflow", []any{}},
+	} {
+		_, err := Encode(row.value)
+		var refusal *Error
+		equal(t, errors.As(err, &refusal), true)
+		equal(t, []any{refusal.Kind, refusal.Path}, []any{row.kind, row.path})
+	}
+	var refusal *Error
+	_, err := Encode([]any{deep})
+	equal(t, []any{errors.As(err, &refusal), refusal.Kind}, []any{true, "DepthOverflow"})
+}
+
+func TestStream(t *testing.T) {
+	item, _ := Encode(map[string]any{"op": 1})
+	long, _ := Encode(make([]int, 1000))
+	stream := bytes.Repeat(append(item, long...), 2000) // 2 MB: each item is gone through alone
+	count := 0
+	for rest := stream; len(rest) > 0; count++ {
+		var err error
+		if _, rest, err = DecodeFirst(rest); err != nil {
+			t.Fatal(err)
+		}
+	}
+	equal(t, count, 4000)
+}
+
+type note struct {
+	Text  string            `dagcbor:"text"`
+	Year  *uint16           `json:"year,omitempty"`
+	Of    CID               `dagcbor:"of"`
+	More  map[string][]int8 `dagcbor:"more,omitempty"`
+	Bytes [2]byte           `dagcbor:"b"`
+	Skip  chan int          `dagcbor:"-"`
+	Any   any               `dagcbor:"any,omitempty"`
+	Big   big.Int           `dagcbor:"big"`
+	quiet int
+}
+
+func TestTypes(t *testing.T) {
+	year := uint16(23)
+	least := new(big.Int).Not(new(big.Int).SetUint64(1<<64 - 1))
+	full := note{"hi", &year, Name(nil), map[string][]int8{"a": {-1, 127}}, [2]byte{1, 2}, nil, []any{true, nil}, *least, 0}
+	for _, value := range []note{full, {Of: Name(nil)}} {
+		block, err := Encode(&value)
+		equal(t, err, nil)
+		var again note
+		equal(t, []any{Unmarshal(block, &again), again}, []any{nil, value})
+	}
+	block, _ := Encode(note{Of: Name(nil)})
+	data, _ := Decode(block)
+	equal(t, data, map[string]any{"b": []byte{0, 0}, "of": Name(nil), "big": int64(0), "text": ""})
+
+	block, _ = Encode(map[string]any{"a": []any{1}, "text": "x", "zzzzz": map[string]any{"q": []any{nil}}})
+	kept := note{Year: &year}
+	equal(t, []any{Unmarshal(block, &kept), kept}, []any{nil, note{Text: "x", Year: &year}})
+
+	for _, row := range []struct {
+		block string
+		into  any
+		kind  string
+		place int64
+		path  []any
+	}{
+		{"1817", new(int), "NonMinimal", 1, nil}, {"f6", new(int), "Type", 0, []any{}},
+		{"820100", new([3]int), "Type", 0, []any{}}, {"8201190100", new([]uint8), "Type", 0, []any{}},
+		{"8201190100", new([]int8), "Type", 2, []any{1}}, {"20", new(uint64), "Type", 0, []any{}},
+		{"3bffffffffffffffff", new(int64), "Type", 0, []any{}}, {"1bffffffffffffffff", new(int64), "Type", 0, []any{}},
+		{"a16161a161628101", new(map[string]map[string][]string), "Type", 7, []any{"a", "b", 0}},
+		{"a16474657874f5", new(note), "Type", 6, []any{"text"}}, {"4101", new([2]byte), "Type", 0, []any{}},
+		{"6161", new(CID), "Type", 0, []any{}}, {"a0", new(CID), "Type", 0, []any{}},
+		{"01", 5, "Type", -1, nil}, {"01", (*int)(nil), "Type", -1, nil}, {"01", nil, "Type", -1, nil},
+	} {
+		var refusal *Error
+		equal(t, errors.As(Unmarshal(unhex(row.block), row.into), &refusal), true)
+		equal(t, []any{refusal.Kind, refusal.Place, refusal.Path}, []any{row.kind, row.place, row.path})
+	}
+	_, err := Encode(struct {
+		A int `dagcbor:"x"`
+		B int `dagcbor:"x"`
+	}{})
+	var refusal *Error
+	equal(t, []any{errors.As(err, &refusal), refusal.Kind}, []any{true, "UnorderedKey"})
+}
+
+// What is told of a file, as a row of the table has it.
+func answered(reader io.Reader) [3]string {
+	told := [3]string{"-", "-", "-"}
+	fault := func(err error) string {
+		var refusal *Error
+		if err == io.EOF {
+			return "-"
+		}
+		if !errors.As(err, &refusal) {
+			return err.Error()
+		}
+		return fmt.Sprintf("%s:%d", refusal.Kind, refusal.Place)
+	}
+	car, err := NewCARReader(reader)
+	if err != nil {
+		told[2] = fault(err)
+		return told
+	}
+	told[0] = words(car.Roots())
+	var sections []string
+	for {
+		section, err := car.Next()
+		if err != nil {
+			told[2] = fault(err)
+			if _, again := car.Next(); again != err {
+				told[2] += " once"
+			}
+			break
+		}
+		sections = append(sections, fmt.Sprintf("%x:%d:%s", section.CID.Bytes(), len(section.Block), section.Verdict))
+	}
+	if sections != nil {
+		told[1] = strings.Join(sections, ",")
+	}
+	return told
+}
+
+func TestFiles(t *testing.T) {
+	for _, row := range rows(t, "files") {
+		file := unhex(row[0])
+		wanted := [3]string{row[1], row[2], row[3]}
+		if row[2] != "-" {
+			sections := strings.Split(row[2], ",")
+			for i, it := range sections {
+				parts := strings.Split(it, ":")
+				code := number(parts[2])
+				sections[i] = fmt.Sprintf("%s:%s:%s", parts[0], parts[1], verdictNamed(code))
+			}
+			wanted[1] = strings.Join(sections, ",")
+		}
+		if row[3] != "-" {
+			parts := strings.Split(row[3], ":")
+			place, _ := strconv.ParseInt(parts[1], 10, 64) // the greatest, where it is out of range
+			wanted[2] = faultNamed(number(parts[0])) + ":" + strconv.FormatInt(place, 10)
+		}
+		equal(t, answered(bytes.NewReader(file)), wanted)
+		equal(t, answered(iotest.OneByteReader(bytes.NewReader(file))), wanted)
+		equal(t, answered(iotest.DataErrReader(bytes.NewReader(file))), wanted)
+	}
+	failing := iotest.TimeoutReader(iotest.OneByteReader(bytes.NewReader(unhex(rows(t, "files")[1][0]))))
+	equal(t, answered(failing)[2], iotest.ErrTimeout.Error())
+}
+
+func verdictNamed(code int) Verdict {
+	for known := range reasons {
+		if int(known) == code {
+			return verdictOf(known)
+		}
+	}
+	if code == 9 {
+		return "not read"
+	}
+	return Verdict("ok " + Kind(code).String())
+}
+
+func faultNamed(code int) string {
+	for known, reason := range reasons {
+		if int(known) == code && code <= -24 {
+			return reason[0]
+		}
+	}
+	return "NoBlock"
+}
+
+func random(r *rand.Rand, levels int) any {
+	sorts := 9
+	if levels == 0 {
+		sorts = 7
+	}
+	switch r.Intn(sorts) {
+	case 0:
+		return nil
+	case 1:
+		return r.Intn(2) == 1
+	case 2:
+		return int64(r.Uint64()) >> r.Intn(64)
+	case 3:
+		return r.Uint64() | 1<<63
+	case 4:
+		return strings.Repeat("é水\x00", r.Intn(9))
+	case 5:
+		return bytes.Repeat([]byte{7}, r.Intn(300))
+	case 6:
+		cid, _ := NewCID(r.Uint64(), r.Uint64(), make([]byte, r.Intn(65)))
+		return cid
+	case 7:
+		list := make([]any, r.Intn(6))
+		for i := range list {
+			list[i] = random(r, levels-1)
+		}
+		return list
+	}
+	entries := map[string]any{}
+	for i := r.Intn(6); i > 0; i-- {
+		entries[strings.Repeat("k", r.Intn(4))+strconv.Itoa(r.Intn(100))] = random(r, levels-1)
+	}
+	return entries
+}
+
+func TestRandom(t *testing.T) {
+	seed := time.Now().UnixNano()
+	t.Log("seed", seed)
+	r := rand.New(rand.NewSource(seed))
+	for i := 0; i < 3000; i++ {
+		value := random(r, 5)
+		block, err := Encode(value)
+		equal(t, err, nil)
+		again, err := Decode(block)
+		equal(t, []any{again, err}, []any{value, nil})
+		block[r.Intn(len(block))] ^= 1 << r.Intn(8)
+		hold(t, block)
+	}
+}
+
+// What stands of any bytes.
+func hold(t *testing.T, block []byte) {
+	_, refusal := Check(block)
+	value, err := Decode(block)
+	equal(t, err, refusal)
+	if err == nil {
+		again, err := Encode(value)
+		equal(t, []any{again, err}, []any{block, nil})
+		var other any
+		equal(t, []any{Unmarshal(block, &other), other}, []any{nil, value})
+	}
+	_ = Unmarshal(block, new(note))
+	_, _ = Links(block)
+	_ = answered(bytes.NewReader(block))
+}
+
+func FuzzDecode(f *testing.F) {
+	for _, name := range []string{"table", "files"} {
+		for _, row := range rows(f, name) {
+			f.Add(unhex(row[0]))
+		}
+	}
+	f.Fuzz(hold)
+}
+
+func sample() any {
+	posts := make([]any, 100)
+	for i := range posts {
+		posts[i] = map[string]any{"text": "hello world, hello", "likes": int64(i), "root": true, "at": []byte{1, 2, 3, 4}, "of": nil}
+	}
+	return posts
+}
+
+func BenchmarkCheck(b *testing.B) { bench(b, func(block []byte) { _, _ = Check(block) }) }
+
+func BenchmarkDecode(b *testing.B) { bench(b, func(block []byte) { _, _ = Decode(block) }) }
+
+func BenchmarkEncode(b *testing.B) {
+	value := sample()
+	bench(b, func([]byte) { _, _ = Encode(value) })
+}
+
+func bench(b *testing.B, call func([]byte)) {
+	block, err := Encode(sample())
+	if err != nil {
+		b.Fatal(err)
+	}
+	b.SetBytes(int64(len(block)))
+	b.ReportAllocs()
+	b.ResetTimer()
+	for i := 0; i < b.N; i++ {
+		call(block)
+	}
+}

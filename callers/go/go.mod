@@ -1,0 +1,3 @@
+module dagcbor
+
+go 1.19

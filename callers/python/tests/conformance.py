@@ -1,0 +1,15 @@
+"""The vectors that all codecs can be held against, and what makes and reads files of blocks apart from the library."""
+
+import os
+import sys
+
+HERE = os.path.dirname(os.path.abspath(__file__))
+sys.path.append(os.path.join(HERE, "../../../conformance"))
+
+import cars
+import cidtexts
+import forms
+from judge import VARIANTS
+from vectors import block_of, load
+
+__all__ = ["VARIANTS", "block_of", "cars", "cidtexts", "forms", "load"]

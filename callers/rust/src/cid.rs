@@ -1,0 +1,194 @@
+use crate::calls::{put_cid_of_text, put_cid_text, spell_into, MOST_OF_CID, MOST_OF_TEXT};
+use crate::item::LINK;
+use crate::{Refusal, Token};
+use core::{cmp::Ordering, fmt, hash, str};
+
+/// A CID: the name of a block. It compares as its bytes.
+///
+/// ```
+/// use dagcbor::{name, Cid};
+///
+/// let cid = name(b"\xf6");
+/// assert_eq!((cid.version(), cid.codec(), cid.hash_code()), (1, 0x71, 0x12));
+/// assert_eq!(cid.to_string().parse(), Ok(cid));
+/// assert_eq!(Cid::new_v1(0x71, 0x12, cid.digest()), Ok(cid));
+/// ```
+#[derive(Clone, Copy)]
+pub struct Cid {
+    length: u8,
+    bytes: [u8; MOST_OF_CID],
+}
+
+impl Cid {
+    /// The bytes are a CID.
+    pub(crate) fn held(bytes: &[u8]) -> Cid {
+        let mut cid = Cid {
+            length: bytes.len() as u8,
+            bytes: [0; MOST_OF_CID],
+        };
+        cid.bytes[..bytes.len()].copy_from_slice(bytes);
+        cid
+    }
+
+    /// That of version 1, of a codec, and a digest of at most 64 bytes by a hash function.
+    pub fn new_v1(codec: u64, hash_code: u64, digest: &[u8]) -> Result<Cid, Refusal> {
+        let mut room = [0; 4 * 10 + 64];
+        let mut length = 0;
+        for number in [1, codec, hash_code, digest.len() as u64] {
+            length += put_varint(number, &mut room[length..]);
+        }
+        let end = length + digest.len();
+        let place = room.get_mut(length..end).ok_or(Refusal::InvalidCid)?;
+        place.copy_from_slice(digest);
+        Cid::try_from(&room[..end])
+    }
+
+    /// The binary form.
+    pub fn as_bytes(&self) -> &[u8] {
+        &self.bytes[..usize::from(self.length)]
+    }
+
+    /// The binary form.
+    #[cfg(feature = "alloc")]
+    pub fn to_bytes(&self) -> alloc::vec::Vec<u8> {
+        self.as_bytes().to_vec()
+    }
+
+    /// 0 or 1
+    pub fn version(&self) -> u64 {
+        self.parts().0[0]
+    }
+
+    /// The codec of the block: 0x71 is DAG-CBOR, 0x70 DAG-PB, 0x55 raw bytes.
+    pub fn codec(&self) -> u64 {
+        self.parts().0[1]
+    }
+
+    /// The hash function: 0x12 is SHA-256, 0 the identity.
+    pub fn hash_code(&self) -> u64 {
+        self.parts().0[2]
+    }
+
+    /// The digest, without its length.
+    pub fn digest(&self) -> &[u8] {
+        self.parts().1
+    }
+
+    /// The three numbers above, and the digest. Version 0 is a bare SHA-256 of DAG-PB.
+    fn parts(&self) -> ([u64; 3], &[u8]) {
+        let mut rest = self.as_bytes();
+        if rest[0] == 0x12 {
+            return ([0, 0x70, 0x12], &rest[2..]);
+        }
+        let [version, codec, hash_code, _] = [(); 4].map(|_| take_varint(&mut rest));
+        ([version, codec, hash_code], rest)
+    }
+}
+
+/// Puts the number in front of the room, and tells how many bytes it takes.
+pub(crate) fn put_varint(mut number: u64, room: &mut [u8]) -> usize {
+    let mut count = 0;
+    while number >= 128 {
+        room[count] = (number % 128) as u8 + 128;
+        number /= 128;
+        count += 1;
+    }
+    room[count] = number as u8;
+    count + 1
+}
+
+fn take_varint(rest: &mut &[u8]) -> u64 {
+    let (mut number, mut shift) = (0, 0);
+    loop {
+        let byte = rest[0];
+        *rest = &rest[1..];
+        number |= u64::from(byte % 128) << shift;
+        shift += 7;
+        if byte < 128 {
+            return number;
+        }
+    }
+}
+
+impl TryFrom<&[u8]> for Cid {
+    type Error = Refusal;
+
+    /// They are a CID where there is a block that is the link of them, which takes five bytes more.
+    fn try_from(bytes: &[u8]) -> Result<Cid, Refusal> {
+        let link = Token {
+            kind: LINK,
+            number: bytes.len() as u64,
+            place: 0,
+        };
+        match spell_into(bytes, &[link], &mut [0; 5 + MOST_OF_CID]) {
+            Ok(_) => Ok(Cid::held(bytes)),
+            Err(_) => Err(Refusal::InvalidCid),
+        }
+    }
+}
+
+/// `Qm..` of version 0, and of version 1 behind `b`, `B`, `z` or `f`.
+impl str::FromStr for Cid {
+    type Err = Refusal;
+
+    fn from_str(text: &str) -> Result<Cid, Refusal> {
+        let mut room = [0; MOST_OF_CID];
+        let count = put_cid_of_text(text, &mut room)?;
+        Ok(Cid::held(&room[..count]))
+    }
+}
+
+impl TryFrom<&str> for Cid {
+    type Error = Refusal;
+
+    fn try_from(text: &str) -> Result<Cid, Refusal> {
+        text.parse()
+    }
+}
+
+/// The text: `Qm..` of version 0, and base32 behind `b` of version 1.
+impl fmt::Display for Cid {
+    fn fmt(&self, f: &mut fmt::Formatter<'_>) -> fmt::Result {
+        let mut room = [0; MOST_OF_TEXT];
+        let count = put_cid_text(self.as_bytes(), &mut room).map_err(|_| fmt::Error)?;
+        f.pad(str::from_utf8(&room[..count]).map_err(|_| fmt::Error)?)
+    }
+}
+
+impl fmt::Debug for Cid {
+    fn fmt(&self, f: &mut fmt::Formatter<'_>) -> fmt::Result {
+        write!(f, "Cid({self})")
+    }
+}
+
+impl AsRef<[u8]> for Cid {
+    fn as_ref(&self) -> &[u8] {
+        self.as_bytes()
+    }
+}
+
+impl PartialEq for Cid {
+    fn eq(&self, other: &Cid) -> bool {
+        self.as_bytes() == other.as_bytes()
+    }
+}
+
+impl Eq for Cid {}
+
+impl PartialOrd for Cid {
+    fn partial_cmp(&self, other: &Cid) -> Option<Ordering> {
+        Some(self.cmp(other))
+    }
+}
+
+impl Ord for Cid {
+    fn cmp(&self, other: &Cid) -> Ordering {
+        self.as_bytes().cmp(other.as_bytes())
+    }
+}
+
+impl hash::Hash for Cid {
+    fn hash<H: hash::Hasher>(&self, state: &mut H) {
+        self.as_bytes().hash(state);
+    }
+}

@@ -1,0 +1,143 @@
+use crate::{Refusal, Refused};
+use alloc::{
+    boxed::Box,
+    string::{String, ToString},
+    vec::Vec,
+};
+use core::fmt;
+
+/// Why a type is not read, or a value not written, and where.
+pub struct Error(Box<Inner>);
+
+#[derive(Debug)]
+struct Inner {
+    cause: Cause,
+    place: Option<usize>,
+    path: Vec<String>, // from the inside
+}
+
+#[derive(Debug)]
+enum Cause {
+    Refused(Refusal),
+    Said(String),
+    #[cfg(feature = "std")]
+    Io(std::io::Error),
+}
+
+impl Error {
+    fn new(cause: Cause, place: Option<usize>) -> Error {
+        let path = Vec::new();
+        Error(Box::new(Inner { cause, place, path }))
+    }
+
+    /// Why the bytes are no block, or the value has none: none where the type or the writer
+    /// objects.
+    pub fn refusal(&self) -> Option<Refusal> {
+        match self.0.cause {
+            Cause::Refused(refusal) => Some(refusal),
+            _ => None,
+        }
+    }
+
+    /// Of a read: the offset of the item to which the type objects, or that of the refusal.
+    pub fn place(&self) -> Option<usize> {
+        self.0.place
+    }
+
+    /// Of a write: the keys and indices that lead to what has no block.
+    pub fn path(&self) -> impl Iterator<Item = &str> {
+        self.0.path.iter().rev().map(String::as_str)
+    }
+
+    /// With this place, where there is none.
+    pub(crate) fn or_at(mut self, place: usize) -> Error {
+        self.0.place.get_or_insert(place);
+        self
+    }
+
+    /// Of what is within this part.
+    pub(crate) fn within(mut self, part: impl ToString) -> Error {
+        self.0.path.push(part.to_string());
+        self
+    }
+}
+
+impl fmt::Display for Error {
+    fn fmt(&self, f: &mut fmt::Formatter<'_>) -> fmt::Result {
+        match &self.0.cause {
+            Cause::Refused(refusal) => write!(f, "{refusal}")?,
+            Cause::Said(message) => f.write_str(message)?,
+            #[cfg(feature = "std")]
+            Cause::Io(error) => write!(f, "{error}")?,
+        }
+        if let Some(place) = self.0.place {
+            write!(f, ", at {place}")?;
+        }
+        let mut before = ", at ";
+        for part in self.path() {
+            write!(f, "{before}{part}")?;
+            before = "/";
+        }
+        Ok(())
+    }
+}
+
+impl fmt::Debug for Error {
+    fn fmt(&self, f: &mut fmt::Formatter<'_>) -> fmt::Result {
+        write!(f, "Error({self})")
+    }
+}
+
+#[cfg(not(feature = "std"))]
+impl serde::ser::StdError for Error {}
+
+#[cfg(feature = "std")]
+impl std::error::Error for Error {
+    fn source(&self) -> Option<&(dyn std::error::Error + 'static)> {
+        match &self.0.cause {
+            Cause::Io(error) => Some(error),
+            _ => None,
+        }
+    }
+}
+
+impl From<Refused> for Error {
+    fn from(refused: Refused) -> Error {
+        Error::new(Cause::Refused(refused.refusal), Some(refused.place))
+    }
+}
+
+impl From<Refusal> for Error {
+    fn from(refusal: Refusal) -> Error {
+        Error::new(Cause::Refused(refusal), None)
+    }
+}
+
+#[cfg(feature = "std")]
+impl From<std::io::Error> for Error {
+    fn from(error: std::io::Error) -> Error {
+        Error::new(Cause::Io(error), None)
+    }
+}
+
+#[cfg(feature = "std")]
+impl From<Error> for std::io::Error {
+    fn from(error: Error) -> std::io::Error {
+        match error.0.cause {
+            Cause::Io(error) => error,
+            _ => std::io::Error::new(std::io::ErrorKind::InvalidData, error),
+        }
+    }
+}
+
+impl serde::de::Error for Error {
+    fn custom<T: fmt::Display>(message: T) -> Error {
+        Error::new(Cause::Said(message.to_string()), None)
+    }
+}
+
+impl serde::ser::Error for Error {
+    fn custom<T: fmt::Display>(message: T) -> Error {
+        serde::de::Error::custom(message)
+    }
+}

@@ -1,0 +1,223 @@
+//! Data without types, and CIDs, by serde.
+
+use crate::de::CID_NAME;
+use crate::Cid;
+use alloc::{collections::BTreeMap, string::String, vec::Vec};
+use core::fmt;
+use serde::de::{self, Deserialize, Deserializer, MapAccess, SeqAccess, Visitor};
+use serde::ser::{Serialize, Serializer};
+
+/// The data of a block.
+///
+/// ```
+/// use dagcbor::{from_slice, Ipld};
+///
+/// let data: Ipld = from_slice(b"\xa1\x65years\x82\x17\x18\x18")?;
+/// assert_eq!(data.get("years/1"), Some(&Ipld::from(24)));
+/// assert_eq!(data.get("years").and_then(Ipld::as_list).map(<[_]>::len), Some(2));
+/// # Ok::<(), dagcbor::Error>(())
+/// ```
+#[derive(Clone, Debug, PartialEq, Eq, PartialOrd, Ord, Hash)]
+pub enum Ipld {
+    /// null
+    Null,
+    /// false or true
+    Bool(bool),
+    /// an integer: what is not in -2^64 .. 2^64 - 1 has no block
+    Integer(i128),
+    /// a text
+    String(String),
+    /// a byte string
+    Bytes(Vec<u8>),
+    /// a list
+    List(Vec<Ipld>),
+    /// a map
+    Map(BTreeMap<String, Ipld>),
+    /// a link
+    Link(Cid),
+}
+
+impl Ipld {
+    /// What stands at the end of a path: keys of maps and indices of lists, with `/` between. No
+    /// step is taken by a key with a `/` in it; the empty path is the data itself.
+    pub fn get(&self, path: &str) -> Option<&Ipld> {
+        let mut found = self;
+        for step in path.split('/').filter(|_| !path.is_empty()) {
+            found = match found {
+                Ipld::Map(map) => map.get(step)?,
+                Ipld::List(list) => list.get(step.parse::<usize>().ok()?)?,
+                _ => return None,
+            };
+        }
+        Some(found)
+    }
+}
+
+/// What the data is, where it is that; and the data of what there is.
+macro_rules! as_and_from {
+    ($($variant:ident $method:ident $seen:ty, $it:ident => $see:expr; $($type:ty),*;)*) => {
+        impl Ipld {$(
+            /// What it is, where it is one.
+            pub fn $method(&self) -> Option<$seen> {
+                match self {
+                    Ipld::$variant($it) => Some($see),
+                    _ => None,
+                }
+            }
+        )*}
+
+        $($(impl From<$type> for Ipld {
+            fn from(value: $type) -> Ipld {
+                Ipld::$variant(value.into())
+            }
+        })*)*
+    };
+}
+
+as_and_from! {
+    Bool as_bool bool, it => *it; bool;
+    Integer as_integer i128, it => *it; i8, i16, i32, i64, i128, u8, u16, u32, u64;
+    String as_str &str, it => it; String, &str;
+    Bytes as_bytes &[u8], it => it; Vec<u8>, &[u8];
+    List as_list &[Ipld], it => it; Vec<Ipld>;
+    Map as_map &BTreeMap<String, Ipld>, it => it; BTreeMap<String, Ipld>;
+    Link as_link &Cid, it => it; Cid;
+}
+
+impl<T: Into<Ipld>> From<Option<T>> for Ipld {
+    fn from(value: Option<T>) -> Ipld {
+        value.map_or(Ipld::Null, T::into)
+    }
+}
+
+impl Serialize for Ipld {
+    fn serialize<S: Serializer>(&self, serializer: S) -> Result<S::Ok, S::Error> {
+        match self {
+            Ipld::Null => serializer.serialize_unit(),
+            Ipld::Bool(value) => serializer.serialize_bool(*value),
+            Ipld::Integer(n) => serializer.serialize_i128(*n),
+            Ipld::String(text) => serializer.serialize_str(text),
+            Ipld::Bytes(bytes) => serializer.serialize_bytes(bytes),
+            Ipld::List(list) => serializer.collect_seq(list),
+            Ipld::Map(map) => serializer.collect_map(map),
+            Ipld::Link(cid) => cid.serialize(serializer),
+        }
+    }
+}
+
+impl<'de> Deserialize<'de> for Ipld {
+    fn deserialize<D: Deserializer<'de>>(deserializer: D) -> Result<Ipld, D::Error> {
+        deserializer.deserialize_any(OfIpld)
+    }
+}
+
+struct OfIpld;
+
+/// The methods of a visitor that take what has a `From`.
+macro_rules! taken {
+    ($($method:ident $type:ty)*) => {$(
+        fn $method<E: de::Error>(self, value: $type) -> Result<Ipld, E> {
+            Ok(value.into())
+        }
+    )*};
+}
+
+impl<'de> Visitor<'de> for OfIpld {
+    type Value = Ipld;
+
+    fn expecting(&self, f: &mut fmt::Formatter<'_>) -> fmt::Result {
+        f.write_str("data other than floats")
+    }
+
+    taken! {
+        visit_bool bool visit_i64 i64 visit_u64 u64 visit_i128 i128
+        visit_str &str visit_string String visit_bytes &[u8] visit_byte_buf Vec<u8>
+    }
+
+    fn visit_u128<E: de::Error>(self, n: u128) -> Result<Ipld, E> {
+        i128::try_from(n).map(Ipld::Integer).map_err(E::custom)
+    }
+
+    fn visit_unit<E: de::Error>(self) -> Result<Ipld, E> {
+        Ok(Ipld::Null)
+    }
+
+    fn visit_none<E: de::Error>(self) -> Result<Ipld, E> {
+        Ok(Ipld::Null)
+    }
+
+    fn visit_some<D: Deserializer<'de>>(self, deserializer: D) -> Result<Ipld, D::Error> {
+        Ipld::deserialize(deserializer)
+    }
+
+    fn visit_newtype_struct<D: Deserializer<'de>>(self, link: D) -> Result<Ipld, D::Error> {
+        Cid::deserialize(link).map(Ipld::Link)
+    }
+
+    fn visit_seq<A: SeqAccess<'de>>(self, mut parts: A) -> Result<Ipld, A::Error> {
+        let mut list = Vec::new();
+        while let Some(item) = parts.next_element()? {
+            list.push(item);
+        }
+        Ok(Ipld::List(list))
+    }
+
+    fn visit_map<A: MapAccess<'de>>(self, mut parts: A) -> Result<Ipld, A::Error> {
+        let mut map = BTreeMap::new();
+        while let Some((key, value)) = parts.next_entry()? {
+            map.insert(key, value);
+        }
+        Ok(Ipld::Map(map))
+    }
+}
+
+/// A link; in formats for people, as JSON, the text.
+impl Serialize for Cid {
+    fn serialize<S: Serializer>(&self, serializer: S) -> Result<S::Ok, S::Error> {
+        if serializer.is_human_readable() {
+            return serializer.serialize_newtype_struct(CID_NAME, &format_args!("{self}"));
+        }
+        serializer.serialize_newtype_struct(CID_NAME, &AsBytes(self.as_bytes()))
+    }
+}
+
+struct AsBytes<'a>(&'a [u8]);
+
+impl Serialize for AsBytes<'_> {
+    fn serialize<S: Serializer>(&self, serializer: S) -> Result<S::Ok, S::Error> {
+        serializer.serialize_bytes(self.0)
+    }
+}
+
+impl<'de> Deserialize<'de> for Cid {
+    fn deserialize<D: Deserializer<'de>>(deserializer: D) -> Result<Cid, D::Error> {
+        deserializer.deserialize_newtype_struct(CID_NAME, OfCid)
+    }
+}
+
+struct OfCid;
+
+impl<'de> Visitor<'de> for OfCid {
+    type Value = Cid;
+
+    fn expecting(&self, f: &mut fmt::Formatter<'_>) -> fmt::Result {
+        f.write_str("a CID")
+    }
+
+    /// What serde holds back, as for an untagged enum, it says to be for people: a text is asked
+    /// for, and bytes are shown.
+    fn visit_newtype_struct<D: Deserializer<'de>>(self, deserializer: D) -> Result<Cid, D::Error> {
+        if deserializer.is_human_readable() {
+            return deserializer.deserialize_str(OfCid);
+        }
+        deserializer.deserialize_bytes(OfCid)
+    }
+
+    fn visit_bytes<E: de::Error>(self, bytes: &[u8]) -> Result<Cid, E> {
+        Cid::try_from(bytes).map_err(E::custom)
+    }
+
+    fn visit_str<E: de::Error>(self, text: &str) -> Result<Cid, E> {
+        text.parse().map_err(E::custom)
+    }
+}

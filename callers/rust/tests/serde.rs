@@ -1,0 +1,399 @@
+//! Types by serde: what is read and written of each shape, and where what is refused stands.
+
+use dagcbor::{
+    from_reader, from_slice, name, take_from_slice, to_vec, to_writer, Cid, Error, Ipld, Refusal,
+};
+use serde::de::{DeserializeOwned, IntoDeserializer};
+use serde::{Deserialize, Deserializer, Serialize, Serializer};
+use std::collections::{BTreeMap, HashMap};
+use std::fmt::Debug;
+
+/// Bytes, as those of the crate serde_bytes.
+#[derive(Clone, Debug, PartialEq, Eq, PartialOrd, Ord)]
+struct Bytes(Vec<u8>);
+
+impl Serialize for Bytes {
+    fn serialize<S: Serializer>(&self, serializer: S) -> Result<S::Ok, S::Error> {
+        serializer.serialize_bytes(&self.0)
+    }
+}
+
+impl<'de> Deserialize<'de> for Bytes {
+    fn deserialize<D: Deserializer<'de>>(deserializer: D) -> Result<Bytes, D::Error> {
+        struct Visitor;
+        impl<'de> serde::de::Visitor<'de> for Visitor {
+            type Value = Bytes;
+            fn expecting(&self, f: &mut std::fmt::Formatter<'_>) -> std::fmt::Result {
+                f.write_str("bytes")
+            }
+            fn visit_bytes<E>(self, bytes: &[u8]) -> Result<Bytes, E> {
+                Ok(Bytes(bytes.to_vec()))
+            }
+        }
+        deserializer.deserialize_byte_buf(Visitor)
+    }
+}
+
+fn both<T: Serialize + DeserializeOwned + PartialEq + Debug>(value: T, block: &[u8]) {
+    assert_eq!(to_vec(&value).unwrap(), block);
+    assert_eq!(from_slice::<T>(block).unwrap(), value);
+    assert_eq!(from_reader::<T>(block).unwrap(), value);
+}
+
+fn refused<T: DeserializeOwned>(block: &[u8]) -> (Option<Refusal>, usize) {
+    let error = from_slice::<T>(block).err().unwrap();
+    (error.refusal(), error.place().unwrap())
+}
+
+/// What a write is refused for, and where.
+fn unwritten(value: impl Serialize) -> (String, String) {
+    let error = to_vec(&value).unwrap_err();
+    let path: Vec<&str> = error.path().collect();
+    (error.to_string(), path.join("/"))
+}
+
+#[derive(Clone, Debug, PartialEq, Serialize, Deserialize)]
+enum Shape {
+    Unit,
+    New(u32),
+    Tuple(u8, String),
+    Fields { long: u8, a: Option<bool> },
+}
+
+#[derive(Debug, PartialEq, Serialize, Deserialize)]
+struct New(i8);
+
+#[derive(Debug, PartialEq, Serialize, Deserialize)]
+struct Unit;
+
+#[derive(Debug, PartialEq, Serialize, Deserialize)]
+struct Pair(u8, Bytes);
+
+#[test]
+fn each_shape_has_its_spelling() {
+    both((), b"\xf6");
+    both(Unit, b"\xf6");
+    both(true, b"\xf5");
+    both(23u8, b"\x17");
+    both(-24i8, b"\x37");
+    both(u64::MAX, b"\x1b\xff\xff\xff\xff\xff\xff\xff\xff");
+    both(i64::MIN, b"\x3b\x7f\xff\xff\xff\xff\xff\xff\xff");
+    both(-(1i128 << 64), b"\x3b\xff\xff\xff\xff\xff\xff\xff\xff");
+    both((1u128 << 64) - 1, b"\x1b\xff\xff\xff\xff\xff\xff\xff\xff");
+    both('水', b"\x63\xe6\xb0\xb4");
+    both(String::from("hi"), b"\x62hi");
+    both(Bytes(vec![1, 2]), b"\x42\x01\x02");
+    both(vec![1, 2], b"\x82\x01\x02");
+    both([1u8, 2], b"\x82\x01\x02");
+    both((1u8, String::from("a")), b"\x82\x01\x61a");
+    both(Pair(1, Bytes(vec![])), b"\x82\x01\x40");
+    both(New(-1), b"\x20");
+    both(Some(5u8), b"\x05");
+    both(None::<u8>, b"\xf6");
+    both(Shape::Unit, b"\x64Unit");
+    both(Shape::New(256), b"\xa1\x63New\x19\x01\x00");
+    both(Shape::Tuple(1, "b".into()), b"\xa1\x65Tuple\x82\x01\x61b");
+    let fields = Shape::Fields { long: 1, a: None };
+    both(fields, b"\xa1\x66Fields\xa2\x61a\xf6\x64long\x01");
+    both(
+        BTreeMap::from([('b', 1), ('a', 2)]),
+        b"\xa2\x61a\x02\x61b\x01",
+    );
+    both(Ipld::Null, b"\xf6");
+}
+
+#[test]
+fn keys_come_in_the_order_of_blocks() {
+    let names = ["", "b", "aa", "ab", "b\u{e9}", "aaaa"];
+    let mut map: HashMap<&str, HashMap<String, usize>> = HashMap::new();
+    let mut wanted = vec![0xa6];
+    for (count, it) in names.into_iter().enumerate() {
+        map.insert(it, HashMap::from([("z".into(), count), ("yy".into(), 0)]));
+        wanted.push(0x60 + it.len() as u8);
+        wanted.extend(it.as_bytes());
+        wanted.extend([0xa2, 0x61, b'z', count as u8, 0x62, b'y', b'y', 0]);
+    }
+    assert_eq!(to_vec(&map).unwrap(), wanted);
+    let lent: HashMap<&str, HashMap<String, usize>> = from_slice(&wanted).unwrap();
+    assert_eq!(lent, map);
+}
+
+#[test]
+fn what_the_block_lends() {
+    #[derive(Debug, PartialEq, Deserialize)]
+    struct Lent<'a> {
+        bytes: &'a [u8],
+        text: &'a str,
+    }
+    let block = b"\xa2\x64text\x62hi\x65bytes\x41\x07";
+    let lent: Lent = from_slice(block).unwrap();
+    assert_eq!(lent.text.as_ptr(), block[7..].as_ptr());
+    assert_eq!(lent.bytes.as_ptr(), block[16..].as_ptr());
+}
+
+#[test]
+fn cids_are_links() {
+    #[derive(Debug, PartialEq, Serialize, Deserialize)]
+    struct Linked {
+        to: Vec<Cid>,
+    }
+    #[derive(Debug, PartialEq, Serialize, Deserialize)]
+    #[serde(untagged)]
+    enum Either {
+        Bytes(Bytes),
+        Link(Cid),
+    }
+    #[derive(Debug, PartialEq, Serialize, Deserialize)]
+    #[serde(tag = "type")]
+    enum Tagged {
+        Linked(Linked),
+    }
+    #[derive(Debug, PartialEq, Serialize, Deserialize)]
+    struct Flat {
+        #[serde(flatten)]
+        rest: BTreeMap<String, Cid>,
+    }
+    let cid = Cid::try_from(&b"\x01\x55\0\0"[..]).unwrap();
+    let link = b"\xd8\x2a\x45\0\x01\x55\0\0";
+    both(cid, link);
+    both(Ipld::Link(cid), link);
+    both(Either::Link(cid), link);
+    both(Either::Bytes(Bytes(vec![1])), b"\x41\x01");
+    let linked = || Linked { to: vec![cid] };
+    both(linked(), &[b"\xa1\x62to\x81", &link[..]].concat());
+    let tagged = [b"\xa2\x62to\x81", &link[..], b"\x64type\x66Linked"].concat();
+    both(Tagged::Linked(linked()), &tagged);
+    let flat = [b"\xa1\x61x", &link[..]].concat();
+    both(
+        Flat {
+            rest: BTreeMap::from([("x".into(), cid)]),
+        },
+        &flat,
+    );
+
+    assert_eq!(refused::<Bytes>(link), (None, 0));
+    assert_eq!(refused::<Vec<u8>>(link), (None, 0));
+    assert_eq!(refused::<Cid>(&link[2..]), (None, 0));
+    let of_text: Result<Cid, serde::de::value::Error> =
+        Cid::deserialize("bafkqaaa".into_deserializer());
+    assert_eq!(of_text, Ok(cid)); // of a format for people
+}
+
+#[test]
+fn the_parts_of_a_cid() {
+    let cid: Cid = "QmdfTbBqBPQ7VNxZEYEj14VmRuZBkqFbiwReogJgS1zR1n"
+        .parse()
+        .unwrap();
+    assert_eq!(
+        (cid.version(), cid.codec(), cid.hash_code()),
+        (0, 0x70, 0x12)
+    );
+    assert_eq!(cid.digest(), &cid.as_bytes()[2..]);
+    let cid = Cid::new_v1(1 << 63 | 5, 300, &[7; 64]).unwrap();
+    assert_eq!(
+        (cid.version(), cid.codec(), cid.hash_code()),
+        (1, 1 << 63 | 5, 300)
+    );
+    assert_eq!(
+        (cid.digest(), cid.as_bytes().len()),
+        (&[7; 64][..], 1 + 10 + 2 + 1 + 64)
+    );
+    assert_eq!(Cid::try_from(cid.to_string().as_str()), Ok(cid));
+    for length in [65, 86, 104, 105, 300] {
+        assert_eq!(
+            Cid::new_v1(0x71, 0x12, &vec![0; length]),
+            Err(Refusal::InvalidCid)
+        );
+    }
+    assert_eq!("bafy!".parse::<Cid>(), Err(Refusal::InvalidCharacter));
+    let mut cids = [
+        name(b"\xf6"),
+        name(b"\x17"),
+        Cid::try_from(&b"\x01\x55\0\0"[..]).unwrap(),
+    ];
+    cids.sort();
+    assert!(cids
+        .windows(2)
+        .all(|it| it[0].as_bytes() < it[1].as_bytes()));
+}
+
+#[test]
+fn a_read_says_where() {
+    assert_eq!(refused::<u8>(b"\x18\x17"), (Some(Refusal::NonMinimal), 1));
+    assert_eq!(refused::<u8>(b"\x17\xf6"), (Some(Refusal::TrailingData), 1));
+    assert_eq!(
+        refused::<f64>(b"\xfb\0\0\0\0\0\0\0\0"),
+        (Some(Refusal::Unsupported), 0)
+    );
+    assert_eq!(refused::<f64>(b"\x17"), (None, 0));
+    assert_eq!(
+        refused::<Vec<u8>>(b"\x83\x01\x18\x18\x19\x01\x00"),
+        (None, 4)
+    );
+    assert_eq!(refused::<Vec<String>>(b"\x82\x62hi\x42hi"), (None, 4));
+    assert_eq!(refused::<(u8, u8)>(b"\x81\x01"), (None, 0));
+    assert_eq!(refused::<(u8, u8)>(b"\x83\x01\x02\x03"), (None, 0));
+    assert_eq!(refused::<Shape>(b"\x63New"), (None, 0));
+    assert_eq!(refused::<Shape>(b"\x66Sphere"), (None, 0));
+    assert_eq!(refused::<Shape>(b"\xa1\x64Unit\x01"), (None, 6));
+    assert_eq!(
+        refused::<Shape>(b"\xa2\x64Unit\x01\x65Unit2\x01"),
+        (None, 0)
+    );
+    assert_eq!(refused::<BTreeMap<u8, u8>>(b"\xa1\x61a\x01"), (None, 1));
+    assert_eq!(
+        from_slice::<Shape>(b"\xa1\x64Unit\xf6").unwrap(),
+        Shape::Unit
+    );
+
+    #[derive(Debug, Deserialize)]
+    struct Loop(#[allow(dead_code)] Option<Box<Loop>>);
+    assert_eq!(refused::<Loop>(b"\x01"), (None, 0));
+    assert!(from_slice::<Loop>(b"\xf6").is_ok());
+}
+
+#[test]
+fn a_write_says_where() {
+    let floats = BTreeMap::from([("a", vec![Some(0.5)])]);
+    let said = "floats are not written, at a/0";
+    assert_eq!(unwritten(floats), (said.into(), "a/0".into()));
+    let deep = BTreeMap::from([("a", BTreeMap::from([("b", (0, 0.5)), ("c", (0, 0.0))]))]);
+    assert_eq!(unwritten([deep]).1, "0/a/b/1");
+    let long = 1u128 << 64;
+    assert_eq!(unwritten((1, long)).1, "1");
+    assert_eq!(unwritten(u128::MAX).1, "");
+    assert_eq!(unwritten(-(1i128 << 64) - 1).1, "");
+    for key in [
+        Ipld::Null,
+        1.into(),
+        Ipld::Bytes(vec![]),
+        Ipld::List(vec![]),
+        name(b"").into(),
+    ] {
+        let said = unwritten([BTreeMap::from([(key, 0)])]);
+        assert_eq!(said, ("Map keys must be strings, at 0".into(), "0".into()));
+    }
+
+    #[derive(Serialize)]
+    enum Held {
+        New(f32),
+        Tuple(u8, f32),
+        Fields { x: f32 },
+    }
+    assert_eq!(unwritten(Held::New(0.0)).1, "New");
+    assert_eq!(unwritten(Held::Tuple(0, 0.0)).1, "Tuple/1");
+    assert_eq!(unwritten(Held::Fields { x: 0.0 }).1, "Fields/x");
+
+    #[derive(Serialize)]
+    struct Twice {
+        a: u8,
+        #[serde(flatten)]
+        more: BTreeMap<&'static str, u8>,
+    }
+    let more = BTreeMap::from([("a", 2)]);
+    let error = to_vec(&[Twice { a: 1, more }]).unwrap_err();
+    assert_eq!(error.refusal(), Some(Refusal::UnorderedKey));
+    assert!(error.path().eq(["0", "a"]));
+}
+
+#[test]
+fn the_table_holds() {
+    for row in include_str!("../../tables/table.txt").lines() {
+        let words: Vec<&str> = row.split(' ').collect();
+        let pair = |it| u8::from_str_radix(&words[0][it..it + 2], 16).unwrap();
+        let count = words[0].trim_matches('-').len();
+        let block: Vec<u8> = (0..count).step_by(2).map(pair).collect();
+        match words[1].parse::<i32>().unwrap() {
+            0.. => both(from_slice::<Ipld>(&block).unwrap(), &block),
+            _ => assert_eq!(refused::<Ipld>(&block).1.to_string(), words[6]),
+        }
+        if let Ok((first, rest)) = take_from_slice::<Ipld>(&block) {
+            both(first, &block[..block.len() - rest.len()]);
+        }
+    }
+}
+
+/// As types by serde_tuple have them.
+#[derive(Debug, PartialEq, Serialize, Deserialize)]
+struct Row(#[serde(default)] u8, #[serde(default)] String);
+
+#[test]
+fn rows_may_end_early() {
+    assert_eq!(from_slice::<Row>(b"\x80").unwrap(), Row(0, "".into()));
+    assert_eq!(
+        from_slice::<(u8, Row)>(b"\x82\x01\x81\x02").unwrap().1,
+        Row(2, "".into())
+    );
+    both(Row(2, "a".into()), b"\x82\x02\x61a");
+    assert_eq!(refused::<Vec<Row>>(b"\x82\x80\x83\x02\x61a\x03"), (None, 2));
+}
+
+#[test]
+fn depths_are_those_of_the_library() {
+    let deep = |levels: usize| (0..levels).fold(Ipld::Null, |it, _| Ipld::List(vec![it]));
+    let mut block = vec![0x81; 127];
+    block.push(0xf6);
+    both(deep(127), &block);
+    let error = to_vec(&deep(128)).unwrap_err();
+    assert_eq!(
+        (error.refusal(), error.path().count()),
+        (Some(Refusal::DepthOverflow), 128)
+    );
+    block.insert(0, 0x81);
+    assert_eq!(refused::<Ipld>(&block).0, Some(Refusal::DepthOverflow));
+}
+
+#[test]
+fn items_one_behind_the_other() {
+    let bytes = b"\xa1\x62op\x01\xa1\x61t\x62hi\x18";
+    let (first, rest) = take_from_slice::<BTreeMap<String, u8>>(bytes).unwrap();
+    assert_eq!(first, BTreeMap::from([("op".into(), 1)]));
+    let (second, rest) = take_from_slice::<Ipld>(rest).unwrap();
+    assert_eq!(second.get("t").and_then(Ipld::as_str), Some("hi"));
+    let error = take_from_slice::<u8>(rest).unwrap_err();
+    assert_eq!(
+        (error.refusal(), error.place()),
+        (Some(Refusal::Eof), Some(1))
+    );
+}
+
+#[test]
+fn data_is_looked_up() {
+    let cid = name(b"\xf6");
+    let inner = BTreeMap::from([("b".into(), Ipld::from(cid)), ("".into(), true.into())]);
+    let data = Ipld::from(BTreeMap::from([(
+        "a".into(),
+        Ipld::from(vec![Ipld::Map(inner)]),
+    )]));
+    assert_eq!(data.get("a/0/b").and_then(Ipld::as_link), Some(&cid));
+    assert_eq!(data.get("a/0/").and_then(Ipld::as_bool), Some(true));
+    assert_eq!(data.get(""), Some(&data));
+    for path in ["b", "a/1", "a/-1", "a/x", "a/0/b/c", "/a"] {
+        assert_eq!(data.get(path), None);
+    }
+    assert_eq!(from_slice::<Ipld>(&to_vec(&data).unwrap()).unwrap(), data);
+    assert_eq!(Ipld::from(None::<u8>), Ipld::Null);
+    assert_eq!(Ipld::from("a").as_integer(), None);
+}
+
+#[test]
+fn writers_that_fail() {
+    struct Full;
+    impl std::io::Write for Full {
+        fn write(&mut self, _: &[u8]) -> std::io::Result<usize> {
+            Ok(0)
+        }
+        fn flush(&mut self) -> std::io::Result<()> {
+            Ok(())
+        }
+    }
+    let mut out = Vec::new();
+    to_writer(&mut out, &(1, 2)).unwrap();
+    assert_eq!(out, b"\x82\x01\x02");
+    let error: Error = to_writer(Full, &1).unwrap_err();
+    assert!(error.refusal().is_none() && std::error::Error::source(&error).is_some());
+    assert_eq!(
+        std::io::Error::from(error).kind(),
+        std::io::ErrorKind::WriteZero
+    );
+}

@@ -1,0 +1,113 @@
+"""Asks a peer: a command that reads lines of hexadecimal and writes a line for each: `ok HEX`, what it writes again of what it read,
+or `ok` alone, or `refused ..`. What ends, hangs or says nothing is found line by line, and asked again alone."""
+
+import os
+import resource
+import select
+import signal
+import subprocess
+import threading
+from dataclasses import dataclass
+
+PATIENCE = 20  # lines that may hang before no more are asked
+
+
+@dataclass
+class Answer:
+    """`ok`, `refused`, `memory`, `crash`, `hang` or `not asked`; what the peer wrote again, if it did; and its words."""
+
+    how: str
+    block: bytes | None = None
+    words: str = ""
+
+
+def understood(line):
+    how, _, words = line.partition(" ")
+    if how == "ok":
+        first = words.split(" ")[0] if words else ""
+        try:
+            return Answer("ok", bytes.fromhex(first) if first else None, words)
+        except ValueError:
+            return Answer("ok", None, words)
+    if how == "refused":
+        return Answer("memory" if words.startswith("memory") else "refused", None, words)
+    return Answer("crash", None, f"no answer: {line[:60]}")
+
+
+def feed(pipe, lines):
+    """Writes all lines, as far as they are taken."""
+    try:
+        with pipe:
+            pipe.writelines(f"{line}\n".encode() for line in lines)
+    except OSError:
+        pass
+
+
+def heard(pipe, seconds):
+    """All that comes, and whether nothing came for so long."""
+    parts = []
+    while select.select([pipe], [], [], seconds)[0]:
+        part = os.read(pipe, 1 << 16)
+        if not part:
+            return b"".join(parts), False
+        parts.append(part)
+    return b"".join(parts), True
+
+
+@dataclass
+class Peer:
+    """The command, and what it may take: seconds without an answer, and MB that it writes to."""
+
+    command: list
+    seconds: float = 5
+    megabytes: int = 1024
+
+    def limit(self):
+        most = self.megabytes << 20
+        resource.setrlimit(resource.RLIMIT_DATA, (most, most))
+        resource.setrlimit(resource.RLIMIT_CORE, (0, 0))
+
+    def ask(self, lines):
+        """The answers that came, and why no more came, if not all did."""
+        pipes = {"stdin": subprocess.PIPE, "stdout": subprocess.PIPE, "stderr": subprocess.DEVNULL}
+        process = subprocess.Popen(self.command, **pipes, preexec_fn=self.limit, start_new_session=True)
+        threading.Thread(target=feed, args=(process.stdin, lines), daemon=True).start()
+        out, is_late = heard(process.stdout.fileno(), self.seconds)
+        if is_late:
+            os.killpg(process.pid, signal.SIGKILL)
+        code = process.wait()
+        process.stdout.close()
+        answers = out.decode(errors="replace").split("\n")[:-1]
+        if len(answers) == len(lines):
+            return answers, None
+        if len(answers) > len(lines):
+            return [], "more answers than lines"
+        why = f"signal {signal.Signals(-code).name}" if code < 0 else f"status {code}"
+        return answers, "hang" if is_late else why
+
+    def is_there(self, line="f6"):
+        """Whether it answers a sound line, in words that are known."""
+        try:
+            found, _ = self.ask([line])
+        except OSError:
+            return False
+        return len(found) == 1 and understood(found[0]).how != "crash"
+
+    def answers(self, lines):
+        """An answer for each line; after many hangs no more are asked."""
+        done, size, patience = [], len(lines), PATIENCE
+        while len(done) < len(lines):
+            if patience == 0:
+                return done + [Answer("not asked")] * (len(lines) - len(done))
+            batch = lines[len(done) : len(done) + size]
+            found, why = self.ask(batch)
+            done += map(understood, found)
+            if why is None:
+                size *= 2
+            elif len(batch) == 1:
+                done.append(Answer("hang" if why == "hang" else "crash", None, why))
+                patience -= why == "hang"
+                size = 256
+            else:
+                size = 1
+        return done

@@ -1,0 +1,102 @@
+"""What was found of all peers, as one page: a matrix of peers and groups, and below it what did not hold, peer by peer. What ended a
+peer, or kept it from answering, is counted there, and not shown."""
+
+from html import escape
+
+from verdicts import NO_ANSWER, OUTCOMES, is_wrong, table
+
+STYLE = """
+:root { color-scheme: light dark; --ground: #f6f6f4; --panel: #fff; --ink: #1d1f23; --soft: #5c6169; --line: #dededa;
+  --held: #cfe8d8; --held-ink: #114d2e; --loose: #fbe9b4; --loose-ink: #5d4300; --wrong: #f3c1bb; --wrong-ink: #7d150e; }
+@media (prefers-color-scheme: dark) { :root { --ground: #15171a; --panel: #1c1f23; --ink: #e6e7e9; --soft: #a8aeb6; --line: #32373d;
+  --held: #1c3d2b; --held-ink: #a4e0bd; --loose: #4a3b0e; --loose-ink: #f0d68a; --wrong: #5a2420; --wrong-ink: #ffb9b1; } }
+* { box-sizing: border-box; }
+body { margin: 0 auto; max-width: 100rem; padding: 2rem 1.2rem 4rem; background: var(--ground); color: var(--ink);
+  font: 16px/1.5 system-ui, -apple-system, "Segoe UI", Roboto, "Liberation Sans", Arial, sans-serif; }
+h1 { font-size: 1.7rem; margin: 0 0 .3rem; } h2 { font-size: 1.15rem; margin: 0; display: inline; }
+p { max-width: 46rem; color: var(--soft); margin: .3rem 0 1rem; }
+.scroll { overflow-x: auto; background: var(--panel); border: 1px solid var(--line); border-radius: 10px; padding: .6rem; }
+table { border-collapse: separate; border-spacing: 2px; font-size: .82rem; font-variant-numeric: tabular-nums; }
+th { font-weight: 500; text-align: left; white-space: nowrap; padding: .15rem .6rem .15rem .2rem; }
+thead small { display: inline; }
+thead th { writing-mode: vertical-rl; transform: rotate(180deg); padding: .2rem; color: var(--soft); vertical-align: top; }
+thead th:first-child { writing-mode: horizontal-tb; transform: none; vertical-align: bottom; }
+td { text-align: center; min-width: 2.6rem; padding: .3rem .25rem; border-radius: 5px; }
+th small { display: block; font-size: .72rem; color: var(--soft); font-weight: 400; }
+.held { background: var(--held); color: var(--held-ink); } .loose { background: var(--loose); color: var(--loose-ink); }
+.wrong { background: var(--wrong); color: var(--wrong-ink); font-weight: 600; } .none { color: var(--soft); }
+.key { max-width: none; } .key span { display: inline-block; border-radius: 5px; padding: .05rem .5rem; margin-right: .3rem; }
+details { background: var(--panel); border: 1px solid var(--line); border-radius: 10px; padding: .7rem 1rem; margin: .7rem 0; }
+summary { cursor: pointer; } summary span { color: var(--soft); margin-left: .6rem; }
+code { font: .8rem/1.5 ui-monospace, "SF Mono", Menlo, Consolas, "DejaVu Sans Mono", monospace; overflow-wrap: anywhere; }
+li { margin: .1rem 0; } h3 { font-size: .95rem; margin: .9rem 0 .2rem; }
+a { color: inherit; }
+"""
+MOST = 60
+
+
+def cell(row):
+    """Of a group: how many did not hold; the worst gives the colour."""
+    if not row:
+        return '<td class="none">&ndash;</td>'
+    others = {it: row[it] for it in OUTCOMES if row[it] and it != "held"}
+    colour = "wrong" if any(map(is_wrong, others)) else "loose" if others else "held"
+    said = ", ".join(f"{count:,} {it}" for it, count in others.items()) or "all held"
+    shown = f"{sum(others.values()):,}" if others else "&#10003;"
+    return f'<td class="{colour}" title="{escape(said)}; of {sum(row.values()):,}">{shown}</td>'
+
+
+def matrix(results):
+    groups = list(dict.fromkeys(group for it in results for group in table(it.judged)))
+    tables = [table(it.judged) for it in results]
+    totals = {group: max(sum(it[group].values()) for it in tables if group in it) for group in groups}
+    heads = "".join(f'<th scope="col">{escape(group)} <small>{totals[group]:,}</small></th>' for group in groups)
+    rows = ""
+    for number, it in enumerate(results):
+        found = table(it.judged)
+        about = f'{escape(it.about.get("language", ""))} {escape(it.about.get("version", ""))}'
+        rows += f'<tr><th scope="row"><a href="#peer-{number}">{escape(it.about["name"])}</a><small>{about}</small></th>'
+        rows += "".join(cell(found.get(group)) for group in groups) + "</tr>\n"
+    return f'<div class="scroll"><table><thead><tr><th scope="col">peer</th>{heads}</tr></thead><tbody>\n{rows}</tbody></table></div>'
+
+
+def failures(result):
+    text = ""
+    for kind in reversed(OUTCOMES):
+        found = [it for it in result.judged if it.outcome == kind]
+        if kind in NO_ANSWER and found:
+            text += f"<h3>{len(found):,} {kind}: {OUTCOMES[kind][1]}</h3>"
+        elif kind != "held" and found:
+            text += f"<h3>{len(found):,} {kind}: {OUTCOMES[kind][1]}</h3><ul>"
+            text += "".join(f"<li><code>{escape(it.line())}</code></li>" for it in found[:MOST])
+            text += f"<li>and {len(found) - MOST:,} more</li></ul>" if len(found) > MOST else "</ul>"
+    return text or "<p>Everything held.</p>"
+
+
+def peer(number, result):
+    counts = result.counts()
+    commands = "<br>".join(f"<code>{escape(it)}</code>" for it in result.about.get("commands", ()))
+    said = ", ".join(f"{counts[it]:,} {it}" for it in OUTCOMES if counts[it])
+    about = result.about
+    return (
+        f'<details id="peer-{number}"><summary><h2>{escape(about["name"])}</h2><span>{escape(said)}</span></summary>'
+        f'<p>{escape(about.get("language", ""))} {escape(about.get("version", ""))}. It promises {escape(about["promises"])}.'
+        f"</p><p>{commands}</p>{failures(result)}</details>\n"
+    )
+
+
+def page(results, command="conformance/run --known all --page page.html"):
+    most = max((len(it.judged) for it in results), default=0)
+    return f"""<!DOCTYPE html>
+<html lang="en"><head><meta charset="utf-8"><meta name="viewport" content="width=device-width, initial-scale=1">
+<title>DAG-CBOR conformance</title><style>{STYLE}</style></head><body>
+<h1>DAG-CBOR conformance</h1>
+<p>Up to {most:,} vectors a codec, each with a verdict on which a second specification and a proved codec agree. A cell says how many did
+not hold; a tick that all did. Who promises CBOR, and takes what DAG-CBOR forbids, keeps the promise: what RFC 8949 says otherwise has a
+colour of its own.</p>
+<p class="key"><span class="held">&#10003; all held</span><span class="loose">takes or writes what DAG-CBOR forbids</span>
+<span class="wrong">not as RFC 8949 either, or no answer</span><span class="none">&ndash; not asked</span></p>
+{matrix(results)}
+<p>Counted down a column are the vectors of a group. Made by <code>{escape(command)}</code>, with what Debian 12 has of each codec, in its strictest form.</p>
+{"".join(peer(number, it) for number, it in enumerate(results))}</body></html>
+"""

@@ -1,0 +1,25 @@
+// Our package for Go: blocks, CIDs as text, and files of blocks; data to be written is in json.go.
+package main
+
+import "dagcbor"
+
+func main() {
+	serve(map[string]answers{
+		"blocks": rewriting(func(block []byte) ([]byte, error) {
+			data, err := dagcbor.Decode(block)
+			if err != nil {
+				return nil, err
+			}
+			return dagcbor.Encode(data)
+		}),
+		"writing": rewriting(func(line []byte) ([]byte, error) {
+			data, err := dataOf(line)
+			if err != nil {
+				return nil, err
+			}
+			return dagcbor.Encode(data)
+		}),
+		"cid-texts": cidTexts,
+		"files":     files,
+	})
+}

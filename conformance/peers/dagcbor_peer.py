@@ -1,0 +1,23 @@
+"""Our package for Python: blocks; data to be written; files of blocks; CIDs as text."""
+
+from dagcbor import CID, dumps, loads, read_car
+from lines import data_of, serve
+
+
+def files(file):
+    car = read_car(file)
+    cids = [it.cid for it in car]
+    return " ".join(",".join(map(str, them)) or "-" for them in (car.roots, cids))
+
+
+def cid_texts(text):
+    cid = CID(text.decode())
+    return f"{bytes(cid).hex()} {cid}"
+
+
+serve(
+    lambda block: dumps(loads(block)),
+    writing=lambda line: dumps(data_of(line, CID)).hex(),
+    files=files,
+    cid_texts=cid_texts,
+)

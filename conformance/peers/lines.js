@@ -1,0 +1,34 @@
+// The loop of the peers in Node: a line in, a line out. A word of the command line names what the lines are, if not blocks.
+'use strict';
+
+// `rewrite` answers what is written again of the bytes of a block, or throws; of other subjects the others answer what stands behind
+// `ok`: of `writing` the line, of all else the bytes of a line of hexadecimal.
+exports.serve = async (rewrite, around = {}) => {
+  const subject = process.argv.slice(2).find((it) => it in around);
+  const answers = subject ? around[subject] : async (block) => Buffer.from(rewrite(block)).toString('hex');
+  const lines = require('readline').createInterface({ input: process.stdin, crlfDelay: Infinity });
+  for await (const line of lines) {
+    let answer;
+    try {
+      answer = `ok ${await answers(subject === 'writing' ? line : Buffer.from(line, 'hex'))}`;
+    } catch (error) {
+      const isMemory = error instanceof RangeError && /alloc|Invalid (array|typed array) length/i.test(error.message);
+      const cause = error.kind ? `${error.kind} ${error.place ?? ''}`.trimEnd() : error.name;
+      answer = `refused ${isMemory ? 'memory' : cause}`;
+    }
+    process.stdout.write(`${answer}\n`); // to a pipe it is whole before it returns
+  }
+};
+
+// The data of a line of DAG-JSON, in which long numbers are BigInts: of a CID's text what `link` makes of it.
+exports.dataOf = (line, link) => {
+  const of = (found) => {
+    if (Array.isArray(found)) return found.map(of);
+    if (typeof found !== 'object' || found === null) return found;
+    if ('/long' in found) return BigInt(found['/long']);
+    if (typeof found['/'] === 'string') return link(found['/']);
+    if (found['/']) return Uint8Array.from(Buffer.from(found['/'].bytes, 'base64'));
+    return Object.fromEntries(Object.entries(found).map(([key, it]) => [key, of(it)]));
+  };
+  return of(JSON.parse(line.replace(/(?<=[[,:])-?\d{16,}(?=[\],}])/g, '{"/long":"$&"}')));
+};

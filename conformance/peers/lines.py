@@ -1,0 +1,44 @@
+"""The loop of the peers in Python: a line in, a line out. A word of the command line names what the lines are, if not blocks."""
+
+import base64
+import json
+import os
+import sys
+
+sys.path.append(os.path.dirname(os.path.dirname(os.path.abspath(__file__))))
+
+import cidtexts
+
+
+def serve(rewrite, **around):
+    """`rewrite` answers what is written again of the bytes of a block, or raises; of other subjects the others answer what stands
+    behind `ok`: of `writing` the line, of all else the bytes of a line of hexadecimal."""
+    subject = next((it for it in sys.argv[1:] if it.replace("-", "_") in around), None)
+    answers = around[subject.replace("-", "_")] if subject else lambda block: rewrite(block).hex()
+    for line in sys.stdin:
+        try:
+            answer = f"ok {answers(line if subject == 'writing' else bytes.fromhex(line))}"
+        except MemoryError:
+            answer = "refused memory"
+        except Exception as error:
+            cause = f"{error.kind} {error.place}" if hasattr(error, "kind") else type(error).__name__
+            answer = f"refused {cause}"
+        print(answer, flush=True)
+
+
+def data_of(line, link):
+    """The data of a line of DAG-JSON: of a binary CID what `link` makes of it."""
+
+    def of(found):
+        if isinstance(found, list):
+            return [of(it) for it in found]
+        if not isinstance(found, dict):
+            return found
+        inner = found.get("/") if len(found) == 1 else None
+        if isinstance(inner, str):
+            return link(cidtexts.read(inner))
+        if inner is not None:
+            return base64.b64decode(inner["bytes"] + "=" * (-len(inner["bytes"]) % 4))
+        return {key: of(it) for key, it in found.items()}
+
+    return of(json.loads(line))

@@ -1,0 +1,125 @@
+"""What the proved programs and the proved library say of blocks, in the words of a vector, to be held against the judge."""
+
+import json
+import os
+import subprocess
+import tempfile
+from concurrent.futures import ThreadPoolExecutor
+
+import cars
+import dagjson
+import known
+from judge import Link, Refused, judge, links_of, spell
+from vectors import VARIANTS, block_of
+
+ROOT = known.ROOT
+
+
+def program(name):
+    return os.environ.get(name.upper(), f"{ROOT}/{name}")
+
+
+def lines_of(command, lines):
+    ran = subprocess.run(command, input="".join(it + "\n" for it in lines), capture_output=True, text=True, check=True)
+    return ran.stdout.split("\n")[:-1]
+
+
+def wanted_check(said):
+    return f"ok {said['kind']}" if said["verdict"] == "ok" else f"refused {VARIANTS[said['cause']]}"
+
+
+def wanted_links(block):
+    try:
+        return " ".join(it.hex() for it in links_of(judge(block))) or "none"
+    except Refused:
+        return None
+
+
+def by_checks(vectors):
+    """Where `dagcbor check` and `dagcbor links` say something else."""
+    blocks = [block_of(it) for it in vectors]
+    lines = [it.hex() for it in blocks]
+    checked = lines_of([program("dagcbor"), "check"], lines)
+    linked = lines_of([program("dagcbor"), "links"], lines)
+    assert len(checked) == len(linked) == len(vectors)
+    for vector, block, verdict, links in zip(vectors, blocks, checked, linked):
+        if wanted_check(vector) != verdict:
+            yield f"{vector['id']}: the judge says {wanted_check(vector)}, dagcbor {verdict}"
+        if vector["verdict"] == "ok" and wanted_links(block) != links:
+            yield f"{vector['id']}: the judge has the links {wanted_links(block)}, dagcbor {links}"
+
+
+def by_places(vectors, library):
+    """Where the library has another place, another kind, other links, or spells the block in another way."""
+    with tempfile.TemporaryDirectory() as folder:
+        source, include = f"{known.HERE}/peers/library.c", f"{ROOT}/crates/dagcbor_ffi/include"
+        subprocess.run(["cc", "-O1", source, "-I", include, library, "-o", f"{folder}/library"], check=True)
+        answers = lines_of([f"{folder}/library"], [block_of(it).hex() for it in vectors])
+    assert len(answers) == len(vectors)
+    for vector, answer in zip(vectors, answers):
+        if vector["verdict"] == "ok":
+            block = block_of(vector)
+            links = "".join(f" {it.hex()}" for it in links_of(judge(block)))
+            wanted = f"ok {block.hex()} {vector['kind']}{links}"
+        else:
+            wanted = f"refused {VARIANTS[vector['cause']]} {vector['at']}"
+        if wanted != answer:
+            yield f"{vector['id']}: the judge says {wanted[:80]}, the library {answer[:80]}"
+
+
+def run(word, given):
+    """What `dagcar` writes, or its refusal."""
+    ran = subprocess.run([program("dagcar"), word], input=given, capture_output=True)
+    if word == "check":  # it tells what is missing in the order of the file
+        lines = ran.stdout.splitlines(True)
+        return b"".join(sorted(lines, key=lambda it: (it.startswith(b"missing"), it if it.startswith(b"missing") else b"")))
+    return ran.stdout or ran.stderr.split(b"\n")[0].rpartition(b"dagcar: ")[2]
+
+
+def by_texts(vectors):
+    """Where `dagcar show`, `name` or `make` say something else of a sound block."""
+    sound = [it for it in vectors if it["verdict"] == "ok" and "dag_json" in it]
+    asked = [row for it in sound for row in of_block(it)]
+    yield from differing(asked)
+
+
+def of_block(vector):
+    block, text = block_of(vector), vector["dag_json"].encode()
+    for word, given, wanted in (("show", block, text + b"\n"), ("name", block, vector["cid"].encode() + b"\n"), ("make", text, block)):
+        yield vector["id"], word, given, wanted
+
+
+def by_forms(vectors):
+    """Where `dagcar` says something else of data for writers, of a CID as text, of a file of blocks or of DAG-JSON."""
+    yield from differing([{"files": of_file, "cid-texts": of_cid_text}.get(it["group"], of_json)(it) for it in vectors])
+
+
+def of_json(vector):
+    given = vector["dag_json"].encode() if vector["group"] == "writing" else block_of(vector)
+    if vector["verdict"] == "ok":
+        return vector["id"], "make", given, bytes.fromhex(vector["block"])
+    return vector["id"], "make", given, f"refused {dagjson.VARIANTS[vector['cause']]} ".encode()
+
+
+def of_cid_text(vector):
+    """Within a link."""
+    given = json.dumps({"/": vector["text"]}).encode()
+    wanted = spell(Link(bytes.fromhex(vector["cid"]))) if vector["verdict"] == "ok" else b"refused NoCid "
+    return vector["id"], "make", given, wanted
+
+
+def of_file(vector):
+    said = [f"{it['cid']} {cars.in_variants(it['verdict'])}" for it in vector.get("sections", ())]
+    if vector["verdict"] == "refused":
+        said.append(f"refused {cars.VARIANTS[vector['cause']]}")
+    said += sorted(f"missing {it}" for it in vector.get("missing", ()))
+    return vector["id"], "check", block_of(vector), "".join(f"{it}\n" for it in said).encode()
+
+
+def differing(asked):
+    """Of a name, a word of `dagcar`, what it is given and what it is to write, or how its refusal is to begin."""
+    with ThreadPoolExecutor(os.cpu_count()) as pool:
+        answers = pool.map(lambda row: run(row[1], row[2]), asked)
+    for (name, word, _, wanted), answer in zip(asked, answers):
+        if answer != wanted and not (wanted.startswith(b"refused ") and answer.startswith(wanted)):
+            yield f"{name}: the judge has {wanted[:60]}, dagcar {word} {answer[:60]}"

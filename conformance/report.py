@@ -1,0 +1,75 @@
+"""What was found of a peer, as text and as JSON."""
+
+import json
+from collections import Counter
+from dataclasses import dataclass, field
+
+from verdicts import OUTCOMES, is_wrong, table
+
+
+@dataclass
+class Result:
+    """What is told of the peer, a Judged for each vector, and of a random run the smallest cases."""
+
+    about: dict
+    judged: list = field(default_factory=list)
+    smallest: list = field(default_factory=list)
+
+    def is_well(self):
+        return bool(self.judged) and all(it.outcome == "held" for it in self.judged)
+
+    def counts(self):
+        return Counter(it.outcome for it in self.judged)
+
+
+def text(result, most=20):
+    counts, about = result.counts(), result.about
+    lines = [f"{about['name']} {about.get('version', '')}".rstrip() + f": promises {about['promises']}"]
+    lines.append("  " + ", ".join(f"{counts[it]} {it}" for it in OUTCOMES if counts[it]) + f"; of {len(result.judged)}")
+    for group, row in table(result.judged).items():
+        if set(row) != {"held"}:
+            rest = ", ".join(f"{row[it]} {it}" for it in OUTCOMES if row[it] and it != "held")
+            lines.append(f"  {group:12} {row['held']} of {sum(row.values())} held; {rest}")
+    for kind in reversed(OUTCOMES):
+        if kind != "held":
+            found = [it for it in result.judged if it.outcome == kind]
+            lines += [f"    {it.line()}" for it in found[:most]]
+            lines += [f"    .. and {len(found) - most} more {kind}"] if len(found) > most else []
+    lines += ["  the smallest cases, each near one of these:"] if result.smallest else []
+    return "\n".join([*lines, *(f"    {it.line()}" for it in result.smallest)])
+
+
+MADE = ("short", "truncations", "random")
+
+
+def as_table(results):
+    """A table in Markdown, of the vectors that are written out, and of how many cut blocks were taken."""
+    lines = ["| Peer | DAG-CBOR forbids it | Wrong as CBOR, or harmful |", "|---|---|---|"]
+    for result in results:
+        counts = Counter(it.outcome for it in result.judged if it.vector["group"] not in MADE)
+        counts["cut blocks taken"] = sum(it.vector["group"] == "truncations" and it.outcome != "held" for it in result.judged)
+        loose = sum(counts[it] for it in OUTCOMES if it != "held" and not is_wrong(it))
+        wrong = [f"{counts[it]:,} {it}" for it in counts if counts[it] and (it not in OUTCOMES or is_wrong(it))]
+        lines.append(f"| {result.about['name']} {result.about.get('version', '')} | {loose} | {', '.join(wrong) or 'none'} |")
+    return "\n".join(lines) + "\n"
+
+
+def as_json(results):
+    return json.dumps([peer_json(it) for it in results], indent=1, ensure_ascii=False) + "\n"
+
+
+def peer_json(result):
+    return {
+        **{key: it for key, it in result.about.items() if key != "commands"},
+        "counts": result.counts(),
+        "groups": table(result.judged),
+        "failures": [failure(it) for it in result.judged if it.outcome != "held"],
+        "smallest": [failure(it) for it in result.smallest],
+    }
+
+
+def failure(judged):
+    vector, answer = judged.vector, judged.answer
+    rule = {key: vector[key] for key in ("bytes", "repeat", "verdict", "cause", "at", "kind", "level", "section") if key in vector}
+    back = {"words": answer.words} if answer.block is None else {"came_back": answer.block[:600].hex(), "length": len(answer.block)}
+    return {"id": vector["id"], "outcome": judged.outcome, "is_wrong_as_cbor": is_wrong(judged.outcome), **rule, **back}

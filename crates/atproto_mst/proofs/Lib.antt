@@ -1,0 +1,8 @@
+pub mod Bits
+pub mod Runs
+pub mod Handing
+pub mod Written
+pub mod Building
+pub mod Orders
+pub mod Comparing
+pub mod Whole

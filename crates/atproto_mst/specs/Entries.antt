@@ -1,0 +1,36 @@
+-- Entries as they are held, and why they are none.
+use Rattle.std.specs.Prelude.{◌≡◌, List, map, Some, ⊤}
+use Rattle.std.specs.List.{AllByRecursion}
+use Rattle.ipld_tree.specs.Cid.{CidParts}
+use Rattle.dagcbor_car.specs.Car.{Section}
+use Rattle.ipld_links.specs.Reaching.{Stored}
+use Rattle.atproto_mst.specs.Keys.{Entry, HaveKeys, Rise, AreEntries}
+use Rattle.atproto_mst.specs.Trees.{root_of, nodes_of}
+use Rattle.atproto_mst.specs.declared.entries.MstEntry.{MstEntry}
+use Rattle.atproto_mst.specs.declared.error.MstError.{MstError}
+use Rattle.atproto_mst.specs.declared.error.MstError.TheVariants.{OutOfMemory, KeyLength, KeyOrder, OtherNodes, NoCommit}
+
+abbrev pub entry_of : MstEntry → Entry
+entry_of e = (e.key.items, e.value)
+
+-- the keys and the values
+abbrev pub entries : List MstEntry → List Entry
+entries es = map entry_of es
+
+-- why entries are refused
+abbrev pub EntriesRefused : MstError → List Entry → Type 0
+EntriesRefused OutOfMemory es = ⊤
+EntriesRefused KeyLength es = ¬ HaveKeys es
+EntriesRefused KeyOrder es = ¬ Rise es
+EntriesRefused OtherNodes es = ⊥
+EntriesRefused NoCommit es = ⊥
+
+-- under the name of each node its block is stored
+abbrev pub AreStored : Stored → List Section → Type 0
+AreStored stored nodes = AllByRecursion (λ s. stored s.0 ≡ Some s.1) nodes
+
+-- the tree of these entries is stored, and this is the name of its root
+pub record IsMst (stored : Stored) (root : CidParts) (es : List Entry) : Type 0 where
+  pub valid : AreEntries es
+  pub root_is : root ≡ root_of es
+  pub all : AreStored stored (nodes_of es)

@@ -1,0 +1,40 @@
+-- Keys of a repository's tree, and their layers (AT Protocol specification, repository).
+use Rattle.std.specs.Prelude.{◌≡◌, ℕ, ◌+◌, ◌/◌, ◌≤◌, List, [], ◌∷◌, length, if◌then◌else◌, ◌==◌, ⊤}
+use Rattle.std.specs.Int.{w8, leading_zeros}
+use Rattle.std.specs.declared.cmp.Ordering.TheVariants.{Less}
+use Rattle.std.specs.Ordering.{nat_cmp}
+use Rattle.std.specs.Cmp.Lexicographic.{slice_cmp}
+use Rattle.sha2.specs.Sha256.{sha256}
+use Rattle.ipld_tree.specs.Cid.{CidParts}
+
+-- a key, and the CID of its record
+abbrev pub Entry : Type 0
+Entry = List ℕ × CidParts
+
+-- how many bits of the bytes are zero before the first that is one
+abbrev pub zero_bits : List ℕ → ℕ
+zero_bits [] = 0
+zero_bits (b ∷ bs) = if b == 0 then 8 + zero_bits bs else leading_zeros w8 b
+
+-- the leading zero bits of the key's SHA-256, two to a layer
+unfoldable pub key_layer : List ℕ → ℕ
+key_layer key = zero_bits (sha256 key) / 2
+
+-- each key has 1 to 1024 bytes
+abbrev pub HaveKeys : List Entry → Type 0
+HaveKeys [] = ⊤
+HaveKeys (e ∷ es) = (1 ≤ length e.0) × (length e.0 ≤ 1024) × HaveKeys es
+
+-- the key comes before the first of the entries
+abbrev pub ComesBefore : List ℕ → List Entry → Type 0
+ComesBefore key [] = ⊤
+ComesBefore key (e ∷ es) = slice_cmp nat_cmp key e.0 ≡ Less
+
+-- the keys rise in the order of bytes
+abbrev pub Rise : List Entry → Type 0
+Rise [] = ⊤
+Rise (e ∷ es) = ComesBefore e.0 es × Rise es
+
+-- the entries of a repository: keys of 1 to 1024 bytes, which rise
+abbrev pub AreEntries : List Entry → Type 0
+AreEntries es = HaveKeys es × Rise es

@@ -1,0 +1,10 @@
+pub mod Keys
+pub mod Trees
+pub mod Rows
+pub mod RowShapes
+pub mod Sinks
+pub mod Placed
+pub mod Entries
+pub mod CommitShapes
+pub mod Commits
+pub mod Repos

@@ -1,0 +1,18 @@
+-- What nodes are handed to.
+use Rattle.std.specs.Prelude.{◌≡◌, ◌⊎◌, List, ◌++◌}
+use Rattle.dagcbor_car.specs.Car.{Section}
+use Rattle.ipld_links.specs.Sets.{Among}
+use Rattle.atproto_mst.specs.declared.error.MstError.{MstError}
+use Rattle.atproto_mst.specs.declared.error.MstError.TheVariants.{OutOfMemory}
+
+-- these were handed over behind those that were before
+abbrev pub Takes : {S W : Type 0} → (S → W → List Section → Type 0) → S → List Section → S → Type 0
+Takes {S} {W} holds old taken new = (world : W) (before : List Section) → holds old world before
+    → holds new world (before ++ taken)
+
+-- memory was wanted, or one of the nodes was refused
+abbrev pub RefusesOne : {S W : Type 0} → (S → W → List Section → Type 0) → (W → Section → Type 0)
+    → S → List Section → MstError → Type 0
+RefusesOne {S} {W} holds refuses old nodes e = (world : W) (before : List Section)
+    → holds old world before
+    → (e ≡ OutOfMemory) ⊎ ((s : Section) × Among s nodes × refuses world s)

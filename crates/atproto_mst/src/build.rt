@@ -1,0 +1,125 @@
+//! The nodes over leaves.
+
+ghost use Rattle.std.specs.Prelude.{◌≡◌, [], ◌∷◌, map, Some, IfOk, OnOk, IfErr, MatchResult};
+ghost use Rattle.ipld_tree.specs.Spelling.{spelling};
+ghost use Rattle.ipld_links.specs.Names.{block_name};
+ghost use Rattle.atproto_mst.specs.Trees.{lower_run, entry_tree, entry_trees, map_of, node_section};
+ghost use Rattle.atproto_mst.specs.Trees.{subtree, node, subtree_nodes, nodes, nodes_between};
+ghost use Rattle.atproto_mst.specs.Rows.{tree_of_row};
+ghost use Rattle.atproto_mst.specs.Placed.{told, all_told};
+ghost use Rattle.atproto_mst.specs.Sinks.{Takes, RefusesOne};
+
+use crate::error::MstError;
+use crate::keys::shared_front;
+use crate::leaves::{Placed, count_lower, split_lower};
+use crate::rows::{Node, Row, spell_node};
+use crate::sink::NodeSink;
+use ipld_links::name_of_block;
+use ipld_tree::Cid;
+use std::alloc::Global;
+
+/// Hands over the nodes over leaves that are all below the layer, and answers the name of the last
+/// of them, if there are leaves.
+#[cycle(build)]
+fn name_subtree<S: NodeSink>(
+    alloc: Global,
+    leaves: &[Placed<'_>],
+    layer: u8,
+    sink: &mut S,
+) -> Result<Option<Cid>, MstError>
+    ensures name { IfOk result (λ name. name ≡ subtree layer (all_told leaves.now)) }
+    ensures taken { OnOk result
+        (Takes S.holds sink.old (subtree_nodes layer (all_told leaves.now)) sink.new) }
+    ensures refused { IfErr result
+        (RefusesOne S.holds S.refuses sink.old (subtree_nodes layer (all_told leaves.now))) }
+{
+    if layer == 0 || leaves.is_empty() {
+        return Ok(None);
+    }
+    let name = name_node(alloc, leaves, layer - 1, sink)?;
+    Ok(Some(name))
+}
+
+/// Hands over the nodes of the tree whose root is of the layer, the root last, and answers its
+/// name.
+#[cycle(build)]
+pub(crate) fn name_node<S: NodeSink>(
+    alloc: Global,
+    leaves: &[Placed<'_>],
+    layer: u8,
+    sink: &mut S,
+) -> Result<Cid, MstError>
+    ensures name { IfOk result
+        (λ name. name ≡ block_name (spelling (node layer (all_told leaves.now)))) }
+    ensures taken { OnOk result
+        (Takes S.holds sink.old (nodes layer (all_told leaves.now)) sink.new) }
+    ensures refused { IfErr result
+        (RefusesOne S.holds S.refuses sink.old (nodes layer (all_told leaves.now))) }
+{
+    let (lower, rest) = split_lower(leaves, layer);
+    let left = name_subtree(alloc, lower, layer, sink)?;
+    let rows = name_rows(alloc, rest, layer, sink)?;
+    hand_over(alloc, &Node { rows, left }, sink)
+}
+
+/// Hands over the nodes between and behind the leaves of the layer, of which the first is one, and
+/// answers the entries of these.
+#[cycle(build)]
+fn name_rows<'a, S: NodeSink>(
+    alloc: Global,
+    leaves: &[Placed<'a>],
+    layer: u8,
+    sink: &mut S,
+) -> Result<Vec<Row<'a>>, MstError>
+    requires { lower_run layer (all_told leaves.now) ≡ [] }
+    ensures rows { IfOk result (λ rows. map tree_of_row rows.items
+        ≡ entry_trees (subtree layer) layer [] (all_told leaves.now)) }
+    ensures taken { OnOk result (Takes S.holds sink.old
+        (nodes_between (subtree_nodes layer) layer (all_told leaves.now)) sink.new) }
+    ensures refused { IfErr result (RefusesOne S.holds S.refuses sink.old
+        (nodes_between (subtree_nodes layer) layer (all_told leaves.now))) }
+{
+    let mut rows = Vec::new(alloc);
+    let mut previous: &[u8] = &[];
+    let mut at = 0;
+    while at < leaves.len() {
+        let top = &leaves[at];
+        let behind = &leaves[at + 1..];
+        let count = count_lower(behind, layer);
+        let after = name_subtree(alloc, &behind[..count], layer, sink)?;
+        let row = row_of(previous, top, after);
+        rows.reserve(1)?;
+        rows.push_reserved(row);
+        previous = top.key;
+        at += 1 + count;
+    }
+    Ok(rows)
+}
+
+/// The entry of a leaf behind this key, before the node.
+fn row_of<'a>(previous: &[u8], leaf: &Placed<'a>, after: Option<Cid>) -> Row<'a>
+    ensures { tree_of_row result ≡ entry_tree previous.now (told leaf.now) after }
+{
+    let shared = shared_front(previous, leaf.key);
+    Row {
+        rest: &leaf.key[shared..],
+        shared: shared as u64,
+        after,
+        value: leaf.value,
+    }
+}
+
+/// Hands over the node, and answers its name.
+fn hand_over<S: NodeSink>(alloc: Global, node: &Node<'_>, sink: &mut S) -> Result<Cid, MstError>
+    ensures name { IfOk result (λ name. name ≡ block_name (spelling
+        (map_of (map tree_of_row node.now.rows.items) node.now.left))) }
+    ensures taken { OnOk result (Takes S.holds sink.old (node_section
+        (map_of (map tree_of_row node.now.rows.items) node.now.left) ∷ []) sink.new) }
+    ensures refused { IfErr result (RefusesOne S.holds S.refuses sink.old (node_section
+        (map_of (map tree_of_row node.now.rows.items) node.now.left) ∷ [])) }
+{
+    let block = spell_node(alloc, node)?;
+    let name = name_of_block(&block);
+    sink.take(name, block)?;
+    Ok(name)
+}

@@ -1,0 +1,27 @@
+//! What is done with the nodes of a tree.
+
+ghost use Rattle.std.specs.Prelude.{◌≡◌, [], ◌∷◌, List, OnOk, IfErr};
+ghost use Rattle.dagcbor_car.specs.Car.{Section};
+ghost use Rattle.atproto_mst.specs.Sinks.{Takes, RefusesOne};
+
+use crate::error::MstError;
+use ipld_tree::Cid;
+
+/// What is done with the nodes of a tree, each behind those below it.
+pub trait NodeSink {
+    /// What the nodes are judged by.
+    ghost World: { Type 0 };
+
+    /// Whether these may be the nodes that it was handed so far, by this.
+    ghost holds: { Self → World → List Section → Type 0 };
+
+    /// Whether it may refuse a node, by this, but for want of memory.
+    ghost refuses: { World → Section → Type 0 };
+
+    /// Hands it the name and the block of the next node.
+    fn take(&mut self, name: Cid, block: Vec<u8>) -> Result<(), MstError>
+        ensures taken { OnOk result
+            (Takes holds self.old ((name, block.items) ∷ []) self.new) }
+        ensures refused { IfErr result
+            (RefusesOne holds refuses self.old ((name, block.items) ∷ [])) };
+}

@@ -1,0 +1,62 @@
+//! The tree of entries.
+
+ghost use Rattle.std.specs.Prelude.{◌≡◌, ◌⊎◌, ⊤, MatchResult, IfOk, OnOk, IfErr};
+ghost use Rattle.atproto_mst.specs.Keys.{AreEntries};
+ghost use Rattle.atproto_mst.specs.Trees.{root_of, nodes_of};
+ghost use Rattle.atproto_mst.specs.Entries.{entries, EntriesRefused};
+ghost use Rattle.atproto_mst.specs.Sinks.{Takes, RefusesOne};
+
+use crate::build::name_node;
+use crate::entries::{MstEntry, check_entries, place, top_of};
+use crate::error::MstError;
+use crate::sink::NodeSink;
+use ipld_tree::Cid;
+use std::alloc::Global;
+
+/// Hands over the nodes of the tree of these entries, each once and behind those below it, and
+/// answers the name of the root, which is the last. Where entries are refused none is handed over.
+pub fn write_mst<S: NodeSink>(
+    alloc: Global,
+    all: &[MstEntry],
+    sink: &mut S,
+) -> Result<Cid, MstError>
+    ensures root { IfOk result
+        (λ root. root ≡ root_of (entries all.now)) }
+    ensures valid { OnOk result (AreEntries (entries all.now)) }
+    ensures taken { OnOk result (Takes S.holds sink.old
+        (nodes_of (entries all.now)) sink.new) }
+    ensures refused { IfErr result
+        (λ e. (EntriesRefused e (entries all.now) × (sink.new ≡ sink.old))
+        ⊎ RefusesOne S.holds S.refuses sink.old
+        (nodes_of (entries all.now)) e) }
+{
+    check_entries(all)?;
+    let leaves = place(alloc, all)?;
+    name_node(alloc, &leaves, top_of(&leaves), sink)
+}
+
+/// Nodes are not kept.
+#[derive(Drop)]
+struct Forgotten;
+
+impl NodeSink for Forgotten {
+    ghost World = { Unit {0} };
+
+    ghost holds = { λ s world nodes. ⊤ };
+
+    ghost refuses = { λ world node. ⊥ };
+
+    fn take(&mut self, _name: Cid, _block: Vec<u8>) -> Result<(), MstError> {
+        Ok(())
+    }
+}
+
+/// The name of the root of the tree of these entries.
+pub fn mst_root(alloc: Global, all: &[MstEntry]) -> Result<Cid, MstError>
+    ensures root { IfOk result
+        (λ root. root ≡ root_of (entries all.now)) }
+    ensures valid { OnOk result (AreEntries (entries all.now)) }
+    ensures refused { IfErr result (λ e. EntriesRefused e (entries all.now)) }
+{
+    write_mst(alloc, all, &mut Forgotten)
+}

@@ -1,0 +1,5 @@
+//! Tests of `atproto_mst`.
+#![tactic(auto)]
+
+#[cfg(test)]
+mod tests;

@@ -1,0 +1,28 @@
+-- The names of the refusals of a file, and of a text that should be a CID.
+use Rattle.std.specs.Prelude.{ℕ, List, codes}
+use Rattle.dagcbor_car.specs.declared.error.CarError.{CarError}
+use Rattle.dagcbor_car.specs.declared.error.CarError.TheVariants as faults
+use Rattle.cid_text.specs.declared.error.CidTextError.{CidTextError}
+use Rattle.cid_text.specs.declared.error.CidTextError.TheVariants as texts
+
+-- the name of the variant of a file's refusal
+abbrev pub fault_name : {E : Type 0} → CarError E → List ℕ
+fault_name (faults.Read e) = codes "Read"
+fault_name faults.Truncated = codes "Truncated"
+fault_name faults.InvalidLength = codes "InvalidLength"
+fault_name (faults.InvalidCid e) = codes "InvalidCid"
+fault_name (faults.NoBlock e) = codes "NoBlock"
+fault_name faults.OtherHeader = codes "OtherHeader"
+fault_name faults.InvalidOffset = codes "InvalidOffset"
+fault_name faults.OutOfMemory = codes "OutOfMemory"
+
+-- the name of the variant of a text's refusal as a CID
+abbrev pub cid_fault_name : CidTextError → List ℕ
+cid_fault_name texts.UnknownBase = codes "UnknownBase"
+cid_fault_name texts.TooLong = codes "TooLong"
+cid_fault_name texts.InvalidCharacter = codes "InvalidCharacter"
+cid_fault_name texts.InvalidLength = codes "InvalidLength"
+cid_fault_name texts.TrailingBits = codes "TrailingBits"
+cid_fault_name texts.LeadingZero = codes "LeadingZero"
+cid_fault_name (texts.InvalidCid e) = codes "InvalidCid"
+cid_fault_name texts.InvalidVersion = codes "InvalidVersion"

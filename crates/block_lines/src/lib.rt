@@ -1,0 +1,15 @@
+//! The words and lines that programs say of files and blocks.
+#![tactic(auto)]
+
+mod codec;
+mod line;
+mod names;
+mod verdict;
+
+pub use codec::codec_name;
+pub use line::{
+    Said, line_of, listed_line, missing_line, missing_lines, named_line, refused_line, root_lines,
+    say, say_both,
+};
+pub use names::{fault_name, no_cid_line};
+pub use verdict::{is_none, is_well, told_line, verdict_words};

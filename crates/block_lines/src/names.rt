@@ -1,0 +1,40 @@
+//! The names of the refusals of a file, and the line of a text that is none of a CID.
+
+ghost use Rattle.std.specs.Prelude.{◌≡◌};
+ghost use Rattle.block_lines.specs.Lines.{no_cid_line};
+ghost use Rattle.block_lines.specs.Names.{fault_name};
+
+use cid_text::CidTextError;
+use dagcbor_car::CarError;
+
+/// The name of the variant of a file's refusal.
+pub fn fault_name<E>(refusal: &CarError<E>) -> &'static str
+    ensures { result.now ≡ fault_name refusal.now }
+{
+    match refusal {
+        CarError::Read(_) => "Read",
+        CarError::Truncated => "Truncated",
+        CarError::InvalidLength => "InvalidLength",
+        CarError::InvalidCid(_) => "InvalidCid",
+        CarError::NoBlock(_) => "NoBlock",
+        CarError::OtherHeader => "OtherHeader",
+        CarError::InvalidOffset => "InvalidOffset",
+        CarError::OutOfMemory => "OutOfMemory",
+    }
+}
+
+/// The line of a text that is none of a CID, where one should stand.
+pub fn no_cid_line(refusal: &CidTextError) -> &'static str
+    ensures { result.now ≡ no_cid_line refusal.now }
+{
+    match refusal {
+        CidTextError::UnknownBase => "no CID: UnknownBase\n",
+        CidTextError::TooLong => "no CID: TooLong\n",
+        CidTextError::InvalidCharacter => "no CID: InvalidCharacter\n",
+        CidTextError::InvalidLength => "no CID: InvalidLength\n",
+        CidTextError::TrailingBits => "no CID: TrailingBits\n",
+        CidTextError::LeadingZero => "no CID: LeadingZero\n",
+        CidTextError::InvalidCid(_) => "no CID: InvalidCid\n",
+        CidTextError::InvalidVersion => "no CID: InvalidVersion\n",
+    }
+}

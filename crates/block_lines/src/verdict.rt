@@ -1,0 +1,58 @@
+//! The line of a verdict on a block.
+
+ghost use Rattle.std.specs.Prelude.{◌≡◌, ◌↔◌, ◌++◌, ◌∷◌, [], List, ℕ, IsTrue, IfOk};
+ghost use Rattle.block_lines.specs.Lines.{verdict_text, is_well, told_line};
+
+use crate::line::{Said, line_of};
+use cid_text::cid_text;
+use dagcbor_items::{kind_name, variant_name};
+use ipld_links::Verdict;
+use ipld_tree::Cid;
+use std::alloc::{AllocError, Global};
+
+/// A verdict in words: what is found, and the name of a kind or a refusal.
+pub fn verdict_words(verdict: &Verdict) -> (&'static str, &'static str)
+    ensures { result.0.now ++ result.1.now ≡ 32 ∷ verdict_text verdict.now }
+{
+    match verdict {
+        Verdict::Block(kind) => (" ok ", kind_name(*kind)),
+        Verdict::Refused(refusal) => (" refused ", variant_name(refusal)),
+        Verdict::OtherBytes => (" other bytes", ""),
+        Verdict::NotRead => (" not read", ""),
+        Verdict::Unverified => (" not verified", ""),
+    }
+}
+
+/// Whether a verdict tells of nothing wrong.
+pub fn is_well(verdict: &Verdict) -> bool
+    ensures { result ≡ is_well verdict.now }
+{
+    match verdict {
+        Verdict::Block(_) => true,
+        Verdict::Refused(_) => false,
+        Verdict::OtherBytes => false,
+        Verdict::NotRead => true,
+        Verdict::Unverified => false,
+    }
+}
+
+/// The line of a section under this name, with this verdict.
+pub fn told_line(alloc: Global, cid: &Cid, verdict: &Verdict) -> Result<Said, AllocError>
+    ensures line { (block : List ℕ)
+        → IfOk result (λ p. p.0.items ≡ told_line ((cid.now, block), verdict.now)) }
+    ensures well { IfOk result (λ p. p.1 ≡ is_well verdict.now) }
+{
+    let (found, which) = verdict_words(verdict);
+    let line = line_of(alloc, &cid_text(cid), found.as_bytes(), which.as_bytes())?;
+    Ok((line, is_well(verdict)))
+}
+
+/// Whether there is none.
+pub fn is_none(names: &[Cid]) -> bool
+    ensures { IsTrue result ↔ (names.now ≡ []) }
+{
+    match names {
+        [] => true,
+        _ => false,
+    }
+}

@@ -1,0 +1,110 @@
+-- How many sections of a file had which verdict.
+use Rattle.std.specs.Prelude.{◌≡◌, ◌↔◌, ℕ, ◌+◌, List, [], ◌∷◌, ◌++◌, length, codes, Bool, true, false, IsTrue, Vec, decimal, flat_map}
+use Rattle.std.specs.declared.alloc.Global.{Global}
+use Rattle.ipld_tree.specs.Cid.{CidParts}
+use Rattle.dagcbor_car.specs.Car.{Section}
+use Rattle.dagcbor_car.specs.Checks.{IsAfter, ListsMissing}
+use Rattle.ipld_links.specs.Verdicts.{IsVerdict}
+use Rattle.dagcbor_car.specs.Told.{Told, sections_of, AreTold}
+use Rattle.ipld_links.specs.declared.verdict.Verdict.{Verdict}
+use Rattle.ipld_links.specs.declared.verdict.Verdict.TheVariants as verdicts
+use Rattle.block_lines.specs.Lines.{line, missing_line}
+use Rattle.dagcar_lines.specs.declared.summary.Counts.{Counts}
+use Rattle.dagcar_lines.specs.declared.summary.Summing.{Summing}
+
+-- ---- how many are so
+
+abbrev pub is_ok : Verdict → Bool
+is_ok (verdicts.Block kind) = true
+is_ok _ = false
+
+abbrev pub is_not_read : Verdict → Bool
+is_not_read verdicts.NotRead = true
+is_not_read _ = false
+
+abbrev pub is_refused : Verdict → Bool
+is_refused (verdicts.Refused e) = true
+is_refused _ = false
+
+abbrev pub is_other_bytes : Verdict → Bool
+is_other_bytes verdicts.OtherBytes = true
+is_other_bytes _ = false
+
+abbrev pub is_unverified : Verdict → Bool
+is_unverified verdicts.Unverified = true
+is_unverified _ = false
+
+-- one where it is so, else none
+abbrev pub one_if : Bool → ℕ
+one_if true = 1
+one_if false = 0
+
+-- of how many sections the verdict is so
+abbrev pub how_many : (Verdict → Bool) → List Told → ℕ
+how_many is_so [] = 0
+how_many is_so (p ∷ told) = one_if (is_so p.1) + how_many is_so told
+
+-- ---- the lines
+
+-- a number behind a word
+abbrev pub count_line : List ℕ → ℕ → List ℕ
+count_line word count = line (word ++ (32 ∷ decimal count))
+
+-- how many sections there are, of how many the verdict is which, and how many links lead nowhere
+abbrev pub summary_lines : List Told → ℕ → List ℕ
+summary_lines told missing = count_line (codes "sections") (length told)
+    ++ (count_line (codes "ok") (how_many is_ok told)
+    ++ (count_line (codes "not read") (how_many is_not_read told)
+    ++ (count_line (codes "refused") (how_many is_refused told)
+    ++ (count_line (codes "other bytes") (how_many is_other_bytes told)
+    ++ (count_line (codes "not verified") (how_many is_unverified told)
+    ++ count_line (codes "missing") missing)))))
+
+-- What `check --summary` says at the end: what `check` says, and how many sections had which verdict.
+pub record IsSummary (roots : List (List ℕ)) (sections : List Section) (well : Bool) (text : List ℕ) : Type 0 where
+  pub missing : Vec CidParts Global
+  pub lists : ListsMissing roots sections missing
+  pub told : List Told
+  pub of_sections : sections_of told ≡ sections
+  pub right : AreTold told
+  pub lines : text ≡ flat_map missing_line missing.items ++ summary_lines told (length missing.items)
+  pub wellness : IsTrue well ↔ (missing.items ≡ [])
+
+-- ---- what is counted
+
+-- the numbers are those of these verdicts
+pub record AreCounts (counts : Counts) (told : List Told) : Type 0 where
+  pub sections : counts.sections ≡ length told
+  pub ok : counts.ok ≡ how_many is_ok told
+  pub not_read : counts.not_read ≡ how_many is_not_read told
+  pub refused : counts.refused ≡ how_many is_refused told
+  pub other_bytes : counts.other_bytes ≡ how_many is_other_bytes told
+  pub unverified : counts.unverified ≡ how_many is_unverified told
+
+-- one more is counted, of this verdict
+pub record CountsOne (v : Verdict) (old new : Counts) : Type 0 where
+  pub sections : new.sections ≡ old.sections + 1
+  pub ok : new.ok ≡ old.ok + one_if (is_ok v)
+  pub not_read : new.not_read ≡ old.not_read + one_if (is_not_read v)
+  pub refused : new.refused ≡ old.refused + one_if (is_refused v)
+  pub other_bytes : new.other_bytes ≡ old.other_bytes + one_if (is_other_bytes v)
+  pub unverified : new.unverified ≡ old.unverified + one_if (is_unverified v)
+
+-- the section is counted, by the verdict on it
+abbrev pub CountsSection : Section → Counts → Counts → Type 0
+CountsSection s old new = (v : Verdict) × IsVerdict s v × CountsOne v old new
+
+-- what is known behind these sections of a file of these roots
+abbrev pub KnowsCounts : Summing → List (List ℕ) → List Section → Type 0
+KnowsCounts it roots sections = IsAfter it.check roots sections × ((told : List Told)
+    × (sections_of told ≡ sections) × AreTold told × AreCounts it.counts told)
+
+-- the lines of these numbers
+abbrev pub counts_lines : Counts → ℕ → List ℕ
+counts_lines counts missing = count_line (codes "sections") counts.sections
+    ++ (count_line (codes "ok") counts.ok
+    ++ (count_line (codes "not read") counts.not_read
+    ++ (count_line (codes "refused") counts.refused
+    ++ (count_line (codes "other bytes") counts.other_bytes
+    ++ (count_line (codes "not verified") counts.unverified
+    ++ count_line (codes "missing") missing)))))

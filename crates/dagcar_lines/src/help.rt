@@ -1,0 +1,46 @@
+//! What the program tells of itself.
+
+ghost use Rattle.std.specs.Prelude.{◌≡◌};
+ghost use Rattle.dagcar_lines.specs.Help.{help_text, version_text};
+
+/// What `--help` writes.
+const HELP: &str = "usage: dagcar check [--summary] [FILE]
+       dagcar verify|list|name|one|show|make [FILE]
+       dagcar get|tree CID [FILE]
+       dagcar at CID/PATH [FILE]
+
+Of a file of blocks (CAR, version 1 or 2); without FILE, or with -, standard input:
+  check    the verdict on each block, and which links lead nowhere; --summary counts them
+  verify   the verdicts alone
+  list     the roots, and the length of each block
+  get      the block of a name
+  tree     the file of the blocks that links lead to
+  at       the data that a path leads to, as DAG-JSON
+
+Of a block of DAG-CBOR:
+  name     its CID
+  one      its kind
+  show     its data as DAG-JSON
+  make     the other way: the block of data in DAG-JSON
+
+For example: dagcar check blocks.car
+
+The status is 0 where nothing is wrong, 1 where something is, 2 where it could not be told.
+";
+
+/// What `--version` writes.
+const VERSION: &str = "dagcar 0.7.0\n";
+
+/// The text of `--help`.
+pub fn help_text() -> &'static str
+    ensures { result.now ≡ help_text }
+{
+    HELP
+}
+
+/// The text of `--version`.
+pub fn version_text() -> &'static str
+    ensures { result.now ≡ version_text }
+{
+    VERSION
+}

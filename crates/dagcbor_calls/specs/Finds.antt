@@ -1,0 +1,45 @@
+-- What callers in other languages are answered of a path.
+use Rattle.std.specs.Prelude.{◌≡◌, ◌≢◌, ◌⊎◌, ℕ, ◌+◌, ℤ, negsuc, List, length, IsUtf8}
+use Rattle.std.specs.declared.convert.Infallible.{Infallible}
+use Rattle.dagcbor_heads.specs.declared.error.DecodeError.{DecodeError}
+use Rattle.dagcbor_heads.specs.declared.error.DecodeError.TheVariants.{OutOfMemory}
+use Rattle.ipld_tree.specs.Tree.{Tree}
+use Rattle.dagcbor_items.specs.Slices.{IsBlock, SliceRefused}
+use Rattle.dagcbor_items.specs.TreeKinds.{kind_of}
+use Rattle.dagcbor_paths.specs.Paths.{segments, At}
+use Rattle.dagcbor_paths.specs.Finding.{StandAt}
+use Rattle.dagcbor_calls.specs.Codes.{kind_code, refusal_code}
+
+-- where an item stands in a block: where it begins, and where it ends
+abbrev pub Places : Type 0
+Places = ℕ × ℕ
+
+-- the path is a text, and leads from the block's tree to a tree, whose spelling stands at the places; the
+-- number is its kind's
+pub record IsFoundAt (b path : List ℕ) (places : Places) (code : ℤ) : Type 0 where
+  pub text : IsUtf8 path
+  pub tree : Tree
+  pub found : Tree
+  pub block : IsBlock b tree
+  pub at : At (segments path) tree found
+  pub part : List ℕ
+  pub is_block : IsBlock part found
+  pub stands : StandAt b places.0 part
+  pub ends : places.1 ≡ places.0 + length part
+  pub told : code ≡ kind_code (kind_of found)
+
+-- it leads nowhere in the block: -36
+abbrev pub IsNotFound : List ℕ → List ℕ → ℤ → Type 0
+IsNotFound b path code = IsUtf8 path × ((t : Tree) × IsBlock b t × ((u : Tree) → ¬ At (segments path) t u))
+    × (code ≡ negsuc 35)
+
+-- the bytes are no block: the number of a refusal whose cause stands, never want of memory
+abbrev pub IsRefusedAs : List ℕ → ℤ → Type 0
+IsRefusedAs b code = (e : DecodeError Infallible) × SliceRefused e b × (e ≢ OutOfMemory)
+    × (code ≡ refusal_code e)
+
+-- the item to which the path leads in the block; or the places stay, since it leads nowhere, or the bytes
+-- are no block, or the path is no text, -37
+abbrev pub IsFindAnswer : List ℕ → List ℕ → Places → Places → ℤ → Type 0
+IsFindAnswer b path old new code = IsFoundAt b path new code
+    ⊎ ((new ≡ old) × (IsNotFound b path code ⊎ (IsRefusedAs b code ⊎ ((¬ IsUtf8 path) × (code ≡ negsuc 36)))))

@@ -1,8 +1,0 @@
--- Whether the bytes are those that a name names.
-use Rattle.std.proofs.Common.{inl, inr}
-use Rattle.dagcbor_car.specs.Car.{Section}
-use Rattle.dagcbor_car.specs.Verdicts.{IsVerified, IsTestable}
-
-pub verified_testable : (s : Section) → IsVerified s → IsTestable s.0
-verified_testable s (inl h) = inl h.0
-verified_testable s (inr h) = inr h.0

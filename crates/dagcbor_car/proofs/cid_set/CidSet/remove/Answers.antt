@@ -1,5 +1,0 @@
-use Rattle.dagcbor_car.proofs.Members.{cid_removed}
-use Rattle.dagcbor_car.proofs.cid_set.CidSet.remove.Goals as goal
-
-pub returns : goal.returns
-returns c = cid_removed c.args.cid.now c.args.self.now record { cids = c.remove.new.self } c.remove.ensures.updates.0

@@ -1,8 +1,0 @@
-use Rattle.std.proofs.Common.{◌∙◌, option_map}
-use Rattle.dagcbor_car.proofs.Reaching.{visited, is_there_now}
-use Rattle.dagcbor_car.proofs.reach.Walk.visit.Goals as goal
-
-pub returns : goal.returns
-returns c =
-    visited c.args.name (option_map (λ b. b.now) c.args.stored) c.args.self.now c.see.new.self c.sort_out.new.self c.push_all.new.list c.in_ok-links.links.items c.push_all.result c.deref.result.now c.is_some.result
-    c.in_ok-links.ensures c.in_ok-see.ensures (is_there_now (λ b. b.now) c.args.stored c.is_some.result c.is_some.ensures) c.in_ok-sort_out.ensures (c.deref.ensures.value ∙ c.reverse.ensures.items) c.push_all.ensures

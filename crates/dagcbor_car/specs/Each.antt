@@ -1,0 +1,64 @@
+-- The sections of a file, one by one, for whatever takes them.
+use Rattle.std.specs.Prelude.{◌≡◌, ◌⊎◌, ℕ, ◌-◌, ◌^◌, List, [], ◌∷◌, length, Bool, Option, Result, Ok, Err, MatchBool, MatchResult}
+use Rattle.dagcbor_heads.specs.Reading.{Reading}
+use Rattle.dagcbor_car.specs.Car.{Section}
+use Rattle.dagcbor_car.specs.Extents.{of_file, EndsThere}
+use Rattle.dagcbor_car.specs.Sources.{CarRefuses, RefusesNext, TakesSectionBytes, LacksMemoryIf, SectionLacks}
+use Rattle.dagcbor_car.specs.declared.error.CarError.{CarError}
+use Rattle.dagcbor_car.specs.declared.error.CarError.TheVariants.{OutOfMemory}
+use Rattle.dagcbor_car.specs.declared.each.ReadCarError.{ReadCarError}
+use Rattle.dagcbor_car.specs.declared.each.ReadCarError.TheVariants as stop
+
+-- what taking a section does to a sink, and answers
+abbrev pub Takes : Type 0 → Type 0 → Type 1
+Takes S Stop = Section → S → Result (Unit {0}) Stop → S → Type 0
+
+-- the sections stood one behind the other, and the sink took each
+abbrev pub TakesEach : {S Stop : Type 0} → Takes S Stop → Option ℕ → Reading → S → List Section
+    → Option ℕ → Reading → S → Type 0
+TakesEach takes extent source old [] more behind new =
+    (more ≡ extent) × (behind ≡ source) × (new ≡ old)
+TakesEach {S} takes extent source old (s ∷ ss) more behind new = (rest : Option ℕ) × (mid : Reading)
+    × (it : S) × TakesSectionBytes extent source s rest mid × takes s old (Ok tt) it
+    × TakesEach takes rest mid it ss more behind new
+
+-- no section stands next, though bytes do, or are wanting; memory is wanted only for one
+abbrev pub NoneNext : {E : Type 0} → Option ℕ → Reading → CarError E → Reading → Type 0
+NoneNext extent source e behind = CarRefuses (RefusesNext extent) source e behind
+    × LacksMemoryIf {T = Unit {0}} (SectionLacks (of_file extent source)) (Err e)
+
+-- why no section more is taken, behind so many: none stands next; or it stands there, and the sink
+-- refused it
+abbrev pub StopsEach : {S Stop E : Type 0} → Takes S Stop → ℕ → Option ℕ → Reading → S
+    → ReadCarError E Stop → Option ℕ → Reading → S → Type 0
+StopsEach takes count extent source old (stop.Header e) more behind new = ⊥
+StopsEach takes count extent source old (stop.Section n e) more behind new =
+    (n ≡ count) × NoneNext extent source e behind × (new ≡ old)
+StopsEach takes count extent source old (stop.Block n name why) more behind new = (s : Section)
+    × (n ≡ count) × TakesSectionBytes extent source s more behind × (name ≡ s.0) × takes s old (Err why) new
+
+-- the next section is taken; or it is the end; or none is taken
+abbrev pub TakesNext : {S Stop E : Type 0} → Takes S Stop → ℕ → Option ℕ → Reading → S
+    → Result Bool (ReadCarError E Stop) → Option ℕ → Reading → S → Type 0
+TakesNext takes count extent source old result more behind new = MatchResult result
+    (λ goes. MatchBool goes
+    ((s : Section) × TakesSectionBytes extent source s more behind × takes s old (Ok tt) new)
+    (EndsThere extent source more behind × (new ≡ old)))
+    (λ e. StopsEach takes count extent source old e more behind new)
+
+-- the call gives up behind so many sections
+abbrev pub AreTooMany : {E Stop : Type 0} → List Section → ReadCarError E Stop → Type 0
+AreTooMany sections e = (e ≡ stop.Section (length sections) OutOfMemory) × (length sections ≡ 2 ^ 64 - 1)
+
+-- All sections up to the end are taken, so many; or some, behind which there is a cause, which tells
+-- how many.
+abbrev pub RunsEach : {S Stop E : Type 0} → Takes S Stop → Option ℕ → Reading → S
+    → Result ℕ (ReadCarError E Stop) → Option ℕ → Reading → S → Type 0
+RunsEach {S} takes extent source old result more behind new = MatchResult result
+    (λ count. (ss : List Section) × (rest : Option ℕ) × (mid : Reading)
+    × TakesEach takes extent source old ss rest mid new × (count ≡ length ss)
+    × EndsThere rest mid more behind)
+    (λ e. (ss : List Section) × (rest : Option ℕ) × (mid : Reading) × (it : S)
+    × TakesEach takes extent source old ss rest mid it
+    × (StopsEach takes (length ss) rest mid it e more behind new
+    ⊎ ((behind ≡ mid) × (new ≡ it) × AreTooMany ss e)))

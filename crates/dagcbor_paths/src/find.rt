@@ -1,0 +1,146 @@
+//! What a path leads to in a block.
+
+ghost use Rattle.std.specs.Prelude.{◌≡◌, ◌≢◌, Some, IfOk, IfErr};
+ghost use Rattle.dagcbor_heads.specs.declared.error.DecodeError.TheVariants.{OutOfMemory};
+ghost use Rattle.ipld_tree.specs.Tree.{Tree};
+ghost use Rattle.dagcbor_items.specs.Slices.{IsBlock, SliceRefused};
+ghost use Rattle.dagcbor_paths.specs.Paths.{segments};
+ghost use Rattle.dagcbor_paths.specs.Parts.{EndsWith};
+ghost use Rattle.dagcbor_paths.specs.Finding.{Follows, TellsItem, TellsLink, TellsEnd};
+ghost use Rattle.dagcbor_paths.specs.Finding.{FindsItemIn, IsFoundIn};
+
+use crate::parts::part_at;
+use crate::segments::next_segment;
+use crate::skip::behind_item;
+use dagcbor_heads::{DecodeError, SliceReader};
+use dagcbor_items::{Kind, check_slice, kind_at, pull_link};
+use ipld_tree::Cid;
+use std::convert::Infallible;
+
+/// An item of a block.
+#[derive(Clone, Copy, Debug)]
+pub struct Item<'b> {
+    pub kind: Kind,
+    /// Where it begins in the block.
+    pub place: usize,
+    /// Its bytes, which are a block.
+    pub bytes: &'b [u8],
+}
+
+/// How far a path leads in a block.
+#[derive(Debug, Drop)]
+pub enum Found<'b, 'p> {
+    /// All of it: to this item.
+    Item(Item<'b>),
+    /// To this link, at which this path is left.
+    Link(Cid, &'p str),
+    /// To an item that is no link, from which the first segment of this path leads nowhere.
+    Nothing(&'p str),
+}
+
+/// As far as the path leads from the item at the front: the bytes that begin there, and the path that
+/// is left.
+fn follow<'b, 'p>(bytes: &'b [u8], path: &'p str) -> (&'b [u8], &'p str)
+    ensures led { Follows bytes.now (segments path.now) result.0.now (segments result.1.now) }
+    ensures within { EndsWith bytes.now result.0.now }
+{
+    let mut at = bytes;
+    let mut left = path;
+    while let Some((segment, more)) = next_segment(left) {
+        let Some(part) = part_at(at, segment) else {
+            return (at, left);
+        };
+        at = part;
+        left = more;
+    }
+    (at, left)
+}
+
+/// The item at the front of these last bytes of the block.
+fn item_in<'b>(block: &[u8], at: &'b [u8]) -> Option<Item<'b>>
+    requires { EndsWith block.now at.now }
+    ensures { TellsItem block.now at.now result }
+{
+    let rest = behind_item(at)?;
+    let first = *at.first()?;
+    Some(Item {
+        kind: kind_at(first),
+        place: block.len() - at.len(),
+        bytes: &at[..at.len() - rest.len()],
+    })
+}
+
+/// The link at the front.
+fn first_link(bytes: &[u8]) -> Option<Cid>
+    ensures { TellsLink bytes.now result }
+{
+    let cid = pull_link(&mut SliceReader::new(bytes)).ok()?;
+    // What is known of a CID comes with its version.
+    let _version = cid.version();
+    Some(cid)
+}
+
+/// What the block has at these last bytes of it, where a walk ended with this path left.
+fn found_at<'b, 'p>(block: &[u8], at: &'b [u8], left: &'p str) -> Found<'b, 'p>
+    requires { EndsWith block.now at.now }
+    ensures { TellsEnd block.now at.now (segments left.now) result }
+{
+    if let Some((_segment, _more)) = next_segment(left) {
+        return match first_link(at) {
+            Some(cid) => Found::Link(cid, left),
+            None => Found::Nothing(left),
+        };
+    }
+    match item_in(block, at) {
+        Some(item) => Found::Item(item),
+        None => Found::Nothing(left),
+    }
+}
+
+/// How far the path leads in bytes of which `check_slice` said that they are a block. No memory is
+/// taken.
+pub fn find_judged<'b, 'p>(block: &'b [u8], path: &'p str) -> Found<'b, 'p>
+    requires { (t : Tree) × IsBlock block.now t }
+    ensures { IsFoundIn block.now (segments path.now) result }
+{
+    let (at, left) = follow(block, path);
+    found_at(block, at, left)
+}
+
+/// How far the path leads in the block, which is judged whole. No memory is taken.
+pub fn find_in_block<'b, 'p>(
+    block: &'b [u8],
+    path: &'p str,
+) -> Result<Found<'b, 'p>, DecodeError<Infallible>>
+    ensures found { IfOk result (IsFoundIn block.now (segments path.now)) }
+    ensures refused { IfErr result (λ e. SliceRefused e block.now) }
+    ensures memory { IfErr result (λ e. e ≢ OutOfMemory) }
+{
+    check_slice(block)?;
+    Ok(find_judged(block, path))
+}
+
+/// The item of the block to which the path leads, if it leads to one; a link is an item, and nothing
+/// is in it. The block is judged whole, and no memory is taken.
+///
+/// ```rust
+/// let Some(item) = find_slice(b"\xa1\x61a\x82\x01\x17", "a/1")? else {
+///     return Err(Fail::new("nothing"));
+/// };
+/// agree((item.kind, item.place, item.bytes), (Kind::Integer, 5, b"\x17"))
+/// ```
+pub fn find_slice<'b>(
+    block: &'b [u8],
+    path: &str,
+) -> Result<Option<Item<'b>>, DecodeError<Infallible>>
+    ensures found { IfOk result (FindsItemIn block.now (segments path.now)) }
+    ensures refused { IfErr result (λ e. SliceRefused e block.now) }
+    ensures memory { IfErr result (λ e. e ≢ OutOfMemory) }
+{
+    check_slice(block)?;
+    let (at, left) = follow(block, path);
+    match next_segment(left) {
+        Some(_) => Ok(None),
+        None => Ok(item_in(block, at)),
+    }
+}

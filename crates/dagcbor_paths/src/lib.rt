@@ -1,0 +1,10 @@
+//! Paths in data: what stands in a block under `a/0/b`.
+#![tactic(auto)]
+
+mod find;
+mod parts;
+mod segments;
+mod skip;
+
+pub use find::{Found, Item, find_in_block, find_judged, find_slice};
+pub use segments::next_segment;

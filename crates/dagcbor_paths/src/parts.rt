@@ -1,0 +1,79 @@
+//! One segment of a path: the part of an item to which it leads.
+
+ghost use Rattle.std.specs.Prelude.{◌≡◌, ◌↔◌, ◌≤◌, ◌<◌, ◌^◌, length, IsTrue, List, ℕ, MatchOption, IfSome};
+ghost use Rattle.ipld_tree.specs.Key.{comes_before};
+ghost use Rattle.ipld_tree.specs.Tree.{text};
+ghost use Rattle.ipld_tree.specs.Spelling.{IsFront};
+ghost use Rattle.dagcbor_paths.specs.Parts.{EndsWith, FindsItem, FindsValue, FindsPart};
+
+use crate::segments::index_of;
+use crate::skip::{behind_item, behind_items};
+use dagcbor_heads::split_head;
+
+/// The item of the index of so many that begin here.
+fn item_at(bytes: &[u8], count: u64, index: u64) -> Option<&[u8]>
+    ensures found { FindsItem (λ s. s.now) bytes.now count index result }
+    ensures within { IfSome result (λ s. EndsWith bytes.now s.now) }
+{
+    if index >= count {
+        return None;
+    }
+    behind_items(bytes, index)
+}
+
+/// The key at the front, and the bytes behind it.
+fn split_key(bytes: &[u8]) -> Option<(&[u8], &[u8])>
+    ensures key { (key : List ℕ) (rest : List ℕ) → IsFront bytes.now (text key) rest →
+        MatchOption result ⊥ (λ p. (p.0.now ≡ key) × (p.1.now ≡ rest)) }
+    ensures within { IfSome result (λ p. EndsWith bytes.now p.1.now) }
+{
+    let (_major, count, behind) = split_head(bytes)?;
+    if (behind.len() as u64) < count {
+        return None;
+    }
+    Some(behind.split_at(count as usize))
+}
+
+/// Whether a key comes before another in a map.
+fn comes_before(key: &[u8], other: &[u8]) -> bool
+    ensures { result ≡ comes_before key.now other.now }
+{
+    if key.len() != other.len() {
+        return key.len() < other.len();
+    }
+    key.cmp(other).is_lt()
+}
+
+/// The value of the key in so many entries that begin here, which are in the order of their keys.
+fn value_of<'b>(bytes: &'b [u8], count: u64, key: &[u8]) -> Option<&'b [u8]>
+    ensures found { FindsValue (λ s. s.now) bytes.now count key.now result }
+    ensures within { IfSome result (λ s. EndsWith bytes.now s.now) }
+{
+    let mut rest = bytes;
+    let mut more = count;
+    while more > 0 {
+        let (next, value) = split_key(rest)?;
+        if next == key {
+            return Some(value);
+        }
+        if comes_before(key, next) {
+            return None;
+        }
+        rest = behind_item(value)?;
+        more -= 1;
+    }
+    None
+}
+
+/// The part of the item at the front to which the segment leads.
+pub(crate) fn part_at<'b>(bytes: &'b [u8], segment: &str) -> Option<&'b [u8]>
+    ensures found { FindsPart (λ s. s.now) bytes.now segment.now result }
+    ensures within { IfSome result (λ s. EndsWith bytes.now s.now) }
+{
+    let (major, count, behind) = split_head(bytes)?;
+    match major {
+        4 => item_at(behind, count, index_of(segment)?),
+        5 => value_of(behind, count, segment.as_bytes()),
+        _ => None,
+    }
+}

@@ -1,0 +1,41 @@
+//! The segments of a path.
+
+ghost use Rattle.std.specs.Prelude.{◌≡◌, [], ◌∷◌, ℕ, ◌^◌, ◌<◌, MatchOption};
+ghost use Rattle.std.specs.Fmt.{decimal};
+ghost use Rattle.dagcbor_paths.specs.Paths.{segments};
+
+/// The first segment of a path, and the path behind it. Segments stand between slashes; what is
+/// empty there is none. Nothing is escaped, so no segment has a slash.
+pub fn next_segment(path: &str) -> Option<(&str, &str)>
+    ensures { MatchOption result (segments path.now ≡ [])
+        (λ p. segments path.now ≡ p.0.now ∷ segments p.1.now) }
+{
+    let mut left = path;
+    while let Some((segment, more)) = left.split_once('/') {
+        if !segment.is_empty() {
+            return Some((segment, more));
+        }
+        left = more;
+    }
+    if left.is_empty() {
+        None
+    } else {
+        Some((left, ""))
+    }
+}
+
+/// The index that the segment is in decimal, without a sign and without zeros in front.
+pub(crate) fn index_of(segment: &str) -> Option<u64>
+    ensures { MatchOption result ((n : ℕ) → n < 2 ^ 64 → ¬ (segment.now ≡ decimal n))
+        (λ n. segment.now ≡ decimal n) }
+{
+    let digits = segment.as_bytes();
+    let first = *digits.first()?;
+    if first == b'+' {
+        return None;
+    }
+    if first == b'0' && digits.len() > 1 {
+        return None;
+    }
+    segment.parse::<u64>().ok()
+}

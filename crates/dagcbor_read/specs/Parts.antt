@@ -1,0 +1,233 @@
+-- What reading a value answers beside the law of its type, and how a call that reads a part hands
+-- that on.
+use Rattle.std.specs.Prelude.{◌≡◌, ◌⊎◌, ℕ, ◌+◌, Bool, true, false, List, ◌++◌, Option, Some, Result, Ok, Err, IfErr, IfSome, MatchResult, codes, ⊤}
+use Rattle.dagcbor_heads.specs.Reading.{Reading, with_steps}
+use Rattle.dagcbor_heads.specs.Names.{Names}
+use Rattle.dagcbor_heads.specs.declared.error.DecodeError.{DecodeError}
+use Rattle.dagcbor_heads.specs.declared.error.DecodeError.TheVariants.{Msg, Read, RequireBorrowed, OutOfMemory, TrailingData}
+use Rattle.dagcbor_read.specs.Deserializers.{DeState, Call}
+use Rattle.dagcbor_read.specs.Options.{EntersSome, RefusesToEnter}
+use Rattle.dagcbor_read.specs.Enums.{EnumState, SpendsEnum, ReadsName, BeginsHeld}
+use Rattle.dagcbor_read.specs.Accessors.{AccessorState, BeginsItems, KeepsKey, EndsItems}
+
+-- ---- what types answer
+
+-- One call reads the value, which looks at the bytes so, and answers these refusals.
+abbrev pub ReadsOnce : {T E : Type 0} → (Reading → Result T (DecodeError E) → Reading → Type 0)
+    → (Reading → Result T (DecodeError E) → Reading → Type 0) → (DecodeError E → Type 0) → DeState
+    → Result T (DecodeError E) → DeState → Type 0
+ReadsOnce reads looks of old result new = Call reads old result new
+    × looks old.input result new.input × IfErr result of
+
+-- What another type answers, whose value is held.
+abbrev pub ReadsAs : {A T E : Type 0} → (A → T)
+    → (DeState → Result T (DecodeError E) → DeState → Type 0) → DeState
+    → Result A (DecodeError E) → DeState → Type 0
+ReadsAs held answers old result new = MatchResult result
+    (λ a. answers old (Ok (held a)) new)
+    (λ e. answers old (Err e) new)
+
+-- The same; or it was read, and there is no memory to hold it.
+abbrev pub ReadsInMemory : {A T E : Type 0} → (A → T)
+    → (DeState → Result T (DecodeError E) → DeState → Type 0) → DeState
+    → Result A (DecodeError E) → DeState → Type 0
+ReadsInMemory {A} {T} held answers old result new = ReadsAs held answers old result new
+    ⊎ ((result ≡ Err OutOfMemory) × ((v : T) × answers old (Ok v) new))
+
+-- a wish for a loan, under this name
+abbrev pub WantsLoan : {E : Type 0} → List ℕ → DecodeError E → Type 0
+WantsLoan text (RequireBorrowed name) = Names name text
+WantsLoan text _ = ⊥
+
+-- What another type answers, where it is lent; or it is not, and the wish for a loan leaves all as
+-- it is then.
+abbrev pub ReadsLent : {A T X E : Type 0} → (A → X) → (T → X) → (T → Type 0) → List ℕ
+    → (DeState → Result T (DecodeError E) → DeState → Type 0) → DeState
+    → Result A (DecodeError E) → DeState → Type 0
+ReadsLent {A} {T} seen shown is_lent text answers old result new = MatchResult result
+    (λ a. (v : T) × is_lent v × (shown v ≡ seen a) × answers old (Ok v) new)
+    (λ e. answers old (Err e) new
+    ⊎ (WantsLoan text e × ((v : T) × (¬ is_lent v) × answers old (Ok v) new)))
+
+-- ---- how a part is handed on
+
+-- The part was refused as its type says, and from then on the whole has failed.
+abbrev pub IsPartsRefusal : {T E : Type 0} → (DeState → Result T (DecodeError E) → DeState → Type 0)
+    → DeState → DecodeError E → DeState → Type 0
+IsPartsRefusal answers old e new = (mid : DeState) × answers old (Err e) mid
+    × (new ≡ record mid { failed = true })
+
+-- the part's answer, on what had not failed
+abbrev pub HandsOn : {T E : Type 0} → (DeState → Result T (DecodeError E) → DeState → Type 0)
+    → DeState → Result T (DecodeError E) → DeState → Type 0
+HandsOn answers old result new = old.failed ≡ false → MatchResult result
+    (λ v. answers old (Ok v) new)
+    (λ e. IsPartsRefusal answers old e new)
+
+-- the same where there is a part
+abbrev pub HandsSomeOn : {T E : Type 0} → (DeState → Result T (DecodeError E) → DeState → Type 0)
+    → DeState → Result (Option T) (DecodeError E) → DeState → Type 0
+HandsSomeOn answers old result new = old.failed ≡ false → MatchResult result
+    (λ o. IfSome o (λ v. answers old (Ok v) new))
+    (λ e. IsPartsRefusal answers old e new)
+
+-- the part's own answer, whose value fills a place
+abbrev pub FillsAs : {T E : Type 0} → (DeState → Result T (DecodeError E) → DeState → Type 0)
+    → Option T → DeState → Result (Unit {0}) (DecodeError E) → DeState → Type 0
+FillsAs answers place old result new = MatchResult result
+    (λ _. IfSome place (λ v. answers old (Ok v) new))
+    (λ e. answers old (Err e) new)
+
+-- a step was spent on a value that may be null, and is none
+abbrev pub EntersPart : DeState → DeState → Type 0
+EntersPart old mid = EntersSome old.input mid.input × (mid.failed ≡ false)
+
+-- so many steps were given back
+abbrev pub GivesBack : ℕ → DeState → DeState → Type 0
+GivesBack steps now new = (new.failed ≡ now.failed)
+    × (new.input ≡ with_steps (now.input.steps + steps) now.input)
+
+-- The part's answer behind the step; or it was not come to.
+abbrev pub HandsOptionOn : {T E : Type 0} → (DeState → Result T (DecodeError E) → DeState → Type 0)
+    → DeState → Result (Option T) (DecodeError E) → DeState → Type 0
+HandsOptionOn answers old result new = old.failed ≡ false → MatchResult result
+    (λ o. IfSome o (λ v. (mid now : DeState) × EntersPart old mid × answers mid (Ok v) now × GivesBack 1 now new))
+    (λ e. RefusesToEnter old.input e new.input
+    ⊎ ((mid : DeState) × EntersPart old mid × IsPartsRefusal answers mid e new))
+
+-- What a variant holds, whose steps are given back, where the enum has the form of a map.
+abbrev pub HandsHeldOn : {T E : Type 0} → (DeState → Result T (DecodeError E) → DeState → Type 0)
+    → EnumState → DeState → Result T (DecodeError E) → DeState → Type 0
+HandsHeldOn answers e old result new = old.failed ≡ false → e.in_map ≡ true → MatchResult result
+    (λ v. (now : DeState) × answers old (Ok v) now × GivesBack e.steps now new)
+    (λ r. IsPartsRefusal answers old r new)
+
+-- a fault
+abbrev pub IsFault : {E : Type 0} → DecodeError E → Type 0
+IsFault (Read e) = ⊤
+IsFault _ = ⊥
+
+-- bytes behind the value, or a fault
+abbrev pub IsNoEnd : {E : Type 0} → DecodeError E → Type 0
+IsNoEnd TrailingData = ⊤
+IsNoEnd e = IsFault e
+
+-- nothing was read so far
+pub record IsStart (bytes : Option (List ℕ)) (budget : ℕ) (are_lent : Bool) (start : DeState) : Type 0 where
+  pub sound : start.failed ≡ false
+  pub left : start.input.left ≡ bytes
+  pub steps : start.input.steps ≡ budget
+  pub lends : start.input.lends ≡ are_lent
+
+-- The value's answer from a start on these bytes, with so many steps; or it was read, and then the
+-- end was not found.
+abbrev pub HandsWholeOn : {T E : Type 0} → (DeState → Result T (DecodeError E) → DeState → Type 0)
+    → Option (List ℕ) → ℕ → Bool → Result T (DecodeError E) → Type 0
+HandsWholeOn {T} answers left steps lends result = (start now : DeState)
+    × IsStart left steps lends start × MatchResult result
+    (λ v. answers start (Ok v) now)
+    (λ e. answers start (Err e) now ⊎ (IsNoEnd e × ((v : T) × answers start (Ok v) now)))
+
+-- The same of the first value, behind which no end is looked for.
+abbrev pub HandsFirstOn : {T E : Type 0} → (DeState → Result T (DecodeError E) → DeState → Type 0)
+    → Option (List ℕ) → ℕ → Bool → Result T (DecodeError E) → Type 0
+HandsFirstOn answers left steps lends result = (start now : DeState)
+    × IsStart left steps lends start × answers start result now
+
+-- ---- how a part of many is handed on
+
+-- bytes that are known were read on, and nothing has failed
+pub record IsFurther (old now : DeState) : Type 0 where
+  pub sound : now.failed ≡ false
+  pub passed : (b : List ℕ) → old.input.left ≡ Some b
+      → (front rest : List ℕ) × (b ≡ front ++ rest) × (now.input.left ≡ Some rest)
+
+-- The refusal came further on.
+abbrev pub RefusesFurther : {E : Type 0} → (DeState → DecodeError E → DeState → Type 0) → DeState
+    → DecodeError E → DeState → Type 0
+RefusesFurther refuses old e new = (now : DeState) × IsFurther old now × refuses now e new
+
+-- The value of one type was refused, or in another way.
+abbrev pub RefusesAsOr : {T E : Type 0} → (DeState → Result T (DecodeError E) → DeState → Type 0)
+    → (DeState → DecodeError E → DeState → Type 0) → DeState → DecodeError E → DeState → Type 0
+RefusesAsOr answers others old e new = answers old (Err e) new ⊎ others old e new
+
+-- The value was refused; or it was read, and there is no memory to keep it.
+abbrev pub RefusesToKeep : {T E : Type 0} → (DeState → Result T (DecodeError E) → DeState → Type 0)
+    → DeState → DecodeError E → DeState → Type 0
+RefusesToKeep {T} answers old e new = answers old (Err e) new
+    ⊎ ((e ≡ OutOfMemory) × ((v : T) × answers old (Ok v) new))
+
+-- a key was refused, behind the one before it
+abbrev pub RefusesKeyHere : {E : Type 0} → DeState → DecodeError E → DeState → Type 0
+RefusesKeyHere old e new = (last kept : Option (List ℕ)) × Call (KeepsKey last kept) old (Err e) new
+
+-- an entry was refused: its key, or the value behind it
+abbrev pub RefusesEntry : {E : Type 0} → (DeState → DecodeError E → DeState → Type 0) → DeState
+    → DecodeError E → DeState → Type 0
+RefusesEntry refuses old e new = RefusesKeyHere old e new ⊎ RefusesFurther refuses old e new
+
+-- A map was not begun, under its name; or one of its entries was refused.
+abbrev pub RefusesFieldsAs : {E : Type 0} → (DeState → DecodeError E → DeState → Type 0)
+    → List ℕ → DeState → DecodeError E → DeState → Type 0
+RefusesFieldsAs refuses name old e new = ((new.failed ≡ true) × BeginsItems 5 name 1 old.input (Err e) new.input)
+    ⊎ RefusesFurther (RefusesEntry refuses) old e new
+
+-- a field is missing, once all that is there was read
+abbrev pub IsMissingField : {E : Type 0} → DecodeError E → DeState → Type 0
+IsMissingField (Msg message) new = Names message (codes "missing field") × (new.failed ≡ false)
+IsMissingField _ new = ⊥
+
+-- what is said of a refusal alone, of what had not failed
+abbrev pub IfRefused : {T E : Type 0} → (DeState → DecodeError E → DeState → Type 0) → DeState
+    → Result T (DecodeError E) → DeState → Type 0
+IfRefused refuses old result new = old.failed ≡ false → IfErr result (λ e. refuses old e new)
+
+-- ---- how an item of a list is handed on
+
+-- An item was refused; or it was read, and there is no memory to keep it.
+abbrev pub RefusesItems : {T E : Type 0} → (DeState → Result T (DecodeError E) → DeState → Type 0)
+    → DeState → DecodeError E → DeState → Type 0
+RefusesItems answers = RefusesFurther (λ old e new. IsPartsRefusal answers old e new
+    ⊎ ((e ≡ OutOfMemory) × (new ≡ old)))
+
+-- no item is left for a part
+abbrev pub IsTooFew : {E : Type 0} → DecodeError E → Type 0
+IsTooFew (Msg message) = Names message (codes "Too few elements")
+IsTooFew _ = ⊥
+
+-- The first part was refused, or there is none; or the others were.
+abbrev pub RefusesFirst : {T E : Type 0} → (DeState → Result T (DecodeError E) → DeState → Type 0)
+    → (DeState → DecodeError E → DeState → Type 0) → DeState → DecodeError E → DeState → Type 0
+RefusesFirst answers others old e new = IsPartsRefusal answers old e new
+    ⊎ ((IsTooFew e × (new.failed ≡ false) × (new.input ≡ old.input)) ⊎ RefusesFurther others old e new)
+
+-- items are unread
+abbrev pub RefusesUnread : {E : Type 0} → DeState → DecodeError E → DeState → Type 0
+RefusesUnread old e new = (new.failed ≡ true)
+    × ((c : AccessorState) × EndsItems c old.input (Err e) new.input)
+
+-- The row of items was refused; or some are unread behind it.
+abbrev pub RefusesRest : {E : Type 0} → (DeState → DecodeError E → DeState → Type 0) → DeState
+    → DecodeError E → DeState → Type 0
+RefusesRest refuses old e new = refuses old e new ⊎ RefusesFurther RefusesUnread old e new
+
+-- A list was not begun, under its name; or its row of items was refused, or some are unread.
+abbrev pub RefusesListAs : {E : Type 0} → (DeState → DecodeError E → DeState → Type 0) → List ℕ
+    → DeState → DecodeError E → DeState → Type 0
+RefusesListAs refuses name old e new = ((new.failed ≡ true) × BeginsItems 4 name 1 old.input (Err e) new.input)
+    ⊎ RefusesFurther (RefusesRest refuses) old e new
+
+-- ---- how what a variant holds is handed on
+
+-- The enum was not begun, under its name; or its variant's name was refused, or what is behind that.
+abbrev pub RefusesEnumAs : {E : Type 0} → (DeState → DecodeError E → DeState → Type 0) → List ℕ
+    → DeState → DecodeError E → DeState → Type 0
+RefusesEnumAs refuses name old e new = ((new.failed ≡ true) × SpendsEnum name old.input (Err e) new.input)
+    ⊎ RefusesFurther (λ mid x now. ((now.failed ≡ true) × ReadsName mid.input (Err x) now.input) ⊎ refuses mid x now) old e new
+
+-- The fields that a variant holds were not begun; or one of their entries was refused.
+abbrev pub RefusesHeldFields : {E : Type 0} → (DeState → DecodeError E → DeState → Type 0)
+    → EnumState → DeState → DecodeError E → DeState → Type 0
+RefusesHeldFields refuses variant old e new = ((new.failed ≡ true) × BeginsHeld 5 (codes "map") variant old.input (Err e) new.input)
+    ⊎ RefusesFurther (RefusesEntry refuses) old e new

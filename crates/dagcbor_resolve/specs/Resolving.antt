@@ -1,0 +1,74 @@
+-- Resolving a path over blocks, in whatever they are stored.
+use Rattle.std.specs.Prelude.{◌≡◌, ◌≢◌, ℕ, zero, suc, ◌+◌, ◌-◌, ◌^◌, List, [], length, ⊤, Option, None, Some}
+use Rattle.ipld_tree.specs.Cid.{CidParts, AreCidParts, cid_bytes}
+use Rattle.ipld_tree.specs.Tree.{Tree, link}
+use Rattle.dagcbor_items.specs.Slices.{IsBlock}
+use Rattle.dagcbor_items.specs.TreeKinds.{kind_of}
+use Rattle.dagcbor_paths.specs.Paths.{segments, At}
+use Rattle.dagcbor_paths.specs.Finding.{StandAt, LeadsInto, LeadsNowhere}
+use Rattle.ipld_links.specs.Reaching.{Stored, AreBytesOf}
+use Rattle.ipld_links.specs.Verdicts.{IsVerified, IsDagCbor, IsVerdict}
+use Rattle.ipld_links.specs.declared.verdict.Verdict.{Verdict}
+use Rattle.ipld_links.specs.declared.verdict.Verdict.TheVariants.{Block}
+use Rattle.dagcbor_resolve.specs.declared.resolution.End.{End}
+use Rattle.dagcbor_resolve.specs.declared.resolution.End.TheVariants as ends
+use Rattle.dagcbor_resolve.specs.declared.resolution.Step.{Step}
+use Rattle.dagcbor_resolve.specs.declared.resolution.Step.TheVariants as steps
+use Rattle.dagcbor_resolve.specs.declared.resolution.Resolved.{Resolved}
+
+-- the bytes under the name, which is of DAG-CBOR, are those that it names
+abbrev pub AreNamed : Stored → CidParts → List ℕ → Type 0
+AreNamed stored name b = AreBytesOf stored name b × IsVerified (name, b) × IsDagCbor name
+
+-- In the block under the name, a first part of the path leads to a link to the next one, at which these
+-- segments are left.
+abbrev pub GoesOn : Stored → CidParts → List (List ℕ) → CidParts → List (List ℕ) → Type 0
+GoesOn stored name path next left = AreCidParts next × ((b : List ℕ) × (t : Tree) × AreNamed stored name b
+    × LeadsInto b path left t (link (cid_bytes next)) × (left ≢ []))
+
+-- the verdict is not that the bytes are a block
+abbrev pub IsNoBlock : Verdict → Type 0
+IsNoBlock (Block kind) = ⊥
+IsNoBlock _ = ⊤
+
+-- How the path ends at the block under the name: at an item, which stands there; or at an item that is
+-- no link, from which the next segment leads nowhere; or no bytes are under the name; or they are not
+-- those that it names, or no block.
+abbrev pub EndsAs : Stored → CidParts → List (List ℕ) → End → Type 0
+EndsAs stored name path (ends.Item kind place end) = (b : List ℕ) × (t u : Tree) × AreNamed stored name b
+    × IsBlock b t × At path t u × (kind ≡ kind_of u)
+    × ((part : List ℕ) × IsBlock part u × StandAt b place part × (end ≡ place + length part))
+EndsAs stored name path (ends.NoSuchPath left) = (b : List ℕ) × (t u : Tree) × AreNamed stored name b
+    × LeadsInto b path (segments left.now) t u × LeadsNowhere (segments left.now) u
+    × ((cid : List ℕ) → u ≢ link cid)
+EndsAs stored name path ends.NotHeld = (b : List ℕ) → ¬ AreBytesOf stored name b
+EndsAs stored name path (ends.NoBlock verdict) = (b : List ℕ) × AreBytesOf stored name b
+    × IsVerdict (name, b) verdict × IsNoBlock verdict
+EndsAs stored name path ends.Endless = ⊤
+
+-- From the block under the name, links lead over so many blocks to the one where it ends.
+abbrev pub ResolvesIn : ℕ → Stored → CidParts → List (List ℕ) → Resolved → Type 0
+ResolvesIn zero stored name path r = (r.block ≡ name) × (segments r.path.now ≡ path)
+    × EndsAs stored name path r.end
+ResolvesIn (suc n) stored name path r = (next : CidParts) × (left : List (List ℕ))
+    × GoesOn stored name path next left × ResolvesIn n stored next left r
+
+-- it gives up only behind so many blocks
+abbrev pub IsEndlessAfter : ℕ → End → Type 0
+IsEndlessAfter n ends.Endless = n ≡ 2 ^ 64 - 1
+IsEndlessAfter n _ = ⊤
+
+-- the path is resolved over what is stored
+abbrev pub Resolves : Stored → CidParts → List (List ℕ) → Resolved → Type 0
+Resolves stored root path r = (n : ℕ) × ResolvesIn n stored root path r × IsEndlessAfter n r.end
+
+-- ---- one block
+
+abbrev pub IsStep : Stored → CidParts → List (List ℕ) → Step → Type 0
+IsStep stored name path (steps.Ends end) = EndsAs stored name path end × ((n : ℕ) → IsEndlessAfter n end)
+IsStep stored name path (steps.GoesOn next left) = GoesOn stored name path next (segments left.now)
+
+-- the bytes that are under the name
+abbrev pub FindsBytes : {A : Type 0} → (A → List ℕ) → Stored → CidParts → Option A → Type 0
+FindsBytes bytes_of stored name None = (b : List ℕ) → ¬ AreBytesOf stored name b
+FindsBytes bytes_of stored name (Some a) = AreBytesOf stored name (bytes_of a)

@@ -1,0 +1,7 @@
+//! Resolving a path over blocks: `CID/a/0/b`, in whatever the blocks are stored.
+#![tactic(auto)]
+
+pub mod laws;
+mod resolution;
+
+pub use resolution::{End, Resolved, Step, item_bytes, resolve, resolve_step};

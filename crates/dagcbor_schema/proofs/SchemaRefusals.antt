@@ -1,0 +1,88 @@
+-- What calls answer beside the law, taken from what the calls below them answer.
+use Rattle.std.proofs.Common.{◌≡◌, ℕ, ◌-◌, List, [], false, refl, sym, ap, subst, ◌∙◌, inl, inr, Result, Ok, Err, IsErrAnd, codes}
+use Rattle.dagcbor_heads.specs.Looking.{Looks}
+use Rattle.dagcbor_heads.specs.Names.{Names}
+use Rattle.dagcbor_heads.specs.Reading.{Reading}
+use Rattle.dagcbor_heads.specs.declared.name.Name.{Name}
+use Rattle.dagcbor_heads.specs.declared.error.DecodeError.{DecodeError}
+use Rattle.dagcbor_heads.specs.declared.error.DecodeError.TheVariants.{Msg}
+use Rattle.ipld_tree.specs.Tree.{text}
+use Rattle.ipld_tree.specs.Spelling.{spelling}
+use Rattle.dagcbor_items.specs.AnsweredVariants.{OfText}
+use Rattle.dagcbor_items.specs.LeafReads.{ReadsStr}
+use Rattle.dagcbor_items.specs.Untyped.{TakesItem}
+use Rattle.dagcbor_items.specs.declared.kind.Kind.{Kind}
+use Rattle.dagcbor_read.specs.Accessors.{AccessorState, EndsItems, with_key, with_value}
+use Rattle.dagcbor_read.specs.Deserializers.{DeState, Call}
+use Rattle.dagcbor_read.specs.EnumViews.{EnumShape, part_of}
+use Rattle.dagcbor_read.specs.Parts.{ReadsOnce, IsPartsRefusal, IsFurther}
+use Rattle.dagcbor_read.specs.Values.{ReadsValue}
+use Rattle.dagcbor_read.proofs.Handing.{front_further, further_both}
+use Rattle.dagcbor_read.proofs.Progressing.{call_told}
+use Rattle.dagcbor_schema.specs.declared.by_kind.ByKind.{ByKind}
+use Rattle.dagcbor_schema.specs.SchemaAnswers.{Says, PeeksOnce, AnswersOfKind, AnswersByKind, RefusesNamedKey, RefusesBehindTag, RefusesEnvelope}
+use Rattle.dagcbor_schema.proofs.EnvelopeFronts.{AtFirstKey, AtTold, AtSecondKey, AtHeld}
+
+pub says : {E : Type 0} {e : DecodeError E} {message : List ℕ} → (kept : Name) × (e ≡ Msg kept) × Names kept message → Says message e
+says {E} {e} {message} h = subst (λ (x : DecodeError E). Says message x) (sym h.1) h.2
+
+-- the refusal that `?` hands on
+pub told_as : {T E : Type 0} (Q : DecodeError E → Type 0) (r : Result T (DecodeError E)) (e : DecodeError E) → IsErrAnd r (λ y. y ≡ e) → Q e → IsErrAnd r Q
+told_as Q (Ok x) e h q = absurd h
+told_as Q (Err y) e h q = subst (λ x. Q x) (sym h) q
+
+-- ---- a value that is told by its kind
+
+module _ {E B I T Y L M K : Type 0} (of_bool : DeState → Result B (DecodeError E) → DeState → Type 0) (of_integer : DeState → Result I (DecodeError E) → DeState → Type 0) (of_text : DeState → Result T (DecodeError E) → DeState → Type 0)
+    (of_bytes : DeState → Result Y (DecodeError E) → DeState → Type 0) (of_list : DeState → Result L (DecodeError E) → DeState → Type 0) (of_map : DeState → Result M (DecodeError E) → DeState → Type 0) (of_link : DeState → Result K (DecodeError E) → DeState → Type 0)
+  where
+    -- the type of the kind that was told answered
+    pub kind_answered : (old mid new : DeState) {found kind : Kind} (r : Result (ByKind B I T Y L M K) (DecodeError E)) → found ≡ kind → PeeksOnce {E = E} old (Ok found) mid → AnswersOfKind of_bool of_integer of_text of_bytes of_list of_map of_link kind mid r new
+        → AnswersByKind of_bool of_integer of_text of_bytes of_list of_map of_link old r new
+    kind_answered old mid new {found} {kind} r is p a = inr (kind, mid, subst (λ k. PeeksOnce {E = E} old (Ok k) mid) is p, a)
+
+-- ---- an envelope
+
+-- nothing was taken
+pub stands_further : {old now : DeState} → now.failed ≡ false → now.input ≡ old.input → IsFurther old now
+stands_further {old} {now} sound same = record { sound = sound; passed = λ b l. ([], b, refl, ap (λ (r : Reading). r.left) same ∙ l) }
+
+item_further : {old now : DeState} {key : List ℕ} → now.failed ≡ false → TakesItem 1 old.input (text key) now.input → IsFurther old now
+item_further {old} {now} {key} sound h = record { sound = sound; passed = λ b l. let q = h.taken b l in (spelling (text key), q.0, q.1.is, q.3) }
+
+module _ {V E : Type 0} (tag content : List ℕ) (shape : EnumShape V) (refuses : DeState → DecodeError E → DeState → Type 0) where
+  abbrev Refused : DeState → DecodeError E → DeState → Type 0
+  Refused = RefusesEnvelope tag content refuses
+
+  pub tag_told : {old mid new : DeState} {entries : AccessorState} {e : DecodeError E} → AtFirstKey tag content shape old entries mid → RefusesNamedKey tag entries.last entries.left mid e new → Refused old e new
+  tag_told {old} {mid} {new} {entries} {e} s r = inr (entries.left, mid, s.sound, s.enters, inl (subst (λ l. RefusesNamedKey tag l entries.left mid e new) s.last r))
+
+  behind : {old mid now new : DeState} {before : AccessorState} {e : DecodeError E} → AtFirstKey tag content shape old before mid → IsFurther mid now → RefusesBehindTag tag content (before.left - 1) refuses now e new → Refused old e new
+  behind {old} {mid} {now} {new} {before} {e} s i r = inr (before.left, mid, s.sound, s.enters, inr (now, i, r))
+
+  told_further : {old now : DeState} {entries : AccessorState} (s : AtTold tag content shape old entries now) → IsFurther s.mid now
+  told_further s = item_further s.sound s.key
+
+  second_further : {name : List ℕ} {old now : DeState} {entries : AccessorState} (s : AtSecondKey tag content shape name old entries now) → IsFurther s.begun.mid now
+  second_further s = further_both (told_further s.begun) (front_further s.sound s.told)
+
+  held_further : {name : List ℕ} {old now : DeState} {entries : AccessorState} (s : AtHeld tag content shape name old entries now) → IsFurther s.begun.begun.mid now
+  held_further s = further_both (second_further s.begun) (item_further s.sound s.key)
+
+  pub name_told : {old mid new : DeState} {entries : AccessorState} {e : DecodeError E} → AtTold tag content shape old entries mid → IsPartsRefusal (ReadsOnce (ReadsStr (codes "string")) (Looks 3) OfText) mid e new → Refused old e new
+  name_told s r = behind s.begun (told_further s) (inl r)
+
+  pub content_told : {name : List ℕ} {old mid new : DeState} {entries : AccessorState} {e : DecodeError E} → AtSecondKey tag content shape name old entries mid → RefusesNamedKey content entries.last entries.left mid e new → Refused old e new
+  content_told {name} {old} {mid} {new} {entries} {e} s r =
+      let is : entries ≡ with_value (with_key tag s.begun.before) = s.after ∙ ap with_value s.begun.after in
+      behind s.begun.begun (second_further s) (inr (inl (subst (λ (c : AccessorState). RefusesNamedKey content c.last c.left mid e new) is r)))
+
+  pub held_told : {name : List ℕ} {old mid new : DeState} {entries : AccessorState} {e : DecodeError E} → AtHeld tag content shape name old entries mid → refuses mid e new → Refused old e new
+  held_told s r = behind s.begun.begun.begun (held_further s) (inr (inr (inl r)))
+
+  pub unread_told : {T : Type 0} {name text' : List ℕ} {old mid now new : DeState} {entries : AccessorState} (meaning : T → V) (v : T) (end : AccessorState) (e : DecodeError E) → AtHeld tag content shape name old entries mid
+      → ReadsValue {E = E} meaning (part_of shape text') mid (Ok v) now → Call (EndsItems end) now (Err e) new → Refused old e new
+  unread_told {T} {name} {text'} {old} {mid} {now} {new} {entries} meaning v end e s r h =
+      let k = r s.sound in
+      let q = call_told (EndsItems end) now new (Err e) k.0 h in
+      behind s.begun.begun.begun (further_both (held_further s) (front_further k.0 k.1)) (inr (inr (inr (q.0, (end, q.1)))))

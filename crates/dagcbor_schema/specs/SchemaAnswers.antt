@@ -1,0 +1,122 @@
+-- What reading these answers beside the law: why it is refused, and what stands then.
+use Rattle.std.specs.Prelude.{◌≡◌, ◌≢◌, ◌⊎◌, ◌-◌, ◌<◌, ℕ, true, false, List, Option, None, Some, Result, Ok, Err, IfErr, IsErrAnd, MatchResult, codes}
+use Rattle.std.specs.Cow.{cow_str_bytes}
+use Rattle.std.specs.declared.borrow.CowStr.{CowStr}
+use Rattle.std.specs.declared.alloc.Global.{Global}
+use Rattle.dagcbor_heads.specs.Looking.{Looks, LooksOnce}
+use Rattle.dagcbor_heads.specs.Names.{Names}
+use Rattle.dagcbor_heads.specs.declared.error.DecodeError.{DecodeError}
+use Rattle.dagcbor_heads.specs.declared.error.DecodeError.TheVariants.{Msg}
+use Rattle.dagcbor_items.specs.AnsweredVariants.{OfText, OfKey}
+use Rattle.dagcbor_items.specs.Entering.{Enters}
+use Rattle.dagcbor_items.specs.LeafReads.{ReadsStr}
+use Rattle.dagcbor_items.specs.declared.kind.Kind.{Kind}
+use Rattle.dagcbor_items.specs.declared.kind.Kind.TheVariants as kinds
+use Rattle.dagcbor_read.specs.Accessors.{BeginsItems, ReadsNextKey}
+use Rattle.dagcbor_read.specs.Deserializers.{DeState, Call}
+use Rattle.dagcbor_read.specs.Kinds.{PeeksKind, OfPeek}
+use Rattle.dagcbor_read.specs.Parts.{ReadsOnce, IsPartsRefusal, RefusesFurther, RefusesUnread}
+use Rattle.dagcbor_schema.specs.declared.by_kind.ByKind.{ByKind}
+use Rattle.dagcbor_schema.specs.declared.by_kind.ByKind.TheVariants as told
+
+-- the refusal is this message
+abbrev pub Says : {E : Type 0} → List ℕ → DecodeError E → Type 0
+Says text (Msg message) = Names message text
+Says text _ = ⊥
+
+-- a key that no field has
+abbrev pub IsUnknownField : {E : Type 0} → DeState → DecodeError E → DeState → Type 0
+IsUnknownField old e new = Says (codes "unknown field") e × (new ≡ old)
+
+-- ---- a value that is made of what was read
+
+-- What the parts answer, of which the value is made; or they were read, and make nothing, as this
+-- message says.
+abbrev pub Makes : {A T V E : Type 0} → (T → V) → (A → Option V) → List ℕ
+    → (DeState → Result A (DecodeError E) → DeState → Type 0) → DeState
+    → Result T (DecodeError E) → DeState → Type 0
+Makes {A} meaning made message answers old result new = MatchResult result
+    (λ v. (a : A) × (made a ≡ Some (meaning v)) × answers old (Ok a) new)
+    (λ e. answers old (Err e) new
+    ⊎ (Says message e × ((a : A) × (made a ≡ None) × answers old (Ok a) new)))
+
+-- What another type answers, of whose value this is made.
+abbrev pub ReadsFrom : {A T E : Type 0} → (A → T)
+    → (DeState → Result A (DecodeError E) → DeState → Type 0) → DeState
+    → Result T (DecodeError E) → DeState → Type 0
+ReadsFrom {A} make answers old result new = MatchResult result
+    (λ v. (a : A) × (v ≡ make a) × answers old (Ok a) new)
+    (λ e. answers old (Err e) new)
+
+-- ---- a value that is told by its kind
+
+-- the kind is told by one look
+abbrev pub PeeksOnce : {E : Type 0} → DeState → Result Kind (DecodeError E) → DeState → Type 0
+PeeksOnce = ReadsOnce PeeksKind (λ old result new. LooksOnce old new) OfPeek
+
+-- null tells nothing
+abbrev pub TellsNothing : {T E : Type 0} → DeState → Result T (DecodeError E) → DeState → Type 0
+TellsNothing old result new = IsErrAnd result (Says (codes "unknown kind")) × (new ≡ old)
+
+module _ {E B I T Y L M K : Type 0} (of_bool : DeState → Result B (DecodeError E) → DeState → Type 0) (of_integer : DeState → Result I (DecodeError E) → DeState → Type 0) (of_text : DeState → Result T (DecodeError E) → DeState → Type 0)
+    (of_bytes : DeState → Result Y (DecodeError E) → DeState → Type 0) (of_list : DeState → Result L (DecodeError E) → DeState → Type 0) (of_map : DeState → Result M (DecodeError E) → DeState → Type 0) (of_link : DeState → Result K (DecodeError E) → DeState → Type 0)
+  where
+    -- what the type of each kind answers
+    abbrev pub AnswersOfKind : Kind → DeState → Result (ByKind B I T Y L M K) (DecodeError E) → DeState → Type 0
+    AnswersOfKind kinds.Null = TellsNothing
+    AnswersOfKind kinds.Bool = ReadsFrom (λ x. told.Bool x) of_bool
+    AnswersOfKind kinds.Integer = ReadsFrom (λ x. told.Integer x) of_integer
+    AnswersOfKind kinds.String = ReadsFrom (λ x. told.Text x) of_text
+    AnswersOfKind kinds.Bytes = ReadsFrom (λ x. told.Bytes x) of_bytes
+    AnswersOfKind kinds.List = ReadsFrom (λ x. told.List x) of_list
+    AnswersOfKind kinds.Map = ReadsFrom (λ x. told.Map x) of_map
+    AnswersOfKind kinds.Link = ReadsFrom (λ x. told.Link x) of_link
+
+    -- No kind was told; or the type of the kind answers behind the look.
+    abbrev pub AnswersByKind : DeState → Result (ByKind B I T Y L M K) (DecodeError E) → DeState → Type 0
+    AnswersByKind old result new = IsErrAnd result (λ e. PeeksOnce old (Err e) new)
+        ⊎ ((kind : Kind) × (mid : DeState) × PeeksOnce {E = E} old (Ok kind) mid × AnswersOfKind kind mid result new)
+
+-- ---- a key that is known beforehand
+
+-- a key is read, where so many are left, with bounded looks
+abbrev pub ReadsKeyOnce : {E : Type 0} → Option (List ℕ) → ℕ → DeState
+    → Result (Option (CowStr Global)) (DecodeError E) → DeState → Type 0
+ReadsKeyOnce last left old result new = Call (ReadsNextKey last left) old result new
+    × (0 < left → Looks 3 old.input result new.input) × IfErr result OfKey
+
+-- no key is left, or it is another
+abbrev pub IsOtherKey : {E : Type 0} → List ℕ → Option (CowStr Global) → DecodeError E → Type 0
+IsOtherKey name None e = Says (codes "missing field") e
+IsOtherKey name (Some key) e = Says (codes "unknown field") e × (cow_str_bytes key ≢ name)
+
+-- The key behind the last one was refused, where so many are left; or it was read, and is another.
+abbrev pub RefusesNamedKey : {E : Type 0} → List ℕ → Option (List ℕ) → ℕ → DeState → DecodeError E
+    → DeState → Type 0
+RefusesNamedKey {E} name last left old e new = ReadsKeyOnce last left old (Err e) new
+    ⊎ ((key : Option (CowStr Global)) × ReadsKeyOnce {E = E} last left old (Ok key) new × IsOtherKey name key e)
+
+-- Behind the tag's key its text was refused, or the content's key, or what the content holds, or
+-- entries are unread.
+abbrev pub RefusesBehindTag : {E : Type 0} → (tag content : List ℕ) → ℕ
+    → (DeState → DecodeError E → DeState → Type 0) → DeState → DecodeError E → DeState → Type 0
+RefusesBehindTag tag content left refuses old e new =
+    IsPartsRefusal (ReadsOnce (ReadsStr (codes "string")) (Looks 3) OfText) old e new
+    ⊎ (RefusesNamedKey content (Some tag) left old e new ⊎ (refuses old e new ⊎ RefusesUnread old e new))
+
+-- The map was not begun; or the first of its keys was refused, or is not the tag's; or what is
+-- behind that was.
+abbrev pub RefusesEnvelope : {E : Type 0} → (tag content : List ℕ)
+    → (DeState → DecodeError E → DeState → Type 0) → DeState → DecodeError E → DeState → Type 0
+RefusesEnvelope tag content refuses old e new =
+    ((new.failed ≡ true) × BeginsItems 5 (codes "map") 1 old.input (Err e) new.input)
+    ⊎ ((count : ℕ) × (mid : DeState) × (mid.failed ≡ false) × Enters 5 count old.input mid.input
+    × (RefusesNamedKey tag None count mid e new ⊎ RefusesFurther (RefusesBehindTag tag content (count - 1) refuses) mid e new))
+
+-- ---- a part that a list may lack
+
+-- The part was refused, or those behind it.
+abbrev pub RefusesOptional : {T E : Type 0}
+    → (DeState → Result T (DecodeError E) → DeState → Type 0)
+    → (DeState → DecodeError E → DeState → Type 0) → DeState → DecodeError E → DeState → Type 0
+RefusesOptional answers others old e new = IsPartsRefusal answers old e new ⊎ RefusesFurther others old e new

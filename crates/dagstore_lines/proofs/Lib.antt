@@ -1,0 +1,6 @@
+pub mod Sending
+pub mod Telling
+pub mod Missing
+pub mod Importing
+pub mod Removing
+pub mod Exporting

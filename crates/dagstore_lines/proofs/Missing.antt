@@ -1,0 +1,176 @@
+-- Links in a store that lead to nothing.
+use Rattle.std.proofs.Common.{◌≡◌, ◌⊎◌, inl, inr, ℕ, List, [], ◌∷◌, ◌++◌, Bool, true, false, refl, sym, subst, ◌↔◌, Option, None, Some, BTreeSet, Vec, Global, Result, Ok, Err, IfOk, OnOk}
+use Rattle.std.specs.List.Sorted.{IsStrictlySortedBy}
+use Rattle.sqlite_trees.specs.Tree.{Trees}
+use Rattle.sqlite_trees.specs.View.{View, IsClean}
+use Rattle.dagcbor_heads.specs.declared.error.DecodeError.{DecodeError}
+use Rattle.dagcbor_heads.specs.declared.error.DecodeError.TheVariants as unread
+use Rattle.std.specs.declared.convert.Infallible.{Infallible}
+use Rattle.ipld_tree.specs.Cid.{CidParts, AreCidParts, cid_bytes, cid_cmp}
+use Rattle.ipld_tree.proofs.Cids.{cid_unique}
+use Rattle.ipld_tree.specs.Tree.{Tree, links_of}
+use Rattle.dagcbor_items.specs.Walks.{forms}
+use Rattle.dagcbor_items.specs.Slices.{IsBlock, SliceRefused}
+use Rattle.dagcbor_items.specs.TreeKinds.{kind_of}
+use Rattle.dagcbor_items.specs.declared.kind.Kind.{Kind}
+use Rattle.ipld_links.specs.Sets.{Among}
+use Rattle.ipld_links.specs.Blocks.{HasBlock}
+use Rattle.ipld_links.specs.Sound.{IsSound}
+use Rattle.ipld_links.specs.Verdicts.{IsDagCbor, IsVerdict}
+use Rattle.ipld_links.specs.declared.verdict.Verdict.{Verdict}
+use Rattle.ipld_links.specs.declared.verdict.Verdict.TheVariants as verdicts
+use Rattle.block_lines.specs.Lines.{told_line}
+use Rattle.ipld_links.specs.Within.{IsReached}
+use Rattle.ipld_links.proofs.Sounding.{no_block}
+use Rattle.ipld_links.proofs.Within.{reached_cid, not_inline}
+use Rattle.ipld_links.proofs.Members.{among_push, push_among, among_map, map_among}
+use Rattle.dagcbor_store.specs.Rows.{name_tree, IsListed, IsStored}
+use Rattle.dagcbor_store.specs.Stored.{IsNamed, IsBehind, IsNext, IsSame, HoldsOnly, IsDamaged, Lists}
+use Rattle.dagcbor_store.specs.Lost.{NamesNone, AddsLost, HoldsNoneSound, IsReachedIn}
+use Rattle.dagcbor_store.proofs.Walking.{holds_same}
+use Rattle.dagstore_lines.specs.Lines.{damaged_line}
+use Rattle.dagstore_lines.specs.Names.{AreAll}
+use Rattle.dagstore_lines.specs.Checks.{IsChecked, IsLinked, ListsMissing, Leads, AddsMissing, IsMissing}
+use Rattle.dagstore_lines.proofs.Telling.{StaysSaid}
+
+-- ---- one name
+
+none_sound_same : (old mid : View) (c : CidParts) → IsSame old mid → HoldsNoneSound mid c → HoldsNoneSound old c
+none_sound_same old mid c same h = subst (λ (t : Trees). IsListed (t name_tree) (cid_bytes c) × ((b : List ℕ) → IsStored t (cid_bytes c) b → IsSound (c, b) → ⊥)) same.trees h
+
+pub checked_stays : StaysSaid IsChecked
+checked_stays old mid now new later same c true t h = (h.0, h.1, h.2, h.3, λ clean. holds_same old mid c h.0 (same clean) (h.4 (later clean)), h.5)
+checked_stays old mid now new later same c false t h = (λ clean. none_sound_same old mid c (same clean) (h.0 (later clean)), h.1)
+
+pub adds_block : (v : View) (c : CidParts) (b : List ℕ) (old new : BTreeSet CidParts) → IsDagCbor c → HoldsOnly v c b → IsNamed c b → AddsLost v b old new → AddsMissing v c old new
+adds_block v c b old new dag only named a q = (
+  λ m. elim ((a q).0 m) [ inl o ↦ inl o | inr u ↦ inr ((dag, (b, only.0, named, u.0)), u.1) ],
+  λ k. elim k [ inl o ↦ (a q).1 (inl o) | inr u ↦ (a q).1 (inr (subst (λ d. IsReachedIn d q) (only.1 u.0.1.0 u.0.1.1) u.0.1.3, u.1)) ],
+)
+
+adds_none : (v : View) (c : CidParts) (s : BTreeSet CidParts) → ((q : CidParts) → Leads v c q → ⊥) → AddsMissing v c s s
+adds_none v c s none q = (λ m. inl m, λ k. elim k [ inl o ↦ o | inr u ↦ absurd (none q u.0) ])
+
+pub adds_unread : (v : View) (c : CidParts) (s : BTreeSet CidParts) → (IsDagCbor c → ⊥) → AddsMissing v c s s
+adds_unread v c s other = adds_none v c s (λ q l. other l.0)
+
+pub adds_damaged : (v : View) (c : CidParts) (s : BTreeSet CidParts) → IsDamaged v c → AddsMissing v c s s
+adds_damaged v c s damaged = adds_none v c s (λ q l. damaged.1 l.1.0 l.1.1 l.1.2)
+
+pub adds_refused : (v : View) (c : CidParts) (b : List ℕ) (e : DecodeError Infallible) (s : BTreeSet CidParts) → HoldsOnly v c b → SliceRefused e b → (e ≡ unread.OutOfMemory → ⊥) → AddsMissing v c s s
+adds_refused v c b e s only refused not = adds_none v c s (λ q l. let k = subst (λ d. IsReachedIn d q) (only.1 l.1.0 l.1.1) l.1.3 in no_block e b refused not k.0 k.1)
+
+pub none_sound_refused : (v : View) (c : CidParts) (b : List ℕ) (e : DecodeError Infallible) → Lists v c → HoldsOnly v c b → IsDagCbor c → SliceRefused e b → (e ≡ unread.OutOfMemory → ⊥) → HoldsNoneSound v c
+none_sound_refused v c b e listed only dag refused not = (listed, λ d s sound. let k = subst HasBlock (only.1 d s) (sound.read dag) in no_block e b refused not k.0 k.1)
+
+pub none_sound_damaged : (v : View) (c : CidParts) → IsDamaged v c → HoldsNoneSound v c
+none_sound_damaged v c h = (h.0, λ b s sound. h.1 b s (sound.by_sha256, sound.digest))
+
+pub adds_same : (old mid : View) (c : CidParts) (s t : BTreeSet CidParts) → IsSame old mid → AddsMissing mid c s t → AddsMissing old c s t
+adds_same old mid c s t same h = subst (λ (u : Trees). (q : CidParts) → Among q t.keys
+    ↔ (Among q s.keys ⊎ ((IsDagCbor c × ((b : List ℕ) × IsStored u (cid_bytes c) b × IsNamed c b × IsReachedIn b q)) × (IsListed (u name_tree) (cid_bytes q) → ⊥)))) same.trees h
+
+-- ---- the line of one name
+
+lists_there : (old mid : View) (c : CidParts) → IsSame old mid → Lists old c → Lists mid c
+lists_there old mid c same h = subst (λ (t : Trees). IsListed (t name_tree) (cid_bytes c)) (sym same.trees) h
+
+holds_there : (old mid : View) (c : CidParts) (b : List ℕ) → IsSame old mid → HoldsOnly old c b → HoldsOnly mid c b
+holds_there old mid c b same h = subst (λ (t : Trees). IsStored t (cid_bytes c) b × ((d : List ℕ) → IsStored t (cid_bytes c) d → d ≡ b)) (sym same.trees) h
+
+checked_line : (old new : View) (c : CidParts) (b text : List ℕ) (verdict : Verdict) (well : Bool) → well ≡ true → text ≡ told_line ((c, b), verdict) → IsSound (c, b) → IsVerdict (c, b) verdict → (IsClean new → HoldsOnly old c b) → IsChecked old new c well text
+checked_line old new c b text verdict well is said sound told holds = subst (λ w. IsChecked old new c w text) (sym is) (b, verdict, sound, told, holds, said)
+
+pub unread_checked : (old new : View) (c : CidParts) (b text : List ℕ) (well : Bool) → well ≡ true → text ≡ told_line ((c, b), verdicts.NotRead) → IsNamed c b → (IsDagCbor c → ⊥) → (IsClean new → HoldsOnly old c b) → IsChecked old new c well text
+unread_checked old new c b text well is said named other holds =
+    checked_line old new c b text verdicts.NotRead well is said (record { by_sha256 = named.0; digest = named.1; read = λ dag. absurd (other dag) }) (inl named, other) holds
+
+pub block_checked : (old new : View) (c : CidParts) (b text : List ℕ) (kind : Kind) (well : Bool) → well ≡ true → text ≡ told_line ((c, b), verdicts.Block kind) → IsNamed c b → IsDagCbor c → (t : Tree) × IsBlock b t × (kind ≡ kind_of t) → (IsClean new → HoldsOnly old c b) → IsChecked old new c well text
+block_checked old new c b text kind well is said named dag k holds =
+    checked_line old new c b text (verdicts.Block kind) well is said (record { by_sha256 = named.0; digest = named.1; read = λ d. (k.0, k.1) }) (inl named, dag, k) holds
+
+pub damaged_checked : (old new : View) (c : CidParts) (text : List ℕ) (well : Bool) → well ≡ false → text ≡ damaged_line c → (IsClean new → HoldsNoneSound old c) → IsChecked old new c well text
+damaged_checked old new c text well is said none = subst (λ w. IsChecked old new c w text) (sym is) (none, said)
+
+pub judged_checked : {E : Type 0} (old mid new : View) (c : CidParts) (b d : List ℕ) (r : Result (Vec ℕ Global × Bool) E) → d ≡ b → IsNamed c b → (IsClean new → IsClean mid) → (IsClean mid → IsSame old mid) → (IsClean mid → HoldsOnly old c b)
+    → IfOk r (λ p. IsNamed c d → (IsClean new → HoldsOnly mid c d × Lists mid c) → IsChecked mid new c p.1 p.0.items) → IfOk r (λ p. (IsClean new → Lists old c) → IsChecked old new c p.1 p.0.items)
+judged_checked old mid new c b d (Err e) is named was same holds h = tt
+judged_checked old mid new c b d (Ok p) is named was same holds h = λ listed.
+    checked_stays old mid new new (λ clean. clean) (λ clean. same (was clean)) c p.1 p.0.items (h (subst (IsNamed c) (sym is) named) (λ clean. (
+      subst (HoldsOnly mid c) (sym is) (holds_there old mid c b (same (was clean)) (holds (was clean))),
+      lists_there old mid c (same (was clean)) (listed clean),
+    )))
+
+pub judged_missing : {X E : Type 0} (old mid new : View) (c : CidParts) (b d : List ℕ) (s t : BTreeSet CidParts) (r : Result X E) → d ≡ b → IsNamed c b → (IsClean new → IsClean mid) → (IsClean mid → IsSame old mid) → (IsClean mid → HoldsOnly old c b)
+    → OnOk r (IsNamed c d → IsClean new → HoldsOnly mid c d → AddsMissing mid c s t) → OnOk r (IsClean new → Lists old c → AddsMissing old c s t)
+judged_missing old mid new c b d s t (Err e) is named was same holds h = tt
+judged_missing old mid new c b d s t (Ok x) is named was same holds h = λ clean listed.
+    adds_same old mid c s t (same (was clean)) (h (subst (IsNamed c) (sym is) named) clean (subst (HoldsOnly mid c) (sym is) (holds_there old mid c b (same (was clean)) (holds (was clean)))))
+
+pub next_missing : (old mid new : View) (last : Option CidParts) (c : CidParts) (s t : BTreeSet CidParts) → (IsClean new → IsClean mid) → (IsClean mid → IsSame old mid) → (IsClean mid → IsNext (old.trees name_tree) last c)
+    → (IsClean new → Lists mid c → AddsMissing mid c s t) → IsClean new → AddsMissing old c s t
+next_missing old mid new last c s t was same next h clean = adds_same old mid c s t (same (was clean)) (h clean (lists_there old mid c (same (was clean)) (next (was clean)).listed))
+
+-- ---- the walk
+
+-- the set has the names that links in the blocks under these lead to which are not listed
+abbrev pub MissingOf : View → List CidParts → BTreeSet CidParts → Type 0
+MissingOf v names s = (q : CidParts) → Among q s.keys ↔ (((c : CidParts) × Among c names × Leads v c q) × (Lists v q → ⊥))
+
+pub missing_none : (v : View) (s : BTreeSet CidParts) → s.keys ≡ [] → MissingOf v [] s
+missing_none v s none q = (λ m. absurd (subst (Among q) none m), λ h. absurd h.0.1)
+
+pub missing_more : (v : View) (names : List CidParts) (c : CidParts) (old new : BTreeSet CidParts) → MissingOf v names old → AddsMissing v c old new → MissingOf v (names ++ c ∷ []) new
+missing_more v names c old new h a q = (
+  λ m. elim ((a q).0 m) [
+    | inl o ↦ let k = (h q).0 o in ((k.0.0, push_among k.0.0 names c (inl k.0.1), k.0.2), k.1)
+    | inr u ↦ ((c, push_among c names c (inr refl), u.0), u.1)
+  ],
+  λ k. elim (among_push k.0.0 names c k.0.1) [
+    | inl m ↦ (a q).1 (inl ((h q).1 ((k.0.0, m, k.0.2), k.1)))
+    | inr e ↦ (a q).1 (inr (subst (λ x. Leads v x q) e k.0.2, k.1))
+  ],
+)
+
+all_valid : (v : View) (last : Option CidParts) (names : List CidParts) (c : CidParts) → AreAll v last names → Among c names → AreCidParts c
+all_valid v last [] c h m = absurd m
+all_valid v last (x ∷ xs) c h (inl e) = subst AreCidParts (sym e) h.0.valid
+all_valid v last (x ∷ xs) c h (inr m) = all_valid v (Some x) xs c h.1 m
+
+-- each name that is listed behind the last one is among them
+all_listed : (v : View) (last : Option CidParts) (names : List CidParts) (q : List ℕ) → AreAll v last names → IsListed (v.trees name_tree) q → IsBehind last q → (c : CidParts) × Among c names × (cid_bytes c ≡ q)
+all_listed v last [] q h l b = absurd (h q l b)
+all_listed v last (x ∷ xs) q h l b = elim (h.0.first q l b) [
+  | inl e ↦ (x, inl refl, sym e)
+  | inr less ↦ let k = all_listed v (Some x) xs q h.1 l less in (k.0, inr k.1, k.2)
+]
+
+pub missing_all : (v : View) (names : List CidParts) (s : BTreeSet CidParts) → AreAll v None names → MissingOf v names s → IsMissing v s
+missing_all v names s all h q = (
+  λ m. let k = (h q).0 m in ((k.0.0, all_valid v None names k.0.0 all k.0.1, k.0.2), k.1),
+  λ k.
+      let stored = k.0.2.1.1 in
+      let at = all_listed v None names (cid_bytes k.0.0) all (stored.id, stored.listed) tt in
+      let is = cid_unique at.0 k.0.0 (all_valid v None names at.0 all at.1) k.0.1 at.2 in
+      (h q).1 ((k.0.0, subst (λ x. Among x names) is at.1, k.0.2), k.1),
+)
+
+pub lists_missing : (v : View) (s : BTreeSet CidParts) → IsStrictlySortedBy cid_cmp s.keys → IsMissing v s → ListsMissing v s.keys
+lists_missing v s sorted h = (sorted, λ form. (there form, back form))
+  where
+    there : (form : List ℕ) → Among form (forms s.keys) → IsLinked form v × NamesNone form v
+    there form m =
+        let k = map_among cid_bytes form s.keys m in
+        let w = (h k.0).0 k.1 in
+        let l = w.0.2.1 in
+        let t = l.3 in
+        subst (λ f. IsLinked f v × NamesNone f v) (sym k.2)
+        ((w.0.0, l.0, t.0, w.0.1, w.0.2.0, l.1, l.2, t.1, t.2.2), (not_inline (cid_bytes k.0) k.0 t.2.0 t.2.1 refl, w.1))
+
+    back : (form : List ℕ) → IsLinked form v × NamesNone form v → Among form (forms s.keys)
+    back form m =
+        let l = m.0 in
+        let c = reached_cid l.2 form l.7.0.well_formed l.8 in
+        let is = subst (λ f. NamesNone f v) c.2 m.1 in
+        let found = (h c.0).1 ((l.0, l.3, (l.4, (l.1, l.5, l.6, (l.2, l.7, (c.1, λ i. is.0 (c.0, c.1, refl, i), subst (λ f. IsReached f (links_of l.2)) c.2 l.8))))), is.1) in
+        subst (λ f. Among f (forms s.keys)) (sym c.2) (among_map cid_bytes c.0 s.keys found)

@@ -1,0 +1,38 @@
+-- How texts go out one behind the other.
+use Rattle.std.proofs.Common.{◌≡◌, inl, inr, ℕ, List, [], ◌∷◌, ◌++◌, refl, sym, ap, ◌∙◌, subst, append_assoc, codes, Option, Result, Ok, Err, IsErrAnd}
+use Rattle.std.proofs.KnownBytes.{Appends-nil, Appends-trans}
+use Rattle.dagcbor_heads.specs.Written.{AppendsFront}
+use Rattle.ipld_tree.specs.Cid.{CidParts}
+use Rattle.cid_text.specs.Texts.{cid_text}
+use Rattle.block_lines.specs.Lines.{BreaksLine}
+use Rattle.block_lines.proofs.Saying.{line_whole}
+use Rattle.dagcbor_cli.specs.Writing.{WritesFront}
+use Rattle.dagcbor_cli.specs.declared.fault.ToolError.{ToolError}
+use Rattle.dagstore_lines.specs.Refusals.{told_line}
+
+module _ {A : Type 0} where
+  pub front_both : (before mid after : Option (List ℕ)) (x y : List ℕ) (first r : Result A ToolError) (a : A) → first ≡ Ok a → WritesFront before mid first x → WritesFront mid after r y → WritesFront before after r (x ++ y)
+  front_both before mid after x y first r a ok h k =
+      let whole = line_whole before mid x x (subst (λ f. WritesFront before mid f x) ok h) refl in
+      (x ++ k.0, k.1, ap (λ z. x ++ z) k.2 ∙ sym (append_assoc x k.0 k.1), Appends-trans before mid after x k.0 whole k.3, k.4)
+
+  pub front_stopped : (before after : Option (List ℕ)) (x y : List ℕ) (first r : Result A ToolError) (P : ToolError → Type 0) → IsErrAnd r P → WritesFront before after first x → WritesFront before after r (x ++ y)
+  front_stopped before after x y first (Ok a) P is h = absurd is
+  front_stopped before after x y first (Err e) P is h = (h.0, h.1 ++ y, ap (λ z. z ++ y) h.2 ∙ append_assoc h.0 h.1 y, h.3, tt)
+
+  pub told_both : (before after : Option (List ℕ)) (first second a b : List ℕ) (r : Result A ToolError) → a ≡ first → b ≡ second → WritesFront before after r ((codes "dagstore: " ++ a) ++ (b ++ 10 ∷ [])) → WritesFront before after r (told_line (first ++ second))
+  told_both before after first second a b r is other h =
+      subst (λ t. WritesFront before after r (codes "dagstore: " ++ t)) (ap (λ z. z ++ (b ++ 10 ∷ [])) is ∙ ap (λ z. first ++ (z ++ 10 ∷ [])) other ∙ sym (append_assoc first second (10 ∷ []))) h
+
+-- a line that is so broke off
+pub line_is : (IsLine : List ℕ → Type 0) (said : List ℕ) (before after : Option (List ℕ)) (e : ToolError) → IsLine said → BreaksLine (λ out. out ≡ said) before after e → BreaksLine IsLine before after e
+line_is IsLine said before after e is (inl none) = inl none
+line_is IsLine said before after e is (inr k) = inr (k.0, k.1, subst IsLine (sym k.2) is, k.3, k.4)
+
+module _ {A : Type 0} where
+  pub name_told : (before after : Option (List ℕ)) (name : CidParts) (a : List ℕ) (r : Result A ToolError) → a ≡ cid_text name → WritesFront before after r ((codes "dagstore: of " ++ a) ++ 10 ∷ []) → WritesFront before after r (told_line (codes "of " ++ cid_text name))
+  name_told before after name a r is h = subst (λ t. WritesFront before after r ((codes "dagstore: of " ++ t) ++ 10 ∷ [])) is h
+
+-- nothing is a front of a text
+pub nothing_told : (heard : Option (List ℕ)) (text : List ℕ) → AppendsFront heard heard text
+nothing_told heard text = ([], text, refl, Appends-nil heard)

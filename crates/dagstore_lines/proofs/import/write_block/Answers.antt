@@ -1,0 +1,15 @@
+use Rattle.std.proofs.Common.{refl, Err, codes, ◌++◌, subst}
+use Rattle.cid_text.specs.Texts.{cid_text}
+use Rattle.dagcbor_cli.specs.Writing.{WritesFront}
+use Rattle.dagstore_lines.specs.Refusals.{told_line, refusal_text}
+use Rattle.dagstore_lines.proofs.Sending.{front_both, front_stopped}
+use Rattle.dagstore_lines.proofs.import.write_block.Goals as goal
+
+pub returns-in_err-write_name : goal.returns-in_err-write_name
+returns-in_err-write_name g c =
+    front_stopped _ _ (told_line (codes "of " ++ cid_text c.args.name.now)) (told_line (refusal_text c.args.refusal.now)) (Err c.in_err-write_name.field-0.0) c.from_residual.result _ c.from_residual.ensures.1 c.in_err-write_name.ensures
+
+pub returns : goal.returns
+returns g c =
+    front_both _ _ _ (told_line (codes "of " ++ cid_text c.args.name.now)) (told_line (refusal_text c.args.refusal.now)) _ c.write_told.result _ refl c.in_ok-write_name.ensures
+    (subst (λ text. WritesFront (g.V.Write.contents c.write_name.new.errors) (g.V.Write.contents c.write_told.new.errors) c.write_told.result (told_line text)) c.refusal_words.ensures c.write_told.ensures)

@@ -1,0 +1,126 @@
+-- What is written of a store as a file, and what is said of a file that is read into it.
+use Rattle.std.specs.Prelude.{◌≡◌, ◌≢◌, ◌⊎◌, ℕ, List, ◌++◌, length, Bool, true, Option, Result, MatchResult, codes, decimal, flat_map}
+use Rattle.std.specs.Io.KnownBytes.{Appends}
+use Rattle.sqlite_trees.specs.View.{IsClean}
+use Rattle.sqlite_trees.specs.declared.store.Store.{Ghosts}
+use Rattle.dagcbor_heads.specs.Reading.{Reading}
+use Rattle.dagcbor_heads.specs.Written.{AppendsFront}
+use Rattle.dagcbor_heads.specs.declared.error.EncodeError.TheVariants as unsent
+use Rattle.ipld_tree.specs.Cid.{CidParts}
+use Rattle.cid_text.specs.Texts.{cid_text}
+use Rattle.dagcbor_items.specs.Walks.{forms}
+use Rattle.dagcbor_car.specs.Car.{Section, car_bytes, IsCar}
+use Rattle.dagcbor_car.specs.declared.error.CarError.{CarError}
+use Rattle.dagcbor_car.specs.declared.error.CarError.TheVariants as file
+use Rattle.dagcbor_cli.specs.declared.fault.ToolError.{ToolError}
+use Rattle.dagcbor_cli.specs.declared.fault.ToolError.TheVariants.{Input, Output, OutOfMemory}
+use Rattle.block_lines.specs.Lines.{line, root_line, BreaksLine}
+use Rattle.block_lines.specs.Names.{fault_name}
+use Rattle.dagcbor_store.specs.Stored.{IsSame, IsUndone}
+use Rattle.dagcbor_store.specs.Cars.{IsRead, IsFilled, ReadRefused}
+use Rattle.dagcbor_store.specs.Walking.{AreNamed, AreBlocks, AreFirstBlocks, WalkRefused}
+use Rattle.dagcbor_store.specs.declared.car_error.ReadCarError.{ReadCarError}
+use Rattle.dagcbor_store.specs.declared.car_error.ReadCarError.TheVariants as car
+use Rattle.dagcbor_store.specs.declared.car_error.WriteCarError.{WriteCarError}
+use Rattle.dagcbor_store.specs.declared.car_error.WriteCarError.TheVariants as unwritten
+use Rattle.dagstore_lines.specs.Lines.{stored_line}
+use Rattle.dagstore_lines.specs.Refusals.{told_line, tool_text, refusal_text, refusal_status, status_of, TellsEnd}
+use Rattle.dagstore_lines.specs.declared.fault.Fault.{Fault}
+use Rattle.dagstore_lines.specs.declared.fault.Fault.TheVariants as fault
+
+-- ---- export
+
+-- how it is told that a file is not written
+abbrev pub fault_of : {E : Type 0} → WriteCarError E → Fault
+fault_of (unwritten.Write (unsent.Write e)) = fault.Tool Output
+fault_of (unwritten.Write e) = fault.Tool OutOfMemory
+fault_of (unwritten.Store told) = fault.Store told
+
+-- the file of some first blocks went out, and the store refused; or of such a file a front did, and the
+-- device failed, or memory was wanting
+abbrev pub ExportFails : {S : Type 0} → Ghosts S → List (List ℕ) → S → Option (List ℕ) → Fault → S → Option (List ℕ) → Type 0
+ExportFails g roots old before (fault.Store told) new after = (sections : List Section) × AreNamed sections
+    × (IsClean (g.view new) → AreFirstBlocks (g.view old) sections)
+    × Appends before after (car_bytes roots sections) × WalkRefused g old new told
+ExportFails g roots old before (fault.Tool e) new after = (sections : List Section) × AreNamed sections
+    × (IsClean (g.view new) → AreFirstBlocks (g.view old) sections × IsSame (g.view old) (g.view new))
+    × AppendsFront before after (car_bytes roots sections) × (e ≢ Input)
+
+-- The file of these roots and of all blocks went out.
+abbrev pub Exports : {S : Type 0} → Ghosts S → List (List ℕ) → S → Option (List ℕ) → Result Bool Fault → S → Option (List ℕ) → Type 0
+Exports g roots old before result new after = MatchResult result
+    (λ well. (well ≡ true) × ((sections : List Section) × AreNamed sections
+    × IsCar (car_bytes roots sections) roots sections × Appends before after (car_bytes roots sections)
+    × (IsClean (g.view new) → AreBlocks (g.view old) sections × IsSame (g.view old) (g.view new))))
+    (λ e. ExportFails g roots old before e new after)
+
+-- ---- import
+
+-- what is told of a file that is none, or was not read
+abbrev pub file_text : {E : Type 0} → CarError E → List ℕ
+file_text (file.Read e) = tool_text Input
+file_text e = codes "the input is no file of blocks: " ++ fault_name e
+
+-- 1 where the bytes are the cause, else 2
+abbrev pub file_status : {E : Type 0} → CarError E → ℕ
+file_status (file.Read e) = 2
+file_status e = 1
+
+-- of how many sections stand before the place where a file stopped
+abbrev pub place_line : ℕ → List ℕ
+place_line count = line (codes "dagstore: behind " ++ (decimal count ++ codes " sections"))
+
+-- what is told of a file that is not kept
+abbrev pub unread_lines : {E : Type 0} → ReadCarError E → List ℕ
+unread_lines (car.Header e) = told_line (file_text e)
+unread_lines (car.Section count e) = place_line count ++ told_line (file_text e)
+unread_lines (car.Block count name told) =
+    place_line count ++ (told_line (codes "of " ++ cid_text name) ++ told_line (refusal_text told))
+unread_lines (car.Store told) = told_line (refusal_text told)
+unread_lines car.OutOfMemory = told_line (tool_text OutOfMemory)
+
+-- 1 where the bytes, or the blocks in them, are the cause, else 2
+abbrev pub unread_status : {E : Type 0} → ReadCarError E → ℕ
+unread_status (car.Header e) = file_status e
+unread_status (car.Section count e) = file_status e
+unread_status (car.Block count name told) = refusal_status told
+unread_status (car.Store told) = refusal_status told
+unread_status car.OutOfMemory = 2
+
+-- of the roots, and of how many sections are kept
+abbrev pub stored_lines : List (List ℕ) → ℕ → List ℕ
+stored_lines roots count = flat_map root_line roots ++ stored_line count
+
+-- they went out; or broke off, since a device failed, or memory was wanting
+abbrev pub SaysStored : List (List ℕ) → ℕ → Option (List ℕ) → Result Bool Fault → Option (List ℕ) → Type 0
+SaysStored roots count before result after = MatchResult result
+    (λ well. (well ≡ true) × Appends before after (stored_lines roots count))
+    (λ e. (kind : ToolError) × (e ≡ fault.Tool kind)
+    × BreaksLine (λ text. text ≡ stored_lines roots count) before after kind)
+
+-- The file was read, and its blocks are committed; and then its lines went out, or broke off.
+pub record IsImported {S : Type 0} (g : Ghosts S) (source left : Reading) (old : S) (before heard : Option (List ℕ)) (status : ℕ) (new : S) (after told : Option (List ℕ)) : Type 0 where
+  pub roots : List CidParts
+  pub sections : List Section
+  pub read : IsRead (forms roots) sections source left
+  pub filled : IsClean (g.view new) → IsFilled (g.view old) (g.view new) sections
+  pub ended : Result Bool Fault
+  pub says : SaysStored (forms roots) (length sections) before ended after
+  pub is_status : status ≡ status_of ended
+  pub tells : TellsEnd ended heard told
+
+-- The file was refused, and what was not committed is undone: nothing went out, and it is told why.
+pub record IsNotImported {S : Type 0} (E : Type 0) (g : Ghosts S) (source left : Reading) (old : S) (before heard : Option (List ℕ)) (status : ℕ) (new : S) (after told : Option (List ℕ)) : Type 0 where
+  pub error : ReadCarError E
+  pub refused : ReadRefused g source old error left new
+  pub undone : IsClean (g.view new) → IsUndone (g.view old) (g.view new)
+  pub nothing : after ≡ before
+  pub is_status : status ≡ unread_status error
+  pub tells : AppendsFront heard told (unread_lines error)
+
+-- one of these came of the source
+abbrev pub Imports : {S : Type 0} → Type 0 → Ghosts S → Reading → S → Option (List ℕ) → Option (List ℕ) → ℕ → S
+    → Option (List ℕ) → Option (List ℕ) → Type 0
+Imports E g source old before heard status new after told = (left : Reading)
+    × (IsImported g source left old before heard status new after told
+    ⊎ IsNotImported E g source left old before heard status new after told)

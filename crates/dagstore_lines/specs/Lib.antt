@@ -1,0 +1,9 @@
+pub mod Lines
+pub mod Said
+pub mod Names
+pub mod Checks
+pub mod Refusals
+pub mod Blocks
+pub mod Changes
+pub mod Files
+pub mod Trees

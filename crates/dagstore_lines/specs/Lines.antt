@@ -1,0 +1,25 @@
+-- The lines that the program alone writes.
+use Rattle.std.specs.Prelude.{ℕ, List, ◌++◌, codes, decimal}
+use Rattle.ipld_tree.specs.Cid.{CidParts}
+use Rattle.cid_text.specs.Texts.{cid_text}
+use Rattle.block_lines.specs.Lines.{line}
+
+-- of a name under which nothing is stored that it names
+abbrev pub damaged_line : CidParts → List ℕ
+damaged_line name = line (cid_text name ++ codes " damaged")
+
+-- of how many names are listed
+abbrev pub count_line : ℕ → List ℕ
+count_line count = line (codes "holds " ++ decimal count)
+
+-- where no block has the name
+abbrev pub no_block_line : List ℕ
+no_block_line = line (codes "dagstore: no block has the name")
+
+-- of how many sections a file had, which are kept
+abbrev pub stored_line : ℕ → List ℕ
+stored_line count = line (codes "stored " ++ decimal count)
+
+-- of how many names were taken out
+abbrev pub removed_line : ℕ → List ℕ
+removed_line count = line (codes "removed " ++ decimal count)

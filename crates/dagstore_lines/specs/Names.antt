@@ -1,0 +1,77 @@
+-- What is said of each name that is listed in a store.
+use Rattle.std.specs.Prelude.{◌≡◌, ℕ, List, [], ◌∷◌, ◌++◌, Bool, true, false, ◌&&◌, ⊤, Option, None, Some, Result, MatchResult, MatchOption}
+use Rattle.std.specs.Io.KnownBytes.{Appends}
+use Rattle.sqlite_trees.specs.View.{View, IsClean}
+use Rattle.ipld_tree.specs.Cid.{CidParts}
+use Rattle.block_lines.specs.Lines.{listed_line}
+use Rattle.dagcbor_store.specs.Rows.{name_tree}
+use Rattle.dagcbor_store.specs.Stored.{IsNext, GivesNext, IsNamed, HoldsOnly, IsDamaged}
+use Rattle.dagstore_lines.specs.Lines.{damaged_line}
+use Rattle.dagstore_lines.specs.Said.{Breaks}
+use Rattle.dagstore_lines.specs.declared.fault.Fault.{Fault}
+
+-- ---- the names
+
+-- the first of the names that are listed behind the last one, in the order of their bytes
+abbrev pub AreFirst : View → Option CidParts → List CidParts → Type 0
+AreFirst v last [] = ⊤
+AreFirst v last (c ∷ names) = IsNext (v.trees name_tree) last c × AreFirst v (Some c) names
+
+-- all of the names that are listed behind the last one, each once, in the order of their bytes
+abbrev pub AreAll : View → Option CidParts → List CidParts → Type 0
+AreAll v last [] = GivesNext v last None
+AreAll v last (c ∷ names) = IsNext (v.trees name_tree) last c × AreAll v (Some c) names
+
+-- the last of the names, or this one where there is none
+abbrev pub last_of : Option CidParts → List CidParts → Option CidParts
+last_of last [] = last
+last_of last (c ∷ names) = last_of (Some c) names
+
+-- ---- what is said of them
+
+-- what is said of a name, by what was stored, and what the store shows behind the call; and whether
+-- that tells of nothing wrong
+abbrev pub Telling : Type 1
+Telling = View → View → CidParts → Bool → List ℕ → Type 0
+
+-- what is said of each of the names, and whether all of it tells of nothing wrong
+abbrev pub IsSaidOfEach : (CidParts → Bool → List ℕ → Type 0) → List CidParts → Bool → List ℕ → Type 0
+IsSaidOfEach IsSaid [] well out = (well ≡ true) × (out ≡ [])
+IsSaidOfEach IsSaid (c ∷ names) well out = (first others : Bool) × (line lines : List ℕ)
+    × IsSaid c first line × IsSaidOfEach IsSaid names others lines
+    × (well ≡ (first && others)) × (out ≡ line ++ lines)
+
+-- the line of the next name behind the last one
+abbrev pub IsNextLine : Telling → View → Option CidParts → View → List ℕ → Type 0
+IsNextLine IsSaid old last new text = (name : CidParts) × (well : Bool) × IsSaid old new name well text
+    × (IsClean new → IsNext (old.trees name_tree) last name)
+
+-- It is said of each name, unless a wrong answer of the disk was taken as true; or of some first names,
+-- and a front of the line of the next one went out.
+abbrev pub SaysNames : Telling → View → Option (List ℕ) → Result Bool Fault → View → Option (List ℕ) → Type 0
+SaysNames IsSaid old before result new after = MatchResult result
+    (λ well. (names : List CidParts) × (said : List ℕ) × (IsClean new → AreAll old None names)
+    × IsSaidOfEach (IsSaid old new) names well said × Appends before after said)
+    (λ e. (names : List CidParts) × (well : Bool) × (said : List ℕ) × (between : Option (List ℕ))
+    × (IsClean new → AreFirst old None names) × IsSaidOfEach (IsSaid old new) names well said
+    × Appends before between said × Breaks (IsNextLine IsSaid old (last_of None names) new) between after e)
+
+-- ---- list
+
+-- how many bytes are stored under the name, which are those that it names; or that they are damaged
+abbrev pub IsListed : Telling
+IsListed old new name true text = (b : List ℕ) × IsNamed name b × (IsClean new → HoldsOnly old name b)
+    × (text ≡ listed_line (name, b))
+IsListed old new name false text = (IsClean new → IsDamaged old name) × (text ≡ damaged_line name)
+
+-- ---- a step
+
+-- the line of the next name went out, or there is none; or it broke off
+abbrev pub SaysNext : Telling → View → Option CidParts → Option (List ℕ) → Result (Option (CidParts × Bool)) Fault
+    → View → Option (List ℕ) → Type 0
+SaysNext IsSaid old last before result new after = MatchResult result
+    (λ next. MatchOption next
+    ((after ≡ before) × (IsClean new → GivesNext old last None))
+    (λ p. (text : List ℕ) × IsSaid old new p.0 p.1 text
+    × (IsClean new → IsNext (old.trees name_tree) last p.0) × Appends before after text))
+    (Breaks (IsNextLine IsSaid old last new) before after)

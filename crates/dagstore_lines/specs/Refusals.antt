@@ -1,0 +1,84 @@
+-- What is told of a refusal, and the status of a run that ends so.
+use Rattle.std.specs.Prelude.{◌≡◌, ℕ, List, ◌++◌, codes, Bool, Option, Result, Ok, Err, if◌then◌else◌}
+use Rattle.sqlite_trees.specs.declared.error.StoreError.{StoreError}
+use Rattle.sqlite_trees.specs.declared.error.StoreError.TheVariants as disk
+use Rattle.dagcbor_heads.specs.Written.{AppendsFront}
+use Rattle.dagcbor_items.specs.PrintedNames.{variant_name}
+use Rattle.ipld_links.specs.declared.sound.Unsound.{Unsound}
+use Rattle.ipld_links.specs.declared.sound.Unsound.TheVariants as unsound
+use Rattle.dagcbor_cli.specs.declared.fault.ToolError.{ToolError}
+use Rattle.dagcbor_cli.specs.declared.fault.ToolError.TheVariants as tool
+use Rattle.dagcbor_store.specs.declared.error.StoreRefusal.{StoreRefusal}
+use Rattle.dagcbor_store.specs.declared.error.StoreRefusal.TheVariants as refusal
+use Rattle.block_lines.specs.Lines.{line}
+use Rattle.dagstore_lines.specs.declared.fault.Fault.{Fault}
+use Rattle.dagstore_lines.specs.declared.fault.Fault.TheVariants as fault
+
+-- of a failure of the database
+abbrev pub disk_text : StoreError → List ℕ
+disk_text disk.OutOfMemory = codes "out of memory"
+disk_text disk.Io = codes "disk I/O error"
+disk_text disk.Corrupt = codes "database disk image is malformed"
+disk_text disk.Full = codes "database or disk is full"
+disk_text disk.Broken = codes "the transaction must be rolled back"
+disk_text disk.Unstorable = codes "a row cannot be stored"
+
+-- of a block that is not kept under its name
+abbrev pub unsound_text : Unsound → List ℕ
+unsound_text unsound.OtherHash = codes "the block is named by another hash function than SHA-256"
+unsound_text unsound.OtherBytes = codes "the block has other bytes than its name says"
+unsound_text (unsound.NoBlock e) = codes "the block is no DAG-CBOR: " ++ variant_name e
+
+-- of a refusal of the store
+abbrev pub refusal_text : StoreRefusal → List ℕ
+refusal_text (refusal.Unsound e) = unsound_text e
+refusal_text (refusal.Damaged name) = codes "what is stored under the name has other bytes than it says"
+refusal_text refusal.NoNumber = codes "no number is left for a row"
+refusal_text refusal.TooLong = codes "the block is too long for a row"
+refusal_text refusal.NotAStore = codes "the file is no store of blocks"
+refusal_text refusal.Locked = codes "another process has the file open"
+refusal_text refusal.CannotOpen = codes "the file cannot be opened for reading and writing"
+refusal_text (refusal.Disk e) = disk_text e
+refusal_text refusal.OutOfMemory = codes "out of memory"
+
+-- 1 where the data are the cause, else 2
+abbrev pub refusal_status : StoreRefusal → ℕ
+refusal_status (refusal.Unsound e) = 1
+refusal_status (refusal.Damaged name) = 1
+refusal_status refusal.NoNumber = 2
+refusal_status refusal.TooLong = 1
+refusal_status refusal.NotAStore = 1
+refusal_status refusal.Locked = 2
+refusal_status refusal.CannotOpen = 2
+refusal_status (refusal.Disk e) = 2
+refusal_status refusal.OutOfMemory = 2
+
+-- of a device that failed, or want of memory
+abbrev pub tool_text : ToolError → List ℕ
+tool_text tool.Input = codes "the input failed"
+tool_text tool.Output = codes "standard output takes no more"
+tool_text tool.OutOfMemory = codes "out of memory"
+
+-- under the program's name
+abbrev pub told_line : List ℕ → List ℕ
+told_line text = line (codes "dagstore: " ++ text)
+
+-- of what ended a run
+abbrev pub fault_line : Fault → List ℕ
+fault_line (fault.Store told) = told_line (refusal_text told)
+fault_line (fault.Tool e) = told_line (tool_text e)
+
+-- the status of a run that ended so: 0 where nothing is wrong, 1 where something is
+abbrev pub status_of : Result Bool Fault → ℕ
+status_of (Ok well) = if well then 0 else 1
+status_of (Err (fault.Store told)) = refusal_status told
+status_of (Err (fault.Tool e)) = 2
+
+-- nothing is told of a run that was answered; of another its fault, as far as the device takes it
+abbrev pub TellsEnd : Result Bool Fault → Option (List ℕ) → Option (List ℕ) → Type 0
+TellsEnd (Ok well) old new = new ≡ old
+TellsEnd (Err e) old new = AppendsFront old new (fault_line e)
+
+-- a run ended so: its status, and what is told of it behind what was told before
+abbrev pub EndsSo : Result Bool Fault → ℕ → Option (List ℕ) → Option (List ℕ) → Type 0
+EndsSo ended status heard told = (status ≡ status_of ended) × TellsEnd ended heard told

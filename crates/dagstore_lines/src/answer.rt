@@ -1,0 +1,198 @@
+//! The words of the program: what each says, and the status of its run.
+
+ghost use Rattle.std.specs.Prelude.{Result, Bool, Option, List, ℕ, ◌⊎◌};
+ghost use Rattle.sqlite_trees.specs.View.{IsClean};
+ghost use Rattle.dagcbor_items.specs.Walks.{forms};
+ghost use Rattle.dagcbor_store.specs.Collecting.{KeepsReachable};
+ghost use Rattle.dagcbor_store.specs.Ends.{Quiet};
+ghost use Rattle.dagcbor_store.specs.Stored.{IsAddedTo, IsKeptBy};
+ghost use Rattle.dagstore_lines.specs.Blocks.{SaysCount, IsGot, Has};
+ghost use Rattle.dagstore_lines.specs.Changes.{name_as, SaysPut, SaysCollected, HoldsOthers, SaysRemoved};
+ghost use Rattle.dagstore_lines.specs.Checks.{SaysCheck};
+ghost use Rattle.dagstore_lines.specs.Files.{Exports};
+ghost use Rattle.dagstore_lines.specs.Names.{IsListed, SaysNames};
+ghost use Rattle.dagstore_lines.specs.Refusals.{EndsSo};
+ghost use Rattle.dagstore_lines.specs.Said.{SaysAll};
+ghost use Rattle.dagstore_lines.specs.Trees.{SaysTree};
+ghost use Rattle.dagstore_lines.specs.declared.fault.Fault.{Fault};
+
+use crate::block::{count_blocks, get_block, has_block};
+use crate::change::{collect_blocks, put_block, remove_blocks};
+use crate::check::check_blocks;
+use crate::export::{export_blocks, write_tree};
+use crate::list::list_blocks;
+use crate::progress::Progress;
+use crate::refusal::end;
+use dagcbor_store::{BlockStore, Store};
+use ipld_tree::Cid;
+use std::alloc::Global;
+use std::io::Write;
+
+/// `list`: answers the status.
+pub fn answer_list<S: Store, W: Write, V: Write>(
+    alloc: Global,
+    store: &mut BlockStore<S>,
+    output: &mut W,
+    errors: &mut V,
+) -> u8
+    ensures answers { (ended : Result Bool Fault)
+        × EndsSo ended result (V.contents errors.old) (V.contents errors.new)
+        × SaysNames IsListed (S.Store.view store.old) (W.contents output.old) ended
+        (S.Store.view store.new) (W.contents output.new) }
+    ensures quiet { Quiet S.Store store.old store.new }
+{
+    end(list_blocks(alloc, store, output), errors)
+}
+
+/// `check`: answers the status.
+pub fn answer_check<S: Store, W: Write, V: Write, E: Write>(
+    alloc: Global,
+    store: &mut BlockStore<S>,
+    output: &mut W,
+    errors: &mut V,
+    progress: &mut Progress<E>,
+) -> u8
+    ensures answers { (ended : Result Bool Fault)
+        × EndsSo ended result (V.contents errors.old) (V.contents errors.new)
+        × SaysCheck (S.Store.view store.old) (W.contents output.old) ended (S.Store.view store.new)
+        (W.contents output.new) }
+    ensures quiet { Quiet S.Store store.old store.new }
+{
+    end(check_blocks(alloc, store, output, progress), errors)
+}
+
+/// `count`: answers the status.
+pub fn answer_count<S: Store, W: Write, V: Write>(
+    alloc: Global,
+    store: &mut BlockStore<S>,
+    output: &mut W,
+    errors: &mut V,
+) -> u8
+    ensures answers { (ended : Result Bool Fault)
+        × EndsSo ended result (V.contents errors.old) (V.contents errors.new)
+        × SaysCount (S.Store.view store.old) (W.contents output.old) ended (S.Store.view store.new)
+        (W.contents output.new) }
+    ensures quiet { Quiet S.Store store.old store.new }
+{
+    end(count_blocks(alloc, store, output), errors)
+}
+
+/// `export`: answers the status.
+pub fn answer_export<S: Store, W: Write, V: Write>(
+    store: &mut BlockStore<S>,
+    roots: &[Cid],
+    output: &mut W,
+    errors: &mut V,
+) -> u8
+    ensures answers { (ended : Result Bool Fault)
+        × EndsSo ended result (V.contents errors.old) (V.contents errors.new)
+        × Exports S.Store (forms roots.now) store.old (W.contents output.old) ended store.new
+        (W.contents output.new) }
+    ensures quiet { Quiet S.Store store.old store.new }
+{
+    end(export_blocks(store, roots, output), errors)
+}
+
+/// `get`: answers the status.
+pub fn answer_get<S: Store, W: Write, V: Write>(
+    alloc: Global,
+    store: &mut BlockStore<S>,
+    name: &Cid,
+    output: &mut W,
+    errors: &mut V,
+) -> u8
+    ensures answers { (ended : Result Bool Fault) × (heard : Option (List ℕ))
+        × SaysAll (IsGot name.now (S.Store.view store.old) (S.Store.view store.new))
+        (W.contents output.old) (V.contents errors.old) ended (W.contents output.new) heard
+        × EndsSo ended result heard (V.contents errors.new) }
+    ensures quiet { Quiet S.Store store.old store.new }
+{
+    let ended = get_block(alloc, store, name, output, errors);
+    end(ended, errors)
+}
+
+/// `has`: answers the status. Nothing is said.
+pub fn answer_has<S: Store, V: Write>(store: &mut BlockStore<S>, name: &Cid, errors: &mut V) -> u8
+    ensures answers { (ended : Result Bool Fault)
+        × EndsSo ended result (V.contents errors.old) (V.contents errors.new)
+        × Has S.Store name.now store.old ended store.new }
+    ensures quiet { Quiet S.Store store.old store.new }
+{
+    end(has_block(store, name), errors)
+}
+
+/// `tree`: answers the status.
+pub fn answer_tree<S: Store, W: Write, V: Write>(
+    alloc: Global,
+    store: &mut BlockStore<S>,
+    root: &Cid,
+    output: &mut W,
+    errors: &mut V,
+) -> u8
+    ensures answers { (ended : Result Bool Fault) × (heard : Option (List ℕ))
+        × SaysTree S.Store root.now store.old (W.contents output.old) (V.contents errors.old) ended
+        store.new (W.contents output.new) heard × EndsSo ended result heard (V.contents errors.new) }
+    ensures quiet { Quiet S.Store store.old store.new }
+{
+    let ended = write_tree(alloc, store, root, output, errors);
+    end(ended, errors)
+}
+
+/// `put`: answers the status.
+pub fn answer_put<S: Store, W: Write, V: Write>(
+    alloc: Global,
+    store: &mut BlockStore<S>,
+    codec: u64,
+    block: &[u8],
+    output: &mut W,
+    errors: &mut V,
+) -> u8
+    ensures answers { (ended : Result Bool Fault)
+        × EndsSo ended result (V.contents errors.old) (V.contents errors.new)
+        × SaysPut S.Store (name_as codec block.now) block.now store.old (W.contents output.old) ended
+        store.new (W.contents output.new) }
+    ensures crash { (db : _) → S.Store.recovers store.new db → S.Store.recovers store.old db
+        ⊎ (IsClean (S.Store.view store.new)
+        → IsAddedTo (S.Store.view store.old).trees db (name_as codec block.now) block.now) }
+    ensures kept { IsKeptBy S.Store store.old store.new }
+{
+    end(put_block(alloc, store, codec, block, output), errors)
+}
+
+/// `remove`: answers the status.
+pub fn answer_remove<S: Store, W: Write, V: Write>(
+    alloc: Global,
+    store: &mut BlockStore<S>,
+    names: &[Cid],
+    output: &mut W,
+    errors: &mut V,
+) -> u8
+    ensures answers { (ended : Result Bool Fault) × (heard : Option (List ℕ))
+        × SaysRemoved S.Store names.now store.old (W.contents output.old) (V.contents errors.old) ended
+        store.new (W.contents output.new) heard × EndsSo ended result heard (V.contents errors.new) }
+    ensures crash { (db : _) → S.Store.recovers store.new db → S.Store.recovers store.old db
+        ⊎ (IsClean (S.Store.view store.new) → HoldsOthers names.now (S.Store.view store.old).trees db) }
+    ensures kept { IsKeptBy S.Store store.old store.new }
+{
+    let ended = remove_blocks(alloc, store, names, output, errors);
+    end(ended, errors)
+}
+
+/// `gc`: answers the status.
+pub fn answer_collect<S: Store, W: Write, V: Write>(
+    alloc: Global,
+    store: &mut BlockStore<S>,
+    roots: &[Cid],
+    output: &mut W,
+    errors: &mut V,
+) -> u8
+    ensures answers { (ended : Result Bool Fault) × (heard : Option (List ℕ))
+        × SaysCollected S.Store roots.now store.old (W.contents output.old) (V.contents errors.old) ended
+        store.new (W.contents output.new) heard × EndsSo ended result heard (V.contents errors.new) }
+    ensures crash { (db : _) → S.Store.recovers store.new db → S.Store.recovers store.old db
+        ⊎ (IsClean (S.Store.view store.new) → KeepsReachable (S.Store.view store.old) roots.now db) }
+    ensures kept { IsKeptBy S.Store store.old store.new }
+{
+    let ended = collect_blocks(alloc, store, roots, output, errors);
+    end(ended, errors)
+}

@@ -1,0 +1,168 @@
+//! `check`: a verdict on each block, and then the links that lead to nothing.
+
+ghost use Rattle.std.specs.Prelude.{◌≡◌, [], OnOk, IfOk, IfErr};
+ghost use Rattle.sqlite_trees.specs.View.{IsClean};
+ghost use Rattle.dagcbor_store.specs.Ends.{Quiet};
+ghost use Rattle.dagcbor_store.specs.Stored.{StaysSame, Lists, HoldsOnly, IsNamed};
+ghost use Rattle.dagstore_lines.specs.Said.{StoreFails};
+ghost use Rattle.dagstore_lines.specs.Names.{SaysNames, SaysNext};
+ghost use Rattle.dagstore_lines.specs.Checks.{IsChecked, SaysCheck, AddsMissing, AddsOfNext, IsMissing, SaysKeys};
+
+use crate::fault::Fault;
+use crate::line::{both, damaged_said};
+use crate::progress::Progress;
+use block_lines::{Said, missing_line, say, told_line};
+use dagcbor_cli::ToolError;
+use dagcbor_items::check_slice;
+use dagcbor_store::{BlockStore, Store, StoreRefusal};
+use ipld_links::{Verdict, is_dag_cbor};
+use ipld_tree::Cid;
+use std::alloc::{AllocError, Global};
+use std::collections::BTreeSet;
+use std::io::Write;
+
+/// The line of the verdict on the block, which the name names, and which alone is stored under it. Its
+/// links that lead to nothing are put into the set.
+fn judged_said<S: Store>(
+    alloc: Global,
+    store: &mut BlockStore<S>,
+    name: &Cid,
+    block: &[u8],
+    missing: &mut BTreeSet<Cid>,
+) -> Result<Said, Fault>
+    ensures said { IfOk result (λ p. IsNamed name.now block.now
+        → (IsClean (S.Store.view store.new) → HoldsOnly (S.Store.view store.old) name.now block.now × Lists (S.Store.view store.old) name.now)
+        → IsChecked (S.Store.view store.old) (S.Store.view store.new) name.now p.1 p.0.items) }
+    ensures missing { OnOk result (IsNamed name.now block.now → IsClean (S.Store.view store.new)
+        → HoldsOnly (S.Store.view store.old) name.now block.now
+        → AddsMissing (S.Store.view store.old) name.now missing.old missing.new) }
+    ensures same { OnOk result (StaysSame S.Store store.old store.new) }
+    ensures fault { IfErr result (StoreFails S.Store store.old store.new) }
+    ensures quiet { Quiet S.Store store.old store.new }
+{
+    if !is_dag_cbor(name) {
+        return Ok(told_line(alloc, name, &Verdict::NotRead)?);
+    }
+    match check_slice(block) {
+        Ok(kind) => {
+            store.add_lost(block, missing)?;
+            Ok(told_line(alloc, name, &Verdict::Block(kind))?)
+        }
+        Err(_) => Ok(damaged_said(alloc, name)?),
+    }
+}
+
+/// The line of the name, under which something is listed. Links of the block under it that lead to
+/// nothing are put into the set.
+fn checked_said<S: Store>(
+    alloc: Global,
+    store: &mut BlockStore<S>,
+    name: &Cid,
+    missing: &mut BTreeSet<Cid>,
+) -> Result<Said, Fault>
+    ensures said { IfOk result (λ p. (IsClean (S.Store.view store.new) → Lists (S.Store.view store.old) name.now)
+        → IsChecked (S.Store.view store.old) (S.Store.view store.new) name.now p.1 p.0.items) }
+    ensures missing { OnOk result (IsClean (S.Store.view store.new) → Lists (S.Store.view store.old) name.now
+        → AddsMissing (S.Store.view store.old) name.now missing.old missing.new) }
+    ensures same { OnOk result (StaysSame S.Store store.old store.new) }
+    ensures fault { IfErr result (StoreFails S.Store store.old store.new) }
+    ensures quiet { Quiet S.Store store.old store.new }
+{
+    match store.get_block(name) {
+        Ok(Some(block)) => judged_said(alloc, store, name, &block, missing),
+        Ok(None) => Ok(damaged_said(alloc, name)?),
+        Err(StoreRefusal::Damaged(_)) => Ok(damaged_said(alloc, name)?),
+        Err(refusal) => Err(Fault::Store(refusal)),
+    }
+}
+
+/// Writes the line of the first name behind the last one. Answers the name, and whether nothing is
+/// wrong with it.
+fn check_next<S: Store, W: Write>(
+    alloc: Global,
+    store: &mut BlockStore<S>,
+    last: Option<Cid>,
+    missing: &mut BTreeSet<Cid>,
+    output: &mut W,
+) -> Result<Option<(Cid, bool)>, Fault>
+    ensures says { SaysNext IsChecked (S.Store.view store.old) last (W.contents output.old) result
+        (S.Store.view store.new) (W.contents output.new) }
+    ensures missing { IfOk result (λ next. IsClean (S.Store.view store.new)
+        → AddsOfNext (S.Store.view store.old) next missing.old missing.new) }
+    ensures same { OnOk result (StaysSame S.Store store.old store.new) }
+    ensures fault { IfErr result (StoreFails S.Store store.old store.new) }
+    ensures quiet { Quiet S.Store store.old store.new }
+{
+    let Some(name) = store.next_name(last)? else {
+        return Ok(None);
+    };
+    let said = checked_said(alloc, store, &name, missing)?;
+    let well = say(said, output)?;
+    Ok(Some((name, well)))
+}
+
+/// Writes a line for each name that is listed, and puts the links that lead to nothing into the set,
+/// which is empty before. Whether nothing is damaged.
+fn check_names<S: Store, W: Write, E: Write>(
+    alloc: Global,
+    store: &mut BlockStore<S>,
+    missing: &mut BTreeSet<Cid>,
+    output: &mut W,
+    progress: &mut Progress<E>,
+) -> Result<bool, Fault>
+    requires { missing.old.keys ≡ [] }
+    ensures says { SaysNames IsChecked (S.Store.view store.old) (W.contents output.old) result
+        (S.Store.view store.new) (W.contents output.new) }
+    ensures missing { OnOk result (IsClean (S.Store.view store.new) → IsMissing (S.Store.view store.old) missing.new) }
+    ensures same { OnOk result (StaysSame S.Store store.old store.new) }
+    ensures fault { IfErr result (StoreFails S.Store store.old store.new) }
+    ensures quiet { Quiet S.Store store.old store.new }
+{
+    let mut well = true;
+    let mut last = None;
+    for _count in 0..u64::MAX {
+        match check_next(alloc, store, last, missing, output)? {
+            Some(next) => {
+                last = Some(next.0);
+                well = both(well, next.1);
+                progress.add(1);
+            }
+            None => return Ok(well),
+        }
+    }
+    Err(Fault::Tool(ToolError::OutOfMemory))
+}
+
+/// The lines of the links in a set. Nothing is wrong where there is none.
+fn missing_said(alloc: Global, missing: BTreeSet<Cid>) -> Result<Said, AllocError>
+    ensures { SaysKeys missing.keys result }
+{
+    let none = missing.is_empty();
+    let mut lines = Vec::new(alloc);
+    for name in missing {
+        let line = missing_line(alloc, &name)?;
+        lines.extend_from_slice(&line)?;
+    }
+    Ok((lines, none))
+}
+
+/// Writes a line for each name that is listed, and then one for each link that leads to nothing.
+/// Whether nothing is damaged, and nothing is missing.
+pub fn check_blocks<S: Store, W: Write, E: Write>(
+    alloc: Global,
+    store: &mut BlockStore<S>,
+    output: &mut W,
+    progress: &mut Progress<E>,
+) -> Result<bool, Fault>
+    ensures says { SaysCheck (S.Store.view store.old) (W.contents output.old) result
+        (S.Store.view store.new) (W.contents output.new) }
+    ensures same { OnOk result (StaysSame S.Store store.old store.new) }
+    ensures fault { IfErr result (StoreFails S.Store store.old store.new) }
+    ensures quiet { Quiet S.Store store.old store.new }
+{
+    let mut missing = BTreeSet::new(alloc);
+    let well = check_names(alloc, store, &mut missing, output, progress)?;
+    let said = missing_said(alloc, missing)?;
+    let none = say(said, output)?;
+    Ok(both(well, none))
+}

@@ -1,0 +1,96 @@
+//! `export` and `tree`: files of blocks.
+
+ghost use Rattle.std.specs.Prelude.{◌≡◌, ◌↔◌, [], IsTrue, false, flat_map};
+ghost use Rattle.dagcbor_items.specs.Walks.{forms};
+ghost use Rattle.dagcbor_store.specs.Ends.{Quiet};
+ghost use Rattle.dagstore_lines.specs.Files.{fault_of, Exports};
+ghost use Rattle.dagstore_lines.specs.Lines.{no_block_line};
+ghost use Rattle.dagstore_lines.specs.Trees.{SaysTree, TellsAll};
+ghost use Rattle.block_lines.specs.Lines.{missing_line};
+
+use crate::block::NO_BLOCK;
+use crate::fault::Fault;
+use block_lines::{is_none, missing_lines};
+use dagcbor_cli::{ToolError, write_all};
+use dagcbor_heads::{EncodeError, IoRefWriter};
+use dagcbor_store::{BlockStore, Store, WriteCarError, WriteTreeError};
+use ipld_tree::Cid;
+use std::alloc::Global;
+use std::io::Write;
+
+/// How it is told that a file is not written.
+fn fault_of<E: Drop>(error: WriteCarError<E>) -> Fault
+    ensures { result ≡ fault_of error }
+{
+    match error {
+        WriteCarError::Write(error) => match error {
+            EncodeError::Write(_) => Fault::Tool(ToolError::Output),
+            _ => Fault::Tool(ToolError::OutOfMemory),
+        },
+        WriteCarError::Store(refusal) => Fault::Store(refusal),
+    }
+}
+
+/// Writes the file of these roots and of all blocks.
+pub fn export_blocks<S: Store, W: Write>(
+    store: &mut BlockStore<S>,
+    roots: &[Cid],
+    output: &mut W,
+) -> Result<bool, Fault>
+    ensures exports { Exports S.Store (forms roots.now) store.old (W.contents output.old) result store.new
+        (W.contents output.new) }
+    ensures quiet { Quiet S.Store store.old store.new }
+{
+    let mut writer = IoRefWriter::new(output);
+    let written = store.write_car(roots, &mut writer);
+    // No effect at run time. The proof reads what `output` holds from this use of it.
+    let _ = &*writer.into_inner();
+    match written {
+        Ok(()) => Ok(true),
+        Err(error) => Err(fault_of(error)),
+    }
+}
+
+/// Writes the file of the root, and of the blocks that links lead to from there, and tells which links
+/// lead to none, or that the root names nothing. Whether nothing is wrong.
+pub fn write_tree<S: Store, W: Write, V: Write>(
+    alloc: Global,
+    store: &mut BlockStore<S>,
+    root: &Cid,
+    output: &mut W,
+    errors: &mut V,
+) -> Result<bool, Fault>
+    ensures says { SaysTree S.Store root.now store.old (W.contents output.old) (V.contents errors.old) result
+        store.new (W.contents output.new) (V.contents errors.new) }
+    ensures quiet { Quiet S.Store store.old store.new }
+{
+    let mut writer = IoRefWriter::new(output);
+    let written = store.write_tree(root, &mut writer);
+    // No effect at run time. The proof reads what `output` holds from this use of it.
+    let _ = &*writer.into_inner();
+    match written {
+        Ok(lost) => tell_lost(alloc, &lost, errors),
+        Err(error) => match error {
+            WriteTreeError::NotStored => tell_nothing(errors),
+            WriteTreeError::Unwritten(error) => Err(fault_of(error)),
+        },
+    }
+}
+
+/// Tells which links lead to no block. Whether none does.
+fn tell_lost<V: Write>(alloc: Global, lost: &[Cid], errors: &mut V) -> Result<bool, Fault>
+    ensures { TellsAll (flat_map missing_line lost.now) (λ well. IsTrue well ↔ (lost.now ≡ []))
+        (V.contents errors.old) result (V.contents errors.new) }
+{
+    let told = missing_lines(alloc, lost)?;
+    write_all(errors, &told)?;
+    Ok(is_none(lost))
+}
+
+/// Tells that nothing is stored under a name.
+fn tell_nothing<V: Write>(errors: &mut V) -> Result<bool, Fault>
+    ensures { TellsAll no_block_line (λ well. well ≡ false) (V.contents errors.old) result (V.contents errors.new) }
+{
+    write_all(errors, NO_BLOCK)?;
+    Ok(false)
+}

@@ -1,0 +1,30 @@
+//! The lines of the program `dagstore`: what it says of the blocks in a store that lasts.
+#![tactic(auto)]
+
+mod answer;
+mod block;
+mod change;
+mod check;
+mod export;
+mod fault;
+mod import;
+mod line;
+mod list;
+mod progress;
+mod refusal;
+mod words;
+
+pub use answer::{
+    answer_check, answer_collect, answer_count, answer_export, answer_get, answer_has, answer_list,
+    answer_put, answer_remove, answer_tree,
+};
+pub use block::{NO_BLOCK, count_blocks, get_block, has_block};
+pub use change::{collect_blocks, put_block, remove_blocks};
+pub use check::check_blocks;
+pub use export::{export_blocks, write_tree};
+pub use fault::Fault;
+pub use import::import_blocks;
+pub use list::list_blocks;
+pub use progress::{Counted, Progress};
+pub use refusal::{end, tell_refusal};
+pub use words::{HELP, NO_STORE, NOT_READ, NOT_WRITTEN, OUT_OF_MEMORY, USAGE, VERSION};

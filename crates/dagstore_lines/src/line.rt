@@ -1,0 +1,25 @@
+//! The lines that the program alone writes.
+
+ghost use Rattle.std.specs.Prelude.{◌≡◌, ◌&&◌, IfOk, false};
+ghost use Rattle.dagstore_lines.specs.Lines.{damaged_line};
+
+use block_lines::{Said, line_of};
+use cid_text::cid_text;
+use ipld_tree::Cid;
+use std::alloc::{AllocError, Global};
+
+/// The line of a name under which nothing is stored that it names.
+pub fn damaged_said(alloc: Global, name: &Cid) -> Result<Said, AllocError>
+    ensures line { IfOk result (λ p. p.0.items ≡ damaged_line name.now) }
+    ensures well { IfOk result (λ p. p.1 ≡ false) }
+{
+    let line = line_of(alloc, &cid_text(name), b" damaged", b"")?;
+    Ok((line, false))
+}
+
+/// Whether both hold.
+pub fn both(one: bool, other: bool) -> bool
+    ensures { result ≡ (one && other) }
+{
+    one && other
+}

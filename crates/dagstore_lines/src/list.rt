@@ -1,0 +1,88 @@
+//! `list`: each name, and the length of the block under it.
+
+ghost use Rattle.std.specs.Prelude.{OnOk, IfOk, IfErr};
+ghost use Rattle.sqlite_trees.specs.View.{IsClean};
+ghost use Rattle.dagcbor_store.specs.Ends.{Quiet};
+ghost use Rattle.dagcbor_store.specs.Stored.{StaysSame, Lists};
+ghost use Rattle.dagstore_lines.specs.Said.{StoreFails};
+ghost use Rattle.dagstore_lines.specs.Names.{IsListed, SaysNames, SaysNext};
+
+use crate::fault::Fault;
+use crate::line::{both, damaged_said};
+use block_lines::{Said, listed_line, say};
+use dagcbor_cli::ToolError;
+use dagcbor_store::{BlockStore, Store, StoreRefusal};
+use ipld_tree::Cid;
+use std::alloc::Global;
+use std::io::Write;
+
+/// The line of the name, under which something is listed.
+fn listed_said<S: Store>(
+    alloc: Global,
+    store: &mut BlockStore<S>,
+    name: &Cid,
+) -> Result<Said, Fault>
+    ensures said { IfOk result (λ p. (IsClean (S.Store.view store.new) → Lists (S.Store.view store.old) name.now)
+        → IsListed (S.Store.view store.old) (S.Store.view store.new) name.now p.1 p.0.items) }
+    ensures same { OnOk result (StaysSame S.Store store.old store.new) }
+    ensures fault { IfErr result (StoreFails S.Store store.old store.new) }
+    ensures quiet { Quiet S.Store store.old store.new }
+{
+    match store.get_block(name) {
+        Ok(Some(block)) => {
+            let line = listed_line(alloc, name, &block)?;
+            Ok((line, true))
+        }
+        Ok(None) => Ok(damaged_said(alloc, name)?),
+        Err(StoreRefusal::Damaged(_)) => Ok(damaged_said(alloc, name)?),
+        Err(refusal) => Err(Fault::Store(refusal)),
+    }
+}
+
+/// Writes the line of the first name behind the last one. Answers the name, and whether nothing is
+/// wrong with it.
+fn list_next<S: Store, W: Write>(
+    alloc: Global,
+    store: &mut BlockStore<S>,
+    last: Option<Cid>,
+    output: &mut W,
+) -> Result<Option<(Cid, bool)>, Fault>
+    ensures says { SaysNext IsListed (S.Store.view store.old) last (W.contents output.old) result
+        (S.Store.view store.new) (W.contents output.new) }
+    ensures same { OnOk result (StaysSame S.Store store.old store.new) }
+    ensures fault { IfErr result (StoreFails S.Store store.old store.new) }
+    ensures quiet { Quiet S.Store store.old store.new }
+{
+    let Some(name) = store.next_name(last)? else {
+        return Ok(None);
+    };
+    let said = listed_said(alloc, store, &name)?;
+    let well = say(said, output)?;
+    Ok(Some((name, well)))
+}
+
+/// Writes a line for each name that is listed. Whether nothing is damaged.
+pub fn list_blocks<S: Store, W: Write>(
+    alloc: Global,
+    store: &mut BlockStore<S>,
+    output: &mut W,
+) -> Result<bool, Fault>
+    ensures says { SaysNames IsListed (S.Store.view store.old) (W.contents output.old) result
+        (S.Store.view store.new) (W.contents output.new) }
+    ensures same { OnOk result (StaysSame S.Store store.old store.new) }
+    ensures fault { IfErr result (StoreFails S.Store store.old store.new) }
+    ensures quiet { Quiet S.Store store.old store.new }
+{
+    let mut well = true;
+    let mut last = None;
+    for _count in 0..u64::MAX {
+        match list_next(alloc, store, last, output)? {
+            Some(next) => {
+                last = Some(next.0);
+                well = both(well, next.1);
+            }
+            None => return Ok(well),
+        }
+    }
+    Err(Fault::Tool(ToolError::OutOfMemory))
+}

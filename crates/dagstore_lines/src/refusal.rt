@@ -1,0 +1,154 @@
+//! What is told of a refusal, and the status of a run that ends so.
+
+ghost use Rattle.std.specs.Prelude.{◌≡◌, ◌++◌, codes};
+ghost use Rattle.cid_text.specs.Texts.{cid_text};
+ghost use Rattle.dagcbor_cli.specs.Writing.{WritesFront};
+ghost use Rattle.dagcbor_heads.specs.Written.{AppendsFront};
+ghost use Rattle.dagstore_lines.specs.Refusals.{disk_text, unsound_text, refusal_text, refusal_status, tool_text, told_line, status_of, TellsEnd};
+
+use crate::fault::Fault;
+use cid_text::cid_text;
+use dagcbor_cli::{ToolError, write_all};
+use dagcbor_items::variant_name;
+use dagcbor_store::{StoreRefusal, Unsound};
+use ipld_tree::Cid;
+use sqlite_trees::error::StoreError;
+use std::io::Write;
+
+/// What is told of a failure of the database.
+fn disk_text(error: &StoreError) -> &'static str
+    ensures { result.now ≡ disk_text error.now }
+{
+    match error {
+        StoreError::OutOfMemory => "out of memory",
+        StoreError::Io => "disk I/O error",
+        StoreError::Corrupt => "database disk image is malformed",
+        StoreError::Full => "database or disk is full",
+        StoreError::Broken => "the transaction must be rolled back",
+        StoreError::Unstorable => "a row cannot be stored",
+    }
+}
+
+/// What is told of a block that is not kept under its name, and the name of a variant.
+fn unsound_words(cause: &Unsound) -> (&'static str, &'static str)
+    ensures { result.0.now ++ result.1.now ≡ unsound_text cause.now }
+{
+    match cause {
+        Unsound::OtherHash => (
+            "the block is named by another hash function than SHA-256",
+            "",
+        ),
+        Unsound::OtherBytes => ("the block has other bytes than its name says", ""),
+        Unsound::NoBlock(error) => ("the block is no DAG-CBOR: ", variant_name(error)),
+    }
+}
+
+/// What is told of a refusal of the store, and the name of a variant.
+pub fn refusal_words(refusal: &StoreRefusal) -> (&'static str, &'static str)
+    ensures { result.0.now ++ result.1.now ≡ refusal_text refusal.now }
+{
+    match refusal {
+        StoreRefusal::Unsound(cause) => unsound_words(cause),
+        StoreRefusal::Damaged(_) => {
+            (
+                "what is stored under the name has other bytes than it says",
+                "",
+            )
+        }
+        StoreRefusal::NoNumber => ("no number is left for a row", ""),
+        StoreRefusal::TooLong => ("the block is too long for a row", ""),
+        StoreRefusal::NotAStore => ("the file is no store of blocks", ""),
+        StoreRefusal::Locked => ("another process has the file open", ""),
+        StoreRefusal::CannotOpen => ("the file cannot be opened for reading and writing", ""),
+        StoreRefusal::Disk(error) => (disk_text(error), ""),
+        StoreRefusal::OutOfMemory => ("out of memory", ""),
+    }
+}
+
+/// Status 1 where the data are the cause, else 2.
+pub fn refusal_status(refusal: &StoreRefusal) -> u8
+    ensures { result ≡ refusal_status refusal.now }
+{
+    match refusal {
+        StoreRefusal::Unsound(_) => 1,
+        StoreRefusal::Damaged(_) => 1,
+        StoreRefusal::NoNumber => 2,
+        StoreRefusal::TooLong => 1,
+        StoreRefusal::NotAStore => 1,
+        StoreRefusal::Locked => 2,
+        StoreRefusal::CannotOpen => 2,
+        StoreRefusal::Disk(_) => 2,
+        StoreRefusal::OutOfMemory => 2,
+    }
+}
+
+/// What is told of a device that failed, or of want of memory.
+fn tool_text(error: &ToolError) -> &'static str
+    ensures { result.now ≡ tool_text error.now }
+{
+    match error {
+        ToolError::Input => "the input failed",
+        ToolError::Output => "standard output takes no more",
+        ToolError::OutOfMemory => "out of memory",
+    }
+}
+
+/// Writes the bytes, and then the others.
+pub fn write_both<W: Write>(writer: &mut W, first: &[u8], second: &[u8]) -> Result<(), ToolError>
+    ensures { WritesFront (W.contents writer.old) (W.contents writer.new) result (first.now ++ second.now) }
+{
+    write_all(writer, first)?;
+    write_all(writer, second)
+}
+
+/// Writes a line under the program's name.
+pub fn write_told<W: Write>(errors: &mut W, first: &str, second: &str) -> Result<(), ToolError>
+    ensures { WritesFront (W.contents errors.old) (W.contents errors.new) result
+        (told_line (first.now ++ second.now)) }
+{
+    write_both(errors, b"dagstore: ", first.as_bytes())?;
+    write_both(errors, second.as_bytes(), b"\n")
+}
+
+/// Writes the line of the name of a block.
+pub fn write_name<V: Write>(errors: &mut V, name: &Cid) -> Result<(), ToolError>
+    ensures { WritesFront (V.contents errors.old) (V.contents errors.new) result
+        (told_line (codes "of " ++ cid_text name.now)) }
+{
+    write_both(errors, b"dagstore: of ", &cid_text(name))?;
+    write_all(errors, b"\n")
+}
+
+/// Tells the refusal, and answers its status. A fault in telling it is not told.
+pub fn tell_refusal<W: Write>(refusal: &StoreRefusal, errors: &mut W) -> u8
+    ensures status { result ≡ refusal_status refusal.now }
+    ensures told { AppendsFront (W.contents errors.old) (W.contents errors.new)
+        (told_line (refusal_text refusal.now)) }
+{
+    let (text, which) = refusal_words(refusal);
+    let _ = write_told(errors, text, which);
+    refusal_status(refusal)
+}
+
+/// Tells the fault, and answers its status. A fault in telling it is not told.
+pub fn tell_tool<W: Write>(error: &ToolError, errors: &mut W) -> u8
+    ensures status { result ≡ 2 }
+    ensures told { AppendsFront (W.contents errors.old) (W.contents errors.new)
+        (told_line (tool_text error.now)) }
+{
+    let _ = write_told(errors, tool_text(error), "");
+    2
+}
+
+/// The status of a run that ended so. A fault is told on `errors`.
+pub fn end<W: Write>(ended: Result<bool, Fault>, errors: &mut W) -> u8
+    ensures status { result ≡ status_of ended }
+    ensures told { TellsEnd ended (W.contents errors.old) (W.contents errors.new) }
+{
+    match ended {
+        Ok(true) => 0,
+        Ok(false) => 1,
+        Err(Fault::Store(refusal)) => tell_refusal(&refusal, errors),
+        Err(Fault::Tool(error)) => tell_tool(&error, errors),
+    }
+}

@@ -1,0 +1,51 @@
+//! What the program tells of itself, and where its words or the file are none.
+
+/// What is told of other words.
+pub const USAGE: &str =
+    "usage: dagstore FILE import|put|export|get|has|tree|remove|gc|check|list|count, dagstore --help\n";
+
+/// What `--help` writes.
+pub const HELP: &str = "usage: dagstore FILE import [SOURCE]
+       dagstore FILE put [dag-cbor|raw|0xCODEC]
+       dagstore FILE export [CID..]
+       dagstore FILE get|has|tree CID
+       dagstore FILE remove|gc CID..
+       dagstore FILE check|list|count
+
+Into the file, which these two make where there is none:
+  import   the blocks of a file of blocks (CAR, version 1 or 2), all or none; without SOURCE, or
+           with -, of standard input
+  put      the block on standard input, under its name, which is written
+
+Out of the file:
+  export   the file of all blocks (CAR, version 1), with these roots
+  get      the block of a name
+  has      nothing: the status is 0 where something is listed under the name, else 1
+  tree     the file of the blocks that links lead to
+  check    the verdict on each block, and which links lead nowhere
+  list     the length of each block
+  count    how many names are listed
+
+Changes:
+  remove   what is listed under the names is taken out
+  gc       all is taken out that no link leads to from these names
+
+For example: dagstore blocks.db import blocks.car
+
+The status is 0 where nothing is wrong, 1 where something is, 2 where it could not be told.
+";
+
+/// What `--version` writes.
+pub const VERSION: &str = "dagstore 0.7.0\n";
+
+/// What is told of want of memory.
+pub const OUT_OF_MEMORY: &str = "dagstore: out of memory\n";
+
+/// What is told where the input is not read.
+pub const NOT_READ: &str = "dagstore: the input failed\n";
+
+/// What is told where what was gathered does not go out.
+pub const NOT_WRITTEN: &str = "dagstore: standard output takes no more\n";
+
+/// What is told where the file is not there.
+pub const NO_STORE: &str = "dagstore: there is no such file; `import` and `put` make one\n";

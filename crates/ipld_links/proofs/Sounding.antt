@@ -1,0 +1,58 @@
+-- Blocks that a store keeps, and those that it refuses.
+use Rattle.std.proofs.Common.{◌≡◌, inl, inr, ℕ, List, refl, sym, ap, ◌∙◌, arith}
+use Rattle.std.specs.declared.convert.Infallible.{Infallible}
+use Rattle.sha2.specs.Sha256.{sha256}
+use Rattle.sha2.proofs.Facts256.{length-sha256}
+use Rattle.dagcbor_heads.specs.declared.error.DecodeError.{DecodeError}
+use Rattle.dagcbor_heads.specs.declared.error.DecodeError.TheVariants as unread
+use Rattle.ipld_tree.specs.Tree.{Tree}
+use Rattle.dagcbor_items.specs.Slices.{IsBlock, SliceRefused}
+use Rattle.ipld_links.specs.Names.{IsBySha256, IsInline, block_name}
+use Rattle.ipld_links.specs.Blocks.{NamedBlock}
+use Rattle.ipld_links.specs.Blocks.{HasBlock}
+use Rattle.ipld_links.specs.Verdicts.{IsVerified, IsDagCbor, IsVerdict}
+use Rattle.ipld_links.specs.Sound.{IsSound, IsUnsound}
+use Rattle.ipld_links.specs.declared.sound.Unsound.{Unsound}
+use Rattle.ipld_links.specs.declared.sound.Unsound.TheVariants as unsound
+use Rattle.ipld_links.specs.declared.verdict.Verdict.{Verdict}
+use Rattle.ipld_links.specs.declared.verdict.Verdict.TheVariants.{Block, Refused, OtherBytes, NotRead, Unverified}
+
+-- a name by SHA-256 is not by the identity
+by_sha256 : (s : NamedBlock) → s.0.hash_code ≡ 0x12 → IsVerified s → IsBySha256 s.0 × (s.0.digest ≡ sha256 s.1)
+by_sha256 s by (inl h) = h
+by_sha256 s by (inr h) = absurd (omega (arith, by, h.0))
+
+-- what the verdict says of a block under a name by SHA-256 that is kept
+pub sound_read : (s : NamedBlock) (kind : _) → s.0.hash_code ≡ 0x12 → IsVerdict s (Block kind) → IsSound s
+sound_read s kind by h = let v = by_sha256 s by h.0 in record { by_sha256 = v.0; digest = v.1; read = λ dag. (h.2.0, h.2.1) }
+
+pub sound_unread : (s : NamedBlock) → s.0.hash_code ≡ 0x12 → IsVerdict s NotRead → IsSound s
+sound_unread s by h = let v = by_sha256 s by h.0 in record { by_sha256 = v.0; digest = v.1; read = λ dag. absurd (h.1 dag) }
+
+-- and of one that is not
+pub unsound_refused : (s : NamedBlock) (e : DecodeError Infallible) → s.0.hash_code ≡ 0x12 → IsVerdict s (Refused e) → IsUnsound s (unsound.NoBlock e)
+unsound_refused s e by h = let v = by_sha256 s by h.0 in (v.0, v.1, h.1, h.2, h.3)
+
+pub unsound_bytes : (s : NamedBlock) → s.0.hash_code ≡ 0x12 → IsVerdict s OtherBytes → IsUnsound s unsound.OtherBytes
+unsound_bytes s by (inl h, not) = (h, λ e. not (inl (h, e)))
+unsound_bytes s by (inr h, not) = absurd (omega (arith, by, h))
+
+-- ---- what holds of both
+
+-- what is refused without want of memory is no block
+pub no_block : (e : DecodeError Infallible) (b : List ℕ) → SliceRefused e b → (e ≡ unread.OutOfMemory → ⊥) → (t : Tree) → IsBlock b t → ⊥
+no_block (unread.Read e) b r n t h = r
+no_block unread.OutOfMemory b r n t h = n refl
+no_block (unread.RequireBorrowed name) b r n t h = r
+no_block unread.Failed b r n t h = r
+no_block e b r n t h = r.0 t h
+
+-- a sound block is not refused
+pub never_unsound : (s : NamedBlock) (e : Unsound) → IsSound s → IsUnsound s e → ⊥
+never_unsound s unsound.OtherHash h r = r h.by_sha256
+never_unsound s unsound.OtherBytes h r = r.1 h.digest
+never_unsound s (unsound.NoBlock e) h r = let block = h.read r.2 in no_block e s.1 r.3 r.4 block.0 block.1
+
+-- a block of DAG-CBOR is sound under its own name
+pub sound_own : (b : List ℕ) → HasBlock b → IsSound (block_name b, b)
+sound_own b h = record { by_sha256 = (refl, length-sha256 b); digest = refl; read = λ dag. h }

@@ -1,0 +1,251 @@
+-- Links within links.
+use Rattle.std.proofs.Common.{◌≡◌, ◌⊎◌, inl, inr, ℕ, ◌+◌, ◌<◌, ◌≤◌, max, zero, suc, Bool, true, false, List, [], ◌∷◌, ◌++◌, length, length-append, get_or, take, refl, sym, ap, ◌∙◌, subst, arith, add-one, ◌≢◌, ◌↔◌, Result, Ok, Err, is_err, OnOk, if◌then◌else◌, ◌==◌, take-suc}
+use Rattle.std.specs.List.{AllByRecursion}
+use Rattle.std.proofs.Math.Seq.{take-length}
+use Rattle.dagcbor_heads.specs.Head.{head}
+use Rattle.ipld_tree.specs.Cid.{varint, CidParts, AreCidParts, IsCid, cid_bytes}
+use Rattle.ipld_tree.specs.Tree.{Tree, null, boolean, integer, text, bytes, list, mapping, link, Items, no_items, item, Entries, no_entries, entry, IsTree, AreItems, AreEntries, links_of, items_links, entries_links}
+use Rattle.ipld_tree.specs.Spelling.{item_count, entry_count, spelling, text_spelling, items_spelling, entries_spelling}
+use Rattle.ipld_tree.proofs.Cids.{cid_unique}
+use Rattle.ipld_tree.proofs.Fronts.{front_unique}
+use Rattle.dagcbor_items.specs.Walks.{forms, AreLinksIn, HasLinkIn}
+use Rattle.dagcbor_items.specs.Slices.{IsBlock, AreFirstLinks}
+use Rattle.dagcbor_items.proofs.LinksIn.{item_links_in}
+use Rattle.dagcbor_items.proofs.SliceReads.{whole_front}
+use Rattle.ipld_links.specs.Names.{IsInline}
+use Rattle.ipld_links.specs.Verdicts.{IsDagCbor}
+use Rattle.ipld_links.specs.Blocks.{HasBlock}
+use Rattle.ipld_links.specs.Sets.{Among, members}
+use Rattle.ipld_links.specs.Held.{IsKept, HoldsNone}
+use Rattle.ipld_links.specs.Within.{IsInlineForm, IsWithin, IsReached, IsReachedName, HoldsReached, AddsUnheld, AddsReached, AddsAll, AreFirstNames, AddsLinks}
+use Rattle.ipld_links.specs.declared.cid_set.CidSet.{CidSet}
+use Rattle.ipld_links.specs.declared.held.HeldNames.{HeldNames}
+use Rattle.ipld_links.proofs.Members.{among_append, append_among, among_map, whole_block}
+
+-- ---- a link is shorter than the block that it stands in
+
+mutual
+  link_short : (t : Tree) (form : List ℕ) → Among form (links_of t) → length form < length (spelling t)
+  link_short null form h = absurd h
+  link_short (boolean b) form h = absurd h
+  link_short (integer n) form h = absurd h
+  link_short (text s) form h = absurd h
+  link_short (bytes s) form h = absurd h
+  link_short (list ts) form h = omega (arith, items_short ts form h, length-append (head 4 (item_count ts)) (items_spelling ts))
+  link_short (mapping es) form h = omega (arith, entries_short es form h, length-append (head 5 (entry_count es)) (entries_spelling es))
+  link_short (link cid) form (inl e) = omega (arith, ap length e, length-append (head 2 (length (0 ∷ cid))) (0 ∷ cid))
+  link_short (link cid) form (inr h) = absurd h
+
+  items_short : (ts : Items) (form : List ℕ) → Among form (items_links ts) → length form < length (items_spelling ts)
+  items_short no_items form h = absurd h
+  items_short (item t ts) form h = elim (among_append form (links_of t) (items_links ts) h) [
+    | inl m ↦ omega (arith, link_short t form m, length-append (spelling t) (items_spelling ts))
+    | inr m ↦ omega (arith, items_short ts form m, length-append (spelling t) (items_spelling ts))
+  ]
+
+  entries_short : (es : Entries) (form : List ℕ) → Among form (entries_links es) → length form < length (entries_spelling es)
+  entries_short no_entries form h = absurd h
+  entries_short (entry k t es) form h = elim (among_append form (links_of t) (entries_links es) h) [
+    | inl m ↦ omega (arith, link_short t form m, length-append (text_spelling k) (spelling t ++ entries_spelling es), length-append (spelling t) (entries_spelling es))
+    | inr m ↦ omega (arith, entries_short es form m, length-append (text_spelling k) (spelling t ++ entries_spelling es), length-append (spelling t) (entries_spelling es))
+  ]
+
+-- ---- links are CIDs
+
+mutual
+  pub links_are_cids : (t : Tree) (form : List ℕ) → IsTree t → Among form (links_of t) → IsCid form
+  links_are_cids null form p h = absurd h
+  links_are_cids (boolean b) form p h = absurd h
+  links_are_cids (integer n) form p h = absurd h
+  links_are_cids (text s) form p h = absurd h
+  links_are_cids (bytes s) form p h = absurd h
+  links_are_cids (list ts) form p h = items_are_cids ts form p h
+  links_are_cids (mapping es) form p h = entries_are_cids es form p h
+  links_are_cids (link cid) form p (inl e) = subst IsCid (sym e) p
+  links_are_cids (link cid) form p (inr h) = absurd h
+
+  items_are_cids : (ts : Items) (form : List ℕ) → AreItems ts → Among form (items_links ts) → IsCid form
+  items_are_cids no_items form p h = absurd h
+  items_are_cids (item t ts) form p h = elim (among_append form (links_of t) (items_links ts) h) [ inl m ↦ links_are_cids t form p.0 m | inr m ↦ items_are_cids ts form p.1 m ]
+
+  entries_are_cids : (es : Entries) (form : List ℕ) → AreEntries es → Among form (entries_links es) → IsCid form
+  entries_are_cids no_entries form p h = absurd h
+  entries_are_cids (entry k t es) form p h = elim (among_append form (links_of t) (entries_links es) h) [ inl m ↦ links_are_cids t form p.1 m | inr m ↦ entries_are_cids es form p.3 m ]
+
+within_cid : (n : ℕ) (start form : List ℕ) → IsCid start → IsWithin n start form → IsCid form
+within_cid zero start form c e = subst IsCid (sym e) c
+within_cid (suc n) start form c w = within_cid n w.1 form (links_are_cids w.0 w.1 w.2.5.0.well_formed w.3) w.4
+
+-- what is reached from the links of a tree is a CID
+pub reached_cid : (t : Tree) (form : List ℕ) → IsTree t → IsReached form (links_of t) → IsCid form
+reached_cid t form p r = within_cid r.1 r.0 form (links_are_cids t r.0 p r.2) r.3
+
+-- what is reached from CIDs is one
+pub reached_of_cids : (cs : List CidParts) (form : List ℕ) → AllByRecursion AreCidParts cs → IsReached form (forms cs) → IsCid form
+reached_of_cids cs form all r = within_cid r.1 r.0 form (by cs all r.2) r.3
+  where
+    by : (xs : List CidParts) → AllByRecursion AreCidParts xs → Among r.0 (forms xs) → IsCid r.0
+    by [] h m = absurd m
+    by (x ∷ xs) h (inl e) = (x, h.0, e)
+    by (x ∷ xs) h (inr m) = by xs h.1 m
+
+-- the binary form of a name that holds no block itself
+pub not_inline : (form : List ℕ) (q : CidParts) → AreCidParts q → (IsInline q → ⊥) → form ≡ cid_bytes q → IsInlineForm form → ⊥
+not_inline form q p other e i = other (subst IsInline (cid_unique i.0 q i.1 p (sym i.2 ∙ e)) i.3)
+
+-- ---- one link
+
+-- of one CID the binary forms are the same
+own : (c d : CidParts) → AreCidParts c → AreCidParts d → cid_bytes c ≡ cid_bytes d → c ≡ d
+own c d p q e = cid_unique c d p q e
+
+-- the name of a link that holds no block itself
+plain_reached : (c q : CidParts) → AreCidParts c → (IsInline c → ⊥) → AreCidParts q → IsReached (cid_bytes q) (cid_bytes c ∷ []) → q ≡ c
+plain_reached c q p none r (start, zero, inl at, w) = own q c r p (w ∙ at)
+plain_reached c q p none r (start, suc n, inl at, w) = absurd (none (subst IsInline (own w.2.0 c w.2.1 p (sym w.2.2 ∙ at)) w.2.3))
+plain_reached c q p none r (start, n, inr m, w) = absurd m
+
+plain_one : (c : CidParts) (held : HeldNames) (old new : CidSet) → (IsInline c → ⊥) → AddsUnheld c held old new → AddsReached (cid_bytes c ∷ []) held old new
+plain_one c held old new none a q = (
+  λ m. elim ((a.1 q).0 m) [ inl o ↦ inl o | inr (e, free) ↦ inr ((subst AreCidParts (sym e) a.0, (λ i. none (subst IsInline e i)), (cid_bytes c, zero, inl refl, ap cid_bytes e)), free) ],
+  λ h. elim h [ inl o ↦ (a.1 q).1 (inl o) | inr (r, free) ↦ (a.1 q).1 (inr (plain_reached c q a.0 none r.0 r.2, free)) ],
+)
+
+pub plain_added : {E : Type 0} (r : Result (Unit {0}) E) (c : CidParts) (held : HeldNames) (old new : CidSet) → (IsInline c → ⊥) → OnOk r (AddsUnheld c held old new) → OnOk r (AddsAll (c ∷ []) held old new)
+plain_added (Err e) c held old new none a = tt
+plain_added (Ok u) c held old new none a = ((a.0, tt), λ q. plain_one c held old new none a q)
+
+-- a name that holds no block of DAG-CBOR
+no_reach : (c q : CidParts) → AreCidParts c → IsInline c → ((t : Tree) → IsDagCbor c → IsBlock c.digest t → ⊥) → AreCidParts q → (IsInline q → ⊥) → IsReached (cid_bytes q) (cid_bytes c ∷ []) → ⊥
+no_reach c q p i none r other (start, zero, inl at, w) = other (subst IsInline (sym (own q c r p (w ∙ at))) i)
+no_reach c q p i none r other (start, suc n, inl at, w) =
+    let same = own w.2.0 c w.2.1 p (sym w.2.2 ∙ at) in
+    none w.0 (subst IsDagCbor same w.2.4) (subst (λ (d : CidParts). IsBlock d.digest w.0) same w.2.5)
+no_reach c q p i none r other (start, n, inr m, w) = m
+
+pub none_added : (c : CidParts) (held : HeldNames) (s : CidSet) → AreCidParts c → IsInline c → ((t : Tree) → IsDagCbor c → IsBlock c.digest t → ⊥) → AddsAll (c ∷ []) held s s
+none_added c held s p i none = ((p, tt), λ q. (inl, λ h. elim h [ inl o ↦ o | inr (r, free) ↦ absurd (no_reach c q p i none r.0 r.1 r.2) ]))
+
+-- a name that holds a block
+inner_reach : (c q : CidParts) (t : Tree) → AreCidParts c → IsInline c → IsBlock c.digest t → AreCidParts q → (IsInline q → ⊥) → IsReached (cid_bytes q) (cid_bytes c ∷ []) → IsReached (cid_bytes q) (links_of t)
+inner_reach c q t p i block r other (start, zero, inl at, w) = absurd (other (subst IsInline (sym (own q c r p (w ∙ at))) i))
+inner_reach c q t p i block r other (start, suc n, inl at, w) =
+    let same = own w.2.0 c w.2.1 p (sym w.2.2 ∙ at) in
+    let inside = subst (λ (d : CidParts). IsBlock d.digest w.0) same w.2.5 in
+    let tree : w.0 ≡ t = (front_unique c.digest [] [] w.0 t (whole_front inside.0) (whole_front block.0)).0 in
+    (w.1, n, subst (λ u. Among w.1 (links_of u)) tree w.3, w.4)
+inner_reach c q t p i block r other (start, n, inr m, w) = absurd m
+
+pub inner_added : {E : Type 0} (r : Result (Unit {0}) E) (c : CidParts) (held : HeldNames) (old new : CidSet) → AreCidParts c → IsInline c → IsDagCbor c → AddsLinks c.digest held old r new → OnOk r (AddsAll (c ∷ []) held old new)
+inner_added (Err e) c held old new p i d h = tt
+inner_added (Ok u) c held old new p i d (t, block, h) = (
+  (p, tt),
+  λ q. (
+    λ m. elim ((h q).0 m) [
+      | inl o ↦ inl o
+      | inr (r, free) ↦ inr ((r.0, r.1, (cid_bytes c, suc r.2.1, inl refl, (t, r.2.0, (c, p, refl, i, d, block), r.2.2, r.2.3))), free)
+    ],
+    λ k. elim k [ inl o ↦ (h q).1 (inl o) | inr (r, free) ↦ (h q).1 (inr ((r.0, r.1, inner_reach c q t p i block r.0 r.1 r.2), free)) ],
+  ),
+)
+
+-- ---- many links
+
+pub added_none : (held : HeldNames) (s : CidSet) → AddsReached [] held s s
+added_none held s q = (inl, λ h. elim h [ inl o ↦ o | inr (r, free) ↦ absurd r.2.2 ])
+
+reached_append : (q : CidParts) (xs ys : List (List ℕ)) → IsReachedName q (xs ++ ys) → IsReachedName q xs ⊎ IsReachedName q ys
+reached_append q xs ys r = elim (among_append r.2.0 xs ys r.2.2) [
+  | inl m ↦ inl (r.0, r.1, (r.2.0, r.2.1, m, r.2.3))
+  | inr m ↦ inr (r.0, r.1, (r.2.0, r.2.1, m, r.2.3))
+]
+
+append_reached : (q : CidParts) (xs ys : List (List ℕ)) → IsReachedName q xs ⊎ IsReachedName q ys → IsReachedName q (xs ++ ys)
+append_reached q xs ys (inl r) = (r.0, r.1, (r.2.0, r.2.1, append_among r.2.0 xs ys (inl r.2.2), r.2.3))
+append_reached q xs ys (inr r) = (r.0, r.1, (r.2.0, r.2.1, append_among r.2.0 xs ys (inr r.2.2), r.2.3))
+
+added_both : (xs ys : List (List ℕ)) (held : HeldNames) (old mid new : CidSet) → AddsReached xs held old mid → AddsReached ys held mid new → AddsReached (xs ++ ys) held old new
+added_both xs ys held old mid new first next q = (there, back)
+  where
+    there : Among q (members new) → Among q (members old) ⊎ (IsReachedName q (xs ++ ys) × (IsKept q held → ⊥))
+    there m = elim ((next q).0 m) [
+      | inl o ↦ elim ((first q).0 o) [ inl k ↦ inl k | inr (r, free) ↦ inr (append_reached q xs ys (inl r), free) ]
+      | inr (r, free) ↦ inr (append_reached q xs ys (inr r), free)
+    ]
+
+    by : IsReachedName q xs ⊎ IsReachedName q ys → (IsKept q held → ⊥) → Among q (members new)
+    by (inl r) free = (next q).1 (inl ((first q).1 (inr (r, free))))
+    by (inr r) free = (next q).1 (inr (r, free))
+
+    back : Among q (members old) ⊎ (IsReachedName q (xs ++ ys) × (IsKept q held → ⊥)) → Among q (members new)
+    back (inl o) = (next q).1 (inl ((first q).1 (inl o)))
+    back (inr (r, free)) = by (reached_append q xs ys r) free
+
+forms_push : (cs : List CidParts) (c : CidParts) → forms (cs ++ c ∷ []) ≡ forms cs ++ cid_bytes c ∷ []
+forms_push [] c = refl
+forms_push (x ∷ cs) c = ap (λ more. cid_bytes x ∷ more) (forms_push cs c)
+
+all_push : (xs : List CidParts) (c : CidParts) → AllByRecursion AreCidParts xs → AreCidParts c → AllByRecursion AreCidParts (xs ++ c ∷ [])
+all_push [] c h p = (p, tt)
+all_push (x ∷ xs) c h p = (h.0, all_push xs c h.1 p)
+
+pub all_next : (cids : List CidParts) (i : ℕ) (c : CidParts) (held : HeldNames) (old mid new : CidSet) → i < length cids → c ≡ get_or cids i c → AddsAll (take i cids) held old mid → AddsAll (c ∷ []) held mid new → AddsAll (take (i + 1) cids) held old new
+all_next cids i c held old mid new within is first next =
+    let more : take i cids ++ c ∷ [] ≡ take (i + 1) cids = ap (λ y. take i cids ++ y ∷ []) is ∙ sym (take-suc cids i c within) ∙ ap (λ n. take n cids) (sym (add-one i)) in
+    subst (λ cs. AddsAll cs held old new) more (all_push (take i cids) c first.0 next.0.0, subst (λ ls. AddsReached ls held old new) (sym (forms_push (take i cids) c)) (added_both (forms (take i cids)) (cid_bytes c ∷ []) held old mid new first.1 next.1))
+
+pub all_done : (cids : List CidParts) (i : ℕ) (held : HeldNames) (old new : CidSet) → i ≡ length cids → AddsAll (take i cids) held old new → AddsAll cids held old new
+all_done cids i held old new all h = subst (λ cs. AddsAll cs held old new) (ap (λ n. take n cids) all ∙ take-length cids) h
+
+-- ---- the links of a block
+
+pub block_added : {E : Type 0} (b : List ℕ) (r : Result (Unit {0}) E) (cids : List CidParts) (held : HeldNames) (old new : CidSet) → HasBlock b → AreFirstLinks b (forms cids) → OnOk r (AddsAll cids held old new) → AddsLinks b held old r new
+block_added b (Err e) cids held old new has first h = tt
+block_added b (Ok u) cids held old new has first h = (first.0, whole_block b first.1 first.0 has first.2, subst (λ ls. AddsReached ls held old new) first.4 h.1)
+
+-- ---- measures
+
+-- one more than the greatest length of a digest, if there is one
+abbrev pub longest : List CidParts → ℕ
+longest [] = 0
+longest (c ∷ cs) = max (length c.digest + 1) (longest cs)
+
+-- a digest that stands in a block is shorter than the block
+pub links_inside : (b : List ℕ) (cids : List CidParts) → HasBlock b → AreFirstLinks b (forms cids) → longest cids ≤ length b
+links_inside b cids has first = by cids (λ c m. subst (Among (cid_bytes c)) first.4 (among_map cid_bytes c cids m))
+  where
+    whole : IsBlock b first.0
+    whole = whole_block b first.1 first.0 has first.2
+
+    digest_le : (c : CidParts) → length c.digest ≤ length (cid_bytes c)
+    digest_le c = by (c.version == 0)
+      where
+        by : (v : Bool) → length c.digest ≤ length (if v then 0x12 ∷ 0x20 ∷ c.digest else 0x01 ∷ (varint c.codec ++ (varint c.hash_code ++ (varint (length c.digest) ++ c.digest))))
+        by true = omega arith
+        by false = omega (arith, length-append (varint c.codec) (varint c.hash_code ++ (varint (length c.digest) ++ c.digest)), length-append (varint c.hash_code) (varint (length c.digest) ++ c.digest), length-append (varint (length c.digest)) c.digest)
+
+    by : (cs : List CidParts) → ((c : CidParts) → Among c cs → Among (cid_bytes c) (links_of first.0)) → longest cs ≤ length b
+    by [] h = omega arith
+    by (c ∷ cs) h = omega (arith, digest_le c, link_short first.0 (cid_bytes c) (h c (inl refl)), by cs (λ d m. h d (inr m)), ap length whole.0.is)
+
+pub longest_at : (cids : List CidParts) (i : ℕ) (c : CidParts) → i < length cids → c ≡ get_or cids i c → length c.digest + 1 ≤ longest cids
+longest_at [] i c h e = absurd (omega (arith, h))
+longest_at (x ∷ xs) zero c h e = omega (arith, ap (λ (d : CidParts). length d.digest) e)
+longest_at (x ∷ xs) (suc k) c h e = omega (arith, longest_at xs k c (omega (arith, h)) e)
+
+pub reached_only : (held : HeldNames) (s new : CidSet) (links : List (List ℕ)) → HoldsNone held → members s ≡ [] → AddsReached links held s new → HoldsReached new links
+reached_only held s new links free none h q = (λ m. elim ((h q).0 m) [ inl o ↦ absurd (subst (Among q) none o) | inr r ↦ r.0 ], λ r. (h q).1 (inr (r, free q)))
+
+pub first_names : {E : Type 0} (b : List ℕ) (r : Result (Unit {0}) E) (cids items : List CidParts) (held : HeldNames) (start new : CidSet) → HoldsNone held → members start ≡ [] → AreFirstLinks b (forms cids) → false ≡ is_err r → OnOk r (AddsAll cids held start new) → items ≡ members new → AreFirstNames b items
+first_names b (Err e) cids items held start new free none first wrong h is = absurd (cc wrong)
+first_names b (Ok u) cids items held start new free none first right h is =
+    let reached = reached_only held start new (links_of first.0) free none (subst (λ ls. AddsReached ls held start new) first.4 h.1) in
+    (first.0, first.1, first.2, first.3, λ q. subst (λ ms. Among q ms ↔ IsReachedName q (links_of first.0)) (sym is) (reached q))
+
+-- the links that are read stand in the bytes
+pub some_link : (b : List ℕ) (cids : List CidParts) → AreFirstLinks b (forms cids) → cids ≢ [] → HasLinkIn b
+some_link b [] first some = absurd (some refl)
+some_link b (c ∷ cids) first some =
+    let all = item_links_in first.0 b first.1 [] first.2 tt in
+    let held = subst (λ ls. AreLinksIn b (ls ++ [])) (sym first.4) all in
+    (cid_bytes c, (held.0, held.1, held.2, held.3, held.4, tt))

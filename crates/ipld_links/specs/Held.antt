@@ -1,0 +1,38 @@
+-- Names under which blocks are held.
+use Rattle.std.specs.Prelude.{◌≡◌, ◌↔◌, ◌⊎◌, ℕ, List, length, take, Option, None, Some, slice_get, if◌then◌else◌, nat_le}
+use Rattle.std.specs.Int.{w64, from_le_bytes}
+use Rattle.std.specs.Ordering.{nat_cmp}
+use Rattle.std.specs.BTreeMap.{get}
+use Rattle.ipld_tree.specs.Cid.{CidParts, AreCidParts}
+use Rattle.ipld_links.specs.Sets.{Among, members}
+use Rattle.ipld_links.specs.declared.held.HeldNames.{HeldNames}
+
+-- the number that the first eight bytes of a digest spell, the lowest of them first
+abbrev pub front : List ℕ → ℕ
+front digest = if nat_le 8 (length digest) then from_le_bytes w64 (take 8 digest) else 0
+
+-- the name at this place, if there is one
+abbrev pub name_at : List CidParts → Option ℕ → Option CidParts
+name_at names None = None
+name_at names (Some i) = slice_get names i
+
+-- the name in the row with this front
+abbrev pub named : HeldNames → ℕ → Option CidParts
+named s n = name_at s.names.items (get nat_cmp s.places n)
+
+-- the name stands in the row, or is one of the others
+abbrev pub IsKept : CidParts → HeldNames → Type 0
+IsKept c s = (named s (front c.digest) ≡ Some c) ⊎ Among c (members s.others)
+
+-- no name is kept
+abbrev pub HoldsNone : HeldNames → Type 0
+HoldsNone s = (c : CidParts) → ¬ IsKept c s
+
+-- the names are the old ones and this CID
+abbrev pub AddsName : CidParts → HeldNames → HeldNames → Type 0
+AddsName c old new = AreCidParts c
+    × ((q : CidParts) → IsKept q new ↔ (IsKept q old ⊎ (q ≡ c)))
+
+-- the names are CIDs
+abbrev pub AreNames : HeldNames → Type 0
+AreNames s = (q : CidParts) → IsKept q s → AreCidParts q

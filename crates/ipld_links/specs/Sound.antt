@@ -1,0 +1,26 @@
+-- Which blocks a store keeps under their names.
+use Rattle.std.specs.Prelude.{◌≡◌, ◌≢◌}
+use Rattle.sha2.specs.Sha256.{sha256}
+use Rattle.dagcbor_heads.specs.declared.error.DecodeError.TheVariants as unread
+use Rattle.ipld_tree.specs.Cid.{CidParts}
+use Rattle.dagcbor_items.specs.Slices.{SliceRefused}
+use Rattle.ipld_links.specs.Names.{IsBySha256}
+use Rattle.ipld_links.specs.Blocks.{NamedBlock}
+use Rattle.ipld_links.specs.Blocks.{HasBlock}
+use Rattle.ipld_links.specs.Verdicts.{IsDagCbor}
+use Rattle.ipld_links.specs.declared.sound.Unsound.{Unsound}
+use Rattle.ipld_links.specs.declared.sound.Unsound.TheVariants.{OtherHash, OtherBytes, NoBlock}
+
+-- the name is by SHA-256, and the bytes are those that it names; where it says that they are DAG-CBOR,
+-- they are a block of it
+pub record IsSound (s : NamedBlock) : Type 0 where
+  pub by_sha256 : IsBySha256 s.0
+  pub digest : s.0.digest ≡ sha256 s.1
+  pub read : IsDagCbor s.0 → HasBlock s.1
+
+-- why bytes are not sound under a name
+abbrev pub IsUnsound : NamedBlock → Unsound → Type 0
+IsUnsound s OtherHash = ¬ IsBySha256 s.0
+IsUnsound s OtherBytes = IsBySha256 s.0 × (s.0.digest ≢ sha256 s.1)
+IsUnsound s (NoBlock e) = IsBySha256 s.0 × (s.0.digest ≡ sha256 s.1) × IsDagCbor s.0
+    × SliceRefused e s.1 × (e ≢ unread.OutOfMemory)

@@ -1,0 +1,75 @@
+-- Links within links: a name by the identity holds its block itself, and links stand in that block.
+use Rattle.std.specs.Prelude.{◌≡◌, ◌↔◌, ◌⊎◌, ℕ, zero, suc, ◌≤◌, List, Result, OnOk}
+use Rattle.ipld_tree.specs.Cid.{CidParts, AreCidParts, cid_bytes}
+use Rattle.dagcbor_heads.specs.Reading.{default_steps}
+use Rattle.ipld_tree.specs.Tree.{Tree, any_need, links_of}
+use Rattle.ipld_tree.specs.Spelling.{IsFront}
+use Rattle.std.specs.List.{AllByRecursion}
+use Rattle.dagcbor_items.specs.Walks.{forms}
+use Rattle.dagcbor_items.specs.Slices.{IsBlock}
+use Rattle.ipld_links.specs.Names.{IsInline}
+use Rattle.ipld_links.specs.Verdicts.{IsDagCbor}
+use Rattle.ipld_links.specs.Sets.{Among, members}
+use Rattle.ipld_links.specs.Held.{IsKept}
+use Rattle.ipld_links.specs.declared.cid_set.CidSet.{CidSet}
+use Rattle.ipld_links.specs.declared.held.HeldNames.{HeldNames}
+
+-- the binary form is that of a name which holds its block itself
+abbrev pub IsInlineForm : List ℕ → Type 0
+IsInlineForm form = (c : CidParts) × AreCidParts c × (form ≡ cid_bytes c) × IsInline c
+
+-- the link's name holds this block of DAG-CBOR itself
+abbrev pub HoldsBlock : List ℕ → Tree → Type 0
+HoldsBlock link t = (c : CidParts) × AreCidParts c × (link ≡ cid_bytes c) × IsInline c
+    × IsDagCbor c × IsBlock c.digest t
+
+-- the binary form is the link's own; or that of a link in the block which the name holds itself,
+-- or in the block which the name of such a link holds, and so on, so many blocks deep
+abbrev pub IsWithin : ℕ → List ℕ → List ℕ → Type 0
+IsWithin zero link form = form ≡ link
+IsWithin (suc n) link form = (t : Tree) × (inner : List ℕ) × HoldsBlock link t
+    × Among inner (links_of t) × IsWithin n inner form
+
+-- the binary form is that of one of the links, or of one within them
+abbrev pub IsReached : List ℕ → List (List ℕ) → Type 0
+IsReached form links = (link : List ℕ) × (n : ℕ) × Among link links × IsWithin n link form
+
+-- ---- sets of them
+
+-- the CID is reached from the links, and does not hold its block itself
+abbrev pub IsReachedName : CidParts → List (List ℕ) → Type 0
+IsReachedName q links = AreCidParts q × ¬ IsInline q × IsReached (cid_bytes q) links
+
+-- the members are the names that are reached from the links
+abbrev pub HoldsReached : CidSet → List (List ℕ) → Type 0
+HoldsReached s links = (q : CidParts) → Among q (members s) ↔ IsReachedName q links
+
+-- the members are the old ones, and this CID, if it is not held
+abbrev pub AddsUnheld : CidParts → HeldNames → CidSet → CidSet → Type 0
+AddsUnheld c held old new = AreCidParts c
+    × ((q : CidParts) → Among q (members new) ↔ (Among q (members old) ⊎ ((q ≡ c) × ¬ IsKept q held)))
+
+-- the members are the old ones, and the names that are reached from the links and are not held
+abbrev pub AddsReached : List (List ℕ) → HeldNames → CidSet → CidSet → Type 0
+AddsReached links held old new = (q : CidParts)
+    → Among q (members new) ↔ (Among q (members old) ⊎ (IsReachedName q links × ¬ IsKept q held))
+
+-- the links are CIDs, and the names that are reached from them and are not held joined the members
+abbrev pub AddsAll : List CidParts → HeldNames → CidSet → CidSet → Type 0
+AddsAll cids held old new = AllByRecursion AreCidParts cids × AddsReached (forms cids) held old new
+
+-- the list has the names that are reached from the links
+abbrev pub ListsReached : List CidParts → List (List ℕ) → Type 0
+ListsReached names links = (q : CidParts) → Among q names ↔ IsReachedName q links
+
+-- the bytes begin with a tree that is read within `default_steps`, and from its links these names
+-- are reached
+abbrev pub AreFirstNames : List ℕ → List CidParts → Type 0
+AreFirstNames b names = (t : Tree) × (rest : List ℕ) × IsFront b t rest
+    × (any_need t ≤ default_steps) × ListsReached names (links_of t)
+
+-- the names that are reached from the links of a block and are not held joined those before
+abbrev pub AddsLinks : {E : Type 0} → List ℕ → HeldNames → CidSet → Result (Unit {0}) E → CidSet
+    → Type 0
+AddsLinks b held old result new = OnOk result
+    ((t : Tree) × IsBlock b t × AddsReached (links_of t) held old new)

@@ -1,0 +1,135 @@
+//! Sets of CIDs.
+
+ghost use Rattle.std.specs.Prelude.{◌≡◌, ◌↔◌, [], ◌∷◌, IfOk, OnOk, Some, IsTrue};
+ghost use Rattle.std.specs.List.Sorted.{IsStrictlySortedBy};
+ghost use Rattle.ipld_tree.specs.Cid.{cid_cmp};
+ghost use Rattle.ipld_links.specs.Blocks.{HasBlock};
+ghost use Rattle.ipld_links.specs.Sets.{Among, members, AddsCid, RemovesCid};
+ghost use Rattle.ipld_links.specs.Within.{AddsUnheld, AddsAll, AddsLinks};
+
+use crate::held::HeldNames;
+use crate::name::{DAG_CBOR, IDENTITY};
+use dagcbor_items::{check_slice, links_from_slice};
+use ipld_tree::Cid;
+use std::alloc::{AllocError, Global};
+use std::collections::BTreeSet;
+
+/// CIDs, each once.
+#[derive(Drop)]
+pub struct CidSet {
+    cids: BTreeSet<Cid>,
+}
+
+impl CidSet {
+    /// A set that has none.
+    pub fn new(alloc: Global) -> CidSet
+        ensures { members result ≡ [] }
+    {
+        CidSet {
+            cids: BTreeSet::new(alloc),
+        }
+    }
+
+    /// Adds the CID. After a refusal nothing is known of the set.
+    pub fn add(&mut self, cid: Cid) -> Result<(), AllocError>
+        ensures { OnOk result (AddsCid cid self.old self.new) }
+    {
+        // What is known of a CID comes with its version.
+        let _version = cid.version();
+        match self.cids.insert(cid) {
+            Ok(_added) => Ok(()),
+            Err(_) => Err(AllocError),
+        }
+    }
+
+    /// Whether it has the CID.
+    pub fn contains(&self, cid: &Cid) -> bool
+        ensures { IsTrue result ↔ Among cid.now (members self.now) }
+    {
+        self.cids.contains(cid)
+    }
+
+    /// Adds the links of a block, and those within them, that are not held.
+    #[cycle(links)]
+    pub fn add_links(
+        &mut self,
+        alloc: Global,
+        block: &[u8],
+        held: &HeldNames,
+    ) -> Result<(), AllocError>
+        requires { HasBlock block.now }
+        ensures { AddsLinks block.now held.now self.old result self.new }
+    {
+        // The links of a block are refused for want of memory alone.
+        let Ok(links) = links_from_slice(alloc, block) else {
+            return Err(AllocError);
+        };
+        self.add_all(alloc, &links, held)
+    }
+
+    /// Adds the links, and those within them, that are not held.
+    #[cycle(links)]
+    pub fn add_all(
+        &mut self,
+        alloc: Global,
+        links: &[Cid],
+        held: &HeldNames,
+    ) -> Result<(), AllocError>
+        ensures { OnOk result (AddsAll links.now held.now self.old self.new) }
+    {
+        for link in links {
+            self.add_link(alloc, link, held)?;
+        }
+        Ok(())
+    }
+
+    /// Adds the link, if it is not held; or those within it, where its name holds a block itself.
+    #[cycle(links)]
+    fn add_link(&mut self, alloc: Global, link: &Cid, held: &HeldNames) -> Result<(), AllocError>
+        ensures { OnOk result (AddsAll (link.now ∷ []) held.now self.old self.new) }
+    {
+        // What is known of a CID comes with its version.
+        let _version = link.version();
+        if link.hash_code() != IDENTITY {
+            return self.add_unheld(link, held);
+        }
+        if link.codec() != DAG_CBOR {
+            return Ok(());
+        }
+        match check_slice(link.digest()) {
+            Ok(_kind) => self.add_links(alloc, link.digest(), held),
+            Err(_) => Ok(()),
+        }
+    }
+
+    /// Takes the CID out, if it has it.
+    pub fn remove(&mut self, cid: &Cid)
+        ensures { RemovesCid cid.now self.old self.new }
+    {
+        self.cids.remove(cid);
+    }
+
+    /// Adds the CID, if it is not held.
+    fn add_unheld(&mut self, cid: &Cid, held: &HeldNames) -> Result<(), AllocError>
+        ensures { OnOk result (AddsUnheld cid.now held.now self.old self.new) }
+    {
+        // What is known of a CID comes with its version.
+        let _version = cid.version();
+        if held.contains(cid) {
+            return Ok(());
+        }
+        self.add(*cid)
+    }
+
+    /// The members, in their order.
+    pub fn into_vec(self, alloc: Global) -> Result<Vec<Cid>, AllocError>
+        ensures sorted { IfOk result (λ v. IsStrictlySortedBy cid_cmp v.items) }
+        ensures all { IfOk result (λ v. v.items ≡ members self) }
+    {
+        let mut list = Vec::new(alloc);
+        for cid in self.cids {
+            list.push(cid)?;
+        }
+        Ok(list)
+    }
+}

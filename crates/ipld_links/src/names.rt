@@ -1,0 +1,40 @@
+//! The names that the links of an item lead to.
+
+ghost use Rattle.std.specs.Prelude.{IfOk, IfErr};
+ghost use Rattle.std.specs.List.Sorted.{IsStrictlySortedBy};
+ghost use Rattle.ipld_tree.specs.Cid.{cid_cmp};
+ghost use Rattle.dagcbor_items.specs.Slices.{LinksRefused};
+ghost use Rattle.ipld_links.specs.Within.{AreFirstNames};
+
+use crate::cid_set::CidSet;
+use crate::held::HeldNames;
+use dagcbor_heads::DecodeError;
+use dagcbor_items::links_from_slice;
+use ipld_tree::Cid;
+use std::alloc::Global;
+use std::convert::Infallible;
+
+/// The names that the links of the first item of the bytes lead to, each once, in their order. A
+/// name by the identity holds its block itself: in place of it stand the names that the links in
+/// that block lead to.
+pub fn names_from_slice(alloc: Global, bytes: &[u8]) -> Result<Vec<Cid>, DecodeError<Infallible>>
+    ensures names { IfOk result (λ v. AreFirstNames bytes.now v.items) }
+    ensures order { IfOk result (λ v. IsStrictlySortedBy cid_cmp v.items) }
+    ensures refused { IfErr result (λ e. LinksRefused e bytes.now) }
+{
+    let links = links_from_slice(alloc, bytes)?;
+    if links.is_empty() {
+        return Ok(links);
+    }
+    let mut names = CidSet::new(alloc);
+    if names
+        .add_all(alloc, &links, &HeldNames::new(alloc))
+        .is_err()
+    {
+        return Err(DecodeError::OutOfMemory);
+    }
+    match names.into_vec(alloc) {
+        Ok(list) => Ok(list),
+        Err(_) => Err(DecodeError::OutOfMemory),
+    }
+}

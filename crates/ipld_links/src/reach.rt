@@ -1,0 +1,210 @@
+//! A walk along links, whatever the blocks are stored in.
+
+ghost use Rattle.std.specs.Prelude.{◌≡◌, option_map, is_some, IfOk, OnOk, OnErr};
+ghost use Rattle.ipld_tree.specs.Cid.{CidParts, AreCidParts};
+ghost use Rattle.dagcbor_items.specs.Slices.{IsBlock, AreFirstLinks};
+ghost use Rattle.dagcbor_items.specs.Walks.{forms};
+ghost use Rattle.ipld_links.specs.Names.{IsInline};
+ghost use Rattle.ipld_links.specs.Reaching.{Stored, NamesTree, Walks, GoesOn, Visits, AreLinksOf};
+ghost use Rattle.ipld_links.specs.Reaching.{PushesAll, Sees, SortsOut, stored_in};
+ghost use Rattle.ipld_links.specs.Reaching.{ListsReachable, ListsLost};
+
+use crate::name::{DAG_CBOR, IDENTITY};
+use dagcbor_items::{check_slice, links_from_slice};
+use ipld_tree::Cid;
+use std::alloc::{AllocError, Global};
+use std::collections::{BTreeMap, BTreeSet};
+
+/// A walk along links from a root, depth first, the links of a block as they stand. Its user looks
+/// each name up that `next` answers, and hands what is stored under it to `visit`, so that it does
+/// not matter in what the blocks are stored. A name by the identity holds its block itself: where
+/// nothing is stored under it, the links in that block are followed, and the name is neither found
+/// nor lost.
+#[derive(Drop)]
+pub struct Walk {
+    alloc: Global,
+    /// The names that were visited.
+    seen: BTreeSet<Cid>,
+    /// The names to be visited, the next one last.
+    waiting: Vec<Cid>,
+    /// Those of the names visited under which bytes are stored, in that order.
+    found: Vec<Cid>,
+    /// Those under which none are.
+    lost: Vec<Cid>,
+}
+
+/// Where a walk led.
+#[derive(Drop)]
+pub struct Reached {
+    /// The names of the stored blocks, in the order of the walk, the root first.
+    pub found: Vec<Cid>,
+    /// The names under which nothing is stored, in that order.
+    pub lost: Vec<Cid>,
+}
+
+/// The links of a block, which are refused for want of memory alone.
+fn first_links(alloc: Global, block: &[u8]) -> Result<Vec<Cid>, AllocError>
+    ensures { IfOk result (λ v. AreFirstLinks block.now (forms v.items)) }
+{
+    match links_from_slice(alloc, block) {
+        Ok(links) => Ok(links),
+        Err(_) => Err(AllocError),
+    }
+}
+
+/// The links of the block that the bytes are, if they are one.
+#[tactic(auto, using(crate::proofs::Reaching::links_found, crate::proofs::Sounding::no_block))]
+fn links_in(alloc: Global, bytes: &[u8]) -> Result<Vec<Cid>, AllocError>
+    ensures { IfOk result (λ v. AreLinksOf (IsBlock bytes.now) v.items) }
+{
+    match check_slice(bytes) {
+        Ok(_kind) => first_links(alloc, bytes),
+        Err(_) => Ok(Vec::new(alloc)),
+    }
+}
+
+/// The links of the block under the name, of which these bytes are stored.
+fn links_under(alloc: Global, name: &Cid, stored: Option<&[u8]>) -> Result<Vec<Cid>, AllocError>
+    ensures { (all : Stored) → all name.now ≡ option_map (λ b. b.now) stored.entry
+        → IfOk result (λ v. AreLinksOf (NamesTree all name.now) v.items) }
+{
+    if name.codec() != DAG_CBOR {
+        return Ok(Vec::new(alloc));
+    }
+    match stored {
+        Some(bytes) => links_in(alloc, bytes),
+        None => links_in_name(alloc, name),
+    }
+}
+
+/// The links of the block of DAG-CBOR that the name holds itself, if it holds one.
+fn links_in_name(alloc: Global, name: &Cid) -> Result<Vec<Cid>, AllocError>
+    ensures { IfOk result
+        (λ v. AreLinksOf (λ t. IsInline name.now × IsBlock name.now.digest t) v.items) }
+{
+    if name.hash_code() != IDENTITY {
+        return Ok(Vec::new(alloc));
+    }
+    links_in(alloc, name.digest())
+}
+
+/// Pushes the links.
+fn push_all(list: &mut Vec<Cid>, links: &[Cid]) -> Result<(), AllocError>
+    ensures { OnOk result (PushesAll links.now list.old.items list.new.items) }
+{
+    for link in links {
+        // What is known of a CID comes with its version.
+        let _version = link.version();
+        list.push(*link)?;
+    }
+    Ok(())
+}
+
+impl Walk {
+    /// A walk from the root.
+    pub fn new(alloc: Global, root: &Cid) -> Result<Walk, AllocError>
+        ensures { IfOk result (λ walk. (stored : Stored) → Walks stored root.now walk) }
+    {
+        // What is known of a CID comes with its version.
+        let _version = root.version();
+        let mut waiting = Vec::new(alloc);
+        waiting.push(*root)?;
+        Ok(Walk {
+            alloc,
+            seen: BTreeSet::new(alloc),
+            waiting,
+            found: Vec::new(alloc),
+            lost: Vec::new(alloc),
+        })
+    }
+
+    /// The name to be visited next, which was not visited. None where the walk is over.
+    pub fn next(&mut self) -> Option<Cid>
+        ensures next { GoesOn self.old result self.new }
+        ensures kept { (self.new.seen ≡ self.old.seen) × (self.new.found ≡ self.old.found)
+            × (self.new.lost ≡ self.old.lost) }
+    {
+        while let Some(name) = self.waiting.pop() {
+            if !self.seen.contains(&name) {
+                return Some(name);
+            }
+        }
+        None
+    }
+
+    /// Visits the name that `next` answered, under which these bytes are stored. After a refusal
+    /// nothing is known of the walk.
+    pub fn visit(&mut self, name: Cid, stored: Option<&[u8]>) -> Result<(), AllocError>
+        ensures { OnOk result
+            (Visits name (option_map (λ b. b.now) stored.entry) self.old self.new) }
+    {
+        let mut links = links_under(self.alloc, &name, stored)?;
+        self.see(name)?;
+        self.sort_out(name, stored.is_some())?;
+        links.reverse();
+        push_all(&mut self.waiting, &links)
+    }
+
+    /// The name is one of those that were seen.
+    fn see(&mut self, name: Cid) -> Result<(), AllocError>
+        ensures { OnOk result (Sees name self.old self.new) }
+    {
+        // What is known of a CID comes with its version.
+        let _version = name.version();
+        match self.seen.insert(name) {
+            Ok(_added) => Ok(()),
+            Err(_) => Err(AllocError),
+        }
+    }
+
+    /// The name is found, or lost.
+    fn sort_out(&mut self, name: Cid, is_there: bool) -> Result<(), AllocError>
+        ensures { OnOk result (SortsOut name is_there self.old self.new) }
+    {
+        if is_there {
+            self.found.push(name)?;
+        } else if name.hash_code() != IDENTITY {
+            self.lost.push(name)?;
+        }
+        Ok(())
+    }
+
+    /// Where it led.
+    pub fn into_reached(self) -> Reached
+        ensures found { result.found ≡ self.found }
+        ensures lost { result.lost ≡ self.lost }
+    {
+        let Self { found, lost, .. } = self;
+        Reached { found, lost }
+    }
+}
+
+/// The bytes that the map has under the name.
+pub fn stored_bytes<'a>(blocks: &'a BTreeMap<Cid, Vec<u8>>, name: &Cid) -> Option<&'a [u8]>
+    ensures { option_map (λ b. b.now) result ≡ stored_in blocks.now name.now }
+{
+    match blocks.get(name) {
+        Some(block) => Some(block.as_slice()),
+        None => None,
+    }
+}
+
+/// Where a walk from the root leads within the map.
+pub fn reach_from(
+    alloc: Global,
+    blocks: &BTreeMap<Cid, Vec<u8>>,
+    root: &Cid,
+) -> Result<Reached, AllocError>
+    ensures reachable { IfOk result
+        (λ r. ListsReachable (stored_in blocks.now) root.now r.found.items) }
+    ensures lost { IfOk result (λ r. ListsLost (stored_in blocks.now) root.now r.lost.items) }
+{
+    let mut walk = Walk::new(alloc, root)?;
+    for _count in 0..u64::MAX {
+        let Some(name) = walk.next() else {
+            return Ok(walk.into_reached());
+        };
+        walk.visit(name, stored_bytes(blocks, &name))?;
+    }
+    Err(AllocError)
+}

@@ -1,0 +1,53 @@
+//! Which blocks a store keeps under their names.
+
+ghost use Rattle.std.specs.Prelude.{MatchBool, MatchResult};
+ghost use Rattle.ipld_links.specs.Verdicts.{IsDagCbor};
+ghost use Rattle.ipld_links.specs.Sound.{IsSound, IsUnsound};
+
+use crate::name::{DAG_CBOR, SHA2_256};
+use crate::verdict::{Verdict, verify};
+use dagcbor_heads::DecodeError;
+use ipld_tree::Cid;
+use std::convert::Infallible;
+use thiserror::Error;
+
+/// Why a store does not keep a block under a name.
+#[derive(Debug, Drop, Error)]
+pub enum Unsound {
+    /// The name is by another hash function than SHA-256, or by one of another length than 32 bytes.
+    #[error("the block is named by another hash function than SHA-256")]
+    OtherHash,
+    /// The SHA-256 of the block is not the one in its name.
+    #[error("the block has other bytes than its name says")]
+    OtherBytes,
+    /// The block is the one that is named, of the codec DAG-CBOR, and is none that is read within
+    /// 256 steps.
+    #[error("the block is no DAG-CBOR: {0}")]
+    NoBlock(DecodeError<Infallible>),
+}
+
+/// Whether a store keeps the block under the name: its digest must be the SHA-256 of the block, of
+/// 32 bytes, and where its codec is DAG-CBOR, the block must be one that is read within 256 steps.
+#[tactic(auto, using(crate::proofs::Sounding::sound_read, crate::proofs::Sounding::sound_unread, crate::proofs::Sounding::unsound_refused, crate::proofs::Sounding::unsound_bytes))]
+pub fn check_block(name: &Cid, block: &[u8]) -> Result<(), Unsound>
+    ensures { MatchResult result (λ _. IsSound (name.now, block.now))
+        (IsUnsound (name.now, block.now)) }
+{
+    if name.hash_code() != SHA2_256 {
+        return Err(Unsound::OtherHash);
+    }
+    match verify(name, block) {
+        Verdict::Block(_) => Ok(()),
+        Verdict::NotRead => Ok(()),
+        Verdict::Refused(error) => Err(Unsound::NoBlock(error)),
+        Verdict::OtherBytes => Err(Unsound::OtherBytes),
+        Verdict::Unverified => Err(Unsound::OtherHash),
+    }
+}
+
+/// Whether the name is of the codec DAG-CBOR, by which links are followed.
+pub fn is_dag_cbor(name: &Cid) -> bool
+    ensures { MatchBool result (IsDagCbor name.now) (¬ IsDagCbor name.now) }
+{
+    name.codec() == DAG_CBOR
+}

@@ -1,0 +1,5 @@
+//! Tests of paths: in a block, and over blocks.
+#![tactic(auto)]
+
+#[cfg(test)]
+mod tests;

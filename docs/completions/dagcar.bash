@@ -1,0 +1,10 @@
+# Completion of `dagcar` for bash: its words, and files. Source this file.
+_dagcar() {
+    local now=${COMP_WORDS[COMP_CWORD]}
+    if [ "$COMP_CWORD" -eq 1 ]; then
+        mapfile -t COMPREPLY < <(compgen -W "check verify list get tree at name one show make --help --version" -- "$now")
+    else
+        mapfile -t COMPREPLY < <(compgen -f -- "$now")
+    fi
+}
+complete -o filenames -F _dagcar dagcar

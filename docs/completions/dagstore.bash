@@ -1,0 +1,10 @@
+# Completion of `dagstore` for bash: its words, and files. Source this file.
+_dagstore() {
+    local now=${COMP_WORDS[COMP_CWORD]}
+    if [ "$COMP_CWORD" -eq 2 ]; then
+        mapfile -t COMPREPLY < <(compgen -W "import put export get has tree check list count remove gc --help --version" -- "$now")
+    else
+        mapfile -t COMPREPLY < <(compgen -f -- "$now")
+    fi
+}
+complete -o filenames -F _dagstore dagstore

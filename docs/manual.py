@@ -1,0 +1,125 @@
+#!/usr/bin/env python3
+"""Man pages, completions for bash, and what docs/PROGRAMS.md has of each program in short: made of what its `--help` writes.
+
+    docs/manual.py page      makes all of them anew
+    docs/manual.py check     fails where one is another than `--help` says, where docs/PROGRAMS.md has not each of the words in its
+                             tables, or where `--version` is not that of CHANGELOG.md
+
+The texts of `dagcar` and `dagstore` stand in their sources; `dagcbor` answers its two words alone, and has its text here."""
+
+import pathlib
+import re
+import sys
+
+ROOT = pathlib.Path(__file__).resolve().parent.parent
+PAGE = ROOT / "docs" / "PROGRAMS.md"
+SOURCES = {"dagcar": "crates/dagcar_lines/src/help.rt", "dagstore": "crates/dagstore_lines/src/words.rt"}
+DOES = {"dagcbor": "judge blocks of DAG-CBOR, a line each", "dagcar": "judge, show and make blocks, and files of blocks",
+        "dagstore": "keep blocks in a file that lasts"}
+DAGCBOR = """usage: dagcbor check|links
+
+Of blocks on standard input, a line each, in hexadecimal:
+  check    the kind of each, or why it is refused
+  links    the links of each
+
+For example: printf '1818\\n1817\\n' | dagcbor check
+
+The status is 0 where all input was answered, 1 where input, output or memory failed, 2 for other
+words.
+"""
+
+
+def constant(name, which):
+    """The text of a constant of the program."""
+    source = (ROOT / SOURCES[name]).read_text(encoding="utf-8")
+    return re.search(rf'const {which}: &str = "(.*?)";$', source, re.M | re.S)[1].replace("\\n", "\n")
+
+
+def help_of(name):
+    """What `--help` of the program writes."""
+    return constant(name, "HELP") if name in SOURCES else DAGCBOR
+
+
+def words_of(text):
+    """Each word, and what it does."""
+    return [(word, " ".join(what.split())) for word, what in re.findall(r"^  (\w+) {2,}(.*(?:\n {6,}.*)*)$", text, re.M)]
+
+
+def roff(text):
+    return re.sub(r"^([.'])", r"\\&\1", text.replace("\\", "\\e").replace("-", "\\-"), flags=re.M)
+
+
+def man(name, text):
+    calls, *parts = text.rstrip().split("\n\n")
+    lines = [f'.TH {name.upper()} 1 "" Cafijolu', ".SH NAME", f"{name} \\- {DOES[name]}", ".SH SYNOPSIS", ".nf"]
+    lines += [roff(line.replace("usage:", "").strip()) for line in calls.split("\n")] + [".fi", ".SH DESCRIPTION"]
+    for part in parts:
+        if part.startswith("The status"):
+            lines += [".SH EXIT STATUS", roff(part)]
+        elif part.startswith("For example"):
+            lines += [".SH EXAMPLES", ".nf", roff(re.sub(r"^For example:\s*", "", part)), ".fi"]
+        else:
+            lines += [".PP", roff(re.split(r"\n  \w", part)[0])]
+            for word, what in words_of(part):
+                lines += [".TP", f".B {word}", roff(what)]
+    return "\n".join(lines) + "\n"
+
+
+def completion(name, text):
+    words = " ".join([*(word for word, _ in words_of(text)), *(["--help", "--version"] if name in SOURCES else [])])
+    return f"""# Completion of `{name}` for bash: its words, and files. Source this file.
+_{name}() {{
+    local now=${{COMP_WORDS[COMP_CWORD]}}
+    if [ "$COMP_CWORD" -eq {2 if name == "dagstore" else 1} ]; then
+        mapfile -t COMPREPLY < <(compgen -W "{words}" -- "$now")
+    else
+        mapfile -t COMPREPLY < <(compgen -f -- "$now")
+    fi
+}}
+complete -o filenames -F _{name} {name}
+"""
+
+
+def made():
+    """Each file, and its text."""
+    page = PAGE.read_text(encoding="utf-8")
+    for name in DOES:
+        text = help_of(name)
+        yield ROOT / "docs" / "man" / f"{name}.1", man(name, text)
+        yield ROOT / "docs" / "completions" / f"{name}.bash", completion(name, text)
+        block = re.compile(rf"(<!-- made by docs/manual.py of {name} -->\n\n```text\n).*?(```\n)", re.S)
+        page = block.sub(lambda found: found[1] + text + found[2], page)
+    yield PAGE, page
+
+
+def wrong():
+    """What is not as it should be."""
+    for path, text in made():
+        if not path.exists() or path.read_text(encoding="utf-8") != text:
+            yield f"{path.relative_to(ROOT)} is not what --help says: docs/manual.py page"
+    page = PAGE.read_text(encoding="utf-8")
+    version = re.search(r"^## (\S+?),? ", (ROOT / "CHANGELOG.md").read_text(encoding="utf-8"), re.M)[1]
+    for name in DOES:
+        front = "" if name == "dagstore" else f"{name} "
+        for word, _ in words_of(help_of(name)):
+            if f"| `{front}{word}" not in page:
+                yield f"docs/PROGRAMS.md has no `{front}{word}` in its tables"
+        if name in SOURCES and constant(name, "VERSION").strip() != f"{name} {version}":
+            yield f"`{name} --version` is not {version}"
+
+
+def main(words):
+    if words == ["check"]:
+        found = list(wrong())
+        print(*found, sep="\n", end="\n" if found else "")
+        return 1 if found else 0
+    if words != ["page"]:
+        sys.exit(__doc__)
+    for path, text in made():
+        path.parent.mkdir(parents=True, exist_ok=True)
+        path.write_text(text, encoding="utf-8")
+    return 0
+
+
+if __name__ == "__main__":
+    sys.exit(main(sys.argv[1:]))

@@ -3,6 +3,7 @@
 ghost use Rattle.std.specs.Prelude.{◌≡◌, [], ◌∷◌, length};
 ghost use Rattle.dagcbor_paths.specs.Paths.{segments};
 ghost use Rattle.dagcbor_paths.specs.Parts.{EndsWith};
+ghost use Rattle.dagcbor_paths.specs.Finding.{StopsIn};
 ghost use Rattle.dagcbor_calls.specs.Finds.{IsFindAnswer, IsFollowAnswer, IsPassed};
 
 use crate::code::{kind_code, refusal_code};
@@ -53,6 +54,18 @@ fn passed(path: &str, left: &str) -> usize
     }
 }
 
+/// Puts where the item stands at which a walk along the path stopped in the block, and how many bytes
+/// of the path were passed; the number of the item's kind.
+fn put_stop(block: &[u8], path: &str, stop: &Stop<'_, '_>, places: &mut [usize; 3]) -> i32
+    requires { StopsIn block.now path.now stop.now }
+    ensures { IsFollowAnswer block.now path.now places.old places.new result }
+{
+    let begin = stop.item.place;
+    let end = begin + stop.item.bytes.len();
+    *places = [begin, end, passed(path, stop.left)];
+    kind_code(stop.item.kind)
+}
+
 /// The number of the kind of the last item to which a front of the path leads in the block; where it
 /// begins and ends, and how many bytes of the path lead there. Or why the bytes are no block, or the
 /// path no text, and then the places stay.
@@ -63,11 +76,7 @@ pub fn put_followed(block: &[u8], path: &[u8], places: &mut [usize; 3]) -> i32
         return NO_TEXT;
     };
     match follow_slice(block, text) {
-        Ok(Stop { item, left }) => {
-            let end = item.place + item.bytes.len();
-            *places = [item.place, end, passed(text, left)];
-            kind_code(item.kind)
-        }
+        Ok(stop) => put_stop(block, text, &stop, places),
         Err(refusal) => refusal_code(&refusal),
     }
 }

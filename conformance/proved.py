@@ -7,9 +7,10 @@ import tempfile
 from concurrent.futures import ThreadPoolExecutor
 
 import cars
+import cidtexts
 import dagjson
 import known
-from judge import Link, Refused, judge, links_of, spell
+from judge import Link, Refused, judge, links_of, spell, varint
 from vectors import VARIANTS, block_of
 
 ROOT = known.ROOT
@@ -108,11 +109,22 @@ def of_cid_text(vector):
     return vector["id"], "make", given, wanted
 
 
+# The names of codecs that `dagcar` knows (multicodec table).
+CODECS = {0x55: "raw", 0x70: "dag-pb", 0x71: "dag-cbor", 0x72: "libp2p-key", 0x129: "dag-json", 0x200: "json"}
+
+
+def missing_line(text):
+    """The line of a name that leads nowhere, with its codec: that of version 0 is dag-pb."""
+    cid = cidtexts.read(text)
+    codec = 0x70 if cid[0] == 0x12 else varint(varint(cid)[1])[0]
+    return f"missing {text} {CODECS.get(codec, f'codec {codec:#x}')}"
+
+
 def of_file(vector):
     said = [f"{it['cid']} {cars.in_variants(it['verdict'])}" for it in vector.get("sections", ())]
     if vector["verdict"] == "refused":
         said.append(f"refused {cars.VARIANTS[vector['cause']]}")
-    said += sorted(f"missing {it}" for it in vector.get("missing", ()))
+    said += sorted(map(missing_line, vector.get("missing", ())))
     return vector["id"], "check", block_of(vector), "".join(f"{it}\n" for it in said).encode()
 
 

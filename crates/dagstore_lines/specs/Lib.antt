@@ -7,3 +7,4 @@ pub mod Blocks
 pub mod Changes
 pub mod Files
 pub mod Trees
+pub mod Ways

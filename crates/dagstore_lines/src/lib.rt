@@ -12,6 +12,7 @@ mod line;
 mod list;
 mod progress;
 mod refusal;
+mod way;
 mod words;
 
 pub use answer::{
@@ -27,4 +28,5 @@ pub use import::import_blocks;
 pub use list::list_blocks;
 pub use progress::{Counted, Progress};
 pub use refusal::{end, tell_refusal};
+pub use way::gather_way;
 pub use words::{HELP, NO_STORE, NOT_READ, NOT_WRITTEN, OUT_OF_MEMORY, USAGE, VERSION};

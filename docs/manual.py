@@ -57,7 +57,7 @@ def man(name, text):
         if part.startswith("The status"):
             lines += [".SH EXIT STATUS", roff(part)]
         elif part.startswith("For example"):
-            lines += [".SH EXAMPLES", ".nf", roff(re.sub(r"^For example:\s*", "", part)), ".fi"]
+            lines += [".SH EXAMPLES", ".nf", roff(re.sub(r"^(For example:\s*|  )", "", part, flags=re.M)), ".fi"]
         else:
             lines += [".PP", roff(re.split(r"\n  \w", part)[0])]
             for word, what in words_of(part):

@@ -28,7 +28,8 @@ use Rattle.dagcar_lines.specs.Summary.{IsSummary}
 use Rattle.dagcar_lines.specs.Help.{help_text, version_text}
 use Rattle.dagcbor_paths.specs.Paths.{segments}
 use Rattle.dagcar_lines.specs.Finding.{IsGot, IsTree}
-use Rattle.dagcar_lines.specs.Paths.{IsAt}
+use Rattle.dagcar_lines.specs.Paths.{IsAnswer}
+use Rattle.dagcar_lines.specs.declared.at.Asked.TheVariants as asks
 use Rattle.dagcar_lines.specs.declared.command.Command.{Command}
 use Rattle.dagcar_lines.specs.declared.command.Command.TheVariants as commands
 use Rattle.dagcbor_cli.specs.declared.fault.ToolError.{ToolError}
@@ -122,7 +123,7 @@ abbrev pub EndsSo : Result Bool ToolError → ℕ → Type 0
 EndsSo (Ok well) status = status ≡ (if well then 0 else 1)
 EndsSo (Err e) status = status ≡ 2
 
--- a run of a command on these bytes, and on the path of `at`, by what the output and the errors hold
+-- a run of a command on these bytes, and on the path in the words, by what the output and the errors hold
 abbrev pub RunsCommand : Command → List ℕ → List ℕ → Option (List ℕ) → Option (List ℕ)
     → Result Bool ToolError → Option (List ℕ) → Option (List ℕ) → Type 0
 RunsCommand commands.Check path b old heard ended new after = SaysBytes check_speech b old ended new
@@ -137,7 +138,9 @@ RunsCommand commands.Show path b old heard ended new after = SaysBoth (IsShown b
 RunsCommand commands.Make path b old heard ended new after = SaysBoth (IsMade b) old heard ended new after
 RunsCommand (commands.Get name) path b old heard ended new after = SaysBoth (IsGot name b) old heard ended new after
 RunsCommand (commands.Tree root) path b old heard ended new after = SaysBoth (IsTree root b) old heard ended new after
-RunsCommand (commands.At root) path b old heard ended new after = SaysBoth (IsAt root (segments path) b) old heard ended new after
+RunsCommand (commands.At root) path b old heard ended new after = SaysBoth (IsAnswer asks.Data root (segments path) b) old heard ended new after
+RunsCommand (commands.Raw root) path b old heard ended new after = SaysBoth (IsAnswer asks.Bytes root (segments path) b) old heard ended new after
+RunsCommand (commands.Prove root) path b old heard ended new after = SaysBoth (IsAnswer asks.Proof root (segments path) b) old heard ended new after
 
 -- the commands that tell of nothing but of faults
 abbrev pub IsQuiet : Command → Type 0
@@ -148,4 +151,6 @@ IsQuiet commands.Make = ⊥
 IsQuiet (commands.Get name) = ⊥
 IsQuiet (commands.Tree root) = ⊥
 IsQuiet (commands.At root) = ⊥
+IsQuiet (commands.Raw root) = ⊥
+IsQuiet (commands.Prove root) = ⊥
 IsQuiet _ = ⊤

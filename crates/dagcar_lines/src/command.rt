@@ -8,13 +8,13 @@ ghost use Rattle.block_lines.specs.Lines.{no_cid_line, Says};
 ghost use Rattle.dagcbor_cli.specs.declared.fault.ToolError.{ToolError};
 ghost use Rattle.dagcar_lines.specs.Commands.{IsCommand, IsCommandOn, IsMistyped};
 ghost use Rattle.dagcar_lines.specs.Commands.{name_part, path_part, path_of};
-ghost use Rattle.dagcar_lines.specs.declared.command.Command.TheVariants.{At, Summary};
+ghost use Rattle.dagcar_lines.specs.declared.command.Command.TheVariants.{Summary};
 ghost use Rattle.ipld_tree.specs.Cid.{CidParts};
 ghost use Rattle.cid_text.specs.Texts.{IsTextFault, IsTextOf};
 ghost use Rattle.cid_text.specs.declared.error.CidTextError.{CidTextError};
 ghost use Rattle.dagcbor_cli.specs.Writing.{WritesFront};
 
-use crate::at::write_at;
+use crate::at::{Asked, write_asked};
 use crate::block::{say_data, say_kind, say_name};
 use crate::get::get_block;
 use crate::help::{help_text, version_text};
@@ -35,7 +35,8 @@ use std::io::{BufRead, Write};
 
 /// What is told of wrong words.
 pub const USAGE: &str =
-    "usage: dagcar check [--summary]|verify|list|name|one|show|make|get CID|tree CID|at CID/PATH\n";
+    "usage: dagcar check [--summary]|verify|list|name|one|show|make|get CID|tree CID\
+    |at [--raw] CID/PATH|prove CID/PATH\n";
 
 /// What is told of want of memory.
 pub const OUT_OF_MEMORY: &str = "dagcar: out of memory\n";
@@ -69,6 +70,10 @@ pub enum Command {
     Tree(Cid),
     /// To show what a path leads to from this root.
     At(Cid),
+    /// To write the bytes of what a path leads to from this root.
+    Raw(Cid),
+    /// To write the file that proves what a path leads to from this root.
+    Prove(Cid),
 }
 
 /// The command of this one word.
@@ -113,16 +118,25 @@ fn split_path(text: &str) -> (&str, &str)
     }
 }
 
-/// The command `at` of a text: a CID, and a path behind it.
-fn command_at(text: &str) -> Option<Command>
+/// The root in a text: a CID, and a path behind it.
+fn root_in(text: &str) -> Option<Cid>
     ensures { MatchOption result ((n : CidParts) → ¬ IsTextOf (name_part text.now) n)
-        (λ c. (n : CidParts) × (c ≡ At n) × IsTextOf (name_part text.now) n) }
+        (λ n. IsTextOf (name_part text.now) n) }
 {
     let (name, _path) = split_path(text);
-    match cid_from_text(name.as_bytes()) {
-        Ok(root) => Some(Command::At(root)),
-        Err(_) => None,
+    cid_from_text(name.as_bytes()).ok()
+}
+
+/// The command of a word, an option and a text: `at --raw` of a root.
+fn command_with(word: &str, option: &str, text: &str) -> Option<Command>
+    ensures { MatchOption result
+        ((c : Command) → ¬ IsCommand (word.now ∷ option.now ∷ text.now ∷ []) c)
+        (λ c. IsCommand (word.now ∷ option.now ∷ text.now ∷ []) c) }
+{
+    if word != "at" || option != "--raw" {
+        return None;
     }
+    Some(Command::Raw(root_in(text)?))
 }
 
 /// The command `check` with this word behind it.
@@ -142,17 +156,21 @@ fn path_of(args: &[String]) -> &str
 {
     match args {
         [_word, text] => split_path(text.as_str()).1,
+        [_word, _option, text] => split_path(text.as_str()).1,
         _ => "",
     }
 }
 
-/// The command of a word and a CID as text, with a path behind it where the word is `at`.
+/// The command of a word and a CID as text, with a path behind it where the word is `at` or `prove`.
 fn command_on_text(word: &str, text: &str) -> Option<Command>
     ensures { MatchOption result ((c : Command) → ¬ IsCommand (word.now ∷ text.now ∷ []) c)
         (λ c. IsCommand (word.now ∷ text.now ∷ []) c) }
 {
     if word == "at" {
-        return command_at(text);
+        return Some(Command::At(root_in(text)?));
+    }
+    if word == "prove" {
+        return Some(Command::Prove(root_in(text)?));
     }
     if word == "check" {
         return check_with(text);
@@ -171,6 +189,7 @@ fn command_of(args: &[String]) -> Option<Command>
     match args {
         [word] => command_named(word.as_str()),
         [word, text] => command_on_text(word.as_str(), text.as_str()),
+        [word, option, text] => command_with(word.as_str(), option.as_str(), text.as_str()),
         _ => None,
     }
 }
@@ -192,9 +211,21 @@ fn no_cid_behind(word: &str, text: &str) -> Option<CidTextError>
 {
     match word {
         "get" | "tree" => text_fault(text),
-        "at" => text_fault(split_path(text).0),
+        "at" if text == "--raw" => None,
+        "at" | "prove" => text_fault(split_path(text).0),
         _ => None,
     }
+}
+
+/// Why no CID stands where one should, behind this word and this option.
+fn no_cid_with(word: &str, option: &str, text: &str) -> Option<CidTextError>
+    ensures { (e : CidTextError) → IsMistyped (word.now ∷ option.now ∷ text.now ∷ []) e
+        → result ≡ Some e }
+{
+    if word == "at" && option == "--raw" {
+        return text_fault(split_path(text).0);
+    }
+    None
 }
 
 /// Why no CID stands in the words where one should.
@@ -203,6 +234,7 @@ fn no_cid_in(args: &[String]) -> Option<CidTextError>
 {
     match args {
         [word, text] => no_cid_behind(word.as_str(), text.as_str()),
+        [word, option, text] => no_cid_with(word.as_str(), option.as_str(), text.as_str()),
         _ => None,
     }
 }
@@ -320,7 +352,11 @@ pub fn run<R: BufRead, W: Write, V: Write>(
         Command::Make => make_block(alloc, input, output, errors),
         Command::Get(name) => get_block(alloc, &name, input, output, errors),
         Command::Tree(root) => write_tree(alloc, &root, input, output, errors),
-        Command::At(root) => write_at(alloc, &root, path, input, output, errors),
+        Command::At(root) => write_asked(alloc, Asked::Data, &root, path, input, output, errors),
+        Command::Raw(root) => write_asked(alloc, Asked::Bytes, &root, path, input, output, errors),
+        Command::Prove(root) => {
+            write_asked(alloc, Asked::Proof, &root, path, input, output, errors)
+        }
     }
 }
 

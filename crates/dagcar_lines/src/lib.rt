@@ -10,6 +10,7 @@ mod device;
 mod get;
 mod help;
 mod holding;
+pub mod laws;
 mod list;
 mod make;
 mod names;

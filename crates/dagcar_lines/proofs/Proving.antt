@@ -72,14 +72,14 @@ agree stored others sections way once s o each q m b =
 -- ---- what is answered
 
 module _ (stored others : Stored) (root : CidParts) (path : List (List ℕ)) (way : List CidParts) (passed : AreOnTheWay stored root path way) (alike : AgreeOn way stored others) where
-  told_here : (well : Bool) (out told : List ℕ) → IsToldAt others root path well out told → IsToldAt stored root path well out told
+  pub told_here : (well : Bool) (out told : List ℕ) → IsToldAt others root path well out told → IsToldAt stored root path well out told
   told_here well out told h = (h.0, (ends_decided stored others root path way passed alike h.0).1 h.1, h.2, h.3, h.4, h.5)
 
-  data_here : (well : Bool) (out told : List ℕ) → IsAtOf others root path well out told → IsAtOf stored root path well out told
+  pub data_here : (well : Bool) (out told : List ℕ) → IsAtOf others root path well out told → IsAtOf stored root path well out told
   data_here well out told (inl h) = inl (h.0, h.1, (items_decided stored others root path way passed alike h.0 (Some h.1)).1 h.2, h.3, h.4, h.5)
   data_here well out told (inr h) = inr (told_here well out told h)
 
-  bytes_here : (well : Bool) (out told : List ℕ) → IsRawOf others root path well out told → IsRawOf stored root path well out told
+  pub bytes_here : (well : Bool) (out told : List ℕ) → IsRawOf others root path well out told → IsRawOf stored root path well out told
   bytes_here well out told (inl h) = inl (h.0, h.1, (items_decided stored others root path way passed alike h.0 (Some h.1)).1 h.2, h.3, h.4, h.5)
   bytes_here well out told (inr h) = inr (told_here well out told h)
 

@@ -66,7 +66,7 @@ fn say_at<W: Write, V: Write>(
 }
 
 /// Writes what is asked of the path from the root, or tells why there is none. Whether there is.
-fn say_asked<W: Write, V: Write>(
+pub fn say_asked<W: Write, V: Write>(
     alloc: Global,
     asked: Asked,
     root: &Cid,

@@ -20,5 +20,6 @@ mod tree;
 mod verify;
 mod walk;
 
+pub use at::{Asked, say_asked};
 pub use command::{Command, OUT_OF_MEMORY, USAGE, run_command, split_words};
 pub use device::OneFault;

@@ -18,7 +18,10 @@ use Rattle.dagcbor_store.proofs.Trees.{got_stored}
 use Rattle.dagcbor_store.proofs.Walking.{same_then, damaged_same, fails_same}
 use Rattle.dagcbor_store.specs.declared.error.StoreRefusal.TheVariants as refusal
 use Rattle.dagstore_lines.specs.Blocks.{GetFails}
-use Rattle.dagstore_lines.specs.Ways.{IsPartOf, HoldsAlso, ComesTo, WayFails}
+use Rattle.dagcar_lines.specs.Paths.{IsAnswerOf}
+use Rattle.dagcar_lines.specs.declared.at.Asked.{Asked}
+use Rattle.dagcar_lines.proofs.Proving.{data_here, bytes_here}
+use Rattle.dagstore_lines.specs.Ways.{IsPartOf, HoldsAlso, HoldsWay, asked_of, IsAnswerIn, ComesTo, WayFails}
 use Rattle.dagstore_lines.specs.declared.fault.Fault.{Fault}
 use Rattle.dagstore_lines.specs.declared.fault.Fault.TheVariants as fault
 
@@ -140,3 +143,18 @@ way_fails g root name path left held old mid new (fault.Store (refusal.Damaged n
     )
 way_fails g root name path left held old mid new (fault.Store told) before same quiet h w = fails_same g old mid new told before same quiet w
 way_fails g root name path left held old mid new (fault.Tool e) before same quiet h w = λ clean. same_then (g.view old) (g.view mid) (g.view new) (same (omega (arith, quiet.clean))) (w clean)
+
+-- ---- what is answered
+
+here : (is_raw : Bool) (stored held : Stored) (root : CidParts) (path : List (List ℕ)) (names : List CidParts) → AreOnTheWay stored root path names → AgreeOn names stored held → (well : Bool) (out told : List ℕ)
+    → IsAnswerOf (asked_of is_raw) root path held well out told → IsAnswerOf (asked_of is_raw) root path stored well out told
+here true stored held root path names passed alike well out told h = bytes_here stored held root path names passed alike well out told h
+here false stored held root path names passed alike well out told h = data_here stored held root path names passed alike well out told h
+
+pub answered : (is_raw : Bool) (asked : Asked) (root : CidParts) (path : List (List ℕ)) (old new : View) (held : Stored) → asked ≡ asked_of is_raw → (IsClean new → HoldsWay old root path held) → (well : Bool) (out told : List ℕ)
+    → IsAnswerOf asked root path held well out told → IsAnswerIn is_raw root path old new well out told
+answered is_raw asked root path old new held is holds well out told h =
+    let answer = subst (λ a. IsAnswerOf a root path held well out told) is h in (
+      λ clean stored shows. let k = holds clean stored shows in here is_raw stored held root path k.0 k.1 k.2 well out told answer,
+      (held, answer),
+    )

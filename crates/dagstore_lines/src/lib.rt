@@ -2,6 +2,7 @@
 #![tactic(auto)]
 
 mod answer;
+mod at;
 mod block;
 mod change;
 mod check;
@@ -19,6 +20,7 @@ pub use answer::{
     answer_check, answer_collect, answer_count, answer_export, answer_get, answer_has, answer_list,
     answer_put, answer_remove, answer_tree,
 };
+pub use at::write_at;
 pub use block::{NO_BLOCK, count_blocks, get_block, has_block};
 pub use change::{collect_blocks, put_block, remove_blocks};
 pub use check::check_blocks;

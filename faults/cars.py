@@ -326,13 +326,17 @@ BLOCKS_AND_TEXTS = {
     "show": (NUMBERS_IN_A_MAP, (0, TEXT + b"\n")),
     "make": (TEXT, (0, NUMBERS_IN_A_MAP)),
 }
-# A file of a list of a link that stands there twice, and of a raw leaf: what `get` and `tree` give of it.
+# A file of a list of a link that stands there twice, and of a raw leaf: what `get`, `tree`, `at` and `prove` give of it.
 TWICE = b"\x83" + link(cid(NUMBERS)) + link(cid(b"raw", codec=0x55)) + link(cid(NUMBERS))
 TREE = [section(TWICE), section(NUMBERS), section(b"raw", codec=0x55)]
 OUT_OF_ORDER = counted(header()) + b"".join(reversed(TREE)) + section(UNORDERED) + section(NUMBERS)
 FOUND = {
     f"get {text_of(cid(NUMBERS))}": (0, NUMBERS),
     f"tree {text_of(cid(TWICE))}": (0, counted(header(cid(TWICE))) + b"".join(TREE)),
+    f"at {text_of(cid(TWICE))}/2/1": (0, b"2\n"),
+    f"at --raw {text_of(cid(TWICE))}/2": (0, TWICE[-41:]),
+    f"prove {text_of(cid(TWICE))}/2/1": (0, counted(header(cid(TWICE))) + section(TWICE) + section(NUMBERS)),
+    f"prove {text_of(cid(TWICE))}/3": (0, counted(header(cid(TWICE))) + section(TWICE)),
 }
 MANY = 100_000
 
@@ -368,6 +372,51 @@ def sweep_texts(path, report):
             if not (made if cause is None else refused):
                 wrong.append((number, ran.returncode, ran.stdout[:80], ran.stderr))
         report(f"dagcar make, {name}", len(given), wrong)
+
+
+def chain(count, block_over):
+    """So many blocks, each over the name of the next one, and the numbers."""
+    blocks = [NUMBERS]
+    for _ in range(count):
+        blocks.append(block_over(cid(blocks[-1])))
+    return blocks[::-1]
+
+
+def paths():
+    """What each kind of path is, the blocks, the path from the first of them, how many it passes, and what `at` says."""
+    maps, links = chain(3_000, lambda name: b"\xa1\x61n" + link(name)), chain(3_000, link)
+    nothing = lambda block, left: (1, b"", f"{text_of(cid(block))} has nothing at {left}\n".encode())
+    yield "over 3,000 maps", maps, "n/" * 3_000 + "1", 3_001, (0, b"2\n", b"")
+    yield "over 3,000 blocks that are links", links, "1", 3_001, (0, b"2\n", b"")
+    yield "over 3,000 maps to nothing", maps, "n/" * 3_000 + "01", 3_001, nothing(NUMBERS, "01")
+    yield "to nothing on the way", maps, "n/" * 10 + "m/" + "n/" * 3_000, 11, nothing(maps[10], "m/" + "n/" * 3_000)
+    yield "of one long segment", maps, "n" * MANY, 1, nothing(maps[0], "n" * MANY)
+    yield "of a long index", links, "9" * MANY, 3_001, nothing(NUMBERS, "9" * MANY)
+    yield "of many slashes", [NUMBERS], "/" * MANY, 1, (0, b"[1,2,3]\n", b"")
+
+
+def sweep_paths(path, report):
+    """The blocks on each path are written, `at` answers over them as over all blocks, and without the last one nothing is proved."""
+    for name, blocks, text, count, answer in paths():
+        wrong = []
+
+        def holds(words, given, wanted):
+            how = {"input": given, "capture_output": True, "preexec_fn": limit, "timeout": 60}
+            ran = subprocess.run([path, *words, f"{text_of(cid(blocks[0]))}/{text}"], check=False, **how)
+            if (ran.returncode, ran.stdout, ran.stderr) != wanted:
+                wrong.append((words, ran.returncode, ran.stdout[-80:], ran.stderr[-80:]))
+
+        first = counted(header(cid(blocks[0])))
+        file = counted(header()) + b"".join(map(section, reversed(blocks)))
+        proof = first + b"".join(map(section, blocks[:count]))
+        cut = first + b"".join(map(section, blocks[: count - 1]))
+        missing = (1, b"", (missing_line(cid(blocks[count - 1])) + "\n").encode())
+        holds(["prove"], file, (0, proof, b""))
+        holds(["prove"], proof, (0, proof, b""))
+        for given, wanted in ((file, answer), (proof, answer), (cut, missing)):
+            holds(["at"], given, wanted)
+        holds(["prove"], cut, missing)
+        report(f"dagcar, a path {name}", 6, wrong)
 
 
 def wanted_of_small():

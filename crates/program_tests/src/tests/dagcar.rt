@@ -359,6 +359,12 @@ const CALLS: &[(&[&str], usize, Option<&str>)] = &[
     (&["get", "bafkrgaly"], 2, None),
     (&["get", "bafkrgaly", "blocks.car"], 2, Some("blocks.car")),
     (&["at", "bafkrgaly/a", "b"], 2, Some("b")),
+    (&["at", "--raw", "bafkrgaly/a"], 3, None),
+    (&["at", "--raw", "bafkrgaly/a", "b"], 3, Some("b")),
+    (&["at", "--raw", "none"], 3, None),
+    (&["at", "--raw", "none/a", "b"], 3, Some("b")),
+    (&["prove", "bafkrgaly/a"], 2, None),
+    (&["prove", "bafkrgaly/a", "-"], 2, Some("-")),
     // A word that is no CID is told before the file is asked for.
     (&["get", "none", "blocks.car"], 2, Some("blocks.car")),
     (&["look", "blocks.car"], 2, None),
@@ -378,8 +384,8 @@ fn a_file_stands_behind_the_words(rt: HostRuntime) -> Result<(), Fail> {
 
 #[test]
 fn other_words_are_refused(rt: HostRuntime) -> Result<(), Fail> {
-    let line =
-        b"usage: dagcar check [--summary]|verify|list|name|one|show|make|get CID|tree CID|at CID/PATH\n";
+    let line = b"usage: dagcar check [--summary]|verify|list|name|one|show|make|get CID|tree CID\
+        |at [--raw] CID/PATH|prove CID/PATH\n";
     gives(rt.alloc(), "links", GOOD, 2, b"", line)
 }
 

@@ -1,16 +1,14 @@
 //! The program `dagstore`: blocks in a file that lasts.
 #![tactic(auto)]
 
-mod command;
-
 use block_lines::no_cid_line;
-use command::{Command, Words, words_of};
 use dagcbor_cli::{ToolError, arguments, give_up, write_all};
 use dagcbor_store::{BlockStore, FileFrom, FileStore, Wary};
 use dagstore_lines::{
-    Counted, Fault, HELP, NO_STORE, NOT_READ, NOT_WRITTEN, OUT_OF_MEMORY, Progress, USAGE, VERSION,
-    answer_check, answer_collect, answer_count, answer_export, answer_get, answer_has, answer_list,
-    answer_put, answer_remove, answer_tree, end, import_blocks, tell_refusal,
+    Command, Counted, Fault, HELP, NO_STORE, NOT_READ, NOT_WRITTEN, OUT_OF_MEMORY, Progress, USAGE,
+    VERSION, Words, answer_check, answer_collect, answer_count, answer_export, answer_get,
+    answer_has, answer_list, answer_put, answer_remove, answer_tree, end, import_blocks,
+    tell_refusal, words_of,
 };
 use ipld_tree::Cid;
 use std::fs;

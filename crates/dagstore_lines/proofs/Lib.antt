@@ -4,3 +4,4 @@ pub mod Missing
 pub mod Importing
 pub mod Removing
 pub mod Exporting
+pub mod Commanding

@@ -20,7 +20,7 @@ pub use answer::{
     answer_put, answer_remove, answer_tree,
 };
 pub use block::{NO_BLOCK, count_blocks, get_block, has_block};
-pub use change::{collect_blocks, put_block, remove_blocks};
+pub use change::{check_put, collect_blocks, put_block, remove_blocks};
 pub use check::check_blocks;
 pub use command::{Command, Words, words_of};
 pub use export::{export_blocks, write_tree};

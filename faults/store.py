@@ -293,7 +293,8 @@ def words(program, at, draw):
         expect("get", run(program, put, "get", own), 0, block)
     for block in (b"\x18\x17", b"", b"\x01\x01"):
         expect("put of no DAG-CBOR", run(program, put, "put", given=block), 1, b"")
-    for word in ("0x", "0x1z", "0x11111111111111111", "dag-pb"):
+        expect("put of no DAG-CBOR into no file", run(program, f"{at}/none.db", "put", given=block), 1, b"")
+    for word in ("0x", "0x1z", "0x+1", "0x11111111111111111", "dag-pb"):
         expect(f"put {word}", run(program, put, "put", word), 2, b"")
     expect("count", run(program, put, "count"), 0, b"holds 4\n")
     expect("has of another", run(program, put, "has", text_of(lost)), 1, b"")

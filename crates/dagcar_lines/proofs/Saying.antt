@@ -17,9 +17,10 @@ use Rattle.dagcbor_car.specs.declared.check.CarCheck.{CarCheck}
 use Rattle.dagcbor_car.specs.declared.error.CarError.{CarError}
 use Rattle.dagcbor_car.proofs.Places.{no_file, place_front}
 use Rattle.block_lines.specs.Lines.{told_line, missing_line, refused_line, is_well, BreaksLine, Says, SaysLines}
+use Rattle.block_lines.proofs.Saying.{each_push}
 use Rattle.dagcbor_cli.specs.Writing.{WritesFront}
 use Rattle.dagcar_lines.specs.Answers.{IsVerdictLine, check_speech}
-use Rattle.dagcar_lines.specs.Speeches.{Speech, IsSaidOfEach, IsSaidSoFar, IsSaidOf, AreFirstLines, AreLines, BreaksOff, SaysBytes, SaysFile}
+use Rattle.dagcar_lines.specs.Speeches.{Speech, IsSaidSoFar, IsSaidOf, AreFirstLines, AreLines, BreaksOff, SaysBytes, SaysFile}
 use Rattle.dagcar_lines.specs.Steps.{Knowing, TellsEnd, Work, SaysSection, SaysRest}
 use Rattle.dagcar_lines.specs.Taking.{IsOfBytes, TookEach, TakesFront, TakesWhole, FaultBehind, EndsAt}
 use Rattle.dagcar_lines.proofs.Taking.{took_knows, left_begun, alone, alone_line, header_alone}
@@ -30,29 +31,8 @@ use Rattle.dagcbor_cli.specs.declared.fault.ToolError.TheVariants.{Output}
 
 -- ---- sections
 
-and_true : (b : Bool) → (b && true) ≡ b
-and_true true = refl
-and_true false = refl
-
-and_assoc : (a b c : Bool) → (a && (b && c)) ≡ ((a && b) && c)
-and_assoc true b c = refl
-and_assoc false b c = refl
-
-each_push : (speech : Speech) (ss : List Section) (s : Section) (all well : Bool) (lines line : List ℕ) → IsSaidOfEach speech ss all lines → speech.of_section s well line → IsSaidOfEach speech (ss ++ s ∷ []) (all && well) (lines ++ line)
-each_push speech [] s all well lines line h is = (well, true, line, [], is, (refl, refl), ap (λ b. b && well) h.0 ∙ sym (and_true well), ap (λ x. x ++ line) h.1 ∙ sym (append-nil line))
-each_push speech (x ∷ ss) s all well lines line h is = (
-  h.0,
-  h.1 && well,
-  h.2,
-  h.3 ++ line,
-  h.4,
-  each_push speech ss s h.1 well h.3 line h.5 is,
-  ap (λ b. b && well) h.6 ∙ sym (and_assoc h.0 h.1 well),
-  ap (λ x. x ++ line) h.7 ∙ append_assoc h.2 h.3 line,
-)
-
 so_far_push : (speech : Speech) (roots : List (List ℕ)) (ss : List Section) (s : Section) (all well : Bool) (said line : List ℕ) → IsSaidSoFar speech roots ss all said → speech.of_section s well line → IsSaidSoFar speech roots (ss ++ s ∷ []) (all && well) (said ++ line)
-so_far_push speech roots ss s all well said line h is = (h.0 ++ line, each_push speech ss s all well h.0 line h.1 is, ap (λ x. x ++ line) h.2 ∙ append_assoc (speech.of_roots roots) h.0 line)
+so_far_push speech roots ss s all well said line h is = (h.0 ++ line, each_push speech.of_section ss s all well h.0 line h.1 is, ap (λ x. x ++ line) h.2 ∙ append_assoc (speech.of_roots roots) h.0 line)
 
 none_yet : (speech : Speech) (roots : List (List ℕ)) (text : List ℕ) → text ≡ speech.of_roots roots → IsSaidSoFar speech roots [] true text
 none_yet speech roots text is = ([], (refl, refl), is ∙ sym (append-nil (speech.of_roots roots)))

@@ -8,7 +8,7 @@ use Rattle.dagcbor_car.specs.Versions.{IsFile}
 use Rattle.dagcbor_car.specs.Sources.{RefusesStart, RefusesSection}
 use Rattle.dagcbor_car.specs.Checks.{IsFileFront, IsNoFile}
 use Rattle.dagcbor_car.specs.declared.error.CarError.{CarError}
-use Rattle.block_lines.specs.Lines.{refused_line}
+use Rattle.block_lines.specs.Lines.{IsSaidOfEach, refused_line}
 use Rattle.dagcbor_cli.specs.declared.fault.ToolError.{ToolError}
 use Rattle.dagcbor_cli.specs.declared.fault.ToolError.TheVariants.{Output}
 
@@ -21,17 +21,10 @@ pub record Speech : Type 1 where
   -- at the end of a file of these roots and sections
   pub of_end : List (List ℕ) → List Section → Bool → List ℕ → Type 0
 
--- what is said of each of the sections, and whether all of it tells of nothing wrong
-abbrev pub IsSaidOfEach : Speech → List Section → Bool → List ℕ → Type 0
-IsSaidOfEach speech [] well out = (well ≡ true) × (out ≡ [])
-IsSaidOfEach speech (s ∷ sections) well out = (first others : Bool) × (line lines : List ℕ)
-    × speech.of_section s first line × IsSaidOfEach speech sections others lines
-    × (well ≡ (first && others)) × (out ≡ line ++ lines)
-
 -- what is said of the roots and of the first sections
 abbrev pub IsSaidSoFar : Speech → List (List ℕ) → List Section → Bool → List ℕ → Type 0
 IsSaidSoFar speech roots sections well out = (lines : List ℕ)
-    × IsSaidOfEach speech sections well lines × (out ≡ speech.of_roots roots ++ lines)
+    × IsSaidOfEach speech.of_section sections well lines × (out ≡ speech.of_roots roots ++ lines)
 
 -- what is said of a file: of the roots, of each section, and at the end
 pub record IsSaidOfFile (speech : Speech) (b : List ℕ) (well : Bool) (out : List ℕ) : Type 0 where

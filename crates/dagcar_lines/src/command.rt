@@ -14,12 +14,13 @@ ghost use Rattle.cid_text.specs.Texts.{IsTextFault, IsTextOf};
 ghost use Rattle.cid_text.specs.declared.error.CidTextError.{CidTextError};
 ghost use Rattle.dagcbor_cli.specs.Writing.{WritesFront};
 
+use crate::answer::say_answer;
 use crate::at::{Asked, write_asked};
-use crate::block::{say_data, say_kind, say_name};
+use crate::block::{Judging, Naming, Showing};
 use crate::get::get_block;
 use crate::help::{help_text, version_text};
 use crate::list::Listing;
-use crate::make::make_block;
+use crate::make::Making;
 use crate::summary::Summing;
 use crate::tree::write_tree;
 use crate::verify::Verifying;
@@ -346,10 +347,10 @@ pub fn run<R: BufRead, W: Write, V: Write>(
         Command::Help => say_text(help_text(), output),
         Command::Version => say_text(version_text(), output),
         Command::List => say_input::<Listing, R, W>(alloc, input, output),
-        Command::Name => say_name(alloc, input, output, errors),
-        Command::One => say_kind(alloc, input, output, errors),
-        Command::Show => say_data(alloc, input, output, errors),
-        Command::Make => make_block(alloc, input, output, errors),
+        Command::Name => say_answer::<Naming, R, W, V>(alloc, input, output, errors),
+        Command::One => say_answer::<Judging, R, W, V>(alloc, input, output, errors),
+        Command::Show => say_answer::<Showing, R, W, V>(alloc, input, output, errors),
+        Command::Make => say_answer::<Making, R, W, V>(alloc, input, output, errors),
         Command::Get(name) => get_block(alloc, &name, input, output, errors),
         Command::Tree(root) => write_tree(alloc, &root, input, output, errors),
         Command::At(root) => write_asked(alloc, Asked::Data, &root, path, input, output, errors),

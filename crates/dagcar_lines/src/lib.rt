@@ -2,6 +2,7 @@
 //! blocks are named, judged, shown and made.
 #![tactic(auto)]
 
+mod answer;
 mod at;
 mod block;
 mod check;

@@ -1,16 +1,14 @@
 //! The program `dagstore`: blocks in a file that lasts.
 #![tactic(auto)]
 
-mod command;
-
 use block_lines::no_cid_line;
-use command::{Command, Words, words_of};
 use dagcbor_cli::{ToolError, arguments, give_up, write_all};
 use dagcbor_store::{BlockStore, FileFrom, FileStore, Wary};
 use dagstore_lines::{
-    Counted, Fault, HELP, NO_STORE, NOT_READ, NOT_WRITTEN, OUT_OF_MEMORY, Progress, USAGE, VERSION,
-    answer_check, answer_collect, answer_count, answer_export, answer_get, answer_has, answer_list,
-    answer_put, answer_remove, answer_tree, end, import_blocks, tell_refusal,
+    Command, Counted, Fault, HELP, NO_STORE, NOT_READ, NOT_WRITTEN, OUT_OF_MEMORY, Progress, USAGE,
+    VERSION, Words, answer_check, answer_collect, answer_count, answer_export, answer_get,
+    answer_has, answer_list, answer_put, answer_remove, answer_tree, check_put, end, import_blocks,
+    tell_refusal, words_of,
 };
 use ipld_tree::Cid;
 use std::fs;
@@ -76,11 +74,15 @@ fn put_into<W: Write>(
     )
 }
 
-/// Keeps the block that standard input has, under its name of this codec.
+/// Keeps the block that standard input has, under its name of this codec. One that is refused makes no
+/// file.
 fn run_put<W: Write>(rt: &HostRuntime, path: &str, codec: u64, errors: &mut W) -> u8 {
     let mut block = Vec::new(rt.alloc());
     if rt.reader().read_to_end(&mut block).is_err() {
         return give_up(errors, NOT_READ, 2);
+    }
+    if let Err(refusal) = check_put(codec, &block) {
+        return tell_refusal(&refusal, errors);
     }
     match open(rt, path, errors) {
         Ok(mut store) => put_into(rt, &mut store, codec, &block, errors),

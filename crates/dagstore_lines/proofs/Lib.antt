@@ -5,3 +5,4 @@ pub mod Importing
 pub mod Removing
 pub mod Exporting
 pub mod Gathering
+pub mod Commanding

@@ -1,4 +1,5 @@
 pub mod Lines
+pub mod Commands
 pub mod Said
 pub mod Names
 pub mod Checks

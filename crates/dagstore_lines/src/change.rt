@@ -1,11 +1,12 @@
 //! `put`, `remove` and `gc`: blocks that are kept and taken out.
 
-ghost use Rattle.std.specs.Prelude.{◌≡◌, ◌⊎◌, IfOk, IfErr};
+ghost use Rattle.std.specs.Prelude.{◌≡◌, ◌⊎◌, IfOk, IfErr, MatchResult};
 ghost use Rattle.sqlite_trees.specs.View.{IsClean};
 ghost use Rattle.dagcbor_heads.specs.Written.{AppendsFront};
 ghost use Rattle.dagcbor_store.specs.Collecting.{KeepsReachable};
 ghost use Rattle.dagcbor_store.specs.Ends.{Quiet};
-ghost use Rattle.dagcbor_store.specs.Stored.{IsKeptBy, IsAddedTo, Fails};
+ghost use Rattle.dagcbor_store.specs.Stored.{IsKeptBy, IsAddedTo, IsUnfit, Fails};
+ghost use Rattle.ipld_links.specs.Sound.{IsSound};
 ghost use Rattle.dagstore_lines.specs.Changes.{SaysText, name_as, name_line, SaysPut, name_lines, SaysCollected, HoldsOthers, TakesNames, Removes, SaysTaken, SaysRemoved};
 ghost use Rattle.dagstore_lines.specs.Lines.{removed_line};
 
@@ -15,7 +16,7 @@ use crate::refusal::write_name;
 use block_lines::{line_of, named_line};
 use dagcbor_cli::{ToolError, write_all};
 use dagcbor_store::{BlockStore, Store, StoreRefusal};
-use ipld_links::{SHA2_256, name_of_block};
+use ipld_links::{SHA2_256, check_block, name_of_block};
 use ipld_tree::Cid;
 use std::alloc::{AllocError, Global};
 use std::io::Write;
@@ -34,6 +35,18 @@ fn say_name<W: Write>(alloc: Global, name: &Cid, output: &mut W) -> Result<(), T
 {
     let line = named_line(alloc, b"", name)?;
     write_all(output, &line)
+}
+
+/// Whether the block is one that a store keeps under its name of this codec. One that is not is refused
+/// by `put_block` too; this asks no store, so that none is made for it.
+pub fn check_put(codec: u64, block: &[u8]) -> Result<(), StoreRefusal>
+    ensures { MatchResult result (λ _. IsSound (name_as codec block.now, block.now))
+        (IsUnfit (name_as codec block.now, block.now)) }
+{
+    match check_block(&name_as(codec, block), block) {
+        Ok(()) => Ok(()),
+        Err(cause) => Err(StoreRefusal::Unsound(cause)),
+    }
 }
 
 /// Keeps the block under its name of this codec, commits it, and then writes the name.

@@ -6,6 +6,7 @@ mod at;
 mod block;
 mod change;
 mod check;
+mod command;
 mod export;
 mod fault;
 mod import;
@@ -22,8 +23,9 @@ pub use answer::{
 };
 pub use at::write_at;
 pub use block::{NO_BLOCK, count_blocks, get_block, has_block};
-pub use change::{collect_blocks, put_block, remove_blocks};
+pub use change::{check_put, collect_blocks, put_block, remove_blocks};
 pub use check::check_blocks;
+pub use command::{Command, Words, words_of};
 pub use export::{export_blocks, write_tree};
 pub use fault::Fault;
 pub use import::import_blocks;

@@ -109,7 +109,7 @@ fn command_on(word: &str, name: Cid) -> Option<Command>
 }
 
 /// A name and a path: the text before its first slash, and behind it.
-fn split_path(text: &str) -> (&str, &str)
+pub fn split_path(text: &str) -> (&str, &str)
     ensures name { result.0.now ≡ name_part text.now }
     ensures path { result.1.now ≡ path_part text.now }
 {

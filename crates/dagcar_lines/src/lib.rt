@@ -22,5 +22,5 @@ mod verify;
 mod walk;
 
 pub use at::{Asked, say_asked};
-pub use command::{Command, OUT_OF_MEMORY, USAGE, run_command, split_words};
+pub use command::{Command, OUT_OF_MEMORY, USAGE, run_command, split_path, split_words};
 pub use device::OneFault;

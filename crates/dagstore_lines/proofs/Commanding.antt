@@ -1,5 +1,5 @@
 -- What the words of the program are.
-use Rattle.std.proofs.Common.{◌≡◌, ◌≢◌, ◌⊎◌, inl, inr, ℕ, zero, suc, ◌+◌, ◌<◌, ◌≤◌, ◌^◌, List, [], ◌∷◌, ◌++◌, length, take, drop, codes, map, arith, refl, sym, ap, ap₂, ◌∙◌, subst, get_or, Option, None, Some, MatchOption, Result, Ok, Err, Bor, false, cond, ◌==◌, slice_index}
+use Rattle.std.proofs.Common.{◌≡◌, ◌≢◌, ◌⊎◌, inl, inr, ℕ, zero, suc, ◌+◌, ◌<◌, ◌≤◌, ◌^◌, List, [], ◌∷◌, ◌++◌, length, take, drop, codes, map, arith, refl, sym, ap, ap₂, ◌∙◌, subst, get_or, Option, None, Some, MatchOption, Result, Ok, Err, Bor, Bool, true, false, cond, ◌==◌, slice_index}
 use Rattle.std.specs.Result.{result_ok}
 use Rattle.std.proofs.lemmas.List.{map_more, drop_more, take-append-drop, take-map, drop-map}
 use Rattle.std.specs.Str.Parse.{IsNumeral, AllDigits, ParsesUnsigned, digits_value, without_leading_plus}
@@ -8,7 +8,7 @@ use Rattle.std.proofs.Math.Nat.{pow-le-pow_right, lt_of_lt_of_le}
 use Rattle.ipld_tree.specs.Cid.{CidParts}
 use Rattle.cid_text.specs.Texts.{IsTextOf, IsTextFault, TextsTellCids, TextFaultsAreUnique}
 use Rattle.cid_text.specs.declared.error.CidTextError.{CidTextError}
-use Rattle.dagstore_lines.specs.Commands.{NamesCodec, AreTextsOf, IsFirstFault, TakesNames, command_name, AreNamesOf, IsCommand, IsSource, IsCodec, IsSaidOf, AreKnown}
+use Rattle.dagstore_lines.specs.Commands.{NamesCodec, AreTextsOf, IsFirstFault, TakesNames, command_name, AreNamesOf, IsCommand, IsSource, IsCodec, IsAskedBy, IsSaidOf, AreKnown}
 use Rattle.dagstore_lines.specs.declared.command.Command.{Command}
 use Rattle.dagstore_lines.specs.declared.command.Command.TheVariants as commands
 use Rattle.dagstore_lines.specs.declared.command.Words.{Words}
@@ -47,31 +47,36 @@ fault_behind (t ∷ texts) text more (c ∷ names) e h is = inr ((c, h.0), fault
 
 -- of each word of the program another number
 abbrev mark : List ℕ → ℕ
-mark word = get_or word 0 0 + get_or word 1 0
+mark word = get_or word 0 0 + (get_or word 1 0 + get_or word 1 0)
 
--- n is that of `import` or of `put`, and k is neither
-apart : (n k : ℕ) → (n ≡ 214) ⊎ (n ≡ 229) → n ≡ k → (k ≢ 214) × (k ≢ 229) → ⊥
+-- the number is that of `import`, of `put` or of `at`
+abbrev IsOwn : ℕ → Type 0
+IsOwn n = (n ≡ 323) ⊎ ((n ≡ 346) ⊎ (n ≡ 329))
+
+-- n is so, and k is not
+apart : (n k : ℕ) → IsOwn n → n ≡ k → (k ≢ 323) × (k ≢ 346) × (k ≢ 329) → ⊥
 apart n k (inl m) e other = other.0 (sym e ∙ m)
-apart n k (inr m) e other = other.1 (sym e ∙ m)
+apart n k (inr (inl m)) e other = other.1 (sym e ∙ m)
+apart n k (inr (inr m)) e other = other.2 (sym e ∙ m)
 
-no_command : (word : List ℕ) → (mark word ≡ 214) ⊎ (mark word ≡ 229) → (c : Command) → word ≡ command_name c → ⊥
-no_command word m (commands.Export roots) e = apart (mark word) 221 m (ap mark e) ((λ d. omega (arith, d)), (λ d. omega (arith, d)))
-no_command word m (commands.Get name) e = apart (mark word) 204 m (ap mark e) ((λ d. omega (arith, d)), (λ d. omega (arith, d)))
-no_command word m (commands.Has name) e = apart (mark word) 201 m (ap mark e) ((λ d. omega (arith, d)), (λ d. omega (arith, d)))
-no_command word m (commands.Remove names) e = apart (mark word) 215 m (ap mark e) ((λ d. omega (arith, d)), (λ d. omega (arith, d)))
-no_command word m (commands.Collect roots) e = apart (mark word) 202 m (ap mark e) ((λ d. omega (arith, d)), (λ d. omega (arith, d)))
-no_command word m (commands.Tree root) e = apart (mark word) 230 m (ap mark e) ((λ d. omega (arith, d)), (λ d. omega (arith, d)))
-no_command word m commands.Check e = apart (mark word) 203 m (ap mark e) ((λ d. omega (arith, d)), (λ d. omega (arith, d)))
-no_command word m commands.List e = apart (mark word) 213 m (ap mark e) ((λ d. omega (arith, d)), (λ d. omega (arith, d)))
-no_command word m commands.Count e = apart (mark word) 210 m (ap mark e) ((λ d. omega (arith, d)), (λ d. omega (arith, d)))
+no_command : (word : List ℕ) → IsOwn (mark word) → (c : Command) → word ≡ command_name c → ⊥
+no_command word m (commands.Export roots) e = apart (mark word) 341 m (ap mark e) ((λ d. omega (arith, d)), (λ d. omega (arith, d)), (λ d. omega (arith, d)))
+no_command word m (commands.Get name) e = apart (mark word) 305 m (ap mark e) ((λ d. omega (arith, d)), (λ d. omega (arith, d)), (λ d. omega (arith, d)))
+no_command word m (commands.Has name) e = apart (mark word) 298 m (ap mark e) ((λ d. omega (arith, d)), (λ d. omega (arith, d)), (λ d. omega (arith, d)))
+no_command word m (commands.Remove names) e = apart (mark word) 316 m (ap mark e) ((λ d. omega (arith, d)), (λ d. omega (arith, d)), (λ d. omega (arith, d)))
+no_command word m (commands.Collect roots) e = apart (mark word) 301 m (ap mark e) ((λ d. omega (arith, d)), (λ d. omega (arith, d)), (λ d. omega (arith, d)))
+no_command word m (commands.Tree root) e = apart (mark word) 344 m (ap mark e) ((λ d. omega (arith, d)), (λ d. omega (arith, d)), (λ d. omega (arith, d)))
+no_command word m commands.Check e = apart (mark word) 307 m (ap mark e) ((λ d. omega (arith, d)), (λ d. omega (arith, d)), (λ d. omega (arith, d)))
+no_command word m commands.List e = apart (mark word) 318 m (ap mark e) ((λ d. omega (arith, d)), (λ d. omega (arith, d)), (λ d. omega (arith, d)))
+no_command word m commands.Count e = apart (mark word) 321 m (ap mark e) ((λ d. omega (arith, d)), (λ d. omega (arith, d)), (λ d. omega (arith, d)))
 
-no_names : (word : List ℕ) → (mark word ≡ 214) ⊎ (mark word ≡ 229) → TakesNames word → ⊥
-no_names word m (inl e) = apart (mark word) 221 m (ap mark e) ((λ d. omega (arith, d)), (λ d. omega (arith, d)))
-no_names word m (inr (inl e)) = apart (mark word) 204 m (ap mark e) ((λ d. omega (arith, d)), (λ d. omega (arith, d)))
-no_names word m (inr (inr (inl e))) = apart (mark word) 201 m (ap mark e) ((λ d. omega (arith, d)), (λ d. omega (arith, d)))
-no_names word m (inr (inr (inr (inl e)))) = apart (mark word) 230 m (ap mark e) ((λ d. omega (arith, d)), (λ d. omega (arith, d)))
-no_names word m (inr (inr (inr (inr (inl e))))) = apart (mark word) 215 m (ap mark e) ((λ d. omega (arith, d)), (λ d. omega (arith, d)))
-no_names word m (inr (inr (inr (inr (inr e))))) = apart (mark word) 202 m (ap mark e) ((λ d. omega (arith, d)), (λ d. omega (arith, d)))
+no_names : (word : List ℕ) → IsOwn (mark word) → TakesNames word → ⊥
+no_names word m (inl e) = apart (mark word) 341 m (ap mark e) ((λ d. omega (arith, d)), (λ d. omega (arith, d)), (λ d. omega (arith, d)))
+no_names word m (inr (inl e)) = apart (mark word) 305 m (ap mark e) ((λ d. omega (arith, d)), (λ d. omega (arith, d)), (λ d. omega (arith, d)))
+no_names word m (inr (inr (inl e))) = apart (mark word) 298 m (ap mark e) ((λ d. omega (arith, d)), (λ d. omega (arith, d)), (λ d. omega (arith, d)))
+no_names word m (inr (inr (inr (inl e)))) = apart (mark word) 344 m (ap mark e) ((λ d. omega (arith, d)), (λ d. omega (arith, d)), (λ d. omega (arith, d)))
+no_names word m (inr (inr (inr (inr (inl e))))) = apart (mark word) 316 m (ap mark e) ((λ d. omega (arith, d)), (λ d. omega (arith, d)), (λ d. omega (arith, d)))
+no_names word m (inr (inr (inr (inr (inr e))))) = apart (mark word) 301 m (ap mark e) ((λ d. omega (arith, d)), (λ d. omega (arith, d)), (λ d. omega (arith, d)))
 
 -- ---- which words are unknown
 
@@ -81,34 +86,52 @@ no_codec word none codec (inl h) = let clash : 1 ≡ 0 = ap length h.0 in omega 
 no_codec word none codec (inr h) = none codec (subst (λ w. NamesCodec w codec) (sym (ap (λ ws. get_or ws 0 []) h.1)) h.2)
 
 pub no_put : (path word : List ℕ) (rest : List (List ℕ)) → rest ≡ word ∷ [] → ((codec : ℕ) → NamesCodec word codec → ⊥) → (it : Words) → AreKnown (path ∷ (codes "put" ∷ rest)) it → ⊥
-no_put path word rest is none (words.Import file source) h = let clash : 229 ≡ 214 = ap mark h.1 in omega (arith, clash)
+no_put path word rest is none (words.Import file source) h = let clash : 346 ≡ 323 = ap mark h.1 in omega (arith, clash)
+no_put path word rest is none (words.At file is_raw root inner) h = let clash : 346 ≡ 329 = ap mark h.1 in omega (arith, clash)
 no_put path word rest is none (words.Put file codec) h = no_codec word none codec (subst (λ ws. IsCodec ws codec) is h.2)
-no_put path word rest is none (words.Do file command) h = no_command (codes "put") (inr refl) command h.1.2.0
+no_put path word rest is none (words.Do file command) h = no_command (codes "put") (inr (inl refl)) command h.1.2.0
 no_put path word rest is none words.Help h = h
 no_put path word rest is none words.Version h = h
-no_put path word rest is none (words.NoCid e) h = no_names (codes "put") (inr refl) h.0
+no_put path word rest is none (words.NoCid e) (inl h) = no_names (codes "put") (inr (inl refl)) h.0
+no_put path word rest is none (words.NoCid e) (inr h) = let clash : 346 ≡ 329 = ap mark h.0 in omega (arith, clash)
 no_put path word rest is none words.Unknown h = h
 
+-- words behind `at` that ask for nothing
+pub no_at : (path : List ℕ) (rest : List (List ℕ)) → ((is_raw : Bool) (text : List ℕ) → IsAskedBy rest is_raw text → ⊥) → (it : Words) → AreKnown (path ∷ (codes "at" ∷ rest)) it → ⊥
+no_at path rest none (words.Import file source) h = let clash : 329 ≡ 323 = ap mark h.1 in omega (arith, clash)
+no_at path rest none (words.Put file codec) h = let clash : 329 ≡ 346 = ap mark h.1 in omega (arith, clash)
+no_at path rest none (words.At file is_raw root inner) h = none is_raw h.2.0 h.2.1
+no_at path rest none (words.Do file command) h = no_command (codes "at") (inr (inr refl)) command h.1.2.0
+no_at path rest none words.Help h = h
+no_at path rest none words.Version h = h
+no_at path rest none (words.NoCid e) (inl h) = no_names (codes "at") (inr (inr refl)) h.0
+no_at path rest none (words.NoCid e) (inr h) = none h.1.0 h.1.1 h.1.2
+no_at path rest none words.Unknown h = h
+
 -- CIDs behind a word that are no command
-pub no_done : TextsTellCids → TextFaultsAreUnique → (path word : List ℕ) (rest : List (List ℕ)) (names : List CidParts) → word ≢ codes "import" → word ≢ codes "put" → AreTextsOf rest names → ((c : Command) → IsCommand word names c → ⊥)
+pub no_done : TextsTellCids → TextFaultsAreUnique → (path word : List ℕ) (rest : List (List ℕ)) (names : List CidParts) → word ≢ codes "import" → word ≢ codes "put" → word ≢ codes "at" → AreTextsOf rest names → ((c : Command) → IsCommand word names c → ⊥)
     → (it : Words) → AreKnown (path ∷ (word ∷ rest)) it → ⊥
-no_done law faults path word rest names imports puts texts none (words.Import file source) h = imports h.1
-no_done law faults path word rest names imports puts texts none (words.Put file codec) h = puts h.1
-no_done law faults path word rest names imports puts texts none (words.Do file command) h = none command (subst (λ ns. IsCommand word ns command) (same_names law rest h.1.0 names h.1.1 texts) h.1.2)
-no_done law faults path word rest names imports puts texts none words.Help h = h
-no_done law faults path word rest names imports puts texts none words.Version h = h
-no_done law faults path word rest names imports puts texts none (words.NoCid e) h = no_fault faults rest names e texts h.1
-no_done law faults path word rest names imports puts texts none words.Unknown h = h
+no_done law faults path word rest names imports puts ats texts none (words.Import file source) h = imports h.1
+no_done law faults path word rest names imports puts ats texts none (words.Put file codec) h = puts h.1
+no_done law faults path word rest names imports puts ats texts none (words.Do file command) h = none command (subst (λ ns. IsCommand word ns command) (same_names law rest h.1.0 names h.1.1 texts) h.1.2)
+no_done law faults path word rest names imports puts ats texts none words.Help h = h
+no_done law faults path word rest names imports puts ats texts none words.Version h = h
+no_done law faults path word rest names imports puts ats texts none (words.At file is_raw root inner) h = ats h.1
+no_done law faults path word rest names imports puts ats texts none (words.NoCid e) (inl h) = no_fault faults rest names e texts h.1
+no_done law faults path word rest names imports puts ats texts none (words.NoCid e) (inr h) = ats h.0
+no_done law faults path word rest names imports puts ats texts none words.Unknown h = h
 
 -- others behind a word that takes none
-pub no_word : TextFaultsAreUnique → (path word : List ℕ) (rest : List (List ℕ)) (f : CidTextError) → word ≢ codes "import" → word ≢ codes "put" → IsFirstFault rest f → (TakesNames word → ⊥) → (it : Words) → AreKnown (path ∷ (word ∷ rest)) it → ⊥
-no_word faults path word rest f imports puts fault none (words.Import file source) h = imports h.1
-no_word faults path word rest f imports puts fault none (words.Put file codec) h = puts h.1
-no_word faults path word rest f imports puts fault none (words.Do file command) h = no_fault faults rest h.1.0 f h.1.1 fault
-no_word faults path word rest f imports puts fault none words.Help h = h
-no_word faults path word rest f imports puts fault none words.Version h = h
-no_word faults path word rest f imports puts fault none (words.NoCid e) h = none h.0
-no_word faults path word rest f imports puts fault none words.Unknown h = h
+pub no_word : TextFaultsAreUnique → (path word : List ℕ) (rest : List (List ℕ)) (f : CidTextError) → word ≢ codes "import" → word ≢ codes "put" → word ≢ codes "at" → IsFirstFault rest f → (TakesNames word → ⊥) → (it : Words) → AreKnown (path ∷ (word ∷ rest)) it → ⊥
+no_word faults path word rest f imports puts ats fault none (words.Import file source) h = imports h.1
+no_word faults path word rest f imports puts ats fault none (words.Put file codec) h = puts h.1
+no_word faults path word rest f imports puts ats fault none (words.Do file command) h = no_fault faults rest h.1.0 f h.1.1 fault
+no_word faults path word rest f imports puts ats fault none words.Help h = h
+no_word faults path word rest f imports puts ats fault none words.Version h = h
+no_word faults path word rest f imports puts ats fault none (words.At file is_raw root inner) h = ats h.1
+no_word faults path word rest f imports puts ats fault none (words.NoCid e) (inl h) = none h.0
+no_word faults path word rest f imports puts ats fault none (words.NoCid e) (inr h) = ats h.0
+no_word faults path word rest f imports puts ats fault none words.Unknown h = h
 
 -- ---- rows of words
 

@@ -1,10 +1,11 @@
 -- The program's words.
-use Rattle.std.specs.Prelude.{◌≡◌, ◌≢◌, ◌⊎◌, ◌≤◌, ℕ, List, [], ◌∷◌, ◌++◌, length, codes, ⊤, Option, None, Some}
+use Rattle.std.specs.Prelude.{◌≡◌, ◌≢◌, ◌⊎◌, ◌≤◌, ℕ, List, [], ◌∷◌, ◌++◌, length, codes, ⊤, Bool, true, false, Option, None, Some}
 use Rattle.std.specs.Borrow.{Bor}
 use Rattle.std.specs.Str.Parse.{IsNumeral, digits_value}
 use Rattle.ipld_tree.specs.Cid.{CidParts}
 use Rattle.cid_text.specs.Texts.{IsTextOf, IsTextFault}
 use Rattle.cid_text.specs.declared.error.CidTextError.{CidTextError}
+use Rattle.dagcar_lines.specs.Commands.{name_part, path_part}
 use Rattle.dagstore_lines.specs.declared.command.Command.{Command}
 use Rattle.dagstore_lines.specs.declared.command.Command.TheVariants as commands
 use Rattle.dagstore_lines.specs.declared.command.Words.{Words}
@@ -79,6 +80,11 @@ abbrev pub IsCodec : List (List ℕ) → ℕ → Type 0
 IsCodec rest codec = ((rest ≡ []) × (codec ≡ 0x71))
     ⊎ ((word : List ℕ) × (rest ≡ word ∷ []) × NamesCodec word codec)
 
+-- what stands behind `at`: a text, and --raw before it where bytes are asked for
+abbrev pub IsAskedBy : List (List ℕ) → Bool → List ℕ → Type 0
+IsAskedBy rest false text = rest ≡ text ∷ []
+IsAskedBy rest true text = rest ≡ codes "--raw" ∷ text ∷ []
+
 -- ---- words
 
 -- a path, a word and what stands behind it are this; and where a CID should stand and none does, they
@@ -88,7 +94,10 @@ IsSaidOf path word rest (words.Import file source) = (path ≡ file.now) × (wor
 IsSaidOf path word rest (words.Put file codec) = (path ≡ file.now) × (word ≡ codes "put") × IsCodec rest codec
 IsSaidOf path word rest (words.Do file command) = (path ≡ file.now)
     × ((names : List CidParts) × AreTextsOf rest names × IsCommand word names command)
-IsSaidOf path word rest (words.NoCid e) = TakesNames word × IsFirstFault rest e
+IsSaidOf path word rest (words.At file is_raw root inner) = (path ≡ file.now) × (word ≡ codes "at")
+    × ((text : List ℕ) × IsAskedBy rest is_raw text × IsTextOf (name_part text) root × (inner.now ≡ path_part text))
+IsSaidOf path word rest (words.NoCid e) = (TakesNames word × IsFirstFault rest e)
+    ⊎ ((word ≡ codes "at") × ((is_raw : Bool) × (text : List ℕ) × IsAskedBy rest is_raw text × IsTextFault e (name_part text)))
 IsSaidOf path word rest _ = ⊥
 
 -- the words are this, and known

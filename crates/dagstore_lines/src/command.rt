@@ -1,12 +1,13 @@
 //! The program's words.
 
-ghost use Rattle.std.specs.Prelude.{◌≡◌, ◌≢◌, ◌<◌, ◌≤◌, [], ◌∷◌, codes, length, map, string_bytes, IfOk, IfErr, MatchBool, MatchOption, MatchResult, ℕ};
+ghost use Rattle.std.specs.Prelude.{◌≡◌, ◌≢◌, ◌<◌, ◌≤◌, [], ◌∷◌, codes, length, map, string_bytes, IfOk, IfErr, MatchBool, MatchOption, MatchResult, List, ℕ};
 ghost use Rattle.std.specs.Str.Parse.{IsNumeral, digits_value};
 ghost use Rattle.ipld_tree.specs.Cid.{CidParts};
-ghost use Rattle.dagstore_lines.specs.Commands.{NamesCodec, AreTextsOf, IsFirstFault, TakesNames, IsCommand, IsSaidOf, AreWords};
+ghost use Rattle.dagstore_lines.specs.Commands.{NamesCodec, AreTextsOf, IsFirstFault, TakesNames, IsCommand, IsSaidOf, IsAskedBy, AreWords};
 ghost use Rattle.dagstore_lines.specs.declared.command.Command.{Command};
 
 use cid_text::{CidTextError, cid_from_text, laws};
+use dagcar_lines::split_path;
 use ipld_links::DAG_CBOR;
 use ipld_tree::Cid;
 use std::alloc::{AllocError, Global};
@@ -48,6 +49,8 @@ pub enum Words<'a> {
     Import(&'a str, Option<&'a str>),
     /// To keep there the block that standard input has, under its name of this codec.
     Put(&'a str, u64),
+    /// To show what a path leads to from the root, or to write its bytes.
+    At(&'a str, bool, Cid, &'a str),
     /// A path, and what is to be done with its blocks.
     Do(&'a str, Command),
     Help,
@@ -93,6 +96,7 @@ fn words_behind<'a>(
     match word {
         "import" => Ok(import_of(path, rest)),
         "put" => Ok(put_of(path, rest)),
+        "at" => Ok(at_of(path, rest)),
         _ => names_behind(alloc, path, word, rest),
     }
 }
@@ -122,6 +126,32 @@ fn put_of<'a>(path: &'a str, rest: &[String]) -> Words<'a>
             None => Words::Unknown,
         },
         _ => Words::Unknown,
+    }
+}
+
+/// What is asked of a path in the file.
+fn at_of<'a>(file: &'a str, rest: &'a [String]) -> Words<'a>
+    ensures { AreWords (file.now ∷ (codes "at" ∷ map string_bytes rest.now)) result }
+{
+    match rest {
+        [text] => at_text(file, false, text.as_str()),
+        [option, text] => match option.as_str() {
+            "--raw" => at_text(file, true, text.as_str()),
+            _ => Words::Unknown,
+        },
+        _ => Words::Unknown,
+    }
+}
+
+/// What is asked of the path in the text: a CID, and the path behind a slash.
+fn at_text<'a>(file: &'a str, is_raw: bool, text: &'a str) -> Words<'a>
+    ensures { (rest : List (List ℕ)) → IsAskedBy rest is_raw text.now
+        → AreWords (file.now ∷ (codes "at" ∷ rest)) result }
+{
+    let (name, path) = split_path(text);
+    match cid_from_text(name.as_bytes()) {
+        Ok(root) => Words::At(file, is_raw, root, path),
+        Err(cause) => Words::NoCid(cause),
     }
 }
 
@@ -155,7 +185,7 @@ fn names_behind<'a>(
     word: &str,
     rest: &[String],
 ) -> Result<Words<'a>, AllocError>
-    ensures known { word.now ≢ codes "import" → word.now ≢ codes "put"
+    ensures known { word.now ≢ codes "import" → word.now ≢ codes "put" → word.now ≢ codes "at"
         → IfOk result (AreWords (path.now ∷ (word.now ∷ map string_bytes rest.now))) }
     ensures memory { IfErr result (λ _. 0 < length rest.now) }
 {

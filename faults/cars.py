@@ -77,6 +77,8 @@ BLOCKS = {
     b"\x05": ("ok integer", []),
     b"": ("refused Eof", []),
 }
+# By which byte those are refused that are.
+PLACES = {UNORDERED: 5, b"": 0}
 # The roots of each header.
 HEADERS = {header(): [], header(cid(ROOT)): [cid(ROOT)], header(AWAY, cid(ROOT)): [AWAY, cid(ROOT)]}
 # Why other headers are none.
@@ -107,7 +109,7 @@ class Judge:
     def __init__(self, bytes_):
         self.at = 0
         self.checked, self.listed, self.linked, self.held, self.is_well = [], [], set(), set(), True
-        self.sections, self.refusal = [], []
+        self.sections, self.refusal, self.places = [], [], []
         try:
             self.bytes, is_short = self.file_in(bytes_)
             self.header()
@@ -161,6 +163,8 @@ class Judge:
         self.is_well = self.is_well and (found == "not read" or found.startswith("ok "))
         self.sections.append((body[:end], body[end:], found))
         self.checked.append(f"{text_of(body[:end])} {found}")
+        if found.startswith("refused "):
+            self.places.append(f"{text_of(body[:end])}: {found} at byte {PLACES[body[end:]]}")
         self.listed.append(f"{text_of(body[:end])} {len(body) - end}")
         if found not in ("other bytes", "not verified"):
             self.held.add(body[:end])
@@ -303,13 +307,13 @@ def sweep_files(path, report):
     for name, given in files():
         wrong = []
         for number, file in enumerate(given):
+            judge = Judge(file)
             for command in ("check", "list"):
                 how = {"input": file, "capture_output": True, "preexec_fn": limit, "timeout": 60}
                 ran = subprocess.run([path, command], check=False, **how)
-                wanted = Judge(file).wanted(command)
-                if (ran.returncode, ran.stdout) != wanted or ran.stderr:
+                told = "".join(f"{line}\n" for line in judge.places if command == "check").encode()
+                if (ran.returncode, ran.stdout, ran.stderr) != (*judge.wanted(command), told):
                     wrong.append((command, number, ran.returncode, ran.stdout[-80:], ran.stderr))
-            judge = Judge(file)
             for words, wanted in ((("get", NUMBERS), judge.got), (("tree", ROOT), judge.tree)):
                 of = cid(words[1])
                 how = {"input": file, "capture_output": True, "preexec_fn": limit, "timeout": 60}

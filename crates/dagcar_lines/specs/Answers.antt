@@ -20,10 +20,11 @@ use Rattle.ipld_links.specs.Blocks.{HasBlock}
 use Rattle.ipld_links.specs.Verdicts.{IsVerdict}
 use Rattle.dagcbor_car.specs.Checks.{ListsMissing}
 use Rattle.ipld_links.specs.declared.verdict.Verdict.{Verdict}
+use Rattle.ipld_links.specs.declared.verdict.Verdict.TheVariants.{Refused}
 use Rattle.dagcbor_items.specs.PrintedNames.{kind_name, variant_name}
 use Rattle.block_lines.specs.Lines.{line, told_line, listed_line, missing_line, root_line, is_well, Says, SaysBoth}
-use Rattle.dagcar_lines.specs.Lines.{cause_line, place_line, reserved_line}
-use Rattle.dagcar_lines.specs.Speeches.{Speech, SaysBytes}
+use Rattle.dagcar_lines.specs.Lines.{cause_line, place_line, section_place_line, reserved_line}
+use Rattle.dagcar_lines.specs.Speeches.{Speech, beside, SaysBytes}
 use Rattle.dagcar_lines.specs.Summary.{IsSummary}
 use Rattle.dagcar_lines.specs.Help.{help_text, version_text}
 use Rattle.dagcbor_paths.specs.Paths.{segments}
@@ -41,6 +42,12 @@ abbrev pub IsVerdictLine : Section → Bool → List ℕ → Type 0
 IsVerdictLine s well text = (v : Verdict) × IsVerdict s v × (well ≡ is_well v)
     × (text ≡ told_line (s, v))
 
+-- what is told of a section: of one whose block is refused, by which byte
+abbrev pub TellsPlace : Section → List ℕ → Type 0
+TellsPlace s told = ((e : DecodeError Infallible) × (place : ℕ) × IsVerdict s (Refused e) × StandsAt e s.1 place
+    × (told ≡ section_place_line s.0 e place))
+    ⊎ (((e : DecodeError Infallible) → ¬ IsVerdict s (Refused e)) × (told ≡ []))
+
 -- the lines of the roots and the links that lead nowhere; nothing is wrong where there is none
 pub record AreMissingLines (roots : List (List ℕ)) (sections : List Section) (well : Bool) (text : List ℕ) : Type 0 where
   pub missing : Vec CidParts Global
@@ -54,6 +61,7 @@ check_speech = record {
   of_roots = λ roots. [];
   of_section = IsVerdictLine;
   of_end = AreMissingLines;
+  of_fault = λ line. line;
 }
 
 -- what `verify` says: the verdict on each section
@@ -62,6 +70,7 @@ verify_speech = record {
   of_roots = λ roots. [];
   of_section = IsVerdictLine;
   of_end = λ roots sections well text. (well ≡ true) × (text ≡ []);
+  of_fault = λ line. line;
 }
 
 -- what `check --summary` says: what `check` says, and then how many sections had which verdict
@@ -70,6 +79,7 @@ summary_speech = record {
   of_roots = λ roots. [];
   of_section = IsVerdictLine;
   of_end = IsSummary;
+  of_fault = λ line. line;
 }
 
 -- what `list` says: the roots, and then each section
@@ -78,6 +88,7 @@ list_speech = record {
   of_roots = λ roots. flat_map root_line roots;
   of_section = λ s well text. (well ≡ true) × (text ≡ listed_line s);
   of_end = λ roots sections well text. (well ≡ true) × (text ≡ []);
+  of_fault = λ line. line;
 }
 
 -- ---- one block
@@ -123,12 +134,18 @@ abbrev pub EndsSo : Result Bool ToolError → ℕ → Type 0
 EndsSo (Ok well) status = status ≡ (if well then 0 else 1)
 EndsSo (Err e) status = status ≡ 2
 
+-- this is said of the bytes, and beside it of each refused section by which byte it is
+abbrev pub SaysSections : Speech → List ℕ → Option (List ℕ) → Option (List ℕ) → Result Bool ToolError
+    → Option (List ℕ) → Option (List ℕ) → Type 0
+SaysSections speech b old heard ended new after = SaysBytes speech b old ended new
+    × SaysBytes (beside TellsPlace) b heard ended after
+
 -- a run of a command on these bytes, and on the path in the words, by what the output and the errors hold
 abbrev pub RunsCommand : Command → List ℕ → List ℕ → Option (List ℕ) → Option (List ℕ)
     → Result Bool ToolError → Option (List ℕ) → Option (List ℕ) → Type 0
-RunsCommand commands.Check path b old heard ended new after = SaysBytes check_speech b old ended new
-RunsCommand commands.Verify path b old heard ended new after = SaysBytes verify_speech b old ended new
-RunsCommand commands.Summary path b old heard ended new after = SaysBytes summary_speech b old ended new
+RunsCommand commands.Check path b old heard ended new after = SaysSections check_speech b old heard ended new after
+RunsCommand commands.Verify path b old heard ended new after = SaysSections verify_speech b old heard ended new after
+RunsCommand commands.Summary path b old heard ended new after = SaysSections summary_speech b old heard ended new after
 RunsCommand commands.Help path b old heard ended new after = Says (λ well out. (well ≡ true) × (out ≡ help_text)) old ended new
 RunsCommand commands.Version path b old heard ended new after = Says (λ well out. (well ≡ true) × (out ≡ version_text)) old ended new
 RunsCommand commands.List path b old heard ended new after = SaysBytes list_speech b old ended new
@@ -144,6 +161,9 @@ RunsCommand (commands.Prove root) path b old heard ended new after = SaysBoth (I
 
 -- the commands that tell of nothing but of faults
 abbrev pub IsQuiet : Command → Type 0
+IsQuiet commands.Check = ⊥
+IsQuiet commands.Verify = ⊥
+IsQuiet commands.Summary = ⊥
 IsQuiet commands.Name = ⊥
 IsQuiet commands.One = ⊥
 IsQuiet commands.Show = ⊥

@@ -20,7 +20,7 @@ use ipld_tree::{Cid, Ipld};
 use std::alloc::{AllocError, Global};
 
 /// The line of bytes that are no block, with the byte by which they are none.
-fn place_line(alloc: Global, refused: &Refused) -> Result<Vec<u8>, AllocError>
+pub fn place_line(alloc: Global, refused: &Refused) -> Result<Vec<u8>, AllocError>
     ensures { IfOk result (λ v. v.items ≡ place_line refused.now.cause refused.now.place) }
 {
     let place = format!(in alloc; " at byte {}", refused.place)?;
@@ -40,37 +40,11 @@ fn refused_of(alloc: Global, refused: &Refused) -> Result<Answer, AllocError>
     Ok(((line, false), told))
 }
 
-/// The kind of the block, or why the bytes are none.
-fn judged(alloc: Global, block: &[u8]) -> Result<Answer, AllocError>
-    ensures { IfOk result (λ p. IsJudged block.now p.0.1 p.0.0.items p.1.items) }
-{
-    match judge_slice(block) {
-        Ok(kind) => {
-            let line = line_of(alloc, b"ok ", kind_name(kind).as_bytes(), b"")?;
-            Ok(((line, true), Vec::new(alloc)))
-        }
-        Err(refused) => refused_of(alloc, &refused),
-    }
-}
-
 /// The line of a name.
 fn name_line(alloc: Global, cid: &Cid) -> Result<Vec<u8>, AllocError>
     ensures { IfOk result (λ v. v.items ≡ line (cid_text cid.now)) }
 {
     line_of(alloc, &cid_text(cid), b"", b"")
-}
-
-/// The name of the block, or why the bytes are none.
-fn named(alloc: Global, block: &[u8]) -> Result<Answer, AllocError>
-    ensures { IfOk result (λ p. IsNamed block.now p.0.1 p.0.0.items p.1.items) }
-{
-    match judge_slice(block) {
-        Ok(_kind) => {
-            let line = name_line(alloc, &name_of_block(block))?;
-            Ok(((line, true), Vec::new(alloc)))
-        }
-        Err(refused) => refused_of(alloc, &refused),
-    }
 }
 
 /// The line of the data.
@@ -120,7 +94,7 @@ pub fn shown(alloc: Global, block: &[u8]) -> Result<Answer, AllocError>
     }
 }
 
-/// `name`: the CID of the block.
+/// `name`: the CID of the block, or why the bytes are none.
 #[derive(Clone, Copy)]
 pub struct Naming;
 
@@ -128,11 +102,17 @@ impl Answering for Naming {
     ghost is_said = { IsNamed };
 
     fn answer(alloc: Global, bytes: &[u8]) -> Result<Answer, ToolError> {
-        Ok(named(alloc, bytes)?)
+        match judge_slice(bytes) {
+            Ok(_kind) => {
+                let line = name_line(alloc, &name_of_block(bytes))?;
+                Ok(((line, true), Vec::new(alloc)))
+            }
+            Err(refused) => Ok(refused_of(alloc, &refused)?),
+        }
     }
 }
 
-/// `one`: the kind of the block.
+/// `one`: the kind of the block, or why the bytes are none.
 #[derive(Clone, Copy)]
 pub struct Judging;
 
@@ -140,11 +120,17 @@ impl Answering for Judging {
     ghost is_said = { IsJudged };
 
     fn answer(alloc: Global, bytes: &[u8]) -> Result<Answer, ToolError> {
-        Ok(judged(alloc, bytes)?)
+        match judge_slice(bytes) {
+            Ok(kind) => {
+                let line = line_of(alloc, b"ok ", kind_name(kind).as_bytes(), b"")?;
+                Ok(((line, true), Vec::new(alloc)))
+            }
+            Err(refused) => Ok(refused_of(alloc, &refused)?),
+        }
     }
 }
 
-/// `show`: the data of the block.
+/// `show`: the data of the block, or why the bytes are none.
 #[derive(Clone, Copy)]
 pub struct Showing;
 

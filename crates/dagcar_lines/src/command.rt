@@ -3,7 +3,7 @@
 ghost use Rattle.std.specs.Prelude.{◌≡◌, ◌≢◌, [], ◌∷◌, ◌++◌, codes, true, map, string_bytes, IfSome, MatchOption, Result, Bool, Option, None, Some, List, ℕ};
 ghost use Rattle.dagcbor_heads.specs.Inputs.{input_reading, not_lending};
 ghost use Rattle.dagcar_lines.specs.Answers.{RunsCommand, EndsSo, IsQuiet};
-ghost use Rattle.dagcar_lines.specs.Speeches.{SaysBytes};
+ghost use Rattle.dagcar_lines.specs.Speeches.{beside, SaysBytes};
 ghost use Rattle.block_lines.specs.Lines.{no_cid_line, Says};
 ghost use Rattle.dagcbor_cli.specs.declared.fault.ToolError.{ToolError};
 ghost use Rattle.dagcar_lines.specs.Commands.{IsCommand, IsCommandOn, IsMistyped};
@@ -32,6 +32,7 @@ use dagcbor_cli::{ToolError, give_up, write_all};
 use dagcbor_heads::{Input, IoRefReader, Read};
 use ipld_tree::Cid;
 use std::alloc::Global;
+use std::io;
 use std::io::{BufRead, Write};
 
 /// What is told of wrong words.
@@ -300,17 +301,21 @@ pub fn input_over<'de, R: Read>(reader: R) -> Input<'de, R>
     Input::Reader(reader)
 }
 
-/// Says what the teller says of the file that the input is. Whether nothing is wrong.
-fn say_input<T: Teller, R: BufRead, W: Write>(
+/// Says what the teller says of the file that the input is, and tells what it tells beside that.
+/// Whether nothing is wrong.
+fn say_input<T: Teller, R: BufRead, W: Write, V: Write>(
     alloc: Global,
     input: &mut R,
     output: &mut W,
+    errors: &mut V,
 ) -> Result<bool, ToolError>
-    ensures { IfSome (R.remaining input.old) (λ b.
+    ensures said { IfSome (R.remaining input.old) (λ b.
         SaysBytes T.speech b (W.contents output.old) result (W.contents output.new)) }
+    ensures told { IfSome (R.remaining input.old) (λ b.
+        SaysBytes (beside T.tells) b (V.contents errors.old) result (V.contents errors.new)) }
 {
     let mut source = input_over(IoRefReader::new(input));
-    let result = say_file::<T, _, _>(alloc, &mut source, output);
+    let result = say_file::<T, _, _, _>(alloc, &mut source, output, errors);
     if let Some(lent) = source.into_reader() {
         let _source = lent.into_inner();
     }
@@ -341,12 +346,17 @@ pub fn run<R: BufRead, W: Write, V: Write>(
     ensures quiet { IsQuiet command → errors.new ≡ errors.old }
 {
     match command {
-        Command::Check => say_input::<CarCheck, R, W>(alloc, input, output),
-        Command::Summary => say_input::<Summing, R, W>(alloc, input, output),
-        Command::Verify => say_input::<Verifying, R, W>(alloc, input, output),
+        Command::Check => say_input::<CarCheck, R, W, V>(alloc, input, output, errors),
+        Command::Summary => say_input::<Summing, R, W, V>(alloc, input, output, errors),
+        Command::Verify => say_input::<Verifying, R, W, V>(alloc, input, output, errors),
         Command::Help => say_text(help_text(), output),
         Command::Version => say_text(version_text(), output),
-        Command::List => say_input::<Listing, R, W>(alloc, input, output),
+        Command::List => say_input::<Listing, R, W, io::Sink>(
+            alloc,
+            input,
+            output,
+            &mut io::sink(),
+        ),
         Command::Name => say_answer::<Naming, R, W, V>(alloc, input, output, errors),
         Command::One => say_answer::<Judging, R, W, V>(alloc, input, output, errors),
         Command::Show => say_answer::<Showing, R, W, V>(alloc, input, output, errors),

@@ -1,5 +1,5 @@
 -- What is said of each name that is listed in a store.
-use Rattle.std.specs.Prelude.{◌≡◌, ℕ, List, [], ◌∷◌, ◌++◌, Bool, true, false, ◌&&◌, ⊤, Option, None, Some, Result, MatchResult, MatchOption}
+use Rattle.std.specs.Prelude.{◌≡◌, ℕ, List, [], ◌∷◌, Bool, true, false, ⊤, Option, None, Some, Result, MatchResult, MatchOption}
 use Rattle.std.specs.Io.KnownBytes.{Appends}
 use Rattle.sqlite_trees.specs.View.{View, IsClean}
 use Rattle.ipld_tree.specs.Cid.{CidParts}

@@ -1,28 +1,26 @@
 -- What the calls of a store answer.
-use Rattle.std.proofs.Common.{◌≡◌, ◌↔◌, ◌⊎◌, inl, inr, ℕ, ℤ, ◌≤◌, List, [], ◌∷◌, filter, Bool, true, false, not, refl, sym, ap, ◌∙◌, subst, true≢false, IsTrue, arith, Option, None, option_map, Result, Ok, Err, IfOk, IfErr, OnOk, OnErr, Vec, Global}
+use Rattle.std.proofs.Common.{◌≡◌, ◌↔◌, ◌⊎◌, inl, inr, ℕ, ℤ, ◌≤◌, List, [], ◌∷◌, filter, Bool, true, false, refl, sym, ap, ◌∙◌, subst, true≢false, IsTrue, arith, Option, None, option_map, Result, Ok, Err, IfOk, IfErr, OnOk, OnErr, Vec, Global}
 use Rattle.std.proofs.Math.Decide.{ℕ_discrete}
 use Rattle.std.proofs.Math.IntN.{ℤ_discrete}
 use mathlib.Core.List.{List-discrete}
 use Rattle.sqlite_disk.specs.Disk.{MoreFaults}
-use Rattle.sqlite_trees.proofs.ListLemmas.{all-filter}
-use Rattle.sqlite_value.specs.Keys.{plain}
-use Rattle.sqlite_trees.specs.Tree.{Trees, has_rowid, remove_entry}
-use Rattle.sqlite_trees.specs.View.{View, IsClean, KeepsCommitted, IsRolledBack, HasCause, OnlyWrites, SetsTree, Commits, Tells}
+use Rattle.sqlite_trees.specs.Tree.{Trees, has_rowid}
+use Rattle.sqlite_trees.specs.View.{View, IsClean, KeepsCommitted, IsRolledBack, HasCause, OnlyWrites, Commits, Tells}
 use Rattle.sqlite_trees.specs.declared.store.Store.{Ghosts}
 use Rattle.sqlite_trees.specs.declared.error.StoreError.{StoreError}
 use Rattle.sqlite_trees.specs.declared.error.StoreError.TheVariants as stored
 use Rattle.ipld_tree.specs.Cid.{CidParts, cid_bytes, IsCid}
 use Rattle.dagcbor_car.specs.Car.{Section}
 use Rattle.ipld_links.specs.Sets.{Among}
-use Rattle.dagcbor_store.specs.Rows.{block_tree, name_tree, block_row, name_entry, IsStored, IsListed, IsFreeId, FreesId, FindsName, Gets, Writes, Appends, Renews, Adds, Takes, TakesEntry, TakesRow, ClearsRow, IsTooLong}
-use Rattle.dagcbor_store.specs.Stored.{IsKeyed, IsReady, IsSame, IsUndone, IsNamed, GetsSome, GetRefused, IsDamaged, IsVerified, Fails, TellsOfStore, IsAdded, IsAddedTo, IsTaken, IsToldAdded, PutRefused}
-use Rattle.dagcbor_store.specs.declared.entries.Found.{Found}
-use Rattle.dagcbor_store.specs.declared.entries.Found.TheVariants.{Nothing, NoRow, Block}
-use Rattle.dagcbor_store.specs.declared.entries.Added.{Added}
-use Rattle.dagcbor_store.specs.declared.entries.Added.TheVariants.{New, Stored, NoNumber}
+use Rattle.block_trees.specs.Rows.{block_tree, name_tree, block_row, name_entry, IsStored, IsListed, FreesId, Gets, Writes, Adds, Takes, IsKeyed, IsTooLong}
+use Rattle.dagcbor_store.specs.Stored.{IsReady, IsSame, IsUndone, IsNamed, GetsSome, GetRefused, IsDamaged, IsVerified, Fails, TellsOfStore, IsAdded, IsAddedTo, IsTaken, IsToldAdded, PutRefused}
+use Rattle.block_trees.specs.declared.entries.Found.{Found}
+use Rattle.block_trees.specs.declared.entries.Found.TheVariants.{Nothing, NoRow, Block}
+use Rattle.block_trees.specs.declared.entries.Added.{Added}
+use Rattle.block_trees.specs.declared.entries.Added.TheVariants.{New, Stored, NoNumber}
 use Rattle.dagcbor_store.specs.declared.error.StoreRefusal.{StoreRefusal}
 use Rattle.dagcbor_store.specs.declared.error.StoreRefusal.TheVariants as refusal
-use Rattle.dagcbor_store.proofs.Numbers.{among_unfiltered}
+use Rattle.block_trees.proofs.Numbers.{among_unfiltered}
 use Rattle.dagcbor_store.proofs.Keeping.{stored_found, stored_there, stored_as_found, stored_since, keyed_since, rows_since, stored_left, none_left, lists_since, lists_left, entries_left, keyed_left, rows_left, rows_taken, ready_undone}
 
 -- ---- getting
@@ -194,28 +192,6 @@ new_added old new name b keyed (inr (id, at, a)) =
 stored_added : (old new : Trees) (name : CidParts) (b : List ℕ) → IsKeyed (old name_tree) → Adds old new (cid_bytes name) b Stored → IsAddedTo old new name b
 stored_added old new name b keyed (inl a) = absurd a.1
 stored_added old new name b keyed (inr (id, at, a)) = subst (λ (t : Trees). IsAddedTo old t name b) (sym a.1) (stored_already old name b id keyed at a.0)
-
-pub renewed : {E : Type 0} (r : Result Added E) (C : Type 0) (old mid new : Trees) (id : ℤ) (name b : List ℕ) → (C → (mid ≡ old) × Among (name_entry name id) (old name_tree)) → IfOk r (λ added. C → Renews mid new id name b added) → IfOk r (λ added. C → Adds old new name b added)
-renewed (Ok added) C old mid new id name b at h = λ clean. let k = at clean in inr (id, k.1, subst (λ t. Renews t new id name b added) k.0 (h clean))
-renewed (Err e) C old mid new id name b at h = tt
-
-pub appended : {E : Type 0} (r : Result Added E) (C : Type 0) (old mid new : Trees) (name b : List ℕ) → (C → (mid ≡ old) × FindsName (old name_tree) name None) → IfOk r (λ added. C → Appends mid new name b added) → IfOk r (λ added. C → Adds old new name b added)
-appended (Ok added) C old mid new name b none h = λ clean. let k = none clean in inl (k.1, subst (λ t. Appends t new name b added) k.0 (h clean))
-appended (Err e) C old mid new name b none h = tt
-
-pub entry_taken : {X E : Type 0} (r : Result X E) (C : Type 0) (old mid new : View) (id : ℤ) (name : List ℕ) → (C → TakesRow old.trees mid.trees id name) → OnOk r (C → SetsTree mid new name_tree (remove_entry plain (name_entry name id))) → OnOk r (C → TakesEntry old.trees new.trees id name)
-entry_taken (Ok x) C old mid new id name row h = λ clean.
-    let k = row clean in
-    let s = h clean in
-    (ap (λ (v : View). v.trees name_tree) s.is ∙ ap (remove_entry plain (name_entry name id)) k.0, subst (λ rs. ClearsRow (old.trees block_tree) rs id name) (sym (ap (λ (v : View). v.trees block_tree) s.is)) k.1)
-entry_taken (Err e) C old mid new id name row h = tt
-
--- what is free in the table is free once an entry and its row are taken out
-pub free_left : (old mid : Trees) (id fresh : ℤ) (name : List ℕ) → TakesEntry old mid id name → IsFreeId (old block_tree) fresh → IsFreeId (mid block_tree) fresh
-free_left old mid id fresh name t free = elim t.1 [
-  | inl h ↦ subst (λ rs. IsFreeId rs fresh) (sym h.1) (all-filter _ (λ r. not (has_rowid id r)) (old block_tree) free)
-  | inr h ↦ subst (λ rs. IsFreeId rs fresh) (sym h.2) free
-]
 
 none_added : (old new : Trees) (name b : List ℕ) → Adds old new name b NoNumber → FreesId (old block_tree) None × (new ≡ old)
 none_added old new name b (inl a) = a.1

@@ -9,18 +9,18 @@ use Rattle.sqlite_value.proofs.OrderLemmas.{value_cmp-Blob}
 use Rattle.std.proofs.lemmas.Cmp.{tied_itself}
 use Rattle.std.proofs.lemmas.Map.Lookups.{exact_bytes}
 use Rattle.sqlite_trees.proofs.ListLemmas.{all-filter}
-use Rattle.dagcbor_store.proofs.Finding.{all_among}
+use Rattle.block_trees.proofs.Finding.{all_among}
 use Rattle.sqlite_trees.specs.Tree.{Trees, rowid, has_rowid, put_row, insert_entry, remove_entry}
 use Rattle.sqlite_trees.specs.View.{View, IsClean, KeepsCommitted, IsRolledBack}
 use Rattle.sqlite_trees.specs.declared.store.Store.{Ghosts}
 use Rattle.sqlite_trees.specs.declared.error.StoreError.{StoreError}
 use Rattle.sqlite_exec.specs.Calls.{OnlyReads}
-use Rattle.dagcbor_store.specs.Ends.{Quiet, Ends}
+use Rattle.block_trees.specs.Ends.{Quiet, Ends}
 use Rattle.ipld_tree.specs.Cid.{IsCid}
 use Rattle.ipld_links.specs.Sets.{Among}
-use Rattle.dagcbor_store.specs.Rows.{block_tree, name_tree, block_row, name_entry, IsStored, IsListed, IsNameEntry, AreNameEntries, FindsName, IsFreeId, IsRowOf, ClearsRow}
-use Rattle.dagcbor_store.proofs.Numbers.{among_filter, among_unfiltered, has_own, number_is}
-use Rattle.dagcbor_store.specs.Stored.{IsKeyed, IsReady, IsSame, IsUndone}
+use Rattle.block_trees.specs.Rows.{block_tree, name_tree, block_row, name_entry, IsStored, IsListed, IsNameEntry, AreNameEntries, FindsName, IsFreeId, IsRowOf, ClearsRow, IsKeyed}
+use Rattle.block_trees.proofs.Numbers.{among_filter, among_unfiltered, has_own, number_is}
+use Rattle.dagcbor_store.specs.Stored.{IsReady, IsSame, IsUndone}
 
 -- ---- reads
 

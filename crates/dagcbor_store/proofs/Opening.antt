@@ -7,8 +7,8 @@ use Rattle.sqlite_trees.specs.View.{View, IsClean, IsRolledBack, Commits, SetsTr
 use Rattle.sqlite_trees.specs.Objects.{catalog_tree, version_tree}
 use Rattle.sqlite_trees.specs.declared.store.Shape.TheVariants as shape
 use Rattle.sqlite_exec.specs.Calls.{OnlyReads}
-use Rattle.dagcbor_store.specs.Rows.{block_tree, name_tree}
-use Rattle.dagcbor_store.specs.Stored.{IsKeyed, IsReady}
+use Rattle.block_trees.specs.Rows.{block_tree, name_tree, IsKeyed}
+use Rattle.dagcbor_store.specs.Stored.{IsReady}
 use Rattle.dagcbor_store.specs.Opened.{IsChecked, IsOpened, IsSettled}
 use Rattle.dagcbor_store.proofs.Keeping.{open_of}
 

@@ -15,8 +15,8 @@ use Rattle.ipld_tree.proofs.Cids.{cid_unique}
 use Rattle.ipld_links.specs.Sets.{Among}
 use Rattle.ipld_links.specs.Reaching.{Stored, IsThere, NoneTwice}
 use Rattle.ipld_links.proofs.Members.{among_push, push_among}
-use Rattle.dagcbor_store.specs.Ends.{Quiet}
-use Rattle.dagcbor_store.specs.Rows.{block_tree, name_tree, block_row, name_entry, name_cmp, IsStored, IsListed}
+use Rattle.block_trees.specs.Ends.{Quiet}
+use Rattle.block_trees.specs.Rows.{block_tree, name_tree, block_row, name_entry, name_cmp, IsStored, IsListed}
 use Rattle.dagcbor_store.specs.Stored.{IsBehind, IsNext, GivesNext, Lists, IsSame, IsTaken, IsCommitted, Fails}
 use Rattle.dagcbor_store.specs.Trees.{Shows}
 use Rattle.dagcbor_store.specs.Collecting.{IsLedForm, HoldsThose, KeepsReachable, TakesOut, IsCollected, Marks, IsKeptForm, SweepsNext, IsSwept}

@@ -19,8 +19,8 @@ use Rattle.dagcbor_car.specs.declared.error.CarError.{CarError}
 use Rattle.dagcbor_car.specs.declared.error.CarError.TheVariants as file
 use Rattle.dagcbor_car.specs.declared.each.ReadCarError as run
 use Rattle.dagcbor_car.specs.declared.each.ReadCarError.TheVariants as stop
-use Rattle.dagcbor_store.specs.Rows.{block_tree, name_tree, IsStored, IsListed, FreesId, IsTooLong}
-use Rattle.dagcbor_store.specs.Ends.{Quiet}
+use Rattle.block_trees.specs.Rows.{block_tree, name_tree, IsStored, IsListed, FreesId, IsTooLong}
+use Rattle.block_trees.specs.Ends.{Quiet}
 use Rattle.dagcbor_store.specs.Stored.{IsUnfit, IsAdded, Fails, PutRefused}
 use Rattle.dagcbor_store.specs.declared.error.StoreRefusal.{StoreRefusal}
 use Rattle.dagcbor_store.specs.declared.error.StoreRefusal.TheVariants as refusal

@@ -9,7 +9,7 @@ use Rattle.ipld_links.specs.Sets.{Among}
 use Rattle.ipld_links.specs.Sound.{IsSound}
 use Rattle.ipld_links.specs.Reaching.{Stored, IsThere, LeadsFar, NoneTwice, ListsReachable, Walks, WalksAt}
 use Rattle.ipld_links.specs.declared.reach.Walk.{Walk}
-use Rattle.dagcbor_store.specs.Rows.{block_tree, name_tree, block_row, name_entry, IsStored, IsListed}
+use Rattle.block_trees.specs.Rows.{block_tree, name_tree, block_row, name_entry, IsStored, IsListed}
 use Rattle.dagcbor_store.specs.Stored.{IsNext, GivesNext, Lists, HoldsOnly, IsSame, IsTaken, Fails}
 use Rattle.dagcbor_store.specs.Lost.{HoldsNoneSound}
 use Rattle.dagcbor_store.specs.Trees.{OfStored}

@@ -9,8 +9,7 @@ use Rattle.sqlite_store.specs.declared.error.OpenError.{OpenError}
 use Rattle.sqlite_store.specs.declared.error.OpenError.TheVariants as opening
 use Rattle.dagcbor_store.specs.declared.error.StoreRefusal.{StoreRefusal}
 use Rattle.dagcbor_store.specs.declared.error.StoreRefusal.TheVariants as refusal
-use Rattle.dagcbor_store.specs.Rows.{block_tree, name_tree}
-use Rattle.dagcbor_store.specs.Stored.{IsKeyed}
+use Rattle.block_trees.specs.Rows.{block_tree, name_tree, IsKeyed}
 
 -- the rows of blocks and the entries of names are the same
 pub record HasSameBlocks (old new : Trees) : Type 0 where

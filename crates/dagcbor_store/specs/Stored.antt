@@ -16,19 +16,14 @@ use Rattle.ipld_links.specs.Names.{IsBySha256}
 use Rattle.ipld_links.specs.Sound.{IsUnsound}
 use Rattle.dagcbor_car.specs.Car.{Section}
 use Rattle.ipld_links.specs.Sets.{Among}
-use Rattle.dagcbor_store.specs.Rows.{block_tree, name_tree, block_row, name_entry, name_cmp, IsStored, IsListed, AreNameEntries, FreesId, IsTooLong}
+use Rattle.block_trees.specs.Rows.{block_tree, name_tree, block_row, name_entry, name_cmp, IsStored, IsListed, IsKeyed, FreesId, IsTooLong}
 use Rattle.std.specs.declared.alloc.Global.{Global}
-use Rattle.dagcbor_store.specs.declared.entries.Added.{Added}
-use Rattle.dagcbor_store.specs.declared.entries.Added.TheVariants.{New, Stored, NoNumber}
-use Rattle.dagcbor_store.specs.declared.entries.Found.{Found}
-use Rattle.dagcbor_store.specs.declared.entries.Found.TheVariants.{Nothing, NoRow, Block}
+use Rattle.block_trees.specs.declared.entries.Added.{Added}
+use Rattle.block_trees.specs.declared.entries.Added.TheVariants.{New, Stored, NoNumber}
+use Rattle.block_trees.specs.declared.entries.Found.{Found}
+use Rattle.block_trees.specs.declared.entries.Found.TheVariants.{Nothing, NoRow, Block}
 use Rattle.dagcbor_store.specs.declared.error.StoreRefusal.{StoreRefusal}
 use Rattle.dagcbor_store.specs.declared.error.StoreRefusal.TheVariants as refusal
-
--- no name has two entries
-abbrev pub IsKeyed : List Row → Type 0
-IsKeyed entries = AreNameEntries entries
-    × ((name : List ℕ) (i j : ℤ) → Among (name_entry name i) entries → Among (name_entry name j) entries → i ≡ j)
 
 -- the two trees are there, and no name is listed twice, as the transaction sees them and as the last commit left them
 pub record IsReady (v : View) : Type 0 where

@@ -2,7 +2,7 @@
 
 ghost use Rattle.std.specs.Prelude.{◌⊎◌, IfOk, IfErr, OnOk, option_map};
 ghost use Rattle.sqlite_trees.specs.View.{IsClean};
-ghost use Rattle.dagcbor_store.specs.Ends.{Quiet};
+ghost use Rattle.block_trees.specs.Ends.{Quiet};
 ghost use Rattle.dagcbor_store.specs.Stored.{StaysSame, Fails, IsKeptBy};
 ghost use Rattle.dagcbor_store.specs.Collecting.{KeepsReachable, IsCollected, CollectRefused, GetsSound, SoundRefused, IsShown, VisitsShown, FindsBeside, FindRefused, AddsAll, Marks, MarksMore, MarkRefused, SweepsNext, IsSwept};
 

@@ -6,10 +6,10 @@ ghost use Rattle.dagcbor_store.specs.Stored.{IsKeptBy};
 ghost use Rattle.sqlite_store.specs.FileStore.{view};
 ghost use Rattle.dagcbor_store.specs.Opened.{IsChecked, IsOpened, IsSettled, HasSameBlocks};
 
-use crate::entries::{BLOCKS, NAMES};
 use crate::error::StoreRefusal;
 use crate::store::BlockStore;
-use crate::survey::survey;
+use block_trees::entries::{BLOCKS, NAMES};
+use block_trees::survey::survey;
 use sqlite_disk::{Disk, Files, Start};
 use sqlite_pager::{Options, Pager};
 use sqlite_std_file::{FileFrom, OpenError as PathError};

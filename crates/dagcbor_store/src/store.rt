@@ -2,15 +2,15 @@
 
 ghost use Rattle.std.specs.Prelude.{◌≡◌, ◌↔◌, ◌⊎◌, IsTrue, IfOk, IfErr, IfSome, OnOk, option_map, length};
 ghost use Rattle.ipld_links.specs.Sound.{IsSound};
-ghost use Rattle.dagcbor_store.specs.Ends.{Quiet};
-ghost use Rattle.dagcbor_store.specs.Rows.{name_tree};
+ghost use Rattle.block_trees.specs.Ends.{Quiet};
+ghost use Rattle.block_trees.specs.Rows.{name_tree};
 ghost use Rattle.sqlite_trees.specs.View.{IsClean, IsRolledBack};
 ghost use Rattle.dagcbor_store.specs.Stored.{IsReady, GivesNext, bound_behind, Lists, StaysSame, IsUndone, IsNamed, GetsSome, GetRefused, Fails, TellsOfStore, IsCommitted, IsKeptBy, IsAdded, IsAddedTo, IsPut, IsTaken, PutRefused, IsVerified, IsToldAdded};
 
-use crate::entries::{self, Added, Found};
 use crate::error::StoreRefusal;
-use crate::survey::survey;
 use arrayvec::ArrayVec;
+use block_trees::entries::{self, Added, Found};
+use block_trees::survey::survey;
 use ipld_links::{SHA2_256, check_block};
 use ipld_tree::Cid;
 use sha2::{Digest, Sha256};

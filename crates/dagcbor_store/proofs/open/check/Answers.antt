@@ -1,7 +1,7 @@
 use Rattle.std.proofs.Common.{rules, ◌≡◌}
 use Rattle.sqlite_value.specs.Keys.{plain}
 use Rattle.sqlite_trees.specs.declared.store.Shape.TheVariants as shape
-use Rattle.dagcbor_store.specs.Rows.{block_tree, name_tree}
+use Rattle.block_trees.specs.Rows.{block_tree, name_tree}
 use Rattle.dagcbor_store.proofs.Opening.{checked_read}
 use Rattle.dagcbor_store.proofs.open.check.Goals as goal
 

@@ -1,7 +1,7 @@
 use Rattle.std.proofs.Common.{rules, arith, ◌≡◌, subst, OnOk, IfErr}
 use Rattle.sqlite_trees.specs.View.{IsClean}
 use Rattle.ipld_tree.specs.Cid.{cid_bytes}
-use Rattle.dagcbor_store.specs.Rows.{Adds, IsTooLong}
+use Rattle.block_trees.specs.Rows.{Adds, IsTooLong}
 use Rattle.dagcbor_store.specs.Stored.{IsAdded, PutRefused, Fails}
 use Rattle.dagcbor_store.proofs.Keeping.{ready_failed, keyed_ended, undone_since}
 use Rattle.dagcbor_store.proofs.Calls.{ready_written, keyed_added, is_added, not_added, fails_since, put_failed, added_if_clean}

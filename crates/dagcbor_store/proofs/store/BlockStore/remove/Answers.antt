@@ -1,7 +1,7 @@
 use Rattle.std.proofs.Common.{rules, arith, ◌≡◌, subst}
 use Rattle.sqlite_trees.specs.View.{IsClean}
 use Rattle.ipld_tree.specs.Cid.{cid_bytes}
-use Rattle.dagcbor_store.specs.Rows.{Takes}
+use Rattle.block_trees.specs.Rows.{Takes}
 use Rattle.dagcbor_store.specs.Stored.{IsTaken}
 use Rattle.dagcbor_store.proofs.Keeping.{ready_failed, keyed_ended}
 use Rattle.dagcbor_store.proofs.Calls.{ready_written, keyed_taken, is_taken}

@@ -1,0 +1,6 @@
+pub mod Finding
+pub mod Numbers
+pub mod Causes
+pub mod Ending
+pub mod Steps
+pub mod Surveying

@@ -1,0 +1,31 @@
+-- What a call leaves of a store, whatever it answers.
+use Rattle.std.specs.Prelude.{◌≡◌, false, Result, IfErr, OnOk, OnErr}
+use Rattle.sqlite_disk.specs.Disk.{MoreFaults}
+use Rattle.sqlite_value.specs.Keys.{plain}
+use Rattle.sqlite_trees.specs.View.{View, IsClean, KeepsSchema, KeepsCommitted, HasCause, IsQuiet, Tells}
+use Rattle.sqlite_trees.specs.declared.store.Store.{Ghosts}
+use Rattle.sqlite_trees.specs.declared.store.Shape.TheVariants as shape
+use Rattle.sqlite_trees.specs.declared.error.StoreError.{StoreError}
+use Rattle.block_trees.specs.Rows.{block_tree, name_tree}
+
+-- no fault is forgotten, a crash has no new outcome, and only a fault shuts the store
+abbrev pub Quiet : {S : Type 0} → Ghosts S → S → S → Type 0
+Quiet g old new = IsQuiet g.view g.faults g.recovers g.is_shielded old new
+
+-- How a call on rows ends. Where it succeeds, it changes no more than this; a row is refused only where it is too long.
+pub record Ends {S T : Type 0} (g : Ghosts S) (Changes : View → View → Type 0) (IsLong : Type 0) (result : Result T StoreError) (old new : S) : Type 0 where
+  pub frame : OnOk result (IsClean (g.view new) → Changes (g.view old) (g.view new))
+  pub sound : OnOk result (IsClean (g.view new) → (g.view old).is_broken ≡ false)
+  pub told : IfErr result (Tells (g.blamed new))
+  pub err : IsClean (g.view new) → OnErr result (KeepsCommitted (g.view old) (g.view new))
+  pub cause : IsClean (g.view new) → IfErr result (HasCause (g.view old) (MoreFaults (g.faults old) (g.faults new)) IsLong)
+  pub schema : KeepsSchema (g.view old) (g.view new)
+  pub quiet : Quiet g old new
+
+-- the index of names is there
+abbrev pub HasNames : {S : Type 0} → Ghosts S → S → Type 0
+HasNames g s = IsClean (g.view s) → (g.view s).shape name_tree ≡ shape.Index plain
+
+-- the table of blocks is there
+abbrev pub HasBlocks : {S : Type 0} → Ghosts S → S → Type 0
+HasBlocks g s = IsClean (g.view s) → (g.view s).shape block_tree ≡ shape.Table

@@ -4,6 +4,7 @@ use Rattle.sqlite_disk.specs.Disk.{MoreFaults}
 use Rattle.sqlite_trees.specs.View.{View, HasCause, OnlyWrites, KeepsSchema, IsStorable, IsStorableRow}
 use Rattle.sqlite_exec.specs.Calls.{OnlyReads}
 use Rattle.block_trees.specs.Rows.{block_tree, name_tree, block_row, name_entry, IsTooLong}
+use Rattle.block_trees.specs.RootRows.{IsRootTooLong}
 use Rattle.sqlite_trees.specs.declared.error.StoreError.{StoreError}
 use Rattle.sqlite_trees.specs.declared.error.StoreError.TheVariants.{OutOfMemory, Io, Corrupt, Full, Broken, Unstorable}
 
@@ -30,3 +31,6 @@ only_writes old new h = ap (λ (v : View). v.is_broken) h
 
 pub too_long_as : (name b : List ℕ) (old mid : View) → KeepsSchema old mid → IsTooLong mid.reals name b → IsTooLong old.reals name b
 too_long_as name b old mid same h = subst (λ r. IsTooLong r name b) same.reals h
+
+pub root_too_long_as : (name : List ℕ) (old mid : View) → KeepsSchema old mid → IsRootTooLong mid.reals name → IsRootTooLong old.reals name
+root_too_long_as name old mid same h = subst (λ r. IsRootTooLong r name) same.reals h

@@ -4,3 +4,4 @@ pub mod Causes
 pub mod Ending
 pub mod Steps
 pub mod Surveying
+pub mod Rooting

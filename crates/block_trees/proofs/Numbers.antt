@@ -1,5 +1,5 @@
 -- Numbers of rows: which are free, and which row has one.
-use Rattle.std.proofs.Common.{◌≡◌, inl, inr, ℕ, ℤ, pos, ◌+ℤ◌, List, [], ◌∷◌, ◌++◌, filter, Bool, true, false, cond, Less, is_eq, int_cmp, refl, sym, ap, ◌∙◌, subst, true≢false, arith, IsTrue, ◌≢◌, Option, None, Some, MatchBool, MatchOption, option_map, Vec, Global}
+use Rattle.std.proofs.Common.{◌≡◌, inl, inr, ℕ, ℤ, pos, ◌+ℤ◌, List, [], ◌∷◌, ◌++◌, filter, Bool, true, false, cond, Less, is_eq, int_cmp, refl, sym, ap, ◌∙◌, subst, true≢false, arith, IsTrue, ◌≢◌, Option, None, Some, IfSome, MatchBool, MatchOption, option_map, Vec, Global}
 use Rattle.std.proofs.lemmas.Int.{ints}
 use Rattle.std.proofs.lemmas.Bool.Decides.{nat_tests}
 use Rattle.std.proofs.lemmas.Cmp.{tied_itself}
@@ -12,11 +12,12 @@ use Rattle.sqlite_trees.specs.Tree.{rowid, has_rowid, IsTable}
 use Rattle.sqlite_trees.specs.View.{View, IsShaped, IsOrdered, is_int, Finds}
 use Rattle.sqlite_exec.specs.Write.{IsLast}
 use Rattle.ipld_links.specs.Sets.{Among}
-use Rattle.block_trees.specs.Rows.{block_tree, block_row, last_id, IsFreeId, FreesId, ReadsRow, IsRowIn, IsRowOf}
+use Rattle.block_trees.specs.Rows.{block_row, last_id, IsFreeId, FreesId, ReadsRow, IsRowIn, IsRowOf}
+use Rattle.block_trees.specs.RootRows.{IsAboveAll}
 use Rattle.block_trees.proofs.Finding.{all_among}
 
-pub table_rows : (v : View) → v.shape block_tree ≡ shape.Table → IsOrdered v.shape v.trees → IsShaped shape.Table (v.trees block_tree)
-table_rows v at ordered = subst (λ s. IsShaped s (v.trees block_tree)) at (ordered block_tree)
+pub table_rows : (v : View) (t : ℕ) → v.shape t ≡ shape.Table → IsOrdered v.shape v.trees → IsShaped shape.Table (v.trees t)
+table_rows v t at ordered = subst (λ s. IsShaped s (v.trees t)) at (ordered t)
 
 -- ---- lists
 
@@ -71,12 +72,22 @@ below_new : (id : ℤ) (r : Row) → value_cmp (rowid r) (Int id) ≡ Less → h
 below_new id r below = ap is_eq below
 
 -- the rows before the last, and the last, are below the next number
-free_above : (k : ℤ) (front : List Row) (r : Row) → rowid r ≡ Int k → IsTable (front ++ r ∷ []) → IsFreeId (front ++ r ∷ []) (k +ℤ pos 1)
-free_above k [] r is up = (below_new (k +ℤ pos 1) r (ap (λ v. value_cmp v (Int (k +ℤ pos 1))) is ∙ value_cmp-Int k (k +ℤ pos 1) ∙ next_above k), tt)
-free_above k (x ∷ front) r is up =
+above_last : (k : ℤ) (front : List Row) (r : Row) → rowid r ≡ Int k → IsTable (front ++ r ∷ []) → IsAboveAll (front ++ r ∷ []) (k +ℤ pos 1)
+above_last k [] r is up = (ap (λ v. value_cmp v (Int (k +ℤ pos 1))) is ∙ value_cmp-Int k (k +ℤ pos 1) ∙ next_above k, tt)
+above_last k (x ∷ front) r is up =
     let last : value_cmp (rowid x) (rowid r) ≡ Less = all_among (λ y. value_cmp (rowid x) (rowid y) ≡ Less) r (front ++ r ∷ []) up.0 (among_last r front) in
     let next : value_cmp (rowid r) (Int (k +ℤ pos 1)) ≡ Less = ap (λ v. value_cmp v (Int (k +ℤ pos 1))) is ∙ value_cmp-Int k (k +ℤ pos 1) ∙ next_above k in
-    (below_new (k +ℤ pos 1) x (value_cmp_total.trans (rowid x) (rowid r) (Int (k +ℤ pos 1)) last next), free_above k front r is up.1)
+    (value_cmp_total.trans (rowid x) (rowid r) (Int (k +ℤ pos 1)) last next, above_last k front r is up.1)
+
+free_above : (id : ℤ) (rows : List Row) → IsAboveAll rows id → IsFreeId rows id
+free_above id [] above = tt
+free_above id (r ∷ rows) above = (below_new id r above.0, free_above id rows above.1)
+
+pub frees_above : (rows : List Row) (r : Row) (found : Option ℤ) → IsShaped shape.Table rows → IsLast rows r true
+    → MatchOption found ((id : ℤ) → column r 0 ≡ Int id → id ≡ last_id) (λ n. (id : ℤ) × (column r 0 ≡ Int id) × (n ≡ id +ℤ pos 1)) → IfSome found (IsAboveAll rows)
+frees_above rows r None table last h = tt
+frees_above rows r (Some n) table last h =
+    subst (IsAboveAll rows) (sym h.2) (subst (λ xs. IsAboveAll xs (h.0 +ℤ pos 1)) (sym last.1) (above_last h.0 last.0 r h.1 (subst IsTable last.1 table.0)))
 
 pub frees : (rows : List Row) (r : Row) (found : Option ℤ) → IsShaped shape.Table rows → IsLast rows r true
     → MatchOption found ((id : ℤ) → column r 0 ≡ Int id → id ≡ last_id) (λ n. (id : ℤ) × (column r 0 ≡ Int id) × (n ≡ id +ℤ pos 1)) → FreesId rows found
@@ -85,10 +96,13 @@ frees rows r None table last h =
     let n = int_value (rowid r) (all_among (λ y. IsTrue (is_int (rowid y))) r rows table.1 here) in
     (r, here, n.1 ∙ ap Int (h n.0 n.1))
 frees rows r (Some n) table last h =
-    subst (IsFreeId rows) (sym h.2) (subst (λ xs. IsFreeId xs (h.0 +ℤ pos 1)) (sym last.1) (free_above h.0 last.0 r h.1 (subst IsTable last.1 table.0)))
+    free_above n rows (frees_above rows r (Some n) table last h)
 
 pub frees_first : (rows : List Row) (r : Row) → IsLast rows r false → FreesId rows (Some (pos 1))
 frees_first rows r h = subst (λ xs. IsFreeId xs (pos 1)) (sym h) tt
+
+pub first_above : (rows : List Row) (r : Row) → IsLast rows r false → IsAboveAll rows (pos 1)
+first_above rows r h = subst (λ xs. IsAboveAll xs (pos 1)) (sym h) tt
 
 -- ---- the row with a number
 

@@ -46,7 +46,7 @@ pub ascending_more : {X : Type 0} (R : X → X → Type 0) (xs : List X) (x : X)
 ascending_more R [] x up all = (tt, tt)
 ascending_more R (y ∷ ys) x up all = (all_more (R y) ys x up.0 all.0, ascending_more R ys x up.1 all.1)
 
-among_middle : {X : Type 0} (front : List X) (x : X) (left : List X) → Among x (front ++ x ∷ left)
+pub among_middle : {X : Type 0} (front : List X) (x : X) (left : List X) → Among x (front ++ x ∷ left)
 among_middle [] x left = inl refl
 among_middle (y ∷ front) x left = inr (among_middle front x left)
 

@@ -1,14 +1,15 @@
 //! The rows of the two trees: blocks by their numbers, and numbers by the names of blocks.
 
-ghost use Rattle.std.specs.Prelude.{◌≡◌, ◌≢◌, ◌↔◌, ◌∷◌, [], IsTrue, MatchBool, MatchOption, option_map, pos, ◌+ℤ◌, IfOk, OnOk};
+ghost use Rattle.std.specs.Prelude.{◌≡◌, ◌≢◌, ◌↔◌, ◌∷◌, [], IsTrue, MatchBool, MatchOption, option_map, pos, ◌+ℤ◌, IfOk, IfSome, OnOk};
 ghost use Rattle.sqlite_value.specs.declared.value.Value.TheVariants.{Int, Blob};
 ghost use Rattle.sqlite_value.specs.Value.{owned};
 ghost use Rattle.sqlite_value.specs.Order.{column};
 ghost use Rattle.sqlite_value.specs.Keys.{plain};
-ghost use Rattle.sqlite_trees.specs.View.{IsClean, IsStorable, OnlyWrites, SetsTree};
+ghost use Rattle.sqlite_trees.specs.View.{IsClean, IsStorable, SetsTree};
 ghost use Rattle.sqlite_trees.specs.Tree.{put_row, insert_entry, remove_entry};
 ghost use Rattle.sqlite_exec.specs.Calls.{OnlyReads};
-ghost use Rattle.block_trees.specs.Ends.{Ends, HasNames, HasBlocks};
+ghost use Rattle.block_trees.specs.Ends.{Ends, WritesIn, IsOfBlocks, HasNames, HasBlocks, HasTable};
+ghost use Rattle.block_trees.specs.RootRows.{IsAboveAll};
 ghost use Rattle.block_trees.specs.Rows.{block_tree, name_tree, block_row, name_entry, IsOther, Seeks, FindsName, EntersName, FindsFirst, FreesId, last_id, ReadsRow, IsRowIn, Gets, Adds, Appends, Renews, IsTooLong, Takes, TakesEntry, TakesRow};
 
 use ipld_tree::{Cid, CidError};
@@ -51,7 +52,7 @@ pub enum Added {
 }
 
 /// The integer that the value is.
-fn integer(value: ValueRef<'_>) -> Option<i64>
+pub(crate) fn integer(value: ValueRef<'_>) -> Option<i64>
     ensures { MatchOption result ((id : _) → owned value.entry ≢ Int id)
         (λ id. owned value.entry ≡ Int id) }
 {
@@ -62,7 +63,7 @@ fn integer(value: ValueRef<'_>) -> Option<i64>
 }
 
 /// Whether the value is these bytes.
-fn is_blob(value: ValueRef<'_>, bytes: &[u8]) -> bool
+pub(crate) fn is_blob(value: ValueRef<'_>, bytes: &[u8]) -> bool
     ensures { IsTrue result ↔ (owned value.entry ≡ Blob bytes.now) }
 {
     match value {
@@ -142,13 +143,19 @@ pub fn first_from<S: Store>(
 }
 
 /// A number that no row has, above each that one has. None where a row has the greatest number.
-fn free_number<S: Store>(store: &mut S, row: &mut Row) -> Result<Option<i64>, StoreError>
-    requires blocks { HasBlocks S.Store store.old }
+pub(crate) fn free_number<S: Store>(
+    store: &mut S,
+    table: u32,
+    row: &mut Row,
+) -> Result<Option<i64>, StoreError>
+    requires table { HasTable S.Store table store.old }
     ensures ok { IfOk result (λ o. IsClean (S.Store.view store.new)
-        → FreesId ((S.Store.view store.old).trees block_tree) o) }
+        → FreesId ((S.Store.view store.old).trees table) o) }
+    ensures above { IfOk result (λ o. IsClean (S.Store.view store.new)
+        → IfSome o (IsAboveAll ((S.Store.view store.old).trees table))) }
     ensures ends { Ends S.Store OnlyReads ⊥ result store.old store.new }
 {
-    if last(store, BLOCKS, row)? {
+    if last(store, table, row)? {
         Ok(number_above(row.get(0)))
     } else {
         Ok(Some(1))
@@ -262,7 +269,7 @@ pub fn add<S: Store>(
     ensures ok { IfOk result (λ added. IsClean (S.Store.view store.new)
         → Adds (S.Store.view store.old).trees (S.Store.view store.new).trees
         name.now bytes.now added) }
-    ensures ends { Ends S.Store OnlyWrites
+    ensures ends { Ends S.Store (WritesIn IsOfBlocks)
         (IsTooLong (S.Store.view store.old).reals name.now bytes.now)
         result store.old store.new }
 {
@@ -284,11 +291,11 @@ fn append<S: Store>(
     ensures ok { IfOk result (λ added. IsClean (S.Store.view store.new)
         → Appends (S.Store.view store.old).trees (S.Store.view store.new).trees
         name.now bytes.now added) }
-    ensures ends { Ends S.Store OnlyWrites
+    ensures ends { Ends S.Store (WritesIn IsOfBlocks)
         (IsTooLong (S.Store.view store.old).reals name.now bytes.now)
         result store.old store.new }
 {
-    let Some(id) = free_number(store, row)? else {
+    let Some(id) = free_number(store, BLOCKS, row)? else {
         return Ok(Added::NoNumber);
     };
     put(store, row, id, name, bytes)?;
@@ -308,14 +315,14 @@ fn renew<S: Store>(
     ensures ok { IfOk result (λ added. IsClean (S.Store.view store.new)
         → Renews (S.Store.view store.old).trees (S.Store.view store.new).trees
         id name.now bytes.now added) }
-    ensures ends { Ends S.Store OnlyWrites
+    ensures ends { Ends S.Store (WritesIn IsOfBlocks)
         (IsTooLong (S.Store.view store.old).reals name.now bytes.now)
         result store.old store.new }
 {
     if is_stored(store, row, id, name, bytes)? {
         return Ok(Added::Stored);
     }
-    let Some(fresh) = free_number(store, row)? else {
+    let Some(fresh) = free_number(store, BLOCKS, row)? else {
         return Ok(Added::NoNumber);
     };
     take_entry(store, row, id, name)?;
@@ -341,7 +348,7 @@ fn put<S: Store>(
         → (S.Store.view store.new).trees name_tree
         ≡ insert_entry plain (name_entry name.now id)
         ((S.Store.view store.old).trees name_tree)) }
-    ensures ends { Ends S.Store OnlyWrites
+    ensures ends { Ends S.Store (WritesIn IsOfBlocks)
         (IsTooLong (S.Store.view store.old).reals name.now bytes.now)
         result store.old store.new }
 {
@@ -359,7 +366,7 @@ fn list<S: Store>(store: &mut S, row: &mut Row, id: i64, name: &[u8]) -> Result<
     ensures ok { OnOk result (IsClean (S.Store.view store.new)
         → SetsTree (S.Store.view store.old) (S.Store.view store.new) name_tree
         (insert_entry plain (name_entry name.now id))) }
-    ensures ends { Ends S.Store OnlyWrites
+    ensures ends { Ends S.Store (WritesIn IsOfBlocks)
         (¬ IsStorable ((S.Store.view store.old).reals name_tree) (name_entry name.now id))
         result store.old store.new }
 {
@@ -375,7 +382,7 @@ pub fn take<S: Store>(store: &mut S, row: &mut Row, name: &[u8]) -> Result<bool,
     requires names { HasNames S.Store store.old }
     ensures ok { IfOk result (λ taken. IsClean (S.Store.view store.new)
         → Takes (S.Store.view store.old).trees (S.Store.view store.new).trees name.now taken) }
-    ensures ends { Ends S.Store OnlyWrites ⊥ result store.old store.new }
+    ensures ends { Ends S.Store (WritesIn IsOfBlocks) ⊥ result store.old store.new }
 {
     let Some(id) = find(store, row, name)? else {
         return Ok(false);
@@ -395,7 +402,7 @@ fn take_entry<S: Store>(
     requires names { HasNames S.Store store.old }
     ensures ok { OnOk result (IsClean (S.Store.view store.new)
         → TakesEntry (S.Store.view store.old).trees (S.Store.view store.new).trees id name.now) }
-    ensures ends { Ends S.Store OnlyWrites ⊥ result store.old store.new }
+    ensures ends { Ends S.Store (WritesIn IsOfBlocks) ⊥ result store.old store.new }
 {
     take_row(store, row, id, name)?;
     unlist(store, row, id, name)
@@ -406,7 +413,7 @@ fn take_row<S: Store>(store: &mut S, row: &mut Row, id: i64, name: &[u8]) -> Res
     requires blocks { HasBlocks S.Store store.old }
     ensures ok { OnOk result (IsClean (S.Store.view store.new)
         → TakesRow (S.Store.view store.old).trees (S.Store.view store.new).trees id name.now) }
-    ensures ends { Ends S.Store OnlyWrites ⊥ result store.old store.new }
+    ensures ends { Ends S.Store (WritesIn IsOfBlocks) ⊥ result store.old store.new }
 {
     let found = store.get(BLOCKS, id, row)?;
     if found && is_blob(row.get(1), name) {
@@ -422,7 +429,7 @@ fn unlist<S: Store>(store: &mut S, row: &mut Row, id: i64, name: &[u8]) -> Resul
     ensures ok { OnOk result (IsClean (S.Store.view store.new)
         → SetsTree (S.Store.view store.old) (S.Store.view store.new) name_tree
         (remove_entry plain (name_entry name.now id))) }
-    ensures ends { Ends S.Store OnlyWrites ⊥ result store.old store.new }
+    ensures ends { Ends S.Store (WritesIn IsOfBlocks) ⊥ result store.old store.new }
 {
     row.clear();
     row.push(ValueRef::Blob(name))?;

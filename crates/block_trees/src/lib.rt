@@ -2,4 +2,5 @@
 #![tactic(auto)]
 
 pub mod entries;
+pub mod roots;
 pub mod survey;

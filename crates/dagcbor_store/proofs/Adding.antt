@@ -36,6 +36,7 @@ holds_none t = record {
   each = λ q n. absurd n.1;
   others = λ q b none. (λ s. s, λ s. s);
   lists = λ q. (λ l. inr l, λ h. elim h [ inl n ↦ absurd n.1 | inr l ↦ l ]);
+  beside = λ t out. refl;
 }
 
 holds_more : (old mid new : Trees) (ss : List Section) (s : Section) → HoldsSections old mid ss → IsAddedTo mid new s.0 s.1 → HoldsSections old new (ss ++ s ∷ [])
@@ -58,6 +59,7 @@ holds_more old mid new ss s h a = record {
       | inr l ↦ (a.lists q).1 (inr ((h.lists q).1 (inr l)))
     ],
   );
+  beside = λ t out. a.beside t out ∙ h.beside t out;
 }
   where
     earlier : (q : List ℕ) → IsNameIn (ss ++ s ∷ []) q → (q ≡ cid_bytes s.0 → ⊥) → IsNameIn ss q

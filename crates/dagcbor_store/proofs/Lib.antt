@@ -1,6 +1,7 @@
 pub mod Behind
 pub mod Keeping
 pub mod Calls
+pub mod Rooting
 pub mod Opening
 pub mod Adding
 pub mod Reading

@@ -8,6 +8,7 @@ mod lost;
 mod open;
 mod reach;
 mod read_car;
+mod roots;
 mod store;
 #[cfg(test)]
 mod tests;

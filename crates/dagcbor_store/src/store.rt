@@ -24,8 +24,8 @@ use std::marker::Model;
 #[derive(Drop)]
 pub struct BlockStore<S: Store> {
     pub(crate) alloc: Global,
-    store: S,
-    row: Row,
+    pub(crate) store: S,
+    pub(crate) row: Row,
 }
 
 impl<S: Store> Model for BlockStore<S> {
@@ -42,7 +42,7 @@ impl<S: Store> Model for BlockStore<S> {
 }
 
 /// Undoes what is not committed, and tells the failure.
-fn undo<S: Store>(store: &mut S, error: StoreError) -> StoreRefusal
+pub(crate) fn undo<S: Store>(store: &mut S, error: StoreError) -> StoreRefusal
     ensures told { TellsOfStore error result }
     ensures undone { IsRolledBack (S.Store.view store.old) (S.Store.view store.new) }
     ensures blame { S.Store.blamed store.new ≡ S.Store.blamed store.old }
@@ -209,7 +209,7 @@ fn bound_behind(last: Option<Cid>) -> ArrayVec<u8, 87>
 }
 
 /// What is told of a block that was to be kept.
-fn told(added: Added) -> Result<(), StoreRefusal>
+pub(crate) fn told(added: Added) -> Result<(), StoreRefusal>
     ensures { IsToldAdded added result }
 {
     match added {

@@ -8,7 +8,7 @@ pub returns-then-branch-clause-ok : goal.returns-then-branch-clause-ok
 returns-then-branch-clause-ok g c clean =
     let old = g.S.Store.view c.args.store.now in
     let was : IsClean old = omega (arith, c.get.ensures.quiet.clean) in
-    let table = table_rows old (c.requires.blocks was) (g.met.S.Store.ordered c.args.store.now (c.in_ok-get.ensures.sound clean)) in
+    let table = table_rows old block_tree (c.requires.blocks was) (g.met.S.Store.ordered c.args.store.now (c.in_ok-get.ensures.sound clean)) in
     row_in (old.trees block_tree) c.args.id c.args.name.now c.args.bytes.now c.get.new.row c.is_row.result table (rw c.if-branch.true at (let fits = c.ranges.id in simp to_z-of_z at (c.in_ok-get.ensures.ok clean))) c.is_row.ensures
 
 pub returns-else-branch-clause-ok : goal.returns-else-branch-clause-ok

@@ -8,7 +8,7 @@ pub returns-in_ok-bytes_in-clause-ok : goal.returns-in_ok-bytes_in-clause-ok
 returns-in_ok-bytes_in-clause-ok g c clean =
     let old = g.S.Store.view c.args.store.now in
     let was : IsClean old = omega (arith, c.get.ensures.quiet.clean) in
-    let table = table_rows old (c.requires.blocks was) (g.met.S.Store.ordered c.args.store.now (c.in_ok-get.ensures.sound clean)) in
+    let table = table_rows old block_tree (c.requires.blocks was) (g.met.S.Store.ordered c.args.store.now (c.in_ok-get.ensures.sound clean)) in
     reads_found (old.trees block_tree) c.args.id c.args.name.now c.get.new.row _ table (rw c.if-branch.true at (let fits = c.ranges.id in simp to_z-of_z at (c.in_ok-get.ensures.ok clean))) (match_items c.in_ok-bytes_in.field-0 _ _ c.in_ok-bytes_in.ensures)
 
 pub returns-else-branch-clause-ok : goal.returns-else-branch-clause-ok

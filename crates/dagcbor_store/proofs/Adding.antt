@@ -8,13 +8,14 @@ use Rattle.sqlite_trees.specs.declared.store.Store.{Ghosts}
 use Rattle.ipld_tree.specs.Cid.{cid_bytes}
 use Rattle.dagcbor_car.specs.Car.{Section}
 use Rattle.ipld_links.proofs.Members.{among_push, push_among}
-use Rattle.dagcbor_store.specs.Ends.{Quiet}
-use Rattle.dagcbor_store.specs.Rows.{IsStored, IsTooLong}
+use Rattle.block_trees.specs.Ends.{Quiet}
+use Rattle.block_trees.specs.Rows.{IsStored, IsTooLong}
 use Rattle.dagcbor_store.specs.Stored.{IsAddedTo, IsAdded, IsSame, IsUndone, Fails, IsUnfit, PutRefused, IsCommitted}
 use Rattle.dagcbor_store.specs.Cars.{IsNameIn, IsSectionIn, HoldsSections, IsFilled, IsAddedAll, Adds, NotKept}
 use Rattle.dagcbor_store.specs.declared.error.StoreRefusal.{StoreRefusal}
 use Rattle.dagcbor_store.specs.declared.error.StoreRefusal.TheVariants as refusal
-use Rattle.dagcbor_store.proofs.Causes.{cause_then}
+use Rattle.block_trees.proofs.Causes.{cause_then}
+pub use Rattle.block_trees.proofs.Ending.{quiet_itself, quiet_then}
 use Rattle.dagcbor_store.proofs.Calls.{cause_until}
 
 -- ---- what is stored
@@ -35,6 +36,7 @@ holds_none t = record {
   each = λ q n. absurd n.1;
   others = λ q b none. (λ s. s, λ s. s);
   lists = λ q. (λ l. inr l, λ h. elim h [ inl n ↦ absurd n.1 | inr l ↦ l ]);
+  beside = λ t out. refl;
 }
 
 holds_more : (old mid new : Trees) (ss : List Section) (s : Section) → HoldsSections old mid ss → IsAddedTo mid new s.0 s.1 → HoldsSections old new (ss ++ s ∷ [])
@@ -57,6 +59,7 @@ holds_more old mid new ss s h a = record {
       | inr l ↦ (a.lists q).1 (inr ((h.lists q).1 (inr l)))
     ],
   );
+  beside = λ t out. a.beside t out ∙ h.beside t out;
 }
   where
     earlier : (q : List ℕ) → IsNameIn (ss ++ s ∷ []) q → (q ≡ cid_bytes s.0 → ⊥) → IsNameIn ss q
@@ -92,28 +95,13 @@ filled old mid new ss h c = record {
 -- ---- stores
 
 module _ {S : Type 0} (g : Ghosts S) where
-  pub quiet_itself : (a : S) → Quiet g a a
-  quiet_itself a = record { shield = λ h. h; clean = omega arith; counts = omega arith; closes = λ c o. inl o; outcomes = λ db h. h }
-
-  pub quiet_then : (a b c : S) → Quiet g a b → Quiet g b c → Quiet g a c
-  quiet_then a b c p q = record {
-    shield = λ h. q.shield (p.shield h);
-    clean = omega (arith, p.clean, q.clean);
-    counts = omega (arith, p.counts, q.counts);
-    closes = λ now h. elim (p.closes (omega (arith, q.clean)) h) [
-      | inl on ↦ elim (q.closes now on) [ inl still ↦ inl still | inr fault ↦ inr (omega (arith, p.counts)) ]
-      | inr fault ↦ inr (omega (arith, q.counts))
-    ];
-    outcomes = λ db h. p.outcomes db (q.outcomes db h);
-  }
-
   pub adds_none : (a : S) → Adds g [] a a
-  adds_none a = record { added = λ clean. added_none (g.view a); quiet = quiet_itself a }
+  adds_none a = record { added = λ clean. added_none (g.view a); quiet = quiet_itself g a }
 
   pub adds_more : (ss : List Section) (s : Section) (old mid new : S) → Adds g ss old mid → (IsClean (g.view new) → IsAdded (g.view mid) (g.view new) s.0 s.1) → Quiet g mid new → Adds g (ss ++ s ∷ []) old new
   adds_more ss s old mid new h a quiet = record {
     added = λ clean. added_more (g.view old) (g.view mid) (g.view new) ss s (h.added (omega (arith, quiet.clean))) (a clean);
-    quiet = quiet_then old mid new h.quiet quiet;
+    quiet = quiet_then g old mid new h.quiet quiet;
   }
 
 -- ---- what stands after a refusal

@@ -1,10 +1,7 @@
-pub mod Finding
-pub mod Numbers
-pub mod Causes
-pub mod Ending
+pub mod Behind
 pub mod Keeping
 pub mod Calls
-pub mod Surveying
+pub mod Rooting
 pub mod Opening
 pub mod Adding
 pub mod Reading

@@ -17,7 +17,7 @@ use Rattle.dagcbor_store.specs.declared.error.StoreRefusal.{StoreRefusal}
 use Rattle.dagcbor_store.specs.Cars.{TellsOfFile, FileRefused, IsReadTo, IsRead, Adds, NextRefused, AddRefused, ReadRefused, StopsAt, TellsOfRun, TakesBlock, of_block, of_commit}
 use Rattle.dagcbor_store.specs.declared.car_error.ReadCarError.{ReadCarError}
 use Rattle.dagcbor_store.specs.declared.car_error.ReadCarError.TheVariants as own
-use Rattle.dagcbor_store.specs.Ends.{Quiet}
+use Rattle.block_trees.specs.Ends.{Quiet}
 use Rattle.dagcbor_store.proofs.Adding.{not_kept, fails_from, quiet_itself, quiet_then, adds_none, adds_more}
 use Rattle.dagcbor_car.proofs.Taking.{lacks_alike}
 use Rattle.dagcbor_car.specs.Each.{TakesEach, StopsEach, RunsEach}

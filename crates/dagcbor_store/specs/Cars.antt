@@ -19,8 +19,8 @@ use Rattle.dagcbor_car.specs.declared.error.CarError.{CarError}
 use Rattle.dagcbor_car.specs.declared.error.CarError.TheVariants as file
 use Rattle.dagcbor_car.specs.declared.each.ReadCarError as run
 use Rattle.dagcbor_car.specs.declared.each.ReadCarError.TheVariants as stop
-use Rattle.dagcbor_store.specs.Rows.{block_tree, name_tree, IsStored, IsListed, FreesId, IsTooLong}
-use Rattle.dagcbor_store.specs.Ends.{Quiet}
+use Rattle.block_trees.specs.Rows.{block_tree, name_tree, IsStored, IsListed, FreesId, IsTooLong}
+use Rattle.block_trees.specs.Ends.{Quiet, KeepsOthers, IsOfBlocks}
 use Rattle.dagcbor_store.specs.Stored.{IsUnfit, IsAdded, Fails, PutRefused}
 use Rattle.dagcbor_store.specs.declared.error.StoreRefusal.{StoreRefusal}
 use Rattle.dagcbor_store.specs.declared.error.StoreRefusal.TheVariants as refusal
@@ -38,13 +38,14 @@ abbrev pub IsSectionIn : List Section → List ℕ → List ℕ → Type 0
 IsSectionIn sections q b = (s : Section) × Among s sections × (cid_bytes s.0 ≡ q) × (s.1 ≡ b)
 
 -- Under the name of each section the bytes of a section of that name are stored, and no others; under each other name
--- what was stored there.
+-- what was stored there. Each other tree is the same.
 pub record HoldsSections (old new : Trees) (sections : List Section) : Type 0 where
   pub named : (q b : List ℕ) → IsNameIn sections q → IsStored new q b → IsSectionIn sections q b
   pub each : (q : List ℕ) → IsNameIn sections q → (b : List ℕ) × IsStored new q b
   pub others : (q b : List ℕ) → (IsNameIn sections q → ⊥) → IsStored new q b ↔ IsStored old q b
   pub lists : (q : List ℕ) → IsListed (new name_tree) q
       ↔ (IsNameIn sections q ⊎ IsListed (old name_tree) q)
+  pub beside : KeepsOthers IsOfBlocks old new
 
 -- the same, and all of it is committed
 pub record IsFilled (old new : View) (sections : List Section) : Type 0 where

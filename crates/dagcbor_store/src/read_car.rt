@@ -5,7 +5,7 @@ ghost use Rattle.dagcbor_heads.specs.Inputs.{input_reading};
 ghost use Rattle.dagcbor_items.specs.Walks.{forms};
 ghost use Rattle.dagcbor_car.specs.Car.{Section as CarSection};
 ghost use Rattle.sqlite_trees.specs.View.{IsClean};
-ghost use Rattle.dagcbor_store.specs.Ends.{Quiet};
+ghost use Rattle.block_trees.specs.Ends.{Quiet};
 ghost use Rattle.dagcbor_store.specs.Stored.{IsUndone, IsKeptBy};
 ghost use Rattle.dagcbor_store.specs.Cars.{IsRead, IsFilled, ReadRefused, MayLeave, AddsCar, TakesBlock};
 

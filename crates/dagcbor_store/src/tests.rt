@@ -3,6 +3,7 @@ use dagcbor_car::CarError;
 use dagcbor_heads::{BufWriter, Input, SliceReader};
 use ipld_links::name_of_block;
 use ipld_tree::Cid;
+use sqlite_wal::PageSize;
 use std::alloc::Global;
 use std::convert::Infallible;
 use std::fs;
@@ -317,5 +318,82 @@ fn what_links_lead_to_is_kept(rt: HostRuntime) -> Result<(), Fail> {
     keeps_what_is_reached(rt.alloc(), &mut store)?;
     drop(store);
     fs::remove_dir_all(&rt, "dagcbor_store_collected")?;
+    Ok(())
+}
+
+/// Adds roots, one of them twice, and takes one out.
+fn keeps_roots<S: Store>(store: &mut BlockStore<S>) -> Result<(), Fail> {
+    let (first, second) = (name_in(NUMBERS)?, name_in(TEXT)?);
+    agree(store.roots()?.is_empty(), "no roots")?;
+    store.add_root(&first)?;
+    store.add_root(&second)?;
+    store.add_root(&first)?;
+    agree(
+        store.roots()?.as_slice() == [first, second].as_slice(),
+        "two roots",
+    )?;
+    store.commit()?;
+    agree(store.remove_root(&first)?, "it was one")?;
+    agree(!store.remove_root(&first)?, "it is none")?;
+    agree(store.roots()?.as_slice() == [second].as_slice(), "one root")?;
+    store.rollback();
+    agree(
+        store.roots()?.as_slice() == [first, second].as_slice(),
+        "both again",
+    )
+}
+
+#[test]
+fn roots_are_kept(rt: HostRuntime) -> Result<(), Fail> {
+    let _ = fs::remove_dir_all(&rt, "dagcbor_store_roots");
+    fs::create_dir(&rt, "dagcbor_store_roots")?;
+    let mut store = BlockStore::open(&rt, "dagcbor_store_roots/a.db", Wary)?;
+    keeps_roots(&mut store)?;
+    drop(store);
+    fs::remove_dir_all(&rt, "dagcbor_store_roots")?;
+    Ok(())
+}
+
+/// Makes a file with the trees of the earlier version.
+fn make_earlier(rt: &HostRuntime, path: &str) -> Result<(), Fail> {
+    let Ok(files) = sqlite_std_file::open(rt, path, Wary) else {
+        return Err(Fail::new("no files"));
+    };
+    let size = PageSize::new(4096).unwrap();
+    let Ok(unopened) = open::over_files(rt.alloc(), files, size, 1, &open::schema()[..2]) else {
+        return Err(Fail::new("no memory"));
+    };
+    match unopened.create() {
+        Ok(store) => {
+            drop(store);
+            Ok(())
+        }
+        Err(_) => Err(Fail::new("not made")),
+    }
+}
+
+/// Fails where a store of the earlier version keeps a root, or no block.
+fn keeps_no_roots<S: Store>(store: &mut BlockStore<S>) -> Result<(), Fail> {
+    let name = name_of_block(b"\x17");
+    store.put_block(&name, b"\x17")?;
+    let added = store.add_root(&name);
+    agree(
+        matches!(added, Err(StoreRefusal::EarlierVersion)),
+        "of the earlier version",
+    )?;
+    agree(!store.remove_root(&name)?, "no root")?;
+    agree(store.roots()?.is_empty(), "no roots")?;
+    agree(store.len()? == 1, "one block")
+}
+
+#[test]
+fn earlier_files_keep_no_roots(rt: HostRuntime) -> Result<(), Fail> {
+    let _ = fs::remove_dir_all(&rt, "dagcbor_store_earlier");
+    fs::create_dir(&rt, "dagcbor_store_earlier")?;
+    make_earlier(&rt, "dagcbor_store_earlier/a.db")?;
+    let mut store = BlockStore::open(&rt, "dagcbor_store_earlier/a.db", Wary)?;
+    keeps_no_roots(&mut store)?;
+    drop(store);
+    fs::remove_dir_all(&rt, "dagcbor_store_earlier")?;
     Ok(())
 }

@@ -135,17 +135,17 @@ EndsSo (Ok well) status = status ≡ (if well then 0 else 1)
 EndsSo (Err e) status = status ≡ 2
 
 -- this is said of the bytes, and beside it of each refused section by which byte it is
-abbrev pub SaysSections : Speech → List ℕ → Option (List ℕ) → Option (List ℕ) → Result Bool ToolError
+abbrev pub SaysWithPlaces : Speech → List ℕ → Option (List ℕ) → Option (List ℕ) → Result Bool ToolError
     → Option (List ℕ) → Option (List ℕ) → Type 0
-SaysSections speech b old heard ended new after = SaysBytes speech b old ended new
+SaysWithPlaces speech b old heard ended new after = SaysBytes speech b old ended new
     × SaysBytes (beside TellsPlace) b heard ended after
 
 -- a run of a command on these bytes, and on the path in the words, by what the output and the errors hold
 abbrev pub RunsCommand : Command → List ℕ → List ℕ → Option (List ℕ) → Option (List ℕ)
     → Result Bool ToolError → Option (List ℕ) → Option (List ℕ) → Type 0
-RunsCommand commands.Check path b old heard ended new after = SaysSections check_speech b old heard ended new after
-RunsCommand commands.Verify path b old heard ended new after = SaysSections verify_speech b old heard ended new after
-RunsCommand commands.Summary path b old heard ended new after = SaysSections summary_speech b old heard ended new after
+RunsCommand commands.Check path b old heard ended new after = SaysWithPlaces check_speech b old heard ended new after
+RunsCommand commands.Verify path b old heard ended new after = SaysWithPlaces verify_speech b old heard ended new after
+RunsCommand commands.Summary path b old heard ended new after = SaysWithPlaces summary_speech b old heard ended new after
 RunsCommand commands.Help path b old heard ended new after = Says (λ well out. (well ≡ true) × (out ≡ help_text)) old ended new
 RunsCommand commands.Version path b old heard ended new after = Says (λ well out. (well ≡ true) × (out ≡ version_text)) old ended new
 RunsCommand commands.List path b old heard ended new after = SaysBytes list_speech b old ended new

@@ -266,19 +266,30 @@ fn a_proof_without_a_block_decides_nothing(rt: HostRuntime) -> Result<(), Fail> 
     answer(alloc, &["prove", &word], &file, (1, b"", told))
 }
 
+/// The word of the front and of what is left behind it.
+fn on_both(alloc: Global, front: &str, left: &str) -> Result<String, Fail> {
+    let mut word = on_path(alloc, front)?;
+    word.push_str(left)?;
+    Ok(word)
+}
+
+/// Fails where the path is not proved by this file to lead to nothing, as is told.
+fn proves_nothing(alloc: Global, word: &str, file: &[u8], told: &[u8]) -> Result<(), Fail> {
+    answer(alloc, &["prove", word], FILE, (0, file, b""))?;
+    answer(alloc, &["at", word], file, (1, b"", told))?;
+    answer(alloc, &["at", "--raw", word], FILE, (1, b"", told))
+}
+
 /// Fails where the front and what is left behind it are not proved to lead to nothing by the root's
 /// block alone.
 fn leads_nowhere(alloc: Global, front: &str, left: &str) -> Result<(), Fail> {
-    let mut word = on_path(alloc, front)?;
-    word.push_str(left)?;
+    let word = on_both(alloc, front, left)?;
     let file = file_of(alloc, &[TOP])?;
-    answer(alloc, &["prove", &word], FILE, (0, &file, b""))?;
     let mut told = ROOT.as_bytes().to_vec(alloc)?;
     told.extend_from_slice(b" has nothing at ")?;
     told.extend_from_slice(left.as_bytes())?;
     told.push(b'\n')?;
-    answer(alloc, &["at", &word], &file, (1, b"", &told))?;
-    answer(alloc, &["at", "--raw", &word], FILE, (1, b"", &told))
+    proves_nothing(alloc, &word, &file, &told)
 }
 
 /// So many of the text, one behind the other.
@@ -299,7 +310,7 @@ fn hostile_paths(rt: HostRuntime) -> Result<(), Fail> {
     leads_nowhere(alloc, "a/", "18446744073709551617")?;
     let word = on_path(alloc, &repeated(alloc, "/", 5_000)?)?;
     let file = file_of(alloc, &[TOP])?;
-    answer(alloc, &["prove", &word], FILE, (0, &file, b""))
+    answer(alloc, &["prove", &word], FILE, (0, file.as_slice(), b""))
 }
 
 #[test]

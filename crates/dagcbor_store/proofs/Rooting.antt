@@ -1,5 +1,5 @@
 -- The roots of a store, and that it stays ready.
-use Rattle.std.proofs.Common.{◌≡◌, inl, inr, ℕ, ℤ, List, [], ◌∷◌, ◌++◌, refl, sym, ap, ◌∙◌, subst, IsTrue, Bool, Result, Ok, Err, IfErr, OnOk}
+use Rattle.std.proofs.Common.{◌≡◌, inl, inr, ℕ, ℤ, List, [], ◌∷◌, ◌++◌, refl, sym, ap, ◌∙◌, subst, true≢false, IsTrue, Bool, Result, Ok, Err, IfErr, OnOk}
 use Rattle.std.proofs.Math.Decide.{ℕ_discrete}
 use Rattle.sqlite_value.specs.Order.{Row}
 use Rattle.sqlite_trees.specs.Tree.{Trees}
@@ -145,12 +145,19 @@ module _ {S : Type 0} (g : Ghosts S) (name : CidParts) (old new : S) where
 pub roots_taken : (rows new : List Row) (c : CidParts) (taken : Bool) → AreCidParts c → TakesRoot rows new (cid_bytes c) taken → AreAllRoots rows → AreAllRoots new
 roots_taken rows new c taken valid t (names, are) = let k = leaves_names rows new names c are valid t.1 in (k.0, k.1)
 
+-- where no row was of the name, none is left out
+leaves_none : (rows new : List Row) (name : List ℕ) → (HasRoot rows name → ⊥) → LeavesOut (IsRowOfRoot name) rows new → new ≡ rows
+leaves_none [] new name none l = l
+leaves_none (r ∷ rows) new name none (inl k) = absurd (none (k.0.0, inl (sym k.0.1)))
+leaves_none (r ∷ rows) new name none (inr k) = k.1.1 ∙ ap (λ l. r ∷ l) (leaves_none rows k.1.0 name (λ h. none (h.0, inr h.1)) k.1.2)
+
 pub is_root_taken : (old new : View) (name : CidParts) (taken : Bool) → WritesIn IsOfRoots old new → IsTrue old.is_open → AreCidParts name → TakesRoot (old.trees root_tree) (new.trees root_tree) (cid_bytes name) taken → IsRootTaken old new name taken
 is_root_taken old new name taken h o valid t = record {
   roots = λ names are. (
     (λ yes. has_among (old.trees root_tree) names name are valid (t.0.0 yes), λ m. t.0.1 (among_has (old.trees root_tree) names name are m)),
     leaves_names (old.trees root_tree) (new.trees root_tree) names name are valid t.1,
   );
+  same = λ e. same_trees old.trees new.trees h.others (leaves_none (old.trees root_tree) (new.trees root_tree) (cid_bytes name) (λ has. true≢false (sym (t.0.1 has) ∙ e)) t.1);
   beside = h.others;
   committed = ap (λ (v : View). v.committed) h.frame;
   was_open = o;

@@ -1,5 +1,5 @@
 -- The roots that a store keeps, in their order.
-use Rattle.std.specs.Prelude.{◌≡◌, ◌↔◌, ◌⊎◌, List, [], ◌∷◌, ◌++◌, None, Bool, IsTrue}
+use Rattle.std.specs.Prelude.{◌≡◌, ◌↔◌, ◌⊎◌, false, List, [], ◌∷◌, ◌++◌, None, Bool, IsTrue}
 use Rattle.sqlite_trees.specs.View.{View, IsClean}
 use Rattle.sqlite_trees.specs.declared.store.Store.{Ghosts}
 use Rattle.sqlite_trees.specs.declared.store.Shape.TheVariants as shape
@@ -38,11 +38,12 @@ RootRefused g name old new refusal.NoNumber = IsClean (g.view new) → FreesId (
     × ((names : List CidParts) → HasRoots (g.view old) names → ¬ Among name names)
 RootRefused g name old new told = Fails g (IsRootTooLong (g.view old).reals (cid_bytes name)) old new told
 
--- The name is no root, whether it was one; the others are, in their order. Each other tree is the same, and what was
--- committed.
+-- The name is no root, whether it was one; the others are, in their order. Nothing is changed where it was none. Each other
+-- tree is the same, and what was committed.
 pub record IsRootTaken (old new : View) (name : CidParts) (taken : Bool) : Type 0 where
   pub roots : (names : List CidParts) → HasRoots old names → (IsTrue taken ↔ Among name names)
       × ((now : List CidParts) × HasRoots new now × LeavesOut (λ c. c ≡ name) names now)
+  pub same : taken ≡ false → new.trees ≡ old.trees
   pub beside : KeepsOthers IsOfRoots old.trees new.trees
   pub committed : new.committed ≡ old.committed
   pub was_open : IsTrue old.is_open

@@ -5,7 +5,7 @@ ghost use Rattle.sqlite_trees.specs.View.{IsClean};
 ghost use Rattle.dagcbor_store.specs.Stored.{IsKeptBy};
 ghost use Rattle.sqlite_store.specs.FileStore.{view};
 ghost use Rattle.sqlite_store.specs.Unopened.{AreUsable};
-ghost use Rattle.dagcbor_store.specs.Opened.{HasTrees, IsChecked, IsOpened, IsSettled, HasSameBlocks};
+ghost use Rattle.dagcbor_store.specs.Opened.{HasTrees, IsChecked, IsOpened, IsSettled, OnlyMarks};
 
 use crate::error::StoreRefusal;
 use crate::store::BlockStore;
@@ -58,7 +58,7 @@ fn version_of<S: Store>(store: &S) -> Option<u32>
 /// version.
 fn check<S: Alter>(alloc: Global, store: &mut S, row: &mut Row) -> Result<bool, StoreError>
     ensures ok { IfOk result (λ is_ours. IsClean (S.Store.view store.new) → IsTrue is_ours → IsChecked (S.Store.view store.old) (S.Store.view store.new)) }
-    ensures crash { (db : _) → S.Store.recovers store.new db → S.Store.recovers store.old db ⊎ (IsClean (S.Store.view store.new) → HasSameBlocks (S.Store.view store.old).trees db) }
+    ensures crash { (db : _) → S.Store.recovers store.new db → S.Store.recovers store.old db ⊎ (IsClean (S.Store.view store.new) → OnlyMarks (S.Store.view store.old).trees db) }
     ensures kept { IsKeptBy S.Store store.old store.new }
 {
     let Some(version) = version_of(store) else {

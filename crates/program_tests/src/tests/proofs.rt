@@ -280,15 +280,21 @@ fn proves_nothing(alloc: Global, word: &str, file: &[u8], told: &[u8]) -> Result
     answer(alloc, &["at", "--raw", word], FILE, (1, b"", told))
 }
 
+/// The line that tells that the root's block has nothing there.
+fn nothing_at(alloc: Global, left: &str) -> Result<Vec<u8>, Fail> {
+    let mut told = ROOT.as_bytes().to_vec(alloc)?;
+    told.extend_from_slice(b" has nothing at ")?;
+    told.extend_from_slice(left.as_bytes())?;
+    told.push(b'\n')?;
+    Ok(told)
+}
+
 /// Fails where the front and what is left behind it are not proved to lead to nothing by the root's
 /// block alone.
 fn leads_nowhere(alloc: Global, front: &str, left: &str) -> Result<(), Fail> {
     let word = on_both(alloc, front, left)?;
     let file = file_of(alloc, &[TOP])?;
-    let mut told = ROOT.as_bytes().to_vec(alloc)?;
-    told.extend_from_slice(b" has nothing at ")?;
-    told.extend_from_slice(left.as_bytes())?;
-    told.push(b'\n')?;
+    let told = nothing_at(alloc, left)?;
     proves_nothing(alloc, &word, &file, &told)
 }
 

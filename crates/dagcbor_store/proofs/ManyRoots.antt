@@ -9,7 +9,6 @@ use Rattle.ipld_links.specs.Sets.{Among}
 use Rattle.ipld_links.proofs.Members.{push_among}
 use Rattle.block_trees.specs.RootRows.{root_tree, AreRoots, IsRootTooLong}
 use Rattle.block_trees.specs.Ends.{Quiet}
-use Rattle.dagcbor_store.specs.Stored.{Fails}
 use Rattle.dagcbor_store.specs.Roots.{AddsName, AddsInTurn, KeepsRoots, MayKeepRoots, IsRootAdded, RootRefused, AreRootsAdded, StandsBehind, IsAnyTooLong, RootsRefused}
 use Rattle.dagcbor_store.specs.declared.error.StoreRefusal.{StoreRefusal}
 use Rattle.dagcbor_store.specs.declared.error.StoreRefusal.TheVariants as refusal

@@ -25,7 +25,7 @@ returns-in-Ok-each_section-clause-adds g c =
     let k = c.in-Ok-each_section.ensures in
     let begun = read_begun (forms roots) _ _ _ c.in-Ok.ensures.taken in
     let held = subst (λ ns. Adds g.S.Store ns [] c.args.self.now c.add_roots.new.self) c.deref.ensures.value
-        (adds_none g.S.Store c.deref.result.now c.args.self.now c.add_roots.new.self c.in-Ok-add_roots.ensures.table c.in-Ok-add_roots.ensures.ok c.add_roots.ensures.quiet) in
+    (adds_none g.S.Store c.deref.result.now c.args.self.now c.add_roots.new.self c.in-Ok-add_roots.ensures.table c.in-Ok-add_roots.ensures.ok c.add_roots.ensures.quiet) in
     let at = added_all g.S.Store roots start c.args.self.now k.0 _ _ _ _ c.add_roots.new.self _ (begun, held) k.3 in
     (k.0, k.1, c.each_section.new.left, k.2, k.4, read_to at.0, k.5, read_whole (forms roots) k.0 _ _ _ _ _ at.0 k.5, at.1)
 
@@ -39,7 +39,7 @@ returns-in-Err-each_section-clause-adds g c =
     let roots = c.in-Ok.begun.0.items in
     let begun = read_begun (forms roots) _ _ _ c.in-Ok.ensures.taken in
     let held = subst (λ ns. Adds g.S.Store ns [] c.args.self.now c.add_roots.new.self) c.deref.ensures.value
-        (adds_none g.S.Store c.deref.result.now c.args.self.now c.add_roots.new.self c.in-Ok-add_roots.ensures.table c.in-Ok-add_roots.ensures.ok c.add_roots.ensures.quiet) in
+    (adds_none g.S.Store c.deref.result.now c.args.self.now c.add_roots.new.self c.in-Ok-add_roots.ensures.table c.in-Ok-add_roots.ensures.ok c.add_roots.ensures.quiet) in
     run_refused g.S.Store roots (input_reading g.R.Read.reading c.args.input.now) c.args.self.now _ _ _ _ c.add_roots.new.self _ c.in-Err-each_section.error c.of_run.result (begun, held) c.in-Err-each_section.ensures c.of_run.ensures
 
 pub returns-in-Err-each_section-clause-quiet : goal.returns-in-Err-each_section-clause-quiet

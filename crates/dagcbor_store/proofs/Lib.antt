@@ -4,6 +4,7 @@ pub mod Calls
 pub mod Rooting
 pub mod Opening
 pub mod Adding
+pub mod ManyRoots
 pub mod Reading
 pub mod Walking
 pub mod Unlisted

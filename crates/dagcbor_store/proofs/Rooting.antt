@@ -105,6 +105,7 @@ added_view old new name added h o valid a some = record {
   ];
   beside = h.others;
   committed = ap (λ (v : View). v.committed) h.frame;
+  reals = ap (λ (v : View). v.reals) h.frame;
   was_open = o;
   is_open = still_open old new h.frame o;
   broken = ap (λ (v : View). v.is_broken) h.frame;

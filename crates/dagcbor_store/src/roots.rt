@@ -1,10 +1,10 @@
 //! The roots that a store keeps beside its blocks.
 
-ghost use Rattle.std.specs.Prelude.{IfOk, IfErr, OnOk};
+ghost use Rattle.std.specs.Prelude.{◌≡◌, IfOk, IfErr, OnOk};
 ghost use Rattle.sqlite_trees.specs.View.{IsClean};
 ghost use Rattle.block_trees.specs.Ends.{Quiet};
 ghost use Rattle.dagcbor_store.specs.Stored.{StaysSame, Fails};
-ghost use Rattle.dagcbor_store.specs.Roots.{HasRoots, IsRootAdded, RootRefused, IsRootTaken};
+ghost use Rattle.dagcbor_store.specs.Roots.{HasRoots, IsRootAdded, RootRefused, IsRootTaken, KeepsRoots, MayKeepRoots, AreRootsAdded, RootsRefused};
 
 use crate::error::StoreRefusal;
 use crate::store::{BlockStore, told, undo};
@@ -33,6 +33,8 @@ impl<S: Store> BlockStore<S> {
     /// need not be stored under it. A file of the earlier version keeps no roots.
     pub fn add_root(&mut self, name: &Cid) -> Result<(), StoreRefusal>
         ensures ok { OnOk result (IsClean (S.Store.view self.new) → IsRootAdded (S.Store.view self.old) (S.Store.view self.new) name.now) }
+        ensures table { OnOk result (KeepsRoots (S.Store.view self.old)) }
+        ensures shape { OnOk result ((S.Store.view self.new).shape ≡ (S.Store.view self.old).shape) }
         ensures refused { IfErr result (RootRefused S.Store name.now self.old self.new) }
         ensures quiet { Quiet S.Store self.old self.new }
     {
@@ -45,6 +47,20 @@ impl<S: Store> BlockStore<S> {
             Ok(added) => told(added),
             Err(error) => Err(undo(&mut self.store, error)),
         }
+    }
+
+    /// The same of many names, one behind the other. Those before one that is refused are roots with
+    /// what is committed next, where the store did not fail.
+    pub fn add_roots(&mut self, names: &[Cid]) -> Result<(), StoreRefusal>
+        ensures ok { OnOk result (IsClean (S.Store.view self.new) → AreRootsAdded (S.Store.view self.old) (S.Store.view self.new) names.now) }
+        ensures table { OnOk result (MayKeepRoots (S.Store.view self.old) names.now) }
+        ensures refused { IfErr result (RootsRefused S.Store names.now self.old self.new) }
+        ensures quiet { Quiet S.Store self.old self.new }
+    {
+        for name in names {
+            self.add_root(name)?;
+        }
+        Ok(())
     }
 
     /// Takes the name out of the roots, with what is committed next, and answers whether it was one.

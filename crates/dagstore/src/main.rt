@@ -6,9 +6,9 @@ use dagcbor_cli::{ToolError, arguments, give_up, write_all};
 use dagcbor_store::{BlockStore, FileFrom, FileStore, Wary};
 use dagstore_lines::{
     Command, Counted, Fault, HELP, NO_STORE, NOT_READ, NOT_WRITTEN, OUT_OF_MEMORY, Progress, USAGE,
-    VERSION, Words, answer_check, answer_collect, answer_count, answer_export, answer_get,
-    answer_has, answer_list, answer_put, answer_remove, answer_tree, check_put, end, import_blocks,
-    tell_refusal, words_of,
+    VERSION, Words, answer_at, answer_check, answer_collect, answer_count, answer_export,
+    answer_get, answer_has, answer_list, answer_put, answer_remove, answer_tree, check_put, end,
+    import_blocks, tell_refusal, words_of,
 };
 use ipld_tree::Cid;
 use std::fs;
@@ -129,6 +129,34 @@ fn run_get<W: Write>(rt: &HostRuntime, store: &mut Store, name: &Cid, errors: &m
     answer_get(rt.alloc(), store, name, &mut rt.stdout().lock(), errors)
 }
 
+/// Writes what the path leads to from the root on standard output, or tells why it leads to nothing.
+fn run_at<W: Write>(
+    rt: &HostRuntime,
+    file: &str,
+    is_raw: bool,
+    root: &Cid,
+    path: &str,
+    errors: &mut W,
+) -> u8 {
+    let mut store = match open_old(rt, file, errors) {
+        Ok(store) => store,
+        Err(status) => return status,
+    };
+    let Ok(mut output) = BufWriter::new(rt.alloc(), rt.stdout().lock()) else {
+        return give_up(errors, OUT_OF_MEMORY, 2);
+    };
+    let status = answer_at(
+        rt.alloc(),
+        &mut store,
+        is_raw,
+        root,
+        path,
+        &mut output,
+        errors,
+    );
+    flushed(output, status, errors)
+}
+
 /// Says how many names there are.
 fn run_count<W: Write>(rt: &HostRuntime, store: &mut Store, errors: &mut W) -> u8 {
     answer_count(rt.alloc(), store, &mut rt.stdout().lock(), errors)
@@ -176,12 +204,17 @@ fn open<W: Write>(rt: &HostRuntime, path: &str, errors: &mut W) -> Result<Store,
     }
 }
 
+/// Opens the store in a file that is there. The status, where none is or it can't be.
+fn open_old<W: Write>(rt: &HostRuntime, path: &str, errors: &mut W) -> Result<Store, u8> {
+    if matches!(fs::exists(rt, path), Ok(false)) {
+        return Err(give_up(errors, NO_STORE, 1));
+    }
+    open(rt, path, errors)
+}
+
 /// Does what is to be done with a file that is there.
 fn run<W: Write>(rt: &HostRuntime, path: &str, command: Command, errors: &mut W) -> u8 {
-    if matches!(fs::exists(rt, path), Ok(false)) {
-        return give_up(errors, NO_STORE, 1);
-    }
-    match open(rt, path, errors) {
+    match open_old(rt, path, errors) {
         Ok(mut store) => run_over(rt, &mut store, command, errors),
         Err(status) => status,
     }
@@ -214,6 +247,7 @@ fn run_words<W: Write>(rt: &HostRuntime, words: &[String], errors: &mut W) -> u8
     match words_of(rt.alloc(), words) {
         Ok(Words::Import(path, from)) => run_import(rt, path, from, errors),
         Ok(Words::Put(path, codec)) => run_put(rt, path, codec, errors),
+        Ok(Words::At(file, is_raw, root, path)) => run_at(rt, file, is_raw, &root, path, errors),
         Ok(Words::Do(path, command)) => run(rt, path, command, errors),
         Ok(Words::Help) => run_text(rt, HELP, errors),
         Ok(Words::Version) => run_text(rt, VERSION, errors),

@@ -1,11 +1,12 @@
 //! The words of the program: what each says, and the status of its run.
 
-ghost use Rattle.std.specs.Prelude.{Result, Bool, Option, List, ℕ, ◌⊎◌};
+ghost use Rattle.std.specs.Prelude.{Result, Bool, Option, List, ℕ, ◌⊎◌, OnOk, IfErr};
 ghost use Rattle.sqlite_trees.specs.View.{IsClean};
 ghost use Rattle.dagcbor_items.specs.Walks.{forms};
+ghost use Rattle.dagcbor_paths.specs.Paths.{segments};
 ghost use Rattle.dagcbor_store.specs.Collecting.{KeepsReachable};
 ghost use Rattle.dagcbor_store.specs.Ends.{Quiet};
-ghost use Rattle.dagcbor_store.specs.Stored.{IsAddedTo, IsKeptBy};
+ghost use Rattle.dagcbor_store.specs.Stored.{IsAddedTo, IsKeptBy, StaysSame};
 ghost use Rattle.dagstore_lines.specs.Blocks.{SaysCount, IsGot, Has};
 ghost use Rattle.dagstore_lines.specs.Changes.{name_as, SaysPut, SaysCollected, HoldsOthers, SaysRemoved};
 ghost use Rattle.dagstore_lines.specs.Checks.{SaysCheck};
@@ -14,8 +15,10 @@ ghost use Rattle.dagstore_lines.specs.Names.{IsListed, SaysNames};
 ghost use Rattle.dagstore_lines.specs.Refusals.{EndsSo};
 ghost use Rattle.dagstore_lines.specs.Said.{SaysAll};
 ghost use Rattle.dagstore_lines.specs.Trees.{SaysTree};
+ghost use Rattle.dagstore_lines.specs.Ways.{IsAnswerIn, WayFails};
 ghost use Rattle.dagstore_lines.specs.declared.fault.Fault.{Fault};
 
+use crate::at::write_at;
 use crate::block::{count_blocks, get_block, has_block};
 use crate::change::{collect_blocks, put_block, remove_blocks};
 use crate::check::check_blocks;
@@ -108,6 +111,28 @@ pub fn answer_get<S: Store, W: Write, V: Write>(
     ensures quiet { Quiet S.Store store.old store.new }
 {
     let ended = get_block(alloc, store, name, output, errors);
+    end(ended, errors)
+}
+
+/// `at`: answers the status.
+pub fn answer_at<S: Store, W: Write, V: Write>(
+    alloc: Global,
+    store: &mut BlockStore<S>,
+    is_raw: bool,
+    root: &Cid,
+    path: &str,
+    output: &mut W,
+    errors: &mut V,
+) -> u8
+    ensures answers { (ended : Result Bool Fault) × (heard : Option (List ℕ))
+        × SaysAll (IsAnswerIn is_raw root.now (segments path.now) (S.Store.view store.old)
+        (S.Store.view store.new)) (W.contents output.old) (V.contents errors.old) ended
+        (W.contents output.new) heard × OnOk ended (StaysSame S.Store store.old store.new)
+        × IfErr ended (WayFails S.Store root.now (segments path.now) store.old store.new)
+        × EndsSo ended result heard (V.contents errors.new) }
+    ensures quiet { Quiet S.Store store.old store.new }
+{
+    let ended = write_at(alloc, store, is_raw, root, path, output, errors);
     end(ended, errors)
 }
 

@@ -18,8 +18,8 @@ mod way;
 mod words;
 
 pub use answer::{
-    answer_check, answer_collect, answer_count, answer_export, answer_get, answer_has, answer_list,
-    answer_put, answer_remove, answer_tree,
+    answer_at, answer_check, answer_collect, answer_count, answer_export, answer_get, answer_has,
+    answer_list, answer_put, answer_remove, answer_tree,
 };
 pub use at::write_at;
 pub use block::{NO_BLOCK, count_blocks, get_block, has_block};

@@ -2,13 +2,14 @@
 
 /// What is told of other words.
 pub const USAGE: &str =
-    "usage: dagstore FILE import|put|export|get|has|tree|remove|gc|check|list|count, dagstore --help\n";
+    "usage: dagstore FILE import|put|export|get|at|has|tree|remove|gc|check|list|count, dagstore --help\n";
 
 /// What `--help` writes.
 pub const HELP: &str = "usage: dagstore FILE import [SOURCE]
        dagstore FILE put [dag-cbor|raw|0xCODEC]
        dagstore FILE export [CID..]
        dagstore FILE get|has|tree CID
+       dagstore FILE at [--raw] CID/PATH
        dagstore FILE remove|gc CID..
        dagstore FILE check|list|count
 
@@ -20,6 +21,7 @@ Into the file, which these two make where there is none:
 Out of the file:
   export   the file of all blocks (CAR, version 1), with these roots
   get      the block of a name
+  at       the data that a path leads to from a block, as DAG-JSON; --raw writes its bytes
   has      nothing: the status is 0 where something is listed under the name, else 1
   tree     the file of the blocks that links lead to
   check    the verdict on each block, and which links lead nowhere
@@ -30,7 +32,9 @@ Changes:
   remove   what is listed under the names is taken out
   gc       all is taken out that no link leads to from these names
 
-For example: dagstore blocks.db import blocks.car
+For example:
+  dagstore blocks.db import blocks.car
+  dagstore blocks.db at CID/a/0
 
 The status is 0 where nothing is wrong, 1 where something is, 2 where it could not be told.
 ";

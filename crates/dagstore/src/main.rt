@@ -6,9 +6,9 @@ use dagcbor_cli::{ToolError, arguments, give_up, write_all};
 use dagcbor_store::{BlockStore, FileFrom, FileStore, Wary};
 use dagstore_lines::{
     Command, Counted, Fault, HELP, NO_STORE, NOT_READ, NOT_WRITTEN, OUT_OF_MEMORY, Progress, USAGE,
-    VERSION, Words, answer_at, answer_check, answer_collect, answer_count, answer_export,
-    answer_get, answer_has, answer_list, answer_put, answer_remove, answer_tree, check_put, end,
-    import_blocks, tell_refusal, words_of,
+    VERSION, Words, answer_add_roots, answer_at, answer_check, answer_collect, answer_count,
+    answer_drop_roots, answer_export, answer_get, answer_has, answer_list, answer_put,
+    answer_remove, answer_roots, answer_tree, check_put, end, import_blocks, tell_refusal, words_of,
 };
 use ipld_tree::Cid;
 use std::fs;
@@ -95,18 +95,50 @@ fn run_has<W: Write>(store: &mut Store, name: &Cid, errors: &mut W) -> u8 {
     answer_has(store, name, errors)
 }
 
+/// Writes the roots, a line each.
+fn run_roots<W: Write>(rt: &HostRuntime, store: &mut Store, errors: &mut W) -> u8 {
+    answer_roots(rt.alloc(), store, &mut rt.stdout().lock(), errors)
+}
+
+/// Makes the names roots.
+fn run_add_roots<W: Write>(store: &mut Store, names: &[Cid], errors: &mut W) -> u8 {
+    answer_add_roots(store, names, errors)
+}
+
+/// Takes the names out of the roots, and says how many. Status 1 where one is no root.
+fn run_drop_roots<W: Write>(
+    rt: &HostRuntime,
+    store: &mut Store,
+    names: &[Cid],
+    errors: &mut W,
+) -> u8 {
+    answer_drop_roots(rt.alloc(), store, names, &mut rt.stdout().lock(), errors)
+}
+
 /// Takes out the blocks under the names, and says how many. Status 1 where one is not listed.
 fn run_remove<W: Write>(rt: &HostRuntime, store: &mut Store, names: &[Cid], errors: &mut W) -> u8 {
     answer_remove(rt.alloc(), store, names, &mut rt.stdout().lock(), errors)
 }
 
-/// Keeps what links lead to from the roots, and says how many names were taken out.
-fn run_collect<W: Write>(rt: &HostRuntime, store: &mut Store, roots: &[Cid], errors: &mut W) -> u8 {
+/// Keeps what links lead to from the roots, or from those that are stored where none is given, and
+/// says how many names were taken out.
+fn run_collect<W: Write>(
+    rt: &HostRuntime,
+    store: &mut Store,
+    roots: Vec<Cid>,
+    errors: &mut W,
+) -> u8 {
     answer_collect(rt.alloc(), store, roots, &mut rt.stdout().lock(), errors)
 }
 
-/// Writes the file of these roots and of all blocks on standard output.
-fn run_export<W: Write>(rt: &HostRuntime, store: &mut Store, roots: &[Cid], errors: &mut W) -> u8 {
+/// Writes the file of these roots, or of those that are stored where none is given, and of all blocks
+/// on standard output.
+fn run_export<W: Write>(
+    rt: &HostRuntime,
+    store: &mut Store,
+    roots: Vec<Cid>,
+    errors: &mut W,
+) -> u8 {
     let Ok(mut output) = BufWriter::new(rt.alloc(), rt.stdout().lock()) else {
         return give_up(errors, OUT_OF_MEMORY, 2);
     };
@@ -222,11 +254,14 @@ fn run<W: Write>(rt: &HostRuntime, path: &str, command: Command, errors: &mut W)
 
 fn run_over<W: Write>(rt: &HostRuntime, store: &mut Store, command: Command, errors: &mut W) -> u8 {
     match command {
-        Command::Export(roots) => run_export(rt, store, &roots, errors),
+        Command::Export(roots) => run_export(rt, store, roots, errors),
         Command::Get(name) => run_get(rt, store, &name, errors),
         Command::Has(name) => run_has(store, &name, errors),
         Command::Remove(names) => run_remove(rt, store, &names, errors),
-        Command::Collect(roots) => run_collect(rt, store, &roots, errors),
+        Command::Collect(roots) => run_collect(rt, store, roots, errors),
+        Command::AddRoots(names) => run_add_roots(store, &names, errors),
+        Command::DropRoots(names) => run_drop_roots(rt, store, &names, errors),
+        Command::Roots => run_roots(rt, store, errors),
         Command::Tree(root) => run_tree(rt, store, &root, errors),
         Command::Check => run_check(rt, store, errors),
         Command::List => run_list(rt, store, errors),

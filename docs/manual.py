@@ -42,7 +42,7 @@ def help_of(name):
 
 def words_of(text):
     """Each word, and what it does."""
-    return [(word, " ".join(what.split())) for word, what in re.findall(r"^  (\w+) {2,}(.*(?:\n {6,}.*)*)$", text, re.M)]
+    return [(word, " ".join(what.split())) for word, what in re.findall(r"^  ([\w-]+) {2,}(.*(?:\n {6,}.*)*)$", text, re.M)]
 
 
 def roff(text):

@@ -6,9 +6,9 @@ use dagcbor_cli::{ToolError, arguments, give_up, write_all};
 use dagcbor_store::{BlockStore, FileFrom, FileStore, Wary};
 use dagstore_lines::{
     Command, Counted, Fault, HELP, NO_STORE, NOT_READ, NOT_WRITTEN, OUT_OF_MEMORY, Progress, USAGE,
-    VERSION, Words, answer_check, answer_collect, answer_count, answer_export, answer_get,
-    answer_has, answer_list, answer_put, answer_remove, answer_tree, check_put, end, import_blocks,
-    tell_refusal, words_of,
+    VERSION, Words, answer_add_roots, answer_at, answer_check, answer_collect, answer_count,
+    answer_drop_roots, answer_export, answer_get, answer_has, answer_list, answer_put,
+    answer_remove, answer_roots, answer_tree, check_put, end, import_blocks, tell_refusal, words_of,
 };
 use ipld_tree::Cid;
 use std::fs;
@@ -95,18 +95,50 @@ fn run_has<W: Write>(store: &mut Store, name: &Cid, errors: &mut W) -> u8 {
     answer_has(store, name, errors)
 }
 
+/// Writes the roots, a line each.
+fn run_roots<W: Write>(rt: &HostRuntime, store: &mut Store, errors: &mut W) -> u8 {
+    answer_roots(rt.alloc(), store, &mut rt.stdout().lock(), errors)
+}
+
+/// Makes the names roots.
+fn run_add_roots<W: Write>(store: &mut Store, names: &[Cid], errors: &mut W) -> u8 {
+    answer_add_roots(store, names, errors)
+}
+
+/// Takes the names out of the roots, and says how many. Status 1 where one is no root.
+fn run_drop_roots<W: Write>(
+    rt: &HostRuntime,
+    store: &mut Store,
+    names: &[Cid],
+    errors: &mut W,
+) -> u8 {
+    answer_drop_roots(rt.alloc(), store, names, &mut rt.stdout().lock(), errors)
+}
+
 /// Takes out the blocks under the names, and says how many. Status 1 where one is not listed.
 fn run_remove<W: Write>(rt: &HostRuntime, store: &mut Store, names: &[Cid], errors: &mut W) -> u8 {
     answer_remove(rt.alloc(), store, names, &mut rt.stdout().lock(), errors)
 }
 
-/// Keeps what links lead to from the roots, and says how many names were taken out.
-fn run_collect<W: Write>(rt: &HostRuntime, store: &mut Store, roots: &[Cid], errors: &mut W) -> u8 {
+/// Keeps what links lead to from the roots, or from those that are stored where none is given, and
+/// says how many names were taken out.
+fn run_collect<W: Write>(
+    rt: &HostRuntime,
+    store: &mut Store,
+    roots: Vec<Cid>,
+    errors: &mut W,
+) -> u8 {
     answer_collect(rt.alloc(), store, roots, &mut rt.stdout().lock(), errors)
 }
 
-/// Writes the file of these roots and of all blocks on standard output.
-fn run_export<W: Write>(rt: &HostRuntime, store: &mut Store, roots: &[Cid], errors: &mut W) -> u8 {
+/// Writes the file of these roots, or of those that are stored where none is given, and of all blocks
+/// on standard output.
+fn run_export<W: Write>(
+    rt: &HostRuntime,
+    store: &mut Store,
+    roots: Vec<Cid>,
+    errors: &mut W,
+) -> u8 {
     let Ok(mut output) = BufWriter::new(rt.alloc(), rt.stdout().lock()) else {
         return give_up(errors, OUT_OF_MEMORY, 2);
     };
@@ -127,6 +159,34 @@ fn run_tree<W: Write>(rt: &HostRuntime, store: &mut Store, root: &Cid, errors: &
 /// Writes the block under the name on standard output.
 fn run_get<W: Write>(rt: &HostRuntime, store: &mut Store, name: &Cid, errors: &mut W) -> u8 {
     answer_get(rt.alloc(), store, name, &mut rt.stdout().lock(), errors)
+}
+
+/// Writes what the path leads to from the root on standard output, or tells why it leads to nothing.
+fn run_at<W: Write>(
+    rt: &HostRuntime,
+    file: &str,
+    is_raw: bool,
+    root: &Cid,
+    path: &str,
+    errors: &mut W,
+) -> u8 {
+    let mut store = match open_old(rt, file, errors) {
+        Ok(store) => store,
+        Err(status) => return status,
+    };
+    let Ok(mut output) = BufWriter::new(rt.alloc(), rt.stdout().lock()) else {
+        return give_up(errors, OUT_OF_MEMORY, 2);
+    };
+    let status = answer_at(
+        rt.alloc(),
+        &mut store,
+        is_raw,
+        root,
+        path,
+        &mut output,
+        errors,
+    );
+    flushed(output, status, errors)
 }
 
 /// Says how many names there are.
@@ -176,12 +236,17 @@ fn open<W: Write>(rt: &HostRuntime, path: &str, errors: &mut W) -> Result<Store,
     }
 }
 
+/// Opens the store in a file that is there. The status, where none is or it can't be.
+fn open_old<W: Write>(rt: &HostRuntime, path: &str, errors: &mut W) -> Result<Store, u8> {
+    if matches!(fs::exists(rt, path), Ok(false)) {
+        return Err(give_up(errors, NO_STORE, 1));
+    }
+    open(rt, path, errors)
+}
+
 /// Does what is to be done with a file that is there.
 fn run<W: Write>(rt: &HostRuntime, path: &str, command: Command, errors: &mut W) -> u8 {
-    if matches!(fs::exists(rt, path), Ok(false)) {
-        return give_up(errors, NO_STORE, 1);
-    }
-    match open(rt, path, errors) {
+    match open_old(rt, path, errors) {
         Ok(mut store) => run_over(rt, &mut store, command, errors),
         Err(status) => status,
     }
@@ -189,11 +254,14 @@ fn run<W: Write>(rt: &HostRuntime, path: &str, command: Command, errors: &mut W)
 
 fn run_over<W: Write>(rt: &HostRuntime, store: &mut Store, command: Command, errors: &mut W) -> u8 {
     match command {
-        Command::Export(roots) => run_export(rt, store, &roots, errors),
+        Command::Export(roots) => run_export(rt, store, roots, errors),
         Command::Get(name) => run_get(rt, store, &name, errors),
         Command::Has(name) => run_has(store, &name, errors),
         Command::Remove(names) => run_remove(rt, store, &names, errors),
-        Command::Collect(roots) => run_collect(rt, store, &roots, errors),
+        Command::Collect(roots) => run_collect(rt, store, roots, errors),
+        Command::AddRoots(names) => run_add_roots(store, &names, errors),
+        Command::DropRoots(names) => run_drop_roots(rt, store, &names, errors),
+        Command::Roots => run_roots(rt, store, errors),
         Command::Tree(root) => run_tree(rt, store, &root, errors),
         Command::Check => run_check(rt, store, errors),
         Command::List => run_list(rt, store, errors),
@@ -214,6 +282,7 @@ fn run_words<W: Write>(rt: &HostRuntime, words: &[String], errors: &mut W) -> u8
     match words_of(rt.alloc(), words) {
         Ok(Words::Import(path, from)) => run_import(rt, path, from, errors),
         Ok(Words::Put(path, codec)) => run_put(rt, path, codec, errors),
+        Ok(Words::At(file, is_raw, root, path)) => run_at(rt, file, is_raw, &root, path, errors),
         Ok(Words::Do(path, command)) => run(rt, path, command, errors),
         Ok(Words::Help) => run_text(rt, HELP, errors),
         Ok(Words::Version) => run_text(rt, VERSION, errors),

@@ -66,6 +66,9 @@ no_command word m (commands.Has name) e = apart (mark word) 298 m (ap mark e) ((
 no_command word m (commands.Remove names) e = apart (mark word) 316 m (ap mark e) ((λ d. omega (arith, d)), (λ d. omega (arith, d)), (λ d. omega (arith, d)))
 no_command word m (commands.Collect roots) e = apart (mark word) 301 m (ap mark e) ((λ d. omega (arith, d)), (λ d. omega (arith, d)), (λ d. omega (arith, d)))
 no_command word m (commands.Tree root) e = apart (mark word) 344 m (ap mark e) ((λ d. omega (arith, d)), (λ d. omega (arith, d)), (λ d. omega (arith, d)))
+no_command word m (commands.AddRoots names) e = apart (mark word) 297 m (ap mark e) ((λ d. omega (arith, d)), (λ d. omega (arith, d)), (λ d. omega (arith, d)))
+no_command word m (commands.DropRoots names) e = apart (mark word) 328 m (ap mark e) ((λ d. omega (arith, d)), (λ d. omega (arith, d)), (λ d. omega (arith, d)))
+no_command word m commands.Roots e = apart (mark word) 336 m (ap mark e) ((λ d. omega (arith, d)), (λ d. omega (arith, d)), (λ d. omega (arith, d)))
 no_command word m commands.Check e = apart (mark word) 307 m (ap mark e) ((λ d. omega (arith, d)), (λ d. omega (arith, d)), (λ d. omega (arith, d)))
 no_command word m commands.List e = apart (mark word) 318 m (ap mark e) ((λ d. omega (arith, d)), (λ d. omega (arith, d)), (λ d. omega (arith, d)))
 no_command word m commands.Count e = apart (mark word) 321 m (ap mark e) ((λ d. omega (arith, d)), (λ d. omega (arith, d)), (λ d. omega (arith, d)))
@@ -76,7 +79,9 @@ no_names word m (inr (inl e)) = apart (mark word) 305 m (ap mark e) ((λ d. omeg
 no_names word m (inr (inr (inl e))) = apart (mark word) 298 m (ap mark e) ((λ d. omega (arith, d)), (λ d. omega (arith, d)), (λ d. omega (arith, d)))
 no_names word m (inr (inr (inr (inl e)))) = apart (mark word) 344 m (ap mark e) ((λ d. omega (arith, d)), (λ d. omega (arith, d)), (λ d. omega (arith, d)))
 no_names word m (inr (inr (inr (inr (inl e))))) = apart (mark word) 316 m (ap mark e) ((λ d. omega (arith, d)), (λ d. omega (arith, d)), (λ d. omega (arith, d)))
-no_names word m (inr (inr (inr (inr (inr e))))) = apart (mark word) 301 m (ap mark e) ((λ d. omega (arith, d)), (λ d. omega (arith, d)), (λ d. omega (arith, d)))
+no_names word m (inr (inr (inr (inr (inr (inl e)))))) = apart (mark word) 301 m (ap mark e) ((λ d. omega (arith, d)), (λ d. omega (arith, d)), (λ d. omega (arith, d)))
+no_names word m (inr (inr (inr (inr (inr (inr (inl e))))))) = apart (mark word) 297 m (ap mark e) ((λ d. omega (arith, d)), (λ d. omega (arith, d)), (λ d. omega (arith, d)))
+no_names word m (inr (inr (inr (inr (inr (inr (inr e))))))) = apart (mark word) 328 m (ap mark e) ((λ d. omega (arith, d)), (λ d. omega (arith, d)), (λ d. omega (arith, d)))
 
 -- ---- which words are unknown
 

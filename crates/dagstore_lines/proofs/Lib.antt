@@ -6,3 +6,4 @@ pub mod Removing
 pub mod Exporting
 pub mod Gathering
 pub mod Commanding
+pub mod Rooting

@@ -40,7 +40,8 @@ IsFirstFault (text ∷ texts) e = IsTextFault e text
 -- CIDs stand behind the word, and nothing else
 abbrev pub TakesNames : List ℕ → Type 0
 TakesNames word = (word ≡ codes "export") ⊎ ((word ≡ codes "get") ⊎ ((word ≡ codes "has")
-    ⊎ ((word ≡ codes "tree") ⊎ ((word ≡ codes "remove") ⊎ (word ≡ codes "gc")))))
+    ⊎ ((word ≡ codes "tree") ⊎ ((word ≡ codes "remove") ⊎ ((word ≡ codes "gc")
+    ⊎ ((word ≡ codes "add-root") ⊎ (word ≡ codes "drop-root")))))))
 
 -- ---- commands
 
@@ -52,6 +53,9 @@ command_name (commands.Has name) = codes "has"
 command_name (commands.Remove names) = codes "remove"
 command_name (commands.Collect roots) = codes "gc"
 command_name (commands.Tree root) = codes "tree"
+command_name (commands.AddRoots names) = codes "add-root"
+command_name (commands.DropRoots names) = codes "drop-root"
+command_name commands.Roots = codes "roots"
 command_name commands.Check = codes "check"
 command_name commands.List = codes "list"
 command_name commands.Count = codes "count"
@@ -63,7 +67,9 @@ AreNamesOf (commands.Get name) names = names ≡ name ∷ []
 AreNamesOf (commands.Has name) names = names ≡ name ∷ []
 AreNamesOf (commands.Tree root) names = names ≡ root ∷ []
 AreNamesOf (commands.Remove taken) names = (names ≡ taken.items) × (names ≢ [])
-AreNamesOf (commands.Collect roots) names = (names ≡ roots.items) × (names ≢ [])
+AreNamesOf (commands.Collect roots) names = names ≡ roots.items
+AreNamesOf (commands.AddRoots added) names = (names ≡ added.items) × (names ≢ [])
+AreNamesOf (commands.DropRoots dropped) names = (names ≡ dropped.items) × (names ≢ [])
 AreNamesOf _ names = names ≡ []
 
 -- the word and the CIDs behind it are the command

@@ -9,3 +9,4 @@ pub mod Changes
 pub mod Files
 pub mod Trees
 pub mod Ways
+pub mod Roots

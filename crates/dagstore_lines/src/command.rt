@@ -21,7 +21,8 @@ const MOST_DIGITS: usize = 16;
 /// What is to be done with the blocks in a file that is there.
 #[derive(Debug, Drop)]
 pub enum Command {
-    /// To write all of them as a file of blocks, with these roots.
+    /// To write all of them as a file of blocks, with these roots, or with those that are stored where
+    /// none is given.
     Export(Vec<Cid>),
     /// To write the one under the name.
     Get(Cid),
@@ -29,8 +30,15 @@ pub enum Command {
     Has(Cid),
     /// To take out those under the names.
     Remove(Vec<Cid>),
-    /// To keep those that links lead to from the ones under the names, and no other.
+    /// To keep those that links lead to from the ones under the names, or from the roots that are
+    /// stored where none is given, and no other.
     Collect(Vec<Cid>),
+    /// To make the names roots.
+    AddRoots(Vec<Cid>),
+    /// To take the names out of the roots.
+    DropRoots(Vec<Cid>),
+    /// To list the roots.
+    Roots,
     /// To write those that links lead to from the one under the name, as a file of blocks.
     Tree(Cid),
     /// To judge each, and its links.
@@ -222,7 +230,10 @@ fn cids_of(alloc: Global, words: &[String]) -> Result<Result<Vec<Cid>, CidTextEr
 fn takes_names(word: &str) -> bool
     ensures { MatchBool result (TakesNames word.now) (¬ TakesNames word.now) }
 {
-    matches!(word, "export" | "get" | "has" | "tree" | "remove" | "gc")
+    matches!(
+        word,
+        "export" | "get" | "has" | "tree" | "remove" | "gc" | "add-root" | "drop-root"
+    )
 }
 
 /// The command of the word and the CIDs behind it.
@@ -236,7 +247,10 @@ fn command_of(word: &str, names: Vec<Cid>) -> Option<Command>
         "has" => Some(Command::Has(one_of(&names)?)),
         "tree" => Some(Command::Tree(one_of(&names)?)),
         "remove" => Some(Command::Remove(some_of(names)?)),
-        "gc" => Some(Command::Collect(some_of(names)?)),
+        "gc" => Some(Command::Collect(names)),
+        "add-root" => Some(Command::AddRoots(some_of(names)?)),
+        "drop-root" => Some(Command::DropRoots(some_of(names)?)),
+        "roots" if names.is_empty() => Some(Command::Roots),
         "check" if names.is_empty() => Some(Command::Check),
         "list" if names.is_empty() => Some(Command::List),
         "count" if names.is_empty() => Some(Command::Count),

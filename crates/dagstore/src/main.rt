@@ -1,14 +1,18 @@
 //! The program `dagstore`: blocks in a file that lasts.
 #![tactic(auto)]
 
+mod counted;
+
+use crate::counted::Counted;
 use block_lines::no_cid_line;
 use dagcbor_cli::{ToolError, arguments, give_up, write_all};
 use dagcbor_store::{BlockStore, FileFrom, FileStore, Wary};
 use dagstore_lines::{
-    Command, Counted, Fault, HELP, NO_STORE, NOT_READ, NOT_WRITTEN, OUT_OF_MEMORY, Progress, USAGE,
-    VERSION, Words, answer_add_roots, answer_at, answer_check, answer_collect, answer_count,
+    Command, Fault, HELP, NO_STORE, NOT_READ, NOT_WRITTEN, OUT_OF_MEMORY, Progress, USAGE, VERSION,
+    Words, answer_add_roots, answer_at, answer_check, answer_collect, answer_count,
     answer_drop_roots, answer_export, answer_get, answer_has, answer_list, answer_put,
-    answer_remove, answer_roots, answer_tree, check_put, end, import_blocks, tell_refusal, words_of,
+    answer_remove, answer_roots, answer_tree, check_put, end, import_blocks, tell_refusal,
+    words_of,
 };
 use ipld_tree::Cid;
 use std::fs;

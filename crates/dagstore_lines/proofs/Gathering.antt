@@ -1,5 +1,5 @@
 -- The blocks on the way of a path, taken out of a store.
-use Rattle.std.proofs.Common.{◌≡◌, inl, inr, ℕ, zero, suc, ◌+◌, List, [], ◌∷◌, ◌++◌, Bool, true, false, cond, refl, sym, ap, ◌∙◌, subst, arith, Option, None, Some, option_map, Vec, Global, BTreeMap}
+use Rattle.std.proofs.Common.{◌≡◌, inl, inr, ℕ, zero, suc, List, [], ◌∷◌, ◌++◌, Bool, true, false, cond, refl, sym, ap, ◌∙◌, subst, arith, Option, None, Some, option_map, Vec, Global, BTreeMap}
 use Rattle.std.specs.BTreeMap.{is_at, get}
 use Rattle.std.specs.Map.{lookup}
 use Rattle.sqlite_trees.specs.View.{View, IsClean}
@@ -7,7 +7,7 @@ use Rattle.sqlite_trees.specs.declared.store.Store.{Ghosts}
 use Rattle.ipld_tree.specs.Cid.{CidParts, cid_cmp}
 use Rattle.ipld_links.specs.Sets.{Among}
 use Rattle.ipld_links.specs.Reaching.{Stored, stored_in, AreBytesOf}
-use Rattle.ipld_links.proofs.Members.{at_same, same_at, push_among, among_push}
+use Rattle.ipld_links.proofs.Members.{at_same, same_at, among_push}
 use Rattle.dagcbor_resolve.specs.Resolving.{GoesOn, GoesOver, AreOnTheWay}
 use Rattle.dagcbor_resolve.specs.Laws.{AgreeOn}
 use Rattle.dagcbor_resolve.proofs.Gathering.{WentTo, went_nowhere, went_on, went_to_end}

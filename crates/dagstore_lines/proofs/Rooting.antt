@@ -1,6 +1,5 @@
 -- The roots that a store keeps: those that are meant, and how they change.
-use Rattle.std.proofs.Common.{◌≡◌, ◌≢◌, inl, inr, ◌⊎◌, ℕ, ◌+◌, ◌≤◌, ◌<◌, List, [], ◌∷◌, ◌++◌, length, take, drop, get_or, take-suc, add-one, Bool, true, false, refl, sym, ap, ap₂, ◌∙◌, subst, arith, IsTrue, ◌↔◌, Option, Result, Ok, Err}
-use Rattle.std.proofs.Math.Nat.{add-zero}
+use Rattle.std.proofs.Common.{◌≡◌, inl, inr, ℕ, ◌+◌, ◌≤◌, ◌<◌, List, [], ◌∷◌, ◌++◌, length, take, drop, get_or, take-suc, add-one, Bool, true, false, refl, sym, ap, ◌∙◌, subst, arith, IsTrue, ◌↔◌, Option, Result, Ok, Err}
 use Rattle.std.proofs.Math.Seq.{take-length}
 use Rattle.std.proofs.lemmas.List.{drop_more, take-append-drop}
 use mir.Val.{bool_byte}
@@ -9,27 +8,24 @@ use Rattle.sqlite_trees.specs.View.{View, IsClean}
 use Rattle.sqlite_trees.specs.declared.store.Store.{Ghosts}
 use Rattle.ipld_tree.specs.Cid.{CidParts, cid_bytes}
 use Rattle.dagcbor_car.specs.Car.{Section}
-use Rattle.dagcbor_items.specs.Walks.{forms}
 use Rattle.ipld_links.specs.Sets.{Among}
 use Rattle.ipld_links.specs.Sound.{IsSound}
-use Rattle.ipld_links.specs.Reaching.{Stored}
 use Rattle.dagcbor_store.specs.Rows.{name_tree, IsStored, IsListed}
-use Rattle.dagcbor_store.specs.RootRows.{root_tree, AreRoots, LeavesOut}
-use Rattle.dagcbor_store.specs.Ends.{Quiet, KeepsOthers, IsOfRoots, IsOfBlocks}
-use Rattle.dagcbor_store.specs.Stored.{IsSame, IsUndone, IsCommitted, Fails}
-use Rattle.dagcbor_store.specs.Roots.{HasRoots, AddsName, IsRootAdded, RootRefused, IsRootTaken}
+use Rattle.dagcbor_store.specs.RootRows.{LeavesOut}
+use Rattle.dagcbor_store.specs.Ends.{Quiet, KeepsOthers, IsOfBlocks}
+use Rattle.dagcbor_store.specs.Stored.{IsSame, IsUndone, IsCommitted}
+use Rattle.dagcbor_store.specs.Roots.{AddsName, IsRootAdded, RootRefused, IsRootTaken}
 use Rattle.dagcbor_store.specs.Cars.{IsSectionIn}
-use Rattle.dagcbor_store.specs.Walking.{AreBlocks, AreFirstBlocks, WalkRefused}
+use Rattle.dagcbor_store.specs.Walking.{AreBlocks, AreFirstBlocks}
 use Rattle.dagcbor_store.specs.Collecting.{KeepsReachable, TakesOut, IsCollected, CollectRefused, HoldsThose, IsLedForm}
 use Rattle.dagcbor_store.specs.Lost.{HoldsNoneSound}
-use Rattle.dagcbor_store.specs.Trees.{OfStored}
 use Rattle.dagcbor_store.proofs.Adding.{KeepsLast, last_itself, last_same, last_then, last_undone, undone_then, fails_behind}
 use Rattle.dagcbor_store.proofs.Trees.{shows_same}
-use Rattle.dagcbor_store.proofs.Walking.{same_itself, same_then, walk_refused, fails_same}
+use Rattle.dagcbor_store.proofs.Walking.{same_then, walk_refused}
 use Rattle.dagcbor_store.specs.declared.error.StoreRefusal.{StoreRefusal}
 use Rattle.dagcbor_store.specs.declared.error.StoreRefusal.TheVariants as refusal
 use Rattle.dagstore_lines.specs.Changes.{SaysCollected, SaysTaken}
-use Rattle.dagstore_lines.specs.Files.{Exports, ExportFails}
+use Rattle.dagstore_lines.specs.Files.{Exports}
 use Rattle.dagstore_lines.specs.Lines.{no_root_line}
 use Rattle.dagstore_lines.specs.Roots.{AreMeant, Changes, Commits, AddsNames, AddsRoots, StopsAdding, DropsNames, DropsRoots, SaysDropped}
 use Rattle.dagstore_lines.specs.declared.fault.Fault.{Fault}

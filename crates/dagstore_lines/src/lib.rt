@@ -32,7 +32,7 @@ pub use export::{export_blocks, export_meant, write_tree};
 pub use fault::Fault;
 pub use import::import_blocks;
 pub use list::list_blocks;
-pub use progress::{Counted, Progress};
+pub use progress::Progress;
 pub use refusal::{end, tell_refusal};
 pub use roots::{NO_ROOT, NO_ROOTS, add_roots, drop_roots, list_roots};
 pub use way::gather_way;

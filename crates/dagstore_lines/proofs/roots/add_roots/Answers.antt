@@ -1,5 +1,4 @@
 use Rattle.std.proofs.Common.{arith, inl, inr}
-use Rattle.sqlite_trees.specs.View.{IsClean}
 use Rattle.dagcbor_store.proofs.Sweeping.{fails_swept}
 use Rattle.dagstore_lines.proofs.Rooting.{undone_adding}
 use Rattle.dagstore_lines.proofs.roots.add_roots.Goals as goal

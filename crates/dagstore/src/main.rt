@@ -168,29 +168,32 @@ fn run_get<W: Write>(rt: &HostRuntime, store: &mut Store, name: &Cid, errors: &m
 /// Writes what the path leads to from the root on standard output, or tells why it leads to nothing.
 fn run_at<W: Write>(
     rt: &HostRuntime,
+    store: &mut Store,
+    is_raw: bool,
+    root: &Cid,
+    path: &str,
+    errors: &mut W,
+) -> u8 {
+    let Ok(mut output) = BufWriter::new(rt.alloc(), rt.stdout().lock()) else {
+        return give_up(errors, OUT_OF_MEMORY, 2);
+    };
+    let status = answer_at(rt.alloc(), store, is_raw, root, path, &mut output, errors);
+    flushed(output, status, errors)
+}
+
+/// The same over a file that is there.
+fn run_at_file<W: Write>(
+    rt: &HostRuntime,
     file: &str,
     is_raw: bool,
     root: &Cid,
     path: &str,
     errors: &mut W,
 ) -> u8 {
-    let mut store = match open_old(rt, file, errors) {
-        Ok(store) => store,
-        Err(status) => return status,
-    };
-    let Ok(mut output) = BufWriter::new(rt.alloc(), rt.stdout().lock()) else {
-        return give_up(errors, OUT_OF_MEMORY, 2);
-    };
-    let status = answer_at(
-        rt.alloc(),
-        &mut store,
-        is_raw,
-        root,
-        path,
-        &mut output,
-        errors,
-    );
-    flushed(output, status, errors)
+    match open_old(rt, file, errors) {
+        Ok(mut store) => run_at(rt, &mut store, is_raw, root, path, errors),
+        Err(status) => status,
+    }
 }
 
 /// Says how many names there are.
@@ -286,7 +289,9 @@ fn run_words<W: Write>(rt: &HostRuntime, words: &[String], errors: &mut W) -> u8
     match words_of(rt.alloc(), words) {
         Ok(Words::Import(path, from)) => run_import(rt, path, from, errors),
         Ok(Words::Put(path, codec)) => run_put(rt, path, codec, errors),
-        Ok(Words::At(file, is_raw, root, path)) => run_at(rt, file, is_raw, &root, path, errors),
+        Ok(Words::At(file, is_raw, root, path)) => {
+            run_at_file(rt, file, is_raw, &root, path, errors)
+        }
         Ok(Words::Do(path, command)) => run(rt, path, command, errors),
         Ok(Words::Help) => run_text(rt, HELP, errors),
         Ok(Words::Version) => run_text(rt, VERSION, errors),

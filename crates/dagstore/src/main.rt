@@ -8,8 +8,8 @@ use block_lines::no_cid_line;
 use dagcbor_cli::{ToolError, arguments, give_up, write_all};
 use dagcbor_store::{BlockStore, FileFrom, FileStore, Wary};
 use dagstore_lines::{
-    Command, Fault, HELP, NO_STORE, NOT_READ, NOT_WRITTEN, OUT_OF_MEMORY, Progress, USAGE, VERSION,
-    Words, answer_add_roots, answer_at, answer_check, answer_collect, answer_count,
+    Asking, Command, Fault, HELP, NO_STORE, NOT_READ, NOT_WRITTEN, OUT_OF_MEMORY, Progress, USAGE,
+    VERSION, Words, answer_add_roots, answer_at, answer_check, answer_collect, answer_count,
     answer_drop_roots, answer_export, answer_get, answer_has, answer_list, answer_put,
     answer_remove, answer_roots, answer_tree, check_put, end, import_blocks, tell_refusal,
     words_of,
@@ -169,15 +169,22 @@ fn run_get<W: Write>(rt: &HostRuntime, store: &mut Store, name: &Cid, errors: &m
 fn run_at<W: Write>(
     rt: &HostRuntime,
     store: &mut Store,
-    is_raw: bool,
-    root: &Cid,
+    asking: &Asking,
     path: &str,
     errors: &mut W,
 ) -> u8 {
     let Ok(mut output) = BufWriter::new(rt.alloc(), rt.stdout().lock()) else {
         return give_up(errors, OUT_OF_MEMORY, 2);
     };
-    let status = answer_at(rt.alloc(), store, is_raw, root, path, &mut output, errors);
+    let status = answer_at(
+        rt.alloc(),
+        store,
+        asking.is_raw,
+        &asking.root,
+        path,
+        &mut output,
+        errors,
+    );
     flushed(output, status, errors)
 }
 
@@ -185,13 +192,12 @@ fn run_at<W: Write>(
 fn run_at_file<W: Write>(
     rt: &HostRuntime,
     file: &str,
-    is_raw: bool,
-    root: &Cid,
+    asking: &Asking,
     path: &str,
     errors: &mut W,
 ) -> u8 {
     match open_old(rt, file, errors) {
-        Ok(mut store) => run_at(rt, &mut store, is_raw, root, path, errors),
+        Ok(mut store) => run_at(rt, &mut store, asking, path, errors),
         Err(status) => status,
     }
 }
@@ -289,9 +295,7 @@ fn run_words<W: Write>(rt: &HostRuntime, words: &[String], errors: &mut W) -> u8
     match words_of(rt.alloc(), words) {
         Ok(Words::Import(path, from)) => run_import(rt, path, from, errors),
         Ok(Words::Put(path, codec)) => run_put(rt, path, codec, errors),
-        Ok(Words::At(file, is_raw, root, path)) => {
-            run_at_file(rt, file, is_raw, &root, path, errors)
-        }
+        Ok(Words::At(file, asking, path)) => run_at_file(rt, file, &asking, path, errors),
         Ok(Words::Do(path, command)) => run(rt, path, command, errors),
         Ok(Words::Help) => run_text(rt, HELP, errors),
         Ok(Words::Version) => run_text(rt, VERSION, errors),

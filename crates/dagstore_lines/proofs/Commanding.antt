@@ -92,7 +92,7 @@ no_codec word none codec (inr h) = none codec (subst (λ w. NamesCodec w codec) 
 
 pub no_put : (path word : List ℕ) (rest : List (List ℕ)) → rest ≡ word ∷ [] → ((codec : ℕ) → NamesCodec word codec → ⊥) → (it : Words) → AreKnown (path ∷ (codes "put" ∷ rest)) it → ⊥
 no_put path word rest is none (words.Import file source) h = let clash : 346 ≡ 323 = ap mark h.1 in omega (arith, clash)
-no_put path word rest is none (words.At file is_raw root inner) h = let clash : 346 ≡ 329 = ap mark h.1 in omega (arith, clash)
+no_put path word rest is none (words.At file asking inner) h = let clash : 346 ≡ 329 = ap mark h.1 in omega (arith, clash)
 no_put path word rest is none (words.Put file codec) h = no_codec word none codec (subst (λ ws. IsCodec ws codec) is h.2)
 no_put path word rest is none (words.Do file command) h = no_command (codes "put") (inr (inl refl)) command h.1.2.0
 no_put path word rest is none words.Help h = h
@@ -105,7 +105,7 @@ no_put path word rest is none words.Unknown h = h
 pub no_at : (path : List ℕ) (rest : List (List ℕ)) → ((is_raw : Bool) (text : List ℕ) → IsAskedBy rest is_raw text → ⊥) → (it : Words) → AreKnown (path ∷ (codes "at" ∷ rest)) it → ⊥
 no_at path rest none (words.Import file source) h = let clash : 329 ≡ 323 = ap mark h.1 in omega (arith, clash)
 no_at path rest none (words.Put file codec) h = let clash : 329 ≡ 346 = ap mark h.1 in omega (arith, clash)
-no_at path rest none (words.At file is_raw root inner) h = none is_raw h.2.0 h.2.1
+no_at path rest none (words.At file asking inner) h = none asking.is_raw h.2.0 h.2.1
 no_at path rest none (words.Do file command) h = no_command (codes "at") (inr (inr refl)) command h.1.2.0
 no_at path rest none words.Help h = h
 no_at path rest none words.Version h = h
@@ -121,7 +121,7 @@ no_done law faults path word rest names imports puts ats texts none (words.Put f
 no_done law faults path word rest names imports puts ats texts none (words.Do file command) h = none command (subst (λ ns. IsCommand word ns command) (same_names law rest h.1.0 names h.1.1 texts) h.1.2)
 no_done law faults path word rest names imports puts ats texts none words.Help h = h
 no_done law faults path word rest names imports puts ats texts none words.Version h = h
-no_done law faults path word rest names imports puts ats texts none (words.At file is_raw root inner) h = ats h.1
+no_done law faults path word rest names imports puts ats texts none (words.At file asking inner) h = ats h.1
 no_done law faults path word rest names imports puts ats texts none (words.NoCid e) (inl h) = no_fault faults rest names e texts h.1
 no_done law faults path word rest names imports puts ats texts none (words.NoCid e) (inr h) = ats h.0
 no_done law faults path word rest names imports puts ats texts none words.Unknown h = h
@@ -133,7 +133,7 @@ no_word faults path word rest f imports puts ats fault none (words.Put file code
 no_word faults path word rest f imports puts ats fault none (words.Do file command) h = no_fault faults rest h.1.0 f h.1.1 fault
 no_word faults path word rest f imports puts ats fault none words.Help h = h
 no_word faults path word rest f imports puts ats fault none words.Version h = h
-no_word faults path word rest f imports puts ats fault none (words.At file is_raw root inner) h = ats h.1
+no_word faults path word rest f imports puts ats fault none (words.At file asking inner) h = ats h.1
 no_word faults path word rest f imports puts ats fault none (words.NoCid e) (inl h) = none h.0
 no_word faults path word rest f imports puts ats fault none (words.NoCid e) (inr h) = ats h.0
 no_word faults path word rest f imports puts ats fault none words.Unknown h = h

@@ -100,8 +100,8 @@ IsSaidOf path word rest (words.Import file source) = (path ≡ file.now) × (wor
 IsSaidOf path word rest (words.Put file codec) = (path ≡ file.now) × (word ≡ codes "put") × IsCodec rest codec
 IsSaidOf path word rest (words.Do file command) = (path ≡ file.now)
     × ((names : List CidParts) × AreTextsOf rest names × IsCommand word names command)
-IsSaidOf path word rest (words.At file is_raw root inner) = (path ≡ file.now) × (word ≡ codes "at")
-    × ((text : List ℕ) × IsAskedBy rest is_raw text × IsTextOf (name_part text) root × (inner.now ≡ path_part text))
+IsSaidOf path word rest (words.At file asking inner) = (path ≡ file.now) × (word ≡ codes "at")
+    × ((text : List ℕ) × IsAskedBy rest asking.is_raw text × IsTextOf (name_part text) asking.root × (inner.now ≡ path_part text))
 IsSaidOf path word rest (words.NoCid e) = (TakesNames word × IsFirstFault rest e)
     ⊎ ((word ≡ codes "at") × ((is_raw : Bool) × (text : List ℕ) × IsAskedBy rest is_raw text × IsTextFault e (name_part text)))
 IsSaidOf path word rest _ = ⊥

@@ -49,6 +49,13 @@ pub enum Command {
     Count,
 }
 
+/// What is asked of a path from this root: the bytes of the item, or its data.
+#[derive(Clone, Copy, Debug)]
+pub struct Asking {
+    pub is_raw: bool,
+    pub root: Cid,
+}
+
 /// What the words are.
 #[derive(Debug, Drop)]
 pub enum Words<'a> {
@@ -58,7 +65,7 @@ pub enum Words<'a> {
     /// To keep there the block that standard input has, under its name of this codec.
     Put(&'a str, u64),
     /// To show what a path leads to from the root, or to write its bytes.
-    At(&'a str, bool, Cid, &'a str),
+    At(&'a str, Asking, &'a str),
     /// A path, and what is to be done with its blocks.
     Do(&'a str, Command),
     Help,
@@ -158,7 +165,7 @@ fn at_text<'a>(file: &'a str, is_raw: bool, text: &'a str) -> Words<'a>
 {
     let (name, path) = split_path(text);
     match cid_from_text(name.as_bytes()) {
-        Ok(root) => Words::At(file, is_raw, root, path),
+        Ok(root) => Words::At(file, Asking { is_raw, root }, path),
         Err(cause) => Words::NoCid(cause),
     }
 }

@@ -27,7 +27,7 @@ pub use at::write_at;
 pub use block::{NO_BLOCK, count_blocks, get_block, has_block};
 pub use change::{check_put, collect_blocks, collect_meant, put_block, remove_blocks};
 pub use check::check_blocks;
-pub use command::{Command, Words, words_of};
+pub use command::{Asking, Command, Words, words_of};
 pub use export::{export_blocks, export_meant, write_tree};
 pub use fault::Fault;
 pub use import::import_blocks;
